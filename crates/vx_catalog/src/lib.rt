@@ -1,0 +1,2 @@
+//! What a catalog declares of its relations, and databases that meet it.
+#![tactic(auto)]

@@ -1,0 +1,2 @@
+//! The rule table, and what claims mean.
+#![tactic(auto)]

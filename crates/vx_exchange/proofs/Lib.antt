@@ -1,0 +1,2 @@
+pub mod Closings
+pub mod Turns

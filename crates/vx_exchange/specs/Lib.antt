@@ -1,0 +1,3 @@
+pub mod Ship
+pub mod Closing
+pub mod Rounds

@@ -1,0 +1,4 @@
+//! Sending and receiving ends of exchanges.
+#![tactic(auto)]
+
+pub mod laws;

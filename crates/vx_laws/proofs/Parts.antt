@@ -1,0 +1,105 @@
+-- What a node has by its claim and its size.
+use Rattle.std.proofs.Common.{⊎_elim, ◌≡◌, ℕ, ◌<◌, Bool, true, false, ◌||◌, ◌⊎◌, inl, inr, List, [], ◌∷◌, refl, sym, ap, subst, arith, true≢false, eqb-true, eq-eqb}
+use Rattle.std.specs.List.{list_all}
+use Rattle.vx_rows.specs.Values.{Row, pick}
+use Rattle.vx_rows.specs.Bags.{SameRows}
+use Rattle.vx_plan.specs.Plan.{Size, one_worker, group_of, Route, by_hash, by_range, Part, one, any, all, routed, is_one, size_eq}
+use Rattle.vx_plan.specs.Streams.{Streams, joined, workers}
+use Rattle.vx_plan.specs.Routes.{Router}
+use Rattle.vx_check.specs.Rules.{numbers_eq, route_eq, part_gives}
+use Rattle.vx_check.specs.Claims.{PartHolds, InItsStream}
+use Rattle.vx_laws.proofs.Bags.{and-left, and-right, and-both}
+
+pub or-cases : (a b : Bool) → (a || b) ≡ true → (a ≡ true) ⊎ (b ≡ true)
+or-cases true b e = inl refl
+or-cases false b e = inr e
+
+pub numbers_eq-is : (xs ys : List ℕ) → numbers_eq xs ys ≡ true → xs ≡ ys
+numbers_eq-is [] [] e = refl
+numbers_eq-is [] (y ∷ ys) e = absurd (true≢false (sym e))
+numbers_eq-is (x ∷ xs) [] e = absurd (true≢false (sym e))
+numbers_eq-is (x ∷ xs) (y ∷ ys) e =
+    let a : x ≡ y = eqb-true x y (and-left _ _ e) in
+    let b : xs ≡ ys = numbers_eq-is xs ys (and-right _ _ e) in
+    cc
+
+pub route_eq-is : (r s : Route) → route_eq r s ≡ true → r ≡ s
+route_eq-is (by_hash a) (by_hash b) e = ap by_hash (numbers_eq-is a b e)
+route_eq-is (by_hash a) (by_range j) e = absurd (true≢false (sym e))
+route_eq-is (by_range i) (by_hash b) e = absurd (true≢false (sym e))
+route_eq-is (by_range i) (by_range j) e = ap by_range (eqb-true i j e)
+
+pub size_eq-is : (x y : Size) → size_eq x y ≡ true → x ≡ y
+size_eq-is one_worker one_worker e = refl
+size_eq-is one_worker (group_of k) e = absurd (true≢false (sym e))
+size_eq-is (group_of j) one_worker e = absurd (true≢false (sym e))
+size_eq-is (group_of j) (group_of k) e = ap group_of (eqb-true j k e)
+
+pub one-worker : (sizes : ℕ → ℕ) (z : Size) → is_one z ≡ true → workers sizes z ≡ 1
+one-worker sizes one_worker e = refl
+one-worker sizes (group_of k) e = absurd (true≢false (sym e))
+
+pub some-workers : (sizes : ℕ → ℕ) → ((k : ℕ) → 0 < sizes k) → (z : Size) → 0 < workers sizes z
+some-workers sizes h one_worker = omega arith
+some-workers sizes h (group_of k) = h k
+
+pub list_all-always : {X : Type 0} (p : X → Bool) → ((x : X) → p x ≡ true) → (xs : List X) → list_all p xs ≡ true
+list_all-always p h [] = refl
+list_all-always p h (x ∷ xs) = and-both _ _ (h x) (list_all-always p h xs)
+
+pub list_all-weaken : {X : Type 0} (p q : X → Bool) → ((x : X) → p x ≡ true → q x ≡ true) → (xs : List X) → list_all p xs ≡ true → list_all q xs ≡ true
+list_all-weaken p q h [] e = refl
+list_all-weaken p q h (x ∷ xs) e = and-both _ _ (h x (and-left _ _ e)) (list_all-weaken p q h xs (and-right _ _ e))
+
+abbrev pub InRange : Router → Type 0
+InRange goes = (r : Route) (key : Row) (n : ℕ) → 0 < n → goes r key n < n
+
+module _ (goes : Router) (law : InRange goes) where
+  -- with one worker each part says the same
+  pub single : (q : Part) (n : ℕ) (s : Streams) (base : List Row) → n ≡ 1 → SameRows (joined n s) base → PartHolds goes q n s base
+  single one n s base e h = (e, h)
+  single any n s base e h = h
+  single all n s base e h = λ w l.
+      let P : ℕ → Type 0 = λ m. SameRows (joined m s) base → SameRows (s w) base in
+      let zeroth : w ≡ 0 = omega arith in
+      subst P (sym e) (λ k. let Q : ℕ → Type 0 = λ i. SameRows (s i) base in subst Q (sym zeroth) k) h
+  single (routed r cols) n s base e h = (h, λ w l. list_all-always _ (λ row. eq-eqb _ w (let b = law r (pick cols row) n (omega arith) in omega (arith, b))) (s w))
+
+  pub from_single : (q : Part) (n : ℕ) (s : Streams) (base : List Row) → n ≡ 1 → PartHolds goes q n s base → SameRows (joined n s) base
+  from_single one n s base e h = h.1
+  from_single any n s base e h = h
+  from_single all n s base e h =
+      let P : ℕ → Type 0 = λ m. SameRows (joined m s) base in
+      subst P (sym e) (h 0 (omega arith))
+  from_single (routed r cols) n s base e h = h.0
+
+  pub weaker : (p q : Part) (n : ℕ) (s : Streams) (base : List Row) → part_gives p q ≡ true → PartHolds goes p n s base → PartHolds goes q n s base
+  weaker one one n s base e h = h
+  weaker one any n s base e h = absurd (true≢false (sym e))
+  weaker one all n s base e h = absurd (true≢false (sym e))
+  weaker one (routed r cols) n s base e h = absurd (true≢false (sym e))
+  weaker any one n s base e h = absurd (true≢false (sym e))
+  weaker any any n s base e h = h
+  weaker any all n s base e h = absurd (true≢false (sym e))
+  weaker any (routed r cols) n s base e h = absurd (true≢false (sym e))
+  weaker all one n s base e h = absurd (true≢false (sym e))
+  weaker all any n s base e h = absurd (true≢false (sym e))
+  weaker all all n s base e h = h
+  weaker all (routed r cols) n s base e h = absurd (true≢false (sym e))
+  weaker (routed r cols) one n s base e h = absurd (true≢false (sym e))
+  weaker (routed r cols) any n s base e h = h.0
+  weaker (routed r cols) all n s base e h = absurd (true≢false (sym e))
+  weaker (routed r cols) (routed t ds) n s base e h =
+      let a : r ≡ t = route_eq-is r t (and-left _ _ e) in
+      let b : cols ≡ ds = numbers_eq-is cols ds (and-right _ _ e) in
+      let P : Route → Type 0 = λ x. SameRows (joined n s) base × InItsStream goes x ds n s in
+      let Q : List ℕ → Type 0 = λ x. SameRows (joined n s) base × InItsStream goes r x n s in
+      subst P a (subst Q b h)
+
+  -- what `has` shows
+  pub has-holds : (sizes : ℕ → ℕ) (z : Size) (p q : Part) (s : Streams) (base : List Row)
+      → (is_one z || part_gives p q) ≡ true → PartHolds goes p (workers sizes z) s base → PartHolds goes q (workers sizes z) s base
+  has-holds sizes z p q s base e h = ⊎_elim
+      (λ o. single q _ s base (one-worker sizes z o) (from_single p _ s base (one-worker sizes z o) h))
+      (λ g. weaker p q _ s base g h)
+      (or-cases _ _ e)

@@ -1,0 +1,257 @@
+-- What a node has given so far is as wide as its columns, and sorted on its claimed order.
+use Rattle.vx_worker.specs.Fragment.{goes}
+use Rattle.std.proofs.Common.{◌≡◌, ⊎_elim, ℕ, ◌<◌, ◌==◌, Bool, true, false, ◌&&◌, List, [], ◌∷◌, ◌++◌, map, length, Some, refl, sym, ap, ◌∙◌, subst, arith, append-nil, append_assoc, true≢false, eqb-true, is_le}
+use Rattle.std.specs.List.{list_all}
+use Rattle.vx_rows.specs.Values.{Row, pick}
+use Rattle.vx_rows.specs.Order.{compare_on, sorted}
+use Rattle.vx_plan.specs.Plan.{Size, Kind, route_to, round, broadcast, gather, target, Claim, Unary, select, project, distinct, sort, group, Binary, union, join, Plan, scan, unary, binary, exchange, size, claim, is_one, size_eq}
+use Rattle.vx_plan.specs.Types.{width, unary_width, well_formed, names_columns, part_columns}
+use Rattle.vx_catalog.specs.Catalog.{all_below}
+use Rattle.vx_plan.specs.Serial.{passes, sort_on, group_keys, group_fits, unary_rows, binary_rows}
+use Rattle.vx_check.specs.Rules.{front, copied, unary_orders, allowed, allowed_here}
+use Rattle.vx_plan.specs.Streams.{Streams, workers, bearing, Dealt}
+use Rattle.vx_plan.specs.Routes.{Router, Sends}
+use Rattle.vx_check.specs.Claims.{Given}
+use Rattle.vx_ports.specs.Packets.{Parcel, rows_of, Flows}
+use Rattle.vx_worker.specs.Morsels.{morsel_of, morsels}
+use Rattle.vx_ops.specs.Ledger.{Stream}
+use Rattle.vx_rows.specs.Lists.{IsBeginning}
+use Rattle.vx_exchange.specs.Ship.{Ship, end_to_end, packet_at, IsCutPort}
+use Rattle.vx_worker.specs.Fragment.{Setting, Reads, fragment, FragTold}
+use Rattle.vx_worker.specs.Trace.{Trace, send, ReadsBegin, Fate, well, failed, Honest, Ends}
+use Rattle.vx_laws.specs.RunOf.{ship_of, RunOf}
+use Rattle.vx_plan.specs.Numbering.{is_fit}
+use Rattle.vx_laws.proofs.Bags.{and-left, and-right, and-both, against, against-none, none-against, Dealt-total, across-ext, across-zero}
+use Rattle.vx_laws.proofs.Parts.{size_eq-is, one-worker, or-cases}
+use Rattle.vx_laws.proofs.Orders.{list_all-bearing, list_all-filter, sorted-bearing, sorted-filter, sorted-front, sorted-none, Dealt-one}
+use Rattle.vx_laws.proofs.Copies.{if_some-is}
+use Rattle.vx_laws.proofs.Unary.{some-is, sort-sorted, project-sorted}
+use Rattle.vx_laws.proofs.Apart.{firsts-sorted}
+use Rattle.vx_laws.proofs.Groups.{groups, groups-sorted}
+use Rattle.vx_laws.proofs.Widths.{fit-wide, some-of, unary-wide, join-wide}
+use Rattle.vx_laws.proofs.JoinOrder.{wide, join-sorted, list_all-append}
+use Rattle.vx_laws.proofs.Binary.{front-below}
+use Rattle.vx_laws.proofs.Exchange.{sends-sorted}
+use Rattle.vx_laws.proofs.Frame.{tests, names, well-left, well-right}
+use Rattle.vx_laws.proofs.Packets.{rows_of-append, rows_of-packets, port-rows}
+use Rattle.vx_laws.proofs.Decks.{Drawn, dispatched-drawn}
+use Rattle.vx_laws.proofs.Overflows.{reads-begin}
+
+abbrev pub Tidy : ℕ → List ℕ → List Row → Type 0
+Tidy w cols xs = (wide w xs ≡ true) × (sorted cols xs ≡ true)
+
+all-left : (q : Row → Bool) (xs ys : List Row) → list_all q (xs ++ ys) ≡ true → list_all q xs ≡ true
+all-left q [] ys h = refl
+all-left q (x ∷ xs) ys h = and-both (q x) (list_all q xs) (and-left (q x) (list_all q (xs ++ ys)) h) (all-left q xs ys (and-right (q x) (list_all q (xs ++ ys)) h))
+
+sorted-left : (cols : List ℕ) (xs ys : List Row) → sorted cols (xs ++ ys) ≡ true → sorted cols xs ≡ true
+sorted-left cols [] ys h = refl
+sorted-left cols (x ∷ xs) ys h =
+    let le : Row → Bool = λ y. is_le (compare_on cols x y) in
+    and-both (list_all le xs) (sorted cols xs) (all-left le xs ys (and-left (list_all le (xs ++ ys)) (sorted cols (xs ++ ys)) h))
+    (sorted-left cols xs ys (and-right (list_all le (xs ++ ys)) (sorted cols (xs ++ ys)) h))
+
+pub tidy-left : (w : ℕ) (cols : List ℕ) (xs ys zs : List Row) → xs ++ ys ≡ zs → Tidy w cols zs → Tidy w cols xs
+tidy-left w cols xs ys zs e h =
+    let P : List Row → Type 0 = λ l. wide w l ≡ true in
+    let Q : List Row → Type 0 = λ l. sorted cols l ≡ true in
+    (all-left (λ row. length row == w) xs ys (subst P (sym e) h.0), sorted-left cols xs ys (subst Q (sym e) h.1))
+
+pub tidy-begins : (w : ℕ) (cols : List ℕ) (xs zs : List Row) → IsBeginning xs zs → Tidy w cols zs → Tidy w cols xs
+tidy-begins w cols xs zs b h = tidy-left w cols xs b.rest zs b.joined h
+
+tidy-bearing : (w : ℕ) (cols : List ℕ) (i : ℕ) (ts : List (ℕ × Row)) → Tidy w cols (map (λ t. t.1) ts) → Tidy w cols (bearing i ts)
+tidy-bearing w cols i ts h = (list_all-bearing (λ row. length row == w) i ts h.0, sorted-bearing cols i ts h.1)
+
+tidy-drawn : (w : ℕ) (cols : List ℕ) (m : ℕ) (xs : List Row) (i : ℕ) (numbers : List ℕ) → Tidy w cols xs → Drawn m xs i numbers → Tidy w cols (morsels (morsel_of m xs) numbers)
+tidy-drawn w cols m xs i numbers h d =
+    let P : List Row → Type 0 = λ l. Tidy w cols l in
+    subst P d.drawn (tidy-bearing w cols i d.tags (tidy-left w cols (map (λ t. t.1) d.tags) d.rest xs d.begins h))
+
+morsels-append : (f : ℕ → List Row) (ks js : List ℕ) → morsels f (ks ++ js) ≡ morsels f ks ++ morsels f js
+morsels-append f [] js = refl
+morsels-append f (k ∷ ks) js = ap (λ xs. f k ++ xs) (morsels-append f ks js) ∙ sym (append_assoc (f k) (morsels f ks) (morsels f js))
+
+unary-sorted : (op : Unary) (below order : List ℕ) (xs ys : List Row) → unary_orders op below order ≡ true → sorted below xs ≡ true → unary_rows op xs ≡ Some ys → sorted order ys ≡ true
+unary-sorted (select cs) below order xs ys o h e =
+    let P : List Row → Type 0 = λ l. sorted order l ≡ true in subst P (some-is _ _ e) (sorted-filter order (passes cs) xs (sorted-front order below o xs h))
+unary-sorted (project cols) below order xs ys o h e =
+    let k = if_some-is (copied cols order) (λ ds. front ds below) o in
+    let P : List Row → Type 0 = λ l. sorted order l ≡ true in subst P (some-is _ _ e) (project-sorted cols order k.0 k.1 xs (sorted-front k.0 below k.2 xs h))
+unary-sorted (distinct cols) below order xs ys o h e =
+    let k = if_some-is (copied cols order) (λ ds. front ds below) o in
+    let P : List Row → Type 0 = λ l. sorted order l ≡ true in
+    subst P (some-is _ _ e) (firsts-sorted order (map (pick cols) xs) (project-sorted cols order k.0 k.1 xs (sorted-front k.0 below k.2 xs h)))
+unary-sorted (sort cols) below order xs ys o h e =
+    let P : List Row → Type 0 = λ l. sorted order l ≡ true in subst P (some-is _ _ e) (sorted-front order cols o (sort_on cols xs) (sort-sorted cols xs))
+unary-sorted (group by aggregates) below order xs ys o h e =
+    let k = if_some-is (copied by order) (λ ds. front ds below) o in
+    let P : List Row → Type 0 = λ l. sorted order l ≡ true in
+    subst P (some-of (list_all (group_fits by aggregates xs) (group_keys by xs)) (groups by aggregates xs) ys e).1
+    (groups-sorted by order k.0 aggregates k.1 xs (sorted-front k.0 below k.2 xs h))
+
+-- what is sent of rows that all pass a test passes it
+sends-all : (goes : Router) (k : Kind) (n : ℕ) (xs : List Row) (sent : Streams) → Sends goes k n xs sent → (q : Row → Bool) → list_all q xs ≡ true → (j : ℕ) → j < n → list_all q (sent j) ≡ true
+sends-all goes (route_to z r cols) n xs sent h q a j l = let P : List Row → Type 0 = λ ys. list_all q ys ≡ true in subst P (h j l) (list_all-filter q _ xs a)
+sends-all goes (round z) n xs sent h q a j l =
+    let P : List Row → Type 0 = λ ys. list_all q ys ≡ true in subst P (h.lists_are j l) (list_all-bearing q j h.numbered (subst P (sym h.whole) a))
+sends-all goes (broadcast z) n xs sent h q a j l = let P : List Row → Type 0 = λ ys. list_all q ys ≡ true in subst P (h j l) a
+sends-all goes gather n xs sent h q a j l = let P : List Row → Type 0 = λ ys. list_all q ys ≡ true in subst P (h j l) a
+
+dealt-all : (m : ℕ) (xs : List Row) (ls : Streams) → Dealt m xs ls → (q : Row → Bool) → ((i : ℕ) → i < m → list_all q (ls i) ≡ true) → list_all q xs ≡ true
+dealt-all m xs ls d q h = none-against q xs (Dealt-total d (against q) ∙ across-ext m _ (λ i. 0) (λ i l. against-none q (ls i) (h i l)) ∙ across-zero m)
+
+begins-rows : (ps qs : List Parcel) → IsBeginning ps qs → IsBeginning (rows_of ps) (rows_of qs)
+begins-rows ps qs b = record { rest = rows_of b.rest; joined = sym (rows_of-append ps b.rest) ∙ ap rows_of b.joined }
+
+cut-rows : (s : Ship) (j : ℕ) (xs : List Row) (ps : List Parcel) → (h : IsCutPort s j xs ps) → rows_of ps ≡ end_to_end h.parts
+cut-rows s j xs ps h =
+    ap rows_of (sym h.closed) ∙ rows_of-append (map (packet_at s j) h.parts) _ ∙ append-nil (rows_of (map (packet_at s j) h.parts)) ∙ rows_of-packets s j h.parts
+
+module _ (S : Setting) (giv : Given S.catalog S.db S.sizes (goes S)) where
+  abbrev IsTidy : Plan → List Row → Type 0
+  IsTidy p xs = Tidy (width S.catalog p) (claim p).order xs
+
+  -- what one worker of a plan has given so far
+  abbrev Gives : Plan → (ℕ → Trace) → ℕ → Type 0
+  Gives p ts w = (reads : Reads) → ReadsBegin S (ts w) reads → (out : Stream) → FragTold (fragment S w p) reads out → IsTidy p out.rows
+
+  -- what a producer put, well or not
+  put-tidy : (n i : ℕ) (k : Kind) (p : Plan) (us : ℕ → Trace) → Gives p us i → Ends S (fragment S i p) (send (ship_of S n i k p)) (us i)
+      → (j : ℕ) → j < workers S.sizes (target k) → IsTidy p (rows_of ((us i).sent j))
+  put-tidy n i k p us gives e j b = go e.0 e.1
+    where
+      sent-tidy : (xs : List Row) (sent : Streams) → Sends (goes S) k (workers S.sizes (target k)) xs sent → IsTidy p xs → IsTidy p (sent j)
+      sent-tidy xs sent h t =
+          (sends-all (goes S) k (workers S.sizes (target k)) xs sent h (λ row. length row == width S.catalog p) t.0 j b, sends-sorted (goes S) k (workers S.sizes (target k)) xs sent h (claim p).order t.1 j b)
+
+      P : List Row → Type 0
+      P xs = IsTidy p xs
+
+      go : (fate : Fate) → Honest S (fragment S i p) (send (ship_of S n i k p)) fate (us i) → IsTidy p (rows_of ((us i).sent j))
+      go well h =
+          let t = sent-tidy h.out.rows h.finished.sent h.finished.sends (gives h.reads (reads-begin S (us i) h.reads h.reads_are) h.out h.told) in
+          let Q : List Row → Type 0 = λ xs. IsTidy p xs in
+          subst Q (sym (port-rows (ship_of S n i k p) j (h.finished.sent j) ((us i).sent j) (h.finished.ports j b))) t
+      go (failed x) h =
+          let t = sent-tidy h.out.rows h.stopped.sent h.stopped.sends (gives h.reads h.reads_begin h.out h.told) in
+          let c = h.stopped.ports j b in
+          let Q : List Row → Type 0 = λ xs. IsTidy p xs in
+          subst Q (sym (cut-rows (ship_of S n i k p) j (h.stopped.sent j) ((us i).sent j) c))
+          (tidy-begins (width S.catalog p) (claim p).order (end_to_end c.parts) (h.stopped.sent j) c.begins t)
+
+  -- what a consumer has read of a producer so far
+  pub came-tidy : (n : ℕ) (i : ℕ) (k : Kind) (p : Plan) (us ts : ℕ → Trace) → Gives p us i → Ends S (fragment S i p) (send (ship_of S n i k p)) (us i)
+      → (j : ℕ) → j < workers S.sizes (target k) → Flows ((us i).sent j) ((ts j).came n i) → (seen : List Parcel) → IsBeginning seen ((ts j).came n i) → IsTidy p (rows_of seen)
+  came-tidy n i k p us ts gives e j b f seen s =
+      let t = put-tidy n i k p us gives e j b in
+      let taken = begins-rows ((ts j).came n i) ((us i).sent j) (record { rest = f.rest; joined = f.begins }) in
+      let read = begins-rows seen ((ts j).came n i) s in
+      tidy-begins (width S.catalog p) (claim p).order (rows_of seen) (rows_of ((ts j).came n i)) read
+      (tidy-begins (width S.catalog p) (claim p).order (rows_of ((ts j).came n i)) (rows_of ((us i).sent j)) taken t)
+
+  scan-tidy : (n : ℕ) (c : Claim) (r : ℕ) (m : Bool) (z : Size) → (S.relation_of n == r) ≡ true → front c.order (S.catalog r).order ≡ true
+      → (w i : ℕ) (t : Trace) → Drawn S.morsel (S.db r) i (t.drew n).numbers
+      → (reads : Reads) → ReadsBegin S t reads → (out : Stream) → FragTold (fragment S w (scan n c r m z)) reads out → IsTidy (scan n c r m z) out.rows
+  scan-tidy n c r m z fit up w i t d reads begin out h =
+      let wd : ℕ = length (S.catalog r).types in
+      let db_tidy : Tidy wd c.order (S.db r) = (fit-wide (S.catalog r).types (S.db r) (giv.meets r).fit, sorted-front c.order (S.catalog r).order up (S.db r) (giv.meets r).order) in
+      let all : Tidy wd c.order (morsels (morsel_of S.morsel (S.db r)) (t.drew n).numbers) = tidy-drawn wd c.order S.morsel (S.db r) i (t.drew n).numbers db_tidy d in
+      let b = begin.scanned n in
+      let f : ℕ → List Row = morsel_of S.morsel (S.db r) in
+      let R : ℕ → Type 0 = λ k. (reads.scanned n).rows ≡ morsels (morsel_of S.morsel (S.db k)) b.numbers in
+      let heard : h.0.left.rows ≡ morsels f b.numbers = ap (λ (s : Stream). s.rows) h.1.scanned ∙ subst R (eqb-true (S.relation_of n) r fit) b.rows in
+      let some : Tidy wd c.order (morsels f b.numbers) = tidy-left wd c.order (morsels f b.numbers) (morsels f b.begins.rest) (morsels f (t.drew n).numbers)
+      (sym (morsels-append f b.numbers b.begins.rest) ∙ ap (morsels f) b.begins.joined) all in
+      let P : List Row → Type 0 = λ xs. Tidy wd c.order xs in
+      let left : Tidy wd c.order h.0.left.rows = subst P (sym heard) some in
+      let k = h.2.before in
+      let input : Tidy wd c.order k.inputs.left.rows = tidy-begins wd c.order k.inputs.left.rows h.0.left.rows k.begins.left left in
+      let Q : Stream → Type 0 = λ s. Tidy wd c.order s.rows in
+      subst Q h.3 (tidy-begins wd c.order h.0.gave.rows k.whole k.gave (subst P (sym k.makes) input))
+
+  pub tidy : (p : Plan) → is_fit S.relation_of p ≡ true → well_formed S.catalog p ≡ true → allowed S.catalog p ≡ true
+      → (ts : ℕ → Trace) → RunOf S (Ends S) p ts → (w : ℕ) → w < workers S.sizes (size p) → Gives p ts w
+  tidy (scan n c r true z) fit wf ok ts run w l reads begin out h =
+      let t = tests S.catalog (scan n c r true z) ok in
+      scan-tidy n c r true z fit t.5 w w (ts w) (dispatched-drawn S.morsel (S.db r) _ (workers S.sizes z) (λ v. (ts v).drew n) run w l) reads begin out h
+  tidy (scan n c r false z) fit wf ok ts run w l reads begin out h =
+      let t = tests S.catalog (scan n c r false z) ok in
+      scan-tidy n c r false z fit t.5 w 0 (ts w) (dispatched-drawn S.morsel (S.db r) _ 1 (λ v. (ts w).drew n) (run w l) 0 (omega arith)) reads begin out h
+  tidy (unary n c op p) fit wf ok ts run w l reads begin out h =
+      let here : Bool = allowed_here S.catalog (unary n c op p) in
+      let wd : ℕ = width S.catalog p in
+      let t = tests S.catalog (unary n c op p) (and-right (allowed S.catalog p) here ok) in
+      let left = tidy p fit (and-left (well_formed S.catalog p) (names_columns (width S.catalog (unary n c op p)) c) wf) (and-left (allowed S.catalog p) here ok) ts run w l reads begin h.0.left h.1 in
+      let k = h.2.before in
+      let input = tidy-begins wd (claim p).order k.inputs.left.rows h.0.left.rows k.begins.left left in
+      let whole : Tidy (unary_width op wd) c.order k.whole
+      = (unary-wide op wd k.inputs.left.rows k.whole input.0 k.makes, unary-sorted op (claim p).order c.order k.inputs.left.rows k.whole t.5 input.1 k.makes) in
+      let Q : Stream → Type 0 = λ s. Tidy (unary_width op wd) c.order s.rows in
+      subst Q h.3 (tidy-begins (unary_width op wd) c.order h.0.gave.rows k.whole k.gave whole)
+  tidy (binary n c op p q) fit wf ok ts run w l reads begin out h =
+      let here : Bool = allowed_here S.catalog (binary n c op p q) in
+      let rest = and-right (allowed S.catalog p) (allowed S.catalog q && here) ok in
+      let same : size p ≡ size q = size_eq-is (size p) (size q) (and-left (size_eq (size p) (size q)) _ fit) in
+      let fits = and-right (size_eq (size p) (size q)) (is_fit S.relation_of p && is_fit S.relation_of q) fit in
+      let P : Size → Type 0 = λ z. w < workers S.sizes z in
+      let wp = well-left S.catalog S.db S.sizes (goes S) giv n c op p q wf in
+      let left = tidy p (and-left (is_fit S.relation_of p) (is_fit S.relation_of q) fits) wp (and-left (allowed S.catalog p) (allowed S.catalog q && here) ok) ts run.0 w l reads begin h.0.left h.1 in
+      let right = tidy q (and-right (is_fit S.relation_of p) (is_fit S.relation_of q) fits) (well-right S.catalog S.db S.sizes (goes S) giv n c op p q wf) (and-left (allowed S.catalog q) here rest) ts run.1 w (subst P same l) reads begin h.0.right h.2 in
+      let k = h.3.before in
+      let ls = tidy-begins (width S.catalog p) (claim p).order k.inputs.left.rows h.0.left.rows k.begins.left left in
+      let rs = tidy-begins (width S.catalog q) (claim q).order k.inputs.right.rows h.0.right.rows k.begins.right right in
+      let R : List Row → Type 0 = λ xs. IsTidy (binary n c op p q) xs in
+      let Q : Stream → Type 0 = λ s. IsTidy (binary n c op p q) s.rows in
+      subst Q h.4 (tidy-begins (width S.catalog (binary n c op p q)) c.order h.0.gave.rows k.whole k.gave
+      (subst R k.makes (both op wf (and-right (allowed S.catalog q) here rest) wp k.inputs.left.rows k.inputs.right.rows ls rs)))
+    where
+      front-none : (cs : List ℕ) → front cs [] ≡ true → (xs : List Row) → sorted cs xs ≡ true
+      front-none [] e xs = sorted-none xs
+      front-none (x ∷ cs) e xs = absurd (true≢false (sym e))
+
+      both : (op : Binary) → well_formed S.catalog (binary n c op p q) ≡ true → allowed_here S.catalog (binary n c op p q) ≡ true → well_formed S.catalog p ≡ true
+          → (ls rs : List Row) → IsTidy p ls → IsTidy q rs → IsTidy (binary n c op p q) (binary_rows op ls rs)
+      both union wf ok wp ls rs a b =
+          let t = tests S.catalog (binary n c union p q) ok in
+          let last : Bool = (width S.catalog p == width S.catalog q) && names_columns (width S.catalog p) c in
+          let same = eqb-true (width S.catalog p) (width S.catalog q) (and-left (width S.catalog p == width S.catalog q) (names_columns (width S.catalog p) c)
+          (and-right (well_formed S.catalog q) last (and-right (well_formed S.catalog p) (well_formed S.catalog q && last) wf))) in
+          let Q : ℕ → Type 0 = λ v. wide v rs ≡ true in
+          (list_all-append (λ row. length row == width S.catalog p) ls rs a.0 (subst Q (sym same) b.0), front-none c.order t.5 (ls ++ rs))
+      both (join m on) wf ok wp ls rs a b =
+          let t = tests S.catalog (binary n c (join m on) p q) ok in
+          let wd : ℕ = width S.catalog p in
+          let nm = names S.catalog S.db S.sizes (goes S) giv p wp in
+          let n1 = and-right (all_below wd (part_columns (claim p).part)) (all_below wd (claim p).order && list_all (all_below wd) (claim p).keys) nm in
+          let order_below = and-left (all_below wd (claim p).order) (list_all (all_below wd) (claim p).keys) n1 in (
+            join-wide on wd (width S.catalog q) ls rs a.0 b.0,
+            join-sorted c.order wd on ls rs (front-below wd c.order (claim p).order t.5 order_below) a.0 (sorted-front c.order (claim p).order t.5 ls a.1),
+          )
+  tidy (exchange n c k merge p) fit wf ok ts run w l reads begin out h =
+      let here : Bool = allowed_here S.catalog (exchange n c k merge p) in
+      let m : ℕ = workers S.sizes (size p) in
+      let wd : ℕ = width S.catalog p in
+      let t = tests S.catalog (exchange n c k merge p) (and-right (allowed S.catalog p) here ok) in
+      let b = h.2.before in
+      let lists : (i : ℕ) → i < m → Tidy wd (claim p).order (rows_of (b.inputs.came i)) = λ i a.
+      let seen : h.0.came i ≡ reads.came n i = ap (λ (g : ℕ → List Parcel). g i) h.1.came in
+      let came = came-tidy n i k p run.0 ts
+      (tidy p fit (and-left (well_formed S.catalog p) (names_columns (width S.catalog p) c) wf) (and-left (allowed S.catalog p) here ok) run.0 run.1 i a)
+      (run.2 i a) w l (run.3 i w a l) (reads.came n i) (begin.came n i) in
+      let P : List Parcel → Type 0 = λ ps. Tidy wd (claim p).order (rows_of ps) in
+      tidy-begins wd (claim p).order (rows_of (b.inputs.came i)) (rows_of (h.0.came i)) (b.begins.came i) (subst P (sym seen) came) in
+      let whole_wide : wide wd b.whole ≡ true = dealt-all m b.whole (λ i. rows_of (b.inputs.came i)) b.makes.0 (λ row. length row == wd) (λ i a. (lists i a).0) in
+      let whole_sorted : sorted c.order b.whole ≡ true = ⊎_elim
+      (λ by_merge. sorted-front c.order merge by_merge b.whole b.makes.1)
+      (λ single.
+      let f = and-right (is_one (size p)) (front c.order (claim p).order) single in
+      let e = one-worker S.sizes (size p) (and-left (is_one (size p)) (front c.order (claim p).order) single) in
+      let D : ℕ → Type 0 = λ a. Dealt a b.whole (λ i. rows_of (b.inputs.came i)) in
+      let N : ℕ → Type 0 = λ a. 0 < a in
+      let is : b.whole ≡ rows_of (b.inputs.came 0) = Dealt-one (subst D e b.makes.0) in
+      let Q : List Row → Type 0 = λ xs. sorted c.order xs ≡ true in
+      subst Q (sym is) (sorted-front c.order (claim p).order f (rows_of (b.inputs.came 0)) (lists 0 (subst N (sym e) (omega arith))).1))
+      (or-cases (front c.order merge) (is_one (size p) && front c.order (claim p).order) t.5) in
+      let Q : Stream → Type 0 = λ s. Tidy wd c.order s.rows in
+      subst Q h.3 (tidy-begins wd c.order h.0.gave.rows b.whole b.gave (whole_wide, whole_sorted))

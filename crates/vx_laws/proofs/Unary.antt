@@ -1,0 +1,115 @@
+-- Select, project and sort keep what the rule table says.
+use Rattle.std.proofs.Common.{◌≡◌, ℕ, ◌<◌, ◌≤◌, ◌==◌, Bool, true, false, cond, List, [], ◌∷◌, map, refl, sym, ap, ◌∙◌, subst, arith, true≢false, Option, Some, unwrap_or, is_le, is_eq}
+use Rattle.std.specs.List.{list_all}
+use Rattle.vx_rows.specs.Values.{Row, pick}
+use Rattle.vx_rows.specs.Order.{compare_on, agree, sorted}
+use Rattle.vx_rows.specs.Bags.{count, SameRows}
+use Rattle.vx_rows.specs.Keys.{HasKey}
+use Rattle.vx_plan.specs.Plan.{Route, Part, one, any, all, routed}
+use Rattle.vx_plan.specs.Serial.{sort_on, insert_sorted}
+use Rattle.vx_plan.specs.Streams.{Streams, joined}
+use Rattle.vx_plan.specs.Routes.{Router}
+use Rattle.vx_check.specs.Rules.{through, copied}
+use Rattle.vx_check.specs.Claims.{PartHolds, InItsStream, OrderHolds}
+use Rattle.vx_laws.proofs.Bags.{and-left, and-right, and-both, total-map, SameRows-trans}
+use Rattle.vx_laws.proofs.Parts.{list_all-weaken}
+use Rattle.vx_laws.proofs.Keys.{count-mono}
+use Rattle.vx_laws.proofs.Linear.{Linear, linear-same, linear-joined}
+use Rattle.vx_rows.proofs.Compare.{le-trans, le-other, agree-both, count-witness}
+use Rattle.vx_laws.proofs.Copies.{if_some-is, copied-alone}
+
+pub some-is : {X : Type 0} (x y : X) → Some x ≡ Some y → x ≡ y
+some-is x y e = ap (λ o. unwrap_or o x) e
+
+-- a part that is had through the columns that the output copies
+pub through-holds : (goes : Router) (n : ℕ) (s' : Streams) (base' : List Row) (had : Part → Bool) (columns : List ℕ → Option (List ℕ))
+    → (had any ≡ true → SameRows (joined n s') base')
+    → ((r : Route) (ds : List ℕ) → had (routed r ds) ≡ true → had any ≡ true)
+    → (had all ≡ true → (w : ℕ) → w < n → SameRows (s' w) base')
+    → ((r : Route) (cs ds : List ℕ) → columns cs ≡ Some ds → had (routed r ds) ≡ true → InItsStream goes r cs n s')
+    → (q : Part) → through had columns q ≡ true → PartHolds goes q n s' base'
+through-holds goes n s' base' had columns any_ok routed_any all_ok routed_ok one h = absurd (true≢false (sym h))
+through-holds goes n s' base' had columns any_ok routed_any all_ok routed_ok any h = any_ok h
+through-holds goes n s' base' had columns any_ok routed_any all_ok routed_ok all h = all_ok h
+through-holds goes n s' base' had columns any_ok routed_any all_ok routed_ok (routed r cs) h =
+    let w = if_some-is (columns cs) (λ ds. had (routed r ds)) h in
+    (any_ok (routed_any r w.0 w.2), routed_ok r cs w.0 w.1 w.2)
+
+-- an operator whose totals are totals of its input, and that leaves each row's route
+pub linear-part : (goes : Router) (op : List Row → List Row) → Linear op → (n : ℕ) (s s' : Streams) (base : List Row)
+    → ((w : ℕ) → w < n → op (s w) ≡ s' w)
+    → ((p : Row → Bool) (xs : List Row) → list_all p xs ≡ true → list_all p (op xs) ≡ true)
+    → (q : Part) → PartHolds goes q n s base → PartHolds goes q n s' (op base)
+linear-part goes op lin n s s' base run keeps one h = (h.0, SameRows-trans (linear-joined lin n s s' run) (linear-same lin h.1))
+linear-part goes op lin n s s' base run keeps any h = SameRows-trans (linear-joined lin n s s' run) (linear-same lin h)
+linear-part goes op lin n s s' base run keeps all h = λ w l.
+    let P : List Row → Type 0 = λ xs. SameRows xs (op base) in
+    subst P (run w l) (linear-same lin (h w l))
+linear-part goes op lin n s s' base run keeps (routed r cols) h = (
+  SameRows-trans (linear-joined lin n s s' run) (linear-same lin h.0),
+  λ w l.
+      let P : List Row → Type 0 = λ xs. list_all (λ row. goes r (pick cols row) n == w) xs ≡ true in
+      subst P (run w l) (keeps _ (s w) (h.1 w l)),
+)
+
+pub through-order : (op : List Row → List Row) (n : ℕ) (s s' : Streams) (base : List Row) (cs ds : List ℕ)
+    → ((w : ℕ) → w < n → op (s w) ≡ s' w)
+    → ((xs : List Row) → sorted ds xs ≡ true → sorted cs (op xs) ≡ true)
+    → OrderHolds ds n s base → OrderHolds cs n s' (op base)
+through-order op n s s' base cs ds run keeps h =
+    (λ w l. let P : List Row → Type 0 = λ xs. sorted cs xs ≡ true in subst P (run w l) (keeps (s w) (h.0 w l)), keeps base h.1)
+
+-- sort
+pub insert-all : (p : Row → Bool) (cols : List ℕ) (x : Row) (ys : List Row) → p x ≡ true → list_all p ys ≡ true → list_all p (insert_sorted cols x ys) ≡ true
+insert-all p cols x [] h k = and-both _ _ h refl
+insert-all p cols x (y ∷ ys) h k = cases (is_le (compare_on cols x y)) (insert-all p cols x ys h (and-right _ _ k))
+  where
+    cases : (b : Bool) → list_all p (insert_sorted cols x ys) ≡ true → list_all p (cond b (x ∷ y ∷ ys) (y ∷ insert_sorted cols x ys)) ≡ true
+    cases true r = and-both _ _ h k
+    cases false r = and-both _ _ (and-left _ _ k) r
+
+pub sort-all : (p : Row → Bool) (cols : List ℕ) (xs : List Row) → list_all p xs ≡ true → list_all p (sort_on cols xs) ≡ true
+sort-all p cols [] h = refl
+sort-all p cols (x ∷ xs) h = insert-all p cols x (sort_on cols xs) (and-left _ _ h) (sort-all p cols xs (and-right _ _ h))
+
+pub insert-sorted : (cols : List ℕ) (x : Row) (ys : List Row) → sorted cols ys ≡ true → sorted cols (insert_sorted cols x ys) ≡ true
+insert-sorted cols x [] h = refl
+insert-sorted cols x (y ∷ ys) h = cases (is_le (compare_on cols x y)) refl (insert-sorted cols x ys (and-right _ _ h))
+  where
+    cases : (b : Bool) → is_le (compare_on cols x y) ≡ b → sorted cols (insert_sorted cols x ys) ≡ true
+        → sorted cols (cond b (x ∷ y ∷ ys) (y ∷ insert_sorted cols x ys)) ≡ true
+    cases true e r =
+        and-both _ _ (and-both _ _ e (list_all-weaken _ _ (λ z. le-trans cols x y z e) ys (and-left _ _ h))) h
+    cases false e r = and-both _ _ (insert-all _ cols x ys (le-other cols x y e) (and-left _ _ h)) r
+
+pub sort-sorted : (cols : List ℕ) (xs : List Row) → sorted cols (sort_on cols xs) ≡ true
+sort-sorted cols [] = refl
+sort-sorted cols (x ∷ xs) = insert-sorted cols x (sort_on cols xs) (sort-sorted cols xs)
+
+-- project
+pub map-all : (p : Row → Bool) (g : Row → Row) (xs : List Row) → list_all (λ x. p (g x)) xs ≡ true → list_all p (map g xs) ≡ true
+map-all p g [] h = refl
+map-all p g (x ∷ xs) h = and-both _ _ (and-left _ _ h) (map-all p g xs (and-right _ _ h))
+
+pub compare-copied : (kept cs ds : List ℕ) → copied kept cs ≡ Some ds → (a b : Row) → compare_on cs (pick kept a) (pick kept b) ≡ compare_on ds a b
+compare-copied kept cs ds h a b =
+    let e = copied-alone kept cs ds a h in
+    let f = copied-alone kept cs ds b h in
+    rw (e, f) refl
+
+pub project-sorted : (kept cs ds : List ℕ) → copied kept cs ≡ Some ds → (xs : List Row) → sorted ds xs ≡ true → sorted cs (map (pick kept) xs) ≡ true
+project-sorted kept cs ds h [] k = refl
+project-sorted kept cs ds h (x ∷ xs) k = and-both _ _
+    (map-all _ (pick kept) xs (list_all-weaken _ _ (λ y e. ap is_le (compare-copied kept cs ds h x y) ∙ e) xs (and-left _ _ k)))
+    (project-sorted kept cs ds h xs (and-right _ _ k))
+
+pub project-key : (kept cs ds : List ℕ) → copied kept cs ≡ Some ds → (xs : List Row) → HasKey ds xs → HasKey cs (map (pick kept) xs)
+project-key kept cs ds h xs key row =
+    let p : Row → Bool = λ r. agree cs row (pick kept r) in
+    let e : count (agree cs row) (map (pick kept) xs) ≡ count p xs = total-map (λ x. cond (agree cs row x) 1 0) (pick kept) xs in
+    let b : count p xs ≤ 1 = count-witness p xs (λ r0 h0.
+    let a : count p xs ≤ count (agree ds r0) xs = count-mono p (agree ds r0) (λ r h1.
+    ap (λ o. is_eq o) (sym (compare-copied kept cs ds h r0 r)) ∙ agree-both cs row (pick kept r0) (pick kept r) h0 h1) xs in
+    let k : count (agree ds r0) xs ≤ 1 = key r0 in
+    omega arith) in
+    omega arith

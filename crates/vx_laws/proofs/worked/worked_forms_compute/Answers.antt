@@ -1,0 +1,16 @@
+use Rattle.std.proofs.Common.{refl}
+use Rattle.vx_laws.proofs.worked.worked_forms_compute.Goals as goal
+
+pub returns : goal.returns
+returns c = record {
+  below_all = refl;
+  at_first = refl;
+  past_last_consumer = refl;
+  of_three_below = refl;
+  of_three_between = refl;
+  of_three_above = refl;
+  is_a_key = refl;
+  no_clash = refl;
+  clash = refl;
+  clash_of_two = refl;
+}

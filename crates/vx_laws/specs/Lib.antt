@@ -1,0 +1,9 @@
+pub mod Sound
+pub mod Forms
+pub mod WorkedPlans
+pub mod WorkedRows
+pub mod Dispatch
+pub mod RunOf
+pub mod Layout
+pub mod Faults
+pub mod Samples

@@ -1,0 +1,23 @@
+//! Worked plans, judged and evaluated by the definitions alone.
+
+ghost use Rattle.vx_laws.specs.WorkedRows.{AreAccepted, AreRefused, HaveForms, HaveSerialRows};
+
+/// These plans are accepted.
+pub fn worked_plans_are_accepted()
+    ensures { AreAccepted }
+{}
+
+/// These are refused, each at its node by its first failing test.
+pub fn worked_plans_are_refused()
+    ensures { AreRefused }
+{}
+
+/// These are the rows that they mean, or the node at which they overflow.
+pub fn worked_plans_have_rows()
+    ensures { HaveSerialRows }
+{}
+
+/// Range routes and clashes as worked by hand.
+pub fn worked_forms_compute()
+    ensures { HaveForms }
+{}

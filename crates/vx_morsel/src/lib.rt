@@ -1,0 +1,2 @@
+//! Morsels of a relation, dealt out by number.
+#![tactic(auto)]

@@ -1,0 +1,117 @@
+-- What one source heard and gave so far, and what is known of a source at any moment (Volcano's iterators).
+use Rattle.std.specs.Prelude.{ℕ, ◌≡◌, ◌<◌, ◌⊎◌, true, false, List, [], ◌∷◌, ◌++◌, length, map, Some, None}
+use Rattle.vx_rows.specs.Values.{Row}
+use Rattle.vx_rows.specs.Order.{sorted}
+use Rattle.vx_rows.specs.declared.value.ColType.{ColType}
+use Rattle.vx_plan.specs.Plan.{Unary, group, Binary, join}
+use Rattle.vx_plan.specs.Serial.{unary_rows, binary_rows, group_rows}
+use Rattle.vx_plan.specs.Streams.{Dealt}
+use Rattle.vx_ports.specs.Packets.{Parcel, rows_of, has_last, has_fault}
+use Rattle.vx_ops.specs.declared.fault.Code.TheVariants.{Overflow, NoMemory, Unsorted, Stranger}
+use Rattle.vx_ops.specs.declared.fault.Fault.{Fault}
+use Rattle.vx_ops.specs.declared.fault.Fault.TheVariants.{Own, Passed}
+use Rattle.vx_ops.specs.declared.fault.Over.{Over}
+use Rattle.vx_ops.specs.declared.fault.Over.TheVariants.{Running, Ended, Failed}
+use Rattle.vx_rows.specs.Lists.{IsBeginning}
+
+-- the rows of a stream so far, and how it stands
+pub record Stream : Type 0 where
+  pub rows : List Row
+  pub over : Over
+
+-- a stream that has not begun
+abbrev pub fresh : Stream
+fresh = record { rows = []; over = Running }
+
+-- what one source heard from its inputs and producers, and what it gave; a scan hears its morsels on the left
+pub record Ledger : Type 0 where
+  pub left : Stream
+  pub right : Stream
+  pub came : ℕ → List Parcel
+  pub gave : Stream
+
+-- the consumer end of an exchange, at one of its places; it merges on the last list of columns, if that is not empty
+pub record ConsumerEnd : Type 0 where
+  pub exchange : ℕ
+  pub place : ℕ
+  pub producers : ℕ
+  pub types : List ColType
+  pub merge : List ℕ
+
+-- what a source does; with its node's number
+pub data Op : Type 0 where
+  scan_op : Op
+  one_op : ℕ → Unary → Op
+  two_op : ℕ → Binary → Op
+  receive : ConsumerEnd → Op
+
+-- what an operator makes of all that it took
+abbrev pub Makes : Op → Ledger → List Row → Type 0
+Makes scan_op l out = out ≡ l.left.rows
+Makes (one_op n op) l out = unary_rows op l.left.rows ≡ Some out
+Makes (two_op n op) l out = binary_rows op l.left.rows l.right.rows ≡ out
+Makes (receive port) l out = Dealt port.producers out (λ i. rows_of (l.came i)) × (sorted port.merge out ≡ true)
+
+-- all its inputs have ended
+abbrev pub InputsEnded : Op → Ledger → Type 0
+InputsEnded scan_op l = l.left.over ≡ Ended
+InputsEnded (one_op n op) l = l.left.over ≡ Ended
+InputsEnded (two_op n op) l = (l.left.over ≡ Ended) × (l.right.over ≡ Ended)
+InputsEnded (receive port) l = (i : ℕ) → i < port.producers → has_last (l.came i) ≡ true
+
+-- a packet for this port, from this producer
+pub record IsFor (port : ConsumerEnd) (from : ℕ) (p : Parcel) : Type 0 where
+  pub exchange : p.exchange ≡ port.exchange
+  pub from_is : p.from ≡ from
+  pub to : p.to ≡ port.place
+  pub types : p.types ≡ port.types
+
+-- such a packet stands among these
+pub record Came (P : Parcel → Type 0) (ps : List Parcel) : Type 0 where
+  pub front : List Parcel
+  pub packet : Parcel
+  pub back : List Parcel
+  pub joined : front ++ packet ∷ back ≡ ps
+  pub is : P packet
+
+-- why a source answers a fault that no input gave
+abbrev pub OwnBlame : Op → Ledger → Fault → Type 0
+OwnBlame op l (Own NoMemory node) = Unit {0}
+OwnBlame (one_op n (group by aggregates)) l (Own Overflow node) =
+    (node ≡ n) × (l.left.over ≡ Ended) × ((group_rows by aggregates l.left.rows ≡ None) ⊎ (4611686018427387904 < length l.left.rows))
+OwnBlame (two_op n (join true on)) l (Own Unsorted node) =
+    (node ≡ n) × ((sorted (map (λ x. x.0) on) l.left.rows ≡ false) ⊎ (sorted (map (λ x. x.1) on) l.right.rows ≡ false))
+OwnBlame (receive port) l (Own Unsorted node) =
+    (node ≡ port.exchange) × ((i : ℕ) × (i < port.producers) × (sorted port.merge (rows_of (l.came i)) ≡ false))
+OwnBlame (receive port) l (Own Stranger node) =
+    (node ≡ port.exchange) × ((i : ℕ) × (i < port.producers) × Came (λ p. IsFor port i p → ⊥) (l.came i))
+OwnBlame (receive port) l Passed = (i : ℕ) × (i < port.producers) × (has_fault (l.came i) ≡ true)
+OwnBlame op l f = ⊥
+
+-- an input of the operator gave this fault
+abbrev pub InputFault : Op → Ledger → Fault → Type 0
+InputFault scan_op l f = l.left.over ≡ Failed f
+InputFault (one_op n op) l f = l.left.over ≡ Failed f
+InputFault (two_op n op) l f = (l.left.over ≡ Failed f) ⊎ (l.right.over ≡ Failed f)
+InputFault (receive port) l f = ⊥
+
+-- one ledger's inputs are beginnings of another's
+pub record Begins (k l : Ledger) : Type 0 where
+  pub left : IsBeginning k.left.rows l.left.rows
+  pub right : IsBeginning k.right.rows l.right.rows
+  pub came : (i : ℕ) → IsBeginning (rows_of (k.came i)) (rows_of (l.came i))
+
+-- what was given is a beginning of what the operator makes of beginnings of what it took
+pub record Begun (op : Op) (l : Ledger) : Type 0 where
+  pub inputs : Ledger
+  pub begins : Begins inputs l
+  pub whole : List Row
+  pub makes : Makes op inputs whole
+  pub gave : IsBeginning l.gave.rows whole
+
+-- what is known of a source after any turns
+pub record Told (op : Op) (l : Ledger) : Type 0 where
+  pub before : Begun op l
+  pub ended : l.gave.over ≡ Ended → InputsEnded op l × Makes op l l.gave.rows
+  pub passes : (f : Fault) → InputFault op l f → l.gave.over ≡ Failed f
+  pub blame : (f : Fault) → l.gave.over ≡ Failed f → InputFault op l f ⊎ OwnBlame op l f

@@ -1,0 +1,4 @@
+//! Operators that give rows packet by packet.
+#![tactic(auto)]
+
+pub mod fault;

@@ -1,0 +1,9 @@
+pub mod Plan
+pub mod Types
+pub mod Typed
+pub mod Numbering
+pub mod Serial
+pub mod Erase
+pub mod Streams
+pub mod Routes
+pub mod Runs

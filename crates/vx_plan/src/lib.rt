@@ -1,0 +1,2 @@
+//! Typed plans and what they mean.
+#![tactic(auto)]

@@ -1,0 +1,6 @@
+//! Values and rows.
+#![tactic(auto)]
+
+mod value;
+
+pub use value::ColType;

@@ -1,0 +1,4 @@
+pub mod Fragment
+pub mod Morsels
+pub mod Trace
+pub mod Trees

@@ -1,0 +1,130 @@
+-- The trace of a worker, one event, and what an ended worker's trace says.
+use Rattle.std.specs.Prelude.{ℕ, ◌≡◌, ◌==◌, ◌⊎◌, List, [], ◌∷◌, ◌++◌, true, false, Option, Some, None, cond}
+use Rattle.vx_rows.specs.Values.{Row}
+use Rattle.vx_plan.specs.Routes.{Router}
+use Rattle.vx_ports.specs.Packets.{Parcel}
+use Rattle.vx_morsel.specs.Draws.{Draws}
+use Rattle.vx_worker.specs.Morsels.{morsel_of, morsels}
+use Rattle.vx_ops.specs.Ledger.{Stream}
+use Rattle.vx_rows.specs.Lists.{IsBeginning}
+use Rattle.vx_exchange.specs.Ship.{Ship, IsShipped, IsCutShort}
+use Rattle.vx_worker.specs.Fragment.{Setting, goes, Frag, Reads, FragTold}
+use Rattle.vx_ops.specs.declared.fault.Code.TheVariants.{NoMemory}
+use Rattle.vx_ops.specs.declared.fault.Fault.{Fault}
+use Rattle.vx_ops.specs.declared.fault.Fault.TheVariants.{Own}
+use Rattle.vx_ops.specs.declared.fault.Over.TheVariants.{Ended, Failed}
+
+-- what one step may do to what is shared
+pub data Event : Type 0 where
+  idle : Event
+  drew_one : (scan : ℕ) → (number : Option ℕ) → Event
+  took_one : (exchange from : ℕ) → (packet : Option Parcel) → Event
+  put_one : (to : ℕ) → (packet : Parcel) → Event
+
+-- the numbers drawn for each scan, the packets taken from each producer of each exchange, and those put to each consumer
+pub record Trace : Type 0 where
+  pub drew : ℕ → Draws
+  pub came : ℕ → ℕ → List Parcel
+  pub sent : ℕ → List Parcel
+
+-- of a worker that made no step
+abbrev pub empty_trace : Trace
+empty_trace = record { drew = λ _. record { numbers = []; met_end = false }; came = λ _ _. []; sent = λ _. [] }
+
+-- one more draw: a number, or the end
+abbrev pub drawn : Draws → Option ℕ → Draws
+drawn d None = record { numbers = d.numbers; met_end = true }
+drawn d (Some n) = record { numbers = d.numbers ++ n ∷ []; met_end = d.met_end }
+
+-- the lists with one more packet at this place
+abbrev pub with_packet : (ℕ → List Parcel) → ℕ → Option Parcel → ℕ → List Parcel
+with_packet f i None = f
+with_packet f i (Some p) = λ j. cond (j == i) (f j ++ p ∷ []) (f j)
+
+-- the trace with one more event
+abbrev pub added : Trace → Event → Trace
+added t idle = t
+added t (drew_one k d) = record t { drew = λ j. cond (j == k) (drawn (t.drew j) d) (t.drew j) }
+added t (took_one k i o) = record t { came = λ j. cond (j == k) (with_packet (t.came j) i o) (t.came j) }
+added t (put_one j p) = record t { sent = with_packet t.sent j (Some p) }
+
+-- the stream of a scan has the rows of the morsels drawn, and never fails: a worker that is refused memory for a morsel fails itself
+pub record Scanned (m : ℕ → List Row) (d : Draws) (s : Stream) : Type 0 where
+  pub rows : s.rows ≡ morsels m d.numbers
+  pub ended : s.over ≡ Ended → d.met_end ≡ true
+  pub never_fails : (f : Fault) → s.over ≡ Failed f → ⊥
+
+-- the morsels of the relation that a scan reads
+abbrev pub scan_morsels : Setting → (scan : ℕ) → (k : ℕ) → List Row
+scan_morsels S n = morsel_of S.morsel (S.db (S.relation_of n))
+
+-- what the leaves read is what was drawn and taken
+pub record ReadsAre (S : Setting) (t : Trace) (r : Reads) : Type 0 where
+  pub scanned : (n : ℕ) → Scanned (scan_morsels S n) (t.drew n) (r.scanned n)
+  pub came : (n : ℕ) → r.came n ≡ t.came n
+
+-- a beginning of what was drawn
+pub record ScanBegins (m : ℕ → List Row) (d : Draws) (s : Stream) : Type 0 where
+  pub numbers : List ℕ
+  pub begins : IsBeginning numbers d.numbers
+  pub rows : s.rows ≡ morsels m numbers
+  pub ended : s.over ≡ Ended → (numbers ≡ d.numbers) × (d.met_end ≡ true)
+  pub never_fails : (f : Fault) → s.over ≡ Failed f → ⊥
+
+-- a beginning of what was drawn and taken: a worker that failed goes on taking and dropping
+pub record ReadsBegin (S : Setting) (t : Trace) (r : Reads) : Type 0 where
+  pub scanned : (n : ℕ) → ScanBegins (scan_morsels S n) (t.drew n) (r.scanned n)
+  pub came : (n i : ℕ) → IsBeginning (r.came n i) (t.came n i)
+
+-- where the rows of a fragment's top go: through a sending end, or, at the root, to the rows gathered
+pub data Task : Type 0 where
+  send : Ship → Task
+  keep : List Row → Task
+
+-- all rows went on their way; the root's worker kept them and put nothing
+abbrev pub Finished : Router → Task → List Row → (ℕ → List Parcel) → Type 0
+Finished goes (send s) rows put = IsShipped goes s rows put
+Finished goes (keep kept) rows put = (kept ≡ rows) × ((j : ℕ) → put j ≡ [])
+
+-- a beginning of them did, and each port was closed by Fault
+abbrev pub Stopped : Router → Task → List Row → (ℕ → List Parcel) → Type 0
+Stopped goes (send s) rows put = IsCutShort goes s rows put
+Stopped goes (keep kept) rows put = (j : ℕ) → put j ≡ []
+
+-- memory was refused
+abbrev pub IsNoMemory : Fault → Type 0
+IsNoMemory (Own NoMemory node) = Unit {0}
+IsNoMemory f = ⊥
+
+-- how a worker ended
+pub data Fate : Type 0 where
+  well : Fate
+  failed : Fault → Fate
+
+-- it took all that came, its top ended, and all that the top gave went on its way. That each taken list ends with Last follows: Last is in it
+-- (a consumer end that ended had one from each producer), and what flowed through a port has nothing behind Last
+pub record IsWell (S : Setting) (f : Frag) (task : Task) (t : Trace) : Type 0 where
+  pub reads : Reads
+  pub reads_are : ReadsAre S t reads
+  pub out : Stream
+  pub told : FragTold f reads out
+  pub ended : out.over ≡ Ended
+  pub finished : Finished (goes S) task out.rows t.sent
+
+-- its sources stood as they should when it failed: the top gave the fault, or memory was refused to the worker
+pub record HasFailed (S : Setting) (f : Frag) (task : Task) (x : Fault) (t : Trace) : Type 0 where
+  pub reads : Reads
+  pub reads_begin : ReadsBegin S t reads
+  pub out : Stream
+  pub told : FragTold f reads out
+  pub why : (out.over ≡ Failed x) ⊎ IsNoMemory x
+  pub stopped : Stopped (goes S) task out.rows t.sent
+
+-- what the trace of an ended worker says
+abbrev pub Honest : Setting → Frag → Task → Fate → Trace → Type 0
+Honest S f task well t = IsWell S f task t
+Honest S f task (failed x) t = HasFailed S f task x t
+
+-- how it ended is open
+abbrev pub Ends : Setting → Frag → Task → Trace → Type 0
+Ends S f task t = (fate : Fate) × Honest S f task fate t
