@@ -1,5 +1,5 @@
 -- Catalogs: lists of relations with names of their own, within the limits.
-use Rattle.std.specs.Prelude.{◌≡◌, ℕ, ◌≤◌, ◌==◌, nat_lt, nat_le, Bool, true, false, not, ◌&&◌, List, [], ◌∷◌, map, length, slice_index_or, bytes_eq}
+use Rattle.std.specs.Prelude.{◌≡◌, ℕ, ◌==◌, nat_lt, nat_le, Bool, true, not, ◌&&◌, List, [], ◌∷◌, map, length, slice_index_or, bytes_eq}
 use Rattle.std.specs.List.{list_all, list_any}
 use Rattle.vx_catalog.specs.Relation.{Relation}
 
@@ -25,6 +25,7 @@ all_below w cols = list_all (λ c. nat_lt c w) cols
 abbrev pub is_key_of : ℕ → List ℕ → Bool
 is_key_of w key = nat_lt 0 (length key) && (all_below w key && are_distinct key)
 
+-- the name is not empty
 abbrev pub is_named : List ℕ → Bool
 is_named name = nat_lt 0 (length name)
 

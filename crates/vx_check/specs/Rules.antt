@@ -1,4 +1,4 @@
--- The rule table (our own): what a node may claim, from its inputs' claims alone. Every rule is a test that computes.
+-- The rule table (our own): what a node may claim, from size names, claims and columns alone, and at a scan from what the catalog declares. Every rule is a test that computes.
 use Rattle.std.specs.Prelude.{ℕ, zero, suc, ◌+◌, ◌-◌, ◌==◌, nat_lt, nat_le, Bool, true, false, cond, not, ◌&&◌, ◌||◌, List, [], ◌∷◌, map, length, Option, Some, None, slice_get}
 use Rattle.std.specs.List.{list_all, list_any}
 use Rattle.vx_plan.specs.Plan.{Route, by_hash, by_range, Part, one, any, all, routed, Unary, select, project, distinct, sort, group, Binary, union, join, Kind, route_to, round, broadcast, gather, Plan, scan, unary, binary, exchange, claim, size, size_eq, is_one}
@@ -60,14 +60,6 @@ copied kept (c ∷ cs) = cons_both (slice_get kept c) (copied kept cs)
 abbrev pub if_some : Option (List ℕ) → (List ℕ → Bool) → Bool
 if_some None test = false
 if_some (Some cs) test = test cs
-
--- the input columns that an operator's first output columns copy; for select and sort all of them
-abbrev pub kept : Unary → Option (List ℕ)
-kept (select cs) = None
-kept (project cols) = Some cols
-kept (distinct cols) = Some cols
-kept (sort cols) = None
-kept (group by aggregates) = Some by
 
 -- a part that is routed on columns that are all among these
 abbrev pub routed_within : Part → List ℕ → Bool

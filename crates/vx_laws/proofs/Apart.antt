@@ -10,12 +10,11 @@ use Rattle.vx_rows.specs.Keys.{HasKey}
 use Rattle.vx_plan.specs.Plan.{Route, Aggregate, least, greatest, sum, count_rows}
 use Rattle.vx_plan.specs.Serial.{firsts, group_row, group_fits, of_key, aggregate_of, fits, sum_of, count_of, above_zero, below_zero, least_of, greatest_of}
 use Rattle.vx_rows.specs.Types.{fits_64}
-use Rattle.vx_plan.specs.Streams.{Streams, joined}
+use Rattle.vx_plan.specs.Streams.{Streams, joined, across}
 use Rattle.vx_plan.specs.Routes.{Router}
 use Rattle.vx_check.specs.Rules.{within, contains, numbers_below}
 use Rattle.vx_check.specs.Claims.{InItsStream}
 use Rattle.vx_laws.proofs.Bags.{and-left, and-right, and-both, when, total-map, total-filter, total-ext, total-zero, total-joined, across-ext, SameRows-all, SameRows-sym}
-use Rattle.vx_plan.specs.Streams.{across}
 use Rattle.vx_laws.proofs.Parts.{list_all-weaken}
 use Rattle.vx_laws.proofs.Keys.{agree-within, agree-at, one-if-mono}
 use Rattle.vx_rows.proofs.Compare.{val_cmp_total, val_cmp-same, row_eq-same, row_eq-refl, row_eq-laws, is_eq-Equal, le-reverse, not_gt-le, le-not_gt, agree-both}

@@ -7,12 +7,11 @@ use Rattle.vx_plan.specs.Plan.{Route, Part, one, any, all, routed}
 use Rattle.vx_plan.specs.Types.{part_columns}
 use Rattle.vx_catalog.specs.Catalog.{all_below}
 use Rattle.vx_plan.specs.Serial.{join_rows}
-use Rattle.vx_plan.specs.Streams.{Streams, joined}
+use Rattle.vx_plan.specs.Streams.{Streams, joined, across}
 use Rattle.vx_plan.specs.Routes.{Router}
 use Rattle.vx_check.specs.Rules.{part_gives, route_eq, numbers_eq, all_pairs, routed_alike, alike_shows, right_columns, left_columns, if_some, front}
 use Rattle.vx_check.specs.Claims.{PartHolds, InItsStream}
 use Rattle.vx_laws.proofs.Bags.{and-left, and-right, and-both, total-append, total-joined, across-ext, across-add, stream-all, SameRows-all, SameRows-sym}
-use Rattle.vx_plan.specs.Streams.{across}
 use Rattle.vx_laws.proofs.Parts.{or-cases, route_eq-is, numbers_eq-is, list_all-always}
 use Rattle.vx_laws.proofs.Copies.{if_some-is}
 use Rattle.vx_laws.proofs.Join.{pick-left, pick-minus, join-alike}

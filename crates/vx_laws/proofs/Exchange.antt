@@ -5,12 +5,11 @@ use Rattle.vx_rows.specs.Values.{Row, pick}
 use Rattle.vx_rows.specs.Order.{sorted}
 use Rattle.vx_rows.specs.Bags.{total, SameRows}
 use Rattle.vx_plan.specs.Plan.{Size, Route, Kind, route_to, round, broadcast, gather}
-use Rattle.vx_plan.specs.Streams.{Streams, joined, Dealt}
+use Rattle.vx_plan.specs.Streams.{Streams, joined, Dealt, across}
 use Rattle.vx_plan.specs.Routes.{Router, Sends}
 use Rattle.vx_plan.specs.Runs.{Exchanges}
 use Rattle.vx_check.specs.Claims.{InItsStream}
 use Rattle.vx_laws.proofs.Bags.{and-both, Dealt-total, total-joined, total-filter, total-ext, across-ext, across-swap, across-zero, across-total, across-one, when, against, against-none, none-against}
-use Rattle.vx_plan.specs.Streams.{across}
 use Rattle.vx_laws.proofs.Parts.{InRange}
 use Rattle.vx_laws.proofs.Orders.{Dealt-sorted, Dealt-one, sorted-filter}
 

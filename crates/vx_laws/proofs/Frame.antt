@@ -18,12 +18,11 @@ use Rattle.vx_laws.specs.Sound.{SoundThroughout, Sound, NoOverflow}
 use Rattle.vx_laws.proofs.Erased.{erased-rows}
 use Rattle.vx_laws.proofs.Bags.{SameRows-sym, and-left, and-right, SameRows-refl, SameRows-trans}
 use Rattle.vx_laws.proofs.Parts.{InRange, single, from_single, weaker, has-holds, one-worker, some-workers, or-cases, size_eq-is, list_all-weaken}
-use Rattle.vx_laws.proofs.Orders.{sorted-front, sorted-filter, Dealt-sorted, sorted-none}
+use Rattle.vx_laws.proofs.Orders.{sorted-front, sorted-filter, Dealt-sorted, sorted-none, list_all-filter}
 use Rattle.vx_laws.proofs.Keys.{count-filter, covers-key, keys-from}
 use Rattle.vx_laws.proofs.Linear.{Linear, Linear-filter, Linear-map, Linear-sort, sort-total, linear-same, linear-joined}
 use Rattle.vx_laws.proofs.Copies.{if_some-is, copied-alone}
 use Rattle.vx_laws.proofs.Unary.{some-is, through-holds, linear-part, through-order, sort-all, sort-sorted, map-all, project-sorted, project-key}
-use Rattle.vx_laws.proofs.Orders.{list_all-filter}
 use Rattle.vx_laws.proofs.Widths.{serial-wide, some-of}
 use Rattle.vx_laws.proofs.Apart.{firsts-same, picks-same, firsts-joined, firsts-sorted, distinct-key}
 use Rattle.vx_laws.proofs.Groups.{groups, groups-same, groups-joined, fits-joined, fits-split, fits-same-rows, firsts-in-stream, groups-in-stream, groups-sorted, groups-key, apart-ways}

@@ -7,12 +7,11 @@ use Rattle.vx_rows.specs.Bags.{total, SameRows}
 use Rattle.vx_plan.specs.Plan.{Route}
 use Rattle.vx_catalog.specs.Catalog.{all_below}
 use Rattle.vx_plan.specs.Serial.{matches, joined_with, join_rows}
-use Rattle.vx_plan.specs.Streams.{Streams, joined}
+use Rattle.vx_plan.specs.Streams.{Streams, joined, across}
 use Rattle.vx_plan.specs.Routes.{Router}
 use Rattle.vx_check.specs.Rules.{shifted, has_pair, all_pairs}
 use Rattle.vx_check.specs.Claims.{InItsStream}
 use Rattle.vx_laws.proofs.Bags.{and-left, and-right, when, total-map, total-filter, total-flat_map, total-ext, total-add, total-zero, total-joined, across-ext}
-use Rattle.vx_plan.specs.Streams.{across}
 use Rattle.vx_laws.proofs.Parts.{or-cases}
 use Rattle.vx_laws.proofs.Keys.{is_eq-then}
 use Rattle.vx_rows.proofs.Compare.{val_cmp-same, is_eq-Equal}

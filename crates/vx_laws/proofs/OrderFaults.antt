@@ -1,5 +1,5 @@
 -- No worker of an allowed plan ends with rows that fall, or with a packet that isn't its own.
-use Rattle.vx_worker.specs.Fragment.{goes}
+use Rattle.vx_worker.specs.Fragment.{goes, Setting, Reads, fragment, FragTold}
 use Rattle.std.proofs.Common.{◌≡◌, ⊎_elim, ℕ, ◌<◌, Bool, true, false, ◌&&◌, List, [], ◌∷◌, ◌++◌, map, refl, sym, ap, ◌∙◌, subst, arith, true≢false}
 use Rattle.vx_rows.specs.Values.{Row}
 use Rattle.vx_rows.specs.Order.{sorted}
@@ -12,7 +12,6 @@ use Rattle.vx_ports.specs.Packets.{Content, last, fault, Parcel, rows_of}
 use Rattle.vx_ops.specs.Ledger.{Stream, ConsumerEnd, scan_op, one_op, two_op, receive, OwnBlame, IsFor}
 use Rattle.vx_rows.specs.Lists.{IsBeginning}
 use Rattle.vx_exchange.specs.Ship.{packet_at, packet_of}
-use Rattle.vx_worker.specs.Fragment.{Setting, Reads, fragment, FragTold}
 use Rattle.vx_worker.specs.Trace.{Trace, Task, send, keep, ReadsBegin, Fate, well, failed, HasFailed, Honest, Ends}
 use Rattle.vx_laws.specs.RunOf.{ship_of, RunOf}
 use Rattle.vx_plan.specs.Numbering.{is_fit}

@@ -1,5 +1,5 @@
 -- An overflow that a run answers is one of the data.
-use Rattle.vx_worker.specs.Fragment.{goes}
+use Rattle.vx_worker.specs.Fragment.{goes, Setting, Frag, Reads, fragment, FragTold, FragMakes}
 use Rattle.std.proofs.Common.{◌≡◌, ◌⊎◌, inl, inr, ⊎_elim, ℕ, zero, suc, ◌<◌, ◌≤◌, ◌==◌, Bool, true, false, cond, not, ◌||◌, ◌&&◌, List, [], ◌∷◌, ◌++◌, map, length, Option, Some, None, IsSome, refl, sym, ap, ◌∙◌, subst, arith, append-nil, true≢false, eqb-true, eq-eqb}
 use Rattle.vx_rows.specs.Values.{Row}
 use Rattle.vx_rows.specs.Order.{sorted}
@@ -17,7 +17,6 @@ use Rattle.vx_worker.specs.Morsels.{morsel_of, morsels}
 use Rattle.vx_ops.specs.Ledger.{Stream, one_op, two_op, OwnBlame}
 use Rattle.vx_rows.specs.Lists.{IsBeginning}
 use Rattle.vx_exchange.specs.Ship.{Ship, packet_at, packet_of}
-use Rattle.vx_worker.specs.Fragment.{Setting, Frag, Reads, fragment, FragTold, FragMakes}
 use Rattle.vx_worker.specs.Trace.{Trace, scan_morsels, Task, send, keep, ReadsAre, ReadsBegin, Fate, well, failed, IsWell, HasFailed, Honest, Ends}
 use Rattle.vx_laws.specs.RunOf.{ship_of, RunOf}
 use Rattle.vx_plan.specs.Numbering.{is_fit}

@@ -1,5 +1,5 @@
 -- What a node has given so far is as wide as its columns, and sorted on its claimed order.
-use Rattle.vx_worker.specs.Fragment.{goes}
+use Rattle.vx_worker.specs.Fragment.{goes, Setting, Reads, fragment, FragTold}
 use Rattle.std.proofs.Common.{◌≡◌, ⊎_elim, ℕ, ◌<◌, ◌==◌, Bool, true, false, ◌&&◌, List, [], ◌∷◌, ◌++◌, map, length, Some, refl, sym, ap, ◌∙◌, subst, arith, append-nil, append_assoc, true≢false, eqb-true, is_le}
 use Rattle.std.specs.List.{list_all}
 use Rattle.vx_rows.specs.Values.{Row, pick}
@@ -17,7 +17,6 @@ use Rattle.vx_worker.specs.Morsels.{morsel_of, morsels}
 use Rattle.vx_ops.specs.Ledger.{Stream}
 use Rattle.vx_rows.specs.Lists.{IsBeginning}
 use Rattle.vx_exchange.specs.Ship.{Ship, end_to_end, packet_at, IsCutPort}
-use Rattle.vx_worker.specs.Fragment.{Setting, Reads, fragment, FragTold}
 use Rattle.vx_worker.specs.Trace.{Trace, send, ReadsBegin, Fate, well, failed, Honest, Ends}
 use Rattle.vx_laws.specs.RunOf.{ship_of, RunOf}
 use Rattle.vx_plan.specs.Numbering.{is_fit}

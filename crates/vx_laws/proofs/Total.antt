@@ -13,12 +13,11 @@ use Rattle.vx_check.specs.Rules.{within, numbers_below, is_total_order}
 use Rattle.vx_catalog.specs.Relation.{KeysHold}
 use Rattle.vx_laws.specs.Sound.{SoundAtRoot}
 use Rattle.vx_laws.proofs.Bags.{and-left, and-right, and-both, total-add, SameRows-all, SameRows-sym}
-use Rattle.vx_laws.proofs.Parts.{or-cases, from_single, one-worker}
+use Rattle.vx_laws.proofs.Parts.{or-cases, from_single, one-worker, list_all-always}
 use Rattle.vx_laws.proofs.Keys.{agree-within}
 use Rattle.vx_rows.proofs.Compare.{row_eq-same, row_eq-refl, row_eq-laws, row_cmp_total}
 use Rattle.vx_laws.proofs.Join.{total-all-le}
 use Rattle.vx_laws.proofs.JoinOrder.{wide}
-use Rattle.vx_laws.proofs.Parts.{list_all-always}
 use Rattle.vx_laws.proofs.Widths.{serial-wide}
 use Rattle.vx_laws.proofs.Apart.{self-counts, nothing-same, find-in, agree-all}
 use Rattle.vx_laws.proofs.Erased.{erased-rows}

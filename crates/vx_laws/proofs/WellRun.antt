@@ -1,5 +1,5 @@
 -- From the traces of all workers to a run of the plan relation.
-use Rattle.vx_worker.specs.Fragment.{goes, IsSet}
+use Rattle.vx_worker.specs.Fragment.{goes, IsSet, Setting, Reads, fragment, FragTold, FragMakes}
 use Rattle.std.proofs.Common.{◌≡◌, ℕ, ◌<◌, ◌==◌, ◌&&◌, Bool, true, false, List, [], sym, ap, ◌∙◌, subst, arith, eqb-true, Some}
 use Rattle.vx_rows.specs.Values.{Row}
 use Rattle.vx_plan.specs.Plan.{Size, Kind, target, Claim, Plan, scan, unary, binary, exchange, size, is_one, size_eq}
@@ -11,7 +11,6 @@ use Rattle.vx_ports.specs.Packets.{Parcel, rows_of, Flows}
 use Rattle.vx_worker.specs.Morsels.{morsel_of, morsels}
 use Rattle.vx_ops.specs.Ledger.{Stream, scan_op, one_op, two_op, receive, Makes}
 use Rattle.vx_exchange.specs.Ship.{IsPort}
-use Rattle.vx_worker.specs.Fragment.{Setting, Reads, fragment, FragTold, FragMakes}
 use Rattle.vx_worker.specs.Trace.{Trace, scan_morsels, send, keep, IsWell}
 use Rattle.vx_laws.specs.RunOf.{ship_of, RunOf, Made, WellRuns, WellRunGives, WellRunDelivers}
 use Rattle.vx_plan.specs.Numbering.{is_fit}

@@ -1,8 +1,7 @@
 -- A fault that a run answers is real, also where other workers were cut short.
-use Rattle.std.specs.Prelude.{◌+◌}
-use Rattle.vx_worker.specs.Fragment.{IsSet}
+use Rattle.std.specs.Prelude.{◌+◌, ◌≡◌, ℕ, ◌<◌, ◌⊎◌, ◌↔◌, true, List}
+use Rattle.vx_worker.specs.Fragment.{IsSet, Setting, fragment}
 use Rattle.vx_laws.specs.Layout.{FlatRun, workers_below}
-use Rattle.std.specs.Prelude.{◌≡◌, ℕ, ◌<◌, ◌⊎◌, ◌↔◌, true, List}
 use Rattle.vx_rows.specs.Values.{Row}
 use Rattle.vx_plan.specs.Plan.{Plan, scan, unary, binary, exchange, size, is_one}
 use Rattle.vx_plan.specs.Types.{well_formed}
@@ -10,7 +9,6 @@ use Rattle.vx_plan.specs.Serial.{serial, IsOverflow, HasTooLong}
 use Rattle.vx_plan.specs.Streams.{workers}
 use Rattle.vx_check.specs.Rules.{allowed}
 use Rattle.vx_plan.specs.Erase.{erase}
-use Rattle.vx_worker.specs.Fragment.{Setting, fragment}
 use Rattle.vx_worker.specs.Trace.{Trace, keep, failed, Ends}
 use Rattle.vx_laws.specs.RunOf.{RunOf}
 use Rattle.vx_plan.specs.Numbering.{is_fit}

@@ -1,5 +1,5 @@
 -- What the traces of all workers of a plan say together, and the laws: they are a run of the plan, and deliver the headline.
-use Rattle.vx_worker.specs.Fragment.{goes, IsSet}
+use Rattle.vx_worker.specs.Fragment.{goes, IsSet, Setting, Frag, Reads, FragMakes, fragment}
 use Rattle.std.specs.Prelude.{◌≡◌, ℕ, ◌<◌, Bool, true, false, List, length}
 use Rattle.vx_rows.specs.Values.{Row}
 use Rattle.vx_plan.specs.Plan.{Kind, target, Plan, scan, unary, binary, exchange, size, is_one}
@@ -11,7 +11,6 @@ use Rattle.vx_check.specs.Claims.{Delivers}
 use Rattle.vx_ports.specs.Packets.{Flows}
 use Rattle.vx_worker.specs.Morsels.{Dispatched, morsel_count}
 use Rattle.vx_exchange.specs.Ship.{Ship}
-use Rattle.vx_worker.specs.Fragment.{Setting, Frag, Reads, FragMakes, fragment}
 use Rattle.vx_worker.specs.Trace.{Trace, Task, send, keep, IsWell, ReadsAre}
 use Rattle.vx_plan.specs.Numbering.{is_fit}
 

@@ -3,7 +3,8 @@ use Rattle.std.specs.Prelude.{ℕ, zero, suc, true, false, pos, negsuc, List, []
 use Rattle.vx_rows.specs.declared.value.ColType.TheVariants.{Int, Text}
 use Rattle.vx_rows.specs.Values.{Val, num, text, Row}
 use Rattle.vx_catalog.specs.Relation.{Relation}
-use Rattle.vx_plan.specs.Plan.{Size, one_worker, group_of, Route, by_hash, Part, one, any, all, routed, Claim, equal, constant, sum, count_rows, Unary, select, sort, group, union, join, route_to, broadcast, gather, Plan, scan, unary, binary, exchange}
+use Rattle.vx_plan.specs.Typed.{Scope}
+use Rattle.vx_plan.specs.Plan.{Size, one_worker, group_of, Route, by_hash, Part, one, any, all, routed, Claim, equal, constant, sum, count_rows, Unary, select, sort, group, union, join, route_to, round, broadcast, gather, Plan, scan, unary, binary, exchange}
 
 abbrev pub t_and_d : ℕ → Relation
 t_and_d zero = record { name = []; names = []; types = Int ∷ Text ∷ Int ∷ []; keys = (0 ∷ []) ∷ []; order = 0 ∷ [] }
@@ -110,6 +111,29 @@ join_unlike =
     (binary 1 (part_only any) (join false ((1, 0) ∷ []))
     (exchange 2 (part_only (routed h1 (1 ∷ []))) (route_to many h1 (1 ∷ [])) [] (shared_t 3 (part_only any)))
     (exchange 4 (part_only (routed h2 (0 ∷ []))) (route_to many h2 (0 ∷ [])) [] (shared_d 5 (part_only any))))
+
+-- replicas claimed of a round robin exchange
+abbrev pub round_replicated : Plan
+round_replicated = exchange 0 (part_only one) gather [] (exchange 1 (part_only all) (round many) [] (shared_t 2 (part_only any)))
+
+-- t joined with a broadcast of d on v = n, which is no key of d
+abbrev pub join_off_key : Plan
+join_off_key =
+    exchange 0 (part_only one) gather []
+    (binary 1 (claimed any [] first_key) (join false ((2, 1) ∷ []))
+    (shared_t 2 (claimed any first first_key))
+    (exchange 3 (claimed all [] first_key) (broadcast many) [] (shared_d 4 (claimed any [] first_key))))
+
+-- a sum of texts, and a union of unlike types
+abbrev pub text_summed : Plan
+text_summed = unary 0 (part_only one) (group [] (sum 1 ∷ [])) (scan 1 (part_only one) 0 false one_worker)
+
+abbrev pub union_unlike : Plan
+union_unlike = binary 0 (part_only one) union (scan 1 (part_only one) 0 false one_worker) (scan 2 (part_only one) 1 false one_worker)
+
+-- what the worked plans may name
+abbrev pub worked_scope : Scope
+worked_scope = record { catalog = t_and_d 0 ∷ t_and_d 1 ∷ []; ranges = []; sizes = 2 }
 
 -- a union of replicas and parts
 abbrev pub union_mixed : Plan

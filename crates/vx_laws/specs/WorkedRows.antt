@@ -6,9 +6,13 @@ use Rattle.vx_plan.specs.Plan.{one, any, all, routed}
 use Rattle.vx_plan.specs.Serial.{rows, overflow, serial, sort_on}
 use Rattle.vx_plan.specs.Erase.{erase}
 use Rattle.vx_plan.specs.Routes.{range_consumer}
+use Rattle.vx_plan.specs.Typed.{typed, is_range}
+use Rattle.vx_plan.specs.Numbering.{nodes}
+use Rattle.vx_exchange.specs.Rounds.{in_turn}
+use Rattle.vx_worker.specs.Morsels.{morsel_count, morsel_of}
 use Rattle.vx_check.specs.Rules.{allowed, root_allowed}
 use Rattle.vx_check.specs.Refusal.{size_mismatch, root_not_one, part_not_shown, inputs_not_matched, replicated_input, order_not_shown, order_needed, key_not_shown, total_not_shown, refusal}
-use Rattle.vx_laws.specs.WorkedPlans.{t_and_d, h, h2, claimed, part_only, first, first_key, shared_t, select_gathered, select_merged, sums_over, h_sorted, h_grouped, t_by_k, h_on_k, sums_by_hash, sums_unrouted, join_broadcast, t_with_d, replica_gathered, join_unlike, union_mixed, union_two_sizes, sums_with_d, rows_counted, merge_joined, d_sorted, d_unsorted, one_row, a, b, c, n, minus_2, t_rows, db, empty_db, large, minus_1_row}
+use Rattle.vx_laws.specs.WorkedPlans.{t_and_d, h, h2, claimed, part_only, first, first_key, shared_t, select_gathered, select_merged, sums_over, h_sorted, h_grouped, t_by_k, h_on_k, sums_by_hash, sums_unrouted, join_broadcast, t_with_d, replica_gathered, join_unlike, union_mixed, union_two_sizes, round_replicated, join_off_key, text_summed, union_unlike, worked_scope, sums_with_d, rows_counted, merge_joined, d_sorted, d_unsorted, one_row, a, b, c, n, minus_2, t_rows, db, empty_db, large, minus_1_row}
 
 -- plans that are accepted
 pub record AreAccepted : Type 0 where
@@ -44,6 +48,8 @@ pub record AreRefused : Type 0 where
   pub key_of_join : refusal t_and_d true (join_broadcast (claimed one first first_key) (claimed any first ((1 ∷ []) ∷ [])) (claimed all [] first_key) (claimed any [] first_key)) ≡ Some (1, key_not_shown)
   pub key_of_scan : refusal t_and_d true (join_broadcast (claimed one first first_key) (claimed any first first_key) (claimed all [] first_key) (claimed any [] ((1 ∷ []) ∷ []))) ≡ Some (4, key_not_shown)
   pub key_of_group : refusal t_and_d true (sums_over h_sorted (claimed (routed h first) [] ((1 ∷ []) ∷ [])) (t_by_k h_on_k (part_only any))) ≡ Some (2, key_not_shown)
+  pub replicas_of_round : refusal t_and_d false round_replicated ≡ Some (1, part_not_shown)
+  pub key_without_pairing : refusal t_and_d false join_off_key ≡ Some (1, key_not_shown)
   pub total_without_key : refusal t_and_d true (select_merged first first []) ≡ Some (0, total_not_shown)
   pub total_without_order : refusal t_and_d true (join_broadcast (claimed one [] first_key) (claimed any first first_key) (claimed all [] first_key) (claimed any [] first_key)) ≡ Some (0, total_not_shown)
 
@@ -63,8 +69,18 @@ pub record HaveSerialRows : Type 0 where
   pub counted : serial db rows_counted ≡ rows ((n 4 ∷ []) ∷ [])
   pub stable : sort_on (1 ∷ []) t_rows ≡ one_row (n 0) a (n 5) ∷ one_row (n 2) a minus_2 ∷ one_row (n 1) b (n 7) ∷ one_row (n 3) c (n 7) ∷ []
 
--- ranges with the bounds 2 and 10, and a clash in the first column
+-- plans that are typed, and plans that are not; ranges with the bounds 2 and 10; clashes; round robin; morsels
 pub record HaveForms : Type 0 where
+  pub typed_sums : typed worked_scope sums_by_hash ≡ true
+  pub typed_join : typed worked_scope t_with_d ≡ true
+  pub untyped_sum : typed worked_scope text_summed ≡ false
+  pub untyped_union : typed worked_scope union_unlike ≡ false
+  pub a_range : is_range (n 2 ∷ n 10 ∷ []) ≡ true
+  pub no_range : is_range (n 10 ∷ n 2 ∷ []) ≡ false
+  pub erased_nodes : nodes (erase sums_by_hash) ≡ 3
+  pub second_in_turn : in_turn 0 3 1 t_rows ≡ one_row (n 1) b (n 7) ∷ []
+  pub ten_morsels : morsel_count 1024 10000 ≡ 10
+  pub short_morsel : morsel_of 3 t_rows 1 ≡ one_row (n 3) c (n 7) ∷ []
   pub below_all : range_consumer (n 2 ∷ n 10 ∷ []) (n 1) 2 ≡ 0
   pub at_first : range_consumer (n 2 ∷ n 10 ∷ []) (n 2) 2 ≡ 1
   pub past_last_consumer : range_consumer (n 2 ∷ n 10 ∷ []) (n 10) 2 ≡ 1

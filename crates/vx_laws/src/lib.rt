@@ -1,4 +1,4 @@
-// The rule table's soundness, as a law over the definitions.
+//! The laws that stand on the definitions alone: each is the contract of a function with an empty body.
 #![tactic(auto)]
 
 pub mod runs;

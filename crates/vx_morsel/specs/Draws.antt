@@ -25,6 +25,7 @@ abbrev pub Rises : List ℕ → Type 0
 Rises [] = Unit {0}
 Rises (x ∷ xs) = AllAbove x xs × Rises xs
 
+-- each seat's list rises
 abbrev pub AllRise : List Draws → Type 0
 AllRise [] = Unit {0}
 AllRise (h ∷ hs) = Rises h.numbers × AllRise hs

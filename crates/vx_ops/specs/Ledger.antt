@@ -66,7 +66,7 @@ pub record IsFor (port : ConsumerEnd) (from : ℕ) (p : Parcel) : Type 0 where
   pub to : p.to ≡ port.place
   pub types : p.types ≡ port.types
 
--- such a packet stands among these
+-- a packet of which P holds stands among these
 pub record Came (P : Parcel → Type 0) (ps : List Parcel) : Type 0 where
   pub front : List Parcel
   pub packet : Parcel

@@ -23,7 +23,7 @@ relation_in (unary n c op p) k = relation_in p k
 relation_in (binary n c op p q) k = cond (nat_lt k (number q)) (relation_in p k) (relation_in q k)
 relation_in (exchange n c k' m p) k = relation_in p k
 
--- scans read the relations that the setting says, and the inputs of a node have one size
+-- scans read the relations that `relation_of` says, and the inputs of a node have one size
 abbrev pub is_fit : (ℕ → ℕ) → Plan → Bool
 is_fit relation_of (scan n c r m z) = relation_of n == r
 is_fit relation_of (unary n c op p) = is_fit relation_of p

@@ -46,6 +46,7 @@ sort_on cols (x ∷ xs) = insert_sorted cols x (sort_on cols xs)
 abbrev pub matches : List (ℕ × ℕ) → Row → Row → Bool
 matches on l r = row_eq (pick (map (λ p. p.0) on) l) (pick (map (λ p. p.1) on) r)
 
+-- the rows that one left row gives
 abbrev pub joined_with : List (ℕ × ℕ) → List Row → Row → List Row
 joined_with on rs l = map (λ r. l ++ r) (filter (matches on l) rs)
 
@@ -119,6 +120,7 @@ group_keys by xs = firsts (map (pick by) xs)
 abbrev pub group_row : List ℕ → List Aggregate → List Row → Row → Row
 group_row by aggregates xs key = key ++ map (λ a. aggregate_of a (of_key by key xs)) aggregates
 
+-- whether the aggregates of a key fit
 abbrev pub group_fits : List ℕ → List Aggregate → List Row → Row → Bool
 group_fits by aggregates xs key = list_all (λ a. fits a (of_key by key xs)) aggregates
 
@@ -145,10 +147,12 @@ pub data Outcome : Type 0 where
   rows : List Row → Outcome
   overflow : ℕ → Outcome
 
+-- overflow at the node where an operator answers none
 abbrev pub or_overflow : ℕ → Option (List Row) → Outcome
 or_overflow n (Some xs) = rows xs
 or_overflow n None = overflow n
 
+-- what comes of an input's rows; its overflow stays
 abbrev pub after : Outcome → (List Row → Outcome) → Outcome
 after (rows xs) next = next xs
 after (overflow n) next = overflow n

@@ -1,5 +1,5 @@
 -- Typed plans: each node names what there is, and compares, sums and routes what has the type for it.
-use Rattle.std.specs.Prelude.{◌≡◌, ℕ, ◌==◌, nat_lt, nat_le, Bool, true, false, not, ◌&&◌, ◌||◌, List, [], ◌∷◌, ◌++◌, map, length, slice_index_or}
+use Rattle.std.specs.Prelude.{◌≡◌, ℕ, ◌==◌, nat_lt, nat_le, Bool, true, false, not, ◌&&◌, ◌||◌, List, [], ◌∷◌, length, slice_index_or}
 use Rattle.std.specs.List.{list_all, list_any}
 use Rattle.std.specs.Ordering.{is_lt}
 use Rattle.vx_rows.specs.declared.value.ColType.{ColType}
@@ -8,7 +8,7 @@ use Rattle.vx_rows.specs.Values.{Val, val_cmp}
 use Rattle.vx_rows.specs.Types.{type_of, type_at, is_held}
 use Rattle.vx_catalog.specs.Relation.{Relation}
 use Rattle.vx_catalog.specs.Catalog.{relation_at, all_below, are_distinct}
-use Rattle.vx_plan.specs.Plan.{Size, one_worker, group_of, Route, by_hash, by_range, Part, one, any, all, routed, Claim, Side, column, constant, Condition, Aggregate, least, greatest, sum, count_rows, Unary, select, project, distinct, sort, group, Binary, union, join, Kind, route_to, round, broadcast, gather, Plan, scan, unary, binary, exchange}
+use Rattle.vx_plan.specs.Plan.{Size, one_worker, group_of, Route, by_hash, by_range, Part, routed, Claim, Side, column, constant, Condition, Aggregate, least, greatest, sum, count_rows, Unary, select, project, distinct, sort, group, Binary, union, join, Kind, route_to, round, broadcast, gather, Plan, scan, unary, binary, exchange}
 use Rattle.vx_plan.specs.Types.{types_of}
 use Rattle.vx_plan.specs.Numbering.{is_numbered}
 
@@ -22,18 +22,21 @@ pub record Scope : Type 0 where
 abbrev pub bounds_at : List (List Val) → ℕ → List Val
 bounds_at ranges k = slice_index_or ranges k []
 
+-- the same type
 abbrev pub type_eq : ColType → ColType → Bool
 type_eq Int Int = true
 type_eq Int Text = false
 type_eq Text Int = false
 type_eq Text Text = true
 
+-- the same types
 abbrev pub types_eq : List ColType → List ColType → Bool
 types_eq [] [] = true
 types_eq [] (u ∷ us) = false
 types_eq (t ∷ ts) [] = false
 types_eq (t ∷ ts) (u ∷ us) = type_eq t u && types_eq ts us
 
+-- the list has an entry
 abbrev pub is_some_list : {X : Type 0} → List X → Bool
 is_some_list [] = false
 is_some_list (x ∷ xs) = true
@@ -57,6 +60,7 @@ abbrev pub is_range : List Val → Bool
 is_range bounds =
     is_some_list bounds && (nat_le (length bounds) 63 && (list_all (λ b. is_held b && type_eq (type_of b) (range_type bounds)) bounds && rises bounds))
 
+-- a size name that is declared
 abbrev pub is_size : ℕ → Size → Bool
 is_size sizes one_worker = true
 is_size sizes (group_of k) = nat_lt k sizes
@@ -67,6 +71,7 @@ is_routed s types (by_hash name) cols = is_some_list name && (is_some_list cols 
 is_routed s types (by_range k) (c ∷ []) = nat_lt k (length s.ranges) && (nat_lt c (length types) && type_eq (type_at types c) (range_type (bounds_at s.ranges k)))
 is_routed s types (by_range k) cols = false
 
+-- a routed part has a route there is; the others name nothing
 abbrev pub is_part : Scope → List ColType → Part → Bool
 is_part s types (routed r cols) = is_routed s types r cols
 is_part s types _ = true
@@ -80,6 +85,7 @@ abbrev pub is_side : List ColType → ColType → Side → Bool
 is_side types t (column c) = nat_lt c (length types) && type_eq t (type_at types c)
 is_side types t (constant v) = is_held v && type_eq t (type_of v)
 
+-- a column there is, compared with a value of its type
 abbrev pub is_condition : List ColType → Condition → Bool
 is_condition types c = nat_lt c.left (length types) && is_side types (type_at types c.left) c.right
 
@@ -90,6 +96,7 @@ is_aggregate types (greatest c) = nat_lt c (length types)
 is_aggregate types (sum c) = nat_lt c (length types) && type_eq (type_at types c) Int
 is_aggregate types count_rows = true
 
+-- columns there are, in lists with an entry where one is asked for
 abbrev pub is_unary : List ColType → Unary → Bool
 is_unary types (select cs) = is_some_list cs && list_all (is_condition types) cs
 is_unary types (project cols) = is_some_list cols && all_below (length types) cols
@@ -102,14 +109,17 @@ is_unary types (group by aggregates) =
 abbrev pub is_pair : List ColType → List ColType → ℕ × ℕ → Bool
 is_pair ts us p = nat_lt p.0 (length ts) && (nat_lt p.1 (length us) && type_eq (type_at ts p.0) (type_at us p.1))
 
+-- no pair stands twice
 abbrev pub are_distinct_pairs : List (ℕ × ℕ) → Bool
 are_distinct_pairs [] = true
 are_distinct_pairs (x ∷ xs) = not (list_any (λ y. (x.0 == y.0) && (x.1 == y.1)) xs) && are_distinct_pairs xs
 
+-- a union of equal types; a join on some pairs, none twice
 abbrev pub is_binary : List ColType → List ColType → Binary → Bool
 is_binary ts us union = types_eq ts us
 is_binary ts us (join m on) = is_some_list on && (list_all (is_pair ts us) on && are_distinct_pairs on)
 
+-- a size name and a route there are
 abbrev pub is_kind : Scope → List ColType → Kind → Bool
 is_kind s types (route_to z r cols) = is_size s.sizes z && is_routed s types r cols
 is_kind s types (round z) = is_size s.sizes z

@@ -15,6 +15,7 @@ aggregate_type types (greatest c) = type_at types c
 aggregate_type types (sum c) = Int
 aggregate_type types count_rows = Int
 
+-- of an operator over one input with these types
 abbrev pub unary_types : Unary → List ColType → List ColType
 unary_types (select cs) types = types
 unary_types (project cols) types = map (type_at types) cols
@@ -22,6 +23,7 @@ unary_types (distinct cols) types = map (type_at types) cols
 unary_types (sort cols) types = types
 unary_types (group by aggregates) types = map (type_at types) by ++ map (aggregate_type types) aggregates
 
+-- of an operator over two inputs
 abbrev pub binary_types : Binary → List ColType → List ColType → List ColType
 binary_types union ts us = ts
 binary_types (join m on) ts us = ts ++ us
@@ -33,6 +35,7 @@ types_of catalog (unary n c op p) = unary_types op (types_of catalog p)
 types_of catalog (binary n c op p q) = binary_types op (types_of catalog p) (types_of catalog q)
 types_of catalog (exchange n c k m p) = types_of catalog p
 
+-- the same, counted
 abbrev pub unary_width : Unary → ℕ → ℕ
 unary_width (select cs) w = w
 unary_width (project cols) w = length cols

@@ -42,11 +42,13 @@ closes (brings xs) = false
 closes last = true
 closes fault = true
 
+-- a Last
 abbrev pub is_last : Content → Bool
 is_last (brings xs) = false
 is_last last = true
 is_last fault = false
 
+-- a Fault
 abbrev pub is_fault : Content → Bool
 is_fault (brings xs) = false
 is_fault last = false
@@ -67,6 +69,7 @@ abbrev pub has_fault : List Parcel → Bool
 has_fault [] = false
 has_fault (p ∷ ps) = is_fault p.content || has_fault ps
 
+-- no packets
 abbrev pub is_empty : List Parcel → Bool
 is_empty [] = true
 is_empty (p ∷ ps) = false

@@ -6,6 +6,7 @@ use Rattle.vx_rows.specs.declared.value.ColType.{ColType}
 use Rattle.vx_rows.specs.declared.value.ColType.TheVariants.{Int, Text}
 use Rattle.vx_rows.specs.Values.{Val, num, text, Row}
 
+-- the type of a value
 abbrev pub type_of : Val → ColType
 type_of (num z) = Int
 type_of (text s) = Text

@@ -10,6 +10,7 @@ pub data Val : Type 0 where
   num : ℤ → Val
   text : List ℕ → Val
 
+-- a list of values
 abbrev pub Row : Type 0
 Row = List Val
 

@@ -23,6 +23,8 @@ returns c = record {
   key_of_join = refl;
   key_of_scan = refl;
   key_of_group = refl;
+  replicas_of_round = refl;
+  key_without_pairing = refl;
   total_without_key = refl;
   total_without_order = refl;
 }
