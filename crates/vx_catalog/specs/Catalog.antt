@@ -25,7 +25,6 @@ all_below w cols = list_all (λ c. nat_lt c w) cols
 abbrev pub is_key_of : ℕ → List ℕ → Bool
 is_key_of w key = nat_lt 0 (length key) && (all_below w key && are_distinct key)
 
--- the name is not empty
 abbrev pub is_named : List ℕ → Bool
 is_named name = nat_lt 0 (length name)
 

@@ -1,3 +1,14 @@
 pub mod Relation
 pub mod Catalog
 pub mod Csv
+pub mod Walk
+pub mod Look
+pub mod Form
+pub mod Naming
+pub mod Number
+pub mod Loading
+pub mod Records
+pub mod Unread
+pub mod Database
+pub mod Text
+pub mod Meaning

@@ -1,3 +1,12 @@
 pub mod Ship
+pub mod Tasks
 pub mod Closing
 pub mod Rounds
+pub mod Sending
+pub mod Beginnings
+pub mod Parts
+pub mod InTurn
+pub mod Receiver
+pub mod Outlet
+pub mod Gather
+pub mod Kept

@@ -1,6 +1,7 @@
 //! What sending ends owe, by the definitions alone.
 
 ghost use Rattle.vx_exchange.specs.Closing.{FaultCutsShort, LastShips};
+ghost use Rattle.vx_exchange.specs.Parts.{PartStaysAsRowsCome, PartStaysWithLess, PartStaysWithoutLast, BegunStaysAsRowsCome, BegunStaysWithoutLast, FaultStops};
 ghost use Rattle.vx_exchange.specs.Rounds.{TurnsAreDealt};
 
 /// Fault behind what was given in part makes a stream that is cut short.
@@ -16,4 +17,34 @@ pub fn last_ships()
 /// Rows in turn go to one consumer each.
 pub fn turns_are_dealt()
     ensures { TurnsAreDealt }
+{}
+
+/// What was given of some rows is in part what is to be given of these and more.
+pub fn part_stays_as_rows_come()
+    ensures { PartStaysAsRowsCome }
+{}
+
+/// So is less of what was given.
+pub fn part_stays_with_less()
+    ensures { PartStaysWithLess }
+{}
+
+/// So is all but the last packet for a consumer.
+pub fn part_stays_without_last()
+    ensures { PartStaysWithoutLast }
+{}
+
+/// The same of a task: it has begun with some rows, so it has with more.
+pub fn begun_stays_as_rows_come()
+    ensures { BegunStaysAsRowsCome }
+{}
+
+/// The same of a task: it has begun also without the last packet for a consumer.
+pub fn begun_stays_without_last()
+    ensures { BegunStaysWithoutLast }
+{}
+
+/// A task that has begun is stopped by Fault on each port.
+pub fn fault_stops()
+    ensures { FaultStops }
 {}

@@ -5,13 +5,14 @@ use Rattle.vx_plan.specs.Streams.{across}
 use Rattle.vx_morsel.specs.Draws.{times, once_below}
 use Rattle.vx_ops.specs.Ledger.{Stream, Ledger, fresh, one_op, scan_op, OwnBlame, Told}
 use Rattle.vx_worker.specs.Fragment.{fragment}
-use Rattle.vx_worker.specs.Trace.{keep, failed, HasFailed}
+use Rattle.vx_worker.specs.Trace.{failed, HasFailed}
+use Rattle.vx_exchange.specs.Tasks.{keep}
 use Rattle.vx_laws.specs.Samples.{large, summing, summer, FailedRun}
 use Rattle.vx_ops.specs.declared.fault.Code.TheVariants.{Overflow}
 use Rattle.vx_ops.specs.declared.fault.Fault.{Fault}
 use Rattle.vx_ops.specs.declared.fault.Fault.TheVariants.{Own}
 use Rattle.vx_ops.specs.declared.fault.Over.TheVariants.{Ended, Failed}
-use Rattle.vx_ops.proofs.Told.{all_of, begun_whole, begun_nothing}
+use Rattle.vx_ops.specs.Begun.{all_of, begun_whole, begun_nothing}
 use Rattle.vx_laws.proofs.Decks.{past-once}
 
 abbrev all_rows : Stream

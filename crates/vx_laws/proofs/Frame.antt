@@ -2,13 +2,13 @@
 use Rattle.std.proofs.Common.{Option, IsSome, ◌≡◌, ℕ, ◌+◌, ◌<◌, ◌==◌, Bool, true, false, cond, ◌&&◌, ◌||◌, ⊎_elim, List, [], ◌∷◌, ◌++◌, map, filter, length, refl, sym, ap, ◌∙◌, subst, arith, true≢false, Some, None}
 use Rattle.std.specs.List.{list_all}
 use Rattle.vx_rows.specs.Values.{Row, pick}
-use Rattle.vx_rows.specs.Order.{agree, sorted}
+use Rattle.vx_rows.specs.Order.{agree, sorted, sort_on}
 use Rattle.vx_rows.specs.Bags.{SameRows}
 use Rattle.vx_plan.specs.Types.{well_formed, names_columns, part_columns, width}
 use Rattle.vx_catalog.specs.Catalog.{all_below}
 use Rattle.vx_plan.specs.Plan.{Size, Route, Part, one, any, all, routed, Claim, Plan, scan, unary, binary, exchange, claim, size, Unary, select, project, distinct, sort, group, Binary, union, join, Kind, route_to, round, broadcast, gather, target, is_one, size_eq}
 use Rattle.vx_catalog.specs.Relation.{Relation}
-use Rattle.vx_plan.specs.Serial.{passes, sort_on, firsts, group_keys, group_fits, unary_rows, binary_rows, join_rows, rows, or_overflow, after, serial}
+use Rattle.vx_plan.specs.Serial.{passes, firsts, group_keys, group_fits, unary_rows, binary_rows, join_rows, rows, or_overflow, after, serial}
 use Rattle.vx_plan.specs.Streams.{Streams, joined, workers}
 use Rattle.vx_plan.specs.Routes.{Router}
 use Rattle.vx_plan.specs.Runs.{Exchanges, Runs}

@@ -17,7 +17,8 @@ use Rattle.vx_worker.specs.Morsels.{morsel_of, morsels}
 use Rattle.vx_ops.specs.Ledger.{Stream, one_op, two_op, OwnBlame}
 use Rattle.vx_rows.specs.Lists.{IsBeginning}
 use Rattle.vx_exchange.specs.Ship.{Ship, packet_at, packet_of}
-use Rattle.vx_worker.specs.Trace.{Trace, scan_morsels, Task, send, keep, ReadsAre, ReadsBegin, Fate, well, failed, IsWell, HasFailed, Honest, Ends}
+use Rattle.vx_worker.specs.Trace.{Trace, scan_morsels, ReadsAre, ReadsBegin, Fate, well, failed, IsWell, HasFailed, Honest, Ends}
+use Rattle.vx_exchange.specs.Tasks.{keep, send, Task}
 use Rattle.vx_laws.specs.RunOf.{ship_of, RunOf}
 use Rattle.vx_plan.specs.Numbering.{is_fit}
 use Rattle.vx_laws.specs.Faults.{IsReal, FailsBelow, OverflowIsReal}

@@ -7,11 +7,12 @@ use Rattle.vx_worker.specs.Morsels.{morsels}
 use Rattle.vx_morsel.specs.Draws.{times, once_below}
 use Rattle.vx_ops.specs.Ledger.{Stream, fresh}
 use Rattle.vx_worker.specs.Fragment.{fragment}
-use Rattle.vx_worker.specs.Trace.{scan_morsels, send, keep, IsWell}
+use Rattle.vx_worker.specs.Trace.{scan_morsels, IsWell}
+use Rattle.vx_exchange.specs.Tasks.{keep, send}
 use Rattle.vx_laws.specs.RunOf.{ship_of}
 use Rattle.vx_laws.specs.Samples.{row, setting, plan, put, producer, consumer, SampleRun}
 use Rattle.vx_ops.specs.declared.fault.Over.TheVariants.{Ended}
-use Rattle.vx_ops.proofs.Told.{begun_whole}
+use Rattle.vx_ops.specs.Begun.{begun_whole}
 use Rattle.vx_laws.proofs.Decks.{past-once}
 
 abbrev heard : ℕ → ℕ → Stream

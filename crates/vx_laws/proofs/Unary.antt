@@ -2,11 +2,10 @@
 use Rattle.std.proofs.Common.{◌≡◌, ℕ, ◌<◌, ◌≤◌, ◌==◌, Bool, true, false, cond, List, [], ◌∷◌, map, refl, sym, ap, ◌∙◌, subst, arith, true≢false, Option, Some, unwrap_or, is_le, is_eq}
 use Rattle.std.specs.List.{list_all}
 use Rattle.vx_rows.specs.Values.{Row, pick}
-use Rattle.vx_rows.specs.Order.{compare_on, agree, sorted}
+use Rattle.vx_rows.specs.Order.{compare_on, agree, sorted, insert_sorted, sort_on}
 use Rattle.vx_rows.specs.Bags.{count, SameRows}
 use Rattle.vx_rows.specs.Keys.{HasKey}
 use Rattle.vx_plan.specs.Plan.{Route, Part, one, any, all, routed}
-use Rattle.vx_plan.specs.Serial.{sort_on, insert_sorted}
 use Rattle.vx_plan.specs.Streams.{Streams, joined}
 use Rattle.vx_plan.specs.Routes.{Router}
 use Rattle.vx_check.specs.Rules.{through, copied}

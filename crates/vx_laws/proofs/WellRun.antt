@@ -11,7 +11,8 @@ use Rattle.vx_ports.specs.Packets.{Parcel, rows_of, Flows}
 use Rattle.vx_worker.specs.Morsels.{morsel_of, morsels}
 use Rattle.vx_ops.specs.Ledger.{Stream, scan_op, one_op, two_op, receive, Makes}
 use Rattle.vx_exchange.specs.Ship.{IsPort}
-use Rattle.vx_worker.specs.Trace.{Trace, scan_morsels, send, keep, IsWell}
+use Rattle.vx_worker.specs.Trace.{Trace, scan_morsels, IsWell}
+use Rattle.vx_exchange.specs.Tasks.{keep, send}
 use Rattle.vx_laws.specs.RunOf.{ship_of, RunOf, Made, WellRuns, WellRunGives, WellRunDelivers}
 use Rattle.vx_plan.specs.Numbering.{is_fit}
 use Rattle.vx_ops.specs.declared.fault.Over.TheVariants.{Ended}
@@ -51,7 +52,7 @@ told-makes S w (exchange n c k merge p) r out h e =
     let P : Stream → Type 0 = λ s. Makes (receive (record { exchange = n; place = w; producers = workers S.sizes (size p); types = Rattle.vx_plan.specs.Types.types_of S.catalog p; merge = merge })) h.0 s.rows in
     (h.0, h.1, t.0, subst P h.3 t.1)
 
-pub well-made : (S : Setting) (w : ℕ) (p : Plan) (task : Rattle.vx_worker.specs.Trace.Task) (t : Trace) → (h : IsWell S (fragment S w p) task t) → Made S (fragment S w p) t h.out.rows
+pub well-made : (S : Setting) (w : ℕ) (p : Plan) (task : Rattle.vx_exchange.specs.Tasks.Task) (t : Trace) → (h : IsWell S (fragment S w p) task t) → Made S (fragment S w p) t h.out.rows
 well-made S w p task t h = record { reads = h.reads; reads_are = h.reads_are; makes = told-makes S w p h.reads h.out h.told h.ended }
 
 pub dealt-lists : (n : ℕ) (xs : List Row) (f g : Streams) → ((i : ℕ) → i < n → f i ≡ g i) → Dealt n xs f → Dealt n xs g

@@ -7,7 +7,8 @@ use Rattle.vx_rows.specs.Values.{Row, pick, row_eq}
 use Rattle.vx_plan.specs.Plan.{Unary, select, project, distinct, sort, group, union, join, Plan, scan, unary, binary, exchange}
 use Rattle.vx_catalog.specs.Relation.{Relation, Meets}
 use Rattle.vx_plan.specs.Types.{width, unary_width, well_formed, names_columns}
-use Rattle.vx_plan.specs.Serial.{passes, firsts, sort_on, group_keys, group_row, group_fits, of_key, aggregate_of, unary_rows, join_rows, Outcome, rows, overflow, or_overflow, after, serial}
+use Rattle.vx_plan.specs.Serial.{passes, firsts, group_keys, group_row, group_fits, of_key, aggregate_of, unary_rows, join_rows, Outcome, rows, overflow, or_overflow, after, serial}
+use Rattle.vx_rows.specs.Order.{sort_on}
 use Rattle.vx_laws.proofs.Bags.{and-left, and-right, and-both}
 use Rattle.vx_laws.proofs.Parts.{list_all-weaken, list_all-always}
 use Rattle.vx_laws.proofs.Orders.{list_all-filter}

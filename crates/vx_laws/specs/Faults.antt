@@ -9,7 +9,8 @@ use Rattle.vx_plan.specs.Serial.{serial, IsOverflow, HasTooLong}
 use Rattle.vx_plan.specs.Streams.{workers}
 use Rattle.vx_check.specs.Rules.{allowed}
 use Rattle.vx_plan.specs.Erase.{erase}
-use Rattle.vx_worker.specs.Trace.{Trace, keep, failed, Ends}
+use Rattle.vx_worker.specs.Trace.{Trace, failed, Ends}
+use Rattle.vx_exchange.specs.Tasks.{keep}
 use Rattle.vx_laws.specs.RunOf.{RunOf}
 use Rattle.vx_plan.specs.Numbering.{is_fit}
 use Rattle.vx_ops.specs.declared.fault.Code.TheVariants.{Overflow, Unsorted, Stranger}

@@ -6,7 +6,8 @@ use Rattle.vx_plan.specs.Runs.{Runs}
 use Rattle.vx_check.specs.Rules.{root_allowed, allowed}
 use Rattle.vx_check.specs.Claims.{Delivers}
 use Rattle.vx_worker.specs.Fragment.{goes, IsSet, Setting, fragment}
-use Rattle.vx_worker.specs.Trace.{keep, Trace, send, IsWell, Ends}
+use Rattle.vx_worker.specs.Trace.{Trace, IsWell, Ends}
+use Rattle.vx_exchange.specs.Tasks.{keep, send}
 use Rattle.vx_plan.specs.Plan.{target, Plan, scan, unary, binary, exchange, size}
 use Rattle.vx_catalog.specs.Relation.{Relation}
 use Rattle.vx_plan.specs.Streams.{workers}

@@ -11,7 +11,8 @@ use Rattle.vx_check.specs.Claims.{Delivers}
 use Rattle.vx_ports.specs.Packets.{Flows}
 use Rattle.vx_worker.specs.Morsels.{Dispatched, morsel_count}
 use Rattle.vx_exchange.specs.Ship.{Ship}
-use Rattle.vx_worker.specs.Trace.{Trace, Task, send, keep, IsWell, ReadsAre}
+use Rattle.vx_worker.specs.Trace.{Trace, IsWell, ReadsAre}
+use Rattle.vx_exchange.specs.Tasks.{keep, send, Task}
 use Rattle.vx_plan.specs.Numbering.{is_fit}
 
 -- the sending end of the producer at a place, for an exchange above the plan p

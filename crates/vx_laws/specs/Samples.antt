@@ -5,7 +5,8 @@ use Rattle.vx_rows.specs.declared.value.ColType.TheVariants.{Int}
 use Rattle.vx_plan.specs.Plan.{one_worker, group_of, one, any, sum, group, gather, Plan, scan, unary, exchange}
 use Rattle.vx_ports.specs.Packets.{brings, last, Parcel}
 use Rattle.vx_worker.specs.Fragment.{Setting, fragment}
-use Rattle.vx_worker.specs.Trace.{Trace, keep, IsWell, failed, Ends}
+use Rattle.vx_worker.specs.Trace.{Trace, IsWell, failed, Ends}
+use Rattle.vx_exchange.specs.Tasks.{keep}
 use Rattle.vx_ops.specs.declared.fault.Code.TheVariants.{Overflow}
 use Rattle.vx_ops.specs.declared.fault.Fault.TheVariants.{Own}
 use Rattle.vx_laws.specs.RunOf.{RunOf}

@@ -3,7 +3,8 @@ use Rattle.std.specs.Prelude.{◌≡◌, true, false, [], ◌∷◌, ◌++◌, S
 use Rattle.vx_rows.specs.Values.{text}
 use Rattle.vx_rows.specs.Keys.{first_clash, is_key}
 use Rattle.vx_plan.specs.Plan.{one, any, all, routed}
-use Rattle.vx_plan.specs.Serial.{rows, overflow, serial, sort_on}
+use Rattle.vx_plan.specs.Serial.{rows, overflow, serial}
+use Rattle.vx_rows.specs.Order.{sort_on}
 use Rattle.vx_plan.specs.Erase.{erase}
 use Rattle.vx_plan.specs.Routes.{range_consumer}
 use Rattle.vx_plan.specs.Typed.{typed, is_range}

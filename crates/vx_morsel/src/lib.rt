@@ -1,2 +1,10 @@
 //! Morsels of a relation, dealt out by number.
 #![tactic(auto)]
+
+mod deck;
+mod draw;
+mod hand;
+
+pub use deck::Deck;
+pub use draw::Draw;
+pub use hand::Hand;

@@ -4,7 +4,7 @@ use Rattle.std.specs.List.{list_all}
 use Rattle.std.specs.declared.cmp.Ordering.{Ordering}
 use Rattle.std.specs.Ordering.{is_eq, is_ne, is_lt, is_le, is_gt, is_ge}
 use Rattle.vx_rows.specs.Values.{Val, num, text, Row, val_cmp, row_eq, value_at, pick}
-use Rattle.vx_rows.specs.Order.{compare_on}
+use Rattle.vx_rows.specs.Order.{sort_on}
 use Rattle.vx_rows.specs.Types.{fits_64}
 use Rattle.vx_rows.specs.Bags.{total}
 use Rattle.vx_plan.specs.Plan.{Side, column, constant, Test, equal, unequal, below, at_most, above, at_least, Condition, Aggregate, least, greatest, sum, count_rows, Unary, select, project, distinct, sort, group, Binary, union, join, Plan, scan, unary, binary, exchange}
@@ -31,16 +31,6 @@ passes cs row = list_all (λ c. answers c.test (val_cmp (value_at row c.left) (s
 abbrev pub firsts : List Row → List Row
 firsts [] = []
 firsts (x ∷ xs) = x ∷ filter (λ y. not (row_eq x y)) (firsts xs)
-
--- the stable sort: a row goes before the first that is not smaller
-abbrev pub insert_sorted : List ℕ → Row → List Row → List Row
-insert_sorted cols x [] = x ∷ []
-insert_sorted cols x (y ∷ ys) = cond (is_le (compare_on cols x y)) (x ∷ y ∷ ys) (y ∷ insert_sorted cols x ys)
-
--- the list in ascending order; rows that are equal on the columns keep their order
-abbrev pub sort_on : List ℕ → List Row → List Row
-sort_on cols [] = []
-sort_on cols (x ∷ xs) = insert_sorted cols x (sort_on cols xs)
 
 -- the left row and the right row agree on all pairs
 abbrev pub matches : List (ℕ × ℕ) → Row → Row → Bool

@@ -2,3 +2,10 @@
 #![tactic(auto)]
 
 pub mod laws;
+mod link;
+mod packet;
+mod port;
+
+pub use link::Link;
+pub use packet::{Body, Ending, Packet};
+pub use port::{InPort, OutPort, Put};

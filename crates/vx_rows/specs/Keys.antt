@@ -1,5 +1,5 @@
 -- Keys: columns on which no two rows of a list agree.
-use Rattle.std.specs.Prelude.{ℕ, ◌≤◌, Bool, true, not, ◌&&◌, List, [], ◌∷◌, ◌++◌, length, Option, Some, None, position}
+use Rattle.std.specs.Prelude.{◌≡◌, ◌↔◌, ℕ, ◌≤◌, Bool, true, not, ◌&&◌, List, [], ◌∷◌, ◌++◌, length, Option, Some, None, position, nat_lt, if◌then◌else◌}
 use Rattle.std.specs.List.{list_all}
 use Rattle.vx_rows.specs.Values.{Row}
 use Rattle.vx_rows.specs.Order.{agree}
@@ -27,3 +27,13 @@ clash_from cols seen (row ∷ rows) = clash_or (length seen) (position (agree co
 -- the least second position that agrees with an earlier one, and the least such earlier one, as (earlier, second)
 abbrev pub first_clash : List ℕ → List Row → Option (ℕ × ℕ)
 first_clash cols rows = clash_from cols [] rows
+
+-- of a clash that was found before, if any, and this one, the one whose second row comes first
+abbrev pub earlier_clash : Option (ℕ × ℕ) → ℕ → ℕ → Option (ℕ × ℕ)
+earlier_clash None first second = Some (first, second)
+earlier_clash (Some clash) first second = if nat_lt second clash.1 then Some (first, second) else Some clash
+
+-- the three forms of a key say the same
+pub record KeyLaw : Type 0 where
+  pub tested : (cols : List ℕ) (xs : List Row) → (is_key cols xs ≡ true) ↔ HasKey cols xs
+  pub clashed : (cols : List ℕ) (xs : List Row) → (first_clash cols xs ≡ None) ↔ (is_key cols xs ≡ true)

@@ -1,6 +1,25 @@
-//! Values and rows.
+//! Values, rows kept by columns and seen as a list of rows, their orders and keys, and the ports for bytes.
 #![tactic(auto)]
 
+mod bytes;
+mod clash;
+mod column;
+mod memory;
+mod row;
+mod rows;
+mod schema;
+mod sorting;
+#[cfg(test)]
+mod tests;
+mod texts;
 mod value;
+mod writes;
 
-pub use value::ColType;
+pub use bytes::{Broken, ByteIn, ByteOut, ReadFault, Real, read_all, write_all};
+pub use clash::keys_are_tested;
+pub use memory::{MemoryIn, MemoryOut};
+pub use row::Row;
+pub use rows::Rows;
+pub use schema::{MAX_COLUMNS, Schema, is_schema};
+pub use sorting::compare_on;
+pub use value::{Cell, ColType, Value, compare_cells};

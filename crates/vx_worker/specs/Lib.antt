@@ -1,4 +1,10 @@
 pub mod Fragment
+pub mod Intake
 pub mod Morsels
 pub mod Trace
 pub mod Trees
+pub mod Wiring
+pub mod Wishes
+pub mod Worker
+pub mod Operator
+pub mod Destination

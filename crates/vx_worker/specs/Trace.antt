@@ -6,8 +6,9 @@ use Rattle.vx_ports.specs.Packets.{Parcel}
 use Rattle.vx_morsel.specs.Draws.{Draws}
 use Rattle.vx_worker.specs.Morsels.{morsel_of, morsels}
 use Rattle.vx_ops.specs.Ledger.{Stream}
+use Rattle.vx_ops.specs.Turn.{with_packet}
 use Rattle.vx_rows.specs.Lists.{IsBeginning}
-use Rattle.vx_exchange.specs.Ship.{Ship, IsShipped, IsCutShort}
+use Rattle.vx_exchange.specs.Tasks.{Task, Finished, Stopped}
 use Rattle.vx_worker.specs.Fragment.{Setting, goes, Frag, Reads, FragTold}
 use Rattle.vx_ops.specs.declared.fault.Code.TheVariants.{NoMemory}
 use Rattle.vx_ops.specs.declared.fault.Fault.{Fault}
@@ -36,11 +37,6 @@ abbrev pub drawn : Draws → Option ℕ → Draws
 drawn d None = record { numbers = d.numbers; met_end = true }
 drawn d (Some n) = record { numbers = d.numbers ++ n ∷ []; met_end = d.met_end }
 
--- the lists with one more packet at this place
-abbrev pub with_packet : (ℕ → List Parcel) → ℕ → Option Parcel → ℕ → List Parcel
-with_packet f i None = f
-with_packet f i (Some p) = λ j. cond (j == i) (f j ++ p ∷ []) (f j)
-
 -- the trace with one more event
 abbrev pub added : Trace → Event → Trace
 added t idle = t
@@ -54,13 +50,9 @@ pub record Scanned (m : ℕ → List Row) (d : Draws) (s : Stream) : Type 0 wher
   pub ended : s.over ≡ Ended → d.met_end ≡ true
   pub never_fails : (f : Fault) → s.over ≡ Failed f → ⊥
 
--- the morsels of the relation that a scan reads
-abbrev pub scan_morsels : Setting → (scan : ℕ) → (k : ℕ) → List Row
-scan_morsels S n = morsel_of S.morsel (S.db (S.relation_of n))
-
 -- what the leaves read is what was drawn and taken
-pub record ReadsAre (S : Setting) (t : Trace) (r : Reads) : Type 0 where
-  pub scanned : (n : ℕ) → Scanned (scan_morsels S n) (t.drew n) (r.scanned n)
+pub record ReadsAreOf (m : ℕ → ℕ → List Row) (t : Trace) (r : Reads) : Type 0 where
+  pub scanned : (n : ℕ) → Scanned (m n) (t.drew n) (r.scanned n)
   pub came : (n : ℕ) → r.came n ≡ t.came n
 
 -- a beginning of what was drawn
@@ -72,24 +64,9 @@ pub record ScanBegins (m : ℕ → List Row) (d : Draws) (s : Stream) : Type 0 w
   pub never_fails : (f : Fault) → s.over ≡ Failed f → ⊥
 
 -- a beginning of what was drawn and taken: a worker that failed goes on taking and dropping
-pub record ReadsBegin (S : Setting) (t : Trace) (r : Reads) : Type 0 where
-  pub scanned : (n : ℕ) → ScanBegins (scan_morsels S n) (t.drew n) (r.scanned n)
+pub record ReadsBeginOf (m : ℕ → ℕ → List Row) (t : Trace) (r : Reads) : Type 0 where
+  pub scanned : (n : ℕ) → ScanBegins (m n) (t.drew n) (r.scanned n)
   pub came : (n i : ℕ) → IsBeginning (r.came n i) (t.came n i)
-
--- where the rows of a fragment's top go: through a sending end, or, at the root, to the rows gathered
-pub data Task : Type 0 where
-  send : Ship → Task
-  keep : List Row → Task
-
--- all rows went on their way; the root's worker kept them and put nothing
-abbrev pub Finished : Router → Task → List Row → (ℕ → List Parcel) → Type 0
-Finished goes (send s) rows put = IsShipped goes s rows put
-Finished goes (keep kept) rows put = (kept ≡ rows) × ((j : ℕ) → put j ≡ [])
-
--- a beginning of them did, and each port was closed by Fault
-abbrev pub Stopped : Router → Task → List Row → (ℕ → List Parcel) → Type 0
-Stopped goes (send s) rows put = IsCutShort goes s rows put
-Stopped goes (keep kept) rows put = (j : ℕ) → put j ≡ []
 
 -- memory was refused
 abbrev pub IsNoMemory : Fault → Type 0
@@ -103,27 +80,47 @@ pub data Fate : Type 0 where
 
 -- it took all that came, its top ended, and all that the top gave went on its way. That each taken list ends with Last follows: Last is in it
 -- (a consumer end that ended had one from each producer), and what flowed through a port has nothing behind Last
-pub record IsWell (S : Setting) (f : Frag) (task : Task) (t : Trace) : Type 0 where
+pub record IsWellBy (m : ℕ → ℕ → List Row) (goes : Router) (f : Frag) (task : Task) (t : Trace) : Type 0 where
   pub reads : Reads
-  pub reads_are : ReadsAre S t reads
+  pub reads_are : ReadsAreOf m t reads
   pub out : Stream
   pub told : FragTold f reads out
   pub ended : out.over ≡ Ended
-  pub finished : Finished (goes S) task out.rows t.sent
+  pub finished : Finished goes task out.rows t.sent
 
 -- its sources stood as they should when it failed: the top gave the fault, or memory was refused to the worker
-pub record HasFailed (S : Setting) (f : Frag) (task : Task) (x : Fault) (t : Trace) : Type 0 where
+pub record HasFailedBy (m : ℕ → ℕ → List Row) (goes : Router) (f : Frag) (task : Task) (x : Fault) (t : Trace) : Type 0 where
   pub reads : Reads
-  pub reads_begin : ReadsBegin S t reads
+  pub reads_begin : ReadsBeginOf m t reads
   pub out : Stream
   pub told : FragTold f reads out
   pub why : (out.over ≡ Failed x) ⊎ IsNoMemory x
-  pub stopped : Stopped (goes S) task out.rows t.sent
+  pub stopped : Stopped goes task out.rows t.sent
 
--- what the trace of an ended worker says
+-- what the trace of an ended worker says, by the morsels of each scan and the routes
+abbrev pub HonestBy : (ℕ → ℕ → List Row) → Router → Frag → Task → Fate → Trace → Type 0
+HonestBy m goes f task well t = IsWellBy m goes f task t
+HonestBy m goes f task (failed x) t = HasFailedBy m goes f task x t
+
+-- the morsels of the relation that a scan reads
+abbrev pub scan_morsels : Setting → (scan : ℕ) → (k : ℕ) → List Row
+scan_morsels S n = morsel_of S.morsel (S.db (S.relation_of n))
+
+-- the same in a setting
+abbrev pub ReadsAre : Setting → Trace → Reads → Type 0
+ReadsAre S t r = ReadsAreOf (scan_morsels S) t r
+
+abbrev pub ReadsBegin : Setting → Trace → Reads → Type 0
+ReadsBegin S t r = ReadsBeginOf (scan_morsels S) t r
+
+abbrev pub IsWell : Setting → Frag → Task → Trace → Type 0
+IsWell S f task t = IsWellBy (scan_morsels S) (goes S) f task t
+
+abbrev pub HasFailed : Setting → Frag → Task → Fault → Trace → Type 0
+HasFailed S f task x t = HasFailedBy (scan_morsels S) (goes S) f task x t
+
 abbrev pub Honest : Setting → Frag → Task → Fate → Trace → Type 0
-Honest S f task well t = IsWell S f task t
-Honest S f task (failed x) t = HasFailed S f task x t
+Honest S f task fate t = HonestBy (scan_morsels S) (goes S) f task fate t
 
 -- how it ended is open
 abbrev pub Ends : Setting → Frag → Task → Trace → Type 0

@@ -1,4 +1,21 @@
 //! Workers: the operators of a fragment at one place.
 #![tactic(auto)]
 
+mod destination;
+mod intake;
+mod operator;
 pub mod tree;
+mod wires;
+mod wish;
+mod worker;
+
+pub use destination::Destination;
+pub use intake::Input;
+pub use operator::Operator;
+pub use tree::Tree;
+pub use wires::{Morsels, Wires};
+pub use wish::Wish;
+pub use worker::{Outcome, Stepped, Worker};
+
+#[cfg(test)]
+mod tests;

@@ -1,0 +1,19 @@
+//! Access to cells without a condition on the column.
+
+ghost use Rattle.std.specs.Prelude.{◌≡◌, ◌<◌, length};
+ghost use Rattle.vx_rows.specs.Values.{value_at};
+ghost use Rattle.vx_rows.specs.View.{cell_val, row};
+
+use vx_rows::{Cell, Rows};
+
+/// The value of row i at a column, and the number 0 where there is no such column, as the definitions have it.
+pub fn cell_or_zero(rows: &Rows, i: usize, column: usize) -> Cell<'_>
+    requires { i < length rows.now.rows }
+    ensures { cell_val result ≡ value_at (row rows.now i) column }
+{
+    if column < rows.types().len() {
+        return rows.cell(i, column);
+    }
+    rows.fit();
+    Cell::Int(0)
+}

@@ -1,0 +1,77 @@
+//! Selection: the rows for which all conditions hold.
+
+ghost use Rattle.std.specs.Prelude.{◌≡◌, ◌<◌, length, IfOk, filter};
+ghost use Rattle.vx_rows.specs.View.{row};
+ghost use Rattle.vx_plan.specs.Serial.{passes, side, answers};
+ghost use Rattle.vx_plan.specs.Conditions.{conditions_of};
+ghost use Rattle.vx_plan.specs.Document.{test_of};
+ghost use Rattle.vx_plan.specs.Outline.{side_of};
+ghost use Rattle.vx_rows.specs.View.{cell_val};
+
+use crate::cells::cell_or_zero;
+use std::alloc::{AllocError, Global};
+use std::cmp::Ordering;
+use vx_plan::{Condition, Side, Test};
+use vx_rows::{Cell, Rows, compare_cells};
+
+// What a test says of a comparison.
+fn answer(test: Test, order: Ordering) -> bool
+    ensures { result ≡ answers (test_of test) order }
+{
+    match test {
+        Test::Equal => order.is_eq(),
+        Test::Unequal => order.is_ne(),
+        Test::Below => order.is_lt(),
+        Test::AtMost => order.is_le(),
+        Test::Above => order.is_gt(),
+        Test::AtLeast => order.is_ge(),
+    }
+}
+
+// The value of a condition's right side.
+fn right_side<'a>(right: &'a Side, rows: &'a Rows, i: usize) -> Cell<'a>
+    requires { i < length rows.now.rows }
+    ensures { cell_val result ≡ side (side_of right.entry.now) (row rows.entry.now i) }
+{
+    match right {
+        Side::Column(c) => cell_or_zero(rows, i, *c),
+        Side::Constant(v) => v.cell(),
+    }
+}
+
+/// Whether all conditions hold of row i.
+pub fn passes(conditions: &[Condition], rows: &Rows, i: usize) -> bool
+    requires { i < length rows.now.rows }
+    ensures { result ≡ passes (conditions_of conditions.now) (row rows.now i) }
+{
+    for condition in conditions {
+        let left = cell_or_zero(rows, i, condition.left);
+        let order = compare_cells(left, right_side(&condition.right, rows, i));
+        if !answer(condition.test, order) {
+            return false;
+        }
+    }
+    true
+}
+
+/// The rows for which all conditions hold, in order. Where they hold of all rows, these are handed on as they are.
+pub fn selected(alloc: Global, conditions: &[Condition], rows: Rows) -> Result<Rows, AllocError>
+    ensures types { IfOk result (λ r. r.types ≡ rows.types) }
+    ensures rows { IfOk result (λ r. r.rows ≡ filter (passes (conditions_of conditions.now)) rows.rows) }
+{
+    let n = rows.len();
+    let mut kept = Rows::new(alloc, rows.types())?;
+    // the first row that was not looked at or passed, but is not yet kept
+    let mut start = 0;
+    for i in 0..n {
+        if !passes(conditions, &rows, i) {
+            kept.append_range(&rows, start, i)?;
+            start = i + 1;
+        }
+    }
+    if start == 0 {
+        return Ok(rows);
+    }
+    kept.append_range(&rows, start, n)?;
+    Ok(kept)
+}

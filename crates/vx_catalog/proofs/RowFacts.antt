@@ -1,0 +1,106 @@
+-- The values of a row and the rows of a text, one after another.
+use Rattle.std.proofs.Common.{◌≡◌, ℕ, ◌+◌, ◌<◌, List, [], ◌∷◌, ◌++◌, Bool, true, false, cond, Result, Ok, Err, refl, sym, ◌∙◌, map, length, nat_lt, ◌==◌, Option, Some, None}
+use Rattle.std.specs.Prelude.{IsUtf8, ℤ}
+use Rattle.std.proofs.lemmas.Bool.Decides.{Decides-ltb}
+use Rattle.std.proofs.lemmas.List.{map-append, length-append}
+use Rattle.csv.specs.Records.{field_at}
+use Rattle.vx_rows.specs.Types.{type_of}
+use Rattle.vx_catalog.specs.Number.{number_of}
+use Rattle.vx_catalog.proofs.Accepted.{walk_keeps, ok_bind}
+use Rattle.std.specs.Str.{is_utf8}
+use Rattle.std.proofs.lemmas.Str.{is_utf8-from_IsUtf8, IsUtf8-from_is_utf8}
+use Rattle.vx_rows.specs.Values.{Row, Val, num, text}
+use Rattle.vx_rows.specs.declared.value.ColType.{ColType}
+use Rattle.vx_rows.specs.declared.value.ColType.TheVariants as kind
+use Rattle.vx_catalog.specs.Walk.{◌>>=◌, walk_onto}
+use Rattle.vx_catalog.specs.declared.fault.LoadFault.{LoadFault}
+use Rattle.vx_catalog.specs.declared.fault.LoadFault.TheVariants as fault
+use Rattle.vx_catalog.specs.Loading.{Fails, some_number, value_of, some_value, next_value, row_of, max_rows, row_added, rows_onto}
+
+pub text_read : (row col : ℕ) (field bytes : List ℕ) → IsUtf8 field → bytes ≡ field → value_of row col kind.Text field ≡ Ok (text bytes)
+unfolding value_of
+text_read row col field bytes h e = rw (is_utf8-from_IsUtf8 field h, e) refl
+
+else_of : {A : Type 0} (b : Bool) (x y : A) → (b ≡ true → ⊥) → cond b x y ≡ y
+else_of true x y h = absurd (h refl)
+else_of false x y h = refl
+
+pub text_refused : (row col : ℕ) (field : List ℕ) → (IsUtf8 field → ⊥) → value_of row col kind.Text field ≡ Err (fault.NotUtf8 row)
+unfolding value_of
+text_refused row col field h = else_of (is_utf8 field) (Ok (text field)) (Err (fault.NotUtf8 row)) (λ t. h (IsUtf8-from_is_utf8 field t))
+
+-- a refusal of a part is one of the whole
+pub fails_along : {X Y : Type 0} (e : LoadFault) (part : Result X LoadFault) (whole : Result Y LoadFault) → ((r : LoadFault) → part ≡ Err r → whole ≡ Err r) → Fails e part → Fails e whole
+fails_along fault.NoMemory part whole along h = tt
+fails_along fault.ReadFailed part whole along h = h
+fails_along fault.HeaderMismatch part whole along h = along _ h
+fails_along (fault.BadWidth row) part whole along h = along _ h
+fails_along (fault.BadInt row col) part whole along h = along _ h
+fails_along (fault.NotUtf8 row) part whole along h = along _ h
+fails_along (fault.KeyBroken key first second) part whole along h = along _ h
+fails_along (fault.OrderBroken row) part whole along h = along _ h
+fails_along fault.TooLarge part whole along h = along _ h
+
+-- ---- the types of a row
+
+value_type : (row col : ℕ) (type : ColType) (field : List ℕ) (v : Val) → value_of row col type field ≡ Ok v → type_of v ≡ type
+unfolding value_of
+value_type row col kind.Int field v h = by_number (number_of field) h
+  where
+    by_number : (o : Option ℤ) → some_number row col o ≡ Ok v → type_of v ≡ kind.Int
+    by_number None e = cc
+    by_number (Some n) e = let k : num n ≡ v = cc in rw (← k) refl
+value_type row col kind.Text field v h = by_test (is_utf8 field) h
+  where
+    by_test : (b : Bool) → cond b (Ok (text field)) (Err (fault.NotUtf8 row)) ≡ Ok v → type_of v ≡ kind.Text
+    by_test true e = let k : text field ≡ v = cc in rw (← k) refl
+    by_test false e = cc
+
+next_type : (row : ℕ) (fields : List (List ℕ)) (front : List Val) (type : ColType) (v : Val) → next_value row fields front type ≡ Ok v → type_of v ≡ type
+unfolding next_value
+next_type row fields front type v h = by_field (field_at fields (length front)) h
+  where
+    by_field : (o : Option (List ℕ)) → some_value row (length front) type o ≡ Ok v → type_of v ≡ type
+    by_field None e = cc
+    by_field (Some field) e = value_type row (length front) type field v e
+
+row_types_if : (b : Bool) (row : ℕ) (types : List ColType) (fields : List (List ℕ)) (r : Row) → cond b (walk_onto (next_value row fields) [] types) (Err (fault.BadWidth row)) ≡ Ok r → map type_of r ≡ types
+row_types_if true row types fields r h =
+    walk_keeps (next_value row fields) (λ (done : List ColType) (front : List Val). map type_of front ≡ done)
+    (λ (done : List ColType) (front : List Val) (x : ColType) (y : Val) (p : map type_of front ≡ done) e. map-append type_of front (y ∷ []) ∙ rw (p, next_type row fields front x y e) refl)
+    types [] [] r refl h
+row_types_if false row types fields r h = cc
+
+pub row_types : (row : ℕ) (types : List ColType) (fields : List (List ℕ)) (r : Row) → row_of row types fields ≡ Ok r → map type_of r ≡ types
+unfolding row_of
+row_types row types fields r h = row_types_if (length fields == length types) row types fields r h
+
+-- ---- the rows
+
+pub rows_more : (types : List ColType) (front : List Row) (fields : List (List ℕ)) (records all : List (List (List ℕ))) (next : List Row) (total : Result (List Row) LoadFault)
+    → all ≡ fields ∷ records → row_added types front fields ≡ Ok next → rows_onto types front all ≡ total → rows_onto types next records ≡ total
+unfolding rows_onto
+rows_more types front fields records all next total is added so_far = rw (is, added) at so_far
+
+pub rows_stop : (types : List ColType) (front : List Row) (fields : List (List ℕ)) (records all : List (List (List ℕ))) (total : Result (List Row) LoadFault)
+    → all ≡ fields ∷ records → rows_onto types front all ≡ total → (r : LoadFault) → row_added types front fields ≡ Err r → total ≡ Err r
+unfolding rows_onto
+rows_stop types front fields records all total is so_far r bad = sym so_far ∙ rw (is, bad) refl
+
+pub rows_done : (types : List ColType) (front : List Row) (all : List (List (List ℕ))) (total : Result (List Row) LoadFault) → all ≡ [] → rows_onto types front all ≡ total → total ≡ Ok front
+unfolding rows_onto
+rows_done types front all total is so_far = sym so_far ∙ rw is refl
+
+row_added_if : (b : Bool) (n : ℕ) (types : List ColType) (front : List Row) (fields : List (List ℕ)) (next : List Row)
+    → cond b (row_of n types fields >>= λ row. Ok (front ++ row ∷ [])) (Err fault.TooLarge) ≡ Ok next → (b ≡ true) × (length next ≡ length front + 1)
+row_added_if true n types front fields next h =
+    let t = ok_bind (row_of n types fields) (λ (row : Row). Ok (front ++ row ∷ [])) next h in
+    let e : front ++ t.0 ∷ [] ≡ next = cc in
+    (refl, rw (← e) (length-append front (t.0 ∷ [])))
+row_added_if false n types front fields next h = cc
+
+pub row_added_few : (types : List ColType) (front : List Row) (fields : List (List ℕ)) (next : List Row) → row_added types front fields ≡ Ok next → (length front < max_rows) × (length next ≡ length front + 1)
+unfolding row_added
+row_added_few types front fields next h =
+    let t = row_added_if (nat_lt (length front) max_rows) (length front) types front fields next h in
+    ((Decides-ltb (length front) max_rows).0 t.0, t.1)

@@ -1,0 +1,20 @@
+use Rattle.std.proofs.Common.{map, string_bytes}
+use Rattle.std.proofs.lemmas.List.{map_push}
+use Rattle.serde_json.specs.View.{view}
+use Rattle.vx_catalog.specs.Form.{key_in}
+use Rattle.vx_catalog.proofs.EachFacts.{each_more, each_none, each_done}
+use Rattle.vx_catalog.proofs.form.keys_of.Goals as goal
+
+pub loop-value-preserved : goal.loop-value-preserved
+loop-value-preserved c =
+    let read = rw c.in-Some.is at c.in_ok-key.ensures in
+    rw (c.in_ok-push-in-Some.ensures.items, map_push (λ (k : _). map string_bytes k.items) c.loop-value.keys.items c.in-Some.key)
+    (each_more view key_in (map (λ k. map string_bytes k.items) c.loop-value.keys.items) c.args.values.now c.loop-value.value-index c.value-item.result _ _ c.loop-value-test.true c.value-item.is read c.loop-value.invariant)
+
+pub returns-in-None : goal.returns-in-None
+returns-in-None c =
+    let read = rw c.in-None.is at c.in_ok-key.ensures in
+    each_none view key_in (map (λ k. map string_bytes k.items) c.loop-value.keys.items) c.args.values.now c.loop-value.value-index c.value-item.result _ c.loop-value-test.true c.value-item.is read c.loop-value.invariant
+
+pub returns : goal.returns
+returns c = each_done view key_in (map (λ k. map string_bytes k.items) c.loop-value.keys.items) c.args.values.now c.loop-value.value-index _ c.loop-value-test.false c.loop-value.invariant

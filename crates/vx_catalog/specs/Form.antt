@@ -1,0 +1,85 @@
+-- The form of a catalog in JSON: a value of the form is read, with columns by their names, and any other is None.
+use Rattle.std.specs.Prelude.{◌≡◌, ℕ, List, [], ◌∷◌, Option, Some, None, option_map, option_and_then, bytes_eq, codes, Result, IfOk, if◌then◌else◌}
+use Rattle.std.specs.declared.alloc.AllocError.{AllocError}
+use Rattle.serde_json.specs.Data.{Data}
+use Rattle.serde_json.specs.Find.{get, as_str}
+use Rattle.vx_rows.specs.declared.value.ColType.{ColType}
+use Rattle.vx_rows.specs.declared.value.ColType.TheVariants as kind
+use Rattle.vx_catalog.specs.Look.{as_list, has_only}
+use Rattle.vx_catalog.specs.Walk.{each_onto}
+
+-- a column as the catalog's text has it
+pub record ColumnText : Type 0 where
+  pub name : List ℕ
+  pub kind : ColType
+
+-- a relation as the catalog's text has it: its keys and its order name columns
+pub record RelationText : Type 0 where
+  pub name : List ℕ
+  pub columns : List ColumnText
+  pub keys : List (List (List ℕ))
+  pub order : List (List ℕ)
+
+-- what a call gave, unless memory ran out
+abbrev pub Reads : {X Y : Type 0} → (X → Y) → Result (Option X) AllocError → Option Y → Type 0
+Reads look result form = IfOk result (λ o. option_map look o ≡ form)
+
+abbrev pub not_empty : List ℕ → Option (List ℕ)
+not_empty [] = None
+not_empty (b ∷ bs) = Some (b ∷ bs)
+
+-- a text that is not empty
+unfoldable pub name_in : Data → Option (List ℕ)
+name_in d = option_and_then not_empty (as_str d)
+
+unfoldable pub kind_in : Data → Option ColType
+kind_in d = option_and_then (λ s. if bytes_eq s (codes "int") then Some kind.Int else if bytes_eq s (codes "text") then Some kind.Text else None) (as_str d)
+
+unfoldable pub column_in : Data → Option ColumnText
+column_in d =
+    if has_only (codes "name" ∷ codes "type" ∷ []) d
+    then option_and_then (λ n. option_map (λ k. record { name = n; kind = k }) (option_and_then kind_in (get (codes "type") d))) (option_and_then name_in (get (codes "name") d))
+    else None
+
+abbrev pub some_entry : List Data → Option (List Data)
+some_entry [] = None
+some_entry (d ∷ ds) = Some (d ∷ ds)
+
+-- a list with at least one entry
+abbrev pub entries : Data → Option (List Data)
+entries d = option_and_then some_entry (as_list d)
+
+-- one name or more
+unfoldable pub key_in : Data → Option (List (List ℕ))
+key_in d = option_and_then (each_onto name_in []) (entries d)
+
+-- one column or more
+unfoldable pub columns_in : Data → Option (List ColumnText)
+columns_in d = option_and_then (each_onto column_in []) (entries d)
+
+-- none where the member is left out
+abbrev pub keys_or : Option Data → Option (List (List (List ℕ)))
+keys_or None = Some []
+keys_or (Some d) = option_and_then (each_onto key_in []) (as_list d)
+
+-- none where the member is left out
+abbrev pub order_or : Option Data → Option (List (List ℕ))
+order_or None = Some []
+order_or (Some d) = option_and_then (each_onto name_in []) (as_list d)
+
+abbrev pub relation_members : List (List ℕ)
+relation_members = codes "name" ∷ codes "columns" ∷ codes "keys" ∷ codes "order" ∷ []
+
+unfoldable pub relation_in : Data → Option RelationText
+relation_in d =
+    if has_only relation_members d
+    then option_and_then (λ n. option_and_then (λ cs. option_and_then (λ ks. option_map (λ o. record { name = n; columns = cs; keys = ks; order = o })
+    (order_or (get (codes "order") d))) (keys_or (get (codes "keys") d))) (option_and_then columns_in (get (codes "columns") d))) (option_and_then name_in (get (codes "name") d))
+    else None
+
+-- the relations of a catalog
+abbrev pub relations_in : Data → Option (List RelationText)
+relations_in d = option_and_then (each_onto relation_in []) (as_list d)
+
+unfoldable pub catalog_in : Data → Option (List RelationText)
+catalog_in d = if has_only (codes "relations" ∷ []) d then option_and_then relations_in (get (codes "relations") d) else None

@@ -1,0 +1,31 @@
+-- A reader of `csv` over a text, and the records that it has left.
+use Rattle.std.specs.Prelude.{◌≡◌, ℕ, ◌+◌, List, [], ◌∷◌, length, Option, Some, None, IsSome, Bool, true, false}
+use Rattle.std.specs.Borrow.{Bor}
+use Rattle.csv.specs.Reading.{records_from, default_config, source_of, Ready, reader_trim, reader_config}
+use Rattle.csv.specs.declared.parser.State.{State}
+use Rattle.csv.specs.declared.reader.Reader.{Reader}
+use Rattle.csv.specs.declared.reader.Trim.TheVariants as trim
+
+-- the bytes that a reader over a text has left
+abbrev pub unread : Reader (Bor (List ℕ)) → Option (List ℕ)
+unread reader = source_of (λ s. Some s.now) reader
+
+-- it reads in the default dialect, trims nothing, makes nothing of a header, and has not failed
+pub record IsPlain (reader : Reader (Bor (List ℕ))) : Type 0 where
+  pub trim : reader_trim reader ≡ trim.None
+  pub ready : Ready reader
+  pub config : reader_config reader ≡ default_config
+  pub source : IsSome (unread reader)
+
+abbrev pub records_left : State → Option (List ℕ) → List (List (List ℕ))
+records_left state None = []
+records_left state (Some bytes) = records_from default_config (length bytes + 1) state bytes
+
+-- the records that a reader has left
+abbrev pub rest_of : Reader (Bor (List ℕ)) → List (List (List ℕ))
+rest_of reader = records_left reader.state (unread reader)
+
+-- a read took the next record, or there was none
+abbrev pub Takes : Bool → Reader (Bor (List ℕ)) → Reader (Bor (List ℕ)) → List (List ℕ) → Type 0
+Takes true old new fields = IsPlain new × (rest_of old ≡ fields ∷ rest_of new)
+Takes false old new fields = rest_of old ≡ []

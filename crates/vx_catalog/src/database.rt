@@ -1,0 +1,96 @@
+//! Databases.
+
+ghost use Rattle.std.specs.Prelude.{◌≡◌, ◌≢◌, ◌<◌, [], map, length, IfOk, IfErr, OnOk, OnErr};
+ghost use Rattle.vx_catalog.specs.Relation.{Meets};
+ghost use Rattle.vx_catalog.specs.Catalog.{relation_at};
+ghost use Rattle.vx_catalog.specs.Database.{rows_at, with_rows, IsDatabase, MeetsAll};
+
+use crate::catalog::Catalog;
+use crate::loader::Loaded;
+use std::alloc::{AllocError, Global};
+use std::marker::Model;
+use vx_rows::Rows;
+
+/// No rows for each relation of a catalog.
+fn empty_tables(alloc: Global, catalog: &Catalog) -> Result<Vec<Rows>, AllocError>
+    ensures database { IfOk result (λ v. IsDatabase catalog.now v.items) }
+    ensures empty { IfOk result (λ v. map (λ t. t.rows) v.items ≡ map (λ _. []) catalog.now) }
+{
+    let mut tables = Vec::new(alloc);
+    for relation in 0..catalog.len() {
+        tables.push(Rows::new(alloc, catalog.get(relation).types())?)?;
+    }
+    Ok(tables)
+}
+
+/// Rows for each relation of a catalog, which meet all that it declares.
+#[derive(Debug, Drop)]
+pub struct Database {
+    catalog: Catalog,
+    tables: Vec<Rows>,
+}
+
+impl Model for Database {
+    ghost use Rattle.std.specs.Prelude.{map};
+    ghost use Rattle.vx_catalog.specs.Database.{Database, IsDatabase};
+
+    ghost Value = { Database };
+
+    ghost view = { λ d. record { catalog = d.catalog; rows = map (λ t. t.rows) d.tables.items } };
+
+    ghost invariant = { λ d. IsDatabase d.catalog d.tables.items };
+}
+
+impl Database {
+    /// A database of a copy of a catalog, with every relation empty.
+    pub fn empty(alloc: Global, catalog: &Catalog) -> Result<Database, AllocError>
+        ensures catalog { IfOk result (λ d. d.catalog ≡ catalog.now) }
+        ensures empty { IfOk result (λ d. d.rows ≡ map (λ _. []) catalog.now) }
+    {
+        Ok(Database {
+            catalog: catalog.copy(alloc)?,
+            tables: empty_tables(alloc, catalog)?,
+        })
+    }
+
+    /// The catalog whose relations these are.
+    pub fn catalog(&self) -> &Catalog
+        ensures { result.now ≡ self.now.catalog }
+    {
+        &self.catalog
+    }
+
+    /// The rows of a relation.
+    pub fn rows(&self, relation: usize) -> &Rows
+        requires { relation < length self.now.catalog }
+        ensures types { result.now.types ≡ (relation_at self.now.catalog relation).types }
+        ensures rows { result.now.rows ≡ rows_at self.now relation }
+        ensures meets { Meets (relation_at self.now.catalog relation) result.now.rows }
+    {
+        &self.tables[relation]
+    }
+
+    /// The rows of each relation meet all that the catalog declares of it. It does nothing: a caller who needs the
+    /// fact calls it.
+    pub fn meets(&self)
+        ensures { MeetsAll self.now }
+    {
+        let _ = &self.catalog;
+    }
+
+    /// Replaces the rows of one relation. Those of another catalog come back.
+    pub fn put(&mut self, loaded: Loaded) -> Result<(), Loaded>
+        ensures ok { OnOk result (self.new ≡ with_rows self.old loaded.relation loaded.rows) }
+        ensures own { OnOk result (loaded.catalog ≡ self.old.catalog) }
+        ensures err { OnErr result (self.new ≡ self.old) }
+        ensures back { IfErr result (λ l. l ≡ loaded) }
+        ensures other { OnErr result (loaded.catalog ≢ self.old.catalog) }
+    {
+        if !self.catalog.is_same(loaded.catalog()) {
+            return Err(loaded);
+        }
+        let relation = loaded.relation();
+        self.tables[relation] = loaded.into_rows();
+        Ok(())
+    }
+}

@@ -1,0 +1,153 @@
+//! Why a catalog, a relation's text or a write is refused.
+
+use std::alloc::{AllocError, AllocFailed};
+use thiserror::Error;
+use vx_rows::ReadFault;
+
+/// The first reason why a value is no catalog.
+#[derive(Debug, Drop, Error)]
+pub enum CatalogFault {
+    /// Not JSON, or not of a catalog's form.
+    #[error("C1 BadCatalog")]
+    BadCatalog,
+    /// A relation twice, or a column twice in a relation, in a key or in an order.
+    #[error("C2 DuplicateName name={name}")]
+    DuplicateName { name: String },
+    /// A key or an order names no column.
+    #[error("C3 UnknownColumn name={name}")]
+    UnknownColumn { name: String },
+    /// A growth was refused.
+    #[error("C11 NoMemory")]
+    NoMemory,
+    /// Over 256 relations, or a relation with over 64 columns or 16 keys.
+    #[error("C12 TooLarge")]
+    TooLarge,
+}
+
+impl From<AllocError> for CatalogFault {
+    ghost use Rattle.std.specs.Prelude.{◌≡◌};
+    ghost use Rattle.vx_catalog.specs.declared.fault.CatalogFault.TheVariants.{NoMemory};
+
+    ghost from_gives = { λ _ e. e ≡ NoMemory };
+
+    fn from(_e: AllocError) -> CatalogFault {
+        CatalogFault::NoMemory
+    }
+}
+
+impl<T: Drop> From<AllocFailed<T>> for CatalogFault {
+    ghost use Rattle.std.specs.Prelude.{◌≡◌};
+    ghost use Rattle.vx_catalog.specs.declared.fault.CatalogFault.TheVariants.{NoMemory};
+
+    ghost from_gives = { λ _ e. e ≡ NoMemory };
+
+    fn from(_e: AllocFailed<T>) -> CatalogFault {
+        CatalogFault::NoMemory
+    }
+}
+
+/// The first reason why a text does not hold rows of a relation.
+///
+/// Rows are counted from 0 without the header, columns and keys from 0.
+#[derive(Clone, Copy, Debug, PartialEq, Eq, Error)]
+pub enum LoadFault {
+    /// No first record, or its fields are not the names of the columns in order.
+    #[error("C4 HeaderMismatch")]
+    HeaderMismatch,
+    /// The row has another number of fields.
+    #[error("C5 BadWidth row={row}")]
+    BadWidth {
+        row: usize,
+    },
+    /// A field of a column of numbers is no number of 64 signed bits.
+    #[error("C6 BadInt row={row} col={col}")]
+    BadInt {
+        row: usize,
+        col: usize,
+    },
+    /// A field of a column of texts is not UTF-8.
+    #[error("C7 NotUtf8 row={row}")]
+    NotUtf8 {
+        row: usize,
+    },
+    /// Two rows agree on the key with this number.
+    #[error("C8 KeyBroken key={key} first={first} second={second}")]
+    KeyBroken {
+        key: usize,
+        first: usize,
+        second: usize,
+    },
+    /// The row is smaller than the one before it.
+    #[error("C9 OrderBroken row={row}")]
+    OrderBroken {
+        row: usize,
+    },
+    /// The reader failed.
+    #[error("C10 ReadFailed")]
+    ReadFailed,
+    /// A growth was refused.
+    #[error("C11 NoMemory")]
+    NoMemory,
+    /// Over 2^40 bytes, or over 100,000,000 rows.
+    #[error("C12 TooLarge")]
+    TooLarge,
+}
+
+impl From<AllocError> for LoadFault {
+    ghost use Rattle.std.specs.Prelude.{◌≡◌};
+    ghost use Rattle.vx_catalog.specs.declared.fault.LoadFault.TheVariants.{NoMemory};
+
+    ghost from_gives = { λ _ e. e ≡ NoMemory };
+
+    fn from(_e: AllocError) -> LoadFault {
+        LoadFault::NoMemory
+    }
+}
+
+impl<T: Drop> From<AllocFailed<T>> for LoadFault {
+    ghost use Rattle.std.specs.Prelude.{◌≡◌};
+    ghost use Rattle.vx_catalog.specs.declared.fault.LoadFault.TheVariants.{NoMemory};
+
+    ghost from_gives = { λ _ e. e ≡ NoMemory };
+
+    fn from(_e: AllocFailed<T>) -> LoadFault {
+        LoadFault::NoMemory
+    }
+}
+
+impl From<ReadFault> for LoadFault {
+    ghost use Rattle.std.specs.Prelude.{◌≡◌};
+    ghost use Rattle.vx_catalog.specs.Unread.{fault_of};
+
+    ghost from_gives = { λ e f. f ≡ fault_of e };
+
+    fn from(e: ReadFault) -> LoadFault {
+        match e {
+            ReadFault::Broken => LoadFault::ReadFailed,
+            ReadFault::NoMemory => LoadFault::NoMemory,
+            ReadFault::TooLarge => LoadFault::TooLarge,
+        }
+    }
+}
+
+/// Why rows were not written. It has no code of its own: the program gives it one.
+#[derive(Clone, Copy, Debug, PartialEq, Eq, Error)]
+pub enum WriteFault {
+    /// The writer failed. It may have got some of the text.
+    #[error("WriteFailed")]
+    WriteFailed,
+    /// A growth was refused, before the writer got anything.
+    #[error("NoMemory")]
+    NoMemory,
+}
+
+impl From<AllocError> for WriteFault {
+    ghost use Rattle.std.specs.Prelude.{◌≡◌};
+    ghost use Rattle.vx_catalog.specs.declared.fault.WriteFault.TheVariants.{NoMemory};
+
+    ghost from_gives = { λ _ e. e ≡ NoMemory };
+
+    fn from(_e: AllocError) -> WriteFault {
+        WriteFault::NoMemory
+    }
+}

@@ -1,0 +1,184 @@
+//! Rows from records.
+
+ghost use Rattle.std.specs.Prelude.{◌≡◌, [], map, length, IfOk, IsOkUnless, Some, string_bytes};
+ghost use Rattle.std.specs.Option.{option_copied};
+ghost use Rattle.csv.specs.Reading.{strip_bom};
+ghost use Rattle.csv.specs.Records.{fields_of};
+ghost use Rattle.vx_rows.specs.View.{cell_val};
+ghost use Rattle.vx_catalog.specs.Walk.{walk_onto};
+ghost use Rattle.vx_catalog.specs.Records.{IsPlain, rest_of, Takes};
+ghost use Rattle.vx_catalog.specs.Loading.{Gives, value_of, next_value, row_of, row_added, rows_onto, same_name, names_from, is_header};
+
+use crate::fault::LoadFault;
+use crate::number::number_of;
+use csv::{ByteRecord, Reader};
+use std::alloc::Global;
+use std::str;
+use vx_rows::{Cell, ColType, Rows};
+
+/// The most rows that a relation may have.
+const MAX_ROWS: usize = 100_000_000;
+
+/// The value of a field, in a column of this type.
+#[tactic(auto, unfolding(crate::specs::Loading::value_of))]
+fn value_of<'r>(
+    row: usize,
+    col: usize,
+    kind: ColType,
+    field: &'r [u8],
+) -> Result<Cell<'r>, LoadFault>
+    ensures { Gives cell_val result (value_of row col kind field.now) }
+{
+    match kind {
+        ColType::Int => match number_of(field) {
+            Some(n) => Ok(Cell::Int(n)),
+            None => Err(LoadFault::BadInt { row, col }),
+        },
+        ColType::Text => match str::from_utf8(field) {
+            Ok(text) => Ok(Cell::Text(text)),
+            Err(_) => Err(LoadFault::NotUtf8 { row }),
+        },
+    }
+}
+
+/// The value of a row in a column.
+#[tactic(auto, unfolding(crate::specs::Loading::next_value))]
+fn next_value<'r>(
+    row: usize,
+    line: &'r ByteRecord,
+    front: &[Cell<'r>],
+    kind: ColType,
+) -> Result<Cell<'r>, LoadFault>
+    ensures { Gives cell_val result (next_value row (fields_of line.now) (map cell_val front.now) kind) }
+{
+    let col = front.len();
+    match line.get(col) {
+        Some(field) => value_of(row, col, kind, field),
+        None => Err(LoadFault::BadWidth { row }),
+    }
+}
+
+/// The values of a record, column by column.
+fn values_of<'r>(
+    alloc: Global,
+    row: usize,
+    types: &[ColType],
+    line: &'r ByteRecord,
+) -> Result<Vec<Cell<'r>>, LoadFault>
+    ensures { Gives (λ v. map cell_val v.items) result (walk_onto (next_value row (fields_of line.now)) [] types.now) }
+{
+    let mut values = Vec::with_capacity(alloc, types.len())?;
+    for kind in types {
+        let value = next_value(row, line, values.as_slice(), *kind)?;
+        values.push(value)?;
+    }
+    Ok(values)
+}
+
+/// The values of the row with this number.
+#[tactic(auto, unfolding(crate::specs::Loading::row_of))]
+fn row_of<'r>(
+    alloc: Global,
+    row: usize,
+    types: &[ColType],
+    line: &'r ByteRecord,
+) -> Result<Vec<Cell<'r>>, LoadFault>
+    ensures { Gives (λ v. map cell_val v.items) result (row_of row types.now (fields_of line.now)) }
+{
+    if line.len() != types.len() {
+        return Err(LoadFault::BadWidth { row });
+    }
+    values_of(alloc, row, types, line)
+}
+
+/// Adds the row of a record. Its number is that of the rows so far.
+#[tactic(auto, unfolding(crate::specs::Loading::row_added))]
+fn push_record(alloc: Global, rows: &mut Rows, line: &ByteRecord) -> Result<(), LoadFault>
+    ensures types { rows.new.types ≡ rows.old.types }
+    ensures rows { Gives (λ _. rows.new.rows) result (row_added rows.old.types rows.old.rows (fields_of line.now)) }
+{
+    let row = rows.len();
+    if row >= MAX_ROWS {
+        return Err(LoadFault::TooLarge);
+    }
+    let values = row_of(alloc, row, rows.types(), line)?;
+    rows.push_cells(values.as_slice())?;
+    Ok(())
+}
+
+/// Takes the next record, if there is one.
+pub fn next_record(reader: &mut Reader<&[u8]>, line: &mut ByteRecord) -> Result<bool, LoadFault>
+    requires { IsPlain reader.old }
+    ensures taken { IfOk result (λ found. Takes found reader.old reader.new (fields_of line.new)) }
+    ensures err { IsOkUnless result LoadFault.NoMemory }
+{
+    let Ok(found) = reader.read_byte_record(line) else {
+        return Err(LoadFault::NoMemory);
+    };
+    Ok(found)
+}
+
+/// The rows of the records that a reader has left.
+pub fn read_rows(
+    alloc: Global,
+    types: &[ColType],
+    reader: &mut Reader<&[u8]>,
+) -> Result<Rows, LoadFault>
+    requires { IsPlain reader.old }
+    ensures types { IfOk result (λ r. r.types ≡ types.now) }
+    ensures rows { Gives (λ r. r.rows) result (rows_onto types.now [] (rest_of reader.old)) }
+{
+    let mut rows = Rows::new(alloc, types)?;
+    let mut line = ByteRecord::new(alloc);
+    for _ in 0..MAX_ROWS + 1 {
+        if !next_record(reader, &mut line)? {
+            return Ok(rows);
+        }
+        push_record(alloc, &mut rows, &line)?;
+    }
+    unreachable!()
+}
+
+/// A field without a byte order mark at its front.
+#[tactic(auto, unfolding(csv::specs::Reading::strip_bom))]
+fn without_mark(field: &[u8]) -> &[u8]
+    ensures { result.now ≡ strip_bom field.now }
+{
+    match field {
+        [0xEF, 0xBB, 0xBF, rest @ ..] => rest,
+        _ => field,
+    }
+}
+
+fn is_name(name: &str, i: usize, field: Option<&[u8]>) -> bool
+    ensures { result ≡ same_name name.now i (option_copied field.entry) }
+{
+    match field {
+        Some(field) => {
+            if i == 0 {
+                without_mark(field) == name.as_bytes()
+            } else {
+                field == name.as_bytes()
+            }
+        }
+        None => false,
+    }
+}
+
+fn has_names(names: &[String], line: &ByteRecord) -> bool
+    ensures { result ≡ names_from 0 (fields_of line.now) (map string_bytes names.now) }
+{
+    for (i, name) in names.iter().enumerate() {
+        if !is_name(name.as_str(), i, line.get(i)) {
+            return false;
+        }
+    }
+    true
+}
+
+/// Whether a record has these names, in order.
+pub fn is_header(names: &[String], line: &ByteRecord) -> bool
+    ensures { result ≡ is_header (map string_bytes names.now) (fields_of line.now) }
+{
+    line.len() == names.len() && has_names(names, line)
+}

@@ -1,0 +1,153 @@
+-- The text that explains a plan: a line for each node in preorder, then whether its order is total.
+use Rattle.std.specs.Prelude.{ℕ, suc, ◌++◌, Bool, true, false, cond, List, [], ◌∷◌, map, length, codes, slice_index_or, decimal}
+use Rattle.std.specs.Fmt.{signed_decimal}
+use Rattle.serde_json.specs.Data.{string}
+use Rattle.serde_json.specs.Written.{compact_text}
+use Rattle.vx_rows.specs.Values.{Val, num, text}
+use Rattle.vx_catalog.specs.Catalog.{relation_at}
+use Rattle.vx_plan.specs.Plan.{Size, one_worker, group_of, Route, by_hash, by_range, Part, one, any, all, routed, Claim, Side, column, constant, Test, equal, unequal, below, at_most, above, at_least, Condition, Aggregate, least, greatest, sum, count_rows, Unary, select, project, distinct, sort, group, Binary, union, join, Kind, route_to, round, broadcast, gather, size}
+use Rattle.vx_plan.specs.Document.{Name}
+use Rattle.vx_plan.specs.Lookup.{Names}
+use Rattle.vx_plan.specs.Outline.{Outline, scan, unary, binary, exchange, top, columns, plan_in}
+
+-- the name with this number
+abbrev pub name_at : List Name → ℕ → Name
+name_at names c = slice_index_or names c []
+
+-- texts in a row, a separator before each but the first
+abbrev pub separated : List ℕ → (is_later : Bool) → List (List ℕ) → List ℕ
+separated between is_later [] = []
+separated between is_later (x ∷ xs) = cond is_later between [] ++ (x ++ separated between true xs)
+
+-- columns by their names
+abbrev pub list_text : List Name → List ℕ → List ℕ
+list_text names cols = codes "[" ++ (separated (codes ",") false (map (name_at names) cols) ++ codes "]")
+
+abbrev pub size_text : Names → Size → List ℕ
+size_text s one_worker = codes "one"
+size_text s (group_of k) = name_at s.sizes k
+
+abbrev pub route_text : Names → Route → List ℕ
+route_text s (by_hash name) = codes "hash:" ++ name
+route_text s (by_range k) = codes "range:" ++ name_at (map (λ r. r.name) s.ranges) k
+
+abbrev pub part_text : Names → List Name → Part → List ℕ
+part_text s names one = codes "one"
+part_text s names any = codes "any"
+part_text s names all = codes "all"
+part_text s names (routed r cols) = route_text s r ++ list_text names cols
+
+-- a dash where there is no key
+abbrev pub keys_text : List Name → List (List ℕ) → List ℕ
+keys_text names [] = codes "-"
+keys_text names (k ∷ ks) = separated (codes ";") false (map (list_text names) (k ∷ ks))
+
+abbrev pub claim_text : Names → List Name → Claim → List ℕ
+claim_text s names c =
+    codes " part=" ++ (part_text s names c.part ++ (codes " order=" ++ (list_text names c.order ++ (codes " keys=" ++ keys_text names c.keys))))
+
+-- ---- scans
+
+abbrev pub prefix_text : List ℕ → List ℕ
+prefix_text [] = []
+prefix_text (x ∷ xs) = codes " prefix " ++ (x ∷ xs)
+
+abbrev pub scan_text : Names → ℕ → Bool → List ℕ → List ℕ
+scan_text s r shared prefix = codes "scan " ++ ((relation_at s.catalog r).name ++ (cond shared (codes " shared") (codes " whole") ++ prefix_text prefix))
+
+-- ---- operators over one input, whose columns have the first names
+
+-- a number in plain decimal, a text as `serde_json` writes it
+abbrev pub value_text : Val → List ℕ
+value_text (num z) = signed_decimal z
+value_text (text bytes) = compact_text (string bytes)
+
+abbrev pub test_text : Test → List ℕ
+test_text equal = codes "="
+test_text unequal = codes "<>"
+test_text below = codes "<"
+test_text at_most = codes "<="
+test_text above = codes ">"
+test_text at_least = codes ">="
+
+abbrev pub side_text : List Name → Side → List ℕ
+side_text names (column c) = name_at names c
+side_text names (constant v) = value_text v
+
+abbrev pub condition_text : List Name → Condition → List ℕ
+condition_text names c = name_at names c.left ++ (codes " " ++ (test_text c.test ++ (codes " " ++ side_text names c.right)))
+
+-- a kept column, with its new name where it has one
+abbrev pub kept_text : Name → Name → Bool → List ℕ
+kept_text input output renamed = input ++ cond renamed (codes " as " ++ output) []
+
+-- kept columns, the first of which has this number in the output
+abbrev pub kept_texts : List Name → List Name → ℕ → List ℕ → List Bool → List (List ℕ)
+kept_texts inputs outputs i (c ∷ cs) (f ∷ fs) = kept_text (name_at inputs c) (name_at outputs i) f ∷ kept_texts inputs outputs (suc i) cs fs
+kept_texts inputs outputs i _ _ = []
+
+abbrev pub function_text : List Name → Aggregate → List ℕ
+function_text names (least c) = codes "min(" ++ (name_at names c ++ codes ")")
+function_text names (greatest c) = codes "max(" ++ (name_at names c ++ codes ")")
+function_text names (sum c) = codes "sum(" ++ (name_at names c ++ codes ")")
+function_text names count_rows = codes "count()"
+
+-- aggregates, the first of which has this number in the output
+abbrev pub aggregate_texts : List Name → List Name → ℕ → List Aggregate → List (List ℕ)
+aggregate_texts inputs outputs i [] = []
+aggregate_texts inputs outputs i (a ∷ as') = (function_text inputs a ++ (codes " as " ++ name_at outputs i)) ∷ aggregate_texts inputs outputs (suc i) as'
+
+abbrev pub aggregates_text : List Name → List Name → ℕ → List Aggregate → List ℕ
+aggregates_text inputs outputs i [] = []
+aggregates_text inputs outputs i (a ∷ as') = codes " " ++ separated (codes ", ") false (aggregate_texts inputs outputs i (a ∷ as'))
+
+abbrev pub unary_text : List Name → List Name → List Bool → Unary → List ℕ
+unary_text inputs outputs renamed (select cs) = codes "select " ++ separated (codes " and ") false (map (condition_text inputs) cs)
+unary_text inputs outputs renamed (project cols) = codes "project [" ++ (separated (codes ",") false (kept_texts inputs outputs 0 cols renamed) ++ codes "]")
+unary_text inputs outputs renamed (distinct cols) = codes "distinct [" ++ (separated (codes ",") false (kept_texts inputs outputs 0 cols renamed) ++ codes "]")
+unary_text inputs outputs renamed (sort cols) = codes "sort " ++ list_text inputs cols
+unary_text inputs outputs renamed (group by aggregates) = codes "group " ++ (list_text inputs by ++ aggregates_text inputs outputs (length by) aggregates)
+
+-- ---- operators over two inputs, and exchanges
+
+abbrev pub pair_text : List Name → List Name → ℕ × ℕ → List ℕ
+pair_text lefts rights p = name_at lefts p.0 ++ (codes "=" ++ name_at rights p.1)
+
+abbrev pub binary_text : List Name → List Name → Binary → List ℕ
+binary_text lefts rights union = codes "union"
+binary_text lefts rights (join merging on) =
+    cond merging (codes "merge-join [") (codes "hash-join [") ++ (separated (codes ",") false (map (pair_text lefts rights) on) ++ codes "]")
+
+abbrev pub kind_text : Names → List Name → Kind → List ℕ
+kind_text s inputs (route_to z r cols) = route_text s r ++ list_text inputs cols
+kind_text s inputs (round z) = codes "round"
+kind_text s inputs (broadcast z) = codes "broadcast"
+kind_text s inputs gather = codes "gather"
+
+abbrev pub merge_text : List Name → List ℕ → List ℕ
+merge_text inputs [] = []
+merge_text inputs (c ∷ cs) = codes " merge " ++ list_text inputs (c ∷ cs)
+
+-- ---- nodes
+
+-- what a node does
+abbrev pub description : Names → Outline → List ℕ
+description s (scan h r m z p) = scan_text s r m p
+description s (unary h op renamed t) = unary_text (columns t).names h.columns.names renamed op
+description s (binary h op t u) = binary_text (columns t).names (columns u).names op
+description s (exchange h k m t) = codes "exchange " ++ (kind_text s (columns t).names k ++ merge_text (columns t).names m)
+
+-- a node's line, behind its margin
+abbrev pub line_text : Names → List ℕ → Outline → List ℕ
+line_text s margin t =
+    margin ++ (codes "#" ++ (decimal (top t).number ++ (codes " " ++ (description s t ++ (codes " size=" ++ (size_text s (size (plan_in t)) ++ (claim_text s (columns t).names (top t).claim ++ codes "\n")))))))
+
+-- the line of the node at the top, and those below it, whose margin is two spaces wider
+abbrev pub lines : Names → List ℕ → Outline → List ℕ
+lines s margin (scan h r m z p) = line_text s margin (scan h r m z p)
+lines s margin (unary h op renamed t) = line_text s margin (unary h op renamed t) ++ lines s (margin ++ codes "  ") t
+lines s margin (binary h op t u) = line_text s margin (binary h op t u) ++ (lines s (margin ++ codes "  ") t ++ lines s (margin ++ codes "  ") u)
+lines s margin (exchange h k m t) = line_text s margin (exchange h k m t) ++ lines s (margin ++ codes "  ") t
+
+abbrev pub explain_text : Names → Bool → Outline → List ℕ
+explain_text s total t = lines s [] t ++ cond total (codes "total\n") (codes "not total\n")

@@ -1,0 +1,132 @@
+//! The text that explains a plan.
+
+ghost use Rattle.std.specs.Prelude.{◌≡◌, ◌++◌, map, string_bytes, codes, decimal, OnOk, IfOk};
+ghost use Rattle.vx_plan.specs.Plan.{size};
+ghost use Rattle.vx_plan.specs.Outline.{outline_of, plan_of, columns, top};
+ghost use Rattle.vx_plan.specs.TypedView.{names_in};
+ghost use Rattle.vx_check.specs.Explain.{size_text, claim_text, description, line_text, lines};
+ghost use Rattle.vx_check.specs.CheckedView.{typed_plan};
+ghost use Rattle.vx_check.specs.PlanText.{plan_text};
+
+use crate::checked::CheckedPlan;
+use crate::describe::{push_binary, push_exchange, push_scan, push_unary};
+use crate::nodes::group_size;
+use crate::words::{push_claim, push_size};
+use itoa::Buffer;
+use std::alloc::{AllocError, Global};
+use vx_plan::{TypedNode, TypedPlan};
+
+/// The names of the node's output columns.
+fn column_names(node: &TypedNode) -> &[String]
+    ensures { map string_bytes result.now ≡ (columns (outline_of node.now)).names }
+{
+    node.head().columns.names.as_slice()
+}
+
+/// Adds what the node does.
+fn push_description(
+    alloc: Global,
+    text: &mut String,
+    plan: &TypedPlan,
+    node: &TypedNode,
+) -> Result<(), AllocError>
+    ensures { OnOk result (string_bytes text.new ≡ string_bytes text.old ++ description (names_in plan.now) (outline_of node.now)) }
+{
+    match node {
+        TypedNode::Scan(_, scan) => push_scan(text, plan, scan),
+        TypedNode::Unary(head, operator, input) => {
+            push_unary(
+                alloc,
+                text,
+                column_names(input),
+                head.columns.names.as_slice(),
+                operator,
+            )
+        }
+        TypedNode::Binary(_, operator, left, right) => {
+            push_binary(text, column_names(left), column_names(right), operator)
+        }
+        TypedNode::Exchange(_, exchange, input) => push_exchange(
+            text,
+            plan,
+            column_names(input),
+            exchange,
+        ),
+    }
+}
+
+/// Adds the margin and the number that a line begins with.
+fn push_number(text: &mut String, margin: &str, number: u32) -> Result<(), AllocError>
+    ensures { OnOk result (string_bytes text.new ≡ string_bytes text.old ++ (margin.now ++ (codes "#" ++ (decimal number ++ codes " ")))) }
+{
+    let mut digits = Buffer::new();
+    text.push_str(margin)?;
+    text.push_str("#")?;
+    text.push_str(digits.format(number))?;
+    text.push_str(" ")
+}
+
+/// Adds the node's size and its claim, with which a line ends.
+fn push_notes(text: &mut String, plan: &TypedPlan, node: &TypedNode) -> Result<(), AllocError>
+    ensures { OnOk result (string_bytes text.new ≡ string_bytes text.old ++ (codes " size=" ++ (size_text (names_in plan.now) (size (plan_of node.now)) ++ (claim_text (names_in plan.now) (columns (outline_of node.now)).names (top (outline_of node.now)).claim ++ codes "\n")))) }
+{
+    text.push_str(" size=")?;
+    push_size(text, plan, group_size(node))?;
+    push_claim(text, plan, column_names(node), &node.head().claim)?;
+    text.push_str("\n")
+}
+
+/// Adds the node's line, behind its margin.
+fn push_line(
+    alloc: Global,
+    text: &mut String,
+    plan: &TypedPlan,
+    margin: &str,
+    node: &TypedNode,
+) -> Result<(), AllocError>
+    ensures { OnOk result (string_bytes text.new ≡ string_bytes text.old ++ line_text (names_in plan.now) margin.now (outline_of node.now)) }
+{
+    push_number(text, margin, node.head().number)?;
+    push_description(alloc, text, plan, node)?;
+    push_notes(text, plan, node)
+}
+
+/// Adds the line of the node, and then those of the nodes below it.
+fn push_lines(
+    alloc: Global,
+    text: &mut String,
+    plan: &TypedPlan,
+    margin: &str,
+    node: &TypedNode,
+) -> Result<(), AllocError>
+    ensures { OnOk result (string_bytes text.new ≡ string_bytes text.old ++ lines (names_in plan.now) margin.now (outline_of node.now)) }
+{
+    push_line(alloc, text, plan, margin, node)?;
+    let mut wider = String::from_str(alloc, margin)?;
+    wider.push_str("  ")?;
+    match node {
+        TypedNode::Scan(_, _) => Ok(()),
+        TypedNode::Unary(_, _, input) => push_lines(alloc, text, plan, wider.as_str(), input),
+        TypedNode::Binary(_, _, left, right) => {
+            push_lines(alloc, text, plan, wider.as_str(), left)?;
+            push_lines(alloc, text, plan, wider.as_str(), right)
+        }
+        TypedNode::Exchange(_, _, input) => push_lines(alloc, text, plan, wider.as_str(), input),
+    }
+}
+
+/// The text that explains a plan: a line for each node in preorder with what it does, its size and its note, then
+/// whether the plan is total.
+pub fn explain(alloc: Global, checked: &CheckedPlan) -> Result<String, AllocError>
+    ensures { IfOk result (λ s. string_bytes s ≡ plan_text (typed_plan checked.now)) }
+{
+    let plan = checked.plan();
+    let mut text = String::new(alloc);
+    push_lines(alloc, &mut text, plan, "", plan.root())?;
+    text.push_str(if plan.is_total() {
+        "total\n"
+    } else {
+        "not total\n"
+    })?;
+    Ok(text)
+}

@@ -1,0 +1,26 @@
+use Rattle.std.proofs.Common.{rules, ◌≡◌, true, refl, sym, ◌∙◌}
+use denote.Enum.Bare.{sameb}
+use Rattle.std.specs.Bool.{Decides}
+use Rattle.std.proofs.lemmas.Slice.Eq.{slice_eq-Decides}
+use Rattle.vx_rows.specs.declared.value.ColType.{ColType}
+use Rattle.vx_rows.specs.declared.value.ColType.TheVariants.{Int, Text}
+use Rattle.vx_rows.specs.contracts.value.ColType.{the_type}
+use Rattle.vx_exchange.specs.Receiver.{receiver_end}
+use Rattle.vx_exchange.proofs.Arrivals.{is-for}
+use Rattle.vx_exchange.proofs.receiver.Receiver.is_expected.Goals as goal
+
+kind-decides : (a b : ColType) → Decides (sameb the_type a b) (a ≡ b)
+kind-decides Int Int = (λ e. refl, λ e. refl)
+kind-decides Int Text = (λ e. cc, λ e. cc)
+kind-decides Text Int = (λ e. cc, λ e. cc)
+kind-decides Text Text = (λ e. refl, λ e. refl)
+
+pub returns-then-to-self : goal.returns-then-to-self
+returns-then-to-self c =
+    let t = c.if-to-self.true in
+    let same = slice_eq-Decides kind-decides c.types.result.now c.as_slice.result.now c.eq.result c.eq.ensures in
+    let value = c.as_slice.ensures.value in (
+      λ e. is-for (receiver_end c.args.self.now) c.args.self.now.next c.args.packet.now (search rules) (search rules) (search rules)
+          (sym c.types.ensures ∙ same.0 (search rules) ∙ value),
+      λ f. let types = f.types in let s : c.eq.result ≡ true = same.1 (c.types.ensures ∙ types ∙ sym value) in rw s (search rules),
+    )

@@ -1,0 +1,107 @@
+//! The end of the root's fragment: its rows are kept.
+
+use crate::sends::Sends;
+use std::alloc::{AllocError, Global};
+use vx_ops::Polled;
+use vx_plan::Router;
+use vx_ports::Packet;
+use vx_rows::{ColType, Rows};
+
+/// The rows that the top of the root's fragment gives, in order. It gives no packet.
+#[derive(Drop)]
+pub struct Kept {
+    rows: Rows,
+    takes_more: bool,
+}
+
+impl Kept {
+    ghost use Rattle.std.specs.Prelude.{◌≡◌, ◌++◌, ℕ, List, [], IfOk, OnOk, OnErr, true};
+    ghost use Rattle.vx_plan.specs.Routes.{Router as Routing};
+    ghost use Rattle.vx_ops.specs.Ledger.{fresh};
+    ghost use Rattle.vx_exchange.specs.Tasks.{keep, keeps};
+    ghost use Rattle.vx_exchange.specs.Kept.{KeptStands, kept_task, kept_post, kept_is_open};
+
+    /// No rows yet, of these types.
+    pub fn new(alloc: Global, types: &[ColType]) -> Result<Kept, AllocError>
+        ensures stands { IfOk result (λ s. (goes : Routing) → KeptStands s goes fresh (λ _. [])) }
+        ensures post { IfOk result (λ s. kept_post s ≡ keeps types.now) }
+        ensures open { IfOk result (λ s. kept_is_open s ≡ true) }
+    {
+        let rows = Rows::new(alloc, types)?;
+        Ok(Kept {
+            rows,
+            takes_more: true,
+        })
+    }
+
+    /// All rows that came.
+    pub fn into_rows(self) -> Rows
+        ensures rows { kept_task self ≡ keep result.rows }
+        ensures types { kept_post self ≡ keeps result.types }
+    {
+        self.rows
+    }
+
+    /// Keeps more rows. The first ones are taken as they are.
+    fn add(&mut self, rows: Rows) -> Result<(), AllocError>
+        requires { rows.types ≡ self.old.rows.types }
+        ensures ok { OnOk result (self.new.rows.rows ≡ self.old.rows.rows ++ rows.rows) }
+        ensures err { OnErr result (self.new.rows.rows ≡ self.old.rows.rows) }
+        ensures types { self.new.rows.types ≡ self.old.rows.types }
+        ensures open { self.new.takes_more ≡ self.old.takes_more }
+    {
+        if self.rows.len() == 0 {
+            self.rows = rows;
+            return Ok(());
+        }
+        self.rows.append_range(&rows, 0, rows.len())?;
+        Ok(())
+    }
+}
+
+impl Sends for Kept {
+    ghost use Rattle.vx_exchange.specs.Kept.{KeptStands, kept_task, kept_post, kept_bounds, kept_is_open, kept_has_closed, kept_open_first, kept_begun, kept_at_post};
+
+    ghost Stands = { KeptStands };
+
+    ghost task = { kept_task };
+
+    ghost post = { kept_post };
+
+    ghost bounds = { kept_bounds };
+
+    ghost is_open = { kept_is_open };
+
+    ghost has_closed = { kept_has_closed };
+
+    ghost open_first = { kept_open_first };
+
+    ghost begun = { kept_begun };
+
+    ghost at_post = { kept_at_post };
+
+    fn accept<R: Router>(&mut self, _router: &R, polled: Polled) -> Result<(), AllocError> {
+        match polled {
+            Polled::Gave(rows) => {
+                if let Err(refused) = self.add(rows) {
+                    self.takes_more = false;
+                    return Err(refused);
+                }
+                return Ok(());
+            }
+            Polled::Waiting => return Ok(()),
+            Polled::End => {
+                self.takes_more = false;
+                return Ok(());
+            }
+            Polled::Fault(_) => {
+                self.takes_more = false;
+                return Ok(());
+            }
+        }
+    }
+
+    fn next(&mut self) -> Option<(u32, Packet)> {
+        None
+    }
+}

@@ -1,0 +1,202 @@
+//! What a sending end holds for one consumer.
+
+use std::alloc::{AllocError, Global};
+use std::collections::VecDeque;
+use std::marker::Model;
+use vx_ports::{Ending, Packet};
+use vx_rows::{ColType, Rows};
+
+/// The rows for one consumer, cut into packets: fewer rows than one packet holds, and the packets that wait.
+///
+/// It has the rows of its closing packet, which are none, from the first, so that closing asks for no memory.
+#[derive(Drop)]
+pub struct Lane {
+    alloc: Global,
+    exchange: u32,
+    place: u32,
+    consumer: u32,
+    size: usize,
+    current: Rows,
+    ready: VecDeque<Packet>,
+    closing: Option<Rows>,
+}
+
+impl Model for Lane {
+    ghost use Rattle.vx_exchange.specs.Outlet.{Outlet, IsOutlet, is_given};
+
+    ghost Value = { Outlet };
+
+    ghost view = { λ l. record {
+      way = record { exchange = l.exchange; place = l.place; consumer = l.consumer; types = l.current.types; size = l.size };
+      current = l.current.rows;
+      ready = l.ready.items;
+      closed = is_given l.closing;
+    } };
+
+    ghost invariant = { λ l. IsOutlet (record {
+      way = record { exchange = l.exchange; place = l.place; consumer = l.consumer; types = l.current.types; size = l.size };
+      current = l.current.rows;
+      ready = l.ready.items;
+      closed = is_given l.closing;
+    }) l.closing };
+}
+
+impl Lane {
+    ghost use Rattle.std.specs.Prelude.{◌≡◌, ◌<◌, ◌≤◌, ◌++◌, ◌∷◌, [], length, slice_range, true, false, IfOk, OnOk, IfSome, IfNone};
+    ghost use Rattle.vx_ports.specs.Packets.{closes};
+    ghost use Rattle.vx_ports.specs.Seen.{ending_content};
+    ghost use Rattle.vx_exchange.specs.Outlet.{parcel_of, parcel_at, empty_outlet, Cuts, CutsRest};
+
+    /// Nothing for this consumer of an exchange, in packets of up to `size` rows of these types: 1 to 4,096.
+    pub fn new(
+        alloc: Global,
+        exchange: u32,
+        place: u32,
+        consumer: u32,
+        size: usize,
+        types: &[ColType],
+    ) -> Result<Lane, AllocError>
+        requires some { 1 ≤ size }
+        requires few { size ≤ 4096 }
+        ensures { IfOk result (λ l. l ≡ empty_outlet (record { exchange = exchange; place = place; consumer = consumer; types = types.now; size = size })) }
+    {
+        let current = Rows::new(alloc, types)?;
+        let closing = Rows::new(alloc, types)?;
+        Ok(Lane {
+            alloc,
+            exchange,
+            place,
+            consumer,
+            size,
+            current,
+            ready: VecDeque::new(alloc),
+            closing: Some(closing),
+        })
+    }
+
+    /// Makes a packet of these rows.
+    fn push(&mut self, rows: Rows) -> Result<(), AllocError>
+        requires some { 0 < length rows.rows }
+        requires few { length rows.rows ≤ 4096 }
+        requires types { rows.types ≡ self.old.way.types }
+        requires open { self.old.closed ≡ false }
+        ensures ok { OnOk result (self.new.ready ≡ self.old.ready ++ parcel_at self.old.way rows.rows ∷ []) }
+        ensures way { self.new.way ≡ self.old.way }
+        ensures current { self.new.current ≡ self.old.current }
+        ensures closed { self.new.closed ≡ self.old.closed }
+    {
+        let packet = Packet::of_rows(self.exchange, self.place, self.consumer, rows);
+        match self.ready.push_back(packet) {
+            Ok(()) => return Ok(()),
+            Err(_) => return Err(AllocError),
+        }
+    }
+
+    /// Takes rows from a position on: all, or as many as make a full packet with those at hand. It says from which position on they are left.
+    fn fill(&mut self, rows: &Rows, from: usize) -> Result<usize, AllocError>
+        requires types { rows.now.types ≡ self.old.way.types }
+        requires open { self.old.closed ≡ false }
+        requires some { from < length rows.now.rows }
+        ensures next { IfOk result (λ to. from < to) }
+        ensures within { IfOk result (λ to. to ≤ length rows.now.rows) }
+        ensures ok { IfOk result (λ to. Cuts self.old.way self.old.current self.old.ready (slice_range rows.now.rows from to) self.new.current self.new.ready) }
+        ensures way { self.new.way ≡ self.old.way }
+        ensures closed { self.new.closed ≡ self.old.closed }
+    {
+        let room = self.size - self.current.len();
+        if rows.len() - from < room {
+            self.current.append_range(rows, from, rows.len())?;
+            return Ok(rows.len());
+        }
+        let to = from + room;
+        let mut full = self.current.take(self.alloc)?;
+        full.append_range(rows, from, to)?;
+        self.push(full)?;
+        Ok(to)
+    }
+
+    /// Takes all of these rows.
+    fn fill_all(&mut self, rows: &Rows) -> Result<(), AllocError>
+        requires types { rows.now.types ≡ self.old.way.types }
+        requires open { self.old.closed ≡ false }
+        ensures ok { OnOk result (Cuts self.old.way self.old.current self.old.ready rows.now.rows self.new.current self.new.ready) }
+        ensures way { self.new.way ≡ self.old.way }
+        ensures closed { self.new.closed ≡ self.old.closed }
+    {
+        let mut from = 0;
+        while from < rows.len() {
+            from = self.fill(rows, from)?;
+        }
+        Ok(())
+    }
+
+    /// Takes more rows. Those that are just one packet, where none are at hand, become it as they are. After a refusal some of them may be lost.
+    pub fn add(&mut self, rows: Rows) -> Result<(), AllocError>
+        requires types { rows.types ≡ self.old.way.types }
+        requires open { self.old.closed ≡ false }
+        ensures ok { OnOk result (Cuts self.old.way self.old.current self.old.ready rows.rows self.new.current self.new.ready) }
+        ensures way { self.new.way ≡ self.old.way }
+        ensures closed { self.new.closed ≡ self.old.closed }
+    {
+        if self.current.len() == 0 && rows.len() == self.size {
+            self.push(rows)?;
+            return Ok(());
+        }
+        self.fill_all(&rows)
+    }
+
+    /// Makes a packet of the rows at hand, if there are any.
+    pub fn finish(&mut self) -> Result<(), AllocError>
+        requires { self.old.closed ≡ false }
+        ensures ok { OnOk result (CutsRest self.old.way self.old.current self.old.ready self.new.ready) }
+        ensures way { self.new.way ≡ self.old.way }
+        ensures closed { self.new.closed ≡ self.old.closed }
+    {
+        if self.current.len() == 0 {
+            return Ok(());
+        }
+        let rest = self.current.take(self.alloc)?;
+        self.push(rest)?;
+        Ok(())
+    }
+
+    /// Drops all that it holds.
+    pub fn clear(&mut self)
+        ensures current { self.new.current ≡ [] }
+        ensures ready { self.new.ready ≡ [] }
+        ensures way { self.new.way ≡ self.old.way }
+        ensures closed { self.new.closed ≡ self.old.closed }
+    {
+        self.current.truncate(0);
+        self.ready.clear();
+    }
+
+    /// The next packet of rows that waits.
+    pub fn next_packet(&mut self) -> Option<Packet>
+        ensures some { IfSome result (λ p. self.old.ready ≡ p ∷ self.new.ready) }
+        ensures of_rows { IfSome result (λ p. closes p.content ≡ false) }
+        ensures open { IfSome result (λ _. self.old.closed ≡ false) }
+        ensures none { IfNone result (self.old.ready ≡ []) }
+        ensures same { IfNone result (self.new.ready ≡ []) }
+        ensures current { self.new.current ≡ self.old.current }
+        ensures way { self.new.way ≡ self.old.way }
+        ensures closed { self.new.closed ≡ self.old.closed }
+    {
+        self.ready.pop_front()
+    }
+
+    /// The packet that closes the stream, once. It comes when nothing waits.
+    pub fn close(&mut self, ending: Ending) -> Option<Packet>
+        requires { self.old.ready ≡ [] }
+        ensures some { IfSome result (λ p. p ≡ parcel_of self.old.way (ending_content ending)) }
+        ensures open { IfSome result (λ _. self.old.closed ≡ false) }
+        ensures none { IfNone result (self.old.closed ≡ true) }
+        ensures closed { self.new.closed ≡ true }
+        ensures current { self.new.current ≡ self.old.current }
+        ensures ready { self.new.ready ≡ self.old.ready }
+        ensures way { self.new.way ≡ self.old.way }
+    {
+        let none = self.closing.take()?;
+        Some(Packet::closing(self.exchange, self.place, self.consumer, ending, none))
+    }
+}

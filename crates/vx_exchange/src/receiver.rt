@@ -1,0 +1,192 @@
+//! Consumer ends of exchanges.
+
+ghost use Rattle.std.specs.Prelude.{◌≡◌, ◌≤◌, ◌<◌, ◌+◌, ℕ, length, slice_get, Some, IfNone, IfSome, IfOk, true, false, vec_len, IsTrue, ◌↔◌};
+ghost use Rattle.vx_exchange.specs.InTurn.{IsInTurn};
+
+use std::alloc::{AllocError, Global};
+use vx_ops::{Code, Fault, Got, Over, Polled, Source, Want};
+use vx_ports::{Body, Ending, Packet};
+use vx_rows::ColType;
+
+/// The consumer end of an exchange at one of its places: it gives the rows of its producers' packets as they come.
+///
+/// It asks the producers that have not ended in turn, for one packet each time.
+#[derive(Drop)]
+pub struct Receiver {
+    exchange: u32,
+    place: u32,
+    types: Vec<ColType>,
+    ended: Vec<bool>,
+    next: usize,
+    over: Over,
+    ghost next_in_range: { next < vec_len ended },
+    ghost few: { vec_len ended ≤ 64 },
+}
+
+/// The first flag that is not set, from one place up to another.
+fn first_open(ended: &[bool], from: usize, to: usize) -> Option<usize>
+    requires { to ≤ length ended.now }
+    ensures none { IfNone result ((k : ℕ) → from ≤ k → k < to → slice_get ended.now k ≡ Some true) }
+    ensures some { IfSome result (λ i. slice_get ended.now i ≡ Some false) }
+    ensures behind { IfSome result (λ i. from ≤ i) }
+    ensures first { IfSome result (λ i. (k : ℕ) → from ≤ k → k < i → slice_get ended.now k ≡ Some true) }
+{
+    for i in from..to {
+        if !ended[i] {
+            return Some(i);
+        }
+    }
+    None
+}
+
+/// The next flag from a place on that is not set, or the first one at all.
+fn next_open(ended: &[bool], from: usize) -> Option<usize>
+    ensures none { IfNone result ((k : ℕ) → k < length ended.now → slice_get ended.now k ≡ Some true) }
+    ensures some { IfSome result (λ i. slice_get ended.now i ≡ Some false) }
+    ensures in_turn { IfSome result (λ i. IsInTurn from ended.now i) }
+{
+    if let Some(i) = first_open(ended, from, ended.len()) {
+        return Some(i);
+    }
+    first_open(ended, 0, ended.len())
+}
+
+impl Receiver {
+    ghost use Rattle.vx_ports.specs.Packets.{Parcel, last};
+    ghost use Rattle.vx_ops.specs.Ledger.{Ledger, receive, IsFor};
+    ghost use Rattle.vx_ops.specs.Turn.{after, fresh_ledger, GivesRows};
+    ghost use Rattle.vx_ops.specs.declared.turn.Got.TheVariants as got;
+    ghost use Rattle.vx_exchange.specs.Receiver.{ReceiverStands, receiver_op, receiver_types, receiver_want, receiver_end, unmerged_end, ChangesNext};
+
+    /// A consumer end at a place of an exchange, by its node number, for this many producers of rows of these types: 1 to 64. Nothing came yet.
+    pub fn new(
+        alloc: Global,
+        exchange: u32,
+        place: u32,
+        producers: u32,
+        types: Vec<ColType>,
+    ) -> Result<Receiver, AllocError>
+        requires some { 1 ≤ producers }
+        requires few { producers ≤ 64 }
+        ensures stands { IfOk result (λ r. ReceiverStands r fresh_ledger) }
+        ensures op { IfOk result (λ r. receiver_op r ≡ receive (unmerged_end exchange place producers types.items)) }
+        ensures types { IfOk result (λ r. receiver_types r ≡ record { left = types.items; right = types.items; out = types.items }) }
+    {
+        let ended = vec![in alloc; false; producers as usize]?;
+        Ok(Receiver {
+            exchange,
+            place,
+            types,
+            ended,
+            next: 0,
+            over: Over::Running,
+        })
+    }
+
+    /// Goes on to the next producer that has not ended.
+    fn move_on(&mut self)
+        ensures { ChangesNext self.old self.new }
+    {
+        if let Some(i) = next_open(self.ended.as_slice(), self.next + 1) {
+            self.next = i;
+        }
+    }
+
+    /// Whether a packet is one of this exchange, from the producer that is next to this place, with rows of these types.
+    fn is_expected(&self, packet: &Packet) -> bool
+        ensures { IsTrue result ↔ IsFor (receiver_end self.now) self.now.next packet.now }
+    {
+        packet.exchange() == self.exchange
+            && packet.from() == self.next as u32
+            && packet.to() == self.place
+            && packet.types() == self.types.as_slice()
+    }
+
+    /// Notes that the producer that is next has ended, and goes on to the next one, if there is one.
+    fn end_producer(&mut self) -> Polled
+        requires { self.old.over ≡ Over.Running }
+        ensures stands { (l : Ledger) (packet : Parcel) → IsFor (receiver_end self.old) self.old.next packet → packet.content ≡ last → ReceiverStands self.old l
+            → ReceiverStands self.new (after l (receiver_want self.old) (got.Packet (Some packet)) result) }
+        ensures in_turn { self.new.over ≡ Over.Running → IsInTurn (self.old.next + 1) self.new.ended.items self.new.next }
+        ensures gives { GivesRows self.old.types.items result }
+        ensures op { receiver_op self.new ≡ receiver_op self.old }
+    {
+        self.ended[self.next] = true;
+        match next_open(self.ended.as_slice(), self.next + 1) {
+            Some(i) => {
+                self.next = i;
+                return Polled::Waiting;
+            }
+            None => {
+                self.over = Over::Ended;
+                return Polled::End;
+            }
+        }
+    }
+
+    /// Takes a packet from the producer that is next.
+    fn take_packet(&mut self, packet: Packet) -> Polled
+        requires { self.old.over ≡ Over.Running }
+        ensures stands { (l : Ledger) → ReceiverStands self.old l
+            → ReceiverStands self.new (after l (receiver_want self.old) (got.Packet (Some packet)) result) }
+        ensures in_turn { self.new.over ≡ Over.Running → IsInTurn (self.old.next + 1) self.new.ended.items self.new.next }
+        ensures gives { GivesRows self.old.types.items result }
+        ensures op { receiver_op self.new ≡ receiver_op self.old }
+    {
+        if !self.is_expected(&packet) {
+            let stranger = Fault::Own {
+                code: Code::Stranger,
+                node: self.exchange,
+            };
+            self.over = Over::Failed(stranger);
+            return Polled::Fault(stranger);
+        }
+        packet.fit();
+        match packet.into_body() {
+            Body::Rows(rows) => {
+                self.move_on();
+                return Polled::Gave(rows);
+            }
+            Body::End(Ending::Last) => return self.end_producer(),
+            Body::End(Ending::Fault) => {
+                self.over = Over::Failed(Fault::Passed);
+                return Polled::Fault(Fault::Passed);
+            }
+        }
+    }
+}
+
+impl Source for Receiver {
+    ghost use Rattle.vx_exchange.specs.Receiver.{ReceiverStands, receiver_op, receiver_types, receiver_want, receiver_told};
+
+    ghost Stands = { ReceiverStands };
+
+    ghost op = { receiver_op };
+
+    ghost types = { receiver_types };
+
+    ghost want = { receiver_want };
+
+    ghost told = { receiver_told };
+
+    fn wants(&self) -> Want {
+        match self.over {
+            Over::Running => Want::Packet(self.next as u32),
+            _ => Want::Nothing,
+        }
+    }
+
+    fn turn(&mut self, got: Got) -> Polled {
+        match self.over {
+            Over::Ended => Polled::End,
+            Over::Failed(f) => Polled::Fault(f),
+            Over::Running => match got {
+                Got::Packet(Some(packet)) => self.take_packet(packet),
+                _ => {
+                    self.move_on();
+                    Polled::Waiting
+                }
+            },
+        }
+    }
+}

@@ -1,0 +1,72 @@
+//! Sending ends of exchanges.
+
+use std::alloc::AllocError;
+use vx_ops::Polled;
+use vx_plan::Router;
+use vx_ports::Packet;
+
+/// What takes the rows that the top of a fragment gives: the sending end of an exchange, which gives packets for the consumers, or the root's rows.
+pub trait Sends {
+    ghost use Rattle.std.specs.Prelude.{◌≡◌, ℕ, Bool, true, false, List, OnOk, OnErr, IfSome, IfNone, Some};
+    ghost use Rattle.vx_rows.specs.Values.{Val, Row};
+    ghost use Rattle.vx_plan.specs.Routes.{Router as Routing};
+    ghost use Rattle.vx_ports.specs.Packets.{Parcel, closes};
+    ghost use Rattle.vx_ops.specs.Ledger.{Stream};
+    ghost use Rattle.vx_ops.specs.Turn.{heard, GivesRows, with_packet};
+    ghost use Rattle.vx_ops.specs.declared.fault.Over.TheVariants.{Ended, Failed};
+    ghost use Rattle.vx_ops.specs.declared.fault.Fault.{Fault};
+    ghost use Rattle.vx_exchange.specs.Tasks.{Task, Post, post_types, Finished, Stopped, Begun, IsAt};
+    ghost use Rattle.vx_exchange.specs.Sending.{RoutesAs, is_open_after};
+
+    // That this may have accepted such a stream and given such packets for each consumer, where rows go so.
+    ghost Stands: { Self → Routing → Stream → (ℕ → List Parcel) → Type 0 };
+
+    // What it does with the rows: it sends them, or keeps them.
+    ghost task: { Self → Task };
+
+    // What stays of the task while rows come.
+    ghost post: { Self → Post };
+
+    // The bounds of its range, none if it is not by range.
+    ghost bounds: { Self → List Val };
+
+    // Whether it takes more: neither the end nor a fault was accepted, and no memory was refused.
+    ghost is_open: { Self → Bool };
+
+    // Whether a closing packet was given.
+    ghost has_closed: { Self → Bool };
+
+    /// Takes what the fragment's top gave. After a refusal it stands as after a fault.
+    fn accept<R: Router>(&mut self, router: &R, polled: Polled) -> Result<(), AllocError>
+        requires open { is_open self.old ≡ true }
+        requires typed { GivesRows (post_types (post self.old)) polled }
+        ensures ok { OnOk result ((goes : Routing) → RoutesAs (post self.old) (bounds self.old) (R.route_of router.now) goes
+            → (a : Stream) (g : ℕ → List Parcel) → Stands self.old goes a g → Stands self.new goes (heard a polled) g) }
+        ensures err { OnErr result ((goes : Routing) (a : Stream) (g : ℕ → List Parcel) → Stands self.old goes a g
+            → (f : Fault) → Stands self.new goes (record { rows = a.rows; over = Failed f }) g) }
+        ensures open { OnOk result (is_open self.new ≡ is_open_after polled) }
+        ensures closed { has_closed self.new ≡ has_closed self.old }
+        ensures post { post self.new ≡ post self.old }
+        ensures bounds { bounds self.new ≡ bounds self.old };
+
+    /// The next packet and its consumer, if there is one now. Last goes to any consumer only after every row of every consumer.
+    fn next(&mut self) -> Option<(u32, Packet)>
+        ensures some { IfSome result (λ x. (goes : Routing) (a : Stream) (g : ℕ → List Parcel) → Stands self.old goes a g → Stands self.new goes a (with_packet g x.0 (Some x.1))) }
+        ensures none { IfNone result ((goes : Routing) (a : Stream) (g : ℕ → List Parcel) → Stands self.old goes a g → Stands self.new goes a g) }
+        ensures drained { IfNone result ((goes : Routing) (a : Stream) (g : ℕ → List Parcel) → Stands self.old goes a g → a.over ≡ Ended → Finished goes (task self.new) a.rows g) }
+        ensures cut { IfNone result ((goes : Routing) (a : Stream) (g : ℕ → List Parcel) → Stands self.old goes a g → (f : Fault) → a.over ≡ Failed f → Stopped goes (task self.new) a.rows g) }
+        ensures open { is_open self.new ≡ is_open self.old }
+        ensures closing { IfSome result (λ x. has_closed self.new ≡ closes x.1.content) }
+        ensures closed { IfNone result (has_closed self.new ≡ has_closed self.old) }
+        ensures post { post self.new ≡ post self.old }
+        ensures bounds { bounds self.new ≡ bounds self.old };
+
+    // While it takes more, it has not closed.
+    ghost open_first: { (s : Self) → is_open s ≡ true → has_closed s ≡ false };
+
+    // Until it closes, what it gave is packets of a beginning of what its rows send.
+    ghost begun: { (s : Self) (goes : Routing) (a : Stream) (g : ℕ → List Parcel) → Stands s goes a g → has_closed s ≡ false → Begun goes (task s) a.rows g };
+
+    // The task is that of the post.
+    ghost at_post: { (s : Self) → IsAt (post s) (task s) };
+}

@@ -1,0 +1,15 @@
+pub mod BoardSteps
+pub mod Seats
+pub mod Events
+pub mod Steady
+pub mod FlatRuns
+pub mod RunSteps
+pub mod Rounds
+pub mod Judging
+pub mod Settling
+pub mod Beginning
+pub mod Origins
+pub mod Each
+pub mod Build
+pub mod Answered
+pub mod Adding

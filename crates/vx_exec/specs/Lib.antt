@@ -1,0 +1,15 @@
+pub mod Scans
+pub mod Stations
+pub mod Queues
+pub mod Board
+pub mod Agrees
+pub mod Same
+pub mod Roles
+pub mod Runs
+pub mod Verdicts
+pub mod Idle
+pub mod Crews
+pub mod Additions
+pub mod Ready
+pub mod Schedules
+pub mod Headline

@@ -1,0 +1,24 @@
+-- When a scan may have heard and given what a ledger says.
+use Rattle.std.specs.Prelude.{◌≡◌}
+use Rattle.std.proofs.Common.{◌∙◌, sym, inl}
+use Rattle.vx_ops.specs.Ledger.{Ledger, scan_op, Told}
+use Rattle.vx_ops.specs.Begun.{begun_whole}
+use Rattle.vx_ops.specs.Turn.{Shape}
+use Rattle.vx_ops.specs.declared.scan.Scan.{Scan}
+
+-- it gave what it heard, and stands as its input does
+pub record ScanStands (s : Scan) (l : Ledger) : Type 0 where
+  pub rows : l.gave.rows ≡ l.left.rows
+  pub over : l.gave.over ≡ s.over
+  pub input : l.left.over ≡ s.over
+
+abbrev pub scan_types : Scan → Shape
+scan_types s = record { left = s.types.items; right = s.types.items; out = s.types.items }
+
+pub scan_told : (s : Scan) (l : Ledger) → ScanStands s l → Told scan_op l
+scan_told s l h = record {
+  before = begun_whole scan_op l h.rows;
+  ended = λ e. (h.input ∙ sym h.over ∙ e, h.rows);
+  passes = λ f e. h.over ∙ sym h.input ∙ e;
+  blame = λ f e. inl (h.input ∙ sym h.over ∙ e);
+}

@@ -1,0 +1,74 @@
+//! Scans: the rows of the morsels that a worker drew.
+
+use crate::fault::Over;
+use crate::source::Source;
+use crate::turn::{Got, Polled, Want};
+use vx_rows::ColType;
+
+/// Passes on the rows of the morsels that it is given.
+#[derive(Drop)]
+pub struct Scan {
+    types: Vec<ColType>,
+    over: Over,
+}
+
+impl Scan {
+    ghost use Rattle.std.specs.Prelude.{◌≡◌};
+    ghost use Rattle.vx_ops.specs.Turn.{Shape, fresh_ledger};
+    ghost use Rattle.vx_ops.specs.Scan.{ScanStands, scan_types};
+
+    /// A scan of a relation with these types, to which nothing came.
+    pub fn new(types: Vec<ColType>) -> Scan
+        ensures stands { ScanStands result fresh_ledger }
+        ensures types { scan_types result ≡ record { left = types.items; right = types.items; out = types.items } }
+    {
+        Scan {
+            types,
+            over: Over::Running,
+        }
+    }
+}
+
+impl Source for Scan {
+    ghost use Rattle.vx_ops.specs.Ledger.{scan_op};
+    ghost use Rattle.vx_ops.specs.Turn.{while_running};
+    ghost use Rattle.vx_ops.specs.Scan.{ScanStands, scan_types};
+    ghost use Rattle.vx_ops.specs.Scan.{scan_told};
+    ghost use Rattle.vx_ops.specs.declared.turn.Want.TheVariants as want_of;
+
+    ghost Stands = { ScanStands };
+
+    ghost op = { λ _. scan_op };
+
+    ghost types = { scan_types };
+
+    ghost want = { λ s. while_running want_of.Morsel s.over };
+
+    ghost told = { scan_told };
+
+    fn wants(&self) -> Want {
+        match self.over {
+            Over::Running => Want::Morsel,
+            _ => Want::Nothing,
+        }
+    }
+
+    fn turn(&mut self, got: Got) -> Polled {
+        match self.over {
+            Over::Ended => Polled::End,
+            Over::Failed(f) => Polled::Fault(f),
+            Over::Running => match got {
+                Got::Input(Polled::End) => {
+                    self.over = Over::Ended;
+                    Polled::End
+                }
+                Got::Input(Polled::Fault(f)) => {
+                    self.over = Over::Failed(f);
+                    Polled::Fault(f)
+                }
+                Got::Input(p) => p,
+                _ => Polled::Waiting,
+            },
+        }
+    }
+}

@@ -1,0 +1,40 @@
+//! Operators that give rows turn by turn (Volcano's iterators, without hold of their inputs).
+
+use crate::turn::{Got, Polled, Want};
+
+/// An operator that does not hold its inputs: it says what it wants, and is given it.
+pub trait Source {
+    ghost use Rattle.std.specs.Prelude.{◌≡◌};
+    ghost use Rattle.vx_ops.specs.Ledger.{Ledger, Op, Told};
+    ghost use Rattle.vx_ops.specs.Turn.{Shape, Fits, IsTyped, GivesRows, after, Again};
+    ghost use Rattle.vx_ops.specs.declared.turn.Want.{Want};
+
+    // That this source may have heard and given what the ledger says.
+    ghost Stands: { Self → Ledger → Type 0 };
+
+    // What the source does.
+    ghost op: { Self → Op };
+
+    // The types of its inputs' rows and of its own.
+    ghost types: { Self → Shape };
+
+    // What the source wants next.
+    ghost want: { Self → Want };
+
+    /// What it wants before its next turn.
+    fn wants(&self) -> Want
+        ensures { result ≡ want self.now };
+
+    /// One turn, given what it wants. Want of memory is a fault.
+    fn turn(&mut self, got: Got) -> Polled
+        requires fits { Fits (want self.old) got }
+        requires typed { IsTyped (types self.old) (want self.old) got }
+        ensures stands { (l : Ledger) → Stands self.old l → Stands self.new (after l (want self.old) got result) }
+        ensures again { (l : Ledger) → Stands self.old l → Again l.gave.over result }
+        ensures gives { GivesRows (types self.old).out result }
+        ensures op { op self.new ≡ op self.old }
+        ensures types { types self.new ≡ types self.old };
+
+    // What is known of a source that stands.
+    ghost told: { (s : Self) (l : Ledger) → Stands s l → Told (op s) l };
+}

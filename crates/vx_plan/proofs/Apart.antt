@@ -1,0 +1,161 @@
+-- Lists in which nothing stands twice.
+use Rattle.std.proofs.Common.{◌≡◌, ℕ, ◌==◌, List, [], ◌∷◌, ◌++◌, Bool, true, false, not, cond, ◌&&◌, ◌||◌, Result, Ok, Err, map, bytes_eq, refl, sym, ap, ◌∙◌, true≢false, eq-eqb}
+use Rattle.std.specs.Prelude.{⊤}
+use Rattle.std.specs.List.{list_any, list_all}
+use Rattle.std.proofs.lemmas.Bool.{eqb-true}
+use Rattle.std.proofs.lemmas.Slice.Eq.{bytes_eq-Decides}
+use Rattle.vx_catalog.specs.Catalog.{are_distinct}
+use Rattle.vx_plan.specs.Typed.{are_distinct_pairs}
+use Rattle.vx_plan.specs.Document.{Name}
+use Rattle.vx_plan.specs.Fault.{Refusal, duplicate_column}
+use Rattle.vx_plan.specs.Lookup.{tested_onto, is_among, once, pair_eq, is_among_pairs, pairs_once}
+use Rattle.vx_plan.proofs.Holds.{and-left, and-right, and-both, Holds}
+
+-- no element equals a later one
+abbrev pub apart : {A : Type 0} → (A → A → Bool) → List A → Bool
+apart eq [] = true
+apart eq (x ∷ xs) = not (list_any (eq x) xs) && apart eq xs
+
+-- an equality test that goes both ways
+abbrev pub IsSymmetric : {A : Type 0} → (A → A → Bool) → Type 0
+IsSymmetric eq = (x y : _) → eq x y ≡ true → eq y x ≡ true
+
+other-false : {A : Type 0} (eq : A → A → Bool) → IsSymmetric eq → (x y : A) → eq y x ≡ false → eq x y ≡ false
+other-false eq s x y h = go (eq x y) refl
+  where
+    go : (b : Bool) → eq x y ≡ b → b ≡ false
+    go true e = absurd (true≢false (sym (s x y e) ∙ h))
+    go false e = refl
+
+not-true : (b : Bool) → not b ≡ true → b ≡ false
+not-true true h = absurd (true≢false (sym h))
+not-true false h = refl
+
+not-false : (b : Bool) → b ≡ false → not b ≡ true
+not-false true h = absurd (true≢false h)
+not-false false h = refl
+
+or-left : (a b : Bool) → (a || b) ≡ false → a ≡ false
+or-left true b h = h
+or-left false b h = refl
+
+or-right : (a b : Bool) → (a || b) ≡ false → b ≡ false
+or-right true b h = cc
+or-right false b h = h
+
+or-none : (a b : Bool) → a ≡ false → b ≡ false → (a || b) ≡ false
+or-none true b h k = h
+or-none false b h k = k
+
+any-front : {A : Type 0} (p : A → Bool) (xs : List A) (x : A) → list_any p (xs ++ x ∷ []) ≡ false → list_any p xs ≡ false
+any-front p [] x h = refl
+any-front p (y ∷ xs) x h = or-none (p y) (list_any p xs) (or-left (p y) (list_any p (xs ++ x ∷ [])) h) (any-front p xs x (or-right (p y) (list_any p (xs ++ x ∷ [])) h))
+
+any-last : {A : Type 0} (p : A → Bool) (xs : List A) (x : A) → list_any p (xs ++ x ∷ []) ≡ false → p x ≡ false
+any-last p [] x h = or-left (p x) false h
+any-last p (y ∷ xs) x h = any-last p xs x (or-right (p y) (list_any p (xs ++ x ∷ [])) h)
+
+-- none of these equals one of the front
+abbrev clear : {A : Type 0} → (A → A → Bool) → List A → List A → Bool
+clear eq front xs = list_all (λ x. not (list_any (eq x) front)) xs
+
+clear-front : {A : Type 0} (eq : A → A → Bool) (front : List A) (x : A) (ys : List A) → clear eq (front ++ x ∷ []) ys ≡ true → clear eq front ys ≡ true
+clear-front eq front x [] h = refl
+clear-front eq front x (y ∷ ys) h =
+    let first : Bool = not (list_any (eq y) (front ++ x ∷ [])) in
+    and-both (not (list_any (eq y) front)) (clear eq front ys)
+    (not-false (list_any (eq y) front) (any-front (eq y) front x (not-true (list_any (eq y) (front ++ x ∷ [])) (and-left first (clear eq (front ++ x ∷ []) ys) h))))
+    (clear-front eq front x ys (and-right first (clear eq (front ++ x ∷ []) ys) h))
+
+clear-last : {A : Type 0} (eq : A → A → Bool) → IsSymmetric eq → (front : List A) (x : A) (ys : List A) → clear eq (front ++ x ∷ []) ys ≡ true → list_any (eq x) ys ≡ false
+clear-last eq s front x [] h = refl
+clear-last eq s front x (y ∷ ys) h =
+    let first : Bool = not (list_any (eq y) (front ++ x ∷ [])) in
+    or-none (eq x y) (list_any (eq x) ys)
+    (other-false eq s x y (any-last (eq y) front x (not-true (list_any (eq y) (front ++ x ∷ [])) (and-left first (clear eq (front ++ x ∷ []) ys) h))))
+    (clear-last eq s front x ys (and-right first (clear eq (front ++ x ∷ []) ys) h))
+
+tested-apart : {A : Type 0} (eq : A → A → Bool) (refusal : A → Refusal) → IsSymmetric eq → (xs front : List A) → tested_onto (λ front x. list_any (eq x) front) refusal front xs ≡ Ok tt
+    → (clear eq front xs ≡ true) × (apart eq xs ≡ true)
+unfolding tested_onto
+tested-apart eq refusal s [] front h = (refl, refl)
+tested-apart eq refusal s (x ∷ xs) front h = go (list_any (eq x) front) refl (tested-apart eq refusal s xs (front ++ x ∷ [])) h
+  where
+    go : (b : Bool) → list_any (eq x) front ≡ b → (tested_onto (λ front x. list_any (eq x) front) refusal (front ++ x ∷ []) xs ≡ Ok tt → (clear eq (front ++ x ∷ []) xs ≡ true) × (apart eq xs ≡ true))
+        → cond b (Err (refusal x)) (tested_onto (λ front x. list_any (eq x) front) refusal (front ++ x ∷ []) xs) ≡ Ok tt → (clear eq front (x ∷ xs) ≡ true) × (apart eq (x ∷ xs) ≡ true)
+    go true e next k = cc
+    go false e next k =
+        let r = next k in (
+          and-both (not (list_any (eq x) front)) (clear eq front xs) (not-false (list_any (eq x) front) e) (clear-front eq front x xs r.0),
+          and-both (not (list_any (eq x) xs)) (apart eq xs) (not-false (list_any (eq x) xs) (clear-last eq s front x xs r.0)) r.1,
+        )
+
+holds_tested : {A : Type 0} (eq : A → A → Bool) (refusal : A → Refusal) → IsSymmetric eq → (xs : List A) (r : Result ⊤ Refusal) → tested_onto (λ front x. list_any (eq x) front) refusal [] xs ≡ r → Holds (λ (u : ⊤). apart eq xs ≡ true) r
+holds_tested eq refusal s xs (Ok u) h = (tested-apart eq refusal s xs [] h).1
+holds_tested eq refusal s xs (Err e) h = tt
+
+bytes_eq-symmetric : IsSymmetric bytes_eq
+bytes_eq-symmetric x y h = (bytes_eq-Decides y x).1 (sym ((bytes_eq-Decides x y).0 h))
+
+pair_eq-symmetric : IsSymmetric pair_eq
+pair_eq-symmetric p q h =
+    and-both (bytes_eq q.0 p.0) (bytes_eq q.1 p.1) (bytes_eq-symmetric p.0 q.0 (and-left (bytes_eq p.0 q.0) (bytes_eq p.1 q.1) h)) (bytes_eq-symmetric p.1 q.1 (and-right (bytes_eq p.0 q.0) (bytes_eq p.1 q.1) h))
+
+pub once-apart : (node : ℕ) (names : List Name) → Holds (λ (u : ⊤). apart bytes_eq names ≡ true) (once node names)
+unfolding once
+once-apart node names = holds_tested bytes_eq (duplicate_column node) bytes_eq-symmetric names (tested_onto is_among (duplicate_column node) [] names) refl
+
+pub pairs_once-apart : (node : ℕ) (pairs : List (Name × Name)) → Holds (λ (u : ⊤). apart pair_eq pairs ≡ true) (pairs_once node pairs)
+unfolding pairs_once
+pairs_once-apart node pairs = holds_tested pair_eq (λ (p : Name × Name). duplicate_column node p.0) pair_eq-symmetric pairs (tested_onto is_among_pairs (λ (p : Name × Name). duplicate_column node p.0) [] pairs) refl
+
+-- what is equal stays equal under f
+any-map : {A B : Type 0} (eq : A → A → Bool) (same : B → B → Bool) (f : A → B) → ((x y : A) → eq x y ≡ true → same (f x) (f y) ≡ true) → (x : A) (ys : List A) → list_any (same (f x)) (map f ys) ≡ false → list_any (eq x) ys ≡ false
+any-map eq same f keeps x [] h = refl
+any-map eq same f keeps x (y ∷ ys) h =
+    or-none (eq x y) (list_any (eq x) ys) (go (eq x y) refl) (any-map eq same f keeps x ys (or-right (same (f x) (f y)) (list_any (same (f x)) (map f ys)) h))
+  where
+    go : (b : Bool) → eq x y ≡ b → b ≡ false
+    go true e = absurd (true≢false (sym (keeps x y e) ∙ or-left (same (f x) (f y)) (list_any (same (f x)) (map f ys)) h))
+    go false e = refl
+
+pub apart-map : {A B : Type 0} (eq : A → A → Bool) (same : B → B → Bool) (f : A → B) → ((x y : A) → eq x y ≡ true → same (f x) (f y) ≡ true) → (xs : List A) → apart same (map f xs) ≡ true → apart eq xs ≡ true
+apart-map eq same f keeps [] h = refl
+apart-map eq same f keeps (x ∷ xs) h =
+    let first : Bool = not (list_any (same (f x)) (map f xs)) in
+    and-both (not (list_any (eq x) xs)) (apart eq xs)
+    (not-false (list_any (eq x) xs) (any-map eq same f keeps x xs (not-true (list_any (same (f x)) (map f xs)) (and-left first (apart same (map f xs)) h))))
+    (apart-map eq same f keeps xs (and-right first (apart same (map f xs)) h))
+
+apart-distinct : (xs : List ℕ) → apart (λ (x y : ℕ). x == y) xs ≡ are_distinct xs
+apart-distinct [] = refl
+apart-distinct (x ∷ xs) = ap (λ b. not (list_any (λ y. x == y) xs) && b) (apart-distinct xs)
+
+-- columns of names that are apart are apart
+pub distinct-columns : (f : ℕ → Name) (xs : List ℕ) → apart bytes_eq (map f xs) ≡ true → are_distinct xs ≡ true
+distinct-columns f xs h =
+    sym (apart-distinct xs) ∙ apart-map (λ (x y : ℕ). x == y) bytes_eq f (λ x y e. (bytes_eq-Decides (f x) (f y)).1 (ap f (eqb-true x y e))) xs h
+
+apart-pairs : (xs : List (ℕ × ℕ)) → apart (λ (x y : ℕ × ℕ). (x.0 == y.0) && (x.1 == y.1)) xs ≡ are_distinct_pairs xs
+apart-pairs [] = refl
+apart-pairs (x ∷ xs) = ap (λ b. not (list_any (λ y. (x.0 == y.0) && (x.1 == y.1)) xs) && b) (apart-pairs xs)
+
+pub distinct-pairs : (f g : ℕ → Name) (xs : List (ℕ × ℕ)) → apart pair_eq (map (λ p. (f p.0, g p.1)) xs) ≡ true → are_distinct_pairs xs ≡ true
+distinct-pairs f g xs h =
+    sym (apart-pairs xs) ∙ apart-map (λ (x y : ℕ × ℕ). (x.0 == y.0) && (x.1 == y.1)) pair_eq (λ p. (f p.0, g p.1))
+    (λ x y e. and-both (bytes_eq (f x.0) (f y.0)) (bytes_eq (g x.1) (g y.1))
+    ((bytes_eq-Decides (f x.0) (f y.0)).1 (ap f (eqb-true x.0 y.0 (and-left (x.0 == y.0) (x.1 == y.1) e))))
+    ((bytes_eq-Decides (g x.1) (g y.1)).1 (ap g (eqb-true x.1 y.1 (and-right (x.0 == y.0) (x.1 == y.1) e))))) xs h
+
+-- the front of what is apart is apart
+pub apart-front : {A : Type 0} (eq : A → A → Bool) (xs ys : List A) → apart eq (xs ++ ys) ≡ true → apart eq xs ≡ true
+apart-front eq [] ys h = refl
+apart-front eq (x ∷ xs) ys h =
+    let first : Bool = not (list_any (eq x) (xs ++ ys)) in
+    and-both (not (list_any (eq x) xs)) (apart eq xs)
+    (not-false (list_any (eq x) xs) (any-before (eq x) xs ys (not-true (list_any (eq x) (xs ++ ys)) (and-left first (apart eq (xs ++ ys)) h))))
+    (apart-front eq xs ys (and-right first (apart eq (xs ++ ys)) h))
+  where
+    any-before : {A : Type 0} (p : A → Bool) (xs ys : List A) → list_any p (xs ++ ys) ≡ false → list_any p xs ≡ false
+    any-before p [] ys h = refl
+    any-before p (x ∷ xs) ys h = or-none (p x) (list_any p xs) (or-left (p x) (list_any p (xs ++ ys)) h) (any-before p xs ys (or-right (p x) (list_any p (xs ++ ys)) h))

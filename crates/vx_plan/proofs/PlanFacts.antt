@@ -1,0 +1,238 @@
+-- A plan that was resolved is typed, and its nodes are numbered in preorder.
+use Rattle.std.proofs.Common.{◌≡◌, ℕ, zero, suc, ◌+◌, ◌<◌, ◌≤◌, ◌==◌, nat_lt, nat_le, not, ◌||◌, List, [], ◌∷◌, ◌++◌, Bool, true, false, cond, ◌&&◌, Option, Some, None, Result, Ok, Err, map, length, position, bytes_eq, refl, sym, ap, ◌∙◌, subst, arith, eq-eqb, lt-ltb}
+use Rattle.std.specs.Prelude.{⊤}
+use Rattle.std.specs.List.{list_all, list_any}
+use Rattle.std.proofs.lemmas.List.{length-map, length_push}
+use Rattle.std.proofs.lemmas.Bool.{leb-false, le-leb}
+use Rattle.std.proofs.lemmas.List.Quantifiers.{position-Some}
+use Rattle.vx_rows.specs.declared.value.ColType.{ColType}
+use Rattle.vx_catalog.specs.Relation.{Relation}
+use Rattle.vx_catalog.specs.Catalog.{relation_at, IsRelation, IsCatalog}
+use Rattle.vx_plan.specs.Plan.{Plan, Size, Kind}
+use Rattle.vx_plan.specs.Plan as plan
+use Rattle.vx_plan.specs.Types.{types_of, unary_types, binary_types}
+use Rattle.vx_plan.specs.Typed.{Scope, is_size, is_unary, is_binary, is_kind, is_claim, is_output, is_range, are_columns, typed, IsTyped}
+use Rattle.vx_plan.specs.Numbering.{nodes, is_numbered}
+use Rattle.vx_plan.specs.Document.{Name, ClaimForm, ScanForm, UnaryForm, BinaryForm, KindForm, Tree, Document, RangeForm}
+use Rattle.vx_plan.specs.Document as form
+use Rattle.vx_plan.specs.Outline.{Columns, Top, Outline, scan, unary, binary, exchange, columns, plan_in}
+use Rattle.vx_plan.specs.Fault.{Refusal, bad_size, bad_range, ◌>>=◌}
+use Rattle.vx_plan.specs.Lookup.{Names, scope_of, tested_onto, size_found}
+use Rattle.vx_plan.specs.Resolve.{scan_columns, relation_or, relation_found, scan_typed, topped, Shape, unary_shape, unary_typed, Joint, binary_shape, binary_typed, exchange_shape, exchange_typed, typed_in, is_bad_size, sizes_tested, is_bad_range, ranges_tested}
+use Rattle.vx_plan.specs.Formed.{are_names, is_claim_form, is_scan_form, is_unary_form, is_binary_form, is_kind_form, is_tree_form}
+use Rattle.vx_plan.proofs.Holds.{and-left, and-right, and-both, Holds, holds_then, holds_at}
+use Rattle.vx_plan.proofs.ClaimFacts.{size-holds, IsTop, top-holds}
+use Rattle.vx_plan.proofs.ShapeFacts.{IsOutput, IsShape, shape-holds, IsJoint, joint-holds, IsExchange, exchange-holds}
+
+-- an outline that was resolved: typed, with the columns that it says, and numbered from n up to the next
+pub record IsResolved (s : Names) (n : ℕ) (o : Outline) (next : ℕ) : Type 0 where
+  pub output : IsOutput (types_of (relation_at s.catalog) (plan_in o)) (columns o)
+  pub typed : typed (scope_of s) (plan_in o) ≡ true
+  pub numbered : is_numbered n (plan_in o) ≡ true
+  pub count : next ≡ n + nodes (plan_in o)
+
+-- an output is one of its own types
+own-output : {types : List ColType} {cols : Columns} → IsOutput types cols → IsOutput cols.types cols
+own-output out = record { types_are = refl; names_are = out.names_are; few = out.few }
+
+-- the claim of a top that was found is one on these types
+top-output : (s : Names) (node : ℕ) (types : List ColType) (cols : Columns) (h : Top) → IsOutput types cols → IsTop s node cols h → is_output (scope_of s) types h.claim ≡ true
+top-output s node types cols h out t =
+    let P : List ColType → Type 0 = λ ts. is_output (scope_of s) ts h.claim ≡ true in
+    subst P out.types_are (and-both (nat_le (length cols.types) 64) (is_claim (scope_of s) cols.types h.claim) out.few t.claim)
+
+top-columns : (s : Names) (node : ℕ) (types : List ColType) (cols : Columns) (h : Top) → IsOutput types cols → IsTop s node cols h → IsOutput types h.columns
+top-columns s node types cols h out t = let P : Columns → Type 0 = λ c. IsOutput types c in subst P (sym t.columns) out
+
+relation_or-holds : (catalog : List Relation) (node : ℕ) (name : Name) (o : Option ℕ) → position (λ (r : Relation). bytes_eq name r.name) catalog ≡ o → Holds (λ r. nat_lt r (length catalog) ≡ true) (relation_or node name o)
+relation_or-holds catalog node name None h = tt
+relation_or-holds catalog node name (Some r) h = lt-ltb r (length catalog) (position-Some (λ (r : Relation). bytes_eq name r.name) catalog r (relation_at catalog r) h).0
+
+relation-holds : (s : Names) (node : ℕ) (name : Name) → Holds (λ r. nat_lt r (length s.catalog) ≡ true) (relation_found s node name)
+unfolding relation_found
+relation-holds s node name = relation_or-holds s.catalog node name (position (λ (r : Relation). bytes_eq name r.name) s.catalog) refl
+
+scan-output : (r : Relation) (prefix : List ℕ) → IsRelation r → IsOutput r.types (scan_columns r prefix)
+scan-output r prefix h =
+    let P : ℕ → Type 0 = λ n. nat_le n 64 ≡ true in
+    record {
+      types_are = refl;
+      names_are = length-map r.names (λ n. prefix ++ n) ∙ sym h.typed;
+      few = subst P (sym h.typed) (and-right (nat_lt 0 (length r.names)) (nat_le (length r.names) 64) h.columns);
+    }
+
+scan-holds : (s : Names) (n : ℕ) (c : ClaimForm) (f : ScanForm) → IsCatalog s.catalog → is_claim_form c ≡ true → Holds (λ o. IsResolved s n o (n + 1)) (scan_typed s n c f)
+unfolding scan_typed
+scan-holds s n c f cat h =
+    holds_then (λ r. nat_lt r (length s.catalog) ≡ true) (λ o. IsResolved s n o (n + 1))
+    (λ r. size_found s f.size >>= λ z. topped s n (scan_columns (relation_at s.catalog r) f.prefix) c >>= λ t. Ok (scan t r f.shared z f.prefix)) (relation_found s n f.relation) (relation-holds s n f.relation)
+    (λ r hr.
+    let out = scan-output (relation_at s.catalog r) f.prefix (cat.each r hr) in
+    holds_then (λ z. is_size (length s.sizes) z ≡ true) (λ o. IsResolved s n o (n + 1)) (λ z. topped s n (scan_columns (relation_at s.catalog r) f.prefix) c >>= λ t. Ok (scan t r f.shared z f.prefix)) (size_found s f.size) (size-holds s f.size)
+    (λ z hz. holds_then (IsTop s n (scan_columns (relation_at s.catalog r) f.prefix)) (λ o. IsResolved s n o (n + 1)) (λ t. Ok (scan t r f.shared z f.prefix)) (topped s n (scan_columns (relation_at s.catalog r) f.prefix) c)
+    (top-holds s n (scan_columns (relation_at s.catalog r) f.prefix) c out.names_are h)
+    (λ t ht. record {
+      output = top-columns s n (relation_at s.catalog r).types (scan_columns (relation_at s.catalog r) f.prefix) t out ht;
+      typed = and-both (nat_lt r (length s.catalog)) (is_size (length s.sizes) z && is_output (scope_of s) (relation_at s.catalog r).types t.claim) hr
+          (and-both (is_size (length s.sizes) z) (is_output (scope_of s) (relation_at s.catalog r).types t.claim) hz (top-output s n (relation_at s.catalog r).types (scan_columns (relation_at s.catalog r) f.prefix) t out ht));
+      numbered = eq-eqb t.number n ht.number;
+      count = refl;
+    })))
+
+unary-holds : (s : Names) (n : ℕ) (c : ClaimForm) (op : UnaryForm) (i : Outline) (next : ℕ) → is_claim_form c ≡ true → is_unary_form op ≡ true → IsResolved s (n + 1) i next → Holds (λ o. IsResolved s n o next) (unary_typed s n c op i)
+unfolding unary_typed
+unary-holds s n c op i next hc ho hi =
+    let ts : List ColType = types_of (relation_at s.catalog) (plan_in i) in
+    holds_then (IsShape (columns i)) (λ o. IsResolved s n o next) (λ o. topped s n o.columns c >>= λ h. Ok (unary h o.op o.renamed i)) (unary_shape n (columns i) op) (shape-holds n (columns i) op (own-output hi.output) ho)
+    (λ o sh.
+    let P : List ColType → Type 0 = λ us. IsOutput (unary_types o.op us) o.columns in
+    let Q : List ColType → Type 0 = λ us. is_unary us o.op ≡ true in
+    let out : IsOutput (unary_types o.op ts) o.columns = subst P hi.output.types_are sh.output in
+    holds_then (IsTop s n o.columns) (λ o. IsResolved s n o next) (λ h. Ok (unary h o.op o.renamed i)) (topped s n o.columns c) (top-holds s n o.columns c out.names_are hc)
+    (λ t ht.
+    let R : ℕ → Type 0 = λ k. is_numbered k (plan_in i) ≡ true in
+    record {
+      output = top-columns s n (unary_types o.op ts) o.columns t out ht;
+      typed = and-both (typed (scope_of s) (plan_in i)) (is_unary ts o.op && is_output (scope_of s) (unary_types o.op ts) t.claim) hi.typed
+          (and-both (is_unary ts o.op) (is_output (scope_of s) (unary_types o.op ts) t.claim) (subst Q hi.output.types_are sh.op) (top-output s n (unary_types o.op ts) o.columns t out ht));
+      numbered = and-both (t.number == n) (is_numbered (suc n) (plan_in i)) (eq-eqb t.number n ht.number) (let up : n + 1 ≡ suc n = omega arith in subst R up hi.numbered);
+      count = omega (arith, hi.count);
+    }))
+
+binary-holds : (s : Names) (n : ℕ) (c : ClaimForm) (op : BinaryForm) (l r : Outline) (between next : ℕ) → is_claim_form c ≡ true → is_binary_form op ≡ true → IsResolved s (n + 1) l between → IsResolved s between r next
+    → Holds (λ o. IsResolved s n o next) (binary_typed s n c op l r)
+unfolding binary_typed
+binary-holds s n c op l r between next hc ho hl hr =
+    let ts : List ColType = types_of (relation_at s.catalog) (plan_in l) in
+    let us : List ColType = types_of (relation_at s.catalog) (plan_in r) in
+    holds_then (IsJoint (columns l) (columns r)) (λ o. IsResolved s n o next) (λ o. topped s n o.columns c >>= λ h. Ok (binary h o.op l r)) (binary_shape n (columns l) (columns r) op)
+    (joint-holds n (columns l) (columns r) op (own-output hl.output) (own-output hr.output) ho)
+    (λ o j.
+    let out : IsOutput (binary_types o.op ts us) o.columns =
+    (let P : List ColType → Type 0 = λ xs. IsOutput (binary_types o.op xs us) o.columns in
+    let P' : List ColType → Type 0 = λ xs. IsOutput (binary_types o.op (columns l).types xs) o.columns in
+    subst P hl.output.types_are (subst P' hr.output.types_are j.output)) in
+    let typed_op : is_binary ts us o.op ≡ true =
+    (let Q : List ColType → Type 0 = λ xs. is_binary xs us o.op ≡ true in
+    let Q' : List ColType → Type 0 = λ xs. is_binary (columns l).types xs o.op ≡ true in
+    subst Q hl.output.types_are (subst Q' hr.output.types_are j.op)) in
+    holds_then (IsTop s n o.columns) (λ o. IsResolved s n o next) (λ h. Ok (binary h o.op l r)) (topped s n o.columns c) (top-holds s n o.columns c out.names_are hc)
+    (λ t ht.
+    let R : ℕ → Type 0 = λ k. is_numbered k (plan_in l) ≡ true in
+    let S : ℕ → Type 0 = λ k. is_numbered k (plan_in r) ≡ true in
+    let last : Bool = is_output (scope_of s) (binary_types o.op ts us) t.claim in
+    record {
+      output = top-columns s n (binary_types o.op ts us) o.columns t out ht;
+      typed = and-both (typed (scope_of s) (plan_in l)) (typed (scope_of s) (plan_in r) && (is_binary ts us o.op && last)) hl.typed
+          (and-both (typed (scope_of s) (plan_in r)) (is_binary ts us o.op && last) hr.typed (and-both (is_binary ts us o.op) last typed_op (top-output s n (binary_types o.op ts us) o.columns t out ht)));
+      numbered = and-both (t.number == n) (is_numbered (suc n) (plan_in l) && is_numbered (suc n + nodes (plan_in l)) (plan_in r)) (eq-eqb t.number n ht.number)
+          (and-both (is_numbered (suc n) (plan_in l)) (is_numbered (suc n + nodes (plan_in l)) (plan_in r)) (let up : n + 1 ≡ suc n = omega arith in subst R up hl.numbered)
+          (let at : between ≡ suc n + nodes (plan_in l) = omega (arith, hl.count) in subst S at hr.numbered));
+      count = omega (arith, hl.count, hr.count);
+    }))
+
+exchanged-holds : (s : Names) (n : ℕ) (c : ClaimForm) (kind : KindForm) (merge : List Name) (i : Outline) (next : ℕ) → is_claim_form c ≡ true → is_kind_form kind ≡ true → IsResolved s (n + 1) i next
+    → Holds (λ o. IsResolved s n o next) (exchange_typed s n c kind merge i)
+unfolding exchange_typed
+exchanged-holds s n c kind merge i next hc hk hi =
+    let ts : List ColType = types_of (relation_at s.catalog) (plan_in i) in
+    holds_then (IsExchange s (columns i).types) (λ o. IsResolved s n o next) (λ k. topped s n (columns i) c >>= λ h. Ok (exchange h k.0 k.1 i)) (exchange_shape s n (columns i) kind merge) (exchange-holds s n (columns i) kind merge (own-output hi.output) hk)
+    (λ x hx. holds_then (IsTop s n (columns i)) (λ o. IsResolved s n o next) (λ h. Ok (exchange h x.0 x.1 i)) (topped s n (columns i) c) (top-holds s n (columns i) c hi.output.names_are hc)
+    (λ t ht.
+    let P : List ColType → Type 0 = λ us. is_kind (scope_of s) us x.0 ≡ true in
+    let Q : List ColType → Type 0 = λ us. are_columns (length us) x.1 ≡ true in
+    let R : ℕ → Type 0 = λ k. is_numbered k (plan_in i) ≡ true in
+    let last : Bool = is_output (scope_of s) ts t.claim in
+    record {
+      output = top-columns s n ts (columns i) t hi.output ht;
+      typed = and-both (typed (scope_of s) (plan_in i)) (is_kind (scope_of s) ts x.0 && (are_columns (length ts) x.1 && last)) hi.typed
+          (and-both (is_kind (scope_of s) ts x.0) (are_columns (length ts) x.1 && last) (subst P hi.output.types_are hx.kind)
+          (and-both (are_columns (length ts) x.1) last (subst Q hi.output.types_are hx.merge) (top-output s n ts (columns i) t hi.output ht)));
+      numbered = and-both (t.number == n) (is_numbered (suc n) (plan_in i)) (eq-eqb t.number n ht.number) (let up : n + 1 ≡ suc n = omega arith in subst R up hi.numbered);
+      count = omega (arith, hi.count);
+    }))
+
+Resolves : Names → ℕ → Outline × ℕ → Type 0
+Resolves s n r = IsResolved s n r.0 r.1
+
+-- a node that has its inputs
+with-next : (s : Names) (n next : ℕ) (r : Result Outline Refusal) → Holds (λ o. IsResolved s n o next) r → Holds (Resolves s n) (r >>= λ o. Ok (o, next))
+unfolding Resolves
+with-next s n next (Ok o) h = h
+with-next s n next (Err e) h = tt
+
+pub tree-holds : (s : Names) (n : ℕ) (t : Tree) → IsCatalog s.catalog → is_tree_form t ≡ true → Holds (λ (r : Outline × ℕ). IsResolved s n r.0 r.1) (typed_in s n t)
+unfolding typed_in Resolves
+tree-holds s n (form.scan c f) cat h = with-next s n (n + 1) (scan_typed s n c f) (scan-holds s n c f cat (and-left (is_claim_form c) (is_scan_form f) h))
+tree-holds s n (form.unary c op t) cat h =
+    let rest = and-right (is_claim_form c) (is_unary_form op && is_tree_form t) h in
+    holds_then (Resolves s (n + 1)) (Resolves s n) (λ i. unary_typed s n c op i.0 >>= λ o. Ok (o, i.1)) (typed_in s (n + 1) t) (tree-holds s (n + 1) t cat (and-right (is_unary_form op) (is_tree_form t) rest))
+    (λ i hi. with-next s n i.1 (unary_typed s n c op i.0) (unary-holds s n c op i.0 i.1 (and-left (is_claim_form c) (is_unary_form op && is_tree_form t) h) (and-left (is_unary_form op) (is_tree_form t) rest) hi))
+tree-holds s n (form.binary c op t u) cat h =
+    let rest = and-right (is_claim_form c) (is_binary_form op && (is_tree_form t && is_tree_form u)) h in
+    let both = and-right (is_binary_form op) (is_tree_form t && is_tree_form u) rest in
+    holds_then (Resolves s (n + 1)) (Resolves s n) (λ l. typed_in s l.1 u >>= λ r. binary_typed s n c op l.0 r.0 >>= λ o. Ok (o, r.1)) (typed_in s (n + 1) t) (tree-holds s (n + 1) t cat (and-left (is_tree_form t) (is_tree_form u) both))
+    (λ l hl. holds_then (Resolves s l.1) (Resolves s n) (λ r. binary_typed s n c op l.0 r.0 >>= λ o. Ok (o, r.1)) (typed_in s l.1 u) (tree-holds s l.1 u cat (and-right (is_tree_form t) (is_tree_form u) both))
+    (λ r hr. with-next s n r.1 (binary_typed s n c op l.0 r.0)
+    (binary-holds s n c op l.0 r.0 l.1 r.1 (and-left (is_claim_form c) (is_binary_form op && (is_tree_form t && is_tree_form u)) h) (and-left (is_binary_form op) (is_tree_form t && is_tree_form u) rest) hl hr)))
+tree-holds s n (form.exchange c k m t) cat h =
+    let rest = and-right (is_claim_form c) (is_kind_form k && (are_names m && is_tree_form t)) h in
+    let last = and-right (is_kind_form k) (are_names m && is_tree_form t) rest in
+    holds_then (Resolves s (n + 1)) (Resolves s n) (λ i. exchange_typed s n c k m i.0 >>= λ o. Ok (o, i.1)) (typed_in s (n + 1) t) (tree-holds s (n + 1) t cat (and-right (are_names m) (is_tree_form t) last))
+    (λ i hi. with-next s n i.1 (exchange_typed s n c k m i.0) (exchanged-holds s n c k m i.0 i.1 (and-left (is_claim_form c) (is_kind_form k && (are_names m && is_tree_form t)) h) (and-left (is_kind_form k) (are_names m && is_tree_form t) rest) hi))
+
+or-left : (a b : Bool) → (a || b) ≡ false → a ≡ false
+or-left true b h = h
+or-left false b h = refl
+
+or-right : (a b : Bool) → (a || b) ≡ false → b ≡ false
+or-right true b h = cc
+or-right false b h = h
+
+not-not : (b : Bool) → not b ≡ false → b ≡ true
+not-not true h = refl
+not-not false h = cc
+
+-- at most 16 size names
+sizes-few : (names front : List Name) → length front ≤ 16 → tested_onto is_bad_size bad_size front names ≡ Ok tt → length front + length names ≤ 16
+unfolding tested_onto
+sizes-few [] front few h = omega (arith, few)
+sizes-few (x ∷ xs) front few h = go (is_bad_size front x) refl (λ e k. sizes-few xs (front ++ x ∷ []) e k) h
+  where
+    go : (b : Bool) → is_bad_size front x ≡ b → (length (front ++ x ∷ []) ≤ 16 → tested_onto is_bad_size bad_size (front ++ x ∷ []) xs ≡ Ok tt → length (front ++ x ∷ []) + length xs ≤ 16)
+        → cond b (Err (bad_size x)) (tested_onto is_bad_size bad_size (front ++ x ∷ []) xs) ≡ Ok tt → length front + suc (length xs) ≤ 16
+    go true e next k = cc
+    go false e next k =
+        let room = leb-false 16 (length front) (or-left (nat_le 16 (length front)) _ e) in
+        let n = length_push front x in
+        let m = next (omega (arith, n, room)) k in
+        omega (arith, n, m)
+
+-- every range is one
+ranges-are : (ranges front : List RangeForm) → tested_onto is_bad_range (λ (r : RangeForm). bad_range r.name) front ranges ≡ Ok tt → list_all is_range (map (λ (r : RangeForm). r.bounds) ranges) ≡ true
+unfolding tested_onto
+ranges-are [] front h = refl
+ranges-are (r ∷ rs) front h = go (is_bad_range front r) refl (ranges-are rs (front ++ r ∷ [])) h
+  where
+    go : (b : Bool) → is_bad_range front r ≡ b → (tested_onto is_bad_range (λ (r : RangeForm). bad_range r.name) (front ++ r ∷ []) rs ≡ Ok tt → list_all is_range (map (λ (r : RangeForm). r.bounds) rs) ≡ true)
+        → cond b (Err (bad_range r.name)) (tested_onto is_bad_range (λ (r : RangeForm). bad_range r.name) (front ++ r ∷ []) rs) ≡ Ok tt → (is_range r.bounds && list_all is_range (map (λ (r : RangeForm). r.bounds) rs)) ≡ true
+    go true e next k = cc
+    go false e next k =
+        and-both (is_range r.bounds) (list_all is_range (map (λ (r : RangeForm). r.bounds) rs))
+        (not-not (is_range r.bounds) (or-right (list_any (λ (q : RangeForm). bytes_eq r.name q.name) front) (not (is_range r.bounds)) e)) (next k)
+
+-- what was resolved is typed
+pub resolved-typed : (s : Names) (t : Tree) (o : Outline) (next : ℕ) → IsCatalog s.catalog → is_tree_form t ≡ true → sizes_tested s.sizes ≡ Ok tt → ranges_tested s.ranges ≡ Ok tt → typed_in s 0 t ≡ Ok (o, next)
+    → IsTyped (scope_of s) (plan_in o) × (next ≡ nodes (plan_in o))
+unfolding sizes_tested ranges_tested
+resolved-typed s t o next cat formed sizes ranges h =
+    let r = holds_at (λ (r : Outline × ℕ). IsResolved s 0 r.0 r.1) (typed_in s 0 t) (o, next) (tree-holds s 0 t cat formed) h in
+    let few : length s.sizes ≤ 16 = (let f = sizes-few s.sizes [] (omega arith) sizes in omega (arith, f)) in (
+      record {
+        ranges = ranges-are s.ranges [] ranges;
+        sizes = le-leb (length s.sizes) 16 few;
+        nodes = r.typed;
+        numbered = r.numbered;
+      },
+      omega (arith, r.count),
+    )

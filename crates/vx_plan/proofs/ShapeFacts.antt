@@ -1,0 +1,324 @@
+-- Operators that were found are typed, and give the columns that they say.
+use Rattle.std.proofs.Common.{◌≡◌, ℕ, suc, ◌+◌, ◌==◌, nat_lt, nat_le, List, [], ◌∷◌, ◌++◌, Bool, true, false, cond, ◌&&◌, ◌||◌, Option, Some, None, is_some, Result, Ok, Err, map, length, bytes_eq, refl, sym, ap, ◌∙◌, subst, length-append}
+use Rattle.std.specs.Prelude.{⊤}
+use Rattle.std.specs.List.{list_all}
+use Rattle.std.proofs.lemmas.List.{length-map, length_push}
+use Rattle.vx_rows.specs.declared.value.ColType.{ColType}
+use Rattle.vx_rows.specs.Types.{type_at}
+use Rattle.vx_catalog.specs.Catalog.{all_below}
+use Rattle.vx_plan.specs.declared.typed.Kept.{Kept}
+use Rattle.vx_plan.specs.Plan.{Aggregate, Unary, Condition, Kind, route_to, by_hash, by_range}
+use Rattle.vx_plan.specs.Plan as plan
+use Rattle.vx_plan.specs.Types.{unary_types, binary_types, aggregate_type}
+use Rattle.vx_plan.specs.Typed.{is_some_list, are_columns, is_condition, is_aggregate, is_unary, is_pair, are_distinct_pairs, is_binary, types_eq, is_kind, is_size, is_routed, range_type, bounds_at, type_eq}
+use Rattle.vx_plan.specs.Document.{Name, ConditionForm, OutputForm, AggregateForm, UnaryForm, BinaryForm, KindForm}
+use Rattle.vx_plan.specs.Document as form
+use Rattle.vx_plan.specs.Outline.{Columns}
+use Rattle.vx_plan.specs.Fault.{Refusal, ◌>>=◌}
+use Rattle.vx_plan.specs.Lookup.{Names, scope_of, walk_onto, column_found, columns_found, once, pairs_once, pair_eq, matched, narrow, size_found, range_found}
+use Rattle.vx_plan.specs.Resolve.{condition_found, conditions_found, select_shape, Shape, output_name, kept_found, all_kept_found, kept_shape, kept_columns, project_shape, distinct_shape, sort_shape, function_found, aggregates_found, group_found, group_tested, group_columns, group_shape, unary_shape, pair_found, pairs_found, join_tested, join_pairs, both_columns, Joint, binary_shape, kind_found, kind_names, kind_fits, exchange_columns, exchange_once, exchange_shape}
+use Rattle.vx_plan.specs.Formed.{are_names, are_some_names, is_condition_form, is_output_form, is_aggregate_form, is_unary_form, is_pair_form, is_binary_form, is_kind_form}
+use Rattle.vx_plan.proofs.Holds.{and-left, and-right, and-both, all_push, Holds, holds_then}
+use Rattle.vx_plan.proofs.Apart.{apart, apart-front, once-apart, pairs_once-apart, distinct-pairs}
+use Rattle.vx_plan.proofs.FoundFacts.{name_of, AreColumns, IsColumn, column-found, columns-found, walk-holds, walk-length, once-columns, some-columns}
+use Rattle.vx_plan.proofs.ClaimFacts.{matched-holds, narrow-holds, size-holds, range-holds, hash-routed, range-routed}
+
+some-alike : {A B : Type 0} (xs : List A) (ys : List B) → length xs ≡ length ys → is_some_list xs ≡ is_some_list ys
+some-alike [] [] e = refl
+some-alike [] (y ∷ ys) e = cc
+some-alike (x ∷ xs) [] e = cc
+some-alike (x ∷ xs) (y ∷ ys) e = refl
+
+-- as wide as the types say, and at most 64 columns
+pub record IsOutput (types : List ColType) (cols : Columns) : Type 0 where
+  pub types_are : cols.types ≡ types
+  pub names_are : length cols.names ≡ length cols.types
+  pub few : nat_le (length cols.types) 64 ≡ true
+
+pub record IsShape (cols : Columns) (o : Shape) : Type 0 where
+  pub op : is_unary cols.types o.op ≡ true
+  pub output : IsOutput (unary_types o.op cols.types) o.columns
+
+select-holds : (node : ℕ) (cols : Columns) (cs : List ConditionForm) → IsOutput cols.types cols → is_some_list cs ≡ true → Holds (IsShape cols) (select_shape node cols cs)
+unfolding select_shape conditions_found
+select-holds node cols cs out h =
+    holds_then (λ (ks : List Condition). length ks ≡ length cs) (IsShape cols) (λ ks. matched node (list_all (is_condition cols.types) ks) >>= λ u. Ok (record { op = plan.select ks; renamed = []; columns = cols }))
+    (walk_onto (condition_found node cols.names) [] cs) (walk-length (condition_found node cols.names) cs)
+    (λ ks l. holds_then (λ (u : ⊤). list_all (is_condition cols.types) ks ≡ true) (IsShape cols) (λ u. Ok (record { op = plan.select ks; renamed = []; columns = cols })) (matched node (list_all (is_condition cols.types) ks)) (matched-holds node (list_all (is_condition cols.types) ks))
+    (λ u m. record { op = and-both (is_some_list ks) (list_all (is_condition cols.types) ks) (some-alike ks cs l ∙ h) m; output = out }))
+
+record AreKept (names : List Name) (os : List OutputForm) (ks : List Kept) : Type 0 where
+  below : all_below (length names) (map (λ (k : Kept). k.column) ks) ≡ true
+  count : length ks ≡ length os
+
+map-push : {A B : Type 0} (f : A → B) (xs : List A) (x : A) → map f (xs ++ x ∷ []) ≡ map f xs ++ f x ∷ []
+map-push f [] x = refl
+map-push f (y ∷ xs) x = ap (λ ys. f y ∷ ys) (map-push f xs x)
+
+map-map : {A B C : Type 0} (f : B → C) (g : A → B) (xs : List A) → map f (map g xs) ≡ map (λ x. f (g x)) xs
+map-map f g [] = refl
+map-map f g (x ∷ xs) = ap (λ ys. f (g x) ∷ ys) (map-map f g xs)
+
+one-kept : (node : ℕ) (names : List Name) (o : OutputForm) → Holds (λ (k : Kept). nat_lt k.column (length names) ≡ true) (kept_found node names o)
+unfolding kept_found
+one-kept node names o =
+    holds_then (IsColumn names o.column) (λ (k : Kept). nat_lt k.column (length names) ≡ true) (λ c. Ok (record { column = c; renamed = is_some o.renamed })) (column_found node names o.column) (column-found node names o.column) (λ c h. h.below)
+
+all-kept : (node : ℕ) (names : List Name) (os : List OutputForm) → Holds (AreKept names os) (all_kept_found node names os)
+unfolding all_kept_found
+all-kept node names os =
+    walk-holds (kept_found node names) (λ o (k : Kept). nat_lt k.column (length names) ≡ true) (AreKept names) (one-kept node names)
+    (λ xs ks x k h p.
+    let P : List ℕ → Type 0 = λ cs. all_below (length names) cs ≡ true in
+    record {
+      below = subst P (sym (map-push (λ (k : Kept). k.column) ks k)) (all_push (λ c. nat_lt c (length names)) (map (λ (k : Kept). k.column) ks) k.column h.below p);
+      count = length_push ks k ∙ ap (λ n. n + 1) h.count ∙ sym (length_push xs x);
+    }) os [] [] (record { below = refl; count = refl })
+
+record IsKeptShape (cols : Columns) (os : List OutputForm) (ks : List Kept) : Type 0 where
+  kept : AreKept cols.names os ks
+  few : nat_le (length os) 64 ≡ true
+
+kept-holds : (node : ℕ) (cols : Columns) (os : List OutputForm) → Holds (IsKeptShape cols os) (kept_shape node cols os)
+unfolding kept_shape
+kept-holds node cols os =
+    holds_then (AreKept cols.names os) (IsKeptShape cols os) (λ ks. once node (map output_name os) >>= λ u. narrow node (length os) >>= λ v. Ok ks) (all_kept_found node cols.names os) (all-kept node cols.names os)
+    (λ ks h. holds_then (λ (u : ⊤). apart bytes_eq (map output_name os) ≡ true) (IsKeptShape cols os) (λ u. narrow node (length os) >>= λ v. Ok ks) (once node (map output_name os)) (once-apart node (map output_name os))
+    (λ u a. holds_then (λ (v : ⊤). nat_le (length os) 64 ≡ true) (IsKeptShape cols os) (λ v. Ok ks) (narrow node (length os)) (narrow-holds node (length os)) (λ v n. record { kept = h; few = n })))
+
+kept-output : (cols : Columns) (os : List OutputForm) (ks : List Kept) → IsKeptShape cols os ks → IsOutput (map (type_at cols.types) (map (λ (k : Kept). k.column) ks)) (kept_columns cols os ks)
+kept-output cols os ks h =
+    let types : List ColType = map (λ (k : Kept). type_at cols.types k.column) ks in
+    let e : length types ≡ length os = length-map ks (λ (k : Kept). type_at cols.types k.column) ∙ h.kept.count in
+    let P : ℕ → Type 0 = λ n. nat_le n 64 ≡ true in
+    record {
+      types_are = sym (map-map (type_at cols.types) (λ (k : Kept). k.column) ks);
+      names_are = length-map os output_name ∙ sym e;
+      few = subst P (sym e) h.few;
+    }
+
+kept-below : (cols : Columns) (os : List OutputForm) (ks : List Kept) → length cols.names ≡ length cols.types → is_some_list os ≡ true → IsKeptShape cols os ks
+    → (is_some_list (map (λ (k : Kept). k.column) ks) && all_below (length cols.types) (map (λ (k : Kept). k.column) ks)) ≡ true
+kept-below cols os ks e h k =
+    let P : ℕ → Type 0 = λ n. all_below n (map (λ (k : Kept). k.column) ks) ≡ true in
+    and-both (is_some_list (map (λ (k : Kept). k.column) ks)) (all_below (length cols.types) (map (λ (k : Kept). k.column) ks))
+    (some-alike (map (λ (k : Kept). k.column) ks) os (length-map ks (λ (k : Kept). k.column) ∙ k.kept.count) ∙ h) (subst P e k.kept.below)
+
+project-holds : (node : ℕ) (cols : Columns) (os : List OutputForm) → IsOutput cols.types cols → is_some_list os ≡ true → Holds (IsShape cols) (project_shape node cols os)
+unfolding project_shape
+project-holds node cols os out h =
+    holds_then (IsKeptShape cols os) (IsShape cols) (λ ks. Ok (record { op = plan.project (map (λ (k : Kept). k.column) ks); renamed = map (λ (k : Kept). k.renamed) ks; columns = kept_columns cols os ks })) (kept_shape node cols os) (kept-holds node cols os)
+    (λ ks k. record { op = kept-below cols os ks out.names_are h k; output = kept-output cols os ks k })
+
+distinct-holds : (node : ℕ) (cols : Columns) (os : List OutputForm) → IsOutput cols.types cols → is_some_list os ≡ true → Holds (IsShape cols) (distinct_shape node cols os)
+unfolding distinct_shape
+distinct-holds node cols os out h =
+    holds_then (IsKeptShape cols os) (IsShape cols) (λ ks. Ok (record { op = plan.distinct (map (λ (k : Kept). k.column) ks); renamed = map (λ (k : Kept). k.renamed) ks; columns = kept_columns cols os ks })) (kept_shape node cols os) (kept-holds node cols os)
+    (λ ks k. record { op = kept-below cols os ks out.names_are h k; output = kept-output cols os ks k })
+
+sort-holds : (node : ℕ) (cols : Columns) (names : List Name) → IsOutput cols.types cols → is_some_list names ≡ true → Holds (IsShape cols) (sort_shape node cols names)
+unfolding sort_shape
+sort-holds node cols names out h =
+    holds_then (AreColumns cols.names names) (IsShape cols) (λ ps. once node names >>= λ u. Ok (record { op = plan.sort ps; renamed = []; columns = cols })) (columns_found node cols.names names) (columns-found node cols.names names)
+    (λ ps f. holds_then (λ (u : ⊤). apart bytes_eq names ≡ true) (IsShape cols) (λ u. Ok (record { op = plan.sort ps; renamed = []; columns = cols })) (once node names) (once-apart node names)
+    (λ u a. record {
+      op = and-both (is_some_list ps) (are_columns (length cols.types) ps) (some-columns cols.names names ps f h) (once-columns cols.names names ps (length cols.types) out.names_are f a);
+      output = out;
+    }))
+
+record IsGroupFound (cols : Columns) (by : List Name) (aggregates : List AggregateForm) (g : List ℕ × List Aggregate) : Type 0 where
+  keys : AreColumns cols.names by g.0
+  count : length g.1 ≡ length aggregates
+
+group_found-holds : (node : ℕ) (cols : Columns) (by : List Name) (aggregates : List AggregateForm) → Holds (IsGroupFound cols by aggregates) (group_found node cols.names by aggregates)
+unfolding group_found aggregates_found
+group_found-holds node cols by aggregates =
+    holds_then (AreColumns cols.names by) (IsGroupFound cols by aggregates) (λ bs. walk_onto (λ (a : AggregateForm). function_found node cols.names a.function) [] aggregates >>= λ ks. Ok (bs, ks)) (columns_found node cols.names by) (columns-found node cols.names by)
+    (λ bs f. holds_then (λ (ks : List Aggregate). length ks ≡ length aggregates) (IsGroupFound cols by aggregates) (λ ks. Ok (bs, ks)) (walk_onto (λ (a : AggregateForm). function_found node cols.names a.function) [] aggregates)
+    (walk-length (λ (a : AggregateForm). function_found node cols.names a.function) aggregates) (λ ks l. record { keys = f; count = l }))
+
+record IsGroupTested (types : List ColType) (names : List Name) (ks : List Aggregate) : Type 0 where
+  once : apart bytes_eq names ≡ true
+  few : nat_le (length names) 64 ≡ true
+  typed : list_all (is_aggregate types) ks ≡ true
+
+group_tested-holds : (node : ℕ) (types : List ColType) (names : List Name) (ks : List Aggregate) → Holds (λ (u : ⊤). IsGroupTested types names ks) (group_tested node types names ks)
+unfolding group_tested
+group_tested-holds node types names ks =
+    holds_then (λ (u : ⊤). apart bytes_eq names ≡ true) (λ (u : ⊤). IsGroupTested types names ks) (λ u. narrow node (length names) >>= λ v. matched node (list_all (is_aggregate types) ks)) (once node names) (once-apart node names)
+    (λ u a. holds_then (λ (u : ⊤). nat_le (length names) 64 ≡ true) (λ (u : ⊤). IsGroupTested types names ks) (λ v. matched node (list_all (is_aggregate types) ks)) (narrow node (length names)) (narrow-holds node (length names))
+    (λ v n. go a n (matched node (list_all (is_aggregate types) ks)) (matched-holds node (list_all (is_aggregate types) ks))))
+  where
+    go : apart bytes_eq names ≡ true → nat_le (length names) 64 ≡ true → (r : Result ⊤ Refusal) → Holds (λ (u : ⊤). list_all (is_aggregate types) ks ≡ true) r → Holds (λ (u : ⊤). IsGroupTested types names ks) r
+    go a n (Ok u) m = record { once = a; few = n; typed = m }
+    go a n (Err e) m = tt
+
+columns-count : (names list : List Name) (cs : List ℕ) → AreColumns names list cs → length cs ≡ length list
+columns-count names list cs h = sym (length-map cs (name_of names)) ∙ ap length h.named
+
+group-holds : (node : ℕ) (cols : Columns) (by : List Name) (aggregates : List AggregateForm) → IsOutput cols.types cols → (is_some_list by || is_some_list aggregates) ≡ true → Holds (IsShape cols) (group_shape node cols by aggregates)
+unfolding group_shape
+group-holds node cols by aggregates out h =
+    holds_then (IsGroupFound cols by aggregates) (IsShape cols)
+    (λ g. group_tested node cols.types (by ++ map (λ (a : AggregateForm). a.name) aggregates) g.1 >>= λ u. Ok (record { op = plan.group g.0 g.1; renamed = []; columns = group_columns cols by aggregates g.0 g.1 }))
+    (group_found node cols.names by aggregates) (group_found-holds node cols by aggregates)
+    (λ g f. holds_then (λ (u : ⊤). IsGroupTested cols.types (by ++ map (λ (a : AggregateForm). a.name) aggregates) g.1) (IsShape cols) (λ u. Ok (record { op = plan.group g.0 g.1; renamed = []; columns = group_columns cols by aggregates g.0 g.1 }))
+    (group_tested node cols.types (by ++ map (λ (a : AggregateForm). a.name) aggregates) g.1) (group_tested-holds node cols.types (by ++ map (λ (a : AggregateForm). a.name) aggregates) g.1)
+    (λ u m.
+    let names : List Name = by ++ map (λ (a : AggregateForm). a.name) aggregates in
+    let types : List ColType = map (type_at cols.types) g.0 ++ map (aggregate_type cols.types) g.1 in
+    let keys : length g.0 ≡ length by = columns-count cols.names by g.0 f.keys in
+    let wide : length names ≡ length types =
+    length-append by (map (λ (a : AggregateForm). a.name) aggregates) ∙ ap (λ n. length by + n) (length-map aggregates (λ (a : AggregateForm). a.name))
+    ∙ ap (λ n. n + length aggregates) (sym keys) ∙ ap (λ n. length g.0 + n) (sym f.count)
+    ∙ sym (length-append (map (type_at cols.types) g.0) (map (aggregate_type cols.types) g.1) ∙ ap (λ n. n + length (map (aggregate_type cols.types) g.1)) (length-map g.0 (type_at cols.types)) ∙ ap (λ n. length g.0 + n) (length-map g.1 (aggregate_type cols.types))) in
+    let P : ℕ → Type 0 = λ n. nat_le n 64 ≡ true in
+    record {
+      op = and-both (is_some_list g.0 || is_some_list g.1) (are_columns (length cols.types) g.0 && list_all (is_aggregate cols.types) g.1)
+          (ap (λ b. b || is_some_list g.1) (some-alike g.0 by keys) ∙ ap (λ b. is_some_list by || b) (some-alike g.1 aggregates f.count) ∙ h)
+          (and-both (are_columns (length cols.types) g.0) (list_all (is_aggregate cols.types) g.1)
+          (once-columns cols.names by g.0 (length cols.types) out.names_are f.keys (apart-front bytes_eq by (map (λ (a : AggregateForm). a.name) aggregates) m.once)) m.typed);
+      output = record { types_are = refl; names_are = wide; few = subst P wide m.few };
+    }))
+
+pub shape-holds : (node : ℕ) (cols : Columns) (op : UnaryForm) → IsOutput cols.types cols → is_unary_form op ≡ true → Holds (IsShape cols) (unary_shape node cols op)
+unfolding unary_shape
+shape-holds node cols (form.select cs) out h = select-holds node cols cs out (and-left (is_some_list cs) (list_all is_condition_form cs) h)
+shape-holds node cols (form.project os) out h = project-holds node cols os out (and-left (is_some_list os) (list_all is_output_form os) h)
+shape-holds node cols (form.distinct os) out h = distinct-holds node cols os out (and-left (is_some_list os) (list_all is_output_form os) h)
+shape-holds node cols (form.sort names) out h = sort-holds node cols names out (and-left (is_some_list names) (are_names names) h)
+shape-holds node cols (form.group by aggregates) out h =
+    group-holds node cols by aggregates out (and-left (is_some_list by || is_some_list aggregates) (are_names by && list_all is_aggregate_form aggregates) h)
+
+-- ---- two inputs
+
+pub record IsJoint (l r : Columns) (o : Joint) : Type 0 where
+  pub op : is_binary l.types r.types o.op ≡ true
+  pub output : IsOutput (binary_types o.op l.types r.types) o.columns
+
+record ArePairs (l r : Columns) (on : List (Name × Name)) (ps : List (ℕ × ℕ)) : Type 0 where
+  named : map (λ (p : ℕ × ℕ). (name_of l.names p.0, name_of r.names p.1)) ps ≡ on
+  count : length ps ≡ length on
+
+one-pair : (node : ℕ) (ls rs : List Name) (p : Name × Name) → Holds (λ (q : ℕ × ℕ). (name_of ls q.0, name_of rs q.1) ≡ p) (pair_found node ls rs p)
+unfolding pair_found
+one-pair node ls rs p =
+    holds_then (IsColumn ls p.0) (λ (q : ℕ × ℕ). (name_of ls q.0, name_of rs q.1) ≡ p) (λ l. column_found node rs p.1 >>= λ r. Ok (l, r)) (column_found node ls p.0) (column-found node ls p.0)
+    (λ l h. holds_then (IsColumn rs p.1) (λ (q : ℕ × ℕ). (name_of ls q.0, name_of rs q.1) ≡ p) (λ r. Ok (l, r)) (column_found node rs p.1) (column-found node rs p.1)
+    (λ r k. ap (λ n. (n, name_of rs r)) h.named ∙ ap (λ n. (p.0, n)) k.named))
+
+all-pairs : (node : ℕ) (l r : Columns) (on : List (Name × Name)) → Holds (ArePairs l r on) (pairs_found node l.names r.names on)
+unfolding pairs_found
+all-pairs node l r on =
+    walk-holds (pair_found node l.names r.names) (λ p (q : ℕ × ℕ). (name_of l.names q.0, name_of r.names q.1) ≡ p) (ArePairs l r) (one-pair node l.names r.names)
+    (λ xs ps x p h e. record {
+      named = map-push (λ (p : ℕ × ℕ). (name_of l.names p.0, name_of r.names p.1)) ps p ∙ ap (λ zs. zs ++ (name_of l.names p.0, name_of r.names p.1) ∷ []) h.named ∙ ap (λ q. xs ++ q ∷ []) e;
+      count = length_push ps p ∙ ap (λ n. n + 1) h.count ∙ sym (length_push xs x);
+    }) on [] [] (record { named = refl; count = refl })
+
+record IsJoinTested (names : List Name) (on : List (Name × Name)) : Type 0 where
+  pairs : apart pair_eq on ≡ true
+  few : nat_le (length names) 64 ≡ true
+
+join_tested-holds : (node : ℕ) (names : List Name) (on : List (Name × Name)) → Holds (λ (u : ⊤). IsJoinTested names on) (join_tested node names on)
+unfolding join_tested
+join_tested-holds node names on =
+    holds_then (λ (u : ⊤). apart bytes_eq names ≡ true) (λ (u : ⊤). IsJoinTested names on) (λ u. pairs_once node on >>= λ v. narrow node (length names)) (once node names) (once-apart node names)
+    (λ u a. holds_then (λ (u : ⊤). apart pair_eq on ≡ true) (λ (u : ⊤). IsJoinTested names on) (λ v. narrow node (length names)) (pairs_once node on) (pairs_once-apart node on)
+    (λ v p. go p (narrow node (length names)) (narrow-holds node (length names))))
+  where
+    go : apart pair_eq on ≡ true → (r : Result ⊤ Refusal) → Holds (λ (u : ⊤). nat_le (length names) 64 ≡ true) r → Holds (λ (u : ⊤). IsJoinTested names on) r
+    go p (Ok u) n = record { pairs = p; few = n }
+    go p (Err e) n = tt
+
+record IsJoined (l r : Columns) (on : List (Name × Name)) (ps : List (ℕ × ℕ)) : Type 0 where
+  found : ArePairs l r on ps
+  tested : IsJoinTested (l.names ++ r.names) on
+  typed : list_all (is_pair l.types r.types) ps ≡ true
+
+join-holds : (node : ℕ) (l r : Columns) (on : List (Name × Name)) → Holds (IsJoined l r on) (join_pairs node l r on)
+unfolding join_pairs
+join-holds node l r on =
+    holds_then (ArePairs l r on) (IsJoined l r on) (λ ps. join_tested node (l.names ++ r.names) on >>= λ u. matched node (list_all (is_pair l.types r.types) ps) >>= λ v. Ok ps) (pairs_found node l.names r.names on) (all-pairs node l r on)
+    (λ ps f. holds_then (λ (u : ⊤). IsJoinTested (l.names ++ r.names) on) (IsJoined l r on) (λ u. matched node (list_all (is_pair l.types r.types) ps) >>= λ v. Ok ps) (join_tested node (l.names ++ r.names) on) (join_tested-holds node (l.names ++ r.names) on)
+    (λ u t. holds_then (λ (v : ⊤). list_all (is_pair l.types r.types) ps ≡ true) (IsJoined l r on) (λ v. Ok ps) (matched node (list_all (is_pair l.types r.types) ps)) (matched-holds node (list_all (is_pair l.types r.types) ps))
+    (λ v m. record { found = f; tested = t; typed = m })))
+
+pub joint-holds : (node : ℕ) (l r : Columns) (op : BinaryForm) → IsOutput l.types l → IsOutput r.types r → is_binary_form op ≡ true → Holds (IsJoint l r) (binary_shape node l r op)
+unfolding binary_shape
+joint-holds node l r form.union lo ro h =
+    holds_then (λ (u : ⊤). types_eq l.types r.types ≡ true) (IsJoint l r) (λ u. Ok (record { op = plan.union; columns = l })) (matched node (types_eq l.types r.types)) (matched-holds node (types_eq l.types r.types)) (λ u m. record { op = m; output = lo })
+joint-holds node l r (form.join merging on) lo ro h =
+    holds_then (IsJoined l r on) (IsJoint l r) (λ ps. Ok (record { op = plan.join merging ps; columns = both_columns l r })) (join_pairs node l r on) (join-holds node l r on)
+    (λ ps j.
+    let wide : length (l.names ++ r.names) ≡ length (l.types ++ r.types) =
+    length-append l.names r.names ∙ ap (λ n. n + length r.names) lo.names_are ∙ ap (λ n. length l.types + n) ro.names_are ∙ sym (length-append l.types r.types) in
+    let P : ℕ → Type 0 = λ n. nat_le n 64 ≡ true in
+    let Q : List (Name × Name) → Type 0 = λ zs. apart pair_eq zs ≡ true in
+    record {
+      op = and-both (is_some_list ps) (list_all (is_pair l.types r.types) ps && are_distinct_pairs ps)
+          (some-alike ps on j.found.count ∙ and-left (is_some_list on) (list_all is_pair_form on) h)
+          (and-both (list_all (is_pair l.types r.types) ps) (are_distinct_pairs ps) j.typed
+          (distinct-pairs (name_of l.names) (name_of r.names) ps (subst Q (sym j.found.named) j.tested.pairs)));
+      output = record { types_are = refl; names_are = wide; few = subst P wide j.tested.few };
+    })
+
+-- ---- exchanges
+
+-- a found kind is typed, where its columns stand once and have its type
+abbrev IsKind : Names → List ColType → KindForm → Kind → Type 0
+IsKind s types form k = apart bytes_eq (kind_names form) ≡ true → kind_fits s types k ≡ true → is_kind (scope_of s) types k ≡ true
+
+kind-holds : (s : Names) (node : ℕ) (cols : Columns) (kind : KindForm) → IsOutput cols.types cols → is_kind_form kind ≡ true → Holds (IsKind s cols.types kind) (kind_found s node cols.names kind)
+unfolding kind_found
+kind-holds s node cols (form.hash size route names) out h =
+    let rest = and-right (is_some_list size) (is_some_list route && are_some_names names) h in
+    holds_then (λ z. is_size (length s.sizes) z ≡ true) (IsKind s cols.types (form.hash size route names)) (λ z. columns_found node cols.names names >>= λ ps. Ok (route_to z (by_hash route) ps)) (size_found s size) (size-holds s size)
+    (λ z hz. holds_then (AreColumns cols.names names) (IsKind s cols.types (form.hash size route names)) (λ ps. Ok (route_to z (by_hash route) ps)) (columns_found node cols.names names) (columns-found node cols.names names)
+    (λ ps f a m. and-both (is_size (length s.sizes) z) (is_routed (scope_of s) cols.types (by_hash route) ps) hz
+    (hash-routed s cols.names cols.types route names ps out.names_are (and-left (is_some_list route) (are_some_names names) rest) (and-right (is_some_list route) (are_some_names names) rest) f a)))
+kind-holds s node cols (form.range size range col) out h =
+    holds_then (λ z. is_size (length s.sizes) z ≡ true) (IsKind s cols.types (form.range size range col)) (λ z. range_found s node range >>= λ k. column_found node cols.names col >>= λ p. Ok (route_to z (by_range k) (p ∷ []))) (size_found s size) (size-holds s size)
+    (λ z hz. holds_then (λ k. nat_lt k (length s.ranges) ≡ true) (IsKind s cols.types (form.range size range col)) (λ k. column_found node cols.names col >>= λ p. Ok (route_to z (by_range k) (p ∷ []))) (range_found s node range) (range-holds s node range)
+    (λ k hk. holds_then (IsColumn cols.names col) (IsKind s cols.types (form.range size range col)) (λ p. Ok (route_to z (by_range k) (p ∷ []))) (column_found node cols.names col) (column-found node cols.names col)
+    (λ p c a m. and-both (is_size (length s.sizes) z) (is_routed (scope_of s) cols.types (by_range k) (p ∷ [])) hz (range-routed s cols.names cols.types k p out.names_are hk c.below m))))
+kind-holds s node cols (form.round size) out h =
+    holds_then (λ z. is_size (length s.sizes) z ≡ true) (IsKind s cols.types (form.round size)) (λ z. Ok (plan.round z)) (size_found s size) (size-holds s size) (λ z hz a m. hz)
+kind-holds s node cols (form.broadcast size) out h =
+    holds_then (λ z. is_size (length s.sizes) z ≡ true) (IsKind s cols.types (form.broadcast size)) (λ z. Ok (plan.broadcast z)) (size_found s size) (size-holds s size) (λ z hz a m. hz)
+kind-holds s node cols form.gather out h = λ a m. refl
+
+record IsExchangeFound (s : Names) (cols : Columns) (kind : KindForm) (merge : List Name) (x : Kind × List ℕ) : Type 0 where
+  sends : IsKind s cols.types kind x.0
+  merges : AreColumns cols.names merge x.1
+
+exchange_columns-holds : (s : Names) (node : ℕ) (cols : Columns) (kind : KindForm) (merge : List Name) → IsOutput cols.types cols → is_kind_form kind ≡ true → Holds (IsExchangeFound s cols kind merge) (exchange_columns s node cols.names kind merge)
+unfolding exchange_columns
+exchange_columns-holds s node cols kind merge out h =
+    holds_then (IsKind s cols.types kind) (IsExchangeFound s cols kind merge) (λ k. columns_found node cols.names merge >>= λ ms. Ok (k, ms)) (kind_found s node cols.names kind) (kind-holds s node cols kind out h)
+    (λ k hk. holds_then (AreColumns cols.names merge) (IsExchangeFound s cols kind merge) (λ ms. Ok (k, ms)) (columns_found node cols.names merge) (columns-found node cols.names merge) (λ ms f. record { sends = hk; merges = f }))
+
+record IsExchangeOnce (kind : KindForm) (merge : List Name) : Type 0 where
+  sends : apart bytes_eq (kind_names kind) ≡ true
+  merges : apart bytes_eq merge ≡ true
+
+exchange_once-holds : (node : ℕ) (kind : KindForm) (merge : List Name) → Holds (λ (u : ⊤). IsExchangeOnce kind merge) (exchange_once node kind merge)
+unfolding exchange_once
+exchange_once-holds node kind merge =
+    holds_then (λ (u : ⊤). apart bytes_eq (kind_names kind) ≡ true) (λ (u : ⊤). IsExchangeOnce kind merge) (λ u. once node merge) (once node (kind_names kind)) (once-apart node (kind_names kind)) (λ u k. go k (once node merge) (once-apart node merge))
+  where
+    go : apart bytes_eq (kind_names kind) ≡ true → (r : Result ⊤ Refusal) → Holds (λ (u : ⊤). apart bytes_eq merge ≡ true) r → Holds (λ (u : ⊤). IsExchangeOnce kind merge) r
+    go k (Ok u) m = record { sends = k; merges = m }
+    go k (Err e) m = tt
+
+pub record IsExchange (s : Names) (types : List ColType) (x : Kind × List ℕ) : Type 0 where
+  pub kind : is_kind (scope_of s) types x.0 ≡ true
+  pub merge : are_columns (length types) x.1 ≡ true
+
+pub exchange-holds : (s : Names) (node : ℕ) (cols : Columns) (kind : KindForm) (merge : List Name) → IsOutput cols.types cols → is_kind_form kind ≡ true → Holds (IsExchange s cols.types) (exchange_shape s node cols kind merge)
+unfolding exchange_shape
+exchange-holds s node cols kind merge out h =
+    holds_then (IsExchangeFound s cols kind merge) (IsExchange s cols.types) (λ x. exchange_once node kind merge >>= λ u. matched node (kind_fits s cols.types x.0) >>= λ v. Ok x) (exchange_columns s node cols.names kind merge) (exchange_columns-holds s node cols kind merge out h)
+    (λ x f. holds_then (λ (u : ⊤). IsExchangeOnce kind merge) (IsExchange s cols.types) (λ u. matched node (kind_fits s cols.types x.0) >>= λ v. Ok x) (exchange_once node kind merge) (exchange_once-holds node kind merge)
+    (λ u o. holds_then (λ (v : ⊤). kind_fits s cols.types x.0 ≡ true) (IsExchange s cols.types) (λ v. Ok x) (matched node (kind_fits s cols.types x.0)) (matched-holds node (kind_fits s cols.types x.0))
+    (λ v m. record { kind = f.sends o.sends m; merge = once-columns cols.names merge x.1 (length cols.types) out.names_are f.merges o.merges })))

@@ -1,0 +1,10 @@
+use Rattle.std.proofs.Common.{◌≡◌, ◌++◌, map, take, string_bytes}
+use Rattle.vx_rows.specs.Types.{type_at}
+use Rattle.vx_plan.specs.Document.{output_form, aggregate_form}
+use Rattle.vx_plan.specs.Outline.{aggregate_of}
+use Rattle.vx_plan.specs.Types.{aggregate_type}
+use Rattle.vx_plan.specs.Resolve.{output_name}
+use Rattle.vx_plan.proofs.columns.put_aggregate_types.Given as goal
+
+abbrev pub invariant-loop-aggregate : goal.invariant-loop-aggregate
+invariant-loop-aggregate l = l.list.items ≡ l.initial.list.items ++ map (aggregate_type l.types) (map aggregate_of (take l.aggregate-index l.aggregates))

@@ -1,0 +1,10 @@
+use Rattle.std.proofs.Common.{◌≡◌, ◌++◌, map, take, string_bytes}
+use Rattle.vx_rows.specs.Types.{type_at}
+use Rattle.vx_plan.specs.Document.{output_form}
+use Rattle.vx_plan.specs.Outline.{aggregate_of}
+use Rattle.vx_plan.specs.Types.{aggregate_type}
+use Rattle.vx_plan.specs.Resolve.{output_name}
+use Rattle.vx_plan.proofs.columns.put_types.Given as goal
+
+abbrev pub invariant-loop-column : goal.invariant-loop-column
+invariant-loop-column l = l.list.items ≡ l.initial.list.items ++ map (type_at l.types) (take l.column-index l.columns)

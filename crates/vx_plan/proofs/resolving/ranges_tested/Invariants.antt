@@ -1,0 +1,10 @@
+use Rattle.std.proofs.Common.{◌≡◌, [], map, drop, take, string_bytes}
+use Rattle.vx_rows.specs.View.{val_of}
+use Rattle.vx_plan.specs.Document.{range_form}
+use Rattle.vx_plan.specs.Fault.{bad_size, bad_range}
+use Rattle.vx_plan.specs.Lookup.{tested_onto}
+use Rattle.vx_plan.specs.Resolve.{is_bad_size, is_bad_range}
+use Rattle.vx_plan.proofs.resolving.ranges_tested.Given as goal
+
+abbrev pub invariant-loop-i : goal.invariant-loop-i
+invariant-loop-i l = tested_onto is_bad_range (λ r. bad_range r.name) (map range_form (take l.i l.ranges)) (map range_form (drop l.i l.ranges)) ≡ tested_onto is_bad_range (λ r. bad_range r.name) [] (map range_form l.ranges)

@@ -1,0 +1,10 @@
+use Rattle.std.proofs.Common.{◌≡◌, [], map, drop, string_bytes}
+use Rattle.vx_plan.specs.Lookup.{walk_onto}
+use Rattle.vx_plan.specs.Document.{aggregate_form}
+use Rattle.vx_plan.specs.Outline.{condition_of, aggregate_of}
+use Rattle.vx_plan.specs.Resolve.{condition_found, kept_found, function_found}
+use Rattle.vx_plan.proofs.unary_nodes.aggregates_found.Given as goal
+
+abbrev pub invariant-loop-aggregate : goal.invariant-loop-aggregate
+invariant-loop-aggregate l =
+    walk_onto (λ a. function_found l.node (map string_bytes l.names) a.function) (map aggregate_of l.found.items) (map aggregate_form (drop l.aggregate-index l.aggregates)) ≡ walk_onto (λ a. function_found l.node (map string_bytes l.names) a.function) [] (map aggregate_form l.aggregates)

@@ -1,0 +1,10 @@
+use Rattle.std.proofs.Common.{◌≡◌, [], map, drop, string_bytes}
+use Rattle.vx_plan.specs.Lookup.{walk_onto}
+use Rattle.vx_plan.specs.Document.{condition_form}
+use Rattle.vx_plan.specs.Outline.{condition_of, aggregate_of}
+use Rattle.vx_plan.specs.Resolve.{condition_found, kept_found, function_found}
+use Rattle.vx_plan.proofs.unary_nodes.conditions_found.Given as goal
+
+abbrev pub invariant-loop-condition : goal.invariant-loop-condition
+invariant-loop-condition l =
+    walk_onto (condition_found l.node (map string_bytes l.names)) (map condition_of l.found.items) (map condition_form (drop l.condition-index l.conditions)) ≡ walk_onto (condition_found l.node (map string_bytes l.names)) [] (map condition_form l.conditions)

@@ -1,0 +1,11 @@
+-- Operators that were found, as the program holds them.
+use Rattle.vx_plan.specs.declared.unary_nodes.Shape as rust
+use Rattle.vx_plan.specs.declared.binary_nodes.Joint as rust_joint
+use Rattle.vx_plan.specs.Outline.{unary_of, renamed_of, binary_of, columns_of}
+use Rattle.vx_plan.specs.Resolve.{Shape, Joint}
+
+abbrev pub shape_of : rust.Shape → Shape
+shape_of s = record { op = unary_of s.unary; renamed = renamed_of s.unary; columns = columns_of s.columns }
+
+abbrev pub joint_of : rust_joint.Joint → Joint
+joint_of j = record { op = binary_of j.binary; columns = columns_of j.columns }

@@ -1,0 +1,157 @@
+//! Operators over two inputs, by the columns of those inputs.
+
+ghost use Rattle.std.specs.Prelude.{◌≡◌, [], map, string_bytes, IfOk};
+ghost use Rattle.vx_plan.specs.Fault.{Gives};
+ghost use Rattle.vx_plan.specs.Document.{pair_form, binary_form};
+ghost use Rattle.vx_plan.specs.Outline.{columns_of};
+ghost use Rattle.vx_plan.specs.Resolve.{pair_found, pairs_found, both_columns, join_tested, join_pairs, binary_shape};
+ghost use Rattle.vx_plan.specs.Shaped.{joint_of};
+
+use crate::columns::{copied, side_by_side};
+use crate::fault::PlanFault;
+use crate::fits::{are_pairs, are_same_types};
+use crate::lookup::{column_found, matched, narrow, once, pairs_once};
+use crate::plan::NamedBinary;
+use crate::typed::{Binary, Columns};
+use std::alloc::Global;
+
+/// An operator over two inputs, and its output.
+#[derive(Debug, Drop)]
+pub struct Joint {
+    pub binary: Binary,
+    pub columns: Columns,
+}
+
+#[tactic(auto, unfolding(crate::specs::Resolve::pair_found))]
+fn pair_found(
+    alloc: Global,
+    node: u32,
+    left: &[String],
+    right: &[String],
+    pair: &(String, String),
+) -> Result<(usize, usize), PlanFault>
+    ensures { Gives (λ p. p) result (pair_found node (map string_bytes left.now) (map string_bytes right.now) (pair_form pair.now)) }
+{
+    let first = column_found(alloc, node, left, pair.0.as_str())?;
+    let second = column_found(alloc, node, right, pair.1.as_str())?;
+    Ok((first, second))
+}
+
+fn pairs_found(
+    alloc: Global,
+    node: u32,
+    left: &[String],
+    right: &[String],
+    on: &[(String, String)],
+) -> Result<Vec<(usize, usize)>, PlanFault>
+    ensures { Gives (λ v. v.items) result (pairs_found node (map string_bytes left.now) (map string_bytes right.now) (map pair_form on.now)) }
+{
+    let mut found = Vec::new(alloc);
+    for pair in on {
+        let one = pair_found(alloc, node, left, right, pair)?;
+        found.push(one)?;
+    }
+    Ok(found)
+}
+
+/// No output name and no pair stands twice, and the output is not too wide.
+#[tactic(auto, unfolding(crate::specs::Resolve::join_tested))]
+fn join_tested(
+    alloc: Global,
+    node: u32,
+    names: &[String],
+    on: &[(String, String)],
+) -> Result<(), PlanFault>
+    ensures { Gives (λ _. tt) result (join_tested node (map string_bytes names.now) (map pair_form on.now)) }
+{
+    once(alloc, node, names)?;
+    pairs_once(alloc, node, on)?;
+    narrow(node, names.len())
+}
+
+#[tactic(auto, unfolding(crate::specs::Resolve::join_pairs))]
+fn join_pairs(
+    alloc: Global,
+    node: u32,
+    left: &Columns,
+    right: &Columns,
+    output: &Columns,
+    on: &[(String, String)],
+) -> Result<Vec<(usize, usize)>, PlanFault>
+    requires { columns_of output.now ≡ both_columns (columns_of left.now) (columns_of right.now) }
+    ensures { Gives (λ v. v.items) result (join_pairs node (columns_of left.now) (columns_of right.now) (map pair_form on.now)) }
+{
+    let found = pairs_found(
+        alloc,
+        node,
+        left.names.as_slice(),
+        right.names.as_slice(),
+        on,
+    )?;
+    join_tested(alloc, node, output.names.as_slice(), on)?;
+    matched(
+        node,
+        are_pairs(
+            left.types.as_slice(),
+            right.types.as_slice(),
+            found.as_slice(),
+        ),
+    )?;
+    Ok(found)
+}
+
+/// A join's pairs, and its output.
+fn joined(
+    alloc: Global,
+    node: u32,
+    left: &Columns,
+    right: &Columns,
+    on: &[(String, String)],
+) -> Result<(Vec<(usize, usize)>, Columns), PlanFault>
+    ensures pairs { Gives (λ r. r.0.items) result (join_pairs node (columns_of left.now) (columns_of right.now) (map pair_form on.now)) }
+    ensures columns { IfOk result (λ r. columns_of r.1 ≡ both_columns (columns_of left.now) (columns_of right.now)) }
+{
+    let columns = side_by_side(alloc, left, right)?;
+    let pairs = join_pairs(alloc, node, left, right, &columns, on)?;
+    Ok((pairs, columns))
+}
+
+/// An operator by positions, and its output.
+#[tactic(auto, unfolding(crate::specs::Resolve::binary_shape))]
+pub fn binary_shape(
+    alloc: Global,
+    node: u32,
+    left: &Columns,
+    right: &Columns,
+    binary: &NamedBinary,
+) -> Result<Joint, PlanFault>
+    ensures { Gives joint_of result (binary_shape node (columns_of left.now) (columns_of right.now) (binary_form binary.now)) }
+{
+    match binary {
+        NamedBinary::Union => {
+            matched(
+                node,
+                are_same_types(left.types.as_slice(), right.types.as_slice()),
+            )?;
+            let columns = copied(alloc, left)?;
+            Ok(Joint {
+                binary: Binary::Union,
+                columns,
+            })
+        }
+        NamedBinary::HashJoin(on) => {
+            let (pairs, columns) = joined(alloc, node, left, right, on.as_slice())?;
+            Ok(Joint {
+                binary: Binary::HashJoin(pairs),
+                columns,
+            })
+        }
+        NamedBinary::MergeJoin(on) => {
+            let (pairs, columns) = joined(alloc, node, left, right, on.as_slice())?;
+            Ok(Joint {
+                binary: Binary::MergeJoin(pairs),
+                columns,
+            })
+        }
+    }
+}

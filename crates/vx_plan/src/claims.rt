@@ -1,0 +1,143 @@
+//! Claims over the columns of an output.
+
+ghost use Rattle.std.specs.Prelude.{◌≡◌, [], ◌∷◌, map, string_bytes, IfOk};
+ghost use Rattle.vx_plan.specs.Fault.{Gives};
+ghost use Rattle.vx_plan.specs.Document.{part_form, claim_form};
+ghost use Rattle.vx_plan.specs.Outline.{part_of, claim_of, columns_of, top_of};
+ghost use Rattle.vx_plan.specs.Lookup.{once};
+ghost use Rattle.vx_plan.specs.Resolve.{part_found, part_names, part_fits, claim_columns, claim_once, claim_found, topped};
+ghost use Rattle.vx_plan.specs.Named.{names_of};
+
+use crate::fault::PlanFault;
+use crate::fits::route_fits;
+use crate::lookup::{
+    Declared, column_found, columns_found, keys_found, keys_once, matched, once, range_found,
+};
+use crate::plan::{NamedClaim, NamedPart};
+use crate::typed::{Claim, Columns, Head, Part, Route};
+use std::alloc::{AllocError, Global};
+use vx_rows::ColType;
+
+/// A list of one column.
+pub fn single(alloc: Global, column: usize) -> Result<Vec<usize>, AllocError>
+    ensures { IfOk result (λ v. v.items ≡ column ∷ []) }
+{
+    let mut columns = Vec::new(alloc);
+    columns.push(column)?;
+    Ok(columns)
+}
+
+/// A part by positions: a range comes before its column.
+#[tactic(auto, unfolding(crate::specs::Resolve::part_found))]
+fn part_found(
+    alloc: Global,
+    declared: &Declared<'_>,
+    node: u32,
+    names: &[String],
+    part: &NamedPart,
+) -> Result<Part, PlanFault>
+    ensures { Gives part_of result (part_found (names_of declared.now) node (map string_bytes names.now) (part_form part.now)) }
+{
+    match part {
+        NamedPart::One => Ok(Part::One),
+        NamedPart::Any => Ok(Part::Any),
+        NamedPart::All => Ok(Part::All),
+        NamedPart::Hash { route, columns } => {
+            let positions = columns_found(alloc, node, names, columns.as_slice())?;
+            let name = String::from_str(alloc, route.as_str())?;
+            Ok(Part::Routed(Route::Hash(name), positions))
+        }
+        NamedPart::Range { range, column } => {
+            let number = range_found(alloc, declared, node, range.as_str())?;
+            let position = column_found(alloc, node, names, column.as_str())?;
+            let positions = single(alloc, position)?;
+            Ok(Part::Routed(Route::Range(number), positions))
+        }
+    }
+}
+
+fn part_fits(declared: &Declared<'_>, types: &[ColType], part: &Part) -> bool
+    ensures { result ≡ part_fits (names_of declared.now) types.now (part_of part.now) }
+{
+    match part {
+        Part::One | Part::Any | Part::All => true,
+        Part::Routed(route, columns) => route_fits(declared, types, route, columns.as_slice()),
+    }
+}
+
+/// The columns of a claim: of its part, its order, its keys.
+#[tactic(auto, unfolding(crate::specs::Resolve::claim_columns))]
+fn claim_columns(
+    alloc: Global,
+    declared: &Declared<'_>,
+    node: u32,
+    names: &[String],
+    claim: &NamedClaim,
+) -> Result<Claim, PlanFault>
+    ensures { Gives claim_of result (claim_columns (names_of declared.now) node (map string_bytes names.now) (claim_form claim.now)) }
+{
+    let part = part_found(alloc, declared, node, names, &claim.part)?;
+    let order = columns_found(alloc, node, names, claim.order.as_slice())?;
+    let keys = keys_found(alloc, node, names, claim.keys.as_slice())?;
+    Ok(Claim { part, order, keys })
+}
+
+/// The hashed columns of a part stand once.
+#[tactic(auto, unfolding(crate::specs::Lookup::once, crate::specs::Lookup::tested_onto))]
+fn part_once(alloc: Global, node: u32, part: &NamedPart) -> Result<(), PlanFault>
+    ensures { Gives (λ _. tt) result (once node (part_names (part_form part.now))) }
+{
+    match part {
+        NamedPart::Hash { columns, .. } => once(alloc, node, columns.as_slice()),
+        NamedPart::One | NamedPart::Any | NamedPart::All | NamedPart::Range { .. } => Ok(()),
+    }
+}
+
+/// No column stands twice in one list of a claim.
+#[tactic(auto, unfolding(crate::specs::Resolve::claim_once))]
+fn claim_once(alloc: Global, node: u32, claim: &NamedClaim) -> Result<(), PlanFault>
+    ensures { Gives (λ _. tt) result (claim_once node (claim_form claim.now)) }
+{
+    part_once(alloc, node, &claim.part)?;
+    once(alloc, node, claim.order.as_slice())?;
+    keys_once(alloc, node, claim.keys.as_slice())
+}
+
+/// A claim by positions, over the columns of its node's output.
+#[tactic(auto, unfolding(crate::specs::Resolve::claim_found))]
+fn claim_found(
+    alloc: Global,
+    declared: &Declared<'_>,
+    node: u32,
+    columns: &Columns,
+    claim: &NamedClaim,
+) -> Result<Claim, PlanFault>
+    ensures { Gives claim_of result (claim_found (names_of declared.now) node (columns_of columns.now) (claim_form claim.now)) }
+{
+    let found = claim_columns(alloc, declared, node, columns.names.as_slice(), claim)?;
+    claim_once(alloc, node, claim)?;
+    matched(
+        node,
+        part_fits(declared, columns.types.as_slice(), &found.part),
+    )?;
+    Ok(found)
+}
+
+/// What every node has. The tests of its operator come before those of its claim.
+#[tactic(auto, unfolding(crate::specs::Resolve::topped))]
+pub fn topped(
+    alloc: Global,
+    declared: &Declared<'_>,
+    node: u32,
+    columns: Columns,
+    claim: &NamedClaim,
+) -> Result<Head, PlanFault>
+    ensures { Gives top_of result (topped (names_of declared.now) node (columns_of columns) (claim_form claim.now)) }
+{
+    let found = claim_found(alloc, declared, node, &columns, claim)?;
+    Ok(Head {
+        number: node,
+        claim: found,
+        columns,
+    })
+}

@@ -1,0 +1,189 @@
+//! The columns of outputs: copied, kept, put side by side.
+
+ghost use Rattle.std.specs.Prelude.{◌≡◌, [], ◌∷◌, ◌++◌, map, string_bytes, IfOk, OnOk};
+ghost use Rattle.vx_rows.specs.Types.{type_at};
+ghost use Rattle.vx_plan.specs.Document.{aggregate_form, output_form};
+ghost use Rattle.vx_plan.specs.Outline.{columns_of, aggregate_of};
+ghost use Rattle.vx_plan.specs.Types.{aggregate_type};
+ghost use Rattle.vx_plan.specs.Resolve.{both_columns, output_name, scan_columns};
+ghost use Rattle.vx_catalog.specs.Catalog.{IsRelation};
+
+use crate::fits::type_at;
+use crate::plan::{NamedAggregate, NamedOutput};
+use crate::typed::{Aggregate, Columns, Kept};
+use std::alloc::{AllocError, Global};
+use vx_catalog::Relation;
+use vx_rows::ColType;
+
+/// Copies of these names at the end of a list.
+fn put_names(alloc: Global, list: &mut Vec<String>, names: &[String]) -> Result<(), AllocError>
+    ensures { OnOk result (map string_bytes list.new.items ≡ map string_bytes list.old.items ++ map string_bytes names.now) }
+{
+    for name in names {
+        list.push(String::from_str(alloc, name.as_str())?)?;
+    }
+    Ok(())
+}
+
+/// A copy of a list of names.
+pub fn copied_names(alloc: Global, names: &[String]) -> Result<Vec<String>, AllocError>
+    ensures { IfOk result (λ v. map string_bytes v.items ≡ map string_bytes names.now) }
+{
+    let mut copies = Vec::new(alloc);
+    put_names(alloc, &mut copies, names)?;
+    Ok(copies)
+}
+
+/// A copy of an output's columns.
+pub fn copied(alloc: Global, columns: &Columns) -> Result<Columns, AllocError>
+    ensures { IfOk result (λ c. columns_of c ≡ columns_of columns.now) }
+{
+    let mut names = Vec::new(alloc);
+    put_names(alloc, &mut names, columns.names.as_slice())?;
+    let types = Vec::from_slice(alloc, columns.types.as_slice())?;
+    Ok(Columns { names, types })
+}
+
+/// The left columns, then the right ones.
+pub fn side_by_side(alloc: Global, left: &Columns, right: &Columns) -> Result<Columns, AllocError>
+    ensures { IfOk result (λ c. columns_of c ≡ both_columns (columns_of left.now) (columns_of right.now)) }
+{
+    let mut names = Vec::new(alloc);
+    put_names(alloc, &mut names, left.names.as_slice())?;
+    put_names(alloc, &mut names, right.names.as_slice())?;
+    let mut types = Vec::from_slice(alloc, left.types.as_slice())?;
+    types.extend_from_slice(right.types.as_slice())?;
+    Ok(Columns { names, types })
+}
+
+fn output_name(alloc: Global, output: &NamedOutput) -> Result<String, AllocError>
+    ensures { IfOk result (λ s. string_bytes s ≡ output_name (output_form output.now)) }
+{
+    match &output.renamed {
+        Some(name) => String::from_str(alloc, name.as_str()),
+        None => String::from_str(alloc, output.column.as_str()),
+    }
+}
+
+/// The names of kept columns.
+pub fn output_names(alloc: Global, outputs: &[NamedOutput]) -> Result<Vec<String>, AllocError>
+    ensures { IfOk result (λ v. map string_bytes v.items ≡ map output_name (map output_form outputs.now)) }
+{
+    let mut names = Vec::new(alloc);
+    for output in outputs {
+        names.push(output_name(alloc, output)?)?;
+    }
+    Ok(names)
+}
+
+/// The types of kept columns.
+pub fn kept_types(
+    alloc: Global,
+    types: &[ColType],
+    kept: &[Kept],
+) -> Result<Vec<ColType>, AllocError>
+    ensures { IfOk result (λ v. v.items ≡ map (λ k. type_at types.now k.column) kept.now) }
+{
+    let mut found = Vec::new(alloc);
+    for k in kept {
+        found.push(type_at(types, k.column))?;
+    }
+    Ok(found)
+}
+
+/// The names of a group's output: those of its keys, then those of its aggregates.
+pub fn group_names(
+    alloc: Global,
+    by: &[String],
+    aggregates: &[NamedAggregate],
+) -> Result<Vec<String>, AllocError>
+    ensures { IfOk result (λ v. map string_bytes v.items ≡ map string_bytes by.now ++ map (λ a. a.name) (map aggregate_form aggregates.now)) }
+{
+    let mut names = Vec::new(alloc);
+    put_names(alloc, &mut names, by)?;
+    put_aggregate_names(alloc, &mut names, aggregates)?;
+    Ok(names)
+}
+
+fn put_aggregate_names(
+    alloc: Global,
+    list: &mut Vec<String>,
+    aggregates: &[NamedAggregate],
+) -> Result<(), AllocError>
+    ensures { OnOk result (map string_bytes list.new.items ≡ map string_bytes list.old.items ++ map (λ a. a.name) (map aggregate_form aggregates.now)) }
+{
+    for aggregate in aggregates {
+        list.push(String::from_str(alloc, aggregate.name.as_str())?)?;
+    }
+    Ok(())
+}
+
+fn aggregate_type(types: &[ColType], aggregate: Aggregate) -> ColType
+    ensures { result ≡ aggregate_type types.now (aggregate_of aggregate) }
+{
+    match aggregate {
+        Aggregate::Least(column) | Aggregate::Greatest(column) => type_at(types, column),
+        Aggregate::Sum(_) | Aggregate::CountRows => ColType::Int,
+    }
+}
+
+fn put_types(
+    list: &mut Vec<ColType>,
+    types: &[ColType],
+    columns: &[usize],
+) -> Result<(), AllocError>
+    ensures { OnOk result (list.new.items ≡ list.old.items ++ map (type_at types.now) columns.now) }
+{
+    for column in columns {
+        list.push(type_at(types, *column))?;
+    }
+    Ok(())
+}
+
+fn put_aggregate_types(
+    list: &mut Vec<ColType>,
+    types: &[ColType],
+    aggregates: &[Aggregate],
+) -> Result<(), AllocError>
+    ensures { OnOk result (list.new.items ≡ list.old.items ++ map (aggregate_type types.now) (map aggregate_of aggregates.now)) }
+{
+    for aggregate in aggregates {
+        list.push(aggregate_type(types, *aggregate))?;
+    }
+    Ok(())
+}
+
+/// The types of a group's output: those of its keys, then those of its aggregates.
+pub fn group_types(
+    alloc: Global,
+    types: &[ColType],
+    by: &[usize],
+    aggregates: &[Aggregate],
+) -> Result<Vec<ColType>, AllocError>
+    ensures { IfOk result (λ v. v.items ≡ map (type_at types.now) by.now ++ map (aggregate_type types.now) (map aggregate_of aggregates.now)) }
+{
+    let mut found = Vec::new(alloc);
+    put_types(&mut found, types, by)?;
+    put_aggregate_types(&mut found, types, aggregates)?;
+    Ok(found)
+}
+
+fn prefixed(alloc: Global, prefix: &str, name: &str) -> Result<String, AllocError>
+    ensures { IfOk result (λ s. string_bytes s ≡ prefix.now ++ name.now) }
+{
+    let mut text = String::from_str(alloc, prefix)?;
+    text.push_str(name)?;
+    Ok(text)
+}
+
+/// The columns of a relation, with a prefix before each name.
+pub fn scanned(alloc: Global, relation: &Relation, prefix: &str) -> Result<Columns, AllocError>
+    ensures { IfOk result (λ c. columns_of c ≡ scan_columns relation.now prefix.now) }
+{
+    let mut names = Vec::new(alloc);
+    for i in 0..relation.width() {
+        names.push(prefixed(alloc, prefix, relation.column_name(i))?)?;
+    }
+    let types = Vec::from_slice(alloc, relation.types())?;
+    Ok(Columns { names, types })
+}

@@ -1,0 +1,151 @@
+//! A typed plan without its exchanges.
+
+ghost use Rattle.std.specs.Prelude.{◌≡◌, ◌+◌, ◌<◌, ◌≤◌, ◌^◌, false, map, string_bytes, IfOk, IfErr};
+ghost use Rattle.vx_plan.specs.Numbering.{nodes};
+ghost use Rattle.vx_plan.specs.Erase.{nodes_left, erase};
+ghost use Rattle.vx_plan.specs.Erased.{erased_top, erased_from};
+ghost use Rattle.vx_plan.specs.Outline.{top_of, unary_of, renamed_of, binary_of, side_of, condition_of, outline_of, plan_of};
+ghost use Rattle.vx_plan.specs.TypedView.{names_in, plan, resolved_of};
+
+use crate::columns::{copied, copied_names};
+use crate::fault::PlanFault;
+use crate::lookup::copied_value;
+use crate::resolving::copied_ranges;
+use crate::typed::{Binary, Claim, Condition, Head, Part, Scan, Side, Size, TypedNode, Unary};
+use crate::typed_plan::TypedPlan;
+use std::alloc::{AllocError, Global};
+
+fn copied_side(alloc: Global, side: &Side) -> Result<Side, AllocError>
+    ensures { IfOk result (λ s. side_of s ≡ side_of side.now) }
+{
+    match side {
+        Side::Column(column) => Ok(Side::Column(*column)),
+        Side::Constant(value) => Ok(Side::Constant(copied_value(alloc, value)?)),
+    }
+}
+
+fn copied_condition(alloc: Global, condition: &Condition) -> Result<Condition, AllocError>
+    ensures { IfOk result (λ c. condition_of c ≡ condition_of condition.now) }
+{
+    Ok(Condition {
+        left: condition.left,
+        test: condition.test,
+        right: copied_side(alloc, &condition.right)?,
+    })
+}
+
+fn copied_conditions(alloc: Global, conditions: &[Condition]) -> Result<Vec<Condition>, AllocError>
+    ensures { IfOk result (λ v. map condition_of v.items ≡ map condition_of conditions.now) }
+{
+    let mut copies = Vec::new(alloc);
+    for condition in conditions {
+        copies.push(copied_condition(alloc, condition)?)?;
+    }
+    Ok(copies)
+}
+
+fn copied_unary(alloc: Global, unary: &Unary) -> Result<Unary, AllocError>
+    ensures op { IfOk result (λ u. unary_of u ≡ unary_of unary.now) }
+    ensures renamed { IfOk result (λ u. renamed_of u ≡ renamed_of unary.now) }
+{
+    match unary {
+        Unary::Select(conditions) => Ok(Unary::Select(copied_conditions(
+            alloc,
+            conditions.as_slice(),
+        )?)),
+        Unary::Project(kept) => Ok(Unary::Project(Vec::from_slice(alloc, kept.as_slice())?)),
+        Unary::Distinct(kept) => Ok(Unary::Distinct(Vec::from_slice(alloc, kept.as_slice())?)),
+        Unary::Sort(columns) => Ok(Unary::Sort(Vec::from_slice(alloc, columns.as_slice())?)),
+        Unary::Group(by, aggregates) => {
+            let keys = Vec::from_slice(alloc, by.as_slice())?;
+            let found = Vec::from_slice(alloc, aggregates.as_slice())?;
+            Ok(Unary::Group(keys, found))
+        }
+    }
+}
+
+fn copied_binary(alloc: Global, binary: &Binary) -> Result<Binary, AllocError>
+    ensures { IfOk result (λ b. binary_of b ≡ binary_of binary.now) }
+{
+    match binary {
+        Binary::Union => Ok(Binary::Union),
+        Binary::HashJoin(on) => Ok(Binary::HashJoin(Vec::from_slice(alloc, on.as_slice())?)),
+        Binary::MergeJoin(on) => Ok(Binary::MergeJoin(Vec::from_slice(alloc, on.as_slice())?)),
+    }
+}
+
+/// A node's number and output, with the claim of one stream without order and keys.
+fn erased_head(alloc: Global, number: u32, head: &Head) -> Result<Head, AllocError>
+    ensures { IfOk result (λ h. top_of h ≡ erased_top number (top_of head.now)) }
+{
+    Ok(Head {
+        number,
+        claim: Claim {
+            part: Part::One,
+            order: Vec::new(alloc),
+            keys: Vec::new(alloc),
+        },
+        columns: copied(alloc, &head.columns)?,
+    })
+}
+
+fn erased_scan(alloc: Global, scan: &Scan) -> Result<Scan, AllocError>
+    ensures { IfOk result (λ s. (s.relation ≡ scan.now.relation) × (s.shared ≡ false) × (s.size ≡ Size.One) × (string_bytes s.prefix ≡ string_bytes scan.now.prefix)) }
+{
+    Ok(Scan {
+        relation: scan.relation,
+        shared: false,
+        size: Size::One,
+        prefix: String::from_str(alloc, scan.prefix.as_str())?,
+    })
+}
+
+/// The nodes that are no exchanges, numbered in preorder from here, and the number after the last.
+fn erased_from(alloc: Global, number: u32, node: &TypedNode) -> Result<(TypedNode, u32), AllocError>
+    requires { number + nodes (plan_of node.now) < 2 ^ 32 }
+    ensures value { IfOk result (λ r. outline_of r.0 ≡ erased_from number (outline_of node.now)) }
+    ensures next { IfOk result (λ r. r.1 ≡ number + nodes_left (plan_of node.now)) }
+    ensures bound { IfOk result (λ r. r.1 ≤ number + nodes (plan_of node.now)) }
+{
+    match node {
+        TypedNode::Scan(head, scan) => {
+            let scan = erased_scan(alloc, scan)?;
+            Ok((
+                TypedNode::Scan(erased_head(alloc, number, head)?, scan),
+                number + 1,
+            ))
+        }
+        TypedNode::Unary(head, unary, input) => {
+            let (below, next) = erased_from(alloc, number + 1, input)?;
+            let unary = copied_unary(alloc, unary)?;
+            let head = erased_head(alloc, number, head)?;
+            Ok((TypedNode::Unary(head, unary, Box::new(alloc, below)?), next))
+        }
+        TypedNode::Binary(head, binary, left, right) => {
+            let (first, between) = erased_from(alloc, number + 1, left)?;
+            let (second, next) = erased_from(alloc, between, right)?;
+            let binary = copied_binary(alloc, binary)?;
+            let head = erased_head(alloc, number, head)?;
+            let first = Box::new(alloc, first)?;
+            let second = Box::new(alloc, second)?;
+            Ok((TypedNode::Binary(head, binary, first, second), next))
+        }
+        TypedNode::Exchange(_, _, input) => erased_from(alloc, number, input),
+    }
+}
+
+/// The plan with every exchange replaced by its input, every scan whole and of one worker, every claim one stream
+/// without order and keys, and not total. Nodes are numbered anew; declared sizes and ranges stay.
+pub fn erase(alloc: Global, typed: &TypedPlan) -> Result<TypedPlan, PlanFault>
+    ensures plan { IfOk result (λ p. plan p ≡ erase (plan typed.now)) }
+    ensures names { IfOk result (λ p. names_in p ≡ names_in typed.now) }
+    ensures outline { IfOk result (λ p. (resolved_of p).root ≡ erased_from 0 (resolved_of typed.now).root) }
+    ensures total { IfOk result (λ p. (resolved_of p).total ≡ false) }
+    ensures memory { IfErr result (λ e. e ≡ PlanFault.NoMemory) }
+{
+    let (root, _) = erased_from(alloc, 0, typed.root())?;
+    let catalog = typed.catalog().copy(alloc)?;
+    let sizes = copied_names(alloc, typed.sizes())?;
+    let ranges = copied_ranges(alloc, typed.ranges())?;
+    Ok(TypedPlan::new(catalog, sizes, ranges, false, root))
+}

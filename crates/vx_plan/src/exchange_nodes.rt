@@ -1,0 +1,159 @@
+//! Exchanges and scans.
+
+ghost use Rattle.std.specs.Prelude.{◌≡◌, ◌<◌, [], map, length, string_bytes, position, bytes_eq, IfOk, IfSome};
+ghost use Rattle.vx_catalog.specs.Catalog.{relation_at};
+ghost use Rattle.vx_plan.specs.Fault.{Gives};
+ghost use Rattle.vx_plan.specs.Document.{kind_form, scan_form};
+ghost use Rattle.vx_plan.specs.Outline.{columns_of, kind_of, size_of};
+ghost use Rattle.vx_plan.specs.Lookup.{once};
+ghost use Rattle.vx_plan.specs.Resolve.{kind_found, kind_names, kind_fits, exchange_columns, exchange_once, exchange_shape, relation_found};
+ghost use Rattle.vx_plan.specs.Named.{names_of};
+
+use crate::claims::single;
+use crate::fault::PlanFault;
+use crate::fits::route_fits;
+use crate::lookup::{
+    Declared, column_found, columns_found, matched, once, range_found, size_found,
+};
+use crate::plan::NamedKind;
+use crate::typed::{Columns, Exchange, Kind, Route};
+use std::alloc::Global;
+use vx_rows::ColType;
+
+/// How an exchange sends: a size comes before a range, and that before columns.
+#[tactic(auto, unfolding(crate::specs::Resolve::kind_found))]
+fn kind_found(
+    alloc: Global,
+    declared: &Declared<'_>,
+    node: u32,
+    names: &[String],
+    kind: &NamedKind,
+) -> Result<Kind, PlanFault>
+    ensures { Gives kind_of result (kind_found (names_of declared.now) node (map string_bytes names.now) (kind_form kind.now)) }
+{
+    match kind {
+        NamedKind::Hash {
+            size,
+            route,
+            columns,
+        } => {
+            let size = size_found(alloc, declared, size.as_str())?;
+            let positions = columns_found(alloc, node, names, columns.as_slice())?;
+            let name = String::from_str(alloc, route.as_str())?;
+            Ok(Kind::Route(size, Route::Hash(name), positions))
+        }
+        NamedKind::Range {
+            size,
+            range,
+            column,
+        } => {
+            let size = size_found(alloc, declared, size.as_str())?;
+            let number = range_found(alloc, declared, node, range.as_str())?;
+            let position = column_found(alloc, node, names, column.as_str())?;
+            let positions = single(alloc, position)?;
+            Ok(Kind::Route(size, Route::Range(number), positions))
+        }
+        NamedKind::Round(size) => {
+            let size = size_found(alloc, declared, size.as_str())?;
+            Ok(Kind::Round(size))
+        }
+        NamedKind::Broadcast(size) => {
+            let size = size_found(alloc, declared, size.as_str())?;
+            Ok(Kind::Broadcast(size))
+        }
+        NamedKind::Gather => Ok(Kind::Gather),
+    }
+}
+
+/// The hashed columns of an exchange stand once.
+#[tactic(auto, unfolding(crate::specs::Lookup::once, crate::specs::Lookup::tested_onto))]
+fn kind_once(alloc: Global, node: u32, kind: &NamedKind) -> Result<(), PlanFault>
+    ensures { Gives (λ _. tt) result (once node (kind_names (kind_form kind.now))) }
+{
+    match kind {
+        NamedKind::Hash { columns, .. } => once(alloc, node, columns.as_slice()),
+        NamedKind::Range { .. }
+        | NamedKind::Round(_)
+        | NamedKind::Broadcast(_)
+        | NamedKind::Gather => Ok(()),
+    }
+}
+
+fn kind_fits(declared: &Declared<'_>, types: &[ColType], kind: &Kind) -> bool
+    ensures { result ≡ kind_fits (names_of declared.now) types.now (kind_of kind.now) }
+{
+    match kind {
+        Kind::Route(_, route, columns) => route_fits(declared, types, route, columns.as_slice()),
+        Kind::Round(_) | Kind::Broadcast(_) | Kind::Gather => true,
+    }
+}
+
+#[tactic(auto, unfolding(crate::specs::Resolve::exchange_columns))]
+fn exchange_columns(
+    alloc: Global,
+    declared: &Declared<'_>,
+    node: u32,
+    names: &[String],
+    kind: &NamedKind,
+    merge: &[String],
+) -> Result<Exchange, PlanFault>
+    ensures { Gives (λ e. (kind_of e.kind, e.merge.items)) result (exchange_columns (names_of declared.now) node (map string_bytes names.now) (kind_form kind.now) (map string_bytes merge.now)) }
+{
+    let kind = kind_found(alloc, declared, node, names, kind)?;
+    let merge = columns_found(alloc, node, names, merge)?;
+    Ok(Exchange { kind, merge })
+}
+
+#[tactic(auto, unfolding(crate::specs::Resolve::exchange_once))]
+fn exchange_once(
+    alloc: Global,
+    node: u32,
+    kind: &NamedKind,
+    merge: &[String],
+) -> Result<(), PlanFault>
+    ensures { Gives (λ _. tt) result (exchange_once node (kind_form kind.now) (map string_bytes merge.now)) }
+{
+    kind_once(alloc, node, kind)?;
+    once(alloc, node, merge)
+}
+
+/// An exchange by positions. The routed columns come before those to merge on.
+#[tactic(auto, unfolding(crate::specs::Resolve::exchange_shape))]
+pub fn exchange_shape(
+    alloc: Global,
+    declared: &Declared<'_>,
+    node: u32,
+    input: &Columns,
+    kind: &NamedKind,
+    merge: &[String],
+) -> Result<Exchange, PlanFault>
+    ensures { Gives (λ e. (kind_of e.kind, e.merge.items)) result (exchange_shape (names_of declared.now) node (columns_of input.now) (kind_form kind.now) (map string_bytes merge.now)) }
+{
+    let exchange = exchange_columns(alloc, declared, node, input.names.as_slice(), kind, merge)?;
+    exchange_once(alloc, node, kind, merge)?;
+    matched(
+        node,
+        kind_fits(declared, input.types.as_slice(), &exchange.kind),
+    )?;
+    Ok(exchange)
+}
+
+/// The number of the relation of this name.
+#[tactic(auto, unfolding(crate::specs::Resolve::relation_found))]
+pub fn relation_found(
+    alloc: Global,
+    declared: &Declared<'_>,
+    node: u32,
+    name: &str,
+) -> Result<usize, PlanFault>
+    ensures value { Gives (λ r. r) result (relation_found (names_of declared.now) node name.now) }
+    ensures there { IfOk result (λ r. r < length declared.now.catalog.now) }
+{
+    match declared.catalog.find(name) {
+        Some(relation) => Ok(relation),
+        None => Err(PlanFault::UnknownRelation {
+            node,
+            name: String::from_str(alloc, name)?,
+        }),
+    }
+}

@@ -1,0 +1,154 @@
+//! The nodes of a plan over a catalog: numbered in preorder, tested in post-order.
+
+ghost use Rattle.std.specs.Prelude.{◌≡◌, ◌+◌, ◌<◌, ◌^◌, map, string_bytes, IfOk};
+ghost use Rattle.vx_plan.specs.Fault.{Gives};
+ghost use Rattle.vx_plan.specs.Document.{claim_form, scan_form, unary_form, binary_form, kind_form, tree_of, tree_nodes};
+ghost use Rattle.vx_plan.specs.Outline.{outline_of, columns_of, columns};
+ghost use Rattle.vx_plan.specs.Resolve.{scan_typed, unary_typed, binary_typed, exchange_typed, typed_in};
+ghost use Rattle.vx_plan.specs.Named.{names_of};
+
+use crate::binary_nodes::{Joint, binary_shape};
+use crate::claims::topped;
+use crate::columns::{copied, scanned};
+use crate::exchange_nodes::{exchange_shape, relation_found};
+use crate::fault::PlanFault;
+use crate::lookup::{Declared, size_found};
+use crate::plan::{NamedBinary, NamedClaim, NamedKind, NamedScan, NamedUnary, Node};
+use crate::typed::{Columns, Scan, TypedNode};
+use crate::unary_nodes::{Shape, unary_shape};
+use std::alloc::Global;
+
+/// The columns of a node's output.
+fn columns(node: &TypedNode) -> &Columns
+    ensures { columns_of result.now ≡ columns (outline_of node.now) }
+{
+    &node.head().columns
+}
+
+#[tactic(auto, unfolding(crate::specs::Resolve::scan_typed))]
+fn scan_typed(
+    alloc: Global,
+    declared: &Declared<'_>,
+    node: u32,
+    claim: &NamedClaim,
+    scan: &NamedScan,
+) -> Result<TypedNode, PlanFault>
+    ensures { Gives outline_of result (scan_typed (names_of declared.now) node (claim_form claim.now) (scan_form scan.now)) }
+{
+    let relation = relation_found(alloc, declared, node, scan.relation.as_str())?;
+    let size = size_found(alloc, declared, scan.size.as_str())?;
+    let columns = scanned(alloc, declared.catalog.get(relation), scan.prefix.as_str())?;
+    let head = topped(alloc, declared, node, columns, claim)?;
+    let prefix = String::from_str(alloc, scan.prefix.as_str())?;
+    Ok(TypedNode::Scan(
+        head,
+        Scan {
+            relation,
+            shared: scan.shared,
+            size,
+            prefix,
+        },
+    ))
+}
+
+#[tactic(auto, unfolding(crate::specs::Resolve::unary_typed))]
+fn unary_typed(
+    alloc: Global,
+    declared: &Declared<'_>,
+    node: u32,
+    claim: &NamedClaim,
+    unary: &NamedUnary,
+    input: TypedNode,
+) -> Result<TypedNode, PlanFault>
+    ensures { Gives outline_of result (unary_typed (names_of declared.now) node (claim_form claim.now) (unary_form unary.now) (outline_of input)) }
+{
+    let shape = unary_shape(alloc, node, columns(&input), unary)?;
+    let Shape { unary, columns } = shape;
+    let head = topped(alloc, declared, node, columns, claim)?;
+    Ok(TypedNode::Unary(head, unary, Box::new(alloc, input)?))
+}
+
+#[tactic(auto, unfolding(crate::specs::Resolve::binary_typed))]
+fn binary_typed(
+    alloc: Global,
+    declared: &Declared<'_>,
+    node: u32,
+    claim: &NamedClaim,
+    binary: &NamedBinary,
+    left: TypedNode,
+    right: TypedNode,
+) -> Result<TypedNode, PlanFault>
+    ensures { Gives outline_of result (binary_typed (names_of declared.now) node (claim_form claim.now) (binary_form binary.now) (outline_of left) (outline_of right)) }
+{
+    let joint = binary_shape(alloc, node, columns(&left), columns(&right), binary)?;
+    let Joint { binary, columns } = joint;
+    let head = topped(alloc, declared, node, columns, claim)?;
+    Ok(TypedNode::Binary(
+        head,
+        binary,
+        Box::new(alloc, left)?,
+        Box::new(alloc, right)?,
+    ))
+}
+
+#[tactic(auto, unfolding(crate::specs::Resolve::exchange_typed))]
+fn exchange_typed(
+    alloc: Global,
+    declared: &Declared<'_>,
+    node: u32,
+    claim: &NamedClaim,
+    kind: &NamedKind,
+    merge: &[String],
+    input: TypedNode,
+) -> Result<TypedNode, PlanFault>
+    ensures { Gives outline_of result (exchange_typed (names_of declared.now) node (claim_form claim.now) (kind_form kind.now) (map string_bytes merge.now) (outline_of input)) }
+{
+    let exchange = exchange_shape(alloc, declared, node, columns(&input), kind, merge)?;
+    let output = copied(alloc, columns(&input))?;
+    let head = topped(alloc, declared, node, output, claim)?;
+    Ok(TypedNode::Exchange(head, exchange, Box::new(alloc, input)?))
+}
+
+/// The typed nodes of a tree whose top has this number, and the number after its last.
+#[tactic(auto, unfolding(crate::specs::Resolve::typed_in))]
+pub fn typed_in(
+    alloc: Global,
+    declared: &Declared<'_>,
+    number: u32,
+    tree: &Node,
+) -> Result<(TypedNode, u32), PlanFault>
+    requires { number + tree_nodes (tree_of tree.now) < 2 ^ 32 }
+    ensures value { Gives (λ r. (outline_of r.0, r.1)) result (typed_in (names_of declared.now) number (tree_of tree.now)) }
+    ensures count { IfOk result (λ r. r.1 ≡ number + tree_nodes (tree_of tree.now)) }
+{
+    match tree {
+        Node::Scan(claim, scan) => {
+            let node = scan_typed(alloc, declared, number, claim, scan)?;
+            Ok((node, number + 1))
+        }
+        Node::Unary(claim, unary, input) => {
+            let (below, next) = typed_in(alloc, declared, number + 1, input)?;
+            let node = unary_typed(alloc, declared, number, claim, unary, below)?;
+            Ok((node, next))
+        }
+        Node::Binary(claim, binary, left, right) => {
+            let (first, between) = typed_in(alloc, declared, number + 1, left)?;
+            let (second, next) = typed_in(alloc, declared, between, right)?;
+            let node = binary_typed(alloc, declared, number, claim, binary, first, second)?;
+            Ok((node, next))
+        }
+        Node::Exchange(claim, kind, merge, input) => {
+            let (below, next) = typed_in(alloc, declared, number + 1, input)?;
+            let node = exchange_typed(
+                alloc,
+                declared,
+                number,
+                claim,
+                kind,
+                merge.as_slice(),
+                below,
+            )?;
+            Ok((node, next))
+        }
+    }
+}

@@ -1,0 +1,131 @@
+//! A plan over a catalog: sizes, then ranges, then nodes in post-order.
+
+ghost use Rattle.std.specs.Prelude.{◌≡◌, map, string_bytes, IfOk};
+ghost use Rattle.std.specs.List.{list_any};
+ghost use Rattle.std.specs.Prelude.{bytes_eq};
+ghost use Rattle.vx_rows.specs.View.{val_of};
+ghost use Rattle.vx_plan.specs.Fault.{Gives};
+ghost use Rattle.vx_plan.specs.Document.{range_form};
+ghost use Rattle.vx_plan.specs.PlanView.{document_of};
+ghost use Rattle.vx_plan.specs.Resolve.{is_bad_size, sizes_tested, is_bad_range, ranges_tested, resolved};
+ghost use Rattle.vx_plan.specs.TypedView.{resolved_of};
+
+use crate::columns::copied_names;
+use crate::document::Plan;
+use crate::fault::PlanFault;
+use crate::fits::is_range;
+use crate::lookup::{Declared, copied_value, has_name};
+use crate::nodes::typed_in;
+use crate::plan::NamedRange;
+use crate::typed_plan::TypedPlan;
+use std::alloc::{AllocError, Global};
+use vx_catalog::Catalog;
+use vx_rows::Value;
+
+fn is_bad_size(front: &[String], name: &str) -> bool
+    ensures { result ≡ is_bad_size (map string_bytes front.now) name.now }
+{
+    front.len() >= 16 || name == "one" || has_name(front, name)
+}
+
+/// No size name is `one`, stands twice or is the 17th.
+#[tactic(auto, unfolding(crate::specs::Resolve::sizes_tested))]
+fn sizes_tested(alloc: Global, sizes: &[String]) -> Result<(), PlanFault>
+    ensures { Gives (λ _. tt) result (sizes_tested (map string_bytes sizes.now)) }
+{
+    for i in 0..sizes.len() {
+        let name = sizes[i].as_str();
+        if is_bad_size(&sizes[..i], name) {
+            return Err(PlanFault::BadSize {
+                name: String::from_str(alloc, name)?,
+            });
+        }
+    }
+    Ok(())
+}
+
+fn is_any_range(ranges: &[NamedRange], name: &str) -> bool
+    ensures { result ≡ list_any (λ r. bytes_eq name.now (string_bytes r.name)) ranges.now }
+{
+    ranges.iter().any(|r| name == r.name.as_str())
+}
+
+fn has_range(ranges: &[NamedRange], name: &str) -> bool
+    ensures { result ≡ list_any (λ r. bytes_eq name.now r.name) (map range_form ranges.now) }
+{
+    is_any_range(ranges, name)
+}
+
+fn is_bad_range(front: &[NamedRange], range: &NamedRange) -> bool
+    ensures { result ≡ is_bad_range (map range_form front.now) (range_form range.now) }
+{
+    has_range(front, range.name.as_str()) || !is_range(range.bounds.as_slice())
+}
+
+/// No range stands twice or has bad bounds.
+#[tactic(auto, unfolding(crate::specs::Resolve::ranges_tested))]
+fn ranges_tested(alloc: Global, ranges: &[NamedRange]) -> Result<(), PlanFault>
+    ensures { Gives (λ _. tt) result (ranges_tested (map range_form ranges.now)) }
+{
+    for i in 0..ranges.len() {
+        let range = &ranges[i];
+        if is_bad_range(&ranges[..i], range) {
+            return Err(PlanFault::BadRange {
+                name: String::from_str(alloc, range.name.as_str())?,
+            });
+        }
+    }
+    Ok(())
+}
+
+fn copied_values(alloc: Global, values: &[Value]) -> Result<Vec<Value>, AllocError>
+    ensures { IfOk result (λ v. map val_of v.items ≡ map val_of values.now) }
+{
+    let mut copies = Vec::new(alloc);
+    for value in values {
+        copies.push(copied_value(alloc, value)?)?;
+    }
+    Ok(copies)
+}
+
+fn copied_range(alloc: Global, range: &NamedRange) -> Result<NamedRange, AllocError>
+    ensures { IfOk result (λ r. range_form r ≡ range_form range.now) }
+{
+    Ok(NamedRange {
+        name: String::from_str(alloc, range.name.as_str())?,
+        bounds: copied_values(alloc, range.bounds.as_slice())?,
+    })
+}
+
+pub fn copied_ranges(alloc: Global, ranges: &[NamedRange]) -> Result<Vec<NamedRange>, AllocError>
+    ensures { IfOk result (λ v. map range_form v.items ≡ map range_form ranges.now) }
+{
+    let mut copies = Vec::new(alloc);
+    for range in ranges {
+        copies.push(copied_range(alloc, range)?)?;
+    }
+    Ok(copies)
+}
+
+/// The typed plan of a plan over a catalog: column positions, types, and preorder numbers of nodes, the left input
+/// before the right one. The refusal is the first: the sizes' `BadSize`, the ranges' `BadRange`, then the nodes in
+/// post-order. At a node the tests of its operator come before those of its claim, each in the order
+/// `UnknownRelation`, `BadSize`, `UnknownRange`, `UnknownColumn`, `DuplicateColumn`, `TooWide`, `TypeMismatch`.
+#[tactic(auto, unfolding(crate::specs::Resolve::resolved))]
+pub fn resolve(alloc: Global, plan: &Plan, catalog: &Catalog) -> Result<TypedPlan, PlanFault>
+    ensures { Gives resolved_of result (resolved (document_of plan.now) catalog.now) }
+{
+    let declared = Declared {
+        catalog,
+        ranges: plan.ranges(),
+        sizes: plan.sizes(),
+    };
+    sizes_tested(alloc, declared.sizes)?;
+    ranges_tested(alloc, declared.ranges)?;
+    let (root, _) = typed_in(alloc, &declared, 0, plan.root())?;
+    let _relations = catalog.len();
+    let own = catalog.copy(alloc)?;
+    let sizes = copied_names(alloc, declared.sizes)?;
+    let ranges = copied_ranges(alloc, declared.ranges)?;
+    Ok(TypedPlan::new(own, sizes, ranges, plan.is_total(), root))
+}

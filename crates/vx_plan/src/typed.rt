@@ -1,0 +1,151 @@
+//! Nodes over a catalog: columns by position, nodes by number.
+
+ghost use Rattle.std.specs.Prelude.{◌≡◌};
+ghost use Rattle.vx_plan.specs.Outline.{outline_of, top_of, top};
+
+use crate::test::Test;
+use vx_rows::{ColType, Value};
+
+/// How many workers: one, or as many as a declared size name is bound to, by the name's number.
+#[derive(Clone, Copy, Debug, PartialEq, Eq)]
+pub enum Size {
+    One,
+    Group(usize),
+}
+
+/// Where a key is sent: by a hash of this name, or by the declared range with this number.
+#[derive(Debug, Drop)]
+pub enum Route {
+    Hash(String),
+    Range(usize),
+}
+
+/// How rows lie on workers, as a note claims it.
+#[derive(Debug, Drop)]
+pub enum Part {
+    One,
+    Any,
+    All,
+    Routed(Route, Vec<usize>),
+}
+
+/// An optimizer's note, over the columns of the node's output.
+#[derive(Debug, Drop)]
+pub struct Claim {
+    pub part: Part,
+    pub order: Vec<usize>,
+    pub keys: Vec<Vec<usize>>,
+}
+
+/// The right side of a condition.
+#[derive(Debug, Drop)]
+pub enum Side {
+    Column(usize),
+    Constant(Value),
+}
+
+/// A column compared with a constant or another column of its type.
+#[derive(Debug, Drop)]
+pub struct Condition {
+    pub left: usize,
+    pub test: Test,
+    pub right: Side,
+}
+
+/// What is computed of the rows of a group.
+#[derive(Clone, Copy, Debug, PartialEq, Eq)]
+pub enum Aggregate {
+    Least(usize),
+    Greatest(usize),
+    Sum(usize),
+    CountRows,
+}
+
+/// A column of the input that is kept, and whether the plan gives it a new name.
+#[derive(Clone, Copy, Debug, PartialEq, Eq)]
+pub struct Kept {
+    pub column: usize,
+    pub renamed: bool,
+}
+
+/// The columns of an output: as many names as types.
+#[derive(Debug, Drop)]
+pub struct Columns {
+    pub names: Vec<String>,
+    pub types: Vec<ColType>,
+}
+
+/// What every node has: its number in preorder, its claim and its output.
+#[derive(Debug, Drop)]
+pub struct Head {
+    pub number: u32,
+    pub claim: Claim,
+    pub columns: Columns,
+}
+
+/// A scan of the relation with this number. An empty prefix is none.
+#[derive(Debug, Drop)]
+pub struct Scan {
+    pub relation: usize,
+    /// The workers share the rows, or else each has all of them.
+    pub shared: bool,
+    pub size: Size,
+    pub prefix: String,
+}
+
+/// An operator over one input, by the columns of that input.
+#[derive(Debug, Drop)]
+pub enum Unary {
+    Select(Vec<Condition>),
+    Project(Vec<Kept>),
+    Distinct(Vec<Kept>),
+    Sort(Vec<usize>),
+    Group(Vec<usize>, Vec<Aggregate>),
+}
+
+/// An operator over two inputs. A join has pairs (left column, right column).
+#[derive(Debug, Drop)]
+pub enum Binary {
+    Union,
+    HashJoin(Vec<(usize, usize)>),
+    MergeJoin(Vec<(usize, usize)>),
+}
+
+/// How an exchange sends, and to a group of which size.
+#[derive(Debug, Drop)]
+pub enum Kind {
+    Route(Size, Route, Vec<usize>),
+    Round(Size),
+    Broadcast(Size),
+    Gather,
+}
+
+/// An exchange. It merges on these columns, if there are any.
+#[derive(Debug, Drop)]
+pub struct Exchange {
+    pub kind: Kind,
+    pub merge: Vec<usize>,
+}
+
+/// A tree of operators over a catalog.
+#[derive(Debug, Drop)]
+pub enum TypedNode {
+    Scan(Head, Scan),
+    Unary(Head, Unary, Box<TypedNode>),
+    Binary(Head, Binary, Box<TypedNode>, Box<TypedNode>),
+    Exchange(Head, Exchange, Box<TypedNode>),
+}
+
+impl TypedNode {
+    /// What every node has: its number, its claim and its output.
+    pub fn head(&self) -> &Head
+        ensures { top_of result.now ≡ top (outline_of self.now) }
+    {
+        match self {
+            TypedNode::Scan(head, _) => head,
+            TypedNode::Unary(head, _, _) => head,
+            TypedNode::Binary(head, _, _, _) => head,
+            TypedNode::Exchange(head, _, _) => head,
+        }
+    }
+}

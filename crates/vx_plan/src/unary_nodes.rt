@@ -1,0 +1,325 @@
+//! Operators over one input, by the columns of that input.
+
+ghost use Rattle.std.specs.Prelude.{◌≡◌, [], map, string_bytes, IfOk};
+ghost use Rattle.vx_plan.specs.Fault.{Gives};
+ghost use Rattle.vx_plan.specs.Document.{side_form, condition_form, output_form, function_form, aggregate_form, unary_form};
+ghost use Rattle.vx_plan.specs.Outline.{side_of, condition_of, aggregate_of, columns_of};
+ghost use Rattle.vx_plan.specs.Resolve.{side_found, condition_found, conditions_found, select_shape, output_name, kept_found, all_kept_found, kept_shape, kept_columns, project_shape, distinct_shape, sort_shape, function_found, aggregates_found, group_found, group_tested, group_shape, unary_shape};
+ghost use Rattle.vx_plan.specs.Shaped.{shape_of};
+
+use crate::columns::{copied, group_names, group_types, kept_types, output_names};
+use crate::fault::PlanFault;
+use crate::fits::{are_aggregates, are_conditions};
+use crate::lookup::{column_found, columns_found, copied_value, matched, narrow, once};
+use crate::plan::{
+    NamedAggregate, NamedCondition, NamedFunction, NamedOutput, NamedSide, NamedUnary,
+};
+use crate::typed::{Aggregate, Columns, Condition, Kept, Side, Unary};
+use std::alloc::Global;
+use vx_rows::ColType;
+
+/// An operator over one input, and its output.
+#[derive(Debug, Drop)]
+pub struct Shape {
+    pub unary: Unary,
+    pub columns: Columns,
+}
+
+#[tactic(auto, unfolding(crate::specs::Resolve::side_found))]
+fn side_found(
+    alloc: Global,
+    node: u32,
+    names: &[String],
+    side: &NamedSide,
+) -> Result<Side, PlanFault>
+    ensures { Gives side_of result (side_found node (map string_bytes names.now) (side_form side.now)) }
+{
+    match side {
+        NamedSide::Column(name) => {
+            let column = column_found(alloc, node, names, name.as_str())?;
+            Ok(Side::Column(column))
+        }
+        NamedSide::Constant(value) => Ok(Side::Constant(copied_value(alloc, value)?)),
+    }
+}
+
+#[tactic(auto, unfolding(crate::specs::Resolve::condition_found))]
+fn condition_found(
+    alloc: Global,
+    node: u32,
+    names: &[String],
+    condition: &NamedCondition,
+) -> Result<Condition, PlanFault>
+    ensures { Gives condition_of result (condition_found node (map string_bytes names.now) (condition_form condition.now)) }
+{
+    let left = column_found(alloc, node, names, condition.left.as_str())?;
+    let right = side_found(alloc, node, names, &condition.right)?;
+    Ok(Condition {
+        left,
+        test: condition.test,
+        right,
+    })
+}
+
+fn conditions_found(
+    alloc: Global,
+    node: u32,
+    names: &[String],
+    conditions: &[NamedCondition],
+) -> Result<Vec<Condition>, PlanFault>
+    ensures { Gives (λ v. map condition_of v.items) result (conditions_found node (map string_bytes names.now) (map condition_form conditions.now)) }
+{
+    let mut found = Vec::new(alloc);
+    for condition in conditions {
+        let one = condition_found(alloc, node, names, condition)?;
+        found.push(one)?;
+    }
+    Ok(found)
+}
+
+#[tactic(auto, unfolding(crate::specs::Resolve::select_shape))]
+fn select_shape(
+    alloc: Global,
+    node: u32,
+    input: &Columns,
+    conditions: &[NamedCondition],
+) -> Result<Shape, PlanFault>
+    ensures { Gives shape_of result (select_shape node (columns_of input.now) (map condition_form conditions.now)) }
+{
+    let found = conditions_found(alloc, node, input.names.as_slice(), conditions)?;
+    matched(
+        node,
+        are_conditions(input.types.as_slice(), found.as_slice()),
+    )?;
+    let columns = copied(alloc, input)?;
+    Ok(Shape {
+        unary: Unary::Select(found),
+        columns,
+    })
+}
+
+#[tactic(auto, unfolding(crate::specs::Resolve::kept_found))]
+fn kept_found(
+    alloc: Global,
+    node: u32,
+    names: &[String],
+    output: &NamedOutput,
+) -> Result<Kept, PlanFault>
+    ensures { Gives (λ k. k) result (kept_found node (map string_bytes names.now) (output_form output.now)) }
+{
+    let column = column_found(alloc, node, names, output.column.as_str())?;
+    Ok(Kept {
+        column,
+        renamed: output.renamed.is_some(),
+    })
+}
+
+fn all_kept_found(
+    alloc: Global,
+    node: u32,
+    names: &[String],
+    outputs: &[NamedOutput],
+) -> Result<Vec<Kept>, PlanFault>
+    ensures { Gives (λ v. v.items) result (all_kept_found node (map string_bytes names.now) (map output_form outputs.now)) }
+{
+    let mut found = Vec::new(alloc);
+    for output in outputs {
+        let one = kept_found(alloc, node, names, output)?;
+        found.push(one)?;
+    }
+    Ok(found)
+}
+
+/// The kept columns of a projection or a distinct. No output name stands twice.
+#[tactic(auto, unfolding(crate::specs::Resolve::kept_shape))]
+fn kept_shape(
+    alloc: Global,
+    node: u32,
+    input: &Columns,
+    outputs: &[NamedOutput],
+) -> Result<(Vec<Kept>, Vec<String>), PlanFault>
+    ensures kept { Gives (λ r. r.0.items) result (kept_shape node (columns_of input.now) (map output_form outputs.now)) }
+    ensures names { IfOk result (λ r. map string_bytes r.1.items ≡ map output_name (map output_form outputs.now)) }
+{
+    let found = all_kept_found(alloc, node, input.names.as_slice(), outputs)?;
+    let names = output_names(alloc, outputs)?;
+    once(alloc, node, names.as_slice())?;
+    narrow(node, outputs.len())?;
+    Ok((found, names))
+}
+
+#[tactic(auto, unfolding(crate::specs::Resolve::project_shape))]
+fn project_shape(
+    alloc: Global,
+    node: u32,
+    input: &Columns,
+    outputs: &[NamedOutput],
+) -> Result<Shape, PlanFault>
+    ensures { Gives shape_of result (project_shape node (columns_of input.now) (map output_form outputs.now)) }
+{
+    let (kept, names) = kept_shape(alloc, node, input, outputs)?;
+    let types = kept_types(alloc, input.types.as_slice(), kept.as_slice())?;
+    Ok(Shape {
+        unary: Unary::Project(kept),
+        columns: Columns { names, types },
+    })
+}
+
+#[tactic(auto, unfolding(crate::specs::Resolve::distinct_shape))]
+fn distinct_shape(
+    alloc: Global,
+    node: u32,
+    input: &Columns,
+    outputs: &[NamedOutput],
+) -> Result<Shape, PlanFault>
+    ensures { Gives shape_of result (distinct_shape node (columns_of input.now) (map output_form outputs.now)) }
+{
+    let (kept, names) = kept_shape(alloc, node, input, outputs)?;
+    let types = kept_types(alloc, input.types.as_slice(), kept.as_slice())?;
+    Ok(Shape {
+        unary: Unary::Distinct(kept),
+        columns: Columns { names, types },
+    })
+}
+
+#[tactic(auto, unfolding(crate::specs::Resolve::sort_shape))]
+fn sort_shape(
+    alloc: Global,
+    node: u32,
+    input: &Columns,
+    names: &[String],
+) -> Result<Shape, PlanFault>
+    ensures { Gives shape_of result (sort_shape node (columns_of input.now) (map string_bytes names.now)) }
+{
+    let found = columns_found(alloc, node, input.names.as_slice(), names)?;
+    once(alloc, node, names)?;
+    let columns = copied(alloc, input)?;
+    Ok(Shape {
+        unary: Unary::Sort(found),
+        columns,
+    })
+}
+
+#[tactic(auto, unfolding(crate::specs::Resolve::function_found))]
+fn function_found(
+    alloc: Global,
+    node: u32,
+    names: &[String],
+    function: &NamedFunction,
+) -> Result<Aggregate, PlanFault>
+    ensures { Gives aggregate_of result (function_found node (map string_bytes names.now) (function_form function.now)) }
+{
+    match function {
+        NamedFunction::Least(name) => {
+            let column = column_found(alloc, node, names, name.as_str())?;
+            Ok(Aggregate::Least(column))
+        }
+        NamedFunction::Greatest(name) => {
+            let column = column_found(alloc, node, names, name.as_str())?;
+            Ok(Aggregate::Greatest(column))
+        }
+        NamedFunction::Sum(name) => {
+            let column = column_found(alloc, node, names, name.as_str())?;
+            Ok(Aggregate::Sum(column))
+        }
+        NamedFunction::CountRows => Ok(Aggregate::CountRows),
+    }
+}
+
+fn aggregates_found(
+    alloc: Global,
+    node: u32,
+    names: &[String],
+    aggregates: &[NamedAggregate],
+) -> Result<Vec<Aggregate>, PlanFault>
+    ensures { Gives (λ v. map aggregate_of v.items) result (aggregates_found node (map string_bytes names.now) (map aggregate_form aggregates.now)) }
+{
+    let mut found = Vec::new(alloc);
+    for aggregate in aggregates {
+        let one = function_found(alloc, node, names, &aggregate.function)?;
+        found.push(one)?;
+    }
+    Ok(found)
+}
+
+#[tactic(auto, unfolding(crate::specs::Resolve::group_found))]
+fn group_found(
+    alloc: Global,
+    node: u32,
+    names: &[String],
+    by: &[String],
+    aggregates: &[NamedAggregate],
+) -> Result<(Vec<usize>, Vec<Aggregate>), PlanFault>
+    ensures { Gives (λ r. (r.0.items, map aggregate_of r.1.items)) result (group_found node (map string_bytes names.now) (map string_bytes by.now) (map aggregate_form aggregates.now)) }
+{
+    let keys = columns_found(alloc, node, names, by)?;
+    let found = aggregates_found(alloc, node, names, aggregates)?;
+    Ok((keys, found))
+}
+
+#[tactic(auto, unfolding(crate::specs::Resolve::group_tested))]
+fn group_tested(
+    alloc: Global,
+    node: u32,
+    types: &[ColType],
+    names: &[String],
+    aggregates: &[Aggregate],
+) -> Result<(), PlanFault>
+    ensures { Gives (λ _. tt) result (group_tested node types.now (map string_bytes names.now) (map aggregate_of aggregates.now)) }
+{
+    once(alloc, node, names)?;
+    narrow(node, names.len())?;
+    matched(node, are_aggregates(types, aggregates))
+}
+
+#[tactic(auto, unfolding(crate::specs::Resolve::group_shape))]
+fn group_shape(
+    alloc: Global,
+    node: u32,
+    input: &Columns,
+    by: &[String],
+    aggregates: &[NamedAggregate],
+) -> Result<Shape, PlanFault>
+    ensures { Gives shape_of result (group_shape node (columns_of input.now) (map string_bytes by.now) (map aggregate_form aggregates.now)) }
+{
+    let (keys, found) = group_found(alloc, node, input.names.as_slice(), by, aggregates)?;
+    let names = group_names(alloc, by, aggregates)?;
+    group_tested(
+        alloc,
+        node,
+        input.types.as_slice(),
+        names.as_slice(),
+        found.as_slice(),
+    )?;
+    let types = group_types(
+        alloc,
+        input.types.as_slice(),
+        keys.as_slice(),
+        found.as_slice(),
+    )?;
+    Ok(Shape {
+        unary: Unary::Group(keys, found),
+        columns: Columns { names, types },
+    })
+}
+
+/// An operator by positions, and its output.
+#[tactic(auto, unfolding(crate::specs::Resolve::unary_shape))]
+pub fn unary_shape(
+    alloc: Global,
+    node: u32,
+    input: &Columns,
+    unary: &NamedUnary,
+) -> Result<Shape, PlanFault>
+    ensures { Gives shape_of result (unary_shape node (columns_of input.now) (unary_form unary.now)) }
+{
+    match unary {
+        NamedUnary::Select(conditions) => select_shape(alloc, node, input, conditions.as_slice()),
+        NamedUnary::Project(outputs) => project_shape(alloc, node, input, outputs.as_slice()),
+        NamedUnary::Distinct(outputs) => distinct_shape(alloc, node, input, outputs.as_slice()),
+        NamedUnary::Sort(names) => sort_shape(alloc, node, input, names.as_slice()),
+        NamedUnary::Group(by, aggregates) => {
+            group_shape(alloc, node, input, by.as_slice(), aggregates.as_slice())
+        }
+    }
+}

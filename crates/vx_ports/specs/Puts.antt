@@ -1,0 +1,21 @@
+-- What a port answers to a put, and the state of a link.
+use Rattle.std.specs.Prelude.{◌≡◌, ℕ, ◌+◌, ◌≤◌, Bool, true, false, List, [], ◌∷◌, ◌++◌}
+use Rattle.vx_ports.specs.Packets.{Parcel, closes}
+use Rattle.vx_ports.specs.declared.port.Put.{Put}
+use Rattle.vx_ports.specs.declared.port.Put.TheVariants.{Done, Full, NoMemory}
+
+-- the packet went in, or came back
+abbrev pub PutOutcome : Parcel → Put → Type 0 → Type 0 → Type 0
+PutOutcome p Done Puts Stays = Puts
+PutOutcome p (Full q) Puts Stays = (q ≡ p) × Stays
+PutOutcome p (NoMemory q) Puts Stays = (q ≡ p) × Stays
+
+abbrev pub IsDone : Put → Type 0
+IsDone Done = Unit {0}
+IsDone (Full q) = ⊥
+IsDone (NoMemory q) = ⊥
+
+abbrev pub IsNeverFull : Put → Type 0
+IsNeverFull Done = Unit {0}
+IsNeverFull (Full q) = ⊥
+IsNeverFull (NoMemory q) = Unit {0}

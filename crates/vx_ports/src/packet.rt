@@ -1,0 +1,157 @@
+//! Packets: the units in which an exchange passes rows on (Graefe's packets).
+
+use std::marker::Model;
+use vx_rows::{ColType, Rows};
+
+/// What a packet is.
+#[derive(Clone, Copy, Debug, PartialEq, Eq)]
+pub enum Kind {
+    Rows,
+    Last,
+    Fault,
+}
+
+/// The two ends of a producer's stream.
+#[derive(Clone, Copy, Debug, PartialEq, Eq)]
+pub enum Ending {
+    /// All rows were sent.
+    Last,
+    /// The producer failed: what was sent is cut short.
+    Fault,
+}
+
+/// What a packet brings.
+#[derive(Drop)]
+pub enum Body {
+    Rows(Rows),
+    End(Ending),
+}
+
+/// Rows, or the end of a stream, from a producer to a consumer of an exchange. A closing packet holds no rows, but their types.
+#[derive(Drop)]
+pub struct Packet {
+    exchange: u32,
+    from: u32,
+    to: u32,
+    kind: Kind,
+    rows: Rows,
+}
+
+impl Model for Packet {
+    ghost use Rattle.vx_ports.specs.Packets.{Parcel, FitsContent};
+    ghost use Rattle.vx_ports.specs.Seen.{content_of};
+
+    ghost Value = { Parcel };
+
+    ghost view = { λ p. record { exchange = p.exchange; from = p.from; to = p.to; types = p.rows.types; content = content_of p.kind p.rows.rows } };
+
+    ghost invariant = { λ p. FitsContent p.rows.types (content_of p.kind p.rows.rows) };
+}
+
+impl Packet {
+    /// The most rows of a packet.
+    pub const MAX_ROWS: usize = 4096;
+
+    ghost use Rattle.std.specs.Prelude.{◌≡◌, ◌<◌, ◌≤◌, [], IsTrue, ◌↔◌, length};
+    ghost use Rattle.vx_ports.specs.Packets.{Content, brings, last, fault, closes, content_rows, FitsContent};
+    ghost use Rattle.vx_ports.specs.Seen.{ending_content};
+    ghost use Rattle.vx_ports.specs.Bodies.{IsBody};
+
+    /// A packet of rows: 1 to 4,096.
+    pub fn of_rows(exchange: u32, from: u32, to: u32, rows: Rows) -> Packet
+        requires some { 0 < length rows.rows }
+        requires few { length rows.rows ≤ 4096 }
+        ensures { result ≡ record { exchange = exchange; from = from; to = to; types = rows.types; content = brings rows.rows } }
+    {
+        rows.fit();
+        Packet {
+            exchange,
+            from,
+            to,
+            kind: Kind::Rows,
+            rows,
+        }
+    }
+
+    /// A packet that closes a stream of rows like these, which are none.
+    pub fn closing(exchange: u32, from: u32, to: u32, ending: Ending, none: Rows) -> Packet
+        requires { none.rows ≡ [] }
+        ensures { result ≡ record { exchange = exchange; from = from; to = to; types = none.types; content = ending_content ending } }
+    {
+        let kind = match ending {
+            Ending::Last => Kind::Last,
+            Ending::Fault => Kind::Fault,
+        };
+        Packet {
+            exchange,
+            from,
+            to,
+            kind,
+            rows: none,
+        }
+    }
+
+    /// The node number of its exchange.
+    pub fn exchange(&self) -> u32
+        ensures { result ≡ self.now.exchange }
+    {
+        self.exchange
+    }
+
+    /// The place of its producer.
+    pub fn from(&self) -> u32
+        ensures { result ≡ self.now.from }
+    {
+        self.from
+    }
+
+    /// The place of its consumer.
+    pub fn to(&self) -> u32
+        ensures { result ≡ self.now.to }
+    {
+        self.to
+    }
+
+    /// The types of its rows.
+    pub fn types(&self) -> &[ColType]
+        ensures { result.now ≡ self.now.types }
+    {
+        self.rows.types()
+    }
+
+    /// Whether it closes the stream.
+    pub fn is_closing(&self) -> bool
+        ensures { result ≡ closes self.now.content }
+    {
+        match self.kind {
+            Kind::Rows => false,
+            Kind::Last => true,
+            Kind::Fault => true,
+        }
+    }
+
+    /// A packet of rows has 1 to 4,096, and they fit its types. It does nothing: a caller who needs the fact calls it.
+    pub fn fit(&self)
+        ensures { FitsContent self.now.types self.now.content }
+    {
+        let _kind = &self.kind;
+    }
+
+    /// Its rows, or how it ends the stream.
+    pub fn into_body(self) -> Body
+        ensures { IsBody self result }
+    {
+        let Packet {
+            exchange: _,
+            from: _,
+            to: _,
+            kind,
+            rows,
+        } = self;
+        match kind {
+            Kind::Rows => Body::Rows(rows),
+            Kind::Last => Body::End(Ending::Last),
+            Kind::Fault => Body::End(Ending::Fault),
+        }
+    }
+}

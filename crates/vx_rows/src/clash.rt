@@ -1,0 +1,98 @@
+//! The first clash of rows on the columns of a key.
+
+ghost use Rattle.std.specs.Prelude.{◌≡◌, ◌<◌, length, None, IfOk, IsTrue, if◌then◌else◌};
+ghost use Rattle.vx_rows.specs.Order.{agree};
+ghost use Rattle.vx_rows.specs.Keys.{first_clash, earlier_clash, KeyLaw};
+ghost use Rattle.vx_rows.specs.Sorting.{order_on};
+ghost use Rattle.vx_rows.specs.View.{row, AreColumns};
+
+use crate::rows::Rows;
+use crate::sorting::compare_on;
+use std::alloc::{AllocError, Global};
+
+/// The clash found before, or this one where its second row comes first.
+fn earlier(best: Option<(usize, usize)>, first: usize, second: usize) -> Option<(usize, usize)>
+    ensures { result ≡ earlier_clash best first second }
+{
+    match best {
+        None => Some((first, second)),
+        Some(clash) => {
+            if second < clash.1 {
+                Some((first, second))
+            } else {
+                Some(clash)
+            }
+        }
+    }
+}
+
+impl Rows {
+    /// The clash found before, or that of these two rows where they agree and the second of them comes first.
+    fn with_pair(
+        &self,
+        cols: &[usize],
+        best: Option<(usize, usize)>,
+        first: usize,
+        second: usize,
+    ) -> Option<(usize, usize)>
+        requires columns { AreColumns (length self.now.types) cols.now }
+        requires first { first < length self.now.rows }
+        requires second { second < length self.now.rows }
+        ensures { result ≡ (if agree cols.now (row self.now second) (row self.now first) then earlier_clash best first second else best) }
+    {
+        if compare_on(cols, self, second, self, first).is_eq() {
+            earlier(best, first, second)
+        } else {
+            best
+        }
+    }
+
+    /// Whether each row is greater than the one before it, so that no two agree.
+    fn rises(&self, cols: &[usize]) -> bool
+        requires { AreColumns (length self.now.types) cols.now }
+        ensures { IsTrue result → first_clash cols.now self.now.rows ≡ None }
+    {
+        for i in 1..self.len() {
+            if !compare_on(cols, self, i - 1, self, i).is_lt() {
+                return false;
+            }
+        }
+        true
+    }
+
+    /// The first clash, from the positions of the rows in order: rows that agree are neighbours there.
+    fn least_clash(&self, cols: &[usize], positions: &[usize]) -> Option<(usize, usize)>
+        requires columns { AreColumns (length self.now.types) cols.now }
+        requires order { positions.now ≡ order_on cols.now self.now.rows }
+        ensures { result ≡ first_clash cols.now self.now.rows }
+    {
+        let mut best = None;
+        for k in 1..positions.len() {
+            best = self.with_pair(cols, best, positions[k - 1], positions[k]);
+        }
+        best
+    }
+
+    /// The first two rows that agree on these columns, as (earlier, second): the least second position that agrees
+    /// with an earlier one, and the least such earlier one. It takes no memory where the rows rise strictly.
+    pub fn first_key_clash(
+        &self,
+        alloc: Global,
+        cols: &[usize],
+    ) -> Result<Option<(usize, usize)>, AllocError>
+        requires { AreColumns (length self.now.types) cols.now }
+        ensures { IfOk result (λ o. o ≡ first_clash cols.now self.now.rows) }
+    {
+        if self.rises(cols) {
+            return Ok(None);
+        }
+        let positions = self.sorted_positions(alloc, cols)?;
+        Ok(self.least_clash(cols, positions.as_slice()))
+    }
+}
+
+/// The law of keys: rows have a key where no row agrees with a later one, and there is a clash where one does.
+/// It does nothing.
+pub fn keys_are_tested()
+    ensures { KeyLaw }
+{}

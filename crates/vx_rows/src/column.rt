@@ -1,0 +1,140 @@
+//! The values of one column.
+
+ghost use Rattle.std.specs.Prelude.{◌≡◌, ℕ, ◌+◌, ◌-◌, ◌<◌, ◌≤◌, length, pos, slice_index, slice_index_or, OnOk, IfOk};
+ghost use Rattle.vx_rows.specs.View.{cell_val, ArePositions};
+ghost use Rattle.vx_rows.specs.Types.{type_of};
+ghost use Rattle.vx_rows.specs.Columns.{column_type, size, entry, KeepsFront};
+
+use crate::texts::Texts;
+use crate::value::{Cell, ColType};
+use std::alloc::{AllocError, Global};
+
+#[derive(Debug, Drop)]
+pub enum Column {
+    Int(Vec<i64>),
+    Text(Texts),
+}
+
+impl Column {
+    pub fn new(alloc: Global, kind: ColType) -> Result<Column, AllocError>
+        ensures kind { IfOk result (λ c. column_type c ≡ kind) }
+        ensures empty { IfOk result (λ c. size c ≡ 0) }
+    {
+        match kind {
+            ColType::Int => Ok(Column::Int(Vec::new(alloc))),
+            ColType::Text => Ok(Column::Text(Texts::new(alloc)?)),
+        }
+    }
+
+    pub fn get(&self, i: usize) -> Cell<'_>
+        requires { i < size self.now }
+        ensures { cell_val result ≡ entry self.now i }
+    {
+        match self {
+            Column::Int(v) => Cell::Int(v[i]),
+            Column::Text(t) => Cell::Text(t.get(i)),
+        }
+    }
+
+    /// Leaves the first `at` values, and adds one.
+    pub fn put(&mut self, at: usize, cell: Cell<'_>) -> Result<(), AllocError>
+        requires room { at ≤ size self.old }
+        requires kind { type_of (cell_val cell) ≡ column_type self.old }
+        ensures front { KeepsFront at self.old self.new }
+        ensures ok { OnOk result (entry self.new at ≡ cell_val cell.entry) }
+        ensures ok_long { OnOk result (size self.new ≡ at + 1) }
+    {
+        match (self, cell) {
+            (Column::Int(v), Cell::Int(n)) => {
+                v.truncate(at);
+                v.push(n)?;
+                Ok(())
+            }
+            (Column::Text(t), Cell::Text(s)) => t.put(at, s),
+            _ => unreachable!(),
+        }
+    }
+
+    /// Leaves the first `at` values, and adds those of another column from `from` up to `to`.
+    pub fn put_range(
+        &mut self,
+        at: usize,
+        other: &Column,
+        from: usize,
+        to: usize,
+    ) -> Result<(), AllocError>
+        requires room { at ≤ size self.old }
+        requires kind { column_type other.now ≡ column_type self.old }
+        requires order { from ≤ to }
+        requires there { to ≤ size other.now }
+        ensures front { KeepsFront at self.old self.new }
+        ensures ok { OnOk result ((k : ℕ) → k < to - from → entry self.new (at + k) ≡ entry other.now (from + k)) }
+        ensures ok_long { OnOk result (size self.new ≡ at + (to - from)) }
+    {
+        match (self, other) {
+            (Column::Int(v), Column::Int(w)) => {
+                v.truncate(at);
+                v.extend_from_slice(&w.as_slice()[from..to])?;
+                Ok(())
+            }
+            (Column::Text(t), Column::Text(u)) => t.put_range(at, u, from, to),
+            _ => unreachable!(),
+        }
+    }
+
+    /// Leaves the first `at` values, and adds those of another column at some positions, in their order.
+    pub fn put_at(
+        &mut self,
+        at: usize,
+        other: &Column,
+        positions: &[usize],
+    ) -> Result<(), AllocError>
+        requires room { at ≤ size self.old }
+        requires kind { column_type other.now ≡ column_type self.old }
+        requires there { ArePositions (size other.now) positions.now }
+        ensures front { KeepsFront at self.old self.new }
+        ensures ok { OnOk result ((k : ℕ) → k < length positions.now → entry self.new (at + k) ≡ entry other.now (slice_index positions.now k)) }
+        ensures ok_long { OnOk result (at + length positions.now ≤ size self.new) }
+    {
+        match (self, other) {
+            (Column::Int(v), Column::Int(w)) => {
+                v.truncate(at);
+                add_numbers_at(v, w.as_slice(), positions)
+            }
+            (Column::Text(t), Column::Text(u)) => {
+                t.reserve(positions.len())?;
+                t.put_at(at, u, positions)
+            }
+            _ => unreachable!(),
+        }
+    }
+
+    /// Leaves the first `at` values, and makes room for so many more. The bytes of texts get no room.
+    pub fn reserve(&mut self, at: usize, additional: usize) -> Result<(), AllocError>
+        requires { at ≤ size self.old }
+        ensures { KeepsFront at self.old self.new }
+    {
+        match self {
+            Column::Int(v) => {
+                v.truncate(at);
+                v.reserve(additional)
+            }
+            Column::Text(t) => t.reserve(additional),
+        }
+    }
+}
+
+/// Adds the numbers at some positions.
+fn add_numbers_at(v: &mut Vec<i64>, numbers: &[i64], positions: &[usize]) -> Result<(), AllocError>
+    requires { ArePositions (length numbers.now) positions.now }
+    ensures long { length v.old.items ≤ length v.new.items }
+    ensures kept { (k : ℕ) → k < length v.old.items → slice_index_or v.new.items k (pos 0) ≡ slice_index_or v.old.items k (pos 0) }
+    ensures ok { OnOk result ((k : ℕ) → k < length positions.now → slice_index_or v.new.items (length v.old.items + k) (pos 0) ≡ slice_index_or numbers.now (slice_index positions.now k) (pos 0)) }
+    ensures ok_long { OnOk result (length v.new.items ≡ length v.old.items + length positions.now) }
+{
+    v.reserve(positions.len())?;
+    for i in positions {
+        v.push(numbers[*i])?;
+    }
+    Ok(())
+}

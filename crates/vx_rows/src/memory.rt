@@ -1,0 +1,118 @@
+//! Ports over memory that fail at a stated byte: for tests of what reads and writes.
+
+ghost use Rattle.std.specs.Prelude.{◌≡◌, [], Some, false};
+
+use crate::bytes::{Broken, ByteIn, ByteOut};
+use std::alloc::Global;
+
+/// A reader over memory. It fails once it has given so many bytes.
+#[derive(Drop)]
+pub struct MemoryIn<'a> {
+    rest: &'a [u8],
+    fails_after: Option<usize>,
+    broken: bool,
+}
+
+impl<'a> MemoryIn<'a> {
+    /// A reader of these bytes, which fails after so many of them, or never.
+    pub fn new(bytes: &'a [u8], fails_after: Option<usize>) -> MemoryIn<'a>
+        ensures rest { result.rest.now ≡ bytes.now }
+        ensures limit { result.fails_after ≡ fails_after }
+        ensures whole { result.broken ≡ false }
+    {
+        MemoryIn {
+            rest: bytes,
+            fails_after,
+            broken: false,
+        }
+    }
+}
+
+impl<'a> ByteIn for MemoryIn<'a> {
+    ghost remaining = { λ m. Some m.rest.now };
+
+    ghost has_failed = { λ m. m.broken };
+
+    fn read(&mut self, buf: &mut [u8]) -> Result<usize, Broken> {
+        if self.broken {
+            return Err(Broken);
+        }
+        let mut n = buf.len().min(self.rest.len());
+        if let Some(left) = self.fails_after {
+            if left == 0 {
+                self.broken = true;
+                return Err(Broken);
+            }
+            n = n.min(left);
+            self.fails_after = Some(left - n);
+        }
+        let (front, rest) = self.rest.split_at(n);
+        buf[..n].copy_from_slice(front);
+        self.rest = rest;
+        Ok(n)
+    }
+
+    fn failed(&self) -> bool {
+        self.broken
+    }
+}
+
+/// A writer into memory, which takes a few bytes at a time. It fails once it has taken so many bytes.
+#[derive(Drop)]
+pub struct MemoryOut {
+    bytes: Vec<u8>,
+    at_once: usize,
+    room: usize,
+    broken: bool,
+}
+
+impl MemoryOut {
+    /// A writer that takes at most `at_once` bytes in a call, or one where that is 0, and `room` bytes in all.
+    pub fn new(alloc: Global, at_once: usize, room: usize) -> MemoryOut
+        ensures empty { result.bytes.items ≡ [] }
+        ensures at_once { result.at_once ≡ at_once }
+        ensures room { result.room ≡ room }
+        ensures whole { result.broken ≡ false }
+    {
+        MemoryOut {
+            bytes: Vec::new(alloc),
+            at_once,
+            room,
+            broken: false,
+        }
+    }
+
+    /// The bytes that were taken.
+    pub fn bytes(&self) -> &[u8]
+        ensures { result.now ≡ self.now.bytes.items }
+    {
+        self.bytes.as_slice()
+    }
+}
+
+impl ByteOut for MemoryOut {
+    ghost contents = { λ m. Some m.bytes.items };
+
+    ghost has_failed = { λ m. m.broken };
+
+    fn write(&mut self, buf: &[u8]) -> Result<usize, Broken> {
+        if self.broken {
+            return Err(Broken);
+        }
+        let n = buf.len().min(self.at_once.max(1)).min(self.room);
+        if n == 0 && !buf.is_empty() {
+            self.broken = true;
+            return Err(Broken);
+        }
+        if self.bytes.extend_from_slice(&buf[..n]).is_err() {
+            self.broken = true;
+            return Err(Broken);
+        }
+        self.room -= n;
+        Ok(n)
+    }
+
+    fn failed(&self) -> bool {
+        self.broken
+    }
+}

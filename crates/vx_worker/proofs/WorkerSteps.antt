@@ -1,0 +1,253 @@
+-- The steps of a worker: what stands before one stands after it.
+use Rattle.std.proofs.Common.{ℕ, ◌≡◌, ◌⊎◌, inl, inr, refl, sym, ap, ◌∙◌, subst, List, [], Option, Some, None, Bool, true, false, Ok}
+use Rattle.std.specs.List.{All}
+use Rattle.vx_rows.specs.Values.{Row}
+use Rattle.vx_rows.specs.declared.value.ColType.{ColType}
+use Rattle.vx_plan.specs.Routes.{Router}
+use Rattle.vx_ports.specs.Packets.{Parcel, closes}
+use Rattle.vx_ops.specs.Ledger.{Stream, Ledger, Op, Told, fresh}
+use Rattle.vx_ops.specs.Turn.{Shape, heard}
+use Rattle.vx_ops.specs.declared.fault.Fault.{Fault}
+use Rattle.vx_ops.specs.declared.fault.Over.TheVariants as over
+use Rattle.vx_ops.specs.declared.turn.Want.{Want}
+use Rattle.vx_ops.specs.declared.turn.Got.{Got}
+use Rattle.vx_ops.specs.declared.turn.Polled.{Polled}
+use Rattle.vx_ops.specs.declared.turn.Polled.TheVariants as polled
+use Rattle.vx_exchange.specs.Tasks.{Task, Post, post_types, Finished, Begun, IsAt}
+use Rattle.vx_exchange.proofs.Parts.{begun-without-last, fault-stops}
+use Rattle.vx_worker.specs.Fragment.{Frag, Reads, FragTold}
+use Rattle.vx_worker.specs.Trace.{Event, idle, drew_one, took_one, put_one, Trace, added, empty_trace, ReadsBeginOf, IsNoMemory, IsWellBy, HasFailedBy}
+use Rattle.vx_worker.specs.Trees.{shape, TreeStands}
+use Rattle.vx_worker.specs.Wishes.{Numbered, tree_want, read, fresh_reads, tree_types, TreeTyped}
+use Rattle.vx_worker.specs.Intake.{IsRead, IsTake, IntakeStands, Answers, Fetches, has_met_end}
+use Rattle.vx_worker.specs.Worker.{with_pending, with_all, closing_of, IsReady, IsReadyIn, IsGoing, IsClosing, IsRunning, StandsIn, WorkerStands}
+use Rattle.vx_worker.specs.declared.tree.Tree.{Tree}
+use Rattle.vx_worker.specs.declared.wish.Wish.{Wish}
+use Rattle.vx_worker.specs.declared.intake.Intake.{Intake}
+use Rattle.vx_worker.specs.declared.worker.Worker.{Worker}
+use Rattle.vx_worker.specs.declared.worker.Phase.TheVariants.{Running, Failing}
+use Rattle.vx_worker.proofs.Trees.{tree-told}
+use Rattle.vx_worker.proofs.Reading.{reads-more, ended-more, reads-whole, reads-before, reads-later}
+use Rattle.vx_worker.proofs.Stopping.{with-closing, closing-closes}
+
+-- a draw or a take leaves what was put
+pub sent-same : (k : Intake) (t : Trace) (e : Event) → IsRead k e → (added t e).sent ≡ t.sent
+sent-same k t idle h = refl
+sent-same k t (drew_one n d) h = refl
+sent-same k t (took_one x i o) h = refl
+sent-same k t (put_one j p) h = elim h [ ]
+
+take-same : (t : Trace) (e : Event) → IsTake e → (added t e).sent ≡ t.sent
+take-same t idle h = refl
+take-same t (drew_one n d) h = elim h [ ]
+take-same t (took_one x i o) h = refl
+take-same t (put_one j p) h = elim h [ ]
+
+-- a worker that failed did so also after it took and dropped one more packet
+pub failed-later : (m : ℕ → ℕ → List Row) (goes : Router) (f : Frag) (task : Task) (x : Fault) (t : Trace) (e : Event) → IsTake e → HasFailedBy m goes f task x t
+    → HasFailedBy m goes f task x (added t e)
+failed-later m goes f task x t e is h = record {
+  reads = h.reads;
+  reads_begin = reads-later m t h.reads e is h.reads_begin;
+  out = h.out;
+  told = h.told;
+  why = h.why;
+  stopped = subst (λ put. Rattle.vx_exchange.specs.Tasks.Stopped goes task h.out.rows put) (sym (take-same t e is)) h.stopped;
+}
+
+-- only the packets put are seen from another trace with the same draws and takes
+pub failed-same : (m : ℕ → ℕ → List Row) (goes : Router) (f : Frag) (task : Task) (x : Fault) (t : Trace) (put : ℕ → List Parcel) → t.sent ≡ put → HasFailedBy m goes f task x t
+    → HasFailedBy m goes f task x (record t { sent = put })
+failed-same m goes f task x t put e h = record {
+  reads = h.reads;
+  reads_begin = record { scanned = h.reads_begin.scanned; came = h.reads_begin.came };
+  out = h.out;
+  told = h.told;
+  why = h.why;
+  stopped = subst (λ sent. Rattle.vx_exchange.specs.Tasks.Stopped goes task h.out.rows sent) e h.stopped;
+}
+
+-- it holds packets that close, and nothing else
+pub closing-fails : {O S : Type 0} (w : Worker O S) (p : Post) → w.pending ≡ None → w.closing.items ≡ closing_of p → IsClosing w
+closing-fails w p pending closing = record {
+  closing = subst (λ ps. All (λ (q : Parcel). closes q.content ≡ true) ps) (sym closing) (closing-closes p);
+  pending = λ x e. let none : None ≡ Some x = sym pending ∙ e in cc;
+}
+
+module _ {O S : Type 0} (types : O → Shape) (post : S → Post) (is_open has_closed : S → Bool) (m : ℕ → List ColType) where
+  pub going-of : (w : Worker O S) → w.phase ≡ Running → IsReady types post is_open has_closed m w → IsGoing post is_open has_closed w
+  going-of w phase h = subst (λ x. IsReadyIn post is_open has_closed x w) phase h.phase
+
+  -- a worker that begins to fail is ready to close its ports
+  pub ready-fails : (w v : Worker O S) (f : Fault) (tree : Tree O) (s : S) → v.phase ≡ Failing f → v.pending ≡ None → v.closing.items ≡ w.closing.items → v.tree ≡ tree → v.sender ≡ s
+      → TreeTyped types m tree → tree_types types tree ≡ tree_types types w.tree → post s ≡ post w.sender
+      → IsGoing post is_open has_closed w → tree_types types w.tree ≡ post_types (post w.sender) → IsReady types post is_open has_closed m v
+  ready-fails w v f tree s phase pending closing here sender typed same posts going sends = record {
+    typed = subst (λ z. TreeTyped types m z) (sym here) typed;
+    sends = ap (tree_types types) here ∙ same ∙ sends ∙ sym (ap post_types (ap post sender ∙ posts));
+    phase = subst (λ x. IsReadyIn post is_open has_closed x v) (sym phase) (closing-fails v (post w.sender) pending (closing ∙ going.closing));
+  }
+
+  -- one that goes on is ready to go on
+  pub ready-runs : (w v : Worker O S) → v.phase ≡ Running → v.pending ≡ None → v.closing.items ≡ w.closing.items
+      → TreeTyped types m v.tree → tree_types types v.tree ≡ tree_types types w.tree → post v.sender ≡ post w.sender → (v.is_over ≡ false → is_open v.sender ≡ true)
+      → IsGoing post is_open has_closed w → tree_types types w.tree ≡ post_types (post w.sender) → IsReady types post is_open has_closed m v
+  ready-runs w v phase pending closing typed same posts opens going sends = record {
+    typed = typed;
+    sends = same ∙ sends ∙ sym (ap post_types posts);
+    phase = subst (λ x. IsReadyIn post is_open has_closed x v) (sym phase) (record {
+      opens = opens;
+      closing = closing ∙ going.closing ∙ ap closing_of (sym posts);
+      pending = λ x e. let none : None ≡ Some x = sym pending ∙ e in cc;
+    });
+  }
+
+module _ {O S : Type 0} (OS : O → Ledger → Type 0) (op : O → Op) (SS : S → Router → Stream → (ℕ → List Parcel) → Type 0) (task : S → Task) (goes : Router) (m : ℕ → ℕ → List Row) where
+  -- of a worker that has not failed
+  pub running : (w : Worker O S) (t : Trace) → w.phase ≡ Running → WorkerStands OS op SS task goes m w t → IsRunning OS op SS task goes m w t
+  running w t phase h = subst (λ x. StandsIn OS op SS task goes m x w t) phase h.1
+
+  -- nothing was read, and nothing put
+  pub begins : (w : Worker O S) (low high : ℕ) → w.phase ≡ Running → w.pending ≡ None → w.is_over ≡ false → IntakeStands w.intake empty_trace → Numbered low high w.tree
+      → TreeStands OS w.tree fresh_reads fresh → SS w.sender goes fresh (λ _. []) → WorkerStands OS op SS task goes m w empty_trace
+  begins w low high phase pending over intake numbered tree sender = (
+    intake,
+    subst (λ x. StandsIn OS op SS task goes m x w empty_trace) (sym phase) (record {
+      reads = fresh_reads;
+      reads_are = record { scanned = λ n. record { rows = refl; ended = λ e. cc; never_fails = λ f e. cc }; came = λ n. refl };
+      ended = λ n e. cc;
+      low = low;
+      high = high;
+      numbered = numbered;
+      out = fresh;
+      tree = tree;
+      sender = subst (λ x. SS w.sender goes fresh (with_pending (λ _. []) x)) (sym pending) sender;
+      is_over = λ e. let off : false ≡ true = sym over ∙ e in cc;
+    }),
+  )
+
+  -- a worker that begins to fail: what it read before is a beginning of what was drawn and taken, and what it put a beginning of what its rows send
+  pub fails : (w : Worker O S) (f : Fault) (p : Post) (t : Trace) (reads : Reads) (out : Stream)
+      → w.phase ≡ Failing f → w.pending ≡ None → w.closing.items ≡ closing_of p → IsAt p (task w.sender)
+      → IntakeStands w.intake t → ReadsBeginOf m t reads → FragTold (shape op w.tree) reads out → (out.over ≡ over.Failed f) ⊎ IsNoMemory f
+      → Begun goes (task w.sender) out.rows t.sent → WorkerStands OS op SS task goes m w t
+  fails w f p t reads out phase pending closing at intake begin told why begun = (
+    intake,
+    subst (λ x. StandsIn OS op SS task goes m x w t) (sym phase) (record {
+      reads = reads;
+      reads_begin = record { scanned = begin.scanned; came = begin.came };
+      out = out;
+      told = told;
+      why = why;
+      stopped = fault-stops goes (task w.sender) out.rows t.sent (with_all (with_pending t.sent w.pending) w.closing.items)
+          (λ j. ap (λ (x : Option (ℕ × Parcel)). with_all (with_pending t.sent x) w.closing.items j) pending ∙ ap (λ ps. with_all t.sent ps j) closing
+          ∙ with-closing p (task w.sender) at t.sent j)
+          begun;
+    }),
+  )
+
+  -- memory was refused after a draw or a take that the tree did not see
+  pub loses : ((o : O) (l : Ledger) → OS o l → Told (op o) l) → (w v : Worker O S) (f : Fault) (p : Post) (t : Trace) (e : Event)
+      → v.phase ≡ Failing f → v.pending ≡ None → v.closing.items ≡ closing_of p → IsAt p (task v.sender) → shape op v.tree ≡ shape op w.tree → IsNoMemory f
+      → IntakeStands v.intake (added t e) → IsRead w.intake e → w.pending ≡ None
+      → ((a : Stream) (g : ℕ → List Parcel) → SS w.sender goes a g → Begun goes (task v.sender) a.rows g)
+      → IsRunning OS op SS task goes m w t → WorkerStands OS op SS task goes m v (added t e)
+  loses told w v f p t e phase pending closing at same why intake is empty begun h =
+      fails v f p (added t e) h.reads h.out phase pending closing at intake (reads-before m w.intake t h.reads e is h.ended h.reads_are)
+      (subst (λ x. FragTold x h.reads h.out) (sym same) (tree-told OS op told w.tree h.reads h.out h.tree)) (inr why)
+      (subst (λ g. Begun goes (task v.sender) h.out.rows g) (ap (λ (x : Option (ℕ × Parcel)). with_pending t.sent x) empty ∙ sym (sent-same w.intake t e is))
+      (begun h.out (with_pending t.sent w.pending) h.sender))
+
+  -- memory was refused to a put
+  pub refused : ((o : O) (l : Ledger) → OS o l → Told (op o) l) → (w v : Worker O S) (f : Fault) (p : Post) (t : Trace) (to : ℕ) (packet : Parcel)
+      → v.phase ≡ Failing f → v.pending ≡ None → v.closing.items ≡ closing_of p → IsAt p (task v.sender) → v.tree ≡ w.tree → IsNoMemory f
+      → IntakeStands v.intake t → w.pending ≡ Some (to, packet)
+      → ((a : Stream) (g : ℕ → List Parcel) → SS w.sender goes a g → Begun goes (task v.sender) a.rows g)
+      → IsRunning OS op SS task goes m w t → WorkerStands OS op SS task goes m v t
+  refused told w v f p t to packet phase pending closing at same why intake here begun h =
+      fails v f p t h.reads h.out phase pending closing at intake (reads-whole m t h.reads h.reads_are)
+      (subst (λ x. FragTold (shape op x) h.reads h.out) (sym same) (tree-told OS op told w.tree h.reads h.out h.tree)) (inr why)
+      (begun-without-last goes (task v.sender) h.out.rows t.sent to packet
+      (subst (λ x. Begun goes (task v.sender) h.out.rows (with_pending t.sent x)) here (begun h.out (with_pending t.sent w.pending) h.sender)))
+
+  -- the tree's top gave a fault
+  pub gives-fault : {E : Type 0} → ((o : O) (l : Ledger) → OS o l → Told (op o) l) → (want : O → Want) → (w v : Worker O S) (k : Intake) (tree : Tree O) (f : Fault) (p : Post) (t : Trace) (e : Event)
+      (x : Wish) (g : Got) → v.phase ≡ Failing f → v.pending ≡ None → v.closing.items ≡ closing_of p → IsAt p (task v.sender) → v.tree ≡ tree → v.intake ≡ k
+      → x ≡ tree_want want w.tree → Fetches {E = E} m w.intake k x (Ok g) e → IntakeStands w.intake t
+      → ((low high : ℕ) (r : Reads) (out : Stream) → Numbered low high w.tree → TreeStands OS w.tree r out
+      → TreeStands OS tree (read r (tree_want want w.tree) g) (heard out (polled.Fault f)))
+      → w.pending ≡ None → ((a : Stream) (g : ℕ → List Parcel) → SS w.sender goes a g → Begun goes (task v.sender) a.rows g)
+      → IsRunning OS op SS task goes m w t → WorkerStands OS op SS task goes m v (added t e)
+  gives-fault told want w v k tree f p t e x g phase pending closing at same sameIntake wish fetched intake stands empty begun h =
+      let y = tree_want want w.tree in
+      let answers : Answers m w.intake k y g e = subst (λ z. Answers m w.intake k z g e) wish fetched.answers in
+      fails v f p (added t e) (read h.reads y g) (heard h.out (polled.Fault f)) phase pending closing at
+      (subst (λ z. IntakeStands z (added t e)) (sym sameIntake) (fetched.stands t intake))
+      (reads-whole m (added t e) (read h.reads y g) (reads-more m w.intake k t h.reads y g e answers intake.scans h.reads_are))
+      (subst (λ z. FragTold (shape op z) (read h.reads y g) (heard h.out (polled.Fault f))) (sym same)
+      (tree-told OS op told tree (read h.reads y g) (heard h.out (polled.Fault f)) (stands h.low h.high h.reads h.out h.numbered h.tree))) (inl refl)
+      (subst (λ g. Begun goes (task v.sender) h.out.rows g) (ap (λ (x : Option (ℕ × Parcel)). with_pending t.sent x) empty ∙ sym (sent-same w.intake t e fetched.is_read))
+      (begun h.out (with_pending t.sent w.pending) h.sender))
+
+  -- the tree turned, and the sending end accepted what its top gave
+  pub turns : {E : Type 0} → (want : O → Want) → (w v : Worker O S) (t : Trace) (e : Event) (x : Wish) (g : Got) (a : Polled)
+      → v.phase ≡ Running → v.pending ≡ None → x ≡ tree_want want w.tree → Fetches {E = E} m w.intake v.intake x (Ok g) e → IntakeStands w.intake t
+      → ((low high : ℕ) → Numbered low high w.tree → Numbered low high v.tree)
+      → ((low high : ℕ) (r : Reads) (out : Stream) → Numbered low high w.tree → TreeStands OS w.tree r out → TreeStands OS v.tree (read r (tree_want want w.tree) g) (heard out a))
+      → w.pending ≡ None → ((s : Stream) (put : ℕ → List Parcel) → SS w.sender goes s put → SS v.sender goes (heard s a) put)
+      → ((s : Stream) → v.is_over ≡ true → (heard s a).over ≡ over.Ended)
+      → IsRunning OS op SS task goes m w t → WorkerStands OS op SS task goes m v (added t e)
+  turns want w v t e x g a phase pending wish fetched intake numbered stands empty accepts ends h =
+      let y = tree_want want w.tree in
+      let answers : Answers m w.intake v.intake y g e = subst (λ z. Answers m w.intake v.intake z g e) wish fetched.answers in (
+        fetched.stands t intake,
+        subst (λ z. StandsIn OS op SS task goes m z v (added t e)) (sym phase) (record {
+          reads = read h.reads y g;
+          reads_are = reads-more m w.intake v.intake t h.reads y g e answers intake.scans h.reads_are;
+          ended = ended-more m w.intake v.intake h.reads y g e answers fetched.ended h.ended;
+          low = h.low;
+          high = h.high;
+          numbered = numbered h.low h.high h.numbered;
+          out = heard h.out a;
+          tree = stands h.low h.high h.reads h.out h.numbered h.tree;
+          sender = subst (λ put. SS v.sender goes (heard h.out a) put)
+              (ap (λ (z : Option (ℕ × Parcel)). with_pending t.sent z) empty ∙ sym (sent-same w.intake t e fetched.is_read)
+              ∙ ap (λ (z : Option (ℕ × Parcel)). with_pending (added t e).sent z) (sym pending))
+              (accepts h.out (with_pending t.sent w.pending) h.sender);
+          is_over = ends h.out;
+        }),
+      )
+
+  -- the sending end was asked: what was put and what is here is what it gave
+  pub asked : (w v : Worker O S) (t : Trace) → w.phase ≡ Running → v.phase ≡ Running → v.tree ≡ w.tree → v.is_over ≡ w.is_over → v.intake ≡ w.intake
+      → ((s : Stream) → SS w.sender goes s (with_pending t.sent w.pending) → SS v.sender goes s (with_pending t.sent v.pending))
+      → WorkerStands OS op SS task goes m w t → WorkerStands OS op SS task goes m v t
+  asked w v t runs phase tree over intake sends h =
+      let r = running w t runs h in (
+        subst (λ k. IntakeStands k t) (sym intake) h.0,
+        subst (λ x. StandsIn OS op SS task goes m x v t) (sym phase) (record {
+          reads = r.reads;
+          reads_are = r.reads_are;
+          ended = λ n o. subst (λ k. has_met_end k n ≡ true) (sym intake) (r.ended n o);
+          low = r.low;
+          high = r.high;
+          numbered = subst (λ z. Numbered r.low r.high z) (sym tree) r.numbered;
+          out = r.out;
+          tree = subst (λ z. TreeStands OS z r.reads r.out) (sym tree) r.tree;
+          sender = sends r.out r.sender;
+          is_over = λ e. r.is_over (sym over ∙ e);
+        }),
+      )
+
+  -- nothing is left to put after the end
+  pub ends-well : ((o : O) (l : Ledger) → OS o l → Told (op o) l) → (w : Worker O S) (s : S) (t : Trace) → w.pending ≡ None → w.is_over ≡ true
+      → ((a : Stream) (g : ℕ → List Parcel) → SS w.sender goes a g → a.over ≡ over.Ended → Finished goes (task s) a.rows g)
+      → IsRunning OS op SS task goes m w t → IsWellBy m goes (shape op w.tree) (task s) t
+  ends-well told w s t empty o drained h = record {
+    reads = h.reads;
+    reads_are = h.reads_are;
+    out = h.out;
+    told = tree-told OS op told w.tree h.reads h.out h.tree;
+    ended = h.is_over o;
+    finished = subst (λ x. Finished goes (task s) h.out.rows (with_pending t.sent x)) empty (drained h.out (with_pending t.sent w.pending) h.sender (h.is_over o));
+  }

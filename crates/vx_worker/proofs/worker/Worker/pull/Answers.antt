@@ -1,0 +1,188 @@
+use Rattle.std.proofs.Common.{◌≡◌, ap, refl, sym, ◌∙◌, subst, true, false}
+use Rattle.vx_exchange.specs.Tasks.{Begun, IsAt}
+use Rattle.vx_ops.specs.declared.fault.Over.TheVariants as over
+use Rattle.vx_ops.specs.declared.turn.Polled.TheVariants as polled
+use Rattle.vx_worker.specs.Intake.{IntakeStands}
+use Rattle.vx_worker.proofs.WorkerSteps.{going-of, ready-fails, ready-runs, loses, gives-fault, turns, running}
+use Rattle.vx_worker.proofs.worker.Worker.pull.Goals as goal
+
+pub returns-in-Err-clause-ready : goal.returns-in-Err-clause-ready
+returns-in-Err-clause-ready g c =
+    let w = c.args.self.now in
+    let v = c.fail.new.self in
+    let going = going-of g.O.Source.types g.S.Sends.post g.S.Sends.is_open g.S.Sends.has_closed (g.G.Morsels.types_of c.args.morsels.now) w c.requires.running c.requires.ready in
+    ready-fails g.O.Source.types g.S.Sends.post g.S.Sends.is_open g.S.Sends.has_closed (g.G.Morsels.types_of c.args.morsels.now) w v _ w.tree w.sender c.fail.ensures.phase c.fail.ensures.pending c.fail.ensures.closing c.fail.ensures.tree c.fail.ensures.sender
+    c.requires.ready.typed refl refl going c.requires.ready.sends
+
+pub returns-in-Err-clause-stands : goal.returns-in-Err-clause-stands
+returns-in-Err-clause-stands g c =
+    let w = c.args.self.now in
+    let v = c.fail.new.self in
+    let x = c.in-Err.ensures.fetches in
+    let going = going-of g.O.Source.types g.S.Sends.post g.S.Sends.is_open g.S.Sends.has_closed (g.G.Morsels.types_of c.args.morsels.now) w c.requires.running c.requires.ready in
+    let unclosed = g.met.S.Sends.open_first w.sender (going.opens c.requires.goes_on) in (
+      x.0,
+      x.1,
+      λ goes r t h. loses g.O.Source.Stands g.O.Source.op g.S.Sends.Stands g.S.Sends.task goes (g.G.Morsels.morsel_of c.args.morsels.now) g.met.O.Source.told w v c.no_memory.result (g.S.Sends.post w.sender) t x.0
+          c.fail.ensures.phase c.fail.ensures.pending (c.fail.ensures.closing ∙ going.closing)
+          (subst (λ s. IsAt (g.S.Sends.post w.sender) (g.S.Sends.task s)) (sym c.fail.ensures.sender) (g.met.S.Sends.at_post w.sender))
+          (ap (Rattle.vx_worker.specs.Trees.shape g.O.Source.op) c.fail.ensures.tree) c.no_memory.ensures
+          (subst (λ k. IntakeStands k (Rattle.vx_worker.specs.Trace.added t x.0)) (sym c.fail.ensures.intake) (x.2.stands t h.0)) x.2.is_read c.requires.empty
+          (λ a put s. subst (λ z. Begun goes (g.S.Sends.task z) a.rows put) (sym c.fail.ensures.sender) (g.met.S.Sends.begun w.sender goes a put s unclosed))
+          (running g.O.Source.Stands g.O.Source.op g.S.Sends.Stands g.S.Sends.task goes (g.G.Morsels.morsel_of c.args.morsels.now) w t c.requires.running h),
+    )
+
+pub returns-in-Waiting-clause-ready : goal.returns-in-Waiting-clause-ready
+returns-in-Waiting-clause-ready g c =
+    let w = c.args.self.now in
+    let going = going-of g.O.Source.types g.S.Sends.post g.S.Sends.is_open g.S.Sends.has_closed (g.G.Morsels.types_of c.args.morsels.now) w c.requires.running c.requires.ready in
+    ready-runs g.O.Source.types g.S.Sends.post g.S.Sends.is_open g.S.Sends.has_closed (g.G.Morsels.types_of c.args.morsels.now) w (record w { tree = c.turn.new.self; intake = c.fetch.new.self }) c.requires.running c.requires.empty refl
+    (c.in-Waiting.ensures.typed (g.G.Morsels.types_of c.args.morsels.now) c.requires.ready.typed) c.in-Waiting.ensures.types refl going.opens going c.requires.ready.sends
+
+pub returns-in-Waiting-clause-stands : goal.returns-in-Waiting-clause-stands
+returns-in-Waiting-clause-stands g c =
+    let w = c.args.self.now in
+    let x = c.in-Ok.ensures.fetches in (
+      x.0,
+      x.1,
+      λ goes r t h. turns g.O.Source.Stands g.O.Source.op g.S.Sends.Stands g.S.Sends.task goes (g.G.Morsels.morsel_of c.args.morsels.now) g.O.Source.want w (record w { tree = c.turn.new.self; intake = c.fetch.new.self }) t x.0 c.wants-wish.result c.in-Ok.got polled.Waiting
+          c.requires.running c.requires.empty c.wants-wish.ensures x.2 h.0 c.in-Waiting.ensures.numbered c.in-Waiting.ensures.stands c.requires.empty (λ s put k. k)
+          (λ s o. let off : false ≡ true = sym c.requires.goes_on ∙ o in cc) (running g.O.Source.Stands g.O.Source.op g.S.Sends.Stands g.S.Sends.task goes (g.G.Morsels.morsel_of c.args.morsels.now) w t c.requires.running h),
+    )
+
+pub returns-in-Waiting-2-clause-ready : goal.returns-in-Waiting-2-clause-ready
+returns-in-Waiting-2-clause-ready g c =
+    let w = c.args.self.now in
+    let going = going-of g.O.Source.types g.S.Sends.post g.S.Sends.is_open g.S.Sends.has_closed (g.G.Morsels.types_of c.args.morsels.now) w c.requires.running c.requires.ready in
+    ready-runs g.O.Source.types g.S.Sends.post g.S.Sends.is_open g.S.Sends.has_closed (g.G.Morsels.types_of c.args.morsels.now) w (record w { tree = c.turn.new.self; intake = c.fetch.new.self }) c.requires.running c.requires.empty refl
+    (c.in-Waiting-2.ensures.typed (g.G.Morsels.types_of c.args.morsels.now) c.requires.ready.typed) c.in-Waiting-2.ensures.types refl going.opens going c.requires.ready.sends
+
+pub returns-in-Waiting-2-clause-stands : goal.returns-in-Waiting-2-clause-stands
+returns-in-Waiting-2-clause-stands g c =
+    let w = c.args.self.now in
+    let x = c.in-Ok.ensures.fetches in (
+      x.0,
+      x.1,
+      λ goes r t h. turns g.O.Source.Stands g.O.Source.op g.S.Sends.Stands g.S.Sends.task goes (g.G.Morsels.morsel_of c.args.morsels.now) g.O.Source.want w (record w { tree = c.turn.new.self; intake = c.fetch.new.self }) t x.0 c.wants-wish.result c.in-Ok.got polled.Waiting
+          c.requires.running c.requires.empty c.wants-wish.ensures x.2 h.0 c.in-Waiting-2.ensures.numbered c.in-Waiting-2.ensures.stands c.requires.empty (λ s put k. k)
+          (λ s o. let off : false ≡ true = sym c.requires.goes_on ∙ o in cc) (running g.O.Source.Stands g.O.Source.op g.S.Sends.Stands g.S.Sends.task goes (g.G.Morsels.morsel_of c.args.morsels.now) w t c.requires.running h),
+    )
+
+pub returns-in-Fault-clause-ready : goal.returns-in-Fault-clause-ready
+returns-in-Fault-clause-ready g c =
+    let w = c.args.self.now in
+    let v = c.fail-in-Fault.new.self in
+    let going = going-of g.O.Source.types g.S.Sends.post g.S.Sends.is_open g.S.Sends.has_closed (g.G.Morsels.types_of c.args.morsels.now) w c.requires.running c.requires.ready in
+    ready-fails g.O.Source.types g.S.Sends.post g.S.Sends.is_open g.S.Sends.has_closed (g.G.Morsels.types_of c.args.morsels.now) w v _ c.turn.new.self w.sender c.fail-in-Fault.ensures.phase c.fail-in-Fault.ensures.pending c.fail-in-Fault.ensures.closing c.fail-in-Fault.ensures.tree c.fail-in-Fault.ensures.sender
+    (c.in-Fault.ensures.typed (g.G.Morsels.types_of c.args.morsels.now) c.requires.ready.typed) c.in-Fault.ensures.types refl going c.requires.ready.sends
+
+pub returns-in-Fault-clause-stands : goal.returns-in-Fault-clause-stands
+returns-in-Fault-clause-stands g c =
+    let w = c.args.self.now in
+    let v = c.fail-in-Fault.new.self in
+    let x = c.in-Ok.ensures.fetches in
+    let going = going-of g.O.Source.types g.S.Sends.post g.S.Sends.is_open g.S.Sends.has_closed (g.G.Morsels.types_of c.args.morsels.now) w c.requires.running c.requires.ready in
+    let unclosed = g.met.S.Sends.open_first w.sender (going.opens c.requires.goes_on) in (
+      x.0,
+      x.1,
+      λ goes r t h. gives-fault g.O.Source.Stands g.O.Source.op g.S.Sends.Stands g.S.Sends.task goes (g.G.Morsels.morsel_of c.args.morsels.now) g.met.O.Source.told g.O.Source.want w v c.fetch.new.self c.turn.new.self c.in-Fault.fault (g.S.Sends.post w.sender) t x.0
+          c.wants-wish.result c.in-Ok.got c.fail-in-Fault.ensures.phase c.fail-in-Fault.ensures.pending (c.fail-in-Fault.ensures.closing ∙ going.closing)
+          (subst (λ s. IsAt (g.S.Sends.post w.sender) (g.S.Sends.task s)) (sym c.fail-in-Fault.ensures.sender) (g.met.S.Sends.at_post w.sender))
+          c.fail-in-Fault.ensures.tree c.fail-in-Fault.ensures.intake c.wants-wish.ensures x.2 h.0 c.in-Fault.ensures.stands c.requires.empty
+          (λ a put s. subst (λ z. Begun goes (g.S.Sends.task z) a.rows put) (sym c.fail-in-Fault.ensures.sender) (g.met.S.Sends.begun w.sender goes a put s unclosed))
+          (running g.O.Source.Stands g.O.Source.op g.S.Sends.Stands g.S.Sends.task goes (g.G.Morsels.morsel_of c.args.morsels.now) w t c.requires.running h),
+    )
+
+pub returns-in-Ok-accept-clause-ready : goal.returns-in-Ok-accept-clause-ready
+returns-in-Ok-accept-clause-ready g c =
+    let w = c.args.self.now in
+    let going = going-of g.O.Source.types g.S.Sends.post g.S.Sends.is_open g.S.Sends.has_closed (g.G.Morsels.types_of c.args.morsels.now) w c.requires.running c.requires.ready in
+    ready-runs g.O.Source.types g.S.Sends.post g.S.Sends.is_open g.S.Sends.has_closed (g.G.Morsels.types_of c.args.morsels.now) w (record w { tree = c.turn.new.self; intake = c.fetch.new.self; sender = c.accept.new.self; is_over = w.is_over }) c.requires.running c.requires.empty refl
+    (c.in-Gave.ensures.typed (g.G.Morsels.types_of c.args.morsels.now) c.requires.ready.typed) c.in-Gave.ensures.types c.in-Ok-accept.ensures.post (λ o. c.in-Ok-accept.ensures.open) going c.requires.ready.sends
+
+pub returns-in-Ok-accept-clause-stands : goal.returns-in-Ok-accept-clause-stands
+returns-in-Ok-accept-clause-stands g c =
+    let w = c.args.self.now in
+    let x = c.in-Ok.ensures.fetches in (
+      x.0,
+      x.1,
+      λ goes r t h. turns g.O.Source.Stands g.O.Source.op g.S.Sends.Stands g.S.Sends.task goes (g.G.Morsels.morsel_of c.args.morsels.now) g.O.Source.want w (record w { tree = c.turn.new.self; intake = c.fetch.new.self; sender = c.accept.new.self; is_over = w.is_over }) t x.0 c.wants-wish.result c.in-Ok.got (polled.Gave c.in-Gave.rows)
+          c.requires.running c.requires.empty c.wants-wish.ensures x.2 h.0 c.in-Gave.ensures.numbered c.in-Gave.ensures.stands c.requires.empty (c.in-Ok-accept.ensures.ok goes r)
+          (λ s o. let off : false ≡ true = sym c.requires.goes_on ∙ o in cc) (running g.O.Source.Stands g.O.Source.op g.S.Sends.Stands g.S.Sends.task goes (g.G.Morsels.morsel_of c.args.morsels.now) w t c.requires.running h),
+    )
+
+pub returns-in-Ok-accept-2-clause-ready : goal.returns-in-Ok-accept-2-clause-ready
+returns-in-Ok-accept-2-clause-ready g c =
+    let w = c.args.self.now in
+    let going = going-of g.O.Source.types g.S.Sends.post g.S.Sends.is_open g.S.Sends.has_closed (g.G.Morsels.types_of c.args.morsels.now) w c.requires.running c.requires.ready in
+    ready-runs g.O.Source.types g.S.Sends.post g.S.Sends.is_open g.S.Sends.has_closed (g.G.Morsels.types_of c.args.morsels.now) w (record w { tree = c.turn.new.self; intake = c.fetch.new.self; sender = c.accept-in-End.new.self; is_over = true }) c.requires.running c.requires.empty refl
+    (c.in-End.ensures.typed (g.G.Morsels.types_of c.args.morsels.now) c.requires.ready.typed) c.in-End.ensures.types c.in-Ok-accept-2.ensures.post (λ o. cc) going c.requires.ready.sends
+
+pub returns-in-Ok-accept-2-clause-stands : goal.returns-in-Ok-accept-2-clause-stands
+returns-in-Ok-accept-2-clause-stands g c =
+    let w = c.args.self.now in
+    let x = c.in-Ok.ensures.fetches in (
+      x.0,
+      x.1,
+      λ goes r t h. turns g.O.Source.Stands g.O.Source.op g.S.Sends.Stands g.S.Sends.task goes (g.G.Morsels.morsel_of c.args.morsels.now) g.O.Source.want w (record w { tree = c.turn.new.self; intake = c.fetch.new.self; sender = c.accept-in-End.new.self; is_over = true }) t x.0 c.wants-wish.result c.in-Ok.got polled.End
+          c.requires.running c.requires.empty c.wants-wish.ensures x.2 h.0 c.in-End.ensures.numbered c.in-End.ensures.stands c.requires.empty (c.in-Ok-accept-2.ensures.ok goes r)
+          (λ s o. refl) (running g.O.Source.Stands g.O.Source.op g.S.Sends.Stands g.S.Sends.task goes (g.G.Morsels.morsel_of c.args.morsels.now) w t c.requires.running h),
+    )
+
+pub returns-in-Err-accept-clause-ready : goal.returns-in-Err-accept-clause-ready
+returns-in-Err-accept-clause-ready g c =
+    let w = c.args.self.now in
+    let v = c.fail-in-Err-accept.new.self in
+    let going = going-of g.O.Source.types g.S.Sends.post g.S.Sends.is_open g.S.Sends.has_closed (g.G.Morsels.types_of c.args.morsels.now) w c.requires.running c.requires.ready in
+    ready-fails g.O.Source.types g.S.Sends.post g.S.Sends.is_open g.S.Sends.has_closed (g.G.Morsels.types_of c.args.morsels.now) w v _ c.turn.new.self c.accept.new.self c.fail-in-Err-accept.ensures.phase c.fail-in-Err-accept.ensures.pending c.fail-in-Err-accept.ensures.closing c.fail-in-Err-accept.ensures.tree c.fail-in-Err-accept.ensures.sender
+    (c.in-Gave.ensures.typed (g.G.Morsels.types_of c.args.morsels.now) c.requires.ready.typed) c.in-Gave.ensures.types c.in-Err-accept.ensures.post going c.requires.ready.sends
+
+pub returns-in-Err-accept-clause-stands : goal.returns-in-Err-accept-clause-stands
+returns-in-Err-accept-clause-stands g c =
+    let w = c.args.self.now in
+    let v = c.fail-in-Err-accept.new.self in
+    let s' = c.accept.new.self in
+    let x = c.in-Ok.ensures.fetches in
+    let going = going-of g.O.Source.types g.S.Sends.post g.S.Sends.is_open g.S.Sends.has_closed (g.G.Morsels.types_of c.args.morsels.now) w c.requires.running c.requires.ready in
+    let unclosed = c.in-Err-accept.ensures.closed ∙ g.met.S.Sends.open_first w.sender (going.opens c.requires.goes_on) in (
+      x.0,
+      x.1,
+      λ goes r t h. loses g.O.Source.Stands g.O.Source.op g.S.Sends.Stands g.S.Sends.task goes (g.G.Morsels.morsel_of c.args.morsels.now) g.met.O.Source.told w v c.no_memory-in-Err-accept.result (g.S.Sends.post w.sender) t x.0
+          c.fail-in-Err-accept.ensures.phase c.fail-in-Err-accept.ensures.pending (c.fail-in-Err-accept.ensures.closing ∙ going.closing)
+          (subst (λ s. IsAt (g.S.Sends.post w.sender) (g.S.Sends.task s)) (sym c.fail-in-Err-accept.ensures.sender)
+          (subst (λ p. IsAt p (g.S.Sends.task s')) c.in-Err-accept.ensures.post (g.met.S.Sends.at_post s')))
+          (ap (Rattle.vx_worker.specs.Trees.shape g.O.Source.op) c.fail-in-Err-accept.ensures.tree ∙ c.in-Gave.ensures.shape) c.no_memory-in-Err-accept.ensures
+          (subst (λ k. IntakeStands k (Rattle.vx_worker.specs.Trace.added t x.0)) (sym c.fail-in-Err-accept.ensures.intake) (x.2.stands t h.0)) x.2.is_read c.requires.empty
+          (λ a put s. subst (λ z. Begun goes (g.S.Sends.task z) a.rows put) (sym c.fail-in-Err-accept.ensures.sender)
+          (g.met.S.Sends.begun s' goes (record { rows = a.rows; over = over.Failed c.no_memory-in-Err-accept.result }) put (c.in-Err-accept.ensures.err goes a put s c.no_memory-in-Err-accept.result) unclosed))
+          (running g.O.Source.Stands g.O.Source.op g.S.Sends.Stands g.S.Sends.task goes (g.G.Morsels.morsel_of c.args.morsels.now) w t c.requires.running h),
+    )
+
+pub returns-in-Err-accept-2-clause-ready : goal.returns-in-Err-accept-2-clause-ready
+returns-in-Err-accept-2-clause-ready g c =
+    let w = c.args.self.now in
+    let v = c.fail-in-Err-accept-2.new.self in
+    let going = going-of g.O.Source.types g.S.Sends.post g.S.Sends.is_open g.S.Sends.has_closed (g.G.Morsels.types_of c.args.morsels.now) w c.requires.running c.requires.ready in
+    ready-fails g.O.Source.types g.S.Sends.post g.S.Sends.is_open g.S.Sends.has_closed (g.G.Morsels.types_of c.args.morsels.now) w v _ c.turn.new.self c.accept-in-End.new.self c.fail-in-Err-accept-2.ensures.phase c.fail-in-Err-accept-2.ensures.pending c.fail-in-Err-accept-2.ensures.closing c.fail-in-Err-accept-2.ensures.tree c.fail-in-Err-accept-2.ensures.sender
+    (c.in-End.ensures.typed (g.G.Morsels.types_of c.args.morsels.now) c.requires.ready.typed) c.in-End.ensures.types c.in-Err-accept-2.ensures.post going c.requires.ready.sends
+
+pub returns-in-Err-accept-2-clause-stands : goal.returns-in-Err-accept-2-clause-stands
+returns-in-Err-accept-2-clause-stands g c =
+    let w = c.args.self.now in
+    let v = c.fail-in-Err-accept-2.new.self in
+    let s' = c.accept-in-End.new.self in
+    let x = c.in-Ok.ensures.fetches in
+    let going = going-of g.O.Source.types g.S.Sends.post g.S.Sends.is_open g.S.Sends.has_closed (g.G.Morsels.types_of c.args.morsels.now) w c.requires.running c.requires.ready in
+    let unclosed = c.in-Err-accept-2.ensures.closed ∙ g.met.S.Sends.open_first w.sender (going.opens c.requires.goes_on) in (
+      x.0,
+      x.1,
+      λ goes r t h. loses g.O.Source.Stands g.O.Source.op g.S.Sends.Stands g.S.Sends.task goes (g.G.Morsels.morsel_of c.args.morsels.now) g.met.O.Source.told w v c.no_memory-in-Err-accept-2.result (g.S.Sends.post w.sender) t x.0
+          c.fail-in-Err-accept-2.ensures.phase c.fail-in-Err-accept-2.ensures.pending (c.fail-in-Err-accept-2.ensures.closing ∙ going.closing)
+          (subst (λ s. IsAt (g.S.Sends.post w.sender) (g.S.Sends.task s)) (sym c.fail-in-Err-accept-2.ensures.sender)
+          (subst (λ p. IsAt p (g.S.Sends.task s')) c.in-Err-accept-2.ensures.post (g.met.S.Sends.at_post s')))
+          (ap (Rattle.vx_worker.specs.Trees.shape g.O.Source.op) c.fail-in-Err-accept-2.ensures.tree ∙ c.in-End.ensures.shape) c.no_memory-in-Err-accept-2.ensures
+          (subst (λ k. IntakeStands k (Rattle.vx_worker.specs.Trace.added t x.0)) (sym c.fail-in-Err-accept-2.ensures.intake) (x.2.stands t h.0)) x.2.is_read c.requires.empty
+          (λ a put s. subst (λ z. Begun goes (g.S.Sends.task z) a.rows put) (sym c.fail-in-Err-accept-2.ensures.sender)
+          (g.met.S.Sends.begun s' goes (record { rows = a.rows; over = over.Failed c.no_memory-in-Err-accept-2.result }) put (c.in-Err-accept-2.ensures.err goes a put s c.no_memory-in-Err-accept-2.result) unclosed))
+          (running g.O.Source.Stands g.O.Source.op g.S.Sends.Stands g.S.Sends.task goes (g.G.Morsels.morsel_of c.args.morsels.now) w t c.requires.running h),
+    )

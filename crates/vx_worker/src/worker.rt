@@ -1,0 +1,372 @@
+//! Workers: the operators of a fragment at one place, step by step.
+
+use crate::intake::{Drained, Input, Intake};
+use crate::tree::Tree;
+use crate::wires::{Morsels, Wires};
+use std::alloc::Global;
+use vx_exchange::Sends;
+use vx_ops::{Code, Fault, Got, Polled, Source};
+use vx_plan::Router;
+use vx_ports::{Packet, Put};
+
+/// Where a worker stands.
+#[derive(Clone, Copy)]
+enum Phase {
+    /// It draws, takes, turns and puts.
+    Running,
+    /// It failed and closes its ports with Fault.
+    Failing(Fault),
+    /// Its ports are closed; it takes and drops what its producers send.
+    Draining(Fault),
+    /// All its rows went on their way.
+    Well,
+    /// It failed, its ports are closed, and its producers have closed theirs.
+    Failed(Fault),
+}
+
+/// How a worker ended.
+#[derive(Clone, Copy)]
+pub enum Outcome {
+    /// It took all that came, and all its rows went on their way.
+    Well,
+    /// By a fault of its own, or one that came in a packet.
+    Failed(Fault),
+}
+
+/// What a step did.
+#[derive(Clone, Copy, Debug, PartialEq, Eq)]
+pub enum Stepped {
+    /// The worker went on.
+    Moved,
+    /// A port was full, or no packet had come.
+    Waiting,
+    /// The worker has ended.
+    Ended,
+}
+
+/// A worker: the tree of its fragment, and what takes the rows that the tree's top gives.
+#[derive(Drop)]
+pub struct Worker<O, S> {
+    tree: Tree<O>,
+    sender: S,
+    // A packet that is to be put next, and its consumer.
+    pending: Option<(u32, Packet)>,
+    is_over: bool,
+    phase: Phase,
+    intake: Intake,
+    // Fault for each consumer, the last of which goes first.
+    closing: Vec<Packet>,
+    node: u32,
+}
+
+impl<O: Source, S: Sends> Worker<O, S> {
+    ghost use Rattle.std.specs.Prelude.{◌≡◌, ℕ, List, [], true, false, None, Some, IfSome, IfNone, IsSome, ◌↔◌, map};
+    ghost use Rattle.std.specs.List.{All};
+    ghost use Rattle.vx_rows.specs.Values.{Row};
+    ghost use Rattle.vx_rows.specs.declared.value.ColType.{ColType};
+    ghost use Rattle.vx_plan.specs.Routes.{Router as Routing};
+    ghost use Rattle.vx_ports.specs.Packets.{Parcel, closes};
+    ghost use Rattle.vx_ops.specs.Ledger.{fresh};
+    ghost use Rattle.vx_exchange.specs.Tasks.{post_types};
+    ghost use Rattle.vx_exchange.specs.Sending.{RoutesAs};
+    ghost use Rattle.vx_worker.specs.Trace.{Event, Trace, added, empty_trace, IsNoMemory};
+    ghost use Rattle.vx_worker.specs.Trees.{shape, TreeStands};
+    ghost use Rattle.vx_worker.specs.Wishes.{Numbered, TreeTyped, tree_types, fresh_reads};
+    ghost use Rattle.vx_worker.specs.Intake.{source_of, IsFresh};
+    ghost use Rattle.vx_worker.specs.Worker.{closing_of, with_pending, with_all, outcome_of, sender_of, inputs_of, role_of, IsReady, IsReadyIn, IsGoing, IsClosing, WorkerStands, EndsAs};
+
+    /// A worker that made no step. `node` is the number of its tree's top; `closing` is a Fault for each consumer, by rising place; `inputs` are the
+    /// producers from which its tree takes, all of which it drains if it fails.
+    pub fn new(
+        alloc: Global,
+        tree: Tree<O>,
+        sender: S,
+        node: u32,
+        closing: Vec<Packet>,
+        inputs: Vec<Input>,
+    ) -> Worker<O, S>
+        requires numbered { (low : ℕ) × (high : ℕ) × Numbered low high tree }
+        requires tree { TreeStands O.Stands tree fresh_reads fresh }
+        requires types { tree_types O.types tree ≡ post_types (S.post sender) }
+        requires open { S.is_open sender ≡ true }
+        requires closing { closing.items ≡ closing_of (S.post sender) }
+        requires inputs { All IsFresh inputs.items }
+        ensures ready { (m : ℕ → List ColType) → TreeTyped O.types m tree → IsReady O.types S.post S.is_open S.has_closed m result }
+        ensures role { role_of O.op S.post S.bounds result
+            ≡ record { frag = shape O.op tree; post = S.post sender; bounds = S.bounds sender; inputs = map source_of inputs.items } }
+        ensures stands { (goes : Routing) (m : ℕ → ℕ → List Row) → S.Stands sender goes fresh (λ _. [])
+            → WorkerStands O.Stands O.op S.Stands S.task goes m result empty_trace }
+    {
+        Worker {
+            tree,
+            sender,
+            pending: None,
+            is_over: false,
+            phase: Phase::Running,
+            intake: Intake::new(alloc, inputs),
+            closing,
+            node,
+        }
+    }
+
+    /// How the worker ended; none while it has not.
+    pub fn outcome(&self) -> Option<Outcome>
+        ensures outcome { result ≡ outcome_of self.now }
+        ensures honest { IfSome result (λ o. (goes : Routing) (m : ℕ → ℕ → List Row) (t : Trace)
+            → WorkerStands O.Stands O.op S.Stands S.task goes m self.now t → EndsAs O.op S.task goes m o self.now t) }
+    {
+        match self.phase {
+            Phase::Running => None,
+            Phase::Failing(_) => None,
+            Phase::Draining(_) => None,
+            Phase::Well => Some(Outcome::Well),
+            Phase::Failed(fault) => Some(Outcome::Failed(fault)),
+        }
+    }
+
+    /// One step: at most one draw, one take or one put. An ended worker stays as it is.
+    pub fn step<G: Morsels, R: Router, W: Wires>(
+        &mut self,
+        morsels: &G,
+        router: &R,
+        wires: &mut W,
+    ) -> Stepped
+        requires { IsReady O.types S.post S.is_open S.has_closed (G.types_of morsels.now) self.old }
+        ensures ready { IsReady O.types S.post S.is_open S.has_closed (G.types_of morsels.now) self.new }
+        ensures role { role_of O.op S.post S.bounds self.new ≡ role_of O.op S.post S.bounds self.old }
+        ensures stands { (e : Event) × W.Does wires.old e wires.new × ((goes : Routing)
+            → RoutesAs (S.post (sender_of self.old)) (S.bounds (sender_of self.old)) (R.route_of router.now) goes
+            → (t : Trace) → WorkerStands O.Stands O.op S.Stands S.task goes (G.morsel_of morsels.now) self.old t
+            → WorkerStands O.Stands O.op S.Stands S.task goes (G.morsel_of morsels.now) self.new (added t e)) }
+        ensures ended { (result ≡ Stepped.Ended) ↔ IsSome (outcome_of self.new) }
+        ensures honest { IfSome (outcome_of self.new) (λ o. (goes : Routing) (t : Trace)
+            → WorkerStands O.Stands O.op S.Stands S.task goes (G.morsel_of morsels.now) self.new t
+            → EndsAs O.op S.task goes (G.morsel_of morsels.now) o self.new t) }
+        ensures still { IsSome (outcome_of self.old) → self.new ≡ self.old }
+    {
+        match self.phase {
+            Phase::Well => Stepped::Ended,
+            Phase::Failed(_) => Stepped::Ended,
+            Phase::Failing(fault) => self.close(fault, wires),
+            Phase::Draining(fault) => self.drain(fault, wires),
+            Phase::Running => self.run(morsels, router, wires),
+        }
+    }
+
+    // One step of a worker that has not failed: a packet that is here goes first, then those that its sending end holds.
+    fn run<G: Morsels, R: Router, W: Wires>(
+        &mut self,
+        morsels: &G,
+        router: &R,
+        wires: &mut W,
+    ) -> Stepped
+        requires running { self.old.phase ≡ Phase.Running }
+        requires ready { IsReady O.types S.post S.is_open S.has_closed (G.types_of morsels.now) self.old }
+        ensures ready { IsReady O.types S.post S.is_open S.has_closed (G.types_of morsels.now) self.new }
+        ensures role { role_of O.op S.post S.bounds self.new ≡ role_of O.op S.post S.bounds self.old }
+        ensures stands { (e : Event) × W.Does wires.old e wires.new × ((goes : Routing)
+            → RoutesAs (S.post self.old.sender) (S.bounds self.old.sender) (R.route_of router.now) goes
+            → (t : Trace) → WorkerStands O.Stands O.op S.Stands S.task goes (G.morsel_of morsels.now) self.old t
+            → WorkerStands O.Stands O.op S.Stands S.task goes (G.morsel_of morsels.now) self.new (added t e)) }
+        ensures ended { (result ≡ Stepped.Ended) ↔ IsSome (outcome_of self.new) }
+    {
+        if self.pending.is_some() {
+            return self.send(wires);
+        }
+        match self.sender.next() {
+            Some(next) => {
+                self.pending = Some(next);
+                return self.send(wires);
+            }
+            None => {
+                if self.is_over {
+                    self.phase = Phase::Well;
+                    return Stepped::Ended;
+                }
+                return self.pull(morsels, router, wires);
+            }
+        }
+    }
+
+    // Puts the packet that is here.
+    fn send<W: Wires>(&mut self, wires: &mut W) -> Stepped
+        requires running { self.old.phase ≡ Phase.Running }
+        requires going { IsGoing S.post S.is_open S.has_closed self.old }
+        ensures ready { IsReadyIn S.post S.is_open S.has_closed self.new.phase self.new }
+        ensures tree { self.new.tree ≡ self.old.tree }
+        ensures sender { self.new.sender ≡ self.old.sender }
+        ensures intake { self.new.intake ≡ self.old.intake }
+        ensures stands { (e : Event) × W.Does wires.old e wires.new × ((goes : Routing) (m : ℕ → ℕ → List Row) (t : Trace)
+            → WorkerStands O.Stands O.op S.Stands S.task goes m self.old t
+            → WorkerStands O.Stands O.op S.Stands S.task goes m self.new (added t e)) }
+        ensures goes_on { (outcome_of self.new ≡ None) × (result ≡ Stepped.Ended → ⊥) }
+    {
+        match self.pending.take() {
+            None => return Stepped::Waiting,
+            Some((to, packet)) => match wires.put(to, packet) {
+                Put::Done => return Stepped::Moved,
+                Put::Full(packet) => {
+                    self.pending = Some((to, packet));
+                    return Stepped::Waiting;
+                }
+                Put::NoMemory(_) => return self.fail(self.no_memory()),
+            },
+        }
+    }
+
+    // Gets what the tree wishes, turns it, and hands what it gives to the sending end.
+    fn pull<G: Morsels, R: Router, W: Wires>(
+        &mut self,
+        morsels: &G,
+        router: &R,
+        wires: &mut W,
+    ) -> Stepped
+        requires running { self.old.phase ≡ Phase.Running }
+        requires ready { IsReady O.types S.post S.is_open S.has_closed (G.types_of morsels.now) self.old }
+        requires empty { self.old.pending ≡ None }
+        requires goes_on { self.old.is_over ≡ false }
+        ensures ready { IsReady O.types S.post S.is_open S.has_closed (G.types_of morsels.now) self.new }
+        ensures role { role_of O.op S.post S.bounds self.new ≡ role_of O.op S.post S.bounds self.old }
+        ensures stands { (e : Event) × W.Does wires.old e wires.new × ((goes : Routing)
+            → RoutesAs (S.post self.old.sender) (S.bounds self.old.sender) (R.route_of router.now) goes
+            → (t : Trace) → WorkerStands O.Stands O.op S.Stands S.task goes (G.morsel_of morsels.now) self.old t
+            → WorkerStands O.Stands O.op S.Stands S.task goes (G.morsel_of morsels.now) self.new (added t e)) }
+        ensures goes_on { (outcome_of self.new ≡ None) × (result ≡ Stepped.Ended → ⊥) }
+    {
+        let wish = self.tree.wants();
+        match self.intake.fetch(wish, morsels, wires) {
+            Err(_) => return self.fail(self.no_memory()),
+            Ok(got) => {
+                let nothing_came = matches!(got, Got::Packet(None));
+                match self.tree.turn(got) {
+                    Polled::Waiting if nothing_came => return Stepped::Waiting,
+                    Polled::Waiting => return Stepped::Moved,
+                    Polled::Fault(fault) => return self.fail(fault),
+                    Polled::Gave(rows) => match self.sender.accept(router, Polled::Gave(rows)) {
+                        Ok(()) => return Stepped::Moved,
+                        Err(_) => return self.fail(self.no_memory()),
+                    },
+                    Polled::End => match self.sender.accept(router, Polled::End) {
+                        Ok(()) => {
+                            self.is_over = true;
+                            return Stepped::Moved;
+                        }
+                        Err(_) => return self.fail(self.no_memory()),
+                    },
+                }
+            }
+        }
+    }
+
+    // Memory was refused to this worker.
+    fn no_memory(&self) -> Fault
+        ensures { IsNoMemory result }
+    {
+        Fault::Own {
+            code: Code::NoMemory,
+            node: self.node,
+        }
+    }
+
+    // From now on it closes its ports. A packet that is here is dropped.
+    fn fail(&mut self, fault: Fault) -> Stepped
+        ensures phase { self.new.phase ≡ Phase.Failing fault }
+        ensures pending { self.new.pending ≡ None }
+        ensures tree { self.new.tree ≡ self.old.tree }
+        ensures sender { self.new.sender ≡ self.old.sender }
+        ensures intake { self.new.intake ≡ self.old.intake }
+        ensures closing { self.new.closing.items ≡ self.old.closing.items }
+        ensures moved { result ≡ Stepped.Moved }
+    {
+        self.phase = Phase::Failing(fault);
+        self.pending = None;
+        Stepped::Moved
+    }
+
+    // Puts the next packet that closes a port; once all were put it drains.
+    fn close<W: Wires>(&mut self, fault: Fault, wires: &mut W) -> Stepped
+        requires failing { self.old.phase ≡ Phase.Failing fault }
+        requires closing { IsClosing self.old }
+        ensures ready { IsReadyIn S.post S.is_open S.has_closed self.new.phase self.new }
+        ensures tree { self.new.tree ≡ self.old.tree }
+        ensures sender { self.new.sender ≡ self.old.sender }
+        ensures intake { self.new.intake ≡ self.old.intake }
+        ensures stands { (e : Event) × W.Does wires.old e wires.new × ((goes : Routing) (m : ℕ → ℕ → List Row) (t : Trace)
+            → WorkerStands O.Stands O.op S.Stands S.task goes m self.old t
+            → WorkerStands O.Stands O.op S.Stands S.task goes m self.new (added t e)) }
+        ensures goes_on { (outcome_of self.new ≡ None) × (result ≡ Stepped.Ended → ⊥) }
+    {
+        match self.next_closing() {
+            None => {
+                self.phase = Phase::Draining(fault);
+                return Stepped::Moved;
+            }
+            Some((to, packet)) => match wires.put(to, packet) {
+                Put::Done => return Stepped::Moved,
+                Put::Full(refused) => {
+                    self.pending = Some((to, refused));
+                    return Stepped::Waiting;
+                }
+                Put::NoMemory(_) => unreachable!("a packet that closes is never refused"),
+            },
+        }
+    }
+
+    // Takes out the packet that is here, or the last of those that close the ports.
+    fn next_closing(&mut self) -> Option<(u32, Packet)>
+        requires { IsClosing self.old }
+        ensures closes { IfSome result (λ x. closes x.1.content ≡ true) }
+        ensures closing { IsClosing self.new }
+        ensures some { IfSome result (λ x. (put : ℕ → List Parcel)
+            → with_all (with_pending put self.old.pending) self.old.closing.items ≡ with_all (with_pending put (Some x)) self.new.closing.items) }
+        ensures none { IfNone result ((self.old.pending ≡ None) × (self.old.closing.items ≡ [])) }
+        ensures pending { self.new.pending ≡ None }
+        ensures tree { self.new.tree ≡ self.old.tree }
+        ensures sender { self.new.sender ≡ self.old.sender }
+        ensures intake { self.new.intake ≡ self.old.intake }
+        ensures phase { self.new.phase ≡ self.old.phase }
+    {
+        match self.pending.take() {
+            Some(next) => return Some(next),
+            None => match self.closing.pop() {
+                Some(packet) => return Some((packet.to(), packet)),
+                None => return None,
+            },
+        }
+    }
+
+    // Takes and drops; once each producer has closed the worker has ended.
+    fn drain<W: Wires>(&mut self, fault: Fault, wires: &mut W) -> Stepped
+        requires { self.old.phase ≡ Phase.Draining fault }
+        ensures ready { IsReadyIn S.post S.is_open S.has_closed self.new.phase self.new }
+        ensures tree { self.new.tree ≡ self.old.tree }
+        ensures sender { self.new.sender ≡ self.old.sender }
+        ensures sources { inputs_of self.new ≡ inputs_of self.old }
+        ensures stands { (e : Event) × W.Does wires.old e wires.new × ((goes : Routing) (m : ℕ → ℕ → List Row) (t : Trace)
+            → WorkerStands O.Stands O.op S.Stands S.task goes m self.old t
+            → WorkerStands O.Stands O.op S.Stands S.task goes m self.new (added t e)) }
+        ensures ended { (result ≡ Stepped.Ended) ↔ IsSome (outcome_of self.new) }
+    {
+        match self.intake.drain(wires) {
+            Drained::Dropped => return Stepped::Moved,
+            Drained::Nothing => return Stepped::Waiting,
+            Drained::All => {
+                self.phase = Phase::Failed(fault);
+                return Stepped::Ended;
+            }
+        }
+    }
+}
+
+impl<O: Drop, S> Worker<O, S> {
+    ghost use Rattle.std.specs.Prelude.{◌≡◌};
+    ghost use Rattle.vx_worker.specs.Worker.{sender_of};
+
+    /// What took the rows that the tree's top gave: at the root it holds them.
+    pub fn into_sender(self) -> S
+        ensures { result ≡ sender_of self }
+    {
+        let Worker { sender, .. } = self;
+        sender
+    }
+}
