@@ -1,0 +1,4 @@
+pub mod MemberFacts
+pub mod TextFacts
+pub mod Refusing
+pub mod TableFacts

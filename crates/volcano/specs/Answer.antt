@@ -1,0 +1,130 @@
+-- What answers a bundle's text, and why it may have no answer.
+use Rattle.std.specs.Prelude.{◌≡◌, ℕ, ◌⊎◌, List, Bool, true, false, cond, Option, Some, None, Result, Ok, IfSome, codes}
+use Rattle.vx_rows.specs.Ports.{IsOver}
+use Rattle.vx_catalog.specs.Relation.{Relation}
+use Rattle.vx_catalog.specs.Catalog.{relation_at}
+use Rattle.vx_catalog.specs.Naming.{catalog_of}
+use Rattle.vx_catalog.specs.Naming as catalog
+use Rattle.vx_catalog.specs.Loading.{max_bytes}
+use Rattle.vx_catalog.specs.Database.{Database}
+use Rattle.vx_plan.specs.Outline.{plan_in}
+use Rattle.vx_plan.specs.Resolve.{Resolved, resolved}
+use Rattle.vx_plan.specs.Fault.{◌>>=◌}
+use Rattle.vx_plan.specs.Reading.{document_in}
+use Rattle.vx_plan.specs.Fault as plan
+use Rattle.vx_check.specs.Refusal.{Rule, refusal}
+use Rattle.vx_check.specs.RuleView.{rule_of}
+use Rattle.vx_check.specs.Explain.{explain_text}
+use Rattle.vx_check.specs.declared.rule.Rule as rust_rule
+use Rattle.vx_catalog.specs.declared.fault.CatalogFault.{CatalogFault}
+use Rattle.vx_plan.specs.declared.fault.PlanFault.{PlanFault}
+use Rattle.volcano.specs.declared.bundle.Command.{Command}
+use Rattle.volcano.specs.declared.bundle.Command.TheVariants as command
+use Rattle.volcano.specs.declared.bundle.Mode.{Mode}
+use Rattle.volcano.specs.declared.bundle.Mode.TheVariants as mode
+use Rattle.volcano.specs.declared.refusal.Refusal.{Refusal}
+use Rattle.volcano.specs.declared.refusal.Refusal.TheVariants as refusal
+use Rattle.volcano.specs.Bundle.{Bundle, bundle_of_text}
+use Rattle.volcano.specs.Tables.{IsFilled, IsFirstMissing}
+use Rattle.volcano.specs.Status.{status_of}
+
+-- the plan of a bundle over a catalog
+abbrev pub plan_for : Bundle → List Relation → Result Resolved plan.Refusal
+plan_for b catalog = document_in b.plan >>= λ d. resolved d catalog
+
+-- the first node whose note is not shown, and the rule that says so
+abbrev pub refusal_in : Resolved → Option (ℕ × Rule)
+refusal_in p = refusal (relation_at p.names.catalog) p.total (plan_in p.root)
+
+-- a bundle's catalog, its plan over that, and the checker accepts it
+pub record IsAccepted (b : Bundle) (p : Resolved) : Type 0 where
+  pub catalog : List Relation
+  pub declared : catalog_of b.catalog ≡ Ok catalog
+  pub planned : plan_for b catalog ≡ Ok p
+  pub shown : refusal_in p ≡ None
+
+-- the first reason why a bundle has no accepted plan: its catalog, its plan, a note that is not shown
+pub data Unaccepted (b : Bundle) (e : Refusal) : Type 0 where
+  for_catalog : (fault : CatalogFault) → e ≡ refusal.Catalog fault → catalog.Fails fault (catalog_of b.catalog) → Unaccepted b e
+  for_plan : (catalog : List Relation) (fault : PlanFault) → e ≡ refusal.Plan fault → catalog_of b.catalog ≡ Ok catalog → plan.Fails fault (plan_for b catalog) → Unaccepted b e
+  for_rule : (catalog : List Relation) (p : Resolved) (rule : rust_rule.Rule) (node : ℕ) → e ≡ refusal.Check rule node → catalog_of b.catalog ≡ Ok catalog → plan_for b catalog ≡ Ok p
+      → refusal_in p ≡ Some (node, rule_of rule) → Unaccepted b e
+
+-- the text answers a run of this plan over this database, set up as the bundle says: no plan is run yet
+abbrev pub IsRunOver : Resolved → Database → Bundle → List ℕ → Type 0
+IsRunOver p db b text = ⊥
+
+-- why a run of this plan over this database gives no text: none is run yet, or memory ran out
+abbrev pub RunRefuses : Resolved → Database → Bundle → Refusal → Type 0
+RunRefuses p db b e = (e ≡ refusal.Unfinished) ⊎ (e ≡ refusal.NoMemory)
+
+-- a database of a plan's catalog, with the rows that the bundle has of what the plan scans
+pub record IsDatabaseFor (p : Resolved) (b : Bundle) (db : Database) : Type 0 where
+  pub same : db.catalog ≡ p.names.catalog
+  pub filled : IsFilled (plan_in p.root) b.tables db
+
+-- the text answers a run of this plan over the bundle's tables
+abbrev pub IsRun : Resolved → Bundle → List ℕ → Type 0
+IsRun p b text = (db : Database) × IsDatabaseFor p b db × IsRunOver p db b text
+
+-- why this plan gives no text: the tables, then the run
+pub data PlanRefuses (p : Resolved) (b : Bundle) (e : Refusal) : Type 0 where
+  for_tables : IsFirstMissing (plan_in p.root) b.tables p.names.catalog e → PlanRefuses p b e
+  for_run : (db : Database) → IsDatabaseFor p b db → RunRefuses p db b e → PlanRefuses p b e
+
+-- what the checker's answer is told as
+abbrev pub accepted_text : Bool → List ℕ
+accepted_text total = cond total (codes "accepted total\n") (codes "accepted\n")
+
+-- what the program does so far: runs in rounds, the checker's answer, and its text on a plan
+abbrev pub is_taken : Command → Mode → Bool
+is_taken command.Run mode.Rounds = true
+is_taken command.Run mode.Threads = false
+is_taken command.Serial m = false
+is_taken command.Check m = true
+is_taken command.Explain m = true
+
+-- the text is what a command asks for of an accepted plan
+abbrev pub IsFor : Command → Resolved → Bundle → List ℕ → Type 0
+IsFor command.Run p b text = IsRun p b text
+IsFor command.Serial p b text = ⊥
+IsFor command.Check p b text = text ≡ accepted_text p.total
+IsFor command.Explain p b text = text ≡ explain_text p.names p.total p.root
+
+-- the text answers this bundle
+abbrev pub IsOutput : Bundle → List ℕ → Type 0
+IsOutput b text = (p : Resolved) × IsAccepted b p × IsFor b.command p b text
+
+-- the first reason why this bundle has no answer: its command, its plan, the run; want of memory may come anywhere
+pub data Refuses (b : Bundle) (e : Refusal) : Type 0 where
+  for_memory : e ≡ refusal.NoMemory → Refuses b e
+  for_command : e ≡ refusal.BadBundle → is_taken b.command b.mode ≡ false → Refuses b e
+  for_acceptance : Unaccepted b e → Refuses b e
+  for_rest : (p : Resolved) → IsAccepted b p → b.command ≡ command.Run → PlanRefuses p b e → Refuses b e
+
+-- the text answers these bytes: they are a bundle's, and it answers that
+abbrev pub IsAnswer : List ℕ → List ℕ → Type 0
+IsAnswer bytes text = (b : Bundle) × (bundle_of_text bytes ≡ Some b) × IsOutput b text
+
+-- no bundle, or why the bundle has no answer
+abbrev pub RefusedAs : Option Bundle → Refusal → Type 0
+RefusedAs None e = (e ≡ refusal.BadBundle) ⊎ (e ≡ refusal.NoMemory)
+RefusedAs (Some b) e = Refuses b e
+
+-- these bytes are refused like this
+abbrev pub IsRefused : List ℕ → Refusal → Type 0
+IsRefused bytes e = RefusedAs (bundle_of_text bytes) e
+
+-- a reader failed, or had too many bytes where it tells them
+abbrev pub IsUnread : Option (List ℕ) → Bool → Type 0
+IsUnread known failed = (failed ≡ true) ⊎ IsOver max_bytes known
+
+-- why all that a reader had left is refused with this refusal
+abbrev pub RefusedWith : Option (List ℕ) → Bool → Refusal → Type 0
+RefusedWith known failed refusal.InputUnreadable = IsUnread known failed
+RefusedWith known failed refusal.NoMemory = Unit {0}
+RefusedWith known failed e = IfSome known (λ bytes. IsRefused bytes e)
+
+-- input is refused with a refusal of this status
+abbrev pub IsRefusedBy : ℕ → Option (List ℕ) → Bool → Type 0
+IsRefusedBy status known failed = (e : Refusal) × (status_of e ≡ status) × RefusedWith known failed e

@@ -1,0 +1,5 @@
+pub mod Bundle
+pub mod BundleView
+pub mod Status
+pub mod Tables
+pub mod Answer
