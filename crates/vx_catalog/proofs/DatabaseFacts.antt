@@ -31,7 +31,7 @@ pushed P tables table n long each last i h =
 pub empty_database : (catalog : List Relation) (tables : List Table) → length tables ≡ length catalog → ((i : ℕ) → i < length catalog → (get_or tables i no_rows).types ≡ (relation_at catalog i).types)
     → ((i : ℕ) → i < length catalog → (get_or tables i no_rows).rows ≡ []) → IsDatabase catalog tables
 empty_database catalog tables many types empty =
-    record { many = many; loaded = λ i h. record { there = h; types = types i h; meets = rw (empty i h) (empty_meets (relation_at catalog i)) } }
+    record { many = many; loaded = λ i h. record { there = h; types = types i h; meets = rw (empty i h) (empty_meets (relation_at catalog i)); few = rw (empty i h) (omega arith) } }
 
 pub all_empty : (catalog : List Relation) (tables : List Table) → length tables ≡ length catalog → ((i : ℕ) → i < length catalog → (get_or tables i no_rows).rows ≡ [])
     → map (λ (t : Table). t.rows) tables ≡ map (λ (r : Relation). []) catalog

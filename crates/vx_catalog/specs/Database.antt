@@ -1,9 +1,10 @@
 -- Databases: for each relation of a catalog rows that meet it.
-use Rattle.std.specs.Prelude.{◌≡◌, ℕ, ◌<◌, List, [], length, slice_index_or, slice_set}
+use Rattle.std.specs.Prelude.{◌≡◌, ℕ, ◌<◌, ◌≤◌, List, [], length, slice_index_or, slice_set}
 use Rattle.vx_rows.specs.Values.{Row}
 use Rattle.vx_rows.specs.View.{Table}
 use Rattle.vx_catalog.specs.Relation.{Relation, Meets}
 use Rattle.vx_catalog.specs.Catalog.{relation_at}
+use Rattle.vx_catalog.specs.Loading.{max_rows}
 
 -- rows of the relation with this number
 pub record LoadedRows : Type 0 where
@@ -11,11 +12,12 @@ pub record LoadedRows : Type 0 where
   pub relation : ℕ
   pub rows : List Row
 
--- these are rows of the relation with this number
+-- these are rows of the relation with this number: they meet it, and they are no more than a relation may have
 pub record IsLoaded (catalog : List Relation) (relation : ℕ) (rows : Table) : Type 0 where
   pub there : relation < length catalog
   pub types : rows.types ≡ (relation_at catalog relation).types
   pub meets : Meets (relation_at catalog relation) rows.rows
+  pub few : length rows.rows ≤ max_rows
 
 -- a catalog and the rows of each of its relations
 pub record Database : Type 0 where

@@ -1,9 +1,10 @@
 //! Databases.
 
-ghost use Rattle.std.specs.Prelude.{◌≡◌, ◌≢◌, ◌<◌, [], map, length, IfOk, IfErr, OnOk, OnErr};
+ghost use Rattle.std.specs.Prelude.{◌≡◌, ◌≢◌, ◌<◌, ◌≤◌, [], map, length, IfOk, IfErr, OnOk, OnErr};
 ghost use Rattle.vx_catalog.specs.Relation.{Meets};
 ghost use Rattle.vx_catalog.specs.Catalog.{relation_at};
 ghost use Rattle.vx_catalog.specs.Database.{rows_at, with_rows, IsDatabase, MeetsAll};
+ghost use Rattle.vx_catalog.specs.Loading.{max_rows};
 
 use crate::catalog::Catalog;
 use crate::loader::Loaded;
@@ -23,7 +24,7 @@ fn empty_tables(alloc: Global, catalog: &Catalog) -> Result<Vec<Rows>, AllocErro
     Ok(tables)
 }
 
-/// Rows for each relation of a catalog, which meet all that it declares.
+/// Rows for each relation of a catalog, 100,000,000 at most for each, which meet all that it declares.
 #[derive(Debug, Drop)]
 pub struct Database {
     catalog: Catalog,
@@ -66,6 +67,7 @@ impl Database {
         ensures types { result.now.types ≡ (relation_at self.now.catalog relation).types }
         ensures rows { result.now.rows ≡ rows_at self.now relation }
         ensures meets { Meets (relation_at self.now.catalog relation) result.now.rows }
+        ensures few { length result.now.rows ≤ max_rows }
     {
         &self.tables[relation]
     }

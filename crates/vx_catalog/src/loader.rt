@@ -8,7 +8,7 @@ ghost use Rattle.vx_catalog.specs.Relation.{Meets};
 ghost use Rattle.vx_catalog.specs.Catalog.{relation_at, IsRelation};
 ghost use Rattle.vx_catalog.specs.Database.{IsLoaded};
 ghost use Rattle.vx_catalog.specs.Meaning.{LoadLaw};
-ghost use Rattle.vx_catalog.specs.Loading.{Gives, records_of, under_header, keys_kept, order_kept, first_fall, load_of, max_bytes};
+ghost use Rattle.vx_catalog.specs.Loading.{Gives, records_of, under_header, keys_kept, order_kept, first_fall, load_of, max_bytes, max_rows};
 
 use crate::catalog::Catalog;
 use crate::fault::LoadFault;
@@ -26,6 +26,7 @@ const MAX_BYTES: usize = 1 << 40;
 fn read_text(alloc: Global, relation: &Relation, text: &[u8]) -> Result<Rows, LoadFault>
     ensures types { IfOk result (λ r. r.types ≡ relation.now.types) }
     ensures rows { Gives (λ r. r.rows) result (under_header relation.now.names relation.now.types (records_of text.now)) }
+    ensures few { IfOk result (λ r. length r.rows ≤ max_rows) }
 {
     let mut reader = ReaderBuilder::new()
         .has_headers(false)
@@ -90,6 +91,7 @@ fn load_text(alloc: Global, relation: &Relation, text: &[u8]) -> Result<Rows, Lo
     ensures types { IfOk result (λ r. r.types ≡ relation.now.types) }
     ensures rows { Gives (λ r. r.rows) result (load_of relation.now text.now) }
     ensures meets { IfOk result (λ r. Meets relation.now r.rows) }
+    ensures few { IfOk result (λ r. length r.rows ≤ max_rows) }
 {
     let rows = read_text(alloc, relation, text)?;
     test_keys(alloc, &rows, relation)?;
@@ -98,7 +100,7 @@ fn load_text(alloc: Global, relation: &Relation, text: &[u8]) -> Result<Rows, Lo
     Ok(rows)
 }
 
-/// Rows of a relation of a catalog, which meet all that it declares of the relation.
+/// Rows of a relation of a catalog, 100,000,000 at most, which meet all that it declares of the relation.
 #[derive(Debug, Drop)]
 pub struct Loaded {
     catalog: Catalog,
@@ -140,6 +142,7 @@ impl Loaded {
         ensures types { result.now.types ≡ (relation_at self.now.catalog self.now.relation).types }
         ensures rows { result.now.rows ≡ self.now.rows }
         ensures meets { Meets (relation_at self.now.catalog self.now.relation) result.now.rows }
+        ensures few { length result.now.rows ≤ max_rows }
     {
         &self.rows
     }

@@ -1,13 +1,13 @@
 //! Rows from records.
 
-ghost use Rattle.std.specs.Prelude.{◌≡◌, [], map, length, IfOk, IsOkUnless, Some, string_bytes};
+ghost use Rattle.std.specs.Prelude.{◌≡◌, ◌≤◌, [], map, length, IfOk, IsOkUnless, Some, string_bytes};
 ghost use Rattle.std.specs.Option.{option_copied};
 ghost use Rattle.csv.specs.Reading.{strip_bom};
 ghost use Rattle.csv.specs.Records.{fields_of};
 ghost use Rattle.vx_rows.specs.View.{cell_val};
 ghost use Rattle.vx_catalog.specs.Walk.{walk_onto};
 ghost use Rattle.vx_catalog.specs.Records.{IsPlain, rest_of, Takes};
-ghost use Rattle.vx_catalog.specs.Loading.{Gives, value_of, next_value, row_of, row_added, rows_onto, same_name, names_from, is_header};
+ghost use Rattle.vx_catalog.specs.Loading.{Gives, value_of, next_value, row_of, row_added, rows_onto, max_rows, same_name, names_from, is_header};
 
 use crate::fault::LoadFault;
 use crate::number::number_of;
@@ -127,6 +127,7 @@ pub fn read_rows(
     requires { IsPlain reader.old }
     ensures types { IfOk result (λ r. r.types ≡ types.now) }
     ensures rows { Gives (λ r. r.rows) result (rows_onto types.now [] (rest_of reader.old)) }
+    ensures few { IfOk result (λ r. length r.rows ≤ max_rows) }
 {
     let mut rows = Rows::new(alloc, types)?;
     let mut line = ByteRecord::new(alloc);
