@@ -34,7 +34,11 @@ fn copied_condition(alloc: Global, condition: &Condition) -> Result<Condition, A
     })
 }
 
-fn copied_conditions(alloc: Global, conditions: &[Condition]) -> Result<Vec<Condition>, AllocError>
+/// The same conditions in memory of their own.
+pub fn copied_conditions(
+    alloc: Global,
+    conditions: &[Condition],
+) -> Result<Vec<Condition>, AllocError>
     ensures { IfOk result (λ v. map condition_of v.items ≡ map condition_of conditions.now) }
 {
     let mut copies = Vec::new(alloc);

@@ -26,7 +26,7 @@ mod typed_plan;
 mod unary_nodes;
 
 pub use document::Plan;
-pub use erasing::erase;
+pub use erasing::{copied_conditions, erase};
 pub use fault::PlanFault;
 pub use json::to_json;
 pub use plan::{
