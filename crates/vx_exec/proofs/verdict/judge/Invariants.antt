@@ -1,5 +1,0 @@
-use Rattle.vx_exec.specs.Verdicts.{JudgedBelow}
-use Rattle.vx_exec.proofs.verdict.judge.Given as goal
-
-abbrev pub invariant-loop-worker : goal.invariant-loop-worker
-invariant-loop-worker g l = JudgedBelow l.workers l.worker-index l.verdict
