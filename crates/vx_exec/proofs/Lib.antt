@@ -1,0 +1,11 @@
+pub mod Leaves
+pub mod CanRun
+pub mod Fragments
+pub mod Starting
+pub mod Posts
+pub mod Workers
+pub mod Growing
+pub mod Outcomes
+pub mod FindFacts
+pub mod NumberFacts
+pub mod GroupFacts

@@ -1,0 +1,64 @@
+-- A worker that was made of a tree and a destination is to do what the plan says, and is new.
+use Rattle.std.proofs.Common.{◌≡◌, ℕ, List, [], refl, sym, ap, ◌∙◌, subst}
+use Rattle.vx_rows.specs.Values.{Row}
+use Rattle.vx_rows.specs.declared.value.ColType.{ColType}
+use Rattle.vx_plan.specs.Plan.{Plan, gather}
+use Rattle.vx_plan.specs.Routes.{Router}
+use Rattle.vx_plan.specs.Types.{types_of}
+use Rattle.vx_check.specs.Checked.{relations}
+use Rattle.vx_ops.specs.Ledger.{fresh}
+use Rattle.vx_exchange.specs.Ship.{Ship}
+use Rattle.vx_exchange.specs.Tasks.{Post, sends_by_ship, keeps}
+use Rattle.vx_exchange.specs.Sending.{RoutesAs}
+use Rattle.vx_worker.specs.Fragment.{Frag, fragment, goes}
+use Rattle.vx_worker.specs.Trace.{empty_trace}
+use Rattle.vx_worker.specs.Trees.{shape}
+use Rattle.vx_worker.specs.Wishes.{TreeTyped}
+use Rattle.vx_worker.specs.Worker.{Role, role_of, IsReady, WorkerStands}
+use Rattle.vx_worker.specs.Operator.{OperatorStands, operator_op, operator_types}
+use Rattle.vx_worker.specs.Destination.{DestinationStands, task_of, post_of, bounds_of, is_open, has_closed}
+use Rattle.vx_worker.specs.declared.operator.Operator.{Operator}
+use Rattle.vx_worker.specs.declared.destination.Destination.{Destination}
+use Rattle.vx_worker.specs.declared.tree.Tree.{Tree}
+use Rattle.vx_worker.specs.declared.worker.Worker.{Worker}
+use Rattle.vx_steps.specs.Crews.{Duty, root_duty, producer_duty}
+use Rattle.vx_exec.specs.Job.{setting_of, types_at}
+use Rattle.vx_exec.specs.LeafTypes.{LeavesFit}
+use Rattle.vx_exec.specs.Crew.{IsTreeOf, IsNew}
+use Rattle.vx_exec.specs.declared.job.Job.{Job}
+
+duty-with : Frag → Post → Duty
+duty-with f p = record { frag = f; post = p }
+
+-- of a producer
+pub producer-does : (j : Job) (hash : List ℕ → Row → ℕ → ℕ) (n place : ℕ) (p : Plan) (tree : Tree Operator) (types own : List ColType) (post : Post) (size : ℕ)
+    → IsTreeOf j place p tree types → post ≡ sends_by_ship (record { exchange = n; place = place; consumers = 1; types = own; kind = gather; size = size })
+    → own ≡ types → size ≡ j.packet → ◌≡◌ {A = Duty} (record { frag = shape operator_op tree; post = post }) (producer_duty (setting_of hash j) n gather p place)
+unfolding duty-with
+producer-does j hash n place p tree types own post size h e same packet =
+    ap (λ z. duty-with z post) (h.shape_is hash)
+    ∙ ap (λ z. duty-with (fragment (setting_of hash j) place p) z) (
+    e ∙ ap (λ z. sends_by_ship (record { exchange = n; place = place; consumers = 1; types = z; kind = gather; size = size })) (same ∙ h.types_are)
+    ∙ ap (λ z. sends_by_ship (record { exchange = n; place = place; consumers = 1; types = types_of (relations j.plan.now) p; kind = gather; size = z })) packet)
+
+-- of the root's worker
+pub root-does : (j : Job) (hash : List ℕ → Row → ℕ → ℕ) (p : Plan) (tree : Tree Operator) (types own : List ColType) (post : Post)
+    → IsTreeOf j 0 p tree types → post ≡ keeps own → own ≡ types → ◌≡◌ {A = Duty} (record { frag = shape operator_op tree; post = post }) (root_duty (setting_of hash j) p)
+unfolding duty-with
+root-does j hash p tree types own post h e same =
+    ap (λ z. duty-with z post) (h.shape_is hash) ∙ ap (λ z. duty-with (fragment (setting_of hash j) 0 p) z) (e ∙ ap keeps (same ∙ h.types_are))
+
+-- made of this tree and destination it is new
+pub made-new : (j : Job) (place : ℕ) (p : Plan) (tree : Tree Operator) (types : List ColType) (d : Destination) (inputs : List (ℕ × ℕ)) (w : Worker Operator Destination)
+    → IsTreeOf j place p tree types → LeavesFit (types_at j) (relations j.plan.now) p
+    → ((m : ℕ → List ColType) → TreeTyped operator_types m tree → IsReady operator_types post_of is_open has_closed m w)
+    → role_of operator_op post_of bounds_of w ≡ record { frag = shape operator_op tree; post = post_of d; bounds = bounds_of d; inputs = inputs }
+    → ((goes : Router) (m : ℕ → ℕ → List Row) → DestinationStands d goes fresh (λ _. []) → WorkerStands OperatorStands operator_op DestinationStands task_of goes m w empty_trace)
+    → ((goes : Router) → DestinationStands d goes fresh (λ _. []))
+    → ((hash : List ℕ → Row → ℕ → ℕ) → RoutesAs (post_of d) (bounds_of d) hash (goes (setting_of hash j)))
+    → IsNew j w
+made-new j place p tree types d inputs w h leaves ready role stands begins routes = record {
+  ready = ready (types_at j) (h.typed (types_at j) leaves);
+  stands = λ r m. stands r m (begins r);
+  routes = λ hash. subst (λ (x : Role). RoutesAs x.post x.bounds hash (goes (setting_of hash j))) (sym role) (routes hash);
+}

@@ -1,0 +1,42 @@
+use Rattle.std.proofs.Common.{◌≡◌, true, arith, refl, ap, sym, subst, length}
+use Rattle.vx_plan.specs.Outline.{plan_of, claim_of, size_of, unary_of, kind_of}
+use Rattle.vx_plan.specs.Plan.{gather, size}
+use Rattle.vx_plan.specs.Streams.{workers}
+use Rattle.vx_steps.specs.Additions.{AddsTeam, AddsBelow}
+use Rattle.vx_exec.specs.Sizes.{can_run, group_at}
+use Rattle.vx_exec.specs.Job.{setting_of}
+use Rattle.vx_exec.specs.Making.{made_of}
+use Rattle.vx_exec.proofs.Growing.{grows-scan, grows-unary, grows-exchange}
+use Rattle.vx_exec.proofs.crew.Crew.+add_below.Goals as goal
+
+pub returns-in-Scan-clause-added : goal.returns-in-Scan-clause-added
+returns-in-Scan-clause-added t c = λ hash.
+    let s = c.in-Scan.scan in
+    let h = c.in-Scan.field-0 in
+    subst (λ z. AddsBelow (setting_of hash c.args.job.now) (plan_of z) c.args.top (made_of c.args.self.now) (made_of (record c.args.self.now { stations = c.push.new.self }))) (sym c.in-Scan.is)
+    (grows-scan (setting_of hash c.args.job.now) h.number (claim_of h.claim) s.relation s.shared (size_of s.size) c.args.top (made_of c.args.self.now)
+    (made_of (record c.args.self.now { stations = c.push.new.self })) c.in_ok-station-in-Scan.station c.in_ok-push-in-Scan.ensures.items
+    (c.in_ok-station-in-Scan.ensures hash h.number (claim_of h.claim) (length c.args.self.now.sends.items)) refl refl refl)
+
+pub returns-in-Unary-clause-added : goal.returns-in-Unary-clause-added
+returns-in-Unary-clause-added t c = λ hash.
+    let h = c.in-Unary.field-0 in
+    subst (λ z. AddsBelow (setting_of hash c.args.job.now) (plan_of z) c.args.top (made_of c.args.self.now) (made_of c.add_below.new.self)) (sym c.in-Unary.is)
+    (grows-unary (setting_of hash c.args.job.now) h.number (claim_of h.claim) (unary_of c.in-Unary.field-1) (plan_of c.in-Unary.input.value) c.args.top (made_of c.args.self.now)
+    (made_of c.add_below.new.self) c.push-in-Unary.new.self.items c.in_ok-push-in-Unary.ensures.items (subst (λ z. AddsBelow (setting_of hash c.args.job.now) (plan_of z) c.args.top (made_of (record c.args.self.now { stations = c.push-in-Unary.new.self })) (made_of c.add_below.new.self)) c.deref.ensures (c.in_ok-add_below-in-Unary.ensures.added hash)))
+
+pub returns-in-Exchange-clause-added : goal.returns-in-Exchange-clause-added
+returns-in-Exchange-clause-added t c = λ hash.
+    let h = c.in-Exchange.head in
+    let x = c.in-Exchange.field-1 in
+    subst (λ z. AddsBelow (setting_of hash c.args.job.now) (plan_of z) c.args.top (made_of c.args.self.now) (made_of c.add_below-in-Exchange.new.self)) (sym c.in-Exchange.is)
+    (grows-exchange (setting_of hash c.args.job.now) h.number (claim_of h.claim) (kind_of x.kind) x.merge.items (plan_of c.in-Exchange.input.value) c.args.top c.len-next.result
+    (made_of c.args.self.now) (made_of c.add_team.new.self) (made_of c.add_below-in-Exchange.new.self) c.push-in-Exchange.new.self.items
+    (subst (λ z. can_run (plan_of z) ≡ true) c.in-Exchange.is c.requires.runs) (let k = c.args.self.now.sends.ok in omega (arith, c.len-next.ensures, k)) c.in_ok-push-in-Exchange.ensures.items
+    (subst (λ z. AddsTeam (setting_of hash c.args.job.now) h.number gather (plan_of z) (workers (group_at c.args.job.now.groups.items) (size (plan_of z)))
+    (made_of (record c.args.self.now { stations = c.push-in-Exchange.new.self })) (made_of c.add_team.new.self)) c.deref-in-Exchange.ensures (c.in_ok-add_team-in-Exchange.ensures.added hash))
+    (subst (λ z. AddsBelow (setting_of hash c.args.job.now) (plan_of z) c.len-next.result (made_of c.add_team.new.self) (made_of c.add_below-in-Exchange.new.self)) c.deref-in-Exchange-2.ensures
+    (c.in_ok-add_below-in-Exchange.ensures.added hash)))
+
+pub returns-in-Exchange-clause-new : goal.returns-in-Exchange-clause-new
+returns-in-Exchange-clause-new t c = λ h. c.in_ok-add_below-in-Exchange.ensures.new (c.in_ok-add_team-in-Exchange.ensures.new h)

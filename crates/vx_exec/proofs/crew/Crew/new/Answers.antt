@@ -1,0 +1,40 @@
+use Rattle.std.proofs.Common.{◌≡◌, true, sym, subst, ap, ◌∙◌, map, [], ◌∷◌}
+use Rattle.vx_plan.specs.Numbering.{is_numbered}
+use Rattle.vx_plan.specs.Outline.{plan_of}
+use Rattle.vx_plan.specs.TypedView.{plan as whole_plan}
+use Rattle.vx_check.specs.Checked.{relations}
+use Rattle.vx_steps.specs.Additions.{AddsBelow}
+use Rattle.vx_steps.specs.Crews.{root_duty}
+use Rattle.vx_exec.specs.Crew.{duty}
+use Rattle.vx_exec.specs.Job.{setting_of, types_at}
+use Rattle.vx_exec.specs.LeafTypes.{LeavesFit}
+use Rattle.vx_exec.specs.Making.{made_of}
+use Rattle.vx_exec.proofs.Leaves.{leaves-fit}
+use Rattle.vx_exec.proofs.Growing.{grown}
+use Rattle.vx_exec.proofs.crew.Crew.new.Goals as goal
+
+pub at_root-requires-clause-leaves : goal.at_root-requires-clause-leaves
+at_root-requires-clause-leaves c =
+    let p = c.args.job.now.plan.now in
+    let e : plan_of c.root-root.result.now ≡ whole_plan p = c.root-root.ensures.plan ∙ ap whole_plan c.plan.ensures.same in
+    subst (λ z. LeavesFit (types_at c.args.job.now) (relations p) z) (sym e)
+    (leaves-fit (relations p) (whole_plan p) (subst (λ z. is_numbered 0 z ≡ true) e c.root-root.ensures.typed.numbered))
+
+pub add_below-requires-clause-leaves : goal.add_below-requires-clause-leaves
+add_below-requires-clause-leaves c =
+    let p = c.args.job.now.plan.now in
+    let e : plan_of c.root-root.result.now ≡ whole_plan p = c.root-root.ensures.plan ∙ ap whole_plan c.plan.ensures.same in
+    subst (λ z. LeavesFit (types_at c.args.job.now) (relations p) z) (sym e)
+    (leaves-fit (relations p) (whole_plan p) (subst (λ z. is_numbered 0 z ≡ true) e c.root-root.ensures.typed.numbered))
+
+pub returns-clause-ready : goal.returns-clause-ready
+returns-clause-ready c = λ hash.
+    let j = c.args.job.now in
+    let old = c.in_ok-crew.crew in
+    let new = c.add_below.new.self in
+    let q = c.in_ok-crew.ensures.queues in
+    let e : plan_of c.root-root.result.now ≡ whole_plan j.plan.now = c.root-root.ensures.plan ∙ ap whole_plan c.plan.ensures.same in
+    grown j hash q.0 old new (subst (λ z. is_numbered 0 z ≡ true) e c.root-root.ensures.typed.numbered) c.in_ok-crew.ensures.stations c.in_ok-crew.ensures.sends
+    (subst (λ z. map duty old.workers.items ≡ root_duty (setting_of hash j) z ∷ []) e (c.in_ok-crew.ensures.duties hash)) q.1 q.2
+    (subst (λ z. AddsBelow (setting_of hash j) z 0 (made_of old) (made_of new)) e (c.in_ok-add_below.ensures.added hash))
+    (c.in_ok-add_below.ensures.new c.in_ok-crew.ensures.new)

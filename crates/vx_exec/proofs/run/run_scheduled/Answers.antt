@@ -1,0 +1,33 @@
+use Rattle.std.proofs.Common.{◌⊎◌, inl, inr, subst, ◌∙◌}
+use Rattle.vx_plan.specs.TypedView.{resolved_of, plan as whole_plan}
+use Rattle.vx_check.specs.CheckedView.{typed_plan}
+use Rattle.vx_plan.specs.Outline.{plan_in}
+use Rattle.vx_exec.specs.Job.{sizes_of}
+use Rattle.vx_exec.specs.Sizes.{crew_size}
+use Rattle.vx_exec.specs.Runs.{IsTrueOf, IsSetUp, IsBadStepOf, RunFails, ScheduleFails, for_fault, for_run, for_step}
+use Rattle.vx_exec.specs.declared.fault.RunFault.{RunFault}
+use Rattle.vx_exec.proofs.Outcomes.{failed-by, err-told}
+use Rattle.vx_exec.proofs.run.run_scheduled.Goals as goal
+
+pub returns-clause-refused : goal.returns-clause-refused
+returns-clause-refused g c =
+    let j = c.in_ok-job.job in
+    let p = resolved_of (typed_plan c.args.plan.now) in
+    let same = c.in_ok-job.ensures.plan ∙ c.plan.ensures.same in
+    let set = subst (λ z. IsSetUp (resolved_of z) c.args.database.now c.args.setup.now (sizes_of j)) c.plan.ensures.same c.in_ok-job.ensures.set in
+    failed-by c.schedule_job.result (λ e. IsTrueOf (resolved_of j.plan.now) j.database.now e ⊎ IsBadStepOf c.args.steps.now (crew_size j.groups.items (whole_plan j.plan.now)) e)
+    (ScheduleFails p c.args.database.now c.args.setup.now c.args.steps.now)
+    (λ e h. elim h [
+      | inl true_fault ↦
+          for_run (for_fault (sizes_of j) set (subst (λ z. IsTrueOf (resolved_of z) c.args.database.now e) same
+          (subst (λ b. IsTrueOf (resolved_of j.plan.now) b e) c.in_ok-job.ensures.database true_fault)))
+      | inr bad ↦ for_step (sizes_of j) set (subst (λ z. IsBadStepOf c.args.steps.now (crew_size j.groups.items (whole_plan z)) e) same bad)
+    ])
+    c.schedule_job.ensures.failed
+
+pub returns-in_err-job-clause-refused : goal.returns-in_err-job-clause-refused
+returns-in_err-job-clause-refused g c =
+    let p = resolved_of (typed_plan c.args.plan.now) in
+    let e = c.in_err-job.field-0.0 in
+    err-told c.from_residual.result e (ScheduleFails p c.args.database.now c.args.setup.now c.args.steps.now) c.from_residual.ensures.1
+    (for_run (subst (λ z. RunFails (resolved_of z) c.args.database.now c.args.setup.now e) c.plan.ensures.same c.in_err-job.ensures.refused))

@@ -1,0 +1,23 @@
+use Rattle.std.proofs.Common.{◌∙◌, sym, map, string_bytes, rules}
+use Rattle.vx_exec.specs.Setup.{size_out_of_range, bad_packet, bad_morsel, first_out_of_range, sizes_set}
+use Rattle.vx_exec.proofs.GroupFacts.{none_found, passed, is_within-true, groups_within}
+use Rattle.vx_exec.proofs.setup.job_in.Goals as goal
+
+pub crew_tested-requires : goal.crew_tested-requires
+crew_tested-requires c =
+    let none = none_found size_out_of_range (first_out_of_range c.args.setup.now.sizes (map string_bytes c.sizes-names.result.now)) c.in_ok-range_tested.ensures in
+    rw (c.as_slice.ensures.value, c.in_ok-groups.ensures) (groups_within c.args.setup.now.sizes (map string_bytes c.sizes-names.result.now) none)
+
+pub returns-in_err-crew_tested-clause-gives : goal.returns-in_err-crew_tested-clause-gives
+unfolding sizes_set
+returns-in_err-crew_tested-clause-gives c =
+    let failed = rw (c.as_slice.ensures.value, c.in_ok-groups.ensures) at c.in_err-crew_tested.ensures in search rules
+
+pub new-requires-clause-within : goal.new-requires-clause-within
+new-requires-clause-within c =
+    let none = none_found size_out_of_range (first_out_of_range c.args.setup.now.sizes (map string_bytes c.sizes-names.result.now)) c.in_ok-range_tested.ensures in
+    record {
+      groups = rw c.in_ok-groups.ensures (groups_within c.args.setup.now.sizes (map string_bytes c.sizes-names.result.now) none);
+      packet = is_within-true 4096 c.setup.inside.packet (sym c.is_within.ensures ∙ passed c.is_within.result bad_packet c.in_ok-tested.ensures);
+      morsel = is_within-true 1000000 c.setup.inside.morsel (sym c.is_within-2.ensures ∙ passed c.is_within-2.result bad_morsel c.in_ok-tested-2.ensures);
+    }

@@ -1,0 +1,20 @@
+use Rattle.std.proofs.Common.{ap, ◌∙◌, map}
+use Rattle.vx_plan.specs.Outline.{plan_of}
+use Rattle.vx_steps.specs.Crews.{duty_of}
+use Rattle.vx_worker.specs.Destination.{post_of}
+use Rattle.vx_worker.specs.Intake.{source_of}
+use Rattle.vx_worker.specs.declared.destination.Destination.TheVariants as destination
+use Rattle.vx_exec.proofs.Workers.{root-does, made-new}
+use Rattle.vx_exec.proofs.worker.root_worker.Goals as goal
+
+pub returns-clause-duty : goal.returns-clause-duty
+returns-clause-duty c = λ hash.
+    ap duty_of c.new-3.ensures.role
+    ∙ root-does c.args.job.now hash (plan_of c.args.node.now) c.in_ok-tree.tree c.in_ok-tree.types.items c.as_slice.result.now
+    (post_of (destination.Kept c.in_ok-kept.kept)) c.in_ok-tree.ensures c.in_ok-kept.ensures.post c.as_slice.ensures.value
+
+pub returns-clause-new : goal.returns-clause-new
+returns-clause-new c =
+    made-new c.args.job.now 0 (plan_of c.args.node.now) c.in_ok-tree.tree c.in_ok-tree.types.items (destination.Kept c.in_ok-kept.kept)
+    (map source_of c.in_ok-inputs.inputs.items) c.new-3.result c.in_ok-tree.ensures c.requires.leaves c.new-3.ensures.ready c.new-3.ensures.role c.new-3.ensures.stands
+    c.in_ok-kept.ensures.stands (λ hash. tt)

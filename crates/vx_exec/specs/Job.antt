@@ -1,0 +1,21 @@
+-- What a run works on, as plain data.
+use Rattle.std.specs.Prelude.{ℕ, List}
+use Rattle.vx_rows.specs.Values.{Row}
+use Rattle.vx_rows.specs.declared.value.ColType.{ColType}
+use Rattle.vx_plan.specs.TypedView.{plan}
+use Rattle.vx_check.specs.Checked.{relations}
+use Rattle.vx_worker.specs.Fragment.{Setting}
+use Rattle.vx_exec.specs.Sizes.{Sizes, setting}
+use Rattle.vx_exec.specs.LeafTypes.{leaf_types}
+use Rattle.vx_exec.specs.declared.job.Job.{Job}
+
+abbrev pub sizes_of : Job → Sizes
+sizes_of j = record { groups = j.groups.items; packet = j.packet; morsel = j.morsel }
+
+-- the setting of its run
+abbrev pub setting_of : (hash : List ℕ → Row → ℕ → ℕ) → Job → Setting
+setting_of hash j = setting hash j.plan.now j.database.now (sizes_of j)
+
+-- the types of the rows that the leaves of its plan read
+abbrev pub types_at : Job → ℕ → List ColType
+types_at j = leaf_types (relations j.plan.now) (plan j.plan.now)

@@ -1,0 +1,89 @@
+-- What a run of a plan over a database comes to.
+use Rattle.std.specs.Prelude.{ℕ, ◌≡◌, ◌≢◌, List, Result, Ok, Err}
+use Rattle.std.specs.List.{slice_index_or}
+use Rattle.vx_rows.specs.Values.{Row}
+use Rattle.vx_rows.specs.View.{Table}
+use Rattle.vx_catalog.specs.Catalog.{relation_at}
+use Rattle.vx_catalog.specs.Database.{Database, rows_at}
+use Rattle.vx_plan.specs.Lookup.{scope_of}
+use Rattle.vx_plan.specs.Outline.{plan_in}
+use Rattle.vx_plan.specs.Resolve.{Resolved}
+use Rattle.vx_plan.specs.Routes.{sends_by}
+use Rattle.vx_plan.specs.Runs.{Runs}
+use Rattle.vx_plan.specs.Typed.{bounds_at}
+use Rattle.vx_plan.specs.Types.{types_of}
+use Rattle.vx_check.specs.Claims.{Delivers}
+use Rattle.vx_laws.specs.Faults.{IsReal}
+use Rattle.vx_ops.specs.declared.fault.Code.TheVariants.{Overflow, NoMemory, Unsorted, Stranger}
+use Rattle.vx_ops.specs.declared.fault.Fault.{Fault}
+use Rattle.vx_ops.specs.declared.fault.Fault.TheVariants.{Own, Passed}
+use Rattle.vx_exchange.specs.Tasks.{keep, keeps}
+use Rattle.vx_worker.specs.Destination.{task_of, post_of}
+use Rattle.vx_worker.specs.Worker.{sender_of}
+use Rattle.vx_worker.specs.declared.operator.Operator.{Operator}
+use Rattle.vx_worker.specs.declared.destination.Destination.{Destination}
+use Rattle.vx_worker.specs.declared.worker.Worker.{Worker}
+use Rattle.vx_steps.specs.Schedules.{IsBadStep}
+use Rattle.vx_steps.specs.declared.verdict.Verdict.{Verdict}
+use Rattle.vx_steps.specs.declared.verdict.Verdict.TheVariants as verdict
+use Rattle.vx_exec.specs.Sizes.{Sizes, group_at, crew_size}
+use Rattle.vx_exec.specs.Setup.{SetupForm, sizes_set, Fails}
+use Rattle.vx_exec.specs.declared.fault.RunFault.{RunFault}
+use Rattle.vx_exec.specs.declared.fault.RunFault.TheVariants as fault
+use Rattle.vx_exec.specs.declared.ran.Ran.{Ran}
+use Rattle.vx_exec.specs.declared.ran.Ran.TheVariants as ran
+
+-- rows that a run gave, of the output's types: they are stream 0 of a run of the plan relation with groups of these sizes, where a hash route sends
+-- keys so, and those of the plan without its exchanges, each as often, and the same list where the root claims a total order
+pub record IsRunOf (hash : List ℕ → Row → ℕ → ℕ) (p : Resolved) (db : Database) (groups : List ℕ) (rows : Table) : Type 0 where
+  pub types : rows.types ≡ types_of (relation_at p.names.catalog) (plan_in p.root)
+  pub runs : Runs (rows_at db) (group_at groups) (sends_by hash (bounds_at (scope_of p.names).ranges)) (plan_in p.root) (λ _. rows.rows)
+  pub delivers : Delivers (rows_at db) p.total (plan_in p.root) rows.rows
+
+-- a fact of the rows, where every worker has ended
+abbrev pub IfDone : (Table → Type 0) → Ran → Type 0
+IfDone P (ran.Done rows) = P rows
+IfDone P ran.Unfinished = Unit {0}
+
+-- why a run that began gives no rows: memory was refused, or a sum or count of the data overflows. No rows fall, and no packet is a stranger
+abbrev pub IsTrueOf : Resolved → Database → RunFault → Type 0
+IsTrueOf p db fault.NoMemory = Unit {0}
+IsTrueOf p db (fault.Overflow node) = IsReal (rows_at db) (plan_in p.root)
+IsTrueOf p db _ = ⊥
+
+-- what the fault of a worker is told as; one that only came in a packet is told of none
+abbrev pub fault_told : Fault → RunFault
+fault_told (Own Overflow node) = fault.Overflow node
+fault_told (Own NoMemory node) = fault.NoMemory
+fault_told (Own Unsorted node) = fault.Unsorted node
+fault_told (Own Stranger node) = fault.Stranger node
+fault_told Passed = fault.NoMemory
+
+-- what workers with such a verdict are told as: the rows that the first of them kept, or the fault
+abbrev pub ComesTo : List (Worker Operator Destination) → Verdict → Result Ran RunFault → Type 0
+ComesTo ws verdict.Done (Ok (ran.Done t)) =
+    (d : Worker Operator Destination) → (task_of (sender_of (slice_index_or ws 0 d)) ≡ keep t.rows) × (post_of (sender_of (slice_index_or ws 0 d)) ≡ keeps t.types)
+ComesTo ws verdict.Unfinished (Ok ran.Unfinished) = Unit {0}
+ComesTo ws (verdict.Failed f) (Err e) = e ≡ fault_told f
+ComesTo ws v r = ⊥
+
+-- the database is one of the plan's catalog, and the setup comes to these sizes
+pub record IsSetUp (p : Resolved) (db : Database) (setup : SetupForm) (s : Sizes) : Type 0 where
+  pub same : db.catalog ≡ p.names.catalog
+  pub sizes : sizes_set setup p.names.sizes (plan_in p.root) ≡ Ok s
+
+-- why a plan gives no rows over a database: another catalog, the first refusal of the setup, or what the run came to
+pub data RunFails (p : Resolved) (db : Database) (setup : SetupForm) (e : RunFault) : Type 0 where
+  for_catalog : e ≡ fault.OtherCatalog → db.catalog ≢ p.names.catalog → RunFails p db setup e
+  for_setup : db.catalog ≡ p.names.catalog → Fails e (sizes_set setup p.names.sizes (plan_in p.root)) → RunFails p db setup e
+  for_fault : (s : Sizes) → IsSetUp p db setup s → IsTrueOf p db e → RunFails p db setup e
+
+-- a step of the schedule names none of so many workers
+abbrev pub IsBadStepOf : List ℕ → ℕ → RunFault → Type 0
+IsBadStepOf steps workers (fault.BadStep index) = IsBadStep steps workers index
+IsBadStepOf steps workers e = ⊥
+
+-- why a plan gives no rows by a schedule: as above, or a step that names no worker
+pub data ScheduleFails (p : Resolved) (db : Database) (setup : SetupForm) (steps : List ℕ) (e : RunFault) : Type 0 where
+  for_run : RunFails p db setup e → ScheduleFails p db setup steps e
+  for_step : (s : Sizes) → IsSetUp p db setup s → IsBadStepOf steps (crew_size s.groups (plan_in p.root)) e → ScheduleFails p db setup steps e

@@ -1,0 +1,105 @@
+-- What a run's setup comes to: the sizes of its run, or the first thing that is wrong with it.
+use Rattle.std.specs.Prelude.{ℕ, ◌≡◌, ◌&&◌, Bool, not, nat_le, if◌then◌else◌, List, map, Option, Some, None, option_map, unwrap_or, is_none, Result, Ok, Err, ⊤, bytes_eq, String, string_bytes, ◌⊎◌}
+use Rattle.std.specs.List.{find}
+use Rattle.std.specs.declared.alloc.Global.{Global}
+use Rattle.vx_plan.specs.Plan.{Plan}
+use Rattle.vx_exec.specs.Sizes.{Sizes, crew_size}
+use Rattle.vx_exec.specs.declared.fault.RunFault.{RunFault}
+use Rattle.vx_exec.specs.declared.fault.RunFault.TheVariants as fault
+
+-- a size name with its number of workers
+abbrev pub Entry : Type 0
+Entry = List ℕ × ℕ
+
+abbrev pub entry_of : String Global × ℕ → Entry
+entry_of e = (string_bytes e.0, e.1)
+
+-- how a run is set up: the workers of size names, the rows of a packet and of a morsel, and by how many packets a producer may run ahead
+pub record SetupForm : Type 0 where
+  pub sizes : List Entry
+  pub packet : ℕ
+  pub morsel : ℕ
+  pub slack : ℕ
+
+-- the number that the first entry of a name has
+abbrev pub number_of : List Entry → List ℕ → Option ℕ
+number_of entries name = option_map (λ e. e.1) (find (λ e. bytes_eq e.0 name) entries)
+
+-- the workers of a name; without an entry none
+abbrev pub workers_named : List Entry → List ℕ → ℕ
+workers_named entries name = unwrap_or (number_of entries name) 0
+
+-- the workers of each of these names
+abbrev pub groups_named : List Entry → List (List ℕ) → List ℕ
+groups_named entries names = map (workers_named entries) names
+
+-- why a plan is not run by a setup, by a size name or by a number of workers
+pub data SetupRefusal : Type 0 where
+  size_missing : List ℕ → SetupRefusal
+  size_out_of_range : List ℕ → SetupRefusal
+  bad_packet : SetupRefusal
+  bad_morsel : SetupRefusal
+  bad_slack : SetupRefusal
+  too_many_workers : ℕ → SetupRefusal
+  other : SetupRefusal
+
+infixl 10 ◌>>=◌
+-- the first refusal of the two steps, or what the second makes of the first
+abbrev pub ◌>>=◌ : {A B : Type 0} → Result A SetupRefusal → (A → Result B SetupRefusal) → Result B SetupRefusal
+(Ok x) >>= f = f x
+(Err e) >>= f = Err e
+
+-- this refusal, if the test fails
+abbrev pub tested : Bool → SetupRefusal → Result ⊤ SetupRefusal
+tested b refusal = if b then Ok tt else Err refusal
+
+-- this refusal of a name, if there is one
+abbrev pub no_name : (List ℕ → SetupRefusal) → Option (List ℕ) → Result ⊤ SetupRefusal
+no_name refusal None = Ok tt
+no_name refusal (Some name) = Err (refusal name)
+
+-- a number from 1 to this one
+abbrev pub is_within : (most n : ℕ) → Bool
+is_within most n = nat_le 1 n && nat_le n most
+
+-- the first name without an entry
+abbrev pub first_missing : List Entry → List (List ℕ) → Option (List ℕ)
+first_missing entries names = find (λ name. is_none (number_of entries name)) names
+
+-- the first name whose number is not 1 to 64
+abbrev pub first_out_of_range : List Entry → List (List ℕ) → Option (List ℕ)
+first_out_of_range entries names = find (λ name. not (is_within 64 (workers_named entries name))) names
+
+-- a plan with at most 256 workers
+abbrev pub few_workers : List ℕ → Plan → Result ⊤ SetupRefusal
+few_workers groups p = tested (nat_le (crew_size groups p) 256) (too_many_workers (crew_size groups p))
+
+-- the sizes of a run of a plan that declares these size names, or the first refusal
+unfoldable pub sizes_set : SetupForm → List (List ℕ) → Plan → Result Sizes SetupRefusal
+sizes_set s names p =
+    no_name size_missing (first_missing s.sizes names) >>= λ _.
+    no_name size_out_of_range (first_out_of_range s.sizes names) >>= λ _.
+    tested (is_within 4096 s.packet) bad_packet >>= λ _.
+    tested (is_within 1000000 s.morsel) bad_morsel >>= λ _.
+    tested (is_within 1024 s.slack) bad_slack >>= λ _.
+    few_workers (groups_named s.sizes names) p >>= λ _.
+    Ok (record { groups = groups_named s.sizes names; packet = s.packet; morsel = s.morsel })
+
+-- the refusal that a fault says; what is no fault of a setup is another
+abbrev pub refusal_of : RunFault → SetupRefusal
+refusal_of (fault.SizeMissing name) = size_missing (string_bytes name)
+refusal_of (fault.SizeOutOfRange name) = size_out_of_range (string_bytes name)
+refusal_of fault.BadPacket = bad_packet
+refusal_of fault.BadMorsel = bad_morsel
+refusal_of fault.BadSlack = bad_slack
+refusal_of (fault.TooManyWorkers number) = too_many_workers number
+refusal_of _ = other
+
+-- the answer is this refusal, or memory ran out
+abbrev pub Fails : {Y : Type 0} → RunFault → Result Y SetupRefusal → Type 0
+Fails e answer = (e ≡ fault.NoMemory) ⊎ (answer ≡ Err (refusal_of e))
+
+-- a call gives what the answer is, unless memory ran out
+abbrev pub Gives : {X Y : Type 0} → (X → Y) → Result X RunFault → Result Y SetupRefusal → Type 0
+Gives look (Ok x) answer = answer ≡ Ok (look x)
+Gives look (Err e) answer = Fails e answer

@@ -1,0 +1,59 @@
+-- The sizes of a run, within their limits, and the setting that they make of a plan and a database.
+use Rattle.std.specs.Prelude.{ℕ, ◌≡◌, ◌≤◌, ◌+◌, Bool, true, false, List, [], ◌∷◌, length}
+use Rattle.std.specs.List.{All, slice_index_or}
+use Rattle.vx_rows.specs.Values.{Row}
+use Rattle.vx_catalog.specs.Database.{Database, rows_at}
+use Rattle.vx_plan.specs.Plan.{Plan, scan, unary, binary, exchange, select, gather}
+use Rattle.vx_plan.specs.Numbering.{relation_in}
+use Rattle.vx_plan.specs.Typed.{bounds_at}
+use Rattle.vx_plan.specs.TypedView.{scope, plan}
+use Rattle.vx_plan.specs.declared.typed_plan.TypedPlan.{TypedPlan}
+use Rattle.vx_check.specs.Checked.{relations}
+use Rattle.vx_worker.specs.Fragment.{Setting}
+use Rattle.vx_laws.specs.Layout.{workers_below}
+
+-- the workers of each size name by its number, the rows of a packet and those of a morsel
+pub record Sizes : Type 0 where
+  pub groups : List ℕ
+  pub packet : ℕ
+  pub morsel : ℕ
+
+-- the workers of the size name with this number; past the last name one
+abbrev pub group_at : List ℕ → ℕ → ℕ
+group_at groups k = slice_index_or groups k 1
+
+-- a number within these limits
+abbrev pub IsWithin : (low high n : ℕ) → Type 0
+IsWithin low high n = (low ≤ n) × (n ≤ high)
+
+-- the limits of a run: 1 to 64 workers in a group, packets of 1 to 4,096 rows, morsels of 1 to 1,000,000 rows
+pub record AreWithin (s : Sizes) : Type 0 where
+  pub groups : All (IsWithin 1 64) s.groups
+  pub packet : IsWithin 1 4096 s.packet
+  pub morsel : IsWithin 1 1000000 s.morsel
+
+-- how many workers a plan has: one at its root, and those below
+abbrev pub crew_size : List ℕ → Plan → ℕ
+crew_size groups p = 1 + workers_below (group_at groups) p
+
+-- what a run of a plan over a database is given, where a hash route sends keys so
+abbrev pub setting : (hash : List ℕ → Row → ℕ → ℕ) → TypedPlan → Database → Sizes → Setting
+setting hash p db s = record {
+  catalog = relations p;
+  db = rows_at db;
+  relation_of = relation_in (plan p);
+  sizes = group_at s.groups;
+  hash = hash;
+  bounds = bounds_at (scope p).ranges;
+  packet = s.packet;
+  morsel = s.morsel;
+}
+
+-- the operators that workers run so far: scans, selections, and gathers that do not merge
+abbrev pub can_run : Plan → Bool
+can_run (scan n c r m z) = true
+can_run (unary n c (select cs) p) = can_run p
+can_run (unary n c _ p) = false
+can_run (binary n c op p q) = false
+can_run (exchange n c gather [] p) = can_run p
+can_run (exchange n c _ _ p) = false

@@ -1,0 +1,204 @@
+//! All workers of a job, and what connects them.
+
+ghost use Rattle.std.specs.Prelude.{◌≡◌, ◌<◌, ◌∷◌, ◌++◌, [], ℕ, true, List, map, length, IfOk, OnOk};
+ghost use Rattle.std.specs.List.{All};
+ghost use Rattle.vx_rows.specs.Values.{Row};
+ghost use Rattle.vx_plan.specs.Numbering.{is_numbered};
+ghost use Rattle.vx_plan.specs.Outline.{plan_of, size_of};
+ghost use Rattle.vx_plan.specs.Plan.{scan as scan_at, gather, size, Claim};
+ghost use Rattle.vx_plan.specs.Streams.{workers};
+ghost use Rattle.vx_plan.specs.Typed.{typed};
+ghost use Rattle.vx_plan.specs.TypedView.{scope, plan};
+ghost use Rattle.vx_check.specs.Checked.{relations};
+ghost use Rattle.vx_ports.specs.Line.{Line};
+ghost use Rattle.vx_worker.specs.Operator.{OperatorStands, operator_op, operator_types};
+ghost use Rattle.vx_worker.specs.Destination.{DestinationStands, task_of, post_of, bounds_of, is_open, has_closed};
+ghost use Rattle.vx_worker.specs.Trace.{scan_morsels};
+ghost use Rattle.vx_worker.specs.Worker.{IsReady};
+ghost use Rattle.vx_steps.specs.Additions.{AddsTeam, AddsBelow};
+ghost use Rattle.vx_steps.specs.Crews.{stations_of, producer_duty, root_duty};
+ghost use Rattle.vx_steps.specs.Queues.{AreEmpty};
+ghost use Rattle.vx_steps.specs.Ready.{Ready};
+ghost use Rattle.vx_exec.specs.Sizes.{can_run, group_at};
+ghost use Rattle.vx_exec.specs.Job.{setting_of, types_at};
+ghost use Rattle.vx_exec.specs.LeafTypes.{LeavesFit};
+ghost use Rattle.vx_exec.specs.Crew.{duty, IsNew};
+
+use crate::job::{Job, size_of_node};
+use crate::worker::{producer, root_worker};
+use std::alloc::{AllocError, Global};
+use vx_plan::{Scan, TypedNode};
+use vx_steps::{Links, Ports, SharedScan, Station, WholeScan};
+use vx_worker::{Destination, Operator, Worker};
+
+/// The workers of a job in number order, the root's first, and what connects them.
+#[derive(Drop)]
+pub struct Crew {
+    workers: Vec<Worker<Operator, Destination>>,
+    // By worker: the exchange that it sends to, and its queues.
+    sends: Vec<u32>,
+    ports: Vec<Ports>,
+    // By node number.
+    stations: Vec<Station>,
+}
+
+/// What the workers of a scan share, the first of which has this number.
+fn station_of(alloc: Global, job: &Job<'_>, scan: &Scan, top: usize) -> Result<Station, AllocError>
+    requires { scan.now.relation < length (scope job.now.plan.now).catalog }
+    ensures { IfOk result (λ s. (hash : List ℕ → Row → ℕ → ℕ) (n : ℕ) (c : Claim) (next : ℕ)
+        → stations_of (setting_of hash job.now) (scan_at n c scan.now.relation scan.now.shared (size_of scan.now.size)) top next ≡ s ∷ []) }
+{
+    let count = job.workers(scan.size) as usize;
+    let morsels = job.morsel_count(scan.relation);
+    if scan.shared {
+        return Ok(Station::Shared(SharedScan::new(top, count, morsels)));
+    }
+    Ok(Station::Whole(WholeScan::new(alloc, top, count, morsels)?))
+}
+
+impl Crew {
+    ghost use Rattle.vx_exec.specs.Making.{made_of, board_of};
+
+    // Adds the producer at a place of an exchange over a node.
+    fn add_producer(
+        &mut self,
+        alloc: Global,
+        job: &Job<'_>,
+        exchange: u32,
+        node: &TypedNode,
+        place: u32,
+    ) -> Result<(), AllocError>
+        requires runs { can_run (plan_of node.now) ≡ true }
+        requires typed { typed (scope job.now.plan.now) (plan_of node.now) ≡ true }
+        requires numbered { (i : ℕ) × (is_numbered i (plan_of node.now) ≡ true) }
+        requires leaves { LeavesFit (types_at job.now) (relations job.now.plan.now) (plan_of node.now) }
+        ensures stations { OnOk result (self.new.stations ≡ self.old.stations) }
+        ensures sends { OnOk result (self.new.sends.items ≡ self.old.sends.items ++ exchange ∷ []) }
+        ensures duties { OnOk result ((hash : List ℕ → Row → ℕ → ℕ)
+            → map duty self.new.workers.items ≡ map duty self.old.workers.items ++ producer_duty (setting_of hash job.now) exchange gather (plan_of node.now) place ∷ []) }
+        ensures queues { OnOk result ((lines : List Line) × (self.new.ports.items ≡ self.old.ports.items ++ lines ∷ []) × AreEmpty lines) }
+        ensures new { OnOk result (All (IsNew job.now) self.old.workers.items → All (IsNew job.now) self.new.workers.items) }
+    {
+        let worker = producer(alloc, job, exchange, node, place)?;
+        let ports = Ports::new(alloc, 1)?;
+        self.workers.push(worker)?;
+        self.sends.push(exchange)?;
+        self.ports.push(ports)?;
+        Ok(())
+    }
+
+    // Adds all producers of an exchange over a node.
+    fn add_team(
+        &mut self,
+        alloc: Global,
+        job: &Job<'_>,
+        exchange: u32,
+        node: &TypedNode,
+    ) -> Result<(), AllocError>
+        requires runs { can_run (plan_of node.now) ≡ true }
+        requires typed { typed (scope job.now.plan.now) (plan_of node.now) ≡ true }
+        requires numbered { (i : ℕ) × (is_numbered i (plan_of node.now) ≡ true) }
+        requires leaves { LeavesFit (types_at job.now) (relations job.now.plan.now) (plan_of node.now) }
+        ensures added { OnOk result ((hash : List ℕ → Row → ℕ → ℕ)
+            → AddsTeam (setting_of hash job.now) exchange gather (plan_of node.now) (workers (group_at job.now.groups.items) (size (plan_of node.now))) (made_of self.old) (made_of self.new)) }
+        ensures new { OnOk result (All (IsNew job.now) self.old.workers.items → All (IsNew job.now) self.new.workers.items) }
+    {
+        for place in 0..job.workers(size_of_node(node)) {
+            self.add_producer(alloc, job, exchange, node, place)?;
+        }
+        Ok(())
+    }
+
+    // Adds what stands at the nodes of a plan, and the workers of all fragments below its top one, whose workers begin with number `top`.
+    fn add_below(
+        &mut self,
+        alloc: Global,
+        job: &Job<'_>,
+        node: &TypedNode,
+        top: usize,
+    ) -> Result<(), AllocError>
+        requires runs { can_run (plan_of node.now) ≡ true }
+        requires typed { typed (scope job.now.plan.now) (plan_of node.now) ≡ true }
+        requires numbered { (i : ℕ) × (is_numbered i (plan_of node.now) ≡ true) }
+        requires leaves { LeavesFit (types_at job.now) (relations job.now.plan.now) (plan_of node.now) }
+        ensures added { OnOk result ((hash : List ℕ → Row → ℕ → ℕ) → AddsBelow (setting_of hash job.now) (plan_of node.now) top (made_of self.old) (made_of self.new)) }
+        ensures new { OnOk result (All (IsNew job.now) self.old.workers.items → All (IsNew job.now) self.new.workers.items) }
+    {
+        match node {
+            TypedNode::Scan(_, scan) => {
+                let station = station_of(alloc, job, scan, top)?;
+                self.stations.push(station)?;
+                return Ok(());
+            }
+            TypedNode::Unary(_, _, input) => {
+                self.stations.push(Station::Inner)?;
+                self.add_below(alloc, job, input, top)?;
+                return Ok(());
+            }
+            TypedNode::Binary(_, _, _, _) => unreachable!(),
+            TypedNode::Exchange(head, _, input) => {
+                let next = self.sends.len();
+                self.stations.push(Station::Exchange {
+                    below: next,
+                    above: top,
+                })?;
+                self.add_team(alloc, job, head.number, input)?;
+                self.add_below(alloc, job, input, next)?;
+                return Ok(());
+            }
+        }
+    }
+
+    // The root's worker alone.
+    fn at_root(alloc: Global, job: &Job<'_>, node: &TypedNode) -> Result<Crew, AllocError>
+        requires runs { can_run (plan_of node.now) ≡ true }
+        requires typed { typed (scope job.now.plan.now) (plan_of node.now) ≡ true }
+        requires numbered { is_numbered 0 (plan_of node.now) ≡ true }
+        requires leaves { LeavesFit (types_at job.now) (relations job.now.plan.now) (plan_of node.now) }
+        ensures stations { IfOk result (λ c. c.stations.items ≡ []) }
+        ensures sends { IfOk result (λ c. c.sends.items ≡ 0 ∷ []) }
+        ensures duties { IfOk result (λ c. (hash : List ℕ → Row → ℕ → ℕ) → map duty c.workers.items ≡ root_duty (setting_of hash job.now) (plan_of node.now) ∷ []) }
+        ensures queues { IfOk result (λ c. (lines : List Line) × (c.ports.items ≡ lines ∷ []) × AreEmpty lines) }
+        ensures new { IfOk result (λ c. All (IsNew job.now) c.workers.items) }
+    {
+        let mut workers = Vec::new(alloc);
+        workers.push(root_worker(alloc, job, node)?)?;
+        let mut sends = Vec::new(alloc);
+        sends.push(0)?;
+        let mut ports = Vec::new(alloc);
+        ports.push(Ports::new(alloc, 0)?)?;
+        Ok(Crew {
+            workers,
+            sends,
+            ports,
+            stations: Vec::new(alloc),
+        })
+    }
+
+    /// All workers of a job, none of which made a step.
+    pub fn new(alloc: Global, job: &Job<'_>) -> Result<Crew, AllocError>
+        requires runs { can_run (plan job.now.plan.now) ≡ true }
+        ensures ready { IfOk result (λ c. (hash : List ℕ → Row → ℕ → ℕ)
+            → Ready OperatorStands operator_op DestinationStands task_of post_of bounds_of hash (scan_morsels (setting_of hash job.now)) (setting_of hash job.now) (plan job.now.plan.now) c.workers.items (board_of c)) }
+        ensures new { IfOk result (λ c. All (IsNew job.now) c.workers.items) }
+    {
+        let root = job.plan().root();
+        let mut crew = Crew::at_root(alloc, job, root)?;
+        crew.add_below(alloc, job, root, 0)?;
+        Ok(crew)
+    }
+
+    /// The workers, and the links between them.
+    pub fn into_parts(self) -> (Vec<Worker<Operator, Destination>>, Links)
+        ensures workers { result.0 ≡ self.workers }
+        ensures links { result.1 ≡ board_of self }
+    {
+        let Crew {
+            workers,
+            sends,
+            ports,
+            stations,
+        } = self;
+        (workers, Links::new(sends, stations, ports))
+    }
+}

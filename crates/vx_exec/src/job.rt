@@ -1,0 +1,199 @@
+//! What a run works on.
+
+ghost use Rattle.std.specs.Prelude.{◌≡◌, ℕ, ◌≤◌, ◌<◌, true, length, IfSome, IfOk};
+ghost use Rattle.vx_catalog.specs.Relation.{Relation};
+ghost use Rattle.vx_catalog.specs.Database.{rows_at, MeetsAll};
+ghost use Rattle.vx_plan.specs.Numbering.{relation_in};
+ghost use Rattle.vx_plan.specs.Outline.{size_of, plan_of};
+ghost use Rattle.vx_plan.specs.Plan.{size};
+ghost use Rattle.vx_plan.specs.Streams.{workers};
+ghost use Rattle.vx_plan.specs.Typed.{Scope, typed};
+ghost use Rattle.vx_plan.specs.TypedView.{scope, plan as whole_plan};
+ghost use Rattle.vx_check.specs.Checked.{relations};
+ghost use Rattle.vx_worker.specs.Morsels.{morsel_of, morsel_count};
+ghost use Rattle.vx_exec.specs.Sizes.{AreWithin, crew_size, group_at};
+ghost use Rattle.vx_exec.specs.LeafTypes.{leaf_types};
+
+use std::alloc::{AllocError, Global};
+use vx_catalog::{Catalog, Database};
+use vx_plan::{Kind, Size, TypedNode, TypedPlan};
+use vx_rows::{ColType, Rows};
+use vx_worker::Morsels;
+
+/// A plan with a database of its catalog, and the sizes of a run, each within its limits.
+#[derive(Drop)]
+pub struct Job<'j> {
+    alloc: Global,
+    plan: &'j TypedPlan,
+    database: &'j Database,
+    // The workers of each size name, by its number.
+    groups: Vec<u32>,
+    packet: usize,
+    morsel: usize,
+    ghost same_catalog: { database.now.catalog ≡ (scope plan.now).catalog },
+    ghost named: { length groups.items ≡ (scope plan.now).sizes },
+    ghost within: { AreWithin (record { groups = groups.items; packet = packet; morsel = morsel }) },
+    ghost few_workers: { crew_size groups.items (whole_plan plan.now) ≤ 256 },
+}
+
+/// The size of the group that works on a node.
+pub fn size_of_node(node: &TypedNode) -> Size
+    ensures { size_of result ≡ size (plan_of node.now) }
+{
+    match node {
+        TypedNode::Scan(_, scan) => scan.size,
+        TypedNode::Unary(_, _, input) => size_of_node(input),
+        TypedNode::Binary(_, _, left, _) => size_of_node(left),
+        TypedNode::Exchange(_, exchange, _) => match &exchange.kind {
+            Kind::Route(size, _, _) => *size,
+            Kind::Round(size) => *size,
+            Kind::Broadcast(size) => *size,
+            Kind::Gather => Size::One,
+        },
+    }
+}
+
+/// The relation that the scan with a number reads; none where an exchange has the number.
+fn relation_of(node: &TypedNode, number: u32) -> Option<usize>
+    ensures relation { IfSome result (λ r. relation_in (plan_of node.now) number ≡ r) }
+    ensures types { (catalog : ℕ → Relation) → IfSome result (λ r. leaf_types catalog (plan_of node.now) number ≡ (catalog r).types) }
+    ensures there { (s : Scope) → typed s (plan_of node.now) ≡ true → IfSome result (λ r. r < length s.catalog) }
+{
+    match node {
+        TypedNode::Scan(_, scan) => Some(scan.relation),
+        TypedNode::Unary(_, _, input) => relation_of(input, number),
+        TypedNode::Binary(_, _, left, right) => {
+            if number < right.head().number {
+                relation_of(left, number)
+            } else {
+                relation_of(right, number)
+            }
+        }
+        TypedNode::Exchange(head, _, input) => {
+            if head.number == number {
+                return None;
+            }
+            relation_of(input, number)
+        }
+    }
+}
+
+impl<'j> Job<'j> {
+    ghost use Rattle.vx_exec.specs.Job.{sizes_of};
+
+    /// A plan over a database, with sizes within their limits.
+    pub(crate) fn new(
+        alloc: Global,
+        plan: &'j TypedPlan,
+        database: &'j Database,
+        groups: Vec<u32>,
+        packet: usize,
+        morsel: usize,
+    ) -> Job<'j>
+        requires catalog { database.now.catalog ≡ (scope plan.now).catalog }
+        requires named { length groups.items ≡ (scope plan.now).sizes }
+        requires within { AreWithin (record { groups = groups.items; packet = packet; morsel = morsel }) }
+        requires few { crew_size groups.items (whole_plan plan.now) ≤ 256 }
+        ensures plan { result.plan.now ≡ plan.now }
+        ensures database { result.database.now ≡ database.now }
+        ensures sizes { sizes_of result ≡ record { groups = groups.items; packet = packet; morsel = morsel } }
+    {
+        Job {
+            alloc,
+            plan,
+            database,
+            groups,
+            packet,
+            morsel,
+        }
+    }
+
+    /// How many workers a size has.
+    pub fn workers(&self, size: Size) -> u32
+        ensures value { result ≡ workers (group_at self.now.groups.items) (size_of size) }
+        ensures some { 1 ≤ result }
+        ensures few { result ≤ 64 }
+    {
+        match size {
+            Size::One => 1,
+            Size::Group(k) => match self.groups.get(k) {
+                Some(workers) => *workers,
+                None => 1,
+            },
+        }
+    }
+
+    /// The plan.
+    pub fn plan(&self) -> &TypedPlan
+        ensures same { result.now ≡ self.now.plan.now }
+    {
+        self.plan
+    }
+
+    /// The rows of each relation meet all that the catalog declares of it. It does nothing: a caller who needs the
+    /// fact calls it.
+    pub fn meets(&self)
+        ensures { MeetsAll self.now.database.now }
+    {
+        self.database.meets();
+    }
+
+    /// The rows of a packet.
+    pub fn packet(&self) -> usize
+        ensures value { result ≡ self.now.packet }
+        ensures some { 1 ≤ result }
+        ensures few { result ≤ 4096 }
+    {
+        self.packet
+    }
+
+    /// The types of a relation's rows.
+    pub fn relation_types(&self, relation: usize) -> &[ColType]
+        requires { relation < length (scope self.now.plan.now).catalog }
+        ensures { result.now ≡ (relations self.now.plan.now relation).types }
+    {
+        self.plan.catalog().get(relation).types()
+    }
+
+    /// How many morsels a relation has.
+    pub fn morsel_count(&self, relation: usize) -> u64
+        requires { relation < length (scope self.now.plan.now).catalog }
+        ensures value { result ≡ morsel_count self.now.morsel (length (rows_at self.now.database.now relation)) }
+        ensures few { result ≤ 100000000 }
+    {
+        let rows = self.database.rows(relation).len();
+        ((rows + (self.morsel - 1)) / self.morsel) as u64
+    }
+
+    // A morsel of a relation: the rows from the morsel's first on, as many as there are.
+    fn copy_morsel(&self, relation: usize, number: u64) -> Result<Rows, AllocError>
+        requires { relation < length (scope self.now.plan.now).catalog }
+        ensures rows { IfOk result (λ r. r.rows ≡ morsel_of self.now.morsel (rows_at self.now.database.now relation) number) }
+        ensures types { IfOk result (λ r. r.types ≡ (relations self.now.plan.now relation).types) }
+    {
+        let rows = self.database.rows(relation);
+        let mut part = Rows::new(self.alloc, rows.types())?;
+        let from = (number as usize)
+            .saturating_mul(self.morsel)
+            .min(rows.len());
+        let to = from + self.morsel.min(rows.len() - from);
+        part.append_range(rows, from, to)?;
+        Ok(part)
+    }
+}
+
+impl Morsels for Job<'_> {
+    ghost use Rattle.vx_exec.specs.Job.{types_at};
+
+    ghost morsel_of = { λ j n k. morsel_of j.morsel (rows_at j.database.now (relation_in (whole_plan j.plan.now) n)) k };
+
+    ghost types_of = { types_at };
+
+    /// A copy of a morsel. Only scans read morsels: a number of another leaf gets none.
+    fn morsel(&self, scan: u32, number: u64) -> Result<Rows, AllocError> {
+        match relation_of(self.plan.root(), scan) {
+            Some(relation) => self.copy_morsel(relation, number),
+            None => Err(AllocError),
+        }
+    }
+}

@@ -1,0 +1,150 @@
+//! Runs in one thread.
+
+ghost use Rattle.std.specs.Prelude.{◌≡◌, ◌<◌, ◌⊎◌, true, length, IfOk, IfErr, List};
+ghost use Rattle.std.specs.List.{slice_index_or};
+ghost use Rattle.vx_rows.specs.declared.value.ColType.{ColType as Kind};
+ghost use Rattle.vx_plan.specs.TypedView.{plan as whole_plan, resolved_of};
+ghost use Rattle.vx_check.specs.Checked.{is_allowed, is_root_allowed};
+ghost use Rattle.vx_check.specs.CheckedView.{typed_plan};
+ghost use Rattle.vx_ops.specs.declared.fault.Fault.TheVariants.{Passed};
+ghost use Rattle.vx_exchange.specs.Tasks.{keep, keeps};
+ghost use Rattle.vx_worker.specs.Destination.{task_of, post_of};
+ghost use Rattle.vx_worker.specs.Worker.{sender_of};
+ghost use Rattle.vx_worker.specs.declared.worker.Worker.{Worker as AWorker};
+ghost use Rattle.vx_worker.specs.declared.operator.Operator.{Operator as AnOperator};
+ghost use Rattle.vx_worker.specs.declared.destination.Destination.{Destination as ADestination};
+ghost use Rattle.vx_exec.specs.Sizes.{can_run, crew_size, Sizes};
+ghost use Rattle.vx_exec.specs.Runs.{fault_told, ComesTo, IsRunOf, IfDone, IsTrueOf, IsSetUp, RunFails, IsBadStepOf, ScheduleFails};
+
+use crate::crew::Crew;
+use crate::fault::RunFault;
+use crate::job::Job;
+use crate::ran::Ran;
+use crate::setup::{Setup, job_of};
+use std::alloc::Global;
+use vx_catalog::Database;
+use vx_check::CheckedPlan;
+use vx_ops::{Code, Fault};
+use vx_plan::Router;
+use vx_rows::Rows;
+use vx_steps::{Verdict, finish_rounds, finish_steps};
+use vx_worker::{Destination, Operator, Worker};
+
+// The rows that the first worker kept.
+fn rows_of_root(mut workers: Vec<Worker<Operator, Destination>>) -> Rows
+    requires there { 0 < length workers.items }
+    requires keeps { (d : AWorker AnOperator ADestination) → (types : List Kind) × (post_of (sender_of (slice_index_or workers.items 0 d)) ≡ keeps types) }
+    ensures rows { (d : AWorker AnOperator ADestination) → task_of (sender_of (slice_index_or workers.items 0 d)) ≡ keep result.rows }
+    ensures types { (d : AWorker AnOperator ADestination) → post_of (sender_of (slice_index_or workers.items 0 d)) ≡ keeps result.types }
+{
+    let root = workers.swap_remove(0);
+    match root.into_sender() {
+        Destination::Kept(kept) => kept.into_rows(),
+        Destination::Gather(_) => unreachable!(),
+    }
+}
+
+// What the fault of a worker is told as.
+fn fault_of(fault: Fault) -> RunFault
+    requires { fault ≡ Passed → ⊥ }
+    ensures { result ≡ fault_told fault }
+{
+    match fault {
+        Fault::Own { code, node } => match code {
+            Code::Overflow => RunFault::Overflow { node },
+            Code::NoMemory => RunFault::NoMemory,
+            Code::Unsorted => RunFault::Unsorted { node },
+            Code::Stranger => RunFault::Stranger { exchange: node },
+        },
+        Fault::Passed => unreachable!(),
+    }
+}
+
+// What workers with such a verdict are told as.
+fn answer_of(workers: Vec<Worker<Operator, Destination>>, verdict: Verdict) -> Result<Ran, RunFault>
+    requires there { verdict ≡ Verdict.Done → 0 < length workers.items }
+    requires keeps { verdict ≡ Verdict.Done → (d : AWorker AnOperator ADestination) → (types : List Kind) × (post_of (sender_of (slice_index_or workers.items 0 d)) ≡ keeps types) }
+    requires own { verdict ≡ Verdict.Failed Passed → ⊥ }
+    ensures { ComesTo workers.items verdict result }
+{
+    match verdict {
+        Verdict::Done => return Ok(Ran::Done(rows_of_root(workers))),
+        Verdict::Unfinished => return Ok(Ran::Unfinished),
+        Verdict::Failed(fault) => return Err(fault_of(fault)),
+    }
+}
+
+// At most so many rounds of all workers of a job, and what they come to.
+fn run_job<R: Router>(alloc: Global, job: &Job<'_>, router: &R, limit: u64) -> Result<Ran, RunFault>
+    requires runs { can_run (whole_plan job.now.plan.now) ≡ true }
+    requires allowed { is_allowed job.now.plan.now ≡ true }
+    requires root { is_root_allowed job.now.plan.now ≡ true }
+    ensures done { IfOk result (IfDone (IsRunOf (R.route_of router.now) (resolved_of job.now.plan.now) job.now.database.now job.now.groups.items)) }
+    ensures failed { IfErr result (IsTrueOf (resolved_of job.now.plan.now) job.now.database.now) }
+{
+    job.meets();
+    let crew = Crew::new(alloc, job)?;
+    let (mut workers, mut links) = crew.into_parts();
+    let verdict = finish_rounds(&mut workers, job, router, &mut links, limit);
+    answer_of(workers, verdict)
+}
+
+// One step for each of these workers of a job, and what they come to.
+fn schedule_job<R: Router>(
+    alloc: Global,
+    job: &Job<'_>,
+    router: &R,
+    steps: &[u32],
+) -> Result<Ran, RunFault>
+    requires runs { can_run (whole_plan job.now.plan.now) ≡ true }
+    requires allowed { is_allowed job.now.plan.now ≡ true }
+    requires root { is_root_allowed job.now.plan.now ≡ true }
+    ensures done { IfOk result (IfDone (IsRunOf (R.route_of router.now) (resolved_of job.now.plan.now) job.now.database.now job.now.groups.items)) }
+    ensures failed { IfErr result (λ e. IsTrueOf (resolved_of job.now.plan.now) job.now.database.now e
+        ⊎ IsBadStepOf steps.now (crew_size job.now.groups.items (whole_plan job.now.plan.now)) e) }
+{
+    job.meets();
+    let crew = Crew::new(alloc, job)?;
+    let (mut workers, mut links) = crew.into_parts();
+    match finish_steps(&mut workers, job, router, &mut links, steps) {
+        Err(index) => return Err(RunFault::BadStep { index }),
+        Ok(verdict) => return answer_of(workers, verdict),
+    }
+}
+
+/// A run of a plan over a database: at most so many rounds, in each of which every worker makes one step, in number order.
+pub fn run_rounds<R: Router>(
+    alloc: Global,
+    plan: &CheckedPlan,
+    database: &Database,
+    setup: &Setup,
+    router: &R,
+    limit: u64,
+) -> Result<Ran, RunFault>
+    requires runs { can_run (whole_plan (typed_plan plan.now)) ≡ true }
+    ensures done { IfOk result (IfDone (λ rows. (s : Sizes) × IsSetUp (resolved_of (typed_plan plan.now)) database.now setup.now s
+        × IsRunOf (R.route_of router.now) (resolved_of (typed_plan plan.now)) database.now s.groups rows)) }
+    ensures refused { IfErr result (RunFails (resolved_of (typed_plan plan.now)) database.now setup.now) }
+{
+    let job = job_of(alloc, plan.plan(), database, setup)?;
+    run_job(alloc, &job, router, limit)
+}
+
+/// A run of a plan over a database by a schedule: one step of the worker with each of these numbers, in this order.
+/// The root's worker is 0; then come the producers of each exchange, by place, the exchanges in preorder of their nodes.
+pub fn run_scheduled<R: Router>(
+    alloc: Global,
+    plan: &CheckedPlan,
+    database: &Database,
+    setup: &Setup,
+    router: &R,
+    steps: &[u32],
+) -> Result<Ran, RunFault>
+    requires runs { can_run (whole_plan (typed_plan plan.now)) ≡ true }
+    ensures done { IfOk result (IfDone (λ rows. (s : Sizes) × IsSetUp (resolved_of (typed_plan plan.now)) database.now setup.now s
+        × IsRunOf (R.route_of router.now) (resolved_of (typed_plan plan.now)) database.now s.groups rows)) }
+    ensures refused { IfErr result (ScheduleFails (resolved_of (typed_plan plan.now)) database.now setup.now steps.now) }
+{
+    let job = job_of(alloc, plan.plan(), database, setup)?;
+    schedule_job(alloc, &job, router, steps)
+}

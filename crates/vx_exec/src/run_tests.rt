@@ -1,0 +1,170 @@
+//! What no clause says of runs: small plans deliver their rows, by rounds and by schedules.
+
+use crate::fault::RunFault;
+use crate::ran::Ran;
+use crate::run::{run_rounds, run_scheduled};
+use crate::runnable::can_run;
+use crate::setup::Setup;
+use std::alloc::{AllocError, Global};
+use std::test::Fail;
+use vx_catalog::{Catalog, Database, Loader};
+use vx_check::{CheckedPlan, check};
+use vx_plan::{Plan, Router, resolve};
+use vx_rows::{Cell, MemoryIn, Rows, Value};
+
+const CATALOG: &str =
+    r#"{"relations":[{"name":"t","columns":[{"name":"id","type":"int"},{"name":"k","type":"text"},{"name":"v","type":"int"}],"keys":[["id"]],"order":["id"]}]}"#;
+
+const TABLE: &str = "id,k,v\n0,a,5\n1,b,7\n2,a,-2\n3,c,7\n";
+
+/// Three workers scan and select, and the root's worker gathers.
+const SELECTED: &str =
+    r#"{"sizes":["many"],"root":{"op":"exchange","kind":"gather","claim":{"part":"one"},"input":{"op":"select","where":[{"column":"v","op":"=","value":7}],"claim":{"part":"any"},"input":{"op":"scan","relation":"t","mode":"shared","size":"many","claim":{"part":"any"}}}}}"#;
+
+/// One worker scans.
+const WHOLE: &str =
+    r#"{"root":{"op":"scan","relation":"t","mode":"whole","size":"one","claim":{"part":"one","order":["id"],"keys":[["id"]]}},"total":true}"#;
+
+/// Sends every key to consumer 0.
+#[derive(Drop)]
+struct ToFirst;
+
+impl Router for ToFirst {
+    ghost route_of = { λ _ _ _ _. 0 };
+
+    ghost in_range = { λ r name key n some. some };
+
+    fn route(&self, _name: &str, _key: &[Value], _n: u32) -> u32 {
+        0
+    }
+}
+
+fn filled(alloc: Global) -> Result<Database, Fail> {
+    let catalog = Catalog::read(alloc, CATALOG.as_bytes())?;
+    let mut database = Database::empty(alloc, &catalog)?;
+    if catalog.len() == 0 {
+        return Err(Fail::new("the catalog has a relation"));
+    }
+    let mut reader = MemoryIn::new(TABLE.as_bytes(), None);
+    match database.put(Loader::load(alloc, &catalog, 0, &mut reader)?) {
+        Ok(()) => Ok(database),
+        Err(_) => Err(Fail::new("the rows are of this catalog")),
+    }
+}
+
+fn checked(alloc: Global, text: &str) -> Result<CheckedPlan, Fail> {
+    let catalog = Catalog::read(alloc, CATALOG.as_bytes())?;
+    let plan = Plan::read(alloc, text.as_bytes())?;
+    match check(resolve(alloc, &plan, &catalog)?) {
+        Ok(plan) => Ok(plan),
+        Err(_) => Err(Fail::new("the plan is accepted")),
+    }
+}
+
+fn of_three(alloc: Global) -> Result<Setup, AllocError> {
+    let mut sizes = Vec::new(alloc);
+    sizes.push((String::from_str(alloc, "many")?, 3))?;
+    Ok(Setup::new(sizes, 1, 1, 4))
+}
+
+/// The numbers in the first column.
+fn ids(alloc: Global, rows: &Rows) -> Result<Vec<i64>, AllocError> {
+    let mut ids = Vec::new(alloc);
+    if rows.types().len() == 0 {
+        return Ok(ids);
+    }
+    for i in 0..rows.len() {
+        if let Cell::Int(id) = rows.cell(i, 0) {
+            ids.push(id)?;
+        }
+    }
+    Ok(ids)
+}
+
+/// What a plan comes to in so many rounds.
+fn in_rounds(alloc: Global, text: &str, limit: u64) -> Result<Ran, Fail> {
+    let plan = checked(alloc, text)?;
+    let database = filled(alloc)?;
+    if !can_run(plan.plan()) {
+        return Err(Fail::new("workers can run the plan"));
+    }
+    Ok(run_rounds(alloc, &plan, &database, &of_three(alloc)?, &ToFirst, limit)?)
+}
+
+/// What a plan comes to by a schedule.
+fn by_steps(alloc: Global, text: &str, steps: &[u32]) -> Result<Result<Ran, RunFault>, Fail> {
+    let plan = checked(alloc, text)?;
+    let database = filled(alloc)?;
+    if !can_run(plan.plan()) {
+        return Err(Fail::new("workers can run the plan"));
+    }
+    Ok(run_scheduled(alloc, &plan, &database, &of_three(alloc)?, &ToFirst, steps))
+}
+
+#[test]
+fn rounds_deliver_the_rows(rt: HostRuntime) -> Result<(), Fail> {
+    let alloc = rt.alloc();
+    match in_rounds(alloc, SELECTED, 1000)? {
+        Ran::Done(rows) => {
+            let mut found = ids(alloc, &rows)?;
+            found.sort()?;
+            assert_eq!(rt; found.as_slice(), [1, 3].as_slice());
+        }
+        Ran::Unfinished => assert!(rt; false, "the workers ended"),
+    }
+    Ok(())
+}
+
+#[test]
+fn a_whole_scan_delivers_in_order(rt: HostRuntime) -> Result<(), Fail> {
+    let alloc = rt.alloc();
+    match in_rounds(alloc, WHOLE, 1000)? {
+        Ran::Done(rows) => assert_eq!(rt; ids(alloc, &rows)?.as_slice(), [0, 1, 2, 3].as_slice()),
+        Ran::Unfinished => assert!(rt; false, "the worker ended"),
+    }
+    Ok(())
+}
+
+#[test]
+fn too_few_rounds_leave_it_unfinished(rt: HostRuntime) -> Result<(), Fail> {
+    let alloc = rt.alloc();
+    assert!(rt; matches!(in_rounds(alloc, SELECTED, 1)?, Ran::Unfinished));
+    assert!(rt; matches!(by_steps(alloc, SELECTED, &[])?, Ok(Ran::Unfinished)));
+    Ok(())
+}
+
+#[test]
+fn a_step_names_a_worker(rt: HostRuntime) -> Result<(), Fail> {
+    let alloc = rt.alloc();
+    assert!(rt;
+        matches!(
+            by_steps(alloc, SELECTED, &[1, 4, 0])?,
+            Err(RunFault::BadStep { index: 1 })
+        )
+    );
+    Ok(())
+}
+
+#[test]
+fn schedules_deliver_the_rows(rt: HostRuntime) -> Result<(), Fail> {
+    let alloc = rt.alloc();
+    // The producers one after the other, the last first; and then the root.
+    let mut steps = Vec::new(alloc);
+    for worker in [3, 2, 1, 0] {
+        for _ in 0..40 {
+            steps.push(worker)?;
+        }
+    }
+    match by_steps(alloc, SELECTED, steps.as_slice())? {
+        Ok(ran) => match ran {
+            Ran::Done(rows) => {
+                let mut found = ids(alloc, &rows)?;
+                found.sort()?;
+                assert_eq!(rt; found.as_slice(), [1, 3].as_slice());
+            }
+            Ran::Unfinished => assert!(rt; false, "the workers ended"),
+        },
+        Err(_fault) => assert!(rt; false, "no worker failed"),
+    }
+    Ok(())
+}

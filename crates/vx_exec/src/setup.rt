@@ -1,0 +1,267 @@
+//! How a run is set up, and the tests of that before its first step.
+
+ghost use Rattle.std.specs.Prelude.{◌≡◌, ◌+◌, ◌*◌, ◌≤◌, map, not, option_map, is_none, string_bytes, bytes_eq, IfOk, IfErr};
+ghost use Rattle.std.specs.List.{All, find};
+ghost use Rattle.vx_plan.specs.Numbering.{nodes};
+ghost use Rattle.vx_plan.specs.Outline.{size_of, plan_of};
+ghost use Rattle.vx_plan.specs.Streams.{workers};
+ghost use Rattle.vx_plan.specs.TypedView.{names_in, scope, resolved_of, plan as plan_of_typed};
+ghost use Rattle.vx_laws.specs.Layout.{workers_below};
+ghost use Rattle.vx_exec.specs.Sizes.{IsWithin, crew_size, group_at};
+ghost use Rattle.vx_exec.specs.Job.{sizes_of};
+ghost use Rattle.vx_exec.specs.Setup.{entry_of, number_of, workers_named, groups_named, first_missing, first_out_of_range, is_within, tested, no_name, few_workers, size_missing, size_out_of_range, refusal_of, sizes_set, Gives};
+ghost use Rattle.vx_exec.specs.Runs.{IsSetUp, RunFails};
+
+use crate::fault::RunFault;
+use crate::job::{Job, size_of_node};
+use std::alloc::{AllocError, Global};
+use std::marker::Model;
+use vx_catalog::Database;
+use vx_plan::{Size, TypedNode, TypedPlan};
+
+/// The most workers of a group.
+const MOST_IN_GROUP: u32 = 64;
+
+/// The most rows of a packet.
+const MOST_IN_PACKET: u32 = 4096;
+
+/// The most rows of a morsel.
+const MOST_IN_MORSEL: u32 = 1_000_000;
+
+/// The most packets by which a producer may run ahead.
+const MOST_SLACK: u32 = 1024;
+
+/// The most workers of a plan.
+const MOST_WORKERS: u32 = 256;
+
+/// How a run is set up: the workers of size names, the rows of a packet and of a morsel, and by how many packets a
+/// producer may run ahead, the slack. Names that the plan does not declare are ignored; of several entries of a name
+/// the first counts.
+#[derive(Debug, Drop)]
+pub struct Setup {
+    sizes: Vec<(String, u32)>,
+    packet: u32,
+    morsel: u32,
+    slack: u32,
+}
+
+impl Model for Setup {
+    ghost use Rattle.std.specs.Prelude.{map};
+    ghost use Rattle.vx_exec.specs.Setup.{SetupForm, entry_of};
+
+    ghost Value = { SetupForm };
+
+    ghost view = { λ s. record { sizes = map entry_of s.sizes.items; packet = s.packet; morsel = s.morsel; slack = s.slack } };
+}
+
+/// The first entry of a name.
+fn find_entry<'e>(entries: &'e [(String, u32)], name: &str) -> Option<&'e (String, u32)>
+    ensures { option_map (λ e. e.now) result ≡ find (λ e. bytes_eq (string_bytes e.0) name.now) entries.now }
+{
+    entries.iter().find(|entry| entry.0.as_str() == name)
+}
+
+impl Setup {
+    /// A setup of its parts. Nothing is tested yet.
+    pub fn new(sizes: Vec<(String, u32)>, packet: u32, morsel: u32, slack: u32) -> Setup
+        ensures { result ≡ record { sizes = map entry_of sizes.items; packet = packet; morsel = morsel; slack = slack } }
+    {
+        Setup {
+            sizes,
+            packet,
+            morsel,
+            slack,
+        }
+    }
+
+    /// The number that the first entry of a name has.
+    fn number(&self, name: &str) -> Option<u32>
+        ensures { result ≡ number_of self.now.sizes name.now }
+    {
+        match find_entry(self.sizes.as_slice(), name) {
+            Some(entry) => Some(entry.1),
+            None => None,
+        }
+    }
+
+    /// The workers of a name, 0 where it has no entry.
+    fn workers(&self, name: &str) -> u32
+        ensures { result ≡ workers_named self.now.sizes name.now }
+    {
+        self.number(name).unwrap_or(0)
+    }
+
+    fn find_missing<'n>(&self, names: &'n [String]) -> Option<&'n String>
+        ensures { option_map (λ n. n.now) result ≡ find (λ n. is_none (number_of self.now.sizes (string_bytes n))) names.now }
+    {
+        names
+            .iter()
+            .find(|name| self.number(name.as_str()).is_none())
+    }
+
+    /// The first of these names without an entry.
+    fn first_missing<'n>(&self, names: &'n [String]) -> Option<&'n String>
+        ensures { option_map (λ n. string_bytes n.now) result ≡ first_missing self.now.sizes (map string_bytes names.now) }
+    {
+        self.find_missing(names)
+    }
+
+    fn find_out_of_range<'n>(&self, names: &'n [String]) -> Option<&'n String>
+        ensures { option_map (λ n. n.now) result ≡ find (λ n. not (is_within 64 (workers_named self.now.sizes (string_bytes n)))) names.now }
+    {
+        names.iter().find(|name| !is_within(MOST_IN_GROUP, self.workers(name.as_str())))
+    }
+
+    /// The first of these names whose number is not 1 to 64.
+    fn first_out_of_range<'n>(&self, names: &'n [String]) -> Option<&'n String>
+        ensures { option_map (λ n. string_bytes n.now) result ≡ first_out_of_range self.now.sizes (map string_bytes names.now) }
+    {
+        self.find_out_of_range(names)
+    }
+
+    /// The workers of each of these names.
+    fn groups(&self, alloc: Global, names: &[String]) -> Result<Vec<u32>, AllocError>
+        ensures { IfOk result (λ v. v.items ≡ groups_named self.now.sizes (map string_bytes names.now)) }
+    {
+        let mut groups = Vec::new(alloc);
+        for name in names {
+            groups.push(self.workers(name.as_str()))?;
+        }
+        Ok(groups)
+    }
+}
+
+/// Whether a number is from 1 to another.
+fn is_within(most: u32, number: u32) -> bool
+    ensures { result ≡ is_within most number }
+{
+    1 <= number && number <= most
+}
+
+/// A fault, if a test failed.
+fn tested(is_right: bool, fault: RunFault) -> Result<(), RunFault>
+    ensures { Gives (λ _. tt) result (tested is_right (refusal_of fault)) }
+{
+    if is_right { Ok(()) } else { Err(fault) }
+}
+
+/// Each name has an entry.
+fn missing_tested(alloc: Global, setup: &Setup, names: &[String]) -> Result<(), RunFault>
+    ensures { Gives (λ _. tt) result (no_name size_missing (first_missing setup.now.sizes (map string_bytes names.now))) }
+{
+    match setup.first_missing(names) {
+        Some(name) => Err(RunFault::SizeMissing {
+            name: String::from_str(alloc, name.as_str())?,
+        }),
+        None => Ok(()),
+    }
+}
+
+/// Each name has 1 to 64 workers.
+fn range_tested(alloc: Global, setup: &Setup, names: &[String]) -> Result<(), RunFault>
+    ensures { Gives (λ _. tt) result (no_name size_out_of_range (first_out_of_range setup.now.sizes (map string_bytes names.now))) }
+{
+    match setup.first_out_of_range(names) {
+        Some(name) => Err(RunFault::SizeOutOfRange {
+            name: String::from_str(alloc, name.as_str())?,
+        }),
+        None => Ok(()),
+    }
+}
+
+/// How many workers a size has.
+fn workers_of(groups: &[u32], size: Size) -> u32
+    requires { All (IsWithin 1 64) groups.now }
+    ensures count { result ≡ workers (group_at groups.now) (size_of size) }
+    ensures few { result ≤ 64 }
+{
+    match size {
+        Size::One => 1,
+        Size::Group(k) => match groups.get(k) {
+            Some(workers) => *workers,
+            None => 1,
+        },
+    }
+}
+
+/// How many workers the fragments below a node's own have.
+fn workers_below(groups: &[u32], node: &TypedNode) -> u32
+    requires within { All (IsWithin 1 64) groups.now }
+    requires few { nodes (plan_of node.now) ≤ 1000 }
+    ensures count { result ≡ workers_below (group_at groups.now) (plan_of node.now) }
+    ensures bound { result ≤ 64 * nodes (plan_of node.now) }
+{
+    match node {
+        TypedNode::Scan(_, _) => 0,
+        TypedNode::Unary(_, _, input) => workers_below(groups, input),
+        TypedNode::Binary(_, _, left, right) => {
+            workers_below(groups, left) + workers_below(groups, right)
+        }
+        TypedNode::Exchange(_, _, input) => {
+            workers_of(groups, size_of_node(input)) + workers_below(groups, input)
+        }
+    }
+}
+
+/// How many workers a plan has.
+fn crew_size(groups: &[u32], plan: &TypedPlan) -> u32
+    requires { All (IsWithin 1 64) groups.now }
+    ensures { result ≡ crew_size groups.now (plan_of_typed plan.now) }
+{
+    1 + workers_below(groups, plan.root())
+}
+
+/// The plan has at most 256 workers.
+fn crew_tested(groups: &[u32], plan: &TypedPlan) -> Result<(), RunFault>
+    requires { All (IsWithin 1 64) groups.now }
+    ensures { Gives (λ _. tt) result (few_workers groups.now (plan_of_typed plan.now)) }
+{
+    let number = crew_size(groups, plan);
+    tested(number <= MOST_WORKERS, RunFault::TooManyWorkers { number })
+}
+
+// The job of a plan over a database of its catalog, or the first refusal of its setup.
+#[tactic(auto, unfolding(crate::specs::Setup::sizes_set))]
+fn job_in<'j>(
+    alloc: Global,
+    plan: &'j TypedPlan,
+    database: &'j Database,
+    setup: &Setup,
+) -> Result<Job<'j>, RunFault>
+    requires same { database.now.catalog ≡ (scope plan.now).catalog }
+    ensures gives { Gives sizes_of result (sizes_set setup.now (names_in plan.now).sizes (plan_of_typed plan.now)) }
+    ensures plan { IfOk result (λ j. j.plan.now ≡ plan.now) }
+    ensures database { IfOk result (λ j. j.database.now ≡ database.now) }
+{
+    let names = plan.sizes();
+    missing_tested(alloc, setup, names)?;
+    range_tested(alloc, setup, names)?;
+    tested(is_within(MOST_IN_PACKET, setup.packet), RunFault::BadPacket)?;
+    tested(is_within(MOST_IN_MORSEL, setup.morsel), RunFault::BadMorsel)?;
+    tested(is_within(MOST_SLACK, setup.slack), RunFault::BadSlack)?;
+    let groups = setup.groups(alloc, names)?;
+    crew_tested(groups.as_slice(), plan)?;
+    let packet = setup.packet as usize;
+    let morsel = setup.morsel as usize;
+    Ok(Job::new(alloc, plan, database, groups, packet, morsel))
+}
+
+/// A plan over a database, set up to run. The first test that fails is the answer, in this order: the database has the
+/// plan's catalog; each declared size name has an entry; each declared size name has 1 to 64 workers; a packet has 1 to
+/// 4,096 rows; a morsel has 1 to 1,000,000 rows; the slack is 1 to 1,024 packets; the plan has at most 256 workers.
+pub(crate) fn job_of<'j>(
+    alloc: Global,
+    plan: &'j TypedPlan,
+    database: &'j Database,
+    setup: &Setup,
+) -> Result<Job<'j>, RunFault>
+    ensures set { IfOk result (λ j. IsSetUp (resolved_of plan.now) database.now setup.now (sizes_of j)) }
+    ensures refused { IfErr result (RunFails (resolved_of plan.now) database.now setup.now) }
+    ensures plan { IfOk result (λ j. j.plan.now ≡ plan.now) }
+    ensures database { IfOk result (λ j. j.database.now ≡ database.now) }
+{
+    if !database.catalog().is_same(plan.catalog()) {
+        return Err(RunFault::OtherCatalog);
+    }
+    job_in(alloc, plan, database, setup)
+}

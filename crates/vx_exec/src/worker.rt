@@ -1,0 +1,147 @@
+//! Workers of a job, before any step.
+
+ghost use Rattle.std.specs.Prelude.{◌≡◌, ◌∷◌, ◌++◌, ℕ, true, List, map, IfOk, OnOk};
+ghost use Rattle.std.specs.List.{All};
+ghost use Rattle.vx_rows.specs.Values.{Row};
+ghost use Rattle.vx_rows.specs.Lists.{each_below};
+ghost use Rattle.vx_plan.specs.Numbering.{is_numbered};
+ghost use Rattle.vx_plan.specs.Outline.{plan_of};
+ghost use Rattle.vx_plan.specs.Plan.{gather};
+ghost use Rattle.vx_plan.specs.Typed.{typed};
+ghost use Rattle.vx_plan.specs.TypedView.{scope};
+ghost use Rattle.vx_check.specs.Checked.{relations};
+ghost use Rattle.vx_ports.specs.Packets.{fault};
+ghost use Rattle.vx_exchange.specs.Ship.{Ship, packet_of};
+ghost use Rattle.vx_worker.specs.Intake.{source_of, IsFresh};
+ghost use Rattle.vx_worker.specs.Worker.{inputs_of as sources_of};
+ghost use Rattle.vx_steps.specs.Crews.{producer_duty, root_duty};
+ghost use Rattle.vx_exec.specs.Sizes.{can_run, group_at};
+ghost use Rattle.vx_exec.specs.Job.{setting_of, types_at};
+ghost use Rattle.vx_exec.specs.LeafTypes.{LeavesFit};
+ghost use Rattle.vx_exec.specs.Inputs.{inputs_of};
+ghost use Rattle.vx_exec.specs.Crew.{duty, IsNew};
+
+use crate::fragment::tree_of;
+use crate::job::{Job, size_of_node};
+use std::alloc::{AllocError, Global};
+use vx_exchange::{Gather, Kept};
+use vx_plan::TypedNode;
+use vx_ports::{Ending, Packet};
+use vx_rows::{ColType, Rows};
+use vx_worker::{Destination, Input, Operator, Worker};
+
+// Adds each of so many producers of an exchange.
+fn add_producers(inputs: &mut Vec<Input>, exchange: u32, count: u32) -> Result<(), AllocError>
+    ensures fresh { All IsFresh inputs.old.items → OnOk result (All IsFresh inputs.new.items) }
+    ensures sources { OnOk result (map source_of inputs.new.items ≡ map source_of inputs.old.items ++ each_below count (λ i. (exchange, i))) }
+{
+    for from in 0..count {
+        inputs.push(Input::new(exchange, from))?;
+    }
+    Ok(())
+}
+
+// Adds the producers from which the workers of a node's fragment take.
+fn add_inputs(inputs: &mut Vec<Input>, job: &Job<'_>, node: &TypedNode) -> Result<(), AllocError>
+    ensures fresh { All IsFresh inputs.old.items → OnOk result (All IsFresh inputs.new.items) }
+    ensures sources { OnOk result (map source_of inputs.new.items ≡ map source_of inputs.old.items ++ inputs_of (group_at job.now.groups.items) (plan_of node.now)) }
+{
+    match node {
+        TypedNode::Scan(_, _) => return Ok(()),
+        TypedNode::Unary(_, _, input) => return add_inputs(inputs, job, input),
+        TypedNode::Binary(_, _, left, right) => {
+            add_inputs(inputs, job, left)?;
+            return add_inputs(inputs, job, right);
+        }
+        TypedNode::Exchange(head, _, input) => {
+            let count = job.workers(size_of_node(input));
+            return add_producers(inputs, head.number, count);
+        }
+    }
+}
+
+// The producers from which the workers of a node's fragment take.
+fn inputs_of(alloc: Global, job: &Job<'_>, node: &TypedNode) -> Result<Vec<Input>, AllocError>
+    ensures fresh { IfOk result (λ v. All IsFresh v.items) }
+    ensures sources { IfOk result (λ v. map source_of v.items ≡ inputs_of (group_at job.now.groups.items) (plan_of node.now)) }
+{
+    let mut inputs = Vec::new(alloc);
+    add_inputs(&mut inputs, job, node)?;
+    Ok(inputs)
+}
+
+// Fault for each consumer of a producer, by rising place.
+fn closing_packets(
+    alloc: Global,
+    exchange: u32,
+    place: u32,
+    consumers: u32,
+    types: &[ColType],
+) -> Result<Vec<Packet>, AllocError>
+    ensures { (ship : Ship) → ship.exchange ≡ exchange → ship.place ≡ place → ship.types ≡ types.now
+        → IfOk result (λ v. v.items ≡ each_below consumers (λ j. packet_of ship j fault)) }
+{
+    let mut packets = Vec::new(alloc);
+    for to in 0..consumers {
+        let none = Rows::new(alloc, types)?;
+        packets.push(Packet::closing(exchange, place, to, Ending::Fault, none))?;
+    }
+    Ok(packets)
+}
+
+/// The worker at the root of a plan, which keeps the rows.
+pub fn root_worker(
+    alloc: Global,
+    job: &Job<'_>,
+    node: &TypedNode,
+) -> Result<Worker<Operator, Destination>, AllocError>
+    requires runs { can_run (plan_of node.now) ≡ true }
+    requires typed { typed (scope job.now.plan.now) (plan_of node.now) ≡ true }
+    requires numbered { is_numbered 0 (plan_of node.now) ≡ true }
+    requires leaves { LeavesFit (types_at job.now) (relations job.now.plan.now) (plan_of node.now) }
+    ensures duty { IfOk result (λ w. (hash : List ℕ → Row → ℕ → ℕ) → duty w ≡ root_duty (setting_of hash job.now) (plan_of node.now)) }
+    ensures new { IfOk result (λ w. IsNew job.now w) }
+    ensures inputs { IfOk result (λ w. sources_of w ≡ inputs_of (group_at job.now.groups.items) (plan_of node.now)) }
+{
+    let (tree, types) = tree_of(alloc, job, node, 0)?;
+    let kept = Kept::new(alloc, types.as_slice())?;
+    let inputs = inputs_of(alloc, job, node)?;
+    Ok(Worker::new(
+        alloc,
+        tree,
+        Destination::Kept(kept),
+        node.head().number,
+        Vec::new(alloc),
+        inputs,
+    ))
+}
+
+/// The producer at a place of a gather over a node.
+pub fn producer(
+    alloc: Global,
+    job: &Job<'_>,
+    exchange: u32,
+    node: &TypedNode,
+    place: u32,
+) -> Result<Worker<Operator, Destination>, AllocError>
+    requires runs { can_run (plan_of node.now) ≡ true }
+    requires typed { typed (scope job.now.plan.now) (plan_of node.now) ≡ true }
+    requires numbered { (i : ℕ) × (is_numbered i (plan_of node.now) ≡ true) }
+    requires leaves { LeavesFit (types_at job.now) (relations job.now.plan.now) (plan_of node.now) }
+    ensures duty { IfOk result (λ w. (hash : List ℕ → Row → ℕ → ℕ) → duty w ≡ producer_duty (setting_of hash job.now) exchange gather (plan_of node.now) place) }
+    ensures new { IfOk result (λ w. IsNew job.now w) }
+    ensures inputs { IfOk result (λ w. sources_of w ≡ inputs_of (group_at job.now.groups.items) (plan_of node.now)) }
+{
+    let (tree, types) = tree_of(alloc, job, node, place)?;
+    let gather = Gather::new(alloc, exchange, place, job.packet(), types.as_slice())?;
+    let closing = closing_packets(alloc, exchange, place, 1, types.as_slice())?;
+    let inputs = inputs_of(alloc, job, node)?;
+    Ok(Worker::new(
+        alloc,
+        tree,
+        Destination::Gather(gather),
+        node.head().number,
+        closing,
+        inputs,
+    ))
+}
