@@ -1,4 +1,5 @@
 pub mod MemberFacts
 pub mod TextFacts
+pub mod RunnableFacts
 pub mod Refusing
 pub mod TableFacts

@@ -1,18 +1,20 @@
 -- From one step's refusal to the refusal of the whole.
-use Rattle.std.proofs.Common.{arith, ◌≡◌, ◌≢◌, ◌∙◌, ℕ, List, Bool, Option, Result, Ok, Err, sym}
+use Rattle.std.proofs.Common.{arith, ◌≡◌, ◌≢◌, ◌∙◌, ℕ, List, Bool, true, Option, Result, Ok, Err, sym}
 use Rattle.std.specs.Prelude.{IfOk, IfErr}
 use Rattle.vx_catalog.specs.Database.{Database}
+use Rattle.vx_plan.specs.Outline.{plan_in}
 use Rattle.vx_plan.specs.Resolve.{Resolved}
+use Rattle.vx_exec.specs.Sizes.{can_run}
 use Rattle.volcano.specs.declared.bundle.Command.TheVariants as command
 use Rattle.volcano.specs.declared.refusal.Refusal.{Refusal}
 use Rattle.volcano.specs.Bundle.{Bundle}
 use Rattle.volcano.specs.Status.{status_of}
 use Rattle.volcano.specs.Answer.{IsAccepted, IsDatabaseFor, RunRefuses, PlanRefuses, for_run, Refuses, for_rest, RefusedWith, IsRefusedBy}
 
-pub run_refused : {T : Type 0} (r : Result T Refusal) (p : Resolved) (b : Bundle) (db : Database) → IsDatabaseFor p b db
+pub run_refused : {T : Type 0} (r : Result T Refusal) (p : Resolved) (b : Bundle) (db : Database) → can_run (plan_in p.root) ≡ true → IsDatabaseFor p b db
     → IfErr r (λ e. RunRefuses p db b e) → IfErr r (λ e. PlanRefuses p b e)
-run_refused (Ok x) p b db there h = tt
-run_refused (Err e) p b db there h = for_run db there h
+run_refused (Ok x) p b db runs there h = tt
+run_refused (Err e) p b db runs there h = for_run runs db there h
 
 pub rest_refused : {T : Type 0} (r : Result T Refusal) (b : Bundle) (p : Resolved) → IsAccepted b p → b.command ≡ command.Run
     → IfErr r (λ e. PlanRefuses p b e) → IfErr r (λ e. Refuses b e)

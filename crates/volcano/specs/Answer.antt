@@ -1,13 +1,15 @@
 -- What answers a bundle's text, and why it may have no answer.
 use Rattle.std.specs.Prelude.{◌≡◌, ℕ, ◌⊎◌, List, Bool, true, false, cond, Option, Some, None, Result, Ok, IfSome, codes}
 use Rattle.vx_rows.specs.Ports.{IsOver}
+use Rattle.vx_rows.specs.View.{Table}
 use Rattle.vx_catalog.specs.Relation.{Relation}
 use Rattle.vx_catalog.specs.Catalog.{relation_at}
 use Rattle.vx_catalog.specs.Naming.{catalog_of}
 use Rattle.vx_catalog.specs.Naming as catalog
 use Rattle.vx_catalog.specs.Loading.{max_bytes}
+use Rattle.vx_catalog.specs.Csv.{csv_text}
 use Rattle.vx_catalog.specs.Database.{Database}
-use Rattle.vx_plan.specs.Outline.{plan_in}
+use Rattle.vx_plan.specs.Outline.{columns, plan_in}
 use Rattle.vx_plan.specs.Resolve.{Resolved, resolved}
 use Rattle.vx_plan.specs.Fault.{◌>>=◌}
 use Rattle.vx_plan.specs.Reading.{document_in}
@@ -16,6 +18,10 @@ use Rattle.vx_check.specs.Refusal.{Rule, refusal}
 use Rattle.vx_check.specs.RuleView.{rule_of}
 use Rattle.vx_check.specs.Explain.{explain_text}
 use Rattle.vx_check.specs.declared.rule.Rule as rust_rule
+use Rattle.vx_exec.specs.Sizes.{Sizes, can_run}
+use Rattle.vx_exec.specs.Setup.{SetupForm}
+use Rattle.vx_exec.specs.Runs.{IsRunOf, IsSetUp, RunFails}
+use Rattle.vx_exec.specs.declared.fault.RunFault.{RunFault}
 use Rattle.vx_catalog.specs.declared.fault.CatalogFault.{CatalogFault}
 use Rattle.vx_plan.specs.declared.fault.PlanFault.{PlanFault}
 use Rattle.volcano.specs.declared.bundle.Command.{Command}
@@ -26,6 +32,8 @@ use Rattle.volcano.specs.declared.refusal.Refusal.{Refusal}
 use Rattle.volcano.specs.declared.refusal.Refusal.TheVariants as refusal
 use Rattle.volcano.specs.Bundle.{Bundle, bundle_of_text}
 use Rattle.volcano.specs.Tables.{IsFilled, IsFirstMissing}
+use Rattle.volcano.specs.ByteRouter.{byte_route}
+use Rattle.volcano.specs.Unrunnable.{Unrunnable}
 use Rattle.volcano.specs.Status.{status_of}
 
 -- the plan of a bundle over a catalog
@@ -50,13 +58,20 @@ pub data Unaccepted (b : Bundle) (e : Refusal) : Type 0 where
   for_rule : (catalog : List Relation) (p : Resolved) (rule : rust_rule.Rule) (node : ℕ) → e ≡ refusal.Check rule node → catalog_of b.catalog ≡ Ok catalog → plan_for b catalog ≡ Ok p
       → refusal_in p ≡ Some (node, rule_of rule) → Unaccepted b e
 
--- the text answers a run of this plan over this database, set up as the bundle says: no plan is run yet
-abbrev pub IsRunOver : Resolved → Database → Bundle → List ℕ → Type 0
-IsRunOver p db b text = ⊥
+-- how a bundle sets a run up
+abbrev pub setup_of : Bundle → SetupForm
+setup_of b = record { sizes = b.sizes; packet = b.packet; morsel = b.morsel; slack = b.slack }
 
--- why a run of this plan over this database gives no text: none is run yet, or memory ran out
-abbrev pub RunRefuses : Resolved → Database → Bundle → Refusal → Type 0
-RunRefuses p db b e = (e ≡ refusal.Unfinished) ⊎ (e ≡ refusal.NoMemory)
+-- the text is that of the rows of a run of this plan over this database, set up as the bundle says, under the names of the plan's output
+abbrev pub IsRunOver : Resolved → Database → Bundle → List ℕ → Type 0
+IsRunOver p db b text =
+    (rows : Table) × (s : Sizes) × IsSetUp p db (setup_of b) s × IsRunOf byte_route p db s.groups rows × (text ≡ csv_text (columns p.root).names rows.rows)
+
+-- why a run of this plan over this database gives no text: its rounds were over, memory ran out, or it failed
+pub data RunRefuses (p : Resolved) (db : Database) (b : Bundle) (e : Refusal) : Type 0 where
+  for_rounds : e ≡ refusal.Unfinished → RunRefuses p db b e
+  for_want : e ≡ refusal.NoMemory → RunRefuses p db b e
+  for_fault : (fault : RunFault) → e ≡ refusal.Run fault → RunFails p db (setup_of b) fault → RunRefuses p db b e
 
 -- a database of a plan's catalog, with the rows that the bundle has of what the plan scans
 pub record IsDatabaseFor (p : Resolved) (b : Bundle) (db : Database) : Type 0 where
@@ -67,10 +82,11 @@ pub record IsDatabaseFor (p : Resolved) (b : Bundle) (db : Database) : Type 0 wh
 abbrev pub IsRun : Resolved → Bundle → List ℕ → Type 0
 IsRun p b text = (db : Database) × IsDatabaseFor p b db × IsRunOver p db b text
 
--- why this plan gives no text: the tables, then the run
+-- why this plan gives no text: a node that workers cannot run yet, then the tables, then the run
 pub data PlanRefuses (p : Resolved) (b : Bundle) (e : Refusal) : Type 0 where
-  for_tables : IsFirstMissing (plan_in p.root) b.tables p.names.catalog e → PlanRefuses p b e
-  for_run : (db : Database) → IsDatabaseFor p b db → RunRefuses p db b e → PlanRefuses p b e
+  for_node : Unrunnable (plan_in p.root) e → PlanRefuses p b e
+  for_tables : can_run (plan_in p.root) ≡ true → IsFirstMissing (plan_in p.root) b.tables p.names.catalog e → PlanRefuses p b e
+  for_run : can_run (plan_in p.root) ≡ true → (db : Database) → IsDatabaseFor p b db → RunRefuses p db b e → PlanRefuses p b e
 
 -- what the checker's answer is told as
 abbrev pub accepted_text : Bool → List ℕ

@@ -8,8 +8,8 @@ use Rattle.vx_plan.specs.declared.fault.PlanFault.{PlanFault}
 use Rattle.vx_plan.specs.declared.fault.PlanFault.TheVariants as plan
 use Rattle.vx_check.specs.declared.rule.Rule.{Rule}
 use Rattle.vx_check.specs.declared.rule.Rule.TheVariants as rule
-use Rattle.volcano.specs.declared.layers.RunFault.{RunFault}
-use Rattle.volcano.specs.declared.layers.RunFault.TheVariants as run
+use Rattle.vx_exec.specs.declared.fault.RunFault.{RunFault}
+use Rattle.vx_exec.specs.declared.fault.RunFault.TheVariants as run
 use Rattle.volcano.specs.declared.refusal.Refusal.{Refusal}
 use Rattle.volcano.specs.declared.refusal.Refusal.TheVariants as refusal
 
@@ -60,12 +60,13 @@ rule_status rule.OrderNeeded = 3
 rule_status rule.KeyNotShown = 3
 rule_status rule.TotalNotShown = 3
 
--- of a run: X1 to X4, X6, X12 and X14 are told before it begins, X7 to X11 end it
+-- of a run: X1 to X6, X12 and X14 are told before it begins (X5 by no bundle), X7 to X11 end it
 abbrev pub run_status : RunFault → ℕ
 run_status (run.SizeMissing name) = 3
 run_status (run.SizeOutOfRange name) = 3
 run_status run.BadPacket = 3
 run_status run.BadMorsel = 3
+run_status (run.BadStep index) = 3
 run_status run.OtherCatalog = 3
 run_status (run.Overflow node) = 4
 run_status run.NoMemory = 4

@@ -3,15 +3,17 @@
 
 mod answer;
 mod bundle;
-mod layers;
 mod look;
+mod page;
 mod refusal;
+mod router;
 mod run;
 mod status;
 mod store;
 mod tables;
 #[cfg(test)]
 mod tests;
+mod unrunnable;
 mod work;
 
 use answer::answer;

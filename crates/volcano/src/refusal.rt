@@ -1,12 +1,12 @@
 //! Why the program gives no text, and with which status it then ends.
 
-use crate::layers::RunFault;
 use std::alloc::{AllocError, AllocFailed};
 use std::fmt;
 use std::fmt::Write;
 use thiserror::Error;
 use vx_catalog::{CatalogFault, LoadFault};
 use vx_check::Rule;
+use vx_exec::RunFault;
 use vx_plan::PlanFault;
 use vx_rows::{ByteOut, write_all};
 

@@ -1,36 +1,90 @@
 //! Runs of plans over a bundle's tables.
 
-ghost use Rattle.std.specs.Prelude.{IfOk, IfErr};
-ghost use Rattle.vx_plan.specs.TypedView.{resolved_of};
+ghost use Rattle.std.specs.Prelude.{◌≡◌, true, map, IfOk, IfErr};
+ghost use Rattle.vx_catalog.specs.Csv.{csv_text};
+ghost use Rattle.vx_plan.specs.Outline.{columns};
+ghost use Rattle.vx_plan.specs.TypedView.{plan as plan_of_typed, resolved_of};
+ghost use Rattle.vx_check.specs.CheckedView.{typed_plan};
+ghost use Rattle.vx_exec.specs.Sizes.{can_run};
+ghost use Rattle.volcano.specs.Bundle.{size_form};
 ghost use Rattle.volcano.specs.BundleView.{bundle_form};
-ghost use Rattle.volcano.specs.Answer.{IsRunOver, RunRefuses, IsRun, PlanRefuses};
+ghost use Rattle.volcano.specs.Answer.{setup_of, IsRunOver, RunRefuses, IsRun, PlanRefuses};
 
 use crate::bundle::Bundle;
+use crate::page::Page;
 use crate::refusal::Refusal;
+use crate::router::ByteRouter;
 use crate::tables::load_tables;
-use std::alloc::Global;
-use vx_catalog::Database;
+use crate::unrunnable::test_runnable;
+use std::alloc::{AllocError, Global};
+use vx_catalog::{Database, write_rows};
+use vx_check::CheckedPlan;
+use vx_exec::{Ran, Setup, run_rounds};
 use vx_plan::TypedPlan;
+use vx_rows::Rows;
 
-/// The text of a run of a plan over a database, set up as a bundle says. This stands in for the run in rounds.
+/// The most rounds of a run.
+const MAX_ROUNDS: u64 = 1_000_000_000;
+
+/// Size names with their numbers of workers, in memory of their own.
+fn copied_sizes(alloc: Global, sizes: &[(String, u32)]) -> Result<Vec<(String, u32)>, AllocError>
+    ensures { IfOk result (λ v. map size_form v.items ≡ map size_form sizes.now) }
+{
+    let mut copies = Vec::new(alloc);
+    for (name, workers) in sizes {
+        copies.push((String::from_str(alloc, name.as_str())?, *workers))?;
+    }
+    Ok(copies)
+}
+
+/// How a bundle sets a run up.
+fn setup_of(alloc: Global, bundle: &Bundle<'_>) -> Result<Setup, AllocError>
+    ensures { IfOk result (λ s. s ≡ setup_of (bundle_form bundle.now)) }
+{
+    let sizes = copied_sizes(alloc, bundle.sizes())?;
+    Ok(Setup::new(sizes, bundle.packet(), bundle.morsel(), bundle.slack()))
+}
+
+/// The text of rows under the names of a plan's output.
+fn text_of(alloc: Global, plan: &TypedPlan, rows: &Rows) -> Result<Vec<u8>, AllocError>
+    ensures { IfOk result (λ v. v.items ≡ csv_text (columns (resolved_of plan.now).root).names rows.now.rows) }
+{
+    let names = plan.root().head().columns.names.as_slice();
+    let mut page = Page::new(alloc);
+    match write_rows(alloc, names, rows, &mut page) {
+        Ok(()) => Ok(page.into_bytes()),
+        Err(_) => Err(AllocError),
+    }
+}
+
+/// The text of a run of a plan over a database in rounds, set up as a bundle says.
 fn run_over(
-    _alloc: Global,
+    alloc: Global,
     bundle: &Bundle<'_>,
-    plan: &TypedPlan,
+    plan: &CheckedPlan,
     database: &Database,
 ) -> Result<Vec<u8>, Refusal>
-    ensures text { IfOk result (λ text. IsRunOver (resolved_of plan.now) database.now (bundle_form bundle.now) text.items) }
-    ensures refused { IfErr result (λ e. RunRefuses (resolved_of plan.now) database.now (bundle_form bundle.now) e) }
+    requires { can_run (plan_of_typed (typed_plan plan.now)) ≡ true }
+    ensures text { IfOk result (λ text. IsRunOver (resolved_of (typed_plan plan.now)) database.now (bundle_form bundle.now) text.items) }
+    ensures refused { IfErr result (λ e. RunRefuses (resolved_of (typed_plan plan.now)) database.now (bundle_form bundle.now) e) }
 {
-    Err(Refusal::Unfinished)
+    let setup = setup_of(alloc, bundle)?;
+    match run_rounds(alloc, plan, database, &setup, &ByteRouter, MAX_ROUNDS) {
+        Ok(Ran::Done(rows)) => Ok(text_of(alloc, plan.plan(), &rows)?),
+        Ok(Ran::Unfinished) => Err(Refusal::Unfinished),
+        Err(fault) => Err(Refusal::Run(fault)),
+    }
 }
 
 /// The text of a run of a plan over the tables of its bundle.
-pub fn run_plan(alloc: Global, bundle: &Bundle<'_>, plan: &TypedPlan) -> Result<Vec<u8>, Refusal>
-    ensures text { IfOk result (λ text. IsRun (resolved_of plan.now) (bundle_form bundle.now) text.items) }
-    ensures refused { IfErr result (λ e. PlanRefuses (resolved_of plan.now) (bundle_form bundle.now) e) }
+pub fn run_plan(alloc: Global, bundle: &Bundle<'_>, plan: &CheckedPlan) -> Result<Vec<u8>, Refusal>
+    ensures text { IfOk result (λ text. IsRun (resolved_of (typed_plan plan.now)) (bundle_form bundle.now) text.items) }
+    ensures refused { IfErr result (λ e. PlanRefuses (resolved_of (typed_plan plan.now)) (bundle_form bundle.now) e) }
 {
-    let database = match load_tables(alloc, plan, bundle) {
+    if let Err(refusal) = test_runnable(alloc, plan.plan()) {
+        return Err(refusal);
+    }
+    let database = match load_tables(alloc, plan.plan(), bundle) {
         Ok(database) => database,
         Err(refusal) => return Err(refusal),
     };

@@ -3,10 +3,10 @@
 ghost use Rattle.std.specs.Prelude.{◌≡◌, ◌⊎◌};
 ghost use Rattle.volcano.specs.Status.{catalog_status, load_status, plan_status, rule_status, run_status, status_of};
 
-use crate::layers::RunFault;
 use crate::refusal::Refusal;
 use vx_catalog::{CatalogFault, LoadFault};
 use vx_check::Rule;
+use vx_exec::RunFault;
 use vx_plan::PlanFault;
 
 fn catalog_status(fault: &CatalogFault) -> u8
@@ -80,6 +80,7 @@ fn run_status(fault: &RunFault) -> u8
         | RunFault::SizeOutOfRange { .. }
         | RunFault::BadPacket
         | RunFault::BadMorsel
+        | RunFault::BadStep { .. }
         | RunFault::OtherCatalog
         | RunFault::TooManyWorkers { .. }
         | RunFault::BadSlack => 3,

@@ -4,17 +4,19 @@ ghost use Rattle.std.specs.Prelude.{None};
 
 use crate::answer::{answer, deliver};
 use crate::bundle::{Command, Mode, bundle_in};
-use crate::layers::RunFault;
 use crate::refusal::{Refusal, tell};
+use crate::router::ByteRouter;
 use crate::store::Store;
-use serde_json::Value;
+use serde_json::Value as Json;
 use std::alloc::Global;
 use std::sync::Wait;
 use std::test::Fail;
 use std::thread::Threads;
 use vx_catalog::LoadFault;
 use vx_check::Rule;
-use vx_rows::{MemoryIn, MemoryOut};
+use vx_exec::RunFault;
+use vx_plan::Router;
+use vx_rows::{MemoryIn, MemoryOut, Value};
 
 const FIRST: &str =
     r#"{"command":"run","catalog":{"relations":[{"name":"t","columns":[{"name":"id","type":"int"},{"name":"k","type":"text"},{"name":"v","type":"int"}],"keys":[["id"]],"order":["id"]}]},"plan":{"sizes":["many"],"root":{"op":"exchange","kind":"gather","claim":{"part":"one"},"input":{"op":"select","where":[{"column":"v","op":"=","value":7}],"input":{"op":"scan","relation":"t","mode":"shared","size":"many"}}}},"tables":{"t":"id,k,v\n0,a,5\n1,b,7\n2,a,-2\n3,c,7\n"},"sizes":{"many":3},"packet":1,"morsel":1,"slack":4,"mode":"rounds"}"#;
@@ -163,6 +165,99 @@ fn parts_of_a_bundle_have_their_lines(rt: HostRuntime) -> Result<(), Fail> {
 }
 
 #[test]
+fn a_plan_is_run(rt: HostRuntime) -> Result<(), Fail> {
+    let line = line_for(&rt, &[], FIRST.as_bytes(), None)?;
+    assert_eq!(rt; line.as_str(), "id,k,v\n3,c,7\n1,b,7\n0");
+    Ok(())
+}
+
+#[test]
+fn an_empty_table_gives_the_header_alone(rt: HostRuntime) -> Result<(), Fail> {
+    let text = FIRST.replace(rt.alloc(), r#"0,a,5\n1,b,7\n2,a,-2\n3,c,7\n"#, "")?;
+    let line = line_for(&rt, &[], text.as_bytes(), None)?;
+    assert_eq!(rt; line.as_str(), "id,k,v\n0");
+    Ok(())
+}
+
+#[test]
+fn a_root_of_many_workers_is_refused(rt: HostRuntime) -> Result<(), Fail> {
+    let text = FIRST.replace(
+        rt.alloc(),
+        r#"{"op":"exchange","kind":"gather","claim":{"part":"one"},"input":{"op":"select","where":[{"column":"v","op":"=","value":7}],"input":{"op":"scan","relation":"t","mode":"shared","size":"many"}}}"#,
+        r#"{"op":"scan","relation":"t","mode":"shared","size":"many"}"#,
+    )?;
+    let line = line_for(&rt, &[], text.as_bytes(), None)?;
+    assert_eq!(rt; line.as_str(), "volcano: K2 RootNotOne node=0\n3");
+    Ok(())
+}
+
+#[test]
+fn runs_that_are_set_up_wrongly_have_their_lines(rt: HostRuntime) -> Result<(), Fail> {
+    for (from, to, line) in [
+        (
+            r#""many":3"#,
+            r#""few":3"#,
+            "volcano: X1 SizeMissing name=many\n3",
+        ),
+        (
+            r#""many":3"#,
+            r#""many":0"#,
+            "volcano: X2 SizeOutOfRange name=many\n3",
+        ),
+        (
+            r#""many":3"#,
+            r#""many":65"#,
+            "volcano: X2 SizeOutOfRange name=many\n3",
+        ),
+        (
+            r#""packet":1"#,
+            r#""packet":4097"#,
+            "volcano: X3 BadPacket\n3",
+        ),
+        (r#""morsel":1"#, r#""morsel":0"#, "volcano: X4 BadMorsel\n3"),
+        (
+            r#""slack":4"#,
+            r#""slack":1025"#,
+            "volcano: X14 BadSlack\n3",
+        ),
+    ] {
+        let text = FIRST.replace(rt.alloc(), from, to)?;
+        assert_eq!(rt; line_for(&rt, &[], text.as_bytes(), None)?.as_str(), line);
+    }
+    Ok(())
+}
+
+#[test]
+fn nodes_that_do_not_run_yet_are_refused(rt: HostRuntime) -> Result<(), Fail> {
+    let text = FIRST.replace(
+        rt.alloc(),
+        r#""op":"scan","#,
+        r#""op":"sort","columns":["id"],"input":{"op":"scan","#,
+    )?;
+    let text = text.replace(rt.alloc(), r#""size":"many"}"#, r#""size":"many"}}"#)?;
+    let line = line_for(&rt, &[], text.as_bytes(), None)?;
+    assert_eq!(rt;
+        line.as_str(),
+        "volcano: P2 BadNode path=root.input.input\n3"
+    );
+    Ok(())
+}
+
+#[test]
+fn keys_are_sent_by_their_bytes(rt: HostRuntime) -> Result<(), Fail> {
+    for (key, place) in [("a", 0), ("b", 1), ("c", 2)] {
+        let key = Value::Text(String::from_str(rt.alloc(), key)?);
+        assert_eq!(rt; ByteRouter.route("h", &[key], 3), place);
+    }
+    let key = [
+        Value::Int(-2),
+        Value::Text(String::from_str(rt.alloc(), "é")?),
+    ];
+    assert_eq!(rt; ByteRouter.route("r", &key, 1000), 291);
+    Ok(())
+}
+
+#[test]
 fn plans_are_checked_and_explained(rt: HostRuntime) -> Result<(), Fail> {
     for (command, text) in [
         (r#""command":"check""#, "accepted\n0"),
@@ -181,7 +276,7 @@ fn plans_are_checked_and_explained(rt: HostRuntime) -> Result<(), Fail> {
 fn members_left_out_have_defaults(rt: HostRuntime) -> Result<(), Fail> {
     let text =
         r#"{"command":"explain","catalog":0,"plan":[],"tables":{"a":"x"},"sizes":{"n":4294967295}}"#;
-    let value = Value::from_str(rt.alloc(), text)?;
+    let value = Json::from_str(rt.alloc(), text)?;
     let bundle = bundle_in(rt.alloc(), &value)?.ok_or("a bundle")?;
     assert_eq!(rt; bundle.command(), Command::Explain);
     assert_eq!(rt; bundle.mode(), Mode::Rounds);

@@ -64,7 +64,7 @@ fn text_for(alloc: Global, bundle: &Bundle<'_>, checked: &CheckedPlan) -> Result
     ensures refused { IfErr result (λ e. Refuses (bundle_form bundle.now) e) }
 {
     match bundle.command() {
-        Command::Run => run_plan(alloc, bundle, checked.plan()),
+        Command::Run => run_plan(alloc, bundle, checked),
         Command::Check => Ok(accepted_text(alloc, checked.is_total())?),
         Command::Explain => Ok(explain(alloc, checked)?.into_bytes()),
         Command::Serial => unreachable!(),

@@ -1,13 +1,22 @@
-use Rattle.vx_plan.specs.TypedView.{resolved_of}
+use Rattle.std.proofs.Common.{◌≡◌, true}
+use Rattle.vx_plan.specs.TypedView.{plan as plan_of_typed, resolved_of}
+use Rattle.vx_check.specs.CheckedView.{typed_plan}
+use Rattle.vx_exec.specs.Sizes.{can_run}
 use Rattle.volcano.specs.BundleView.{bundle_form}
-use Rattle.volcano.specs.Answer.{for_tables}
+use Rattle.volcano.specs.Answer.{for_node, for_tables}
 use Rattle.volcano.proofs.Refusing.{run_refused}
 use Rattle.volcano.proofs.run.run_plan.Goals as goal
 
 pub returns-in-Err-clause-refused : goal.returns-in-Err-clause-refused
-returns-in-Err-clause-refused c = for_tables c.in-Err.ensures.refused
+returns-in-Err-clause-refused c = for_node (rw c.plan.ensures.same at c.in-Err.ensures.refused)
+
+pub returns-in-Err-load_tables-clause-refused : goal.returns-in-Err-load_tables-clause-refused
+returns-in-Err-load_tables-clause-refused c =
+    let runs : can_run (plan_of_typed (typed_plan c.args.plan.now)) ≡ true = rw c.plan.ensures.same at c.in_default.ensures.runs in
+    for_tables runs (rw c.plan-2.ensures.same at c.in-Err-load_tables.ensures.refused)
 
 pub returns-clause-refused : goal.returns-clause-refused
 returns-clause-refused c =
-    run_refused c.run_over.result (resolved_of c.args.plan.now) (bundle_form c.args.bundle.now) c.in-Ok.database
-    (record { same = c.in-Ok.ensures.catalog; filled = c.in-Ok.ensures.filled }) c.run_over.ensures.refused
+    let runs : can_run (plan_of_typed (typed_plan c.args.plan.now)) ≡ true = rw c.plan.ensures.same at c.in_default.ensures.runs in
+    run_refused c.run_over.result (resolved_of (typed_plan c.args.plan.now)) (bundle_form c.args.bundle.now) c.in-Ok.database runs
+    (record { same = rw c.plan-2.ensures.same at c.in-Ok.ensures.catalog; filled = rw c.plan-2.ensures.same at c.in-Ok.ensures.filled }) c.run_over.ensures.refused
