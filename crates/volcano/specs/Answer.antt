@@ -11,9 +11,9 @@ use Rattle.vx_catalog.specs.Csv.{csv_text}
 use Rattle.vx_catalog.specs.Database.{Database}
 use Rattle.vx_plan.specs.Outline.{columns, plan_in}
 use Rattle.vx_plan.specs.Resolve.{Resolved, resolved}
-use Rattle.vx_plan.specs.Fault.{◌>>=◌}
-use Rattle.vx_plan.specs.Reading.{document_in}
-use Rattle.vx_plan.specs.Fault as plan
+use Rattle.vx_document.specs.Fault.{◌>>=◌}
+use Rattle.vx_document.specs.Reading.{document_in}
+use Rattle.vx_document.specs.Fault as plan
 use Rattle.vx_check.specs.Refusal.{Rule, refusal}
 use Rattle.vx_check.specs.RuleView.{rule_of}
 use Rattle.vx_check.specs.Explain.{explain_text}
@@ -23,7 +23,7 @@ use Rattle.vx_exec.specs.Setup.{SetupForm}
 use Rattle.vx_exec.specs.Runs.{IsRunOf, IsSetUp, RunFails}
 use Rattle.vx_exec.specs.declared.fault.RunFault.{RunFault}
 use Rattle.vx_catalog.specs.declared.fault.CatalogFault.{CatalogFault}
-use Rattle.vx_plan.specs.declared.fault.PlanFault.{PlanFault}
+use Rattle.vx_document.specs.declared.fault.PlanFault.{PlanFault}
 use Rattle.volcano.specs.declared.bundle.Command.{Command}
 use Rattle.volcano.specs.declared.bundle.Command.TheVariants as command
 use Rattle.volcano.specs.declared.bundle.Mode.{Mode}

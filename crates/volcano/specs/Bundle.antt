@@ -5,7 +5,7 @@ use Rattle.std.specs.Str.{is_utf8}
 use Rattle.serde_json.specs.Data.{Data, Members, no_members, member}
 use Rattle.serde_json.specs.Find.{get, as_str, as_object, as_number, as_u64}
 use Rattle.serde_json.specs.Read.{read}
-use Rattle.vx_plan.specs.Look.{has_only, or_default}
+use Rattle.vx_document.specs.Look.{has_only, or_default}
 use Rattle.volcano.specs.declared.bundle.Command.{Command}
 use Rattle.volcano.specs.declared.bundle.Command.TheVariants as command
 use Rattle.volcano.specs.declared.bundle.Mode.{Mode}

@@ -4,8 +4,8 @@ use Rattle.vx_catalog.specs.declared.fault.CatalogFault.{CatalogFault}
 use Rattle.vx_catalog.specs.declared.fault.CatalogFault.TheVariants as catalog
 use Rattle.vx_catalog.specs.declared.fault.LoadFault.{LoadFault}
 use Rattle.vx_catalog.specs.declared.fault.LoadFault.TheVariants as load
-use Rattle.vx_plan.specs.declared.fault.PlanFault.{PlanFault}
-use Rattle.vx_plan.specs.declared.fault.PlanFault.TheVariants as plan
+use Rattle.vx_document.specs.declared.fault.PlanFault.{PlanFault}
+use Rattle.vx_document.specs.declared.fault.PlanFault.TheVariants as plan
 use Rattle.vx_check.specs.declared.rule.Rule.{Rule}
 use Rattle.vx_check.specs.declared.rule.Rule.TheVariants as rule
 use Rattle.vx_exec.specs.declared.fault.RunFault.{RunFault}

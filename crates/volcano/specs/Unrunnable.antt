@@ -2,7 +2,7 @@
 use Rattle.std.specs.Prelude.{ℕ, ◌≡◌, List, [], ◌++◌, codes, false, Option, Some, None, String, string_bytes}
 use Rattle.std.specs.declared.alloc.Global.{Global}
 use Rattle.vx_plan.specs.Plan.{Plan, scan, unary, binary, exchange, select, gather}
-use Rattle.vx_plan.specs.declared.fault.PlanFault.TheVariants as plan
+use Rattle.vx_document.specs.declared.fault.PlanFault.TheVariants as plan
 use Rattle.vx_exec.specs.Sizes.{can_run}
 use Rattle.volcano.specs.declared.refusal.Refusal.{Refusal}
 use Rattle.volcano.specs.declared.refusal.Refusal.TheVariants as refusal

@@ -4,8 +4,8 @@ ghost use Rattle.std.specs.Prelude.{◌≡◌, [], map, string_bytes, codes, opt
 ghost use Rattle.std.specs.List.{find};
 ghost use Rattle.serde_json.specs.Find.{get, as_str};
 ghost use Rattle.serde_json.specs.View.{view, members_view};
-ghost use Rattle.vx_plan.specs.Look.{or_default};
-ghost use Rattle.vx_plan.specs.Fault.{Reads};
+ghost use Rattle.vx_document.specs.Look.{or_default};
+ghost use Rattle.vx_document.specs.Fault.{Reads};
 ghost use Rattle.volcano.specs.Bundle.{size_form, command_in, mode_in, number_in, each_member, members_in, setting_in, bundle_in, value_of_text};
 ghost use Rattle.volcano.specs.BundleView.{table_form, bundle_form};
 

@@ -4,7 +4,7 @@ ghost use Rattle.std.specs.Prelude.{◌≡◌, map, string_bytes};
 ghost use Rattle.std.specs.List.{list_all};
 ghost use Rattle.std.specs.BTreeMap.{keys};
 ghost use Rattle.serde_json.specs.View.{view};
-ghost use Rattle.vx_plan.specs.Look.{is_among, has_only};
+ghost use Rattle.vx_document.specs.Look.{is_among, has_only};
 
 use serde_json::{Map, Value};
 

@@ -1,7 +1,7 @@
 //! Plans that workers cannot run yet.
 
 ghost use Rattle.std.specs.Prelude.{◌≡◌, ◌++◌, true, codes, string_bytes, IfOk, OnOk, IfErr};
-ghost use Rattle.vx_plan.specs.Fault.{Reads};
+ghost use Rattle.vx_document.specs.Fault.{Reads};
 ghost use Rattle.vx_plan.specs.Outline.{plan_of};
 ghost use Rattle.vx_plan.specs.TypedView.{plan as plan_of_typed};
 ghost use Rattle.vx_exec.specs.Sizes.{can_run};

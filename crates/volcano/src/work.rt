@@ -2,7 +2,7 @@
 
 ghost use Rattle.std.specs.Prelude.{◌≡◌, true, IfOk, IfErr};
 ghost use Rattle.volcano.specs.BundleView.{bundle_form};
-ghost use Rattle.vx_plan.specs.Fault.{Gives};
+ghost use Rattle.vx_document.specs.Fault.{Gives};
 ghost use Rattle.vx_plan.specs.TypedView.{resolved_of};
 ghost use Rattle.vx_check.specs.CheckedView.{typed_plan};
 ghost use Rattle.volcano.specs.Answer.{plan_for, IsAccepted, Unaccepted, accepted_text, is_taken, IsFor, IsOutput, PlanRefuses, Refuses, IsAnswer, IsRefused};

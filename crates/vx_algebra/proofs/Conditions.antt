@@ -6,7 +6,7 @@ use Rattle.vx_rows.specs.Values.{Row, val_cmp, value_at}
 use Rattle.vx_plan.specs.Plan.{Condition as PlanCondition}
 use Rattle.vx_plan.specs.Serial.{side, answers, passes}
 use Rattle.vx_plan.specs.Conditions.{conditions_of}
-use Rattle.vx_plan.specs.Document.{test_of}
+use Rattle.vx_document.specs.Document.{test_of}
 use Rattle.vx_plan.specs.Outline.{condition_of, side_of}
 use Rattle.vx_plan.specs.declared.typed.Condition.{Condition}
 

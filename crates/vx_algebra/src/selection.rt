@@ -4,7 +4,7 @@ ghost use Rattle.std.specs.Prelude.{◌≡◌, ◌<◌, length, IfOk, filter};
 ghost use Rattle.vx_rows.specs.View.{row};
 ghost use Rattle.vx_plan.specs.Serial.{passes, side, answers};
 ghost use Rattle.vx_plan.specs.Conditions.{conditions_of};
-ghost use Rattle.vx_plan.specs.Document.{test_of};
+ghost use Rattle.vx_document.specs.Document.{test_of};
 ghost use Rattle.vx_plan.specs.Outline.{side_of};
 ghost use Rattle.vx_rows.specs.View.{cell_val};
 

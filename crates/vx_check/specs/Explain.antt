@@ -6,7 +6,7 @@ use Rattle.serde_json.specs.Written.{compact_text}
 use Rattle.vx_rows.specs.Values.{Val, num, text}
 use Rattle.vx_catalog.specs.Catalog.{relation_at}
 use Rattle.vx_plan.specs.Plan.{Size, one_worker, group_of, Route, by_hash, by_range, Part, one, any, all, routed, Claim, Side, column, constant, Test, equal, unequal, below, at_most, above, at_least, Condition, Aggregate, least, greatest, sum, count_rows, Unary, select, project, distinct, sort, group, Binary, union, join, Kind, route_to, round, broadcast, gather, size}
-use Rattle.vx_plan.specs.Document.{Name}
+use Rattle.vx_document.specs.Document.{Name}
 use Rattle.vx_plan.specs.Lookup.{Names}
 use Rattle.vx_plan.specs.Outline.{Outline, scan, unary, binary, exchange, top, columns, plan_in}
 

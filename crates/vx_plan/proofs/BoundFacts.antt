@@ -6,8 +6,8 @@ use Rattle.std.proofs.lemmas.List.{drop_all, get_or-map, length-map}
 use Rattle.vx_rows.specs.Values.{Val, val_cmp}
 use Rattle.vx_rows.specs.View.{val_of}
 use Rattle.vx_rows.specs.declared.value.Value.{Value}
-use Rattle.vx_plan.specs.declared.plan.NamedRange.{NamedRange}
-use Rattle.vx_plan.specs.Document.{RangeForm, range_form}
+use Rattle.vx_document.specs.declared.plan.NamedRange.{NamedRange}
+use Rattle.vx_document.specs.Document.{RangeForm, range_form}
 use Rattle.vx_plan.specs.Typed.{rises, bounds_at, type_eq, types_eq}
 use Rattle.vx_rows.specs.declared.value.ColType.{ColType}
 use Rattle.vx_plan.proofs.NameFacts.{list_all-map}

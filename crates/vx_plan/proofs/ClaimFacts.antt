@@ -9,14 +9,14 @@ use Rattle.vx_rows.specs.Types.{type_at}
 use Rattle.vx_plan.specs.Plan.{Size, one_worker, group_of, Route, by_hash, by_range, Part, routed, Claim}
 use Rattle.vx_plan.specs.Plan as plan
 use Rattle.vx_plan.specs.Typed.{Scope, is_some_list, are_columns, is_size, is_routed, is_part, is_claim, range_type, bounds_at, type_eq}
-use Rattle.vx_plan.specs.Document.{Name, RangeForm, PartForm, hash_part, range_part, ClaimForm}
-use Rattle.vx_plan.specs.Document as form
+use Rattle.vx_document.specs.Document.{Name, RangeForm, PartForm, hash_part, range_part, ClaimForm}
+use Rattle.vx_document.specs.Document as form
 use Rattle.vx_plan.specs.Outline.{Columns, Top}
-use Rattle.vx_plan.specs.Fault.{Refusal, too_wide, ◌>>=◌}
+use Rattle.vx_document.specs.Fault.{Refusal, too_wide, ◌>>=◌}
 use Rattle.vx_plan.specs.Lookup.{Names, scope_of, column_found, columns_found, keys_found, once, keys_once, matched, narrow, size_or, size_found, range_or, range_found}
 use Rattle.vx_plan.specs.Resolve.{part_found, part_names, part_fits, claim_columns, claim_once, claim_found, topped}
-use Rattle.vx_plan.specs.Formed.{are_names, are_some_names, is_part_form, is_claim_form}
-use Rattle.vx_plan.proofs.Holds.{and-left, and-right, and-both, Holds, holds_then}
+use Rattle.vx_document.specs.Formed.{are_names, are_some_names, is_part_form, is_claim_form}
+use Rattle.vx_document.proofs.Holds.{and-left, and-right, and-both, Holds, holds_then}
 use Rattle.vx_plan.proofs.Apart.{apart, once-apart}
 use Rattle.vx_plan.proofs.FoundFacts.{AreColumns, IsColumn, AreKeys, column-found, columns-found, keys-found, keys_once-apart, once-columns, once-keys, some-columns}
 

@@ -12,7 +12,7 @@ use Rattle.vx_plan.specs.Erase.{no_claim, nodes_left, erase_from, erase}
 use Rattle.vx_plan.specs.Outline as outline
 use Rattle.vx_plan.specs.Outline.{Outline, plan_in}
 use Rattle.vx_plan.specs.Erased.{erased_from}
-use Rattle.vx_plan.proofs.Holds.{and-left, and-right, and-both}
+use Rattle.vx_document.proofs.Holds.{and-left, and-right, and-both}
 
 erased-types : (catalog : ℕ → Relation) (i : ℕ) (p : Plan) → types_of catalog (erase_from i p) ≡ types_of catalog p
 erased-types catalog i (scan n c r m z) = refl

@@ -1,15 +1,7 @@
-pub mod LookFacts
-pub mod EachFacts
-pub mod NodeFacts
-pub mod NodeCounts
-pub mod TextFacts
 pub mod NameFacts
 pub mod WalkFacts
 pub mod TestFacts
 pub mod BoundFacts
-pub mod Holds
-pub mod FormedFacts
-pub mod OwnFacts
 pub mod Apart
 pub mod FoundFacts
 pub mod ClaimFacts

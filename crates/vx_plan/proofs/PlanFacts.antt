@@ -13,14 +13,14 @@ use Rattle.vx_plan.specs.Plan as plan
 use Rattle.vx_plan.specs.Types.{types_of, unary_types, binary_types}
 use Rattle.vx_plan.specs.Typed.{Scope, is_size, is_unary, is_binary, is_kind, is_claim, is_output, is_range, are_columns, typed, IsTyped}
 use Rattle.vx_plan.specs.Numbering.{nodes, is_numbered}
-use Rattle.vx_plan.specs.Document.{Name, ClaimForm, ScanForm, UnaryForm, BinaryForm, KindForm, Tree, Document, RangeForm}
-use Rattle.vx_plan.specs.Document as form
+use Rattle.vx_document.specs.Document.{Name, ClaimForm, ScanForm, UnaryForm, BinaryForm, KindForm, Tree, Document, RangeForm}
+use Rattle.vx_document.specs.Document as form
 use Rattle.vx_plan.specs.Outline.{Columns, Top, Outline, scan, unary, binary, exchange, columns, plan_in}
-use Rattle.vx_plan.specs.Fault.{Refusal, bad_size, bad_range, ◌>>=◌}
+use Rattle.vx_document.specs.Fault.{Refusal, bad_size, bad_range, ◌>>=◌}
 use Rattle.vx_plan.specs.Lookup.{Names, scope_of, tested_onto, size_found}
 use Rattle.vx_plan.specs.Resolve.{scan_columns, relation_or, relation_found, scan_typed, topped, Shape, unary_shape, unary_typed, Joint, binary_shape, binary_typed, exchange_shape, exchange_typed, typed_in, is_bad_size, sizes_tested, is_bad_range, ranges_tested}
-use Rattle.vx_plan.specs.Formed.{are_names, is_claim_form, is_scan_form, is_unary_form, is_binary_form, is_kind_form, is_tree_form}
-use Rattle.vx_plan.proofs.Holds.{and-left, and-right, and-both, Holds, holds_then, holds_at}
+use Rattle.vx_document.specs.Formed.{are_names, is_claim_form, is_scan_form, is_unary_form, is_binary_form, is_kind_form, is_tree_form}
+use Rattle.vx_document.proofs.Holds.{and-left, and-right, and-both, Holds, holds_then, holds_at}
 use Rattle.vx_plan.proofs.ClaimFacts.{size-holds, IsTop, top-holds}
 use Rattle.vx_plan.proofs.ShapeFacts.{IsOutput, IsShape, shape-holds, IsJoint, joint-holds, IsExchange, exchange-holds}
 

@@ -1,12 +1,12 @@
 -- Steps of a loop that looks up names one after the other.
 use Rattle.std.proofs.Common.{◌≡◌, ℕ, ◌+◌, ◌<◌, ◌≤◌, List, [], ◌∷◌, ◌++◌, Result, Ok, Err, refl, sym, ap, ◌∙◌, map, get_or, drop, length, drop-cons, add-one, subst}
 use Rattle.std.proofs.lemmas.List.{drop_all}
-use Rattle.vx_plan.specs.declared.fault.PlanFault.{PlanFault}
-use Rattle.vx_plan.specs.Fault.{Refusal, ◌>>=◌, Fails}
+use Rattle.vx_document.specs.declared.fault.PlanFault.{PlanFault}
+use Rattle.vx_document.specs.Fault.{Refusal, ◌>>=◌, Fails}
 use Rattle.vx_plan.specs.Lookup.{walk_onto, once, keys_once}
-use Rattle.vx_plan.specs.Document.{Name}
+use Rattle.vx_document.specs.Document.{Name}
 use Rattle.std.specs.Prelude.{⊤}
-use Rattle.vx_plan.proofs.NodeFacts.{fails_then}
+use Rattle.vx_document.proofs.NodeFacts.{fails_then}
 
 walk_step : {A B X : Type 0} (f : A → Result B Refusal) (look : X → A) (front : List B) (xs : List X) (k : ℕ) (x : X) → k < length xs → x ≡ get_or xs k x
     → walk_onto f front (map look (drop k xs)) ≡ (f (look x) >>= λ y. walk_onto f (front ++ y ∷ []) (map look (drop (k + 1) xs)))

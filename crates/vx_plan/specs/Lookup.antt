@@ -4,8 +4,8 @@ use Rattle.std.specs.List.{list_any}
 use Rattle.vx_catalog.specs.Relation.{Relation}
 use Rattle.vx_plan.specs.Plan.{Size, one_worker, group_of}
 use Rattle.vx_plan.specs.Typed.{Scope}
-use Rattle.vx_plan.specs.Document.{Name, RangeForm}
-use Rattle.vx_plan.specs.Fault.{Refusal, unknown_column, duplicate_column, type_mismatch, unknown_range, bad_size, too_wide, ◌>>=◌}
+use Rattle.vx_document.specs.Document.{Name, RangeForm}
+use Rattle.vx_document.specs.Fault.{Refusal, unknown_column, duplicate_column, type_mismatch, unknown_range, bad_size, too_wide, ◌>>=◌}
 
 -- what the nodes of a plan may name
 pub record Names : Type 0 where

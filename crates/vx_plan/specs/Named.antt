@@ -1,7 +1,7 @@
 -- What the nodes of a plan may name, as the program holds it.
 use Rattle.std.specs.Prelude.{map, string_bytes}
 use Rattle.vx_plan.specs.declared.lookup.Declared.{Declared}
-use Rattle.vx_plan.specs.Document.{range_form}
+use Rattle.vx_document.specs.Document.{range_form}
 use Rattle.vx_plan.specs.Lookup.{Names}
 
 abbrev pub names_of : Declared → Names

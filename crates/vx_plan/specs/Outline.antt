@@ -6,7 +6,7 @@ use Rattle.vx_rows.specs.View.{val_of}
 use Rattle.vx_catalog.specs.Relation.{Relation}
 use Rattle.vx_plan.specs.Plan.{Size, one_worker, group_of, Route, by_hash, by_range, Part, one, any, all, routed, Claim, Side, column, constant, Condition, Aggregate, least, greatest, sum, count_rows, Unary, select, project, distinct, sort, group, Binary, union, join, Kind, route_to, round, broadcast, gather, Plan}
 use Rattle.vx_plan.specs.Plan as plan
-use Rattle.vx_plan.specs.Document.{Name, RangeForm, test_of}
+use Rattle.vx_document.specs.Document.{Name, RangeForm, test_of}
 use Rattle.vx_plan.specs.Typed.{Scope}
 use Rattle.vx_plan.specs.declared.typed.Size as rust_size
 use Rattle.vx_plan.specs.declared.typed.Size.TheVariants as size

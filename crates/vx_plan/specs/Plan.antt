@@ -1,6 +1,7 @@
 -- Typed plans: columns by position, nodes by their numbers in preorder. The exchange is Graefe's: producers below it, consumers above it.
 use Rattle.std.specs.Prelude.{ℕ, ◌==◌, Bool, true, false, List}
 use Rattle.vx_rows.specs.Values.{Val}
+pub use Rattle.vx_document.specs.Test.{Test, equal, unequal, below, at_most, above, at_least}
 
 -- the number of workers: one, or that of a declared size name
 pub data Size : Type 0 where
@@ -29,15 +30,6 @@ pub record Claim : Type 0 where
 pub data Side : Type 0 where
   column : ℕ → Side
   constant : Val → Side
-
--- how a condition compares its sides
-pub data Test : Type 0 where
-  equal : Test
-  unequal : Test
-  below : Test
-  at_most : Test
-  above : Test
-  at_least : Test
 
 -- a column compared with a column or a constant
 pub record Condition : Type 0 where

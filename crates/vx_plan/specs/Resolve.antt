@@ -9,11 +9,11 @@ use Rattle.vx_plan.specs.Plan.{Size, Route, by_hash, by_range, Part, routed, Cla
 use Rattle.vx_plan.specs.Plan as plan
 use Rattle.vx_plan.specs.Types.{aggregate_type}
 use Rattle.vx_plan.specs.Typed.{bounds_at, type_eq, types_eq, range_type, is_range, is_condition, is_aggregate, is_pair}
-use Rattle.vx_plan.specs.Document.{Name, RangeForm, PartForm, hash_part, range_part, ClaimForm, SideForm, ConditionForm, OutputForm, FunctionForm, AggregateForm, ScanForm, UnaryForm, BinaryForm, KindForm, Tree, Document}
-use Rattle.vx_plan.specs.Document as form
+use Rattle.vx_document.specs.Document.{Name, RangeForm, PartForm, hash_part, range_part, ClaimForm, SideForm, ConditionForm, OutputForm, FunctionForm, AggregateForm, ScanForm, UnaryForm, BinaryForm, KindForm, Tree, Document}
+use Rattle.vx_document.specs.Document as form
 use Rattle.vx_plan.specs.Outline.{Columns, Top, Outline, scan, unary, binary, exchange, columns}
 use Rattle.vx_plan.specs.declared.typed.Kept.{Kept}
-use Rattle.vx_plan.specs.Fault.{Refusal, unknown_relation, bad_range, bad_size, ◌>>=◌}
+use Rattle.vx_document.specs.Fault.{Refusal, unknown_relation, bad_range, bad_size, ◌>>=◌}
 use Rattle.vx_plan.specs.Lookup.{Names, scope_of, walk_onto, tested_onto, column_found, columns_found, keys_found, once, pairs_once, keys_once, matched, narrow, size_found, range_found}
 
 -- ---- claims

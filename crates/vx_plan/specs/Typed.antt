@@ -1,4 +1,5 @@
 -- Typed plans: each node names what there is, and compares, sums and routes what has the type for it.
+pub use Rattle.vx_document.specs.Look.{is_some_list}
 use Rattle.std.specs.Prelude.{◌≡◌, ℕ, ◌==◌, nat_lt, nat_le, Bool, true, false, not, ◌&&◌, ◌||◌, List, [], ◌∷◌, length, slice_index_or}
 use Rattle.std.specs.List.{list_all, list_any}
 use Rattle.std.specs.Ordering.{is_lt}
@@ -35,11 +36,6 @@ types_eq [] [] = true
 types_eq [] (u ∷ us) = false
 types_eq (t ∷ ts) [] = false
 types_eq (t ∷ ts) (u ∷ us) = type_eq t u && types_eq ts us
-
--- the list has an entry
-abbrev pub is_some_list : {X : Type 0} → List X → Bool
-is_some_list [] = false
-is_some_list (x ∷ xs) = true
 
 -- columns of the first w, none of them twice
 abbrev pub are_columns : ℕ → List ℕ → Bool

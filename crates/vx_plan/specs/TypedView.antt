@@ -3,7 +3,7 @@ use Rattle.std.specs.Prelude.{map, string_bytes}
 use Rattle.vx_plan.specs.declared.typed_plan.TypedPlan.{TypedPlan}
 use Rattle.vx_plan.specs.Plan.{Plan}
 use Rattle.vx_plan.specs.Typed.{Scope}
-use Rattle.vx_plan.specs.Document.{range_form}
+use Rattle.vx_document.specs.Document.{range_form}
 use Rattle.vx_plan.specs.Lookup.{Names, scope_of}
 use Rattle.vx_plan.specs.Outline.{outline_of, plan_of}
 use Rattle.vx_plan.specs.Resolve.{Resolved}

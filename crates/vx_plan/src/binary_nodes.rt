@@ -1,17 +1,17 @@
 //! Operators over two inputs, by the columns of those inputs.
 
 ghost use Rattle.std.specs.Prelude.{◌≡◌, [], map, string_bytes, IfOk};
-ghost use Rattle.vx_plan.specs.Fault.{Gives};
-ghost use Rattle.vx_plan.specs.Document.{pair_form, binary_form};
+ghost use Rattle.vx_document.specs.Fault.{Gives};
+ghost use Rattle.vx_document.specs.Document.{pair_form, binary_form};
 ghost use Rattle.vx_plan.specs.Outline.{columns_of};
 ghost use Rattle.vx_plan.specs.Resolve.{pair_found, pairs_found, both_columns, join_tested, join_pairs, binary_shape};
 ghost use Rattle.vx_plan.specs.Shaped.{joint_of};
 
 use crate::columns::{copied, side_by_side};
-use crate::fault::PlanFault;
+use vx_document::PlanFault;
 use crate::fits::{are_pairs, are_same_types};
 use crate::lookup::{column_found, matched, narrow, once, pairs_once};
-use crate::plan::NamedBinary;
+use vx_document::NamedBinary;
 use crate::typed::{Binary, Columns};
 use std::alloc::Global;
 

@@ -2,14 +2,14 @@
 
 ghost use Rattle.std.specs.Prelude.{◌≡◌, [], ◌∷◌, ◌++◌, map, string_bytes, IfOk, OnOk};
 ghost use Rattle.vx_rows.specs.Types.{type_at};
-ghost use Rattle.vx_plan.specs.Document.{aggregate_form, output_form};
+ghost use Rattle.vx_document.specs.Document.{aggregate_form, output_form};
 ghost use Rattle.vx_plan.specs.Outline.{columns_of, aggregate_of};
 ghost use Rattle.vx_plan.specs.Types.{aggregate_type};
 ghost use Rattle.vx_plan.specs.Resolve.{both_columns, output_name, scan_columns};
 ghost use Rattle.vx_catalog.specs.Catalog.{IsRelation};
 
 use crate::fits::type_at;
-use crate::plan::{NamedAggregate, NamedOutput};
+use vx_document::{NamedAggregate, NamedOutput};
 use crate::typed::{Aggregate, Columns, Kept};
 use std::alloc::{AllocError, Global};
 use vx_catalog::Relation;

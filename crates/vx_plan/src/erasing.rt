@@ -8,7 +8,7 @@ ghost use Rattle.vx_plan.specs.Outline.{top_of, unary_of, renamed_of, binary_of,
 ghost use Rattle.vx_plan.specs.TypedView.{names_in, plan, resolved_of};
 
 use crate::columns::{copied, copied_names};
-use crate::fault::PlanFault;
+use vx_document::PlanFault;
 use crate::lookup::copied_value;
 use crate::resolving::copied_ranges;
 use crate::typed::{Binary, Claim, Condition, Head, Part, Scan, Side, Size, TypedNode, Unary};

@@ -2,20 +2,20 @@
 
 ghost use Rattle.std.specs.Prelude.{◌≡◌, ◌<◌, [], map, length, string_bytes, position, bytes_eq, IfOk, IfSome};
 ghost use Rattle.vx_catalog.specs.Catalog.{relation_at};
-ghost use Rattle.vx_plan.specs.Fault.{Gives};
-ghost use Rattle.vx_plan.specs.Document.{kind_form, scan_form};
+ghost use Rattle.vx_document.specs.Fault.{Gives};
+ghost use Rattle.vx_document.specs.Document.{kind_form, scan_form};
 ghost use Rattle.vx_plan.specs.Outline.{columns_of, kind_of, size_of};
 ghost use Rattle.vx_plan.specs.Lookup.{once};
 ghost use Rattle.vx_plan.specs.Resolve.{kind_found, kind_names, kind_fits, exchange_columns, exchange_once, exchange_shape, relation_found};
 ghost use Rattle.vx_plan.specs.Named.{names_of};
 
 use crate::claims::single;
-use crate::fault::PlanFault;
+use vx_document::PlanFault;
 use crate::fits::route_fits;
 use crate::lookup::{
     Declared, column_found, columns_found, matched, once, range_found, size_found,
 };
-use crate::plan::NamedKind;
+use vx_document::NamedKind;
 use crate::typed::{Columns, Exchange, Kind, Route};
 use std::alloc::Global;
 use vx_rows::ColType;

@@ -7,13 +7,13 @@ ghost use Rattle.vx_rows.specs.Values.{val_cmp};
 ghost use Rattle.vx_rows.specs.Types.{type_of, type_at, is_held};
 ghost use Rattle.vx_rows.specs.View.{val_of};
 ghost use Rattle.vx_plan.specs.Typed.{type_eq, types_eq, rises, is_range, range_type, bounds_at, is_side, is_condition, is_aggregate, is_pair};
-ghost use Rattle.vx_plan.specs.Document.{range_form};
+ghost use Rattle.vx_document.specs.Document.{range_form};
 ghost use Rattle.vx_plan.specs.Outline.{side_of, condition_of, aggregate_of, route_of};
 ghost use Rattle.vx_plan.specs.Resolve.{route_fits};
 ghost use Rattle.vx_plan.specs.Named.{names_of};
 
 use crate::lookup::Declared;
-use crate::plan::NamedRange;
+use vx_document::NamedRange;
 use crate::typed::{Aggregate, Condition, Route, Side};
 use std::cmp::Ordering;
 use vx_rows::{ColType, Value, compare_cells};

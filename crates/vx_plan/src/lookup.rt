@@ -3,14 +3,14 @@
 ghost use Rattle.std.specs.Prelude.{◌≡◌, [], map, position, bytes_eq, string_bytes, IfOk};
 ghost use Rattle.vx_rows.specs.View.{val_of};
 ghost use Rattle.std.specs.List.{list_any};
-ghost use Rattle.vx_plan.specs.Fault.{Gives};
-ghost use Rattle.vx_plan.specs.Document.{range_form, pair_form};
+ghost use Rattle.vx_document.specs.Fault.{Gives};
+ghost use Rattle.vx_document.specs.Document.{range_form, pair_form};
 ghost use Rattle.vx_plan.specs.Outline.{size_of};
 ghost use Rattle.vx_plan.specs.Lookup.{column_found, columns_found, keys_found, once, pairs_once, keys_once, matched, narrow, pair_eq, size_found, range_found};
 ghost use Rattle.vx_plan.specs.Named.{names_of};
 
-use crate::fault::PlanFault;
-use crate::plan::NamedRange;
+use vx_document::PlanFault;
+use vx_document::NamedRange;
 use crate::typed::Size;
 use std::alloc::{AllocError, Global};
 use vx_catalog::Catalog;

@@ -1,8 +1,8 @@
 //! The nodes of a plan over a catalog: numbered in preorder, tested in post-order.
 
 ghost use Rattle.std.specs.Prelude.{◌≡◌, ◌+◌, ◌<◌, ◌^◌, map, string_bytes, IfOk};
-ghost use Rattle.vx_plan.specs.Fault.{Gives};
-ghost use Rattle.vx_plan.specs.Document.{claim_form, scan_form, unary_form, binary_form, kind_form, tree_of, tree_nodes};
+ghost use Rattle.vx_document.specs.Fault.{Gives};
+ghost use Rattle.vx_document.specs.Document.{claim_form, scan_form, unary_form, binary_form, kind_form, tree_of, tree_nodes};
 ghost use Rattle.vx_plan.specs.Outline.{outline_of, columns_of, columns};
 ghost use Rattle.vx_plan.specs.Resolve.{scan_typed, unary_typed, binary_typed, exchange_typed, typed_in};
 ghost use Rattle.vx_plan.specs.Named.{names_of};
@@ -11,9 +11,9 @@ use crate::binary_nodes::{Joint, binary_shape};
 use crate::claims::topped;
 use crate::columns::{copied, scanned};
 use crate::exchange_nodes::{exchange_shape, relation_found};
-use crate::fault::PlanFault;
+use vx_document::PlanFault;
 use crate::lookup::{Declared, size_found};
-use crate::plan::{NamedBinary, NamedClaim, NamedKind, NamedScan, NamedUnary, Node};
+use vx_document::{NamedBinary, NamedClaim, NamedKind, NamedScan, NamedUnary, Node};
 use crate::typed::{Columns, Scan, TypedNode};
 use crate::unary_nodes::{Shape, unary_shape};
 use std::alloc::Global;

@@ -3,7 +3,7 @@
 ghost use Rattle.std.specs.Prelude.{◌≡◌};
 ghost use Rattle.vx_plan.specs.Outline.{outline_of, top_of, top};
 
-use crate::test::Test;
+use vx_document::Test;
 use vx_rows::{ColType, Value};
 
 /// How many workers: one, or as many as a declared size name is bound to, by the name's number.

@@ -2,13 +2,13 @@
 
 ghost use Rattle.std.specs.Prelude.{◌≡◌, ◌≤◌, true, nat_le, map, length, string_bytes};
 ghost use Rattle.std.specs.List.{list_all};
-ghost use Rattle.vx_plan.specs.Document.{range_form};
+ghost use Rattle.vx_document.specs.Document.{range_form};
 ghost use Rattle.vx_plan.specs.Lookup.{scope_of};
 ghost use Rattle.vx_plan.specs.Numbering.{nodes, is_numbered};
 ghost use Rattle.vx_plan.specs.Outline.{outline_of, plan_of};
 ghost use Rattle.vx_plan.specs.Typed.{is_range, typed, IsTyped};
 
-use crate::plan::NamedRange;
+use vx_document::NamedRange;
 use crate::typed::TypedNode;
 use vx_catalog::Catalog;
 

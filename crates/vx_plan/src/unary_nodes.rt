@@ -1,17 +1,17 @@
 //! Operators over one input, by the columns of that input.
 
 ghost use Rattle.std.specs.Prelude.{◌≡◌, [], map, string_bytes, IfOk};
-ghost use Rattle.vx_plan.specs.Fault.{Gives};
-ghost use Rattle.vx_plan.specs.Document.{side_form, condition_form, output_form, function_form, aggregate_form, unary_form};
+ghost use Rattle.vx_document.specs.Fault.{Gives};
+ghost use Rattle.vx_document.specs.Document.{side_form, condition_form, output_form, function_form, aggregate_form, unary_form};
 ghost use Rattle.vx_plan.specs.Outline.{side_of, condition_of, aggregate_of, columns_of};
 ghost use Rattle.vx_plan.specs.Resolve.{side_found, condition_found, conditions_found, select_shape, output_name, kept_found, all_kept_found, kept_shape, kept_columns, project_shape, distinct_shape, sort_shape, function_found, aggregates_found, group_found, group_tested, group_shape, unary_shape};
 ghost use Rattle.vx_plan.specs.Shaped.{shape_of};
 
 use crate::columns::{copied, group_names, group_types, kept_types, output_names};
-use crate::fault::PlanFault;
+use vx_document::PlanFault;
 use crate::fits::{are_aggregates, are_conditions};
 use crate::lookup::{column_found, columns_found, copied_value, matched, narrow, once};
-use crate::plan::{
+use vx_document::{
     NamedAggregate, NamedCondition, NamedFunction, NamedOutput, NamedSide, NamedUnary,
 };
 use crate::typed::{Aggregate, Columns, Condition, Kept, Side, Unary};

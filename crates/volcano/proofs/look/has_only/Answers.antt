@@ -1,6 +1,6 @@
 use Rattle.std.proofs.Common.{◌∙◌, map}
 use Rattle.serde_json.specs.View.{view}
-use Rattle.vx_plan.proofs.LookFacts.{only_members}
+use Rattle.vx_document.proofs.LookFacts.{only_members}
 use Rattle.volcano.proofs.look.has_only.Goals as goal
 
 pub returns-in-Some : goal.returns-in-Some

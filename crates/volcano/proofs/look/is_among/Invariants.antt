@@ -1,5 +1,5 @@
 use Rattle.std.proofs.Common.{◌≡◌, map, drop}
-use Rattle.vx_plan.specs.Look.{is_among}
+use Rattle.vx_document.specs.Look.{is_among}
 use Rattle.volcano.proofs.look.is_among.Given as goal
 
 abbrev pub invariant-loop-name : goal.invariant-loop-name

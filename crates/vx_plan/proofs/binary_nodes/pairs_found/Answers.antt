@@ -1,6 +1,6 @@
 use Rattle.std.proofs.Common.{map, string_bytes}
 use Rattle.std.proofs.lemmas.Result.{err_from_is_err_and}
-use Rattle.vx_plan.specs.Document.{pair_form}
+use Rattle.vx_document.specs.Document.{pair_form}
 use Rattle.vx_plan.specs.Resolve.{pair_found, pairs_found}
 use Rattle.vx_plan.proofs.WalkFacts.{walk_more, walk_fails, walk_done}
 use Rattle.vx_plan.proofs.binary_nodes.pairs_found.Goals as goal

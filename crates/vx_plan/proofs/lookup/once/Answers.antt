@@ -1,6 +1,6 @@
 use Rattle.std.proofs.Common.{◌≡◌, map, take, drop, string_bytes, bytes_eq, true, false, Err, inr, ap, sym, ◌∙◌}
 use Rattle.std.specs.List.{list_any}
-use Rattle.vx_plan.specs.Fault.{duplicate_column}
+use Rattle.vx_document.specs.Fault.{duplicate_column}
 use Rattle.vx_plan.specs.Lookup.{is_among, once}
 use Rattle.vx_plan.proofs.TestFacts.{test_more, test_fails, test_done}
 use Rattle.vx_plan.proofs.lookup.once.Goals as goal

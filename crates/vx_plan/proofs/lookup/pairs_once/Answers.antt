@@ -1,7 +1,7 @@
 use Rattle.std.proofs.Common.{◌≡◌, map, take, drop, string_bytes, true, false, Err, inr, ap, sym, ◌∙◌}
 use Rattle.std.specs.List.{list_any}
-use Rattle.vx_plan.specs.Document.{Name, pair_form}
-use Rattle.vx_plan.specs.Fault.{duplicate_column}
+use Rattle.vx_document.specs.Document.{Name, pair_form}
+use Rattle.vx_document.specs.Fault.{duplicate_column}
 use Rattle.vx_plan.specs.Lookup.{is_among_pairs, pairs_once}
 use Rattle.vx_plan.proofs.TestFacts.{test_more, test_fails, test_done}
 use Rattle.vx_plan.proofs.lookup.pairs_once.Goals as goal

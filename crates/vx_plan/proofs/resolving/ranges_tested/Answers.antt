@@ -1,6 +1,6 @@
 use Rattle.std.proofs.Common.{◌≡◌, string_bytes, Err, inr, ap, sym, ◌∙◌}
-use Rattle.vx_plan.specs.Document.{RangeForm, range_form}
-use Rattle.vx_plan.specs.Fault.{bad_range}
+use Rattle.vx_document.specs.Document.{RangeForm, range_form}
+use Rattle.vx_document.specs.Fault.{bad_range}
 use Rattle.vx_plan.specs.Resolve.{is_bad_range, ranges_tested}
 use Rattle.vx_plan.proofs.TestFacts.{test_more, test_fails, test_done}
 use Rattle.vx_plan.proofs.resolving.ranges_tested.Goals as goal

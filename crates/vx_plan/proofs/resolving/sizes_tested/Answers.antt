@@ -1,5 +1,5 @@
 use Rattle.std.proofs.Common.{◌≡◌, map, take, string_bytes, true, false, Err, inr, ap, sym, ◌∙◌}
-use Rattle.vx_plan.specs.Fault.{bad_size}
+use Rattle.vx_document.specs.Fault.{bad_size}
 use Rattle.vx_plan.specs.Resolve.{is_bad_size, sizes_tested}
 use Rattle.vx_plan.proofs.TestFacts.{test_more, test_fails, test_done}
 use Rattle.vx_plan.proofs.resolving.sizes_tested.Goals as goal

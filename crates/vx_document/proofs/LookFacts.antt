@@ -1,0 +1,48 @@
+-- Names and items of a JSON value, in the words of its Rust lists.
+use Rattle.std.proofs.Common.{◌≡◌, ℕ, suc, ◌+◌, ◌<◌, List, [], ◌∷◌, Option, Some, None, option_map, Bool, true, false, cond, String, Vec, BTreeMap, Global, string_bytes, bytes_eq, refl, sym, ap, ◌∙◌, map, get_or, drop, length, Bor, drop-cons, add-one, ◌||◌, ◌&&◌}
+use Rattle.std.specs.List.{list_any, list_all}
+use Rattle.std.specs.BTreeMap.{keys}
+use Rattle.serde_json.specs.Data.{Data, null, boolean, number, string, array, object, Items, item, no_items, Members, member, no_members}
+use Rattle.serde_json.specs.Find.{as_object, as_array}
+use Rattle.serde_json.specs.View.{view, items_view, items_of, members_view, members_of}
+use Rattle.serde_json.specs.declared.value.Value.{Value}
+use Rattle.vx_document.specs.Look.{list_of, as_list, names_of, is_among, has_only}
+
+pub list_of-items_of : (ds : List Data) → list_of (items_of ds) ≡ ds
+list_of-items_of [] = refl
+list_of-items_of (d ∷ ds) = ap (λ (t : List Data). d ∷ t) (list_of-items_of ds)
+
+pub items_are : (d : Data) (vs : List Value) → Some (items_view vs) ≡ as_array d → Some (map view vs) ≡ as_list d
+items_are d vs h = ap (λ t. Some t) (sym (list_of-items_of (map view vs))) ∙ ap (λ o. option_map list_of o) h
+
+names-members_of : (ms : List (String Global × Data)) → names_of (members_of ms) ≡ map (λ m. string_bytes m.0) ms
+names-members_of [] = refl
+names-members_of (m ∷ ms) = ap (λ (t : List (List ℕ)). string_bytes m.0 ∷ t) (names-members_of ms)
+
+only_those : (names : List (List ℕ)) (es : List (String Global × Value)) → list_all (λ k. is_among names (string_bytes k)) (map (λ e. e.0) es) ≡ list_all (is_among names) (names_of (members_view es))
+only_those names [] = refl
+only_those names (e ∷ es) = ap (λ b. is_among names (string_bytes e.0) && b) (only_those names es)
+
+from_members : (names : List (List ℕ)) (d : Data) (ms : Members) → Some ms ≡ as_object d → list_all (is_among names) (names_of ms) ≡ has_only names d
+from_members names null ms h = cc
+from_members names (boolean b) ms h = cc
+from_members names (number n) ms h = cc
+from_members names (string s) ms h = cc
+from_members names (array ds) ms h = cc
+from_members names (object ns) ms h = let e : ms ≡ ns = cc in rw e refl
+
+pub only_members : (names : List (List ℕ)) (d : Data) (m : BTreeMap (String Global) Value) → Some (members_view m.entries) ≡ as_object d
+    → list_all (λ k. is_among names (string_bytes k)) (keys m) ≡ has_only names d
+only_members names d m h = only_those names m.entries ∙ from_members names d _ h
+
+pub no_members_at_all : (names : List (List ℕ)) (d : Data) → None ≡ as_object d → false ≡ has_only names d
+no_members_at_all names null h = refl
+no_members_at_all names (boolean b) h = refl
+no_members_at_all names (number n) h = refl
+no_members_at_all names (string s) h = refl
+no_members_at_all names (array ds) h = refl
+no_members_at_all names (object ns) h = cc
+
+pub among_step : (key : List ℕ) (names : List (Bor (List ℕ))) (k : ℕ) (d : Bor (List ℕ)) → k < length names
+    → is_among (map (λ n. n.now) (drop k names)) key ≡ (bytes_eq key (get_or names k d).now || is_among (map (λ n. n.now) (drop (k + 1) names)) key)
+among_step key names k d h = rw (drop-cons names k d, add-one) refl

@@ -1,0 +1,19 @@
+use Rattle.std.proofs.Common.{map, string_bytes}
+use Rattle.std.proofs.lemmas.List.{map_push}
+use Rattle.vx_document.specs.Look.{name_in}
+use Rattle.vx_document.proofs.EachFacts.{each_more, each_none, each_done}
+use Rattle.vx_document.proofs.lists.names_of.Goals as goal
+
+pub loop-value-preserved : goal.loop-value-preserved
+loop-value-preserved c =
+    let read = rw c.in-Some.is at c.in_ok-name.ensures in
+    rw (c.in_ok-push-in-Some.ensures.items, map_push string_bytes c.loop-value.found.items c.in-Some.name)
+    (each_more name_in (map string_bytes c.loop-value.found.items) c.args.values.now c.loop-value.value-index c.value-item.result _ _ c.loop-value-test.true c.value-item.is read c.loop-value.invariant)
+
+pub returns-in-None : goal.returns-in-None
+returns-in-None c =
+    let read = rw c.in-None.is at c.in_ok-name.ensures in
+    each_none name_in (map string_bytes c.loop-value.found.items) c.args.values.now c.loop-value.value-index c.value-item.result _ c.loop-value-test.true c.value-item.is read c.loop-value.invariant
+
+pub returns : goal.returns
+returns c = each_done name_in (map string_bytes c.loop-value.found.items) c.args.values.now c.loop-value.value-index _ c.loop-value-test.false c.loop-value.invariant

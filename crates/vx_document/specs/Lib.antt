@@ -1,0 +1,9 @@
+pub mod Test
+pub mod Look
+pub mod Document
+pub mod Fault
+pub mod Form
+pub mod Formed
+pub mod Operators
+pub mod Reading
+pub mod PlanView

@@ -1,0 +1,22 @@
+//! Plans as JSON documents: read, with the first refusal of what is none, and written.
+#![tactic(auto)]
+
+mod document;
+mod fault;
+mod forms;
+mod json;
+mod lists;
+mod look;
+mod operators;
+mod plan;
+mod reading;
+mod test;
+
+pub use document::Plan;
+pub use fault::PlanFault;
+pub use json::to_json;
+pub use plan::{
+    NamedAggregate, NamedBinary, NamedClaim, NamedCondition, NamedFunction, NamedKind, NamedOutput,
+    NamedPart, NamedRange, NamedScan, NamedSide, NamedUnary, Node,
+};
+pub use test::Test;
