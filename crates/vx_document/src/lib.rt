@@ -20,3 +20,6 @@ pub use plan::{
     NamedPart, NamedRange, NamedScan, NamedSide, NamedUnary, Node,
 };
 pub use test::Test;
+
+#[cfg(test)]
+mod tests;
