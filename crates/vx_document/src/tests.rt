@@ -1,7 +1,10 @@
 //! What no clause says: worked texts with their refusals, limits, the texts that are written, and want of memory.
 
 mod documents;
+mod edges;
+mod empties;
 mod firsts;
+mod kinds;
 mod limits;
 mod members;
 mod memory;
@@ -69,4 +72,15 @@ fn under_selects(alloc: Global, levels: u32, node: &str) -> Result<String, Fail>
         text.push_str("}")?;
     }
     Ok(text)
+}
+
+/// The first of the roots whose own members are not refused.
+fn first_read(alloc: Global, roots: &[&str]) -> Result<String, Fail> {
+    for root in roots {
+        let odd = first_odd_root(alloc, &[(*root, "P2 BadNode path=root")])?;
+        if !odd.is_empty() {
+            return Ok(odd);
+        }
+    }
+    Ok(String::new(alloc))
 }
