@@ -1,15 +1,16 @@
 -- What is read has the form.
-use Rattle.std.proofs.Common.{◌≡◌, ℕ, zero, suc, ◌+◌, List, [], ◌∷◌, ◌++◌, Bool, true, false, cond, ltb, ◌&&◌, ◌||◌, Option, Some, None, option_map, option_and_then, Result, Ok, Err, codes, bytes_eq, refl, sym, ap, ◌∙◌}
+use Rattle.std.proofs.Common.{◌≡◌, ℕ, List, [], ◌∷◌, Bool, true, false, cond, ◌&&◌, Option, Some, None, option_map, option_and_then, codes, bytes_eq, refl}
 use Rattle.std.specs.List.{list_all}
 use Rattle.serde_json.specs.Data.{Data}
-use Rattle.serde_json.specs.Find.{get, as_str}
-use Rattle.vx_document.specs.Test as test
-use Rattle.vx_document.specs.Look.{as_list, has_only, some_entry, name_in, name_at, text_at, value_in, each_onto, each_in, some_in, or_default}
+use Rattle.serde_json.specs.Find.{get, as_str, as_number, as_i64}
+use Rattle.vx_rows.specs.Values.{Val, num, text}
+use Rattle.vx_rows.specs.Types.{is_held}
+use Rattle.vx_document.specs.Look.{as_list, has_only, some_entry, name_in, name_at, text_at, value_or, if_held, value_in, each_onto, each_in, some_in, or_default}
 use Rattle.vx_document.specs.Look.{is_some_list}
-use Rattle.vx_document.specs.Document.{Name, PartForm, one, any, all, hash_part, range_part, ClaimForm, SideForm, column, constant, ConditionForm, OutputForm, FunctionForm, least, greatest, sum, count_rows, AggregateForm, ScanForm, UnaryForm, select, project, distinct, sort, group, BinaryForm, union, join, KindForm, hash, range, round, broadcast, gather, Tree, scan, unary, binary, exchange}
-use Rattle.vx_document.specs.Form.{names_in, some_names_in, part_named, hash_part_in, range_part_in, routed_part_in, part_by, part_in, keys_in, claim_in, claimed, test_named, side_in, condition_in, renamed_in, output_by, output_in, function_named, function_at, aggregate_in, as_pair, pair_in}
-use Rattle.vx_document.specs.Formed.{are_names, are_some_names, is_part_form, is_claim_form, is_side_form, is_condition_form, is_new_name, is_output_form, is_function_form, is_aggregate_form, is_scan_form, is_unary_form, is_pair_form, is_binary_form, is_kind_form, is_tree_form}
-use Rattle.vx_document.proofs.Holds.{and-left, and-right, and-both, Within, within_then, within_any, within_map, within_if, within_each, within_some}
+use Rattle.vx_document.specs.Document.{Name, one, any, all, hash_part, range_part, column, constant, least, greatest, sum, count_rows}
+use Rattle.vx_document.specs.Form.{names_in, some_names_in, part_named, hash_part_in, range_part_in, part_by, part_in, keys_in, claim_in, claimed, test_named, side_in, condition_in, renamed_in, output_by, output_in, function_named, function_at, aggregate_in, as_pair, pair_in}
+use Rattle.vx_document.specs.Formed.{are_names, are_some_names, is_part_form, is_claim_form, is_side_form, is_condition_form, is_output_form, is_function_form, is_aggregate_form, is_pair_form}
+use Rattle.vx_document.proofs.Holds.{and-both, Within, within_then, within_any, within_map, within_if, within_each, within_some}
 
 entry_some : {X : Type 0} (xs : List X) → Within is_some_list (some_entry xs)
 entry_some [] = tt
@@ -95,17 +96,24 @@ pub claimed-within : (d : Data) → Within is_claim_form (claimed d)
 unfolding claimed
 claimed-within d = default_within is_claim_form (record { part = any; order = []; keys = [] }) claim_in refl claim_in-within (get (codes "claim") d)
 
+if_held-within : (v : Val) → Within is_held (if_held v)
+if_held-within v = go (is_held v) refl
+  where
+    go : (b : Bool) → is_held v ≡ b → Within is_held (cond b (Some v) None)
+    go true h = h
+    go false h = tt
+
+pub value_held : (d : Data) → Within is_held (value_in d)
+unfolding value_in
+value_held d = within_any is_held if_held (value_or (option_map num (option_and_then as_i64 (as_number d))) (option_map text (as_str d))) if_held-within
+
 side-within : (d : Data) → Within is_side_form (side_in d)
 unfolding side_in
 side-within d =
     within_if is_side_form (has_only (codes "column" ∷ codes "op" ∷ codes "value" ∷ []) d) _ _
-    (within_map (λ v. true) is_side_form constant (option_and_then value_in (get (codes "value") d)) (anything (option_and_then value_in (get (codes "value") d))) (λ v h. refl))
+    (within_map is_held is_side_form constant (option_and_then value_in (get (codes "value") d)) (within_any is_held value_in (get (codes "value") d) value_held) (λ v h. h))
     (within_if is_side_form (has_only (codes "column" ∷ codes "op" ∷ codes "column2" ∷ []) d) _ None
     (within_map is_some_list is_side_form column (name_at (codes "column2") d) (name_at-some (codes "column2") d) (λ n h. h)) tt)
-  where
-    anything : {A : Type 0} (o : Option A) → Within (λ x. true) o
-    anything None = tt
-    anything (Some x) = refl
 
 pub condition-within : (d : Data) → Within is_condition_form (condition_in d)
 unfolding condition_in

@@ -6,3 +6,7 @@ pub mod TextFacts
 pub mod Holds
 pub mod FormedFacts
 pub mod OwnFacts
+pub mod LevelFacts
+pub mod HeadFacts
+pub mod PlainFacts
+pub mod BackFacts

@@ -1,8 +1,8 @@
 -- Names and items of a JSON value, in the words of its Rust lists.
-use Rattle.std.proofs.Common.{◌≡◌, ℕ, suc, ◌+◌, ◌<◌, List, [], ◌∷◌, Option, Some, None, option_map, Bool, true, false, cond, String, Vec, BTreeMap, Global, string_bytes, bytes_eq, refl, sym, ap, ◌∙◌, map, get_or, drop, length, Bor, drop-cons, add-one, ◌||◌, ◌&&◌}
-use Rattle.std.specs.List.{list_any, list_all}
+use Rattle.std.proofs.Common.{◌≡◌, ℕ, ◌+◌, ◌<◌, List, [], ◌∷◌, Some, None, option_map, false, String, BTreeMap, Global, string_bytes, bytes_eq, refl, sym, ap, ◌∙◌, map, get_or, drop, length, Bor, drop-cons, add-one, ◌||◌, ◌&&◌}
+use Rattle.std.specs.List.{list_all}
 use Rattle.std.specs.BTreeMap.{keys}
-use Rattle.serde_json.specs.Data.{Data, null, boolean, number, string, array, object, Items, item, no_items, Members, member, no_members}
+use Rattle.serde_json.specs.Data.{Data, null, boolean, number, string, array, object, Members}
 use Rattle.serde_json.specs.Find.{as_object, as_array}
 use Rattle.serde_json.specs.View.{view, items_view, items_of, members_view, members_of}
 use Rattle.serde_json.specs.declared.value.Value.{Value}

@@ -1,8 +1,8 @@
 -- A tree that is read has as many nodes as were counted, and at most 1,000.
-use Rattle.std.proofs.Common.{◌≡◌, ℕ, zero, suc, ◌+◌, ◌<◌, ◌≤◌, ltb, List, ◌++◌, codes, Bool, true, false, cond, Option, Some, None, Result, Ok, Err, refl, sym, ap, ◌∙◌, subst, arith}
+use Rattle.std.proofs.Common.{◌≡◌, ℕ, zero, suc, ◌+◌, ◌<◌, ◌≤◌, ltb, List, ◌++◌, codes, Bool, true, false, cond, Option, Some, None, Result, Ok, Err, refl, subst, arith}
 use borrow.Author.Tests.{ltb-true}
 use Rattle.serde_json.specs.Data.{Data}
-use Rattle.vx_document.specs.Fault.{Refusal, bad_node, too_deep, ◌>>=◌}
+use Rattle.vx_document.specs.Fault.{Refusal, too_deep, ◌>>=◌}
 use Rattle.vx_document.specs.Document.{Tree, scan, unary, binary, exchange, tree_nodes}
 use Rattle.vx_document.specs.Operators.{OwnForm, own_scan, own_unary, own_binary, own_exchange, own_in}
 use Rattle.vx_document.specs.Reading.{node_in, with_inputs}

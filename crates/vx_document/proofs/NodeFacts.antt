@@ -1,12 +1,10 @@
 -- A node's steps: its own members, then its inputs; and a refusal goes through each later step.
-use Rattle.std.proofs.Common.{◌≡◌, ℕ, zero, suc, ◌+◌, ◌-◌, ◌<◌, ltb, List, [], ◌∷◌, ◌++◌, Bool, true, false, cond, Option, Some, None, Result, Ok, Err, codes, string_bytes, refl, sym, ap, ◌∙◌, inl, inr, ⊎_elim, arith}
+use Rattle.std.proofs.Common.{◌≡◌, ℕ, zero, suc, ◌-◌, ◌<◌, ltb, List, true, Option, Result, refl, ap, inl, inr, ⊎_elim, arith}
 use Rattle.std.proofs.lemmas.Bool.Decides.{nat_tests}
 use Rattle.serde_json.specs.Data.{Data}
 use Rattle.vx_document.specs.declared.fault.PlanFault.{PlanFault}
-use Rattle.vx_document.specs.declared.fault.PlanFault.TheVariants as fault
-use Rattle.vx_document.specs.Fault.{Refusal, ◌>>=◌, Fails, Gives}
-use Rattle.vx_document.specs.Document.{Tree, unary, binary, exchange}
-use Rattle.vx_document.specs.Operators.{OwnForm, own_scan, own_unary, own_binary, own_exchange, own_in}
+use Rattle.vx_document.specs.Fault.{Refusal, ◌>>=◌, Fails}
+use Rattle.vx_document.specs.Operators.{OwnForm, own_in}
 use Rattle.vx_document.specs.Reading.{node_in, with_inputs}
 
 -- the first refusal stays

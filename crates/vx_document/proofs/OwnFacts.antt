@@ -1,18 +1,18 @@
 -- What a node says of itself has the form, and so has every tree that is read.
-use Rattle.std.proofs.Common.{◌≡◌, ℕ, zero, suc, ◌+◌, List, [], ◌∷◌, ◌++◌, Bool, true, false, cond, ltb, ◌&&◌, ◌||◌, Option, Some, None, option_map, option_and_then, Result, Ok, Err, codes, bytes_eq, refl}
+use Rattle.std.proofs.Common.{◌≡◌, ℕ, zero, suc, ◌+◌, List, [], ◌∷◌, ◌++◌, Bool, true, false, cond, ltb, ◌&&◌, Option, Some, None, option_map, option_and_then, Result, Ok, Err, codes, bytes_eq, refl}
 use Rattle.std.specs.List.{list_all}
 use Rattle.serde_json.specs.Data.{Data}
 use Rattle.serde_json.specs.Find.{get, as_str}
 use Rattle.vx_document.specs.Look.{has_only, name_at, text_at, each_in, some_in, or_default}
 use Rattle.vx_document.specs.Look.{is_some_list}
-use Rattle.vx_document.specs.Fault.{Refusal, bad_node, too_deep, ◌>>=◌}
-use Rattle.vx_document.specs.Document.{Name, ClaimForm, OutputForm, AggregateForm, ScanForm, UnaryForm, select, project, distinct, sort, group, BinaryForm, union, join, KindForm, hash, range, round, broadcast, gather, Tree, scan, unary, binary, exchange}
+use Rattle.vx_document.specs.Fault.{Refusal, too_deep, ◌>>=◌}
+use Rattle.vx_document.specs.Document.{Name, AggregateForm, select, project, distinct, sort, BinaryForm, union, join, hash, range, round, broadcast, gather, Tree, unary, binary, exchange}
 use Rattle.vx_document.specs.Form.{names_in, some_names_in, claimed, condition_in, output_in, aggregate_in, pair_in}
 use Rattle.vx_document.specs.Operators.{OwnForm, own_scan, own_unary, own_binary, own_exchange, mode_named, scan_in, scan_own, select_in, outputs_in, sort_in, group_or, group_in, unary_in, unary_own, method_named, join_in, union_in, binary_own, hash_in, range_in, sized_in, gather_in, kind_in, exchange_own, own_named, own_in}
 use Rattle.vx_document.specs.Reading.{node_in, with_inputs}
 use Rattle.vx_document.specs.Formed.{are_names, are_some_names, is_claim_form, is_condition_form, is_output_form, is_aggregate_form, is_scan_form, is_unary_form, is_pair_form, is_binary_form, is_kind_form, is_tree_form}
 use Rattle.vx_document.proofs.Holds.{and-left, and-right, and-both, Within, within_then, within_any, within_map, within_if, Holds, holds_then}
-use Rattle.vx_document.proofs.FormedFacts.{name_at-some, default_within, each_within, some_within, names_within, some_names_within, claimed-within, condition-within, output-within, aggregate-within, pair-within}
+use Rattle.vx_document.proofs.FormedFacts.{name_at-some, each_within, some_within, names_within, some_names_within, claimed-within, condition-within, output-within, aggregate-within, pair-within}
 
 -- what a node says of itself has the form
 is_own_form : OwnForm → Bool

@@ -1,11 +1,10 @@
 -- The plan of a text, by whether the text is UTF-8 and JSON.
-use Rattle.std.proofs.Common.{◌≡◌, ℕ, List, Bool, true, false, cond, Option, Some, None, Result, Ok, Err, refl, sym, ap, ◌∙◌}
+use Rattle.std.proofs.Common.{◌≡◌, ℕ, List, Bool, true, false, cond, Some, None, Err, refl}
 use Rattle.std.specs.Str.{IsUtf8, is_utf8}
 use Rattle.std.proofs.lemmas.Str.{IsUtf8-from_is_utf8, is_utf8-from_IsUtf8}
 use Rattle.serde_json.specs.Data.{Data}
 use Rattle.serde_json.specs.Read.{read}
-use Rattle.vx_document.specs.Fault.{Refusal, not_json}
-use Rattle.vx_document.specs.Document.{Document}
+use Rattle.vx_document.specs.Fault.{not_json}
 use Rattle.vx_document.specs.Reading.{document_in, document_or, document_of_text}
 
 pub text_is : (bytes : List ℕ) (d : Data) → IsUtf8 bytes → read bytes ≡ Some d → document_of_text bytes ≡ document_in d

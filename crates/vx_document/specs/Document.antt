@@ -1,5 +1,5 @@
 -- Plans as their documents say them: relations, columns, sizes and ranges by name.
-use Rattle.std.specs.Prelude.{ℕ, suc, ◌+◌, List, map, Bool, true, false, Option, option_map, string_bytes, String}
+use Rattle.std.specs.Prelude.{ℕ, suc, ◌+◌, max, List, map, Bool, true, false, Option, option_map, string_bytes, String}
 use Rattle.std.specs.declared.alloc.Global.{Global}
 use Rattle.vx_rows.specs.Values.{Val}
 use Rattle.vx_rows.specs.View.{val_of}
@@ -116,6 +116,13 @@ tree_nodes (scan c s) = 1
 tree_nodes (unary c op t) = suc (tree_nodes t)
 tree_nodes (binary c op t u) = suc (tree_nodes t + tree_nodes u)
 tree_nodes (exchange c k m t) = suc (tree_nodes t)
+
+-- how many nodes stand below one another
+abbrev pub tree_levels : Tree → ℕ
+tree_levels (scan c s) = 1
+tree_levels (unary c op t) = suc (tree_levels t)
+tree_levels (binary c op t u) = suc (max (tree_levels t) (tree_levels u))
+tree_levels (exchange c k m t) = suc (tree_levels t)
 
 -- ---- the values of the program, without where they lie in memory
 

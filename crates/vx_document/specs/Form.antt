@@ -1,11 +1,10 @@
 -- Which plan a JSON value is: the forms of a claim, of each operator and of a node's own members.
-use Rattle.std.specs.Prelude.{ℕ, List, [], ◌∷◌, Bool, true, false, ◌&&◌, Option, Some, None, option_map, option_and_then, bytes_eq, codes, if◌then◌else◌}
+use Rattle.std.specs.Prelude.{ℕ, List, [], ◌∷◌, Option, Some, None, option_map, option_and_then, bytes_eq, codes, if◌then◌else◌}
 use Rattle.serde_json.specs.Data.{Data}
-use Rattle.serde_json.specs.Find.{get, as_str, as_bool}
-use Rattle.vx_rows.specs.Values.{Val}
+use Rattle.serde_json.specs.Find.{get, as_str}
 use Rattle.vx_document.specs.Test as comparison
-use Rattle.vx_document.specs.Look.{as_list, has_only, some_entry, name_in, name_at, text_at, value_in, each_onto, each_in, some_in, or_default}
-use Rattle.vx_document.specs.Document.{Name, RangeForm, PartForm, one, any, all, hash_part, range_part, ClaimForm, SideForm, column, constant, ConditionForm, OutputForm, FunctionForm, least, greatest, sum, count_rows, AggregateForm, ScanForm, UnaryForm, select, project, distinct, sort, group, BinaryForm, union, join, KindForm, hash, range, round, broadcast, gather}
+use Rattle.vx_document.specs.Look.{as_list, has_only, some_entry, name_in, name_at, text_at, value_in, each_in, some_in, or_default}
+use Rattle.vx_document.specs.Document.{Name, PartForm, one, any, all, hash_part, range_part, ClaimForm, SideForm, column, constant, ConditionForm, OutputForm, FunctionForm, least, greatest, sum, count_rows, AggregateForm}
 
 infixl 10 ◌>>=◌
 abbrev ◌>>=◌ : {A B : Type 0} → Option A → (A → Option B) → Option B

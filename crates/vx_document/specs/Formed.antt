@@ -1,8 +1,9 @@
 -- What reading assures of a plan: names and some lists are not empty.
 use Rattle.std.specs.Prelude.{Bool, true, ◌&&◌, ◌||◌, List, Option, Some, None}
 use Rattle.std.specs.List.{list_all}
+use Rattle.vx_rows.specs.Types.{is_held}
 use Rattle.vx_document.specs.Look.{is_some_list}
-use Rattle.vx_document.specs.Document.{Name, PartForm, one, any, all, hash_part, range_part, ClaimForm, SideForm, column, constant, ConditionForm, OutputForm, FunctionForm, least, greatest, sum, count_rows, AggregateForm, ScanForm, UnaryForm, select, project, distinct, sort, group, BinaryForm, union, join, KindForm, hash, range, round, broadcast, gather, Tree, scan, unary, binary, exchange}
+use Rattle.vx_document.specs.Document.{Name, RangeForm, PartForm, one, any, all, hash_part, range_part, ClaimForm, SideForm, column, constant, ConditionForm, OutputForm, FunctionForm, least, greatest, sum, count_rows, AggregateForm, ScanForm, UnaryForm, select, project, distinct, sort, group, BinaryForm, union, join, KindForm, hash, range, round, broadcast, gather, Tree, scan, unary, binary, exchange}
 
 abbrev pub are_names : List Name → Bool
 are_names names = list_all is_some_list names
@@ -10,6 +11,13 @@ are_names names = list_all is_some_list names
 -- an entry or more, and none is empty
 abbrev pub are_some_names : List Name → Bool
 are_some_names names = is_some_list names && are_names names
+
+abbrev pub is_range_form : RangeForm → Bool
+is_range_form r = is_some_list r.name && list_all is_held r.bounds
+
+-- what a document declares
+abbrev pub is_head_form : List Name → List RangeForm → Bool
+is_head_form sizes ranges = are_names sizes && list_all is_range_form ranges
 
 abbrev pub is_part_form : PartForm → Bool
 is_part_form one = true
@@ -23,7 +31,7 @@ is_claim_form c = is_part_form c.part && (are_names c.order && list_all are_name
 
 abbrev pub is_side_form : SideForm → Bool
 is_side_form (column name) = is_some_list name
-is_side_form (constant v) = true
+is_side_form (constant v) = is_held v
 
 abbrev pub is_condition_form : ConditionForm → Bool
 is_condition_form c = is_some_list c.left && is_side_form c.right

@@ -6,4 +6,5 @@ pub mod Form
 pub mod Formed
 pub mod Operators
 pub mod Reading
+pub mod Written
 pub mod PlanView

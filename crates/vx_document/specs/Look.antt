@@ -1,9 +1,10 @@
 -- Looking into a JSON value: names, lists, and objects with no members but the stated ones.
-use Rattle.std.specs.Prelude.{ℕ, List, [], ◌∷◌, ◌++◌, Bool, true, false, Option, Some, None, option_map, option_and_then, bytes_eq}
+use Rattle.std.specs.Prelude.{ℕ, List, [], ◌∷◌, ◌++◌, Bool, true, false, Option, Some, None, option_map, option_and_then, bytes_eq, if◌then◌else◌}
 use Rattle.std.specs.List.{list_all, list_any}
 use Rattle.serde_json.specs.Data.{Data, null, boolean, number, string, array, object, Items, no_items, item, Members, no_members, member}
 use Rattle.serde_json.specs.Find.{get, as_array, as_str, as_number, as_i64}
 use Rattle.vx_rows.specs.Values.{Val, num, text}
+use Rattle.vx_rows.specs.Types.{is_held}
 
 -- items as a list
 abbrev pub list_of : Items → List Data
@@ -56,9 +57,12 @@ abbrev pub value_or : Option Val → Option Val → Option Val
 value_or None other = other
 value_or (Some v) other = Some v
 
+abbrev pub if_held : Val → Option Val
+if_held v = if is_held v then Some v else None
+
 -- a number of 64 signed bits, or a text
 unfoldable pub value_in : Data → Option Val
-value_in d = value_or (option_map num (option_and_then as_i64 (as_number d))) (option_map text (as_str d))
+value_in d = option_and_then if_held (value_or (option_map num (option_and_then as_i64 (as_number d))) (option_map text (as_str d)))
 
 -- each of these values in turn, after those at the front
 unfoldable pub each_onto : {A : Type 0} → (Data → Option A) → List A → List Data → Option (List A)

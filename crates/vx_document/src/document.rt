@@ -1,8 +1,8 @@
 //! A plan as it was read.
 
 ghost use Rattle.std.specs.Prelude.{◌≡◌, ◌≤◌, true, map, string_bytes};
-ghost use Rattle.vx_document.specs.Formed.{is_tree_form};
-ghost use Rattle.vx_document.specs.Document.{tree_of, tree_nodes, range_form};
+ghost use Rattle.vx_document.specs.Formed.{is_tree_form, is_head_form};
+ghost use Rattle.vx_document.specs.Document.{tree_of, tree_nodes, tree_levels, range_form};
 
 use crate::fault::PlanFault;
 use crate::plan::{NamedRange, Node};
@@ -10,7 +10,8 @@ use crate::reading::{document_in, text_in};
 use serde_json::Value as Json;
 use std::alloc::Global;
 
-/// A plan that was read, with names in place of positions. It has at most 1,000 nodes, and no name in it is empty.
+/// A plan that was read, with names in place of positions. It has at most 1,000 nodes, 64 below one another, and no name in
+/// it is empty.
 #[derive(Debug, Drop)]
 pub struct Plan {
     sizes: Vec<String>,
@@ -18,6 +19,8 @@ pub struct Plan {
     total: bool,
     root: Node,
     ghost few_nodes: { tree_nodes (tree_of root) ≤ 1000 },
+    ghost few_levels: { tree_levels (tree_of root) ≤ 64 },
+    ghost declared: { is_head_form (map string_bytes sizes.items) (map range_form ranges.items) ≡ true },
     ghost formed: { is_tree_form (tree_of root) ≡ true },
 }
 
@@ -30,6 +33,8 @@ impl Plan {
     /// The parts of a plan, as a document has them.
     pub fn new(sizes: Vec<String>, ranges: Vec<NamedRange>, total: bool, root: Node) -> Plan
         requires few { tree_nodes (tree_of root) ≤ 1000 }
+        requires low { tree_levels (tree_of root) ≤ 64 }
+        requires declared { is_head_form (map string_bytes sizes.items) (map range_form ranges.items) ≡ true }
         requires formed { is_tree_form (tree_of root) ≡ true }
         ensures sizes { (document_of result).sizes ≡ map string_bytes sizes.items }
         ensures ranges { (document_of result).ranges ≡ map range_form ranges.items }
@@ -84,6 +89,8 @@ impl Plan {
     pub fn root(&self) -> &Node
         ensures root { tree_of result.now ≡ (document_of self.now).root }
         ensures few { tree_nodes (tree_of result.now) ≤ 1000 }
+        ensures low { tree_levels (tree_of result.now) ≤ 64 }
+        ensures declared { is_head_form (document_of self.now).sizes (document_of self.now).ranges ≡ true }
         ensures formed { is_tree_form (tree_of result.now) ≡ true }
     {
         &self.root

@@ -1,5 +1,15 @@
 //! A plan as JSON.
 
+ghost use Rattle.std.specs.Prelude.{◌≡◌, map, string_bytes, codes, Ok, IfOk, OnOk};
+ghost use Rattle.serde_json.specs.Data.{string, put};
+ghost use Rattle.serde_json.specs.View.{view, members_view};
+ghost use Rattle.serde_json.specs.Written.{compact_text};
+ghost use Rattle.vx_rows.specs.View.{val_of};
+ghost use Rattle.vx_document.specs.Document.{hash_part, range_part, range_form, part_form, claim_form, test_of, side_form, condition_form, output_form, function_form, aggregate_form, scan_form, unary_form, pair_form, binary_form, kind_form, tree_of};
+ghost use Rattle.vx_document.specs.PlanView.{document_of};
+ghost use Rattle.vx_document.specs.Reading.{document_of_text};
+ghost use Rattle.vx_document.specs.Written.{names_json, list_json, value_json, with_some, with_text, range_json, part_json, with_part, claim_members, with_object, with_claim, test_json, with_side, condition_json, output_json, with_function, with_call, aggregate_json, pair_json, with_some_text, with_scan, with_unary, with_join, with_binary, with_kind, scan_json, unary_json, binary_json, exchange_json, node_json, with_total, document_json};
+
 use crate::document::Plan;
 use crate::plan::{
     NamedAggregate, NamedBinary, NamedClaim, NamedCondition, NamedFunction, NamedKind, NamedOutput,
@@ -12,11 +22,15 @@ use vx_rows::Value;
 
 type Members = Map<String, Json>;
 
-fn text(alloc: Global, text: &str) -> Result<Json, AllocError> {
+fn text(alloc: Global, text: &str) -> Result<Json, AllocError>
+    ensures { IfOk result (λ d. view d ≡ string text.now) }
+{
     Ok(Json::String(String::from_str(alloc, text)?))
 }
 
-fn names_json(alloc: Global, names: &[String]) -> Result<Json, AllocError> {
+fn names_json(alloc: Global, names: &[String]) -> Result<Json, AllocError>
+    ensures { IfOk result (λ d. view d ≡ names_json (map string_bytes names.now)) }
+{
     let mut list = Vec::new(alloc);
     for name in names {
         list.push(text(alloc, name.as_str())?)?;
@@ -24,12 +38,9 @@ fn names_json(alloc: Global, names: &[String]) -> Result<Json, AllocError> {
     Ok(Json::Array(list))
 }
 
-fn put_text(
-    members: &mut Members,
-    alloc: Global,
-    key: &str,
-    value: &str,
-) -> Result<(), AllocError> {
+fn put_text(members: &mut Members, alloc: Global, key: &str, value: &str) -> Result<(), AllocError>
+    ensures { OnOk result (members_view members.new.entries ≡ with_text key.now value.now (members_view members.old.entries)) }
+{
     put(members, alloc, key, text(alloc, value)?)
 }
 
@@ -38,18 +49,39 @@ fn put_names(
     alloc: Global,
     key: &str,
     names: &[String],
-) -> Result<(), AllocError> {
+) -> Result<(), AllocError>
+    ensures { OnOk result (members_view members.new.entries ≡ put key.now (names_json (map string_bytes names.now)) (members_view members.old.entries)) }
+{
     put(members, alloc, key, names_json(alloc, names)?)
 }
 
-fn value_json(alloc: Global, value: &Value) -> Result<Json, AllocError> {
+/// The names, unless there are none.
+fn put_some_names(
+    members: &mut Members,
+    alloc: Global,
+    key: &str,
+    names: &[String],
+) -> Result<(), AllocError>
+    ensures { OnOk result (members_view members.new.entries ≡ with_some key.now string (map string_bytes names.now) (members_view members.old.entries)) }
+{
+    if names.is_empty() {
+        return Ok(());
+    }
+    put_names(members, alloc, key, names)
+}
+
+fn value_json(alloc: Global, value: &Value) -> Result<Json, AllocError>
+    ensures { IfOk result (λ d. view d ≡ value_json (val_of value.now)) }
+{
     match value {
         Value::Int(number) => Ok(Json::from(*number)),
         Value::Text(s) => text(alloc, s.as_str()),
     }
 }
 
-fn values_json(alloc: Global, values: &[Value]) -> Result<Json, AllocError> {
+fn values_json(alloc: Global, values: &[Value]) -> Result<Json, AllocError>
+    ensures { IfOk result (λ d. view d ≡ list_json value_json (map val_of values.now)) }
+{
     let mut list = Vec::new(alloc);
     for value in values {
         list.push(value_json(alloc, value)?)?;
@@ -57,41 +89,77 @@ fn values_json(alloc: Global, values: &[Value]) -> Result<Json, AllocError> {
     Ok(Json::Array(list))
 }
 
-fn ranges_json(alloc: Global, ranges: &[NamedRange]) -> Result<Json, AllocError> {
+fn range_json(alloc: Global, range: &NamedRange) -> Result<Json, AllocError>
+    ensures { IfOk result (λ d. view d ≡ range_json (range_form range.now)) }
+{
+    let mut members = Map::new(alloc);
+    put_text(&mut members, alloc, "name", range.name.as_str())?;
+    put(
+        &mut members,
+        alloc,
+        "bounds",
+        values_json(alloc, range.bounds.as_slice())?,
+    )?;
+    Ok(Json::Object(members))
+}
+
+fn ranges_json(alloc: Global, ranges: &[NamedRange]) -> Result<Json, AllocError>
+    ensures { IfOk result (λ d. view d ≡ list_json range_json (map range_form ranges.now)) }
+{
     let mut list = Vec::new(alloc);
     for range in ranges {
-        let mut members = Map::new(alloc);
-        put_text(&mut members, alloc, "name", range.name.as_str())?;
-        put(
-            &mut members,
-            alloc,
-            "bounds",
-            values_json(alloc, range.bounds.as_slice())?,
-        )?;
-        list.push(Json::Object(members))?;
+        list.push(range_json(alloc, range)?)?;
     }
     Ok(Json::Array(list))
 }
 
-fn part_json(alloc: Global, part: &NamedPart) -> Result<Json, AllocError> {
+fn hash_part_json(alloc: Global, route: &str, columns: &[String]) -> Result<Json, AllocError>
+    ensures { IfOk result (λ d. view d ≡ part_json (hash_part route.now (map string_bytes columns.now))) }
+{
     let mut members = Map::new(alloc);
-    match part {
-        NamedPart::One => return text(alloc, "one"),
-        NamedPart::Any => return text(alloc, "any"),
-        NamedPart::All => return text(alloc, "all"),
-        NamedPart::Hash { route, columns } => {
-            put_text(&mut members, alloc, "hash", route.as_str())?;
-            put_names(&mut members, alloc, "columns", columns.as_slice())?;
-        }
-        NamedPart::Range { range, column } => {
-            put_text(&mut members, alloc, "range", range.as_str())?;
-            put_text(&mut members, alloc, "column", column.as_str())?;
-        }
-    }
+    put_text(&mut members, alloc, "hash", route)?;
+    put_names(&mut members, alloc, "columns", columns)?;
     Ok(Json::Object(members))
 }
 
-fn keys_json(alloc: Global, keys: &[Vec<String>]) -> Result<Json, AllocError> {
+fn range_part_json(alloc: Global, range: &str, column: &str) -> Result<Json, AllocError>
+    ensures { IfOk result (λ d. view d ≡ part_json (range_part range.now column.now)) }
+{
+    let mut members = Map::new(alloc);
+    put_text(&mut members, alloc, "range", range)?;
+    put_text(&mut members, alloc, "column", column)?;
+    Ok(Json::Object(members))
+}
+
+fn part_json(alloc: Global, part: &NamedPart) -> Result<Json, AllocError>
+    ensures { IfOk result (λ d. view d ≡ part_json (part_form part.now)) }
+{
+    match part {
+        NamedPart::One => text(alloc, "one"),
+        NamedPart::Any => text(alloc, "any"),
+        NamedPart::All => text(alloc, "all"),
+        NamedPart::Hash { route, columns } => {
+            hash_part_json(alloc, route.as_str(), columns.as_slice())
+        }
+        NamedPart::Range { range, column } => {
+            range_part_json(alloc, range.as_str(), column.as_str())
+        }
+    }
+}
+
+/// The part, unless it is any.
+fn put_part(members: &mut Members, alloc: Global, part: &NamedPart) -> Result<(), AllocError>
+    ensures { OnOk result (members_view members.new.entries ≡ with_part (part_form part.now) (members_view members.old.entries)) }
+{
+    if matches!(part, NamedPart::Any) {
+        return Ok(());
+    }
+    put(members, alloc, "part", part_json(alloc, part)?)
+}
+
+fn keys_json(alloc: Global, keys: &[Vec<String>]) -> Result<Json, AllocError>
+    ensures { IfOk result (λ d. view d ≡ list_json names_json (map (λ k. map string_bytes k.items) keys.now)) }
+{
     let mut list = Vec::new(alloc);
     for key in keys {
         list.push(names_json(alloc, key.as_slice())?)?;
@@ -99,30 +167,51 @@ fn keys_json(alloc: Global, keys: &[Vec<String>]) -> Result<Json, AllocError> {
     Ok(Json::Array(list))
 }
 
-/// The claim of a node, unless it is any part without order and keys.
-fn put_claim(members: &mut Members, alloc: Global, claim: &NamedClaim) -> Result<(), AllocError> {
+/// The keys, unless there are none.
+fn put_keys(members: &mut Members, alloc: Global, keys: &[Vec<String>]) -> Result<(), AllocError>
+    ensures { OnOk result (members_view members.new.entries ≡ with_some (codes "keys") names_json (map (λ k. map string_bytes k.items) keys.now) (members_view members.old.entries)) }
+{
+    if keys.is_empty() {
+        return Ok(());
+    }
+    put(members, alloc, "keys", keys_json(alloc, keys)?)
+}
+
+fn claim_members(alloc: Global, claim: &NamedClaim) -> Result<Members, AllocError>
+    ensures { IfOk result (λ m. members_view m.entries ≡ claim_members (claim_form claim.now)) }
+{
     let mut own = Map::new(alloc);
-    if !matches!(&claim.part, NamedPart::Any) {
-        put(&mut own, alloc, "part", part_json(alloc, &claim.part)?)?;
-    }
-    if !claim.order.is_empty() {
-        put_names(&mut own, alloc, "order", claim.order.as_slice())?;
-    }
-    if !claim.keys.is_empty() {
-        put(
-            &mut own,
-            alloc,
-            "keys",
-            keys_json(alloc, claim.keys.as_slice())?,
-        )?;
-    }
+    put_part(&mut own, alloc, &claim.part)?;
+    put_some_names(&mut own, alloc, "order", claim.order.as_slice())?;
+    put_keys(&mut own, alloc, claim.keys.as_slice())?;
+    Ok(own)
+}
+
+/// An object of these members, unless there are none.
+fn put_object(
+    members: &mut Members,
+    alloc: Global,
+    key: &str,
+    own: Members,
+) -> Result<(), AllocError>
+    ensures { OnOk result (members_view members.new.entries ≡ with_object key.now (members_view own.entries) (members_view members.old.entries)) }
+{
     if own.is_empty() {
         return Ok(());
     }
-    put(members, alloc, "claim", Json::Object(own))
+    put(members, alloc, key, Json::Object(own))
 }
 
-fn test_text(test: Test) -> &'static str {
+/// The claim of a node, unless it is any part without order and keys.
+fn put_claim(members: &mut Members, alloc: Global, claim: &NamedClaim) -> Result<(), AllocError>
+    ensures { OnOk result (members_view members.new.entries ≡ with_claim (claim_form claim.now) (members_view members.old.entries)) }
+{
+    put_object(members, alloc, "claim", claim_members(alloc, claim)?)
+}
+
+fn test_text(test: Test) -> &'static str
+    ensures { result.now ≡ test_json (test_of test) }
+{
     match test {
         Test::Equal => "=",
         Test::Unequal => "<>",
@@ -133,18 +222,28 @@ fn test_text(test: Test) -> &'static str {
     }
 }
 
-fn condition_json(alloc: Global, condition: &NamedCondition) -> Result<Json, AllocError> {
+fn put_side(members: &mut Members, alloc: Global, side: &NamedSide) -> Result<(), AllocError>
+    ensures { OnOk result (members_view members.new.entries ≡ with_side (side_form side.now) (members_view members.old.entries)) }
+{
+    match side {
+        NamedSide::Column(name) => put_text(members, alloc, "column2", name.as_str()),
+        NamedSide::Constant(value) => put(members, alloc, "value", value_json(alloc, value)?),
+    }
+}
+
+fn condition_json(alloc: Global, condition: &NamedCondition) -> Result<Json, AllocError>
+    ensures { IfOk result (λ d. view d ≡ condition_json (condition_form condition.now)) }
+{
     let mut members = Map::new(alloc);
     put_text(&mut members, alloc, "column", condition.left.as_str())?;
     put_text(&mut members, alloc, "op", test_text(condition.test))?;
-    match &condition.right {
-        NamedSide::Column(name) => put_text(&mut members, alloc, "column2", name.as_str())?,
-        NamedSide::Constant(value) => put(&mut members, alloc, "value", value_json(alloc, value)?)?,
-    }
+    put_side(&mut members, alloc, &condition.right)?;
     Ok(Json::Object(members))
 }
 
-fn conditions_json(alloc: Global, conditions: &[NamedCondition]) -> Result<Json, AllocError> {
+fn conditions_json(alloc: Global, conditions: &[NamedCondition]) -> Result<Json, AllocError>
+    ensures { IfOk result (λ d. view d ≡ list_json condition_json (map condition_form conditions.now)) }
+{
     let mut list = Vec::new(alloc);
     for condition in conditions {
         list.push(condition_json(alloc, condition)?)?;
@@ -152,7 +251,9 @@ fn conditions_json(alloc: Global, conditions: &[NamedCondition]) -> Result<Json,
     Ok(Json::Array(list))
 }
 
-fn output_json(alloc: Global, output: &NamedOutput) -> Result<Json, AllocError> {
+fn output_json(alloc: Global, output: &NamedOutput) -> Result<Json, AllocError>
+    ensures { IfOk result (λ d. view d ≡ output_json (output_form output.now)) }
+{
     let Some(name) = &output.renamed else {
         return text(alloc, output.column.as_str());
     };
@@ -162,7 +263,9 @@ fn output_json(alloc: Global, output: &NamedOutput) -> Result<Json, AllocError> 
     Ok(Json::Object(members))
 }
 
-fn outputs_json(alloc: Global, outputs: &[NamedOutput]) -> Result<Json, AllocError> {
+fn outputs_json(alloc: Global, outputs: &[NamedOutput]) -> Result<Json, AllocError>
+    ensures { IfOk result (λ d. view d ≡ list_json output_json (map output_form outputs.now)) }
+{
     let mut list = Vec::new(alloc);
     for output in outputs {
         list.push(output_json(alloc, output)?)?;
@@ -170,76 +273,116 @@ fn outputs_json(alloc: Global, outputs: &[NamedOutput]) -> Result<Json, AllocErr
     Ok(Json::Array(list))
 }
 
-fn put_function(
+/// An aggregate over a column.
+fn put_call(
     members: &mut Members,
     alloc: Global,
-    function: &NamedFunction,
-) -> Result<(), AllocError> {
-    let (name, column) = match function {
-        NamedFunction::Least(column) => ("min", column.as_str()),
-        NamedFunction::Greatest(column) => ("max", column.as_str()),
-        NamedFunction::Sum(column) => ("sum", column.as_str()),
-        NamedFunction::CountRows => return put_text(members, alloc, "fn", "count"),
-    };
+    name: &str,
+    column: &str,
+) -> Result<(), AllocError>
+    ensures { OnOk result (members_view members.new.entries ≡ with_call name.now column.now (members_view members.old.entries)) }
+{
     put_text(members, alloc, "fn", name)?;
     put_text(members, alloc, "column", column)
 }
 
-fn aggregates_json(alloc: Global, aggregates: &[NamedAggregate]) -> Result<Json, AllocError> {
+fn put_function(
+    members: &mut Members,
+    alloc: Global,
+    function: &NamedFunction,
+) -> Result<(), AllocError>
+    ensures { OnOk result (members_view members.new.entries ≡ with_function (function_form function.now) (members_view members.old.entries)) }
+{
+    match function {
+        NamedFunction::Least(column) => put_call(members, alloc, "min", column.as_str()),
+        NamedFunction::Greatest(column) => put_call(members, alloc, "max", column.as_str()),
+        NamedFunction::Sum(column) => put_call(members, alloc, "sum", column.as_str()),
+        NamedFunction::CountRows => put_text(members, alloc, "fn", "count"),
+    }
+}
+
+fn aggregate_json(alloc: Global, aggregate: &NamedAggregate) -> Result<Json, AllocError>
+    ensures { IfOk result (λ d. view d ≡ aggregate_json (aggregate_form aggregate.now)) }
+{
+    let mut members = Map::new(alloc);
+    put_function(&mut members, alloc, &aggregate.function)?;
+    put_text(&mut members, alloc, "as", aggregate.name.as_str())?;
+    Ok(Json::Object(members))
+}
+
+fn aggregates_json(alloc: Global, aggregates: &[NamedAggregate]) -> Result<Json, AllocError>
+    ensures { IfOk result (λ d. view d ≡ list_json aggregate_json (map aggregate_form aggregates.now)) }
+{
     let mut list = Vec::new(alloc);
     for aggregate in aggregates {
-        let mut members = Map::new(alloc);
-        put_function(&mut members, alloc, &aggregate.function)?;
-        put_text(&mut members, alloc, "as", aggregate.name.as_str())?;
-        list.push(Json::Object(members))?;
+        list.push(aggregate_json(alloc, aggregate)?)?;
     }
     Ok(Json::Array(list))
 }
 
-fn put_scan(members: &mut Members, alloc: Global, scan: &NamedScan) -> Result<(), AllocError> {
-    put_text(members, alloc, "op", "scan")?;
-    put_text(members, alloc, "relation", scan.relation.as_str())?;
-    put_text(
-        members,
-        alloc,
-        "mode",
-        if scan.shared { "shared" } else { "whole" },
-    )?;
-    put_text(members, alloc, "size", scan.size.as_str())?;
-    if scan.prefix.is_empty() {
-        return Ok(());
-    }
-    put_text(members, alloc, "prefix", scan.prefix.as_str())
+fn pair_json(alloc: Global, pair: &(String, String)) -> Result<Json, AllocError>
+    ensures { IfOk result (λ d. view d ≡ pair_json (pair_form pair.now)) }
+{
+    let mut both = Vec::new(alloc);
+    both.push(text(alloc, pair.0.as_str())?)?;
+    both.push(text(alloc, pair.1.as_str())?)?;
+    Ok(Json::Array(both))
 }
 
-fn put_unary(members: &mut Members, alloc: Global, unary: &NamedUnary) -> Result<(), AllocError> {
+fn pairs_json(alloc: Global, pairs: &[(String, String)]) -> Result<Json, AllocError>
+    ensures { IfOk result (λ d. view d ≡ list_json pair_json (map pair_form pairs.now)) }
+{
+    let mut list = Vec::new(alloc);
+    for pair in pairs {
+        list.push(pair_json(alloc, pair)?)?;
+    }
+    Ok(Json::Array(list))
+}
+
+/// A text, unless it is empty.
+fn put_some_text(
+    members: &mut Members,
+    alloc: Global,
+    key: &str,
+    value: &str,
+) -> Result<(), AllocError>
+    ensures { OnOk result (members_view members.new.entries ≡ with_some_text key.now value.now (members_view members.old.entries)) }
+{
+    if value.is_empty() {
+        return Ok(());
+    }
+    put_text(members, alloc, key, value)
+}
+
+fn put_scan(members: &mut Members, alloc: Global, scan: &NamedScan) -> Result<(), AllocError>
+    ensures { OnOk result (members_view members.new.entries ≡ with_scan (scan_form scan.now) (members_view members.old.entries)) }
+{
+    let mode = if scan.shared { "shared" } else { "whole" };
+    put_text(members, alloc, "op", "scan")?;
+    put_text(members, alloc, "relation", scan.relation.as_str())?;
+    put_text(members, alloc, "mode", mode)?;
+    put_text(members, alloc, "size", scan.size.as_str())?;
+    put_some_text(members, alloc, "prefix", scan.prefix.as_str())
+}
+
+fn put_unary(members: &mut Members, alloc: Global, unary: &NamedUnary) -> Result<(), AllocError>
+    ensures { OnOk result (members_view members.new.entries ≡ with_unary (unary_form unary.now) (members_view members.old.entries)) }
+{
     match unary {
         NamedUnary::Select(conditions) => {
             put_text(members, alloc, "op", "select")?;
-            put(
-                members,
-                alloc,
-                "where",
-                conditions_json(alloc, conditions.as_slice())?,
-            )
+            let conditions = conditions_json(alloc, conditions.as_slice())?;
+            put(members, alloc, "where", conditions)
         }
         NamedUnary::Project(outputs) => {
             put_text(members, alloc, "op", "project")?;
-            put(
-                members,
-                alloc,
-                "columns",
-                outputs_json(alloc, outputs.as_slice())?,
-            )
+            let outputs = outputs_json(alloc, outputs.as_slice())?;
+            put(members, alloc, "columns", outputs)
         }
         NamedUnary::Distinct(outputs) => {
             put_text(members, alloc, "op", "distinct")?;
-            put(
-                members,
-                alloc,
-                "columns",
-                outputs_json(alloc, outputs.as_slice())?,
-            )
+            let outputs = outputs_json(alloc, outputs.as_slice())?;
+            put(members, alloc, "columns", outputs)
         }
         NamedUnary::Sort(names) => {
             put_text(members, alloc, "op", "sort")?;
@@ -248,25 +391,10 @@ fn put_unary(members: &mut Members, alloc: Global, unary: &NamedUnary) -> Result
         NamedUnary::Group(by, aggregates) => {
             put_text(members, alloc, "op", "group")?;
             put_names(members, alloc, "by", by.as_slice())?;
-            put(
-                members,
-                alloc,
-                "aggregates",
-                aggregates_json(alloc, aggregates.as_slice())?,
-            )
+            let aggregates = aggregates_json(alloc, aggregates.as_slice())?;
+            put(members, alloc, "aggregates", aggregates)
         }
     }
-}
-
-fn pairs_json(alloc: Global, pairs: &[(String, String)]) -> Result<Json, AllocError> {
-    let mut list = Vec::new(alloc);
-    for pair in pairs {
-        let mut both = Vec::new(alloc);
-        both.push(text(alloc, pair.0.as_str())?)?;
-        both.push(text(alloc, pair.1.as_str())?)?;
-        list.push(Json::Array(both))?;
-    }
-    Ok(Json::Array(list))
 }
 
 fn put_join(
@@ -274,17 +402,17 @@ fn put_join(
     alloc: Global,
     method: &str,
     on: &[(String, String)],
-) -> Result<(), AllocError> {
+) -> Result<(), AllocError>
+    ensures { OnOk result (members_view members.new.entries ≡ with_join method.now (map pair_form on.now) (members_view members.old.entries)) }
+{
     put_text(members, alloc, "op", "join")?;
     put_text(members, alloc, "method", method)?;
     put(members, alloc, "on", pairs_json(alloc, on)?)
 }
 
-fn put_binary(
-    members: &mut Members,
-    alloc: Global,
-    binary: &NamedBinary,
-) -> Result<(), AllocError> {
+fn put_binary(members: &mut Members, alloc: Global, binary: &NamedBinary) -> Result<(), AllocError>
+    ensures { OnOk result (members_view members.new.entries ≡ with_binary (binary_form binary.now) (members_view members.old.entries)) }
+{
     match binary {
         NamedBinary::Union => put_text(members, alloc, "op", "union"),
         NamedBinary::HashJoin(on) => put_join(members, alloc, "hash", on.as_slice()),
@@ -292,15 +420,23 @@ fn put_binary(
     }
 }
 
-fn put_kind(members: &mut Members, alloc: Global, kind: &NamedKind) -> Result<(), AllocError> {
+fn put_sized(members: &mut Members, alloc: Global, kind: &str, size: &str) -> Result<(), AllocError>
+    ensures { OnOk result (members_view members.new.entries ≡ with_text (codes "size") size.now (with_text (codes "kind") kind.now (members_view members.old.entries))) }
+{
+    put_text(members, alloc, "kind", kind)?;
+    put_text(members, alloc, "size", size)
+}
+
+fn put_kind(members: &mut Members, alloc: Global, kind: &NamedKind) -> Result<(), AllocError>
+    ensures { OnOk result (members_view members.new.entries ≡ with_kind (kind_form kind.now) (members_view members.old.entries)) }
+{
     match kind {
         NamedKind::Hash {
             size,
             route,
             columns,
         } => {
-            put_text(members, alloc, "kind", "hash")?;
-            put_text(members, alloc, "size", size.as_str())?;
+            put_sized(members, alloc, "hash", size.as_str())?;
             put_text(members, alloc, "route", route.as_str())?;
             put_names(members, alloc, "columns", columns.as_slice())
         }
@@ -309,75 +445,129 @@ fn put_kind(members: &mut Members, alloc: Global, kind: &NamedKind) -> Result<()
             range,
             column,
         } => {
-            put_text(members, alloc, "kind", "range")?;
-            put_text(members, alloc, "size", size.as_str())?;
+            put_sized(members, alloc, "range", size.as_str())?;
             put_text(members, alloc, "route", range.as_str())?;
             put_text(members, alloc, "column", column.as_str())
         }
-        NamedKind::Round(size) => {
-            put_text(members, alloc, "kind", "round")?;
-            put_text(members, alloc, "size", size.as_str())
-        }
-        NamedKind::Broadcast(size) => {
-            put_text(members, alloc, "kind", "broadcast")?;
-            put_text(members, alloc, "size", size.as_str())
-        }
+        NamedKind::Round(size) => put_sized(members, alloc, "round", size.as_str()),
+        NamedKind::Broadcast(size) => put_sized(members, alloc, "broadcast", size.as_str()),
         NamedKind::Gather => put_text(members, alloc, "kind", "gather"),
     }
 }
 
-fn node_json(alloc: Global, node: &Node) -> Result<Json, AllocError> {
+fn scan_json(alloc: Global, claim: &NamedClaim, scan: &NamedScan) -> Result<Json, AllocError>
+    ensures { IfOk result (λ d. view d ≡ scan_json (claim_form claim.now) (scan_form scan.now)) }
+{
     let mut members = Map::new(alloc);
-    match node {
-        Node::Scan(claim, scan) => {
-            put_claim(&mut members, alloc, claim)?;
-            put_scan(&mut members, alloc, scan)?;
-        }
-        Node::Unary(claim, unary, input) => {
-            put_claim(&mut members, alloc, claim)?;
-            put_unary(&mut members, alloc, unary)?;
-            put(&mut members, alloc, "input", node_json(alloc, input)?)?;
-        }
-        Node::Binary(claim, binary, left, right) => {
-            put_claim(&mut members, alloc, claim)?;
-            put_binary(&mut members, alloc, binary)?;
-            put(&mut members, alloc, "left", node_json(alloc, left)?)?;
-            put(&mut members, alloc, "right", node_json(alloc, right)?)?;
-        }
-        Node::Exchange(claim, kind, merge, input) => {
-            put_claim(&mut members, alloc, claim)?;
-            put_text(&mut members, alloc, "op", "exchange")?;
-            put_kind(&mut members, alloc, kind)?;
-            if !merge.is_empty() {
-                put_names(&mut members, alloc, "merge", merge.as_slice())?;
-            }
-            put(&mut members, alloc, "input", node_json(alloc, input)?)?;
-        }
-    }
+    put_claim(&mut members, alloc, claim)?;
+    put_scan(&mut members, alloc, scan)?;
     Ok(Json::Object(members))
 }
 
-fn plan_json(alloc: Global, plan: &Plan) -> Result<Json, AllocError> {
+fn unary_json(
+    alloc: Global,
+    claim: &NamedClaim,
+    unary: &NamedUnary,
+    input: Json,
+) -> Result<Json, AllocError>
+    ensures { IfOk result (λ d. view d ≡ unary_json (claim_form claim.now) (unary_form unary.now) (view input)) }
+{
     let mut members = Map::new(alloc);
-    if !plan.sizes().is_empty() {
-        put_names(&mut members, alloc, "sizes", plan.sizes())?;
+    put_claim(&mut members, alloc, claim)?;
+    put_unary(&mut members, alloc, unary)?;
+    put(&mut members, alloc, "input", input)?;
+    Ok(Json::Object(members))
+}
+
+fn binary_json(
+    alloc: Global,
+    claim: &NamedClaim,
+    binary: &NamedBinary,
+    left: Json,
+    right: Json,
+) -> Result<Json, AllocError>
+    ensures { IfOk result (λ d. view d ≡ binary_json (claim_form claim.now) (binary_form binary.now) (view left) (view right)) }
+{
+    let mut members = Map::new(alloc);
+    put_claim(&mut members, alloc, claim)?;
+    put_binary(&mut members, alloc, binary)?;
+    put(&mut members, alloc, "left", left)?;
+    put(&mut members, alloc, "right", right)?;
+    Ok(Json::Object(members))
+}
+
+fn exchange_json(
+    alloc: Global,
+    claim: &NamedClaim,
+    kind: &NamedKind,
+    merge: &[String],
+    input: Json,
+) -> Result<Json, AllocError>
+    ensures { IfOk result (λ d. view d ≡ exchange_json (claim_form claim.now) (kind_form kind.now) (map string_bytes merge.now) (view input)) }
+{
+    let mut members = Map::new(alloc);
+    put_claim(&mut members, alloc, claim)?;
+    put_text(&mut members, alloc, "op", "exchange")?;
+    put_kind(&mut members, alloc, kind)?;
+    put_some_names(&mut members, alloc, "merge", merge)?;
+    put(&mut members, alloc, "input", input)?;
+    Ok(Json::Object(members))
+}
+
+fn node_json(alloc: Global, node: &Node) -> Result<Json, AllocError>
+    ensures { IfOk result (λ d. view d ≡ node_json (tree_of node.now)) }
+{
+    match node {
+        Node::Scan(claim, scan) => scan_json(alloc, claim, scan),
+        Node::Unary(claim, unary, input) => {
+            unary_json(alloc, claim, unary, node_json(alloc, input)?)
+        }
+        Node::Binary(claim, binary, left, right) => {
+            let left = node_json(alloc, left)?;
+            binary_json(alloc, claim, binary, left, node_json(alloc, right)?)
+        }
+        Node::Exchange(claim, kind, merge, input) => {
+            let input = node_json(alloc, input)?;
+            exchange_json(alloc, claim, kind, merge.as_slice(), input)
+        }
     }
-    if !plan.ranges().is_empty() {
-        put(
-            &mut members,
-            alloc,
-            "ranges",
-            ranges_json(alloc, plan.ranges())?,
-        )?;
+}
+
+/// The ranges, unless there are none.
+fn put_ranges(members: &mut Members, alloc: Global, ranges: &[NamedRange]) -> Result<(), AllocError>
+    ensures { OnOk result (members_view members.new.entries ≡ with_some (codes "ranges") range_json (map range_form ranges.now) (members_view members.old.entries)) }
+{
+    if ranges.is_empty() {
+        return Ok(());
     }
-    if plan.is_total() {
-        put(&mut members, alloc, "total", Json::Bool(true))?;
+    put(members, alloc, "ranges", ranges_json(alloc, ranges)?)
+}
+
+/// Whether the root's list is in a total order, unless it is not.
+fn put_total(members: &mut Members, alloc: Global, total: bool) -> Result<(), AllocError>
+    ensures { OnOk result (members_view members.new.entries ≡ with_total total (members_view members.old.entries)) }
+{
+    if !total {
+        return Ok(());
     }
+    put(members, alloc, "total", Json::Bool(true))
+}
+
+fn plan_json(alloc: Global, plan: &Plan) -> Result<Json, AllocError>
+    ensures { IfOk result (λ d. view d ≡ document_json (document_of plan.now)) }
+{
+    let mut members = Map::new(alloc);
+    put_some_names(&mut members, alloc, "sizes", plan.sizes())?;
+    put_ranges(&mut members, alloc, plan.ranges())?;
+    put_total(&mut members, alloc, plan.is_total())?;
     put(&mut members, alloc, "root", node_json(alloc, plan.root())?)?;
     Ok(Json::Object(members))
 }
 
 /// The plan as a JSON text, without the members that have their defaults. It reads as the same plan.
-pub fn to_json(alloc: Global, plan: &Plan) -> Result<String, AllocError> {
+pub fn to_json(alloc: Global, plan: &Plan) -> Result<String, AllocError>
+    ensures text { IfOk result (λ s. string_bytes s ≡ compact_text (document_json (document_of plan.now))) }
+    ensures reads_back { IfOk result (λ s. document_of_text (string_bytes s) ≡ Ok (document_of plan.now)) }
+{
     plan_json(alloc, plan)?.to_string(alloc)
 }

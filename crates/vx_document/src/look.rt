@@ -11,7 +11,7 @@ ghost use Rattle.vx_document.specs.Look.{as_list, is_among, has_only, name_in, n
 
 use serde_json::{Map, Value as Json};
 use std::alloc::{AllocError, Global};
-use vx_rows::Value;
+use vx_rows::{Cell, Value};
 
 /// The items of an array.
 pub fn items(value: &Json) -> Option<&[Json]>
@@ -85,11 +85,13 @@ pub fn text_at<'v>(value: &'v Json, key: &str) -> Option<&'v str>
 pub fn value_in(alloc: Global, value: &Json) -> Result<Option<Value>, AllocError>
     ensures { Reads val_of result (value_in (view value.now)) }
 {
-    if let Some(n) = value.as_i64() {
-        return Ok(Some(Value::Int(n)));
+    if let Some(number) = value.as_i64() {
+        Cell::Int(number).held();
+        return Ok(Some(Value::Int(number)));
     }
-    match value.as_str() {
-        Some(text) => Ok(Some(Value::Text(String::from_str(alloc, text)?))),
-        None => Ok(None),
-    }
+    let Some(text) = value.as_str() else {
+        return Ok(None);
+    };
+    Cell::Text(text).held();
+    Ok(Some(Value::Text(String::from_str(alloc, text)?)))
 }

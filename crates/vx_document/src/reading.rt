@@ -79,9 +79,8 @@ pub fn node_in(
         return Err(PlanFault::TooDeep);
     }
     let Some(own) = own_in(alloc, value)? else {
-        return Err(PlanFault::BadNode {
-            path: String::from_str(alloc, path)?,
-        });
+        let path = String::from_str(alloc, path)?;
+        return Err(PlanFault::BadNode { path });
     };
     match own {
         Own::Scan(claim, scan) => Ok((Node::Scan(claim, scan), seen + 1)),
@@ -95,23 +94,14 @@ pub fn node_in(
             let (first, between) = node_in(alloc, levels - 1, seen + 1, below.as_str(), left)?;
             let below = path_of(alloc, path, ".right")?;
             let (second, after) = node_in(alloc, levels - 1, between, below.as_str(), right)?;
-            Ok((
-                Node::Binary(
-                    claim,
-                    binary,
-                    Box::new(alloc, first)?,
-                    Box::new(alloc, second)?,
-                ),
-                after,
-            ))
+            let (left, right) = (Box::new(alloc, first)?, Box::new(alloc, second)?);
+            Ok((Node::Binary(claim, binary, left, right), after))
         }
         Own::Exchange(claim, kind, merge, input) => {
             let below = path_of(alloc, path, ".input")?;
             let (node, after) = node_in(alloc, levels - 1, seen + 1, below.as_str(), input)?;
-            Ok((
-                Node::Exchange(claim, kind, merge, Box::new(alloc, node)?),
-                after,
-            ))
+            let input = Box::new(alloc, node)?;
+            Ok((Node::Exchange(claim, kind, merge, input), after))
         }
     }
 }

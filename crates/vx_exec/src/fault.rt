@@ -19,7 +19,7 @@ pub enum RunFault {
     /// A morsel is to have no row, or over 1,000,000 rows.
     #[error("X4 BadMorsel")]
     BadMorsel,
-    /// The entry with this index, in a list of the workers that are to make a step, names no worker that can.
+    /// The entry with this index, in a schedule of the workers that make a step each, is no number of a worker.
     #[error("X5 BadStep index={index}")]
     BadStep { index: usize },
     /// The database is not one of the plan's catalog.
@@ -31,13 +31,13 @@ pub enum RunFault {
     /// A growth was refused.
     #[error("X8 NoMemory")]
     NoMemory,
-    /// A thread was refused.
+    /// The machine refused to start a thread.
     #[error("X9 NoThread")]
     NoThread,
-    /// The rows that came to a node are not in the order that it needs.
+    /// Rows that came to a node fall where it needs them to rise. Never in a run of an accepted plan.
     #[error("X10 Unsorted node={node}")]
     Unsorted { node: u32 },
-    /// A key outside of the keys that an exchange routes came to it.
+    /// A packet of another exchange, producer, consumer or types came to an exchange. Never in a run of an accepted plan.
     #[error("X11 Stranger exchange={exchange}")]
     Stranger { exchange: u32 },
     /// The plan has so many workers, which is over 256.

@@ -1,6 +1,6 @@
 use Rattle.std.proofs.Common.{◌∙◌, map}
 use Rattle.serde_json.specs.View.{view}
-use Rattle.vx_document.proofs.LookFacts.{only_members, no_members_at_all}
+use Rattle.vx_document.proofs.LookFacts.{only_members}
 use Rattle.vx_document.proofs.look.has_only.Goals as goal
 
 pub returns-in-Some : goal.returns-in-Some

@@ -1,4 +1,3 @@
-use Rattle.std.proofs.Common.{◌∙◌}
 use Rattle.vx_document.proofs.LookFacts.{items_are}
 use Rattle.vx_document.proofs.look.items.Goals as goal
 

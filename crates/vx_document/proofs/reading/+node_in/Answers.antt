@@ -1,4 +1,4 @@
-use Rattle.std.proofs.Common.{◌≡◌, ◌++◌, ◌+◌, ◌-◌, codes, Some, string_bytes, sym, ap, ◌∙◌, arith, rules, map, refl}
+use Rattle.std.proofs.Common.{◌≡◌, ◌++◌, codes, Some, string_bytes, ◌∙◌, arith, rules, map}
 use Rattle.std.proofs.lemmas.Result.{err_from_is_err_and}
 use Rattle.serde_json.specs.View.{view}
 use Rattle.vx_document.specs.Document.{claim_form, unary_form, binary_form, kind_form}
@@ -40,8 +40,8 @@ returns-in_err-node-in-Exchange t c =
     let at : c.as_str-in-Exchange.result.now ≡ c.args.path.now ++ codes ".input" = c.as_str-in-Exchange.ensures.value ∙ c.in_ok-below-in-Exchange.ensures in
     rw (p.1, p.2, step) (fails_then _ _ _ (rw at at c.in_err-node-in-Exchange.ensures))
 
-pub returns-in_ok-new-in-Binary-2 : goal.returns-in_ok-new-in-Binary-2
-returns-in_ok-new-in-Binary-2 t c =
+pub returns-in_ok-right-in-Binary : goal.returns-in_ok-right-in-Binary
+returns-in_ok-right-in-Binary t c =
     let own : own_in (view c.args.value.now) ≡ Some (own_binary (claim_form c.in-Binary.claim) (binary_form c.in-Binary.binary) (view c.in-Binary.left.now) (view c.in-Binary.right.now)) = search rules in
     let step = node_step c.args.levels c.args.seen c.args.path.now (view c.args.value.now) _ (omega arith) (omega arith) own in
     let at : c.as_str-in-Binary.result.now ≡ c.args.path.now ++ codes ".left" = c.as_str-in-Binary.ensures.value ∙ c.in_ok-below-in-Binary.ensures in
@@ -50,8 +50,8 @@ returns-in_ok-new-in-Binary-2 t c =
     let second = rw there at c.in_ok-second-in-Binary.ensures in
     rw (step, first, second) (search rules)
 
-pub returns-in_ok-new-in-Exchange : goal.returns-in_ok-new-in-Exchange
-returns-in_ok-new-in-Exchange t c =
+pub returns-in_ok-input-in-Exchange : goal.returns-in_ok-input-in-Exchange
+returns-in_ok-input-in-Exchange t c =
     let own : own_in (view c.args.value.now) ≡ Some (own_exchange (claim_form c.in-Exchange.claim) (kind_form c.in-Exchange.kind) (map string_bytes c.in-Exchange.merge.items) (view c.in-Exchange.input.now)) = search rules in
     let step = node_step c.args.levels c.args.seen c.args.path.now (view c.args.value.now) _ (omega arith) (omega arith) own in
     let at : c.as_str-in-Exchange.result.now ≡ c.args.path.now ++ codes ".input" = c.as_str-in-Exchange.ensures.value ∙ c.in_ok-below-in-Exchange.ensures in
