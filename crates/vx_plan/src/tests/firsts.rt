@@ -105,6 +105,10 @@ const OPERATORS: &[(&str, &str)] = &[
         r#"{"op":"select","where":[{"column":"v","op":"=","value":"7"},{"column":"w","op":"=","value":7}],"input":@t}"#,
         "P5 UnknownColumn node=0 name=w",
     ),
+    (
+        r#"{"op":"exchange","kind":"range","size":"many","route":"q","column":"id","merge":["id","id"],"input":@t}"#,
+        "P8 UnknownRange node=0 name=q",
+    ),
 ];
 
 /// Of two names that are refused alike, the first in the order of the node.

@@ -6,6 +6,10 @@ use std::alloc::Global;
 use std::test::Fail;
 use vx_rows::ColType;
 
+/// A merging gather over a hash join with a broadcast right side, marked total.
+const JOINED: &str =
+    r#"{"sizes":["many"],"total":true,"root":{"op":"exchange","kind":"gather","merge":["id"],"input":{"op":"join","method":"hash","on":[["k","d.k"]],"left":{"op":"scan","relation":"t","mode":"shared","size":"many","claim":{"order":["id"],"keys":[["id"]]}},"right":{"op":"exchange","kind":"broadcast","size":"many","input":{"op":"scan","relation":"d","mode":"shared","size":"many","prefix":"d.","claim":{"keys":[["d.k"]]}},"claim":{"part":"all","keys":[["d.k"]]}},"claim":{"order":["id"],"keys":[["id"]]}},"claim":{"part":"one","order":["id"],"keys":[["id"]]}}}"#;
+
 /// Plans that are typed.
 const PLANS: &[(&str, &str)] = &[
     (
@@ -28,10 +32,7 @@ const PLANS: &[(&str, &str)] = &[
         r#"{"sizes":["many"],"total":true,"root":{"op":"exchange","kind":"gather","merge":["k"],"input":{"op":"sort","columns":["k"],"input":{"op":"group","by":["k"],"aggregates":[{"fn":"sum","column":"v","as":"s"}],"input":{"op":"scan","relation":"t","mode":"shared","size":"many"},"claim":{"part":{"hash":"h","columns":["k"]},"keys":[["k"]]}},"claim":{"part":{"hash":"h","columns":["k"]},"order":["k"],"keys":[["k"]]}},"claim":{"part":"one","order":["k"],"keys":[["k"]]}}}"#,
         "ok",
     ),
-    (
-        r#"{"sizes":["many"],"total":true,"root":{"op":"exchange","kind":"gather","merge":["id"],"input":{"op":"join","method":"hash","on":[["k","d.k"]],"left":{"op":"scan","relation":"t","mode":"shared","size":"many","claim":{"order":["id"],"keys":[["id"]]}},"right":{"op":"exchange","kind":"broadcast","size":"many","input":{"op":"scan","relation":"d","mode":"shared","size":"many","prefix":"d.","claim":{"keys":[["d.k"]]}},"claim":{"part":"all","keys":[["d.k"]]}},"claim":{"order":["id"],"keys":[["id"]]}},"claim":{"part":"one","order":["id"],"keys":[["id"]]}}}"#,
-        "ok",
-    ),
+    (JOINED, "ok"),
     (
         r#"{"sizes":["many"],"root":{"op":"exchange","kind":"gather","input":{"op":"scan","relation":"d","mode":"whole","size":"many","prefix":"d.","claim":{"part":"all"}},"claim":{"part":"one"}}}"#,
         "ok",
@@ -102,10 +103,7 @@ const NUMBERED: &[(&str, &str)] = &[
         r#"{"sizes":["many"],"total":true,"root":{"op":"exchange","kind":"gather","merge":["k"],"input":{"op":"sort","columns":["k"],"input":{"op":"group","by":["k"],"aggregates":[{"fn":"sum","column":"v","as":"s"}],"input":{"op":"exchange","kind":"hash","size":"many","route":"h","columns":["k"],"input":{"op":"scan","relation":"t","mode":"shared","size":"many"},"claim":{"part":{"hash":"h","columns":["k"]}}},"claim":{"part":{"hash":"h","columns":["k"]},"keys":[["k"]]}},"claim":{"part":{"hash":"h","columns":["k"]},"order":["k"],"keys":[["k"]]}},"claim":{"part":"one","order":["k"],"keys":[["k"]]}}}"#,
         "0 exchange(1 sort(2 group(3 exchange(4 scan))))",
     ),
-    (
-        r#"{"sizes":["many"],"total":true,"root":{"op":"exchange","kind":"gather","merge":["id"],"input":{"op":"join","method":"hash","on":[["k","d.k"]],"left":{"op":"scan","relation":"t","mode":"shared","size":"many","claim":{"order":["id"],"keys":[["id"]]}},"right":{"op":"exchange","kind":"broadcast","size":"many","input":{"op":"scan","relation":"d","mode":"shared","size":"many","prefix":"d.","claim":{"keys":[["d.k"]]}},"claim":{"part":"all","keys":[["d.k"]]}},"claim":{"order":["id"],"keys":[["id"]]}},"claim":{"part":"one","order":["id"],"keys":[["id"]]}}}"#,
-        "0 exchange(1 join(2 scan,3 exchange(4 scan)))",
-    ),
+    (JOINED, "0 exchange(1 join(2 scan,3 exchange(4 scan)))"),
     (
         r#"{"sizes":["many"],"root":{"op":"exchange","kind":"gather","input":{"op":"join","method":"hash","on":[["k","d.k"]],"left":{"op":"exchange","kind":"hash","size":"many","route":"h1","columns":["k"],"input":{"op":"scan","relation":"t","mode":"shared","size":"many","claim":{"order":["id"],"keys":[["id"]]}},"claim":{"part":{"hash":"h1","columns":["k"]},"keys":[["id"]]}},"right":{"op":"exchange","kind":"hash","size":"many","route":"h2","columns":["d.k"],"input":{"op":"scan","relation":"d","mode":"shared","size":"many","prefix":"d.","claim":{"keys":[["d.k"]]}},"claim":{"part":{"hash":"h2","columns":["d.k"]},"keys":[["d.k"]]}}},"claim":{"part":"one"}}}"#,
         "0 exchange(1 join(2 exchange(3 scan),4 exchange(5 scan)))",
@@ -191,7 +189,7 @@ fn numbers_go_in_preorder(rt: HostRuntime) -> Result<(), Fail> {
 #[test]
 fn joins_give_the_left_columns_first(rt: HostRuntime) -> Result<(), Fail> {
     let catalog = catalog(rt.alloc())?;
-    let plan = typed(rt.alloc(), &catalog, PLANS[5].0)?;
+    let plan = typed(rt.alloc(), &catalog, JOINED)?;
     let columns = &plan.root().head().columns;
     let mut names = String::new(rt.alloc());
     for name in &columns.names {
