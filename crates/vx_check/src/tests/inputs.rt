@@ -3,7 +3,8 @@
 use super::first_odd_root;
 use std::test::Fail;
 
-/// The inputs of a union both have any or both have all, which another refusal than the claim tells; it shows what both have.
+/// The inputs of a union both have any or both have all, else it is K4, whatever the union claims. It shows what both
+/// have, else it is K3.
 const UNIONS: [(&str, &str); 23] = [
     (
         r#"{"op":"exchange","kind":"gather","claim":{"part":"one"},"input":{"op":"union","left":{"op":"scan","relation":"t","mode":"shared","size":"many"},"right":{"op":"scan","relation":"t","mode":"shared","size":"many"}}}"#,

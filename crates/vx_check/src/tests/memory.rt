@@ -1,5 +1,5 @@
-//! With one allocation refused no answer turns into another. Run these with each allocation refused in turn: they pass
-//! each time.
+//! With one allocation refused no answer turns into another. Run these with each allocation refused in turn
+//! (`rt try --test --fail-alloc N -- memory`): they pass each time.
 
 use super::CATALOG;
 use super::explaining::EVERY_OPERATOR;

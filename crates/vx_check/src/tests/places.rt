@@ -4,7 +4,8 @@ use super::{first_odd, first_odd_root, typed};
 use crate::{Rule, check};
 use std::test::Fail;
 
-/// The first of the tests that fail at one node is told, in the order of the table: sizes, replicated input, matched inputs, needed order, part, order, key.
+/// The first of the tests that fail at one node is told, in the order of the table: sizes, replicated input, matched
+/// inputs, needed order, part, order, key.
 const WHICH_TEST: [(&str, &str); 12] = [
     (
         r#"{"op":"exchange","kind":"gather","claim":{"part":"one"},"input":{"op":"union","claim":{"part":"one","order":["id"],"keys":[["id"]]},"left":{"op":"scan","relation":"t","mode":"whole","size":"many","claim":{"part":"all"}},"right":{"op":"scan","relation":"t","mode":"shared","size":"few"}}}"#,
@@ -56,7 +57,8 @@ const WHICH_TEST: [(&str, &str); 12] = [
     ),
 ];
 
-/// The first refused node in post-order is told: a node below before the one above, a left input before a right one, and the root's own tests at last.
+/// The first refused node in post-order is told: a node below before the one above, a left input before a right one,
+/// and the root's own tests at last.
 const WHICH_NODE: [(&str, &str); 10] = [
     (
         r#"{"op":"exchange","kind":"gather","claim":{"part":"one"},"input":{"op":"select","where":[{"column":"v","op":"=","value":7}],"claim":{"part":"all"},"input":{"op":"select","where":[{"column":"v","op":"=","value":7}],"claim":{"order":["id"]},"input":{"op":"scan","relation":"t","mode":"shared","size":"many","claim":{"keys":[["k"]]}}}}}"#,
