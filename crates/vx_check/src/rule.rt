@@ -29,7 +29,7 @@ pub enum Rule {
     /// A claimed key is not given.
     #[error("K8 KeyNotShown")]
     KeyNotShown,
-    /// The plan says total, and the root's claimed order is none.
+    /// The plan says total, and the order that the root claims is not total.
     #[error("K9 TotalNotShown")]
     TotalNotShown,
 }

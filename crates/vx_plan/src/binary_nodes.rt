@@ -8,12 +8,11 @@ ghost use Rattle.vx_plan.specs.Resolve.{pair_found, pairs_found, both_columns, j
 ghost use Rattle.vx_plan.specs.Shaped.{joint_of};
 
 use crate::columns::{copied, side_by_side};
-use vx_document::PlanFault;
 use crate::fits::{are_pairs, are_same_types};
 use crate::lookup::{column_found, matched, narrow, once, pairs_once};
-use vx_document::NamedBinary;
 use crate::typed::{Binary, Columns};
 use std::alloc::Global;
+use vx_document::{NamedBinary, PlanFault};
 
 /// An operator over two inputs, and its output.
 #[derive(Debug, Drop)]

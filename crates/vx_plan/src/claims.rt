@@ -8,14 +8,13 @@ ghost use Rattle.vx_plan.specs.Lookup.{once};
 ghost use Rattle.vx_plan.specs.Resolve.{part_found, part_names, part_fits, claim_columns, claim_once, claim_found, topped};
 ghost use Rattle.vx_plan.specs.Named.{names_of};
 
-use vx_document::PlanFault;
 use crate::fits::route_fits;
 use crate::lookup::{
     Declared, column_found, columns_found, keys_found, keys_once, matched, once, range_found,
 };
-use vx_document::{NamedClaim, NamedPart};
 use crate::typed::{Claim, Columns, Head, Part, Route};
 use std::alloc::{AllocError, Global};
+use vx_document::{NamedClaim, NamedPart, PlanFault};
 use vx_rows::ColType;
 
 /// A list of one column.

@@ -9,10 +9,10 @@ ghost use Rattle.vx_plan.specs.Resolve.{both_columns, output_name, scan_columns}
 ghost use Rattle.vx_catalog.specs.Catalog.{IsRelation};
 
 use crate::fits::type_at;
-use vx_document::{NamedAggregate, NamedOutput};
 use crate::typed::{Aggregate, Columns, Kept};
 use std::alloc::{AllocError, Global};
 use vx_catalog::Relation;
+use vx_document::{NamedAggregate, NamedOutput};
 use vx_rows::ColType;
 
 /// Copies of these names at the end of a list.

@@ -8,12 +8,12 @@ ghost use Rattle.vx_plan.specs.Outline.{top_of, unary_of, renamed_of, binary_of,
 ghost use Rattle.vx_plan.specs.TypedView.{names_in, plan, resolved_of};
 
 use crate::columns::{copied, copied_names};
-use vx_document::PlanFault;
 use crate::lookup::copied_value;
 use crate::resolving::copied_ranges;
 use crate::typed::{Binary, Claim, Condition, Head, Part, Scan, Side, Size, TypedNode, Unary};
 use crate::typed_plan::TypedPlan;
 use std::alloc::{AllocError, Global};
+use vx_document::PlanFault;
 
 fn copied_side(alloc: Global, side: &Side) -> Result<Side, AllocError>
     ensures { IfOk result (λ s. side_of s ≡ side_of side.now) }

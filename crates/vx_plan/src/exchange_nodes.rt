@@ -10,14 +10,13 @@ ghost use Rattle.vx_plan.specs.Resolve.{kind_found, kind_names, kind_fits, excha
 ghost use Rattle.vx_plan.specs.Named.{names_of};
 
 use crate::claims::single;
-use vx_document::PlanFault;
 use crate::fits::route_fits;
 use crate::lookup::{
     Declared, column_found, columns_found, matched, once, range_found, size_found,
 };
-use vx_document::NamedKind;
 use crate::typed::{Columns, Exchange, Kind, Route};
 use std::alloc::Global;
+use vx_document::{NamedKind, PlanFault};
 use vx_rows::ColType;
 
 /// How an exchange sends: a size comes before a range, and that before columns.

@@ -13,9 +13,9 @@ ghost use Rattle.vx_plan.specs.Resolve.{route_fits};
 ghost use Rattle.vx_plan.specs.Named.{names_of};
 
 use crate::lookup::Declared;
-use vx_document::NamedRange;
 use crate::typed::{Aggregate, Condition, Route, Side};
 use std::cmp::Ordering;
+use vx_document::NamedRange;
 use vx_rows::{ColType, Value, compare_cells};
 
 /// Whether two types are one.

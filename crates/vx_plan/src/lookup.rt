@@ -9,11 +9,10 @@ ghost use Rattle.vx_plan.specs.Outline.{size_of};
 ghost use Rattle.vx_plan.specs.Lookup.{column_found, columns_found, keys_found, once, pairs_once, keys_once, matched, narrow, pair_eq, size_found, range_found};
 ghost use Rattle.vx_plan.specs.Named.{names_of};
 
-use vx_document::PlanFault;
-use vx_document::NamedRange;
 use crate::typed::Size;
 use std::alloc::{AllocError, Global};
 use vx_catalog::Catalog;
+use vx_document::{NamedRange, PlanFault};
 use vx_rows::Value;
 
 /// What the nodes of a plan may name.

@@ -11,12 +11,11 @@ use crate::binary_nodes::{Joint, binary_shape};
 use crate::claims::topped;
 use crate::columns::{copied, scanned};
 use crate::exchange_nodes::{exchange_shape, relation_found};
-use vx_document::PlanFault;
 use crate::lookup::{Declared, size_found};
-use vx_document::{NamedBinary, NamedClaim, NamedKind, NamedScan, NamedUnary, Node};
 use crate::typed::{Columns, Scan, TypedNode};
 use crate::unary_nodes::{Shape, unary_shape};
 use std::alloc::Global;
+use vx_document::{NamedBinary, NamedClaim, NamedKind, NamedScan, NamedUnary, Node, PlanFault};
 
 /// The columns of a node's output.
 fn columns(node: &TypedNode) -> &Columns

@@ -11,15 +11,13 @@ ghost use Rattle.vx_plan.specs.Resolve.{is_bad_size, sizes_tested, is_bad_range,
 ghost use Rattle.vx_plan.specs.TypedView.{resolved_of};
 
 use crate::columns::copied_names;
-use vx_document::Plan;
-use vx_document::PlanFault;
 use crate::fits::is_range;
 use crate::lookup::{Declared, copied_value, has_name};
 use crate::nodes::typed_in;
-use vx_document::NamedRange;
 use crate::typed_plan::TypedPlan;
 use std::alloc::{AllocError, Global};
 use vx_catalog::Catalog;
+use vx_document::{NamedRange, Plan, PlanFault};
 use vx_rows::Value;
 
 fn is_bad_size(front: &[String], name: &str) -> bool

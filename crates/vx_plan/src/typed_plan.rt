@@ -8,9 +8,9 @@ ghost use Rattle.vx_plan.specs.Numbering.{nodes, is_numbered};
 ghost use Rattle.vx_plan.specs.Outline.{outline_of, plan_of};
 ghost use Rattle.vx_plan.specs.Typed.{is_range, typed, IsTyped};
 
-use vx_document::NamedRange;
 use crate::typed::TypedNode;
 use vx_catalog::Catalog;
+use vx_document::NamedRange;
 
 /// A plan with its catalog. Every node names what there is, has the types that it needs, and is numbered in preorder
 /// from 0. There are at most 1,000 nodes.

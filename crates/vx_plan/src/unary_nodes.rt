@@ -8,14 +8,13 @@ ghost use Rattle.vx_plan.specs.Resolve.{side_found, condition_found, conditions_
 ghost use Rattle.vx_plan.specs.Shaped.{shape_of};
 
 use crate::columns::{copied, group_names, group_types, kept_types, output_names};
-use vx_document::PlanFault;
 use crate::fits::{are_aggregates, are_conditions};
 use crate::lookup::{column_found, columns_found, copied_value, matched, narrow, once};
-use vx_document::{
-    NamedAggregate, NamedCondition, NamedFunction, NamedOutput, NamedSide, NamedUnary,
-};
 use crate::typed::{Aggregate, Columns, Condition, Kept, Side, Unary};
 use std::alloc::Global;
+use vx_document::{
+    NamedAggregate, NamedCondition, NamedFunction, NamedOutput, NamedSide, NamedUnary, PlanFault,
+};
 use vx_rows::ColType;
 
 /// An operator over one input, and its output.
