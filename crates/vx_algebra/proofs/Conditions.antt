@@ -1,13 +1,12 @@
 -- All conditions hold, one by one.
-use Rattle.std.proofs.Common.{◌≡◌, ℕ, ◌+◌, ◌<◌, ◌≤◌, Bool, true, false, ◌&&◌, List, length, take, get_or, sym, ◌∙◌, ap, refl, take_all}
+use Rattle.std.proofs.Common.{◌≡◌, ℕ, ◌+◌, ◌<◌, ◌≤◌, Bool, true, false, List, length, take, get_or, sym, ◌∙◌, ap, refl, take_all}
 use Rattle.std.specs.List.{list_all}
 use Rattle.std.proofs.lemmas.List.Folds.{list_all-map, list_all_at, list_all_more}
 use Rattle.vx_rows.specs.Values.{Row, val_cmp, value_at}
 use Rattle.vx_plan.specs.Plan.{Condition as PlanCondition}
 use Rattle.vx_plan.specs.Serial.{side, answers, passes}
 use Rattle.vx_plan.specs.Conditions.{conditions_of}
-use Rattle.vx_document.specs.Document.{test_of}
-use Rattle.vx_plan.specs.Outline.{condition_of, side_of}
+use Rattle.vx_plan.specs.Outline.{condition_of}
 use Rattle.vx_plan.specs.declared.typed.Condition.{Condition}
 
 abbrev pub holds : Row → PlanCondition → Bool

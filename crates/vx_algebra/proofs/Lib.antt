@@ -1,2 +1,5 @@
 pub mod Runs
 pub mod Conditions
+pub mod KeyFacts
+pub mod PlaceFacts
+pub mod BuildFacts

@@ -4,7 +4,7 @@ use Rattle.vx_rows.specs.View.{row, cell_val}
 use Rattle.vx_plan.specs.Serial.{side, answers}
 use Rattle.vx_document.specs.Document.{test_of}
 use Rattle.vx_plan.specs.Outline.{side_of}
-use Rattle.vx_algebra.proofs.Conditions.{all-hold, holds_of, one-fails, whole-list}
+use Rattle.vx_algebra.proofs.Conditions.{holds_of, one-fails, whole-list}
 use Rattle.vx_algebra.proofs.selection.passes.Goals as goal
 
 pub returns-then-not-answer : goal.returns-then-not-answer

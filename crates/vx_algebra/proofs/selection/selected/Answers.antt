@@ -1,6 +1,5 @@
-use Rattle.std.proofs.Common.{rules, ◌≡◌, ◌+◌, ◌<◌, ◌≤◌, length, [], ◌++◌, ℕ, List, true, false, take, filter, sym, ap, ◌∙◌, subst, arith}
+use Rattle.std.proofs.Common.{rules, ◌≡◌, ◌+◌, ◌<◌, ◌≤◌, length, [], ◌++◌, ℕ, take, filter, sym, ◌∙◌, subst, arith}
 use Rattle.std.specs.List.{slice_range}
-use Rattle.vx_rows.specs.Values.{Row}
 use Rattle.vx_rows.specs.View.{Table}
 use Rattle.vx_plan.specs.Serial.{passes}
 use Rattle.vx_plan.specs.Conditions.{conditions_of}
