@@ -1,19 +1,11 @@
 //! What no clause says of runs: small plans deliver their rows, by rounds and by schedules.
 
-use crate::fault::RunFault;
-use crate::ran::Ran;
-use crate::run::{run_rounds, run_scheduled};
-use crate::runnable::can_run;
-use crate::setup::Setup;
+use crate::plans::{CATALOG, ToFirst, checked};
 use std::alloc::{AllocError, Global};
 use std::test::Fail;
 use vx_catalog::{Catalog, Database, Loader};
-use vx_check::{CheckedPlan, check};
-use vx_plan::{Plan, Router, resolve};
-use vx_rows::{Cell, MemoryIn, Rows, Value};
-
-const CATALOG: &str =
-    r#"{"relations":[{"name":"t","columns":[{"name":"id","type":"int"},{"name":"k","type":"text"},{"name":"v","type":"int"}],"keys":[["id"]],"order":["id"]}]}"#;
+use vx_exec::{Ran, RunFault, Setup, can_run, run_rounds, run_scheduled};
+use vx_rows::{Cell, MemoryIn, Rows};
 
 const TABLE: &str = "id,k,v\n0,a,5\n1,b,7\n2,a,-2\n3,c,7\n";
 
@@ -25,20 +17,6 @@ const SELECTED: &str =
 const WHOLE: &str =
     r#"{"root":{"op":"scan","relation":"t","mode":"whole","size":"one","claim":{"part":"one","order":["id"],"keys":[["id"]]}},"total":true}"#;
 
-/// Sends every key to consumer 0.
-#[derive(Drop)]
-struct ToFirst;
-
-impl Router for ToFirst {
-    ghost route_of = { λ _ _ _ _. 0 };
-
-    ghost in_range = { λ r name key n some. some };
-
-    fn route(&self, _name: &str, _key: &[Value], _n: u32) -> u32 {
-        0
-    }
-}
-
 fn filled(alloc: Global) -> Result<Database, Fail> {
     let catalog = Catalog::read(alloc, CATALOG.as_bytes())?;
     let mut database = Database::empty(alloc, &catalog)?;
@@ -49,15 +27,6 @@ fn filled(alloc: Global) -> Result<Database, Fail> {
     match database.put(Loader::load(alloc, &catalog, 0, &mut reader)?) {
         Ok(()) => Ok(database),
         Err(_) => Err(Fail::new("the rows are of this catalog")),
-    }
-}
-
-fn checked(alloc: Global, text: &str) -> Result<CheckedPlan, Fail> {
-    let catalog = Catalog::read(alloc, CATALOG.as_bytes())?;
-    let plan = Plan::read(alloc, text.as_bytes())?;
-    match check(resolve(alloc, &plan, &catalog)?) {
-        Ok(plan) => Ok(plan),
-        Err(_) => Err(Fail::new("the plan is accepted")),
     }
 }
 

@@ -1,14 +1,10 @@
 //! What no clause says of setups: a setup that is right is taken, and the lines of those that are not.
 
-use crate::fault::RunFault;
-use crate::setup::{Setup, job_of};
+use crate::plans::{CATALOG, ToFirst, checked};
 use std::alloc::{AllocError, Global};
 use std::test::Fail;
 use vx_catalog::{Catalog, Database};
-use vx_plan::{Plan, TypedPlan, resolve};
-
-const CATALOG: &str =
-    r#"{"relations":[{"name":"t","columns":[{"name":"id","type":"int"},{"name":"k","type":"text"},{"name":"v","type":"int"}],"keys":[["id"]],"order":["id"]}]}"#;
+use vx_exec::{RunFault, Setup, can_run, run_rounds};
 
 /// The same relations without a declared order.
 const OTHER_CATALOG: &str =
@@ -18,13 +14,9 @@ const OTHER_CATALOG: &str =
 const GATHERED: &str =
     r#"{"sizes":["many"],"root":{"op":"exchange","kind":"gather","claim":{"part":"one"},"input":{"op":"scan","relation":"t","mode":"shared","size":"many"}}}"#;
 
-/// Two size names.
-const DEALT: &str =
-    r#"{"sizes":["few","many"],"root":{"op":"exchange","kind":"gather","claim":{"part":"one"},"input":{"op":"exchange","kind":"round","size":"few","input":{"op":"scan","relation":"t","mode":"shared","size":"many"}}}}"#;
-
-/// Four groups of one size below the root.
-const DEALT_THRICE: &str =
-    r#"{"sizes":["many"],"root":{"op":"exchange","kind":"gather","claim":{"part":"one"},"input":{"op":"exchange","kind":"round","size":"many","input":{"op":"exchange","kind":"round","size":"many","input":{"op":"exchange","kind":"round","size":"many","input":{"op":"scan","relation":"t","mode":"shared","size":"many"}}}}}}"#;
+/// Two size names, of which the plan uses one.
+const TWO_NAMES: &str =
+    r#"{"sizes":["few","many"],"root":{"op":"exchange","kind":"gather","claim":{"part":"one"},"input":{"op":"scan","relation":"t","mode":"shared","size":"many"}}}"#;
 
 /// A setup of these size names, and of the rows of a packet, those of a morsel and the slack.
 fn setup(alloc: Global, sizes: &[(&str, u32)], counts: [u32; 3]) -> Result<Setup, AllocError> {
@@ -36,11 +28,6 @@ fn setup(alloc: Global, sizes: &[(&str, u32)], counts: [u32; 3]) -> Result<Setup
     Ok(Setup::new(entries, packet, morsel, slack))
 }
 
-fn typed(alloc: Global, catalog: &Catalog, text: &str) -> Result<TypedPlan, Fail> {
-    let plan = Plan::read(alloc, text.as_bytes())?;
-    Ok(resolve(alloc, &plan, catalog)?)
-}
-
 /// What a setup of a plan over an empty database of a catalog is answered with: `ok`, or the line of its refusal.
 fn line(
     alloc: Global,
@@ -49,11 +36,13 @@ fn line(
     sizes: &[(&str, u32)],
     counts: [u32; 3],
 ) -> Result<String, Fail> {
-    let catalog = Catalog::read(alloc, CATALOG.as_bytes())?;
-    let plan = typed(alloc, &catalog, plan)?;
-    let others = Catalog::read(alloc, database.as_bytes())?;
-    let database = Database::empty(alloc, &others)?;
-    match job_of(alloc, &plan, &database, &setup(alloc, sizes, counts)?) {
+    let plan = checked(alloc, plan)?;
+    if !can_run(plan.plan()) {
+        return Err(Fail::new("workers can run the plan"));
+    }
+    let catalog = Catalog::read(alloc, database.as_bytes())?;
+    let database = Database::empty(alloc, &catalog)?;
+    match run_rounds(alloc, &plan, &database, &setup(alloc, sizes, counts)?, &ToFirst, 1000) {
         Ok(_) => Ok(String::from_str(alloc, "ok")?),
         Err(fault) => Ok(format!(in alloc; "{fault}")?),
     }
@@ -79,7 +68,7 @@ fn size_names_have_numbers(rt: HostRuntime) -> Result<(), Fail> {
         (&[("none", 0), ("few", 64), ("many", 1)], "ok"),
     ];
     for (sizes, want) in cases {
-        let said = line(rt.alloc(), DEALT, CATALOG, sizes, [1, 1, 1])?;
+        let said = line(rt.alloc(), TWO_NAMES, CATALOG, sizes, [1, 1, 1])?;
         assert_eq!(rt; said.as_str(), want);
     }
     Ok(())
@@ -102,31 +91,11 @@ fn numbers_have_limits(rt: HostRuntime) -> Result<(), Fail> {
         (0, 0, 0, 0, "X2 SizeOutOfRange name=many"),
         (1, 0, 0, 0, "X3 BadPacket"),
         (1, 1, 0, 0, "X4 BadMorsel"),
+        (65, 1, 1, 0, "X2 SizeOutOfRange name=many"),
     ];
     for (many, packet, morsel, slack, want) in cases {
         let counts = [packet, morsel, slack];
         let said = line(rt.alloc(), GATHERED, CATALOG, &[("many", many)], counts)?;
-        assert_eq!(rt; said.as_str(), want);
-    }
-    Ok(())
-}
-
-#[test]
-fn workers_are_counted_last(rt: HostRuntime) -> Result<(), Fail> {
-    let cases = [
-        (63, 1, "ok"),
-        (64, 1, "X12 TooManyWorkers number=257"),
-        (64, 0, "X14 BadSlack"),
-        (65, 1, "X2 SizeOutOfRange name=many"),
-    ];
-    for (many, slack, want) in cases {
-        let said = line(
-            rt.alloc(),
-            DEALT_THRICE,
-            CATALOG,
-            &[("many", many)],
-            [1, 1, slack],
-        )?;
         assert_eq!(rt; said.as_str(), want);
     }
     Ok(())
@@ -160,6 +129,10 @@ fn faults_have_their_lines(rt: HostRuntime) -> Result<(), Fail> {
         (
             RunFault::Stranger { exchange: 4 },
             "X11 Stranger exchange=4",
+        ),
+        (
+            RunFault::TooManyWorkers { number: 257 },
+            "X12 TooManyWorkers number=257",
         ),
     ];
     for (fault, want) in cases {

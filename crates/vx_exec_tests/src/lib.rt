@@ -1,0 +1,12 @@
+//! What no clause says of runs: small plans deliver their rows by rounds and by schedules, and setups are refused with
+//! their lines.
+//!
+//! The tests stand in a crate of their own, since a crate with tests is proved twice.
+#![tactic(auto)]
+
+#[cfg(test)]
+mod plans;
+#[cfg(test)]
+mod runs;
+#[cfg(test)]
+mod setups;
