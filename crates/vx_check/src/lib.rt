@@ -17,8 +17,6 @@ mod refusal;
 mod refused;
 mod rule;
 mod shown;
-#[cfg(test)]
-mod tests;
 mod widths;
 mod words;
 

@@ -20,6 +20,3 @@ pub use plan::{
     NamedPart, NamedRange, NamedScan, NamedSide, NamedUnary, Node,
 };
 pub use test::Test;
-
-#[cfg(test)]
-mod tests;

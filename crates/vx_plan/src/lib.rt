@@ -24,6 +24,3 @@ pub use typed::{
 };
 pub use typed_plan::TypedPlan;
 pub use vx_document::{Plan, PlanFault, Test, to_json};
-
-#[cfg(test)]
-mod tests;
