@@ -2,6 +2,8 @@
 
 ghost use Rattle.std.specs.Prelude.{◌≡◌, Some, false, ◌<◌, length, IfOk};
 
+mod refused;
+
 use crate::{Catalog, CatalogFault, Database, Loader, write_rows};
 use std::alloc::Global;
 use std::test::Fail;

@@ -52,10 +52,7 @@ fn kind_found(
             let positions = single(alloc, position)?;
             Ok(Kind::Route(size, Route::Range(number), positions))
         }
-        NamedKind::Round(size) => {
-            let size = size_found(alloc, declared, size.as_str())?;
-            Ok(Kind::Round(size))
-        }
+        NamedKind::Round(size) => Ok(Kind::Round(size_found(alloc, declared, size.as_str())?)),
         NamedKind::Broadcast(size) => {
             let size = size_found(alloc, declared, size.as_str())?;
             Ok(Kind::Broadcast(size))

@@ -138,15 +138,8 @@ pub fn typed_in(
         }
         Node::Exchange(claim, kind, merge, input) => {
             let (below, next) = typed_in(alloc, declared, number + 1, input)?;
-            let node = exchange_typed(
-                alloc,
-                declared,
-                number,
-                claim,
-                kind,
-                merge.as_slice(),
-                below,
-            )?;
+            let merge = merge.as_slice();
+            let node = exchange_typed(alloc, declared, number, claim, kind, merge, below)?;
             Ok((node, next))
         }
     }

@@ -3,6 +3,8 @@
 ghost use Rattle.std.specs.Prelude.{◌≡◌, [], ◌∷◌, IfOk};
 ghost use Rattle.vx_rows.specs.declared.value.ColType.TheVariants as kind;
 
+mod refused;
+
 use crate::{
     Broken, ByteIn, ByteOut, Cell, ColType, MemoryIn, MemoryOut, ReadFault, Real, Row, Rows,
     Schema, Value, is_schema, read_all, write_all,
