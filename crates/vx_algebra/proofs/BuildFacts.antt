@@ -1,48 +1,31 @@
 -- The build side of a join when one more row is taken.
-use Rattle.std.proofs.Common.{◌≡◌, ℕ, ◌<◌, ◌≤◌, Bool, true, false, List, [], ◌∷◌, ◌++◌, map, filter, length, get_or, set, refl, sym, ap, ◌∙◌, subst, arith, if◌then◌else◌, Some, None, position}
-use Rattle.std.specs.List.{list_any, IsDistinct, position_or_len}
-use Rattle.std.proofs.lemmas.List.{map-append, get_or-map, length-map}
+use Rattle.std.proofs.Common.{◌≡◌, ℕ, ◌<◌, ◌≤◌, Bool, false, List, [], ◌∷◌, ◌++◌, map, filter, length, get_or, set, refl, sym, ap, ◌∙◌, subst, arith, Some, None, position}
+use Rattle.std.specs.List.{IsDistinct, position_or_len}
+use Rattle.std.proofs.lemmas.List.{get_or-map, length-map}
 use Rattle.std.proofs.lemmas.List.Quantifiers.{position-Some}
-use Rattle.std.proofs.lemmas.List.Folds.{list_any_at}
-use Rattle.std.proofs.lemmas.List.Sums.{passes_at_first}
 use Rattle.indexmap.specs.IndexSet.{insert_key}
 use Rattle.vx_rows.specs.Values.{Row, row_eq, pick}
 use Rattle.vx_plan.specs.Serial.{group_keys}
 use Rattle.vx_rows.specs.Equality.{row_eq-same}
 use Rattle.vx_algebra.specs.Build.{Built, HasBuilt, parts_of, places_of}
-use Rattle.vx_algebra.proofs.KeyFacts.{eq-swap, row_eq-refl, keys-push, any-firsts, map-same, set-at, any-absent, all-apart}
+use Rattle.vx_algebra.proofs.KeyFacts.{eq-swap, row_eq-refl, keys-push, any-firsts, any-absent, keyed-present, keyed-own, keyed-new, keyed-none}
 use Rattle.vx_algebra.proofs.PlaceFacts.{places-other, places-more, places-none, rows-at}
 
 other : (by : List ℕ) (xs : List Row) (y z : Row) → row_eq (pick by y) z ≡ false → places_of by z (xs ++ y ∷ []) ≡ places_of by z xs
 other by xs y z h = places-other by z xs y (eq-swap z (pick by y) ∙ h)
 
 -- a row of a key that is there goes behind that key's rows
-pub parts-present : (by : List ℕ) (xs : List Row) (y : Row) (n : ℕ) → n ≡ position_or_len (row_eq (pick by y)) (group_keys by xs) → n < length (group_keys by xs) → IsDistinct row_eq (group_keys by xs)
+parts-present : (by : List ℕ) (xs : List Row) (y : Row) (n : ℕ) → n ≡ position_or_len (row_eq (pick by y)) (group_keys by xs) → n < length (group_keys by xs) → IsDistinct row_eq (group_keys by xs)
     → parts_of by (xs ++ y ∷ []) ≡ set (parts_of by xs) n (get_or (parts_of by xs) n [] ++ length xs ∷ [])
 parts-present by xs y n at inside distinct =
-    let key = pick by y in
-    let ks = group_keys by xs in
-    let passes : row_eq key (get_or ks n []) ≡ true = subst (λ m. row_eq key (get_or ks m []) ≡ true) (sym at) (passes_at_first (row_eq key) ks [] (subst (λ m. m < length ks) at inside)) in
-    let own : get_or ks n [] ≡ key = sym (row_eq-same key (get_or ks n []) passes) in
-    let any : list_any (row_eq key) ks ≡ true = list_any_at (row_eq key) ks n [] inside passes in
-    let same : group_keys by (xs ++ y ∷ []) ≡ ks = keys-push by xs y ∙ ap (λ b. if b then ks else ks ++ key ∷ []) any in
-    let was : get_or (parts_of by xs) n [] ≡ places_of by key xs = get_or-map (λ k. places_of by k xs) ks n [] [] inside ∙ ap (λ k. places_of by k xs) own in
-    ap (map (λ k. places_of by k (xs ++ y ∷ []))) same
-    ∙ (set-at (λ k. places_of by k xs) (λ k. places_of by k (xs ++ y ∷ [])) key ks n inside own distinct (λ z h. other by xs y z h)
-    ∙ ap (set (parts_of by xs) n) (places-more by key xs y (row_eq-refl key) ∙ ap (λ l. l ++ length xs ∷ []) (sym was)))
+    keyed-present (λ k. places_of by k xs) (λ k. places_of by k (xs ++ y ∷ [])) by xs y n at inside distinct (λ z h. other by xs y z h)
+    ∙ ap (set (parts_of by xs) n) (places-more by (pick by y) xs y (row_eq-refl (pick by y)) ∙ ap (λ l. l ++ length xs ∷ []) (sym (keyed-own (λ k. places_of by k xs) by xs y n [] at inside)))
 
 -- a row of a new key is a part of its own
-pub parts-new : (by : List ℕ) (xs : List Row) (y : Row) → length (group_keys by xs) ≤ position_or_len (row_eq (pick by y)) (group_keys by xs) → parts_of by (xs ++ y ∷ []) ≡ parts_of by xs ++ (length xs ∷ []) ∷ []
+parts-new : (by : List ℕ) (xs : List Row) (y : Row) → length (group_keys by xs) ≤ position_or_len (row_eq (pick by y)) (group_keys by xs) → parts_of by (xs ++ y ∷ []) ≡ parts_of by xs ++ (length xs ∷ []) ∷ []
 parts-new by xs y past =
-    let key = pick by y in
-    let ks = group_keys by xs in
-    let none : list_any (row_eq key) ks ≡ false = any-absent (row_eq key) ks past in
-    let more : group_keys by (xs ++ y ∷ []) ≡ ks ++ key ∷ [] = keys-push by xs y ∙ ap (λ b. if b then ks else ks ++ key ∷ []) none in
-    let own : places_of by key (xs ++ y ∷ []) ≡ length xs ∷ [] =
-    places-more by key xs y (row_eq-refl key) ∙ ap (λ l. l ++ length xs ∷ []) (places-none by key xs (sym (any-firsts key (map (pick by) xs)) ∙ none)) in
-    ap (map (λ k. places_of by k (xs ++ y ∷ []))) more
-    ∙ (map-append (λ k. places_of by k (xs ++ y ∷ [])) ks (key ∷ [])
-    ∙ (λ i. map-same (λ k. places_of by k xs) (λ k. places_of by k (xs ++ y ∷ [])) key ks (all-apart key ks none) (λ z h. other by xs y z h) i ++ own i ∷ []))
+    keyed-new (λ k. places_of by k xs) (λ k. places_of by k (xs ++ y ∷ [])) by xs y past (λ z h. other by xs y z h)
+    ∙ ap (λ l. parts_of by xs ++ l ∷ []) (places-more by (pick by y) xs y (row_eq-refl (pick by y)) ∙ ap (λ l. l ++ length xs ∷ []) (places-none by (pick by y) xs (keyed-none by xs y past)))
 
 -- the two ways to take a right row, as a build shows them
 pub built-known : (b b' : Built) (rs : List Row) (y : Row) (n : ℕ) → HasBuilt b rs → n ≡ position_or_len (row_eq (pick b.columns y)) b.keys → n < length b.parts → b'.columns ≡ b.columns

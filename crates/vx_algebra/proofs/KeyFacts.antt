@@ -1,14 +1,14 @@
 -- Keys in order of first occurrence, one row at a time.
-use Rattle.std.proofs.Common.{◌≡◌, ℕ, suc, zero, ◌+◌, ◌<◌, ◌≤◌, Bool, true, false, cond, not, ◌||◌, List, [], ◌∷◌, ◌++◌, map, take, filter, length, get_or, set, refl, sym, ap, ◌∙◌, subst, arith, true≢false}
+use Rattle.std.proofs.Common.{◌≡◌, ℕ, suc, zero, ◌+◌, ◌<◌, ◌≤◌, Bool, true, false, cond, not, ◌||◌, List, [], ◌∷◌, ◌++◌, map, take, filter, length, get_or, set, refl, sym, ap, ◌∙◌, subst, arith, true≢false, if◌then◌else◌}
 use Rattle.std.specs.List.{list_any, AllByRecursion, IsDistinct, position_or_len}
-use Rattle.std.proofs.lemmas.List.Folds.{list_any_none}
-use Rattle.std.proofs.lemmas.List.Sums.{fails_before_first}
+use Rattle.std.proofs.lemmas.List.Folds.{list_any_none, list_any_at}
+use Rattle.std.proofs.lemmas.List.Sums.{fails_before_first, passes_at_first}
 use Rattle.std.proofs.lemmas.List.Elements.{filter-append}
-use Rattle.std.proofs.lemmas.List.{map-append, append-nil, map_more}
+use Rattle.std.proofs.lemmas.List.{map-append, append-nil, map_more, get_or-map}
 use Rattle.std.proofs.lemmas.Map.Keys.{IsDistinct-head, IsDistinct-tail, apart_from_distinct}
 use Rattle.indexmap.specs.IndexSet.{insert_key}
 use Rattle.vx_rows.specs.Values.{Row, row_eq, pick}
-use Rattle.vx_plan.specs.Serial.{firsts, group_keys}
+use Rattle.vx_plan.specs.Serial.{firsts, group_keys, of_key}
 use Rattle.vx_rows.specs.Equality.{row_eq-same, row_eq-laws}
 
 pub row_eq-refl : (x : Row) → row_eq x x ≡ true
@@ -110,3 +110,64 @@ all-apart key (k ∷ ks) h = step (row_eq key k) refl h (all-apart key ks)
         → (row_eq key k ≡ false) × AllByRecursion (λ y. row_eq key y ≡ false) ks
     step true e g rest = absurd (true≢false g)
     step false e g rest = (e, rest g)
+
+-- what each key has, when a row of a key comes that is there: that key's alone changes
+pub keyed-any : (by : List ℕ) (xs : List Row) (y : Row) (n : ℕ) → n ≡ position_or_len (row_eq (pick by y)) (group_keys by xs) → n < length (group_keys by xs)
+    → (get_or (group_keys by xs) n [] ≡ pick by y) × (list_any (row_eq (pick by y)) (group_keys by xs) ≡ true)
+keyed-any by xs y n at inside =
+    let key = pick by y in
+    let ks = group_keys by xs in
+    let passes : row_eq key (get_or ks n []) ≡ true = subst (λ m. row_eq key (get_or ks m []) ≡ true) (sym at) (passes_at_first (row_eq key) ks [] (subst (λ m. m < length ks) at inside)) in
+    (sym (row_eq-same key (get_or ks n []) passes), list_any_at (row_eq key) ks n [] inside passes)
+
+pub keyed-present : {X : Type 0} (F G : Row → X) (by : List ℕ) (xs : List Row) (y : Row) (n : ℕ) → n ≡ position_or_len (row_eq (pick by y)) (group_keys by xs) → n < length (group_keys by xs)
+    → IsDistinct row_eq (group_keys by xs) → ((z : Row) → row_eq (pick by y) z ≡ false → G z ≡ F z) → map G (group_keys by (xs ++ y ∷ [])) ≡ set (map F (group_keys by xs)) n (G (pick by y))
+keyed-present F G by xs y n at inside distinct other =
+    let key = pick by y in
+    let ks = group_keys by xs in
+    let found = keyed-any by xs y n at inside in
+    let same : group_keys by (xs ++ y ∷ []) ≡ ks = keys-push by xs y ∙ ap (λ b. if b then ks else ks ++ key ∷ []) found.1 in
+    ap (map G) same ∙ set-at F G key ks n inside found.0 distinct other
+
+pub keyed-own : {X : Type 0} (F : Row → X) (by : List ℕ) (xs : List Row) (y : Row) (n : ℕ) (d : X) → n ≡ position_or_len (row_eq (pick by y)) (group_keys by xs) → n < length (group_keys by xs)
+    → get_or (map F (group_keys by xs)) n d ≡ F (pick by y)
+keyed-own F by xs y n d at inside = get_or-map F (group_keys by xs) n [] d inside ∙ ap F (keyed-any by xs y n at inside).0
+
+-- and when a row of a new key comes: it has one more
+pub keyed-new : {X : Type 0} (F G : Row → X) (by : List ℕ) (xs : List Row) (y : Row) → length (group_keys by xs) ≤ position_or_len (row_eq (pick by y)) (group_keys by xs)
+    → ((z : Row) → row_eq (pick by y) z ≡ false → G z ≡ F z) → map G (group_keys by (xs ++ y ∷ [])) ≡ map F (group_keys by xs) ++ G (pick by y) ∷ []
+keyed-new F G by xs y past other =
+    let key = pick by y in
+    let ks = group_keys by xs in
+    let none : list_any (row_eq key) ks ≡ false = any-absent (row_eq key) ks past in
+    let more : group_keys by (xs ++ y ∷ []) ≡ ks ++ key ∷ [] = keys-push by xs y ∙ ap (λ b. if b then ks else ks ++ key ∷ []) none in
+    ap (map G) more ∙ (map-append G ks (key ∷ []) ∙ ap (λ l. l ++ G key ∷ []) (map-same F G key ks (all-apart key ks none) other))
+
+pub keyed-none : (by : List ℕ) (xs : List Row) (y : Row) → length (group_keys by xs) ≤ position_or_len (row_eq (pick by y)) (group_keys by xs) → list_any (row_eq (pick by y)) (map (pick by) xs) ≡ false
+keyed-none by xs y past = sym (any-firsts (pick by y) (map (pick by) xs)) ∙ any-absent (row_eq (pick by y)) (group_keys by xs) past
+
+-- the rows of a key when a row is added
+pub of_key-other : (by : List ℕ) (z : Row) (xs : List Row) (y : Row) → row_eq z (pick by y) ≡ false → of_key by z (xs ++ y ∷ []) ≡ of_key by z xs
+of_key-other by z xs y h = filter-append (λ r. row_eq z (pick by r)) xs (y ∷ []) ∙ ap (λ b. of_key by z xs ++ cond b (y ∷ []) []) h ∙ append-nil (of_key by z xs)
+
+pub of_key-more : (by : List ℕ) (z : Row) (xs : List Row) (y : Row) → row_eq z (pick by y) ≡ true → of_key by z (xs ++ y ∷ []) ≡ of_key by z xs ++ y ∷ []
+of_key-more by z xs y h = filter-append (λ r. row_eq z (pick by r)) xs (y ∷ []) ∙ ap (λ b. of_key by z xs ++ cond b (y ∷ []) []) h
+
+pub of_key-none : (by : List ℕ) (z : Row) (xs : List Row) → list_any (row_eq z) (map (pick by) xs) ≡ false → of_key by z xs ≡ []
+of_key-none by z [] h = refl
+of_key-none by z (x ∷ xs) h = step (row_eq z (pick by x)) refl h (of_key-none by z xs)
+  where
+    step : (b : Bool) → row_eq z (pick by x) ≡ b → (b || list_any (row_eq z) (map (pick by) xs)) ≡ false → (list_any (row_eq z) (map (pick by) xs) ≡ false → of_key by z xs ≡ [])
+        → cond b (x ∷ of_key by z xs) (of_key by z xs) ≡ []
+    step true e g r = absurd (true≢false g)
+    step false e g r = r g
+
+pub of_key-some : (by : List ℕ) (z : Row) (xs : List Row) → list_any (row_eq z) (map (pick by) xs) ≡ true → (r : Row) × ((rs : List Row) × (of_key by z xs ≡ r ∷ rs))
+of_key-some by z [] h = absurd (true≢false (sym h))
+of_key-some by z (x ∷ xs) h = step (row_eq z (pick by x)) refl h (of_key-some by z xs)
+  where
+    step : (b : Bool) → row_eq z (pick by x) ≡ b → (b || list_any (row_eq z) (map (pick by) xs)) ≡ true
+        → (list_any (row_eq z) (map (pick by) xs) ≡ true → (r : Row) × ((rs : List Row) × (of_key by z xs ≡ r ∷ rs)))
+        → (r : Row) × ((rs : List Row) × (cond b (x ∷ of_key by z xs) (of_key by z xs) ≡ r ∷ rs))
+    step true e g r = (x, (of_key by z xs, refl))
+    step false e g r = r g

@@ -3,3 +3,10 @@ pub mod Conditions
 pub mod KeyFacts
 pub mod PlaceFacts
 pub mod BuildFacts
+pub mod AggregateFacts
+pub mod GroupFacts
+pub mod EndFacts
+pub mod TypeFacts
+pub mod FrontFacts
+pub mod BlameFacts
+pub mod ShownFacts

@@ -1,1 +1,4 @@
 pub mod Build
+pub mod Groups
+pub mod Shown
+pub mod GroupFaults

@@ -10,11 +10,14 @@ use vx_rows::{Cell, ColType, Rows, Value};
 
 const TYPES: [ColType; 2] = [ColType::Int, ColType::Text];
 
-/// The rows as text: numbers as they are, texts in quotes, a semicolon behind each row.
-fn shown(alloc: Global, rows: &Rows) -> Result<String, AllocError> {
+/// The rows as text: numbers as they are, texts in quotes, a space between values, a semicolon behind each row.
+pub fn shown(alloc: Global, rows: &Rows) -> Result<String, AllocError> {
     let mut out = String::new(alloc);
     for i in 0..rows.len() {
         for column in 0..rows.types().len() {
+            if column > 0 {
+                out.push(' ')?;
+            }
             match rows.cell(i, column) {
                 Cell::Int(n) => write!(out, "{n}")?,
                 Cell::Text(s) => write!(out, "'{s}'")?,
@@ -39,7 +42,7 @@ fn add(alloc: Global, rows: &mut Rows, number: i64, text: &str) -> Result<(), Al
 }
 
 /// Rows of a number and a text.
-fn table(alloc: Global, entries: &[(i64, &str)]) -> Result<Rows, AllocError>
+pub fn table(alloc: Global, entries: &[(i64, &str)]) -> Result<Rows, AllocError>
     ensures { IfOk result (λ r. r.types ≡ kind.Int ∷ kind.Text ∷ []) }
 {
     let mut rows = Rows::new(alloc, TYPES.as_slice())?;
@@ -54,7 +57,7 @@ fn columns_are_kept_in_the_order_given(rt: HostRuntime) -> Result<(), Fail> {
     let alloc = rt.alloc();
     let rows = table(alloc, &[(1, "a"), (-2, "")])?;
     let kept = projected(alloc, &rows, &[1, 0, 1])?;
-    assert_eq!(rt; shown(alloc, &kept)?.as_str(), "'a'1'a';''-2'';");
+    assert_eq!(rt; shown(alloc, &kept)?.as_str(), "'a' 1 'a';'' -2 '';");
     let none = projected(alloc, &table(alloc, &[])?, &[1])?;
     assert_eq!(rt; none.len(), 0);
     Ok(())
@@ -70,12 +73,12 @@ fn equal_rows_stay_in_their_order(rt: HostRuntime) -> Result<(), Fail> {
     let by_number = sorted(alloc, &rows, &[0])?;
     assert_eq!(rt;
         shown(alloc, &by_number)?.as_str(),
-        "-9223372036854775808'z';-1'c';-1'b';2'b';2'a';"
+        "-9223372036854775808 'z';-1 'c';-1 'b';2 'b';2 'a';"
     );
     let by_both = sorted(alloc, &rows, &[1, 0])?;
     assert_eq!(rt;
         shown(alloc, &by_both)?.as_str(),
-        "2'a';-1'b';2'b';-1'c';-9223372036854775808'z';"
+        "2 'a';-1 'b';2 'b';-1 'c';-9223372036854775808 'z';"
     );
     let none = sorted(alloc, &table(alloc, &[])?, &[0])?;
     assert_eq!(rt; none.len(), 0);
@@ -88,7 +91,7 @@ fn a_union_keeps_copies(rt: HostRuntime) -> Result<(), Fail> {
     let left = table(alloc, &[(1, "a")])?;
     let right = table(alloc, &[(1, "a"), (0, "b")])?;
     let both = united(left, &right)?;
-    assert_eq!(rt; shown(alloc, &both)?.as_str(), "1'a';1'a';0'b';");
+    assert_eq!(rt; shown(alloc, &both)?.as_str(), "1 'a';1 'a';0 'b';");
     let none = united(table(alloc, &[])?, &table(alloc, &[])?)?;
     assert_eq!(rt; none.len(), 0);
     Ok(())
@@ -99,7 +102,7 @@ fn the_first_of_equal_rows_is_kept(rt: HostRuntime) -> Result<(), Fail> {
     let alloc = rt.alloc();
     let rows = table(alloc, &[(3, "b"), (1, "a"), (3, "b"), (2, "a"), (1, "a")])?;
     let all = distinct(alloc, &rows, &[0, 1])?;
-    assert_eq!(rt; shown(alloc, &all)?.as_str(), "3'b';1'a';2'a';");
+    assert_eq!(rt; shown(alloc, &all)?.as_str(), "3 'b';1 'a';2 'a';");
     let texts = distinct(alloc, &rows, &[1])?;
     assert_eq!(rt; shown(alloc, &texts)?.as_str(), "'b';'a';");
     Ok(())
@@ -115,7 +118,7 @@ fn equal_keys_are_joined_with_each_other(rt: HostRuntime) -> Result<(), Fail> {
     )?;
     let joined = hash_join(alloc, &left, &[1], &right, vec![in alloc; 1]?)?;
     let pairs =
-        "1'key'9223372036854775807'key';1'key'-9223372036854775808'key';3'key'9223372036854775807'key';3'key'-9223372036854775808'key';";
+        "1 'key' 9223372036854775807 'key';1 'key' -9223372036854775808 'key';3 'key' 9223372036854775807 'key';3 'key' -9223372036854775808 'key';";
     assert_eq!(rt; shown(alloc, &joined)?.as_str(), pairs);
     Ok(())
 }
