@@ -42,7 +42,14 @@ fn line(
     }
     let catalog = Catalog::read(alloc, database.as_bytes())?;
     let database = Database::empty(alloc, &catalog)?;
-    match run_rounds(alloc, &plan, &database, &setup(alloc, sizes, counts)?, &ToFirst, 1000) {
+    match run_rounds(
+        alloc,
+        &plan,
+        &database,
+        &setup(alloc, sizes, counts)?,
+        &ToFirst,
+        1000,
+    ) {
         Ok(_) => Ok(String::from_str(alloc, "ok")?),
         Err(fault) => Ok(format!(in alloc; "{fault}")?),
     }
