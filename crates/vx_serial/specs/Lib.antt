@@ -1,2 +1,3 @@
 pub mod Evaluated
 pub mod Results
+pub mod GroupFaults

@@ -4,6 +4,7 @@
 mod evaluation;
 mod exchanges;
 mod fault;
+mod grouping_stub;
 mod operators;
 #[cfg(test)]
 mod tests;

@@ -11,8 +11,9 @@ ghost use Rattle.vx_serial.specs.Evaluated.{evaluated_rows};
 ghost use Rattle.vx_serial.specs.Results.{IsFaultAt};
 
 use crate::fault::EvalFault;
+use crate::grouping_stub::{GroupFault, grouped};
 use std::alloc::{AllocError, Global};
-use vx_algebra::{GroupFault, distinct, grouped, hash_join, projected, selected, sorted, united};
+use vx_algebra::{distinct, hash_join, projected, selected, sorted, united};
 use vx_plan::{Aggregate, Binary, Kept, Unary};
 use vx_rows::Rows;
 
