@@ -3,3 +3,5 @@ pub mod TextFacts
 pub mod RunnableFacts
 pub mod Refusing
 pub mod TableFacts
+pub mod SerialFacts
+pub mod Outputs

@@ -9,7 +9,7 @@ use Rattle.volcano.specs.declared.bundle.Command.TheVariants as command
 use Rattle.volcano.specs.declared.refusal.Refusal.{Refusal}
 use Rattle.volcano.specs.Bundle.{Bundle}
 use Rattle.volcano.specs.Status.{status_of}
-use Rattle.volcano.specs.Answer.{IsAccepted, IsDatabaseFor, RunRefuses, PlanRefuses, for_run, Refuses, for_rest, RefusedWith, IsRefusedBy}
+use Rattle.volcano.specs.Answer.{IsPlanned, IsAccepted, IsDatabaseFor, RunRefuses, PlanRefuses, for_run, SerialRefuses, Refuses, for_rest, for_serial, RefusedWith, IsRefusedBy}
 
 pub run_refused : {T : Type 0} (r : Result T Refusal) (p : Resolved) (b : Bundle) (db : Database) → can_run (plan_in p.root) ≡ true → IsDatabaseFor p b db
     → IfErr r (λ e. RunRefuses p db b e) → IfErr r (λ e. PlanRefuses p b e)
@@ -20,6 +20,11 @@ pub rest_refused : {T : Type 0} (r : Result T Refusal) (b : Bundle) (p : Resolve
     → IfErr r (λ e. PlanRefuses p b e) → IfErr r (λ e. Refuses b e)
 rest_refused (Ok x) b p accepted runs h = tt
 rest_refused (Err e) b p accepted runs h = for_rest p accepted runs h
+
+pub serial_refused : {T : Type 0} (r : Result T Refusal) (b : Bundle) (p : Resolved) → IsPlanned b p → b.command ≡ command.Serial
+    → IfErr r (λ e. SerialRefuses p b e) → IfErr r (λ e. Refuses b e)
+serial_refused (Ok x) b p there asked h = tt
+serial_refused (Err e) b p there asked h = for_serial p there asked h
 
 -- status 3 comes of no text that was written or not, and so of a refusal
 pub refused_by : {T : Type 0} (X Y : Type 0) (known : Option (List ℕ)) (failed : Bool) (r : Result T Refusal) (n : ℕ)

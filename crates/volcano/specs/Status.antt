@@ -10,6 +10,8 @@ use Rattle.vx_check.specs.declared.rule.Rule.{Rule}
 use Rattle.vx_check.specs.declared.rule.Rule.TheVariants as rule
 use Rattle.vx_exec.specs.declared.fault.RunFault.{RunFault}
 use Rattle.vx_exec.specs.declared.fault.RunFault.TheVariants as run
+use Rattle.vx_serial.specs.declared.fault.EvalFault.{EvalFault}
+use Rattle.vx_serial.specs.declared.fault.EvalFault.TheVariants as eval
 use Rattle.volcano.specs.declared.refusal.Refusal.{Refusal}
 use Rattle.volcano.specs.declared.refusal.Refusal.TheVariants as refusal
 
@@ -76,6 +78,13 @@ run_status (run.Stranger exchange) = 4
 run_status (run.TooManyWorkers number) = 3
 run_status run.BadSlack = 3
 
+-- of a serial evaluation: X6 and X13 are told before it begins, X7 and X8 end it
+abbrev pub eval_status : EvalFault → ℕ
+eval_status eval.OtherCatalog = 3
+eval_status (eval.HasExchange node) = 3
+eval_status (eval.Overflow node) = 4
+eval_status eval.NoMemory = 4
+
 -- of the program: V1 to V3 and V6 are 3, V4, V5 and want of memory are 4
 abbrev pub status_of : Refusal → ℕ
 status_of (refusal.Catalog fault) = catalog_status fault
@@ -83,6 +92,7 @@ status_of (refusal.Load fault) = load_status fault
 status_of (refusal.Plan fault) = plan_status fault
 status_of (refusal.Check rule node) = rule_status rule
 status_of (refusal.Run fault) = run_status fault
+status_of (refusal.Eval fault) = eval_status fault
 status_of refusal.BadBundle = 3
 status_of (refusal.NoTable name) = 3
 status_of (refusal.FileUnreadable path) = 3

@@ -8,6 +8,7 @@ mod page;
 mod refusal;
 mod router;
 mod run;
+mod serial;
 mod status;
 mod store;
 mod tables;

@@ -9,6 +9,7 @@ use vx_check::Rule;
 use vx_exec::RunFault;
 use vx_plan::PlanFault;
 use vx_rows::{ByteOut, write_all};
+use vx_serial::EvalFault;
 
 /// The first reason why the program gives no text.
 #[derive(Debug, Drop, Error)]
@@ -28,6 +29,9 @@ pub enum Refusal {
     /// The setup does not fit the plan, or the run failed.
     #[error(transparent)]
     Run(RunFault),
+    /// The plan without its exchanges has no rows over the tables.
+    #[error(transparent)]
+    Eval(EvalFault),
     /// The input is not of a bundle's form.
     #[error("V1 BadBundle")]
     BadBundle,

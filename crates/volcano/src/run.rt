@@ -46,7 +46,7 @@ fn setup_of(alloc: Global, bundle: &Bundle<'_>) -> Result<Setup, AllocError>
 }
 
 /// The text of rows under the names of a plan's output.
-fn text_of(alloc: Global, plan: &TypedPlan, rows: &Rows) -> Result<Vec<u8>, AllocError>
+pub fn text_of(alloc: Global, plan: &TypedPlan, rows: &Rows) -> Result<Vec<u8>, AllocError>
     ensures { IfOk result (λ v. v.items ≡ csv_text (columns (resolved_of plan.now).root).names rows.now.rows) }
 {
     let names = plan.root().head().columns.names.as_slice();

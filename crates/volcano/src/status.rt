@@ -1,13 +1,14 @@
 //! The status with which the program ends after a refusal: 3 for input that is refused, 4 where the machine failed it.
 
 ghost use Rattle.std.specs.Prelude.{◌≡◌, ◌⊎◌};
-ghost use Rattle.volcano.specs.Status.{catalog_status, load_status, plan_status, rule_status, run_status, status_of};
+ghost use Rattle.volcano.specs.Status.{catalog_status, load_status, plan_status, rule_status, run_status, eval_status, status_of};
 
 use crate::refusal::Refusal;
 use vx_catalog::{CatalogFault, LoadFault};
 use vx_check::Rule;
 use vx_exec::RunFault;
 use vx_plan::PlanFault;
+use vx_serial::EvalFault;
 
 fn catalog_status(fault: &CatalogFault) -> u8
     ensures { result ≡ catalog_status fault.now }
@@ -92,6 +93,15 @@ fn run_status(fault: &RunFault) -> u8
     }
 }
 
+fn eval_status(fault: &EvalFault) -> u8
+    ensures { result ≡ eval_status fault.now }
+{
+    match fault {
+        EvalFault::OtherCatalog | EvalFault::HasExchange { .. } => 3,
+        EvalFault::Overflow { .. } | EvalFault::NoMemory => 4,
+    }
+}
+
 /// The status after a refusal.
 pub fn status(refusal: &Refusal) -> u8
     ensures { result ≡ status_of refusal.now }
@@ -102,6 +112,7 @@ pub fn status(refusal: &Refusal) -> u8
         Refusal::Plan(fault) => plan_status(fault),
         Refusal::Check { rule, .. } => rule_status(*rule),
         Refusal::Run(fault) => run_status(fault),
+        Refusal::Eval(fault) => eval_status(fault),
         Refusal::BadBundle
         | Refusal::NoTable { .. }
         | Refusal::FileUnreadable { .. }

@@ -74,7 +74,6 @@ fn other_forms_are_refused(rt: HostRuntime) -> Result<(), Fail> {
         (r#""many":3"#, r#""many":"3""#),
         (r#""tables":{"#, r#""tables":{"u":1,"#),
         (r#""sizes":{"many":3}"#, r#""sizes":[]"#),
-        (r#""command":"run""#, r#""command":"serial""#),
         (r#""mode":"rounds""#, r#""mode":"threads""#),
         ("{", "["),
     ] {
@@ -240,6 +239,22 @@ fn nodes_that_do_not_run_yet_are_refused(rt: HostRuntime) -> Result<(), Fail> {
         line.as_str(),
         "volcano: P2 BadNode path=root.input.input\n3"
     );
+    Ok(())
+}
+
+#[test]
+fn a_plan_that_the_checker_refuses_has_serial_rows(rt: HostRuntime) -> Result<(), Fail> {
+    let text = FIRST.replace(rt.alloc(), r#""command":"run""#, r#""command":"serial""#)?;
+    let line = line_for(&rt, &[], text.as_bytes(), None)?;
+    assert_eq!(rt; line.as_str(), "id,k,v\n1,b,7\n3,c,7\n0");
+    let text = text.replace(
+        rt.alloc(),
+        r#"{"op":"exchange","kind":"gather","claim":{"part":"one"},"input":"#,
+        "",
+    )?;
+    let text = text.replace(rt.alloc(), r#""size":"many"}}}}"#, r#""size":"many"}}}"#)?;
+    let line = line_for(&rt, &[], text.as_bytes(), None)?;
+    assert_eq!(rt; line.as_str(), "id,k,v\n1,b,7\n3,c,7\n0");
     Ok(())
 }
 

@@ -5,11 +5,12 @@ ghost use Rattle.volcano.specs.BundleView.{bundle_form};
 ghost use Rattle.vx_document.specs.Fault.{Gives};
 ghost use Rattle.vx_plan.specs.TypedView.{resolved_of};
 ghost use Rattle.vx_check.specs.CheckedView.{typed_plan};
-ghost use Rattle.volcano.specs.Answer.{plan_for, IsAccepted, Unaccepted, accepted_text, is_taken, IsFor, IsOutput, PlanRefuses, Refuses, IsAnswer, IsRefused};
+ghost use Rattle.volcano.specs.Answer.{plan_for, IsPlanned, Unplanned, IsAccepted, Unaccepted, accepted_text, is_taken, is_checked, IsOutput, Refuses, IsAnswer, IsRefused};
 
 use crate::bundle::{Bundle, Command, Mode, bundle_in, value_of_text};
 use crate::refusal::Refusal;
 use crate::run::run_plan;
+use crate::serial::serial_plan;
 use std::alloc::{AllocError, Global};
 use vx_catalog::Catalog;
 use vx_check::{CheckedPlan, check, explain};
@@ -23,25 +24,18 @@ fn plan_for(alloc: Global, bundle: &Bundle<'_>, catalog: &Catalog) -> Result<Typ
     resolve(alloc, &plan, catalog)
 }
 
-/// The plan of a bundle, once the checker has accepted it.
-fn accepted_plan(alloc: Global, bundle: &Bundle<'_>) -> Result<CheckedPlan, Refusal>
-    ensures accepted { IfOk result (λ c. IsAccepted (bundle_form bundle.now) (resolved_of (typed_plan c))) }
-    ensures refused { IfErr result (λ e. Unaccepted (bundle_form bundle.now) e) }
+/// The plan of a bundle over the bundle's catalog.
+fn planned(alloc: Global, bundle: &Bundle<'_>) -> Result<TypedPlan, Refusal>
+    ensures planned { IfOk result (λ p. IsPlanned (bundle_form bundle.now) (resolved_of p)) }
+    ensures refused { IfErr result (λ e. Unplanned (bundle_form bundle.now) e) }
 {
     let catalog = match Catalog::of_value(alloc, bundle.catalog()) {
         Ok(catalog) => catalog,
         Err(fault) => return Err(Refusal::Catalog(fault)),
     };
-    let plan = match plan_for(alloc, bundle, &catalog) {
-        Ok(plan) => plan,
-        Err(fault) => return Err(Refusal::Plan(fault)),
-    };
-    match check(plan) {
-        Ok(checked) => Ok(checked),
-        Err(refused) => Err(Refusal::Check {
-            rule: refused.rule,
-            node: refused.node,
-        }),
+    match plan_for(alloc, bundle, &catalog) {
+        Ok(plan) => Ok(plan),
+        Err(fault) => Err(Refusal::Plan(fault)),
     }
 }
 
@@ -58,7 +52,7 @@ fn accepted_text(alloc: Global, is_total: bool) -> Result<Vec<u8>, AllocError>
 
 /// The text that a command asks for of an accepted plan.
 fn text_for(alloc: Global, bundle: &Bundle<'_>, checked: &CheckedPlan) -> Result<Vec<u8>, Refusal>
-    requires taken { is_taken (bundle_form bundle.now).command (bundle_form bundle.now).mode ≡ true }
+    requires asked { is_checked (bundle_form bundle.now).command ≡ true }
     requires accepted { IsAccepted (bundle_form bundle.now) (resolved_of (typed_plan checked.now)) }
     ensures text { IfOk result (λ text. IsOutput (bundle_form bundle.now) text.items) }
     ensures refused { IfErr result (λ e. Refuses (bundle_form bundle.now) e) }
@@ -71,17 +65,35 @@ fn text_for(alloc: Global, bundle: &Bundle<'_>, checked: &CheckedPlan) -> Result
     }
 }
 
+/// The text that a command asks for of a plan, once the checker has accepted it.
+fn checked_text(alloc: Global, bundle: &Bundle<'_>, plan: TypedPlan) -> Result<Vec<u8>, Refusal>
+    requires asked { is_checked (bundle_form bundle.now).command ≡ true }
+    requires planned { IsPlanned (bundle_form bundle.now) (resolved_of plan) }
+    ensures text { IfOk result (λ text. IsOutput (bundle_form bundle.now) text.items) }
+    ensures refused { IfErr result (λ e. Refuses (bundle_form bundle.now) e) }
+{
+    match check(plan) {
+        Ok(checked) => text_for(alloc, bundle, &checked),
+        Err(refused) => Err(Refusal::Check {
+            rule: refused.rule,
+            node: refused.node,
+        }),
+    }
+}
+
 /// Whether the program does this yet.
 fn is_taken(command: Command, mode: Mode) -> bool
     ensures { result ≡ is_taken command mode }
 {
     match (command, mode) {
-        (Command::Run, Mode::Rounds) | (Command::Check | Command::Explain, _) => true,
-        (Command::Run, Mode::Threads) | (Command::Serial, _) => false,
+        (Command::Run, Mode::Rounds) | (Command::Serial | Command::Check | Command::Explain, _) => {
+            true
+        }
+        (Command::Run, Mode::Threads) => false,
     }
 }
 
-/// The text that answers a bundle. Commands and modes that are not there yet are refused here.
+/// The text that answers a bundle. Modes that are not there yet are refused here.
 fn answer_bundle(alloc: Global, bundle: &Bundle<'_>) -> Result<Vec<u8>, Refusal>
     ensures text { IfOk result (λ text. IsOutput (bundle_form bundle.now) text.items) }
     ensures refused { IfErr result (λ e. Refuses (bundle_form bundle.now) e) }
@@ -89,11 +101,14 @@ fn answer_bundle(alloc: Global, bundle: &Bundle<'_>) -> Result<Vec<u8>, Refusal>
     if !is_taken(bundle.command(), bundle.mode()) {
         return Err(Refusal::BadBundle);
     }
-    let checked = match accepted_plan(alloc, bundle) {
-        Ok(checked) => checked,
+    let plan = match planned(alloc, bundle) {
+        Ok(plan) => plan,
         Err(refusal) => return Err(refusal),
     };
-    text_for(alloc, bundle, &checked)
+    match bundle.command() {
+        Command::Serial => serial_plan(alloc, bundle, &plan),
+        Command::Run | Command::Check | Command::Explain => checked_text(alloc, bundle, plan),
+    }
 }
 
 /// The text that answers a bundle's bytes, before a byte of it is written.

@@ -1,0 +1,32 @@
+//! Serial evaluations of plans over a bundle's tables.
+
+ghost use Rattle.std.specs.Prelude.{IfOk, IfErr};
+ghost use Rattle.vx_plan.specs.TypedView.{resolved_of};
+ghost use Rattle.volcano.specs.BundleView.{bundle_form};
+ghost use Rattle.volcano.specs.Answer.{IsSerial, SerialRefuses};
+
+use crate::bundle::Bundle;
+use crate::refusal::Refusal;
+use crate::run::text_of;
+use crate::tables::load_tables;
+use std::alloc::Global;
+use vx_plan::{TypedPlan, erase};
+use vx_serial::eval;
+
+/// The text of the rows of a plan without its exchanges over the tables of its bundle, under the names of the plan.
+pub fn serial_plan(alloc: Global, bundle: &Bundle<'_>, plan: &TypedPlan) -> Result<Vec<u8>, Refusal>
+    ensures text { IfOk result (λ text. IsSerial (resolved_of plan.now) (bundle_form bundle.now) text.items) }
+    ensures refused { IfErr result (λ e. SerialRefuses (resolved_of plan.now) (bundle_form bundle.now) e) }
+{
+    let database = match load_tables(alloc, plan, bundle) {
+        Ok(database) => database,
+        Err(refusal) => return Err(refusal),
+    };
+    let Ok(erased) = erase(alloc, plan) else {
+        return Err(Refusal::NoMemory);
+    };
+    match eval(alloc, &erased, &database) {
+        Ok(rows) => Ok(text_of(alloc, plan, &rows)?),
+        Err(fault) => Err(Refusal::Eval(fault)),
+    }
+}

@@ -1,0 +1,58 @@
+//! The rows of a plan over a database.
+
+ghost use Rattle.std.specs.Prelude.{◌≡◌, IfOk, IfErr};
+ghost use Rattle.vx_catalog.specs.Catalog.{relation_at};
+ghost use Rattle.vx_catalog.specs.Database.{rows_at};
+ghost use Rattle.vx_plan.specs.Outline.{plan_of};
+ghost use Rattle.vx_plan.specs.Serial.{rows};
+ghost use Rattle.vx_plan.specs.TypedView.{resolved_of};
+ghost use Rattle.vx_plan.specs.Types.{types_of};
+ghost use Rattle.vx_serial.specs.Evaluated.{evaluated, IsFit};
+ghost use Rattle.vx_serial.specs.Results.{IsFaultOf, IsSerialOf, EvalFails};
+
+use crate::exchanges::first_exchange;
+use crate::fault::EvalFault;
+use crate::operators::{binary_rows, unary_rows};
+use std::alloc::Global;
+use vx_catalog::Database;
+use vx_plan::{TypedNode, TypedPlan};
+use vx_rows::Rows;
+
+/// The rows of a node. Each input is taken to its end, also where no further row can come of it. An exchange gives its
+/// input.
+fn eval_node(alloc: Global, database: &Database, node: &TypedNode) -> Result<Rows, EvalFault>
+    requires { IsFit database.now.catalog (plan_of node.now) }
+    ensures types { IfOk result (λ t. t.types ≡ types_of (relation_at database.now.catalog) (plan_of node.now)) }
+    ensures rows { IfOk result (λ t. evaluated (rows_at database.now) (plan_of node.now) ≡ rows t.rows) }
+    ensures fault { IfErr result (IsFaultOf (evaluated (rows_at database.now) (plan_of node.now))) }
+{
+    match node {
+        TypedNode::Scan(_, scan) => Ok(database.rows(scan.relation).copy(alloc)?),
+        TypedNode::Unary(head, unary, input) => {
+            let rows = eval_node(alloc, database, input)?;
+            unary_rows(alloc, head.number, unary, rows)
+        }
+        TypedNode::Binary(_, binary, left, right) => {
+            let first = eval_node(alloc, database, left)?;
+            let second = eval_node(alloc, database, right)?;
+            Ok(binary_rows(alloc, binary, first, &second)?)
+        }
+        TypedNode::Exchange(_, _, input) => eval_node(alloc, database, input),
+    }
+}
+
+/// The rows of a plan without exchanges over a database of its catalog: those of its serial meaning.
+///
+/// It is refused for another catalog first, then for its first exchange, then for the first node that overflows.
+pub fn eval(alloc: Global, plan: &TypedPlan, database: &Database) -> Result<Rows, EvalFault>
+    ensures rows { IfOk result (IsSerialOf (resolved_of plan.now) database.now) }
+    ensures refused { IfErr result (EvalFails (resolved_of plan.now) database.now) }
+{
+    if !database.catalog().is_same(plan.catalog()) {
+        return Err(EvalFault::OtherCatalog);
+    }
+    if let Some(node) = first_exchange(plan.root()) {
+        return Err(EvalFault::HasExchange { node });
+    }
+    eval_node(alloc, database, plan.root())
+}

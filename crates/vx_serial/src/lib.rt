@@ -1,0 +1,12 @@
+//! Plans without exchanges, evaluated node by node: each input is taken to its end before the node above it.
+#![tactic(auto)]
+
+mod evaluation;
+mod exchanges;
+mod fault;
+mod operators;
+#[cfg(test)]
+mod tests;
+
+pub use evaluation::eval;
+pub use fault::EvalFault;
