@@ -1,0 +1,10 @@
+//! The words of the command line: what they ask for, and the help that they bring.
+#![tactic(auto)]
+
+mod asked;
+mod command_line;
+
+pub use asked::{Asked, Limits, Sources, asked_for};
+
+#[cfg(test)]
+mod tests;
