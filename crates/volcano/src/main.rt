@@ -1,30 +1,12 @@
-//! The program: from a bundle to rows.
+//! The program: from words or a bundle to rows.
 #![tactic(auto)]
 
-mod answer;
-mod bundle;
-mod look;
-mod page;
-mod refusal;
-mod router;
-mod run;
-mod serial;
-mod status;
-mod store;
-mod tables;
-#[cfg(test)]
-mod tests;
-mod unrunnable;
-mod work;
-
-use answer::answer;
-use refusal::{Refusal, tell};
 use std::alloc::{AllocError, Global};
 use std::env::Env;
 use std::io::ErrorKind;
 use std::process::ExitCode;
 use std::{env, io};
-use store::Disk;
+use vx_answer::{Disk, Refusal, answer, tell};
 use vx_rows::{Real, write_all};
 
 /// The words of the command line without the program's name.

@@ -2,7 +2,7 @@
 use Rattle.std.specs.Prelude.{pos, List, [], ◌∷◌, Option, Some, None, map, option_map, option_and_then, bytes_eq, codes, true, if◌then◌else◌}
 use Rattle.std.specs.Option.{option_map_or}
 use Rattle.clap.specs.Lexer.{usize_max}
-use Rattle.clap.specs.Words.{App, Row, Rule, Text, all_of, first_of, new_app, new_rule, with_rule, with_subcommand}
+use Rattle.clap.specs.Words.{App, Kinds, Row, Rule, Text, all_of, fault_of, first_of, new_app, new_rule, subcommand_of, with_rule, with_subcommand}
 use Rattle.clap.specs.Simple.{on_top}
 use Rattle.clap.specs.declared.builder.value_parser.ValueParser.TheVariants as parser
 use Rattle.vx_words.specs.declared.asked.Sources.{Sources}
@@ -87,6 +87,14 @@ ask_of (Some p) =
     else if bytes_eq p.0 (codes "check") then option_map check (paths_of p.1)
     else if bytes_eq p.0 (codes "explain") then option_map explain (paths_of p.1)
     else None
+
+-- what the words ask for, the program's name first
+unfoldable pub asked_by : List Text → Option Ask
+asked_by words = ask_of (subcommand_of volcano_app words)
+
+-- the kinds that a refusal of the words may have; none where they are taken
+unfoldable pub faults_of : List Text → Kinds
+faults_of words = fault_of volcano_app words
 
 abbrev pub paths_are : Sources → Paths
 paths_are s = record { catalog = s.catalog.now; plan = s.plan.now }

@@ -2,7 +2,7 @@
 
 ghost use Rattle.std.specs.Prelude.{◌≡◌, IfOk, false, map, option_map};
 ghost use Rattle.clap.specs.Words.{FailsBy, fault_of, rows_of, found_of, first_of, all_of, subcommand_of, subcommand_rows_of};
-ghost use Rattle.vx_words.specs.Asked.{volcano_app, paths_of, given_of, sizes_of, serial_of, run_of, ask_of, paths_are, given_is, asked_is};
+ghost use Rattle.vx_words.specs.Asked.{volcano_app, paths_of, given_of, sizes_of, serial_of, run_of, ask_of, asked_by, faults_of, paths_are, given_is, asked_is};
 
 use crate::command_line::command;
 use clap::{ArgMatches, Error};
@@ -137,9 +137,10 @@ fn asked_in<'a>(alloc: Global, matches: &ArgMatches<'a>) -> Result<Option<Asked<
 }
 
 /// What the words ask for, the program's name first. An `Err` is want of memory, a fault of the words, or help.
+#[tactic(auto, unfolding(crate::specs::Asked::asked_by, crate::specs::Asked::faults_of))]
 pub fn asked_for<'a>(alloc: Global, words: &'a [&'a str]) -> Result<Option<Asked<'a>>, Error>
-    ensures asked { IfOk result (λ o. option_map asked_is o ≡ ask_of (subcommand_of volcano_app (map (λ w. w.now) words.entry.now))) }
-    ensures faults { FailsBy (fault_of volcano_app (map (λ w. w.now) words.entry.now)) result }
+    ensures asked { IfOk result (λ o. option_map asked_is o ≡ asked_by (map (λ w. w.now) words.entry.now)) }
+    ensures faults { FailsBy (faults_of (map (λ w. w.now) words.entry.now)) result }
 {
     let matches = matches_in(alloc, words)?;
     Ok(asked_in(alloc, &matches)?)

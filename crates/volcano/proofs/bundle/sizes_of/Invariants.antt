@@ -1,7 +1,0 @@
-use Rattle.std.proofs.Common.{◌≡◌, [], map}
-use Rattle.serde_json.specs.View.{members_view}
-use Rattle.volcano.specs.Bundle.{size_form, each_member, number_in}
-use Rattle.volcano.proofs.bundle.sizes_of.Given as goal
-
-abbrev pub invariant-loop-name : goal.invariant-loop-name
-invariant-loop-name l = each_member number_in (map size_form l.sizes.items) (members_view l.name-iterator) ≡ each_member number_in [] (members_view l.members.entries)

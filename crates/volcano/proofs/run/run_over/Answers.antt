@@ -1,6 +1,0 @@
-use Rattle.std.proofs.Common.{refl}
-use Rattle.volcano.specs.Answer.{for_fault}
-use Rattle.volcano.proofs.run.run_over.Goals as goal
-
-pub returns-clause-refused : goal.returns-clause-refused
-returns-clause-refused c = for_fault c.in-Err.fault refl (rw c.in_ok-setup.ensures at c.in-Err.ensures.refused)

@@ -1,0 +1,11 @@
+pub mod MemberFacts
+pub mod TextFacts
+pub mod RunnableFacts
+pub mod Refusing
+pub mod MissingFacts
+pub mod FillFacts
+pub mod SerialFacts
+pub mod Outputs
+pub mod SourceFacts
+pub mod WordFacts
+pub mod FolderFacts

@@ -1,0 +1,44 @@
+-- From one step's refusal to the refusal of the whole.
+use Rattle.std.proofs.Common.{arith, ◌≡◌, ◌≢◌, ◌∙◌, ℕ, List, Bool, true, Option, Result, Ok, Err, refl, sym}
+use Rattle.std.specs.Prelude.{IfOk, IfErr}
+use Rattle.vx_catalog.specs.Database.{Database}
+use Rattle.vx_plan.specs.Outline.{plan_in}
+use Rattle.vx_plan.specs.Resolve.{Resolved}
+use Rattle.vx_exec.specs.Sizes.{can_run}
+use Rattle.vx_answer.specs.declared.command.Command.TheVariants as command
+use Rattle.vx_answer.specs.declared.refusal.Refusal.{Refusal}
+use Rattle.vx_answer.specs.Bundle.{Bundle}
+use Rattle.vx_answer.specs.Setting.{Setting}
+use Rattle.vx_answer.specs.Status.{status_of}
+use Rattle.vx_answer.specs.Texts.{holds_in, lacks_in}
+use Rattle.vx_answer.specs.Commanded.{Holding, Lacking, IsShown, IsDatabaseFor, RunRefuses, PlanRefuses, for_run, SerialRefuses, CommandRefuses, for_rest, for_serial}
+use Rattle.vx_answer.specs.Answer.{IsPlanned, Refuses, for_plan_of, RefusedWith, IsRefusedBy}
+
+pub run_refused : {T : Type 0} (r : Result T Refusal) (p : Resolved) (holds : Holding) (lacks : Lacking) (s : Setting) (db : Database) → can_run (plan_in p.root) ≡ true
+    → IsDatabaseFor p holds db → IfErr r (λ e. RunRefuses p db s e) → IfErr r (λ e. PlanRefuses p holds lacks s e)
+run_refused (Ok x) p holds lacks s db runs there h = tt
+run_refused (Err e) p holds lacks s db runs there h = for_run runs db there h
+
+pub rest_refused : {T : Type 0} (r : Result T Refusal) (p : Resolved) (holds : Holding) (lacks : Lacking) (s : Setting) → IsShown p
+    → IfErr r (λ e. PlanRefuses p holds lacks s e) → IfErr r (λ e. CommandRefuses command.Run p holds lacks s e)
+rest_refused (Ok x) p holds lacks s shown h = tt
+rest_refused (Err e) p holds lacks s shown h = for_rest refl shown h
+
+pub serial_refused : {T : Type 0} (r : Result T Refusal) (p : Resolved) (holds : Holding) (lacks : Lacking) (s : Setting)
+    → IfErr r (λ e. SerialRefuses p holds lacks e) → IfErr r (λ e. CommandRefuses command.Serial p holds lacks s e)
+serial_refused (Ok x) p holds lacks s h = tt
+serial_refused (Err e) p holds lacks s h = for_serial refl h
+
+pub bundle_refused : {T : Type 0} (r : Result T Refusal) (b : Bundle) (p : Resolved) → IsPlanned b p
+    → IfErr r (λ e. CommandRefuses b.command p (holds_in b.tables) (lacks_in b.tables) b.setting e) → IfErr r (λ e. Refuses b e)
+bundle_refused (Ok x) b p there h = tt
+bundle_refused (Err e) b p there h = for_plan_of p there h
+
+-- status 3 comes of no text that was written or not, and so of a refusal
+pub refused_by : {T : Type 0} (X Y : Type 0) (known : Option (List ℕ)) (failed : Bool) (r : Result T Refusal) (n : ℕ)
+    → IfOk r (λ x. n ≢ 0 → (n ≡ 4) × X) → IfErr r (λ e. (n ≡ status_of e) × Y) → IfErr r (λ e. RefusedWith known failed e)
+    → n ≡ 3 → IsRefusedBy 3 known failed
+refused_by X Y known failed (Ok x) n written refused h three =
+    let four : n ≡ 4 = (written (λ z. absurd (omega (arith, z, three)))).0 in
+    absurd (omega (arith, four, three))
+refused_by X Y known failed (Err e) n written refused h three = (e, sym refused.0 ∙ three, h)

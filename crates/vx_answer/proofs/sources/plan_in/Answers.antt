@@ -1,0 +1,43 @@
+use Rattle.std.proofs.Common.{◌≡◌, ℕ, List, Ok, refl, ap}
+use Rattle.std.specs.Prelude.{IfSome}
+use Rattle.vx_catalog.specs.Naming.{catalog_text}
+use Rattle.vx_catalog.specs.Naming as catalog
+use Rattle.vx_document.specs.Fault as plan
+use Rattle.vx_words.specs.Asked.{paths_are}
+use Rattle.vx_answer.specs.Worded.{is_input, told_at, plan_text, catalog_told, for_catalog_bytes, for_catalog, for_plan_bytes, for_plan}
+use Rattle.vx_answer.proofs.SourceFacts.{told_all, second_bytes}
+use Rattle.vx_answer.proofs.sources.plan_in.Goals as goal
+
+pub returns-in-Err-clause-refused : goal.returns-in-Err-clause-refused
+returns-in-Err-clause-refused g c = for_catalog_bytes c.in-Err.ensures.refused
+
+pub returns-in-Err-read-clause-refused : goal.returns-in-Err-read-clause-refused
+returns-in-Err-read-clause-refused g c =
+    let files = g.F.Store.holds c.args.files.now in
+    let P : List ℕ → Type 0 = λ bytes. catalog.Fails c.in-Err-read.fault (catalog_text bytes) in
+    let fails : P c.in-Ok.bytes.items = rw c.as_slice.ensures.value at c.in-Err-read.ensures in
+    for_catalog c.in-Err-read.fault refl (told_all P (catalog_told files (g.I.ByteIn.remaining c.args.input.now) (paths_are c.args.sources)) c.in-Ok.bytes.items c.in-Ok.ensures.taken fails)
+
+pub returns-in-Err-bytes_at-clause-refused : goal.returns-in-Err-bytes_at-clause-refused
+returns-in-Err-bytes_at-clause-refused g c =
+    let files = g.F.Store.holds c.args.files.now in
+    let P : List ℕ → Type 0 = λ bytes. catalog_text bytes ≡ Ok c.in-Ok-read.catalog in
+    let declared : P c.in-Ok.bytes.items = rw c.as_slice.ensures.value at c.in-Ok-read.ensures in
+    for_plan_bytes c.in-Ok-read.catalog (told_all P (catalog_told files (g.I.ByteIn.remaining c.args.input.now) (paths_are c.args.sources)) c.in-Ok.bytes.items c.in-Ok.ensures.taken declared)
+    c.in-Err-bytes_at.ensures.refused
+
+pub returns-clause-refused : goal.returns-clause-refused
+returns-clause-refused g c =
+    let files = g.F.Store.holds c.args.files.now in
+    let before = g.I.ByteIn.remaining c.args.input.now in
+    let after = g.I.ByteIn.remaining c.bytes_at.new.input in
+    let first = c.args.sources.catalog.now in
+    let second = c.args.sources.plan.now in
+    let fault = c.in-Err-plan_over.fault in
+    let P : List ℕ → Type 0 = λ bytes. catalog_text bytes ≡ Ok c.in-Ok-read.catalog in
+    let declared : P c.in-Ok.bytes.items = rw c.as_slice.ensures.value at c.in-Ok-read.ensures in
+    let Q : List ℕ → Type 0 = λ bytes. plan.Fails fault (plan_text bytes c.in-Ok-read.catalog) in
+    let fails : Q c.in-Ok-bytes_at.bytes.items = rw c.as_slice-2.ensures.value at c.in-Err-plan_over.ensures in
+    let told : IfSome (told_at files after second) Q = told_all Q (told_at files after second) c.in-Ok-bytes_at.bytes.items c.in-Ok-bytes_at.ensures.taken fails in
+    for_plan c.in-Ok-read.catalog fault refl (told_all P (catalog_told files before (paths_are c.args.sources)) c.in-Ok.bytes.items c.in-Ok.ensures.taken declared)
+    (second_bytes (is_input first) (is_input second) before after (files second) Q (λ other. ap (g.I.ByteIn.remaining) (c.in-Ok.ensures.kept other)) told)

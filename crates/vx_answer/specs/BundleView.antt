@@ -1,0 +1,13 @@
+-- A bundle that was read, as its text says it.
+use Rattle.std.specs.Prelude.{ℕ, List, map}
+use Rattle.serde_json.specs.View.{view}
+use Rattle.vx_answer.specs.declared.bundle.Bundle as held
+use Rattle.vx_answer.specs.declared.bundle.Table.{Table}
+use Rattle.vx_answer.specs.Bundle.{Bundle, bundle_of}
+
+-- a relation's name and text
+abbrev pub table_form : Table → List ℕ × List ℕ
+table_form t = (t.name.now, t.text.now)
+
+abbrev pub bundle_form : held.Bundle → Bundle
+bundle_form b = bundle_of b.command (view b.catalog.now) (view b.plan.now) (map table_form b.tables.items) b.setting

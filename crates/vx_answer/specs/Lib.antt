@@ -1,0 +1,13 @@
+pub mod Setting
+pub mod Bundle
+pub mod BundleView
+pub mod Status
+pub mod Texts
+pub mod Filled
+pub mod Folder
+pub mod ByteRouter
+pub mod Unrunnable
+pub mod Commanded
+pub mod Answer
+pub mod Worded
+pub mod WordsView

@@ -1,0 +1,34 @@
+-- A task that is held, and why words were not taken.
+use Rattle.std.specs.Prelude.{◌≡◌, ◌≢◌, ℕ, List, Bool, false, Option}
+use Rattle.vx_words.specs.Asked.{paths_are}
+use Rattle.vx_answer.specs.declared.worded.Task as held
+use Rattle.vx_answer.specs.declared.worded.NotTaken.{NotTaken}
+use Rattle.vx_answer.specs.declared.worded.NotTaken.TheVariants as taken
+use Rattle.vx_words.specs.Asked.{Ask}
+use Rattle.clap.specs.declared.error.kind.ErrorKind.{ErrorKind}
+use Rattle.clap.specs.declared.error.kind.ErrorKind.TheVariants as kind
+use Rattle.vx_answer.specs.declared.refusal.Refusal.TheVariants as refusal
+use Rattle.vx_answer.specs.Worded.{Task, is_known, AskRefuses, AreMisworded, WordsRefuse}
+
+abbrev pub task_is : held.Task → Task
+task_is t = record { command = t.command; paths = paths_are t.sources; folder = t.folder.now; setting = t.setting }
+
+-- words are wrong, or memory ran out
+abbrev pub IsWrong : NotTaken → Type 0
+IsWrong (taken.Misworded text) = Unit {0}
+IsWrong (taken.Refused e) = e ≡ refusal.NoMemory
+
+-- a refusal by clap of this kind: words are wrong only where memory did not run out
+abbrev pub IsFault : ErrorKind → NotTaken → Type 0
+IsFault k (taken.Misworded text) = k ≢ kind.OutOfMemory
+IsFault k (taken.Refused e) = e ≡ refusal.NoMemory
+
+-- why what words ask for is not answered
+abbrev pub IsNotAnswered : (List ℕ → Option (List ℕ)) → Option (List ℕ) → Bool → Ask → NotTaken → Type 0
+IsNotAnswered files input failed ask (taken.Misworded text) = is_known ask ≡ false
+IsNotAnswered files input failed ask (taken.Refused e) = AskRefuses files input failed ask e
+
+-- why words are not answered
+abbrev pub IsNotTaken : (List ℕ → Option (List ℕ)) → Option (List ℕ) → Bool → List (List ℕ) → NotTaken → Type 0
+IsNotTaken files input failed words (taken.Misworded text) = AreMisworded words
+IsNotTaken files input failed words (taken.Refused e) = WordsRefuse files input failed words e

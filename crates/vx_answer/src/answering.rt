@@ -1,0 +1,144 @@
+//! From all input to all output.
+
+ghost use Rattle.std.specs.Prelude.{◌≡◌, ◌≢◌, ◌⊎◌, ℕ, List, [], true, false, map, IfSome, IfOk, IfErr, IsErrOf};
+ghost use Rattle.std.specs.Io.KnownBytes.{Appends, Keeps};
+ghost use Rattle.vx_answer.specs.Answer.{IsAnswer, RefusedWith, IsRefusedBy};
+ghost use Rattle.vx_answer.specs.Status.{status_of};
+ghost use Rattle.vx_answer.specs.Worded.{IsWorded, AreMisworded, AreRefusedBy};
+
+use crate::refusal::{Refusal, tell};
+use crate::status::status;
+use crate::store::Store;
+use crate::worded::{NotTaken, worded};
+use crate::work::work;
+use std::alloc::Global;
+use std::sync::Wait;
+use std::thread::Threads;
+use vx_rows::{ByteIn, ByteOut, ReadFault, read_all, write_all};
+
+/// The most bytes that a bundle may have.
+pub const MAX_BYTES: usize = 1 << 40;
+
+/// The text that answers all that is left of an input.
+pub fn outcome_of<I: ByteIn>(alloc: Global, input: &mut I) -> Result<Vec<u8>, Refusal>
+    ensures text { IfOk result (λ text. IfSome (I.remaining input.old) (λ bytes. IsAnswer bytes text.items)) }
+    ensures refused { IfErr result (λ e. RefusedWith (I.remaining input.old) (I.has_failed input.new) e) }
+    ensures broken { I.has_failed input.new ≡ true → IsErrOf result Refusal.InputUnreadable }
+{
+    match read_all(alloc, input, MAX_BYTES) {
+        Ok(bytes) => work(alloc, bytes.as_slice()),
+        Err(ReadFault::NoMemory) => Err(Refusal::NoMemory),
+        Err(ReadFault::Broken | ReadFault::TooLarge) => Err(Refusal::InputUnreadable),
+    }
+}
+
+/// Writes the text of finished work on `out`, or tells on `err` why there is none. The status is 0 where the text was
+/// written, and else that of the refusal.
+pub fn deliver<O: ByteOut, E: ByteOut>(
+    outcome: Result<Vec<u8>, Refusal>,
+    out: &mut O,
+    err: &mut E,
+) -> u8
+    ensures done { IfOk outcome (λ text. result ≡ 0 → Appends (O.contents out.old) (O.contents out.new) text.items) }
+    ensures failed { IfOk outcome (λ _. result ≢ 0 → (result ≡ 4) × (O.has_failed out.new ≡ true)) }
+    ensures refused { IfErr outcome (λ e. (result ≡ status_of e) × (out.new ≡ out.old)) }
+{
+    let text = match outcome {
+        Ok(text) => text,
+        Err(refusal) => {
+            tell(&refusal, err);
+            return status(&refusal);
+        }
+    };
+    if write_all(out, text.as_slice()).is_err() {
+        tell(&Refusal::WriteFailed, err);
+        return status(&Refusal::WriteFailed);
+    }
+    0
+}
+
+/// Answers the bundle on `input`, on `out`, or tells on `err` why not.
+pub fn reply<I: ByteIn, O: ByteOut, E: ByteOut>(
+    alloc: Global,
+    input: &mut I,
+    out: &mut O,
+    err: &mut E,
+) -> u8
+    // Status 0 comes only for a bundle that has an answer, and then `out` got exactly that.
+    ensures done { result ≡ 0 → IfSome (I.remaining input.old) (λ bytes. (text : List ℕ) × IsAnswer bytes text × Appends (O.contents out.old) (O.contents out.new) text) }
+
+    // Any other leaves `out` as it was, unless `out` failed.
+    ensures kept { result ≢ 0 → O.has_failed out.new ≡ false → out.new ≡ out.old }
+    ensures statuses { (result ≡ 0) ⊎ (result ≡ 3) ⊎ (result ≡ 4) }
+
+    // Status 3 comes only for input that fails, is too long or is refused.
+    ensures refused { result ≡ 3 → IsRefusedBy 3 (I.remaining input.old) (I.has_failed input.new) }
+    ensures unread { I.has_failed input.new ≡ true → result ≡ 3 }
+{
+    deliver(outcome_of(alloc, input), out, err)
+}
+
+/// Answers words, on `out`, or tells on `err` why not.
+fn reply_to_words<F: Store, I: ByteIn, O: ByteOut, E: ByteOut>(
+    alloc: Global,
+    words: &[&str],
+    files: &F,
+    input: &mut I,
+    out: &mut O,
+    err: &mut E,
+) -> u8
+    ensures done { result ≡ 0 → (text : List ℕ) × IsWorded (F.holds files.now) (I.remaining input.old) (map (λ w. w.now) words.now) text × Appends (O.contents out.old) (O.contents out.new) text }
+    ensures kept { result ≢ 0 → O.has_failed out.new ≡ false → out.new ≡ out.old }
+    ensures statuses { (result ≡ 0) ⊎ (result ≡ 2) ⊎ (result ≡ 3) ⊎ (result ≡ 4) }
+    ensures misworded { result ≡ 2 → AreMisworded (map (λ w. w.now) words.now) × (out.new ≡ out.old) }
+    ensures refused { result ≡ 3 → AreRefusedBy 3 (F.holds files.now) (I.remaining input.old) (I.has_failed input.new) (map (λ w. w.now) words.now) }
+{
+    match worded(alloc, files, input, words) {
+        Ok(text) => deliver(Ok(text), out, err),
+        Err(NotTaken::Refused(refusal)) => deliver(Err(refusal), out, err),
+        Err(NotTaken::Misworded(text)) => {
+            let _ = write_all(err, text.as_bytes());
+            2
+        }
+    }
+}
+
+/// Answers what the words ask for, without the program's name. Without words it answers the bundle on `input`.
+///
+/// The status is 0 where `out` got the answer, 2 for words that are refused, 3 for input that is refused, and 4 where
+/// the machine or the run failed. All work ends before the first byte goes to `out`. A refusal is one line on `err`, and
+/// a write of it that fails changes nothing else.
+pub fn answer<T: Threads + Wait + Sync, F: Store, I: ByteIn, O: ByteOut, E: ByteOut>(
+    _rt: &T,
+    alloc: Global,
+    words: &[&str],
+    files: &F,
+    input: &mut I,
+    out: &mut O,
+    err: &mut E,
+) -> u8
+    // Without words, status 0 comes only for a bundle that has an answer, and then `out` got exactly that.
+    ensures done { words.now ≡ [] → result ≡ 0 → IfSome (I.remaining input.old) (λ bytes. (text : List ℕ) × IsAnswer bytes text × Appends (O.contents out.old) (O.contents out.new) text) }
+    ensures statuses { words.now ≡ [] → (result ≡ 0) ⊎ (result ≡ 3) ⊎ (result ≡ 4) }
+
+    // Status 3 comes only for input that fails, is too long or is refused.
+    ensures refused { words.now ≡ [] → result ≡ 3 → IsRefusedBy 3 (I.remaining input.old) (I.has_failed input.new) }
+    ensures unread { words.now ≡ [] → I.has_failed input.new ≡ true → result ≡ 3 }
+
+    // With words, status 0 comes only for what they ask for, answered, and then `out` got exactly that.
+    ensures words_done { words.now ≢ [] → result ≡ 0 → (text : List ℕ) × IsWorded (F.holds files.now) (I.remaining input.old) (map (λ w. w.now) words.now) text × Appends (O.contents out.old) (O.contents out.new) text }
+    ensures words_statuses { words.now ≢ [] → (result ≡ 0) ⊎ (result ≡ 2) ⊎ (result ≡ 3) ⊎ (result ≡ 4) }
+
+    // Status 2 comes only for words that are wrong, and status 3 only for what they ask for, refused.
+    ensures misworded { words.now ≢ [] → result ≡ 2 → AreMisworded (map (λ w. w.now) words.now) }
+    ensures words_refused { words.now ≢ [] → result ≡ 3 → AreRefusedBy 3 (F.holds files.now) (I.remaining input.old) (I.has_failed input.new) (map (λ w. w.now) words.now) }
+
+    // Any status but 0 leaves `out` as it was, unless `out` failed; status 2 in any case.
+    ensures kept { result ≢ 0 → O.has_failed out.new ≡ false → out.new ≡ out.old }
+    ensures untouched { result ≡ 2 → out.new ≡ out.old }
+{
+    if words.is_empty() {
+        return reply(alloc, input, out, err);
+    }
+    reply_to_words(alloc, words, files, input, out, err)
+}

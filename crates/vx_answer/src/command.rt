@@ -1,0 +1,100 @@
+//! What a command makes of a plan over tables.
+
+ghost use Rattle.std.specs.Prelude.{◌≡◌, true, IfOk, IfErr};
+ghost use Rattle.vx_plan.specs.TypedView.{resolved_of};
+ghost use Rattle.vx_check.specs.CheckedView.{typed_plan};
+ghost use Rattle.vx_answer.specs.Commanded.{IsShown, accepted_text, is_checked, IsFor, CommandRefuses};
+
+use crate::refusal::Refusal;
+use crate::run::run_plan;
+use crate::serial::serial_plan;
+use crate::setting::Setting;
+use crate::tables::Tables;
+use std::alloc::{AllocError, Global};
+use vx_check::{CheckedPlan, check, explain};
+use vx_plan::TypedPlan;
+
+/// What to do with a plan.
+#[derive(Clone, Copy, Debug, PartialEq, Eq)]
+pub enum Command {
+    /// Run it by its exchanges.
+    Run,
+    /// Evaluate it without its exchanges.
+    Serial,
+    /// Say whether its claims are shown.
+    Check,
+    /// Describe its nodes.
+    Explain,
+}
+
+/// What the checker's answer is told as.
+fn accepted_text(alloc: Global, is_total: bool) -> Result<Vec<u8>, AllocError>
+    ensures { IfOk result (λ text. text.items ≡ accepted_text is_total) }
+{
+    if is_total {
+        Vec::from_slice(alloc, b"accepted total\n")
+    } else {
+        Vec::from_slice(alloc, b"accepted\n")
+    }
+}
+
+/// The text that a command asks for of an accepted plan.
+fn text_for<T: Tables>(
+    alloc: Global,
+    command: Command,
+    tables: &T,
+    setting: &Setting,
+    checked: &CheckedPlan,
+) -> Result<Vec<u8>, Refusal>
+    requires asked { is_checked command ≡ true }
+    requires shown { IsShown (resolved_of (typed_plan checked.now)) }
+    ensures text { IfOk result (λ text. IsFor command (resolved_of (typed_plan checked.now)) (T.holds tables.now) setting.now text.items) }
+    ensures refused { IfErr result (λ e. CommandRefuses command (resolved_of (typed_plan checked.now)) (T.holds tables.now) (T.lacks tables.now) setting.now e) }
+{
+    match command {
+        Command::Run => run_plan(alloc, tables, setting, checked),
+        Command::Check => Ok(accepted_text(alloc, checked.is_total())?),
+        Command::Explain => Ok(explain(alloc, checked)?.into_bytes()),
+        Command::Serial => unreachable!(),
+    }
+}
+
+/// The text that a command asks for of a plan, once the checker has accepted it.
+fn checked_text<T: Tables>(
+    alloc: Global,
+    command: Command,
+    tables: &T,
+    setting: &Setting,
+    plan: TypedPlan,
+) -> Result<Vec<u8>, Refusal>
+    requires asked { is_checked command ≡ true }
+    ensures text { IfOk result (λ text. IsFor command (resolved_of plan) (T.holds tables.now) setting.now text.items) }
+    ensures refused { IfErr result (λ e. CommandRefuses command (resolved_of plan) (T.holds tables.now) (T.lacks tables.now) setting.now e) }
+{
+    match check(plan) {
+        Ok(checked) => text_for(alloc, command, tables, setting, &checked),
+        Err(refused) => Err(Refusal::Check {
+            rule: refused.rule,
+            node: refused.node,
+        }),
+    }
+}
+
+/// The text that a command asks for of a plan over tables.
+pub fn carried_out<T: Tables>(
+    alloc: Global,
+    command: Command,
+    tables: &T,
+    setting: &Setting,
+    plan: TypedPlan,
+) -> Result<Vec<u8>, Refusal>
+    ensures text { IfOk result (λ text. IsFor command (resolved_of plan) (T.holds tables.now) setting.now text.items) }
+    ensures refused { IfErr result (λ e. CommandRefuses command (resolved_of plan) (T.holds tables.now) (T.lacks tables.now) setting.now e) }
+{
+    match command {
+        Command::Serial => serial_plan(alloc, tables, &plan),
+        Command::Run | Command::Check | Command::Explain => {
+            checked_text(alloc, command, tables, setting, plan)
+        }
+    }
+}

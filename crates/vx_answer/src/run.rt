@@ -1,0 +1,96 @@
+//! Runs of plans over tables.
+
+ghost use Rattle.std.specs.Prelude.{◌≡◌, true, map, IfOk, IfErr};
+ghost use Rattle.vx_catalog.specs.Csv.{csv_text};
+ghost use Rattle.vx_plan.specs.Outline.{columns};
+ghost use Rattle.vx_plan.specs.TypedView.{plan as plan_of_typed, resolved_of};
+ghost use Rattle.vx_check.specs.CheckedView.{typed_plan};
+ghost use Rattle.vx_exec.specs.Sizes.{can_run};
+ghost use Rattle.vx_answer.specs.Setting.{size_form, setup_of};
+ghost use Rattle.vx_answer.specs.Commanded.{IsRunOver, RunRefuses, IsRun, PlanRefuses};
+
+use crate::page::Page;
+use crate::refusal::Refusal;
+use crate::router::ByteRouter;
+use crate::setting::Setting;
+use crate::tables::{Tables, load_tables};
+use crate::unrunnable::test_runnable;
+use std::alloc::{AllocError, Global};
+use vx_catalog::{Database, write_rows};
+use vx_check::CheckedPlan;
+use vx_exec::{Ran, Setup, run_rounds};
+use vx_plan::TypedPlan;
+use vx_rows::Rows;
+
+/// The most rounds of a run.
+const MAX_ROUNDS: u64 = 1_000_000_000;
+
+/// Size names with their numbers of workers, in memory of their own.
+fn copied_sizes(alloc: Global, sizes: &[(String, u32)]) -> Result<Vec<(String, u32)>, AllocError>
+    ensures { IfOk result (λ v. map size_form v.items ≡ map size_form sizes.now) }
+{
+    let mut copies = Vec::new(alloc);
+    for (name, workers) in sizes {
+        copies.push((String::from_str(alloc, name.as_str())?, *workers))?;
+    }
+    Ok(copies)
+}
+
+/// What a run is told of how it is set up.
+fn setup_of(alloc: Global, setting: &Setting) -> Result<Setup, AllocError>
+    ensures { IfOk result (λ s. s ≡ setup_of setting.now) }
+{
+    let sizes = copied_sizes(alloc, setting.sizes())?;
+    Ok(Setup::new(sizes, setting.packet(), setting.morsel(), setting.slack()))
+}
+
+/// The text of rows under the names of a plan's output.
+pub fn text_of(alloc: Global, plan: &TypedPlan, rows: &Rows) -> Result<Vec<u8>, AllocError>
+    ensures { IfOk result (λ v. v.items ≡ csv_text (columns (resolved_of plan.now).root).names rows.now.rows) }
+{
+    let names = plan.root().head().columns.names.as_slice();
+    let mut page = Page::new(alloc);
+    match write_rows(alloc, names, rows, &mut page) {
+        Ok(()) => Ok(page.into_bytes()),
+        Err(_) => Err(AllocError),
+    }
+}
+
+/// The text of a run of a plan over a database in rounds.
+fn run_over(
+    alloc: Global,
+    setting: &Setting,
+    plan: &CheckedPlan,
+    database: &Database,
+) -> Result<Vec<u8>, Refusal>
+    requires { can_run (plan_of_typed (typed_plan plan.now)) ≡ true }
+    ensures text { IfOk result (λ text. IsRunOver (resolved_of (typed_plan plan.now)) database.now setting.now text.items) }
+    ensures refused { IfErr result (λ e. RunRefuses (resolved_of (typed_plan plan.now)) database.now setting.now e) }
+{
+    let setup = setup_of(alloc, setting)?;
+    match run_rounds(alloc, plan, database, &setup, &ByteRouter, MAX_ROUNDS) {
+        Ok(Ran::Done(rows)) => Ok(text_of(alloc, plan.plan(), &rows)?),
+        Ok(Ran::Unfinished) => Err(Refusal::Unfinished),
+        Err(fault) => Err(Refusal::Run(fault)),
+    }
+}
+
+/// The text of a run of a plan over tables.
+pub fn run_plan<T: Tables>(
+    alloc: Global,
+    tables: &T,
+    setting: &Setting,
+    plan: &CheckedPlan,
+) -> Result<Vec<u8>, Refusal>
+    ensures text { IfOk result (λ text. IsRun (resolved_of (typed_plan plan.now)) (T.holds tables.now) setting.now text.items) }
+    ensures refused { IfErr result (λ e. PlanRefuses (resolved_of (typed_plan plan.now)) (T.holds tables.now) (T.lacks tables.now) setting.now e) }
+{
+    if let Err(refusal) = test_runnable(alloc, plan.plan()) {
+        return Err(refusal);
+    }
+    let database = match load_tables(alloc, plan.plan(), tables) {
+        Ok(database) => database,
+        Err(refusal) => return Err(refusal),
+    };
+    run_over(alloc, setting, plan, &database)
+}

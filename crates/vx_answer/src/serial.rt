@@ -1,0 +1,34 @@
+//! Evaluations of plans over tables.
+
+ghost use Rattle.std.specs.Prelude.{IfOk, IfErr};
+ghost use Rattle.vx_plan.specs.TypedView.{resolved_of};
+ghost use Rattle.vx_answer.specs.Commanded.{IsSerial, SerialRefuses};
+
+use crate::refusal::Refusal;
+use crate::run::text_of;
+use crate::tables::{Tables, load_tables};
+use std::alloc::Global;
+use vx_plan::{TypedPlan, erase};
+use vx_serial::eval;
+
+/// The text of the rows of a plan without its exchanges over tables, under the names of the plan.
+pub fn serial_plan<T: Tables>(
+    alloc: Global,
+    tables: &T,
+    plan: &TypedPlan,
+) -> Result<Vec<u8>, Refusal>
+    ensures text { IfOk result (λ text. IsSerial (resolved_of plan.now) (T.holds tables.now) text.items) }
+    ensures refused { IfErr result (λ e. SerialRefuses (resolved_of plan.now) (T.holds tables.now) (T.lacks tables.now) e) }
+{
+    let database = match load_tables(alloc, plan, tables) {
+        Ok(database) => database,
+        Err(refusal) => return Err(refusal),
+    };
+    let Ok(erased) = erase(alloc, plan) else {
+        return Err(Refusal::NoMemory);
+    };
+    match eval(alloc, &erased, &database) {
+        Ok(rows) => Ok(text_of(alloc, plan, &rows)?),
+        Err(fault) => Err(Refusal::Eval(fault)),
+    }
+}

@@ -1,0 +1,46 @@
+//! Where the program's files are.
+
+ghost use Rattle.std.specs.Prelude.{◌≡◌, ℕ, List, Option, None, false, IfSome};
+
+use std::fs;
+use std::fs::{File, Files};
+use vx_rows::{ByteIn, Real};
+
+/// A place that has files by their paths.
+pub trait Store {
+    /// A file that is open, at its first byte.
+    type In: ByteIn + Drop;
+
+    // The bytes of the file at this path, where the store tells them.
+    ghost holds: { Self → List ℕ → Option (List ℕ) };
+
+    /// The file at this path, if there is one that opens.
+    fn open(&self, path: &str) -> Option<Self::In>
+        ensures bytes { IfSome result (λ file. Self.In.remaining file ≡ holds self.now path.now) }
+        ensures whole { IfSome result (λ file. Self.In.has_failed file ≡ false) };
+}
+
+/// The files of the system, which tells no clause their bytes.
+#[derive(Clone, Copy)]
+pub struct Disk<'r, R> {
+    rt: &'r R,
+}
+
+impl<'r, R> Disk<'r, R> {
+    pub fn new(rt: &'r R) -> Disk<'r, R> {
+        Disk { rt }
+    }
+}
+
+impl<R: Files<File = File>> Store for Disk<'_, R> {
+    type In = Real<File>;
+
+    ghost holds = { λ _ _. None };
+
+    fn open(&self, path: &str) -> Option<Real<File>> {
+        match fs::open(self.rt, path) {
+            Ok(file) => Some(Real::new(file)),
+            Err(_) => None,
+        }
+    }
+}

@@ -1,0 +1,9 @@
+//! What no clause says of the program: worked bundles and words with their lines, and inputs, outputs and files that fail.
+//!
+//! The tests stand in a crate of their own, since a crate with tests is proved twice.
+#![tactic(auto)]
+
+#[cfg(test)]
+mod bundles;
+#[cfg(test)]
+mod words;

@@ -1,0 +1,181 @@
+//! Words: what they print, from files in memory.
+
+ghost use Rattle.std.specs.Prelude.{None};
+
+use std::sync::Wait;
+use std::test::Fail;
+use std::thread::Threads;
+use vx_answer::{Store, answer};
+use vx_rows::{MemoryIn, MemoryOut};
+
+const CATALOG: &str =
+    r#"{"relations":[{"name":"t","columns":[{"name":"id","type":"int"},{"name":"k","type":"text"},{"name":"v","type":"int"}],"keys":[["id"]],"order":["id"]}]}"#;
+
+const PLAN: &str =
+    r#"{"sizes":["many"],"root":{"op":"exchange","kind":"gather","claim":{"part":"one"},"input":{"op":"select","where":[{"column":"v","op":"=","value":7}],"input":{"op":"scan","relation":"t","mode":"shared","size":"many"}}}}"#;
+
+const ROWS: &str = "id,k,v\n0,a,5\n1,b,7\n2,a,-2\n3,c,7\n";
+
+/// Files by their paths, each with the bytes after which it fails.
+#[derive(Clone, Copy)]
+struct Shelf<'a> {
+    files: &'a [(&'a str, &'a str, Option<usize>)],
+}
+
+impl<'a> Store for Shelf<'a> {
+    type In = MemoryIn<'a>;
+
+    ghost holds = { λ _ _. None };
+
+    fn open(&self, path: &str) -> Option<MemoryIn<'a>> {
+        let (_, text, fails_after) = self.files.iter().find(|file| file.0 == path)?;
+        Some(MemoryIn::new(text.as_bytes(), *fails_after))
+    }
+}
+
+/// The files of the first case.
+const FILES: [(&str, &str, Option<usize>); 7] = [
+    ("c.json", CATALOG, None),
+    ("p.json", PLAN, None),
+    ("d/t.csv", ROWS, None),
+    ("cut/t.csv", ROWS, Some(9)),
+    ("cut.json", CATALOG, Some(9)),
+    ("odd.json", "{}", None),
+    ("text", "1,2", None),
+];
+
+/// What goes to the output, to the errors, and the status, for words over these files and a standard input.
+fn line_for<R: Threads + Wait + Sync + AllocGlobal>(
+    rt: &R,
+    words: &[&str],
+    input: &str,
+) -> Result<String, Fail> {
+    let files = Shelf { files: &FILES };
+    let mut input = MemoryIn::new(input.as_bytes(), None);
+    let mut out = MemoryOut::new(rt.alloc(), 10, 10000);
+    let mut err = MemoryOut::new(rt.alloc(), 10, 10000);
+    let status = answer(
+        rt,
+        rt.alloc(),
+        words,
+        &files,
+        &mut input,
+        &mut out,
+        &mut err,
+    );
+    let out = str::from_utf8(out.bytes())?;
+    let err = str::from_utf8(err.bytes())?;
+    Ok(format!(in rt.alloc(); "{out}|{err}|{status}")?)
+}
+
+/// A command with a catalog and a plan.
+fn judged<R: Threads + Wait + Sync + AllocGlobal>(
+    rt: &R,
+    command: &str,
+    catalog: &str,
+    plan: &str,
+    input: &str,
+) -> Result<String, Fail> {
+    line_for(rt, &[command, "--catalog", catalog, "--plan", plan], input)
+}
+
+#[test]
+fn plans_are_checked_and_explained(rt: HostRuntime) -> Result<(), Fail> {
+    for (command, catalog, plan, input, line) in [
+        ("check", "c.json", "p.json", "", "accepted\n||0"),
+        ("check", "-", "p.json", CATALOG, "accepted\n||0"),
+        ("check", "c.json", "-", PLAN, "accepted\n||0"),
+        (
+            "explain",
+            "c.json",
+            "p.json",
+            "",
+            "#0 exchange gather size=one part=one order=[] keys=-\n  #1 select v = 7 size=many part=any order=[] keys=-\n    #2 scan t shared size=many part=any order=[] keys=-\nnot total\n||0",
+        ),
+    ] {
+        assert_eq!(rt; judged(&rt, command, catalog, plan, input)?.as_str(), line);
+    }
+    Ok(())
+}
+
+#[test]
+fn the_first_reason_is_told(rt: HostRuntime) -> Result<(), Fail> {
+    for (catalog, plan, line) in [
+        ("no", "no", "|volcano: V3 FileUnreadable path=no\n|3"),
+        (
+            "cut.json",
+            "no",
+            "|volcano: V3 FileUnreadable path=cut.json\n|3",
+        ),
+        ("odd.json", "no", "|volcano: C1 BadCatalog\n|3"),
+        ("c.json", "no", "|volcano: V3 FileUnreadable path=no\n|3"),
+        ("c.json", "text", "|volcano: P1 NotJson\n|3"),
+        (
+            "c.json",
+            "odd.json",
+            "|volcano: P2 BadNode path=document\n|3",
+        ),
+        ("-", "-", "|volcano: C1 BadCatalog\n|3"),
+    ] {
+        assert_eq!(rt; judged(&rt, "check", catalog, plan, "")?.as_str(), line);
+    }
+    Ok(())
+}
+
+/// A serial evaluation over a folder.
+fn evaluated<R: Threads + Wait + Sync + AllocGlobal>(rt: &R, folder: &str) -> Result<String, Fail> {
+    let words = [
+        "serial",
+        "--catalog",
+        "c.json",
+        "--plan",
+        "p.json",
+        "--data",
+        folder,
+    ];
+    line_for(rt, &words, "")
+}
+
+#[test]
+fn plans_are_evaluated_over_folders(rt: HostRuntime) -> Result<(), Fail> {
+    for (folder, line) in [
+        ("d", "id,k,v\n1,b,7\n3,c,7\n||0"),
+        ("no", "|volcano: V3 FileUnreadable path=no/t.csv\n|3"),
+        ("cut", "|volcano: C10 ReadFailed\n|3"),
+    ] {
+        assert_eq!(rt; evaluated(&rt, folder)?.as_str(), line);
+    }
+    Ok(())
+}
+
+#[test]
+fn wrong_words_are_told(rt: HostRuntime) -> Result<(), Fail> {
+    let cases: [&[&str]; 5] = [
+        &["walk"],
+        &["check"],
+        &["check", "--catalog", "c.json"],
+        &["serial", "--catalog", "c.json", "--plan", "p.json"],
+        &["check", "--catalog", "c.json", "--plan", "p.json", "more"],
+    ];
+    for words in cases {
+        let line = line_for(&rt, words, "")?;
+        assert!(rt; line.as_str().starts_with("|error: "), "{line}");
+        assert!(rt; line.as_str().ends_with("|2"), "{line}");
+    }
+    Ok(())
+}
+
+#[test]
+fn help_is_an_answer(rt: HostRuntime) -> Result<(), Fail> {
+    let cases: [(&[&str], &str); 3] = [
+        (&["--help"], "Runs query plans in parallel"),
+        (&["check", "--help"], "Says whether every note"),
+        (&["--version"], "volcano 0.1.0\n"),
+    ];
+    for (words, front) in cases {
+        let line = line_for(&rt, words, "")?;
+        assert!(rt; line.as_str().starts_with(front), "{line}");
+        assert!(rt; line.as_str().ends_with("||0"), "{line}");
+    }
+    Ok(())
+}
