@@ -1,5 +1,5 @@
 -- A merge when one more left or right row is taken, and what its run holds.
-use Rattle.std.proofs.Common.{◌≡◌, ℕ, suc, ◌+◌, ◌-◌, ◌<◌, ◌≤◌, Bool, true, false, cond, ◌&&◌, List, [], ◌∷◌, ◌++◌, length, take, drop, filter, map, get_or, pos, slice_range, refl, sym, ap, ◌∙◌, subst, arith, true≢false, drop-cons, inl, inr, append_assoc, append-nil, is_le, is_lt, is_eq, is_gt, Ordering, Less, Equal, Greater}
+use Rattle.std.proofs.Common.{◌≡◌, ℕ, suc, ◌+◌, ◌-◌, ◌<◌, ◌≤◌, Bool, true, false, cond, ◌&&◌, List, [], ◌∷◌, ◌++◌, length, take, drop, filter, map, get_or, pos, slice_range, refl, sym, ap, ◌∙◌, arith, true≢false, drop-cons, inl, inr, append_assoc, append-nil, is_le, is_eq, is_gt, Ordering, Less, Equal, Greater}
 use Rattle.std.specs.List.{list_all}
 use Rattle.std.specs.Ordering.{is_ge, ordering_reverse, nat_cmp}
 use Rattle.std.proofs.lemmas.Cmp.{ranked, by_ranked}

@@ -1,5 +1,5 @@
 -- A merge of two inputs that rise on their columns: the right rows that have the key of the last left row stand side by side.
-use Rattle.std.specs.Prelude.{◌≡◌, ℕ, ◌≤◌, Bool, true, false, List, [], ◌∷◌, ◌++◌, length, slice_range}
+use Rattle.std.specs.Prelude.{◌≡◌, ℕ, Bool, true, false, List, [], ◌∷◌, ◌++◌, length, slice_range}
 use Rattle.std.specs.List.{list_all}
 use Rattle.std.specs.Ordering.{is_gt}
 use Rattle.vx_rows.specs.Values.{Row, row_cmp, row_eq, pick}

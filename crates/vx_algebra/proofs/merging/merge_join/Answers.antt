@@ -8,7 +8,6 @@ use Rattle.vx_algebra.specs.declared.merging.MergeFault.{MergeFault}
 use Rattle.vx_algebra.specs.Build.{matched}
 use Rattle.vx_algebra.specs.Merged.{HasMerged, MergeBlame}
 use Rattle.vx_algebra.proofs.BlameFacts.{told}
-use Rattle.vx_algebra.proofs.RiseFacts.{fall-take}
 use Rattle.vx_algebra.proofs.MergeFacts.{run-matched, right-falls, left-blame, right-blame}
 use Rattle.vx_algebra.proofs.merging.merge_join.Goals as goal
 

@@ -1,4 +1,4 @@
-use Rattle.std.proofs.Common.{arith, ◌≡◌, ◌∙◌, ◌+◌, ◌<◌, ◌≤◌, ◌++◌, ◌∷◌, [], ap, sym, map, length, slice_range, append_assoc}
+use Rattle.std.proofs.Common.{arith, ◌≡◌, ◌∙◌, ◌+◌, ◌++◌, ◌∷◌, [], ap, sym, map, slice_range, append_assoc}
 use Rattle.std.proofs.lemmas.List.{map-append}
 use Rattle.vx_rows.specs.Values.{Row}
 use Rattle.vx_rows.specs.View.{row}

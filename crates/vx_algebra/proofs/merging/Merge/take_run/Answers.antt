@@ -1,4 +1,4 @@
-use Rattle.std.proofs.Common.{arith, ◌≡◌, ◌∙◌, ◌<◌, ◌≤◌, List, ap, sym, subst, take, length, false, Less, ltb}
+use Rattle.std.proofs.Common.{arith, ◌≡◌, ◌<◌, List, ap, sym, subst, take, length, Less}
 use Rattle.std.proofs.lemmas.Bool.Decides.{nat_tests}
 use Rattle.vx_rows.specs.Values.{Row, row_cmp, pick}
 use Rattle.vx_rows.specs.Order.{sorted}
