@@ -10,3 +10,5 @@ pub mod TypeFacts
 pub mod FrontFacts
 pub mod BlameFacts
 pub mod ShownFacts
+pub mod RiseFacts
+pub mod MergeFacts

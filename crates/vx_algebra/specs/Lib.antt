@@ -2,3 +2,4 @@ pub mod Build
 pub mod Groups
 pub mod Shown
 pub mod GroupFaults
+pub mod Merged

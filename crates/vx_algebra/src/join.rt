@@ -112,7 +112,7 @@ fn built(alloc: Global, rows: &Rows, columns: Vec<usize>) -> Result<Build, Alloc
 }
 
 /// No rows of the columns of two lists, the left ones first.
-fn joined_none(alloc: Global, left: &Rows, right: &Rows) -> Result<Rows, AllocError>
+pub(crate) fn joined_none(alloc: Global, left: &Rows, right: &Rows) -> Result<Rows, AllocError>
     ensures types { IfOk result (λ r. r.types ≡ left.now.types ++ right.now.types) }
     ensures rows { IfOk result (λ r. r.rows ≡ []) }
 {

@@ -6,6 +6,7 @@ mod cells;
 mod grouping;
 mod join;
 mod keys;
+mod merging;
 mod projection;
 mod seen;
 mod selection;
@@ -18,6 +19,7 @@ pub use cells::cell_or_zero;
 pub use grouping::{Grouping, grouped};
 pub use join::{Build, hash_join};
 pub use keys::Keys;
+pub use merging::{Merge, MergeFault, merge_join, rise_from};
 pub use projection::{projected, types_at};
 pub use seen::{Seen, distinct};
 pub use selection::{passes, selected};
@@ -27,5 +29,7 @@ pub use union::united;
 
 #[cfg(test)]
 mod grouping_tests;
+#[cfg(test)]
+mod merging_tests;
 #[cfg(test)]
 mod tests;

@@ -3,6 +3,7 @@
 use crate::call::Call;
 use crate::case::Case;
 use crate::outline::{columns, is_claimed, outline};
+use serde_json::{Error, Value as Json};
 use std::alloc::{AllocError, Global};
 use vx_catalog::Catalog;
 use vx_check::{CheckedPlan, Refused, check, explain};
@@ -17,6 +18,21 @@ fn text(alloc: Global, text: &str) -> Answer {
 
 fn read(alloc: Global, bytes: &[u8]) -> Answer {
     Plan::read(alloc, bytes)?;
+    text(alloc, "ok")
+}
+
+/// Why a text is no JSON value, as a plan's reader says it.
+fn no_value(error: Error) -> PlanFault {
+    if error.is_memory() {
+        PlanFault::NoMemory
+    } else {
+        PlanFault::NotJson
+    }
+}
+
+fn read_value(alloc: Global, bytes: &[u8]) -> Answer {
+    let value = Json::from_slice(alloc, bytes).map_err(no_value)?;
+    Plan::of_value(alloc, &value)?;
     text(alloc, "ok")
 }
 
@@ -45,7 +61,7 @@ fn alike(alloc: Global, bytes: &[u8], others: &[u8]) -> Answer {
     text(alloc, if one == two { "ok" } else { "another plan" })
 }
 
-pub fn typed(alloc: Global, catalog: &Catalog, bytes: &[u8]) -> Result<TypedPlan, PlanFault> {
+fn typed(alloc: Global, catalog: &Catalog, bytes: &[u8]) -> Result<TypedPlan, PlanFault> {
     let plan = Plan::read(alloc, bytes)?;
     resolve(alloc, &plan, catalog)
 }
@@ -96,7 +112,7 @@ fn renumbered(alloc: Global, catalog: &Catalog, bytes: &[u8]) -> Answer {
 }
 
 /// What the checker says of a plan.
-pub fn verdict(alloc: Global, answer: &Result<CheckedPlan, Refused>) -> Result<String, AllocError> {
+fn verdict(alloc: Global, answer: &Result<CheckedPlan, Refused>) -> Result<String, AllocError> {
     match answer {
         Ok(checked) if checked.is_total() => String::from_str(alloc, "accepted total"),
         Ok(_) => String::from_str(alloc, "accepted"),
@@ -137,6 +153,7 @@ pub fn answer(alloc: Global, catalog: &Catalog, case: &Case) -> Result<String, A
     let other = case.other.as_slice();
     let answer = match case.call {
         Call::Read => read(alloc, plan),
+        Call::OfValue => read_value(alloc, plan),
         Call::Fronts => fronts(alloc, plan),
         Call::Written => written(alloc, plan),
         Call::Alike => alike(alloc, plan, other),
@@ -147,6 +164,7 @@ pub fn answer(alloc: Global, catalog: &Catalog, case: &Case) -> Result<String, A
         Call::Renumbered => renumbered(alloc, catalog, plan),
         Call::Check => checked(alloc, catalog, plan),
         Call::Explain => explained(alloc, catalog, plan),
+        Call::NoMemory => Err(PlanFault::NoMemory),
     };
     match answer {
         Ok(text) => Ok(text),

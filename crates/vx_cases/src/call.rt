@@ -5,6 +5,8 @@
 pub enum Call {
     /// It is read.
     Read,
+    /// Its text is taken for a JSON value, and that is read.
+    OfValue,
     /// Each front of its text is refused as no JSON, and the whole is read.
     Fronts,
     /// It is read and written.
@@ -25,6 +27,8 @@ pub enum Call {
     Check,
     /// It is checked and explained.
     Explain,
+    /// Nothing: it is said that memory for it was refused.
+    NoMemory,
 }
 
 impl Call {
@@ -32,6 +36,7 @@ impl Call {
     pub fn named(name: &str) -> Option<Call> {
         match name {
             "read" => Some(Call::Read),
+            "of_value" => Some(Call::OfValue),
             "fronts" => Some(Call::Fronts),
             "written" => Some(Call::Written),
             "alike" => Some(Call::Alike),
@@ -42,6 +47,7 @@ impl Call {
             "renumbered" => Some(Call::Renumbered),
             "check" => Some(Call::Check),
             "explain" => Some(Call::Explain),
+            "no_memory" => Some(Call::NoMemory),
             _ => None,
         }
     }

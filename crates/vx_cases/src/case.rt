@@ -1,6 +1,8 @@
 //! A case as its file has it.
 
+use crate::built::built_text;
 use crate::call::Call;
+use crate::member::text_at;
 use anyhow::{Context, Error, bail};
 use serde_json::Value as Json;
 use std::alloc::{AllocError, Global};
@@ -21,14 +23,6 @@ pub fn is_note(entry: &Json) -> bool {
     entry.get("note").is_some()
 }
 
-/// A member that is a text.
-fn text_at<'v>(entry: &'v Json, key: &str) -> Result<&'v str, Error> {
-    entry
-        .get(key)
-        .and_then(Json::as_str)
-        .context(format_args!("it has no {key}"))
-}
-
 /// The bytes of a list of numbers.
 fn bytes_of(alloc: Global, numbers: &[Json]) -> Result<Vec<u8>, Error> {
     let mut bytes = Vec::new(alloc);
@@ -44,13 +38,17 @@ fn written(alloc: Global, value: &Json) -> Result<Vec<u8>, AllocError> {
     Ok(value.to_string(alloc)?.into_bytes())
 }
 
-/// The bytes of the plan: a JSON value in `plan`, a text in `text`, or a list of numbers in `bytes`.
+/// The bytes of the plan: a JSON value in `plan`, a text in `text`, the parts of a text in `built`, or a list of numbers
+/// in `bytes`.
 fn plan_in(alloc: Global, entry: &Json) -> Result<Vec<u8>, Error> {
     if let Some(value) = entry.get("plan") {
         return Ok(written(alloc, value)?);
     }
     if let Some(text) = entry.get("text").and_then(Json::as_str) {
         return Ok(Vec::from_slice(alloc, text.as_bytes())?);
+    }
+    if let Some(parts) = entry.get("built") {
+        return Ok(built_text(alloc, parts)?.into_bytes());
     }
     match entry.get("bytes").and_then(Json::as_array) {
         Some(numbers) => bytes_of(alloc, numbers.as_slice()),

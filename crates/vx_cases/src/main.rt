@@ -6,11 +6,11 @@
 #![tactic(auto)]
 
 mod answers;
+mod built;
 mod call;
 mod case;
+mod member;
 mod outline;
-#[cfg(test)]
-mod tests;
 
 use answers::answer;
 use anyhow::{Context, Error};

@@ -1,7 +1,8 @@
 -- A reader's next record, and those that it has left after it.
 use Rattle.std.proofs.Common.{◌≡◌, ℕ, zero, suc, ◌+◌, ◌<◌, ◌≤◌, List, [], ◌∷◌, Option, Some, None, Bool, true, false, cond, refl, sym, ap, ◌∙◌, length, arith, add-one, ◌⊎◌, inl, inr}
 use Rattle.std.specs.Prelude.{IsSome}
-use Rattle.std.specs.Borrow.{Bor}
+use Rattle.vx_catalog.specs.declared.pieces.Pieces.{Pieces}
+use Rattle.vx_catalog.specs.Pieces.{bytes_of}
 use Rattle.csv.specs.Machine.{Read, next_record, step, is_end, ends_at_end}
 use Rattle.csv.specs.Reading.{Reached, ReadRecord, records_from, records_next, default_config, took_first}
 use Rattle.csv.specs.declared.parser.Config.{Config}
@@ -84,12 +85,12 @@ same_rest : (fields first : List (List ℕ)) (s s2 : State) (z z2 : List ℕ) (o
     → first ∷ records_from default_config (length z + 1) s z ≡ fields ∷ records_left s2 o
 same_rest fields first s s2 z z2 o f e g h = rw (f, e, g, h) refl
 
-pub took : (old new : Reader (Bor (List ℕ))) (found : Bool) (fields : List (List ℕ)) → IsPlain old → ReadRecord (λ (s : Bor (List ℕ)). Some s.now) old new found fields → took_first new ≡ true
+pub took : (old new : Reader Pieces) (found : Bool) (fields : List (List ℕ)) → IsPlain old → ReadRecord (λ (p : Pieces). Some (bytes_of p)) old new found fields → took_first new ≡ true
     → Takes found old new fields
 unfolding Reached
 took old new true fields plain r first =
     let y = known (unread old) plain.source in
-    let m = rows-more (λ (s : Bor (List ℕ)). Some s.now) old new fields default_config old.state y.0 y.0 [] plain.config y.1 (refl, refl) r in
+    let m = rows-more (λ (p : Pieces). Some (bytes_of p)) old new fields default_config old.state y.0 y.0 [] plain.config y.1 (refl, refl) r in
     let p = m.2.0 in
     let is = one_more default_config old.state y.0 p m.2.1 in (
       record { trim = r.3 ∙ plain.trim; ready = inl first; config = r.2 ∙ plain.config; source = rw m.1 refl },
@@ -97,5 +98,5 @@ took old new true fields plain r first =
     )
 took old new false fields plain r first =
     let y = known (unread old) plain.source in
-    let e = rows-end (λ (s : Bor (List ℕ)). Some s.now) old new fields default_config y.0 plain.config y.1 r in
+    let e = rows-end (λ (p : Pieces). Some (bytes_of p)) old new fields default_config y.0 plain.config y.1 r in
     ap (λ o. records_left old.state o) y.1 ∙ none_more default_config old.state y.0 e

@@ -9,6 +9,7 @@ mod loader;
 mod look;
 mod naming;
 mod number;
+mod pieces;
 mod record;
 mod relation;
 mod writing;

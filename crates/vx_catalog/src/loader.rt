@@ -8,24 +8,26 @@ ghost use Rattle.vx_catalog.specs.Relation.{Meets};
 ghost use Rattle.vx_catalog.specs.Catalog.{relation_at, IsRelation};
 ghost use Rattle.vx_catalog.specs.Database.{IsLoaded};
 ghost use Rattle.vx_catalog.specs.Meaning.{LoadLaw};
+ghost use Rattle.vx_catalog.specs.Pieces.{bytes_of};
 ghost use Rattle.vx_catalog.specs.Loading.{Gives, records_of, under_header, keys_kept, order_kept, first_fall, load_of, max_bytes, max_rows};
 
 use crate::catalog::Catalog;
 use crate::fault::LoadFault;
+use crate::pieces::{Pieces, take_all};
 use crate::record::{is_header, next_record, read_rows};
 use crate::relation::Relation;
 use csv::{ByteRecord, ReaderBuilder};
 use std::alloc::Global;
 use std::marker::Model;
-use vx_rows::{ByteIn, Rows, compare_on, read_all};
+use vx_rows::{ByteIn, Rows, compare_on};
 
 /// The most bytes that a text may have.
 const MAX_BYTES: usize = 1 << 40;
 
 /// The rows under a text's header.
-fn read_text(alloc: Global, relation: &Relation, text: &[u8]) -> Result<Rows, LoadFault>
+fn read_text(alloc: Global, relation: &Relation, text: Pieces) -> Result<Rows, LoadFault>
     ensures types { IfOk result (λ r. r.types ≡ relation.now.types) }
-    ensures rows { Gives (λ r. r.rows) result (under_header relation.now.names relation.now.types (records_of text.now)) }
+    ensures rows { Gives (λ r. r.rows) result (under_header relation.now.names relation.now.types (records_of (bytes_of text))) }
     ensures few { IfOk result (λ r. length r.rows ≤ max_rows) }
 {
     let mut reader = ReaderBuilder::new()
@@ -85,11 +87,11 @@ fn test_keys(alloc: Global, rows: &Rows, relation: &Relation) -> Result<(), Load
 
 /// The rows of a relation's text.
 #[tactic(auto, unfolding(crate::specs::Loading::load_of))]
-fn load_text(alloc: Global, relation: &Relation, text: &[u8]) -> Result<Rows, LoadFault>
+fn load_text(alloc: Global, relation: &Relation, text: Pieces) -> Result<Rows, LoadFault>
     requires relation { IsRelation relation.now }
-    requires small { length text.now ≤ max_bytes }
+    requires small { length (bytes_of text) ≤ max_bytes }
     ensures types { IfOk result (λ r. r.types ≡ relation.now.types) }
-    ensures rows { Gives (λ r. r.rows) result (load_of relation.now text.now) }
+    ensures rows { Gives (λ r. r.rows) result (load_of relation.now (bytes_of text)) }
     ensures meets { IfOk result (λ r. Meets relation.now r.rows) }
     ensures few { IfOk result (λ r. length r.rows ≤ max_rows) }
 {
@@ -182,8 +184,8 @@ impl Loader {
         ensures failed { IsErrOf result LoadFault.ReadFailed → R.has_failed reader.new ≡ true }
         ensures broken { R.has_failed reader.new ≡ true → IsErrOf result LoadFault.ReadFailed }
     {
-        let bytes = read_all(alloc, reader, MAX_BYTES)?;
-        let rows = load_text(alloc, catalog.get(relation), bytes.as_slice())?;
+        let text = take_all(alloc, reader, MAX_BYTES)?;
+        let rows = load_text(alloc, catalog.get(relation), text)?;
         Ok(Loaded {
             catalog: catalog.copy(alloc)?,
             relation,

@@ -11,6 +11,7 @@ ghost use Rattle.vx_catalog.specs.Loading.{Gives, value_of, next_value, row_of, 
 
 use crate::fault::LoadFault;
 use crate::number::number_of;
+use crate::pieces::Pieces;
 use csv::{ByteRecord, Reader};
 use std::alloc::Global;
 use std::str;
@@ -107,7 +108,7 @@ fn push_record(alloc: Global, rows: &mut Rows, line: &ByteRecord) -> Result<(), 
 }
 
 /// Takes the next record, if there is one.
-pub fn next_record(reader: &mut Reader<&[u8]>, line: &mut ByteRecord) -> Result<bool, LoadFault>
+pub fn next_record(reader: &mut Reader<Pieces>, line: &mut ByteRecord) -> Result<bool, LoadFault>
     requires { IsPlain reader.old }
     ensures taken { IfOk result (λ found. Takes found reader.old reader.new (fields_of line.new)) }
     ensures err { IsOkUnless result LoadFault.NoMemory }
@@ -122,7 +123,7 @@ pub fn next_record(reader: &mut Reader<&[u8]>, line: &mut ByteRecord) -> Result<
 pub fn read_rows(
     alloc: Global,
     types: &[ColType],
-    reader: &mut Reader<&[u8]>,
+    reader: &mut Reader<Pieces>,
 ) -> Result<Rows, LoadFault>
     requires { IsPlain reader.old }
     ensures types { IfOk result (λ r. r.types ≡ types.now) }

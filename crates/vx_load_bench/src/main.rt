@@ -116,21 +116,28 @@ impl Bench {
         Ok(())
     }
 
-    /// Shows the times of the parts of loading that can be run by themselves: all bytes taken, the two keys and the order.
-    fn show_parts<R: Print + Clock>(
+    /// Shows the time to take all bytes into one list. It is run before loading, so that it adds nothing to the peak of memory.
+    fn show_taking<R: Print + Clock>(
         self,
         rt: &R,
         alloc: Global,
         text: &[u8],
-        rows: &Rows,
     ) -> Result<(), Error> {
-        if !self.with_times || rows.types().len() < 2 {
+        if !self.with_times {
             return Ok(());
         }
         let start = Instant::now(rt)?;
         let bytes = read_all(alloc, &mut MemoryIn::new(text, None), text.len())?;
-        self.show(rt, "part: take all bytes", nanos_since(rt, start)?)?;
+        self.show(rt, "take all bytes into one list", nanos_since(rt, start)?)?;
         drop(bytes);
+        Ok(())
+    }
+
+    /// Shows the times of the parts of loading that can be run by themselves: the two keys and the order.
+    fn show_parts<R: Print + Clock>(self, rt: &R, alloc: Global, rows: &Rows) -> Result<(), Error> {
+        if !self.with_times || rows.types().len() < 2 {
+            return Ok(());
+        }
         for column in 0..2usize {
             let start = Instant::now(rt)?;
             let clash = rows.first_key_clash(alloc, &[column])?;
@@ -154,6 +161,7 @@ impl Bench {
         if catalog.is_empty() {
             bail!("the catalog has no relation");
         }
+        self.show_taking(rt, alloc, text)?;
         let start = Instant::now(rt)?;
         let loaded = Loader::load(alloc, &catalog, 0, &mut MemoryIn::new(text, None))?;
         let load = nanos_since(rt, start)?;
@@ -170,7 +178,7 @@ impl Bench {
             read.records, read.fields
         )?;
         self.show_ratio(rt, load, read.nanos)?;
-        self.show_parts(rt, alloc, text, rows)
+        self.show_parts(rt, alloc, rows)
     }
 }
 

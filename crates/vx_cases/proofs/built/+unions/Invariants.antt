@@ -1,4 +1,4 @@
-use Rattle.vx_cases.proofs.tests.limits.+unions.Given as goal
+use Rattle.vx_cases.proofs.built.+unions.Given as goal
 
 -- both halves of two scans or more are fewer
 abbrev pub decreases-unions : goal.decreases-unions
