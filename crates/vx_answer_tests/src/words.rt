@@ -1,6 +1,7 @@
 //! Words: what they print, from files in memory.
 
-ghost use Rattle.std.specs.Prelude.{None};
+ghost use Rattle.std.specs.Prelude.{◌≡◌, option_map, bytes_eq};
+ghost use Rattle.std.specs.List.{find};
 
 use std::sync::Wait;
 use std::test::Fail;
@@ -16,32 +17,80 @@ const PLAN: &str =
 
 const ROWS: &str = "id,k,v\n0,a,5\n1,b,7\n2,a,-2\n3,c,7\n";
 
-/// Files by their paths, each with the bytes after which it fails.
+/// A file with its path, and how many bytes it gives before it fails.
+#[derive(Clone, Copy)]
+struct Leaf<'a> {
+    path: &'a str,
+    text: &'a str,
+    fails_after: Option<usize>,
+}
+
+/// Files in memory.
 #[derive(Clone, Copy)]
 struct Shelf<'a> {
-    files: &'a [(&'a str, &'a str, Option<usize>)],
+    leaves: &'a [Leaf<'a>],
+}
+
+/// The first file of a path.
+fn find_leaf<'s, 'a>(leaves: &'s [Leaf<'a>], path: &str) -> Option<&'s Leaf<'a>>
+    ensures { option_map (λ l. l.now) result ≡ find (λ l. bytes_eq l.path.now path.now) leaves.now }
+{
+    leaves.iter().find(|leaf| leaf.path == path)
 }
 
 impl<'a> Store for Shelf<'a> {
+    ghost use Rattle.std.specs.Prelude.{option_map, bytes_eq};
+    ghost use Rattle.std.specs.List.{find};
+
     type In = MemoryIn<'a>;
 
-    ghost holds = { λ _ _. None };
+    ghost holds = { λ s path. option_map (λ l. l.text.now) (find (λ l. bytes_eq l.path.now path) s.leaves.now) };
 
     fn open(&self, path: &str) -> Option<MemoryIn<'a>> {
-        let (_, text, fails_after) = self.files.iter().find(|file| file.0 == path)?;
-        Some(MemoryIn::new(text.as_bytes(), *fails_after))
+        match find_leaf(self.leaves, path) {
+            Some(leaf) => Some(MemoryIn::new(leaf.text.as_bytes(), leaf.fails_after)),
+            None => None,
+        }
     }
 }
 
 /// The files of the first case.
-const FILES: [(&str, &str, Option<usize>); 7] = [
-    ("c.json", CATALOG, None),
-    ("p.json", PLAN, None),
-    ("d/t.csv", ROWS, None),
-    ("cut/t.csv", ROWS, Some(9)),
-    ("cut.json", CATALOG, Some(9)),
-    ("odd.json", "{}", None),
-    ("text", "1,2", None),
+const LEAVES: [Leaf<'static>; 7] = [
+    Leaf {
+        path: "c.json",
+        text: CATALOG,
+        fails_after: None,
+    },
+    Leaf {
+        path: "p.json",
+        text: PLAN,
+        fails_after: None,
+    },
+    Leaf {
+        path: "d/t.csv",
+        text: ROWS,
+        fails_after: None,
+    },
+    Leaf {
+        path: "cut/t.csv",
+        text: ROWS,
+        fails_after: Some(9),
+    },
+    Leaf {
+        path: "cut.json",
+        text: CATALOG,
+        fails_after: Some(9),
+    },
+    Leaf {
+        path: "odd.json",
+        text: "{}",
+        fails_after: None,
+    },
+    Leaf {
+        path: "text",
+        text: "1,2",
+        fails_after: None,
+    },
 ];
 
 /// What goes to the output, to the errors, and the status, for words over these files and a standard input.
@@ -50,7 +99,7 @@ fn line_for<R: Threads + Wait + Sync + AllocGlobal>(
     words: &[&str],
     input: &str,
 ) -> Result<String, Fail> {
-    let files = Shelf { files: &FILES };
+    let files = Shelf { leaves: &LEAVES };
     let mut input = MemoryIn::new(input.as_bytes(), None);
     let mut out = MemoryOut::new(rt.alloc(), 10, 10000);
     let mut err = MemoryOut::new(rt.alloc(), 10, 10000);
