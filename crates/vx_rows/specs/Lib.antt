@@ -9,6 +9,7 @@ pub mod Lists
 pub mod View
 pub mod Texts
 pub mod Columns
+pub mod Open
 pub mod Ports
 pub mod Hashing
 pub mod Schema

@@ -5,7 +5,7 @@ ghost use Rattle.std.specs.List.{AllByRecursion};
 ghost use Rattle.vx_rows.specs.Values.{pick, value_at};
 ghost use Rattle.vx_rows.specs.View.{val_of, cell_val, HasTypes, row, AreColumns, ArePositions};
 ghost use Rattle.vx_rows.specs.Types.{type_at, Fits};
-ghost use Rattle.vx_rows.specs.Columns.{entry};
+ghost use Rattle.vx_rows.specs.Columns.{entry, rows_of, AreRows};
 
 use crate::column::Column;
 use crate::value::{Cell, ColType, Value};
@@ -66,6 +66,19 @@ impl Rows {
             columns,
             count: 0,
         })
+    }
+
+    /// The first `count` rows of columns of these types.
+    pub(crate) fn of_columns(types: Vec<ColType>, columns: Vec<Column>, count: usize) -> Rows
+        requires { AreRows types.items count columns.items }
+        ensures types { result.types ≡ types.items }
+        ensures rows { result.rows ≡ rows_of count columns.items }
+    {
+        Rows {
+            types,
+            columns,
+            count,
+        }
     }
 
     /// How many rows there are.

@@ -3,6 +3,7 @@
 ghost use Rattle.std.specs.Prelude.{◌≡◌, [], ◌∷◌, IfOk};
 ghost use Rattle.vx_rows.specs.declared.value.ColType.TheVariants as kind;
 
+mod open;
 mod refused;
 
 use crate::{

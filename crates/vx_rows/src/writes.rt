@@ -1,7 +1,7 @@
 //! Writes to all columns of rows. A write at `at` leaves the first `at` rows and what stands in the columns before,
 //! and drops the rest: where it fails these rows still stand.
 
-ghost use Rattle.std.specs.Prelude.{◌≡◌, ℕ, ◌+◌, ◌-◌, ◌<◌, ◌≤◌, ◌∷◌, [], length, map, true, slice_index, OnOk, IfOk};
+ghost use Rattle.std.specs.Prelude.{◌≡◌, ℕ, ◌+◌, ◌-◌, ◌<◌, ◌≤◌, ◌∷◌, [], length, map, take, true, slice_index, OnOk, IfOk};
 ghost use Rattle.std.specs.List.{list_all};
 ghost use Rattle.vx_rows.specs.Values.{pick};
 ghost use Rattle.vx_rows.specs.View.{val_of, cell_val, AreColumns, ArePositions};
@@ -23,6 +23,7 @@ pub fn put_cell(
     requires long { AreLong at columns.old.items }
     requires kind { type_at (map column_type columns.old.items) j ≡ type_of (cell_val cell) }
     ensures rows { KeepRows at columns.old.items columns.new.items }
+    ensures before { take j columns.new.items ≡ take j columns.old.items }
     ensures ok { OnOk result (Fills at 1 j (j + 1) columns.old.items columns.new.items (λ _. cell_val cell.entry ∷ [])) }
 {
     let column = &mut columns[j];

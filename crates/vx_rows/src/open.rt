@@ -1,0 +1,105 @@
+//! Rows that get one value after another.
+
+ghost use Rattle.std.specs.Prelude.{◌≡◌, ◌<◌, ◌++◌, ◌∷◌, [], length, OnOk, OnErr, IfOk};
+ghost use Rattle.vx_rows.specs.View.{cell_val};
+ghost use Rattle.vx_rows.specs.Types.{type_of, type_at};
+
+use crate::column::Column;
+use crate::rows::Rows;
+use crate::value::{Cell, ColType};
+use crate::writes::{empty_columns, put_cell};
+use std::alloc::{AllocError, Global};
+use std::marker::Model;
+
+/// Rows, and the front of one more row, which gets one value after another.
+///
+/// No list of a row's values is made: each value goes into its column at once.
+#[derive(Debug, Drop)]
+pub struct OpenRows {
+    types: Vec<ColType>,
+    columns: Vec<Column>,
+    count: usize,
+    filled: usize,
+}
+
+impl Model for OpenRows {
+    ghost use Rattle.vx_rows.specs.Open.{Opened, front_of, AreOpen};
+    ghost use Rattle.vx_rows.specs.Columns.{rows_of};
+
+    ghost Value = { Opened };
+
+    ghost view = { λ r. record { types = r.types.items; rows = rows_of r.count r.columns.items; front = front_of r.filled r.count r.columns.items } };
+
+    ghost invariant = { λ r. AreOpen r.types.items r.count r.filled r.columns.items };
+}
+
+impl OpenRows {
+    /// No rows, of these types, and no value of the next one.
+    pub fn new(alloc: Global, types: &[ColType]) -> Result<OpenRows, AllocError>
+        ensures types { IfOk result (λ r. r.types ≡ types.now) }
+        ensures rows { IfOk result (λ r. r.rows ≡ []) }
+        ensures front { IfOk result (λ r. r.front ≡ []) }
+    {
+        let columns = empty_columns(alloc, types)?;
+        Ok(OpenRows {
+            types: Vec::from_slice(alloc, types)?,
+            columns,
+            count: 0,
+            filled: 0,
+        })
+    }
+
+    /// The types of the columns.
+    pub fn types(&self) -> &[ColType]
+        ensures { result.now ≡ self.now.types }
+    {
+        self.types.as_slice()
+    }
+
+    /// How many whole rows there are.
+    pub fn len(&self) -> usize
+        ensures { result ≡ length self.now.rows }
+    {
+        self.count
+    }
+
+    /// Adds a value to the front. After an `Err` all is as before.
+    pub fn push_cell(&mut self, cell: Cell<'_>) -> Result<(), AllocError>
+        requires room { length self.old.front < length self.old.types }
+        requires kind { type_of (cell_val cell) ≡ type_at self.old.types (length self.old.front) }
+        ensures types { self.new.types ≡ self.old.types }
+        ensures rows { self.new.rows ≡ self.old.rows }
+        ensures ok { OnOk result (self.new.front ≡ self.old.front ++ cell_val cell.entry ∷ []) }
+        ensures err { OnErr result (self.new.front ≡ self.old.front) }
+    {
+        cell.held();
+        put_cell(&mut self.columns, self.filled, self.count, cell)?;
+        self.filled += 1;
+        Ok(())
+    }
+
+    /// Makes the front a row, once it has a value of each column. An `Err` says that the rows cannot be counted, and
+    /// then all is as before.
+    pub fn end_row(&mut self) -> Result<(), AllocError>
+        requires { length self.old.front ≡ length self.old.types }
+        ensures types { self.new.types ≡ self.old.types }
+        ensures rows { OnOk result (self.new.rows ≡ self.old.rows ++ self.old.front ∷ []) }
+        ensures front { OnOk result (self.new.front ≡ []) }
+        ensures err { OnErr result (self.new ≡ self.old) }
+    {
+        let Some(count) = self.count.checked_add(1) else {
+            return Err(AllocError);
+        };
+        self.count = count;
+        self.filled = 0;
+        Ok(())
+    }
+
+    /// The whole rows. A front that was not made a row is dropped.
+    pub fn into_rows(self) -> Rows
+        ensures types { result.types ≡ self.types }
+        ensures rows { result.rows ≡ self.rows }
+    {
+        Rows::of_columns(self.types, self.columns, self.count)
+    }
+}
