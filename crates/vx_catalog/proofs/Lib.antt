@@ -9,6 +9,7 @@ pub mod TextFacts
 pub mod Stated
 pub mod NumberFacts
 pub mod HeaderFacts
+pub mod RowsTold
 pub mod RowFacts
 pub mod RecordFacts
 pub mod OrderFacts

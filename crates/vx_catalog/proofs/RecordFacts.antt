@@ -1,16 +1,15 @@
 -- A reader's next record, and those that it has left after it.
 use Rattle.std.proofs.Common.{◌≡◌, ℕ, zero, suc, ◌+◌, ◌<◌, ◌≤◌, List, [], ◌∷◌, Option, Some, None, Bool, true, false, cond, refl, sym, ap, ◌∙◌, length, arith, add-one, ◌⊎◌, inl, inr}
-use Rattle.std.specs.Prelude.{IsSome}
-use Rattle.vx_catalog.specs.declared.pieces.Pieces.{Pieces}
-use Rattle.vx_catalog.specs.Pieces.{bytes_of}
+use Rattle.std.specs.Prelude.{IfSome, option_map}
 use Rattle.csv.specs.Machine.{Read, next_record, step, is_end, ends_at_end}
-use Rattle.csv.specs.Reading.{Reached, ReadRecord, records_from, records_next, default_config, took_first}
+use Rattle.csv.specs.Reading.{Reached, ReadRecord, ReadsNext, source_of, pending_of, records_from, records_next, default_config, took_first, reader_config}
 use Rattle.csv.specs.declared.parser.Config.{Config}
 use Rattle.csv.specs.declared.parser.State.{State}
 use Rattle.csv.specs.declared.parser.State.TheVariants as st
 use Rattle.csv.specs.declared.reader.Reader.{Reader}
 use Rattle.csv.proofs.ReadFacts.{rows-end, rows-more}
-use Rattle.vx_catalog.specs.Records.{unread, IsPlain, records_left, Takes}
+use Rattle.vx_catalog.specs.Counting.{StaysKnown}
+use Rattle.vx_catalog.specs.Records.{IsPlain, records_left, rest_of, Begins, Takes}
 
 chosen : {A : Type 0} (b : Bool) (x y z : A) → cond b x y ≡ z → ((b ≡ true) × (x ≡ z)) ⊎ ((b ≡ false) × (y ≡ z))
 chosen true x y z h = inl (refl, h)
@@ -77,26 +76,43 @@ none_more : (cfg : Config) (s : State) (ys : List ℕ) → next_record cfg s [] 
 unfolding records_from
 none_more cfg s ys e = rw (add-one (length ys), e) refl
 
-known : (o : Option (List ℕ)) → IsSome o → (y : List ℕ) × (o ≡ Some y)
-known None h = cc
-known (Some y) h = (y, refl)
-
 same_rest : (fields first : List (List ℕ)) (s s2 : State) (z z2 : List ℕ) (o : Option (List ℕ)) → fields ≡ first → s ≡ s2 → z ≡ z2 → o ≡ Some z2
-    → first ∷ records_from default_config (length z + 1) s z ≡ fields ∷ records_left s2 o
+    → Begins fields (Some (first ∷ records_left s z)) (option_map (records_left s2) o)
 same_rest fields first s s2 z z2 o f e g h = rw (f, e, g, h) refl
 
-pub took : (old new : Reader Pieces) (found : Bool) (fields : List (List ℕ)) → IsPlain old → ReadRecord (λ (p : Pieces). Some (bytes_of p)) old new found fields → took_first new ≡ true
-    → Takes found old new fields
+pub still_known : (a b c : Option (List ℕ)) → StaysKnown a b → StaysKnown b c → StaysKnown a c
+still_known None b c p q = tt
+still_known (Some x) None c p q = cc
+still_known (Some x) (Some y) c p q = q
+
+-- once a read was made, what is unread is what is buffered, and what the source has left
+pub known_after : {S : Type 0} (rem : S → Option (List ℕ)) (old new : Reader S) (found : Bool) (fields : List (List ℕ)) → ReadRecord rem old new found fields
+    → StaysKnown (source_of rem old) (source_of rem new)
+known_after rem old new found fields r = after (source_of rem old) (pending_of (rem new.rdr) new) (source_of rem new) (rw r.1 refl) r.0
+  where
+    after : (a b c : Option (List ℕ)) → c ≡ b → ReadsNext old.config old.state a b found fields new.state → StaysKnown a c
+    after None b c e n = tt
+    after (Some xs) None c e n = absurd n
+    after (Some xs) (Some ys) c e n = rw e refl
+
+took_one : {S : Type 0} (rem : S → Option (List ℕ)) (old new : Reader S) (fields : List (List ℕ)) (o : Option (List ℕ)) → reader_config old ≡ default_config → source_of rem old ≡ o
+    → ReadRecord rem old new true fields → Begins fields (option_map (records_left old.state) o) (rest_of rem new)
 unfolding Reached
-took old new true fields plain r first =
-    let y = known (unread old) plain.source in
-    let m = rows-more (λ (p : Pieces). Some (bytes_of p)) old new fields default_config old.state y.0 y.0 [] plain.config y.1 (refl, refl) r in
+took_one rem old new fields None config e r = tt
+took_one rem old new fields (Some ys) config e r =
+    let m = rows-more rem old new fields default_config old.state ys ys [] config e (refl, refl) r in
     let p = m.2.0 in
-    let is = one_more default_config old.state y.0 p m.2.1 in (
-      record { trim = r.3 ∙ plain.trim; ready = inl first; config = r.2 ∙ plain.config; source = rw m.1 refl },
-      ap (λ o. records_left old.state o) y.1 ∙ (is ∙ same_rest fields p.0 p.1 new.state p.2 m.0 (unread new) m.2.2 m.2.3.0 m.2.3.1 m.1),
-    )
-took old new false fields plain r first =
-    let y = known (unread old) plain.source in
-    let e = rows-end (λ (p : Pieces). Some (bytes_of p)) old new fields default_config y.0 plain.config y.1 r in
-    ap (λ o. records_left old.state o) y.1 ∙ none_more default_config old.state y.0 e
+    rw (one_more default_config old.state ys p m.2.1) (same_rest fields p.0 p.1 new.state p.2 m.0 (source_of rem new) m.2.2 m.2.3.0 m.2.3.1 m.1)
+
+took_none : {S : Type 0} (rem : S → Option (List ℕ)) (old new : Reader S) (fields : List (List ℕ)) (o : Option (List ℕ)) → reader_config old ≡ default_config → source_of rem old ≡ o
+    → ReadRecord rem old new false fields → IfSome (option_map (records_left old.state) o) (λ records. records ≡ [])
+took_none rem old new fields None config e r = tt
+took_none rem old new fields (Some ys) config e r = none_more default_config old.state ys (rows-end rem old new fields default_config ys config e r)
+
+pub took : {S : Type 0} (rem : S → Option (List ℕ)) (old new : Reader S) (found : Bool) (fields : List (List ℕ)) → IsPlain old → ReadRecord rem old new found fields → took_first new ≡ true
+    → Takes rem found old new fields
+took rem old new true fields plain r first = (
+  record { trim = r.3 ∙ plain.trim; ready = inl first; config = r.2 ∙ plain.config },
+  took_one rem old new fields (source_of rem old) plain.config refl r,
+)
+took rem old new false fields plain r first = took_none rem old new fields (source_of rem old) plain.config refl r

@@ -7,7 +7,7 @@ pub mod Form
 pub mod Naming
 pub mod Number
 pub mod Loading
-pub mod Pieces
+pub mod Counting
 pub mod Records
 pub mod Unread
 pub mod Database

@@ -118,8 +118,12 @@ order_kept order rows = no_fall rows (first_fall order rows)
 abbrev pub max_bytes : ℕ
 max_bytes = 2 ^ 40
 
+-- the rows, if they meet a relation's keys and then its order
+abbrev pub tested : Relation → List Row → Result (List Row) LoadFault
+tested relation rows = keys_kept 0 relation.keys rows >>= λ rows. order_kept relation.order rows
+
 -- the rows of a relation's text: its size, the header, then row by row, then key by key, then the order
 unfoldable pub load_of : Relation → List ℕ → Result (List Row) LoadFault
 load_of relation bytes =
     if nat_lt max_bytes (length bytes) then Err fault.TooLarge
-    else under_header relation.names relation.types (records_of bytes) >>= λ rows. keys_kept 0 relation.keys rows >>= λ rows. order_kept relation.order rows
+    else under_header relation.names relation.types (records_of bytes) >>= tested relation

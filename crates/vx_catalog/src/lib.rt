@@ -2,6 +2,7 @@
 #![tactic(auto)]
 
 mod catalog;
+mod counted;
 mod database;
 mod fault;
 mod form;
@@ -9,7 +10,6 @@ mod loader;
 mod look;
 mod naming;
 mod number;
-mod pieces;
 mod record;
 mod relation;
 mod writing;

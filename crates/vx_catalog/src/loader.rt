@@ -1,6 +1,7 @@
 //! A relation's rows from its text.
 
-ghost use Rattle.std.specs.Prelude.{◌≡◌, ◌<◌, ◌≤◌, ◌-◌, length, true, false, IfOk, IfSome, IsErrOf, IfErr, []};
+ghost use Rattle.std.specs.Prelude.{◌≡◌, ◌≢◌, ◌⊎◌, ◌<◌, ◌≤◌, ◌-◌, length, true, false, Err, IfOk, IfSome, IsErrOf, IfErr, []};
+ghost use Rattle.csv.specs.Reading.{source_of};
 ghost use Rattle.std.specs.Ordering.{is_lt};
 ghost use Rattle.vx_rows.specs.View.{row, AreColumns};
 ghost use Rattle.vx_rows.specs.Order.{compare_on};
@@ -8,40 +9,42 @@ ghost use Rattle.vx_catalog.specs.Relation.{Meets};
 ghost use Rattle.vx_catalog.specs.Catalog.{relation_at, IsRelation};
 ghost use Rattle.vx_catalog.specs.Database.{IsLoaded};
 ghost use Rattle.vx_catalog.specs.Meaning.{LoadLaw};
-ghost use Rattle.vx_catalog.specs.Pieces.{bytes_of};
-ghost use Rattle.vx_catalog.specs.Loading.{Gives, records_of, under_header, keys_kept, order_kept, first_fall, load_of, max_bytes, max_rows};
+ghost use Rattle.vx_catalog.specs.Counting.{StaysKnown, Settles};
+ghost use Rattle.vx_catalog.specs.Records.{IsPlain, rest_of};
+ghost use Rattle.vx_catalog.specs.Loading.{Gives, records_of, under_header, tested, keys_kept, order_kept, first_fall, load_of, max_rows};
 
 use crate::catalog::Catalog;
+use crate::counted::{Counted, Origin};
 use crate::fault::LoadFault;
-use crate::pieces::{Pieces, take_all};
 use crate::record::{is_header, next_record, read_rows};
 use crate::relation::Relation;
-use csv::{ByteRecord, ReaderBuilder};
+use csv::{ByteRecord, Reader, ReaderBuilder};
 use std::alloc::Global;
-use std::marker::Model;
+use std::io::Read;
+use std::marker::{Brand, Model};
 use vx_rows::{ByteIn, Rows, compare_on};
 
-/// The most bytes that a text may have.
-const MAX_BYTES: usize = 1 << 40;
-
-/// The rows under a text's header.
-fn read_text(alloc: Global, relation: &Relation, text: Pieces) -> Result<Rows, LoadFault>
+/// The rows under a text's header. Want of memory is told where the source underneath failed too.
+fn read_text<S: Read>(
+    alloc: Global,
+    relation: &Relation,
+    reader: &mut Reader<S>,
+) -> Result<Rows, LoadFault>
+    requires { IsPlain reader.old }
     ensures types { IfOk result (λ r. r.types ≡ relation.now.types) }
-    ensures rows { Gives (λ r. r.rows) result (under_header relation.now.names relation.now.types (records_of (bytes_of text))) }
+    ensures rows { IfSome (rest_of S.remaining reader.old) (λ records. Gives (λ r. r.rows) result (under_header relation.now.names relation.now.types records)) }
     ensures few { IfOk result (λ r. length r.rows ≤ max_rows) }
+    ensures known { (result ≡ Err LoadFault.NoMemory) ⊎ StaysKnown (source_of S.remaining reader.old) (source_of S.remaining reader.new) }
+    ensures own { IfErr result (λ e. e ≢ LoadFault.ReadFailed) }
 {
-    let mut reader = ReaderBuilder::new()
-        .has_headers(false)
-        .flexible(true)
-        .from_reader(alloc, text);
     let mut header = ByteRecord::new(alloc);
-    if !next_record(&mut reader, &mut header)? {
+    if !next_record(reader, &mut header)? {
         return Err(LoadFault::HeaderMismatch);
     }
     if !is_header(relation.names(), &header) {
         return Err(LoadFault::HeaderMismatch);
     }
-    read_rows(alloc, relation.types(), &mut reader)
+    read_rows(alloc, relation.types(), reader)
 }
 
 /// The first row that is smaller than the one before it.
@@ -85,21 +88,43 @@ fn test_keys(alloc: Global, rows: &Rows, relation: &Relation) -> Result<(), Load
     Ok(())
 }
 
-/// The rows of a relation's text.
-#[tactic(auto, unfolding(crate::specs::Loading::load_of))]
-fn load_text(alloc: Global, relation: &Relation, text: Pieces) -> Result<Rows, LoadFault>
+/// The rows of a relation, if they meet its keys and then its order.
+fn test_rows(alloc: Global, relation: &Relation, rows: Rows) -> Result<Rows, LoadFault>
     requires relation { IsRelation relation.now }
-    requires small { length (bytes_of text) ≤ max_bytes }
-    ensures types { IfOk result (λ r. r.types ≡ relation.now.types) }
-    ensures rows { Gives (λ r. r.rows) result (load_of relation.now (bytes_of text)) }
+    requires types { rows.types ≡ relation.now.types }
+    ensures same { IfOk result (λ r. r ≡ rows) }
+    ensures rows { Gives (λ r. r.rows) result (tested relation.now rows.rows) }
     ensures meets { IfOk result (λ r. Meets relation.now r.rows) }
-    ensures few { IfOk result (λ r. length r.rows ≤ max_rows) }
 {
-    let rows = read_text(alloc, relation, text)?;
     test_keys(alloc, &rows, relation)?;
     test_order(&rows, relation.order())?;
     rows.fit();
     Ok(rows)
+}
+
+/// The rows of a relation from a port. All bytes of the port are taken before anything but want of memory is told.
+/// That the port failed goes before whatever is answered, and is asked of the port.
+fn load_text<R: ByteIn, T: Origin>(
+    alloc: Global,
+    relation: &Relation,
+    port: &mut R,
+) -> Result<Rows, LoadFault>
+    requires text { R.remaining port.now ≡ T.text }
+    requires relation { IsRelation relation.now }
+    ensures types { IfOk result (λ r. r.types ≡ relation.now.types) }
+    ensures rows { IfSome T.text (λ bytes. Gives (λ r. r.rows) result (load_of relation.now bytes)) }
+    ensures meets { IfOk result (λ r. Meets relation.now r.rows) }
+    ensures few { IfOk result (λ r. length r.rows ≤ max_rows) }
+    ensures own { IfErr result (λ e. e ≢ LoadFault.ReadFailed) }
+{
+    let mut reader = ReaderBuilder::new()
+        .has_headers(false)
+        .flexible(true)
+        .from_reader(alloc, Counted::<R, T>::new(port));
+    let read = read_text(alloc, relation, &mut reader);
+    let mut source = reader.into_inner();
+    let rows = source.settle(read)?;
+    test_rows(alloc, relation, rows)
 }
 
 /// Rows of a relation of a catalog, 100,000,000 at most, which meet all that it declares of the relation.
@@ -184,8 +209,11 @@ impl Loader {
         ensures failed { IsErrOf result LoadFault.ReadFailed → R.has_failed reader.new ≡ true }
         ensures broken { R.has_failed reader.new ≡ true → IsErrOf result LoadFault.ReadFailed }
     {
-        let text = take_all(alloc, reader, MAX_BYTES)?;
-        let rows = load_text(alloc, catalog.get(relation), text)?;
+        let read = load_text::<R, Brand>(alloc, catalog.get(relation), reader);
+        if reader.failed() {
+            return Err(LoadFault::ReadFailed);
+        }
+        let rows = read?;
         Ok(Loaded {
             catalog: catalog.copy(alloc)?,
             relation,

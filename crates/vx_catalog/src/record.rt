@@ -1,19 +1,20 @@
 //! Rows from records.
 
-ghost use Rattle.std.specs.Prelude.{◌≡◌, ◌≤◌, [], map, length, IfOk, IsOkUnless, Some, string_bytes};
+ghost use Rattle.std.specs.Prelude.{◌≡◌, ◌≢◌, ◌⊎◌, ◌≤◌, [], map, length, IfOk, OnOk, IfErr, IfSome, IsOkUnless, Err, string_bytes};
 ghost use Rattle.std.specs.Option.{option_copied};
-ghost use Rattle.csv.specs.Reading.{strip_bom};
+ghost use Rattle.csv.specs.Reading.{source_of, strip_bom};
 ghost use Rattle.csv.specs.Records.{fields_of};
 ghost use Rattle.vx_rows.specs.View.{cell_val};
 ghost use Rattle.vx_catalog.specs.Walk.{walk_onto};
+ghost use Rattle.vx_catalog.specs.Counting.{StaysKnown};
 ghost use Rattle.vx_catalog.specs.Records.{IsPlain, rest_of, Takes};
 ghost use Rattle.vx_catalog.specs.Loading.{Gives, value_of, next_value, row_of, row_added, rows_onto, max_rows, same_name, names_from, is_header};
 
 use crate::fault::LoadFault;
 use crate::number::number_of;
-use crate::pieces::Pieces;
 use csv::{ByteRecord, Reader};
 use std::alloc::Global;
+use std::io::Read;
 use std::str;
 use vx_rows::{Cell, ColType, Rows};
 
@@ -107,10 +108,14 @@ fn push_record(alloc: Global, rows: &mut Rows, line: &ByteRecord) -> Result<(), 
     Ok(())
 }
 
-/// Takes the next record, if there is one.
-pub fn next_record(reader: &mut Reader<Pieces>, line: &mut ByteRecord) -> Result<bool, LoadFault>
+/// Takes the next record, if there is one. An error may be of the source underneath, which its owner asks.
+pub fn next_record<S: Read>(
+    reader: &mut Reader<S>,
+    line: &mut ByteRecord,
+) -> Result<bool, LoadFault>
     requires { IsPlain reader.old }
-    ensures taken { IfOk result (λ found. Takes found reader.old reader.new (fields_of line.new)) }
+    ensures taken { IfOk result (λ found. Takes S.remaining found reader.old reader.new (fields_of line.new)) }
+    ensures known { OnOk result (StaysKnown (source_of S.remaining reader.old) (source_of S.remaining reader.new)) }
     ensures err { IsOkUnless result LoadFault.NoMemory }
 {
     let Ok(found) = reader.read_byte_record(line) else {
@@ -119,16 +124,18 @@ pub fn next_record(reader: &mut Reader<Pieces>, line: &mut ByteRecord) -> Result
     Ok(found)
 }
 
-/// The rows of the records that a reader has left.
-pub fn read_rows(
+/// The rows of the records that a reader has left. Want of memory is told where the source underneath failed too.
+pub fn read_rows<S: Read>(
     alloc: Global,
     types: &[ColType],
-    reader: &mut Reader<Pieces>,
+    reader: &mut Reader<S>,
 ) -> Result<Rows, LoadFault>
     requires { IsPlain reader.old }
     ensures types { IfOk result (λ r. r.types ≡ types.now) }
-    ensures rows { Gives (λ r. r.rows) result (rows_onto types.now [] (rest_of reader.old)) }
+    ensures rows { IfSome (rest_of S.remaining reader.old) (λ records. Gives (λ r. r.rows) result (rows_onto types.now [] records)) }
     ensures few { IfOk result (λ r. length r.rows ≤ max_rows) }
+    ensures known { (result ≡ Err LoadFault.NoMemory) ⊎ StaysKnown (source_of S.remaining reader.old) (source_of S.remaining reader.new) }
+    ensures own { IfErr result (λ e. e ≢ LoadFault.ReadFailed) }
 {
     let mut rows = Rows::new(alloc, types)?;
     let mut line = ByteRecord::new(alloc);

@@ -1,12 +1,16 @@
-use Rattle.std.proofs.Common.{◌≡◌, ◌≤◌, [], length}
+use Rattle.std.proofs.Common.{◌≡◌, ◌≤◌, length}
+use Rattle.csv.specs.Reading.{source_of}
+use Rattle.vx_catalog.specs.Counting.{StaysKnown}
 use Rattle.vx_catalog.specs.Records.{IsPlain, rest_of}
-use Rattle.vx_catalog.specs.Loading.{rows_onto, max_rows}
+use Rattle.vx_catalog.specs.Loading.{max_rows}
+use Rattle.vx_catalog.proofs.RowsTold.{RowsSoFar}
 use Rattle.vx_catalog.proofs.record.read_rows.Given as goal
 
 abbrev pub invariant-loop : goal.invariant-loop
-invariant-loop l = record {
+invariant-loop g l = record {
   plain : IsPlain l.reader;
-  so_far : rows_onto l.types l.rows.rows (rest_of l.reader) ≡ rows_onto l.types [] (rest_of l.initial.reader);
+  so_far : RowsSoFar l.types l.rows.rows (rest_of g.S.Read.remaining l.initial.reader) (rest_of g.S.Read.remaining l.reader);
+  known : StaysKnown (source_of g.S.Read.remaining l.initial.reader) (source_of g.S.Read.remaining l.reader);
   types : l.rows.types ≡ l.types;
   count : l.counter ≡ length l.rows.rows;
   few : length l.rows.rows ≤ max_rows;

@@ -1,0 +1,114 @@
+//! A port whose bytes are counted as they are taken.
+
+ghost use Rattle.std.specs.Prelude.{◌≡◌, ◌⊎◌, ℕ, List, Option, None, Err, true};
+ghost use Rattle.std.specs.Io.KnownBytes.{IsAtEnd};
+ghost use Rattle.vx_rows.specs.Ports.{IsOver};
+ghost use Rattle.vx_catalog.specs.Loading.{max_bytes};
+ghost use Rattle.vx_catalog.specs.Counting.{is_within, left_of, StaysKnown, Settles};
+
+use crate::fault::LoadFault;
+use std::io;
+use std::io::{ErrorKind, Read};
+use std::marker::{Brand, PhantomData};
+use vx_rows::{ByteIn, Rows};
+
+/// The most bytes that a text may have.
+const MAX_BYTES: usize = 1 << 40;
+
+/// Names all bytes that a port had when its counting began.
+pub trait Origin {
+    // These bytes, where the type of the port tells them.
+    ghost text: { Option (List ℕ) };
+}
+
+impl Origin for Brand {
+    ghost text = { None };
+}
+
+/// A reader of the bytes of a port. It fails where the port does, and once it has given more bytes than a text may have.
+#[derive(Drop)]
+pub struct Counted<'a, R: ByteIn, T: Origin> {
+    port: &'a mut R,
+    taken: usize,
+    is_at_end: bool,
+    of: PhantomData<T>,
+    ghost within: { is_within T.text (R.remaining port.now) taken ≡ true },
+}
+
+impl<'a, R: ByteIn, T: Origin> Counted<'a, R, T> {
+    /// None of the bytes of a port.
+    pub fn new(port: &'a mut R) -> Counted<'a, R, T>
+        requires { R.remaining port.now ≡ T.text }
+        ensures { left_of T.text (R.remaining result.port.now) result.taken result.is_at_end ≡ T.text }
+    {
+        Counted {
+            port,
+            taken: 0,
+            is_at_end: false,
+            of: PhantomData,
+        }
+    }
+
+    /// Why a text is not read to its end: it is too large, or else memory ran out. That the port failed goes before
+    /// both, and is asked of the port.
+    fn refusal(&self) -> LoadFault
+        ensures { (result ≡ LoadFault.NoMemory) ⊎ ((result ≡ LoadFault.TooLarge) × IsOver max_bytes T.text) }
+    {
+        if self.taken > MAX_BYTES {
+            LoadFault::TooLarge
+        } else {
+            LoadFault::NoMemory
+        }
+    }
+
+    /// Takes all bytes that are left, where they are not too many, and says whether it came to their end.
+    fn drain(&mut self) -> bool
+        ensures known { StaysKnown (left_of T.text (R.remaining self.old.port.now) self.old.taken self.old.is_at_end) (left_of T.text (R.remaining self.new.port.now) self.new.taken self.new.is_at_end) }
+        ensures end { result ≡ true → IsAtEnd (left_of T.text (R.remaining self.new.port.now) self.new.taken self.new.is_at_end) }
+    {
+        let mut chunk = [0u8; 8192];
+        for _ in 0..u64::MAX {
+            match self.read(&mut chunk) {
+                Ok(0) => return true,
+                Ok(_) => {}
+                Err(_) => return false,
+            }
+        }
+        false
+    }
+
+    /// What is answered of a text that was read so. All of its bytes are taken first, unless memory ran out.
+    pub fn settle(&mut self, read: Result<Rows, LoadFault>) -> Result<Rows, LoadFault>
+        requires { (read ≡ Err LoadFault.NoMemory) ⊎ StaysKnown T.text (left_of T.text (R.remaining self.old.port.now) self.old.taken self.old.is_at_end) }
+        ensures { Settles T.text read result }
+    {
+        if matches!(read, Err(LoadFault::NoMemory)) {
+            return Err(self.refusal());
+        }
+        if !self.drain() || self.taken > MAX_BYTES {
+            return Err(self.refusal());
+        }
+        read
+    }
+}
+
+impl<R: ByteIn, T: Origin> Read for Counted<'_, R, T> {
+    ghost remaining = { λ c. left_of T.text (R.remaining c.port.now) c.taken c.is_at_end };
+
+    fn read(&mut self, buf: &mut [u8]) -> io::Result<usize> {
+        if self.is_at_end {
+            return Ok(0);
+        }
+        if self.taken > MAX_BYTES {
+            return Err(io::Error::from(ErrorKind::FileTooLarge));
+        }
+        match self.port.read(buf) {
+            Ok(n) => {
+                self.taken += n;
+                self.is_at_end = n == 0 && !buf.is_empty();
+                Ok(n)
+            }
+            Err(_) => Err(io::Error::from(ErrorKind::Other)),
+        }
+    }
+}
