@@ -9,7 +9,6 @@ pub mod Number
 pub mod Loading
 pub mod Counting
 pub mod Records
-pub mod Unread
 pub mod Database
 pub mod Text
 pub mod Meaning

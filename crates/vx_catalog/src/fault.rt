@@ -2,7 +2,6 @@
 
 use std::alloc::{AllocError, AllocFailed};
 use thiserror::Error;
-use vx_rows::ReadFault;
 
 /// The first reason why a value is no catalog.
 #[derive(Debug, Drop, Error)]
@@ -112,21 +111,6 @@ impl<T: Drop> From<AllocFailed<T>> for LoadFault {
 
     fn from(_e: AllocFailed<T>) -> LoadFault {
         LoadFault::NoMemory
-    }
-}
-
-impl From<ReadFault> for LoadFault {
-    ghost use Rattle.std.specs.Prelude.{◌≡◌};
-    ghost use Rattle.vx_catalog.specs.Unread.{fault_of};
-
-    ghost from_gives = { λ e f. f ≡ fault_of e };
-
-    fn from(e: ReadFault) -> LoadFault {
-        match e {
-            ReadFault::Broken => LoadFault::ReadFailed,
-            ReadFault::NoMemory => LoadFault::NoMemory,
-            ReadFault::TooLarge => LoadFault::TooLarge,
-        }
     }
 }
 

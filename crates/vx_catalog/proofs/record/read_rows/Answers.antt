@@ -3,7 +3,6 @@ use Rattle.std.proofs.lemmas.Result.{err_from_is_err_and}
 use Rattle.csv.specs.Reading.{source_of}
 use Rattle.csv.specs.Records.{fields_of}
 use Rattle.vx_catalog.specs.Records.{rest_of}
-use Rattle.vx_catalog.specs.Loading.{row_added}
 use Rattle.vx_catalog.proofs.RecordFacts.{still_known}
 use Rattle.vx_catalog.proofs.RowFacts.{rows_told_more, rows_told_stop, rows_told_done, row_added_few, fails_own}
 use Rattle.vx_catalog.proofs.record.read_rows.Goals as goal
