@@ -25,10 +25,17 @@ fn empty_tables(alloc: Global, catalog: &Catalog) -> Result<Vec<Rows>, AllocErro
 }
 
 /// Rows for each relation of a catalog, 100,000,000 at most for each, which meet all that it declares.
-#[derive(Debug, Drop)]
+#[derive(Debug)]
 pub struct Database {
     catalog: Catalog,
     tables: Vec<Rows>,
+}
+
+// By hand, so that the drops of its parts are made and proved here once, and not again in each crate that drops one.
+impl Drop for Database {
+    fn drop(self) {
+        let Database { catalog: _, tables: _ } = self;
+    }
 }
 
 impl Model for Database {

@@ -14,7 +14,7 @@ use vx_document::NamedRange;
 
 /// A plan with its catalog. Every node names what there is, has the types that it needs, and is numbered in preorder
 /// from 0. There are at most 1,000 nodes.
-#[derive(Debug, Drop)]
+#[derive(Debug)]
 pub struct TypedPlan {
     catalog: Catalog,
     sizes: Vec<String>,
@@ -26,6 +26,13 @@ pub struct TypedPlan {
     ghost typed_nodes: { typed (scope_of (record { catalog = catalog; ranges = map range_form ranges.items; sizes = map string_bytes sizes.items })) (plan_of root) ≡ true },
     ghost numbered: { is_numbered 0 (plan_of root) ≡ true },
     ghost few_nodes: { nodes (plan_of root) ≤ 1000 },
+}
+
+// By hand, so that the drops of its parts are made and proved here once, and not again in each crate that drops one.
+impl Drop for TypedPlan {
+    fn drop(self) {
+        let TypedPlan { catalog: _, sizes: _, ranges: _, total: _, root: _ } = self;
+    }
 }
 
 impl TypedPlan {

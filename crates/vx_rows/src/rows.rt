@@ -36,11 +36,18 @@ fn put_key(alloc: Global, key: &mut Vec<Value>, j: usize, cell: Cell<'_>) -> Res
 /// Rows that fit one list of types, kept by columns.
 ///
 /// A column may hold more values than there are rows, after a growth that was refused.
-#[derive(Debug, Drop)]
+#[derive(Debug)]
 pub struct Rows {
     types: Vec<ColType>,
     columns: Vec<Column>,
     count: usize,
+}
+
+// By hand, so that the drops of its parts are made and proved here once, and not again in each crate that drops one.
+impl Drop for Rows {
+    fn drop(self) {
+        let Rows { types: _, columns: _, count: _ } = self;
+    }
 }
 
 impl Model for Rows {
