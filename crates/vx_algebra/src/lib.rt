@@ -27,9 +27,3 @@ pub use sorting::sorted;
 pub use sum::{SumIsFull, WideSum};
 pub use union::united;
 
-#[cfg(test)]
-mod grouping_tests;
-#[cfg(test)]
-mod merging_tests;
-#[cfg(test)]
-mod tests;

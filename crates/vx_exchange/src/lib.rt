@@ -7,8 +7,6 @@ mod lane;
 pub mod laws;
 mod receiver;
 mod sends;
-#[cfg(test)]
-mod tests;
 
 pub use gather::Gather;
 pub use kept::Kept;

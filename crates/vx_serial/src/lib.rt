@@ -5,8 +5,6 @@ mod evaluation;
 mod exchanges;
 mod fault;
 mod operators;
-#[cfg(test)]
-mod tests;
 
 pub use evaluation::eval;
 pub use fault::EvalFault;

@@ -6,5 +6,3 @@ mod command_line;
 
 pub use asked::{Asked, Limits, Sources, asked_for};
 
-#[cfg(test)]
-mod tests;

@@ -17,5 +17,3 @@ pub use wires::{Morsels, Wires};
 pub use wish::Wish;
 pub use worker::{Outcome, Stepped, Worker};
 
-#[cfg(test)]
-mod tests;

@@ -2,8 +2,8 @@
 
 ghost use Rattle.vx_rows.specs.View.{AreColumns};
 
-use crate::tests::{shown, table};
-use crate::{Merge, MergeFault, merge_join};
+use crate::kernels::{shown, table};
+use vx_algebra::{Merge, MergeFault, merge_join};
 use std::alloc::{AllocError, Global};
 use std::test::Fail;
 use vx_rows::{ColType, Rows};

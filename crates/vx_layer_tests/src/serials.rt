@@ -1,6 +1,6 @@
 //! What no clause says: small plans have their rows, and refusals their lines.
 
-use crate::evaluation::eval;
+use vx_serial::eval;
 use std::alloc::Global;
 use std::test::Fail;
 use vx_catalog::{Catalog, Database, Loader};

@@ -1,6 +1,6 @@
 //! What no clause says: that the commands are there, and the kinds of what is refused.
 
-use crate::{Asked, asked_for};
+use vx_words::{Asked, asked_for};
 use std::alloc::Global;
 use std::test::Fail;
 

@@ -4,7 +4,7 @@ ghost use Rattle.vx_ops.specs.Scan.{scan_types};
 ghost use Rattle.vx_exchange.specs.Kept.{kept_post, kept_is_open, kept_has_closed};
 ghost use Rattle.vx_worker.specs.Worker.{IsReady};
 
-use crate::{Morsels, Outcome, Stepped, Tree, Wires, Worker};
+use vx_worker::{Morsels, Outcome, Stepped, Tree, Wires, Worker};
 use std::alloc::{AllocError, Global};
 use std::test::Fail;
 use vx_exchange::Kept;

@@ -1,6 +1,6 @@
 use Rattle.std.proofs.Common.{◌≡◌, [], ◌∷◌}
 use Rattle.vx_rows.specs.declared.value.ColType.TheVariants.{Int}
-use Rattle.vx_exchange.proofs.tests.numbers.Given as goal
+use Rattle.vx_layer_tests.proofs.exchanges.numbers.Given as goal
 
 abbrev pub invariant-loop-i : goal.invariant-loop-i
 invariant-loop-i l = l.rows.types ≡ Int ∷ []

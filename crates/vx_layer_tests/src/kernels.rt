@@ -3,7 +3,7 @@
 ghost use Rattle.std.specs.Prelude.{◌≡◌, [], ◌∷◌, IfOk};
 ghost use Rattle.vx_rows.specs.declared.value.ColType.TheVariants as kind;
 
-use crate::{distinct, hash_join, projected, sorted, united};
+use vx_algebra::{distinct, hash_join, projected, sorted, united};
 use std::alloc::{AllocError, Global};
 use std::test::Fail;
 use vx_rows::{Cell, ColType, Rows, Value};

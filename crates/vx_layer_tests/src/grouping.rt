@@ -1,7 +1,7 @@
 //! Groups of small tables, worked by hand.
 
-use crate::tests::{shown, table};
-use crate::{GroupFault, grouped};
+use crate::kernels::{shown, table};
+use vx_algebra::{GroupFault, grouped};
 use std::test::Fail;
 use vx_plan::Aggregate;
 

@@ -2,7 +2,7 @@ ghost use Rattle.std.specs.Prelude.{◌≡◌, ◌<◌, [], ◌∷◌, length, I
 ghost use Rattle.vx_rows.specs.declared.value.ColType.{ColType as Kind};
 ghost use Rattle.vx_exchange.specs.Gather.{gather_is_open};
 
-use crate::{Gather, Kept, Receiver, Sends};
+use vx_exchange::{Gather, Kept, Receiver, Sends};
 use std::alloc::{AllocError, Global};
 use std::process::Abort;
 use std::test::Fail;
