@@ -15,7 +15,8 @@ use vx_rows::{ByteIn, Rows};
 /// The most bytes that a text may have.
 const MAX_BYTES: usize = 1 << 40;
 
-/// Names all bytes that a port had when its counting began.
+/// Names all bytes that a port had when its counting began. A type names them, since whoever reads through a `Counted`
+/// tells nothing of it but the bytes that are left.
 pub trait Origin {
     // These bytes, where the type of the port tells them.
     ghost text: { Option (List ℕ) };
