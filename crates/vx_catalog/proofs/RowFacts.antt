@@ -2,17 +2,17 @@
 use Rattle.std.proofs.Common.{◌≡◌, ℕ, ◌+◌, ◌<◌, List, [], ◌∷◌, ◌++◌, Bool, true, false, cond, Result, Ok, Err, refl, sym, ◌∙◌, map, length, nat_lt, ◌==◌, Option, Some, None}
 use Rattle.std.specs.Prelude.{IsUtf8, ℤ, IfSome, ◌≢◌}
 use Rattle.std.proofs.lemmas.Bool.Decides.{Decides-ltb}
-use Rattle.std.proofs.lemmas.List.{map-append, length-append}
+use Rattle.std.proofs.lemmas.List.{length-append}
 use Rattle.csv.specs.Records.{field_at}
 use Rattle.vx_rows.specs.Types.{type_of}
 use Rattle.vx_catalog.specs.Number.{number_of}
-use Rattle.vx_catalog.proofs.Accepted.{walk_keeps, ok_bind}
+use Rattle.vx_catalog.proofs.Accepted.{ok_bind}
 use Rattle.std.specs.Str.{is_utf8}
 use Rattle.std.proofs.lemmas.Str.{is_utf8-from_IsUtf8, IsUtf8-from_is_utf8}
 use Rattle.vx_rows.specs.Values.{Row, Val, num, text}
 use Rattle.vx_rows.specs.declared.value.ColType.{ColType}
 use Rattle.vx_rows.specs.declared.value.ColType.TheVariants as kind
-use Rattle.vx_catalog.specs.Walk.{◌>>=◌, walk_onto}
+use Rattle.vx_catalog.specs.Walk.{◌>>=◌}
 use Rattle.vx_catalog.specs.declared.fault.LoadFault.{LoadFault}
 use Rattle.vx_catalog.specs.declared.fault.LoadFault.TheVariants as fault
 use Rattle.vx_catalog.specs.Records.{Begins}
@@ -43,7 +43,7 @@ fails_along (fault.KeyBroken key first second) part whole along h = along _ h
 fails_along (fault.OrderBroken row) part whole along h = along _ h
 fails_along fault.TooLarge part whole along h = along _ h
 
--- ---- the types of a row
+-- ---- the values of a row
 
 value_type : (row col : ℕ) (type : ColType) (field : List ℕ) (v : Val) → value_of row col type field ≡ Ok v → type_of v ≡ type
 unfolding value_of
@@ -58,24 +58,15 @@ value_type row col kind.Text field v h = by_test (is_utf8 field) h
     by_test true e = let k : text field ≡ v = cc in rw (← k) refl
     by_test false e = cc
 
-next_type : (row : ℕ) (fields : List (List ℕ)) (front : List Val) (type : ColType) (v : Val) → next_value row fields front type ≡ Ok v → type_of v ≡ type
+-- a value has the type of its column
+pub type_kept : (row col : ℕ) (type : ColType) (field : Option (List ℕ)) (v : Val) → some_value row col type field ≡ Ok v → type_of v ≡ type
+type_kept row col type None v e = cc
+type_kept row col type (Some field) v e = value_type row col type field v e
+
+-- the next value is that of the column behind the front
+pub next_is : (row col : ℕ) (fields : List (List ℕ)) (front : List Val) (type : ColType) → length front ≡ col → next_value row fields front type ≡ some_value row col type (field_at fields col)
 unfolding next_value
-next_type row fields front type v h = by_field (field_at fields (length front)) h
-  where
-    by_field : (o : Option (List ℕ)) → some_value row (length front) type o ≡ Ok v → type_of v ≡ type
-    by_field None e = cc
-    by_field (Some field) e = value_type row (length front) type field v e
-
-row_types_if : (b : Bool) (row : ℕ) (types : List ColType) (fields : List (List ℕ)) (r : Row) → cond b (walk_onto (next_value row fields) [] types) (Err (fault.BadWidth row)) ≡ Ok r → map type_of r ≡ types
-row_types_if true row types fields r h =
-    walk_keeps (next_value row fields) (λ (done : List ColType) (front : List Val). map type_of front ≡ done)
-    (λ (done : List ColType) (front : List Val) (x : ColType) (y : Val) (p : map type_of front ≡ done) e. map-append type_of front (y ∷ []) ∙ rw (p, next_type row fields front x y e) refl)
-    types [] [] r refl h
-row_types_if false row types fields r h = cc
-
-pub row_types : (row : ℕ) (types : List ColType) (fields : List (List ℕ)) (r : Row) → row_of row types fields ≡ Ok r → map type_of r ≡ types
-unfolding row_of
-row_types row types fields r h = row_types_if (length fields == length types) row types fields r h
+next_is row col fields front type e = rw e refl
 
 -- ---- the rows
 

@@ -3,12 +3,12 @@
 ghost use Rattle.std.specs.Prelude.{◌≡◌, ◌≢◌, ◌⊎◌, ◌≤◌, [], map, length, IfOk, OnOk, IfErr, IfSome, IsOkUnless, Err, string_bytes};
 ghost use Rattle.std.specs.Option.{option_copied};
 ghost use Rattle.csv.specs.Reading.{source_of, strip_bom};
-ghost use Rattle.csv.specs.Records.{fields_of};
+ghost use Rattle.csv.specs.Records.{fields_of, field_at};
 ghost use Rattle.vx_rows.specs.View.{cell_val};
 ghost use Rattle.vx_catalog.specs.Walk.{walk_onto};
 ghost use Rattle.vx_catalog.specs.Counting.{StaysKnown};
 ghost use Rattle.vx_catalog.specs.Records.{IsPlain, rest_of, Takes};
-ghost use Rattle.vx_catalog.specs.Loading.{Gives, value_of, next_value, row_of, row_added, rows_onto, max_rows, same_name, names_from, is_header};
+ghost use Rattle.vx_catalog.specs.Loading.{Gives, value_of, some_value, next_value, row_of, row_added, rows_onto, max_rows, same_name, names_from, is_header};
 
 use crate::fault::LoadFault;
 use crate::number::number_of;
@@ -16,7 +16,7 @@ use csv::{ByteRecord, Reader};
 use std::alloc::Global;
 use std::io::Read;
 use std::str;
-use vx_rows::{Cell, ColType, Rows};
+use vx_rows::{Cell, ColType, OpenRows, Rows};
 
 /// The most rows that a relation may have.
 const MAX_ROWS: usize = 100_000_000;
@@ -44,67 +44,65 @@ fn value_of<'r>(
 }
 
 /// The value of a row in a column.
-#[tactic(auto, unfolding(crate::specs::Loading::next_value))]
-fn next_value<'r>(
+fn value_in<'r>(
     row: usize,
     line: &'r ByteRecord,
-    front: &[Cell<'r>],
+    col: usize,
     kind: ColType,
 ) -> Result<Cell<'r>, LoadFault>
-    ensures { Gives cell_val result (next_value row (fields_of line.now) (map cell_val front.now) kind) }
+    ensures { Gives cell_val result (some_value row col kind (field_at (fields_of line.now) col)) }
 {
-    let col = front.len();
     match line.get(col) {
         Some(field) => value_of(row, col, kind, field),
         None => Err(LoadFault::BadWidth { row }),
     }
 }
 
-/// The values of a record, column by column.
-fn values_of<'r>(
-    alloc: Global,
-    row: usize,
-    types: &[ColType],
-    line: &'r ByteRecord,
-) -> Result<Vec<Cell<'r>>, LoadFault>
-    ensures { Gives (λ v. map cell_val v.items) result (walk_onto (next_value row (fields_of line.now)) [] types.now) }
+/// Makes the values of a record the front, column by column.
+fn push_values(row: usize, rows: &mut OpenRows, line: &ByteRecord) -> Result<(), LoadFault>
+    requires { rows.old.front ≡ [] }
+    ensures types { rows.new.types ≡ rows.old.types }
+    ensures rows { OnOk result (rows.new.rows ≡ rows.old.rows) }
+    ensures front { Gives (λ _. rows.new.front) result (walk_onto (next_value row (fields_of line.now)) [] rows.old.types) }
+    ensures whole { OnOk result (length rows.new.front ≡ length rows.old.types) }
 {
-    let mut values = Vec::with_capacity(alloc, types.len())?;
-    for kind in types {
-        let value = next_value(row, line, values.as_slice(), *kind)?;
-        values.push(value)?;
+    for col in 0..rows.types().len() {
+        let kind = rows.types()[col];
+        let value = value_in(row, line, col, kind)?;
+        rows.push_cell(value)?;
     }
-    Ok(values)
+    Ok(())
 }
 
-/// The values of the row with this number.
+/// Makes the row with this number the front.
 #[tactic(auto, unfolding(crate::specs::Loading::row_of))]
-fn row_of<'r>(
-    alloc: Global,
-    row: usize,
-    types: &[ColType],
-    line: &'r ByteRecord,
-) -> Result<Vec<Cell<'r>>, LoadFault>
-    ensures { Gives (λ v. map cell_val v.items) result (row_of row types.now (fields_of line.now)) }
+fn push_row(row: usize, rows: &mut OpenRows, line: &ByteRecord) -> Result<(), LoadFault>
+    requires { rows.old.front ≡ [] }
+    ensures types { rows.new.types ≡ rows.old.types }
+    ensures rows { OnOk result (rows.new.rows ≡ rows.old.rows) }
+    ensures front { Gives (λ _. rows.new.front) result (row_of row rows.old.types (fields_of line.now)) }
+    ensures whole { OnOk result (length rows.new.front ≡ length rows.old.types) }
 {
-    if line.len() != types.len() {
+    if line.len() != rows.types().len() {
         return Err(LoadFault::BadWidth { row });
     }
-    values_of(alloc, row, types, line)
+    push_values(row, rows, line)
 }
 
 /// Adds the row of a record. Its number is that of the rows so far.
 #[tactic(auto, unfolding(crate::specs::Loading::row_added))]
-fn push_record(alloc: Global, rows: &mut Rows, line: &ByteRecord) -> Result<(), LoadFault>
+fn push_record(rows: &mut OpenRows, line: &ByteRecord) -> Result<(), LoadFault>
+    requires { rows.old.front ≡ [] }
     ensures types { rows.new.types ≡ rows.old.types }
+    ensures front { OnOk result (rows.new.front ≡ []) }
     ensures rows { Gives (λ _. rows.new.rows) result (row_added rows.old.types rows.old.rows (fields_of line.now)) }
 {
     let row = rows.len();
     if row >= MAX_ROWS {
         return Err(LoadFault::TooLarge);
     }
-    let values = row_of(alloc, row, rows.types(), line)?;
-    rows.push_cells(values.as_slice())?;
+    push_row(row, rows, line)?;
+    rows.end_row()?;
     Ok(())
 }
 
@@ -137,13 +135,13 @@ pub fn read_rows<S: Read>(
     ensures known { (result ≡ Err LoadFault.NoMemory) ⊎ StaysKnown (source_of S.remaining reader.old) (source_of S.remaining reader.new) }
     ensures own { IfErr result (λ e. e ≢ LoadFault.ReadFailed) }
 {
-    let mut rows = Rows::new(alloc, types)?;
+    let mut rows = OpenRows::new(alloc, types)?;
     let mut line = ByteRecord::new(alloc);
     for _ in 0..MAX_ROWS + 1 {
         if !next_record(reader, &mut line)? {
-            return Ok(rows);
+            return Ok(rows.into_rows());
         }
-        push_record(alloc, &mut rows, &line)?;
+        push_record(&mut rows, &line)?;
     }
     unreachable!()
 }

@@ -10,7 +10,7 @@ use Rattle.vx_catalog.proofs.record.read_rows.Goals as goal
 pub returns-then-not-branch-clause-rows : goal.returns-then-not-branch-clause-rows
 returns-then-not-branch-clause-rows g c =
     let none = rw c.if-not-branch.true at c.in_ok-next_record.ensures.taken in
-    rows_told_done c.args.types.now c.loop.rows.rows (rest_of g.S.Read.remaining c.args.reader.now) (rest_of g.S.Read.remaining c.loop.reader) c.loop.invariant.so_far none
+    rw c.into_rows.ensures.rows (rows_told_done c.args.types.now c.loop.rows.rows (rest_of g.S.Read.remaining c.args.reader.now) (rest_of g.S.Read.remaining c.loop.reader) c.loop.invariant.so_far none)
 
 pub returns-then-not-branch-clause-known : goal.returns-then-not-branch-clause-known
 returns-then-not-branch-clause-known g c =
@@ -47,6 +47,7 @@ loop-preserved g c =
       so_far = rows_told_more c.args.types.now c.loop.rows.rows c.push_record.new.rows.rows (fields_of c.next_record.new.line) (rest_of rem c.args.reader.now) (rest_of rem c.loop.reader) (rest_of rem c.next_record.new.reader) c.loop.invariant.so_far taken.1 added;
       known = still_known (source_of rem c.args.reader.now) (source_of rem c.loop.reader) (source_of rem c.next_record.new.reader) c.loop.invariant.known c.in_ok-next_record.ensures.known;
       types = c.in_ok-push_record.ensures.types ∙ c.loop.invariant.types;
+      front = c.in_ok-push_record.ensures.front;
       count = omega (arith, few.1, count);
       few = omega (arith, few.0, few.1);
     }

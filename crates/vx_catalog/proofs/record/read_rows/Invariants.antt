@@ -12,6 +12,7 @@ invariant-loop g l = record {
   so_far : RowsSoFar l.types l.rows.rows (rest_of g.S.Read.remaining l.initial.reader) (rest_of g.S.Read.remaining l.reader);
   known : StaysKnown (source_of g.S.Read.remaining l.initial.reader) (source_of g.S.Read.remaining l.reader);
   types : l.rows.types ≡ l.types;
+  front : l.rows.front ≡ [];
   count : l.counter ≡ length l.rows.rows;
   few : length l.rows.rows ≤ max_rows;
 }
