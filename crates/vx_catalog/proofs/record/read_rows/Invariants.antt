@@ -1,4 +1,4 @@
-use Rattle.std.proofs.Common.{◌≡◌, ◌≤◌, length}
+use Rattle.std.proofs.Common.{◌≡◌, ◌≤◌, [], length}
 use Rattle.csv.specs.Reading.{source_of}
 use Rattle.vx_catalog.specs.Counting.{StaysKnown}
 use Rattle.vx_catalog.specs.Records.{IsPlain, rest_of}
