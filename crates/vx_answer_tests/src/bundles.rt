@@ -32,7 +32,7 @@ impl Store for NoFiles {
 }
 
 /// The status for an input that fails after so many bytes, behind what went to the output and to the errors.
-fn line_for<R: Threads + Wait + Sync + AllocGlobal>(
+pub fn line_for<R: Threads + Wait + Sync + AllocGlobal>(
     rt: &R,
     words: &[&str],
     bytes: &[u8],

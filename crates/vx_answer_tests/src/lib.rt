@@ -6,4 +6,6 @@
 #[cfg(test)]
 mod bundles;
 #[cfg(test)]
+mod serials;
+#[cfg(test)]
 mod words;
