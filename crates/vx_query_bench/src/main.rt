@@ -15,7 +15,7 @@ mod wisconsin;
 
 use crate::digest::{Digest, table_of};
 use crate::plain::Table;
-use crate::queries::{QUERIES, Query};
+use crate::queries::{QUERIES, Query, SCAN};
 use crate::wisconsin::{CATALOG, MAX_ROWS, relation};
 use anyhow::{Error, bail};
 use std::alloc::Global;
@@ -24,7 +24,7 @@ use std::rt::{Clock, Env};
 use std::time::Instant;
 use vx_catalog::{Catalog, Database, Loader};
 use vx_plan::{Plan, resolve};
-use vx_rows::MemoryIn;
+use vx_rows::{MemoryIn, Rows};
 use vx_serial::eval;
 
 const FEW: u64 = 10_000;
@@ -75,6 +75,20 @@ fn load(
     Ok(table)
 }
 
+/// The rows of a plan, and how long its evaluation took in nanoseconds.
+fn evaluated<R: Clock>(
+    rt: &R,
+    alloc: Global,
+    database: &Database,
+    text: &str,
+) -> Result<(Rows, u64), Error> {
+    let plan = Plan::read(alloc, text.as_bytes())?;
+    let typed = resolve(alloc, &plan, database.catalog())?;
+    let start = Instant::now(rt)?;
+    let rows = eval(alloc, &typed, database)?;
+    Ok((rows, nanos_since(rt, start)?))
+}
+
 impl Bench {
     /// The last number of the selection.
     fn last(self) -> i64 {
@@ -116,11 +130,7 @@ impl Bench {
         query: Query,
     ) -> Result<(), Error> {
         let text = query.plan(alloc, self.last())?;
-        let plan = Plan::read(alloc, text.as_bytes())?;
-        let typed = resolve(alloc, &plan, relations.database.catalog())?;
-        let start = Instant::now(rt)?;
-        let rows = eval(alloc, &typed, &relations.database)?;
-        let serial = nanos_since(rt, start)?;
+        let (rows, serial) = evaluated(rt, alloc, &relations.database, text.as_str())?;
         let start = Instant::now(rt)?;
         let table = query.by_hand(alloc, &relations.tenk1, &relations.bprime, self.last())?;
         let by_hand = nanos_since(rt, start)?;
@@ -141,6 +151,22 @@ impl Bench {
         Ok(())
     }
 
+    /// Shows the time to evaluate a scan of tenk1 alone, which each query has as a part.
+    fn show_scan<R: Print + Clock>(
+        self,
+        rt: &R,
+        alloc: Global,
+        database: &Database,
+    ) -> Result<(), Error> {
+        if !self.with_times {
+            return Ok(());
+        }
+        let (rows, nanos) = evaluated(rt, alloc, database, SCAN)?;
+        let each = nanos / self.rows.max(1);
+        println!(rt; "part: a scan, {} rows: {each} ns a row", rows.len())?;
+        Ok(())
+    }
+
     /// Runs the queries that are asked for.
     fn run_all<R: Print + Clock>(
         self,
@@ -148,6 +174,7 @@ impl Bench {
         alloc: Global,
         relations: &Relations,
     ) -> Result<(), Error> {
+        self.show_scan(rt, alloc, &relations.database)?;
         for query in QUERIES {
             if self.only.is_none() || self.only == Some(query.number()) {
                 self.run(rt, alloc, relations, query)?;

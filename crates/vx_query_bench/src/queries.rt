@@ -5,6 +5,9 @@ use std::alloc::{AllocError, Global};
 
 const TENK1: &str = r#"{"op":"scan","relation":"tenk1","mode":"whole","size":"one"}"#;
 
+/// The plan of a scan alone.
+pub const SCAN: &str = r#"{"root":{"op":"scan","relation":"tenk1","mode":"whole","size":"one"}}"#;
+
 const BOTH: &str =
     r#""on":[["a.unique2","b.unique2"]],"left":{"op":"scan","relation":"tenk1","mode":"whole","size":"one","prefix":"a."},"right":{"op":"scan","relation":"bprime","mode":"whole","size":"one","prefix":"b."}"#;
 
