@@ -1,5 +1,5 @@
 -- What the setup and the run of a job come to.
-use Rattle.std.proofs.Common.{Vec, Global, Bool, ◌≡◌, ◌≢◌, ℕ, ◌<◌, ◌≤◌, true, List, [], ◌∷◌, length, map, Ok, Err, Result, IfOk, IfErr, get_or, refl, sym, ap, ◌∙◌, subst, arith, zero, suc, inl, inr}
+use Rattle.std.proofs.Common.{Vec, Global, Bool, ◌≡◌, ◌≢◌, ◌⊎◌, ℕ, ◌<◌, ◌≤◌, true, List, [], ◌∷◌, length, map, Ok, Err, Result, IfOk, IfErr, get_or, refl, sym, ap, ◌∙◌, subst, arith, zero, suc, inl, inr}
 use Rattle.std.proofs.lemmas.Bool.{cases_lt}
 use Rattle.std.specs.List.{All, slice_index_or}
 use Rattle.std.specs.Result.{IsErrAnd}
@@ -12,6 +12,7 @@ use Rattle.vx_plan.specs.Outline.{plan_in}
 use Rattle.vx_plan.specs.Plan.{Plan}
 use Rattle.vx_plan.specs.Resolve.{Resolved}
 use Rattle.vx_plan.specs.TypedView.{scope, plan, resolved_of}
+use Rattle.vx_plan.specs.declared.typed_plan.TypedPlan.{TypedPlan}
 use Rattle.vx_plan.specs.Types.{types_of}
 use Rattle.vx_check.specs.Checked.{relations, is_allowed, is_root_allowed}
 use Rattle.vx_ops.specs.declared.fault.Code.TheVariants.{Overflow, NoMemory, Unsorted, Stranger}
@@ -31,6 +32,7 @@ use Rattle.vx_laws.proofs.Layouts.{numbered-is-fit}
 use Rattle.vx_laws.proofs.TypedPlans.{typed-is-well-formed}
 use Rattle.vx_steps.specs.Crews.{Duty, duty_of, root_duty, duties_below}
 use Rattle.vx_steps.specs.Board.{Board}
+use Rattle.vx_steps.specs.Endings.{TellsFirst}
 use Rattle.vx_steps.specs.Ready.{Ready}
 use Rattle.vx_steps.specs.Headline.{IsAccepted, IsTrueFault, Answers}
 use Rattle.vx_steps.specs.declared.verdict.Verdict.{Verdict}
@@ -38,10 +40,11 @@ use Rattle.vx_steps.specs.declared.verdict.Verdict.TheVariants as verdict
 use Rattle.vx_steps.proofs.Build.{crew-count}
 use Rattle.vx_steps.proofs.RunSteps.{map-length}
 use Rattle.vx_exec.specs.Sizes.{crew_size, Sizes, IsWithin, group_at, setting}
-use Rattle.vx_exec.specs.Setup.{SetupForm, sizes_set, Gives}
+use Rattle.vx_exec.specs.Setup.{SetupForm, SetupRefusal, refusal_of, sizes_set, Gives}
 use Rattle.vx_exec.specs.Job.{sizes_of, setting_of}
-use Rattle.vx_exec.specs.Runs.{IfDone, ComesTo, IsRunOf, fault_told, IsTrueOf, IsSetUp, RunFails, for_setup}
+use Rattle.vx_exec.specs.Runs.{IfDone, ComesTo, IsRunOf, fault_told, IsTrueOf, IsFirstTold, IsSetUp, RunFails, for_setup}
 use Rattle.vx_exec.specs.declared.fault.RunFault.{RunFault}
+use Rattle.vx_exec.specs.declared.fault.RunFault.TheVariants as fault
 use Rattle.vx_exec.specs.declared.crew.Crew.{Crew}
 use Rattle.vx_exec.specs.declared.job.Job.{Job}
 use Rattle.vx_exec.specs.declared.ran.Ran.{Ran}
@@ -58,6 +61,28 @@ pub fails-set-up : (p : Resolved) (db : Database) (setup : SetupForm) (r : Resul
     → Gives sizes_of r (sizes_set setup p.names.sizes (plan_in p.root)) → IfErr r (RunFails p db setup)
 fails-set-up p db setup (Ok j) same e = tt
 fails-set-up p db setup (Err e) same h = for_setup same h
+
+ok-err : (s : Sizes) (r : SetupRefusal) → ◌≡◌ {A = Result Sizes SetupRefusal} (Ok s) (Err r) → ⊥
+ok-err s r e = cc
+
+ok-is : (s t : Sizes) → ◌≡◌ {A = Result Sizes SetupRefusal} (Ok s) (Ok t) → s ≡ t
+ok-is s t e = cc
+
+-- where the setup comes to sizes, only memory is refused
+pub only-memory : (p : Resolved) (db : Database) (setup : SetupForm) (r : Result Job RunFault) (s : Sizes) → IsSetUp p db setup s
+    → Gives sizes_of r (sizes_set setup p.names.sizes (plan_in p.root)) → IfErr r (λ e. e ≡ fault.NoMemory)
+only-memory p db setup (Ok j) s set h = tt
+only-memory p db setup (Err e) s set h = elim h [
+  | inl memory ↦ memory
+  | inr refused ↦ absurd (ok-err s (refusal_of e) (sym set.sizes ∙ refused))
+]
+
+-- what holds of a job holds of the plan, the database and the sizes that it was made of
+pub of-job : (P : TypedPlan → Database → Sizes → Type 0) (j : Job) (p : TypedPlan) (db : Database) (setup : SetupForm) (s : Sizes) → j.plan.now ≡ p → j.database.now ≡ db
+    → IsSetUp (resolved_of p) db setup (sizes_of j) → IsSetUp (resolved_of p) db setup s → P j.plan.now j.database.now (sizes_of j) → P p db s
+of-job P j p db setup s same_plan same_database mine set h =
+    subst (λ z. P p db z) (ok-is (sizes_of j) s (sym mine.sizes ∙ set.sizes))
+    (subst (λ y. P p y (sizes_of j)) same_database (subst (λ x. P x j.database.now (sizes_of j)) same_plan h))
 
 some-group : (groups : List ℕ) → All (IsWithin 1 64) groups → (k : ℕ) → 0 < group_at groups k
 some-group groups h k = elim (cases_lt k (length groups)) [
@@ -175,6 +200,14 @@ comes-failed j hash ws (verdict.Failed f) (Err e) answers h =
 comes-failed j hash ws verdict.Done (Err e) answers h = absurd h
 comes-failed j hash ws verdict.Unfinished (Err e) answers h = absurd h
 comes-failed j hash ws v (Ok x) answers h = tt
+
+-- the fault that workers come to is told of the lowest-numbered one that failed by itself
+pub comes-first : (W : Setting) (p : Plan) (ws : List (Worker Operator Destination)) (v : Verdict) (r : Result Ran RunFault)
+    → TellsFirst W p v → ComesTo ws v r → IfErr r (IsFirstTold W p)
+comes-first W p ws (verdict.Failed f) (Err e) first h = inr (f, h, first)
+comes-first W p ws verdict.Done (Err e) first h = absurd h
+comes-first W p ws verdict.Unfinished (Err e) first h = absurd h
+comes-first W p ws v (Ok x) first h = tt
 
 -- a crew has as many workers as its plan asks for
 pub parts-count : (j : Job) (hash : List ℕ → Row → ℕ → ℕ) (ws : List (Worker Operator Destination)) (w : Board)

@@ -1,5 +1,5 @@
 -- What a run of a plan over a database comes to.
-use Rattle.std.specs.Prelude.{ℕ, ◌≡◌, ◌≢◌, List, Result, Ok, Err}
+use Rattle.std.specs.Prelude.{ℕ, ◌≡◌, ◌≢◌, ◌⊎◌, List, Result, Ok, Err}
 use Rattle.std.specs.List.{slice_index_or}
 use Rattle.vx_rows.specs.Values.{Row}
 use Rattle.vx_rows.specs.View.{Table}
@@ -7,6 +7,7 @@ use Rattle.vx_catalog.specs.Catalog.{relation_at}
 use Rattle.vx_catalog.specs.Database.{Database, rows_at}
 use Rattle.vx_plan.specs.Lookup.{scope_of}
 use Rattle.vx_plan.specs.Outline.{plan_in}
+use Rattle.vx_plan.specs.Plan.{Plan}
 use Rattle.vx_plan.specs.Resolve.{Resolved}
 use Rattle.vx_plan.specs.Routes.{sends_by}
 use Rattle.vx_plan.specs.Runs.{Runs}
@@ -19,10 +20,12 @@ use Rattle.vx_ops.specs.declared.fault.Fault.{Fault}
 use Rattle.vx_ops.specs.declared.fault.Fault.TheVariants.{Own, Passed}
 use Rattle.vx_exchange.specs.Tasks.{keep, keeps}
 use Rattle.vx_worker.specs.Destination.{task_of, post_of}
+use Rattle.vx_worker.specs.Fragment.{Setting}
 use Rattle.vx_worker.specs.Worker.{sender_of}
 use Rattle.vx_worker.specs.declared.operator.Operator.{Operator}
 use Rattle.vx_worker.specs.declared.destination.Destination.{Destination}
 use Rattle.vx_worker.specs.declared.worker.Worker.{Worker}
+use Rattle.vx_steps.specs.Endings.{FailsFirst}
 use Rattle.vx_steps.specs.Schedules.{IsBadStep}
 use Rattle.vx_steps.specs.declared.verdict.Verdict.{Verdict}
 use Rattle.vx_steps.specs.declared.verdict.Verdict.TheVariants as verdict
@@ -58,6 +61,10 @@ fault_told (Own NoMemory node) = fault.NoMemory
 fault_told (Own Unsorted node) = fault.Unsorted node
 fault_told (Own Stranger node) = fault.Stranger node
 fault_told Passed = fault.NoMemory
+
+-- whose fault a run tells: want of memory, or that of the lowest-numbered worker that failed by itself, where all workers of the run ended
+abbrev pub IsFirstTold : Setting → Plan → RunFault → Type 0
+IsFirstTold W p e = (e ≡ fault.NoMemory) ⊎ ((f : Fault) × (e ≡ fault_told f) × FailsFirst W p f)
 
 -- what workers with such a verdict are told as: the rows that the first of them kept, or the fault
 abbrev pub ComesTo : List (Worker Operator Destination) → Verdict → Result Ran RunFault → Type 0

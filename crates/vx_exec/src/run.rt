@@ -13,8 +13,9 @@ ghost use Rattle.vx_worker.specs.Worker.{sender_of};
 ghost use Rattle.vx_worker.specs.declared.worker.Worker.{Worker as AWorker};
 ghost use Rattle.vx_worker.specs.declared.operator.Operator.{Operator as AnOperator};
 ghost use Rattle.vx_worker.specs.declared.destination.Destination.{Destination as ADestination};
-ghost use Rattle.vx_exec.specs.Sizes.{can_run, crew_size, Sizes};
-ghost use Rattle.vx_exec.specs.Runs.{fault_told, ComesTo, IsRunOf, IfDone, IsTrueOf, IsSetUp, RunFails, IsBadStepOf, ScheduleFails};
+ghost use Rattle.vx_exec.specs.Sizes.{can_run, crew_size, setting, Sizes};
+ghost use Rattle.vx_exec.specs.Job.{setting_of};
+ghost use Rattle.vx_exec.specs.Runs.{fault_told, ComesTo, IsRunOf, IfDone, IsTrueOf, IsFirstTold, IsSetUp, RunFails, IsBadStepOf, ScheduleFails};
 
 use crate::crew::Crew;
 use crate::fault::RunFault;
@@ -81,6 +82,7 @@ fn run_job<R: Router>(alloc: Global, job: &Job<'_>, router: &R, limit: u64) -> R
     requires root { is_root_allowed job.now.plan.now ≡ true }
     ensures done { IfOk result (IfDone (IsRunOf (R.route_of router.now) (resolved_of job.now.plan.now) job.now.database.now job.now.groups.items)) }
     ensures failed { IfErr result (IsTrueOf (resolved_of job.now.plan.now) job.now.database.now) }
+    ensures first { IfErr result (IsFirstTold (setting_of (R.route_of router.now) job.now) (whole_plan job.now.plan.now)) }
 {
     job.meets();
     let crew = Crew::new(alloc, job)?;
@@ -102,6 +104,8 @@ fn schedule_job<R: Router>(
     ensures done { IfOk result (IfDone (IsRunOf (R.route_of router.now) (resolved_of job.now.plan.now) job.now.database.now job.now.groups.items)) }
     ensures failed { IfErr result (λ e. IsTrueOf (resolved_of job.now.plan.now) job.now.database.now e
         ⊎ IsBadStepOf steps.now (crew_size job.now.groups.items (whole_plan job.now.plan.now)) e) }
+    ensures first { IfErr result (λ e. IsFirstTold (setting_of (R.route_of router.now) job.now) (whole_plan job.now.plan.now) e
+        ⊎ IsBadStepOf steps.now (crew_size job.now.groups.items (whole_plan job.now.plan.now)) e) }
 {
     job.meets();
     let crew = Crew::new(alloc, job)?;
@@ -112,7 +116,8 @@ fn schedule_job<R: Router>(
     }
 }
 
-/// A run of a plan over a database: at most so many rounds, in each of which every worker makes one step, in number order.
+/// A run of a plan over a database: at most so many rounds, in each of which every worker makes one step, in number order. Once all
+/// workers have ended and some failed, the fault is that of the lowest-numbered one that failed by itself. That rounds suffice is not promised.
 pub fn run_rounds<R: Router>(
     alloc: Global,
     plan: &CheckedPlan,
@@ -125,6 +130,8 @@ pub fn run_rounds<R: Router>(
     ensures done { IfOk result (IfDone (λ rows. (s : Sizes) × IsSetUp (resolved_of (typed_plan plan.now)) database.now setup.now s
         × IsRunOf (R.route_of router.now) (resolved_of (typed_plan plan.now)) database.now s.groups rows)) }
     ensures refused { IfErr result (RunFails (resolved_of (typed_plan plan.now)) database.now setup.now) }
+    ensures first { (s : Sizes) → IsSetUp (resolved_of (typed_plan plan.now)) database.now setup.now s
+        → IfErr result (IsFirstTold (setting (R.route_of router.now) (typed_plan plan.now) database.now s) (whole_plan (typed_plan plan.now))) }
 {
     let job = job_of(alloc, plan.plan(), database, setup)?;
     run_job(alloc, &job, router, limit)
@@ -144,6 +151,9 @@ pub fn run_scheduled<R: Router>(
     ensures done { IfOk result (IfDone (λ rows. (s : Sizes) × IsSetUp (resolved_of (typed_plan plan.now)) database.now setup.now s
         × IsRunOf (R.route_of router.now) (resolved_of (typed_plan plan.now)) database.now s.groups rows)) }
     ensures refused { IfErr result (ScheduleFails (resolved_of (typed_plan plan.now)) database.now setup.now steps.now) }
+    ensures first { (s : Sizes) → IsSetUp (resolved_of (typed_plan plan.now)) database.now setup.now s
+        → IfErr result (λ e. IsFirstTold (setting (R.route_of router.now) (typed_plan plan.now) database.now s) (whole_plan (typed_plan plan.now)) e
+        ⊎ IsBadStepOf steps.now (crew_size s.groups (whole_plan (typed_plan plan.now))) e) }
 {
     let job = job_of(alloc, plan.plan(), database, setup)?;
     schedule_job(alloc, &job, router, steps)

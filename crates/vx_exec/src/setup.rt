@@ -7,7 +7,7 @@ ghost use Rattle.vx_plan.specs.Outline.{size_of, plan_of};
 ghost use Rattle.vx_plan.specs.Streams.{workers};
 ghost use Rattle.vx_plan.specs.TypedView.{names_in, scope, resolved_of, plan as plan_of_typed};
 ghost use Rattle.vx_laws.specs.Layout.{workers_below};
-ghost use Rattle.vx_exec.specs.Sizes.{IsWithin, crew_size, group_at};
+ghost use Rattle.vx_exec.specs.Sizes.{IsWithin, Sizes, crew_size, group_at};
 ghost use Rattle.vx_exec.specs.Job.{sizes_of};
 ghost use Rattle.vx_exec.specs.Setup.{entry_of, number_of, workers_named, groups_named, first_missing, first_out_of_range, is_within, tested, no_name, few_workers, size_missing, size_out_of_range, refusal_of, sizes_set, Gives};
 ghost use Rattle.vx_exec.specs.Runs.{IsSetUp, RunFails};
@@ -257,6 +257,7 @@ pub(crate) fn job_of<'j>(
 ) -> Result<Job<'j>, RunFault>
     ensures set { IfOk result (λ j. IsSetUp (resolved_of plan.now) database.now setup.now (sizes_of j)) }
     ensures refused { IfErr result (RunFails (resolved_of plan.now) database.now setup.now) }
+    ensures memory { (s : Sizes) → IsSetUp (resolved_of plan.now) database.now setup.now s → IfErr result (λ e. e ≡ RunFault.NoMemory) }
     ensures plan { IfOk result (λ j. j.plan.now ≡ plan.now) }
     ensures database { IfOk result (λ j. j.database.now ≡ database.now) }
 {

@@ -9,4 +9,6 @@ mod plans;
 #[cfg(test)]
 mod runs;
 #[cfg(test)]
+mod schedules;
+#[cfg(test)]
 mod setups;

@@ -1,15 +1,23 @@
-//! What the tests share: a catalog, accepted plans, and a router.
+//! What the tests share: a catalog with its rows, accepted plans, a setup, and a router.
 
-use std::alloc::Global;
+use std::alloc::{AllocError, Global};
 use std::test::Fail;
-use vx_catalog::Catalog;
+use vx_catalog::{Catalog, Database, Loader};
 use vx_check::{CheckedPlan, check};
+use vx_exec::Setup;
 use vx_plan::{Plan, Router, resolve};
-use vx_rows::Value;
+use vx_rows::{MemoryIn, Value};
 
 /// The relation t(id, k, v), by its key and order id.
 pub const CATALOG: &str =
     r#"{"relations":[{"name":"t","columns":[{"name":"id","type":"int"},{"name":"k","type":"text"},{"name":"v","type":"int"}],"keys":[["id"]],"order":["id"]}]}"#;
+
+/// Its rows.
+const TABLE: &str = "id,k,v\n0,a,5\n1,b,7\n2,a,-2\n3,c,7\n";
+
+/// Three workers scan and select, and the root's worker gathers.
+pub const SELECTED: &str =
+    r#"{"sizes":["many"],"root":{"op":"exchange","kind":"gather","claim":{"part":"one"},"input":{"op":"select","where":[{"column":"v","op":"=","value":7}],"claim":{"part":"any"},"input":{"op":"scan","relation":"t","mode":"shared","size":"many","claim":{"part":"any"}}}}}"#;
 
 /// Sends every key to consumer 0.
 #[derive(Drop)]
@@ -33,4 +41,25 @@ pub fn checked(alloc: Global, text: &str) -> Result<CheckedPlan, Fail> {
         Ok(plan) => Ok(plan),
         Err(_) => Err(Fail::new("the plan is accepted")),
     }
+}
+
+/// The database of these rows.
+pub fn filled(alloc: Global) -> Result<Database, Fail> {
+    let catalog = Catalog::read(alloc, CATALOG.as_bytes())?;
+    let mut database = Database::empty(alloc, &catalog)?;
+    if catalog.len() == 0 {
+        return Err(Fail::new("the catalog has a relation"));
+    }
+    let mut reader = MemoryIn::new(TABLE.as_bytes(), None);
+    match database.put(Loader::load(alloc, &catalog, 0, &mut reader)?) {
+        Ok(()) => Ok(database),
+        Err(_) => Err(Fail::new("the rows are of this catalog")),
+    }
+}
+
+/// Three workers of each group, which send and read row by row.
+pub fn of_three(alloc: Global) -> Result<Setup, AllocError> {
+    let mut sizes = Vec::new(alloc);
+    sizes.push((String::from_str(alloc, "many")?, 3))?;
+    Ok(Setup::new(sizes, 1, 1, 4))
 }

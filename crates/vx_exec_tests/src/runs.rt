@@ -1,40 +1,14 @@
 //! What no clause says of runs: small plans deliver their rows, by rounds and by schedules.
 
-use crate::plans::{CATALOG, ToFirst, checked};
+use crate::plans::{SELECTED, ToFirst, checked, filled, of_three};
 use std::alloc::{AllocError, Global};
 use std::test::Fail;
-use vx_catalog::{Catalog, Database, Loader};
-use vx_exec::{Ran, RunFault, Setup, can_run, run_rounds, run_scheduled};
-use vx_rows::{Cell, MemoryIn, Rows};
-
-const TABLE: &str = "id,k,v\n0,a,5\n1,b,7\n2,a,-2\n3,c,7\n";
-
-/// Three workers scan and select, and the root's worker gathers.
-const SELECTED: &str =
-    r#"{"sizes":["many"],"root":{"op":"exchange","kind":"gather","claim":{"part":"one"},"input":{"op":"select","where":[{"column":"v","op":"=","value":7}],"claim":{"part":"any"},"input":{"op":"scan","relation":"t","mode":"shared","size":"many","claim":{"part":"any"}}}}}"#;
+use vx_exec::{Ran, RunFault, can_run, run_rounds, run_scheduled};
+use vx_rows::{Cell, Rows};
 
 /// One worker scans.
 const WHOLE: &str =
     r#"{"root":{"op":"scan","relation":"t","mode":"whole","size":"one","claim":{"part":"one","order":["id"],"keys":[["id"]]}},"total":true}"#;
-
-fn filled(alloc: Global) -> Result<Database, Fail> {
-    let catalog = Catalog::read(alloc, CATALOG.as_bytes())?;
-    let mut database = Database::empty(alloc, &catalog)?;
-    if catalog.len() == 0 {
-        return Err(Fail::new("the catalog has a relation"));
-    }
-    let mut reader = MemoryIn::new(TABLE.as_bytes(), None);
-    match database.put(Loader::load(alloc, &catalog, 0, &mut reader)?) {
-        Ok(()) => Ok(database),
-        Err(_) => Err(Fail::new("the rows are of this catalog")),
-    }
-}
-
-fn of_three(alloc: Global) -> Result<Setup, AllocError> {
-    let mut sizes = Vec::new(alloc);
-    sizes.push((String::from_str(alloc, "many")?, 3))?;
-    Ok(Setup::new(sizes, 1, 1, 4))
-}
 
 /// The numbers in the first column.
 fn ids(alloc: Global, rows: &Rows) -> Result<Vec<i64>, AllocError> {

@@ -1,6 +1,7 @@
 -- From what a run comes to, to what its verdict is worth.
 use Rattle.std.proofs.Common.{ℕ, ◌≡◌, ◌<◌, Bool, true, List, not, ◌||◌, sym, subst, arith}
 use Rattle.vx_plan.specs.Plan.{Plan, size, is_one}
+use Rattle.vx_plan.specs.Streams.{workers}
 use Rattle.vx_check.specs.Rules.{is_total_order}
 use Rattle.vx_ops.specs.declared.fault.Fault.{Fault}
 use Rattle.vx_exchange.specs.Tasks.{Task}
@@ -15,16 +16,22 @@ use Rattle.vx_steps.specs.Headline.{IsAccepted, Answers}
 use Rattle.vx_steps.specs.declared.verdict.Verdict.{Verdict}
 use Rattle.vx_steps.specs.declared.verdict.Verdict.TheVariants as verdict
 
+-- an accepted plan has a worker at its top
+pub some-workers : (W : Setting) (is_total : Bool) (p : Plan) → IsAccepted W is_total p → 0 < workers W.sizes (size p)
+some-workers W is_total p ok =
+    let one : is_one (size p) ≡ true = and-left (is_one (size p)) (not is_total || is_total_order W.catalog p) ok.root in
+    let P : ℕ → Type 0 = λ n. 0 < n in
+    subst P (sym (one-worker W.sizes (size p) one)) (omega arith)
+
 pub answered : {O S : Type 0} (task : S → Task) (W : Setting) (is_total : Bool) (p : Plan) (ws : List (Worker O S)) (v : Verdict)
     → IsAccepted W is_total p → Settled task W p ws v → Answers task W is_total p ws v
 answered task W is_total p ws verdict.Done ok h = λ d rows e. numbered-run-delivers W ok.set is_total p ok.fit ok.formed ok.allows ok.root h.0 rows (h.1 d rows e)
 answered task W is_total p ws verdict.Unfinished ok h = tt
 answered task W is_total p ws (verdict.Failed f) ok h =
     let one : is_one (size p) ≡ true = and-left (is_one (size p)) (not is_total || is_total_order W.catalog p) ok.root in
-    let P : ℕ → Type 0 = λ n. 0 < n in
     let real = numbered-faults-are-real in
     record {
-      own = h.2 ok.fit (subst P (sym (one-worker W.sizes (size p) one)) (omega arith));
+      own = h.2 ok.fit (some-workers W is_total p ok);
       overflow = λ node e. real.overflow W ok.set p ok.fit ok.formed ok.allows one h.0 node (let Q : Fault → Type 0 = λ x. SomeFails W p h.0 x in subst Q e h.1);
       order = λ o. real.order W ok.set p ok.fit ok.formed ok.allows one h.0 f o h.1;
     }

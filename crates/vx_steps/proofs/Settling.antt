@@ -30,6 +30,7 @@ use Rattle.vx_steps.specs.Same.{SameStation, SameBoard}
 use Rattle.vx_steps.specs.Roles.{no_role, role_at, IsRoot, RolesBelow, IsShared, IsWhole, Wired, IsLinked, workers_in, EndedAs, AllEnded}
 use Rattle.vx_steps.specs.Runs.{roles_of, Stand, Advances}
 use Rattle.vx_steps.specs.Verdicts.{IsOwn, AreWell, FailWith, Judged}
+use Rattle.vx_steps.specs.Endings.{FailsFirst, TellsFirst}
 use Rattle.vx_steps.specs.Ready.{Ready, Settled}
 use Rattle.vx_steps.specs.declared.station.Station.{Station}
 use Rattle.vx_steps.specs.declared.station.Station.TheVariants.{Inner, Exchange, Shared, Whole}
@@ -199,6 +200,40 @@ module _ {O S : Type 0} (OS : O → Ledger → Type 0) (op : O → Op) (SS : S �
         in
         (h.first x.number d x.fault (subst (λ z. x.number < z) (sym after.count) x.within) x.own (failed-is (outcome_of (get_or vs x.number d)) x.fault x.here)).0
 
+    -- it is that of the lowest-numbered worker that failed by itself
+    settled-first : (d : Worker O S) (f : Fault) → FailWith vs (length vs) f → is_fit W.relation_of p ≡ true → 0 < workers W.sizes (size p) → FailsFirst W p f
+    settled-first d f h fit some = record {
+      fates = fates d;
+      ended = record {
+        roles = roles;
+        tasks = tasks d;
+        traces = trace_at after.us;
+        root = after.root;
+        below = after.below;
+        each = each-ended d f h;
+        linked = fail-links d f h;
+      };
+      first = record {
+        own = settled-own d f h fit some;
+        number = h.number;
+        within = subst (λ z. h.number < z) after.count h.within;
+        here = ap fate-in (h.here d);
+        first = λ k g l o e.
+            let low = h.within in
+            let at = (h.first k d g (omega (arith, l, low)) o (failed-is (outcome_of (get_or vs k d)) g e)).1 in
+            omega (arith, l, at);
+      };
+    }
+
+    told-in : (xs : List (Worker O S)) → vs ≡ xs → is_fit W.relation_of p ≡ true → 0 < workers W.sizes (size p) → (x : Verdict) → Judged vs x → TellsFirst W p x
+    told-in xs e fit some verdict.Done h = tt
+    told-in xs e fit some verdict.Unfinished h = tt
+    told-in [] e fit some (verdict.Failed f) h =
+        let z = h.within in
+        let n : length vs ≡ 0 = ap (λ (z : List (Worker O S)). length z) e in
+        absurd (omega (arith, z, n))
+    told-in (d ∷ rest) e fit some (verdict.Failed f) h = settled-first d f h fit some
+
     settled-in : (xs : List (Worker O S)) → vs ≡ xs → (x : Verdict) → Judged vs x → Settled task W p vs x
     settled-in xs e verdict.Done h = (trace_at after.us, settled-well h)
     settled-in xs e verdict.Unfinished h = tt
@@ -212,3 +247,8 @@ module _ {O S : Type 0} (OS : O → Ledger → Type 0) (op : O → Op) (SS : S �
   pub settled : (W : Setting) (p : Plan) (ws vs : List (Worker O S)) (w v : Board) → ((s : S) → IsAt (post s) (task s)) → Advances OS op SS task post bounds hash m ws w vs v
       → (x : Verdict) → Judged vs x → Ready OS op SS task post bounds hash m W p ws w → Settled task W p vs x
   settled W p ws vs w v at steps x judged ready = settled-in W p vs v ready.morsels at (after-steps W p ws vs w v ready steps) vs refl x judged
+
+  -- whose fault a run that was ready tells
+  pub told : (W : Setting) (p : Plan) (ws vs : List (Worker O S)) (w v : Board) → ((s : S) → IsAt (post s) (task s)) → Advances OS op SS task post bounds hash m ws w vs v
+      → is_fit W.relation_of p ≡ true → 0 < workers W.sizes (size p) → (x : Verdict) → Judged vs x → Ready OS op SS task post bounds hash m W p ws w → TellsFirst W p x
+  told W p ws vs w v at steps fit some x judged ready = told-in W p vs v ready.morsels at (after-steps W p ws vs w v ready steps) vs refl fit some x judged

@@ -7,6 +7,7 @@ pub mod Same
 pub mod Roles
 pub mod Runs
 pub mod Verdicts
+pub mod Endings
 pub mod Idle
 pub mod Crews
 pub mod Additions

@@ -5,6 +5,7 @@ ghost use Rattle.std.specs.List.{All};
 ghost use Rattle.vx_plan.specs.Plan.{Plan};
 ghost use Rattle.vx_worker.specs.Fragment.{Setting};
 ghost use Rattle.vx_worker.specs.Worker.{IsReady, role_of};
+ghost use Rattle.vx_steps.specs.Endings.{TellsFirst};
 ghost use Rattle.vx_steps.specs.Headline.{Answers, IsAccepted};
 ghost use Rattle.vx_steps.specs.Ready.{Ready, Settled};
 ghost use Rattle.vx_steps.specs.Schedules.{IsBadStep};
@@ -36,6 +37,9 @@ pub fn finish_rounds<O: Source, S: Sends, G: Morsels, R: Router>(
     ensures answers { (W : Setting) (is_total : Bool) (p : Plan) → IsAccepted W is_total p
         → Ready O.Stands O.op S.Stands S.task S.post S.bounds (R.route_of router.now) (G.morsel_of morsels.now) W p workers.old.items links.old
         → Answers S.task W is_total p workers.new.items result }
+    ensures first { (W : Setting) (is_total : Bool) (p : Plan) → IsAccepted W is_total p
+        → Ready O.Stands O.op S.Stands S.task S.post S.bounds (R.route_of router.now) (G.morsel_of morsels.now) W p workers.old.items links.old
+        → TellsFirst W p result }
 {
     run_rounds(workers, morsels, router, links, limit);
     judge(workers.as_slice())
@@ -60,6 +64,9 @@ pub fn finish_steps<O: Source, S: Sends, G: Morsels, R: Router>(
     ensures answers { (W : Setting) (is_total : Bool) (p : Plan) → IsAccepted W is_total p
         → Ready O.Stands O.op S.Stands S.task S.post S.bounds (R.route_of router.now) (G.morsel_of morsels.now) W p workers.old.items links.old
         → IfOk result (Answers S.task W is_total p workers.new.items) }
+    ensures first { (W : Setting) (is_total : Bool) (p : Plan) → IsAccepted W is_total p
+        → Ready O.Stands O.op S.Stands S.task S.post S.bounds (R.route_of router.now) (G.morsel_of morsels.now) W p workers.old.items links.old
+        → IfOk result (TellsFirst W p) }
 {
     if let Some(index) = bad_step(steps, workers.len()) {
         return Err(index);

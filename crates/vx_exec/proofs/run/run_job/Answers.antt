@@ -5,7 +5,7 @@ use Rattle.vx_check.specs.Checked.{relations}
 use Rattle.vx_worker.specs.Destination.{post_of}
 use Rattle.vx_worker.specs.Worker.{sender_of}
 use Rattle.vx_exec.specs.Job.{setting_of}
-use Rattle.vx_exec.proofs.Outcomes.{accepted, parts-ready, still-keeps, not-passed, comes-done, comes-failed}
+use Rattle.vx_exec.proofs.Outcomes.{accepted, parts-ready, still-keeps, not-passed, comes-done, comes-failed, comes-first}
 use Rattle.vx_exec.proofs.run.run_job.Goals as goal
 
 pub answer_of-requires-clause-there : goal.answer_of-requires-clause-there
@@ -58,3 +58,14 @@ returns-clause-failed g c =
     let p = resolved_of j.plan.now in
     comes-failed j hash c.finish_rounds-verdict.new.workers.items c.finish_rounds-verdict.result c.answer_of.result
     (c.finish_rounds-verdict.ensures.answers (setting_of hash j) p.total (whole_plan j.plan.now) ok ready) c.answer_of.ensures
+
+pub returns-clause-first : goal.returns-clause-first
+returns-clause-first g c =
+    let j = c.args.job.now in
+    let hash = g.R.Router.route_of c.args.router.now in
+    let parts = c.into_parts-workers in
+    let ready = parts-ready j hash c.in_ok-crew.crew parts.result.0 parts.result.1 parts.ensures.workers parts.ensures.links (c.in_ok-crew.ensures.ready hash) in
+    let ok = accepted j hash (g.met.R.Router.in_range c.args.router.now) c.meets.ensures c.requires.allowed c.requires.root in
+    let p = resolved_of j.plan.now in
+    comes-first (setting_of hash j) (whole_plan j.plan.now) c.finish_rounds-verdict.new.workers.items c.finish_rounds-verdict.result c.answer_of.result
+    (c.finish_rounds-verdict.ensures.first (setting_of hash j) p.total (whole_plan j.plan.now) ok ready) c.answer_of.ensures

@@ -1,9 +1,10 @@
-use Rattle.std.proofs.Common.{subst, ◌∙◌}
-use Rattle.vx_plan.specs.TypedView.{resolved_of}
+use Rattle.std.proofs.Common.{subst, sym, ◌∙◌, inl, IfErr}
+use Rattle.vx_plan.specs.TypedView.{resolved_of, plan as whole_plan}
 use Rattle.vx_check.specs.CheckedView.{typed_plan}
 use Rattle.vx_exec.specs.Job.{sizes_of}
-use Rattle.vx_exec.specs.Runs.{IsTrueOf, IsSetUp, RunFails, for_fault}
-use Rattle.vx_exec.proofs.Outcomes.{failed-by}
+use Rattle.vx_exec.specs.Sizes.{setting}
+use Rattle.vx_exec.specs.Runs.{IsTrueOf, IsFirstTold, IsSetUp, RunFails, for_fault}
+use Rattle.vx_exec.proofs.Outcomes.{failed-by, err-told, of-job}
 use Rattle.vx_exec.proofs.run.run_rounds.Goals as goal
 
 pub returns-clause-refused : goal.returns-clause-refused
@@ -16,3 +17,17 @@ returns-clause-refused g c =
     (subst (λ z. IsTrueOf (resolved_of z) c.args.database.now e) (c.in_ok-job.ensures.plan ∙ c.plan.ensures.same)
     (subst (λ b. IsTrueOf (resolved_of j.plan.now) b e) c.in_ok-job.ensures.database h)))
     c.run_job.ensures.failed
+
+pub returns-clause-first : goal.returns-clause-first
+returns-clause-first g c = λ s set.
+    let j = c.in_ok-job.job in
+    let mine = subst (λ z. IsSetUp (resolved_of z) c.args.database.now c.args.setup.now (sizes_of j)) c.plan.ensures.same c.in_ok-job.ensures.set in
+    of-job (λ p db z. IfErr c.run_job.result (IsFirstTold (setting (g.R.Router.route_of c.args.router.now) p db z) (whole_plan p)))
+    j (typed_plan c.args.plan.now) c.args.database.now c.args.setup.now s (c.in_ok-job.ensures.plan ∙ c.plan.ensures.same) c.in_ok-job.ensures.database mine set c.run_job.ensures.first
+
+pub returns-in_err-job-clause-first : goal.returns-in_err-job-clause-first
+returns-in_err-job-clause-first g c = λ s set.
+    let e = c.in_err-job.field-0.0 in
+    let p = typed_plan c.args.plan.now in
+    err-told c.from_residual.result e (IsFirstTold (setting (g.R.Router.route_of c.args.router.now) p c.args.database.now s) (whole_plan p)) c.from_residual.ensures.1
+    (inl (c.in_err-job.ensures.memory s (subst (λ z. IsSetUp (resolved_of z) c.args.database.now c.args.setup.now s) (sym c.plan.ensures.same) set)))

@@ -1,12 +1,12 @@
-use Rattle.std.proofs.Common.{◌⊎◌, inl, inr, subst, ◌∙◌}
+use Rattle.std.proofs.Common.{◌⊎◌, inl, inr, subst, sym, ◌∙◌, IfErr}
 use Rattle.vx_plan.specs.TypedView.{resolved_of, plan as whole_plan}
 use Rattle.vx_check.specs.CheckedView.{typed_plan}
 use Rattle.vx_plan.specs.Outline.{plan_in}
 use Rattle.vx_exec.specs.Job.{sizes_of}
-use Rattle.vx_exec.specs.Sizes.{crew_size}
-use Rattle.vx_exec.specs.Runs.{IsTrueOf, IsSetUp, IsBadStepOf, RunFails, ScheduleFails, for_fault, for_run, for_step}
+use Rattle.vx_exec.specs.Sizes.{crew_size, setting}
+use Rattle.vx_exec.specs.Runs.{IsTrueOf, IsFirstTold, IsSetUp, IsBadStepOf, RunFails, ScheduleFails, for_fault, for_run, for_step}
 use Rattle.vx_exec.specs.declared.fault.RunFault.{RunFault}
-use Rattle.vx_exec.proofs.Outcomes.{failed-by, err-told}
+use Rattle.vx_exec.proofs.Outcomes.{failed-by, err-told, of-job}
 use Rattle.vx_exec.proofs.run.run_scheduled.Goals as goal
 
 pub returns-clause-refused : goal.returns-clause-refused
@@ -31,3 +31,19 @@ returns-in_err-job-clause-refused g c =
     let e = c.in_err-job.field-0.0 in
     err-told c.from_residual.result e (ScheduleFails p c.args.database.now c.args.setup.now c.args.steps.now) c.from_residual.ensures.1
     (for_run (subst (λ z. RunFails (resolved_of z) c.args.database.now c.args.setup.now e) c.plan.ensures.same c.in_err-job.ensures.refused))
+
+pub returns-clause-first : goal.returns-clause-first
+returns-clause-first g c = λ s set.
+    let j = c.in_ok-job.job in
+    let mine = subst (λ z. IsSetUp (resolved_of z) c.args.database.now c.args.setup.now (sizes_of j)) c.plan.ensures.same c.in_ok-job.ensures.set in
+    of-job (λ p db z. IfErr c.schedule_job.result (λ e. IsFirstTold (setting (g.R.Router.route_of c.args.router.now) p db z) (whole_plan p) e
+    ⊎ IsBadStepOf c.args.steps.now (crew_size z.groups (whole_plan p)) e))
+    j (typed_plan c.args.plan.now) c.args.database.now c.args.setup.now s (c.in_ok-job.ensures.plan ∙ c.plan.ensures.same) c.in_ok-job.ensures.database mine set c.schedule_job.ensures.first
+
+pub returns-in_err-job-clause-first : goal.returns-in_err-job-clause-first
+returns-in_err-job-clause-first g c = λ s set.
+    let e = c.in_err-job.field-0.0 in
+    let p = typed_plan c.args.plan.now in
+    err-told c.from_residual.result e (λ x. IsFirstTold (setting (g.R.Router.route_of c.args.router.now) p c.args.database.now s) (whole_plan p) x
+    ⊎ IsBadStepOf c.args.steps.now (crew_size s.groups (whole_plan p)) x) c.from_residual.ensures.1
+    (inl (inl (c.in_err-job.ensures.memory s (subst (λ z. IsSetUp (resolved_of z) c.args.database.now c.args.setup.now s) (sym c.plan.ensures.same) set))))

@@ -1,0 +1,80 @@
+//! What no clause says of schedules: drawn at random, they all come to the same bag of rows.
+
+use crate::plans::{SELECTED, ToFirst, checked, filled, of_three};
+use std::alloc::{AllocError, Global};
+use std::test::Fail;
+use vx_exec::{Ran, can_run, run_scheduled};
+use vx_rows::{Cell, Rows};
+
+/// How many schedules are drawn.
+const SCHEDULES: u32 = 1000;
+
+/// The numbers of a linear congruential generator.
+struct Draws {
+    state: u64,
+}
+
+impl Draws {
+    /// The number of one of four workers.
+    fn worker(&mut self) -> u32 {
+        let next = self.state.wrapping_mul(1_103_515_245).wrapping_add(12_345) % 2_147_483_648;
+        self.state = next;
+        (next / 65_536 % 4) as u32
+    }
+
+    /// Steps of 500 workers that are drawn, and then of each of the four in turn, 2,000 times.
+    fn schedule(&mut self, alloc: Global) -> Result<Vec<u32>, AllocError> {
+        let mut steps = Vec::new(alloc);
+        for step in 0..8500 {
+            let worker = if step < 500 { self.worker() } else { step % 4 };
+            steps.push(worker)?;
+        }
+        Ok(steps)
+    }
+}
+
+/// Whether this row has this number, this text, and 7.
+fn is_row(rows: &Rows, index: usize, id: i64, key: &str) -> bool {
+    if index >= rows.len() || rows.types().len() != 3 {
+        return false;
+    }
+    match (
+        rows.cell(index, 0),
+        rows.cell(index, 1),
+        rows.cell(index, 2),
+    ) {
+        (Cell::Int(number), Cell::Text(text), Cell::Int(value)) => number == id
+            && text == key
+            && value == 7,
+        _ => false,
+    }
+}
+
+/// Whether these are the two selected rows, in either order.
+fn are_selected(rows: &Rows) -> bool {
+    if rows.len() != 2 {
+        return false;
+    }
+    is_row(rows, 0, 1, "b") && is_row(rows, 1, 3, "c")
+        || is_row(rows, 0, 3, "c") && is_row(rows, 1, 1, "b")
+}
+
+#[test]
+fn drawn_schedules_come_to_the_same_rows(rt: HostRuntime) -> Result<(), Fail> {
+    let alloc = rt.alloc();
+    let plan = checked(alloc, SELECTED)?;
+    let database = filled(alloc)?;
+    let setup = of_three(alloc)?;
+    let mut draws = Draws { state: 1 };
+    if !can_run(plan.plan()) {
+        return Err(Fail::new("workers can run the plan"));
+    }
+    for _ in 0..SCHEDULES {
+        let steps = draws.schedule(alloc)?;
+        match run_scheduled(alloc, &plan, &database, &setup, &ToFirst, steps.as_slice())? {
+            Ran::Done(rows) => assert!(rt; are_selected(&rows)),
+            Ran::Unfinished => assert!(rt; false, "the workers ended"),
+        }
+    }
+    Ok(())
+}

@@ -1,0 +1,43 @@
+-- How all workers of a run ended, by their numbers, and which of their faults the run tells.
+use Rattle.std.specs.Prelude.{ℕ, ◌≡◌, ◌<◌}
+use Rattle.vx_plan.specs.Plan.{Plan}
+use Rattle.vx_ops.specs.declared.fault.Fault.{Fault}
+use Rattle.vx_exchange.specs.Tasks.{Task}
+use Rattle.vx_worker.specs.Fragment.{Setting}
+use Rattle.vx_worker.specs.Worker.{Role}
+use Rattle.vx_worker.specs.Trace.{Trace, Fate, failed}
+use Rattle.vx_steps.specs.Roles.{IsRoot, RolesBelow, IsLinked, AllEnded, workers_in}
+use Rattle.vx_steps.specs.Verdicts.{IsOwn}
+use Rattle.vx_steps.specs.declared.verdict.Verdict.{Verdict}
+use Rattle.vx_steps.specs.declared.verdict.Verdict.TheVariants as verdict
+
+-- all workers of a plan's run ended with these fates: each has the role that the plan gives its number, and a trace that is honest of it;
+-- and what the traces drew and sent is linked as the plan says
+pub record EndedRun (S : Setting) (p : Plan) (fates : ℕ → Fate) : Type 0 where
+  pub roles : ℕ → Role
+  pub tasks : ℕ → Task
+  pub traces : ℕ → Trace
+  pub root : IsRoot S p (roles 0)
+  pub below : RolesBelow S roles p 1
+  pub each : AllEnded S roles tasks fates traces (workers_in S p)
+  pub linked : IsLinked S traces p 0 1
+
+-- of so many workers with these fates, the lowest-numbered that failed by itself has this fault
+pub record IsFirstOwn (fates : ℕ → Fate) (total : ℕ) (f : Fault) : Type 0 where
+  pub own : IsOwn f
+  pub number : ℕ
+  pub within : number < total
+  pub here : fates number ≡ failed f
+  pub first : (k : ℕ) (g : Fault) → k < number → IsOwn g → fates k ≡ failed g → ⊥
+
+-- all workers of some run of the plan ended, and the lowest-numbered that failed by itself has this fault
+pub record FailsFirst (S : Setting) (p : Plan) (f : Fault) : Type 0 where
+  pub fates : ℕ → Fate
+  pub ended : EndedRun S p fates
+  pub first : IsFirstOwn fates (workers_in S p) f
+
+-- a verdict's fault is such a one
+abbrev pub TellsFirst : Setting → Plan → Verdict → Type 0
+TellsFirst S p verdict.Done = Unit {0}
+TellsFirst S p verdict.Unfinished = Unit {0}
+TellsFirst S p (verdict.Failed f) = FailsFirst S p f
