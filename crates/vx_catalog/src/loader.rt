@@ -190,10 +190,9 @@ pub struct Loader;
 impl Loader {
     /// The rows of a relation of a catalog, from all that a reader gives.
     ///
-    /// Records are read as the bytes come. Before a refusal is told all bytes are taken, since what comes first of them
-    /// goes before it: that the reader fails, or that it gives more than 2^40 bytes. Then the header is tested, then each
-    /// row from its front, then the keys in declared order, and then the order of the rows. Want of memory may be told
-    /// before bytes that were not taken.
+    /// That the reader fails, or that it gives more than 2^40 bytes, whichever comes first, goes before all refusals of
+    /// the text, of which all bytes are taken. Then come the header, each row from its front, the keys in declared order,
+    /// and the order of the rows. Records are read as the bytes come. Only want of memory is told without taking the rest.
     pub fn load<R: ByteIn>(
         alloc: Global,
         catalog: &Catalog,
