@@ -160,33 +160,6 @@ fn parts_of_a_bundle_have_their_lines(rt: HostRuntime) -> Result<(), Fail> {
 }
 
 #[test]
-fn a_plan_is_run(rt: HostRuntime) -> Result<(), Fail> {
-    let line = line_for(&rt, &[], FIRST.as_bytes(), None)?;
-    assert_eq!(rt; line.as_str(), "id,k,v\n3,c,7\n1,b,7\n0");
-    Ok(())
-}
-
-#[test]
-fn an_empty_table_gives_the_header_alone(rt: HostRuntime) -> Result<(), Fail> {
-    let text = FIRST.replace(rt.alloc(), r#"0,a,5\n1,b,7\n2,a,-2\n3,c,7\n"#, "")?;
-    let line = line_for(&rt, &[], text.as_bytes(), None)?;
-    assert_eq!(rt; line.as_str(), "id,k,v\n0");
-    Ok(())
-}
-
-#[test]
-fn a_root_of_many_workers_is_refused(rt: HostRuntime) -> Result<(), Fail> {
-    let text = FIRST.replace(
-        rt.alloc(),
-        r#"{"op":"exchange","kind":"gather","claim":{"part":"one"},"input":{"op":"select","where":[{"column":"v","op":"=","value":7}],"input":{"op":"scan","relation":"t","mode":"shared","size":"many"}}}"#,
-        r#"{"op":"scan","relation":"t","mode":"shared","size":"many"}"#,
-    )?;
-    let line = line_for(&rt, &[], text.as_bytes(), None)?;
-    assert_eq!(rt; line.as_str(), "volcano: K2 RootNotOne node=0\n3");
-    Ok(())
-}
-
-#[test]
 fn runs_that_are_set_up_wrongly_have_their_lines(rt: HostRuntime) -> Result<(), Fail> {
     for (from, to, line) in [
         (
@@ -239,22 +212,6 @@ fn nodes_that_do_not_run_yet_are_refused(rt: HostRuntime) -> Result<(), Fail> {
 }
 
 #[test]
-fn a_plan_that_the_checker_refuses_has_serial_rows(rt: HostRuntime) -> Result<(), Fail> {
-    let text = FIRST.replace(rt.alloc(), r#""command":"run""#, r#""command":"serial""#)?;
-    let line = line_for(&rt, &[], text.as_bytes(), None)?;
-    assert_eq!(rt; line.as_str(), "id,k,v\n1,b,7\n3,c,7\n0");
-    let text = text.replace(
-        rt.alloc(),
-        r#"{"op":"exchange","kind":"gather","claim":{"part":"one"},"input":"#,
-        "",
-    )?;
-    let text = text.replace(rt.alloc(), r#""size":"many"}}}}"#, r#""size":"many"}}}"#)?;
-    let line = line_for(&rt, &[], text.as_bytes(), None)?;
-    assert_eq!(rt; line.as_str(), "id,k,v\n1,b,7\n3,c,7\n0");
-    Ok(())
-}
-
-#[test]
 fn keys_are_sent_by_their_bytes(rt: HostRuntime) -> Result<(), Fail> {
     for (key, place) in [("a", 0), ("b", 1), ("c", 2)] {
         let key = Value::Text(String::from_str(rt.alloc(), key)?);
@@ -265,21 +222,6 @@ fn keys_are_sent_by_their_bytes(rt: HostRuntime) -> Result<(), Fail> {
         Value::Text(String::from_str(rt.alloc(), "é")?),
     ];
     assert_eq!(rt; ByteRouter.route("r", &key, 1000), 291);
-    Ok(())
-}
-
-#[test]
-fn plans_are_checked_and_explained(rt: HostRuntime) -> Result<(), Fail> {
-    for (command, text) in [
-        (r#""command":"check""#, "accepted\n0"),
-        (
-            r#""command":"explain""#,
-            "#0 exchange gather size=one part=one order=[] keys=-\n  #1 select v = 7 size=many part=any order=[] keys=-\n    #2 scan t shared size=many part=any order=[] keys=-\nnot total\n0",
-        ),
-    ] {
-        let bundle = FIRST.replace(rt.alloc(), r#""command":"run""#, command)?;
-        assert_eq!(rt; line_for(&rt, &[], bundle.as_bytes(), None)?.as_str(), text);
-    }
     Ok(())
 }
 
