@@ -9,3 +9,4 @@ pub mod Outputs
 pub mod SourceFacts
 pub mod WordFacts
 pub mod FolderFacts
+pub mod GivenFacts

@@ -2,9 +2,7 @@
 use Rattle.std.proofs.Common.{arith, ◌≡◌, ◌≢◌, ◌∙◌, ℕ, List, Bool, true, Option, Result, Ok, Err, refl, sym}
 use Rattle.std.specs.Prelude.{IfOk, IfErr}
 use Rattle.vx_catalog.specs.Database.{Database}
-use Rattle.vx_plan.specs.Outline.{plan_in}
 use Rattle.vx_plan.specs.Resolve.{Resolved}
-use Rattle.vx_exec.specs.Sizes.{can_run}
 use Rattle.vx_answer.specs.declared.command.Command.TheVariants as command
 use Rattle.vx_answer.specs.declared.refusal.Refusal.{Refusal}
 use Rattle.vx_answer.specs.Bundle.{Bundle}
@@ -14,10 +12,10 @@ use Rattle.vx_answer.specs.Texts.{holds_in, lacks_in}
 use Rattle.vx_answer.specs.Commanded.{Holding, Lacking, IsShown, IsDatabaseFor, RunRefuses, PlanRefuses, for_run, SerialRefuses, CommandRefuses, for_rest, for_serial}
 use Rattle.vx_answer.specs.Answer.{IsPlanned, Refuses, for_plan_of, RefusedWith, IsRefusedBy}
 
-pub run_refused : {T : Type 0} (r : Result T Refusal) (p : Resolved) (holds : Holding) (lacks : Lacking) (s : Setting) (db : Database) → can_run (plan_in p.root) ≡ true
+pub run_refused : {T : Type 0} (r : Result T Refusal) (p : Resolved) (holds : Holding) (lacks : Lacking) (s : Setting) (db : Database)
     → IsDatabaseFor p holds db → IfErr r (λ e. RunRefuses p db s e) → IfErr r (λ e. PlanRefuses p holds lacks s e)
-run_refused (Ok x) p holds lacks s db runs there h = tt
-run_refused (Err e) p holds lacks s db runs there h = for_run runs db there h
+run_refused (Ok x) p holds lacks s db there h = tt
+run_refused (Err e) p holds lacks s db there h = for_run db there h
 
 pub rest_refused : {T : Type 0} (r : Result T Refusal) (p : Resolved) (holds : Holding) (lacks : Lacking) (s : Setting) → IsShown p
     → IfErr r (λ e. PlanRefuses p holds lacks s e) → IfErr r (λ e. CommandRefuses command.Run p holds lacks s e)

@@ -1,19 +1,113 @@
--- A plan with no node that workers cannot run is one that they can run.
-use Rattle.std.proofs.Common.{◌≡◌, ℕ, List, [], ◌∷◌, ◌++◌, codes, true, None, refl}
-use Rattle.vx_plan.specs.Plan.{Plan, scan, unary, binary, exchange, select, project, distinct, sort, group, route_to, round, broadcast, gather}
+-- The plan of a document with no node that workers do not run is one that they can run.
+use Rattle.std.proofs.Common.{◌≡◌, ℕ, ◌+◌, List, [], ◌∷◌, ◌++◌, codes, true, Option, Some, None, Result, Ok, Err, refl, sym}
+use Rattle.std.specs.Prelude.{⊤}
+use Rattle.vx_rows.specs.declared.value.ColType.{ColType}
+use Rattle.vx_catalog.specs.Relation.{Relation}
+use Rattle.vx_catalog.specs.Catalog.{relation_at}
+use Rattle.vx_document.specs.Document.{Name, ClaimForm, ConditionForm, ScanForm, Tree, Document}
+use Rattle.vx_document.specs.Document as form
+use Rattle.vx_document.specs.Fault.{Refusal, ◌>>=◌}
+use Rattle.vx_document.proofs.Holds.{Holds, holds_then, holds_at}
+use Rattle.vx_plan.specs.Plan as plan
+use Rattle.vx_plan.specs.Lookup.{Names, size_found, columns_found, matched, once, walk_onto}
+use Rattle.vx_plan.specs.Outline.{Columns, Top, Outline, scan, unary, exchange, columns, plan_in}
+use Rattle.vx_plan.specs.Resolve.{Shape, Resolved, scan_columns, relation_found, topped, scan_typed, conditions_found, select_shape, unary_shape, unary_typed, kind_found, kind_fits, exchange_columns, exchange_once, exchange_shape, exchange_typed, typed_in, sizes_tested, ranges_tested, resolved}
 use Rattle.vx_exec.specs.Sizes.{can_run}
-use Rattle.vx_answer.specs.Unrunnable.{first_unrunnable}
+use Rattle.vx_answer.specs.declared.command.Command.TheVariants as command
+use Rattle.vx_answer.specs.Unrunnable.{first_unrunnable, unless_at, taken_by}
 
-pub runs_if_none : (path : List ℕ) (p : Plan) → first_unrunnable path p ≡ None → can_run p ≡ true
-runs_if_none path (scan n c r m z) none = refl
-runs_if_none path (unary n c (select cs) p) none = runs_if_none (path ++ codes ".input") p none
-runs_if_none path (unary n c (project cols) p) none = cc
-runs_if_none path (unary n c (distinct cols) p) none = cc
-runs_if_none path (unary n c (sort cols) p) none = cc
-runs_if_none path (unary n c (group by aggs) p) none = cc
-runs_if_none path (binary n c op p q) none = cc
-runs_if_none path (exchange n c (route_to z r cols) m p) none = cc
-runs_if_none path (exchange n c (round z) m p) none = cc
-runs_if_none path (exchange n c (broadcast z) m p) none = cc
-runs_if_none path (exchange n c gather [] p) none = runs_if_none (path ++ codes ".input") p none
-runs_if_none path (exchange n c gather (col ∷ cols) p) none = cc
+-- workers can run it
+abbrev Runs : Outline → Type 0
+Runs o = can_run (plan_in o) ≡ true
+
+any_answer : {A : Type 0} (r : Result A Refusal) → Holds (λ x. ⊤) r
+any_answer (Ok x) = tt
+any_answer (Err e) = tt
+
+-- what holds of each answer of the second step, whatever the first answers
+then_holds : {A B : Type 0} (P : B → Type 0) (f : A → Result B Refusal) (r : Result A Refusal) → ((x : A) → Holds P (f x)) → Holds P (r >>= f)
+then_holds P f r each = holds_then (λ x. ⊤) P f r (any_answer r) (λ x u. each x)
+
+topped_runs : (s : Names) (node : ℕ) (cols : Columns) (c : ClaimForm) (make : Top → Outline) → ((h : Top) → Runs (make h)) → Holds Runs (topped s node cols c >>= λ h. Ok (make h))
+topped_runs s node cols c make runs = then_holds Runs (λ h. Ok (make h)) (topped s node cols c) runs
+
+scan_runs : (s : Names) (node : ℕ) (c : ClaimForm) (f : ScanForm) → Holds Runs (scan_typed s node c f)
+unfolding scan_typed
+scan_runs s node c f =
+    then_holds Runs (λ r. size_found s f.size >>= λ z. topped s node (scan_columns (relation_at s.catalog r) f.prefix) c >>= λ t. Ok (scan t r f.shared z f.prefix)) (relation_found s node f.relation)
+    (λ r. then_holds Runs (λ z. topped s node (scan_columns (relation_at s.catalog r) f.prefix) c >>= λ t. Ok (scan t r f.shared z f.prefix)) (size_found s f.size)
+    (λ z. topped_runs s node (scan_columns (relation_at s.catalog r) f.prefix) c (λ t. scan t r f.shared z f.prefix) (λ t. refl)))
+
+-- a selection's operator is one
+abbrev Selects : Shape → Type 0
+Selects o = (ks : List plan.Condition) × (o.op ≡ plan.select ks)
+
+select_is : (node : ℕ) (cols : Columns) (cs : List ConditionForm) → Holds Selects (unary_shape node cols (form.select cs))
+unfolding unary_shape, select_shape
+select_is node cols cs = then_holds Selects _ (conditions_found node cols.names cs) (λ ks. then_holds Selects _ _ (λ u. (ks, refl)))
+
+select_runs : (s : Names) (node : ℕ) (c : ClaimForm) (cs : List ConditionForm) (t : Outline) → Runs t → Holds Runs (unary_typed s node c (form.select cs) t)
+unfolding unary_typed
+select_runs s node c cs t runs =
+    holds_then Selects Runs (λ o. topped s node o.columns c >>= λ h. Ok (unary h o.op o.renamed t)) (unary_shape node (columns t) (form.select cs)) (select_is node (columns t) cs)
+    (λ o is. topped_runs s node o.columns c (λ h. unary h o.op o.renamed t) (λ h. rw is.1 runs))
+
+-- an exchange gathers, and does not merge
+abbrev Gathers : plan.Kind × List ℕ → Type 0
+Gathers k = k ≡ (plan.gather, [])
+
+gather_is : (s : Names) (node : ℕ) (cols : Columns) → Holds Gathers (exchange_shape s node cols form.gather [])
+unfolding exchange_shape, exchange_columns, kind_found, columns_found, walk_onto
+gather_is s node cols = then_holds Gathers _ (exchange_once node form.gather []) (λ u. then_holds Gathers _ _ (λ v. refl))
+
+gather_runs : (s : Names) (node : ℕ) (c : ClaimForm) (t : Outline) → Runs t → Holds Runs (exchange_typed s node c form.gather [] t)
+unfolding exchange_typed
+gather_runs s node c t runs =
+    holds_then Gathers Runs (λ k. topped s node (columns t) c >>= λ h. Ok (exchange h k.0 k.1 t)) (exchange_shape s node (columns t) form.gather []) (gather_is s node (columns t))
+    (λ k is. topped_runs s node (columns t) c (λ h. exchange h k.0 k.1 t) (λ h. rw is runs))
+
+-- workers can run the typed nodes of a tree
+abbrev AllRun : Outline × ℕ → Type 0
+AllRun x = Runs x.0
+
+typed_runs : (s : Names) (node : ℕ) (path : List ℕ) (t : Tree) → first_unrunnable path t ≡ None → Holds AllRun (typed_in s node t)
+unfolding typed_in
+typed_runs s node path (form.scan c f) none = holds_then Runs AllRun (λ o. Ok (o, node + 1)) (scan_typed s node c f) (scan_runs s node c f) (λ o h. h)
+typed_runs s node path (form.unary c (form.select cs) t) none =
+    holds_then AllRun AllRun (λ i. unary_typed s node c (form.select cs) i.0 >>= λ o. Ok (o, i.1)) (typed_in s (node + 1) t) (typed_runs s (node + 1) (path ++ codes ".input") t none)
+    (λ i h. holds_then Runs AllRun (λ o. Ok (o, i.1)) (unary_typed s node c (form.select cs) i.0) (select_runs s node c cs i.0 h) (λ o k. k))
+typed_runs s node path (form.unary c (form.project os) t) none = cc
+typed_runs s node path (form.unary c (form.distinct os) t) none = cc
+typed_runs s node path (form.unary c (form.sort names) t) none = cc
+typed_runs s node path (form.unary c (form.group by aggregates) t) none = cc
+typed_runs s node path (form.binary c op t u) none = cc
+typed_runs s node path (form.exchange c (form.hash size route cols) m t) none = cc
+typed_runs s node path (form.exchange c (form.range size range col) m t) none = cc
+typed_runs s node path (form.exchange c (form.round size) m t) none = cc
+typed_runs s node path (form.exchange c (form.broadcast size) m t) none = cc
+typed_runs s node path (form.exchange c form.gather [] t) none =
+    holds_then AllRun AllRun (λ i. exchange_typed s node c form.gather [] i.0 >>= λ o. Ok (o, i.1)) (typed_in s (node + 1) t) (typed_runs s (node + 1) (path ++ codes ".input") t none)
+    (λ i h. holds_then Runs AllRun (λ o. Ok (o, i.1)) (exchange_typed s node c form.gather [] i.0) (gather_runs s node c i.0 h) (λ o k. k))
+typed_runs s node path (form.exchange c form.gather (name ∷ names) t) none = cc
+
+abbrev RootRuns : Resolved → Type 0
+RootRuns p = Runs p.root
+
+resolved_runs : (d : Document) (catalog : List Relation) → first_unrunnable (codes "root") d.root ≡ None → Holds RootRuns (resolved d catalog)
+unfolding resolved
+resolved_runs d catalog none =
+    let s : Names = record { catalog = catalog; ranges = d.ranges; sizes = d.sizes } in
+    let last = λ (t : Outline × ℕ). Ok (record { names = s; total = d.total; root = t.0 }) in
+    then_holds RootRuns (λ u. ranges_tested d.ranges >>= λ v. typed_in s 0 d.root >>= last) (sizes_tested d.sizes)
+    (λ u. then_holds RootRuns (λ v. typed_in s 0 d.root >>= last) (ranges_tested d.ranges)
+    (λ v. holds_then AllRun RootRuns last (typed_in s 0 d.root) (typed_runs s 0 (codes "root") d.root none) (λ t h. h)))
+
+unless_runs : (d : Document) (catalog : List Relation) (o : Option (List ℕ)) → first_unrunnable (codes "root") d.root ≡ o → Holds RootRuns (unless_at d o >>= λ d. resolved d catalog)
+unless_runs d catalog None is = resolved_runs d catalog is
+unless_runs d catalog (Some path) is = tt
+
+-- a plan that is to be run, and that was taken and resolved, is one that workers can run
+pub taken_runs : (read : Result Document Refusal) (catalog : List Relation) (p : Resolved) → (read >>= λ d. taken_by command.Run d >>= λ d. resolved d catalog) ≡ Ok p → can_run (plan_in p.root) ≡ true
+taken_runs read catalog p is =
+    holds_at RootRuns (read >>= λ d. taken_by command.Run d >>= λ d. resolved d catalog) p
+    (then_holds RootRuns (λ d. taken_by command.Run d >>= λ d. resolved d catalog) read (λ d. unless_runs d catalog (first_unrunnable (codes "root") d.root) refl)) is

@@ -1,7 +1,12 @@
 -- Bytes that are told or not, and a plan of them.
-use Rattle.std.proofs.Common.{◌≡◌, ℕ, List, Bool, true, false, cond, Option, Some, None, refl, sym, subst}
+use Rattle.std.proofs.Common.{◌≡◌, ℕ, List, Bool, true, false, cond, Option, Some, None, refl, sym, subst, inl, inr}
 use Rattle.std.specs.Prelude.{IfSome}
-use Rattle.vx_rows.specs.Ports.{IsAll}
+use Rattle.vx_rows.specs.Ports.{IsAll, IsOver, ExplainsAll}
+use Rattle.vx_rows.specs.declared.bytes.ReadFault.{ReadFault}
+use Rattle.vx_rows.specs.declared.bytes.ReadFault.TheVariants as fault
+use Rattle.vx_catalog.specs.Loading.{max_bytes}
+use Rattle.vx_answer.specs.Folder.{HasBroken}
+use Rattle.vx_answer.specs.Worded.{IsUnreadable}
 
 -- what holds of all bytes that were taken holds of those that are told
 pub told_all : (P : List ℕ → Type 0) (known : Option (List ℕ)) (bytes : List ℕ) → IsAll known bytes → P bytes → IfSome known P
@@ -14,3 +19,11 @@ pub second_bytes : (first second : Bool) (before after file : Option (List ℕ))
 second_bytes first false before after file P same h = h
 second_bytes true true before after file P same h = tt
 second_bytes false true before after file P same h = let Q : Option (List ℕ) → Type 0 = λ o. IfSome o P in subst Q (same refl) h
+
+-- a file that failed while it was read
+pub unreadable_broken : {In : Type 0} (has_failed : In → Bool) (file : In) (known told : Option (List ℕ)) → ExplainsAll max_bytes known (has_failed file) fault.Broken → IsUnreadable told (HasBroken has_failed)
+unreadable_broken has_failed file known told h = inr (inl (file, h))
+
+-- a file that is too long
+pub unreadable_long : (known told : Option (List ℕ)) (failed : Bool) (broke : Type 0) → known ≡ told → ExplainsAll max_bytes known failed fault.TooLarge → IsUnreadable told broke
+unreadable_long known told failed broke there h = let P : Option (List ℕ) → Type 0 = λ o. IsOver max_bytes o in inr (inr (subst P there h.0))

@@ -10,7 +10,7 @@ use Rattle.vx_answer.specs.declared.worded.NotTaken.{NotTaken}
 use Rattle.vx_answer.specs.declared.worded.NotTaken.TheVariants as taken
 use Rattle.vx_answer.specs.Commanded.{CommandRefuses}
 use Rattle.vx_answer.specs.Folder.{holds_at, LacksAt}
-use Rattle.vx_answer.specs.Worded.{Task, IsPlannedIn, catalog_told, plan_told, TaskRefuses, for_plan_of, AnswersAsk, named, IsWorded, for_words, for_unknown, for_ask}
+use Rattle.vx_answer.specs.Worded.{Task, IsPlannedIn, catalog_told, plan_told, TaskRefuses, for_plan_of, AnswersAsk, named, IsWorded, for_words, for_no_task, for_ask}
 use Rattle.vx_answer.specs.WordsView.{IsNotAnswered, IsNotTaken}
 
 -- what holds of the text of an outcome
@@ -31,16 +31,12 @@ told_refusal P Q outcome (Err e) same weaker h =
     let there : P same.0 = subst R same.1 h in
     subst Q (sym same.2) (weaker same.0 there)
 
--- among kinds there is one
-pub some_kind : (k : ErrorKind) (kinds : Kinds) → IsAmong k kinds → kinds ≢ []
-some_kind k kinds h none = let P : Kinds → Type 0 = λ ks. IsAmong k ks in subst P none h
-
 -- what the command makes nothing of, the task has no answer to
-pub task_refused : {T : Type 0} (files : List ℕ → Option (List ℕ)) (input : Option (List ℕ)) (t : Task) (p : Resolved) (r : Result T Refusal)
-    → IsPlannedIn (catalog_told files input t.paths) (plan_told files input t.paths) p
-    → IfErr r (λ e. CommandRefuses t.command p (holds_at files t.folder) (LacksAt files t.folder) t.setting e) → IfErr r (λ e. TaskRefuses files input t e)
-task_refused files input t p (Ok x) planned h = tt
-task_refused files input t p (Err e) planned h = for_plan_of p planned h
+pub task_refused : {T : Type 0} (files : List ℕ → Option (List ℕ)) (broke : Type 0) (input : Option (List ℕ)) (failed : Bool) (t : Task) (p : Resolved) (r : Result T Refusal)
+    → IsPlannedIn t.command (catalog_told files input t.paths) (plan_told files input t.paths) p
+    → IfErr r (λ e. CommandRefuses t.command p (holds_at files t.folder) (LacksAt files broke t.folder) t.setting e) → IfErr r (λ e. TaskRefuses files broke input failed t e)
+task_refused files broke input failed t p (Ok x) planned h = tt
+task_refused files broke input failed t p (Err e) planned h = for_plan_of p planned h
 
 -- the answer to what words ask for answers the words
 pub words_text : (files : List ℕ → Option (List ℕ)) (input : Option (List ℕ)) (words : List (List ℕ)) (ask : Ask) (r : Result (Vec ℕ Global) NotTaken)
@@ -49,8 +45,8 @@ words_text files input words ask (Ok v) asked h = for_words ask asked h
 words_text files input words ask (Err e) asked h = tt
 
 -- and so does its refusal
-pub words_refused : {T : Type 0} (files : List ℕ → Option (List ℕ)) (input : Option (List ℕ)) (failed : Bool) (words : List (List ℕ)) (ask : Ask) (r : Result T NotTaken)
-    → asked_by (named words) ≡ Some ask → IfErr r (IsNotAnswered files input failed ask) → IfErr r (IsNotTaken files input failed words)
-words_refused files input failed words ask (Ok v) asked h = tt
-words_refused files input failed words ask (Err (taken.Misworded text)) asked h = for_unknown ask asked h
-words_refused files input failed words ask (Err (taken.Refused e)) asked h = for_ask ask asked h
+pub words_refused : {T : Type 0} (files : List ℕ → Option (List ℕ)) (broke : Type 0) (input : Option (List ℕ)) (failed : Bool) (words : List (List ℕ)) (ask : Ask) (r : Result T NotTaken)
+    → asked_by (named words) ≡ Some ask → IfErr r (IsNotAnswered files broke input failed ask) → IfErr r (IsNotTaken files broke input failed words)
+words_refused files broke input failed words ask (Ok v) asked h = tt
+words_refused files broke input failed words ask (Err (taken.Misworded text)) asked h = for_no_task ask asked h
+words_refused files broke input failed words ask (Err (taken.Refused e)) asked h = for_ask ask asked h

@@ -21,10 +21,11 @@ use Rattle.vx_answer.specs.Bundle.{Bundle, bundle_of_text}
 use Rattle.vx_answer.specs.Commanded.{IsFor, CommandRefuses}
 use Rattle.vx_answer.specs.Status.{status_of}
 use Rattle.vx_answer.specs.Texts.{holds_in, lacks_in}
+use Rattle.vx_answer.specs.Unrunnable.{taken_by}
 
--- the plan of a bundle over a catalog
+-- the plan of a bundle over a catalog: read, taken by the bundle's command, and resolved
 abbrev pub plan_for : Bundle → List Relation → Result Resolved plan.Refusal
-plan_for b catalog = document_in b.plan >>= λ d. resolved d catalog
+plan_for b catalog = document_in b.plan >>= λ d. taken_by b.command d >>= λ d. resolved d catalog
 
 -- a bundle's catalog, and its plan over that
 pub record IsPlanned (b : Bundle) (p : Resolved) : Type 0 where

@@ -13,7 +13,7 @@ use Rattle.vx_check.specs.Refusal.{Rule, refusal}
 use Rattle.vx_check.specs.RuleView.{rule_of}
 use Rattle.vx_check.specs.Explain.{explain_text}
 use Rattle.vx_check.specs.declared.rule.Rule as rust_rule
-use Rattle.vx_exec.specs.Sizes.{Sizes, can_run}
+use Rattle.vx_exec.specs.Sizes.{Sizes}
 use Rattle.vx_exec.specs.Runs.{IsRunOf, IsSetUp, RunFails}
 use Rattle.vx_exec.specs.declared.fault.RunFault.{RunFault}
 use Rattle.vx_serial.specs.Results.{IsSerialOf, EvalFails}
@@ -25,7 +25,6 @@ use Rattle.vx_answer.specs.declared.refusal.Refusal.TheVariants as refusal
 use Rattle.vx_answer.specs.ByteRouter.{byte_route}
 use Rattle.vx_answer.specs.Filled.{IsFilled, IsFirstMissing}
 use Rattle.vx_answer.specs.Setting.{Setting, setup_of}
-use Rattle.vx_answer.specs.Unrunnable.{Unrunnable}
 
 -- what tables have of a relation
 abbrev pub Holding : Type 1
@@ -59,11 +58,10 @@ pub record IsDatabaseFor (p : Resolved) (holds : Holding) (db : Database) : Type
 abbrev pub IsRun : Resolved → Holding → Setting → List ℕ → Type 0
 IsRun p holds setting text = (db : Database) × IsDatabaseFor p holds db × IsRunOver p db setting text
 
--- why this plan gives no text: a node that workers cannot run yet, then the tables, then the run
+-- why this plan gives no text: the tables, then the run
 pub data PlanRefuses (p : Resolved) (holds : Holding) (lacks : Lacking) (setting : Setting) (e : Refusal) : Type 0 where
-  for_node : Unrunnable (plan_in p.root) e → PlanRefuses p holds lacks setting e
-  for_tables : can_run (plan_in p.root) ≡ true → IsFirstMissing (plan_in p.root) holds lacks p.names.catalog e → PlanRefuses p holds lacks setting e
-  for_run : can_run (plan_in p.root) ≡ true → (db : Database) → IsDatabaseFor p holds db → RunRefuses p db setting e → PlanRefuses p holds lacks setting e
+  for_tables : IsFirstMissing (plan_in p.root) holds lacks p.names.catalog e → PlanRefuses p holds lacks setting e
+  for_run : (db : Database) → IsDatabaseFor p holds db → RunRefuses p db setting e → PlanRefuses p holds lacks setting e
 
 -- the plan without its exchanges, with its names
 abbrev pub erased : Resolved → Resolved

@@ -1,22 +1,27 @@
--- The first node that workers cannot run yet.
-use Rattle.std.specs.Prelude.{ℕ, ◌≡◌, List, [], ◌++◌, codes, false, Option, Some, None, String, string_bytes}
-use Rattle.std.specs.declared.alloc.Global.{Global}
-use Rattle.vx_plan.specs.Plan.{Plan, scan, unary, binary, exchange, select, gather}
-use Rattle.vx_document.specs.declared.fault.PlanFault.TheVariants as plan
-use Rattle.vx_exec.specs.Sizes.{can_run}
-use Rattle.vx_answer.specs.declared.refusal.Refusal.{Refusal}
-use Rattle.vx_answer.specs.declared.refusal.Refusal.TheVariants as refusal
+-- What a command takes of a plan that was read: a run, only operators that workers run so far.
+use Rattle.std.specs.Prelude.{ℕ, List, [], ◌++◌, codes, Option, Some, None, Result, Ok, Err}
+use Rattle.vx_document.specs.Document.{Tree, scan, unary, binary, exchange, select, gather, Document}
+use Rattle.vx_document.specs.Fault.{Refusal, bad_node}
+use Rattle.vx_answer.specs.declared.command.Command.{Command}
+use Rattle.vx_answer.specs.declared.command.Command.TheVariants as command
 
 -- the path of the first node in preorder that is no scan, no selection and no gather that does not merge, from a node with this path on
-abbrev pub first_unrunnable : (path : List ℕ) → Plan → Option (List ℕ)
-first_unrunnable path (scan n c r m z) = None
-first_unrunnable path (unary n c (select cs) p) = first_unrunnable (path ++ codes ".input") p
-first_unrunnable path (unary n c _ p) = Some path
-first_unrunnable path (binary n c op p q) = Some path
-first_unrunnable path (exchange n c gather [] p) = first_unrunnable (path ++ codes ".input") p
-first_unrunnable path (exchange n c _ _ p) = Some path
+abbrev pub first_unrunnable : (path : List ℕ) → Tree → Option (List ℕ)
+first_unrunnable path (scan c s) = None
+first_unrunnable path (unary c (select cs) t) = first_unrunnable (path ++ codes ".input") t
+first_unrunnable path (unary c _ t) = Some path
+first_unrunnable path (binary c op t u) = Some path
+first_unrunnable path (exchange c gather [] t) = first_unrunnable (path ++ codes ".input") t
+first_unrunnable path (exchange c _ _ t) = Some path
 
--- a plan that workers cannot run yet is refused at the first such node; want of memory excuses
-pub data Unrunnable (p : Plan) (e : Refusal) : Type 0 where
-  no_memory : e ≡ refusal.NoMemory → Unrunnable p e
-  at_node : (path : String Global) → e ≡ refusal.Plan (plan.BadNode path) → can_run p ≡ false → first_unrunnable (codes "root") p ≡ Some (string_bytes path) → Unrunnable p e
+-- the document, unless there is a node with this path that workers do not run
+abbrev pub unless_at : Document → Option (List ℕ) → Result Document Refusal
+unless_at d None = Ok d
+unless_at d (Some path) = Err (bad_node path)
+
+-- a plan that is to be run is refused at the first node that workers do not run so far; the other commands take every operator
+abbrev pub taken_by : Command → Document → Result Document Refusal
+taken_by command.Run d = unless_at d (first_unrunnable (codes "root") d.root)
+taken_by command.Serial d = Ok d
+taken_by command.Check d = Ok d
+taken_by command.Explain d = Ok d

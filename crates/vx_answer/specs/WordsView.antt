@@ -8,7 +8,7 @@ use Rattle.vx_words.specs.Asked.{Ask}
 use Rattle.clap.specs.declared.error.kind.ErrorKind.{ErrorKind}
 use Rattle.clap.specs.declared.error.kind.ErrorKind.TheVariants as kind
 use Rattle.vx_answer.specs.declared.refusal.Refusal.TheVariants as refusal
-use Rattle.vx_answer.specs.Worded.{Task, is_known, AskRefuses, AreMisworded, WordsRefuse}
+use Rattle.vx_answer.specs.Worded.{Task, IsNoTask, IsWrongKind, AskRefuses, AreMisworded, WordsRefuse}
 
 abbrev pub task_is : held.Task → Task
 task_is t = record { command = t.command; paths = paths_are t.sources; folder = t.folder.now; setting = t.setting }
@@ -18,17 +18,17 @@ abbrev pub IsWrong : NotTaken → Type 0
 IsWrong (taken.Misworded text) = Unit {0}
 IsWrong (taken.Refused e) = e ≡ refusal.NoMemory
 
--- a refusal by clap of this kind: words are wrong only where memory did not run out
+-- a refusal by clap of this kind: words are wrong only by a kind that says so
 abbrev pub IsFault : ErrorKind → NotTaken → Type 0
-IsFault k (taken.Misworded text) = k ≢ kind.OutOfMemory
+IsFault k (taken.Misworded text) = IsWrongKind k
 IsFault k (taken.Refused e) = e ≡ refusal.NoMemory
 
 -- why what words ask for is not answered
-abbrev pub IsNotAnswered : (List ℕ → Option (List ℕ)) → Option (List ℕ) → Bool → Ask → NotTaken → Type 0
-IsNotAnswered files input failed ask (taken.Misworded text) = is_known ask ≡ false
-IsNotAnswered files input failed ask (taken.Refused e) = AskRefuses files input failed ask e
+abbrev pub IsNotAnswered : (List ℕ → Option (List ℕ)) → Type 0 → Option (List ℕ) → Bool → Ask → NotTaken → Type 0
+IsNotAnswered files broke input failed ask (taken.Misworded text) = IsNoTask ask
+IsNotAnswered files broke input failed ask (taken.Refused e) = AskRefuses files broke input failed ask e
 
 -- why words are not answered
-abbrev pub IsNotTaken : (List ℕ → Option (List ℕ)) → Option (List ℕ) → Bool → List (List ℕ) → NotTaken → Type 0
-IsNotTaken files input failed words (taken.Misworded text) = AreMisworded words
-IsNotTaken files input failed words (taken.Refused e) = WordsRefuse files input failed words e
+abbrev pub IsNotTaken : (List ℕ → Option (List ℕ)) → Type 0 → Option (List ℕ) → Bool → List (List ℕ) → NotTaken → Type 0
+IsNotTaken files broke input failed words (taken.Misworded text) = AreMisworded words
+IsNotTaken files broke input failed words (taken.Refused e) = WordsRefuse files broke input failed words e

@@ -2,7 +2,9 @@
 
 ghost use Rattle.std.specs.Prelude.{◌≡◌, true, IfOk, IfErr};
 ghost use Rattle.vx_plan.specs.TypedView.{resolved_of};
+ghost use Rattle.vx_plan.specs.Outline.{plan_in};
 ghost use Rattle.vx_check.specs.CheckedView.{typed_plan};
+ghost use Rattle.vx_exec.specs.Sizes.{can_run};
 ghost use Rattle.vx_answer.specs.Commanded.{IsShown, accepted_text, is_checked, IsFor, CommandRefuses};
 
 use crate::refusal::Refusal;
@@ -48,6 +50,7 @@ fn text_for<T: Tables>(
 ) -> Result<Vec<u8>, Refusal>
     requires asked { is_checked command ≡ true }
     requires shown { IsShown (resolved_of (typed_plan checked.now)) }
+    requires runs { command ≡ Command.Run → can_run (plan_in (resolved_of (typed_plan checked.now)).root) ≡ true }
     ensures text { IfOk result (λ text. IsFor command (resolved_of (typed_plan checked.now)) (T.holds tables.now) setting.now text.items) }
     ensures refused { IfErr result (λ e. CommandRefuses command (resolved_of (typed_plan checked.now)) (T.holds tables.now) (T.lacks tables.now) setting.now e) }
 {
@@ -68,6 +71,7 @@ fn checked_text<T: Tables>(
     plan: TypedPlan,
 ) -> Result<Vec<u8>, Refusal>
     requires asked { is_checked command ≡ true }
+    requires runs { command ≡ Command.Run → can_run (plan_in (resolved_of plan).root) ≡ true }
     ensures text { IfOk result (λ text. IsFor command (resolved_of plan) (T.holds tables.now) setting.now text.items) }
     ensures refused { IfErr result (λ e. CommandRefuses command (resolved_of plan) (T.holds tables.now) (T.lacks tables.now) setting.now e) }
 {
@@ -80,7 +84,7 @@ fn checked_text<T: Tables>(
     }
 }
 
-/// The text that a command asks for of a plan over tables.
+/// The text that a command asks for of a plan over tables. Workers have to be able to run a plan that is to be run.
 pub fn carried_out<T: Tables>(
     alloc: Global,
     command: Command,
@@ -88,6 +92,7 @@ pub fn carried_out<T: Tables>(
     setting: &Setting,
     plan: TypedPlan,
 ) -> Result<Vec<u8>, Refusal>
+    requires runs { command ≡ Command.Run → can_run (plan_in (resolved_of plan).root) ≡ true }
     ensures text { IfOk result (λ text. IsFor command (resolved_of plan) (T.holds tables.now) setting.now text.items) }
     ensures refused { IfErr result (λ e. CommandRefuses command (resolved_of plan) (T.holds tables.now) (T.lacks tables.now) setting.now e) }
 {

@@ -5,6 +5,7 @@ mod answering;
 mod bundle;
 mod command;
 mod folder;
+mod given;
 mod look;
 mod page;
 mod refusal;

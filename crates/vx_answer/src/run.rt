@@ -14,7 +14,6 @@ use crate::refusal::Refusal;
 use crate::router::ByteRouter;
 use crate::setting::Setting;
 use crate::tables::{Tables, load_tables};
-use crate::unrunnable::test_runnable;
 use std::alloc::{AllocError, Global};
 use vx_catalog::{Database, write_rows};
 use vx_check::CheckedPlan;
@@ -82,12 +81,10 @@ pub fn run_plan<T: Tables>(
     setting: &Setting,
     plan: &CheckedPlan,
 ) -> Result<Vec<u8>, Refusal>
+    requires { can_run (plan_of_typed (typed_plan plan.now)) ≡ true }
     ensures text { IfOk result (λ text. IsRun (resolved_of (typed_plan plan.now)) (T.holds tables.now) setting.now text.items) }
     ensures refused { IfErr result (λ e. PlanRefuses (resolved_of (typed_plan plan.now)) (T.holds tables.now) (T.lacks tables.now) setting.now e) }
 {
-    if let Err(refusal) = test_runnable(alloc, plan.plan()) {
-        return Err(refusal);
-    }
     let database = match load_tables(alloc, plan.plan(), tables) {
         Ok(database) => database,
         Err(refusal) => return Err(refusal),

@@ -1,15 +1,20 @@
 //! A catalog and a plan from files and standard input.
 
-ghost use Rattle.std.specs.Prelude.{◌≡◌, false, codes, IfOk, IfErr};
+ghost use Rattle.std.specs.Prelude.{◌≡◌, true, false, codes, IfOk, IfErr};
 ghost use Rattle.vx_rows.specs.Ports.{IsAll};
 ghost use Rattle.vx_document.specs.Fault.{Gives};
 ghost use Rattle.vx_plan.specs.TypedView.{resolved_of};
+ghost use Rattle.vx_plan.specs.Outline.{plan_in};
+ghost use Rattle.vx_exec.specs.Sizes.{can_run};
 ghost use Rattle.vx_words.specs.Asked.{paths_are};
-ghost use Rattle.vx_answer.specs.Worded.{is_input, told_at, plan_text, Untaken, UnplannedIn, IsPlannedIn, catalog_told, plan_told};
+ghost use Rattle.vx_answer.specs.Folder.{HasBroken};
+ghost use Rattle.vx_answer.specs.Worded.{is_input, told_at, plan_text, IsFileRefusal, IsInputRefusal, Untaken, UnplannedIn, IsPlannedIn, catalog_told, plan_told};
 
 use crate::answering::MAX_BYTES;
+use crate::command::Command;
 use crate::refusal::Refusal;
 use crate::store::Store;
+use crate::unrunnable::test_taken;
 use std::alloc::Global;
 use vx_catalog::Catalog;
 use vx_plan::{Plan, PlanFault, TypedPlan, resolve};
@@ -22,11 +27,12 @@ const INPUT: &str = "-";
 /// All bytes of a file.
 fn file_bytes<F: Store>(alloc: Global, files: &F, path: &str) -> Result<Vec<u8>, Refusal>
     ensures taken { IfOk result (λ v. IsAll (F.holds files.now path.now) v.items) }
-    ensures refused { IfErr result (Untaken path.now) }
+    ensures refused { IfErr result (IsFileRefusal (F.holds files.now path.now) (HasBroken F.In.has_failed) path.now) }
 {
     let held = String::from_str(alloc, path)?;
-    let Some(mut file) = files.open(path) else {
-        return Err(Refusal::FileUnreadable { path: held });
+    let mut file = match files.open(path) {
+        Some(file) => file,
+        None => return Err(Refusal::FileUnreadable { path: held }),
     };
     match read_all(alloc, &mut file, MAX_BYTES) {
         Ok(bytes) => Ok(bytes),
@@ -40,7 +46,7 @@ fn file_bytes<F: Store>(alloc: Global, files: &F, path: &str) -> Result<Vec<u8>,
 /// All bytes that standard input has left.
 fn input_bytes<I: ByteIn>(alloc: Global, input: &mut I) -> Result<Vec<u8>, Refusal>
     ensures taken { IfOk result (λ v. IsAll (I.remaining input.old) v.items) }
-    ensures refused { IfErr result (Untaken (codes "-")) }
+    ensures refused { IfErr result (IsInputRefusal (I.remaining input.old) (I.has_failed input.new)) }
 {
     match read_all(alloc, input, MAX_BYTES) {
         Ok(bytes) => Ok(bytes),
@@ -57,7 +63,7 @@ fn bytes_at<F: Store, I: ByteIn>(
     path: &str,
 ) -> Result<Vec<u8>, Refusal>
     ensures taken { IfOk result (λ v. IsAll (told_at (F.holds files.now) (I.remaining input.old) path.now) v.items) }
-    ensures refused { IfErr result (Untaken path.now) }
+    ensures refused { IfErr result (Untaken (F.holds files.now) (HasBroken F.In.has_failed) (I.remaining input.old) (I.has_failed input.new) path.now) }
     ensures kept { is_input path.now ≡ false → input.new ≡ input.old }
 {
     if path == INPUT {
@@ -67,23 +73,32 @@ fn bytes_at<F: Store, I: ByteIn>(
     }
 }
 
-/// The plan of a text over a catalog.
-fn plan_over(alloc: Global, bytes: &[u8], catalog: &Catalog) -> Result<TypedPlan, PlanFault>
-    ensures { Gives resolved_of result (plan_text bytes.now catalog.now) }
+/// The plan of a text over a catalog, for a command.
+fn plan_over(
+    alloc: Global,
+    command: Command,
+    bytes: &[u8],
+    catalog: &Catalog,
+) -> Result<TypedPlan, PlanFault>
+    ensures plan { Gives resolved_of result (plan_text command bytes.now catalog.now) }
+    ensures runs { IfOk result (λ p. command ≡ Command.Run → can_run (plan_in (resolved_of p).root) ≡ true) }
 {
     let plan = Plan::read(alloc, bytes)?;
+    test_taken(alloc, command, &plan)?;
     resolve(alloc, &plan, catalog)
 }
 
-/// The plan that sources name, over the catalog that they name.
-pub fn plan_in<F: Store, I: ByteIn>(
+/// The plan that sources name for a command, over the catalog that they name.
+pub fn planned_in<F: Store, I: ByteIn>(
     alloc: Global,
     files: &F,
     input: &mut I,
+    command: Command,
     sources: Sources<'_>,
 ) -> Result<TypedPlan, Refusal>
-    ensures planned { IfOk result (λ p. IsPlannedIn (catalog_told (F.holds files.now) (I.remaining input.old) (paths_are sources.entry)) (plan_told (F.holds files.now) (I.remaining input.old) (paths_are sources.entry)) (resolved_of p)) }
-    ensures refused { IfErr result (UnplannedIn (paths_are sources.entry) (catalog_told (F.holds files.now) (I.remaining input.old) (paths_are sources.entry)) (plan_told (F.holds files.now) (I.remaining input.old) (paths_are sources.entry))) }
+    ensures planned { IfOk result (λ p. IsPlannedIn command (catalog_told (F.holds files.now) (I.remaining input.old) (paths_are sources.entry)) (plan_told (F.holds files.now) (I.remaining input.old) (paths_are sources.entry)) (resolved_of p)) }
+    ensures runs { IfOk result (λ p. command ≡ Command.Run → can_run (plan_in (resolved_of p).root) ≡ true) }
+    ensures refused { IfErr result (UnplannedIn command (F.holds files.now) (HasBroken F.In.has_failed) (I.remaining input.old) (I.has_failed input.new) (paths_are sources.entry)) }
 {
     let bytes = match bytes_at(alloc, files, input, sources.catalog) {
         Ok(bytes) => bytes,
@@ -97,7 +112,7 @@ pub fn plan_in<F: Store, I: ByteIn>(
         Ok(bytes) => bytes,
         Err(refusal) => return Err(refusal),
     };
-    match plan_over(alloc, bytes.as_slice(), &catalog) {
+    match plan_over(alloc, command, bytes.as_slice(), &catalog) {
         Ok(plan) => Ok(plan),
         Err(fault) => Err(Refusal::Plan(fault)),
     }

@@ -1,6 +1,6 @@
 //! Where the program's files are.
 
-ghost use Rattle.std.specs.Prelude.{◌≡◌, ℕ, List, Option, None, false, IfSome};
+ghost use Rattle.std.specs.Prelude.{◌≡◌, ℕ, List, Option, None, false, IfSome, IsSome};
 
 use std::fs;
 use std::fs::{File, Files};
@@ -11,12 +11,13 @@ pub trait Store {
     /// A file that is open, at its first byte.
     type In: ByteIn + Drop;
 
-    // The bytes of the file at this path, where the store tells them.
+    // The bytes of the file at this path, where the store tells them: then there is one, and it opens.
     ghost holds: { Self → List ℕ → Option (List ℕ) };
 
     /// The file at this path, if there is one that opens.
     fn open(&self, path: &str) -> Option<Self::In>
         ensures bytes { IfSome result (λ file. Self.In.remaining file ≡ holds self.now path.now) }
+        ensures there { IsSome (holds self.now path.now) → IsSome result }
         ensures whole { IfSome result (λ file. Self.In.has_failed file ≡ false) };
 }
 

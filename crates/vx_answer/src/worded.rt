@@ -1,24 +1,27 @@
 //! What words ask for, answered from files and standard input.
 
-ghost use Rattle.std.specs.Prelude.{◌≡◌, ◌⊎◌, map, option_map, IfOk, IfErr, Ok, Err};
+ghost use Rattle.std.specs.Prelude.{◌≡◌, ◌⊎◌, map, MatchOption, IfOk, IfErr, Ok, Err};
 ghost use Rattle.clap.specs.Values.{kind_of};
 ghost use Rattle.clap.specs.declared.error.kind.ErrorKind.TheVariants as kind;
-ghost use Rattle.vx_words.specs.Asked.{asked_is};
-ghost use Rattle.vx_answer.specs.Worded.{default_setting, task_of, IsDone, TaskRefuses, named, AnswersAsk, IsWorded};
+ghost use Rattle.vx_words.specs.Asked.{asked_is, paths_are, given_is, bundle, run};
+ghost use Rattle.vx_answer.specs.Folder.{HasBroken};
+ghost use Rattle.vx_answer.specs.Given.{IsNoSetting};
+ghost use Rattle.vx_answer.specs.Worded.{default_setting, IsTask, IsNoTask, IsDone, TaskRefuses, named, AnswersAsk, IsWorded};
 ghost use Rattle.vx_answer.specs.WordsView.{task_is, IsWrong, IsFault, IsNotAnswered, IsNotTaken};
 
 use crate::answering::outcome_of;
 use crate::command::{Command, carried_out};
 use crate::folder::Folder;
+use crate::given::setting_in;
 use crate::refusal::Refusal;
 use crate::setting::{MORSEL, Mode, PACKET, SLACK, Setting};
-use crate::sources::plan_in;
+use crate::sources::planned_in;
 use crate::store::Store;
 use clap::Error;
 use clap::error::ErrorKind;
 use std::alloc::{AllocError, Global};
 use vx_rows::ByteIn;
-use vx_words::{Asked, Sources, asked_for};
+use vx_words::{Asked, Limits, Sources, asked_for};
 
 /// A command over the catalog, the plan and the folder of tables that words name.
 #[derive(Drop)]
@@ -45,22 +48,56 @@ fn default_setting(alloc: Global) -> Setting
     Setting::new(Vec::new(alloc), PACKET, MORSEL, SLACK, Mode::Rounds)
 }
 
-/// The task that is asked for, if it is one so far.
-fn task_of<'a>(alloc: Global, asked: &Asked<'a>) -> Option<Task<'a>>
-    ensures { option_map task_is result ≡ task_of (asked_is asked.now) }
+/// A command that needs no more than a catalog and a plan, or a folder of tables too.
+fn plain_task<'a>(
+    alloc: Global,
+    command: Command,
+    sources: Sources<'a>,
+    folder: &'a str,
+) -> Task<'a>
+    ensures { task_is result ≡ record { command = command; paths = paths_are sources.entry; folder = folder.entry.now; setting = default_setting } }
 {
-    let (command, sources, folder) = match asked {
-        Asked::Check(sources) => (Command::Check, *sources, ""),
-        Asked::Explain(sources) => (Command::Explain, *sources, ""),
-        Asked::Serial(sources, folder) => (Command::Serial, *sources, *folder),
-        Asked::Bundle | Asked::Run(_, _, _) => return None,
-    };
-    Some(Task {
+    Task {
         command,
         sources,
         folder,
         setting: default_setting(alloc),
-    })
+    }
+}
+
+/// A run, if the words set one up.
+fn run_task<'a>(
+    alloc: Global,
+    sources: Sources<'a>,
+    folder: &'a str,
+    limits: &Limits<'a>,
+) -> Result<Option<Task<'a>>, AllocError>
+    ensures { IfOk result (λ o. MatchOption o (IsNoSetting (given_is limits.now)) (λ t. IsTask (run (paths_are sources.entry) folder.entry.now (given_is limits.now)) (task_is t))) }
+{
+    match setting_in(alloc, limits)? {
+        Some(setting) => Ok(Some(Task {
+            command: Command::Run,
+            sources,
+            folder,
+            setting,
+        })),
+        None => Ok(None),
+    }
+}
+
+/// The task that is asked for: none where a bundle is, or where words set no run up.
+fn task_in<'a>(alloc: Global, asked: &Asked<'a>) -> Result<Option<Task<'a>>, AllocError>
+    ensures { IfOk result (λ o. MatchOption o ((asked_is asked.now ≡ bundle) ⊎ IsNoTask (asked_is asked.now)) (λ t. IsTask (asked_is asked.now) (task_is t))) }
+{
+    match asked {
+        Asked::Bundle => Ok(None),
+        Asked::Check(sources) => Ok(Some(plain_task(alloc, Command::Check, *sources, ""))),
+        Asked::Explain(sources) => Ok(Some(plain_task(alloc, Command::Explain, *sources, ""))),
+        Asked::Serial(sources, folder) => {
+            Ok(Some(plain_task(alloc, Command::Serial, *sources, *folder)))
+        }
+        Asked::Run(sources, folder, limits) => run_task(alloc, *sources, *folder, limits),
+    }
 }
 
 /// The text that answers a task.
@@ -71,9 +108,9 @@ fn done<F: Store, I: ByteIn>(
     task: &Task<'_>,
 ) -> Result<Vec<u8>, Refusal>
     ensures text { IfOk result (λ text. IsDone (F.holds files.now) (I.remaining input.old) (task_is task.now) text.items) }
-    ensures refused { IfErr result (λ e. TaskRefuses (F.holds files.now) (I.remaining input.old) (task_is task.now) e) }
+    ensures refused { IfErr result (λ e. TaskRefuses (F.holds files.now) (HasBroken F.In.has_failed) (I.remaining input.old) (I.has_failed input.new) (task_is task.now) e) }
 {
-    let plan = match plan_in(alloc, files, input, task.sources) {
+    let plan = match planned_in(alloc, files, input, task.command, task.sources) {
         Ok(plan) => plan,
         Err(refusal) => return Err(refusal),
     };
@@ -113,17 +150,18 @@ fn answered<F: Store, I: ByteIn>(
     asked: &Asked<'_>,
 ) -> Result<Vec<u8>, NotTaken>
     ensures text { IfOk result (λ text. AnswersAsk (F.holds files.now) (I.remaining input.old) (asked_is asked.now) text.items) }
-    ensures refused { IfErr result (IsNotAnswered (F.holds files.now) (I.remaining input.old) (I.has_failed input.new) (asked_is asked.now)) }
+    ensures refused { IfErr result (IsNotAnswered (F.holds files.now) (HasBroken F.In.has_failed) (I.remaining input.old) (I.has_failed input.new) (asked_is asked.now)) }
 {
     if let Asked::Bundle = asked {
         return told(outcome_of(alloc, input));
     }
-    match task_of(alloc, asked) {
-        Some(task) => told(done(alloc, files, input, &task)),
-        None => Err(misworded(
+    match task_in(alloc, asked) {
+        Ok(Some(task)) => told(done(alloc, files, input, &task)),
+        Ok(None) => Err(misworded(
             alloc,
-            "volcano: run takes no words yet, but a bundle on standard input\n",
+            "volcano: a size is a word NAME=N, with a number of workers; see volcano run --help\n",
         )),
+        Err(_) => Err(NotTaken::Refused(Refusal::NoMemory)),
     }
 }
 
@@ -162,7 +200,7 @@ pub fn worded<F: Store, I: ByteIn>(
     words: &[&str],
 ) -> Result<Vec<u8>, NotTaken>
     ensures text { IfOk result (λ text. IsWorded (F.holds files.now) (I.remaining input.old) (map (λ w. w.now) words.now) text.items) }
-    ensures refused { IfErr result (IsNotTaken (F.holds files.now) (I.remaining input.old) (I.has_failed input.new) (map (λ w. w.now) words.now)) }
+    ensures refused { IfErr result (IsNotTaken (F.holds files.now) (HasBroken F.In.has_failed) (I.remaining input.old) (I.has_failed input.new) (map (λ w. w.now) words.now)) }
 {
     let Ok(words) = named(alloc, words) else {
         return Err(NotTaken::Refused(Refusal::NoMemory));

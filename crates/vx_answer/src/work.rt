@@ -10,6 +10,7 @@ use crate::bundle::{Bundle, bundle_in, value_of_text};
 use crate::command::{Command, carried_out};
 use crate::refusal::Refusal;
 use crate::setting::Mode;
+use crate::unrunnable::test_taken;
 use std::alloc::Global;
 use vx_catalog::Catalog;
 use vx_plan::{Plan, PlanFault, TypedPlan, resolve};
@@ -19,6 +20,7 @@ fn plan_for(alloc: Global, bundle: &Bundle<'_>, catalog: &Catalog) -> Result<Typ
     ensures { Gives resolved_of result (plan_for (bundle_form bundle.now) catalog.now) }
 {
     let plan = Plan::of_value(alloc, bundle.plan())?;
+    test_taken(alloc, bundle.command(), &plan)?;
     resolve(alloc, &plan, catalog)
 }
 

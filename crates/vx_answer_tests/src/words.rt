@@ -15,6 +15,10 @@ const CATALOG: &str =
 const PLAN: &str =
     r#"{"sizes":["many"],"root":{"op":"exchange","kind":"gather","claim":{"part":"one"},"input":{"op":"select","where":[{"column":"v","op":"=","value":7}],"input":{"op":"scan","relation":"t","mode":"shared","size":"many"}}}}"#;
 
+/// A sort, which workers do not run so far, of a relation that no catalog has.
+const SORT: &str =
+    r#"{"root":{"op":"sort","columns":["id"],"input":{"op":"scan","relation":"u","mode":"whole","size":"one"}}}"#;
+
 const ROWS: &str = "id,k,v\n0,a,5\n1,b,7\n2,a,-2\n3,c,7\n";
 
 /// A file with its path, and how many bytes it gives before it fails.
@@ -55,7 +59,7 @@ impl<'a> Store for Shelf<'a> {
 }
 
 /// The files of the first case.
-const LEAVES: [Leaf<'static>; 7] = [
+const LEAVES: [Leaf<'static>; 8] = [
     Leaf {
         path: "c.json",
         text: CATALOG,
@@ -80,6 +84,11 @@ const LEAVES: [Leaf<'static>; 7] = [
         path: "cut.json",
         text: CATALOG,
         fails_after: Some(9),
+    },
+    Leaf {
+        path: "sort.json",
+        text: SORT,
+        fails_after: None,
     },
     Leaf {
         path: "odd.json",
@@ -194,6 +203,75 @@ fn plans_are_evaluated_over_folders(rt: HostRuntime) -> Result<(), Fail> {
     ] {
         assert_eq!(rt; evaluated(&rt, folder)?.as_str(), line);
     }
+    Ok(())
+}
+
+/// A run over a folder, with words behind its paths.
+fn run_with<R: Threads + Wait + Sync + AllocGlobal>(
+    rt: &R,
+    plan: &str,
+    more: &[&str],
+) -> Result<String, Fail> {
+    let mut words = Vec::from_slice(
+        rt.alloc(),
+        &["run", "--catalog", "c.json", "--data", "d", "--plan", plan],
+    )?;
+    words.extend_from_slice(more)?;
+    line_for(rt, words.as_slice(), "")
+}
+
+#[test]
+fn plans_are_run_over_folders(rt: HostRuntime) -> Result<(), Fail> {
+    let line = run_with(&rt, "p.json", &["many=3"])?;
+    assert_eq!(rt; line.as_str(), "id,k,v\n1,b,7\n3,c,7\n||0");
+    let line = run_with(
+        &rt,
+        "p.json",
+        &["--packet", "1", "--morsel", "1", "--slack", "4", "many=3"],
+    )?;
+    assert_eq!(rt; line.as_str(), "id,k,v\n3,c,7\n1,b,7\n||0");
+    let cases: [(&[&str], &str); 6] = [
+        (&[], "|volcano: X1 SizeMissing name=many\n|3"),
+        (&["few=3"], "|volcano: X1 SizeMissing name=many\n|3"),
+        (&["many=65"], "|volcano: X2 SizeOutOfRange name=many\n|3"),
+        (&["--packet", "0", "many=3"], "|volcano: X3 BadPacket\n|3"),
+        (
+            &["--morsel", "1000001", "many=3"],
+            "|volcano: X4 BadMorsel\n|3",
+        ),
+        (&["--slack", "1025", "many=3"], "|volcano: X14 BadSlack\n|3"),
+    ];
+    for (more, line) in cases {
+        assert_eq!(rt; run_with(&rt, "p.json", more)?.as_str(), line);
+    }
+    Ok(())
+}
+
+#[test]
+fn sizes_are_names_with_numbers(rt: HostRuntime) -> Result<(), Fail> {
+    let line = run_with(&rt, "cut.json", &["a=b=4294967295"])?;
+    assert_eq!(rt; line.as_str(), "|volcano: V3 FileUnreadable path=cut.json\n|3");
+    let line = run_with(&rt, "p.json", &["many=3=4"])?;
+    assert_eq!(rt; line.as_str(), "|volcano: X1 SizeMissing name=many\n|3");
+    for word in ["many", "many=", "many=x", "many=-1", "many=4294967296"] {
+        let line = run_with(&rt, "p.json", &["a=1", word])?;
+        assert_eq!(rt;
+            line.as_str(),
+            "|volcano: a size is a word NAME=N, with a number of workers; see volcano run --help\n|2",
+            "{word}"
+        );
+    }
+    let line = run_with(&rt, "p.json", &["--packet", "4294967296", "many=3"])?;
+    assert!(rt; line.as_str().ends_with("|2"), "{line}");
+    Ok(())
+}
+
+#[test]
+fn a_plan_is_taken_before_it_is_resolved(rt: HostRuntime) -> Result<(), Fail> {
+    let line = run_with(&rt, "sort.json", &["many=3"])?;
+    assert_eq!(rt; line.as_str(), "|volcano: P2 BadNode path=root\n|3");
+    let line = judged(&rt, "check", "c.json", "sort.json", "")?;
+    assert_eq!(rt; line.as_str(), "|volcano: P4 UnknownRelation node=1 name=u\n|3");
     Ok(())
 }
 

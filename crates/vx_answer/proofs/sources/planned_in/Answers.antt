@@ -6,7 +6,7 @@ use Rattle.vx_document.specs.Fault as plan
 use Rattle.vx_words.specs.Asked.{paths_are}
 use Rattle.vx_answer.specs.Worded.{is_input, told_at, plan_text, catalog_told, for_catalog_bytes, for_catalog, for_plan_bytes, for_plan}
 use Rattle.vx_answer.proofs.SourceFacts.{told_all, second_bytes}
-use Rattle.vx_answer.proofs.sources.plan_in.Goals as goal
+use Rattle.vx_answer.proofs.sources.planned_in.Goals as goal
 
 pub returns-in-Err-clause-refused : goal.returns-in-Err-clause-refused
 returns-in-Err-clause-refused g c = for_catalog_bytes c.in-Err.ensures.refused
@@ -36,8 +36,8 @@ returns-clause-refused g c =
     let fault = c.in-Err-plan_over.fault in
     let P : List ℕ → Type 0 = λ bytes. catalog_text bytes ≡ Ok c.in-Ok-read.catalog in
     let declared : P c.in-Ok.bytes.items = rw c.as_slice.ensures.value at c.in-Ok-read.ensures in
-    let Q : List ℕ → Type 0 = λ bytes. plan.Fails fault (plan_text bytes c.in-Ok-read.catalog) in
-    let fails : Q c.in-Ok-bytes_at.bytes.items = rw c.as_slice-2.ensures.value at c.in-Err-plan_over.ensures in
+    let Q : List ℕ → Type 0 = λ bytes. plan.Fails fault (plan_text c.args.command bytes c.in-Ok-read.catalog) in
+    let fails : Q c.in-Ok-bytes_at.bytes.items = rw c.as_slice-2.ensures.value at c.in-Err-plan_over.ensures.plan in
     let told : IfSome (told_at files after second) Q = told_all Q (told_at files after second) c.in-Ok-bytes_at.bytes.items c.in-Ok-bytes_at.ensures.taken fails in
     for_plan c.in-Ok-read.catalog fault refl (told_all P (catalog_told files before (paths_are c.args.sources)) c.in-Ok.bytes.items c.in-Ok.ensures.taken declared)
     (second_bytes (is_input first) (is_input second) before after (files second) Q (λ other. ap (g.I.ByteIn.remaining) (c.in-Ok.ensures.kept other)) told)

@@ -1,0 +1,63 @@
+//! How words set a run up.
+
+ghost use Rattle.std.specs.Prelude.{map, MatchOption, IfOk};
+ghost use Rattle.vx_words.specs.Asked.{given_is};
+ghost use Rattle.vx_answer.specs.Setting.{size_form};
+ghost use Rattle.vx_answer.specs.Given.{Numbers, IsSize, IsNoSize, AreSizes, HasNoSize, IsSetting, IsNoSetting};
+
+use crate::setting::{Mode, Setting};
+use std::alloc::{AllocError, Global};
+use vx_words::Limits;
+
+/// The number of 32 bits that a text is.
+fn number_in(text: &str) -> Option<u32>
+    ensures { Numbers text.now result }
+{
+    text.parse::<u32>().ok()
+}
+
+/// The name and the number of a word NAME=N.
+fn size_in(alloc: Global, word: &str) -> Result<Option<(String, u32)>, AllocError>
+    ensures { IfOk result (λ o. MatchOption o (IsNoSize word.now) (λ z. IsSize word.now (size_form z))) }
+{
+    let Some((name, number)) = word.rsplit_once('=') else {
+        return Ok(None);
+    };
+    let Some(workers) = number_in(number) else {
+        return Ok(None);
+    };
+    Ok(Some((String::from_str(alloc, name)?, workers)))
+}
+
+/// The names and the numbers of words NAME=N.
+fn sizes_in(alloc: Global, words: &[&str]) -> Result<Option<Vec<(String, u32)>>, AllocError>
+    ensures { IfOk result (λ o. MatchOption o (HasNoSize (map (λ w. w.now) words.now)) (λ v. AreSizes (map (λ w. w.now) words.now) (map size_form v.items))) }
+{
+    let mut sizes = Vec::new(alloc);
+    for word in words {
+        let Some(size) = size_in(alloc, word)? else {
+            return Ok(None);
+        };
+        sizes.push(size)?;
+    }
+    Ok(Some(sizes))
+}
+
+/// How words set a run up, if they do.
+pub fn setting_in(alloc: Global, limits: &Limits<'_>) -> Result<Option<Setting>, AllocError>
+    ensures { IfOk result (λ o. MatchOption o (IsNoSetting (given_is limits.now)) (λ s. IsSetting (given_is limits.now) s)) }
+{
+    let Some(packet) = number_in(limits.packet) else {
+        return Ok(None);
+    };
+    let Some(morsel) = number_in(limits.morsel) else {
+        return Ok(None);
+    };
+    let Some(slack) = number_in(limits.slack) else {
+        return Ok(None);
+    };
+    match sizes_in(alloc, limits.sizes.as_slice())? {
+        Some(sizes) => Ok(Some(Setting::new(sizes, packet, morsel, slack, Mode::Rounds))),
+        None => Ok(None),
+    }
+}
