@@ -26,4 +26,3 @@ pub use selection::{passes, selected};
 pub use sorting::sorted;
 pub use sum::{SumIsFull, WideSum};
 pub use union::united;
-

@@ -250,7 +250,10 @@ fn plans_are_run_over_folders(rt: HostRuntime) -> Result<(), Fail> {
 #[test]
 fn sizes_are_names_with_numbers(rt: HostRuntime) -> Result<(), Fail> {
     let line = run_with(&rt, "cut.json", &["a=b=4294967295"])?;
-    assert_eq!(rt; line.as_str(), "|volcano: V3 FileUnreadable path=cut.json\n|3");
+    assert_eq!(rt;
+        line.as_str(),
+        "|volcano: V3 FileUnreadable path=cut.json\n|3"
+    );
     let line = run_with(&rt, "p.json", &["many=3=4"])?;
     assert_eq!(rt; line.as_str(), "|volcano: X1 SizeMissing name=many\n|3");
     for word in ["many", "many=", "many=x", "many=-1", "many=4294967296"] {
@@ -271,7 +274,10 @@ fn a_plan_is_taken_before_it_is_resolved(rt: HostRuntime) -> Result<(), Fail> {
     let line = run_with(&rt, "sort.json", &["many=3"])?;
     assert_eq!(rt; line.as_str(), "|volcano: P2 BadNode path=root\n|3");
     let line = judged(&rt, "check", "c.json", "sort.json", "")?;
-    assert_eq!(rt; line.as_str(), "|volcano: P4 UnknownRelation node=1 name=u\n|3");
+    assert_eq!(rt;
+        line.as_str(),
+        "|volcano: P4 UnknownRelation node=1 name=u\n|3"
+    );
     Ok(())
 }
 

@@ -34,7 +34,10 @@ pub struct Database {
 // By hand, so that the drops of its parts are made and proved here once, and not again in each crate that drops one.
 impl Drop for Database {
     fn drop(self) {
-        let Database { catalog: _, tables: _ } = self;
+        let Database {
+            catalog: _,
+            tables: _,
+        } = self;
     }
 }
 

@@ -27,7 +27,12 @@ pub struct Plan {
 // By hand, so that the drops of its parts are made and proved here once, and not again in each crate that drops one.
 impl Drop for Plan {
     fn drop(self) {
-        let Plan { sizes: _, ranges: _, total: _, root: _ } = self;
+        let Plan {
+            sizes: _,
+            ranges: _,
+            total: _,
+            root: _,
+        } = self;
     }
 }
 

@@ -2,10 +2,10 @@ ghost use Rattle.std.specs.Prelude.{◌≡◌, ◌<◌, [], ◌∷◌, length, I
 ghost use Rattle.vx_rows.specs.declared.value.ColType.{ColType as Kind};
 ghost use Rattle.vx_exchange.specs.Gather.{gather_is_open};
 
-use vx_exchange::{Gather, Kept, Receiver, Sends};
 use std::alloc::{AllocError, Global};
 use std::process::Abort;
 use std::test::Fail;
+use vx_exchange::{Gather, Kept, Receiver, Sends};
 use vx_ops::{Code, Fault, Got, Polled, Source, Want};
 use vx_plan::Router;
 use vx_ports::{Body, Ending, Packet};

@@ -1,8 +1,8 @@
 //! Groups of small tables, worked by hand.
 
 use crate::kernels::{shown, table};
-use vx_algebra::{GroupFault, grouped};
 use std::test::Fail;
+use vx_algebra::{GroupFault, grouped};
 use vx_plan::Aggregate;
 
 const EVERY: [Aggregate; 4] = [

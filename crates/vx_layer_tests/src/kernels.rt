@@ -3,9 +3,9 @@
 ghost use Rattle.std.specs.Prelude.{◌≡◌, [], ◌∷◌, IfOk};
 ghost use Rattle.vx_rows.specs.declared.value.ColType.TheVariants as kind;
 
-use vx_algebra::{distinct, hash_join, projected, sorted, united};
 use std::alloc::{AllocError, Global};
 use std::test::Fail;
+use vx_algebra::{distinct, hash_join, projected, sorted, united};
 use vx_rows::{Cell, ColType, Rows, Value};
 
 const TYPES: [ColType; 2] = [ColType::Int, ColType::Text];

@@ -3,9 +3,9 @@
 ghost use Rattle.vx_rows.specs.View.{AreColumns};
 
 use crate::kernels::{shown, table};
-use vx_algebra::{Merge, MergeFault, merge_join};
 use std::alloc::{AllocError, Global};
 use std::test::Fail;
+use vx_algebra::{Merge, MergeFault, merge_join};
 use vx_rows::{ColType, Rows};
 
 const TYPES: [ColType; 4] = [ColType::Int, ColType::Text, ColType::Int, ColType::Text];

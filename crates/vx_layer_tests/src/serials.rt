@@ -1,11 +1,11 @@
 //! What no clause says: small plans have their rows, and refusals their lines.
 
-use vx_serial::eval;
 use std::alloc::Global;
 use std::test::Fail;
 use vx_catalog::{Catalog, Database, Loader};
 use vx_plan::{Plan, TypedPlan, resolve};
 use vx_rows::{Cell, MemoryIn, Rows};
+use vx_serial::eval;
 
 const CATALOG: &str =
     r#"{"relations":[{"name":"t","columns":[{"name":"id","type":"int"},{"name":"k","type":"text"},{"name":"v","type":"int"}]}]}"#;

@@ -1,8 +1,8 @@
 //! What no clause says: that the commands are there, and the kinds of what is refused.
 
-use vx_words::{Asked, asked_for};
 use std::alloc::Global;
 use std::test::Fail;
+use vx_words::{Asked, asked_for};
 
 /// What the words ask for, as a text.
 fn shown(alloc: Global, words: &[&str]) -> Result<String, Fail> {

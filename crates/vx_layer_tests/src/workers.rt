@@ -4,7 +4,6 @@ ghost use Rattle.vx_ops.specs.Scan.{scan_types};
 ghost use Rattle.vx_exchange.specs.Kept.{kept_post, kept_is_open, kept_has_closed};
 ghost use Rattle.vx_worker.specs.Worker.{IsReady};
 
-use vx_worker::{Morsels, Outcome, Stepped, Tree, Wires, Worker};
 use std::alloc::{AllocError, Global};
 use std::test::Fail;
 use vx_exchange::Kept;
@@ -12,6 +11,7 @@ use vx_ops::{Code, Fault, Scan};
 use vx_plan::Router;
 use vx_ports::{Packet, Put};
 use vx_rows::{ColType, Rows, Value};
+use vx_worker::{Morsels, Outcome, Stepped, Tree, Wires, Worker};
 
 /// Sends every key to consumer 0.
 #[derive(Drop)]

@@ -31,7 +31,13 @@ pub struct TypedPlan {
 // By hand, so that the drops of its parts are made and proved here once, and not again in each crate that drops one.
 impl Drop for TypedPlan {
     fn drop(self) {
-        let TypedPlan { catalog: _, sizes: _, ranges: _, total: _, root: _ } = self;
+        let TypedPlan {
+            catalog: _,
+            sizes: _,
+            ranges: _,
+            total: _,
+            root: _,
+        } = self;
     }
 }
 

@@ -46,7 +46,11 @@ pub struct Rows {
 // By hand, so that the drops of its parts are made and proved here once, and not again in each crate that drops one.
 impl Drop for Rows {
     fn drop(self) {
-        let Rows { types: _, columns: _, count: _ } = self;
+        let Rows {
+            types: _,
+            columns: _,
+            count: _,
+        } = self;
     }
 }
 

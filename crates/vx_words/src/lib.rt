@@ -5,4 +5,3 @@ mod asked;
 mod command_line;
 
 pub use asked::{Asked, Limits, Sources, asked_for};
-

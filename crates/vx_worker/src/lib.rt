@@ -16,4 +16,3 @@ pub use tree::Tree;
 pub use wires::{Morsels, Wires};
 pub use wish::Wish;
 pub use worker::{Outcome, Stepped, Worker};
-
