@@ -14,7 +14,7 @@ fault_is {T} fault h = let P : Result T LoadFault → Type 0 = λ r. IfErr r (λ
 -- of a path at which no file opens nothing is told
 pub nothing_told : {A B : Type 0} (told : Option A) (opened : Option B) → (IsSome told → IsSome opened) → opened ≡ None → told ≡ None
 nothing_told None opened there none = refl
-nothing_told {A} {B} (Some x) opened there none = let P : Option B → Type 0 = λ o. IsSome o in absurd (subst P none (there tt))
+nothing_told {A} {B} (Some x) opened there none = let P : Option B → Type 0 = λ o. IsSome o in let opens : P None = subst P none (there refl) in cc
 
 -- a file that failed while it was read, or whose text does not hold the rows
 lacks_by : {T : Type 0} (failed : Bool) (known : Option (List ℕ)) (files : List ℕ → Option (List ℕ)) (broke : Type 0) (folder : List ℕ) (relation : Relation) (fault : LoadFault)

@@ -1,18 +1,26 @@
 -- The plan of a document with no node that workers do not run is one that they can run.
-use Rattle.std.proofs.Common.{◌≡◌, ℕ, ◌+◌, List, [], ◌∷◌, ◌++◌, codes, true, Option, Some, None, Result, Ok, Err, refl, sym}
-use Rattle.std.specs.Prelude.{⊤}
-use Rattle.vx_rows.specs.declared.value.ColType.{ColType}
+use Rattle.std.proofs.Common.{◌≡◌, ℕ, ◌+◌, List, [], ◌∷◌, ◌++◌, codes, true, Option, Some, None, Result, Ok, Err, refl, ap, ◌∙◌, subst}
+use Rattle.std.specs.Prelude.{⊤, IfOk}
+use Rattle.std.specs.List.{list_all}
 use Rattle.vx_catalog.specs.Relation.{Relation}
 use Rattle.vx_catalog.specs.Catalog.{relation_at}
 use Rattle.vx_document.specs.Document.{Name, ClaimForm, ConditionForm, ScanForm, Tree, Document}
 use Rattle.vx_document.specs.Document as form
-use Rattle.vx_document.specs.Fault.{Refusal, ◌>>=◌}
+use Rattle.vx_document.specs.Fault.{Refusal, ◌>>=◌, Gives}
+use Rattle.vx_document.specs.Reading.{document_in}
+use Rattle.vx_document.specs.declared.fault.PlanFault.{PlanFault}
 use Rattle.vx_document.proofs.Holds.{Holds, holds_then, holds_at}
 use Rattle.vx_plan.specs.Plan as plan
-use Rattle.vx_plan.specs.Lookup.{Names, size_found, columns_found, matched, once, walk_onto}
+use Rattle.vx_plan.specs.Typed.{is_condition}
+use Rattle.vx_plan.specs.Lookup.{Names, size_found, columns_found, matched, walk_onto}
 use Rattle.vx_plan.specs.Outline.{Columns, Top, Outline, scan, unary, exchange, columns, plan_in}
 use Rattle.vx_plan.specs.Resolve.{Shape, Resolved, scan_columns, relation_found, topped, scan_typed, conditions_found, select_shape, unary_shape, unary_typed, kind_found, kind_fits, exchange_columns, exchange_once, exchange_shape, exchange_typed, typed_in, sizes_tested, ranges_tested, resolved}
+use Rattle.vx_plan.specs.TypedView.{resolved_of}
+use Rattle.vx_plan.specs.declared.typed_plan.TypedPlan.{TypedPlan}
 use Rattle.vx_exec.specs.Sizes.{can_run}
+use Rattle.vx_answer.specs.declared.command.Command.{Command}
+use Rattle.vx_answer.specs.Bundle.{Bundle}
+use Rattle.vx_answer.specs.Answer.{IsPlanned}
 use Rattle.vx_answer.specs.declared.command.Command.TheVariants as command
 use Rattle.vx_answer.specs.Unrunnable.{first_unrunnable, unless_at, taken_by}
 
@@ -42,9 +50,14 @@ scan_runs s node c f =
 abbrev Selects : Shape → Type 0
 Selects o = (ks : List plan.Condition) × (o.op ≡ plan.select ks)
 
+abbrev selection : Columns → List plan.Condition → Shape
+selection cols ks = record { op = plan.select ks; renamed = []; columns = cols }
+
 select_is : (node : ℕ) (cols : Columns) (cs : List ConditionForm) → Holds Selects (unary_shape node cols (form.select cs))
-unfolding unary_shape, select_shape
-select_is node cols cs = then_holds Selects _ (conditions_found node cols.names cs) (λ ks. then_holds Selects _ _ (λ u. (ks, refl)))
+unfolding unary_shape select_shape
+select_is node cols cs =
+    then_holds Selects (λ (ks : List plan.Condition). matched node (list_all (is_condition cols.types) ks) >>= λ u. Ok (selection cols ks)) (conditions_found node cols.names cs)
+    (λ ks. then_holds Selects (λ (u : ⊤). Ok (selection cols ks)) (matched node (list_all (is_condition cols.types) ks)) (λ u. (ks, refl)))
 
 select_runs : (s : Names) (node : ℕ) (c : ClaimForm) (cs : List ConditionForm) (t : Outline) → Runs t → Holds Runs (unary_typed s node c (form.select cs) t)
 unfolding unary_typed
@@ -57,8 +70,11 @@ abbrev Gathers : plan.Kind × List ℕ → Type 0
 Gathers k = k ≡ (plan.gather, [])
 
 gather_is : (s : Names) (node : ℕ) (cols : Columns) → Holds Gathers (exchange_shape s node cols form.gather [])
-unfolding exchange_shape, exchange_columns, kind_found, columns_found, walk_onto
-gather_is s node cols = then_holds Gathers _ (exchange_once node form.gather []) (λ u. then_holds Gathers _ _ (λ v. refl))
+unfolding exchange_shape exchange_columns kind_found columns_found walk_onto
+gather_is s node cols =
+    let gathers : plan.Kind × List ℕ = (plan.gather, []) in
+    then_holds Gathers (λ (u : ⊤). matched node (kind_fits s cols.types plan.gather) >>= λ v. Ok gathers) (exchange_once node form.gather [])
+    (λ u. then_holds Gathers (λ (v : ⊤). Ok gathers) (matched node (kind_fits s cols.types plan.gather)) (λ v. refl))
 
 gather_runs : (s : Names) (node : ℕ) (c : ClaimForm) (t : Outline) → Runs t → Holds Runs (exchange_typed s node c form.gather [] t)
 unfolding exchange_typed
@@ -111,3 +127,19 @@ pub taken_runs : (read : Result Document Refusal) (catalog : List Relation) (p :
 taken_runs read catalog p is =
     holds_at RootRuns (read >>= λ d. taken_by command.Run d >>= λ d. resolved d catalog) p
     (then_holds RootRuns (λ d. taken_by command.Run d >>= λ d. resolved d catalog) read (λ d. unless_runs d catalog (first_unrunnable (codes "root") d.root) refl)) is
+
+-- and so is one that a call resolved
+pub resolve_runs : (r : Result TypedPlan PlanFault) (c : Command) (d : Document) (catalog : List Relation) → taken_by c d ≡ Ok d → Gives resolved_of r (resolved d catalog)
+    → IfOk r (λ p. c ≡ command.Run → can_run (plan_in (resolved_of p).root) ≡ true)
+resolve_runs (Err e) c d catalog taken gives = tt
+resolve_runs (Ok p) c d catalog taken gives =
+    λ run. let P : Command → Type 0 = λ c. taken_by c d ≡ Ok d in
+    let takes : taken_by command.Run d ≡ Ok d = subst P run taken in
+    let is : (taken_by command.Run d >>= λ d. resolved d catalog) ≡ Ok (resolved_of p) = ap (λ r. r >>= λ d. resolved d catalog) takes ∙ gives in
+    holds_at RootRuns (taken_by command.Run d >>= λ d. resolved d catalog) (resolved_of p) (unless_runs d catalog (first_unrunnable (codes "root") d.root) refl) is
+
+-- and a bundle's
+pub bundle_runs : (b : Bundle) (p : Resolved) → IsPlanned b p → b.command ≡ command.Run → can_run (plan_in p.root) ≡ true
+bundle_runs b p planned run =
+    let P : Command → Type 0 = λ c. (document_in b.plan >>= λ d. taken_by c d >>= λ d. resolved d planned.catalog) ≡ Ok p in
+    taken_runs (document_in b.plan) planned.catalog p (subst P run planned.planned)

@@ -2,11 +2,11 @@
 use Rattle.std.proofs.Common.{◌≡◌, ℕ, List, Bool, true, false, cond, Option, Some, None, refl, sym, subst, inl, inr}
 use Rattle.std.specs.Prelude.{IfSome}
 use Rattle.vx_rows.specs.Ports.{IsAll, IsOver, ExplainsAll}
-use Rattle.vx_rows.specs.declared.bytes.ReadFault.{ReadFault}
 use Rattle.vx_rows.specs.declared.bytes.ReadFault.TheVariants as fault
 use Rattle.vx_catalog.specs.Loading.{max_bytes}
+use Rattle.vx_answer.specs.declared.refusal.Refusal.{Refusal}
 use Rattle.vx_answer.specs.Folder.{HasBroken}
-use Rattle.vx_answer.specs.Worded.{IsUnreadable}
+use Rattle.vx_answer.specs.Worded.{IsUnreadable, IsInputRefusal, for_input_room, for_input, untaken_of}
 
 -- what holds of all bytes that were taken holds of those that are told
 pub told_all : (P : List ℕ → Type 0) (known : Option (List ℕ)) (bytes : List ℕ) → IsAll known bytes → P bytes → IfSome known P
@@ -27,3 +27,11 @@ unreadable_broken has_failed file known told h = inr (inl (file, h))
 -- a file that is too long
 pub unreadable_long : (known told : Option (List ℕ)) (failed : Bool) (broke : Type 0) → known ≡ told → ExplainsAll max_bytes known failed fault.TooLarge → IsUnreadable told broke
 unreadable_long known told failed broke there h = let P : Option (List ℕ) → Type 0 = λ o. IsOver max_bytes o in inr (inr (subst P there h.0))
+
+-- why the second path's bytes were not taken holds where less is told
+pub second_untaken : (first second : Bool) (before after file : Option (List ℕ)) (broke : Type 0) (failed : Bool) (path : List ℕ) (e : Refusal) → (first ≡ false → after ≡ before)
+    → untaken_of second file broke after failed path e → untaken_of second file broke (cond first None before) failed path e
+second_untaken first false before after file broke failed path e same h = h
+second_untaken true true before after file broke failed path e same (for_input_room is) = for_input_room is
+second_untaken true true before after file broke failed path e same (for_input is h) = for_input is (inr tt)
+second_untaken false true before after file broke failed path e same h = let P : Option (List ℕ) → Type 0 = λ o. IsInputRefusal o failed e in subst P (same refl) h

@@ -1,17 +1,18 @@
 -- From the refusal of what words ask for to the refusal of the words.
-use Rattle.std.proofs.Common.{◌≡◌, ℕ, List, [], Vec, Global, Bool, Option, Some, Result, Ok, Err, sym, subst, ◌≢◌}
+use Rattle.std.proofs.Common.{◌≡◌, ℕ, List, Vec, Global, Bool, Option, Some, Result, Ok, Err, sym, subst, inl, inr}
 use Rattle.std.specs.Prelude.{IfOk, IfErr}
-use Rattle.clap.specs.Words.{IsAmong, Kinds}
-use Rattle.clap.specs.declared.error.kind.ErrorKind.{ErrorKind}
+use Rattle.clap.specs.Values.{kind_of}
+use Rattle.clap.specs.Words.{HasKind}
+use Rattle.clap.specs.declared.error.Error.{Error}
 use Rattle.vx_plan.specs.Resolve.{Resolved}
-use Rattle.vx_words.specs.Asked.{Ask, asked_by}
+use Rattle.vx_words.specs.Asked.{Ask, asked_by, faults_of}
 use Rattle.vx_answer.specs.declared.refusal.Refusal.{Refusal}
 use Rattle.vx_answer.specs.declared.worded.NotTaken.{NotTaken}
 use Rattle.vx_answer.specs.declared.worded.NotTaken.TheVariants as taken
 use Rattle.vx_answer.specs.Commanded.{CommandRefuses}
 use Rattle.vx_answer.specs.Folder.{holds_at, LacksAt}
-use Rattle.vx_answer.specs.Worded.{Task, IsPlannedIn, catalog_told, plan_told, TaskRefuses, for_plan_of, AnswersAsk, named, IsWorded, for_words, for_no_task, for_ask}
-use Rattle.vx_answer.specs.WordsView.{IsNotAnswered, IsNotTaken}
+use Rattle.vx_answer.specs.Worded.{Task, IsPlannedIn, catalog_told, plan_told, TaskRefuses, for_plan_of, AnswersAsk, named, IsWorded, for_words, for_kind, for_no_task, for_no_room, for_ask}
+use Rattle.vx_answer.specs.WordsView.{IsFault, IsNotAnswered, IsNotTaken}
 
 -- what holds of the text of an outcome
 pub told_text : (P Q : List ℕ → Type 0) (outcome : Result (Vec ℕ Global) Refusal) (r : Result (Vec ℕ Global) NotTaken) → IfOk r (λ v. outcome ≡ Ok v)
@@ -50,3 +51,11 @@ pub words_refused : {T : Type 0} (files : List ℕ → Option (List ℕ)) (broke
 words_refused files broke input failed words ask (Ok v) asked h = tt
 words_refused files broke input failed words ask (Err (taken.Misworded text)) asked h = for_no_task ask asked h
 words_refused files broke input failed words ask (Err (taken.Refused e)) asked h = for_ask ask asked h
+
+-- what clap refuses is told as its kind says
+pub said_refused : {T : Type 0} (files : List ℕ → Option (List ℕ)) (broke : Type 0) (input : Option (List ℕ)) (failed : Bool) (words : List (List ℕ)) (error : Error) (r : Result T NotTaken)
+    → HasKind (faults_of (named words)) error → IfErr r (IsFault (kind_of error)) → IfErr r (IsNotTaken files broke input failed words)
+said_refused files broke input failed words error (Ok x) has h = tt
+said_refused files broke input failed words error (Err (taken.Misworded text)) (inl memory) h = absurd (h.2 memory)
+said_refused files broke input failed words error (Err (taken.Misworded text)) (inr among) h = for_kind (kind_of error) among h
+said_refused files broke input failed words error (Err (taken.Refused e)) has h = for_no_room h

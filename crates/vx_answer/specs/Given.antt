@@ -1,5 +1,5 @@
 -- How words set a run up: numbers as texts, and words NAME=N.
-use Rattle.std.specs.Prelude.{◌≡◌, ℕ, ◌^◌, ◌<◌, ◌==◌, ◌++◌, ◌⊎◌, List, [], ◌∷◌, length, slice_index_or, Option, Some, None, SomeIff, codes}
+use Rattle.std.specs.Prelude.{◌≡◌, ℕ, ◌^◌, ◌<◌, ◌==◌, ◌++◌, List, [], ◌∷◌, length, slice_index_or, Option, Some, None, SomeIff, codes}
 use Rattle.std.specs.Str.{NoCharPasses}
 use Rattle.std.specs.Str.Parse.{IsNumeral, digits_value, without_leading_plus}
 use Rattle.vx_words.specs.Asked.{Given}

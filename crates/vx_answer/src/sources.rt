@@ -37,9 +37,8 @@ fn file_bytes<F: Store>(alloc: Global, files: &F, path: &str) -> Result<Vec<u8>,
     match read_all(alloc, &mut file, MAX_BYTES) {
         Ok(bytes) => Ok(bytes),
         Err(ReadFault::NoMemory) => Err(Refusal::NoMemory),
-        Err(ReadFault::Broken | ReadFault::TooLarge) => {
-            Err(Refusal::FileUnreadable { path: held })
-        }
+        Err(ReadFault::Broken) => Err(Refusal::FileUnreadable { path: held }),
+        Err(ReadFault::TooLarge) => Err(Refusal::FileUnreadable { path: held }),
     }
 }
 

@@ -1,9 +1,24 @@
-use Rattle.std.proofs.Common.{refl}
+use Rattle.std.proofs.Common.{refl, inl, ◌≡◌, None}
+use Rattle.vx_answer.specs.Folder.{HasBroken}
 use Rattle.vx_answer.specs.Worded.{for_file}
+use Rattle.vx_answer.proofs.FolderFacts.{nothing_told}
+use Rattle.vx_answer.proofs.SourceFacts.{unreadable_broken, unreadable_long}
 use Rattle.vx_answer.proofs.sources.file_bytes.Goals as goal
 
-pub returns-in_default-clause-refused : goal.returns-in_default-clause-refused
-returns-in_default-clause-refused g c = for_file c.in_ok-held.held refl c.in_ok-held.ensures.ok
+pub returns-in-None-clause-refused : goal.returns-in-None-clause-refused
+returns-in-None-clause-refused g c =
+    let none : g.F.Store.holds c.args.files.now c.args.path.now ≡ None = nothing_told (g.F.Store.holds c.args.files.now c.args.path.now) c.open.result c.open.ensures.there c.in-None.is in
+    for_file c.in_ok-held.held refl c.in_ok-held.ensures.ok (inl none)
 
-pub returns-in-Err-Broken : goal.returns-in-Err-Broken
-returns-in-Err-Broken g c = record { taken = tt; refused = for_file c.in_ok-held.held refl c.in_ok-held.ensures.ok }
+pub returns-in-Err-Broken-clause-refused : goal.returns-in-Err-Broken-clause-refused
+returns-in-Err-Broken-clause-refused g c =
+    let why = rw c.in-Err-Broken.field-0-is at c.in-Err-Broken.ensures.err in
+    for_file c.in_ok-held.held refl c.in_ok-held.ensures.ok
+    (unreadable_broken g.F.In.ByteIn.has_failed c.read_all.new.reader (g.F.In.ByteIn.remaining c.in-Some.file) (g.F.Store.holds c.args.files.now c.args.path.now) why)
+
+pub returns-in-Err-TooLarge-clause-refused : goal.returns-in-Err-TooLarge-clause-refused
+returns-in-Err-TooLarge-clause-refused g c =
+    let why = rw c.in-Err-TooLarge.field-0-is at c.in-Err-TooLarge.ensures.err in
+    for_file c.in_ok-held.held refl c.in_ok-held.ensures.ok
+    (unreadable_long (g.F.In.ByteIn.remaining c.in-Some.file) (g.F.Store.holds c.args.files.now c.args.path.now) (g.F.In.ByteIn.has_failed c.read_all.new.reader)
+    (HasBroken g.F.In.ByteIn.has_failed) c.in-Some.ensures.bytes why)

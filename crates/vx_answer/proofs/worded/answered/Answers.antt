@@ -8,7 +8,7 @@ use Rattle.vx_answer.proofs.worded.answered.Goals as goal
 pub returns-in-Ok-Some : goal.returns-in-Ok-Some
 returns-in-Ok-Some g c =
     let files = g.F.Store.holds c.args.files.now in
-    let broke = HasBroken g.F.Store.In.ByteIn.has_failed in
+    let broke = HasBroken g.F.In.ByteIn.has_failed in
     let input = g.I.ByteIn.remaining c.args.input.now in
     let failed = g.I.ByteIn.has_failed c.done.new.input in
     let ask = asked_is c.args.asked.now in

@@ -19,5 +19,5 @@ returns-clause-refused g c =
     let folder = c.args.self.now.path.now in
     let files = g.F.Store.holds c.args.self.now.files.now in
     let at : string_bytes c.in_ok-path.path ≡ path_in folder relation.name = search rules in
-    lacks_read (g.F.Store.In.ByteIn.has_failed) c.load.new.file files folder relation c.in-Err.fault (c.in-Some.ensures.bytes ∙ ap files (c.as_str.ensures.value ∙ at)) c.in-Err.ensures.told
+    lacks_read (g.F.In.ByteIn.has_failed) c.load.new.reader files folder relation c.in-Err.fault (c.in-Some.ensures.bytes ∙ ap files (c.as_str.ensures.value ∙ at)) c.in-Err.ensures.told
     c.in-Err.ensures.broken
