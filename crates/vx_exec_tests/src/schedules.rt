@@ -10,6 +10,7 @@ use vx_rows::{Cell, Rows};
 const SCHEDULES: u32 = 1000;
 
 /// The numbers of a linear congruential generator.
+#[derive(Drop)]
 struct Draws {
     state: u64,
 }
