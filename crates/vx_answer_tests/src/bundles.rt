@@ -258,17 +258,22 @@ fn delivered(alloc: Global, text: &[u8], room: usize, err_room: usize) -> Result
 
 #[test]
 fn outputs_that_fail_are_told(rt: HostRuntime) -> Result<(), Fail> {
-    for (room, err_room, line) in [
-        (5, 0, "id\n7\n||0"),
-        (0, 100, "|volcano: V4 WriteFailed\n|4"),
-        (3, 100, "id\n|volcano: V4 WriteFailed\n|4"),
-        (4, 7, "id\n7|volcano|4"),
-    ] {
+    let lines = [
+        "|volcano: V4 WriteFailed\n|4",
+        "i|volcano: V4 WriteFailed\n|4",
+        "id|volcano: V4 WriteFailed\n|4",
+        "id\n|volcano: V4 WriteFailed\n|4",
+        "id\n7|volcano: V4 WriteFailed\n|4",
+        "id\n7\n||0",
+    ];
+    for (room, line) in lines.iter().enumerate() {
         assert_eq!(rt;
-            delivered(rt.alloc(), b"id\n7\n", room, err_room)?.as_str(),
-            line
+            delivered(rt.alloc(), b"id\n7\n", room, 100)?.as_str(),
+            *line
         );
     }
+    let line = delivered(rt.alloc(), b"id\n7\n", 4, 7)?;
+    assert_eq!(rt; line.as_str(), "id\n7|volcano|4");
     Ok(())
 }
 
@@ -304,6 +309,8 @@ fn refusals_have_their_lines(rt: HostRuntime) -> Result<(), Fail> {
             Refusal::FileUnreadable { path },
             "volcano: V3 FileUnreadable path=a/t.csv\n",
         ),
+        (Refusal::Unfinished, "volcano: V5 Unfinished\n"),
+        (Refusal::TooLarge, "volcano: V6 TooLarge\n"),
         (Refusal::NoMemory, "volcano: X8 NoMemory\n"),
     ] {
         assert_eq!(rt; told(rt.alloc(), &refusal)?.as_str(), line);
