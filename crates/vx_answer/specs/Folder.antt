@@ -13,7 +13,7 @@ use Rattle.vx_answer.specs.declared.refusal.Refusal.TheVariants as refusal
 abbrev pub path_in : List ℕ → List ℕ → List ℕ
 path_in folder name = folder ++ codes "/" ++ name ++ codes ".csv"
 
--- a file failed while it was read
+-- there is a value of this type of files that has failed. It is not said that a store opened it: a type may have such values anyway
 abbrev pub HasBroken : {In : Type 0} → (In → Bool) → Type 0
 HasBroken {In} has_failed = (file : In) × (has_failed file ≡ true)
 
@@ -21,7 +21,7 @@ HasBroken {In} has_failed = (file : In) × (has_failed file ≡ true)
 abbrev pub holds_at : (List ℕ → Option (List ℕ)) → List ℕ → Relation → List Row → Type 0
 holds_at files folder relation rows = IfSome (files (path_in folder relation.name)) (λ bytes. load_of relation bytes ≡ Ok rows)
 
--- why the files have no rows of a relation: the file is not there, one failed while it was read, or its text does not hold them
+-- why the files have no rows of a relation: the file is not there, `broke` holds, or its text does not hold them
 pub data LacksAt (files : List ℕ → Option (List ℕ)) (broke : Type 0) (folder : List ℕ) (relation : Relation) (e : Refusal) : Type 0 where
   for_room : e ≡ refusal.NoMemory → LacksAt files broke folder relation e
   for_path : (path : String Global) → e ≡ refusal.FileUnreadable path → string_bytes path ≡ path_in folder relation.name → files (path_in folder relation.name) ≡ None

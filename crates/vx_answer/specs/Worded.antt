@@ -1,4 +1,4 @@
--- What answers words, over files and standard input, and why words may have no answer. `files` tells the bytes of a file by its path, and `input` those that standard input has left, each only where they are known. `broke` says that a file failed while it was read, and `failed` whether standard input did.
+-- What answers words, over files and standard input, and why words may have no answer. `files` tells the bytes of a file by its path, and `input` those that standard input has left, each only where they are known. `broke` is what is said where a file failed while it was read (`HasBroken`), and `failed` says whether standard input did.
 use Rattle.std.specs.Prelude.{◌≡◌, ◌≢◌, ℕ, ◌⊎◌, List, [], ◌∷◌, Bool, true, false, Option, Some, None, Result, Ok, IfSome, bytes_eq, codes, if◌then◌else◌, String, string_bytes}
 use Rattle.std.specs.declared.alloc.Global.{Global}
 use Rattle.clap.specs.Words.{IsAmong}
@@ -58,7 +58,7 @@ pub record IsPlannedIn (c : Command) (catalog_bytes plan_bytes : Option (List �
   pub declared : IfSome catalog_bytes (λ bytes. catalog_text bytes ≡ Ok catalog)
   pub planned : IfSome plan_bytes (λ bytes. plan_text c bytes catalog ≡ Ok p)
 
--- why a file is unreadable: it is not there, one failed while it was read, or it is too long
+-- why a file is unreadable: it is not there, `broke` holds, or it is too long
 abbrev pub IsUnreadable : Option (List ℕ) → Type 0 → Type 0
 IsUnreadable file broke = (file ≡ None) ⊎ broke ⊎ IsOver max_bytes file
 
