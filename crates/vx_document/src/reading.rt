@@ -64,7 +64,25 @@ fn path_of(alloc: Global, path: &str, step: &str) -> Result<String, AllocError>
     Ok(below)
 }
 
+/// The tree of an input, which is a step below the operator with this path.
+#[cycle(nodes)]
+fn input_in(
+    alloc: Global,
+    levels: u32,
+    seen: u32,
+    path: &str,
+    step: &str,
+    value: &Json,
+) -> Result<(Box<Node>, u32), PlanFault>
+    ensures { Gives (λ r. (tree_of r.0.value, r.1)) result (node_in levels seen (path.now ++ step.now) (view value.now)) }
+{
+    let below = path_of(alloc, path, step)?;
+    let (node, after) = node_in(alloc, levels, seen, below.as_str(), value)?;
+    Ok((Box::new(alloc, node)?, after))
+}
+
 /// The tree of a value, and how many nodes have been seen after it.
+#[cycle(nodes)]
 #[tactic(auto, unfolding(crate::specs::Reading::node_in))]
 pub fn node_in(
     alloc: Global,
@@ -85,23 +103,17 @@ pub fn node_in(
     match own {
         Own::Scan(claim, scan) => Ok((Node::Scan(claim, scan), seen + 1)),
         Own::Unary(claim, unary, input) => {
-            let below = path_of(alloc, path, ".input")?;
-            let (node, after) = node_in(alloc, levels - 1, seen + 1, below.as_str(), input)?;
-            Ok((Node::Unary(claim, unary, Box::new(alloc, node)?), after))
+            let (node, after) = input_in(alloc, levels - 1, seen + 1, path, ".input", input)?;
+            Ok((Node::Unary(claim, unary, node), after))
         }
         Own::Binary(claim, binary, left, right) => {
-            let below = path_of(alloc, path, ".left")?;
-            let (first, between) = node_in(alloc, levels - 1, seen + 1, below.as_str(), left)?;
-            let below = path_of(alloc, path, ".right")?;
-            let (second, after) = node_in(alloc, levels - 1, between, below.as_str(), right)?;
-            let (left, right) = (Box::new(alloc, first)?, Box::new(alloc, second)?);
-            Ok((Node::Binary(claim, binary, left, right), after))
+            let (first, between) = input_in(alloc, levels - 1, seen + 1, path, ".left", left)?;
+            let (second, after) = input_in(alloc, levels - 1, between, path, ".right", right)?;
+            Ok((Node::Binary(claim, binary, first, second), after))
         }
         Own::Exchange(claim, kind, merge, input) => {
-            let below = path_of(alloc, path, ".input")?;
-            let (node, after) = node_in(alloc, levels - 1, seen + 1, below.as_str(), input)?;
-            let input = Box::new(alloc, node)?;
-            Ok((Node::Exchange(claim, kind, merge, input), after))
+            let (node, after) = input_in(alloc, levels - 1, seen + 1, path, ".input", input)?;
+            Ok((Node::Exchange(claim, kind, merge, node), after))
         }
     }
 }

@@ -1,16 +1,11 @@
 -- Bounds of ranges, one after the other.
-use Rattle.std.proofs.Common.{◌≡◌, ℕ, zero, suc, ◌+◌, ◌<◌, ◌≤◌, List, [], ◌∷◌, ◌&&◌, Bool, true, false, refl, sym, ap, ◌∙◌, map, get_or, drop, length, drop-cons, add-one, arith}
-use Rattle.std.specs.List.{list_all}
-use Rattle.std.specs.Ordering.{is_lt}
+use Rattle.std.proofs.Common.{◌≡◌, ℕ, suc, ◌+◌, ◌<◌, ◌≤◌, List, [], ◌∷◌, ◌&&◌, Bool, true, false, refl, sym, ap, ◌∙◌, map, get_or, drop, length, drop-cons, add-one, arith}
 use Rattle.std.proofs.lemmas.List.{drop_all, get_or-map, length-map}
-use Rattle.vx_rows.specs.Values.{Val, val_cmp}
 use Rattle.vx_rows.specs.View.{val_of}
-use Rattle.vx_rows.specs.declared.value.Value.{Value}
 use Rattle.vx_document.specs.declared.plan.NamedRange.{NamedRange}
 use Rattle.vx_document.specs.Document.{RangeForm, range_form}
-use Rattle.vx_plan.specs.Typed.{rises, bounds_at, type_eq, types_eq}
+use Rattle.vx_plan.specs.Typed.{bounds_at, type_eq, types_eq}
 use Rattle.vx_rows.specs.declared.value.ColType.{ColType}
-use Rattle.vx_plan.proofs.NameFacts.{list_all-map}
 
 pub bounds_at-form : (rs : List NamedRange) (k : ℕ) (r : NamedRange) → k < length rs → r ≡ get_or rs k r
     → bounds_at (map (λ (d : RangeForm). d.bounds) (map range_form rs)) k ≡ map val_of r.bounds.items

@@ -1,14 +1,13 @@
 -- A claim that was found is typed.
-use Rattle.std.proofs.Common.{◌≡◌, ℕ, ◌==◌, nat_lt, nat_le, List, [], ◌∷◌, Bool, true, false, cond, ◌&&◌, Option, Some, None, Result, Ok, Err, map, length, position, bytes_eq, codes, refl, sym, ap, ◌∙◌, subst, lt-ltb}
+use Rattle.std.proofs.Common.{◌≡◌, ℕ, nat_lt, nat_le, List, [], ◌∷◌, Bool, true, false, cond, ◌&&◌, Option, Some, None, Result, Ok, Err, map, length, position, bytes_eq, codes, refl, sym, subst, lt-ltb}
 use Rattle.std.specs.Prelude.{⊤}
 use Rattle.std.specs.List.{list_all}
 use Rattle.std.proofs.lemmas.List.{length-map}
 use Rattle.std.proofs.lemmas.List.Quantifiers.{position-Some}
 use Rattle.vx_rows.specs.declared.value.ColType.{ColType}
 use Rattle.vx_rows.specs.Types.{type_at}
-use Rattle.vx_plan.specs.Plan.{Size, one_worker, group_of, Route, by_hash, by_range, Part, routed, Claim}
-use Rattle.vx_plan.specs.Plan as plan
-use Rattle.vx_plan.specs.Typed.{Scope, is_some_list, are_columns, is_size, is_routed, is_part, is_claim, range_type, bounds_at, type_eq}
+use Rattle.vx_plan.specs.Plan.{one_worker, by_hash, by_range, Part, routed, Claim}
+use Rattle.vx_plan.specs.Typed.{is_some_list, are_columns, is_size, is_routed, is_part, is_claim, range_type, bounds_at, type_eq}
 use Rattle.vx_document.specs.Document.{Name, RangeForm, PartForm, hash_part, range_part, ClaimForm}
 use Rattle.vx_document.specs.Document as form
 use Rattle.vx_plan.specs.Outline.{Columns, Top}

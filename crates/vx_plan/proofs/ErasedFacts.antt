@@ -1,10 +1,9 @@
 -- The plan without exchanges is typed, and numbered in preorder.
-use Rattle.std.proofs.Common.{◌≡◌, ℕ, suc, ◌+◌, ◌≤◌, ◌==◌, nat_lt, nat_le, Bool, true, false, ◌&&◌, List, [], ◌∷◌, ◌++◌, map, length, refl, sym, ap, ◌∙◌, subst, arith, eq-eqb}
-use Rattle.std.specs.List.{list_all}
+use Rattle.std.proofs.Common.{◌≡◌, ℕ, suc, ◌+◌, ◌≤◌, ◌==◌, nat_lt, nat_le, Bool, true, ◌&&◌, List, length, refl, sym, ap, ◌∙◌, subst, arith, eq-eqb}
 use Rattle.vx_rows.specs.declared.value.ColType.{ColType}
 use Rattle.vx_catalog.specs.Relation.{Relation}
 use Rattle.vx_catalog.specs.Catalog.{relation_at}
-use Rattle.vx_plan.specs.Plan.{Size, one_worker, Claim, Unary, Binary, Plan, scan, unary, binary, exchange}
+use Rattle.vx_plan.specs.Plan.{Claim, Plan, scan, unary, binary, exchange}
 use Rattle.vx_plan.specs.Types.{unary_types, binary_types, types_of}
 use Rattle.vx_plan.specs.Typed.{Scope, are_columns, is_claim, is_unary, is_binary, is_kind, is_size, is_output, typed, IsTyped}
 use Rattle.vx_plan.specs.Numbering.{nodes, is_numbered}

@@ -1,5 +1,5 @@
 -- Columns that were found: they stand in the input, and have the names that were asked for.
-use Rattle.std.proofs.Common.{◌≡◌, ℕ, suc, ◌+◌, ◌<◌, ◌≤◌, ◌==◌, nat_lt, ltb, List, [], ◌∷◌, ◌++◌, Bool, true, false, cond, ◌&&◌, Option, Some, None, Result, Ok, Err, map, length, position, bytes_eq, get_or, refl, sym, ap, ◌∙◌, subst, append_assoc, append-nil, lt-ltb}
+use Rattle.std.proofs.Common.{◌≡◌, ℕ, ◌+◌, nat_lt, List, [], ◌∷◌, ◌++◌, true, Option, Some, None, Result, Ok, Err, map, length, position, bytes_eq, get_or, refl, sym, ap, ◌∙◌, subst, append_assoc, append-nil, lt-ltb}
 use Rattle.std.specs.Prelude.{⊤}
 use Rattle.std.specs.List.{list_all}
 use Rattle.std.proofs.lemmas.List.{length_push}
@@ -8,7 +8,7 @@ use Rattle.std.proofs.lemmas.Slice.Eq.{bytes_eq-Decides}
 use Rattle.vx_catalog.specs.Catalog.{all_below, are_distinct}
 use Rattle.vx_plan.specs.Typed.{is_some_list, are_columns}
 use Rattle.vx_document.specs.Document.{Name}
-use Rattle.vx_document.specs.Fault.{Refusal, unknown_column, ◌>>=◌}
+use Rattle.vx_document.specs.Fault.{Refusal}
 use Rattle.vx_plan.specs.Lookup.{walk_onto, column_or, column_found, columns_found, keys_found, once, keys_once}
 use Rattle.vx_document.proofs.Holds.{and-left, and-right, and-both, all_push, Holds, holds_then}
 use Rattle.vx_plan.proofs.Apart.{apart, once-apart, distinct-columns}

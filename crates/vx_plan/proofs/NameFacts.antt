@@ -1,5 +1,5 @@
 -- Tests of names over lists of strings.
-use Rattle.std.proofs.Common.{◌≡◌, ℕ, List, [], ◌∷◌, Bool, refl, sym, ap, ◌∙◌, map, position, ◌||◌, ◌&&◌}
+use Rattle.std.proofs.Common.{◌≡◌, List, [], ◌∷◌, Bool, refl, ap, map, position, ◌||◌, ◌&&◌}
 use Rattle.std.specs.List.{list_any, list_all, position_or_len}
 use Rattle.std.proofs.lemmas.List.{length-map}
 

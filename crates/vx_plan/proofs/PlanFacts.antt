@@ -1,6 +1,5 @@
 -- A plan that was resolved is typed, and its nodes are numbered in preorder.
-use Rattle.std.proofs.Common.{◌≡◌, ℕ, zero, suc, ◌+◌, ◌<◌, ◌≤◌, ◌==◌, nat_lt, nat_le, not, ◌||◌, List, [], ◌∷◌, ◌++◌, Bool, true, false, cond, ◌&&◌, Option, Some, None, Result, Ok, Err, map, length, position, bytes_eq, refl, sym, ap, ◌∙◌, subst, arith, eq-eqb, lt-ltb}
-use Rattle.std.specs.Prelude.{⊤}
+use Rattle.std.proofs.Common.{◌≡◌, ℕ, suc, ◌+◌, ◌≤◌, ◌==◌, nat_lt, nat_le, not, ◌||◌, List, [], ◌∷◌, ◌++◌, Bool, true, false, cond, ◌&&◌, Option, Some, None, Result, Ok, Err, map, length, position, bytes_eq, refl, sym, ◌∙◌, subst, arith, eq-eqb, lt-ltb}
 use Rattle.std.specs.List.{list_all, list_any}
 use Rattle.std.proofs.lemmas.List.{length-map, length_push}
 use Rattle.std.proofs.lemmas.Bool.{leb-false, le-leb}
@@ -8,17 +7,15 @@ use Rattle.std.proofs.lemmas.List.Quantifiers.{position-Some}
 use Rattle.vx_rows.specs.declared.value.ColType.{ColType}
 use Rattle.vx_catalog.specs.Relation.{Relation}
 use Rattle.vx_catalog.specs.Catalog.{relation_at, IsRelation, IsCatalog}
-use Rattle.vx_plan.specs.Plan.{Plan, Size, Kind}
-use Rattle.vx_plan.specs.Plan as plan
 use Rattle.vx_plan.specs.Types.{types_of, unary_types, binary_types}
-use Rattle.vx_plan.specs.Typed.{Scope, is_size, is_unary, is_binary, is_kind, is_claim, is_output, is_range, are_columns, typed, IsTyped}
+use Rattle.vx_plan.specs.Typed.{is_size, is_unary, is_binary, is_kind, is_claim, is_output, is_range, are_columns, typed, IsTyped}
 use Rattle.vx_plan.specs.Numbering.{nodes, is_numbered}
 use Rattle.vx_document.specs.Document.{Name, ClaimForm, ScanForm, UnaryForm, BinaryForm, KindForm, Tree, Document, RangeForm}
 use Rattle.vx_document.specs.Document as form
 use Rattle.vx_plan.specs.Outline.{Columns, Top, Outline, scan, unary, binary, exchange, columns, plan_in}
 use Rattle.vx_document.specs.Fault.{Refusal, bad_size, bad_range, ◌>>=◌}
 use Rattle.vx_plan.specs.Lookup.{Names, scope_of, tested_onto, size_found}
-use Rattle.vx_plan.specs.Resolve.{scan_columns, relation_or, relation_found, scan_typed, topped, Shape, unary_shape, unary_typed, Joint, binary_shape, binary_typed, exchange_shape, exchange_typed, typed_in, is_bad_size, sizes_tested, is_bad_range, ranges_tested}
+use Rattle.vx_plan.specs.Resolve.{scan_columns, relation_or, relation_found, scan_typed, topped, unary_shape, unary_typed, binary_shape, binary_typed, exchange_shape, exchange_typed, typed_in, is_bad_size, sizes_tested, is_bad_range, ranges_tested}
 use Rattle.vx_document.specs.Formed.{are_names, is_claim_form, is_scan_form, is_unary_form, is_binary_form, is_kind_form, is_tree_form}
 use Rattle.vx_document.proofs.Holds.{and-left, and-right, and-both, Holds, holds_then, holds_at}
 use Rattle.vx_plan.proofs.ClaimFacts.{size-holds, IsTop, top-holds}

@@ -1,5 +1,5 @@
 -- Operators that were found are typed, and give the columns that they say.
-use Rattle.std.proofs.Common.{◌≡◌, ℕ, suc, ◌+◌, ◌==◌, nat_lt, nat_le, List, [], ◌∷◌, ◌++◌, Bool, true, false, cond, ◌&&◌, ◌||◌, Option, Some, None, is_some, Result, Ok, Err, map, length, bytes_eq, refl, sym, ap, ◌∙◌, subst, length-append}
+use Rattle.std.proofs.Common.{◌≡◌, ℕ, ◌+◌, nat_lt, nat_le, List, [], ◌∷◌, ◌++◌, true, ◌&&◌, ◌||◌, is_some, Result, Ok, Err, map, length, bytes_eq, refl, sym, ap, ◌∙◌, subst, length-append}
 use Rattle.std.specs.Prelude.{⊤}
 use Rattle.std.specs.List.{list_all}
 use Rattle.std.proofs.lemmas.List.{length-map, length_push}
@@ -10,7 +10,7 @@ use Rattle.vx_plan.specs.declared.typed.Kept.{Kept}
 use Rattle.vx_plan.specs.Plan.{Aggregate, Unary, Condition, Kind, route_to, by_hash, by_range}
 use Rattle.vx_plan.specs.Plan as plan
 use Rattle.vx_plan.specs.Types.{unary_types, binary_types, aggregate_type}
-use Rattle.vx_plan.specs.Typed.{is_some_list, are_columns, is_condition, is_aggregate, is_unary, is_pair, are_distinct_pairs, is_binary, types_eq, is_kind, is_size, is_routed, range_type, bounds_at, type_eq}
+use Rattle.vx_plan.specs.Typed.{is_some_list, are_columns, is_condition, is_aggregate, is_unary, is_pair, are_distinct_pairs, is_binary, types_eq, is_kind, is_size, is_routed}
 use Rattle.vx_document.specs.Document.{Name, ConditionForm, OutputForm, AggregateForm, UnaryForm, BinaryForm, KindForm}
 use Rattle.vx_document.specs.Document as form
 use Rattle.vx_plan.specs.Outline.{Columns}

@@ -1,5 +1,5 @@
 -- Steps of a loop that looks up names one after the other.
-use Rattle.std.proofs.Common.{◌≡◌, ℕ, ◌+◌, ◌<◌, ◌≤◌, List, [], ◌∷◌, ◌++◌, Result, Ok, Err, refl, sym, ap, ◌∙◌, map, get_or, drop, length, drop-cons, add-one, subst}
+use Rattle.std.proofs.Common.{◌≡◌, ℕ, ◌+◌, ◌<◌, ◌≤◌, List, [], ◌∷◌, ◌++◌, Result, Ok, refl, sym, ap, ◌∙◌, map, get_or, drop, length, drop-cons, add-one, subst}
 use Rattle.std.proofs.lemmas.List.{drop_all}
 use Rattle.vx_document.specs.declared.fault.PlanFault.{PlanFault}
 use Rattle.vx_document.specs.Fault.{Refusal, ◌>>=◌, Fails}

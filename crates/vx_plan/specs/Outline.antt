@@ -1,13 +1,10 @@
 -- Typed plans with the names that they keep, and the plan of the definitions that each stands for.
-use Rattle.std.specs.Prelude.{ℕ, ◌+◌, List, [], map, Bool, true, false, string_bytes}
+use Rattle.std.specs.Prelude.{ℕ, List, [], map, Bool, true, false, string_bytes}
 use Rattle.vx_rows.specs.declared.value.ColType.{ColType}
-use Rattle.vx_rows.specs.Values.{Val}
 use Rattle.vx_rows.specs.View.{val_of}
-use Rattle.vx_catalog.specs.Relation.{Relation}
 use Rattle.vx_plan.specs.Plan.{Size, one_worker, group_of, Route, by_hash, by_range, Part, one, any, all, routed, Claim, Side, column, constant, Condition, Aggregate, least, greatest, sum, count_rows, Unary, select, project, distinct, sort, group, Binary, union, join, Kind, route_to, round, broadcast, gather, Plan}
 use Rattle.vx_plan.specs.Plan as plan
-use Rattle.vx_document.specs.Document.{Name, RangeForm, test_of}
-use Rattle.vx_plan.specs.Typed.{Scope}
+use Rattle.vx_document.specs.Document.{Name, test_of}
 use Rattle.vx_plan.specs.declared.typed.Size as rust_size
 use Rattle.vx_plan.specs.declared.typed.Size.TheVariants as size
 use Rattle.vx_plan.specs.declared.typed.Route as rust_route
@@ -20,7 +17,6 @@ use Rattle.vx_plan.specs.declared.typed.Side.TheVariants as side
 use Rattle.vx_plan.specs.declared.typed.Condition as rust_condition
 use Rattle.vx_plan.specs.declared.typed.Aggregate as rust_aggregate
 use Rattle.vx_plan.specs.declared.typed.Aggregate.TheVariants as aggregate
-use Rattle.vx_plan.specs.declared.typed.Kept.{Kept}
 use Rattle.vx_plan.specs.declared.typed.Columns as rust_columns
 use Rattle.vx_plan.specs.declared.typed.Head as rust_head
 use Rattle.vx_plan.specs.declared.typed.Unary as rust_unary

@@ -1,5 +1,5 @@
 -- The typed plan of a document over a catalog, or the first refusal: sizes, ranges, then the nodes in post-order.
-use Rattle.std.specs.Prelude.{ℕ, ◌+◌, List, [], ◌∷◌, ◌++◌, map, length, Bool, true, false, not, ◌&&◌, ◌||◌, Option, Some, None, Result, Ok, Err, ⊤, position, bytes_eq, codes, nat_le, unwrap_or, is_some, if◌then◌else◌}
+use Rattle.std.specs.Prelude.{ℕ, ◌+◌, List, [], ◌∷◌, ◌++◌, map, length, Bool, true, not, ◌||◌, Option, Some, None, Result, Ok, Err, ⊤, position, bytes_eq, codes, nat_le, unwrap_or, is_some}
 use Rattle.std.specs.List.{list_all, list_any}
 use Rattle.vx_rows.specs.declared.value.ColType.{ColType}
 use Rattle.vx_rows.specs.Types.{type_at}
@@ -14,7 +14,7 @@ use Rattle.vx_document.specs.Document as form
 use Rattle.vx_plan.specs.Outline.{Columns, Top, Outline, scan, unary, binary, exchange, columns}
 use Rattle.vx_plan.specs.declared.typed.Kept.{Kept}
 use Rattle.vx_document.specs.Fault.{Refusal, unknown_relation, bad_range, bad_size, ◌>>=◌}
-use Rattle.vx_plan.specs.Lookup.{Names, scope_of, walk_onto, tested_onto, column_found, columns_found, keys_found, once, pairs_once, keys_once, matched, narrow, size_found, range_found}
+use Rattle.vx_plan.specs.Lookup.{Names, walk_onto, tested_onto, column_found, columns_found, keys_found, once, pairs_once, keys_once, matched, narrow, size_found, range_found}
 
 -- ---- claims
 

@@ -104,7 +104,24 @@ fn erased_scan(alloc: Global, scan: &Scan) -> Result<Scan, AllocError>
     })
 }
 
+/// What is left of an input, numbered from here, and the number after its last node.
+#[cycle(nodes)]
+fn erased_input(
+    alloc: Global,
+    number: u32,
+    node: &TypedNode,
+) -> Result<(Box<TypedNode>, u32), AllocError>
+    requires { number + nodes (plan_of node.now) < 2 ^ 32 }
+    ensures value { IfOk result (λ r. outline_of r.0.value ≡ erased_from number (outline_of node.now)) }
+    ensures next { IfOk result (λ r. r.1 ≡ number + nodes_left (plan_of node.now)) }
+    ensures bound { IfOk result (λ r. r.1 ≤ number + nodes (plan_of node.now)) }
+{
+    let (below, next) = erased_from(alloc, number, node)?;
+    Ok((Box::new(alloc, below)?, next))
+}
+
 /// The nodes that are no exchanges, numbered in preorder from here, and the number after the last.
+#[cycle(nodes)]
 fn erased_from(alloc: Global, number: u32, node: &TypedNode) -> Result<(TypedNode, u32), AllocError>
     requires { number + nodes (plan_of node.now) < 2 ^ 32 }
     ensures value { IfOk result (λ r. outline_of r.0 ≡ erased_from number (outline_of node.now)) }
@@ -113,25 +130,21 @@ fn erased_from(alloc: Global, number: u32, node: &TypedNode) -> Result<(TypedNod
 {
     match node {
         TypedNode::Scan(head, scan) => {
+            let head = erased_head(alloc, number, head)?;
             let scan = erased_scan(alloc, scan)?;
-            Ok((
-                TypedNode::Scan(erased_head(alloc, number, head)?, scan),
-                number + 1,
-            ))
+            Ok((TypedNode::Scan(head, scan), number + 1))
         }
         TypedNode::Unary(head, unary, input) => {
-            let (below, next) = erased_from(alloc, number + 1, input)?;
-            let unary = copied_unary(alloc, unary)?;
             let head = erased_head(alloc, number, head)?;
-            Ok((TypedNode::Unary(head, unary, Box::new(alloc, below)?), next))
+            let unary = copied_unary(alloc, unary)?;
+            let (below, next) = erased_input(alloc, number + 1, input)?;
+            Ok((TypedNode::Unary(head, unary, below), next))
         }
         TypedNode::Binary(head, binary, left, right) => {
-            let (first, between) = erased_from(alloc, number + 1, left)?;
-            let (second, next) = erased_from(alloc, between, right)?;
-            let binary = copied_binary(alloc, binary)?;
             let head = erased_head(alloc, number, head)?;
-            let first = Box::new(alloc, first)?;
-            let second = Box::new(alloc, second)?;
+            let binary = copied_binary(alloc, binary)?;
+            let (first, between) = erased_input(alloc, number + 1, left)?;
+            let (second, next) = erased_input(alloc, between, right)?;
             Ok((TypedNode::Binary(head, binary, first, second), next))
         }
         TypedNode::Exchange(_, _, input) => erased_from(alloc, number, input),

@@ -30,11 +30,22 @@ pub enum Part {
 }
 
 /// An optimizer's note, over the columns of the node's output.
-#[derive(Debug, Drop)]
+#[derive(Debug)]
 pub struct Claim {
     pub part: Part,
     pub order: Vec<usize>,
     pub keys: Vec<Vec<usize>>,
+}
+
+// By hand, so that the drops of its parts are made and proved here once, and not in each function that drops one.
+impl Drop for Claim {
+    fn drop(self) {
+        let Claim {
+            part: _,
+            order: _,
+            keys: _,
+        } = self;
+    }
 }
 
 /// The right side of a condition.
@@ -69,22 +80,40 @@ pub struct Kept {
 }
 
 /// The columns of an output: as many names as types.
-#[derive(Debug, Drop)]
+#[derive(Debug)]
 pub struct Columns {
     pub names: Vec<String>,
     pub types: Vec<ColType>,
 }
 
+// By hand, so that the drops of its parts are made and proved here once, and not in each function that drops one.
+impl Drop for Columns {
+    fn drop(self) {
+        let Columns { names: _, types: _ } = self;
+    }
+}
+
 /// What every node has: its number in preorder, its claim and its output.
-#[derive(Debug, Drop)]
+#[derive(Debug)]
 pub struct Head {
     pub number: u32,
     pub claim: Claim,
     pub columns: Columns,
 }
 
+// By hand, so that the drops of its parts are made and proved here once, and not in each function that drops one.
+impl Drop for Head {
+    fn drop(self) {
+        let Head {
+            number: _,
+            claim: _,
+            columns: _,
+        } = self;
+    }
+}
+
 /// A scan of the relation with this number. An empty prefix is none.
-#[derive(Debug, Drop)]
+#[derive(Debug)]
 pub struct Scan {
     pub relation: usize,
     /// The workers share the rows, or else each has all of them.
@@ -93,8 +122,20 @@ pub struct Scan {
     pub prefix: String,
 }
 
+// By hand, so that the drops of its parts are made and proved here once, and not in each function that drops one.
+impl Drop for Scan {
+    fn drop(self) {
+        let Scan {
+            relation: _,
+            shared: _,
+            size: _,
+            prefix: _,
+        } = self;
+    }
+}
+
 /// An operator over one input, by the columns of that input.
-#[derive(Debug, Drop)]
+#[derive(Debug)]
 pub enum Unary {
     Select(Vec<Condition>),
     Project(Vec<Kept>),
@@ -103,12 +144,36 @@ pub enum Unary {
     Group(Vec<usize>, Vec<Aggregate>),
 }
 
+// By hand, so that the drops of its parts are made and proved here once, and not in each function that drops one.
+impl Drop for Unary {
+    fn drop(self) {
+        match self {
+            Unary::Select(_) => {}
+            Unary::Project(_) => {}
+            Unary::Distinct(_) => {}
+            Unary::Sort(_) => {}
+            Unary::Group(_, _) => {}
+        }
+    }
+}
+
 /// An operator over two inputs. A join has pairs (left column, right column).
-#[derive(Debug, Drop)]
+#[derive(Debug)]
 pub enum Binary {
     Union,
     HashJoin(Vec<(usize, usize)>),
     MergeJoin(Vec<(usize, usize)>),
+}
+
+// By hand, so that the drops of its parts are made and proved here once, and not in each function that drops one.
+impl Drop for Binary {
+    fn drop(self) {
+        match self {
+            Binary::Union => {}
+            Binary::HashJoin(_) => {}
+            Binary::MergeJoin(_) => {}
+        }
+    }
 }
 
 /// How an exchange sends, and to a group of which size.
@@ -121,19 +186,38 @@ pub enum Kind {
 }
 
 /// An exchange. It merges on these columns, if there are any.
-#[derive(Debug, Drop)]
+#[derive(Debug)]
 pub struct Exchange {
     pub kind: Kind,
     pub merge: Vec<usize>,
 }
 
+// By hand, so that the drops of its parts are made and proved here once, and not in each function that drops one.
+impl Drop for Exchange {
+    fn drop(self) {
+        let Exchange { kind: _, merge: _ } = self;
+    }
+}
+
 /// A tree of operators over a catalog.
-#[derive(Debug, Drop)]
+#[derive(Debug)]
 pub enum TypedNode {
     Scan(Head, Scan),
     Unary(Head, Unary, Box<TypedNode>),
     Binary(Head, Binary, Box<TypedNode>, Box<TypedNode>),
     Exchange(Head, Exchange, Box<TypedNode>),
+}
+
+// By hand, so that the drops of its parts are made and proved here once, and not in each function that drops one.
+impl Drop for TypedNode {
+    fn drop(self) {
+        match self {
+            TypedNode::Scan(_, _) => {}
+            TypedNode::Unary(_, _, _) => {}
+            TypedNode::Binary(_, _, _, _) => {}
+            TypedNode::Exchange(_, _, _) => {}
+        }
+    }
 }
 
 impl TypedNode {

@@ -35,11 +35,14 @@ run_app =
     with_rule (with_rule (with_rule (with_rule (with_rule (judging_app (codes "run")) (path_rule (codes "data")))
     (number_rule (codes "packet") (codes "256"))) (number_rule (codes "morsel") (codes "1024"))) (number_rule (codes "slack") (codes "8"))) sizes_rule
 
--- the program, which has a version
+-- the program without its commands, which has a version
+abbrev pub program_app : App
+program_app = on_top (λ s. record s { has_version = true }) (new_app (codes "volcano"))
+
+-- the program
 abbrev pub volcano_app : App
 volcano_app =
-    with_subcommand (with_subcommand (with_subcommand (with_subcommand (on_top (λ s. record s { has_version = true }) (new_app (codes "volcano")))
-    run_app.top) serial_app.top) (judging_app (codes "check")).top) (judging_app (codes "explain")).top
+    with_subcommand (with_subcommand (with_subcommand (with_subcommand program_app run_app.top) serial_app.top) (judging_app (codes "check")).top) (judging_app (codes "explain")).top
 
 -- the paths of a catalog and of a plan
 pub record Paths : Type 0 where

@@ -3,7 +3,7 @@
 ghost use Rattle.std.specs.Prelude.{◌≡◌, IfOk, false, codes};
 ghost use Rattle.clap.specs.Words.{app_of, rule_of};
 ghost use Rattle.clap.specs.declared.builder.command.Command.TheViews.{out-Command as fields_of};
-ghost use Rattle.vx_words.specs.Asked.{path_rule, number_rule, sizes_rule, judging_app, serial_app, run_app, volcano_app};
+ghost use Rattle.vx_words.specs.Asked.{path_rule, number_rule, sizes_rule, judging_app, serial_app, run_app, program_app, volcano_app};
 
 use clap::{Arg, Command, value_parser};
 use std::alloc::{AllocError, Global};
@@ -141,22 +141,34 @@ fn run<'a>(alloc: Global) -> Result<Command<'a>, AllocError>
     .arg(sizes_argument(alloc))
 }
 
-/// The command line of the program.
-pub fn command<'a>(alloc: Global) -> Result<Command<'a>, AllocError>
-    ensures { IfOk result (λ c. app_of c ≡ volcano_app) }
+fn check<'a>(alloc: Global) -> Result<Command<'a>, AllocError>
+    ensures app { IfOk result (λ c. app_of c ≡ judging_app (codes "check")) }
+    ensures local { IfOk result (λ c. (fields_of c).has_globals ≡ false) }
 {
-    let check = judging(
+    judging(
         alloc,
         "check",
         "Says whether every note of the plan is shown: `accepted`, `accepted total`, or the first note that is not",
         "Example: volcano check --catalog catalog.json --plan plan.json",
-    )?;
-    let explain = judging(
+    )
+}
+
+fn explain<'a>(alloc: Global) -> Result<Command<'a>, AllocError>
+    ensures app { IfOk result (λ c. app_of c ≡ judging_app (codes "explain")) }
+    ensures local { IfOk result (λ c. (fields_of c).has_globals ≡ false) }
+{
+    judging(
         alloc,
         "explain",
         "Prints a plan that the checker accepts as a text, a line for each node",
         "Example: volcano explain --catalog catalog.json --plan plan.json",
-    )?;
+    )
+}
+
+/// The program without its commands.
+fn program<'a>(alloc: Global) -> Command<'a>
+    ensures { app_of result ≡ program_app }
+{
     Command::new(alloc, "volcano")
         .version("0.1.0")
         .about(
@@ -165,8 +177,15 @@ pub fn command<'a>(alloc: Global) -> Result<Command<'a>, AllocError>
         .after_help(
             "A file - is standard input. Status 0: done; 2: the words are wrong; 3: a file, the catalog, the plan or its data is refused; 4: the machine or the run failed",
         )
+}
+
+/// The command line of the program.
+pub fn command<'a>(alloc: Global) -> Result<Command<'a>, AllocError>
+    ensures { IfOk result (λ c. app_of c ≡ volcano_app) }
+{
+    program(alloc)
         .subcommand(run(alloc)?)?
         .subcommand(serial(alloc)?)?
-        .subcommand(check)?
-        .subcommand(explain)
+        .subcommand(check(alloc)?)?
+        .subcommand(explain(alloc)?)
 }

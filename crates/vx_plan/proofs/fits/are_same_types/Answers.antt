@@ -1,4 +1,4 @@
-use Rattle.vx_plan.proofs.BoundFacts.{lengths_differ, types_more, types_fail, types_done}
+use Rattle.vx_plan.proofs.BoundFacts.{lengths_differ}
 use Rattle.vx_plan.proofs.fits.are_same_types.Goals as goal
 
 pub returns-then-kinds-others : goal.returns-then-kinds-others

@@ -1,4 +1,4 @@
-use Rattle.std.proofs.Common.{◌≡◌, true, string_bytes, refl}
+use Rattle.std.proofs.Common.{◌≡◌, true, string_bytes}
 use Rattle.std.specs.Str.{is_utf8}
 use Rattle.std.proofs.lemmas.Str.{is_utf8-from_IsUtf8}
 use Rattle.vx_plan.proofs.fits.is_constant_of.Goals as goal

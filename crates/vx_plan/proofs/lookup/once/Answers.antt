@@ -1,4 +1,4 @@
-use Rattle.std.proofs.Common.{◌≡◌, map, take, drop, string_bytes, bytes_eq, true, false, Err, inr, ap, sym, ◌∙◌}
+use Rattle.std.proofs.Common.{◌≡◌, map, take, string_bytes, bytes_eq, true, false, Err, inr, ap, sym, ◌∙◌}
 use Rattle.std.specs.List.{list_any}
 use Rattle.vx_document.specs.Fault.{duplicate_column}
 use Rattle.vx_plan.specs.Lookup.{is_among, once}

@@ -1,5 +1,4 @@
-use Rattle.std.proofs.Common.{◌≡◌, map, take, drop, string_bytes, true, false, Err, inr, ap, sym, ◌∙◌}
-use Rattle.std.specs.List.{list_any}
+use Rattle.std.proofs.Common.{◌≡◌, string_bytes, Err, inr, ap, sym, ◌∙◌}
 use Rattle.vx_document.specs.Document.{Name, pair_form}
 use Rattle.vx_document.specs.Fault.{duplicate_column}
 use Rattle.vx_plan.specs.Lookup.{is_among_pairs, pairs_once}

@@ -1,8 +1,8 @@
 use Rattle.std.proofs.Common.{◌≡◌, [], map, drop, string_bytes}
 use Rattle.vx_plan.specs.Lookup.{walk_onto}
 use Rattle.vx_document.specs.Document.{aggregate_form}
-use Rattle.vx_plan.specs.Outline.{condition_of, aggregate_of}
-use Rattle.vx_plan.specs.Resolve.{condition_found, kept_found, function_found}
+use Rattle.vx_plan.specs.Outline.{aggregate_of}
+use Rattle.vx_plan.specs.Resolve.{function_found}
 use Rattle.vx_plan.proofs.unary_nodes.aggregates_found.Given as goal
 
 abbrev pub invariant-loop-aggregate : goal.invariant-loop-aggregate

@@ -1,9 +1,7 @@
 use Rattle.std.proofs.Common.{map, string_bytes}
-use Rattle.std.proofs.lemmas.List.{map_push}
 use Rattle.std.proofs.lemmas.Result.{err_from_is_err_and}
-use Rattle.vx_document.specs.Document.{AggregateForm, output_form}
-use Rattle.vx_plan.specs.Outline.{condition_of, aggregate_of}
-use Rattle.vx_plan.specs.Resolve.{condition_found, kept_found, function_found, all_kept_found}
+use Rattle.vx_document.specs.Document.{output_form}
+use Rattle.vx_plan.specs.Resolve.{kept_found, all_kept_found}
 use Rattle.vx_plan.proofs.WalkFacts.{walk_more, walk_fails, walk_done}
 use Rattle.vx_plan.proofs.unary_nodes.all_kept_found.Goals as goal
 

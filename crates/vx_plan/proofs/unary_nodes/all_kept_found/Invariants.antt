@@ -1,8 +1,7 @@
 use Rattle.std.proofs.Common.{◌≡◌, [], map, drop, string_bytes}
 use Rattle.vx_plan.specs.Lookup.{walk_onto}
 use Rattle.vx_document.specs.Document.{output_form}
-use Rattle.vx_plan.specs.Outline.{condition_of, aggregate_of}
-use Rattle.vx_plan.specs.Resolve.{condition_found, kept_found, function_found}
+use Rattle.vx_plan.specs.Resolve.{kept_found}
 use Rattle.vx_plan.proofs.unary_nodes.all_kept_found.Given as goal
 
 abbrev pub invariant-loop-output : goal.invariant-loop-output

@@ -1,9 +1,9 @@
 use Rattle.std.proofs.Common.{map, string_bytes}
 use Rattle.std.proofs.lemmas.List.{map_push}
 use Rattle.std.proofs.lemmas.Result.{err_from_is_err_and}
-use Rattle.vx_document.specs.Document.{AggregateForm, condition_form}
-use Rattle.vx_plan.specs.Outline.{condition_of, aggregate_of}
-use Rattle.vx_plan.specs.Resolve.{condition_found, kept_found, function_found, conditions_found}
+use Rattle.vx_document.specs.Document.{condition_form}
+use Rattle.vx_plan.specs.Outline.{condition_of}
+use Rattle.vx_plan.specs.Resolve.{condition_found, conditions_found}
 use Rattle.vx_plan.proofs.WalkFacts.{walk_more, walk_fails, walk_done}
 use Rattle.vx_plan.proofs.unary_nodes.conditions_found.Goals as goal
 
