@@ -1,31 +1,17 @@
-//! The time to load a Wisconsin relation, beside the time in which `csv` alone reads the records of the same bytes.
-//!
-//! Without an argument few rows are loaded, and each line shows what is the same in each run. With a number as its
-//! argument so many rows are loaded, and the times are shown too: of the two, and of the parts of loading that can be
+//! Loading, beside the time in which `csv` alone reads the records of the same bytes, and the parts of loading that can be
 //! run by themselves.
-#![tactic(auto)]
 
 ghost use Rattle.std.specs.Prelude.{◌≤◌, ◌<◌, length};
 
-mod wisconsin;
-
+use crate::bench::{Bench, nanos_since};
+use crate::wisconsin::{CATALOG, MAX_ROWS, relation};
 use anyhow::{Error, bail};
 use csv::{ByteRecord, ReaderBuilder};
 use std::alloc::Global;
-use std::env;
-use std::rt::{Clock, Env};
+use std::rt::Clock;
 use std::time::Instant;
-use vx_catalog::{Catalog, Loaded, Loader};
+use vx_catalog::{Catalog, Loader};
 use vx_rows::{Cell, MemoryIn, Rows, read_all};
-
-const FEW: u64 = 10_000;
-
-/// How many rows are loaded, and whether times are shown.
-#[derive(Clone, Copy)]
-struct Bench {
-    rows: u64,
-    with_times: bool,
-}
 
 /// What was read of a text, and how long it took in nanoseconds.
 #[derive(Clone, Copy)]
@@ -33,11 +19,6 @@ struct Read {
     records: u64,
     fields: u64,
     nanos: u64,
-}
-
-/// The nanoseconds since a time.
-fn nanos_since<R: Clock>(rt: &R, start: Instant) -> Result<u64, Error> {
-    Ok(u64::try_from(start.elapsed(rt)?.as_nanos()).unwrap_or(u64::MAX))
 }
 
 /// The records of a text, read with the settings of the loader, and nothing done with them.
@@ -94,14 +75,6 @@ fn last_text(rows: &Rows) -> &str {
 }
 
 impl Bench {
-    /// Shows a time as a whole, and for each row.
-    fn show<R: Print>(self, rt: &R, name: &str, nanos: u64) -> Result<(), Error> {
-        let millis = nanos / 1_000_000;
-        let each = nanos / self.rows.max(1);
-        println!(rt; "{name}: {millis} ms, {each} ns a row")?;
-        Ok(())
-    }
-
     /// Shows the times of loading and reading, and how many times longer loading takes.
     fn show_ratio<R: Print>(self, rt: &R, load: u64, read: u64) -> Result<(), Error> {
         if !self.with_times {
@@ -156,8 +129,8 @@ impl Bench {
     }
 
     /// Loads a text, reads it with `csv` alone, and shows both.
-    fn run<R: Print + Clock>(self, rt: &R, alloc: Global, text: &[u8]) -> Result<(), Error> {
-        let catalog = Catalog::read(alloc, wisconsin::CATALOG.as_bytes())?;
+    fn load_text<R: Print + Clock>(self, rt: &R, alloc: Global, text: &[u8]) -> Result<(), Error> {
+        let catalog = Catalog::read(alloc, CATALOG.as_bytes())?;
         if catalog.is_empty() {
             bail!("the catalog has no relation");
         }
@@ -182,29 +155,13 @@ impl Bench {
     }
 }
 
-/// What the arguments ask for.
-fn asked<R: Env + Alloc>(rt: &R) -> Result<Bench, Error> {
-    match env::args(rt)?.nth(1) {
-        Some(word) => Ok(Bench {
-            rows: word.parse::<u64>()?,
-            with_times: true,
-        }),
-        None => Ok(Bench {
-            rows: FEW,
-            with_times: false,
-        }),
-    }
-}
-
-fn main(rt: HostRuntime) -> Result<(), Error> {
-    let bench = asked(&rt)?;
-    if bench.rows > wisconsin::MAX_ROWS {
-        bail!("over {} rows", wisconsin::MAX_ROWS);
-    }
-    let alloc = rt.alloc();
-    let ten = wisconsin::relation(alloc, 10)?;
+/// Loads tenk1.
+pub fn run<R: Print + Clock>(rt: &R, alloc: Global, bench: Bench) -> Result<(), Error>
+    requires few { bench.rows ≤ MAX_ROWS }
+{
+    let ten = relation(alloc, 10)?;
     println!(rt; "row 1 of 10: {}", ten.lines().nth(2).unwrap_or(""))?;
-    let text = wisconsin::relation(alloc, bench.rows)?;
+    let text = relation(alloc, bench.rows)?;
     println!(rt; "text: {} bytes", text.len())?;
-    bench.run(&rt, alloc, text.as_bytes())
+    bench.load_text(rt, alloc, text.as_bytes())
 }

@@ -1,41 +1,21 @@
-//! The time to evaluate queries over Wisconsin relations, beside that of the same queries written by hand over plain
-//! columns. The program fails where the two differ.
-//!
-//! Without an argument tenk1 has 10,000 rows, and each line shows what is the same in each run. With a number as its
-//! argument it has so many rows, and the times are shown too; with a second number only the query of that number is
-//! run. bprime has a tenth of the rows.
-#![tactic(auto)]
+//! Serial queries, beside the same queries written by hand over plain columns. It fails where the two differ. bprime has a
+//! tenth of the rows of tenk1.
 
 ghost use Rattle.std.specs.Prelude.{◌≤◌, ◌<◌, length};
 
-mod digest;
-mod plain;
-mod queries;
-mod wisconsin;
-
+use crate::bench::{Bench, last_of_hundredth, nanos_since};
 use crate::digest::{Digest, table_of};
 use crate::plain::Table;
 use crate::queries::{QUERIES, Query, SCAN};
 use crate::wisconsin::{CATALOG, MAX_ROWS, relation};
 use anyhow::{Error, bail};
 use std::alloc::Global;
-use std::env;
-use std::rt::{Clock, Env};
+use std::rt::Clock;
 use std::time::Instant;
 use vx_catalog::{Catalog, Database, Loader};
 use vx_plan::{Plan, resolve};
 use vx_rows::{MemoryIn, Rows};
 use vx_serial::eval;
-
-const FEW: u64 = 10_000;
-
-/// How many rows tenk1 has, which query is run (all, where none is named), and whether times are shown.
-#[derive(Clone, Copy)]
-struct Bench {
-    rows: u64,
-    only: Option<u64>,
-    with_times: bool,
-}
 
 /// The relations, as both kinds of queries read them.
 #[derive(Drop)]
@@ -43,11 +23,6 @@ struct Relations {
     database: Database,
     tenk1: Table,
     bprime: Table,
-}
-
-/// The nanoseconds since a time.
-fn nanos_since<R: Clock>(rt: &R, start: Instant) -> Result<u64, Error> {
-    Ok(u64::try_from(start.elapsed(rt)?.as_nanos()).unwrap_or(u64::MAX))
 }
 
 /// Loads n rows of one relation, and answers them as plain columns too.
@@ -90,13 +65,6 @@ fn evaluated<R: Clock>(
 }
 
 impl Bench {
-    /// The last number of the selection.
-    fn last(self) -> i64 {
-        i64::try_from(self.rows / 100)
-            .unwrap_or(i64::MAX)
-            .wrapping_sub(1)
-    }
-
     /// How many rows a query reads.
     fn rows_read(self, query: Query) -> u64 {
         if query.is_join() {
@@ -107,7 +75,13 @@ impl Bench {
     }
 
     /// Shows both times for each row that is read, and how many times longer evaluation takes.
-    fn show<R: Print>(self, rt: &R, query: Query, serial: u64, by_hand: u64) -> Result<(), Error> {
+    fn show_both<R: Print>(
+        self,
+        rt: &R,
+        query: Query,
+        serial: u64,
+        by_hand: u64,
+    ) -> Result<(), Error> {
         let rows = self.rows_read(query).max(1);
         let hundredths = serial.saturating_mul(100) / by_hand.max(1);
         println!(rt;
@@ -122,17 +96,22 @@ impl Bench {
     }
 
     /// Runs a query both ways, and shows what they gave.
-    fn run<R: Print + Clock>(
+    fn run_query<R: Print + Clock>(
         self,
         rt: &R,
         alloc: Global,
         relations: &Relations,
         query: Query,
     ) -> Result<(), Error> {
-        let text = query.plan(alloc, self.last())?;
+        let text = query.plan(alloc, last_of_hundredth(self.rows))?;
         let (rows, serial) = evaluated(rt, alloc, &relations.database, text.as_str())?;
         let start = Instant::now(rt)?;
-        let table = query.by_hand(alloc, &relations.tenk1, &relations.bprime, self.last())?;
+        let table = query.by_hand(
+            alloc,
+            &relations.tenk1,
+            &relations.bprime,
+            last_of_hundredth(self.rows),
+        )?;
         let by_hand = nanos_since(rt, start)?;
         let digest = Digest::of_rows(&rows);
         if digest != Digest::of_table(&table) {
@@ -146,7 +125,7 @@ impl Bench {
             digest.checksum
         )?;
         if self.with_times {
-            self.show(rt, query, serial, by_hand)?;
+            self.show_both(rt, query, serial, by_hand)?;
         }
         Ok(())
     }
@@ -168,7 +147,7 @@ impl Bench {
     }
 
     /// Runs the queries that are asked for.
-    fn run_all<R: Print + Clock>(
+    fn run_queries<R: Print + Clock>(
         self,
         rt: &R,
         alloc: Global,
@@ -177,40 +156,17 @@ impl Bench {
         self.show_scan(rt, alloc, &relations.database)?;
         for query in QUERIES {
             if self.only.is_none() || self.only == Some(query.number()) {
-                self.run(rt, alloc, relations, query)?;
+                self.run_query(rt, alloc, relations, query)?;
             }
         }
         Ok(())
     }
 }
 
-/// What the arguments ask for.
-fn asked<R: Env + Alloc>(rt: &R) -> Result<Bench, Error> {
-    let mut words = env::args(rt)?;
-    let Some(word) = words.nth(1) else {
-        return Ok(Bench {
-            rows: FEW,
-            only: None,
-            with_times: false,
-        });
-    };
-    let only = match words.next() {
-        Some(number) => Some(number.parse::<u64>()?),
-        None => None,
-    };
-    Ok(Bench {
-        rows: word.parse::<u64>()?,
-        only,
-        with_times: true,
-    })
-}
-
-fn main(rt: HostRuntime) -> Result<(), Error> {
-    let bench = asked(&rt)?;
-    if bench.rows > MAX_ROWS {
-        bail!("over {} rows", MAX_ROWS);
-    }
-    let alloc = rt.alloc();
+/// The queries that are asked for, both ways.
+pub fn run<R: Print + Clock>(rt: &R, alloc: Global, bench: Bench) -> Result<(), Error>
+    requires few { bench.rows ≤ MAX_ROWS }
+{
     let catalog = Catalog::read(alloc, CATALOG.as_bytes())?;
     if catalog.len() < 2 {
         bail!("the catalog has fewer than two relations");
@@ -223,5 +179,5 @@ fn main(rt: HostRuntime) -> Result<(), Error> {
         tenk1,
         bprime,
     };
-    bench.run_all(&rt, alloc, &relations)
+    bench.run_queries(rt, alloc, &relations)
 }
