@@ -6,7 +6,7 @@ use Rattle.serde_json.specs.Data.{Data, null, boolean, number, string, array, ob
 use Rattle.serde_json.specs.Find.{as_object, as_array}
 use Rattle.serde_json.specs.View.{view, items_view, items_of, members_view, members_of}
 use Rattle.serde_json.specs.declared.value.Value.{Value}
-use Rattle.vx_catalog.specs.Look.{list_of, as_list, names_of, is_among, has_only}
+use Rattle.vx_json.specs.Look.{list_of, as_list, names_of, is_among, has_only}
 
 pub list_of-items_of : (ds : List Data) → list_of (items_of ds) ≡ ds
 list_of-items_of [] = refl
