@@ -11,10 +11,10 @@ ghost use Rattle.vx_answer.specs.Bundle.{command_in, mode_in, number_in, each_me
 ghost use Rattle.vx_answer.specs.BundleView.{table_form, bundle_form};
 
 use crate::command::Command;
-use crate::look::has_only;
 use crate::setting::{MORSEL, Mode, PACKET, SLACK, Setting};
 use serde_json::{Map, Value};
 use std::alloc::{AllocError, Global};
+use vx_json::has_only;
 
 /// A relation's name with its text.
 #[derive(Clone, Copy)]

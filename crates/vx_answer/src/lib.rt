@@ -6,7 +6,6 @@ mod bundle;
 mod command;
 mod folder;
 mod given;
-mod look;
 mod page;
 mod refusal;
 mod router;

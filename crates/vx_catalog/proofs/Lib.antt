@@ -1,4 +1,3 @@
-pub mod LookFacts
 pub mod EachFacts
 pub mod NameFacts
 pub mod WalkFacts

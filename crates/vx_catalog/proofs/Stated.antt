@@ -10,7 +10,7 @@ use Rattle.serde_json.specs.Find.{get, as_str}
 use Rattle.vx_rows.specs.declared.value.ColType.{ColType}
 use Rattle.vx_catalog.specs.Catalog.{is_named, IsCatalog}
 use Rattle.vx_catalog.specs.Walk.{each_onto, walk_onto}
-use Rattle.vx_catalog.specs.Look.{as_list}
+use Rattle.vx_json.specs.Look.{as_list}
 use Rattle.vx_catalog.specs.Form.{ColumnText, RelationText, not_empty, name_in, kind_in, column_in, some_entry, entries, key_in, columns_in, keys_or, order_or, relation_in, relations_in, catalog_in}
 use Rattle.vx_catalog.specs.Relation.{Relation}
 use Rattle.vx_catalog.specs.Naming.{too_large, relation_after, is_within_limits, named, catalog_of, States, CatalogLaw}

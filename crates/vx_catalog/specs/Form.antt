@@ -5,7 +5,7 @@ use Rattle.serde_json.specs.Data.{Data}
 use Rattle.serde_json.specs.Find.{get, as_str}
 use Rattle.vx_rows.specs.declared.value.ColType.{ColType}
 use Rattle.vx_rows.specs.declared.value.ColType.TheVariants as kind
-use Rattle.vx_catalog.specs.Look.{as_list, has_only}
+use Rattle.vx_json.specs.Look.{as_list, has_only}
 use Rattle.vx_catalog.specs.Walk.{each_onto}
 
 -- a column as the catalog's text has it

@@ -2,7 +2,6 @@ pub mod Relation
 pub mod Catalog
 pub mod Csv
 pub mod Walk
-pub mod Look
 pub mod Form
 pub mod Naming
 pub mod Number

@@ -6,10 +6,10 @@ ghost use Rattle.serde_json.specs.View.{view};
 ghost use Rattle.vx_catalog.specs.Walk.{each_onto};
 ghost use Rattle.vx_catalog.specs.Form.{Reads, name_in, kind_in, column_in, key_in, columns_in, keys_or, order_or, relation_in, relations_in, catalog_in};
 
-use crate::look::{has_only, items};
 use serde_json::Value;
 use std::alloc::{AllocError, Global};
 use std::marker::Model;
+use vx_json::{has_only, items};
 use vx_rows::ColType;
 
 /// A column as the catalog's text has it.

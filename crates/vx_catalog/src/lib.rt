@@ -7,7 +7,6 @@ mod database;
 mod fault;
 mod form;
 mod loader;
-mod look;
 mod naming;
 mod number;
 mod record;

@@ -16,7 +16,7 @@ use Rattle.vx_document.specs.Operators.{own_scan, own_unary, own_binary, own_exc
 use Rattle.vx_document.specs.Reading.{node_in, declared_in, head_of, head_in, document_in}
 use Rattle.vx_document.specs.Written.{list_json, names_json, value_json, with_some, with_text, range_json, part_json, with_part, claim_members, with_object, with_claim, test_json, with_side, condition_json, output_json, with_function, aggregate_json, pair_json, with_scan, with_unary, with_binary, with_kind, scan_json, unary_json, binary_json, exchange_json, node_json, with_total, document_json}
 use Rattle.vx_document.proofs.Holds.{and-left, and-right}
-use Rattle.vx_document.proofs.LookFacts.{list_of-items_of}
+use Rattle.vx_json.proofs.LookFacts.{list_of-items_of}
 use Rattle.vx_document.proofs.NodeFacts.{node_step}
 
 name-back : (n : Name) → is_some_list n ≡ true → name_in (string n) ≡ Some n

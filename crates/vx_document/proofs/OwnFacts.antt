@@ -3,7 +3,8 @@ use Rattle.std.proofs.Common.{◌≡◌, ℕ, zero, suc, ◌+◌, List, [], ◌�
 use Rattle.std.specs.List.{list_all}
 use Rattle.serde_json.specs.Data.{Data}
 use Rattle.serde_json.specs.Find.{get, as_str}
-use Rattle.vx_document.specs.Look.{has_only, name_at, text_at, each_in, some_in, or_default}
+use Rattle.vx_json.specs.Look.{has_only}
+use Rattle.vx_document.specs.Look.{name_at, text_at, each_in, some_in, or_default}
 use Rattle.vx_document.specs.Look.{is_some_list}
 use Rattle.vx_document.specs.Fault.{Refusal, too_deep, ◌>>=◌}
 use Rattle.vx_document.specs.Document.{Name, AggregateForm, select, project, distinct, sort, BinaryForm, union, join, hash, range, round, broadcast, gather, Tree, unary, binary, exchange}

@@ -5,7 +5,8 @@ use Rattle.serde_json.specs.Data.{Data}
 use Rattle.serde_json.specs.Find.{get, as_bool}
 use Rattle.serde_json.specs.Read.{read}
 use Rattle.vx_document.specs.Fault.{Refusal, not_json, bad_node, too_deep, ◌>>=◌}
-use Rattle.vx_document.specs.Look.{has_only, name_at, value_in, each_in, or_default}
+use Rattle.vx_json.specs.Look.{has_only}
+use Rattle.vx_document.specs.Look.{name_at, value_in, each_in, or_default}
 use Rattle.vx_document.specs.declared.reading.Header.{Header}
 use Rattle.serde_json.specs.View.{view}
 use Rattle.vx_document.specs.Document.{range_form, Name, RangeForm, Tree, scan, unary, binary, exchange, Document}

@@ -1,54 +1,15 @@
-//! Looking into a JSON value.
+//! Looking into a JSON value: names, texts and constants.
 
-ghost use Rattle.std.specs.Prelude.{◌≡◌, map, option_map, option_and_then, string_bytes, codes};
-ghost use Rattle.std.specs.List.{list_all};
-ghost use Rattle.std.specs.BTreeMap.{keys};
+ghost use Rattle.std.specs.Prelude.{◌≡◌, option_map, string_bytes};
 ghost use Rattle.serde_json.specs.Find.{get};
 ghost use Rattle.serde_json.specs.View.{view};
 ghost use Rattle.vx_rows.specs.View.{val_of};
 ghost use Rattle.vx_document.specs.Fault.{Reads};
-ghost use Rattle.vx_document.specs.Look.{as_list, is_among, has_only, name_in, name_at, text_at, value_in};
+ghost use Rattle.vx_document.specs.Look.{name_in, name_at, text_at, value_in};
 
-use serde_json::{Map, Value as Json};
+use serde_json::Value as Json;
 use std::alloc::{AllocError, Global};
 use vx_rows::{Cell, Value};
-
-/// The items of an array.
-pub fn items(value: &Json) -> Option<&[Json]>
-    ensures { option_map (λ s. map view s.now) result ≡ as_list (view value.now) }
-{
-    match value.as_array() {
-        Some(list) => Some(list.as_slice()),
-        None => None,
-    }
-}
-
-fn is_among(names: &[&str], key: &str) -> bool
-    ensures { result ≡ is_among (map (λ n. n.now) names.now) key.now }
-{
-    for name in names {
-        if key == *name {
-            return true;
-        }
-    }
-    false
-}
-
-fn keys_are_among(members: &Map<String, Json>, names: &[&str]) -> bool
-    ensures { result ≡ list_all (λ k. is_among (map (λ n. n.now) names.now) (string_bytes k)) (keys members.now) }
-{
-    members.keys().all(|key| is_among(names, key.as_str()))
-}
-
-/// Whether a value is an object with no members but these.
-pub fn has_only(value: &Json, names: &[&str]) -> bool
-    ensures { result ≡ has_only (map (λ n. n.now) names.now) (view value.now) }
-{
-    match value.as_object() {
-        Some(members) => keys_are_among(members, names),
-        None => false,
-    }
-}
 
 /// A text that is not empty.
 #[tactic(auto, unfolding(crate::specs::Look::name_in))]

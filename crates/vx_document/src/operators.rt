@@ -11,13 +11,14 @@ ghost use Rattle.vx_document.specs.Operators.{own_form, mode_named, scan_in, sca
 
 use crate::forms::{claimed, names_in, some_names_at, some_names_in};
 use crate::lists::{aggregates_of, conditions_of, outputs_of, pairs_of};
-use crate::look::{has_only, items, name_at, text_at};
+use crate::look::{name_at, text_at};
 use crate::plan::{
     NamedAggregate, NamedBinary, NamedClaim, NamedCondition, NamedKind, NamedOutput, NamedScan,
     NamedUnary,
 };
 use serde_json::Value as Json;
 use std::alloc::{AllocError, Global};
+use vx_json::{has_only, items};
 
 /// What a node says of itself, and the values of its inputs.
 #[derive(Drop)]

@@ -15,11 +15,12 @@ use crate::document::Plan;
 use crate::fault::PlanFault;
 use crate::forms::names_in;
 use crate::lists::{ranges_of, values_of};
-use crate::look::{has_only, items, name_at};
+use crate::look::name_at;
 use crate::operators::{Own, own_in};
 use crate::plan::{NamedRange, Node};
 use serde_json::Value as Json;
 use std::alloc::{AllocError, Global};
+use vx_json::{has_only, items};
 use vx_rows::Value;
 
 const MAX_NODES: u32 = 1000;

@@ -1,12 +1,12 @@
 -- Names and items of a JSON value, in the words of its Rust lists.
-use Rattle.std.proofs.Common.{◌≡◌, ℕ, ◌+◌, ◌<◌, List, [], ◌∷◌, Some, None, option_map, false, String, BTreeMap, Global, string_bytes, bytes_eq, refl, sym, ap, ◌∙◌, map, get_or, drop, length, Bor, drop-cons, add-one, ◌||◌, ◌&&◌}
+use Rattle.std.proofs.Common.{◌≡◌, ℕ, List, [], ◌∷◌, Some, option_map, String, BTreeMap, Global, string_bytes, refl, sym, ap, ◌∙◌, map, ◌&&◌}
 use Rattle.std.specs.List.{list_all}
 use Rattle.std.specs.BTreeMap.{keys}
 use Rattle.serde_json.specs.Data.{Data, null, boolean, number, string, array, object, Members}
 use Rattle.serde_json.specs.Find.{as_object, as_array}
 use Rattle.serde_json.specs.View.{view, items_view, items_of, members_view, members_of}
 use Rattle.serde_json.specs.declared.value.Value.{Value}
-use Rattle.vx_catalog.specs.Look.{list_of, as_list, names_of, is_among, has_only}
+use Rattle.vx_json.specs.Look.{list_of, as_list, names_of, is_among, has_only}
 
 pub list_of-items_of : (ds : List Data) → list_of (items_of ds) ≡ ds
 list_of-items_of [] = refl
@@ -34,15 +34,3 @@ from_members names (object ns) ms h = let e : ms ≡ ns = cc in rw e refl
 pub only_members : (names : List (List ℕ)) (d : Data) (m : BTreeMap (String Global) Value) → Some (members_view m.entries) ≡ as_object d
     → list_all (λ k. is_among names (string_bytes k)) (keys m) ≡ has_only names d
 only_members names d m h = only_those names m.entries ∙ from_members names d _ h
-
-pub no_members_at_all : (names : List (List ℕ)) (d : Data) → None ≡ as_object d → false ≡ has_only names d
-no_members_at_all names null h = refl
-no_members_at_all names (boolean b) h = refl
-no_members_at_all names (number n) h = refl
-no_members_at_all names (string s) h = refl
-no_members_at_all names (array ds) h = refl
-no_members_at_all names (object ns) h = cc
-
-pub among_step : (key : List ℕ) (names : List (Bor (List ℕ))) (k : ℕ) (d : Bor (List ℕ)) → k < length names
-    → is_among (map (λ n. n.now) (drop k names)) key ≡ (bytes_eq key (get_or names k d).now || is_among (map (λ n. n.now) (drop (k + 1) names)) key)
-among_step key names k d h = rw (drop-cons names k d, add-one) refl

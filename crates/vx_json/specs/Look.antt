@@ -1,4 +1,4 @@
--- Looking into a JSON value: lists, names, and objects with no members but the stated ones.
+-- Looking into a JSON value: the items of an array, and objects with no members but the stated ones.
 use Rattle.std.specs.Prelude.{ℕ, List, [], ◌∷◌, Bool, false, Option, option_map, bytes_eq}
 use Rattle.std.specs.List.{list_all, list_any}
 use Rattle.serde_json.specs.Data.{Data, null, boolean, number, string, array, object, Items, no_items, item, Members, no_members, member}

@@ -1,12 +1,22 @@
 //! Looking into a JSON value.
 
-ghost use Rattle.std.specs.Prelude.{◌≡◌, map, string_bytes};
+ghost use Rattle.std.specs.Prelude.{◌≡◌, map, option_map, string_bytes};
 ghost use Rattle.std.specs.List.{list_all};
 ghost use Rattle.std.specs.BTreeMap.{keys};
 ghost use Rattle.serde_json.specs.View.{view};
-ghost use Rattle.vx_document.specs.Look.{is_among, has_only};
+ghost use Rattle.vx_json.specs.Look.{as_list, is_among, has_only};
 
 use serde_json::{Map, Value};
+
+/// The items of an array.
+pub fn items(value: &Value) -> Option<&[Value]>
+    ensures { option_map (λ s. map view s.now) result ≡ as_list (view value.now) }
+{
+    match value.as_array() {
+        Some(list) => Some(list.as_slice()),
+        None => None,
+    }
+}
 
 fn is_among(names: &[&str], key: &str) -> bool
     ensures { result ≡ is_among (map (λ n. n.now) names.now) key.now }
