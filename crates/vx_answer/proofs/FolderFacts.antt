@@ -6,7 +6,8 @@ use Rattle.vx_catalog.specs.Loading.{load_of, Fails}
 use Rattle.vx_catalog.specs.declared.fault.LoadFault.{LoadFault}
 use Rattle.vx_catalog.specs.declared.fault.LoadFault.TheVariants as load
 use Rattle.vx_answer.specs.declared.refusal.Refusal.TheVariants as refusal
-use Rattle.vx_answer.specs.Folder.{path_in, HasBroken, LacksAt, for_reading, for_text}
+use Rattle.vx_answer.specs.Folder.{path_in, LacksAt, for_reading, for_text}
+use Rattle.vx_answer.proofs.SourceFacts.{may_fail}
 
 fault_is : {T : Type 0} (fault : LoadFault) → IsErrOf {T = T} (Err fault) load.ReadFailed → fault ≡ load.ReadFailed
 fault_is {T} fault h = let P : Result T LoadFault → Type 0 = λ r. IfErr r (λ e. fault ≡ e) in subst P h refl
@@ -16,17 +17,20 @@ pub nothing_told : {A B : Type 0} (told : Option A) (opened : Option B) → (IsS
 nothing_told None opened there none = refl
 nothing_told {A} {B} (Some x) opened there none = let P : Option B → Type 0 = λ o. IsSome o in let opens : P None = subst P none (there refl) in cc
 
--- a file that failed while it was read, or whose text does not hold the rows
-lacks_by : {T : Type 0} (failed : Bool) (known : Option (List ℕ)) (files : List ℕ → Option (List ℕ)) (broke : Type 0) (folder : List ℕ) (relation : Relation) (fault : LoadFault)
-    → known ≡ files (path_in folder relation.name) → (failed ≡ true → broke) → (failed ≡ false → IfSome known (λ bytes. Fails fault (load_of relation bytes)))
-    → (failed ≡ true → IsErrOf {T = T} (Err fault) load.ReadFailed) → LacksAt files broke folder relation (refusal.Load fault)
-lacks_by true known files broke folder relation fault there breaks told broken = for_reading (ap refusal.Load (fault_is fault (broken refl))) (breaks refl)
-lacks_by false known files broke folder relation fault there breaks told broken =
-    let P : Option (List ℕ) → Type 0 = λ o. IfSome o (λ bytes. Fails fault (load_of relation bytes)) in
-    for_text fault refl (subst P there (told refl))
+is_fault : {T : Type 0} (fault : LoadFault) → fault ≡ load.ReadFailed → IsErrOf {T = T} (Err fault) load.ReadFailed
+is_fault fault h = ap Err h
 
-pub lacks_read : {T In : Type 0} {known : Option (List ℕ)} (has_failed : In → Bool) (file : In) (files : List ℕ → Option (List ℕ)) (folder : List ℕ) (relation : Relation) (fault : LoadFault)
-    → known ≡ files (path_in folder relation.name) → (has_failed file ≡ false → IfSome known (λ bytes. Fails fault (load_of relation bytes)))
-    → (has_failed file ≡ true → IsErrOf {T = T} (Err fault) load.ReadFailed) → LacksAt files (HasBroken has_failed) folder relation (refusal.Load fault)
-lacks_read {T} {In} {known} has_failed file files folder relation fault there told broken =
-    lacks_by (has_failed file) known files (HasBroken has_failed) folder relation fault there (λ h. (file, h)) told broken
+-- a file that failed while it was read, or whose text does not hold the rows
+lacks_by : {T : Type 0} (failed : Bool) (known : Option (List ℕ)) (files : List ℕ → Option (List ℕ)) (reliable : List ℕ → Bool) (folder : List ℕ) (relation : Relation) (fault : LoadFault)
+    → known ≡ files (path_in folder relation.name) → (failed ≡ true → reliable (path_in folder relation.name) ≡ false) → (failed ≡ false → IfSome known (λ bytes. Fails fault (load_of relation bytes)))
+    → (IsErrOf {T = T} (Err fault) load.ReadFailed → failed ≡ true) → (failed ≡ true → IsErrOf {T = T} (Err fault) load.ReadFailed) → LacksAt files reliable folder relation (refusal.Load fault)
+lacks_by true known files reliable folder relation fault there may told read broken = for_reading (ap refusal.Load (fault_is fault (broken refl))) (may refl)
+lacks_by false known files reliable folder relation fault there may told read broken =
+    let P : Option (List ℕ) → Type 0 = λ o. IfSome o (λ bytes. Fails fault (load_of relation bytes)) in
+    for_text fault refl (λ h. let bad = read (is_fault fault h) in cc) (subst P there (told refl))
+
+pub lacks_read : {T : Type 0} {known : Option (List ℕ)} (failed : Bool) (files : List ℕ → Option (List ℕ)) (reliable : List ℕ → Bool) (folder : List ℕ) (relation : Relation) (fault : LoadFault)
+    → known ≡ files (path_in folder relation.name) → (reliable (path_in folder relation.name) ≡ true → failed ≡ false) → (failed ≡ false → IfSome known (λ bytes. Fails fault (load_of relation bytes)))
+    → (IsErrOf {T = T} (Err fault) load.ReadFailed → failed ≡ true) → (failed ≡ true → IsErrOf {T = T} (Err fault) load.ReadFailed) → LacksAt files reliable folder relation (refusal.Load fault)
+lacks_read {T} {known} failed files reliable folder relation fault there never told read broken =
+    lacks_by failed known files reliable folder relation fault there (may_fail (reliable (path_in folder relation.name)) failed never) told read broken

@@ -5,7 +5,6 @@ use Rattle.vx_rows.specs.Ports.{IsAll, IsOver, ExplainsAll}
 use Rattle.vx_rows.specs.declared.bytes.ReadFault.TheVariants as fault
 use Rattle.vx_catalog.specs.Loading.{max_bytes}
 use Rattle.vx_answer.specs.declared.refusal.Refusal.{Refusal}
-use Rattle.vx_answer.specs.Folder.{HasBroken}
 use Rattle.vx_answer.specs.Worded.{IsUnreadable, IsInputRefusal, for_input_room, for_input, untaken_of}
 
 -- what holds of all bytes that were taken holds of those that are told
@@ -20,18 +19,23 @@ second_bytes first false before after file P same h = h
 second_bytes true true before after file P same h = tt
 second_bytes false true before after file P same h = let Q : Option (List ℕ) → Type 0 = λ o. IfSome o P in subst Q (same refl) h
 
+-- what failed was not reliable
+pub may_fail : (reliable failed : Bool) → (reliable ≡ true → failed ≡ false) → failed ≡ true → reliable ≡ false
+may_fail true failed never h = let whole : failed ≡ false = never refl in cc
+may_fail false failed never h = refl
+
 -- a file that failed while it was read
-pub unreadable_broken : {In : Type 0} (has_failed : In → Bool) (file : In) (known told : Option (List ℕ)) → ExplainsAll max_bytes known (has_failed file) fault.Broken → IsUnreadable told (HasBroken has_failed)
-unreadable_broken has_failed file known told h = inr (inl (file, h))
+pub unreadable_broken : (reliable failed : Bool) (known told : Option (List ℕ)) → (reliable ≡ true → failed ≡ false) → ExplainsAll max_bytes known failed fault.Broken → IsUnreadable told reliable
+unreadable_broken reliable failed known told never h = inr (inl (may_fail reliable failed never h))
 
 -- a file that is too long
-pub unreadable_long : (known told : Option (List ℕ)) (failed : Bool) (broke : Type 0) → known ≡ told → ExplainsAll max_bytes known failed fault.TooLarge → IsUnreadable told broke
-unreadable_long known told failed broke there h = let P : Option (List ℕ) → Type 0 = λ o. IsOver max_bytes o in inr (inr (subst P there h.0))
+pub unreadable_long : (known told : Option (List ℕ)) (failed reliable : Bool) → known ≡ told → ExplainsAll max_bytes known failed fault.TooLarge → IsUnreadable told reliable
+unreadable_long known told failed reliable there h = let P : Option (List ℕ) → Type 0 = λ o. IsOver max_bytes o in inr (inr (subst P there h.0))
 
 -- why the second path's bytes were not taken holds where less is told
-pub second_untaken : (first second : Bool) (before after file : Option (List ℕ)) (broke : Type 0) (failed : Bool) (path : List ℕ) (e : Refusal) → (first ≡ false → after ≡ before)
-    → untaken_of second file broke after failed path e → untaken_of second file broke (cond first None before) failed path e
-second_untaken first false before after file broke failed path e same h = h
-second_untaken true true before after file broke failed path e same (for_input_room is) = for_input_room is
-second_untaken true true before after file broke failed path e same (for_input is h) = for_input is (inr tt)
-second_untaken false true before after file broke failed path e same h = let P : Option (List ℕ) → Type 0 = λ o. IsInputRefusal o failed e in subst P (same refl) h
+pub second_untaken : (first second : Bool) (before after file : Option (List ℕ)) (reliable failed : Bool) (path : List ℕ) (e : Refusal) → (first ≡ false → after ≡ before)
+    → untaken_of second file reliable after failed path e → untaken_of second file reliable (cond first None before) failed path e
+second_untaken first false before after file reliable failed path e same h = h
+second_untaken true true before after file reliable failed path e same (for_input_room is) = for_input_room is
+second_untaken true true before after file reliable failed path e same (for_input is h) = for_input is (inr tt)
+second_untaken false true before after file reliable failed path e same h = let P : Option (List ℕ) → Type 0 = λ o. IsInputRefusal o failed e in subst P (same refl) h

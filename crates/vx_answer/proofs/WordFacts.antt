@@ -33,11 +33,11 @@ told_refusal P Q outcome (Err e) same weaker h =
     subst Q (sym same.2) (weaker same.0 there)
 
 -- what the command makes nothing of, the task has no answer to
-pub task_refused : {T : Type 0} (files : List ℕ → Option (List ℕ)) (broke : Type 0) (input : Option (List ℕ)) (failed : Bool) (t : Task) (p : Resolved) (r : Result T Refusal)
+pub task_refused : {T : Type 0} (files : List ℕ → Option (List ℕ)) (reliable : List ℕ → Bool) (input : Option (List ℕ)) (failed : Bool) (t : Task) (p : Resolved) (r : Result T Refusal)
     → IsPlannedIn t.command (catalog_told files input t.paths) (plan_told files input t.paths) p
-    → IfErr r (λ e. CommandRefuses t.command p (holds_at files t.folder) (LacksAt files broke t.folder) t.setting e) → IfErr r (λ e. TaskRefuses files broke input failed t e)
-task_refused files broke input failed t p (Ok x) planned h = tt
-task_refused files broke input failed t p (Err e) planned h = for_plan_of p planned h
+    → IfErr r (λ e. CommandRefuses t.command p (holds_at files t.folder) (LacksAt files reliable t.folder) t.setting e) → IfErr r (λ e. TaskRefuses files reliable input failed t e)
+task_refused files reliable input failed t p (Ok x) planned h = tt
+task_refused files reliable input failed t p (Err e) planned h = for_plan_of p planned h
 
 -- the answer to what words ask for answers the words
 pub words_text : (files : List ℕ → Option (List ℕ)) (input : Option (List ℕ)) (words : List (List ℕ)) (ask : Ask) (r : Result (Vec ℕ Global) NotTaken)
@@ -46,16 +46,16 @@ words_text files input words ask (Ok v) asked h = for_words ask asked h
 words_text files input words ask (Err e) asked h = tt
 
 -- and so does its refusal
-pub words_refused : {T : Type 0} (files : List ℕ → Option (List ℕ)) (broke : Type 0) (input : Option (List ℕ)) (failed : Bool) (words : List (List ℕ)) (ask : Ask) (r : Result T NotTaken)
-    → asked_by (named words) ≡ Some ask → IfErr r (IsNotAnswered files broke input failed ask) → IfErr r (IsNotTaken files broke input failed words)
-words_refused files broke input failed words ask (Ok v) asked h = tt
-words_refused files broke input failed words ask (Err (taken.Misworded text)) asked h = for_no_task ask asked h
-words_refused files broke input failed words ask (Err (taken.Refused e)) asked h = for_ask ask asked h
+pub words_refused : {T : Type 0} (files : List ℕ → Option (List ℕ)) (reliable : List ℕ → Bool) (input : Option (List ℕ)) (failed : Bool) (words : List (List ℕ)) (ask : Ask) (r : Result T NotTaken)
+    → asked_by (named words) ≡ Some ask → IfErr r (IsNotAnswered files reliable input failed ask) → IfErr r (IsNotTaken files reliable input failed words)
+words_refused files reliable input failed words ask (Ok v) asked h = tt
+words_refused files reliable input failed words ask (Err (taken.Misworded text)) asked h = for_no_task ask asked h
+words_refused files reliable input failed words ask (Err (taken.Refused e)) asked h = for_ask ask asked h
 
 -- what clap refuses is told as its kind says
-pub said_refused : {T : Type 0} (files : List ℕ → Option (List ℕ)) (broke : Type 0) (input : Option (List ℕ)) (failed : Bool) (words : List (List ℕ)) (error : Error) (r : Result T NotTaken)
-    → HasKind (faults_of (named words)) error → IfErr r (IsFault (kind_of error)) → IfErr r (IsNotTaken files broke input failed words)
-said_refused files broke input failed words error (Ok x) has h = tt
-said_refused files broke input failed words error (Err (taken.Misworded text)) (inl memory) h = absurd (h.2 memory)
-said_refused files broke input failed words error (Err (taken.Misworded text)) (inr among) h = for_kind (kind_of error) among h
-said_refused files broke input failed words error (Err (taken.Refused e)) has h = for_no_room h
+pub said_refused : {T : Type 0} (files : List ℕ → Option (List ℕ)) (reliable : List ℕ → Bool) (input : Option (List ℕ)) (failed : Bool) (words : List (List ℕ)) (error : Error) (r : Result T NotTaken)
+    → HasKind (faults_of (named words)) error → IfErr r (IsFault (kind_of error)) → IfErr r (IsNotTaken files reliable input failed words)
+said_refused files reliable input failed words error (Ok x) has h = tt
+said_refused files reliable input failed words error (Err (taken.Misworded text)) (inl memory) h = absurd (h.2 memory)
+said_refused files reliable input failed words error (Err (taken.Misworded text)) (inr among) h = for_kind (kind_of error) among h
+said_refused files reliable input failed words error (Err (taken.Refused e)) has h = for_no_room h

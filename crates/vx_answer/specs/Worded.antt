@@ -1,4 +1,4 @@
--- What answers words, over files and standard input, and why words may have no answer. `files` tells the bytes of a file by its path, and `input` those that standard input has left, each only where they are known. `broke` is what is said where a file failed while it was read (`HasBroken`), and `failed` says whether standard input did.
+-- What answers words, over files and standard input, and why words may have no answer. `files` tells the bytes of a file by its path, and `input` those that standard input has left, each only where they are known. `reliable` says of a path that reading its file cannot fail, as far as the store tells, and `failed` whether standard input failed.
 use Rattle.std.specs.Prelude.{◌≡◌, ◌≢◌, ℕ, ◌⊎◌, List, [], ◌∷◌, Bool, true, false, Option, Some, None, Result, Ok, IfSome, bytes_eq, codes, if◌then◌else◌, String, string_bytes}
 use Rattle.std.specs.declared.alloc.Global.{Global}
 use Rattle.clap.specs.Words.{IsAmong}
@@ -58,14 +58,14 @@ pub record IsPlannedIn (c : Command) (catalog_bytes plan_bytes : Option (List �
   pub declared : IfSome catalog_bytes (λ bytes. catalog_text bytes ≡ Ok catalog)
   pub planned : IfSome plan_bytes (λ bytes. plan_text c bytes catalog ≡ Ok p)
 
--- why a file is unreadable: it is not there, `broke` holds, or it is too long
-abbrev pub IsUnreadable : Option (List ℕ) → Type 0 → Type 0
-IsUnreadable file broke = (file ≡ None) ⊎ broke ⊎ IsOver max_bytes file
+-- why a file is unreadable: it is not there, reading it may fail, or it is too long
+abbrev pub IsUnreadable : Option (List ℕ) → Bool → Type 0
+IsUnreadable file reliable = (file ≡ None) ⊎ (reliable ≡ false) ⊎ IsOver max_bytes file
 
 -- why the bytes of a file were not taken: it is unreadable, or memory ran out
-pub data IsFileRefusal (file : Option (List ℕ)) (broke : Type 0) (path : List ℕ) (e : Refusal) : Type 0 where
-  for_file_room : e ≡ refusal.NoMemory → IsFileRefusal file broke path e
-  for_file : (held : String Global) → e ≡ refusal.FileUnreadable held → string_bytes held ≡ path → IsUnreadable file broke → IsFileRefusal file broke path e
+pub data IsFileRefusal (file : Option (List ℕ)) (reliable : Bool) (path : List ℕ) (e : Refusal) : Type 0 where
+  for_file_room : e ≡ refusal.NoMemory → IsFileRefusal file reliable path e
+  for_file : (held : String Global) → e ≡ refusal.FileUnreadable held → string_bytes held ≡ path → IsUnreadable file reliable → IsFileRefusal file reliable path e
 
 -- why those of standard input were not taken: it failed or is too long, or memory ran out
 pub data IsInputRefusal (input : Option (List ℕ)) (failed : Bool) (e : Refusal) : Type 0 where
@@ -73,23 +73,23 @@ pub data IsInputRefusal (input : Option (List ℕ)) (failed : Bool) (e : Refusal
   for_input : e ≡ refusal.InputUnreadable → IsUnread input failed → IsInputRefusal input failed e
 
 -- of standard input, or of the file under a path
-abbrev pub untaken_of : (is_input : Bool) → (file : Option (List ℕ)) → (broke : Type 0) → (input : Option (List ℕ)) → (failed : Bool) → (path : List ℕ) → Refusal → Type 0
-untaken_of true file broke input failed path e = IsInputRefusal input failed e
-untaken_of false file broke input failed path e = IsFileRefusal file broke path e
+abbrev pub untaken_of : (is_input : Bool) → (file : Option (List ℕ)) → (reliable : Bool) → (input : Option (List ℕ)) → (failed : Bool) → (path : List ℕ) → Refusal → Type 0
+untaken_of true file reliable input failed path e = IsInputRefusal input failed e
+untaken_of false file reliable input failed path e = IsFileRefusal file reliable path e
 
 -- why the bytes under a path were not taken
-abbrev pub Untaken : (List ℕ → Option (List ℕ)) → Type 0 → Option (List ℕ) → Bool → List ℕ → Refusal → Type 0
-Untaken files broke input failed path e = untaken_of (is_input path) (files path) broke input failed path e
+abbrev pub Untaken : (List ℕ → Option (List ℕ)) → (List ℕ → Bool) → Option (List ℕ) → Bool → List ℕ → Refusal → Type 0
+Untaken files reliable input failed path e = untaken_of (is_input path) (files path) (reliable path) input failed path e
 
 -- the first reason why there is no plan for a command: the catalog's bytes, the catalog, the plan's bytes, the plan
-pub data UnplannedIn (asked : Command) (files : List ℕ → Option (List ℕ)) (broke : Type 0) (input : Option (List ℕ)) (failed : Bool) (paths : Paths) (e : Refusal) : Type 0 where
-  for_catalog_bytes : Untaken files broke input failed paths.catalog e → UnplannedIn asked files broke input failed paths e
+pub data UnplannedIn (asked : Command) (files : List ℕ → Option (List ℕ)) (reliable : List ℕ → Bool) (input : Option (List ℕ)) (failed : Bool) (paths : Paths) (e : Refusal) : Type 0 where
+  for_catalog_bytes : Untaken files reliable input failed paths.catalog e → UnplannedIn asked files reliable input failed paths e
   for_catalog : (fault : CatalogFault) → e ≡ refusal.Catalog fault → IfSome (catalog_told files input paths) (λ bytes. catalog.Fails fault (catalog_text bytes))
-      → UnplannedIn asked files broke input failed paths e
-  for_plan_bytes : (c : List Relation) → IfSome (catalog_told files input paths) (λ bytes. catalog_text bytes ≡ Ok c) → Untaken files broke (input_after input paths.catalog) failed paths.plan e
-      → UnplannedIn asked files broke input failed paths e
+      → UnplannedIn asked files reliable input failed paths e
+  for_plan_bytes : (c : List Relation) → IfSome (catalog_told files input paths) (λ bytes. catalog_text bytes ≡ Ok c) → Untaken files reliable (input_after input paths.catalog) failed paths.plan e
+      → UnplannedIn asked files reliable input failed paths e
   for_plan : (c : List Relation) (fault : PlanFault) → e ≡ refusal.Plan fault → IfSome (catalog_told files input paths) (λ bytes. catalog_text bytes ≡ Ok c)
-      → IfSome (plan_told files input paths) (λ bytes. plan.Fails fault (plan_text asked bytes c)) → UnplannedIn asked files broke input failed paths e
+      → IfSome (plan_told files input paths) (λ bytes. plan.Fails fault (plan_text asked bytes c)) → UnplannedIn asked files reliable input failed paths e
 
 -- a command over the catalog, the plan and the folder of tables that words name
 pub record Task : Type 0 where
@@ -124,11 +124,11 @@ IsDone files input t text =
     (p : Resolved) × IsPlannedIn t.command (catalog_told files input t.paths) (plan_told files input t.paths) p × IsFor t.command p (holds_at files t.folder) t.setting text
 
 -- the first reason why a task has no answer: its plan, or what the command makes of that; want of memory may come anywhere
-pub data TaskRefuses (files : List ℕ → Option (List ℕ)) (broke : Type 0) (input : Option (List ℕ)) (failed : Bool) (t : Task) (e : Refusal) : Type 0 where
-  for_want : e ≡ refusal.NoMemory → TaskRefuses files broke input failed t e
-  for_planning : UnplannedIn t.command files broke input failed t.paths e → TaskRefuses files broke input failed t e
+pub data TaskRefuses (files : List ℕ → Option (List ℕ)) (reliable : List ℕ → Bool) (input : Option (List ℕ)) (failed : Bool) (t : Task) (e : Refusal) : Type 0 where
+  for_want : e ≡ refusal.NoMemory → TaskRefuses files reliable input failed t e
+  for_planning : UnplannedIn t.command files reliable input failed t.paths e → TaskRefuses files reliable input failed t e
   for_plan_of : (p : Resolved) → IsPlannedIn t.command (catalog_told files input t.paths) (plan_told files input t.paths) p
-      → CommandRefuses t.command p (holds_at files t.folder) (LacksAt files broke t.folder) t.setting e → TaskRefuses files broke input failed t e
+      → CommandRefuses t.command p (holds_at files t.folder) (LacksAt files reliable t.folder) t.setting e → TaskRefuses files reliable input failed t e
 
 -- the words with the program's name in front
 abbrev pub named : List (List ℕ) → List (List ℕ)
@@ -140,10 +140,10 @@ pub data AnswersAsk (files : List ℕ → Option (List ℕ)) (input : Option (Li
   for_task : (t : Task) → IsTask ask t → IsDone files input t text → AnswersAsk files input ask text
 
 -- what words ask for is refused with this refusal
-pub data AskRefuses (files : List ℕ → Option (List ℕ)) (broke : Type 0) (input : Option (List ℕ)) (failed : Bool) (ask : Ask) (e : Refusal) : Type 0 where
-  for_lack : e ≡ refusal.NoMemory → AskRefuses files broke input failed ask e
-  for_one : ask ≡ bundle → RefusedWith input failed e → AskRefuses files broke input failed ask e
-  for_asked : (t : Task) → IsTask ask t → TaskRefuses files broke input failed t e → AskRefuses files broke input failed ask e
+pub data AskRefuses (files : List ℕ → Option (List ℕ)) (reliable : List ℕ → Bool) (input : Option (List ℕ)) (failed : Bool) (ask : Ask) (e : Refusal) : Type 0 where
+  for_lack : e ≡ refusal.NoMemory → AskRefuses files reliable input failed ask e
+  for_one : ask ≡ bundle → RefusedWith input failed e → AskRefuses files reliable input failed ask e
+  for_asked : (t : Task) → IsTask ask t → TaskRefuses files reliable input failed t e → AskRefuses files reliable input failed ask e
 
 -- words ask for help or for the version
 abbrev pub AskForHelp : List (List ℕ) → Type 0
@@ -165,10 +165,10 @@ pub data AreMisworded (words : List (List ℕ)) : Type 0 where
   for_no_task : (ask : Ask) → asked_by (named words) ≡ Some ask → IsNoTask ask → AreMisworded words
 
 -- what words ask for is refused with this refusal, or memory ran out
-pub data WordsRefuse (files : List ℕ → Option (List ℕ)) (broke : Type 0) (input : Option (List ℕ)) (failed : Bool) (words : List (List ℕ)) (e : Refusal) : Type 0 where
-  for_no_room : e ≡ refusal.NoMemory → WordsRefuse files broke input failed words e
-  for_ask : (ask : Ask) → asked_by (named words) ≡ Some ask → AskRefuses files broke input failed ask e → WordsRefuse files broke input failed words e
+pub data WordsRefuse (files : List ℕ → Option (List ℕ)) (reliable : List ℕ → Bool) (input : Option (List ℕ)) (failed : Bool) (words : List (List ℕ)) (e : Refusal) : Type 0 where
+  for_no_room : e ≡ refusal.NoMemory → WordsRefuse files reliable input failed words e
+  for_ask : (ask : Ask) → asked_by (named words) ≡ Some ask → AskRefuses files reliable input failed ask e → WordsRefuse files reliable input failed words e
 
 -- words are refused by a refusal of this status
-abbrev pub AreRefusedBy : ℕ → (List ℕ → Option (List ℕ)) → Type 0 → Option (List ℕ) → Bool → List (List ℕ) → Type 0
-AreRefusedBy status files broke input failed words = (e : Refusal) × (status_of e ≡ status) × WordsRefuse files broke input failed words e
+abbrev pub AreRefusedBy : ℕ → (List ℕ → Option (List ℕ)) → (List ℕ → Bool) → Option (List ℕ) → Bool → List (List ℕ) → Type 0
+AreRefusedBy status files reliable input failed words = (e : Refusal) × (status_of e ≡ status) × WordsRefuse files reliable input failed words e

@@ -23,11 +23,11 @@ IsFault k (taken.Misworded text) = IsWrongKind k
 IsFault k (taken.Refused e) = e ≡ refusal.NoMemory
 
 -- why what words ask for is not answered
-abbrev pub IsNotAnswered : (List ℕ → Option (List ℕ)) → Type 0 → Option (List ℕ) → Bool → Ask → NotTaken → Type 0
-IsNotAnswered files broke input failed ask (taken.Misworded text) = IsNoTask ask
-IsNotAnswered files broke input failed ask (taken.Refused e) = AskRefuses files broke input failed ask e
+abbrev pub IsNotAnswered : (List ℕ → Option (List ℕ)) → (List ℕ → Bool) → Option (List ℕ) → Bool → Ask → NotTaken → Type 0
+IsNotAnswered files reliable input failed ask (taken.Misworded text) = IsNoTask ask
+IsNotAnswered files reliable input failed ask (taken.Refused e) = AskRefuses files reliable input failed ask e
 
 -- why words are not answered
-abbrev pub IsNotTaken : (List ℕ → Option (List ℕ)) → Type 0 → Option (List ℕ) → Bool → List (List ℕ) → NotTaken → Type 0
-IsNotTaken files broke input failed words (taken.Misworded text) = AreMisworded words
-IsNotTaken files broke input failed words (taken.Refused e) = WordsRefuse files broke input failed words e
+abbrev pub IsNotTaken : (List ℕ → Option (List ℕ)) → (List ℕ → Bool) → Option (List ℕ) → Bool → List (List ℕ) → NotTaken → Type 0
+IsNotTaken files reliable input failed words (taken.Misworded text) = AreMisworded words
+IsNotTaken files reliable input failed words (taken.Refused e) = WordsRefuse files reliable input failed words e

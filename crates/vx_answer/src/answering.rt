@@ -3,7 +3,6 @@
 ghost use Rattle.std.specs.Prelude.{◌≡◌, ◌≢◌, ◌⊎◌, ℕ, List, [], true, false, map, IfSome, IfOk, IfErr, IsErrOf};
 ghost use Rattle.std.specs.Io.KnownBytes.{Appends, Keeps};
 ghost use Rattle.vx_answer.specs.Answer.{IsAnswer, RefusedWith, IsRefusedBy};
-ghost use Rattle.vx_answer.specs.Folder.{HasBroken};
 ghost use Rattle.vx_answer.specs.Status.{status_of};
 ghost use Rattle.vx_answer.specs.Worded.{IsWorded, AreMisworded, AreRefusedBy};
 
@@ -92,7 +91,7 @@ fn reply_to_words<F: Store, I: ByteIn, O: ByteOut, E: ByteOut>(
     ensures kept { result ≢ 0 → O.has_failed out.new ≡ false → out.new ≡ out.old }
     ensures statuses { (result ≡ 0) ⊎ (result ≡ 2) ⊎ (result ≡ 3) ⊎ (result ≡ 4) }
     ensures misworded { result ≡ 2 → AreMisworded (map (λ w. w.now) words.now) × (out.new ≡ out.old) }
-    ensures refused { result ≡ 3 → AreRefusedBy 3 (F.holds files.now) (HasBroken F.In.has_failed) (I.remaining input.old) (I.has_failed input.new) (map (λ w. w.now) words.now) }
+    ensures refused { result ≡ 3 → AreRefusedBy 3 (F.holds files.now) (F.is_reliable files.now) (I.remaining input.old) (I.has_failed input.new) (map (λ w. w.now) words.now) }
 {
     match worded(alloc, files, input, words) {
         Ok(text) => deliver(Ok(text), out, err),
@@ -132,7 +131,7 @@ pub fn answer<T: Threads + Wait + Sync, F: Store, I: ByteIn, O: ByteOut, E: Byte
 
     // Status 2 comes only for words that are wrong, and status 3 only for what they ask for, refused.
     ensures misworded { words.now ≢ [] → result ≡ 2 → AreMisworded (map (λ w. w.now) words.now) }
-    ensures words_refused { words.now ≢ [] → result ≡ 3 → AreRefusedBy 3 (F.holds files.now) (HasBroken F.In.has_failed) (I.remaining input.old) (I.has_failed input.new) (map (λ w. w.now) words.now) }
+    ensures words_refused { words.now ≢ [] → result ≡ 3 → AreRefusedBy 3 (F.holds files.now) (F.is_reliable files.now) (I.remaining input.old) (I.has_failed input.new) (map (λ w. w.now) words.now) }
 
     // Any status but 0 leaves `out` as it was, unless `out` failed; status 2 in any case.
     ensures kept { result ≢ 0 → O.has_failed out.new ≡ false → out.new ≡ out.old }

@@ -28,11 +28,11 @@ fn path_in(alloc: Global, folder: &str, name: &str) -> Result<String, AllocError
 }
 
 impl<F: Store> Tables for Folder<'_, F> {
-    ghost use Rattle.vx_answer.specs.Folder.{HasBroken, holds_at, LacksAt};
+    ghost use Rattle.vx_answer.specs.Folder.{holds_at, LacksAt};
 
     ghost holds = { λ f. holds_at (F.holds f.files.now) f.path.now };
 
-    ghost lacks = { λ f. LacksAt (F.holds f.files.now) (HasBroken F.In.has_failed) f.path.now };
+    ghost lacks = { λ f. LacksAt (F.holds f.files.now) (F.is_reliable f.files.now) f.path.now };
 
     fn load(&self, alloc: Global, catalog: &Catalog, relation: usize) -> Result<Loaded, Refusal> {
         let path = path_in(alloc, self.path, catalog.get(relation).name())?;

@@ -7,7 +7,6 @@ ghost use Rattle.vx_plan.specs.TypedView.{resolved_of};
 ghost use Rattle.vx_plan.specs.Outline.{plan_in};
 ghost use Rattle.vx_exec.specs.Sizes.{can_run};
 ghost use Rattle.vx_words.specs.Asked.{paths_are};
-ghost use Rattle.vx_answer.specs.Folder.{HasBroken};
 ghost use Rattle.vx_answer.specs.Worded.{is_input, told_at, plan_text, IsFileRefusal, IsInputRefusal, Untaken, UnplannedIn, IsPlannedIn, catalog_told, plan_told};
 
 use crate::answering::MAX_BYTES;
@@ -27,7 +26,7 @@ const INPUT: &str = "-";
 /// All bytes of a file.
 fn file_bytes<F: Store>(alloc: Global, files: &F, path: &str) -> Result<Vec<u8>, Refusal>
     ensures taken { IfOk result (λ v. IsAll (F.holds files.now path.now) v.items) }
-    ensures refused { IfErr result (IsFileRefusal (F.holds files.now path.now) (HasBroken F.In.has_failed) path.now) }
+    ensures refused { IfErr result (IsFileRefusal (F.holds files.now path.now) (F.is_reliable files.now path.now) path.now) }
 {
     let held = String::from_str(alloc, path)?;
     let mut file = match files.open(path) {
@@ -62,7 +61,7 @@ fn bytes_at<F: Store, I: ByteIn>(
     path: &str,
 ) -> Result<Vec<u8>, Refusal>
     ensures taken { IfOk result (λ v. IsAll (told_at (F.holds files.now) (I.remaining input.old) path.now) v.items) }
-    ensures refused { IfErr result (Untaken (F.holds files.now) (HasBroken F.In.has_failed) (I.remaining input.old) (I.has_failed input.new) path.now) }
+    ensures refused { IfErr result (Untaken (F.holds files.now) (F.is_reliable files.now) (I.remaining input.old) (I.has_failed input.new) path.now) }
     ensures kept { is_input path.now ≡ false → input.new ≡ input.old }
 {
     if path == INPUT {
@@ -97,7 +96,7 @@ pub fn planned_in<F: Store, I: ByteIn>(
 ) -> Result<TypedPlan, Refusal>
     ensures planned { IfOk result (λ p. IsPlannedIn command (catalog_told (F.holds files.now) (I.remaining input.old) (paths_are sources.entry)) (plan_told (F.holds files.now) (I.remaining input.old) (paths_are sources.entry)) (resolved_of p)) }
     ensures runs { IfOk result (λ p. command ≡ Command.Run → can_run (plan_in (resolved_of p).root) ≡ true) }
-    ensures refused { IfErr result (UnplannedIn command (F.holds files.now) (HasBroken F.In.has_failed) (I.remaining input.old) (I.has_failed input.new) (paths_are sources.entry)) }
+    ensures refused { IfErr result (UnplannedIn command (F.holds files.now) (F.is_reliable files.now) (I.remaining input.old) (I.has_failed input.new) (paths_are sources.entry)) }
 {
     let bytes = match bytes_at(alloc, files, input, sources.catalog) {
         Ok(bytes) => bytes,

@@ -1,6 +1,6 @@
 //! Where the program's files are.
 
-ghost use Rattle.std.specs.Prelude.{◌≡◌, ℕ, List, Option, None, false, IfSome, IsSome};
+ghost use Rattle.std.specs.Prelude.{◌≡◌, ℕ, List, Option, None, Bool, true, false, IfSome, IsSome};
 
 use std::fs;
 use std::fs::{File, Files};
@@ -14,11 +14,15 @@ pub trait Store {
     // The bytes of the file at this path, where the store tells them: then there is one, and it opens.
     ghost holds: { Self → List ℕ → Option (List ℕ) };
 
+    // Whether no read of the file at this path will fail, as far as the store tells: `false` says nothing.
+    ghost is_reliable: { Self → List ℕ → Bool };
+
     /// The file at this path, if there is one that opens.
     fn open(&self, path: &str) -> Option<Self::In>
         ensures bytes { IfSome result (λ file. Self.In.remaining file ≡ holds self.now path.now) }
         ensures there { IsSome (holds self.now path.now) → IsSome result }
-        ensures whole { IfSome result (λ file. Self.In.has_failed file ≡ false) };
+        ensures whole { IfSome result (λ file. Self.In.has_failed file ≡ false) }
+        ensures reliable { IfSome result (λ file. is_reliable self.now path.now ≡ true → Self.In.is_reliable file ≡ true) };
 }
 
 /// The files of the system, which tells no clause their bytes.
@@ -37,6 +41,8 @@ impl<R: Files<File = File>> Store for Disk<'_, R> {
     type In = Real<File>;
 
     ghost holds = { λ _ _. None };
+
+    ghost is_reliable = { λ _ _. false };
 
     fn open(&self, path: &str) -> Option<Real<File>> {
         match fs::open(self.rt, path) {

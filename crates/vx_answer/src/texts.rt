@@ -1,6 +1,6 @@
 //! The texts of a bundle, which have the rows of relations.
 
-ghost use Rattle.std.specs.Prelude.{◌≡◌, ◌<◌, length, Some, false, IfOk};
+ghost use Rattle.std.specs.Prelude.{◌≡◌, ◌<◌, length, Some, true, false, IfOk};
 ghost use Rattle.vx_catalog.specs.Catalog.{relation_at};
 ghost use Rattle.vx_catalog.specs.Loading.{Gives, load_of};
 
@@ -21,6 +21,8 @@ impl ByteIn for TextIn<'_> {
     ghost remaining = { λ t. Some t.rest.now };
 
     ghost has_failed = { λ _. false };
+
+    ghost is_reliable = { λ _. true };
 
     fn read(&mut self, buf: &mut [u8]) -> Result<usize, Broken> {
         let n = buf.len().min(self.rest.len());

@@ -4,7 +4,6 @@ ghost use Rattle.std.specs.Prelude.{◌≡◌, ◌⊎◌, map, MatchOption, IfOk
 ghost use Rattle.clap.specs.Values.{kind_of};
 ghost use Rattle.clap.specs.declared.error.kind.ErrorKind.TheVariants as kind;
 ghost use Rattle.vx_words.specs.Asked.{asked_is, paths_are, given_is, bundle, run};
-ghost use Rattle.vx_answer.specs.Folder.{HasBroken};
 ghost use Rattle.vx_answer.specs.Given.{IsNoSetting};
 ghost use Rattle.vx_answer.specs.Worded.{default_setting, IsTask, IsNoTask, IsDone, TaskRefuses, named, AnswersAsk, IsWorded};
 ghost use Rattle.vx_answer.specs.WordsView.{task_is, IsWrong, IsFault, IsNotAnswered, IsNotTaken};
@@ -108,7 +107,7 @@ fn done<F: Store, I: ByteIn>(
     task: &Task<'_>,
 ) -> Result<Vec<u8>, Refusal>
     ensures text { IfOk result (λ text. IsDone (F.holds files.now) (I.remaining input.old) (task_is task.now) text.items) }
-    ensures refused { IfErr result (λ e. TaskRefuses (F.holds files.now) (HasBroken F.In.has_failed) (I.remaining input.old) (I.has_failed input.new) (task_is task.now) e) }
+    ensures refused { IfErr result (λ e. TaskRefuses (F.holds files.now) (F.is_reliable files.now) (I.remaining input.old) (I.has_failed input.new) (task_is task.now) e) }
 {
     let plan = match planned_in(alloc, files, input, task.command, task.sources) {
         Ok(plan) => plan,
@@ -150,7 +149,7 @@ fn answered<F: Store, I: ByteIn>(
     asked: &Asked<'_>,
 ) -> Result<Vec<u8>, NotTaken>
     ensures text { IfOk result (λ text. AnswersAsk (F.holds files.now) (I.remaining input.old) (asked_is asked.now) text.items) }
-    ensures refused { IfErr result (IsNotAnswered (F.holds files.now) (HasBroken F.In.has_failed) (I.remaining input.old) (I.has_failed input.new) (asked_is asked.now)) }
+    ensures refused { IfErr result (IsNotAnswered (F.holds files.now) (F.is_reliable files.now) (I.remaining input.old) (I.has_failed input.new) (asked_is asked.now)) }
 {
     if let Asked::Bundle = asked {
         return told(outcome_of(alloc, input));
@@ -200,7 +199,7 @@ pub fn worded<F: Store, I: ByteIn>(
     words: &[&str],
 ) -> Result<Vec<u8>, NotTaken>
     ensures text { IfOk result (λ text. IsWorded (F.holds files.now) (I.remaining input.old) (map (λ w. w.now) words.now) text.items) }
-    ensures refused { IfErr result (IsNotTaken (F.holds files.now) (HasBroken F.In.has_failed) (I.remaining input.old) (I.has_failed input.new) (map (λ w. w.now) words.now)) }
+    ensures refused { IfErr result (IsNotTaken (F.holds files.now) (F.is_reliable files.now) (I.remaining input.old) (I.has_failed input.new) (map (λ w. w.now) words.now)) }
 {
     let Ok(words) = named(alloc, words) else {
         return Err(NotTaken::Refused(Refusal::NoMemory));

@@ -1,6 +1,6 @@
 //! What no clause says: worked bundles with their lines, and inputs and outputs that fail.
 
-ghost use Rattle.std.specs.Prelude.{None};
+ghost use Rattle.std.specs.Prelude.{None, true};
 
 use serde_json::Value as Json;
 use std::alloc::Global;
@@ -25,6 +25,8 @@ impl Store for NoFiles {
     type In = MemoryIn<'static>;
 
     ghost holds = { λ _ _. None };
+
+    ghost is_reliable = { λ _ _. true };
 
     fn open(&self, _path: &str) -> Option<MemoryIn<'static>> {
         None

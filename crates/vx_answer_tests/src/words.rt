@@ -43,12 +43,15 @@ fn find_leaf<'s, 'a>(leaves: &'s [Leaf<'a>], path: &str) -> Option<&'s Leaf<'a>>
 }
 
 impl<'a> Store for Shelf<'a> {
-    ghost use Rattle.std.specs.Prelude.{option_map, bytes_eq};
+    ghost use Rattle.std.specs.Prelude.{option_map, bytes_eq, is_none, true};
+    ghost use Rattle.std.specs.Option.{unwrap_or};
     ghost use Rattle.std.specs.List.{find};
 
     type In = MemoryIn<'a>;
 
     ghost holds = { λ s path. option_map (λ l. l.text.now) (find (λ l. bytes_eq l.path.now path) s.leaves.now) };
+
+    ghost is_reliable = { λ s path. unwrap_or (option_map (λ l. is_none l.fails_after) (find (λ l. bytes_eq l.path.now path) s.leaves.now)) true };
 
     fn open(&self, path: &str) -> Option<MemoryIn<'a>> {
         match find_leaf(self.leaves, path) {

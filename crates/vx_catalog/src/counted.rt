@@ -1,7 +1,8 @@
 //! A port whose bytes are counted as they are taken.
 
-ghost use Rattle.std.specs.Prelude.{◌≡◌, ◌⊎◌, ℕ, List, Option, None, Err, true};
+ghost use Rattle.std.specs.Prelude.{◌≡◌, ◌⊎◌, ℕ, List, Option, None, Bool, Err, true, false};
 ghost use Rattle.std.specs.Io.KnownBytes.{IsAtEnd};
+ghost use Rattle.std.specs.Borrow.{GName};
 ghost use Rattle.vx_rows.specs.Ports.{IsOver};
 ghost use Rattle.vx_catalog.specs.Loading.{max_bytes};
 ghost use Rattle.vx_catalog.specs.Counting.{is_within, left_of, StaysKnown, Settles};
@@ -15,15 +16,31 @@ use vx_rows::{ByteIn, Rows};
 /// The most bytes that a text may have.
 const MAX_BYTES: usize = 1 << 40;
 
-/// Names all bytes that a port had when its counting began. A type names them, since whoever reads through a `Counted`
-/// tells nothing of it but the bytes that are left.
+/// Names a port, and what was known of it when its counting began. A type names them, since whoever reads through a
+/// `Counted` tells nothing of it but the bytes that are left.
 pub trait Origin {
-    // These bytes, where the type of the port tells them.
+    // All bytes that it had, where its type tells them.
     ghost text: { Option (List ℕ) };
+
+    // Whether no read of it will fail, as far as its type tells.
+    ghost is_reliable: { Bool };
+
+    // The borrow of it.
+    ghost name: { GName };
 }
 
 impl Origin for Brand {
     ghost text = { None };
+
+    ghost is_reliable = { false };
+
+    ghost name = { 0 };
+}
+
+/// A port that was lent, and is given back: so it is known to be the same port.
+#[derive(Drop)]
+pub struct Lent<'a, R> {
+    pub port: &'a mut R,
 }
 
 /// A reader of the bytes of a port. It fails where the port does, and once it has given more bytes than a text may have.
@@ -34,12 +51,16 @@ pub struct Counted<'a, R: ByteIn, T: Origin> {
     is_at_end: bool,
     of: PhantomData<T>,
     ghost within: { is_within T.text (R.remaining port.now) taken ≡ true },
+    ghost whole: { T.is_reliable ≡ true → (R.is_reliable port.now ≡ true) × (R.has_failed port.now ≡ false) },
+    ghost same: { port.ghost_name ≡ T.name },
 }
 
 impl<'a, R: ByteIn, T: Origin> Counted<'a, R, T> {
     /// None of the bytes of a port.
     pub fn new(port: &'a mut R) -> Counted<'a, R, T>
-        requires { R.remaining port.now ≡ T.text }
+        requires text { R.remaining port.now ≡ T.text }
+        requires whole { T.is_reliable ≡ true → (R.is_reliable port.now ≡ true) × (R.has_failed port.now ≡ false) }
+        requires same { port.ghost_name ≡ T.name }
         ensures { left_of T.text (R.remaining result.port.now) result.taken result.is_at_end ≡ T.text }
     {
         Counted {
@@ -48,6 +69,14 @@ impl<'a, R: ByteIn, T: Origin> Counted<'a, R, T> {
             is_at_end: false,
             of: PhantomData,
         }
+    }
+
+    /// The port alone.
+    pub fn into_lent(self) -> Lent<'a, R>
+        ensures same { result.port.ghost_name ≡ T.name }
+        ensures whole { T.is_reliable ≡ true → R.has_failed result.port.now ≡ false }
+    {
+        Lent { port: self.port }
     }
 
     /// Why a text is not read to its end: it is too large, or else memory ran out. That the port failed goes before

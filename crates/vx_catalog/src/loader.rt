@@ -14,7 +14,7 @@ ghost use Rattle.vx_catalog.specs.Records.{IsPlain, rest_of};
 ghost use Rattle.vx_catalog.specs.Loading.{Gives, records_of, under_header, tested, keys_kept, order_kept, first_fall, load_of, max_rows};
 
 use crate::catalog::Catalog;
-use crate::counted::{Counted, Origin};
+use crate::counted::{Counted, Lent, Origin};
 use crate::fault::LoadFault;
 use crate::record::{is_header, next_record, read_rows};
 use crate::relation::Relation;
@@ -102,20 +102,26 @@ fn test_rows(alloc: Global, relation: &Relation, rows: Rows) -> Result<Rows, Loa
     Ok(rows)
 }
 
-/// The rows of a relation from a port. All bytes of the port are taken before anything but want of memory is told.
-/// That the port failed goes before whatever is answered, and is asked of the port.
-fn load_text<R: ByteIn, T: Origin>(
+/// Loads the rows of a relation from a port into `loaded`, and gives the port back: else nothing would be known of it.
+/// All bytes of the port are taken before anything but want of memory is told. That the port failed goes before whatever
+/// was loaded, and is asked of the port.
+fn load_text<'p, R: ByteIn, T: Origin>(
     alloc: Global,
     relation: &Relation,
-    port: &mut R,
-) -> Result<Rows, LoadFault>
+    port: &'p mut R,
+    loaded: &mut Result<Rows, LoadFault>,
+) -> Lent<'p, R>
     requires text { R.remaining port.now ≡ T.text }
+    requires whole { T.is_reliable ≡ true → (R.is_reliable port.now ≡ true) × (R.has_failed port.now ≡ false) }
+    requires same { port.ghost_name ≡ T.name }
     requires relation { IsRelation relation.now }
-    ensures types { IfOk result (λ r. r.types ≡ relation.now.types) }
-    ensures rows { IfSome T.text (λ bytes. Gives (λ r. r.rows) result (load_of relation.now bytes)) }
-    ensures meets { IfOk result (λ r. Meets relation.now r.rows) }
-    ensures few { IfOk result (λ r. length r.rows ≤ max_rows) }
-    ensures own { IfErr result (λ e. e ≢ LoadFault.ReadFailed) }
+    ensures types { IfOk loaded.new (λ r. r.types ≡ relation.now.types) }
+    ensures rows { IfSome T.text (λ bytes. Gives (λ r. r.rows) loaded.new (load_of relation.now bytes)) }
+    ensures meets { IfOk loaded.new (λ r. Meets relation.now r.rows) }
+    ensures few { IfOk loaded.new (λ r. length r.rows ≤ max_rows) }
+    ensures own { IfErr loaded.new (λ e. e ≢ LoadFault.ReadFailed) }
+    ensures same { result.port.ghost_name ≡ port.entry.ghost_name }
+    ensures reliable { T.is_reliable ≡ true → R.has_failed result.port.now ≡ false }
 {
     let mut reader = ReaderBuilder::new()
         .has_headers(false)
@@ -123,8 +129,12 @@ fn load_text<R: ByteIn, T: Origin>(
         .from_reader(alloc, Counted::<R, T>::new(port));
     let read = read_text(alloc, relation, &mut reader);
     let mut source = reader.into_inner();
-    let rows = source.settle(read)?;
-    test_rows(alloc, relation, rows)
+    let tested = match source.settle(read) {
+        Ok(rows) => test_rows(alloc, relation, rows),
+        Err(fault) => Err(fault),
+    };
+    *loaded = tested;
+    source.into_lent()
 }
 
 /// Rows of a relation of a catalog, 100,000,000 at most, which meet all that it declares of the relation.
@@ -209,9 +219,13 @@ impl Loader {
         // C10 comes only where the reader failed, and then nothing else does.
         ensures failed { IsErrOf result LoadFault.ReadFailed → R.has_failed reader.new ≡ true }
         ensures broken { R.has_failed reader.new ≡ true → IsErrOf result LoadFault.ReadFailed }
+
+        // A reader that tells that it never fails has not failed.
+        ensures reliable { R.is_reliable reader.old ≡ true → R.has_failed reader.old ≡ false → R.has_failed reader.new ≡ false }
     {
-        let read = load_text::<R, Brand>(alloc, catalog.get(relation), reader);
-        if reader.failed() {
+        let mut read = Err(LoadFault::NoMemory);
+        let lent = load_text::<R, Brand>(alloc, catalog.get(relation), reader, &mut read);
+        if lent.port.failed() {
             return Err(LoadFault::ReadFailed);
         }
         let rows = read?;

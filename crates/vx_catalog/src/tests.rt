@@ -1,6 +1,6 @@
 //! What no clause says: worked texts with their refusals, and readers and writers that fail.
 
-ghost use Rattle.std.specs.Prelude.{◌≡◌, Some, false, ◌<◌, length, IfOk};
+ghost use Rattle.std.specs.Prelude.{◌≡◌, ◌&&◌, Some, false, not, is_none, ◌<◌, length, IfOk};
 
 mod refused;
 
@@ -30,6 +30,8 @@ impl<'a> ByteIn for Memory<'a> {
     ghost remaining = { λ m. Some m.rest.now };
 
     ghost has_failed = { λ m. m.broken };
+
+    ghost is_reliable = { λ m. not m.broken && is_none m.fails_after };
 
     fn read(&mut self, buf: &mut [u8]) -> Result<usize, Broken> {
         if self.broken {

@@ -1,6 +1,6 @@
 //! Bytes in and bytes out, each with the memory of whether it has failed.
 
-ghost use Rattle.std.specs.Prelude.{◌≡◌, ◌≤◌, ◌<◌, ◌||◌, ℕ, List, Bool, true, false, Option, IfOk, OnOk, IfErr, IsErr, is_err, length};
+ghost use Rattle.std.specs.Prelude.{◌≡◌, ◌≤◌, ◌<◌, ◌||◌, ℕ, List, Bool, true, false, Option, IfOk, OnOk, IfErr, IsOk, IsErr, is_err, length};
 ghost use Rattle.std.specs.Io.KnownBytes.{Appends, ReadConsumes, WriteAppends};
 ghost use Rattle.vx_rows.specs.Ports.{IsAll, ExplainsAll};
 
@@ -21,12 +21,16 @@ pub trait ByteIn {
     // Whether a call has answered `Err`.
     ghost has_failed: { Self → Bool };
 
+    // Whether no read will answer `Err`, as far as the type tells: `false` says nothing.
+    ghost is_reliable: { Self → Bool };
+
     /// Fills the front of `buf`, and says how far. 0 into a buffer with room is the end.
     fn read(&mut self, buf: &mut [u8]) -> Result<usize, Broken>
         ensures bound { IfOk result (λ n. n ≤ length buf.new) }
         ensures bytes { ReadConsumes (remaining self.old) (remaining self.new) result buf.new }
         ensures fails { has_failed self.new ≡ (has_failed self.old || is_err result) }
-        ensures stays { has_failed self.old ≡ true → IsErr result };
+        ensures stays { has_failed self.old ≡ true → IsErr result }
+        ensures reliable { is_reliable self.old ≡ true → (is_reliable self.new ≡ true) × IsOk result };
 
     /// Whether a call has answered `Err`.
     fn failed(&self) -> bool
@@ -104,6 +108,7 @@ pub fn read_all<R: ByteIn>(
     ensures small { IfOk result (λ v. length v.items ≤ limit) }
     ensures whole { OnOk result (R.has_failed reader.new ≡ false) }
     ensures err { IfErr result (λ e. ExplainsAll limit (R.remaining reader.old) (R.has_failed reader.new) e) }
+    ensures reliable { R.is_reliable reader.old ≡ true → R.has_failed reader.new ≡ false }
 {
     let mut bytes = Vec::new(alloc);
     let mut chunk = [0u8; 4096];
@@ -182,6 +187,8 @@ impl<R: Read> ByteIn for Real<R> {
     ghost remaining = { λ r. R.remaining r.inner };
 
     ghost has_failed = { λ r. r.broken };
+
+    ghost is_reliable = { λ _. false };
 
     fn read(&mut self, buf: &mut [u8]) -> Result<usize, Broken> {
         if self.broken {

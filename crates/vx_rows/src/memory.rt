@@ -1,6 +1,6 @@
 //! Ports over memory that fail at a stated byte: for tests of what reads and writes.
 
-ghost use Rattle.std.specs.Prelude.{◌≡◌, [], Some, false};
+ghost use Rattle.std.specs.Prelude.{◌≡◌, ◌&&◌, [], Some, false, not, is_none};
 
 use crate::bytes::{Broken, ByteIn, ByteOut};
 use std::alloc::Global;
@@ -32,6 +32,8 @@ impl<'a> ByteIn for MemoryIn<'a> {
     ghost remaining = { λ m. Some m.rest.now };
 
     ghost has_failed = { λ m. m.broken };
+
+    ghost is_reliable = { λ m. not m.broken && is_none m.fails_after };
 
     fn read(&mut self, buf: &mut [u8]) -> Result<usize, Broken> {
         if self.broken {

@@ -1,5 +1,4 @@
 use Rattle.std.proofs.Common.{refl, inl, ◌≡◌, None}
-use Rattle.vx_answer.specs.Folder.{HasBroken}
 use Rattle.vx_answer.specs.Worded.{for_file}
 use Rattle.vx_answer.proofs.FolderFacts.{nothing_told}
 use Rattle.vx_answer.proofs.SourceFacts.{unreadable_broken, unreadable_long}
@@ -14,11 +13,12 @@ pub returns-in-Err-Broken-clause-refused : goal.returns-in-Err-Broken-clause-ref
 returns-in-Err-Broken-clause-refused g c =
     let why = rw c.in-Err-Broken.field-0-is at c.in-Err-Broken.ensures.err in
     for_file c.in_ok-held.held refl c.in_ok-held.ensures.ok
-    (unreadable_broken g.F.In.ByteIn.has_failed c.read_all.new.reader (g.F.In.ByteIn.remaining c.in-Some.file) (g.F.Store.holds c.args.files.now c.args.path.now) why)
+    (unreadable_broken (g.F.Store.is_reliable c.args.files.now c.args.path.now) (g.F.In.ByteIn.has_failed c.read_all.new.reader) (g.F.In.ByteIn.remaining c.in-Some.file)
+    (g.F.Store.holds c.args.files.now c.args.path.now) (λ told. c.read_all.ensures.reliable (c.in-Some.ensures.reliable told)) why)
 
 pub returns-in-Err-TooLarge-clause-refused : goal.returns-in-Err-TooLarge-clause-refused
 returns-in-Err-TooLarge-clause-refused g c =
     let why = rw c.in-Err-TooLarge.field-0-is at c.in-Err-TooLarge.ensures.err in
     for_file c.in_ok-held.held refl c.in_ok-held.ensures.ok
     (unreadable_long (g.F.In.ByteIn.remaining c.in-Some.file) (g.F.Store.holds c.args.files.now c.args.path.now) (g.F.In.ByteIn.has_failed c.read_all.new.reader)
-    (HasBroken g.F.In.ByteIn.has_failed) c.in-Some.ensures.bytes why)
+    (g.F.Store.is_reliable c.args.files.now c.args.path.now) c.in-Some.ensures.bytes why)

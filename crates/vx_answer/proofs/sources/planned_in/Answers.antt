@@ -4,7 +4,6 @@ use Rattle.vx_catalog.specs.Naming.{catalog_text}
 use Rattle.vx_catalog.specs.Naming as catalog
 use Rattle.vx_document.specs.Fault as plan
 use Rattle.vx_words.specs.Asked.{paths_are}
-use Rattle.vx_answer.specs.Folder.{HasBroken}
 use Rattle.vx_answer.specs.Worded.{is_input, told_at, plan_text, catalog_told, for_catalog_bytes, for_catalog, for_plan_bytes, for_plan}
 use Rattle.vx_answer.proofs.SourceFacts.{told_all, second_bytes, second_untaken}
 use Rattle.vx_answer.proofs.sources.planned_in.Goals as goal
@@ -26,7 +25,7 @@ returns-in-Err-bytes_at-clause-refused g c =
     let declared : P c.in-Ok.bytes.items = rw c.as_slice.ensures.value at c.in-Ok-read.ensures in
     for_plan_bytes c.in-Ok-read.catalog (told_all P (catalog_told files (g.I.ByteIn.remaining c.args.input.now) (paths_are c.args.sources)) c.in-Ok.bytes.items c.in-Ok.ensures.taken declared)
     (second_untaken (is_input c.args.sources.catalog.now) (is_input c.args.sources.plan.now) (g.I.ByteIn.remaining c.args.input.now) (g.I.ByteIn.remaining c.bytes_at.new.input) (files c.args.sources.plan.now)
-    (HasBroken g.F.In.ByteIn.has_failed) (g.I.ByteIn.has_failed c.bytes_at-2.new.input) c.args.sources.plan.now c.in-Err-bytes_at.refusal (λ other. ap (g.I.ByteIn.remaining) (c.in-Ok.ensures.kept other))
+    (g.F.Store.is_reliable c.args.files.now c.args.sources.plan.now) (g.I.ByteIn.has_failed c.bytes_at-2.new.input) c.args.sources.plan.now c.in-Err-bytes_at.refusal (λ other. ap (g.I.ByteIn.remaining) (c.in-Ok.ensures.kept other))
     c.in-Err-bytes_at.ensures.refused)
 
 pub returns-clause-refused : goal.returns-clause-refused

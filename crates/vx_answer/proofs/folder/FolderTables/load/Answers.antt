@@ -19,5 +19,7 @@ returns-clause-refused g c =
     let folder = c.args.self.now.path.now in
     let files = g.F.Store.holds c.args.self.now.files.now in
     let at : string_bytes c.in_ok-path.path ≡ path_in folder relation.name = search rules in
-    lacks_read (g.F.In.ByteIn.has_failed) c.load.new.reader files folder relation c.in-Err.fault (c.in-Some.ensures.bytes ∙ ap files (c.as_str.ensures.value ∙ at)) c.in-Err.ensures.told
-    c.in-Err.ensures.broken
+    let reliable = g.F.Store.is_reliable c.args.self.now.files.now in
+    let same : c.as_str.result.now ≡ path_in folder relation.name = c.as_str.ensures.value ∙ at in
+    lacks_read (g.F.In.ByteIn.has_failed c.load.new.reader) files reliable folder relation c.in-Err.fault (c.in-Some.ensures.bytes ∙ ap files same)
+    (λ told. c.in-Err.ensures.reliable (c.in-Some.ensures.reliable (ap reliable same ∙ told)) c.in-Some.ensures.whole) c.in-Err.ensures.told c.in-Err.ensures.failed c.in-Err.ensures.broken
