@@ -3,6 +3,7 @@ pub mod Conditions
 pub mod KeyFacts
 pub mod PlaceFacts
 pub mod BuildFacts
+pub mod PairFacts
 pub mod AggregateFacts
 pub mod GroupFacts
 pub mod EndFacts

@@ -78,22 +78,19 @@ impl Build {
     }
 }
 
-/// A left row joined with each of some right rows.
-fn push_joined(
-    left: &Rows,
-    i: usize,
-    right: &Rows,
+/// Adds the position of a left row, beside each of some positions of right rows.
+fn push_pairs(
+    left: usize,
     positions: &[usize],
-    joined: &mut Rows,
+    lefts: &mut Vec<usize>,
+    rights: &mut Vec<usize>,
 ) -> Result<(), AllocError>
-    requires row { i < length left.now.rows }
-    requires positions { ArePositions (length right.now.rows) positions.now }
-    requires types { joined.old.types ≡ left.now.types ++ right.now.types }
-    ensures types { joined.new.types ≡ joined.old.types }
-    ensures rows { OnOk result (joined.new.rows ≡ joined.old.rows ++ map (λ j. row left.now i ++ row right.now j) positions.now) }
+    ensures lefts { OnOk result (lefts.new.items ≡ lefts.old.items ++ map (λ _. left) positions.now) }
+    ensures rights { OnOk result (rights.new.items ≡ rights.old.items ++ positions.now) }
 {
     for j in positions {
-        joined.append_joined(left, i, right, *j)?;
+        lefts.push(left)?;
+        rights.push(*j)?;
     }
     Ok(())
 }
@@ -122,7 +119,8 @@ pub(crate) fn joined_none(alloc: Global, left: &Rows, right: &Rows) -> Result<Ro
 }
 
 /// Each left row joined with the right rows that agree with it on the pairs of columns: in the order of the left rows,
-/// and for one left row in the order of the right rows.
+/// and for one left row in the order of the right rows. The positions of all pairs are found first, and then the rows are
+/// made column by column.
 pub fn hash_join(
     alloc: Global,
     left: &Rows,
@@ -137,10 +135,13 @@ pub fn hash_join(
 {
     let build = built(alloc, right, right_columns)?;
     let mut key = Row::new(alloc);
-    let mut joined = joined_none(alloc, left, right)?;
+    let mut lefts = Vec::new(alloc);
+    let mut rights = Vec::new(alloc);
     for i in 0..left.len() {
         key.read(left, i, left_columns)?;
-        push_joined(left, i, right, build.matches(&key), &mut joined)?;
+        push_pairs(i, build.matches(&key), &mut lefts, &mut rights)?;
     }
+    let mut joined = joined_none(alloc, left, right)?;
+    joined.append_joined_at(left, lefts.as_slice(), right, rights.as_slice())?;
     Ok(joined)
 }

@@ -22,7 +22,7 @@ pub use keys::Keys;
 pub use merging::{Merge, MergeFault, merge_join, rise_from};
 pub use projection::{projected, types_at};
 pub use seen::{Seen, distinct};
-pub use selection::{passes, selected};
+pub use selection::{passes, passing, selected};
 pub use sorting::sorted;
 pub use sum::{SumIsFull, WideSum};
 pub use union::united;

@@ -1,6 +1,6 @@
 //! Selection: the rows for which all conditions hold.
 
-ghost use Rattle.std.specs.Prelude.{◌≡◌, ◌<◌, length, IfOk, filter};
+ghost use Rattle.std.specs.Prelude.{◌≡◌, ◌<◌, ◌≤◌, ◌++◌, length, slice_range, unwrap_or, OnOk, IfOk, filter};
 ghost use Rattle.vx_rows.specs.View.{row};
 ghost use Rattle.vx_plan.specs.Serial.{passes, side, answers};
 ghost use Rattle.vx_plan.specs.Conditions.{conditions_of};
@@ -54,24 +54,51 @@ pub fn passes(conditions: &[Condition], rows: &Rows, i: usize) -> bool
     true
 }
 
-/// The rows for which all conditions hold, in order. Where they hold of all rows, these are handed on as they are.
-pub fn selected(alloc: Global, conditions: &[Condition], rows: Rows) -> Result<Rows, AllocError>
-    ensures types { IfOk result (λ r. r.types ≡ rows.types) }
-    ensures rows { IfOk result (λ r. r.rows ≡ filter (passes (conditions_of conditions.now)) rows.rows) }
+// Adds the rows of others from `from` up to `to`, where there are any.
+fn append_run(kept: &mut Rows, rows: &Rows, from: usize, to: usize) -> Result<(), AllocError>
+    requires same_types { rows.now.types ≡ kept.old.types }
+    requires order { from ≤ to }
+    requires there { to ≤ length rows.now.rows }
+    ensures types { kept.new.types ≡ kept.old.types }
+    ensures ok { OnOk result (kept.new.rows ≡ kept.old.rows ++ slice_range rows.now.rows from to) }
+{
+    if from == to {
+        return Ok(());
+    }
+    kept.append_range(rows, from, to)
+}
+
+/// The rows for which all conditions hold, in order, or None where they hold of all rows.
+pub fn passing(
+    alloc: Global,
+    conditions: &[Condition],
+    rows: &Rows,
+) -> Result<Option<Rows>, AllocError>
+    ensures types { IfOk result (λ r. (unwrap_or r rows.now).types ≡ rows.now.types) }
+    ensures rows { IfOk result (λ r. (unwrap_or r rows.now).rows ≡ filter (passes (conditions_of conditions.now)) rows.now.rows) }
 {
     let n = rows.len();
     let mut kept = Rows::new(alloc, rows.types())?;
     // the first row that was not looked at or passed, but is not yet kept
     let mut start = 0;
     for i in 0..n {
-        if !passes(conditions, &rows, i) {
-            kept.append_range(&rows, start, i)?;
+        if !passes(conditions, rows, i) {
+            append_run(&mut kept, rows, start, i)?;
             start = i + 1;
         }
     }
     if start == 0 {
-        return Ok(rows);
+        return Ok(None);
     }
-    kept.append_range(&rows, start, n)?;
-    Ok(kept)
+    append_run(&mut kept, rows, start, n)?;
+    Ok(Some(kept))
+}
+
+/// The rows for which all conditions hold, in order. Where they hold of all rows, these are handed on as they are.
+pub fn selected(alloc: Global, conditions: &[Condition], rows: Rows) -> Result<Rows, AllocError>
+    ensures types { IfOk result (λ r. r.types ≡ rows.types) }
+    ensures rows { IfOk result (λ r. r.rows ≡ filter (passes (conditions_of conditions.now)) rows.rows) }
+{
+    let kept = passing(alloc, conditions, &rows)?;
+    Ok(kept.unwrap_or(rows))
 }

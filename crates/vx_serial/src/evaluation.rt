@@ -1,6 +1,7 @@
 //! The rows of a plan over a database.
 
 ghost use Rattle.std.specs.Prelude.{◌≡◌, IfOk, IfErr};
+ghost use Rattle.std.specs.Cow.{cow_value};
 ghost use Rattle.vx_catalog.specs.Catalog.{relation_at};
 ghost use Rattle.vx_catalog.specs.Database.{rows_at};
 ghost use Rattle.vx_plan.specs.Outline.{plan_of};
@@ -12,22 +13,28 @@ ghost use Rattle.vx_serial.specs.Results.{IsFaultOf, IsSerialOf, EvalFails};
 
 use crate::exchanges::first_exchange;
 use crate::fault::EvalFault;
+use crate::lending::owned;
 use crate::operators::{binary_rows, unary_rows};
 use std::alloc::Global;
+use std::borrow::Cow;
 use vx_catalog::Database;
 use vx_plan::{TypedNode, TypedPlan};
 use vx_rows::Rows;
 
 /// The rows of a node. Each input is taken to its end, also where no further row can come of it. An exchange gives its
-/// input.
-fn eval_node(alloc: Global, database: &Database, node: &TypedNode) -> Result<Rows, EvalFault>
+/// input. A scan lends the rows of its relation, and what hands its input on hands on what is lent.
+fn eval_node<'d>(
+    alloc: Global,
+    database: &'d Database,
+    node: &TypedNode,
+) -> Result<Cow<'d, Rows>, EvalFault>
     requires { IsFit database.now.catalog (plan_of node.now) }
-    ensures types { IfOk result (λ t. t.types ≡ types_of (relation_at database.now.catalog) (plan_of node.now)) }
-    ensures rows { IfOk result (λ t. evaluated (rows_at database.now) (plan_of node.now) ≡ rows t.rows) }
+    ensures types { IfOk result (λ t. (cow_value t).types ≡ types_of (relation_at database.now.catalog) (plan_of node.now)) }
+    ensures rows { IfOk result (λ t. evaluated (rows_at database.now) (plan_of node.now) ≡ rows (cow_value t).rows) }
     ensures fault { IfErr result (IsFaultOf (evaluated (rows_at database.now) (plan_of node.now))) }
 {
     match node {
-        TypedNode::Scan(_, scan) => Ok(database.rows(scan.relation).copy(alloc)?),
+        TypedNode::Scan(_, scan) => Ok(Cow::Borrowed(database.rows(scan.relation))),
         TypedNode::Unary(head, unary, input) => {
             let rows = eval_node(alloc, database, input)?;
             unary_rows(alloc, head.number, unary, rows)
@@ -35,10 +42,21 @@ fn eval_node(alloc: Global, database: &Database, node: &TypedNode) -> Result<Row
         TypedNode::Binary(_, binary, left, right) => {
             let first = eval_node(alloc, database, left)?;
             let second = eval_node(alloc, database, right)?;
-            Ok(binary_rows(alloc, binary, first, &second)?)
+            Ok(Cow::Owned(binary_rows(alloc, binary, first, &second)?))
         }
         TypedNode::Exchange(_, _, input) => eval_node(alloc, database, input),
     }
+}
+
+/// The rows of a node as one's own, for a caller who keeps them.
+fn own_rows(alloc: Global, database: &Database, node: &TypedNode) -> Result<Rows, EvalFault>
+    requires { IsFit database.now.catalog (plan_of node.now) }
+    ensures types { IfOk result (λ t. t.types ≡ types_of (relation_at database.now.catalog) (plan_of node.now)) }
+    ensures rows { IfOk result (λ t. evaluated (rows_at database.now) (plan_of node.now) ≡ rows t.rows) }
+    ensures fault { IfErr result (IsFaultOf (evaluated (rows_at database.now) (plan_of node.now))) }
+{
+    let rows = eval_node(alloc, database, node)?;
+    Ok(owned(alloc, rows)?)
 }
 
 /// The rows of a plan without exchanges over a database of its catalog: those of its serial meaning.
@@ -54,5 +72,5 @@ pub fn eval(alloc: Global, plan: &TypedPlan, database: &Database) -> Result<Rows
     if let Some(node) = first_exchange(plan.root()) {
         return Err(EvalFault::HasExchange { node });
     }
-    eval_node(alloc, database, plan.root())
+    own_rows(alloc, database, plan.root())
 }

@@ -4,6 +4,7 @@
 mod evaluation;
 mod exchanges;
 mod fault;
+mod lending;
 mod operators;
 
 pub use evaluation::eval;

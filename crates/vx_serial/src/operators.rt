@@ -1,6 +1,7 @@
 //! What one operator makes of the rows of its inputs.
 
 ghost use Rattle.std.specs.Prelude.{◌≡◌, ◌++◌, true, Some, map, IfOk, IfErr};
+ghost use Rattle.std.specs.Cow.{cow_value};
 ghost use Rattle.std.specs.List.{list_all};
 ghost use Rattle.vx_plan.specs.Outline.{aggregate_of, unary_of, binary_of};
 ghost use Rattle.vx_plan.specs.Plan.{group};
@@ -11,8 +12,10 @@ ghost use Rattle.vx_serial.specs.Evaluated.{evaluated_rows};
 ghost use Rattle.vx_serial.specs.Results.{IsFaultAt};
 
 use crate::fault::EvalFault;
+use crate::lending::owned;
 use std::alloc::{AllocError, Global};
-use vx_algebra::{GroupFault, distinct, grouped, hash_join, projected, selected, sorted, united};
+use std::borrow::Cow;
+use vx_algebra::{GroupFault, distinct, grouped, hash_join, passing, projected, sorted, united};
 use vx_plan::{Aggregate, Binary, Kept, Unary};
 use vx_rows::Rows;
 
@@ -51,26 +54,35 @@ fn groups_of(
     }
 }
 
-/// What the operator with this number makes of its input's rows.
-pub fn unary_rows(alloc: Global, number: u32, unary: &Unary, rows: Rows) -> Result<Rows, EvalFault>
-    requires { is_unary rows.types (unary_of unary.now) ≡ true }
-    ensures types { IfOk result (λ t. t.types ≡ unary_types (unary_of unary.now) rows.types) }
-    ensures rows { IfOk result (λ t. evaluated_rows (unary_of unary.now) rows.rows ≡ Some t.rows) }
-    ensures fault { IfErr result (IsFaultAt number (evaluated_rows (unary_of unary.now) rows.rows)) }
+/// What the operator with this number makes of its input's rows. A selection hands them on where all of them pass.
+pub fn unary_rows<'d>(
+    alloc: Global,
+    number: u32,
+    unary: &Unary,
+    rows: Cow<'d, Rows>,
+) -> Result<Cow<'d, Rows>, EvalFault>
+    requires { is_unary (cow_value rows).types (unary_of unary.now) ≡ true }
+    ensures types { IfOk result (λ t. (cow_value t).types ≡ unary_types (unary_of unary.now) (cow_value rows.entry).types) }
+    ensures rows { IfOk result (λ t. evaluated_rows (unary_of unary.now) (cow_value rows.entry).rows ≡ Some (cow_value t).rows) }
+    ensures fault { IfErr result (IsFaultAt number (evaluated_rows (unary_of unary.now) (cow_value rows.entry).rows)) }
 {
     match unary {
-        Unary::Select(conditions) => Ok(selected(alloc, conditions.as_slice(), rows)?),
+        Unary::Select(conditions) => match passing(alloc, conditions.as_slice(), &rows)? {
+            Some(kept) => Ok(Cow::Owned(kept)),
+            None => Ok(rows),
+        },
         Unary::Project(kept) => {
             let columns = columns_of(alloc, kept.as_slice())?;
-            Ok(projected(alloc, &rows, columns.as_slice())?)
+            Ok(Cow::Owned(projected(alloc, &rows, columns.as_slice())?))
         }
         Unary::Distinct(kept) => {
             let columns = columns_of(alloc, kept.as_slice())?;
-            Ok(distinct(alloc, &rows, columns.as_slice())?)
+            Ok(Cow::Owned(distinct(alloc, &rows, columns.as_slice())?))
         }
-        Unary::Sort(columns) => Ok(sorted(alloc, &rows, columns.as_slice())?),
+        Unary::Sort(columns) => Ok(Cow::Owned(sorted(alloc, &rows, columns.as_slice())?)),
         Unary::Group(by, aggregates) => {
-            groups_of(alloc, number, &rows, by.as_slice(), aggregates.as_slice())
+            let groups = groups_of(alloc, number, &rows, by.as_slice(), aggregates.as_slice())?;
+            Ok(Cow::Owned(groups))
         }
     }
 }
@@ -105,19 +117,20 @@ fn joined(
     hash_join(alloc, left, left_keys.as_slice(), right, right_keys)
 }
 
-/// What an operator makes of the rows of its left and its right input. A merge join gives the list of a hash join.
+/// What an operator makes of the rows of its left and its right input. A merge join gives the list of a hash join. A
+/// union adds to the left rows, and copies them where they are lent.
 pub fn binary_rows(
     alloc: Global,
     binary: &Binary,
-    left: Rows,
+    left: Cow<'_, Rows>,
     right: &Rows,
 ) -> Result<Rows, AllocError>
-    requires { is_binary left.types right.now.types (binary_of binary.now) ≡ true }
-    ensures types { IfOk result (λ t. t.types ≡ binary_types (binary_of binary.now) left.types right.now.types) }
-    ensures rows { IfOk result (λ t. t.rows ≡ binary_rows (binary_of binary.now) left.rows right.now.rows) }
+    requires { is_binary (cow_value left).types right.now.types (binary_of binary.now) ≡ true }
+    ensures types { IfOk result (λ t. t.types ≡ binary_types (binary_of binary.now) (cow_value left.entry).types right.now.types) }
+    ensures rows { IfOk result (λ t. t.rows ≡ binary_rows (binary_of binary.now) (cow_value left.entry).rows right.now.rows) }
 {
     match binary {
-        Binary::Union => united(left, right),
+        Binary::Union => united(owned(alloc, left)?, right),
         Binary::HashJoin(on) => joined(alloc, &left, right, on.as_slice()),
         Binary::MergeJoin(on) => joined(alloc, &left, right, on.as_slice()),
     }

@@ -1,4 +1,6 @@
-use Rattle.std.proofs.Common.{◌≡◌, true, subst}
+use Rattle.std.proofs.Common.{◌≡◌, ◌∙◌, true, ap, sym, subst}
+use Rattle.std.specs.Cow.{cow_value}
+use Rattle.vx_rows.specs.View.{Table}
 use Rattle.vx_plan.specs.Outline.{binary_of}
 use Rattle.vx_plan.specs.Typed.{is_binary}
 use Rattle.vx_plan.specs.declared.typed.Binary.{Binary}
@@ -7,5 +9,5 @@ use Rattle.vx_serial.proofs.operators.binary_rows.Goals as goal
 
 pub united-requires : goal.united-requires
 united-requires c =
-    let P : Binary → Type 0 = λ b. is_binary c.args.left.types c.args.right.now.types (binary_of b) ≡ true in
-    union-types c.args.left.types c.args.right.now.types (subst P c.in-Union.is c.requires)
+    let P : Binary → Type 0 = λ b. is_binary (cow_value c.args.left).types c.args.right.now.types (binary_of b) ≡ true in
+    union-types (cow_value c.args.left).types c.args.right.now.types (subst P c.in-Union.is c.requires) ∙ ap (λ (t : Table). t.types) (sym c.in_ok-owned-in-Union.ensures)
