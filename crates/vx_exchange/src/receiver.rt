@@ -157,6 +157,8 @@ impl Receiver {
 }
 
 impl Source for Receiver {
+    ghost use Rattle.vx_ops.specs.Ledger.{Ledger};
+    ghost use Rattle.vx_ops.specs.Turn.{Fits, IsTyped, GivesRows, after, Again};
     ghost use Rattle.vx_exchange.specs.Receiver.{ReceiverStands, receiver_op, receiver_types, receiver_want, receiver_told};
 
     ghost Stands = { ReceiverStands };
@@ -176,7 +178,16 @@ impl Source for Receiver {
         }
     }
 
-    fn turn(&mut self, got: Got) -> Polled {
+    fn turn(&mut self, got: Got) -> Polled
+        requires fits { Fits (receiver_want self.old) got }
+        requires typed { IsTyped (receiver_types self.old) (receiver_want self.old) got }
+        ensures stands { (l : Ledger) → ReceiverStands self.old l → ReceiverStands self.new (after l (receiver_want self.old) got result) }
+        ensures again { (l : Ledger) → ReceiverStands self.old l → Again l.gave.over result }
+        ensures gives { GivesRows (receiver_types self.old).out result }
+        ensures op { receiver_op self.new ≡ receiver_op self.old }
+        ensures types { receiver_types self.new ≡ receiver_types self.old }
+        ensures in_turn { self.new.over ≡ Over.Running → IsInTurn (self.old.next + 1) self.new.ended.items self.new.next }
+    {
         match self.over {
             Over::Ended => Polled::End,
             Over::Failed(f) => Polled::Fault(f),

@@ -224,3 +224,8 @@ parts-count j hash ws w h =
 pub err-told : (r : Result Ran RunFault) (e : RunFault) (P : RunFault → Type 0) → IsErrAnd r (λ y. y ≡ e) → P e → IfErr r P
 err-told (Ok x) e P h p = tt
 err-told (Err y) e P h p = subst P (sym h) p
+
+-- what holds without looking at the rows
+pub ok-told : (r : Result Ran RunFault) (P : Type 0) → P → IfOk r (λ _. P)
+ok-told (Ok x) P h = h
+ok-told (Err e) P h = tt

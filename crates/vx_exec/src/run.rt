@@ -1,7 +1,7 @@
 //! Runs in one thread.
 
 ghost use Rattle.std.specs.Prelude.{◌≡◌, ◌<◌, ◌⊎◌, true, length, IfOk, IfErr, List};
-ghost use Rattle.std.specs.List.{slice_index_or};
+ghost use Rattle.std.specs.List.{All, slice_index_or};
 ghost use Rattle.vx_rows.specs.declared.value.ColType.{ColType as Kind};
 ghost use Rattle.vx_plan.specs.TypedView.{plan as whole_plan, resolved_of};
 ghost use Rattle.vx_check.specs.Checked.{is_allowed, is_root_allowed};
@@ -106,6 +106,7 @@ fn schedule_job<R: Router>(
         ⊎ IsBadStepOf steps.now (crew_size job.now.groups.items (whole_plan job.now.plan.now)) e) }
     ensures first { IfErr result (λ e. IsFirstTold (setting_of (R.route_of router.now) job.now) (whole_plan job.now.plan.now) e
         ⊎ IsBadStepOf steps.now (crew_size job.now.groups.items (whole_plan job.now.plan.now)) e) }
+    ensures named { IfOk result (λ _. All (λ k. k < crew_size job.now.groups.items (whole_plan job.now.plan.now)) steps.now) }
 {
     job.meets();
     let crew = Crew::new(alloc, job)?;
@@ -154,6 +155,8 @@ pub fn run_scheduled<R: Router>(
     ensures first { (s : Sizes) → IsSetUp (resolved_of (typed_plan plan.now)) database.now setup.now s
         → IfErr result (λ e. IsFirstTold (setting (R.route_of router.now) (typed_plan plan.now) database.now s) (whole_plan (typed_plan plan.now)) e
         ⊎ IsBadStepOf steps.now (crew_size s.groups (whole_plan (typed_plan plan.now))) e) }
+    ensures named { (s : Sizes) → IsSetUp (resolved_of (typed_plan plan.now)) database.now setup.now s
+        → IfOk result (λ _. All (λ k. k < crew_size s.groups (whole_plan (typed_plan plan.now))) steps.now) }
 {
     let job = job_of(alloc, plan.plan(), database, setup)?;
     schedule_job(alloc, &job, router, steps)

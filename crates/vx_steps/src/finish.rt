@@ -1,6 +1,6 @@
 //! Whole runs in one thread: steps, and what they come to.
 
-ghost use Rattle.std.specs.Prelude.{◌≡◌, Bool, map, vec_len, IfOk, IfErr};
+ghost use Rattle.std.specs.Prelude.{◌≡◌, ◌<◌, Bool, map, vec_len, IfOk, IfErr};
 ghost use Rattle.std.specs.List.{All};
 ghost use Rattle.vx_plan.specs.Plan.{Plan};
 ghost use Rattle.vx_worker.specs.Fragment.{Setting};
@@ -55,6 +55,7 @@ pub fn finish_steps<O: Source, S: Sends, G: Morsels, R: Router>(
 ) -> Result<Verdict, usize>
     requires { All (IsReady O.types S.post S.is_open S.has_closed (G.types_of morsels.now)) workers.old.items }
     ensures bad { IfErr result (IsBadStep steps.now (vec_len workers.old)) }
+    ensures good { IfOk result (λ _. All (λ s. s < vec_len workers.old) steps.now) }
     ensures before { IfErr result (λ _. (workers.new ≡ workers.old) × (links.new ≡ links.old)) }
     ensures roles { map (role_of O.op S.post S.bounds) workers.new.items ≡ map (role_of O.op S.post S.bounds) workers.old.items }
     ensures judged { IfOk result (Judged workers.new.items) }

@@ -1,4 +1,5 @@
-use Rattle.std.proofs.Common.{◌⊎◌, inl, inr, subst, sym, ◌∙◌, IfErr}
+use Rattle.std.proofs.Common.{◌⊎◌, ◌<◌, inl, inr, subst, sym, ◌∙◌, IfErr, IfOk}
+use Rattle.std.specs.List.{All}
 use Rattle.vx_plan.specs.TypedView.{resolved_of, plan as whole_plan}
 use Rattle.vx_check.specs.CheckedView.{typed_plan}
 use Rattle.vx_plan.specs.Outline.{plan_in}
@@ -47,3 +48,10 @@ returns-in_err-job-clause-first g c = λ s set.
     err-told c.from_residual.result e (λ x. IsFirstTold (setting (g.R.Router.route_of c.args.router.now) p c.args.database.now s) (whole_plan p) x
     ⊎ IsBadStepOf c.args.steps.now (crew_size s.groups (whole_plan p)) x) c.from_residual.ensures.1
     (inl (inl (c.in_err-job.ensures.memory s (subst (λ z. IsSetUp (resolved_of z) c.args.database.now c.args.setup.now s) (sym c.plan.ensures.same) set))))
+
+pub returns-clause-named : goal.returns-clause-named
+returns-clause-named g c = λ s set.
+    let j = c.in_ok-job.job in
+    let mine = subst (λ z. IsSetUp (resolved_of z) c.args.database.now c.args.setup.now (sizes_of j)) c.plan.ensures.same c.in_ok-job.ensures.set in
+    of-job (λ p db z. IfOk c.schedule_job.result (λ _. All (λ k. k < crew_size z.groups (whole_plan p)) c.args.steps.now))
+    j (typed_plan c.args.plan.now) c.args.database.now c.args.setup.now s (c.in_ok-job.ensures.plan ∙ c.plan.ensures.same) c.in_ok-job.ensures.database mine set c.schedule_job.ensures.named
