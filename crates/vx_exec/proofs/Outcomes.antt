@@ -42,7 +42,7 @@ use Rattle.vx_steps.proofs.RunSteps.{map-length}
 use Rattle.vx_exec.specs.Sizes.{crew_size, Sizes, IsWithin, group_at, setting}
 use Rattle.vx_exec.specs.Setup.{SetupForm, SetupRefusal, refusal_of, sizes_set, Gives}
 use Rattle.vx_exec.specs.Job.{sizes_of, setting_of}
-use Rattle.vx_exec.specs.Runs.{IfDone, ComesTo, IsRunOf, fault_told, IsTrueOf, IsFirstTold, IsSetUp, RunFails, for_setup}
+use Rattle.vx_exec.specs.Runs.{IfDone, ComesTo, IsRunOf, fault_told, IsTrueOf, IsFirstTold, NamesFirst, IsSetUp, RunFails, for_setup}
 use Rattle.vx_exec.specs.declared.fault.RunFault.{RunFault}
 use Rattle.vx_exec.specs.declared.fault.RunFault.TheVariants as fault
 use Rattle.vx_exec.specs.declared.crew.Crew.{Crew}
@@ -225,7 +225,12 @@ pub err-told : (r : Result Ran RunFault) (e : RunFault) (P : RunFault → Type 0
 err-told (Ok x) e P h p = tt
 err-told (Err y) e P h p = subst P (sym h) p
 
--- what holds without looking at the rows
-pub ok-told : (r : Result Ran RunFault) (P : Type 0) → P → IfOk r (λ _. P)
-ok-told (Ok x) P h = h
-ok-told (Err e) P h = tt
+-- each step names a worker, whatever the run comes to
+pub names-told : (r : Result Ran RunFault) (steps : List ℕ) (n : ℕ) → All (λ s. s < n) steps → NamesFirst steps n r
+names-told (Ok x) steps n h = h
+names-told (Err e) steps n h = inr (inr h)
+
+-- memory ran out before a step was looked at
+pub names-nothing : (r : Result Ran RunFault) (e : RunFault) (steps : List ℕ) (n : ℕ) → IsErrAnd r (λ y. y ≡ e) → e ≡ fault.NoMemory → NamesFirst steps n r
+names-nothing (Ok x) e steps n h p = absurd h
+names-nothing (Err y) e steps n h p = inl (h ∙ p)

@@ -1,6 +1,6 @@
 -- What a run of a plan over a database comes to.
-use Rattle.std.specs.Prelude.{ℕ, ◌≡◌, ◌≢◌, ◌⊎◌, List, Result, Ok, Err}
-use Rattle.std.specs.List.{slice_index_or}
+use Rattle.std.specs.Prelude.{ℕ, ◌≡◌, ◌≢◌, ◌<◌, ◌⊎◌, List, Result, Ok, Err}
+use Rattle.std.specs.List.{All, slice_index_or}
 use Rattle.vx_rows.specs.Values.{Row}
 use Rattle.vx_rows.specs.View.{Table}
 use Rattle.vx_catalog.specs.Catalog.{relation_at}
@@ -89,6 +89,11 @@ pub data RunFails (p : Resolved) (db : Database) (setup : SetupForm) (e : RunFau
 abbrev pub IsBadStepOf : List ℕ → ℕ → RunFault → Type 0
 IsBadStepOf steps workers (fault.BadStep index) = IsBadStep steps workers index
 IsBadStepOf steps workers e = ⊥
+
+-- what a schedule comes to first: its bad step is told unless memory ran out, so with anything else each step names one of so many workers
+abbrev pub NamesFirst : List ℕ → (workers : ℕ) → Result Ran RunFault → Type 0
+NamesFirst steps workers (Ok r) = All (λ s. s < workers) steps
+NamesFirst steps workers (Err e) = (e ≡ fault.NoMemory) ⊎ IsBadStepOf steps workers e ⊎ All (λ s. s < workers) steps
 
 -- why a plan gives no rows by a schedule: as above, or a step that names no worker
 pub data ScheduleFails (p : Resolved) (db : Database) (setup : SetupForm) (steps : List ℕ) (e : RunFault) : Type 0 where

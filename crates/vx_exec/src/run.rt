@@ -1,7 +1,7 @@
 //! Runs in one thread.
 
 ghost use Rattle.std.specs.Prelude.{◌≡◌, ◌<◌, ◌⊎◌, true, length, IfOk, IfErr, List};
-ghost use Rattle.std.specs.List.{All, slice_index_or};
+ghost use Rattle.std.specs.List.{slice_index_or};
 ghost use Rattle.vx_rows.specs.declared.value.ColType.{ColType as Kind};
 ghost use Rattle.vx_plan.specs.TypedView.{plan as whole_plan, resolved_of};
 ghost use Rattle.vx_check.specs.Checked.{is_allowed, is_root_allowed};
@@ -15,7 +15,7 @@ ghost use Rattle.vx_worker.specs.declared.operator.Operator.{Operator as AnOpera
 ghost use Rattle.vx_worker.specs.declared.destination.Destination.{Destination as ADestination};
 ghost use Rattle.vx_exec.specs.Sizes.{can_run, crew_size, setting, Sizes};
 ghost use Rattle.vx_exec.specs.Job.{setting_of};
-ghost use Rattle.vx_exec.specs.Runs.{fault_told, ComesTo, IsRunOf, IfDone, IsTrueOf, IsFirstTold, IsSetUp, RunFails, IsBadStepOf, ScheduleFails};
+ghost use Rattle.vx_exec.specs.Runs.{fault_told, ComesTo, IsRunOf, IfDone, IsTrueOf, IsFirstTold, IsSetUp, RunFails, IsBadStepOf, NamesFirst, ScheduleFails};
 
 use crate::crew::Crew;
 use crate::fault::RunFault;
@@ -106,7 +106,7 @@ fn schedule_job<R: Router>(
         ⊎ IsBadStepOf steps.now (crew_size job.now.groups.items (whole_plan job.now.plan.now)) e) }
     ensures first { IfErr result (λ e. IsFirstTold (setting_of (R.route_of router.now) job.now) (whole_plan job.now.plan.now) e
         ⊎ IsBadStepOf steps.now (crew_size job.now.groups.items (whole_plan job.now.plan.now)) e) }
-    ensures named { IfOk result (λ _. All (λ k. k < crew_size job.now.groups.items (whole_plan job.now.plan.now)) steps.now) }
+    ensures named { NamesFirst steps.now (crew_size job.now.groups.items (whole_plan job.now.plan.now)) result }
 {
     job.meets();
     let crew = Crew::new(alloc, job)?;
@@ -156,7 +156,7 @@ pub fn run_scheduled<R: Router>(
         → IfErr result (λ e. IsFirstTold (setting (R.route_of router.now) (typed_plan plan.now) database.now s) (whole_plan (typed_plan plan.now)) e
         ⊎ IsBadStepOf steps.now (crew_size s.groups (whole_plan (typed_plan plan.now))) e) }
     ensures named { (s : Sizes) → IsSetUp (resolved_of (typed_plan plan.now)) database.now setup.now s
-        → IfOk result (λ _. All (λ k. k < crew_size s.groups (whole_plan (typed_plan plan.now))) steps.now) }
+        → NamesFirst steps.now (crew_size s.groups (whole_plan (typed_plan plan.now))) result }
 {
     let job = job_of(alloc, plan.plan(), database, setup)?;
     schedule_job(alloc, &job, router, steps)

@@ -9,7 +9,7 @@ use Rattle.vx_check.specs.Checked.{relations}
 use Rattle.vx_worker.specs.Destination.{post_of}
 use Rattle.vx_worker.specs.Worker.{sender_of}
 use Rattle.vx_exec.specs.Job.{setting_of}
-use Rattle.vx_exec.proofs.Outcomes.{accepted, parts-ready, still-keeps, not-passed, comes-done, comes-failed, comes-first, failed-by, ok-told, parts-count}
+use Rattle.vx_exec.proofs.Outcomes.{accepted, parts-ready, still-keeps, not-passed, comes-done, comes-failed, comes-first, failed-by, names-told, parts-count}
 use Rattle.vx_exec.proofs.run.schedule_job.Goals as goal
 
 pub answer_of-requires-clause-there : goal.answer_of-requires-clause-there
@@ -86,8 +86,7 @@ returns-in-Ok-clause-named g c =
     let many = parts-count j hash parts.result.0.items parts.result.1 ready in
     let ok = parts.result.0.ok in
     let same : vec_len parts.result.0 ≡ crew_size j.groups.items (whole_plan j.plan.now) = omega (arith, many, ok) in
-    ok-told c.answer_of.result (All (λ k. k < crew_size j.groups.items (whole_plan j.plan.now)) c.args.steps.now)
-    (subst (λ z. All (λ k. k < z) c.args.steps.now) same c.in-Ok.ensures.good)
+    names-told c.answer_of.result c.args.steps.now (crew_size j.groups.items (whole_plan j.plan.now)) (subst (λ z. All (λ k. k < z) c.args.steps.now) same c.in-Ok.ensures.good)
 
 pub returns-in-Err-clause-failed : goal.returns-in-Err-clause-failed
 returns-in-Err-clause-failed g c =
@@ -110,3 +109,14 @@ returns-in-Err-clause-first g c =
     let ok = parts.result.0.ok in
     let same : vec_len parts.result.0 ≡ crew_size j.groups.items (whole_plan j.plan.now) = omega (arith, many, ok) in
     inr (subst (λ z. IsBadStep c.args.steps.now z c.in-Err.index) same c.in-Err.ensures.bad)
+
+pub returns-in-Err-clause-named : goal.returns-in-Err-clause-named
+returns-in-Err-clause-named g c =
+    let j = c.args.job.now in
+    let hash = g.R.Router.route_of c.args.router.now in
+    let parts = c.into_parts-workers in
+    let ready = parts-ready j hash c.in_ok-crew.crew parts.result.0 parts.result.1 parts.ensures.workers parts.ensures.links (c.in_ok-crew.ensures.ready hash) in
+    let many = parts-count j hash parts.result.0.items parts.result.1 ready in
+    let ok = parts.result.0.ok in
+    let same : vec_len parts.result.0 ≡ crew_size j.groups.items (whole_plan j.plan.now) = omega (arith, many, ok) in
+    inr (inl (subst (λ z. IsBadStep c.args.steps.now z c.in-Err.index) same c.in-Err.ensures.bad))
