@@ -234,3 +234,8 @@ names-told (Err e) steps n h = inr (inr h)
 pub names-nothing : (r : Result Ran RunFault) (e : RunFault) (steps : List ℕ) (n : ℕ) → IsErrAnd r (λ y. y ≡ e) → e ≡ fault.NoMemory → NamesFirst steps n r
 names-nothing (Ok x) e steps n h p = absurd h
 names-nothing (Err y) e steps n h p = inl (h ∙ p)
+
+-- what holds of a run that was set up, whatever it comes to
+pub ok-told : (r : Result Ran RunFault) (P : Type 0) → P → IfOk r (λ _. P)
+ok-told (Ok x) P h = h
+ok-told (Err e) P h = tt

@@ -130,6 +130,7 @@ pub fn run_rounds<R: Router>(
     requires runs { can_run (whole_plan (typed_plan plan.now)) ≡ true }
     ensures done { IfOk result (IfDone (λ rows. (s : Sizes) × IsSetUp (resolved_of (typed_plan plan.now)) database.now setup.now s
         × IsRunOf (R.route_of router.now) (resolved_of (typed_plan plan.now)) database.now s.groups rows)) }
+    ensures set { IfOk result (λ _. (s : Sizes) × IsSetUp (resolved_of (typed_plan plan.now)) database.now setup.now s) }
     ensures refused { IfErr result (RunFails (resolved_of (typed_plan plan.now)) database.now setup.now) }
     ensures first { (s : Sizes) → IsSetUp (resolved_of (typed_plan plan.now)) database.now setup.now s
         → IfErr result (IsFirstTold (setting (R.route_of router.now) (typed_plan plan.now) database.now s) (whole_plan (typed_plan plan.now))) }
@@ -151,6 +152,7 @@ pub fn run_scheduled<R: Router>(
     requires runs { can_run (whole_plan (typed_plan plan.now)) ≡ true }
     ensures done { IfOk result (IfDone (λ rows. (s : Sizes) × IsSetUp (resolved_of (typed_plan plan.now)) database.now setup.now s
         × IsRunOf (R.route_of router.now) (resolved_of (typed_plan plan.now)) database.now s.groups rows)) }
+    ensures set { IfOk result (λ _. (s : Sizes) × IsSetUp (resolved_of (typed_plan plan.now)) database.now setup.now s) }
     ensures refused { IfErr result (ScheduleFails (resolved_of (typed_plan plan.now)) database.now setup.now steps.now) }
     ensures first { (s : Sizes) → IsSetUp (resolved_of (typed_plan plan.now)) database.now setup.now s
         → IfErr result (λ e. IsFirstTold (setting (R.route_of router.now) (typed_plan plan.now) database.now s) (whole_plan (typed_plan plan.now)) e

@@ -2,9 +2,9 @@ use Rattle.std.proofs.Common.{subst, sym, ◌∙◌, inl, IfErr}
 use Rattle.vx_plan.specs.TypedView.{resolved_of, plan as whole_plan}
 use Rattle.vx_check.specs.CheckedView.{typed_plan}
 use Rattle.vx_exec.specs.Job.{sizes_of}
-use Rattle.vx_exec.specs.Sizes.{setting}
+use Rattle.vx_exec.specs.Sizes.{Sizes, setting}
 use Rattle.vx_exec.specs.Runs.{IsTrueOf, IsFirstTold, IsSetUp, RunFails, for_fault}
-use Rattle.vx_exec.proofs.Outcomes.{failed-by, err-told, of-job}
+use Rattle.vx_exec.proofs.Outcomes.{failed-by, err-told, of-job, ok-told}
 use Rattle.vx_exec.proofs.run.run_rounds.Goals as goal
 
 pub returns-clause-refused : goal.returns-clause-refused
@@ -31,3 +31,9 @@ returns-in_err-job-clause-first g c = λ s set.
     let p = typed_plan c.args.plan.now in
     err-told c.from_residual.result e (IsFirstTold (setting (g.R.Router.route_of c.args.router.now) p c.args.database.now s) (whole_plan p)) c.from_residual.ensures.1
     (inl (c.in_err-job.ensures.memory s (subst (λ z. IsSetUp (resolved_of z) c.args.database.now c.args.setup.now s) (sym c.plan.ensures.same) set)))
+
+pub returns-clause-set : goal.returns-clause-set
+returns-clause-set g c =
+    let j = c.in_ok-job.job in
+    let mine = subst (λ z. IsSetUp (resolved_of z) c.args.database.now c.args.setup.now (sizes_of j)) c.plan.ensures.same c.in_ok-job.ensures.set in
+    ok-told c.run_job.result ((s : Sizes) × IsSetUp (resolved_of (typed_plan c.args.plan.now)) c.args.database.now c.args.setup.now s) (sizes_of j, mine)

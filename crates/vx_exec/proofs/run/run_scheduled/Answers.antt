@@ -3,10 +3,10 @@ use Rattle.vx_plan.specs.TypedView.{resolved_of, plan as whole_plan}
 use Rattle.vx_check.specs.CheckedView.{typed_plan}
 use Rattle.vx_plan.specs.Outline.{plan_in}
 use Rattle.vx_exec.specs.Job.{sizes_of}
-use Rattle.vx_exec.specs.Sizes.{crew_size, setting}
+use Rattle.vx_exec.specs.Sizes.{Sizes, crew_size, setting}
 use Rattle.vx_exec.specs.Runs.{IsTrueOf, IsFirstTold, IsSetUp, IsBadStepOf, NamesFirst, RunFails, ScheduleFails, for_fault, for_run, for_step}
 use Rattle.vx_exec.specs.declared.fault.RunFault.{RunFault}
-use Rattle.vx_exec.proofs.Outcomes.{failed-by, err-told, names-nothing, of-job}
+use Rattle.vx_exec.proofs.Outcomes.{failed-by, err-told, names-nothing, of-job, ok-told}
 use Rattle.vx_exec.proofs.run.run_scheduled.Goals as goal
 
 pub returns-clause-refused : goal.returns-clause-refused
@@ -59,3 +59,9 @@ pub returns-in_err-job-clause-named : goal.returns-in_err-job-clause-named
 returns-in_err-job-clause-named g c = λ s set.
     names-nothing c.from_residual.result c.in_err-job.field-0.0 c.args.steps.now (crew_size s.groups (whole_plan (typed_plan c.args.plan.now))) c.from_residual.ensures.1
     (c.in_err-job.ensures.memory s (subst (λ z. IsSetUp (resolved_of z) c.args.database.now c.args.setup.now s) (sym c.plan.ensures.same) set))
+
+pub returns-clause-set : goal.returns-clause-set
+returns-clause-set g c =
+    let j = c.in_ok-job.job in
+    let mine = subst (λ z. IsSetUp (resolved_of z) c.args.database.now c.args.setup.now (sizes_of j)) c.plan.ensures.same c.in_ok-job.ensures.set in
+    ok-told c.schedule_job.result ((s : Sizes) × IsSetUp (resolved_of (typed_plan c.args.plan.now)) c.args.database.now c.args.setup.now s) (sizes_of j, mine)
