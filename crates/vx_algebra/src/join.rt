@@ -45,7 +45,7 @@ impl Build {
         }
     }
 
-    /// Takes row i, which comes after those before it.
+    /// Takes row i, which comes after those before it. After an `Err` the build side is of no more use.
     pub fn add(&mut self, rows: &Rows, i: usize) -> Result<(), AllocError>
         requires row { i < length rows.now.rows }
         requires columns { AreColumns (length rows.now.types) self.old.columns }

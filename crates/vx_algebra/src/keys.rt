@@ -1,6 +1,6 @@
 //! Keys, numbered in order of first occurrence.
 
-ghost use Rattle.std.specs.Prelude.{◌≡◌, ◌<◌, ◌≤◌, ◌++◌, ◌∷◌, [], if◌then◌else◌, length, OnOk, IfOk, position, slice_get, Some};
+ghost use Rattle.std.specs.Prelude.{◌≡◌, ◌<◌, ◌≤◌, ◌++◌, ◌∷◌, [], if◌then◌else◌, length, OnOk, OnErr, IfOk, position, slice_get, Some};
 ghost use Rattle.std.specs.List.{position_or_len, IsDistinct};
 ghost use Rattle.vx_rows.specs.Values.{row_eq};
 ghost use Rattle.indexmap.specs.IndexSet.{insert_key};
@@ -58,8 +58,7 @@ impl Keys {
         self.set.get_index_of(key)
     }
 
-    /// The number of a key, which is copied and added if it is new. After an `Err` the keys may be as before or with this
-    /// one.
+    /// The number of a key, which is copied and added if it is new. After an `Err` the keys are as before.
     pub fn number(&mut self, key: &Row) -> Result<usize, AllocError>
         ensures number { IfOk result (λ n. n ≡ position_or_len (row_eq key.now) self.old) }
         ensures keys { OnOk result (self.new ≡ insert_key row_eq self.old key.now) }
@@ -67,6 +66,7 @@ impl Keys {
         ensures unique { OnOk result (IsDistinct row_eq self.new) }
         ensures within { IfOk result (λ n. n < length self.new) }
         ensures grows { length self.old ≤ length self.new }
+        ensures err { OnErr result (self.new ≡ self.old) }
     {
         let _count = self.set.len();
         if let Some(number) = self.set.get_index_of(key) {
@@ -76,10 +76,11 @@ impl Keys {
         Ok(number)
     }
 
-    /// Adds a key if it is new, and answers whether it is. After an `Err` it may have been added.
+    /// Adds a key if it is new, and answers whether it is. After an `Err` the keys are as before.
     pub fn add(&mut self, key: &Row) -> Result<bool, AllocError>
         ensures keys { OnOk result (self.new ≡ insert_key row_eq self.old key.now) }
         ensures new { IfOk result (λ b. self.new ≡ (if b then self.old ++ key.now ∷ [] else self.old)) }
+        ensures err { OnErr result (self.new ≡ self.old) }
     {
         if self.set.contains(key) {
             return Ok(false);

@@ -1,6 +1,6 @@
 //! Distinct rows: the first occurrence of each.
 
-ghost use Rattle.std.specs.Prelude.{List, ◌≡◌, ◌<◌, ◌++◌, ◌∷◌, [], length, map, OnOk, IfOk, if◌then◌else◌};
+ghost use Rattle.std.specs.Prelude.{List, ◌≡◌, ◌<◌, ◌++◌, ◌∷◌, [], length, map, OnOk, OnErr, IfOk, if◌then◌else◌};
 ghost use Rattle.vx_rows.specs.Types.{type_at};
 ghost use Rattle.vx_rows.specs.Values.{Row, row_eq, pick};
 ghost use Rattle.vx_rows.specs.View.{row, AreColumns};
@@ -40,12 +40,13 @@ impl Seen {
         }
     }
 
-    /// Sees row i in these columns, and answers whether it is new. After an `Err` it may have been seen.
+    /// Sees row i in these columns, and answers whether it is new. After an `Err` it was not seen.
     pub fn is_new(&mut self, rows: &Rows, i: usize, columns: &[usize]) -> Result<bool, AllocError>
         requires row { i < length rows.now.rows }
         requires columns { AreColumns (length rows.now.types) columns.now }
         ensures seen { OnOk result (self.new ≡ insert_key row_eq self.old (pick columns.now (row rows.now i))) }
         ensures new { IfOk result (λ b. self.new ≡ (if b then self.old ++ pick columns.now (row rows.now i) ∷ [] else self.old)) }
+        ensures err { OnErr result (self.new ≡ self.old) }
     {
         self.scratch.read(rows, i, columns)?;
         self.keys.add(&self.scratch)
