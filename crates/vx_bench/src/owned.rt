@@ -9,12 +9,14 @@ use std::rt::Clock;
 use std::time::Instant;
 use vx_rows::Value;
 
+/// A value with memory of its own.
 #[derive(Clone, Drop)]
 pub enum Owned {
     Int(i64),
     Text(String),
 }
 
+/// A row as a list of such values.
 #[derive(Clone, Drop)]
 pub struct OwnedRow {
     values: Vec<Owned>,
@@ -134,6 +136,7 @@ fn second_of_clash(alloc: Global, all: &[OwnedRow], column: usize) -> Result<u64
     Ok(0)
 }
 
+/// Measures rows of this kind: building, copying, reading, comparing, projecting, and the first clash of a key.
 pub fn run<R: Print + Clock>(rt: &R, alloc: Global, bench: Bench) -> io::Result<Times> {
     let start = Instant::now(rt)?;
     let all = build(alloc, bench.rows)?;

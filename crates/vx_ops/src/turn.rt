@@ -35,7 +35,9 @@ pub enum Polled {
 /// What a source is given: what it wants. A morsel comes as an input.
 #[derive(Drop)]
 pub enum Got {
+    /// It wanted nothing.
     Nothing,
+    /// What the input gave in one turn, or a morsel.
     Input(Polled),
     /// A packet, or none where none has come yet.
     Packet(Option<Packet>),

@@ -1,10 +1,13 @@
-// A queue in memory that is both ends. It keeps a place for the packet that closes it.
+//! A queue in memory that is both ends of a port.
+
 use crate::packet::Packet;
 use crate::port::{InPort, OutPort, Put};
 use std::alloc::{AllocError, Global};
 use std::collections::VecDeque;
 use std::marker::Model;
 
+/// A queue of packets between a producer and a consumer that take turns in one thread. It is never full: what waits in it is bounded by memory alone. It keeps room
+/// for the packet that closes it, so that a stream can always be ended.
 #[derive(Drop)]
 pub struct Link {
     queue: VecDeque<Packet>,
@@ -25,6 +28,7 @@ impl Model for Link {
 impl Link {
     ghost use Rattle.std.specs.Prelude.{◌≡◌, [], IfOk, false};
 
+    /// An open queue without packets.
     pub fn new(alloc: Global) -> Result<Link, AllocError>
         ensures { IfOk result (λ l. l ≡ record { queue = []; closed = false }) }
     {

@@ -3,7 +3,7 @@
 use std::marker::Model;
 use vx_rows::{ColType, Rows};
 
-/// What a packet is.
+/// What a packet is: rows, or one of the two ends of a stream.
 #[derive(Clone, Copy, Debug, PartialEq, Eq)]
 pub enum Kind {
     Rows,
@@ -23,7 +23,9 @@ pub enum Ending {
 /// What a packet brings.
 #[derive(Drop)]
 pub enum Body {
+    /// 1 to 4,096 rows.
     Rows(Rows),
+    /// No row: the stream is over.
     End(Ending),
 }
 

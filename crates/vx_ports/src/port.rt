@@ -1,45 +1,55 @@
-// What a port is.
+//! The two ends of what carries packets from one producer to one consumer (Graefe's ports).
+
 use crate::packet::Packet;
 
+/// What came of a packet that was put.
 #[derive(Drop)]
 pub enum Put {
+    /// It is on its way.
     Done,
+    /// As many packets wait as the port takes (its slack, in packets): this one comes back, and may be put again later.
     Full(Packet),
+    /// Memory was refused: the packet comes back. One that closes the port never does so from a `Link`.
     NoMemory(Packet),
 }
 
+/// The end of a producer: packets go in, and behind the one that closes it none.
 pub trait OutPort {
     ghost use Rattle.std.specs.Prelude.{◌≡◌, false, Bool};
     ghost use Rattle.vx_ports.specs.Packets.{Parcel};
     ghost use Rattle.vx_ports.specs.Puts.{PutOutcome};
 
-    /// Whether Last or Fault was put.
+    // Whether Last or Fault was put.
     ghost closed: { Self → Bool };
 
-    /// What a put of this packet does to the port.
+    // What a put of this packet does to the port.
     ghost Puts: { Self → Parcel → Self → Type 0 };
 
-    /// What a put that is refused does.
+    // What a put that is refused does.
     ghost Stays: { Self → Self → Type 0 };
 
+    /// Puts a packet behind those that were put before.
     fn put(&mut self, packet: Packet) -> Put
         requires { closed self.old ≡ false }
         ensures { PutOutcome packet result (Puts self.old packet self.new) (Stays self.old self.new) };
 
+    /// Whether Last or Fault was put.
     fn is_closed(&self) -> bool
         ensures { result ≡ closed self.now };
 }
 
+/// The end of a consumer: packets come out in the order in which they went in.
 pub trait InPort {
     ghost use Rattle.std.specs.Prelude.{List, IfSome, OnSome, IfNone};
     ghost use Rattle.vx_ports.specs.Packets.{Parcel};
 
-    /// What a take of this packet does to the port.
+    // What a take of this packet does to the port.
     ghost Takes: { Self → Parcel → Self → Type 0 };
 
-    /// What a take that finds nothing does.
+    // What a take that finds nothing does.
     ghost Looks: { Self → Self → Type 0 };
 
+    /// Takes the next packet. None means that none waits now, not that none will come: a stream ends by its closing packet alone.
     fn take(&mut self) -> Option<Packet>
         ensures some { IfSome result (λ p. Takes self.old p self.new) }
         ensures none { IfNone result (Looks self.old self.new) };
