@@ -19,6 +19,3 @@ pub use fault::{CatalogFault, LoadFault, WriteFault};
 pub use loader::{Loaded, Loader, texts_are_loaded_exactly};
 pub use relation::Relation;
 pub use writing::write_rows;
-
-#[cfg(test)]
-mod tests;

@@ -2,28 +2,14 @@ ghost use Rattle.std.specs.Prelude.{◌≡◌, ◌<◌, [], ◌∷◌, length, I
 ghost use Rattle.vx_rows.specs.declared.value.ColType.{ColType as Kind};
 ghost use Rattle.vx_exchange.specs.Gather.{gather_is_open};
 
+use crate::routers::ToFirst;
 use std::alloc::{AllocError, Global};
 use std::process::Abort;
 use std::test::Fail;
 use vx_exchange::{Gather, Kept, Receiver, Sends};
 use vx_ops::{Code, Fault, Got, Polled, Source, Want};
-use vx_plan::Router;
 use vx_ports::{Body, Ending, Packet};
 use vx_rows::{ColType, Rows, Value};
-
-/// Sends every key to consumer 0.
-#[derive(Drop)]
-struct ToFirst;
-
-impl Router for ToFirst {
-    ghost route_of = { λ _ _ _ _. 0 };
-
-    ghost in_range = { λ r name key n some. some };
-
-    fn route(&self, _name: &str, _key: &[Value], _n: u32) -> u32 {
-        0
-    }
-}
 
 /// Rows of one number each: 1, 2, and so on.
 fn numbers(alloc: Global, n: i64) -> Result<Rows, AllocError>

@@ -1,6 +1,6 @@
 //! Groups of small tables, worked by hand.
 
-use crate::kernels::{shown, table};
+use crate::tables::{shown, table};
 use std::test::Fail;
 use vx_algebra::{GroupFault, grouped};
 use vx_plan::Aggregate;

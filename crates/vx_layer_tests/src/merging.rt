@@ -2,7 +2,7 @@
 
 ghost use Rattle.vx_rows.specs.View.{AreColumns};
 
-use crate::kernels::{shown, table};
+use crate::tables::{shown, table};
 use std::alloc::{AllocError, Global};
 use std::test::Fail;
 use vx_algebra::{Merge, MergeFault, merge_join};

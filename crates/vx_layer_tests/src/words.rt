@@ -1,12 +1,22 @@
 //! What no clause says: that the commands are there, and the kinds of what is refused.
 
-use std::alloc::Global;
+use std::alloc::{AllocError, Global};
 use std::test::Fail;
 use vx_words::{Asked, asked_for};
 
-/// What the words ask for, as a text.
-fn shown(alloc: Global, words: &[&str]) -> Result<String, Fail> {
-    match asked_for(alloc, words) {
+/// The words of a line.
+fn words_of<'a>(alloc: Global, line: &'a str) -> Result<Vec<&'a str>, AllocError> {
+    let mut words = Vec::new(alloc);
+    for word in line.split(' ') {
+        words.push(word)?;
+    }
+    Ok(words)
+}
+
+/// What the words of a line ask for, as a text.
+fn shown(alloc: Global, line: &str) -> Result<String, Fail> {
+    let words = words_of(alloc, line)?;
+    match asked_for(alloc, words.as_slice()) {
         Ok(Some(asked)) => Ok(described(alloc, &asked)?),
         Ok(None) => Ok(String::from_str(alloc, "nothing")?),
         Err(error) => {
@@ -22,122 +32,57 @@ fn described(alloc: Global, asked: &Asked<'_>) -> Result<String, Fail> {
 
 #[test]
 fn commands_are_there(rt: HostRuntime) -> Result<(), Fail> {
-    let alloc = rt.alloc();
-    assert_eq!(rt; shown(alloc, &["volcano"])?.as_str(), "Bundle");
-    let check = ["volcano", "check", "--catalog", "c", "--plan=-"];
-    assert_eq!(rt;
-        shown(alloc, &check)?.as_str(),
-        r#"Check(Sources { catalog: "c", plan: "-" })"#
-    );
-    let explain = ["volcano", "explain", "--plan", "p", "--catalog", "c"];
-    assert_eq!(rt;
-        shown(alloc, &explain)?.as_str(),
-        r#"Explain(Sources { catalog: "c", plan: "p" })"#
-    );
-    let serial = [
-        "volcano",
-        "serial",
-        "--catalog",
-        "c",
-        "--plan",
-        "p",
-        "--data",
-        "d",
+    let cases: [(&str, &str); 5] = [
+        ("volcano", "Bundle"),
+        (
+            "volcano check --catalog c --plan=-",
+            r#"Check(Sources { catalog: "c", plan: "-" })"#,
+        ),
+        (
+            "volcano explain --plan p --catalog c",
+            r#"Explain(Sources { catalog: "c", plan: "p" })"#,
+        ),
+        (
+            "volcano serial --catalog c --plan p --data d",
+            r#"Serial(Sources { catalog: "c", plan: "p" }, "d")"#,
+        ),
+        (
+            "volcano run --catalog c --plan p --data d --morsel 7 many=4 few=2",
+            r#"Run(Sources { catalog: "c", plan: "p" }, "d", Limits { packet: "256", morsel: "7", slack: "8", sizes: ["many=4", "few=2"] })"#,
+        ),
     ];
-    assert_eq!(rt;
-        shown(alloc, &serial)?.as_str(),
-        r#"Serial(Sources { catalog: "c", plan: "p" }, "d")"#
-    );
-    let run = [
-        "volcano",
-        "run",
-        "--catalog",
-        "c",
-        "--plan",
-        "p",
-        "--data",
-        "d",
-        "--morsel",
-        "7",
-        "many=4",
-        "few=2",
-    ];
-    assert_eq!(rt;
-        shown(alloc, &run)?.as_str(),
-        r#"Run(Sources { catalog: "c", plan: "p" }, "d", Limits { packet: "256", morsel: "7", slack: "8", sizes: ["many=4", "few=2"] })"#
-    );
+    for (line, asked) in cases {
+        assert_eq!(rt; shown(rt.alloc(), line)?.as_str(), asked);
+    }
     Ok(())
 }
 
 #[test]
 fn words_are_refused(rt: HostRuntime) -> Result<(), Fail> {
-    let cases: [(&[&str], &str); 8] = [
+    let cases: [(&str, &str); 8] = [
+        ("volcano check --catalog c", "MissingRequiredArgument"),
         (
-            &["volcano", "check", "--catalog", "c"],
-            "MissingRequiredArgument",
-        ),
-        (
-            &[
-                "volcano",
-                "check",
-                "--catalog",
-                "c",
-                "--plan",
-                "p",
-                "--data",
-                "d",
-            ],
+            "volcano check --catalog c --plan p --data d",
             "UnknownArgument",
         ),
         (
-            &[
-                "volcano",
-                "check",
-                "--catalog",
-                "c",
-                "--catalog",
-                "c",
-                "--plan",
-                "p",
-            ],
+            "volcano check --catalog c --catalog c --plan p",
             "ArgumentConflict",
         ),
         (
-            &[
-                "volcano",
-                "run",
-                "--catalog",
-                "c",
-                "--plan",
-                "p",
-                "--data",
-                "d",
-                "--packet",
-                "x",
-            ],
+            "volcano run --catalog c --plan p --data d --packet x",
             "ValueValidation",
         ),
         (
-            &[
-                "volcano",
-                "run",
-                "--catalog",
-                "c",
-                "--plan",
-                "p",
-                "--data",
-                "d",
-                "--slack",
-                "4294967296",
-            ],
+            "volcano run --catalog c --plan p --data d --slack 4294967296",
             "ValueValidation",
         ),
-        (&["volcano", "fly"], "InvalidSubcommand"),
-        (&["volcano", "--version"], "DisplayVersion"),
-        (&["volcano", "run", "--help"], "DisplayHelp"),
+        ("volcano fly", "InvalidSubcommand"),
+        ("volcano --version", "DisplayVersion"),
+        ("volcano run --help", "DisplayHelp"),
     ];
-    for (words, kind) in cases {
-        assert_eq!(rt; shown(rt.alloc(), words)?.as_str(), kind);
+    for (line, kind) in cases {
+        assert_eq!(rt; shown(rt.alloc(), line)?.as_str(), kind);
     }
     Ok(())
 }

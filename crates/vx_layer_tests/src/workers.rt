@@ -4,28 +4,14 @@ ghost use Rattle.vx_ops.specs.Scan.{scan_types};
 ghost use Rattle.vx_exchange.specs.Kept.{kept_post, kept_is_open, kept_has_closed};
 ghost use Rattle.vx_worker.specs.Worker.{IsReady};
 
+use crate::routers::ToFirst;
 use std::alloc::{AllocError, Global};
 use std::test::Fail;
 use vx_exchange::Kept;
 use vx_ops::{Code, Fault, Scan};
-use vx_plan::Router;
 use vx_ports::{Packet, Put};
 use vx_rows::{ColType, Rows, Value};
 use vx_worker::{Morsels, Outcome, Stepped, Tree, Wires, Worker};
-
-/// Sends every key to consumer 0.
-#[derive(Drop)]
-struct ToFirst;
-
-impl Router for ToFirst {
-    ghost route_of = { λ _ _ _ _. 0 };
-
-    ghost in_range = { λ r name key n some. some };
-
-    fn route(&self, _name: &str, _key: &[Value], _n: u32) -> u32 {
-        0
-    }
-}
 
 /// Numbers from `next` to below `end`, and no packet.
 #[derive(Drop)]

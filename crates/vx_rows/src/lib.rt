@@ -10,8 +10,6 @@ mod row;
 mod rows;
 mod schema;
 mod sorting;
-#[cfg(test)]
-mod tests;
 mod texts;
 mod value;
 mod writes;

@@ -1,13 +1,12 @@
-//! Want of memory. Run with each allocation refused in turn, these calls answer as usual, or that they want memory:
-//! `tools/refuse-allocations vx_catalog` does so. A test with `ample` in its name makes the same calls once, and passes
-//! only where none of its allocations is refused.
+//! Want of memory. Run with each allocation refused in turn, a catalog is read and rows are loaded and written as usual,
+//! or the answer is that memory is wanted: `tools/refuse-allocations vx_layer_tests refused_memory` does so. A test with
+//! `ample` in its name makes the same calls once, and passes only where none of its allocations is refused.
 
-use super::Sink;
-use crate::{Catalog, CatalogFault, Database, LoadFault, Loader, WriteFault, write_rows};
 use std::alloc::{AllocError, Global};
 use std::process::Abort;
 use std::test::Fail;
-use vx_rows::MemoryIn;
+use vx_catalog::{Catalog, CatalogFault, Database, LoadFault, Loader, WriteFault, write_rows};
+use vx_rows::{MemoryIn, Real};
 
 const SMALL: &str =
     r#"{"relations":[{"name":"w","columns":[{"name":"a","type":"int"},{"name":"b","type":"text"}],"keys":[["a"]],"order":["b"]}]}"#;
@@ -64,13 +63,9 @@ impl From<WriteFault> for Stopped {
     }
 }
 
-/// The rows of a text, loaded, put into a database and written again.
+/// The rows of a text, loaded, put into a database and written again, into memory that is there before.
 fn again(alloc: Global, text: &[u8]) -> Result<Vec<u8>, Stopped> {
-    let mut sink = Sink {
-        text: Vec::with_capacity(alloc, 100)?,
-        room: 100,
-        broken: false,
-    };
+    let mut written = Vec::with_capacity(alloc, 100)?;
     let catalog = Catalog::read(alloc, SMALL.as_bytes())?;
     if catalog.is_empty() {
         return Err(Stopped::Other);
@@ -80,8 +75,9 @@ fn again(alloc: Global, text: &[u8]) -> Result<Vec<u8>, Stopped> {
     if database.put(loaded).is_err() {
         return Err(Stopped::Other);
     }
-    write_rows(alloc, catalog.get(0).names(), database.rows(0), &mut sink)?;
-    Ok(sink.text)
+    let mut writer = Real::new(&mut written);
+    write_rows(alloc, catalog.get(0).names(), database.rows(0), &mut writer)?;
+    Ok(written)
 }
 
 /// Whether an answer is the usual one. It is that, or want of memory.

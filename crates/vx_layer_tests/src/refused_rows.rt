@@ -1,15 +1,15 @@
-//! Want of memory. Run with each allocation refused in turn, these calls answer as usual, or that they want memory, and
-//! then the rows are as before: `tools/refuse-allocations vx_rows` does so. A test with `ample` in its name makes the
-//! same calls once, and passes only where none of its allocations is refused.
+//! Want of memory. Run with each allocation refused in turn, these calls of rows answer as usual, or that they want
+//! memory, and then the rows are as before: `tools/refuse-allocations vx_layer_tests refused_memory` does so. A test with
+//! `ample` in its name makes the same calls once, and passes only where none of its allocations is refused.
 
 ghost use Rattle.std.specs.Prelude.{◌≡◌, ◌<◌, [], ◌∷◌, length, IfOk};
 ghost use Rattle.vx_rows.specs.declared.value.ColType.TheVariants as kind;
 
-use super::TYPES;
-use crate::{Cell, Rows};
+use crate::tables::TYPES;
 use std::alloc::{AllocError, Global};
 use std::process::Abort;
 use std::test::Fail;
+use vx_rows::{Cell, Rows};
 
 /// What stands in the rows after each growth.
 const GROWN: [(i64, &str); 7] = [

@@ -1,8 +1,8 @@
 //! Rows that are filled one value after another.
 
-use super::{TYPES, shown};
-use crate::{Cell, OpenRows};
+use crate::tables::{TYPES, shown};
 use std::test::Fail;
+use vx_rows::{Cell, OpenRows};
 
 #[test]
 fn rows_are_filled_value_by_value(rt: HostRuntime) -> Result<(), Fail> {
@@ -20,6 +20,6 @@ fn rows_are_filled_value_by_value(rt: HostRuntime) -> Result<(), Fail> {
     assert_eq!(rt; open.types().len(), 2);
     let rows = open.into_rows();
     let all = shown(alloc, &rows)?;
-    assert_eq!(rt; all.as_str(), "-1'aä€😀';7'';");
+    assert_eq!(rt; all.as_str(), "-1 'aä€😀';7 '';");
     Ok(())
 }
