@@ -1,7 +1,6 @@
 -- Turns of an exact operator.
-use Rattle.std.proofs.Common.{◌≡◌, ℕ, List, [], ◌++◌, Some, refl, sym, ap, ◌∙◌, subst, inl, inr, append-nil}
+use Rattle.std.proofs.Common.{◌≡◌, ℕ, List, [], ◌++◌, Some, refl, sym, ap, ◌∙◌, subst, inl, inr}
 use Rattle.vx_rows.specs.Values.{Row}
-use Rattle.vx_rows.specs.Lists.{IsBeginning}
 use Rattle.vx_plan.specs.Plan.{Unary}
 use Rattle.vx_plan.specs.Serial.{unary_rows}
 use Rattle.vx_ops.specs.Ledger.{Stream, Ledger, one_op, Begun, Told}
@@ -24,10 +23,6 @@ with_over l o = record l { left = record { rows = l.left.rows; over = o }; gave 
 -- after rows came for which memory was refused
 abbrev pub with_refusal : Ledger → List Row → Fault → Ledger
 with_refusal l xs f = record l { left = record { rows = l.left.rows ++ xs; over = l.left.over }; gave = record { rows = l.gave.rows; over = Failed f } }
-
--- an answer that is given again changes nothing
-pub same-ledger : (l : Ledger) (o : Over) → l.gave.over ≡ o → record l { gave = record { rows = l.gave.rows; over = o } } ≡ l
-same-ledger l o e = let P : Over → Type 0 = λ v. record l { gave = record { rows = l.gave.rows; over = v } } ≡ l in subst P e refl
 
 module _ (n : ℕ) (op : Unary) (makes : List Row → List Row) (is : (xs : List Row) → unary_rows op xs ≡ Some (makes xs)) where
   running-ended : Running ≡ Ended → ⊥

@@ -1,6 +1,5 @@
 -- When a selection may have heard and given what a ledger says.
-use Rattle.std.specs.Prelude.{List, filter}
-use Rattle.vx_rows.specs.Values.{Row}
+use Rattle.std.specs.Prelude.{filter}
 use Rattle.vx_plan.specs.Plan.{select}
 use Rattle.vx_plan.specs.Serial.{passes}
 use Rattle.vx_plan.specs.Conditions.{conditions_of}

@@ -1,6 +1,6 @@
--- What a port answers to a put, and the state of a link.
-use Rattle.std.specs.Prelude.{◌≡◌, ℕ, ◌+◌, ◌≤◌, Bool, true, false, List, [], ◌∷◌, ◌++◌}
-use Rattle.vx_ports.specs.Packets.{Parcel, closes}
+-- What a port answers to a put.
+use Rattle.std.specs.Prelude.{◌≡◌}
+use Rattle.vx_ports.specs.Packets.{Parcel}
 use Rattle.vx_ports.specs.declared.port.Put.{Put}
 use Rattle.vx_ports.specs.declared.port.Put.TheVariants.{Done, Full, NoMemory}
 

@@ -4,10 +4,8 @@ use Rattle.vx_rows.specs.Values.{Row}
 use Rattle.vx_plan.specs.Plan.{select}
 use Rattle.vx_plan.specs.Serial.{passes}
 use Rattle.vx_plan.specs.Conditions.{conditions_of}
-use Rattle.vx_ops.specs.Ledger.{Ledger}
 use Rattle.vx_ops.specs.Exact.{IsExact}
 use Rattle.vx_ops.specs.declared.fault.Over.{Over}
-use Rattle.vx_ops.specs.declared.fault.Over.TheVariants.{Running}
 use Rattle.vx_ops.proofs.Exactly.{exact-rows, with_rows}
 use Rattle.vx_ops.proofs.select.Select.keep.Goals as goal
 

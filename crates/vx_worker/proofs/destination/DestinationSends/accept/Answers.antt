@@ -1,4 +1,4 @@
-use Rattle.std.proofs.Common.{◌≡◌, ℕ, List, sym, subst}
+use Rattle.std.proofs.Common.{ℕ, List, sym, subst}
 use Rattle.std.specs.Prelude.{OnOk, OnErr}
 use Rattle.vx_plan.specs.Routes.{Router}
 use Rattle.vx_ports.specs.Packets.{Parcel}
