@@ -12,4 +12,3 @@ pub mod Columns
 pub mod Open
 pub mod Ports
 pub mod Hashing
-pub mod Schema
