@@ -224,21 +224,6 @@ all_fit types (suc n) xs e h =
     types_of [] k = refl
     types_of (c ∷ xs) k = λ i. type_of_entry c k i ∷ types_of xs k i
 
--- the columns after a write that filled m rows, and what is seen of them
-pub record Grown (t : Table) (types : List ColType) (count m : ℕ) (ys : List Column) (f : ℕ → Row) : Type 0 where
-  pub are : AreRows types count ys
-  pub rows : rows_of count ys ≡ t.rows ++ each_below m f
-
-pub grown : (t : Table) (types : List ColType) (at m n count : ℕ) (xs ys : List Column) (f : ℕ → Row) → viewed types at xs ≡ t → AreRows types at xs → KeepRows at xs ys → n ≡ length t.types
-    → Fills at m 0 n xs ys f → ((k : ℕ) → k < m → list_all is_held (f k) ≡ true) → count ≡ at + m → Grown t types count m ys f
-grown t types at m n count xs ys f v a p e q held c =
-    let w = width_is types xs a.kinds in
-    let s : n ≡ length xs = e ∙ (ap length (sym (types_are t types at xs v)) ∙ sym w) in
-    record {
-      are = now_rows types at m n count xs ys f a p s q held c;
-      rows = ap (λ i. rows_of i ys) c ∙ (more_rows at m n xs ys f p s q ∙ ap (λ l. l ++ each_below m f) (rows_are t types at xs v));
-    }
-
 -- rows of others at some positions
 pub each_at : {X : Type 0} (f g : ℕ → X) (positions : List ℕ) (n : ℕ) → All (λ i. i < n) positions → ((i : ℕ) → i < n → f i ≡ g i) → each_below (length positions) (λ k. f (get_or positions k 0)) ≡ map g positions
 each_at f g positions n all h =
@@ -247,20 +232,6 @@ each_at f g positions n all h =
     let small : k < length positions = omega (arith, l, near) in
     get_or-each_below (length positions) (λ j. f (get_or positions j 0)) k d small
     ∙ (h (get_or positions k 0) (all k 0 small) ∙ sym (map_at g positions k (get_or positions k 0) d small (get_or_default positions k 0 (get_or positions k 0) small))))
-
-pub one_more : (at n count : ℕ) (xs ys : List Column) (t : List Row) (x r : Row) → KeepRows at xs ys → n ≡ length xs → Fills at 1 0 n xs ys (λ _. x) → rows_of at xs ≡ t → x ≡ r → count ≡ at + 1 → rows_of count ys ≡ t ++ r ∷ []
-one_more at n count xs ys t x r p e q is_t is_r c =
-    ap (λ i. rows_of i ys) c
-    ∙ (more_rows at 1 n xs ys (λ _. x) p e q
-    ∙ (ap (λ l. l ++ each_below 1 (λ _. x)) is_t ∙ (ap (λ l. t ++ l) (each_below-one (λ _. x)) ∙ ap (λ v. t ++ v ∷ []) is_r)))
-
-pub part_more : (at n count from to m : ℕ) (xs ys others : List Column) (t s : List Row) → KeepRows at xs ys → n ≡ length xs → Fills at (to - from) 0 n xs ys (λ k. row_of others (from + k)) → rows_of at xs ≡ t
-    → rows_of m others ≡ s → from ≤ to → to ≤ m → count ≡ at + (to - from) → rows_of count ys ≡ t ++ slice_range s from to
-part_more at n count from to m xs ys others t s p e q is_t is_s h l c =
-    ap (λ i. rows_of i ys) c
-    ∙ (more_rows at (to - from) n xs ys (λ k. row_of others (from + k)) p e q
-    ∙ (ap (λ l. l ++ each_below (to - from) (λ k. row_of others (from + k))) is_t
-    ∙ ap (λ l. t ++ l) (sym (slice_range-each_below m from to (row_of others) h l) ∙ ap (λ l. slice_range l from to) is_s)))
 
 pub no_rows : (xs : List Column) → rows_of 0 xs ≡ []
 unfolding each_below

@@ -1,0 +1,91 @@
+-- Rows as a caller sees them, and what is seen of them after a write.
+use Rattle.std.proofs.Common.{◌≡◌, ℕ, true, ◌+◌, ◌-◌, ◌<◌, ◌≤◌, List, [], ◌∷◌, ◌++◌, refl, sym, ap, ◌∙◌, length, get_or, map, arith}
+use Rattle.std.specs.Prelude.{slice_range}
+use Rattle.std.specs.List.{list_all}
+use Rattle.std.proofs.lemmas.List.{length-map, length-append}
+use Rattle.vx_rows.specs.declared.value.ColType.{ColType}
+use Rattle.vx_rows.specs.declared.column.Column.{Column}
+use Rattle.vx_rows.specs.Values.{Val, Row}
+use Rattle.vx_rows.specs.Lists.{each_below}
+use Rattle.vx_rows.specs.Types.{type_of, is_held}
+use Rattle.vx_rows.specs.Columns.{size, row_of, rows_of, KeepRows, Fills, AreRows}
+use Rattle.vx_rows.specs.View.{Table, row, ArePositions}
+use Rattle.vx_rows.proofs.Below.{each_below-one, slice_range-each_below}
+use Rattle.vx_rows.proofs.Fill.{viewed, rows_are, types_are, width_is, count_is, row_is, same_rows, more_rows, now_rows, fill_as, fill_more, each_at}
+
+-- the first n rows of these columns are those of a table
+pub record Seen (t : Table) (types : List ColType) (n : ℕ) (xs : List Column) : Type 0 where
+  pub is : viewed types n xs ≡ t
+  pub are : AreRows types n xs
+
+pub seen : {t : Table} {types : List ColType} {n : ℕ} {xs : List Column} → viewed types n xs ≡ t → AreRows types n xs → Seen t types n xs
+seen e a = record { is = e; are = a }
+
+module _ {t : Table} {types : List ColType} {n : ℕ} {xs : List Column} (s : Seen t types n xs) where
+  pub count_seen : length t.rows ≡ n
+  count_seen = count_is n xs t.rows (rows_are t types n xs s.is)
+
+  pub width_seen : length xs ≡ length t.types
+  width_seen = width_is types xs s.are.kinds ∙ ap length (types_are t types n xs s.is)
+
+  -- each column is as long
+  pub long_seen : (k : ℕ) → k < length xs → length t.rows ≤ get_or (map size xs) k 0
+  long_seen k h = let c = count_seen in let l = s.are.long k h in omega (arith, c, l)
+
+  pub row_seen : (i : ℕ) → i < length t.rows → row_of xs i ≡ get_or t.rows i []
+  row_seen i h = sym (row_is n xs t.rows (rows_are t types n xs s.is) i h)
+
+  pub held_seen : (i : ℕ) → i < length t.rows → list_all is_held (row_of xs i) ≡ true
+  held_seen i h = let c = count_seen in s.are.held i (omega (arith, c, h))
+
+  -- a write that was refused leaves what is seen
+  pub still_seen : (ys : List Column) → KeepRows n xs ys → rows_of n ys ≡ t.rows
+  still_seen ys p = same_rows n xs ys p ∙ rows_are t types n xs s.is
+
+-- the columns after a write that filled m rows, and what is seen of them
+pub record Grown (t : Table) (types : List ColType) (count m : ℕ) (ys : List Column) (f : ℕ → Row) : Type 0 where
+  pub are : AreRows types count ys
+  pub rows : rows_of count ys ≡ t.rows ++ each_below m f
+
+pub grown : {t : Table} {types : List ColType} {at : ℕ} {xs : List Column} → Seen t types at xs → (m n count : ℕ) (ys : List Column) (f : ℕ → Row) → KeepRows at xs ys → n ≡ length t.types
+    → Fills at m 0 n xs ys f → ((k : ℕ) → k < m → list_all is_held (f k) ≡ true) → count ≡ at + m → Grown t types count m ys f
+grown {t} {types} {at} {xs} s m n count ys f p e q held c =
+    let w : n ≡ length xs = e ∙ sym (width_seen s) in
+    record {
+      are = now_rows types at m n count xs ys f s.are p w q held c;
+      rows = ap (λ i. rows_of i ys) c ∙ (more_rows at m n xs ys f p w q ∙ ap (λ l. l ++ each_below m f) (rows_are t types at xs s.is));
+    }
+
+-- one row more
+pub grown_one : {t : Table} {types : List ColType} {count : ℕ} {ys : List Column} {x : Row} → Grown t types count 1 ys (λ _. x) → (r : Row) → x ≡ r → rows_of count ys ≡ t.rows ++ r ∷ []
+grown_one {t} {types} {count} {ys} {x} g r e = g.rows ∙ (ap (λ l. t.rows ++ l) (each_below-one (λ _. x)) ∙ ap (λ v. t.rows ++ v ∷ []) e)
+
+-- a part of others' rows more
+pub grown_part : {t r : Table} {types kinds : List ColType} {count many : ℕ} {ys others : List Column} (from to : ℕ) → Grown t types count (to - from) ys (λ k. row_of others (from + k)) → Seen r kinds many others
+    → from ≤ to → to ≤ length r.rows → rows_of count ys ≡ t.rows ++ slice_range r.rows from to
+grown_part {t} {r} {types} {kinds} {count} {many} {ys} {others} from to g o h l =
+    let c = count_seen o in
+    g.rows
+    ∙ ap (λ rows. t.rows ++ rows) (sym (slice_range-each_below many from to (row_of others) h (omega (arith, c, l))) ∙ ap (λ rows. slice_range rows from to) (rows_are r kinds many others o.is))
+
+-- rows of others at some positions more
+pub grown_at : {t r : Table} {types kinds : List ColType} {count many : ℕ} {ys others : List Column} (positions : List ℕ) → Grown t types count (length positions) ys (λ k. row_of others (get_or positions k 0)) → Seen r kinds many others
+    → ArePositions (length r.rows) positions → rows_of count ys ≡ t.rows ++ map (row r) positions
+grown_at {t} {r} {types} {kinds} {count} {many} {ys} {others} positions g o there =
+    g.rows ∙ ap (λ rows. t.rows ++ rows) (each_at (row_of others) (row r) positions (length r.rows) there (λ i h. row_seen o i h))
+
+-- one value of each type
+pub width_of : {X : Type 0} (f : X → Val) (xs : List X) (types : List ColType) → map type_of (map f xs) ≡ types → length xs ≡ length types
+width_of f xs types e = sym (length-map xs f) ∙ (sym (length-map (map f xs) type_of) ∙ ap length e)
+
+-- the columns of two others, side by side
+pub width_both : {l r : Table} {ls rs : List ColType} {n m : ℕ} {xs ys : List Column} → Seen l ls n xs → Seen r rs m ys → (width : ℕ) (types : List ColType) → width ≡ length xs → types ≡ l.types ++ r.types
+    → width + length ys ≡ length types
+width_both {l} {r} s o width types w e =
+    let a = width_seen s in
+    let b = width_seen o in
+    let c = ap length e ∙ length-append l.types r.types in
+    omega (arith, a, b, c, w)
+
+pub fill_both : (at m width mid last : ℕ) (xs ys zs : List Column) (f g : ℕ → Row) → mid ≡ width → Fills at m 0 (0 + width) xs ys f → Fills at m mid last ys zs g → Fills at m 0 last xs zs (λ k. f k ++ g k)
+fill_both at m width mid last xs ys zs f g e p q = fill_more at m 0 mid last xs ys zs f g (λ k. f k ++ g k) (fill_as at m 0 (0 + width) mid xs ys f f (omega (arith, e)) (λ k h. refl) p) q (λ k h. refl)
