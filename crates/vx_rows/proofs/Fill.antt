@@ -91,13 +91,11 @@ fill_as at m first last end xs ys f g e h p =
     subst (λ i. Fills at m first i xs ys g) e (record { long = p.long; values = λ k near. p.values k near ∙ ap (λ l. take first (row_of xs (at + k)) ++ l) (h k near) })
 
 -- one more column of rows that are known
-pub fill_next : (at m first j : ℕ) (xs ys zs : List Column) (target : ℕ → List Val) → ((k : ℕ) → k < m → j < length (target k)) → (x : ℕ → Val) → ((k : ℕ) → k < m → x k ≡ get_or (target k) j (x k))
-    → Fills at m first (first + j) xs ys (λ k. take j (target k)) → Fills at m (first + j) (first + j + 1) ys zs (λ k. x k ∷ [])
-    → Fills at m first (first + (j + 1)) xs zs (λ k. take (j + 1) (target k))
-fill_next at m first j xs ys zs target near x is p q =
-    let e : first + j + 1 ≡ first + (j + 1) = omega arith in
-    fill_as at m first (first + j + 1) (first + (j + 1)) xs zs (λ k. take (j + 1) (target k)) (λ k. take (j + 1) (target k)) e (λ k h. refl)
-    (fill_more at m first (first + j) (first + j + 1) xs ys zs (λ k. take j (target k)) (λ k. x k ∷ []) (λ k. take (j + 1) (target k)) p q
+pub fill_next : (at m first mid end j : ℕ) (xs ys zs : List Column) (target : ℕ → List Val) → mid + 1 ≡ end → ((k : ℕ) → k < m → j < length (target k)) → (x : ℕ → Val) → ((k : ℕ) → k < m → x k ≡ get_or (target k) j (x k))
+    → Fills at m first mid xs ys (λ k. take j (target k)) → Fills at m mid (mid + 1) ys zs (λ k. x k ∷ []) → Fills at m first end xs zs (λ k. take (j + 1) (target k))
+fill_next at m first mid end j xs ys zs target e near x is p q =
+    fill_as at m first (mid + 1) end xs zs (λ k. take (j + 1) (target k)) (λ k. take (j + 1) (target k)) e (λ k h. refl)
+    (fill_more at m first mid (mid + 1) xs ys zs (λ k. take j (target k)) (λ k. x k ∷ []) (λ k. take (j + 1) (target k)) p q
     (λ k h. ap (λ v. take j (target k) ++ v ∷ []) (is k h) ∙ sym (take_more (target k) j (x k) (near k h))))
 
 -- all columns of rows that are known
@@ -132,12 +130,6 @@ row_is n xs t e i h =
 
 pub count_is : (n : ℕ) (xs : List Column) (t : List Row) → rows_of n xs ≡ t → length t ≡ n
 count_is n xs t e = ap length (sym e) ∙ length-each_below n (row_of xs)
-
-pub fill_next0 : (at m j : ℕ) (xs ys zs : List Column) (target : ℕ → List Val) → ((k : ℕ) → k < m → j < length (target k)) → (x : ℕ → Val) → ((k : ℕ) → k < m → x k ≡ get_or (target k) j (x k))
-    → Fills at m 0 j xs ys (λ k. take j (target k)) → Fills at m j (j + 1) ys zs (λ k. x k ∷ []) → Fills at m 0 (j + 1) xs zs (λ k. take (j + 1) (target k))
-fill_next0 at m j xs ys zs target near x is p q =
-    fill_more at m 0 j (j + 1) xs ys zs (λ k. take j (target k)) (λ k. x k ∷ []) (λ k. take (j + 1) (target k)) p q
-    (λ k h. ap (λ v. take j (target k) ++ v ∷ []) (is k h) ∙ sym (take_more (target k) j (x k) (near k h)))
 
 pub on_ok_any : {T E : Type 0} (r : Result T E) {P : Type 0} → P → OnOk r P
 on_ok_any (Ok x) p = p

@@ -239,10 +239,9 @@ module _ (cols : List ℕ) (rows : List Row) where
   pub least-start : (ps : List ℕ) → Least ps 1 None
   least-start ps b h = absurd (omega arith)
 
-  pub least-skip : (ps : List ℕ) (k : ℕ) (best : Option (ℕ × ℕ)) → meet cols rows (get_or ps (suc k) 0) (get_or ps k 0) ≡ false → Least ps (suc k) best → Least ps (suc (suc k)) best
-  least-skip ps k None m f =
-      λ b h. elim (cases_lt (suc b) (suc k)) [ inl l ↦ f b l | inr g ↦ let e : b ≡ k = omega arith in ap (λ i. meet cols rows (get_or ps (suc i) 0) (get_or ps i 0)) e ∙ m ]
-  least-skip ps k (Some p) m f =
+  -- what was found stays, where the next pair does not agree with a second below it
+  found-on : (ps : List ℕ) (k : ℕ) (p : ℕ × ℕ) → Found ps (suc k) p → (meet cols rows (get_or ps (suc k) 0) (get_or ps k 0) ≡ true → p.1 ≤ get_or ps (suc k) 0) → Found ps (suc (suc k)) p
+  found-on ps k p f next =
       let near = f.near in
       record {
         at = f.at;
@@ -252,24 +251,19 @@ module _ (cols : List ℕ) (rows : List Row) where
         agrees = f.agrees;
         least = λ b h t. elim (cases_lt (suc b) (suc k)) [
           | inl l ↦ f.least b l t
-          | inr g ↦ let e : k ≡ b = omega arith in absurd (true≢false (sym t ∙ sym (ap (λ i. meet cols rows (get_or ps (suc i) 0) (get_or ps i 0)) e) ∙ m))
+          | inr g ↦
+              let e : b ≡ k = omega arith in
+              subst (λ (i : ℕ). p.1 ≤ get_or ps (suc i) 0) (sym e) (next (sym (ap (λ i. meet cols rows (get_or ps (suc i) 0) (get_or ps i 0)) e) ∙ t))
         ];
       }
 
+  pub least-skip : (ps : List ℕ) (k : ℕ) (best : Option (ℕ × ℕ)) → meet cols rows (get_or ps (suc k) 0) (get_or ps k 0) ≡ false → Least ps (suc k) best → Least ps (suc (suc k)) best
+  least-skip ps k None m f =
+      λ b h. elim (cases_lt (suc b) (suc k)) [ inl l ↦ f b l | inr g ↦ let e : b ≡ k = omega arith in ap (λ i. meet cols rows (get_or ps (suc i) 0) (get_or ps i 0)) e ∙ m ]
+  least-skip ps k (Some p) m f = found-on ps k p f (λ t. absurd (true≢false (sym t ∙ m)))
+
   pub least-keep : (ps : List ℕ) (k : ℕ) (p : ℕ × ℕ) → p.1 ≤ get_or ps (suc k) 0 → Least ps (suc k) (Some p) → Least ps (suc (suc k)) (Some p)
-  least-keep ps k p up f =
-      let near = f.near in
-      record {
-        at = f.at;
-        near = omega (arith, near);
-        first = f.first;
-        second = f.second;
-        agrees = f.agrees;
-        least = λ b h t. elim (cases_lt (suc b) (suc k)) [
-          | inl l ↦ f.least b l t
-          | inr g ↦ let e : k ≡ b = omega arith in let s = ap (λ i. get_or ps (suc i) 0) e in omega (arith, s, up)
-        ];
-      }
+  least-keep ps k p up f = found-on ps k p f (λ t. up)
 
   -- the new pair is the least, where what was found before is above it
   pub least-take : (ps : List ℕ) (k : ℕ) → meet cols rows (get_or ps (suc k) 0) (get_or ps k 0) ≡ true

@@ -336,6 +336,10 @@ text_with_cut bytes cuts new cut new_cuts text at start end old near e is_new is
       ];
     }
 
+-- a list that was made of two, which are known
+pub joined_as : {xs front more left right : List ℕ} → xs ≡ front ++ more → front ≡ left → more ≡ right → xs ≡ left ++ right
+joined_as {xs} {front} {more} {left} {right} e f g = e ∙ (ap (λ (l : List ℕ). l ++ more) f ∙ ap (λ (l : List ℕ). left ++ l) g)
+
 -- nothing of a text came
 pub with_no_text : (bytes cuts new new_cuts text : List ℕ) (at start : ℕ) → at < length cuts → start ≡ get_or cuts at start → new ≡ take start bytes → new_cuts ≡ take (at + 1) cuts
     → Spliced bytes cuts [] (0 ∷ 0 ∷ []) new new_cuts at 0 0 1

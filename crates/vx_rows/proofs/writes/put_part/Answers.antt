@@ -1,13 +1,12 @@
 use Rattle.std.proofs.Common.{◌≡◌, ℕ, ◌+◌, ◌-◌, ◌<◌, arith}
 use Rattle.vx_rows.specs.Columns.{entry, size}
 use Rattle.vx_rows.proofs.Splice.{on_ok_both}
-use Rattle.vx_rows.proofs.Fill.{map_at, keep_set, fill_set}
+use Rattle.vx_rows.proofs.Fill.{keep_set, fill_set}
+use Rattle.vx_rows.proofs.NextColumn.{long_at}
 use Rattle.vx_rows.proofs.writes.put_part.Goals as goal
 
 pub put_range-requires-clause-room : goal.put_range-requires-clause-room
-put_range-requires-clause-room c =
-    let e = map_at size c.args.columns.now.items c.args.j c.index_mut-column.result.now 0 c.requires.column c.index_mut-column.ensures.value in
-    omega (arith, e, c.requires.long c.args.j c.requires.column)
+put_range-requires-clause-room c = long_at _ _ _ _ c.requires.long c.requires.column c.index_mut-column.ensures.value
 
 pub returns-clause-rows : goal.returns-clause-rows
 returns-clause-rows c = keep_set c.args.at c.args.columns.now.items c.args.j c.index_mut-column.result.now c.put_range.new.self c.requires.column c.index_mut-column.ensures.value c.put_range.ensures.front

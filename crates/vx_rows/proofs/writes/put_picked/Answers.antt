@@ -1,17 +1,14 @@
-use Rattle.std.proofs.Common.{◌≡◌, ◌<◌, arith, ◌∙◌, sym, length, get_or, pos}
+use Rattle.std.proofs.Common.{◌≡◌, ◌+◌, ◌<◌, arith, ◌∙◌, sym, length, get_or, pos}
 use Rattle.std.proofs.lemmas.List.{length-map, get_or_default}
 use Rattle.vx_rows.specs.Columns.{entry, size, row_of}
 use Rattle.vx_rows.specs.Values.{pick, value_at, num}
 use Rattle.vx_rows.specs.View.{cell_val}
-use Rattle.vx_rows.proofs.Fill.{map_at, keep_more, fill_next0}
+use Rattle.vx_rows.proofs.Fill.{map_at, keep_more}
+use Rattle.vx_rows.proofs.NextColumn.{long_at, value_next}
 use Rattle.vx_rows.proofs.writes.put_picked.Goals as goal
 
 pub get-requires : goal.get-requires
-get-requires c =
-    let k = get_or c.args.cols.now c.loop-j.j 0 in
-    let near : k < length c.args.others.now.items = c.requires.columns c.loop-j.j 0 c.loop-j-test.true in
-    let e = map_at size c.args.others.now.items k c.index.result.now 0 near c.index.ensures in
-    omega (arith, e, c.requires.there k near)
+get-requires c = omega (arith, long_at (c.args.i + 1) c.args.others.now.items _ c.index.result.now c.requires.there (c.requires.columns c.loop-j.j 0 c.loop-j-test.true) c.index.ensures)
 
 pub returns-in_err-put_cell-clause-rows : goal.returns-in_err-put_cell-clause-rows
 returns-in_err-put_cell-clause-rows c = keep_more _ _ _ _ c.loop-j.invariant.rows c.in_err-put_cell.ensures.rows
@@ -26,9 +23,8 @@ loop-j-preserved c =
     let row = row_of others i in
     let near : k < length others = c.requires.columns j 0 c.loop-j-test.true in
     let e = map_at (λ x. entry x i) others k c.index.result.now (num (pos 0)) near c.index.ensures in
-    let p = map_at (λ x. value_at row x) cols j k (cell_val c.get.result) c.loop-j-test.true (get_or_default cols j 0 k c.loop-j-test.true) in
-    let n : length (pick cols row) ≡ length cols = length-map cols (λ x. value_at row x) in
+    let p = map_at (value_at row) cols j k (cell_val c.get.result) c.loop-j-test.true (get_or_default cols j 0 k c.loop-j-test.true) in
     record {
       rows = keep_more _ _ _ _ c.loop-j.invariant.rows c.in_ok-put_cell.ensures.rows;
-      fills = fill_next0 c.args.at 1 j _ _ _ (λ _. pick cols row) (λ _ h. omega (arith, n, c.loop-j-test.true)) (λ _. cell_val c.get.result) (λ _ h. c.get.ensures ∙ (sym e ∙ sym p)) c.loop-j.invariant.fills c.in_ok-put_cell.ensures.ok;
+      fills = value_next (value_at row) cols c.args.at j _ _ _ (cell_val c.get.result) c.loop-j-test.true (c.get.ensures ∙ (sym e ∙ sym p)) c.loop-j.invariant.fills c.in_ok-put_cell.ensures.ok;
     }
