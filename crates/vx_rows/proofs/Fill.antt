@@ -1,6 +1,6 @@
 -- Columns that are written one after another.
 use Rattle.std.proofs.Common.{◌≡◌, ℕ, true, zero, suc, ◌+◌, ◌-◌, ◌<◌, ◌≤◌, List, [], ◌∷◌, ◌++◌, refl, sym, ap, ◌∙◌, subst, length, get_or, take, map, arith, inl, inr, append_assoc}
-use Rattle.std.specs.Prelude.{slice_range, zip, Result, Ok, Err, OnOk, OnErr}
+use Rattle.std.specs.Prelude.{zip, Result, Ok, Err, OnOk, OnErr}
 use Rattle.std.specs.List.{list_all, AllByRecursion}
 use Rattle.std.specs.Prelude.{All}
 use Rattle.std.proofs.lemmas.List.{same_lists, get_or_default}
@@ -19,7 +19,7 @@ use Rattle.vx_rows.specs.Lists.{each_below}
 use Rattle.vx_rows.specs.Types.{type_of, is_held, Fits}
 use Rattle.vx_rows.specs.Columns.{column_type, size, entry, row_of, rows_of, AreLong, KeepsFront, KeepRows, Fills, AreRows, AreHeld}
 use Rattle.vx_rows.specs.View.{Table}
-use Rattle.vx_rows.proofs.Below.{length-each_below, get_or-each_below, each_below-ext, each_below-more, each_below-one, slice_range-each_below}
+use Rattle.vx_rows.proofs.Below.{length-each_below, get_or-each_below, each_below-ext, each_below-more}
 
 abbrev pub viewed : List ColType → ℕ → List Column → Table
 viewed types n xs = record { types = types; rows = rows_of n xs }

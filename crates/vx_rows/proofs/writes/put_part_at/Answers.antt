@@ -1,4 +1,4 @@
-use Rattle.std.proofs.Common.{◌≡◌, ℕ, ◌+◌, ◌<◌, ◌≤◌, arith, length, get_or}
+use Rattle.std.proofs.Common.{◌≡◌, ℕ, ◌+◌, ◌<◌, ◌≤◌, length, get_or}
 use Rattle.vx_rows.specs.Columns.{entry, size}
 use Rattle.vx_rows.proofs.Splice.{on_ok_both}
 use Rattle.vx_rows.proofs.Fill.{keep_set, fill_set}

@@ -1,4 +1,4 @@
-use Rattle.std.proofs.Common.{◌≡◌, ℕ, ◌+◌, ◌-◌, ◌<◌, arith, refl, length}
+use Rattle.std.proofs.Common.{◌≡◌, ◌+◌, ◌-◌, ◌<◌, arith, refl, length}
 use Rattle.vx_rows.specs.Columns.{size}
 use Rattle.vx_rows.proofs.Fill.{map_at, keep_more}
 use Rattle.vx_rows.proofs.NextColumn.{column_next, columns_end}

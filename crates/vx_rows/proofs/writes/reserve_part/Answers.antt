@@ -1,5 +1,3 @@
-use Rattle.std.proofs.Common.{arith}
-use Rattle.vx_rows.specs.Columns.{size}
 use Rattle.vx_rows.proofs.Fill.{keep_set}
 use Rattle.vx_rows.proofs.NextColumn.{long_at}
 use Rattle.vx_rows.proofs.writes.reserve_part.Goals as goal
