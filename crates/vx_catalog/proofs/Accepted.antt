@@ -4,27 +4,14 @@ use Rattle.std.specs.List.{list_all, list_any}
 use Rattle.std.proofs.lemmas.List.{append-nil, map-append, length-map}
 use Rattle.std.proofs.lemmas.List.Folds.{list_any-append, list_all-append, list_all-map}
 use Rattle.std.proofs.lemmas.List.Quantifiers.{position-Some}
+use Rattle.std.proofs.lemmas.Bool.{and_parts, and_from, or_parts, not-true, not_from_false}
 use Rattle.std.proofs.lemmas.Bool.Decides.{Decides-ltb}
 use Rattle.vx_catalog.specs.Relation.{Relation}
 use Rattle.vx_catalog.specs.Catalog.{relation_at, are_distinct_names, are_distinct, all_below, is_key_of, is_named, IsRelation, IsCatalog}
 use Rattle.vx_catalog.specs.Walk.{◌>>=◌, walk_onto}
 use Rattle.vx_catalog.specs.Form.{ColumnText, RelationText}
 use Rattle.vx_catalog.specs.Naming.{Refusal, duplicate_name, name_once, names_of, column_once, column_of, columns_of, keys_of, relation_of, relation_after, is_small, is_within_limits, columns_text, name_at, text_of}
-use Rattle.vx_catalog.proofs.NameFacts.{text_decides}
-
-pub both : (a b : Bool) → (a && b) ≡ true → (a ≡ true) × (b ≡ true)
-both true true h = (refl, refl)
-both true false h = cc
-both false b h = cc
-
-pub joined : (a b : Bool) → a ≡ true → b ≡ true → (a && b) ≡ true
-joined true true p q = refl
-joined true false p q = cc
-joined false b p q = cc
-
-pub neither : (a b : Bool) → (a || b) ≡ false → (a ≡ false) × (b ≡ false)
-neither true b h = cc
-neither false b h = (refl, h)
+use Rattle.vx_catalog.proofs.NameFacts.{text_decides, list_any-map}
 
 pub ok_bind : {E A B : Type 0} (r : Result A E) (f : A → Result B E) (y : B) → (r >>= f) ≡ Ok y → (x : A) × (r ≡ Ok x) × (f x ≡ Ok y)
 ok_bind (Ok x) f y h = (x, refl, h)
@@ -52,14 +39,6 @@ name_taken : (front : List (List ℕ)) (n m : List ℕ) → name_once front n �
 unfolding name_once
 name_taken front n m h = taken_if (list_any (λ y. bytes_eq y n) front) n n m _ h refl
 
-not_false : (b : Bool) → b ≡ false → not b ≡ true
-not_false true h = cc
-not_false false h = refl
-
-pub false_not : (b : Bool) → not b ≡ true → b ≡ false
-false_not true h = cc
-false_not false h = refl
-
 or_none : (a b : Bool) → a ≡ false → b ≡ false → (a || (b || false)) ≡ false
 or_none true b p q = cc
 or_none false true p q = cc
@@ -68,16 +47,16 @@ or_none false false p q = refl
 pub distinct_names_push : (front : List (List ℕ)) (n : List ℕ) → are_distinct_names front ≡ true → list_any (λ y. bytes_eq y n) front ≡ false → are_distinct_names (front ++ n ∷ []) ≡ true
 distinct_names_push [] n d h = refl
 distinct_names_push (x ∷ xs) n d h =
-    let parts = both (not (list_any (bytes_eq x) xs)) (are_distinct_names xs) d in
-    let apart = neither (bytes_eq x n) (list_any (λ y. bytes_eq y n) xs) h in
-    joined _ _ (not_false _ (list_any-append (bytes_eq x) xs (n ∷ []) ∙ or_none _ _ (false_not _ parts.0) apart.0)) (distinct_names_push xs n parts.1 apart.1)
+    let parts = and_parts (not (list_any (bytes_eq x) xs)) (are_distinct_names xs) d in
+    let apart = or_parts (bytes_eq x n) (list_any (λ y. bytes_eq y n) xs) h in
+    and_from _ _ (not_from_false _ (list_any-append (bytes_eq x) xs (n ∷ []) ∙ or_none _ _ (not-true _ parts.0) apart.0)) (distinct_names_push xs n parts.1 apart.1)
 
 pub distinct_push : (front : List ℕ) (n : ℕ) → are_distinct front ≡ true → list_any (λ y. y == n) front ≡ false → are_distinct (front ++ n ∷ []) ≡ true
 distinct_push [] n d h = refl
 distinct_push (x ∷ xs) n d h =
-    let parts = both (not (list_any (λ y. x == y) xs)) (are_distinct xs) d in
-    let apart = neither (x == n) (list_any (λ y. y == n) xs) h in
-    joined _ _ (not_false _ (list_any-append (λ y. x == y) xs (n ∷ []) ∙ or_none _ _ (false_not _ parts.0) apart.0)) (distinct_push xs n parts.1 apart.1)
+    let parts = and_parts (not (list_any (λ y. x == y) xs)) (are_distinct xs) d in
+    let apart = or_parts (x == n) (list_any (λ y. y == n) xs) h in
+    and_from _ _ (not_from_false _ (list_any-append (λ y. x == y) xs (n ∷ []) ∙ or_none _ _ (not-true _ parts.0) apart.0)) (distinct_push xs n parts.1 apart.1)
 
 names_kept : (ns out : List (List ℕ)) → names_of ns ≡ Ok out → (out ≡ ns) × (are_distinct_names out ≡ true)
 names_kept ns out h =
@@ -112,7 +91,7 @@ columns_kept names list out h =
     (λ (done : List (List ℕ)) (front : List ℕ) (x : List ℕ) (y : ℕ) (p : Columns names done front) e.
     let t = column_taken names front x y e in
     record {
-      below = list_all-append (λ c. nat_lt c (length names)) front (y ∷ []) ∙ joined _ _ p.below (joined _ _ ((Decides-ltb y (length names)).1 t.0) refl);
+      below = list_all-append (λ c. nat_lt c (length names)) front (y ∷ []) ∙ and_from _ _ p.below (and_from _ _ ((Decides-ltb y (length names)).1 t.0) refl);
       apart = distinct_push front y p.apart t.2;
       same = map-append (name_at names) front (y ∷ []) ∙ rw (p.same, t.1) refl;
     })
@@ -130,7 +109,7 @@ record Keys (names : List (List ℕ)) (done : List (List (List ℕ))) (front : L
 key_kept : (names key : List (List ℕ)) (out : List ℕ) → columns_of names key ≡ Ok out → nat_lt 0 (length key) ≡ true → is_key_of (length names) out ≡ true
 key_kept names key out h some =
     let k = columns_kept names key out h in
-    joined _ _ (some_left (name_at names) out key k.same some) (joined _ _ k.below k.apart)
+    and_from _ _ (some_left (name_at names) out key k.same some) (and_from _ _ k.below k.apart)
 
 keys_kept : (names : List (List ℕ)) (list : List (List (List ℕ))) (out : List (List ℕ)) → keys_of list names ≡ Ok out → Keys names list out
 keys_kept names list out h =
@@ -138,9 +117,9 @@ keys_kept names list out h =
     (λ (done : List (List (List ℕ))) (front : List (List ℕ)) (x : List (List ℕ)) (y : List ℕ) (p : Keys names done front) e.
     record {
       keys = λ all.
-          let parts = both (list_all (λ k. nat_lt 0 (length k)) done) _ (sym (list_all-append (λ k. nat_lt 0 (length k)) done (x ∷ [])) ∙ all) in
-          let some = both (nat_lt 0 (length x)) true parts.1 in
-          list_all-append (is_key_of (length names)) front (y ∷ []) ∙ joined _ _ (p.keys parts.0) (joined _ _ (key_kept names x y e some.0) refl);
+          let parts = and_parts (list_all (λ k. nat_lt 0 (length k)) done) _ (sym (list_all-append (λ k. nat_lt 0 (length k)) done (x ∷ [])) ∙ all) in
+          let some = and_parts (nat_lt 0 (length x)) true parts.1 in
+          list_all-append (is_key_of (length names)) front (y ∷ []) ∙ and_from _ _ (p.keys parts.0) (and_from _ _ (key_kept names x y e some.0) refl);
       same = map-append (λ k. map (name_at names) k) front (y ∷ []) ∙ rw (p.same, (columns_kept names x y e).same) refl;
     })
     list [] [] out (record { keys = λ _. refl; same = refl }) h
@@ -172,19 +151,19 @@ made_from t names keys order hn hk ho =
     let long : length names ≡ length t.columns = ap length n.0 ∙ length-map t.columns (λ (c : ColumnText). c.name) in
     record {
       is = λ stated small.
-          let s1 = both (is_named t.name) _ stated in
-          let s2 = both (nat_lt 0 (length t.columns)) _ s1.1 in
-          let s3 = both (list_all (λ c. is_named c.name) t.columns) _ s2.1 in
-          let z = both (nat_le (length t.columns) 64) _ small in
+          let s1 = and_parts (is_named t.name) _ stated in
+          let s2 = and_parts (nat_lt 0 (length t.columns)) _ s1.1 in
+          let s3 = and_parts (list_all (λ c. is_named c.name) t.columns) _ s2.1 in
+          let z = and_parts (nat_le (length t.columns) 64) _ small in
           record {
             named = s1.0;
-            columns = rw long (joined _ _ s2.0 z.0);
+            columns = rw long (and_from _ _ s2.0 z.0);
             typed = length-map t.columns (λ (c : ColumnText). c.kind) ∙ sym long;
             columns_named = rw n.0 (list_all-map is_named (λ (c : ColumnText). c.name) t.columns ∙ s3.0);
             distinct = n.1;
             few_keys = rw (← length-map keys (λ (k : List ℕ). map (name_at names) k), k.same) z.1;
             keys = k.keys s3.1;
-            order = joined _ _ o.below o.apart;
+            order = and_from _ _ o.below o.apart;
           };
       says = rw (k.same, o.same, columns) refl;
       name = refl;
@@ -208,10 +187,6 @@ relation_taken front t r h = by_test (list_any (λ (x : Relation). bytes_eq x.na
     by_test : (b : Bool) → cond b (Err (duplicate_name t.name)) (relation_of t) ≡ Ok r → (relation_of t ≡ Ok r) × (b ≡ false)
     by_test true e = cc
     by_test false e = (e, refl)
-
-list_any-map : {X Y : Type 0} (p : X → Bool) (h : Y → X) (ys : List Y) → list_any p (map h ys) ≡ list_any (λ y. p (h y)) ys
-list_any-map p h [] = refl
-list_any-map p h (y ∷ ys) = ap (λ b. p (h y) || b) (list_any-map p h ys)
 
 abbrev Each : List Relation → Type 0
 Each [] = Unit {0}
@@ -243,9 +218,9 @@ relations_kept ts out h =
     list_any-map (λ n. bytes_eq n y.name) (λ (r : Relation). r.name) front ∙ rw (m.name) t.1 in
     record {
       is = λ stated small.
-          let s = both (list_all is_stated done) _ (sym (list_all-append is_stated done (x ∷ [])) ∙ stated) in
-          let z = both (list_all is_small done) _ (sym (list_all-append is_small done (x ∷ [])) ∙ small) in
-          each_push front y (p.is s.0 z.0) (m.is (both (is_stated x) true s.1).0 (both (is_small x) true z.1).0);
+          let s = and_parts (list_all is_stated done) _ (sym (list_all-append is_stated done (x ∷ [])) ∙ stated) in
+          let z = and_parts (list_all is_small done) _ (sym (list_all-append is_small done (x ∷ [])) ∙ small) in
+          each_push front y (p.is s.0 z.0) (m.is (and_parts (is_stated x) true s.1).0 (and_parts (is_small x) true z.1).0);
       distinct = rw (map-append (λ (r : Relation). r.name) front (y ∷ [])) (distinct_names_push (map (λ (r : Relation). r.name) front) y.name p.distinct new);
       says = map-append text_of front (y ∷ []) ∙ rw (p.says, m.says) refl;
     })
@@ -255,6 +230,6 @@ relations_kept ts out h =
 pub relations_are : (ts : List RelationText) (out : List Relation) → list_all is_stated ts ≡ true → is_within_limits ts ≡ true → walk_onto relation_after [] ts ≡ Ok out → IsCatalog out × (map text_of out ≡ ts)
 relations_are ts out stated limits h =
     let k = relations_kept ts out h in
-    let z = both (nat_le (length ts) 256) _ limits in
+    let z = and_parts (nat_le (length ts) 256) _ limits in
     let long : length out ≡ length ts = sym (length-map out text_of) ∙ ap length k.says in
     (record { few = rw long z.0; distinct = k.distinct; each = each_at out (k.is stated z.1) }, k.says)

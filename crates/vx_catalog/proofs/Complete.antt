@@ -1,6 +1,7 @@
 -- Each catalog is read of a value that says it.
 use Rattle.std.proofs.Common.{◌≡◌, ℕ, zero, suc, ◌<◌, ◌==◌, ◌||◌, not, nat_lt, nat_le, Bool, true, false, List, [], ◌∷◌, ◌++◌, Some, Result, Ok, refl, sym, ap, subst, ◌∙◌, map, get_or, length, position, append_assoc, bytes_eq, arith, true≢false}
 use Rattle.std.specs.List.{list_all, list_any}
+use Rattle.std.proofs.lemmas.Bool.{and_parts, and_from, or_from, not-true}
 use Rattle.std.proofs.lemmas.List.{append-nil, map-id, map-append, length-map, length-append}
 use Rattle.std.proofs.Math.Seq.{get_or-append_seam}
 use Rattle.std.proofs.lemmas.List.Folds.{list_any-append, list_all-append, list_any_at}
@@ -15,7 +16,6 @@ use Rattle.vx_catalog.specs.Form.{ColumnText}
 use Rattle.vx_catalog.specs.Naming.{name_once, names_of, column_of, columns_of, keys_of, relation_of, relation_after, is_small, catalog_of, columns_text, name_at, text_of, States}
 use Rattle.vx_catalog.proofs.NameFacts.{text_decides, list_any-map}
 use Rattle.vx_catalog.proofs.NamingFacts.{relation_made}
-use Rattle.vx_catalog.proofs.Accepted.{both, joined, false_not}
 
 -- each element comes back of what it looks like
 walk_finds : {E A B : Type 0} (look : B → A) (step : List B → A → Result B E) (whole : List B)
@@ -27,10 +27,6 @@ walk_finds look step whole finds (y ∷ ys) front e =
     ap (λ (r : Result _ _). r >>= λ (y : _). walk_onto step (front ++ y ∷ []) (map look ys)) (finds front y ys e)
     ∙ walk_finds look step whole finds ys (front ++ y ∷ []) (append_assoc front (y ∷ []) ys ∙ e)
 
-nothing : (a b : Bool) → a ≡ false → b ≡ false → (a || b) ≡ false
-nothing true b p q = cc
-nothing false b p q = q
-
 first_of_rest : (a b c : Bool) → (a || (b || c)) ≡ false → b ≡ false
 first_of_rest true b c h = cc
 first_of_rest false true c h = cc
@@ -39,21 +35,21 @@ first_of_rest false false c h = refl
 names_apart : (front : List (List ℕ)) (y : List ℕ) (rest : List (List ℕ)) → are_distinct_names (front ++ y ∷ rest) ≡ true → list_any (λ z. bytes_eq z y) front ≡ false
 names_apart [] y rest h = refl
 names_apart (x ∷ xs) y rest h =
-    let parts = both (not (list_any (bytes_eq x) (xs ++ y ∷ rest))) (are_distinct_names (xs ++ y ∷ rest)) h in
-    let none = sym (list_any-append (bytes_eq x) xs (y ∷ rest)) ∙ false_not _ parts.0 in
-    nothing _ _ (first_of_rest (list_any (bytes_eq x) xs) (bytes_eq x y) (list_any (bytes_eq x) rest) none) (names_apart xs y rest parts.1)
+    let parts = and_parts (not (list_any (bytes_eq x) (xs ++ y ∷ rest))) (are_distinct_names (xs ++ y ∷ rest)) h in
+    let none = sym (list_any-append (bytes_eq x) xs (y ∷ rest)) ∙ not-true _ parts.0 in
+    or_from _ _ (first_of_rest (list_any (bytes_eq x) xs) (bytes_eq x y) (list_any (bytes_eq x) rest) none) (names_apart xs y rest parts.1)
 
 columns_apart : (front : List ℕ) (y : ℕ) (rest : List ℕ) → are_distinct (front ++ y ∷ rest) ≡ true → list_any (λ z. z == y) front ≡ false
 columns_apart [] y rest h = refl
 columns_apart (x ∷ xs) y rest h =
-    let parts = both (not (list_any (λ z. x == z) (xs ++ y ∷ rest))) (are_distinct (xs ++ y ∷ rest)) h in
-    let none = sym (list_any-append (λ z. x == z) xs (y ∷ rest)) ∙ false_not _ parts.0 in
-    nothing _ _ (first_of_rest (list_any (λ z. x == z) xs) (x == y) (list_any (λ z. x == z) rest) none) (columns_apart xs y rest parts.1)
+    let parts = and_parts (not (list_any (λ z. x == z) (xs ++ y ∷ rest))) (are_distinct (xs ++ y ∷ rest)) h in
+    let none = sym (list_any-append (λ z. x == z) xs (y ∷ rest)) ∙ not-true _ parts.0 in
+    or_from _ _ (first_of_rest (list_any (λ z. x == z) xs) (x == y) (list_any (λ z. x == z) rest) none) (columns_apart xs y rest parts.1)
 
 -- what all of a list pass, one in the middle passes
 one_passes : {X : Type 0} (p : X → Bool) (front : List X) (y : X) (rest whole : List X) → front ++ y ∷ rest ≡ whole → list_all p whole ≡ true → p y ≡ true
 one_passes p front y rest whole e h =
-    (both (p y) (list_all p rest) (both (list_all p front) (list_all p (y ∷ rest)) (sym (list_all-append p front (y ∷ rest)) ∙ (ap (list_all p) e ∙ h))).1).0
+    (and_parts (p y) (list_all p rest) (and_parts (list_all p front) (list_all p (y ∷ rest)) (sym (list_all-append p front (y ∷ rest)) ∙ (ap (list_all p) e ∙ h))).1).0
 
 names_found : (names : List (List ℕ)) → are_distinct_names names ≡ true → names_of names ≡ Ok names
 unfolding name_once
@@ -74,8 +70,8 @@ two_apart : (names : List (List ℕ)) (k i : ℕ) → are_distinct_names names �
 two_apart [] k i h l m = absurd (omega arith)
 two_apart (x ∷ xs) k zero h l m = absurd (omega arith)
 two_apart (x ∷ xs) zero (suc i) h l m =
-    not_among x xs i _ refl (false_not _ (both (not (list_any (bytes_eq x) xs)) (are_distinct_names xs) h).0) (omega arith)
-two_apart (x ∷ xs) (suc k) (suc i) h l m = two_apart xs k i (both (not (list_any (bytes_eq x) xs)) (are_distinct_names xs) h).1 (omega arith) (omega arith)
+    not_among x xs i _ refl (not-true _ (and_parts (not (list_any (bytes_eq x) xs)) (are_distinct_names xs) h).0) (omega arith)
+two_apart (x ∷ xs) (suc k) (suc i) h l m = two_apart xs k i (and_parts (not (list_any (bytes_eq x) xs)) (are_distinct_names xs) h).1 (omega arith) (omega arith)
 
 position_found : (names : List (List ℕ)) (c : ℕ) → are_distinct_names names ≡ true → c < length names → position (bytes_eq (name_at names c)) names ≡ Some c
 position_found names c h l =
@@ -96,8 +92,8 @@ keys_found : (names : List (List ℕ)) (keys : List (List ℕ)) → are_distinct
 keys_found names keys h all =
     walk_finds (λ (k : List ℕ). map (name_at names) k) (λ (front : List (List ℕ)) (key : List (List ℕ)). columns_of names key) keys
     (λ front y rest e.
-    let key = both (nat_lt 0 (length y)) _ (one_passes (is_key_of (length names)) front y rest keys e all) in
-    let parts = both (all_below (length names) y) (are_distinct y) key.1 in
+    let key = and_parts (nat_lt 0 (length y)) _ (one_passes (is_key_of (length names)) front y rest keys e all) in
+    let parts = and_parts (all_below (length names) y) (are_distinct y) key.1 in
     columns_found names y h parts.0 parts.1)
     keys [] refl
 
@@ -114,21 +110,21 @@ types_again (n ∷ ns) (t ∷ ts) e = ap (λ l. t ∷ l) (types_again ns ts (ome
 
 relation_found : (r : Relation) → IsRelation r → relation_of (text_of r) ≡ Ok r
 relation_found r is =
-    let order = both (all_below (length r.names) r.order) (are_distinct r.order) is.order in
+    let order = and_parts (all_below (length r.names) r.order) (are_distinct r.order) is.order in
     relation_made (text_of r) r.names r.keys r.order (ap names_of (names_again r.names r.types is.typed) ∙ names_found r.names is.distinct)
     (keys_found r.names r.keys is.distinct is.keys) (columns_found r.names r.order is.distinct order.0 order.1)
     ∙ rw (types_again r.names r.types is.typed) refl
 
 small_text : (r : Relation) → IsRelation r → is_small (text_of r) ≡ true
 small_text r is =
-    let columns = both (nat_lt 0 (length r.names)) (nat_le (length r.names) 64) is.columns in
+    let columns = and_parts (nat_lt 0 (length r.names)) (nat_le (length r.names) 64) is.columns in
     let long : length (columns_text r.names r.types) ≡ length r.names = sym (length-map (columns_text r.names r.types) (λ (c : ColumnText). c.name)) ∙ ap length (names_again r.names r.types is.typed) in
-    joined (nat_le (length (columns_text r.names r.types)) 64) (nat_le (length (text_of r).keys) 16) (rw long columns.1) (rw (length-map r.keys (λ (k : List ℕ). map (name_at r.names) k)) is.few_keys)
+    and_from (nat_le (length (columns_text r.names r.types)) 64) (nat_le (length (text_of r).keys) 16) (rw long columns.1) (rw (length-map r.keys (λ (k : List ℕ). map (name_at r.names) k)) is.few_keys)
 
 small_texts : (catalog : List Relation) → ((i : ℕ) → nat_lt i (length catalog) ≡ true → IsRelation (relation_at catalog i)) → list_all is_small (map text_of catalog) ≡ true
 small_texts [] each = refl
 small_texts (r ∷ rs) each =
-    joined _ _ (small_text r (each zero ((Decides-ltb 0 (length (r ∷ rs))).1 (omega arith))))
+    and_from _ _ (small_text r (each zero ((Decides-ltb 0 (length (r ∷ rs))).1 (omega arith))))
     (small_texts rs (λ i h. each (suc i) (let k = (Decides-ltb i (length rs)).0 h in (Decides-ltb (suc i) (length (r ∷ rs))).1 (omega arith))))
 
 -- a relation of a catalog, in the middle of the others
@@ -152,5 +148,5 @@ relations_found catalog is =
 pub catalog_found : (d : Data) (catalog : List Relation) → IsCatalog catalog → States d catalog → catalog_of d ≡ Ok catalog
 unfolding catalog_of
 catalog_found d catalog is says =
-    let limits = joined (nat_le (length (map text_of catalog)) 256) _ (rw (length-map catalog text_of) is.few) (small_texts catalog is.each) in
+    let limits = and_from (nat_le (length (map text_of catalog)) 256) _ (rw (length-map catalog text_of) is.few) (small_texts catalog is.each) in
     rw (says, limits) (relations_found catalog is)

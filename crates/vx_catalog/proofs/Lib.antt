@@ -1,4 +1,3 @@
-pub mod EachFacts
 pub mod NameFacts
 pub mod WalkFacts
 pub mod NamingFacts

@@ -1,5 +1,6 @@
 -- What is read of a field byte by byte is `number_of` of it.
 use Rattle.std.proofs.Common.{◌≡◌, ◌≢◌, ℕ, zero, suc, ◌+◌, ◌*◌, ◌-◌, ◌<◌, ◌≤◌, List, [], ◌∷◌, Option, Some, None, Bool, true, false, cond, refl, length, get_or, take, drop, arith, not, ◌&&◌, ◌==◌, w64, rules}
+use Rattle.std.proofs.lemmas.Bool.{and_parts, and_from}
 use Rattle.std.proofs.lemmas.Grind.{common_steps}
 use Rattle.std.proofs.lemmas.Str.Parse.{numerals_by_value, tells_all_ascii_digits, IsNumeralModel, digit_at, digits_value-take-le, without_leading_plus_none}
 use Rattle.std.proofs.lemmas.Int.Digits.{digits_more, digits_value_more}
@@ -12,16 +13,6 @@ use Rattle.std.specs.Int.{IsInRange}
 use Rattle.std.specs.Str.{all_ascii_digits}
 use Rattle.std.specs.Str.Parse.{AllDigits, IsNumeral, starts_with_minus, without_leading_plus, without_leading_sign, signed_digits_value, digits_value}
 use Rattle.vx_catalog.specs.Number.{number_of, is_number, fits_i64}
-
-pub both : (a b : Bool) → (a && b) ≡ true → (a ≡ true) × (b ≡ true)
-both true true h = (refl, refl)
-both true false h = cc
-both false b h = cc
-
-pub joined : (a b : Bool) → a ≡ true → b ≡ true → (a && b) ≡ true
-joined true true p q = refl
-joined true false p q = cc
-joined false b p q = cc
 
 fits_true : (z : ℤ) → FitsSigned w64 z → fits_i64 z ≡ true
 fits_true (pos n) h = search rules
@@ -42,12 +33,12 @@ length_some n h = grind (arith, common_steps)
 
 numeral_test : (bs : List ℕ) → IsNumeral 10 (without_leading_sign bs) → FitsSigned w64 (signed_digits_value 10 bs) → is_number bs ≡ true
 numeral_test bs h f =
-    joined _ _ (joined _ _ (some_length _ h.0) (model.from (without_leading_sign bs) h.1)) (fits_true _ f)
+    and_from _ _ (and_from _ _ (some_length _ h.0) (model.from (without_leading_sign bs) h.1)) (fits_true _ f)
 
 test_numeral : (bs : List ℕ) → is_number bs ≡ true → IsNumeral 10 (without_leading_sign bs) × FitsSigned w64 (signed_digits_value 10 bs)
 test_numeral bs h =
-    let outer = both (not (length (without_leading_sign bs) == 0) && all_ascii_digits (without_leading_sign bs)) (fits_i64 (signed_digits_value 10 bs)) h in
-    let inner = both (not (length (without_leading_sign bs) == 0)) (all_ascii_digits (without_leading_sign bs)) outer.0 in
+    let outer = and_parts (not (length (without_leading_sign bs) == 0) && all_ascii_digits (without_leading_sign bs)) (fits_i64 (signed_digits_value 10 bs)) h in
+    let inner = and_parts (not (length (without_leading_sign bs) == 0)) (all_ascii_digits (without_leading_sign bs)) outer.0 in
     ((length_some _ inner.0, model.to (without_leading_sign bs) inner.1), fits_from _ outer.1)
 
 none_if : (b : Bool) (z : ℤ) → (b ≡ true → ⊥) → None ≡ cond b (Some z) None

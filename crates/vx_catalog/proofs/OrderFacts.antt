@@ -16,7 +16,7 @@ use Rattle.vx_catalog.specs.Catalog.{all_below, is_key_of}
 use Rattle.vx_catalog.specs.declared.fault.LoadFault.{LoadFault}
 use Rattle.vx_catalog.specs.declared.fault.LoadFault.TheVariants as fault
 use Rattle.vx_catalog.specs.Loading.{no_clash, keys_kept, fall_from, first_fall, no_fall, order_kept}
-use Rattle.vx_catalog.proofs.Accepted.{both}
+use Rattle.std.proofs.lemmas.Bool.{and_parts}
 
 -- ---- the order
 
@@ -97,8 +97,8 @@ columns_below w cols h k d l = (Decides-ltb (get_or cols k d) w).0 (AllPass-from
 
 pub key_columns : (w : ℕ) (keys : List (List ℕ)) (k : ℕ) → list_all (is_key_of w) keys ≡ true → k < length keys → AreColumns w (get_or keys k [])
 key_columns w [] k h l = absurd (omega arith)
-key_columns w (x ∷ xs) zero h l = columns_below w x (both (all_below w x) _ (both (nat_lt 0 (length x)) _ (both (is_key_of w x) _ h).0).1).0
-key_columns w (x ∷ xs) (suc k) h l = key_columns w xs k (both (is_key_of w x) _ h).1 (omega arith)
+key_columns w (x ∷ xs) zero h l = columns_below w x (and_parts (all_below w x) _ (and_parts (nat_lt 0 (length x)) _ (and_parts (is_key_of w x) _ h).0).1).0
+key_columns w (x ∷ xs) (suc k) h l = key_columns w xs k (and_parts (is_key_of w x) _ h).1 (omega arith)
 
 -- ---- what is accepted meets the relation
 

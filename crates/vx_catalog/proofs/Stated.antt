@@ -4,17 +4,18 @@ use Rattle.std.specs.Prelude.{codes}
 use Rattle.std.specs.List.{list_all}
 use Rattle.std.proofs.lemmas.List.Folds.{list_all-append}
 use Rattle.std.proofs.lemmas.List.{length-append}
+use Rattle.std.proofs.lemmas.Bool.{and_from}
 use Rattle.std.proofs.lemmas.Bool.Decides.{Decides-ltb}
 use Rattle.serde_json.specs.Data.{Data}
 use Rattle.serde_json.specs.Find.{get, as_str}
 use Rattle.vx_rows.specs.declared.value.ColType.{ColType}
 use Rattle.vx_catalog.specs.Catalog.{is_named, IsCatalog}
-use Rattle.vx_catalog.specs.Walk.{each_onto, walk_onto}
-use Rattle.vx_json.specs.Look.{as_list}
-use Rattle.vx_catalog.specs.Form.{ColumnText, RelationText, not_empty, name_in, kind_in, column_in, some_entry, entries, key_in, columns_in, keys_or, order_or, relation_in, relations_in, catalog_in}
+use Rattle.vx_catalog.specs.Walk.{walk_onto}
+use Rattle.vx_json.specs.Look.{as_list, some_entry, name_in, each_onto}
+use Rattle.vx_catalog.specs.Form.{ColumnText, RelationText, kind_in, column_in, entries, key_in, columns_in, keys_or, order_or, relation_in, relations_in, catalog_in}
 use Rattle.vx_catalog.specs.Relation.{Relation}
 use Rattle.vx_catalog.specs.Naming.{too_large, relation_after, is_within_limits, named, catalog_of, States, CatalogLaw}
-use Rattle.vx_catalog.proofs.Accepted.{joined, is_stated, relations_are}
+use Rattle.vx_catalog.proofs.Accepted.{is_stated, relations_are}
 use Rattle.vx_catalog.proofs.Complete.{catalog_found}
 
 -- a value that a chain gave came from one
@@ -31,24 +32,24 @@ if_some true o y h = h
 if_some false o y h = cc
 
 -- what is read of each value passes a test that each reading passes
-each_passes : {A B : Type 0} (read : A → Option B) (p : B → Bool) → ((x : A) (y : B) → read x ≡ Some y → p y ≡ true)
-    → (xs : List A) (front : List B) (out : List B) → list_all p front ≡ true → each_onto read front xs ≡ Some out → list_all p out ≡ true
+each_passes : {B : Type 0} (read : Data → Option B) (p : B → Bool) → ((x : Data) (y : B) → read x ≡ Some y → p y ≡ true)
+    → (xs : List Data) (front : List B) (out : List B) → list_all p front ≡ true → each_onto read front xs ≡ Some out → list_all p out ≡ true
 unfolding each_onto
 each_passes read p passes [] front out h e = let k : front ≡ out = cc in rw (← k) h
 each_passes read p passes (x ∷ xs) front out h e =
     let t = then_some (λ (y : _). each_onto read (front ++ y ∷ []) xs) (read x) out e in
-    each_passes read p passes xs (front ++ t.0 ∷ []) out (list_all-append p front (t.0 ∷ []) ∙ joined _ _ h (joined _ _ (passes x t.0 t.1) refl)) t.2
+    each_passes read p passes xs (front ++ t.0 ∷ []) out (list_all-append p front (t.0 ∷ []) ∙ and_from _ _ h (and_from _ _ (passes x t.0 t.1) refl)) t.2
 
 is_some_length : (n : ℕ) → nat_lt 0 (suc n) ≡ true
 is_some_length n = (Decides-ltb 0 (suc n)).1 (omega arith)
 
-not_empty_named : (s n : List ℕ) → not_empty s ≡ Some n → is_named n ≡ true
-not_empty_named [] n h = cc
-not_empty_named (b ∷ bs) n h = let e : b ∷ bs ≡ n = cc in rw (← e) (is_some_length (length bs))
+entry_named : (s n : List ℕ) → some_entry s ≡ Some n → is_named n ≡ true
+entry_named [] n h = cc
+entry_named (b ∷ bs) n h = let e : b ∷ bs ≡ n = cc in rw (← e) (is_some_length (length bs))
 
 name_stated : (d : Data) (n : List ℕ) → name_in d ≡ Some n → is_named n ≡ true
 unfolding name_in
-name_stated d n h = let t = then_some not_empty (as_str d) n h in not_empty_named t.0 n t.2
+name_stated d n h = let t = then_some some_entry (as_str d) n h in entry_named t.0 n t.2
 
 column_stated : (d : Data) (c : ColumnText) → column_in d ≡ Some c → is_named c.name ≡ true
 unfolding column_in
@@ -68,7 +69,7 @@ entries_some d ds h = by_list (as_list d) h
     by_list : (o : Option (List Data)) → option_and_then some_entry o ≡ Some ds → nat_lt 0 (length ds) ≡ true
     by_list o e = let t = then_some some_entry o ds e in by_entries t.0 t.2
 
-each_long : {A B : Type 0} (read : A → Option B) (xs : List A) (front : List B) (out : List B) → each_onto read front xs ≡ Some out → length out ≡ length front + length xs
+each_long : {B : Type 0} (read : Data → Option B) (xs : List Data) (front : List B) (out : List B) → each_onto read front xs ≡ Some out → length out ≡ length front + length xs
 unfolding each_onto
 each_long read [] front out e = let k : front ≡ out = cc in rw (← k) (omega arith)
 each_long read (x ∷ xs) front out e =
@@ -110,7 +111,7 @@ relation_stated d t h =
     let gn = then_some name_in (get (codes "name") d) n.0 n.1 in
     let gc = then_some columns_in (get (codes "columns") d) c.0 c.1 in
     let cs = columns_stated gc.0 c.0 gc.2 in
-    rw (← o.2) (joined _ _ (name_stated gn.0 n.0 gn.2) (joined _ _ cs.0 (joined _ _ cs.1 (keys_stated (get (codes "keys") d) k.0 k.1))))
+    rw (← o.2) (and_from _ _ (name_stated gn.0 n.0 gn.2) (and_from _ _ cs.0 (and_from _ _ cs.1 (keys_stated (get (codes "keys") d) k.0 k.1))))
 
 -- every relation of a value of the form has a name, columns with names, and no empty key
 pub catalog_stated : (d : Data) (ts : List RelationText) → catalog_in d ≡ Some ts → list_all is_stated ts ≡ true

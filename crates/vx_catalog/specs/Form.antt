@@ -1,12 +1,10 @@
 -- The form of a catalog in JSON: a value of the form is read, with columns by their names, and any other is None.
-use Rattle.std.specs.Prelude.{◌≡◌, ℕ, List, [], ◌∷◌, Option, Some, None, option_map, option_and_then, bytes_eq, codes, Result, IfOk, if◌then◌else◌}
-use Rattle.std.specs.declared.alloc.AllocError.{AllocError}
+use Rattle.std.specs.Prelude.{ℕ, List, [], ◌∷◌, Option, Some, None, option_map, option_and_then, bytes_eq, codes, if◌then◌else◌}
 use Rattle.serde_json.specs.Data.{Data}
 use Rattle.serde_json.specs.Find.{get, as_str}
 use Rattle.vx_rows.specs.declared.value.ColType.{ColType}
 use Rattle.vx_rows.specs.declared.value.ColType.TheVariants as kind
-use Rattle.vx_json.specs.Look.{as_list, has_only}
-use Rattle.vx_catalog.specs.Walk.{each_onto}
+use Rattle.vx_json.specs.Look.{as_list, has_only, some_entry, name_in, each_onto}
 
 -- a column as the catalog's text has it
 pub record ColumnText : Type 0 where
@@ -20,18 +18,6 @@ pub record RelationText : Type 0 where
   pub keys : List (List (List ℕ))
   pub order : List (List ℕ)
 
--- what a call gave, unless memory ran out
-abbrev pub Reads : {X Y : Type 0} → (X → Y) → Result (Option X) AllocError → Option Y → Type 0
-Reads look result form = IfOk result (λ o. option_map look o ≡ form)
-
-abbrev pub not_empty : List ℕ → Option (List ℕ)
-not_empty [] = None
-not_empty (b ∷ bs) = Some (b ∷ bs)
-
--- a text that is not empty
-unfoldable pub name_in : Data → Option (List ℕ)
-name_in d = option_and_then not_empty (as_str d)
-
 unfoldable pub kind_in : Data → Option ColType
 kind_in d = option_and_then (λ s. if bytes_eq s (codes "int") then Some kind.Int else if bytes_eq s (codes "text") then Some kind.Text else None) (as_str d)
 
@@ -40,10 +26,6 @@ column_in d =
     if has_only (codes "name" ∷ codes "type" ∷ []) d
     then option_and_then (λ n. option_map (λ k. record { name = n; kind = k }) (option_and_then kind_in (get (codes "type") d))) (option_and_then name_in (get (codes "name") d))
     else None
-
-abbrev pub some_entry : List Data → Option (List Data)
-some_entry [] = None
-some_entry (d ∷ ds) = Some (d ∷ ds)
 
 -- a list with at least one entry
 abbrev pub entries : Data → Option (List Data)

@@ -1,5 +1,5 @@
 -- Going over a list: each element's result comes after those of the elements before it, and the first refusal ends it.
-use Rattle.std.specs.Prelude.{List, [], ◌∷◌, ◌++◌, Option, Some, option_and_then, Result, Ok, Err}
+use Rattle.std.specs.Prelude.{List, [], ◌∷◌, ◌++◌, Result, Ok, Err}
 
 infixl 10 ◌>>=◌
 abbrev pub ◌>>=◌ : {E A B : Type 0} → Result A E → (A → Result B E) → Result B E
@@ -10,8 +10,3 @@ abbrev pub ◌>>=◌ : {E A B : Type 0} → Result A E → (A → Result B E) �
 unfoldable pub walk_onto : {E A B : Type 0} → (List B → A → Result B E) → List B → List A → Result (List B) E
 walk_onto step front [] = Ok front
 walk_onto step front (x ∷ xs) = step front x >>= λ y. walk_onto step (front ++ y ∷ []) xs
-
--- what `read` makes of each of these elements, after those at the front, if it makes something of each
-unfoldable pub each_onto : {A B : Type 0} → (A → Option B) → List B → List A → Option (List B)
-each_onto read front [] = Some front
-each_onto read front (x ∷ xs) = option_and_then (λ y. each_onto read (front ++ y ∷ []) xs) (read x)

@@ -3,13 +3,13 @@
 ghost use Rattle.std.specs.Prelude.{◌≡◌, [], map, string_bytes, codes};
 ghost use Rattle.serde_json.specs.Find.{get};
 ghost use Rattle.serde_json.specs.View.{view};
-ghost use Rattle.vx_catalog.specs.Walk.{each_onto};
-ghost use Rattle.vx_catalog.specs.Form.{Reads, name_in, kind_in, column_in, key_in, columns_in, keys_or, order_or, relation_in, relations_in, catalog_in};
+ghost use Rattle.vx_json.specs.Look.{Reads, each_onto};
+ghost use Rattle.vx_catalog.specs.Form.{kind_in, column_in, key_in, columns_in, keys_or, order_or, relation_in, catalog_in};
 
 use serde_json::Value;
 use std::alloc::{AllocError, Global};
 use std::marker::Model;
-use vx_json::{has_only, items};
+use vx_json::{has_only, items, name_in, names_of};
 use vx_rows::ColType;
 
 /// A column as the catalog's text has it.
@@ -44,16 +44,6 @@ impl Model for RelationText {
     ghost Value = { RelationText };
 
     ghost view = { λ t. record { name = string_bytes t.name; columns = t.columns.items; keys = map (λ k. map string_bytes k.items) t.keys.items; order = map string_bytes t.order.items } };
-}
-
-#[tactic(auto, unfolding(crate::specs::Form::name_in))]
-fn name_in(alloc: Global, value: &Value) -> Result<Option<String>, AllocError>
-    ensures { Reads string_bytes result (name_in (view value.now)) }
-{
-    match value.as_str() {
-        Some(text) if !text.is_empty() => Ok(Some(String::from_str(alloc, text)?)),
-        _ => Ok(None),
-    }
 }
 
 #[tactic(auto, unfolding(crate::specs::Form::kind_in))]
@@ -92,7 +82,8 @@ fn column_in(alloc: Global, value: &Value) -> Result<Option<ColumnText>, AllocEr
     Ok(Some(ColumnText { name, kind }))
 }
 
-/// Each of the values, as a column.
+// Each of the values, as a column.
+#[tactic(auto, using(vx_json::proofs::EachFacts::each_steps))]
 fn columns_of(alloc: Global, values: &[Value]) -> Result<Option<Vec<ColumnText>>, AllocError>
     ensures { Reads (λ v. v.items) result (each_onto column_in [] (map view values.now)) }
 {
@@ -116,20 +107,6 @@ fn columns_in(alloc: Global, value: &Value) -> Result<Option<Vec<ColumnText>>, A
     }
 }
 
-/// Each of the values, as a name.
-fn names_of(alloc: Global, values: &[Value]) -> Result<Option<Vec<String>>, AllocError>
-    ensures { Reads (λ v. map string_bytes v.items) result (each_onto name_in [] (map view values.now)) }
-{
-    let mut names = Vec::new(alloc);
-    for value in values {
-        match name_in(alloc, value)? {
-            Some(name) => names.push(name)?,
-            None => return Ok(None),
-        }
-    }
-    Ok(Some(names))
-}
-
 #[tactic(auto, unfolding(crate::specs::Form::key_in))]
 fn key_in(alloc: Global, value: &Value) -> Result<Option<Vec<String>>, AllocError>
     ensures { Reads (λ v. map string_bytes v.items) result (key_in (view value.now)) }
@@ -140,7 +117,8 @@ fn key_in(alloc: Global, value: &Value) -> Result<Option<Vec<String>>, AllocErro
     }
 }
 
-/// Each of the values, as a key.
+// Each of the values, as a key.
+#[tactic(auto, using(vx_json::proofs::EachFacts::each_steps))]
 fn keys_of(alloc: Global, values: &[Value]) -> Result<Option<Vec<Vec<String>>>, AllocError>
     ensures { Reads (λ v. map (λ k. map string_bytes k.items) v.items) result (each_onto key_in [] (map view values.now)) }
 {
@@ -154,7 +132,7 @@ fn keys_of(alloc: Global, values: &[Value]) -> Result<Option<Vec<Vec<String>>>, 
     Ok(Some(keys))
 }
 
-/// The keys of a relation.
+// The keys of a relation.
 fn keys_in(alloc: Global, relation: &Value) -> Result<Option<Vec<Vec<String>>>, AllocError>
     ensures { Reads (λ v. map (λ k. map string_bytes k.items) v.items) result (keys_or (get (codes "keys") (view relation.now))) }
 {
@@ -167,7 +145,7 @@ fn keys_in(alloc: Global, relation: &Value) -> Result<Option<Vec<Vec<String>>>, 
     }
 }
 
-/// The order of a relation.
+// The order of a relation.
 fn order_in(alloc: Global, relation: &Value) -> Result<Option<Vec<String>>, AllocError>
     ensures { Reads (λ v. map string_bytes v.items) result (order_or (get (codes "order") (view relation.now))) }
 {
@@ -213,7 +191,8 @@ fn relation_in(alloc: Global, value: &Value) -> Result<Option<RelationText>, All
     }))
 }
 
-/// Each of the values, as a relation.
+// Each of the values, as a relation.
+#[tactic(auto, using(vx_json::proofs::EachFacts::each_steps))]
 fn relations_of(alloc: Global, values: &[Value]) -> Result<Option<Vec<RelationText>>, AllocError>
     ensures { Reads (λ v. v.items) result (each_onto relation_in [] (map view values.now)) }
 {

@@ -1,6 +1,6 @@
 //! A relation's rows from its text.
 
-ghost use Rattle.std.specs.Prelude.{◌≡◌, ◌≢◌, ◌⊎◌, ◌<◌, ◌≤◌, ◌-◌, length, true, false, Err, IfOk, IfSome, IsErrOf, IfErr, []};
+ghost use Rattle.std.specs.Prelude.{◌≡◌, ◌≢◌, ◌⊎◌, ◌<◌, ◌≤◌, ◌-◌, length, true, false, Err, IfOk, IfSome, IsErrOf, IfErr};
 ghost use Rattle.csv.specs.Reading.{source_of};
 ghost use Rattle.std.specs.Ordering.{is_lt};
 ghost use Rattle.vx_rows.specs.View.{row, AreColumns};
@@ -9,9 +9,9 @@ ghost use Rattle.vx_catalog.specs.Relation.{Meets};
 ghost use Rattle.vx_catalog.specs.Catalog.{relation_at, IsRelation};
 ghost use Rattle.vx_catalog.specs.Database.{IsLoaded};
 ghost use Rattle.vx_catalog.specs.Meaning.{LoadLaw};
-ghost use Rattle.vx_catalog.specs.Counting.{StaysKnown, Settles};
+ghost use Rattle.vx_catalog.specs.Counting.{StaysKnown};
 ghost use Rattle.vx_catalog.specs.Records.{IsPlain, rest_of};
-ghost use Rattle.vx_catalog.specs.Loading.{Gives, records_of, under_header, tested, keys_kept, order_kept, first_fall, load_of, max_rows};
+ghost use Rattle.vx_catalog.specs.Loading.{Gives, under_header, tested, keys_kept, order_kept, first_fall, load_of, max_rows};
 
 use crate::catalog::Catalog;
 use crate::counted::{Counted, Lent, Origin};

@@ -1,22 +1,11 @@
 -- What holds of an answer, if there is one.
 use Rattle.std.proofs.Common.{◌≡◌, List, [], ◌∷◌, ◌++◌, Bool, true, false, cond, ◌&&◌, Option, Some, None, option_map, option_and_then, Result, Ok, Err, refl, subst}
 use Rattle.std.specs.List.{list_all}
+pub use Rattle.vx_rows.proofs.Order.{and-left, and-right, and-both}
 use Rattle.serde_json.specs.Data.{Data}
 use Rattle.vx_document.specs.Fault.{Refusal, ◌>>=◌}
-use Rattle.vx_document.specs.Look.{each_onto, some_entry}
+use Rattle.vx_json.specs.Look.{each_onto, some_entry}
 use Rattle.vx_document.specs.Look.{is_some_list}
-
-pub and-left : (a b : Bool) → (a && b) ≡ true → a ≡ true
-and-left true b h = refl
-and-left false b h = h
-
-pub and-right : (a b : Bool) → (a && b) ≡ true → b ≡ true
-and-right true b h = h
-and-right false b h = cc
-
-pub and-both : (a b : Bool) → a ≡ true → b ≡ true → (a && b) ≡ true
-and-both true b h k = k
-and-both false b h k = h
 
 -- a test holds of the value, if there is one
 abbrev pub Within : {A : Type 0} → (A → Bool) → Option A → Type 0

@@ -1,4 +1,3 @@
-pub mod EachFacts
 pub mod NodeFacts
 pub mod NodeCounts
 pub mod TextFacts

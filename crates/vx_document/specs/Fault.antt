@@ -1,6 +1,6 @@
 -- Refusals of plans, and what it is that a call gives what a pure function gives.
-use Rattle.std.specs.Prelude.{◌≡◌, ℕ, List, Option, option_map, Result, Ok, Err, IfOk, string_bytes, ◌⊎◌}
-use Rattle.std.specs.declared.alloc.AllocError.{AllocError}
+use Rattle.std.specs.Prelude.{◌≡◌, ℕ, List, Result, Ok, Err, string_bytes, ◌⊎◌}
+pub use Rattle.vx_json.specs.Look.{Reads}
 use Rattle.vx_document.specs.declared.fault.PlanFault.{PlanFault}
 use Rattle.vx_document.specs.declared.fault.PlanFault.TheVariants as fault
 
@@ -47,7 +47,3 @@ Fails e answer = (e ≡ fault.NoMemory) ⊎ (answer ≡ Err (refusal_of e))
 abbrev pub Gives : {X Y : Type 0} → (X → Y) → Result X PlanFault → Result Y Refusal → Type 0
 Gives look (Ok x) answer = answer ≡ Ok (look x)
 Gives look (Err e) answer = Fails e answer
-
--- a call gives the value of a form, or that there is none, unless memory ran out
-abbrev pub Reads : {X Y : Type 0} → (X → Y) → Result (Option X) AllocError → Option Y → Type 0
-Reads look result form = IfOk result (λ o. option_map look o ≡ form)

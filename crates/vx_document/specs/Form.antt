@@ -3,8 +3,8 @@ use Rattle.std.specs.Prelude.{ℕ, List, [], ◌∷◌, Option, Some, None, opti
 use Rattle.serde_json.specs.Data.{Data}
 use Rattle.serde_json.specs.Find.{get, as_str}
 use Rattle.vx_document.specs.Test as comparison
-use Rattle.vx_json.specs.Look.{as_list, has_only}
-use Rattle.vx_document.specs.Look.{some_entry, name_in, name_at, text_at, value_in, each_in, some_in, or_default}
+use Rattle.vx_json.specs.Look.{as_list, has_only, some_entry, name_in}
+use Rattle.vx_document.specs.Look.{name_at, text_at, value_in, each_in, some_in, or_default}
 use Rattle.vx_document.specs.Document.{Name, PartForm, one, any, all, hash_part, range_part, ClaimForm, SideForm, column, constant, ConditionForm, OutputForm, FunctionForm, least, greatest, sum, count_rows, AggregateForm}
 
 infixl 10 ◌>>=◌

@@ -1,4 +1,4 @@
--- What reading assures of a plan: names and some lists are not empty.
+-- What reading assures of a plan: no name and no list that must have an entry is empty, and every constant and bound can be held.
 use Rattle.std.specs.Prelude.{Bool, true, ◌&&◌, ◌||◌, List, Option, Some, None}
 use Rattle.std.specs.List.{list_all}
 use Rattle.vx_rows.specs.Types.{is_held}

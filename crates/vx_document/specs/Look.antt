@@ -1,8 +1,8 @@
--- Looking into a JSON value: names, texts, constants, lists of values of one form, and members that may be left out.
-use Rattle.std.specs.Prelude.{ℕ, List, [], ◌∷◌, ◌++◌, Bool, true, false, Option, Some, None, option_map, option_and_then, if◌then◌else◌}
+-- Looking into a JSON value: names and texts in members, constants, lists of values of one form, and members that may be left out.
+use Rattle.std.specs.Prelude.{ℕ, List, [], ◌∷◌, Bool, true, false, Option, Some, None, option_map, option_and_then, if◌then◌else◌}
 use Rattle.serde_json.specs.Data.{Data}
 use Rattle.serde_json.specs.Find.{get, as_str, as_number, as_i64}
-use Rattle.vx_json.specs.Look.{as_list}
+use Rattle.vx_json.specs.Look.{as_list, some_entry, name_in, each_onto}
 use Rattle.vx_rows.specs.Values.{Val, num, text}
 use Rattle.vx_rows.specs.Types.{is_held}
 
@@ -10,15 +10,6 @@ use Rattle.vx_rows.specs.Types.{is_held}
 abbrev pub is_some_list : {X : Type 0} → List X → Bool
 is_some_list [] = false
 is_some_list (x ∷ xs) = true
-
--- a list with an entry
-abbrev pub some_entry : {X : Type 0} → List X → Option (List X)
-some_entry [] = None
-some_entry (x ∷ xs) = Some (x ∷ xs)
-
--- a text that is not empty
-unfoldable pub name_in : Data → Option (List ℕ)
-name_in d = option_and_then some_entry (as_str d)
 
 -- the name in a member
 unfoldable pub name_at : List ℕ → Data → Option (List ℕ)
@@ -38,11 +29,6 @@ if_held v = if is_held v then Some v else None
 -- a number of 64 signed bits, or a text
 unfoldable pub value_in : Data → Option Val
 value_in d = option_and_then if_held (value_or (option_map num (option_and_then as_i64 (as_number d))) (option_map text (as_str d)))
-
--- each of these values in turn, after those at the front
-unfoldable pub each_onto : {A : Type 0} → (Data → Option A) → List A → List Data → Option (List A)
-each_onto f front [] = Some front
-each_onto f front (d ∷ ds) = option_and_then (λ x. each_onto f (front ++ x ∷ []) ds) (f d)
 
 -- a list of values of a form
 abbrev pub each_in : {A : Type 0} → (Data → Option A) → Data → Option (List A)

@@ -1,37 +1,24 @@
 //! Lists of JSON values, each read in turn.
 
-ghost use Rattle.std.specs.Prelude.{◌≡◌, [], map, string_bytes};
+ghost use Rattle.std.specs.Prelude.{[], map, string_bytes};
 ghost use Rattle.serde_json.specs.View.{view};
 ghost use Rattle.vx_rows.specs.View.{val_of};
-ghost use Rattle.vx_document.specs.Fault.{Reads};
-ghost use Rattle.vx_document.specs.Look.{each_onto, name_in, value_in};
+ghost use Rattle.vx_json.specs.Look.{Reads, each_onto};
+ghost use Rattle.vx_document.specs.Look.{value_in};
 ghost use Rattle.vx_document.specs.Document.{condition_form, output_form, aggregate_form, pair_form, range_form};
 ghost use Rattle.vx_document.specs.Form.{names_in, condition_in, output_in, aggregate_in, pair_in};
 ghost use Rattle.vx_document.specs.Reading.{declared_in};
 
 use crate::forms::{aggregate_in, condition_in, names_in, output_in, pair_in};
-use crate::look::{name_in, value_in};
+use crate::look::value_in;
 use crate::plan::{NamedAggregate, NamedCondition, NamedOutput, NamedRange};
 use crate::reading::declared_in;
 use serde_json::Value as Json;
 use std::alloc::{AllocError, Global};
 use vx_rows::Value;
 
-/// Each of the values, as a name.
-pub fn names_of(alloc: Global, values: &[Json]) -> Result<Option<Vec<String>>, AllocError>
-    ensures { Reads (λ v. map string_bytes v.items) result (each_onto name_in [] (map view values.now)) }
-{
-    let mut found = Vec::new(alloc);
-    for value in values {
-        match name_in(alloc, value)? {
-            Some(name) => found.push(name)?,
-            None => return Ok(None),
-        }
-    }
-    Ok(Some(found))
-}
-
 /// Each of the values, as a list of names.
+#[tactic(auto, using(vx_json::proofs::EachFacts::each_steps))]
 pub fn keys_of(alloc: Global, values: &[Json]) -> Result<Option<Vec<Vec<String>>>, AllocError>
     ensures { Reads (λ v. map (λ k. map string_bytes k.items) v.items) result (each_onto names_in [] (map view values.now)) }
 {
@@ -46,6 +33,7 @@ pub fn keys_of(alloc: Global, values: &[Json]) -> Result<Option<Vec<Vec<String>>
 }
 
 /// Each of the values, as a condition.
+#[tactic(auto, using(vx_json::proofs::EachFacts::each_steps))]
 pub fn conditions_of(
     alloc: Global,
     values: &[Json],
@@ -63,6 +51,7 @@ pub fn conditions_of(
 }
 
 /// Each of the values, as a kept column.
+#[tactic(auto, using(vx_json::proofs::EachFacts::each_steps))]
 pub fn outputs_of(alloc: Global, values: &[Json]) -> Result<Option<Vec<NamedOutput>>, AllocError>
     ensures { Reads (λ v. map output_form v.items) result (each_onto output_in [] (map view values.now)) }
 {
@@ -77,6 +66,7 @@ pub fn outputs_of(alloc: Global, values: &[Json]) -> Result<Option<Vec<NamedOutp
 }
 
 /// Each of the values, as an aggregate.
+#[tactic(auto, using(vx_json::proofs::EachFacts::each_steps))]
 pub fn aggregates_of(
     alloc: Global,
     values: &[Json],
@@ -94,6 +84,7 @@ pub fn aggregates_of(
 }
 
 /// Each of the values, as a pair of names.
+#[tactic(auto, using(vx_json::proofs::EachFacts::each_steps))]
 pub fn pairs_of(alloc: Global, values: &[Json]) -> Result<Option<Vec<(String, String)>>, AllocError>
     ensures { Reads (λ v. map pair_form v.items) result (each_onto pair_in [] (map view values.now)) }
 {
@@ -108,6 +99,7 @@ pub fn pairs_of(alloc: Global, values: &[Json]) -> Result<Option<Vec<(String, St
 }
 
 /// Each of the values, as a value.
+#[tactic(auto, using(vx_json::proofs::EachFacts::each_steps))]
 pub fn values_of(alloc: Global, values: &[Json]) -> Result<Option<Vec<Value>>, AllocError>
     ensures { Reads (λ v. map val_of v.items) result (each_onto value_in [] (map view values.now)) }
 {
@@ -122,6 +114,7 @@ pub fn values_of(alloc: Global, values: &[Json]) -> Result<Option<Vec<Value>>, A
 }
 
 /// Each of the values, as a range.
+#[tactic(auto, using(vx_json::proofs::EachFacts::each_steps))]
 pub fn ranges_of(alloc: Global, values: &[Json]) -> Result<Option<Vec<NamedRange>>, AllocError>
     ensures { Reads (λ v. map range_form v.items) result (each_onto declared_in [] (map view values.now)) }
 {

@@ -1,26 +1,16 @@
-//! Looking into a JSON value: names, texts and constants.
+//! Looking into a JSON value: names and texts in members, and constants.
 
 ghost use Rattle.std.specs.Prelude.{◌≡◌, option_map, string_bytes};
 ghost use Rattle.serde_json.specs.Find.{get};
 ghost use Rattle.serde_json.specs.View.{view};
 ghost use Rattle.vx_rows.specs.View.{val_of};
-ghost use Rattle.vx_document.specs.Fault.{Reads};
-ghost use Rattle.vx_document.specs.Look.{name_in, name_at, text_at, value_in};
+ghost use Rattle.vx_json.specs.Look.{Reads};
+ghost use Rattle.vx_document.specs.Look.{name_at, text_at, value_in};
 
 use serde_json::Value as Json;
 use std::alloc::{AllocError, Global};
+use vx_json::name_in;
 use vx_rows::{Cell, Value};
-
-/// A text that is not empty.
-#[tactic(auto, unfolding(crate::specs::Look::name_in))]
-pub fn name_in(alloc: Global, value: &Json) -> Result<Option<String>, AllocError>
-    ensures { Reads string_bytes result (name_in (view value.now)) }
-{
-    match value.as_str() {
-        Some(text) if !text.is_empty() => Ok(Some(String::from_str(alloc, text)?)),
-        _ => Ok(None),
-    }
-}
 
 /// The name in a member.
 #[tactic(auto, unfolding(crate::specs::Look::name_at))]

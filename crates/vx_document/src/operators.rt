@@ -3,7 +3,7 @@
 ghost use Rattle.std.specs.Prelude.{◌≡◌, [], map, option_map, option_and_then, string_bytes, codes};
 ghost use Rattle.serde_json.specs.Find.{get, as_str};
 ghost use Rattle.serde_json.specs.View.{view};
-ghost use Rattle.vx_document.specs.Fault.{Reads};
+ghost use Rattle.vx_json.specs.Look.{Reads};
 ghost use Rattle.vx_document.specs.Look.{or_default, some_in, each_in};
 ghost use Rattle.vx_document.specs.Document.{condition_form, output_form, aggregate_form, pair_form, scan_form, unary_form, binary_form, kind_form};
 ghost use Rattle.vx_document.specs.Form.{names_in, some_names_in, condition_in, output_in, aggregate_in, pair_in};

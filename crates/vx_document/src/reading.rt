@@ -3,7 +3,8 @@
 ghost use Rattle.std.specs.Prelude.{◌≡◌, false, ◌+◌, ◌++◌, ◌≤◌, [], map, option_map, option_and_then, string_bytes, codes, IfOk};
 ghost use Rattle.serde_json.specs.Find.{get, as_bool};
 ghost use Rattle.serde_json.specs.View.{view};
-ghost use Rattle.vx_document.specs.Fault.{Reads, Gives};
+ghost use Rattle.vx_json.specs.Look.{Reads};
+ghost use Rattle.vx_document.specs.Fault.{Gives};
 ghost use Rattle.vx_document.specs.Look.{or_default, each_in, value_in};
 ghost use Rattle.vx_rows.specs.View.{val_of};
 ghost use Rattle.vx_document.specs.Document.{tree_of, range_form, tree_nodes};

@@ -1,8 +1,9 @@
--- Looking into a JSON value: the items of an array, and objects with no members but the stated ones.
-use Rattle.std.specs.Prelude.{ℕ, List, [], ◌∷◌, Bool, false, Option, option_map, bytes_eq}
+-- Looking into a JSON value: the items of an array, objects with no members but the stated ones, names, and lists of values of one form.
+use Rattle.std.specs.Prelude.{◌≡◌, ℕ, List, [], ◌∷◌, ◌++◌, Bool, false, Option, Some, None, option_map, option_and_then, bytes_eq, Result, IfOk}
 use Rattle.std.specs.List.{list_all, list_any}
 use Rattle.serde_json.specs.Data.{Data, null, boolean, number, string, array, object, Items, no_items, item, Members, no_members, member}
-use Rattle.serde_json.specs.Find.{as_array}
+use Rattle.serde_json.specs.Find.{as_array, as_str}
+use Rattle.std.specs.declared.alloc.AllocError.{AllocError}
 
 -- items as a list
 abbrev pub list_of : Items → List Data
@@ -28,3 +29,21 @@ has_only names (number n) = false
 has_only names (string s) = false
 has_only names (array ds) = false
 has_only names (object ms) = list_all (is_among names) (names_of ms)
+
+-- a call gives the value of a form, or that there is none, unless memory ran out
+abbrev pub Reads : {X Y : Type 0} → (X → Y) → Result (Option X) AllocError → Option Y → Type 0
+Reads look result form = IfOk result (λ o. option_map look o ≡ form)
+
+-- a list with an entry
+abbrev pub some_entry : {X : Type 0} → List X → Option (List X)
+some_entry [] = None
+some_entry (x ∷ xs) = Some (x ∷ xs)
+
+-- a text that is not empty
+unfoldable pub name_in : Data → Option (List ℕ)
+name_in d = option_and_then some_entry (as_str d)
+
+-- each of these values in turn, after those at the front
+unfoldable pub each_onto : {A : Type 0} → (Data → Option A) → List A → List Data → Option (List A)
+each_onto f front [] = Some front
+each_onto f front (d ∷ ds) = option_and_then (λ x. each_onto f (front ++ x ∷ []) ds) (f d)

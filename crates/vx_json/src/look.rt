@@ -1,12 +1,13 @@
 //! Looking into a JSON value.
 
-ghost use Rattle.std.specs.Prelude.{◌≡◌, map, option_map, string_bytes};
+ghost use Rattle.std.specs.Prelude.{◌≡◌, [], map, option_map, string_bytes};
 ghost use Rattle.std.specs.List.{list_all};
 ghost use Rattle.std.specs.BTreeMap.{keys};
 ghost use Rattle.serde_json.specs.View.{view};
-ghost use Rattle.vx_json.specs.Look.{as_list, is_among, has_only};
+ghost use Rattle.vx_json.specs.Look.{as_list, is_among, has_only, Reads, name_in, each_onto};
 
 use serde_json::{Map, Value};
+use std::alloc::{AllocError, Global};
 
 /// The items of an array.
 pub fn items(value: &Value) -> Option<&[Value]>
@@ -43,4 +44,30 @@ pub fn has_only(value: &Value, names: &[&str]) -> bool
         Some(members) => keys_are_among(members, names),
         None => false,
     }
+}
+
+/// A text that is not empty.
+#[tactic(auto, unfolding(crate::specs::Look::name_in))]
+pub fn name_in(alloc: Global, value: &Value) -> Result<Option<String>, AllocError>
+    ensures { Reads string_bytes result (name_in (view value.now)) }
+{
+    match value.as_str() {
+        Some(text) if !text.is_empty() => Ok(Some(String::from_str(alloc, text)?)),
+        _ => Ok(None),
+    }
+}
+
+/// Each of the values, as a name.
+#[tactic(auto, using(crate::proofs::EachFacts::each_steps))]
+pub fn names_of(alloc: Global, values: &[Value]) -> Result<Option<Vec<String>>, AllocError>
+    ensures { Reads (λ v. map string_bytes v.items) result (each_onto name_in [] (map view values.now)) }
+{
+    let mut found = Vec::new(alloc);
+    for value in values {
+        match name_in(alloc, value)? {
+            Some(name) => found.push(name)?,
+            None => return Ok(None),
+        }
+    }
+    Ok(Some(found))
 }

@@ -1,6 +1,6 @@
 use Rattle.std.proofs.Common.{◌≡◌, [], map, drop, string_bytes}
 use Rattle.serde_json.specs.View.{view}
-use Rattle.vx_catalog.specs.Walk.{each_onto}
+use Rattle.vx_json.specs.Look.{each_onto}
 use Rattle.vx_catalog.specs.Form.{key_in}
 use Rattle.vx_catalog.proofs.form.keys_of.Given as goal
 

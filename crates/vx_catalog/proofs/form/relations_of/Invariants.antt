@@ -1,6 +1,6 @@
 use Rattle.std.proofs.Common.{◌≡◌, [], map, drop}
 use Rattle.serde_json.specs.View.{view}
-use Rattle.vx_catalog.specs.Walk.{each_onto}
+use Rattle.vx_json.specs.Look.{each_onto}
 use Rattle.vx_catalog.specs.Form.{relation_in}
 use Rattle.vx_catalog.proofs.form.relations_of.Given as goal
 

@@ -1,6 +1,6 @@
 use Rattle.std.proofs.Common.{◌≡◌, [], map, drop, string_bytes}
 use Rattle.serde_json.specs.View.{view}
-use Rattle.vx_document.specs.Look.{each_onto}
+use Rattle.vx_json.specs.Look.{each_onto}
 use Rattle.vx_document.specs.Form.{names_in}
 use Rattle.vx_document.proofs.lists.keys_of.Given as goal
 

@@ -1,6 +1,6 @@
 use Rattle.std.proofs.Common.{◌≡◌, [], map, drop}
 use Rattle.serde_json.specs.View.{view}
-use Rattle.vx_document.specs.Look.{each_onto}
+use Rattle.vx_json.specs.Look.{each_onto}
 use Rattle.vx_document.specs.Document.{output_form}
 use Rattle.vx_document.specs.Form.{output_in}
 use Rattle.vx_document.proofs.lists.outputs_of.Given as goal
