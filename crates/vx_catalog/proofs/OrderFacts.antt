@@ -1,6 +1,6 @@
 -- Keys and order of rows, one after another, and what is shown when none is broken.
 use Rattle.std.proofs.Common.{◌≡◌, ℕ, zero, suc, ◌+◌, ◌<◌, ◌≤◌, List, [], ◌∷◌, Bool, true, false, cond, Option, Some, None, Result, Ok, Err, refl, sym, ap, ◌∙◌, length, get_or, drop, arith, add-one, drop-cons, nat_lt, is_lt}
-use Rattle.std.specs.List.{list_all, AllByRecursion}
+use Rattle.std.specs.List.{AllByRecursion}
 use Rattle.vx_rows.specs.Types.{Fits}
 use Rattle.std.proofs.lemmas.List.{drop_all}
 use Rattle.std.proofs.lemmas.Bool.Decides.{Decides-ltb}
@@ -12,11 +12,10 @@ use Rattle.vx_rows.specs.View.{AreColumns}
 use Rattle.vx_rows.proofs.KeyFacts.{key-law}
 use Rattle.vx_rows.proofs.Order.{NoFall, sorted_from}
 use Rattle.vx_catalog.specs.Relation.{Relation, KeysHold, Meets}
-use Rattle.vx_catalog.specs.Catalog.{all_below, is_key_of}
+use Rattle.vx_catalog.specs.Catalog.{all_below}
 use Rattle.vx_catalog.specs.declared.fault.LoadFault.{LoadFault}
 use Rattle.vx_catalog.specs.declared.fault.LoadFault.TheVariants as fault
 use Rattle.vx_catalog.specs.Loading.{no_clash, keys_kept, fall_from, first_fall, no_fall, order_kept}
-use Rattle.std.proofs.lemmas.Bool.{and_parts}
 
 -- ---- the order
 
@@ -94,11 +93,6 @@ keys_kept_is (cols ∷ keys) k rows out h = by_clash (first_clash cols rows) ref
 
 pub columns_below : (w : ℕ) (cols : List ℕ) → all_below w cols ≡ true → AreColumns w cols
 columns_below w cols h k d l = (Decides-ltb (get_or cols k d) w).0 (AllPass-from_list_all (λ c. nat_lt c w) cols h k d l)
-
-pub key_columns : (w : ℕ) (keys : List (List ℕ)) (k : ℕ) → list_all (is_key_of w) keys ≡ true → k < length keys → AreColumns w (get_or keys k [])
-key_columns w [] k h l = absurd (omega arith)
-key_columns w (x ∷ xs) zero h l = columns_below w x (and_parts (all_below w x) _ (and_parts (nat_lt 0 (length x)) _ (and_parts (is_key_of w x) _ h).0).1).0
-key_columns w (x ∷ xs) (suc k) h l = key_columns w xs k (and_parts (is_key_of w x) _ h).1 (omega arith)
 
 -- ---- what is accepted meets the relation
 

@@ -40,7 +40,7 @@ impl Model for Catalog {
     ghost invariant = { λ c. IsCatalog c.relations.items };
 }
 
-/// Copies of relations.
+// Copies of relations.
 fn copies(alloc: Global, relations: &[Relation]) -> Result<Vec<Relation>, AllocError>
     ensures { IfOk result (λ v. v.items ≡ relations.now) }
 {
@@ -51,7 +51,7 @@ fn copies(alloc: Global, relations: &[Relation]) -> Result<Vec<Relation>, AllocE
     Ok(copies)
 }
 
-/// Whether these are the same relations in the same order.
+// Whether these are the same relations in the same order.
 fn are_same(relations: &[Relation], others: &[Relation]) -> bool
     ensures { IsTrue result ↔ (relations.now ≡ others.now) }
 {

@@ -13,7 +13,7 @@ use std::io::{ErrorKind, Read};
 use std::marker::{Brand, PhantomData};
 use vx_rows::{ByteIn, Rows};
 
-/// The most bytes that a text may have.
+// The most bytes that a text may have.
 const MAX_BYTES: usize = 1 << 40;
 
 /// Names a port, and what was known of it when its counting began. A type names them, since whoever reads through a
@@ -79,8 +79,8 @@ impl<'a, R: ByteIn, T: Origin> Counted<'a, R, T> {
         Lent { port: self.port }
     }
 
-    /// Why a text is not read to its end: it is too large, or else memory ran out. That the port failed goes before
-    /// both, and is asked of the port.
+    // Why a text is not read to its end: it is too large, or else memory ran out. That the port failed goes before
+    // both, and is asked of the port.
     fn refusal(&self) -> LoadFault
         ensures { (result ≡ LoadFault.NoMemory) ⊎ ((result ≡ LoadFault.TooLarge) × IsOver max_bytes T.text) }
     {
@@ -91,7 +91,7 @@ impl<'a, R: ByteIn, T: Origin> Counted<'a, R, T> {
         }
     }
 
-    /// Takes all bytes that are left, where they are not too many, and says whether it came to their end.
+    // Takes all bytes that are left, where they are not too many, and says whether it came to their end.
     fn drain(&mut self) -> bool
         ensures known { StaysKnown (left_of T.text (R.remaining self.old.port.now) self.old.taken self.old.is_at_end) (left_of T.text (R.remaining self.new.port.now) self.new.taken self.new.is_at_end) }
         ensures end { result ≡ true → IsAtEnd (left_of T.text (R.remaining self.new.port.now) self.new.taken self.new.is_at_end) }

@@ -12,7 +12,7 @@ use std::alloc::{AllocError, Global};
 use std::marker::Model;
 use vx_rows::Rows;
 
-/// No rows for each relation of a catalog.
+// No rows for each relation of a catalog.
 fn empty_tables(alloc: Global, catalog: &Catalog) -> Result<Vec<Rows>, AllocError>
     ensures database { IfOk result (λ v. IsDatabase catalog.now v.items) }
     ensures empty { IfOk result (λ v. map (λ t. t.rows) v.items ≡ map (λ _. []) catalog.now) }

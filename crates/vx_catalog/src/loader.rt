@@ -24,7 +24,7 @@ use std::io::Read;
 use std::marker::{Brand, Model};
 use vx_rows::{ByteIn, Rows, compare_on};
 
-/// The rows under a text's header. Want of memory is told where the source underneath failed too.
+// The rows under a text's header. Want of memory is told where the source underneath failed too.
 fn read_text<S: Read>(
     alloc: Global,
     relation: &Relation,
@@ -47,7 +47,7 @@ fn read_text<S: Read>(
     read_rows(alloc, relation.types(), reader)
 }
 
-/// The first row that is smaller than the one before it.
+// The first row that is smaller than the one before it.
 #[tactic(auto, unfolding(crate::specs::Loading::first_fall))]
 fn first_fall(rows: &Rows, order: &[usize]) -> Option<usize>
     requires { AreColumns (length rows.now.types) order.now }
@@ -61,7 +61,7 @@ fn first_fall(rows: &Rows, order: &[usize]) -> Option<usize>
     None
 }
 
-/// Tests that no row is smaller than the one before it.
+// Tests that no row is smaller than the one before it.
 fn test_order(rows: &Rows, order: &[usize]) -> Result<(), LoadFault>
     requires { AreColumns (length rows.now.types) order.now }
     ensures { Gives (λ _. rows.now.rows) result (order_kept order.now rows.now.rows) }
@@ -72,7 +72,7 @@ fn test_order(rows: &Rows, order: &[usize]) -> Result<(), LoadFault>
     }
 }
 
-/// Tests the keys of a relation in declared order.
+// Tests the keys of a relation in declared order.
 fn test_keys(alloc: Global, rows: &Rows, relation: &Relation) -> Result<(), LoadFault>
     requires types { length rows.now.types ≡ length relation.now.names }
     requires relation { IsRelation relation.now }
@@ -88,7 +88,7 @@ fn test_keys(alloc: Global, rows: &Rows, relation: &Relation) -> Result<(), Load
     Ok(())
 }
 
-/// The rows of a relation, if they meet its keys and then its order.
+// The rows of a relation, if they meet its keys and then its order.
 fn test_rows(alloc: Global, relation: &Relation, rows: Rows) -> Result<Rows, LoadFault>
     requires relation { IsRelation relation.now }
     requires types { rows.types ≡ relation.now.types }
@@ -102,9 +102,9 @@ fn test_rows(alloc: Global, relation: &Relation, rows: Rows) -> Result<Rows, Loa
     Ok(rows)
 }
 
-/// Loads the rows of a relation from a port into `loaded`, and gives the port back: else nothing would be known of it.
-/// All bytes of the port are taken before anything but want of memory is told. That the port failed goes before whatever
-/// was loaded, and is asked of the port.
+// Loads the rows of a relation from a port into `loaded`, and gives the port back: else nothing would be known of it.
+// All bytes of the port are taken before anything but want of memory is told. That the port failed goes before whatever
+// was loaded, and is asked of the port.
 fn load_text<'p, R: ByteIn, T: Origin>(
     alloc: Global,
     relation: &Relation,

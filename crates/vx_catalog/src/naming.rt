@@ -11,7 +11,7 @@ use crate::relation::{Relation, find_name, has_name};
 use std::alloc::{AllocError, Global};
 use vx_rows::ColType;
 
-/// A copy of a name that no earlier one is.
+// A copy of a name that no earlier one is.
 #[tactic(auto, unfolding(crate::specs::Naming::name_once))]
 fn name_once(alloc: Global, front: &[String], name: &str) -> Result<String, CatalogFault>
     ensures { Gives string_bytes result (name_once (map string_bytes front.now) name.now) }
@@ -23,7 +23,7 @@ fn name_once(alloc: Global, front: &[String], name: &str) -> Result<String, Cata
     Ok(copy)
 }
 
-/// The names of columns.
+// The names of columns.
 fn names_of(alloc: Global, columns: &[ColumnText]) -> Result<Vec<String>, CatalogFault>
     ensures { Gives (λ v. map string_bytes v.items) result (names_of (map (λ c. c.name) columns.now)) }
 {
@@ -34,7 +34,7 @@ fn names_of(alloc: Global, columns: &[ColumnText]) -> Result<Vec<String>, Catalo
     Ok(names)
 }
 
-/// The types of columns.
+// The types of columns.
 fn types_of(alloc: Global, columns: &[ColumnText]) -> Result<Vec<ColType>, AllocError>
     ensures { IfOk result (λ v. v.items ≡ map (λ c. c.kind) columns.now) }
 {
@@ -45,7 +45,7 @@ fn types_of(alloc: Global, columns: &[ColumnText]) -> Result<Vec<ColType>, Alloc
     Ok(types)
 }
 
-/// The column of a name, which no earlier one is.
+// The column of a name, which no earlier one is.
 #[tactic(auto, unfolding(crate::specs::Naming::column_of))]
 fn column_of(
     alloc: Global,
@@ -68,7 +68,7 @@ fn column_of(
     Ok(column)
 }
 
-/// The columns of these names.
+// The columns of these names.
 fn columns_of(alloc: Global, names: &[String], list: &[String]) -> Result<Vec<usize>, CatalogFault>
     ensures { Gives (λ v. v.items) result (columns_of (map string_bytes names.now) (map string_bytes list.now)) }
 {
@@ -79,7 +79,7 @@ fn columns_of(alloc: Global, names: &[String], list: &[String]) -> Result<Vec<us
     Ok(columns)
 }
 
-/// The columns of each key.
+// The columns of each key.
 fn keys_of(
     alloc: Global,
     keys: &[Vec<String>],
@@ -94,7 +94,7 @@ fn keys_of(
     Ok(found)
 }
 
-/// A relation with its columns by position.
+// A relation with its columns by position.
 #[tactic(auto, unfolding(crate::specs::Naming::relation_of))]
 fn relation_of(alloc: Global, text: &RelationText) -> Result<Relation, CatalogFault>
     ensures { Gives (λ r. r) result (relation_of text.now) }
@@ -113,7 +113,7 @@ fn is_taken(front: &[Relation], name: &str) -> bool
     front.iter().any(|r| r.name() == name)
 }
 
-/// A relation whose name no earlier one has.
+// A relation whose name no earlier one has.
 #[tactic(auto, unfolding(crate::specs::Naming::relation_after))]
 fn relation_after(
     alloc: Global,

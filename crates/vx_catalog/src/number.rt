@@ -4,10 +4,10 @@ ghost use Rattle.std.specs.Prelude.{◌≡◌, ◌<◌, ◌≤◌, ◌^◌, Some
 ghost use Rattle.std.specs.Str.Parse.{IsNumeral, digits_value};
 ghost use Rattle.vx_catalog.specs.Number.{number_of};
 
-/// The greatest number that another digit may follow: ten times a greater one is over 2^63.
+// The greatest number that another digit may follow: ten times a greater one is over 2^63.
 const MAX_FRONT: u64 = (1 << 63) / 10;
 
-/// The value of one or more digits, where it is 2^63 at most.
+// The value of one or more digits, where it is 2^63 at most.
 fn magnitude(digits: &[u8]) -> Option<u64>
     ensures { SomeIff result (IsNumeral 10 digits.now × (digits_value 10 digits.now ≤ 2 ^ 63)) (digits_value 10 digits.now) }
 {
@@ -24,7 +24,7 @@ fn magnitude(digits: &[u8]) -> Option<u64>
     if value <= 1 << 63 { Some(value) } else { None }
 }
 
-/// The number that digits behind no sign or a plus write, where it has 64 signed bits.
+// The number that digits behind no sign or a plus write, where it has 64 signed bits.
 fn positive(digits: &[u8]) -> Option<i64>
     ensures { SomeIff result (IsNumeral 10 digits.now × (digits_value 10 digits.now < 2 ^ 63)) (pos (digits_value 10 digits.now)) }
 {
@@ -32,7 +32,7 @@ fn positive(digits: &[u8]) -> Option<i64>
     i64::try_from(value).ok()
 }
 
-/// The number that digits behind a minus write, where it has 64 signed bits.
+// The number that digits behind a minus write, where it has 64 signed bits.
 fn negative(digits: &[u8]) -> Option<i64>
     ensures { SomeIff result (IsNumeral 10 digits.now × (digits_value 10 digits.now ≤ 2 ^ 63)) (neg_ℤ (pos (digits_value 10 digits.now))) }
 {

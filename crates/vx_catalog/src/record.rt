@@ -18,10 +18,10 @@ use std::io::Read;
 use std::str;
 use vx_rows::{Cell, ColType, OpenRows, Rows};
 
-/// The most rows that a relation may have.
+// The most rows that a relation may have.
 const MAX_ROWS: usize = 100_000_000;
 
-/// The value of a field, in a column of this type.
+// The value of a field, in a column of this type.
 #[tactic(auto, unfolding(crate::specs::Loading::value_of))]
 fn value_of<'r>(
     row: usize,
@@ -43,7 +43,7 @@ fn value_of<'r>(
     }
 }
 
-/// The value of a row in a column.
+// The value of a row in a column.
 fn value_in<'r>(
     row: usize,
     line: &'r ByteRecord,
@@ -58,7 +58,7 @@ fn value_in<'r>(
     }
 }
 
-/// Makes the values of a record the front, column by column.
+// Makes the values of a record the front, column by column.
 fn push_values(row: usize, rows: &mut OpenRows, line: &ByteRecord) -> Result<(), LoadFault>
     requires { rows.old.front ≡ [] }
     ensures types { rows.new.types ≡ rows.old.types }
@@ -74,7 +74,7 @@ fn push_values(row: usize, rows: &mut OpenRows, line: &ByteRecord) -> Result<(),
     Ok(())
 }
 
-/// Makes the row with this number the front.
+// Makes the row with this number the front.
 #[tactic(auto, unfolding(crate::specs::Loading::row_of))]
 fn push_row(row: usize, rows: &mut OpenRows, line: &ByteRecord) -> Result<(), LoadFault>
     requires { rows.old.front ≡ [] }
@@ -89,7 +89,7 @@ fn push_row(row: usize, rows: &mut OpenRows, line: &ByteRecord) -> Result<(), Lo
     push_values(row, rows, line)
 }
 
-/// Adds the row of a record. Its number is that of the rows so far.
+// Adds the row of a record. Its number is that of the rows so far.
 #[tactic(auto, unfolding(crate::specs::Loading::row_added))]
 fn push_record(rows: &mut OpenRows, line: &ByteRecord) -> Result<(), LoadFault>
     requires { rows.old.front ≡ [] }
@@ -146,7 +146,7 @@ pub fn read_rows<S: Read>(
     unreachable!()
 }
 
-/// A field without a byte order mark at its front.
+// A field without a byte order mark at its front.
 #[tactic(auto, unfolding(csv::specs::Reading::strip_bom))]
 fn without_mark(field: &[u8]) -> &[u8]
     ensures { result.now ≡ strip_bom field.now }

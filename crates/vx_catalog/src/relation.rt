@@ -34,14 +34,14 @@ pub fn has_name(names: &[String], name: &str) -> bool
     is_any(names, name)
 }
 
-/// Whether these are the same names in the same order.
+// Whether these are the same names in the same order.
 fn are_same_names(names: &[String], others: &[String]) -> bool
     ensures { IsTrue result ↔ (map string_bytes names.now ≡ map string_bytes others.now) }
 {
     names == others
 }
 
-/// Whether these are the same lists of columns in the same order.
+// Whether these are the same lists of columns in the same order.
 fn are_same_keys(keys: &[Vec<usize>], others: &[Vec<usize>]) -> bool
     ensures { IsTrue result ↔ (map (λ k. k.items) keys.now ≡ map (λ k. k.items) others.now) }
 {

@@ -14,7 +14,7 @@ use itoa::Buffer;
 use std::alloc::{AllocError, Global};
 use vx_rows::{ByteOut, Cell, Rows, write_all};
 
-/// Adds the text of a value to a record.
+// Adds the text of a value to a record.
 fn push_cell(line: &mut StringRecord, cell: Cell<'_>) -> Result<(), AllocError>
     ensures { OnOk result (fields_of line.new ≡ fields_of line.old ++ field_text (cell_val cell.entry) ∷ []) }
 {
@@ -27,7 +27,7 @@ fn push_cell(line: &mut StringRecord, cell: Cell<'_>) -> Result<(), AllocError>
     }
 }
 
-/// Makes a record of a row.
+// Makes a record of a row.
 fn fill_line(line: &mut StringRecord, rows: &Rows, i: usize) -> Result<(), AllocError>
     requires { i < length rows.now.rows }
     ensures { OnOk result (fields_of line.new ≡ map field_text (row rows.now i)) }
@@ -40,7 +40,7 @@ fn fill_line(line: &mut StringRecord, rows: &Rows, i: usize) -> Result<(), Alloc
     Ok(())
 }
 
-/// The names as a record.
+// The names as a record.
 fn header_of(alloc: Global, names: &[String]) -> Result<StringRecord, AllocError>
     ensures { IfOk result (λ line. fields_of line ≡ map string_bytes names.now) }
 {
@@ -51,7 +51,7 @@ fn header_of(alloc: Global, names: &[String]) -> Result<StringRecord, AllocError
     Ok(line)
 }
 
-/// Writes a line behind others.
+// Writes a line behind others.
 fn write_line(text: &mut Writer<Vec<u8>>, line: &StringRecord) -> Result<(), WriteFault>
     ensures text { (so_far : List ℕ) → StandsAt text.old so_far → OnOk result (StandsAt text.new (so_far ++ row_text default_writer (fields_of line.now))) }
     ensures err { IsErrOf result WriteFault.WriteFailed → ⊥ }
@@ -62,7 +62,7 @@ fn write_line(text: &mut Writer<Vec<u8>>, line: &StringRecord) -> Result<(), Wri
     }
 }
 
-/// The text of rows under a header with these names.
+// The text of rows under a header with these names.
 fn text_of(alloc: Global, names: &[String], rows: &Rows) -> Result<Vec<u8>, WriteFault>
     ensures text { IfOk result (λ v. v.items ≡ csv_text (map string_bytes names.now) rows.now.rows) }
     ensures err { IsErrOf result WriteFault.WriteFailed → ⊥ }

@@ -15,7 +15,7 @@ use Rattle.vx_document.specs.Form.{names_in, some_names_in, hash_part_in, range_
 use Rattle.vx_document.specs.Formed.{are_names, are_some_names, is_range_form, is_head_form, is_part_form, is_claim_form, is_side_form, is_condition_form, is_new_name, is_output_form, is_function_form, is_aggregate_form, is_scan_form, is_unary_form, is_pair_form, is_binary_form, is_kind_form, is_tree_form}
 use Rattle.vx_document.specs.Operators.{own_scan, own_unary, own_binary, own_exchange, own_in, scan_in, scan_own, select_in, outputs_in, sort_in, group_in, unary_in, unary_own, join_in, union_in, hash_in, range_in, sized_in, gather_in, kind_in, exchange_own}
 use Rattle.vx_document.specs.Reading.{node_in, declared_in, head_of, head_in, document_in}
-use Rattle.vx_document.specs.Written.{list_json, names_json, value_json, with_some, with_text, range_json, part_json, with_part, claim_members, with_object, with_claim, test_json, with_side, condition_json, output_json, with_function, aggregate_json, pair_json, with_scan, with_unary, with_binary, with_kind, scan_json, unary_json, binary_json, exchange_json, node_json, with_total, document_json}
+use Rattle.vx_document.specs.Written.{list_json, names_json, value_json, with_some, with_text, range_json, part_json, with_part, claim_members, with_object, with_claim, with_side, condition_json, output_json, with_function, aggregate_json, pair_json, with_scan, with_unary, with_binary, with_kind, scan_json, unary_json, binary_json, exchange_json, node_json, with_total, document_json}
 use Rattle.vx_document.proofs.Holds.{and-left, and-right}
 use Rattle.vx_json.proofs.LookFacts.{list_of-items_of}
 use Rattle.vx_document.proofs.NodeFacts.{node_step}
@@ -129,7 +129,7 @@ by_claim P without with c h = go (claim_members c) (claim-back c h)
 
 -- ---- conditions, kept columns, aggregates and pairs
 
-test-back : (t : comparison.Test) → test_named (test_json t) ≡ Some t
+test-back : (t : comparison.Test) → test_named (comparison.test_text t) ≡ Some t
 test-back comparison.equal = refl
 test-back comparison.unequal = refl
 test-back comparison.below = refl
@@ -138,7 +138,7 @@ test-back comparison.above = refl
 test-back comparison.at_least = refl
 
 condition_at : (l : Name) (t : comparison.Test) (r : SideForm) → is_some_list l ≡ true → is_side_form r ≡ true
-    → condition_in (object (with_side r (with_text (codes "op") (test_json t) (with_text (codes "column") l no_members)))) ≡ Some (record { left = l; test = t; right = r })
+    → condition_in (object (with_side r (with_text (codes "op") (comparison.test_text t) (with_text (codes "column") l no_members)))) ≡ Some (record { left = l; test = t; right = r })
 unfolding condition_in side_in name_at text_at
 condition_at l t (column n) h k = rw (name-back l h, test-back t, name-back n k) refl
 condition_at l t (constant v) h k = rw (name-back l h, test-back t, value-back v k) refl

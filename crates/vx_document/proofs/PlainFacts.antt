@@ -1,5 +1,6 @@
 -- The JSON of a plan nests as deep as its nodes and three levels more, and has no float.
-use Rattle.std.proofs.Common.{◌≡◌, ℕ, suc, ◌+◌, ◌≤◌, max, pos, negsuc, List, [], ◌∷◌, map, length, Bool, true, false, ◌||◌, Option, Some, None, codes, String, Global, Ordering, Less, Equal, Greater, refl, arith}
+use Rattle.std.proofs.Common.{◌≡◌, ℕ, suc, ◌+◌, ◌≤◌, max, pos, negsuc, List, [], ◌∷◌, map, length, Bool, true, false, Option, Some, None, codes, String, Global, Ordering, Less, Equal, Greater, refl, arith}
+use Rattle.std.proofs.lemmas.Bool.{or_from}
 use Rattle.std.proofs.Math.Nat.{max-le, le-max_left, le-max_right}
 use Rattle.std.specs.Ordering.{nat_cmp, match_ordering}
 use Rattle.std.specs.Cmp.Lexicographic.{slice_cmp}
@@ -8,8 +9,9 @@ use Rattle.serde_json.specs.Written.{has_float, items_have_float, members_have_f
 use Rattle.serde_json.specs.View.{items_of, members_view}
 use Rattle.serde_json.specs.declared.value.Value.{Value}
 use Rattle.vx_rows.specs.Values.{Val, num, text}
+use Rattle.vx_document.specs.Test.{test_text}
 use Rattle.vx_document.specs.Document.{Name, RangeForm, PartForm, one, any, all, hash_part, range_part, ClaimForm, SideForm, column, constant, ConditionForm, OutputForm, FunctionForm, least, greatest, sum, count_rows, AggregateForm, ScanForm, UnaryForm, select, project, distinct, sort, group, BinaryForm, union, join, KindForm, hash, range, round, broadcast, gather, Tree, scan, unary, binary, exchange, Document, tree_levels}
-use Rattle.vx_document.specs.Written.{list_json, names_json, value_json, with_some, with_text, range_json, part_json, with_part, claim_members, with_object, with_claim, test_json, with_side, condition_json, renamed_json, output_json, with_call, with_function, aggregate_json, pair_json, with_some_text, mode_text, with_scan, with_unary, method_text, with_binary, with_kind, node_json, with_total, document_json}
+use Rattle.vx_document.specs.Written.{list_json, names_json, value_json, with_some, with_text, range_json, part_json, with_part, claim_members, with_object, with_claim, with_side, condition_json, renamed_json, output_json, with_call, with_function, aggregate_json, pair_json, with_some_text, mode_text, with_scan, with_unary, method_text, with_binary, with_kind, node_json, with_total, document_json}
 
 -- no deeper than n, and without floats
 pub record IsPlain (n : ℕ) (d : Data) : Type 0 where
@@ -22,10 +24,6 @@ AllPlain n (member k d ms) = IsPlain n d × AllPlain n ms
 
 pub record ArePlain (n : ℕ) (ms : Members) : Type 0 where
   pub each : AllPlain n ms
-
-neither : (a b : Bool) → a ≡ false → b ≡ false → (a || b) ≡ false
-neither true b h k = h
-neither false b h k = k
 
 more : {n m : ℕ} {d : Data} → n ≤ m → IsPlain n d → IsPlain m d
 more h p = record { low = let l = p.low in omega (arith, h, l); exact = p.exact }
@@ -50,7 +48,7 @@ members-plain : (n : ℕ) (ms : Members) → AllPlain n ms → (members_depth ms
 members-plain n no_members q = (omega arith, refl)
 members-plain n (member k d ms) q =
     let rest = members-plain n ms q.1 in
-    (max-le q.0.low rest.0, neither (has_float d) (members_have_float ms) q.0.exact rest.1)
+    (max-le q.0.low rest.0, or_from (has_float d) (members_have_float ms) q.0.exact rest.1)
 
 object-plain : (n : ℕ) (ms : Members) → ArePlain n ms → IsPlain (suc n) (object ms)
 object-plain n ms q =
@@ -64,7 +62,7 @@ items-plain : {X : Type 0} (n : ℕ) (json : X → Data) → ((x : X) → IsPlai
 items-plain n json plain [] = (omega arith, refl)
 items-plain n json plain (x ∷ xs) =
     let rest = items-plain n json plain xs in
-    (max-le (plain x).low rest.0, neither (has_float (json x)) (items_have_float (items_of (map json xs))) (plain x).exact rest.1)
+    (max-le (plain x).low rest.0, or_from (has_float (json x)) (items_have_float (items_of (map json xs))) (plain x).exact rest.1)
 
 list-plain : {X : Type 0} (n : ℕ) (json : X → Data) → ((x : X) → IsPlain n (json x)) → (xs : List X) → IsPlain (suc n) (list_json json xs)
 list-plain n json plain xs =
@@ -127,7 +125,7 @@ side-plain (column name) ms q = with_text-plain 0 (codes "column2") name ms q
 side-plain (constant v) ms q = put-plain 0 (codes "value") (value_json v) ms (value-plain 0 v) q
 
 condition-plain : (c : ConditionForm) → IsPlain 1 (condition_json c)
-condition-plain c = object-plain 0 _ (side-plain c.right _ (with_text-plain 0 (codes "op") (test_json c.test) _ (with_text-plain 0 (codes "column") c.left no_members (none-plain 0))))
+condition-plain c = object-plain 0 _ (side-plain c.right _ (with_text-plain 0 (codes "op") (test_text c.test) _ (with_text-plain 0 (codes "column") c.left no_members (none-plain 0))))
 
 renamed-plain : (col : Name) (new : Option Name) → IsPlain 1 (renamed_json col new)
 renamed-plain col None = text-plain 1 col

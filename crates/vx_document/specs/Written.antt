@@ -62,20 +62,12 @@ with_claim c ms = with_object (codes "claim") (claim_members c) ms
 
 -- ---- conditions, kept columns, aggregates and pairs
 
-abbrev pub test_json : comparison.Test → List ℕ
-test_json comparison.equal = codes "="
-test_json comparison.unequal = codes "<>"
-test_json comparison.below = codes "<"
-test_json comparison.at_most = codes "<="
-test_json comparison.above = codes ">"
-test_json comparison.at_least = codes ">="
-
 abbrev pub with_side : SideForm → Members → Members
 with_side (column name) ms = with_text (codes "column2") name ms
 with_side (constant v) ms = put (codes "value") (value_json v) ms
 
 abbrev pub condition_json : ConditionForm → Data
-condition_json c = object (with_side c.right (with_text (codes "op") (test_json c.test) (with_text (codes "column") c.left no_members)))
+condition_json c = object (with_side c.right (with_text (codes "op") (comparison.test_text c.test) (with_text (codes "column") c.left no_members)))
 
 abbrev pub renamed_json : Name → Option Name → Data
 renamed_json col None = string col

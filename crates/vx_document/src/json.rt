@@ -5,17 +5,16 @@ ghost use Rattle.serde_json.specs.Data.{string, put};
 ghost use Rattle.serde_json.specs.View.{view, members_view};
 ghost use Rattle.serde_json.specs.Written.{compact_text};
 ghost use Rattle.vx_rows.specs.View.{val_of};
-ghost use Rattle.vx_document.specs.Document.{hash_part, range_part, range_form, part_form, claim_form, test_of, side_form, condition_form, output_form, function_form, aggregate_form, scan_form, unary_form, pair_form, binary_form, kind_form, tree_of};
+ghost use Rattle.vx_document.specs.Document.{hash_part, range_part, range_form, part_form, claim_form, side_form, condition_form, output_form, function_form, aggregate_form, scan_form, unary_form, pair_form, binary_form, kind_form, tree_of};
 ghost use Rattle.vx_document.specs.PlanView.{document_of};
 ghost use Rattle.vx_document.specs.Reading.{document_of_text};
-ghost use Rattle.vx_document.specs.Written.{names_json, list_json, value_json, with_some, with_text, range_json, part_json, with_part, claim_members, with_object, with_claim, test_json, with_side, condition_json, output_json, with_function, with_call, aggregate_json, pair_json, with_some_text, with_scan, with_unary, with_join, with_binary, with_kind, scan_json, unary_json, binary_json, exchange_json, node_json, with_total, document_json};
+ghost use Rattle.vx_document.specs.Written.{names_json, list_json, value_json, with_some, with_text, range_json, part_json, with_part, claim_members, with_object, with_claim, with_side, condition_json, output_json, with_function, with_call, aggregate_json, pair_json, with_some_text, with_scan, with_unary, with_join, with_binary, with_kind, scan_json, unary_json, binary_json, exchange_json, node_json, with_total, document_json};
 
 use crate::document::Plan;
 use crate::plan::{
     NamedAggregate, NamedBinary, NamedClaim, NamedCondition, NamedFunction, NamedKind, NamedOutput,
     NamedPart, NamedRange, NamedScan, NamedSide, NamedUnary, Node,
 };
-use crate::test::Test;
 use serde_json::{Map, Value as Json, put};
 use std::alloc::{AllocError, Global};
 use vx_rows::Value;
@@ -55,7 +54,7 @@ fn put_names(
     put(members, alloc, key, names_json(alloc, names)?)
 }
 
-/// The names, unless there are none.
+// The names, unless there are none.
 fn put_some_names(
     members: &mut Members,
     alloc: Global,
@@ -147,7 +146,7 @@ fn part_json(alloc: Global, part: &NamedPart) -> Result<Json, AllocError>
     }
 }
 
-/// The part, unless it is any.
+// The part, unless it is any.
 fn put_part(members: &mut Members, alloc: Global, part: &NamedPart) -> Result<(), AllocError>
     ensures { OnOk result (members_view members.new.entries ≡ with_part (part_form part.now) (members_view members.old.entries)) }
 {
@@ -167,7 +166,7 @@ fn keys_json(alloc: Global, keys: &[Vec<String>]) -> Result<Json, AllocError>
     Ok(Json::Array(list))
 }
 
-/// The keys, unless there are none.
+// The keys, unless there are none.
 fn put_keys(members: &mut Members, alloc: Global, keys: &[Vec<String>]) -> Result<(), AllocError>
     ensures { OnOk result (members_view members.new.entries ≡ with_some (codes "keys") names_json (map (λ k. map string_bytes k.items) keys.now) (members_view members.old.entries)) }
 {
@@ -187,7 +186,7 @@ fn claim_members(alloc: Global, claim: &NamedClaim) -> Result<Members, AllocErro
     Ok(own)
 }
 
-/// An object of these members, unless there are none.
+// An object of these members, unless there are none.
 fn put_object(
     members: &mut Members,
     alloc: Global,
@@ -202,24 +201,11 @@ fn put_object(
     put(members, alloc, key, Json::Object(own))
 }
 
-/// The claim of a node, unless it is any part without order and keys.
+// The claim of a node, unless it is any part without order and keys.
 fn put_claim(members: &mut Members, alloc: Global, claim: &NamedClaim) -> Result<(), AllocError>
     ensures { OnOk result (members_view members.new.entries ≡ with_claim (claim_form claim.now) (members_view members.old.entries)) }
 {
     put_object(members, alloc, "claim", claim_members(alloc, claim)?)
-}
-
-fn test_text(test: Test) -> &'static str
-    ensures { result.now ≡ test_json (test_of test) }
-{
-    match test {
-        Test::Equal => "=",
-        Test::Unequal => "<>",
-        Test::Below => "<",
-        Test::AtMost => "<=",
-        Test::Above => ">",
-        Test::AtLeast => ">=",
-    }
 }
 
 fn put_side(members: &mut Members, alloc: Global, side: &NamedSide) -> Result<(), AllocError>
@@ -236,7 +222,7 @@ fn condition_json(alloc: Global, condition: &NamedCondition) -> Result<Json, All
 {
     let mut members = Map::new(alloc);
     put_text(&mut members, alloc, "column", condition.left.as_str())?;
-    put_text(&mut members, alloc, "op", test_text(condition.test))?;
+    put_text(&mut members, alloc, "op", condition.test.text())?;
     put_side(&mut members, alloc, &condition.right)?;
     Ok(Json::Object(members))
 }
@@ -273,7 +259,7 @@ fn outputs_json(alloc: Global, outputs: &[NamedOutput]) -> Result<Json, AllocErr
     Ok(Json::Array(list))
 }
 
-/// An aggregate over a column.
+// An aggregate over a column.
 fn put_call(
     members: &mut Members,
     alloc: Global,
@@ -339,7 +325,7 @@ fn pairs_json(alloc: Global, pairs: &[(String, String)]) -> Result<Json, AllocEr
     Ok(Json::Array(list))
 }
 
-/// A text, unless it is empty.
+// A text, unless it is empty.
 fn put_some_text(
     members: &mut Members,
     alloc: Global,
@@ -533,7 +519,7 @@ fn node_json(alloc: Global, node: &Node) -> Result<Json, AllocError>
     }
 }
 
-/// The ranges, unless there are none.
+// The ranges, unless there are none.
 fn put_ranges(members: &mut Members, alloc: Global, ranges: &[NamedRange]) -> Result<(), AllocError>
     ensures { OnOk result (members_view members.new.entries ≡ with_some (codes "ranges") range_json (map range_form ranges.now) (members_view members.old.entries)) }
 {
@@ -543,7 +529,7 @@ fn put_ranges(members: &mut Members, alloc: Global, ranges: &[NamedRange]) -> Re
     put(members, alloc, "ranges", ranges_json(alloc, ranges)?)
 }
 
-/// Whether the root's list is in a total order, unless it is not.
+// Whether the root's list is in a total order, unless it is not.
 fn put_total(members: &mut Members, alloc: Global, total: bool) -> Result<(), AllocError>
     ensures { OnOk result (members_view members.new.entries ≡ with_total total (members_view members.old.entries)) }
 {

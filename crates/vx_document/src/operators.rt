@@ -1,6 +1,6 @@
 //! What a node's JSON object says of the node itself.
 
-ghost use Rattle.std.specs.Prelude.{◌≡◌, [], map, option_map, option_and_then, string_bytes, codes};
+ghost use Rattle.std.specs.Prelude.{◌≡◌, [], map, option_map, string_bytes, codes};
 ghost use Rattle.serde_json.specs.Find.{get, as_str};
 ghost use Rattle.serde_json.specs.View.{view};
 ghost use Rattle.vx_json.specs.Look.{Reads};
@@ -230,7 +230,7 @@ fn pairs_in(alloc: Global, value: &Json) -> Result<Option<Vec<(String, String)>>
     }
 }
 
-/// Whether a join merges.
+// Whether a join merges.
 fn method_named(text: &str) -> Option<bool>
     ensures { result ≡ method_named text.now }
 {

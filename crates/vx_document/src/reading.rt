@@ -1,13 +1,13 @@
 //! Plans from JSON values and texts.
 
-ghost use Rattle.std.specs.Prelude.{◌≡◌, false, ◌+◌, ◌++◌, ◌≤◌, [], map, option_map, option_and_then, string_bytes, codes, IfOk};
+ghost use Rattle.std.specs.Prelude.{◌≡◌, false, ◌+◌, ◌++◌, [], map, string_bytes, codes, IfOk};
 ghost use Rattle.serde_json.specs.Find.{get, as_bool};
 ghost use Rattle.serde_json.specs.View.{view};
 ghost use Rattle.vx_json.specs.Look.{Reads};
 ghost use Rattle.vx_document.specs.Fault.{Gives};
 ghost use Rattle.vx_document.specs.Look.{or_default, each_in, value_in};
 ghost use Rattle.vx_rows.specs.View.{val_of};
-ghost use Rattle.vx_document.specs.Document.{tree_of, range_form, tree_nodes};
+ghost use Rattle.vx_document.specs.Document.{tree_of, range_form};
 ghost use Rattle.vx_document.specs.Form.{names_in};
 ghost use Rattle.vx_document.specs.Reading.{node_in, declared_in, head_in, head_form, document_in, document_of_text};
 ghost use Rattle.vx_document.specs.PlanView.{document_of};
@@ -57,7 +57,7 @@ pub fn declared_in(alloc: Global, value: &Json) -> Result<Option<NamedRange>, Al
     Ok(Some(NamedRange { name, bounds }))
 }
 
-/// The path of an input.
+// The path of an input.
 fn path_of(alloc: Global, path: &str, step: &str) -> Result<String, AllocError>
     ensures { IfOk result (λ s. string_bytes s ≡ path.now ++ step.now) }
 {
@@ -66,7 +66,7 @@ fn path_of(alloc: Global, path: &str, step: &str) -> Result<String, AllocError>
     Ok(below)
 }
 
-/// The tree of an input, which is a step below the operator with this path.
+// The tree of an input, which is a step below the operator with this path.
 #[cycle(nodes)]
 fn input_in(
     alloc: Global,
@@ -165,7 +165,7 @@ fn total_or_false(value: &Json) -> Option<bool>
     }
 }
 
-/// A document's own members, and the value of its root.
+// A document's own members, and the value of its root.
 #[tactic(auto, unfolding(crate::specs::Reading::head_in))]
 fn head_in<'v>(alloc: Global, value: &'v Json) -> Result<Option<Header<'v>>, AllocError>
     ensures { Reads head_form result (head_in (view value.now)) }

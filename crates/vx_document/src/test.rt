@@ -1,5 +1,9 @@
 //! How a condition compares its sides.
 
+ghost use Rattle.std.specs.Prelude.{◌≡◌};
+ghost use Rattle.vx_document.specs.Test.{test_text};
+ghost use Rattle.vx_document.specs.Document.{test_of};
+
 /// A comparison of two values of one type: numbers by size, texts by their bytes.
 #[derive(Clone, Copy, Debug, PartialEq, Eq)]
 pub enum Test {
@@ -9,4 +13,20 @@ pub enum Test {
     AtMost,
     Above,
     AtLeast,
+}
+
+impl Test {
+    /// The text that says it in a condition.
+    pub fn text(self) -> &'static str
+        ensures { result.now ≡ test_text (test_of self) }
+    {
+        match self {
+            Test::Equal => "=",
+            Test::Unequal => "<>",
+            Test::Below => "<",
+            Test::AtMost => "<=",
+            Test::Above => ">",
+            Test::AtLeast => ">=",
+        }
+    }
 }

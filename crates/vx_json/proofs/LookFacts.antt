@@ -4,7 +4,7 @@ use Rattle.std.specs.List.{list_all}
 use Rattle.std.specs.BTreeMap.{keys}
 use Rattle.serde_json.specs.Data.{Data, null, boolean, number, string, array, object, Members}
 use Rattle.serde_json.specs.Find.{as_object, as_array}
-use Rattle.serde_json.specs.View.{view, items_view, items_of, members_view, members_of}
+use Rattle.serde_json.specs.View.{view, items_view, items_of, members_view}
 use Rattle.serde_json.specs.declared.value.Value.{Value}
 use Rattle.vx_json.specs.Look.{list_of, as_list, names_of, is_among, has_only}
 
@@ -14,10 +14,6 @@ list_of-items_of (d ∷ ds) = ap (λ (t : List Data). d ∷ t) (list_of-items_of
 
 pub items_are : (d : Data) (vs : List Value) → Some (items_view vs) ≡ as_array d → Some (map view vs) ≡ as_list d
 items_are d vs h = ap (λ t. Some t) (sym (list_of-items_of (map view vs))) ∙ ap (λ o. option_map list_of o) h
-
-names-members_of : (ms : List (String Global × Data)) → names_of (members_of ms) ≡ map (λ m. string_bytes m.0) ms
-names-members_of [] = refl
-names-members_of (m ∷ ms) = ap (λ (t : List (List ℕ)). string_bytes m.0 ∷ t) (names-members_of ms)
 
 only_those : (names : List (List ℕ)) (es : List (String Global × Value)) → list_all (λ k. is_among names (string_bytes k)) (map (λ e. e.0) es) ≡ list_all (is_among names) (names_of (members_view es))
 only_those names [] = refl
