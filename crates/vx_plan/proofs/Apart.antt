@@ -1,8 +1,8 @@
 -- Lists in which nothing stands twice.
-use Rattle.std.proofs.Common.{◌≡◌, ℕ, ◌==◌, List, [], ◌∷◌, ◌++◌, Bool, true, false, not, cond, ◌&&◌, ◌||◌, Result, Ok, Err, map, bytes_eq, refl, sym, ap, ◌∙◌, true≢false}
+use Rattle.std.proofs.Common.{◌≡◌, ℕ, ◌==◌, List, [], ◌∷◌, ◌++◌, Bool, true, false, not, cond, ◌&&◌, Result, Ok, Err, map, bytes_eq, refl, sym, ap, ◌∙◌, true≢false}
 use Rattle.std.specs.Prelude.{⊤}
 use Rattle.std.specs.List.{list_any, list_all}
-use Rattle.std.proofs.lemmas.Bool.{eqb-true}
+use Rattle.std.proofs.lemmas.Bool.{eqb-true, or_parts, or_from, not-true, not_from_false}
 use Rattle.std.proofs.lemmas.Slice.Eq.{bytes_eq-Decides}
 use Rattle.vx_catalog.specs.Catalog.{are_distinct}
 use Rattle.vx_plan.specs.Typed.{are_distinct_pairs}
@@ -27,33 +27,13 @@ other-false eq s x y h = go (eq x y) refl
     go true e = absurd (true≢false (sym (s x y e) ∙ h))
     go false e = refl
 
-not-true : (b : Bool) → not b ≡ true → b ≡ false
-not-true true h = absurd (true≢false (sym h))
-not-true false h = refl
-
-not-false : (b : Bool) → b ≡ false → not b ≡ true
-not-false true h = absurd (true≢false h)
-not-false false h = refl
-
-or-left : (a b : Bool) → (a || b) ≡ false → a ≡ false
-or-left true b h = h
-or-left false b h = refl
-
-or-right : (a b : Bool) → (a || b) ≡ false → b ≡ false
-or-right true b h = cc
-or-right false b h = h
-
-or-none : (a b : Bool) → a ≡ false → b ≡ false → (a || b) ≡ false
-or-none true b h k = h
-or-none false b h k = k
-
 any-front : {A : Type 0} (p : A → Bool) (xs : List A) (x : A) → list_any p (xs ++ x ∷ []) ≡ false → list_any p xs ≡ false
 any-front p [] x h = refl
-any-front p (y ∷ xs) x h = or-none (p y) (list_any p xs) (or-left (p y) (list_any p (xs ++ x ∷ [])) h) (any-front p xs x (or-right (p y) (list_any p (xs ++ x ∷ [])) h))
+any-front p (y ∷ xs) x h = or_from (p y) (list_any p xs) (or_parts (p y) (list_any p (xs ++ x ∷ [])) h).0 (any-front p xs x (or_parts (p y) (list_any p (xs ++ x ∷ [])) h).1)
 
 any-last : {A : Type 0} (p : A → Bool) (xs : List A) (x : A) → list_any p (xs ++ x ∷ []) ≡ false → p x ≡ false
-any-last p [] x h = or-left (p x) false h
-any-last p (y ∷ xs) x h = any-last p xs x (or-right (p y) (list_any p (xs ++ x ∷ [])) h)
+any-last p [] x h = (or_parts (p x) false h).0
+any-last p (y ∷ xs) x h = any-last p xs x (or_parts (p y) (list_any p (xs ++ x ∷ [])) h).1
 
 -- none of these equals one of the front
 abbrev clear : {A : Type 0} → (A → A → Bool) → List A → List A → Bool
@@ -64,14 +44,14 @@ clear-front eq front x [] h = refl
 clear-front eq front x (y ∷ ys) h =
     let first : Bool = not (list_any (eq y) (front ++ x ∷ [])) in
     and-both (not (list_any (eq y) front)) (clear eq front ys)
-    (not-false (list_any (eq y) front) (any-front (eq y) front x (not-true (list_any (eq y) (front ++ x ∷ [])) (and-left first (clear eq (front ++ x ∷ []) ys) h))))
+    (not_from_false (list_any (eq y) front) (any-front (eq y) front x (not-true (list_any (eq y) (front ++ x ∷ [])) (and-left first (clear eq (front ++ x ∷ []) ys) h))))
     (clear-front eq front x ys (and-right first (clear eq (front ++ x ∷ []) ys) h))
 
 clear-last : {A : Type 0} (eq : A → A → Bool) → IsSymmetric eq → (front : List A) (x : A) (ys : List A) → clear eq (front ++ x ∷ []) ys ≡ true → list_any (eq x) ys ≡ false
 clear-last eq s front x [] h = refl
 clear-last eq s front x (y ∷ ys) h =
     let first : Bool = not (list_any (eq y) (front ++ x ∷ [])) in
-    or-none (eq x y) (list_any (eq x) ys)
+    or_from (eq x y) (list_any (eq x) ys)
     (other-false eq s x y (any-last (eq y) front x (not-true (list_any (eq y) (front ++ x ∷ [])) (and-left first (clear eq (front ++ x ∷ []) ys) h))))
     (clear-last eq s front x ys (and-right first (clear eq (front ++ x ∷ []) ys) h))
 
@@ -86,8 +66,8 @@ tested-apart eq refusal s (x ∷ xs) front h = go (list_any (eq x) front) refl (
     go true e next k = cc
     go false e next k =
         let r = next k in (
-          and-both (not (list_any (eq x) front)) (clear eq front xs) (not-false (list_any (eq x) front) e) (clear-front eq front x xs r.0),
-          and-both (not (list_any (eq x) xs)) (apart eq xs) (not-false (list_any (eq x) xs) (clear-last eq s front x xs r.0)) r.1,
+          and-both (not (list_any (eq x) front)) (clear eq front xs) (not_from_false (list_any (eq x) front) e) (clear-front eq front x xs r.0),
+          and-both (not (list_any (eq x) xs)) (apart eq xs) (not_from_false (list_any (eq x) xs) (clear-last eq s front x xs r.0)) r.1,
         )
 
 holds_tested : {A : Type 0} (eq : A → A → Bool) (refusal : A → Refusal) → IsSymmetric eq → (xs : List A) (r : Result ⊤ Refusal) → tested_onto (λ front x. list_any (eq x) front) refusal [] xs ≡ r → Holds (λ (u : ⊤). apart eq xs ≡ true) r
@@ -113,10 +93,10 @@ pairs_once-apart node pairs = holds_tested pair_eq (λ (p : Name × Name). dupli
 any-map : {A B : Type 0} (eq : A → A → Bool) (same : B → B → Bool) (f : A → B) → ((x y : A) → eq x y ≡ true → same (f x) (f y) ≡ true) → (x : A) (ys : List A) → list_any (same (f x)) (map f ys) ≡ false → list_any (eq x) ys ≡ false
 any-map eq same f keeps x [] h = refl
 any-map eq same f keeps x (y ∷ ys) h =
-    or-none (eq x y) (list_any (eq x) ys) (go (eq x y) refl) (any-map eq same f keeps x ys (or-right (same (f x) (f y)) (list_any (same (f x)) (map f ys)) h))
+    or_from (eq x y) (list_any (eq x) ys) (go (eq x y) refl) (any-map eq same f keeps x ys (or_parts (same (f x) (f y)) (list_any (same (f x)) (map f ys)) h).1)
   where
     go : (b : Bool) → eq x y ≡ b → b ≡ false
-    go true e = absurd (true≢false (sym (keeps x y e) ∙ or-left (same (f x) (f y)) (list_any (same (f x)) (map f ys)) h))
+    go true e = absurd (true≢false (sym (keeps x y e) ∙ (or_parts (same (f x) (f y)) (list_any (same (f x)) (map f ys)) h).0))
     go false e = refl
 
 pub apart-map : {A B : Type 0} (eq : A → A → Bool) (same : B → B → Bool) (f : A → B) → ((x y : A) → eq x y ≡ true → same (f x) (f y) ≡ true) → (xs : List A) → apart same (map f xs) ≡ true → apart eq xs ≡ true
@@ -124,7 +104,7 @@ apart-map eq same f keeps [] h = refl
 apart-map eq same f keeps (x ∷ xs) h =
     let first : Bool = not (list_any (same (f x)) (map f xs)) in
     and-both (not (list_any (eq x) xs)) (apart eq xs)
-    (not-false (list_any (eq x) xs) (any-map eq same f keeps x xs (not-true (list_any (same (f x)) (map f xs)) (and-left first (apart same (map f xs)) h))))
+    (not_from_false (list_any (eq x) xs) (any-map eq same f keeps x xs (not-true (list_any (same (f x)) (map f xs)) (and-left first (apart same (map f xs)) h))))
     (apart-map eq same f keeps xs (and-right first (apart same (map f xs)) h))
 
 apart-distinct : (xs : List ℕ) → apart (λ (x y : ℕ). x == y) xs ≡ are_distinct xs
@@ -153,9 +133,9 @@ apart-front eq [] ys h = refl
 apart-front eq (x ∷ xs) ys h =
     let first : Bool = not (list_any (eq x) (xs ++ ys)) in
     and-both (not (list_any (eq x) xs)) (apart eq xs)
-    (not-false (list_any (eq x) xs) (any-before (eq x) xs ys (not-true (list_any (eq x) (xs ++ ys)) (and-left first (apart eq (xs ++ ys)) h))))
+    (not_from_false (list_any (eq x) xs) (any-before (eq x) xs ys (not-true (list_any (eq x) (xs ++ ys)) (and-left first (apart eq (xs ++ ys)) h))))
     (apart-front eq xs ys (and-right first (apart eq (xs ++ ys)) h))
   where
     any-before : {A : Type 0} (p : A → Bool) (xs ys : List A) → list_any p (xs ++ ys) ≡ false → list_any p xs ≡ false
     any-before p [] ys h = refl
-    any-before p (x ∷ xs) ys h = or-none (p x) (list_any p xs) (or-left (p x) (list_any p (xs ++ ys)) h) (any-before p xs ys (or-right (p x) (list_any p (xs ++ ys)) h))
+    any-before p (x ∷ xs) ys h = or_from (p x) (list_any p xs) (or_parts (p x) (list_any p (xs ++ ys)) h).0 (any-before p xs ys (or_parts (p x) (list_any p (xs ++ ys)) h).1)

@@ -2,7 +2,7 @@
 use Rattle.std.proofs.Common.{◌≡◌, ℕ, ◌+◌, nat_lt, List, [], ◌∷◌, ◌++◌, true, Option, Some, None, Result, Ok, Err, map, length, position, bytes_eq, get_or, refl, sym, ap, ◌∙◌, subst, append_assoc, append-nil, lt-ltb}
 use Rattle.std.specs.Prelude.{⊤}
 use Rattle.std.specs.List.{list_all}
-use Rattle.std.proofs.lemmas.List.{length_push}
+use Rattle.std.proofs.lemmas.List.{length_push, map_push}
 use Rattle.std.proofs.lemmas.List.Quantifiers.{position-Some}
 use Rattle.std.proofs.lemmas.Slice.Eq.{bytes_eq-Decides}
 use Rattle.vx_catalog.specs.Catalog.{all_below, are_distinct}
@@ -55,17 +55,13 @@ pub record AreColumns (names : List Name) (list : List Name) (cs : List ℕ) : T
   pub below : all_below (length names) cs ≡ true
   pub named : map (name_of names) cs ≡ list
 
-map-push : {A B : Type 0} (f : A → B) (xs : List A) (x : A) → map f (xs ++ x ∷ []) ≡ map f xs ++ f x ∷ []
-map-push f [] x = refl
-map-push f (y ∷ xs) x = ap (λ ys. f y ∷ ys) (map-push f xs x)
-
 pub columns-found : (node : ℕ) (names : List Name) (list : List Name) → Holds (AreColumns names list) (columns_found node names list)
 unfolding columns_found
 columns-found node names list =
     walk-holds (column_found node names) (IsColumn names) (AreColumns names) (column-found node names)
     (λ xs cs x c h p. record {
       below = all_push (λ c. nat_lt c (length names)) cs c h.below p.below;
-      named = map-push (name_of names) cs c ∙ ap (λ zs. zs ++ name_of names c ∷ []) h.named ∙ ap (λ n. xs ++ n ∷ []) p.named;
+      named = map_push (name_of names) cs c ∙ ap (λ zs. zs ++ name_of names c ∷ []) h.named ∙ ap (λ n. xs ++ n ∷ []) p.named;
     }) list [] [] (record { below = refl; named = refl })
 
 -- found columns of names that stand once are columns, none of them twice

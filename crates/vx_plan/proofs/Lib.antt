@@ -1,4 +1,3 @@
-pub mod NameFacts
 pub mod WalkFacts
 pub mod TestFacts
 pub mod BoundFacts

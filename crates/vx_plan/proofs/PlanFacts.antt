@@ -1,8 +1,8 @@
 -- A plan that was resolved is typed, and its nodes are numbered in preorder.
-use Rattle.std.proofs.Common.{◌≡◌, ℕ, suc, ◌+◌, ◌≤◌, ◌==◌, nat_lt, nat_le, not, ◌||◌, List, [], ◌∷◌, ◌++◌, Bool, true, false, cond, ◌&&◌, Option, Some, None, Result, Ok, Err, map, length, position, bytes_eq, refl, sym, ◌∙◌, subst, arith, eq-eqb, lt-ltb}
+use Rattle.std.proofs.Common.{◌≡◌, ℕ, suc, ◌+◌, ◌≤◌, ◌==◌, nat_lt, nat_le, not, List, [], ◌∷◌, ◌++◌, Bool, true, false, cond, ◌&&◌, Option, Some, None, Result, Ok, Err, map, length, position, bytes_eq, refl, sym, ◌∙◌, subst, arith, eq-eqb, lt-ltb}
 use Rattle.std.specs.List.{list_all, list_any}
 use Rattle.std.proofs.lemmas.List.{length-map, length_push}
-use Rattle.std.proofs.lemmas.Bool.{leb-false, le-leb}
+use Rattle.std.proofs.lemmas.Bool.{leb-false, le-leb, or_parts, not-false}
 use Rattle.std.proofs.lemmas.List.Quantifiers.{position-Some}
 use Rattle.vx_rows.specs.declared.value.ColType.{ColType}
 use Rattle.vx_catalog.specs.Relation.{Relation}
@@ -10,7 +10,7 @@ use Rattle.vx_catalog.specs.Catalog.{relation_at, IsRelation, IsCatalog}
 use Rattle.vx_plan.specs.Types.{types_of, unary_types, binary_types}
 use Rattle.vx_plan.specs.Typed.{is_size, is_unary, is_binary, is_kind, is_claim, is_output, is_range, are_columns, typed, IsTyped}
 use Rattle.vx_plan.specs.Numbering.{nodes, is_numbered}
-use Rattle.vx_document.specs.Document.{Name, ClaimForm, ScanForm, UnaryForm, BinaryForm, KindForm, Tree, Document, RangeForm}
+use Rattle.vx_document.specs.Document.{Name, ClaimForm, ScanForm, UnaryForm, BinaryForm, KindForm, Tree, RangeForm}
 use Rattle.vx_document.specs.Document as form
 use Rattle.vx_plan.specs.Outline.{Columns, Top, Outline, scan, unary, binary, exchange, columns, plan_in}
 use Rattle.vx_document.specs.Fault.{Refusal, bad_size, bad_range, ◌>>=◌}
@@ -178,18 +178,6 @@ tree-holds s n (form.exchange c k m t) cat h =
     holds_then (Resolves s (n + 1)) (Resolves s n) (λ i. exchange_typed s n c k m i.0 >>= λ o. Ok (o, i.1)) (typed_in s (n + 1) t) (tree-holds s (n + 1) t cat (and-right (are_names m) (is_tree_form t) last))
     (λ i hi. with-next s n i.1 (exchange_typed s n c k m i.0) (exchanged-holds s n c k m i.0 i.1 (and-left (is_claim_form c) (is_kind_form k && (are_names m && is_tree_form t)) h) (and-left (is_kind_form k) (are_names m && is_tree_form t) rest) hi))
 
-or-left : (a b : Bool) → (a || b) ≡ false → a ≡ false
-or-left true b h = h
-or-left false b h = refl
-
-or-right : (a b : Bool) → (a || b) ≡ false → b ≡ false
-or-right true b h = cc
-or-right false b h = h
-
-not-not : (b : Bool) → not b ≡ false → b ≡ true
-not-not true h = refl
-not-not false h = cc
-
 -- at most 16 size names
 sizes-few : (names front : List Name) → length front ≤ 16 → tested_onto is_bad_size bad_size front names ≡ Ok tt → length front + length names ≤ 16
 unfolding tested_onto
@@ -200,7 +188,7 @@ sizes-few (x ∷ xs) front few h = go (is_bad_size front x) refl (λ e k. sizes-
         → cond b (Err (bad_size x)) (tested_onto is_bad_size bad_size (front ++ x ∷ []) xs) ≡ Ok tt → length front + suc (length xs) ≤ 16
     go true e next k = cc
     go false e next k =
-        let room = leb-false 16 (length front) (or-left (nat_le 16 (length front)) _ e) in
+        let room = leb-false 16 (length front) (or_parts (nat_le 16 (length front)) _ e).0 in
         let n = length_push front x in
         let m = next (omega (arith, n, room)) k in
         omega (arith, n, m)
@@ -216,7 +204,7 @@ ranges-are (r ∷ rs) front h = go (is_bad_range front r) refl (ranges-are rs (f
     go true e next k = cc
     go false e next k =
         and-both (is_range r.bounds) (list_all is_range (map (λ (r : RangeForm). r.bounds) rs))
-        (not-not (is_range r.bounds) (or-right (list_any (λ (q : RangeForm). bytes_eq r.name q.name) front) (not (is_range r.bounds)) e)) (next k)
+        (not-false (is_range r.bounds) (or_parts (list_any (λ (q : RangeForm). bytes_eq r.name q.name) front) (not (is_range r.bounds)) e).1) (next k)
 
 -- what was resolved is typed
 pub resolved-typed : (s : Names) (t : Tree) (o : Outline) (next : ℕ) → IsCatalog s.catalog → is_tree_form t ≡ true → sizes_tested s.sizes ≡ Ok tt → ranges_tested s.ranges ≡ Ok tt → typed_in s 0 t ≡ Ok (o, next)

@@ -2,12 +2,12 @@
 use Rattle.std.proofs.Common.{◌≡◌, ℕ, ◌+◌, nat_lt, nat_le, List, [], ◌∷◌, ◌++◌, true, ◌&&◌, ◌||◌, is_some, Result, Ok, Err, map, length, bytes_eq, refl, sym, ap, ◌∙◌, subst, length-append}
 use Rattle.std.specs.Prelude.{⊤}
 use Rattle.std.specs.List.{list_all}
-use Rattle.std.proofs.lemmas.List.{length-map, length_push}
+use Rattle.std.proofs.lemmas.List.{length-map, length_push, map_push}
 use Rattle.vx_rows.specs.declared.value.ColType.{ColType}
 use Rattle.vx_rows.specs.Types.{type_at}
 use Rattle.vx_catalog.specs.Catalog.{all_below}
 use Rattle.vx_plan.specs.declared.typed.Kept.{Kept}
-use Rattle.vx_plan.specs.Plan.{Aggregate, Unary, Condition, Kind, route_to, by_hash, by_range}
+use Rattle.vx_plan.specs.Plan.{Aggregate, Condition, Kind, route_to, by_hash, by_range}
 use Rattle.vx_plan.specs.Plan as plan
 use Rattle.vx_plan.specs.Types.{unary_types, binary_types, aggregate_type}
 use Rattle.vx_plan.specs.Typed.{is_some_list, are_columns, is_condition, is_aggregate, is_unary, is_pair, are_distinct_pairs, is_binary, types_eq, is_kind, is_size, is_routed}
@@ -51,10 +51,6 @@ record AreKept (names : List Name) (os : List OutputForm) (ks : List Kept) : Typ
   below : all_below (length names) (map (λ (k : Kept). k.column) ks) ≡ true
   count : length ks ≡ length os
 
-map-push : {A B : Type 0} (f : A → B) (xs : List A) (x : A) → map f (xs ++ x ∷ []) ≡ map f xs ++ f x ∷ []
-map-push f [] x = refl
-map-push f (y ∷ xs) x = ap (λ ys. f y ∷ ys) (map-push f xs x)
-
 map-map : {A B C : Type 0} (f : B → C) (g : A → B) (xs : List A) → map f (map g xs) ≡ map (λ x. f (g x)) xs
 map-map f g [] = refl
 map-map f g (x ∷ xs) = ap (λ ys. f (g x) ∷ ys) (map-map f g xs)
@@ -71,7 +67,7 @@ all-kept node names os =
     (λ xs ks x k h p.
     let P : List ℕ → Type 0 = λ cs. all_below (length names) cs ≡ true in
     record {
-      below = subst P (sym (map-push (λ (k : Kept). k.column) ks k)) (all_push (λ c. nat_lt c (length names)) (map (λ (k : Kept). k.column) ks) k.column h.below p);
+      below = subst P (sym (map_push (λ (k : Kept). k.column) ks k)) (all_push (λ c. nat_lt c (length names)) (map (λ (k : Kept). k.column) ks) k.column h.below p);
       count = length_push ks k ∙ ap (λ n. n + 1) h.count ∙ sym (length_push xs x);
     }) os [] [] (record { below = refl; count = refl })
 
@@ -212,7 +208,7 @@ unfolding pairs_found
 all-pairs node l r on =
     walk-holds (pair_found node l.names r.names) (λ p (q : ℕ × ℕ). (name_of l.names q.0, name_of r.names q.1) ≡ p) (ArePairs l r) (one-pair node l.names r.names)
     (λ xs ps x p h e. record {
-      named = map-push (λ (p : ℕ × ℕ). (name_of l.names p.0, name_of r.names p.1)) ps p ∙ ap (λ zs. zs ++ (name_of l.names p.0, name_of r.names p.1) ∷ []) h.named ∙ ap (λ q. xs ++ q ∷ []) e;
+      named = map_push (λ (p : ℕ × ℕ). (name_of l.names p.0, name_of r.names p.1)) ps p ∙ ap (λ zs. zs ++ (name_of l.names p.0, name_of r.names p.1) ∷ []) h.named ∙ ap (λ q. xs ++ q ∷ []) e;
       count = length_push ps p ∙ ap (λ n. n + 1) h.count ∙ sym (length_push xs x);
     }) on [] [] (record { named = refl; count = refl })
 

@@ -5,7 +5,7 @@ use Rattle.vx_rows.specs.declared.value.ColType.{ColType}
 use Rattle.vx_rows.specs.Types.{type_at}
 use Rattle.vx_catalog.specs.Relation.{Relation}
 use Rattle.vx_catalog.specs.Catalog.{relation_at}
-use Rattle.vx_plan.specs.Plan.{Size, Route, by_hash, by_range, Part, routed, Claim, Side, Condition, Aggregate, Unary, Binary, Kind, route_to}
+use Rattle.vx_plan.specs.Plan.{Route, by_hash, by_range, Part, routed, Claim, Side, Condition, Aggregate, Unary, Binary, Kind, route_to}
 use Rattle.vx_plan.specs.Plan as plan
 use Rattle.vx_plan.specs.Types.{aggregate_type}
 use Rattle.vx_plan.specs.Typed.{bounds_at, type_eq, types_eq, range_type, is_range, is_condition, is_aggregate, is_pair}

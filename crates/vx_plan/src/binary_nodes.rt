@@ -1,6 +1,6 @@
 //! Operators over two inputs, by the columns of those inputs.
 
-ghost use Rattle.std.specs.Prelude.{◌≡◌, [], map, string_bytes, IfOk};
+ghost use Rattle.std.specs.Prelude.{◌≡◌, map, string_bytes, IfOk};
 ghost use Rattle.vx_document.specs.Fault.{Gives};
 ghost use Rattle.vx_document.specs.Document.{pair_form, binary_form};
 ghost use Rattle.vx_plan.specs.Outline.{columns_of};
@@ -53,7 +53,7 @@ fn pairs_found(
     Ok(found)
 }
 
-/// No output name and no pair stands twice, and the output is not too wide.
+// No output name and no pair stands twice, and the output is not too wide.
 #[tactic(auto, unfolding(crate::specs::Resolve::join_tested))]
 fn join_tested(
     alloc: Global,
@@ -99,7 +99,7 @@ fn join_pairs(
     Ok(found)
 }
 
-/// A join's pairs, and its output.
+// A join's pairs, and its output.
 fn joined(
     alloc: Global,
     node: u32,

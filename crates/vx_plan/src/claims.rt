@@ -26,7 +26,7 @@ pub fn single(alloc: Global, column: usize) -> Result<Vec<usize>, AllocError>
     Ok(columns)
 }
 
-/// A part by positions: a range comes before its column.
+// A part by positions: a range comes before its column.
 #[tactic(auto, unfolding(crate::specs::Resolve::part_found))]
 fn part_found(
     alloc: Global,
@@ -64,7 +64,7 @@ fn part_fits(declared: &Declared<'_>, types: &[ColType], part: &Part) -> bool
     }
 }
 
-/// The columns of a claim: of its part, its order, its keys.
+// The columns of a claim: of its part, its order, its keys.
 #[tactic(auto, unfolding(crate::specs::Resolve::claim_columns))]
 fn claim_columns(
     alloc: Global,
@@ -81,7 +81,7 @@ fn claim_columns(
     Ok(Claim { part, order, keys })
 }
 
-/// The hashed columns of a part stand once.
+// The hashed columns of a part stand once.
 #[tactic(auto, unfolding(crate::specs::Lookup::once, crate::specs::Lookup::tested_onto))]
 fn part_once(alloc: Global, node: u32, part: &NamedPart) -> Result<(), PlanFault>
     ensures { Gives (λ _. tt) result (once node (part_names (part_form part.now))) }
@@ -92,7 +92,7 @@ fn part_once(alloc: Global, node: u32, part: &NamedPart) -> Result<(), PlanFault
     }
 }
 
-/// No column stands twice in one list of a claim.
+// No column stands twice in one list of a claim.
 #[tactic(auto, unfolding(crate::specs::Resolve::claim_once))]
 fn claim_once(alloc: Global, node: u32, claim: &NamedClaim) -> Result<(), PlanFault>
     ensures { Gives (λ _. tt) result (claim_once node (claim_form claim.now)) }
@@ -102,7 +102,7 @@ fn claim_once(alloc: Global, node: u32, claim: &NamedClaim) -> Result<(), PlanFa
     keys_once(alloc, node, claim.keys.as_slice())
 }
 
-/// A claim by positions, over the columns of its node's output.
+// A claim by positions, over the columns of its node's output.
 #[tactic(auto, unfolding(crate::specs::Resolve::claim_found))]
 fn claim_found(
     alloc: Global,

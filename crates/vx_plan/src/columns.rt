@@ -1,12 +1,11 @@
 //! The columns of outputs: copied, kept, put side by side.
 
-ghost use Rattle.std.specs.Prelude.{◌≡◌, [], ◌∷◌, ◌++◌, map, string_bytes, IfOk, OnOk};
+ghost use Rattle.std.specs.Prelude.{◌≡◌, ◌++◌, map, string_bytes, IfOk, OnOk};
 ghost use Rattle.vx_rows.specs.Types.{type_at};
 ghost use Rattle.vx_document.specs.Document.{aggregate_form, output_form};
 ghost use Rattle.vx_plan.specs.Outline.{columns_of, aggregate_of};
 ghost use Rattle.vx_plan.specs.Types.{aggregate_type};
 ghost use Rattle.vx_plan.specs.Resolve.{both_columns, output_name, scan_columns};
-ghost use Rattle.vx_catalog.specs.Catalog.{IsRelation};
 
 use crate::fits::type_at;
 use crate::typed::{Aggregate, Columns, Kept};
@@ -15,7 +14,7 @@ use vx_catalog::Relation;
 use vx_document::{NamedAggregate, NamedOutput};
 use vx_rows::ColType;
 
-/// Copies of these names at the end of a list.
+// Copies of these names at the end of a list.
 fn put_names(alloc: Global, list: &mut Vec<String>, names: &[String]) -> Result<(), AllocError>
     ensures { OnOk result (map string_bytes list.new.items ≡ map string_bytes list.old.items ++ map string_bytes names.now) }
 {

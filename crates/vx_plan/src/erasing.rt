@@ -78,7 +78,7 @@ fn copied_binary(alloc: Global, binary: &Binary) -> Result<Binary, AllocError>
     }
 }
 
-/// A node's number and output, with the claim of one stream without order and keys.
+// A node's number and output, with the claim of one stream without order and keys.
 fn erased_head(alloc: Global, number: u32, head: &Head) -> Result<Head, AllocError>
     ensures { IfOk result (λ h. top_of h ≡ erased_top number (top_of head.now)) }
 {
@@ -104,7 +104,7 @@ fn erased_scan(alloc: Global, scan: &Scan) -> Result<Scan, AllocError>
     })
 }
 
-/// What is left of an input, numbered from here, and the number after its last node.
+// What is left of an input, numbered from here, and the number after its last node.
 #[cycle(nodes)]
 fn erased_input(
     alloc: Global,
@@ -120,7 +120,7 @@ fn erased_input(
     Ok((Box::new(alloc, below)?, next))
 }
 
-/// The nodes that are no exchanges, numbered in preorder from here, and the number after the last.
+// The nodes that are no exchanges, numbered in preorder from here, and the number after the last.
 #[cycle(nodes)]
 fn erased_from(alloc: Global, number: u32, node: &TypedNode) -> Result<(TypedNode, u32), AllocError>
     requires { number + nodes (plan_of node.now) < 2 ^ 32 }

@@ -1,10 +1,9 @@
 //! Exchanges and scans.
 
-ghost use Rattle.std.specs.Prelude.{◌≡◌, ◌<◌, [], map, length, string_bytes, position, bytes_eq, IfOk, IfSome};
-ghost use Rattle.vx_catalog.specs.Catalog.{relation_at};
+ghost use Rattle.std.specs.Prelude.{◌≡◌, ◌<◌, map, length, string_bytes, position, IfOk};
 ghost use Rattle.vx_document.specs.Fault.{Gives};
-ghost use Rattle.vx_document.specs.Document.{kind_form, scan_form};
-ghost use Rattle.vx_plan.specs.Outline.{columns_of, kind_of, size_of};
+ghost use Rattle.vx_document.specs.Document.{kind_form};
+ghost use Rattle.vx_plan.specs.Outline.{columns_of, kind_of};
 ghost use Rattle.vx_plan.specs.Lookup.{once};
 ghost use Rattle.vx_plan.specs.Resolve.{kind_found, kind_names, kind_fits, exchange_columns, exchange_once, exchange_shape, relation_found};
 ghost use Rattle.vx_plan.specs.Named.{names_of};
@@ -19,7 +18,7 @@ use std::alloc::Global;
 use vx_document::{NamedKind, PlanFault};
 use vx_rows::ColType;
 
-/// How an exchange sends: a size comes before a range, and that before columns.
+// How an exchange sends: a size comes before a range, and that before columns.
 #[tactic(auto, unfolding(crate::specs::Resolve::kind_found))]
 fn kind_found(
     alloc: Global,
@@ -61,7 +60,7 @@ fn kind_found(
     }
 }
 
-/// The hashed columns of an exchange stand once.
+// The hashed columns of an exchange stand once.
 #[tactic(auto, unfolding(crate::specs::Lookup::once, crate::specs::Lookup::tested_onto))]
 fn kind_once(alloc: Global, node: u32, kind: &NamedKind) -> Result<(), PlanFault>
     ensures { Gives (λ _. tt) result (once node (kind_names (kind_form kind.now))) }

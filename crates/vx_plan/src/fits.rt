@@ -1,6 +1,6 @@
 //! Tests of types: what is compared, summed and routed has the type for it.
 
-ghost use Rattle.std.specs.Prelude.{◌≡◌, ◌&&◌, map, length};
+ghost use Rattle.std.specs.Prelude.{◌≡◌, ◌&&◌, map};
 ghost use Rattle.std.specs.List.{list_all};
 ghost use Rattle.std.specs.Ordering.{is_lt};
 ghost use Rattle.vx_rows.specs.Values.{val_cmp};
@@ -14,7 +14,6 @@ ghost use Rattle.vx_plan.specs.Named.{names_of};
 
 use crate::lookup::Declared;
 use crate::typed::{Aggregate, Condition, Route, Side};
-use std::cmp::Ordering;
 use vx_document::NamedRange;
 use vx_rows::{ColType, Value, compare_cells};
 
@@ -62,7 +61,7 @@ fn value_type(value: &Value) -> ColType
     value.cell().col_type()
 }
 
-/// Whether a constant has a type.
+// Whether a constant has a type.
 fn is_constant_of(value: &Value, kind: ColType) -> bool
     ensures { result ≡ (is_held (val_of value.now) && type_eq kind (type_of (val_of value.now))) }
 {
@@ -144,7 +143,7 @@ pub fn are_pairs(left: &[ColType], right: &[ColType], pairs: &[(usize, usize)]) 
     pairs.iter().all(|p| is_pair(left, right, p))
 }
 
-/// The type of a range's bounds: that of the first.
+// The type of a range's bounds: that of the first.
 fn range_type(bounds: &[Value]) -> ColType
     ensures { result ≡ range_type (map val_of bounds.now) }
 {
@@ -203,7 +202,7 @@ fn is_below_all(value: &Value, others: &[Value]) -> bool
     all_above(value, others)
 }
 
-/// Whether each bound is above those before it.
+// Whether each bound is above those before it.
 fn rises(bounds: &[Value]) -> bool
     ensures { result ≡ rises (map val_of bounds.now) }
 {

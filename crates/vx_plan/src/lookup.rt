@@ -1,6 +1,6 @@
 //! Looking up names: columns of an input, sizes and ranges of a plan.
 
-ghost use Rattle.std.specs.Prelude.{◌≡◌, [], map, position, bytes_eq, string_bytes, IfOk};
+ghost use Rattle.std.specs.Prelude.{◌≡◌, map, position, bytes_eq, string_bytes, IfOk};
 ghost use Rattle.vx_rows.specs.View.{val_of};
 ghost use Rattle.std.specs.List.{list_any};
 ghost use Rattle.vx_document.specs.Fault.{Gives};

@@ -17,7 +17,7 @@ use crate::unary_nodes::{Shape, unary_shape};
 use std::alloc::Global;
 use vx_document::{NamedBinary, NamedClaim, NamedKind, NamedScan, NamedUnary, Node, PlanFault};
 
-/// The columns of a node's output.
+// The columns of a node's output.
 fn columns(node: &TypedNode) -> &Columns
     ensures { columns_of result.now ≡ columns (outline_of node.now) }
 {

@@ -26,7 +26,7 @@ fn is_bad_size(front: &[String], name: &str) -> bool
     front.len() >= 16 || name == "one" || has_name(front, name)
 }
 
-/// No size name is `one`, stands twice or is the 17th.
+// No size name is `one`, stands twice or is the 17th.
 #[tactic(auto, unfolding(crate::specs::Resolve::sizes_tested))]
 fn sizes_tested(alloc: Global, sizes: &[String]) -> Result<(), PlanFault>
     ensures { Gives (λ _. tt) result (sizes_tested (map string_bytes sizes.now)) }
@@ -60,7 +60,7 @@ fn is_bad_range(front: &[NamedRange], range: &NamedRange) -> bool
     has_range(front, range.name.as_str()) || !is_range(range.bounds.as_slice())
 }
 
-/// No range stands twice or has bad bounds.
+// No range stands twice or has bad bounds.
 #[tactic(auto, unfolding(crate::specs::Resolve::ranges_tested))]
 fn ranges_tested(alloc: Global, ranges: &[NamedRange]) -> Result<(), PlanFault>
     ensures { Gives (λ _. tt) result (ranges_tested (map range_form ranges.now)) }
@@ -95,6 +95,7 @@ fn copied_range(alloc: Global, range: &NamedRange) -> Result<NamedRange, AllocEr
     })
 }
 
+/// Copies of the declared ranges, in their order.
 pub fn copied_ranges(alloc: Global, ranges: &[NamedRange]) -> Result<Vec<NamedRange>, AllocError>
     ensures { IfOk result (λ v. map range_form v.items ≡ map range_form ranges.now) }
 {

@@ -1,10 +1,10 @@
 //! Operators over one input, by the columns of that input.
 
-ghost use Rattle.std.specs.Prelude.{◌≡◌, [], map, string_bytes, IfOk};
+ghost use Rattle.std.specs.Prelude.{◌≡◌, map, string_bytes, IfOk};
 ghost use Rattle.vx_document.specs.Fault.{Gives};
 ghost use Rattle.vx_document.specs.Document.{side_form, condition_form, output_form, function_form, aggregate_form, unary_form};
 ghost use Rattle.vx_plan.specs.Outline.{side_of, condition_of, aggregate_of, columns_of};
-ghost use Rattle.vx_plan.specs.Resolve.{side_found, condition_found, conditions_found, select_shape, output_name, kept_found, all_kept_found, kept_shape, kept_columns, project_shape, distinct_shape, sort_shape, function_found, aggregates_found, group_found, group_tested, group_shape, unary_shape};
+ghost use Rattle.vx_plan.specs.Resolve.{side_found, condition_found, conditions_found, select_shape, output_name, kept_found, all_kept_found, kept_shape, project_shape, distinct_shape, sort_shape, function_found, aggregates_found, group_found, group_tested, group_shape, unary_shape};
 ghost use Rattle.vx_plan.specs.Shaped.{shape_of};
 
 use crate::columns::{copied, group_names, group_types, kept_types, output_names};
@@ -129,7 +129,7 @@ fn all_kept_found(
     Ok(found)
 }
 
-/// The kept columns of a projection or a distinct. No output name stands twice.
+// The kept columns of a projection or a distinct. No output name stands twice.
 #[tactic(auto, unfolding(crate::specs::Resolve::kept_shape))]
 fn kept_shape(
     alloc: Global,

@@ -3,7 +3,7 @@ use Rattle.vx_rows.specs.Values.{Val}
 use Rattle.vx_rows.specs.Types.{type_of, is_held}
 use Rattle.vx_rows.specs.View.{val_of}
 use Rattle.vx_plan.specs.Typed.{type_eq}
-use Rattle.vx_plan.proofs.NameFacts.{list_all-map}
+use Rattle.std.proofs.lemmas.List.Folds.{list_all-map}
 use Rattle.vx_plan.proofs.fits.are_bounds_of.Goals as goal
 
 pub returns : goal.returns

@@ -1,5 +1,5 @@
 use Rattle.std.proofs.Common.{sym, ◌∙◌, bytes_eq, string_bytes}
-use Rattle.vx_plan.proofs.NameFacts.{position-map}
+use Rattle.vx_catalog.proofs.NameFacts.{position-map}
 use Rattle.vx_plan.proofs.lookup.find_name.Goals as goal
 
 pub returns : goal.returns
