@@ -1,11 +1,11 @@
 -- Lists of columns, in the words of the program's tests.
-use Rattle.std.proofs.Common.{◌≡◌, ℕ, zero, suc, ◌+◌, ◌-◌, ◌<◌, ◌≤◌, Bool, true, false, List, [], ◌∷◌, length, take, drop, map, get_or, nat_lt, nat_le, ◌==◌, ◌&&◌, ◌||◌, refl, sym, ap, ◌∙◌, arith, add-one, sub-one, eqb}
+use Rattle.std.proofs.Common.{◌≡◌, ℕ, zero, suc, ◌-◌, ◌<◌, Bool, true, false, List, [], ◌∷◌, length, take, nat_lt, ◌==◌, ◌&&◌, ◌||◌, refl, sym, ap, ◌∙◌, arith, eqb}
 use Rattle.std.proofs.lemmas.Bool.{eqb-true}
 use Rattle.std.proofs.Math.Bool.{and-false}
 use Rattle.std.specs.List.{list_all, list_any}
 use Rattle.std.specs.Cmp.Lexicographic.{pointwise}
 use Rattle.std.proofs.lemmas.Bool.Decides.{nat_tests}
-use Rattle.vx_check.specs.Rules.{numbers_eq, contains, within, front, covers, numbers_below}
+use Rattle.vx_check.specs.Rules.{numbers_eq, contains, within, front, numbers_below}
 
 pub list_all-ext : {X : Type 0} (p q : X → Bool) (xs : List X) → ((x : X) → p x ≡ q x) → list_all p xs ≡ list_all q xs
 list_all-ext p q [] h = refl
@@ -14,10 +14,6 @@ list_all-ext p q (x ∷ xs) h = rw (h x, list_all-ext p q xs h) refl
 pub list_any-ext : {X : Type 0} (p q : X → Bool) (xs : List X) → ((x : X) → p x ≡ q x) → list_any p xs ≡ list_any q xs
 list_any-ext p q [] h = refl
 list_any-ext p q (x ∷ xs) h = rw (h x, list_any-ext p q xs h) refl
-
-pub list_any-map : {X Y : Type 0} (p : Y → Bool) (f : X → Y) (xs : List X) → list_any p (map f xs) ≡ list_any (λ x. p (f x)) xs
-list_any-map p f [] = refl
-list_any-map p f (x ∷ xs) = ap (λ b. p (f x) || b) (list_any-map p f xs)
 
 pub front-starts : (p s : List ℕ) → pointwise eqb p (take (length p) s) ≡ front p s
 front-starts [] s = refl

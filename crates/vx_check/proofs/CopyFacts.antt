@@ -1,6 +1,6 @@
 -- Copies of columns, one by one.
-use Rattle.std.proofs.Common.{◌≡◌, ℕ, zero, suc, ◌+◌, ◌-◌, ◌<◌, ◌≤◌, Bool, true, false, cond, List, [], ◌∷◌, length, take, drop, map, get_or, nat_lt, nat_le, ◌==◌, ◌&&◌, ◌||◌, Option, Some, None, slice_get, is_some, refl, sym, ap, ◌∙◌, arith, add-one, drop-cons, not, eqb}
-use Rattle.std.specs.List.{list_all, list_any}
+use Rattle.std.proofs.Common.{◌≡◌, ℕ, suc, ◌+◌, ◌-◌, ◌<◌, ◌≤◌, Bool, true, false, cond, List, [], ◌∷◌, length, take, drop, map, get_or, nat_lt, nat_le, ◌==◌, ◌&&◌, Option, Some, None, slice_get, is_some, refl, sym, ap, ◌∙◌, arith, add-one, drop-cons, not, eqb}
+use Rattle.std.specs.List.{list_all}
 use Rattle.std.specs.Option.{option_eq}
 use Rattle.std.proofs.lemmas.List.{drop_all}
 use Rattle.std.proofs.lemmas.Bool.Decides.{nat_tests}
@@ -19,24 +19,19 @@ copied-each : (kept cols : List ℕ) → copied kept cols ≡ each_input (slice_
 copied-each kept [] = refl
 copied-each kept (c ∷ cs) = ap (cons_both (slice_get kept c)) (copied-each kept cs)
 
-left_cons : (b d : Bool) (c : ℕ) (cs : List ℕ) → cond (b && d) (Some (c ∷ cs)) None ≡ cons_both (cond b (Some c) None) (cond d (Some cs) None)
-left_cons true true c cs = refl
-left_cons true false c cs = refl
-left_cons false d c cs = refl
+cons_if : (b d : Bool) (c : ℕ) (cs : List ℕ) → cond (b && d) (Some (c ∷ cs)) None ≡ cons_both (cond b (Some c) None) (cond d (Some cs) None)
+cons_if true true c cs = refl
+cons_if true false c cs = refl
+cons_if false d c cs = refl
 
 left-each : (w : ℕ) (cols : List ℕ) → left_columns w cols ≡ each_input (λ c. cond (nat_lt c w) (Some c) None) cols
 left-each w [] = refl
-left-each w (c ∷ cs) = left_cons (nat_lt c w) (list_all (λ c. nat_lt c w) cs) c cs ∙ ap (cons_both (cond (nat_lt c w) (Some c) None)) (left-each w cs)
-
-right_cons : (b d : Bool) (c : ℕ) (cs : List ℕ) → cond (b && d) (Some (c ∷ cs)) None ≡ cons_both (cond b (Some c) None) (cond d (Some cs) None)
-right_cons true true c cs = refl
-right_cons true false c cs = refl
-right_cons false d c cs = refl
+left-each w (c ∷ cs) = cons_if (nat_lt c w) (list_all (λ c. nat_lt c w) cs) c cs ∙ ap (cons_both (cond (nat_lt c w) (Some c) None)) (left-each w cs)
 
 right-each : (w : ℕ) (cols : List ℕ) → right_columns w cols ≡ each_input (λ c. cond (nat_le w c) (Some (c - w)) None) cols
 right-each w [] = refl
 right-each w (c ∷ cs) =
-    right_cons (nat_le w c) (list_all (λ c. nat_le w c) cs) (c - w) (map (λ c. c - w) cs) ∙ ap (cons_both (cond (nat_le w c) (Some (c - w)) None)) (right-each w cs)
+    cons_if (nat_le w c) (list_all (λ c. nat_le w c) cs) (c - w) (map (λ c. c - w) cs) ∙ ap (cons_both (cond (nat_le w c) (Some (c - w)) None)) (right-each w cs)
 
 -- columns are copied one by one
 pub copied_by-each : (p : Copies) (cols : List ℕ) → copied_by p cols ≡ each_input (input_of p) cols

@@ -1,14 +1,15 @@
 -- Keys among copied columns.
-use Rattle.std.proofs.Common.{◌≡◌, ℕ, ◌+◌, ◌-◌, ◌≤◌, Bool, true, false, cond, List, [], ◌∷◌, map, nat_eq, nat_le, ◌==◌, ◌||◌, Option, Some, None, refl, sym, ap, ◌∙◌, arith}
-use Rattle.std.specs.List.{list_all, list_any}
+use Rattle.std.proofs.Common.{◌≡◌, ℕ, ◌+◌, ◌-◌, Bool, true, false, cond, List, [], ◌∷◌, map, nat_eq, nat_le, ◌==◌, ◌||◌, Option, Some, None, refl, sym, ◌∙◌, arith}
+use Rattle.std.specs.List.{list_any}
 use Rattle.std.specs.Option.{option_eq}
 use Rattle.std.proofs.lemmas.Bool.Decides.{nat_tests}
 use Rattle.std.proofs.lemmas.List.Folds.{list_all-map}
 use Rattle.vx_check.specs.declared.copies.Copies.{Copies}
 use Rattle.vx_check.specs.declared.copies.Copies.TheVariants.{Right}
 use Rattle.vx_check.specs.Rules.{contains, within, covers, cons_both, if_some, shifted}
-use Rattle.vx_check.specs.Copies.{input_of, copied_by, has_copy, has_key}
-use Rattle.vx_check.proofs.ColumnFacts.{list_all-ext, list_any-ext, list_any-map}
+use Rattle.vx_check.specs.Copies.{input_of, copied_by, has_key}
+use Rattle.vx_catalog.proofs.NameFacts.{list_any-map}
+use Rattle.vx_check.proofs.ColumnFacts.{list_all-ext, list_any-ext}
 use Rattle.vx_check.proofs.CopyFacts.{each_input, copied_by-each, eq_swap}
 
 found_cons : (o : Option ℕ) (os : Option (List ℕ)) (cs : List ℕ) (c : ℕ) (rest : Bool) → cons_both o os ≡ Some cs → ((ds : List ℕ) → os ≡ Some ds → rest ≡ contains ds c)

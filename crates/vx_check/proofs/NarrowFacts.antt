@@ -1,5 +1,7 @@
 -- A typed plan has few columns at each node.
-use Rattle.std.proofs.Common.{◌≡◌, ℕ, suc, ◌+◌, nat_lt, nat_le, Bool, true, false, ◌&&◌, List, [], ◌∷◌, map, length, refl, ap, ◌∙◌, subst, length-append}
+use Rattle.std.proofs.Common.{◌≡◌, ℕ, ◌+◌, nat_lt, nat_le, Bool, true, ◌&&◌, List, map, length, refl, ap, ◌∙◌, subst, length-append}
+use Rattle.std.proofs.lemmas.List.{length-map}
+pub use Rattle.vx_rows.proofs.Order.{and-left, and-right, and-both}
 use Rattle.vx_rows.specs.declared.value.ColType.{ColType}
 use Rattle.vx_rows.specs.Types.{type_at}
 use Rattle.vx_catalog.specs.Relation.{Relation}
@@ -9,33 +11,17 @@ use Rattle.vx_plan.specs.Types.{aggregate_type, unary_types, unary_width, binary
 use Rattle.vx_plan.specs.Typed.{Scope, are_columns, is_claim, is_unary, is_binary, is_kind, is_size, is_output, typed}
 use Rattle.vx_check.specs.Narrow.{narrow}
 
-pub and-left : (a b : Bool) → (a && b) ≡ true → a ≡ true
-and-left true b h = refl
-and-left false b h = h
-
-pub and-right : (a b : Bool) → (a && b) ≡ true → b ≡ true
-and-right true b h = h
-and-right false b h = cc
-
-pub and-both : (a b : Bool) → a ≡ true → b ≡ true → (a && b) ≡ true
-and-both true b h k = k
-and-both false b h k = h
-
-length_each : {X Y : Type 0} (f : X → Y) (xs : List X) → length (map f xs) ≡ length xs
-length_each f [] = refl
-length_each f (x ∷ xs) = ap (λ n. suc n) (length_each f xs)
-
 -- as many types as columns
 
 unary_types-width : (op : Unary) (types : List ColType) → length (unary_types op types) ≡ unary_width op (length types)
 unary_types-width (select cs) types = refl
-unary_types-width (project cols) types = length_each (type_at types) cols
-unary_types-width (distinct cols) types = length_each (type_at types) cols
+unary_types-width (project cols) types = length-map cols (type_at types)
+unary_types-width (distinct cols) types = length-map cols (type_at types)
 unary_types-width (sort cols) types = refl
 unary_types-width (group by aggregates) types =
     length-append (map (type_at types) by) (map (aggregate_type types) aggregates)
-    ∙ ap (λ k. k + length (map (aggregate_type types) aggregates)) (length_each (type_at types) by)
-    ∙ ap (λ k. length by + k) (length_each (aggregate_type types) aggregates)
+    ∙ ap (λ k. k + length (map (aggregate_type types) aggregates)) (length-map by (type_at types))
+    ∙ ap (λ k. length by + k) (length-map aggregates (aggregate_type types))
 
 binary_types-width : (op : Binary) (ts us : List ColType) → length (binary_types op ts us) ≡ binary_width op (length ts) (length us)
 binary_types-width union ts us = refl

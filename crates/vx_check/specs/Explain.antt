@@ -5,7 +5,8 @@ use Rattle.serde_json.specs.Data.{string}
 use Rattle.serde_json.specs.Written.{compact_text}
 use Rattle.vx_rows.specs.Values.{Val, num, text}
 use Rattle.vx_catalog.specs.Catalog.{relation_at}
-use Rattle.vx_plan.specs.Plan.{Size, one_worker, group_of, Route, by_hash, by_range, Part, one, any, all, routed, Claim, Side, column, constant, Test, equal, unequal, below, at_most, above, at_least, Condition, Aggregate, least, greatest, sum, count_rows, Unary, select, project, distinct, sort, group, Binary, union, join, Kind, route_to, round, broadcast, gather, size}
+use Rattle.vx_plan.specs.Plan.{Size, one_worker, group_of, Route, by_hash, by_range, Part, one, any, all, routed, Claim, Side, column, constant, Condition, Aggregate, least, greatest, sum, count_rows, Unary, select, project, distinct, sort, group, Binary, union, join, Kind, route_to, round, broadcast, gather, size}
+use Rattle.vx_document.specs.Test.{test_text}
 use Rattle.vx_document.specs.Document.{Name}
 use Rattle.vx_plan.specs.Lookup.{Names}
 use Rattle.vx_plan.specs.Outline.{Outline, scan, unary, binary, exchange, top, columns, plan_in}
@@ -61,14 +62,6 @@ scan_text s r shared prefix = codes "scan " ++ ((relation_at s.catalog r).name +
 abbrev pub value_text : Val → List ℕ
 value_text (num z) = signed_decimal z
 value_text (text bytes) = compact_text (string bytes)
-
-abbrev pub test_text : Test → List ℕ
-test_text equal = codes "="
-test_text unequal = codes "<>"
-test_text below = codes "<"
-test_text at_most = codes "<="
-test_text above = codes ">"
-test_text at_least = codes ">="
 
 abbrev pub side_text : List Name → Side → List ℕ
 side_text names (column c) = name_at names c

@@ -1,8 +1,8 @@
 //! Output columns that are copies of input columns.
 
 ghost use Rattle.std.specs.Prelude.{◌≡◌, ◌&&◌, map, true};
-ghost use Rattle.std.specs.List.{list_any, list_all};
-ghost use Rattle.vx_check.specs.Rules.{numbers_eq, front, covers, if_some, contains, within, shifted};
+ghost use Rattle.std.specs.List.{list_all};
+ghost use Rattle.vx_check.specs.Rules.{numbers_eq, front, covers, if_some, shifted};
 
 use vx_plan::Kept;
 
@@ -62,7 +62,7 @@ impl Copies<'_> {
     {
         columns.len() <= inputs.len() && self.stand_for(columns, &inputs[..columns.len()])
     }
-    /// Whether one of the output columns is a copy of this input column.
+    // Whether one of the output columns is a copy of this input column.
     fn is_copied(self, columns: &[usize], input: usize) -> bool
         ensures { result ≡ has_copy self.entry columns.now input }
     {
@@ -71,7 +71,7 @@ impl Copies<'_> {
             .any(|column| self.input(*column) == Some(input))
     }
 
-    /// Whether each of the input columns has a copy among these output columns.
+    // Whether each of the input columns has a copy among these output columns.
     fn are_copied(self, columns: &[usize], inputs: &[usize]) -> bool
         ensures { result ≡ list_all (has_copy self.entry columns.now) inputs.now }
     {

@@ -1,22 +1,19 @@
 //! What the text that explains a plan says of a node's operator.
 
-ghost use Rattle.std.specs.Prelude.{◌≡◌, ◌++◌, ◌+◌, ◌<◌, ◌^◌, map, string_bytes, length, OnOk, cond, codes, false, []};
+ghost use Rattle.std.specs.Prelude.{◌≡◌, ◌++◌, ◌+◌, ◌<◌, ◌^◌, map, string_bytes, length, OnOk, codes, false};
 ghost use Rattle.vx_rows.specs.View.{val_of};
 ghost use Rattle.vx_catalog.specs.Catalog.{relation_at};
-ghost use Rattle.vx_document.specs.Document.{test_of};
-ghost use Rattle.vx_plan.specs.Outline.{side_of, condition_of, aggregate_of, unary_of, renamed_of, binary_of, kind_of, size_of};
+ghost use Rattle.vx_plan.specs.Outline.{condition_of, aggregate_of, unary_of, renamed_of, binary_of, kind_of};
 ghost use Rattle.vx_plan.specs.TypedView.{names_in};
-ghost use Rattle.vx_check.specs.Explain.{name_at, separated, value_text, test_text, side_text, condition_text, kept_text, kept_texts, function_text, aggregate_texts, aggregates_text, unary_text, pair_text, binary_text, kind_text, merge_text, scan_text, prefix_text};
+ghost use Rattle.vx_check.specs.Explain.{name_at, separated, value_text, condition_text, kept_text, kept_texts, function_text, aggregate_texts, aggregates_text, unary_text, pair_text, binary_text, kind_text, merge_text, scan_text, prefix_text};
 
-use crate::words::{name_at, push_between, push_list, push_route};
+use crate::words::{name_at, push_between, push_list, push_routed};
 use itoa::Buffer;
 use std::alloc::{AllocError, Global};
-use vx_plan::{
-    Aggregate, Binary, Condition, Exchange, Kept, Kind, Scan, Side, Test, TypedPlan, Unary,
-};
+use vx_plan::{Aggregate, Binary, Condition, Exchange, Kept, Kind, Scan, Side, TypedPlan, Unary};
 use vx_rows::Value;
 
-/// Adds a number in plain decimal, or a text as `serde_json` writes it.
+// Adds a number in plain decimal, or a text as `serde_json` writes it.
 fn push_value(alloc: Global, text: &mut String, value: &Value) -> Result<(), AllocError>
     ensures { OnOk result (string_bytes text.new ≡ string_bytes text.old ++ value_text (val_of value.now)) }
 {
@@ -35,19 +32,6 @@ fn push_value(alloc: Global, text: &mut String, value: &Value) -> Result<(), All
     }
 }
 
-fn test_word(test: Test) -> &'static str
-    ensures { result.now ≡ test_text (test_of test) }
-{
-    match test {
-        Test::Equal => "=",
-        Test::Unequal => "<>",
-        Test::Below => "<",
-        Test::AtMost => "<=",
-        Test::Above => ">",
-        Test::AtLeast => ">=",
-    }
-}
-
 fn push_condition(
     alloc: Global,
     text: &mut String,
@@ -58,7 +42,7 @@ fn push_condition(
 {
     text.push_str(name_at(names, condition.left))?;
     text.push_str(" ")?;
-    text.push_str(test_word(condition.test))?;
+    text.push_str(condition.test.text())?;
     text.push_str(" ")?;
     match &condition.right {
         Side::Column(column) => text.push_str(name_at(names, *column)),
@@ -81,7 +65,7 @@ fn push_conditions(
     Ok(())
 }
 
-/// Adds a kept column, with its new name where it has one.
+// Adds a kept column, with its new name where it has one.
 fn push_kept_column(
     text: &mut String,
     input: &str,
@@ -118,7 +102,7 @@ fn push_kept_columns(
     Ok(())
 }
 
-/// Adds an operator's word and the columns that it keeps, in brackets.
+// Adds an operator's word and the columns that it keeps, in brackets.
 fn push_kept(
     text: &mut String,
     word: &str,
@@ -151,7 +135,7 @@ fn push_function(
     text.push_str(")")
 }
 
-/// Adds aggregates, the first of which has the number `first` in the output.
+// Adds aggregates, the first of which has the number `first` in the output.
 fn push_aggregate_list(
     text: &mut String,
     inputs: &[String],
@@ -171,7 +155,7 @@ fn push_aggregate_list(
     Ok(())
 }
 
-/// Adds aggregates behind a space, if there are any.
+// Adds aggregates behind a space, if there are any.
 fn push_aggregates(
     text: &mut String,
     inputs: &[String],
@@ -235,7 +219,7 @@ fn push_pairs(
     Ok(())
 }
 
-/// Adds a join's word and its pairs, in brackets.
+// Adds a join's word and its pairs, in brackets.
 fn push_join(
     text: &mut String,
     word: &str,
@@ -275,17 +259,20 @@ fn push_kind(
     ensures { OnOk result (string_bytes text.new ≡ string_bytes text.old ++ kind_text (names_in plan.now) (map string_bytes inputs.now) (kind_of kind.now)) }
 {
     match kind {
-        Kind::Route(_, route, columns) => {
-            push_route(text, plan, route)?;
-            push_list(text, inputs, columns.as_slice())
-        }
+        Kind::Route(_, route, columns) => push_routed(
+            text,
+            plan,
+            inputs,
+            route,
+            columns.as_slice(),
+        ),
         Kind::Round(_) => text.push_str("round"),
         Kind::Broadcast(_) => text.push_str("broadcast"),
         Kind::Gather => text.push_str("gather"),
     }
 }
 
-/// Adds the columns that an exchange merges on, if there are any.
+// Adds the columns that an exchange merges on, if there are any.
 fn push_merge(text: &mut String, inputs: &[String], merge: &[usize]) -> Result<(), AllocError>
     ensures { OnOk result (string_bytes text.new ≡ string_bytes text.old ++ merge_text (map string_bytes inputs.now) merge.now) }
 {
@@ -310,7 +297,7 @@ pub fn push_exchange(
     push_merge(text, inputs, exchange.merge.as_slice())
 }
 
-/// Adds a scan's prefix, if there is one.
+// Adds a scan's prefix, if there is one.
 fn push_prefix(text: &mut String, prefix: &str) -> Result<(), AllocError>
     ensures { OnOk result (string_bytes text.new ≡ string_bytes text.old ++ prefix_text prefix.now) }
 {
@@ -321,7 +308,7 @@ fn push_prefix(text: &mut String, prefix: &str) -> Result<(), AllocError>
     text.push_str(prefix)
 }
 
-/// Adds the name of a relation; past the end of the catalog there is none.
+// Adds the name of a relation; past the end of the catalog there is none.
 fn push_relation(text: &mut String, plan: &TypedPlan, relation: usize) -> Result<(), AllocError>
     ensures { OnOk result (string_bytes text.new ≡ string_bytes text.old ++ (relation_at (names_in plan.now).catalog relation).name) }
 {

@@ -16,14 +16,14 @@ use itoa::Buffer;
 use std::alloc::{AllocError, Global};
 use vx_plan::{TypedNode, TypedPlan};
 
-/// The names of the node's output columns.
+// The names of the node's output columns.
 fn column_names(node: &TypedNode) -> &[String]
     ensures { map string_bytes result.now ≡ (columns (outline_of node.now)).names }
 {
     node.head().columns.names.as_slice()
 }
 
-/// Adds what the node does.
+// Adds what the node does.
 fn push_description(
     alloc: Global,
     text: &mut String,
@@ -55,7 +55,7 @@ fn push_description(
     }
 }
 
-/// Adds the margin and the number that a line begins with.
+// Adds the margin and the number that a line begins with.
 fn push_number(text: &mut String, margin: &str, number: u32) -> Result<(), AllocError>
     ensures { OnOk result (string_bytes text.new ≡ string_bytes text.old ++ (margin.now ++ (codes "#" ++ (decimal number ++ codes " ")))) }
 {
@@ -66,7 +66,7 @@ fn push_number(text: &mut String, margin: &str, number: u32) -> Result<(), Alloc
     text.push_str(" ")
 }
 
-/// Adds the node's size and its claim, with which a line ends.
+// Adds the node's size and its claim, with which a line ends.
 fn push_notes(text: &mut String, plan: &TypedPlan, node: &TypedNode) -> Result<(), AllocError>
     ensures { OnOk result (string_bytes text.new ≡ string_bytes text.old ++ (codes " size=" ++ (size_text (names_in plan.now) (size (plan_of node.now)) ++ (claim_text (names_in plan.now) (columns (outline_of node.now)).names (top (outline_of node.now)).claim ++ codes "\n")))) }
 {
@@ -76,7 +76,7 @@ fn push_notes(text: &mut String, plan: &TypedPlan, node: &TypedNode) -> Result<(
     text.push_str("\n")
 }
 
-/// Adds the node's line, behind its margin.
+// Adds the node's line, behind its margin.
 fn push_line(
     alloc: Global,
     text: &mut String,
@@ -91,7 +91,7 @@ fn push_line(
     push_notes(text, plan, node)
 }
 
-/// Adds the line of the node, and then those of the nodes below it.
+// Adds the line of the node, and then those of the nodes below it.
 fn push_lines(
     alloc: Global,
     text: &mut String,

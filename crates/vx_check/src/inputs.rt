@@ -28,7 +28,7 @@ pub fn is_not_replicated(node: &TypedNode) -> bool
     }
 }
 
-/// Whether the rows of a distinct or a group that belong together are on one worker.
+// Whether the rows of a distinct or a group that belong together are on one worker.
 fn is_kept_apart(operator: &Unary, input: &TypedNode) -> bool
     ensures { result ≡ keeps_apart (unary_of operator.now) (plan_of input.now) }
 {
@@ -42,7 +42,7 @@ fn is_kept_apart(operator: &Unary, input: &TypedNode) -> bool
     }
 }
 
-/// Whether the inputs' parts serve an operator with more than one worker.
+// Whether the inputs' parts serve an operator with more than one worker.
 fn do_inputs_serve(operator: &Binary, left: &TypedNode, right: &TypedNode) -> bool
     ensures { result ≡ binary_inputs_match (binary_of operator.now) (plan_of left.now) (plan_of right.now) }
 {

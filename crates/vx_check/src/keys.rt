@@ -4,7 +4,7 @@ ghost use Rattle.std.specs.Prelude.{◌≡◌, map, true};
 ghost use Rattle.std.specs.List.{list_all};
 ghost use Rattle.vx_catalog.specs.Catalog.{relation_at};
 ghost use Rattle.vx_plan.specs.Outline.{unary_of, binary_of, plan_of};
-ghost use Rattle.vx_check.specs.Rules.{covers, unary_keys, join_keys, keys_shown};
+ghost use Rattle.vx_check.specs.Rules.{covers, unary_keys, keys_shown};
 ghost use Rattle.vx_check.specs.Joints.{binary_keys};
 ghost use Rattle.vx_check.specs.Narrow.{narrow};
 
@@ -16,7 +16,7 @@ use crate::widths::width_of;
 use vx_catalog::{Catalog, Relation};
 use vx_plan::{Binary, TypedNode, Unary};
 
-/// Whether the columns are a superset of a key that the relation declares.
+// Whether the columns are a superset of a key that the relation declares.
 fn is_declared(relation: &Relation, columns: &[usize]) -> bool
     ensures { result ≡ covers relation.now.keys columns.now }
 {
@@ -28,7 +28,7 @@ fn is_declared(relation: &Relation, columns: &[usize]) -> bool
     false
 }
 
-/// Whether each of the keys is a superset of one that the relation declares.
+// Whether each of the keys is a superset of one that the relation declares.
 fn declares_keys(catalog: &Catalog, relation: usize, keys: &[Vec<usize>]) -> bool
     ensures { result ≡ list_all (covers (relation_at catalog.now relation).keys) (map (λ k. k.items) keys.now) }
 {
@@ -40,7 +40,7 @@ fn declares_keys(catalog: &Catalog, relation: usize, keys: &[Vec<usize>]) -> boo
     }
 }
 
-/// Whether an operator shows the key, over an input with the keys `below`.
+// Whether an operator shows the key, over an input with the keys `below`.
 fn shows_key_over(operator: &Unary, below: &[Vec<usize>], key: &[usize]) -> bool
     ensures { result ≡ unary_keys (unary_of operator.now) (map (λ k. k.items) below.now) key.now }
 {
@@ -52,7 +52,7 @@ fn shows_key_over(operator: &Unary, below: &[Vec<usize>], key: &[usize]) -> bool
     }
 }
 
-/// Whether an operator shows each of the keys, over an input with the keys `below`.
+// Whether an operator shows each of the keys, over an input with the keys `below`.
 fn shows_keys_over(operator: &Unary, below: &[Vec<usize>], keys: &[Vec<usize>]) -> bool
     ensures { result ≡ list_all (unary_keys (unary_of operator.now) (map (λ k. k.items) below.now)) (map (λ k. k.items) keys.now) }
 {
@@ -60,7 +60,7 @@ fn shows_keys_over(operator: &Unary, below: &[Vec<usize>], keys: &[Vec<usize>]) 
         .all(|key| shows_key_over(operator, below, key.as_slice()))
 }
 
-/// Whether an operator over inputs with these keys shows the key, `width` being the left input's number of columns.
+// Whether an operator over inputs with these keys shows the key, `width` being the left input's number of columns.
 fn binary_shows_key(
     operator: &Binary,
     width: usize,
@@ -82,7 +82,7 @@ fn binary_shows_key(
         || (has_right && hold_key(Input::Left, on, lefts))
 }
 
-/// Whether an operator over inputs with these keys shows each of the keys.
+// Whether an operator over inputs with these keys shows each of the keys.
 fn binary_shows_keys(
     operator: &Binary,
     width: usize,
@@ -95,7 +95,7 @@ fn binary_shows_keys(
     keys.iter().all(|key| binary_shows_key(operator, width, lefts, rights, key.as_slice()))
 }
 
-/// Whether each of the keys is a superset of one of these.
+// Whether each of the keys is a superset of one of these.
 fn are_covered(below: &[Vec<usize>], keys: &[Vec<usize>]) -> bool
     ensures { result ≡ list_all (covers (map (λ k. k.items) below.now)) (map (λ k. k.items) keys.now) }
 {

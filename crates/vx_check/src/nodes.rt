@@ -1,4 +1,4 @@
-//! What a node has: its claim, its size and its width.
+//! What a node has: its number, its claim and its size.
 
 ghost use Rattle.std.specs.Prelude.{◌≡◌, map};
 ghost use Rattle.vx_plan.specs.Plan.{claim, size, size_eq, is_one, number, target};

@@ -33,7 +33,7 @@ pub fn is_order_given(node: &TypedNode) -> bool
     }
 }
 
-/// Whether the relation's declared order begins so.
+// Whether the relation's declared order begins so.
 fn declares_order(catalog: &Catalog, relation: usize, order: &[usize]) -> bool
     ensures { result ≡ front order.now (relation_at catalog.now relation).order }
 {
@@ -44,7 +44,7 @@ fn declares_order(catalog: &Catalog, relation: usize, order: &[usize]) -> bool
     }
 }
 
-/// Whether an operator shows the order, over an input that is sorted on `below`.
+// Whether an operator shows the order, over an input that is sorted on `below`.
 fn shows_order_over(operator: &Unary, below: &[usize], order: &[usize]) -> bool
     ensures { result ≡ unary_orders (unary_of operator.now) below.now order.now }
 {
@@ -58,7 +58,7 @@ fn shows_order_over(operator: &Unary, below: &[usize], order: &[usize]) -> bool
     }
 }
 
-/// Whether an operator over two inputs shows the order, where the left input is sorted on `left`.
+// Whether an operator over two inputs shows the order, where the left input is sorted on `left`.
 fn binary_shows_order(operator: &Binary, left: &[usize], order: &[usize]) -> bool
     ensures { result ≡ binary_orders (binary_of operator.now) left.now order.now }
 {
@@ -68,7 +68,7 @@ fn binary_shows_order(operator: &Binary, left: &[usize], order: &[usize]) -> boo
     }
 }
 
-/// Whether an exchange over the input shows the order.
+// Whether an exchange over the input shows the order.
 fn exchange_shows_order(exchange: &Exchange, input: &TypedNode, order: &[usize]) -> bool
     ensures { result ≡ (front order.now exchange.now.merge.items || (is_one (size (plan_of input.now)) && front order.now (claim (plan_of input.now)).order)) }
 {

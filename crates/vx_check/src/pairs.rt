@@ -1,7 +1,6 @@
 //! The pairs of columns on which a join's inputs agree.
 
 ghost use Rattle.std.specs.Prelude.{◌≡◌, map};
-ghost use Rattle.std.specs.List.{list_all};
 ghost use Rattle.vx_check.specs.Rules.{contains, within, front, covers, has_pair, all_pairs};
 ghost use Rattle.vx_check.specs.Pairs.{column_of};
 
@@ -12,7 +11,7 @@ pub enum Input {
     Right,
 }
 
-/// The column of a pair that is one of this input.
+// The column of a pair that is one of this input.
 fn column_in(input: Input, pair: (usize, usize)) -> usize
     ensures { result ≡ column_of input pair }
 {
@@ -34,14 +33,14 @@ pub fn are_front(input: Input, on: &[(usize, usize)], order: &[usize]) -> bool
     true
 }
 
-/// Whether the column is one that a pair names for the input.
+// Whether the column is one that a pair names for the input.
 fn is_joined(input: Input, on: &[(usize, usize)], column: usize) -> bool
     ensures { result ≡ contains (map (column_of input) on.now) column }
 {
     on.iter().any(|pair| column == column_in(input, *pair))
 }
 
-/// Whether each of the columns is one that a pair names for the input.
+// Whether each of the columns is one that a pair names for the input.
 fn are_joined(input: Input, on: &[(usize, usize)], columns: &[usize]) -> bool
     ensures { result ≡ within columns.now (map (column_of input) on.now) }
 {
@@ -55,7 +54,7 @@ pub fn hold_key(input: Input, on: &[(usize, usize)], keys: &[Vec<usize>]) -> boo
     keys.iter().any(|key| are_joined(input, on, key.as_slice()))
 }
 
-/// Whether the two columns are one of the pairs.
+// Whether the two columns are one of the pairs.
 fn is_pair(on: &[(usize, usize)], left: usize, right: usize) -> bool
     ensures { result ≡ has_pair on.now left right }
 {

@@ -1,7 +1,7 @@
 //! Parts: what a claimed one gives, and what an output has of its input's.
 
 ghost use Rattle.std.specs.Prelude.{◌≡◌, ◌||◌, map};
-ghost use Rattle.vx_plan.specs.Plan.{claim, size, is_one, routed};
+ghost use Rattle.vx_plan.specs.Plan.{routed};
 ghost use Rattle.vx_plan.specs.Outline.{part_of, route_of, plan_of};
 ghost use Rattle.vx_check.specs.Rules.{route_eq, part_gives, has, if_some, contains, within, routed_within, routed_alike, through};
 ghost use Rattle.vx_check.specs.Copies.{copied_by};
@@ -12,7 +12,7 @@ use crate::nodes::{claimed_part, has_one_worker};
 use crate::pairs::are_pairs;
 use vx_plan::{Kept, Part, Route, TypedNode};
 
-/// The same kind and name.
+// The same kind and name.
 fn is_same_route(route: &Route, other: &Route) -> bool
     ensures { result ≡ route_eq (route_of route.now) (route_of other.now) }
 {
@@ -65,8 +65,8 @@ pub fn gives_routed(claimed: &Part, copies: Copies<'_>, route: &Route, columns: 
     }
 }
 
-/// Whether the input has the part that is routed by this route, on the input columns that these output columns are
-/// copies of.
+// Whether the input has the part that is routed by this route, on the input columns that these output columns are
+// copies of.
 fn has_routed(input: &TypedNode, copies: Copies<'_>, route: &Route, columns: &[usize]) -> bool
     ensures { result ≡ if_some (copied_by copies.entry columns.now) (λ cs. has (plan_of input.now) (routed (route_of route.now) cs)) }
 {

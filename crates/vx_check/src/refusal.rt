@@ -17,7 +17,7 @@ use crate::shown::is_part_shown;
 use vx_catalog::Catalog;
 use vx_plan::TypedNode;
 
-/// The first of a node's tests that fails.
+// The first of a node's tests that fails.
 fn failure_at(catalog: &Catalog, node: &TypedNode) -> Option<Rule>
     requires { narrow (relation_at catalog.now) (plan_of node.now) ≡ true }
     ensures { option_map rule_of result ≡ first_failure (node_tests (relation_at catalog.now) (plan_of node.now)) }
@@ -46,7 +46,7 @@ fn failure_at(catalog: &Catalog, node: &TypedNode) -> Option<Rule>
     None
 }
 
-/// The first of the root's own tests that fails.
+// The first of the root's own tests that fails.
 fn root_failure(catalog: &Catalog, is_total: bool, root: &TypedNode) -> Option<Rule>
     requires { narrow (relation_at catalog.now) (plan_of root.now) ≡ true }
     ensures { option_map rule_of result ≡ first_failure (root_tests (relation_at catalog.now) is_total (plan_of root.now)) }
@@ -60,7 +60,7 @@ fn root_failure(catalog: &Catalog, is_total: bool, root: &TypedNode) -> Option<R
     None
 }
 
-/// The node with the first of its tests that fails.
+// The node with the first of its tests that fails.
 fn refused_here(catalog: &Catalog, node: &TypedNode) -> Option<(u32, Rule)>
     requires { narrow (relation_at catalog.now) (plan_of node.now) ≡ true }
     ensures { option_map refusal_of result ≡ refused_at (number (plan_of node.now)) (node_tests (relation_at catalog.now) (plan_of node.now)) }
@@ -68,7 +68,7 @@ fn refused_here(catalog: &Catalog, node: &TypedNode) -> Option<(u32, Rule)>
     failure_at(catalog, node).map(|rule| (head_of(node).number, rule))
 }
 
-/// What was refused below, or else the node with the first of its tests that fails.
+// What was refused below, or else the node with the first of its tests that fails.
 fn or_refused_here(
     below: Option<(u32, Rule)>,
     catalog: &Catalog,
@@ -80,7 +80,7 @@ fn or_refused_here(
     below.or_else(|| refused_here(catalog, node))
 }
 
-/// The first refused node in post-order, and the first of its tests that fails.
+// The first refused node in post-order, and the first of its tests that fails.
 fn first_refused_in(catalog: &Catalog, node: &TypedNode) -> Option<(u32, Rule)>
     requires { narrow (relation_at catalog.now) (plan_of node.now) ≡ true }
     ensures { option_map refusal_of result ≡ first_refused (relation_at catalog.now) (plan_of node.now) }
@@ -106,7 +106,7 @@ fn first_refused_in(catalog: &Catalog, node: &TypedNode) -> Option<(u32, Rule)>
     }
 }
 
-/// The root with the first of its own tests that fails.
+// The root with the first of its own tests that fails.
 fn refused_root(catalog: &Catalog, is_total: bool, root: &TypedNode) -> Option<(u32, Rule)>
     requires { narrow (relation_at catalog.now) (plan_of root.now) ≡ true }
     ensures { option_map refusal_of result ≡ refused_at (number (plan_of root.now)) (root_tests (relation_at catalog.now) is_total (plan_of root.now)) }

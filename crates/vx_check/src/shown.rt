@@ -4,7 +4,7 @@ ghost use Rattle.std.specs.Prelude.{◌≡◌, true, cond};
 ghost use Rattle.vx_plan.specs.Plan.{any, all};
 ghost use Rattle.vx_catalog.specs.Catalog.{relation_at};
 ghost use Rattle.vx_plan.specs.Outline.{part_of, unary_of, binary_of, kind_of, plan_of};
-ghost use Rattle.vx_check.specs.Rules.{part_gives, unary_shows, alike_shows, join_shows, both_have, kind_shows, shows, part_shown};
+ghost use Rattle.vx_check.specs.Rules.{part_gives, unary_shows, alike_shows, join_shows, both_have, kind_shows, part_shown};
 ghost use Rattle.vx_check.specs.Joints.{binary_shows};
 ghost use Rattle.vx_check.specs.Narrow.{narrow};
 
@@ -15,7 +15,7 @@ use crate::widths::width_of;
 use vx_catalog::Catalog;
 use vx_plan::{Binary, Kind, Part, TypedNode, Unary};
 
-/// Whether an operator over the input shows the part.
+// Whether an operator over the input shows the part.
 fn shows_over(operator: &Unary, input: &TypedNode, wanted: &Part) -> bool
     ensures { result ≡ unary_shows (unary_of operator.now) (plan_of input.now) (part_of wanted.now) }
 {
@@ -30,7 +30,7 @@ fn shows_over(operator: &Unary, input: &TypedNode, wanted: &Part) -> bool
     }
 }
 
-/// Whether a join shows the part because its inputs have these parts, which are routed alike.
+// Whether a join shows the part because its inputs have these parts, which are routed alike.
 fn alike_give(width: usize, left: &Part, right: &Part, wanted: &Part) -> bool
     ensures { result ≡ alike_shows width (part_of left.now) (part_of right.now) (part_of wanted.now) }
 {
@@ -44,8 +44,8 @@ fn alike_give(width: usize, left: &Part, right: &Part, wanted: &Part) -> bool
     }
 }
 
-/// Whether a join shows the part: by inputs that are routed alike, by a right input that each worker has whole, or by
-/// such a left one.
+// Whether a join shows the part: by inputs that are routed alike, by a right input that each worker has whole, or by
+// such a left one.
 fn join_gives(
     on: &[(usize, usize)],
     width: usize,
@@ -62,7 +62,7 @@ fn join_gives(
         || (has_part(left, &Part::All) && passes_through(right, Copies::Right(width), wanted))
 }
 
-/// Whether a union shows the part: both inputs have it.
+// Whether a union shows the part: both inputs have it.
 fn union_gives(left: &TypedNode, right: &TypedNode, wanted: &Part) -> bool
     ensures { result ≡ both_have (plan_of left.now) (plan_of right.now) (part_of wanted.now) }
 {
@@ -72,7 +72,7 @@ fn union_gives(left: &TypedNode, right: &TypedNode, wanted: &Part) -> bool
     }
 }
 
-/// Whether an operator over two inputs shows the part, `width` being the left input's number of columns.
+// Whether an operator over two inputs shows the part, `width` being the left input's number of columns.
 fn binary_gives(
     operator: &Binary,
     width: usize,
@@ -94,7 +94,7 @@ fn binary_gives(
     }
 }
 
-/// Whether an exchange of this kind shows the part.
+// Whether an exchange of this kind shows the part.
 fn kind_gives(kind: &Kind, wanted: &Part) -> bool
     ensures { result ≡ kind_shows (kind_of kind.now) (part_of wanted.now) }
 {
@@ -106,7 +106,7 @@ fn kind_gives(kind: &Kind, wanted: &Part) -> bool
     }
 }
 
-/// Whether a scan shows the part.
+// Whether a scan shows the part.
 fn scan_gives(is_shared: bool, wanted: &Part) -> bool
     ensures { result ≡ part_gives (cond is_shared any all) (part_of wanted.now) }
 {

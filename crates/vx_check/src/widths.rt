@@ -9,7 +9,7 @@ ghost use Rattle.vx_check.specs.Narrow.{narrow};
 use vx_catalog::Catalog;
 use vx_plan::{Binary, TypedNode, Unary};
 
-/// How many columns a relation has.
+// How many columns a relation has.
 fn relation_width(catalog: &Catalog, relation: usize) -> usize
     ensures { result ≡ length (relation_at catalog.now relation).types }
 {
@@ -20,7 +20,7 @@ fn relation_width(catalog: &Catalog, relation: usize) -> usize
     }
 }
 
-/// How many columns an operator gives, over an input of so many.
+// How many columns an operator gives, over an input of so many.
 fn width_over(operator: &Unary, input: usize) -> usize
     requires { unary_width (unary_of operator.now) input ≤ 64 }
     ensures { result ≡ unary_width (unary_of operator.now) input }

@@ -29,7 +29,7 @@ pub fn push_between(text: &mut String, between: &str, is_later: bool) -> Result<
     }
 }
 
-/// Adds columns by their names.
+// Adds columns by their names.
 fn push_names(text: &mut String, names: &[String], columns: &[usize]) -> Result<(), AllocError>
     ensures { OnOk result (string_bytes text.new ≡ string_bytes text.old ++ separated (codes ",") false (map (name_at (map string_bytes names.now)) columns.now)) }
 {
@@ -59,7 +59,7 @@ pub fn push_size(text: &mut String, plan: &TypedPlan, size: Size) -> Result<(), 
     }
 }
 
-/// The name of a declared range; past the end the empty one.
+// The name of a declared range; past the end the empty one.
 fn range_name<'a>(plan: &'a TypedPlan, range: usize) -> &'a str
     ensures { result.now ≡ name_at (map (λ r. r.name) (names_in plan.now).ranges) range }
 {
@@ -85,7 +85,21 @@ pub fn push_route(text: &mut String, plan: &TypedPlan, route: &Route) -> Result<
     }
 }
 
-/// Adds a part, whose columns have these names.
+/// Adds a route and the columns by which it sends, by their names.
+pub fn push_routed(
+    text: &mut String,
+    plan: &TypedPlan,
+    names: &[String],
+    route: &Route,
+    columns: &[usize],
+) -> Result<(), AllocError>
+    ensures { OnOk result (string_bytes text.new ≡ string_bytes text.old ++ (route_text (names_in plan.now) (route_of route.now) ++ list_text (map string_bytes names.now) columns.now)) }
+{
+    push_route(text, plan, route)?;
+    push_list(text, names, columns)
+}
+
+// Adds a part, whose columns have these names.
 fn push_part(
     text: &mut String,
     plan: &TypedPlan,
@@ -98,14 +112,11 @@ fn push_part(
         Part::One => text.push_str("one"),
         Part::Any => text.push_str("any"),
         Part::All => text.push_str("all"),
-        Part::Routed(route, columns) => {
-            push_route(text, plan, route)?;
-            push_list(text, names, columns.as_slice())
-        }
+        Part::Routed(route, columns) => push_routed(text, plan, names, route, columns.as_slice()),
     }
 }
 
-/// Adds lists of columns.
+// Adds lists of columns.
 fn push_lists(text: &mut String, names: &[String], keys: &[Vec<usize>]) -> Result<(), AllocError>
     ensures { OnOk result (string_bytes text.new ≡ string_bytes text.old ++ separated (codes ";") false (map (list_text (map string_bytes names.now)) (map (λ k. k.items) keys.now))) }
 {
@@ -116,7 +127,7 @@ fn push_lists(text: &mut String, names: &[String], keys: &[Vec<usize>]) -> Resul
     Ok(())
 }
 
-/// Adds keys, or a dash where there is none.
+// Adds keys, or a dash where there is none.
 fn push_keys(text: &mut String, names: &[String], keys: &[Vec<usize>]) -> Result<(), AllocError>
     ensures { OnOk result (string_bytes text.new ≡ string_bytes text.old ++ keys_text (map string_bytes names.now) (map (λ k. k.items) keys.now)) }
 {

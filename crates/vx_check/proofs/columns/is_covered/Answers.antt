@@ -3,7 +3,7 @@ use Rattle.std.proofs.lemmas.Iterator.{YieldsList-from_slice}
 use Rattle.std.proofs.lemmas.Iterator.Search.{any_from_yields_List}
 use borrow.Author.Tests.{tests}
 use Rattle.vx_check.specs.Rules.{within}
-use Rattle.vx_check.proofs.ColumnFacts.{list_any-map}
+use Rattle.vx_catalog.proofs.NameFacts.{list_any-map}
 use Rattle.vx_check.proofs.columns.is_covered.Goals as goal
 
 pub returns : goal.returns

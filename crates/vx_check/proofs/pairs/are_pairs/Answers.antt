@@ -1,5 +1,5 @@
-use Rattle.std.proofs.Common.{◌∙◌, sym, arith}
-use Rattle.vx_check.proofs.PairFacts.{pairs-here, pairs-done, pairs-length}
+use Rattle.std.proofs.Common.{sym}
+use Rattle.vx_check.proofs.PairFacts.{pairs-length}
 use Rattle.vx_check.proofs.pairs.are_pairs.Goals as goal
 
 pub returns-then-lefts-rights : goal.returns-then-lefts-rights

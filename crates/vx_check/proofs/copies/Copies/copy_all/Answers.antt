@@ -3,7 +3,7 @@ use Rattle.std.proofs.lemmas.Iterator.{YieldsList-from_slice}
 use Rattle.std.proofs.lemmas.Iterator.Search.{all_from_yields_List}
 use borrow.Author.Tests.{tests}
 use Rattle.vx_check.specs.Rules.{if_some}
-use Rattle.vx_check.specs.Copies.{input_of, copied_by}
+use Rattle.vx_check.specs.Copies.{input_of}
 use Rattle.vx_check.proofs.CopyFacts.{copies-all, copied_by-each}
 use Rattle.vx_check.proofs.copies.Copies.copy_all.Goals as goal
 

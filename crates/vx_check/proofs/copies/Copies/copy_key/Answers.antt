@@ -4,7 +4,7 @@ use Rattle.std.proofs.lemmas.Iterator.{YieldsList-from_slice}
 use Rattle.std.proofs.lemmas.Iterator.Search.{any_from_yields_List}
 use borrow.Author.Tests.{tests}
 use Rattle.vx_check.specs.Copies.{has_copy}
-use Rattle.vx_check.proofs.ColumnFacts.{list_any-map}
+use Rattle.vx_catalog.proofs.NameFacts.{list_any-map}
 use Rattle.vx_check.proofs.copies.Copies.copy_key.Goals as goal
 
 pub returns : goal.returns

@@ -1,7 +1,7 @@
 use Rattle.std.proofs.Common.{◌≡◌, ◌∙◌, Some, sym, eqb, get_or, false, arith}
 use Rattle.std.specs.Option.{option_eq}
 use Rattle.vx_check.specs.Copies.{input_of}
-use Rattle.vx_check.proofs.CopyFacts.{stands, stands-length, stands-here, stands-done, stands-copied, not-not}
+use Rattle.vx_check.proofs.CopyFacts.{stands-length, stands-here, stands-done, stands-copied, not-not}
 use Rattle.vx_check.proofs.copies.Copies.stand_for.Goals as goal
 
 pub returns-then-columns-inputs : goal.returns-then-columns-inputs

@@ -1,9 +1,8 @@
-use Rattle.std.proofs.Common.{◌≡◌, ◌∙◌, sym, ap, take, length, nat_le, false, arith, rules}
-use Rattle.std.proofs.lemmas.Grind.{common_steps}
+use Rattle.std.proofs.Common.{◌≡◌, ◌∙◌, sym, ap, length, nat_le, false, arith}
 use Rattle.std.proofs.lemmas.Bool.Decides.{nat_tests}
 use Rattle.vx_check.specs.Rules.{front, if_some}
 use Rattle.vx_check.specs.Copies.{input_of}
-use Rattle.vx_check.proofs.CopyFacts.{stands, stands-front, stands-short, stands-copied, copied_by-each}
+use Rattle.vx_check.proofs.CopyFacts.{stands-front, stands-short, stands-copied, copied_by-each}
 use Rattle.vx_check.proofs.copies.Copies.stand_for_front.Goals as goal
 
 pub returns-then-columns-inputs : goal.returns-then-columns-inputs
