@@ -1,4 +1,4 @@
-use Rattle.std.proofs.Common.{◌≡◌, ◌++◌, ◌+◌, map, string_bytes, codes, false, drop, nat_lt}
+use Rattle.std.proofs.Common.{◌≡◌, ◌++◌, map, string_bytes, codes, false, drop, nat_lt}
 use Rattle.vx_check.specs.Explain.{separated, pair_text}
 use Rattle.vx_check.proofs.describe.push_pairs.Given as goal
 
