@@ -1,7 +1,7 @@
 -- What the seats of a deck drew gives the relation's rows, each to one seat, in order.
 use Rattle.std.proofs.Common.{◌≡◌, ◌≢◌, ℕ, zero, suc, ◌+◌, ◌-◌, ◌*◌, ◌/◌, ◌%◌, ◌<◌, ◌≤◌, ◌==◌, nat_lt, Bool, true, false, cond, ◌&&◌, List, [], ◌∷◌, ◌++◌, map, length, take, drop, refl, sym, ap, ◌∙◌, subst, arith, ltb-true, eqb-true, ne_eqb, true≢false, append_assoc}
 use Rattle.std.specs.List.{list_all}
-use Rattle.std.proofs.lemmas.Bool.{eqb-false}
+use Rattle.std.proofs.lemmas.Bool.{eqb-false, lt-ltb}
 use Rattle.std.proofs.lemmas.List.{drop-drop, drop_all, take-append-drop}
 use Rattle.std.proofs.lemmas.Nat.{div-add-mod', mod_below}
 use Rattle.std.proofs.Math.Nat.{suc-mul}
@@ -28,12 +28,9 @@ owner-below (suc n) h x = go (nat_lt 0 (times x (h (suc n)))) (owner (suc n) h x
     go true o l = omega arith
     go false o l = omega arith
 
-pub lt-test : (a n : ℕ) → a < n → nat_lt a n ≡ true
-lt-test a n l = search (Rattle.std.proofs.Common.rules)
-
 not-some : (k : ℕ) → nat_lt 0 k ≡ false → k ≡ 0
 not-some zero e = refl
-not-some (suc k) e = absurd (true≢false (sym (lt-test 0 (suc k) (omega arith)) ∙ e))
+not-some (suc k) e = absurd (true≢false (sym (lt-ltb 0 (suc k) (omega arith)) ∙ e))
 
 -- where the seats drew x once in all, its owner drew it and no other did
 pub owned : (n : ℕ) (h : ℕ → List ℕ) (x : ℕ) → across n (λ w. times x (h w)) ≡ 1 → (i : ℕ) → i < n → times x (h i) ≡ cond (owner n h x == i) 1 0
@@ -132,7 +129,7 @@ tagged-rows o f k (suc c) = untag (o k) (f k) (tagged o f (suc k) c) ∙ ap (λ 
 
 pub tag-range : (a n : ℕ) (xs : List Row) (ts : List (ℕ × Row)) → a < n → list_all (λ t. nat_lt t.0 n) ts ≡ true → list_all (λ t. nat_lt t.0 n) (map (λ row. (a, row)) xs ++ ts) ≡ true
 tag-range a n [] ts l h = h
-tag-range a n (x ∷ xs) ts l h = and-both (nat_lt a n) (list_all (λ t. nat_lt t.0 n) (map (λ row. (a, row)) xs ++ ts)) (lt-test a n l) (tag-range a n xs ts l h)
+tag-range a n (x ∷ xs) ts l h = and-both (nat_lt a n) (list_all (λ t. nat_lt t.0 n) (map (λ row. (a, row)) xs ++ ts)) (lt-ltb a n l) (tag-range a n xs ts l h)
 
 tagged-range : (o : ℕ → ℕ) (f : ℕ → List Row) (n k c : ℕ) → ((x : ℕ) → o x < n) → list_all (λ t. nat_lt t.0 n) (tagged o f k c) ≡ true
 tagged-range o f n k zero h = refl
@@ -231,7 +228,7 @@ all-from-zero [] = tt
 all-from-zero (y ∷ ys) = (omega arith, all-from-zero ys)
 
 once-yes : (x t : ℕ) → x < t → once_below x t ≡ 1
-once-yes x t l = ap (λ b. cond b 1 0) (lt-test x t l)
+once-yes x t l = ap (λ b. cond b 1 0) (lt-ltb x t l)
 
 pub past-once : (x t : ℕ) → t ≤ x → once_below x t ≡ 0
 past-once x t l = go (nat_lt x t) refl

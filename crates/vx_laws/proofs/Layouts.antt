@@ -1,5 +1,6 @@
 -- Workers by number, and scans by number.
-use Rattle.std.proofs.Common.{◌≡◌, ℕ, suc, ◌+◌, ◌<◌, ◌≤◌, ◌==◌, nat_lt, ◌&&◌, Bool, true, false, cond, refl, ap, ◌∙◌, arith, eqb-true, eq-eqb, ltb-true}
+use Rattle.std.proofs.Common.{◌≡◌, ℕ, suc, ◌+◌, ◌<◌, ◌≤◌, ◌==◌, ◌&&◌, Bool, true, false, cond, refl, ap, ◌∙◌, arith, eqb-true, eq-eqb}
+use Rattle.std.proofs.lemmas.Bool.{le-ltb, lt-ltb}
 use Rattle.vx_catalog.specs.Relation.{Relation}
 use Rattle.vx_plan.specs.Plan.{Plan, scan, unary, binary, exchange, size, number, size_eq}
 use Rattle.vx_plan.specs.Streams.{workers}
@@ -11,7 +12,6 @@ use Rattle.vx_plan.specs.Numbering.{is_fit, nodes, is_numbered, relation_in}
 use Rattle.vx_laws.specs.Layout.{workers_below, FlatRun, FlatIsRun, NumberedIsFit}
 use Rattle.vx_laws.proofs.Bags.{and-left, and-right, and-both}
 use Rattle.vx_laws.proofs.Frame.{tests}
-use Rattle.vx_laws.proofs.Decks.{lt-test}
 
 abbrev pub flat-to-run : (S : Setting) (E : Known) (ts : ℕ → Trace) (p : Plan) (top next : ℕ) → FlatRun S E ts p top next → RunOf S E p (λ w. ts (top + w))
 flat-to-run S E ts (scan n c r true z) top next h = h
@@ -24,18 +24,11 @@ flat-to-run S E ts (exchange n c k merge p) top next h =
 pub flat-is-run : FlatIsRun
 flat-is-run S ts p top next = (flat-to-run S (IsWell S) ts p top next, flat-to-run S (Ends S) ts p top next)
 
-number-is : (i : ℕ) (p : Plan) → is_numbered i p ≡ true → number p ≡ i
+pub number-is : (i : ℕ) (p : Plan) → is_numbered i p ≡ true → number p ≡ i
 number-is i (scan n c r m z) h = eqb-true n i h
 number-is i (unary n c op p) h = eqb-true n i (and-left (n == i) (is_numbered (suc i) p) h)
 number-is i (binary n c op p q) h = eqb-true n i (and-left (n == i) (is_numbered (suc i) p && is_numbered (suc i + nodes p) q) h)
 number-is i (exchange n c k m p) h = eqb-true n i (and-left (n == i) (is_numbered (suc i) p) h)
-
-past-test : (a n : ℕ) → n ≤ a → nat_lt a n ≡ false
-past-test a n l = go (nat_lt a n) refl
-  where
-    go : (b : Bool) → nat_lt a n ≡ b → b ≡ false
-    go true e = let k = ltb-true a n e in absurd (omega (arith, k, l))
-    go false e = refl
 
 -- a function that gives each scan's relation within these numbers is fit
 fit-within : (catalog : ℕ → Relation) (f : ℕ → ℕ) (i : ℕ) (p : Plan) → is_numbered i p ≡ true → allowed catalog p ≡ true
@@ -57,9 +50,9 @@ fit-within catalog f i (binary n c op p q) h ok same =
     and-both (size_eq (size p) (size q)) (is_fit f p && is_fit f q) t.0
     (and-both (is_fit f p) (is_fit f q)
     (fit-within catalog f (suc i) p hp (and-left (allowed catalog p) (allowed catalog q && here) ok)
-    (λ k a b. same k (omega arith) (omega arith) ∙ ap (λ c. cond c (relation_in p k) (relation_in q k)) (lt-test k (number q) (omega (arith, at, b)))))
+    (λ k a b. same k (omega arith) (omega arith) ∙ ap (λ c. cond c (relation_in p k) (relation_in q k)) (lt-ltb k (number q) (omega (arith, at, b)))))
     (fit-within catalog f (suc i + nodes p) q hq (and-left (allowed catalog q) here rest)
-    (λ k a b. same k (omega arith) (omega arith) ∙ ap (λ c. cond c (relation_in p k) (relation_in q k)) (past-test k (number q) (omega (arith, at, a))))))
+    (λ k a b. same k (omega arith) (omega arith) ∙ ap (λ c. cond c (relation_in p k) (relation_in q k)) (le-ltb k (number q) (omega (arith, at, a))))))
 fit-within catalog f i (exchange n c k m p) h ok same =
     fit-within catalog f (suc i) p (and-right (n == i) (is_numbered (suc i) p) h) (and-left (allowed catalog p) (allowed_here catalog (exchange n c k m p)) ok)
     (λ k a b. same k (omega arith) (omega arith))

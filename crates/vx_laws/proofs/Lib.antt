@@ -16,7 +16,6 @@ pub mod Frame
 pub mod Erased
 pub mod Total
 pub mod Permutation
-pub mod Refusals
 pub mod FormLemmas
 pub mod Choose
 pub mod Packets

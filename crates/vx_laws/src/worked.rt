@@ -17,7 +17,7 @@ pub fn worked_plans_have_rows()
     ensures { HaveSerialRows }
 {}
 
-/// Range routes and clashes as worked by hand.
+/// Which of these plans and ranges are typed, and what keys, clashes, round robin, morsels and range routes come to, as worked by hand.
 pub fn worked_forms_compute()
     ensures { HaveForms }
 {}
