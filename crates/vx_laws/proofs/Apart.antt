@@ -258,9 +258,6 @@ fits-same (greatest c) s = refl
 fits-same (sum c) s = ap fits_64 (sum-same c s)
 fits-same count_rows s = ap fits_64 (count-same s)
 
-val-le : Val → Val → Bool
-val-le a b = is_le (val_cmp a b)
-
 pub val-trans : (a b c : Val) → is_le (val_cmp a b) ≡ true → is_le (val_cmp b c) ≡ true → is_le (val_cmp a c) ≡ true
 val-trans a b c h k = le-not_gt _ (upto val_cmp_total a b c (not_gt-le _ h) (not_gt-le _ k))
 

@@ -43,15 +43,6 @@ eq-le Greater h = h
 pub agree-sym : (cs : List ℕ) (a b : Row) → agree cs a b ≡ true → agree cs b a ≡ true
 agree-sym cs a b h = agree-both cs a b a h (row_eq-refl (pick cs a))
 
--- rows that agree are sorted
-pub agreeing-sorted : (cs : List ℕ) (l : Row) (ys : List Row) → list_all (agree cs l) ys ≡ true → sorted cs ys ≡ true
-agreeing-sorted cs l [] h = refl
-agreeing-sorted cs l (y ∷ ys) h =
-    let tail = and-right (agree cs l y) (list_all (agree cs l) ys) h in
-    and-both _ _
-    (list_all-weaken (agree cs l) (λ z. is_le (compare_on cs y z)) (λ z e. eq-le _ (agree-both cs l y z (and-left _ _ h) e)) ys tail)
-    (agreeing-sorted cs l ys tail)
-
 pub sorted-append : (cs : List ℕ) (l : Row) (xs ys : List Row) → list_all (agree cs l) xs ≡ true → sorted cs ys ≡ true
     → list_all (λ y. is_le (compare_on cs l y)) ys ≡ true → sorted cs (xs ++ ys) ≡ true
 sorted-append cs l [] ys h k b = k
@@ -120,9 +111,6 @@ inner-bound P m c c' false rs f g h k =
     total-none (x ∷ xs) = omega (arith, total-none xs)
 
 module _ (on : List (ℕ × ℕ)) (w : ℕ) (ls rs : List Row) (ws : wide w ls ≡ true) (x : List ℕ) (row : Row) where
-  one-of : Row → ℕ
-  one-of y = cond (agree x row y) 1 0
-
   pub left-agrees : (A : List ℕ) → all_below w A ≡ true → within A x ≡ true → (l r : Row) → (length l == w) ≡ true → agree x row (l ++ r) ≡ true → agree A row l ≡ true
   left-agrees A b h l r e k =
       ap (λ v. is_eq (row_cmp (pick A row) v)) (sym (pick-left w A l r b (eqb-true _ w e))) ∙ agree-within A x row (l ++ r) h k

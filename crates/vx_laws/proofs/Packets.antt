@@ -17,11 +17,6 @@ port-rows s j rows ps h =
     ap rows_of (sym h.closed) ∙ rows_of-append (map (packet_at s j) h.parts) _ ∙ append-nil (rows_of (map (packet_at s j) h.parts))
     ∙ rows_of-packets s j h.parts ∙ h.cut.rows_are
 
-last-closes : (c : Content) → is_last c ≡ true → closes c ≡ true
-last-closes (brings xs) e = absurd (true≢false (sym e))
-last-closes last e = refl
-last-closes fault e = refl
-
 pub last-closed : (ps : List Parcel) → has_last ps ≡ true → is_closed ps ≡ true
 last-closed [] e = absurd (true≢false (sym e))
 last-closed (p ∷ ps) e = go p.content (has_last ps) (is_closed ps) (last-closed ps) e

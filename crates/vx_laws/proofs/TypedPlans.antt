@@ -8,7 +8,6 @@ use Rattle.vx_catalog.specs.Catalog.{relation_at, all_below, are_distinct}
 use Rattle.vx_plan.specs.Plan.{by_hash, by_range, Part, one, any, all, routed, Claim, Unary, select, project, distinct, sort, group, Binary, union, join, Plan, scan, unary, binary, exchange}
 use Rattle.vx_plan.specs.Types.{aggregate_type, unary_types, unary_width, binary_types, binary_width, types_of, width, part_columns, names_columns, well_formed}
 use Rattle.vx_plan.specs.Typed.{Scope, type_eq, types_eq, is_some_list, are_columns, range_type, bounds_at, is_part, is_claim, is_unary, is_binary, is_kind, is_size, is_output, typed}
-use Rattle.vx_plan.specs.Numbering.{nodes}
 use Rattle.vx_plan.proofs.ErasedFacts.{erased-typed, erased-numbered}
 use Rattle.vx_laws.specs.Forms.{TypedIsWellFormed, ErasedIsTyped}
 use Rattle.vx_laws.proofs.Bags.{and-left, and-right, and-both}
