@@ -2,20 +2,18 @@
 use Rattle.std.proofs.Common.{ℕ, ◌≡◌, ◌+◌, Bool, true, List, [], ◌∷◌, ◌++◌, length, map, refl, sym, ap, ◌∙◌, append_assoc, append-nil, length-append}
 use Rattle.std.proofs.lemmas.List.Elements.{All-nil, All-push, All-same}
 use Rattle.vx_rows.specs.Lists.{each_below}
-use Rattle.vx_plan.specs.Plan.{Plan, Kind, Claim, Unary, Binary, scan, unary, binary, exchange, size, Size}
+use Rattle.vx_plan.specs.Plan.{Plan, Kind, Claim, Unary, scan, unary, exchange, size, Size}
 use Rattle.vx_plan.specs.Streams.{workers}
 use Rattle.vx_plan.specs.Numbering.{is_numbered}
 use Rattle.vx_ports.specs.Line.{Line}
 use Rattle.vx_worker.specs.Fragment.{Setting}
 use Rattle.vx_worker.specs.Worker.{Role}
-use Rattle.vx_laws.specs.Layout.{workers_below}
 use Rattle.vx_steps.specs.Queues.{AreEmpty}
 use Rattle.vx_steps.specs.Board.{Board}
 use Rattle.vx_steps.specs.Crews.{stations_of, sends_below, duty_of, root_duty, producer_duty, duties_below, IsCrew}
 use Rattle.vx_steps.specs.Additions.{Made, AddsTeam, AddsBelow}
 use Rattle.vx_steps.specs.declared.station.Station.TheVariants.{Inner, Exchange}
 use Rattle.vx_steps.proofs.Each.{none-each, more-each, each-length}
-use Rattle.vx_steps.proofs.Build.{sends-length}
 
 -- no producer yet
 pub team-none : (S : Setting) (n : ℕ) (k : Kind) (p : Plan) (old : Made) → AddsTeam S n k p 0 old old
@@ -58,22 +56,6 @@ adds-unary S n c op p top old new h = record {
   duties = h.duties;
   queues = h.queues;
 }
-
--- one with two inputs: its node, and then the left and the right one
-pub adds-binary : (S : Setting) (n : ℕ) (c : Claim) (op : Binary) (p q : Plan) (top : ℕ) (old mid new : Made) → AddsBelow S p top (record old { stations = old.stations ++ Inner ∷ [] }) mid
-    → AddsBelow S q top mid new → AddsBelow S (binary n c op p q) top old new
-adds-binary S n c op p q top old mid new a b =
-    let next = length old.sends in
-    let here : length mid.sends ≡ next + workers_below S.sizes p = ap (λ (z : List ℕ). length z) a.sends ∙ length-append old.sends (sends_below S p) ∙ ap (λ z. next + z) (sends-length S p) in
-    let l = stations_of S p top next in
-    let r = stations_of S q top (next + workers_below S.sizes p) in
-    record {
-      stations = b.stations ∙ ap (λ z. mid.stations ++ stations_of S q top z) here ∙ ap (λ z. z ++ r) a.stations
-          ∙ append_assoc (old.stations ++ Inner ∷ []) l r ∙ append_assoc old.stations (Inner ∷ []) (l ++ r);
-      sends = b.sends ∙ ap (λ z. z ++ sends_below S q) a.sends ∙ append_assoc old.sends (sends_below S p) (sends_below S q);
-      duties = b.duties ∙ ap (λ z. z ++ duties_below S q) a.duties ∙ append_assoc old.duties (duties_below S p) (duties_below S q);
-      queues = λ h. b.queues (a.queues h);
-    }
 
 -- an exchange: its node, then all its producers, and then what is below them
 pub adds-exchange : (S : Setting) (n : ℕ) (c : Claim) (k : Kind) (merge : List ℕ) (p : Plan) (top : ℕ) (old mid new : Made)

@@ -1,20 +1,29 @@
 -- From what a run comes to, to what its verdict is worth.
 use Rattle.std.proofs.Common.{ℕ, ◌≡◌, ◌<◌, Bool, true, List, not, ◌||◌, sym, subst, arith}
+use Rattle.vx_rows.specs.Values.{Val, Row}
 use Rattle.vx_plan.specs.Plan.{Plan, size, is_one}
 use Rattle.vx_plan.specs.Streams.{workers}
+use Rattle.vx_plan.specs.Routes.{Router}
 use Rattle.vx_check.specs.Rules.{is_total_order}
+use Rattle.vx_ports.specs.Packets.{Parcel}
+use Rattle.vx_ops.specs.Ledger.{Stream, Ledger, Op}
 use Rattle.vx_ops.specs.declared.fault.Fault.{Fault}
-use Rattle.vx_exchange.specs.Tasks.{Task}
+use Rattle.vx_exchange.specs.Tasks.{Task, Post, IsAt}
 use Rattle.vx_worker.specs.Fragment.{Setting}
 use Rattle.vx_worker.specs.declared.worker.Worker.{Worker}
 use Rattle.vx_laws.specs.Faults.{SomeFails}
 use Rattle.vx_laws.proofs.Bags.{and-left}
 use Rattle.vx_laws.proofs.Parts.{one-worker}
 use Rattle.vx_laws.proofs.Numbered.{numbered-run-delivers, numbered-faults-are-real}
-use Rattle.vx_steps.specs.Ready.{Settled}
+use Rattle.vx_steps.specs.Board.{Board}
+use Rattle.vx_steps.specs.Endings.{TellsFirst}
+use Rattle.vx_steps.specs.Ready.{Ready, Settled}
+use Rattle.vx_steps.specs.Runs.{Advances}
+use Rattle.vx_steps.specs.Verdicts.{Judged}
 use Rattle.vx_steps.specs.Headline.{IsAccepted, Answers}
 use Rattle.vx_steps.specs.declared.verdict.Verdict.{Verdict}
 use Rattle.vx_steps.specs.declared.verdict.Verdict.TheVariants as verdict
+use Rattle.vx_steps.proofs.Settling.{settled, told}
 
 -- an accepted plan has a worker at its top
 pub some-workers : (W : Setting) (is_total : Bool) (p : Plan) → IsAccepted W is_total p → 0 < workers W.sizes (size p)
@@ -35,3 +44,23 @@ answered task W is_total p ws (verdict.Failed f) ok h =
       overflow = λ node e. real.overflow W ok.set p ok.fit ok.formed ok.allows one h.0 node (let Q : Fault → Type 0 = λ x. SomeFails W p h.0 x in subst Q e h.1);
       order = λ o. real.order W ok.set p ok.fit ok.formed ok.allows one h.0 f o h.1;
     }
+
+module _ {O S : Type 0} (OS : O → Ledger → Type 0) (op : O → Op) (SS : S → Router → Stream → (ℕ → List Parcel) → Type 0) (task : S → Task) (post : S → Post) (bounds : S → List Val)
+    (hash : List ℕ → Row → ℕ → ℕ) (m : ℕ → ℕ → List Row) where
+  -- what the verdict says on workers that made steps: whatever they began with, where they were ready, and where the plan is accepted too
+  pub record IsWorth (ws vs : List (Worker O S)) (w : Board) (x : Verdict) : Type 0 where
+    pub judged : Judged vs x
+    pub settled : (W : Setting) (p : Plan) → Ready OS op SS task post bounds hash m W p ws w → Settled task W p vs x
+    pub answers : (W : Setting) (is_total : Bool) (p : Plan) → IsAccepted W is_total p → Ready OS op SS task post bounds hash m W p ws w → Answers task W is_total p vs x
+    pub first : (W : Setting) (is_total : Bool) (p : Plan) → IsAccepted W is_total p → Ready OS op SS task post bounds hash m W p ws w → TellsFirst W p x
+
+  pub is-worth : (ws vs : List (Worker O S)) (w v : Board) → ((s : S) → IsAt (post s) (task s)) → Advances OS op SS task post bounds hash m ws w vs v
+      → (x : Verdict) → Judged vs x → IsWorth ws vs w x
+  is-worth ws vs w v at steps x judged =
+      let settles = λ (W : Setting) (p : Plan) (ready : Ready OS op SS task post bounds hash m W p ws w). settled OS op SS task post bounds hash m W p ws vs w v at steps x judged ready in
+      record {
+        judged = judged;
+        settled = settles;
+        answers = λ W is_total p ok ready. answered task W is_total p vs x ok (settles W p ready);
+        first = λ W is_total p ok ready. told OS op SS task post bounds hash m W p ws vs w v at steps ok.fit (some-workers W is_total p ok) x judged ready;
+      }

@@ -16,7 +16,7 @@ use Rattle.vx_laws.proofs.Bags.{and-left, and-right}
 use Rattle.vx_steps.specs.Scans.{full_hand, no_hand}
 use Rattle.vx_steps.specs.Board.{Board, station_at}
 use Rattle.vx_steps.specs.Idle.{IsFullHand, IsUntouched, IsIdle}
-use Rattle.vx_steps.specs.Roles.{no_role, role_at, IsRoot, IsShared, IsWhole, RolesBelow, Wired, workers_in}
+use Rattle.vx_steps.specs.Roles.{no_role, role_at, IsRoot, IsShared, IsWhole, RolesBelow, Wired, crew_size}
 use Rattle.vx_steps.specs.Crews.{stations_of, sends_below, Duty, duty_of, root_duty, producer_duty, duties_below, IsCrew}
 use Rattle.vx_steps.proofs.Each.{each-length, each-at, get-front, get-back}
 use Rattle.vx_steps.proofs.RunSteps.{map-length}
@@ -191,7 +191,7 @@ untouched S (exchange n c k m p) top next =
     All-cons IsUntouched (Exchange next top) (stations_of S p next (next + workers S.sizes (size p))) tt (untouched S p next (next + workers S.sizes (size p)))
 
 -- how many workers a crew has, what they are to do, and how they are connected
-pub crew-count : (S : Setting) (p : Plan) (roles : List Role) (w : Board) → IsCrew S p roles w → length roles ≡ workers_in S p
+pub crew-count : (S : Setting) (p : Plan) (roles : List Role) (w : Board) → IsCrew S p roles w → length roles ≡ crew_size S.sizes p
 crew-count S p roles w crew =
     let a = map-length duty_of roles in
     let b = ap (λ (z : List Duty). length z) crew.duties in

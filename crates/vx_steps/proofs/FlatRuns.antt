@@ -20,7 +20,7 @@ use Rattle.vx_laws.specs.Faults.{FlatFails, SomeFails}
 use Rattle.vx_steps.specs.Scans.{hand_in}
 use Rattle.vx_steps.specs.Board.{Board, station_at, queue_at}
 use Rattle.vx_steps.specs.Agrees.{trace_at, DrewBelow, HasDealt, Agrees}
-use Rattle.vx_steps.specs.Roles.{IsRoot, RolesBelow, IsShared, IsWhole, Wired, IsLinked, workers_in, EndedAs, AllEnded}
+use Rattle.vx_steps.specs.Roles.{IsRoot, RolesBelow, IsShared, IsWhole, Wired, IsLinked, crew_size, EndedAs, AllEnded}
 use Rattle.vx_steps.specs.declared.station.Station.{Station}
 use Rattle.vx_steps.specs.declared.station.Station.TheVariants.{Inner, Exchange, Shared, Whole}
 
@@ -206,28 +206,28 @@ keep-is xs ys e = cc
 
 -- all workers of a run ended well
 pub all-well : (S : Setting) (p : Plan) (ts : ℕ → Trace) (roles : ℕ → Role) (tasks : ℕ → Task) → IsLinked S ts p 0 1
-    → IsRoot S p (roles 0) → RolesBelow S roles p 1 → AllEnded S roles tasks (λ a. well) ts (workers_in S p)
+    → IsRoot S p (roles 0) → RolesBelow S roles p 1 → AllEnded S roles tasks (λ a. well) ts (crew_size S.sizes p)
     → (rows : List Row) → tasks 0 ≡ keep rows → AllWell S p ts rows
 all-well S p ts roles tasks links root below h rows e =
     let r = root-keeps S p (roles 0) (tasks 0) well (ts 0) root (h 0 (omega arith)) in
     record {
       root = subst (λ z. IsWell S (fragment S 0 p) (keep z) (ts 0)) (keep-is r.0 rows (sym r.1 ∙ e)) r.2;
-      below = known S (IsWell S) ts roles (workers_in S p) (λ a l f s ef ep. ship-honest S (roles a) (tasks a) well (ts a) (h a l) f s ef ep) p 0 1 links below (omega arith);
+      below = known S (IsWell S) ts roles (crew_size S.sizes p) (λ a l f s ef ep. ship-honest S (roles a) (tasks a) well (ts a) (h a l) f s ef ep) p 0 1 links below (omega arith);
     }
 
 -- all ended, and one of them failed
 pub some-fails : (S : Setting) (p : Plan) (ts : ℕ → Trace) (roles : ℕ → Role) (tasks : ℕ → Task) (fates : ℕ → Fate) → IsLinked S ts p 0 1
-    → IsRoot S p (roles 0) → RolesBelow S roles p 1 → AllEnded S roles tasks fates ts (workers_in S p)
-    → (a : ℕ) → a < workers_in S p → (x : Fault) → fates a ≡ failed x → SomeFails S p ts x
+    → IsRoot S p (roles 0) → RolesBelow S roles p 1 → AllEnded S roles tasks fates ts (crew_size S.sizes p)
+    → (a : ℕ) → a < crew_size S.sizes p → (x : Fault) → fates a ≡ failed x → SomeFails S p ts x
 some-fails S p ts roles tasks fates links root below h a l x e =
     let r = root-keeps S p (roles 0) (tasks 0) (fates 0) (ts 0) root (h 0 (omega arith)) in
-    let le : 1 + workers_below S.sizes p ≤ workers_in S p = omega arith in
+    let le : 1 + workers_below S.sizes p ≤ crew_size S.sizes p = omega arith in
     record {
       kept = r.0;
       root = (fates 0, r.2);
-      below = known S (Ends S) ts roles (workers_in S p) (some-end S roles tasks fates ts (workers_in S p) h) p 0 1 links below le;
+      below = known S (Ends S) ts roles (crew_size S.sizes p) (some-end S roles tasks fates ts (crew_size S.sizes p) h) p 0 1 links below le;
       fails = elim (cases_lt 0 a) [
-        | inl z ↦ inr (fails S ts roles tasks fates (workers_in S p) h x a e p 0 1 links below le z l)
+        | inl z ↦ inr (fails S ts roles tasks fates (crew_size S.sizes p) h x a e p 0 1 links below le z l)
         | inr z ↦ let a0 : 0 ≡ a = omega (arith, z) in inl (ap fates a0 ∙ e)
       ];
     }

@@ -7,7 +7,7 @@ use Rattle.vx_plan.specs.Plan.{Plan, scan, unary, binary, exchange, Unary, Binar
 use Rattle.vx_plan.specs.Streams.{workers}
 use Rattle.vx_plan.specs.Numbering.{is_fit}
 use Rattle.vx_ports.specs.Packets.{last, Parcel, is_fault, has_fault, Flows}
-use Rattle.vx_ops.specs.Ledger.{Stream, Ledger, one_op, two_op, OwnBlame, Told}
+use Rattle.vx_ops.specs.Ledger.{Stream, Ledger, one_op, two_op, Told}
 use Rattle.vx_ops.specs.declared.fault.Fault.{Fault}
 use Rattle.vx_ops.specs.declared.fault.Fault.TheVariants.{Own, Passed}
 use Rattle.vx_ops.specs.declared.fault.Over.TheVariants.{Failed}
@@ -19,7 +19,7 @@ use Rattle.vx_worker.specs.Worker.{Role}
 use Rattle.vx_laws.specs.RunOf.{ship_of}
 use Rattle.vx_laws.specs.Layout.{workers_below}
 use Rattle.vx_laws.proofs.Bags.{and-left, and-right}
-use Rattle.vx_steps.specs.Roles.{IsRoot, RolesBelow, IsLinked, AllEnded, workers_in}
+use Rattle.vx_steps.specs.Roles.{IsRoot, RolesBelow, IsLinked, AllEnded, crew_size}
 use Rattle.vx_steps.specs.Verdicts.{IsOwn}
 use Rattle.vx_steps.proofs.FlatRuns.{ship-honest, le-left, le-right, lt-first}
 
@@ -49,12 +49,6 @@ same-size sizes one_worker one_worker e = refl
 same-size sizes one_worker (group_of k) e = absurd (true≢false (sym e))
 same-size sizes (group_of j) one_worker e = absurd (true≢false (sym e))
 same-size sizes (group_of j) (group_of k) e = ap sizes (eqb-true j k e)
-
-one-blames : (n : ℕ) (u : Unary) (l : Ledger) → OwnBlame (one_op n u) l Passed → ⊥
-one-blames n u l h = h
-
-two-blames : (n : ℕ) (b : Binary) (l : Ledger) → OwnBlame (two_op n b) l Passed → ⊥
-two-blames n b l h = h
 
 -- at a source that is no consumer end, a failure that was passed on came from an input
 one-passed : (n : ℕ) (u : Unary) (l : Ledger) → Told (one_op n u) l → l.gave.over ≡ Failed Passed → l.left.over ≡ Failed Passed
@@ -156,17 +150,17 @@ module _ (S : Setting) (ts : ℕ → Trace) (roles : ℕ → Role) (tasks : ℕ 
 
 -- where all workers of a plan ended, and one was told of a failure, one failed by itself
 pub began : (S : Setting) (p : Plan) (ts : ℕ → Trace) (roles : ℕ → Role) (tasks : ℕ → Task) (fates : ℕ → Fate) → is_fit S.relation_of p ≡ true → 0 < workers S.sizes (size p)
-    → IsLinked S ts p 0 1 → IsRoot S p (roles 0) → RolesBelow S roles p 1 → AllEnded S roles tasks fates ts (workers_in S p)
-    → (a : ℕ) → a < workers_in S p → fates a ≡ failed Passed → FailsItself fates (workers_in S p)
+    → IsLinked S ts p 0 1 → IsRoot S p (roles 0) → RolesBelow S roles p 1 → AllEnded S roles tasks fates ts (crew_size S.sizes p)
+    → (a : ℕ) → a < crew_size S.sizes p → fates a ≡ failed Passed → FailsItself fates (crew_size S.sizes p)
 began S p ts roles tasks fates fit some links root below all a la e =
-    let le : 1 + workers_below S.sizes p ≤ workers_in S p = omega arith in
+    let le : 1 + workers_below S.sizes p ≤ crew_size S.sizes p = omega arith in
     elim (cases_lt 0 a) [
-      | inl z ↦ began-below S ts roles tasks fates (workers_in S p) all p 0 1 fit links below le a z la e
+      | inl z ↦ began-below S ts roles tasks fates (crew_size S.sizes p) all p 0 1 fit links below le a z la e
       | inr z ↦
           let a0 : 0 ≡ a = omega (arith, z) in
           let one = all 0 (omega arith) in
           let h : Honest S (fragment S 0 p) (tasks 0) (failed Passed) (ts 0) =
           subst (λ z. Honest S z (tasks 0) (failed Passed) (ts 0)) root.frag (subst (λ z. Honest S (roles 0).frag (tasks 0) z (ts 0)) (ap fates a0 ∙ e) one.honest)
           in
-          origin S ts roles tasks fates (workers_in S p) all p 0 1 fit links below le 0 some h.reads h.out h.reads_begin h.told (⊎_elim (λ x. x) (λ x. absurd x) h.why)
+          origin S ts roles tasks fates (crew_size S.sizes p) all p 0 1 fit links below le 0 some h.reads h.out h.reads_begin h.told (⊎_elim (λ x. x) (λ x. absurd x) h.why)
     ]

@@ -49,9 +49,6 @@ map-length f (x ∷ xs) = ap suc (map-length f xs)
 
 module _ {O S : Type 0} (OS : O → Ledger → Type 0) (op : O → Op) (SS : S → Router → Stream → (ℕ → List Parcel) → Type 0) (task : S → Task) (post : S → Post) (bounds : S → List Val)
     (hash : List ℕ → Row → ℕ → ℕ) (m : ℕ → ℕ → List Row) where
-  pub advances-self : (ws : List (Worker O S)) (w : Board) → Advances OS op SS task post bounds hash m ws w ws w
-  advances-self ws w = record { roles = refl; same = same-self w; traces = λ goes routes ts h. (ts, h) }
-
   pub advances-then : (ws vs us : List (Worker O S)) (w v u : Board) → Advances OS op SS task post bounds hash m ws w vs v → Advances OS op SS task post bounds hash m vs v us u
       → Advances OS op SS task post bounds hash m ws w us u
   advances-then ws vs us w v u a b = record {

@@ -27,7 +27,7 @@ use Rattle.vx_laws.specs.Faults.{SomeFails}
 use Rattle.vx_steps.specs.Board.{Board, station_at}
 use Rattle.vx_steps.specs.Agrees.{trace_at}
 use Rattle.vx_steps.specs.Same.{SameStation, SameBoard}
-use Rattle.vx_steps.specs.Roles.{no_role, role_at, IsRoot, RolesBelow, IsShared, IsWhole, Wired, IsLinked, workers_in, EndedAs, AllEnded}
+use Rattle.vx_steps.specs.Roles.{no_role, role_at, IsRoot, RolesBelow, IsShared, IsWhole, Wired, IsLinked, crew_size, EndedAs, AllEnded}
 use Rattle.vx_steps.specs.Runs.{roles_of, Stand, Advances}
 use Rattle.vx_steps.specs.Verdicts.{IsOwn, AreWell, FailWith, Judged}
 use Rattle.vx_steps.specs.Endings.{FailsFirst, TellsFirst}
@@ -129,7 +129,7 @@ module _ {O S : Type 0} (OS : O → Ledger → Type 0) (op : O → Op) (SS : S �
   record After (W : Setting) (p : Plan) (vs : List (Worker O S)) (v : Board) : Type 0 where
     us : List Trace
     stand : Stand OS op SS task post bounds hash m (goes W) vs v us
-    count : length vs ≡ workers_in W p
+    count : length vs ≡ crew_size W.sizes p
     root : IsRoot W p (role_at (roles_of OS op SS task post bounds hash m vs) 0)
     below : RolesBelow W (role_at (roles_of OS op SS task post bounds hash m vs)) p 1
     wired : Wired W v p 0 1
@@ -164,17 +164,17 @@ module _ {O S : Type 0} (OS : O → Ledger → Type 0) (op : O → Op) (SS : S �
 
     settled-well : AreWell vs (length vs) → (d : Worker O S) (rows : List Row) → task (sender_of (get_or vs 0 d)) ≡ keep rows → AllWell W p (trace_at after.us) rows
     settled-well h d rows e =
-        let all : AllEnded W roles (tasks d) (λ a. well) (trace_at after.us) (workers_in W p) = λ a l.
+        let all : AllEnded W roles (tasks d) (λ a. well) (trace_at after.us) (crew_size W.sizes p) = λ a l.
         let here : a < length vs = subst (λ z. a < z) (sym after.count) l in
         ended-as W vs d after.us em at after.stand.workers a here outcome.Well (h a d here)
         in
-        let links = ended-linked W v after.us roles (tasks d) (λ a. well) (workers_in W p) after.stand.agrees all p 0 1 after.wired after.below (omega arith) in
+        let links = ended-linked W v after.us roles (tasks d) (λ a. well) (crew_size W.sizes p) after.stand.agrees all p 0 1 after.wired after.below (omega arith) in
         all-well W p (trace_at after.us) roles (tasks d) links after.root after.below all rows e
 
     abbrev fates : Worker O S → ℕ → Fate
     fates d a = fate-in (outcome_of (get_or vs a d))
 
-    each-ended : (d : Worker O S) (f : Fault) → FailWith vs (length vs) f → AllEnded W roles (tasks d) (fates d) (trace_at after.us) (workers_in W p)
+    each-ended : (d : Worker O S) (f : Fault) → FailWith vs (length vs) f → AllEnded W roles (tasks d) (fates d) (trace_at after.us) (crew_size W.sizes p)
     each-ended d f h a l =
         let here : a < length vs = subst (λ z. a < z) (sym after.count) l in
         go (outcome_of (get_or vs a d)) refl (h.ended a d here) here
@@ -184,7 +184,7 @@ module _ {O S : Type 0} (OS : O → Ledger → Type 0) (op : O → Op) (SS : S �
         go (Some o) e i l = subst (λ z. EndedAs W (roles a) (tasks d a) (fate-in z) (trace_at after.us a)) (sym e) (ended-as W vs d after.us em at after.stand.workers a l o e)
 
     fail-links : (d : Worker O S) (f : Fault) → FailWith vs (length vs) f → IsLinked W (trace_at after.us) p 0 1
-    fail-links d f h = ended-linked W v after.us roles (tasks d) (fates d) (workers_in W p) after.stand.agrees (each-ended d f h) p 0 1 after.wired after.below (omega arith)
+    fail-links d f h = ended-linked W v after.us roles (tasks d) (fates d) (crew_size W.sizes p) after.stand.agrees (each-ended d f h) p 0 1 after.wired after.below (omega arith)
 
     settled-failed : (d : Worker O S) (f : Fault) → FailWith vs (length vs) f → SomeFails W p (trace_at after.us) f
     settled-failed d f h =

@@ -6,7 +6,7 @@ use Rattle.vx_exchange.specs.Tasks.{Task}
 use Rattle.vx_worker.specs.Fragment.{Setting}
 use Rattle.vx_worker.specs.Worker.{Role}
 use Rattle.vx_worker.specs.Trace.{Trace, Fate, failed}
-use Rattle.vx_steps.specs.Roles.{IsRoot, RolesBelow, IsLinked, AllEnded, workers_in}
+use Rattle.vx_steps.specs.Roles.{IsRoot, RolesBelow, IsLinked, AllEnded, crew_size}
 use Rattle.vx_steps.specs.Verdicts.{IsOwn}
 use Rattle.vx_steps.specs.declared.verdict.Verdict.{Verdict}
 use Rattle.vx_steps.specs.declared.verdict.Verdict.TheVariants as verdict
@@ -19,7 +19,7 @@ pub record EndedRun (S : Setting) (p : Plan) (fates : ℕ → Fate) : Type 0 whe
   pub traces : ℕ → Trace
   pub root : IsRoot S p (roles 0)
   pub below : RolesBelow S roles p 1
-  pub each : AllEnded S roles tasks fates traces (workers_in S p)
+  pub each : AllEnded S roles tasks fates traces (crew_size S.sizes p)
   pub linked : IsLinked S traces p 0 1
 
 -- of so many workers with these fates, the lowest-numbered that failed by itself has this fault
@@ -34,7 +34,7 @@ pub record IsFirstOwn (fates : ℕ → Fate) (total : ℕ) (f : Fault) : Type 0 
 pub record FailsFirst (S : Setting) (p : Plan) (f : Fault) : Type 0 where
   pub fates : ℕ → Fate
   pub ended : EndedRun S p fates
-  pub first : IsFirstOwn fates (workers_in S p) f
+  pub first : IsFirstOwn fates (crew_size S.sizes p) f
 
 -- a verdict's fault is such a one
 abbrev pub TellsFirst : Setting → Plan → Verdict → Type 0

@@ -71,9 +71,9 @@ Anything f task t = Unit {0}
 abbrev pub IsLinked : Setting → (ts : ℕ → Trace) → Plan → (top next : ℕ) → Type 0
 IsLinked S ts p top next = FlatRun S Anything ts p top next
 
--- how many workers a plan has, where one is at its root
-abbrev pub workers_in : Setting → Plan → ℕ
-workers_in S p = 1 + workers_below S.sizes p
+-- how many workers a plan has with groups of these sizes: one at its root, and those below
+abbrev pub crew_size : (ℕ → ℕ) → Plan → ℕ
+crew_size sizes p = 1 + workers_below sizes p
 
 -- a worker with this role, whose task is this now, ended so, with this trace
 pub record EndedAs (S : Setting) (role : Role) (task : Task) (fate : Fate) (t : Trace) : Type 0 where
