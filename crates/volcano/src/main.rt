@@ -9,7 +9,7 @@ use std::{env, io};
 use vx_answer::{Disk, Refusal, answer, tell};
 use vx_rows::{Real, write_all};
 
-/// The words of the command line without the program's name.
+// The words of the command line without the program's name.
 fn words_of(rt: &(impl Env + AllocGlobal)) -> io::Result<Vec<String>> {
     let mut words = Vec::new(rt.alloc());
     for word in env::args(rt)?.skip(1) {
@@ -18,7 +18,7 @@ fn words_of(rt: &(impl Env + AllocGlobal)) -> io::Result<Vec<String>> {
     Ok(words)
 }
 
-/// The texts of words.
+// The texts of words.
 fn texts_of(alloc: Global, words: &[String]) -> Result<Vec<&str>, AllocError> {
     let mut texts = Vec::new(alloc);
     for word in words {

@@ -61,7 +61,7 @@ pub enum Accumulator {
     CountRows(u64),
 }
 
-/// The number of a cell, and of a text 0, as the definitions have it.
+// The number of a cell, and of a text 0, as the definitions have it.
 fn number_at(rows: &Rows, i: usize, column: usize) -> i64
     requires { i < length rows.now.rows }
     ensures { result ≡ number_of (value_at (row rows.now i) column) }
@@ -72,7 +72,7 @@ fn number_at(rows: &Rows, i: usize, column: usize) -> i64
     }
 }
 
-/// The value of a cell, with a text of its own.
+// The value of a cell, with a text of its own.
 fn value_at(alloc: Global, rows: &Rows, i: usize, column: usize) -> Result<Value, AllocError>
     requires { i < length rows.now.rows }
     ensures { IfOk result (λ v. val_of v ≡ value_at (row rows.now i) column) }

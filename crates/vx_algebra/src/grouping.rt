@@ -46,7 +46,7 @@ impl Model for Grouping {
     ghost invariant = { λ g. (length g.groups.items ≤ length g.keys) × AreColumns (length g.types.items) g.by.items };
 }
 
-/// The aggregates of row i alone.
+// The aggregates of row i alone.
 fn start_group(
     alloc: Global,
     aggregates: &[Aggregate],
@@ -63,7 +63,7 @@ fn start_group(
     Ok(group)
 }
 
-/// The aggregates with row i too. After an `Err` they are any.
+// The aggregates with row i too. After an `Err` they are any.
 fn advance_group(
     alloc: Global,
     group: &mut Vec<Accumulator>,
@@ -80,7 +80,7 @@ fn advance_group(
     Ok(())
 }
 
-/// A key and the values of its aggregates.
+// A key and the values of its aggregates.
 fn cells_of<'a>(
     alloc: Global,
     key: &'a Row,
@@ -100,7 +100,7 @@ fn cells_of<'a>(
     Ok(cells)
 }
 
-/// The values of a key.
+// The values of a key.
 fn key_cells(alloc: Global, key: &Row) -> Result<Vec<Cell<'_>>, AllocError>
     ensures { IfOk result (λ v. map cell_val v.items ≡ key.now) }
 {
@@ -112,7 +112,7 @@ fn key_cells(alloc: Global, key: &Row) -> Result<Vec<Cell<'_>>, AllocError>
     Ok(cells)
 }
 
-/// The types of these aggregates: a least and a greatest value have the column's type, a sum and a count are numbers.
+// The types of these aggregates: a least and a greatest value have the column's type, a sum and a count are numbers.
 fn aggregate_type(types: &[ColType], aggregate: Aggregate) -> ColType
     ensures { result ≡ aggregate_type types.now (op_of aggregate) }
 {
@@ -125,7 +125,7 @@ fn aggregate_type(types: &[ColType], aggregate: Aggregate) -> ColType
     }
 }
 
-/// The types of the columns of a group: those of the key, then those of the aggregates.
+// The types of the columns of a group: those of the key, then those of the aggregates.
 fn group_types(
     alloc: Global,
     types: &[ColType],

@@ -78,7 +78,7 @@ impl Build {
     }
 }
 
-/// Adds the position of a left row, beside each of some positions of right rows.
+// Adds the position of a left row, beside each of some positions of right rows.
 fn push_pairs(
     left: usize,
     positions: &[usize],
@@ -95,7 +95,7 @@ fn push_pairs(
     Ok(())
 }
 
-/// The build side of all these rows.
+// The build side of all these rows.
 fn built(alloc: Global, rows: &Rows, columns: Vec<usize>) -> Result<Build, AllocError>
     requires { AreColumns (length rows.now.types) columns.items }
     ensures columns { IfOk result (λ b. b.columns ≡ columns.items) }

@@ -58,7 +58,7 @@ impl Model for Merge {
     ghost invariant = { λ m. m.start ≤ m.end };
 }
 
-/// Compares a key with that of row i: value by value, the first difference decides.
+// Compares a key with that of row i: value by value, the first difference decides.
 fn compare_key(key: &Row, rows: &Rows, i: usize, columns: &[usize]) -> Ordering
     requires row { i < length rows.now.rows }
     requires columns { AreColumns (length rows.now.types) columns.now }
@@ -76,7 +76,7 @@ fn compare_key(key: &Row, rows: &Rows, i: usize, columns: &[usize]) -> Ordering
     key.len().cmp(&columns.len())
 }
 
-/// Whether the rows up to row i rise, where those before it do.
+// Whether the rows up to row i rise, where those before it do.
 fn rises_at(rows: &Rows, i: usize, columns: &[usize]) -> bool
     requires row { i < length rows.now.rows }
     requires columns { AreColumns (length rows.now.types) columns.now }
@@ -99,7 +99,7 @@ pub fn rise_from(rows: &Rows, from: usize, columns: &[usize]) -> bool
     true
 }
 
-/// A left row joined with each right row from `from` up to `to`.
+// A left row joined with each right row from `from` up to `to`.
 fn push_range(
     left: &Rows,
     i: usize,
@@ -159,7 +159,7 @@ impl Merge {
         }
     }
 
-    /// Takes the next right row, unless there is none or it is above the key: whether it did.
+    // Takes the next right row, unless there is none or it is above the key: whether it did.
     fn take_right(&mut self, right: &Rows) -> Result<bool, MergeFault>
         requires { AreColumns (length right.now.types) self.old.rights }
         ensures lefts { self.new.lefts ≡ self.old.lefts }

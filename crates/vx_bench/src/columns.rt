@@ -25,7 +25,7 @@ fn build(alloc: Global, types: &[ColType], n: u64) -> Result<Rows, AllocError> {
     Ok(rows)
 }
 
-/// Row by row into a packet that is used again.
+// Row by row into a packet that is used again.
 fn append_rows(alloc: Global, all: &Rows) -> Result<u64, AllocError> {
     let mut packet = Rows::new(alloc, all.types())?;
     let mut sent = 0u64;
@@ -39,7 +39,7 @@ fn append_rows(alloc: Global, all: &Rows) -> Result<u64, AllocError> {
     Ok(sent)
 }
 
-/// Ranges into packets that are made anew.
+// Ranges into packets that are made anew.
 fn append_ranges(alloc: Global, all: &Rows) -> Result<u64, AllocError> {
     let mut sent = 0u64;
     for k in 0..all.len() / PACKET {
@@ -50,7 +50,7 @@ fn append_ranges(alloc: Global, all: &Rows) -> Result<u64, AllocError> {
     Ok(sent)
 }
 
-/// Ranges into a packet that is used again.
+// Ranges into a packet that is used again.
 fn append_ranges_reused(alloc: Global, all: &Rows) -> Result<u64, AllocError> {
     let mut packet = Rows::new(alloc, all.types())?;
     let mut sent = 0u64;
@@ -62,7 +62,7 @@ fn append_ranges_reused(alloc: Global, all: &Rows) -> Result<u64, AllocError> {
     Ok(sent)
 }
 
-/// Positions `at`, `at + step` and so on, a packet of them, below n.
+// Positions `at`, `at + step` and so on, a packet of them, below n.
 fn positions_from(alloc: Global, at: usize, step: usize, n: usize) -> Result<Vec<usize>, AllocError>
     ensures { IfOk result (λ v. ArePositions n v.items) }
 {
@@ -76,7 +76,7 @@ fn positions_from(alloc: Global, at: usize, step: usize, n: usize) -> Result<Vec
     Ok(positions)
 }
 
-/// Every fourth row, by positions, into a packet that is used again.
+// Every fourth row, by positions, into a packet that is used again.
 fn append_at(alloc: Global, all: &Rows) -> Result<u64, AllocError> {
     let mut packet = Rows::new(alloc, all.types())?;
     let mut sent = 0u64;
@@ -158,7 +158,7 @@ fn are_columns(cols: &[usize], n: usize) -> bool
     true
 }
 
-/// The second position of a clash, and 0 where there is none.
+// The second position of a clash, and 0 where there is none.
 fn second_of_clash(alloc: Global, all: &Rows, cols: &[usize]) -> Result<u64, AllocError>
     requires { AreColumns (length all.now.types) cols.now }
 {
@@ -168,7 +168,7 @@ fn second_of_clash(alloc: Global, all: &Rows, cols: &[usize]) -> Result<u64, All
     }
 }
 
-/// The first position in the order of these columns.
+// The first position in the order of these columns.
 fn first_of_order(alloc: Global, all: &Rows, cols: &[usize]) -> Result<u64, AllocError>
     requires { AreColumns (length all.now.types) cols.now }
 {

@@ -17,13 +17,13 @@ const FEW: u64 = 600;
 
 const MANY: u64 = 1_000_000;
 
-/// A text of 52 bytes.
+// A text of 52 bytes.
 fn text_of(alloc: Global, n: u64, k: u64) -> Result<String, AllocError> {
     let mixed = n.wrapping_mul(2654435761).wrapping_add(k);
     format!(in alloc; "{mixed:020}-abcdefghijklmnopqrstuvwxyz-{k:04}")
 }
 
-/// 13 numbers, of which the first rises, and 3 texts.
+// 13 numbers, of which the first rises, and 3 texts.
 fn values_of(alloc: Global, n: u64) -> Result<Vec<Value>, AllocError> {
     let mut values = Vec::new(alloc);
     for k in 0..13u64 {
@@ -53,7 +53,7 @@ pub struct Bench {
 }
 
 impl Bench {
-    /// Shows a check, and where it is asked for the time since `start`, which it answers in picoseconds a row.
+    // Shows a check, and where it is asked for the time since `start`, which it answers in picoseconds a row.
     fn report<R: Print + Clock>(
         self,
         rt: &R,
@@ -83,7 +83,7 @@ pub struct Times {
     clash: u64,
 }
 
-/// How many times longer owned rows take.
+// How many times longer owned rows take.
 fn ratio<R: Print>(rt: &R, name: &str, columns: u64, owned: u64) -> io::Result<()> {
     let hundred = owned.saturating_mul(10) / columns.max(1);
     let whole = hundred / 10;
@@ -91,7 +91,7 @@ fn ratio<R: Print>(rt: &R, name: &str, columns: u64, owned: u64) -> io::Result<(
     println!(rt; "{name}: owned rows take {whole}.{part} times as long")
 }
 
-/// What the arguments ask for.
+// What the arguments ask for.
 fn asked<R: Env + Alloc>(rt: &R) -> io::Result<Bench> {
     let with_times = env::args(rt)?.count() > 1;
     let rows = if with_times { MANY } else { FEW };

@@ -120,7 +120,7 @@ fn count_less(all: &[OwnedRow], cols: &[usize]) -> u64 {
     less
 }
 
-/// The second position of a clash on a column of numbers, by a map, and 0 where there is none.
+// The second position of a clash on a column of numbers, by a map, and 0 where there is none.
 fn second_of_clash(alloc: Global, all: &[OwnedRow], column: usize) -> Result<u64, AllocError> {
     let mut seen = HashMap::new(alloc);
     for i in 0..all.len() {

@@ -9,7 +9,7 @@ use vx_catalog::Catalog;
 use vx_check::{CheckedPlan, Refused, check, explain};
 use vx_plan::{Plan, PlanFault, TypedPlan, erase, resolve, to_json};
 
-/// An answer, or why a plan is none.
+// An answer, or why a plan is none.
 type Answer = Result<String, PlanFault>;
 
 fn text(alloc: Global, text: &str) -> Answer {
@@ -21,7 +21,7 @@ fn read(alloc: Global, bytes: &[u8]) -> Answer {
     text(alloc, "ok")
 }
 
-/// Why a text is no JSON value, as a plan's reader says it.
+// Why a text is no JSON value, as a plan's reader says it.
 fn no_value(error: Error) -> PlanFault {
     if error.is_memory() {
         PlanFault::NoMemory
@@ -36,7 +36,7 @@ fn read_value(alloc: Global, bytes: &[u8]) -> Answer {
     text(alloc, "ok")
 }
 
-/// `ok` where each front is refused as no JSON and the whole is read, else the first front that is not.
+// `ok` where each front is refused as no JSON and the whole is read, else the first front that is not.
 fn fronts(alloc: Global, bytes: &[u8]) -> Answer {
     for length in 0..bytes.len() {
         let front = Plan::read(alloc, &bytes[..length]);
@@ -52,7 +52,7 @@ fn written(alloc: Global, bytes: &[u8]) -> Answer {
     Ok(to_json(alloc, &plan)?)
 }
 
-/// `ok` where both are one plan, by all that is shown of them.
+// `ok` where both are one plan, by all that is shown of them.
 fn alike(alloc: Global, bytes: &[u8], others: &[u8]) -> Answer {
     let plan = Plan::read(alloc, bytes)?;
     let other = Plan::read(alloc, others)?;
@@ -81,7 +81,7 @@ fn typed_columns(alloc: Global, catalog: &Catalog, bytes: &[u8]) -> Answer {
     Ok(columns(alloc, &plan)?)
 }
 
-/// `ok` where the plan without its exchanges is the other one, by all that is shown of them.
+// `ok` where the plan without its exchanges is the other one, by all that is shown of them.
 fn erased(alloc: Global, catalog: &Catalog, bytes: &[u8], others: &[u8]) -> Answer {
     let plan = typed(alloc, catalog, bytes)?;
     let without = erase(alloc, &plan)?;
@@ -94,8 +94,8 @@ fn erased(alloc: Global, catalog: &Catalog, bytes: &[u8], others: &[u8]) -> Answ
     Ok(outline(alloc, without.root())?)
 }
 
-/// The numbers of the nodes without exchanges, where the rest is as it has to be: sizes and ranges are left, and nothing
-/// is claimed of an order or a key.
+// The numbers of the nodes without exchanges, where the rest is as it has to be: sizes and ranges are left, and nothing
+// is claimed of an order or a key.
 fn renumbered(alloc: Global, catalog: &Catalog, bytes: &[u8]) -> Answer {
     let plan = typed(alloc, catalog, bytes)?;
     let without = erase(alloc, &plan)?;
@@ -111,7 +111,7 @@ fn renumbered(alloc: Global, catalog: &Catalog, bytes: &[u8]) -> Answer {
     Ok(outline(alloc, without.root())?)
 }
 
-/// What the checker says of a plan.
+// What the checker says of a plan.
 fn verdict(alloc: Global, answer: &Result<CheckedPlan, Refused>) -> Result<String, AllocError> {
     match answer {
         Ok(checked) if checked.is_total() => String::from_str(alloc, "accepted total"),
@@ -120,7 +120,7 @@ fn verdict(alloc: Global, answer: &Result<CheckedPlan, Refused>) -> Result<Strin
     }
 }
 
-/// What was said of a refused plan, if the plan that comes back is refused alike.
+// What was said of a refused plan, if the plan that comes back is refused alike.
 fn refused_alike(alloc: Global, refused: Refused, said: String) -> Answer {
     let answer = check(refused.plan);
     let again = verdict(alloc, &answer)?;

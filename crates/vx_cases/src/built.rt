@@ -5,7 +5,7 @@ use anyhow::{Context, Error};
 use serde_json::Value as Json;
 use std::alloc::{AllocError, Global};
 
-/// Adds a part so many times.
+// Adds a part so many times.
 fn push_times(text: &mut String, part: &str, times: u64) -> Result<(), AllocError> {
     for _ in 0..times {
         text.push_str(part)?;
@@ -13,8 +13,8 @@ fn push_times(text: &mut String, part: &str, times: u64) -> Result<(), AllocErro
     Ok(())
 }
 
-/// A balanced tree of unions over so many of these scans. It has a union less than scans, and one scan where none is
-/// asked for.
+// A balanced tree of unions over so many of these scans. It has a union less than scans, and one scan where none is
+// asked for.
 fn unions(alloc: Global, scans: u64, scan: &str) -> Result<String, AllocError> {
     if scans < 2 {
         return String::from_str(alloc, scan);
@@ -24,8 +24,8 @@ fn unions(alloc: Global, scans: u64, scan: &str) -> Result<String, AllocError> {
     format!(in alloc; "{{\"op\":\"union\",\"left\":{left},\"right\":{right}}}")
 }
 
-/// What stands in `inner`: a text, or the tree of unions over as many scans as its `scans` says, each with the text in
-/// its `scan`.
+// What stands in `inner`: a text, or the tree of unions over as many scans as its `scans` says, each with the text in
+// its `scan`.
 fn inner_in(alloc: Global, entry: &Json) -> Result<String, Error> {
     let inner = entry.get("inner").context("it has no inner")?;
     if let Some(text) = inner.as_str() {

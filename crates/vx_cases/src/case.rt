@@ -23,7 +23,7 @@ pub fn is_note(entry: &Json) -> bool {
     entry.get("note").is_some()
 }
 
-/// The bytes of a list of numbers.
+// The bytes of a list of numbers.
 fn bytes_of(alloc: Global, numbers: &[Json]) -> Result<Vec<u8>, Error> {
     let mut bytes = Vec::new(alloc);
     for number in numbers {
@@ -33,13 +33,13 @@ fn bytes_of(alloc: Global, numbers: &[Json]) -> Result<Vec<u8>, Error> {
     Ok(bytes)
 }
 
-/// The text of a value.
+// The text of a value.
 fn written(alloc: Global, value: &Json) -> Result<Vec<u8>, AllocError> {
     Ok(value.to_string(alloc)?.into_bytes())
 }
 
-/// The bytes of the plan: a JSON value in `plan`, a text in `text`, the parts of a text in `built`, or a list of numbers
-/// in `bytes`.
+// The bytes of the plan: a JSON value in `plan`, a text in `text`, the parts of a text in `built`, or a list of numbers
+// in `bytes`.
 fn plan_in(alloc: Global, entry: &Json) -> Result<Vec<u8>, Error> {
     if let Some(value) = entry.get("plan") {
         return Ok(written(alloc, value)?);
@@ -56,7 +56,7 @@ fn plan_in(alloc: Global, entry: &Json) -> Result<Vec<u8>, Error> {
     }
 }
 
-/// The bytes of the plan to compare with: a JSON value in `other`, a text in `other_text`, or none.
+// The bytes of the plan to compare with: a JSON value in `other`, a text in `other_text`, or none.
 fn other_in(alloc: Global, entry: &Json) -> Result<Vec<u8>, AllocError> {
     if let Some(value) = entry.get("other") {
         return written(alloc, value);

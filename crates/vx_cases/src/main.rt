@@ -21,14 +21,14 @@ use std::rt::Files;
 use std::{env, fs};
 use vx_catalog::Catalog;
 
-/// The JSON value in a file.
+// The JSON value in a file.
 fn json_in(rt: &(impl Files + AllocGlobal), path: &str) -> Result<Json, Error> {
     let text = fs::read_to_string(rt, path).context(format_args!("reading {path}"))?;
     let value = Json::from_str(rt.alloc(), text.as_str()).context(format_args!("reading {path}"))?;
     Ok(value)
 }
 
-/// Shows the case if it is answered otherwise than it says.
+// Shows the case if it is answered otherwise than it says.
 fn tell(
     rt: &(impl Print + AllocGlobal),
     catalog: &Catalog,
@@ -45,7 +45,7 @@ fn tell(
     Ok(())
 }
 
-/// Shows those cases of a file that are answered otherwise than they say, and how many the file has.
+// Shows those cases of a file that are answered otherwise than they say, and how many the file has.
 fn tell_all(
     rt: &(impl Print + AllocGlobal),
     catalog: &Catalog,

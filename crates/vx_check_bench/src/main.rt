@@ -15,14 +15,14 @@ use vx_catalog::Catalog;
 use vx_check::{CheckedPlan, Refused, check};
 use vx_plan::{Plan, resolve};
 
-/// What is measured, and how it is shown.
+// What is measured, and how it is shown.
 #[derive(Clone, Copy)]
 struct Bench {
     runs: u64,
     with_times: bool,
 }
 
-/// The least time of a check and all times together, in nanoseconds.
+// The least time of a check and all times together, in nanoseconds.
 #[derive(Clone, Copy)]
 struct Times {
     least: u64,
@@ -30,7 +30,7 @@ struct Times {
 }
 
 impl Times {
-    /// With one more.
+    // With one more.
     fn with(self, nanos: u64) -> Times {
         Times {
             least: self.least.min(nanos),
@@ -39,7 +39,7 @@ impl Times {
     }
 }
 
-/// What the checker says.
+// What the checker says.
 fn said(alloc: Global, answer: &Result<CheckedPlan, Refused>) -> Result<String, AllocError> {
     match answer {
         Ok(checked) if checked.is_total() => String::from_str(alloc, "accepted total"),
@@ -49,7 +49,7 @@ fn said(alloc: Global, answer: &Result<CheckedPlan, Refused>) -> Result<String, 
 }
 
 impl Bench {
-    /// Shows what was said of a plan, and where it is asked for the time of a check.
+    // Shows what was said of a plan, and where it is asked for the time of a check.
     fn report<R: Print>(self, rt: &R, name: &str, said: &str, times: Times) -> Result<(), Error> {
         if !self.with_times {
             println!(rt; "{name}: {said}")?;
@@ -61,7 +61,7 @@ impl Bench {
         Ok(())
     }
 
-    /// Checks the plan so often.
+    // Checks the plan so often.
     fn run<R: Print + Clock>(
         self,
         rt: &R,
@@ -88,7 +88,7 @@ impl Bench {
     }
 }
 
-/// What the arguments ask for.
+// What the arguments ask for.
 fn asked<R: Env + Alloc>(rt: &R) -> Result<Bench, Error> {
     let with_times = env::args(rt)?.count() > 1;
     let runs = if with_times { 20 } else { 1 };

@@ -13,7 +13,7 @@ pub fn columns(alloc: Global) -> Result<Vec<String>, AllocError> {
     Ok(names)
 }
 
-/// Adds a name in quotes to a list, behind a comma where it is not the first.
+// Adds a name in quotes to a list, behind a comma where it is not the first.
 fn push_name(text: &mut String, name: &str) -> Result<(), AllocError> {
     if text.len() > 1 {
         text.push_str(",")?;
@@ -23,7 +23,7 @@ fn push_name(text: &mut String, name: &str) -> Result<(), AllocError> {
     text.push_str("\"")
 }
 
-/// The names in quotes.
+// The names in quotes.
 fn list(alloc: Global, names: &[String]) -> Result<String, AllocError> {
     let mut text = String::from_str(alloc, "[")?;
     for name in names {
@@ -33,7 +33,7 @@ fn list(alloc: Global, names: &[String]) -> Result<String, AllocError> {
     Ok(text)
 }
 
-/// The names in quotes, the last one first.
+// The names in quotes, the last one first.
 fn list_from_last(alloc: Global, names: &[String]) -> Result<String, AllocError> {
     let mut text = String::from_str(alloc, "[")?;
     for name in names.iter().rev() {
@@ -61,12 +61,12 @@ pub fn catalog(alloc: Global, columns: &[String]) -> Result<String, AllocError> 
     )
 }
 
-/// A union with this claim, which may be empty.
+// A union with this claim, which may be empty.
 fn union(alloc: Global, claim: &str, left: &str, right: &str) -> Result<String, AllocError> {
     format!(in alloc; "{{\"op\":\"union\",{claim}\"left\":{left},\"right\":{right}}}")
 }
 
-/// A tree of unions with this claim over so many copies of a leaf, of which there are fewer than 512.
+// A tree of unions with this claim over so many copies of a leaf, of which there are fewer than 512.
 fn unions(alloc: Global, claim: &str, leaf: &str, leaves: u32) -> Result<String, AllocError> {
     let mut tree = String::new(alloc);
     let mut power = String::from_str(alloc, leaf)?;
@@ -98,7 +98,7 @@ pub fn scans(alloc: Global, count: u32) -> Result<String, AllocError> {
     format!(in alloc; "{{\"root\":{tree}}}")
 }
 
-/// So many selections over rows that are sent by all columns, each with its claim.
+// So many selections over rows that are sent by all columns, each with its claim.
 fn selections(
     alloc: Global,
     sent: &str,

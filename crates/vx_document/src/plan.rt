@@ -13,8 +13,11 @@ pub struct NamedRange {
 /// How rows lie on workers, as a note claims it.
 #[derive(Debug, Drop)]
 pub enum NamedPart {
+    /// All rows at one worker.
     One,
+    /// Each row at one worker, whichever.
     Any,
+    /// Every row at every worker.
     All,
     Hash { route: String, columns: Vec<String> },
     Range { range: String, column: String },

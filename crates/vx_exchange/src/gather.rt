@@ -58,7 +58,7 @@ impl Gather {
         })
     }
 
-    /// Takes what the fragment's top gave.
+    // Takes what the fragment's top gave.
     fn take(&mut self, polled: Polled) -> Result<(), AllocError>
         requires open { gather_is_open self.old ≡ true }
         requires typed { GivesRows self.old.lane.way.types polled }

@@ -42,7 +42,7 @@ impl Kept {
         self.rows
     }
 
-    /// Keeps more rows. The first ones are taken as they are.
+    // Keeps more rows. The first ones are taken as they are.
     fn add(&mut self, rows: Rows) -> Result<(), AllocError>
         requires { rows.types ≡ self.old.rows.types }
         ensures ok { OnOk result (self.new.rows.rows ≡ self.old.rows.rows ++ rows.rows) }

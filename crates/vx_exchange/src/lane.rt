@@ -74,7 +74,7 @@ impl Lane {
         })
     }
 
-    /// Makes a packet of these rows.
+    // Makes a packet of these rows.
     fn push(&mut self, rows: Rows) -> Result<(), AllocError>
         requires some { 0 < length rows.rows }
         requires few { length rows.rows ≤ 4096 }
@@ -92,7 +92,7 @@ impl Lane {
         }
     }
 
-    /// Takes rows from a position on: all, or as many as make a full packet with those at hand. It says from which position on they are left.
+    // Takes rows from a position on: all, or as many as make a full packet with those at hand. It says from which position on they are left.
     fn fill(&mut self, rows: &Rows, from: usize) -> Result<usize, AllocError>
         requires types { rows.now.types ≡ self.old.way.types }
         requires open { self.old.closed ≡ false }
@@ -115,7 +115,7 @@ impl Lane {
         Ok(to)
     }
 
-    /// Takes all of these rows.
+    // Takes all of these rows.
     fn fill_all(&mut self, rows: &Rows) -> Result<(), AllocError>
         requires types { rows.now.types ≡ self.old.way.types }
         requires open { self.old.closed ≡ false }

@@ -23,7 +23,7 @@ pub struct Receiver {
     ghost few: { vec_len ended ≤ 64 },
 }
 
-/// The first flag that is not set, from one place up to another.
+// The first flag that is not set, from one place up to another.
 fn first_open(ended: &[bool], from: usize, to: usize) -> Option<usize>
     requires { to ≤ length ended.now }
     ensures none { IfNone result ((k : ℕ) → from ≤ k → k < to → slice_get ended.now k ≡ Some true) }
@@ -39,7 +39,7 @@ fn first_open(ended: &[bool], from: usize, to: usize) -> Option<usize>
     None
 }
 
-/// The next flag from a place on that is not set, or the first one at all.
+// The next flag from a place on that is not set, or the first one at all.
 fn next_open(ended: &[bool], from: usize) -> Option<usize>
     ensures none { IfNone result ((k : ℕ) → k < length ended.now → slice_get ended.now k ≡ Some true) }
     ensures some { IfSome result (λ i. slice_get ended.now i ≡ Some false) }
@@ -83,7 +83,7 @@ impl Receiver {
         })
     }
 
-    /// Goes on to the next producer that has not ended.
+    // Goes on to the next producer that has not ended.
     fn move_on(&mut self)
         ensures { ChangesNext self.old self.new }
     {
@@ -92,7 +92,7 @@ impl Receiver {
         }
     }
 
-    /// Whether a packet is one of this exchange, from the producer that is next to this place, with rows of these types.
+    // Whether a packet is one of this exchange, from the producer that is next to this place, with rows of these types.
     fn is_expected(&self, packet: &Packet) -> bool
         ensures { IsTrue result ↔ IsFor (receiver_end self.now) self.now.next packet.now }
     {
@@ -102,7 +102,7 @@ impl Receiver {
             && packet.types() == self.types.as_slice()
     }
 
-    /// Notes that the producer that is next has ended, and goes on to the next one, if there is one.
+    // Notes that the producer that is next has ended, and goes on to the next one, if there is one.
     fn end_producer(&mut self) -> Polled
         requires { self.old.over ≡ Over.Running }
         ensures stands { (l : Ledger) (packet : Parcel) → IsFor (receiver_end self.old) self.old.next packet → packet.content ≡ last → ReceiverStands self.old l
@@ -124,7 +124,7 @@ impl Receiver {
         }
     }
 
-    /// Takes a packet from the producer that is next.
+    // Takes a packet from the producer that is next.
     fn take_packet(&mut self, packet: Packet) -> Polled
         requires { self.old.over ≡ Over.Running }
         ensures stands { (l : Ledger) → ReceiverStands self.old l

@@ -12,7 +12,7 @@ use vx_rows::{MemoryIn, Value};
 pub const CATALOG: &str =
     r#"{"relations":[{"name":"t","columns":[{"name":"id","type":"int"},{"name":"k","type":"text"},{"name":"v","type":"int"}],"keys":[["id"]],"order":["id"]}]}"#;
 
-/// Its rows.
+// Its rows.
 const TABLE: &str = "id,k,v\n0,a,5\n1,b,7\n2,a,-2\n3,c,7\n";
 
 /// Three workers scan and select, and the root's worker gathers.

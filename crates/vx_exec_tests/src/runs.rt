@@ -6,11 +6,11 @@ use std::test::Fail;
 use vx_exec::{Ran, RunFault, can_run, run_rounds, run_scheduled};
 use vx_rows::{Cell, Rows};
 
-/// One worker scans.
+// One worker scans.
 const WHOLE: &str =
     r#"{"root":{"op":"scan","relation":"t","mode":"whole","size":"one","claim":{"part":"one","order":["id"],"keys":[["id"]]}},"total":true}"#;
 
-/// The numbers in the first column.
+// The numbers in the first column.
 fn ids(alloc: Global, rows: &Rows) -> Result<Vec<i64>, AllocError> {
     let mut ids = Vec::new(alloc);
     if rows.types().len() == 0 {
@@ -24,7 +24,7 @@ fn ids(alloc: Global, rows: &Rows) -> Result<Vec<i64>, AllocError> {
     Ok(ids)
 }
 
-/// What a plan comes to in so many rounds.
+// What a plan comes to in so many rounds.
 fn in_rounds(alloc: Global, text: &str, limit: u64) -> Result<Ran, Fail> {
     let plan = checked(alloc, text)?;
     let database = filled(alloc)?;
@@ -34,7 +34,7 @@ fn in_rounds(alloc: Global, text: &str, limit: u64) -> Result<Ran, Fail> {
     Ok(run_rounds(alloc, &plan, &database, &of_three(alloc)?, &ToFirst, limit)?)
 }
 
-/// What a plan comes to by a schedule.
+// What a plan comes to by a schedule.
 fn by_steps(alloc: Global, text: &str, steps: &[u32]) -> Result<Result<Ran, RunFault>, Fail> {
     let plan = checked(alloc, text)?;
     let database = filled(alloc)?;

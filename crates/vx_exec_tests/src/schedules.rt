@@ -6,24 +6,24 @@ use std::test::Fail;
 use vx_exec::{Ran, can_run, run_scheduled};
 use vx_rows::{Cell, Rows};
 
-/// How many schedules are drawn.
+// How many schedules are drawn.
 const SCHEDULES: u32 = 1000;
 
-/// The numbers of a linear congruential generator.
+// The numbers of a linear congruential generator.
 #[derive(Drop)]
 struct Draws {
     state: u64,
 }
 
 impl Draws {
-    /// The number of one of four workers.
+    // The number of one of four workers.
     fn worker(&mut self) -> u32 {
         let next = self.state.wrapping_mul(1_103_515_245).wrapping_add(12_345) % 2_147_483_648;
         self.state = next;
         (next / 65_536 % 4) as u32
     }
 
-    /// Steps of 500 workers that are drawn, and then of each of the four in turn, 2,000 times.
+    // Steps of 500 workers that are drawn, and then of each of the four in turn, 2,000 times.
     fn schedule(&mut self, alloc: Global) -> Result<Vec<u32>, AllocError> {
         let mut steps = Vec::new(alloc);
         for step in 0..8500 {
@@ -34,7 +34,7 @@ impl Draws {
     }
 }
 
-/// Whether this row has this number, this text, and 7.
+// Whether this row has this number, this text, and 7.
 fn is_row(rows: &Rows, index: usize, id: i64, key: &str) -> bool {
     if index >= rows.len() || rows.types().len() != 3 {
         return false;
@@ -51,7 +51,7 @@ fn is_row(rows: &Rows, index: usize, id: i64, key: &str) -> bool {
     }
 }
 
-/// Whether these are the two selected rows, in either order.
+// Whether these are the two selected rows, in either order.
 fn are_selected(rows: &Rows) -> bool {
     if rows.len() != 2 {
         return false;

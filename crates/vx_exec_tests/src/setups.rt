@@ -6,19 +6,19 @@ use std::test::Fail;
 use vx_catalog::{Catalog, Database};
 use vx_exec::{RunFault, Setup, can_run, run_rounds};
 
-/// The same relations without a declared order.
+// The same relations without a declared order.
 const OTHER_CATALOG: &str =
     r#"{"relations":[{"name":"t","columns":[{"name":"id","type":"int"},{"name":"k","type":"text"},{"name":"v","type":"int"}],"keys":[["id"]]}]}"#;
 
-/// One group below the root.
+// One group below the root.
 const GATHERED: &str =
     r#"{"sizes":["many"],"root":{"op":"exchange","kind":"gather","claim":{"part":"one"},"input":{"op":"scan","relation":"t","mode":"shared","size":"many"}}}"#;
 
-/// Two size names, of which the plan uses one.
+// Two size names, of which the plan uses one.
 const TWO_NAMES: &str =
     r#"{"sizes":["few","many"],"root":{"op":"exchange","kind":"gather","claim":{"part":"one"},"input":{"op":"scan","relation":"t","mode":"shared","size":"many"}}}"#;
 
-/// A setup of these size names, and of the rows of a packet, those of a morsel and the slack.
+// A setup of these size names, and of the rows of a packet, those of a morsel and the slack.
 fn setup(alloc: Global, sizes: &[(&str, u32)], counts: [u32; 3]) -> Result<Setup, AllocError> {
     let mut entries = Vec::new(alloc);
     for (name, workers) in sizes {
@@ -28,7 +28,7 @@ fn setup(alloc: Global, sizes: &[(&str, u32)], counts: [u32; 3]) -> Result<Setup
     Ok(Setup::new(entries, packet, morsel, slack))
 }
 
-/// What a setup of a plan over an empty database of a catalog is answered with: `ok`, or the line of its refusal.
+// What a setup of a plan over an empty database of a catalog is answered with: `ok`, or the line of its refusal.
 fn line(
     alloc: Global,
     plan: &str,

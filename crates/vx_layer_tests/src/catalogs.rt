@@ -5,7 +5,7 @@ use std::alloc::Global;
 use std::test::Fail;
 use vx_catalog::{Catalog, CatalogFault};
 
-/// What is read from a text: that the catalog has no relations or some, or the refusal.
+// What is read from a text: that the catalog has no relations or some, or the refusal.
 fn told(alloc: Global, text: &str) -> Result<String, Fail> {
     match Catalog::read(alloc, text.as_bytes()) {
         Ok(catalog) if catalog.is_empty() => Ok(String::from_str(alloc, "no relations")?),

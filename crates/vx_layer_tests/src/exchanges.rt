@@ -11,7 +11,7 @@ use vx_ops::{Code, Fault, Got, Polled, Source, Want};
 use vx_ports::{Body, Ending, Packet};
 use vx_rows::{ColType, Rows, Value};
 
-/// Rows of one number each: 1, 2, and so on.
+// Rows of one number each: 1, 2, and so on.
 fn numbers(alloc: Global, n: i64) -> Result<Rows, AllocError>
     ensures { IfOk result (λ rows. rows.types ≡ Kind.Int ∷ []) }
 {
@@ -22,7 +22,7 @@ fn numbers(alloc: Global, n: i64) -> Result<Rows, AllocError>
     Ok(rows)
 }
 
-/// A receiver's turn with a packet, or with none.
+// A receiver's turn with a packet, or with none.
 fn turn(rt: &impl Abort, receiver: &mut Receiver, packet: Option<Packet>) -> Polled {
     match receiver.wants() {
         Want::Packet(_) => return receiver.turn(Got::Packet(packet)),
@@ -34,7 +34,7 @@ fn turn(rt: &impl Abort, receiver: &mut Receiver, packet: Option<Packet>) -> Pol
     }
 }
 
-/// Whether the answer is that a stranger came at this exchange.
+// Whether the answer is that a stranger came at this exchange.
 fn is_stranger(polled: Polled, exchange: u32) -> bool {
     match polled {
         Polled::Fault(
@@ -82,7 +82,7 @@ fn ends_after_both_producers(rt: HostRuntime) -> Result<(), Fail> {
     Ok(())
 }
 
-/// How many rows the next packet brings: for Last 0, for Fault -1, and -2 where there is none.
+// How many rows the next packet brings: for Last 0, for Fault -1, and -2 where there is none.
 fn next_size(sender: &mut Gather) -> i64
     ensures { gather_is_open sender.new ≡ gather_is_open sender.old }
 {

@@ -14,11 +14,11 @@ const ONE_TEXT: &str = r#"{"relations":[{"name":"u","columns":[{"name":"s","type
 const TWO_KEYS: &str =
     r#"{"relations":[{"name":"w","columns":[{"name":"a","type":"int"},{"name":"b","type":"int"}],"keys":[["a"],["b"]]}]}"#;
 
-/// Rows of that relation.
+// Rows of that relation.
 const TEXT: &[u8] = b"id,k,v\n0,a,5\n1,b,7\n2,a,-2\n3,c,7\n";
 
-/// What relation 0 of a catalog answers to a text: its rows as they are written again, or the refusal. The reader fails
-/// after so many bytes, and the writer has room for so many.
+// What relation 0 of a catalog answers to a text: its rows as they are written again, or the refusal. The reader fails
+// after so many bytes, and the writer has room for so many.
 fn answer(
     alloc: Global,
     catalog: &str,
@@ -46,7 +46,7 @@ fn answer(
     }
 }
 
-/// The same, where neither fails.
+// The same, where neither fails.
 fn again(alloc: Global, catalog: &str, text: &[u8]) -> Result<String, Fail> {
     answer(alloc, catalog, text, None, 1000)
 }

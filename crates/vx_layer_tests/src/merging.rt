@@ -10,7 +10,7 @@ use vx_rows::{ColType, Rows};
 
 const TYPES: [ColType; 4] = [ColType::Int, ColType::Text, ColType::Int, ColType::Text];
 
-/// The merge join of two tables on the same columns of both, as text, or that one falls.
+// The merge join of two tables on the same columns of both, as text, or that one falls.
 fn merged(
     alloc: Global,
     left: &[(i64, &str)],

@@ -11,7 +11,7 @@ use vx_rows::{MemoryIn, Real};
 const SMALL: &str =
     r#"{"relations":[{"name":"w","columns":[{"name":"a","type":"int"},{"name":"b","type":"text"}],"keys":[["a"]],"order":["b"]}]}"#;
 
-/// Its numbers do not rise, so that they are sorted to test the key.
+// Its numbers do not rise, so that they are sorted to test the key.
 const FINE: &[u8] = b"a,b\n7,\n-5,x\n6,y\n";
 
 const CLASHING: &[u8] = b"a,b\n7,\n-5,x\n7,y\n";
@@ -22,7 +22,7 @@ const CLASH: LoadFault = LoadFault::KeyBroken {
     second: 2,
 };
 
-/// Why rows were not loaded and written again.
+// Why rows were not loaded and written again.
 #[derive(Clone, Copy, Debug, PartialEq, Eq)]
 enum Stopped {
     NoMemory,
@@ -63,7 +63,7 @@ impl From<WriteFault> for Stopped {
     }
 }
 
-/// The rows of a text, loaded, put into a database and written again, into memory that is there before.
+// The rows of a text, loaded, put into a database and written again, into memory that is there before.
 fn again(alloc: Global, text: &[u8]) -> Result<Vec<u8>, Stopped> {
     let mut written = Vec::with_capacity(alloc, 100)?;
     let catalog = Catalog::read(alloc, SMALL.as_bytes())?;
@@ -80,7 +80,7 @@ fn again(alloc: Global, text: &[u8]) -> Result<Vec<u8>, Stopped> {
     Ok(written)
 }
 
-/// Whether an answer is the usual one. It is that, or want of memory.
+// Whether an answer is the usual one. It is that, or want of memory.
 fn is_usual<R: Abort>(
     rt: &R,
     answer: Result<Vec<u8>, Stopped>,

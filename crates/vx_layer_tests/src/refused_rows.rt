@@ -11,7 +11,7 @@ use std::process::Abort;
 use std::test::Fail;
 use vx_rows::{Cell, Rows};
 
-/// What stands in the rows after each growth.
+// What stands in the rows after each growth.
 const GROWN: [(i64, &str); 7] = [
     (7, "b"),
     (-5, ""),
@@ -22,7 +22,7 @@ const GROWN: [(i64, &str); 7] = [
     (9, "b"),
 ];
 
-/// Whether a row has these values.
+// Whether a row has these values.
 fn has(rows: &Rows, i: usize, values: (i64, &str)) -> bool
     requires row { i < length rows.now.rows }
     requires types { rows.now.types ≡ kind.Int ∷ kind.Text ∷ [] }
@@ -33,7 +33,7 @@ fn has(rows: &Rows, i: usize, values: (i64, &str)) -> bool
     }
 }
 
-/// Whether the rows are a beginning of those that stand after each growth. It takes no memory.
+// Whether the rows are a beginning of those that stand after each growth. It takes no memory.
 fn are_front(rows: &Rows) -> bool
     requires { rows.now.types ≡ kind.Int ∷ kind.Text ∷ [] }
 {
@@ -48,7 +48,7 @@ fn are_front(rows: &Rows) -> bool
     true
 }
 
-/// Two rows to add from.
+// Two rows to add from.
 fn two_rows(alloc: Global) -> Result<Rows, AllocError>
     ensures { IfOk result (λ r. r.types ≡ kind.Int ∷ kind.Text ∷ []) }
 {
@@ -58,7 +58,7 @@ fn two_rows(alloc: Global) -> Result<Rows, AllocError>
     Ok(rows)
 }
 
-/// Adds by the growing calls, one after the other.
+// Adds by the growing calls, one after the other.
 fn grow(rows: &mut Rows, two: &Rows) -> Result<(), AllocError>
     requires types { rows.old.types ≡ kind.Int ∷ kind.Text ∷ [] }
     requires others { two.now.types ≡ kind.Int ∷ kind.Text ∷ [] }
@@ -73,7 +73,7 @@ fn grow(rows: &mut Rows, two: &Rows) -> Result<(), AllocError>
     rows.push_cells(&[Cell::Int(9), Cell::Text("b")])
 }
 
-/// The rows after each growth. Where a growth is refused, those before it stand.
+// The rows after each growth. Where a growth is refused, those before it stand.
 fn grown<R: Abort>(rt: &R, alloc: Global) -> Result<Rows, AllocError>
     ensures { IfOk result (λ r. r.types ≡ kind.Int ∷ kind.Text ∷ []) }
 {
@@ -90,7 +90,7 @@ fn grown<R: Abort>(rt: &R, alloc: Global) -> Result<Rows, AllocError>
     Ok(rows)
 }
 
-/// The rows four times, taken out of a copy. Where that is refused, the copy stays as it was.
+// The rows four times, taken out of a copy. Where that is refused, the copy stays as it was.
 fn four_times<R: Abort>(rt: &R, alloc: Global, rows: &Rows) -> Result<Rows, AllocError>
     requires { rows.now.types ≡ kind.Int ∷ kind.Text ∷ [] }
     ensures { IfOk result (λ r. r.types ≡ kind.Int ∷ kind.Text ∷ []) }
@@ -105,7 +105,7 @@ fn four_times<R: Abort>(rt: &R, alloc: Global, rows: &Rows) -> Result<Rows, Allo
     taken
 }
 
-/// Sorts and tests keys of so many rows that the sort needs memory of its own.
+// Sorts and tests keys of so many rows that the sort needs memory of its own.
 fn order<R: Abort>(rt: &R, alloc: Global, rows: &Rows) -> Result<(), AllocError>
     requires { rows.now.types ≡ kind.Int ∷ kind.Text ∷ [] }
 {
@@ -118,7 +118,7 @@ fn order<R: Abort>(rt: &R, alloc: Global, rows: &Rows) -> Result<(), AllocError>
     Ok(())
 }
 
-/// All these calls.
+// All these calls.
 fn all<R: Abort>(rt: &R, alloc: Global) -> Result<(), AllocError> {
     let rows = grown(rt, alloc)?;
     let many = four_times(rt, alloc, &rows)?;

@@ -9,7 +9,7 @@ use std::collections::HashMap;
 use std::test::Fail;
 use vx_rows::{Cell, ColType, Row, Rows};
 
-/// Four rows, two of them with one text of more than one byte a character.
+// Four rows, two of them with one text of more than one byte a character.
 fn sample(alloc: Global) -> Result<Rows, AllocError>
     ensures { IfOk result (λ r. r.types ≡ kind.Int ∷ kind.Text ∷ []) }
 {

@@ -32,7 +32,7 @@ fn plan_of(alloc: Global, root: &str) -> Result<TypedPlan, Fail> {
     Ok(resolve(alloc, &plan, &catalog)?)
 }
 
-/// The rows as text: cells side by side, a blank behind each row.
+// The rows as text: cells side by side, a blank behind each row.
 fn text_of(alloc: Global, rows: &Rows) -> Result<String, Fail> {
     let mut out = String::new(alloc);
     for i in 0..rows.len() {
@@ -47,7 +47,7 @@ fn text_of(alloc: Global, rows: &Rows) -> Result<String, Fail> {
     Ok(out)
 }
 
-/// What the plan of this root comes to over the table, where a word in capitals stands for a scan.
+// What the plan of this root comes to over the table, where a word in capitals stands for a scan.
 fn comes_to(alloc: Global, root: &str) -> Result<String, Fail> {
     let root = root.replace(
         alloc,

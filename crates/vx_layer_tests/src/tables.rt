@@ -27,7 +27,7 @@ pub fn shown(alloc: Global, rows: &Rows) -> Result<String, AllocError> {
     Ok(out)
 }
 
-/// Adds a number and a text.
+// Adds a number and a text.
 fn add(alloc: Global, rows: &mut Rows, number: i64, text: &str) -> Result<(), AllocError>
     ensures { rows.new.types ≡ rows.old.types }
 {

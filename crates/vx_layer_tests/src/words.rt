@@ -4,7 +4,7 @@ use std::alloc::{AllocError, Global};
 use std::test::Fail;
 use vx_words::{Asked, asked_for};
 
-/// The words of a line.
+// The words of a line.
 fn words_of<'a>(alloc: Global, line: &'a str) -> Result<Vec<&'a str>, AllocError> {
     let mut words = Vec::new(alloc);
     for word in line.split(' ') {
@@ -13,7 +13,7 @@ fn words_of<'a>(alloc: Global, line: &'a str) -> Result<Vec<&'a str>, AllocError
     Ok(words)
 }
 
-/// What the words of a line ask for, as a text.
+// What the words of a line ask for, as a text.
 fn shown(alloc: Global, line: &str) -> Result<String, Fail> {
     let words = words_of(alloc, line)?;
     match asked_for(alloc, words.as_slice()) {

@@ -13,7 +13,7 @@ use vx_ports::{Packet, Put};
 use vx_rows::{ColType, Rows, Value};
 use vx_worker::{Morsels, Outcome, Stepped, Tree, Wires, Worker};
 
-/// Numbers from `next` to below `end`, and no packet.
+// Numbers from `next` to below `end`, and no packet.
 #[derive(Drop)]
 struct Numbers {
     next: u64,
@@ -42,7 +42,7 @@ impl Wires for Numbers {
     }
 }
 
-/// The same rows for each morsel, but for one number, where memory is refused.
+// The same rows for each morsel, but for one number, where memory is refused.
 #[derive(Drop)]
 struct Pages {
     alloc: Global,
@@ -63,7 +63,7 @@ impl Morsels for Pages {
     }
 }
 
-/// Three rows of one number.
+// Three rows of one number.
 fn three_rows(alloc: Global, refused: u64) -> Result<Pages, AllocError>
     ensures { IfOk result (λ s. s.rows.types ≡ Kind.Int ∷ []) }
 {
@@ -78,7 +78,7 @@ fn three_rows(alloc: Global, refused: u64) -> Result<Pages, AllocError>
     })
 }
 
-/// Steps until the worker has ended, at most twenty times.
+// Steps until the worker has ended, at most twenty times.
 fn finish(worker: &mut Worker<Scan, Kept>, pages: &Pages, wires: &mut Numbers) -> Stepped
     requires pages { pages.now.rows.types ≡ Kind.Int ∷ [] }
     requires worker { IsReady scan_types kept_post kept_is_open kept_has_closed (λ _. Kind.Int ∷ []) worker.old }
@@ -91,7 +91,7 @@ fn finish(worker: &mut Worker<Scan, Kept>, pages: &Pages, wires: &mut Numbers) -
     Stepped::Waiting
 }
 
-/// A worker at the root that scans, with node number 7.
+// A worker at the root that scans, with node number 7.
 fn scanner(alloc: Global) -> Result<Worker<Scan, Kept>, AllocError>
     ensures { IfOk result (IsReady scan_types kept_post kept_is_open kept_has_closed (λ _. Kind.Int ∷ [])) }
 {

@@ -9,23 +9,31 @@ use vx_rows::{ColType, Value};
 /// How many workers: one, or as many as a declared size name is bound to, by the name's number.
 #[derive(Clone, Copy, Debug, PartialEq, Eq)]
 pub enum Size {
+    /// One worker.
     One,
+    /// As many as the size name with this number is bound to.
     Group(usize),
 }
 
 /// Where a key is sent: by a hash of this name, or by the declared range with this number.
 #[derive(Debug, Drop)]
 pub enum Route {
+    /// To the worker that the router names for this route and these values.
     Hash(String),
+    /// To the worker whose number is how many of the range's bounds are not above the value.
     Range(usize),
 }
 
 /// How rows lie on workers, as a note claims it.
 #[derive(Debug, Drop)]
 pub enum Part {
+    /// All rows at one worker.
     One,
+    /// Each row at one worker, whichever.
     Any,
+    /// Every row at every worker.
     All,
+    /// Each row at the worker to which the route sends its values in these columns.
     Routed(Route, Vec<usize>),
 }
 
@@ -33,7 +41,9 @@ pub enum Part {
 #[derive(Debug)]
 pub struct Claim {
     pub part: Part,
+    /// The columns on which each stream is sorted, the first before the second.
     pub order: Vec<usize>,
+    /// Lists of columns on which no two rows agree.
     pub keys: Vec<Vec<usize>>,
 }
 
@@ -66,9 +76,13 @@ pub struct Condition {
 /// What is computed of the rows of a group.
 #[derive(Clone, Copy, Debug, PartialEq, Eq)]
 pub enum Aggregate {
+    /// The least value of a column.
     Least(usize),
+    /// The greatest value of a column.
     Greatest(usize),
+    /// The sum of a column of numbers.
     Sum(usize),
+    /// How many rows there are.
     CountRows,
 }
 
@@ -137,10 +151,15 @@ impl Drop for Scan {
 /// An operator over one input, by the columns of that input.
 #[derive(Debug)]
 pub enum Unary {
+    /// The rows of which all conditions hold.
     Select(Vec<Condition>),
+    /// These columns of each row.
     Project(Vec<Kept>),
+    /// These columns of each row, each list of values once.
     Distinct(Vec<Kept>),
+    /// The rows in ascending order on these columns; rows that are equal on them keep theirs.
     Sort(Vec<usize>),
+    /// For each key the values in these columns, and then the aggregates of its rows.
     Group(Vec<usize>, Vec<Aggregate>),
 }
 
@@ -179,9 +198,13 @@ impl Drop for Binary {
 /// How an exchange sends, and to a group of which size.
 #[derive(Debug, Drop)]
 pub enum Kind {
+    /// Each row to the worker of its values in these columns.
     Route(Size, Route, Vec<usize>),
+    /// Each producer's rows to the workers in turn.
     Round(Size),
+    /// Every row to every worker.
     Broadcast(Size),
+    /// Every row to one worker.
     Gather,
 }
 

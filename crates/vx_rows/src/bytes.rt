@@ -127,7 +127,7 @@ pub fn read_all<R: ByteIn>(
     Err(ReadFault::TooLarge)
 }
 
-/// One read, tried again where the system interrupted it.
+// One read, tried again where the system interrupted it.
 fn read_retrying<R: Read>(inner: &mut R, buf: &mut [u8]) -> Result<usize, Broken>
     ensures bound { IfOk result (λ n. n ≤ length buf.new) }
     ensures bytes { ReadConsumes (R.remaining inner.old) (R.remaining inner.new) result buf.new }
@@ -145,7 +145,7 @@ fn read_retrying<R: Read>(inner: &mut R, buf: &mut [u8]) -> Result<usize, Broken
     Err(Broken)
 }
 
-/// One write, tried again where the system interrupted it.
+// One write, tried again where the system interrupted it.
 fn write_retrying<W: Write>(inner: &mut W, buf: &[u8]) -> Result<usize, Broken>
     ensures bound { IfOk result (λ n. n ≤ length buf.now) }
     ensures bytes { WriteAppends (W.contents inner.old) (W.contents inner.new) result buf.now }

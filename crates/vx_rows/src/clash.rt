@@ -10,7 +10,7 @@ use crate::rows::Rows;
 use crate::sorting::compare_on;
 use std::alloc::{AllocError, Global};
 
-/// The clash found before, or this one where its second row comes first.
+// The clash found before, or this one where its second row comes first.
 fn earlier(best: Option<(usize, usize)>, first: usize, second: usize) -> Option<(usize, usize)>
     ensures { result ≡ earlier_clash best first second }
 {
@@ -27,7 +27,7 @@ fn earlier(best: Option<(usize, usize)>, first: usize, second: usize) -> Option<
 }
 
 impl Rows {
-    /// The clash found before, or that of these two rows where they agree and the second of them comes first.
+    // The clash found before, or that of these two rows where they agree and the second of them comes first.
     fn with_pair(
         &self,
         cols: &[usize],
@@ -47,7 +47,7 @@ impl Rows {
         }
     }
 
-    /// Whether each row is greater than the one before it, so that no two agree.
+    // Whether each row is greater than the one before it, so that no two agree.
     fn rises(&self, cols: &[usize]) -> bool
         requires { AreColumns (length self.now.types) cols.now }
         ensures { IsTrue result → first_clash cols.now self.now.rows ≡ None }
@@ -60,7 +60,7 @@ impl Rows {
         true
     }
 
-    /// The first clash, from the positions of the rows in order: rows that agree are neighbours there.
+    // The first clash, from the positions of the rows in order: rows that agree are neighbours there.
     fn least_clash(&self, cols: &[usize], positions: &[usize]) -> Option<(usize, usize)>
         requires columns { AreColumns (length self.now.types) cols.now }
         requires order { positions.now ≡ order_on cols.now self.now.rows }

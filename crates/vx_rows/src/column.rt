@@ -9,6 +9,7 @@ use crate::texts::Texts;
 use crate::value::{Cell, ColType};
 use std::alloc::{AllocError, Global};
 
+/// The values of a column, all of one type.
 #[derive(Debug, Drop)]
 pub enum Column {
     Int(Vec<i64>),
@@ -16,6 +17,7 @@ pub enum Column {
 }
 
 impl Column {
+    /// A column without values.
     pub fn new(alloc: Global, kind: ColType) -> Result<Column, AllocError>
         ensures kind { IfOk result (λ c. column_type c ≡ kind) }
         ensures empty { IfOk result (λ c. size c ≡ 0) }
@@ -26,6 +28,7 @@ impl Column {
         }
     }
 
+    /// The value at position i.
     pub fn get(&self, i: usize) -> Cell<'_>
         requires { i < size self.now }
         ensures { cell_val result ≡ entry self.now i }
@@ -124,7 +127,7 @@ impl Column {
     }
 }
 
-/// Adds the numbers at some positions.
+// Adds the numbers at some positions.
 fn add_numbers_at(v: &mut Vec<i64>, numbers: &[i64], positions: &[usize]) -> Result<(), AllocError>
     requires { ArePositions (length numbers.now) positions.now }
     ensures long { length v.old.items ≤ length v.new.items }

@@ -136,7 +136,7 @@ impl Row {
     }
 }
 
-/// Whether two values are one.
+// Whether two values are one.
 fn equal_values(a: &Value, b: &Value) -> bool
     ensures { result ≡ is_eq (val_cmp (val_of a.now) (val_of b.now)) }
 {
@@ -147,7 +147,7 @@ fn equal_values(a: &Value, b: &Value) -> bool
     }
 }
 
-/// Feeds a value to a hasher.
+// Feeds a value to a hasher.
 fn feed_value<H: Hasher>(value: &Value, state: &mut H)
     ensures { state.new ≡ fold H.write state.old (val_feed (val_of value.now)) }
 {

@@ -16,7 +16,7 @@ use std::alloc::{AllocError, Global};
 use std::marker::Model;
 use std::mem;
 
-/// Makes value j of a key that of a cell.
+// Makes value j of a key that of a cell.
 fn put_key(alloc: Global, key: &mut Vec<Value>, j: usize, cell: Cell<'_>) -> Result<(), AllocError>
     requires { j ≤ length key.old.items }
     ensures ok { OnOk result (take (j + 1) (map val_of key.new.items) ≡ take j (map val_of key.old.items) ++ cell_val cell.entry ∷ []) }

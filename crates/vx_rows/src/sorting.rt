@@ -38,7 +38,7 @@ pub(crate) struct Place {
 }
 
 impl Rows {
-    /// Whether the row at a position is smaller than the one before it.
+    // Whether the row at a position is smaller than the one before it.
     fn falls(&self, cols: &[usize], i: usize) -> bool
         requires later { 0 < i }
         requires near { i < length self.now.rows }
@@ -61,7 +61,7 @@ impl Rows {
         true
     }
 
-    /// The value of a row in a column, and the number 0 past the last row.
+    // The value of a row in a column, and the number 0 past the last row.
     fn cell_or_zero(&self, i: usize, column: usize) -> Cell<'_>
         requires { column < length self.now.types }
         ensures { cell_val result ≡ value_at (row self.now i) column }
@@ -73,7 +73,7 @@ impl Rows {
         }
     }
 
-    /// Compares the rows at two positions, past the last row a row of no values.
+    // Compares the rows at two positions, past the last row a row of no values.
     fn compare_rows(&self, cols: &[usize], i: usize, j: usize) -> Ordering
         requires { AreColumns (length self.now.types) cols.now }
         ensures { result ≡ compare_on cols.now (row self.now i) (row self.now j) }
@@ -87,7 +87,7 @@ impl Rows {
         Ordering::Equal
     }
 
-    /// Compares two places by their numbers, and then by the rows there.
+    // Compares two places by their numbers, and then by the rows there.
     fn compare_places(&self, cols: &[usize], a: &Place, b: &Place) -> Ordering
         requires { AreColumns (length self.now.types) cols.now }
         ensures { result ≡ row_cmp (place_rank cols.now self.now.rows a.now) (place_rank cols.now self.now.rows b.now) }
@@ -98,7 +98,7 @@ impl Rows {
         }
     }
 
-    /// The number of a row in the first of these columns, 0 where that is a text or there is none.
+    // The number of a row in the first of these columns, 0 where that is a text or there is none.
     fn first_number(&self, cols: &[usize], i: usize) -> i64
         requires columns { AreColumns (length self.now.types) cols.now }
         requires row { i < length self.now.rows }
@@ -113,7 +113,7 @@ impl Rows {
         }
     }
 
-    /// The place of a row.
+    // The place of a row.
     fn place(&self, cols: &[usize], i: usize) -> Place
         requires columns { AreColumns (length self.now.types) cols.now }
         requires row { i < length self.now.rows }
@@ -125,7 +125,7 @@ impl Rows {
         }
     }
 
-    /// The places of all rows, in their order.
+    // The places of all rows, in their order.
     fn places(&self, alloc: Global, cols: &[usize]) -> Result<Vec<Place>, AllocError>
         requires { AreColumns (length self.now.types) cols.now }
         ensures { IfOk result (λ v. v.items ≡ each_below (length self.now.rows) (place_of cols.now self.now.rows)) }
@@ -137,7 +137,7 @@ impl Rows {
         Ok(places)
     }
 
-    /// The places of all rows, in the order of the stable sort.
+    // The places of all rows, in the order of the stable sort.
     fn sorted_places(&self, alloc: Global, cols: &[usize]) -> Result<Vec<Place>, AllocError>
         requires { AreColumns (length self.now.types) cols.now }
         ensures { IfOk result (λ v. v.items ≡ sort_by (place_rank cols.now self.now.rows) (each_below (length self.now.rows) (place_of cols.now self.now.rows))) }

@@ -8,7 +8,7 @@ ghost use Rattle.vx_rows.specs.Texts.{piece, AreCuts, AreMoved, Rise};
 use std::alloc::{AllocError, Global};
 use std::marker::Model;
 
-/// The text in a part of these bytes.
+// The text in a part of these bytes.
 fn text_of(bytes: &[u8], from: usize, to: usize) -> &str
     requires rise { from ≤ to }
     requires within { to ≤ length bytes.now }
@@ -18,7 +18,7 @@ fn text_of(bytes: &[u8], from: usize, to: usize) -> &str
     unsafe { std::str::from_utf8_unchecked(&bytes[from..to]) }
 }
 
-/// Adds the cuts of other texts, moved to where their bytes now lie.
+// Adds the cuts of other texts, moved to where their bytes now lie.
 fn push_cuts(
     cuts: &mut Vec<usize>,
     at: usize,
@@ -42,7 +42,7 @@ fn push_cuts(
     Ok(())
 }
 
-/// Leaves the first `at` texts, and adds those of another from `from` up to `to`.
+// Leaves the first `at` texts, and adds those of another from `from` up to `to`.
 fn splice(
     bytes: &mut Vec<u8>,
     cuts: &mut Vec<usize>,
@@ -70,7 +70,7 @@ fn splice(
     push_cuts(cuts, at, other_cuts, from, to)
 }
 
-/// Leaves the first `at` texts, and adds one.
+// Leaves the first `at` texts, and adds one.
 fn put_text(
     bytes: &mut Vec<u8>,
     cuts: &mut Vec<usize>,

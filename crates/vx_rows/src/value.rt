@@ -103,7 +103,7 @@ impl Cell<'_> {
     }
 }
 
-/// A text is in UTF-8. It does nothing: a caller who needs the fact calls it.
+// A text is in UTF-8. It does nothing: a caller who needs the fact calls it.
 fn utf8(text: &str)
     ensures { is_utf8 text.now ≡ true }
 {

@@ -21,8 +21,8 @@ use vx_catalog::Database;
 use vx_plan::{TypedNode, TypedPlan};
 use vx_rows::Rows;
 
-/// The rows of a node. Each input is taken to its end, also where no further row can come of it. An exchange gives its
-/// input. A scan lends the rows of its relation, and what hands its input on hands on what is lent.
+// The rows of a node. Each input is taken to its end, also where no further row can come of it. An exchange gives its
+// input. A scan lends the rows of its relation, and what hands its input on hands on what is lent.
 fn eval_node<'d>(
     alloc: Global,
     database: &'d Database,
@@ -48,7 +48,7 @@ fn eval_node<'d>(
     }
 }
 
-/// The rows of a node as one's own, for a caller who keeps them.
+// The rows of a node as one's own, for a caller who keeps them.
 fn own_rows(alloc: Global, database: &Database, node: &TypedNode) -> Result<Rows, EvalFault>
     requires { IsFit database.now.catalog (plan_of node.now) }
     ensures types { IfOk result (λ t. t.types ≡ types_of (relation_at database.now.catalog) (plan_of node.now)) }

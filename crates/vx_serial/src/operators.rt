@@ -19,17 +19,17 @@ use vx_algebra::{GroupFault, distinct, grouped, hash_join, passing, projected, s
 use vx_plan::{Aggregate, Binary, Kept, Unary};
 use vx_rows::Rows;
 
-/// The most rows of one grouping.
+// The most rows of one grouping.
 const MAX_GROUPED: usize = 1 << 62;
 
-/// The columns that are kept, without their names.
+// The columns that are kept, without their names.
 fn columns_of(alloc: Global, kept: &[Kept]) -> Result<Vec<usize>, AllocError>
     ensures { IfOk result (λ v. v.items ≡ map (λ k. k.column) kept.now) }
 {
     kept.iter().map(|kept| kept.column).collect(alloc)
 }
 
-/// The groups of rows, at the node with this number.
+// The groups of rows, at the node with this number.
 fn groups_of(
     alloc: Global,
     number: u32,
@@ -87,21 +87,21 @@ pub fn unary_rows<'d>(
     }
 }
 
-/// The left columns of pairs.
+// The left columns of pairs.
 fn left_columns(alloc: Global, on: &[(usize, usize)]) -> Result<Vec<usize>, AllocError>
     ensures { IfOk result (λ v. v.items ≡ map (λ p. p.0) on.now) }
 {
     on.iter().map(|pair| pair.0).collect(alloc)
 }
 
-/// The right columns of pairs.
+// The right columns of pairs.
 fn right_columns(alloc: Global, on: &[(usize, usize)]) -> Result<Vec<usize>, AllocError>
     ensures { IfOk result (λ v. v.items ≡ map (λ p. p.1) on.now) }
 {
     on.iter().map(|pair| pair.1).collect(alloc)
 }
 
-/// The left rows joined with the right rows that agree with them on these pairs of columns.
+// The left rows joined with the right rows that agree with them on these pairs of columns.
 fn joined(
     alloc: Global,
     left: &Rows,

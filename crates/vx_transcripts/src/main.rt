@@ -15,10 +15,10 @@ use std::{env, fs};
 use vx_answer::{Disk, answer};
 use vx_rows::{MemoryIn, MemoryOut};
 
-/// What a command may write on its output, and what it may write on its errors, in bytes.
+// What a command may write on its output, and what it may write on its errors, in bytes.
 const ROOM: usize = 1 << 20;
 
-/// A command of a transcript.
+// A command of a transcript.
 #[derive(Drop)]
 struct Command<'a> {
     /// Without the program's name.
@@ -27,7 +27,7 @@ struct Command<'a> {
     input: Option<&'a str>,
 }
 
-/// The command that a line has behind the program's name.
+// The command that a line has behind the program's name.
 fn command_in(alloc: Global, text: &str) -> Result<Command<'_>, AllocError> {
     let (texts, input) = match text.split_once('<') {
         Some((texts, path)) => (texts, Some(path.trim())),
@@ -40,7 +40,7 @@ fn command_in(alloc: Global, text: &str) -> Result<Command<'_>, AllocError> {
     Ok(Command { words, input })
 }
 
-/// The bytes of a command's standard input.
+// The bytes of a command's standard input.
 fn input_of(rt: &(impl Files + AllocGlobal), command: &Command<'_>) -> Result<Vec<u8>, Error> {
     match command.input {
         Some(path) => Ok(fs::read(rt, path).context(format_args!("reading {path}"))?),
@@ -48,7 +48,7 @@ fn input_of(rt: &(impl Files + AllocGlobal), command: &Command<'_>) -> Result<Ve
     }
 }
 
-/// Runs a command, and shows what came of it.
+// Runs a command, and shows what came of it.
 fn show<R: Threads + Wait + Sync + Files<File = File> + Print + AllocGlobal>(
     rt: &R,
     command: &Command<'_>,
@@ -72,7 +72,7 @@ fn show<R: Threads + Wait + Sync + Files<File = File> + Print + AllocGlobal>(
     Ok(())
 }
 
-/// Runs the commands of a transcript, and shows each with what came of it.
+// Runs the commands of a transcript, and shows each with what came of it.
 fn show_all<R: Threads + Wait + Sync + Files<File = File> + Print + AllocGlobal>(
     rt: &R,
     transcript: &str,

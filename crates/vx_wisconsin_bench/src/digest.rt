@@ -16,7 +16,7 @@ pub struct Digest {
 }
 
 impl Digest {
-    /// Of so many rows without columns.
+    // Of so many rows without columns.
     fn of_count(rows: usize) -> Digest {
         Digest {
             rows,
@@ -25,7 +25,7 @@ impl Digest {
         }
     }
 
-    /// With one more number.
+    // With one more number.
     fn with_number(self, number: i64) -> Digest {
         Digest {
             rows: self.rows,
@@ -34,7 +34,7 @@ impl Digest {
         }
     }
 
-    /// With more numbers.
+    // With more numbers.
     fn with_numbers(self, numbers: &[i64]) -> Digest {
         let mut digest = self;
         for number in numbers {
@@ -43,7 +43,7 @@ impl Digest {
         digest
     }
 
-    /// With the bytes of one text more, or of several.
+    // With the bytes of one text more, or of several.
     fn with_bytes(self, bytes: &[u8]) -> Digest {
         let mut checksum = self.checksum;
         for byte in bytes {
@@ -56,7 +56,7 @@ impl Digest {
         }
     }
 
-    /// With the values of one column more.
+    // With the values of one column more.
     fn with_column(self, rows: &Rows, column: usize) -> Digest
         requires { column < length rows.now.types }
     {
@@ -92,7 +92,7 @@ impl Digest {
     }
 }
 
-/// The numbers of a column.
+// The numbers of a column.
 fn numbers_of(alloc: Global, rows: &Rows, column: usize) -> Result<Vec<i64>, AllocError>
     requires { column < length rows.now.types }
 {
@@ -105,7 +105,7 @@ fn numbers_of(alloc: Global, rows: &Rows, column: usize) -> Result<Vec<i64>, All
     Ok(numbers)
 }
 
-/// The bytes of the texts of a column.
+// The bytes of the texts of a column.
 fn bytes_of(alloc: Global, rows: &Rows, column: usize) -> Result<Vec<u8>, AllocError>
     requires { column < length rows.now.types }
 {

@@ -17,7 +17,7 @@ use vx_plan::{Plan, resolve};
 use vx_rows::{MemoryIn, Rows};
 use vx_serial::eval;
 
-/// The relations, as both kinds of queries read them.
+// The relations, as both kinds of queries read them.
 #[derive(Drop)]
 struct Relations {
     database: Database,
@@ -25,7 +25,7 @@ struct Relations {
     bprime: Table,
 }
 
-/// Loads n rows of one relation, and answers them as plain columns too.
+// Loads n rows of one relation, and answers them as plain columns too.
 fn load(
     alloc: Global,
     catalog: &Catalog,
@@ -50,7 +50,7 @@ fn load(
     Ok(table)
 }
 
-/// The rows of a plan, and how long its evaluation took in nanoseconds.
+// The rows of a plan, and how long its evaluation took in nanoseconds.
 fn evaluated<R: Clock>(
     rt: &R,
     alloc: Global,
@@ -65,7 +65,7 @@ fn evaluated<R: Clock>(
 }
 
 impl Bench {
-    /// How many rows a query reads.
+    // How many rows a query reads.
     fn rows_read(self, query: Query) -> u64 {
         if query.is_join() {
             self.rows.saturating_add(self.rows / 10)
@@ -74,7 +74,7 @@ impl Bench {
         }
     }
 
-    /// Shows both times for each row that is read, and how many times longer evaluation takes.
+    // Shows both times for each row that is read, and how many times longer evaluation takes.
     fn show_both<R: Print>(
         self,
         rt: &R,
@@ -95,7 +95,7 @@ impl Bench {
         Ok(())
     }
 
-    /// Runs a query both ways, and shows what they gave.
+    // Runs a query both ways, and shows what they gave.
     fn run_query<R: Print + Clock>(
         self,
         rt: &R,
@@ -130,7 +130,7 @@ impl Bench {
         Ok(())
     }
 
-    /// Shows the time to evaluate a scan of tenk1 alone, which each query has as a part.
+    // Shows the time to evaluate a scan of tenk1 alone, which each query has as a part.
     fn show_scan<R: Print + Clock>(
         self,
         rt: &R,
@@ -146,7 +146,7 @@ impl Bench {
         Ok(())
     }
 
-    /// Runs the queries that are asked for.
+    // Runs the queries that are asked for.
     fn run_queries<R: Print + Clock>(
         self,
         rt: &R,

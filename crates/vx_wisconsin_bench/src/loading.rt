@@ -13,7 +13,7 @@ use std::time::Instant;
 use vx_catalog::{Catalog, Loader};
 use vx_rows::{Cell, MemoryIn, Rows, read_all};
 
-/// What was read of a text, and how long it took in nanoseconds.
+// What was read of a text, and how long it took in nanoseconds.
 #[derive(Clone, Copy)]
 struct Read {
     records: u64,
@@ -21,7 +21,7 @@ struct Read {
     nanos: u64,
 }
 
-/// The records of a text, read with the settings of the loader, and nothing done with them.
+// The records of a text, read with the settings of the loader, and nothing done with them.
 fn read_records<R: Clock>(rt: &R, alloc: Global, text: &[u8]) -> Result<Read, Error> {
     let start = Instant::now(rt)?;
     let mut reader = ReaderBuilder::new()
@@ -48,7 +48,7 @@ fn read_records<R: Clock>(rt: &R, alloc: Global, text: &[u8]) -> Result<Read, Er
     })
 }
 
-/// The sum of the numbers in the first column.
+// The sum of the numbers in the first column.
 fn sum_of_first(rows: &Rows) -> i64 {
     let mut sum = 0i64;
     if rows.types().is_empty() {
@@ -62,7 +62,7 @@ fn sum_of_first(rows: &Rows) -> i64 {
     sum
 }
 
-/// The text of the last row in the column before the last.
+// The text of the last row in the column before the last.
 fn last_text(rows: &Rows) -> &str {
     let width = rows.types().len();
     if rows.len() == 0 || width < 2 {
@@ -75,7 +75,7 @@ fn last_text(rows: &Rows) -> &str {
 }
 
 impl Bench {
-    /// Shows the times of loading and reading, and how many times longer loading takes.
+    // Shows the times of loading and reading, and how many times longer loading takes.
     fn show_ratio<R: Print>(self, rt: &R, load: u64, read: u64) -> Result<(), Error> {
         if !self.with_times {
             return Ok(());
@@ -89,7 +89,7 @@ impl Bench {
         Ok(())
     }
 
-    /// Shows the time to take all bytes into one list. It is run before loading, so that it adds nothing to the peak of memory.
+    // Shows the time to take all bytes into one list. It is run before loading, so that it adds nothing to the peak of memory.
     fn show_taking<R: Print + Clock>(
         self,
         rt: &R,
@@ -106,7 +106,7 @@ impl Bench {
         Ok(())
     }
 
-    /// Shows the times of the parts of loading that can be run by themselves: the two keys and the order.
+    // Shows the times of the parts of loading that can be run by themselves: the two keys and the order.
     fn show_parts<R: Print + Clock>(self, rt: &R, alloc: Global, rows: &Rows) -> Result<(), Error> {
         if !self.with_times || rows.types().len() < 2 {
             return Ok(());
@@ -128,7 +128,7 @@ impl Bench {
         Ok(())
     }
 
-    /// Loads a text, reads it with `csv` alone, and shows both.
+    // Loads a text, reads it with `csv` alone, and shows both.
     fn load_text<R: Print + Clock>(self, rt: &R, alloc: Global, text: &[u8]) -> Result<(), Error> {
         let catalog = Catalog::read(alloc, CATALOG.as_bytes())?;
         if catalog.is_empty() {

@@ -25,7 +25,7 @@ use std::rt::{Clock, Env};
 
 const FEW: u64 = 10_000;
 
-/// All parts with few rows.
+// All parts with few rows.
 fn run_all<R: Print + Clock>(rt: &R, alloc: Global) -> Result<(), Error> {
     let bench = Bench {
         rows: FEW,
@@ -37,7 +37,7 @@ fn run_all<R: Print + Clock>(rt: &R, alloc: Global) -> Result<(), Error> {
     runs::run(rt, alloc, bench)
 }
 
-/// One part.
+// One part.
 fn run_part<R: Print + Clock>(rt: &R, alloc: Global, part: &str, bench: Bench) -> Result<(), Error>
     requires few { bench.rows ≤ MAX_ROWS }
 {

@@ -3,7 +3,7 @@
 use std::alloc::{AllocError, Global};
 use std::collections::{HashMap, HashSet};
 
-/// How many bytes each text has.
+// How many bytes each text has.
 const TEXT: usize = 52;
 
 /// A column of numbers, or of texts of 52 bytes one behind the other.
@@ -14,7 +14,7 @@ pub enum Column {
 }
 
 impl Column {
-    /// The numbers, or none of a column of texts.
+    // The numbers, or none of a column of texts.
     fn numbers(&self) -> &[i64] {
         match self {
             Column::Numbers(numbers) => numbers.as_slice(),
@@ -22,7 +22,7 @@ impl Column {
         }
     }
 
-    /// Text i, or nothing.
+    // Text i, or nothing.
     fn text(&self, i: usize) -> &[u8] {
         match self {
             Column::Numbers(_) => &[],
@@ -30,7 +30,7 @@ impl Column {
         }
     }
 
-    /// The values at these positions.
+    // The values at these positions.
     fn taken(&self, alloc: Global, positions: &[usize]) -> Result<Column, AllocError> {
         match self {
             Column::Numbers(numbers) => {
@@ -45,13 +45,13 @@ impl Column {
     }
 }
 
-/// Text i of texts that lie one behind the other, or nothing.
+// Text i of texts that lie one behind the other, or nothing.
 fn text_of(bytes: &[u8], i: usize) -> &[u8] {
     let start = i.saturating_mul(TEXT);
     bytes.get(start..start.saturating_add(TEXT)).unwrap_or(&[])
 }
 
-/// The numbers at these positions.
+// The numbers at these positions.
 fn numbers_at(alloc: Global, numbers: &[i64], positions: &[usize]) -> Result<Vec<i64>, AllocError> {
     let mut taken = Vec::with_capacity(alloc, positions.len())?;
     for position in positions {
@@ -60,7 +60,7 @@ fn numbers_at(alloc: Global, numbers: &[i64], positions: &[usize]) -> Result<Vec
     Ok(taken)
 }
 
-/// The texts at these positions.
+// The texts at these positions.
 fn texts_at(alloc: Global, bytes: &[u8], positions: &[usize]) -> Result<Vec<u8>, AllocError> {
     let mut taken = Vec::with_capacity(alloc, positions.len().saturating_mul(TEXT))?;
     for position in positions {
@@ -75,7 +75,7 @@ pub struct Table {
     pub columns: Vec<Column>,
 }
 
-/// Positions of left rows, and beside each that of a right row.
+// Positions of left rows, and beside each that of a right row.
 #[derive(Drop)]
 struct Matches {
     left: Vec<usize>,
@@ -92,7 +92,7 @@ impl Table {
         }
     }
 
-    /// The numbers of a column, or none.
+    // The numbers of a column, or none.
     fn numbers(&self, column: usize) -> &[i64] {
         match self.columns.get(column) {
             Some(found) => found.numbers(),
@@ -100,7 +100,7 @@ impl Table {
         }
     }
 
-    /// The text of row i in a column, or nothing.
+    // The text of row i in a column, or nothing.
     fn text(&self, column: usize, i: usize) -> &[u8] {
         match self.columns.get(column) {
             Some(found) => found.text(i),
@@ -108,7 +108,7 @@ impl Table {
         }
     }
 
-    /// Adds all columns of others, with the rows at these positions.
+    // Adds all columns of others, with the rows at these positions.
     fn add(
         &mut self,
         alloc: Global,
@@ -131,7 +131,7 @@ impl Table {
         Ok(rows)
     }
 
-    /// The rows side by side with those of the other that match.
+    // The rows side by side with those of the other that match.
     fn beside(&self, alloc: Global, other: &Table, matches: &Matches) -> Result<Table, AllocError> {
         let mut rows = Table {
             columns: Vec::new(alloc),
@@ -179,7 +179,7 @@ impl Table {
         Ok(rows)
     }
 
-    /// The positions at which a number and a text stand together for the first time.
+    // The positions at which a number and a text stand together for the first time.
     fn firsts(&self, alloc: Global, number: usize, text: usize) -> Result<Vec<usize>, AllocError> {
         let numbers = self.numbers(number);
         let mut seen = HashSet::new(alloc);
@@ -205,7 +205,7 @@ impl Table {
     }
 }
 
-/// The positions of the numbers from 0 to `last`.
+// The positions of the numbers from 0 to `last`.
 fn positions_within(alloc: Global, numbers: &[i64], last: i64) -> Result<Vec<usize>, AllocError> {
     let mut positions = Vec::new(alloc);
     for i in 0..numbers.len() {
@@ -216,7 +216,7 @@ fn positions_within(alloc: Global, numbers: &[i64], last: i64) -> Result<Vec<usi
     Ok(positions)
 }
 
-/// The position of each number.
+// The position of each number.
 fn places_of(alloc: Global, numbers: &[i64]) -> Result<HashMap<i64, usize>, AllocError> {
     let mut places = HashMap::new(alloc);
     for i in 0..numbers.len() {
@@ -225,7 +225,7 @@ fn places_of(alloc: Global, numbers: &[i64]) -> Result<HashMap<i64, usize>, Allo
     Ok(places)
 }
 
-/// The numbers that have a place, each with it.
+// The numbers that have a place, each with it.
 fn matches_by_hash(
     alloc: Global,
     numbers: &[i64],
@@ -244,7 +244,7 @@ fn matches_by_hash(
     Ok(matches)
 }
 
-/// Equal numbers of two lists that rise.
+// Equal numbers of two lists that rise.
 fn matches_by_merge(alloc: Global, left: &[i64], right: &[i64]) -> Result<Matches, AllocError> {
     let mut matches = Matches {
         left: Vec::new(alloc),
@@ -261,7 +261,7 @@ fn matches_by_merge(alloc: Global, left: &[i64], right: &[i64]) -> Result<Matche
     Ok(matches)
 }
 
-/// The first position from `start` on that has no smaller number.
+// The first position from `start` on that has no smaller number.
 fn first_from(numbers: &[i64], start: usize, least: i64) -> usize {
     for i in start..numbers.len() {
         if numbers[i] >= least {
@@ -271,7 +271,7 @@ fn first_from(numbers: &[i64], start: usize, least: i64) -> usize {
     numbers.len()
 }
 
-/// The least number at each key.
+// The least number at each key.
 fn least_of_keys(
     alloc: Global,
     keys: &[i64],
@@ -286,7 +286,7 @@ fn least_of_keys(
     Ok(least)
 }
 
-/// The sum of the numbers at each key.
+// The sum of the numbers at each key.
 fn sums_of_keys(
     alloc: Global,
     keys: &[i64],
@@ -301,7 +301,7 @@ fn sums_of_keys(
     Ok(sums)
 }
 
-/// Keys and numbers as two columns, sorted by the key.
+// Keys and numbers as two columns, sorted by the key.
 fn sorted_entries(alloc: Global, entries: &HashMap<i64, i64>) -> Result<Table, AllocError> {
     let mut pairs = Vec::with_capacity(alloc, entries.len())?;
     for (key, number) in entries.iter() {

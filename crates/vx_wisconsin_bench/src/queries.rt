@@ -11,7 +11,7 @@ pub const SCAN: &str = r#"{"root":{"op":"scan","relation":"tenk1","mode":"whole"
 const BOTH: &str =
     r#""on":[["a.unique2","b.unique2"]],"left":{"op":"scan","relation":"tenk1","mode":"whole","size":"one","prefix":"a."},"right":{"op":"scan","relation":"bprime","mode":"whole","size":"one","prefix":"b."}"#;
 
-/// Columns of the relations.
+// Columns of the relations.
 const UNIQUE1: usize = 0;
 
 const UNIQUE2: usize = 1;
@@ -49,14 +49,14 @@ pub const QUERIES: [Query; 6] = [
     Query::Sum,
 ];
 
-/// The plan of a group of tenk1 by onePercent with an aggregate of unique3, sorted.
+// The plan of a group of tenk1 by onePercent with an aggregate of unique3, sorted.
 fn grouping(alloc: Global, aggregate: &str, name: &str) -> Result<String, AllocError> {
     format!(in alloc;
         "{{\"root\":{{\"op\":\"sort\",\"columns\":[\"onePercent\"],\"input\":{{\"op\":\"group\",\"by\":[\"onePercent\"],\"aggregates\":[{{\"fn\":\"{aggregate}\",\"column\":\"unique3\",\"as\":\"{name}\"}}],\"input\":{TENK1}}}}}}}"
     )
 }
 
-/// The plan of a join by this method.
+// The plan of a join by this method.
 fn join(alloc: Global, method: &str) -> Result<String, AllocError> {
     format!(in alloc; "{{\"root\":{{\"op\":\"join\",\"method\":\"{method}\",{BOTH}}}}}")
 }

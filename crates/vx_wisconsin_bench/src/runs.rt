@@ -15,10 +15,10 @@ use vx_exec::{Ran, Setup, can_run, run_rounds};
 use vx_plan::{Plan, Router, resolve};
 use vx_rows::{MemoryIn, Rows, Value};
 
-/// The workers that scan and select.
+// The workers that scan and select.
 const TEAMS: [u32; 3] = [1, 4, 64];
 
-/// Sends every key to consumer 0. The plans here have no exchange that asks a router.
+// Sends every key to consumer 0. The plans here have no exchange that asks a router.
 #[derive(Drop)]
 struct ToFirst;
 
@@ -32,7 +32,7 @@ impl Router for ToFirst {
     }
 }
 
-/// The database with tenk1 alone.
+// The database with tenk1 alone.
 fn database_of(alloc: Global, catalog: &Catalog, rows: u64) -> Result<Database, Error>
     requires relation { 0 < length catalog.now }
     requires few { rows ≤ MAX_ROWS }
@@ -49,7 +49,7 @@ fn database_of(alloc: Global, catalog: &Catalog, rows: u64) -> Result<Database, 
     Ok(database)
 }
 
-/// The plan for the rows up to a number of unique2.
+// The plan for the rows up to a number of unique2.
 fn plan_up_to(alloc: Global, catalog: &Catalog, last: i64) -> Result<CheckedPlan, Error> {
     let text = format!(in alloc;
         "{{\"sizes\":[\"many\"],\"root\":{{\"op\":\"exchange\",\"kind\":\"gather\",\"claim\":{{\"part\":\"one\"}},\"input\":{{\"op\":\"select\",\"where\":[{{\"column\":\"unique2\",\"op\":\"<=\",\"value\":{last}}}],\"claim\":{{\"part\":\"any\"}},\"input\":{{\"op\":\"scan\",\"relation\":\"tenk1\",\"mode\":\"shared\",\"size\":\"many\",\"claim\":{{\"part\":\"any\"}}}}}}}}}}"
@@ -61,14 +61,14 @@ fn plan_up_to(alloc: Global, catalog: &Catalog, last: i64) -> Result<CheckedPlan
     }
 }
 
-/// A team of so many workers, with packets, morsels and slack as they are by default.
+// A team of so many workers, with packets, morsels and slack as they are by default.
 fn setup_of(alloc: Global, workers: u32) -> Result<Setup, AllocError> {
     let mut sizes = Vec::new(alloc);
     sizes.push((String::from_str(alloc, "many")?, workers))?;
     Ok(Setup::new(sizes, 256, 1024, 8))
 }
 
-/// The rows of a plan, and how long its run took in nanoseconds.
+// The rows of a plan, and how long its run took in nanoseconds.
 fn ran<R: Clock>(
     rt: &R,
     alloc: Global,
@@ -88,7 +88,7 @@ fn ran<R: Clock>(
 }
 
 impl Bench {
-    /// Runs a plan with a team, and shows what it gave.
+    // Runs a plan with a team, and shows what it gave.
     fn run_team<R: Print + Clock>(
         self,
         rt: &R,
@@ -109,7 +109,7 @@ impl Bench {
         Ok(())
     }
 
-    /// Runs the plan for the rows up to a number with each team.
+    // Runs the plan for the rows up to a number with each team.
     fn run_teams<R: Print + Clock>(
         self,
         rt: &R,

@@ -15,13 +15,13 @@ pub const CATALOG: &str =
 const HEADER: &str =
     "unique1,unique2,two,four,ten,twenty,onePercent,tenPercent,twentyPercent,fiftyPercent,unique3,evenOnePercent,oddOnePercent,stringu1,stringu2,string4\n";
 
-/// What stands behind the seven letters of a number.
+// What stands behind the seven letters of a number.
 const BEHIND_SEVEN: &str = "xxxxxxxxxxxxxxxxxxxxxxxxxxxxxxxxxxxxxxxxxxxxx";
 
-/// What stands behind the four letters of a row.
+// What stands behind the four letters of a row.
 const BEHIND_FOUR: &str = "xxxxxxxxxxxxxxxxxxxxxxxxxxxxxxxxxxxxxxxxxxxxxxxx";
 
-/// The number of row i of n in the first column: the even rows have the lower half, the odd rows the upper one.
+// The number of row i of n in the first column: the even rows have the lower half, the odd rows the upper one.
 fn unique1(n: u64, i: u64) -> u64
     requires few { n ≤ MAX_ROWS }
     requires row { i < n }
@@ -33,7 +33,7 @@ fn unique1(n: u64, i: u64) -> u64
     }
 }
 
-/// Adds a number in base 26, highest first, as seven letters from A to Z, and what stands behind them.
+// Adds a number in base 26, highest first, as seven letters from A to Z, and what stands behind them.
 fn push_seven(text: &mut String, number: u64) -> Result<(), AllocError> {
     let mut letters = [b'A'; 7];
     let mut rest = number;
@@ -47,7 +47,7 @@ fn push_seven(text: &mut String, number: u64) -> Result<(), AllocError> {
     text.push_str(BEHIND_SEVEN)
 }
 
-/// The four letters of a row.
+// The four letters of a row.
 fn four_letters(i: u64) -> &'static str {
     match i % 4 {
         0 => "AAAA",
@@ -57,7 +57,7 @@ fn four_letters(i: u64) -> &'static str {
     }
 }
 
-/// Adds the line of row i of n.
+// Adds the line of row i of n.
 fn push_row(text: &mut String, n: u64, i: u64) -> Result<(), AllocError>
     requires few { n ≤ MAX_ROWS }
     requires row { i < n }

@@ -37,7 +37,7 @@ pub enum Asked<'a> {
     Run(Sources<'a>, &'a str, Limits<'a>),
 }
 
-/// The first value of an option.
+// The first value of an option.
 fn value<'a>(found: &ArgMatches<'a>, id: &str) -> Option<&'a str>
     ensures { option_map (λ s. s.now) result ≡ first_of id.now (rows_of (found_of found.now)) }
 {
@@ -52,7 +52,7 @@ fn sources_in<'a>(found: &ArgMatches<'a>) -> Option<Sources<'a>>
     Some(Sources { catalog, plan })
 }
 
-/// The values of the words behind the options.
+// The values of the words behind the options.
 fn values<'f, 'a>(found: &'f ArgMatches<'a>, id: &str) -> Option<&'f [&'a str]>
     ensures { option_map (λ s. map (λ v. v.now) s.now) result ≡ all_of id.now (rows_of (found_of found.now)) }
 {
@@ -112,7 +112,7 @@ fn run_asked<'a>(alloc: Global, found: &ArgMatches<'a>) -> Result<Option<Asked<'
     }
 }
 
-/// What clap makes of the words.
+// What clap makes of the words.
 fn matches_in<'a>(alloc: Global, words: &'a [&'a str]) -> Result<ArgMatches<'a>, Error>
     ensures found { IfOk result (λ m. subcommand_rows_of m ≡ subcommand_of volcano_app (map (λ w. w.now) words.entry.now)) }
     ensures faults { FailsBy (fault_of volcano_app (map (λ w. w.now) words.entry.now)) result }
@@ -120,7 +120,7 @@ fn matches_in<'a>(alloc: Global, words: &'a [&'a str]) -> Result<ArgMatches<'a>,
     command(alloc)?.try_get_matches_from(words)
 }
 
-/// What matches ask for.
+// What matches ask for.
 fn asked_in<'a>(alloc: Global, matches: &ArgMatches<'a>) -> Result<Option<Asked<'a>>, AllocError>
     ensures { IfOk result (λ o. option_map asked_is o ≡ ask_of (subcommand_rows_of matches.now)) }
 {

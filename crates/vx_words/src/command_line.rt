@@ -9,7 +9,7 @@ ghost use Rattle.vx_words.specs.Asked.{path_rule, number_rule, sizes_rule, judgi
 use clap::{Arg, Command, value_parser};
 use std::alloc::{AllocError, Global};
 
-/// An option with a path, which has to be given.
+// An option with a path, which has to be given.
 fn path_option<'a>(alloc: Global, name: &'a str, kind: &'a str, help: &'a str) -> Arg<'a>
     ensures rule { rule_of result ≡ path_rule name.entry.now }
     ensures own { result.global ≡ false }
@@ -21,7 +21,7 @@ fn path_option<'a>(alloc: Global, name: &'a str, kind: &'a str, help: &'a str) -
         .required(true)
 }
 
-/// An option with a number, which has a default.
+// An option with a number, which has a default.
 fn number_option<'a>(alloc: Global, name: &'a str, default: &'a str, help: &'a str) -> Arg<'a>
     ensures rule { rule_of result ≡ number_rule name.entry.now default.entry.now }
     ensures own { result.global ≡ false }
@@ -80,7 +80,7 @@ fn data_option<'a>(alloc: Global) -> Arg<'a>
     )
 }
 
-/// A command that reads a catalog and a plan alone.
+// A command that reads a catalog and a plan alone.
 fn judging<'a>(
     alloc: Global,
     name: &'a str,
@@ -166,7 +166,7 @@ fn explain<'a>(alloc: Global) -> Result<Command<'a>, AllocError>
     )
 }
 
-/// The program without its commands.
+// The program without its commands.
 fn program<'a>(alloc: Global) -> Command<'a>
     ensures { app_of result ≡ program_app }
 {
@@ -180,7 +180,7 @@ fn program<'a>(alloc: Global) -> Command<'a>
         )
 }
 
-/// A program with one more command, which was made if there was memory for it.
+// A program with one more command, which was made if there was memory for it.
 fn with_command<'a>(
     program: Command<'a>,
     command: Result<Command<'a>, AllocError>,
@@ -190,7 +190,7 @@ fn with_command<'a>(
     program.subcommand(command?)
 }
 
-/// The program with the commands that read tables.
+// The program with the commands that read tables.
 fn with_tables<'a>(alloc: Global) -> Result<Command<'a>, AllocError>
     ensures { IfOk result (λ c. app_of c ≡ tables_app) }
 {

@@ -9,7 +9,7 @@ use vx_ops::{Code, Fault, Got, Polled, Source};
 use vx_plan::Router;
 use vx_ports::{Packet, Put};
 
-/// Where a worker stands.
+// Where a worker stands.
 #[derive(Clone, Copy)]
 enum Phase {
     /// It draws, takes, turns and puts.
