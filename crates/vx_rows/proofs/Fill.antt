@@ -64,18 +64,12 @@ fill_set at m xs j new f h s v = record {
       ∙ (take_more_set (row_of xs (at + k)) j (entry new (at + k)) (omega arith) ∙ ap (λ x. take j (row_of xs (at + k)) ++ x ∷ []) (v k near));
 }
 
-pub keep_start : (at : ℕ) (xs : List Column) → KeepRows at xs xs
-keep_start at xs = record { kinds = refl; long = λ a. a; kept = λ k h. refl }
-
 pub keep_more : (at : ℕ) (xs ys zs : List Column) → KeepRows at xs ys → KeepRows at ys zs → KeepRows at xs zs
 keep_more at xs ys zs p q = record {
   kinds = q.kinds ∙ p.kinds;
   long = λ a. q.long (p.long a);
   kept = λ k h. q.kept k h ∙ p.kept k h;
 }
-
-pub fill_start : (at m first : ℕ) (xs : List Column) → Fills at m first first xs xs (λ k. [])
-fill_start at m first xs = record { long = λ a. a; values = λ k h. sym (append-nil (take first (row_of xs (at + k)))) }
 
 pub fill_more : (at m first mid last : ℕ) (xs ys zs : List Column) (f g h : ℕ → List Val) → Fills at m first mid xs ys f → Fills at m mid last ys zs g
     → ((k : ℕ) → k < m → f k ++ g k ≡ h k) → Fills at m first last xs zs h
@@ -97,11 +91,6 @@ fill_next at m first mid end j xs ys zs target e near x is p q =
     fill_as at m first (mid + 1) end xs zs (λ k. take (j + 1) (target k)) (λ k. take (j + 1) (target k)) e (λ k h. refl)
     (fill_more at m first mid (mid + 1) xs ys zs (λ k. take j (target k)) (λ k. x k ∷ []) (λ k. take (j + 1) (target k)) p q
     (λ k h. ap (λ v. take j (target k) ++ v ∷ []) (is k h) ∙ sym (take_more (target k) j (x k) (near k h))))
-
--- all columns of rows that are known
-pub fill_all : (at m first n : ℕ) (xs ys : List Column) (target : ℕ → List Val) → ((k : ℕ) → k < m → length (target k) ≡ n)
-    → Fills at m first (first + n) xs ys (λ k. take n (target k)) → Fills at m first (first + n) xs ys target
-fill_all at m first n xs ys target is p = fill_as at m first (first + n) (first + n) xs ys (λ k. take n (target k)) target refl (λ k h. take_all n (target k) (let e = is k h in omega (arith, e))) p
 
 -- what is said of rows
 pub same_rows : (at : ℕ) (xs ys : List Column) → KeepRows at xs ys → rows_of at ys ≡ rows_of at xs
@@ -130,10 +119,6 @@ row_is n xs t e i h =
 
 pub count_is : (n : ℕ) (xs : List Column) (t : List Row) → rows_of n xs ≡ t → length t ≡ n
 count_is n xs t e = ap length (sym e) ∙ length-each_below n (row_of xs)
-
-pub on_ok_any : {T E : Type 0} (r : Result T E) {P : Type 0} → P → OnOk r P
-on_ok_any (Ok x) p = p
-on_ok_any (Err e) p = tt
 
 pub on_err_any : {T E : Type 0} (r : Result T E) {P : Type 0} → P → OnErr r P
 on_err_any (Ok x) p = tt

@@ -235,10 +235,6 @@ module _ (cols : List ℕ) (rows : List Row) where
   least-is ps None e f = sym (clash-none cols [] rows (none-found ps e f))
   least-is ps (Some p) e f = sym (clash-some cols [] rows p.0 p.1 (one-found ps p e f) zero-le)
 
-  -- one more pair of neighbours
-  pub least-start : (ps : List ℕ) → Least ps 1 None
-  least-start ps b h = absurd (omega arith)
-
   -- what was found stays, where the next pair does not agree with a second below it
   found-on : (ps : List ℕ) (k : ℕ) (p : ℕ × ℕ) → Found ps (suc k) p → (meet cols rows (get_or ps (suc k) 0) (get_or ps k 0) ≡ true → p.1 ≤ get_or ps (suc k) 0) → Found ps (suc (suc k)) p
   found-on ps k p f next =
@@ -257,6 +253,7 @@ module _ (cols : List ℕ) (rows : List Row) where
         ];
       }
 
+  -- one more pair of neighbours
   pub least-skip : (ps : List ℕ) (k : ℕ) (best : Option (ℕ × ℕ)) → meet cols rows (get_or ps (suc k) 0) (get_or ps k 0) ≡ false → Least ps (suc k) best → Least ps (suc (suc k)) best
   least-skip ps k None m f =
       λ b h. elim (cases_lt (suc b) (suc k)) [ inl l ↦ f b l | inr g ↦ let e : b ≡ k = omega arith in ap (λ i. meet cols rows (get_or ps (suc i) 0) (get_or ps i 0)) e ∙ m ]

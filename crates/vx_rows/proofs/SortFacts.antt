@@ -233,11 +233,3 @@ insert_by-is cols x (y ∷ ys) = ap (λ l. cond (is_le (compare_on cols x y)) (x
 pub sort_by-is : (cols : List ℕ) (xs : List Row) → sort_by (pick cols) xs ≡ sort_on cols xs
 sort_by-is cols [] = refl
 sort_by-is cols (x ∷ xs) = insert_by-is cols x (sort_by (pick cols) xs) ∙ ap (insert_sorted cols x) (sort_by-is cols xs)
-
--- what is sorted on some columns is in the order of the stable sort
-pub sort_on-sorted : (cols : List ℕ) (xs : List Row) → sorted cols (sort_on cols xs) ≡ true
-sort_on-sorted cols xs = ap (sorted cols) (sym (sort_by-is cols xs)) ∙ (ordered-is (sort_by (pick cols) xs) ∙ sort-is-sorted (pick cols) xs)
-  where
-    ordered-is : (ys : List Row) → sorted cols ys ≡ ordered (pick cols) ys
-    ordered-is [] = refl
-    ordered-is (y ∷ ys) = ap (λ b. list_all (λ z. is_le (compare_on cols y z)) ys && b) (ordered-is ys)

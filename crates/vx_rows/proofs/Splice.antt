@@ -269,12 +269,6 @@ pub moved_texts : (others other_cuts new new_cuts : List ℕ) (t : List (List �
 moved_texts others other_cuts new new_cuts t at from to e order there many h k near =
     at_piece new new_cuts (pieces new new_cuts) refl (at + k) (omega arith) ∙ (h k near ∙ sym (at_piece others other_cuts t e (from + k) (near_cut others other_cuts t e (from + k) (omega arith))))
 
-pub moved_text : (text new new_cuts : List ℕ) (at : ℕ) → length new_cuts ≡ at + 1 + (1 - 0)
-    → ((k : ℕ) → k < 1 - 0 → piece new new_cuts (at + k) ≡ piece text (0 ∷ length text ∷ []) (0 + k)) → get_or (pieces new new_cuts) at [] ≡ text
-moved_text text new new_cuts at many h =
-    let e : at ≡ at + 0 = omega arith in
-    at_piece new new_cuts (pieces new new_cuts) refl at (omega arith) ∙ (ap (λ i. piece new new_cuts i) e ∙ (h 0 (omega arith) ∙ whole text))
-
 -- a text was written at `at`, but not yet the cut behind it
 pub text_with_no_cut : (bytes cuts new new_cuts text : List ℕ) (at start : ℕ) → at < length cuts → start ≡ get_or cuts at start → new ≡ take start bytes ++ text → new_cuts ≡ take (at + 1) cuts
     → Spliced bytes cuts text (0 ∷ length text ∷ []) new new_cuts at 0 0 1
