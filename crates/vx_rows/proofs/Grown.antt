@@ -61,15 +61,18 @@ pub grown_one : {t : Table} {types : List ColType} {count : ℕ} {ys : List Colu
 grown_one {t} {types} {count} {ys} {x} g r e = g.rows ∙ (ap (λ l. t.rows ++ l) (each_below-one (λ _. x)) ∙ ap (λ v. t.rows ++ v ∷ []) e)
 
 -- a part of others' rows more
-pub grown_part : {t r : Table} {types kinds : List ColType} {count many : ℕ} {ys others : List Column} (from to : ℕ) → Grown t types count (to - from) ys (λ k. row_of others (from + k)) → Seen r kinds many others
+pub grown_part : {t r : Table} {types kinds : List ColType} {count many : ℕ} {ys others : List Column} (from to : ℕ)
+    → Grown t types count (to - from) ys (λ k. row_of others (from + k)) → Seen r kinds many others
     → from ≤ to → to ≤ length r.rows → rows_of count ys ≡ t.rows ++ slice_range r.rows from to
 grown_part {t} {r} {types} {kinds} {count} {many} {ys} {others} from to g o h l =
     let c = count_seen o in
     g.rows
-    ∙ ap (λ rows. t.rows ++ rows) (sym (slice_range-each_below many from to (row_of others) h (omega (arith, c, l))) ∙ ap (λ rows. slice_range rows from to) (rows_are r kinds many others o.is))
+    ∙ ap (λ rows. t.rows ++ rows)
+    (sym (slice_range-each_below many from to (row_of others) h (omega (arith, c, l))) ∙ ap (λ rows. slice_range rows from to) (rows_are r kinds many others o.is))
 
 -- rows of others at some positions more
-pub grown_at : {t r : Table} {types kinds : List ColType} {count many : ℕ} {ys others : List Column} (positions : List ℕ) → Grown t types count (length positions) ys (λ k. row_of others (get_or positions k 0)) → Seen r kinds many others
+pub grown_at : {t r : Table} {types kinds : List ColType} {count many : ℕ} {ys others : List Column} (positions : List ℕ)
+    → Grown t types count (length positions) ys (λ k. row_of others (get_or positions k 0)) → Seen r kinds many others
     → ArePositions (length r.rows) positions → rows_of count ys ≡ t.rows ++ map (row r) positions
 grown_at {t} {r} {types} {kinds} {count} {many} {ys} {others} positions g o there =
     g.rows ∙ ap (λ rows. t.rows ++ rows) (each_at (row_of others) (row r) positions (length r.rows) there (λ i h. row_seen o i h))
@@ -79,13 +82,16 @@ pub width_of : {X : Type 0} (f : X → Val) (xs : List X) (types : List ColType)
 width_of f xs types e = sym (length-map xs f) ∙ (sym (length-map (map f xs) type_of) ∙ ap length e)
 
 -- the columns of two others, side by side
-pub width_both : {l r : Table} {ls rs : List ColType} {n m : ℕ} {xs ys : List Column} → Seen l ls n xs → Seen r rs m ys → (width : ℕ) (types : List ColType) → width ≡ length xs → types ≡ l.types ++ r.types
-    → width + length ys ≡ length types
+pub width_both : {l r : Table} {ls rs : List ColType} {n m : ℕ} {xs ys : List Column} → Seen l ls n xs → Seen r rs m ys → (width : ℕ) (types : List ColType)
+    → width ≡ length xs → types ≡ l.types ++ r.types → width + length ys ≡ length types
 width_both {l} {r} s o width types w e =
     let a = width_seen s in
     let b = width_seen o in
     let c = ap length e ∙ length-append l.types r.types in
     omega (arith, a, b, c, w)
 
-pub fill_both : (at m width mid last : ℕ) (xs ys zs : List Column) (f g : ℕ → Row) → mid ≡ width → Fills at m 0 (0 + width) xs ys f → Fills at m mid last ys zs g → Fills at m 0 last xs zs (λ k. f k ++ g k)
-fill_both at m width mid last xs ys zs f g e p q = fill_more at m 0 mid last xs ys zs f g (λ k. f k ++ g k) (fill_as at m 0 (0 + width) mid xs ys f f (omega (arith, e)) (λ k h. refl) p) q (λ k h. refl)
+pub fill_both : (at m width mid last : ℕ) (xs ys zs : List Column) (f g : ℕ → Row) → mid ≡ width → Fills at m 0 (0 + width) xs ys f → Fills at m mid last ys zs g
+    → Fills at m 0 last xs zs (λ k. f k ++ g k)
+fill_both at m width mid last xs ys zs f g e p q =
+    fill_more at m 0 mid last xs ys zs f g (λ k. f k ++ g k)
+    (fill_as at m 0 (0 + width) mid xs ys f f (omega (arith, e)) (λ k h. refl) p) q (λ k h. refl)

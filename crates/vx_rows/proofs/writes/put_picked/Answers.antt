@@ -26,5 +26,6 @@ loop-j-preserved c =
     let p = map_at (value_at row) cols j k (cell_val c.get.result) c.loop-j-test.true (get_or_default cols j 0 k c.loop-j-test.true) in
     record {
       rows = keep_more _ _ _ _ c.loop-j.invariant.rows c.in_ok-put_cell.ensures.rows;
-      fills = value_next (value_at row) cols c.args.at j _ _ _ (cell_val c.get.result) c.loop-j-test.true (c.get.ensures ∙ (sym e ∙ sym p)) c.loop-j.invariant.fills c.in_ok-put_cell.ensures.ok;
+      fills = value_next (value_at row) cols c.args.at j _ _ _ (cell_val c.get.result) c.loop-j-test.true (c.get.ensures ∙ (sym e ∙ sym p)) c.loop-j.invariant.fills
+          c.in_ok-put_cell.ensures.ok;
     }

@@ -18,5 +18,6 @@ loop-j-preserved c =
     let near : j < length c.args.others.now.items = omega (arith, c.loop-j-test.true, c.len-j-end.ensures, c.args.others.now.ok.0) in
     record {
       rows = keep_more _ _ _ _ c.loop-j.invariant.rows c.in_ok-put_cell.ensures.rows;
-      fills = column_next c.args.at 1 first (first + j) (first + (j + 1)) j _ _ _ c.args.others.now.items _ (λ _. c.args.i) _ (omega arith) near c.index.ensures (λ k. c.get.ensures) c.loop-j.invariant.fills c.in_ok-put_cell.ensures.ok;
+      fills = column_next c.args.at 1 first (first + j) (first + (j + 1)) j _ _ _ c.args.others.now.items _ (λ _. c.args.i) _ (omega arith) near c.index.ensures
+          (λ k. c.get.ensures) c.loop-j.invariant.fills c.in_ok-put_cell.ensures.ok;
     }

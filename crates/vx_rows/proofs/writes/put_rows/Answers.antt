@@ -18,7 +18,8 @@ loop-j-preserved c =
     let near : c.loop-j.j < length c.args.others.now.items = omega (arith, c.loop-j-test.true, c.len-j-end.ensures, c.args.others.now.ok.0) in
     record {
       rows = keep_more _ _ _ _ c.loop-j.invariant.rows c.in_ok-put_part.ensures.rows;
-      fills = column_next c.args.at (c.args.to - c.args.from) 0 c.loop-j.j _ c.loop-j.j _ _ _ c.args.others.now.items _ (λ k. c.args.from + k) _ refl near c.index.ensures (λ k. refl) c.loop-j.invariant.fills c.in_ok-put_part.ensures.ok;
+      fills = column_next c.args.at (c.args.to - c.args.from) 0 c.loop-j.j _ c.loop-j.j _ _ _ c.args.others.now.items _ (λ k. c.args.from + k) _ refl near c.index.ensures
+          (λ k. refl) c.loop-j.invariant.fills c.in_ok-put_part.ensures.ok;
     }
 
 pub returns-clause-ok : goal.returns-clause-ok

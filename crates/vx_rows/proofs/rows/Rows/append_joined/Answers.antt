@@ -24,15 +24,19 @@ invariant_of-self-in_err-put_row-2 c = still_rows _ _ _ _ c.self.invariant (keep
 pub returns-in_err-put_row-2-clause-err : goal.returns-in_err-put_row-2-clause-err
 returns-in_err-put_row-2-clause-err c = on_err_any _ (still_seen (seen c.self.view_is c.self.invariant) _ (keep_more _ _ _ _ c.in_ok-put_row.ensures.rows c.in_err-put_row-2.ensures.rows))
 
-after : (c : In_ok-put_row-2) → Grown c.args.self.now c.self.inside.types.items c.in-Some.count 1 c.put_row-2.new.columns.items (λ _. row_of c.left.inside.columns.items c.args.i ++ row_of c.right.inside.columns.items c.args.j)
+after : (c : In_ok-put_row-2)
+    → Grown c.args.self.now c.self.inside.types.items c.in-Some.count 1 c.put_row-2.new.columns.items
+    (λ _. row_of c.left.inside.columns.items c.args.i ++ row_of c.right.inside.columns.items c.args.j)
 after c =
     let l = seen c.left.view_is c.left.invariant in
     let r = seen c.right.view_is c.right.invariant in
     let a = row_of c.left.inside.columns.items c.args.i in
     let b = row_of c.right.inside.columns.items c.args.j in
     let width : c.len-width.result ≡ length c.left.inside.columns.items = omega (arith, c.len-width.ensures, c.left.inside.columns.ok.0) in
-    grown (seen c.self.view_is c.self.invariant) 1 _ _ _ _ (keep_more _ _ _ _ c.in_ok-put_row.ensures.rows c.in_ok-put_row-2.ensures.rows) (width_both l r c.len-width.result c.args.self.now.types width c.requires.types)
-    (fill_both _ 1 _ _ _ _ _ _ (λ _. a) (λ _. b) width c.in_ok-put_row.ensures.ok c.in_ok-put_row-2.ensures.ok) (λ k h. held_append a b (held_seen l c.args.i c.requires.left) (held_seen r c.args.j c.requires.right)) c.in-Some.ensures.1
+    grown (seen c.self.view_is c.self.invariant) 1 _ _ _ _ (keep_more _ _ _ _ c.in_ok-put_row.ensures.rows c.in_ok-put_row-2.ensures.rows)
+    (width_both l r c.len-width.result c.args.self.now.types width c.requires.types)
+    (fill_both _ 1 _ _ _ _ _ _ (λ _. a) (λ _. b) width c.in_ok-put_row.ensures.ok c.in_ok-put_row-2.ensures.ok)
+    (λ k h. held_append a b (held_seen l c.args.i c.requires.left) (held_seen r c.args.j c.requires.right)) c.in-Some.ensures.1
 
 pub invariant_of-self-2 : goal.invariant_of-self-2
 invariant_of-self-2 c = (after (goal.at.invariant_of-self-2 c).In_ok-put_row-2).are

@@ -22,7 +22,8 @@ pub invariant_of-self-in_err-put_rows_at-2 : goal.invariant_of-self-in_err-put_r
 invariant_of-self-in_err-put_rows_at-2 c = still_rows _ _ _ _ c.self.invariant (keep_more _ _ _ _ c.in_ok-put_rows_at.ensures.rows c.in_err-put_rows_at-2.ensures.rows)
 
 pub returns-in_err-put_rows_at-2-clause-err : goal.returns-in_err-put_rows_at-2-clause-err
-returns-in_err-put_rows_at-2-clause-err c = on_err_any _ (still_seen (seen c.self.view_is c.self.invariant) _ (keep_more _ _ _ _ c.in_ok-put_rows_at.ensures.rows c.in_err-put_rows_at-2.ensures.rows))
+returns-in_err-put_rows_at-2-clause-err c =
+    on_err_any _ (still_seen (seen c.self.view_is c.self.invariant) _ (keep_more _ _ _ _ c.in_ok-put_rows_at.ensures.rows c.in_err-put_rows_at-2.ensures.rows))
 
 -- the right position of a left one
 on_right : (c : In_ok-put_rows_at-2) (k : ℕ) → k < length c.args.left_positions.now → get_or c.args.right_positions.now k 0 < length c.args.right.now.rows
@@ -39,7 +40,8 @@ after c =
     let b = λ (k : ℕ). row_of c.right.inside.columns.items (get_or rights k 0) in
     let width : c.len-width.result ≡ length c.left.inside.columns.items = omega (arith, c.len-width.ensures, c.left.inside.columns.ok.0) in
     let right = fills_many _ (length rights) (length lefts) _ _ _ _ b (sym c.requires.many) c.in_ok-put_rows_at-2.ensures.ok in
-    grown (seen c.self.view_is c.self.invariant) (length lefts) _ _ _ _ (keep_more _ _ _ _ c.in_ok-put_rows_at.ensures.rows c.in_ok-put_rows_at-2.ensures.rows) (width_both l r c.len-width.result c.args.self.now.types width c.requires.types)
+    grown (seen c.self.view_is c.self.invariant) (length lefts) _ _ _ _ (keep_more _ _ _ _ c.in_ok-put_rows_at.ensures.rows c.in_ok-put_rows_at-2.ensures.rows)
+    (width_both l r c.len-width.result c.args.self.now.types width c.requires.types)
     (fill_both _ (length lefts) _ _ _ _ _ _ a b width c.in_ok-put_rows_at.ensures.ok right)
     (λ k h. held_append (a k) (b k) (held_seen l (get_or lefts k 0) (c.requires.left k 0 h)) (held_seen r (get_or rights k 0) (on_right c k h))) c.in-Some.ensures.1
 

@@ -17,7 +17,8 @@ invariant_of-self c = still_rows _ _ _ _ c.self.invariant c.in_err-put_picked.en
 pub returns-in_err-put_picked-clause-err : goal.returns-in_err-put_picked-clause-err
 returns-in_err-put_picked-clause-err c = on_err_any _ (still_seen (seen c.self.view_is c.self.invariant) _ c.in_err-put_picked.ensures.rows)
 
-after : (c : In_ok-put_picked) → Grown c.args.self.now c.self.inside.types.items c.in-Some.count 1 c.put_picked.new.columns.items (λ _. pick c.args.cols.now (row_of c.other.inside.columns.items c.args.i))
+after : (c : In_ok-put_picked)
+    → Grown c.args.self.now c.self.inside.types.items c.in-Some.count 1 c.put_picked.new.columns.items (λ _. pick c.args.cols.now (row_of c.other.inside.columns.items c.args.i))
 after c =
     let o = seen c.other.view_is c.other.invariant in
     let width = sym (length-map c.args.cols.now (type_at c.args.other.now.types)) ∙ ap length (sym c.requires.types) in
@@ -28,4 +29,6 @@ pub invariant_of-self-2 : goal.invariant_of-self-2
 invariant_of-self-2 c = (after (goal.at.invariant_of-self-2 c).In_ok-put_picked).are
 
 pub returns-clause-ok : goal.returns-clause-ok
-returns-clause-ok c = grown_one (after (goal.at.returns-clause-ok c).In_ok-put_picked) _ (ap (pick c.args.cols.now) (row_seen (seen c.other.view_is c.other.invariant) c.args.i c.requires.there))
+returns-clause-ok c =
+    grown_one (after (goal.at.returns-clause-ok c).In_ok-put_picked) _
+    (ap (pick c.args.cols.now) (row_seen (seen c.other.view_is c.other.invariant) c.args.i c.requires.there))

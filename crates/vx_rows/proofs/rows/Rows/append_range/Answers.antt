@@ -14,10 +14,12 @@ invariant_of-self c = still_rows _ _ _ _ c.self.invariant c.in_err-put_rows.ensu
 pub returns-in_err-put_rows-clause-err : goal.returns-in_err-put_rows-clause-err
 returns-in_err-put_rows-clause-err c = on_err_any _ (still_seen (seen c.self.view_is c.self.invariant) _ c.in_err-put_rows.ensures.rows)
 
-after : (c : In_ok-put_rows) → Grown c.args.self.now c.self.inside.types.items c.in-Some.count (c.args.to - c.args.from) c.put_rows.new.columns.items (λ k. row_of c.other.inside.columns.items (c.args.from + k))
+after : (c : In_ok-put_rows)
+    → Grown c.args.self.now c.self.inside.types.items c.in-Some.count (c.args.to - c.args.from) c.put_rows.new.columns.items (λ k. row_of c.other.inside.columns.items (c.args.from + k))
 after c =
     let o = seen c.other.view_is c.other.invariant in
-    grown (seen c.self.view_is c.self.invariant) (c.args.to - c.args.from) (length c.other.inside.columns.items) _ _ _ c.in_ok-put_rows.ensures.rows (omega (arith, width_seen o, ap length c.requires.same_types))
+    grown (seen c.self.view_is c.self.invariant) (c.args.to - c.args.from) (length c.other.inside.columns.items) _ _ _ c.in_ok-put_rows.ensures.rows
+    (omega (arith, width_seen o, ap length c.requires.same_types))
     c.in_ok-put_rows.ensures.ok (λ k h. held_seen o (c.args.from + k) (omega (arith, h, c.requires.there, c.requires.order))) c.in-Some.ensures.1
 
 pub invariant_of-self-2 : goal.invariant_of-self-2

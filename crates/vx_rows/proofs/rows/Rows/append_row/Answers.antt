@@ -17,7 +17,8 @@ returns-in_err-put_row-clause-err c = on_err_any _ (still_seen (seen c.self.view
 after : (c : In_ok-put_row) → Grown c.args.self.now c.self.inside.types.items c.in-Some.count 1 c.put_row.new.columns.items (λ _. row_of c.other.inside.columns.items c.args.i)
 after c =
     let o = seen c.other.view_is c.other.invariant in
-    grown (seen c.self.view_is c.self.invariant) 1 (0 + length c.other.inside.columns.items) _ _ _ c.in_ok-put_row.ensures.rows (omega (arith, width_seen o, ap length c.requires.same_types)) c.in_ok-put_row.ensures.ok
+    grown (seen c.self.view_is c.self.invariant) 1 (0 + length c.other.inside.columns.items) _ _ _ c.in_ok-put_row.ensures.rows
+    (omega (arith, width_seen o, ap length c.requires.same_types)) c.in_ok-put_row.ensures.ok
     (λ k h. held_seen o c.args.i c.requires.there) c.in-Some.ensures.1
 
 pub invariant_of-self-2 : goal.invariant_of-self-2

@@ -13,7 +13,8 @@ returns-in_err-put_values-clause-err c = on_err_any _ (still_seen (seen c.self.v
 
 after : (c : In_ok-put_values) → Grown c.args.self.now c.self.inside.types.items c.in-Some.count 1 c.put_values.new.columns.items (λ _. map val_of c.args.values.now)
 after c =
-    grown (seen c.self.view_is c.self.invariant) 1 (length c.args.values.now) _ _ _ c.in_ok-put_values.ensures.rows (width_of val_of c.args.values.now _ c.requires) c.in_ok-put_values.ensures.ok
+    grown (seen c.self.view_is c.self.invariant) 1 (length c.args.values.now) _ _ _ c.in_ok-put_values.ensures.rows (width_of val_of c.args.values.now _ c.requires)
+    c.in_ok-put_values.ensures.ok
     (λ k h. c.in_ok-put_values.ensures.held) c.in-Some.ensures.1
 
 pub invariant_of-self-2 : goal.invariant_of-self-2

@@ -13,7 +13,8 @@ returns-in_err-put_cells-clause-err c = on_err_any _ (still_seen (seen c.self.vi
 
 after : (c : In_ok-put_cells) → Grown c.args.self.now c.self.inside.types.items c.in-Some.count 1 c.put_cells.new.columns.items (λ _. map cell_val c.args.cells.now)
 after c =
-    grown (seen c.self.view_is c.self.invariant) 1 (length c.args.cells.now) _ _ _ c.in_ok-put_cells.ensures.rows (width_of cell_val c.args.cells.now _ c.requires) c.in_ok-put_cells.ensures.ok
+    grown (seen c.self.view_is c.self.invariant) 1 (length c.args.cells.now) _ _ _ c.in_ok-put_cells.ensures.rows (width_of cell_val c.args.cells.now _ c.requires)
+    c.in_ok-put_cells.ensures.ok
     (λ k h. c.in_ok-put_cells.ensures.held) c.in-Some.ensures.1
 
 pub invariant_of-self-2 : goal.invariant_of-self-2
