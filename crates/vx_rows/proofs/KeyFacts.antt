@@ -2,17 +2,18 @@
 use Rattle.std.proofs.Common.{◌≡◌, ℕ, zero, suc, ◌+◌, ◌<◌, ◌≤◌, Bool, true, false, cond, not, List, [], ◌∷◌, ◌++◌, length, get_or, Option, Some, None, refl, sym, ap, ◌∙◌, arith, true≢false, Ordering, Less, Equal, Greater, is_eq, is_lt, length-append, append_assoc, subst, zero-le, ltb, inl, inr}
 use Rattle.std.specs.Prelude.{position}
 use Rattle.std.specs.List.{list_all}
+use Rattle.std.specs.Ordering.{ordering_reverse}
 use Rattle.std.proofs.lemmas.Bool.{cases_lt, cases_eq, ltb-false}
 use Rattle.std.specs.List.{position_or_len}
 use Rattle.std.proofs.lemmas.List.Sums.{fails_before_first}
 use Rattle.std.proofs.Math.Seq.{get_or-append_seam}
 use Rattle.std.proofs.lemmas.List.{get_or_append_left, length_push}
 use Rattle.vx_rows.specs.Values.{Row, pick}
-use Rattle.vx_rows.specs.Order.{compare_on, agree}
+use Rattle.vx_rows.specs.Order.{compare_on, agree, sorted}
 use Rattle.vx_rows.specs.Bags.{count}
 use Rattle.vx_rows.specs.Keys.{HasKey, is_key, clash_or, clash_from, first_clash, KeyLaw}
 use Rattle.vx_rows.proofs.Compare.{agree-both, row_eq-refl, row_cmp_total}
-use Rattle.vx_rows.proofs.Order.{and-left, and-right, and-both}
+use Rattle.vx_rows.proofs.Order.{and-left, and-right, and-both, sorted_neighbours}
 use Rattle.vx_rows.proofs.ClashFacts.{meet, agree-sym, Apart, clash-none}
 
 flag-yes : (b : Bool) → b ≡ true → ◌≡◌ {A = ℕ} (cond b 1 0) 1
@@ -144,6 +145,18 @@ pub rises-apart : (cols : List ℕ) (rows : List Row) → Rises cols rows (lengt
 rises-apart cols rows r =
     clash-none cols [] rows (λ i j h l.
     agree-sym cols (get_or rows j []) (get_or rows i []) ∙ ap is_eq (above cols rows (length rows) i j r h l))
+
+-- rows that are sorted and do not clash rise
+pub sorted-rises : (cols : List ℕ) (rows : List Row) → sorted cols rows ≡ true → first_clash cols rows ≡ None → Rises cols rows (length rows)
+sorted-rises cols rows s e k h =
+    let a = get_or rows k [] in
+    let b = get_or rows (suc k) [] in
+    less (compare_on cols b a) (compare_on cols a b) (row_cmp_total.antisymm (pick cols a) (pick cols b)) (sorted_neighbours cols rows s k h) (no-clash cols [] rows e k (suc k) (omega arith) zero-le h)
+  where
+    less : (o p : Ordering) → p ≡ ordering_reverse o → is_lt o ≡ false → is_eq o ≡ false → is_lt p ≡ true
+    less Less p e f g = absurd (true≢false f)
+    less Equal p e f g = absurd (true≢false g)
+    less Greater p e f g = ap is_lt e
 
 pub key-law : KeyLaw
 key-law = record {

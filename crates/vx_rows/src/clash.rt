@@ -1,7 +1,7 @@
 //! The first clash of rows on the columns of a key.
 
-ghost use Rattle.std.specs.Prelude.{◌≡◌, ◌<◌, length, None, IfOk, IsTrue, if◌then◌else◌};
-ghost use Rattle.vx_rows.specs.Order.{agree};
+ghost use Rattle.std.specs.Prelude.{◌≡◌, ◌<◌, length, None, true, IfOk, IsOk, IsTrue, if◌then◌else◌};
+ghost use Rattle.vx_rows.specs.Order.{agree, sorted};
 ghost use Rattle.vx_rows.specs.Keys.{first_clash, earlier_clash, KeyLaw};
 ghost use Rattle.vx_rows.specs.Sorting.{order_on};
 ghost use Rattle.vx_rows.specs.View.{row, AreColumns};
@@ -50,7 +50,8 @@ impl Rows {
     // Whether each row is greater than the one before it, so that no two agree.
     fn rises(&self, cols: &[usize]) -> bool
         requires { AreColumns (length self.now.types) cols.now }
-        ensures { IsTrue result → first_clash cols.now self.now.rows ≡ None }
+        ensures apart { IsTrue result → first_clash cols.now self.now.rows ≡ None }
+        ensures rising { sorted cols.now self.now.rows ≡ true → first_clash cols.now self.now.rows ≡ None → IsTrue result }
     {
         for i in 1..self.len() {
             if !compare_on(cols, self, i - 1, self, i).is_lt() {
@@ -81,7 +82,8 @@ impl Rows {
         cols: &[usize],
     ) -> Result<Option<(usize, usize)>, AllocError>
         requires { AreColumns (length self.now.types) cols.now }
-        ensures { IfOk result (λ o. o ≡ first_clash cols.now self.now.rows) }
+        ensures clash { IfOk result (λ o. o ≡ first_clash cols.now self.now.rows) }
+        ensures rising { sorted cols.now self.now.rows ≡ true → first_clash cols.now self.now.rows ≡ None → IsOk result }
     {
         if self.rises(cols) {
             return Ok(None);
