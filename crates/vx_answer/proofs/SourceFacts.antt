@@ -5,6 +5,7 @@ use Rattle.vx_rows.specs.Ports.{IsAll, IsOver, ExplainsAll}
 use Rattle.vx_rows.specs.declared.bytes.ReadFault.TheVariants as fault
 use Rattle.vx_catalog.specs.Loading.{max_bytes}
 use Rattle.vx_answer.specs.declared.refusal.Refusal.{Refusal}
+use Rattle.vx_answer.specs.Answer.{RefusedWith}
 use Rattle.vx_answer.specs.Worded.{IsUnreadable, IsInputRefusal, for_input_room, for_input, untaken_of}
 
 -- what holds of all bytes that were taken holds of those that are told
@@ -39,3 +40,8 @@ second_untaken first false before after file reliable failed path e same h = h
 second_untaken true true before after file reliable failed path e same (for_input_room is) = for_input_room is
 second_untaken true true before after file reliable failed path e same (for_input is h) = for_input is (inr tt)
 second_untaken false true before after file reliable failed path e same h = let P : Option (List ℕ) → Type 0 = λ o. IsInputRefusal o failed e in subst P (same refl) h
+
+-- input that was not taken is refused for that
+pub input_refused : (known : Option (List ℕ)) (failed : Bool) (e : Refusal) → IsInputRefusal known failed e → RefusedWith known failed e
+input_refused known failed e (for_input_room is) = let P : Refusal → Type 0 = λ r. RefusedWith known failed r in subst P (sym is) tt
+input_refused known failed e (for_input is h) = let P : Refusal → Type 0 = λ r. RefusedWith known failed r in subst P (sym is) h

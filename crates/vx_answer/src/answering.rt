@@ -7,6 +7,7 @@ ghost use Rattle.vx_answer.specs.Status.{status_of};
 ghost use Rattle.vx_answer.specs.Worded.{IsWorded, AreMisworded, AreRefusedBy};
 
 use crate::refusal::{Refusal, tell};
+use crate::sources::input_bytes;
 use crate::status::status;
 use crate::store::Store;
 use crate::worded::{NotTaken, worded};
@@ -14,7 +15,7 @@ use crate::work::work;
 use std::alloc::Global;
 use std::sync::Wait;
 use std::thread::Threads;
-use vx_rows::{ByteIn, ByteOut, ReadFault, read_all, write_all};
+use vx_rows::{ByteIn, ByteOut, write_all};
 
 /// The most bytes that a bundle may have.
 pub const MAX_BYTES: usize = 1 << 40;
@@ -25,10 +26,28 @@ pub fn outcome_of<I: ByteIn>(alloc: Global, input: &mut I) -> Result<Vec<u8>, Re
     ensures refused { IfErr result (λ e. RefusedWith (I.remaining input.old) (I.has_failed input.new) e) }
     ensures broken { I.has_failed input.new ≡ true → IsErrOf result Refusal.InputUnreadable }
 {
-    match read_all(alloc, input, MAX_BYTES) {
+    match input_bytes(alloc, input) {
         Ok(bytes) => work(alloc, bytes.as_slice()),
-        Err(ReadFault::NoMemory) => Err(Refusal::NoMemory),
-        Err(ReadFault::Broken | ReadFault::TooLarge) => Err(Refusal::InputUnreadable),
+        Err(refusal) => Err(refusal),
+    }
+}
+
+/// Tells a refusal on `err`. The status is that of the refusal.
+fn refuse<E: ByteOut>(refusal: &Refusal, err: &mut E) -> u8
+    ensures { result ≡ status_of refusal.now }
+{
+    tell(refusal, err);
+    status(refusal)
+}
+
+/// Writes a text on `out`, or tells on `err` that this failed.
+fn write_text<O: ByteOut, E: ByteOut>(text: &[u8], out: &mut O, err: &mut E) -> u8
+    ensures done { result ≡ 0 → Appends (O.contents out.old) (O.contents out.new) text.now }
+    ensures failed { result ≢ 0 → (result ≡ 4) × (O.has_failed out.new ≡ true) }
+{
+    match write_all(out, text) {
+        Ok(()) => 0,
+        Err(_) => refuse(&Refusal::WriteFailed, err),
     }
 }
 
@@ -43,18 +62,10 @@ pub fn deliver<O: ByteOut, E: ByteOut>(
     ensures failed { IfOk outcome (λ _. result ≢ 0 → (result ≡ 4) × (O.has_failed out.new ≡ true)) }
     ensures refused { IfErr outcome (λ e. (result ≡ status_of e) × (out.new ≡ out.old)) }
 {
-    let text = match outcome {
-        Ok(text) => text,
-        Err(refusal) => {
-            tell(&refusal, err);
-            return status(&refusal);
-        }
-    };
-    if write_all(out, text.as_slice()).is_err() {
-        tell(&Refusal::WriteFailed, err);
-        return status(&Refusal::WriteFailed);
+    match outcome {
+        Ok(text) => write_text(text.as_slice(), out, err),
+        Err(refusal) => refuse(&refusal, err),
     }
-    0
 }
 
 /// Answers the bundle on `input`, on `out`, or tells on `err` why not.

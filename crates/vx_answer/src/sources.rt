@@ -1,6 +1,6 @@
 //! A catalog and a plan from files and standard input.
 
-ghost use Rattle.std.specs.Prelude.{◌≡◌, true, false, codes, IfOk, IfErr};
+ghost use Rattle.std.specs.Prelude.{◌≡◌, true, false, codes, IfOk, IfErr, IsErrOf};
 ghost use Rattle.vx_rows.specs.Ports.{IsAll};
 ghost use Rattle.vx_document.specs.Fault.{Gives};
 ghost use Rattle.vx_plan.specs.TypedView.{resolved_of};
@@ -42,9 +42,10 @@ fn file_bytes<F: Store>(alloc: Global, files: &F, path: &str) -> Result<Vec<u8>,
 }
 
 /// All bytes that standard input has left.
-fn input_bytes<I: ByteIn>(alloc: Global, input: &mut I) -> Result<Vec<u8>, Refusal>
+pub fn input_bytes<I: ByteIn>(alloc: Global, input: &mut I) -> Result<Vec<u8>, Refusal>
     ensures taken { IfOk result (λ v. IsAll (I.remaining input.old) v.items) }
     ensures refused { IfErr result (IsInputRefusal (I.remaining input.old) (I.has_failed input.new)) }
+    ensures broken { I.has_failed input.new ≡ true → IsErrOf result Refusal.InputUnreadable }
 {
     match read_all(alloc, input, MAX_BYTES) {
         Ok(bytes) => Ok(bytes),
