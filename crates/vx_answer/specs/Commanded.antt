@@ -86,6 +86,10 @@ accepted_text total = cond total (codes "accepted total\n") (codes "accepted\n")
 abbrev pub IsShown : Resolved → Type 0
 IsShown p = refusal_in p ≡ None
 
+-- the checker refuses the plan: its first note that is not shown, with the rule that says so
+abbrev pub IsNotShown : Resolved → Refusal → Type 0
+IsNotShown p e = (rule : rust_rule.Rule) × (node : ℕ) × (e ≡ refusal.Check rule node) × (refusal_in p ≡ Some (node, rule_of rule))
+
 -- the text is what a command asks for of a plan over tables; a serial evaluation asks nothing of the notes, the other commands ask the checker first
 abbrev pub IsFor : Command → Resolved → Holding → Setting → List ℕ → Type 0
 IsFor command.Run p holds setting text = IsShown p × IsRun p holds setting text
@@ -103,6 +107,6 @@ is_checked command.Explain = true
 -- the first reason why a command gives nothing for a plan: a note that is not shown, then the run or the evaluation; want of memory may come anywhere
 pub data CommandRefuses (c : Command) (p : Resolved) (holds : Holding) (lacks : Lacking) (setting : Setting) (e : Refusal) : Type 0 where
   for_memory : e ≡ refusal.NoMemory → CommandRefuses c p holds lacks setting e
-  for_rule : is_checked c ≡ true → (rule : rust_rule.Rule) (node : ℕ) → e ≡ refusal.Check rule node → refusal_in p ≡ Some (node, rule_of rule) → CommandRefuses c p holds lacks setting e
+  for_rule : is_checked c ≡ true → IsNotShown p e → CommandRefuses c p holds lacks setting e
   for_rest : c ≡ command.Run → IsShown p → PlanRefuses p holds lacks setting e → CommandRefuses c p holds lacks setting e
   for_serial : c ≡ command.Serial → SerialRefuses p holds lacks e → CommandRefuses c p holds lacks setting e

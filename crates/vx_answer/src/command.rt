@@ -5,7 +5,7 @@ ghost use Rattle.vx_plan.specs.TypedView.{resolved_of};
 ghost use Rattle.vx_plan.specs.Outline.{plan_in};
 ghost use Rattle.vx_check.specs.CheckedView.{typed_plan};
 ghost use Rattle.vx_exec.specs.Sizes.{can_run};
-ghost use Rattle.vx_answer.specs.Commanded.{IsShown, accepted_text, is_checked, IsFor, CommandRefuses};
+ghost use Rattle.vx_answer.specs.Commanded.{IsShown, IsNotShown, accepted_text, IsFor, CommandRefuses};
 
 use crate::refusal::Refusal;
 use crate::run::run_plan;
@@ -40,43 +40,14 @@ fn accepted_text(alloc: Global, is_total: bool) -> Result<Vec<u8>, AllocError>
     }
 }
 
-/// The text that a command asks for of an accepted plan.
-fn text_for<T: Tables>(
-    alloc: Global,
-    command: Command,
-    tables: &T,
-    setting: &Setting,
-    checked: &CheckedPlan,
-) -> Result<Vec<u8>, Refusal>
-    requires asked { is_checked command ≡ true }
-    requires shown { IsShown (resolved_of (typed_plan checked.now)) }
-    requires runs { command ≡ Command.Run → can_run (plan_in (resolved_of (typed_plan checked.now)).root) ≡ true }
-    ensures text { IfOk result (λ text. IsFor command (resolved_of (typed_plan checked.now)) (T.holds tables.now) setting.now text.items) }
-    ensures refused { IfErr result (λ e. CommandRefuses command (resolved_of (typed_plan checked.now)) (T.holds tables.now) (T.lacks tables.now) setting.now e) }
-{
-    match command {
-        Command::Run => run_plan(alloc, tables, setting, checked),
-        Command::Check => Ok(accepted_text(alloc, checked.is_total())?),
-        Command::Explain => Ok(explain(alloc, checked)?.into_bytes()),
-        Command::Serial => unreachable!(),
-    }
-}
-
-/// The text that a command asks for of a plan, once the checker has accepted it.
-fn checked_text<T: Tables>(
-    alloc: Global,
-    command: Command,
-    tables: &T,
-    setting: &Setting,
-    plan: TypedPlan,
-) -> Result<Vec<u8>, Refusal>
-    requires asked { is_checked command ≡ true }
-    requires runs { command ≡ Command.Run → can_run (plan_in (resolved_of plan).root) ≡ true }
-    ensures text { IfOk result (λ text. IsFor command (resolved_of plan) (T.holds tables.now) setting.now text.items) }
-    ensures refused { IfErr result (λ e. CommandRefuses command (resolved_of plan) (T.holds tables.now) (T.lacks tables.now) setting.now e) }
+/// A plan, once the checker has accepted it.
+fn accepted(plan: TypedPlan) -> Result<CheckedPlan, Refusal>
+    ensures plan { IfOk result (λ checked. typed_plan checked ≡ plan) }
+    ensures shown { IfOk result (λ _. IsShown (resolved_of plan)) }
+    ensures refused { IfErr result (λ e. IsNotShown (resolved_of plan) e) }
 {
     match check(plan) {
-        Ok(checked) => text_for(alloc, command, tables, setting, &checked),
+        Ok(checked) => Ok(checked),
         Err(refused) => Err(Refusal::Check {
             rule: refused.rule,
             node: refused.node,
@@ -97,9 +68,9 @@ pub fn carried_out<T: Tables>(
     ensures refused { IfErr result (λ e. CommandRefuses command (resolved_of plan) (T.holds tables.now) (T.lacks tables.now) setting.now e) }
 {
     match command {
+        Command::Run => run_plan(alloc, tables, setting, &accepted(plan)?),
         Command::Serial => serial_plan(alloc, tables, &plan),
-        Command::Run | Command::Check | Command::Explain => {
-            checked_text(alloc, command, tables, setting, plan)
-        }
+        Command::Check => Ok(accepted_text(alloc, accepted(plan)?.is_total())?),
+        Command::Explain => Ok(explain(alloc, &accepted(plan)?)?.into_bytes()),
     }
 }

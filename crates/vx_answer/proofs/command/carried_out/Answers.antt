@@ -1,8 +1,15 @@
 use Rattle.std.proofs.Common.{rules, ◌≡◌}
 use Rattle.vx_plan.specs.TypedView.{resolved_of}
 use Rattle.vx_answer.specs.declared.command.Command.TheVariants as command
-use Rattle.vx_answer.proofs.Refusing.{serial_refused}
+use Rattle.vx_answer.proofs.Refusing.{rest_refused, serial_refused}
 use Rattle.vx_answer.proofs.command.carried_out.Goals as goal
+
+pub returns-in_ok-accepted-in-Run-clause-refused : goal.returns-in_ok-accepted-in-Run-clause-refused
+returns-in_ok-accepted-in-Run-clause-refused g c =
+    let p = resolved_of c.args.plan in
+    let runs : c.args.command ≡ command.Run = search rules in
+    let refused = rw c.in_ok-accepted-in-Run.ensures.plan at c.run_plan.ensures.refused in
+    rw runs (rest_refused c.run_plan.result p (g.T.Tables.holds c.args.tables.now) (g.T.Tables.lacks c.args.tables.now) c.args.setting.now c.in_ok-accepted-in-Run.ensures.shown refused)
 
 pub returns-in-Serial-clause-refused : goal.returns-in-Serial-clause-refused
 returns-in-Serial-clause-refused g c =
