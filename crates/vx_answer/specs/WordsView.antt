@@ -1,5 +1,5 @@
 -- A task that is held, and why words were not taken.
-use Rattle.std.specs.Prelude.{◌≡◌, ℕ, List, Bool, Option}
+use Rattle.std.specs.Prelude.{◌≡◌, ℕ, List, Bool, Option, string_bytes}
 use Rattle.vx_words.specs.Asked.{paths_are}
 use Rattle.vx_answer.specs.declared.worded.Task as held
 use Rattle.vx_answer.specs.declared.worded.NotTaken.{NotTaken}
@@ -12,10 +12,10 @@ use Rattle.vx_answer.specs.Worded.{Task, IsNoTask, IsWrongKind, AskRefuses, AreM
 abbrev pub task_is : held.Task → Task
 task_is t = record { command = t.command; paths = paths_are t.sources; folder = t.folder.now; setting = t.setting }
 
--- words are wrong, or memory ran out
-abbrev pub IsWrong : NotTaken → Type 0
-IsWrong (taken.Misworded text) = Unit {0}
-IsWrong (taken.Refused e) = e ≡ refusal.NoMemory
+-- words are wrong, which is said by this text, or memory ran out
+abbrev pub IsWrong : List ℕ → NotTaken → Type 0
+IsWrong said (taken.Misworded text) = string_bytes text ≡ said
+IsWrong said (taken.Refused e) = e ≡ refusal.NoMemory
 
 -- a refusal by clap of this kind: words are wrong only by a kind that says so
 abbrev pub IsFault : ErrorKind → NotTaken → Type 0

@@ -122,7 +122,7 @@ fn done<F: Store, I: ByteIn>(
 
 /// Words that are wrong, and what to say of them.
 fn misworded(alloc: Global, text: &str) -> NotTaken
-    ensures { IsWrong result }
+    ensures { IsWrong text.now result }
 {
     match String::from_str(alloc, text) {
         Ok(text) => NotTaken::Misworded(text),
