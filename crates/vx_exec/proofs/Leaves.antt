@@ -1,33 +1,14 @@
 -- In a numbered plan the types by number are those of the leaves.
-use Rattle.std.proofs.Common.{◌≡◌, ℕ, suc, ◌+◌, ◌<◌, ◌≤◌, ◌==◌, nat_lt, ◌&&◌, Bool, true, false, cond, List, refl, sym, ap, ◌∙◌, arith, eqb-true, eq-eqb, ltb-true}
+use Rattle.std.proofs.Common.{◌≡◌, ℕ, suc, ◌+◌, ◌<◌, ◌≤◌, ◌==◌, ◌&&◌, true, cond, List, refl, sym, ap, ◌∙◌, arith, eqb-true, eq-eqb, ne_eqb}
+use Rattle.std.proofs.lemmas.Bool.{le-ltb, lt-ltb}
 use Rattle.vx_rows.specs.declared.value.ColType.{ColType}
 use Rattle.vx_catalog.specs.Relation.{Relation}
 use Rattle.vx_plan.specs.Plan.{Plan, scan, unary, binary, exchange, number}
 use Rattle.vx_plan.specs.Types.{types_of}
 use Rattle.vx_plan.specs.Numbering.{nodes, is_numbered}
 use Rattle.vx_laws.proofs.Bags.{and-left, and-right}
-use Rattle.vx_laws.proofs.Decks.{lt-test}
+use Rattle.vx_laws.proofs.Layouts.{number-is}
 use Rattle.vx_exec.specs.LeafTypes.{leaf_types, LeavesFit}
-
-number-is : (i : ℕ) (p : Plan) → is_numbered i p ≡ true → number p ≡ i
-number-is i (scan n c r m z) h = eqb-true n i h
-number-is i (unary n c op p) h = eqb-true n i (and-left (n == i) (is_numbered (suc i) p) h)
-number-is i (binary n c op p q) h = eqb-true n i (and-left (n == i) (is_numbered (suc i) p && is_numbered (suc i + nodes p) q) h)
-number-is i (exchange n c k m p) h = eqb-true n i (and-left (n == i) (is_numbered (suc i) p) h)
-
-past-test : (a n : ℕ) → n ≤ a → nat_lt a n ≡ false
-past-test a n l = go (nat_lt a n) refl
-  where
-    go : (b : Bool) → nat_lt a n ≡ b → b ≡ false
-    go true e = let k = ltb-true a n e in absurd (omega (arith, k, l))
-    go false e = refl
-
-other-test : (a n : ℕ) → n < a → (a == n) ≡ false
-other-test a n l = go (a == n) refl
-  where
-    go : (b : Bool) → (a == n) ≡ b → b ≡ false
-    go true e = let k = eqb-true a n e in absurd (omega (arith, k, l))
-    go false e = refl
 
 -- types that are a plan's leaves' within its numbers fit it
 leaves-within : (catalog : ℕ → Relation) (f : ℕ → List ColType) (i : ℕ) (p : Plan) → is_numbered i p ≡ true
@@ -41,15 +22,15 @@ leaves-within catalog f i (binary n c op p q) h same =
     let hq = and-right (is_numbered (suc i) p) (is_numbered (suc i + nodes p) q) both in
     let at : number q ≡ suc i + nodes p = number-is (suc i + nodes p) q hq in (
       leaves-within catalog f (suc i) p hp
-          (λ k a b. same k (omega arith) (omega arith) ∙ ap (λ c. cond c (leaf_types catalog p k) (leaf_types catalog q k)) (lt-test k (number q) (omega (arith, at, b)))),
+          (λ k a b. same k (omega arith) (omega arith) ∙ ap (λ c. cond c (leaf_types catalog p k) (leaf_types catalog q k)) (lt-ltb k (number q) (omega (arith, at, b)))),
       leaves-within catalog f (suc i + nodes p) q hq
-          (λ k a b. same k (omega arith) (omega arith) ∙ ap (λ c. cond c (leaf_types catalog p k) (leaf_types catalog q k)) (past-test k (number q) (omega (arith, at, a)))),
+          (λ k a b. same k (omega arith) (omega arith) ∙ ap (λ c. cond c (leaf_types catalog p k) (leaf_types catalog q k)) (le-ltb k (number q) (omega (arith, at, a)))),
     )
 leaves-within catalog f i (exchange n c x m p) h same =
     let e : n ≡ i = eqb-true n i (and-left (n == i) (is_numbered (suc i) p) h) in (
       sym (same n (omega (arith, e)) (omega (arith, e)) ∙ ap (λ b. cond b (types_of catalog p) (leaf_types catalog p n)) (eq-eqb n n refl)),
       leaves-within catalog f (suc i) p (and-right (n == i) (is_numbered (suc i) p) h)
-          (λ k a b. same k (omega arith) (omega arith) ∙ ap (λ b. cond b (types_of catalog p) (leaf_types catalog p k)) (other-test k n (omega (arith, e, a)))),
+          (λ k a b. same k (omega arith) (omega arith) ∙ ap (λ b. cond b (types_of catalog p) (leaf_types catalog p k)) (ne_eqb k n (λ z. omega (arith, e, a, z)))),
     )
 
 pub leaves-fit : (catalog : ℕ → Relation) (p : Plan) → is_numbered 0 p ≡ true → LeavesFit (leaf_types catalog p) catalog p

@@ -6,6 +6,7 @@ pub mod Posts
 pub mod Workers
 pub mod Growing
 pub mod Outcomes
+pub mod Finishing
 pub mod FindFacts
 pub mod NumberFacts
 pub mod GroupFacts

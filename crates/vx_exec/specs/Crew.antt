@@ -1,4 +1,4 @@
--- Trees and workers of a job, before any step, and a crew in the making.
+-- Trees and workers of a job, before any step.
 use Rattle.std.specs.Prelude.{ℕ, ◌≡◌, ◌+◌, true, List, map}
 use Rattle.vx_rows.specs.Values.{Row}
 use Rattle.vx_rows.specs.declared.value.ColType.{ColType}

@@ -26,10 +26,11 @@ use Rattle.vx_worker.specs.declared.operator.Operator.{Operator}
 use Rattle.vx_worker.specs.declared.destination.Destination.{Destination}
 use Rattle.vx_worker.specs.declared.worker.Worker.{Worker}
 use Rattle.vx_steps.specs.Endings.{FailsFirst}
+use Rattle.vx_steps.specs.Roles.{crew_size}
 use Rattle.vx_steps.specs.Schedules.{IsBadStep}
 use Rattle.vx_steps.specs.declared.verdict.Verdict.{Verdict}
 use Rattle.vx_steps.specs.declared.verdict.Verdict.TheVariants as verdict
-use Rattle.vx_exec.specs.Sizes.{Sizes, group_at, crew_size}
+use Rattle.vx_exec.specs.Sizes.{Sizes, group_at}
 use Rattle.vx_exec.specs.Setup.{SetupForm, sizes_set, Fails}
 use Rattle.vx_exec.specs.declared.fault.RunFault.{RunFault}
 use Rattle.vx_exec.specs.declared.fault.RunFault.TheVariants as fault
@@ -54,7 +55,8 @@ IsTrueOf p db fault.NoMemory = Unit {0}
 IsTrueOf p db (fault.Overflow node) = IsReal (rows_at db) (plan_in p.root)
 IsTrueOf p db _ = ⊥
 
--- what the fault of a worker is told as; one that only came in a packet is told of none
+-- what the fault of a worker is told as. A run of an accepted plan never tells one that only came in a packet, since some worker first fails by itself, so any
+-- value will do for that
 abbrev pub fault_told : Fault → RunFault
 fault_told (Own Overflow node) = fault.Overflow node
 fault_told (Own NoMemory node) = fault.NoMemory
@@ -98,4 +100,4 @@ NamesFirst steps workers (Err e) = (e ≡ fault.NoMemory) ⊎ IsBadStepOf steps 
 -- why a plan gives no rows by a schedule: as above, or a step that names no worker
 pub data ScheduleFails (p : Resolved) (db : Database) (setup : SetupForm) (steps : List ℕ) (e : RunFault) : Type 0 where
   for_run : RunFails p db setup e → ScheduleFails p db setup steps e
-  for_step : (s : Sizes) → IsSetUp p db setup s → IsBadStepOf steps (crew_size s.groups (plan_in p.root)) e → ScheduleFails p db setup steps e
+  for_step : (s : Sizes) → IsSetUp p db setup s → IsBadStepOf steps (crew_size (group_at s.groups) (plan_in p.root)) e → ScheduleFails p db setup steps e

@@ -3,7 +3,8 @@ use Rattle.std.specs.Prelude.{ℕ, ◌≡◌, ◌&&◌, Bool, not, nat_le, if◌
 use Rattle.std.specs.List.{find}
 use Rattle.std.specs.declared.alloc.Global.{Global}
 use Rattle.vx_plan.specs.Plan.{Plan}
-use Rattle.vx_exec.specs.Sizes.{Sizes, crew_size}
+use Rattle.vx_steps.specs.Roles.{crew_size}
+use Rattle.vx_exec.specs.Sizes.{Sizes, group_at}
 use Rattle.vx_exec.specs.declared.fault.RunFault.{RunFault}
 use Rattle.vx_exec.specs.declared.fault.RunFault.TheVariants as fault
 
@@ -72,7 +73,7 @@ first_out_of_range entries names = find (λ name. not (is_within 64 (workers_nam
 
 -- a plan with at most 256 workers
 abbrev pub few_workers : List ℕ → Plan → Result ⊤ SetupRefusal
-few_workers groups p = tested (nat_le (crew_size groups p) 256) (too_many_workers (crew_size groups p))
+few_workers groups p = tested (nat_le (crew_size (group_at groups) p) 256) (too_many_workers (crew_size (group_at groups) p))
 
 -- the sizes of a run of a plan that declares these size names, or the first refusal
 unfoldable pub sizes_set : SetupForm → List (List ℕ) → Plan → Result Sizes SetupRefusal

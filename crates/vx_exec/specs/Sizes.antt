@@ -10,7 +10,6 @@ use Rattle.vx_plan.specs.TypedView.{scope, plan}
 use Rattle.vx_plan.specs.declared.typed_plan.TypedPlan.{TypedPlan}
 use Rattle.vx_check.specs.Checked.{relations}
 use Rattle.vx_worker.specs.Fragment.{Setting}
-use Rattle.vx_laws.specs.Layout.{workers_below}
 
 -- the workers of each size name by its number, the rows of a packet and those of a morsel
 pub record Sizes : Type 0 where
@@ -31,10 +30,6 @@ pub record AreWithin (s : Sizes) : Type 0 where
   pub groups : All (IsWithin 1 64) s.groups
   pub packet : IsWithin 1 4096 s.packet
   pub morsel : IsWithin 1 1000000 s.morsel
-
--- how many workers a plan has: one at its root, and those below
-abbrev pub crew_size : List ℕ → Plan → ℕ
-crew_size groups p = 1 + workers_below (group_at groups) p
 
 -- what a run of a plan over a database is given, where a hash route sends keys so
 abbrev pub setting : (hash : List ℕ → Row → ℕ → ℕ) → TypedPlan → Database → Sizes → Setting

@@ -42,7 +42,7 @@ pub struct Crew {
     stations: Vec<Station>,
 }
 
-/// What the workers of a scan share, the first of which has this number.
+// What the workers of a scan share, the first of which has this number.
 fn station_of(alloc: Global, job: &Job<'_>, scan: &Scan, top: usize) -> Result<Station, AllocError>
     requires { scan.now.relation < length (scope job.now.plan.now).catalog }
     ensures { IfOk result (λ s. (hash : List ℕ → Row → ℕ → ℕ) (n : ℕ) (c : Claim) (next : ℕ)

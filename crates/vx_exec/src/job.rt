@@ -1,6 +1,7 @@
 //! What a run works on.
 
 ghost use Rattle.std.specs.Prelude.{◌≡◌, ℕ, ◌≤◌, ◌<◌, true, length, IfSome, IfOk};
+ghost use Rattle.std.specs.List.{All};
 ghost use Rattle.vx_catalog.specs.Relation.{Relation};
 ghost use Rattle.vx_catalog.specs.Database.{rows_at, MeetsAll};
 ghost use Rattle.vx_plan.specs.Numbering.{relation_in};
@@ -11,7 +12,8 @@ ghost use Rattle.vx_plan.specs.Typed.{Scope, typed};
 ghost use Rattle.vx_plan.specs.TypedView.{scope, plan as whole_plan};
 ghost use Rattle.vx_check.specs.Checked.{relations};
 ghost use Rattle.vx_worker.specs.Morsels.{morsel_of, morsel_count};
-ghost use Rattle.vx_exec.specs.Sizes.{AreWithin, crew_size, group_at};
+ghost use Rattle.vx_steps.specs.Roles.{crew_size};
+ghost use Rattle.vx_exec.specs.Sizes.{AreWithin, IsWithin, group_at};
 ghost use Rattle.vx_exec.specs.LeafTypes.{leaf_types};
 
 use std::alloc::{AllocError, Global};
@@ -33,7 +35,7 @@ pub struct Job<'j> {
     ghost same_catalog: { database.now.catalog ≡ (scope plan.now).catalog },
     ghost named: { length groups.items ≡ (scope plan.now).sizes },
     ghost within: { AreWithin (record { groups = groups.items; packet = packet; morsel = morsel }) },
-    ghost few_workers: { crew_size groups.items (whole_plan plan.now) ≤ 256 },
+    ghost few_workers: { crew_size (group_at groups.items) (whole_plan plan.now) ≤ 256 },
 }
 
 /// The size of the group that works on a node.
@@ -53,7 +55,23 @@ pub fn size_of_node(node: &TypedNode) -> Size
     }
 }
 
-/// The relation that the scan with a number reads; none where an exchange has the number.
+/// How many workers a size has, where the groups of each size name have so many, by its number.
+pub fn workers_of(groups: &[u32], size: Size) -> u32
+    requires { All (IsWithin 1 64) groups.now }
+    ensures count { result ≡ workers (group_at groups.now) (size_of size) }
+    ensures some { 1 ≤ result }
+    ensures few { result ≤ 64 }
+{
+    match size {
+        Size::One => 1,
+        Size::Group(k) => match groups.get(k) {
+            Some(workers) => *workers,
+            None => 1,
+        },
+    }
+}
+
+// The relation that the scan with a number reads; none where an exchange has the number.
 fn relation_of(node: &TypedNode, number: u32) -> Option<usize>
     ensures relation { IfSome result (λ r. relation_in (plan_of node.now) number ≡ r) }
     ensures types { (catalog : ℕ → Relation) → IfSome result (λ r. leaf_types catalog (plan_of node.now) number ≡ (catalog r).types) }
@@ -93,7 +111,7 @@ impl<'j> Job<'j> {
         requires catalog { database.now.catalog ≡ (scope plan.now).catalog }
         requires named { length groups.items ≡ (scope plan.now).sizes }
         requires within { AreWithin (record { groups = groups.items; packet = packet; morsel = morsel }) }
-        requires few { crew_size groups.items (whole_plan plan.now) ≤ 256 }
+        requires few { crew_size (group_at groups.items) (whole_plan plan.now) ≤ 256 }
         ensures plan { result.plan.now ≡ plan.now }
         ensures database { result.database.now ≡ database.now }
         ensures sizes { sizes_of result ≡ record { groups = groups.items; packet = packet; morsel = morsel } }
@@ -114,13 +132,7 @@ impl<'j> Job<'j> {
         ensures some { 1 ≤ result }
         ensures few { result ≤ 64 }
     {
-        match size {
-            Size::One => 1,
-            Size::Group(k) => match self.groups.get(k) {
-                Some(workers) => *workers,
-                None => 1,
-            },
-        }
+        workers_of(self.groups.as_slice(), size)
     }
 
     /// The plan.

@@ -13,7 +13,8 @@ ghost use Rattle.vx_worker.specs.Worker.{sender_of};
 ghost use Rattle.vx_worker.specs.declared.worker.Worker.{Worker as AWorker};
 ghost use Rattle.vx_worker.specs.declared.operator.Operator.{Operator as AnOperator};
 ghost use Rattle.vx_worker.specs.declared.destination.Destination.{Destination as ADestination};
-ghost use Rattle.vx_exec.specs.Sizes.{can_run, crew_size, setting, Sizes};
+ghost use Rattle.vx_steps.specs.Roles.{crew_size};
+ghost use Rattle.vx_exec.specs.Sizes.{can_run, group_at, setting, Sizes};
 ghost use Rattle.vx_exec.specs.Job.{setting_of};
 ghost use Rattle.vx_exec.specs.Runs.{fault_told, ComesTo, IsRunOf, IfDone, IsTrueOf, IsFirstTold, IsSetUp, RunFails, IsBadStepOf, NamesFirst, ScheduleFails};
 
@@ -103,10 +104,10 @@ fn schedule_job<R: Router>(
     requires root { is_root_allowed job.now.plan.now ≡ true }
     ensures done { IfOk result (IfDone (IsRunOf (R.route_of router.now) (resolved_of job.now.plan.now) job.now.database.now job.now.groups.items)) }
     ensures failed { IfErr result (λ e. IsTrueOf (resolved_of job.now.plan.now) job.now.database.now e
-        ⊎ IsBadStepOf steps.now (crew_size job.now.groups.items (whole_plan job.now.plan.now)) e) }
+        ⊎ IsBadStepOf steps.now (crew_size (group_at job.now.groups.items) (whole_plan job.now.plan.now)) e) }
     ensures first { IfErr result (λ e. IsFirstTold (setting_of (R.route_of router.now) job.now) (whole_plan job.now.plan.now) e
-        ⊎ IsBadStepOf steps.now (crew_size job.now.groups.items (whole_plan job.now.plan.now)) e) }
-    ensures named { NamesFirst steps.now (crew_size job.now.groups.items (whole_plan job.now.plan.now)) result }
+        ⊎ IsBadStepOf steps.now (crew_size (group_at job.now.groups.items) (whole_plan job.now.plan.now)) e) }
+    ensures named { NamesFirst steps.now (crew_size (group_at job.now.groups.items) (whole_plan job.now.plan.now)) result }
 {
     job.meets();
     let crew = Crew::new(alloc, job)?;
@@ -156,9 +157,9 @@ pub fn run_scheduled<R: Router>(
     ensures refused { IfErr result (ScheduleFails (resolved_of (typed_plan plan.now)) database.now setup.now steps.now) }
     ensures first { (s : Sizes) → IsSetUp (resolved_of (typed_plan plan.now)) database.now setup.now s
         → IfErr result (λ e. IsFirstTold (setting (R.route_of router.now) (typed_plan plan.now) database.now s) (whole_plan (typed_plan plan.now)) e
-        ⊎ IsBadStepOf steps.now (crew_size s.groups (whole_plan (typed_plan plan.now))) e) }
+        ⊎ IsBadStepOf steps.now (crew_size (group_at s.groups) (whole_plan (typed_plan plan.now))) e) }
     ensures named { (s : Sizes) → IsSetUp (resolved_of (typed_plan plan.now)) database.now setup.now s
-        → NamesFirst steps.now (crew_size s.groups (whole_plan (typed_plan plan.now))) result }
+        → NamesFirst steps.now (crew_size (group_at s.groups) (whole_plan (typed_plan plan.now))) result }
 {
     let job = job_of(alloc, plan.plan(), database, setup)?;
     schedule_job(alloc, &job, router, steps)

@@ -3,35 +3,35 @@
 ghost use Rattle.std.specs.Prelude.{◌≡◌, ◌+◌, ◌*◌, ◌≤◌, map, not, option_map, is_none, string_bytes, bytes_eq, IfOk, IfErr};
 ghost use Rattle.std.specs.List.{All, find};
 ghost use Rattle.vx_plan.specs.Numbering.{nodes};
-ghost use Rattle.vx_plan.specs.Outline.{size_of, plan_of};
-ghost use Rattle.vx_plan.specs.Streams.{workers};
+ghost use Rattle.vx_plan.specs.Outline.{plan_of};
 ghost use Rattle.vx_plan.specs.TypedView.{names_in, scope, resolved_of, plan as plan_of_typed};
 ghost use Rattle.vx_laws.specs.Layout.{workers_below};
-ghost use Rattle.vx_exec.specs.Sizes.{IsWithin, Sizes, crew_size, group_at};
+ghost use Rattle.vx_steps.specs.Roles.{crew_size};
+ghost use Rattle.vx_exec.specs.Sizes.{IsWithin, Sizes, group_at};
 ghost use Rattle.vx_exec.specs.Job.{sizes_of};
 ghost use Rattle.vx_exec.specs.Setup.{entry_of, number_of, workers_named, groups_named, first_missing, first_out_of_range, is_within, tested, no_name, few_workers, size_missing, size_out_of_range, refusal_of, sizes_set, Gives};
 ghost use Rattle.vx_exec.specs.Runs.{IsSetUp, RunFails};
 
 use crate::fault::RunFault;
-use crate::job::{Job, size_of_node};
+use crate::job::{Job, size_of_node, workers_of};
 use std::alloc::{AllocError, Global};
 use std::marker::Model;
 use vx_catalog::Database;
-use vx_plan::{Size, TypedNode, TypedPlan};
+use vx_plan::{TypedNode, TypedPlan};
 
-/// The most workers of a group.
+// The most workers of a group.
 const MOST_IN_GROUP: u32 = 64;
 
-/// The most rows of a packet.
+// The most rows of a packet.
 const MOST_IN_PACKET: u32 = 4096;
 
-/// The most rows of a morsel.
+// The most rows of a morsel.
 const MOST_IN_MORSEL: u32 = 1_000_000;
 
-/// The most packets by which a producer may run ahead.
+// The most packets by which a producer may run ahead.
 const MOST_SLACK: u32 = 1024;
 
-/// The most workers of a plan.
+// The most workers of a plan.
 const MOST_WORKERS: u32 = 256;
 
 /// How a run is set up: the workers of size names, the rows of a packet and of a morsel, and by how many packets a
@@ -54,7 +54,7 @@ impl Model for Setup {
     ghost view = { λ s. record { sizes = map entry_of s.sizes.items; packet = s.packet; morsel = s.morsel; slack = s.slack } };
 }
 
-/// The first entry of a name.
+// The first entry of a name.
 fn find_entry<'e>(entries: &'e [(String, u32)], name: &str) -> Option<&'e (String, u32)>
     ensures { option_map (λ e. e.now) result ≡ find (λ e. bytes_eq (string_bytes e.0) name.now) entries.now }
 {
@@ -74,7 +74,7 @@ impl Setup {
         }
     }
 
-    /// The number that the first entry of a name has.
+    // The number that the first entry of a name has.
     fn number(&self, name: &str) -> Option<u32>
         ensures { result ≡ number_of self.now.sizes name.now }
     {
@@ -84,7 +84,7 @@ impl Setup {
         }
     }
 
-    /// The workers of a name, 0 where it has no entry.
+    // The workers of a name, 0 where it has no entry.
     fn workers(&self, name: &str) -> u32
         ensures { result ≡ workers_named self.now.sizes name.now }
     {
@@ -99,7 +99,7 @@ impl Setup {
             .find(|name| self.number(name.as_str()).is_none())
     }
 
-    /// The first of these names without an entry.
+    // The first of these names without an entry.
     fn first_missing<'n>(&self, names: &'n [String]) -> Option<&'n String>
         ensures { option_map (λ n. string_bytes n.now) result ≡ first_missing self.now.sizes (map string_bytes names.now) }
     {
@@ -112,14 +112,14 @@ impl Setup {
         names.iter().find(|name| !is_within(MOST_IN_GROUP, self.workers(name.as_str())))
     }
 
-    /// The first of these names whose number is not 1 to 64.
+    // The first of these names whose number is not 1 to 64.
     fn first_out_of_range<'n>(&self, names: &'n [String]) -> Option<&'n String>
         ensures { option_map (λ n. string_bytes n.now) result ≡ first_out_of_range self.now.sizes (map string_bytes names.now) }
     {
         self.find_out_of_range(names)
     }
 
-    /// The workers of each of these names.
+    // The workers of each of these names.
     fn groups(&self, alloc: Global, names: &[String]) -> Result<Vec<u32>, AllocError>
         ensures { IfOk result (λ v. v.items ≡ groups_named self.now.sizes (map string_bytes names.now)) }
     {
@@ -131,21 +131,21 @@ impl Setup {
     }
 }
 
-/// Whether a number is from 1 to another.
+// Whether a number is from 1 to another.
 fn is_within(most: u32, number: u32) -> bool
     ensures { result ≡ is_within most number }
 {
     1 <= number && number <= most
 }
 
-/// A fault, if a test failed.
+// A fault, if a test failed.
 fn tested(is_right: bool, fault: RunFault) -> Result<(), RunFault>
     ensures { Gives (λ _. tt) result (tested is_right (refusal_of fault)) }
 {
     if is_right { Ok(()) } else { Err(fault) }
 }
 
-/// Each name has an entry.
+// Each name has an entry.
 fn missing_tested(alloc: Global, setup: &Setup, names: &[String]) -> Result<(), RunFault>
     ensures { Gives (λ _. tt) result (no_name size_missing (first_missing setup.now.sizes (map string_bytes names.now))) }
 {
@@ -157,7 +157,7 @@ fn missing_tested(alloc: Global, setup: &Setup, names: &[String]) -> Result<(), 
     }
 }
 
-/// Each name has 1 to 64 workers.
+// Each name has 1 to 64 workers.
 fn range_tested(alloc: Global, setup: &Setup, names: &[String]) -> Result<(), RunFault>
     ensures { Gives (λ _. tt) result (no_name size_out_of_range (first_out_of_range setup.now.sizes (map string_bytes names.now))) }
 {
@@ -169,22 +169,7 @@ fn range_tested(alloc: Global, setup: &Setup, names: &[String]) -> Result<(), Ru
     }
 }
 
-/// How many workers a size has.
-fn workers_of(groups: &[u32], size: Size) -> u32
-    requires { All (IsWithin 1 64) groups.now }
-    ensures count { result ≡ workers (group_at groups.now) (size_of size) }
-    ensures few { result ≤ 64 }
-{
-    match size {
-        Size::One => 1,
-        Size::Group(k) => match groups.get(k) {
-            Some(workers) => *workers,
-            None => 1,
-        },
-    }
-}
-
-/// How many workers the fragments below a node's own have.
+// How many workers the fragments below a node's own have.
 fn workers_below(groups: &[u32], node: &TypedNode) -> u32
     requires within { All (IsWithin 1 64) groups.now }
     requires few { nodes (plan_of node.now) ≤ 1000 }
@@ -203,15 +188,15 @@ fn workers_below(groups: &[u32], node: &TypedNode) -> u32
     }
 }
 
-/// How many workers a plan has.
+// How many workers a plan has.
 fn crew_size(groups: &[u32], plan: &TypedPlan) -> u32
     requires { All (IsWithin 1 64) groups.now }
-    ensures { result ≡ crew_size groups.now (plan_of_typed plan.now) }
+    ensures { result ≡ crew_size (group_at groups.now) (plan_of_typed plan.now) }
 {
     1 + workers_below(groups, plan.root())
 }
 
-/// The plan has at most 256 workers.
+// The plan has at most 256 workers.
 fn crew_tested(groups: &[u32], plan: &TypedPlan) -> Result<(), RunFault>
     requires { All (IsWithin 1 64) groups.now }
     ensures { Gives (λ _. tt) result (few_workers groups.now (plan_of_typed plan.now)) }

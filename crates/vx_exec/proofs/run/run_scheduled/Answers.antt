@@ -2,8 +2,9 @@ use Rattle.std.proofs.Common.{◌⊎◌, inl, inr, subst, sym, ◌∙◌, IfErr}
 use Rattle.vx_plan.specs.TypedView.{resolved_of, plan as whole_plan}
 use Rattle.vx_check.specs.CheckedView.{typed_plan}
 use Rattle.vx_plan.specs.Outline.{plan_in}
+use Rattle.vx_steps.specs.Roles.{crew_size}
 use Rattle.vx_exec.specs.Job.{sizes_of}
-use Rattle.vx_exec.specs.Sizes.{Sizes, crew_size, setting}
+use Rattle.vx_exec.specs.Sizes.{Sizes, group_at, setting}
 use Rattle.vx_exec.specs.Runs.{IsTrueOf, IsFirstTold, IsSetUp, IsBadStepOf, NamesFirst, RunFails, ScheduleFails, for_fault, for_run, for_step}
 use Rattle.vx_exec.specs.declared.fault.RunFault.{RunFault}
 use Rattle.vx_exec.proofs.Outcomes.{failed-by, err-told, names-nothing, of-job, ok-told}
@@ -15,13 +16,13 @@ returns-clause-refused g c =
     let p = resolved_of (typed_plan c.args.plan.now) in
     let same = c.in_ok-job.ensures.plan ∙ c.plan.ensures.same in
     let set = subst (λ z. IsSetUp (resolved_of z) c.args.database.now c.args.setup.now (sizes_of j)) c.plan.ensures.same c.in_ok-job.ensures.set in
-    failed-by c.schedule_job.result (λ e. IsTrueOf (resolved_of j.plan.now) j.database.now e ⊎ IsBadStepOf c.args.steps.now (crew_size j.groups.items (whole_plan j.plan.now)) e)
+    failed-by c.schedule_job.result (λ e. IsTrueOf (resolved_of j.plan.now) j.database.now e ⊎ IsBadStepOf c.args.steps.now (crew_size (group_at j.groups.items) (whole_plan j.plan.now)) e)
     (ScheduleFails p c.args.database.now c.args.setup.now c.args.steps.now)
     (λ e h. elim h [
       | inl true_fault ↦
           for_run (for_fault (sizes_of j) set (subst (λ z. IsTrueOf (resolved_of z) c.args.database.now e) same
           (subst (λ b. IsTrueOf (resolved_of j.plan.now) b e) c.in_ok-job.ensures.database true_fault)))
-      | inr bad ↦ for_step (sizes_of j) set (subst (λ z. IsBadStepOf c.args.steps.now (crew_size j.groups.items (whole_plan z)) e) same bad)
+      | inr bad ↦ for_step (sizes_of j) set (subst (λ z. IsBadStepOf c.args.steps.now (crew_size (group_at j.groups.items) (whole_plan z)) e) same bad)
     ])
     c.schedule_job.ensures.failed
 
@@ -37,7 +38,7 @@ returns-clause-first g c = λ s set.
     let j = c.in_ok-job.job in
     let mine = subst (λ z. IsSetUp (resolved_of z) c.args.database.now c.args.setup.now (sizes_of j)) c.plan.ensures.same c.in_ok-job.ensures.set in
     of-job (λ p db z. IfErr c.schedule_job.result (λ e. IsFirstTold (setting (g.R.Router.route_of c.args.router.now) p db z) (whole_plan p) e
-    ⊎ IsBadStepOf c.args.steps.now (crew_size z.groups (whole_plan p)) e))
+    ⊎ IsBadStepOf c.args.steps.now (crew_size (group_at z.groups) (whole_plan p)) e))
     j (typed_plan c.args.plan.now) c.args.database.now c.args.setup.now s (c.in_ok-job.ensures.plan ∙ c.plan.ensures.same) c.in_ok-job.ensures.database mine set c.schedule_job.ensures.first
 
 pub returns-in_err-job-clause-first : goal.returns-in_err-job-clause-first
@@ -45,19 +46,19 @@ returns-in_err-job-clause-first g c = λ s set.
     let e = c.in_err-job.field-0.0 in
     let p = typed_plan c.args.plan.now in
     err-told c.from_residual.result e (λ x. IsFirstTold (setting (g.R.Router.route_of c.args.router.now) p c.args.database.now s) (whole_plan p) x
-    ⊎ IsBadStepOf c.args.steps.now (crew_size s.groups (whole_plan p)) x) c.from_residual.ensures.1
+    ⊎ IsBadStepOf c.args.steps.now (crew_size (group_at s.groups) (whole_plan p)) x) c.from_residual.ensures.1
     (inl (inl (c.in_err-job.ensures.memory s (subst (λ z. IsSetUp (resolved_of z) c.args.database.now c.args.setup.now s) (sym c.plan.ensures.same) set))))
 
 pub returns-clause-named : goal.returns-clause-named
 returns-clause-named g c = λ s set.
     let j = c.in_ok-job.job in
     let mine = subst (λ z. IsSetUp (resolved_of z) c.args.database.now c.args.setup.now (sizes_of j)) c.plan.ensures.same c.in_ok-job.ensures.set in
-    of-job (λ p db z. NamesFirst c.args.steps.now (crew_size z.groups (whole_plan p)) c.schedule_job.result)
+    of-job (λ p db z. NamesFirst c.args.steps.now (crew_size (group_at z.groups) (whole_plan p)) c.schedule_job.result)
     j (typed_plan c.args.plan.now) c.args.database.now c.args.setup.now s (c.in_ok-job.ensures.plan ∙ c.plan.ensures.same) c.in_ok-job.ensures.database mine set c.schedule_job.ensures.named
 
 pub returns-in_err-job-clause-named : goal.returns-in_err-job-clause-named
 returns-in_err-job-clause-named g c = λ s set.
-    names-nothing c.from_residual.result c.in_err-job.field-0.0 c.args.steps.now (crew_size s.groups (whole_plan (typed_plan c.args.plan.now))) c.from_residual.ensures.1
+    names-nothing c.from_residual.result c.in_err-job.field-0.0 c.args.steps.now (crew_size (group_at s.groups) (whole_plan (typed_plan c.args.plan.now))) c.from_residual.ensures.1
     (c.in_err-job.ensures.memory s (subst (λ z. IsSetUp (resolved_of z) c.args.database.now c.args.setup.now s) (sym c.plan.ensures.same) set))
 
 pub returns-clause-set : goal.returns-clause-set

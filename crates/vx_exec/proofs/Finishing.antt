@@ -1,0 +1,207 @@
+-- Workers that were ready for the accepted plan of a job, and what they come to.
+use Rattle.std.proofs.Common.{Vec, Global, Bool, ◌≡◌, ◌⊎◌, ℕ, ◌<◌, ◌≤◌, true, List, [], ◌∷◌, length, vec_len, map, Ok, Err, Result, IfOk, IfErr, get_or, refl, sym, ap, ◌∙◌, subst, arith, zero, suc, inl, inr}
+use Rattle.std.proofs.lemmas.Bool.{cases_lt}
+use Rattle.std.specs.List.{All, slice_index_or}
+use Rattle.vx_rows.specs.Values.{Row}
+use Rattle.vx_rows.specs.declared.value.ColType.{ColType}
+use Rattle.vx_catalog.specs.Database.{Database, rows_at, MeetsAll}
+use Rattle.vx_catalog.specs.Catalog.{relation_at}
+use Rattle.vx_catalog.specs.Relation.{Relation, Meets}
+use Rattle.vx_plan.specs.Outline.{plan_in}
+use Rattle.vx_plan.specs.Plan.{Plan}
+use Rattle.vx_plan.specs.Resolve.{Resolved}
+use Rattle.vx_plan.specs.TypedView.{scope, plan, resolved_of}
+use Rattle.vx_plan.specs.Types.{types_of}
+use Rattle.vx_check.specs.Checked.{relations, is_allowed, is_root_allowed}
+use Rattle.vx_ops.specs.declared.fault.Code.TheVariants.{Overflow, NoMemory, Unsorted, Stranger}
+use Rattle.vx_ops.specs.declared.fault.Fault.{Fault}
+use Rattle.vx_ops.specs.declared.fault.Fault.TheVariants.{Own, Passed}
+use Rattle.vx_exchange.specs.Tasks.{keeps, post_types}
+use Rattle.vx_worker.specs.Fragment.{Setting}
+use Rattle.vx_worker.specs.Operator.{OperatorStands, operator_op}
+use Rattle.vx_worker.specs.Destination.{DestinationStands, task_of, post_of, bounds_of}
+use Rattle.vx_worker.specs.Trace.{scan_morsels}
+use Rattle.vx_worker.specs.Worker.{role_of, sender_of}
+use Rattle.vx_worker.specs.declared.operator.Operator.{Operator}
+use Rattle.vx_worker.specs.declared.destination.Destination.{Destination}
+use Rattle.vx_worker.specs.declared.worker.Worker.{Worker}
+use Rattle.vx_laws.specs.Faults.{IsReal}
+use Rattle.vx_laws.proofs.Layouts.{numbered-is-fit}
+use Rattle.vx_laws.proofs.TypedPlans.{typed-is-well-formed}
+use Rattle.vx_steps.specs.Crews.{Duty, duty_of, root_duty, duties_below}
+use Rattle.vx_steps.specs.Board.{Board}
+use Rattle.vx_steps.specs.Roles.{crew_size}
+use Rattle.vx_steps.specs.Endings.{TellsFirst}
+use Rattle.vx_steps.specs.Ready.{Ready}
+use Rattle.vx_steps.specs.Headline.{IsAccepted, IsTrueFault, Answers}
+use Rattle.vx_steps.specs.declared.verdict.Verdict.{Verdict}
+use Rattle.vx_steps.specs.declared.verdict.Verdict.TheVariants as verdict
+use Rattle.vx_steps.proofs.Build.{crew-count}
+use Rattle.vx_steps.proofs.RunSteps.{map-length}
+use Rattle.vx_exec.specs.Sizes.{IsWithin, group_at}
+use Rattle.vx_exec.specs.Job.{setting_of}
+use Rattle.vx_exec.specs.Runs.{IfDone, ComesTo, IsRunOf, fault_told, IsTrueOf, IsFirstTold}
+use Rattle.vx_exec.specs.Making.{board_of}
+use Rattle.vx_exec.specs.declared.fault.RunFault.{RunFault}
+use Rattle.vx_exec.specs.declared.crew.Crew.{Crew}
+use Rattle.vx_exec.specs.declared.job.Job.{Job}
+use Rattle.vx_exec.specs.declared.ran.Ran.{Ran}
+use Rattle.vx_exec.specs.declared.ran.Ran.TheVariants as ran
+
+some-group : (groups : List ℕ) → All (IsWithin 1 64) groups → (k : ℕ) → 0 < group_at groups k
+some-group groups h k = elim (cases_lt k (length groups)) [
+  | inl l ↦ let w = (h k 1 l).0 in omega (arith, w)
+  | inr l ↦ let e = past groups k l in omega (arith, e)
+]
+  where
+    past : (xs : List ℕ) (k : ℕ) → length xs ≤ k → group_at xs k ≡ 1
+    past [] k l = refl
+    past (x ∷ xs) zero l = absurd (omega (arith, l))
+    past (x ∷ xs) (suc k) l = past xs k (omega (arith, l))
+
+-- the first of these workers keeps rows of these types
+pub record KeepsFirst (ws : List (Worker Operator Destination)) (types : List ColType) : Type 0 where
+  pub some : 0 < length ws
+  pub first : Worker Operator Destination
+  pub is_first : (d : Worker Operator Destination) → slice_index_or ws 0 d ≡ first
+  pub keeps_types : post_of (sender_of first) ≡ keeps types
+
+first-keeps : (S : Setting) (p : Plan) (ws : List (Worker Operator Destination)) (ds : List Duty)
+    → map duty_of (map (role_of operator_op post_of bounds_of) ws) ≡ root_duty S p ∷ ds → KeepsFirst ws (types_of S.catalog p)
+first-keeps S p [] ds e = let k = ap (λ (l : List Duty). length l) e in absurd (omega (arith, k))
+first-keeps S p (w ∷ ws) ds e = record {
+  some = omega arith;
+  first = w;
+  is_first = λ d. refl;
+  keeps_types = ap (λ (l : List Duty). (get_or l 0 (root_duty S p)).post) e;
+}
+
+keeps-same : (ts us : List ColType) → keeps ts ≡ keeps us → ts ≡ us
+keeps-same ts us e = ap post_types e
+
+-- the fault of an accepted plan's run is told as it is
+true-told : (W : Setting) (p : Resolved) (db : Database) (f : Fault) → W.db ≡ rows_at db → IsTrueFault W (plan_in p.root) f → IsTrueOf p db (fault_told f)
+true-told W p db (Own Overflow n) e h = let Q : (ℕ → List Row) → Type 0 = λ z. IsReal z (plan_in p.root) in subst Q e (h.overflow n refl)
+true-told W p db (Own NoMemory n) e h = tt
+true-told W p db (Own Unsorted n) e h = absurd (h.order tt)
+true-told W p db (Own Stranger n) e h = absurd (h.order tt)
+true-told W p db Passed e h = absurd h.own
+
+module _ (j : Job) (hash : List ℕ → Row → ℕ → ℕ) where
+  -- the plan of a job is accepted, in the setting of its run
+  abbrev pub IsJobAccepted : Type 0
+  IsJobAccepted = IsAccepted (setting_of hash j) (resolved_of j.plan.now).total (plan j.plan.now)
+
+  pub job-accepted : ((name : List ℕ) (key : Row) (n : ℕ) → 0 < n → hash name key n < n) → MeetsAll j.database.now
+      → is_allowed j.plan.now ≡ true → is_root_allowed j.plan.now ≡ true → IsJobAccepted
+  job-accepted in_range meets allowed root =
+      let P : List Relation → Type 0 = λ z. (r : ℕ) → Meets (relation_at z r) (rows_at j.database.now r) in
+      let packet = j.within.packet.0 in
+      let morsel = j.within.morsel.0 in
+      record {
+        set = record {
+          meets = subst P j.same_catalog meets;
+          some_workers = some-group j.groups.items j.within.groups;
+          in_range = in_range;
+          some_packet = omega (arith, packet);
+          some_morsel = omega (arith, morsel);
+        };
+        fit = numbered-is-fit (relations j.plan.now) (plan j.plan.now) j.plan.now.numbered allowed;
+        formed = (typed-is-well-formed (scope j.plan.now) (plan j.plan.now) j.plan.now.typed_nodes).0;
+        allows = allowed;
+        root = root;
+      }
+
+  -- workers and links that are ready for a plan in a setting, where the morsels are those of the job
+  abbrev pub ReadyIn : Setting → Plan → List (Worker Operator Destination) → Board → Type 0
+  ReadyIn W p ws w = Ready OperatorStands operator_op DestinationStands task_of post_of bounds_of hash (scan_morsels (setting_of hash j)) W p ws w
+
+  -- they are ready for the job's plan, which is accepted
+  pub record IsReadyFor (ws : List (Worker Operator Destination)) (w : Board) : Type 0 where
+    pub accepted : IsJobAccepted
+    pub ready : ReadyIn (setting_of hash j) (plan j.plan.now) ws w
+
+  -- the workers and links of a crew are ready as the crew is
+  pub ready-parts : IsJobAccepted → (crew : Crew) (ws : Vec (Worker Operator Destination) Global) (w : Board) → ws ≡ crew.workers → w ≡ board_of crew
+      → ReadyIn (setting_of hash j) (plan j.plan.now) crew.workers.items (board_of crew) → IsReadyFor ws.items w
+  ready-parts ok crew ws w e f h =
+      let P : List (Worker Operator Destination) → Board → Type 0 = λ z b. ReadyIn (setting_of hash j) (plan j.plan.now) z b in
+      record {
+        accepted = ok;
+        ready = subst (λ z. P z w) (sym (ap (λ (v : Vec (Worker Operator Destination) Global). v.items) e)) (subst (λ b. P crew.workers.items b) (sym f) h);
+      }
+
+  -- they are as many as the plan asks for
+  pub ready-count : (ws : Vec (Worker Operator Destination) Global) (w : Board) → IsReadyFor ws.items w → vec_len ws ≡ crew_size (group_at j.groups.items) (plan j.plan.now)
+  ready-count ws w begun =
+      let roles = map (role_of operator_op post_of bounds_of) ws.items in
+      let a = map-length (role_of operator_op post_of bounds_of) ws.items in
+      let b : length roles ≡ crew_size (group_at j.groups.items) (plan j.plan.now) = crew-count (setting_of hash j) (plan j.plan.now) roles w begun.ready.crew in
+      let ok = ws.ok in
+      omega (arith, a, b, ok)
+
+  -- what workers came to that were ready for the job's accepted plan: the first keeps rows of the plan's types, and the verdict is worth what it says
+  pub record HasRun (ws : List (Worker Operator Destination)) (v : Verdict) : Type 0 where
+    pub keeps : KeepsFirst ws (types_of (relations j.plan.now) (plan j.plan.now))
+    pub answers : Answers task_of (setting_of hash j) (resolved_of j.plan.now).total (plan j.plan.now) ws v
+    pub first : TellsFirst (setting_of hash j) (plan j.plan.now) v
+
+  -- after steps that keep the roles, with a verdict that is worth what it says wherever the workers were ready
+  pub has-run : (old new : List (Worker Operator Destination)) (w : Board) (v : Verdict) → IsReadyFor old w
+      → map (role_of operator_op post_of bounds_of) new ≡ map (role_of operator_op post_of bounds_of) old
+      → ((W : Setting) (is_total : Bool) (p : Plan) → IsAccepted W is_total p → ReadyIn W p old w → Answers task_of W is_total p new v)
+      → ((W : Setting) (is_total : Bool) (p : Plan) → IsAccepted W is_total p → ReadyIn W p old w → TellsFirst W p v)
+      → HasRun new v
+  has-run old new w v begun roles answers first =
+      let W = setting_of hash j in
+      let p : Plan = plan j.plan.now in
+      let is_total : Bool = (resolved_of j.plan.now).total in
+      record {
+        keeps = first-keeps W p new (duties_below W p) (ap (λ z. map duty_of z) roles ∙ begun.ready.crew.duties);
+        answers = answers W is_total p begun.accepted begun.ready;
+        first = first W is_total p begun.accepted begun.ready;
+      }
+
+module _ {j : Job} {hash : List ℕ → Row → ℕ → ℕ} {ws : List (Worker Operator Destination)} where
+  -- the first worker keeps rows of the plan's types
+  pub first-types : {v : Verdict} → HasRun j hash ws v → (d : Worker Operator Destination) → post_of (sender_of (slice_index_or ws 0 d)) ≡ keeps (types_of (relations j.plan.now) (plan j.plan.now))
+  first-types run d = ap (λ w. post_of (sender_of w)) (run.keeps.is_first d) ∙ run.keeps.keeps_types
+
+  -- no worker's fault is that it was told of one by a packet
+  pub not-passed : (v : Verdict) → HasRun j hash ws v → v ≡ verdict.Failed Passed → ⊥
+  not-passed v run e =
+      let Q : Verdict → Type 0 = λ z. Answers task_of (setting_of hash j) (resolved_of j.plan.now).total (plan j.plan.now) ws z in
+      (subst Q e run.answers).own
+
+  -- the rows that they give are those of a run of the plan
+  pub comes-done : (v : Verdict) (r : Result Ran RunFault) → HasRun j hash ws v → ComesTo ws v r → IfOk r (IfDone (IsRunOf hash (resolved_of j.plan.now) j.database.now j.groups.items))
+  comes-done verdict.Done (Ok (ran.Done t)) run h =
+      let first = run.keeps.first in
+      let answer = run.answers first t.rows (h first).0 in
+      record {
+        types = keeps-same t.types (types_of (relations j.plan.now) (plan j.plan.now)) (sym (h first).1 ∙ first-types run first);
+        runs = answer.0;
+        delivers = answer.1;
+      }
+  comes-done verdict.Done (Ok ran.Unfinished) run h = tt
+  comes-done verdict.Unfinished (Ok (ran.Done t)) run h = absurd h
+  comes-done verdict.Unfinished (Ok ran.Unfinished) run h = tt
+  comes-done (verdict.Failed f) (Ok (ran.Done t)) run h = absurd h
+  comes-done (verdict.Failed f) (Ok ran.Unfinished) run h = tt
+  comes-done v (Err e) run h = tt
+
+  -- their fault is one of the data, or want of memory
+  pub comes-failed : (v : Verdict) (r : Result Ran RunFault) → HasRun j hash ws v → ComesTo ws v r → IfErr r (IsTrueOf (resolved_of j.plan.now) j.database.now)
+  comes-failed (verdict.Failed f) (Err e) run h =
+      let p = resolved_of j.plan.now in
+      subst (λ z. IsTrueOf p j.database.now z) (sym h) (true-told (setting_of hash j) p j.database.now f refl run.answers)
+  comes-failed verdict.Done (Err e) run h = absurd h
+  comes-failed verdict.Unfinished (Err e) run h = absurd h
+  comes-failed v (Ok x) run h = tt
+
+  -- and it is that of the lowest-numbered one that failed by itself
+  pub comes-first : (v : Verdict) (r : Result Ran RunFault) → HasRun j hash ws v → ComesTo ws v r → IfErr r (IsFirstTold (setting_of hash j) (plan j.plan.now))
+  comes-first (verdict.Failed f) (Err e) run h = inr (f, h, run.first)
+  comes-first verdict.Done (Err e) run h = absurd h
+  comes-first verdict.Unfinished (Err e) run h = absurd h
+  comes-first v (Ok x) run h = tt
