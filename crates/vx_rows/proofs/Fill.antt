@@ -1,13 +1,13 @@
 -- Columns that are written one after another.
 use Rattle.std.proofs.Common.{◌≡◌, ℕ, true, zero, suc, ◌+◌, ◌-◌, ◌<◌, ◌≤◌, List, [], ◌∷◌, ◌++◌, refl, sym, ap, ◌∙◌, subst, length, get_or, take, map, arith, inl, inr, append_assoc}
-use Rattle.std.specs.Prelude.{zip, Result, Ok, Err, OnOk, OnErr}
+use Rattle.std.specs.Prelude.{zip, Result, Ok, Err, OnErr}
 use Rattle.std.specs.List.{list_all, AllByRecursion}
 use Rattle.std.specs.Prelude.{All}
 use Rattle.std.proofs.lemmas.List.{same_lists, get_or_default}
 use Rattle.std.proofs.lemmas.List.Folds.{list_all-append, list_all_more}
 use Rattle.std.proofs.lemmas.Bool.{cases_lt}
 use Rattle.vx_rows.proofs.Order.{and-left, and-right, and-both}
-use Rattle.std.proofs.lemmas.List.{map-set, length-set, length-map, get_or-set_same, get_or-set_other, take_more, take_more_set, take_all, append-nil}
+use Rattle.std.proofs.lemmas.List.{map-set, length-set, length-map, get_or-set_same, get_or-set_other, take_more, take_more_set, take_all}
 use Rattle.std.proofs.Math.ListN.{set}
 use Rattle.std.proofs.Common.{◌≢◌}
 use Rattle.std.proofs.lemmas.Bool.{cases_eq}

@@ -1,13 +1,9 @@
 -- Rows value by value.
-use Rattle.std.proofs.Common.{◌≡◌, ℕ, suc, ◌+◌, ◌<◌, Bool, true, false, ◌&&◌, List, [], ◌∷◌, ◌++◌, map, fold, length, get_or, drop, take, drop-cons, add-one, refl, sym, ap, ◌∙◌, arith, Ordering, Less, Equal, Greater, is_eq}
-use Rattle.std.specs.Ordering.{ordering_then}
-use Rattle.std.proofs.lemmas.List.{map_more, length-map}
-use Rattle.std.proofs.lemmas.List.Concat.{flat_map-append}
-use Rattle.std.specs.Hash.{fed_then}
+use Rattle.std.proofs.Common.{◌≡◌, ℕ, Bool, true, false, List, map, length, drop, refl, sym, ap, ◌∙◌}
+use Rattle.std.proofs.lemmas.List.{length-map}
 use Rattle.vx_rows.specs.declared.value.Value.{Value}
-use Rattle.vx_rows.specs.Hashing.{val_feed, row_feed}
 use Rattle.vx_rows.specs.View.{val_of}
-use Rattle.vx_rows.specs.Values.{Row, val_cmp, row_cmp, row_eq}
+use Rattle.vx_rows.specs.Values.{Row, row_eq}
 use Rattle.vx_rows.proofs.Compare.{row_eq-same}
 
 abbrev pub rest : List Value → ℕ → Row

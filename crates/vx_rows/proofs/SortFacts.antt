@@ -6,7 +6,7 @@ use Rattle.std.specs.Cmp.{IsStrictWeakOrder}
 use Rattle.std.proofs.lemmas.List.Sorted.{ranks_by}
 use Rattle.std.specs.List.Sorted.{IsSortedBy, IsStableBy, ties}
 use Rattle.vx_rows.specs.Values.{Row, row_cmp, row_eq, pick}
-use Rattle.vx_rows.specs.Order.{compare_on, sorted, insert_sorted, sort_on}
+use Rattle.vx_rows.specs.Order.{compare_on, insert_sorted, sort_on}
 use Rattle.vx_rows.specs.Sorting.{insert_by, sort_by}
 use Rattle.vx_rows.proofs.Compare.{row_eq-same, row_eq-refl, row_cmp_total, row_le-trans, row_le-other}
 use Rattle.vx_rows.proofs.Order.{and-left, and-right, and-both}
