@@ -2,12 +2,13 @@
 
 ghost use Rattle.std.specs.Prelude.{None, true};
 
+use crate::lines::line_of;
 use serde_json::Value as Json;
 use std::alloc::Global;
 use std::sync::Wait;
 use std::test::Fail;
 use std::thread::Threads;
-use vx_answer::{ByteRouter, Command, Mode, Refusal, Store, answer, bundle_in, deliver, tell};
+use vx_answer::{ByteRouter, Command, Mode, Refusal, Store, bundle_in, deliver, tell};
 use vx_catalog::LoadFault;
 use vx_check::Rule;
 use vx_exec::RunFault;
@@ -33,7 +34,7 @@ impl Store for NoFiles {
     }
 }
 
-/// The status for an input that fails after so many bytes, behind what went to the output and to the errors.
+/// What goes to the output, to the errors, and the status, for words and an input that fails after so many bytes.
 pub fn line_for<R: Threads + Wait + Sync + AllocGlobal>(
     rt: &R,
     words: &[&str],
@@ -41,20 +42,17 @@ pub fn line_for<R: Threads + Wait + Sync + AllocGlobal>(
     fails_after: Option<usize>,
 ) -> Result<String, Fail> {
     let mut input = MemoryIn::new(bytes, fails_after);
-    let mut out = MemoryOut::new(rt.alloc(), 10, 10000);
-    let mut err = MemoryOut::new(rt.alloc(), 10, 10000);
-    let status = answer(
-        rt,
-        rt.alloc(),
-        words,
-        &NoFiles,
-        &mut input,
-        &mut out,
-        &mut err,
-    );
-    let out = str::from_utf8(out.bytes())?;
-    let err = str::from_utf8(err.bytes())?;
-    Ok(format!(in rt.alloc(); "{out}{err}{status}")?)
+    line_of(rt, words, &NoFiles, &mut input)
+}
+
+/// The line of the first bundle with one text in the place of another.
+fn line_with<R: Threads + Wait + Sync + AllocGlobal>(
+    rt: &R,
+    from: &str,
+    to: &str,
+) -> Result<String, Fail> {
+    let text = FIRST.replace(rt.alloc(), from, to)?;
+    line_for(rt, &[], text.as_bytes(), None)
 }
 
 #[test]
@@ -75,9 +73,8 @@ fn other_forms_are_refused(rt: HostRuntime) -> Result<(), Fail> {
         (r#""mode":"rounds""#, r#""mode":"threads""#),
         ("{", "["),
     ] {
-        let text = FIRST.replace(rt.alloc(), from, to)?;
-        let line = line_for(&rt, &[], text.as_bytes(), None)?;
-        assert_eq!(rt; line.as_str(), "volcano: V1 BadBundle\n3", "at {from}");
+        let line = line_with(&rt, from, to)?;
+        assert_eq!(rt; line.as_str(), "|volcano: V1 BadBundle\n|3", "at {from}");
     }
     Ok(())
 }
@@ -87,11 +84,11 @@ fn fronts_and_broken_inputs_are_refused(rt: HostRuntime) -> Result<(), Fail> {
     for n in 0..FIRST.len() {
         let (front, _) = FIRST.as_bytes().split_at(n);
         let line = line_for(&rt, &[], front, None)?;
-        assert_eq!(rt; line.as_str(), "volcano: V1 BadBundle\n3", "{n} bytes");
+        assert_eq!(rt; line.as_str(), "|volcano: V1 BadBundle\n|3", "{n} bytes");
         let line = line_for(&rt, &[], FIRST.as_bytes(), Some(n))?;
         assert_eq!(rt;
             line.as_str(),
-            "volcano: V3 FileUnreadable path=-\n3",
+            "|volcano: V3 FileUnreadable path=-\n|3",
             "after {n}"
         );
     }
@@ -99,65 +96,87 @@ fn fronts_and_broken_inputs_are_refused(rt: HostRuntime) -> Result<(), Fail> {
 }
 
 #[test]
-fn parts_of_a_bundle_have_their_lines(rt: HostRuntime) -> Result<(), Fail> {
+fn catalogs_that_are_refused_have_their_lines(rt: HostRuntime) -> Result<(), Fail> {
     for (from, to, line) in [
         (
             r#""relations":"#,
             r#""tables":"#,
-            "volcano: C1 BadCatalog\n3",
+            "|volcano: C1 BadCatalog\n|3",
         ),
         (
             r#""name":"k""#,
             r#""name":"id""#,
-            "volcano: C2 DuplicateName name=id\n3",
+            "|volcano: C2 DuplicateName name=id\n|3",
         ),
         (
             r#""order":["id"]"#,
             r#""order":["z"]"#,
-            "volcano: C3 UnknownColumn name=z\n3",
+            "|volcano: C3 UnknownColumn name=z\n|3",
         ),
+    ] {
+        assert_eq!(rt; line_with(&rt, from, to)?.as_str(), line);
+    }
+    Ok(())
+}
+
+#[test]
+fn plans_that_are_refused_have_their_lines(rt: HostRuntime) -> Result<(), Fail> {
+    for (from, to, line) in [
         (
             r#""root":"#,
             r#""top":"#,
-            "volcano: P2 BadNode path=document\n3",
+            "|volcano: P2 BadNode path=document\n|3",
         ),
         (
             r#""mode":"shared","#,
             "",
-            "volcano: P2 BadNode path=root.input.input\n3",
+            "|volcano: P2 BadNode path=root.input.input\n|3",
         ),
         (
             r#""relation":"t""#,
             r#""relation":"u""#,
-            "volcano: P4 UnknownRelation node=2 name=u\n3",
+            "|volcano: P4 UnknownRelation node=2 name=u\n|3",
         ),
         (
             r#""value":7"#,
             r#""value":"7""#,
-            "volcano: P7 TypeMismatch node=1\n3",
-        ),
-        (
-            r#""tables":{"t""#,
-            r#""tables":{"u""#,
-            "volcano: V2 NoTable name=t\n3",
+            "|volcano: P7 TypeMismatch node=1\n|3",
         ),
         (
             r#"{"part":"one"}"#,
             r#"{"part":"one","order":["id"]}"#,
-            "volcano: K6 OrderNotShown node=0\n3",
+            "|volcano: K6 OrderNotShown node=0\n|3",
         ),
-        (r#"0,a,5"#, r#"0,a"#, "volcano: C5 BadWidth row=0\n3"),
+    ] {
+        assert_eq!(rt; line_with(&rt, from, to)?.as_str(), line);
+    }
+    Ok(())
+}
+
+#[test]
+fn tables_that_are_refused_have_their_lines(rt: HostRuntime) -> Result<(), Fail> {
+    for (from, to, line) in [
+        (
+            r#""tables":{"t""#,
+            r#""tables":{"u""#,
+            "|volcano: V2 NoTable name=t\n|3",
+        ),
+        (r#"0,a,5"#, r#"0,a"#, "|volcano: C5 BadWidth row=0\n|3"),
         (
             r#"3,c,7"#,
             r#"0,c,7"#,
-            "volcano: C8 KeyBroken key=0 first=0 second=3\n3",
+            "|volcano: C8 KeyBroken key=0 first=0 second=3\n|3",
         ),
     ] {
-        let text = FIRST.replace(rt.alloc(), from, to)?;
-        assert_eq!(rt; line_for(&rt, &[], text.as_bytes(), None)?.as_str(), line);
+        assert_eq!(rt; line_with(&rt, from, to)?.as_str(), line);
     }
+    Ok(())
+}
+
+#[test]
+fn words_without_paths_are_wrong(rt: HostRuntime) -> Result<(), Fail> {
     let line = line_for(&rt, &["run"], FIRST.as_bytes(), None)?;
-    assert!(rt; line.as_str().ends_with("\n2"));
+    assert!(rt; line.as_str().ends_with("\n|2"));
     Ok(())
 }
 
@@ -167,32 +186,35 @@ fn runs_that_are_set_up_wrongly_have_their_lines(rt: HostRuntime) -> Result<(), 
         (
             r#""many":3"#,
             r#""few":3"#,
-            "volcano: X1 SizeMissing name=many\n3",
+            "|volcano: X1 SizeMissing name=many\n|3",
         ),
         (
             r#""many":3"#,
             r#""many":0"#,
-            "volcano: X2 SizeOutOfRange name=many\n3",
+            "|volcano: X2 SizeOutOfRange name=many\n|3",
         ),
         (
             r#""many":3"#,
             r#""many":65"#,
-            "volcano: X2 SizeOutOfRange name=many\n3",
+            "|volcano: X2 SizeOutOfRange name=many\n|3",
         ),
         (
             r#""packet":1"#,
             r#""packet":4097"#,
-            "volcano: X3 BadPacket\n3",
+            "|volcano: X3 BadPacket\n|3",
         ),
-        (r#""morsel":1"#, r#""morsel":0"#, "volcano: X4 BadMorsel\n3"),
+        (
+            r#""morsel":1"#,
+            r#""morsel":0"#,
+            "|volcano: X4 BadMorsel\n|3",
+        ),
         (
             r#""slack":4"#,
             r#""slack":1025"#,
-            "volcano: X14 BadSlack\n3",
+            "|volcano: X14 BadSlack\n|3",
         ),
     ] {
-        let text = FIRST.replace(rt.alloc(), from, to)?;
-        assert_eq!(rt; line_for(&rt, &[], text.as_bytes(), None)?.as_str(), line);
+        assert_eq!(rt; line_with(&rt, from, to)?.as_str(), line);
     }
     Ok(())
 }
@@ -208,7 +230,7 @@ fn nodes_that_do_not_run_yet_are_refused(rt: HostRuntime) -> Result<(), Fail> {
     let line = line_for(&rt, &[], text.as_bytes(), None)?;
     assert_eq!(rt;
         line.as_str(),
-        "volcano: P2 BadNode path=root.input.input\n3"
+        "|volcano: P2 BadNode path=root.input.input\n|3"
     );
     Ok(())
 }

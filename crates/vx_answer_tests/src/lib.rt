@@ -6,6 +6,8 @@
 #[cfg(test)]
 mod bundles;
 #[cfg(test)]
+mod lines;
+#[cfg(test)]
 mod serials;
 #[cfg(test)]
 mod words;

@@ -3,11 +3,12 @@
 ghost use Rattle.std.specs.Prelude.{◌≡◌, option_map, bytes_eq};
 ghost use Rattle.std.specs.List.{find};
 
+use crate::lines::line_of;
 use std::sync::Wait;
 use std::test::Fail;
 use std::thread::Threads;
-use vx_answer::{Store, answer};
-use vx_rows::{MemoryIn, MemoryOut};
+use vx_answer::Store;
+use vx_rows::MemoryIn;
 
 const CATALOG: &str =
     r#"{"relations":[{"name":"t","columns":[{"name":"id","type":"int"},{"name":"k","type":"text"},{"name":"v","type":"int"}],"keys":[["id"]],"order":["id"]}]}"#;
@@ -113,20 +114,7 @@ fn line_for<R: Threads + Wait + Sync + AllocGlobal>(
 ) -> Result<String, Fail> {
     let files = Shelf { leaves: &LEAVES };
     let mut input = MemoryIn::new(input.as_bytes(), None);
-    let mut out = MemoryOut::new(rt.alloc(), 10, 10000);
-    let mut err = MemoryOut::new(rt.alloc(), 10, 10000);
-    let status = answer(
-        rt,
-        rt.alloc(),
-        words,
-        &files,
-        &mut input,
-        &mut out,
-        &mut err,
-    );
-    let out = str::from_utf8(out.bytes())?;
-    let err = str::from_utf8(err.bytes())?;
-    Ok(format!(in rt.alloc(); "{out}|{err}|{status}")?)
+    line_of(rt, words, &files, &mut input)
 }
 
 /// A command with a catalog and a plan.
