@@ -32,7 +32,7 @@ pub fn outcome_of<I: ByteIn>(alloc: Global, input: &mut I) -> Result<Vec<u8>, Re
     }
 }
 
-/// Tells a refusal on `err`. The status is that of the refusal.
+// Tells a refusal on `err`. The status is that of the refusal.
 fn refuse<E: ByteOut>(refusal: &Refusal, err: &mut E) -> u8
     ensures { result ≡ status_of refusal.now }
 {
@@ -40,7 +40,7 @@ fn refuse<E: ByteOut>(refusal: &Refusal, err: &mut E) -> u8
     status(refusal)
 }
 
-/// Writes a text on `out`, or tells on `err` that this failed.
+// Writes a text on `out`, or tells on `err` that this failed.
 fn write_text<O: ByteOut, E: ByteOut>(text: &[u8], out: &mut O, err: &mut E) -> u8
     ensures done { result ≡ 0 → Appends (O.contents out.old) (O.contents out.new) text.now }
     ensures failed { result ≢ 0 → (result ≡ 4) × (O.has_failed out.new ≡ true) }
@@ -89,7 +89,7 @@ pub fn reply<I: ByteIn, O: ByteOut, E: ByteOut>(
     deliver(outcome_of(alloc, input), out, err)
 }
 
-/// Answers words, on `out`, or tells on `err` why not.
+// Answers words, on `out`, or tells on `err` why not.
 fn reply_to_words<F: Store, I: ByteIn, O: ByteOut, E: ByteOut>(
     alloc: Global,
     words: &[&str],

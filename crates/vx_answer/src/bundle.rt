@@ -16,7 +16,7 @@ use serde_json::{Map, Value};
 use std::alloc::{AllocError, Global};
 use vx_json::has_only;
 
-/// A relation's name with its text.
+// A relation's name with its text.
 #[derive(Clone, Copy)]
 struct Table<'v> {
     name: &'v str,
@@ -65,7 +65,7 @@ fn mode_in(value: &Value) -> Option<Mode>
     }
 }
 
-/// A number of 32 bits without sign.
+// A number of 32 bits without sign.
 #[tactic(auto, unfolding(crate::specs::Bundle::number_in))]
 fn number_in(value: &Value) -> Option<u32>
     ensures { result ≡ number_in (view value.now) }
@@ -73,7 +73,7 @@ fn number_in(value: &Value) -> Option<u32>
     u32::try_from(value.as_u64()?).ok()
 }
 
-/// A member's number, or the number that stands for a member left out.
+// A member's number, or the number that stands for a member left out.
 fn number_or(value: &Value, key: &str, default: u32) -> Option<u32>
     ensures { result ≡ or_default default number_in (get key.now (view value.now)) }
 {
@@ -83,7 +83,7 @@ fn number_or(value: &Value, key: &str, default: u32) -> Option<u32>
     }
 }
 
-/// Each member's name with its number.
+// Each member's name with its number.
 fn sizes_of(
     alloc: Global,
     members: &Map<String, Value>,
@@ -127,7 +127,7 @@ fn mode_or_rounds(value: &Value) -> Option<Mode>
     }
 }
 
-/// The members that say how a run is set up.
+// The members that say how a run is set up.
 #[tactic(auto, unfolding(crate::specs::Bundle::setting_in))]
 fn setting_in(alloc: Global, value: &Value) -> Result<Option<Setting>, AllocError>
     ensures { Reads (λ s. s) result (setting_in (view value.now)) }
@@ -150,7 +150,7 @@ fn setting_in(alloc: Global, value: &Value) -> Result<Option<Setting>, AllocErro
     Ok(Some(Setting::new(sizes, packet, morsel, slack, mode)))
 }
 
-/// Each member's name with its text.
+// Each member's name with its text.
 fn tables_of<'v>(
     alloc: Global,
     members: &'v Map<String, Value>,
@@ -237,7 +237,7 @@ pub fn value_of_text(alloc: Global, bytes: &[u8]) -> Result<Option<Value>, Alloc
     }
 }
 
-/// The first table of a name.
+// The first table of a name.
 fn find_table<'t, 'v>(tables: &'t [Table<'v>], name: &str) -> Option<&'t Table<'v>>
     ensures { option_map (λ t. t.now) result ≡ find (λ t. bytes_eq t.name.now name.now) tables.now }
 {
@@ -245,18 +245,21 @@ fn find_table<'t, 'v>(tables: &'t [Table<'v>], name: &str) -> Option<&'t Table<'
 }
 
 impl<'v> Bundle<'v> {
+    /// What to do with the plan.
     pub fn command(&self) -> Command
         ensures { result ≡ (bundle_form self.now).command }
     {
         self.command
     }
 
+    /// The catalog, which was not read yet.
     pub fn catalog(&self) -> &'v Value
         ensures { view result.now ≡ (bundle_form self.now).catalog }
     {
         self.catalog
     }
 
+    /// The plan, which was not read yet.
     pub fn plan(&self) -> &'v Value
         ensures { view result.now ≡ (bundle_form self.now).plan }
     {

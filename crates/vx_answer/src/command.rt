@@ -29,7 +29,7 @@ pub enum Command {
     Explain,
 }
 
-/// What the checker's answer is told as.
+// What the checker's answer is told as.
 fn accepted_text(alloc: Global, is_total: bool) -> Result<Vec<u8>, AllocError>
     ensures { IfOk result (λ text. text.items ≡ accepted_text is_total) }
 {
@@ -40,7 +40,7 @@ fn accepted_text(alloc: Global, is_total: bool) -> Result<Vec<u8>, AllocError>
     }
 }
 
-/// A plan, once the checker has accepted it.
+// A plan, once the checker has accepted it.
 fn accepted(plan: TypedPlan) -> Result<CheckedPlan, Refusal>
     ensures plan { IfOk result (λ checked. typed_plan checked ≡ plan) }
     ensures shown { IfOk result (λ _. IsShown (resolved_of plan)) }

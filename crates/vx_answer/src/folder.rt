@@ -16,7 +16,7 @@ pub struct Folder<'f, F> {
     pub path: &'f str,
 }
 
-/// Where the text of a relation is.
+// Where the text of a relation is.
 fn path_in(alloc: Global, folder: &str, name: &str) -> Result<String, AllocError>
     ensures { IfOk result (λ s. string_bytes s ≡ path_in folder.now name.now) }
 {

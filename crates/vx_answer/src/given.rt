@@ -9,14 +9,14 @@ use crate::setting::{Mode, Setting};
 use std::alloc::{AllocError, Global};
 use vx_words::Limits;
 
-/// The number of 32 bits that a text is.
+// The number of 32 bits that a text is.
 fn number_in(text: &str) -> Option<u32>
     ensures { Numbers text.now result }
 {
     text.parse::<u32>().ok()
 }
 
-/// The name and the number of a word NAME=N.
+// The name and the number of a word NAME=N.
 fn size_in(alloc: Global, word: &str) -> Result<Option<(String, u32)>, AllocError>
     ensures { IfOk result (λ o. MatchOption o (IsNoSize word.now) (λ z. IsSize word.now (size_form z))) }
 {
@@ -29,7 +29,7 @@ fn size_in(alloc: Global, word: &str) -> Result<Option<(String, u32)>, AllocErro
     Ok(Some((String::from_str(alloc, name)?, workers)))
 }
 
-/// The names and the numbers of words NAME=N.
+// The names and the numbers of words NAME=N.
 fn sizes_in(alloc: Global, words: &[&str]) -> Result<Option<Vec<(String, u32)>>, AllocError>
     ensures { IfOk result (λ o. MatchOption o (HasNoSize (map (λ w. w.now) words.now)) (λ v. AreSizes (map (λ w. w.now) words.now) (map size_form v.items))) }
 {

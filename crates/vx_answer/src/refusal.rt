@@ -80,7 +80,7 @@ impl<T: Drop> From<AllocFailed<T>> for Refusal {
     }
 }
 
-/// Text that goes to a writer of bytes as it is made, so that it takes no memory.
+// Text that goes to a writer of bytes as it is made, so that it takes no memory.
 #[derive(Drop)]
 struct Printer<'w, W> {
     out: &'w mut W,

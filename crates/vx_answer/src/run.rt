@@ -21,10 +21,10 @@ use vx_exec::{Ran, Setup, run_rounds};
 use vx_plan::TypedPlan;
 use vx_rows::Rows;
 
-/// The most rounds of a run.
+// The most rounds of a run.
 const MAX_ROUNDS: u64 = 1_000_000_000;
 
-/// Size names with their numbers of workers, in memory of their own.
+// Size names with their numbers of workers, in memory of their own.
 fn copied_sizes(alloc: Global, sizes: &[(String, u32)]) -> Result<Vec<(String, u32)>, AllocError>
     ensures { IfOk result (λ v. map size_form v.items ≡ map size_form sizes.now) }
 {
@@ -35,7 +35,7 @@ fn copied_sizes(alloc: Global, sizes: &[(String, u32)]) -> Result<Vec<(String, u
     Ok(copies)
 }
 
-/// What a run is told of how it is set up.
+// What a run is told of how it is set up.
 fn setup_of(alloc: Global, setting: &Setting) -> Result<Setup, AllocError>
     ensures { IfOk result (λ s. s ≡ setup_of setting.now) }
 {
@@ -55,7 +55,7 @@ pub fn text_of(alloc: Global, plan: &TypedPlan, rows: &Rows) -> Result<Vec<u8>, 
     }
 }
 
-/// The text of a run of a plan over a database in rounds.
+// The text of a run of a plan over a database in rounds.
 fn run_over(
     alloc: Global,
     setting: &Setting,

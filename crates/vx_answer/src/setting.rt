@@ -43,6 +43,7 @@ impl Model for Setting {
 }
 
 impl Setting {
+    /// A setting of these, whatever they are: `Setup` tests them once the plan is known.
     pub fn new(
         sizes: Vec<(String, u32)>,
         packet: u32,
@@ -89,6 +90,7 @@ impl Setting {
         self.slack
     }
 
+    /// How workers take turns.
     pub fn mode(&self) -> Mode
         ensures { result ≡ self.now.mode }
     {

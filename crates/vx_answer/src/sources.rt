@@ -20,10 +20,10 @@ use vx_plan::{Plan, PlanFault, TypedPlan, resolve};
 use vx_rows::{ByteIn, ReadFault, read_all};
 use vx_words::Sources;
 
-/// The path of standard input.
+// The path of standard input.
 const INPUT: &str = "-";
 
-/// All bytes of a file.
+// All bytes of a file.
 fn file_bytes<F: Store>(alloc: Global, files: &F, path: &str) -> Result<Vec<u8>, Refusal>
     ensures taken { IfOk result (λ v. IsAll (F.holds files.now path.now) v.items) }
     ensures refused { IfErr result (IsFileRefusal (F.holds files.now path.now) (F.is_reliable files.now path.now) path.now) }
@@ -54,7 +54,7 @@ pub fn input_bytes<I: ByteIn>(alloc: Global, input: &mut I) -> Result<Vec<u8>, R
     }
 }
 
-/// All bytes under a path.
+// All bytes under a path.
 fn bytes_at<F: Store, I: ByteIn>(
     alloc: Global,
     files: &F,
@@ -72,7 +72,7 @@ fn bytes_at<F: Store, I: ByteIn>(
     }
 }
 
-/// The plan of a text over a catalog, for a command.
+// The plan of a text over a catalog, for a command.
 fn plan_over(
     alloc: Global,
     command: Command,

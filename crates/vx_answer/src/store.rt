@@ -32,6 +32,7 @@ pub struct Disk<'r, R> {
 }
 
 impl<'r, R> Disk<'r, R> {
+    /// The files that this runtime reaches.
     pub fn new(rt: &'r R) -> Disk<'r, R> {
         Disk { rt }
     }

@@ -36,7 +36,7 @@ pub trait Tables {
         ensures refused { IfErr result (λ e. lacks self.now (relation_at catalog.now relation) e) };
 }
 
-/// Gives a relation of a database its rows.
+// Gives a relation of a database its rows.
 fn fill<T: Tables>(
     alloc: Global,
     database: &mut Database,
@@ -57,7 +57,7 @@ fn fill<T: Tables>(
     }
 }
 
-/// Whether a node or one below it scans the relation with this number.
+// Whether a node or one below it scans the relation with this number.
 fn scans(node: &TypedNode, relation: usize) -> bool
     ensures { result ≡ scans (plan_of node.now) relation }
 {

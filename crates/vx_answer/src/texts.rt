@@ -11,7 +11,7 @@ use std::alloc::Global;
 use vx_catalog::{Catalog, LoadFault, Loaded, Loader};
 use vx_rows::{Broken, ByteIn};
 
-/// A reader over memory, which never fails.
+// A reader over memory, which never fails.
 #[derive(Drop)]
 struct TextIn<'t> {
     rest: &'t [u8],
@@ -37,7 +37,7 @@ impl ByteIn for TextIn<'_> {
     }
 }
 
-/// The rows of a relation from its text.
+// The rows of a relation from its text.
 fn load_text(
     alloc: Global,
     catalog: &Catalog,

@@ -11,7 +11,7 @@ use std::alloc::{AllocError, Global};
 use vx_document::{NamedKind, NamedUnary, Node};
 use vx_plan::{Plan, PlanFault};
 
-/// The path of a node's input.
+// The path of a node's input.
 fn path_of_input(alloc: Global, path: &str) -> Result<String, AllocError>
     ensures { IfOk result (λ s. string_bytes s ≡ path.now ++ codes ".input") }
 {
@@ -20,7 +20,7 @@ fn path_of_input(alloc: Global, path: &str) -> Result<String, AllocError>
     Ok(below)
 }
 
-/// The path of the first node in preorder that workers do not run so far, from a node with this path on.
+// The path of the first node in preorder that workers do not run so far, from a node with this path on.
 fn first_unrunnable(alloc: Global, path: &str, node: &Node) -> Result<Option<String>, AllocError>
     ensures { Reads string_bytes result (first_unrunnable path.now (tree_of node.now)) }
 {

@@ -40,14 +40,14 @@ pub enum NotTaken {
     Refused(Refusal),
 }
 
-/// How a run is set up where nothing is said.
+// How a run is set up where nothing is said.
 fn default_setting(alloc: Global) -> Setting
     ensures { result ≡ default_setting }
 {
     Setting::new(Vec::new(alloc), PACKET, MORSEL, SLACK, Mode::Rounds)
 }
 
-/// A command that needs no more than a catalog and a plan, or a folder of tables too.
+// A command that needs no more than a catalog and a plan, or a folder of tables too.
 fn plain_task<'a>(
     alloc: Global,
     command: Command,
@@ -64,7 +64,7 @@ fn plain_task<'a>(
     }
 }
 
-/// A run, if the words set one up.
+// A run, if the words set one up.
 fn run_task<'a>(
     alloc: Global,
     sources: Sources<'a>,
@@ -84,7 +84,7 @@ fn run_task<'a>(
     }
 }
 
-/// The task that is asked for: none where a bundle is, or where words set no run up.
+// The task that is asked for: none where a bundle is, or where words set no run up.
 fn task_in<'a>(alloc: Global, asked: &Asked<'a>) -> Result<Option<Task<'a>>, AllocError>
     ensures { IfOk result (λ o. MatchOption o ((asked_is asked.now ≡ bundle) ⊎ IsNoTask (asked_is asked.now)) (λ t. IsTask (asked_is asked.now) (task_is t))) }
 {
@@ -99,7 +99,7 @@ fn task_in<'a>(alloc: Global, asked: &Asked<'a>) -> Result<Option<Task<'a>>, All
     }
 }
 
-/// The text that answers a task.
+// The text that answers a task.
 fn done<F: Store, I: ByteIn>(
     alloc: Global,
     files: &F,
@@ -120,7 +120,7 @@ fn done<F: Store, I: ByteIn>(
     carried_out(alloc, task.command, &folder, &task.setting, plan)
 }
 
-/// Words that are wrong, and what to say of them.
+// Words that are wrong, and what to say of them.
 fn misworded(alloc: Global, text: &str) -> NotTaken
     ensures { IsWrong text.now result }
 {
@@ -130,7 +130,7 @@ fn misworded(alloc: Global, text: &str) -> NotTaken
     }
 }
 
-/// A refusal of what words ask for is one of the words.
+// A refusal of what words ask for is one of the words.
 fn told(outcome: Result<Vec<u8>, Refusal>) -> Result<Vec<u8>, NotTaken>
     ensures ok { IfOk result (λ text. outcome ≡ Ok text) }
     ensures err { IfErr result (λ e. (r : Refusal) × (outcome ≡ Err r) × (e ≡ NotTaken.Refused r)) }
@@ -141,7 +141,7 @@ fn told(outcome: Result<Vec<u8>, Refusal>) -> Result<Vec<u8>, NotTaken>
     }
 }
 
-/// The text that answers what words ask for.
+// The text that answers what words ask for.
 fn answered<F: Store, I: ByteIn>(
     alloc: Global,
     files: &F,
@@ -164,7 +164,7 @@ fn answered<F: Store, I: ByteIn>(
     }
 }
 
-/// The words with the program's name in front.
+// The words with the program's name in front.
 fn named<'a>(alloc: Global, words: &[&'a str]) -> Result<Vec<&'a str>, AllocError>
     ensures { IfOk result (λ v. map (λ w. w.now) v.items ≡ named (map (λ w. w.now) words.now)) }
 {
@@ -176,7 +176,7 @@ fn named<'a>(alloc: Global, words: &[&'a str]) -> Result<Vec<&'a str>, AllocErro
     Ok(all)
 }
 
-/// What clap says in place of matches: help is an answer.
+// What clap says in place of matches: help is an answer.
 fn said(alloc: Global, error: &Error) -> Result<Vec<u8>, NotTaken>
     ensures help { IfOk result (λ _. (kind_of error.now ≡ kind.DisplayHelp) ⊎ (kind_of error.now ≡ kind.DisplayVersion)) }
     ensures fault { IfErr result (IsFault (kind_of error.now)) }

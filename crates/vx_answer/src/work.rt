@@ -15,7 +15,7 @@ use std::alloc::Global;
 use vx_catalog::Catalog;
 use vx_plan::{Plan, PlanFault, TypedPlan, resolve};
 
-/// The plan of a bundle over its catalog.
+// The plan of a bundle over its catalog.
 fn plan_for(alloc: Global, bundle: &Bundle<'_>, catalog: &Catalog) -> Result<TypedPlan, PlanFault>
     ensures { Gives resolved_of result (plan_for (bundle_form bundle.now) catalog.now) }
 {
@@ -24,7 +24,7 @@ fn plan_for(alloc: Global, bundle: &Bundle<'_>, catalog: &Catalog) -> Result<Typ
     resolve(alloc, &plan, catalog)
 }
 
-/// The plan of a bundle over the bundle's catalog.
+// The plan of a bundle over the bundle's catalog.
 fn planned(alloc: Global, bundle: &Bundle<'_>) -> Result<TypedPlan, Refusal>
     ensures planned { IfOk result (λ p. IsPlanned (bundle_form bundle.now) (resolved_of p)) }
     ensures refused { IfErr result (λ e. Unplanned (bundle_form bundle.now) e) }
@@ -39,7 +39,7 @@ fn planned(alloc: Global, bundle: &Bundle<'_>) -> Result<TypedPlan, Refusal>
     }
 }
 
-/// Whether the program does this yet.
+// Whether the program does this yet.
 fn is_taken(command: Command, mode: Mode) -> bool
     ensures { result ≡ is_taken command mode }
 {
@@ -51,7 +51,7 @@ fn is_taken(command: Command, mode: Mode) -> bool
     }
 }
 
-/// The text that answers a bundle. Modes that are not there yet are refused here.
+// The text that answers a bundle. Modes that are not there yet are refused here.
 fn answer_bundle(alloc: Global, bundle: &Bundle<'_>) -> Result<Vec<u8>, Refusal>
     ensures text { IfOk result (λ text. IsOutput (bundle_form bundle.now) text.items) }
     ensures refused { IfErr result (λ e. Refuses (bundle_form bundle.now) e) }

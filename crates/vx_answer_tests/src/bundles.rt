@@ -18,7 +18,7 @@ use vx_rows::{MemoryIn, MemoryOut, Value};
 const FIRST: &str =
     r#"{"command":"run","catalog":{"relations":[{"name":"t","columns":[{"name":"id","type":"int"},{"name":"k","type":"text"},{"name":"v","type":"int"}],"keys":[["id"]],"order":["id"]}]},"plan":{"sizes":["many"],"root":{"op":"exchange","kind":"gather","claim":{"part":"one"},"input":{"op":"select","where":[{"column":"v","op":"=","value":7}],"input":{"op":"scan","relation":"t","mode":"shared","size":"many"}}}},"tables":{"t":"id,k,v\n0,a,5\n1,b,7\n2,a,-2\n3,c,7\n"},"sizes":{"many":3},"packet":1,"morsel":1,"slack":4,"mode":"rounds"}"#;
 
-/// A store without files.
+// A store without files.
 #[derive(Clone, Copy)]
 struct NoFiles;
 
@@ -45,7 +45,7 @@ pub fn line_for<R: Threads + Wait + Sync + AllocGlobal>(
     line_of(rt, words, &NoFiles, &mut input)
 }
 
-/// The line of the first bundle with one text in the place of another.
+// The line of the first bundle with one text in the place of another.
 fn line_with<R: Threads + Wait + Sync + AllocGlobal>(
     rt: &R,
     from: &str,
@@ -270,7 +270,7 @@ fn members_left_out_have_defaults(rt: HostRuntime) -> Result<(), Fail> {
     Ok(())
 }
 
-/// The status and the line of an answer for outputs with so much room.
+// The status and the line of an answer for outputs with so much room.
 fn delivered(alloc: Global, text: &[u8], room: usize, err_room: usize) -> Result<String, Fail> {
     let mut out = MemoryOut::new(alloc, 2, room);
     let mut err = MemoryOut::new(alloc, 10, err_room);

@@ -5,7 +5,7 @@ use std::sync::Wait;
 use std::test::Fail;
 use std::thread::Threads;
 
-/// A bundle, in which words in capitals stand for the root and for the rows of its two tables.
+// A bundle, in which words in capitals stand for the root and for the rows of its two tables.
 const BUNDLE: &str =
     r#"{"command":"serial","catalog":{"relations":[{"name":"t","columns":[{"name":"id","type":"int"},{"name":"k","type":"text"},{"name":"v","type":"int"}],"keys":[["id"]],"order":["id"]},{"name":"d","columns":[{"name":"k","type":"text"},{"name":"n","type":"int"}],"keys":[["k"]]}]},"plan":{"sizes":["many"],"root":ROOT},"tables":{"t":"id,k,v\nROWS_OF_T","d":"k,n\nROWS_OF_D"}}"#;
 
@@ -13,13 +13,13 @@ const ROWS_OF_T: &str = r"0,a,5\n1,b,7\n2,a,-2\n3,c,7\n";
 
 const ROWS_OF_D: &str = r"a,10\nb,20\n";
 
-/// Rows whose sum by the key is over 64 bits before the third comes.
+// Rows whose sum by the key is over 64 bits before the third comes.
 const LARGE: &str = r"0,a,9223372036854775807\n1,a,1\n2,a,-1\n";
 
-/// The first two of these rows.
+// The first two of these rows.
 const TOO_LARGE: &str = r"0,a,9223372036854775807\n1,a,1\n";
 
-/// What stands in a root for a word in capitals.
+// What stands in a root for a word in capitals.
 const SCANS: [(&str, &str); 4] = [
     (
         "T_SHARED",
@@ -39,15 +39,15 @@ const SCANS: [(&str, &str); 4] = [
     ),
 ];
 
-/// Sums by the key, each key sent to one worker, gathered in the order of the keys.
+// Sums by the key, each key sent to one worker, gathered in the order of the keys.
 const SUMS: &str =
     r#"{"op":"exchange","kind":"gather","merge":["k"],"input":{"op":"sort","columns":["k"],"input":{"op":"group","by":["k"],"aggregates":[{"fn":"sum","column":"v","as":"s"}],"input":{"op":"exchange","kind":"hash","route":"h","columns":["k"],"size":"many","input":T_SHARED}}}}"#;
 
-/// Sums by the key, and what the other relation has for it, by one worker.
+// Sums by the key, and what the other relation has for it, by one worker.
 const JOINED_SUMS: &str =
     r#"{"op":"join","method":"hash","on":[["k","d.k"]],"left":{"op":"group","by":["k"],"aggregates":[{"fn":"sum","column":"v","as":"s"}],"input":T_WHOLE},"right":D_WHOLE}"#;
 
-/// What a plan of this root prints over these rows, and its status.
+// What a plan of this root prints over these rows, and its status.
 fn serial<R: Threads + Wait + Sync + AllocGlobal>(
     rt: &R,
     root: &str,

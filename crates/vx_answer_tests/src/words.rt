@@ -16,13 +16,13 @@ const CATALOG: &str =
 const PLAN: &str =
     r#"{"sizes":["many"],"root":{"op":"exchange","kind":"gather","claim":{"part":"one"},"input":{"op":"select","where":[{"column":"v","op":"=","value":7}],"input":{"op":"scan","relation":"t","mode":"shared","size":"many"}}}}"#;
 
-/// A sort, which workers do not run so far, of a relation that no catalog has.
+// A sort, which workers do not run so far, of a relation that no catalog has.
 const SORT: &str =
     r#"{"root":{"op":"sort","columns":["id"],"input":{"op":"scan","relation":"u","mode":"whole","size":"one"}}}"#;
 
 const ROWS: &str = "id,k,v\n0,a,5\n1,b,7\n2,a,-2\n3,c,7\n";
 
-/// A file with its path, and how many bytes it gives before it fails.
+// A file with its path, and how many bytes it gives before it fails.
 #[derive(Clone, Copy)]
 struct Leaf<'a> {
     path: &'a str,
@@ -30,13 +30,13 @@ struct Leaf<'a> {
     fails_after: Option<usize>,
 }
 
-/// Files in memory.
+// Files in memory.
 #[derive(Clone, Copy)]
 struct Shelf<'a> {
     leaves: &'a [Leaf<'a>],
 }
 
-/// The first file of a path.
+// The first file of a path.
 fn find_leaf<'s, 'a>(leaves: &'s [Leaf<'a>], path: &str) -> Option<&'s Leaf<'a>>
     ensures { option_map (λ l. l.now) result ≡ find (λ l. bytes_eq l.path.now path.now) leaves.now }
 {
@@ -62,7 +62,7 @@ impl<'a> Store for Shelf<'a> {
     }
 }
 
-/// The files of the first case.
+// The files of the first case.
 const LEAVES: [Leaf<'static>; 8] = [
     Leaf {
         path: "c.json",
@@ -106,7 +106,7 @@ const LEAVES: [Leaf<'static>; 8] = [
     },
 ];
 
-/// What goes to the output, to the errors, and the status, for words over these files and a standard input.
+// What goes to the output, to the errors, and the status, for words over these files and a standard input.
 fn line_for<R: Threads + Wait + Sync + AllocGlobal>(
     rt: &R,
     words: &[&str],
@@ -117,7 +117,7 @@ fn line_for<R: Threads + Wait + Sync + AllocGlobal>(
     line_of(rt, words, &files, &mut input)
 }
 
-/// A command with a catalog and a plan.
+// A command with a catalog and a plan.
 fn judged<R: Threads + Wait + Sync + AllocGlobal>(
     rt: &R,
     command: &str,
@@ -171,7 +171,7 @@ fn the_first_reason_is_told(rt: HostRuntime) -> Result<(), Fail> {
     Ok(())
 }
 
-/// A serial evaluation over a folder.
+// A serial evaluation over a folder.
 fn evaluated<R: Threads + Wait + Sync + AllocGlobal>(rt: &R, folder: &str) -> Result<String, Fail> {
     let words = [
         "serial",
@@ -197,7 +197,7 @@ fn plans_are_evaluated_over_folders(rt: HostRuntime) -> Result<(), Fail> {
     Ok(())
 }
 
-/// A run over a folder, with words behind its paths.
+// A run over a folder, with words behind its paths.
 fn run_with<R: Threads + Wait + Sync + AllocGlobal>(
     rt: &R,
     plan: &str,
