@@ -1,8 +1,6 @@
 -- What a plan that can be run is made of.
-use Rattle.std.proofs.Common.{◌≡◌, ℕ, suc, ◌+◌, ◌==◌, ◌&&◌, Bool, true, false, List, [], ◌∷◌, refl, sym, true≢false}
-use Rattle.vx_plan.specs.Plan.{Plan, Claim, Unary, Binary, Kind, scan, unary, binary, exchange, select, project, distinct, sort, group, gather, route_to, round, broadcast}
-use Rattle.vx_plan.specs.Numbering.{is_numbered}
-use Rattle.vx_laws.proofs.Bags.{and-right}
+use Rattle.std.proofs.Common.{◌≡◌, ℕ, true, false, List, [], ◌∷◌, refl, sym, true≢false}
+use Rattle.vx_plan.specs.Plan.{Plan, Claim, Kind, exchange, gather, route_to, round, broadcast}
 use Rattle.vx_exec.specs.Sizes.{can_run}
 
 no : {A : Type 0} → false ≡ true → A

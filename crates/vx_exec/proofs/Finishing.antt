@@ -1,5 +1,5 @@
 -- Workers that were ready for the accepted plan of a job, and what they come to.
-use Rattle.std.proofs.Common.{Vec, Global, Bool, ◌≡◌, ◌⊎◌, ℕ, ◌<◌, ◌≤◌, true, List, [], ◌∷◌, length, vec_len, map, Ok, Err, Result, IfOk, IfErr, get_or, refl, sym, ap, ◌∙◌, subst, arith, zero, suc, inl, inr}
+use Rattle.std.proofs.Common.{Vec, Global, Bool, ◌≡◌, ℕ, ◌<◌, ◌≤◌, true, List, [], ◌∷◌, length, vec_len, map, Ok, Err, Result, IfOk, IfErr, get_or, refl, sym, ap, ◌∙◌, subst, arith, zero, suc, inl, inr}
 use Rattle.std.proofs.lemmas.Bool.{cases_lt}
 use Rattle.std.specs.List.{All, slice_index_or}
 use Rattle.vx_rows.specs.Values.{Row}
@@ -164,7 +164,8 @@ module _ (j : Job) (hash : List ℕ → Row → ℕ → ℕ) where
 
 module _ {j : Job} {hash : List ℕ → Row → ℕ → ℕ} {ws : List (Worker Operator Destination)} where
   -- the first worker keeps rows of the plan's types
-  pub first-types : {v : Verdict} → HasRun j hash ws v → (d : Worker Operator Destination) → post_of (sender_of (slice_index_or ws 0 d)) ≡ keeps (types_of (relations j.plan.now) (plan j.plan.now))
+  pub first-types : {v : Verdict} → HasRun j hash ws v → (d : Worker Operator Destination)
+      → post_of (sender_of (slice_index_or ws 0 d)) ≡ keeps (types_of (relations j.plan.now) (plan j.plan.now))
   first-types run d = ap (λ w. post_of (sender_of w)) (run.keeps.is_first d) ∙ run.keeps.keeps_types
 
   -- no worker's fault is that it was told of one by a packet
@@ -174,7 +175,8 @@ module _ {j : Job} {hash : List ℕ → Row → ℕ → ℕ} {ws : List (Worker 
       (subst Q e run.answers).own
 
   -- the rows that they give are those of a run of the plan
-  pub comes-done : (v : Verdict) (r : Result Ran RunFault) → HasRun j hash ws v → ComesTo ws v r → IfOk r (IfDone (IsRunOf hash (resolved_of j.plan.now) j.database.now j.groups.items))
+  pub comes-done : (v : Verdict) (r : Result Ran RunFault) → HasRun j hash ws v → ComesTo ws v r
+      → IfOk r (IfDone (IsRunOf hash (resolved_of j.plan.now) j.database.now j.groups.items))
   comes-done verdict.Done (Ok (ran.Done t)) run h =
       let first = run.keeps.first in
       let answer = run.answers first t.rows (h first).0 in

@@ -12,13 +12,12 @@ use Rattle.vx_exchange.specs.Sending.{RoutesAs}
 use Rattle.vx_worker.specs.Fragment.{Setting, goes}
 use Rattle.vx_worker.specs.Trace.{scan_morsels}
 use Rattle.vx_worker.specs.Worker.{Role, role_of}
-use Rattle.vx_worker.specs.Operator.{OperatorStands, operator_op, operator_types}
+use Rattle.vx_worker.specs.Operator.{OperatorStands, operator_op}
 use Rattle.vx_worker.specs.Destination.{DestinationStands, task_of, post_of, bounds_of}
 use Rattle.vx_worker.specs.declared.operator.Operator.{Operator}
 use Rattle.vx_worker.specs.declared.destination.Destination.{Destination}
 use Rattle.vx_worker.specs.declared.worker.Worker.{Worker}
 use Rattle.vx_steps.specs.Additions.{Made, AddsTeam, AddsBelow}
-use Rattle.vx_steps.specs.Board.{Board}
 use Rattle.vx_steps.specs.Crews.{stations_of, duty_of, root_duty}
 use Rattle.vx_steps.specs.Queues.{AreEmpty}
 use Rattle.vx_steps.specs.Ready.{Ready}

@@ -8,7 +8,7 @@ use Rattle.vx_plan.specs.Resolve.{Resolved}
 use Rattle.vx_plan.specs.TypedView.{resolved_of}
 use Rattle.vx_plan.specs.declared.typed_plan.TypedPlan.{TypedPlan}
 use Rattle.vx_exec.specs.Sizes.{Sizes}
-use Rattle.vx_exec.specs.Setup.{SetupForm, SetupRefusal, refusal_of, sizes_set, Gives}
+use Rattle.vx_exec.specs.Setup.{SetupForm, SetupRefusal, sizes_set, Gives}
 use Rattle.vx_exec.specs.Job.{sizes_of}
 use Rattle.vx_exec.specs.Runs.{NamesFirst, IsSetUp, RunFails, for_setup}
 use Rattle.vx_exec.specs.declared.fault.RunFault.{RunFault}
@@ -26,20 +26,8 @@ pub fails-set-up : (p : Resolved) (db : Database) (setup : SetupForm) (r : Resul
 fails-set-up p db setup (Ok j) same e = tt
 fails-set-up p db setup (Err e) same h = for_setup same h
 
-ok-err : (s : Sizes) (r : SetupRefusal) → ◌≡◌ {A = Result Sizes SetupRefusal} (Ok s) (Err r) → ⊥
-ok-err s r e = cc
-
 ok-is : (s t : Sizes) → ◌≡◌ {A = Result Sizes SetupRefusal} (Ok s) (Ok t) → s ≡ t
 ok-is s t e = cc
-
--- where the setup comes to sizes, only memory is refused
-pub only-memory : (p : Resolved) (db : Database) (setup : SetupForm) (r : Result Job RunFault) (s : Sizes) → IsSetUp p db setup s
-    → Gives sizes_of r (sizes_set setup p.names.sizes (plan_in p.root)) → IfErr r (λ e. e ≡ fault.NoMemory)
-only-memory p db setup (Ok j) s set h = tt
-only-memory p db setup (Err e) s set h = elim h [
-  | inl memory ↦ memory
-  | inr refused ↦ absurd (ok-err s (refusal_of e) (sym set.sizes ∙ refused))
-]
 
 -- what holds of a job holds of the plan, the database and the sizes that it was made of
 pub of-job : (P : TypedPlan → Database → Sizes → Type 0) (j : Job) (p : TypedPlan) (db : Database) (setup : SetupForm) (s : Sizes) → j.plan.now ≡ p → j.database.now ≡ db

@@ -1,5 +1,5 @@
 -- Trees and workers of a job, before any step.
-use Rattle.std.specs.Prelude.{ℕ, ◌≡◌, ◌+◌, true, List, map}
+use Rattle.std.specs.Prelude.{ℕ, ◌≡◌, ◌+◌, true, List}
 use Rattle.vx_rows.specs.Values.{Row}
 use Rattle.vx_rows.specs.declared.value.ColType.{ColType}
 use Rattle.vx_plan.specs.Plan.{Plan}

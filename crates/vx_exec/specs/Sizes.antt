@@ -1,5 +1,5 @@
 -- The sizes of a run, within their limits, and the setting that they make of a plan and a database.
-use Rattle.std.specs.Prelude.{ℕ, ◌≡◌, ◌≤◌, ◌+◌, Bool, true, false, List, [], ◌∷◌, length}
+use Rattle.std.specs.Prelude.{ℕ, ◌≤◌, Bool, true, false, List, []}
 use Rattle.std.specs.List.{All, slice_index_or}
 use Rattle.vx_rows.specs.Values.{Row}
 use Rattle.vx_catalog.specs.Database.{Database, rows_at}

@@ -1,4 +1,4 @@
-use Rattle.std.proofs.Common.{◌≡◌, sym, ap, ◌∙◌}
+use Rattle.std.proofs.Common.{sym, ap, ◌∙◌}
 use Rattle.vx_worker.specs.Destination.{post_of}
 use Rattle.vx_worker.specs.Worker.{sender_of}
 use Rattle.vx_exec.proofs.Posts.{gather-keeps-not}

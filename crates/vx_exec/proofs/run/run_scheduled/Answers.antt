@@ -1,12 +1,10 @@
 use Rattle.std.proofs.Common.{◌⊎◌, inl, inr, subst, sym, ◌∙◌, IfErr}
 use Rattle.vx_plan.specs.TypedView.{resolved_of, plan as whole_plan}
 use Rattle.vx_check.specs.CheckedView.{typed_plan}
-use Rattle.vx_plan.specs.Outline.{plan_in}
 use Rattle.vx_steps.specs.Roles.{crew_size}
 use Rattle.vx_exec.specs.Job.{sizes_of}
 use Rattle.vx_exec.specs.Sizes.{Sizes, group_at, setting}
 use Rattle.vx_exec.specs.Runs.{IsTrueOf, IsFirstTold, IsSetUp, IsBadStepOf, NamesFirst, RunFails, ScheduleFails, for_fault, for_run, for_step}
-use Rattle.vx_exec.specs.declared.fault.RunFault.{RunFault}
 use Rattle.vx_exec.proofs.Outcomes.{failed-by, err-told, names-nothing, of-job, ok-told}
 use Rattle.vx_exec.proofs.run.run_scheduled.Goals as goal
 

@@ -1,4 +1,4 @@
-use Rattle.std.proofs.Common.{◌≡◌, true, arith, refl, ap, sym, subst, length}
+use Rattle.std.proofs.Common.{◌≡◌, true, arith, refl, sym, subst, length}
 use Rattle.vx_plan.specs.Outline.{plan_of, claim_of, size_of, unary_of, kind_of}
 use Rattle.vx_plan.specs.Plan.{gather, size}
 use Rattle.vx_plan.specs.Streams.{workers}

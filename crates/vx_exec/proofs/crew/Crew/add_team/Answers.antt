@@ -1,4 +1,4 @@
-use Rattle.std.proofs.Common.{◌≡◌, ◌∙◌, refl, ap, subst, arith}
+use Rattle.std.proofs.Common.{◌≡◌, ◌∙◌, ap, subst, arith}
 use Rattle.vx_plan.specs.Outline.{plan_of}
 use Rattle.vx_plan.specs.Plan.{gather, size}
 use Rattle.vx_plan.specs.Streams.{workers}
