@@ -43,9 +43,9 @@ abbrev pub IsRunOver : Resolved → Database → Setting → List ℕ → Type 0
 IsRunOver p db setting text =
     (rows : Table) × (s : Sizes) × IsSetUp p db (setup_of setting) s × IsRunOf byte_route p db s.groups rows × (text ≡ csv_text (columns p.root).names rows.rows)
 
--- why a run of this plan over this database gives no text: its rounds were over, memory ran out, or it failed
+-- why a run of this plan over this database gives no text: it was set up rightly and its rounds were over, memory ran out, or it failed
 pub data RunRefuses (p : Resolved) (db : Database) (setting : Setting) (e : Refusal) : Type 0 where
-  for_rounds : e ≡ refusal.Unfinished → RunRefuses p db setting e
+  for_rounds : (s : Sizes) → IsSetUp p db (setup_of setting) s → e ≡ refusal.Unfinished → RunRefuses p db setting e
   for_want : e ≡ refusal.NoMemory → RunRefuses p db setting e
   for_fault : (fault : RunFault) → e ≡ refusal.Run fault → RunFails p db (setup_of setting) fault → RunRefuses p db setting e
 
