@@ -1,30 +1,18 @@
--- What the setup and the run of a job come to.
+-- What a run of a job comes to, told of the plan, the database and the setup that the job was made of.
 use Rattle.std.proofs.Common.{◌≡◌, ◌⊎◌, ℕ, ◌<◌, List, Ok, Err, Result, IfOk, IfErr, sym, ◌∙◌, subst, inl, inr}
 use Rattle.std.specs.List.{All}
 use Rattle.std.specs.Result.{IsErrAnd}
 use Rattle.vx_catalog.specs.Database.{Database}
-use Rattle.vx_plan.specs.Outline.{plan_in}
-use Rattle.vx_plan.specs.Resolve.{Resolved}
 use Rattle.vx_plan.specs.TypedView.{resolved_of}
 use Rattle.vx_plan.specs.declared.typed_plan.TypedPlan.{TypedPlan}
 use Rattle.vx_exec.specs.Sizes.{Sizes}
-use Rattle.vx_exec.specs.Setup.{SetupForm, SetupRefusal, sizes_set, Gives}
+use Rattle.vx_exec.specs.Setup.{SetupForm, SetupRefusal}
 use Rattle.vx_exec.specs.Job.{sizes_of}
-use Rattle.vx_exec.specs.Runs.{NamesFirst, IsSetUp, RunFails, for_setup}
+use Rattle.vx_exec.specs.Runs.{NamesFirst, IsSetUp}
 use Rattle.vx_exec.specs.declared.fault.RunFault.{RunFault}
 use Rattle.vx_exec.specs.declared.fault.RunFault.TheVariants as fault
 use Rattle.vx_exec.specs.declared.job.Job.{Job}
 use Rattle.vx_exec.specs.declared.ran.Ran.{Ran}
-
-pub set-up : (p : Resolved) (db : Database) (setup : SetupForm) (r : Result Job RunFault) → db.catalog ≡ p.names.catalog
-    → Gives sizes_of r (sizes_set setup p.names.sizes (plan_in p.root)) → IfOk r (λ j. IsSetUp p db setup (sizes_of j))
-set-up p db setup (Ok j) same e = record { same = same; sizes = e }
-set-up p db setup (Err e) same h = tt
-
-pub fails-set-up : (p : Resolved) (db : Database) (setup : SetupForm) (r : Result Job RunFault) → db.catalog ≡ p.names.catalog
-    → Gives sizes_of r (sizes_set setup p.names.sizes (plan_in p.root)) → IfErr r (RunFails p db setup)
-fails-set-up p db setup (Ok j) same e = tt
-fails-set-up p db setup (Err e) same h = for_setup same h
 
 ok-is : (s t : Sizes) → ◌≡◌ {A = Result Sizes SetupRefusal} (Ok s) (Ok t) → s ≡ t
 ok-is s t e = cc
