@@ -7,7 +7,7 @@ use Rattle.std.specs.Result.{result_ok}
 use Rattle.std.specs.Str.Parse.{ParsesUnsigned}
 use Rattle.std.specs.Str.{NoCharPasses}
 use Rattle.std.specs.Str.Pattern.{RFindsChar, SplitsAroundMatch}
-use Rattle.vx_answer.specs.Setting.{Named, size_form}
+use Rattle.vx_bundle.specs.Setting.{Named, size_form}
 use Rattle.vx_answer.specs.Given.{Numbers, IsCut, IsSize, IsNoSize, AreSizes, HasNoSize}
 
 -- what `parse` answers

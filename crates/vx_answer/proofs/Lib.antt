@@ -1,5 +1,3 @@
-pub mod MemberFacts
-pub mod TextFacts
 pub mod RunnableFacts
 pub mod Refusing
 pub mod MissingFacts

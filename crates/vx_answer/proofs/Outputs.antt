@@ -3,7 +3,7 @@ use Rattle.std.proofs.Common.{ℕ, List, Vec, Global, Result, Ok, Err}
 use Rattle.std.specs.Prelude.{IfOk}
 use Rattle.vx_plan.specs.Resolve.{Resolved}
 use Rattle.vx_answer.specs.declared.refusal.Refusal.{Refusal}
-use Rattle.vx_answer.specs.Bundle.{Bundle}
+use Rattle.vx_bundle.specs.Bundle.{Bundle}
 use Rattle.vx_answer.specs.Commanded.{IsFor}
 use Rattle.vx_answer.specs.Texts.{holds_in}
 use Rattle.vx_answer.specs.Answer.{IsPlanned, IsOutput}

@@ -18,10 +18,10 @@ use Rattle.vx_plan.specs.Resolve.{Shape, Resolved, scan_columns, relation_found,
 use Rattle.vx_plan.specs.TypedView.{resolved_of}
 use Rattle.vx_plan.specs.declared.typed_plan.TypedPlan.{TypedPlan}
 use Rattle.vx_exec.specs.Sizes.{can_run}
-use Rattle.vx_answer.specs.declared.command.Command.{Command}
-use Rattle.vx_answer.specs.Bundle.{Bundle}
+use Rattle.vx_bundle.specs.declared.command.Command.{Command}
+use Rattle.vx_bundle.specs.Bundle.{Bundle}
 use Rattle.vx_answer.specs.Answer.{IsPlanned}
-use Rattle.vx_answer.specs.declared.command.Command.TheVariants as command
+use Rattle.vx_bundle.specs.declared.command.Command.TheVariants as command
 use Rattle.vx_answer.specs.Unrunnable.{first_unrunnable, unless_at, taken_by}
 
 -- workers can run it

@@ -11,13 +11,13 @@ use Rattle.vx_document.specs.Fault.{◌>>=◌}
 use Rattle.vx_document.specs.Reading.{document_in}
 use Rattle.vx_document.specs.Fault as plan
 use Rattle.vx_document.specs.declared.fault.PlanFault.{PlanFault}
-use Rattle.vx_answer.specs.declared.command.Command.{Command}
-use Rattle.vx_answer.specs.declared.command.Command.TheVariants as command
-use Rattle.vx_answer.specs.declared.setting.Mode.{Mode}
-use Rattle.vx_answer.specs.declared.setting.Mode.TheVariants as mode
+use Rattle.vx_bundle.specs.declared.command.Command.{Command}
+use Rattle.vx_bundle.specs.declared.command.Command.TheVariants as command
+use Rattle.vx_bundle.specs.declared.setting.Mode.{Mode}
+use Rattle.vx_bundle.specs.declared.setting.Mode.TheVariants as mode
 use Rattle.vx_answer.specs.declared.refusal.Refusal.{Refusal}
 use Rattle.vx_answer.specs.declared.refusal.Refusal.TheVariants as refusal
-use Rattle.vx_answer.specs.Bundle.{Bundle, bundle_of_text}
+use Rattle.vx_bundle.specs.Bundle.{Bundle, bundle_of_text}
 use Rattle.vx_answer.specs.Commanded.{IsFor, CommandRefuses}
 use Rattle.vx_answer.specs.Status.{status_of}
 use Rattle.vx_answer.specs.Texts.{holds_in, lacks_in}

@@ -13,18 +13,19 @@ use Rattle.vx_check.specs.Refusal.{Rule, refusal}
 use Rattle.vx_check.specs.RuleView.{rule_of}
 use Rattle.vx_check.specs.Explain.{explain_text}
 use Rattle.vx_check.specs.declared.rule.Rule as rust_rule
+use Rattle.vx_exec.specs.Setup.{SetupForm}
 use Rattle.vx_exec.specs.Sizes.{Sizes}
 use Rattle.vx_exec.specs.Runs.{IsRunOf, IsSetUp, RunFails}
 use Rattle.vx_exec.specs.declared.fault.RunFault.{RunFault}
 use Rattle.vx_serial.specs.Results.{IsSerialOf, EvalFails}
 use Rattle.vx_serial.specs.declared.fault.EvalFault.{EvalFault}
-use Rattle.vx_answer.specs.declared.command.Command.{Command}
-use Rattle.vx_answer.specs.declared.command.Command.TheVariants as command
+use Rattle.vx_bundle.specs.declared.command.Command.{Command}
+use Rattle.vx_bundle.specs.declared.command.Command.TheVariants as command
 use Rattle.vx_answer.specs.declared.refusal.Refusal.{Refusal}
 use Rattle.vx_answer.specs.declared.refusal.Refusal.TheVariants as refusal
 use Rattle.vx_answer.specs.ByteRouter.{byte_route}
 use Rattle.vx_answer.specs.Filled.{IsFilled, IsFirstMissing}
-use Rattle.vx_answer.specs.Setting.{Setting, setup_of}
+use Rattle.vx_bundle.specs.Setting.{Setting}
 
 -- what tables have of a relation
 abbrev pub Holding : Type 1
@@ -37,6 +38,10 @@ Lacking = Relation → Refusal → Type 0
 -- the first node whose note is not shown, and the rule that says so
 abbrev pub refusal_in : Resolved → Option (ℕ × Rule)
 refusal_in p = refusal (relation_at p.names.catalog) p.total (plan_in p.root)
+
+-- what a run is told of a setting
+abbrev pub setup_of : Setting → SetupForm
+setup_of s = record { sizes = s.sizes; packet = s.packet; morsel = s.morsel; slack = s.slack }
 
 -- the text is that of the rows of a run of this plan over this database, set up like this, under the names of the plan's output
 abbrev pub IsRunOver : Resolved → Database → Setting → List ℕ → Type 0

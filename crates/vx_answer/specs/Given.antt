@@ -3,8 +3,8 @@ use Rattle.std.specs.Prelude.{◌≡◌, ℕ, ◌^◌, ◌<◌, ◌==◌, ◌++�
 use Rattle.std.specs.Str.{NoCharPasses}
 use Rattle.std.specs.Str.Parse.{IsNumeral, digits_value, without_leading_plus}
 use Rattle.vx_words.specs.Asked.{Given}
-use Rattle.vx_answer.specs.declared.setting.Mode.TheVariants as mode
-use Rattle.vx_answer.specs.Setting.{Named, Setting}
+use Rattle.vx_bundle.specs.declared.setting.Mode.TheVariants as mode
+use Rattle.vx_bundle.specs.Setting.{Named, Setting}
 
 -- the number of 32 bits that a text of digits is, behind a plus or not, if it is one
 abbrev pub Numbers : List ℕ → Option ℕ → Type 0

@@ -1,6 +1,3 @@
-pub mod Setting
-pub mod Bundle
-pub mod BundleView
 pub mod Status
 pub mod Texts
 pub mod Filled

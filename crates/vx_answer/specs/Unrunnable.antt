@@ -2,8 +2,8 @@
 use Rattle.std.specs.Prelude.{ℕ, List, [], ◌++◌, codes, Option, Some, None, Result, Ok, Err}
 use Rattle.vx_document.specs.Document.{Tree, scan, unary, binary, exchange, select, gather, Document}
 use Rattle.vx_document.specs.Fault.{Refusal, bad_node}
-use Rattle.vx_answer.specs.declared.command.Command.{Command}
-use Rattle.vx_answer.specs.declared.command.Command.TheVariants as command
+use Rattle.vx_bundle.specs.declared.command.Command.{Command}
+use Rattle.vx_bundle.specs.declared.command.Command.TheVariants as command
 
 -- the path of the first node in preorder that is no scan, no selection and no gather that does not merge, from a node with this path on
 abbrev pub first_unrunnable : (path : List ℕ) → Tree → Option (List ℕ)

@@ -16,15 +16,15 @@ use Rattle.vx_document.specs.Fault as plan
 use Rattle.vx_document.specs.Reading.{document_of_text}
 use Rattle.vx_document.specs.declared.fault.PlanFault.{PlanFault}
 use Rattle.vx_words.specs.Asked.{Ask, Paths, bundle, check, explain, serial, run, asked_by, faults_of}
-use Rattle.vx_answer.specs.declared.command.Command.{Command}
-use Rattle.vx_answer.specs.declared.command.Command.TheVariants as command
-use Rattle.vx_answer.specs.declared.setting.Mode.TheVariants as mode
+use Rattle.vx_bundle.specs.declared.command.Command.{Command}
+use Rattle.vx_bundle.specs.declared.command.Command.TheVariants as command
+use Rattle.vx_bundle.specs.declared.setting.Mode.TheVariants as mode
 use Rattle.vx_answer.specs.declared.refusal.Refusal.{Refusal}
 use Rattle.vx_answer.specs.declared.refusal.Refusal.TheVariants as refusal
 use Rattle.vx_answer.specs.Answer.{IsAnswer, IsUnread, RefusedWith}
 use Rattle.vx_answer.specs.Commanded.{IsFor, CommandRefuses}
 use Rattle.vx_answer.specs.Folder.{holds_at, LacksAt}
-use Rattle.vx_answer.specs.Setting.{Setting}
+use Rattle.vx_bundle.specs.Setting.{Setting}
 use Rattle.vx_answer.specs.Given.{IsSetting, IsNoSetting}
 use Rattle.vx_answer.specs.Status.{status_of}
 use Rattle.vx_answer.specs.Unrunnable.{taken_by}

@@ -26,10 +26,7 @@ pub fn outcome_of<I: ByteIn>(alloc: Global, input: &mut I) -> Result<Vec<u8>, Re
     ensures refused { IfErr result (λ e. RefusedWith (I.remaining input.old) (I.has_failed input.new) e) }
     ensures broken { I.has_failed input.new ≡ true → IsErrOf result Refusal.InputUnreadable }
 {
-    match input_bytes(alloc, input) {
-        Ok(bytes) => work(alloc, bytes.as_slice()),
-        Err(refusal) => Err(refusal),
-    }
+    work(alloc, input_bytes(alloc, input)?.as_slice())
 }
 
 // Tells a refusal on `err`. The status is that of the refusal.

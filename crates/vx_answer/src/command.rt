@@ -10,24 +10,11 @@ ghost use Rattle.vx_answer.specs.Commanded.{IsShown, IsNotShown, accepted_text, 
 use crate::refusal::Refusal;
 use crate::run::run_plan;
 use crate::serial::serial_plan;
-use crate::setting::Setting;
 use crate::tables::Tables;
 use std::alloc::{AllocError, Global};
+use vx_bundle::{Command, Setting};
 use vx_check::{CheckedPlan, check, explain};
 use vx_plan::TypedPlan;
-
-/// What to do with a plan.
-#[derive(Clone, Copy, Debug, PartialEq, Eq)]
-pub enum Command {
-    /// Run it by its exchanges.
-    Run,
-    /// Evaluate it without its exchanges.
-    Serial,
-    /// Say whether its claims are shown.
-    Check,
-    /// Describe its nodes.
-    Explain,
-}
 
 // What the checker's answer is told as.
 fn accepted_text(alloc: Global, is_total: bool) -> Result<Vec<u8>, AllocError>

@@ -2,11 +2,11 @@
 
 ghost use Rattle.std.specs.Prelude.{map, MatchOption, IfOk};
 ghost use Rattle.vx_words.specs.Asked.{given_is};
-ghost use Rattle.vx_answer.specs.Setting.{size_form};
+ghost use Rattle.vx_bundle.specs.Setting.{size_form};
 ghost use Rattle.vx_answer.specs.Given.{Numbers, IsSize, IsNoSize, AreSizes, HasNoSize, IsSetting, IsNoSetting};
 
-use crate::setting::{Mode, Setting};
 use std::alloc::{AllocError, Global};
+use vx_bundle::{Mode, Setting};
 use vx_words::Limits;
 
 // The number of 32 bits that a text is.

@@ -2,7 +2,6 @@
 #![tactic(auto)]
 
 mod answering;
-mod bundle;
 mod command;
 mod folder;
 mod given;
@@ -11,7 +10,6 @@ mod refusal;
 mod router;
 mod run;
 mod serial;
-mod setting;
 mod sources;
 mod status;
 mod store;
@@ -22,9 +20,6 @@ mod worded;
 mod work;
 
 pub use answering::{answer, deliver};
-pub use bundle::{Bundle, bundle_in};
-pub use command::Command;
 pub use refusal::{Refusal, tell};
 pub use router::ByteRouter;
-pub use setting::{Mode, Setting};
 pub use store::{Disk, Store};

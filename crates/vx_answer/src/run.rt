@@ -6,15 +6,15 @@ ghost use Rattle.vx_plan.specs.Outline.{columns};
 ghost use Rattle.vx_plan.specs.TypedView.{plan as plan_of_typed, resolved_of};
 ghost use Rattle.vx_check.specs.CheckedView.{typed_plan};
 ghost use Rattle.vx_exec.specs.Sizes.{can_run};
-ghost use Rattle.vx_answer.specs.Setting.{size_form, setup_of};
-ghost use Rattle.vx_answer.specs.Commanded.{IsRunOver, RunRefuses, IsRun, PlanRefuses};
+ghost use Rattle.vx_bundle.specs.Setting.{size_form};
+ghost use Rattle.vx_answer.specs.Commanded.{IsRunOver, RunRefuses, IsRun, PlanRefuses, setup_of};
 
 use crate::page::Page;
 use crate::refusal::Refusal;
 use crate::router::ByteRouter;
-use crate::setting::Setting;
 use crate::tables::{Tables, load_tables};
 use std::alloc::{AllocError, Global};
+use vx_bundle::Setting;
 use vx_catalog::{Database, write_rows};
 use vx_check::CheckedPlan;
 use vx_exec::{Ran, Setup, run_rounds};

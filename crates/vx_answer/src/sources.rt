@@ -10,11 +10,11 @@ ghost use Rattle.vx_words.specs.Asked.{paths_are};
 ghost use Rattle.vx_answer.specs.Worded.{is_input, told_at, plan_text, IsFileRefusal, IsInputRefusal, Untaken, UnplannedIn, IsPlannedIn, catalog_told, plan_told};
 
 use crate::answering::MAX_BYTES;
-use crate::command::Command;
 use crate::refusal::Refusal;
 use crate::store::Store;
 use crate::unrunnable::test_taken;
 use std::alloc::Global;
+use vx_bundle::Command;
 use vx_catalog::Catalog;
 use vx_plan::{Plan, PlanFault, TypedPlan, resolve};
 use vx_rows::{ByteIn, ReadFault, read_all};

@@ -4,10 +4,10 @@ ghost use Rattle.std.specs.Prelude.{◌≡◌, ◌<◌, length, Some, true, fals
 ghost use Rattle.vx_catalog.specs.Catalog.{relation_at};
 ghost use Rattle.vx_catalog.specs.Loading.{Gives, load_of};
 
-use crate::bundle::Bundle;
 use crate::refusal::Refusal;
 use crate::tables::Tables;
 use std::alloc::Global;
+use vx_bundle::Bundle;
 use vx_catalog::{Catalog, LoadFault, Loaded, Loader};
 use vx_rows::{Broken, ByteIn};
 
@@ -56,7 +56,7 @@ fn load_text(
 }
 
 impl Tables for Bundle<'_> {
-    ghost use Rattle.vx_answer.specs.BundleView.{bundle_form};
+    ghost use Rattle.vx_bundle.specs.BundleView.{bundle_form};
     ghost use Rattle.vx_answer.specs.Texts.{holds_in, lacks_in};
 
     ghost holds = { λ b. holds_in (bundle_form b).tables };

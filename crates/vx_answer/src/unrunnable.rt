@@ -6,8 +6,8 @@ ghost use Rattle.vx_document.specs.Fault.{Gives, Reads};
 ghost use Rattle.vx_document.specs.PlanView.{document_of};
 ghost use Rattle.vx_answer.specs.Unrunnable.{first_unrunnable, taken_by};
 
-use crate::command::Command;
 use std::alloc::{AllocError, Global};
+use vx_bundle::Command;
 use vx_document::{NamedKind, NamedUnary, Node};
 use vx_plan::{Plan, PlanFault};
 

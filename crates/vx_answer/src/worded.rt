@@ -9,16 +9,16 @@ ghost use Rattle.vx_answer.specs.Worded.{default_setting, IsTask, IsNoTask, IsDo
 ghost use Rattle.vx_answer.specs.WordsView.{task_is, IsWrong, IsFault, IsNotAnswered, IsNotTaken};
 
 use crate::answering::outcome_of;
-use crate::command::{Command, carried_out};
+use crate::command::carried_out;
 use crate::folder::Folder;
 use crate::given::setting_in;
 use crate::refusal::Refusal;
-use crate::setting::{MORSEL, Mode, PACKET, SLACK, Setting};
 use crate::sources::planned_in;
 use crate::store::Store;
 use clap::Error;
 use clap::error::ErrorKind;
 use std::alloc::{AllocError, Global};
+use vx_bundle::{Command, MORSEL, Mode, PACKET, SLACK, Setting};
 use vx_rows::ByteIn;
 use vx_words::{Asked, Limits, Sources, asked_for};
 

@@ -1,17 +1,16 @@
 //! All work that a bundle asks for, over values: no byte is read or written here.
 
 ghost use Rattle.std.specs.Prelude.{◌≡◌, IfOk, IfErr};
-ghost use Rattle.vx_answer.specs.BundleView.{bundle_form};
+ghost use Rattle.vx_bundle.specs.BundleView.{bundle_form};
 ghost use Rattle.vx_document.specs.Fault.{Gives};
 ghost use Rattle.vx_plan.specs.TypedView.{resolved_of};
 ghost use Rattle.vx_answer.specs.Answer.{plan_for, IsPlanned, Unplanned, is_taken, IsOutput, Refuses, IsAnswer, IsRefused};
 
-use crate::bundle::{Bundle, bundle_in, value_of_text};
-use crate::command::{Command, carried_out};
+use crate::command::carried_out;
 use crate::refusal::Refusal;
-use crate::setting::Mode;
 use crate::unrunnable::test_taken;
 use std::alloc::Global;
+use vx_bundle::{Bundle, Command, Mode, bundle_in, value_of_text};
 use vx_catalog::Catalog;
 use vx_plan::{Plan, PlanFault, TypedPlan, resolve};
 

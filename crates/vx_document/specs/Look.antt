@@ -1,8 +1,9 @@
--- Looking into a JSON value: names and texts in members, constants, lists of values of one form, and members that may be left out.
+-- Looking into a JSON value: names and texts in members, constants, and lists of values of one form.
 use Rattle.std.specs.Prelude.{ℕ, List, [], ◌∷◌, Bool, true, false, Option, Some, None, option_map, option_and_then, if◌then◌else◌}
 use Rattle.serde_json.specs.Data.{Data}
 use Rattle.serde_json.specs.Find.{get, as_str, as_number, as_i64}
 use Rattle.vx_json.specs.Look.{as_list, some_entry, name_in, each_onto}
+pub use Rattle.vx_json.specs.Look.{or_default}
 use Rattle.vx_rows.specs.Values.{Val, num, text}
 use Rattle.vx_rows.specs.Types.{is_held}
 
@@ -37,8 +38,3 @@ each_in f d = option_and_then (each_onto f []) (as_list d)
 -- a list of values of a form with an entry
 abbrev pub some_in : {A : Type 0} → (Data → Option A) → Data → Option (List A)
 some_in f d = option_and_then (each_onto f []) (option_and_then some_entry (as_list d))
-
--- a member that may be left out
-abbrev pub or_default : {A : Type 0} → A → (Data → Option A) → Option Data → Option A
-or_default x f None = Some x
-or_default x f (Some d) = f d

@@ -1,4 +1,4 @@
--- Looking into a JSON value: the items of an array, objects with no members but the stated ones, names, and lists of values of one form.
+-- Looking into a JSON value: the items of an array, objects with no members but the stated ones, names, lists of values of one form, and members that may be left out.
 use Rattle.std.specs.Prelude.{◌≡◌, ℕ, List, [], ◌∷◌, ◌++◌, Bool, false, Option, Some, None, option_map, option_and_then, bytes_eq, Result, IfOk}
 use Rattle.std.specs.List.{list_all, list_any}
 use Rattle.serde_json.specs.Data.{Data, null, boolean, number, string, array, object, Items, no_items, item, Members, no_members, member}
@@ -47,3 +47,8 @@ name_in d = option_and_then some_entry (as_str d)
 unfoldable pub each_onto : {A : Type 0} → (Data → Option A) → List A → List Data → Option (List A)
 each_onto f front [] = Some front
 each_onto f front (d ∷ ds) = option_and_then (λ x. each_onto f (front ++ x ∷ []) ds) (f d)
+
+-- a member that may be left out
+abbrev pub or_default : {A : Type 0} → A → (Data → Option A) → Option Data → Option A
+or_default x f None = Some x
+or_default x f (Some d) = f d

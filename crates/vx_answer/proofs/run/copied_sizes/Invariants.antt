@@ -1,5 +1,5 @@
 use Rattle.std.proofs.Common.{◌≡◌, map, take}
-use Rattle.vx_answer.specs.Setting.{size_form}
+use Rattle.vx_bundle.specs.Setting.{size_form}
 use Rattle.vx_answer.proofs.run.copied_sizes.Given as goal
 
 abbrev pub invariant-loop-name : goal.invariant-loop-name

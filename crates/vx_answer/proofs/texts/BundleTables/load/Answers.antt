@@ -1,6 +1,6 @@
 use Rattle.std.proofs.Common.{rules, ◌≡◌, refl}
 use Rattle.vx_catalog.specs.Catalog.{relation_at}
-use Rattle.vx_answer.specs.BundleView.{bundle_form}
+use Rattle.vx_bundle.specs.BundleView.{bundle_form}
 use Rattle.vx_answer.specs.Texts.{for_no_text, for_bad_text}
 use Rattle.vx_answer.proofs.MissingFacts.{no_text_found, bad_text_found}
 use Rattle.vx_answer.proofs.texts.BundleTables.load.Goals as goal

@@ -1,7 +1,7 @@
 //! How a run is set up.
 
 ghost use Rattle.std.specs.Prelude.{◌≡◌, map};
-ghost use Rattle.vx_answer.specs.Setting.{size_form};
+ghost use Rattle.vx_bundle.specs.Setting.{size_form};
 
 use std::marker::Model;
 
@@ -35,7 +35,7 @@ pub struct Setting {
 
 impl Model for Setting {
     ghost use Rattle.std.specs.Prelude.{map};
-    ghost use Rattle.vx_answer.specs.Setting.{Setting, size_form};
+    ghost use Rattle.vx_bundle.specs.Setting.{Setting, size_form};
 
     ghost Value = { Setting };
 

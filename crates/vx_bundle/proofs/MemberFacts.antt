@@ -4,8 +4,8 @@ use Rattle.std.specs.List.{find}
 use Rattle.serde_json.specs.Data.{Data}
 use Rattle.serde_json.specs.View.{view, members_view}
 use Rattle.serde_json.specs.declared.value.Value.{Value}
-use Rattle.vx_answer.specs.Setting.{Named}
-use Rattle.vx_answer.specs.Bundle.{each_member}
+use Rattle.vx_bundle.specs.Setting.{Named}
+use Rattle.vx_bundle.specs.Bundle.{each_member}
 
 abbrev pub Entry : Type 0
 Entry = String Global × Value

@@ -4,7 +4,7 @@ use Rattle.std.specs.Str.{IsUtf8, is_utf8}
 use Rattle.std.proofs.lemmas.Str.{IsUtf8-from_is_utf8, is_utf8-from_IsUtf8}
 use Rattle.serde_json.specs.Data.{Data}
 use Rattle.serde_json.specs.Read.{read}
-use Rattle.vx_answer.specs.Bundle.{value_of_text}
+use Rattle.vx_bundle.specs.Bundle.{value_of_text}
 
 pub text_is : (bytes : List ℕ) (d : Data) → IsUtf8 bytes → read bytes ≡ Some d → Some d ≡ value_of_text bytes
 text_is bytes d u r = let t : is_utf8 bytes ≡ true = is_utf8-from_IsUtf8 bytes u in rw (t, r) refl

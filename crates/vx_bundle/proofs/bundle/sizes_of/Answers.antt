@@ -1,9 +1,9 @@
 use Rattle.std.proofs.Common.{◌≡◌, ◌∙◌, ℕ, List, ap, map, string_bytes}
 use Rattle.std.proofs.lemmas.List.{map_push}
-use Rattle.vx_answer.specs.Setting.{size_form}
-use Rattle.vx_answer.specs.Bundle.{number_in}
-use Rattle.vx_answer.proofs.MemberFacts.{member_more, member_none, member_done}
-use Rattle.vx_answer.proofs.bundle.sizes_of.Goals as goal
+use Rattle.vx_bundle.specs.Setting.{size_form}
+use Rattle.vx_bundle.specs.Bundle.{number_in}
+use Rattle.vx_bundle.proofs.MemberFacts.{member_more, member_none, member_done}
+use Rattle.vx_bundle.proofs.bundle.sizes_of.Goals as goal
 
 pub returns-in_default : goal.returns-in_default
 returns-in_default c =

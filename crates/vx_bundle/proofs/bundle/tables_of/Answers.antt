@@ -1,9 +1,9 @@
 use Rattle.std.proofs.Common.{map}
 use Rattle.std.proofs.lemmas.List.{map_push}
 use Rattle.serde_json.specs.Find.{as_str}
-use Rattle.vx_answer.specs.BundleView.{table_form}
-use Rattle.vx_answer.proofs.MemberFacts.{member_more, member_none, member_done}
-use Rattle.vx_answer.proofs.bundle.tables_of.Goals as goal
+use Rattle.vx_bundle.specs.BundleView.{table_form}
+use Rattle.vx_bundle.proofs.MemberFacts.{member_more, member_none, member_done}
+use Rattle.vx_bundle.proofs.bundle.tables_of.Goals as goal
 
 pub returns-in_default : goal.returns-in_default
 returns-in_default c =

@@ -1,9 +1,9 @@
 -- A bundle that was read, as its text says it.
 use Rattle.std.specs.Prelude.{ℕ, List, map}
 use Rattle.serde_json.specs.View.{view}
-use Rattle.vx_answer.specs.declared.bundle.Bundle as held
-use Rattle.vx_answer.specs.declared.bundle.Table.{Table}
-use Rattle.vx_answer.specs.Bundle.{Bundle, bundle_of}
+use Rattle.vx_bundle.specs.declared.bundle.Bundle as held
+use Rattle.vx_bundle.specs.declared.bundle.Table.{Table}
+use Rattle.vx_bundle.specs.Bundle.{Bundle, bundle_of}
 
 -- a relation's name and text
 abbrev pub table_form : Table → List ℕ × List ℕ

@@ -4,13 +4,12 @@ use Rattle.std.specs.Str.{is_utf8}
 use Rattle.serde_json.specs.Data.{Data, Members, no_members, member}
 use Rattle.serde_json.specs.Find.{get, as_str, as_object, as_number, as_u64}
 use Rattle.serde_json.specs.Read.{read}
-use Rattle.vx_json.specs.Look.{has_only}
-use Rattle.vx_document.specs.Look.{or_default}
-use Rattle.vx_answer.specs.declared.command.Command.{Command}
-use Rattle.vx_answer.specs.declared.command.Command.TheVariants as command
-use Rattle.vx_answer.specs.declared.setting.Mode.{Mode}
-use Rattle.vx_answer.specs.declared.setting.Mode.TheVariants as mode
-use Rattle.vx_answer.specs.Setting.{Named, Setting}
+use Rattle.vx_json.specs.Look.{has_only, or_default}
+use Rattle.vx_bundle.specs.declared.command.Command.{Command}
+use Rattle.vx_bundle.specs.declared.command.Command.TheVariants as command
+use Rattle.vx_bundle.specs.declared.setting.Mode.{Mode}
+use Rattle.vx_bundle.specs.declared.setting.Mode.TheVariants as mode
+use Rattle.vx_bundle.specs.Setting.{Named, Setting}
 
 -- what one run of the program is asked to do
 pub record Bundle : Type 0 where

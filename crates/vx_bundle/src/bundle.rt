@@ -4,11 +4,10 @@ ghost use Rattle.std.specs.Prelude.{◌≡◌, [], map, string_bytes, codes, opt
 ghost use Rattle.std.specs.List.{find};
 ghost use Rattle.serde_json.specs.Find.{get, as_str};
 ghost use Rattle.serde_json.specs.View.{view, members_view};
-ghost use Rattle.vx_document.specs.Look.{or_default};
-ghost use Rattle.vx_document.specs.Fault.{Reads};
-ghost use Rattle.vx_answer.specs.Setting.{size_form};
-ghost use Rattle.vx_answer.specs.Bundle.{command_in, mode_in, number_in, each_member, members_in, setting_in, bundle_in, value_of_text};
-ghost use Rattle.vx_answer.specs.BundleView.{table_form, bundle_form};
+ghost use Rattle.vx_json.specs.Look.{Reads, or_default};
+ghost use Rattle.vx_bundle.specs.Setting.{size_form};
+ghost use Rattle.vx_bundle.specs.Bundle.{command_in, mode_in, number_in, each_member, members_in, setting_in, bundle_in, value_of_text};
+ghost use Rattle.vx_bundle.specs.BundleView.{table_form, bundle_form};
 
 use crate::command::Command;
 use crate::setting::{MORSEL, Mode, PACKET, SLACK, Setting};

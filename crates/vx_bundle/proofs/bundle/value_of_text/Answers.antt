@@ -1,6 +1,6 @@
 use Rattle.std.proofs.Common.{rules}
-use Rattle.vx_answer.proofs.TextFacts.{text_is, no_text}
-use Rattle.vx_answer.proofs.bundle.value_of_text.Goals as goal
+use Rattle.vx_bundle.proofs.TextFacts.{text_is, no_text}
+use Rattle.vx_bundle.proofs.bundle.value_of_text.Goals as goal
 
 pub returns-in-Ok : goal.returns-in-Ok
 returns-in-Ok c = text_is _ _ c.in-Ok.ensures.ok.0 c.in-Ok.ensures.ok.1

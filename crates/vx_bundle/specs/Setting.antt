@@ -1,8 +1,7 @@
 -- How a run is set up.
 use Rattle.std.specs.Prelude.{ℕ, List, String, string_bytes}
 use Rattle.std.specs.declared.alloc.Global.{Global}
-use Rattle.vx_exec.specs.Setup.{SetupForm}
-use Rattle.vx_answer.specs.declared.setting.Mode.{Mode}
+use Rattle.vx_bundle.specs.declared.setting.Mode.{Mode}
 
 -- names, each with what is said of it
 abbrev pub Named : Type 0 → Type 0
@@ -18,7 +17,3 @@ pub record Setting : Type 0 where
   pub morsel : ℕ
   pub slack : ℕ
   pub mode : Mode
-
--- what a run is told of it
-abbrev pub setup_of : Setting → SetupForm
-setup_of s = record { sizes = s.sizes; packet = s.packet; morsel = s.morsel; slack = s.slack }

@@ -1,6 +1,6 @@
 use Rattle.std.proofs.Common.{ap, ◌∙◌, option_map}
-use Rattle.vx_answer.proofs.MemberFacts.{table_text}
-use Rattle.vx_answer.proofs.bundle.Bundle.table.Goals as goal
+use Rattle.vx_bundle.proofs.MemberFacts.{table_text}
+use Rattle.vx_bundle.proofs.bundle.Bundle.table.Goals as goal
 
 pub returns-in-Some : goal.returns-in-Some
 returns-in-Some c =

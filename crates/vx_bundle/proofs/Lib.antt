@@ -1,0 +1,2 @@
+pub mod MemberFacts
+pub mod TextFacts

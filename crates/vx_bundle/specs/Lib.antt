@@ -1,0 +1,3 @@
+pub mod Setting
+pub mod Bundle
+pub mod BundleView
