@@ -7,7 +7,8 @@ ghost use Rattle.vx_catalog.specs.Naming.{Gives, name_once, names_of, column_of,
 
 use crate::fault::CatalogFault;
 use crate::form::{ColumnText, RelationText};
-use crate::relation::{Relation, find_name, has_name};
+use crate::names::{find_name, has_name};
+use crate::relation::Relation;
 use std::alloc::{AllocError, Global};
 use vx_rows::ColType;
 

@@ -1,38 +1,12 @@
 //! What a catalog declares of one relation.
 
 ghost use Rattle.std.specs.Prelude.{◌≡◌, ◌↔◌, ◌<◌, [], map, length, position, bytes_eq, string_bytes, slice_index_or, IfOk, IsTrue};
-ghost use Rattle.std.specs.List.{list_any};
 ghost use Rattle.vx_rows.specs.Types.{type_at};
 
+use crate::names::find_name;
 use std::alloc::{AllocError, Global};
 use std::marker::Model;
 use vx_rows::ColType;
-
-fn position_of(names: &[String], name: &str) -> Option<usize>
-    ensures { result ≡ position (λ n. bytes_eq name.now (string_bytes n)) names.now }
-{
-    names.iter().position(|n| name == n.as_str())
-}
-
-/// The number of the first name that is this one.
-pub fn find_name(names: &[String], name: &str) -> Option<usize>
-    ensures { result ≡ position (bytes_eq name.now) (map string_bytes names.now) }
-{
-    position_of(names, name)
-}
-
-fn is_any(names: &[String], name: &str) -> bool
-    ensures { result ≡ list_any (λ n. bytes_eq (string_bytes n) name.now) names.now }
-{
-    names.iter().any(|n| n.as_str() == name)
-}
-
-/// Whether a name is one of these.
-pub fn has_name(names: &[String], name: &str) -> bool
-    ensures { result ≡ list_any (λ n. bytes_eq n name.now) (map string_bytes names.now) }
-{
-    is_any(names, name)
-}
 
 // Whether these are the same names in the same order.
 fn are_same_names(names: &[String], others: &[String]) -> bool

@@ -10,7 +10,6 @@ ghost use Rattle.vx_check.specs.PlanText.{plan_text};
 
 use crate::checked::CheckedPlan;
 use crate::describe::{push_binary, push_exchange, push_scan, push_unary};
-use crate::nodes::group_size;
 use crate::words::{push_claim, push_size};
 use itoa::Buffer;
 use std::alloc::{AllocError, Global};
@@ -71,7 +70,7 @@ fn push_notes(text: &mut String, plan: &TypedPlan, node: &TypedNode) -> Result<(
     ensures { OnOk result (string_bytes text.new ≡ string_bytes text.old ++ (codes " size=" ++ (size_text (names_in plan.now) (size (plan_of node.now)) ++ (claim_text (names_in plan.now) (columns (outline_of node.now)).names (top (outline_of node.now)).claim ++ codes "\n")))) }
 {
     text.push_str(" size=")?;
-    push_size(text, plan, group_size(node))?;
+    push_size(text, plan, node.size())?;
     push_claim(text, plan, column_names(node), &node.head().claim)?;
     text.push_str("\n")
 }

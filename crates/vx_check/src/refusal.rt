@@ -10,7 +10,7 @@ ghost use Rattle.vx_check.specs.Narrow.{narrow};
 
 use crate::inputs::{do_inputs_match, do_sizes_match, is_not_replicated};
 use crate::keys::are_keys_shown;
-use crate::nodes::{has_one_worker, head_of};
+use crate::nodes::has_one_worker;
 use crate::orders::{is_order_given, is_order_shown, is_order_total};
 use crate::rule::Rule;
 use crate::shown::is_part_shown;
@@ -65,7 +65,7 @@ fn refused_here(catalog: &Catalog, node: &TypedNode) -> Option<(u32, Rule)>
     requires { narrow (relation_at catalog.now) (plan_of node.now) ≡ true }
     ensures { option_map refusal_of result ≡ refused_at (number (plan_of node.now)) (node_tests (relation_at catalog.now) (plan_of node.now)) }
 {
-    failure_at(catalog, node).map(|rule| (head_of(node).number, rule))
+    failure_at(catalog, node).map(|rule| (node.head().number, rule))
 }
 
 // What was refused below, or else the node with the first of its tests that fails.
@@ -111,7 +111,7 @@ fn refused_root(catalog: &Catalog, is_total: bool, root: &TypedNode) -> Option<(
     requires { narrow (relation_at catalog.now) (plan_of root.now) ≡ true }
     ensures { option_map refusal_of result ≡ refused_at (number (plan_of root.now)) (root_tests (relation_at catalog.now) is_total (plan_of root.now)) }
 {
-    root_failure(catalog, is_total, root).map(|rule| (head_of(root).number, rule))
+    root_failure(catalog, is_total, root).map(|rule| (root.head().number, rule))
 }
 
 /// What refuses the plan: a node and a rule. The root's own tests are the last.

@@ -24,7 +24,7 @@ ghost use Rattle.vx_exec.specs.Job.{setting_of, types_at};
 ghost use Rattle.vx_exec.specs.LeafTypes.{LeavesFit};
 ghost use Rattle.vx_exec.specs.Crew.{duty, IsNew};
 
-use crate::job::{Job, size_of_node};
+use crate::job::Job;
 use crate::worker::{producer, root_worker};
 use std::alloc::{AllocError, Global};
 use vx_plan::{Scan, TypedNode};
@@ -103,7 +103,7 @@ impl Crew {
             → AddsTeam (setting_of hash job.now) exchange gather (plan_of node.now) (workers (group_at job.now.groups.items) (size (plan_of node.now))) (made_of self.old) (made_of self.new)) }
         ensures new { OnOk result (All (IsNew job.now) self.old.workers.items → All (IsNew job.now) self.new.workers.items) }
     {
-        for place in 0..job.workers(size_of_node(node)) {
+        for place in 0..job.workers(node.size()) {
             self.add_producer(alloc, job, exchange, node, place)?;
         }
         Ok(())

@@ -11,7 +11,7 @@ ghost use Rattle.vx_exec.specs.Sizes.{can_run};
 ghost use Rattle.vx_exec.specs.Crew.{IsTreeOf};
 ghost use Rattle.vx_exec.specs.declared.job.Job.{Job};
 
-use crate::job::{Job, size_of_node};
+use crate::job::Job;
 use std::alloc::{AllocError, Global};
 use vx_exchange::Receiver;
 use vx_ops::{Scan, Select};
@@ -88,7 +88,7 @@ pub fn tree_of(
         TypedNode::Exchange(head, _, input) => {
             let types = types_of(alloc, job, input)?;
             let own = Vec::from_slice(alloc, types.as_slice())?;
-            let producers = job.workers(size_of_node(input));
+            let producers = job.workers(input.size());
             let receiver = Receiver::new(alloc, head.number, place, producers, own)?;
             return Ok((Tree::Leaf(head.number, Operator::Receiver(receiver)), types));
         }

@@ -6,7 +6,6 @@ ghost use Rattle.vx_catalog.specs.Relation.{Relation};
 ghost use Rattle.vx_catalog.specs.Database.{rows_at, MeetsAll};
 ghost use Rattle.vx_plan.specs.Numbering.{relation_in};
 ghost use Rattle.vx_plan.specs.Outline.{size_of, plan_of};
-ghost use Rattle.vx_plan.specs.Plan.{size};
 ghost use Rattle.vx_plan.specs.Streams.{workers};
 ghost use Rattle.vx_plan.specs.Typed.{Scope, typed};
 ghost use Rattle.vx_plan.specs.TypedView.{scope, plan as whole_plan};
@@ -18,7 +17,7 @@ ghost use Rattle.vx_exec.specs.LeafTypes.{leaf_types};
 
 use std::alloc::{AllocError, Global};
 use vx_catalog::{Catalog, Database};
-use vx_plan::{Kind, Size, TypedNode, TypedPlan};
+use vx_plan::{Size, TypedNode, TypedPlan};
 use vx_rows::{ColType, Rows};
 use vx_worker::Morsels;
 
@@ -36,23 +35,6 @@ pub struct Job<'j> {
     ghost named: { length groups.items ≡ (scope plan.now).sizes },
     ghost within: { AreWithin (record { groups = groups.items; packet = packet; morsel = morsel }) },
     ghost few_workers: { crew_size (group_at groups.items) (whole_plan plan.now) ≤ 256 },
-}
-
-/// The size of the group that works on a node.
-pub fn size_of_node(node: &TypedNode) -> Size
-    ensures { size_of result ≡ size (plan_of node.now) }
-{
-    match node {
-        TypedNode::Scan(_, scan) => scan.size,
-        TypedNode::Unary(_, _, input) => size_of_node(input),
-        TypedNode::Binary(_, _, left, _) => size_of_node(left),
-        TypedNode::Exchange(_, exchange, _) => match &exchange.kind {
-            Kind::Route(size, _, _) => *size,
-            Kind::Round(size) => *size,
-            Kind::Broadcast(size) => *size,
-            Kind::Gather => Size::One,
-        },
-    }
 }
 
 /// How many workers a size has, where the groups of each size name have so many, by its number.

@@ -13,7 +13,7 @@ ghost use Rattle.vx_exec.specs.Setup.{entry_of, number_of, workers_named, groups
 ghost use Rattle.vx_exec.specs.Runs.{IsSetUp, RunFails};
 
 use crate::fault::RunFault;
-use crate::job::{Job, size_of_node, workers_of};
+use crate::job::{Job, workers_of};
 use std::alloc::{AllocError, Global};
 use std::marker::Model;
 use vx_catalog::Database;
@@ -183,7 +183,7 @@ fn workers_below(groups: &[u32], node: &TypedNode) -> u32
             workers_below(groups, left) + workers_below(groups, right)
         }
         TypedNode::Exchange(_, _, input) => {
-            workers_of(groups, size_of_node(input)) + workers_below(groups, input)
+            workers_of(groups, input.size()) + workers_below(groups, input)
         }
     }
 }

@@ -22,7 +22,7 @@ ghost use Rattle.vx_exec.specs.Inputs.{inputs_of};
 ghost use Rattle.vx_exec.specs.Crew.{duty, IsNew};
 
 use crate::fragment::tree_of;
-use crate::job::{Job, size_of_node};
+use crate::job::Job;
 use std::alloc::{AllocError, Global};
 use vx_exchange::{Gather, Kept};
 use vx_plan::TypedNode;
@@ -54,7 +54,7 @@ fn add_inputs(inputs: &mut Vec<Input>, job: &Job<'_>, node: &TypedNode) -> Resul
             return add_inputs(inputs, job, right);
         }
         TypedNode::Exchange(head, _, input) => {
-            let count = job.workers(size_of_node(input));
+            let count = job.workers(input.size());
             return add_producers(inputs, head.number, count);
         }
     }

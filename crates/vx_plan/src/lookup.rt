@@ -11,7 +11,7 @@ ghost use Rattle.vx_plan.specs.Named.{names_of};
 
 use crate::typed::Size;
 use std::alloc::{AllocError, Global};
-use vx_catalog::Catalog;
+use vx_catalog::{Catalog, find_name};
 use vx_document::{NamedRange, PlanFault};
 use vx_rows::Value;
 
@@ -21,19 +21,6 @@ pub struct Declared<'a> {
     pub catalog: &'a Catalog,
     pub ranges: &'a [NamedRange],
     pub sizes: &'a [String],
-}
-
-fn position_of(names: &[String], name: &str) -> Option<usize>
-    ensures { result ≡ position (λ n. bytes_eq name.now (string_bytes n)) names.now }
-{
-    names.iter().position(|n| name == n.as_str())
-}
-
-/// The position of the first name that is this one.
-pub fn find_name(names: &[String], name: &str) -> Option<usize>
-    ensures { result ≡ position (bytes_eq name.now) (map string_bytes names.now) }
-{
-    position_of(names, name)
 }
 
 fn is_any(names: &[String], name: &str) -> bool

@@ -1,7 +1,8 @@
 //! Nodes over a catalog: columns by position, nodes by number.
 
 ghost use Rattle.std.specs.Prelude.{◌≡◌};
-ghost use Rattle.vx_plan.specs.Outline.{outline_of, top_of, top};
+ghost use Rattle.vx_plan.specs.Outline.{outline_of, plan_of, top_of, claim_of, kind_of, size_of, top};
+ghost use Rattle.vx_plan.specs.Plan.{claim, number, size, target};
 
 use vx_document::Test;
 use vx_rows::{ColType, Value};
@@ -208,6 +209,20 @@ pub enum Kind {
     Gather,
 }
 
+impl Kind {
+    /// The size of the group of consumers.
+    pub fn target(&self) -> Size
+        ensures { size_of result ≡ target (kind_of self.now) }
+    {
+        match self {
+            Kind::Route(size, _, _) => *size,
+            Kind::Round(size) => *size,
+            Kind::Broadcast(size) => *size,
+            Kind::Gather => Size::One,
+        }
+    }
+}
+
 /// An exchange. It merges on these columns, if there are any.
 #[derive(Debug)]
 pub struct Exchange {
@@ -246,13 +261,27 @@ impl Drop for TypedNode {
 impl TypedNode {
     /// What every node has: its number, its claim and its output.
     pub fn head(&self) -> &Head
-        ensures { top_of result.now ≡ top (outline_of self.now) }
+        ensures top { top_of result.now ≡ top (outline_of self.now) }
+        ensures number { result.now.number ≡ number (plan_of self.now) }
+        ensures claim { claim_of result.now.claim ≡ claim (plan_of self.now) }
     {
         match self {
             TypedNode::Scan(head, _) => head,
             TypedNode::Unary(head, _, _) => head,
             TypedNode::Binary(head, _, _, _) => head,
             TypedNode::Exchange(head, _, _) => head,
+        }
+    }
+
+    /// The size of the group of workers that has the node's rows.
+    pub fn size(&self) -> Size
+        ensures { size_of result ≡ size (plan_of self.now) }
+    {
+        match self {
+            TypedNode::Scan(_, scan) => scan.size,
+            TypedNode::Unary(_, _, input) => input.size(),
+            TypedNode::Binary(_, _, left, _) => left.size(),
+            TypedNode::Exchange(_, exchange, _) => exchange.kind.target(),
         }
     }
 }

@@ -30,6 +30,6 @@ returns-clause-added c = λ hash.
     subst (λ z. AddsTeam (setting_of hash c.args.job.now) c.args.exchange gather (plan_of c.args.node.now) z (made_of c.args.self.now) (made_of c.loop-place.self))
     (let f : c.loop-place.place ≡ workers (group_at c.args.job.now.groups.items) (size (plan_of c.args.node.now)) =
     let e : c.loop-place.place ≡ c.workers-place-end.result = omega (arith, c.loop-place.auto.place-end, c.loop-place-test.false) in
-    e ∙ c.workers-place-end.ensures.value ∙ ap (λ z. workers (group_at c.args.job.now.groups.items) z) c.size_of_node.ensures
+    e ∙ c.workers-place-end.ensures.value ∙ ap (λ z. workers (group_at c.args.job.now.groups.items) z) c.size.ensures
     in f)
     (c.loop-place.invariant.added hash)
