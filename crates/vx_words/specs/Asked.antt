@@ -39,13 +39,10 @@ run_app =
 abbrev pub program_app : App
 program_app = on_top (λ s. record s { has_version = true }) (new_app (codes "volcano"))
 
--- the program with the commands that read tables
-abbrev pub tables_app : App
-tables_app = with_subcommand (with_subcommand program_app run_app.top) serial_app.top
-
 -- the program
 abbrev pub volcano_app : App
-volcano_app = with_subcommand (with_subcommand tables_app (judging_app (codes "check")).top) (judging_app (codes "explain")).top
+volcano_app =
+    with_subcommand (with_subcommand (with_subcommand (with_subcommand program_app run_app.top) serial_app.top) (judging_app (codes "check")).top) (judging_app (codes "explain")).top
 
 -- the paths of a catalog and of a plan
 pub record Paths : Type 0 where

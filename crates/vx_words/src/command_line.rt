@@ -1,10 +1,9 @@
 //! The commands of the program and their options, with the help that they show.
 
-ghost use Rattle.std.specs.Prelude.{◌≡◌, IfOk, Ok, false, codes};
-ghost use Rattle.clap.specs.Words.{app_of, rule_of, with_subcommand};
-ghost use Rattle.clap.specs.declared.builder.command.Command.{Command};
+ghost use Rattle.std.specs.Prelude.{◌≡◌, IfOk, false, codes};
+ghost use Rattle.clap.specs.Words.{app_of, rule_of};
 ghost use Rattle.clap.specs.declared.builder.command.Command.TheViews.{out-Command as fields_of};
-ghost use Rattle.vx_words.specs.Asked.{path_rule, number_rule, sizes_rule, judging_app, serial_app, run_app, program_app, tables_app, volcano_app};
+ghost use Rattle.vx_words.specs.Asked.{path_rule, number_rule, sizes_rule, judging_app, serial_app, run_app, program_app, volcano_app};
 
 use clap::{Arg, Command, value_parser};
 use std::alloc::{AllocError, Global};
@@ -180,28 +179,13 @@ fn program<'a>(alloc: Global) -> Command<'a>
         )
 }
 
-// A program with one more command, which was made if there was memory for it.
-fn with_command<'a>(
-    program: Command<'a>,
-    command: Result<Command<'a>, AllocError>,
-) -> Result<Command<'a>, AllocError>
-    ensures { IfOk result (λ p. (c : Command) × (command.entry ≡ Ok c) × ((fields_of c).has_globals ≡ false → app_of p ≡ with_subcommand (app_of program.entry) (app_of c).top)) }
-{
-    program.subcommand(command?)
-}
-
-// The program with the commands that read tables.
-fn with_tables<'a>(alloc: Global) -> Result<Command<'a>, AllocError>
-    ensures { IfOk result (λ c. app_of c ≡ tables_app) }
-{
-    let program = with_command(program(alloc), run(alloc))?;
-    with_command(program, serial(alloc))
-}
-
 /// The command line of the program.
 pub fn command<'a>(alloc: Global) -> Result<Command<'a>, AllocError>
     ensures { IfOk result (λ c. app_of c ≡ volcano_app) }
 {
-    let program = with_command(with_tables(alloc)?, check(alloc))?;
-    with_command(program, explain(alloc))
+    program(alloc)
+        .subcommand(run(alloc)?)?
+        .subcommand(serial(alloc)?)?
+        .subcommand(check(alloc)?)?
+        .subcommand(explain(alloc)?)
 }
