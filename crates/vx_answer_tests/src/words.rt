@@ -211,6 +211,19 @@ fn run_with<R: Threads + Wait + Sync + AllocGlobal>(
     line_for(rt, words.as_slice(), "")
 }
 
+// Words behind the paths of a run that are refused, and the line of each refusal.
+const SETTINGS: [(&[&str], &str); 6] = [
+    (&[], "|volcano: X1 SizeMissing name=many\n|3"),
+    (&["few=3"], "|volcano: X1 SizeMissing name=many\n|3"),
+    (&["many=65"], "|volcano: X2 SizeOutOfRange name=many\n|3"),
+    (&["--packet", "0", "many=3"], "|volcano: X3 BadPacket\n|3"),
+    (
+        &["--morsel", "1000001", "many=3"],
+        "|volcano: X4 BadMorsel\n|3",
+    ),
+    (&["--slack", "1025", "many=3"], "|volcano: X14 BadSlack\n|3"),
+];
+
 #[test]
 fn plans_are_run_over_folders(rt: HostRuntime) -> Result<(), Fail> {
     let line = run_with(&rt, "p.json", &["many=3"])?;
@@ -221,18 +234,7 @@ fn plans_are_run_over_folders(rt: HostRuntime) -> Result<(), Fail> {
         &["--packet", "1", "--morsel", "1", "--slack", "4", "many=3"],
     )?;
     assert_eq!(rt; line.as_str(), "id,k,v\n3,c,7\n1,b,7\n||0");
-    let cases: [(&[&str], &str); 6] = [
-        (&[], "|volcano: X1 SizeMissing name=many\n|3"),
-        (&["few=3"], "|volcano: X1 SizeMissing name=many\n|3"),
-        (&["many=65"], "|volcano: X2 SizeOutOfRange name=many\n|3"),
-        (&["--packet", "0", "many=3"], "|volcano: X3 BadPacket\n|3"),
-        (
-            &["--morsel", "1000001", "many=3"],
-            "|volcano: X4 BadMorsel\n|3",
-        ),
-        (&["--slack", "1025", "many=3"], "|volcano: X14 BadSlack\n|3"),
-    ];
-    for (more, line) in cases {
+    for (more, line) in SETTINGS {
         assert_eq!(rt; run_with(&rt, "p.json", more)?.as_str(), line);
     }
     Ok(())
@@ -272,16 +274,18 @@ fn a_plan_is_taken_before_it_is_resolved(rt: HostRuntime) -> Result<(), Fail> {
     Ok(())
 }
 
+// Words that are wrong.
+const WRONG: [&[&str]; 5] = [
+    &["walk"],
+    &["check"],
+    &["check", "--catalog", "c.json"],
+    &["serial", "--catalog", "c.json", "--plan", "p.json"],
+    &["check", "--catalog", "c.json", "--plan", "p.json", "more"],
+];
+
 #[test]
 fn wrong_words_are_told(rt: HostRuntime) -> Result<(), Fail> {
-    let cases: [&[&str]; 5] = [
-        &["walk"],
-        &["check"],
-        &["check", "--catalog", "c.json"],
-        &["serial", "--catalog", "c.json", "--plan", "p.json"],
-        &["check", "--catalog", "c.json", "--plan", "p.json", "more"],
-    ];
-    for words in cases {
+    for words in WRONG {
         let line = line_for(&rt, words, "")?;
         assert!(rt; line.as_str().starts_with("|error: "), "{line}");
         assert!(rt; line.as_str().ends_with("|2"), "{line}");
@@ -289,14 +293,16 @@ fn wrong_words_are_told(rt: HostRuntime) -> Result<(), Fail> {
     Ok(())
 }
 
+// Words that ask for help or the version, and how the answer begins.
+const HELP: [(&[&str], &str); 3] = [
+    (&["--help"], "Runs query plans in parallel"),
+    (&["check", "--help"], "Says whether every note"),
+    (&["--version"], "volcano 0.1.0\n"),
+];
+
 #[test]
 fn help_is_an_answer(rt: HostRuntime) -> Result<(), Fail> {
-    let cases: [(&[&str], &str); 3] = [
-        (&["--help"], "Runs query plans in parallel"),
-        (&["check", "--help"], "Says whether every note"),
-        (&["--version"], "volcano 0.1.0\n"),
-    ];
-    for (words, front) in cases {
+    for (words, front) in HELP {
         let line = line_for(&rt, words, "")?;
         assert!(rt; line.as_str().starts_with(front), "{line}");
         assert!(rt; line.as_str().ends_with("||0"), "{line}");

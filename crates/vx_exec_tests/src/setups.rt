@@ -55,52 +55,56 @@ fn line(
     }
 }
 
+// Numbers for size names, and what comes of them.
+const SIZES: [(&[(&str, u32)], &str); 9] = [
+    (&[], "X1 SizeMissing name=few"),
+    (&[("many", 1)], "X1 SizeMissing name=few"),
+    (&[("few", 1)], "X1 SizeMissing name=many"),
+    // A name without a number comes before an earlier one whose number is wrong.
+    (&[("few", 0)], "X1 SizeMissing name=many"),
+    (&[("many", 0), ("few", 65)], "X2 SizeOutOfRange name=few"),
+    // The first entry of a name counts.
+    (
+        &[("few", 1), ("many", 0), ("many", 1)],
+        "X2 SizeOutOfRange name=many",
+    ),
+    (&[("few", 1), ("many", 1), ("many", 0)], "ok"),
+    (&[("many", 64), ("few", 1)], "ok"),
+    // Names that the plan does not declare are ignored.
+    (&[("none", 0), ("few", 64), ("many", 1)], "ok"),
+];
+
 #[test]
 fn size_names_have_numbers(rt: HostRuntime) -> Result<(), Fail> {
-    let cases: [(&[(&str, u32)], &str); 9] = [
-        (&[], "X1 SizeMissing name=few"),
-        (&[("many", 1)], "X1 SizeMissing name=few"),
-        (&[("few", 1)], "X1 SizeMissing name=many"),
-        // A name without a number comes before an earlier one whose number is wrong.
-        (&[("few", 0)], "X1 SizeMissing name=many"),
-        (&[("many", 0), ("few", 65)], "X2 SizeOutOfRange name=few"),
-        // The first entry of a name counts.
-        (
-            &[("few", 1), ("many", 0), ("many", 1)],
-            "X2 SizeOutOfRange name=many",
-        ),
-        (&[("few", 1), ("many", 1), ("many", 0)], "ok"),
-        (&[("many", 64), ("few", 1)], "ok"),
-        // Names that the plan does not declare are ignored.
-        (&[("none", 0), ("few", 64), ("many", 1)], "ok"),
-    ];
-    for (sizes, want) in cases {
+    for (sizes, want) in SIZES {
         let said = line(rt.alloc(), TWO_NAMES, CATALOG, sizes, [1, 1, 1])?;
         assert_eq!(rt; said.as_str(), want);
     }
     Ok(())
 }
 
+// Workers, packet, morsel and slack, and what comes of them.
+const LIMITS: [(u32, u32, u32, u32, &str); 14] = [
+    (1, 1, 1, 1, "ok"),
+    (64, 4096, 1_000_000, 1024, "ok"),
+    (0, 1, 1, 1, "X2 SizeOutOfRange name=many"),
+    (65, 1, 1, 1, "X2 SizeOutOfRange name=many"),
+    (1, 0, 1, 1, "X3 BadPacket"),
+    (1, 4097, 1, 1, "X3 BadPacket"),
+    (1, 1, 0, 1, "X4 BadMorsel"),
+    (1, 1, 1_000_001, 1, "X4 BadMorsel"),
+    (1, 1, 1, 0, "X14 BadSlack"),
+    (1, 1, 1, 1025, "X14 BadSlack"),
+    // Where several are wrong, the first in this order is answered.
+    (0, 0, 0, 0, "X2 SizeOutOfRange name=many"),
+    (1, 0, 0, 0, "X3 BadPacket"),
+    (1, 1, 0, 0, "X4 BadMorsel"),
+    (65, 1, 1, 0, "X2 SizeOutOfRange name=many"),
+];
+
 #[test]
 fn numbers_have_limits(rt: HostRuntime) -> Result<(), Fail> {
-    let cases = [
-        (1, 1, 1, 1, "ok"),
-        (64, 4096, 1_000_000, 1024, "ok"),
-        (0, 1, 1, 1, "X2 SizeOutOfRange name=many"),
-        (65, 1, 1, 1, "X2 SizeOutOfRange name=many"),
-        (1, 0, 1, 1, "X3 BadPacket"),
-        (1, 4097, 1, 1, "X3 BadPacket"),
-        (1, 1, 0, 1, "X4 BadMorsel"),
-        (1, 1, 1_000_001, 1, "X4 BadMorsel"),
-        (1, 1, 1, 0, "X14 BadSlack"),
-        (1, 1, 1, 1025, "X14 BadSlack"),
-        // Where several are wrong, the first in this order is answered.
-        (0, 0, 0, 0, "X2 SizeOutOfRange name=many"),
-        (1, 0, 0, 0, "X3 BadPacket"),
-        (1, 1, 0, 0, "X4 BadMorsel"),
-        (65, 1, 1, 0, "X2 SizeOutOfRange name=many"),
-    ];
-    for (many, packet, morsel, slack, want) in cases {
+    for (many, packet, morsel, slack, want) in LIMITS {
         let counts = [packet, morsel, slack];
         let said = line(rt.alloc(), GATHERED, CATALOG, &[("many", many)], counts)?;
         assert_eq!(rt; said.as_str(), want);

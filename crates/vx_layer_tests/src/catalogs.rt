@@ -21,49 +21,53 @@ fn a_catalog_may_have_no_relations(rt: HostRuntime) -> Result<(), Fail> {
     Ok(())
 }
 
+// Texts that are no catalogs by their form.
+const MISFORMED: [&str; 7] = [
+    r#"{"relations":[]"#,
+    r#"{"relations":[],"x":1}"#,
+    r#"{"relations":[{"name":"t","columns":[]}]}"#,
+    r#"{"relations":[{"name":"","columns":[{"name":"a","type":"int"}]}]}"#,
+    r#"{"relations":[{"name":"t","columns":[{"name":"a","type":"real"}]}]}"#,
+    r#"{"relations":[{"name":"t","columns":[{"name":"a","type":"int"}],"keys":[[]]}]}"#,
+    r#"{"relations":[{"name":"t","columns":[{"name":"a","type":"int"}],"order":null}]}"#,
+];
+
 #[test]
 fn texts_of_another_form_are_refused(rt: HostRuntime) -> Result<(), Fail> {
-    let texts = [
-        r#"{"relations":[]"#,
-        r#"{"relations":[],"x":1}"#,
-        r#"{"relations":[{"name":"t","columns":[]}]}"#,
-        r#"{"relations":[{"name":"","columns":[{"name":"a","type":"int"}]}]}"#,
-        r#"{"relations":[{"name":"t","columns":[{"name":"a","type":"real"}]}]}"#,
-        r#"{"relations":[{"name":"t","columns":[{"name":"a","type":"int"}],"keys":[[]]}]}"#,
-        r#"{"relations":[{"name":"t","columns":[{"name":"a","type":"int"}],"order":null}]}"#,
-    ];
-    for text in texts {
+    for text in MISFORMED {
         let got = told(rt.alloc(), text)?;
         assert_eq!(rt; got.as_str(), "C1 BadCatalog");
     }
     Ok(())
 }
 
+// Catalogs with a name that stands twice or nowhere, and what is told of each.
+const NAMED: [(&str, &str); 5] = [
+    (
+        r#"{"relations":[{"name":"t","columns":[{"name":"a","type":"int"},{"name":"a","type":"text"}]}]}"#,
+        "C2 DuplicateName name=a",
+    ),
+    (
+        r#"{"relations":[{"name":"t","columns":[{"name":"a","type":"int"}],"keys":[["a"],["a","a"]]}]}"#,
+        "C2 DuplicateName name=a",
+    ),
+    (
+        r#"{"relations":[{"name":"t","columns":[{"name":"a","type":"int"}],"order":["b","b"]}]}"#,
+        "C3 UnknownColumn name=b",
+    ),
+    (
+        r#"{"relations":[{"name":"t","columns":[{"name":"a","type":"int"}],"keys":[["z"]]},{"name":"t","columns":[{"name":"a","type":"int"}]}]}"#,
+        "C3 UnknownColumn name=z",
+    ),
+    (
+        r#"{"relations":[{"name":"t","columns":[{"name":"a","type":"int"}]},{"name":"t","columns":[{"name":"a","type":"int"}]}]}"#,
+        "C2 DuplicateName name=t",
+    ),
+];
+
 #[test]
 fn names_are_told_that_stand_twice_or_nowhere(rt: HostRuntime) -> Result<(), Fail> {
-    let cases: [(&str, &str); 5] = [
-        (
-            r#"{"relations":[{"name":"t","columns":[{"name":"a","type":"int"},{"name":"a","type":"text"}]}]}"#,
-            "C2 DuplicateName name=a",
-        ),
-        (
-            r#"{"relations":[{"name":"t","columns":[{"name":"a","type":"int"}],"keys":[["a"],["a","a"]]}]}"#,
-            "C2 DuplicateName name=a",
-        ),
-        (
-            r#"{"relations":[{"name":"t","columns":[{"name":"a","type":"int"}],"order":["b","b"]}]}"#,
-            "C3 UnknownColumn name=b",
-        ),
-        (
-            r#"{"relations":[{"name":"t","columns":[{"name":"a","type":"int"}],"keys":[["z"]]},{"name":"t","columns":[{"name":"a","type":"int"}]}]}"#,
-            "C3 UnknownColumn name=z",
-        ),
-        (
-            r#"{"relations":[{"name":"t","columns":[{"name":"a","type":"int"}]},{"name":"t","columns":[{"name":"a","type":"int"}]}]}"#,
-            "C2 DuplicateName name=t",
-        ),
-    ];
-    for (text, want) in cases {
+    for (text, want) in NAMED {
         let got = told(rt.alloc(), text)?;
         assert_eq!(rt; got.as_str(), want);
     }

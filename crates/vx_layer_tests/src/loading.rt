@@ -88,76 +88,82 @@ fn a_writer_that_is_full_is_told(rt: HostRuntime) -> Result<(), Fail> {
     Ok(())
 }
 
+// Texts, and what is written of their rows.
+const LOADED: [(&[u8], &str); 6] = [
+    (TEXT, "id,k,v\n0,a,5\n1,b,7\n2,a,-2\n3,c,7\n"),
+    (b"id,k,v\n", "id,k,v\n"),
+    (b"\xEF\xBB\xBFid,k,v\n0,a,1", "id,k,v\n0,a,1\n"),
+    (b"id,k,v\n0,\"a,b\",+5\n", "id,k,v\n0,\"a,b\",5\n"),
+    (
+        b"id,k,v\r\n0,\"a\nb\",007\r1,\"say \"\"x\"\"\",-0\n\n\r\n2,,9\n",
+        "id,k,v\n0,\"a\nb\",7\n1,\"say \"\"x\"\"\",0\n2,,9\n",
+    ),
+    (
+        b"id,k,v\n-9223372036854775808,a,9223372036854775807\n",
+        "id,k,v\n-9223372036854775808,a,9223372036854775807\n",
+    ),
+];
+
 #[test]
 fn texts_are_loaded_and_written(rt: HostRuntime) -> Result<(), Fail> {
-    let cases: [(&[u8], &str); 6] = [
-        (TEXT, "id,k,v\n0,a,5\n1,b,7\n2,a,-2\n3,c,7\n"),
-        (b"id,k,v\n", "id,k,v\n"),
-        (b"\xEF\xBB\xBFid,k,v\n0,a,1", "id,k,v\n0,a,1\n"),
-        (b"id,k,v\n0,\"a,b\",+5\n", "id,k,v\n0,\"a,b\",5\n"),
-        (
-            b"id,k,v\r\n0,\"a\nb\",007\r1,\"say \"\"x\"\"\",-0\n\n\r\n2,,9\n",
-            "id,k,v\n0,\"a\nb\",7\n1,\"say \"\"x\"\"\",0\n2,,9\n",
-        ),
-        (
-            b"id,k,v\n-9223372036854775808,a,9223372036854775807\n",
-            "id,k,v\n-9223372036854775808,a,9223372036854775807\n",
-        ),
-    ];
-    for (text, want) in cases {
+    for (text, want) in LOADED {
         let got = again(rt.alloc(), KEYED, text)?;
         assert_eq!(rt; got.as_str(), want);
     }
     Ok(())
 }
+
+// Texts that are refused, and the line of each refusal.
+const REFUSED: [(&[u8], &str); 10] = [
+    (b"", "C4 HeaderMismatch"),
+    (b"id,k\n", "C4 HeaderMismatch"),
+    (b"id,v,k\n", "C4 HeaderMismatch"),
+    (
+        b"id,k,v\n0,a,9223372036854775808\n",
+        "C6 BadInt row=0 col=2",
+    ),
+    (
+        b"id,k,v\n0,a,1\n1,a,-9223372036854775809\n",
+        "C6 BadInt row=1 col=2",
+    ),
+    (b"id,k,v\n0,a,1\n1,\xFF,x\n", "C7 NotUtf8 row=1"),
+    (b"id,k,v\n 0,a,1\n", "C6 BadInt row=0 col=0"),
+    (b"id,k,v\n0,a,1,2\n", "C5 BadWidth row=0"),
+    (
+        b"id,k,v\n0,a,5\n1,b,7\n2,a,-2\n3,c,7\n0,z,1\n",
+        "C8 KeyBroken key=0 first=0 second=4",
+    ),
+    (b"id,k,v\n1,b,7\n0,a,5\n", "C9 OrderBroken row=1"),
+];
 
 #[test]
 fn texts_are_refused(rt: HostRuntime) -> Result<(), Fail> {
-    let cases: [(&[u8], &str); 10] = [
-        (b"", "C4 HeaderMismatch"),
-        (b"id,k\n", "C4 HeaderMismatch"),
-        (b"id,v,k\n", "C4 HeaderMismatch"),
-        (
-            b"id,k,v\n0,a,9223372036854775808\n",
-            "C6 BadInt row=0 col=2",
-        ),
-        (
-            b"id,k,v\n0,a,1\n1,a,-9223372036854775809\n",
-            "C6 BadInt row=1 col=2",
-        ),
-        (b"id,k,v\n0,a,1\n1,\xFF,x\n", "C7 NotUtf8 row=1"),
-        (b"id,k,v\n 0,a,1\n", "C6 BadInt row=0 col=0"),
-        (b"id,k,v\n0,a,1,2\n", "C5 BadWidth row=0"),
-        (
-            b"id,k,v\n0,a,5\n1,b,7\n2,a,-2\n3,c,7\n0,z,1\n",
-            "C8 KeyBroken key=0 first=0 second=4",
-        ),
-        (b"id,k,v\n1,b,7\n0,a,5\n", "C9 OrderBroken row=1"),
-    ];
-    for (text, want) in cases {
+    for (text, want) in REFUSED {
         let got = again(rt.alloc(), KEYED, text)?;
         assert_eq!(rt; got.as_str(), want);
     }
     Ok(())
 }
 
+// Catalogs and texts, and what comes of each.
+const OTHERS: [(&str, &[u8], &str); 4] = [
+    (ONE_TEXT, b"s\n\"\"\n\nx\n", "s\n\"\"\nx\n"),
+    (
+        TWO_KEYS,
+        b"a,b\n1,1\n2,1\n1,3\n",
+        "C8 KeyBroken key=0 first=0 second=2",
+    ),
+    (
+        TWO_KEYS,
+        b"a,b\n1,1\n2,1\n3,1\n",
+        "C8 KeyBroken key=1 first=0 second=1",
+    ),
+    (TWO_KEYS, b"a,b\n2,1\n1,2\n", "a,b\n2,1\n1,2\n"),
+];
+
 #[test]
 fn other_relations(rt: HostRuntime) -> Result<(), Fail> {
-    let cases: [(&str, &[u8], &str); 4] = [
-        (ONE_TEXT, b"s\n\"\"\n\nx\n", "s\n\"\"\nx\n"),
-        (
-            TWO_KEYS,
-            b"a,b\n1,1\n2,1\n1,3\n",
-            "C8 KeyBroken key=0 first=0 second=2",
-        ),
-        (
-            TWO_KEYS,
-            b"a,b\n1,1\n2,1\n3,1\n",
-            "C8 KeyBroken key=1 first=0 second=1",
-        ),
-        (TWO_KEYS, b"a,b\n2,1\n1,2\n", "a,b\n2,1\n1,2\n"),
-    ];
-    for (catalog, text, want) in cases {
+    for (catalog, text, want) in OTHERS {
         let got = again(rt.alloc(), catalog, text)?;
         assert_eq!(rt; got.as_str(), want);
     }

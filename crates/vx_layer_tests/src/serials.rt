@@ -1,6 +1,8 @@
 //! What no clause says: small plans have their rows, and refusals their lines.
 
-use std::alloc::Global;
+ghost use Rattle.std.specs.Prelude.{◌<◌, length};
+
+use std::alloc::{AllocError, Global};
 use std::test::Fail;
 use vx_catalog::{Catalog, Database, Loader};
 use vx_plan::{Plan, TypedPlan, resolve};
@@ -32,19 +34,26 @@ fn plan_of(alloc: Global, root: &str) -> Result<TypedPlan, Fail> {
     Ok(resolve(alloc, &plan, &catalog)?)
 }
 
+// Adds the cells of a row side by side, and a blank.
+fn add_row(text: &mut String, rows: &Rows, row: usize) -> Result<(), AllocError>
+    requires { row < length rows.now.rows }
+{
+    for column in 0..rows.types().len() {
+        match rows.cell(row, column) {
+            Cell::Int(n) => write!(text, "{n}")?,
+            Cell::Text(s) => write!(text, "{s}")?,
+        }
+    }
+    text.push(' ')
+}
+
 // The rows as text: cells side by side, a blank behind each row.
 fn text_of(alloc: Global, rows: &Rows) -> Result<String, Fail> {
-    let mut out = String::new(alloc);
-    for i in 0..rows.len() {
-        for column in 0..rows.types().len() {
-            match rows.cell(i, column) {
-                Cell::Int(n) => write!(out, "{n}")?,
-                Cell::Text(s) => write!(out, "{s}")?,
-            }
-        }
-        out.push(' ')?;
+    let mut text = String::new(alloc);
+    for row in 0..rows.len() {
+        add_row(&mut text, rows, row)?;
     }
-    Ok(out)
+    Ok(text)
 }
 
 // What the plan of this root comes to over the table, where a word in capitals stands for a scan.

@@ -1,6 +1,6 @@
 //! Tables of a number and a text, and rows as text.
 
-ghost use Rattle.std.specs.Prelude.{◌≡◌, [], ◌∷◌, IfOk};
+ghost use Rattle.std.specs.Prelude.{◌≡◌, ◌<◌, [], ◌∷◌, length, IfOk};
 ghost use Rattle.vx_rows.specs.declared.value.ColType.TheVariants as kind;
 
 use std::alloc::{AllocError, Global};
@@ -9,22 +9,34 @@ use vx_rows::{Cell, ColType, Rows, Value};
 /// A number and a text.
 pub const TYPES: [ColType; 2] = [ColType::Int, ColType::Text];
 
+// Adds a number as it is, or a text in quotes.
+fn show_cell(text: &mut String, cell: Cell<'_>) -> Result<(), AllocError> {
+    match cell {
+        Cell::Int(n) => write!(text, "{n}"),
+        Cell::Text(s) => write!(text, "'{s}'"),
+    }
+}
+
+// Adds the values of a row with a space between them, and a semicolon.
+fn show_row(text: &mut String, rows: &Rows, row: usize) -> Result<(), AllocError>
+    requires { row < length rows.now.rows }
+{
+    for column in 0..rows.types().len() {
+        if column > 0 {
+            text.push(' ')?;
+        }
+        show_cell(text, rows.cell(row, column))?;
+    }
+    text.push(';')
+}
+
 /// The rows as text: numbers as they are, texts in quotes, a space between values, a semicolon behind each row.
 pub fn shown(alloc: Global, rows: &Rows) -> Result<String, AllocError> {
-    let mut out = String::new(alloc);
-    for i in 0..rows.len() {
-        for column in 0..rows.types().len() {
-            if column > 0 {
-                out.push(' ')?;
-            }
-            match rows.cell(i, column) {
-                Cell::Int(n) => write!(out, "{n}")?,
-                Cell::Text(s) => write!(out, "'{s}'")?,
-            }
-        }
-        out.push(';')?;
+    let mut text = String::new(alloc);
+    for row in 0..rows.len() {
+        show_row(&mut text, rows, row)?;
     }
-    Ok(out)
+    Ok(text)
 }
 
 // Adds a number and a text.
