@@ -1,16 +1,18 @@
 -- A relation's columns, keys and order, one after another.
-use Rattle.std.proofs.Common.{◌≡◌, ℕ, List, Ok, Err, refl, map}
+use Rattle.std.proofs.Common.{◌≡◌, ℕ, List, Ok, refl, map}
 use Rattle.vx_catalog.specs.Form.{RelationText, ColumnText}
-use Rattle.vx_catalog.specs.Naming.{Refusal, names_of, columns_of, keys_of, relation_of}
+use Rattle.vx_catalog.specs.Naming.{Fails, names_of, columns_of, keys_of, relation_of}
+use Rattle.vx_catalog.specs.declared.fault.CatalogFault.{CatalogFault}
+use Rattle.vx_catalog.proofs.WalkFacts.{fails_first}
 
-pub keys_refused : (t : RelationText) (names : List (List ℕ)) → names_of (map (λ (c : ColumnText). c.name) t.columns) ≡ Ok names → (r : Refusal) → keys_of t.keys names ≡ Err r → relation_of t ≡ Err r
+pub keys_refused : (t : RelationText) (names : List (List ℕ)) (e : CatalogFault) → names_of (map (λ (c : ColumnText). c.name) t.columns) ≡ Ok names → Fails e (keys_of t.keys names) → Fails e (relation_of t)
 unfolding relation_of
-keys_refused t names n r k = rw (n, k) refl
+keys_refused t names e n bad = rw n (fails_first e (keys_of t.keys names) _ bad)
 
-pub order_refused : (t : RelationText) (names : List (List ℕ)) (keys : List (List ℕ)) → names_of (map (λ (c : ColumnText). c.name) t.columns) ≡ Ok names → keys_of t.keys names ≡ Ok keys
-    → (r : Refusal) → columns_of names t.order ≡ Err r → relation_of t ≡ Err r
+pub order_refused : (t : RelationText) (names : List (List ℕ)) (keys : List (List ℕ)) (e : CatalogFault) → names_of (map (λ (c : ColumnText). c.name) t.columns) ≡ Ok names → keys_of t.keys names ≡ Ok keys
+    → Fails e (columns_of names t.order) → Fails e (relation_of t)
 unfolding relation_of
-order_refused t names keys n k r o = rw (n, k, o) refl
+order_refused t names keys e n k bad = rw (n, k) (fails_first e (columns_of names t.order) _ bad)
 
 pub relation_made : (t : RelationText) (names : List (List ℕ)) (keys : List (List ℕ)) (order : List ℕ) → names_of (map (λ (c : ColumnText). c.name) t.columns) ≡ Ok names → keys_of t.keys names ≡ Ok keys
     → columns_of names t.order ≡ Ok order → relation_of t ≡ Ok (record { name = t.name; names = names; types = map (λ (c : ColumnText). c.kind) t.columns; keys = keys; order = order })

@@ -25,6 +25,7 @@ fn name_once(alloc: Global, front: &[String], name: &str) -> Result<String, Cata
 }
 
 // The names of columns.
+#[tactic(auto, using(crate::proofs::WalkFacts::walk_steps))]
 fn names_of(alloc: Global, columns: &[ColumnText]) -> Result<Vec<String>, CatalogFault>
     ensures { Gives (λ v. map string_bytes v.items) result (names_of (map (λ c. c.name) columns.now)) }
 {
@@ -70,6 +71,7 @@ fn column_of(
 }
 
 // The columns of these names.
+#[tactic(auto, using(crate::proofs::WalkFacts::walk_steps))]
 fn columns_of(alloc: Global, names: &[String], list: &[String]) -> Result<Vec<usize>, CatalogFault>
     ensures { Gives (λ v. v.items) result (columns_of (map string_bytes names.now) (map string_bytes list.now)) }
 {
@@ -81,6 +83,7 @@ fn columns_of(alloc: Global, names: &[String], list: &[String]) -> Result<Vec<us
 }
 
 // The columns of each key.
+#[tactic(auto, using(crate::proofs::WalkFacts::walk_steps))]
 fn keys_of(
     alloc: Global,
     keys: &[Vec<String>],
@@ -132,6 +135,7 @@ fn relation_after(
 }
 
 /// The relations with their columns by position, or the first refusal.
+#[tactic(auto, using(crate::proofs::WalkFacts::walk_steps))]
 pub fn relations_of(alloc: Global, texts: &[RelationText]) -> Result<Vec<Relation>, CatalogFault>
     ensures { Gives (λ v. v.items) result (walk_onto relation_after [] texts.now) }
 {

@@ -1,25 +1,20 @@
-use Rattle.std.proofs.Common.{◌∙◌, ap, map, string_bytes}
-use Rattle.std.proofs.lemmas.Result.{err_from_is_err_and}
+use Rattle.std.proofs.Common.{◌∙◌, ap, arith}
 use Rattle.vx_catalog.specs.Form.{RelationText}
-use Rattle.vx_catalog.specs.Naming.{columns_of, keys_of, relation_of}
-use Rattle.vx_catalog.proofs.WalkFacts.{fails_along}
 use Rattle.vx_catalog.proofs.NamingFacts.{keys_refused, order_refused, relation_made}
 use Rattle.vx_catalog.proofs.naming.relation_of.Goals as goal
 
 pub returns-in_err-keys : goal.returns-in_err-keys
 returns-in_err-keys c =
-    let p = err_from_is_err_and c.from_residual-in_err-keys.result c.from_residual-in_err-keys.ensures.1 in
     let names = rw (c.as_slice.ensures.value, ap (λ (t : RelationText). t.columns) c.text.view_is) at c.in_ok-names.ensures in
-    let bad = rw (c.as_slice-2.ensures.value, c.as_slice-3.ensures.value, ap (λ (t : RelationText). t.keys) c.text.view_is) at c.in_err-keys.ensures in
-    rw (p.1, p.2) (fails_along c.in_err-keys.field-0.0 (keys_of c.args.text.now.keys (map string_bytes c.in_ok-names.names.items)) (relation_of c.args.text.now) (keys_refused c.args.text.now _ names) bad)
+    let keys = rw (c.as_slice-2.ensures.value, c.as_slice-3.ensures.value, ap (λ (t : RelationText). t.keys) c.text.view_is) at c.in_err-keys.ensures in
+    grind (arith, keys_refused c.args.text.now _ c.in_err-keys.field-0.0 names keys)
 
 pub returns-in_err-order : goal.returns-in_err-order
 returns-in_err-order c =
-    let p = err_from_is_err_and c.from_residual-in_err-order.result c.from_residual-in_err-order.ensures.1 in
     let names = rw (c.as_slice.ensures.value, ap (λ (t : RelationText). t.columns) c.text.view_is) at c.in_ok-names.ensures in
     let keys = rw (c.as_slice-2.ensures.value, c.as_slice-3.ensures.value, ap (λ (t : RelationText). t.keys) c.text.view_is) at c.in_ok-keys.ensures in
-    let bad = rw (c.as_slice-4.ensures.value, c.as_slice-5.ensures.value, ap (λ (t : RelationText). t.order) c.text.view_is) at c.in_err-order.ensures in
-    rw (p.1, p.2) (fails_along c.in_err-order.field-0.0 (columns_of (map string_bytes c.in_ok-names.names.items) c.args.text.now.order) (relation_of c.args.text.now) (order_refused c.args.text.now _ _ names keys) bad)
+    let order = rw (c.as_slice-4.ensures.value, c.as_slice-5.ensures.value, ap (λ (t : RelationText). t.order) c.text.view_is) at c.in_err-order.ensures in
+    grind (arith, order_refused c.args.text.now _ _ c.in_err-order.field-0.0 names keys order)
 
 pub returns : goal.returns
 returns c =

@@ -5,4 +5,4 @@ use Rattle.vx_catalog.specs.Naming.{relation_after}
 use Rattle.vx_catalog.proofs.naming.relations_of.Given as goal
 
 abbrev pub invariant-loop-text : goal.invariant-loop-text
-invariant-loop-text l = walk_onto relation_after l.relations.items (map (λ (t : RelationText). t) (drop l.text-index l.texts)) ≡ walk_onto relation_after [] (map (λ (t : RelationText). t) l.texts)
+invariant-loop-text l = walk_onto relation_after l.relations.items (map (λ (t : RelationText). t) (drop l.text-index l.texts)) ≡ walk_onto relation_after [] l.texts

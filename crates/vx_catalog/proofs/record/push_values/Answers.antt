@@ -6,7 +6,7 @@ use Rattle.vx_rows.specs.View.{cell_val}
 use Rattle.vx_rows.specs.declared.value.ColType.{ColType}
 use Rattle.vx_rows.specs.declared.value.ColType.TheVariants as kind
 use Rattle.vx_catalog.specs.Loading.{next_value}
-use Rattle.vx_catalog.proofs.WalkFacts.{walk_more, walk_stops, walk_done}
+use Rattle.vx_catalog.proofs.WalkFacts.{walk_step, walk_next, walk_done}
 use Rattle.vx_catalog.proofs.RowFacts.{type_kept, next_is, fails_along}
 use Rattle.vx_catalog.proofs.record.push_values.Goals as goal
 
@@ -29,8 +29,8 @@ returns-in_err-value-clause-front c =
     let near : col < length types = rw c.types-col-end.ensures at c.loop-col-test.true in
     let p = err_from_is_err_and c.from_residual.result c.from_residual.ensures.1 in
     let bad = rw (same, ← next_is c.args.row col fields front type c.loop-col.invariant.column) at c.in_err-value.ensures in
-    rw (p.1, p.2) (fails_along c.in_err-value.field-0.0 (next_value c.args.row fields front type) _
-    (walk_stops (λ (t : ColType). t) (next_value c.args.row fields) front types col type _ near (get_or_default types col kind.Int type near) c.loop-col.invariant.so_far) bad)
+    let step = walk_step (λ (t : ColType). t) (next_value c.args.row fields) front types col type near (get_or_default types col kind.Int type near) in
+    rw (p.1, p.2, ← c.loop-col.invariant.so_far) (fails_along c.in_err-value.field-0.0 (next_value c.args.row fields front type) _ (λ r. λ e. rw (step, e) refl) bad)
 
 pub push_cell-requires-clause-kind : goal.push_cell-requires-clause-kind
 push_cell-requires-clause-kind c =
@@ -52,10 +52,10 @@ loop-col-preserved c =
       rows = c.in_ok-push_cell.ensures.rows ∙ c.loop-col.invariant.rows;
       column = let more = length-append front (value ∷ []) in let long = ap length c.in_ok-push_cell.ensures.ok in let column = c.loop-col.invariant.column in omega (arith, more, long, column);
       so_far = rw c.in_ok-push_cell.ensures.ok
-          (walk_more (λ (t : ColType). t) (next_value c.args.row fields) front types col type value _ near (get_or_default types col kind.Int type near) read c.loop-col.invariant.so_far);
+          (walk_next (λ (t : ColType). t) (next_value c.args.row fields) front value types col type near (get_or_default types col kind.Int type near) read ∙ c.loop-col.invariant.so_far);
     }
 
 pub returns-clause-front : goal.returns-clause-front
 returns-clause-front c =
     let done = rw c.types-col-end.ensures at c.loop-col-test.false in
-    walk_done (λ (t : ColType). t) (next_value c.args.row (fields_of c.args.line.now)) c.loop-col.rows.front c.args.rows.now.types c.loop-col.col _ done c.loop-col.invariant.so_far
+    rw (← c.loop-col.invariant.so_far) (walk_done (λ (t : ColType). t) (next_value c.args.row (fields_of c.args.line.now)) c.loop-col.rows.front c.args.rows.now.types c.loop-col.col done)
