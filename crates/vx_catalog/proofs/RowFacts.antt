@@ -1,5 +1,5 @@
 -- The values of a row and the rows of a text, one after another.
-use Rattle.std.proofs.Common.{◌≡◌, ℕ, ◌+◌, ◌<◌, List, [], ◌∷◌, ◌++◌, Bool, true, false, cond, Result, Ok, Err, refl, sym, ◌∙◌, length, nat_lt, Option, Some, None}
+use Rattle.std.proofs.Common.{◌≡◌, ℕ, ◌+◌, ◌<◌, List, [], ◌∷◌, ◌++◌, Bool, true, false, cond, Result, Ok, Err, refl, sym, ◌∙◌, arith, length, nat_lt, Option, Some, None}
 use Rattle.std.specs.Prelude.{IsUtf8, ℤ, IfSome, ◌≢◌}
 use Rattle.std.proofs.lemmas.Bool.Decides.{Decides-ltb}
 use Rattle.std.proofs.lemmas.List.{length-append}
@@ -33,15 +33,7 @@ text_refused row col field h = else_of (is_utf8 field) (Ok (text field)) (Err (f
 
 -- a refusal of a part is one of the whole
 pub fails_along : {X Y : Type 0} (e : LoadFault) (part : Result X LoadFault) (whole : Result Y LoadFault) → ((r : LoadFault) → part ≡ Err r → whole ≡ Err r) → Fails e part → Fails e whole
-fails_along fault.NoMemory part whole along h = tt
-fails_along fault.ReadFailed part whole along h = h
-fails_along fault.HeaderMismatch part whole along h = along _ h
-fails_along (fault.BadWidth row) part whole along h = along _ h
-fails_along (fault.BadInt row col) part whole along h = along _ h
-fails_along (fault.NotUtf8 row) part whole along h = along _ h
-fails_along (fault.KeyBroken key first second) part whole along h = along _ h
-fails_along (fault.OrderBroken row) part whole along h = along _ h
-fails_along fault.TooLarge part whole along h = along _ h
+fails_along e part whole along bad = grind arith
 
 -- ---- the values of a row
 
@@ -123,12 +115,4 @@ rows_told_done types front (Some all) (Some now) so_far none = rows_done types f
 
 -- what a call refuses of what is known is no failure of its source
 pub fails_own : {Y : Type 0} (e : LoadFault) (read : Result Y LoadFault) → Fails e read → e ≢ fault.ReadFailed
-fails_own fault.NoMemory read h = λ e. cc
-fails_own fault.ReadFailed read h = absurd h
-fails_own fault.HeaderMismatch read h = λ e. cc
-fails_own (fault.BadWidth row) read h = λ e. cc
-fails_own (fault.BadInt row col) read h = λ e. cc
-fails_own (fault.NotUtf8 row) read h = λ e. cc
-fails_own (fault.KeyBroken key first second) read h = λ e. cc
-fails_own (fault.OrderBroken row) read h = λ e. cc
-fails_own fault.TooLarge read h = λ e. cc
+fails_own e read bad = grind arith
