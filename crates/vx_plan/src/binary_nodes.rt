@@ -36,6 +36,7 @@ fn pair_found(
     Ok((first, second))
 }
 
+#[tactic(auto, unfolding(crate::specs::Resolve::pairs_found), using(crate::proofs::WalkFacts::walk_steps))]
 fn pairs_found(
     alloc: Global,
     node: u32,

@@ -56,7 +56,7 @@ pub fn column_found(
 }
 
 /// The positions of the columns with these names.
-#[tactic(auto, unfolding(crate::specs::Lookup::columns_found))]
+#[tactic(auto, unfolding(crate::specs::Lookup::columns_found), using(crate::proofs::WalkFacts::walk_steps))]
 pub fn columns_found(
     alloc: Global,
     node: u32,
@@ -74,7 +74,7 @@ pub fn columns_found(
 }
 
 /// The positions of the columns of each key.
-#[tactic(auto, unfolding(crate::specs::Lookup::keys_found))]
+#[tactic(auto, unfolding(crate::specs::Lookup::keys_found), using(crate::proofs::WalkFacts::walk_steps))]
 pub fn keys_found(
     alloc: Global,
     node: u32,
@@ -144,6 +144,7 @@ pub fn pairs_once(alloc: Global, node: u32, pairs: &[(String, String)]) -> Resul
 }
 
 /// No name stands twice in one of these lists.
+#[tactic(auto, using(crate::proofs::WalkFacts::keys_steps))]
 pub fn keys_once(alloc: Global, node: u32, keys: &[Vec<String>]) -> Result<(), PlanFault>
     ensures { Gives (λ _. tt) result (keys_once node (map (λ k. map string_bytes k.items) keys.now)) }
 {

@@ -60,6 +60,7 @@ fn condition_found(
     })
 }
 
+#[tactic(auto, unfolding(crate::specs::Resolve::conditions_found), using(crate::proofs::WalkFacts::walk_steps))]
 fn conditions_found(
     alloc: Global,
     node: u32,
@@ -113,6 +114,7 @@ fn kept_found(
     })
 }
 
+#[tactic(auto, unfolding(crate::specs::Resolve::all_kept_found), using(crate::proofs::WalkFacts::walk_steps))]
 fn all_kept_found(
     alloc: Global,
     node: u32,
@@ -225,6 +227,7 @@ fn function_found(
     }
 }
 
+#[tactic(auto, unfolding(crate::specs::Resolve::aggregates_found), using(crate::proofs::WalkFacts::walk_steps))]
 fn aggregates_found(
     alloc: Global,
     node: u32,
