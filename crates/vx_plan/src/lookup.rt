@@ -92,7 +92,7 @@ pub fn keys_found(
 }
 
 /// No name stands twice, or the first that repeats an earlier one.
-#[tactic(auto, unfolding(crate::specs::Lookup::once))]
+#[tactic(auto, unfolding(crate::specs::Lookup::once), using(crate::proofs::TestFacts::test_steps))]
 pub fn once(alloc: Global, node: u32, names: &[String]) -> Result<(), PlanFault>
     ensures { Gives (λ _. tt) result (once node (map string_bytes names.now)) }
 {
@@ -127,7 +127,7 @@ fn has_pair(pairs: &[(String, String)], pair: &(String, String)) -> bool
 }
 
 /// No pair stands twice, or the left column of the first that repeats an earlier one.
-#[tactic(auto, unfolding(crate::specs::Lookup::pairs_once))]
+#[tactic(auto, unfolding(crate::specs::Lookup::pairs_once), using(crate::proofs::TestFacts::test_steps))]
 pub fn pairs_once(alloc: Global, node: u32, pairs: &[(String, String)]) -> Result<(), PlanFault>
     ensures { Gives (λ _. tt) result (pairs_once node (map pair_form pairs.now)) }
 {

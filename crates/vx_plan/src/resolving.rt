@@ -27,7 +27,7 @@ fn is_bad_size(front: &[String], name: &str) -> bool
 }
 
 // No size name is `one`, stands twice or is the 17th.
-#[tactic(auto, unfolding(crate::specs::Resolve::sizes_tested))]
+#[tactic(auto, unfolding(crate::specs::Resolve::sizes_tested), using(crate::proofs::TestFacts::test_steps))]
 fn sizes_tested(alloc: Global, sizes: &[String]) -> Result<(), PlanFault>
     ensures { Gives (λ _. tt) result (sizes_tested (map string_bytes sizes.now)) }
 {
@@ -61,7 +61,7 @@ fn is_bad_range(front: &[NamedRange], range: &NamedRange) -> bool
 }
 
 // No range stands twice or has bad bounds.
-#[tactic(auto, unfolding(crate::specs::Resolve::ranges_tested))]
+#[tactic(auto, unfolding(crate::specs::Resolve::ranges_tested), using(crate::proofs::TestFacts::test_steps))]
 fn ranges_tested(alloc: Global, ranges: &[NamedRange]) -> Result<(), PlanFault>
     ensures { Gives (λ _. tt) result (ranges_tested (map range_form ranges.now)) }
 {
