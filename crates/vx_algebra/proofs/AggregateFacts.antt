@@ -2,10 +2,10 @@
 use Rattle.std.proofs.Common.{◌≡◌, ℕ, ◌+◌, ◌≤◌, pos, negsuc, ◌+ℤ◌, ◌-ℤ◌, Bool, true, false, cond, List, [], ◌∷◌, ◌++◌, map, length, refl, sym, ap, ◌∙◌, arith, true≢false, is_le, is_lt, is_gt, Ordering, Less, Equal, Greater}
 use Rattle.std.proofs.lemmas.List.{length-append}
 use Rattle.std.proofs.lemmas.Int.{ints}
-use Rattle.vx_rows.specs.Values.{Val, num, text, Row, val_cmp, value_at}
+use Rattle.vx_values.specs.Values.{Val, num, text, Row, val_cmp, value_at}
 use Rattle.vx_rows.specs.Bags.{total}
-use Rattle.vx_plan.specs.Plan.{Aggregate, least, greatest, sum, count_rows}
-use Rattle.vx_plan.specs.Serial.{smaller, larger, least_of, greatest_of, sum_of, count_of, above_zero, below_zero, aggregate_of}
+use Rattle.vx_nodes.specs.Plan.{Aggregate, least, greatest, sum, count_rows}
+use Rattle.vx_nodes.specs.Serial.{smaller, larger, least_of, greatest_of, sum_of, count_of, above_zero, below_zero, aggregate_of}
 use Rattle.std.proofs.lemmas.Cmp.{upto}
 use Rattle.vx_rows.proofs.Compare.{val_cmp_total, val_cmp-same, not_gt-le, le-not_gt, le-reverse}
 use Rattle.vx_algebra.specs.Groups.{number_of, next_value, advance, counted, all_held}

@@ -3,9 +3,9 @@ use Rattle.std.proofs.Common.{◌≡◌, ℕ, suc, ◌<◌, ◌≤◌, Bool, tru
 use Rattle.std.specs.List.{AllByRecursion}
 use Rattle.std.specs.Result.{IsErrAnd}
 use Rattle.std.proofs.lemmas.List.{get_or-map, length-map, length-take-le}
-use Rattle.vx_rows.specs.Values.{Row, row_eq, pick}
-use Rattle.vx_plan.specs.Plan.{Aggregate}
-use Rattle.vx_plan.specs.Serial.{group_keys, of_key}
+use Rattle.vx_values.specs.Values.{Row, row_eq, pick}
+use Rattle.vx_nodes.specs.Plan.{Aggregate}
+use Rattle.vx_nodes.specs.Serial.{group_keys, of_key}
 use Rattle.vx_algebra.specs.declared.accumulator.GroupFault.{GroupFault}
 use Rattle.vx_algebra.specs.declared.accumulator.GroupFault.TheVariants.{Overflow, TooMany, NoMemory}
 use Rattle.vx_algebra.specs.Groups.{Held, all_held, counted, part_of, Groups, HasTaken}

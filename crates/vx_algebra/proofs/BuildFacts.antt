@@ -4,8 +4,8 @@ use Rattle.std.specs.List.{IsDistinct, position_or_len}
 use Rattle.std.proofs.lemmas.List.{get_or-map, length-map}
 use Rattle.std.proofs.lemmas.List.Quantifiers.{position-Some}
 use Rattle.indexmap.specs.IndexSet.{insert_key}
-use Rattle.vx_rows.specs.Values.{Row, row_eq, pick}
-use Rattle.vx_plan.specs.Serial.{group_keys}
+use Rattle.vx_values.specs.Values.{Row, row_eq, pick}
+use Rattle.vx_nodes.specs.Serial.{group_keys}
 use Rattle.vx_rows.specs.Equality.{row_eq-same}
 use Rattle.vx_algebra.specs.Build.{Built, HasBuilt, parts_of, places_of}
 use Rattle.vx_algebra.proofs.KeyFacts.{eq-swap, row_eq-refl, keys-push, any-firsts, any-absent, keyed-present, keyed-own, keyed-new, keyed-none}

@@ -2,9 +2,9 @@
 use Rattle.std.proofs.Common.{◌≡◌, ℕ, suc, zero, ◌+◌, ◌<◌, Bool, true, false, cond, ◌&&◌, List, [], ◌∷◌, ◌++◌, map, take, length, get_or, Some, None, refl, sym, ap, ◌∙◌, arith}
 use Rattle.std.specs.List.{list_all}
 use Rattle.std.proofs.lemmas.List.Folds.{list_all_at}
-use Rattle.vx_rows.specs.Values.{Row}
-use Rattle.vx_plan.specs.Plan.{Aggregate, least, greatest, sum, count_rows}
-use Rattle.vx_plan.specs.Serial.{group_keys, of_key, fits, aggregate_of, group_row, group_fits, group_rows}
+use Rattle.vx_values.specs.Values.{Row}
+use Rattle.vx_nodes.specs.Plan.{Aggregate, least, greatest, sum, count_rows}
+use Rattle.vx_nodes.specs.Serial.{group_keys, of_key, fits, aggregate_of, group_row, group_fits, group_rows}
 use Rattle.vx_algebra.specs.Groups.{Held, held_of, all_held, held_fits, part_of, Groups, HasTaken}
 
 -- each key with the values of its aggregates

@@ -3,10 +3,10 @@ use Rattle.std.proofs.Common.{◌≡◌, ℕ, ◌<◌, ◌≤◌, true, false, L
 use Rattle.std.specs.List.{list_any, AllByRecursion, IsDistinct, position_or_len}
 use Rattle.std.proofs.lemmas.List.{length-map}
 use Rattle.indexmap.specs.IndexSet.{insert_key}
-use Rattle.vx_rows.specs.Values.{Row, row_eq, pick}
-use Rattle.vx_rows.specs.Types.{Fits}
-use Rattle.vx_plan.specs.Plan.{Aggregate}
-use Rattle.vx_plan.specs.Serial.{group_keys}
+use Rattle.vx_values.specs.Values.{Row, row_eq, pick}
+use Rattle.vx_values.specs.Types.{Fits}
+use Rattle.vx_nodes.specs.Plan.{Aggregate}
+use Rattle.vx_nodes.specs.Serial.{group_keys}
 use Rattle.vx_algebra.specs.Groups.{all_held, advance, part_of, Groups, HasTaken}
 use Rattle.vx_algebra.proofs.KeyFacts.{row_eq-refl, eq-swap, keys-push, any-firsts, keyed-any, keyed-present, keyed-own, keyed-new, keyed-none, of_key-other, of_key-more, of_key-none, of_key-some}
 use Rattle.vx_algebra.proofs.AggregateFacts.{held-push}

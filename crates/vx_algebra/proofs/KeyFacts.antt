@@ -7,8 +7,8 @@ use Rattle.std.proofs.lemmas.List.Elements.{filter-append}
 use Rattle.std.proofs.lemmas.List.{map-append, append-nil, map_more, get_or-map}
 use Rattle.std.proofs.lemmas.Map.Keys.{IsDistinct-head, IsDistinct-tail, apart_from_distinct}
 use Rattle.indexmap.specs.IndexSet.{insert_key}
-use Rattle.vx_rows.specs.Values.{Row, row_eq, pick}
-use Rattle.vx_plan.specs.Serial.{firsts, group_keys, of_key}
+use Rattle.vx_values.specs.Values.{Row, row_eq, pick}
+use Rattle.vx_nodes.specs.Serial.{firsts, group_keys, of_key}
 use Rattle.vx_rows.specs.Equality.{row_eq-same, row_eq-laws}
 
 pub row_eq-refl : (x : Row) → row_eq x x ≡ true

@@ -6,11 +6,11 @@ use Rattle.std.proofs.lemmas.Cmp.{ranked, by_ranked}
 use Rattle.std.proofs.lemmas.Bool.{cases_lt}
 use Rattle.std.proofs.lemmas.List.{length-append, take-append-drop, drop_all}
 use Rattle.std.proofs.lemmas.List.Elements.{filter-append}
-use Rattle.vx_rows.specs.Values.{Row, num, row_cmp, row_eq, pick}
+use Rattle.vx_values.specs.Values.{Row, num, row_cmp, row_eq, pick}
 use Rattle.vx_rows.specs.Order.{compare_on, sorted}
-use Rattle.vx_rows.proofs.Order.{and-left, and-right, and-both}
+use Rattle.vx_values.proofs.Booleans.{and-left, and-right, and-both}
 use Rattle.vx_rows.proofs.Compare.{row_eq-same, row_cmp_total}
-use Rattle.vx_plan.specs.Serial.{of_key}
+use Rattle.vx_nodes.specs.Serial.{of_key}
 use Rattle.vx_algebra.specs.Build.{matched}
 use Rattle.vx_algebra.specs.declared.merging.MergeFault.{MergeFault}
 use Rattle.vx_algebra.specs.declared.merging.MergeFault.TheVariants.{Falls, NoMemory}

@@ -2,7 +2,7 @@
 use Rattle.std.proofs.Common.{◌≡◌, ℕ, suc, zero, ◌<◌, Bool, true, false, cond, List, [], ◌∷◌, ◌++◌, map, filter, length, get_or, refl, ap, ◌∙◌, arith, true≢false, ◌||◌}
 use Rattle.std.specs.List.{All, list_any}
 use Rattle.std.proofs.lemmas.List.{map-append, append-nil}
-use Rattle.vx_rows.specs.Values.{Row, row_eq, pick}
+use Rattle.vx_values.specs.Values.{Row, row_eq, pick}
 use Rattle.vx_algebra.specs.Build.{places, places_of}
 
 one-later : (b : Bool) (n : ℕ) → map suc (cond b (n ∷ []) []) ≡ cond b (suc n ∷ []) []

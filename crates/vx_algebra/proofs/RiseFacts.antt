@@ -2,9 +2,9 @@
 use Rattle.std.proofs.Common.{◌≡◌, ℕ, suc, zero, ◌<◌, Bool, true, false, List, [], ◌∷◌, ◌++◌, length, take, drop, get_or, refl, sym, ap, ◌∙◌, arith, true≢false, is_le}
 use Rattle.std.specs.List.{list_all}
 use Rattle.std.proofs.lemmas.List.{take-append-drop}
-use Rattle.vx_rows.specs.Values.{Row, row_cmp, pick}
+use Rattle.vx_values.specs.Values.{Row, row_cmp, pick}
 use Rattle.vx_rows.specs.Order.{compare_on, sorted}
-use Rattle.vx_rows.proofs.Order.{and-left, and-right, and-both}
+use Rattle.vx_values.proofs.Booleans.{and-left, and-right, and-both}
 use Rattle.vx_rows.proofs.Compare.{row_le-trans}
 use Rattle.vx_algebra.specs.Merged.{last_key}
 

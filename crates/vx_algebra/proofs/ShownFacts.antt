@@ -2,7 +2,7 @@
 use Rattle.std.proofs.Common.{◌≡◌, ℕ, ◌<◌, List, [], map, length, get_or, sym, ap, ◌∙◌, Vec, Global, slice_get, Some}
 use Rattle.std.proofs.lemmas.List.{get_or-map, length-map}
 use Rattle.std.proofs.lemmas.Option.{get_or_from_slice_get}
-use Rattle.vx_rows.specs.Values.{Row}
+use Rattle.vx_values.specs.Values.{Row}
 use Rattle.vx_algebra.specs.declared.accumulator.Accumulator.{Accumulator}
 use Rattle.vx_algebra.specs.Groups.{Held}
 use Rattle.vx_algebra.specs.Shown.{held}

@@ -3,12 +3,12 @@ use Rattle.std.proofs.Common.{◌≡◌, ℕ, suc, zero, ◌<◌, Bool, true, fa
 use Rattle.std.specs.List.{AllByRecursion, list_any}
 use Rattle.std.proofs.lemmas.List.{map-append, get_or-map}
 use Rattle.std.proofs.lemmas.List.Folds.{list_any_at}
-use Rattle.vx_rows.specs.declared.value.ColType.{ColType}
-use Rattle.vx_rows.specs.Values.{Val, Row, val_cmp, value_at, row_eq, pick}
-use Rattle.vx_rows.specs.Types.{type_of, type_at, Fits}
-use Rattle.vx_plan.specs.Plan.{Aggregate, least, greatest, sum, count_rows, group}
-use Rattle.vx_plan.specs.Types.{aggregate_type, unary_types}
-use Rattle.vx_plan.specs.Serial.{least_of, greatest_of, aggregate_of, firsts, group_keys, of_key, group_row}
+use Rattle.vx_values.specs.declared.value.ColType.{ColType}
+use Rattle.vx_values.specs.Values.{Val, Row, val_cmp, value_at, row_eq, pick}
+use Rattle.vx_values.specs.Types.{type_of, type_at, Fits}
+use Rattle.vx_nodes.specs.Plan.{Aggregate, least, greatest, sum, count_rows, group}
+use Rattle.vx_nodes.specs.Types.{aggregate_type, unary_types}
+use Rattle.vx_nodes.specs.Serial.{least_of, greatest_of, aggregate_of, firsts, group_keys, of_key, group_row}
 use Rattle.std.specs.Ordering.{is_le}
 use Rattle.vx_algebra.specs.Groups.{Groups, HasTaken, part_of}
 use Rattle.vx_algebra.proofs.KeyFacts.{row_eq-refl, any-firsts, of_key-some}

@@ -1,7 +1,7 @@
 -- The right rows of a join, by key: each key with the places of its rows.
 use Rattle.std.specs.Prelude.{◌≡◌, ℕ, suc, Bool, cond, List, [], ◌∷◌, ◌++◌, map, filter}
-use Rattle.vx_rows.specs.Values.{Row, row_eq, pick}
-use Rattle.vx_plan.specs.Serial.{group_keys}
+use Rattle.vx_values.specs.Values.{Row, row_eq, pick}
+use Rattle.vx_nodes.specs.Serial.{group_keys}
 
 -- where the elements stand that pass a test, counted from 0
 abbrev pub places : {X : Type 0} → (X → Bool) → List X → List ℕ

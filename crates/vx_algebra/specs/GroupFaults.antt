@@ -1,9 +1,9 @@
 -- Why a grouping stops.
 use Rattle.std.specs.Prelude.{◌≡◌, ℕ, ◌<◌, ◌≤◌, false, List, length, None}
 use Rattle.std.specs.List.{AllByRecursion, list_all}
-use Rattle.vx_rows.specs.Values.{Row}
-use Rattle.vx_plan.specs.Plan.{Aggregate}
-use Rattle.vx_plan.specs.Serial.{group_rows}
+use Rattle.vx_values.specs.Values.{Row}
+use Rattle.vx_nodes.specs.Plan.{Aggregate}
+use Rattle.vx_nodes.specs.Serial.{group_rows}
 use Rattle.vx_algebra.specs.Groups.{Held, held_fits}
 use Rattle.vx_algebra.specs.declared.accumulator.GroupFault.{GroupFault}
 use Rattle.vx_algebra.specs.declared.accumulator.GroupFault.TheVariants.{Overflow, TooMany, NoMemory}

@@ -1,11 +1,11 @@
 -- Rows by key: the aggregates of each key's rows, and how they change when one more row comes.
 use Rattle.std.specs.Prelude.{◌≡◌, ℕ, ℤ, pos, ◌+◌, ◌+ℤ◌, Bool, true, List, map, length}
 use Rattle.std.specs.List.{AllByRecursion}
-use Rattle.vx_rows.specs.declared.value.ColType.{ColType}
-use Rattle.vx_rows.specs.Values.{Val, num, text, Row, value_at}
-use Rattle.vx_rows.specs.Types.{Fits, fits_64}
-use Rattle.vx_plan.specs.Plan.{Aggregate, least, greatest, sum, count_rows}
-use Rattle.vx_plan.specs.Serial.{smaller, larger, aggregate_of, of_key, group_keys}
+use Rattle.vx_values.specs.declared.value.ColType.{ColType}
+use Rattle.vx_values.specs.Values.{Val, num, text, Row, value_at}
+use Rattle.vx_values.specs.Types.{Fits, fits_64}
+use Rattle.vx_nodes.specs.Plan.{Aggregate, least, greatest, sum, count_rows}
+use Rattle.vx_nodes.specs.Serial.{smaller, larger, aggregate_of, of_key, group_keys}
 
 -- a value as a number, a text as 0
 abbrev pub number_of : Val → ℤ

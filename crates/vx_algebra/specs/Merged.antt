@@ -2,9 +2,9 @@
 use Rattle.std.specs.Prelude.{◌≡◌, ℕ, Bool, true, false, List, [], ◌∷◌, ◌++◌, length, slice_range}
 use Rattle.std.specs.List.{list_all}
 use Rattle.std.specs.Ordering.{is_gt}
-use Rattle.vx_rows.specs.Values.{Row, row_cmp, row_eq, pick}
+use Rattle.vx_values.specs.Values.{Row, row_cmp, row_eq, pick}
 use Rattle.vx_rows.specs.Order.{sorted}
-use Rattle.vx_plan.specs.Serial.{of_key}
+use Rattle.vx_nodes.specs.Serial.{of_key}
 use Rattle.vx_algebra.specs.declared.merging.MergeFault.{MergeFault}
 use Rattle.vx_algebra.specs.declared.merging.MergeFault.TheVariants.{Falls, NoMemory}
 

@@ -1,8 +1,8 @@
 -- What an accumulator shows.
 use Rattle.std.specs.Prelude.{pos}
-use Rattle.vx_rows.specs.Values.{num}
-use Rattle.vx_rows.specs.View.{val_of}
-use Rattle.vx_plan.specs.Plan.{least, greatest, sum, count_rows}
+use Rattle.vx_values.specs.Values.{num}
+use Rattle.vx_values.specs.ValueView.{val_of}
+use Rattle.vx_nodes.specs.Plan.{least, greatest, sum, count_rows}
 use Rattle.vx_algebra.specs.declared.accumulator.Accumulator.{Accumulator}
 use Rattle.vx_algebra.specs.declared.accumulator.Accumulator.TheVariants.{Least, Greatest, Sum, CountRows}
 use Rattle.vx_algebra.specs.Groups.{Held}

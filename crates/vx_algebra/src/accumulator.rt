@@ -1,9 +1,10 @@
 //! One aggregate of a group's rows, taken one row at a time.
 
 ghost use Rattle.std.specs.Prelude.{◌≡◌, ◌<◌, ◌≤◌, [], ◌∷◌, length, OnOk, IfOk, IfErr, IfSome, IfNone, true, false};
-ghost use Rattle.vx_rows.specs.Values.{value_at};
-ghost use Rattle.vx_rows.specs.View.{val_of, cell_val, row};
-ghost use Rattle.vx_plan.specs.Outline.{aggregate_of as op_of};
+ghost use Rattle.vx_values.specs.Values.{value_at};
+ghost use Rattle.vx_values.specs.ValueView.{val_of, cell_val};
+ghost use Rattle.vx_rows.specs.View.{row};
+ghost use Rattle.vx_nodes.specs.Outline.{aggregate_of as op_of};
 ghost use Rattle.vx_algebra.specs.declared.accumulator.GroupFault.TheVariants.{NoMemory};
 ghost use Rattle.vx_algebra.specs.Groups.{number_of, held_of, held_fits, advance};
 ghost use Rattle.vx_algebra.specs.Shown.{held};
@@ -12,7 +13,7 @@ ghost use Rattle.vx_algebra.specs.GroupFaults.{StepBlame};
 use crate::cells::cell_or_zero;
 use crate::sum::WideSum;
 use std::alloc::{AllocError, AllocFailed, Global};
-use vx_plan::Aggregate;
+use vx_nodes::Aggregate;
 use vx_rows::{Cell, Rows, Value, compare_cells};
 
 /// Why a grouping stops.

@@ -1,8 +1,9 @@
 //! Access to cells without a condition on the column.
 
 ghost use Rattle.std.specs.Prelude.{◌≡◌, ◌<◌, length};
-ghost use Rattle.vx_rows.specs.Values.{value_at};
-ghost use Rattle.vx_rows.specs.View.{cell_val, row};
+ghost use Rattle.vx_values.specs.Values.{value_at};
+ghost use Rattle.vx_values.specs.ValueView.{cell_val};
+ghost use Rattle.vx_rows.specs.View.{row};
 
 use vx_rows::{Cell, Rows};
 

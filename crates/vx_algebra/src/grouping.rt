@@ -2,12 +2,13 @@
 
 ghost use Rattle.std.specs.Prelude.{◌≡◌, ◌<◌, ◌≤◌, ◌++◌, ◌∷◌, [], List, length, map, OnOk, IfOk, IfErr, Some, true, false};
 ghost use Rattle.std.specs.List.{list_all};
-ghost use Rattle.vx_rows.specs.Values.{Row as Cells};
-ghost use Rattle.vx_rows.specs.View.{cell_val, row, AreColumns};
-ghost use Rattle.vx_plan.specs.Plan.{group};
-ghost use Rattle.vx_plan.specs.Types.{unary_types, aggregate_type};
-ghost use Rattle.vx_plan.specs.Serial.{group_rows};
-ghost use Rattle.vx_plan.specs.Outline.{aggregate_of as op_of};
+ghost use Rattle.vx_values.specs.Values.{Row as Cells};
+ghost use Rattle.vx_values.specs.ValueView.{cell_val};
+ghost use Rattle.vx_rows.specs.View.{row, AreColumns};
+ghost use Rattle.vx_nodes.specs.Plan.{group};
+ghost use Rattle.vx_nodes.specs.Types.{unary_types, aggregate_type};
+ghost use Rattle.vx_nodes.specs.Serial.{group_rows};
+ghost use Rattle.vx_nodes.specs.Outline.{aggregate_of as op_of};
 ghost use Rattle.vx_algebra.specs.Groups.{HasTaken, HasTakenSome, all_held, advance, held_fits};
 ghost use Rattle.vx_algebra.specs.Shown.{held};
 ghost use Rattle.vx_algebra.specs.GroupFaults.{GroupBlame, TakeBlame, EndBlame, StepsBlame, CellsBlame};
@@ -17,7 +18,7 @@ use crate::keys::Keys;
 use crate::projection::types_at;
 use std::alloc::{AllocError, Global};
 use std::marker::Model;
-use vx_plan::Aggregate;
+use vx_nodes::Aggregate;
 use vx_rows::{Cell, ColType, Row, Rows};
 
 /// Rows by key, in order of first occurrence: each key with the aggregates of its rows.
@@ -35,7 +36,7 @@ pub struct Grouping {
 impl Model for Grouping {
     ghost use Rattle.std.specs.Prelude.{◌≤◌, length, map};
     ghost use Rattle.vx_rows.specs.View.{AreColumns};
-    ghost use Rattle.vx_plan.specs.Outline.{aggregate_of as op_of};
+    ghost use Rattle.vx_nodes.specs.Outline.{aggregate_of as op_of};
     ghost use Rattle.vx_algebra.specs.Groups.{Groups};
     ghost use Rattle.vx_algebra.specs.Shown.{held};
 

@@ -1,9 +1,9 @@
 //! The hash join: a table of the right rows by key is built, and each left row probes it (DeWitt and others, 1984).
 
 ghost use Rattle.std.specs.Prelude.{◌≡◌, ◌<◌, ◌+◌, ◌++◌, [], ℕ, List, length, map, take, OnOk, IfOk};
-ghost use Rattle.vx_rows.specs.Values.{Row as Cells, row_eq, pick};
+ghost use Rattle.vx_values.specs.Values.{Row as Cells, row_eq, pick};
 ghost use Rattle.vx_rows.specs.View.{row, AreColumns, ArePositions};
-ghost use Rattle.vx_plan.specs.Serial.{join_rows};
+ghost use Rattle.vx_nodes.specs.Serial.{join_rows};
 ghost use Rattle.vx_algebra.specs.Build.{HasBuilt, places_of};
 
 use crate::keys::Keys;

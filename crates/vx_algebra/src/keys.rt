@@ -2,7 +2,7 @@
 
 ghost use Rattle.std.specs.Prelude.{◌≡◌, ◌<◌, ◌≤◌, ◌++◌, ◌∷◌, [], if◌then◌else◌, length, OnOk, OnErr, IfOk, position, slice_get, Some};
 ghost use Rattle.std.specs.List.{position_or_len, IsDistinct};
-ghost use Rattle.vx_rows.specs.Values.{row_eq};
+ghost use Rattle.vx_values.specs.Values.{row_eq};
 ghost use Rattle.indexmap.specs.IndexSet.{insert_key};
 
 use indexmap::IndexSet;
@@ -18,7 +18,7 @@ pub struct Keys {
 
 impl Model for Keys {
     ghost use Rattle.std.specs.Prelude.{List};
-    ghost use Rattle.vx_rows.specs.Values.{Row};
+    ghost use Rattle.vx_values.specs.Values.{Row};
 
     ghost Value = { List Row };
 

@@ -2,10 +2,10 @@
 
 ghost use Rattle.std.specs.Prelude.{◌≡◌, ◌<◌, ◌≤◌, ◌+◌, ◌++◌, ◌∷◌, ◌&&◌, [], ℕ, List, length, map, take, slice_range, nat_lt, true, false, OnOk, IfOk, IfErr};
 ghost use Rattle.std.specs.declared.cmp.Ordering.TheVariants.{Less};
-ghost use Rattle.vx_rows.specs.Values.{Row as Cells, row_cmp, pick};
+ghost use Rattle.vx_values.specs.Values.{Row as Cells, row_cmp, pick};
 ghost use Rattle.vx_rows.specs.Order.{sorted};
 ghost use Rattle.vx_rows.specs.View.{row, AreColumns};
-ghost use Rattle.vx_plan.specs.Serial.{join_rows};
+ghost use Rattle.vx_nodes.specs.Serial.{join_rows};
 ghost use Rattle.vx_algebra.specs.Merged.{HasMerged, HoldsKey, MergeBlame};
 
 use crate::join::joined_none;

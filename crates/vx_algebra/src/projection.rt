@@ -1,8 +1,8 @@
 //! Projection: some columns of each row.
 
 ghost use Rattle.std.specs.Prelude.{◌≡◌, length, map, IfOk};
-ghost use Rattle.vx_rows.specs.Types.{type_at};
-ghost use Rattle.vx_rows.specs.Values.{pick};
+ghost use Rattle.vx_values.specs.Types.{type_at};
+ghost use Rattle.vx_values.specs.Values.{pick};
 ghost use Rattle.vx_rows.specs.View.{AreColumns};
 
 use std::alloc::{AllocError, Global};

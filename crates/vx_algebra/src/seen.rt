@@ -1,10 +1,10 @@
 //! Distinct rows: the first occurrence of each.
 
 ghost use Rattle.std.specs.Prelude.{List, ◌≡◌, ◌<◌, ◌++◌, ◌∷◌, [], length, map, OnOk, OnErr, IfOk, if◌then◌else◌};
-ghost use Rattle.vx_rows.specs.Types.{type_at};
-ghost use Rattle.vx_rows.specs.Values.{Row, row_eq, pick};
+ghost use Rattle.vx_values.specs.Types.{type_at};
+ghost use Rattle.vx_values.specs.Values.{Row, row_eq, pick};
 ghost use Rattle.vx_rows.specs.View.{row, AreColumns};
-ghost use Rattle.vx_plan.specs.Serial.{firsts};
+ghost use Rattle.vx_nodes.specs.Serial.{firsts};
 ghost use Rattle.indexmap.specs.IndexSet.{insert_key};
 
 use crate::keys::Keys;
@@ -22,7 +22,7 @@ pub struct Seen {
 
 impl Model for Seen {
     ghost use Rattle.std.specs.Prelude.{List};
-    ghost use Rattle.vx_rows.specs.Values.{Row};
+    ghost use Rattle.vx_values.specs.Values.{Row};
 
     ghost Value = { List Row };
 

@@ -2,16 +2,15 @@
 
 ghost use Rattle.std.specs.Prelude.{◌≡◌, ◌<◌, ◌≤◌, ◌++◌, length, slice_range, unwrap_or, OnOk, IfOk, filter};
 ghost use Rattle.vx_rows.specs.View.{row};
-ghost use Rattle.vx_plan.specs.Serial.{passes, side, answers};
-ghost use Rattle.vx_plan.specs.Conditions.{conditions_of};
-ghost use Rattle.vx_document.specs.Document.{test_of};
-ghost use Rattle.vx_plan.specs.Outline.{side_of};
-ghost use Rattle.vx_rows.specs.View.{cell_val};
+ghost use Rattle.vx_nodes.specs.Serial.{passes, side, answers};
+ghost use Rattle.vx_nodes.specs.Conditions.{conditions_of};
+ghost use Rattle.vx_values.specs.ValueView.{test_of, cell_val};
+ghost use Rattle.vx_nodes.specs.Outline.{side_of};
 
 use crate::cells::cell_or_zero;
 use std::alloc::{AllocError, Global};
 use std::cmp::Ordering;
-use vx_plan::{Condition, Side, Test};
+use vx_nodes::{Condition, Side, Test};
 use vx_rows::{Cell, Rows, compare_cells};
 
 // What a test says of a comparison.

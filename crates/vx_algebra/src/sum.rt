@@ -1,7 +1,7 @@
 //! A sum that no 64-bit numbers make too large, up to 2^62 of them.
 
 ghost use Rattle.std.specs.Prelude.{◌≡◌, ◌≤◌, ◌*◌, ◌+◌, ◌^◌, pos, neg_ℤ, ◌+ℤ◌, ◌≤ℤ◌, OnOk, OnErr, IfSome, IfNone, true, false};
-ghost use Rattle.vx_rows.specs.Types.{fits_64};
+ghost use Rattle.vx_values.specs.Types.{fits_64};
 
 /// A sum has its 2^62 numbers.
 #[derive(Clone, Copy, Debug, PartialEq, Eq)]

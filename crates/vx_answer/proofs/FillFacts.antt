@@ -2,11 +2,11 @@
 use Rattle.std.proofs.Common.{◌≡◌, ℕ, zero, suc, ◌+◌, ◌<◌, ◌≤◌, List, [], ◌∷◌, Bool, true, false, refl, sym, ap, ◌∙◌, map, length, length-set, arith, slice_index_or, inl, inr, subst}
 use Rattle.std.proofs.lemmas.List.{get_or-set_same, get_or-set_other, get_or_past, length-map}
 use Rattle.std.proofs.lemmas.Bool.{cases_lt}
-use Rattle.vx_rows.specs.Values.{Row}
+use Rattle.vx_values.specs.Values.{Row}
 use Rattle.vx_catalog.specs.Relation.{Relation}
 use Rattle.vx_catalog.specs.Catalog.{relation_at}
 use Rattle.vx_catalog.specs.Database.{Database, rows_at, with_rows}
-use Rattle.vx_plan.specs.Plan.{Plan}
+use Rattle.vx_nodes.specs.Plan.{Plan}
 use Rattle.vx_answer.specs.declared.refusal.Refusal.{Refusal}
 use Rattle.vx_answer.specs.Filled.{scans, IsFilled, IsFirstMissing, first_missing}
 

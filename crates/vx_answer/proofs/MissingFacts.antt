@@ -1,6 +1,6 @@
 -- Why the texts of a bundle have no rows of a relation.
 use Rattle.std.proofs.Common.{◌≡◌, ℕ, List, Some, None, Result, Err, String, Global, string_bytes, sym, ap, ◌∙◌}
-use Rattle.vx_rows.specs.Values.{Row}
+use Rattle.vx_values.specs.Values.{Row}
 use Rattle.vx_catalog.specs.Relation.{Relation}
 use Rattle.vx_catalog.specs.Loading.{load_of}
 use Rattle.vx_catalog.specs.Loading as loading

@@ -4,16 +4,17 @@ use Rattle.std.specs.Prelude.{⊤, IfOk}
 use Rattle.std.specs.List.{list_all}
 use Rattle.vx_catalog.specs.Relation.{Relation}
 use Rattle.vx_catalog.specs.Catalog.{relation_at}
-use Rattle.vx_document.specs.Document.{Name, ClaimForm, ConditionForm, ScanForm, Tree, Document}
+use Rattle.vx_values.specs.Values.{Name}
+use Rattle.vx_document.specs.Document.{ClaimForm, ConditionForm, ScanForm, Tree, Document}
 use Rattle.vx_document.specs.Document as form
 use Rattle.vx_document.specs.Fault.{Refusal, ◌>>=◌, Gives}
 use Rattle.vx_document.specs.Reading.{document_in}
 use Rattle.vx_document.specs.declared.fault.PlanFault.{PlanFault}
 use Rattle.vx_document.proofs.Holds.{Holds, holds_then, holds_at}
-use Rattle.vx_plan.specs.Plan as plan
+use Rattle.vx_nodes.specs.Plan as plan
 use Rattle.vx_plan.specs.Typed.{is_condition}
 use Rattle.vx_plan.specs.Lookup.{Names, size_found, columns_found, matched, walk_onto}
-use Rattle.vx_plan.specs.Outline.{Columns, Top, Outline, scan, unary, exchange, columns, plan_in}
+use Rattle.vx_nodes.specs.Outline.{Columns, Top, Outline, scan, unary, exchange, columns, plan_in}
 use Rattle.vx_plan.specs.Resolve.{Shape, Resolved, scan_columns, relation_found, topped, scan_typed, conditions_found, select_shape, unary_shape, unary_typed, kind_found, kind_fits, exchange_columns, exchange_once, exchange_shape, exchange_typed, typed_in, sizes_tested, ranges_tested, resolved}
 use Rattle.vx_plan.specs.TypedView.{resolved_of}
 use Rattle.vx_plan.specs.declared.typed_plan.TypedPlan.{TypedPlan}

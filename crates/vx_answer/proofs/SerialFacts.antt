@@ -3,7 +3,7 @@ use Rattle.std.proofs.Common.{◌≡◌, ◌∙◌, Bool, false, refl, ap, subst
 use Rattle.vx_catalog.specs.Database.{Database}
 use Rattle.vx_plan.specs.Erased.{erased_from}
 use Rattle.vx_plan.specs.Lookup.{Names}
-use Rattle.vx_plan.specs.Outline.{Outline}
+use Rattle.vx_nodes.specs.Outline.{Outline}
 use Rattle.vx_plan.specs.Resolve.{Resolved}
 use Rattle.vx_serial.specs.Results.{EvalFails}
 use Rattle.vx_serial.specs.declared.fault.EvalFault.{EvalFault}

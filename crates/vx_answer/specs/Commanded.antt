@@ -1,13 +1,13 @@
 -- What a command makes of a plan over tables, and why it makes nothing of it. What the tables have is told by `holds`, and how they refuse a relation by `lacks`.
 use Rattle.std.specs.Prelude.{◌≡◌, ℕ, List, Bool, true, false, cond, Option, Some, None, codes}
-use Rattle.vx_rows.specs.Values.{Row}
+use Rattle.vx_values.specs.Values.{Row}
 use Rattle.vx_rows.specs.View.{Table}
 use Rattle.vx_catalog.specs.Relation.{Relation}
 use Rattle.vx_catalog.specs.Catalog.{relation_at}
 use Rattle.vx_catalog.specs.Csv.{csv_text}
 use Rattle.vx_catalog.specs.Database.{Database}
 use Rattle.vx_plan.specs.Erased.{erased_from}
-use Rattle.vx_plan.specs.Outline.{columns, plan_in}
+use Rattle.vx_nodes.specs.Outline.{columns, plan_in}
 use Rattle.vx_plan.specs.Resolve.{Resolved}
 use Rattle.vx_check.specs.Refusal.{Rule, refusal}
 use Rattle.vx_check.specs.RuleView.{rule_of}

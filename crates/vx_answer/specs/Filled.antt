@@ -1,10 +1,10 @@
 -- The rows of the relations that a plan scans, from tables. What tables have is told by which rows they hold of a relation, and by how they refuse one.
 use Rattle.std.specs.Prelude.{◌≡◌, ℕ, ◌<◌, ◌==◌, ◌||◌, List, [], length, Bool, true, false}
-use Rattle.vx_rows.specs.Values.{Row}
+use Rattle.vx_values.specs.Values.{Row}
 use Rattle.vx_catalog.specs.Relation.{Relation}
 use Rattle.vx_catalog.specs.Catalog.{relation_at}
 use Rattle.vx_catalog.specs.Database.{Database, rows_at}
-use Rattle.vx_plan.specs.Plan.{Plan, scan, unary, binary, exchange}
+use Rattle.vx_nodes.specs.Plan.{Plan, scan, unary, binary, exchange}
 use Rattle.vx_answer.specs.declared.refusal.Refusal.{Refusal}
 use Rattle.vx_answer.specs.declared.refusal.Refusal.TheVariants as refusal
 

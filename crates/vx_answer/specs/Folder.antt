@@ -1,7 +1,7 @@
 -- The rows of relations, from the files of a folder: the text of a relation NAME is in FOLDER/NAME.csv.
 use Rattle.std.specs.Prelude.{◌≡◌, ◌≢◌, ℕ, List, ◌++◌, Bool, false, Option, None, Ok, IfSome, String, string_bytes, codes}
 use Rattle.std.specs.declared.alloc.Global.{Global}
-use Rattle.vx_rows.specs.Values.{Row}
+use Rattle.vx_values.specs.Values.{Row}
 use Rattle.vx_catalog.specs.Relation.{Relation}
 use Rattle.vx_catalog.specs.Loading.{load_of, Fails}
 use Rattle.vx_catalog.specs.declared.fault.LoadFault.{LoadFault}

@@ -2,7 +2,7 @@
 use Rattle.std.specs.Prelude.{◌≡◌, ℕ, List, Option, Some, None, option_map, bytes_eq, string_bytes, String, Result, Ok, Err}
 use Rattle.std.specs.List.{find}
 use Rattle.std.specs.declared.alloc.Global.{Global}
-use Rattle.vx_rows.specs.Values.{Row}
+use Rattle.vx_values.specs.Values.{Row}
 use Rattle.vx_catalog.specs.Relation.{Relation}
 use Rattle.vx_catalog.specs.Loading.{load_of}
 use Rattle.vx_catalog.specs.declared.fault.LoadFault.{LoadFault}

@@ -2,7 +2,7 @@
 
 ghost use Rattle.std.specs.Prelude.{◌≡◌, true, IfOk, IfErr};
 ghost use Rattle.vx_plan.specs.TypedView.{resolved_of};
-ghost use Rattle.vx_plan.specs.Outline.{plan_in};
+ghost use Rattle.vx_nodes.specs.Outline.{plan_in};
 ghost use Rattle.vx_check.specs.CheckedView.{typed_plan};
 ghost use Rattle.vx_exec.specs.Sizes.{can_run};
 ghost use Rattle.vx_answer.specs.Commanded.{IsShown, IsNotShown, accepted_text, IsFor, CommandRefuses};

@@ -3,7 +3,7 @@
 ghost use Rattle.std.specs.Prelude.{◌≡◌, map, flat_map};
 ghost use Rattle.std.specs.List.{fold};
 ghost use Rattle.std.proofs.lemmas.Nat.{mod_below};
-ghost use Rattle.vx_rows.specs.View.{val_of};
+ghost use Rattle.vx_values.specs.ValueView.{val_of};
 ghost use Rattle.vx_answer.specs.ByteRouter.{hash_byte, value_bytes, key_hash, byte_route};
 
 use vx_plan::Router;

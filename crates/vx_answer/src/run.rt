@@ -2,7 +2,7 @@
 
 ghost use Rattle.std.specs.Prelude.{◌≡◌, true, map, IfOk, IfErr};
 ghost use Rattle.vx_catalog.specs.Csv.{csv_text};
-ghost use Rattle.vx_plan.specs.Outline.{columns};
+ghost use Rattle.vx_nodes.specs.Outline.{columns};
 ghost use Rattle.vx_plan.specs.TypedView.{plan as plan_of_typed, resolved_of};
 ghost use Rattle.vx_check.specs.CheckedView.{typed_plan};
 ghost use Rattle.vx_exec.specs.Sizes.{can_run};

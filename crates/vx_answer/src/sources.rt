@@ -4,7 +4,7 @@ ghost use Rattle.std.specs.Prelude.{◌≡◌, true, false, codes, IfOk, IfErr, 
 ghost use Rattle.vx_rows.specs.Ports.{IsAll};
 ghost use Rattle.vx_document.specs.Fault.{Gives};
 ghost use Rattle.vx_plan.specs.TypedView.{resolved_of};
-ghost use Rattle.vx_plan.specs.Outline.{plan_in};
+ghost use Rattle.vx_nodes.specs.Outline.{plan_in};
 ghost use Rattle.vx_exec.specs.Sizes.{can_run};
 ghost use Rattle.vx_words.specs.Asked.{paths_are};
 ghost use Rattle.vx_answer.specs.Worded.{is_input, told_at, plan_text, IsFileRefusal, IsInputRefusal, Untaken, UnplannedIn, IsPlannedIn, catalog_told, plan_told};

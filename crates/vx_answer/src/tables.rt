@@ -1,10 +1,10 @@
 //! The rows of the relations that a plan scans.
 
 ghost use Rattle.std.specs.Prelude.{◌≡◌, ◌<◌, length, IfOk, IfErr, OnOk, List};
-ghost use Rattle.vx_rows.specs.Values.{Row};
+ghost use Rattle.vx_values.specs.Values.{Row};
 ghost use Rattle.vx_catalog.specs.Catalog.{relation_at};
 ghost use Rattle.vx_catalog.specs.Database.{with_rows};
-ghost use Rattle.vx_plan.specs.Outline.{plan_of};
+ghost use Rattle.vx_nodes.specs.Outline.{plan_of};
 ghost use Rattle.vx_plan.specs.TypedView.{scope, plan as plan_of_typed};
 ghost use Rattle.vx_answer.specs.Filled.{scans, IsFilled, IsFirstMissing};
 
@@ -16,7 +16,7 @@ use vx_plan::{TypedNode, TypedPlan};
 /// What has the rows of relations: the texts of a bundle, or the files of a folder.
 pub trait Tables {
     ghost use Rattle.std.specs.Prelude.{◌≡◌, ◌<◌, List, length, IfOk, IfErr};
-    ghost use Rattle.vx_rows.specs.Values.{Row};
+    ghost use Rattle.vx_values.specs.Values.{Row};
     ghost use Rattle.vx_catalog.specs.Relation.{Relation};
     ghost use Rattle.vx_catalog.specs.Catalog.{relation_at};
     ghost use Rattle.vx_answer.specs.declared.refusal.Refusal.{Refusal};

@@ -1,7 +1,7 @@
 //! Rows kept by columns.
 
 ghost use Rattle.std.specs.Prelude.{◌≡◌, ◌<◌, ◌+◌, length, IsTrue, map, IfOk};
-ghost use Rattle.vx_rows.specs.Types.{type_at};
+ghost use Rattle.vx_values.specs.Types.{type_at};
 ghost use Rattle.vx_rows.specs.View.{AreColumns, ArePositions};
 
 use crate::{Bench, Times, types_of, values_of};

@@ -3,7 +3,7 @@ use Rattle.std.proofs.Common.{◌≡◌, ℕ, ◌+◌, ◌<◌, List, [], ◌∷
 use Rattle.std.proofs.lemmas.Grind.{flat_map-append}
 use Rattle.std.proofs.lemmas.List.{append-nil, take_more}
 use Rattle.csv.specs.Writing.{default_writer, row_text}
-use Rattle.vx_rows.specs.Values.{Row}
+use Rattle.vx_values.specs.Values.{Row}
 use Rattle.vx_catalog.specs.Csv.{line_text, csv_text}
 
 pub csv_more : (names : List (List ℕ)) (rows : List Row) (i : ℕ) → i < length rows → csv_text names (take (i + 1) rows) ≡ csv_text names (take i rows) ++ line_text (get_or rows i [])

@@ -4,7 +4,7 @@ use Rattle.std.proofs.lemmas.List.{get_or_push, get_or_append_left}
 use Rattle.std.proofs.lemmas.Bool.{cases_lt}
 use Rattle.std.proofs.lemmas.List.{length-map, get_or-map}
 use Rattle.std.proofs.Math.ListN.{get_or-eq_default}
-use Rattle.vx_rows.specs.Values.{Row}
+use Rattle.vx_values.specs.Values.{Row}
 use Rattle.vx_rows.specs.View.{Table}
 use Rattle.vx_catalog.specs.Relation.{Relation, KeysHold, Meets}
 use Rattle.vx_catalog.specs.Catalog.{relation_at}

@@ -4,8 +4,8 @@ use Rattle.std.specs.Prelude.{IfSome, option_map}
 use Rattle.csv.specs.Reading.{strip_bom}
 use Rattle.csv.specs.declared.parser.State.{State}
 use Rattle.csv.specs.declared.parser.State.TheVariants as st
-use Rattle.vx_rows.specs.Values.{Row}
-use Rattle.vx_rows.specs.declared.value.ColType.{ColType}
+use Rattle.vx_values.specs.Values.{Row}
+use Rattle.vx_values.specs.declared.value.ColType.{ColType}
 use Rattle.vx_catalog.specs.Relation.{Relation}
 use Rattle.vx_catalog.specs.Walk.{◌>>=◌}
 use Rattle.vx_catalog.specs.Records.{records_left, Begins}

@@ -7,10 +7,10 @@ use Rattle.std.specs.Str.{is_utf8}
 use Rattle.std.proofs.lemmas.List.{append-nil, length-append, length_push}
 use Rattle.std.proofs.lemmas.Bool.Decides.{Decides-ltb, Decides-eqb}
 use Rattle.csv.specs.Records.{field_at}
-use Rattle.vx_rows.specs.Values.{Val, num, text, Row}
+use Rattle.vx_values.specs.Values.{Val, num, text, Row}
 use Rattle.vx_rows.specs.Order.{sorted}
-use Rattle.vx_rows.specs.declared.value.ColType.{ColType}
-use Rattle.vx_rows.specs.declared.value.ColType.TheVariants as kind
+use Rattle.vx_values.specs.declared.value.ColType.{ColType}
+use Rattle.vx_values.specs.declared.value.ColType.TheVariants as kind
 use Rattle.vx_rows.proofs.KeyFacts.{key-law}
 use Rattle.vx_rows.proofs.Order.{NoFall, sorted_neighbours}
 use Rattle.vx_catalog.specs.Relation.{Relation, KeysHold}

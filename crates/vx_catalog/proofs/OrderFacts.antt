@@ -1,11 +1,11 @@
 -- Keys and order of rows, one after another, and what is shown when none is broken.
 use Rattle.std.proofs.Common.{◌≡◌, ℕ, zero, suc, ◌+◌, ◌<◌, ◌≤◌, List, [], ◌∷◌, Bool, true, false, cond, Option, Some, None, Result, Ok, Err, refl, sym, ap, ◌∙◌, length, get_or, drop, arith, add-one, drop-cons, nat_lt, is_lt}
 use Rattle.std.specs.List.{AllByRecursion}
-use Rattle.vx_rows.specs.Types.{Fits}
+use Rattle.vx_values.specs.Types.{Fits}
 use Rattle.std.proofs.lemmas.List.{drop_all}
 use Rattle.std.proofs.lemmas.Bool.Decides.{Decides-ltb}
 use Rattle.std.proofs.lemmas.List.Sums.{AllPass-from_list_all}
-use Rattle.vx_rows.specs.Values.{Row}
+use Rattle.vx_values.specs.Values.{Row}
 use Rattle.vx_rows.specs.Order.{compare_on, sorted}
 use Rattle.vx_rows.specs.Keys.{first_clash, HasKey}
 use Rattle.vx_rows.specs.View.{AreColumns}

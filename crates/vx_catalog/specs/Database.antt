@@ -1,6 +1,6 @@
 -- Databases: for each relation of a catalog rows that meet it.
 use Rattle.std.specs.Prelude.{◌≡◌, ℕ, ◌<◌, ◌≤◌, List, [], length, slice_index_or, slice_set}
-use Rattle.vx_rows.specs.Values.{Row}
+use Rattle.vx_values.specs.Values.{Row}
 use Rattle.vx_rows.specs.View.{Table}
 use Rattle.vx_catalog.specs.Relation.{Relation, Meets}
 use Rattle.vx_catalog.specs.Catalog.{relation_at}

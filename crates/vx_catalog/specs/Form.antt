@@ -2,8 +2,8 @@
 use Rattle.std.specs.Prelude.{ℕ, List, [], ◌∷◌, Option, Some, None, option_map, option_and_then, bytes_eq, codes, if◌then◌else◌}
 use Rattle.serde_json.specs.Data.{Data}
 use Rattle.serde_json.specs.Find.{get, as_str}
-use Rattle.vx_rows.specs.declared.value.ColType.{ColType}
-use Rattle.vx_rows.specs.declared.value.ColType.TheVariants as kind
+use Rattle.vx_values.specs.declared.value.ColType.{ColType}
+use Rattle.vx_values.specs.declared.value.ColType.TheVariants as kind
 use Rattle.vx_json.specs.Look.{as_list, has_only, some_entry, name_in, each_onto}
 
 -- a column as the catalog's text has it

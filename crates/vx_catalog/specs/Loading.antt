@@ -4,11 +4,11 @@ use Rattle.std.specs.Ordering.{is_lt}
 use Rattle.std.specs.Str.{is_utf8}
 use Rattle.csv.specs.Reading.{records, default_config, strip_bom}
 use Rattle.csv.specs.Records.{field_at}
-use Rattle.vx_rows.specs.Values.{Val, num, text, Row}
+use Rattle.vx_values.specs.Values.{Val, num, text, Row}
 use Rattle.vx_rows.specs.Order.{compare_on}
 use Rattle.vx_rows.specs.Keys.{first_clash}
-use Rattle.vx_rows.specs.declared.value.ColType.{ColType}
-use Rattle.vx_rows.specs.declared.value.ColType.TheVariants as kind
+use Rattle.vx_values.specs.declared.value.ColType.{ColType}
+use Rattle.vx_values.specs.declared.value.ColType.TheVariants as kind
 use Rattle.vx_catalog.specs.Relation.{Relation}
 use Rattle.vx_catalog.specs.Walk.{◌>>=◌, walk_onto}
 use Rattle.vx_catalog.specs.Number.{number_of}

@@ -1,7 +1,7 @@
 //! What a catalog declares of one relation.
 
 ghost use Rattle.std.specs.Prelude.{◌≡◌, ◌↔◌, ◌<◌, [], map, length, position, bytes_eq, string_bytes, slice_index_or, IfOk, IsTrue};
-ghost use Rattle.vx_rows.specs.Types.{type_at};
+ghost use Rattle.vx_values.specs.Types.{type_at};
 
 use crate::names::find_name;
 use std::alloc::{AllocError, Global};

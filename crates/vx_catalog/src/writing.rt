@@ -4,7 +4,8 @@ ghost use Rattle.std.specs.Prelude.{◌≡◌, ◌<◌, ◌++◌, ◌∷◌, [],
 ghost use Rattle.std.specs.Io.KnownBytes.{Appends};
 ghost use Rattle.csv.specs.Records.{fields_of};
 ghost use Rattle.csv.specs.Writing.{row_text, default_writer};
-ghost use Rattle.vx_rows.specs.View.{cell_val, row};
+ghost use Rattle.vx_values.specs.ValueView.{cell_val};
+ghost use Rattle.vx_rows.specs.View.{row};
 ghost use Rattle.vx_catalog.specs.Csv.{field_text, csv_text};
 ghost use Rattle.vx_catalog.specs.Text.{StandsAt};
 

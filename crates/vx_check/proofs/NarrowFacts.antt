@@ -1,13 +1,13 @@
 -- A typed plan has few columns at each node.
 use Rattle.std.proofs.Common.{◌≡◌, ℕ, ◌+◌, nat_lt, nat_le, Bool, true, ◌&&◌, List, map, length, refl, ap, ◌∙◌, subst, length-append}
 use Rattle.std.proofs.lemmas.List.{length-map}
-pub use Rattle.vx_rows.proofs.Order.{and-left, and-right, and-both}
-use Rattle.vx_rows.specs.declared.value.ColType.{ColType}
-use Rattle.vx_rows.specs.Types.{type_at}
+pub use Rattle.vx_values.proofs.Booleans.{and-left, and-right, and-both}
+use Rattle.vx_values.specs.declared.value.ColType.{ColType}
+use Rattle.vx_values.specs.Types.{type_at}
 use Rattle.vx_catalog.specs.Relation.{Relation}
 use Rattle.vx_catalog.specs.Catalog.{relation_at}
-use Rattle.vx_plan.specs.Plan.{Claim, Unary, select, project, distinct, sort, group, Binary, union, join, Plan, scan, unary, binary, exchange}
-use Rattle.vx_plan.specs.Types.{aggregate_type, unary_types, unary_width, binary_types, binary_width, types_of, width}
+use Rattle.vx_nodes.specs.Plan.{Claim, Unary, select, project, distinct, sort, group, Binary, union, join, Plan, scan, unary, binary, exchange}
+use Rattle.vx_nodes.specs.Types.{aggregate_type, unary_types, unary_width, binary_types, binary_width, types_of, width}
 use Rattle.vx_plan.specs.Typed.{Scope, are_columns, is_claim, is_unary, is_binary, is_kind, is_size, is_output, typed}
 use Rattle.vx_check.specs.Narrow.{narrow}
 

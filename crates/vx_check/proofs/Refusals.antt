@@ -1,7 +1,7 @@
 -- Where no test fails at any node, the plan is allowed.
 use Rattle.std.proofs.Common.{ap, ◌∙◌, ◌≡◌, ℕ, Bool, true, false, cond, ◌&&◌, List, [], ◌∷◌, Option, Some, None, option_map, refl, ◌↔◌}
 use Rattle.vx_catalog.specs.Relation.{Relation}
-use Rattle.vx_plan.specs.Plan.{Plan, scan, unary, binary, exchange, number}
+use Rattle.vx_nodes.specs.Plan.{Plan, scan, unary, binary, exchange, number}
 use Rattle.vx_check.specs.Rules.{allowed, allowed_here, root_allowed}
 use Rattle.vx_check.specs.Refusal.{Rule, first_failure, node_tests, root_tests, or_else, refused_at, first_refused, refusal}
 use Rattle.vx_check.proofs.NarrowFacts.{and-both, and-left, and-right}

@@ -1,15 +1,15 @@
 -- What a claim means: of the streams of a node's workers and of the serial rows of the plan below it.
 use Rattle.std.specs.Prelude.{◌≡◌, ℕ, ◌<◌, ◌==◌, Bool, true, List}
 use Rattle.std.specs.List.{list_all}
-use Rattle.vx_rows.specs.Values.{Row, pick}
+use Rattle.vx_values.specs.Values.{Row, pick}
 use Rattle.vx_rows.specs.Order.{sorted}
 use Rattle.vx_rows.specs.Bags.{SameRows}
-use Rattle.vx_plan.specs.Plan.{Route, Part, one, any, all, routed, Claim, Plan, claim, size}
+use Rattle.vx_nodes.specs.Plan.{Route, Part, one, any, all, routed, Claim, Plan, claim, size}
 use Rattle.vx_catalog.specs.Relation.{Relation, KeysHold, Meets}
-use Rattle.vx_plan.specs.Serial.{rows, serial}
-use Rattle.vx_plan.specs.Streams.{Streams, joined, workers}
-use Rattle.vx_plan.specs.Routes.{Router}
-use Rattle.vx_plan.specs.Erase.{erase}
+use Rattle.vx_nodes.specs.Serial.{rows, serial}
+use Rattle.vx_nodes.specs.Streams.{Streams, joined, workers}
+use Rattle.vx_nodes.specs.Routes.{Router}
+use Rattle.vx_nodes.specs.Erase.{erase}
 
 -- each row stands in the stream of the consumer that its key is sent to
 abbrev pub InItsStream : Router → Route → List ℕ → ℕ → Streams → Type 0

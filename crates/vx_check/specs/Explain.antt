@@ -3,13 +3,12 @@ use Rattle.std.specs.Prelude.{ℕ, suc, ◌++◌, Bool, true, false, cond, List,
 use Rattle.std.specs.Fmt.{signed_decimal}
 use Rattle.serde_json.specs.Data.{string}
 use Rattle.serde_json.specs.Written.{compact_text}
-use Rattle.vx_rows.specs.Values.{Val, num, text}
+use Rattle.vx_values.specs.Values.{Val, num, text, Name}
 use Rattle.vx_catalog.specs.Catalog.{relation_at}
-use Rattle.vx_plan.specs.Plan.{Size, one_worker, group_of, Route, by_hash, by_range, Part, one, any, all, routed, Claim, Side, column, constant, Condition, Aggregate, least, greatest, sum, count_rows, Unary, select, project, distinct, sort, group, Binary, union, join, Kind, route_to, round, broadcast, gather, size}
-use Rattle.vx_document.specs.Test.{test_text}
-use Rattle.vx_document.specs.Document.{Name}
+use Rattle.vx_nodes.specs.Plan.{Size, one_worker, group_of, Route, by_hash, by_range, Part, one, any, all, routed, Claim, Side, column, constant, Condition, Aggregate, least, greatest, sum, count_rows, Unary, select, project, distinct, sort, group, Binary, union, join, Kind, route_to, round, broadcast, gather, size}
+use Rattle.vx_values.specs.Test.{test_text}
 use Rattle.vx_plan.specs.Lookup.{Names}
-use Rattle.vx_plan.specs.Outline.{Outline, scan, unary, binary, exchange, top, columns, plan_in}
+use Rattle.vx_nodes.specs.Outline.{Outline, scan, unary, binary, exchange, top, columns, plan_in}
 
 -- the name with this number
 abbrev pub name_at : List Name → ℕ → Name

@@ -1,6 +1,6 @@
 -- What operators over two inputs show, in the words of the rule table.
 use Rattle.std.specs.Prelude.{ℕ, Bool, false, List, []}
-use Rattle.vx_plan.specs.Plan.{Part, Plan, Binary, union, join}
+use Rattle.vx_nodes.specs.Plan.{Part, Plan, Binary, union, join}
 use Rattle.vx_check.specs.Rules.{front, join_keys, both_have, join_shows}
 
 -- the orders over a left input that is sorted so

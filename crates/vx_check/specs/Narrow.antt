@@ -1,8 +1,8 @@
 -- Plans whose nodes have few columns each.
 use Rattle.std.specs.Prelude.{ℕ, nat_le, Bool, ◌&&◌}
 use Rattle.vx_catalog.specs.Relation.{Relation}
-use Rattle.vx_plan.specs.Plan.{Plan, scan, unary, binary, exchange}
-use Rattle.vx_plan.specs.Types.{width}
+use Rattle.vx_nodes.specs.Plan.{Plan, scan, unary, binary, exchange}
+use Rattle.vx_nodes.specs.Types.{width}
 
 -- every node has at most 64 output columns
 abbrev pub narrow : (ℕ → Relation) → Plan → Bool

@@ -1,9 +1,9 @@
 -- The rule table (our own): what a node may claim, from size names, claims and columns alone, and at a scan from what the catalog declares. Every rule is a test that computes.
 use Rattle.std.specs.Prelude.{ℕ, zero, suc, ◌+◌, ◌-◌, ◌==◌, nat_lt, nat_le, Bool, true, false, cond, not, ◌&&◌, ◌||◌, List, [], ◌∷◌, map, length, Option, Some, None, slice_get}
 use Rattle.std.specs.List.{list_all, list_any}
-use Rattle.vx_plan.specs.Plan.{Route, by_hash, by_range, Part, one, any, all, routed, Unary, select, project, distinct, sort, group, Binary, union, join, Kind, route_to, round, broadcast, gather, Plan, scan, unary, binary, exchange, claim, size, size_eq, is_one}
+use Rattle.vx_nodes.specs.Plan.{Route, by_hash, by_range, Part, one, any, all, routed, Unary, select, project, distinct, sort, group, Binary, union, join, Kind, route_to, round, broadcast, gather, Plan, scan, unary, binary, exchange, claim, size, size_eq, is_one}
 use Rattle.vx_catalog.specs.Relation.{Relation}
-use Rattle.vx_plan.specs.Types.{width}
+use Rattle.vx_nodes.specs.Types.{width}
 
 -- the same numbers
 abbrev pub numbers_eq : List ℕ → List ℕ → Bool

@@ -1,9 +1,9 @@
 //! What the text that explains a plan says of a node's operator.
 
 ghost use Rattle.std.specs.Prelude.{◌≡◌, ◌++◌, ◌+◌, ◌<◌, ◌^◌, map, string_bytes, length, OnOk, codes, false};
-ghost use Rattle.vx_rows.specs.View.{val_of};
+ghost use Rattle.vx_values.specs.ValueView.{val_of};
 ghost use Rattle.vx_catalog.specs.Catalog.{relation_at};
-ghost use Rattle.vx_plan.specs.Outline.{condition_of, aggregate_of, unary_of, renamed_of, binary_of, kind_of};
+ghost use Rattle.vx_nodes.specs.Outline.{condition_of, aggregate_of, unary_of, renamed_of, binary_of, kind_of};
 ghost use Rattle.vx_plan.specs.TypedView.{names_in};
 ghost use Rattle.vx_check.specs.Explain.{name_at, separated, value_text, condition_text, kept_text, kept_texts, function_text, aggregate_texts, aggregates_text, unary_text, pair_text, binary_text, kind_text, merge_text, scan_text, prefix_text};
 

@@ -1,8 +1,8 @@
 //! The text that explains a plan.
 
 ghost use Rattle.std.specs.Prelude.{◌≡◌, ◌++◌, map, string_bytes, codes, decimal, OnOk, IfOk};
-ghost use Rattle.vx_plan.specs.Plan.{size};
-ghost use Rattle.vx_plan.specs.Outline.{outline_of, plan_of, columns, top};
+ghost use Rattle.vx_nodes.specs.Plan.{size};
+ghost use Rattle.vx_nodes.specs.Outline.{outline_of, plan_of, columns, top};
 ghost use Rattle.vx_plan.specs.TypedView.{names_in};
 ghost use Rattle.vx_check.specs.Explain.{size_text, claim_text, description, line_text, lines};
 ghost use Rattle.vx_check.specs.CheckedView.{typed_plan};

@@ -1,7 +1,7 @@
 //! What a node needs of its inputs' sizes and parts.
 
 ghost use Rattle.std.specs.Prelude.{◌≡◌};
-ghost use Rattle.vx_plan.specs.Outline.{unary_of, binary_of, plan_of};
+ghost use Rattle.vx_nodes.specs.Outline.{unary_of, binary_of, plan_of};
 ghost use Rattle.vx_check.specs.Rules.{sizes_match, not_replicated, keeps_apart, binary_inputs_match, inputs_match};
 
 use crate::nodes::{claimed_part, has_one_worker, have_same_size};

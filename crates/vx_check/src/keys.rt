@@ -3,7 +3,7 @@
 ghost use Rattle.std.specs.Prelude.{◌≡◌, map, true};
 ghost use Rattle.std.specs.List.{list_all};
 ghost use Rattle.vx_catalog.specs.Catalog.{relation_at};
-ghost use Rattle.vx_plan.specs.Outline.{unary_of, binary_of, plan_of};
+ghost use Rattle.vx_nodes.specs.Outline.{unary_of, binary_of, plan_of};
 ghost use Rattle.vx_check.specs.Rules.{covers, unary_keys, keys_shown};
 ghost use Rattle.vx_check.specs.Joints.{binary_keys};
 ghost use Rattle.vx_check.specs.Narrow.{narrow};

@@ -1,8 +1,8 @@
 //! What a node claims, and how many workers it has.
 
 ghost use Rattle.std.specs.Prelude.{◌≡◌, map};
-ghost use Rattle.vx_plan.specs.Plan.{claim, size, size_eq, is_one};
-ghost use Rattle.vx_plan.specs.Outline.{part_of, plan_of};
+ghost use Rattle.vx_nodes.specs.Plan.{claim, size, size_eq, is_one};
+ghost use Rattle.vx_nodes.specs.Outline.{part_of, plan_of};
 
 use vx_plan::{Part, Size, TypedNode};
 

@@ -2,8 +2,8 @@
 
 ghost use Rattle.std.specs.Prelude.{◌≡◌, true, ◌&&◌, ◌||◌};
 ghost use Rattle.vx_catalog.specs.Catalog.{relation_at};
-ghost use Rattle.vx_plan.specs.Plan.{claim, size, is_one};
-ghost use Rattle.vx_plan.specs.Outline.{unary_of, binary_of, plan_of};
+ghost use Rattle.vx_nodes.specs.Plan.{claim, size, is_one};
+ghost use Rattle.vx_nodes.specs.Outline.{unary_of, binary_of, plan_of};
 ghost use Rattle.vx_check.specs.Rules.{front, unary_orders, order_given, order_shown, is_total_order};
 ghost use Rattle.vx_check.specs.Narrow.{narrow};
 ghost use Rattle.vx_check.specs.Joints.{binary_orders};

@@ -1,8 +1,8 @@
 //! Parts: what a claimed one gives, and what an output has of its input's.
 
 ghost use Rattle.std.specs.Prelude.{◌≡◌, ◌||◌, map};
-ghost use Rattle.vx_plan.specs.Plan.{routed};
-ghost use Rattle.vx_plan.specs.Outline.{part_of, route_of, plan_of};
+ghost use Rattle.vx_nodes.specs.Plan.{routed};
+ghost use Rattle.vx_nodes.specs.Outline.{part_of, route_of, plan_of};
 ghost use Rattle.vx_check.specs.Rules.{route_eq, part_gives, has, if_some, contains, within, routed_within, routed_alike, through};
 ghost use Rattle.vx_check.specs.Copies.{copied_by};
 

@@ -2,8 +2,8 @@
 
 ghost use Rattle.std.specs.Prelude.{◌≡◌, true, option_map};
 ghost use Rattle.vx_catalog.specs.Catalog.{relation_at};
-ghost use Rattle.vx_plan.specs.Plan.{number};
-ghost use Rattle.vx_plan.specs.Outline.{plan_of};
+ghost use Rattle.vx_nodes.specs.Plan.{number};
+ghost use Rattle.vx_nodes.specs.Outline.{plan_of};
 ghost use Rattle.vx_check.specs.Refusal.{first_failure, node_tests, root_tests, or_else, refused_at, first_refused, refusal};
 ghost use Rattle.vx_check.specs.RuleView.{rule_of, refusal_of};
 ghost use Rattle.vx_check.specs.Narrow.{narrow};

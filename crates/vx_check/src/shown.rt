@@ -1,9 +1,9 @@
 //! The parts that a node shows.
 
 ghost use Rattle.std.specs.Prelude.{◌≡◌, true, cond};
-ghost use Rattle.vx_plan.specs.Plan.{any, all};
+ghost use Rattle.vx_nodes.specs.Plan.{any, all};
 ghost use Rattle.vx_catalog.specs.Catalog.{relation_at};
-ghost use Rattle.vx_plan.specs.Outline.{part_of, unary_of, binary_of, kind_of, plan_of};
+ghost use Rattle.vx_nodes.specs.Outline.{part_of, unary_of, binary_of, kind_of, plan_of};
 ghost use Rattle.vx_check.specs.Rules.{part_gives, unary_shows, alike_shows, join_shows, both_have, kind_shows, part_shown};
 ghost use Rattle.vx_check.specs.Joints.{binary_shows};
 ghost use Rattle.vx_check.specs.Narrow.{narrow};

@@ -2,8 +2,8 @@
 
 ghost use Rattle.std.specs.Prelude.{◌≡◌, ◌≤◌, true, length};
 ghost use Rattle.vx_catalog.specs.Catalog.{relation_at};
-ghost use Rattle.vx_plan.specs.Types.{unary_width, width};
-ghost use Rattle.vx_plan.specs.Outline.{unary_of, plan_of};
+ghost use Rattle.vx_nodes.specs.Types.{unary_width, width};
+ghost use Rattle.vx_nodes.specs.Outline.{unary_of, plan_of};
 ghost use Rattle.vx_check.specs.Narrow.{narrow};
 
 use vx_catalog::Catalog;

@@ -3,7 +3,7 @@ use Rattle.std.proofs.Common.{◌≡◌, [], ◌∷◌, Bool, true, false, Optio
 use Rattle.std.specs.List.{list_all}
 use Rattle.serde_json.specs.Data.{Data}
 use Rattle.serde_json.specs.Find.{get, as_bool}
-use Rattle.vx_rows.specs.Types.{is_held}
+use Rattle.vx_values.specs.Types.{is_held}
 use Rattle.vx_json.specs.Look.{has_only}
 use Rattle.vx_document.specs.Look.{is_some_list, name_at, value_in, each_in, or_default}
 use Rattle.vx_document.specs.Form.{names_in}

@@ -1,7 +1,7 @@
 -- What holds of an answer, if there is one.
 use Rattle.std.proofs.Common.{◌≡◌, List, [], ◌∷◌, ◌++◌, Bool, true, false, cond, ◌&&◌, Option, Some, None, option_map, option_and_then, Result, Ok, Err, refl, subst}
 use Rattle.std.specs.List.{list_all}
-pub use Rattle.vx_rows.proofs.Order.{and-left, and-right, and-both}
+pub use Rattle.vx_values.proofs.Booleans.{and-left, and-right, and-both}
 use Rattle.serde_json.specs.Data.{Data}
 use Rattle.vx_document.specs.Fault.{Refusal, ◌>>=◌}
 use Rattle.vx_json.specs.Look.{each_onto, some_entry}

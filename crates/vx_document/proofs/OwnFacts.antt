@@ -7,7 +7,8 @@ use Rattle.vx_json.specs.Look.{has_only}
 use Rattle.vx_document.specs.Look.{name_at, text_at, each_in, some_in, or_default}
 use Rattle.vx_document.specs.Look.{is_some_list}
 use Rattle.vx_document.specs.Fault.{Refusal, too_deep, ◌>>=◌}
-use Rattle.vx_document.specs.Document.{Name, AggregateForm, select, project, distinct, sort, BinaryForm, union, join, hash, range, round, broadcast, gather, Tree, unary, binary, exchange}
+use Rattle.vx_values.specs.Values.{Name}
+use Rattle.vx_document.specs.Document.{AggregateForm, select, project, distinct, sort, BinaryForm, union, join, hash, range, round, broadcast, gather, Tree, unary, binary, exchange}
 use Rattle.vx_document.specs.Form.{names_in, some_names_in, claimed, condition_in, output_in, aggregate_in, pair_in}
 use Rattle.vx_document.specs.Operators.{OwnForm, own_scan, own_unary, own_binary, own_exchange, mode_named, scan_in, scan_own, select_in, outputs_in, sort_in, group_or, group_in, unary_in, unary_own, method_named, join_in, union_in, binary_own, hash_in, range_in, sized_in, gather_in, kind_in, exchange_own, own_named, own_in}
 use Rattle.vx_document.specs.Reading.{node_in, with_inputs}

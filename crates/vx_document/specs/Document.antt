@@ -1,11 +1,9 @@
 -- Plans as their documents say them: relations, columns, sizes and ranges by name.
 use Rattle.std.specs.Prelude.{ℕ, suc, ◌+◌, max, List, map, Bool, true, false, Option, option_map, string_bytes, String}
 use Rattle.std.specs.declared.alloc.Global.{Global}
-use Rattle.vx_rows.specs.Values.{Val}
-use Rattle.vx_rows.specs.View.{val_of}
-use Rattle.vx_document.specs.Test as comparison
-use Rattle.vx_document.specs.declared.test.Test.{Test}
-use Rattle.vx_document.specs.declared.test.Test.TheVariants as test
+use Rattle.vx_values.specs.Values.{Name, Val}
+use Rattle.vx_values.specs.ValueView.{val_of, test_of}
+use Rattle.vx_values.specs.Test as comparison
 use Rattle.vx_document.specs.declared.plan.NamedRange.{NamedRange}
 use Rattle.vx_document.specs.declared.plan.NamedPart.{NamedPart}
 use Rattle.vx_document.specs.declared.plan.NamedPart.TheVariants as part
@@ -26,10 +24,6 @@ use Rattle.vx_document.specs.declared.plan.NamedKind.{NamedKind}
 use Rattle.vx_document.specs.declared.plan.NamedKind.TheVariants as kind
 use Rattle.vx_document.specs.declared.plan.Node.{Node}
 use Rattle.vx_document.specs.declared.plan.Node.TheVariants as node
-
--- a name by its bytes
-abbrev pub Name : Type 0
-Name = List ℕ
 
 -- a declared range
 pub record RangeForm : Type 0 where
@@ -138,14 +132,6 @@ part_form (part.Range name col) = range_part (string_bytes name) (string_bytes c
 
 abbrev pub claim_form : NamedClaim → ClaimForm
 claim_form c = record { part = part_form c.part; order = map string_bytes c.order.items; keys = map (λ k. map string_bytes k.items) c.keys.items }
-
-abbrev pub test_of : Test → comparison.Test
-test_of test.Equal = comparison.equal
-test_of test.Unequal = comparison.unequal
-test_of test.Below = comparison.below
-test_of test.AtMost = comparison.at_most
-test_of test.Above = comparison.above
-test_of test.AtLeast = comparison.at_least
 
 abbrev pub side_form : NamedSide → SideForm
 side_form (side.Column name) = column (string_bytes name)

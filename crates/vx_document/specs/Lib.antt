@@ -1,4 +1,3 @@
-pub mod Test
 pub mod Look
 pub mod Document
 pub mod Fault

@@ -4,8 +4,8 @@ use Rattle.serde_json.specs.Data.{Data}
 use Rattle.serde_json.specs.Find.{get, as_str, as_number, as_i64}
 use Rattle.vx_json.specs.Look.{as_list, some_entry, name_in, each_onto}
 pub use Rattle.vx_json.specs.Look.{or_default}
-use Rattle.vx_rows.specs.Values.{Val, num, text}
-use Rattle.vx_rows.specs.Types.{is_held}
+use Rattle.vx_values.specs.Values.{Val, num, text}
+use Rattle.vx_values.specs.Types.{is_held}
 
 -- the list has an entry
 abbrev pub is_some_list : {X : Type 0} → List X → Bool

@@ -5,7 +5,8 @@ use Rattle.serde_json.specs.Find.{get, as_str}
 use Rattle.serde_json.specs.View.{view}
 use Rattle.vx_json.specs.Look.{has_only}
 use Rattle.vx_document.specs.Look.{name_at, text_at, each_in, some_in, or_default}
-use Rattle.vx_document.specs.Document.{Name, ClaimForm, ScanForm, OutputForm, AggregateForm, UnaryForm, select, project, distinct, sort, group, BinaryForm, union, join, KindForm, hash, range, round, broadcast, gather, claim_form, scan_form, unary_form, binary_form, kind_form}
+use Rattle.vx_values.specs.Values.{Name}
+use Rattle.vx_document.specs.Document.{ClaimForm, ScanForm, OutputForm, AggregateForm, UnaryForm, select, project, distinct, sort, group, BinaryForm, union, join, KindForm, hash, range, round, broadcast, gather, claim_form, scan_form, unary_form, binary_form, kind_form}
 use Rattle.vx_document.specs.Form.{names_in, some_names_in, claimed, condition_in, output_in, aggregate_in, pair_in}
 use Rattle.vx_document.specs.declared.operators.Own.{Own}
 use Rattle.vx_document.specs.declared.operators.Own.TheVariants as own

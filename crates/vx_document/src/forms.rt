@@ -5,7 +5,8 @@ ghost use Rattle.serde_json.specs.Find.{get};
 ghost use Rattle.serde_json.specs.View.{view};
 ghost use Rattle.vx_json.specs.Look.{Reads};
 ghost use Rattle.vx_document.specs.Look.{or_default};
-ghost use Rattle.vx_document.specs.Document.{any, part_form, claim_form, test_of, side_form, condition_form, output_form, function_form, aggregate_form, pair_form};
+ghost use Rattle.vx_values.specs.ValueView.{test_of};
+ghost use Rattle.vx_document.specs.Document.{any, part_form, claim_form, side_form, condition_form, output_form, function_form, aggregate_form, pair_form};
 ghost use Rattle.vx_document.specs.Form.{names_in, some_names_in, part_named, hash_part_in, range_part_in, part_in, keys_in, claim_in, claimed, test_named, side_in, condition_in, renamed_in, output_in, function_named, function_at, aggregate_in, pair_in};
 
 use crate::lists::keys_of;
@@ -13,10 +14,10 @@ use crate::look::{name_at, text_at, value_in};
 use crate::plan::{
     NamedAggregate, NamedClaim, NamedCondition, NamedFunction, NamedOutput, NamedPart, NamedSide,
 };
-use crate::test::Test;
 use serde_json::Value as Json;
 use std::alloc::{AllocError, Global};
 use vx_json::{has_only, items, name_in, names_of};
+use vx_values::Test;
 
 /// A list of names.
 #[tactic(auto, unfolding(crate::specs::Form::names_in))]

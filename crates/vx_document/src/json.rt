@@ -4,7 +4,7 @@ ghost use Rattle.std.specs.Prelude.{◌≡◌, map, string_bytes, codes, Ok, IfO
 ghost use Rattle.serde_json.specs.Data.{string, put};
 ghost use Rattle.serde_json.specs.View.{view, members_view};
 ghost use Rattle.serde_json.specs.Written.{compact_text};
-ghost use Rattle.vx_rows.specs.View.{val_of};
+ghost use Rattle.vx_values.specs.ValueView.{val_of};
 ghost use Rattle.vx_document.specs.Document.{hash_part, range_part, range_form, part_form, claim_form, side_form, condition_form, output_form, function_form, aggregate_form, scan_form, unary_form, pair_form, binary_form, kind_form, tree_of};
 ghost use Rattle.vx_document.specs.PlanView.{document_of};
 ghost use Rattle.vx_document.specs.Reading.{document_of_text};
@@ -17,7 +17,7 @@ use crate::plan::{
 };
 use serde_json::{Map, Value as Json, put};
 use std::alloc::{AllocError, Global};
-use vx_rows::Value;
+use vx_values::Value;
 
 type Members = Map<String, Json>;
 

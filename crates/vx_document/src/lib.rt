@@ -10,7 +10,6 @@ mod look;
 mod operators;
 mod plan;
 mod reading;
-mod test;
 
 pub use document::Plan;
 pub use fault::PlanFault;
@@ -19,4 +18,4 @@ pub use plan::{
     NamedAggregate, NamedBinary, NamedClaim, NamedCondition, NamedFunction, NamedKind, NamedOutput,
     NamedPart, NamedRange, NamedScan, NamedSide, NamedUnary, Node,
 };
-pub use test::Test;
+pub use vx_values::Test;

@@ -2,7 +2,7 @@
 
 ghost use Rattle.std.specs.Prelude.{[], map, string_bytes};
 ghost use Rattle.serde_json.specs.View.{view};
-ghost use Rattle.vx_rows.specs.View.{val_of};
+ghost use Rattle.vx_values.specs.ValueView.{val_of};
 ghost use Rattle.vx_json.specs.Look.{Reads, each_onto};
 ghost use Rattle.vx_document.specs.Look.{value_in};
 ghost use Rattle.vx_document.specs.Document.{condition_form, output_form, aggregate_form, pair_form, range_form};
@@ -15,7 +15,7 @@ use crate::plan::{NamedAggregate, NamedCondition, NamedOutput, NamedRange};
 use crate::reading::declared_in;
 use serde_json::Value as Json;
 use std::alloc::{AllocError, Global};
-use vx_rows::Value;
+use vx_values::Value;
 
 /// Each of the values, as a list of names.
 #[tactic(auto, using(vx_json::proofs::EachFacts::each_steps))]

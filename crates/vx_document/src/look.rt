@@ -3,14 +3,14 @@
 ghost use Rattle.std.specs.Prelude.{◌≡◌, option_map, string_bytes};
 ghost use Rattle.serde_json.specs.Find.{get};
 ghost use Rattle.serde_json.specs.View.{view};
-ghost use Rattle.vx_rows.specs.View.{val_of};
+ghost use Rattle.vx_values.specs.ValueView.{val_of};
 ghost use Rattle.vx_json.specs.Look.{Reads};
 ghost use Rattle.vx_document.specs.Look.{name_at, text_at, value_in};
 
 use serde_json::Value as Json;
 use std::alloc::{AllocError, Global};
 use vx_json::name_in;
-use vx_rows::{Cell, Value};
+use vx_values::{Cell, Value};
 
 /// The name in a member.
 #[tactic(auto, unfolding(crate::specs::Look::name_at))]

@@ -1,7 +1,6 @@
 //! Plans as their documents say them: relations, columns, sizes and ranges by name.
 
-use crate::test::Test;
-use vx_rows::Value;
+use vx_values::{Test, Value};
 
 /// A declared range: a route by its bounds goes up by one at each bound that is not above the value.
 #[derive(Debug, Drop)]

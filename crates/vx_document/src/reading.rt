@@ -6,7 +6,7 @@ ghost use Rattle.serde_json.specs.View.{view};
 ghost use Rattle.vx_json.specs.Look.{Reads};
 ghost use Rattle.vx_document.specs.Fault.{Gives};
 ghost use Rattle.vx_document.specs.Look.{or_default, each_in, value_in};
-ghost use Rattle.vx_rows.specs.View.{val_of};
+ghost use Rattle.vx_values.specs.ValueView.{val_of};
 ghost use Rattle.vx_document.specs.Document.{tree_of, range_form};
 ghost use Rattle.vx_document.specs.Form.{names_in};
 ghost use Rattle.vx_document.specs.Reading.{node_in, declared_in, head_in, head_form, document_in, document_of_text};
@@ -22,7 +22,7 @@ use crate::plan::{NamedRange, Node};
 use serde_json::Value as Json;
 use std::alloc::{AllocError, Global};
 use vx_json::{has_only, items};
-use vx_rows::Value;
+use vx_values::Value;
 
 const MAX_NODES: u32 = 1000;
 

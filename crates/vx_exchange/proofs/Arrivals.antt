@@ -8,11 +8,11 @@ use Rattle.std.proofs.lemmas.Option.{slice_get_within, get_or_from_slice_get, sl
 use Rattle.std.proofs.lemmas.List.Elements.{All-nil, All-push}
 use Rattle.std.proofs.lemmas.Bool.Decides.{nat_tests, eqb_tells}
 use Rattle.std.specs.Ordering.{is_le}
-use Rattle.vx_rows.specs.Values.{Row}
+use Rattle.vx_values.specs.Values.{Row}
 use Rattle.vx_rows.specs.Order.{sorted, compare_on}
 use Rattle.vx_rows.specs.Lists.{IsBeginning}
-use Rattle.vx_rows.specs.declared.value.ColType.{ColType}
-use Rattle.vx_plan.specs.Streams.{Dealt, bearing}
+use Rattle.vx_values.specs.declared.value.ColType.{ColType}
+use Rattle.vx_nodes.specs.Streams.{Dealt, bearing}
 use Rattle.vx_ports.specs.Packets.{brings, last, fault, Parcel, content_rows, rows_of, is_last, is_fault, has_last, has_fault}
 use Rattle.vx_ops.specs.Ledger.{Ledger, ConsumerEnd, receive, Makes, Begun, OwnBlame, IsFor, Came}
 use Rattle.vx_ops.specs.Begun.{begun_whole}

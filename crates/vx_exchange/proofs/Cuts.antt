@@ -5,7 +5,7 @@ use Rattle.std.specs.Prelude.{slice_range}
 use Rattle.std.proofs.lemmas.List.{map-append, take-append-drop, take-take}
 use Rattle.std.proofs.lemmas.List.Edits.{length-between}
 use Rattle.std.proofs.lemmas.Slice.{between_is}
-use Rattle.vx_rows.specs.Values.{Row}
+use Rattle.vx_values.specs.Values.{Row}
 use Rattle.vx_ports.specs.Packets.{Parcel}
 use Rattle.vx_exchange.specs.Ship.{end_to_end}
 use Rattle.vx_exchange.specs.Outlet.{Way, parcel_at, Cuts, CutsRest}

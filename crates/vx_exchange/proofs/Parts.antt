@@ -1,11 +1,11 @@
 -- What was given in part: more rows, fewer packets, and Fault.
 use Rattle.std.proofs.Common.{◌≡◌, ℕ, ◌<◌, ◌==◌, Bool, true, false, Some, cond, List, [], ◌∷◌, ◌++◌, length, map, take, filter, refl, sym, ap, ◌∙◌, append-nil}
 use Rattle.std.proofs.lemmas.List.Elements.{filter-append}
-use Rattle.vx_rows.specs.Values.{Row, pick}
+use Rattle.vx_values.specs.Values.{Row, pick}
 use Rattle.vx_rows.specs.Lists.{IsBeginning}
-use Rattle.vx_plan.specs.Plan.{Kind, route_to, round, broadcast, gather}
-use Rattle.vx_plan.specs.Routes.{Router, Sends}
-use Rattle.vx_plan.specs.Streams.{Streams, Dealt, bearing}
+use Rattle.vx_nodes.specs.Plan.{Kind, route_to, round, broadcast, gather}
+use Rattle.vx_nodes.specs.Routes.{Router, Sends}
+use Rattle.vx_nodes.specs.Streams.{Streams, Dealt, bearing}
 use Rattle.vx_ports.specs.Packets.{fault, Parcel}
 use Rattle.vx_ops.specs.Turn.{with_packet}
 use Rattle.vx_exchange.specs.Ship.{Ship, packet_at, end_to_end, IsCutShort}

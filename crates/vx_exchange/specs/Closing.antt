@@ -1,7 +1,7 @@
 -- A sending end that closes: what it gave before, and then Last or Fault for each consumer.
 use Rattle.std.specs.Prelude.{ℕ, ◌<◌, nat_lt, cond, List, [], ◌∷◌, ◌++◌}
-use Rattle.vx_rows.specs.Values.{Row}
-use Rattle.vx_plan.specs.Routes.{Router}
+use Rattle.vx_values.specs.Values.{Row}
+use Rattle.vx_nodes.specs.Routes.{Router}
 use Rattle.vx_ports.specs.Packets.{Content, last, fault, Parcel}
 use Rattle.vx_exchange.specs.Ship.{Ship, packet_of, IsCut, IsShipped, IsCutShort, IsPartShipped}
 

@@ -3,10 +3,10 @@ use Rattle.std.specs.Prelude.{ℕ, ◌≡◌, ◌≤◌, ◌&&◌, not, Bool, tr
 use Rattle.std.specs.List.{AllByRecursion}
 use Rattle.std.proofs.Common.{refl, sym, ◌∙◌, subst, true≢false, append-nil}
 use Rattle.std.proofs.Math.Arith.{lt-one}
-use Rattle.vx_rows.specs.Values.{Val, Row}
+use Rattle.vx_values.specs.Values.{Val, Row}
 use Rattle.vx_rows.specs.Lists.{IsBeginning}
-use Rattle.vx_plan.specs.Plan.{gather}
-use Rattle.vx_plan.specs.Routes.{Router}
+use Rattle.vx_nodes.specs.Plan.{gather}
+use Rattle.vx_nodes.specs.Routes.{Router}
 use Rattle.vx_ports.specs.Packets.{Content, last, fault, Parcel}
 use Rattle.vx_ops.specs.Ledger.{Stream}
 use Rattle.vx_ops.specs.declared.fault.Fault.{Fault}

@@ -1,8 +1,8 @@
 -- When the root may have accepted a stream: it kept the rows, and gave no packet.
 use Rattle.std.specs.Prelude.{ℕ, ◌≡◌, Bool, true, false, List, []}
 use Rattle.std.proofs.Common.{refl}
-use Rattle.vx_rows.specs.Values.{Val}
-use Rattle.vx_plan.specs.Routes.{Router}
+use Rattle.vx_values.specs.Values.{Val}
+use Rattle.vx_nodes.specs.Routes.{Router}
 use Rattle.vx_ports.specs.Packets.{Parcel}
 use Rattle.vx_ops.specs.Ledger.{Stream}
 use Rattle.vx_exchange.specs.Tasks.{Task, keep, Post, keeps, Begun, IsAt}

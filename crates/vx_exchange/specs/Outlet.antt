@@ -1,9 +1,9 @@
 -- What a sending end holds for one consumer, and how rows go into packets.
 use Rattle.std.specs.Prelude.{ℕ, ◌≡◌, ◌<◌, ◌≤◌, Bool, true, false, Option, Some, None, List, [], ◌++◌, length, map, All}
 use Rattle.std.specs.List.{AllByRecursion}
-use Rattle.vx_rows.specs.Values.{Row}
+use Rattle.vx_values.specs.Values.{Row}
 use Rattle.vx_rows.specs.View.{Table}
-use Rattle.vx_rows.specs.declared.value.ColType.{ColType}
+use Rattle.vx_values.specs.declared.value.ColType.{ColType}
 use Rattle.vx_ports.specs.Packets.{Content, brings, closes, Parcel}
 use Rattle.vx_exchange.specs.Ship.{end_to_end}
 

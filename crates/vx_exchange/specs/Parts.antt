@@ -1,8 +1,8 @@
 -- What was given in part stays so while more rows come and while packets are taken away, and Fault cuts it short.
 use Rattle.std.specs.Prelude.{ℕ, ◌≡◌, ◌<◌, List, ◌++◌, Some}
-use Rattle.vx_rows.specs.Values.{Row}
+use Rattle.vx_values.specs.Values.{Row}
 use Rattle.vx_rows.specs.Lists.{IsBeginning}
-use Rattle.vx_plan.specs.Routes.{Router}
+use Rattle.vx_nodes.specs.Routes.{Router}
 use Rattle.vx_ports.specs.Packets.{fault, Parcel}
 use Rattle.vx_ops.specs.Turn.{with_packet}
 use Rattle.vx_exchange.specs.Ship.{Ship, IsPartShipped}

@@ -1,7 +1,7 @@
 -- When the consumer end of an exchange may have heard and given what a ledger says.
 use Rattle.std.specs.Prelude.{ℕ, ◌≡◌, ◌<◌, ◌+◌, Some, true, false, slice_get, length, List, [], Bool, All}
 use Rattle.std.proofs.Common.{◌∙◌, sym, inr, subst}
-use Rattle.vx_rows.specs.declared.value.ColType.{ColType}
+use Rattle.vx_values.specs.declared.value.ColType.{ColType}
 use Rattle.vx_ports.specs.Packets.{has_last}
 use Rattle.vx_ops.specs.Ledger.{Ledger, ConsumerEnd, Op, receive, Makes, Begun, OwnBlame, IsFor, Told}
 use Rattle.vx_ops.specs.Turn.{Shape}

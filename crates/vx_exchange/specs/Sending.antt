@@ -1,8 +1,8 @@
 -- What a sending end knows of where rows go, and when it takes more.
 use Rattle.std.specs.Prelude.{◌≡◌, ℕ, ◌<◌, Bool, true, false, List}
-use Rattle.vx_rows.specs.Values.{Val, Row, value_at}
-use Rattle.vx_plan.specs.Plan.{Kind, route_to, round, broadcast, gather, by_hash, by_range}
-use Rattle.vx_plan.specs.Routes.{Router, range_consumer}
+use Rattle.vx_values.specs.Values.{Val, Row, value_at}
+use Rattle.vx_nodes.specs.Plan.{Kind, route_to, round, broadcast, gather, by_hash, by_range}
+use Rattle.vx_nodes.specs.Routes.{Router, range_consumer}
 use Rattle.vx_ops.specs.declared.turn.Polled.{Polled}
 use Rattle.vx_ops.specs.declared.turn.Polled.TheVariants as polled
 use Rattle.vx_exchange.specs.Tasks.{Post, sends_by_ship, keeps}

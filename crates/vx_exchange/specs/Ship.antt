@@ -1,11 +1,11 @@
 -- What a producer's sending end gives for each consumer.
 use Rattle.std.specs.Prelude.{ℕ, ◌≡◌, ◌<◌, ◌≤◌, List, [], ◌∷◌, ◌++◌, length, map}
 use Rattle.std.specs.List.{AllByRecursion}
-use Rattle.vx_rows.specs.Values.{Row}
-use Rattle.vx_rows.specs.declared.value.ColType.{ColType}
-use Rattle.vx_plan.specs.Plan.{Kind}
-use Rattle.vx_plan.specs.Streams.{Streams}
-use Rattle.vx_plan.specs.Routes.{Router, Sends}
+use Rattle.vx_values.specs.Values.{Row}
+use Rattle.vx_values.specs.declared.value.ColType.{ColType}
+use Rattle.vx_nodes.specs.Plan.{Kind}
+use Rattle.vx_nodes.specs.Streams.{Streams}
+use Rattle.vx_nodes.specs.Routes.{Router, Sends}
 use Rattle.vx_ports.specs.Packets.{Content, brings, last, fault, Parcel}
 use Rattle.vx_rows.specs.Lists.{IsBeginning}
 

@@ -1,8 +1,8 @@
 -- Where the rows of a fragment's top go: through a sending end, or, at the root, to the rows gathered.
 use Rattle.std.specs.Prelude.{ℕ, ◌≡◌, List, []}
-use Rattle.vx_rows.specs.declared.value.ColType.{ColType}
-use Rattle.vx_rows.specs.Values.{Row}
-use Rattle.vx_plan.specs.Routes.{Router}
+use Rattle.vx_values.specs.declared.value.ColType.{ColType}
+use Rattle.vx_values.specs.Values.{Row}
+use Rattle.vx_nodes.specs.Routes.{Router}
 use Rattle.vx_ports.specs.Packets.{Parcel}
 use Rattle.vx_exchange.specs.Ship.{Ship, IsShipped, IsCutShort, IsPartShipped}
 

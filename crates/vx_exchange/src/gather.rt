@@ -4,7 +4,7 @@ use crate::lane::Lane;
 use crate::sends::Sends;
 use std::alloc::{AllocError, Global};
 use vx_ops::Polled;
-use vx_plan::Router;
+use vx_nodes::Router;
 use vx_ports::{Ending, Packet};
 use vx_rows::ColType;
 
@@ -28,8 +28,8 @@ pub struct Gather {
 
 impl Gather {
     ghost use Rattle.std.specs.Prelude.{◌≡◌, ◌≤◌, ℕ, List, [], IfOk, OnOk, true};
-    ghost use Rattle.vx_plan.specs.Routes.{Router as Routing};
-    ghost use Rattle.vx_plan.specs.Plan.{gather};
+    ghost use Rattle.vx_nodes.specs.Routes.{Router as Routing};
+    ghost use Rattle.vx_nodes.specs.Plan.{gather};
     ghost use Rattle.vx_ports.specs.Packets.{Parcel};
     ghost use Rattle.vx_ops.specs.Ledger.{fresh, Stream};
     ghost use Rattle.vx_ops.specs.Turn.{heard, GivesRows};

@@ -3,7 +3,7 @@
 use crate::sends::Sends;
 use std::alloc::{AllocError, Global};
 use vx_ops::Polled;
-use vx_plan::Router;
+use vx_nodes::Router;
 use vx_ports::Packet;
 use vx_rows::{ColType, Rows};
 
@@ -16,7 +16,7 @@ pub struct Kept {
 
 impl Kept {
     ghost use Rattle.std.specs.Prelude.{◌≡◌, ◌++◌, ℕ, List, [], IfOk, OnOk, OnErr, true};
-    ghost use Rattle.vx_plan.specs.Routes.{Router as Routing};
+    ghost use Rattle.vx_nodes.specs.Routes.{Router as Routing};
     ghost use Rattle.vx_ops.specs.Ledger.{fresh};
     ghost use Rattle.vx_exchange.specs.Tasks.{keep, keeps};
     ghost use Rattle.vx_exchange.specs.Kept.{KeptStands, kept_task, kept_post, kept_is_open};

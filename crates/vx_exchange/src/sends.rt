@@ -2,14 +2,14 @@
 
 use std::alloc::AllocError;
 use vx_ops::Polled;
-use vx_plan::Router;
+use vx_nodes::Router;
 use vx_ports::Packet;
 
 /// What takes the rows that the top of a fragment gives: the sending end of an exchange, which gives packets for the consumers, or the root's rows.
 pub trait Sends {
     ghost use Rattle.std.specs.Prelude.{◌≡◌, ℕ, Bool, true, false, List, OnOk, OnErr, IfSome, IfNone, Some};
-    ghost use Rattle.vx_rows.specs.Values.{Val, Row};
-    ghost use Rattle.vx_plan.specs.Routes.{Router as Routing};
+    ghost use Rattle.vx_values.specs.Values.{Val, Row};
+    ghost use Rattle.vx_nodes.specs.Routes.{Router as Routing};
     ghost use Rattle.vx_ports.specs.Packets.{Parcel, closes};
     ghost use Rattle.vx_ops.specs.Ledger.{Stream};
     ghost use Rattle.vx_ops.specs.Turn.{heard, GivesRows, with_packet};

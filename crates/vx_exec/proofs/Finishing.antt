@@ -2,16 +2,16 @@
 use Rattle.std.proofs.Common.{Vec, Global, Bool, ◌≡◌, ℕ, ◌<◌, ◌≤◌, true, List, [], ◌∷◌, length, vec_len, map, Ok, Err, Result, IfOk, IfErr, get_or, refl, sym, ap, ◌∙◌, subst, arith, zero, suc, inl, inr}
 use Rattle.std.proofs.lemmas.Bool.{cases_lt}
 use Rattle.std.specs.List.{All, slice_index_or}
-use Rattle.vx_rows.specs.Values.{Row}
-use Rattle.vx_rows.specs.declared.value.ColType.{ColType}
+use Rattle.vx_values.specs.Values.{Row}
+use Rattle.vx_values.specs.declared.value.ColType.{ColType}
 use Rattle.vx_catalog.specs.Database.{Database, rows_at, MeetsAll}
 use Rattle.vx_catalog.specs.Catalog.{relation_at}
 use Rattle.vx_catalog.specs.Relation.{Relation, Meets}
-use Rattle.vx_plan.specs.Outline.{plan_in}
-use Rattle.vx_plan.specs.Plan.{Plan}
+use Rattle.vx_nodes.specs.Outline.{plan_in}
+use Rattle.vx_nodes.specs.Plan.{Plan}
 use Rattle.vx_plan.specs.Resolve.{Resolved}
 use Rattle.vx_plan.specs.TypedView.{scope, plan, resolved_of}
-use Rattle.vx_plan.specs.Types.{types_of}
+use Rattle.vx_nodes.specs.Types.{types_of}
 use Rattle.vx_check.specs.Checked.{relations, is_allowed, is_root_allowed}
 use Rattle.vx_ops.specs.declared.fault.Code.TheVariants.{Overflow, NoMemory, Unsorted, Stranger}
 use Rattle.vx_ops.specs.declared.fault.Fault.{Fault}

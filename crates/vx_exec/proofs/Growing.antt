@@ -2,10 +2,10 @@
 use Rattle.std.proofs.Common.{◌≡◌, ℕ, Bool, List, [], ◌∷◌, ◌++◌, length, map, true, refl, sym, ap, ◌∙◌, subst}
 use Rattle.std.specs.List.{All}
 use Rattle.std.proofs.lemmas.List.Elements.{All-map}
-use Rattle.vx_rows.specs.Values.{Row}
-use Rattle.vx_plan.specs.Plan.{Plan, Claim, Unary, Kind, Size, scan, unary, exchange, size, gather}
-use Rattle.vx_plan.specs.Numbering.{is_numbered}
-use Rattle.vx_plan.specs.Streams.{workers}
+use Rattle.vx_values.specs.Values.{Row}
+use Rattle.vx_nodes.specs.Plan.{Plan, Claim, Unary, Kind, Size, scan, unary, exchange, size, gather}
+use Rattle.vx_nodes.specs.Numbering.{is_numbered}
+use Rattle.vx_nodes.specs.Streams.{workers}
 use Rattle.vx_plan.specs.TypedView.{plan}
 use Rattle.vx_ports.specs.Line.{Line}
 use Rattle.vx_exchange.specs.Sending.{RoutesAs}

@@ -1,6 +1,6 @@
 -- A sending end keeps no rows.
 use Rattle.std.proofs.Common.{◌≡◌, List, subst}
-use Rattle.vx_rows.specs.declared.value.ColType.{ColType}
+use Rattle.vx_values.specs.declared.value.ColType.{ColType}
 use Rattle.vx_exchange.specs.Tasks.{Post, sends_by_ship, keeps}
 use Rattle.vx_exchange.specs.declared.gather.Gather.{Gather}
 use Rattle.vx_worker.specs.Destination.{post_of}

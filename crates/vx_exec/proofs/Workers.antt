@@ -1,10 +1,10 @@
 -- A worker that was made of a tree and a destination is to do what the plan says, and is new.
 use Rattle.std.proofs.Common.{◌≡◌, ℕ, List, [], sym, ap, ◌∙◌, subst}
-use Rattle.vx_rows.specs.Values.{Row}
-use Rattle.vx_rows.specs.declared.value.ColType.{ColType}
-use Rattle.vx_plan.specs.Plan.{Plan, gather}
-use Rattle.vx_plan.specs.Routes.{Router}
-use Rattle.vx_plan.specs.Types.{types_of}
+use Rattle.vx_values.specs.Values.{Row}
+use Rattle.vx_values.specs.declared.value.ColType.{ColType}
+use Rattle.vx_nodes.specs.Plan.{Plan, gather}
+use Rattle.vx_nodes.specs.Routes.{Router}
+use Rattle.vx_nodes.specs.Types.{types_of}
 use Rattle.vx_check.specs.Checked.{relations}
 use Rattle.vx_ops.specs.Ledger.{fresh}
 use Rattle.vx_exchange.specs.Tasks.{Post, sends_by_ship, keeps}

@@ -1,11 +1,11 @@
 -- Trees and workers of a job, before any step.
 use Rattle.std.specs.Prelude.{ℕ, ◌≡◌, ◌+◌, true, List}
-use Rattle.vx_rows.specs.Values.{Row}
-use Rattle.vx_rows.specs.declared.value.ColType.{ColType}
-use Rattle.vx_plan.specs.Plan.{Plan}
-use Rattle.vx_plan.specs.Routes.{Router}
-use Rattle.vx_plan.specs.Types.{types_of}
-use Rattle.vx_plan.specs.Numbering.{is_numbered, nodes}
+use Rattle.vx_values.specs.Values.{Row}
+use Rattle.vx_values.specs.declared.value.ColType.{ColType}
+use Rattle.vx_nodes.specs.Plan.{Plan}
+use Rattle.vx_nodes.specs.Routes.{Router}
+use Rattle.vx_nodes.specs.Types.{types_of}
+use Rattle.vx_nodes.specs.Numbering.{is_numbered, nodes}
 use Rattle.vx_check.specs.Checked.{relations}
 use Rattle.vx_ops.specs.Ledger.{fresh}
 use Rattle.vx_exchange.specs.Sending.{RoutesAs}

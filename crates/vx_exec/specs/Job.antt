@@ -1,7 +1,7 @@
 -- What a run works on, as plain data.
 use Rattle.std.specs.Prelude.{ℕ, List}
-use Rattle.vx_rows.specs.Values.{Row}
-use Rattle.vx_rows.specs.declared.value.ColType.{ColType}
+use Rattle.vx_values.specs.Values.{Row}
+use Rattle.vx_values.specs.declared.value.ColType.{ColType}
 use Rattle.vx_plan.specs.TypedView.{plan}
 use Rattle.vx_check.specs.Checked.{relations}
 use Rattle.vx_worker.specs.Fragment.{Setting}

@@ -1,18 +1,18 @@
 -- What a run of a plan over a database comes to.
 use Rattle.std.specs.Prelude.{ℕ, ◌≡◌, ◌≢◌, ◌<◌, ◌⊎◌, List, Result, Ok, Err}
 use Rattle.std.specs.List.{All, slice_index_or}
-use Rattle.vx_rows.specs.Values.{Row}
+use Rattle.vx_values.specs.Values.{Row}
 use Rattle.vx_rows.specs.View.{Table}
 use Rattle.vx_catalog.specs.Catalog.{relation_at}
 use Rattle.vx_catalog.specs.Database.{Database, rows_at}
 use Rattle.vx_plan.specs.Lookup.{scope_of}
-use Rattle.vx_plan.specs.Outline.{plan_in}
-use Rattle.vx_plan.specs.Plan.{Plan}
+use Rattle.vx_nodes.specs.Outline.{plan_in}
+use Rattle.vx_nodes.specs.Plan.{Plan}
 use Rattle.vx_plan.specs.Resolve.{Resolved}
-use Rattle.vx_plan.specs.Routes.{sends_by}
-use Rattle.vx_plan.specs.Runs.{Runs}
+use Rattle.vx_nodes.specs.Routes.{sends_by}
+use Rattle.vx_nodes.specs.Runs.{Runs}
 use Rattle.vx_plan.specs.Typed.{bounds_at}
-use Rattle.vx_plan.specs.Types.{types_of}
+use Rattle.vx_nodes.specs.Types.{types_of}
 use Rattle.vx_check.specs.Claims.{Delivers}
 use Rattle.vx_laws.specs.Faults.{IsReal}
 use Rattle.vx_ops.specs.declared.fault.Code.TheVariants.{Overflow, NoMemory, Unsorted, Stranger}

@@ -2,7 +2,7 @@
 use Rattle.std.specs.Prelude.{ℕ, ◌≡◌, ◌&&◌, Bool, not, nat_le, if◌then◌else◌, List, map, Option, Some, None, option_map, unwrap_or, is_none, Result, Ok, Err, ⊤, bytes_eq, String, string_bytes, ◌⊎◌}
 use Rattle.std.specs.List.{find}
 use Rattle.std.specs.declared.alloc.Global.{Global}
-use Rattle.vx_plan.specs.Plan.{Plan}
+use Rattle.vx_nodes.specs.Plan.{Plan}
 use Rattle.vx_steps.specs.Roles.{crew_size}
 use Rattle.vx_exec.specs.Sizes.{Sizes, group_at}
 use Rattle.vx_exec.specs.declared.fault.RunFault.{RunFault}

@@ -1,10 +1,10 @@
 -- The sizes of a run, within their limits, and the setting that they make of a plan and a database.
 use Rattle.std.specs.Prelude.{ℕ, ◌≤◌, Bool, true, false, List, []}
 use Rattle.std.specs.List.{All, slice_index_or}
-use Rattle.vx_rows.specs.Values.{Row}
+use Rattle.vx_values.specs.Values.{Row}
 use Rattle.vx_catalog.specs.Database.{Database, rows_at}
-use Rattle.vx_plan.specs.Plan.{Plan, scan, unary, binary, exchange, select, gather}
-use Rattle.vx_plan.specs.Numbering.{relation_in}
+use Rattle.vx_nodes.specs.Plan.{Plan, scan, unary, binary, exchange, select, gather}
+use Rattle.vx_nodes.specs.Numbering.{relation_in}
 use Rattle.vx_plan.specs.Typed.{bounds_at}
 use Rattle.vx_plan.specs.TypedView.{scope, plan}
 use Rattle.vx_plan.specs.declared.typed_plan.TypedPlan.{TypedPlan}

@@ -2,11 +2,11 @@
 
 ghost use Rattle.std.specs.Prelude.{◌≡◌, ◌<◌, ◌∷◌, ◌++◌, [], ℕ, true, List, map, length, IfOk, OnOk};
 ghost use Rattle.std.specs.List.{All};
-ghost use Rattle.vx_rows.specs.Values.{Row};
-ghost use Rattle.vx_plan.specs.Numbering.{is_numbered};
-ghost use Rattle.vx_plan.specs.Outline.{plan_of, size_of};
-ghost use Rattle.vx_plan.specs.Plan.{scan as scan_at, gather, size, Claim};
-ghost use Rattle.vx_plan.specs.Streams.{workers};
+ghost use Rattle.vx_values.specs.Values.{Row};
+ghost use Rattle.vx_nodes.specs.Numbering.{is_numbered};
+ghost use Rattle.vx_nodes.specs.Outline.{plan_of, size_of};
+ghost use Rattle.vx_nodes.specs.Plan.{scan as scan_at, gather, size, Claim};
+ghost use Rattle.vx_nodes.specs.Streams.{workers};
 ghost use Rattle.vx_plan.specs.Typed.{typed};
 ghost use Rattle.vx_plan.specs.TypedView.{scope, plan};
 ghost use Rattle.vx_check.specs.Checked.{relations};

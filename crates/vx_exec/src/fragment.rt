@@ -1,11 +1,11 @@
 //! The operators of a fragment, for the worker at a place.
 
 ghost use Rattle.std.specs.Prelude.{◌≡◌, ℕ, true, IfOk};
-ghost use Rattle.vx_plan.specs.Outline.{plan_of, unary_of};
-ghost use Rattle.vx_plan.specs.Plan.{Plan, Claim, unary as over};
+ghost use Rattle.vx_nodes.specs.Outline.{plan_of, unary_of};
+ghost use Rattle.vx_nodes.specs.Plan.{Plan, Claim, unary as over};
 ghost use Rattle.vx_plan.specs.Typed.{typed};
 ghost use Rattle.vx_plan.specs.TypedView.{scope};
-ghost use Rattle.vx_plan.specs.Types.{types_of};
+ghost use Rattle.vx_nodes.specs.Types.{types_of};
 ghost use Rattle.vx_check.specs.Checked.{relations};
 ghost use Rattle.vx_exec.specs.Sizes.{can_run};
 ghost use Rattle.vx_exec.specs.Crew.{IsTreeOf};

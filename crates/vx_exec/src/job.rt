@@ -4,9 +4,9 @@ ghost use Rattle.std.specs.Prelude.{◌≡◌, ℕ, ◌≤◌, ◌<◌, true, le
 ghost use Rattle.std.specs.List.{All};
 ghost use Rattle.vx_catalog.specs.Relation.{Relation};
 ghost use Rattle.vx_catalog.specs.Database.{rows_at, MeetsAll};
-ghost use Rattle.vx_plan.specs.Numbering.{relation_in};
-ghost use Rattle.vx_plan.specs.Outline.{size_of, plan_of};
-ghost use Rattle.vx_plan.specs.Streams.{workers};
+ghost use Rattle.vx_nodes.specs.Numbering.{relation_in};
+ghost use Rattle.vx_nodes.specs.Outline.{size_of, plan_of};
+ghost use Rattle.vx_nodes.specs.Streams.{workers};
 ghost use Rattle.vx_plan.specs.Typed.{Scope, typed};
 ghost use Rattle.vx_plan.specs.TypedView.{scope, plan as whole_plan};
 ghost use Rattle.vx_check.specs.Checked.{relations};

@@ -2,7 +2,7 @@
 
 ghost use Rattle.std.specs.Prelude.{◌≡◌, ◌<◌, ◌⊎◌, true, length, IfOk, IfErr, List};
 ghost use Rattle.std.specs.List.{slice_index_or};
-ghost use Rattle.vx_rows.specs.declared.value.ColType.{ColType as Kind};
+ghost use Rattle.vx_values.specs.declared.value.ColType.{ColType as Kind};
 ghost use Rattle.vx_plan.specs.TypedView.{plan as whole_plan, resolved_of};
 ghost use Rattle.vx_check.specs.Checked.{is_allowed, is_root_allowed};
 ghost use Rattle.vx_check.specs.CheckedView.{typed_plan};

@@ -1,7 +1,7 @@
 //! Which plans workers can run.
 
 ghost use Rattle.std.specs.Prelude.{◌≡◌};
-ghost use Rattle.vx_plan.specs.Outline.{plan_of};
+ghost use Rattle.vx_nodes.specs.Outline.{plan_of};
 ghost use Rattle.vx_plan.specs.TypedView.{plan as whole_plan};
 ghost use Rattle.vx_exec.specs.Sizes.{can_run};
 

@@ -2,8 +2,8 @@
 
 ghost use Rattle.std.specs.Prelude.{◌≡◌, ◌+◌, ◌*◌, ◌≤◌, map, not, option_map, is_none, string_bytes, bytes_eq, IfOk, IfErr};
 ghost use Rattle.std.specs.List.{All, find};
-ghost use Rattle.vx_plan.specs.Numbering.{nodes};
-ghost use Rattle.vx_plan.specs.Outline.{plan_of};
+ghost use Rattle.vx_nodes.specs.Numbering.{nodes};
+ghost use Rattle.vx_nodes.specs.Outline.{plan_of};
 ghost use Rattle.vx_plan.specs.TypedView.{names_in, scope, resolved_of, plan as plan_of_typed};
 ghost use Rattle.vx_laws.specs.Layout.{workers_below};
 ghost use Rattle.vx_steps.specs.Roles.{crew_size};

@@ -2,11 +2,11 @@
 
 ghost use Rattle.std.specs.Prelude.{◌≡◌, ◌∷◌, ◌++◌, ℕ, true, List, map, IfOk, OnOk};
 ghost use Rattle.std.specs.List.{All};
-ghost use Rattle.vx_rows.specs.Values.{Row};
+ghost use Rattle.vx_values.specs.Values.{Row};
 ghost use Rattle.vx_rows.specs.Lists.{each_below};
-ghost use Rattle.vx_plan.specs.Numbering.{is_numbered};
-ghost use Rattle.vx_plan.specs.Outline.{plan_of};
-ghost use Rattle.vx_plan.specs.Plan.{gather};
+ghost use Rattle.vx_nodes.specs.Numbering.{is_numbered};
+ghost use Rattle.vx_nodes.specs.Outline.{plan_of};
+ghost use Rattle.vx_nodes.specs.Plan.{gather};
 ghost use Rattle.vx_plan.specs.Typed.{typed};
 ghost use Rattle.vx_plan.specs.TypedView.{scope};
 ghost use Rattle.vx_check.specs.Checked.{relations};

@@ -2,9 +2,9 @@
 use Rattle.std.proofs.Common.{◌≡◌, ℕ, zero, suc, ◌+◌, ◌<◌, ◌≤◌, ◌==◌, nat_lt, Bool, true, false, cond, not, ◌&&◌, List, [], ◌∷◌, ◌++◌, map, filter, flat_map, refl, sym, ap, ◌∙◌, arith, add_assoc, zero-add, true≢false, ltb-true, eqb-true, ne_eqb, eq-eqb, ◌≢◌}
 use Rattle.std.specs.List.{list_all}
 use Rattle.std.proofs.lemmas.Bool.{eqb-false}
-use Rattle.vx_rows.specs.Values.{Row}
+use Rattle.vx_values.specs.Values.{Row}
 use Rattle.vx_rows.specs.Bags.{total, SameRows}
-use Rattle.vx_plan.specs.Streams.{Streams, across, joined, bearing, Dealt}
+use Rattle.vx_nodes.specs.Streams.{Streams, across, joined, bearing, Dealt}
 
 abbrev pub when : Bool → ℕ → ℕ
 when true n = n

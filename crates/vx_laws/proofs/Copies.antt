@@ -1,6 +1,6 @@
 -- Columns that an operator copies.
 use Rattle.std.proofs.Common.{◌≡◌, ℕ, zero, suc, Bool, true, List, [], ◌∷◌, ◌++◌, refl, sym, ap, ◌∙◌, true≢false, Option, Some, None, slice_get, append-nil}
-use Rattle.vx_rows.specs.Values.{Row, value_at, pick}
+use Rattle.vx_values.specs.Values.{Row, value_at, pick}
 use Rattle.vx_check.specs.Rules.{cons_both, copied, if_some}
 
 -- the columns are copied, and the test holds of where they come from

@@ -1,10 +1,10 @@
 -- The plan without exchanges has the same serial rows.
 use Rattle.std.proofs.Common.{◌≡◌, ℕ, ◌+◌, List, refl, ap, ◌∙◌, Option, Some, None, sym}
-use Rattle.vx_rows.specs.Values.{Row}
-use Rattle.vx_plan.specs.Plan.{Plan, scan, unary, binary, exchange}
-use Rattle.vx_plan.specs.Serial.{Outcome, rows, overflow, or_overflow, after, serial, unary_rows, binary_rows, IsOverflow}
+use Rattle.vx_values.specs.Values.{Row}
+use Rattle.vx_nodes.specs.Plan.{Plan, scan, unary, binary, exchange}
+use Rattle.vx_nodes.specs.Serial.{Outcome, rows, overflow, or_overflow, after, serial, unary_rows, binary_rows, IsOverflow}
 use Rattle.vx_laws.specs.Faults.{ErasedOverflows}
-use Rattle.vx_plan.specs.Erase.{erase_from, nodes_left}
+use Rattle.vx_nodes.specs.Erase.{erase_from, nodes_left}
 
 -- a list of rows, whatever node overflows
 abbrev pub list_of : Outcome → Option (List Row)

@@ -1,13 +1,13 @@
 -- Scans and exchanges keep what the rule table says.
 use Rattle.std.proofs.Common.{◌≡◌, ℕ, ◌<◌, ◌==◌, Bool, true, false, cond, List, [], ◌∷◌, filter, refl, sym, ap, ◌∙◌, subst, arith}
 use Rattle.std.specs.List.{list_all}
-use Rattle.vx_rows.specs.Values.{Row, pick}
+use Rattle.vx_values.specs.Values.{Row, pick}
 use Rattle.vx_rows.specs.Order.{sorted}
 use Rattle.vx_rows.specs.Bags.{total, SameRows}
-use Rattle.vx_plan.specs.Plan.{Size, Route, Kind, route_to, round, broadcast, gather}
-use Rattle.vx_plan.specs.Streams.{Streams, joined, Dealt, across}
-use Rattle.vx_plan.specs.Routes.{Router, Sends}
-use Rattle.vx_plan.specs.Runs.{Exchanges}
+use Rattle.vx_nodes.specs.Plan.{Size, Route, Kind, route_to, round, broadcast, gather}
+use Rattle.vx_nodes.specs.Streams.{Streams, joined, Dealt, across}
+use Rattle.vx_nodes.specs.Routes.{Router, Sends}
+use Rattle.vx_nodes.specs.Runs.{Exchanges}
 use Rattle.vx_check.specs.Claims.{InItsStream}
 use Rattle.vx_laws.proofs.Bags.{and-both, Dealt-total, total-joined, total-filter, total-ext, across-ext, across-swap, across-zero, across-total, across-one, when, against, against-none, none-against}
 use Rattle.vx_laws.proofs.Parts.{InRange}

@@ -1,15 +1,15 @@
 -- Groups of streams, and of all rows.
 use Rattle.std.proofs.Common.{◌≡◌, ℕ, zero, suc, ◌<◌, ◌≤◌, ◌==◌, nat_lt, Bool, true, false, cond, not, ◌&&◌, ◌||◌, ◌⊎◌, inl, inr, List, [], ◌∷◌, ◌++◌, map, length, refl, sym, ap, ◌∙◌, subst, arith, true≢false, Some, slice_get, eqb-true, lt-ltb, is_le}
 use Rattle.std.specs.List.{list_all}
-use Rattle.vx_rows.specs.Values.{Row, row_eq, pick}
+use Rattle.vx_values.specs.Values.{Row, row_eq, pick}
 use Rattle.vx_rows.specs.Order.{agree, sorted, compare_on}
 use Rattle.vx_rows.specs.Bags.{total, count, SameRows}
 use Rattle.vx_rows.specs.Keys.{HasKey}
-use Rattle.vx_plan.specs.Plan.{Route, Part, one, any, all, routed, Aggregate}
+use Rattle.vx_nodes.specs.Plan.{Route, Part, one, any, all, routed, Aggregate}
 use Rattle.vx_catalog.specs.Catalog.{all_below}
-use Rattle.vx_plan.specs.Serial.{firsts, group_keys, group_row, group_fits, of_key, aggregate_of}
-use Rattle.vx_plan.specs.Streams.{Streams, joined}
-use Rattle.vx_plan.specs.Routes.{Router}
+use Rattle.vx_nodes.specs.Serial.{firsts, group_keys, group_row, group_fits, of_key, aggregate_of}
+use Rattle.vx_nodes.specs.Streams.{Streams, joined}
+use Rattle.vx_nodes.specs.Routes.{Router}
 use Rattle.vx_check.specs.Rules.{within, copied, numbers_below, part_gives, routed_within}
 use Rattle.vx_check.specs.Claims.{InItsStream}
 use Rattle.vx_laws.proofs.Bags.{and-left, and-right, and-both, total-map, total-joined, across-ext, SameRows-all, stream-all}

@@ -1,12 +1,12 @@
 -- Joins: order and keys.
 use Rattle.std.proofs.Common.{◌≡◌, ℕ, ◌≤◌, ◌==◌, Bool, true, false, cond, ◌&&◌, ◌||◌, ⊎_elim, List, [], ◌∷◌, ◌++◌, map, filter, length, drop, refl, sym, ap, ◌∙◌, arith, true≢false, is_le, is_eq, eqb-true, Ordering, Less, Equal, Greater}
 use Rattle.std.specs.List.{list_all}
-use Rattle.vx_rows.specs.Values.{Row, row_cmp, pick}
+use Rattle.vx_values.specs.Values.{Row, row_cmp, pick}
 use Rattle.vx_rows.specs.Order.{compare_on, agree, sorted}
 use Rattle.vx_rows.specs.Bags.{total, count}
 use Rattle.vx_rows.specs.Keys.{HasKey}
 use Rattle.vx_catalog.specs.Catalog.{all_below}
-use Rattle.vx_plan.specs.Serial.{matches, joined_with, join_rows}
+use Rattle.vx_nodes.specs.Serial.{matches, joined_with, join_rows}
 use Rattle.vx_check.specs.Rules.{within, covers, shifted, join_keys}
 use Rattle.vx_catalog.specs.Relation.{KeysHold}
 use Rattle.vx_laws.proofs.Bags.{and-left, and-right, and-both, when}

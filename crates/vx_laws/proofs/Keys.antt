@@ -2,7 +2,7 @@
 use Rattle.std.proofs.Common.{◌≡◌, ℕ, ◌+◌, ◌≤◌, Bool, true, false, cond, ◌&&◌, ⊎_elim, List, [], ◌∷◌, filter, refl, sym, ◌∙◌, subst, arith, true≢false, eqb-true, is_eq, Ordering, Less, Equal, Greater}
 use Rattle.std.specs.List.{list_all}
 use Rattle.std.specs.Ordering.{ordering_then}
-use Rattle.vx_rows.specs.Values.{Row, val_cmp, value_at}
+use Rattle.vx_values.specs.Values.{Row, val_cmp, value_at}
 use Rattle.vx_rows.specs.Order.{agree}
 use Rattle.vx_rows.specs.Bags.{count}
 use Rattle.vx_rows.specs.Keys.{HasKey}

@@ -1,12 +1,12 @@
 -- No worker of an allowed plan ends with rows that fall, or with a packet that isn't its own.
 use Rattle.vx_worker.specs.Fragment.{goes, Setting, Reads, fragment, FragTold}
 use Rattle.std.proofs.Common.{◌≡◌, ⊎_elim, ℕ, ◌<◌, Bool, true, false, ◌&&◌, List, [], ◌∷◌, ◌++◌, map, refl, sym, ap, ◌∙◌, subst, arith, true≢false}
-use Rattle.vx_rows.specs.Values.{Row}
+use Rattle.vx_values.specs.Values.{Row}
 use Rattle.vx_rows.specs.Order.{sorted}
-use Rattle.vx_plan.specs.Plan.{Size, Kind, target, Unary, select, project, distinct, sort, group, Binary, union, join, Plan, scan, unary, binary, exchange, size, claim, size_eq}
-use Rattle.vx_plan.specs.Types.{width, well_formed, names_columns, types_of}
+use Rattle.vx_nodes.specs.Plan.{Size, Kind, target, Unary, select, project, distinct, sort, group, Binary, union, join, Plan, scan, unary, binary, exchange, size, claim, size_eq}
+use Rattle.vx_nodes.specs.Types.{width, well_formed, names_columns, types_of}
 use Rattle.vx_check.specs.Rules.{front, allowed, allowed_here}
-use Rattle.vx_plan.specs.Streams.{workers}
+use Rattle.vx_nodes.specs.Streams.{workers}
 use Rattle.vx_check.specs.Claims.{Given}
 use Rattle.vx_ports.specs.Packets.{Content, last, fault, Parcel, rows_of}
 use Rattle.vx_ops.specs.Ledger.{Stream, ConsumerEnd, scan_op, one_op, two_op, receive, OwnBlame, IsFor}
@@ -15,7 +15,7 @@ use Rattle.vx_exchange.specs.Ship.{packet_at, packet_of}
 use Rattle.vx_worker.specs.Trace.{Trace, ReadsBegin, Fate, well, failed, HasFailed, Honest, Ends}
 use Rattle.vx_exchange.specs.Tasks.{keep, send, Task}
 use Rattle.vx_laws.specs.RunOf.{ship_of, RunOf}
-use Rattle.vx_plan.specs.Numbering.{is_fit}
+use Rattle.vx_nodes.specs.Numbering.{is_fit}
 use Rattle.vx_laws.specs.Faults.{FailsBelow, IsOrderFault, NoOrderFault}
 use Rattle.vx_ops.specs.declared.fault.Code.TheVariants.{Overflow, NoMemory, Unsorted, Stranger}
 use Rattle.vx_ops.specs.declared.fault.Fault.{Fault}

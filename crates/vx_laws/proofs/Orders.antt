@@ -2,9 +2,9 @@
 use Rattle.std.proofs.Common.{◌≡◌, ℕ, ◌<◌, ◌==◌, nat_lt, Bool, true, false, cond, List, [], ◌∷◌, map, filter, refl, sym, ap, ◌∙◌, subst, arith, true≢false, eqb-true, eq-eqb, ltb-true, is_le, Ordering, Less, Equal, Greater}
 use Rattle.std.specs.List.{list_all}
 use Rattle.std.specs.Ordering.{ordering_then}
-use Rattle.vx_rows.specs.Values.{Row, val_cmp, value_at}
+use Rattle.vx_values.specs.Values.{Row, val_cmp, value_at}
 use Rattle.vx_rows.specs.Order.{compare_on, sorted}
-use Rattle.vx_plan.specs.Streams.{Streams, bearing, Dealt}
+use Rattle.vx_nodes.specs.Streams.{Streams, bearing, Dealt}
 use Rattle.vx_check.specs.Rules.{front}
 use Rattle.vx_laws.proofs.Bags.{and-left, and-right, and-both}
 use Rattle.vx_laws.proofs.Parts.{list_all-weaken}

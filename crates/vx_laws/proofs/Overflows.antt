@@ -1,16 +1,16 @@
 -- An overflow that a run answers is one of the data.
 use Rattle.vx_worker.specs.Fragment.{goes, Setting, Frag, Reads, fragment, FragTold, FragMakes}
 use Rattle.std.proofs.Common.{◌≡◌, ◌⊎◌, inl, inr, ⊎_elim, ℕ, zero, suc, ◌<◌, ◌≤◌, ◌==◌, Bool, true, false, cond, not, ◌||◌, ◌&&◌, List, [], ◌∷◌, ◌++◌, map, length, Option, Some, None, IsSome, refl, sym, ap, ◌∙◌, subst, arith, append-nil, true≢false, eqb-true, eq-eqb}
-use Rattle.vx_rows.specs.Values.{Row}
+use Rattle.vx_values.specs.Values.{Row}
 use Rattle.vx_rows.specs.Order.{sorted}
 use Rattle.vx_rows.specs.Bags.{total, SameRows}
-use Rattle.vx_plan.specs.Plan.{Size, Kind, target, Claim, Part, one, any, all, routed, Unary, select, project, distinct, sort, group, Binary, union, join, Aggregate, Plan, scan, unary, binary, exchange, size, claim, size_eq}
-use Rattle.vx_plan.specs.Types.{width, well_formed, names_columns}
-use Rattle.vx_plan.specs.Serial.{unary_rows, binary_rows, group_rows, Outcome, rows, overflow, or_overflow, after, serial, IsOverflow, IsTooLong, HasTooLong}
+use Rattle.vx_nodes.specs.Plan.{Size, Kind, target, Claim, Part, one, any, all, routed, Unary, select, project, distinct, sort, group, Binary, union, join, Aggregate, Plan, scan, unary, binary, exchange, size, claim, size_eq}
+use Rattle.vx_nodes.specs.Types.{width, well_formed, names_columns}
+use Rattle.vx_nodes.specs.Serial.{unary_rows, binary_rows, group_rows, Outcome, rows, overflow, or_overflow, after, serial, IsOverflow, IsTooLong, HasTooLong}
 use Rattle.vx_check.specs.Rules.{allowed, allowed_here}
-use Rattle.vx_plan.specs.Streams.{Streams, workers, joined, Dealt}
-use Rattle.vx_plan.specs.Routes.{Router}
-use Rattle.vx_plan.specs.Runs.{Runs}
+use Rattle.vx_nodes.specs.Streams.{Streams, workers, joined, Dealt}
+use Rattle.vx_nodes.specs.Routes.{Router}
+use Rattle.vx_nodes.specs.Runs.{Runs}
 use Rattle.vx_check.specs.Claims.{Given, PartHolds}
 use Rattle.vx_ports.specs.Packets.{fault, Parcel, rows_of, closes, is_last, is_closed, has_last, is_empty, is_stream, Flows}
 use Rattle.vx_worker.specs.Morsels.{morsel_of, morsels}
@@ -20,7 +20,7 @@ use Rattle.vx_exchange.specs.Ship.{Ship, packet_at, packet_of}
 use Rattle.vx_worker.specs.Trace.{Trace, scan_morsels, ReadsAre, ReadsBegin, Fate, well, failed, IsWell, HasFailed, Honest, Ends}
 use Rattle.vx_exchange.specs.Tasks.{keep, send, Task}
 use Rattle.vx_laws.specs.RunOf.{ship_of, RunOf}
-use Rattle.vx_plan.specs.Numbering.{is_fit}
+use Rattle.vx_nodes.specs.Numbering.{is_fit}
 use Rattle.vx_laws.specs.Faults.{IsReal, FailsBelow, OverflowIsReal}
 use Rattle.vx_ops.specs.declared.fault.Code.TheVariants.{Overflow}
 use Rattle.vx_ops.specs.declared.fault.Fault.TheVariants.{Own}

@@ -1,6 +1,6 @@
 -- Lists of packets.
 use Rattle.std.proofs.Common.{◌≡◌, ℕ, Bool, true, ◌||◌, List, [], ◌∷◌, ◌++◌, map, refl, sym, ap, ◌∙◌, append-nil, append_assoc, true≢false}
-use Rattle.vx_rows.specs.Values.{Row}
+use Rattle.vx_values.specs.Values.{Row}
 use Rattle.vx_ports.specs.Packets.{Content, brings, last, fault, Parcel, content_rows, rows_of, closes, is_last, is_closed, has_last, Flows}
 use Rattle.vx_exchange.specs.Ship.{Ship, packet_at, end_to_end, IsPort}
 

@@ -2,7 +2,7 @@
 use Rattle.std.proofs.Common.{◌≡◌, ℕ, ◌<◌, Bool, true, false, cond, List, [], ◌∷◌, refl, sym, ◌∙◌, subst, arith, IsPermutation, sum_by}
 use Rattle.std.proofs.lemmas.List.Sorted.{IsPermutation-refl, IsPermutation-cons, IsPermutation-trans, IsPermutation-sym, IsPermutation-swap, sum_by-IsPermutation}
 use Rattle.std.proofs.lemmas.List.Recursion.{is_sum_by}
-use Rattle.vx_rows.specs.Values.{Row, row_eq}
+use Rattle.vx_values.specs.Values.{Row, row_eq}
 use Rattle.vx_rows.specs.Bags.{total, count, SameRows}
 use Rattle.vx_laws.proofs.Apart.{remove_one, removed-total, flag-no, self-counts, nothing-same}
 use Rattle.vx_rows.proofs.Compare.{row_eq-same}

@@ -1,9 +1,9 @@
 -- Sorted lists have a sorted shuffle.
 use Rattle.std.proofs.Common.{◌≡◌, ℕ, zero, suc, ◌<◌, ◌≤◌, ◌==◌, nat_lt, Bool, true, false, cond, List, [], ◌∷◌, ◌++◌, map, refl, sym, ap, ◌∙◌, subst, arith, is_le, ne_eqb, eqb-true, append-nil}
 use Rattle.std.specs.List.{list_all}
-use Rattle.vx_rows.specs.Values.{Row}
+use Rattle.vx_values.specs.Values.{Row}
 use Rattle.vx_rows.specs.Order.{compare_on, sorted, insert_sorted, sort_on}
-use Rattle.vx_plan.specs.Streams.{Streams, bearing, Dealt}
+use Rattle.vx_nodes.specs.Streams.{Streams, bearing, Dealt}
 use Rattle.vx_laws.proofs.Bags.{and-left, and-right, and-both}
 use Rattle.vx_laws.proofs.Parts.{list_all-weaken}
 use Rattle.vx_rows.proofs.Compare.{le-trans}

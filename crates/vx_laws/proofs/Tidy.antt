@@ -2,15 +2,15 @@
 use Rattle.vx_worker.specs.Fragment.{goes, Setting, Reads, fragment, FragTold}
 use Rattle.std.proofs.Common.{◌≡◌, ⊎_elim, ℕ, ◌<◌, ◌==◌, Bool, true, false, ◌&&◌, List, [], ◌∷◌, ◌++◌, map, length, Some, refl, sym, ap, ◌∙◌, subst, arith, append-nil, append_assoc, true≢false, eqb-true, is_le}
 use Rattle.std.specs.List.{list_all}
-use Rattle.vx_rows.specs.Values.{Row, pick}
+use Rattle.vx_values.specs.Values.{Row, pick}
 use Rattle.vx_rows.specs.Order.{compare_on, sorted, sort_on}
-use Rattle.vx_plan.specs.Plan.{Size, Kind, route_to, round, broadcast, gather, target, Claim, Unary, select, project, distinct, sort, group, Binary, union, join, Plan, scan, unary, binary, exchange, size, claim, is_one, size_eq}
-use Rattle.vx_plan.specs.Types.{width, unary_width, well_formed, names_columns, part_columns}
+use Rattle.vx_nodes.specs.Plan.{Size, Kind, route_to, round, broadcast, gather, target, Claim, Unary, select, project, distinct, sort, group, Binary, union, join, Plan, scan, unary, binary, exchange, size, claim, is_one, size_eq}
+use Rattle.vx_nodes.specs.Types.{width, unary_width, well_formed, names_columns, part_columns}
 use Rattle.vx_catalog.specs.Catalog.{all_below}
-use Rattle.vx_plan.specs.Serial.{passes, group_keys, group_fits, unary_rows, binary_rows}
+use Rattle.vx_nodes.specs.Serial.{passes, group_keys, group_fits, unary_rows, binary_rows}
 use Rattle.vx_check.specs.Rules.{front, copied, unary_orders, allowed, allowed_here}
-use Rattle.vx_plan.specs.Streams.{Streams, workers, bearing, Dealt}
-use Rattle.vx_plan.specs.Routes.{Router, Sends}
+use Rattle.vx_nodes.specs.Streams.{Streams, workers, bearing, Dealt}
+use Rattle.vx_nodes.specs.Routes.{Router, Sends}
 use Rattle.vx_check.specs.Claims.{Given}
 use Rattle.vx_ports.specs.Packets.{Parcel, rows_of, Flows}
 use Rattle.vx_worker.specs.Morsels.{morsel_of, morsels}
@@ -20,7 +20,7 @@ use Rattle.vx_exchange.specs.Ship.{Ship, end_to_end, packet_at, IsCutPort}
 use Rattle.vx_worker.specs.Trace.{Trace, ReadsBegin, Fate, well, failed, Honest, Ends}
 use Rattle.vx_exchange.specs.Tasks.{send}
 use Rattle.vx_laws.specs.RunOf.{ship_of, RunOf}
-use Rattle.vx_plan.specs.Numbering.{is_fit}
+use Rattle.vx_nodes.specs.Numbering.{is_fit}
 use Rattle.vx_laws.proofs.Bags.{and-left, and-right, and-both, against, against-none, none-against, Dealt-total, across-ext, across-zero}
 use Rattle.vx_laws.proofs.Parts.{size_eq-is, one-worker, or-cases}
 use Rattle.vx_laws.proofs.Orders.{list_all-bearing, list_all-filter, sorted-bearing, sorted-filter, sorted-front, sorted-none, Dealt-one}

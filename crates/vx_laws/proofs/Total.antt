@@ -2,13 +2,13 @@
 use Rattle.std.proofs.Common.{◌≡◌, ℕ, ◌+◌, ◌<◌, ◌≤◌, ◌==◌, Bool, true, false, cond, not, ◌||◌, ⊎_elim, List, [], ◌∷◌, length, refl, sym, ap, ◌∙◌, subst, arith, true≢false, eqb-true, is_le, is_eq, Ordering, Less, Equal, Greater}
 use Rattle.std.specs.List.{list_all, list_any}
 use Rattle.std.specs.Ordering.{ordering_reverse}
-use Rattle.vx_rows.specs.Values.{Row, row_eq, pick}
+use Rattle.vx_values.specs.Values.{Row, row_eq, pick}
 use Rattle.vx_rows.specs.Order.{agree, sorted, compare_on}
 use Rattle.vx_rows.specs.Bags.{count, SameRows}
 use Rattle.vx_rows.specs.Keys.{HasKey}
-use Rattle.vx_plan.specs.Plan.{claim, size, is_one}
-use Rattle.vx_plan.specs.Types.{width}
-use Rattle.vx_plan.specs.Streams.{joined, workers}
+use Rattle.vx_nodes.specs.Plan.{claim, size, is_one}
+use Rattle.vx_nodes.specs.Types.{width}
+use Rattle.vx_nodes.specs.Streams.{joined, workers}
 use Rattle.vx_check.specs.Rules.{within, numbers_below, is_total_order}
 use Rattle.vx_catalog.specs.Relation.{KeysHold}
 use Rattle.vx_laws.specs.Sound.{SoundAtRoot}

@@ -1,12 +1,12 @@
 -- What is typed is well formed; the plan without exchanges is typed, and numbered in preorder.
 use Rattle.std.proofs.Common.{◌≡◌, ℕ, suc, ◌+◌, ◌==◌, nat_lt, nat_le, Bool, true, ◌&&◌, List, [], ◌∷◌, ◌++◌, map, length, refl, sym, ap, ◌∙◌, subst, true≢false, eq-eqb, length-append}
 use Rattle.std.specs.List.{list_all}
-use Rattle.vx_rows.specs.declared.value.ColType.{ColType}
-use Rattle.vx_rows.specs.Types.{type_at}
+use Rattle.vx_values.specs.declared.value.ColType.{ColType}
+use Rattle.vx_values.specs.Types.{type_at}
 use Rattle.vx_catalog.specs.Relation.{Relation}
 use Rattle.vx_catalog.specs.Catalog.{relation_at, all_below, are_distinct}
-use Rattle.vx_plan.specs.Plan.{by_hash, by_range, Part, one, any, all, routed, Claim, Unary, select, project, distinct, sort, group, Binary, union, join, Plan, scan, unary, binary, exchange}
-use Rattle.vx_plan.specs.Types.{aggregate_type, unary_types, unary_width, binary_types, binary_width, types_of, width, part_columns, names_columns, well_formed}
+use Rattle.vx_nodes.specs.Plan.{by_hash, by_range, Part, one, any, all, routed, Claim, Unary, select, project, distinct, sort, group, Binary, union, join, Plan, scan, unary, binary, exchange}
+use Rattle.vx_nodes.specs.Types.{aggregate_type, unary_types, unary_width, binary_types, binary_width, types_of, width, part_columns, names_columns, well_formed}
 use Rattle.vx_plan.specs.Typed.{Scope, type_eq, types_eq, is_some_list, are_columns, range_type, bounds_at, is_part, is_claim, is_unary, is_binary, is_kind, is_size, is_output, typed}
 use Rattle.vx_plan.proofs.ErasedFacts.{erased-typed, erased-numbered}
 use Rattle.vx_laws.specs.Forms.{TypedIsWellFormed, ErasedIsTyped}

@@ -1,13 +1,13 @@
 -- Select, project and sort keep what the rule table says.
 use Rattle.std.proofs.Common.{◌≡◌, ℕ, ◌<◌, ◌≤◌, ◌==◌, Bool, true, false, cond, List, [], ◌∷◌, map, refl, sym, ap, ◌∙◌, subst, arith, true≢false, Option, Some, unwrap_or, is_le, is_eq}
 use Rattle.std.specs.List.{list_all}
-use Rattle.vx_rows.specs.Values.{Row, pick}
+use Rattle.vx_values.specs.Values.{Row, pick}
 use Rattle.vx_rows.specs.Order.{compare_on, agree, sorted, insert_sorted, sort_on}
 use Rattle.vx_rows.specs.Bags.{count, SameRows}
 use Rattle.vx_rows.specs.Keys.{HasKey}
-use Rattle.vx_plan.specs.Plan.{Route, Part, one, any, all, routed}
-use Rattle.vx_plan.specs.Streams.{Streams, joined}
-use Rattle.vx_plan.specs.Routes.{Router}
+use Rattle.vx_nodes.specs.Plan.{Route, Part, one, any, all, routed}
+use Rattle.vx_nodes.specs.Streams.{Streams, joined}
+use Rattle.vx_nodes.specs.Routes.{Router}
 use Rattle.vx_check.specs.Rules.{through, copied}
 use Rattle.vx_check.specs.Claims.{PartHolds, InItsStream, OrderHolds}
 use Rattle.vx_laws.proofs.Bags.{and-left, and-right, and-both, total-map, SameRows-trans}

@@ -1,12 +1,12 @@
 -- From the traces of all workers to a run of the plan relation.
 use Rattle.vx_worker.specs.Fragment.{goes, IsSet, Setting, Reads, fragment, FragTold, FragMakes}
 use Rattle.std.proofs.Common.{◌≡◌, ℕ, ◌<◌, ◌==◌, ◌&&◌, Bool, true, false, List, [], sym, ap, ◌∙◌, subst, arith, eqb-true, Some}
-use Rattle.vx_rows.specs.Values.{Row}
-use Rattle.vx_plan.specs.Plan.{Size, Kind, target, Claim, Plan, scan, unary, binary, exchange, size, is_one, size_eq}
-use Rattle.vx_plan.specs.Serial.{unary_rows, binary_rows}
-use Rattle.vx_plan.specs.Streams.{Streams, workers, Dealt}
-use Rattle.vx_plan.specs.Routes.{Sends}
-use Rattle.vx_plan.specs.Runs.{Runs}
+use Rattle.vx_values.specs.Values.{Row}
+use Rattle.vx_nodes.specs.Plan.{Size, Kind, target, Claim, Plan, scan, unary, binary, exchange, size, is_one, size_eq}
+use Rattle.vx_nodes.specs.Serial.{unary_rows, binary_rows}
+use Rattle.vx_nodes.specs.Streams.{Streams, workers, Dealt}
+use Rattle.vx_nodes.specs.Routes.{Sends}
+use Rattle.vx_nodes.specs.Runs.{Runs}
 use Rattle.vx_ports.specs.Packets.{Parcel, rows_of, Flows}
 use Rattle.vx_worker.specs.Morsels.{morsel_of, morsels}
 use Rattle.vx_ops.specs.Ledger.{Stream, scan_op, one_op, two_op, receive, Makes}
@@ -14,7 +14,7 @@ use Rattle.vx_exchange.specs.Ship.{IsPort}
 use Rattle.vx_worker.specs.Trace.{Trace, scan_morsels, IsWell}
 use Rattle.vx_exchange.specs.Tasks.{keep, send}
 use Rattle.vx_laws.specs.RunOf.{ship_of, RunOf, Made, WellRuns, WellRunGives, WellRunDelivers}
-use Rattle.vx_plan.specs.Numbering.{is_fit}
+use Rattle.vx_nodes.specs.Numbering.{is_fit}
 use Rattle.vx_ops.specs.declared.fault.Over.TheVariants.{Ended}
 use Rattle.vx_laws.proofs.Settings.{set-given}
 use Rattle.vx_laws.proofs.Bags.{and-left, and-right}
@@ -49,7 +49,7 @@ told-makes S w (binary n c op p q) r out h e =
     (h.0, told-makes S w p r h.0.left h.1 t.0.0, told-makes S w q r h.0.right h.2 t.0.1, subst P h.4 t.1)
 told-makes S w (exchange n c k merge p) r out h e =
     let t = h.2.ended (ap (λ (s : Stream). s.over) h.3 ∙ e) in
-    let P : Stream → Type 0 = λ s. Makes (receive (record { exchange = n; place = w; producers = workers S.sizes (size p); types = Rattle.vx_plan.specs.Types.types_of S.catalog p; merge = merge })) h.0 s.rows in
+    let P : Stream → Type 0 = λ s. Makes (receive (record { exchange = n; place = w; producers = workers S.sizes (size p); types = Rattle.vx_nodes.specs.Types.types_of S.catalog p; merge = merge })) h.0 s.rows in
     (h.0, h.1, t.0, subst P h.3 t.1)
 
 pub well-made : (S : Setting) (w : ℕ) (p : Plan) (task : Rattle.vx_exchange.specs.Tasks.Task) (t : Trace) → (h : IsWell S (fragment S w p) task t) → Made S (fragment S w p) t h.out.rows

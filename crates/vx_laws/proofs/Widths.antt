@@ -1,13 +1,13 @@
 -- Each serial row has a value for each output column.
 use Rattle.std.proofs.Common.{◌∙◌, ◌≡◌, ℕ, suc, ◌+◌, ◌==◌, Bool, true, false, cond, not, ◌&&◌, List, [], ◌∷◌, ◌++◌, map, filter, length, refl, sym, ap, subst, arith, Option, Some, None, eqb-true, eq-eqb, length-append}
 use Rattle.std.specs.List.{list_all, AllByRecursion}
-use Rattle.vx_rows.specs.declared.value.ColType.{ColType}
-use Rattle.vx_rows.specs.Types.{Fits, type_of}
-use Rattle.vx_rows.specs.Values.{Row, pick, row_eq}
-use Rattle.vx_plan.specs.Plan.{Unary, select, project, distinct, sort, group, union, join, Plan, scan, unary, binary, exchange}
+use Rattle.vx_values.specs.declared.value.ColType.{ColType}
+use Rattle.vx_values.specs.Types.{Fits, type_of}
+use Rattle.vx_values.specs.Values.{Row, pick, row_eq}
+use Rattle.vx_nodes.specs.Plan.{Unary, select, project, distinct, sort, group, union, join, Plan, scan, unary, binary, exchange}
 use Rattle.vx_catalog.specs.Relation.{Relation, Meets}
-use Rattle.vx_plan.specs.Types.{width, unary_width, well_formed, names_columns}
-use Rattle.vx_plan.specs.Serial.{passes, firsts, group_keys, group_row, group_fits, of_key, aggregate_of, unary_rows, join_rows, Outcome, rows, overflow, or_overflow, after, serial}
+use Rattle.vx_nodes.specs.Types.{width, unary_width, well_formed, names_columns}
+use Rattle.vx_nodes.specs.Serial.{passes, firsts, group_keys, group_row, group_fits, of_key, aggregate_of, unary_rows, join_rows, Outcome, rows, overflow, or_overflow, after, serial}
 use Rattle.vx_rows.specs.Order.{sort_on}
 use Rattle.vx_laws.proofs.Bags.{and-left, and-right, and-both}
 use Rattle.vx_laws.proofs.Parts.{list_all-weaken, list_all-always}

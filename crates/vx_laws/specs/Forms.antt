@@ -2,16 +2,16 @@
 use Rattle.std.specs.Prelude.{length, ◌≡◌, ◌↔◌, ℕ, ◌<◌, ◌≤◌, Bool, true, List, None, IsPermutation}
 use Rattle.vx_catalog.specs.Catalog.{relation_at}
 use Rattle.vx_plan.specs.Typed.{Scope, typed, IsTyped}
-use Rattle.vx_plan.specs.Types.{types_of, width, well_formed}
-use Rattle.vx_plan.specs.Numbering.{is_numbered}
-use Rattle.vx_plan.specs.Erase.{erase}
+use Rattle.vx_nodes.specs.Types.{types_of, width, well_formed}
+use Rattle.vx_nodes.specs.Numbering.{is_numbered}
+use Rattle.vx_nodes.specs.Erase.{erase}
 use Rattle.std.specs.Ordering.{is_le}
-use Rattle.vx_rows.specs.Values.{Val, Row, val_cmp, row_eq}
+use Rattle.vx_values.specs.Values.{Val, Row, val_cmp, row_eq}
 use Rattle.vx_rows.specs.Bags.{count, SameRows}
 use Rattle.vx_rows.specs.Keys.{HasKey, is_key}
-use Rattle.vx_plan.specs.Plan.{Route, Plan}
+use Rattle.vx_nodes.specs.Plan.{Route, Plan}
 use Rattle.vx_catalog.specs.Relation.{Relation}
-use Rattle.vx_plan.specs.Routes.{range_consumer, sends_by}
+use Rattle.vx_nodes.specs.Routes.{range_consumer, sends_by}
 use Rattle.vx_check.specs.Rules.{allowed, root_allowed}
 use Rattle.vx_check.specs.Refusal.{refusal}
 

@@ -1,11 +1,11 @@
 -- What the traces of all workers of a plan say together, and the laws: they are a run of the plan, and deliver the headline.
 use Rattle.vx_worker.specs.Fragment.{goes, IsSet, Setting, Frag, Reads, FragMakes, fragment}
 use Rattle.std.specs.Prelude.{◌≡◌, ℕ, ◌<◌, Bool, true, false, List, length}
-use Rattle.vx_rows.specs.Values.{Row}
-use Rattle.vx_plan.specs.Plan.{Kind, target, Plan, scan, unary, binary, exchange, size, is_one}
-use Rattle.vx_plan.specs.Types.{well_formed, types_of}
-use Rattle.vx_plan.specs.Streams.{Streams, workers}
-use Rattle.vx_plan.specs.Runs.{Runs}
+use Rattle.vx_values.specs.Values.{Row}
+use Rattle.vx_nodes.specs.Plan.{Kind, target, Plan, scan, unary, binary, exchange, size, is_one}
+use Rattle.vx_nodes.specs.Types.{well_formed, types_of}
+use Rattle.vx_nodes.specs.Streams.{Streams, workers}
+use Rattle.vx_nodes.specs.Runs.{Runs}
 use Rattle.vx_check.specs.Rules.{allowed, root_allowed}
 use Rattle.vx_check.specs.Claims.{Delivers}
 use Rattle.vx_ports.specs.Packets.{Flows}
@@ -13,7 +13,7 @@ use Rattle.vx_worker.specs.Morsels.{Dispatched, morsel_count}
 use Rattle.vx_exchange.specs.Ship.{Ship}
 use Rattle.vx_worker.specs.Trace.{Trace, IsWell, ReadsAre}
 use Rattle.vx_exchange.specs.Tasks.{keep, send, Task}
-use Rattle.vx_plan.specs.Numbering.{is_fit}
+use Rattle.vx_nodes.specs.Numbering.{is_fit}
 
 -- the sending end of the producer at a place, for an exchange above the plan p
 abbrev pub ship_of : Setting → (exchange place : ℕ) → Kind → Plan → Ship

@@ -1,8 +1,8 @@
 -- A worked run that is well and one that fails: so what the laws ask of traces can be met.
 use Rattle.std.specs.Prelude.{◌≡◌, ℕ, zero, suc, true, false, pos, List, [], ◌∷◌}
-use Rattle.vx_rows.specs.Values.{num, Row}
-use Rattle.vx_rows.specs.declared.value.ColType.TheVariants.{Int}
-use Rattle.vx_plan.specs.Plan.{one_worker, group_of, one, any, sum, group, gather, Plan, scan, unary, exchange}
+use Rattle.vx_values.specs.Values.{num, Row}
+use Rattle.vx_values.specs.declared.value.ColType.TheVariants.{Int}
+use Rattle.vx_nodes.specs.Plan.{one_worker, group_of, one, any, sum, group, gather, Plan, scan, unary, exchange}
 use Rattle.vx_ports.specs.Packets.{brings, last, Parcel}
 use Rattle.vx_worker.specs.Fragment.{Setting, fragment}
 use Rattle.vx_worker.specs.Trace.{Trace, IsWell, failed, Ends}

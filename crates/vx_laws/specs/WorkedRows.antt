@@ -1,14 +1,14 @@
 -- What the rule table says of the worked plans, and what they mean: each fact holds by computing.
 use Rattle.std.specs.Prelude.{◌≡◌, true, false, [], ◌∷◌, ◌++◌, Some, None}
-use Rattle.vx_rows.specs.Values.{text}
+use Rattle.vx_values.specs.Values.{text}
 use Rattle.vx_rows.specs.Keys.{first_clash, is_key}
-use Rattle.vx_plan.specs.Plan.{one, any, all, routed}
-use Rattle.vx_plan.specs.Serial.{rows, overflow, serial}
+use Rattle.vx_nodes.specs.Plan.{one, any, all, routed}
+use Rattle.vx_nodes.specs.Serial.{rows, overflow, serial}
 use Rattle.vx_rows.specs.Order.{sort_on}
-use Rattle.vx_plan.specs.Erase.{erase}
-use Rattle.vx_plan.specs.Routes.{range_consumer}
+use Rattle.vx_nodes.specs.Erase.{erase}
+use Rattle.vx_nodes.specs.Routes.{range_consumer}
 use Rattle.vx_plan.specs.Typed.{typed, is_range}
-use Rattle.vx_plan.specs.Numbering.{nodes}
+use Rattle.vx_nodes.specs.Numbering.{nodes}
 use Rattle.vx_exchange.specs.Rounds.{in_turn}
 use Rattle.vx_worker.specs.Morsels.{morsel_count, morsel_of}
 use Rattle.vx_check.specs.Rules.{allowed, root_allowed}

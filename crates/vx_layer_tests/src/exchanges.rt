@@ -1,5 +1,5 @@
 ghost use Rattle.std.specs.Prelude.{◌≡◌, ◌<◌, [], ◌∷◌, length, IfOk};
-ghost use Rattle.vx_rows.specs.declared.value.ColType.{ColType as Kind};
+ghost use Rattle.vx_values.specs.declared.value.ColType.{ColType as Kind};
 ghost use Rattle.vx_exchange.specs.Gather.{gather_is_open};
 
 use crate::routers::ToFirst;

@@ -3,7 +3,7 @@
 //! `ample` in its name makes the same calls once, and passes only where none of its allocations is refused.
 
 ghost use Rattle.std.specs.Prelude.{◌≡◌, ◌<◌, [], ◌∷◌, length, IfOk};
-ghost use Rattle.vx_rows.specs.declared.value.ColType.TheVariants as kind;
+ghost use Rattle.vx_values.specs.declared.value.ColType.TheVariants as kind;
 
 use crate::tables::TYPES;
 use std::alloc::{AllocError, Global};

@@ -1,7 +1,7 @@
 //! What no clause says of rows: that calls succeed with ample memory, and the answers of worked examples.
 
 ghost use Rattle.std.specs.Prelude.{◌≡◌, [], ◌∷◌, IfOk};
-ghost use Rattle.vx_rows.specs.declared.value.ColType.TheVariants as kind;
+ghost use Rattle.vx_values.specs.declared.value.ColType.TheVariants as kind;
 
 use crate::tables::{shown, table};
 use std::alloc::{AllocError, Global};

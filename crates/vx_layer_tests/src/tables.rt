@@ -1,7 +1,7 @@
 //! Tables of a number and a text, and rows as text.
 
 ghost use Rattle.std.specs.Prelude.{◌≡◌, ◌<◌, [], ◌∷◌, length, IfOk};
-ghost use Rattle.vx_rows.specs.declared.value.ColType.TheVariants as kind;
+ghost use Rattle.vx_values.specs.declared.value.ColType.TheVariants as kind;
 
 use std::alloc::{AllocError, Global};
 use vx_rows::{Cell, ColType, Rows, Value};

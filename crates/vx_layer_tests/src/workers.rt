@@ -1,5 +1,5 @@
 ghost use Rattle.std.specs.Prelude.{◌≡◌, [], ◌∷◌, IfOk};
-ghost use Rattle.vx_rows.specs.declared.value.ColType.{ColType as Kind};
+ghost use Rattle.vx_values.specs.declared.value.ColType.{ColType as Kind};
 ghost use Rattle.vx_ops.specs.Scan.{scan_types};
 ghost use Rattle.vx_exchange.specs.Kept.{kept_post, kept_is_open, kept_has_closed};
 ghost use Rattle.vx_worker.specs.Worker.{IsReady};

@@ -1,8 +1,8 @@
 -- Turns of an exact operator.
 use Rattle.std.proofs.Common.{◌≡◌, ℕ, List, [], ◌++◌, Some, refl, sym, ap, ◌∙◌, subst, inl, inr}
-use Rattle.vx_rows.specs.Values.{Row}
-use Rattle.vx_plan.specs.Plan.{Unary}
-use Rattle.vx_plan.specs.Serial.{unary_rows}
+use Rattle.vx_values.specs.Values.{Row}
+use Rattle.vx_nodes.specs.Plan.{Unary}
+use Rattle.vx_nodes.specs.Serial.{unary_rows}
 use Rattle.vx_ops.specs.Ledger.{Stream, Ledger, one_op, Begun, Told}
 use Rattle.vx_ops.specs.Begun.{all_of, begun_whole}
 use Rattle.vx_ops.specs.Exact.{IsExact}

@@ -1,7 +1,7 @@
 -- Operators with one input that give, at any moment while they run, all that they make of what came.
 use Rattle.std.specs.Prelude.{ℕ, ◌≡◌, List}
-use Rattle.vx_rows.specs.Values.{Row}
-use Rattle.vx_plan.specs.Plan.{Unary}
+use Rattle.vx_values.specs.Values.{Row}
+use Rattle.vx_nodes.specs.Plan.{Unary}
 use Rattle.vx_ops.specs.Ledger.{Ledger, one_op, Told}
 use Rattle.vx_ops.specs.declared.fault.Over.{Over}
 use Rattle.vx_ops.specs.declared.fault.Over.TheVariants.{Running}

@@ -1,11 +1,11 @@
 -- What one source heard and gave so far, and what is known of a source at any moment (Volcano's iterators).
 use Rattle.std.specs.Prelude.{ℕ, ◌≡◌, ◌<◌, ◌⊎◌, true, false, List, [], ◌∷◌, ◌++◌, length, map, Some, None}
-use Rattle.vx_rows.specs.Values.{Row}
+use Rattle.vx_values.specs.Values.{Row}
 use Rattle.vx_rows.specs.Order.{sorted}
-use Rattle.vx_rows.specs.declared.value.ColType.{ColType}
-use Rattle.vx_plan.specs.Plan.{Unary, group, Binary, join}
-use Rattle.vx_plan.specs.Serial.{unary_rows, binary_rows, group_rows}
-use Rattle.vx_plan.specs.Streams.{Dealt}
+use Rattle.vx_values.specs.declared.value.ColType.{ColType}
+use Rattle.vx_nodes.specs.Plan.{Unary, group, Binary, join}
+use Rattle.vx_nodes.specs.Serial.{unary_rows, binary_rows, group_rows}
+use Rattle.vx_nodes.specs.Streams.{Dealt}
 use Rattle.vx_ports.specs.Packets.{Parcel, rows_of, has_last, has_fault}
 use Rattle.vx_ops.specs.declared.fault.Code.TheVariants.{Overflow, NoMemory, Unsorted, Stranger}
 use Rattle.vx_ops.specs.declared.fault.Fault.{Fault}

@@ -1,8 +1,8 @@
 -- When a selection may have heard and given what a ledger says.
 use Rattle.std.specs.Prelude.{filter}
-use Rattle.vx_plan.specs.Plan.{select}
-use Rattle.vx_plan.specs.Serial.{passes}
-use Rattle.vx_plan.specs.Conditions.{conditions_of}
+use Rattle.vx_nodes.specs.Plan.{select}
+use Rattle.vx_nodes.specs.Serial.{passes}
+use Rattle.vx_nodes.specs.Conditions.{conditions_of}
 use Rattle.vx_ops.specs.Ledger.{Ledger, Op, one_op, Told}
 use Rattle.vx_ops.specs.Exact.{IsExact}
 use Rattle.vx_ops.specs.Turn.{Shape}

@@ -1,6 +1,6 @@
 -- One turn of a source: what it is given fits what it wants, and what its ledger is afterwards.
 use Rattle.std.specs.Prelude.{ℕ, ◌≡◌, ◌<◌, ◌==◌, List, [], ◌∷◌, ◌++◌, length, Option, Some, None, cond}
-use Rattle.vx_rows.specs.declared.value.ColType.{ColType}
+use Rattle.vx_values.specs.declared.value.ColType.{ColType}
 use Rattle.vx_ports.specs.Packets.{Parcel}
 use Rattle.vx_ops.specs.Ledger.{Stream, Ledger, fresh}
 use Rattle.vx_ops.specs.declared.fault.Over.{Over}

@@ -5,7 +5,7 @@ use crate::source::Source;
 use crate::turn::{Got, Polled, Want};
 use std::alloc::Global;
 use vx_algebra::selected;
-use vx_plan::Condition;
+use vx_nodes::Condition;
 use vx_rows::{ColType, Rows};
 
 /// Keeps the rows for which all conditions hold.
@@ -20,8 +20,8 @@ pub struct Select {
 
 impl Select {
     ghost use Rattle.std.specs.Prelude.{◌≡◌};
-    ghost use Rattle.vx_plan.specs.Plan.{select};
-    ghost use Rattle.vx_plan.specs.Conditions.{conditions_of};
+    ghost use Rattle.vx_nodes.specs.Plan.{select};
+    ghost use Rattle.vx_nodes.specs.Conditions.{conditions_of};
     ghost use Rattle.vx_ops.specs.Ledger.{Ledger, one_op};
     ghost use Rattle.vx_ops.specs.Turn.{fresh_ledger, after, GivesRows};
     ghost use Rattle.vx_ops.specs.Select.{SelectStands, select_op, select_types};

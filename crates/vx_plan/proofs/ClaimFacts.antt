@@ -4,13 +4,14 @@ use Rattle.std.specs.Prelude.{⊤}
 use Rattle.std.specs.List.{list_all}
 use Rattle.std.proofs.lemmas.List.{length-map}
 use Rattle.std.proofs.lemmas.List.Quantifiers.{position-Some}
-use Rattle.vx_rows.specs.declared.value.ColType.{ColType}
-use Rattle.vx_rows.specs.Types.{type_at}
-use Rattle.vx_plan.specs.Plan.{one_worker, by_hash, by_range, Part, routed, Claim}
+use Rattle.vx_values.specs.declared.value.ColType.{ColType}
+use Rattle.vx_values.specs.Types.{type_at}
+use Rattle.vx_nodes.specs.Plan.{one_worker, by_hash, by_range, Part, routed, Claim}
 use Rattle.vx_plan.specs.Typed.{is_some_list, are_columns, is_size, is_routed, is_part, is_claim, range_type, bounds_at, type_eq}
-use Rattle.vx_document.specs.Document.{Name, RangeForm, PartForm, hash_part, range_part, ClaimForm}
+use Rattle.vx_values.specs.Values.{Name}
+use Rattle.vx_document.specs.Document.{RangeForm, PartForm, hash_part, range_part, ClaimForm}
 use Rattle.vx_document.specs.Document as form
-use Rattle.vx_plan.specs.Outline.{Columns, Top}
+use Rattle.vx_nodes.specs.Outline.{Columns, Top}
 use Rattle.vx_document.specs.Fault.{Refusal, too_wide, ◌>>=◌}
 use Rattle.vx_plan.specs.Lookup.{Names, scope_of, column_found, columns_found, keys_found, once, keys_once, matched, narrow, size_or, size_found, range_or, range_found}
 use Rattle.vx_plan.specs.Resolve.{part_found, part_names, part_fits, claim_columns, claim_once, claim_found, topped}

@@ -1,15 +1,15 @@
 -- The plan without exchanges is typed, and numbered in preorder.
 use Rattle.std.proofs.Common.{◌≡◌, ℕ, suc, ◌+◌, ◌≤◌, ◌==◌, nat_lt, nat_le, Bool, true, ◌&&◌, List, length, refl, sym, ap, ◌∙◌, subst, arith, eq-eqb}
-use Rattle.vx_rows.specs.declared.value.ColType.{ColType}
+use Rattle.vx_values.specs.declared.value.ColType.{ColType}
 use Rattle.vx_catalog.specs.Relation.{Relation}
 use Rattle.vx_catalog.specs.Catalog.{relation_at}
-use Rattle.vx_plan.specs.Plan.{Claim, Plan, scan, unary, binary, exchange}
-use Rattle.vx_plan.specs.Types.{unary_types, binary_types, types_of}
+use Rattle.vx_nodes.specs.Plan.{Claim, Plan, scan, unary, binary, exchange}
+use Rattle.vx_nodes.specs.Types.{unary_types, binary_types, types_of}
 use Rattle.vx_plan.specs.Typed.{Scope, are_columns, is_claim, is_unary, is_binary, is_kind, is_size, is_output, typed, IsTyped}
-use Rattle.vx_plan.specs.Numbering.{nodes, is_numbered}
-use Rattle.vx_plan.specs.Erase.{no_claim, nodes_left, erase_from, erase}
-use Rattle.vx_plan.specs.Outline as outline
-use Rattle.vx_plan.specs.Outline.{Outline, plan_in}
+use Rattle.vx_nodes.specs.Numbering.{nodes, is_numbered}
+use Rattle.vx_nodes.specs.Erase.{no_claim, nodes_left, erase_from, erase}
+use Rattle.vx_nodes.specs.Outline as outline
+use Rattle.vx_nodes.specs.Outline.{Outline, plan_in}
 use Rattle.vx_plan.specs.Erased.{erased_from}
 use Rattle.vx_document.proofs.Holds.{and-left, and-right, and-both}
 

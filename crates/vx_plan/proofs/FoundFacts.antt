@@ -7,7 +7,7 @@ use Rattle.std.proofs.lemmas.List.Quantifiers.{position-Some}
 use Rattle.std.proofs.lemmas.Slice.Eq.{bytes_eq-Decides}
 use Rattle.vx_catalog.specs.Catalog.{all_below, are_distinct}
 use Rattle.vx_plan.specs.Typed.{is_some_list, are_columns}
-use Rattle.vx_document.specs.Document.{Name}
+use Rattle.vx_values.specs.Values.{Name}
 use Rattle.vx_document.specs.Fault.{Refusal}
 use Rattle.vx_plan.specs.Lookup.{walk_onto, column_or, column_found, columns_found, keys_found, once, keys_once}
 use Rattle.vx_document.proofs.Holds.{and-left, and-right, and-both, all_push, Holds, holds_then}

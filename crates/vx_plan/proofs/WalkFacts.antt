@@ -5,7 +5,7 @@ use Rattle.std.proofs.lemmas.Result.{err_from_is_err_and}
 use Rattle.vx_document.specs.declared.fault.PlanFault.{PlanFault}
 use Rattle.vx_document.specs.Fault.{Refusal, ◌>>=◌, Fails, Gives}
 use Rattle.vx_plan.specs.Lookup.{walk_onto, once, keys_once}
-use Rattle.vx_document.specs.Document.{Name}
+use Rattle.vx_values.specs.Values.{Name}
 use Rattle.std.specs.Prelude.{⊤, IsErrAnd}
 use Rattle.vx_document.proofs.NodeFacts.{fails_then}
 

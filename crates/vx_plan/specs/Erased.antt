@@ -1,8 +1,8 @@
 -- A typed plan without its exchanges, with the names that it keeps.
 use Rattle.std.specs.Prelude.{ℕ, ◌+◌, false}
-use Rattle.vx_plan.specs.Plan.{one_worker}
-use Rattle.vx_plan.specs.Erase.{no_claim, nodes_left}
-use Rattle.vx_plan.specs.Outline.{Top, Outline, scan, unary, binary, exchange, plan_in}
+use Rattle.vx_nodes.specs.Plan.{one_worker}
+use Rattle.vx_nodes.specs.Erase.{no_claim, nodes_left}
+use Rattle.vx_nodes.specs.Outline.{Top, Outline, scan, unary, binary, exchange, plan_in}
 
 -- a node's number and its output, without a claim
 abbrev pub erased_top : ℕ → Top → Top

@@ -1,14 +1,4 @@
-pub mod Plan
-pub mod Types
 pub mod Typed
-pub mod Numbering
-pub mod Serial
-pub mod Erase
-pub mod Streams
-pub mod Routes
-pub mod Runs
-pub mod Outline
-pub mod Conditions
 pub mod Lookup
 pub mod Resolve
 pub mod Named

@@ -2,9 +2,10 @@
 use Rattle.std.specs.Prelude.{ℕ, List, [], ◌∷◌, ◌++◌, map, length, Bool, ◌&&◌, Option, Some, None, Result, Ok, Err, ⊤, position, bytes_eq, codes, nat_le, if◌then◌else◌}
 use Rattle.std.specs.List.{list_any}
 use Rattle.vx_catalog.specs.Relation.{Relation}
-use Rattle.vx_plan.specs.Plan.{Size, one_worker, group_of}
+use Rattle.vx_nodes.specs.Plan.{Size, one_worker, group_of}
 use Rattle.vx_plan.specs.Typed.{Scope}
-use Rattle.vx_document.specs.Document.{Name, RangeForm}
+use Rattle.vx_values.specs.Values.{Name}
+use Rattle.vx_document.specs.Document.{RangeForm}
 use Rattle.vx_document.specs.Fault.{Refusal, unknown_column, duplicate_column, type_mismatch, unknown_range, bad_size, too_wide, ◌>>=◌}
 
 -- what the nodes of a plan may name

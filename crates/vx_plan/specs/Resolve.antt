@@ -1,18 +1,19 @@
 -- The typed plan of a document over a catalog, or the first refusal: sizes, ranges, then the nodes in post-order.
 use Rattle.std.specs.Prelude.{ℕ, ◌+◌, List, [], ◌∷◌, ◌++◌, map, length, Bool, true, not, ◌||◌, Option, Some, None, Result, Ok, Err, ⊤, position, bytes_eq, codes, nat_le, unwrap_or, is_some}
 use Rattle.std.specs.List.{list_all, list_any}
-use Rattle.vx_rows.specs.declared.value.ColType.{ColType}
-use Rattle.vx_rows.specs.Types.{type_at}
+use Rattle.vx_values.specs.declared.value.ColType.{ColType}
+use Rattle.vx_values.specs.Types.{type_at}
 use Rattle.vx_catalog.specs.Relation.{Relation}
 use Rattle.vx_catalog.specs.Catalog.{relation_at}
-use Rattle.vx_plan.specs.Plan.{Route, by_hash, by_range, Part, routed, Claim, Side, Condition, Aggregate, Unary, Binary, Kind, route_to}
-use Rattle.vx_plan.specs.Plan as plan
-use Rattle.vx_plan.specs.Types.{aggregate_type}
+use Rattle.vx_nodes.specs.Plan.{Route, by_hash, by_range, Part, routed, Claim, Side, Condition, Aggregate, Unary, Binary, Kind, route_to}
+use Rattle.vx_nodes.specs.Plan as plan
+use Rattle.vx_nodes.specs.Types.{aggregate_type}
 use Rattle.vx_plan.specs.Typed.{bounds_at, type_eq, types_eq, range_type, is_range, is_condition, is_aggregate, is_pair}
-use Rattle.vx_document.specs.Document.{Name, RangeForm, PartForm, hash_part, range_part, ClaimForm, SideForm, ConditionForm, OutputForm, FunctionForm, AggregateForm, ScanForm, UnaryForm, BinaryForm, KindForm, Tree, Document}
+use Rattle.vx_values.specs.Values.{Name}
+use Rattle.vx_document.specs.Document.{RangeForm, PartForm, hash_part, range_part, ClaimForm, SideForm, ConditionForm, OutputForm, FunctionForm, AggregateForm, ScanForm, UnaryForm, BinaryForm, KindForm, Tree, Document}
 use Rattle.vx_document.specs.Document as form
-use Rattle.vx_plan.specs.Outline.{Columns, Top, Outline, scan, unary, binary, exchange, columns}
-use Rattle.vx_plan.specs.declared.typed.Kept.{Kept}
+use Rattle.vx_nodes.specs.Outline.{Columns, Top, Outline, scan, unary, binary, exchange, columns}
+use Rattle.vx_nodes.specs.declared.typed.Kept.{Kept}
 use Rattle.vx_document.specs.Fault.{Refusal, unknown_relation, bad_range, bad_size, ◌>>=◌}
 use Rattle.vx_plan.specs.Lookup.{Names, walk_onto, tested_onto, column_found, columns_found, keys_found, once, pairs_once, keys_once, matched, narrow, size_found, range_found}
 

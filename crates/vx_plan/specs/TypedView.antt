@@ -1,11 +1,11 @@
 -- A typed plan, as its parts: what it may name, its plan, and the names that it keeps.
 use Rattle.std.specs.Prelude.{map, string_bytes}
 use Rattle.vx_plan.specs.declared.typed_plan.TypedPlan.{TypedPlan}
-use Rattle.vx_plan.specs.Plan.{Plan}
+use Rattle.vx_nodes.specs.Plan.{Plan}
 use Rattle.vx_plan.specs.Typed.{Scope}
 use Rattle.vx_document.specs.Document.{range_form}
 use Rattle.vx_plan.specs.Lookup.{Names, scope_of}
-use Rattle.vx_plan.specs.Outline.{outline_of, plan_of}
+use Rattle.vx_nodes.specs.Outline.{outline_of, plan_of}
 use Rattle.vx_plan.specs.Resolve.{Resolved}
 
 abbrev pub names_in : TypedPlan → Names

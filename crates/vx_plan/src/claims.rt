@@ -3,7 +3,7 @@
 ghost use Rattle.std.specs.Prelude.{◌≡◌, [], ◌∷◌, map, string_bytes, IfOk};
 ghost use Rattle.vx_document.specs.Fault.{Gives};
 ghost use Rattle.vx_document.specs.Document.{part_form, claim_form};
-ghost use Rattle.vx_plan.specs.Outline.{part_of, claim_of, columns_of, top_of};
+ghost use Rattle.vx_nodes.specs.Outline.{part_of, claim_of, columns_of, top_of};
 ghost use Rattle.vx_plan.specs.Lookup.{once};
 ghost use Rattle.vx_plan.specs.Resolve.{part_found, part_names, part_fits, claim_columns, claim_once, claim_found, topped};
 ghost use Rattle.vx_plan.specs.Named.{names_of};
@@ -12,9 +12,9 @@ use crate::fits::route_fits;
 use crate::lookup::{
     Declared, column_found, columns_found, keys_found, keys_once, matched, once, range_found,
 };
-use crate::typed::{Claim, Columns, Head, Part, Route};
 use std::alloc::{AllocError, Global};
 use vx_document::{NamedClaim, NamedPart, PlanFault};
+use vx_nodes::{Claim, Columns, Head, Part, Route};
 use vx_rows::ColType;
 
 /// A list of one column.

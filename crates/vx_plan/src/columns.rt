@@ -1,17 +1,17 @@
 //! The columns of outputs: copied, kept, put side by side.
 
 ghost use Rattle.std.specs.Prelude.{◌≡◌, ◌++◌, map, string_bytes, IfOk, OnOk};
-ghost use Rattle.vx_rows.specs.Types.{type_at};
+ghost use Rattle.vx_values.specs.Types.{type_at};
 ghost use Rattle.vx_document.specs.Document.{aggregate_form, output_form};
-ghost use Rattle.vx_plan.specs.Outline.{columns_of, aggregate_of};
-ghost use Rattle.vx_plan.specs.Types.{aggregate_type};
+ghost use Rattle.vx_nodes.specs.Outline.{columns_of, aggregate_of};
+ghost use Rattle.vx_nodes.specs.Types.{aggregate_type};
 ghost use Rattle.vx_plan.specs.Resolve.{both_columns, output_name, scan_columns};
 
 use crate::fits::type_at;
-use crate::typed::{Aggregate, Columns, Kept};
 use std::alloc::{AllocError, Global};
 use vx_catalog::Relation;
 use vx_document::{NamedAggregate, NamedOutput};
+use vx_nodes::{Aggregate, Columns, Kept};
 use vx_rows::ColType;
 
 // Copies of these names at the end of a list.

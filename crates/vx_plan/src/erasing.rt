@@ -1,52 +1,18 @@
 //! A typed plan without its exchanges.
 
-ghost use Rattle.std.specs.Prelude.{◌≡◌, ◌+◌, ◌<◌, ◌≤◌, ◌^◌, false, map, string_bytes, IfOk, IfErr};
-ghost use Rattle.vx_plan.specs.Numbering.{nodes};
-ghost use Rattle.vx_plan.specs.Erase.{nodes_left, erase};
+ghost use Rattle.std.specs.Prelude.{◌≡◌, ◌+◌, ◌<◌, ◌≤◌, ◌^◌, false, string_bytes, IfOk, IfErr};
+ghost use Rattle.vx_nodes.specs.Numbering.{nodes};
+ghost use Rattle.vx_nodes.specs.Erase.{nodes_left, erase};
 ghost use Rattle.vx_plan.specs.Erased.{erased_top, erased_from};
-ghost use Rattle.vx_plan.specs.Outline.{top_of, unary_of, renamed_of, binary_of, side_of, condition_of, outline_of, plan_of};
+ghost use Rattle.vx_nodes.specs.Outline.{top_of, unary_of, renamed_of, binary_of, outline_of, plan_of};
 ghost use Rattle.vx_plan.specs.TypedView.{names_in, plan, resolved_of};
 
 use crate::columns::{copied, copied_names};
-use crate::lookup::copied_value;
 use crate::resolving::copied_ranges;
-use crate::typed::{Binary, Claim, Condition, Head, Part, Scan, Side, Size, TypedNode, Unary};
 use crate::typed_plan::TypedPlan;
 use std::alloc::{AllocError, Global};
 use vx_document::PlanFault;
-
-fn copied_side(alloc: Global, side: &Side) -> Result<Side, AllocError>
-    ensures { IfOk result (λ s. side_of s ≡ side_of side.now) }
-{
-    match side {
-        Side::Column(column) => Ok(Side::Column(*column)),
-        Side::Constant(value) => Ok(Side::Constant(copied_value(alloc, value)?)),
-    }
-}
-
-fn copied_condition(alloc: Global, condition: &Condition) -> Result<Condition, AllocError>
-    ensures { IfOk result (λ c. condition_of c ≡ condition_of condition.now) }
-{
-    Ok(Condition {
-        left: condition.left,
-        test: condition.test,
-        right: copied_side(alloc, &condition.right)?,
-    })
-}
-
-/// The same conditions in memory of their own.
-pub fn copied_conditions(
-    alloc: Global,
-    conditions: &[Condition],
-) -> Result<Vec<Condition>, AllocError>
-    ensures { IfOk result (λ v. map condition_of v.items ≡ map condition_of conditions.now) }
-{
-    let mut copies = Vec::new(alloc);
-    for condition in conditions {
-        copies.push(copied_condition(alloc, condition)?)?;
-    }
-    Ok(copies)
-}
+use vx_nodes::{Binary, Claim, Head, Part, Scan, Size, TypedNode, Unary, copied_conditions};
 
 fn copied_unary(alloc: Global, unary: &Unary) -> Result<Unary, AllocError>
     ensures op { IfOk result (λ u. unary_of u ≡ unary_of unary.now) }

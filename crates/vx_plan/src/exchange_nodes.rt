@@ -3,7 +3,7 @@
 ghost use Rattle.std.specs.Prelude.{◌≡◌, ◌<◌, map, length, string_bytes, position, IfOk};
 ghost use Rattle.vx_document.specs.Fault.{Gives};
 ghost use Rattle.vx_document.specs.Document.{kind_form};
-ghost use Rattle.vx_plan.specs.Outline.{columns_of, kind_of};
+ghost use Rattle.vx_nodes.specs.Outline.{columns_of, kind_of};
 ghost use Rattle.vx_plan.specs.Lookup.{once};
 ghost use Rattle.vx_plan.specs.Resolve.{kind_found, kind_names, kind_fits, exchange_columns, exchange_once, exchange_shape, relation_found};
 ghost use Rattle.vx_plan.specs.Named.{names_of};
@@ -13,9 +13,9 @@ use crate::fits::route_fits;
 use crate::lookup::{
     Declared, column_found, columns_found, matched, once, range_found, size_found,
 };
-use crate::typed::{Columns, Exchange, Kind, Route};
 use std::alloc::Global;
 use vx_document::{NamedKind, PlanFault};
+use vx_nodes::{Columns, Exchange, Kind, Route};
 use vx_rows::ColType;
 
 // How an exchange sends: a size comes before a range, and that before columns.

@@ -1,4 +1,4 @@
-//! Plans: resolved over a catalog, and what they mean.
+//! Plans, resolved over a catalog.
 #![tactic(auto)]
 
 mod binary_nodes;
@@ -10,17 +10,14 @@ mod fits;
 mod lookup;
 mod nodes;
 mod resolving;
-mod router;
-mod typed;
 mod typed_plan;
 mod unary_nodes;
 
-pub use erasing::{copied_conditions, erase};
+pub use erasing::erase;
 pub use resolving::resolve;
-pub use router::Router;
-pub use typed::{
-    Aggregate, Binary, Claim, Columns, Condition, Exchange, Head, Kept, Kind, Part, Route, Scan,
-    Side, Size, TypedNode, Unary,
-};
 pub use typed_plan::TypedPlan;
 pub use vx_document::{Plan, PlanFault, Test, to_json};
+pub use vx_nodes::{
+    Aggregate, Binary, Claim, Columns, Condition, Exchange, Head, Kept, Kind, Part, Route, Router,
+    Scan, Side, Size, TypedNode, Unary, copied_conditions,
+};

@@ -1,19 +1,17 @@
 //! Looking up names: columns of an input, sizes and ranges of a plan.
 
-ghost use Rattle.std.specs.Prelude.{◌≡◌, map, position, bytes_eq, string_bytes, IfOk};
-ghost use Rattle.vx_rows.specs.View.{val_of};
+ghost use Rattle.std.specs.Prelude.{◌≡◌, map, position, bytes_eq, string_bytes};
 ghost use Rattle.std.specs.List.{list_any};
 ghost use Rattle.vx_document.specs.Fault.{Gives};
 ghost use Rattle.vx_document.specs.Document.{range_form, pair_form};
-ghost use Rattle.vx_plan.specs.Outline.{size_of};
+ghost use Rattle.vx_nodes.specs.Outline.{size_of};
 ghost use Rattle.vx_plan.specs.Lookup.{column_found, columns_found, keys_found, once, pairs_once, keys_once, matched, narrow, pair_eq, size_found, range_found};
 ghost use Rattle.vx_plan.specs.Named.{names_of};
 
-use crate::typed::Size;
 use std::alloc::{AllocError, Global};
 use vx_catalog::{Catalog, find_name};
 use vx_document::{NamedRange, PlanFault};
-use vx_rows::Value;
+use vx_nodes::Size;
 
 /// What the nodes of a plan may name.
 #[derive(Clone, Copy, Debug)]
@@ -223,11 +221,4 @@ pub fn range_found(
             name: String::from_str(alloc, name)?,
         }),
     }
-}
-
-/// A copy of a value.
-pub fn copied_value(alloc: Global, value: &Value) -> Result<Value, AllocError>
-    ensures { IfOk result (λ v. val_of v ≡ val_of value.now) }
-{
-    value.cell().to_value(alloc)
 }

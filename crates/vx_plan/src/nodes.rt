@@ -3,7 +3,7 @@
 ghost use Rattle.std.specs.Prelude.{◌≡◌, ◌+◌, ◌<◌, ◌^◌, map, string_bytes, IfOk};
 ghost use Rattle.vx_document.specs.Fault.{Gives};
 ghost use Rattle.vx_document.specs.Document.{claim_form, scan_form, unary_form, binary_form, kind_form, tree_of, tree_nodes};
-ghost use Rattle.vx_plan.specs.Outline.{outline_of, columns_of, columns};
+ghost use Rattle.vx_nodes.specs.Outline.{outline_of, columns_of, columns};
 ghost use Rattle.vx_plan.specs.Resolve.{scan_typed, unary_typed, binary_typed, exchange_typed, typed_in};
 ghost use Rattle.vx_plan.specs.Named.{names_of};
 
@@ -12,10 +12,10 @@ use crate::claims::topped;
 use crate::columns::{copied, scanned};
 use crate::exchange_nodes::{exchange_shape, relation_found};
 use crate::lookup::{Declared, size_found};
-use crate::typed::{Columns, Scan, TypedNode};
 use crate::unary_nodes::{Shape, unary_shape};
 use std::alloc::Global;
 use vx_document::{NamedBinary, NamedClaim, NamedKind, NamedScan, NamedUnary, Node, PlanFault};
+use vx_nodes::{Columns, Scan, TypedNode};
 
 // The columns of a node's output.
 fn columns(node: &TypedNode) -> &Columns

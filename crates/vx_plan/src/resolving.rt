@@ -3,7 +3,7 @@
 ghost use Rattle.std.specs.Prelude.{◌≡◌, map, string_bytes, IfOk};
 ghost use Rattle.std.specs.List.{list_any};
 ghost use Rattle.std.specs.Prelude.{bytes_eq};
-ghost use Rattle.vx_rows.specs.View.{val_of};
+ghost use Rattle.vx_values.specs.ValueView.{val_of};
 ghost use Rattle.vx_document.specs.Fault.{Gives};
 ghost use Rattle.vx_document.specs.Document.{range_form};
 ghost use Rattle.vx_document.specs.PlanView.{document_of};
@@ -12,7 +12,7 @@ ghost use Rattle.vx_plan.specs.TypedView.{resolved_of};
 
 use crate::columns::copied_names;
 use crate::fits::is_range;
-use crate::lookup::{Declared, copied_value, has_name};
+use crate::lookup::{Declared, has_name};
 use crate::nodes::typed_in;
 use crate::typed_plan::TypedPlan;
 use std::alloc::{AllocError, Global};
@@ -81,7 +81,7 @@ fn copied_values(alloc: Global, values: &[Value]) -> Result<Vec<Value>, AllocErr
 {
     let mut copies = Vec::new(alloc);
     for value in values {
-        copies.push(copied_value(alloc, value)?)?;
+        copies.push(value.copy(alloc)?)?;
     }
     Ok(copies)
 }

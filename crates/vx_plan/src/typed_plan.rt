@@ -4,13 +4,13 @@ ghost use Rattle.std.specs.Prelude.{◌≡◌, ◌≤◌, true, nat_le, map, len
 ghost use Rattle.std.specs.List.{list_all};
 ghost use Rattle.vx_document.specs.Document.{range_form};
 ghost use Rattle.vx_plan.specs.Lookup.{scope_of};
-ghost use Rattle.vx_plan.specs.Numbering.{nodes, is_numbered};
-ghost use Rattle.vx_plan.specs.Outline.{outline_of, plan_of};
+ghost use Rattle.vx_nodes.specs.Numbering.{nodes, is_numbered};
+ghost use Rattle.vx_nodes.specs.Outline.{outline_of, plan_of};
 ghost use Rattle.vx_plan.specs.Typed.{is_range, typed, IsTyped};
 
-use crate::typed::TypedNode;
 use vx_catalog::Catalog;
 use vx_document::NamedRange;
+use vx_nodes::TypedNode;
 
 /// A plan with its catalog. Every node names what there is, has the types that it needs, and is numbered in preorder
 /// from 0. There are at most 1,000 nodes.

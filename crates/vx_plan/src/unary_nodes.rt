@@ -3,18 +3,18 @@
 ghost use Rattle.std.specs.Prelude.{◌≡◌, map, string_bytes, IfOk};
 ghost use Rattle.vx_document.specs.Fault.{Gives};
 ghost use Rattle.vx_document.specs.Document.{side_form, condition_form, output_form, function_form, aggregate_form, unary_form};
-ghost use Rattle.vx_plan.specs.Outline.{side_of, condition_of, aggregate_of, columns_of};
+ghost use Rattle.vx_nodes.specs.Outline.{side_of, condition_of, aggregate_of, columns_of};
 ghost use Rattle.vx_plan.specs.Resolve.{side_found, condition_found, conditions_found, select_shape, output_name, kept_found, all_kept_found, kept_shape, project_shape, distinct_shape, sort_shape, function_found, aggregates_found, group_found, group_tested, group_shape, unary_shape};
 ghost use Rattle.vx_plan.specs.Shaped.{shape_of};
 
 use crate::columns::{copied, group_names, group_types, kept_types, output_names};
 use crate::fits::{are_aggregates, are_conditions};
-use crate::lookup::{column_found, columns_found, copied_value, matched, narrow, once};
-use crate::typed::{Aggregate, Columns, Condition, Kept, Side, Unary};
+use crate::lookup::{column_found, columns_found, matched, narrow, once};
 use std::alloc::Global;
 use vx_document::{
     NamedAggregate, NamedCondition, NamedFunction, NamedOutput, NamedSide, NamedUnary, PlanFault,
 };
+use vx_nodes::{Aggregate, Columns, Condition, Kept, Side, Unary};
 use vx_rows::ColType;
 
 /// An operator over one input, and its output.
@@ -38,7 +38,7 @@ fn side_found(
             let column = column_found(alloc, node, names, name.as_str())?;
             Ok(Side::Column(column))
         }
-        NamedSide::Constant(value) => Ok(Side::Constant(copied_value(alloc, value)?)),
+        NamedSide::Constant(value) => Ok(Side::Constant(value.copy(alloc)?)),
     }
 }
 

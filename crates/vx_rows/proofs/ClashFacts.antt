@@ -5,7 +5,7 @@ use Rattle.std.proofs.lemmas.List.{get_or_append_left, length_push}
 use Rattle.std.proofs.lemmas.List.Sums.{position_or_len_is}
 use Rattle.std.proofs.Math.Seq.{get_or-append_seam}
 use Rattle.std.proofs.lemmas.Bool.{cases_eq}
-use Rattle.vx_rows.specs.Values.{Row, pick}
+use Rattle.vx_values.specs.Values.{Row, pick}
 use Rattle.vx_rows.specs.Order.{agree}
 use Rattle.vx_rows.specs.Keys.{clash_or, clash_from}
 use Rattle.vx_rows.proofs.Compare.{row_eq-laws}

@@ -3,7 +3,7 @@ use Rattle.std.proofs.Common.{◌≡◌, ℕ, ◌+◌, ◌≤◌, Bool, true, fa
 use Rattle.std.specs.Ordering.{ordering_reverse}
 use Rattle.std.proofs.lemmas.Cmp.{upto}
 pub use Rattle.vx_rows.specs.Equality.{val_cmp_total, row_cmp_total, val_cmp-same, is_eq-Equal, row_eq-same, row_eq-laws}
-use Rattle.vx_rows.specs.Values.{Row, row_cmp, row_eq, pick}
+use Rattle.vx_values.specs.Values.{Row, row_cmp, row_eq, pick}
 use Rattle.vx_rows.specs.Order.{compare_on, agree}
 use Rattle.vx_rows.specs.Bags.{count}
 

@@ -8,12 +8,13 @@ use Rattle.std.specs.List.{position_or_len}
 use Rattle.std.proofs.lemmas.List.Sums.{fails_before_first}
 use Rattle.std.proofs.Math.Seq.{get_or-append_seam}
 use Rattle.std.proofs.lemmas.List.{get_or_append_left, length_push}
-use Rattle.vx_rows.specs.Values.{Row, pick}
+use Rattle.vx_values.specs.Values.{Row, pick}
 use Rattle.vx_rows.specs.Order.{compare_on, agree, sorted}
 use Rattle.vx_rows.specs.Bags.{count}
 use Rattle.vx_rows.specs.Keys.{HasKey, is_key, clash_or, clash_from, first_clash, KeyLaw}
 use Rattle.vx_rows.proofs.Compare.{agree-both, row_eq-refl, row_cmp_total}
-use Rattle.vx_rows.proofs.Order.{and-left, and-right, and-both, sorted_neighbours}
+use Rattle.vx_values.proofs.Booleans.{and-left, and-right, and-both}
+use Rattle.vx_rows.proofs.Order.{sorted_neighbours}
 use Rattle.vx_rows.proofs.ClashFacts.{meet, agree-sym, Apart, clash-none}
 
 flag-yes : (b : Bool) → b ≡ true → ◌≡◌ {A = ℕ} (cond b 1 0) 1

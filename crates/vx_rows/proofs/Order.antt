@@ -2,25 +2,14 @@
 use Rattle.std.proofs.Common.{◌≡◌, ℕ, zero, suc, ◌<◌, Bool, true, false, ◌&&◌, List, [], ◌∷◌, refl, sym, ap, ◌∙◌, length, get_or, arith, true≢false, is_le, is_lt, Ordering, Less, Equal, Greater}
 use Rattle.std.specs.List.{list_all}
 use Rattle.std.specs.Ordering.{ordering_reverse}
-use Rattle.vx_rows.specs.Values.{Row, pick}
+use Rattle.vx_values.specs.Values.{Row, pick}
 use Rattle.vx_rows.specs.Order.{compare_on, sorted}
+use Rattle.vx_values.proofs.Booleans.{and-left, and-right, and-both}
 use Rattle.vx_rows.proofs.Compare.{le-trans, row_cmp_total}
 
 -- no row but the first is smaller than the one before it
 abbrev pub NoFall : List ℕ → List Row → ℕ → Type 0
 NoFall cols rows n = (k : ℕ) → suc k < n → is_lt (compare_on cols (get_or rows (suc k) []) (get_or rows k [])) ≡ false
-
-pub and-left : (a b : Bool) → (a && b) ≡ true → a ≡ true
-and-left true b e = refl
-and-left false b e = e
-
-pub and-right : (a b : Bool) → (a && b) ≡ true → b ≡ true
-and-right true b e = e
-and-right false b e = absurd (true≢false (sym e))
-
-pub and-both : (a b : Bool) → a ≡ true → b ≡ true → (a && b) ≡ true
-and-both true b e f = f
-and-both false b e f = e
 
 turn : (o p : Ordering) → o ≡ ordering_reverse p → is_lt o ≡ false → is_le p ≡ true
 turn o Less e h = refl

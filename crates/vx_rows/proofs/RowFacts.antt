@@ -1,9 +1,9 @@
 -- Rows value by value.
 use Rattle.std.proofs.Common.{◌≡◌, ℕ, Bool, true, false, List, map, length, drop, refl, sym, ap, ◌∙◌}
 use Rattle.std.proofs.lemmas.List.{length-map}
-use Rattle.vx_rows.specs.declared.value.Value.{Value}
-use Rattle.vx_rows.specs.View.{val_of}
-use Rattle.vx_rows.specs.Values.{Row, row_eq}
+use Rattle.vx_values.specs.declared.value.Value.{Value}
+use Rattle.vx_values.specs.ValueView.{val_of}
+use Rattle.vx_values.specs.Values.{Row, row_eq}
 use Rattle.vx_rows.proofs.Compare.{row_eq-same}
 
 abbrev pub rest : List Value → ℕ → Row

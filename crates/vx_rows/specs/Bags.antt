@@ -1,6 +1,6 @@
 -- Lists of rows as bags: which rows, and how often each.
 use Rattle.std.specs.Prelude.{◌≡◌, ℕ, ◌+◌, Bool, cond, List, [], ◌∷◌}
-use Rattle.vx_rows.specs.Values.{Row}
+use Rattle.vx_values.specs.Values.{Row}
 
 -- the total of a number that each element has
 abbrev pub total : {X : Type 0} → (X → ℕ) → List X → ℕ

@@ -4,7 +4,7 @@ use Rattle.std.specs.Ordering.{ordering_reverse}
 use Rattle.std.specs.Cmp.{IsTotalOrder, IsEquivalence}
 use Rattle.std.specs.FinMap.{IsAntisymmetric, int_cmp-IsAntisymmetric, nat_cmp-IsAntisymmetric, slice_cmp-IsAntisymmetric}
 use Rattle.std.proofs.lemmas.Cmp.{int_cmp_total, nat_list_cmp_total, lists_total, eq_by_cmp_equiv}
-use Rattle.vx_rows.specs.Values.{Val, num, text, Row, val_cmp, row_cmp, row_eq}
+use Rattle.vx_values.specs.Values.{Val, num, text, Row, val_cmp, row_cmp, row_eq}
 
 -- values have a total order
 pub val_cmp_total : IsTotalOrder val_cmp

@@ -1,10 +1,8 @@
-pub mod Values
 pub mod Equality
 pub mod Order
 pub mod Sorting
 pub mod Bags
 pub mod Keys
-pub mod Types
 pub mod Lists
 pub mod View
 pub mod Texts

@@ -3,7 +3,7 @@ use Rattle.std.specs.Prelude.{ℕ, Bool, true, cond, ◌&&◌, List, [], ◌∷�
 use Rattle.std.specs.List.{list_all}
 use Rattle.std.specs.declared.cmp.Ordering.{Ordering}
 use Rattle.std.specs.Ordering.{is_eq, is_le}
-use Rattle.vx_rows.specs.Values.{Row, row_cmp, pick}
+use Rattle.vx_values.specs.Values.{Row, row_cmp, pick}
 
 -- column by column, the first difference decides
 abbrev pub compare_on : List ℕ → Row → Row → Ordering

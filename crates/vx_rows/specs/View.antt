@@ -1,22 +1,8 @@
--- What a value of the program stands for, and what a caller sees of rows.
-use Rattle.std.specs.Prelude.{◌≡◌, ℕ, ◌<◌, List, [], map, string_bytes, slice_index_or, All}
-use Rattle.vx_rows.specs.declared.value.ColType.{ColType}
-use Rattle.vx_rows.specs.declared.value.Value.{Value}
-use Rattle.vx_rows.specs.declared.value.Value.TheVariants as value
-use Rattle.vx_rows.specs.declared.value.Cell.{Cell}
-use Rattle.vx_rows.specs.declared.value.Cell.TheVariants as cell
-use Rattle.vx_rows.specs.Values.{Val, num, text, Row}
-use Rattle.vx_rows.specs.Types.{type_of}
-
--- the value that an owned one stands for
-abbrev pub val_of : Value → Val
-val_of (value.Int z) = num z
-val_of (value.Text s) = text (string_bytes s)
-
--- the value that a borrowed one stands for
-abbrev pub cell_val : Cell → Val
-cell_val (cell.Int z) = num z
-cell_val (cell.Text s) = text s.now
+-- What a caller sees of rows.
+use Rattle.std.specs.Prelude.{◌≡◌, ℕ, ◌<◌, List, [], map, slice_index_or, All}
+use Rattle.vx_values.specs.declared.value.ColType.{ColType}
+use Rattle.vx_values.specs.Values.{Row}
+use Rattle.vx_values.specs.Types.{type_of}
 
 -- a row has one value of each of these types, in order: of values that a program holds this is all of `Fits`
 abbrev pub HasTypes : List ColType → Row → Type 0

@@ -1,13 +1,14 @@
 //! The values of one column.
 
 ghost use Rattle.std.specs.Prelude.{◌≡◌, ℕ, ◌+◌, ◌-◌, ◌<◌, ◌≤◌, length, pos, slice_index, slice_index_or, OnOk, IfOk};
-ghost use Rattle.vx_rows.specs.View.{cell_val, ArePositions};
-ghost use Rattle.vx_rows.specs.Types.{type_of};
+ghost use Rattle.vx_values.specs.ValueView.{cell_val};
+ghost use Rattle.vx_rows.specs.View.{ArePositions};
+ghost use Rattle.vx_values.specs.Types.{type_of};
 ghost use Rattle.vx_rows.specs.Columns.{column_type, size, entry, KeepsFront};
 
 use crate::texts::Texts;
-use crate::value::{Cell, ColType};
 use std::alloc::{AllocError, Global};
+use vx_values::{Cell, ColType};
 
 /// The values of a column, all of one type.
 #[derive(Debug, Drop)]

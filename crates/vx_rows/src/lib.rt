@@ -1,4 +1,4 @@
-//! Values, rows kept by columns and seen as a list of rows, their orders and keys, and the ports for bytes.
+//! Rows kept by columns and seen as a list of rows, their orders and keys, and the ports for bytes.
 #![tactic(auto)]
 
 mod bytes;
@@ -10,7 +10,6 @@ mod row;
 mod rows;
 mod sorting;
 mod texts;
-mod value;
 mod writes;
 
 pub use bytes::{Broken, ByteIn, ByteOut, ReadFault, Real, read_all, write_all};
@@ -20,4 +19,4 @@ pub use open::OpenRows;
 pub use row::Row;
 pub use rows::Rows;
 pub use sorting::compare_on;
-pub use value::{Cell, ColType, Value, compare_cells};
+pub use vx_values::{Cell, ColType, Value, compare_cells};

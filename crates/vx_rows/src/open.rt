@@ -1,15 +1,15 @@
 //! Rows that get one value after another.
 
 ghost use Rattle.std.specs.Prelude.{◌≡◌, ◌<◌, ◌++◌, ◌∷◌, [], length, OnOk, OnErr, IfOk};
-ghost use Rattle.vx_rows.specs.View.{cell_val};
-ghost use Rattle.vx_rows.specs.Types.{type_of, type_at};
+ghost use Rattle.vx_values.specs.ValueView.{cell_val};
+ghost use Rattle.vx_values.specs.Types.{type_of, type_at};
 
 use crate::column::Column;
 use crate::rows::Rows;
-use crate::value::{Cell, ColType};
 use crate::writes::{empty_columns, put_cell};
 use std::alloc::{AllocError, Global};
 use std::marker::Model;
+use vx_values::{Cell, ColType};
 
 /// Rows, and the front of one more row, which gets one value after another.
 ///

@@ -2,19 +2,20 @@
 
 ghost use Rattle.std.specs.Prelude.{◌≡◌, ◌↔◌, ◌+◌, ◌-◌, ◌<◌, ◌≤◌, ◌++◌, ◌∷◌, [], length, max, map, take, zip, slice_range, OnOk, OnErr, IfOk, IsTrue};
 ghost use Rattle.std.specs.List.{AllByRecursion};
-ghost use Rattle.vx_rows.specs.Values.{pick, value_at};
-ghost use Rattle.vx_rows.specs.View.{val_of, cell_val, HasTypes, row, AreColumns, ArePositions};
-ghost use Rattle.vx_rows.specs.Types.{type_at, Fits};
+ghost use Rattle.vx_values.specs.Values.{pick, value_at};
+ghost use Rattle.vx_values.specs.ValueView.{val_of, cell_val};
+ghost use Rattle.vx_rows.specs.View.{HasTypes, row, AreColumns, ArePositions};
+ghost use Rattle.vx_values.specs.Types.{type_at, Fits};
 ghost use Rattle.vx_rows.specs.Columns.{entry, rows_of, AreRows};
 
 use crate::column::Column;
-use crate::value::{Cell, ColType, Value};
 use crate::writes::{
     empty_columns, put_cells, put_picked, put_row, put_rows, put_rows_at, put_values, reserve_rows,
 };
 use std::alloc::{AllocError, Global};
 use std::marker::Model;
 use std::mem;
+use vx_values::{Cell, ColType, Value};
 
 // Makes value j of a key that of a cell.
 fn put_key(alloc: Global, key: &mut Vec<Value>, j: usize, cell: Cell<'_>) -> Result<(), AllocError>

@@ -3,14 +3,15 @@
 
 ghost use Rattle.std.specs.Prelude.{◌≡◌, ℕ, ◌+◌, ◌-◌, ◌<◌, ◌≤◌, ◌∷◌, [], length, map, take, true, slice_index, OnOk, IfOk};
 ghost use Rattle.std.specs.List.{list_all};
-ghost use Rattle.vx_rows.specs.Values.{pick};
-ghost use Rattle.vx_rows.specs.View.{val_of, cell_val, AreColumns, ArePositions};
-ghost use Rattle.vx_rows.specs.Types.{type_of, type_at, is_held};
+ghost use Rattle.vx_values.specs.Values.{pick};
+ghost use Rattle.vx_values.specs.ValueView.{val_of, cell_val};
+ghost use Rattle.vx_rows.specs.View.{AreColumns, ArePositions};
+ghost use Rattle.vx_values.specs.Types.{type_of, type_at, is_held};
 ghost use Rattle.vx_rows.specs.Columns.{column_type, size, entry, row_of, AreLong, KeepRows, Fills};
 
 use crate::column::Column;
-use crate::value::{Cell, ColType, Value};
 use std::alloc::{AllocError, Global};
+use vx_values::{Cell, ColType, Value};
 
 /// Puts a value into a column, past the first `at` rows.
 pub fn put_cell(

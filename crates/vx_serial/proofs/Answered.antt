@@ -4,11 +4,11 @@ use Rattle.std.specs.Prelude.{IfOk, IfErr}
 use Rattle.vx_rows.specs.View.{Table}
 use Rattle.vx_catalog.specs.Catalog.{relation_at}
 use Rattle.vx_catalog.specs.Database.{Database, rows_at}
-use Rattle.vx_plan.specs.Outline.{plan_in}
-use Rattle.vx_plan.specs.Plan.{Plan}
+use Rattle.vx_nodes.specs.Outline.{plan_in}
+use Rattle.vx_nodes.specs.Plan.{Plan}
 use Rattle.vx_plan.specs.Resolve.{Resolved}
-use Rattle.vx_plan.specs.Serial.{rows}
-use Rattle.vx_plan.specs.Types.{types_of}
+use Rattle.vx_nodes.specs.Serial.{rows}
+use Rattle.vx_nodes.specs.Types.{types_of}
 use Rattle.vx_serial.specs.Evaluated.{evaluated}
 use Rattle.vx_serial.specs.Results.{IsFaultOf, IsPlain, IsSerialOf, EvalFails}
 use Rattle.vx_serial.specs.declared.fault.EvalFault.{EvalFault}

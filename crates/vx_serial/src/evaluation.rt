@@ -4,10 +4,10 @@ ghost use Rattle.std.specs.Prelude.{◌≡◌, IfOk, IfErr};
 ghost use Rattle.std.specs.Cow.{cow_value};
 ghost use Rattle.vx_catalog.specs.Catalog.{relation_at};
 ghost use Rattle.vx_catalog.specs.Database.{rows_at};
-ghost use Rattle.vx_plan.specs.Outline.{plan_of};
-ghost use Rattle.vx_plan.specs.Serial.{rows};
+ghost use Rattle.vx_nodes.specs.Outline.{plan_of};
+ghost use Rattle.vx_nodes.specs.Serial.{rows};
 ghost use Rattle.vx_plan.specs.TypedView.{resolved_of};
-ghost use Rattle.vx_plan.specs.Types.{types_of};
+ghost use Rattle.vx_nodes.specs.Types.{types_of};
 ghost use Rattle.vx_serial.specs.Evaluated.{evaluated, IsFit};
 ghost use Rattle.vx_serial.specs.Results.{IsFaultOf, IsSerialOf, EvalFails};
 

@@ -1,7 +1,7 @@
 //! Exchanges in a plan.
 
 ghost use Rattle.std.specs.Prelude.{◌≡◌};
-ghost use Rattle.vx_plan.specs.Outline.{plan_of};
+ghost use Rattle.vx_nodes.specs.Outline.{plan_of};
 ghost use Rattle.vx_serial.specs.Evaluated.{first_exchange};
 
 use vx_plan::TypedNode;

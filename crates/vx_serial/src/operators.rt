@@ -3,11 +3,11 @@
 ghost use Rattle.std.specs.Prelude.{◌≡◌, ◌++◌, true, Some, map, IfOk, IfErr};
 ghost use Rattle.std.specs.Cow.{cow_value};
 ghost use Rattle.std.specs.List.{list_all};
-ghost use Rattle.vx_plan.specs.Outline.{aggregate_of, unary_of, binary_of};
-ghost use Rattle.vx_plan.specs.Plan.{group};
-ghost use Rattle.vx_plan.specs.Serial.{binary_rows, join_rows};
+ghost use Rattle.vx_nodes.specs.Outline.{aggregate_of, unary_of, binary_of};
+ghost use Rattle.vx_nodes.specs.Plan.{group};
+ghost use Rattle.vx_nodes.specs.Serial.{binary_rows, join_rows};
 ghost use Rattle.vx_plan.specs.Typed.{is_unary, is_binary, is_pair};
-ghost use Rattle.vx_plan.specs.Types.{unary_types, binary_types};
+ghost use Rattle.vx_nodes.specs.Types.{unary_types, binary_types};
 ghost use Rattle.vx_serial.specs.Evaluated.{evaluated_rows};
 ghost use Rattle.vx_serial.specs.Results.{IsFaultAt};
 

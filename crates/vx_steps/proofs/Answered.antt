@@ -1,9 +1,9 @@
 -- From what a run comes to, to what its verdict is worth.
 use Rattle.std.proofs.Common.{ℕ, ◌≡◌, ◌<◌, Bool, true, List, not, ◌||◌, sym, subst, arith}
-use Rattle.vx_rows.specs.Values.{Val, Row}
-use Rattle.vx_plan.specs.Plan.{Plan, size, is_one}
-use Rattle.vx_plan.specs.Streams.{workers}
-use Rattle.vx_plan.specs.Routes.{Router}
+use Rattle.vx_values.specs.Values.{Val, Row}
+use Rattle.vx_nodes.specs.Plan.{Plan, size, is_one}
+use Rattle.vx_nodes.specs.Streams.{workers}
+use Rattle.vx_nodes.specs.Routes.{Router}
 use Rattle.vx_check.specs.Rules.{is_total_order}
 use Rattle.vx_ports.specs.Packets.{Parcel}
 use Rattle.vx_ops.specs.Ledger.{Stream, Ledger, Op}

@@ -1,11 +1,11 @@
 -- What the verdict on an accepted plan's run is worth.
 use Rattle.std.specs.Prelude.{ℕ, ◌≡◌, Bool, true, List}
 use Rattle.std.specs.List.{slice_index_or}
-use Rattle.vx_rows.specs.Values.{Row}
-use Rattle.vx_plan.specs.Plan.{Plan}
-use Rattle.vx_plan.specs.Types.{well_formed}
-use Rattle.vx_plan.specs.Numbering.{is_fit}
-use Rattle.vx_plan.specs.Runs.{Runs}
+use Rattle.vx_values.specs.Values.{Row}
+use Rattle.vx_nodes.specs.Plan.{Plan}
+use Rattle.vx_nodes.specs.Types.{well_formed}
+use Rattle.vx_nodes.specs.Numbering.{is_fit}
+use Rattle.vx_nodes.specs.Runs.{Runs}
 use Rattle.vx_check.specs.Rules.{allowed, root_allowed}
 use Rattle.vx_check.specs.Claims.{Delivers}
 use Rattle.vx_ops.specs.declared.fault.Code.TheVariants.{Overflow}

@@ -2,7 +2,7 @@
 
 ghost use Rattle.std.specs.Prelude.{◌≡◌, ◌<◌, Bool, map, vec_len, IfOk, IfErr};
 ghost use Rattle.std.specs.List.{All};
-ghost use Rattle.vx_plan.specs.Plan.{Plan};
+ghost use Rattle.vx_nodes.specs.Plan.{Plan};
 ghost use Rattle.vx_worker.specs.Fragment.{Setting};
 ghost use Rattle.vx_worker.specs.Worker.{IsReady, role_of};
 ghost use Rattle.vx_steps.specs.Endings.{TellsFirst};
@@ -16,7 +16,7 @@ use crate::run::{bad_step, run_rounds, run_steps};
 use crate::verdict::{Verdict, judge};
 use vx_exchange::Sends;
 use vx_ops::Source;
-use vx_plan::Router;
+use vx_nodes::Router;
 use vx_worker::{Morsels, Worker};
 
 /// At most so many rounds of all workers in number order, and what they come to. That the workers end is not promised: a limit that is too low

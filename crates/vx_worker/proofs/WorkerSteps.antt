@@ -1,9 +1,9 @@
 -- The steps of a worker: what stands before one stands after it.
 use Rattle.std.proofs.Common.{ℕ, ◌≡◌, ◌⊎◌, inl, inr, refl, sym, ap, ◌∙◌, subst, List, [], Option, Some, None, Bool, true, false, Ok}
 use Rattle.std.specs.List.{All}
-use Rattle.vx_rows.specs.Values.{Row}
-use Rattle.vx_rows.specs.declared.value.ColType.{ColType}
-use Rattle.vx_plan.specs.Routes.{Router}
+use Rattle.vx_values.specs.Values.{Row}
+use Rattle.vx_values.specs.declared.value.ColType.{ColType}
+use Rattle.vx_nodes.specs.Routes.{Router}
 use Rattle.vx_ports.specs.Packets.{Parcel, closes}
 use Rattle.vx_ops.specs.Ledger.{Stream, Ledger, Op, Told, fresh}
 use Rattle.vx_ops.specs.Turn.{Shape, heard}

@@ -1,7 +1,7 @@
 -- A destination stands as the one that it is.
 use Rattle.std.specs.Prelude.{◌≡◌, ℕ, Bool, true, false, List}
-use Rattle.vx_rows.specs.Values.{Val}
-use Rattle.vx_plan.specs.Routes.{Router}
+use Rattle.vx_values.specs.Values.{Val}
+use Rattle.vx_nodes.specs.Routes.{Router}
 use Rattle.vx_ports.specs.Packets.{Parcel}
 use Rattle.vx_ops.specs.Ledger.{Stream}
 use Rattle.vx_exchange.specs.Tasks.{Task, Post, Begun, IsAt}

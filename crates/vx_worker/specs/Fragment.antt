@@ -1,11 +1,11 @@
 -- Fragments: the operators of a plan from a node down to its scans and the consumer ends of exchanges.
 use Rattle.std.specs.Prelude.{ℕ, ◌≡◌, ◌<◌, List}
-use Rattle.vx_rows.specs.Values.{Val, Row}
+use Rattle.vx_values.specs.Values.{Val, Row}
 use Rattle.vx_catalog.specs.Relation.{Relation, Meets}
-use Rattle.vx_plan.specs.Plan.{Plan, scan, unary, binary, exchange, size}
-use Rattle.vx_plan.specs.Routes.{Router, sends_by}
-use Rattle.vx_plan.specs.Streams.{workers}
-use Rattle.vx_plan.specs.Types.{types_of}
+use Rattle.vx_nodes.specs.Plan.{Plan, scan, unary, binary, exchange, size}
+use Rattle.vx_nodes.specs.Routes.{Router, sends_by}
+use Rattle.vx_nodes.specs.Streams.{workers}
+use Rattle.vx_nodes.specs.Types.{types_of}
 use Rattle.vx_ports.specs.Packets.{Parcel}
 use Rattle.vx_ops.specs.Ledger.{Stream, Ledger, Op, scan_op, one_op, two_op, receive, Makes, InputsEnded, Told}
 

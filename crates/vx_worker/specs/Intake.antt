@@ -1,7 +1,7 @@
 -- What a worker reads: the producers from which it takes, and which of them, and which of its scans, have ended.
 use Rattle.std.specs.Prelude.{ℕ, ◌≡◌, ◌==◌, List, [], Bool, true, false, map, Some, None, Result, IfOk}
 use Rattle.std.specs.List.{All, list_any}
-use Rattle.vx_rows.specs.Values.{Row}
+use Rattle.vx_values.specs.Values.{Row}
 use Rattle.vx_ports.specs.Packets.{is_closed}
 use Rattle.vx_ops.specs.declared.turn.Got.{Got}
 use Rattle.vx_ops.specs.declared.turn.Got.TheVariants as got

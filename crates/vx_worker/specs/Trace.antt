@@ -1,7 +1,7 @@
 -- The trace of a worker, one event, and what an ended worker's trace says.
 use Rattle.std.specs.Prelude.{ℕ, ◌≡◌, ◌==◌, ◌⊎◌, List, [], ◌∷◌, ◌++◌, true, false, Option, Some, None, cond}
-use Rattle.vx_rows.specs.Values.{Row}
-use Rattle.vx_plan.specs.Routes.{Router}
+use Rattle.vx_values.specs.Values.{Row}
+use Rattle.vx_nodes.specs.Routes.{Router}
 use Rattle.vx_ports.specs.Packets.{Parcel}
 use Rattle.vx_morsel.specs.Draws.{Draws}
 use Rattle.vx_worker.specs.Morsels.{morsel_of, morsels}

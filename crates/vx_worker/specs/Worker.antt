@@ -1,10 +1,10 @@
 -- Workers: when one may have done what a trace says, what it needs before a step, and how it ended.
 use Rattle.std.specs.Prelude.{ℕ, ◌≡◌, List, [], ◌∷◌, Bool, true, false, Option, Some, None}
 use Rattle.std.specs.List.{All}
-use Rattle.vx_rows.specs.Values.{Val, Row}
+use Rattle.vx_values.specs.Values.{Val, Row}
 use Rattle.vx_rows.specs.Lists.{each_below}
-use Rattle.vx_rows.specs.declared.value.ColType.{ColType}
-use Rattle.vx_plan.specs.Routes.{Router}
+use Rattle.vx_values.specs.declared.value.ColType.{ColType}
+use Rattle.vx_nodes.specs.Routes.{Router}
 use Rattle.vx_ports.specs.Packets.{fault, Parcel, closes}
 use Rattle.vx_ops.specs.Ledger.{Stream, Ledger, Op}
 use Rattle.vx_ops.specs.Turn.{Shape, with_packet}

@@ -52,8 +52,8 @@ pub enum Drained {
 impl Intake {
     ghost use Rattle.std.specs.Prelude.{◌≡◌, ◌<◌, ℕ, List, true, length, map, IfOk, IfSome, IfNone, Some, slice_index_or};
     ghost use Rattle.std.specs.List.{All, AllWithin};
-    ghost use Rattle.vx_rows.specs.Values.{Row};
-    ghost use Rattle.vx_rows.specs.declared.value.ColType.{ColType};
+    ghost use Rattle.vx_values.specs.Values.{Row};
+    ghost use Rattle.vx_values.specs.declared.value.ColType.{ColType};
     ghost use Rattle.vx_ports.specs.Packets.{is_closed};
     ghost use Rattle.vx_worker.specs.Trace.{Event, Trace, added, took_one};
     ghost use Rattle.vx_worker.specs.declared.intake.Input.{Input};

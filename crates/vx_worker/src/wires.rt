@@ -34,8 +34,8 @@ pub trait Wires {
 /// The morsels that a fragment's scans read.
 pub trait Morsels {
     ghost use Rattle.std.specs.Prelude.{◌≡◌, ℕ, List, IfOk};
-    ghost use Rattle.vx_rows.specs.declared.value.ColType.{ColType};
-    ghost use Rattle.vx_rows.specs.Values.{Row};
+    ghost use Rattle.vx_values.specs.declared.value.ColType.{ColType};
+    ghost use Rattle.vx_values.specs.Values.{Row};
 
     // The rows of a scan's morsel.
     ghost morsel_of: { Self → ℕ → ℕ → List Row };

@@ -6,7 +6,7 @@ use crate::wires::{Morsels, Wires};
 use std::alloc::Global;
 use vx_exchange::Sends;
 use vx_ops::{Code, Fault, Got, Polled, Source};
-use vx_plan::Router;
+use vx_nodes::Router;
 use vx_ports::{Packet, Put};
 
 // Where a worker stands.
@@ -62,9 +62,9 @@ pub struct Worker<O, S> {
 impl<O: Source, S: Sends> Worker<O, S> {
     ghost use Rattle.std.specs.Prelude.{◌≡◌, ℕ, List, [], true, false, None, Some, IfSome, IfNone, IsSome, ◌↔◌, map};
     ghost use Rattle.std.specs.List.{All};
-    ghost use Rattle.vx_rows.specs.Values.{Row};
-    ghost use Rattle.vx_rows.specs.declared.value.ColType.{ColType};
-    ghost use Rattle.vx_plan.specs.Routes.{Router as Routing};
+    ghost use Rattle.vx_values.specs.Values.{Row};
+    ghost use Rattle.vx_values.specs.declared.value.ColType.{ColType};
+    ghost use Rattle.vx_nodes.specs.Routes.{Router as Routing};
     ghost use Rattle.vx_ports.specs.Packets.{Parcel, closes};
     ghost use Rattle.vx_ops.specs.Ledger.{fresh};
     ghost use Rattle.vx_exchange.specs.Tasks.{post_types};

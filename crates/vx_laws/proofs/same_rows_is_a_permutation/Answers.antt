@@ -1,5 +1,5 @@
 use Rattle.std.proofs.Common.{subst, ◌≡◌, true}
-use Rattle.vx_rows.specs.Values.{Row, row_eq}
+use Rattle.vx_values.specs.Values.{Row, row_eq}
 use Rattle.vx_laws.proofs.Apart.{same-from-counts}
 use Rattle.vx_rows.proofs.Compare.{row_eq-same, row_eq-refl}
 use Rattle.vx_laws.proofs.Permutation.{IsPermutation-same, same-IsPermutation}

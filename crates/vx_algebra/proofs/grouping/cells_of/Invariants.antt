@@ -1,6 +1,6 @@
 use Rattle.std.proofs.Common.{◌≡◌, ◌++◌, true, map, take}
 use Rattle.std.specs.List.{list_all}
-use Rattle.vx_rows.specs.View.{cell_val}
+use Rattle.vx_values.specs.ValueView.{cell_val}
 use Rattle.vx_algebra.specs.Groups.{held_fits}
 use Rattle.vx_algebra.specs.Shown.{held}
 use Rattle.vx_algebra.proofs.grouping.cells_of.Given as goal

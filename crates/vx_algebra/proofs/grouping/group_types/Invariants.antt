@@ -1,7 +1,7 @@
 use Rattle.std.proofs.Common.{◌≡◌, ◌++◌, map, take}
-use Rattle.vx_rows.specs.Types.{type_at}
-use Rattle.vx_plan.specs.Types.{aggregate_type}
-use Rattle.vx_plan.specs.Outline.{aggregate_of as op_of}
+use Rattle.vx_values.specs.Types.{type_at}
+use Rattle.vx_nodes.specs.Types.{aggregate_type}
+use Rattle.vx_nodes.specs.Outline.{aggregate_of as op_of}
 use Rattle.vx_algebra.proofs.grouping.group_types.Given as goal
 
 abbrev pub invariant-loop-aggregate : goal.invariant-loop-aggregate

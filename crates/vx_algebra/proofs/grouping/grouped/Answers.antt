@@ -1,11 +1,11 @@
 use Rattle.std.proofs.Common.{rules, arith, ◌≡◌, ◌∙◌, ◌++◌, ◌∷◌, [], sym, subst, map, take, length, List, ℕ, ◌+◌, ◌<◌, Some}
 use Rattle.std.proofs.lemmas.List.{take_more, take_all}
-use Rattle.vx_rows.specs.Values.{Row}
+use Rattle.vx_values.specs.Values.{Row}
 use Rattle.vx_rows.specs.View.{row, Table}
-use Rattle.vx_plan.specs.Plan.{Aggregate, group}
-use Rattle.vx_plan.specs.Types.{unary_types}
-use Rattle.vx_plan.specs.Serial.{group_rows}
-use Rattle.vx_plan.specs.Outline.{aggregate_of as op_of}
+use Rattle.vx_nodes.specs.Plan.{Aggregate, group}
+use Rattle.vx_nodes.specs.Types.{unary_types}
+use Rattle.vx_nodes.specs.Serial.{group_rows}
+use Rattle.vx_nodes.specs.Outline.{aggregate_of as op_of}
 use Rattle.vx_algebra.specs.declared.accumulator.GroupFault.{GroupFault}
 use Rattle.vx_algebra.specs.Groups.{HasTaken}
 use Rattle.vx_algebra.specs.GroupFaults.{GroupBlame, EndBlame}

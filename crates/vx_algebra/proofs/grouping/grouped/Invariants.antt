@@ -1,5 +1,5 @@
 use Rattle.std.proofs.Common.{◌≡◌, map, take}
-use Rattle.vx_plan.specs.Outline.{aggregate_of as op_of}
+use Rattle.vx_nodes.specs.Outline.{aggregate_of as op_of}
 use Rattle.vx_algebra.specs.Groups.{HasTaken}
 use Rattle.vx_algebra.proofs.grouping.grouped.Given as goal
 

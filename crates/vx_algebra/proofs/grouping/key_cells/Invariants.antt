@@ -1,5 +1,5 @@
 use Rattle.std.proofs.Common.{◌≡◌, map, take}
-use Rattle.vx_rows.specs.View.{val_of, cell_val}
+use Rattle.vx_values.specs.ValueView.{val_of, cell_val}
 use Rattle.vx_algebra.proofs.grouping.key_cells.Given as goal
 
 abbrev pub invariant-loop-value : goal.invariant-loop-value

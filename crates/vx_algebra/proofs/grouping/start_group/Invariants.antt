@@ -1,6 +1,6 @@
 use Rattle.std.proofs.Common.{◌≡◌, [], ◌∷◌, map, take}
 use Rattle.vx_rows.specs.View.{row}
-use Rattle.vx_plan.specs.Outline.{aggregate_of as op_of}
+use Rattle.vx_nodes.specs.Outline.{aggregate_of as op_of}
 use Rattle.vx_algebra.specs.Groups.{all_held}
 use Rattle.vx_algebra.specs.Shown.{held}
 use Rattle.vx_algebra.proofs.grouping.start_group.Given as goal

@@ -3,7 +3,7 @@ use Rattle.std.specs.List.{zip}
 use Rattle.std.proofs.lemmas.List.{take_more, take_all, append-nil, length-append, length-map}
 use Rattle.std.proofs.lemmas.List.Concat.{flat_map-append}
 use Rattle.std.proofs.lemmas.List.Elements.{All-append}
-use Rattle.vx_rows.specs.Values.{row_eq, pick}
+use Rattle.vx_values.specs.Values.{row_eq, pick}
 use Rattle.vx_rows.specs.View.{row, ArePositions}
 use Rattle.vx_algebra.specs.Build.{places_of, matched}
 use Rattle.vx_algebra.proofs.PlaceFacts.{places-below}

@@ -1,7 +1,7 @@
 use Rattle.std.proofs.Common.{arith, ◌≡◌, ◌∙◌, ◌<◌, ◌≤◌, ap, sym, drop, drop-cons, length}
 use Rattle.std.specs.Ordering.{nat_cmp}
 use Rattle.std.proofs.lemmas.List.{drop_all}
-use Rattle.vx_rows.specs.Values.{row_cmp, pick}
+use Rattle.vx_values.specs.Values.{row_cmp, pick}
 use Rattle.vx_rows.specs.View.{row}
 use Rattle.vx_algebra.proofs.MergeFacts.{lengths-decide}
 use Rattle.vx_algebra.proofs.merging.compare_key.Goals as goal

@@ -1,5 +1,5 @@
 use Rattle.std.proofs.Common.{◌≡◌, ◌≤◌, drop, length}
-use Rattle.vx_rows.specs.Values.{row_cmp, pick}
+use Rattle.vx_values.specs.Values.{row_cmp, pick}
 use Rattle.vx_rows.specs.View.{row}
 use Rattle.vx_algebra.proofs.merging.compare_key.Given as goal
 

@@ -3,7 +3,7 @@ use Rattle.std.proofs.lemmas.List.{take_more, take_all, append-nil}
 use Rattle.std.proofs.lemmas.List.Concat.{flat_map-append}
 use Rattle.vx_rows.specs.Order.{sorted}
 use Rattle.vx_rows.specs.View.{row}
-use Rattle.vx_rows.proofs.Order.{and-both}
+use Rattle.vx_values.proofs.Booleans.{and-both}
 use Rattle.vx_algebra.specs.declared.merging.MergeFault.{MergeFault}
 use Rattle.vx_algebra.specs.Build.{matched}
 use Rattle.vx_algebra.specs.Merged.{HasMerged, MergeBlame}

@@ -1,6 +1,6 @@
 use Rattle.std.proofs.Common.{arith, ◌≡◌, ◌∙◌, ◌+◌, ◌++◌, ◌∷◌, [], ap, sym, map, slice_range, append_assoc}
 use Rattle.std.proofs.lemmas.List.{map-append}
-use Rattle.vx_rows.specs.Values.{Row}
+use Rattle.vx_values.specs.Values.{Row}
 use Rattle.vx_rows.specs.View.{row}
 use Rattle.vx_algebra.proofs.Runs.{longer-run}
 use Rattle.vx_algebra.proofs.merging.push_range.Goals as goal

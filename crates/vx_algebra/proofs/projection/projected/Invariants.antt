@@ -1,6 +1,6 @@
 use Rattle.std.proofs.Common.{◌≡◌, map, take}
-use Rattle.vx_rows.specs.Types.{type_at}
-use Rattle.vx_rows.specs.Values.{pick}
+use Rattle.vx_values.specs.Types.{type_at}
+use Rattle.vx_values.specs.Values.{pick}
 use Rattle.vx_algebra.proofs.projection.projected.Given as goal
 
 abbrev pub invariant-loop-i : goal.invariant-loop-i

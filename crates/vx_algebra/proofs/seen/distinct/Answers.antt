@@ -1,5 +1,5 @@
 use Rattle.std.proofs.Common.{rules, ◌<◌, [], length, ◌∙◌, sym, ap}
-use Rattle.vx_rows.specs.Values.{row_eq, pick}
+use Rattle.vx_values.specs.Values.{row_eq, pick}
 use Rattle.vx_rows.specs.View.{row}
 use Rattle.indexmap.specs.IndexSet.{insert_key}
 use Rattle.vx_algebra.proofs.KeyFacts.{firsts-more}

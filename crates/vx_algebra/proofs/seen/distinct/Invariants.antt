@@ -1,7 +1,7 @@
 use Rattle.std.proofs.Common.{◌≡◌, map, take}
-use Rattle.vx_rows.specs.Types.{type_at}
-use Rattle.vx_rows.specs.Values.{pick}
-use Rattle.vx_plan.specs.Serial.{firsts}
+use Rattle.vx_values.specs.Types.{type_at}
+use Rattle.vx_values.specs.Values.{pick}
+use Rattle.vx_nodes.specs.Serial.{firsts}
 use Rattle.vx_algebra.proofs.seen.distinct.Given as goal
 
 abbrev pub invariant-loop-i : goal.invariant-loop-i

@@ -1,8 +1,8 @@
 use Rattle.std.proofs.Common.{rules, ◌≡◌, ◌+◌, ◌<◌, ◌≤◌, length, [], ◌++◌, ℕ, take, filter, sym, ◌∙◌, subst, arith}
 use Rattle.std.specs.List.{slice_range}
 use Rattle.vx_rows.specs.View.{Table}
-use Rattle.vx_plan.specs.Serial.{passes}
-use Rattle.vx_plan.specs.Conditions.{conditions_of}
+use Rattle.vx_nodes.specs.Serial.{passes}
+use Rattle.vx_nodes.specs.Conditions.{conditions_of}
 use Rattle.vx_algebra.proofs.Runs.{run-grows, run-ends}
 use Rattle.vx_algebra.proofs.selection.passing.Goals as goal
 use Rattle.vx_algebra.proofs.selection.passing.Goals.{then-not-passes+in_ok-append_run, else-not-passes}

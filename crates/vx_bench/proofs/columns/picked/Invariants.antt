@@ -1,5 +1,5 @@
 use Rattle.std.proofs.Common.{◌≡◌, map, take}
-use Rattle.vx_rows.specs.Types.{type_at}
+use Rattle.vx_values.specs.Types.{type_at}
 use Rattle.vx_bench.proofs.columns.picked.Given as goal
 
 abbrev pub invariant-loop-c : goal.invariant-loop-c

@@ -1,9 +1,9 @@
 use Rattle.std.proofs.Common.{◌≡◌, refl}
 use Rattle.std.specs.Bool.{Decides}
 use Rattle.std.proofs.lemmas.Slice.Eq.{slice_eq-Decides}
-use Rattle.vx_rows.specs.contracts.value.ColTypePartialEq.TheImpl.{ghosts}
-use Rattle.vx_rows.specs.declared.value.ColType.{ColType}
-use Rattle.vx_rows.specs.declared.value.ColType.TheVariants as kind
+use Rattle.vx_values.specs.contracts.value.ColTypePartialEq.TheImpl.{ghosts}
+use Rattle.vx_values.specs.declared.value.ColType.{ColType}
+use Rattle.vx_values.specs.declared.value.ColType.TheVariants as kind
 use Rattle.vx_catalog.proofs.relation.are_same_types.Goals as goal
 
 type_decides : (a b : ColType) → Decides (ghosts.eq a b) (a ≡ b)

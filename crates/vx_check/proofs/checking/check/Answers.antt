@@ -1,4 +1,4 @@
-use Rattle.vx_plan.specs.Outline.{plan_of}
+use Rattle.vx_nodes.specs.Outline.{plan_of}
 use Rattle.vx_plan.specs.TypedView.{scope}
 use Rattle.vx_check.proofs.NarrowFacts.{typed-narrow}
 use Rattle.vx_check.proofs.checking.check.Goals as goal

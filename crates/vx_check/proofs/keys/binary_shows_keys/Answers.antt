@@ -3,7 +3,7 @@ use Rattle.std.proofs.lemmas.Iterator.{YieldsList-from_slice}
 use Rattle.std.proofs.lemmas.Iterator.Search.{all_from_yields_List}
 use Rattle.std.proofs.lemmas.List.Folds.{list_all-map}
 use borrow.Author.Tests.{tests}
-use Rattle.vx_plan.specs.Outline.{binary_of}
+use Rattle.vx_nodes.specs.Outline.{binary_of}
 use Rattle.vx_check.specs.Joints.{binary_keys}
 use Rattle.vx_check.proofs.keys.binary_shows_keys.Goals as goal
 

@@ -2,7 +2,7 @@ use Rattle.std.proofs.Common.{◌∙◌, ◌==◌, sym, rules}
 use Rattle.std.proofs.lemmas.Iterator.{YieldsList-from_slice}
 use Rattle.std.proofs.lemmas.Iterator.Search.{any_from_yields_List}
 use borrow.Author.Tests.{tests}
-use Rattle.vx_plan.specs.declared.typed.Kept.{Kept}
+use Rattle.vx_nodes.specs.declared.typed.Kept.{Kept}
 use Rattle.vx_catalog.proofs.NameFacts.{list_any-map}
 use Rattle.vx_check.proofs.parts.is_kept.Goals as goal
 

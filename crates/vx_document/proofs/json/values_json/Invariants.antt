@@ -1,6 +1,6 @@
 use Rattle.std.proofs.Common.{◌≡◌, map, take}
 use Rattle.serde_json.specs.View.{view}
-use Rattle.vx_rows.specs.View.{val_of}
+use Rattle.vx_values.specs.ValueView.{val_of}
 use Rattle.vx_document.specs.Written.{value_json}
 use Rattle.vx_document.proofs.json.values_json.Given as goal
 

@@ -2,7 +2,7 @@ use Rattle.std.proofs.Common.{◌≡◌, [], map, drop}
 use Rattle.serde_json.specs.View.{view}
 use Rattle.vx_json.specs.Look.{each_onto}
 use Rattle.vx_document.specs.Look.{value_in}
-use Rattle.vx_rows.specs.View.{val_of}
+use Rattle.vx_values.specs.ValueView.{val_of}
 use Rattle.vx_document.proofs.lists.values_of.Given as goal
 
 abbrev pub invariant-loop-value : goal.invariant-loop-value

@@ -1,5 +1,5 @@
 use Rattle.vx_plan.specs.TypedView.{plan as whole_plan, resolved_of}
-use Rattle.vx_plan.specs.Types.{types_of}
+use Rattle.vx_nodes.specs.Types.{types_of}
 use Rattle.std.proofs.Common.{◌<◌, ℕ, inl, inr, subst}
 use Rattle.std.specs.List.{All}
 use Rattle.vx_steps.specs.Roles.{crew_size}

@@ -1,6 +1,6 @@
 use Rattle.std.proofs.Common.{ap, ◌∙◌, arith}
-use Rattle.vx_plan.specs.Erase.{erase}
-use Rattle.vx_plan.specs.Outline.{outline_of, plan_in}
+use Rattle.vx_nodes.specs.Erase.{erase}
+use Rattle.vx_nodes.specs.Outline.{outline_of, plan_in}
 use Rattle.vx_plan.specs.TypedView.{scope}
 use Rattle.vx_plan.proofs.ErasedFacts.{erased-plan, erased-is-typed}
 use Rattle.vx_plan.proofs.erasing.erase.Goals as goal

@@ -1,8 +1,8 @@
 use Rattle.std.proofs.Common.{◌+◌, ◌<◌, arith, ◌∙◌, sym, length, get_or, pos}
 use Rattle.std.proofs.lemmas.List.{get_or_default}
 use Rattle.vx_rows.specs.Columns.{entry, row_of}
-use Rattle.vx_rows.specs.Values.{value_at, num}
-use Rattle.vx_rows.specs.View.{cell_val}
+use Rattle.vx_values.specs.Values.{value_at, num}
+use Rattle.vx_values.specs.ValueView.{cell_val}
 use Rattle.vx_rows.proofs.Fill.{map_at, keep_more}
 use Rattle.vx_rows.proofs.NextColumn.{long_at, value_next}
 use Rattle.vx_rows.proofs.writes.put_picked.Goals as goal

@@ -1,5 +1,5 @@
 use Rattle.std.proofs.Common.{take}
-use Rattle.vx_rows.specs.Values.{pick}
+use Rattle.vx_values.specs.Values.{pick}
 use Rattle.vx_rows.specs.Columns.{row_of, KeepRows, Fills}
 use Rattle.vx_rows.proofs.writes.put_picked.Given as goal
 

@@ -1,6 +1,6 @@
 use Rattle.std.proofs.Common.{rules, ◌≡◌, ◌∙◌, sym, ap, subst, List, None}
 use Rattle.vx_catalog.specs.Relation.{Relation}
-use Rattle.vx_plan.specs.Outline.{plan_of, plan_in}
+use Rattle.vx_nodes.specs.Outline.{plan_of, plan_in}
 use Rattle.vx_plan.specs.TypedView.{scope, resolved_of}
 use Rattle.vx_serial.specs.Evaluated.{first_exchange, IsFit}
 use Rattle.vx_serial.specs.Results.{IsPlain}

@@ -2,10 +2,10 @@ use Rattle.std.proofs.Common.{arith, ◌≡◌, ◌∙◌, ◌++◌, ◌∷◌, 
 use Rattle.std.proofs.lemmas.List.{map-append, map-set, get_or-map, length-map}
 use Rattle.std.specs.List.{position_or_len}
 use Rattle.indexmap.specs.IndexSet.{insert_key}
-use Rattle.vx_rows.specs.Values.{Row, pick, row_eq}
-use Rattle.vx_rows.specs.Types.{Fits}
+use Rattle.vx_values.specs.Values.{Row, pick, row_eq}
+use Rattle.vx_values.specs.Types.{Fits}
 use Rattle.vx_rows.specs.View.{row}
-use Rattle.vx_plan.specs.Outline.{aggregate_of as op_of}
+use Rattle.vx_nodes.specs.Outline.{aggregate_of as op_of}
 use Rattle.vx_algebra.specs.declared.accumulator.Accumulator.{Accumulator}
 use Rattle.vx_algebra.specs.Groups.{HasTaken, all_held, advance, Held, Groups}
 use Rattle.vx_algebra.specs.Shown.{held}

@@ -2,13 +2,13 @@ use Rattle.std.proofs.Common.{arith, ◌≡◌, ◌<◌, ◌≤◌, ◌++◌, �
 use Rattle.std.specs.List.{list_all}
 use Rattle.std.proofs.lemmas.List.{take_all, length-map}
 use Rattle.std.proofs.lemmas.List.Folds.{list_all_more}
-use Rattle.vx_rows.specs.Values.{Row}
-use Rattle.vx_rows.specs.Types.{type_of}
-use Rattle.vx_rows.specs.View.{cell_val}
-use Rattle.vx_plan.specs.Plan.{group}
-use Rattle.vx_plan.specs.Types.{unary_types}
-use Rattle.vx_plan.specs.Serial.{group_keys}
-use Rattle.vx_plan.specs.Outline.{aggregate_of as op_of}
+use Rattle.vx_values.specs.Values.{Row}
+use Rattle.vx_values.specs.Types.{type_of}
+use Rattle.vx_values.specs.ValueView.{cell_val}
+use Rattle.vx_nodes.specs.Plan.{group}
+use Rattle.vx_nodes.specs.Types.{unary_types}
+use Rattle.vx_nodes.specs.Serial.{group_keys}
+use Rattle.vx_nodes.specs.Outline.{aggregate_of as op_of}
 use Rattle.vx_algebra.specs.Groups.{Groups, HasTaken, Held, held_fits, part_of}
 use Rattle.vx_algebra.specs.Shown.{held}
 use Rattle.vx_algebra.specs.GroupFaults.{CellsBlame, EndBlame}

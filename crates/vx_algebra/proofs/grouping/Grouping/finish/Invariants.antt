@@ -1,6 +1,6 @@
 use Rattle.std.proofs.Common.{◌≡◌, true, take}
-use Rattle.vx_plan.specs.Plan.{group}
-use Rattle.vx_plan.specs.Types.{unary_types}
+use Rattle.vx_nodes.specs.Plan.{group}
+use Rattle.vx_nodes.specs.Types.{unary_types}
 use Rattle.vx_algebra.proofs.EndFacts.{key_rows, all_fit}
 use Rattle.vx_algebra.proofs.grouping.Grouping.finish.Given as goal
 

@@ -2,7 +2,7 @@ use Rattle.std.proofs.Common.{arith, ◌≡◌, ◌∙◌, ◌+◌, ◌++◌, �
 use Rattle.std.proofs.lemmas.List.{map-append, map-set, get_or-map, length-map, take_more, length-take-le}
 use Rattle.std.specs.List.{position_or_len}
 use Rattle.indexmap.specs.IndexSet.{insert_key}
-use Rattle.vx_rows.specs.Values.{Row, pick, row_eq}
+use Rattle.vx_values.specs.Values.{Row, pick, row_eq}
 use Rattle.vx_rows.specs.View.{row}
 use Rattle.vx_algebra.specs.Build.{Built, HasBuilt}
 use Rattle.vx_algebra.proofs.BuildFacts.{built-known, built-new}

@@ -1,5 +1,5 @@
 use Rattle.std.proofs.Common.{◌≡◌, ◌∙◌, ◌++◌, ◌∷◌, [], false, ap, sym, subst}
-use Rattle.vx_rows.specs.Values.{row_cmp, pick}
+use Rattle.vx_values.specs.Values.{row_cmp, pick}
 use Rattle.vx_rows.specs.Order.{sorted}
 use Rattle.vx_rows.specs.View.{row}
 use Rattle.vx_algebra.specs.Merged.{MergeState, HasMerged}

@@ -1,6 +1,6 @@
 use Rattle.std.proofs.Common.{arith, ◌≡◌, ◌∙◌, ◌+◌, ◌<◌, ◌++◌, ◌∷◌, [], true, false, refl, ap, sym, subst, take, length}
 use Rattle.std.proofs.lemmas.List.{take_more}
-use Rattle.vx_rows.specs.Values.{row_cmp, pick}
+use Rattle.vx_values.specs.Values.{row_cmp, pick}
 use Rattle.vx_rows.specs.Order.{sorted}
 use Rattle.vx_rows.specs.View.{row}
 use Rattle.vx_algebra.specs.Merged.{MergeState, HasMerged}

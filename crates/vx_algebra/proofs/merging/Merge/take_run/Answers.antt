@@ -1,6 +1,6 @@
 use Rattle.std.proofs.Common.{arith, ◌≡◌, ◌<◌, List, ap, sym, subst, take, length, Less}
 use Rattle.std.proofs.lemmas.Bool.Decides.{nat_tests}
-use Rattle.vx_rows.specs.Values.{Row, row_cmp, pick}
+use Rattle.vx_values.specs.Values.{Row, row_cmp, pick}
 use Rattle.vx_rows.specs.Order.{sorted}
 use Rattle.vx_rows.specs.View.{row}
 use Rattle.vx_algebra.specs.declared.merging.MergeFault.{MergeFault}

@@ -1,5 +1,5 @@
 use Rattle.std.proofs.Common.{◌≡◌, ◌≤◌, ◌-◌, List, length, take}
-use Rattle.vx_rows.specs.Values.{Row}
+use Rattle.vx_values.specs.Values.{Row}
 use Rattle.vx_algebra.specs.Merged.{HasMerged}
 use Rattle.vx_algebra.proofs.merging.Merge.take_run.Given as goal
 

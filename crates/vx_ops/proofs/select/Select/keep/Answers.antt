@@ -1,9 +1,9 @@
 use Rattle.std.proofs.Common.{◌≡◌, ◌++◌, List, filter, refl, sym, ap, ◌∙◌, subst}
 use Rattle.std.proofs.lemmas.List.Elements.{filter-append}
-use Rattle.vx_rows.specs.Values.{Row}
-use Rattle.vx_plan.specs.Plan.{select}
-use Rattle.vx_plan.specs.Serial.{passes}
-use Rattle.vx_plan.specs.Conditions.{conditions_of}
+use Rattle.vx_values.specs.Values.{Row}
+use Rattle.vx_nodes.specs.Plan.{select}
+use Rattle.vx_nodes.specs.Serial.{passes}
+use Rattle.vx_nodes.specs.Conditions.{conditions_of}
 use Rattle.vx_ops.specs.Exact.{IsExact}
 use Rattle.vx_ops.specs.declared.fault.Over.{Over}
 use Rattle.vx_ops.proofs.Exactly.{exact-rows, with_rows}

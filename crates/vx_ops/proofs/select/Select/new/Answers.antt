@@ -1,7 +1,7 @@
 use Rattle.std.proofs.Common.{refl, filter}
-use Rattle.vx_plan.specs.Plan.{select}
-use Rattle.vx_plan.specs.Serial.{passes}
-use Rattle.vx_plan.specs.Conditions.{conditions_of}
+use Rattle.vx_nodes.specs.Plan.{select}
+use Rattle.vx_nodes.specs.Serial.{passes}
+use Rattle.vx_nodes.specs.Conditions.{conditions_of}
 use Rattle.vx_ops.specs.Turn.{fresh_ledger}
 use Rattle.vx_ops.proofs.Exactly.{exact-fresh}
 use Rattle.vx_ops.proofs.select.Select.new.Goals as goal

@@ -1,7 +1,7 @@
 use Rattle.std.proofs.Common.{arith, ap, ◌∙◌, sym, length}
 use Rattle.std.proofs.lemmas.List.{length-map}
-use Rattle.vx_rows.specs.Values.{pick}
-use Rattle.vx_rows.specs.Types.{type_at}
+use Rattle.vx_values.specs.Values.{pick}
+use Rattle.vx_values.specs.Types.{type_at}
 use Rattle.vx_rows.specs.Columns.{row_of}
 use Rattle.vx_rows.proofs.Fill.{still_rows, on_err_any, held_pick}
 use Rattle.vx_rows.proofs.Grown.{seen, long_seen, row_seen, held_seen, still_seen, Grown, grown, grown_one}

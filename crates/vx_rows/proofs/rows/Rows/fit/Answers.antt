@@ -1,7 +1,7 @@
 use Rattle.std.proofs.Common.{subst}
 use Rattle.std.specs.List.{AllByRecursion}
 use Rattle.vx_rows.specs.View.{Table}
-use Rattle.vx_rows.specs.Types.{Fits}
+use Rattle.vx_values.specs.Types.{Fits}
 use Rattle.vx_rows.proofs.Fill.{all_fit}
 use Rattle.vx_rows.proofs.rows.Rows.fit.Goals as goal
 

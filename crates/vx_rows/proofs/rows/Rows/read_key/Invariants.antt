@@ -1,6 +1,7 @@
 use Rattle.std.proofs.Common.{◌≡◌, ◌≤◌, length, take, map}
-use Rattle.vx_rows.specs.Values.{pick}
-use Rattle.vx_rows.specs.View.{row, val_of}
+use Rattle.vx_values.specs.Values.{pick}
+use Rattle.vx_values.specs.ValueView.{val_of}
+use Rattle.vx_rows.specs.View.{row}
 use Rattle.vx_rows.proofs.rows.Rows.read_key.Given as goal
 
 abbrev pub invariant-loop-j : goal.invariant-loop-j

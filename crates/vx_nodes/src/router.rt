@@ -1,0 +1,21 @@
+//! Hash routers.
+
+use vx_values::Value;
+
+/// Sends each key to one of n consumers: any function of the route's name, the key and n.
+pub trait Router {
+    ghost use Rattle.std.specs.Prelude.{◌≡◌, ℕ, ◌<◌, List, map};
+    ghost use Rattle.vx_values.specs.Values.{Row};
+    ghost use Rattle.vx_values.specs.ValueView.{val_of};
+
+    // The consumer of a key among n, by the route's name.
+    ghost route_of: { Self → List ℕ → Row → ℕ → ℕ };
+
+    /// The consumer of a key among n, counted from 0.
+    fn route(&self, name: &str, key: &[Value], n: u32) -> u32
+        requires { 0 < n }
+        ensures { result ≡ route_of self.now name.now (map val_of key.now) n };
+
+    // It is one of the n.
+    ghost in_range: { (r : Self) (name : List ℕ) (key : Row) (n : ℕ) → 0 < n → route_of r name key n < n };
+}

@@ -1,0 +1,130 @@
+//! One value of a row.
+
+ghost use Rattle.std.specs.Prelude.{◌≡◌, ◌↔◌, true, IfOk, OnOk, IsTrue};
+ghost use Rattle.std.specs.Str.{is_utf8};
+ghost use Rattle.vx_values.specs.Values.{val_cmp};
+ghost use Rattle.vx_values.specs.ValueView.{val_of, cell_val};
+ghost use Rattle.vx_values.specs.Types.{type_of, is_held};
+
+use std::alloc::{AllocError, Global};
+use std::cmp::Ordering;
+
+/// What a column holds.
+#[derive(Clone, Copy, Debug, PartialEq, Eq)]
+pub enum ColType {
+    /// Signed numbers of 64 bits.
+    Int,
+    /// Texts in UTF-8.
+    Text,
+}
+
+/// A number or a text that is owned: a constant, or part of a key.
+#[derive(Debug, Drop)]
+pub enum Value {
+    /// A number.
+    Int(i64),
+    /// A text.
+    Text(String),
+}
+
+/// A number or a text that is borrowed from where it lies, as from a column.
+#[derive(Clone, Copy, Debug)]
+pub enum Cell<'a> {
+    /// A number.
+    Int(i64),
+    /// A text.
+    Text(&'a str),
+}
+
+impl Value {
+    /// The value, borrowed.
+    pub fn cell(&self) -> Cell<'_>
+        ensures { cell_val result ≡ val_of self.now }
+    {
+        match self {
+            Value::Int(n) => Cell::Int(*n),
+            Value::Text(s) => Cell::Text(s.as_str()),
+        }
+    }
+
+    /// The same value, with a text of its own.
+    pub fn copy(&self, alloc: Global) -> Result<Value, AllocError>
+        ensures { IfOk result (λ v. val_of v ≡ val_of self.now) }
+    {
+        self.cell().to_value(alloc)
+    }
+
+    /// Becomes the value of a cell. A text keeps its room. After an `Err` it is any value.
+    pub fn set(&mut self, alloc: Global, cell: Cell<'_>) -> Result<(), AllocError>
+        ensures { OnOk result (val_of self.new ≡ cell_val cell.entry) }
+    {
+        if let (Value::Text(s), Cell::Text(t)) = (&mut *self, cell) {
+            s.clear();
+            return s.push_str(t);
+        }
+        *self = cell.to_value(alloc)?;
+        Ok(())
+    }
+}
+
+impl Cell<'_> {
+    /// The value, with a text of its own.
+    pub fn to_value(self, alloc: Global) -> Result<Value, AllocError>
+        ensures { IfOk result (λ v. val_of v ≡ cell_val self.entry) }
+    {
+        match self {
+            Cell::Int(n) => Ok(Value::Int(n)),
+            Cell::Text(s) => Ok(Value::Text(String::from_str(alloc, s)?)),
+        }
+    }
+
+    /// Whether this is a value of a type.
+    pub fn is_of(self, kind: ColType) -> bool
+        ensures { IsTrue result ↔ (type_of (cell_val self.entry) ≡ kind) }
+    {
+        match (self, kind) {
+            (Cell::Int(_), ColType::Int) => true,
+            (Cell::Text(_), ColType::Text) => true,
+            (Cell::Int(_), ColType::Text) => false,
+            (Cell::Text(_), ColType::Int) => false,
+        }
+    }
+
+    /// A program holds the value. It does nothing: a caller who needs the fact calls it.
+    pub fn held(self)
+        ensures { is_held (cell_val self.entry) ≡ true }
+    {
+        if let Cell::Text(text) = self {
+            utf8(text);
+        }
+    }
+
+    /// The type of the value.
+    pub fn col_type(self) -> ColType
+        ensures { result ≡ type_of (cell_val self.entry) }
+    {
+        match self {
+            Cell::Int(_) => ColType::Int,
+            Cell::Text(_) => ColType::Text,
+        }
+    }
+}
+
+// A text is in UTF-8. It does nothing: a caller who needs the fact calls it.
+fn utf8(text: &str)
+    ensures { is_utf8 text.now ≡ true }
+{
+    let _bytes = text.as_bytes();
+}
+
+/// Numbers by size, texts by their bytes.
+pub fn compare_cells(a: Cell<'_>, b: Cell<'_>) -> Ordering
+    ensures { result ≡ val_cmp (cell_val a.entry) (cell_val b.entry) }
+{
+    match (a, b) {
+        (Cell::Int(m), Cell::Int(n)) => m.cmp(&n),
+        (Cell::Int(_), Cell::Text(_)) => Ordering::Less,
+        (Cell::Text(_), Cell::Int(_)) => Ordering::Greater,
+        (Cell::Text(s), Cell::Text(t)) => s.as_bytes().cmp(t.as_bytes()),
+    }
+}
