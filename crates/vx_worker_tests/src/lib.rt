@@ -1,0 +1,11 @@
+//! What no clause says of exchanges and of workers: that small ones come to their ends.
+//!
+//! The tests stand in a crate of their own, since a crate with tests is proved twice.
+#![tactic(auto)]
+
+#[cfg(test)]
+mod exchanges;
+#[cfg(test)]
+mod routers;
+#[cfg(test)]
+mod workers;
