@@ -3,8 +3,8 @@
 use crate::lane::Lane;
 use crate::sends::Sends;
 use std::alloc::{AllocError, Global};
-use vx_ops::Polled;
 use vx_nodes::Router;
+use vx_ops::Polled;
 use vx_ports::{Ending, Packet};
 use vx_rows::ColType;
 

@@ -2,8 +2,8 @@
 
 use crate::sends::Sends;
 use std::alloc::{AllocError, Global};
-use vx_ops::Polled;
 use vx_nodes::Router;
+use vx_ops::Polled;
 use vx_ports::Packet;
 use vx_rows::{ColType, Rows};
 

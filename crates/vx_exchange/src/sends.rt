@@ -1,8 +1,8 @@
 //! Sending ends of exchanges.
 
 use std::alloc::AllocError;
-use vx_ops::Polled;
 use vx_nodes::Router;
+use vx_ops::Polled;
 use vx_ports::Packet;
 
 /// What takes the rows that the top of a fragment gives: the sending end of an exchange, which gives packets for the consumers, or the root's rows.

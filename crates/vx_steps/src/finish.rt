@@ -15,8 +15,8 @@ use crate::links::Links;
 use crate::run::{bad_step, run_rounds, run_steps};
 use crate::verdict::{Verdict, judge};
 use vx_exchange::Sends;
-use vx_ops::Source;
 use vx_nodes::Router;
+use vx_ops::Source;
 use vx_worker::{Morsels, Worker};
 
 /// At most so many rounds of all workers in number order, and what they come to. That the workers end is not promised: a limit that is too low

@@ -10,8 +10,8 @@ ghost use Rattle.vx_worker.specs.declared.worker.Stepped.TheVariants as Stepped;
 
 use crate::links::Links;
 use vx_exchange::Sends;
-use vx_ops::Source;
 use vx_nodes::Router;
+use vx_ops::Source;
 use vx_worker::{Morsels, Stepped, Worker};
 
 /// One step of one worker, with the wires that are its own.

@@ -5,8 +5,8 @@ use crate::tree::Tree;
 use crate::wires::{Morsels, Wires};
 use std::alloc::Global;
 use vx_exchange::Sends;
-use vx_ops::{Code, Fault, Got, Polled, Source};
 use vx_nodes::Router;
+use vx_ops::{Code, Fault, Got, Polled, Source};
 use vx_ports::{Packet, Put};
 
 // Where a worker stands.
