@@ -10,8 +10,9 @@ ghost use Rattle.vx_nodes.specs.Outline.{side_of};
 use crate::cells::cell_or_zero;
 use std::alloc::{AllocError, Global};
 use std::cmp::Ordering;
-use vx_nodes::{Condition, Side, Test};
+use vx_nodes::{Condition, Side};
 use vx_rows::{Cell, Rows, compare_cells};
+use vx_values::Test;
 
 // What a test says of a comparison.
 fn answer(test: Test, order: Ordering) -> bool
