@@ -2,6 +2,7 @@
 
 use crate::loading::KEYED;
 use std::alloc::Global;
+use std::process::Abort;
 use std::test::Fail;
 use vx_catalog::{Catalog, CatalogFault};
 
@@ -14,11 +15,18 @@ fn told(alloc: Global, text: &str) -> Result<String, Fail> {
     }
 }
 
+// Compares what is told of each text with the line beside it.
+fn compare<R: Abort>(rt: &R, alloc: Global, cases: &[(&str, &str)]) -> Result<(), Fail> {
+    for case in cases {
+        let got = told(alloc, case.0)?;
+        assert_eq!(rt; got.as_str(), case.1);
+    }
+    Ok(())
+}
+
 #[test]
 fn a_catalog_may_have_no_relations(rt: HostRuntime) -> Result<(), Fail> {
-    let got = told(rt.alloc(), r#"{"relations":[]}"#)?;
-    assert_eq!(rt; got.as_str(), "no relations");
-    Ok(())
+    compare(&rt, rt.alloc(), &[(r#"{"relations":[]}"#, "no relations")])
 }
 
 // Texts that are no catalogs by their form.
@@ -67,20 +75,15 @@ const NAMED: [(&str, &str); 5] = [
 
 #[test]
 fn names_are_told_that_stand_twice_or_nowhere(rt: HostRuntime) -> Result<(), Fail> {
-    for (text, want) in NAMED {
-        let got = told(rt.alloc(), text)?;
-        assert_eq!(rt; got.as_str(), want);
-    }
-    Ok(())
+    compare(&rt, rt.alloc(), &NAMED)
 }
+
+const WITH_17_KEYS: &str =
+    r#"{"relations":[{"name":"t","columns":[{"name":"a","type":"int"}],"keys":[["z"],["a"],["a"],["a"],["a"],["a"],["a"],["a"],["a"],["a"],["a"],["a"],["a"],["a"],["a"],["a"],["a"]]}]}"#;
 
 #[test]
 fn too_many_keys_are_told_before_their_names(rt: HostRuntime) -> Result<(), Fail> {
-    let text =
-        r#"{"relations":[{"name":"t","columns":[{"name":"a","type":"int"}],"keys":[["z"],["a"],["a"],["a"],["a"],["a"],["a"],["a"],["a"],["a"],["a"],["a"],["a"],["a"],["a"],["a"],["a"]]}]}"#;
-    let got = told(rt.alloc(), text)?;
-    assert_eq!(rt; got.as_str(), "C12 TooLarge");
-    Ok(())
+    compare(&rt, rt.alloc(), &[(WITH_17_KEYS, "C12 TooLarge")])
 }
 
 #[test]

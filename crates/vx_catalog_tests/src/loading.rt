@@ -1,6 +1,7 @@
 //! What no clause says of loading and writing rows: worked texts with their refusals, and readers and writers that fail.
 
 use std::alloc::Global;
+use std::process::Abort;
 use std::test::Fail;
 use vx_catalog::{Catalog, Database, Loader, write_rows};
 use vx_rows::{MemoryIn, MemoryOut};
@@ -51,23 +52,37 @@ fn again(alloc: Global, catalog: &str, text: &[u8]) -> Result<String, Fail> {
     answer(alloc, catalog, text, None, 1000)
 }
 
+// How many bytes of the text are rows themselves.
+const LOADED_FRONTS: [usize; 10] = [6, 7, 12, 13, 18, 19, 25, 26, 31, 32];
+
+// How many bytes of it end in what is no number, and the line of that.
+const BAD_NUMBERS: [(usize, &str); 5] = [
+    (11, "C6 BadInt row=0 col=2"),
+    (17, "C6 BadInt row=1 col=2"),
+    (23, "C6 BadInt row=2 col=2"),
+    (24, "C6 BadInt row=2 col=2"),
+    (30, "C6 BadInt row=3 col=2"),
+];
+
+// Whether this is what is answered to so many bytes of the text.
+fn answers_front(got: &str, n: usize) -> bool {
+    if n <= 5 {
+        return got == "C4 HeaderMismatch";
+    }
+    if LOADED_FRONTS.contains(&n) {
+        return got.starts_with("id,k,v");
+    }
+    match BAD_NUMBERS.iter().find(|bad| bad.0 == n) {
+        Some(bad) => got == bad.1,
+        None => got.starts_with("C5 BadWidth row="),
+    }
+}
+
 #[test]
 fn fronts_of_a_text(rt: HostRuntime) -> Result<(), Fail> {
-    let loaded = [6, 7, 12, 13, 18, 19, 25, 26, 31, 32];
-    let bad_numbers = [(11, 0), (17, 1), (23, 2), (24, 2), (30, 3)];
     for n in 0..33 {
         let got = again(rt.alloc(), KEYED, &TEXT[..n])?;
-        let bad = bad_numbers.iter().find(|bad| bad.0 == n);
-        if n <= 5 {
-            assert_eq!(rt; got.as_str(), "C4 HeaderMismatch", "at {n}");
-        } else if loaded.contains(&n) {
-            assert!(rt; got.as_str().starts_with("id,k,v"), "at {n}");
-        } else if let Some((_, row)) = bad {
-            let want = format!(in rt.alloc(); "C6 BadInt row={row} col=2")?;
-            assert_eq!(rt; got.as_str(), want.as_str(), "at {n}");
-        } else {
-            assert!(rt; got.as_str().starts_with("C5 BadWidth row="), "at {n}");
-        }
+        assert!(rt; answers_front(got.as_str(), n), "at {n}");
     }
     Ok(())
 }
@@ -104,13 +119,23 @@ const LOADED: [(&[u8], &str); 6] = [
     ),
 ];
 
-#[test]
-fn texts_are_loaded_and_written(rt: HostRuntime) -> Result<(), Fail> {
-    for (text, want) in LOADED {
-        let got = again(rt.alloc(), KEYED, text)?;
-        assert_eq!(rt; got.as_str(), want);
+// Compares what relation 0 of a catalog answers to each text with the text beside it.
+fn compare<R: Abort>(
+    rt: &R,
+    alloc: Global,
+    catalog: &str,
+    cases: &[(&[u8], &str)],
+) -> Result<(), Fail> {
+    for case in cases {
+        let got = again(alloc, catalog, case.0)?;
+        assert_eq!(rt; got.as_str(), case.1);
     }
     Ok(())
+}
+
+#[test]
+fn texts_are_loaded_and_written(rt: HostRuntime) -> Result<(), Fail> {
+    compare(&rt, rt.alloc(), KEYED, &LOADED)
 }
 
 // Texts that are refused, and the line of each refusal.
@@ -138,34 +163,26 @@ const REFUSED: [(&[u8], &str); 10] = [
 
 #[test]
 fn texts_are_refused(rt: HostRuntime) -> Result<(), Fail> {
-    for (text, want) in REFUSED {
-        let got = again(rt.alloc(), KEYED, text)?;
-        assert_eq!(rt; got.as_str(), want);
-    }
-    Ok(())
+    compare(&rt, rt.alloc(), KEYED, &REFUSED)
 }
 
-// Catalogs and texts, and what comes of each.
-const OTHERS: [(&str, &[u8], &str); 4] = [
-    (ONE_TEXT, b"s\n\"\"\n\nx\n", "s\n\"\"\nx\n"),
+// Texts of other relations, and what comes of each.
+const OF_ONE_TEXT: [(&[u8], &str); 1] = [(b"s\n\"\"\n\nx\n", "s\n\"\"\nx\n")];
+
+const OF_TWO_KEYS: [(&[u8], &str); 3] = [
     (
-        TWO_KEYS,
         b"a,b\n1,1\n2,1\n1,3\n",
         "C8 KeyBroken key=0 first=0 second=2",
     ),
     (
-        TWO_KEYS,
         b"a,b\n1,1\n2,1\n3,1\n",
         "C8 KeyBroken key=1 first=0 second=1",
     ),
-    (TWO_KEYS, b"a,b\n2,1\n1,2\n", "a,b\n2,1\n1,2\n"),
+    (b"a,b\n2,1\n1,2\n", "a,b\n2,1\n1,2\n"),
 ];
 
 #[test]
 fn other_relations(rt: HostRuntime) -> Result<(), Fail> {
-    for (catalog, text, want) in OTHERS {
-        let got = again(rt.alloc(), catalog, text)?;
-        assert_eq!(rt; got.as_str(), want);
-    }
-    Ok(())
+    compare(&rt, rt.alloc(), ONE_TEXT, &OF_ONE_TEXT)?;
+    compare(&rt, rt.alloc(), TWO_KEYS, &OF_TWO_KEYS)
 }
