@@ -1,15 +1,2 @@
 pub mod Runs
 pub mod Conditions
-pub mod KeyFacts
-pub mod PlaceFacts
-pub mod BuildFacts
-pub mod PairFacts
-pub mod AggregateFacts
-pub mod GroupFacts
-pub mod EndFacts
-pub mod TypeFacts
-pub mod FrontFacts
-pub mod BlameFacts
-pub mod ShownFacts
-pub mod RiseFacts
-pub mod MergeFacts

@@ -5,7 +5,7 @@ ghost use Rattle.vx_rows.specs.View.{AreColumns};
 use std::alloc::{AllocError, Global};
 use std::process::Abort;
 use std::test::Fail;
-use vx_algebra::{GroupFault, grouped};
+use vx_matching::{GroupFault, grouped};
 use vx_plan::Aggregate;
 use vx_test_tables::{shown, table};
 

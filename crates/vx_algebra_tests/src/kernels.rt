@@ -6,7 +6,8 @@ ghost use Rattle.vx_rows.specs.View.{AreColumns};
 use std::alloc::{AllocError, Global};
 use std::process::Abort;
 use std::test::Fail;
-use vx_algebra::{distinct, hash_join, projected, sorted, united};
+use vx_algebra::{projected, sorted, united};
+use vx_matching::{distinct, hash_join};
 use vx_test_tables::{shown, table};
 
 // A kernel over one input and some of its columns.

@@ -7,7 +7,7 @@ ghost use Rattle.vx_rows.specs.View.{AreColumns};
 use std::alloc::{AllocError, Global};
 use std::process::Abort;
 use std::test::Fail;
-use vx_algebra::{Merge, MergeFault, merge_join};
+use vx_matching::{Merge, MergeFault, merge_join};
 use vx_rows::{ColType, Rows};
 use vx_test_tables::{shown, table};
 

@@ -1,10 +1,7 @@
 pub mod RunnableFacts
 pub mod Refusing
-pub mod MissingFacts
-pub mod FillFacts
 pub mod SerialFacts
 pub mod Outputs
 pub mod SourceFacts
 pub mod WordFacts
-pub mod FolderFacts
 pub mod GivenFacts

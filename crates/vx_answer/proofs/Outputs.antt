@@ -1,11 +1,11 @@
 -- From what a command makes of a bundle's plan to the bundle's answer.
 use Rattle.std.proofs.Common.{ℕ, List, Vec, Global, Result, Ok, Err}
 use Rattle.std.specs.Prelude.{IfOk}
-use Rattle.vx_plan.specs.Resolve.{Resolved}
-use Rattle.vx_answer.specs.declared.refusal.Refusal.{Refusal}
+use Rattle.vx_typed.specs.Names.{Resolved}
+use Rattle.vx_tables.specs.declared.refusal.Refusal.{Refusal}
 use Rattle.vx_bundle.specs.Bundle.{Bundle}
 use Rattle.vx_answer.specs.Commanded.{IsFor}
-use Rattle.vx_answer.specs.Texts.{holds_in}
+use Rattle.vx_tables.specs.Texts.{holds_in}
 use Rattle.vx_answer.specs.Answer.{IsPlanned, IsOutput}
 
 pub outputs : (r : Result (Vec ℕ Global) Refusal) (b : Bundle) (p : Resolved) → IsPlanned b p

@@ -2,13 +2,13 @@
 use Rattle.std.proofs.Common.{arith, ◌≡◌, ◌≢◌, ◌∙◌, ℕ, List, Bool, Option, Result, Ok, Err, refl, sym}
 use Rattle.std.specs.Prelude.{IfOk, IfErr}
 use Rattle.vx_catalog.specs.Database.{Database}
-use Rattle.vx_plan.specs.Resolve.{Resolved}
+use Rattle.vx_typed.specs.Names.{Resolved}
 use Rattle.vx_bundle.specs.declared.command.Command.TheVariants as command
-use Rattle.vx_answer.specs.declared.refusal.Refusal.{Refusal}
+use Rattle.vx_tables.specs.declared.refusal.Refusal.{Refusal}
 use Rattle.vx_bundle.specs.Bundle.{Bundle}
 use Rattle.vx_bundle.specs.Setting.{Setting}
-use Rattle.vx_answer.specs.Status.{status_of}
-use Rattle.vx_answer.specs.Texts.{holds_in, lacks_in}
+use Rattle.vx_tables.specs.Status.{status_of}
+use Rattle.vx_tables.specs.Texts.{holds_in, lacks_in}
 use Rattle.vx_answer.specs.Commanded.{Holding, Lacking, IsShown, IsDatabaseFor, RunRefuses, PlanRefuses, for_run, SerialRefuses, CommandRefuses, for_rest, for_serial}
 use Rattle.vx_answer.specs.Answer.{IsPlanned, Refuses, for_plan_of, RefusedWith, IsRefusedBy}
 

@@ -2,9 +2,8 @@
 use Rattle.std.proofs.Common.{◌≡◌, ℕ, ◌+◌, List, [], ◌∷◌, ◌++◌, codes, true, Option, Some, None, Result, Ok, Err, refl, ap, ◌∙◌, subst}
 use Rattle.std.specs.Prelude.{⊤, IfOk}
 use Rattle.std.specs.List.{list_all}
-use Rattle.vx_catalog.specs.Relation.{Relation}
-use Rattle.vx_catalog.specs.Catalog.{relation_at}
-use Rattle.vx_values.specs.Values.{Name}
+use Rattle.vx_relations.specs.Relation.{Relation}
+use Rattle.vx_relations.specs.Catalog.{relation_at}
 use Rattle.vx_document.specs.Document.{ClaimForm, ConditionForm, ScanForm, Tree, Document}
 use Rattle.vx_document.specs.Document as form
 use Rattle.vx_document.specs.Fault.{Refusal, ◌>>=◌, Gives}
@@ -12,13 +11,14 @@ use Rattle.vx_document.specs.Reading.{document_in}
 use Rattle.vx_document.specs.declared.fault.PlanFault.{PlanFault}
 use Rattle.vx_document.proofs.Holds.{Holds, holds_then, holds_at}
 use Rattle.vx_nodes.specs.Plan as plan
-use Rattle.vx_plan.specs.Typed.{is_condition}
-use Rattle.vx_plan.specs.Lookup.{Names, size_found, columns_found, matched, walk_onto}
+use Rattle.vx_typed.specs.Typed.{is_condition}
+use Rattle.vx_plan.specs.Lookup.{size_found, columns_found, matched, walk_onto}
+use Rattle.vx_typed.specs.Names.{Names, Resolved}
 use Rattle.vx_nodes.specs.Outline.{Columns, Top, Outline, scan, unary, exchange, columns, plan_in}
-use Rattle.vx_plan.specs.Resolve.{Shape, Resolved, scan_columns, relation_found, topped, scan_typed, conditions_found, select_shape, unary_shape, unary_typed, kind_found, kind_fits, exchange_columns, exchange_once, exchange_shape, exchange_typed, typed_in, sizes_tested, ranges_tested, resolved}
-use Rattle.vx_plan.specs.TypedView.{resolved_of}
-use Rattle.vx_plan.specs.declared.typed_plan.TypedPlan.{TypedPlan}
-use Rattle.vx_exec.specs.Sizes.{can_run}
+use Rattle.vx_plan.specs.Resolve.{Shape, scan_columns, relation_found, topped, scan_typed, conditions_found, select_shape, unary_shape, unary_typed, kind_found, kind_fits, exchange_columns, exchange_once, exchange_shape, exchange_typed, typed_in, sizes_tested, ranges_tested, resolved}
+use Rattle.vx_typed.specs.TypedView.{resolved_of}
+use Rattle.vx_typed.specs.declared.typed_plan.TypedPlan.{TypedPlan}
+use Rattle.vx_setup.specs.Runnable.{can_run}
 use Rattle.vx_bundle.specs.declared.command.Command.{Command}
 use Rattle.vx_bundle.specs.Bundle.{Bundle}
 use Rattle.vx_answer.specs.Answer.{IsPlanned}

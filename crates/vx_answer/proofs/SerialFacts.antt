@@ -1,13 +1,12 @@
 -- The plan without its exchanges, and why it has no serial rows.
 use Rattle.std.proofs.Common.{◌≡◌, ◌∙◌, Bool, false, refl, ap, subst}
 use Rattle.vx_catalog.specs.Database.{Database}
-use Rattle.vx_plan.specs.Erased.{erased_from}
-use Rattle.vx_plan.specs.Lookup.{Names}
+use Rattle.vx_typed.specs.Erased.{erased_from}
+use Rattle.vx_typed.specs.Names.{Names, Resolved}
 use Rattle.vx_nodes.specs.Outline.{Outline}
-use Rattle.vx_plan.specs.Resolve.{Resolved}
 use Rattle.vx_serial.specs.Results.{EvalFails}
 use Rattle.vx_serial.specs.declared.fault.EvalFault.{EvalFault}
-use Rattle.vx_answer.specs.declared.refusal.Refusal.TheVariants as refusal
+use Rattle.vx_tables.specs.declared.refusal.Refusal.TheVariants as refusal
 use Rattle.vx_answer.specs.Commanded.{Holding, Lacking, erased, IsDatabaseFor, SerialRefuses, for_evaluation}
 
 is-erased : (e p : Resolved) → e.names ≡ p.names → e.total ≡ false → e.root ≡ erased_from 0 p.root → e ≡ erased p

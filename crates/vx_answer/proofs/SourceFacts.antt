@@ -4,7 +4,8 @@ use Rattle.std.specs.Prelude.{IfSome}
 use Rattle.vx_rows.specs.Ports.{IsAll, IsOver, ExplainsAll}
 use Rattle.vx_rows.specs.declared.bytes.ReadFault.TheVariants as fault
 use Rattle.vx_catalog.specs.Loading.{max_bytes}
-use Rattle.vx_answer.specs.declared.refusal.Refusal.{Refusal}
+use Rattle.vx_tables.specs.declared.refusal.Refusal.{Refusal}
+use Rattle.vx_tables.proofs.FolderFacts.{may_fail}
 use Rattle.vx_answer.specs.Answer.{RefusedWith}
 use Rattle.vx_answer.specs.Worded.{IsUnreadable, IsInputRefusal, for_input_room, for_input, untaken_of}
 
@@ -19,11 +20,6 @@ pub second_bytes : (first second : Bool) (before after file : Option (List ℕ))
 second_bytes first false before after file P same h = h
 second_bytes true true before after file P same h = tt
 second_bytes false true before after file P same h = let Q : Option (List ℕ) → Type 0 = λ o. IfSome o P in subst Q (same refl) h
-
--- what failed was not reliable
-pub may_fail : (reliable failed : Bool) → (reliable ≡ true → failed ≡ false) → failed ≡ true → reliable ≡ false
-may_fail true failed never h = let whole : failed ≡ false = never refl in cc
-may_fail false failed never h = refl
 
 -- a file that failed while it was read
 pub unreadable_broken : (reliable failed : Bool) (known told : Option (List ℕ)) → (reliable ≡ true → failed ≡ false) → ExplainsAll max_bytes known failed fault.Broken → IsUnreadable told reliable

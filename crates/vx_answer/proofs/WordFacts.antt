@@ -4,13 +4,13 @@ use Rattle.std.specs.Prelude.{IfOk, IfErr}
 use Rattle.clap.specs.Values.{kind_of}
 use Rattle.clap.specs.Words.{HasKind}
 use Rattle.clap.specs.declared.error.Error.{Error}
-use Rattle.vx_plan.specs.Resolve.{Resolved}
+use Rattle.vx_typed.specs.Names.{Resolved}
 use Rattle.vx_words.specs.Asked.{Ask, asked_by, faults_of}
-use Rattle.vx_answer.specs.declared.refusal.Refusal.{Refusal}
+use Rattle.vx_tables.specs.declared.refusal.Refusal.{Refusal}
 use Rattle.vx_answer.specs.declared.worded.NotTaken.{NotTaken}
 use Rattle.vx_answer.specs.declared.worded.NotTaken.TheVariants as taken
 use Rattle.vx_answer.specs.Commanded.{CommandRefuses}
-use Rattle.vx_answer.specs.Folder.{holds_at, LacksAt}
+use Rattle.vx_tables.specs.Folder.{holds_at, LacksAt}
 use Rattle.vx_answer.specs.Worded.{Task, IsPlannedIn, catalog_told, plan_told, TaskRefuses, for_plan_of, AnswersAsk, named, IsWorded, for_words, for_kind, for_no_task, for_no_room, for_ask}
 use Rattle.vx_answer.specs.WordsView.{IsFault, IsNotAnswered, IsNotTaken}
 

@@ -1,12 +1,13 @@
 -- What answers a bundle's text, and why it may have no answer.
 use Rattle.std.specs.Prelude.{◌≡◌, ℕ, ◌⊎◌, List, Bool, true, false, Option, Some, None, Result, Ok, IfSome}
 use Rattle.vx_rows.specs.Ports.{IsOver}
-use Rattle.vx_catalog.specs.Relation.{Relation}
-use Rattle.vx_catalog.specs.Naming.{catalog_of}
-use Rattle.vx_catalog.specs.Naming as catalog
+use Rattle.vx_relations.specs.Relation.{Relation}
+use Rattle.vx_relations.specs.Naming.{catalog_of}
+use Rattle.vx_relations.specs.Naming as catalog
 use Rattle.vx_catalog.specs.Loading.{max_bytes}
-use Rattle.vx_catalog.specs.declared.fault.CatalogFault.{CatalogFault}
-use Rattle.vx_plan.specs.Resolve.{Resolved, resolved}
+use Rattle.vx_relations.specs.declared.fault.CatalogFault.{CatalogFault}
+use Rattle.vx_plan.specs.Resolve.{resolved}
+use Rattle.vx_typed.specs.Names.{Resolved}
 use Rattle.vx_document.specs.Fault.{◌>>=◌}
 use Rattle.vx_document.specs.Reading.{document_in}
 use Rattle.vx_document.specs.Fault as plan
@@ -15,12 +16,12 @@ use Rattle.vx_bundle.specs.declared.command.Command.{Command}
 use Rattle.vx_bundle.specs.declared.command.Command.TheVariants as command
 use Rattle.vx_bundle.specs.declared.setting.Mode.{Mode}
 use Rattle.vx_bundle.specs.declared.setting.Mode.TheVariants as mode
-use Rattle.vx_answer.specs.declared.refusal.Refusal.{Refusal}
-use Rattle.vx_answer.specs.declared.refusal.Refusal.TheVariants as refusal
+use Rattle.vx_tables.specs.declared.refusal.Refusal.{Refusal}
+use Rattle.vx_tables.specs.declared.refusal.Refusal.TheVariants as refusal
 use Rattle.vx_bundle.specs.Bundle.{Bundle, bundle_of_text}
 use Rattle.vx_answer.specs.Commanded.{IsFor, CommandRefuses}
-use Rattle.vx_answer.specs.Status.{status_of}
-use Rattle.vx_answer.specs.Texts.{holds_in, lacks_in}
+use Rattle.vx_tables.specs.Status.{status_of}
+use Rattle.vx_tables.specs.Texts.{holds_in, lacks_in}
 use Rattle.vx_answer.specs.Unrunnable.{taken_by}
 
 -- the plan of a bundle over a catalog: read, taken by the bundle's command, and resolved

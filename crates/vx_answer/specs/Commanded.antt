@@ -2,29 +2,29 @@
 use Rattle.std.specs.Prelude.{◌≡◌, ℕ, List, Bool, true, false, cond, Option, Some, None, codes}
 use Rattle.vx_values.specs.Values.{Row}
 use Rattle.vx_rows.specs.View.{Table}
-use Rattle.vx_catalog.specs.Relation.{Relation}
-use Rattle.vx_catalog.specs.Catalog.{relation_at}
+use Rattle.vx_relations.specs.Relation.{Relation}
+use Rattle.vx_relations.specs.Catalog.{relation_at}
 use Rattle.vx_catalog.specs.Csv.{csv_text}
 use Rattle.vx_catalog.specs.Database.{Database}
-use Rattle.vx_plan.specs.Erased.{erased_from}
+use Rattle.vx_typed.specs.Erased.{erased_from}
 use Rattle.vx_nodes.specs.Outline.{columns, plan_in}
-use Rattle.vx_plan.specs.Resolve.{Resolved}
-use Rattle.vx_check.specs.Refusal.{Rule, refusal}
-use Rattle.vx_check.specs.RuleView.{rule_of}
+use Rattle.vx_typed.specs.Names.{Resolved}
+use Rattle.vx_rules.specs.Refusal.{Rule, refusal}
+use Rattle.vx_rules.specs.RuleView.{rule_of}
 use Rattle.vx_check.specs.Explain.{explain_text}
-use Rattle.vx_check.specs.declared.rule.Rule as rust_rule
-use Rattle.vx_exec.specs.Setup.{SetupForm}
+use Rattle.vx_rules.specs.declared.rule.Rule as rust_rule
+use Rattle.vx_setup.specs.Setup.{SetupForm}
 use Rattle.vx_exec.specs.Sizes.{Sizes}
 use Rattle.vx_exec.specs.Runs.{IsRunOf, IsSetUp, RunFails}
-use Rattle.vx_exec.specs.declared.fault.RunFault.{RunFault}
+use Rattle.vx_setup.specs.declared.fault.RunFault.{RunFault}
 use Rattle.vx_serial.specs.Results.{IsSerialOf, EvalFails}
 use Rattle.vx_serial.specs.declared.fault.EvalFault.{EvalFault}
 use Rattle.vx_bundle.specs.declared.command.Command.{Command}
 use Rattle.vx_bundle.specs.declared.command.Command.TheVariants as command
-use Rattle.vx_answer.specs.declared.refusal.Refusal.{Refusal}
-use Rattle.vx_answer.specs.declared.refusal.Refusal.TheVariants as refusal
+use Rattle.vx_tables.specs.declared.refusal.Refusal.{Refusal}
+use Rattle.vx_tables.specs.declared.refusal.Refusal.TheVariants as refusal
 use Rattle.vx_answer.specs.ByteRouter.{byte_route}
-use Rattle.vx_answer.specs.Filled.{IsFilled, IsFirstMissing}
+use Rattle.vx_tables.specs.Filled.{IsFilled, IsFirstMissing}
 use Rattle.vx_bundle.specs.Setting.{Setting}
 
 -- what tables have of a relation

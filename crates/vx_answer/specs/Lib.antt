@@ -1,7 +1,3 @@
-pub mod Status
-pub mod Texts
-pub mod Filled
-pub mod Folder
 pub mod ByteRouter
 pub mod Unrunnable
 pub mod Commanded

@@ -5,12 +5,13 @@ use Rattle.clap.specs.Words.{IsAmong}
 use Rattle.clap.specs.declared.error.kind.ErrorKind.{ErrorKind}
 use Rattle.clap.specs.declared.error.kind.ErrorKind.TheVariants as kind
 use Rattle.vx_rows.specs.Ports.{IsOver}
-use Rattle.vx_catalog.specs.Relation.{Relation}
+use Rattle.vx_relations.specs.Relation.{Relation}
 use Rattle.vx_catalog.specs.Loading.{max_bytes}
-use Rattle.vx_catalog.specs.Naming.{catalog_text}
-use Rattle.vx_catalog.specs.Naming as catalog
-use Rattle.vx_catalog.specs.declared.fault.CatalogFault.{CatalogFault}
-use Rattle.vx_plan.specs.Resolve.{Resolved, resolved}
+use Rattle.vx_relations.specs.Naming.{catalog_text}
+use Rattle.vx_relations.specs.Naming as catalog
+use Rattle.vx_relations.specs.declared.fault.CatalogFault.{CatalogFault}
+use Rattle.vx_plan.specs.Resolve.{resolved}
+use Rattle.vx_typed.specs.Names.{Resolved}
 use Rattle.vx_document.specs.Fault.{◌>>=◌}
 use Rattle.vx_document.specs.Fault as plan
 use Rattle.vx_document.specs.Reading.{document_of_text}
@@ -19,14 +20,14 @@ use Rattle.vx_words.specs.Asked.{Ask, Paths, bundle, check, explain, serial, run
 use Rattle.vx_bundle.specs.declared.command.Command.{Command}
 use Rattle.vx_bundle.specs.declared.command.Command.TheVariants as command
 use Rattle.vx_bundle.specs.declared.setting.Mode.TheVariants as mode
-use Rattle.vx_answer.specs.declared.refusal.Refusal.{Refusal}
-use Rattle.vx_answer.specs.declared.refusal.Refusal.TheVariants as refusal
+use Rattle.vx_tables.specs.declared.refusal.Refusal.{Refusal}
+use Rattle.vx_tables.specs.declared.refusal.Refusal.TheVariants as refusal
 use Rattle.vx_answer.specs.Answer.{IsAnswer, IsUnread, RefusedWith}
 use Rattle.vx_answer.specs.Commanded.{IsFor, CommandRefuses}
-use Rattle.vx_answer.specs.Folder.{holds_at, LacksAt}
+use Rattle.vx_tables.specs.Folder.{holds_at, LacksAt}
 use Rattle.vx_bundle.specs.Setting.{Setting}
 use Rattle.vx_answer.specs.Given.{IsSetting, IsNoSetting}
-use Rattle.vx_answer.specs.Status.{status_of}
+use Rattle.vx_tables.specs.Status.{status_of}
 use Rattle.vx_answer.specs.Unrunnable.{taken_by}
 
 -- the path of standard input

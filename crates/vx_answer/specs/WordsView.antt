@@ -1,12 +1,11 @@
 -- A task that is held, and why words were not taken.
 use Rattle.std.specs.Prelude.{◌≡◌, ℕ, List, Bool, Option, string_bytes}
-use Rattle.vx_words.specs.Asked.{paths_are}
+use Rattle.vx_words.specs.Asked.{paths_are, Ask}
 use Rattle.vx_answer.specs.declared.worded.Task as held
 use Rattle.vx_answer.specs.declared.worded.NotTaken.{NotTaken}
 use Rattle.vx_answer.specs.declared.worded.NotTaken.TheVariants as taken
-use Rattle.vx_words.specs.Asked.{Ask}
 use Rattle.clap.specs.declared.error.kind.ErrorKind.{ErrorKind}
-use Rattle.vx_answer.specs.declared.refusal.Refusal.TheVariants as refusal
+use Rattle.vx_tables.specs.declared.refusal.Refusal.TheVariants as refusal
 use Rattle.vx_answer.specs.Worded.{Task, IsNoTask, IsWrongKind, AskRefuses, AreMisworded, WordsRefuse}
 
 abbrev pub task_is : held.Task → Task

@@ -1,20 +1,19 @@
 //! What a command makes of a plan over tables.
 
 ghost use Rattle.std.specs.Prelude.{◌≡◌, true, IfOk, IfErr};
-ghost use Rattle.vx_plan.specs.TypedView.{resolved_of};
+ghost use Rattle.vx_typed.specs.TypedView.{resolved_of};
 ghost use Rattle.vx_nodes.specs.Outline.{plan_in};
-ghost use Rattle.vx_check.specs.CheckedView.{typed_plan};
-ghost use Rattle.vx_exec.specs.Sizes.{can_run};
+ghost use Rattle.vx_rules.specs.CheckedView.{typed_plan};
+ghost use Rattle.vx_setup.specs.Runnable.{can_run};
 ghost use Rattle.vx_answer.specs.Commanded.{IsShown, IsNotShown, accepted_text, IsFor, CommandRefuses};
 
-use crate::refusal::Refusal;
 use crate::run::run_plan;
 use crate::serial::serial_plan;
-use crate::tables::Tables;
 use std::alloc::{AllocError, Global};
 use vx_bundle::{Command, Setting};
 use vx_check::{CheckedPlan, check, explain};
 use vx_plan::TypedPlan;
+use vx_tables::{Refusal, Tables};
 
 // What the checker's answer is told as.
 fn accepted_text(alloc: Global, is_total: bool) -> Result<Vec<u8>, AllocError>

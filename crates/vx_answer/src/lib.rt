@@ -3,23 +3,16 @@
 
 mod answering;
 mod command;
-mod folder;
 mod given;
 mod page;
-mod refusal;
 mod router;
 mod run;
 mod serial;
 mod sources;
-mod status;
-mod store;
-mod tables;
-mod texts;
 mod unrunnable;
 mod worded;
 mod work;
 
 pub use answering::{answer, deliver};
-pub use refusal::{Refusal, tell};
 pub use router::ByteRouter;
-pub use store::{Disk, Store};
+pub use vx_tables::{Disk, Refusal, Store, tell};

@@ -3,16 +3,14 @@
 ghost use Rattle.std.specs.Prelude.{◌≡◌, true, map, IfOk, IfErr};
 ghost use Rattle.vx_catalog.specs.Csv.{csv_text};
 ghost use Rattle.vx_nodes.specs.Outline.{columns};
-ghost use Rattle.vx_plan.specs.TypedView.{plan as plan_of_typed, resolved_of};
-ghost use Rattle.vx_check.specs.CheckedView.{typed_plan};
-ghost use Rattle.vx_exec.specs.Sizes.{can_run};
+ghost use Rattle.vx_typed.specs.TypedView.{plan as plan_of_typed, resolved_of};
+ghost use Rattle.vx_rules.specs.CheckedView.{typed_plan};
+ghost use Rattle.vx_setup.specs.Runnable.{can_run};
 ghost use Rattle.vx_bundle.specs.Setting.{size_form};
 ghost use Rattle.vx_answer.specs.Commanded.{IsRunOver, RunRefuses, IsRun, PlanRefuses, setup_of};
 
 use crate::page::Page;
-use crate::refusal::Refusal;
 use crate::router::ByteRouter;
-use crate::tables::{Tables, load_tables};
 use std::alloc::{AllocError, Global};
 use vx_bundle::Setting;
 use vx_catalog::{Database, write_rows};
@@ -20,6 +18,7 @@ use vx_check::CheckedPlan;
 use vx_exec::{Ran, Setup, run_rounds};
 use vx_plan::TypedPlan;
 use vx_rows::Rows;
+use vx_tables::{Refusal, Tables, load_tables};
 
 // The most rounds of a run.
 const MAX_ROUNDS: u64 = 1_000_000_000;

@@ -1,15 +1,14 @@
 //! Evaluations of plans over tables.
 
 ghost use Rattle.std.specs.Prelude.{IfOk, IfErr};
-ghost use Rattle.vx_plan.specs.TypedView.{resolved_of};
+ghost use Rattle.vx_typed.specs.TypedView.{resolved_of};
 ghost use Rattle.vx_answer.specs.Commanded.{IsSerial, SerialRefuses};
 
-use crate::refusal::Refusal;
 use crate::run::text_of;
-use crate::tables::{Tables, load_tables};
 use std::alloc::Global;
 use vx_plan::{TypedPlan, erase};
 use vx_serial::eval;
+use vx_tables::{Refusal, Tables, load_tables};
 
 /// The text of the rows of a plan without its exchanges over tables, under the names of the plan.
 pub fn serial_plan<T: Tables>(

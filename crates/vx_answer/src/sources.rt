@@ -3,21 +3,20 @@
 ghost use Rattle.std.specs.Prelude.{◌≡◌, true, false, codes, IfOk, IfErr, IsErrOf};
 ghost use Rattle.vx_rows.specs.Ports.{IsAll};
 ghost use Rattle.vx_document.specs.Fault.{Gives};
-ghost use Rattle.vx_plan.specs.TypedView.{resolved_of};
+ghost use Rattle.vx_typed.specs.TypedView.{resolved_of};
 ghost use Rattle.vx_nodes.specs.Outline.{plan_in};
-ghost use Rattle.vx_exec.specs.Sizes.{can_run};
+ghost use Rattle.vx_setup.specs.Runnable.{can_run};
 ghost use Rattle.vx_words.specs.Asked.{paths_are};
 ghost use Rattle.vx_answer.specs.Worded.{is_input, told_at, plan_text, IsFileRefusal, IsInputRefusal, Untaken, UnplannedIn, IsPlannedIn, catalog_told, plan_told};
 
 use crate::answering::MAX_BYTES;
-use crate::refusal::Refusal;
-use crate::store::Store;
 use crate::unrunnable::test_taken;
 use std::alloc::Global;
 use vx_bundle::Command;
 use vx_catalog::Catalog;
 use vx_plan::{Plan, PlanFault, TypedPlan, resolve};
 use vx_rows::{ByteIn, ReadFault, read_all};
+use vx_tables::{Refusal, Store};
 use vx_words::Sources;
 
 // The path of standard input.

@@ -10,16 +10,14 @@ ghost use Rattle.vx_answer.specs.WordsView.{task_is, IsWrong, IsFault, IsNotAnsw
 
 use crate::answering::outcome_of;
 use crate::command::carried_out;
-use crate::folder::Folder;
 use crate::given::setting_in;
-use crate::refusal::Refusal;
 use crate::sources::planned_in;
-use crate::store::Store;
 use clap::Error;
 use clap::error::ErrorKind;
 use std::alloc::{AllocError, Global};
 use vx_bundle::{Command, MORSEL, Mode, PACKET, SLACK, Setting};
 use vx_rows::ByteIn;
+use vx_tables::{Folder, Refusal, Store};
 use vx_words::{Asked, Limits, Sources, asked_for};
 
 /// A command over the catalog, the plan and the folder of tables that words name.

@@ -3,16 +3,16 @@
 ghost use Rattle.std.specs.Prelude.{◌≡◌, IfOk, IfErr};
 ghost use Rattle.vx_bundle.specs.BundleView.{bundle_form};
 ghost use Rattle.vx_document.specs.Fault.{Gives};
-ghost use Rattle.vx_plan.specs.TypedView.{resolved_of};
+ghost use Rattle.vx_typed.specs.TypedView.{resolved_of};
 ghost use Rattle.vx_answer.specs.Answer.{plan_for, IsPlanned, Unplanned, is_taken, IsOutput, Refuses, IsAnswer, IsRefused};
 
 use crate::command::carried_out;
-use crate::refusal::Refusal;
 use crate::unrunnable::test_taken;
 use std::alloc::Global;
 use vx_bundle::{Bundle, Command, Mode, bundle_in, value_of_text};
 use vx_catalog::Catalog;
 use vx_plan::{Plan, PlanFault, TypedPlan, resolve};
+use vx_tables::Refusal;
 
 // The plan of a bundle over its catalog.
 fn plan_for(alloc: Global, bundle: &Bundle<'_>, catalog: &Catalog) -> Result<TypedPlan, PlanFault>

@@ -5,9 +5,9 @@ use crate::case::Case;
 use crate::outline::{columns, is_claimed, outline};
 use serde_json::{Error, Value as Json};
 use std::alloc::{AllocError, Global};
-use vx_catalog::Catalog;
 use vx_check::{CheckedPlan, Refused, check, explain};
 use vx_plan::{Plan, PlanFault, TypedPlan, erase, resolve, to_json};
+use vx_relations::Catalog;
 
 // An answer, or why a plan is none.
 type Answer = Result<String, PlanFault>;

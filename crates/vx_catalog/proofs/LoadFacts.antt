@@ -6,8 +6,8 @@ use Rattle.csv.specs.declared.parser.State.{State}
 use Rattle.csv.specs.declared.parser.State.TheVariants as st
 use Rattle.vx_values.specs.Values.{Row}
 use Rattle.vx_values.specs.declared.value.ColType.{ColType}
-use Rattle.vx_catalog.specs.Relation.{Relation}
-use Rattle.vx_catalog.specs.Walk.{◌>>=◌}
+use Rattle.vx_relations.specs.Relation.{Relation}
+use Rattle.vx_relations.specs.Walk.{◌>>=◌}
 use Rattle.vx_catalog.specs.Records.{records_left, Begins}
 use Rattle.vx_catalog.specs.Counting.{Settles}
 use Rattle.vx_catalog.specs.declared.fault.LoadFault.{LoadFault}

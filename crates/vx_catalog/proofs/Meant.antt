@@ -13,14 +13,14 @@ use Rattle.vx_values.specs.declared.value.ColType.{ColType}
 use Rattle.vx_values.specs.declared.value.ColType.TheVariants as kind
 use Rattle.vx_rows.proofs.KeyFacts.{key-law}
 use Rattle.vx_rows.proofs.Order.{NoFall, sorted_neighbours}
-use Rattle.vx_catalog.specs.Relation.{Relation, KeysHold}
-use Rattle.vx_catalog.specs.Walk.{◌>>=◌, walk_onto}
+use Rattle.vx_relations.specs.Relation.{Relation, KeysHold}
+use Rattle.vx_relations.specs.Walk.{◌>>=◌, walk_onto}
 use Rattle.vx_catalog.specs.Number.{number_of}
 use Rattle.vx_catalog.specs.declared.fault.LoadFault.{LoadFault}
 use Rattle.vx_catalog.specs.declared.fault.LoadFault.TheVariants as fault
 use Rattle.vx_catalog.specs.Loading.{records_of, some_number, value_of, some_value, next_value, row_of, max_rows, row_added, rows_onto, is_header, under_header, keys_kept, fall_from, first_fall, order_kept, max_bytes, load_of}
 use Rattle.vx_catalog.specs.Meaning.{IsValueOf, IsRowOf, Under, IsTextOf, LoadLaw}
-use Rattle.vx_catalog.proofs.Accepted.{ok_bind}
+use Rattle.vx_relations.proofs.Accepted.{ok_bind}
 use Rattle.vx_catalog.proofs.OrderFacts.{keys_kept_is, order_kept_is}
 
 -- ---- values

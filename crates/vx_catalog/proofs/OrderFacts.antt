@@ -11,8 +11,8 @@ use Rattle.vx_rows.specs.Keys.{first_clash, HasKey}
 use Rattle.vx_rows.specs.View.{AreColumns}
 use Rattle.vx_rows.proofs.KeyFacts.{key-law}
 use Rattle.vx_rows.proofs.Order.{NoFall, sorted_from}
-use Rattle.vx_catalog.specs.Relation.{Relation, KeysHold, Meets}
-use Rattle.vx_catalog.specs.Catalog.{all_below}
+use Rattle.vx_relations.specs.Relation.{Relation, KeysHold, Meets}
+use Rattle.vx_relations.specs.Catalog.{all_below}
 use Rattle.vx_catalog.specs.declared.fault.LoadFault.{LoadFault}
 use Rattle.vx_catalog.specs.declared.fault.LoadFault.TheVariants as fault
 use Rattle.vx_catalog.specs.Loading.{no_clash, keys_kept, fall_from, first_fall, no_fall, order_kept}

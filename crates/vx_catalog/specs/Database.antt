@@ -2,8 +2,8 @@
 use Rattle.std.specs.Prelude.{◌≡◌, ℕ, ◌<◌, ◌≤◌, List, [], length, slice_index_or, slice_set}
 use Rattle.vx_values.specs.Values.{Row}
 use Rattle.vx_rows.specs.View.{Table}
-use Rattle.vx_catalog.specs.Relation.{Relation, Meets}
-use Rattle.vx_catalog.specs.Catalog.{relation_at}
+use Rattle.vx_relations.specs.Relation.{Relation, Meets}
+use Rattle.vx_relations.specs.Catalog.{relation_at}
 use Rattle.vx_catalog.specs.Loading.{max_rows}
 
 -- rows of the relation with this number

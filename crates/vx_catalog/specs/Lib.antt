@@ -1,9 +1,4 @@
-pub mod Relation
-pub mod Catalog
 pub mod Csv
-pub mod Walk
-pub mod Form
-pub mod Naming
 pub mod Number
 pub mod Loading
 pub mod Counting

@@ -9,8 +9,8 @@ use Rattle.vx_rows.specs.Order.{compare_on}
 use Rattle.vx_rows.specs.Keys.{first_clash}
 use Rattle.vx_values.specs.declared.value.ColType.{ColType}
 use Rattle.vx_values.specs.declared.value.ColType.TheVariants as kind
-use Rattle.vx_catalog.specs.Relation.{Relation}
-use Rattle.vx_catalog.specs.Walk.{◌>>=◌, walk_onto}
+use Rattle.vx_relations.specs.Relation.{Relation}
+use Rattle.vx_relations.specs.Walk.{◌>>=◌, walk_onto}
 use Rattle.vx_catalog.specs.Number.{number_of}
 use Rattle.vx_catalog.specs.declared.fault.LoadFault.{LoadFault}
 use Rattle.vx_catalog.specs.declared.fault.LoadFault.TheVariants as fault

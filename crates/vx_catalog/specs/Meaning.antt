@@ -6,7 +6,7 @@ use Rattle.vx_values.specs.Values.{Val, num, text, Row}
 use Rattle.vx_rows.specs.Order.{sorted}
 use Rattle.vx_values.specs.declared.value.ColType.{ColType}
 use Rattle.vx_values.specs.declared.value.ColType.TheVariants as kind
-use Rattle.vx_catalog.specs.Relation.{Relation, KeysHold}
+use Rattle.vx_relations.specs.Relation.{Relation, KeysHold}
 use Rattle.vx_catalog.specs.Number.{number_of}
 use Rattle.vx_catalog.specs.Loading.{records_of, is_header, max_rows, max_bytes, load_of}
 

@@ -1,15 +1,15 @@
 //! Databases.
 
 ghost use Rattle.std.specs.Prelude.{◌≡◌, ◌≢◌, ◌<◌, ◌≤◌, [], map, length, IfOk, IfErr, OnOk, OnErr};
-ghost use Rattle.vx_catalog.specs.Relation.{Meets};
-ghost use Rattle.vx_catalog.specs.Catalog.{relation_at};
+ghost use Rattle.vx_relations.specs.Relation.{Meets};
+ghost use Rattle.vx_relations.specs.Catalog.{relation_at};
 ghost use Rattle.vx_catalog.specs.Database.{rows_at, with_rows, IsDatabase, MeetsAll};
 ghost use Rattle.vx_catalog.specs.Loading.{max_rows};
 
-use crate::catalog::Catalog;
 use crate::loader::Loaded;
 use std::alloc::{AllocError, Global};
 use std::marker::Model;
+use vx_relations::Catalog;
 use vx_rows::Rows;
 
 // No rows for each relation of a catalog.

@@ -1,23 +1,16 @@
-//! What a catalog declares of its relations, and databases that meet it.
+//! Databases that meet what a catalog declares: rows are read of texts, and written.
 #![tactic(auto)]
 
-mod catalog;
 mod counted;
 mod database;
 mod fault;
-mod form;
 mod loader;
-mod names;
-mod naming;
 mod number;
 mod record;
-mod relation;
 mod writing;
 
-pub use catalog::{Catalog, catalogs_are_read_exactly};
 pub use database::Database;
-pub use fault::{CatalogFault, LoadFault, WriteFault};
+pub use fault::{LoadFault, WriteFault};
 pub use loader::{Loaded, Loader, texts_are_loaded_exactly};
-pub use names::find_name;
-pub use relation::Relation;
+pub use vx_relations::{Catalog, CatalogFault, Relation, catalogs_are_read_exactly, find_name};
 pub use writing::write_rows;

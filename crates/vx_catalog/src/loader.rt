@@ -5,23 +5,22 @@ ghost use Rattle.csv.specs.Reading.{source_of};
 ghost use Rattle.std.specs.Ordering.{is_lt};
 ghost use Rattle.vx_rows.specs.View.{row, AreColumns};
 ghost use Rattle.vx_rows.specs.Order.{compare_on};
-ghost use Rattle.vx_catalog.specs.Relation.{Meets};
-ghost use Rattle.vx_catalog.specs.Catalog.{relation_at, IsRelation};
+ghost use Rattle.vx_relations.specs.Relation.{Meets};
+ghost use Rattle.vx_relations.specs.Catalog.{relation_at, IsRelation};
 ghost use Rattle.vx_catalog.specs.Database.{IsLoaded};
 ghost use Rattle.vx_catalog.specs.Meaning.{LoadLaw};
 ghost use Rattle.vx_catalog.specs.Counting.{StaysKnown};
 ghost use Rattle.vx_catalog.specs.Records.{IsPlain, rest_of};
 ghost use Rattle.vx_catalog.specs.Loading.{Gives, under_header, tested, keys_kept, order_kept, first_fall, load_of, max_rows};
 
-use crate::catalog::Catalog;
 use crate::counted::{Counted, Lent, Origin};
 use crate::fault::LoadFault;
 use crate::record::{is_header, next_record, read_rows};
-use crate::relation::Relation;
 use csv::{ByteRecord, Reader, ReaderBuilder};
 use std::alloc::Global;
 use std::io::Read;
 use std::marker::{Brand, Model};
+use vx_relations::{Catalog, Relation};
 use vx_rows::{ByteIn, Rows, compare_on};
 
 // The rows under a text's header. Want of memory is told where the source underneath failed too.
@@ -147,8 +146,8 @@ pub struct Loaded {
 
 impl Model for Loaded {
     ghost use Rattle.std.specs.Prelude.{◌≡◌};
-    ghost use Rattle.vx_catalog.specs.Relation.{Meets};
-    ghost use Rattle.vx_catalog.specs.Catalog.{relation_at};
+    ghost use Rattle.vx_relations.specs.Relation.{Meets};
+    ghost use Rattle.vx_relations.specs.Catalog.{relation_at};
     ghost use Rattle.vx_catalog.specs.Database.{LoadedRows, IsLoaded};
 
     ghost Value = { LoadedRows };

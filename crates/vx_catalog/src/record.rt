@@ -5,7 +5,7 @@ ghost use Rattle.std.specs.Option.{option_copied};
 ghost use Rattle.csv.specs.Reading.{source_of, strip_bom};
 ghost use Rattle.csv.specs.Records.{fields_of, field_at};
 ghost use Rattle.vx_values.specs.ValueView.{cell_val};
-ghost use Rattle.vx_catalog.specs.Walk.{walk_onto};
+ghost use Rattle.vx_relations.specs.Walk.{walk_onto};
 ghost use Rattle.vx_catalog.specs.Counting.{StaysKnown};
 ghost use Rattle.vx_catalog.specs.Records.{IsPlain, rest_of, Takes};
 ghost use Rattle.vx_catalog.specs.Loading.{Gives, value_of, some_value, next_value, row_of, row_added, rows_onto, max_rows, same_name, names_from, is_header};

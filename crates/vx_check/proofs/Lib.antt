@@ -1,8 +1,1 @@
-pub mod ColumnFacts
-pub mod CopyFacts
-pub mod KeyFacts
-pub mod PairFacts
-pub mod RuleFacts
 pub mod WordFacts
-pub mod NarrowFacts
-pub mod Refusals

@@ -4,10 +4,10 @@ use Rattle.std.specs.Fmt.{signed_decimal}
 use Rattle.serde_json.specs.Data.{string}
 use Rattle.serde_json.specs.Written.{compact_text}
 use Rattle.vx_values.specs.Values.{Val, num, text, Name}
-use Rattle.vx_catalog.specs.Catalog.{relation_at}
+use Rattle.vx_relations.specs.Catalog.{relation_at}
 use Rattle.vx_nodes.specs.Plan.{Size, one_worker, group_of, Route, by_hash, by_range, Part, one, any, all, routed, Claim, Side, column, constant, Condition, Aggregate, least, greatest, sum, count_rows, Unary, select, project, distinct, sort, group, Binary, union, join, Kind, route_to, round, broadcast, gather, size}
 use Rattle.vx_values.specs.Test.{test_text}
-use Rattle.vx_plan.specs.Lookup.{Names}
+use Rattle.vx_typed.specs.Names.{Names}
 use Rattle.vx_nodes.specs.Outline.{Outline, scan, unary, binary, exchange, top, columns, plan_in}
 
 -- the name with this number

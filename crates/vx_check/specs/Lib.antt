@@ -1,12 +1,2 @@
-pub mod Rules
-pub mod Refusal
-pub mod Claims
-pub mod Copies
-pub mod Pairs
-pub mod Narrow
-pub mod Joints
-pub mod RuleView
 pub mod Explain
-pub mod Checked
-pub mod CheckedView
 pub mod PlanText

@@ -2,16 +2,17 @@
 
 ghost use Rattle.std.specs.Prelude.{◌≡◌, ◌++◌, ◌+◌, ◌<◌, ◌^◌, map, string_bytes, length, OnOk, codes, false};
 ghost use Rattle.vx_values.specs.ValueView.{val_of};
-ghost use Rattle.vx_catalog.specs.Catalog.{relation_at};
+ghost use Rattle.vx_relations.specs.Catalog.{relation_at};
 ghost use Rattle.vx_nodes.specs.Outline.{condition_of, aggregate_of, unary_of, renamed_of, binary_of, kind_of};
-ghost use Rattle.vx_plan.specs.TypedView.{names_in};
+ghost use Rattle.vx_typed.specs.TypedView.{names_in};
 ghost use Rattle.vx_check.specs.Explain.{name_at, separated, value_text, condition_text, kept_text, kept_texts, function_text, aggregate_texts, aggregates_text, unary_text, pair_text, binary_text, kind_text, merge_text, scan_text, prefix_text};
 
 use crate::words::{name_at, push_between, push_list, push_routed};
 use itoa::Buffer;
 use std::alloc::{AllocError, Global};
-use vx_plan::{Aggregate, Binary, Condition, Exchange, Kept, Kind, Scan, Side, TypedPlan, Unary};
+use vx_nodes::{Aggregate, Binary, Condition, Exchange, Kept, Kind, Scan, Side, Unary};
 use vx_rows::Value;
+use vx_typed::TypedPlan;
 
 // Adds a number in plain decimal, or a text as `serde_json` writes it.
 fn push_value(alloc: Global, text: &mut String, value: &Value) -> Result<(), AllocError>

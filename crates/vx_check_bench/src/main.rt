@@ -11,9 +11,9 @@ use std::alloc::{AllocError, Global};
 use std::env;
 use std::rt::{Clock, Env};
 use std::time::Instant;
-use vx_catalog::Catalog;
 use vx_check::{CheckedPlan, Refused, check};
 use vx_plan::{Plan, resolve};
+use vx_relations::Catalog;
 
 // What is measured, and how it is shown.
 #[derive(Clone, Copy)]

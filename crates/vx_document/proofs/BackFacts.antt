@@ -9,8 +9,10 @@ use Rattle.vx_values.specs.Values.{Val, num, text, Name}
 use Rattle.vx_values.specs.Types.{is_held}
 use Rattle.vx_values.specs.Test as comparison
 use Rattle.vx_json.specs.Look.{name_in, each_onto}
-use Rattle.vx_document.specs.Look.{is_some_list, name_at, text_at, value_in, each_in, some_in}
-use Rattle.vx_document.specs.Document.{RangeForm, PartForm, one, any, all, hash_part, range_part, ClaimForm, SideForm, column, constant, ConditionForm, OutputForm, FunctionForm, least, greatest, sum, count_rows, AggregateForm, ScanForm, UnaryForm, select, project, distinct, sort, group, BinaryForm, union, join, KindForm, hash, range, round, broadcast, gather, Tree, scan, unary, binary, exchange, Document, tree_nodes, tree_levels}
+use Rattle.vx_document.specs.Look.{name_at, text_at, value_in, each_in, some_in}
+use Rattle.vx_values.specs.Lists.{is_some_list}
+use Rattle.vx_document.specs.Document.{PartForm, one, any, all, hash_part, range_part, ClaimForm, SideForm, column, constant, ConditionForm, OutputForm, FunctionForm, least, greatest, sum, count_rows, AggregateForm, ScanForm, UnaryForm, select, project, distinct, sort, group, BinaryForm, union, join, KindForm, hash, range, round, broadcast, gather, Tree, scan, unary, binary, exchange, Document, tree_nodes, tree_levels}
+use Rattle.vx_values.specs.Ranges.{RangeForm}
 use Rattle.vx_document.specs.Form.{names_in, some_names_in, hash_part_in, range_part_in, part_in, keys_in, claim_in, claimed, test_named, side_in, condition_in, renamed_in, output_in, function_at, aggregate_in, pair_in}
 use Rattle.vx_document.specs.Formed.{are_names, are_some_names, is_range_form, is_head_form, is_part_form, is_claim_form, is_side_form, is_condition_form, is_new_name, is_output_form, is_function_form, is_aggregate_form, is_scan_form, is_unary_form, is_pair_form, is_binary_form, is_kind_form, is_tree_form}
 use Rattle.vx_document.specs.Operators.{own_scan, own_unary, own_binary, own_exchange, own_in, scan_in, scan_own, select_in, outputs_in, sort_in, group_in, unary_in, unary_own, join_in, union_in, hash_in, range_in, sized_in, gather_in, kind_in, exchange_own}

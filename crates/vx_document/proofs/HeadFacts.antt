@@ -5,7 +5,8 @@ use Rattle.serde_json.specs.Data.{Data}
 use Rattle.serde_json.specs.Find.{get, as_bool}
 use Rattle.vx_values.specs.Types.{is_held}
 use Rattle.vx_json.specs.Look.{has_only}
-use Rattle.vx_document.specs.Look.{is_some_list, name_at, value_in, each_in, or_default}
+use Rattle.vx_document.specs.Look.{name_at, value_in, each_in, or_default}
+use Rattle.vx_values.specs.Lists.{is_some_list}
 use Rattle.vx_document.specs.Form.{names_in}
 use Rattle.vx_document.specs.Formed.{are_names, is_range_form, is_head_form}
 use Rattle.vx_document.specs.Reading.{Head, head_of, head_in, declared_in}

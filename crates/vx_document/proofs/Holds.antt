@@ -5,7 +5,7 @@ pub use Rattle.vx_values.proofs.Booleans.{and-left, and-right, and-both}
 use Rattle.serde_json.specs.Data.{Data}
 use Rattle.vx_document.specs.Fault.{Refusal, ◌>>=◌}
 use Rattle.vx_json.specs.Look.{each_onto, some_entry}
-use Rattle.vx_document.specs.Look.{is_some_list}
+use Rattle.vx_values.specs.Lists.{is_some_list}
 
 -- a test holds of the value, if there is one
 abbrev pub Within : {A : Type 0} → (A → Bool) → Option A → Type 0

@@ -5,7 +5,7 @@ use Rattle.serde_json.specs.Data.{Data}
 use Rattle.serde_json.specs.Find.{get, as_str}
 use Rattle.vx_json.specs.Look.{has_only}
 use Rattle.vx_document.specs.Look.{name_at, text_at, each_in, some_in, or_default}
-use Rattle.vx_document.specs.Look.{is_some_list}
+use Rattle.vx_values.specs.Lists.{is_some_list}
 use Rattle.vx_document.specs.Fault.{Refusal, too_deep, ◌>>=◌}
 use Rattle.vx_values.specs.Values.{Name}
 use Rattle.vx_document.specs.Document.{AggregateForm, select, project, distinct, sort, BinaryForm, union, join, hash, range, round, broadcast, gather, Tree, unary, binary, exchange}

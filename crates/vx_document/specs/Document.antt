@@ -4,7 +4,7 @@ use Rattle.std.specs.declared.alloc.Global.{Global}
 use Rattle.vx_values.specs.Values.{Name, Val}
 use Rattle.vx_values.specs.ValueView.{val_of, test_of}
 use Rattle.vx_values.specs.Test as comparison
-use Rattle.vx_document.specs.declared.plan.NamedRange.{NamedRange}
+use Rattle.vx_values.specs.Ranges.{RangeForm}
 use Rattle.vx_document.specs.declared.plan.NamedPart.{NamedPart}
 use Rattle.vx_document.specs.declared.plan.NamedPart.TheVariants as part
 use Rattle.vx_document.specs.declared.plan.NamedClaim.{NamedClaim}
@@ -24,11 +24,6 @@ use Rattle.vx_document.specs.declared.plan.NamedKind.{NamedKind}
 use Rattle.vx_document.specs.declared.plan.NamedKind.TheVariants as kind
 use Rattle.vx_document.specs.declared.plan.Node.{Node}
 use Rattle.vx_document.specs.declared.plan.Node.TheVariants as node
-
--- a declared range
-pub record RangeForm : Type 0 where
-  pub name : Name
-  pub bounds : List Val
 
 pub data PartForm : Type 0 where
   one : PartForm
@@ -119,9 +114,6 @@ tree_levels (binary c op t u) = suc (max (tree_levels t) (tree_levels u))
 tree_levels (exchange c k m t) = suc (tree_levels t)
 
 -- ---- the values of the program, without where they lie in memory
-
-abbrev pub range_form : NamedRange → RangeForm
-range_form r = record { name = string_bytes r.name; bounds = map val_of r.bounds.items }
 
 abbrev pub part_form : NamedPart → PartForm
 part_form part.One = one

@@ -2,9 +2,10 @@
 use Rattle.std.specs.Prelude.{Bool, true, ◌&&◌, ◌||◌, List, Option, Some, None}
 use Rattle.std.specs.List.{list_all}
 use Rattle.vx_values.specs.Types.{is_held}
-use Rattle.vx_document.specs.Look.{is_some_list}
+use Rattle.vx_values.specs.Lists.{is_some_list}
 use Rattle.vx_values.specs.Values.{Name}
-use Rattle.vx_document.specs.Document.{RangeForm, PartForm, one, any, all, hash_part, range_part, ClaimForm, SideForm, column, constant, ConditionForm, OutputForm, FunctionForm, least, greatest, sum, count_rows, AggregateForm, ScanForm, UnaryForm, select, project, distinct, sort, group, BinaryForm, union, join, KindForm, hash, range, round, broadcast, gather, Tree, scan, unary, binary, exchange}
+use Rattle.vx_document.specs.Document.{PartForm, one, any, all, hash_part, range_part, ClaimForm, SideForm, column, constant, ConditionForm, OutputForm, FunctionForm, least, greatest, sum, count_rows, AggregateForm, ScanForm, UnaryForm, select, project, distinct, sort, group, BinaryForm, union, join, KindForm, hash, range, round, broadcast, gather, Tree, scan, unary, binary, exchange}
+use Rattle.vx_values.specs.Ranges.{RangeForm}
 
 abbrev pub are_names : List Name → Bool
 are_names names = list_all is_some_list names

@@ -1,16 +1,11 @@
 -- Looking into a JSON value: names and texts in members, constants, and lists of values of one form.
-use Rattle.std.specs.Prelude.{ℕ, List, [], ◌∷◌, Bool, true, false, Option, Some, None, option_map, option_and_then, if◌then◌else◌}
+use Rattle.std.specs.Prelude.{ℕ, List, [], Option, Some, None, option_map, option_and_then, if◌then◌else◌}
 use Rattle.serde_json.specs.Data.{Data}
 use Rattle.serde_json.specs.Find.{get, as_str, as_number, as_i64}
 use Rattle.vx_json.specs.Look.{as_list, some_entry, name_in, each_onto}
 pub use Rattle.vx_json.specs.Look.{or_default}
 use Rattle.vx_values.specs.Values.{Val, num, text}
 use Rattle.vx_values.specs.Types.{is_held}
-
--- the list has an entry
-abbrev pub is_some_list : {X : Type 0} → List X → Bool
-is_some_list [] = false
-is_some_list (x ∷ xs) = true
 
 -- the name in a member
 unfoldable pub name_at : List ℕ → Data → Option (List ℕ)

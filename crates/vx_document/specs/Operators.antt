@@ -1,5 +1,5 @@
 -- Which operator a JSON object is, by its own members.
-use Rattle.std.specs.Prelude.{ℕ, List, [], ◌∷◌, Bool, true, false, Option, Some, None, option_map, option_and_then, bytes_eq, codes, if◌then◌else◌}
+use Rattle.std.specs.Prelude.{ℕ, List, [], ◌∷◌, Bool, true, false, Option, Some, None, option_map, option_and_then, bytes_eq, codes, if◌then◌else◌, map, string_bytes}
 use Rattle.serde_json.specs.Data.{Data}
 use Rattle.serde_json.specs.Find.{get, as_str}
 use Rattle.serde_json.specs.View.{view}
@@ -10,7 +10,6 @@ use Rattle.vx_document.specs.Document.{ClaimForm, ScanForm, OutputForm, Aggregat
 use Rattle.vx_document.specs.Form.{names_in, some_names_in, claimed, condition_in, output_in, aggregate_in, pair_in}
 use Rattle.vx_document.specs.declared.operators.Own.{Own}
 use Rattle.vx_document.specs.declared.operators.Own.TheVariants as own
-use Rattle.std.specs.Prelude.{map, string_bytes}
 
 infixl 10 ◌>>=◌
 abbrev ◌>>=◌ : {A B : Type 0} → Option A → (A → Option B) → Option B

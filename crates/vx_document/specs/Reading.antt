@@ -10,7 +10,8 @@ use Rattle.vx_document.specs.Look.{name_at, value_in, each_in, or_default}
 use Rattle.vx_document.specs.declared.reading.Header.{Header}
 use Rattle.serde_json.specs.View.{view}
 use Rattle.vx_values.specs.Values.{Name}
-use Rattle.vx_document.specs.Document.{range_form, RangeForm, Tree, scan, unary, binary, exchange, Document}
+use Rattle.vx_document.specs.Document.{Tree, scan, unary, binary, exchange, Document}
+use Rattle.vx_values.specs.Ranges.{range_form, RangeForm}
 use Rattle.vx_document.specs.Form.{names_in}
 use Rattle.vx_document.specs.Operators.{OwnForm, own_scan, own_unary, own_binary, own_exchange, own_in}
 

@@ -5,7 +5,8 @@ use Rattle.serde_json.specs.Find.{of_integer}
 use Rattle.serde_json.specs.View.{items_of}
 use Rattle.vx_values.specs.Values.{Val, num, text, Name}
 use Rattle.vx_values.specs.Test as comparison
-use Rattle.vx_document.specs.Document.{RangeForm, PartForm, one, any, all, hash_part, range_part, ClaimForm, SideForm, column, constant, ConditionForm, OutputForm, FunctionForm, least, greatest, sum, count_rows, AggregateForm, ScanForm, UnaryForm, select, project, distinct, sort, group, BinaryForm, union, join, KindForm, hash, range, round, broadcast, gather, Tree, scan, unary, binary, exchange, Document}
+use Rattle.vx_document.specs.Document.{PartForm, one, any, all, hash_part, range_part, ClaimForm, SideForm, column, constant, ConditionForm, OutputForm, FunctionForm, least, greatest, sum, count_rows, AggregateForm, ScanForm, UnaryForm, select, project, distinct, sort, group, BinaryForm, union, join, KindForm, hash, range, round, broadcast, gather, Tree, scan, unary, binary, exchange, Document}
+use Rattle.vx_values.specs.Ranges.{RangeForm}
 
 abbrev pub list_json : {X : Type 0} → (X → Data) → List X → Data
 list_json json xs = array (items_of (map json xs))

@@ -2,13 +2,15 @@
 
 ghost use Rattle.std.specs.Prelude.{◌≡◌, ◌≤◌, true, map, string_bytes};
 ghost use Rattle.vx_document.specs.Formed.{is_tree_form, is_head_form};
-ghost use Rattle.vx_document.specs.Document.{tree_of, tree_nodes, tree_levels, range_form};
+ghost use Rattle.vx_document.specs.Document.{tree_of, tree_nodes, tree_levels};
+ghost use Rattle.vx_values.specs.Ranges.{range_form};
 
 use crate::fault::PlanFault;
-use crate::plan::{NamedRange, Node};
+use crate::plan::Node;
 use crate::reading::{document_in, text_in};
 use serde_json::Value as Json;
 use std::alloc::Global;
+use vx_values::NamedRange;
 
 /// A plan that was read, with names in place of positions. It has at most 1,000 nodes, 64 below one another, and no name in
 /// it is empty.

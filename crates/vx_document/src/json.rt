@@ -5,7 +5,8 @@ ghost use Rattle.serde_json.specs.Data.{string, put};
 ghost use Rattle.serde_json.specs.View.{view, members_view};
 ghost use Rattle.serde_json.specs.Written.{compact_text};
 ghost use Rattle.vx_values.specs.ValueView.{val_of};
-ghost use Rattle.vx_document.specs.Document.{hash_part, range_part, range_form, part_form, claim_form, side_form, condition_form, output_form, function_form, aggregate_form, scan_form, unary_form, pair_form, binary_form, kind_form, tree_of};
+ghost use Rattle.vx_document.specs.Document.{hash_part, range_part, part_form, claim_form, side_form, condition_form, output_form, function_form, aggregate_form, scan_form, unary_form, pair_form, binary_form, kind_form, tree_of};
+ghost use Rattle.vx_values.specs.Ranges.{range_form};
 ghost use Rattle.vx_document.specs.PlanView.{document_of};
 ghost use Rattle.vx_document.specs.Reading.{document_of_text};
 ghost use Rattle.vx_document.specs.Written.{names_json, list_json, value_json, with_some, with_text, range_json, part_json, with_part, claim_members, with_object, with_claim, with_side, condition_json, output_json, with_function, with_call, aggregate_json, pair_json, with_some_text, with_scan, with_unary, with_join, with_binary, with_kind, scan_json, unary_json, binary_json, exchange_json, node_json, with_total, document_json};
@@ -13,11 +14,11 @@ ghost use Rattle.vx_document.specs.Written.{names_json, list_json, value_json, w
 use crate::document::Plan;
 use crate::plan::{
     NamedAggregate, NamedBinary, NamedClaim, NamedCondition, NamedFunction, NamedKind, NamedOutput,
-    NamedPart, NamedRange, NamedScan, NamedSide, NamedUnary, Node,
+    NamedPart, NamedScan, NamedSide, NamedUnary, Node,
 };
 use serde_json::{Map, Value as Json, put};
 use std::alloc::{AllocError, Global};
-use vx_values::Value;
+use vx_values::{NamedRange, Value};
 
 type Members = Map<String, Json>;
 

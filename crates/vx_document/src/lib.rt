@@ -16,6 +16,6 @@ pub use fault::PlanFault;
 pub use json::to_json;
 pub use plan::{
     NamedAggregate, NamedBinary, NamedClaim, NamedCondition, NamedFunction, NamedKind, NamedOutput,
-    NamedPart, NamedRange, NamedScan, NamedSide, NamedUnary, Node,
+    NamedPart, NamedScan, NamedSide, NamedUnary, Node,
 };
-pub use vx_values::Test;
+pub use vx_values::{NamedRange, Test};

@@ -5,17 +5,18 @@ ghost use Rattle.serde_json.specs.View.{view};
 ghost use Rattle.vx_values.specs.ValueView.{val_of};
 ghost use Rattle.vx_json.specs.Look.{Reads, each_onto};
 ghost use Rattle.vx_document.specs.Look.{value_in};
-ghost use Rattle.vx_document.specs.Document.{condition_form, output_form, aggregate_form, pair_form, range_form};
+ghost use Rattle.vx_document.specs.Document.{condition_form, output_form, aggregate_form, pair_form};
+ghost use Rattle.vx_values.specs.Ranges.{range_form};
 ghost use Rattle.vx_document.specs.Form.{names_in, condition_in, output_in, aggregate_in, pair_in};
 ghost use Rattle.vx_document.specs.Reading.{declared_in};
 
 use crate::forms::{aggregate_in, condition_in, names_in, output_in, pair_in};
 use crate::look::value_in;
-use crate::plan::{NamedAggregate, NamedCondition, NamedOutput, NamedRange};
+use crate::plan::{NamedAggregate, NamedCondition, NamedOutput};
 use crate::reading::declared_in;
 use serde_json::Value as Json;
 use std::alloc::{AllocError, Global};
-use vx_values::Value;
+use vx_values::{NamedRange, Value};
 
 /// Each of the values, as a list of names.
 #[tactic(auto, using(vx_json::proofs::EachFacts::each_steps))]

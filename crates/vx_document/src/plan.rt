@@ -2,13 +2,6 @@
 
 use vx_values::{Test, Value};
 
-/// A declared range: a route by its bounds goes up by one at each bound that is not above the value.
-#[derive(Debug, Drop)]
-pub struct NamedRange {
-    pub name: String,
-    pub bounds: Vec<Value>,
-}
-
 /// How rows lie on workers, as a note claims it.
 #[derive(Debug, Drop)]
 pub enum NamedPart {

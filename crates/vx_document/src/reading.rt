@@ -7,7 +7,8 @@ ghost use Rattle.vx_json.specs.Look.{Reads};
 ghost use Rattle.vx_document.specs.Fault.{Gives};
 ghost use Rattle.vx_document.specs.Look.{or_default, each_in, value_in};
 ghost use Rattle.vx_values.specs.ValueView.{val_of};
-ghost use Rattle.vx_document.specs.Document.{tree_of, range_form};
+ghost use Rattle.vx_document.specs.Document.{tree_of};
+ghost use Rattle.vx_values.specs.Ranges.{range_form};
 ghost use Rattle.vx_document.specs.Form.{names_in};
 ghost use Rattle.vx_document.specs.Reading.{node_in, declared_in, head_in, head_form, document_in, document_of_text};
 ghost use Rattle.vx_document.specs.PlanView.{document_of};
@@ -18,11 +19,11 @@ use crate::forms::names_in;
 use crate::lists::{ranges_of, values_of};
 use crate::look::name_at;
 use crate::operators::{Own, own_in};
-use crate::plan::{NamedRange, Node};
+use crate::plan::Node;
 use serde_json::Value as Json;
 use std::alloc::{AllocError, Global};
 use vx_json::{has_only, items};
-use vx_values::Value;
+use vx_values::{NamedRange, Value};
 
 const MAX_NODES: u32 = 1000;
 

@@ -1,7 +1,7 @@
 -- What a plan that can be run is made of.
 use Rattle.std.proofs.Common.{◌≡◌, ℕ, true, false, List, [], ◌∷◌, refl, sym, true≢false}
 use Rattle.vx_nodes.specs.Plan.{Plan, Claim, Kind, exchange, gather, route_to, round, broadcast}
-use Rattle.vx_exec.specs.Sizes.{can_run}
+use Rattle.vx_setup.specs.Runnable.{can_run}
 
 no : {A : Type 0} → false ≡ true → A
 no e = absurd (true≢false (sym e))

@@ -5,14 +5,14 @@ use Rattle.std.specs.List.{All, slice_index_or}
 use Rattle.vx_values.specs.Values.{Row}
 use Rattle.vx_values.specs.declared.value.ColType.{ColType}
 use Rattle.vx_catalog.specs.Database.{Database, rows_at, MeetsAll}
-use Rattle.vx_catalog.specs.Catalog.{relation_at}
-use Rattle.vx_catalog.specs.Relation.{Relation, Meets}
+use Rattle.vx_relations.specs.Catalog.{relation_at}
+use Rattle.vx_relations.specs.Relation.{Relation, Meets}
 use Rattle.vx_nodes.specs.Outline.{plan_in}
 use Rattle.vx_nodes.specs.Plan.{Plan}
-use Rattle.vx_plan.specs.Resolve.{Resolved}
-use Rattle.vx_plan.specs.TypedView.{scope, plan, resolved_of}
+use Rattle.vx_typed.specs.Names.{Resolved}
+use Rattle.vx_typed.specs.TypedView.{scope, plan, resolved_of}
 use Rattle.vx_nodes.specs.Types.{types_of}
-use Rattle.vx_check.specs.Checked.{relations, is_allowed, is_root_allowed}
+use Rattle.vx_rules.specs.Checked.{relations, is_allowed, is_root_allowed}
 use Rattle.vx_ops.specs.declared.fault.Code.TheVariants.{Overflow, NoMemory, Unsorted, Stranger}
 use Rattle.vx_ops.specs.declared.fault.Fault.{Fault}
 use Rattle.vx_ops.specs.declared.fault.Fault.TheVariants.{Own, Passed}
@@ -42,7 +42,7 @@ use Rattle.vx_exec.specs.Sizes.{IsWithin, group_at}
 use Rattle.vx_exec.specs.Job.{setting_of}
 use Rattle.vx_exec.specs.Runs.{IfDone, ComesTo, IsRunOf, fault_told, IsTrueOf, IsFirstTold}
 use Rattle.vx_exec.specs.Making.{board_of}
-use Rattle.vx_exec.specs.declared.fault.RunFault.{RunFault}
+use Rattle.vx_setup.specs.declared.fault.RunFault.{RunFault}
 use Rattle.vx_exec.specs.declared.crew.Crew.{Crew}
 use Rattle.vx_exec.specs.declared.job.Job.{Job}
 use Rattle.vx_exec.specs.declared.ran.Ran.{Ran}

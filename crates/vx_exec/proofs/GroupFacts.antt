@@ -3,7 +3,8 @@ use Rattle.std.proofs.Common.{◌≡◌, ℕ, Bool, true, false, not, cond, List
 use Rattle.std.specs.List.{All}
 use Rattle.std.proofs.lemmas.List.Elements.{All-nil, All-cons}
 use Rattle.vx_exec.specs.Sizes.{IsWithin}
-use Rattle.vx_exec.specs.Setup.{SetupRefusal, Entry, is_within, no_name, tested, workers_named, groups_named, first_out_of_range}
+use Rattle.vx_exec.specs.Setup.{SetupRefusal, no_name, tested}
+use Rattle.vx_setup.specs.Setup.{Entry, is_within, workers_named, groups_named, first_out_of_range}
 
 -- where no name is refused, none was found
 pub none_found : (refusal : List ℕ → SetupRefusal) (name : Option (List ℕ)) → no_name refusal name ≡ Ok tt → name ≡ None

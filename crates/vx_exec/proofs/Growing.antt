@@ -6,7 +6,7 @@ use Rattle.vx_values.specs.Values.{Row}
 use Rattle.vx_nodes.specs.Plan.{Plan, Claim, Unary, Kind, Size, scan, unary, exchange, size, gather}
 use Rattle.vx_nodes.specs.Numbering.{is_numbered}
 use Rattle.vx_nodes.specs.Streams.{workers}
-use Rattle.vx_plan.specs.TypedView.{plan}
+use Rattle.vx_typed.specs.TypedView.{plan}
 use Rattle.vx_ports.specs.Line.{Line}
 use Rattle.vx_exchange.specs.Sending.{RoutesAs}
 use Rattle.vx_worker.specs.Fragment.{Setting, goes}
@@ -24,7 +24,7 @@ use Rattle.vx_steps.specs.Ready.{Ready}
 use Rattle.vx_steps.specs.declared.station.Station.{Station}
 use Rattle.vx_steps.specs.declared.station.Station.TheVariants.{Inner, Exchange}
 use Rattle.vx_steps.proofs.Adding.{adds-scan, adds-unary, adds-exchange, crew-made}
-use Rattle.vx_exec.specs.Sizes.{can_run}
+use Rattle.vx_setup.specs.Runnable.{can_run}
 use Rattle.vx_exec.specs.Job.{setting_of}
 use Rattle.vx_exec.specs.Crew.{duty, IsNew}
 use Rattle.vx_exec.specs.Making.{made_of, board_of}

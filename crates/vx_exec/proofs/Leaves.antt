@@ -2,7 +2,7 @@
 use Rattle.std.proofs.Common.{◌≡◌, ℕ, suc, ◌+◌, ◌<◌, ◌≤◌, ◌==◌, ◌&&◌, true, cond, List, refl, sym, ap, ◌∙◌, arith, eqb-true, eq-eqb, ne_eqb}
 use Rattle.std.proofs.lemmas.Bool.{le-ltb, lt-ltb}
 use Rattle.vx_values.specs.declared.value.ColType.{ColType}
-use Rattle.vx_catalog.specs.Relation.{Relation}
+use Rattle.vx_relations.specs.Relation.{Relation}
 use Rattle.vx_nodes.specs.Plan.{Plan, scan, unary, binary, exchange, number}
 use Rattle.vx_nodes.specs.Types.{types_of}
 use Rattle.vx_nodes.specs.Numbering.{nodes, is_numbered}

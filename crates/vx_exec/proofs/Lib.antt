@@ -7,6 +7,4 @@ pub mod Workers
 pub mod Growing
 pub mod Outcomes
 pub mod Finishing
-pub mod FindFacts
-pub mod NumberFacts
 pub mod GroupFacts

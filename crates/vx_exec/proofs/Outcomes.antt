@@ -3,14 +3,15 @@ use Rattle.std.proofs.Common.{◌≡◌, ◌⊎◌, ℕ, ◌<◌, List, Ok, Err,
 use Rattle.std.specs.List.{All}
 use Rattle.std.specs.Result.{IsErrAnd}
 use Rattle.vx_catalog.specs.Database.{Database}
-use Rattle.vx_plan.specs.TypedView.{resolved_of}
-use Rattle.vx_plan.specs.declared.typed_plan.TypedPlan.{TypedPlan}
+use Rattle.vx_typed.specs.TypedView.{resolved_of}
+use Rattle.vx_typed.specs.declared.typed_plan.TypedPlan.{TypedPlan}
 use Rattle.vx_exec.specs.Sizes.{Sizes}
-use Rattle.vx_exec.specs.Setup.{SetupForm, SetupRefusal}
+use Rattle.vx_exec.specs.Setup.{SetupRefusal}
+use Rattle.vx_setup.specs.Setup.{SetupForm}
 use Rattle.vx_exec.specs.Job.{sizes_of}
 use Rattle.vx_exec.specs.Runs.{NamesFirst, IsSetUp}
-use Rattle.vx_exec.specs.declared.fault.RunFault.{RunFault}
-use Rattle.vx_exec.specs.declared.fault.RunFault.TheVariants as fault
+use Rattle.vx_setup.specs.declared.fault.RunFault.{RunFault}
+use Rattle.vx_setup.specs.declared.fault.RunFault.TheVariants as fault
 use Rattle.vx_exec.specs.declared.job.Job.{Job}
 use Rattle.vx_exec.specs.declared.ran.Ran.{Ran}
 

@@ -5,7 +5,7 @@ use Rattle.vx_values.specs.declared.value.ColType.{ColType}
 use Rattle.vx_nodes.specs.Plan.{Plan, gather}
 use Rattle.vx_nodes.specs.Routes.{Router}
 use Rattle.vx_nodes.specs.Types.{types_of}
-use Rattle.vx_check.specs.Checked.{relations}
+use Rattle.vx_rules.specs.Checked.{relations}
 use Rattle.vx_ops.specs.Ledger.{fresh}
 use Rattle.vx_exchange.specs.Tasks.{Post, sends_by_ship, keeps}
 use Rattle.vx_exchange.specs.Sending.{RoutesAs}

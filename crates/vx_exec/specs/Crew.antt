@@ -6,7 +6,7 @@ use Rattle.vx_nodes.specs.Plan.{Plan}
 use Rattle.vx_nodes.specs.Routes.{Router}
 use Rattle.vx_nodes.specs.Types.{types_of}
 use Rattle.vx_nodes.specs.Numbering.{is_numbered, nodes}
-use Rattle.vx_check.specs.Checked.{relations}
+use Rattle.vx_rules.specs.Checked.{relations}
 use Rattle.vx_ops.specs.Ledger.{fresh}
 use Rattle.vx_exchange.specs.Sending.{RoutesAs}
 use Rattle.vx_worker.specs.Fragment.{fragment, goes}

@@ -3,17 +3,16 @@ use Rattle.std.specs.Prelude.{ℕ, ◌≡◌, ◌≢◌, ◌<◌, ◌⊎◌, Lis
 use Rattle.std.specs.List.{All, slice_index_or}
 use Rattle.vx_values.specs.Values.{Row}
 use Rattle.vx_rows.specs.View.{Table}
-use Rattle.vx_catalog.specs.Catalog.{relation_at}
+use Rattle.vx_relations.specs.Catalog.{relation_at}
 use Rattle.vx_catalog.specs.Database.{Database, rows_at}
-use Rattle.vx_plan.specs.Lookup.{scope_of}
+use Rattle.vx_typed.specs.Names.{scope_of, Resolved}
 use Rattle.vx_nodes.specs.Outline.{plan_in}
 use Rattle.vx_nodes.specs.Plan.{Plan}
-use Rattle.vx_plan.specs.Resolve.{Resolved}
 use Rattle.vx_nodes.specs.Routes.{sends_by}
 use Rattle.vx_nodes.specs.Runs.{Runs}
-use Rattle.vx_plan.specs.Typed.{bounds_at}
+use Rattle.vx_typed.specs.Typed.{bounds_at}
 use Rattle.vx_nodes.specs.Types.{types_of}
-use Rattle.vx_check.specs.Claims.{Delivers}
+use Rattle.vx_rules.specs.Claims.{Delivers}
 use Rattle.vx_laws.specs.Faults.{IsReal}
 use Rattle.vx_ops.specs.declared.fault.Code.TheVariants.{Overflow, NoMemory, Unsorted, Stranger}
 use Rattle.vx_ops.specs.declared.fault.Fault.{Fault}
@@ -31,9 +30,10 @@ use Rattle.vx_steps.specs.Schedules.{IsBadStep}
 use Rattle.vx_steps.specs.declared.verdict.Verdict.{Verdict}
 use Rattle.vx_steps.specs.declared.verdict.Verdict.TheVariants as verdict
 use Rattle.vx_exec.specs.Sizes.{Sizes, group_at}
-use Rattle.vx_exec.specs.Setup.{SetupForm, sizes_set, Fails}
-use Rattle.vx_exec.specs.declared.fault.RunFault.{RunFault}
-use Rattle.vx_exec.specs.declared.fault.RunFault.TheVariants as fault
+use Rattle.vx_exec.specs.Setup.{sizes_set, Fails}
+use Rattle.vx_setup.specs.Setup.{SetupForm}
+use Rattle.vx_setup.specs.declared.fault.RunFault.{RunFault}
+use Rattle.vx_setup.specs.declared.fault.RunFault.TheVariants as fault
 use Rattle.vx_exec.specs.declared.ran.Ran.{Ran}
 use Rattle.vx_exec.specs.declared.ran.Ran.TheVariants as ran
 

@@ -1,38 +1,11 @@
 -- What a run's setup comes to: the sizes of its run, or the first thing that is wrong with it.
-use Rattle.std.specs.Prelude.{ℕ, ◌≡◌, ◌&&◌, Bool, not, nat_le, if◌then◌else◌, List, map, Option, Some, None, option_map, unwrap_or, is_none, Result, Ok, Err, ⊤, bytes_eq, String, string_bytes, ◌⊎◌}
-use Rattle.std.specs.List.{find}
-use Rattle.std.specs.declared.alloc.Global.{Global}
+use Rattle.std.specs.Prelude.{ℕ, ◌≡◌, Bool, nat_le, if◌then◌else◌, List, Option, Some, None, Result, Ok, Err, ⊤, string_bytes, ◌⊎◌}
 use Rattle.vx_nodes.specs.Plan.{Plan}
 use Rattle.vx_steps.specs.Roles.{crew_size}
+use Rattle.vx_setup.specs.Setup.{SetupForm, is_within, groups_named, first_missing, first_out_of_range}
 use Rattle.vx_exec.specs.Sizes.{Sizes, group_at}
-use Rattle.vx_exec.specs.declared.fault.RunFault.{RunFault}
-use Rattle.vx_exec.specs.declared.fault.RunFault.TheVariants as fault
-
--- a size name with its number of workers
-abbrev pub Entry : Type 0
-Entry = List ℕ × ℕ
-
-abbrev pub entry_of : String Global × ℕ → Entry
-entry_of e = (string_bytes e.0, e.1)
-
--- how a run is set up: the workers of size names, the rows of a packet and of a morsel, and by how many packets a producer may run ahead
-pub record SetupForm : Type 0 where
-  pub sizes : List Entry
-  pub packet : ℕ
-  pub morsel : ℕ
-  pub slack : ℕ
-
--- the number that the first entry of a name has
-abbrev pub number_of : List Entry → List ℕ → Option ℕ
-number_of entries name = option_map (λ e. e.1) (find (λ e. bytes_eq e.0 name) entries)
-
--- the workers of a name; without an entry none
-abbrev pub workers_named : List Entry → List ℕ → ℕ
-workers_named entries name = unwrap_or (number_of entries name) 0
-
--- the workers of each of these names
-abbrev pub groups_named : List Entry → List (List ℕ) → List ℕ
-groups_named entries names = map (workers_named entries) names
+use Rattle.vx_setup.specs.declared.fault.RunFault.{RunFault}
+use Rattle.vx_setup.specs.declared.fault.RunFault.TheVariants as fault
 
 -- why a plan is not run by a setup, by a size name or by a number of workers
 pub data SetupRefusal : Type 0 where
@@ -58,18 +31,6 @@ tested b refusal = if b then Ok tt else Err refusal
 abbrev pub no_name : (List ℕ → SetupRefusal) → Option (List ℕ) → Result ⊤ SetupRefusal
 no_name refusal None = Ok tt
 no_name refusal (Some name) = Err (refusal name)
-
--- a number from 1 to this one
-abbrev pub is_within : (most n : ℕ) → Bool
-is_within most n = nat_le 1 n && nat_le n most
-
--- the first name without an entry
-abbrev pub first_missing : List Entry → List (List ℕ) → Option (List ℕ)
-first_missing entries names = find (λ name. is_none (number_of entries name)) names
-
--- the first name whose number is not 1 to 64
-abbrev pub first_out_of_range : List Entry → List (List ℕ) → Option (List ℕ)
-first_out_of_range entries names = find (λ name. not (is_within 64 (workers_named entries name))) names
 
 -- a plan with at most 256 workers
 abbrev pub few_workers : List ℕ → Plan → Result ⊤ SetupRefusal

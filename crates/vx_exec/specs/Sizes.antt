@@ -1,14 +1,13 @@
 -- The sizes of a run, within their limits, and the setting that they make of a plan and a database.
-use Rattle.std.specs.Prelude.{ℕ, ◌≤◌, Bool, true, false, List, []}
+use Rattle.std.specs.Prelude.{ℕ, ◌≤◌, List}
 use Rattle.std.specs.List.{All, slice_index_or}
 use Rattle.vx_values.specs.Values.{Row}
 use Rattle.vx_catalog.specs.Database.{Database, rows_at}
-use Rattle.vx_nodes.specs.Plan.{Plan, scan, unary, binary, exchange, select, gather}
 use Rattle.vx_nodes.specs.Numbering.{relation_in}
-use Rattle.vx_plan.specs.Typed.{bounds_at}
-use Rattle.vx_plan.specs.TypedView.{scope, plan}
-use Rattle.vx_plan.specs.declared.typed_plan.TypedPlan.{TypedPlan}
-use Rattle.vx_check.specs.Checked.{relations}
+use Rattle.vx_typed.specs.Typed.{bounds_at}
+use Rattle.vx_typed.specs.TypedView.{scope, plan}
+use Rattle.vx_typed.specs.declared.typed_plan.TypedPlan.{TypedPlan}
+use Rattle.vx_rules.specs.Checked.{relations}
 use Rattle.vx_worker.specs.Fragment.{Setting}
 
 -- the workers of each size name by its number, the rows of a packet and those of a morsel
@@ -43,12 +42,3 @@ setting hash p db s = record {
   packet = s.packet;
   morsel = s.morsel;
 }
-
--- the operators that workers run so far: scans, selections, and gathers that do not merge
-abbrev pub can_run : Plan → Bool
-can_run (scan n c r m z) = true
-can_run (unary n c (select cs) p) = can_run p
-can_run (unary n c _ p) = false
-can_run (binary n c op p q) = false
-can_run (exchange n c gather [] p) = can_run p
-can_run (exchange n c _ _ p) = false

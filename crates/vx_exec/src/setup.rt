@@ -1,26 +1,24 @@
-//! How a run is set up, and the tests of that before its first step.
+//! The tests of a run's setup, before its first step.
 
-ghost use Rattle.std.specs.Prelude.{◌≡◌, ◌+◌, ◌*◌, ◌≤◌, map, not, option_map, is_none, string_bytes, bytes_eq, IfOk, IfErr};
-ghost use Rattle.std.specs.List.{All, find};
+ghost use Rattle.std.specs.Prelude.{◌≡◌, ◌+◌, ◌*◌, ◌≤◌, map, string_bytes, IfOk, IfErr};
+ghost use Rattle.std.specs.List.{All};
 ghost use Rattle.vx_nodes.specs.Numbering.{nodes};
 ghost use Rattle.vx_nodes.specs.Outline.{plan_of};
-ghost use Rattle.vx_plan.specs.TypedView.{names_in, scope, resolved_of, plan as plan_of_typed};
+ghost use Rattle.vx_typed.specs.TypedView.{names_in, scope, resolved_of, plan as plan_of_typed};
 ghost use Rattle.vx_laws.specs.Layout.{workers_below};
 ghost use Rattle.vx_steps.specs.Roles.{crew_size};
 ghost use Rattle.vx_exec.specs.Sizes.{IsWithin, Sizes, group_at};
 ghost use Rattle.vx_exec.specs.Job.{sizes_of};
-ghost use Rattle.vx_exec.specs.Setup.{entry_of, number_of, workers_named, groups_named, first_missing, first_out_of_range, is_within, tested, no_name, few_workers, size_missing, size_out_of_range, refusal_of, sizes_set, Gives};
+ghost use Rattle.vx_setup.specs.Setup.{first_missing, first_out_of_range};
+ghost use Rattle.vx_exec.specs.Setup.{tested, no_name, few_workers, size_missing, size_out_of_range, refusal_of, sizes_set, Gives};
 ghost use Rattle.vx_exec.specs.Runs.{IsSetUp, RunFails};
 
-use crate::fault::RunFault;
 use crate::job::{Job, workers_of};
 use std::alloc::{AllocError, Global};
-use std::marker::Model;
 use vx_catalog::Database;
-use vx_plan::{TypedNode, TypedPlan};
-
-// The most workers of a group.
-const MOST_IN_GROUP: u32 = 64;
+use vx_nodes::TypedNode;
+use vx_setup::{RunFault, Setup, is_within};
+use vx_typed::TypedPlan;
 
 // The most rows of a packet.
 const MOST_IN_PACKET: u32 = 4096;
@@ -33,110 +31,6 @@ const MOST_SLACK: u32 = 1024;
 
 // The most workers of a plan.
 const MOST_WORKERS: u32 = 256;
-
-/// How a run is set up: the workers of size names, the rows of a packet and of a morsel, and by how many packets a
-/// producer may run ahead, the slack. Names that the plan does not declare are ignored; of several entries of a name
-/// the first counts.
-#[derive(Debug, Drop)]
-pub struct Setup {
-    sizes: Vec<(String, u32)>,
-    packet: u32,
-    morsel: u32,
-    slack: u32,
-}
-
-impl Model for Setup {
-    ghost use Rattle.std.specs.Prelude.{map};
-    ghost use Rattle.vx_exec.specs.Setup.{SetupForm, entry_of};
-
-    ghost Value = { SetupForm };
-
-    ghost view = { λ s. record { sizes = map entry_of s.sizes.items; packet = s.packet; morsel = s.morsel; slack = s.slack } };
-}
-
-// The first entry of a name.
-fn find_entry<'e>(entries: &'e [(String, u32)], name: &str) -> Option<&'e (String, u32)>
-    ensures { option_map (λ e. e.now) result ≡ find (λ e. bytes_eq (string_bytes e.0) name.now) entries.now }
-{
-    entries.iter().find(|entry| entry.0.as_str() == name)
-}
-
-impl Setup {
-    /// A setup of its parts. Nothing is tested yet.
-    pub fn new(sizes: Vec<(String, u32)>, packet: u32, morsel: u32, slack: u32) -> Setup
-        ensures { result ≡ record { sizes = map entry_of sizes.items; packet = packet; morsel = morsel; slack = slack } }
-    {
-        Setup {
-            sizes,
-            packet,
-            morsel,
-            slack,
-        }
-    }
-
-    // The number that the first entry of a name has.
-    fn number(&self, name: &str) -> Option<u32>
-        ensures { result ≡ number_of self.now.sizes name.now }
-    {
-        match find_entry(self.sizes.as_slice(), name) {
-            Some(entry) => Some(entry.1),
-            None => None,
-        }
-    }
-
-    // The workers of a name, 0 where it has no entry.
-    fn workers(&self, name: &str) -> u32
-        ensures { result ≡ workers_named self.now.sizes name.now }
-    {
-        self.number(name).unwrap_or(0)
-    }
-
-    fn find_missing<'n>(&self, names: &'n [String]) -> Option<&'n String>
-        ensures { option_map (λ n. n.now) result ≡ find (λ n. is_none (number_of self.now.sizes (string_bytes n))) names.now }
-    {
-        names
-            .iter()
-            .find(|name| self.number(name.as_str()).is_none())
-    }
-
-    // The first of these names without an entry.
-    fn first_missing<'n>(&self, names: &'n [String]) -> Option<&'n String>
-        ensures { option_map (λ n. string_bytes n.now) result ≡ first_missing self.now.sizes (map string_bytes names.now) }
-    {
-        self.find_missing(names)
-    }
-
-    fn find_out_of_range<'n>(&self, names: &'n [String]) -> Option<&'n String>
-        ensures { option_map (λ n. n.now) result ≡ find (λ n. not (is_within 64 (workers_named self.now.sizes (string_bytes n)))) names.now }
-    {
-        names.iter().find(|name| !is_within(MOST_IN_GROUP, self.workers(name.as_str())))
-    }
-
-    // The first of these names whose number is not 1 to 64.
-    fn first_out_of_range<'n>(&self, names: &'n [String]) -> Option<&'n String>
-        ensures { option_map (λ n. string_bytes n.now) result ≡ first_out_of_range self.now.sizes (map string_bytes names.now) }
-    {
-        self.find_out_of_range(names)
-    }
-
-    // The workers of each of these names.
-    fn groups(&self, alloc: Global, names: &[String]) -> Result<Vec<u32>, AllocError>
-        ensures { IfOk result (λ v. v.items ≡ groups_named self.now.sizes (map string_bytes names.now)) }
-    {
-        let mut groups = Vec::new(alloc);
-        for name in names {
-            groups.push(self.workers(name.as_str()))?;
-        }
-        Ok(groups)
-    }
-}
-
-// Whether a number is from 1 to another.
-fn is_within(most: u32, number: u32) -> bool
-    ensures { result ≡ is_within most number }
-{
-    1 <= number && number <= most
-}
 
 // A fault, if a test failed.
 fn tested(is_right: bool, fault: RunFault) -> Result<(), RunFault>
@@ -221,13 +115,19 @@ fn job_in<'j>(
     let names = plan.sizes();
     missing_tested(alloc, setup, names)?;
     range_tested(alloc, setup, names)?;
-    tested(is_within(MOST_IN_PACKET, setup.packet), RunFault::BadPacket)?;
-    tested(is_within(MOST_IN_MORSEL, setup.morsel), RunFault::BadMorsel)?;
-    tested(is_within(MOST_SLACK, setup.slack), RunFault::BadSlack)?;
+    tested(
+        is_within(MOST_IN_PACKET, setup.packet()),
+        RunFault::BadPacket,
+    )?;
+    tested(
+        is_within(MOST_IN_MORSEL, setup.morsel()),
+        RunFault::BadMorsel,
+    )?;
+    tested(is_within(MOST_SLACK, setup.slack()), RunFault::BadSlack)?;
     let groups = setup.groups(alloc, names)?;
     crew_tested(groups.as_slice(), plan)?;
-    let packet = setup.packet as usize;
-    let morsel = setup.morsel as usize;
+    let packet = setup.packet() as usize;
+    let morsel = setup.morsel() as usize;
     Ok(Job::new(alloc, plan, database, groups, packet, morsel))
 }
 

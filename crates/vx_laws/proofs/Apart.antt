@@ -12,8 +12,8 @@ use Rattle.vx_nodes.specs.Serial.{firsts, group_row, group_fits, of_key, aggrega
 use Rattle.vx_values.specs.Types.{fits_64}
 use Rattle.vx_nodes.specs.Streams.{Streams, joined, across}
 use Rattle.vx_nodes.specs.Routes.{Router}
-use Rattle.vx_check.specs.Rules.{within, contains, numbers_below}
-use Rattle.vx_check.specs.Claims.{InItsStream}
+use Rattle.vx_rules.specs.Rules.{within, contains, numbers_below}
+use Rattle.vx_rules.specs.Claims.{InItsStream}
 use Rattle.vx_laws.proofs.Bags.{and-left, and-right, and-both, when, total-map, total-filter, total-ext, total-zero, total-joined, across-ext, SameRows-all, SameRows-sym}
 use Rattle.vx_laws.proofs.Parts.{list_all-weaken}
 use Rattle.vx_laws.proofs.Keys.{agree-within, agree-at, one-if-mono}

@@ -8,7 +8,7 @@ use Rattle.vx_nodes.specs.Plan.{Size, Route, Kind, route_to, round, broadcast, g
 use Rattle.vx_nodes.specs.Streams.{Streams, joined, Dealt, across}
 use Rattle.vx_nodes.specs.Routes.{Router, Sends}
 use Rattle.vx_nodes.specs.Runs.{Exchanges}
-use Rattle.vx_check.specs.Claims.{InItsStream}
+use Rattle.vx_rules.specs.Claims.{InItsStream}
 use Rattle.vx_laws.proofs.Bags.{and-both, Dealt-total, total-joined, total-filter, total-ext, across-ext, across-swap, across-zero, across-total, across-one, when, against, against-none, none-against}
 use Rattle.vx_laws.proofs.Parts.{InRange}
 use Rattle.vx_laws.proofs.Orders.{Dealt-sorted, Dealt-one, sorted-filter}

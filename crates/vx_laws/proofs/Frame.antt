@@ -5,15 +5,15 @@ use Rattle.vx_values.specs.Values.{Row, pick}
 use Rattle.vx_rows.specs.Order.{agree, sorted, sort_on}
 use Rattle.vx_rows.specs.Bags.{SameRows}
 use Rattle.vx_nodes.specs.Types.{well_formed, names_columns, part_columns, width}
-use Rattle.vx_catalog.specs.Catalog.{all_below}
+use Rattle.vx_relations.specs.Catalog.{all_below}
 use Rattle.vx_nodes.specs.Plan.{Size, Route, Part, one, any, all, routed, Claim, Plan, scan, unary, binary, exchange, claim, size, Unary, select, project, distinct, sort, group, Binary, union, join, Kind, route_to, round, broadcast, gather, target, is_one, size_eq}
-use Rattle.vx_catalog.specs.Relation.{Relation}
+use Rattle.vx_relations.specs.Relation.{Relation}
 use Rattle.vx_nodes.specs.Serial.{passes, firsts, group_keys, group_fits, unary_rows, binary_rows, join_rows, rows, or_overflow, after, serial}
 use Rattle.vx_nodes.specs.Streams.{Streams, joined, workers}
 use Rattle.vx_nodes.specs.Routes.{Router}
 use Rattle.vx_nodes.specs.Runs.{Exchanges, Runs}
-use Rattle.vx_check.specs.Rules.{part_gives, has, through, copied, covers, front, if_some, within, numbers_below, routed_within, allowed, allowed_here, sizes_match, not_replicated, inputs_match, order_given, part_shown, order_shown, keys_shown, keeps_apart, unary_shows, unary_orders, unary_keys, both_have, routed_alike, alike_shows, left_columns, right_columns, join_shows, join_keys, kind_shows}
-use Rattle.vx_check.specs.Claims.{PartHolds, InItsStream, ClaimHolds, Given}
+use Rattle.vx_rules.specs.Rules.{part_gives, has, through, copied, covers, front, if_some, within, numbers_below, routed_within, allowed, allowed_here, sizes_match, not_replicated, inputs_match, order_given, part_shown, order_shown, keys_shown, keeps_apart, unary_shows, unary_orders, unary_keys, both_have, routed_alike, alike_shows, left_columns, right_columns, join_shows, join_keys, kind_shows}
+use Rattle.vx_rules.specs.Claims.{PartHolds, InItsStream, ClaimHolds, Given}
 use Rattle.vx_laws.specs.Sound.{SoundThroughout, Sound, NoOverflow}
 use Rattle.vx_laws.proofs.Erased.{erased-rows}
 use Rattle.vx_laws.proofs.Bags.{SameRows-sym, and-left, and-right, SameRows-refl, SameRows-trans}

@@ -1,10 +1,10 @@
 -- Workers by number, and scans by number.
 use Rattle.std.proofs.Common.{◌≡◌, ℕ, suc, ◌+◌, ◌<◌, ◌≤◌, ◌==◌, ◌&&◌, Bool, true, false, cond, refl, ap, ◌∙◌, arith, eqb-true, eq-eqb}
 use Rattle.std.proofs.lemmas.Bool.{le-ltb, lt-ltb}
-use Rattle.vx_catalog.specs.Relation.{Relation}
+use Rattle.vx_relations.specs.Relation.{Relation}
 use Rattle.vx_nodes.specs.Plan.{Plan, scan, unary, binary, exchange, size, number, size_eq}
 use Rattle.vx_nodes.specs.Streams.{workers}
-use Rattle.vx_check.specs.Rules.{allowed, allowed_here}
+use Rattle.vx_rules.specs.Rules.{allowed, allowed_here}
 use Rattle.vx_worker.specs.Fragment.{Setting}
 use Rattle.vx_worker.specs.Trace.{Trace, IsWell, Ends}
 use Rattle.vx_laws.specs.RunOf.{Known, RunOf}

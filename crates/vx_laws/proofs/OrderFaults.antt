@@ -5,9 +5,9 @@ use Rattle.vx_values.specs.Values.{Row}
 use Rattle.vx_rows.specs.Order.{sorted}
 use Rattle.vx_nodes.specs.Plan.{Size, Kind, target, Unary, select, project, distinct, sort, group, Binary, union, join, Plan, scan, unary, binary, exchange, size, claim, size_eq}
 use Rattle.vx_nodes.specs.Types.{width, well_formed, names_columns, types_of}
-use Rattle.vx_check.specs.Rules.{front, allowed, allowed_here}
+use Rattle.vx_rules.specs.Rules.{front, allowed, allowed_here}
 use Rattle.vx_nodes.specs.Streams.{workers}
-use Rattle.vx_check.specs.Claims.{Given}
+use Rattle.vx_rules.specs.Claims.{Given}
 use Rattle.vx_ports.specs.Packets.{Content, last, fault, Parcel, rows_of}
 use Rattle.vx_ops.specs.Ledger.{Stream, ConsumerEnd, scan_op, one_op, two_op, receive, OwnBlame, IsFor}
 use Rattle.vx_rows.specs.Lists.{IsBeginning}

@@ -7,11 +7,11 @@ use Rattle.vx_rows.specs.Bags.{total, SameRows}
 use Rattle.vx_nodes.specs.Plan.{Size, Kind, target, Claim, Part, one, any, all, routed, Unary, select, project, distinct, sort, group, Binary, union, join, Aggregate, Plan, scan, unary, binary, exchange, size, claim, size_eq}
 use Rattle.vx_nodes.specs.Types.{width, well_formed, names_columns}
 use Rattle.vx_nodes.specs.Serial.{unary_rows, binary_rows, group_rows, Outcome, rows, overflow, or_overflow, after, serial, IsOverflow, IsTooLong, HasTooLong}
-use Rattle.vx_check.specs.Rules.{allowed, allowed_here}
+use Rattle.vx_rules.specs.Rules.{allowed, allowed_here}
 use Rattle.vx_nodes.specs.Streams.{Streams, workers, joined, Dealt}
 use Rattle.vx_nodes.specs.Routes.{Router}
 use Rattle.vx_nodes.specs.Runs.{Runs}
-use Rattle.vx_check.specs.Claims.{Given, PartHolds}
+use Rattle.vx_rules.specs.Claims.{Given, PartHolds}
 use Rattle.vx_ports.specs.Packets.{fault, Parcel, rows_of, closes, is_last, is_closed, has_last, is_empty, is_stream, Flows}
 use Rattle.vx_worker.specs.Morsels.{morsel_of, morsels}
 use Rattle.vx_ops.specs.Ledger.{Stream, one_op, two_op, OwnBlame}

@@ -6,12 +6,12 @@ use Rattle.vx_values.specs.Values.{Row, pick}
 use Rattle.vx_rows.specs.Order.{compare_on, sorted, sort_on}
 use Rattle.vx_nodes.specs.Plan.{Size, Kind, route_to, round, broadcast, gather, target, Claim, Unary, select, project, distinct, sort, group, Binary, union, join, Plan, scan, unary, binary, exchange, size, claim, is_one, size_eq}
 use Rattle.vx_nodes.specs.Types.{width, unary_width, well_formed, names_columns, part_columns}
-use Rattle.vx_catalog.specs.Catalog.{all_below}
+use Rattle.vx_relations.specs.Catalog.{all_below}
 use Rattle.vx_nodes.specs.Serial.{passes, group_keys, group_fits, unary_rows, binary_rows}
-use Rattle.vx_check.specs.Rules.{front, copied, unary_orders, allowed, allowed_here}
+use Rattle.vx_rules.specs.Rules.{front, copied, unary_orders, allowed, allowed_here}
 use Rattle.vx_nodes.specs.Streams.{Streams, workers, bearing, Dealt}
 use Rattle.vx_nodes.specs.Routes.{Router, Sends}
-use Rattle.vx_check.specs.Claims.{Given}
+use Rattle.vx_rules.specs.Claims.{Given}
 use Rattle.vx_ports.specs.Packets.{Parcel, rows_of, Flows}
 use Rattle.vx_worker.specs.Morsels.{morsel_of, morsels}
 use Rattle.vx_ops.specs.Ledger.{Stream}

@@ -9,8 +9,8 @@ use Rattle.vx_rows.specs.Keys.{HasKey}
 use Rattle.vx_nodes.specs.Plan.{claim, size, is_one}
 use Rattle.vx_nodes.specs.Types.{width}
 use Rattle.vx_nodes.specs.Streams.{joined, workers}
-use Rattle.vx_check.specs.Rules.{within, numbers_below, is_total_order}
-use Rattle.vx_catalog.specs.Relation.{KeysHold}
+use Rattle.vx_rules.specs.Rules.{within, numbers_below, is_total_order}
+use Rattle.vx_relations.specs.Relation.{KeysHold}
 use Rattle.vx_laws.specs.Sound.{SoundAtRoot}
 use Rattle.vx_laws.proofs.Bags.{and-left, and-right, and-both, total-add, SameRows-all, SameRows-sym}
 use Rattle.vx_laws.proofs.Parts.{or-cases, from_single, one-worker, list_all-always}

@@ -5,7 +5,7 @@ use Rattle.vx_values.specs.declared.value.ColType.{ColType}
 use Rattle.vx_values.specs.Types.{Fits, type_of}
 use Rattle.vx_values.specs.Values.{Row, pick, row_eq}
 use Rattle.vx_nodes.specs.Plan.{Unary, select, project, distinct, sort, group, union, join, Plan, scan, unary, binary, exchange}
-use Rattle.vx_catalog.specs.Relation.{Relation, Meets}
+use Rattle.vx_relations.specs.Relation.{Relation, Meets}
 use Rattle.vx_nodes.specs.Types.{width, unary_width, well_formed, names_columns}
 use Rattle.vx_nodes.specs.Serial.{passes, firsts, group_keys, group_row, group_fits, of_key, aggregate_of, unary_rows, join_rows, Outcome, rows, overflow, or_overflow, after, serial}
 use Rattle.vx_rows.specs.Order.{sort_on}

@@ -7,7 +7,7 @@ use Rattle.vx_nodes.specs.Plan.{Plan, scan, unary, binary, exchange, size, is_on
 use Rattle.vx_nodes.specs.Types.{well_formed}
 use Rattle.vx_nodes.specs.Serial.{serial, IsOverflow, HasTooLong}
 use Rattle.vx_nodes.specs.Streams.{workers}
-use Rattle.vx_check.specs.Rules.{allowed}
+use Rattle.vx_rules.specs.Rules.{allowed}
 use Rattle.vx_nodes.specs.Erase.{erase}
 use Rattle.vx_worker.specs.Trace.{Trace, failed, Ends}
 use Rattle.vx_exchange.specs.Tasks.{keep}

@@ -3,13 +3,13 @@ use Rattle.std.specs.Prelude.{Bool, List, ◌≡◌, ℕ, ◌+◌, ◌<◌, true
 use Rattle.vx_values.specs.Values.{Row}
 use Rattle.vx_nodes.specs.Types.{well_formed}
 use Rattle.vx_nodes.specs.Runs.{Runs}
-use Rattle.vx_check.specs.Rules.{root_allowed, allowed}
-use Rattle.vx_check.specs.Claims.{Delivers}
+use Rattle.vx_rules.specs.Rules.{root_allowed, allowed}
+use Rattle.vx_rules.specs.Claims.{Delivers}
 use Rattle.vx_worker.specs.Fragment.{goes, IsSet, Setting, fragment}
 use Rattle.vx_worker.specs.Trace.{Trace, IsWell, Ends}
 use Rattle.vx_exchange.specs.Tasks.{keep, send}
 use Rattle.vx_nodes.specs.Plan.{target, Plan, scan, unary, binary, exchange, size}
-use Rattle.vx_catalog.specs.Relation.{Relation}
+use Rattle.vx_relations.specs.Relation.{Relation}
 use Rattle.vx_nodes.specs.Streams.{workers}
 use Rattle.vx_ports.specs.Packets.{Flows}
 use Rattle.vx_worker.specs.Morsels.{Dispatched, morsel_count}

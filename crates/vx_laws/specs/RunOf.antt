@@ -6,8 +6,8 @@ use Rattle.vx_nodes.specs.Plan.{Kind, target, Plan, scan, unary, binary, exchang
 use Rattle.vx_nodes.specs.Types.{well_formed, types_of}
 use Rattle.vx_nodes.specs.Streams.{Streams, workers}
 use Rattle.vx_nodes.specs.Runs.{Runs}
-use Rattle.vx_check.specs.Rules.{allowed, root_allowed}
-use Rattle.vx_check.specs.Claims.{Delivers}
+use Rattle.vx_rules.specs.Rules.{allowed, root_allowed}
+use Rattle.vx_rules.specs.Claims.{Delivers}
 use Rattle.vx_ports.specs.Packets.{Flows}
 use Rattle.vx_worker.specs.Morsels.{Dispatched, morsel_count}
 use Rattle.vx_exchange.specs.Ship.{Ship}

@@ -4,8 +4,8 @@ use Rattle.std.specs.List.{list_all}
 use Rattle.vx_values.specs.declared.value.ColType.{ColType}
 use Rattle.vx_values.specs.declared.value.ColType.TheVariants.{Int}
 use Rattle.vx_values.specs.Types.{type_at}
-use Rattle.vx_catalog.specs.Relation.{Relation}
-use Rattle.vx_catalog.specs.Catalog.{all_below}
+use Rattle.vx_relations.specs.Relation.{Relation}
+use Rattle.vx_relations.specs.Catalog.{all_below}
 use Rattle.vx_nodes.specs.Plan.{Part, routed, Claim, Aggregate, least, greatest, sum, count_rows, Unary, select, project, distinct, sort, group, Binary, union, join, Plan, scan, unary, binary, exchange}
 
 -- a least and a greatest value have the column's type, a sum and a count are numbers

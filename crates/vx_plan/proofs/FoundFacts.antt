@@ -5,12 +5,14 @@ use Rattle.std.specs.List.{list_all}
 use Rattle.std.proofs.lemmas.List.{length_push, map_push}
 use Rattle.std.proofs.lemmas.List.Quantifiers.{position-Some}
 use Rattle.std.proofs.lemmas.Slice.Eq.{bytes_eq-Decides}
-use Rattle.vx_catalog.specs.Catalog.{all_below, are_distinct}
-use Rattle.vx_plan.specs.Typed.{is_some_list, are_columns}
+use Rattle.vx_relations.specs.Catalog.{all_below, are_distinct}
+use Rattle.vx_typed.specs.Typed.{are_columns}
+use Rattle.vx_values.specs.Lists.{is_some_list}
 use Rattle.vx_values.specs.Values.{Name}
 use Rattle.vx_document.specs.Fault.{Refusal}
 use Rattle.vx_plan.specs.Lookup.{walk_onto, column_or, column_found, columns_found, keys_found, once, keys_once}
-use Rattle.vx_document.proofs.Holds.{and-left, and-right, and-both, all_push, Holds, holds_then}
+use Rattle.vx_document.proofs.Holds.{all_push, Holds, holds_then}
+use Rattle.vx_values.proofs.Booleans.{and-left, and-right, and-both}
 use Rattle.vx_plan.proofs.Apart.{apart, once-apart, distinct-columns}
 
 -- the name of a column

@@ -6,4 +6,3 @@ pub mod FoundFacts
 pub mod ClaimFacts
 pub mod ShapeFacts
 pub mod PlanFacts
-pub mod ErasedFacts

@@ -5,21 +5,24 @@ use Rattle.std.specs.List.{list_all}
 use Rattle.std.proofs.lemmas.List.{length-map, length_push, map_push}
 use Rattle.vx_values.specs.declared.value.ColType.{ColType}
 use Rattle.vx_values.specs.Types.{type_at}
-use Rattle.vx_catalog.specs.Catalog.{all_below}
+use Rattle.vx_relations.specs.Catalog.{all_below}
 use Rattle.vx_nodes.specs.declared.typed.Kept.{Kept}
 use Rattle.vx_nodes.specs.Plan.{Aggregate, Condition, Kind, route_to, by_hash, by_range}
 use Rattle.vx_nodes.specs.Plan as plan
 use Rattle.vx_nodes.specs.Types.{unary_types, binary_types, aggregate_type}
-use Rattle.vx_plan.specs.Typed.{is_some_list, are_columns, is_condition, is_aggregate, is_unary, is_pair, are_distinct_pairs, is_binary, types_eq, is_kind, is_size, is_routed}
+use Rattle.vx_typed.specs.Typed.{are_columns, is_condition, is_aggregate, is_unary, is_pair, are_distinct_pairs, is_binary, types_eq, is_kind, is_size, is_routed}
+use Rattle.vx_values.specs.Lists.{is_some_list}
 use Rattle.vx_values.specs.Values.{Name}
 use Rattle.vx_document.specs.Document.{ConditionForm, OutputForm, AggregateForm, UnaryForm, BinaryForm, KindForm}
 use Rattle.vx_document.specs.Document as form
 use Rattle.vx_nodes.specs.Outline.{Columns}
 use Rattle.vx_document.specs.Fault.{Refusal, ◌>>=◌}
-use Rattle.vx_plan.specs.Lookup.{Names, scope_of, walk_onto, column_found, columns_found, once, pairs_once, pair_eq, matched, narrow, size_found, range_found}
+use Rattle.vx_plan.specs.Lookup.{walk_onto, column_found, columns_found, once, pairs_once, pair_eq, matched, narrow, size_found, range_found}
+use Rattle.vx_typed.specs.Names.{Names, scope_of}
 use Rattle.vx_plan.specs.Resolve.{condition_found, conditions_found, select_shape, Shape, output_name, kept_found, all_kept_found, kept_shape, kept_columns, project_shape, distinct_shape, sort_shape, function_found, aggregates_found, group_found, group_tested, group_columns, group_shape, unary_shape, pair_found, pairs_found, join_tested, join_pairs, both_columns, Joint, binary_shape, kind_found, kind_names, kind_fits, exchange_columns, exchange_once, exchange_shape}
 use Rattle.vx_document.specs.Formed.{are_names, are_some_names, is_condition_form, is_output_form, is_aggregate_form, is_unary_form, is_pair_form, is_binary_form, is_kind_form}
-use Rattle.vx_document.proofs.Holds.{and-left, and-right, and-both, all_push, Holds, holds_then}
+use Rattle.vx_document.proofs.Holds.{all_push, Holds, holds_then}
+use Rattle.vx_values.proofs.Booleans.{and-left, and-right, and-both}
 use Rattle.vx_plan.proofs.Apart.{apart, apart-front, once-apart, pairs_once-apart, distinct-pairs}
 use Rattle.vx_plan.proofs.FoundFacts.{name_of, AreColumns, IsColumn, column-found, columns-found, walk-holds, walk-length, once-columns, some-columns}
 use Rattle.vx_plan.proofs.ClaimFacts.{matched-holds, narrow-holds, size-holds, range-holds, hash-routed, range-routed}

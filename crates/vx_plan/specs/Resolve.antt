@@ -3,19 +3,21 @@ use Rattle.std.specs.Prelude.{ℕ, ◌+◌, List, [], ◌∷◌, ◌++◌, map, 
 use Rattle.std.specs.List.{list_all, list_any}
 use Rattle.vx_values.specs.declared.value.ColType.{ColType}
 use Rattle.vx_values.specs.Types.{type_at}
-use Rattle.vx_catalog.specs.Relation.{Relation}
-use Rattle.vx_catalog.specs.Catalog.{relation_at}
+use Rattle.vx_relations.specs.Relation.{Relation}
+use Rattle.vx_relations.specs.Catalog.{relation_at}
 use Rattle.vx_nodes.specs.Plan.{Route, by_hash, by_range, Part, routed, Claim, Side, Condition, Aggregate, Unary, Binary, Kind, route_to}
 use Rattle.vx_nodes.specs.Plan as plan
 use Rattle.vx_nodes.specs.Types.{aggregate_type}
-use Rattle.vx_plan.specs.Typed.{bounds_at, type_eq, types_eq, range_type, is_range, is_condition, is_aggregate, is_pair}
+use Rattle.vx_typed.specs.Typed.{bounds_at, type_eq, types_eq, range_type, is_range, is_condition, is_aggregate, is_pair}
 use Rattle.vx_values.specs.Values.{Name}
-use Rattle.vx_document.specs.Document.{RangeForm, PartForm, hash_part, range_part, ClaimForm, SideForm, ConditionForm, OutputForm, FunctionForm, AggregateForm, ScanForm, UnaryForm, BinaryForm, KindForm, Tree, Document}
+use Rattle.vx_document.specs.Document.{PartForm, hash_part, range_part, ClaimForm, SideForm, ConditionForm, OutputForm, FunctionForm, AggregateForm, ScanForm, UnaryForm, BinaryForm, KindForm, Tree, Document}
+use Rattle.vx_values.specs.Ranges.{RangeForm}
 use Rattle.vx_document.specs.Document as form
 use Rattle.vx_nodes.specs.Outline.{Columns, Top, Outline, scan, unary, binary, exchange, columns}
 use Rattle.vx_nodes.specs.declared.typed.Kept.{Kept}
 use Rattle.vx_document.specs.Fault.{Refusal, unknown_relation, bad_range, bad_size, ◌>>=◌}
-use Rattle.vx_plan.specs.Lookup.{Names, walk_onto, tested_onto, column_found, columns_found, keys_found, once, pairs_once, keys_once, matched, narrow, size_found, range_found}
+use Rattle.vx_plan.specs.Lookup.{walk_onto, tested_onto, column_found, columns_found, keys_found, once, pairs_once, keys_once, matched, narrow, size_found, range_found}
+use Rattle.vx_typed.specs.Names.{Names, Resolved}
 
 -- ---- claims
 
@@ -269,12 +271,6 @@ is_bad_range front r = list_any (λ q. bytes_eq r.name q.name) front || not (is_
 
 unfoldable pub ranges_tested : List RangeForm → Result ⊤ Refusal
 ranges_tested ranges = tested_onto is_bad_range (λ r. bad_range r.name) [] ranges
-
--- a typed plan with its names, over its catalog
-pub record Resolved : Type 0 where
-  pub names : Names
-  pub total : Bool
-  pub root : Outline
 
 -- the typed plan of a document over a catalog
 unfoldable pub resolved : Document → List Relation → Result Resolved Refusal

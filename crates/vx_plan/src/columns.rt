@@ -9,10 +9,10 @@ ghost use Rattle.vx_plan.specs.Resolve.{both_columns, output_name, scan_columns}
 
 use crate::fits::type_at;
 use std::alloc::{AllocError, Global};
-use vx_catalog::Relation;
 use vx_document::{NamedAggregate, NamedOutput};
 use vx_nodes::{Aggregate, Columns, Kept};
-use vx_rows::ColType;
+use vx_relations::Relation;
+use vx_values::ColType;
 
 // Copies of these names at the end of a list.
 fn put_names(alloc: Global, list: &mut Vec<String>, names: &[String]) -> Result<(), AllocError>

@@ -3,16 +3,16 @@
 ghost use Rattle.std.specs.Prelude.{◌≡◌, ◌+◌, ◌<◌, ◌≤◌, ◌^◌, false, string_bytes, IfOk, IfErr};
 ghost use Rattle.vx_nodes.specs.Numbering.{nodes};
 ghost use Rattle.vx_nodes.specs.Erase.{nodes_left, erase};
-ghost use Rattle.vx_plan.specs.Erased.{erased_top, erased_from};
+ghost use Rattle.vx_typed.specs.Erased.{erased_top, erased_from};
 ghost use Rattle.vx_nodes.specs.Outline.{top_of, unary_of, renamed_of, binary_of, outline_of, plan_of};
-ghost use Rattle.vx_plan.specs.TypedView.{names_in, plan, resolved_of};
+ghost use Rattle.vx_typed.specs.TypedView.{names_in, plan, resolved_of};
 
 use crate::columns::{copied, copied_names};
 use crate::resolving::copied_ranges;
-use crate::typed_plan::TypedPlan;
 use std::alloc::{AllocError, Global};
 use vx_document::PlanFault;
 use vx_nodes::{Binary, Claim, Head, Part, Scan, Size, TypedNode, Unary, copied_conditions};
+use vx_typed::TypedPlan;
 
 fn copied_unary(alloc: Global, unary: &Unary) -> Result<Unary, AllocError>
     ensures op { IfOk result (λ u. unary_of u ≡ unary_of unary.now) }

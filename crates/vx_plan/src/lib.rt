@@ -10,14 +10,13 @@ mod fits;
 mod lookup;
 mod nodes;
 mod resolving;
-mod typed_plan;
 mod unary_nodes;
 
 pub use erasing::erase;
 pub use resolving::resolve;
-pub use typed_plan::TypedPlan;
 pub use vx_document::{Plan, PlanFault, Test, to_json};
 pub use vx_nodes::{
     Aggregate, Binary, Claim, Columns, Condition, Exchange, Head, Kept, Kind, Part, Route, Router,
     Scan, Side, Size, TypedNode, Unary, copied_conditions,
 };
+pub use vx_typed::TypedPlan;

@@ -1,11 +1,11 @@
 -- What evaluation makes of a plan: the serial meaning, where a grouping of more than 2^62 rows overflows too.
 use Rattle.std.specs.Prelude.{ℕ, ◌≡◌, ◌<◌, nat_lt, Bool, true, false, List, length, Option, Some, None, if◌then◌else◌}
 use Rattle.vx_values.specs.Values.{Row}
-use Rattle.vx_catalog.specs.Relation.{Relation}
-use Rattle.vx_catalog.specs.Catalog.{relation_at}
+use Rattle.vx_relations.specs.Relation.{Relation}
+use Rattle.vx_relations.specs.Catalog.{relation_at}
 use Rattle.vx_nodes.specs.Plan.{Unary, group, Plan, scan, unary, binary, exchange}
 use Rattle.vx_nodes.specs.Serial.{unary_rows, binary_rows, Outcome, rows, or_overflow, after}
-use Rattle.vx_plan.specs.Typed.{is_unary, is_binary}
+use Rattle.vx_typed.specs.Typed.{is_unary, is_binary}
 use Rattle.vx_nodes.specs.Types.{types_of}
 
 -- the first of two, if there is one, or else the second

@@ -2,11 +2,11 @@
 use Rattle.std.specs.Prelude.{ℕ, ◌≡◌, ◌≢◌, ◌⊎◌, List, Option, Some, None}
 use Rattle.vx_values.specs.Values.{Row}
 use Rattle.vx_rows.specs.View.{Table}
-use Rattle.vx_catalog.specs.Catalog.{relation_at}
+use Rattle.vx_relations.specs.Catalog.{relation_at}
 use Rattle.vx_catalog.specs.Database.{Database, rows_at}
 use Rattle.vx_nodes.specs.Outline.{plan_in}
 use Rattle.vx_nodes.specs.Plan.{Plan}
-use Rattle.vx_plan.specs.Resolve.{Resolved}
+use Rattle.vx_typed.specs.Names.{Resolved}
 use Rattle.vx_nodes.specs.Serial.{Outcome, rows, overflow, serial, HasTooLong}
 use Rattle.vx_nodes.specs.Types.{types_of}
 use Rattle.vx_serial.specs.Evaluated.{first_exchange, evaluated}

@@ -4,7 +4,7 @@ ghost use Rattle.std.specs.Prelude.{◌≡◌};
 ghost use Rattle.vx_nodes.specs.Outline.{plan_of};
 ghost use Rattle.vx_serial.specs.Evaluated.{first_exchange};
 
-use vx_plan::TypedNode;
+use vx_nodes::TypedNode;
 
 /// The number of the first exchange in preorder.
 pub fn first_exchange(node: &TypedNode) -> Option<u32>

@@ -6,7 +6,7 @@ ghost use Rattle.std.specs.List.{list_all};
 ghost use Rattle.vx_nodes.specs.Outline.{aggregate_of, unary_of, binary_of};
 ghost use Rattle.vx_nodes.specs.Plan.{group};
 ghost use Rattle.vx_nodes.specs.Serial.{binary_rows, join_rows};
-ghost use Rattle.vx_plan.specs.Typed.{is_unary, is_binary, is_pair};
+ghost use Rattle.vx_typed.specs.Typed.{is_unary, is_binary, is_pair};
 ghost use Rattle.vx_nodes.specs.Types.{unary_types, binary_types};
 ghost use Rattle.vx_serial.specs.Evaluated.{evaluated_rows};
 ghost use Rattle.vx_serial.specs.Results.{IsFaultAt};
@@ -15,8 +15,9 @@ use crate::fault::EvalFault;
 use crate::lending::owned;
 use std::alloc::{AllocError, Global};
 use std::borrow::Cow;
-use vx_algebra::{GroupFault, distinct, grouped, hash_join, passing, projected, sorted, united};
-use vx_plan::{Aggregate, Binary, Kept, Unary};
+use vx_algebra::{passing, projected, sorted, united};
+use vx_matching::{GroupFault, distinct, grouped, hash_join};
+use vx_nodes::{Aggregate, Binary, Kept, Unary};
 use vx_rows::Rows;
 
 // The most rows of one grouping.

@@ -1,4 +1,6 @@
 pub mod Values
 pub mod Types
+pub mod Lists
 pub mod Test
 pub mod ValueView
+pub mod Ranges

@@ -1,6 +1,6 @@
 //! Routes of keys.
 
-use vx_plan::Router;
+use vx_nodes::Router;
 use vx_rows::Value;
 
 /// Sends every key to consumer 0.

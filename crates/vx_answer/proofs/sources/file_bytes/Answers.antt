@@ -1,6 +1,6 @@
 use Rattle.std.proofs.Common.{refl, inl, ◌≡◌, None}
 use Rattle.vx_answer.specs.Worded.{for_file}
-use Rattle.vx_answer.proofs.FolderFacts.{nothing_told}
+use Rattle.vx_tables.proofs.FolderFacts.{nothing_told}
 use Rattle.vx_answer.proofs.SourceFacts.{unreadable_broken, unreadable_long}
 use Rattle.vx_answer.proofs.sources.file_bytes.Goals as goal
 

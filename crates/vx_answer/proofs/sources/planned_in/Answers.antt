@@ -1,7 +1,7 @@
 use Rattle.std.proofs.Common.{◌≡◌, ℕ, List, Ok, refl, ap}
 use Rattle.std.specs.Prelude.{IfSome}
-use Rattle.vx_catalog.specs.Naming.{catalog_text}
-use Rattle.vx_catalog.specs.Naming as catalog
+use Rattle.vx_relations.specs.Naming.{catalog_text}
+use Rattle.vx_relations.specs.Naming as catalog
 use Rattle.vx_document.specs.Fault as plan
 use Rattle.vx_words.specs.Asked.{paths_are}
 use Rattle.vx_answer.specs.Worded.{is_input, told_at, plan_text, catalog_told, for_catalog_bytes, for_catalog, for_plan_bytes, for_plan}

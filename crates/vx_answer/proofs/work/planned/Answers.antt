@@ -1,6 +1,6 @@
 use Rattle.std.proofs.Common.{rules, ◌≡◌, Ok, refl}
-use Rattle.vx_catalog.specs.Naming.{catalog_of}
-use Rattle.vx_catalog.specs.Naming as catalog
+use Rattle.vx_relations.specs.Naming.{catalog_of}
+use Rattle.vx_relations.specs.Naming as catalog
 use Rattle.vx_bundle.specs.BundleView.{bundle_form}
 use Rattle.vx_answer.specs.Answer.{for_catalog, for_plan}
 use Rattle.vx_answer.proofs.work.planned.Goals as goal

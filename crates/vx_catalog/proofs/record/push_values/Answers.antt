@@ -6,7 +6,7 @@ use Rattle.vx_values.specs.ValueView.{cell_val}
 use Rattle.vx_values.specs.declared.value.ColType.{ColType}
 use Rattle.vx_values.specs.declared.value.ColType.TheVariants as kind
 use Rattle.vx_catalog.specs.Loading.{next_value}
-use Rattle.vx_catalog.proofs.WalkFacts.{walk_step, walk_next, walk_done}
+use Rattle.vx_relations.proofs.WalkFacts.{walk_step, walk_next, walk_done}
 use Rattle.vx_catalog.proofs.RowFacts.{type_kept, next_is, fails_along}
 use Rattle.vx_catalog.proofs.record.push_values.Goals as goal
 

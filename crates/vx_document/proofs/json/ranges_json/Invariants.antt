@@ -1,6 +1,6 @@
 use Rattle.std.proofs.Common.{◌≡◌, map, take}
 use Rattle.serde_json.specs.View.{view}
-use Rattle.vx_document.specs.Document.{range_form}
+use Rattle.vx_values.specs.Ranges.{range_form}
 use Rattle.vx_document.specs.Written.{range_json}
 use Rattle.vx_document.proofs.json.ranges_json.Given as goal
 

@@ -1,7 +1,7 @@
 use Rattle.std.proofs.Common.{◌≡◌, [], map, drop}
 use Rattle.serde_json.specs.View.{view}
 use Rattle.vx_json.specs.Look.{each_onto}
-use Rattle.vx_document.specs.Document.{range_form}
+use Rattle.vx_values.specs.Ranges.{range_form}
 use Rattle.vx_document.specs.Reading.{declared_in}
 use Rattle.vx_document.proofs.lists.ranges_of.Given as goal
 

@@ -1,6 +1,6 @@
 use Rattle.std.proofs.Common.{◌≡◌, true, subst}
 use Rattle.vx_nodes.specs.Outline.{plan_of, claim_of}
-use Rattle.vx_exec.specs.Sizes.{can_run}
+use Rattle.vx_setup.specs.Runnable.{can_run}
 use Rattle.vx_exec.proofs.fragment.+tree_of.Goals as goal
 
 pub tree_above-requires : goal.tree_above-requires

@@ -1,6 +1,6 @@
-use Rattle.vx_plan.specs.TypedView.{plan as whole_plan}
+use Rattle.vx_typed.specs.TypedView.{plan as whole_plan}
 use Rattle.vx_nodes.specs.Types.{types_of}
-use Rattle.vx_check.specs.Checked.{relations}
+use Rattle.vx_rules.specs.Checked.{relations}
 use Rattle.vx_exec.proofs.Finishing.{job-accepted, ready-parts, has-run, first-types, not-passed, comes-done, comes-failed, comes-first}
 use Rattle.vx_exec.proofs.run.run_job.Goals as goal
 

@@ -1,4 +1,4 @@
-use Rattle.vx_plan.specs.TypedView.{plan as whole_plan, resolved_of}
+use Rattle.vx_typed.specs.TypedView.{plan as whole_plan, resolved_of}
 use Rattle.vx_nodes.specs.Types.{types_of}
 use Rattle.std.proofs.Common.{◌<◌, ℕ, inl, inr, subst}
 use Rattle.std.specs.List.{All}
@@ -7,8 +7,8 @@ use Rattle.vx_steps.specs.Schedules.{IsBadStep}
 use Rattle.vx_exec.specs.Sizes.{group_at}
 use Rattle.vx_exec.specs.Runs.{IsTrueOf, IsFirstTold, IsBadStepOf}
 use Rattle.vx_exec.specs.Job.{setting_of}
-use Rattle.vx_exec.specs.declared.fault.RunFault.{RunFault}
-use Rattle.vx_check.specs.Checked.{relations}
+use Rattle.vx_setup.specs.declared.fault.RunFault.{RunFault}
+use Rattle.vx_rules.specs.Checked.{relations}
 use Rattle.vx_exec.proofs.Outcomes.{failed-or, names-told}
 use Rattle.vx_exec.proofs.Finishing.{job-accepted, ready-parts, ready-count, has-run, first-types, not-passed, comes-done, comes-failed, comes-first}
 use Rattle.vx_exec.proofs.run.schedule_job.Goals as goal

@@ -1,5 +1,6 @@
 use Rattle.std.proofs.Common.{◌∙◌, sym, map, string_bytes, rules}
-use Rattle.vx_exec.specs.Setup.{size_out_of_range, bad_packet, bad_morsel, first_out_of_range, sizes_set}
+use Rattle.vx_exec.specs.Setup.{size_out_of_range, bad_packet, bad_morsel, sizes_set}
+use Rattle.vx_setup.specs.Setup.{first_out_of_range}
 use Rattle.vx_exec.proofs.GroupFacts.{none_found, passed, is_within-true, groups_within}
 use Rattle.vx_exec.proofs.setup.job_in.Goals as goal
 
@@ -18,6 +19,6 @@ new-requires-clause-within c =
     let none = none_found size_out_of_range (first_out_of_range c.args.setup.now.sizes (map string_bytes c.sizes-names.result.now)) c.in_ok-range_tested.ensures in
     record {
       groups = rw c.in_ok-groups.ensures (groups_within c.args.setup.now.sizes (map string_bytes c.sizes-names.result.now) none);
-      packet = is_within-true 4096 c.setup.inside.packet (sym c.is_within.ensures ∙ passed c.is_within.result bad_packet c.in_ok-tested.ensures);
-      morsel = is_within-true 1000000 c.setup.inside.morsel (sym c.is_within-2.ensures ∙ passed c.is_within-2.result bad_morsel c.in_ok-tested-2.ensures);
+      packet = rw (c.packet-packet.ensures ∙ sym c.packet.ensures) (is_within-true 4096 c.packet.result (sym c.is_within.ensures ∙ passed c.is_within.result bad_packet c.in_ok-tested.ensures));
+      morsel = rw (c.morsel-morsel.ensures ∙ sym c.morsel.ensures) (is_within-true 1000000 c.morsel.result (sym c.is_within-2.ensures ∙ passed c.is_within-2.result bad_morsel c.in_ok-tested-2.ensures));
     }

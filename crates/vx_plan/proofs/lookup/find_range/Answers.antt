@@ -1,6 +1,6 @@
 use Rattle.std.proofs.Common.{sym, ◌∙◌, bytes_eq}
-use Rattle.vx_document.specs.Document.{RangeForm, range_form}
-use Rattle.vx_catalog.proofs.NameFacts.{position-map}
+use Rattle.vx_values.specs.Ranges.{RangeForm, range_form}
+use Rattle.vx_relations.proofs.NameFacts.{position-map}
 use Rattle.vx_plan.proofs.lookup.find_range.Goals as goal
 
 pub returns : goal.returns

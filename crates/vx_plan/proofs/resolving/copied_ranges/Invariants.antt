@@ -1,5 +1,5 @@
 use Rattle.std.proofs.Common.{◌≡◌, map, take}
-use Rattle.vx_document.specs.Document.{range_form}
+use Rattle.vx_values.specs.Ranges.{range_form}
 use Rattle.vx_plan.proofs.resolving.copied_ranges.Given as goal
 
 abbrev pub invariant-loop-range : goal.invariant-loop-range

@@ -1,6 +1,6 @@
 use Rattle.std.proofs.Common.{sym, ◌∙◌, bytes_eq}
-use Rattle.vx_document.specs.Document.{RangeForm, range_form}
-use Rattle.vx_catalog.proofs.NameFacts.{list_any-map}
+use Rattle.vx_values.specs.Ranges.{RangeForm, range_form}
+use Rattle.vx_relations.proofs.NameFacts.{list_any-map}
 use Rattle.vx_plan.proofs.resolving.has_range.Goals as goal
 
 pub returns : goal.returns

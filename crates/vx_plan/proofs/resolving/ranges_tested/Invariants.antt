@@ -1,5 +1,5 @@
 use Rattle.std.proofs.Common.{◌≡◌, [], map, drop, take}
-use Rattle.vx_document.specs.Document.{range_form}
+use Rattle.vx_values.specs.Ranges.{range_form}
 use Rattle.vx_document.specs.Fault.{bad_range}
 use Rattle.vx_plan.specs.Lookup.{tested_onto}
 use Rattle.vx_plan.specs.Resolve.{is_bad_range}

@@ -2,7 +2,7 @@ use Rattle.std.proofs.Common.{◌≡◌, ◌∙◌, true, ap, sym, subst}
 use Rattle.std.specs.Cow.{cow_value}
 use Rattle.vx_rows.specs.View.{Table}
 use Rattle.vx_nodes.specs.Outline.{binary_of}
-use Rattle.vx_plan.specs.Typed.{is_binary}
+use Rattle.vx_typed.specs.Typed.{is_binary}
 use Rattle.vx_nodes.specs.declared.typed.Binary.{Binary}
 use Rattle.vx_serial.proofs.ColumnFacts.{union-types}
 use Rattle.vx_serial.proofs.operators.binary_rows.Goals as goal

@@ -3,7 +3,8 @@ use Rattle.vx_nodes.specs.Outline.{plan_of, claim_of, size_of, unary_of, kind_of
 use Rattle.vx_nodes.specs.Plan.{gather, size}
 use Rattle.vx_nodes.specs.Streams.{workers}
 use Rattle.vx_steps.specs.Additions.{AddsTeam, AddsBelow}
-use Rattle.vx_exec.specs.Sizes.{can_run, group_at}
+use Rattle.vx_exec.specs.Sizes.{group_at}
+use Rattle.vx_setup.specs.Runnable.{can_run}
 use Rattle.vx_exec.specs.Job.{setting_of}
 use Rattle.vx_exec.specs.Making.{made_of}
 use Rattle.vx_exec.proofs.Growing.{grows-scan, grows-unary, grows-exchange}

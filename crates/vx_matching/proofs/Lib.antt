@@ -1,0 +1,13 @@
+pub mod KeyFacts
+pub mod PlaceFacts
+pub mod BuildFacts
+pub mod PairFacts
+pub mod AggregateFacts
+pub mod GroupFacts
+pub mod EndFacts
+pub mod TypeFacts
+pub mod FrontFacts
+pub mod BlameFacts
+pub mod ShownFacts
+pub mod RiseFacts
+pub mod MergeFacts

@@ -1,0 +1,5 @@
+pub mod Relation
+pub mod Catalog
+pub mod Walk
+pub mod Form
+pub mod Naming

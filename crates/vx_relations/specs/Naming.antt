@@ -1,0 +1,110 @@
+-- A catalog with columns by position, or the first reason why a value is none.
+use Rattle.std.specs.Prelude.{◌≡◌, ◌↔◌, ℕ, ◌==◌, nat_le, ◌&&◌, Bool, List, [], ◌∷◌, map, length, position, bytes_eq, string_bytes, slice_index_or, Option, Some, None, Result, Ok, Err, if◌then◌else◌}
+use Rattle.std.specs.List.{list_all, list_any}
+use Rattle.std.specs.Str.{is_utf8}
+use Rattle.serde_json.specs.Data.{Data}
+use Rattle.serde_json.specs.Read.{read as read_text}
+use Rattle.vx_values.specs.declared.value.ColType.{ColType}
+use Rattle.vx_relations.specs.Relation.{Relation}
+use Rattle.vx_relations.specs.Catalog.{IsCatalog}
+use Rattle.vx_relations.specs.Walk.{◌>>=◌, walk_onto}
+use Rattle.vx_relations.specs.Form.{ColumnText, RelationText, catalog_in}
+use Rattle.vx_relations.specs.declared.fault.CatalogFault.{CatalogFault}
+use Rattle.vx_relations.specs.declared.fault.CatalogFault.TheVariants as fault
+
+pub data Refusal : Type 0 where
+  bad_catalog : Refusal
+  too_large : Refusal
+  duplicate_name : List ℕ → Refusal
+  unknown_column : List ℕ → Refusal
+
+-- what a call refused is what the reading refuses, and want of memory excuses
+abbrev pub Fails : {Y : Type 0} → CatalogFault → Result Y Refusal → Type 0
+Fails fault.NoMemory read = Unit {0}
+Fails fault.BadCatalog read = read ≡ Err bad_catalog
+Fails fault.TooLarge read = read ≡ Err too_large
+Fails (fault.DuplicateName name) read = read ≡ Err (duplicate_name (string_bytes name))
+Fails (fault.UnknownColumn name) read = read ≡ Err (unknown_column (string_bytes name))
+
+-- what a call answered, seen by `look`, is what the reading gives, unless memory ran out
+abbrev pub Gives : {X Y : Type 0} → (X → Y) → Result X CatalogFault → Result Y Refusal → Type 0
+Gives look (Ok x) read = read ≡ Ok (look x)
+Gives look (Err e) read = Fails e read
+
+-- a name that does not stand at the front
+unfoldable pub name_once : List (List ℕ) → List ℕ → Result (List ℕ) Refusal
+name_once front name = if list_any (λ y. bytes_eq y name) front then Err (duplicate_name name) else Ok name
+
+-- the names, where none stands twice
+abbrev pub names_of : List (List ℕ) → Result (List (List ℕ)) Refusal
+names_of names = walk_onto name_once [] names
+
+abbrev pub column_once : List ℕ → List ℕ → Option ℕ → Result ℕ Refusal
+column_once front name None = Err (unknown_column name)
+column_once front name (Some c) = if list_any (λ y. y == c) front then Err (duplicate_name name) else Ok c
+
+-- the column of this name, which does not stand at the front
+unfoldable pub column_of : List (List ℕ) → List ℕ → List ℕ → Result ℕ Refusal
+column_of names front name = column_once front name (position (bytes_eq name) names)
+
+-- the columns of these names, where none stands twice
+abbrev pub columns_of : List (List ℕ) → List (List ℕ) → Result (List ℕ) Refusal
+columns_of names list = walk_onto (column_of names) [] list
+
+-- the columns of each key
+abbrev pub keys_of : List (List (List ℕ)) → List (List ℕ) → Result (List (List ℕ)) Refusal
+keys_of keys names = walk_onto (λ front key. columns_of names key) [] keys
+
+-- a relation's columns, then its keys, then its order
+unfoldable pub relation_of : RelationText → Result Relation Refusal
+relation_of t =
+    names_of (map (λ c. c.name) t.columns) >>= λ names. keys_of t.keys names >>= λ keys. columns_of names t.order >>= λ order.
+    Ok (record { name = t.name; names = names; types = map (λ c. c.kind) t.columns; keys = keys; order = order })
+
+-- a relation whose name no earlier one has
+unfoldable pub relation_after : List Relation → RelationText → Result Relation Refusal
+relation_after front t = if list_any (λ r. bytes_eq r.name t.name) front then Err (duplicate_name t.name) else relation_of t
+
+-- at most 64 columns and 16 keys
+abbrev pub is_small : RelationText → Bool
+is_small t = nat_le (length t.columns) 64 && nat_le (length t.keys) 16
+
+-- at most 256 relations, each within its limits
+abbrev pub is_within_limits : List RelationText → Bool
+is_within_limits ts = nat_le (length ts) 256 && list_all is_small ts
+
+abbrev pub named : Option (List RelationText) → Result (List Relation) Refusal
+named None = Err bad_catalog
+named (Some ts) = if is_within_limits ts then walk_onto relation_after [] ts else Err too_large
+
+-- the relations that a value declares, or the first reason why it declares none: its form, the limits, then relation by relation
+unfoldable pub catalog_of : Data → Result (List Relation) Refusal
+catalog_of d = named (catalog_in d)
+
+abbrev pub some_catalog : Option Data → Result (List Relation) Refusal
+some_catalog None = Err bad_catalog
+some_catalog (Some d) = catalog_of d
+
+-- the relations that a text declares, or the first reason why it declares none: it is JSON in UTF-8, then as above
+unfoldable pub catalog_text : List ℕ → Result (List Relation) Refusal
+catalog_text bytes = if is_utf8 bytes then some_catalog (read_text bytes) else Err bad_catalog
+
+abbrev pub columns_text : List (List ℕ) → List ColType → List ColumnText
+columns_text [] kinds = []
+columns_text (name ∷ names) [] = []
+columns_text (name ∷ names) (kind ∷ kinds) = record { name = name; kind = kind } ∷ columns_text names kinds
+
+abbrev pub name_at : List (List ℕ) → ℕ → List ℕ
+name_at names c = slice_index_or names c []
+
+-- a relation with its columns by name
+abbrev pub text_of : Relation → RelationText
+text_of r = record { name = r.name; columns = columns_text r.names r.types; keys = map (λ key. map (name_at r.names) key) r.keys; order = map (name_at r.names) r.order }
+
+-- a value has the form of a catalog, and says this of it
+abbrev pub States : Data → List Relation → Type 0
+States d catalog = catalog_in d ≡ Some (map text_of catalog)
+
+-- a value is read as these relations exactly where they are a catalog and the value says them
+pub record CatalogLaw : Type 0 where
+  pub read : (d : Data) (catalog : List Relation) → (catalog_of d ≡ Ok catalog) ↔ (IsCatalog catalog × States d catalog)

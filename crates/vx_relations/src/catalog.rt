@@ -1,0 +1,151 @@
+//! Catalogs.
+
+ghost use Rattle.std.specs.Prelude.{◌≡◌, ◌↔◌, ◌<◌, length, position, bytes_eq, IfOk, IsTrue};
+ghost use Rattle.serde_json.specs.View.{view};
+ghost use Rattle.vx_relations.specs.Catalog.{relation_at, IsRelation, IsCatalog};
+ghost use Rattle.vx_relations.specs.Naming.{Gives, catalog_of, catalog_text, CatalogLaw};
+
+use crate::fault::CatalogFault;
+use crate::form::catalog_in;
+use crate::naming::{is_within_limits, relations_of};
+use crate::relation::Relation;
+use serde_json::{Category, Value};
+use std::alloc::{AllocError, Global};
+use std::marker::Model;
+
+/// What is known of relations before their rows are: at most 256 relations, with names of their own.
+///
+/// Keys and orders name columns of their relations, each once.
+#[derive(Debug)]
+pub struct Catalog {
+    relations: Vec<Relation>,
+}
+
+// By hand, so that the drops of its parts are made and proved here once, and not again in each crate that drops one.
+impl Drop for Catalog {
+    fn drop(self) {
+        let Catalog { relations: _ } = self;
+    }
+}
+
+impl Model for Catalog {
+    ghost use Rattle.std.specs.Prelude.{List};
+    ghost use Rattle.vx_relations.specs.Relation.{Relation};
+    ghost use Rattle.vx_relations.specs.Catalog.{IsCatalog};
+
+    ghost Value = { List Relation };
+
+    ghost view = { λ c. c.relations.items };
+
+    ghost invariant = { λ c. IsCatalog c.relations.items };
+}
+
+// Copies of relations.
+fn copies(alloc: Global, relations: &[Relation]) -> Result<Vec<Relation>, AllocError>
+    ensures { IfOk result (λ v. v.items ≡ relations.now) }
+{
+    let mut copies = Vec::new(alloc);
+    for relation in relations {
+        copies.push(relation.copy(alloc)?)?;
+    }
+    Ok(copies)
+}
+
+// Whether these are the same relations in the same order.
+fn are_same(relations: &[Relation], others: &[Relation]) -> bool
+    ensures { IsTrue result ↔ (relations.now ≡ others.now) }
+{
+    if relations.len() != others.len() {
+        return false;
+    }
+    for i in 0..relations.len() {
+        if !relations[i].is_same(&others[i]) {
+            return false;
+        }
+    }
+    true
+}
+
+impl Catalog {
+    /// The catalog that a JSON value is. Its form comes first, then its limits, then its names,
+    /// relation by relation: its name, the names of its columns, its keys and its order.
+    #[tactic(auto, unfolding(crate::specs::Naming::catalog_of))]
+    pub fn of_value(alloc: Global, value: &Value) -> Result<Catalog, CatalogFault>
+        ensures { Gives (λ c. c) result (catalog_of (view value.now)) }
+    {
+        let Some(texts) = catalog_in(alloc, value)? else {
+            return Err(CatalogFault::BadCatalog);
+        };
+        if !is_within_limits(texts.as_slice()) {
+            return Err(CatalogFault::TooLarge);
+        }
+        let relations = relations_of(alloc, texts.as_slice())?;
+        Ok(Catalog { relations })
+    }
+
+    /// The catalog that a JSON text is.
+    #[tactic(auto, unfolding(crate::specs::Naming::catalog_text))]
+    pub fn read(alloc: Global, bytes: &[u8]) -> Result<Catalog, CatalogFault>
+        ensures { Gives (λ c. c) result (catalog_text bytes.now) }
+    {
+        match Value::from_slice(alloc, bytes) {
+            Ok(value) => Catalog::of_value(alloc, &value),
+            Err(e) => match e.classify() {
+                Category::Memory => Err(CatalogFault::NoMemory),
+                _ => Err(CatalogFault::BadCatalog),
+            },
+        }
+    }
+
+    /// How many relations there are. Its second clause is the fact that the type keeps.
+    pub fn len(&self) -> usize
+        ensures count { result ≡ length self.now }
+        ensures fine { IsCatalog self.now }
+    {
+        self.relations.len()
+    }
+
+    /// Whether there is no relation.
+    pub fn is_empty(&self) -> bool
+        ensures { IsTrue result ↔ (length self.now ≡ 0) }
+    {
+        self.relations.is_empty()
+    }
+
+    /// The relation with this number, counted from 0.
+    pub fn get(&self, relation: usize) -> &Relation
+        requires { relation < length self.now }
+        ensures value { result.now ≡ relation_at self.now relation }
+        ensures fine { IsRelation result.now }
+    {
+        &self.relations[relation]
+    }
+
+    /// The number of the relation of this name.
+    pub fn find(&self, name: &str) -> Option<usize>
+        ensures { result ≡ position (λ r. bytes_eq name.now r.name) self.now }
+    {
+        self.relations.iter().position(|r| name == r.name())
+    }
+
+    /// Whether the other has the same relations in the same order.
+    pub fn is_same(&self, other: &Catalog) -> bool
+        ensures { IsTrue result ↔ (self.now ≡ other.now) }
+    {
+        are_same(self.relations.as_slice(), other.relations.as_slice())
+    }
+
+    /// The same catalog in memory of its own.
+    pub fn copy(&self, alloc: Global) -> Result<Catalog, AllocError>
+        ensures { IfOk result (λ c. c ≡ self.now) }
+    {
+        let relations = copies(alloc, self.relations.as_slice())?;
+        Ok(Catalog { relations })
+    }
+}
+
+/// The law of reading: what is read as a catalog is one, with the names, keys and orders that the value says, and
+/// every catalog is read of each value that says it. It does nothing.
+pub fn catalogs_are_read_exactly()
+    ensures { CatalogLaw }
+{}

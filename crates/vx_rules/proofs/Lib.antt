@@ -1,0 +1,7 @@
+pub mod ColumnFacts
+pub mod CopyFacts
+pub mod KeyFacts
+pub mod PairFacts
+pub mod RuleFacts
+pub mod NarrowFacts
+pub mod Refusals

@@ -1,0 +1,23 @@
+//! The rule table: the notes of a plan are shown, or the first that is not is refused.
+#![tactic(auto)]
+
+mod checked;
+mod checking;
+mod columns;
+mod copies;
+mod inputs;
+mod keys;
+mod nodes;
+mod orders;
+mod pairs;
+mod parts;
+mod refusal;
+mod refused;
+mod rule;
+mod shown;
+mod widths;
+
+pub use checked::CheckedPlan;
+pub use checking::check;
+pub use refused::Refused;
+pub use rule::Rule;

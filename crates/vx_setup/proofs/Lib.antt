@@ -1,0 +1,2 @@
+pub mod FindFacts
+pub mod NumberFacts

@@ -1,0 +1,2 @@
+pub mod Setup
+pub mod Runnable

@@ -1,0 +1,42 @@
+-- How a run is set up, and what its size names come to.
+use Rattle.std.specs.Prelude.{ℕ, ◌&&◌, Bool, not, nat_le, List, map, Option, option_map, unwrap_or, is_none, bytes_eq, String, string_bytes}
+use Rattle.std.specs.List.{find}
+use Rattle.std.specs.declared.alloc.Global.{Global}
+
+-- a size name with its number of workers
+abbrev pub Entry : Type 0
+Entry = List ℕ × ℕ
+
+abbrev pub entry_of : String Global × ℕ → Entry
+entry_of e = (string_bytes e.0, e.1)
+
+-- how a run is set up: the workers of size names, the rows of a packet and of a morsel, and by how many packets a producer may run ahead
+pub record SetupForm : Type 0 where
+  pub sizes : List Entry
+  pub packet : ℕ
+  pub morsel : ℕ
+  pub slack : ℕ
+
+-- the number that the first entry of a name has
+abbrev pub number_of : List Entry → List ℕ → Option ℕ
+number_of entries name = option_map (λ e. e.1) (find (λ e. bytes_eq e.0 name) entries)
+
+-- the workers of a name; without an entry none
+abbrev pub workers_named : List Entry → List ℕ → ℕ
+workers_named entries name = unwrap_or (number_of entries name) 0
+
+-- the workers of each of these names
+abbrev pub groups_named : List Entry → List (List ℕ) → List ℕ
+groups_named entries names = map (workers_named entries) names
+
+-- a number from 1 to this one
+abbrev pub is_within : (most n : ℕ) → Bool
+is_within most n = nat_le 1 n && nat_le n most
+
+-- the first name without an entry
+abbrev pub first_missing : List Entry → List (List ℕ) → Option (List ℕ)
+first_missing entries names = find (λ name. is_none (number_of entries name)) names
+
+-- the first name whose number is not 1 to 64
+abbrev pub first_out_of_range : List Entry → List (List ℕ) → Option (List ℕ)
+first_out_of_range entries names = find (λ name. not (is_within 64 (workers_named entries name))) names

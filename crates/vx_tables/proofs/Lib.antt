@@ -1,0 +1,3 @@
+pub mod MissingFacts
+pub mod FillFacts
+pub mod FolderFacts

@@ -1,0 +1,29 @@
+-- The rows of the relations that a plan scans, from tables. What tables have is told by which rows they hold of a relation, and by how they refuse one.
+use Rattle.std.specs.Prelude.{◌≡◌, ℕ, ◌<◌, ◌==◌, ◌||◌, List, [], length, Bool, true, false}
+use Rattle.vx_values.specs.Values.{Row}
+use Rattle.vx_relations.specs.Relation.{Relation}
+use Rattle.vx_relations.specs.Catalog.{relation_at}
+use Rattle.vx_catalog.specs.Database.{Database, rows_at}
+use Rattle.vx_nodes.specs.Plan.{Plan, scan, unary, binary, exchange}
+use Rattle.vx_tables.specs.declared.refusal.Refusal.{Refusal}
+use Rattle.vx_tables.specs.declared.refusal.Refusal.TheVariants as refusal
+
+-- a plan scans the relation with this number
+abbrev pub scans : Plan → ℕ → Bool
+scans (scan n c r m z) i = r == i
+scans (unary n c op p) i = scans p i
+scans (binary n c op p q) i = scans p i || scans q i
+scans (exchange n c k m p) i = scans p i
+
+-- a database with the rows of every relation that a plan scans, the others empty
+pub record IsFilled (plan : Plan) (holds : Relation → List Row → Type 0) (db : Database) : Type 0 where
+  pub many : length db.rows ≡ length db.catalog
+  pub scanned : (i : ℕ) → i < length db.catalog → scans plan i ≡ true → holds (relation_at db.catalog i) (rows_at db i)
+  pub others : (i : ℕ) → scans plan i ≡ false → rows_at db i ≡ []
+
+-- a refusal for the first scanned relation whose rows are not there, or for want of memory
+pub data IsFirstMissing (plan : Plan) (holds : Relation → List Row → Type 0) (lacks : Relation → Refusal → Type 0) (catalog : List Relation) (e : Refusal) : Type 0 where
+  nothing_missing : e ≡ refusal.NoMemory → IsFirstMissing plan holds lacks catalog e
+  first_missing : (i : ℕ) → i < length catalog → scans plan i ≡ true
+      → ((j : ℕ) → j < i → scans plan j ≡ true → (rows : List Row) × holds (relation_at catalog j) rows)
+      → lacks (relation_at catalog i) e → IsFirstMissing plan holds lacks catalog e

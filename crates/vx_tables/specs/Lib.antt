@@ -1,0 +1,4 @@
+pub mod Status
+pub mod Texts
+pub mod Filled
+pub mod Folder

@@ -1,0 +1,15 @@
+//! Where the rows of a plan's relations come from: the texts of a bundle, or the files of a folder. And why the program gives no text.
+#![tactic(auto)]
+
+mod folder;
+mod refusal;
+mod statuses;
+mod store;
+mod tables;
+mod texts;
+
+pub use folder::Folder;
+pub use refusal::{Refusal, tell};
+pub use statuses::status;
+pub use store::{Disk, Store};
+pub use tables::{Tables, load_tables};

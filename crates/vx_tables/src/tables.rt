@@ -1,0 +1,92 @@
+//! The rows of the relations that a plan scans.
+
+ghost use Rattle.std.specs.Prelude.{◌≡◌, ◌<◌, length, IfOk, IfErr, OnOk, List};
+ghost use Rattle.vx_values.specs.Values.{Row};
+ghost use Rattle.vx_relations.specs.Catalog.{relation_at};
+ghost use Rattle.vx_catalog.specs.Database.{with_rows};
+ghost use Rattle.vx_nodes.specs.Outline.{plan_of};
+ghost use Rattle.vx_typed.specs.TypedView.{scope, plan as plan_of_typed};
+ghost use Rattle.vx_tables.specs.Filled.{scans, IsFilled, IsFirstMissing};
+
+use crate::refusal::Refusal;
+use std::alloc::Global;
+use vx_catalog::{Catalog, Database, Loaded};
+use vx_nodes::TypedNode;
+use vx_typed::TypedPlan;
+
+/// What has the rows of relations: the texts of a bundle, or the files of a folder.
+pub trait Tables {
+    ghost use Rattle.std.specs.Prelude.{◌≡◌, ◌<◌, List, length, IfOk, IfErr};
+    ghost use Rattle.vx_values.specs.Values.{Row};
+    ghost use Rattle.vx_relations.specs.Relation.{Relation};
+    ghost use Rattle.vx_relations.specs.Catalog.{relation_at};
+    ghost use Rattle.vx_tables.specs.declared.refusal.Refusal.{Refusal};
+
+    // That these are the rows of a relation.
+    ghost holds: { Self → Relation → List Row → Type 0 };
+
+    // That this is why there are no rows of a relation.
+    ghost lacks: { Self → Relation → Refusal → Type 0 };
+
+    /// The rows of the relation with this number in its catalog.
+    fn load(&self, alloc: Global, catalog: &Catalog, relation: usize) -> Result<Loaded, Refusal>
+        requires { relation < length catalog.now }
+        ensures rows { IfOk result (λ l. holds self.now (relation_at catalog.now relation) l.rows) }
+        ensures catalog { IfOk result (λ l. l.catalog ≡ catalog.now) }
+        ensures relation { IfOk result (λ l. l.relation ≡ relation) }
+        ensures refused { IfErr result (λ e. lacks self.now (relation_at catalog.now relation) e) };
+}
+
+// Gives a relation of a database its rows.
+fn fill<T: Tables>(
+    alloc: Global,
+    database: &mut Database,
+    relation: usize,
+    tables: &T,
+) -> Result<(), Refusal>
+    requires { relation < length database.old.catalog }
+    ensures filled { OnOk result ((rows : List Row) × T.holds tables.now (relation_at database.old.catalog relation) rows × (database.new ≡ with_rows database.old relation rows)) }
+    ensures refused { IfErr result (λ e. T.lacks tables.now (relation_at database.old.catalog relation) e) }
+{
+    let loaded = match tables.load(alloc, database.catalog(), relation) {
+        Ok(loaded) => loaded,
+        Err(refusal) => return Err(refusal),
+    };
+    match database.put(loaded) {
+        Ok(()) => Ok(()),
+        Err(_) => unreachable!(),
+    }
+}
+
+// Whether a node or one below it scans the relation with this number.
+fn scans(node: &TypedNode, relation: usize) -> bool
+    ensures { result ≡ scans (plan_of node.now) relation }
+{
+    match node {
+        TypedNode::Scan(_, scan) => scan.relation == relation,
+        TypedNode::Unary(_, _, input) => scans(input, relation),
+        TypedNode::Binary(_, _, left, right) => scans(left, relation) || scans(right, relation),
+        TypedNode::Exchange(_, _, input) => scans(input, relation),
+    }
+}
+
+/// A database of the relations that a plan scans, filled in the catalog's order. The others stay empty.
+pub fn load_tables<T: Tables>(
+    alloc: Global,
+    plan: &TypedPlan,
+    tables: &T,
+) -> Result<Database, Refusal>
+    ensures catalog { IfOk result (λ d. d.catalog ≡ (scope plan.now).catalog) }
+    ensures filled { IfOk result (λ d. IsFilled (plan_of_typed plan.now) (T.holds tables.now) d) }
+    ensures refused { IfErr result (λ e. IsFirstMissing (plan_of_typed plan.now) (T.holds tables.now) (T.lacks tables.now) (scope plan.now).catalog e) }
+{
+    let mut database = Database::empty(alloc, plan.catalog())?;
+    for relation in 0..plan.catalog().len() {
+        if scans(plan.root(), relation) {
+            if let Err(refusal) = fill(alloc, &mut database, relation, tables) {
+                return Err(refusal);
+            }
+        }
+    }
+    Ok(database)
+}

@@ -1,0 +1,77 @@
+//! The texts of a bundle, which have the rows of relations.
+
+ghost use Rattle.std.specs.Prelude.{◌≡◌, ◌<◌, length, Some, true, false, IfOk};
+ghost use Rattle.vx_relations.specs.Catalog.{relation_at};
+ghost use Rattle.vx_catalog.specs.Loading.{Gives, load_of};
+
+use crate::refusal::Refusal;
+use crate::tables::Tables;
+use std::alloc::Global;
+use vx_bundle::Bundle;
+use vx_catalog::{Catalog, LoadFault, Loaded, Loader};
+use vx_rows::{Broken, ByteIn};
+
+// A reader over memory, which never fails.
+#[derive(Drop)]
+struct TextIn<'t> {
+    rest: &'t [u8],
+}
+
+impl ByteIn for TextIn<'_> {
+    ghost remaining = { λ t. Some t.rest.now };
+
+    ghost has_failed = { λ _. false };
+
+    ghost is_reliable = { λ _. true };
+
+    fn read(&mut self, buf: &mut [u8]) -> Result<usize, Broken> {
+        let n = buf.len().min(self.rest.len());
+        let (front, rest) = self.rest.split_at(n);
+        buf[..n].copy_from_slice(front);
+        self.rest = rest;
+        Ok(n)
+    }
+
+    fn failed(&self) -> bool {
+        false
+    }
+}
+
+// The rows of a relation from its text.
+fn load_text(
+    alloc: Global,
+    catalog: &Catalog,
+    relation: usize,
+    text: &str,
+) -> Result<Loaded, LoadFault>
+    requires { relation < length catalog.now }
+    ensures rows { Gives (λ l. l.rows) result (load_of (relation_at catalog.now relation) text.now) }
+    ensures catalog { IfOk result (λ l. l.catalog ≡ catalog.now) }
+    ensures relation { IfOk result (λ l. l.relation ≡ relation) }
+{
+    let mut reader = TextIn {
+        rest: text.as_bytes(),
+    };
+    Loader::load(alloc, catalog, relation, &mut reader)
+}
+
+impl Tables for Bundle<'_> {
+    ghost use Rattle.vx_bundle.specs.BundleView.{bundle_form};
+    ghost use Rattle.vx_tables.specs.Texts.{holds_in, lacks_in};
+
+    ghost holds = { λ b. holds_in (bundle_form b).tables };
+
+    ghost lacks = { λ b. lacks_in (bundle_form b).tables };
+
+    fn load(&self, alloc: Global, catalog: &Catalog, relation: usize) -> Result<Loaded, Refusal> {
+        let name = catalog.get(relation).name();
+        let Some(text) = self.table(name) else {
+            let name = String::from_str(alloc, name)?;
+            return Err(Refusal::NoTable { name });
+        };
+        match load_text(alloc, catalog, relation, text) {
+            Ok(loaded) => Ok(loaded),
+            Err(fault) => Err(Refusal::Load(fault)),
+        }
+    }
+}

@@ -1,0 +1,4 @@
+pub mod Typed
+pub mod Names
+pub mod TypedView
+pub mod Erased
