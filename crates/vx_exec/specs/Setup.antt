@@ -2,6 +2,7 @@
 use Rattle.std.specs.Prelude.{ℕ, ◌≡◌, Bool, nat_le, if◌then◌else◌, List, Option, Some, None, Result, Ok, Err, ⊤, string_bytes, ◌⊎◌}
 use Rattle.vx_nodes.specs.Plan.{Plan}
 use Rattle.vx_steps.specs.Roles.{crew_size}
+use Rattle.vx_relations.specs.Walk.{◌>>=◌}
 use Rattle.vx_setup.specs.Setup.{SetupForm, is_within, groups_named, first_missing, first_out_of_range}
 use Rattle.vx_exec.specs.Sizes.{Sizes, group_at}
 use Rattle.vx_setup.specs.declared.fault.RunFault.{RunFault}
@@ -16,12 +17,6 @@ pub data SetupRefusal : Type 0 where
   bad_slack : SetupRefusal
   too_many_workers : ℕ → SetupRefusal
   other : SetupRefusal
-
-infixl 10 ◌>>=◌
--- the first refusal of the two steps, or what the second makes of the first
-abbrev pub ◌>>=◌ : {A B : Type 0} → Result A SetupRefusal → (A → Result B SetupRefusal) → Result B SetupRefusal
-(Ok x) >>= f = f x
-(Err e) >>= f = Err e
 
 -- this refusal, if the test fails
 abbrev pub tested : Bool → SetupRefusal → Result ⊤ SetupRefusal

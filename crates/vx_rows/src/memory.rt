@@ -1,11 +1,11 @@
-//! Ports over memory that fail at a stated byte: for tests of what reads and writes.
+//! Ports over memory, which fail at a stated byte or never: for texts that are at hand, and for tests of what reads and writes.
 
 ghost use Rattle.std.specs.Prelude.{◌≡◌, ◌&&◌, [], Some, false, not, is_none};
 
 use crate::bytes::{Broken, ByteIn, ByteOut};
 use std::alloc::Global;
 
-/// A reader over memory. It fails once it has given so many bytes.
+/// A reader over memory. It fails once it has given so many bytes, or never.
 #[derive(Drop)]
 pub struct MemoryIn<'a> {
     rest: &'a [u8],

@@ -1,6 +1,6 @@
 //! The texts of a bundle, which have the rows of relations.
 
-ghost use Rattle.std.specs.Prelude.{◌≡◌, ◌<◌, length, Some, true, false, IfOk};
+ghost use Rattle.std.specs.Prelude.{◌≡◌, ◌<◌, length, IfOk};
 ghost use Rattle.vx_relations.specs.Catalog.{relation_at};
 ghost use Rattle.vx_catalog.specs.Loading.{Gives, load_of};
 
@@ -9,33 +9,7 @@ use crate::tables::Tables;
 use std::alloc::Global;
 use vx_bundle::Bundle;
 use vx_catalog::{Catalog, LoadFault, Loaded, Loader};
-use vx_rows::{Broken, ByteIn};
-
-// A reader over memory, which never fails.
-#[derive(Drop)]
-struct TextIn<'t> {
-    rest: &'t [u8],
-}
-
-impl ByteIn for TextIn<'_> {
-    ghost remaining = { λ t. Some t.rest.now };
-
-    ghost has_failed = { λ _. false };
-
-    ghost is_reliable = { λ _. true };
-
-    fn read(&mut self, buf: &mut [u8]) -> Result<usize, Broken> {
-        let n = buf.len().min(self.rest.len());
-        let (front, rest) = self.rest.split_at(n);
-        buf[..n].copy_from_slice(front);
-        self.rest = rest;
-        Ok(n)
-    }
-
-    fn failed(&self) -> bool {
-        false
-    }
-}
+use vx_rows::MemoryIn;
 
 // The rows of a relation from its text.
 fn load_text(
@@ -49,9 +23,7 @@ fn load_text(
     ensures catalog { IfOk result (λ l. l.catalog ≡ catalog.now) }
     ensures relation { IfOk result (λ l. l.relation ≡ relation) }
 {
-    let mut reader = TextIn {
-        rest: text.as_bytes(),
-    };
+    let mut reader = MemoryIn::new(text.as_bytes(), None);
     Loader::load(alloc, catalog, relation, &mut reader)
 }
 
