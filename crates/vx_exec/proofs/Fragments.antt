@@ -6,8 +6,7 @@ use Rattle.vx_nodes.specs.Numbering.{is_numbered, nodes}
 use Rattle.vx_laws.proofs.Bags.{and-right}
 use Rattle.vx_ops.specs.Ledger.{one_op}
 use Rattle.vx_ops.specs.Turn.{Shape, fresh_ledger}
-use Rattle.vx_ops.specs.Select.{SelectStands, select_op, select_types}
-use Rattle.vx_ops.specs.declared.select.Select.{Select}
+use Rattle.vx_ops.specs.Select.{Select, SelectStands, select_op, select_types}
 use Rattle.vx_worker.specs.Fragment.{above}
 use Rattle.vx_worker.specs.Operator.{operator_op}
 use Rattle.vx_worker.specs.Trees.{shape as tree_shape}

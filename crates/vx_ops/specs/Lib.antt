@@ -1,6 +1,6 @@
 pub mod Ledger
 pub mod Begun
 pub mod Turn
-pub mod Exact
 pub mod Scan
+pub mod Stepping
 pub mod Select

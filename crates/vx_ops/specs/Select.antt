@@ -1,22 +1,36 @@
--- When a selection may have heard and given what a ledger says.
-use Rattle.std.specs.Prelude.{filter}
-use Rattle.vx_nodes.specs.Plan.{select}
+-- What the kernel of a selection makes, and when a selection may have heard and given what a ledger says.
+use Rattle.std.specs.Prelude.{◌≡◌, List, filter}
+use Rattle.vx_values.specs.Values.{Row}
+use Rattle.vx_nodes.specs.Plan.{Unary, select}
 use Rattle.vx_nodes.specs.Serial.{passes}
 use Rattle.vx_nodes.specs.Conditions.{conditions_of}
-use Rattle.vx_ops.specs.Ledger.{Ledger, Op, one_op, Told}
-use Rattle.vx_ops.specs.Exact.{IsExact}
+use Rattle.vx_ops.specs.Ledger.{Ledger, Op, Told}
 use Rattle.vx_ops.specs.Turn.{Shape}
-use Rattle.vx_ops.specs.declared.select.Select.{Select}
+use Rattle.vx_ops.specs.Stepping.{stepping_op, stepping_types, SteppingStands, stepping_told}
+use Rattle.vx_ops.specs.declared.stepping.Stepping.{Stepping}
+use Rattle.vx_ops.specs.declared.select.Selection.{Selection}
+
+abbrev pub selection : Selection → Unary
+selection s = select (conditions_of s.conditions.items)
+
+abbrev pub selection_types : Selection → Shape
+selection_types s = record { left = s.types.items; right = s.types.items; out = s.types.items }
+
+-- the rows that pass
+abbrev pub HasSelected : Selection → List Row → List Row → Type 0
+HasSelected s xs ys = ys ≡ filter (passes (conditions_of s.conditions.items)) xs
+
+abbrev pub Select : Type 0
+Select = Stepping Selection
 
 abbrev pub select_op : Select → Op
-select_op s = one_op s.node (select (conditions_of s.conditions.items))
+select_op s = stepping_op selection s
 
 abbrev pub select_types : Select → Shape
-select_types s = record { left = s.types.items; right = s.types.items; out = s.types.items }
+select_types s = stepping_types selection_types s
 
--- it gives the rows that pass, as they come
 abbrev pub SelectStands : Select → Ledger → Type 0
-SelectStands s l = IsExact s.node (select (conditions_of s.conditions.items)) (filter (passes (conditions_of s.conditions.items))) s.over l
+SelectStands s l = SteppingStands selection HasSelected s l
 
 pub select_told : (s : Select) (l : Ledger) → SelectStands s l → Told (select_op s) l
-select_told s l h = h.told
+select_told s l h = stepping_told selection HasSelected s l h

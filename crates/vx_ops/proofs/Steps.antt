@@ -1,0 +1,116 @@
+-- Turns of an operator that answers each batch as it comes.
+use Rattle.std.proofs.Common.{◌≡◌, ℕ, List, ◌++◌, Some, refl, sym, ◌∙◌, subst, inl, inr}
+use Rattle.vx_values.specs.Values.{Row}
+use Rattle.vx_nodes.specs.Plan.{Unary}
+use Rattle.vx_nodes.specs.Serial.{unary_rows}
+use Rattle.vx_ops.specs.Ledger.{Ledger, one_op, OwnBlame}
+use Rattle.vx_ops.specs.Begun.{all_of, begun_whole}
+use Rattle.vx_ops.specs.declared.fault.Code.TheVariants.{NoMemory}
+use Rattle.vx_ops.specs.declared.fault.Fault.{Fault}
+use Rattle.vx_ops.specs.declared.fault.Fault.TheVariants.{Own}
+use Rattle.vx_ops.specs.declared.fault.Over.{Over}
+use Rattle.vx_ops.specs.declared.fault.Over.TheVariants.{Running, Ended, Failed}
+use Rattle.vx_ops.specs.Stepping.{IsStepped}
+
+-- the ledger after a batch came and some rows were returned
+abbrev pub with_rows : Ledger → List Row → List Row → Ledger
+with_rows l xs ys = record l { left = record { rows = l.left.rows ++ xs; over = l.left.over }; gave = record { rows = l.gave.rows ++ ys; over = l.gave.over } }
+
+-- after the input ended or failed, and so did the operator
+abbrev pub with_over : Ledger → Over → Ledger
+with_over l o = record l { left = record { rows = l.left.rows; over = o }; gave = record { rows = l.gave.rows; over = o } }
+
+-- after a batch came for which memory ran out
+abbrev pub with_refusal : Ledger → List Row → Fault → Ledger
+with_refusal l xs f = record l { left = record { rows = l.left.rows ++ xs; over = l.left.over }; gave = record { rows = l.gave.rows; over = Failed f } }
+
+running-ended : Running ≡ Ended → ⊥
+running-ended e = cc
+
+running-failed : (f : Fault) → Running ≡ Failed f → ⊥
+running-failed f e = cc
+
+ended-failed : (f : Fault) → Ended ≡ Failed f → ⊥
+ended-failed f e = cc
+
+failed-ended : (f : Fault) → Failed f ≡ Ended → ⊥
+failed-ended f e = cc
+
+failed-running : (f : Fault) → Failed f ≡ Running → ⊥
+failed-running f e = cc
+
+ended-running : Ended ≡ Running → ⊥
+ended-running e = cc
+
+same-fault : (f g : Fault) → Failed f ≡ Failed g → f ≡ g
+same-fault f g e = cc
+
+module _ (n : ℕ) (op : Unary) where
+  own : (m : ℕ) (l : Ledger) (f : Fault) → Own NoMemory m ≡ f → OwnBlame (one_op n op) l f
+  own m l f e = let P : Fault → Type 0 = λ v. OwnBlame (one_op n op) l v in subst P e tt
+
+  pub step-running : (H : List Row → List Row → Type 0) (l : Ledger) → l.left.over ≡ Running → H l.left.rows l.gave.rows → unary_rows op l.left.rows ≡ Some l.gave.rows → l.gave.over ≡ Running → IsStepped n op H Running l
+  step-running H l a t m o = record {
+    stands = o;
+    runs = λ e. (a, t, m);
+    told = record {
+      before = begun_whole (one_op n op) l m;
+      ended = λ e. absurd (running-ended (sym o ∙ e));
+      passes = λ f e. absurd (running-failed f (sym a ∙ e));
+      blame = λ f e. absurd (running-failed f (sym o ∙ e));
+    };
+  }
+
+  pub step-rows : (H J : List Row → List Row → Type 0) (l : Ledger) (xs ys : List Row) → (H l.left.rows l.gave.rows → J (l.left.rows ++ xs) (l.gave.rows ++ ys)) → (J (l.left.rows ++ xs) (l.gave.rows ++ ys) → unary_rows op (l.left.rows ++ xs) ≡ Some (l.gave.rows ++ ys)) → IsStepped n op H Running l → IsStepped n op J Running (with_rows l xs ys)
+  step-rows H J l xs ys more is h =
+      let r = h.runs refl in
+      step-running J (with_rows l xs ys) r.0 (more r.1) (is (more r.1)) h.stands
+
+  pub step-end : (H J : List Row → List Row → Type 0) (l : Ledger) → IsStepped n op H Running l → IsStepped n op J Ended (with_over l Ended)
+  step-end H J l h =
+      let r = h.runs refl in
+      record {
+        stands = refl;
+        runs = λ e. absurd (ended-running e);
+        told = record {
+          before = begun_whole (one_op n op) (with_over l Ended) r.2;
+          ended = λ e. (refl, r.2);
+          passes = λ f e. absurd (ended-failed f e);
+          blame = λ f e. absurd (ended-failed f e);
+        };
+      }
+
+  pub step-fault : (H J : List Row → List Row → Type 0) (l : Ledger) (g : Fault) → IsStepped n op H Running l → IsStepped n op J (Failed g) (with_over l (Failed g))
+  step-fault H J l g h =
+      let r = h.runs refl in
+      record {
+        stands = refl;
+        runs = λ e. absurd (failed-running g e);
+        told = record {
+          before = begun_whole (one_op n op) (with_over l (Failed g)) r.2;
+          ended = λ e. absurd (failed-ended g e);
+          passes = λ f e. e;
+          blame = λ f e. inl e;
+        };
+      }
+
+  pub step-refused : (H J : List Row → List Row → Type 0) (l : Ledger) (xs : List Row) (m : ℕ) → IsStepped n op H Running l → IsStepped n op J (Failed (Own NoMemory m)) (with_refusal l xs (Own NoMemory m))
+  step-refused H J l xs m h =
+      let r = h.runs refl in
+      let k = with_refusal l xs (Own NoMemory m) in
+      record {
+        stands = refl;
+        runs = λ e. absurd (failed-running (Own NoMemory m) e);
+        told = record {
+          before = record {
+            inputs = l;
+            begins = record { left = record { rest = xs; joined = refl }; right = all_of l.right.rows; came = λ i. all_of (Rattle.vx_ports.specs.Packets.rows_of (l.came i)) };
+            whole = l.gave.rows;
+            makes = r.2;
+            gave = all_of l.gave.rows;
+          };
+          ended = λ e. absurd (failed-ended (Own NoMemory m) e);
+          passes = λ f e. absurd (running-failed f (sym r.0 ∙ e));
+          blame = λ f e. inr (own m k f (same-fault (Own NoMemory m) f e));
+        };
+      }

@@ -1,0 +1,24 @@
+use Rattle.std.proofs.Common.{◌≡◌, ◌++◌, sym, subst, Some}
+use Rattle.vx_nodes.specs.Plan.{Unary}
+use Rattle.vx_nodes.specs.Serial.{unary_rows}
+use Rattle.vx_ops.specs.declared.fault.Over.{Over}
+use Rattle.vx_ops.specs.declared.fault.Over.TheVariants.{Running}
+use Rattle.vx_ops.specs.Stepping.{IsStepped}
+use Rattle.vx_ops.proofs.Steps.{step-rows, with_rows}
+use Rattle.vx_ops.proofs.stepping.Stepping.step.Goals as goal
+
+pub returns-else-len-eq0-clause-stands : goal.returns-else-len-eq0-clause-stands
+returns-else-len-eq0-clause-stands g c l h =
+    let K = g.K.StepKernel in
+    let s = c.args.self.now in
+    let k = s.kernel in
+    let j = c.step.new.self in
+    let xs = c.args.batch.rows in
+    let ys = c.in-Ok.made.rows in
+    let P : Over → Type 0 = λ o. IsStepped s.node (K.unary k) (K.HasMade k) o l in
+    let R : Over → Type 0 = λ o. IsStepped s.node (K.unary k) (K.HasMade j) o (with_rows l xs ys) in
+    let V : Unary → Type 0 = λ u. IsStepped s.node u (K.HasMade j) s.over (with_rows l xs ys) in
+    let M : Unary → Type 0 = λ u. unary_rows u (l.left.rows ++ xs) ≡ Some (l.gave.rows ++ ys) in
+    let done : IsStepped s.node (K.unary k) (K.HasMade j) Running (with_rows l xs ys)
+    = step-rows s.node (K.unary k) (K.HasMade k) (K.HasMade j) l xs ys (λ t. c.in-Ok.ensures.made l.left.rows l.gave.rows t) (λ t. subst M c.step.ensures.unary (g.met.K.StepKernel.serial j (l.left.rows ++ xs) (l.gave.rows ++ ys) t)) (subst P c.requires.running h) in
+    subst V (sym c.step.ensures.unary) (subst R (sym c.requires.running) done)

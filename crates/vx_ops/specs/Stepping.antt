@@ -1,0 +1,30 @@
+-- When an operator that answers each batch as it comes may have heard and given what a ledger says.
+use Rattle.std.specs.Prelude.{ℕ, ◌≡◌, List, Some}
+use Rattle.vx_values.specs.Values.{Row}
+use Rattle.vx_nodes.specs.Plan.{Unary}
+use Rattle.vx_nodes.specs.Serial.{unary_rows}
+use Rattle.vx_ops.specs.Ledger.{Ledger, Op, one_op, Told}
+use Rattle.vx_ops.specs.Turn.{Shape}
+use Rattle.vx_ops.specs.declared.fault.Over.{Over}
+use Rattle.vx_ops.specs.declared.fault.Over.TheVariants.{Running}
+use Rattle.vx_ops.specs.declared.stepping.Stepping.{Stepping}
+
+-- it stands so; while it runs so does its input, its kernel made the rows that were given of those that came,
+-- and they are what the operator makes of them; and what is known of any source
+pub record IsStepped (n : ℕ) (op : Unary) (made : List Row → List Row → Type 0) (over : Over) (l : Ledger) : Type 0 where
+  pub stands : l.gave.over ≡ over
+  pub runs : over ≡ Running → (l.left.over ≡ Running) × made l.left.rows l.gave.rows × (unary_rows op l.left.rows ≡ Some l.gave.rows)
+  pub told : Told (one_op n op) l
+
+abbrev pub stepping_op : {K : Type 0} → (K → Unary) → Stepping K → Op
+stepping_op unary s = one_op s.node (unary s.kernel)
+
+abbrev pub stepping_types : {K : Type 0} → (K → Shape) → Stepping K → Shape
+stepping_types types s = types s.kernel
+
+abbrev pub SteppingStands : {K : Type 0} → (K → Unary) → (K → List Row → List Row → Type 0) → Stepping K → Ledger → Type 0
+SteppingStands unary made s l = IsStepped s.node (unary s.kernel) (made s.kernel) s.over l
+
+pub stepping_told : {K : Type 0} (unary : K → Unary) (made : K → List Row → List Row → Type 0) (s : Stepping K) (l : Ledger)
+    → SteppingStands unary made s l → Told (stepping_op unary s) l
+stepping_told unary made s l h = h.told

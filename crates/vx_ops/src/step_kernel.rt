@@ -1,0 +1,35 @@
+//! Kernels that answer each batch of their input with rows as it comes.
+
+use std::alloc::AllocError;
+use vx_rows::Rows;
+
+/// Calls: step*, and none after an `Err`
+///
+/// What an operator of one input computes, a batch at a time: `Stepping` makes a source of it.
+pub trait StepKernel: Drop {
+    ghost use Rattle.std.specs.Prelude.{◌≡◌, ◌++◌, List, Some, IfOk};
+    ghost use Rattle.vx_values.specs.Values.{Row};
+    ghost use Rattle.vx_nodes.specs.Plan.{Unary};
+    ghost use Rattle.vx_nodes.specs.Serial.{unary_rows};
+    ghost use Rattle.vx_ops.specs.Turn.{Shape};
+
+    // The operator.
+    ghost unary: { Self → Unary };
+
+    // The types of the rows of its input and of its output.
+    ghost types: { Self → Shape };
+
+    // That the kernel has read the first rows, and has returned the second for them.
+    ghost HasMade: { Self → List Row → List Row → Type 0 };
+
+    /// The output rows that a further batch of the input adds.
+    fn step(&mut self, batch: Rows) -> Result<Rows, AllocError>
+        requires typed { batch.types ≡ (types self.old).left }
+        ensures made { IfOk result (λ r. (xs ys : List Row) → HasMade self.old xs ys → HasMade self.new (xs ++ batch.rows) (ys ++ r.rows)) }
+        ensures typed { IfOk result (λ r. r.types ≡ (types self.old).out) }
+        ensures unary { unary self.new ≡ unary self.old }
+        ensures types { types self.new ≡ types self.old };
+
+    // All that it returned is what the operator makes of all that it read, by its serial meaning.
+    ghost serial: { (s : Self) (xs ys : List Row) → HasMade s xs ys → unary_rows (unary s) xs ≡ Some ys };
+}

@@ -1,0 +1,112 @@
+//! The source that a kernel makes which answers each batch as it comes.
+
+use crate::fault::{Code, Fault, Over};
+use crate::source::Source;
+use crate::step_kernel::StepKernel;
+use crate::turn::{Got, Polled, Want};
+use vx_rows::Rows;
+
+/// Calls: with_kernel (wants turn)*
+///
+/// An operator of one input: it returns what its kernel makes of each batch, as the batches come.
+#[derive(Drop)]
+pub struct Stepping<K> {
+    node: u32,
+    kernel: K,
+    over: Over,
+}
+
+impl<K: StepKernel> Stepping<K> {
+    ghost use Rattle.std.specs.Prelude.{◌≡◌, []};
+    ghost use Rattle.vx_ops.specs.Ledger.{Ledger, one_op};
+    ghost use Rattle.vx_ops.specs.Turn.{fresh_ledger, after, GivesRows};
+    ghost use Rattle.vx_ops.specs.Stepping.{SteppingStands, stepping_op, stepping_types};
+    ghost use Rattle.vx_ops.specs.declared.fault.Over.TheVariants.{Running};
+    ghost use Rattle.vx_ops.specs.declared.turn.Polled.TheVariants as polled;
+    ghost use Rattle.vx_ops.specs.declared.turn.Got.TheVariants as got_of;
+    ghost use Rattle.vx_ops.specs.declared.turn.Want.TheVariants as want_of;
+
+    /// The operator at the node with this number, whose kernel has read nothing yet.
+    pub fn with_kernel(node: u32, kernel: K) -> Stepping<K>
+        requires { K.HasMade kernel [] [] }
+        ensures stands { SteppingStands K.unary K.HasMade result fresh_ledger }
+        ensures op { stepping_op K.unary result ≡ one_op node (K.unary kernel) }
+        ensures types { stepping_types K.types result ≡ K.types kernel }
+    {
+        Stepping {
+            node,
+            kernel,
+            over: Over::Running,
+        }
+    }
+
+    // The answer to a batch.
+    fn step(&mut self, batch: Rows) -> Polled
+        requires running { self.old.over ≡ Running }
+        requires typed { batch.types ≡ (K.types self.old.kernel).left }
+        ensures stands { (l : Ledger) → SteppingStands K.unary K.HasMade self.old l
+            → SteppingStands K.unary K.HasMade self.new (after l want_of.Left (got_of.Input (polled.Gave batch)) result) }
+        ensures gives { GivesRows (K.types self.old.kernel).out result }
+        ensures op { stepping_op K.unary self.new ≡ stepping_op K.unary self.old }
+        ensures types { stepping_types K.types self.new ≡ stepping_types K.types self.old }
+    {
+        match self.kernel.step(batch) {
+            Ok(made) => {
+                if made.len() == 0 {
+                    return Polled::Waiting;
+                }
+                Polled::Gave(made)
+            }
+            Err(_) => {
+                let fault = Fault::Own {
+                    code: Code::NoMemory,
+                    node: self.node,
+                };
+                self.over = Over::Failed(fault);
+                Polled::Fault(fault)
+            }
+        }
+    }
+}
+
+impl<K: StepKernel> Source for Stepping<K> {
+    ghost use Rattle.vx_ops.specs.Turn.{while_running};
+    ghost use Rattle.vx_ops.specs.Stepping.{SteppingStands, stepping_op, stepping_types, stepping_told};
+    ghost use Rattle.vx_ops.specs.declared.turn.Want.TheVariants as want_of;
+
+    ghost Stands = { SteppingStands K.unary K.HasMade };
+
+    ghost op = { stepping_op K.unary };
+
+    ghost types = { stepping_types K.types };
+
+    ghost want = { λ s. while_running want_of.Left s.over };
+
+    ghost told = { stepping_told K.unary K.HasMade };
+
+    fn wants(&self) -> Want {
+        match self.over {
+            Over::Running => Want::Left,
+            _ => Want::Nothing,
+        }
+    }
+
+    fn turn(&mut self, got: Got) -> Polled {
+        match self.over {
+            Over::Ended => Polled::End,
+            Over::Failed(f) => Polled::Fault(f),
+            Over::Running => match got {
+                Got::Input(Polled::Gave(batch)) => self.step(batch),
+                Got::Input(Polled::End) => {
+                    self.over = Over::Ended;
+                    Polled::End
+                }
+                Got::Input(Polled::Fault(f)) => {
+                    self.over = Over::Failed(f);
+                    Polled::Fault(f)
+                }
+                _ => Polled::Waiting,
+            },
+        }
+    }
+}
