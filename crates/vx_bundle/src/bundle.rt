@@ -4,7 +4,7 @@ ghost use Rattle.std.specs.Prelude.{◌≡◌, [], map, string_bytes, codes, opt
 ghost use Rattle.std.specs.List.{find};
 ghost use Rattle.serde_json.specs.Find.{get, as_str};
 ghost use Rattle.serde_json.specs.View.{view, members_view};
-ghost use Rattle.vx_json.specs.Look.{Reads, or_default};
+ghost use Rattle.vx_json.specs.Look.{Parses, Reads, or_default};
 ghost use Rattle.vx_bundle.specs.Setting.{size_form};
 ghost use Rattle.vx_bundle.specs.Bundle.{command_in, mode_in, number_in, each_member, members_in, setting_in, bundle_in, value_of_text};
 ghost use Rattle.vx_bundle.specs.BundleView.{table_form, bundle_form};
@@ -13,7 +13,7 @@ use crate::command::Command;
 use crate::setting::{MORSEL, Mode, PACKET, SLACK, Setting};
 use serde_json::{Map, Value};
 use std::alloc::{AllocError, Global};
-use vx_json::has_only;
+use vx_json::{Misread, get_member, get_text, test_members};
 
 // A relation's name with its text.
 #[derive(Clone, Copy)]
@@ -33,196 +33,152 @@ pub struct Bundle<'v> {
 }
 
 #[tactic(auto, unfolding(crate::specs::Bundle::command_in))]
-fn command_in(value: &Value) -> Option<Command>
-    ensures { result ≡ command_in (view value.now) }
+fn read_command(value: &Value) -> Result<Command, Misread>
+    ensures { Parses (λ c. c) result (command_in (view value.now)) }
 {
-    let text = value.as_str()?;
-    if text == "run" {
-        Some(Command::Run)
-    } else if text == "serial" {
-        Some(Command::Serial)
-    } else if text == "check" {
-        Some(Command::Check)
-    } else if text == "explain" {
-        Some(Command::Explain)
-    } else {
-        None
+    match value.as_str() {
+        Some("run") => Ok(Command::Run),
+        Some("serial") => Ok(Command::Serial),
+        Some("check") => Ok(Command::Check),
+        Some("explain") => Ok(Command::Explain),
+        _ => Err(Misread::NotOfForm),
     }
 }
 
 #[tactic(auto, unfolding(crate::specs::Bundle::mode_in))]
-fn mode_in(value: &Value) -> Option<Mode>
-    ensures { result ≡ mode_in (view value.now) }
+fn read_mode(value: &Value) -> Result<Mode, Misread>
+    ensures { Parses (λ m. m) result (mode_in (view value.now)) }
 {
-    let text = value.as_str()?;
-    if text == "rounds" {
-        Some(Mode::Rounds)
-    } else if text == "threads" {
-        Some(Mode::Threads)
-    } else {
-        None
+    match value.as_str() {
+        Some("rounds") => Ok(Mode::Rounds),
+        Some("threads") => Ok(Mode::Threads),
+        _ => Err(Misread::NotOfForm),
     }
 }
 
 // A number of 32 bits without sign.
 #[tactic(auto, unfolding(crate::specs::Bundle::number_in))]
-fn number_in(value: &Value) -> Option<u32>
-    ensures { result ≡ number_in (view value.now) }
+fn read_number(value: &Value) -> Result<u32, Misread>
+    ensures { Parses (λ n. n) result (number_in (view value.now)) }
 {
-    u32::try_from(value.as_u64()?).ok()
+    let number = value.as_u64().ok_or(Misread::NotOfForm)?;
+    u32::try_from(number).ok().ok_or(Misread::NotOfForm)
 }
 
 // A member's number, or the number that stands for a member left out.
-fn number_or(value: &Value, key: &str, default: u32) -> Option<u32>
-    ensures { result ≡ or_default default number_in (get key.now (view value.now)) }
+fn read_number_or(value: &Value, key: &str, default: u32) -> Result<u32, Misread>
+    ensures { Parses (λ n. n) result (or_default default number_in (get key.now (view value.now))) }
 {
     match value.get(key) {
-        Some(number) => number_in(number),
-        None => Some(default),
+        Some(number) => read_number(number),
+        None => Ok(default),
     }
 }
 
 // Each member's name with its number.
-fn sizes_of(
+fn read_each_size(
     alloc: Global,
     members: &Map<String, Value>,
-) -> Result<Option<Vec<(String, u32)>>, AllocError>
-    ensures { Reads (λ v. map size_form v.items) result (each_member number_in [] (members_view members.now.entries)) }
+) -> Result<Vec<(String, u32)>, Misread>
+    ensures { Parses (λ v. map size_form v.items) result (each_member number_in [] (members_view members.now.entries)) }
 {
     let mut sizes = Vec::new(alloc);
     for (name, value) in members.iter() {
-        let Some(workers) = number_in(value) else {
-            return Ok(None);
-        };
+        let workers = read_number(value)?;
         sizes.push((String::from_str(alloc, name.as_str())?, workers))?;
     }
-    Ok(Some(sizes))
+    Ok(sizes)
 }
 
-fn sizes_in(alloc: Global, value: &Value) -> Result<Option<Vec<(String, u32)>>, AllocError>
-    ensures { Reads (λ v. map size_form v.items) result (members_in number_in (view value.now)) }
-{
-    match value.as_object() {
-        Some(members) => sizes_of(alloc, members),
-        None => Ok(None),
-    }
-}
-
-fn sizes_or_none(alloc: Global, value: &Value) -> Result<Option<Vec<(String, u32)>>, AllocError>
-    ensures { Reads (λ v. map size_form v.items) result (or_default [] (members_in number_in) (get (codes "sizes") (view value.now))) }
+fn read_sizes(alloc: Global, value: &Value) -> Result<Vec<(String, u32)>, Misread>
+    ensures { Parses (λ v. map size_form v.items) result (or_default [] (members_in number_in) (get (codes "sizes") (view value.now))) }
 {
     match value.get("sizes") {
-        Some(sizes) => sizes_in(alloc, sizes),
-        None => Ok(Some(Vec::new(alloc))),
+        Some(sizes) => read_each_size(alloc, sizes.as_object().ok_or(Misread::NotOfForm)?),
+        None => Ok(Vec::new(alloc)),
     }
 }
 
-fn mode_or_rounds(value: &Value) -> Option<Mode>
-    ensures { result ≡ or_default Mode.Rounds mode_in (get (codes "mode") (view value.now)) }
+fn read_mode_or_rounds(value: &Value) -> Result<Mode, Misread>
+    ensures { Parses (λ m. m) result (or_default Mode.Rounds mode_in (get (codes "mode") (view value.now))) }
 {
     match value.get("mode") {
-        Some(mode) => mode_in(mode),
-        None => Some(Mode::Rounds),
+        Some(mode) => read_mode(mode),
+        None => Ok(Mode::Rounds),
     }
 }
 
 // The members that say how a run is set up.
 #[tactic(auto, unfolding(crate::specs::Bundle::setting_in))]
-fn setting_in(alloc: Global, value: &Value) -> Result<Option<Setting>, AllocError>
-    ensures { Reads (λ s. s) result (setting_in (view value.now)) }
+fn read_setting(alloc: Global, value: &Value) -> Result<Setting, Misread>
+    ensures { Parses (λ s. s) result (setting_in (view value.now)) }
 {
-    let Some(sizes) = sizes_or_none(alloc, value)? else {
-        return Ok(None);
-    };
-    let Some(packet) = number_or(value, "packet", PACKET) else {
-        return Ok(None);
-    };
-    let Some(morsel) = number_or(value, "morsel", MORSEL) else {
-        return Ok(None);
-    };
-    let Some(slack) = number_or(value, "slack", SLACK) else {
-        return Ok(None);
-    };
-    let Some(mode) = mode_or_rounds(value) else {
-        return Ok(None);
-    };
-    Ok(Some(Setting::new(sizes, packet, morsel, slack, mode)))
+    let sizes = read_sizes(alloc, value)?;
+    let packet = read_number_or(value, "packet", PACKET)?;
+    let morsel = read_number_or(value, "morsel", MORSEL)?;
+    let slack = read_number_or(value, "slack", SLACK)?;
+    let mode = read_mode_or_rounds(value)?;
+    Ok(Setting::new(sizes, packet, morsel, slack, mode))
 }
 
 // Each member's name with its text.
-fn tables_of<'v>(
+fn read_each_table<'v>(
     alloc: Global,
     members: &'v Map<String, Value>,
-) -> Result<Option<Vec<Table<'v>>>, AllocError>
-    ensures { Reads (λ v. map table_form v.items) result (each_member as_str [] (members_view members.now.entries)) }
+) -> Result<Vec<Table<'v>>, Misread>
+    ensures { Parses (λ v. map table_form v.items) result (each_member as_str [] (members_view members.now.entries)) }
 {
     let mut tables = Vec::new(alloc);
     for (name, value) in members.iter() {
-        let Some(text) = value.as_str() else {
-            return Ok(None);
-        };
+        let text = get_text(value)?;
         let name = name.as_str();
         tables.push(Table { name, text })?;
     }
-    Ok(Some(tables))
+    Ok(tables)
 }
 
-fn tables_in<'v>(alloc: Global, value: &'v Value) -> Result<Option<Vec<Table<'v>>>, AllocError>
-    ensures { Reads (λ v. map table_form v.items) result (members_in as_str (view value.now)) }
-{
-    match value.as_object() {
-        Some(members) => tables_of(alloc, members),
-        None => Ok(None),
-    }
-}
-
-fn tables_or_none<'v>(alloc: Global, value: &'v Value) -> Result<Option<Vec<Table<'v>>>, AllocError>
-    ensures { Reads (λ v. map table_form v.items) result (or_default [] (members_in as_str) (get (codes "tables") (view value.now))) }
+fn read_tables<'v>(alloc: Global, value: &'v Value) -> Result<Vec<Table<'v>>, Misread>
+    ensures { Parses (λ v. map table_form v.items) result (or_default [] (members_in as_str) (get (codes "tables") (view value.now))) }
 {
     match value.get("tables") {
-        Some(tables) => tables_in(alloc, tables),
-        None => Ok(Some(Vec::new(alloc))),
+        Some(tables) => read_each_table(alloc, tables.as_object().ok_or(Misread::NotOfForm)?),
+        None => Ok(Vec::new(alloc)),
     }
 }
 
-/// The bundle that a JSON value is, if it has the form of one.
 #[tactic(auto, unfolding(crate::specs::Bundle::bundle_in))]
-pub fn bundle_in<'v>(alloc: Global, value: &'v Value) -> Result<Option<Bundle<'v>>, AllocError>
-    ensures { Reads bundle_form result (bundle_in (view value.now)) }
+fn read_bundle<'v>(alloc: Global, value: &'v Value) -> Result<Bundle<'v>, Misread>
+    ensures { Parses bundle_form result (bundle_in (view value.now)) }
 {
-    if !has_only(
+    test_members(
         value,
         &[
             "command", "catalog", "plan", "tables", "sizes", "packet", "morsel", "slack", "mode",
         ],
-    ) {
-        return Ok(None);
-    }
-    let Some(command) = value.get("command") else {
-        return Ok(None);
-    };
-    let Some(command) = command_in(command) else {
-        return Ok(None);
-    };
-    let Some(catalog) = value.get("catalog") else {
-        return Ok(None);
-    };
-    let Some(plan) = value.get("plan") else {
-        return Ok(None);
-    };
-    let Some(tables) = tables_or_none(alloc, value)? else {
-        return Ok(None);
-    };
-    let Some(setting) = setting_in(alloc, value)? else {
-        return Ok(None);
-    };
-    Ok(Some(Bundle {
+    )?;
+    let command = read_command(get_member(value, "command")?)?;
+    let catalog = get_member(value, "catalog")?;
+    let plan = get_member(value, "plan")?;
+    let tables = read_tables(alloc, value)?;
+    let setting = read_setting(alloc, value)?;
+    Ok(Bundle {
         command,
         catalog,
         plan,
         tables,
         setting,
-    }))
+    })
+}
+
+/// The bundle that a JSON value is, if it has the form of one.
+pub fn bundle_in<'v>(alloc: Global, value: &'v Value) -> Result<Option<Bundle<'v>>, AllocError>
+    ensures { Reads bundle_form result (bundle_in (view value.now)) }
+{
+    match read_bundle(alloc, value) {
+        Ok(bundle) => Ok(Some(bundle)),
+        Err(Misread::NotOfForm) => Ok(None),
+        Err(Misread::NoMemory) => Err(AllocError),
+    }
 }
 
 /// The value of a JSON text in UTF-8.

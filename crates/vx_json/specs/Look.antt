@@ -1,9 +1,11 @@
 -- Looking into a JSON value: the items of an array, objects with no members but the stated ones, names, lists of values of one form, and members that may be left out.
-use Rattle.std.specs.Prelude.{◌≡◌, ℕ, List, [], ◌∷◌, ◌++◌, Bool, false, Option, Some, None, option_map, option_and_then, bytes_eq, Result, IfOk}
+use Rattle.std.specs.Prelude.{◌≡◌, ℕ, List, [], ◌∷◌, ◌++◌, Bool, false, Option, Some, None, option_map, option_and_then, bytes_eq, Result, Ok, Err, IfOk}
 use Rattle.std.specs.List.{list_all, list_any}
 use Rattle.serde_json.specs.Data.{Data, null, boolean, number, string, array, object, Items, no_items, item, Members, no_members, member}
 use Rattle.serde_json.specs.Find.{as_array, as_str}
 use Rattle.std.specs.declared.alloc.AllocError.{AllocError}
+use Rattle.vx_json.specs.declared.misread.Misread.{Misread}
+use Rattle.vx_json.specs.declared.misread.Misread.TheVariants.{NotOfForm}
 
 -- items as a list
 abbrev pub list_of : Items → List Data
@@ -34,6 +36,11 @@ has_only names (object ms) = list_all (is_among names) (names_of ms)
 abbrev pub Reads : {X Y : Type 0} → (X → Y) → Result (Option X) AllocError → Option Y → Type 0
 Reads look result form = IfOk result (λ o. option_map look o ≡ form)
 
+-- a call gives the value of a form, or fails because there is none or memory ran out
+abbrev pub Parses : {X Y : Type 0} → (X → Y) → Result X Misread → Option Y → Type 0
+Parses look (Ok x) form = form ≡ Some (look x)
+Parses look (Err e) form = e ≡ NotOfForm → form ≡ None
+
 -- a list with an entry
 abbrev pub some_entry : {X : Type 0} → List X → Option (List X)
 some_entry [] = None
@@ -47,6 +54,14 @@ name_in d = option_and_then some_entry (as_str d)
 unfoldable pub each_onto : {A : Type 0} → (Data → Option A) → List A → List Data → Option (List A)
 each_onto f front [] = Some front
 each_onto f front (d ∷ ds) = option_and_then (λ x. each_onto f (front ++ x ∷ []) ds) (f d)
+
+-- a list of values of a form
+abbrev pub each_in : {A : Type 0} → (Data → Option A) → Data → Option (List A)
+each_in f d = option_and_then (each_onto f []) (as_list d)
+
+-- a list of values of a form with an entry
+abbrev pub some_in : {A : Type 0} → (Data → Option A) → Data → Option (List A)
+some_in f d = option_and_then (each_onto f []) (option_and_then some_entry (as_list d))
 
 -- a member that may be left out
 abbrev pub or_default : {A : Type 0} → A → (Data → Option A) → Option Data → Option A

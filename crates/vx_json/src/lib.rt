@@ -1,6 +1,14 @@
-//! Looking into a JSON value: the items of an array, objects with no members but the stated ones, and names.
+//! Reading JSON values by their forms: the items of an array, the members of an object, names, and lists of values of one form.
 #![tactic(auto)]
 
+mod lists;
 mod look;
+mod misread;
+mod options;
 
-pub use look::{has_only, items, name_in, names_of};
+pub use lists::{NameReader, Reader, read_list, read_list_or_empty, read_some};
+pub use look::{
+    get_items, get_member, get_some_items, get_text, has_only, read_name, test_members,
+};
+pub use misread::Misread;
+pub use options::{items, name_in, names_of};

@@ -1,22 +1,43 @@
 //! Looking into a JSON value.
 
-ghost use Rattle.std.specs.Prelude.{◌≡◌, [], map, option_map, string_bytes};
+ghost use Rattle.std.specs.Prelude.{◌≡◌, true, false, map, option_and_then, string_bytes, OnOk, IfErr};
 ghost use Rattle.std.specs.List.{list_all};
 ghost use Rattle.std.specs.BTreeMap.{keys};
+ghost use Rattle.serde_json.specs.Find.{get, as_str};
 ghost use Rattle.serde_json.specs.View.{view};
-ghost use Rattle.vx_json.specs.Look.{as_list, is_among, has_only, Reads, name_in, each_onto};
+ghost use Rattle.vx_json.specs.Look.{as_list, some_entry, is_among, has_only, Parses, name_in};
+ghost use Rattle.vx_json.specs.declared.misread.Misread.TheVariants.{NotOfForm};
 
+use crate::misread::Misread;
 use serde_json::{Map, Value};
-use std::alloc::{AllocError, Global};
+use std::alloc::Global;
 
 /// The items of an array.
-pub fn items(value: &Value) -> Option<&[Value]>
-    ensures { option_map (λ s. map view s.now) result ≡ as_list (view value.now) }
+pub fn get_items(value: &Value) -> Result<&[Value], Misread>
+    ensures { Parses (λ s. map view s.now) result (as_list (view value.now)) }
 {
     match value.as_array() {
-        Some(list) => Some(list.as_slice()),
-        None => None,
+        Some(list) => Ok(list.as_slice()),
+        None => Err(Misread::NotOfForm),
     }
+}
+
+/// The items of an array that is not empty.
+pub fn get_some_items(value: &Value) -> Result<&[Value], Misread>
+    ensures { Parses (λ s. map view s.now) result (option_and_then some_entry (as_list (view value.now))) }
+{
+    let values = get_items(value)?;
+    if values.is_empty() {
+        return Err(Misread::NotOfForm);
+    }
+    Ok(values)
+}
+
+/// The value of a member.
+pub fn get_member<'v>(value: &'v Value, key: &str) -> Result<&'v Value, Misread>
+    ensures { Parses (λ v. view v.now) result (get key.now (view value.now)) }
+{
+    value.get(key).ok_or(Misread::NotOfForm)
 }
 
 fn is_among(names: &[&str], key: &str) -> bool
@@ -30,7 +51,7 @@ fn is_among(names: &[&str], key: &str) -> bool
     false
 }
 
-fn keys_are_among(members: &Map<String, Value>, names: &[&str]) -> bool
+fn are_keys_among(members: &Map<String, Value>, names: &[&str]) -> bool
     ensures { result ≡ list_all (λ k. is_among (map (λ n. n.now) names.now) (string_bytes k)) (keys members.now) }
 {
     members.keys().all(|key| is_among(names, key.as_str()))
@@ -41,33 +62,37 @@ pub fn has_only(value: &Value, names: &[&str]) -> bool
     ensures { result ≡ has_only (map (λ n. n.now) names.now) (view value.now) }
 {
     match value.as_object() {
-        Some(members) => keys_are_among(members, names),
+        Some(members) => are_keys_among(members, names),
         None => false,
     }
 }
 
-/// A text that is not empty.
-#[tactic(auto, unfolding(crate::specs::Look::name_in))]
-pub fn name_in(alloc: Global, value: &Value) -> Result<Option<String>, AllocError>
-    ensures { Reads string_bytes result (name_in (view value.now)) }
+/// Fails unless a value is an object with no members but these.
+pub fn test_members(value: &Value, names: &[&str]) -> Result<(), Misread>
+    ensures ok { OnOk result (has_only (map (λ n. n.now) names.now) (view value.now) ≡ true) }
+    ensures err { IfErr result (λ e. (e ≡ NotOfForm) × (has_only (map (λ n. n.now) names.now) (view value.now) ≡ false)) }
 {
-    match value.as_str() {
-        Some(text) if !text.is_empty() => Ok(Some(String::from_str(alloc, text)?)),
-        _ => Ok(None),
+    if has_only(value, names) {
+        Ok(())
+    } else {
+        Err(Misread::NotOfForm)
     }
 }
 
-/// Each of the values, as a name.
-#[tactic(auto, using(crate::proofs::EachFacts::each_steps))]
-pub fn names_of(alloc: Global, values: &[Value]) -> Result<Option<Vec<String>>, AllocError>
-    ensures { Reads (λ v. map string_bytes v.items) result (each_onto name_in [] (map view values.now)) }
+/// A text.
+pub fn get_text(value: &Value) -> Result<&str, Misread>
+    ensures { Parses (λ s. s.now) result (as_str (view value.now)) }
 {
-    let mut found = Vec::new(alloc);
-    for value in values {
-        match name_in(alloc, value)? {
-            Some(name) => found.push(name)?,
-            None => return Ok(None),
-        }
+    value.as_str().ok_or(Misread::NotOfForm)
+}
+
+/// A text that is not empty, in memory of its own.
+#[tactic(auto, unfolding(crate::specs::Look::name_in))]
+pub fn read_name(alloc: Global, value: &Value) -> Result<String, Misread>
+    ensures { Parses string_bytes result (name_in (view value.now)) }
+{
+    match value.as_str() {
+        Some(text) if !text.is_empty() => Ok(String::from_str(alloc, text)?),
+        _ => Err(Misread::NotOfForm),
     }
-    Ok(Some(found))
 }
