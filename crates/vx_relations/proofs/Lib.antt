@@ -5,3 +5,4 @@ pub mod Accepted
 pub mod Complete
 pub mod TextFacts
 pub mod Stated
+pub mod SameFacts

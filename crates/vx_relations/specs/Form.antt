@@ -4,7 +4,7 @@ use Rattle.serde_json.specs.Data.{Data}
 use Rattle.serde_json.specs.Find.{get, as_str}
 use Rattle.vx_values.specs.declared.value.ColType.{ColType}
 use Rattle.vx_values.specs.declared.value.ColType.TheVariants as kind
-use Rattle.vx_json.specs.Look.{as_list, has_only, some_entry, name_in, each_onto}
+use Rattle.vx_json.specs.Look.{as_list, has_only, some_entry, name_in, each_onto, each_in, or_default}
 
 -- a column as the catalog's text has it
 pub record ColumnText : Type 0 where
@@ -41,13 +41,11 @@ columns_in d = option_and_then (each_onto column_in []) (entries d)
 
 -- none where the member is left out
 abbrev pub keys_or : Option Data → Option (List (List (List ℕ)))
-keys_or None = Some []
-keys_or (Some d) = option_and_then (each_onto key_in []) (as_list d)
+keys_or o = or_default [] (each_in key_in) o
 
 -- none where the member is left out
 abbrev pub order_or : Option Data → Option (List (List ℕ))
-order_or None = Some []
-order_or (Some d) = option_and_then (each_onto name_in []) (as_list d)
+order_or o = or_default [] (each_in name_in) o
 
 abbrev pub relation_members : List (List ℕ)
 relation_members = codes "name" ∷ codes "columns" ∷ codes "keys" ∷ codes "order" ∷ []

@@ -9,6 +9,8 @@ use Rattle.vx_relations.specs.Relation.{Relation}
 use Rattle.vx_relations.specs.Catalog.{IsCatalog}
 use Rattle.vx_relations.specs.Walk.{◌>>=◌, walk_onto}
 use Rattle.vx_relations.specs.Form.{ColumnText, RelationText, catalog_in}
+use Rattle.vx_json.specs.declared.misread.Misread.{Misread}
+use Rattle.vx_json.specs.declared.misread.Misread.TheVariants as misread
 use Rattle.vx_relations.specs.declared.fault.CatalogFault.{CatalogFault}
 use Rattle.vx_relations.specs.declared.fault.CatalogFault.TheVariants as fault
 
@@ -17,6 +19,11 @@ pub data Refusal : Type 0 where
   too_large : Refusal
   duplicate_name : List ℕ → Refusal
   unknown_column : List ℕ → Refusal
+
+-- why a catalog that was not read is refused
+abbrev pub fault_of : Misread → CatalogFault
+fault_of misread.NotOfForm = fault.BadCatalog
+fault_of misread.NoMemory = fault.NoMemory
 
 -- what a call refused is what the reading refuses, and want of memory excuses
 abbrev pub Fails : {Y : Type 0} → CatalogFault → Result Y Refusal → Type 0

@@ -6,7 +6,7 @@ ghost use Rattle.vx_relations.specs.Catalog.{relation_at, IsRelation, IsCatalog}
 ghost use Rattle.vx_relations.specs.Naming.{Gives, catalog_of, catalog_text, CatalogLaw};
 
 use crate::fault::CatalogFault;
-use crate::form::catalog_in;
+use crate::form::read_catalog;
 use crate::naming::{is_within_limits, relations_of};
 use crate::relation::Relation;
 use serde_json::{Category, Value};
@@ -69,13 +69,11 @@ fn are_same(relations: &[Relation], others: &[Relation]) -> bool
 impl Catalog {
     /// The catalog that a JSON value is. Its form comes first, then its limits, then its names,
     /// relation by relation: its name, the names of its columns, its keys and its order.
-    #[tactic(auto, unfolding(crate::specs::Naming::catalog_of))]
+    #[tactic(auto, unfolding(crate::specs::Naming::catalog_of), using(crate::proofs::SameFacts::misread_fails))]
     pub fn of_value(alloc: Global, value: &Value) -> Result<Catalog, CatalogFault>
         ensures { Gives (λ c. c) result (catalog_of (view value.now)) }
     {
-        let Some(texts) = catalog_in(alloc, value)? else {
-            return Err(CatalogFault::BadCatalog);
-        };
+        let texts = read_catalog(alloc, value)?;
         if !is_within_limits(texts.as_slice()) {
             return Err(CatalogFault::TooLarge);
         }

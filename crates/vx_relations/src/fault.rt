@@ -2,6 +2,7 @@
 
 use std::alloc::{AllocError, AllocFailed};
 use thiserror::Error;
+use vx_json::Misread;
 
 /// The first reason why a value is no catalog.
 #[derive(Debug, Drop, Error)]
@@ -42,5 +43,19 @@ impl<T: Drop> From<AllocFailed<T>> for CatalogFault {
 
     fn from(_e: AllocFailed<T>) -> CatalogFault {
         CatalogFault::NoMemory
+    }
+}
+
+impl From<Misread> for CatalogFault {
+    ghost use Rattle.std.specs.Prelude.{◌≡◌};
+    ghost use Rattle.vx_relations.specs.Naming.{fault_of};
+
+    ghost from_gives = { λ m e. e ≡ fault_of m };
+
+    fn from(error: Misread) -> CatalogFault {
+        match error {
+            Misread::NotOfForm => CatalogFault::BadCatalog,
+            Misread::NoMemory => CatalogFault::NoMemory,
+        }
     }
 }
