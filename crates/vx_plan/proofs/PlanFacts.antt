@@ -1,5 +1,5 @@
 -- A plan that was resolved is typed, and its nodes are numbered in preorder.
-use Rattle.std.proofs.Common.{◌≡◌, ℕ, suc, ◌+◌, ◌≤◌, ◌==◌, nat_lt, nat_le, not, List, [], ◌∷◌, ◌++◌, Bool, true, false, cond, ◌&&◌, Option, Some, None, Result, Ok, Err, map, length, position, bytes_eq, refl, sym, ◌∙◌, subst, arith, eq-eqb, lt-ltb}
+use Rattle.std.proofs.Common.{◌≡◌, ℕ, suc, ◌+◌, ◌≤◌, ◌==◌, nat_lt, nat_le, not, List, [], ◌∷◌, ◌++◌, Bool, true, false, cond, ◌&&◌, Option, Some, None, Result, Ok, Err, map, length, position, bytes_eq, refl, sym, ap, ◌∙◌, subst, arith, eq-eqb, lt-ltb}
 use Rattle.std.specs.List.{list_all, list_any}
 use Rattle.std.proofs.lemmas.List.{length-map, length_push}
 use Rattle.std.proofs.lemmas.Bool.{leb-false, le-leb, or_parts, not-false}
@@ -8,6 +8,7 @@ use Rattle.vx_values.specs.declared.value.ColType.{ColType}
 use Rattle.vx_relations.specs.Relation.{Relation}
 use Rattle.vx_relations.specs.Catalog.{relation_at, IsRelation, IsCatalog}
 use Rattle.vx_nodes.specs.Types.{types_of, unary_types, binary_types}
+use Rattle.vx_typed.specs.Outputs.{IsOutputOf, HasOutputs}
 use Rattle.vx_typed.specs.Typed.{is_size, is_unary, is_binary, is_kind, is_claim, is_output, is_range, are_columns, typed, IsTyped}
 use Rattle.vx_nodes.specs.Numbering.{nodes, is_numbered}
 use Rattle.vx_values.specs.Values.{Name}
@@ -25,12 +26,17 @@ use Rattle.vx_values.proofs.Booleans.{and-left, and-right, and-both}
 use Rattle.vx_plan.proofs.ClaimFacts.{size-holds, IsTop, top-holds}
 use Rattle.vx_plan.proofs.ShapeFacts.{IsOutput, IsShape, shape-holds, IsJoint, joint-holds, IsExchange, exchange-holds}
 
--- an outline that was resolved: typed, with the columns that it says, and numbered from n up to the next
+-- an outline that was resolved: typed, with the columns that it says at its top and at every node, and numbered from n up to the next
 pub record IsResolved (s : Names) (n : ℕ) (o : Outline) (next : ℕ) : Type 0 where
   pub output : IsOutput (types_of (relation_at s.catalog) (plan_in o)) (columns o)
+  pub outputs : HasOutputs (relation_at s.catalog) o
   pub typed : typed (scope_of s) (plan_in o) ≡ true
   pub numbered : is_numbered n (plan_in o) ≡ true
   pub count : next ≡ n + nodes (plan_in o)
+
+-- the columns of an output, at a node
+output-of : {types : List ColType} {cols : Columns} → IsOutput types cols → IsOutputOf types cols
+output-of out = record { types_are = out.types_are; names_are = out.names_are ∙ ap length out.types_are }
 
 -- an output is one of its own types
 own-output : {types : List ColType} {cols : Columns} → IsOutput types cols → IsOutput cols.types cols
@@ -74,6 +80,7 @@ scan-holds s n c f cat h =
     (top-holds s n (scan_columns (relation_at s.catalog r) f.prefix) c out.names_are h)
     (λ t ht. record {
       output = top-columns s n (relation_at s.catalog r).types (scan_columns (relation_at s.catalog r) f.prefix) t out ht;
+      outputs = output-of (top-columns s n (relation_at s.catalog r).types (scan_columns (relation_at s.catalog r) f.prefix) t out ht);
       typed = and-both (nat_lt r (length s.catalog)) (is_size (length s.sizes) z && is_output (scope_of s) (relation_at s.catalog r).types t.claim) hr
           (and-both (is_size (length s.sizes) z) (is_output (scope_of s) (relation_at s.catalog r).types t.claim) hz (top-output s n (relation_at s.catalog r).types (scan_columns (relation_at s.catalog r) f.prefix) t out ht));
       numbered = eq-eqb t.number n ht.number;
@@ -94,6 +101,7 @@ unary-holds s n c op i next hc ho hi =
     let R : ℕ → Type 0 = λ k. is_numbered k (plan_in i) ≡ true in
     record {
       output = top-columns s n (unary_types o.op ts) o.columns t out ht;
+      outputs = (output-of (top-columns s n (unary_types o.op ts) o.columns t out ht), hi.outputs);
       typed = and-both (typed (scope_of s) (plan_in i)) (is_unary ts o.op && is_output (scope_of s) (unary_types o.op ts) t.claim) hi.typed
           (and-both (is_unary ts o.op) (is_output (scope_of s) (unary_types o.op ts) t.claim) (subst Q hi.output.types_are sh.op) (top-output s n (unary_types o.op ts) o.columns t out ht));
       numbered = and-both (t.number == n) (is_numbered (suc n) (plan_in i)) (eq-eqb t.number n ht.number) (let up : n + 1 ≡ suc n = omega arith in subst R up hi.numbered);
@@ -124,6 +132,7 @@ binary-holds s n c op l r between next hc ho hl hr =
     let last : Bool = is_output (scope_of s) (binary_types o.op ts us) t.claim in
     record {
       output = top-columns s n (binary_types o.op ts us) o.columns t out ht;
+      outputs = (output-of (top-columns s n (binary_types o.op ts us) o.columns t out ht), hl.outputs, hr.outputs);
       typed = and-both (typed (scope_of s) (plan_in l)) (typed (scope_of s) (plan_in r) && (is_binary ts us o.op && last)) hl.typed
           (and-both (typed (scope_of s) (plan_in r)) (is_binary ts us o.op && last) hr.typed (and-both (is_binary ts us o.op) last typed_op (top-output s n (binary_types o.op ts us) o.columns t out ht)));
       numbered = and-both (t.number == n) (is_numbered (suc n) (plan_in l) && is_numbered (suc n + nodes (plan_in l)) (plan_in r)) (eq-eqb t.number n ht.number)
@@ -146,6 +155,7 @@ exchanged-holds s n c kind merge i next hc hk hi =
     let last : Bool = is_output (scope_of s) ts t.claim in
     record {
       output = top-columns s n ts (columns i) t hi.output ht;
+      outputs = (output-of (top-columns s n ts (columns i) t hi.output ht), hi.outputs);
       typed = and-both (typed (scope_of s) (plan_in i)) (is_kind (scope_of s) ts x.0 && (are_columns (length ts) x.1 && last)) hi.typed
           (and-both (is_kind (scope_of s) ts x.0) (are_columns (length ts) x.1 && last) (subst P hi.output.types_are hx.kind)
           (and-both (are_columns (length ts) x.1) last (subst Q hi.output.types_are hx.merge) (top-output s n ts (columns i) t hi.output ht)));
@@ -210,9 +220,9 @@ ranges-are (r ∷ rs) front h = go (is_bad_range front r) refl (ranges-are rs (f
         and-both (is_range r.bounds) (list_all is_range (map (λ (r : RangeForm). r.bounds) rs))
         (not-false (is_range r.bounds) (or_parts (list_any (λ (q : RangeForm). bytes_eq r.name q.name) front) (not (is_range r.bounds)) e).1) (next k)
 
--- what was resolved is typed
+-- what was resolved is typed, and every node has the columns of its output
 pub resolved-typed : (s : Names) (t : Tree) (o : Outline) (next : ℕ) → IsCatalog s.catalog → is_tree_form t ≡ true → sizes_tested s.sizes ≡ Ok tt → ranges_tested s.ranges ≡ Ok tt → typed_in s 0 t ≡ Ok (o, next)
-    → IsTyped (scope_of s) (plan_in o) × (next ≡ nodes (plan_in o))
+    → IsTyped (scope_of s) (plan_in o) × (next ≡ nodes (plan_in o)) × HasOutputs (relation_at s.catalog) o
 unfolding sizes_tested ranges_tested
 resolved-typed s t o next cat formed sizes ranges h =
     let r = holds_at (λ (r : Outline × ℕ). IsResolved s 0 r.0 r.1) (typed_in s 0 t) (o, next) (tree-holds s 0 t cat formed) h in
@@ -224,4 +234,5 @@ resolved-typed s t o next cat formed sizes ranges h =
         numbered = r.numbered;
       },
       omega (arith, r.count),
+      r.outputs,
     )

@@ -13,7 +13,7 @@ use Rattle.vx_nodes.specs.Outline.{Outline, plan_in}
 use Rattle.vx_typed.specs.Erased.{erased_from}
 use Rattle.vx_values.proofs.Booleans.{and-left, and-right, and-both}
 
-erased-types : (catalog : ℕ → Relation) (i : ℕ) (p : Plan) → types_of catalog (erase_from i p) ≡ types_of catalog p
+pub erased-types : (catalog : ℕ → Relation) (i : ℕ) (p : Plan) → types_of catalog (erase_from i p) ≡ types_of catalog p
 erased-types catalog i (scan n c r m z) = refl
 erased-types catalog i (unary n c op p) = ap (unary_types op) (erased-types catalog (i + 1) p)
 erased-types catalog i (binary n c op p q) =

@@ -1,1 +1,2 @@
 pub mod ErasedFacts
+pub mod OutputFacts

@@ -3,17 +3,20 @@
 ghost use Rattle.std.specs.Prelude.{◌≡◌, ◌≤◌, true, nat_le, map, length, string_bytes};
 ghost use Rattle.std.specs.List.{list_all};
 ghost use Rattle.vx_values.specs.Ranges.{range_form};
+ghost use Rattle.vx_relations.specs.Catalog.{relation_at};
 ghost use Rattle.vx_typed.specs.Names.{scope_of};
 ghost use Rattle.vx_nodes.specs.Numbering.{nodes, is_numbered};
 ghost use Rattle.vx_nodes.specs.Outline.{outline_of, plan_of};
 ghost use Rattle.vx_typed.specs.Typed.{is_range, typed, IsTyped};
+ghost use Rattle.vx_typed.specs.Outputs.{HasOutputs};
+ghost use Rattle.vx_typed.specs.OutputProps.{outputs-prop};
 
 use vx_nodes::TypedNode;
 use vx_relations::Catalog;
 use vx_values::NamedRange;
 
-/// A plan with its catalog. Every node names what there is, has the types that it needs, and is numbered in preorder
-/// from 0. There are at most 1,000 nodes.
+/// A plan with its catalog. Every node names what there is, has the types that it needs, says which types its output
+/// has, and is numbered in preorder from 0. There are at most 1,000 nodes.
 #[derive(Debug)]
 pub struct TypedPlan {
     catalog: Catalog,
@@ -24,6 +27,7 @@ pub struct TypedPlan {
     ghost ranges_are: { list_all is_range (map (λ r. r.bounds) (map range_form ranges.items)) ≡ true },
     ghost few_sizes: { nat_le (length (map string_bytes sizes.items)) 16 ≡ true },
     ghost typed_nodes: { typed (scope_of (record { catalog = catalog; ranges = map range_form ranges.items; sizes = map string_bytes sizes.items })) (plan_of root) ≡ true },
+    ghost outputs: { HasOutputs (relation_at catalog) (outline_of root) } by { outputs-prop (relation_at catalog) (outline_of root) },
     ghost numbered: { is_numbered 0 (plan_of root) ≡ true },
     ghost few_nodes: { nodes (plan_of root) ≤ 1000 },
 }
@@ -53,6 +57,7 @@ impl TypedPlan {
         root: TypedNode,
     ) -> TypedPlan
         requires typed { IsTyped (scope_of (record { catalog = catalog; ranges = map range_form ranges.items; sizes = map string_bytes sizes.items })) (plan_of root) }
+        requires outputs { HasOutputs (relation_at catalog) (outline_of root) }
         requires few { nodes (plan_of root) ≤ 1000 }
         ensures names { names_in result ≡ record { catalog = catalog; ranges = map range_form ranges.items; sizes = map string_bytes sizes.items } }
         ensures total { (resolved_of result).total ≡ total }
@@ -101,6 +106,7 @@ impl TypedPlan {
         ensures root { outline_of result.now ≡ (resolved_of self.now).root }
         ensures plan { plan_of result.now ≡ plan self.now }
         ensures typed { IsTyped (scope self.now) (plan_of result.now) }
+        ensures outputs { HasOutputs (relation_at (scope self.now).catalog) (outline_of result.now) }
         ensures few { nodes (plan_of result.now) ≤ 1000 }
     {
         &self.root

@@ -2,7 +2,9 @@ use Rattle.std.proofs.Common.{ap, ◌∙◌, arith}
 use Rattle.vx_nodes.specs.Erase.{erase}
 use Rattle.vx_nodes.specs.Outline.{outline_of, plan_in}
 use Rattle.vx_typed.specs.TypedView.{scope}
+use Rattle.vx_relations.specs.Catalog.{relation_at}
 use Rattle.vx_typed.proofs.ErasedFacts.{erased-plan, erased-is-typed}
+use Rattle.vx_typed.proofs.OutputFacts.{erased-outputs}
 use Rattle.vx_plan.proofs.erasing.erase.Goals as goal
 
 pub new-requires-clause-typed : goal.new-requires-clause-typed
@@ -18,3 +20,8 @@ new-requires-clause-few c =
 pub returns-clause-plan : goal.returns-clause-plan
 returns-clause-plan c =
     ap plan_in (c.new.ensures.root ∙ c.in_ok-root.ensures.value) ∙ (erased-plan 0 (outline_of c.root.result.now) ∙ ap erase c.root.ensures.plan)
+
+pub new-requires-clause-outputs : goal.new-requires-clause-outputs
+new-requires-clause-outputs c =
+    rw (c.in_ok-catalog.ensures, c.catalog.ensures, c.in_ok-root.ensures.value)
+    (erased-outputs (relation_at (scope c.args.typed.now).catalog) 0 (outline_of c.root.result.now) c.root.ensures.outputs)
