@@ -1,9 +1,9 @@
 -- Turns of an operator that answers each batch as it comes.
-use Rattle.std.proofs.Common.{◌≡◌, ℕ, List, ◌++◌, Some, refl, sym, ◌∙◌, subst, inl, inr}
+use Rattle.std.proofs.Common.{◌≡◌, ℕ, List, ◌++◌, Some, refl, sym, ◌∙◌, inl, inr}
 use Rattle.vx_values.specs.Values.{Row}
 use Rattle.vx_nodes.specs.Plan.{Unary}
 use Rattle.vx_nodes.specs.Serial.{unary_rows}
-use Rattle.vx_ops.specs.Ledger.{Ledger, one_op, OwnBlame}
+use Rattle.vx_ops.specs.Ledger.{Ledger, one_op}
 use Rattle.vx_ops.specs.Begun.{all_of, begun_whole}
 use Rattle.vx_ops.specs.declared.fault.Code.TheVariants.{NoMemory}
 use Rattle.vx_ops.specs.declared.fault.Fault.{Fault}
@@ -11,6 +11,7 @@ use Rattle.vx_ops.specs.declared.fault.Fault.TheVariants.{Own}
 use Rattle.vx_ops.specs.declared.fault.Over.{Over}
 use Rattle.vx_ops.specs.declared.fault.Over.TheVariants.{Running, Ended, Failed}
 use Rattle.vx_ops.specs.Stepping.{IsStepped}
+use Rattle.vx_ops.proofs.Turns.{with_refusal, running-ended, running-failed, ended-failed, failed-ended, failed-running, ended-running, same-fault, own-memory}
 
 -- the ledger after a batch came and some rows were returned
 abbrev pub with_rows : Ledger → List Row → List Row → Ledger
@@ -20,35 +21,7 @@ with_rows l xs ys = record l { left = record { rows = l.left.rows ++ xs; over = 
 abbrev pub with_over : Ledger → Over → Ledger
 with_over l o = record l { left = record { rows = l.left.rows; over = o }; gave = record { rows = l.gave.rows; over = o } }
 
--- after a batch came for which memory ran out
-abbrev pub with_refusal : Ledger → List Row → Fault → Ledger
-with_refusal l xs f = record l { left = record { rows = l.left.rows ++ xs; over = l.left.over }; gave = record { rows = l.gave.rows; over = Failed f } }
-
-running-ended : Running ≡ Ended → ⊥
-running-ended e = cc
-
-running-failed : (f : Fault) → Running ≡ Failed f → ⊥
-running-failed f e = cc
-
-ended-failed : (f : Fault) → Ended ≡ Failed f → ⊥
-ended-failed f e = cc
-
-failed-ended : (f : Fault) → Failed f ≡ Ended → ⊥
-failed-ended f e = cc
-
-failed-running : (f : Fault) → Failed f ≡ Running → ⊥
-failed-running f e = cc
-
-ended-running : Ended ≡ Running → ⊥
-ended-running e = cc
-
-same-fault : (f g : Fault) → Failed f ≡ Failed g → f ≡ g
-same-fault f g e = cc
-
 module _ (n : ℕ) (op : Unary) where
-  own : (m : ℕ) (l : Ledger) (f : Fault) → Own NoMemory m ≡ f → OwnBlame (one_op n op) l f
-  own m l f e = let P : Fault → Type 0 = λ v. OwnBlame (one_op n op) l v in subst P e tt
-
   pub step-running : (H : List Row → List Row → Type 0) (l : Ledger) → l.left.over ≡ Running → H l.left.rows l.gave.rows → unary_rows op l.left.rows ≡ Some l.gave.rows → l.gave.over ≡ Running → IsStepped n op H Running l
   step-running H l a t m o = record {
     stands = o;
@@ -111,6 +84,6 @@ module _ (n : ℕ) (op : Unary) where
           };
           ended = λ e. absurd (failed-ended (Own NoMemory m) e);
           passes = λ f e. absurd (running-failed f (sym r.0 ∙ e));
-          blame = λ f e. inr (own m k f (same-fault (Own NoMemory m) f e));
+          blame = λ f e. inr (own-memory n op m k f (same-fault (Own NoMemory m) f e));
         };
       }

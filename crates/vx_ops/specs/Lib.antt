@@ -4,3 +4,7 @@ pub mod Turn
 pub mod Scan
 pub mod Stepping
 pub mod Select
+pub mod CollectingKernel
+pub mod Collecting
+pub mod Sorting
+pub mod Sort

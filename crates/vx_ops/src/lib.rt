@@ -1,17 +1,23 @@
 //! Operators that give rows turn by turn, as sources that do not hold their inputs.
 #![tactic(auto)]
 
+mod collecting;
+mod collecting_kernel;
 pub mod fault;
 mod scan;
 mod select;
+mod sort;
 mod source;
 mod step_kernel;
 mod stepping;
 mod turn;
 
+pub use collecting::Collecting;
+pub use collecting_kernel::{CollectingKernel, FinishFault};
 pub use fault::{Code, Fault, Over};
 pub use scan::Scan;
 pub use select::{Select, Selection};
+pub use sort::{Sort, Sorting};
 pub use source::Source;
 pub use step_kernel::StepKernel;
 pub use stepping::Stepping;

@@ -2,6 +2,8 @@
 
 use crate::turn::{Got, Polled, Want};
 
+/// Calls: (wants turn)*
+///
 /// An operator that does not hold its inputs: it says what it wants, and is given it.
 pub trait Source {
     ghost use Rattle.std.specs.Prelude.{◌≡◌};

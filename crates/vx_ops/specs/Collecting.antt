@@ -1,0 +1,41 @@
+-- When an operator that reads all of its input first may have heard and given what a ledger says.
+use Rattle.std.specs.Prelude.{ℕ, ◌≡◌, Bool, true, false, List, [], Some}
+use Rattle.vx_values.specs.Values.{Row}
+use Rattle.vx_nodes.specs.Plan.{Unary}
+use Rattle.vx_nodes.specs.Serial.{unary_rows}
+use Rattle.vx_ops.specs.Ledger.{Ledger, Op, one_op, Told}
+use Rattle.vx_ops.specs.Turn.{Shape, while_running}
+use Rattle.vx_ops.specs.declared.fault.Over.{Over}
+use Rattle.vx_ops.specs.declared.fault.Over.TheVariants.{Running, Ended}
+use Rattle.vx_ops.specs.declared.turn.Want.{Want}
+use Rattle.vx_ops.specs.declared.turn.Want.TheVariants as want
+use Rattle.vx_ops.specs.declared.collecting.Collecting.{Collecting}
+
+-- while it runs: either it still reads and has returned nothing, or its input has ended and it has returned all
+abbrev pub Phase : Unary → (List Row → Type 0) → Bool → Ledger → Type 0
+Phase op read false l = (l.left.over ≡ Running) × read l.left.rows × (l.gave.rows ≡ [])
+Phase op read true l = (l.left.over ≡ Ended) × (unary_rows op l.left.rows ≡ Some l.gave.rows)
+
+-- it stands so; its phase while it runs; and what is known of any source
+pub record IsCollected (n : ℕ) (op : Unary) (read : List Row → Type 0) (finished : Bool) (over : Over) (l : Ledger) : Type 0 where
+  pub stands : l.gave.over ≡ over
+  pub runs : over ≡ Running → Phase op read finished l
+  pub told : Told (one_op n op) l
+
+abbrev pub collecting_op : {K : Type 0} → (K → Unary) → Collecting K → Op
+collecting_op unary s = one_op s.node (unary s.kernel)
+
+abbrev pub collecting_types : {K : Type 0} → (K → Shape) → Collecting K → Shape
+collecting_types types s = types s.kernel
+
+-- it wants its input until that has ended
+abbrev pub collecting_want : Bool → Over → Want
+collecting_want true over = want.Nothing
+collecting_want false over = while_running want.Left over
+
+abbrev pub CollectingStands : {K : Type 0} → (K → Unary) → (K → List Row → Type 0) → Collecting K → Ledger → Type 0
+CollectingStands unary read s l = IsCollected s.node (unary s.kernel) (read s.kernel) s.finished s.over l
+
+pub collecting_told : {K : Type 0} (unary : K → Unary) (read : K → List Row → Type 0) (s : Collecting K) (l : Ledger)
+    → CollectingStands unary read s l → Told (collecting_op unary s) l
+collecting_told unary read s l h = h.told

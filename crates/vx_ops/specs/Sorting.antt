@@ -1,0 +1,20 @@
+-- What a caller sees of the kernel of a sort, and what it has read.
+use Rattle.std.specs.Prelude.{◌≡◌, ℕ, List}
+use Rattle.vx_values.specs.Values.{Row}
+use Rattle.vx_rows.specs.View.{Table}
+use Rattle.vx_nodes.specs.Plan.{Unary, sort}
+use Rattle.vx_ops.specs.Turn.{Shape}
+
+-- the columns that it sorts on, and the rows that it has read
+pub record SortingView : Type 0 where
+  pub columns : List ℕ
+  pub table : Table
+
+abbrev pub sorting : SortingView → Unary
+sorting s = sort s.columns
+
+abbrev pub sorting_types : SortingView → Shape
+sorting_types s = record { left = s.table.types; right = s.table.types; out = s.table.types }
+
+abbrev pub SortingHasRead : SortingView → List Row → Type 0
+SortingHasRead s xs = s.table.rows ≡ xs

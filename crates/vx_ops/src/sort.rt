@@ -1,0 +1,88 @@
+//! Sorting.
+
+use crate::collecting::Collecting;
+use crate::collecting_kernel::{CollectingKernel, FinishFault};
+use std::alloc::{AllocError, Global};
+use std::marker::Model;
+use vx_algebra::sorted;
+use vx_rows::{ColType, Rows};
+
+/// Calls: new (wants turn)*
+///
+/// Returns the rows of its input in the order of some columns, once the input has ended.
+pub type Sort = Collecting<Sorting>;
+
+/// The kernel of a sort.
+#[derive(Drop)]
+pub struct Sorting {
+    alloc: Global,
+    columns: Vec<usize>,
+    read: Rows,
+}
+
+impl Model for Sorting {
+    ghost use Rattle.std.specs.Prelude.{length};
+    ghost use Rattle.vx_rows.specs.View.{AreColumns};
+    ghost use Rattle.vx_ops.specs.Sorting.{SortingView};
+
+    ghost Value = { SortingView };
+
+    ghost view = { λ s. record { columns = s.columns.items; table = s.read } };
+
+    ghost invariant = { λ s. AreColumns (length s.read.types) s.columns.items };
+}
+
+impl Collecting<Sorting> {
+    ghost use Rattle.std.specs.Prelude.{◌≡◌, length, IfOk};
+    ghost use Rattle.vx_rows.specs.View.{AreColumns};
+    ghost use Rattle.vx_nodes.specs.Plan.{sort};
+    ghost use Rattle.vx_ops.specs.Ledger.{one_op};
+    ghost use Rattle.vx_ops.specs.Turn.{fresh_ledger};
+    ghost use Rattle.vx_ops.specs.Sort.{SortStands, sort_op, sort_types};
+
+    /// A sort on these columns of rows of these types, at the node with this number, to which nothing came.
+    pub fn new(
+        alloc: Global,
+        node: u32,
+        columns: Vec<usize>,
+        types: &[ColType],
+    ) -> Result<Sort, AllocError>
+        requires { AreColumns (length types.now) columns.items }
+        ensures stands { IfOk result (λ s. SortStands s fresh_ledger) }
+        ensures op { IfOk result (λ s. sort_op s ≡ one_op node (sort columns.items)) }
+        ensures types { IfOk result (λ s. sort_types s ≡ record { left = types.now; right = types.now; out = types.now }) }
+    {
+        let read = Rows::new(alloc, types)?;
+        let kernel = Sorting {
+            alloc,
+            columns,
+            read,
+        };
+        Ok(Collecting::with_kernel(node, kernel))
+    }
+}
+
+impl CollectingKernel for Sorting {
+    ghost use Rattle.std.specs.Prelude.{refl};
+    ghost use Rattle.vx_ops.specs.Sorting.{sorting, sorting_types, SortingHasRead};
+
+    ghost unary = { sorting };
+
+    ghost types = { sorting_types };
+
+    ghost HasRead = { SortingHasRead };
+
+    ghost empty = { λ s. refl };
+
+    fn take(&mut self, batch: Rows) -> Result<(), AllocError> {
+        self.read.append_range(&batch, 0, batch.len())?;
+        Ok(())
+    }
+
+    fn finish(&mut self) -> Result<Rows, FinishFault> {
+        match sorted(self.alloc, &self.read, self.columns.as_slice()) {
+            Ok(rows) => Ok(rows),
+            Err(_) => Err(FinishFault::NoMemory),
+        }
+    }
+}
