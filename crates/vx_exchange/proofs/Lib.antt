@@ -1,7 +1,9 @@
 pub mod Closings
 pub mod Turns
 pub mod Deals
+pub mod Sendings
 pub mod Parts
 pub mod Arrivals
 pub mod Cuts
-pub mod Gathers
+pub mod LaneLists
+pub mod Senders

@@ -1,11 +1,8 @@
 -- What was given in part: more rows, fewer packets, and Fault.
-use Rattle.std.proofs.Common.{◌≡◌, ℕ, ◌<◌, ◌==◌, Bool, true, false, Some, cond, List, [], ◌∷◌, ◌++◌, length, map, take, filter, refl, sym, ap, ◌∙◌, append-nil}
-use Rattle.std.proofs.lemmas.List.Elements.{filter-append}
-use Rattle.vx_values.specs.Values.{Row, pick}
+use Rattle.std.proofs.Common.{◌≡◌, ℕ, ◌<◌, ◌==◌, Bool, true, false, Some, cond, List, [], ◌∷◌, ◌++◌, length, take, refl, sym, ◌∙◌, append-nil}
+use Rattle.vx_values.specs.Values.{Row}
 use Rattle.vx_rows.specs.Lists.{IsBeginning}
-use Rattle.vx_nodes.specs.Plan.{Kind, route_to, round, broadcast, gather}
-use Rattle.vx_nodes.specs.Routes.{Router, Sends}
-use Rattle.vx_nodes.specs.Streams.{Streams, Dealt, bearing}
+use Rattle.vx_nodes.specs.Routes.{Router}
 use Rattle.vx_ports.specs.Packets.{fault, Parcel}
 use Rattle.vx_ops.specs.Turn.{with_packet}
 use Rattle.vx_exchange.specs.Ship.{Ship, packet_at, end_to_end, IsCutShort}
@@ -14,58 +11,16 @@ use Rattle.vx_exchange.specs.Beginnings.{begins-along, begins-take, mapped-take}
 use Rattle.vx_exchange.specs.Parts.{PartStaysAsRowsCome, PartStaysWithLess, PartStaysWithoutLast, BegunStaysAsRowsCome, BegunStaysWithoutLast, FaultStops}
 use Rattle.vx_exchange.specs.Closing.{closed_by}
 use Rattle.vx_exchange.proofs.Closings.{fault-cuts-short}
-use Rattle.vx_exchange.proofs.Deals.{numbered_same, rows-numbered_same, range-numbered_same, bearing-append, numbers-append, ranges-append}
-
--- what more rows send begins with what the rows before them send
-record SendsMore (goes : Router) (k : Kind) (n : ℕ) (rows : List Row) (sent : Streams) : Type 0 where
-  more : Streams
-  sends : Sends goes k n rows more
-  begins : (j : ℕ) → j < n → IsBeginning (sent j) (more j)
-
-deals-more : (n : ℕ) (xs ys : List Row) (sent : Streams) → 0 < n → (d : Dealt n xs sent) → Dealt n (xs ++ ys) (λ j. bearing j (d.numbered ++ numbered_same 0 ys))
-deals-more n xs ys sent some d = record {
-  numbered = d.numbered ++ numbered_same 0 ys;
-  whole = numbers-append d.numbered (numbered_same 0 ys) ∙ ap (λ zs. zs ++ map (λ t. t.1) (numbered_same 0 ys)) d.whole ∙ ap (λ zs. xs ++ zs) (rows-numbered_same 0 ys);
-  in_range = ranges-append n d.numbered (numbered_same 0 ys) d.in_range (range-numbered_same n 0 ys some);
-  lists_are = λ i l. refl;
-}
-
-sends-more : (goes : Router) (k : Kind) (n : ℕ) (xs ys : List Row) (sent : Streams) → 0 < n → Sends goes k n xs sent → SendsMore goes k n (xs ++ ys) sent
-sends-more goes (route_to z r cols) n xs ys sent some h = record {
-  more = λ j. filter (λ row. goes r (pick cols row) n == j) (xs ++ ys);
-  sends = λ j l. refl;
-  begins = λ j l. record {
-    rest = filter (λ row. goes r (pick cols row) n == j) ys;
-    joined = ap (λ zs. zs ++ filter (λ row. goes r (pick cols row) n == j) ys) (sym (h j l)) ∙ sym (filter-append (λ row. goes r (pick cols row) n == j) xs ys);
-  };
-}
-sends-more goes (round z) n xs ys sent some h = record {
-  more = λ j. bearing j (h.numbered ++ numbered_same 0 ys);
-  sends = deals-more n xs ys sent some h;
-  begins = λ j l. record {
-    rest = bearing j (numbered_same 0 ys);
-    joined = ap (λ zs. zs ++ bearing j (numbered_same 0 ys)) (sym (h.lists_are j l)) ∙ sym (bearing-append j h.numbered (numbered_same 0 ys));
-  };
-}
-sends-more goes (broadcast z) n xs ys sent some h = record {
-  more = λ j. xs ++ ys;
-  sends = λ j l. refl;
-  begins = λ j l. record { rest = ys; joined = ap (λ zs. zs ++ ys) (sym (h j l)) };
-}
-sends-more goes gather n xs ys sent some h = record {
-  more = λ j. xs ++ ys;
-  sends = λ j l. refl;
-  begins = λ j l. record { rest = ys; joined = ap (λ zs. zs ++ ys) (sym (h j l)) };
-}
+use Rattle.vx_exchange.proofs.Sendings.{sends-append, sends-some}
 
 pub part-shipped-more : PartStaysAsRowsCome
 part-shipped-more goes s xs ys put some part =
-    let m = sends-more goes s.kind s.consumers xs ys part.sent some part.sends in
+    let m = sends-some goes s.kind s.consumers ys some in
     record {
-      sent = m.more;
-      sends = m.sends;
+      sent = λ j. part.sent j ++ m.0 j;
+      sends = sends-append goes s.kind s.consumers xs ys part.sent m.0 part.sends m.1;
       parts = part.parts;
-      begins = λ j l. begins-along (end_to_end (part.parts j)) (part.sent j) (m.more j) (part.begins j l) (m.begins j l);
+      begins = λ j l. begins-along (end_to_end (part.parts j)) (part.sent j) (part.sent j ++ m.0 j) (part.begins j l) (record { rest = m.0 j; joined = refl });
       packets = part.packets;
       nothing = part.nothing;
     }

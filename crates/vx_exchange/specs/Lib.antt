@@ -8,5 +8,7 @@ pub mod Parts
 pub mod InTurn
 pub mod Receiver
 pub mod Outlet
-pub mod Gather
-pub mod Kept
+pub mod Lanes
+pub mod LaneLaws
+pub mod Sender
+pub mod Collector

@@ -6,8 +6,9 @@ use std::marker::Model;
 use vx_ports::{Ending, Packet};
 use vx_rows::{ColType, Rows};
 
-/// The rows for one consumer, cut into packets: fewer rows than one packet holds, and the packets that wait.
+/// Calls: `new (add | next_packet)* (finish next_packet* | clear) close`. After an `Err` of `add` or `finish` comes `clear`.
 ///
+/// The rows for one consumer, cut into packets: fewer rows than one packet holds, and the packets that wait.
 /// It has the rows of its closing packet, which are none, from the first, so that closing asks for no memory.
 #[derive(Drop)]
 pub struct Lane {
@@ -177,7 +178,7 @@ impl Lane {
         ensures of_rows { IfSome result (λ p. closes p.content ≡ false) }
         ensures open { IfSome result (λ _. self.old.closed ≡ false) }
         ensures none { IfNone result (self.old.ready ≡ []) }
-        ensures same { IfNone result (self.new.ready ≡ []) }
+        ensures same { IfNone result (self.new ≡ self.old) }
         ensures current { self.new.current ≡ self.old.current }
         ensures way { self.new.way ≡ self.old.way }
         ensures closed { self.new.closed ≡ self.old.closed }
@@ -191,6 +192,7 @@ impl Lane {
         ensures some { IfSome result (λ p. p ≡ parcel_of self.old.way (ending_content ending)) }
         ensures open { IfSome result (λ _. self.old.closed ≡ false) }
         ensures none { IfNone result (self.old.closed ≡ true) }
+        ensures same { IfNone result (self.new ≡ self.old) }
         ensures closed { self.new.closed ≡ true }
         ensures current { self.new.current ≡ self.old.current }
         ensures ready { self.new.ready ≡ self.old.ready }

@@ -1,14 +1,17 @@
 //! Sending and receiving ends of exchanges.
 #![tactic(auto)]
 
-mod gather;
-mod kept;
+mod collector;
+mod deal;
 mod lane;
+mod lanes;
 pub mod laws;
 mod receiver;
+mod sender;
 mod sends;
 
-pub use gather::Gather;
-pub use kept::Kept;
+pub use collector::Collector;
+pub use deal::Deal;
 pub use receiver::Receiver;
+pub use sender::Sender;
 pub use sends::Sends;

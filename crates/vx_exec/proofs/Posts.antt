@@ -2,7 +2,7 @@
 use Rattle.std.proofs.Common.{◌≡◌, List, subst}
 use Rattle.vx_values.specs.declared.value.ColType.{ColType}
 use Rattle.vx_exchange.specs.Tasks.{Post, sends_by_ship, keeps}
-use Rattle.vx_exchange.specs.declared.gather.Gather.{Gather}
+use Rattle.vx_exchange.specs.declared.sender.Sender.{Sender}
 use Rattle.vx_worker.specs.Destination.{post_of}
 use Rattle.vx_worker.specs.declared.destination.Destination.TheVariants as destination
 
@@ -10,6 +10,6 @@ Sends : Post → Type 0
 Sends (sends_by_ship s) = Unit {0}
 Sends (keeps types) = ⊥
 
-pub gather-keeps-not : (s : Gather) (types : List ColType) → post_of (destination.Gather s) ≡ keeps types → ⊥
+pub sender-keeps-not : (s : Sender) (types : List ColType) → post_of (destination.Send s) ≡ keeps types → ⊥
 unfolding Sends
-gather-keeps-not s types e = subst Sends e tt
+sender-keeps-not s types e = subst Sends e tt

@@ -42,8 +42,8 @@ fn rows_of_root(mut workers: Vec<Worker<Operator, Destination>>) -> Rows
 {
     let root = workers.swap_remove(0);
     match root.into_sender() {
-        Destination::Kept(kept) => kept.into_rows(),
-        Destination::Gather(_) => unreachable!(),
+        Destination::Collect(collector) => collector.into_rows(),
+        Destination::Send(_) => unreachable!(),
     }
 }
 

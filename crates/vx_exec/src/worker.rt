@@ -25,7 +25,7 @@ ghost use Rattle.vx_exec.specs.Crew.{duty, IsNew};
 use crate::fragment::tree_of;
 use crate::job::Job;
 use std::alloc::{AllocError, Global};
-use vx_exchange::{Gather, Kept};
+use vx_exchange::{Collector, Deal, Sender};
 use vx_nodes::TypedNode;
 use vx_ports::{Ending, Packet};
 use vx_rows::{ColType, Rows};
@@ -105,12 +105,12 @@ pub fn root_worker(
     ensures inputs { IfOk result (λ w. sources_of w ≡ inputs_of (group_at job.now.groups.items) (plan_of node.now)) }
 {
     let (tree, types) = tree_of(alloc, job, node, 0)?;
-    let kept = Kept::new(alloc, types.as_slice())?;
+    let collector = Collector::new(alloc, types.as_slice())?;
     let inputs = inputs_of(alloc, job, node)?;
     Ok(Worker::new(
         alloc,
         tree,
-        Destination::Kept(kept),
+        Destination::Collect(collector),
         node.head().number,
         Vec::new(alloc),
         inputs,
@@ -134,13 +134,21 @@ pub fn producer(
     ensures inputs { IfOk result (λ w. sources_of w ≡ inputs_of (group_at job.now.groups.items) (plan_of node.now)) }
 {
     let (tree, types) = tree_of(alloc, job, node, place)?;
-    let gather = Gather::new(alloc, exchange, place, job.packet(), types.as_slice())?;
+    let sender = Sender::new(
+        alloc,
+        exchange,
+        place,
+        1,
+        job.packet(),
+        types.as_slice(),
+        Deal::ToOne,
+    )?;
     let closing = closing_packets(alloc, exchange, place, 1, types.as_slice())?;
     let inputs = inputs_of(alloc, job, node)?;
     Ok(Worker::new(
         alloc,
         tree,
-        Destination::Gather(gather),
+        Destination::Send(sender),
         node.head().number,
         closing,
         inputs,

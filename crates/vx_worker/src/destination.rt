@@ -1,7 +1,7 @@
 //! Where the rows of a fragment's top go.
 
 use std::alloc::AllocError;
-use vx_exchange::{Gather, Kept, Sends};
+use vx_exchange::{Collector, Sender, Sends};
 use vx_nodes::Router;
 use vx_ops::Polled;
 use vx_ports::Packet;
@@ -9,8 +9,8 @@ use vx_ports::Packet;
 /// Through the sending end of an exchange, or, at the root, to the rows of the answer.
 #[derive(Drop)]
 pub enum Destination {
-    Gather(Gather),
-    Kept(Kept),
+    Send(Sender),
+    Collect(Collector),
 }
 
 impl Sends for Destination {
@@ -36,15 +36,15 @@ impl Sends for Destination {
 
     fn accept<R: Router>(&mut self, router: &R, polled: Polled) -> Result<(), AllocError> {
         match self {
-            Destination::Gather(gather) => gather.accept(router, polled),
-            Destination::Kept(kept) => kept.accept(router, polled),
+            Destination::Send(sender) => sender.accept(router, polled),
+            Destination::Collect(collector) => collector.accept(router, polled),
         }
     }
 
     fn next(&mut self) -> Option<(u32, Packet)> {
         match self {
-            Destination::Gather(gather) => gather.next(),
-            Destination::Kept(kept) => kept.next(),
+            Destination::Send(sender) => sender.next(),
+            Destination::Collect(collector) => collector.next(),
         }
     }
 }

@@ -2,13 +2,13 @@
 
 ghost use Rattle.std.specs.Prelude.{◌≡◌, ◌<◌, [], ◌∷◌, length, IfOk};
 ghost use Rattle.vx_values.specs.declared.value.ColType.{ColType as Kind};
-ghost use Rattle.vx_exchange.specs.Gather.{gather_is_open};
+ghost use Rattle.vx_exchange.specs.Sender.{sender_is_open};
 
 use crate::routers::ToFirst;
 use std::alloc::{AllocError, Global};
 use std::process::Abort;
 use std::test::Fail;
-use vx_exchange::{Gather, Kept, Receiver, Sends};
+use vx_exchange::{Collector, Deal, Receiver, Sender, Sends};
 use vx_ops::{Code, Fault, Got, Polled, Source, Want};
 use vx_ports::{Body, Ending, Packet};
 use vx_rows::{ColType, Rows, Value};
@@ -85,8 +85,8 @@ fn ends_after_both_producers(rt: HostRuntime) -> Result<(), Fail> {
 }
 
 // How many rows the next packet brings: for Last 0, for Fault -1, and -2 where there is none.
-fn next_size(sender: &mut Gather) -> i64
-    ensures { gather_is_open sender.new ≡ gather_is_open sender.old }
+fn next_size(sender: &mut Sender) -> i64
+    ensures { sender_is_open sender.new ≡ sender_is_open sender.old }
 {
     match sender.next() {
         None => -2,
@@ -101,7 +101,7 @@ fn next_size(sender: &mut Gather) -> i64
 #[test]
 fn cuts_rows_into_packets(rt: HostRuntime) -> Result<(), Fail> {
     let alloc = rt.alloc();
-    let mut sender = Gather::new(alloc, 3, 0, 2, &[ColType::Int])?;
+    let mut sender = Sender::new(alloc, 3, 0, 1, 2, &[ColType::Int], Deal::ToOne)?;
     let rows = numbers(alloc, 5)?;
     assert_eq!(rt; rows.len(), 5);
     sender.accept(&ToFirst, Polled::Gave(rows))?;
@@ -115,7 +115,7 @@ fn cuts_rows_into_packets(rt: HostRuntime) -> Result<(), Fail> {
 #[test]
 fn gives_fault_in_place_of_last(rt: HostRuntime) -> Result<(), Fail> {
     let alloc = rt.alloc();
-    let mut sender = Gather::new(alloc, 3, 0, 2, &[ColType::Int])?;
+    let mut sender = Sender::new(alloc, 3, 0, 1, 2, &[ColType::Int], Deal::ToOne)?;
     let rows = numbers(alloc, 5)?;
     assert_eq!(rt; rows.len(), 5);
     sender.accept(&ToFirst, Polled::Gave(rows))?;
@@ -129,15 +129,15 @@ fn gives_fault_in_place_of_last(rt: HostRuntime) -> Result<(), Fail> {
 #[test]
 fn keeps_all_rows(rt: HostRuntime) -> Result<(), Fail> {
     let alloc = rt.alloc();
-    let mut kept = Kept::new(alloc, &[ColType::Int])?;
+    let mut collector = Collector::new(alloc, &[ColType::Int])?;
     let rows = numbers(alloc, 5)?;
     assert_eq!(rt; rows.len(), 5);
-    kept.accept(&ToFirst, Polled::Gave(rows))?;
+    collector.accept(&ToFirst, Polled::Gave(rows))?;
     let rows = numbers(alloc, 2)?;
     assert_eq!(rt; rows.len(), 2);
-    kept.accept(&ToFirst, Polled::Gave(rows))?;
-    kept.accept(&ToFirst, Polled::End)?;
-    assert!(rt; kept.next().is_none());
-    assert_eq!(rt; kept.into_rows().len(), 7);
+    collector.accept(&ToFirst, Polled::Gave(rows))?;
+    collector.accept(&ToFirst, Polled::End)?;
+    assert!(rt; collector.next().is_none());
+    assert_eq!(rt; collector.into_rows().len(), 7);
     Ok(())
 }

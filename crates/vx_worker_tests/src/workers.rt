@@ -3,13 +3,13 @@
 ghost use Rattle.std.specs.Prelude.{◌≡◌, [], ◌∷◌, IfOk};
 ghost use Rattle.vx_values.specs.declared.value.ColType.{ColType as Kind};
 ghost use Rattle.vx_ops.specs.Scan.{scan_types};
-ghost use Rattle.vx_exchange.specs.Kept.{kept_post, kept_is_open, kept_has_closed};
+ghost use Rattle.vx_exchange.specs.Collector.{collector_post, collector_is_open, collector_has_closed};
 ghost use Rattle.vx_worker.specs.Worker.{IsReady};
 
 use crate::routers::ToFirst;
 use std::alloc::{AllocError, Global};
 use std::test::Fail;
-use vx_exchange::Kept;
+use vx_exchange::Collector;
 use vx_ops::{Code, Fault, Scan};
 use vx_ports::{Packet, Put};
 use vx_rows::{ColType, Rows, Value};
@@ -81,9 +81,9 @@ fn three_rows(alloc: Global, refused: u64) -> Result<Pages, AllocError>
 }
 
 // Steps until the worker has ended, at most twenty times.
-fn finish(worker: &mut Worker<Scan, Kept>, pages: &Pages, wires: &mut Numbers) -> Stepped
+fn finish(worker: &mut Worker<Scan, Collector>, pages: &Pages, wires: &mut Numbers) -> Stepped
     requires pages { pages.now.rows.types ≡ Kind.Int ∷ [] }
-    requires worker { IsReady scan_types kept_post kept_is_open kept_has_closed (λ _. Kind.Int ∷ []) worker.old }
+    requires worker { IsReady scan_types collector_post collector_is_open collector_has_closed (λ _. Kind.Int ∷ []) worker.old }
 {
     'steps: for _ in 0..20 {
         if worker.step(pages, &ToFirst, wires) == Stepped::Ended {
@@ -94,12 +94,12 @@ fn finish(worker: &mut Worker<Scan, Kept>, pages: &Pages, wires: &mut Numbers) -
 }
 
 // A worker at the root that scans, with node number 7.
-fn scanner(alloc: Global) -> Result<Worker<Scan, Kept>, AllocError>
-    ensures { IfOk result (IsReady scan_types kept_post kept_is_open kept_has_closed (λ _. Kind.Int ∷ [])) }
+fn scanner(alloc: Global) -> Result<Worker<Scan, Collector>, AllocError>
+    ensures { IfOk result (IsReady scan_types collector_post collector_is_open collector_has_closed (λ _. Kind.Int ∷ [])) }
 {
     let types = Vec::from_slice(alloc, &[ColType::Int])?;
     let tree = Tree::Leaf(7, Scan::new(types));
-    let sender = Kept::new(alloc, &[ColType::Int])?;
+    let sender = Collector::new(alloc, &[ColType::Int])?;
     Ok(Worker::new(alloc, tree, sender, 7, Vec::new(alloc), Vec::new(alloc)))
 }
 

@@ -11,10 +11,10 @@ pub returns-clause-duty : goal.returns-clause-duty
 returns-clause-duty c = λ hash.
     ap duty_of c.new-2.ensures.role
     ∙ producer-does c.args.job.now hash c.args.exchange c.args.place (plan_of c.args.node.now) c.in_ok-tree.tree c.in_ok-tree.types.items c.as_slice.result.now
-    (post_of (destination.Gather c.in_ok-gather.gather)) c.packet.result c.in_ok-tree.ensures c.in_ok-gather.ensures.post c.as_slice.ensures.value c.packet.ensures.value
+    (post_of (destination.Send c.in_ok-sender.sender)) c.packet.result c.in_ok-tree.ensures c.in_ok-sender.ensures.post c.as_slice.ensures.value c.packet.ensures.value
 
 pub returns-clause-new : goal.returns-clause-new
 returns-clause-new c =
-    made-new c.args.job.now c.args.place (plan_of c.args.node.now) c.in_ok-tree.tree c.in_ok-tree.types.items (destination.Gather c.in_ok-gather.gather)
+    made-new c.args.job.now c.args.place (plan_of c.args.node.now) c.in_ok-tree.tree c.in_ok-tree.types.items (destination.Send c.in_ok-sender.sender)
     (map source_of c.in_ok-inputs.inputs.items) c.new-2.result c.in_ok-tree.ensures c.requires.leaves c.new-2.ensures.ready c.new-2.ensures.role c.new-2.ensures.stands
-    c.in_ok-gather.ensures.stands (λ hash. tt)
+    c.in_ok-sender.ensures.stands (λ hash. tt)

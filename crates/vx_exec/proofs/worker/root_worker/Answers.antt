@@ -11,10 +11,10 @@ pub returns-clause-duty : goal.returns-clause-duty
 returns-clause-duty c = λ hash.
     ap duty_of c.new-3.ensures.role
     ∙ root-does c.args.job.now hash (plan_of c.args.node.now) c.in_ok-tree.tree c.in_ok-tree.types.items c.as_slice.result.now
-    (post_of (destination.Kept c.in_ok-kept.kept)) c.in_ok-tree.ensures c.in_ok-kept.ensures.post c.as_slice.ensures.value
+    (post_of (destination.Collect c.in_ok-collector.collector)) c.in_ok-tree.ensures c.in_ok-collector.ensures.post c.as_slice.ensures.value
 
 pub returns-clause-new : goal.returns-clause-new
 returns-clause-new c =
-    made-new c.args.job.now 0 (plan_of c.args.node.now) c.in_ok-tree.tree c.in_ok-tree.types.items (destination.Kept c.in_ok-kept.kept)
+    made-new c.args.job.now 0 (plan_of c.args.node.now) c.in_ok-tree.tree c.in_ok-tree.types.items (destination.Collect c.in_ok-collector.collector)
     (map source_of c.in_ok-inputs.inputs.items) c.new-3.result c.in_ok-tree.ensures c.requires.leaves c.new-3.ensures.ready c.new-3.ensures.role c.new-3.ensures.stands
-    c.in_ok-kept.ensures.stands (λ hash. tt)
+    c.in_ok-collector.ensures.stands (λ hash. tt)

@@ -9,26 +9,26 @@ use vx_rows::{ColType, Rows};
 
 /// The rows that the top of the root's fragment gives, in order. It gives no packet.
 #[derive(Drop)]
-pub struct Kept {
+pub struct Collector {
     rows: Rows,
     takes_more: bool,
 }
 
-impl Kept {
+impl Collector {
     ghost use Rattle.std.specs.Prelude.{◌≡◌, ◌++◌, ℕ, List, [], IfOk, OnOk, OnErr, true};
     ghost use Rattle.vx_nodes.specs.Routes.{Router as Routing};
     ghost use Rattle.vx_ops.specs.Ledger.{fresh};
     ghost use Rattle.vx_exchange.specs.Tasks.{keep, keeps};
-    ghost use Rattle.vx_exchange.specs.Kept.{KeptStands, kept_task, kept_post, kept_is_open};
+    ghost use Rattle.vx_exchange.specs.Collector.{CollectorStands, collector_task, collector_post, collector_is_open};
 
     /// No rows yet, of these types.
-    pub fn new(alloc: Global, types: &[ColType]) -> Result<Kept, AllocError>
-        ensures stands { IfOk result (λ s. (goes : Routing) → KeptStands s goes fresh (λ _. [])) }
-        ensures post { IfOk result (λ s. kept_post s ≡ keeps types.now) }
-        ensures open { IfOk result (λ s. kept_is_open s ≡ true) }
+    pub fn new(alloc: Global, types: &[ColType]) -> Result<Collector, AllocError>
+        ensures stands { IfOk result (λ s. (goes : Routing) → CollectorStands s goes fresh (λ _. [])) }
+        ensures post { IfOk result (λ s. collector_post s ≡ keeps types.now) }
+        ensures open { IfOk result (λ s. collector_is_open s ≡ true) }
     {
         let rows = Rows::new(alloc, types)?;
-        Ok(Kept {
+        Ok(Collector {
             rows,
             takes_more: true,
         })
@@ -36,8 +36,8 @@ impl Kept {
 
     /// All rows that came.
     pub fn into_rows(self) -> Rows
-        ensures rows { kept_task self ≡ keep result.rows }
-        ensures types { kept_post self ≡ keeps result.types }
+        ensures rows { collector_task self ≡ keep result.rows }
+        ensures types { collector_post self ≡ keeps result.types }
     {
         self.rows
     }
@@ -59,26 +59,26 @@ impl Kept {
     }
 }
 
-impl Sends for Kept {
-    ghost use Rattle.vx_exchange.specs.Kept.{KeptStands, kept_task, kept_post, kept_bounds, kept_is_open, kept_has_closed, kept_open_first, kept_begun, kept_at_post};
+impl Sends for Collector {
+    ghost use Rattle.vx_exchange.specs.Collector.{CollectorStands, collector_task, collector_post, collector_bounds, collector_is_open, collector_has_closed, collector_open_first, collector_begun, collector_at_post};
 
-    ghost Stands = { KeptStands };
+    ghost Stands = { CollectorStands };
 
-    ghost task = { kept_task };
+    ghost task = { collector_task };
 
-    ghost post = { kept_post };
+    ghost post = { collector_post };
 
-    ghost bounds = { kept_bounds };
+    ghost bounds = { collector_bounds };
 
-    ghost is_open = { kept_is_open };
+    ghost is_open = { collector_is_open };
 
-    ghost has_closed = { kept_has_closed };
+    ghost has_closed = { collector_has_closed };
 
-    ghost open_first = { kept_open_first };
+    ghost open_first = { collector_open_first };
 
-    ghost begun = { kept_begun };
+    ghost begun = { collector_begun };
 
-    ghost at_post = { kept_at_post };
+    ghost at_post = { collector_at_post };
 
     fn accept<R: Router>(&mut self, _router: &R, polled: Polled) -> Result<(), AllocError> {
         match polled {

@@ -1,0 +1,17 @@
+use Rattle.std.proofs.Common.{refl}
+use Rattle.vx_exchange.proofs.LaneLists.{same-count, numbered-same, served-same, few-same, idle-from_all}
+use Rattle.vx_exchange.proofs.sender.Sender.fail.Goals as goal
+
+pub invariant_of-self : goal.invariant_of-self
+invariant_of-self c =
+    let s = c.args.self.now in
+    let old = s.lanes.items in
+    let new = c.clear_lanes.new.lanes.items in
+    let same = c.clear_lanes.ensures.same in
+    let count = same-count old new same in
+    record {
+      numbered = numbered-same s.deal s.deal old new refl same s.numbered;
+      served = served-same s.deal old new count s.served;
+      few = few-same old new 4294967296 count s.few;
+      idle = λ _. idle-from_all new c.clear_lanes.ensures.idle;
+    }

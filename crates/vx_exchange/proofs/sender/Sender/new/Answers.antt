@@ -1,0 +1,43 @@
+use Rattle.std.proofs.Common.{rules, ◌≡◌, ◌<◌, ℕ, true, true≢false, [], List, not, refl, sym, ap, ◌∙◌, subst}
+use Rattle.vx_ops.specs.Ledger.{fresh}
+use Rattle.vx_exchange.specs.Lanes.{kind_of, serves, way_to}
+use Rattle.vx_exchange.specs.Ship.{Ship}
+use Rattle.vx_exchange.specs.Sender.{SenderAt}
+use Rattle.vx_exchange.specs.Tasks.{sends_by_ship}
+use Rattle.vx_exchange.specs.declared.sender.Stage.TheVariants.{Open}
+use Rattle.vx_exchange.proofs.LaneLists.{serves-some, fresh-ship, fresh-numbered, fresh-open}
+use Rattle.vx_exchange.proofs.Senders.{sender-fresh}
+use Rattle.vx_exchange.proofs.sender.Sender.new.Goals as goal
+
+pub invariant_of-result : goal.invariant_of-result
+invariant_of-result c =
+    let s : Ship = record { exchange = c.args.exchange; place = c.args.place; consumers = c.args.consumers; types = c.args.types.now; kind = kind_of c.args.deal; size = c.args.size } in
+    let lanes = c.in_ok-lanes.lanes.items in
+    let f = c.in_ok-lanes.ensures in
+    let few : c.args.consumers < 4294967296 = search rules in
+    let S : ℕ → Type 0 = λ n. serves c.args.deal n ≡ true in
+    let F : ℕ → Type 0 = λ n. n < 4294967296 in
+    record {
+      numbered = fresh-numbered c.args.deal s lanes (fresh-ship c.args.deal s lanes refl (serves-some c.args.deal c.args.consumers c.requires.served) f) f;
+      served = subst S (sym f.count) c.requires.served;
+      few = subst F (sym f.count) few;
+      idle = λ e. absurd (true≢false (sym e ∙ fresh-open (way_to s) lanes f.each));
+    }
+
+pub returns-clause-stands : goal.returns-clause-stands
+returns-clause-stands c = λ goes.
+    let s : Ship = record { exchange = c.args.exchange; place = c.args.place; consumers = c.args.consumers; types = c.args.types.now; kind = kind_of c.args.deal; size = c.args.size } in
+    let lanes = c.in_ok-lanes.lanes.items in
+    let f = c.in_ok-lanes.ensures in
+    let P : Ship → Type 0 = λ z. SenderAt goes z Open lanes fresh (λ _. []) in
+    subst P (sym (fresh-ship c.args.deal s lanes refl (serves-some c.args.deal c.args.consumers c.requires.served) f)) (sender-fresh goes s lanes f)
+
+pub returns-clause-post : goal.returns-clause-post
+returns-clause-post c =
+    let s : Ship = record { exchange = c.args.exchange; place = c.args.place; consumers = c.args.consumers; types = c.args.types.now; kind = kind_of c.args.deal; size = c.args.size } in
+    ap sends_by_ship (fresh-ship c.args.deal s c.in_ok-lanes.lanes.items refl (serves-some c.args.deal c.args.consumers c.requires.served) c.in_ok-lanes.ensures)
+
+pub returns-clause-open : goal.returns-clause-open
+returns-clause-open c =
+    let s : Ship = record { exchange = c.args.exchange; place = c.args.place; consumers = c.args.consumers; types = c.args.types.now; kind = kind_of c.args.deal; size = c.args.size } in
+    ap not (fresh-open (way_to s) c.in_ok-lanes.lanes.items c.in_ok-lanes.ensures.each)

@@ -1,0 +1,46 @@
+-- When the root may have accepted a stream: it kept the rows, and gave no packet.
+use Rattle.std.specs.Prelude.{ℕ, ◌≡◌, Bool, true, false, List, []}
+use Rattle.std.proofs.Common.{refl}
+use Rattle.vx_values.specs.Values.{Val}
+use Rattle.vx_nodes.specs.Routes.{Router}
+use Rattle.vx_ports.specs.Packets.{Parcel}
+use Rattle.vx_ops.specs.Ledger.{Stream}
+use Rattle.vx_exchange.specs.Tasks.{Task, keep, Post, keeps, Begun, IsAt}
+use Rattle.vx_exchange.specs.declared.collector.Collector.{Collector}
+
+-- the rows are its task
+abbrev pub collector_task : Collector → Task
+collector_task s = keep s.rows.rows
+
+-- and their types its post
+abbrev pub collector_post : Collector → Post
+collector_post s = keeps s.rows.types
+
+-- it sends nowhere
+abbrev pub collector_bounds : Collector → List Val
+collector_bounds s = []
+
+-- whether rows may come
+abbrev pub collector_is_open : Collector → Bool
+collector_is_open s = s.takes_more
+
+-- it gives no packet
+abbrev pub collector_has_closed : Collector → Bool
+collector_has_closed s = false
+
+-- all rows are kept, and none went anywhere
+pub record CollectorStands (s : Collector) (goes : Router) (a : Stream) (g : ℕ → List Parcel) : Type 0 where
+  pub all : s.rows.rows ≡ a.rows
+  pub nothing : (j : ℕ) → g j ≡ []
+
+-- it never closes
+pub collector_open_first : (s : Collector) → collector_is_open s ≡ true → collector_has_closed s ≡ false
+collector_open_first s e = refl
+
+-- nothing was given
+pub collector_begun : (s : Collector) (goes : Router) (a : Stream) (g : ℕ → List Parcel) → CollectorStands s goes a g → collector_has_closed s ≡ false → Begun goes (collector_task s) a.rows g
+collector_begun s goes a g h e = h.nothing
+
+-- its post is that of its task
+pub collector_at_post : (s : Collector) → IsAt (collector_post s) (collector_task s)
+collector_at_post s = tt

@@ -1,0 +1,161 @@
+-- When a sending end may have accepted a stream and given packets for its consumers.
+use Rattle.std.specs.Prelude.{ℕ, ◌≡◌, ◌<◌, ◌≤◌, ◌&&◌, not, Bool, true, false, List, [], ◌∷◌, ◌++◌, length, map, take}
+use Rattle.std.specs.List.{AllByRecursion}
+use Rattle.std.proofs.Common.{refl, sym, ◌∙◌, subst, true≢false, append-nil}
+use Rattle.std.proofs.lemmas.List.{length-map}
+use Rattle.vx_values.specs.Values.{Val, Row}
+use Rattle.vx_rows.specs.Lists.{IsBeginning}
+use Rattle.vx_nodes.specs.Routes.{Router, Sends}
+use Rattle.vx_nodes.specs.Streams.{Streams}
+use Rattle.vx_ports.specs.Packets.{Content, last, fault, Parcel}
+use Rattle.vx_ops.specs.Ledger.{Stream}
+use Rattle.vx_ops.specs.declared.fault.Fault.{Fault}
+use Rattle.vx_ops.specs.declared.fault.Over.{Over}
+use Rattle.vx_ops.specs.declared.fault.Over.TheVariants.{Running, Ended, Failed}
+use Rattle.vx_exchange.specs.Ship.{Ship, end_to_end, packet_of, packet_at, IsCut, IsPartShipped}
+use Rattle.vx_exchange.specs.Outlet.{Outlet}
+use Rattle.vx_exchange.specs.Lanes.{IsLane, ways_of, any_closed, ship_of, bounds_of}
+use Rattle.vx_exchange.specs.LaneLaws.{element_at, choose, open_at}
+use Rattle.vx_exchange.specs.Tasks.{Task, send, Post, sends_by_ship, Begun, IsAt}
+use Rattle.vx_exchange.specs.declared.sender.Sender.{Sender}
+use Rattle.vx_exchange.specs.declared.sender.Stage.{Stage}
+use Rattle.vx_exchange.specs.declared.sender.Stage.TheVariants.{Open, Ending, Failing}
+use Rattle.vx_exchange.specs.Beginnings.{begins-along, begins-take, mapped-take}
+
+-- what it sends, and where
+abbrev pub sender_ship : Sender → Ship
+sender_ship s = ship_of s.deal (ways_of s.lanes.items)
+
+-- it sends there
+abbrev pub sender_task : Sender → Task
+sender_task s = send (sender_ship s)
+
+-- so does its post
+abbrev pub sender_post : Sender → Post
+sender_post s = sends_by_ship (sender_ship s)
+
+-- the bounds by which it deals rows
+abbrev pub sender_bounds : Sender → List Val
+sender_bounds s = bounds_of s.deal
+
+-- whether rows may come
+abbrev pub takes_more : Stage → Bool
+takes_more Open = true
+takes_more Ending = false
+takes_more Failing = false
+
+-- it takes more until it closes
+abbrev pub sender_is_open : Sender → Bool
+sender_is_open s = takes_more s.stage && not (any_closed s.lanes.items)
+
+-- Last or Fault was given to some consumer
+abbrev pub sender_has_closed : Sender → Bool
+sender_has_closed s = any_closed s.lanes.items
+
+-- the closing packet for a consumer, where it was given
+abbrev pub closing_given : Ship → (consumer : ℕ) → Content → (closed : Bool) → List Parcel
+closing_given s j content true = packet_of s j content ∷ []
+closing_given s j content false = []
+
+-- rows for a consumer come: full packets were made of them, in order
+pub record IsFilling (s : Ship) (consumer : ℕ) (o : Outlet) (rows : List Row) (given : List Parcel) : Type 0 where
+  pub full : List (List Row)
+  pub all_full : AllByRecursion (λ (p : List Row). length p ≡ s.size) full
+  pub rows_are : end_to_end full ++ o.current ≡ rows
+  pub packets : given ++ o.ready ≡ map (packet_at s consumer) full
+
+-- all rows for a consumer came: all packets of them were made, and Last is given behind them
+pub record IsEnding (s : Ship) (consumer : ℕ) (o : Outlet) (rows : List Row) (given : List Parcel) : Type 0 where
+  pub parts : List (List Row)
+  pub cut : IsCut s.size rows parts
+  pub packets : given ++ o.ready ≡ map (packet_at s consumer) parts ++ closing_given s consumer last o.closed
+
+-- a fault came, or memory was refused: Fault is given behind what was given
+pub record IsFailing (s : Ship) (consumer : ℕ) (o : Outlet) (rows : List Row) (given : List Parcel) : Type 0 where
+  pub parts : List (List Row)
+  pub begins : IsBeginning (end_to_end parts) rows
+  pub packets : map (packet_at s consumer) parts ++ closing_given s consumer fault o.closed ≡ given
+
+-- what the lane of a consumer gave
+abbrev pub LaneAt : Stage → Ship → (consumer : ℕ) → Outlet → List Row → List Parcel → Type 0
+LaneAt Open s j o rows given = IsFilling s j o rows given
+LaneAt Ending s j o rows given = IsEnding s j o rows given
+LaneAt Failing s j o rows given = IsFailing s j o rows given
+
+-- whether the stream that came is over
+abbrev pub IsOver : Stage → Over → Type 0
+IsOver Open over = over ≡ Running
+IsOver Ending over = over ≡ Ended
+IsOver Failing over = (f : Fault) × (over ≡ Failed f)
+
+-- what each lane gave of what the rows send to its consumer, and nothing for any other
+pub record SenderAt (goes : Router) (s : Ship) (st : Stage) (lanes : List Outlet) (a : Stream) (g : ℕ → List Parcel) : Type 0 where
+  pub sent : Streams
+  pub sends : Sends goes s.kind s.consumers a.rows sent
+  pub gives : (j : ℕ) (o : Outlet) → IsLane lanes j o → LaneAt st s j o (sent j) (g j)
+  pub nothing : (j : ℕ) → s.consumers ≤ j → g j ≡ []
+  pub is_over : IsOver st a.over
+
+-- so the sending end stands
+abbrev pub SenderStands : Sender → Router → Stream → (ℕ → List Parcel) → Type 0
+SenderStands s goes a g = SenderAt goes (sender_ship s) s.stage s.lanes.items a g
+
+-- it takes more only before it closes
+pub sender_open_first : (s : Sender) → sender_is_open s ≡ true → sender_has_closed s ≡ false
+sender_open_first s e = go (takes_more s.stage) (any_closed s.lanes.items) e
+  where
+    go : (more closed : Bool) → (more && not closed) ≡ true → closed ≡ false
+    go true false e = refl
+    go true true e = absurd (true≢false (sym e))
+    go false closed e = absurd (true≢false (sym e))
+
+-- its post is that of its task
+pub sender_at_post : (s : Sender) → IsAt (sender_post s) (sender_task s)
+sender_at_post s = refl
+
+-- before it closes, a lane gave packets of a beginning of the rows for its consumer
+record GaveInPart (s : Ship) (consumer : ℕ) (rows : List Row) (given : List Parcel) (parts : List (List Row)) : Type 0 where
+  begins : IsBeginning (end_to_end parts) rows
+  packets : map (packet_at s consumer) parts ≡ given
+
+gave_in_part : (st : Stage) (s : Ship) (j : ℕ) (o : Outlet) (rows : List Row) (given : List Parcel) → LaneAt st s j o rows given → o.closed ≡ false
+    → (parts : List (List Row)) × GaveInPart s j rows given parts
+gave_in_part Open s j o rows given k e = (
+  take (length given) k.full,
+  record {
+    begins = begins-along (end_to_end (take (length given) k.full)) (end_to_end k.full) rows (begins-take (length given) k.full) (record { rest = o.current; joined = k.rows_are });
+    packets = mapped-take (packet_at s j) k.full given o.ready k.packets;
+  },
+)
+gave_in_part Ending s j o rows given k e =
+    let P : Bool → Type 0 = λ b. given ++ o.ready ≡ map (packet_at s j) k.parts ++ closing_given s j last b in
+    let R : List Row → Type 0 = λ xs. IsBeginning (end_to_end (take (length given) k.parts)) xs in (
+      take (length given) k.parts,
+      record {
+        begins = subst R k.cut.rows_are (begins-take (length given) k.parts);
+        packets = mapped-take (packet_at s j) k.parts given o.ready (subst P e k.packets ∙ append-nil (map (packet_at s j) k.parts));
+      },
+    )
+gave_in_part Failing s j o rows given k e =
+    let P : Bool → Type 0 = λ b. map (packet_at s j) k.parts ++ closing_given s j fault b ≡ given in
+    (k.parts, record { begins = k.begins; packets = sym (append-nil (map (packet_at s j) k.parts)) ∙ subst P e k.packets })
+
+-- so did all lanes
+begun_at : (goes : Router) (s : Ship) (st : Stage) (lanes : List Outlet) (a : Stream) (g : ℕ → List Parcel) → s.consumers ≡ length lanes
+    → SenderAt goes s st lanes a g → any_closed lanes ≡ false → IsPartShipped goes s a.rows g
+begun_at goes s st lanes a g many h unclosed =
+    let P : ℕ → List (List Row) → Type 0 = λ j parts. GaveInPart s j (h.sent j) (g j) parts in
+    let f = choose P [] lanes (λ j o e. gave_in_part st s j o (h.sent j) (g j) (h.gives j o e) (open_at lanes j o unclosed e)) in
+    let at : (j : ℕ) → j < s.consumers → P j (f.0 j) = λ j l. let L : ℕ → Type 0 = λ n. j < n in let e = element_at lanes j (subst L many l) in f.1 j e.0 e.1 in
+    record {
+      sent = h.sent;
+      sends = h.sends;
+      parts = f.0;
+      begins = λ j l. (at j l).begins;
+      packets = λ j l. (at j l).packets;
+      nothing = h.nothing;
+    }
+
+-- and so the sending end has begun
+pub sender_begun : (s : Sender) (goes : Router) (a : Stream) (g : ℕ → List Parcel) → SenderStands s goes a g → sender_has_closed s ≡ false → Begun goes (sender_task s) a.rows g
+sender_begun s goes a g h e = begun_at goes (sender_ship s) s.stage s.lanes.items a g (length-map s.lanes.items (λ (o : Outlet). o.way)) h e

@@ -1,0 +1,85 @@
+//! The lanes of a sending end, one for each consumer.
+
+ghost use Rattle.std.specs.Prelude.{◌≡◌, ◌≤◌, ◌<◌, ◌^◌, [], length, true, false, IfOk, OnOk, IfSome, IfNone};
+ghost use Rattle.std.specs.List.{All};
+ghost use Rattle.vx_ports.specs.Seen.{ending_content};
+ghost use Rattle.vx_exchange.specs.Lanes.{AreFresh, SameLanes, Finishes, GivesPacket, GivesClosing};
+
+use crate::lane::Lane;
+use std::alloc::{AllocError, Global};
+use vx_ports::{Ending, Packet};
+use vx_rows::ColType;
+
+/// A lane for each of so many consumers of an exchange, in packets of up to `size` rows of these types: 1 to 4,096.
+pub fn make_lanes(
+    alloc: Global,
+    exchange: u32,
+    place: u32,
+    consumers: u32,
+    size: usize,
+    types: &[ColType],
+) -> Result<Vec<Lane>, AllocError>
+    requires some { 1 ≤ size }
+    requires few { size ≤ 4096 }
+    ensures { IfOk result (λ v. AreFresh consumers (λ j. record { exchange = exchange; place = place; consumer = j; types = types.now; size = size }) v.items) }
+{
+    let mut lanes = Vec::new(alloc);
+    for consumer in 0..consumers {
+        let lane = Lane::new(alloc, exchange, place, consumer, size, types)?;
+        lanes.push(lane)?;
+    }
+    Ok(lanes)
+}
+
+/// Makes a packet of the rows at hand of each lane, if there are any.
+pub fn finish_lanes(lanes: &mut Vec<Lane>) -> Result<(), AllocError>
+    requires { All (λ o. o.closed ≡ false) lanes.old.items }
+    ensures ok { OnOk result (Finishes lanes.old.items lanes.new.items) }
+    ensures same { SameLanes lanes.old.items lanes.new.items }
+{
+    for consumer in 0..lanes.len() {
+        lanes[consumer].finish()?;
+    }
+    Ok(())
+}
+
+/// Drops all that the lanes hold.
+pub fn clear_lanes(lanes: &mut Vec<Lane>)
+    ensures idle { All (λ o. o.ready ≡ []) lanes.new.items }
+    ensures same { SameLanes lanes.old.items lanes.new.items }
+{
+    for consumer in 0..lanes.len() {
+        lanes[consumer].clear();
+    }
+}
+
+/// The next packet of rows that waits, of the first lane that has one.
+pub fn next_packet(lanes: &mut Vec<Lane>) -> Option<(u32, Packet)>
+    requires { length lanes.old.items < 2 ^ 32 }
+    ensures some { IfSome result (λ x. GivesPacket lanes.old.items lanes.new.items x.0 x.1) }
+    ensures none { IfNone result (All (λ o. o.ready ≡ []) lanes.old.items) }
+    ensures same { IfNone result (lanes.new.items ≡ lanes.old.items) }
+{
+    for consumer in 0..lanes.len() {
+        if let Some(packet) = lanes[consumer].next_packet() {
+            return Some((consumer as u32, packet));
+        }
+    }
+    None
+}
+
+/// The closing packet of the first lane that did not give it.
+pub fn close_next(lanes: &mut Vec<Lane>, ending: Ending) -> Option<(u32, Packet)>
+    requires few { length lanes.old.items < 2 ^ 32 }
+    requires idle { All (λ o. o.ready ≡ []) lanes.old.items }
+    ensures some { IfSome result (λ x. GivesClosing (ending_content ending) lanes.old.items lanes.new.items x.0 x.1) }
+    ensures none { IfNone result (All (λ o. o.closed ≡ true) lanes.old.items) }
+    ensures same { IfNone result (lanes.new.items ≡ lanes.old.items) }
+{
+    for consumer in 0..lanes.len() {
+        if let Some(packet) = lanes[consumer].close(ending) {
+            return Some((consumer as u32, packet));
+        }
+    }
+    None
+}

@@ -1,0 +1,162 @@
+//! Sending ends of exchanges: what all kinds share.
+
+ghost use Rattle.std.specs.Prelude.{◌≡◌, ◌<◌, ◌^◌, length, true};
+ghost use Rattle.vx_exchange.specs.Lanes.{AreNumbered, ways_of, serves, may_close, are_idle};
+
+use crate::deal::{Deal, deal_rows};
+use crate::lane::Lane;
+use crate::lanes::{clear_lanes, close_next, finish_lanes, make_lanes, next_packet};
+use crate::sends::Sends;
+use std::alloc::{AllocError, Global};
+use vx_nodes::Router;
+use vx_ops::Polled;
+use vx_ports::{Ending, Packet};
+use vx_rows::ColType;
+
+/// What a sending end is about.
+#[derive(Clone, Copy)]
+pub enum Stage {
+    /// It takes rows.
+    Open,
+    /// All rows came: their packets are given, and then Last.
+    Ending,
+    /// A fault came, or memory was refused: Fault is given, and what waited was dropped.
+    Failing,
+}
+
+/// Calls: `new (accept next*)*`, with no `accept` after the end, a fault or an `Err`.
+///
+/// The sending end of an exchange at one of its producers. It deals the rows that come to its lanes, one for each consumer, and gives
+/// their packets; then Last for each consumer, or Fault.
+#[derive(Drop)]
+pub struct Sender {
+    lanes: Vec<Lane>,
+    deal: Deal,
+    stage: Stage,
+    ghost numbered: { AreNumbered deal (ways_of lanes.items) },
+    ghost served: { serves deal (length lanes.items) ≡ true },
+    ghost few: { length lanes.items < 2 ^ 32 },
+    ghost idle: { may_close stage lanes.items ≡ true → are_idle lanes.items ≡ true },
+}
+
+impl Sender {
+    ghost use Rattle.std.specs.Prelude.{◌≤◌, ℕ, List, [], IfOk, OnOk};
+    ghost use Rattle.vx_nodes.specs.Routes.{Router as Routing};
+    ghost use Rattle.vx_ports.specs.Packets.{Parcel};
+    ghost use Rattle.vx_ops.specs.Ledger.{fresh, Stream};
+    ghost use Rattle.vx_ops.specs.Turn.{heard, GivesRows};
+    ghost use Rattle.vx_exchange.specs.Tasks.{sends_by_ship};
+    ghost use Rattle.vx_exchange.specs.Sending.{RoutesAs, is_open_after};
+    ghost use Rattle.vx_exchange.specs.Lanes.{kind_of, SameLanes};
+    ghost use Rattle.vx_exchange.specs.Sender.{SenderStands, sender_ship, sender_post, sender_bounds, sender_is_open};
+
+    /// The sending end of an exchange by its node number, at a producer's place, for so many consumers and packets of up to `size` rows
+    /// of these types: 1 to 4,096. A gather has one consumer.
+    pub fn new(
+        alloc: Global,
+        exchange: u32,
+        place: u32,
+        consumers: u32,
+        size: usize,
+        types: &[ColType],
+        deal: Deal,
+    ) -> Result<Sender, AllocError>
+        requires served { serves deal consumers ≡ true }
+        requires some { 1 ≤ size }
+        requires few { size ≤ 4096 }
+        ensures stands { IfOk result (λ s. (goes : Routing) → SenderStands s goes fresh (λ _. [])) }
+        ensures post { IfOk result (λ s. sender_post s
+            ≡ sends_by_ship (record { exchange = exchange; place = place; consumers = consumers; types = types.now; kind = kind_of deal; size = size })) }
+        ensures open { IfOk result (λ s. sender_is_open s ≡ true) }
+    {
+        let lanes = make_lanes(alloc, exchange, place, consumers, size, types)?;
+        Ok(Sender {
+            lanes,
+            deal,
+            stage: Stage::Open,
+        })
+    }
+
+    // Drops what waits: Fault comes next.
+    fn fail(&mut self)
+        ensures stage { self.new.stage ≡ Stage.Failing }
+        ensures deal { self.new.deal ≡ self.old.deal }
+        ensures same { SameLanes self.old.lanes.items self.new.lanes.items }
+    {
+        clear_lanes(&mut self.lanes);
+        self.stage = Stage::Failing;
+    }
+
+    // Takes what the fragment's top gave.
+    fn take<R: Router>(&mut self, router: &R, polled: Polled) -> Result<(), AllocError>
+        requires open { sender_is_open self.old ≡ true }
+        requires typed { GivesRows (sender_ship self.old).types polled }
+        ensures ok { OnOk result ((goes : Routing) → RoutesAs (sender_post self.old) (sender_bounds self.old) (R.route_of router.now) goes
+            → (a : Stream) (g : ℕ → List Parcel) → SenderStands self.old goes a g → SenderStands self.new goes (heard a polled) g) }
+        ensures open { OnOk result (sender_is_open self.new ≡ is_open_after polled) }
+        ensures deal { self.new.deal ≡ self.old.deal }
+        ensures same { SameLanes self.old.lanes.items self.new.lanes.items }
+    {
+        match polled {
+            Polled::Gave(rows) => {
+                deal_rows(self.deal, &mut self.lanes, router, rows)?;
+                return Ok(());
+            }
+            Polled::Waiting => return Ok(()),
+            Polled::End => {
+                finish_lanes(&mut self.lanes)?;
+                self.stage = Stage::Ending;
+                return Ok(());
+            }
+            Polled::Fault(_) => {
+                self.fail();
+                return Ok(());
+            }
+        }
+    }
+}
+
+impl Sends for Sender {
+    ghost use Rattle.vx_exchange.specs.Sender.{SenderStands, sender_task, sender_post, sender_bounds, sender_is_open, sender_has_closed, sender_open_first, sender_begun, sender_at_post};
+
+    ghost Stands = { SenderStands };
+
+    ghost task = { sender_task };
+
+    ghost post = { sender_post };
+
+    ghost bounds = { sender_bounds };
+
+    ghost is_open = { sender_is_open };
+
+    ghost has_closed = { sender_has_closed };
+
+    ghost open_first = { sender_open_first };
+
+    ghost begun = { sender_begun };
+
+    ghost at_post = { sender_at_post };
+
+    fn accept<R: Router>(&mut self, router: &R, polled: Polled) -> Result<(), AllocError> {
+        match self.take(router, polled) {
+            Ok(()) => return Ok(()),
+            Err(refused) => {
+                self.fail();
+                return Err(refused);
+            }
+        }
+    }
+
+    fn next(&mut self) -> Option<(u32, Packet)> {
+        match self.stage {
+            Stage::Open => return next_packet(&mut self.lanes),
+            Stage::Ending => {
+                if let Some((to, packet)) = next_packet(&mut self.lanes) {
+                    return Some((to, packet));
+                }
+                return close_next(&mut self.lanes, Ending::Last);
+            }
+            Stage::Failing => return close_next(&mut self.lanes, Ending::Fault),
+        }
+    }
+}
