@@ -1,9 +1,9 @@
--- Looking into a JSON value: names and texts in members, constants, and lists of values of one form.
-use Rattle.std.specs.Prelude.{ℕ, List, [], Option, Some, None, option_map, option_and_then, if◌then◌else◌}
+-- Looking into a JSON value: names and texts in members, and constants.
+use Rattle.std.specs.Prelude.{ℕ, List, Option, Some, None, option_map, option_and_then, if◌then◌else◌}
 use Rattle.serde_json.specs.Data.{Data}
 use Rattle.serde_json.specs.Find.{get, as_str, as_number, as_i64}
-use Rattle.vx_json.specs.Look.{as_list, some_entry, name_in, each_onto}
-pub use Rattle.vx_json.specs.Look.{or_default}
+use Rattle.vx_json.specs.Look.{name_in}
+pub use Rattle.vx_json.specs.Look.{or_default, each_in, some_in}
 use Rattle.vx_values.specs.Values.{Val, num, text}
 use Rattle.vx_values.specs.Types.{is_held}
 
@@ -25,11 +25,3 @@ if_held v = if is_held v then Some v else None
 -- a number of 64 signed bits, or a text
 unfoldable pub value_in : Data → Option Val
 value_in d = option_and_then if_held (value_or (option_map num (option_and_then as_i64 (as_number d))) (option_map text (as_str d)))
-
--- a list of values of a form
-abbrev pub each_in : {A : Type 0} → (Data → Option A) → Data → Option (List A)
-each_in f d = option_and_then (each_onto f []) (as_list d)
-
--- a list of values of a form with an entry
-abbrev pub some_in : {A : Type 0} → (Data → Option A) → Data → Option (List A)
-some_in f d = option_and_then (each_onto f []) (option_and_then some_entry (as_list d))

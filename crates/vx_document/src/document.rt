@@ -7,7 +7,7 @@ ghost use Rattle.vx_values.specs.Ranges.{range_form};
 
 use crate::fault::PlanFault;
 use crate::plan::Node;
-use crate::reading::{document_in, text_in};
+use crate::reading::{read_document, read_text};
 use serde_json::Value as Json;
 use std::alloc::Global;
 use vx_values::NamedRange;
@@ -68,14 +68,14 @@ impl Plan {
     pub fn of_value(alloc: Global, value: &Json) -> Result<Plan, PlanFault>
         ensures { Gives document_of result (document_in (view value.now)) }
     {
-        document_in(alloc, value)
+        read_document(alloc, value)
     }
 
     /// The plan of a JSON text in UTF-8. Refusals are `NotJson` and those of `of_value`.
     pub fn read(alloc: Global, bytes: &[u8]) -> Result<Plan, PlanFault>
         ensures { Gives document_of result (document_of_text bytes.now) }
     {
-        text_in(alloc, bytes)
+        read_text(alloc, bytes)
     }
 
     /// The declared size names, in order.

@@ -5,7 +5,6 @@ mod document;
 mod fault;
 mod forms;
 mod json;
-mod lists;
 mod look;
 mod operators;
 mod plan;
