@@ -1,12 +1,13 @@
 //! A plan as JSON.
 
-ghost use Rattle.std.specs.Prelude.{◌≡◌, map, string_bytes, codes, Ok, IfOk, OnOk};
+ghost use Rattle.std.specs.Prelude.{◌≡◌, ℕ, List, map, string_bytes, codes, Ok, IfOk, OnOk};
 ghost use Rattle.serde_json.specs.Data.{string, put};
 ghost use Rattle.serde_json.specs.View.{view, members_view};
 ghost use Rattle.serde_json.specs.Written.{compact_text};
+ghost use Rattle.vx_values.specs.Values.{Name, Val};
 ghost use Rattle.vx_values.specs.ValueView.{val_of};
-ghost use Rattle.vx_document.specs.Document.{hash_part, range_part, part_form, claim_form, side_form, condition_form, output_form, function_form, aggregate_form, scan_form, unary_form, pair_form, binary_form, kind_form, tree_of};
-ghost use Rattle.vx_values.specs.Ranges.{range_form};
+ghost use Rattle.vx_document.specs.Document.{hash_part, range_part, part_form, claim_form, side_form, ConditionForm, condition_form, OutputForm, output_form, function_form, AggregateForm, aggregate_form, scan_form, unary_form, pair_form, binary_form, kind_form, tree_of};
+ghost use Rattle.vx_values.specs.Ranges.{RangeForm, range_form};
 ghost use Rattle.vx_document.specs.PlanView.{document_of};
 ghost use Rattle.vx_document.specs.Reading.{document_of_text};
 ghost use Rattle.vx_document.specs.Written.{names_json, list_json, value_json, with_some, with_text, range_json, part_json, with_part, claim_members, with_object, with_claim, with_side, condition_json, output_json, with_function, with_call, aggregate_json, pair_json, with_some_text, with_scan, with_unary, with_join, with_binary, with_kind, scan_json, unary_json, binary_json, exchange_json, node_json, with_total, document_json};
@@ -22,20 +23,87 @@ use vx_values::{NamedRange, Value};
 
 type Members = Map<String, Json>;
 
+/// What has a form in JSON.
+trait ToJson {
+    ghost use Rattle.std.specs.Prelude.{◌≡◌, IfOk};
+    ghost use Rattle.serde_json.specs.Data.{Data};
+    ghost use Rattle.serde_json.specs.View.{view};
+
+    ghost Form: { Type 0 };
+
+    ghost look: { Self → Form };
+
+    ghost json: { Form → Data };
+
+    /// The JSON value of it.
+    fn to_value(&self, alloc: Global) -> Result<Json, AllocError>
+        ensures { IfOk result (λ d. view d ≡ json (look self.now)) };
+}
+
+fn list_json<T: ToJson>(alloc: Global, items: &[T]) -> Result<Json, AllocError>
+    ensures { IfOk result (λ d. view d ≡ list_json T.json (map T.look items.now)) }
+{
+    let mut list = Vec::new(alloc);
+    for item in items {
+        list.push(item.to_value(alloc)?)?;
+    }
+    Ok(Json::Array(list))
+}
+
+fn put_list<T: ToJson>(
+    members: &mut Members,
+    alloc: Global,
+    key: &str,
+    items: &[T],
+) -> Result<(), AllocError>
+    ensures { OnOk result (members_view members.new.entries ≡ put key.now (list_json T.json (map T.look items.now)) (members_view members.old.entries)) }
+{
+    put(members, alloc, key, list_json(alloc, items)?)
+}
+
+// The list, unless it is empty.
+fn put_some<T: ToJson>(
+    members: &mut Members,
+    alloc: Global,
+    key: &str,
+    items: &[T],
+) -> Result<(), AllocError>
+    ensures { OnOk result (members_view members.new.entries ≡ with_some key.now T.json (map T.look items.now) (members_view members.old.entries)) }
+{
+    if items.is_empty() {
+        return Ok(());
+    }
+    put_list(members, alloc, key, items)
+}
+
 fn text(alloc: Global, text: &str) -> Result<Json, AllocError>
     ensures { IfOk result (λ d. view d ≡ string text.now) }
 {
     Ok(Json::String(String::from_str(alloc, text)?))
 }
 
-fn names_json(alloc: Global, names: &[String]) -> Result<Json, AllocError>
-    ensures { IfOk result (λ d. view d ≡ names_json (map string_bytes names.now)) }
-{
-    let mut list = Vec::new(alloc);
-    for name in names {
-        list.push(text(alloc, name.as_str())?)?;
+impl ToJson for String {
+    ghost Form = { List ℕ };
+
+    ghost look = { string_bytes };
+
+    ghost json = { string };
+
+    fn to_value(&self, alloc: Global) -> Result<Json, AllocError> {
+        text(alloc, self.as_str())
     }
-    Ok(Json::Array(list))
+}
+
+impl ToJson for Vec<String> {
+    ghost Form = { List (List ℕ) };
+
+    ghost look = { λ k. map string_bytes k.items };
+
+    ghost json = { names_json };
+
+    fn to_value(&self, alloc: Global) -> Result<Json, AllocError> {
+        list_json(alloc, self.as_slice())
+    }
 }
 
 fn put_text(members: &mut Members, alloc: Global, key: &str, value: &str) -> Result<(), AllocError>
@@ -44,73 +112,34 @@ fn put_text(members: &mut Members, alloc: Global, key: &str, value: &str) -> Res
     put(members, alloc, key, text(alloc, value)?)
 }
 
-fn put_names(
-    members: &mut Members,
-    alloc: Global,
-    key: &str,
-    names: &[String],
-) -> Result<(), AllocError>
-    ensures { OnOk result (members_view members.new.entries ≡ put key.now (names_json (map string_bytes names.now)) (members_view members.old.entries)) }
-{
-    put(members, alloc, key, names_json(alloc, names)?)
-}
+impl ToJson for Value {
+    ghost Form = { Val };
 
-// The names, unless there are none.
-fn put_some_names(
-    members: &mut Members,
-    alloc: Global,
-    key: &str,
-    names: &[String],
-) -> Result<(), AllocError>
-    ensures { OnOk result (members_view members.new.entries ≡ with_some key.now string (map string_bytes names.now) (members_view members.old.entries)) }
-{
-    if names.is_empty() {
-        return Ok(());
-    }
-    put_names(members, alloc, key, names)
-}
+    ghost look = { val_of };
 
-fn value_json(alloc: Global, value: &Value) -> Result<Json, AllocError>
-    ensures { IfOk result (λ d. view d ≡ value_json (val_of value.now)) }
-{
-    match value {
-        Value::Int(number) => Ok(Json::from(*number)),
-        Value::Text(s) => text(alloc, s.as_str()),
+    ghost json = { value_json };
+
+    fn to_value(&self, alloc: Global) -> Result<Json, AllocError> {
+        match self {
+            Value::Int(number) => Ok(Json::from(*number)),
+            Value::Text(s) => text(alloc, s.as_str()),
+        }
     }
 }
 
-fn values_json(alloc: Global, values: &[Value]) -> Result<Json, AllocError>
-    ensures { IfOk result (λ d. view d ≡ list_json value_json (map val_of values.now)) }
-{
-    let mut list = Vec::new(alloc);
-    for value in values {
-        list.push(value_json(alloc, value)?)?;
-    }
-    Ok(Json::Array(list))
-}
+impl ToJson for NamedRange {
+    ghost Form = { RangeForm };
 
-fn range_json(alloc: Global, range: &NamedRange) -> Result<Json, AllocError>
-    ensures { IfOk result (λ d. view d ≡ range_json (range_form range.now)) }
-{
-    let mut members = Map::new(alloc);
-    put_text(&mut members, alloc, "name", range.name.as_str())?;
-    put(
-        &mut members,
-        alloc,
-        "bounds",
-        values_json(alloc, range.bounds.as_slice())?,
-    )?;
-    Ok(Json::Object(members))
-}
+    ghost look = { range_form };
 
-fn ranges_json(alloc: Global, ranges: &[NamedRange]) -> Result<Json, AllocError>
-    ensures { IfOk result (λ d. view d ≡ list_json range_json (map range_form ranges.now)) }
-{
-    let mut list = Vec::new(alloc);
-    for range in ranges {
-        list.push(range_json(alloc, range)?)?;
+    ghost json = { range_json };
+
+    fn to_value(&self, alloc: Global) -> Result<Json, AllocError> {
+        let mut members = Map::new(alloc);
+        put_text(&mut members, alloc, "name", self.name.as_str())?;
+        put_list(&mut members, alloc, "bounds", self.bounds.as_slice())?;
+        Ok(Json::Object(members))
     }
-    Ok(Json::Array(list))
 }
 
 fn hash_part_json(alloc: Global, route: &str, columns: &[String]) -> Result<Json, AllocError>
@@ -118,7 +147,7 @@ fn hash_part_json(alloc: Global, route: &str, columns: &[String]) -> Result<Json
 {
     let mut members = Map::new(alloc);
     put_text(&mut members, alloc, "hash", route)?;
-    put_names(&mut members, alloc, "columns", columns)?;
+    put_list(&mut members, alloc, "columns", columns)?;
     Ok(Json::Object(members))
 }
 
@@ -157,33 +186,13 @@ fn put_part(members: &mut Members, alloc: Global, part: &NamedPart) -> Result<()
     put(members, alloc, "part", part_json(alloc, part)?)
 }
 
-fn keys_json(alloc: Global, keys: &[Vec<String>]) -> Result<Json, AllocError>
-    ensures { IfOk result (λ d. view d ≡ list_json names_json (map (λ k. map string_bytes k.items) keys.now)) }
-{
-    let mut list = Vec::new(alloc);
-    for key in keys {
-        list.push(names_json(alloc, key.as_slice())?)?;
-    }
-    Ok(Json::Array(list))
-}
-
-// The keys, unless there are none.
-fn put_keys(members: &mut Members, alloc: Global, keys: &[Vec<String>]) -> Result<(), AllocError>
-    ensures { OnOk result (members_view members.new.entries ≡ with_some (codes "keys") names_json (map (λ k. map string_bytes k.items) keys.now) (members_view members.old.entries)) }
-{
-    if keys.is_empty() {
-        return Ok(());
-    }
-    put(members, alloc, "keys", keys_json(alloc, keys)?)
-}
-
 fn claim_members(alloc: Global, claim: &NamedClaim) -> Result<Members, AllocError>
     ensures { IfOk result (λ m. members_view m.entries ≡ claim_members (claim_form claim.now)) }
 {
     let mut own = Map::new(alloc);
     put_part(&mut own, alloc, &claim.part)?;
-    put_some_names(&mut own, alloc, "order", claim.order.as_slice())?;
-    put_keys(&mut own, alloc, claim.keys.as_slice())?;
+    put_some(&mut own, alloc, "order", claim.order.as_slice())?;
+    put_some(&mut own, alloc, "keys", claim.keys.as_slice())?;
     Ok(own)
 }
 
@@ -214,50 +223,42 @@ fn put_side(members: &mut Members, alloc: Global, side: &NamedSide) -> Result<()
 {
     match side {
         NamedSide::Column(name) => put_text(members, alloc, "column2", name.as_str()),
-        NamedSide::Constant(value) => put(members, alloc, "value", value_json(alloc, value)?),
+        NamedSide::Constant(value) => put(members, alloc, "value", value.to_value(alloc)?),
     }
 }
 
-fn condition_json(alloc: Global, condition: &NamedCondition) -> Result<Json, AllocError>
-    ensures { IfOk result (λ d. view d ≡ condition_json (condition_form condition.now)) }
-{
-    let mut members = Map::new(alloc);
-    put_text(&mut members, alloc, "column", condition.left.as_str())?;
-    put_text(&mut members, alloc, "op", condition.test.text())?;
-    put_side(&mut members, alloc, &condition.right)?;
-    Ok(Json::Object(members))
-}
+impl ToJson for NamedCondition {
+    ghost Form = { ConditionForm };
 
-fn conditions_json(alloc: Global, conditions: &[NamedCondition]) -> Result<Json, AllocError>
-    ensures { IfOk result (λ d. view d ≡ list_json condition_json (map condition_form conditions.now)) }
-{
-    let mut list = Vec::new(alloc);
-    for condition in conditions {
-        list.push(condition_json(alloc, condition)?)?;
+    ghost look = { condition_form };
+
+    ghost json = { condition_json };
+
+    fn to_value(&self, alloc: Global) -> Result<Json, AllocError> {
+        let mut members = Map::new(alloc);
+        put_text(&mut members, alloc, "column", self.left.as_str())?;
+        put_text(&mut members, alloc, "op", self.test.text())?;
+        put_side(&mut members, alloc, &self.right)?;
+        Ok(Json::Object(members))
     }
-    Ok(Json::Array(list))
 }
 
-fn output_json(alloc: Global, output: &NamedOutput) -> Result<Json, AllocError>
-    ensures { IfOk result (λ d. view d ≡ output_json (output_form output.now)) }
-{
-    let Some(name) = &output.renamed else {
-        return text(alloc, output.column.as_str());
-    };
-    let mut members = Map::new(alloc);
-    put_text(&mut members, alloc, "column", output.column.as_str())?;
-    put_text(&mut members, alloc, "as", name.as_str())?;
-    Ok(Json::Object(members))
-}
+impl ToJson for NamedOutput {
+    ghost Form = { OutputForm };
 
-fn outputs_json(alloc: Global, outputs: &[NamedOutput]) -> Result<Json, AllocError>
-    ensures { IfOk result (λ d. view d ≡ list_json output_json (map output_form outputs.now)) }
-{
-    let mut list = Vec::new(alloc);
-    for output in outputs {
-        list.push(output_json(alloc, output)?)?;
+    ghost look = { output_form };
+
+    ghost json = { output_json };
+
+    fn to_value(&self, alloc: Global) -> Result<Json, AllocError> {
+        let Some(name) = &self.renamed else {
+            return text(alloc, self.column.as_str());
+        };
+        let mut members = Map::new(alloc);
+        put_text(&mut members, alloc, "column", self.column.as_str())?;
+        put_text(&mut members, alloc, "as", name.as_str())?;
+        Ok(Json::Object(members))
     }
-    Ok(Json::Array(list))
 }
 
 // An aggregate over a column.
@@ -288,42 +289,34 @@ fn put_function(
     }
 }
 
-fn aggregate_json(alloc: Global, aggregate: &NamedAggregate) -> Result<Json, AllocError>
-    ensures { IfOk result (λ d. view d ≡ aggregate_json (aggregate_form aggregate.now)) }
-{
-    let mut members = Map::new(alloc);
-    put_function(&mut members, alloc, &aggregate.function)?;
-    put_text(&mut members, alloc, "as", aggregate.name.as_str())?;
-    Ok(Json::Object(members))
-}
+impl ToJson for NamedAggregate {
+    ghost Form = { AggregateForm };
 
-fn aggregates_json(alloc: Global, aggregates: &[NamedAggregate]) -> Result<Json, AllocError>
-    ensures { IfOk result (λ d. view d ≡ list_json aggregate_json (map aggregate_form aggregates.now)) }
-{
-    let mut list = Vec::new(alloc);
-    for aggregate in aggregates {
-        list.push(aggregate_json(alloc, aggregate)?)?;
+    ghost look = { aggregate_form };
+
+    ghost json = { aggregate_json };
+
+    fn to_value(&self, alloc: Global) -> Result<Json, AllocError> {
+        let mut members = Map::new(alloc);
+        put_function(&mut members, alloc, &self.function)?;
+        put_text(&mut members, alloc, "as", self.name.as_str())?;
+        Ok(Json::Object(members))
     }
-    Ok(Json::Array(list))
 }
 
-fn pair_json(alloc: Global, pair: &(String, String)) -> Result<Json, AllocError>
-    ensures { IfOk result (λ d. view d ≡ pair_json (pair_form pair.now)) }
-{
-    let mut both = Vec::new(alloc);
-    both.push(text(alloc, pair.0.as_str())?)?;
-    both.push(text(alloc, pair.1.as_str())?)?;
-    Ok(Json::Array(both))
-}
+impl ToJson for (String, String) {
+    ghost Form = { Name × Name };
 
-fn pairs_json(alloc: Global, pairs: &[(String, String)]) -> Result<Json, AllocError>
-    ensures { IfOk result (λ d. view d ≡ list_json pair_json (map pair_form pairs.now)) }
-{
-    let mut list = Vec::new(alloc);
-    for pair in pairs {
-        list.push(pair_json(alloc, pair)?)?;
+    ghost look = { pair_form };
+
+    ghost json = { pair_json };
+
+    fn to_value(&self, alloc: Global) -> Result<Json, AllocError> {
+        let mut both = Vec::new(alloc);
+        both.push(text(alloc, self.0.as_str())?)?;
+        both.push(text(alloc, self.1.as_str())?)?;
+        Ok(Json::Array(both))
     }
-    Ok(Json::Array(list))
 }
 
 // A text, unless it is empty.
@@ -358,28 +351,24 @@ fn put_unary(members: &mut Members, alloc: Global, unary: &NamedUnary) -> Result
     match unary {
         NamedUnary::Select(conditions) => {
             put_text(members, alloc, "op", "select")?;
-            let conditions = conditions_json(alloc, conditions.as_slice())?;
-            put(members, alloc, "where", conditions)
+            put_list(members, alloc, "where", conditions.as_slice())
         }
         NamedUnary::Project(outputs) => {
             put_text(members, alloc, "op", "project")?;
-            let outputs = outputs_json(alloc, outputs.as_slice())?;
-            put(members, alloc, "columns", outputs)
+            put_list(members, alloc, "columns", outputs.as_slice())
         }
         NamedUnary::Distinct(outputs) => {
             put_text(members, alloc, "op", "distinct")?;
-            let outputs = outputs_json(alloc, outputs.as_slice())?;
-            put(members, alloc, "columns", outputs)
+            put_list(members, alloc, "columns", outputs.as_slice())
         }
         NamedUnary::Sort(names) => {
             put_text(members, alloc, "op", "sort")?;
-            put_names(members, alloc, "columns", names.as_slice())
+            put_list(members, alloc, "columns", names.as_slice())
         }
         NamedUnary::Group(by, aggregates) => {
             put_text(members, alloc, "op", "group")?;
-            put_names(members, alloc, "by", by.as_slice())?;
-            let aggregates = aggregates_json(alloc, aggregates.as_slice())?;
-            put(members, alloc, "aggregates", aggregates)
+            put_list(members, alloc, "by", by.as_slice())?;
+            put_list(members, alloc, "aggregates", aggregates.as_slice())
         }
     }
 }
@@ -394,7 +383,7 @@ fn put_join(
 {
     put_text(members, alloc, "op", "join")?;
     put_text(members, alloc, "method", method)?;
-    put(members, alloc, "on", pairs_json(alloc, on)?)
+    put_list(members, alloc, "on", on)
 }
 
 fn put_binary(members: &mut Members, alloc: Global, binary: &NamedBinary) -> Result<(), AllocError>
@@ -425,7 +414,7 @@ fn put_kind(members: &mut Members, alloc: Global, kind: &NamedKind) -> Result<()
         } => {
             put_sized(members, alloc, "hash", size.as_str())?;
             put_text(members, alloc, "route", route.as_str())?;
-            put_names(members, alloc, "columns", columns.as_slice())
+            put_list(members, alloc, "columns", columns.as_slice())
         }
         NamedKind::Range {
             size,
@@ -496,7 +485,7 @@ fn exchange_json(
     put_claim(&mut members, alloc, claim)?;
     put_text(&mut members, alloc, "op", "exchange")?;
     put_kind(&mut members, alloc, kind)?;
-    put_some_names(&mut members, alloc, "merge", merge)?;
+    put_some(&mut members, alloc, "merge", merge)?;
     put(&mut members, alloc, "input", input)?;
     Ok(Json::Object(members))
 }
@@ -520,16 +509,6 @@ fn node_json(alloc: Global, node: &Node) -> Result<Json, AllocError>
     }
 }
 
-// The ranges, unless there are none.
-fn put_ranges(members: &mut Members, alloc: Global, ranges: &[NamedRange]) -> Result<(), AllocError>
-    ensures { OnOk result (members_view members.new.entries ≡ with_some (codes "ranges") range_json (map range_form ranges.now) (members_view members.old.entries)) }
-{
-    if ranges.is_empty() {
-        return Ok(());
-    }
-    put(members, alloc, "ranges", ranges_json(alloc, ranges)?)
-}
-
 // Whether the root's list is in a total order, unless it is not.
 fn put_total(members: &mut Members, alloc: Global, total: bool) -> Result<(), AllocError>
     ensures { OnOk result (members_view members.new.entries ≡ with_total total (members_view members.old.entries)) }
@@ -544,8 +523,8 @@ fn plan_json(alloc: Global, plan: &Plan) -> Result<Json, AllocError>
     ensures { IfOk result (λ d. view d ≡ document_json (document_of plan.now)) }
 {
     let mut members = Map::new(alloc);
-    put_some_names(&mut members, alloc, "sizes", plan.sizes())?;
-    put_ranges(&mut members, alloc, plan.ranges())?;
+    put_some(&mut members, alloc, "sizes", plan.sizes())?;
+    put_some(&mut members, alloc, "ranges", plan.ranges())?;
     put_total(&mut members, alloc, plan.is_total())?;
     put(&mut members, alloc, "root", node_json(alloc, plan.root())?)?;
     Ok(Json::Object(members))
