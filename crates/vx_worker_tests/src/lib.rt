@@ -1,4 +1,4 @@
-//! What no clause says of exchanges and of workers: that small ones come to their ends.
+//! What no clause says of exchanges, of sorts and of workers: that small ones come to their ends.
 //!
 //! The tests stand in a crate of their own, since a crate with tests is proved twice.
 #![tactic(auto)]
@@ -7,5 +7,7 @@
 mod exchanges;
 #[cfg(test)]
 mod routers;
+#[cfg(test)]
+mod sorts;
 #[cfg(test)]
 mod workers;
