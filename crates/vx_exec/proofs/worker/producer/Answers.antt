@@ -1,9 +1,13 @@
-use Rattle.std.proofs.Common.{ap, ◌∙◌, map}
+use Rattle.std.proofs.Common.{ap, ◌∙◌, map, sym, subst}
 use Rattle.vx_nodes.specs.Outline.{plan_of}
 use Rattle.vx_steps.specs.Crews.{duty_of}
-use Rattle.vx_worker.specs.Destination.{post_of}
+use Rattle.vx_exchange.specs.Sending.{RoutesAs}
+use Rattle.vx_exchange.specs.Tasks.{Post}
+use Rattle.vx_worker.specs.Destination.{post_of, bounds_of}
+use Rattle.vx_worker.specs.Fragment.{goes}
 use Rattle.vx_worker.specs.Intake.{source_of}
 use Rattle.vx_worker.specs.declared.destination.Destination.TheVariants as destination
+use Rattle.vx_exec.specs.Job.{setting_of}
 use Rattle.vx_exec.proofs.Workers.{producer-does, made-new}
 use Rattle.vx_exec.proofs.worker.producer.Goals as goal
 
@@ -17,4 +21,5 @@ pub returns-clause-new : goal.returns-clause-new
 returns-clause-new c =
     made-new c.args.job.now c.args.place (plan_of c.args.node.now) c.in_ok-tree.tree c.in_ok-tree.types.items (destination.Send c.in_ok-sender.sender)
     (map source_of c.in_ok-inputs.inputs.items) c.new-2.result c.in_ok-tree.ensures c.requires.leaves c.new-2.ensures.ready c.new-2.ensures.role c.new-2.ensures.stands
-    c.in_ok-sender.ensures.stands (λ hash. tt)
+    c.in_ok-sender.ensures.stands
+    (λ hash. let P : Post → Type 0 = λ z. RoutesAs z (bounds_of (destination.Send c.in_ok-sender.sender)) hash (goes (setting_of hash c.args.job.now)) in subst P (sym c.in_ok-sender.ensures.post) tt)
