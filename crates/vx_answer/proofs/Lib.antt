@@ -1,4 +1,5 @@
 pub mod RunnableFacts
+pub mod PlanFacts
 pub mod Refusing
 pub mod SerialFacts
 pub mod Outputs

@@ -34,7 +34,7 @@ any_answer (Ok x) = tt
 any_answer (Err e) = tt
 
 -- what holds of each answer of the second step, whatever the first answers
-then_holds : {A B : Type 0} (P : B → Type 0) (f : A → Result B Refusal) (r : Result A Refusal) → ((x : A) → Holds P (f x)) → Holds P (r >>= f)
+pub then_holds : {A B : Type 0} (P : B → Type 0) (f : A → Result B Refusal) (r : Result A Refusal) → ((x : A) → Holds P (f x)) → Holds P (r >>= f)
 then_holds P f r each = holds_then (λ x. ⊤) P f r (any_answer r) (λ x u. each x)
 
 topped_runs : (s : Names) (node : ℕ) (cols : Columns) (c : ClaimForm) (make : Top → Outline) → ((h : Top) → Runs (make h)) → Holds Runs (topped s node cols c >>= λ h. Ok (make h))

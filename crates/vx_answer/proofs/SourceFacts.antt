@@ -1,41 +1,51 @@
--- Bytes that are told or not, and a plan of them.
-use Rattle.std.proofs.Common.{◌≡◌, ℕ, List, Bool, true, false, cond, Option, Some, None, refl, sym, subst, inl, inr}
-use Rattle.std.specs.Prelude.{IfSome}
+-- Bytes that are known or not, and a plan of them.
+use Rattle.std.proofs.Common.{◌≡◌, ℕ, List, [], Vec, Global, Bool, true, false, Option, Some, None, Result, Ok, Err, refl, sym, subst, inl, inr}
+use Rattle.std.specs.Prelude.{IfOk}
 use Rattle.vx_rows.specs.Ports.{IsAll, IsOver, ExplainsAll}
 use Rattle.vx_rows.specs.declared.bytes.ReadFault.TheVariants as fault
 use Rattle.vx_catalog.specs.Loading.{max_bytes}
 use Rattle.vx_tables.specs.declared.refusal.Refusal.{Refusal}
+use Rattle.vx_tables.specs.Stored.{Stored, silent, absent, present, stored_by, IfBytes, OpensAs}
 use Rattle.vx_tables.proofs.FolderFacts.{may_fail}
 use Rattle.vx_answer.specs.Answer.{RefusedWith}
-use Rattle.vx_answer.specs.Worded.{IsUnreadable, IsInputRefusal, for_input_room, for_input, untaken_of}
+use Rattle.vx_answer.specs.Worded.{left_of, IsUnreadable, IsInputRefusal, for_input_room, for_input}
 
--- what holds of all bytes that were taken holds of those that are told
-pub told_all : (P : List ℕ → Type 0) (known : Option (List ℕ)) (bytes : List ℕ) → IsAll known bytes → P bytes → IfSome known P
-told_all P None bytes h p = tt
-told_all P (Some xs) bytes h p = subst P (sym h) p
+-- the bytes are all that there are, as far as is known
+abbrev pub AreAll : Stored → List ℕ → Type 0
+AreAll known bytes = IfBytes known (λ xs. xs ≡ bytes)
 
--- what is told of the second path's bytes holds where less is told: of an input that was taken for the first path nothing
-pub second_bytes : (first second : Bool) (before after file : Option (List ℕ)) (P : List ℕ → Type 0) → (first ≡ false → after ≡ before)
-    → IfSome (cond second after file) P → IfSome (cond second (cond first None before) file) P
-second_bytes first false before after file P same h = h
-second_bytes true true before after file P same h = tt
-second_bytes false true before after file P same h = let Q : Option (List ℕ) → Type 0 = λ o. IfSome o P in subst Q (same refl) h
+-- all bytes of a reader of a file are those of the file
+pub file_all : (file : Stored) (known : Option (List ℕ)) (bytes : List ℕ) → OpensAs file known → IsAll known bytes → AreAll file bytes
+file_all silent known bytes opened h = tt
+file_all absent known bytes opened h = opened
+file_all (present xs) known bytes opened h = let P : Option (List ℕ) → Type 0 = λ o. IsAll o bytes in subst P opened h
+
+-- and all of standard input are those that it had left
+pub input_all : {E : Type 0} (r : Result (Vec ℕ Global) E) (known : Option (List ℕ)) → IfOk r (λ v. IsAll known v.items) → IfOk r (λ v. AreAll (stored_by known) v.items)
+input_all (Ok v) None h = tt
+input_all (Ok v) (Some xs) h = h
+input_all (Err e) known h = tt
+
+-- what holds of all bytes that were read holds of those that are known
+pub told_all : (P : List ℕ → Type 0) (known : Stored) (bytes : List ℕ) → AreAll known bytes → P bytes → IfBytes known P
+told_all P silent bytes h p = tt
+told_all P absent bytes h p = h
+told_all P (present xs) bytes h p = subst P (sym h) p
+
+-- what standard input has left after a path was read, as it is then and as it was before
+pub same_left : (first was_read : Bool) (before after : Option (List ℕ)) → was_read ≡ first → (first ≡ false → after ≡ before) → left_of was_read after ≡ left_of first before
+same_left true was_read before after is kept = let P : Bool → Type 0 = λ b. left_of b after ≡ Some [] in subst P (sym is) refl
+same_left false was_read before after is kept = let P : Bool → Type 0 = λ b. left_of b after ≡ before in subst P (sym is) (kept refl)
 
 -- a file that failed while it was read
-pub unreadable_broken : (reliable failed : Bool) (known told : Option (List ℕ)) → (reliable ≡ true → failed ≡ false) → ExplainsAll max_bytes known failed fault.Broken → IsUnreadable told reliable
-unreadable_broken reliable failed known told never h = inr (inl (may_fail reliable failed never h))
+pub unreadable_broken : (reliable failed : Bool) (known : Option (List ℕ)) (file : Stored) → (reliable ≡ true → failed ≡ false) → ExplainsAll max_bytes known failed fault.Broken → IsUnreadable file reliable
+unreadable_broken reliable failed known file never h = inr (inl (may_fail reliable failed never h))
 
 -- a file that is too long
-pub unreadable_long : (known told : Option (List ℕ)) (failed reliable : Bool) → known ≡ told → ExplainsAll max_bytes known failed fault.TooLarge → IsUnreadable told reliable
-unreadable_long known told failed reliable there h = let P : Option (List ℕ) → Type 0 = λ o. IsOver max_bytes o in inr (inr (subst P there h.0))
-
--- why the second path's bytes were not taken holds where less is told
-pub second_untaken : (first second : Bool) (before after file : Option (List ℕ)) (reliable failed : Bool) (path : List ℕ) (e : Refusal) → (first ≡ false → after ≡ before)
-    → untaken_of second file reliable after failed path e → untaken_of second file reliable (cond first None before) failed path e
-second_untaken first false before after file reliable failed path e same h = h
-second_untaken true true before after file reliable failed path e same (for_input_room is) = for_input_room is
-second_untaken true true before after file reliable failed path e same (for_input is h) = for_input is (inr tt)
-second_untaken false true before after file reliable failed path e same h = let P : Option (List ℕ) → Type 0 = λ o. IsInputRefusal o failed e in subst P (same refl) h
+pub unreadable_long : (file : Stored) (known : Option (List ℕ)) (failed reliable : Bool) → OpensAs file known → ExplainsAll max_bytes known failed fault.TooLarge → IsUnreadable file reliable
+unreadable_long silent known failed reliable opened h = inl tt
+unreadable_long absent known failed reliable opened h = absurd opened
+unreadable_long (present xs) known failed reliable opened h = let P : Option (List ℕ) → Type 0 = λ o. IsOver max_bytes o in inr (inr (subst P opened h.0))
 
 -- input that was not taken is refused for that
 pub input_refused : (known : Option (List ℕ)) (failed : Bool) (e : Refusal) → IsInputRefusal known failed e → RefusedWith known failed e

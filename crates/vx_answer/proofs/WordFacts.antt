@@ -1,17 +1,18 @@
 -- From the refusal of what words ask for to the refusal of the words.
-use Rattle.std.proofs.Common.{◌≡◌, ℕ, List, Vec, Global, Bool, Option, Some, Result, Ok, Err, sym, subst, inl, inr}
+use Rattle.std.proofs.Common.{◌≡◌, ℕ, List, Vec, Global, Bool, Option, Result, Ok, Err, sym, subst, inl, inr}
 use Rattle.std.specs.Prelude.{IfOk, IfErr}
 use Rattle.clap.specs.Values.{kind_of}
 use Rattle.clap.specs.Words.{HasKind}
 use Rattle.clap.specs.declared.error.Error.{Error}
 use Rattle.vx_typed.specs.Names.{Resolved}
-use Rattle.vx_words.specs.Asked.{Ask, asked_by, faults_of}
+use Rattle.vx_words.specs.Asked.{Ask, faults_of}
 use Rattle.vx_tables.specs.declared.refusal.Refusal.{Refusal}
 use Rattle.vx_answer.specs.declared.worded.NotTaken.{NotTaken}
 use Rattle.vx_answer.specs.declared.worded.NotTaken.TheVariants as taken
 use Rattle.vx_answer.specs.Commanded.{CommandRefuses}
+use Rattle.vx_tables.specs.Stored.{Stored}
 use Rattle.vx_tables.specs.Folder.{holds_at, LacksAt}
-use Rattle.vx_answer.specs.Worded.{Task, IsPlannedIn, catalog_told, plan_told, TaskRefuses, for_plan_of, AnswersAsk, named, IsWorded, for_words, for_kind, for_no_task, for_no_room, for_ask}
+use Rattle.vx_answer.specs.Worded.{Task, IsPlannedIn, catalog_told, plan_told, TaskRefuses, for_plan_of, AnswersAsk, named, AsksFor, IsWorded, for_words, for_kind, for_no_task, for_no_room, for_ask}
 use Rattle.vx_answer.specs.WordsView.{IsFault, IsNotAnswered, IsNotTaken}
 
 -- what holds of the text of an outcome
@@ -33,27 +34,27 @@ told_refusal P Q outcome (Err e) same weaker h =
     subst Q (sym same.2) (weaker same.0 there)
 
 -- what the command makes nothing of, the task has no answer to
-pub task_refused : {T : Type 0} (files : List ℕ → Option (List ℕ)) (reliable : List ℕ → Bool) (input : Option (List ℕ)) (failed : Bool) (t : Task) (p : Resolved) (r : Result T Refusal)
+pub task_refused : {T : Type 0} (files : List ℕ → Stored) (reliable : List ℕ → Bool) (input : Option (List ℕ)) (failed : Bool) (t : Task) (p : Resolved) (r : Result T Refusal)
     → IsPlannedIn t.command (catalog_told files input t.paths) (plan_told files input t.paths) p
     → IfErr r (λ e. CommandRefuses t.command p (holds_at files t.folder) (LacksAt files reliable t.folder) t.setting e) → IfErr r (λ e. TaskRefuses files reliable input failed t e)
 task_refused files reliable input failed t p (Ok x) planned h = tt
 task_refused files reliable input failed t p (Err e) planned h = for_plan_of p planned h
 
 -- the answer to what words ask for answers the words
-pub words_text : (files : List ℕ → Option (List ℕ)) (input : Option (List ℕ)) (words : List (List ℕ)) (ask : Ask) (r : Result (Vec ℕ Global) NotTaken)
-    → asked_by (named words) ≡ Some ask → IfOk r (λ v. AnswersAsk files input ask v.items) → IfOk r (λ v. IsWorded files input words v.items)
+pub words_text : (files : List ℕ → Stored) (input : Option (List ℕ)) (words : List (List ℕ)) (ask : Ask) (r : Result (Vec ℕ Global) NotTaken)
+    → AsksFor words ask → IfOk r (λ v. AnswersAsk files input ask v.items) → IfOk r (λ v. IsWorded files input words v.items)
 words_text files input words ask (Ok v) asked h = for_words ask asked h
 words_text files input words ask (Err e) asked h = tt
 
 -- and so does its refusal
-pub words_refused : {T : Type 0} (files : List ℕ → Option (List ℕ)) (reliable : List ℕ → Bool) (input : Option (List ℕ)) (failed : Bool) (words : List (List ℕ)) (ask : Ask) (r : Result T NotTaken)
-    → asked_by (named words) ≡ Some ask → IfErr r (IsNotAnswered files reliable input failed ask) → IfErr r (IsNotTaken files reliable input failed words)
+pub words_refused : {T : Type 0} (files : List ℕ → Stored) (reliable : List ℕ → Bool) (input : Option (List ℕ)) (failed : Bool) (words : List (List ℕ)) (ask : Ask) (r : Result T NotTaken)
+    → AsksFor words ask → IfErr r (IsNotAnswered files reliable input failed ask) → IfErr r (IsNotTaken files reliable input failed words)
 words_refused files reliable input failed words ask (Ok v) asked h = tt
 words_refused files reliable input failed words ask (Err (taken.Misworded text)) asked h = for_no_task ask asked h
 words_refused files reliable input failed words ask (Err (taken.Refused e)) asked h = for_ask ask asked h
 
 -- what clap refuses is told as its kind says
-pub said_refused : {T : Type 0} (files : List ℕ → Option (List ℕ)) (reliable : List ℕ → Bool) (input : Option (List ℕ)) (failed : Bool) (words : List (List ℕ)) (error : Error) (r : Result T NotTaken)
+pub said_refused : {T : Type 0} (files : List ℕ → Stored) (reliable : List ℕ → Bool) (input : Option (List ℕ)) (failed : Bool) (words : List (List ℕ)) (error : Error) (r : Result T NotTaken)
     → HasKind (faults_of (named words)) error → IfErr r (IsFault (kind_of error)) → IfErr r (IsNotTaken files reliable input failed words)
 said_refused files reliable input failed words error (Ok x) has h = tt
 said_refused files reliable input failed words error (Err (taken.Misworded text)) (inl memory) h = absurd (h.2 memory)

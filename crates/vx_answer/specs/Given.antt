@@ -1,8 +1,9 @@
--- How words set a run up: numbers as texts, and words NAME=N.
-use Rattle.std.specs.Prelude.{◌≡◌, ℕ, ◌^◌, ◌<◌, ◌==◌, ◌++◌, List, [], ◌∷◌, length, slice_index_or, Option, Some, None, SomeIff, codes}
+-- How arguments set a run up: numbers and the mode as texts, and arguments NAME=N.
+use Rattle.std.specs.Prelude.{◌≡◌, ℕ, ◌^◌, ◌<◌, ◌==◌, ◌++◌, List, [], ◌∷◌, length, slice_index_or, Option, Some, None, SomeIff, bytes_eq, codes, if◌then◌else◌}
 use Rattle.std.specs.Str.{NoCharPasses}
 use Rattle.std.specs.Str.Parse.{IsNumeral, digits_value, without_leading_plus}
 use Rattle.vx_words.specs.Asked.{Given}
+use Rattle.vx_bundle.specs.declared.setting.Mode.{Mode}
 use Rattle.vx_bundle.specs.declared.setting.Mode.TheVariants as mode
 use Rattle.vx_bundle.specs.Setting.{Named, Setting}
 
@@ -34,17 +35,22 @@ AreSizes (word ∷ words) (size ∷ sizes) = IsSize word size × AreSizes words 
 abbrev pub HasNoSize : List (List ℕ) → Type 0
 HasNoSize words = (i : ℕ) × (i < length words) × IsNoSize (slice_index_or words i [])
 
--- what words say of a run, in rounds
+-- the mode that a text names, if workers run in it so far
+abbrev pub mode_named : List ℕ → Option Mode
+mode_named text = if bytes_eq text (codes "rounds") then Some mode.Rounds else None
+
+-- what arguments say of a run
 pub record IsSetting (given : Given) (s : Setting) : Type 0 where
   pub packet : Numbers given.packet (Some s.packet)
   pub morsel : Numbers given.morsel (Some s.morsel)
   pub slack : Numbers given.slack (Some s.slack)
   pub sizes : AreSizes given.sizes s.sizes
-  pub mode : s.mode ≡ mode.Rounds
+  pub mode : mode_named given.mode ≡ Some s.mode
 
--- words that set no run up: a number is none, or a word is no NAME=N
+-- arguments that set no run up: a number is none, the mode is none, or an argument is no NAME=N
 pub data IsNoSetting (given : Given) : Type 0 where
   for_packet : Numbers given.packet None → IsNoSetting given
   for_morsel : Numbers given.morsel None → IsNoSetting given
   for_slack : Numbers given.slack None → IsNoSetting given
+  for_mode : mode_named given.mode ≡ None → IsNoSetting given
   for_word : HasNoSize given.sizes → IsNoSetting given

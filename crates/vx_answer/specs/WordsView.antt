@@ -6,6 +6,7 @@ use Rattle.vx_answer.specs.declared.worded.NotTaken.{NotTaken}
 use Rattle.vx_answer.specs.declared.worded.NotTaken.TheVariants as taken
 use Rattle.clap.specs.declared.error.kind.ErrorKind.{ErrorKind}
 use Rattle.vx_tables.specs.declared.refusal.Refusal.TheVariants as refusal
+use Rattle.vx_tables.specs.Stored.{Stored}
 use Rattle.vx_answer.specs.Worded.{Task, IsNoTask, IsWrongKind, AskRefuses, AreMisworded, WordsRefuse}
 
 abbrev pub task_is : held.Task → Task
@@ -22,11 +23,11 @@ IsFault k (taken.Misworded text) = IsWrongKind k
 IsFault k (taken.Refused e) = e ≡ refusal.NoMemory
 
 -- why what words ask for is not answered
-abbrev pub IsNotAnswered : (List ℕ → Option (List ℕ)) → (List ℕ → Bool) → Option (List ℕ) → Bool → Ask → NotTaken → Type 0
+abbrev pub IsNotAnswered : (List ℕ → Stored) → (List ℕ → Bool) → Option (List ℕ) → Bool → Ask → NotTaken → Type 0
 IsNotAnswered files reliable input failed ask (taken.Misworded text) = IsNoTask ask
 IsNotAnswered files reliable input failed ask (taken.Refused e) = AskRefuses files reliable input failed ask e
 
 -- why words are not answered
-abbrev pub IsNotTaken : (List ℕ → Option (List ℕ)) → (List ℕ → Bool) → Option (List ℕ) → Bool → List (List ℕ) → NotTaken → Type 0
+abbrev pub IsNotTaken : (List ℕ → Stored) → (List ℕ → Bool) → Option (List ℕ) → Bool → List (List ℕ) → NotTaken → Type 0
 IsNotTaken files reliable input failed words (taken.Misworded text) = AreMisworded words
 IsNotTaken files reliable input failed words (taken.Refused e) = WordsRefuse files reliable input failed words e

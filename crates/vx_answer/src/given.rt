@@ -1,9 +1,9 @@
-//! How words set a run up.
+//! How arguments set a run up.
 
-ghost use Rattle.std.specs.Prelude.{map, MatchOption, IfOk};
+ghost use Rattle.std.specs.Prelude.{◌≡◌, map, MatchOption, IfOk};
 ghost use Rattle.vx_words.specs.Asked.{given_is};
 ghost use Rattle.vx_bundle.specs.Setting.{size_form};
-ghost use Rattle.vx_answer.specs.Given.{Numbers, IsSize, IsNoSize, AreSizes, HasNoSize, IsSetting, IsNoSetting};
+ghost use Rattle.vx_answer.specs.Given.{Numbers, mode_named, IsSize, IsNoSize, AreSizes, HasNoSize, IsSetting, IsNoSetting};
 
 use std::alloc::{AllocError, Global};
 use vx_bundle::{Mode, Setting};
@@ -14,6 +14,17 @@ fn number_in(text: &str) -> Option<u32>
     ensures { Numbers text.now result }
 {
     text.parse::<u32>().ok()
+}
+
+// The mode of a name, if workers run in it so far.
+fn mode_named(text: &str) -> Option<Mode>
+    ensures { result ≡ mode_named text.now }
+{
+    if text == "rounds" {
+        Some(Mode::Rounds)
+    } else {
+        None
+    }
 }
 
 // The name and the number of a word NAME=N.
@@ -43,7 +54,7 @@ fn sizes_in(alloc: Global, words: &[&str]) -> Result<Option<Vec<(String, u32)>>,
     Ok(Some(sizes))
 }
 
-/// How words set a run up, if they do.
+/// How arguments set a run up, if they do.
 pub fn setting_in(alloc: Global, limits: &Limits<'_>) -> Result<Option<Setting>, AllocError>
     ensures { IfOk result (λ o. MatchOption o (IsNoSetting (given_is limits.now)) (λ s. IsSetting (given_is limits.now) s)) }
 {
@@ -56,8 +67,11 @@ pub fn setting_in(alloc: Global, limits: &Limits<'_>) -> Result<Option<Setting>,
     let Some(slack) = number_in(limits.slack) else {
         return Ok(None);
     };
+    let Some(mode) = mode_named(limits.mode) else {
+        return Ok(None);
+    };
     match sizes_in(alloc, limits.sizes.as_slice())? {
-        Some(sizes) => Ok(Some(Setting::new(sizes, packet, morsel, slack, Mode::Rounds))),
+        Some(sizes) => Ok(Some(Setting::new(sizes, packet, morsel, slack, mode))),
         None => Ok(None),
     }
 }

@@ -7,7 +7,8 @@ ghost use Rattle.vx_typed.specs.TypedView.{resolved_of};
 ghost use Rattle.vx_nodes.specs.Outline.{plan_in};
 ghost use Rattle.vx_setup.specs.Runnable.{can_run};
 ghost use Rattle.vx_words.specs.Asked.{paths_are};
-ghost use Rattle.vx_answer.specs.Worded.{is_input, told_at, plan_text, IsFileRefusal, IsInputRefusal, Untaken, UnplannedIn, IsPlannedIn, catalog_told, plan_told};
+ghost use Rattle.vx_tables.specs.Stored.{IfBytes};
+ghost use Rattle.vx_answer.specs.Worded.{is_input, left_of, told_at, plan_text, IsFileRefusal, IsInputRefusal, Untaken, UnplannedIn, IsPlannedIn, catalog_told, plan_told};
 
 use crate::answering::MAX_BYTES;
 use crate::unrunnable::test_taken;
@@ -22,9 +23,16 @@ use vx_words::Sources;
 // The path of standard input.
 const INPUT: &str = "-";
 
+// Whether a path is that of standard input.
+fn is_input(path: &str) -> bool
+    ensures { result ≡ is_input path.now }
+{
+    path == INPUT
+}
+
 // All bytes of a file.
 fn file_bytes<F: Store>(alloc: Global, files: &F, path: &str) -> Result<Vec<u8>, Refusal>
-    ensures taken { IfOk result (λ v. IsAll (F.holds files.now path.now) v.items) }
+    ensures taken { IfOk result (λ v. IfBytes (F.holds files.now path.now) (λ bytes. bytes ≡ v.items)) }
     ensures refused { IfErr result (IsFileRefusal (F.holds files.now path.now) (F.is_reliable files.now path.now) path.now) }
 {
     let held = String::from_str(alloc, path)?;
@@ -53,22 +61,26 @@ pub fn input_bytes<I: ByteIn>(alloc: Global, input: &mut I) -> Result<Vec<u8>, R
     }
 }
 
-// All bytes under a path.
+// All bytes under a path. Standard input is read once: where it was read before, it has nothing left.
+#[tactic(auto, using(crate::proofs::SourceFacts::input_all))]
 fn bytes_at<F: Store, I: ByteIn>(
     alloc: Global,
     files: &F,
     input: &mut I,
+    was_read: bool,
     path: &str,
 ) -> Result<Vec<u8>, Refusal>
-    ensures taken { IfOk result (λ v. IsAll (told_at (F.holds files.now) (I.remaining input.old) path.now) v.items) }
-    ensures refused { IfErr result (Untaken (F.holds files.now) (F.is_reliable files.now) (I.remaining input.old) (I.has_failed input.new) path.now) }
+    ensures taken { IfOk result (λ v. IfBytes (told_at (F.holds files.now) (left_of was_read (I.remaining input.old)) path.now) (λ bytes. bytes ≡ v.items)) }
+    ensures refused { IfErr result (Untaken (F.holds files.now) (F.is_reliable files.now) (left_of was_read (I.remaining input.old)) (I.has_failed input.new) path.now) }
     ensures kept { is_input path.now ≡ false → input.new ≡ input.old }
 {
-    if path == INPUT {
-        input_bytes(alloc, input)
-    } else {
-        file_bytes(alloc, files, path)
+    if !is_input(path) {
+        return file_bytes(alloc, files, path);
     }
+    if was_read {
+        return Ok(Vec::new(alloc));
+    }
+    input_bytes(alloc, input)
 }
 
 // The plan of a text over a catalog, for a command.
@@ -79,6 +91,7 @@ fn plan_over(
     catalog: &Catalog,
 ) -> Result<TypedPlan, PlanFault>
     ensures plan { Gives resolved_of result (plan_text command bytes.now catalog.now) }
+    ensures over { IfOk result (λ p. (resolved_of p).names.catalog ≡ catalog.now) }
     ensures runs { IfOk result (λ p. command ≡ Command.Run → can_run (plan_in (resolved_of p).root) ≡ true) }
 {
     let plan = Plan::read(alloc, bytes)?;
@@ -98,7 +111,7 @@ pub fn planned_in<F: Store, I: ByteIn>(
     ensures runs { IfOk result (λ p. command ≡ Command.Run → can_run (plan_in (resolved_of p).root) ≡ true) }
     ensures refused { IfErr result (UnplannedIn command (F.holds files.now) (F.is_reliable files.now) (I.remaining input.old) (I.has_failed input.new) (paths_are sources.entry)) }
 {
-    let bytes = match bytes_at(alloc, files, input, sources.catalog) {
+    let bytes = match bytes_at(alloc, files, input, false, sources.catalog) {
         Ok(bytes) => bytes,
         Err(refusal) => return Err(refusal),
     };
@@ -106,7 +119,7 @@ pub fn planned_in<F: Store, I: ByteIn>(
         Ok(catalog) => catalog,
         Err(fault) => return Err(Refusal::Catalog(fault)),
     };
-    let bytes = match bytes_at(alloc, files, input, sources.plan) {
+    let bytes = match bytes_at(alloc, files, input, is_input(sources.catalog), sources.plan) {
         Ok(bytes) => bytes,
         Err(refusal) => return Err(refusal),
     };

@@ -156,7 +156,7 @@ fn answered<F: Store, I: ByteIn>(
         Ok(Some(task)) => told(done(alloc, files, input, &task)),
         Ok(None) => Err(misworded(
             alloc,
-            "volcano: a size is a word NAME=N, with a number of workers; see volcano run --help\n",
+            "volcano: a mode is `rounds`, and a size is NAME=N with a number of workers; see volcano run --help\n",
         )),
         Err(_) => Err(NotTaken::Refused(Refusal::NoMemory)),
     }

@@ -47,10 +47,11 @@ impl<'a> Store for Shelf<'a> {
     ghost use Rattle.std.specs.Prelude.{option_map, bytes_eq, is_none, true};
     ghost use Rattle.std.specs.Option.{unwrap_or};
     ghost use Rattle.std.specs.List.{find};
+    ghost use Rattle.vx_tables.specs.Stored.{stored_or_absent};
 
     type In = MemoryIn<'a>;
 
-    ghost holds = { λ s path. option_map (λ l. l.text.now) (find (λ l. bytes_eq l.path.now path) s.leaves.now) };
+    ghost holds = { λ s path. stored_or_absent (option_map (λ l. l.text.now) (find (λ l. bytes_eq l.path.now path) s.leaves.now)) };
 
     ghost is_reliable = { λ s path. unwrap_or (option_map (λ l. is_none l.fails_after) (find (λ l. bytes_eq l.path.now path) s.leaves.now)) true };
 
@@ -253,12 +254,31 @@ fn sizes_are_names_with_numbers(rt: HostRuntime) -> Result<(), Fail> {
         let line = run_with(&rt, "p.json", &["a=1", word])?;
         assert_eq!(rt;
             line.as_str(),
-            "|volcano: a size is a word NAME=N, with a number of workers; see volcano run --help\n|2",
+            "|volcano: a mode is `rounds`, and a size is NAME=N with a number of workers; see volcano run --help\n|2",
             "{word}"
         );
     }
     let line = run_with(&rt, "p.json", &["--packet", "4294967296", "many=3"])?;
     assert!(rt; line.as_str().ends_with("|2"), "{line}");
+    Ok(())
+}
+
+#[test]
+fn modes_are_rounds(rt: HostRuntime) -> Result<(), Fail> {
+    let line = run_with(&rt, "p.json", &["--mode", "rounds", "many=3"])?;
+    assert_eq!(rt; line.as_str(), "id,k,v\n1,b,7\n3,c,7\n||0");
+    for mode in ["threads", "Rounds"] {
+        let line = run_with(&rt, "p.json", &["--mode", mode, "many=3"])?;
+        assert!(rt; line.as_str().starts_with("|volcano: a mode is `rounds`"), "{line}");
+        assert!(rt; line.as_str().ends_with("|2"), "{line}");
+    }
+    Ok(())
+}
+
+#[test]
+fn standard_input_is_read_once(rt: HostRuntime) -> Result<(), Fail> {
+    let line = judged(&rt, "check", "-", "-", CATALOG)?;
+    assert_eq!(rt; line.as_str(), "|volcano: P1 NotJson\n|3");
     Ok(())
 }
 

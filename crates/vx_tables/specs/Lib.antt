@@ -1,4 +1,5 @@
 pub mod Status
 pub mod Texts
 pub mod Filled
+pub mod Stored
 pub mod Folder

@@ -19,6 +19,10 @@ abbrev pub number_rule : Text → Text → Rule
 number_rule name default =
     record (new_rule name) { long = Some name; value_names = 1; defaults = default ∷ []; parser = Some (parser.Signed (pos 0) (pos 4294967295)) }
 
+-- the mode of a run, which has a default
+abbrev pub mode_rule : Rule
+mode_rule = record (new_rule (codes "mode")) { long = Some (codes "mode"); value_names = 1; defaults = codes "rounds" ∷ [] }
+
 -- the words behind all options: each a size name with its number of workers
 abbrev pub sizes_rule : Rule
 sizes_rule = record (new_rule (codes "sizes")) { value_names = 1; range = Some (record { start_inclusive = 0; end_inclusive = usize_max }) }
@@ -32,8 +36,8 @@ serial_app = with_rule (judging_app (codes "serial")) (path_rule (codes "data"))
 
 abbrev pub run_app : App
 run_app =
-    with_rule (with_rule (with_rule (with_rule (with_rule (judging_app (codes "run")) (path_rule (codes "data")))
-    (number_rule (codes "packet") (codes "256"))) (number_rule (codes "morsel") (codes "1024"))) (number_rule (codes "slack") (codes "8"))) sizes_rule
+    with_rule (with_rule (with_rule (with_rule (with_rule (with_rule (judging_app (codes "run")) (path_rule (codes "data")))
+    (number_rule (codes "packet") (codes "256"))) (number_rule (codes "morsel") (codes "1024"))) (number_rule (codes "slack") (codes "8"))) mode_rule) sizes_rule
 
 -- the program without its commands, which has a version
 abbrev pub program_app : App
@@ -49,11 +53,12 @@ pub record Paths : Type 0 where
   pub catalog : Text
   pub plan : Text
 
--- the texts of a run's numbers, and its words NAME=N
+-- the texts of a run's numbers and of its mode, and its words NAME=N
 pub record Given : Type 0 where
   pub packet : Text
   pub morsel : Text
   pub slack : Text
+  pub mode : Text
   pub sizes : List Text
 
 pub data Ask : Type 0 where
@@ -72,8 +77,8 @@ abbrev pub sizes_of : List Row → List Text
 sizes_of rows = option_map_or (λ ts. ts) (all_of (codes "sizes") rows) []
 
 abbrev pub given_of : List Row → Option Given
-given_of rows = option_and_then (λ p. option_and_then (λ m. option_map (λ s. record { packet = p; morsel = m; slack = s; sizes = sizes_of rows }) (first_of (codes "slack") rows))
-    (first_of (codes "morsel") rows)) (first_of (codes "packet") rows)
+given_of rows = option_and_then (λ p. option_and_then (λ m. option_and_then (λ s. option_map (λ w. record { packet = p; morsel = m; slack = s; mode = w; sizes = sizes_of rows })
+    (first_of (codes "mode") rows)) (first_of (codes "slack") rows)) (first_of (codes "morsel") rows)) (first_of (codes "packet") rows)
 
 abbrev pub serial_of : List Row → Option Ask
 serial_of rows = option_and_then (λ p. option_map (serial p) (first_of (codes "data") rows)) (paths_of rows)
@@ -103,7 +108,7 @@ abbrev pub paths_are : Sources → Paths
 paths_are s = record { catalog = s.catalog.now; plan = s.plan.now }
 
 abbrev pub given_is : Limits → Given
-given_is l = record { packet = l.packet.now; morsel = l.morsel.now; slack = l.slack.now; sizes = map (λ t. t.now) l.sizes.items }
+given_is l = record { packet = l.packet.now; morsel = l.morsel.now; slack = l.slack.now; mode = l.mode.now; sizes = map (λ t. t.now) l.sizes.items }
 
 abbrev pub asked_is : Asked → Ask
 asked_is asked.Bundle = bundle

@@ -15,12 +15,13 @@ pub struct Sources<'a> {
     pub plan: &'a str,
 }
 
-/// The numbers of a run as they were written or are by default, and its words `NAME=N`.
+/// The numbers and the mode of a run as they were written or are by default, and its words `NAME=N`.
 #[derive(Debug, Drop)]
 pub struct Limits<'a> {
     pub packet: &'a str,
     pub morsel: &'a str,
     pub slack: &'a str,
+    pub mode: &'a str,
     pub sizes: Vec<&'a str>,
 }
 
@@ -80,11 +81,15 @@ fn limits_in<'a>(alloc: Global, found: &ArgMatches<'a>) -> Result<Option<Limits<
     let Some(slack) = value(found, "slack") else {
         return Ok(None);
     };
+    let Some(mode) = value(found, "mode") else {
+        return Ok(None);
+    };
     let sizes = sizes_in(alloc, found)?;
     Ok(Some(Limits {
         packet,
         morsel,
         slack,
+        mode,
         sizes,
     }))
 }

@@ -3,7 +3,7 @@
 ghost use Rattle.std.specs.Prelude.{◌≡◌, IfOk, false, codes};
 ghost use Rattle.clap.specs.Words.{app_of, rule_of};
 ghost use Rattle.clap.specs.declared.builder.command.Command.TheViews.{out-Command as fields_of};
-ghost use Rattle.vx_words.specs.Asked.{path_rule, number_rule, sizes_rule, judging_app, serial_app, run_app, program_app, volcano_app};
+ghost use Rattle.vx_words.specs.Asked.{path_rule, number_rule, mode_rule, sizes_rule, judging_app, serial_app, run_app, program_app, volcano_app};
 
 use clap::{Arg, Command, value_parser};
 use std::alloc::{AllocError, Global};
@@ -31,6 +31,17 @@ fn number_option<'a>(alloc: Global, name: &'a str, default: &'a str, help: &'a s
         .help(help)
         .default_value(default)
         .value_parser(value_parser!(u32))
+}
+
+fn mode_option<'a>(alloc: Global) -> Arg<'a>
+    ensures rule { rule_of result ≡ mode_rule }
+    ensures own { result.global ≡ false }
+{
+    Arg::new(alloc, "mode")
+        .long("mode")
+        .value_name("MODE")
+        .help("How the workers take turns: `rounds`, all of them in turn")
+        .default_value("rounds")
 }
 
 fn sizes_argument<'a>(alloc: Global) -> Arg<'a>
@@ -138,6 +149,7 @@ fn run<'a>(alloc: Global) -> Result<Command<'a>, AllocError>
         "8",
         "The most packets that wait between two workers, 1 to 1024",
     ))?
+    .arg(mode_option(alloc))?
     .arg(sizes_argument(alloc))
 }
 

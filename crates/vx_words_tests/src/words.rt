@@ -34,7 +34,7 @@ fn kind_of(alloc: Global, error: &Error) -> Result<String, AllocError> {
 }
 
 // Lines, and what each asks for.
-const ASKED: [(&str, &str); 5] = [
+const ASKED: [(&str, &str); 6] = [
     ("volcano", "Bundle"),
     (
         "volcano check --catalog c --plan=-",
@@ -50,7 +50,11 @@ const ASKED: [(&str, &str); 5] = [
     ),
     (
         "volcano run --catalog c --plan p --data d --morsel 7 many=4 few=2",
-        r#"Run(Sources { catalog: "c", plan: "p" }, "d", Limits { packet: "256", morsel: "7", slack: "8", sizes: ["many=4", "few=2"] })"#,
+        r#"Run(Sources { catalog: "c", plan: "p" }, "d", Limits { packet: "256", morsel: "7", slack: "8", mode: "rounds", sizes: ["many=4", "few=2"] })"#,
+    ),
+    (
+        "volcano run --catalog c --plan p --data d --mode threads",
+        r#"Run(Sources { catalog: "c", plan: "p" }, "d", Limits { packet: "256", morsel: "1024", slack: "8", mode: "threads", sizes: [] })"#,
     ),
 ];
 

@@ -1,13 +1,14 @@
-use Rattle.std.proofs.Common.{refl, inl, ◌≡◌, None}
+use Rattle.std.proofs.Common.{refl, inl}
 use Rattle.vx_answer.specs.Worded.{for_file}
-use Rattle.vx_tables.proofs.FolderFacts.{nothing_told}
-use Rattle.vx_answer.proofs.SourceFacts.{unreadable_broken, unreadable_long}
+use Rattle.vx_answer.proofs.SourceFacts.{file_all, unreadable_broken, unreadable_long}
 use Rattle.vx_answer.proofs.sources.file_bytes.Goals as goal
 
+pub returns-in-Ok-clause-taken : goal.returns-in-Ok-clause-taken
+returns-in-Ok-clause-taken g c =
+    file_all (g.F.Store.holds c.args.files.now c.args.path.now) (g.F.In.ByteIn.remaining c.in-Some.file) c.in-Ok.bytes.items c.in-Some.ensures.bytes c.in-Ok.ensures.all
+
 pub returns-in-None-clause-refused : goal.returns-in-None-clause-refused
-returns-in-None-clause-refused g c =
-    let none : g.F.Store.holds c.args.files.now c.args.path.now ≡ None = nothing_told (g.F.Store.holds c.args.files.now c.args.path.now) c.open.result c.open.ensures.there c.in-None.is in
-    for_file c.in_ok-held.held refl c.in_ok-held.ensures.ok (inl none)
+returns-in-None-clause-refused g c = for_file c.in_ok-held.held refl c.in_ok-held.ensures.ok (inl (c.open.ensures.lacking c.in-None.is))
 
 pub returns-in-Err-Broken-clause-refused : goal.returns-in-Err-Broken-clause-refused
 returns-in-Err-Broken-clause-refused g c =
@@ -20,5 +21,5 @@ pub returns-in-Err-TooLarge-clause-refused : goal.returns-in-Err-TooLarge-clause
 returns-in-Err-TooLarge-clause-refused g c =
     let why = rw c.in-Err-TooLarge.field-0-is at c.in-Err-TooLarge.ensures.err in
     for_file c.in_ok-held.held refl c.in_ok-held.ensures.ok
-    (unreadable_long (g.F.In.ByteIn.remaining c.in-Some.file) (g.F.Store.holds c.args.files.now c.args.path.now) (g.F.In.ByteIn.has_failed c.read_all.new.reader)
+    (unreadable_long (g.F.Store.holds c.args.files.now c.args.path.now) (g.F.In.ByteIn.remaining c.in-Some.file) (g.F.In.ByteIn.has_failed c.read_all.new.reader)
     (g.F.Store.is_reliable c.args.files.now c.args.path.now) c.in-Some.ensures.bytes why)

@@ -10,7 +10,8 @@ returns-clause-app c =
     let packet = c.in_ok-arg-2.ensures.shape c.number_option.ensures.own ∙ ap₂ with_rule data_added c.number_option.ensures.rule in
     let morsel = c.in_ok-arg-3.ensures.shape c.number_option-2.ensures.own ∙ ap₂ with_rule packet c.number_option-2.ensures.rule in
     let slack = c.in_ok-arg-4.ensures.shape c.number_option-3.ensures.own ∙ ap₂ with_rule morsel c.number_option-3.ensures.rule in
-    IfOk-weaker c.arg-5.result _ _ (λ r h. h.shape c.sizes_argument.ensures.own ∙ ap₂ with_rule slack c.sizes_argument.ensures.rule) c.arg-5.ensures
+    let mode = c.in_ok-arg-5.ensures.shape c.mode_option.ensures.own ∙ ap₂ with_rule slack c.mode_option.ensures.rule in
+    IfOk-weaker c.arg-6.result _ _ (λ r h. h.shape c.sizes_argument.ensures.own ∙ ap₂ with_rule mode c.sizes_argument.ensures.rule) c.arg-6.ensures
 
 pub returns-clause-local : goal.returns-clause-local
 returns-clause-local c =
@@ -19,4 +20,5 @@ returns-clause-local c =
     let packet : (out-Command c.in_ok-arg-2.field-0).has_globals ≡ false = c.in_ok-arg-2.ensures.globals ∙ ap₂ or data_added c.number_option.ensures.own in
     let morsel : (out-Command c.in_ok-arg-3.field-0).has_globals ≡ false = c.in_ok-arg-3.ensures.globals ∙ ap₂ or packet c.number_option-2.ensures.own in
     let slack : (out-Command c.in_ok-arg-4.field-0).has_globals ≡ false = c.in_ok-arg-4.ensures.globals ∙ ap₂ or morsel c.number_option-3.ensures.own in
-    IfOk-weaker c.arg-5.result _ _ (λ r h. h.globals ∙ ap₂ or slack c.sizes_argument.ensures.own) c.arg-5.ensures
+    let mode : (out-Command c.in_ok-arg-5.field-0).has_globals ≡ false = c.in_ok-arg-5.ensures.globals ∙ ap₂ or slack c.mode_option.ensures.own in
+    IfOk-weaker c.arg-6.result _ _ (λ r h. h.globals ∙ ap₂ or mode c.sizes_argument.ensures.own) c.arg-6.ensures

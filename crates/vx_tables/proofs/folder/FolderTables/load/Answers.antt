@@ -1,7 +1,8 @@
-use Rattle.std.proofs.Common.{rules, ◌≡◌, ◌∙◌, refl, sym, ap, string_bytes, None}
+use Rattle.std.proofs.Common.{rules, ◌≡◌, ◌∙◌, ℕ, List, refl, ap, subst, string_bytes}
 use Rattle.vx_relations.specs.Catalog.{relation_at}
+use Rattle.vx_tables.specs.Stored.{MayBeAbsent, OpensAs}
 use Rattle.vx_tables.specs.Folder.{path_in, for_path}
-use Rattle.vx_tables.proofs.FolderFacts.{nothing_told, lacks_read}
+use Rattle.vx_tables.proofs.FolderFacts.{lacks_read}
 use Rattle.vx_tables.proofs.folder.FolderTables.load.Goals as goal
 
 pub returns-in-None-clause-refused : goal.returns-in-None-clause-refused
@@ -10,8 +11,8 @@ returns-in-None-clause-refused g c =
     let folder = c.args.self.now.path.now in
     let files = g.F.Store.holds c.args.self.now.files.now in
     let at : string_bytes c.in_ok-path.path ≡ path_in folder relation.name = search rules in
-    let none : files c.as_str.result.now ≡ None = nothing_told (files c.as_str.result.now) c.open.result c.open.ensures.there c.in-None.is in
-    for_path c.in_ok-path.path refl at (sym (ap files (c.as_str.ensures.value ∙ at)) ∙ none)
+    let P : List ℕ → Type 0 = λ path. MayBeAbsent (files path) in
+    for_path c.in_ok-path.path refl at (subst P (c.as_str.ensures.value ∙ at) (c.open.ensures.lacking c.in-None.is))
 
 pub returns-clause-refused : goal.returns-clause-refused
 returns-clause-refused g c =
@@ -21,5 +22,6 @@ returns-clause-refused g c =
     let at : string_bytes c.in_ok-path.path ≡ path_in folder relation.name = search rules in
     let reliable = g.F.Store.is_reliable c.args.self.now.files.now in
     let same : c.as_str.result.now ≡ path_in folder relation.name = c.as_str.ensures.value ∙ at in
-    lacks_read (g.F.In.ByteIn.has_failed c.load.new.reader) files reliable folder relation c.in-Err.fault (c.in-Some.ensures.bytes ∙ ap files same)
+    let P : List ℕ → Type 0 = λ path. OpensAs (files path) (g.F.In.ByteIn.remaining c.in-Some.file) in
+    lacks_read (g.F.In.ByteIn.has_failed c.load.new.reader) (g.F.In.ByteIn.remaining c.in-Some.file) files reliable folder relation c.in-Err.fault (subst P same c.in-Some.ensures.bytes)
     (λ told. c.in-Err.ensures.reliable (c.in-Some.ensures.reliable (ap reliable same ∙ told)) c.in-Some.ensures.whole) c.in-Err.ensures.told c.in-Err.ensures.failed c.in-Err.ensures.broken
