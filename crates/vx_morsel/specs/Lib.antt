@@ -1,2 +1,3 @@
 pub mod Draws
 pub mod Hands
+pub mod Dealing

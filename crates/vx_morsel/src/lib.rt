@@ -4,6 +4,7 @@
 mod deck;
 mod draw;
 mod hand;
+pub mod laws;
 
 pub use deck::Deck;
 pub use draw::Draw;
