@@ -3,11 +3,14 @@
 ghost use Rattle.std.specs.Prelude.{◌≡◌, ◌≤◌, ◌<◌, ◌+◌, ℕ, length, slice_get, Some, IfNone, IfSome, IfOk, true, false, vec_len, IsTrue, ◌↔◌};
 ghost use Rattle.vx_exchange.specs.InTurn.{IsInTurn};
 
+use crate::in_turn::next_unset;
 use std::alloc::{AllocError, Global};
 use vx_ops::{Code, Fault, Got, Over, Polled, Source, Want};
 use vx_ports::{Body, Ending, Packet};
 use vx_rows::ColType;
 
+/// Calls: `new (wants turn)*`.
+///
 /// The consumer end of an exchange at one of its places: it gives the rows of its producers' packets as they come.
 ///
 /// It asks the producers that have not ended in turn, for one packet each time.
@@ -21,34 +24,6 @@ pub struct Receiver {
     over: Over,
     ghost next_in_range: { next < vec_len ended },
     ghost few: { vec_len ended ≤ 64 },
-}
-
-// The first flag that is not set, from one place up to another.
-fn first_open(ended: &[bool], from: usize, to: usize) -> Option<usize>
-    requires { to ≤ length ended.now }
-    ensures none { IfNone result ((k : ℕ) → from ≤ k → k < to → slice_get ended.now k ≡ Some true) }
-    ensures some { IfSome result (λ i. slice_get ended.now i ≡ Some false) }
-    ensures behind { IfSome result (λ i. from ≤ i) }
-    ensures first { IfSome result (λ i. (k : ℕ) → from ≤ k → k < i → slice_get ended.now k ≡ Some true) }
-{
-    for i in from..to {
-        if !ended[i] {
-            return Some(i);
-        }
-    }
-    None
-}
-
-// The next flag from a place on that is not set, or the first one at all.
-fn next_open(ended: &[bool], from: usize) -> Option<usize>
-    ensures none { IfNone result ((k : ℕ) → k < length ended.now → slice_get ended.now k ≡ Some true) }
-    ensures some { IfSome result (λ i. slice_get ended.now i ≡ Some false) }
-    ensures in_turn { IfSome result (λ i. IsInTurn from ended.now i) }
-{
-    if let Some(i) = first_open(ended, from, ended.len()) {
-        return Some(i);
-    }
-    first_open(ended, 0, ended.len())
 }
 
 impl Receiver {
@@ -87,7 +62,7 @@ impl Receiver {
     fn move_on(&mut self)
         ensures { ChangesNext self.old self.new }
     {
-        if let Some(i) = next_open(self.ended.as_slice(), self.next + 1) {
+        if let Some(i) = next_unset(self.ended.as_slice(), self.next + 1) {
             self.next = i;
         }
     }
@@ -112,7 +87,7 @@ impl Receiver {
         ensures op { receiver_op self.new ≡ receiver_op self.old }
     {
         self.ended[self.next] = true;
-        match next_open(self.ended.as_slice(), self.next + 1) {
+        match next_unset(self.ended.as_slice(), self.next + 1) {
             Some(i) => {
                 self.next = i;
                 return Polled::Waiting;

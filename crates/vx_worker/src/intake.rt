@@ -3,6 +3,7 @@
 use crate::wires::{Morsels, Wires};
 use crate::wish::Wish;
 use std::alloc::{AllocError, Global};
+use vx_exchange::{MayEnd, next_open};
 use vx_ops::{Got, Polled};
 use vx_ports::Packet;
 
@@ -30,6 +31,14 @@ impl Input {
     }
 }
 
+impl MayEnd for Input {
+    ghost ended = { λ i. i.is_closed };
+
+    fn has_ended(&self) -> bool {
+        self.is_closed
+    }
+}
+
 /// The producers from which a worker takes, and the scans whose end it met.
 #[derive(Drop)]
 pub struct Intake {
@@ -50,8 +59,8 @@ pub enum Drained {
 }
 
 impl Intake {
-    ghost use Rattle.std.specs.Prelude.{◌≡◌, ◌<◌, ℕ, List, true, length, map, IfOk, IfSome, IfNone, Some, slice_index_or};
-    ghost use Rattle.std.specs.List.{All, AllWithin};
+    ghost use Rattle.std.specs.Prelude.{◌≡◌, ◌<◌, ℕ, List, true, length, map, IfOk, IfSome, Some, slice_index_or};
+    ghost use Rattle.std.specs.List.{All};
     ghost use Rattle.vx_values.specs.Values.{Row};
     ghost use Rattle.vx_values.specs.declared.value.ColType.{ColType};
     ghost use Rattle.vx_ports.specs.Packets.{is_closed};
@@ -175,7 +184,7 @@ impl Intake {
         ensures drains { (e : Event) × W.Does wires.old e wires.new × Drains self.old self.new e }
         ensures all { result ≡ Drained.All → (t : Trace) → IntakeStands self.new t → IsDrained (sources_of self.new) t }
     {
-        let Some(place) = self.next_open() else {
+        let Some(place) = next_open(self.inputs.as_slice(), self.next) else {
             return Drained::All;
         };
         let Input { exchange, from, .. } = self.inputs[place];
@@ -188,29 +197,5 @@ impl Intake {
                 return Drained::Dropped;
             }
         }
-    }
-
-    // A producer that is not marked, if there is one: the producers take turns.
-    fn next_open(&self) -> Option<usize>
-        ensures some { IfSome result (λ k. k < length self.now.inputs.items) }
-        ensures none { IfNone result (All (λ i. i.is_closed ≡ true) self.now.inputs.items) }
-    {
-        match self.first_open(self.next) {
-            Some(place) => Some(place),
-            None => self.first_open(0),
-        }
-    }
-
-    // The first producer from this place on that is not marked.
-    fn first_open(&self, low: usize) -> Option<usize>
-        ensures some { IfSome result (λ k. k < length self.now.inputs.items) }
-        ensures none { IfNone result (AllWithin (λ i. i.is_closed ≡ true) self.now.inputs.items low (length self.now.inputs.items)) }
-    {
-        for place in low..self.inputs.len() {
-            if !self.inputs[place].is_closed {
-                return Some(place);
-            }
-        }
-        None
     }
 }

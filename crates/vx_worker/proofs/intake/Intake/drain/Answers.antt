@@ -4,7 +4,7 @@ use Rattle.vx_worker.proofs.Marks.{drained}
 use Rattle.vx_worker.proofs.intake.Intake.drain.Goals as goal
 
 pub returns-in_default-clause-all : goal.returns-in_default-clause-all
-returns-in_default-clause-all g c = λ e t h. drained c.args.self.now.inputs.items t c.in_default.ensures.none h.inputs
+returns-in_default-clause-all g c = λ e t h. drained c.args.self.now.inputs.items t (rw c.as_slice.ensures.value at c.in_default.ensures.none) h.inputs
 
 pub returns-in-Ok-Some-clause-drains : goal.returns-in-Ok-Some-clause-drains
 returns-in-Ok-Some-clause-drains g c = (
