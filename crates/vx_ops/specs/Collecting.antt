@@ -5,6 +5,7 @@ use Rattle.vx_nodes.specs.Plan.{Unary}
 use Rattle.vx_nodes.specs.Serial.{unary_rows}
 use Rattle.vx_ops.specs.Ledger.{Ledger, Op, one_op, Told}
 use Rattle.vx_ops.specs.Turn.{Shape, while_running}
+use Rattle.vx_ops.specs.Meaning.{Meaning}
 use Rattle.vx_ops.specs.declared.fault.Over.{Over}
 use Rattle.vx_ops.specs.declared.fault.Over.TheVariants.{Running, Ended}
 use Rattle.vx_ops.specs.declared.turn.Want.{Want}
@@ -39,3 +40,13 @@ CollectingStands unary read s l = IsCollected s.node (unary s.kernel) (read s.ke
 pub collecting_told : {K : Type 0} (unary : K → Unary) (read : K → List Row → Type 0) (s : Collecting K) (l : Ledger)
     → CollectingStands unary read s l → Told (collecting_op unary s) l
 collecting_told unary read s l h = h.told
+
+-- of an operator whose kernel computes this, over rows of these types, and has read this
+abbrev pub collecting_meaning : {K : Type 0} → (K → Unary) → (K → Shape) → (K → List Row → Type 0) → Collecting K → Meaning
+collecting_meaning unary types read s = record {
+  stands = CollectingStands unary read s;
+  op = collecting_op unary s;
+  types = collecting_types types s;
+  want = collecting_want s.finished s.over;
+  told = collecting_told unary read s;
+}

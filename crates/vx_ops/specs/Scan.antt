@@ -3,7 +3,9 @@ use Rattle.std.specs.Prelude.{◌≡◌}
 use Rattle.std.proofs.Common.{◌∙◌, sym, inl}
 use Rattle.vx_ops.specs.Ledger.{Ledger, scan_op, Told}
 use Rattle.vx_ops.specs.Begun.{begun_whole}
-use Rattle.vx_ops.specs.Turn.{Shape}
+use Rattle.vx_ops.specs.Turn.{Shape, while_running}
+use Rattle.vx_ops.specs.Meaning.{Meaning}
+use Rattle.vx_ops.specs.declared.turn.Want.TheVariants as want
 use Rattle.vx_ops.specs.declared.scan.Scan.{Scan}
 
 -- it gave what it heard, and stands as its input does
@@ -22,3 +24,6 @@ scan_told s l h = record {
   passes = λ f e. h.over ∙ sym h.input ∙ e;
   blame = λ f e. inl (h.input ∙ sym h.over ∙ e);
 }
+
+abbrev pub scan_meaning : Scan → Meaning
+scan_meaning s = record { stands = ScanStands s; op = scan_op; types = scan_types s; want = while_running want.Morsel s.over; told = scan_told s }

@@ -4,9 +4,10 @@ use Rattle.vx_values.specs.Values.{Row}
 use Rattle.vx_nodes.specs.Plan.{Unary, select}
 use Rattle.vx_nodes.specs.Serial.{passes}
 use Rattle.vx_nodes.specs.Conditions.{conditions_of}
-use Rattle.vx_ops.specs.Ledger.{Ledger, Op, Told}
+use Rattle.vx_ops.specs.Ledger.{Ledger, Op}
 use Rattle.vx_ops.specs.Turn.{Shape}
-use Rattle.vx_ops.specs.Stepping.{stepping_op, stepping_types, SteppingStands, stepping_told}
+use Rattle.vx_ops.specs.Meaning.{Meaning}
+use Rattle.vx_ops.specs.Stepping.{stepping_op, stepping_types, SteppingStands, stepping_meaning}
 use Rattle.vx_ops.specs.declared.stepping.Stepping.{Stepping}
 use Rattle.vx_ops.specs.declared.select.Selection.{Selection}
 
@@ -32,5 +33,5 @@ select_types s = stepping_types selection_types s
 abbrev pub SelectStands : Select → Ledger → Type 0
 SelectStands s l = SteppingStands selection HasSelected s l
 
-pub select_told : (s : Select) (l : Ledger) → SelectStands s l → Told (select_op s) l
-select_told s l h = stepping_told selection HasSelected s l h
+abbrev pub select_meaning : Select → Meaning
+select_meaning s = stepping_meaning selection selection_types HasSelected s

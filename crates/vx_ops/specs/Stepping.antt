@@ -4,7 +4,9 @@ use Rattle.vx_values.specs.Values.{Row}
 use Rattle.vx_nodes.specs.Plan.{Unary}
 use Rattle.vx_nodes.specs.Serial.{unary_rows}
 use Rattle.vx_ops.specs.Ledger.{Ledger, Op, one_op, Told}
-use Rattle.vx_ops.specs.Turn.{Shape}
+use Rattle.vx_ops.specs.Turn.{Shape, while_running}
+use Rattle.vx_ops.specs.Meaning.{Meaning}
+use Rattle.vx_ops.specs.declared.turn.Want.TheVariants as want
 use Rattle.vx_ops.specs.declared.fault.Over.{Over}
 use Rattle.vx_ops.specs.declared.fault.Over.TheVariants.{Running}
 use Rattle.vx_ops.specs.declared.stepping.Stepping.{Stepping}
@@ -28,3 +30,13 @@ SteppingStands unary made s l = IsStepped s.node (unary s.kernel) (made s.kernel
 pub stepping_told : {K : Type 0} (unary : K → Unary) (made : K → List Row → List Row → Type 0) (s : Stepping K) (l : Ledger)
     → SteppingStands unary made s l → Told (stepping_op unary s) l
 stepping_told unary made s l h = h.told
+
+-- of an operator whose kernel computes this, over rows of these types, and has made this
+abbrev pub stepping_meaning : {K : Type 0} → (K → Unary) → (K → Shape) → (K → List Row → List Row → Type 0) → Stepping K → Meaning
+stepping_meaning unary types made s = record {
+  stands = SteppingStands unary made s;
+  op = stepping_op unary s;
+  types = stepping_types types s;
+  want = while_running want.Left s.over;
+  told = stepping_told unary made s;
+}
