@@ -4,7 +4,7 @@ ghost use Rattle.std.specs.Prelude.{◌≡◌, [], map, string_bytes, codes, opt
 ghost use Rattle.std.specs.List.{find};
 ghost use Rattle.serde_json.specs.Find.{get, as_str};
 ghost use Rattle.serde_json.specs.View.{view, members_view};
-ghost use Rattle.vx_json.specs.Look.{Parses, Reads, or_default};
+ghost use Rattle.vx_json.specs.Look.{Finds, Parses, Reads, or_default};
 ghost use Rattle.vx_bundle.specs.Setting.{size_form};
 ghost use Rattle.vx_bundle.specs.Bundle.{command_in, mode_in, number_in, each_member, members_in, setting_in, bundle_in, value_of_text};
 ghost use Rattle.vx_bundle.specs.BundleView.{table_form, bundle_form};
@@ -34,7 +34,7 @@ pub struct Bundle<'v> {
 
 #[tactic(auto, unfolding(crate::specs::Bundle::command_in))]
 fn read_command(value: &Value) -> Result<Command, Misread>
-    ensures { Parses (λ c. c) result (command_in (view value.now)) }
+    ensures { Finds (λ c. c) result (command_in (view value.now)) }
 {
     match value.as_str() {
         Some("run") => Ok(Command::Run),
@@ -47,7 +47,7 @@ fn read_command(value: &Value) -> Result<Command, Misread>
 
 #[tactic(auto, unfolding(crate::specs::Bundle::mode_in))]
 fn read_mode(value: &Value) -> Result<Mode, Misread>
-    ensures { Parses (λ m. m) result (mode_in (view value.now)) }
+    ensures { Finds (λ m. m) result (mode_in (view value.now)) }
 {
     match value.as_str() {
         Some("rounds") => Ok(Mode::Rounds),
@@ -59,7 +59,7 @@ fn read_mode(value: &Value) -> Result<Mode, Misread>
 // A number of 32 bits without sign.
 #[tactic(auto, unfolding(crate::specs::Bundle::number_in))]
 fn read_number(value: &Value) -> Result<u32, Misread>
-    ensures { Parses (λ n. n) result (number_in (view value.now)) }
+    ensures { Finds (λ n. n) result (number_in (view value.now)) }
 {
     let number = value.as_u64().ok_or(Misread::NotOfForm)?;
     u32::try_from(number).ok().ok_or(Misread::NotOfForm)
@@ -67,7 +67,7 @@ fn read_number(value: &Value) -> Result<u32, Misread>
 
 // A member's number, or the number that stands for a member left out.
 fn read_number_or(value: &Value, key: &str, default: u32) -> Result<u32, Misread>
-    ensures { Parses (λ n. n) result (or_default default number_in (get key.now (view value.now))) }
+    ensures { Finds (λ n. n) result (or_default default number_in (get key.now (view value.now))) }
 {
     match value.get(key) {
         Some(number) => read_number(number),
@@ -100,7 +100,7 @@ fn read_sizes(alloc: Global, value: &Value) -> Result<Vec<(String, u32)>, Misrea
 }
 
 fn read_mode_or_rounds(value: &Value) -> Result<Mode, Misread>
-    ensures { Parses (λ m. m) result (or_default Mode.Rounds mode_in (get (codes "mode") (view value.now))) }
+    ensures { Finds (λ m. m) result (or_default Mode.Rounds mode_in (get (codes "mode") (view value.now))) }
 {
     match value.get("mode") {
         Some(mode) => read_mode(mode),

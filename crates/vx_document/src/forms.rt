@@ -3,7 +3,7 @@
 ghost use Rattle.std.specs.Prelude.{string_bytes, codes};
 ghost use Rattle.serde_json.specs.Find.{get};
 ghost use Rattle.serde_json.specs.View.{view};
-ghost use Rattle.vx_json.specs.Look.{Parses};
+ghost use Rattle.vx_json.specs.Look.{Finds, Parses};
 ghost use Rattle.vx_document.specs.Look.{or_default};
 ghost use Rattle.vx_values.specs.Values.{Name};
 ghost use Rattle.vx_values.specs.ValueView.{test_of};
@@ -99,7 +99,7 @@ pub fn read_node_claim(alloc: Global, node: &Json) -> Result<NamedClaim, Misread
 }
 
 fn parse_test(text: &str) -> Result<Test, Misread>
-    ensures { Parses test_of result (test_named text.now) }
+    ensures { Finds test_of result (test_named text.now) }
 {
     match text {
         "=" => Ok(Test::Equal),
@@ -186,7 +186,7 @@ impl Reader for OutputReader {
 }
 
 fn make_function(name: &str, column: String) -> Result<NamedFunction, Misread>
-    ensures { Parses function_form result (function_named name.now (string_bytes column)) }
+    ensures { Finds function_form result (function_named name.now (string_bytes column)) }
 {
     match name {
         "min" => Ok(NamedFunction::Least(column)),

@@ -4,7 +4,7 @@ ghost use Rattle.std.specs.Prelude.{List, ℕ, map, string_bytes};
 ghost use Rattle.serde_json.specs.View.{view};
 ghost use Rattle.vx_values.specs.Values.{Val};
 ghost use Rattle.vx_values.specs.ValueView.{val_of};
-ghost use Rattle.vx_json.specs.Look.{Parses};
+ghost use Rattle.vx_json.specs.Look.{Finds, Parses};
 ghost use Rattle.vx_document.specs.Look.{name_at, text_at, value_in};
 ghost use Rattle.vx_document.specs.Form.{names_in};
 
@@ -24,7 +24,7 @@ pub fn read_name_at(alloc: Global, value: &Json, key: &str) -> Result<String, Mi
 /// The text in a member.
 #[tactic(auto, unfolding(crate::specs::Look::text_at))]
 pub fn get_text_at<'v>(value: &'v Json, key: &str) -> Result<&'v str, Misread>
-    ensures { Parses (λ s. s.now) result (text_at key.now (view value.now)) }
+    ensures { Finds (λ s. s.now) result (text_at key.now (view value.now)) }
 {
     get_text(get_member(value, key)?)
 }

@@ -3,7 +3,7 @@
 ghost use Rattle.std.specs.Prelude.{[], Some, map, string_bytes, codes};
 ghost use Rattle.serde_json.specs.Find.{get, as_str};
 ghost use Rattle.serde_json.specs.View.{view};
-ghost use Rattle.vx_json.specs.Look.{Parses};
+ghost use Rattle.vx_json.specs.Look.{Finds, Parses};
 ghost use Rattle.vx_document.specs.Look.{or_default};
 ghost use Rattle.vx_document.specs.Document.{output_form, scan_form, unary_form, binary_form, kind_form};
 ghost use Rattle.vx_document.specs.Form.{some_names_in};
@@ -27,7 +27,7 @@ pub enum Own<'v> {
 
 // Whether the workers share the rows.
 fn parse_mode(text: &str) -> Result<bool, Misread>
-    ensures { Parses (λ b. b) result (mode_named text.now) }
+    ensures { Finds (λ b. b) result (mode_named text.now) }
 {
     match text {
         "shared" => Ok(true),
@@ -140,7 +140,7 @@ fn read_unary_node<'v>(alloc: Global, op: &str, value: &'v Json) -> Result<Own<'
 
 // Whether a join merges.
 fn parse_method(text: &str) -> Result<bool, Misread>
-    ensures { Parses (λ b. b) result (method_named text.now) }
+    ensures { Finds (λ b. b) result (method_named text.now) }
 {
     match text {
         "merge" => Ok(true),
@@ -165,7 +165,7 @@ fn read_join(alloc: Global, value: &Json) -> Result<NamedBinary, Misread>
 
 #[tactic(auto, unfolding(crate::specs::Operators::union_in))]
 fn read_union(value: &Json) -> Result<NamedBinary, Misread>
-    ensures { Parses binary_form result (union_in (view value.now)) }
+    ensures { Finds binary_form result (union_in (view value.now)) }
 {
     test_members(value, &["op", "left", "right", "claim"])?;
     Ok(NamedBinary::Union)
@@ -235,7 +235,7 @@ fn read_size(alloc: Global, value: &Json) -> Result<String, Misread>
 
 #[tactic(auto, unfolding(crate::specs::Operators::gather_in))]
 fn read_gather(value: &Json) -> Result<NamedKind, Misread>
-    ensures { Parses kind_form result (gather_in (view value.now)) }
+    ensures { Finds kind_form result (gather_in (view value.now)) }
 {
     test_members(value, &["op", "kind", "merge", "input", "claim"])?;
     Ok(NamedKind::Gather)

@@ -3,7 +3,7 @@
 ghost use Rattle.std.specs.Prelude.{◌≡◌, false, ◌+◌, ◌++◌, codes, string_bytes, IfOk};
 ghost use Rattle.serde_json.specs.Find.{get, as_bool};
 ghost use Rattle.serde_json.specs.View.{view};
-ghost use Rattle.vx_json.specs.Look.{Parses};
+ghost use Rattle.vx_json.specs.Look.{Finds, Parses};
 ghost use Rattle.vx_document.specs.Fault.{Gives};
 ghost use Rattle.vx_document.specs.Look.{or_default};
 ghost use Rattle.vx_document.specs.Document.{tree_of};
@@ -125,7 +125,7 @@ pub struct Header<'v> {
 }
 
 fn read_total(value: &Json) -> Result<bool, Misread>
-    ensures { Parses (λ b. b) result (or_default false as_bool (get (codes "total") (view value.now))) }
+    ensures { Finds (λ b. b) result (or_default false as_bool (get (codes "total") (view value.now))) }
 {
     match value.get("total") {
         Some(total) => total.as_bool().ok_or(Misread::NotOfForm),

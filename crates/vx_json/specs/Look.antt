@@ -41,6 +41,11 @@ abbrev pub Parses : {X Y : Type 0} → (X → Y) → Result X Misread → Option
 Parses look (Ok x) form = form ≡ Some (look x)
 Parses look (Err e) form = e ≡ NotOfForm → form ≡ None
 
+-- a call that needs no memory gives the value of a form, or fails because there is none
+abbrev pub Finds : {X Y : Type 0} → (X → Y) → Result X Misread → Option Y → Type 0
+Finds look (Ok x) form = form ≡ Some (look x)
+Finds look (Err e) form = (e ≡ NotOfForm) × (form ≡ None)
+
 -- a list with an entry
 abbrev pub some_entry : {X : Type 0} → List X → Option (List X)
 some_entry [] = None

@@ -4,11 +4,9 @@
 mod lists;
 mod look;
 mod misread;
-mod options;
 
 pub use lists::{NameReader, Reader, read_list, read_list_or_empty, read_some};
 pub use look::{
     get_items, get_member, get_some_items, get_text, has_only, read_name, test_members,
 };
 pub use misread::Misread;
-pub use options::{items, name_in, names_of};

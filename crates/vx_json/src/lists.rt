@@ -31,9 +31,9 @@ pub trait Reader {
         ensures { Parses look result (form (view value.now)) };
 }
 
-/// Reads each of the values, in order.
+// Reads each of the values, in order.
 #[tactic(auto, using(crate::proofs::EachFacts::each_steps))]
-pub fn read_each<R: Reader>(alloc: Global, values: &[Value]) -> Result<Vec<R::Item>, Misread>
+fn read_each<R: Reader>(alloc: Global, values: &[Value]) -> Result<Vec<R::Item>, Misread>
     ensures { Parses (λ v. map R.look v.items) result (each_onto R.form [] (map view values.now)) }
 {
     let mut found = Vec::new(alloc);

@@ -5,7 +5,7 @@ ghost use Rattle.std.specs.List.{list_all};
 ghost use Rattle.std.specs.BTreeMap.{keys};
 ghost use Rattle.serde_json.specs.Find.{get, as_str};
 ghost use Rattle.serde_json.specs.View.{view};
-ghost use Rattle.vx_json.specs.Look.{as_list, some_entry, is_among, has_only, Parses, name_in};
+ghost use Rattle.vx_json.specs.Look.{as_list, some_entry, is_among, has_only, Finds, Parses, name_in};
 ghost use Rattle.vx_json.specs.declared.misread.Misread.TheVariants.{NotOfForm};
 
 use crate::misread::Misread;
@@ -14,7 +14,7 @@ use std::alloc::Global;
 
 /// The items of an array.
 pub fn get_items(value: &Value) -> Result<&[Value], Misread>
-    ensures { Parses (λ s. map view s.now) result (as_list (view value.now)) }
+    ensures { Finds (λ s. map view s.now) result (as_list (view value.now)) }
 {
     match value.as_array() {
         Some(list) => Ok(list.as_slice()),
@@ -24,7 +24,7 @@ pub fn get_items(value: &Value) -> Result<&[Value], Misread>
 
 /// The items of an array that is not empty.
 pub fn get_some_items(value: &Value) -> Result<&[Value], Misread>
-    ensures { Parses (λ s. map view s.now) result (option_and_then some_entry (as_list (view value.now))) }
+    ensures { Finds (λ s. map view s.now) result (option_and_then some_entry (as_list (view value.now))) }
 {
     let values = get_items(value)?;
     if values.is_empty() {
@@ -35,7 +35,7 @@ pub fn get_some_items(value: &Value) -> Result<&[Value], Misread>
 
 /// The value of a member.
 pub fn get_member<'v>(value: &'v Value, key: &str) -> Result<&'v Value, Misread>
-    ensures { Parses (λ v. view v.now) result (get key.now (view value.now)) }
+    ensures { Finds (λ v. view v.now) result (get key.now (view value.now)) }
 {
     value.get(key).ok_or(Misread::NotOfForm)
 }
@@ -81,7 +81,7 @@ pub fn test_members(value: &Value, names: &[&str]) -> Result<(), Misread>
 
 /// A text.
 pub fn get_text(value: &Value) -> Result<&str, Misread>
-    ensures { Parses (λ s. s.now) result (as_str (view value.now)) }
+    ensures { Finds (λ s. s.now) result (as_str (view value.now)) }
 {
     value.as_str().ok_or(Misread::NotOfForm)
 }

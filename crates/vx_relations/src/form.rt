@@ -2,7 +2,7 @@
 
 ghost use Rattle.std.specs.Prelude.{◌≡◌, ℕ, List, map, string_bytes};
 ghost use Rattle.serde_json.specs.View.{view};
-ghost use Rattle.vx_json.specs.Look.{Parses};
+ghost use Rattle.vx_json.specs.Look.{Finds, Parses};
 ghost use Rattle.vx_relations.specs.Form.{kind_in, column_in, key_in, relation_in, catalog_in};
 
 use serde_json::Value;
@@ -50,7 +50,7 @@ impl Model for RelationText {
 
 #[tactic(auto, unfolding(crate::specs::Form::kind_in))]
 fn read_kind(value: &Value) -> Result<ColType, Misread>
-    ensures { Parses (λ k. k) result (kind_in (view value.now)) }
+    ensures { Finds (λ k. k) result (kind_in (view value.now)) }
 {
     match value.as_str() {
         Some("int") => Ok(ColType::Int),

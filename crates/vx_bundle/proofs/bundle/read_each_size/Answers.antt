@@ -10,7 +10,7 @@ pub returns-in_err-workers : goal.returns-in_err-workers
 returns-in_err-workers c =
     let l = c.loop-name in
     let p = err_from_is_err_and c.from_residual.result c.from_residual.ensures.1 in
-    rw (p.1, p.2) (λ n. member_none number_in (map size_form l.sizes.items) l.name-iterator (c.in-Some.name.now, c.in-Some.value.now) c.next.new.self _ c.in-Some.ensures.steps (c.in_err-workers.ensures n) l.invariant)
+    rw (p.1, p.2) (λ n. member_none number_in (map size_form l.sizes.items) l.name-iterator (c.in-Some.name.now, c.in-Some.value.now) c.next.new.self _ c.in-Some.ensures.steps c.in_err-workers.ensures.1 l.invariant)
 
 pub loop-name-preserved : goal.loop-name-preserved
 loop-name-preserved c =

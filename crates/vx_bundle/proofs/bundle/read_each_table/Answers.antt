@@ -10,7 +10,7 @@ pub returns-in_err-text : goal.returns-in_err-text
 returns-in_err-text c =
     let l = c.loop-name in
     let p = err_from_is_err_and c.from_residual.result c.from_residual.ensures.1 in
-    rw (p.1, p.2) (λ n. member_none as_str (map table_form l.tables.items) l.name-iterator (c.in-Some.name.now, c.in-Some.value.now) c.next.new.self _ c.in-Some.ensures.steps (c.in_err-text.ensures n) l.invariant)
+    rw (p.1, p.2) (λ n. member_none as_str (map table_form l.tables.items) l.name-iterator (c.in-Some.name.now, c.in-Some.value.now) c.next.new.self _ c.in-Some.ensures.steps c.in_err-text.ensures.1 l.invariant)
 
 pub loop-name-preserved : goal.loop-name-preserved
 loop-name-preserved c =
