@@ -6,3 +6,4 @@ pub mod Outputs
 pub mod SourceFacts
 pub mod WordFacts
 pub mod GivenFacts
+pub mod CaseFacts

@@ -5,3 +5,4 @@ pub mod Answer
 pub mod Given
 pub mod Worded
 pub mod WordsView
+pub mod Case

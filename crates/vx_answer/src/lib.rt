@@ -4,6 +4,7 @@
 mod answering;
 mod command;
 mod given;
+mod laws;
 mod page;
 mod router;
 mod run;
@@ -14,5 +15,6 @@ mod worded;
 mod work;
 
 pub use answering::{answer, deliver};
+pub use laws::case_is_refused_by_setup;
 pub use router::ByteRouter;
 pub use vx_tables::{Disk, Refusal, Store, tell};
