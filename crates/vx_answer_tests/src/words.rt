@@ -269,7 +269,10 @@ fn modes_are_rounds(rt: HostRuntime) -> Result<(), Fail> {
     assert_eq!(rt; line.as_str(), "id,k,v\n1,b,7\n3,c,7\n||0");
     for mode in ["threads", "Rounds"] {
         let line = run_with(&rt, "p.json", &["--mode", mode, "many=3"])?;
-        assert!(rt; line.as_str().starts_with("|volcano: a mode is `rounds`"), "{line}");
+        assert!(rt;
+            line.as_str().starts_with("|volcano: a mode is `rounds`"),
+            "{line}"
+        );
         assert!(rt; line.as_str().ends_with("|2"), "{line}");
     }
     Ok(())
