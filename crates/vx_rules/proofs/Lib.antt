@@ -3,5 +3,5 @@ pub mod CopyFacts
 pub mod KeyFacts
 pub mod PairFacts
 pub mod RuleFacts
-pub mod NarrowFacts
+pub mod WidthFacts
 pub mod Refusals

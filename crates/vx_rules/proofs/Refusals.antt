@@ -4,7 +4,7 @@ use Rattle.vx_relations.specs.Relation.{Relation}
 use Rattle.vx_nodes.specs.Plan.{Plan, scan, unary, binary, exchange, number}
 use Rattle.vx_rules.specs.Rules.{allowed, allowed_here, root_allowed}
 use Rattle.vx_rules.specs.Refusal.{Rule, first_failure, node_tests, root_tests, or_else, refused_at, first_refused, refusal}
-use Rattle.vx_rules.proofs.NarrowFacts.{and-both, and-left, and-right}
+use Rattle.vx_values.proofs.Booleans.{and-both, and-left, and-right}
 
 abbrev pub passed : List (Bool × Rule) → Bool
 passed [] = true

@@ -3,7 +3,6 @@ pub mod Refusal
 pub mod Claims
 pub mod Copies
 pub mod Pairs
-pub mod Narrow
 pub mod Joints
 pub mod RuleView
 pub mod Checked

@@ -1,18 +1,17 @@
 //! Keys: which sets of output columns are shown to be keys.
 
-ghost use Rattle.std.specs.Prelude.{◌≡◌, map, true};
+ghost use Rattle.std.specs.Prelude.{◌≡◌, map};
 ghost use Rattle.std.specs.List.{list_all};
 ghost use Rattle.vx_relations.specs.Catalog.{relation_at};
-ghost use Rattle.vx_nodes.specs.Outline.{unary_of, binary_of, plan_of};
+ghost use Rattle.vx_nodes.specs.Outline.{unary_of, binary_of, outline_of, plan_of};
 ghost use Rattle.vx_rules.specs.Rules.{covers, unary_keys, keys_shown};
 ghost use Rattle.vx_rules.specs.Joints.{binary_keys};
-ghost use Rattle.vx_rules.specs.Narrow.{narrow};
+ghost use Rattle.vx_typed.specs.Outputs.{HasOutputs};
 
 use crate::columns::{has_first, is_covered, is_of_first, is_within};
 use crate::copies::{Copies, is_covered_behind};
-use crate::nodes::claimed_keys;
+use crate::nodes::{claimed_keys, width_of};
 use crate::pairs::{Input, hold_key};
-use crate::widths::width_of;
 use vx_nodes::{Binary, TypedNode, Unary};
 use vx_relations::{Catalog, Relation};
 
@@ -104,7 +103,7 @@ fn are_covered(below: &[Vec<usize>], keys: &[Vec<usize>]) -> bool
 
 /// Whether each of the node's claimed keys is shown: K8.
 pub fn are_keys_shown(catalog: &Catalog, node: &TypedNode) -> bool
-    requires { narrow (relation_at catalog.now) (plan_of node.now) ≡ true }
+    requires { HasOutputs (relation_at catalog.now) (outline_of node.now) }
     ensures { result ≡ keys_shown (relation_at catalog.now) (plan_of node.now) }
 {
     match node {
@@ -118,7 +117,7 @@ pub fn are_keys_shown(catalog: &Catalog, node: &TypedNode) -> bool
         }
         TypedNode::Binary(head, operator, left, right) => binary_shows_keys(
             operator,
-            width_of(catalog, left),
+            width_of(left),
             claimed_keys(left),
             claimed_keys(right),
             head.claim.keys.as_slice(),

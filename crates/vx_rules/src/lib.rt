@@ -15,7 +15,6 @@ mod refusal;
 mod refused;
 mod rule;
 mod shown;
-mod widths;
 
 pub use checked::CheckedPlan;
 pub use checking::check;

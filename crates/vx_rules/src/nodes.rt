@@ -1,10 +1,14 @@
 //! What a node claims, and how many workers it has.
 
-ghost use Rattle.std.specs.Prelude.{◌≡◌, map};
+ghost use Rattle.std.specs.Prelude.{◌≡◌, ℕ, map};
+ghost use Rattle.vx_relations.specs.Relation.{Relation};
 ghost use Rattle.vx_nodes.specs.Plan.{claim, size, size_eq, is_one};
-ghost use Rattle.vx_nodes.specs.Outline.{part_of, plan_of};
+ghost use Rattle.vx_nodes.specs.Outline.{part_of, outline_of, plan_of};
+ghost use Rattle.vx_nodes.specs.Types.{width};
+ghost use Rattle.vx_typed.specs.Outputs.{HasOutputs};
 
 use vx_nodes::{Part, Size, TypedNode};
+use vx_typed::output_types;
 
 /// The part that the node's note claims.
 pub fn claimed_part(node: &TypedNode) -> &Part
@@ -25,6 +29,13 @@ pub fn claimed_keys(node: &TypedNode) -> &[Vec<usize>]
     ensures { map (λ k. k.items) result.now ≡ (claim (plan_of node.now)).keys }
 {
     node.head().claim.keys.as_slice()
+}
+
+/// How many columns the node's output has.
+pub fn width_of(node: &TypedNode) -> usize
+    ensures { (catalog : ℕ → Relation) → HasOutputs catalog (outline_of node.now) → result ≡ width catalog (plan_of node.now) }
+{
+    output_types(node).len()
 }
 
 /// Whether the node has one worker.

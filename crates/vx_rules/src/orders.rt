@@ -1,18 +1,18 @@
 //! Orders: what is needed of the inputs', and what is shown of the output's.
 
-ghost use Rattle.std.specs.Prelude.{◌≡◌, true, ◌&&◌, ◌||◌};
+ghost use Rattle.std.specs.Prelude.{◌≡◌, ℕ, ◌&&◌, ◌||◌};
+ghost use Rattle.vx_relations.specs.Relation.{Relation};
 ghost use Rattle.vx_relations.specs.Catalog.{relation_at};
 ghost use Rattle.vx_nodes.specs.Plan.{claim, size, is_one};
-ghost use Rattle.vx_nodes.specs.Outline.{unary_of, binary_of, plan_of};
+ghost use Rattle.vx_nodes.specs.Outline.{unary_of, binary_of, outline_of, plan_of};
 ghost use Rattle.vx_rules.specs.Rules.{front, unary_orders, order_given, order_shown, is_total_order};
-ghost use Rattle.vx_rules.specs.Narrow.{narrow};
+ghost use Rattle.vx_typed.specs.Outputs.{HasOutputs};
 ghost use Rattle.vx_rules.specs.Joints.{binary_orders};
 
 use crate::columns::{has_first, is_covered, is_front};
 use crate::copies::Copies;
-use crate::nodes::{claimed_keys, claimed_order, has_one_worker};
+use crate::nodes::{claimed_keys, claimed_order, has_one_worker, width_of};
 use crate::pairs::{Input, are_front};
-use crate::widths::width_of;
 use vx_nodes::{Binary, Exchange, TypedNode, Unary};
 use vx_relations::Catalog;
 
@@ -98,10 +98,9 @@ pub fn is_order_shown(catalog: &Catalog, node: &TypedNode) -> bool
 }
 
 /// Whether the node's claimed order contains all columns of a claimed key, or all output columns: K9.
-pub fn is_order_total(catalog: &Catalog, node: &TypedNode) -> bool
-    requires { narrow (relation_at catalog.now) (plan_of node.now) ≡ true }
-    ensures { result ≡ is_total_order (relation_at catalog.now) (plan_of node.now) }
+pub fn is_order_total(node: &TypedNode) -> bool
+    ensures { (catalog : ℕ → Relation) → HasOutputs catalog (outline_of node.now) → result ≡ is_total_order catalog (plan_of node.now) }
 {
     let order = claimed_order(node);
-    is_covered(claimed_keys(node), order) || has_first(order, width_of(catalog, node))
+    is_covered(claimed_keys(node), order) || has_first(order, width_of(node))
 }

@@ -1,12 +1,13 @@
 //! The first refused node of a plan.
 
-ghost use Rattle.std.specs.Prelude.{◌≡◌, true, option_map};
+ghost use Rattle.std.specs.Prelude.{◌≡◌, ℕ, option_map};
+ghost use Rattle.vx_relations.specs.Relation.{Relation};
 ghost use Rattle.vx_relations.specs.Catalog.{relation_at};
 ghost use Rattle.vx_nodes.specs.Plan.{number};
-ghost use Rattle.vx_nodes.specs.Outline.{plan_of};
+ghost use Rattle.vx_nodes.specs.Outline.{outline_of, plan_of};
 ghost use Rattle.vx_rules.specs.Refusal.{first_failure, node_tests, root_tests, or_else, refused_at, first_refused, refusal};
 ghost use Rattle.vx_rules.specs.RuleView.{rule_of, refusal_of};
-ghost use Rattle.vx_rules.specs.Narrow.{narrow};
+ghost use Rattle.vx_typed.specs.Outputs.{HasOutputs};
 
 use crate::inputs::{do_inputs_match, do_sizes_match, is_not_replicated};
 use crate::keys::are_keys_shown;
@@ -19,7 +20,7 @@ use vx_relations::Catalog;
 
 // The first of a node's tests that fails.
 fn failure_at(catalog: &Catalog, node: &TypedNode) -> Option<Rule>
-    requires { narrow (relation_at catalog.now) (plan_of node.now) ≡ true }
+    requires { HasOutputs (relation_at catalog.now) (outline_of node.now) }
     ensures { option_map rule_of result ≡ first_failure (node_tests (relation_at catalog.now) (plan_of node.now)) }
 {
     if !do_sizes_match(node) {
@@ -34,7 +35,7 @@ fn failure_at(catalog: &Catalog, node: &TypedNode) -> Option<Rule>
     if !is_order_given(node) {
         return Some(Rule::OrderNeeded);
     }
-    if !is_part_shown(catalog, node) {
+    if !is_part_shown(node) {
         return Some(Rule::PartNotShown);
     }
     if !is_order_shown(catalog, node) {
@@ -47,14 +48,13 @@ fn failure_at(catalog: &Catalog, node: &TypedNode) -> Option<Rule>
 }
 
 // The first of the root's own tests that fails.
-fn root_failure(catalog: &Catalog, is_total: bool, root: &TypedNode) -> Option<Rule>
-    requires { narrow (relation_at catalog.now) (plan_of root.now) ≡ true }
-    ensures { option_map rule_of result ≡ first_failure (root_tests (relation_at catalog.now) is_total (plan_of root.now)) }
+fn root_failure(is_total: bool, root: &TypedNode) -> Option<Rule>
+    ensures { (catalog : ℕ → Relation) → HasOutputs catalog (outline_of root.now) → option_map rule_of result ≡ first_failure (root_tests catalog is_total (plan_of root.now)) }
 {
     if !has_one_worker(root) {
         return Some(Rule::RootNotOne);
     }
-    if is_total && !is_order_total(catalog, root) {
+    if is_total && !is_order_total(root) {
         return Some(Rule::TotalNotShown);
     }
     None
@@ -62,7 +62,7 @@ fn root_failure(catalog: &Catalog, is_total: bool, root: &TypedNode) -> Option<R
 
 // The node with the first of its tests that fails.
 fn refused_here(catalog: &Catalog, node: &TypedNode) -> Option<(u32, Rule)>
-    requires { narrow (relation_at catalog.now) (plan_of node.now) ≡ true }
+    requires { HasOutputs (relation_at catalog.now) (outline_of node.now) }
     ensures { option_map refusal_of result ≡ refused_at (number (plan_of node.now)) (node_tests (relation_at catalog.now) (plan_of node.now)) }
 {
     failure_at(catalog, node).map(|rule| (node.head().number, rule))
@@ -74,7 +74,7 @@ fn or_refused_here(
     catalog: &Catalog,
     node: &TypedNode,
 ) -> Option<(u32, Rule)>
-    requires { narrow (relation_at catalog.now) (plan_of node.now) ≡ true }
+    requires { HasOutputs (relation_at catalog.now) (outline_of node.now) }
     ensures { option_map refusal_of result ≡ or_else (option_map refusal_of below) (refused_at (number (plan_of node.now)) (node_tests (relation_at catalog.now) (plan_of node.now))) }
 {
     below.or_else(|| refused_here(catalog, node))
@@ -82,7 +82,7 @@ fn or_refused_here(
 
 // The first refused node in post-order, and the first of its tests that fails.
 fn first_refused_in(catalog: &Catalog, node: &TypedNode) -> Option<(u32, Rule)>
-    requires { narrow (relation_at catalog.now) (plan_of node.now) ≡ true }
+    requires { HasOutputs (relation_at catalog.now) (outline_of node.now) }
     ensures { option_map refusal_of result ≡ first_refused (relation_at catalog.now) (plan_of node.now) }
 {
     match node {
@@ -107,17 +107,17 @@ fn first_refused_in(catalog: &Catalog, node: &TypedNode) -> Option<(u32, Rule)>
 }
 
 // The root with the first of its own tests that fails.
-fn refused_root(catalog: &Catalog, is_total: bool, root: &TypedNode) -> Option<(u32, Rule)>
-    requires { narrow (relation_at catalog.now) (plan_of root.now) ≡ true }
-    ensures { option_map refusal_of result ≡ refused_at (number (plan_of root.now)) (root_tests (relation_at catalog.now) is_total (plan_of root.now)) }
+fn refused_root(is_total: bool, root: &TypedNode) -> Option<(u32, Rule)>
+    ensures { (catalog : ℕ → Relation) → HasOutputs catalog (outline_of root.now)
+        → option_map refusal_of result ≡ refused_at (number (plan_of root.now)) (root_tests catalog is_total (plan_of root.now)) }
 {
-    root_failure(catalog, is_total, root).map(|rule| (root.head().number, rule))
+    root_failure(is_total, root).map(|rule| (root.head().number, rule))
 }
 
 /// What refuses the plan: a node and a rule. The root's own tests are the last.
 pub fn refusal_in(catalog: &Catalog, is_total: bool, root: &TypedNode) -> Option<(u32, Rule)>
-    requires { narrow (relation_at catalog.now) (plan_of root.now) ≡ true }
+    requires { HasOutputs (relation_at catalog.now) (outline_of root.now) }
     ensures { option_map refusal_of result ≡ refusal (relation_at catalog.now) is_total (plan_of root.now) }
 {
-    first_refused_in(catalog, root).or_else(|| refused_root(catalog, is_total, root))
+    first_refused_in(catalog, root).or_else(|| refused_root(is_total, root))
 }

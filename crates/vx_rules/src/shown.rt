@@ -1,19 +1,17 @@
 //! The parts that a node shows.
 
-ghost use Rattle.std.specs.Prelude.{◌≡◌, true, cond};
+ghost use Rattle.std.specs.Prelude.{◌≡◌, ℕ, cond};
 ghost use Rattle.vx_nodes.specs.Plan.{any, all};
-ghost use Rattle.vx_relations.specs.Catalog.{relation_at};
-ghost use Rattle.vx_nodes.specs.Outline.{part_of, unary_of, binary_of, kind_of, plan_of};
+ghost use Rattle.vx_relations.specs.Relation.{Relation};
+ghost use Rattle.vx_nodes.specs.Outline.{part_of, unary_of, binary_of, kind_of, outline_of, plan_of};
 ghost use Rattle.vx_rules.specs.Rules.{part_gives, unary_shows, alike_shows, join_shows, both_have, kind_shows, part_shown};
 ghost use Rattle.vx_rules.specs.Joints.{binary_shows};
-ghost use Rattle.vx_rules.specs.Narrow.{narrow};
+ghost use Rattle.vx_typed.specs.Outputs.{HasOutputs};
 
 use crate::copies::Copies;
-use crate::nodes::{claimed_part, has_one_worker};
+use crate::nodes::{claimed_part, has_one_worker, width_of};
 use crate::parts::{are_routed_alike, gives, gives_routed, has_part, passes_through, route_gives};
-use crate::widths::width_of;
 use vx_nodes::{Binary, Kind, Part, TypedNode, Unary};
-use vx_relations::Catalog;
 
 // Whether an operator over the input shows the part.
 fn shows_over(operator: &Unary, input: &TypedNode, wanted: &Part) -> bool
@@ -118,9 +116,8 @@ fn scan_gives(is_shared: bool, wanted: &Part) -> bool
 }
 
 /// Whether the node's claimed part is shown: K3.
-pub fn is_part_shown(catalog: &Catalog, node: &TypedNode) -> bool
-    requires { narrow (relation_at catalog.now) (plan_of node.now) ≡ true }
-    ensures { result ≡ part_shown (relation_at catalog.now) (plan_of node.now) }
+pub fn is_part_shown(node: &TypedNode) -> bool
+    ensures { (catalog : ℕ → Relation) → HasOutputs catalog (outline_of node.now) → result ≡ part_shown catalog (plan_of node.now) }
 {
     if has_one_worker(node) {
         return true;
@@ -130,7 +127,7 @@ pub fn is_part_shown(catalog: &Catalog, node: &TypedNode) -> bool
         TypedNode::Scan(_, scan) => scan_gives(scan.shared, wanted),
         TypedNode::Unary(_, operator, input) => shows_over(operator, input, wanted),
         TypedNode::Binary(_, operator, left, right) => {
-            binary_gives(operator, width_of(catalog, left), left, right, wanted)
+            binary_gives(operator, width_of(left), left, right, wanted)
         }
         TypedNode::Exchange(_, exchange, _) => kind_gives(&exchange.kind, wanted),
     }
