@@ -1,6 +1,7 @@
 //! What no clause says: worked bundles with their lines, and inputs and outputs that fail.
 
-ghost use Rattle.std.specs.Prelude.{None, true};
+ghost use Rattle.std.specs.Prelude.{true};
+ghost use Rattle.vx_tables.specs.Stored.{absent};
 
 use crate::lines::line_of;
 use serde_json::Value as Json;
@@ -26,7 +27,7 @@ struct NoFiles;
 impl Store for NoFiles {
     type In = MemoryIn<'static>;
 
-    ghost holds = { λ _ _. None };
+    ghost holds = { λ _ _. absent };
 
     ghost is_reliable = { λ _ _. true };
 
