@@ -7,7 +7,7 @@ use std::io::ErrorKind;
 use std::process::ExitCode;
 use std::{env, io};
 use vx_answer::{Disk, Refusal, answer, tell};
-use vx_rows::{Real, write_all};
+use vx_bytes::{Real, write_all};
 
 // The words of the command line without the program's name.
 fn words_of(rt: &(impl Env + AllocGlobal)) -> io::Result<Vec<String>> {

@@ -3,11 +3,11 @@ use Rattle.std.proofs.Common.{◌≡◌, ℕ, ◌+◌, ◌<◌, ◌≤◌, Bool,
 use Rattle.std.specs.List.{list_all}
 use Rattle.std.proofs.lemmas.List.Folds.{list_all-map, list_all_at, list_all_more}
 use Rattle.vx_values.specs.Values.{Row, val_cmp, value_at}
-use Rattle.vx_nodes.specs.Plan.{Condition as PlanCondition}
-use Rattle.vx_nodes.specs.Serial.{side, answers, passes}
-use Rattle.vx_nodes.specs.Conditions.{conditions_of}
-use Rattle.vx_nodes.specs.Outline.{condition_of}
-use Rattle.vx_nodes.specs.declared.typed.Condition.{Condition}
+use Rattle.vx_plan_nodes.specs.Plan.{Condition as PlanCondition}
+use Rattle.vx_plan_nodes.specs.Serial.{side, answers, passes}
+use Rattle.vx_plan_nodes.specs.Conditions.{conditions_of}
+use Rattle.vx_plan_nodes.specs.Outline.{condition_of}
+use Rattle.vx_plan_nodes.specs.declared.typed.Condition.{Condition}
 
 abbrev pub holds : Row → PlanCondition → Bool
 holds row c = answers c.test (val_cmp (value_at row c.left) (side c.right row))

@@ -2,15 +2,15 @@
 
 ghost use Rattle.std.specs.Prelude.{◌≡◌, ◌<◌, ◌≤◌, ◌++◌, length, slice_range, unwrap_or, OnOk, IfOk, filter};
 ghost use Rattle.vx_rows.specs.View.{row};
-ghost use Rattle.vx_nodes.specs.Serial.{passes, side, answers};
-ghost use Rattle.vx_nodes.specs.Conditions.{conditions_of};
+ghost use Rattle.vx_plan_nodes.specs.Serial.{passes, side, answers};
+ghost use Rattle.vx_plan_nodes.specs.Conditions.{conditions_of};
 ghost use Rattle.vx_values.specs.ValueView.{test_of, cell_val};
-ghost use Rattle.vx_nodes.specs.Outline.{side_of};
+ghost use Rattle.vx_plan_nodes.specs.Outline.{side_of};
 
 use crate::cells::cell_or_zero;
 use std::alloc::{AllocError, Global};
 use std::cmp::Ordering;
-use vx_nodes::{Condition, Side};
+use vx_plan_nodes::{Condition, Side};
 use vx_rows::{Cell, Rows, compare_cells};
 use vx_values::Test;
 

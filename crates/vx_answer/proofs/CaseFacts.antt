@@ -11,15 +11,15 @@ use Rattle.vx_relations.specs.declared.fault.CatalogFault.TheVariants as of_cata
 use Rattle.vx_catalog.specs.Database.{Database}
 use Rattle.vx_catalog.specs.declared.fault.LoadFault.{LoadFault}
 use Rattle.vx_catalog.specs.declared.fault.LoadFault.TheVariants as load
-use Rattle.vx_document.specs.Fault as plan
-use Rattle.vx_document.specs.declared.fault.PlanFault.{PlanFault}
-use Rattle.vx_document.specs.declared.fault.PlanFault.TheVariants as of_plan
-use Rattle.vx_nodes.specs.Plan.{Plan}
-use Rattle.vx_nodes.specs.Outline.{Outline, scan, unary, binary, exchange, plan_in}
-use Rattle.vx_nodes.specs.Erase.{nodes_left}
-use Rattle.vx_typed.specs.Erased.{erased_from}
-use Rattle.vx_typed.specs.Names.{Resolved}
-use Rattle.vx_setup.specs.Setup.{SetupForm, is_within, groups_named, first_missing, first_out_of_range}
+use Rattle.vx_plan_json.specs.Fault as plan
+use Rattle.vx_plan_json.specs.declared.fault.PlanFault.{PlanFault}
+use Rattle.vx_plan_json.specs.declared.fault.PlanFault.TheVariants as of_plan
+use Rattle.vx_plan_nodes.specs.Plan.{Plan}
+use Rattle.vx_plan_nodes.specs.Outline.{Outline, scan, unary, binary, exchange, plan_in}
+use Rattle.vx_plan_nodes.specs.Erase.{nodes_left}
+use Rattle.vx_plan_nodes.specs.Erased.{erased_from}
+use Rattle.vx_plan_nodes.specs.Names.{TypedPlanView}
+use Rattle.vx_setup.specs.Setup.{SetupView, is_within, groups_named, first_missing, first_out_of_range}
 use Rattle.vx_setup.specs.declared.fault.RunFault.{RunFault}
 use Rattle.vx_setup.specs.declared.fault.RunFault.TheVariants as run
 use Rattle.vx_exec.specs.Setup.{SetupRefusal, size_missing, size_out_of_range, bad_packet, bad_morsel, bad_slack, other, tested, no_name, few_workers, sizes_set, refusal_of}
@@ -31,10 +31,10 @@ use Rattle.vx_serial.specs.declared.fault.EvalFault.{EvalFault}
 use Rattle.vx_serial.specs.declared.fault.EvalFault.TheVariants as eval
 use Rattle.vx_bundle.specs.Bundle.{Bundle}
 use Rattle.vx_bundle.specs.Setting.{Named}
-use Rattle.vx_tables.specs.declared.refusal.Refusal.{Refusal}
-use Rattle.vx_tables.specs.declared.refusal.Refusal.TheVariants as refusal
+use Rattle.vx_refusals.specs.declared.refusal.Refusal.{Refusal}
+use Rattle.vx_refusals.specs.declared.refusal.Refusal.TheVariants as refusal
 use Rattle.vx_tables.specs.Filled.{scans, IsFirstMissing, nothing_missing, first_missing as first_of_missing}
-use Rattle.vx_tables.specs.Status.{status_of}
+use Rattle.vx_refusals.specs.Status.{status_of}
 use Rattle.vx_tables.specs.Texts.{Missing, text_of, rows_from, holds_in, lacks_in, MissesBy, Misses, for_memory, for_no_text, for_bad_text}
 use Rattle.vx_answer.specs.Commanded.{refusal_in, setup_of, RunRefuses, PlanRefuses, SerialRefuses, CommandRefuses, erased}
 use Rattle.vx_answer.specs.Commanded as commanded
@@ -115,7 +115,7 @@ named_name : (f : List ℕ → SetupRefusal) (o : Option (List ℕ)) → ((name 
 named_name f None h = tt
 named_name f (Some name) h = h name
 
-sizes_named : (s : SetupForm) (names : List (List ℕ)) (p : Plan) → AllNamed (sizes_set s names p)
+sizes_named : (s : SetupView) (names : List (List ℕ)) (p : Plan) → AllNamed (sizes_set s names p)
 unfolding sizes_set
 sizes_named s names p =
     named_then (no_name size_missing (first_missing s.sizes names)) _ (named_name size_missing (first_missing s.sizes names) (λ name. tt)) (λ _.
@@ -136,23 +136,23 @@ named_setup run.BadSlack h = refl
 named_setup _ h = absurd h
 
 -- what a run comes to has status 4
-run_ends : (p : Resolved) (db : Database) (fault : RunFault) (e : Refusal) → e ≡ refusal.Run fault → IsTrueOf p db fault → status_of e ≡ 3 → ⊥
+run_ends : (p : TypedPlanView) (db : Database) (fault : RunFault) (e : Refusal) → e ≡ refusal.Run fault → IsTrueOf p db fault → status_of e ≡ 3 → ⊥
 run_ends p db run.NoMemory e is h three = not_three e (refusal.Run run.NoMemory) is refl three
 run_ends p db (run.Overflow node) e is h three = not_three e (refusal.Run (run.Overflow node)) is refl three
 run_ends p db _ e is h three = h
 
-run_fails : (p : Resolved) (db : Database) (s : SetupForm) (fault : RunFault) (e : Refusal) → db.catalog ≡ p.names.catalog → e ≡ refusal.Run fault → RunFails p db s fault → status_of e ≡ 3 → IsOfSetup e
+run_fails : (p : TypedPlanView) (db : Database) (s : SetupView) (fault : RunFault) (e : Refusal) → db.catalog ≡ p.names.catalog → e ≡ refusal.Run fault → RunFails p db s fault → status_of e ≡ 3 → IsOfSetup e
 run_fails p db s fault e same is (runs.for_catalog of differs) three = absurd (differs same)
 run_fails p db s fault e same is (runs.for_setup c (inl memory)) three = absurd (not_three e (refusal.Run run.NoMemory) (is ∙ ap refusal.Run memory) refl three)
 run_fails p db s fault e same is (runs.for_setup c (inr err)) three = (fault, is, named_setup fault (subst AllNamed err (sizes_named s p.names.sizes (plan_in p.root))))
 run_fails p db s fault e same is (runs.for_fault sizes set h) three = absurd (run_ends p db fault e is h three)
 
-run_refuses : (b : Bundle) (p : Resolved) (db : Database) (e : Refusal) → db.catalog ≡ p.names.catalog → RunRefuses p db b.setting e → status_of e ≡ 3 → IsOfSetup e
+run_refuses : (b : Bundle) (p : TypedPlanView) (db : Database) (e : Refusal) → db.catalog ≡ p.names.catalog → RunRefuses p db b.setting e → status_of e ≡ 3 → IsOfSetup e
 run_refuses b p db e same (commanded.for_rounds s set is) three = absurd (not_three e refusal.Unfinished is refl three)
 run_refuses b p db e same (commanded.for_want is) three = absurd (not_three e refusal.NoMemory is refl three)
 run_refuses b p db e same (commanded.for_fault fault is h) three = run_fails p db (setup_of b.setting) fault e same is h three
 
-plan_refuses : (b : Bundle) (p : Resolved) (e : Refusal) → IsCase b p → PlanRefuses p (holds_in b.tables) (lacks_in b.tables) b.setting e → status_of e ≡ 3 → IsOfSetup e
+plan_refuses : (b : Bundle) (p : TypedPlanView) (e : Refusal) → IsCase b p → PlanRefuses p (holds_in b.tables) (lacks_in b.tables) b.setting e → status_of e ≡ 3 → IsOfSetup e
 plan_refuses b p e case (commanded.for_tables h) three = absurd (tables_load b.tables (plan_in p.root) p.names.catalog e case.loaded h three)
 plan_refuses b p e case (commanded.for_run db there h) three = run_refuses b p db e there.same h three
 
@@ -163,40 +163,40 @@ none_left i (unary h op flags t) = none_left (i + 1) t
 none_left i (binary h op t u) = rw (none_left (i + 1) t) (none_left (i + 1 + nodes_left (plan_in t)) u)
 none_left i (exchange h k m t) = none_left i t
 
-evaluation_fails : (p : Resolved) (db : Database) (fault : EvalFault) (e : Refusal) → db.catalog ≡ p.names.catalog → e ≡ refusal.Eval fault → EvalFails (erased p) db fault → status_of e ≡ 3 → ⊥
+evaluation_fails : (p : TypedPlanView) (db : Database) (fault : EvalFault) (e : Refusal) → db.catalog ≡ p.names.catalog → e ≡ refusal.Eval fault → EvalFails (erased p) db fault → status_of e ≡ 3 → ⊥
 evaluation_fails p db eval.OtherCatalog e same is h three = h same
 evaluation_fails p db (eval.HasExchange node) e same is h three = none_some (first_exchange (plan_in (erased_from 0 p.root))) node (none_left 0 p.root) h.1
 evaluation_fails p db (eval.Overflow node) e same is h three = not_three e (refusal.Eval (eval.Overflow node)) is refl three
 evaluation_fails p db eval.NoMemory e same is h three = not_three e (refusal.Eval eval.NoMemory) is refl three
 
-serial_refuses : (b : Bundle) (p : Resolved) (e : Refusal) → IsCase b p → SerialRefuses p (holds_in b.tables) (lacks_in b.tables) e → status_of e ≡ 3 → ⊥
+serial_refuses : (b : Bundle) (p : TypedPlanView) (e : Refusal) → IsCase b p → SerialRefuses p (holds_in b.tables) (lacks_in b.tables) e → status_of e ≡ 3 → ⊥
 serial_refuses b p e case (commanded.for_room is) three = not_three e refusal.NoMemory is refl three
 serial_refuses b p e case (commanded.for_texts h) three = tables_load b.tables (plan_in p.root) p.names.catalog e case.loaded h three
 serial_refuses b p e case (commanded.for_evaluation db fault there is h) three = evaluation_fails p db fault e there.same is h three
 
-command_refuses : (b : Bundle) (p : Resolved) (e : Refusal) → IsCase b p → CommandRefuses b.command p (holds_in b.tables) (lacks_in b.tables) b.setting e → status_of e ≡ 3 → IsOfSetup e
+command_refuses : (b : Bundle) (p : TypedPlanView) (e : Refusal) → IsCase b p → CommandRefuses b.command p (holds_in b.tables) (lacks_in b.tables) b.setting e → status_of e ≡ 3 → IsOfSetup e
 command_refuses b p e case (commanded.for_memory is) three = absurd (not_three e refusal.NoMemory is refl three)
 command_refuses b p e case (commanded.for_rule checked h) three = absurd (none_some (refusal_in p) _ case.shown h.3)
 command_refuses b p e case (commanded.for_rest runs shown h) three = plan_refuses b p e case h three
 command_refuses b p e case (commanded.for_serial runs h) three = absurd (serial_refuses b p e case h three)
 
 -- a bundle has one plan
-one_plan : (b : Bundle) (p q : Resolved) → IsPlanned b p → IsPlanned b q → q ≡ p
+one_plan : (b : Bundle) (p q : TypedPlanView) → IsPlanned b p → IsPlanned b q → q ≡ p
 one_plan b p q x y =
     let declared : x.catalog ≡ y.catalog = cc (x.declared, y.declared) in
     let planned : plan_for b x.catalog ≡ plan_for b y.catalog = ap (plan_for b) declared in
     cc (x.planned, y.planned)
 
-unplanned : (b : Bundle) (p : Resolved) (e : Refusal) → IsPlanned b p → Unplanned b e → status_of e ≡ 3 → ⊥
+unplanned : (b : Bundle) (p : TypedPlanView) (e : Refusal) → IsPlanned b p → Unplanned b e → status_of e ≡ 3 → ⊥
 unplanned b p e x (answer.for_catalog fault is h) three = catalog_reads e fault (catalog.catalog_of b.catalog) x.catalog x.declared is h three
 unplanned b p e x (answer.for_plan relations fault is declared h) three =
     let same : relations ≡ x.catalog = cc (declared, x.declared) in
     plan_resolves e fault (plan_for b relations) p (ap (plan_for b) same ∙ x.planned) is h three
 
-pub case_is_refused_by_setup : (b : Bundle) (p : Resolved) (e : Refusal) → IsCase b p → Refuses b e → status_of e ≡ 3 → IsOfSetup e
+pub case_is_refused_by_setup : (b : Bundle) (p : TypedPlanView) (e : Refusal) → IsCase b p → Refuses b e → status_of e ≡ 3 → IsOfSetup e
 case_is_refused_by_setup b p e case (answer.for_want is) three = absurd (not_three e refusal.NoMemory is refl three)
 case_is_refused_by_setup b p e case (answer.for_command is unsupported) three = absurd (true_false (is_taken b.command b.setting.mode) case.supported unsupported)
 case_is_refused_by_setup b p e case (answer.for_planning h) three = absurd (unplanned b p e case.planned h three)
 case_is_refused_by_setup b p e case (answer.for_plan_of q planned h) three =
-    let P : Resolved → Type 0 = λ q. CommandRefuses b.command q (holds_in b.tables) (lacks_in b.tables) b.setting e in
+    let P : TypedPlanView → Type 0 = λ q. CommandRefuses b.command q (holds_in b.tables) (lacks_in b.tables) b.setting e in
     command_refuses b p e case (subst P (one_plan b p q case.planned planned) h) three

@@ -2,18 +2,18 @@
 use Rattle.std.proofs.Common.{◌≡◌, ℕ, List, Result, Ok, Err, refl}
 use Rattle.std.specs.Prelude.{IfOk}
 use Rattle.vx_relations.specs.Relation.{Relation}
-use Rattle.vx_document.specs.Document.{Document}
-use Rattle.vx_document.specs.Fault.{◌>>=◌, Gives}
-use Rattle.vx_document.specs.declared.fault.PlanFault.{PlanFault}
-use Rattle.vx_document.proofs.Holds.{Holds, holds_at}
-use Rattle.vx_typed.specs.Names.{Names, Resolved}
-use Rattle.vx_typed.specs.TypedView.{resolved_of}
-use Rattle.vx_typed.specs.declared.typed_plan.TypedPlan.{TypedPlan}
-use Rattle.vx_nodes.specs.Outline.{Outline}
+use Rattle.vx_plan_json.specs.Document.{Document}
+use Rattle.vx_plan_json.specs.Fault.{◌>>=◌, Gives}
+use Rattle.vx_plan_json.specs.declared.fault.PlanFault.{PlanFault}
+use Rattle.vx_plan_json.proofs.Holds.{Holds, holds_at}
+use Rattle.vx_plan_nodes.specs.Names.{Names, TypedPlanView}
+use Rattle.vx_plan_nodes.specs.TypedView.{resolved_of}
+use Rattle.vx_plan_nodes.specs.declared.typed_plan.TypedPlan.{TypedPlan}
+use Rattle.vx_plan_nodes.specs.Outline.{Outline}
 use Rattle.vx_plan.specs.Resolve.{typed_in, sizes_tested, ranges_tested, resolved}
 use Rattle.vx_answer.proofs.RunnableFacts.{then_holds}
 
-abbrev IsOver : List Relation → Resolved → Type 0
+abbrev IsOver : List Relation → TypedPlanView → Type 0
 IsOver catalog p = p.names.catalog ≡ catalog
 
 resolved_is_over : (d : Document) (catalog : List Relation) → Holds (IsOver catalog) (resolved d catalog)

@@ -2,32 +2,32 @@
 use Rattle.std.proofs.Common.{arith, ◌≡◌, ◌≢◌, ◌∙◌, ℕ, List, Bool, Option, Result, Ok, Err, refl, sym}
 use Rattle.std.specs.Prelude.{IfOk, IfErr}
 use Rattle.vx_catalog.specs.Database.{Database}
-use Rattle.vx_typed.specs.Names.{Resolved}
+use Rattle.vx_plan_nodes.specs.Names.{TypedPlanView}
 use Rattle.vx_bundle.specs.declared.command.Command.TheVariants as command
-use Rattle.vx_tables.specs.declared.refusal.Refusal.{Refusal}
+use Rattle.vx_refusals.specs.declared.refusal.Refusal.{Refusal}
 use Rattle.vx_bundle.specs.Bundle.{Bundle}
 use Rattle.vx_bundle.specs.Setting.{Setting}
-use Rattle.vx_tables.specs.Status.{status_of}
+use Rattle.vx_refusals.specs.Status.{status_of}
 use Rattle.vx_tables.specs.Texts.{holds_in, lacks_in}
 use Rattle.vx_answer.specs.Commanded.{Holding, Lacking, IsShown, IsDatabaseFor, RunRefuses, PlanRefuses, for_run, SerialRefuses, CommandRefuses, for_rest, for_serial}
 use Rattle.vx_answer.specs.Answer.{IsPlanned, Refuses, for_plan_of, RefusedWith, IsRefusedBy}
 
-pub run_refused : {T : Type 0} (r : Result T Refusal) (p : Resolved) (holds : Holding) (lacks : Lacking) (s : Setting) (db : Database)
+pub run_refused : {T : Type 0} (r : Result T Refusal) (p : TypedPlanView) (holds : Holding) (lacks : Lacking) (s : Setting) (db : Database)
     → IsDatabaseFor p holds db → IfErr r (λ e. RunRefuses p db s e) → IfErr r (λ e. PlanRefuses p holds lacks s e)
 run_refused (Ok x) p holds lacks s db there h = tt
 run_refused (Err e) p holds lacks s db there h = for_run db there h
 
-pub rest_refused : {T : Type 0} (r : Result T Refusal) (p : Resolved) (holds : Holding) (lacks : Lacking) (s : Setting) → IsShown p
+pub rest_refused : {T : Type 0} (r : Result T Refusal) (p : TypedPlanView) (holds : Holding) (lacks : Lacking) (s : Setting) → IsShown p
     → IfErr r (λ e. PlanRefuses p holds lacks s e) → IfErr r (λ e. CommandRefuses command.Run p holds lacks s e)
 rest_refused (Ok x) p holds lacks s shown h = tt
 rest_refused (Err e) p holds lacks s shown h = for_rest refl shown h
 
-pub serial_refused : {T : Type 0} (r : Result T Refusal) (p : Resolved) (holds : Holding) (lacks : Lacking) (s : Setting)
+pub serial_refused : {T : Type 0} (r : Result T Refusal) (p : TypedPlanView) (holds : Holding) (lacks : Lacking) (s : Setting)
     → IfErr r (λ e. SerialRefuses p holds lacks e) → IfErr r (λ e. CommandRefuses command.Serial p holds lacks s e)
 serial_refused (Ok x) p holds lacks s h = tt
 serial_refused (Err e) p holds lacks s h = for_serial refl h
 
-pub bundle_refused : {T : Type 0} (r : Result T Refusal) (b : Bundle) (p : Resolved) → IsPlanned b p
+pub bundle_refused : {T : Type 0} (r : Result T Refusal) (b : Bundle) (p : TypedPlanView) → IsPlanned b p
     → IfErr r (λ e. CommandRefuses b.command p (holds_in b.tables) (lacks_in b.tables) b.setting e) → IfErr r (λ e. Refuses b e)
 bundle_refused (Ok x) b p there h = tt
 bundle_refused (Err e) b p there h = for_plan_of p there h

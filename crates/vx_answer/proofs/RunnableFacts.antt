@@ -4,20 +4,20 @@ use Rattle.std.specs.Prelude.{⊤, IfOk}
 use Rattle.std.specs.List.{list_all}
 use Rattle.vx_relations.specs.Relation.{Relation}
 use Rattle.vx_relations.specs.Catalog.{relation_at}
-use Rattle.vx_document.specs.Document.{ClaimForm, ConditionForm, ScanForm, Tree, Document}
-use Rattle.vx_document.specs.Document as form
-use Rattle.vx_document.specs.Fault.{Refusal, ◌>>=◌, Gives}
-use Rattle.vx_document.specs.Reading.{document_in}
-use Rattle.vx_document.specs.declared.fault.PlanFault.{PlanFault}
-use Rattle.vx_document.proofs.Holds.{Holds, holds_then, holds_at}
-use Rattle.vx_nodes.specs.Plan as plan
-use Rattle.vx_typed.specs.Typed.{is_condition}
+use Rattle.vx_plan_json.specs.Document.{ClaimForm, ConditionForm, ScanForm, Tree, Document}
+use Rattle.vx_plan_json.specs.Document as form
+use Rattle.vx_plan_json.specs.Fault.{Refusal, ◌>>=◌, Gives}
+use Rattle.vx_plan_json.specs.Reading.{document_in}
+use Rattle.vx_plan_json.specs.declared.fault.PlanFault.{PlanFault}
+use Rattle.vx_plan_json.proofs.Holds.{Holds, holds_then, holds_at}
+use Rattle.vx_plan_nodes.specs.Plan as plan
+use Rattle.vx_plan_nodes.specs.Typed.{is_condition}
 use Rattle.vx_plan.specs.Lookup.{size_found, columns_found, matched, walk_onto}
-use Rattle.vx_typed.specs.Names.{Names, Resolved}
-use Rattle.vx_nodes.specs.Outline.{Columns, Top, Outline, scan, unary, exchange, columns, plan_in}
+use Rattle.vx_plan_nodes.specs.Names.{Names, TypedPlanView}
+use Rattle.vx_plan_nodes.specs.Outline.{Columns, Top, Outline, scan, unary, exchange, columns, plan_in}
 use Rattle.vx_plan.specs.Resolve.{Shape, scan_columns, relation_found, topped, scan_typed, conditions_found, select_shape, unary_shape, unary_typed, kind_found, kind_fits, exchange_columns, exchange_once, exchange_shape, exchange_typed, typed_in, sizes_tested, ranges_tested, resolved}
-use Rattle.vx_typed.specs.TypedView.{resolved_of}
-use Rattle.vx_typed.specs.declared.typed_plan.TypedPlan.{TypedPlan}
+use Rattle.vx_plan_nodes.specs.TypedView.{resolved_of}
+use Rattle.vx_plan_nodes.specs.declared.typed_plan.TypedPlan.{TypedPlan}
 use Rattle.vx_setup.specs.Runnable.{can_run}
 use Rattle.vx_bundle.specs.declared.command.Command.{Command}
 use Rattle.vx_bundle.specs.Bundle.{Bundle}
@@ -67,13 +67,13 @@ select_runs s node c cs t runs =
     (λ o is. topped_runs s node o.columns c (λ h. unary h o.op o.renamed t) (λ h. rw is.1 runs))
 
 -- an exchange gathers, and does not merge
-abbrev Gathers : plan.Kind × List ℕ → Type 0
+abbrev Gathers : plan.ExchangeKind × List ℕ → Type 0
 Gathers k = k ≡ (plan.gather, [])
 
 gather_is : (s : Names) (node : ℕ) (cols : Columns) → Holds Gathers (exchange_shape s node cols form.gather [])
 unfolding exchange_shape exchange_columns kind_found columns_found walk_onto
 gather_is s node cols =
-    let gathers : plan.Kind × List ℕ = (plan.gather, []) in
+    let gathers : plan.ExchangeKind × List ℕ = (plan.gather, []) in
     then_holds Gathers (λ (u : ⊤). matched node (kind_fits s cols.types plan.gather) >>= λ v. Ok gathers) (exchange_once node form.gather [])
     (λ u. then_holds Gathers (λ (v : ⊤). Ok gathers) (matched node (kind_fits s cols.types plan.gather)) (λ v. refl))
 
@@ -107,7 +107,7 @@ typed_runs s node path (form.exchange c form.gather [] t) none =
     (λ i h. holds_then Runs AllRun (λ o. Ok (o, i.1)) (exchange_typed s node c form.gather [] i.0) (gather_runs s node c i.0 h) (λ o k. k))
 typed_runs s node path (form.exchange c form.gather (name ∷ names) t) none = cc
 
-abbrev RootRuns : Resolved → Type 0
+abbrev RootRuns : TypedPlanView → Type 0
 RootRuns p = Runs p.root
 
 resolved_runs : (d : Document) (catalog : List Relation) → first_unrunnable (codes "root") d.root ≡ None → Holds RootRuns (resolved d catalog)
@@ -124,7 +124,7 @@ unless_runs d catalog None is = resolved_runs d catalog is
 unless_runs d catalog (Some path) is = tt
 
 -- a plan that is to be run, and that was taken and resolved, is one that workers can run
-pub taken_runs : (read : Result Document Refusal) (catalog : List Relation) (p : Resolved) → (read >>= λ d. taken_by command.Run d >>= λ d. resolved d catalog) ≡ Ok p → can_run (plan_in p.root) ≡ true
+pub taken_runs : (read : Result Document Refusal) (catalog : List Relation) (p : TypedPlanView) → (read >>= λ d. taken_by command.Run d >>= λ d. resolved d catalog) ≡ Ok p → can_run (plan_in p.root) ≡ true
 taken_runs read catalog p is =
     holds_at RootRuns (read >>= λ d. taken_by command.Run d >>= λ d. resolved d catalog) p
     (then_holds RootRuns (λ d. taken_by command.Run d >>= λ d. resolved d catalog) read (λ d. unless_runs d catalog (first_unrunnable (codes "root") d.root) refl)) is
@@ -140,7 +140,7 @@ resolve_runs (Ok p) c d catalog taken gives =
     holds_at RootRuns (taken_by command.Run d >>= λ d. resolved d catalog) (resolved_of p) (unless_runs d catalog (first_unrunnable (codes "root") d.root) refl) is
 
 -- and a bundle's
-pub bundle_runs : (b : Bundle) (p : Resolved) → IsPlanned b p → b.command ≡ command.Run → can_run (plan_in p.root) ≡ true
+pub bundle_runs : (b : Bundle) (p : TypedPlanView) → IsPlanned b p → b.command ≡ command.Run → can_run (plan_in p.root) ≡ true
 bundle_runs b p planned run =
     let P : Command → Type 0 = λ c. (document_in b.plan >>= λ d. taken_by c d >>= λ d. resolved d planned.catalog) ≡ Ok p in
     taken_runs (document_in b.plan) planned.catalog p (subst P run planned.planned)

@@ -1,11 +1,11 @@
 -- Bytes that are known or not, and a plan of them.
 use Rattle.std.proofs.Common.{◌≡◌, ℕ, List, [], Vec, Global, Bool, true, false, Option, Some, None, Result, Ok, Err, refl, sym, subst, inl, inr}
 use Rattle.std.specs.Prelude.{IfOk}
-use Rattle.vx_rows.specs.Ports.{IsAll, IsOver, ExplainsAll}
-use Rattle.vx_rows.specs.declared.bytes.ReadFault.TheVariants as fault
+use Rattle.vx_bytes.specs.Ports.{IsAll, IsOver, ExplainsAll}
+use Rattle.vx_bytes.specs.declared.bytes.ReadFault.TheVariants as fault
 use Rattle.vx_catalog.specs.Loading.{max_bytes}
-use Rattle.vx_tables.specs.declared.refusal.Refusal.{Refusal}
-use Rattle.vx_tables.specs.Stored.{Stored, silent, absent, present, stored_by, IfBytes, OpensAs}
+use Rattle.vx_refusals.specs.declared.refusal.Refusal.{Refusal}
+use Rattle.vx_bytes.specs.Stored.{Stored, silent, absent, present, stored_by, IfBytes, OpensAs}
 use Rattle.vx_tables.proofs.FolderFacts.{may_fail}
 use Rattle.vx_answer.specs.Answer.{RefusedWith}
 use Rattle.vx_answer.specs.Worded.{left_of, IsUnreadable, IsInputRefusal, for_input_room, for_input}

@@ -4,13 +4,13 @@ use Rattle.std.specs.Prelude.{IfOk, IfErr}
 use Rattle.clap.specs.Values.{kind_of}
 use Rattle.clap.specs.Words.{HasKind}
 use Rattle.clap.specs.declared.error.Error.{Error}
-use Rattle.vx_typed.specs.Names.{Resolved}
+use Rattle.vx_plan_nodes.specs.Names.{TypedPlanView}
 use Rattle.vx_words.specs.Asked.{Ask, faults_of}
-use Rattle.vx_tables.specs.declared.refusal.Refusal.{Refusal}
+use Rattle.vx_refusals.specs.declared.refusal.Refusal.{Refusal}
 use Rattle.vx_answer.specs.declared.worded.NotTaken.{NotTaken}
 use Rattle.vx_answer.specs.declared.worded.NotTaken.TheVariants as taken
 use Rattle.vx_answer.specs.Commanded.{CommandRefuses}
-use Rattle.vx_tables.specs.Stored.{Stored}
+use Rattle.vx_bytes.specs.Stored.{Stored}
 use Rattle.vx_tables.specs.Folder.{holds_at, LacksAt}
 use Rattle.vx_answer.specs.Worded.{Task, IsPlannedIn, catalog_told, plan_told, TaskRefuses, for_plan_of, AnswersAsk, named, AsksFor, IsWorded, for_words, for_kind, for_no_task, for_no_room, for_ask}
 use Rattle.vx_answer.specs.WordsView.{IsFault, IsNotAnswered, IsNotTaken}
@@ -34,7 +34,7 @@ told_refusal P Q outcome (Err e) same weaker h =
     subst Q (sym same.2) (weaker same.0 there)
 
 -- what the command makes nothing of, the task has no answer to
-pub task_refused : {T : Type 0} (files : List ℕ → Stored) (reliable : List ℕ → Bool) (input : Option (List ℕ)) (failed : Bool) (t : Task) (p : Resolved) (r : Result T Refusal)
+pub task_refused : {T : Type 0} (files : List ℕ → Stored) (reliable : List ℕ → Bool) (input : Option (List ℕ)) (failed : Bool) (t : Task) (p : TypedPlanView) (r : Result T Refusal)
     → IsPlannedIn t.command (catalog_told files input t.paths) (plan_told files input t.paths) p
     → IfErr r (λ e. CommandRefuses t.command p (holds_at files t.folder) (LacksAt files reliable t.folder) t.setting e) → IfErr r (λ e. TaskRefuses files reliable input failed t e)
 task_refused files reliable input failed t p (Ok x) planned h = tt

@@ -2,20 +2,20 @@
 use Rattle.std.specs.Prelude.{◌≡◌, ℕ, ◌<◌, List, length, Bool, true, false}
 use Rattle.vx_values.specs.Values.{Row}
 use Rattle.vx_relations.specs.Catalog.{relation_at}
-use Rattle.vx_nodes.specs.Outline.{plan_in}
-use Rattle.vx_typed.specs.Names.{Resolved}
+use Rattle.vx_plan_nodes.specs.Outline.{plan_in}
+use Rattle.vx_plan_nodes.specs.Names.{TypedPlanView}
 use Rattle.vx_setup.specs.declared.fault.RunFault.{RunFault}
 use Rattle.vx_setup.specs.declared.fault.RunFault.TheVariants as run
 use Rattle.vx_bundle.specs.Bundle.{Bundle}
-use Rattle.vx_tables.specs.declared.refusal.Refusal.{Refusal}
-use Rattle.vx_tables.specs.declared.refusal.Refusal.TheVariants as refusal
+use Rattle.vx_refusals.specs.declared.refusal.Refusal.{Refusal}
+use Rattle.vx_refusals.specs.declared.refusal.Refusal.TheVariants as refusal
 use Rattle.vx_tables.specs.Filled.{scans}
-use Rattle.vx_tables.specs.Status.{status_of}
+use Rattle.vx_refusals.specs.Status.{status_of}
 use Rattle.vx_tables.specs.Texts.{holds_in}
 use Rattle.vx_answer.specs.Commanded.{IsShown}
 use Rattle.vx_answer.specs.Answer.{is_taken, IsPlanned, Refuses}
 
-pub record IsCase (b : Bundle) (p : Resolved) : Type 0 where
+pub record IsCase (b : Bundle) (p : TypedPlanView) : Type 0 where
   pub supported : is_taken b.command b.setting.mode ≡ true
   pub planned : IsPlanned b p
   pub shown : IsShown p
@@ -43,4 +43,4 @@ IsOfSetup e = (fault : RunFault) × (e ≡ refusal.Run fault) × (is_of_setup fa
 
 -- a case is refused with status 3 only by its setup
 abbrev pub CaseIsRefusedBySetup : Type 0
-CaseIsRefusedBySetup = (b : Bundle) (p : Resolved) (e : Refusal) → IsCase b p → Refuses b e → status_of e ≡ 3 → IsOfSetup e
+CaseIsRefusedBySetup = (b : Bundle) (p : TypedPlanView) (e : Refusal) → IsCase b p → Refuses b e → status_of e ≡ 3 → IsOfSetup e

@@ -1,7 +1,7 @@
 -- What a command takes of a plan that was read: a run, only operators that workers run so far.
 use Rattle.std.specs.Prelude.{ℕ, List, [], ◌++◌, codes, Option, Some, None, Result, Ok, Err}
-use Rattle.vx_document.specs.Document.{Tree, scan, unary, binary, exchange, select, gather, Document}
-use Rattle.vx_document.specs.Fault.{Refusal, bad_node}
+use Rattle.vx_plan_json.specs.Document.{Tree, scan, unary, binary, exchange, select, gather, Document}
+use Rattle.vx_plan_json.specs.Fault.{Refusal, bad_node}
 use Rattle.vx_bundle.specs.declared.command.Command.{Command}
 use Rattle.vx_bundle.specs.declared.command.Command.TheVariants as command
 

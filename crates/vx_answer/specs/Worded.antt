@@ -10,24 +10,24 @@ use Rattle.vx_relations.specs.Naming.{catalog_text}
 use Rattle.vx_relations.specs.Naming as catalog
 use Rattle.vx_relations.specs.declared.fault.CatalogFault.{CatalogFault}
 use Rattle.vx_plan.specs.Resolve.{resolved}
-use Rattle.vx_typed.specs.Names.{Resolved}
-use Rattle.vx_document.specs.Fault.{◌>>=◌}
-use Rattle.vx_document.specs.Fault as plan
-use Rattle.vx_document.specs.Reading.{document_of_text}
-use Rattle.vx_document.specs.declared.fault.PlanFault.{PlanFault}
+use Rattle.vx_plan_nodes.specs.Names.{TypedPlanView}
+use Rattle.vx_plan_json.specs.Fault.{◌>>=◌}
+use Rattle.vx_plan_json.specs.Fault as plan
+use Rattle.vx_plan_json.specs.Reading.{document_of_text}
+use Rattle.vx_plan_json.specs.declared.fault.PlanFault.{PlanFault}
 use Rattle.vx_words.specs.Asked.{Ask, Paths, bundle, check, explain, serial, run, asked_by, faults_of}
 use Rattle.vx_bundle.specs.declared.command.Command.{Command}
 use Rattle.vx_bundle.specs.declared.command.Command.TheVariants as command
 use Rattle.vx_bundle.specs.declared.setting.Mode.TheVariants as mode
-use Rattle.vx_tables.specs.declared.refusal.Refusal.{Refusal}
-use Rattle.vx_tables.specs.declared.refusal.Refusal.TheVariants as refusal
+use Rattle.vx_refusals.specs.declared.refusal.Refusal.{Refusal}
+use Rattle.vx_refusals.specs.declared.refusal.Refusal.TheVariants as refusal
 use Rattle.vx_answer.specs.Answer.{IsAnswer, IsUnread, RefusedWith}
 use Rattle.vx_answer.specs.Commanded.{IsFor, CommandRefuses}
-use Rattle.vx_tables.specs.Stored.{Stored, stored_by, IfBytes, MayBeAbsent}
+use Rattle.vx_bytes.specs.Stored.{Stored, stored_by, IfBytes, MayBeAbsent}
 use Rattle.vx_tables.specs.Folder.{holds_at, LacksAt}
 use Rattle.vx_bundle.specs.Setting.{Setting}
 use Rattle.vx_answer.specs.Given.{IsSetting, IsNoSetting}
-use Rattle.vx_tables.specs.Status.{status_of}
+use Rattle.vx_refusals.specs.Status.{status_of}
 use Rattle.vx_answer.specs.Unrunnable.{taken_by}
 
 -- the path of standard input
@@ -54,11 +54,11 @@ abbrev pub plan_told : (List ℕ → Stored) → Option (List ℕ) → Paths →
 plan_told files input paths = told_at files (input_after input paths.catalog) paths.plan
 
 -- the plan of a text over a catalog: read, taken by a command, and resolved
-abbrev pub plan_text : Command → List ℕ → List Relation → Result Resolved plan.Refusal
+abbrev pub plan_text : Command → List ℕ → List Relation → Result TypedPlanView plan.Refusal
 plan_text c bytes catalog = document_of_text bytes >>= λ d. taken_by c d >>= λ d. resolved d catalog
 
 -- a catalog and a plan over it for a command, by their bytes where these are known
-pub record IsPlannedIn (c : Command) (catalog_bytes plan_bytes : Stored) (p : Resolved) : Type 0 where
+pub record IsPlannedIn (c : Command) (catalog_bytes plan_bytes : Stored) (p : TypedPlanView) : Type 0 where
   pub catalog : List Relation
   pub declared : IfBytes catalog_bytes (λ bytes. catalog_text bytes ≡ Ok catalog)
   pub over : p.names.catalog ≡ catalog
@@ -127,13 +127,13 @@ IsNoTask (run paths folder given) = IsNoSetting given
 -- the text answers a task: it is what its command asks for of its plan over the files of its folder
 abbrev pub IsDone : (List ℕ → Stored) → Option (List ℕ) → Task → List ℕ → Type 0
 IsDone files input t text =
-    (p : Resolved) × IsPlannedIn t.command (catalog_told files input t.paths) (plan_told files input t.paths) p × IsFor t.command p (holds_at files t.folder) t.setting text
+    (p : TypedPlanView) × IsPlannedIn t.command (catalog_told files input t.paths) (plan_told files input t.paths) p × IsFor t.command p (holds_at files t.folder) t.setting text
 
 -- the first reason why a task has no answer: its plan, or what the command makes of that; want of memory may come anywhere
 pub data TaskRefuses (files : List ℕ → Stored) (reliable : List ℕ → Bool) (input : Option (List ℕ)) (failed : Bool) (t : Task) (e : Refusal) : Type 0 where
   for_want : e ≡ refusal.NoMemory → TaskRefuses files reliable input failed t e
   for_planning : UnplannedIn t.command files reliable input failed t.paths e → TaskRefuses files reliable input failed t e
-  for_plan_of : (p : Resolved) → IsPlannedIn t.command (catalog_told files input t.paths) (plan_told files input t.paths) p
+  for_plan_of : (p : TypedPlanView) → IsPlannedIn t.command (catalog_told files input t.paths) (plan_told files input t.paths) p
       → CommandRefuses t.command p (holds_at files t.folder) (LacksAt files reliable t.folder) t.setting e → TaskRefuses files reliable input failed t e
 
 -- the words with the program's name in front

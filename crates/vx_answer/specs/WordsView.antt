@@ -5,8 +5,8 @@ use Rattle.vx_answer.specs.declared.worded.Task as held
 use Rattle.vx_answer.specs.declared.worded.NotTaken.{NotTaken}
 use Rattle.vx_answer.specs.declared.worded.NotTaken.TheVariants as taken
 use Rattle.clap.specs.declared.error.kind.ErrorKind.{ErrorKind}
-use Rattle.vx_tables.specs.declared.refusal.Refusal.TheVariants as refusal
-use Rattle.vx_tables.specs.Stored.{Stored}
+use Rattle.vx_refusals.specs.declared.refusal.Refusal.TheVariants as refusal
+use Rattle.vx_bytes.specs.Stored.{Stored}
 use Rattle.vx_answer.specs.Worded.{Task, IsNoTask, IsWrongKind, AskRefuses, AreMisworded, WordsRefuse}
 
 abbrev pub task_is : held.Task → Task

@@ -3,7 +3,7 @@
 ghost use Rattle.std.specs.Prelude.{◌≡◌, ◌≢◌, ◌⊎◌, ℕ, List, [], true, false, map, IfSome, IfOk, IfErr, IsErrOf};
 ghost use Rattle.std.specs.Io.KnownBytes.{Appends, Keeps};
 ghost use Rattle.vx_answer.specs.Answer.{IsAnswer, RefusedWith, IsRefusedBy};
-ghost use Rattle.vx_tables.specs.Status.{status_of};
+ghost use Rattle.vx_refusals.specs.Status.{status_of};
 ghost use Rattle.vx_answer.specs.Worded.{IsWorded, AreMisworded, AreRefusedBy};
 
 use crate::sources::input_bytes;
@@ -12,8 +12,8 @@ use crate::work::work;
 use std::alloc::Global;
 use std::sync::Wait;
 use std::thread::Threads;
-use vx_rows::{ByteIn, ByteOut, write_all};
-use vx_tables::{Refusal, Store, status, tell};
+use vx_bytes::{ByteIn, ByteOut, Store, write_all};
+use vx_refusals::{Refusal, status, tell};
 
 /// The most bytes that a bundle may have.
 pub const MAX_BYTES: usize = 1 << 40;

@@ -1,9 +1,9 @@
 //! What a command makes of a plan over tables.
 
 ghost use Rattle.std.specs.Prelude.{◌≡◌, true, IfOk, IfErr};
-ghost use Rattle.vx_typed.specs.TypedView.{resolved_of};
-ghost use Rattle.vx_nodes.specs.Outline.{plan_in};
-ghost use Rattle.vx_rules.specs.CheckedView.{typed_plan};
+ghost use Rattle.vx_plan_nodes.specs.TypedView.{resolved_of};
+ghost use Rattle.vx_plan_nodes.specs.Outline.{plan_in};
+ghost use Rattle.vx_check_rules.specs.CheckedView.{typed_plan};
 ghost use Rattle.vx_setup.specs.Runnable.{can_run};
 ghost use Rattle.vx_answer.specs.Commanded.{IsShown, IsNotShown, accepted_text, IsFor, CommandRefuses};
 
@@ -13,7 +13,8 @@ use std::alloc::{AllocError, Global};
 use vx_bundle::{Command, Setting};
 use vx_check::{CheckedPlan, check, explain};
 use vx_plan::TypedPlan;
-use vx_tables::{Refusal, Tables};
+use vx_refusals::Refusal;
+use vx_tables::Tables;
 
 // What the checker's answer is told as.
 fn accepted_text(alloc: Global, is_total: bool) -> Result<Vec<u8>, AllocError>

@@ -17,4 +17,5 @@ mod work;
 pub use answering::{answer, deliver};
 pub use laws::case_is_refused_by_setup;
 pub use router::ByteRouter;
-pub use vx_tables::{Disk, Refusal, Store, tell};
+pub use vx_bytes::{Disk, Store};
+pub use vx_refusals::{Refusal, tell};

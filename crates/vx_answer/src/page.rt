@@ -3,7 +3,7 @@
 ghost use Rattle.std.specs.Prelude.{◌≡◌, [], Some, false};
 
 use std::alloc::Global;
-use vx_rows::{Broken, ByteOut};
+use vx_bytes::{Broken, ByteOut};
 
 /// A text that grows in memory. It fails where a growth was refused.
 #[derive(Drop)]

@@ -2,9 +2,9 @@
 
 ghost use Rattle.std.specs.Prelude.{◌≡◌, true, map, IfOk, IfErr};
 ghost use Rattle.vx_catalog.specs.Csv.{csv_text};
-ghost use Rattle.vx_nodes.specs.Outline.{columns};
-ghost use Rattle.vx_typed.specs.TypedView.{plan as plan_of_typed, resolved_of};
-ghost use Rattle.vx_rules.specs.CheckedView.{typed_plan};
+ghost use Rattle.vx_plan_nodes.specs.Outline.{columns};
+ghost use Rattle.vx_plan_nodes.specs.TypedView.{plan as plan_of_typed, resolved_of};
+ghost use Rattle.vx_check_rules.specs.CheckedView.{typed_plan};
 ghost use Rattle.vx_setup.specs.Runnable.{can_run};
 ghost use Rattle.vx_bundle.specs.Setting.{size_form};
 ghost use Rattle.vx_answer.specs.Commanded.{IsRunOver, RunRefuses, IsRun, PlanRefuses, setup_of};
@@ -17,8 +17,9 @@ use vx_catalog::{Database, write_rows};
 use vx_check::CheckedPlan;
 use vx_exec::{Ran, Setup, run_rounds};
 use vx_plan::TypedPlan;
+use vx_refusals::Refusal;
 use vx_rows::Rows;
-use vx_tables::{Refusal, Tables, load_tables};
+use vx_tables::{Tables, load_tables};
 
 // The most rounds of a run.
 const MAX_ROUNDS: u64 = 1_000_000_000;

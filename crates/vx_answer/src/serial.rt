@@ -1,14 +1,15 @@
 //! Evaluations of plans over tables.
 
 ghost use Rattle.std.specs.Prelude.{IfOk, IfErr};
-ghost use Rattle.vx_typed.specs.TypedView.{resolved_of};
+ghost use Rattle.vx_plan_nodes.specs.TypedView.{resolved_of};
 ghost use Rattle.vx_answer.specs.Commanded.{IsSerial, SerialRefuses};
 
 use crate::run::text_of;
 use std::alloc::Global;
 use vx_plan::{TypedPlan, erase};
+use vx_refusals::Refusal;
 use vx_serial::eval;
-use vx_tables::{Refusal, Tables, load_tables};
+use vx_tables::{Tables, load_tables};
 
 /// The text of the rows of a plan without its exchanges over tables, under the names of the plan.
 pub fn serial_plan<T: Tables>(

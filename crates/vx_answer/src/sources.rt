@@ -1,23 +1,23 @@
 //! A catalog and a plan from files and standard input.
 
 ghost use Rattle.std.specs.Prelude.{◌≡◌, true, false, codes, IfOk, IfErr, IsErrOf};
-ghost use Rattle.vx_rows.specs.Ports.{IsAll};
-ghost use Rattle.vx_document.specs.Fault.{Gives};
-ghost use Rattle.vx_typed.specs.TypedView.{resolved_of};
-ghost use Rattle.vx_nodes.specs.Outline.{plan_in};
+ghost use Rattle.vx_bytes.specs.Ports.{IsAll};
+ghost use Rattle.vx_plan_json.specs.Fault.{Gives};
+ghost use Rattle.vx_plan_nodes.specs.TypedView.{resolved_of};
+ghost use Rattle.vx_plan_nodes.specs.Outline.{plan_in};
 ghost use Rattle.vx_setup.specs.Runnable.{can_run};
 ghost use Rattle.vx_words.specs.Asked.{paths_are};
-ghost use Rattle.vx_tables.specs.Stored.{IfBytes};
+ghost use Rattle.vx_bytes.specs.Stored.{IfBytes};
 ghost use Rattle.vx_answer.specs.Worded.{is_input, left_of, told_at, plan_text, IsFileRefusal, IsInputRefusal, Untaken, UnplannedIn, IsPlannedIn, catalog_told, plan_told};
 
 use crate::answering::MAX_BYTES;
 use crate::unrunnable::test_taken;
 use std::alloc::Global;
 use vx_bundle::Command;
+use vx_bytes::{ByteIn, ReadFault, Store, read_all};
 use vx_catalog::Catalog;
 use vx_plan::{Plan, PlanFault, TypedPlan, resolve};
-use vx_rows::{ByteIn, ReadFault, read_all};
-use vx_tables::{Refusal, Store};
+use vx_refusals::Refusal;
 use vx_words::Sources;
 
 // The path of standard input.

@@ -1,15 +1,15 @@
 //! Plans with operators that workers do not run so far.
 
 ghost use Rattle.std.specs.Prelude.{◌≡◌, ◌++◌, codes, string_bytes, IfOk};
-ghost use Rattle.vx_document.specs.Document.{tree_of};
-ghost use Rattle.vx_document.specs.Fault.{Gives, Reads};
-ghost use Rattle.vx_document.specs.PlanView.{document_of};
+ghost use Rattle.vx_plan_json.specs.Document.{tree_of};
+ghost use Rattle.vx_plan_json.specs.Fault.{Gives, Reads};
+ghost use Rattle.vx_plan_json.specs.PlanView.{document_of};
 ghost use Rattle.vx_answer.specs.Unrunnable.{first_unrunnable, taken_by};
 
 use std::alloc::{AllocError, Global};
 use vx_bundle::Command;
-use vx_document::{NamedKind, NamedUnary, Node};
 use vx_plan::{Plan, PlanFault};
+use vx_plan_json::{NamedKind, NamedUnary, Node};
 
 // The path of a node's input.
 fn path_of_input(alloc: Global, path: &str) -> Result<String, AllocError>

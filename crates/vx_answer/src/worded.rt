@@ -16,8 +16,9 @@ use clap::Error;
 use clap::error::ErrorKind;
 use std::alloc::{AllocError, Global};
 use vx_bundle::{Command, MORSEL, Mode, PACKET, SLACK, Setting};
-use vx_rows::ByteIn;
-use vx_tables::{Folder, Refusal, Store};
+use vx_bytes::{ByteIn, Store};
+use vx_refusals::Refusal;
+use vx_tables::Folder;
 use vx_words::{Asked, Limits, Sources, asked_for};
 
 /// A command over the catalog, the plan and the folder of tables that words name.

@@ -2,8 +2,8 @@
 
 ghost use Rattle.std.specs.Prelude.{◌≡◌, IfOk, IfErr};
 ghost use Rattle.vx_bundle.specs.BundleView.{bundle_form};
-ghost use Rattle.vx_document.specs.Fault.{Gives};
-ghost use Rattle.vx_typed.specs.TypedView.{resolved_of};
+ghost use Rattle.vx_plan_json.specs.Fault.{Gives};
+ghost use Rattle.vx_plan_nodes.specs.TypedView.{resolved_of};
 ghost use Rattle.vx_answer.specs.Answer.{plan_for, IsPlanned, Unplanned, is_taken, IsOutput, Refuses, IsAnswer, IsRefused};
 
 use crate::command::carried_out;
@@ -12,7 +12,7 @@ use std::alloc::Global;
 use vx_bundle::{Bundle, Command, Mode, bundle_in, value_of_text};
 use vx_catalog::Catalog;
 use vx_plan::{Plan, PlanFault, TypedPlan, resolve};
-use vx_tables::Refusal;
+use vx_refusals::Refusal;
 
 // The plan of a bundle over its catalog.
 fn plan_for(alloc: Global, bundle: &Bundle<'_>, catalog: &Catalog) -> Result<TypedPlan, PlanFault>

@@ -1,6 +1,6 @@
 -- The bytes of a port, counted as they are taken.
 use Rattle.std.specs.Prelude.{◌≡◌, ℕ, ◌+◌, ◌==◌, ◌≤◌, nat_le, List, length, Option, Some, None, IsSome, if◌then◌else◌, Bool, true, false, ◌&&◌, ◌||◌, not, Result, Err, ◌⊎◌}
-use Rattle.vx_rows.specs.Ports.{IsOver}
+use Rattle.vx_bytes.specs.Ports.{IsOver}
 use Rattle.vx_catalog.specs.Loading.{max_bytes}
 use Rattle.vx_catalog.specs.declared.fault.LoadFault.{LoadFault}
 use Rattle.vx_catalog.specs.declared.fault.LoadFault.TheVariants as fault

@@ -1,7 +1,7 @@
 -- Databases: for each relation of a catalog rows that meet it.
 use Rattle.std.specs.Prelude.{◌≡◌, ℕ, ◌<◌, ◌≤◌, List, [], length, slice_index_or, slice_set}
 use Rattle.vx_values.specs.Values.{Row}
-use Rattle.vx_rows.specs.View.{Table}
+use Rattle.vx_rows.specs.View.{RowsView}
 use Rattle.vx_relations.specs.Relation.{Relation, Meets}
 use Rattle.vx_relations.specs.Catalog.{relation_at}
 use Rattle.vx_catalog.specs.Loading.{max_rows}
@@ -13,7 +13,7 @@ pub record LoadedRows : Type 0 where
   pub rows : List Row
 
 -- these are rows of the relation with this number: they meet it, and they are no more than a relation may have
-pub record IsLoaded (catalog : List Relation) (relation : ℕ) (rows : Table) : Type 0 where
+pub record IsLoaded (catalog : List Relation) (relation : ℕ) (rows : RowsView) : Type 0 where
   pub there : relation < length catalog
   pub types : rows.types ≡ (relation_at catalog relation).types
   pub meets : Meets (relation_at catalog relation) rows.rows
@@ -36,10 +36,10 @@ MeetsAll db = (relation : ℕ) → Meets (relation_at db.catalog relation) (rows
 abbrev pub with_rows : Database → ℕ → List Row → Database
 with_rows db relation rows = record { catalog = db.catalog; rows = slice_set db.rows relation rows }
 
-abbrev pub no_rows : Table
+abbrev pub no_rows : RowsView
 no_rows = record { types = []; rows = [] }
 
 -- for each relation rows that meet it, and no more
-pub record IsDatabase (catalog : List Relation) (tables : List Table) : Type 0 where
+pub record IsDatabase (catalog : List Relation) (tables : List RowsView) : Type 0 where
   pub many : length tables ≡ length catalog
   pub loaded : (i : ℕ) → i < length catalog → IsLoaded catalog i (slice_index_or tables i no_rows)

@@ -3,7 +3,7 @@
 ghost use Rattle.std.specs.Prelude.{◌≡◌, ◌⊎◌, ℕ, List, Option, None, Bool, Err, true, false};
 ghost use Rattle.std.specs.Io.KnownBytes.{IsAtEnd};
 ghost use Rattle.std.specs.Borrow.{GName};
-ghost use Rattle.vx_rows.specs.Ports.{IsOver};
+ghost use Rattle.vx_bytes.specs.Ports.{IsOver};
 ghost use Rattle.vx_catalog.specs.Loading.{max_bytes};
 ghost use Rattle.vx_catalog.specs.Counting.{is_within, left_of, StaysKnown, Settles};
 
@@ -11,7 +11,8 @@ use crate::fault::LoadFault;
 use std::io;
 use std::io::{ErrorKind, Read};
 use std::marker::{Brand, PhantomData};
-use vx_rows::{ByteIn, Rows};
+use vx_bytes::ByteIn;
+use vx_rows::Rows;
 
 // The most bytes that a text may have.
 const MAX_BYTES: usize = 1 << 40;

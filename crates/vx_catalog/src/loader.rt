@@ -20,8 +20,9 @@ use csv::{ByteRecord, Reader, ReaderBuilder};
 use std::alloc::Global;
 use std::io::Read;
 use std::marker::{Brand, Model};
+use vx_bytes::ByteIn;
 use vx_relations::{Catalog, Relation};
-use vx_rows::{ByteIn, Rows, compare_on};
+use vx_rows::{Rows, compare_on};
 
 // The rows under a text's header. Want of memory is told where the source underneath failed too.
 fn read_text<S: Read>(

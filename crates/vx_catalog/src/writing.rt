@@ -13,7 +13,8 @@ use crate::fault::WriteFault;
 use csv::{StringRecord, Writer, WriterBuilder};
 use itoa::Buffer;
 use std::alloc::{AllocError, Global};
-use vx_rows::{ByteOut, Cell, Rows, write_all};
+use vx_bytes::{ByteOut, write_all};
+use vx_rows::{Cell, Rows};
 
 // Adds the text of a value to a record.
 fn push_cell(line: &mut StringRecord, cell: Cell<'_>) -> Result<(), AllocError>

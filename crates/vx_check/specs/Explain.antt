@@ -5,10 +5,10 @@ use Rattle.serde_json.specs.Data.{string}
 use Rattle.serde_json.specs.Written.{compact_text}
 use Rattle.vx_values.specs.Values.{Val, num, text, Name}
 use Rattle.vx_relations.specs.Catalog.{relation_at}
-use Rattle.vx_nodes.specs.Plan.{Size, one_worker, group_of, Route, by_hash, by_range, Part, one, any, all, routed, Claim, Side, column, constant, Condition, Aggregate, least, greatest, sum, count_rows, Unary, select, project, distinct, sort, group, Binary, union, join, Kind, route_to, round, broadcast, gather, size}
+use Rattle.vx_plan_nodes.specs.Plan.{Size, one_worker, group_of, Route, by_hash, by_range, Part, one, any, all, routed, Claim, Side, column, constant, Condition, Aggregate, least, greatest, sum, count_rows, Unary, select, project, distinct, sort, group, Binary, union, join, ExchangeKind, route_to, round, broadcast, gather, size}
 use Rattle.vx_values.specs.Test.{test_text}
-use Rattle.vx_typed.specs.Names.{Names}
-use Rattle.vx_nodes.specs.Outline.{Outline, scan, unary, binary, exchange, top, columns, plan_in}
+use Rattle.vx_plan_nodes.specs.Names.{Names}
+use Rattle.vx_plan_nodes.specs.Outline.{Outline, scan, unary, binary, exchange, top, columns, plan_in}
 
 -- the name with this number
 abbrev pub name_at : List Name → ℕ → Name
@@ -110,7 +110,7 @@ binary_text lefts rights union = codes "union"
 binary_text lefts rights (join merging on) =
     cond merging (codes "merge-join [") (codes "hash-join [") ++ (separated (codes ",") false (map (pair_text lefts rights) on) ++ codes "]")
 
-abbrev pub kind_text : Names → List Name → Kind → List ℕ
+abbrev pub kind_text : Names → List Name → ExchangeKind → List ℕ
 kind_text s inputs (route_to z r cols) = route_text s r ++ list_text inputs cols
 kind_text s inputs (round z) = codes "round"
 kind_text s inputs (broadcast z) = codes "broadcast"

@@ -1,7 +1,7 @@
 -- The text that explains a typed plan.
 use Rattle.std.specs.Prelude.{ℕ, List}
-use Rattle.vx_typed.specs.declared.typed_plan.TypedPlan.{TypedPlan}
-use Rattle.vx_typed.specs.TypedView.{resolved_of}
+use Rattle.vx_plan_nodes.specs.declared.typed_plan.TypedPlan.{TypedPlan}
+use Rattle.vx_plan_nodes.specs.TypedView.{resolved_of}
 use Rattle.vx_check.specs.Explain.{explain_text}
 
 abbrev pub plan_text : TypedPlan → List ℕ

@@ -3,16 +3,18 @@
 ghost use Rattle.std.specs.Prelude.{◌≡◌, ◌++◌, ◌+◌, ◌<◌, ◌^◌, map, string_bytes, length, OnOk, codes, false};
 ghost use Rattle.vx_values.specs.ValueView.{val_of};
 ghost use Rattle.vx_relations.specs.Catalog.{relation_at};
-ghost use Rattle.vx_nodes.specs.Outline.{condition_of, aggregate_of, unary_of, renamed_of, binary_of, kind_of};
-ghost use Rattle.vx_typed.specs.TypedView.{names_in};
+ghost use Rattle.vx_plan_nodes.specs.Outline.{condition_of, aggregate_of, unary_of, renamed_of, binary_of, kind_of};
+ghost use Rattle.vx_plan_nodes.specs.TypedView.{names_in};
 ghost use Rattle.vx_check.specs.Explain.{name_at, separated, value_text, condition_text, kept_text, kept_texts, function_text, aggregate_texts, aggregates_text, unary_text, pair_text, binary_text, kind_text, merge_text, scan_text, prefix_text};
 
 use crate::words::{name_at, push_between, push_list, push_routed};
 use itoa::Buffer;
 use std::alloc::{AllocError, Global};
-use vx_nodes::{Aggregate, Binary, Condition, Exchange, Kept, Kind, Scan, Side, Unary};
+use vx_plan_nodes::{
+    Aggregate, Binary, Condition, Exchange, ExchangeKind, Projected, ScanNode, Side, TypedPlan,
+    Unary,
+};
 use vx_rows::Value;
-use vx_typed::TypedPlan;
 
 // Adds a number in plain decimal, or a text as `serde_json` writes it.
 fn push_value(alloc: Global, text: &mut String, value: &Value) -> Result<(), AllocError>
@@ -87,7 +89,7 @@ fn push_kept_columns(
     text: &mut String,
     inputs: &[String],
     outputs: &[String],
-    kept: &[Kept],
+    kept: &[Projected],
 ) -> Result<(), AllocError>
     ensures { OnOk result (string_bytes text.new ≡ string_bytes text.old ++ separated (codes ",") false (kept_texts (map string_bytes inputs.now) (map string_bytes outputs.now) 0 (map (λ k. k.column) kept.now) (map (λ k. k.renamed) kept.now))) }
 {
@@ -109,7 +111,7 @@ fn push_kept(
     word: &str,
     inputs: &[String],
     outputs: &[String],
-    kept: &[Kept],
+    kept: &[Projected],
 ) -> Result<(), AllocError>
     ensures { OnOk result (string_bytes text.new ≡ string_bytes text.old ++ (word.now ++ (separated (codes ",") false (kept_texts (map string_bytes inputs.now) (map string_bytes outputs.now) 0 (map (λ k. k.column) kept.now) (map (λ k. k.renamed) kept.now)) ++ codes "]"))) }
 {
@@ -255,21 +257,21 @@ fn push_kind(
     text: &mut String,
     plan: &TypedPlan,
     inputs: &[String],
-    kind: &Kind,
+    kind: &ExchangeKind,
 ) -> Result<(), AllocError>
     ensures { OnOk result (string_bytes text.new ≡ string_bytes text.old ++ kind_text (names_in plan.now) (map string_bytes inputs.now) (kind_of kind.now)) }
 {
     match kind {
-        Kind::Route(_, route, columns) => push_routed(
+        ExchangeKind::Route(_, route, columns) => push_routed(
             text,
             plan,
             inputs,
             route,
             columns.as_slice(),
         ),
-        Kind::Round(_) => text.push_str("round"),
-        Kind::Broadcast(_) => text.push_str("broadcast"),
-        Kind::Gather => text.push_str("gather"),
+        ExchangeKind::Round(_) => text.push_str("round"),
+        ExchangeKind::Broadcast(_) => text.push_str("broadcast"),
+        ExchangeKind::Gather => text.push_str("gather"),
     }
 }
 
@@ -320,7 +322,7 @@ fn push_relation(text: &mut String, plan: &TypedPlan, relation: usize) -> Result
 }
 
 /// Adds a scan.
-pub fn push_scan(text: &mut String, plan: &TypedPlan, scan: &Scan) -> Result<(), AllocError>
+pub fn push_scan(text: &mut String, plan: &TypedPlan, scan: &ScanNode) -> Result<(), AllocError>
     ensures { OnOk result (string_bytes text.new ≡ string_bytes text.old ++ scan_text (names_in plan.now) scan.now.relation scan.now.shared (string_bytes scan.now.prefix)) }
 {
     text.push_str("scan ")?;

@@ -1,20 +1,19 @@
 //! The text that explains a plan.
 
 ghost use Rattle.std.specs.Prelude.{◌≡◌, ◌++◌, map, string_bytes, codes, decimal, OnOk, IfOk};
-ghost use Rattle.vx_nodes.specs.Plan.{size};
-ghost use Rattle.vx_nodes.specs.Outline.{outline_of, plan_of, columns, top};
-ghost use Rattle.vx_typed.specs.TypedView.{names_in};
+ghost use Rattle.vx_plan_nodes.specs.Plan.{size};
+ghost use Rattle.vx_plan_nodes.specs.Outline.{outline_of, plan_of, columns, top};
+ghost use Rattle.vx_plan_nodes.specs.TypedView.{names_in};
 ghost use Rattle.vx_check.specs.Explain.{size_text, claim_text, description, line_text, lines};
-ghost use Rattle.vx_rules.specs.CheckedView.{typed_plan};
+ghost use Rattle.vx_check_rules.specs.CheckedView.{typed_plan};
 ghost use Rattle.vx_check.specs.PlanText.{plan_text};
 
 use crate::describe::{push_binary, push_exchange, push_scan, push_unary};
 use crate::words::{push_claim, push_size};
 use itoa::Buffer;
 use std::alloc::{AllocError, Global};
-use vx_nodes::TypedNode;
-use vx_rules::CheckedPlan;
-use vx_typed::TypedPlan;
+use vx_check_rules::CheckedPlan;
+use vx_plan_nodes::{TypedNode, TypedPlan};
 
 // The names of the node's output columns.
 fn column_names(node: &TypedNode) -> &[String]

@@ -6,4 +6,4 @@ mod explaining;
 mod words;
 
 pub use explaining::explain;
-pub use vx_rules::{CheckedPlan, Refused, Rule, check};
+pub use vx_check_rules::{CheckedPlan, Refused, Rule, check};

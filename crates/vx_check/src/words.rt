@@ -1,13 +1,12 @@
 //! Words of the text that explains a plan: names, lists of columns, sizes, parts and claims.
 
 ghost use Rattle.std.specs.Prelude.{◌≡◌, ◌++◌, [], map, string_bytes, OnOk, cond, codes, false};
-ghost use Rattle.vx_nodes.specs.Outline.{size_of, route_of, part_of, claim_of};
-ghost use Rattle.vx_typed.specs.TypedView.{names_in};
+ghost use Rattle.vx_plan_nodes.specs.Outline.{size_of, route_of, part_of, claim_of};
+ghost use Rattle.vx_plan_nodes.specs.TypedView.{names_in};
 ghost use Rattle.vx_check.specs.Explain.{name_at, separated, list_text, size_text, route_text, part_text, keys_text, claim_text};
 
 use std::alloc::AllocError;
-use vx_nodes::{Claim, Part, Route, Size};
-use vx_typed::TypedPlan;
+use vx_plan_nodes::{Claim, Part, Route, Size, TypedPlan};
 
 /// The name with this number; past the end the empty one.
 pub fn name_at(names: &[String], number: usize) -> &str

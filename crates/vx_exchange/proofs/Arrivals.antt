@@ -12,8 +12,8 @@ use Rattle.vx_values.specs.Values.{Row}
 use Rattle.vx_rows.specs.Order.{sorted, compare_on}
 use Rattle.vx_rows.specs.Lists.{IsBeginning}
 use Rattle.vx_values.specs.declared.value.ColType.{ColType}
-use Rattle.vx_nodes.specs.Streams.{Dealt, bearing}
-use Rattle.vx_ports.specs.Packets.{brings, last, fault, Parcel, content_rows, rows_of, is_last, is_fault, has_last, has_fault}
+use Rattle.vx_plan_nodes.specs.Streams.{Dealt, bearing}
+use Rattle.vx_ports.specs.Packets.{brings, last, fault, PacketView, content_rows, rows_of, is_last, is_fault, has_last, has_fault}
 use Rattle.vx_ops.specs.Ledger.{Ledger, ConsumerEnd, receive, Makes, Begun, OwnBlame, IsFor, Came}
 use Rattle.vx_ops.specs.Begun.{begun_whole}
 use Rattle.vx_ops.specs.Turn.{fresh_ledger, with_packet, after}
@@ -40,20 +40,20 @@ sorted-on_none (x ∷ xs) = rw (all-equal xs, sorted-on_none xs) refl
     all-equal [] = refl
     all-equal (y ∷ ys) = all-equal ys
 
-rows_of-push : (ps : List Parcel) (p : Parcel) → rows_of (ps ++ p ∷ []) ≡ rows_of ps ++ content_rows p.content
+rows_of-push : (ps : List PacketView) (p : PacketView) → rows_of (ps ++ p ∷ []) ≡ rows_of ps ++ content_rows p.content
 rows_of-push [] p = append-nil (content_rows p.content)
 rows_of-push (q ∷ ps) p = ap (λ ys. content_rows q.content ++ ys) (rows_of-push ps p) ∙ sym (append_assoc (content_rows q.content) (rows_of ps) (content_rows p.content))
 
-has_last-push : (ps : List Parcel) (p : Parcel) → is_last p.content ≡ true → has_last (ps ++ p ∷ []) ≡ true
+has_last-push : (ps : List PacketView) (p : PacketView) → is_last p.content ≡ true → has_last (ps ++ p ∷ []) ≡ true
 has_last-push [] p e = rw e refl
 has_last-push (q ∷ ps) p e = let r = has_last-push ps p e in grind (arith, r)
 
-has_fault-push : (ps : List Parcel) (p : Parcel) → is_fault p.content ≡ true → has_fault (ps ++ p ∷ []) ≡ true
+has_fault-push : (ps : List PacketView) (p : PacketView) → is_fault p.content ≡ true → has_fault (ps ++ p ∷ []) ≡ true
 has_fault-push [] p e = rw e refl
 has_fault-push (q ∷ ps) p e = let r = has_fault-push ps p e in grind (arith, r)
 
 -- a shuffle, after one more packet
-dealt-more : (n i : ℕ) (came : ℕ → List Parcel) (p : Parcel) (out : List Row) → i < n → Dealt n out (λ j. rows_of (came j))
+dealt-more : (n i : ℕ) (came : ℕ → List PacketView) (p : PacketView) (out : List Row) → i < n → Dealt n out (λ j. rows_of (came j))
     → Dealt n (out ++ content_rows p.content) (λ j. rows_of (with_packet came i (Some p) j))
 dealt-more n i came p out lt s =
     let more = content_rows p.content in
@@ -68,18 +68,18 @@ dealt-more n i came p out lt s =
     }
 
 -- what came begins what came with one more packet
-came-more : (j i : ℕ) (came : ℕ → List Parcel) (p : Parcel) (xs : List Row) → IsBeginning xs (rows_of (came j)) → IsBeginning xs (rows_of (with_packet came i (Some p) j))
+came-more : (j i : ℕ) (came : ℕ → List PacketView) (p : PacketView) (xs : List Row) → IsBeginning xs (rows_of (came j)) → IsBeginning xs (rows_of (with_packet came i (Some p) j))
 came-more j i came p xs b = elim (eqb_tells j i) [
   | inl e ↦ rw e.0 (record { rest = b.rest ++ content_rows p.content; joined = sym (append_assoc xs b.rest (content_rows p.content)) ∙ ap (λ ys. ys ++ content_rows p.content) b.joined ∙ sym (rows_of-push (came j) p) })
   | inr e ↦ rw e.0 b
 ]
 
 -- another producer's packets are as they were
-other_came : (j i : ℕ) (came : ℕ → List Parcel) (p : Parcel) → j ≢ i → with_packet came i (Some p) j ≡ came j
+other_came : (j i : ℕ) (came : ℕ → List PacketView) (p : PacketView) → j ≢ i → with_packet came i (Some p) j ≡ came j
 other_came j i came p ne = elim (eqb_tells j i) [ inl e ↦ absurd (ne e.1) | inr e ↦ rw e.0 refl ]
 
 -- this producer's are one more
-this_came : (i : ℕ) (came : ℕ → List Parcel) (p : Parcel) → with_packet came i (Some p) i ≡ came i ++ p ∷ []
+this_came : (i : ℕ) (came : ℕ → List PacketView) (p : PacketView) → with_packet came i (Some p) i ≡ came i ++ p ∷ []
 this_came i came p = rw (eqb-same i) refl
 
 some_differ : (flags : List Bool) (i j : ℕ) → slice_get flags i ≡ Some true → slice_get flags j ≡ Some false → i ≢ j
@@ -93,7 +93,7 @@ flag_elsewhere flags i j ne h =
     let w : get_or flags j false ≡ true = sym (get_or-set_other flags i j true false ne) ∙ v in
     slice_get-get_or flags j false b ∙ ap Some w
 
-module _ (port : ConsumerEnd) (next : ℕ) (flags : List Bool) (packet : Parcel) (l : Ledger) (plain : port.merge ≡ []) where
+module _ (port : ConsumerEnd) (next : ℕ) (flags : List Bool) (packet : PacketView) (l : Ledger) (plain : port.merge ≡ []) where
   unfoldable pub with_one : Ledger → Ledger
   with_one k = record k { came = with_packet k.came next (Some packet) }
 
@@ -142,7 +142,7 @@ module _ (port : ConsumerEnd) (next : ℕ) (flags : List Bool) (packet : Parcel)
         blame = λ f' e. let e' : f ≡ f' = cc in subst (λ g. OwnBlame (receive port) (with_one l) g) e' b;
       }
 
-  came_last : (P : Parcel → Type 0) → P packet → Came P (with_packet l.came next (Some packet) next)
+  came_last : (P : PacketView → Type 0) → P packet → Came P (with_packet l.came next (Some packet) next)
   came_last P h = rw (this_came next l.came packet) (record { front = l.came next; packet = packet; back = []; joined = refl; is = h })
 
   -- it takes no packet but one for it from the producer that it asked
@@ -247,5 +247,5 @@ port-fresh exchange place n types flags e lt =
     })
 
 -- a packet is for an end if its four names are
-pub is-for : (port : ConsumerEnd) (from : ℕ) (p : Parcel) → p.exchange ≡ port.exchange → p.from ≡ from → p.to ≡ port.place → p.types ≡ port.types → IsFor port from p
+pub is-for : (port : ConsumerEnd) (from : ℕ) (p : PacketView) → p.exchange ≡ port.exchange → p.from ≡ from → p.to ≡ port.place → p.types ≡ port.types → IsFor port from p
 is-for port from p a b c d = record { exchange = a; from_is = b; to = c; types = d }

@@ -1,15 +1,15 @@
 -- Closing packets behind what was given.
 use Rattle.std.proofs.Common.{◌≡◌, ℕ, ◌<◌, ◌≤◌, nat_lt, Bool, true, false, cond, List, [], ◌∷◌, ◌++◌, refl, sym, ap, ◌∙◌, arith, lt-ltb, ltb-true}
-use Rattle.vx_ports.specs.Packets.{Content, last, fault, Parcel}
+use Rattle.vx_ports.specs.Packets.{Content, last, fault, PacketView}
 use Rattle.vx_exchange.specs.Ship.{Ship, packet_of}
 use Rattle.vx_exchange.specs.Closing.{closed_by, FaultCutsShort, LastShips}
 
 -- behind the packets of a consumer
-closed-at : (s : Ship) (c : Content) (put : ℕ → List Parcel) (j : ℕ) → j < s.consumers → closed_by s c put j ≡ put j ++ packet_of s j c ∷ []
+closed-at : (s : Ship) (c : Content) (put : ℕ → List PacketView) (j : ℕ) → j < s.consumers → closed_by s c put j ≡ put j ++ packet_of s j c ∷ []
 closed-at s c put j l = ap (λ b. cond b (put j ++ packet_of s j c ∷ []) (put j)) (lt-ltb j s.consumers l)
 
 -- and nowhere else
-closed-past : (s : Ship) (c : Content) (put : ℕ → List Parcel) (j : ℕ) → s.consumers ≤ j → closed_by s c put j ≡ put j
+closed-past : (s : Ship) (c : Content) (put : ℕ → List PacketView) (j : ℕ) → s.consumers ≤ j → closed_by s c put j ≡ put j
 closed-past s c put j l = go (nat_lt j s.consumers) refl
   where
     go : (b : Bool) → nat_lt j s.consumers ≡ b → cond b (put j ++ packet_of s j c ∷ []) (put j) ≡ put j

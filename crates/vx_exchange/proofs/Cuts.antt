@@ -6,9 +6,9 @@ use Rattle.std.proofs.lemmas.List.{map-append, take-append-drop, take-take}
 use Rattle.std.proofs.lemmas.List.Edits.{length-between}
 use Rattle.std.proofs.lemmas.Slice.{between_is}
 use Rattle.vx_values.specs.Values.{Row}
-use Rattle.vx_ports.specs.Packets.{Parcel}
+use Rattle.vx_ports.specs.Packets.{PacketView}
 use Rattle.vx_exchange.specs.Ship.{end_to_end}
-use Rattle.vx_exchange.specs.Outlet.{Way, parcel_at, Cuts, CutsRest}
+use Rattle.vx_exchange.specs.LaneView.{Way, parcel_at, Cuts, CutsRest}
 use Rattle.vx_exchange.specs.Beginnings.{end_to_end-append}
 
 -- the first rows, and then a range of them
@@ -20,12 +20,12 @@ all-append P [] ys h k = k
 all-append P (x ∷ xs) ys h k = (h.0, all-append P xs ys h.1 k)
 
 -- too few rows for a packet
-pub cuts-none : (way : Way) (current : List Row) (ready : List Parcel) (more current' : List Row) (ready' : List Parcel) → current' ≡ current ++ more → ready' ≡ ready
+pub cuts-none : (way : Way) (current : List Row) (ready : List PacketView) (more current' : List Row) (ready' : List PacketView) → current' ≡ current ++ more → ready' ≡ ready
     → Cuts way current ready more current' ready'
 cuts-none way current ready more current' ready' e f = record { full = []; all_full = tt; rows_are = e; ready_are = append-nil ready ∙ sym f }
 
 -- just as many as make one
-pub cuts-one : (way : Way) (current : List Row) (ready : List Parcel) (more current' : List Row) (ready' : List Parcel)
+pub cuts-one : (way : Way) (current : List Row) (ready : List PacketView) (more current' : List Row) (ready' : List PacketView)
     → length (current ++ more) ≡ way.size → current' ≡ [] → ready' ≡ ready ++ parcel_at way (current ++ more) ∷ []
     → Cuts way current ready more current' ready'
 cuts-one way current ready more current' ready' n e f = record {
@@ -40,11 +40,11 @@ pub length-with_range : (current rows : List Row) (a b n : ℕ) → b ≤ length
 length-with_range current rows a b n le e = length-append current (slice_range rows a b) ∙ ap (λ k. length current + k) (length-between rows a b le) ∙ e
 
 -- no more rows
-pub cuts-nothing : (way : Way) (current : List Row) (ready : List Parcel) → Cuts way current ready [] current ready
+pub cuts-nothing : (way : Way) (current : List Row) (ready : List PacketView) → Cuts way current ready [] current ready
 cuts-nothing way current ready = record { full = []; all_full = tt; rows_are = sym (append-nil current); ready_are = append-nil ready }
 
 -- one after the other
-pub cuts-both : (way : Way) (current : List Row) (ready : List Parcel) (xs current' : List Row) (ready' : List Parcel) (ys current'' : List Row) (ready'' : List Parcel)
+pub cuts-both : (way : Way) (current : List Row) (ready : List PacketView) (xs current' : List Row) (ready' : List PacketView) (ys current'' : List Row) (ready'' : List PacketView)
     → Cuts way current ready xs current' ready' → Cuts way current' ready' ys current'' ready'' → Cuts way current ready (xs ++ ys) current'' ready''
 cuts-both way current ready xs current' ready' ys current'' ready'' a b = record {
   full = a.full ++ b.full;
@@ -56,9 +56,9 @@ cuts-both way current ready xs current' ready' ys current'' ready'' a b = record
 }
 
 -- nothing is left
-pub rest-none : (way : Way) (current : List Row) (ready ready' : List Parcel) → current ≡ [] → ready' ≡ ready → CutsRest way current ready ready'
+pub rest-none : (way : Way) (current : List Row) (ready ready' : List PacketView) → current ≡ [] → ready' ≡ ready → CutsRest way current ready ready'
 rest-none way current ready ready' e f = record { rest = []; at_most_one = omega arith; shorter = tt; rows_are = sym e; ready_are = append-nil ready ∙ sym f }
 
 -- some rows are left
-pub rest-one : (way : Way) (current : List Row) (ready ready' : List Parcel) → 0 < length current → length current < way.size → ready' ≡ ready ++ parcel_at way current ∷ [] → CutsRest way current ready ready'
+pub rest-one : (way : Way) (current : List Row) (ready ready' : List PacketView) → 0 < length current → length current < way.size → ready' ≡ ready ++ parcel_at way current ∷ [] → CutsRest way current ready ready'
 rest-one way current ready ready' some less f = record { rest = current ∷ []; at_most_one = omega arith; shorter = ((some, less), tt); rows_are = append-nil current; ready_are = sym f }

@@ -4,7 +4,7 @@ use Rattle.std.specs.List.{list_all}
 use Rattle.std.proofs.lemmas.List.{map-append}
 use Rattle.std.proofs.lemmas.Bool.Decides.{nat_tests}
 use Rattle.vx_values.specs.Values.{Row}
-use Rattle.vx_nodes.specs.Streams.{bearing}
+use Rattle.vx_plan_nodes.specs.Streams.{bearing}
 
 -- each of these rows with this number
 abbrev pub numbered_same : (i : ℕ) → List Row → List (ℕ × Row)

@@ -10,11 +10,11 @@ use Rattle.std.proofs.lemmas.List.{length-map, set-get_or}
 use Rattle.std.proofs.lemmas.List.Elements.{All-get_or, All-set}
 use Rattle.std.proofs.lemmas.Option.{none-some, same_Some, slice_get-map, slice_get_within, slice_get-get_or, get_or_from_slice_get}
 use Rattle.vx_values.specs.Values.{Row}
-use Rattle.vx_nodes.specs.Plan.{Kind, gather}
-use Rattle.vx_nodes.specs.Routes.{Router}
-use Rattle.vx_ports.specs.Packets.{Content, Parcel, is_empty}
+use Rattle.vx_plan_nodes.specs.Plan.{ExchangeKind, gather}
+use Rattle.vx_plan_nodes.specs.Routes.{Router}
+use Rattle.vx_ports.specs.Packets.{Content, PacketView, is_empty}
 use Rattle.vx_exchange.specs.Ship.{Ship}
-use Rattle.vx_exchange.specs.Outlet.{Way, Outlet, empty_outlet, Cuts, CutsRest}
+use Rattle.vx_exchange.specs.LaneView.{Way, LaneView, empty_outlet, Cuts, CutsRest}
 use Rattle.vx_exchange.specs.Lanes.{IsLane, ways_of, closings_of, any_closed, are_idle, first_way, ship_of, way_to, kind_of, serves, may_close, AreNumbered, AreFresh, SameLanes, Deals, GivesPacket, GivesClosing}
 use Rattle.vx_exchange.specs.LaneLaws.{element_at, open_at}
 use Rattle.vx_exchange.specs.declared.deal.Deal.{Deal}
@@ -78,68 +78,68 @@ read-map : {X Y : Type 0} (f : X → Y) (xs : List X) (j : ℕ) (x : X) → slic
 read-map f xs j x e = slice_get-map f xs j ∙ ap (option_map f) e
 
 -- the same lanes
-pub same-refl : (lanes : List Outlet) → SameLanes lanes lanes
+pub same-refl : (lanes : List LaneView) → SameLanes lanes lanes
 same-refl lanes = record { ways = refl; closings = refl }
 
-pub same-along : (a b c : List Outlet) → SameLanes a b → SameLanes b c → SameLanes a c
+pub same-along : (a b c : List LaneView) → SameLanes a b → SameLanes b c → SameLanes a c
 same-along a b c h k = record { ways = k.ways ∙ h.ways; closings = k.closings ∙ h.closings }
 
-pub same-set : (lanes : List Outlet) (i : ℕ) (o o' : Outlet) → o ≡ get_or lanes i o → o'.way ≡ o.way → o'.closed ≡ o.closed → SameLanes lanes (set lanes i o')
+pub same-set : (lanes : List LaneView) (i : ℕ) (o o' : LaneView) → o ≡ get_or lanes i o → o'.way ≡ o.way → o'.closed ≡ o.closed → SameLanes lanes (set lanes i o')
 same-set lanes i o o' e w c = record {
-  ways = map-set_same (λ (z : Outlet). z.way) lanes i o' o (w ∙ ap (λ (z : Outlet). z.way) e);
-  closings = map-set_same (λ (z : Outlet). z.closed) lanes i o' o (c ∙ ap (λ (z : Outlet). z.closed) e);
+  ways = map-set_same (λ (z : LaneView). z.way) lanes i o' o (w ∙ ap (λ (z : LaneView). z.way) e);
+  closings = map-set_same (λ (z : LaneView). z.closed) lanes i o' o (c ∙ ap (λ (z : LaneView). z.closed) e);
 }
 
-pub ways-count : (old new : List Outlet) → ways_of new ≡ ways_of old → length new ≡ length old
-ways-count old new w = sym (length-map new (λ (z : Outlet). z.way)) ∙ ap (λ (ws : List Way). length ws) w ∙ length-map old (λ (z : Outlet). z.way)
+pub ways-count : (old new : List LaneView) → ways_of new ≡ ways_of old → length new ≡ length old
+ways-count old new w = sym (length-map new (λ (z : LaneView). z.way)) ∙ ap (λ (ws : List Way). length ws) w ∙ length-map old (λ (z : LaneView). z.way)
 
-pub same-count : (old new : List Outlet) → SameLanes old new → length new ≡ length old
+pub same-count : (old new : List LaneView) → SameLanes old new → length new ≡ length old
 same-count old new s = ways-count old new s.ways
 
 -- a lane of the new ones was there before
-pub lane-before : (old new : List Outlet) → SameLanes old new → (j : ℕ) (o' : Outlet) → IsLane new j o' → (o : Outlet) × IsLane old j o
+pub lane-before : (old new : List LaneView) → SameLanes old new → (j : ℕ) (o' : LaneView) → IsLane new j o' → (o : LaneView) × IsLane old j o
 lane-before old new s j o' e = let P : ℕ → Type 0 = λ n. j < n in element_at old j (subst P (same-count old new s) (slice_get_within new j o' e))
 
-pub same-way : (old new : List Outlet) → SameLanes old new → (j : ℕ) (o o' : Outlet) → IsLane old j o → IsLane new j o' → o'.way ≡ o.way
+pub same-way : (old new : List LaneView) → SameLanes old new → (j : ℕ) (o o' : LaneView) → IsLane old j o → IsLane new j o' → o'.way ≡ o.way
 same-way old new s j o o' e e' =
-    let f : Outlet → Way = λ z. z.way in
+    let f : LaneView → Way = λ z. z.way in
     same_Some (o'.way) (o.way) (sym (read-map f new j o' e') ∙ ap (λ ws. slice_get ws j) s.ways ∙ read-map f old j o e)
 
-pub same-ship : (deal deal' : Deal) (old new : List Outlet) → deal' ≡ deal → SameLanes old new → ship_of deal' (ways_of new) ≡ ship_of deal (ways_of old)
+pub same-ship : (deal deal' : Deal) (old new : List LaneView) → deal' ≡ deal → SameLanes old new → ship_of deal' (ways_of new) ≡ ship_of deal (ways_of old)
 same-ship deal deal' old new d s = ap (λ z. ship_of z (ways_of new)) d ∙ ap (ship_of deal) s.ways
 
-pub same-any : (old new : List Outlet) → SameLanes old new → any_closed new ≡ any_closed old
+pub same-any : (old new : List LaneView) → SameLanes old new → any_closed new ≡ any_closed old
 same-any old new s = ap (λ (bs : List Bool). list_any (λ b. b) bs) s.closings
 
-pub served-same : (deal : Deal) (old new : List Outlet) → length new ≡ length old → serves deal (length old) ≡ true → serves deal (length new) ≡ true
+pub served-same : (deal : Deal) (old new : List LaneView) → length new ≡ length old → serves deal (length old) ≡ true → serves deal (length new) ≡ true
 served-same deal old new e h = let P : ℕ → Type 0 = λ n. serves deal n ≡ true in subst P (sym e) h
 
-pub few-same : (old new : List Outlet) (most : ℕ) → length new ≡ length old → length old < most → length new < most
+pub few-same : (old new : List LaneView) (most : ℕ) → length new ≡ length old → length old < most → length new < most
 few-same old new most e h = let P : ℕ → Type 0 = λ n. n < most in subst P (sym e) h
 
 -- each leads to its consumer
-pub numbered-way : (deal : Deal) (lanes : List Outlet) → AreNumbered deal (ways_of lanes) → (j : ℕ) (o : Outlet) → IsLane lanes j o → o.way ≡ way_to (ship_of deal (ways_of lanes)) j
-numbered-way deal lanes n j o e = n j o.way (read-map (λ (z : Outlet). z.way) lanes j o e)
+pub numbered-way : (deal : Deal) (lanes : List LaneView) → AreNumbered deal (ways_of lanes) → (j : ℕ) (o : LaneView) → IsLane lanes j o → o.way ≡ way_to (ship_of deal (ways_of lanes)) j
+numbered-way deal lanes n j o e = n j o.way (read-map (λ (z : LaneView). z.way) lanes j o e)
 
-pub numbered-same : (deal deal' : Deal) (old new : List Outlet) → deal' ≡ deal → SameLanes old new → AreNumbered deal (ways_of old) → AreNumbered deal' (ways_of new)
+pub numbered-same : (deal deal' : Deal) (old new : List LaneView) → deal' ≡ deal → SameLanes old new → AreNumbered deal (ways_of old) → AreNumbered deal' (ways_of new)
 numbered-same deal deal' old new d s n =
     subst (λ z. AreNumbered z (ways_of new)) (sym d) (subst (λ (ws : List Way). AreNumbered deal ws) (sym s.ways) n)
 
 -- where none has closed
-pub all-open : (lanes : List Outlet) → any_closed lanes ≡ false → All (λ o. o.closed ≡ false) lanes
+pub all-open : (lanes : List LaneView) → any_closed lanes ≡ false → All (λ o. o.closed ≡ false) lanes
 all-open lanes e = all-from_lanes (λ o. o.closed ≡ false) lanes (λ j o h. open_at lanes j o e h)
 
 or-right : (a : Bool) → (a || true) ≡ true
 or-right true = refl
 or-right false = refl
 
-pub closed-somewhere : (lanes : List Outlet) (j : ℕ) (o : Outlet) → IsLane lanes j o → o.closed ≡ true → any_closed lanes ≡ true
+pub closed-somewhere : (lanes : List LaneView) (j : ℕ) (o : LaneView) → IsLane lanes j o → o.closed ≡ true → any_closed lanes ≡ true
 closed-somewhere [] j o e c = absurd (none-some o e)
-closed-somewhere (x ∷ lanes) zero o e c = ap (λ (z : Outlet). z.closed || any_closed lanes) (same_Some x o e) ∙ ap (λ b. b || any_closed lanes) c
+closed-somewhere (x ∷ lanes) zero o e c = ap (λ (z : LaneView). z.closed || any_closed lanes) (same_Some x o e) ∙ ap (λ b. b || any_closed lanes) c
 closed-somewhere (x ∷ lanes) (suc j) o e c = ap (λ b. x.closed || b) (closed-somewhere lanes j o e c) ∙ or-right x.closed
 
 -- where nothing waits
-none-waits : (ps : List Parcel) → is_empty ps ≡ true → ps ≡ []
+none-waits : (ps : List PacketView) → is_empty ps ≡ true → ps ≡ []
 none-waits [] e = refl
 none-waits (p ∷ ps) e = absurd (true≢false (sym e))
 
@@ -151,53 +151,53 @@ and-second : (a b : Bool) → (a && b) ≡ true → b ≡ true
 and-second true b e = e
 and-second false b e = absurd (true≢false (sym e))
 
-pub idle-lane : (lanes : List Outlet) (j : ℕ) (o : Outlet) → are_idle lanes ≡ true → IsLane lanes j o → o.ready ≡ []
+pub idle-lane : (lanes : List LaneView) (j : ℕ) (o : LaneView) → are_idle lanes ≡ true → IsLane lanes j o → o.ready ≡ []
 idle-lane [] j o i e = absurd (none-some o e)
-idle-lane (x ∷ lanes) zero o i e = ap (λ (z : Outlet). z.ready) (sym (same_Some x o e)) ∙ none-waits x.ready (and-first (is_empty x.ready) (are_idle lanes) i)
+idle-lane (x ∷ lanes) zero o i e = ap (λ (z : LaneView). z.ready) (sym (same_Some x o e)) ∙ none-waits x.ready (and-first (is_empty x.ready) (are_idle lanes) i)
 idle-lane (x ∷ lanes) (suc j) o i e = idle-lane lanes j o (and-second (is_empty x.ready) (are_idle lanes) i) e
 
-pub idle-from_lanes : (lanes : List Outlet) → ((j : ℕ) (o : Outlet) → IsLane lanes j o → o.ready ≡ []) → are_idle lanes ≡ true
+pub idle-from_lanes : (lanes : List LaneView) → ((j : ℕ) (o : LaneView) → IsLane lanes j o → o.ready ≡ []) → are_idle lanes ≡ true
 idle-from_lanes [] h = refl
 idle-from_lanes (x ∷ lanes) h = ap (λ ps. is_empty ps && are_idle lanes) (h 0 x refl) ∙ idle-from_lanes lanes (λ j o e. h (suc j) o e)
 
-pub all-idle : (lanes : List Outlet) → are_idle lanes ≡ true → All (λ o. o.ready ≡ []) lanes
+pub all-idle : (lanes : List LaneView) → are_idle lanes ≡ true → All (λ o. o.ready ≡ []) lanes
 all-idle lanes i = all-from_lanes (λ o. o.ready ≡ []) lanes (λ j o e. idle-lane lanes j o i e)
 
-pub idle-from_all : (lanes : List Outlet) → All (λ o. o.ready ≡ []) lanes → are_idle lanes ≡ true
+pub idle-from_all : (lanes : List LaneView) → All (λ o. o.ready ≡ []) lanes → are_idle lanes ≡ true
 idle-from_all lanes all = idle-from_lanes lanes (all-lanes (λ o. o.ready ≡ []) lanes all)
 
 -- lanes that were just made
 
-fresh-first : (way : ℕ → Way) (lanes : List Outlet) → 0 < length lanes → ((j : ℕ) (o : Outlet) → IsLane lanes j o → o ≡ empty_outlet (way j)) → first_way (ways_of lanes) ≡ way 0
+fresh-first : (way : ℕ → Way) (lanes : List LaneView) → 0 < length lanes → ((j : ℕ) (o : LaneView) → IsLane lanes j o → o ≡ empty_outlet (way j)) → first_way (ways_of lanes) ≡ way 0
 fresh-first way [] l h = absurd (omega (arith, l))
-fresh-first way (o ∷ lanes) l h = ap (λ (z : Outlet). z.way) (h 0 o refl)
+fresh-first way (o ∷ lanes) l h = ap (λ (z : LaneView). z.way) (h 0 o refl)
 
-abbrev ship_with : Way → ℕ → Kind → Ship
+abbrev ship_with : Way → ℕ → ExchangeKind → Ship
 ship_with w n k = record { exchange = w.exchange; place = w.place; consumers = n; types = w.types; kind = k; size = w.size }
 
 -- they are those of this sending end
-pub fresh-ship : (deal : Deal) (s : Ship) (lanes : List Outlet) → s.kind ≡ kind_of deal → 0 < s.consumers → AreFresh s.consumers (way_to s) lanes → ship_of deal (ways_of lanes) ≡ s
+pub fresh-ship : (deal : Deal) (s : Ship) (lanes : List LaneView) → s.kind ≡ kind_of deal → 0 < s.consumers → AreFresh s.consumers (way_to s) lanes → ship_of deal (ways_of lanes) ≡ s
 fresh-ship deal s lanes k some f =
     let first : first_way (ways_of lanes) ≡ way_to s 0 = fresh-first (way_to s) lanes (let P : ℕ → Type 0 = λ n. 0 < n in subst P (sym f.count) some) f.each in
-    let many : length (ways_of lanes) ≡ s.consumers = length-map lanes (λ (z : Outlet). z.way) ∙ f.count in
+    let many : length (ways_of lanes) ≡ s.consumers = length-map lanes (λ (z : LaneView). z.way) ∙ f.count in
     ap (λ (w : Way). ship_with w (length (ways_of lanes)) (kind_of deal)) first ∙ ap (λ n. ship_with (way_to s 0) n (kind_of deal)) many ∙ ap (λ z. ship_with (way_to s 0) s.consumers z) (sym k)
 
 -- and lead each to its consumer
-pub fresh-numbered : (deal : Deal) (s : Ship) (lanes : List Outlet) → ship_of deal (ways_of lanes) ≡ s → AreFresh s.consumers (way_to s) lanes → AreNumbered deal (ways_of lanes)
+pub fresh-numbered : (deal : Deal) (s : Ship) (lanes : List LaneView) → ship_of deal (ways_of lanes) ≡ s → AreFresh s.consumers (way_to s) lanes → AreNumbered deal (ways_of lanes)
 fresh-numbered deal s lanes e f = λ j w h.
-    let there : j < length lanes = let P : ℕ → Type 0 = λ n. j < n in subst P (length-map lanes (λ (z : Outlet). z.way)) (slice_get_within (ways_of lanes) j w h) in
+    let there : j < length lanes = let P : ℕ → Type 0 = λ n. j < n in subst P (length-map lanes (λ (z : LaneView). z.way)) (slice_get_within (ways_of lanes) j w h) in
     let o = element_at lanes j there in
-    sym (same_Some o.0.way w (sym (read-map (λ (z : Outlet). z.way) lanes j o.0 o.1) ∙ h)) ∙ ap (λ (z : Outlet). z.way) (f.each j o.0 o.1) ∙ ap (λ z. way_to z j) (sym e)
+    sym (same_Some o.0.way w (sym (read-map (λ (z : LaneView). z.way) lanes j o.0 o.1) ∙ h)) ∙ ap (λ (z : LaneView). z.way) (f.each j o.0 o.1) ∙ ap (λ z. way_to z j) (sym e)
 
 -- and none has closed
-pub fresh-open : (way : ℕ → Way) (lanes : List Outlet) → ((j : ℕ) (o : Outlet) → IsLane lanes j o → o ≡ empty_outlet (way j)) → any_closed lanes ≡ false
+pub fresh-open : (way : ℕ → Way) (lanes : List LaneView) → ((j : ℕ) (o : LaneView) → IsLane lanes j o → o ≡ empty_outlet (way j)) → any_closed lanes ≡ false
 fresh-open way [] h = refl
-fresh-open way (o ∷ lanes) h = ap (λ (z : Outlet). z.closed || any_closed lanes) (h 0 o refl) ∙ fresh-open (λ j. way (suc j)) lanes (λ j z e. h (suc j) z e)
+fresh-open way (o ∷ lanes) h = ap (λ (z : LaneView). z.closed || any_closed lanes) (h 0 o refl) ∙ fresh-open (λ j. way (suc j)) lanes (λ j z e. h (suc j) z e)
 
 pub fresh-none : (way : ℕ → Way) → AreFresh 0 way []
 fresh-none way = record { count = refl; each = λ j o e. absurd (none-some o e) }
 
-pub fresh-push : (n : ℕ) (way : ℕ → Way) (lanes : List Outlet) (o : Outlet) → AreFresh n way lanes → o ≡ empty_outlet (way n) → AreFresh (n + 1) way (lanes ++ o ∷ [])
+pub fresh-push : (n : ℕ) (way : ℕ → Way) (lanes : List LaneView) (o : LaneView) → AreFresh n way lanes → o ≡ empty_outlet (way n) → AreFresh (n + 1) way (lanes ++ o ∷ [])
 fresh-push n way lanes o f e = record {
   count = let a = length-append lanes (o ∷ []) in let b = f.count in omega (arith, a, b);
   each = λ j z h. elim (get-push lanes o j z h) [
@@ -207,15 +207,15 @@ fresh-push n way lanes o f e = record {
 }
 
 -- lanes of which the first ones were finished
-pub record FinishesBelow (n : ℕ) (old new : List Outlet) : Type 0 where
+pub record FinishesBelow (n : ℕ) (old new : List LaneView) : Type 0 where
   pub same : SameLanes old new
-  pub done : (j : ℕ) (o o' : Outlet) → j < n → IsLane old j o → IsLane new j o' → CutsRest o.way o.current o.ready o'.ready
+  pub done : (j : ℕ) (o o' : LaneView) → j < n → IsLane old j o → IsLane new j o' → CutsRest o.way o.current o.ready o'.ready
   pub left : (j : ℕ) → n ≤ j → slice_get new j ≡ slice_get old j
 
-pub finish-none : (lanes : List Outlet) → FinishesBelow 0 lanes lanes
+pub finish-none : (lanes : List LaneView) → FinishesBelow 0 lanes lanes
 finish-none lanes = record { same = same-refl lanes; done = λ j o o' l. absurd (omega (arith, l)); left = λ j l. refl }
 
-pub finish-more : (n : ℕ) (old new : List Outlet) (o o' : Outlet) → n < length new → o ≡ get_or new n o → o'.way ≡ o.way → o'.closed ≡ o.closed → CutsRest o.way o.current o.ready o'.ready
+pub finish-more : (n : ℕ) (old new : List LaneView) (o o' : LaneView) → n < length new → o ≡ get_or new n o → o'.way ≡ o.way → o'.closed ≡ o.closed → CutsRest o.way o.current o.ready o'.ready
     → FinishesBelow n old new → FinishesBelow (n + 1) old (set new n o')
 finish-more n old new o o' within e w c cuts f = record {
   same = same-along old new (set new n o') f.same (same-set new n o o' e w c);
@@ -225,23 +225,23 @@ finish-more n old new o o' within e w c cuts f = record {
         let at : n ≡ j = omega (arith, l, more) in
         let was : o ≡ z = same_Some o z (sym (read-at new n o within e) ∙ f.left n (omega arith) ∙ ap (slice_get old) at ∙ h) in
         let now : o' ≡ z' = same_Some o' z' (sym (get-set_same new n o' within) ∙ ap (slice_get (set new n o')) at ∙ h') in
-        let P : Outlet → Type 0 = λ x. CutsRest x.way x.current x.ready z'.ready in
-        let Q : Outlet → Type 0 = λ x. CutsRest o.way o.current o.ready x.ready in
+        let P : LaneView → Type 0 = λ x. CutsRest x.way x.current x.ready z'.ready in
+        let Q : LaneView → Type 0 = λ x. CutsRest o.way o.current o.ready x.ready in
         subst P was (subst Q now cuts)
   ];
   left = λ j l. get-set_other new n j o' (omega (arith, l)) ∙ f.left j (omega (arith, l));
 }
 
 -- all rows go to the one lane
-pub one-deals : (goes : Router) (rows : List Row) (lanes : List Outlet) (o o' : Outlet) → length lanes ≡ 1 → o ≡ get_or lanes 0 o → Cuts o.way o.current o.ready rows o'.current o'.ready
+pub one-deals : (goes : Router) (rows : List Row) (lanes : List LaneView) (o o' : LaneView) → length lanes ≡ 1 → o ≡ get_or lanes 0 o → Cuts o.way o.current o.ready rows o'.current o'.ready
     → Deals goes gather rows lanes (set lanes 0 o')
 one-deals goes rows [] o o' one e cuts = absurd (omega (arith, one))
 one-deals goes rows (x ∷ []) o o' one e cuts = record { more = λ j. rows; sends = λ j l. refl; cuts = each }
   where
-    each : (j : ℕ) (z z' : Outlet) → IsLane (x ∷ []) j z → IsLane (o' ∷ []) j z' → Cuts z.way z.current z.ready rows z'.current z'.ready
+    each : (j : ℕ) (z z' : LaneView) → IsLane (x ∷ []) j z → IsLane (o' ∷ []) j z' → Cuts z.way z.current z.ready rows z'.current z'.ready
     each zero z z' h h' =
-        let P : Outlet → Type 0 = λ y. Cuts y.way y.current y.ready rows z'.current z'.ready in
-        let Q : Outlet → Type 0 = λ y. Cuts o.way o.current o.ready rows y.current y.ready in
+        let P : LaneView → Type 0 = λ y. Cuts y.way y.current y.ready rows z'.current z'.ready in
+        let Q : LaneView → Type 0 = λ y. Cuts o.way o.current o.ready rows y.current y.ready in
         subst P (e ∙ same_Some x z h) (subst Q (same_Some o' z' h') cuts)
     each (suc j) z z' h h' = absurd (none-some z h)
 one-deals goes rows (x ∷ y ∷ lanes) o o' one e cuts = absurd (omega (arith, one))
@@ -255,59 +255,59 @@ serves-some ToOne n h = elim (eqb_tells n 1) [
 
 -- a packet was given
 
-pub gives-same : (old new : List Outlet) (i : ℕ) (p : Parcel) → GivesPacket old new i p → SameLanes old new
+pub gives-same : (old new : List LaneView) (i : ℕ) (p : PacketView) → GivesPacket old new i p → SameLanes old new
 gives-same old new i p x =
-    let P : List Outlet → Type 0 = λ z. SameLanes old z in
+    let P : List LaneView → Type 0 = λ z. SameLanes old z in
     subst P (sym x.lanes) (same-set old i x.before x.after (sym (get_or_from_slice_get old i x.before x.before x.there)) x.way x.closed)
 
-pub given-same : (old new : List Outlet) (r : Option (ℕ × Parcel)) → IfSome r (λ x. GivesPacket old new x.0 x.1) → IfNone r (new ≡ old) → SameLanes old new
-given-same old new None h k = let P : List Outlet → Type 0 = λ z. SameLanes old z in subst P (sym k) (same-refl old)
+pub given-same : (old new : List LaneView) (r : Option (ℕ × PacketView)) → IfSome r (λ x. GivesPacket old new x.0 x.1) → IfNone r (new ≡ old) → SameLanes old new
+given-same old new None h k = let P : List LaneView → Type 0 = λ z. SameLanes old z in subst P (sym k) (same-refl old)
 given-same old new (Some x) h k = gives-same old new x.0 x.1 h
 
-waits-not : (old new : List Outlet) (i : ℕ) (p : Parcel) → GivesPacket old new i p → are_idle old ≡ true → ⊥
+waits-not : (old new : List LaneView) (i : ℕ) (p : PacketView) → GivesPacket old new i p → are_idle old ≡ true → ⊥
 waits-not old new i p x idle =
     let none : x.before.ready ≡ [] = idle-lane old i x.before idle x.there in
     let some : p ∷ x.after.ready ≡ [] = sym x.ready ∙ none in
     cc
 
-unless-failing : (st : Stage) (lanes : List Outlet) → (st ≡ Failing → ⊥) → may_close st lanes ≡ any_closed lanes
+unless-failing : (st : Stage) (lanes : List LaneView) → (st ≡ Failing → ⊥) → may_close st lanes ≡ any_closed lanes
 unless-failing Open lanes f = refl
 unless-failing Ending lanes f = refl
 unless-failing Failing lanes f = absurd (f refl)
 
 -- so no lane has closed
-pub gives-unclosed : (st : Stage) (old new : List Outlet) (i : ℕ) (p : Parcel) → (st ≡ Failing → ⊥) → (may_close st old ≡ true → are_idle old ≡ true) → GivesPacket old new i p → any_closed new ≡ false
+pub gives-unclosed : (st : Stage) (old new : List LaneView) (i : ℕ) (p : PacketView) → (st ≡ Failing → ⊥) → (may_close st old ≡ true → are_idle old ≡ true) → GivesPacket old new i p → any_closed new ≡ false
 gives-unclosed st old new i p f idle x = same-any old new (gives-same old new i p x) ∙ go (any_closed old) refl
   where
     go : (b : Bool) → any_closed old ≡ b → b ≡ false
     go false e = refl
     go true e = absurd (waits-not old new i p x (idle (unless-failing st old f ∙ e)))
 
-pub gives-idle : (st : Stage) (old new : List Outlet) (i : ℕ) (p : Parcel) → (st ≡ Failing → ⊥) → (may_close st old ≡ true → are_idle old ≡ true) → GivesPacket old new i p
+pub gives-idle : (st : Stage) (old new : List LaneView) (i : ℕ) (p : PacketView) → (st ≡ Failing → ⊥) → (may_close st old ≡ true → are_idle old ≡ true) → GivesPacket old new i p
     → may_close st new ≡ true → are_idle new ≡ true
 gives-idle st old new i p f idle x e = absurd (true≢false (sym e ∙ unless-failing st new f ∙ gives-unclosed st old new i p f idle x))
 
-pub given-idle : (st : Stage) (old new : List Outlet) (r : Option (ℕ × Parcel)) → (st ≡ Failing → ⊥) → (may_close st old ≡ true → are_idle old ≡ true)
+pub given-idle : (st : Stage) (old new : List LaneView) (r : Option (ℕ × PacketView)) → (st ≡ Failing → ⊥) → (may_close st old ≡ true → are_idle old ≡ true)
     → IfSome r (λ x. GivesPacket old new x.0 x.1) → IfNone r (new ≡ old) → may_close st new ≡ true → are_idle new ≡ true
-given-idle st old new None f idle h k = let P : List Outlet → Type 0 = λ z. may_close st z ≡ true → are_idle z ≡ true in subst P (sym k) idle
+given-idle st old new None f idle h k = let P : List LaneView → Type 0 = λ z. may_close st z ≡ true → are_idle z ≡ true in subst P (sym k) idle
 given-idle st old new (Some x) f idle h k = gives-idle st old new x.0 x.1 f idle h
 
 -- a closing packet was given
 
-pub closes-ways : (content : Content) (old new : List Outlet) (i : ℕ) (p : Parcel) → GivesClosing content old new i p → ways_of new ≡ ways_of old
+pub closes-ways : (content : Content) (old new : List LaneView) (i : ℕ) (p : PacketView) → GivesClosing content old new i p → ways_of new ≡ ways_of old
 closes-ways content old new i p x =
-    let f : Outlet → Way = λ z. z.way in
+    let f : LaneView → Way = λ z. z.way in
     ap ways_of x.lanes ∙ map-set_same f old i x.after x.before (x.way ∙ ap f (sym (get_or_from_slice_get old i x.before x.before x.there)))
 
-pub closed-ways : (content : Content) (old new : List Outlet) (r : Option (ℕ × Parcel)) → IfSome r (λ x. GivesClosing content old new x.0 x.1) → IfNone r (new ≡ old) → ways_of new ≡ ways_of old
+pub closed-ways : (content : Content) (old new : List LaneView) (r : Option (ℕ × PacketView)) → IfSome r (λ x. GivesClosing content old new x.0 x.1) → IfNone r (new ≡ old) → ways_of new ≡ ways_of old
 closed-ways content old new None h k = ap ways_of k
 closed-ways content old new (Some x) h k = closes-ways content old new x.0 x.1 h
 
-pub closes-somewhere : (content : Content) (old new : List Outlet) (i : ℕ) (p : Parcel) → GivesClosing content old new i p → any_closed new ≡ true
+pub closes-somewhere : (content : Content) (old new : List LaneView) (i : ℕ) (p : PacketView) → GivesClosing content old new i p → any_closed new ≡ true
 closes-somewhere content old new i p x =
     ap any_closed x.lanes ∙ closed-somewhere (set old i x.after) i x.after (get-set_same old i x.after (slice_get_within old i x.before x.there)) x.closed
 
-pub closed-idle : (content : Content) (old new : List Outlet) (r : Option (ℕ × Parcel)) → All (λ o. o.ready ≡ []) old → IfSome r (λ x. GivesClosing content old new x.0 x.1) → IfNone r (new ≡ old)
+pub closed-idle : (content : Content) (old new : List LaneView) (r : Option (ℕ × PacketView)) → All (λ o. o.ready ≡ []) old → IfSome r (λ x. GivesClosing content old new x.0 x.1) → IfNone r (new ≡ old)
     → are_idle new ≡ true
 closed-idle content old new None idle h k = ap are_idle k ∙ idle-from_all old idle
 closed-idle content old new (Some x) idle h k =

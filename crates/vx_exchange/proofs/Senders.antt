@@ -4,14 +4,14 @@ use Rattle.std.proofs.lemmas.Bool.Decides.{eqb_tells}
 use Rattle.std.proofs.lemmas.List.{map-append, length-map}
 use Rattle.std.proofs.lemmas.Option.{same_Some, slice_get_within}
 use Rattle.vx_values.specs.Values.{Row}
-use Rattle.vx_nodes.specs.Routes.{Router, Sends}
-use Rattle.vx_ports.specs.Packets.{Content, last, fault, Parcel}
+use Rattle.vx_plan_nodes.specs.Routes.{Router, Sends}
+use Rattle.vx_ports.specs.Packets.{Content, last, fault, PacketView}
 use Rattle.vx_ops.specs.Ledger.{Stream, fresh}
 use Rattle.vx_ops.specs.Turn.{with_packet}
 use Rattle.vx_ops.specs.declared.fault.Fault.{Fault}
 use Rattle.vx_ops.specs.declared.fault.Over.TheVariants.{Ended, Failed}
 use Rattle.vx_exchange.specs.Ship.{Ship, end_to_end, packet_at, packet_of, IsPort, IsCutPort, IsShipped, IsCutShort}
-use Rattle.vx_exchange.specs.Outlet.{Outlet, empty_outlet, parcel_of, Cuts, CutsRest}
+use Rattle.vx_exchange.specs.LaneView.{LaneView, empty_outlet, parcel_of, Cuts, CutsRest}
 use Rattle.vx_exchange.specs.Lanes.{IsLane, ways_of, any_closed, ship_of, way_to, AreNumbered, AreFresh, SameLanes, Deals, Finishes, GivesPacket, GivesClosing}
 use Rattle.vx_exchange.specs.LaneLaws.{element_at, open_at}
 use Rattle.vx_exchange.specs.Beginnings.{begins-along, begins-take, mapped-take, end_to_end-append}
@@ -26,7 +26,7 @@ use Rattle.vx_exchange.proofs.LaneLists.{get-set_same, get-set_other, all-lanes,
 -- one lane
 
 -- rows come
-lane-takes : (s : Ship) (j : ℕ) (o o' : Outlet) (rows more : List Row) (given : List Parcel) → o.way ≡ way_to s j → Cuts o.way o.current o.ready more o'.current o'.ready
+lane-takes : (s : Ship) (j : ℕ) (o o' : LaneView) (rows more : List Row) (given : List PacketView) → o.way ≡ way_to s j → Cuts o.way o.current o.ready more o'.current o'.ready
     → IsFilling s j o rows given → IsFilling s j o' (rows ++ more) given
 lane-takes s j o o' rows more given w cuts k =
     let c = subst (λ z. Cuts z o.current o.ready more o'.current o'.ready) w cuts in
@@ -40,7 +40,7 @@ lane-takes s j o o' rows more given w cuts k =
     }
 
 -- all rows came
-lane-ends : (s : Ship) (j : ℕ) (o o' : Outlet) (rows : List Row) (given : List Parcel) → o.way ≡ way_to s j → o'.closed ≡ false → CutsRest o.way o.current o.ready o'.ready
+lane-ends : (s : Ship) (j : ℕ) (o o' : LaneView) (rows : List Row) (given : List PacketView) → o.way ≡ way_to s j → o'.closed ≡ false → CutsRest o.way o.current o.ready o'.ready
     → IsFilling s j o rows given → IsEnding s j o' rows given
 lane-ends s j o o' rows given w unclosed cuts k =
     let c = subst (λ z. CutsRest z o.current o.ready o'.ready) w cuts in
@@ -60,7 +60,7 @@ lane-ends s j o o' rows given w unclosed cuts k =
     }
 
 -- a fault came, or memory was refused
-lane-fails : (s : Ship) (j : ℕ) (o o' : Outlet) (rows : List Row) (given : List Parcel) → o'.closed ≡ false → IsFilling s j o rows given → IsFailing s j o' rows given
+lane-fails : (s : Ship) (j : ℕ) (o o' : LaneView) (rows : List Row) (given : List PacketView) → o'.closed ≡ false → IsFilling s j o rows given → IsFailing s j o' rows given
 lane-fails s j o o' rows given unclosed k =
     let n = length given in
     record {
@@ -69,11 +69,11 @@ lane-fails s j o o' rows given unclosed k =
       packets = rw unclosed (append-nil (map (packet_at s j) (take n k.full)) ∙ mapped-take (packet_at s j) k.full given o.ready k.packets);
     }
 
-one-more : (given : List Parcel) (p : Parcel) (ready : List Parcel) → (given ++ p ∷ []) ++ ready ≡ given ++ p ∷ ready
+one-more : (given : List PacketView) (p : PacketView) (ready : List PacketView) → (given ++ p ∷ []) ++ ready ≡ given ++ p ∷ ready
 one-more given p ready = append_assoc given (p ∷ []) ready
 
 -- a packet that waited is given
-lane-gives : (st : Stage) (s : Ship) (j : ℕ) (o o' : Outlet) (rows : List Row) (given : List Parcel) (p : Parcel) → (st ≡ Failing → ⊥) → o'.current ≡ o.current → o.ready ≡ p ∷ o'.ready → o'.closed ≡ o.closed
+lane-gives : (st : Stage) (s : Ship) (j : ℕ) (o o' : LaneView) (rows : List Row) (given : List PacketView) (p : PacketView) → (st ≡ Failing → ⊥) → o'.current ≡ o.current → o.ready ≡ p ∷ o'.ready → o'.closed ≡ o.closed
     → LaneAt st s j o rows given → LaneAt st s j o' rows (given ++ p ∷ [])
 lane-gives Open s j o o' rows given p f e r c k = record {
   full = k.full;
@@ -89,7 +89,7 @@ lane-gives Ending s j o o' rows given p f e r c k = record {
 lane-gives Failing s j o o' rows given p f e r c k = absurd (f refl)
 
 -- Last is given
-lane-lasts : (s : Ship) (j : ℕ) (o o' : Outlet) (rows : List Row) (given : List Parcel) (p : Parcel) → o.way ≡ way_to s j → o.ready ≡ [] → o'.ready ≡ o.ready → p ≡ parcel_of o.way last
+lane-lasts : (s : Ship) (j : ℕ) (o o' : LaneView) (rows : List Row) (given : List PacketView) (p : PacketView) → o.way ≡ way_to s j → o.ready ≡ [] → o'.ready ≡ o.ready → p ≡ parcel_of o.way last
     → o.closed ≡ false → o'.closed ≡ true → IsEnding s j o rows given → IsEnding s j o' rows (given ++ p ∷ [])
 lane-lasts s j o o' rows given p w none r e before after k =
     let here : p ≡ packet_of s j last = e ∙ ap (λ z. parcel_of z last) w in
@@ -103,7 +103,7 @@ lane-lasts s j o o' rows given p w none r e before after k =
     }
 
 -- Fault is given
-lane-faults : (s : Ship) (j : ℕ) (o o' : Outlet) (rows : List Row) (given : List Parcel) (p : Parcel) → o.way ≡ way_to s j → p ≡ parcel_of o.way fault
+lane-faults : (s : Ship) (j : ℕ) (o o' : LaneView) (rows : List Row) (given : List PacketView) (p : PacketView) → o.way ≡ way_to s j → p ≡ parcel_of o.way fault
     → o.closed ≡ false → o'.closed ≡ true → IsFailing s j o rows given → IsFailing s j o' rows (given ++ p ∷ [])
 lane-faults s j o o' rows given p w e before after k =
     let here : p ≡ packet_of s j fault = e ∙ ap (λ z. parcel_of z fault) w in
@@ -121,7 +121,7 @@ closes-with Open content = ⊥
 closes-with Ending content = content ≡ last
 closes-with Failing content = content ≡ fault
 
-lane-closes : (st : Stage) (content : Content) (s : Ship) (j : ℕ) (o o' : Outlet) (rows : List Row) (given : List Parcel) (p : Parcel) → closes-with st content → o.way ≡ way_to s j → o.ready ≡ [] → o'.ready ≡ o.ready
+lane-closes : (st : Stage) (content : Content) (s : Ship) (j : ℕ) (o o' : LaneView) (rows : List Row) (given : List PacketView) (p : PacketView) → closes-with st content → o.way ≡ way_to s j → o.ready ≡ [] → o'.ready ≡ o.ready
     → p ≡ parcel_of o.way content → o.closed ≡ false → o'.closed ≡ true → LaneAt st s j o rows given → LaneAt st s j o' rows (given ++ p ∷ [])
 lane-closes Open content s j o o' rows given p f w none r e before after k = absurd f
 lane-closes Ending content s j o o' rows given p f w none r e before after k = lane-lasts s j o o' rows given p w none r (e ∙ ap (parcel_of o.way) f) before after k
@@ -130,8 +130,8 @@ lane-closes Failing content s j o o' rows given p f w none r e before after k = 
 -- all lanes
 
 -- rows come
-pub sender-takes : (goes : Router) (s : Ship) (lanes lanes' : List Outlet) (a : Stream) (g : ℕ → List Parcel) (more : List Row) → s.consumers ≡ length lanes
-    → ((j : ℕ) (o : Outlet) → IsLane lanes j o → o.way ≡ way_to s j) → SameLanes lanes lanes' → Deals goes s.kind more lanes lanes'
+pub sender-takes : (goes : Router) (s : Ship) (lanes lanes' : List LaneView) (a : Stream) (g : ℕ → List PacketView) (more : List Row) → s.consumers ≡ length lanes
+    → ((j : ℕ) (o : LaneView) → IsLane lanes j o → o.way ≡ way_to s j) → SameLanes lanes lanes' → Deals goes s.kind more lanes lanes'
     → SenderAt goes s Open lanes a g → SenderAt goes s Open lanes' (record { rows = a.rows ++ more; over = a.over }) g
 sender-takes goes s lanes lanes' a g more many ways same d h = record {
   sent = λ j. h.sent j ++ d.more j;
@@ -143,8 +143,8 @@ sender-takes goes s lanes lanes' a g more many ways same d h = record {
 }
 
 -- all rows came
-pub sender-ends : (goes : Router) (s : Ship) (lanes lanes' : List Outlet) (a : Stream) (g : ℕ → List Parcel) → any_closed lanes ≡ false
-    → ((j : ℕ) (o : Outlet) → IsLane lanes j o → o.way ≡ way_to s j) → SameLanes lanes lanes' → Finishes lanes lanes'
+pub sender-ends : (goes : Router) (s : Ship) (lanes lanes' : List LaneView) (a : Stream) (g : ℕ → List PacketView) → any_closed lanes ≡ false
+    → ((j : ℕ) (o : LaneView) → IsLane lanes j o → o.way ≡ way_to s j) → SameLanes lanes lanes' → Finishes lanes lanes'
     → SenderAt goes s Open lanes a g → SenderAt goes s Ending lanes' (record { rows = a.rows; over = Ended }) g
 sender-ends goes s lanes lanes' a g unclosed ways same f h = record {
   sent = h.sent;
@@ -156,7 +156,7 @@ sender-ends goes s lanes lanes' a g unclosed ways same f h = record {
 }
 
 -- a fault came, or memory was refused
-pub sender-fails : (goes : Router) (s : Ship) (lanes lanes' : List Outlet) (a : Stream) (g : ℕ → List Parcel) (f : Fault) → any_closed lanes ≡ false → SameLanes lanes lanes'
+pub sender-fails : (goes : Router) (s : Ship) (lanes lanes' : List LaneView) (a : Stream) (g : ℕ → List PacketView) (f : Fault) → any_closed lanes ≡ false → SameLanes lanes lanes'
     → SenderAt goes s Open lanes a g → SenderAt goes s Failing lanes' (record { rows = a.rows; over = Failed f }) g
 sender-fails goes s lanes lanes' a g f unclosed same h = record {
   sent = h.sent;
@@ -168,8 +168,8 @@ sender-fails goes s lanes lanes' a g f unclosed same h = record {
 }
 
 -- one lane gives a packet
-sender-puts : (goes : Router) (s : Ship) (st : Stage) (lanes : List Outlet) (a : Stream) (g : ℕ → List Parcel) (i : ℕ) (o o' : Outlet) (p : Parcel) → s.consumers ≡ length lanes → IsLane lanes i o
-    → ((rows : List Row) (given : List Parcel) → LaneAt st s i o rows given → LaneAt st s i o' rows (given ++ p ∷ []))
+sender-puts : (goes : Router) (s : Ship) (st : Stage) (lanes : List LaneView) (a : Stream) (g : ℕ → List PacketView) (i : ℕ) (o o' : LaneView) (p : PacketView) → s.consumers ≡ length lanes → IsLane lanes i o
+    → ((rows : List Row) (given : List PacketView) → LaneAt st s i o rows given → LaneAt st s i o' rows (given ++ p ∷ []))
     → SenderAt goes s st lanes a g → SenderAt goes s st (set lanes i o') a (with_packet g i (Some p))
 sender-puts goes s st lanes a g i o o' p many there step h =
     let within : i < length lanes = slice_get_within lanes i o there in
@@ -179,7 +179,7 @@ sender-puts goes s st lanes a g i o o' p many there step h =
       gives = λ j z e. elim (eqb_tells j i) [
         | inl d ↦
             let new : o' ≡ z = same_Some o' z (sym (get-set_same lanes i o' within) ∙ ap (λ k. slice_get (set lanes i o') k) (sym d.1) ∙ e) in
-            rw d.0 (rw d.1 (let P : Outlet → Type 0 = λ z. LaneAt st s i z (h.sent i) (g i ++ p ∷ []) in subst P new (step (h.sent i) (g i) (h.gives i o there))))
+            rw d.0 (rw d.1 (let P : LaneView → Type 0 = λ z. LaneAt st s i z (h.sent i) (g i ++ p ∷ []) in subst P new (step (h.sent i) (g i) (h.gives i o there))))
         | inr d ↦ rw d.0 (h.gives j z (sym (get-set_other lanes i j o' d.1) ∙ e))
       ];
       nothing = λ j l. elim (eqb_tells j i) [
@@ -190,32 +190,32 @@ sender-puts goes s st lanes a g i o o' p many there step h =
     }
 
 -- one of rows that waited
-pub sender-gives : (goes : Router) (s : Ship) (st : Stage) (lanes lanes' : List Outlet) (a : Stream) (g : ℕ → List Parcel) (i : ℕ) (p : Parcel) → s.consumers ≡ length lanes → (st ≡ Failing → ⊥)
+pub sender-gives : (goes : Router) (s : Ship) (st : Stage) (lanes lanes' : List LaneView) (a : Stream) (g : ℕ → List PacketView) (i : ℕ) (p : PacketView) → s.consumers ≡ length lanes → (st ≡ Failing → ⊥)
     → GivesPacket lanes lanes' i p → SenderAt goes s st lanes a g → SenderAt goes s st lanes' a (with_packet g i (Some p))
 sender-gives goes s st lanes lanes' a g i p many f x h =
-    let P : List Outlet → Type 0 = λ z. SenderAt goes s st z a (with_packet g i (Some p)) in
+    let P : List LaneView → Type 0 = λ z. SenderAt goes s st z a (with_packet g i (Some p)) in
     subst P (sym x.lanes) (sender-puts goes s st lanes a g i x.before x.after p many x.there
     (λ rows given k. lane-gives st s i x.before x.after rows given p f x.current x.ready x.closed k) h)
 
 -- its closing packet
-pub sender-closes : (goes : Router) (s : Ship) (st : Stage) (content : Content) (lanes lanes' : List Outlet) (a : Stream) (g : ℕ → List Parcel) (i : ℕ) (p : Parcel) → s.consumers ≡ length lanes
-    → ((j : ℕ) (o : Outlet) → IsLane lanes j o → o.way ≡ way_to s j) → All (λ o. o.ready ≡ []) lanes → closes-with st content
+pub sender-closes : (goes : Router) (s : Ship) (st : Stage) (content : Content) (lanes lanes' : List LaneView) (a : Stream) (g : ℕ → List PacketView) (i : ℕ) (p : PacketView) → s.consumers ≡ length lanes
+    → ((j : ℕ) (o : LaneView) → IsLane lanes j o → o.way ≡ way_to s j) → All (λ o. o.ready ≡ []) lanes → closes-with st content
     → GivesClosing content lanes lanes' i p → SenderAt goes s st lanes a g → SenderAt goes s st lanes' a (with_packet g i (Some p))
 sender-closes goes s st content lanes lanes' a g i p many ways idle f x h =
-    let P : List Outlet → Type 0 = λ z. SenderAt goes s st z a (with_packet g i (Some p)) in
+    let P : List LaneView → Type 0 = λ z. SenderAt goes s st z a (with_packet g i (Some p)) in
     subst P (sym x.lanes) (sender-puts goes s st lanes a g i x.before x.after p many x.there
     (λ rows given k. lane-closes st content s i x.before x.after rows given p f (ways i x.before x.there) (all-lanes (λ o. o.ready ≡ []) lanes idle i x.before x.there) x.ready x.packet x.was_open x.closed k) h)
 
 -- nothing is left to give after Last
 
-lane-shipped : (s : Ship) (j : ℕ) (o : Outlet) (rows : List Row) (given : List Parcel) → o.closed ≡ true → o.ready ≡ [] → IsEnding s j o rows given → IsPort s j rows given
+lane-shipped : (s : Ship) (j : ℕ) (o : LaneView) (rows : List Row) (given : List PacketView) → o.closed ≡ true → o.ready ≡ [] → IsEnding s j o rows given → IsPort s j rows given
 lane-shipped s j o rows given closed none k = record {
   parts = k.parts;
   cut = k.cut;
   closed = sym (sym (append-nil given) ∙ ap (λ zs. given ++ zs) (sym none) ∙ k.packets ∙ ap (λ b. map (packet_at s j) k.parts ++ closing_given s j last b) closed);
 }
 
-pub sender-shipped : (goes : Router) (s : Ship) (lanes : List Outlet) (a : Stream) (g : ℕ → List Parcel) → s.consumers ≡ length lanes → All (λ o. o.closed ≡ true) lanes → All (λ o. o.ready ≡ []) lanes
+pub sender-shipped : (goes : Router) (s : Ship) (lanes : List LaneView) (a : Stream) (g : ℕ → List PacketView) → s.consumers ≡ length lanes → All (λ o. o.closed ≡ true) lanes → All (λ o. o.ready ≡ []) lanes
     → SenderAt goes s Ending lanes a g → IsShipped goes s a.rows g
 sender-shipped goes s lanes a g many closed idle h = record {
   sent = h.sent;
@@ -227,14 +227,14 @@ sender-shipped goes s lanes a g many closed idle h = record {
 
 -- nor after Fault
 
-lane-cut : (s : Ship) (j : ℕ) (o : Outlet) (rows : List Row) (given : List Parcel) → o.closed ≡ true → IsFailing s j o rows given → IsCutPort s j rows given
+lane-cut : (s : Ship) (j : ℕ) (o : LaneView) (rows : List Row) (given : List PacketView) → o.closed ≡ true → IsFailing s j o rows given → IsCutPort s j rows given
 lane-cut s j o rows given closed k = record {
   parts = k.parts;
   begins = k.begins;
   closed = ap (λ b. map (packet_at s j) k.parts ++ closing_given s j fault b) (sym closed) ∙ k.packets;
 }
 
-pub sender-cut : (goes : Router) (s : Ship) (lanes : List Outlet) (a : Stream) (g : ℕ → List Parcel) → s.consumers ≡ length lanes → All (λ o. o.closed ≡ true) lanes
+pub sender-cut : (goes : Router) (s : Ship) (lanes : List LaneView) (a : Stream) (g : ℕ → List PacketView) → s.consumers ≡ length lanes → All (λ o. o.closed ≡ true) lanes
     → SenderAt goes s Failing lanes a g → IsCutShort goes s a.rows g
 sender-cut goes s lanes a g many closed h = record {
   sent = h.sent;
@@ -245,10 +245,10 @@ sender-cut goes s lanes a g many closed h = record {
 }
 
 -- nothing came yet
-lane-fresh : (s : Ship) (j : ℕ) (o : Outlet) → o ≡ empty_outlet (way_to s j) → IsFilling s j o [] []
-lane-fresh s j o e = let P : Outlet → Type 0 = λ z. IsFilling s j z [] [] in subst P (sym e) (record { full = []; all_full = tt; rows_are = refl; packets = refl })
+lane-fresh : (s : Ship) (j : ℕ) (o : LaneView) → o ≡ empty_outlet (way_to s j) → IsFilling s j o [] []
+lane-fresh s j o e = let P : LaneView → Type 0 = λ z. IsFilling s j z [] [] in subst P (sym e) (record { full = []; all_full = tt; rows_are = refl; packets = refl })
 
-pub sender-fresh : (goes : Router) (s : Ship) (lanes : List Outlet) → AreFresh s.consumers (way_to s) lanes → SenderAt goes s Open lanes fresh (λ _. [])
+pub sender-fresh : (goes : Router) (s : Ship) (lanes : List LaneView) → AreFresh s.consumers (way_to s) lanes → SenderAt goes s Open lanes fresh (λ _. [])
 sender-fresh goes s lanes f = record {
   sent = λ j. [];
   sends = sends-none goes s.kind s.consumers;
@@ -258,7 +258,7 @@ sender-fresh goes s lanes f = record {
 }
 
 -- the same is known of the same sending end
-pub in-ship : (goes : Router) (s s' : Ship) (st : Stage) (lanes : List Outlet) (a : Stream) (g : ℕ → List Parcel) → s' ≡ s → SenderAt goes s st lanes a g → SenderAt goes s' st lanes a g
+pub in-ship : (goes : Router) (s s' : Ship) (st : Stage) (lanes : List LaneView) (a : Stream) (g : ℕ → List PacketView) → s' ≡ s → SenderAt goes s st lanes a g → SenderAt goes s' st lanes a g
 in-ship goes s s' st lanes a g e h = let P : Ship → Type 0 = λ z. SenderAt goes z st lanes a g in subst P (sym e) h
 
 -- a sending end that takes more
@@ -276,15 +276,15 @@ ending-not_failing st e f = let g : Ending ≡ Failing = sym e ∙ f in cc
 
 -- where lanes lead to the consumers of their numbers
 
-pub gives-now : (goes : Router) (deal : Deal) (st : Stage) (old new : List Outlet) (a : Stream) (g : ℕ → List Parcel) (i : ℕ) (p : Parcel) → (st ≡ Failing → ⊥) → GivesPacket old new i p
+pub gives-now : (goes : Router) (deal : Deal) (st : Stage) (old new : List LaneView) (a : Stream) (g : ℕ → List PacketView) (i : ℕ) (p : PacketView) → (st ≡ Failing → ⊥) → GivesPacket old new i p
     → SenderAt goes (ship_of deal (ways_of old)) st old a g → SenderAt goes (ship_of deal (ways_of new)) st new a (with_packet g i (Some p))
 gives-now goes deal st old new a g i p f x h =
     in-ship goes (ship_of deal (ways_of old)) (ship_of deal (ways_of new)) st new a (with_packet g i (Some p)) (same-ship deal deal old new refl (gives-same old new i p x))
-    (sender-gives goes (ship_of deal (ways_of old)) st old new a g i p (length-map old (λ (z : Outlet). z.way)) f x h)
+    (sender-gives goes (ship_of deal (ways_of old)) st old new a g i p (length-map old (λ (z : LaneView). z.way)) f x h)
 
-pub closes-now : (goes : Router) (deal : Deal) (st : Stage) (content : Content) (old new : List Outlet) (a : Stream) (g : ℕ → List Parcel) (i : ℕ) (p : Parcel) → AreNumbered deal (ways_of old)
+pub closes-now : (goes : Router) (deal : Deal) (st : Stage) (content : Content) (old new : List LaneView) (a : Stream) (g : ℕ → List PacketView) (i : ℕ) (p : PacketView) → AreNumbered deal (ways_of old)
     → All (λ o. o.ready ≡ []) old → closes-with st content → GivesClosing content old new i p
     → SenderAt goes (ship_of deal (ways_of old)) st old a g → SenderAt goes (ship_of deal (ways_of new)) st new a (with_packet g i (Some p))
 closes-now goes deal st content old new a g i p numbered idle f x h =
     in-ship goes (ship_of deal (ways_of old)) (ship_of deal (ways_of new)) st new a (with_packet g i (Some p)) (ap (ship_of deal) (closes-ways content old new i p x))
-    (sender-closes goes (ship_of deal (ways_of old)) st content old new a g i p (length-map old (λ (z : Outlet). z.way)) (numbered-way deal old numbered) idle f x h)
+    (sender-closes goes (ship_of deal (ways_of old)) st content old new a g i p (length-map old (λ (z : LaneView). z.way)) (numbered-way deal old numbered) idle f x h)

@@ -2,7 +2,7 @@
 use Rattle.std.proofs.Common.{◌≡◌, ℕ, suc, ◌<◌, ◌%◌, ◌==◌, nat_lt, true, cond, List, [], ◌∷◌, map, refl, ap, arith, lt-ltb}
 use Rattle.std.specs.List.{list_all}
 use Rattle.vx_values.specs.Values.{Row}
-use Rattle.vx_nodes.specs.Streams.{bearing}
+use Rattle.vx_plan_nodes.specs.Streams.{bearing}
 use Rattle.vx_exchange.specs.Rounds.{in_turn, TurnsAreDealt}
 
 -- each row with its consumer

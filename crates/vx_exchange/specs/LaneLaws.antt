@@ -2,7 +2,7 @@
 use Rattle.std.specs.Prelude.{ℕ, zero, suc, ◌≡◌, ◌<◌, ◌||◌, Bool, true, false, List, [], ◌∷◌, length, Some, slice_get, slice_index_or}
 use Rattle.std.proofs.Common.{refl, sym, ap, ◌∙◌, subst, true≢false, le_of_suc-le-suc, not-suc-le-zero}
 use Rattle.std.proofs.lemmas.Option.{none-some, same_Some}
-use Rattle.vx_exchange.specs.Outlet.{Outlet}
+use Rattle.vx_exchange.specs.LaneView.{LaneView}
 use Rattle.vx_exchange.specs.Lanes.{IsLane, any_closed}
 
 -- each place of a list has an element
@@ -37,7 +37,7 @@ or-second false b e = e
 or-second true b e = absurd (true≢false e)
 
 -- where no lane has closed, this one has not
-pub open_at : (lanes : List Outlet) (j : ℕ) (o : Outlet) → any_closed lanes ≡ false → IsLane lanes j o → o.closed ≡ false
+pub open_at : (lanes : List LaneView) (j : ℕ) (o : LaneView) → any_closed lanes ≡ false → IsLane lanes j o → o.closed ≡ false
 open_at [] j o e h = absurd (none-some o h)
-open_at (x ∷ lanes) zero o e h = ap (λ (z : Outlet). z.closed) (sym (same_Some x o h)) ∙ or-first x.closed (any_closed lanes) e
+open_at (x ∷ lanes) zero o e h = ap (λ (z : LaneView). z.closed) (sym (same_Some x o h)) ∙ or-first x.closed (any_closed lanes) e
 open_at (x ∷ lanes) (suc j) o e h = open_at lanes j o (or-second x.closed (any_closed lanes) e) h

@@ -1,7 +1,7 @@
 -- Round robin as a producer does it: its rows in turn, which is one of the ways that the run relation allows.
 use Rattle.std.specs.Prelude.{ℕ, suc, ◌<◌, ◌%◌, ◌==◌, cond, List, [], ◌∷◌}
 use Rattle.vx_values.specs.Values.{Row}
-use Rattle.vx_nodes.specs.Streams.{Dealt}
+use Rattle.vx_plan_nodes.specs.Streams.{Dealt}
 
 -- the rows for consumer j of n, of a list whose first row is a producer's row i, counted from 0: row r goes to consumer r mod n
 abbrev pub in_turn : (i n j : ℕ) → List Row → List Row

@@ -5,15 +5,15 @@ use Rattle.std.proofs.Common.{refl, sym, ◌∙◌, subst, true≢false, append-
 use Rattle.std.proofs.lemmas.List.{length-map}
 use Rattle.vx_values.specs.Values.{Val, Row}
 use Rattle.vx_rows.specs.Lists.{IsBeginning}
-use Rattle.vx_nodes.specs.Routes.{Router, Sends}
-use Rattle.vx_nodes.specs.Streams.{Streams}
-use Rattle.vx_ports.specs.Packets.{Content, last, fault, Parcel}
+use Rattle.vx_plan_nodes.specs.Routes.{Router, Sends}
+use Rattle.vx_plan_nodes.specs.Streams.{Streams}
+use Rattle.vx_ports.specs.Packets.{Content, last, fault, PacketView}
 use Rattle.vx_ops.specs.Ledger.{Stream}
 use Rattle.vx_ops.specs.declared.fault.Fault.{Fault}
 use Rattle.vx_ops.specs.declared.fault.Over.{Over}
 use Rattle.vx_ops.specs.declared.fault.Over.TheVariants.{Running, Ended, Failed}
 use Rattle.vx_exchange.specs.Ship.{Ship, end_to_end, packet_of, packet_at, IsCut, IsPartShipped}
-use Rattle.vx_exchange.specs.Outlet.{Outlet}
+use Rattle.vx_exchange.specs.LaneView.{LaneView}
 use Rattle.vx_exchange.specs.Lanes.{IsLane, ways_of, any_closed, ship_of, bounds_of}
 use Rattle.vx_exchange.specs.LaneLaws.{element_at, choose, open_at}
 use Rattle.vx_exchange.specs.Tasks.{Task, send, Post, sends_by_ship, Begun, IsAt}
@@ -53,31 +53,31 @@ abbrev pub sender_has_closed : Sender → Bool
 sender_has_closed s = any_closed s.lanes.items
 
 -- the closing packet for a consumer, where it was given
-abbrev pub closing_given : Ship → (consumer : ℕ) → Content → (closed : Bool) → List Parcel
+abbrev pub closing_given : Ship → (consumer : ℕ) → Content → (closed : Bool) → List PacketView
 closing_given s j content true = packet_of s j content ∷ []
 closing_given s j content false = []
 
 -- rows for a consumer come: full packets were made of them, in order
-pub record IsFilling (s : Ship) (consumer : ℕ) (o : Outlet) (rows : List Row) (given : List Parcel) : Type 0 where
+pub record IsFilling (s : Ship) (consumer : ℕ) (o : LaneView) (rows : List Row) (given : List PacketView) : Type 0 where
   pub full : List (List Row)
   pub all_full : AllByRecursion (λ (p : List Row). length p ≡ s.size) full
   pub rows_are : end_to_end full ++ o.current ≡ rows
   pub packets : given ++ o.ready ≡ map (packet_at s consumer) full
 
 -- all rows for a consumer came: all packets of them were made, and Last is given behind them
-pub record IsEnding (s : Ship) (consumer : ℕ) (o : Outlet) (rows : List Row) (given : List Parcel) : Type 0 where
+pub record IsEnding (s : Ship) (consumer : ℕ) (o : LaneView) (rows : List Row) (given : List PacketView) : Type 0 where
   pub parts : List (List Row)
   pub cut : IsCut s.size rows parts
   pub packets : given ++ o.ready ≡ map (packet_at s consumer) parts ++ closing_given s consumer last o.closed
 
 -- a fault came, or memory was refused: Fault is given behind what was given
-pub record IsFailing (s : Ship) (consumer : ℕ) (o : Outlet) (rows : List Row) (given : List Parcel) : Type 0 where
+pub record IsFailing (s : Ship) (consumer : ℕ) (o : LaneView) (rows : List Row) (given : List PacketView) : Type 0 where
   pub parts : List (List Row)
   pub begins : IsBeginning (end_to_end parts) rows
   pub packets : map (packet_at s consumer) parts ++ closing_given s consumer fault o.closed ≡ given
 
 -- what the lane of a consumer gave
-abbrev pub LaneAt : Stage → Ship → (consumer : ℕ) → Outlet → List Row → List Parcel → Type 0
+abbrev pub LaneAt : Stage → Ship → (consumer : ℕ) → LaneView → List Row → List PacketView → Type 0
 LaneAt Open s j o rows given = IsFilling s j o rows given
 LaneAt Ending s j o rows given = IsEnding s j o rows given
 LaneAt Failing s j o rows given = IsFailing s j o rows given
@@ -89,15 +89,15 @@ IsOver Ending over = over ≡ Ended
 IsOver Failing over = (f : Fault) × (over ≡ Failed f)
 
 -- what each lane gave of what the rows send to its consumer, and nothing for any other
-pub record SenderAt (goes : Router) (s : Ship) (st : Stage) (lanes : List Outlet) (a : Stream) (g : ℕ → List Parcel) : Type 0 where
+pub record SenderAt (goes : Router) (s : Ship) (st : Stage) (lanes : List LaneView) (a : Stream) (g : ℕ → List PacketView) : Type 0 where
   pub sent : Streams
   pub sends : Sends goes s.kind s.consumers a.rows sent
-  pub gives : (j : ℕ) (o : Outlet) → IsLane lanes j o → LaneAt st s j o (sent j) (g j)
+  pub gives : (j : ℕ) (o : LaneView) → IsLane lanes j o → LaneAt st s j o (sent j) (g j)
   pub nothing : (j : ℕ) → s.consumers ≤ j → g j ≡ []
   pub is_over : IsOver st a.over
 
 -- so the sending end stands
-abbrev pub SenderStands : Sender → Router → Stream → (ℕ → List Parcel) → Type 0
+abbrev pub SenderStands : Sender → Router → Stream → (ℕ → List PacketView) → Type 0
 SenderStands s goes a g = SenderAt goes (sender_ship s) s.stage s.lanes.items a g
 
 -- it takes more only before it closes
@@ -114,11 +114,11 @@ pub sender_at_post : (s : Sender) → IsAt (sender_post s) (sender_task s)
 sender_at_post s = refl
 
 -- before it closes, a lane gave packets of a beginning of the rows for its consumer
-record GaveInPart (s : Ship) (consumer : ℕ) (rows : List Row) (given : List Parcel) (parts : List (List Row)) : Type 0 where
+record GaveInPart (s : Ship) (consumer : ℕ) (rows : List Row) (given : List PacketView) (parts : List (List Row)) : Type 0 where
   begins : IsBeginning (end_to_end parts) rows
   packets : map (packet_at s consumer) parts ≡ given
 
-gave_in_part : (st : Stage) (s : Ship) (j : ℕ) (o : Outlet) (rows : List Row) (given : List Parcel) → LaneAt st s j o rows given → o.closed ≡ false
+gave_in_part : (st : Stage) (s : Ship) (j : ℕ) (o : LaneView) (rows : List Row) (given : List PacketView) → LaneAt st s j o rows given → o.closed ≡ false
     → (parts : List (List Row)) × GaveInPart s j rows given parts
 gave_in_part Open s j o rows given k e = (
   take (length given) k.full,
@@ -141,7 +141,7 @@ gave_in_part Failing s j o rows given k e =
     (k.parts, record { begins = k.begins; packets = sym (append-nil (map (packet_at s j) k.parts)) ∙ subst P e k.packets })
 
 -- so did all lanes
-begun_at : (goes : Router) (s : Ship) (st : Stage) (lanes : List Outlet) (a : Stream) (g : ℕ → List Parcel) → s.consumers ≡ length lanes
+begun_at : (goes : Router) (s : Ship) (st : Stage) (lanes : List LaneView) (a : Stream) (g : ℕ → List PacketView) → s.consumers ≡ length lanes
     → SenderAt goes s st lanes a g → any_closed lanes ≡ false → IsPartShipped goes s a.rows g
 begun_at goes s st lanes a g many h unclosed =
     let P : ℕ → List (List Row) → Type 0 = λ j parts. GaveInPart s j (h.sent j) (g j) parts in
@@ -157,5 +157,5 @@ begun_at goes s st lanes a g many h unclosed =
     }
 
 -- and so the sending end has begun
-pub sender_begun : (s : Sender) (goes : Router) (a : Stream) (g : ℕ → List Parcel) → SenderStands s goes a g → sender_has_closed s ≡ false → Begun goes (sender_task s) a.rows g
-sender_begun s goes a g h e = begun_at goes (sender_ship s) s.stage s.lanes.items a g (length-map s.lanes.items (λ (o : Outlet). o.way)) h e
+pub sender_begun : (s : Sender) (goes : Router) (a : Stream) (g : ℕ → List PacketView) → SenderStands s goes a g → sender_has_closed s ≡ false → Begun goes (sender_task s) a.rows g
+sender_begun s goes a g h e = begun_at goes (sender_ship s) s.stage s.lanes.items a g (length-map s.lanes.items (λ (o : LaneView). o.way)) h e

@@ -1,14 +1,14 @@
 -- What a sending end knows of where rows go, and when it takes more.
 use Rattle.std.specs.Prelude.{◌≡◌, ℕ, ◌<◌, Bool, true, false, List}
 use Rattle.vx_values.specs.Values.{Val, Row, value_at}
-use Rattle.vx_nodes.specs.Plan.{Kind, route_to, round, broadcast, gather, by_hash, by_range}
-use Rattle.vx_nodes.specs.Routes.{Router, range_consumer}
+use Rattle.vx_plan_nodes.specs.Plan.{ExchangeKind, route_to, round, broadcast, gather, by_hash, by_range}
+use Rattle.vx_plan_nodes.specs.Routes.{Router, range_consumer}
 use Rattle.vx_ops.specs.declared.turn.Polled.{Polled}
 use Rattle.vx_ops.specs.declared.turn.Polled.TheVariants as polled
 use Rattle.vx_exchange.specs.Tasks.{Post, sends_by_ship, keeps}
 
 -- rows of this kind go as the hash and the bounds of the range say; the other kinds look at no value
-abbrev pub KindRoutesAs : Kind → List Val → (List ℕ → Row → ℕ → ℕ) → Router → Type 0
+abbrev pub KindRoutesAs : ExchangeKind → List Val → (List ℕ → Row → ℕ → ℕ) → Router → Type 0
 KindRoutesAs (route_to z (by_hash name) cols) bounds hash goes = (key : Row) (n : ℕ) → 0 < n → goes (by_hash name) key n ≡ hash name key n
 KindRoutesAs (route_to z (by_range k) cols) bounds hash goes = (key : Row) (n : ℕ) → 0 < n → goes (by_range k) key n ≡ range_consumer bounds (value_at key 0) n
 KindRoutesAs (round z) bounds hash goes = Unit {0}

@@ -2,14 +2,14 @@
 
 ghost use Rattle.std.specs.Prelude.{◌≡◌, length, true, false, OnOk};
 ghost use Rattle.std.specs.List.{All};
-ghost use Rattle.vx_nodes.specs.Plan.{gather};
-ghost use Rattle.vx_nodes.specs.Routes.{Router as Routing};
+ghost use Rattle.vx_plan_nodes.specs.Plan.{gather};
+ghost use Rattle.vx_plan_nodes.specs.Routes.{Router as Routing};
 ghost use Rattle.vx_exchange.specs.Sending.{KindRoutesAs};
 ghost use Rattle.vx_exchange.specs.Lanes.{kind_of, serves, bounds_of, SameLanes, Deals};
 
 use crate::lane::Lane;
 use std::alloc::AllocError;
-use vx_nodes::Router;
+use vx_plan_nodes::Router;
 use vx_rows::Rows;
 
 /// How rows are dealt to the consumers.

@@ -23,9 +23,9 @@ pub struct Lane {
 }
 
 impl Model for Lane {
-    ghost use Rattle.vx_exchange.specs.Outlet.{Outlet, IsOutlet, is_given};
+    ghost use Rattle.vx_exchange.specs.LaneView.{LaneView, IsOutlet, is_given};
 
-    ghost Value = { Outlet };
+    ghost Value = { LaneView };
 
     ghost view = { λ l. record {
       way = record { exchange = l.exchange; place = l.place; consumer = l.consumer; types = l.current.types; size = l.size };
@@ -46,7 +46,7 @@ impl Lane {
     ghost use Rattle.std.specs.Prelude.{◌≡◌, ◌<◌, ◌≤◌, ◌++◌, ◌∷◌, [], length, slice_range, true, false, IfOk, OnOk, IfSome, IfNone};
     ghost use Rattle.vx_ports.specs.Packets.{closes};
     ghost use Rattle.vx_ports.specs.Seen.{ending_content};
-    ghost use Rattle.vx_exchange.specs.Outlet.{parcel_of, parcel_at, empty_outlet, Cuts, CutsRest};
+    ghost use Rattle.vx_exchange.specs.LaneView.{parcel_of, parcel_at, empty_outlet, Cuts, CutsRest};
 
     /// Nothing for this consumer of an exchange, in packets of up to `size` rows of these types: 1 to 4,096.
     pub fn new(

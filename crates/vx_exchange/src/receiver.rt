@@ -27,7 +27,7 @@ pub struct Receiver {
 }
 
 impl Receiver {
-    ghost use Rattle.vx_ports.specs.Packets.{Parcel, last};
+    ghost use Rattle.vx_ports.specs.Packets.{PacketView, last};
     ghost use Rattle.vx_ops.specs.Ledger.{Ledger, receive, IsFor};
     ghost use Rattle.vx_ops.specs.Turn.{after, fresh_ledger, GivesRows};
     ghost use Rattle.vx_ops.specs.declared.turn.Got.TheVariants as got;
@@ -80,7 +80,7 @@ impl Receiver {
     // Notes that the producer that is next has ended, and goes on to the next one, if there is one.
     fn end_producer(&mut self) -> Polled
         requires { self.old.over ≡ Over.Running }
-        ensures stands { (l : Ledger) (packet : Parcel) → IsFor (receiver_end self.old) self.old.next packet → packet.content ≡ last → ReceiverStands self.old l
+        ensures stands { (l : Ledger) (packet : PacketView) → IsFor (receiver_end self.old) self.old.next packet → packet.content ≡ last → ReceiverStands self.old l
             → ReceiverStands self.new (after l (receiver_want self.old) (got.Packet (Some packet)) result) }
         ensures in_turn { self.new.over ≡ Over.Running → IsInTurn (self.old.next + 1) self.new.ended.items self.new.next }
         ensures gives { GivesRows self.old.types.items result }

@@ -8,8 +8,8 @@ use crate::lane::Lane;
 use crate::lanes::{clear_lanes, close_next, finish_lanes, make_lanes, next_packet};
 use crate::sends::Sends;
 use std::alloc::{AllocError, Global};
-use vx_nodes::Router;
 use vx_ops::Polled;
+use vx_plan_nodes::Router;
 use vx_ports::{Ending, Packet};
 use vx_rows::ColType;
 
@@ -41,8 +41,8 @@ pub struct Sender {
 
 impl Sender {
     ghost use Rattle.std.specs.Prelude.{◌≤◌, ℕ, List, [], IfOk, OnOk};
-    ghost use Rattle.vx_nodes.specs.Routes.{Router as Routing};
-    ghost use Rattle.vx_ports.specs.Packets.{Parcel};
+    ghost use Rattle.vx_plan_nodes.specs.Routes.{Router as Routing};
+    ghost use Rattle.vx_ports.specs.Packets.{PacketView};
     ghost use Rattle.vx_ops.specs.Ledger.{fresh, Stream};
     ghost use Rattle.vx_ops.specs.Turn.{heard, GivesRows};
     ghost use Rattle.vx_exchange.specs.Tasks.{sends_by_ship};
@@ -92,7 +92,7 @@ impl Sender {
         requires open { sender_is_open self.old ≡ true }
         requires typed { GivesRows (sender_ship self.old).types polled }
         ensures ok { OnOk result ((goes : Routing) → RoutesAs (sender_post self.old) (sender_bounds self.old) (R.route_of router.now) goes
-            → (a : Stream) (g : ℕ → List Parcel) → SenderStands self.old goes a g → SenderStands self.new goes (heard a polled) g) }
+            → (a : Stream) (g : ℕ → List PacketView) → SenderStands self.old goes a g → SenderStands self.new goes (heard a polled) g) }
         ensures open { OnOk result (sender_is_open self.new ≡ is_open_after polled) }
         ensures deal { self.new.deal ≡ self.old.deal }
         ensures same { SameLanes self.old.lanes.items self.new.lanes.items }

@@ -7,12 +7,12 @@ use Rattle.vx_values.specs.declared.value.ColType.{ColType}
 use Rattle.vx_catalog.specs.Database.{Database, rows_at, MeetsAll}
 use Rattle.vx_relations.specs.Catalog.{relation_at}
 use Rattle.vx_relations.specs.Relation.{Relation, Meets}
-use Rattle.vx_nodes.specs.Outline.{plan_in}
-use Rattle.vx_nodes.specs.Plan.{Plan}
-use Rattle.vx_typed.specs.Names.{Resolved}
-use Rattle.vx_typed.specs.TypedView.{scope, plan, resolved_of}
-use Rattle.vx_nodes.specs.Types.{types_of}
-use Rattle.vx_rules.specs.Checked.{relations, is_allowed, is_root_allowed}
+use Rattle.vx_plan_nodes.specs.Outline.{plan_in}
+use Rattle.vx_plan_nodes.specs.Plan.{Plan}
+use Rattle.vx_plan_nodes.specs.Names.{TypedPlanView}
+use Rattle.vx_plan_nodes.specs.TypedView.{scope, plan, resolved_of}
+use Rattle.vx_plan_nodes.specs.Types.{types_of}
+use Rattle.vx_check_rules.specs.Checked.{relations, is_allowed, is_root_allowed}
 use Rattle.vx_ops.specs.declared.fault.Code.TheVariants.{Overflow, NoMemory, Unsorted, Stranger}
 use Rattle.vx_ops.specs.declared.fault.Fault.{Fault}
 use Rattle.vx_ops.specs.declared.fault.Fault.TheVariants.{Own, Passed}
@@ -29,7 +29,7 @@ use Rattle.vx_laws.specs.Faults.{IsReal}
 use Rattle.vx_laws.proofs.Layouts.{numbered-is-fit}
 use Rattle.vx_laws.proofs.TypedPlans.{typed-is-well-formed}
 use Rattle.vx_steps.specs.Crews.{Duty, duty_of, root_duty, duties_below}
-use Rattle.vx_steps.specs.Board.{Board}
+use Rattle.vx_steps.specs.LinksView.{LinksView}
 use Rattle.vx_steps.specs.Roles.{crew_size}
 use Rattle.vx_steps.specs.Endings.{TellsFirst}
 use Rattle.vx_steps.specs.Ready.{Ready}
@@ -80,7 +80,7 @@ keeps-same : (ts us : List ColType) → keeps ts ≡ keeps us → ts ≡ us
 keeps-same ts us e = ap post_types e
 
 -- the fault of an accepted plan's run is told as it is
-true-told : (W : Setting) (p : Resolved) (db : Database) (f : Fault) → W.db ≡ rows_at db → IsTrueFault W (plan_in p.root) f → IsTrueOf p db (fault_told f)
+true-told : (W : Setting) (p : TypedPlanView) (db : Database) (f : Fault) → W.db ≡ rows_at db → IsTrueFault W (plan_in p.root) f → IsTrueOf p db (fault_told f)
 true-told W p db (Own Overflow n) e h = let Q : (ℕ → List Row) → Type 0 = λ z. IsReal z (plan_in p.root) in subst Q e (h.overflow n refl)
 true-told W p db (Own NoMemory n) e h = tt
 true-told W p db (Own Unsorted n) e h = absurd (h.order tt)
@@ -113,26 +113,26 @@ module _ (j : Job) (hash : List ℕ → Row → ℕ → ℕ) where
       }
 
   -- workers and links that are ready for a plan in a setting, where the morsels are those of the job
-  abbrev pub ReadyIn : Setting → Plan → List (Worker Operator Destination) → Board → Type 0
+  abbrev pub ReadyIn : Setting → Plan → List (Worker Operator Destination) → LinksView → Type 0
   ReadyIn W p ws w = Ready OperatorStands operator_op DestinationStands task_of post_of bounds_of hash (scan_morsels (setting_of hash j)) W p ws w
 
   -- they are ready for the job's plan, which is accepted
-  pub record IsReadyFor (ws : List (Worker Operator Destination)) (w : Board) : Type 0 where
+  pub record IsReadyFor (ws : List (Worker Operator Destination)) (w : LinksView) : Type 0 where
     pub accepted : IsJobAccepted
     pub ready : ReadyIn (setting_of hash j) (plan j.plan.now) ws w
 
   -- the workers and links of a crew are ready as the crew is
-  pub ready-parts : IsJobAccepted → (crew : Crew) (ws : Vec (Worker Operator Destination) Global) (w : Board) → ws ≡ crew.workers → w ≡ board_of crew
+  pub ready-parts : IsJobAccepted → (crew : Crew) (ws : Vec (Worker Operator Destination) Global) (w : LinksView) → ws ≡ crew.workers → w ≡ board_of crew
       → ReadyIn (setting_of hash j) (plan j.plan.now) crew.workers.items (board_of crew) → IsReadyFor ws.items w
   ready-parts ok crew ws w e f h =
-      let P : List (Worker Operator Destination) → Board → Type 0 = λ z b. ReadyIn (setting_of hash j) (plan j.plan.now) z b in
+      let P : List (Worker Operator Destination) → LinksView → Type 0 = λ z b. ReadyIn (setting_of hash j) (plan j.plan.now) z b in
       record {
         accepted = ok;
         ready = subst (λ z. P z w) (sym (ap (λ (v : Vec (Worker Operator Destination) Global). v.items) e)) (subst (λ b. P crew.workers.items b) (sym f) h);
       }
 
   -- they are as many as the plan asks for
-  pub ready-count : (ws : Vec (Worker Operator Destination) Global) (w : Board) → IsReadyFor ws.items w → vec_len ws ≡ crew_size (group_at j.groups.items) (plan j.plan.now)
+  pub ready-count : (ws : Vec (Worker Operator Destination) Global) (w : LinksView) → IsReadyFor ws.items w → vec_len ws ≡ crew_size (group_at j.groups.items) (plan j.plan.now)
   ready-count ws w begun =
       let roles = map (role_of operator_op post_of bounds_of) ws.items in
       let a = map-length (role_of operator_op post_of bounds_of) ws.items in
@@ -147,7 +147,7 @@ module _ (j : Job) (hash : List ℕ → Row → ℕ → ℕ) where
     pub first : TellsFirst (setting_of hash j) (plan j.plan.now) v
 
   -- after steps that keep the roles, with a verdict that is worth what it says wherever the workers were ready
-  pub has-run : (old new : List (Worker Operator Destination)) (w : Board) (v : Verdict) → IsReadyFor old w
+  pub has-run : (old new : List (Worker Operator Destination)) (w : LinksView) (v : Verdict) → IsReadyFor old w
       → map (role_of operator_op post_of bounds_of) new ≡ map (role_of operator_op post_of bounds_of) old
       → ((W : Setting) (is_total : Bool) (p : Plan) → IsAccepted W is_total p → ReadyIn W p old w → Answers task_of W is_total p new v)
       → ((W : Setting) (is_total : Bool) (p : Plan) → IsAccepted W is_total p → ReadyIn W p old w → TellsFirst W p v)

@@ -1,8 +1,8 @@
 -- The tree of a fragment, by the node at its top.
 use Rattle.std.proofs.Common.{Box, Global, ◌≡◌, ℕ, suc, ◌+◌, ◌≤◌, ◌==◌, List, refl, sym, ap, ◌∙◌, arith}
 use Rattle.vx_values.specs.declared.value.ColType.{ColType}
-use Rattle.vx_nodes.specs.Plan.{Plan, Claim, Condition, unary, select}
-use Rattle.vx_nodes.specs.Numbering.{is_numbered, nodes}
+use Rattle.vx_plan_nodes.specs.Plan.{Plan, Claim, Condition, unary, select}
+use Rattle.vx_plan_nodes.specs.Numbering.{is_numbered, nodes}
 use Rattle.vx_laws.proofs.Bags.{and-right}
 use Rattle.vx_ops.specs.Ledger.{one_op}
 use Rattle.vx_ops.specs.Turn.{Shape, fresh_ledger}

@@ -3,11 +3,11 @@ use Rattle.std.proofs.Common.{◌≡◌, ℕ, Bool, List, [], ◌∷◌, ◌++�
 use Rattle.std.specs.List.{All}
 use Rattle.std.proofs.lemmas.List.Elements.{All-map}
 use Rattle.vx_values.specs.Values.{Row}
-use Rattle.vx_nodes.specs.Plan.{Plan, Claim, Unary, Kind, Size, scan, unary, exchange, size, gather}
-use Rattle.vx_nodes.specs.Numbering.{is_numbered}
-use Rattle.vx_nodes.specs.Streams.{workers}
-use Rattle.vx_typed.specs.TypedView.{plan}
-use Rattle.vx_ports.specs.Line.{Line}
+use Rattle.vx_plan_nodes.specs.Plan.{Plan, Claim, Unary, ExchangeKind, Size, scan, unary, exchange, size, gather}
+use Rattle.vx_plan_nodes.specs.Numbering.{is_numbered}
+use Rattle.vx_plan_nodes.specs.Streams.{workers}
+use Rattle.vx_plan_nodes.specs.TypedView.{plan}
+use Rattle.vx_ports.specs.LinkView.{LinkView}
 use Rattle.vx_exchange.specs.Sending.{RoutesAs}
 use Rattle.vx_worker.specs.Fragment.{Setting, goes}
 use Rattle.vx_worker.specs.Trace.{scan_morsels}
@@ -41,7 +41,7 @@ pub grows-unary : (S : Setting) (n : ℕ) (c : Claim) (op : Unary) (p : Plan) (t
     → stations ≡ old.stations ++ Inner ∷ [] → AddsBelow S p top (record old { stations = stations }) new → AddsBelow S (unary n c op p) top old new
 grows-unary S n c op p top old new stations e h = adds-unary S n c op p top old new (subst (λ z. AddsBelow S p top (record old { stations = z }) new) e h)
 
-pub grows-exchange : (S : Setting) (n : ℕ) (c : Claim) (k : Kind) (merge : List ℕ) (p : Plan) (top next : ℕ) (old mid new : Made) (stations : List Station)
+pub grows-exchange : (S : Setting) (n : ℕ) (c : Claim) (k : ExchangeKind) (merge : List ℕ) (p : Plan) (top next : ℕ) (old mid new : Made) (stations : List Station)
     → can_run (exchange n c k merge p) ≡ true → next ≡ length old.sends → stations ≡ old.stations ++ Exchange next top ∷ []
     → AddsTeam S n gather p (workers S.sizes (size p)) (record old { stations = stations }) mid → AddsBelow S p next mid new → AddsBelow S (exchange n c k merge p) top old new
 grows-exchange S n c k merge p top next old mid new stations runs at e team below =
@@ -55,7 +55,7 @@ duties-of-roles [] = refl
 duties-of-roles (w ∷ ws) = ap (λ z. duty w ∷ z) (duties-of-roles ws)
 
 -- the root's worker and all below it are ready
-pub grown : (j : Job) (hash : List ℕ → Row → ℕ → ℕ) (lines : List Line) (old new : Crew) → is_numbered 0 (plan j.plan.now) ≡ true
+pub grown : (j : Job) (hash : List ℕ → Row → ℕ → ℕ) (lines : List LinkView) (old new : Crew) → is_numbered 0 (plan j.plan.now) ≡ true
     → old.stations.items ≡ [] → old.sends.items ≡ 0 ∷ [] → map duty old.workers.items ≡ root_duty (setting_of hash j) (plan j.plan.now) ∷ []
     → old.ports.items ≡ lines ∷ [] → AreEmpty lines → AddsBelow (setting_of hash j) (plan j.plan.now) 0 (made_of old) (made_of new) → All (IsNew j) new.workers.items
     → Ready OperatorStands operator_op DestinationStands task_of post_of bounds_of hash (scan_morsels (setting_of hash j)) (setting_of hash j) (plan j.plan.now) new.workers.items (board_of new)

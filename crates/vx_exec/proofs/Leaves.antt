@@ -3,9 +3,9 @@ use Rattle.std.proofs.Common.{◌≡◌, ℕ, suc, ◌+◌, ◌<◌, ◌≤◌, 
 use Rattle.std.proofs.lemmas.Bool.{le-ltb, lt-ltb}
 use Rattle.vx_values.specs.declared.value.ColType.{ColType}
 use Rattle.vx_relations.specs.Relation.{Relation}
-use Rattle.vx_nodes.specs.Plan.{Plan, scan, unary, binary, exchange, number}
-use Rattle.vx_nodes.specs.Types.{types_of}
-use Rattle.vx_nodes.specs.Numbering.{nodes, is_numbered}
+use Rattle.vx_plan_nodes.specs.Plan.{Plan, scan, unary, binary, exchange, number}
+use Rattle.vx_plan_nodes.specs.Types.{types_of}
+use Rattle.vx_plan_nodes.specs.Numbering.{nodes, is_numbered}
 use Rattle.vx_laws.proofs.Bags.{and-left, and-right}
 use Rattle.vx_laws.proofs.Layouts.{number-is}
 use Rattle.vx_exec.specs.LeafTypes.{leaf_types, LeavesFit}

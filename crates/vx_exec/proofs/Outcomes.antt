@@ -3,11 +3,11 @@ use Rattle.std.proofs.Common.{◌≡◌, ◌⊎◌, ℕ, ◌<◌, List, Ok, Err,
 use Rattle.std.specs.List.{All}
 use Rattle.std.specs.Result.{IsErrAnd}
 use Rattle.vx_catalog.specs.Database.{Database}
-use Rattle.vx_typed.specs.TypedView.{resolved_of}
-use Rattle.vx_typed.specs.declared.typed_plan.TypedPlan.{TypedPlan}
+use Rattle.vx_plan_nodes.specs.TypedView.{resolved_of}
+use Rattle.vx_plan_nodes.specs.declared.typed_plan.TypedPlan.{TypedPlan}
 use Rattle.vx_exec.specs.Sizes.{Sizes}
 use Rattle.vx_exec.specs.Setup.{SetupRefusal}
-use Rattle.vx_setup.specs.Setup.{SetupForm}
+use Rattle.vx_setup.specs.Setup.{SetupView}
 use Rattle.vx_exec.specs.Job.{sizes_of}
 use Rattle.vx_exec.specs.Runs.{NamesFirst, IsSetUp}
 use Rattle.vx_setup.specs.declared.fault.RunFault.{RunFault}
@@ -19,7 +19,7 @@ ok-is : (s t : Sizes) → ◌≡◌ {A = Result Sizes SetupRefusal} (Ok s) (Ok t
 ok-is s t e = cc
 
 -- what holds of a job holds of the plan, the database and the sizes that it was made of
-pub of-job : (P : TypedPlan → Database → Sizes → Type 0) (j : Job) (p : TypedPlan) (db : Database) (setup : SetupForm) (s : Sizes) → j.plan.now ≡ p → j.database.now ≡ db
+pub of-job : (P : TypedPlan → Database → Sizes → Type 0) (j : Job) (p : TypedPlan) (db : Database) (setup : SetupView) (s : Sizes) → j.plan.now ≡ p → j.database.now ≡ db
     → IsSetUp (resolved_of p) db setup (sizes_of j) → IsSetUp (resolved_of p) db setup s → P j.plan.now j.database.now (sizes_of j) → P p db s
 of-job P j p db setup s same_plan same_database mine set h =
     subst (λ z. P p db z) (ok-is (sizes_of j) s (sym mine.sizes ∙ set.sizes))

@@ -3,7 +3,7 @@ use Rattle.std.proofs.Common.{◌≡◌, ℕ, ◌+◌, List, [], ◌∷◌, ◌+
 use Rattle.std.proofs.lemmas.List.{map_push}
 use Rattle.vx_values.specs.declared.value.ColType.{ColType}
 use Rattle.vx_rows.specs.Lists.{each_below}
-use Rattle.vx_ports.specs.Packets.{Parcel, fault}
+use Rattle.vx_ports.specs.Packets.{PacketView, fault}
 use Rattle.vx_exchange.specs.Ship.{Ship, packet_of}
 use Rattle.vx_worker.specs.Intake.{source_of, fresh_input}
 use Rattle.vx_worker.specs.declared.intake.Input.{Input}
@@ -13,7 +13,7 @@ pub closing_none : (ship : Ship) → [] ≡ each_below 0 (λ j. packet_of ship j
 closing_none ship = sym (none-each (λ j. packet_of ship j fault))
 
 -- one more closing packet
-pub closing_more : (ship : Ship) (exchange place k : ℕ) (types : List ColType) (old new : List Parcel) (p : Parcel)
+pub closing_more : (ship : Ship) (exchange place k : ℕ) (types : List ColType) (old new : List PacketView) (p : PacketView)
     → ship.exchange ≡ exchange → ship.place ≡ place → ship.types ≡ types → old ≡ each_below k (λ j. packet_of ship j fault)
     → new ≡ old ++ p ∷ [] → p ≡ record { exchange = exchange; from = place; to = k; types = types; content = fault }
     → new ≡ each_below (k + 1) (λ j. packet_of ship j fault)

@@ -2,10 +2,10 @@
 use Rattle.std.proofs.Common.{◌≡◌, ℕ, List, [], sym, ap, ◌∙◌, subst}
 use Rattle.vx_values.specs.Values.{Row}
 use Rattle.vx_values.specs.declared.value.ColType.{ColType}
-use Rattle.vx_nodes.specs.Plan.{Plan, gather}
-use Rattle.vx_nodes.specs.Routes.{Router}
-use Rattle.vx_nodes.specs.Types.{types_of}
-use Rattle.vx_rules.specs.Checked.{relations}
+use Rattle.vx_plan_nodes.specs.Plan.{Plan, gather}
+use Rattle.vx_plan_nodes.specs.Routes.{Router}
+use Rattle.vx_plan_nodes.specs.Types.{types_of}
+use Rattle.vx_check_rules.specs.Checked.{relations}
 use Rattle.vx_ops.specs.Ledger.{fresh}
 use Rattle.vx_exchange.specs.Tasks.{Post, sends_by_ship, keeps}
 use Rattle.vx_exchange.specs.Sending.{RoutesAs}

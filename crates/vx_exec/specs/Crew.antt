@@ -2,11 +2,11 @@
 use Rattle.std.specs.Prelude.{ℕ, ◌≡◌, ◌+◌, true, List}
 use Rattle.vx_values.specs.Values.{Row}
 use Rattle.vx_values.specs.declared.value.ColType.{ColType}
-use Rattle.vx_nodes.specs.Plan.{Plan}
-use Rattle.vx_nodes.specs.Routes.{Router}
-use Rattle.vx_nodes.specs.Types.{types_of}
-use Rattle.vx_nodes.specs.Numbering.{is_numbered, nodes}
-use Rattle.vx_rules.specs.Checked.{relations}
+use Rattle.vx_plan_nodes.specs.Plan.{Plan}
+use Rattle.vx_plan_nodes.specs.Routes.{Router}
+use Rattle.vx_plan_nodes.specs.Types.{types_of}
+use Rattle.vx_plan_nodes.specs.Numbering.{is_numbered, nodes}
+use Rattle.vx_check_rules.specs.Checked.{relations}
 use Rattle.vx_ops.specs.Ledger.{fresh}
 use Rattle.vx_exchange.specs.Sending.{RoutesAs}
 use Rattle.vx_worker.specs.Fragment.{fragment, goes}

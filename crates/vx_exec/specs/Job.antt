@@ -2,8 +2,8 @@
 use Rattle.std.specs.Prelude.{ℕ, List}
 use Rattle.vx_values.specs.Values.{Row}
 use Rattle.vx_values.specs.declared.value.ColType.{ColType}
-use Rattle.vx_typed.specs.TypedView.{plan}
-use Rattle.vx_rules.specs.Checked.{relations}
+use Rattle.vx_plan_nodes.specs.TypedView.{plan}
+use Rattle.vx_check_rules.specs.Checked.{relations}
 use Rattle.vx_worker.specs.Fragment.{Setting}
 use Rattle.vx_exec.specs.Sizes.{Sizes, setting}
 use Rattle.vx_exec.specs.LeafTypes.{leaf_types}

@@ -2,8 +2,8 @@
 use Rattle.std.specs.Prelude.{ℕ, ◌≡◌, ◌==◌, nat_lt, cond, List}
 use Rattle.vx_values.specs.declared.value.ColType.{ColType}
 use Rattle.vx_relations.specs.Relation.{Relation}
-use Rattle.vx_nodes.specs.Plan.{Plan, scan, unary, binary, exchange, number}
-use Rattle.vx_nodes.specs.Types.{types_of}
+use Rattle.vx_plan_nodes.specs.Plan.{Plan, scan, unary, binary, exchange, number}
+use Rattle.vx_plan_nodes.specs.Types.{types_of}
 
 -- the types of the rows that the leaf with this number reads: those of a scan's relation, or of an exchange's input
 abbrev pub leaf_types : (ℕ → Relation) → Plan → ℕ → List ColType

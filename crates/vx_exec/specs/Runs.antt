@@ -2,17 +2,17 @@
 use Rattle.std.specs.Prelude.{ℕ, ◌≡◌, ◌≢◌, ◌<◌, ◌⊎◌, List, Result, Ok, Err}
 use Rattle.std.specs.List.{All, slice_index_or}
 use Rattle.vx_values.specs.Values.{Row}
-use Rattle.vx_rows.specs.View.{Table}
+use Rattle.vx_rows.specs.View.{RowsView}
 use Rattle.vx_relations.specs.Catalog.{relation_at}
 use Rattle.vx_catalog.specs.Database.{Database, rows_at}
-use Rattle.vx_typed.specs.Names.{scope_of, Resolved}
-use Rattle.vx_nodes.specs.Outline.{plan_in}
-use Rattle.vx_nodes.specs.Plan.{Plan}
-use Rattle.vx_nodes.specs.Routes.{sends_by}
-use Rattle.vx_nodes.specs.Runs.{Runs}
-use Rattle.vx_typed.specs.Typed.{bounds_at}
-use Rattle.vx_nodes.specs.Types.{types_of}
-use Rattle.vx_rules.specs.Claims.{Delivers}
+use Rattle.vx_plan_nodes.specs.Names.{scope_of, TypedPlanView}
+use Rattle.vx_plan_nodes.specs.Outline.{plan_in}
+use Rattle.vx_plan_nodes.specs.Plan.{Plan}
+use Rattle.vx_plan_nodes.specs.Routes.{sends_by}
+use Rattle.vx_plan_nodes.specs.Runs.{Runs}
+use Rattle.vx_plan_nodes.specs.Typed.{bounds_at}
+use Rattle.vx_plan_nodes.specs.Types.{types_of}
+use Rattle.vx_check_rules.specs.Claims.{Delivers}
 use Rattle.vx_laws.specs.Faults.{IsReal}
 use Rattle.vx_ops.specs.declared.fault.Code.TheVariants.{Overflow, NoMemory, Unsorted, Stranger}
 use Rattle.vx_ops.specs.declared.fault.Fault.{Fault}
@@ -31,7 +31,7 @@ use Rattle.vx_steps.specs.declared.verdict.Verdict.{Verdict}
 use Rattle.vx_steps.specs.declared.verdict.Verdict.TheVariants as verdict
 use Rattle.vx_exec.specs.Sizes.{Sizes, group_at}
 use Rattle.vx_exec.specs.Setup.{sizes_set, Fails}
-use Rattle.vx_setup.specs.Setup.{SetupForm}
+use Rattle.vx_setup.specs.Setup.{SetupView}
 use Rattle.vx_setup.specs.declared.fault.RunFault.{RunFault}
 use Rattle.vx_setup.specs.declared.fault.RunFault.TheVariants as fault
 use Rattle.vx_exec.specs.declared.ran.Ran.{Ran}
@@ -39,18 +39,18 @@ use Rattle.vx_exec.specs.declared.ran.Ran.TheVariants as ran
 
 -- rows that a run gave, of the output's types: they are stream 0 of a run of the plan relation with groups of these sizes, where a hash route sends
 -- keys so, and those of the plan without its exchanges, each as often, and the same list where the root claims a total order
-pub record IsRunOf (hash : List ℕ → Row → ℕ → ℕ) (p : Resolved) (db : Database) (groups : List ℕ) (rows : Table) : Type 0 where
+pub record IsRunOf (hash : List ℕ → Row → ℕ → ℕ) (p : TypedPlanView) (db : Database) (groups : List ℕ) (rows : RowsView) : Type 0 where
   pub types : rows.types ≡ types_of (relation_at p.names.catalog) (plan_in p.root)
   pub runs : Runs (rows_at db) (group_at groups) (sends_by hash (bounds_at (scope_of p.names).ranges)) (plan_in p.root) (λ _. rows.rows)
   pub delivers : Delivers (rows_at db) p.total (plan_in p.root) rows.rows
 
 -- a fact of the rows, where every worker has ended
-abbrev pub IfDone : (Table → Type 0) → Ran → Type 0
+abbrev pub IfDone : (RowsView → Type 0) → Ran → Type 0
 IfDone P (ran.Done rows) = P rows
 IfDone P ran.Unfinished = Unit {0}
 
 -- why a run that began gives no rows: memory was refused, or a sum or count of the data overflows. No rows fall, and no packet is a stranger
-abbrev pub IsTrueOf : Resolved → Database → RunFault → Type 0
+abbrev pub IsTrueOf : TypedPlanView → Database → RunFault → Type 0
 IsTrueOf p db fault.NoMemory = Unit {0}
 IsTrueOf p db (fault.Overflow node) = IsReal (rows_at db) (plan_in p.root)
 IsTrueOf p db _ = ⊥
@@ -77,12 +77,12 @@ ComesTo ws (verdict.Failed f) (Err e) = e ≡ fault_told f
 ComesTo ws v r = ⊥
 
 -- the database is one of the plan's catalog, and the setup comes to these sizes
-pub record IsSetUp (p : Resolved) (db : Database) (setup : SetupForm) (s : Sizes) : Type 0 where
+pub record IsSetUp (p : TypedPlanView) (db : Database) (setup : SetupView) (s : Sizes) : Type 0 where
   pub same : db.catalog ≡ p.names.catalog
   pub sizes : sizes_set setup p.names.sizes (plan_in p.root) ≡ Ok s
 
 -- why a plan gives no rows over a database: another catalog, the first refusal of the setup, or what the run came to
-pub data RunFails (p : Resolved) (db : Database) (setup : SetupForm) (e : RunFault) : Type 0 where
+pub data RunFails (p : TypedPlanView) (db : Database) (setup : SetupView) (e : RunFault) : Type 0 where
   for_catalog : e ≡ fault.OtherCatalog → db.catalog ≢ p.names.catalog → RunFails p db setup e
   for_setup : db.catalog ≡ p.names.catalog → Fails e (sizes_set setup p.names.sizes (plan_in p.root)) → RunFails p db setup e
   for_fault : (s : Sizes) → IsSetUp p db setup s → IsTrueOf p db e → RunFails p db setup e
@@ -98,6 +98,6 @@ NamesFirst steps workers (Ok r) = All (λ s. s < workers) steps
 NamesFirst steps workers (Err e) = (e ≡ fault.NoMemory) ⊎ IsBadStepOf steps workers e ⊎ All (λ s. s < workers) steps
 
 -- why a plan gives no rows by a schedule: as above, or a step that names no worker
-pub data ScheduleFails (p : Resolved) (db : Database) (setup : SetupForm) (steps : List ℕ) (e : RunFault) : Type 0 where
+pub data ScheduleFails (p : TypedPlanView) (db : Database) (setup : SetupView) (steps : List ℕ) (e : RunFault) : Type 0 where
   for_run : RunFails p db setup e → ScheduleFails p db setup steps e
   for_step : (s : Sizes) → IsSetUp p db setup s → IsBadStepOf steps (crew_size (group_at s.groups) (plan_in p.root)) e → ScheduleFails p db setup steps e

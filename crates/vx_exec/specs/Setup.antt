@@ -1,9 +1,9 @@
 -- What a run's setup comes to: the sizes of its run, or the first thing that is wrong with it.
 use Rattle.std.specs.Prelude.{ℕ, ◌≡◌, Bool, nat_le, if◌then◌else◌, List, Option, Some, None, Result, Ok, Err, ⊤, string_bytes, ◌⊎◌}
-use Rattle.vx_nodes.specs.Plan.{Plan}
+use Rattle.vx_plan_nodes.specs.Plan.{Plan}
 use Rattle.vx_steps.specs.Roles.{crew_size}
 use Rattle.vx_relations.specs.Walk.{◌>>=◌}
-use Rattle.vx_setup.specs.Setup.{SetupForm, is_within, groups_named, first_missing, first_out_of_range}
+use Rattle.vx_setup.specs.Setup.{SetupView, is_within, groups_named, first_missing, first_out_of_range}
 use Rattle.vx_exec.specs.Sizes.{Sizes, group_at}
 use Rattle.vx_setup.specs.declared.fault.RunFault.{RunFault}
 use Rattle.vx_setup.specs.declared.fault.RunFault.TheVariants as fault
@@ -32,7 +32,7 @@ abbrev pub few_workers : List ℕ → Plan → Result ⊤ SetupRefusal
 few_workers groups p = tested (nat_le (crew_size (group_at groups) p) 256) (too_many_workers (crew_size (group_at groups) p))
 
 -- the sizes of a run of a plan that declares these size names, or the first refusal
-unfoldable pub sizes_set : SetupForm → List (List ℕ) → Plan → Result Sizes SetupRefusal
+unfoldable pub sizes_set : SetupView → List (List ℕ) → Plan → Result Sizes SetupRefusal
 sizes_set s names p =
     no_name size_missing (first_missing s.sizes names) >>= λ _.
     no_name size_out_of_range (first_out_of_range s.sizes names) >>= λ _.

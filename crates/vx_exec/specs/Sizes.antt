@@ -3,11 +3,11 @@ use Rattle.std.specs.Prelude.{ℕ, ◌≤◌, List}
 use Rattle.std.specs.List.{All, slice_index_or}
 use Rattle.vx_values.specs.Values.{Row}
 use Rattle.vx_catalog.specs.Database.{Database, rows_at}
-use Rattle.vx_nodes.specs.Numbering.{relation_in}
-use Rattle.vx_typed.specs.Typed.{bounds_at}
-use Rattle.vx_typed.specs.TypedView.{scope, plan}
-use Rattle.vx_typed.specs.declared.typed_plan.TypedPlan.{TypedPlan}
-use Rattle.vx_rules.specs.Checked.{relations}
+use Rattle.vx_plan_nodes.specs.Numbering.{relation_in}
+use Rattle.vx_plan_nodes.specs.Typed.{bounds_at}
+use Rattle.vx_plan_nodes.specs.TypedView.{scope, plan}
+use Rattle.vx_plan_nodes.specs.declared.typed_plan.TypedPlan.{TypedPlan}
+use Rattle.vx_check_rules.specs.Checked.{relations}
 use Rattle.vx_worker.specs.Fragment.{Setting}
 
 -- the workers of each size name by its number, the rows of a packet and those of a morsel

@@ -3,14 +3,14 @@
 ghost use Rattle.std.specs.Prelude.{◌≡◌, ◌<◌, ◌∷◌, ◌++◌, [], ℕ, true, List, map, length, IfOk, OnOk};
 ghost use Rattle.std.specs.List.{All};
 ghost use Rattle.vx_values.specs.Values.{Row};
-ghost use Rattle.vx_nodes.specs.Numbering.{is_numbered};
-ghost use Rattle.vx_nodes.specs.Outline.{plan_of, size_of};
-ghost use Rattle.vx_nodes.specs.Plan.{scan as scan_at, gather, size, Claim};
-ghost use Rattle.vx_nodes.specs.Streams.{workers};
-ghost use Rattle.vx_typed.specs.Typed.{typed};
-ghost use Rattle.vx_typed.specs.TypedView.{scope, plan};
-ghost use Rattle.vx_rules.specs.Checked.{relations};
-ghost use Rattle.vx_ports.specs.Line.{Line};
+ghost use Rattle.vx_plan_nodes.specs.Numbering.{is_numbered};
+ghost use Rattle.vx_plan_nodes.specs.Outline.{plan_of, size_of};
+ghost use Rattle.vx_plan_nodes.specs.Plan.{scan as scan_at, gather, size, Claim};
+ghost use Rattle.vx_plan_nodes.specs.Streams.{workers};
+ghost use Rattle.vx_plan_nodes.specs.Typed.{typed};
+ghost use Rattle.vx_plan_nodes.specs.TypedView.{scope, plan};
+ghost use Rattle.vx_check_rules.specs.Checked.{relations};
+ghost use Rattle.vx_ports.specs.LinkView.{LinkView};
 ghost use Rattle.vx_worker.specs.Operator.{OperatorStands, operator_op, operator_types};
 ghost use Rattle.vx_worker.specs.Destination.{DestinationStands, task_of, post_of, bounds_of, is_open, has_closed};
 ghost use Rattle.vx_worker.specs.Trace.{scan_morsels};
@@ -28,7 +28,7 @@ ghost use Rattle.vx_exec.specs.Crew.{duty, IsNew};
 use crate::job::Job;
 use crate::worker::{producer, root_worker};
 use std::alloc::{AllocError, Global};
-use vx_nodes::{Scan, TypedNode};
+use vx_plan_nodes::{ScanNode, TypedNode};
 use vx_steps::{Links, Ports, SharedScan, Station, WholeScan};
 use vx_worker::{Destination, Operator, Worker};
 
@@ -44,7 +44,12 @@ pub struct Crew {
 }
 
 // What the workers of a scan share, the first of which has this number.
-fn station_of(alloc: Global, job: &Job<'_>, scan: &Scan, top: usize) -> Result<Station, AllocError>
+fn station_of(
+    alloc: Global,
+    job: &Job<'_>,
+    scan: &ScanNode,
+    top: usize,
+) -> Result<Station, AllocError>
     requires { scan.now.relation < length (scope job.now.plan.now).catalog }
     ensures { IfOk result (λ s. (hash : List ℕ → Row → ℕ → ℕ) (n : ℕ) (c : Claim) (next : ℕ)
         → stations_of (setting_of hash job.now) (scan_at n c scan.now.relation scan.now.shared (size_of scan.now.size)) top next ≡ s ∷ []) }
@@ -77,7 +82,7 @@ impl Crew {
         ensures sends { OnOk result (self.new.sends.items ≡ self.old.sends.items ++ exchange ∷ []) }
         ensures duties { OnOk result ((hash : List ℕ → Row → ℕ → ℕ)
             → map duty self.new.workers.items ≡ map duty self.old.workers.items ++ producer_duty (setting_of hash job.now) exchange gather (plan_of node.now) place ∷ []) }
-        ensures queues { OnOk result ((lines : List Line) × (self.new.ports.items ≡ self.old.ports.items ++ lines ∷ []) × AreEmpty lines) }
+        ensures queues { OnOk result ((lines : List LinkView) × (self.new.ports.items ≡ self.old.ports.items ++ lines ∷ []) × AreEmpty lines) }
         ensures new { OnOk result (All (IsNew job.now) self.old.workers.items → All (IsNew job.now) self.new.workers.items) }
     {
         let worker = producer(alloc, job, exchange, node, place)?;
@@ -159,7 +164,7 @@ impl Crew {
         ensures stations { IfOk result (λ c. c.stations.items ≡ []) }
         ensures sends { IfOk result (λ c. c.sends.items ≡ 0 ∷ []) }
         ensures duties { IfOk result (λ c. (hash : List ℕ → Row → ℕ → ℕ) → map duty c.workers.items ≡ root_duty (setting_of hash job.now) (plan_of node.now) ∷ []) }
-        ensures queues { IfOk result (λ c. (lines : List Line) × (c.ports.items ≡ lines ∷ []) × AreEmpty lines) }
+        ensures queues { IfOk result (λ c. (lines : List LinkView) × (c.ports.items ≡ lines ∷ []) × AreEmpty lines) }
         ensures new { IfOk result (λ c. All (IsNew job.now) c.workers.items) }
     {
         let mut workers = Vec::new(alloc);

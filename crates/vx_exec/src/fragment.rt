@@ -1,12 +1,12 @@
 //! The operators of a fragment, for the worker at a place.
 
 ghost use Rattle.std.specs.Prelude.{◌≡◌, ℕ, true, IfOk};
-ghost use Rattle.vx_nodes.specs.Outline.{plan_of, unary_of};
-ghost use Rattle.vx_nodes.specs.Plan.{Plan, Claim, unary as over};
-ghost use Rattle.vx_typed.specs.Typed.{typed};
-ghost use Rattle.vx_typed.specs.TypedView.{scope};
-ghost use Rattle.vx_nodes.specs.Types.{types_of};
-ghost use Rattle.vx_rules.specs.Checked.{relations};
+ghost use Rattle.vx_plan_nodes.specs.Outline.{plan_of, unary_of};
+ghost use Rattle.vx_plan_nodes.specs.Plan.{Plan, Claim, unary as over};
+ghost use Rattle.vx_plan_nodes.specs.Typed.{typed};
+ghost use Rattle.vx_plan_nodes.specs.TypedView.{scope};
+ghost use Rattle.vx_plan_nodes.specs.Types.{types_of};
+ghost use Rattle.vx_check_rules.specs.Checked.{relations};
 ghost use Rattle.vx_setup.specs.Runnable.{can_run};
 ghost use Rattle.vx_exec.specs.Crew.{IsTreeOf};
 ghost use Rattle.vx_exec.specs.declared.job.Job.{Job};
@@ -14,8 +14,8 @@ ghost use Rattle.vx_exec.specs.declared.job.Job.{Job};
 use crate::job::Job;
 use std::alloc::{AllocError, Global};
 use vx_exchange::Receiver;
-use vx_nodes::{TypedNode, Unary, copied_conditions};
 use vx_ops::{Scan, Select};
+use vx_plan_nodes::{TypedNode, Unary, copied_conditions};
 use vx_rows::ColType;
 use vx_worker::{Operator, Tree};
 

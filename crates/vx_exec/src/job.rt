@@ -4,12 +4,12 @@ ghost use Rattle.std.specs.Prelude.{◌≡◌, ℕ, ◌≤◌, ◌<◌, true, le
 ghost use Rattle.std.specs.List.{All};
 ghost use Rattle.vx_relations.specs.Relation.{Relation};
 ghost use Rattle.vx_catalog.specs.Database.{rows_at, MeetsAll};
-ghost use Rattle.vx_nodes.specs.Numbering.{relation_in};
-ghost use Rattle.vx_nodes.specs.Outline.{size_of, plan_of};
-ghost use Rattle.vx_nodes.specs.Streams.{workers};
-ghost use Rattle.vx_typed.specs.Typed.{Scope, typed};
-ghost use Rattle.vx_typed.specs.TypedView.{scope, plan as whole_plan};
-ghost use Rattle.vx_rules.specs.Checked.{relations};
+ghost use Rattle.vx_plan_nodes.specs.Numbering.{relation_in};
+ghost use Rattle.vx_plan_nodes.specs.Outline.{size_of, plan_of};
+ghost use Rattle.vx_plan_nodes.specs.Streams.{workers};
+ghost use Rattle.vx_plan_nodes.specs.Typed.{Scope, typed};
+ghost use Rattle.vx_plan_nodes.specs.TypedView.{scope, plan as whole_plan};
+ghost use Rattle.vx_check_rules.specs.Checked.{relations};
 ghost use Rattle.vx_worker.specs.Morsels.{morsel_of, morsel_count};
 ghost use Rattle.vx_steps.specs.Roles.{crew_size};
 ghost use Rattle.vx_exec.specs.Sizes.{AreWithin, IsWithin, group_at};
@@ -17,9 +17,8 @@ ghost use Rattle.vx_exec.specs.LeafTypes.{leaf_types};
 
 use std::alloc::{AllocError, Global};
 use vx_catalog::{Catalog, Database};
-use vx_nodes::{Size, TypedNode};
+use vx_plan_nodes::{Size, TypedNode, TypedPlan};
 use vx_rows::{ColType, Rows};
-use vx_typed::TypedPlan;
 use vx_worker::Morsels;
 
 /// A plan with a database of its catalog, and the sizes of a run, each within its limits.

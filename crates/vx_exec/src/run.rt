@@ -2,10 +2,10 @@
 
 ghost use Rattle.std.specs.Prelude.{◌≡◌, ◌<◌, ◌⊎◌, true, length, IfOk, IfErr, List};
 ghost use Rattle.std.specs.List.{slice_index_or};
-ghost use Rattle.vx_values.specs.declared.value.ColType.{ColType as Kind};
-ghost use Rattle.vx_typed.specs.TypedView.{plan as whole_plan, resolved_of};
-ghost use Rattle.vx_rules.specs.Checked.{is_allowed, is_root_allowed};
-ghost use Rattle.vx_rules.specs.CheckedView.{typed_plan};
+ghost use Rattle.vx_values.specs.declared.value.ColType.{ColType};
+ghost use Rattle.vx_plan_nodes.specs.TypedView.{plan as whole_plan, resolved_of};
+ghost use Rattle.vx_check_rules.specs.Checked.{is_allowed, is_root_allowed};
+ghost use Rattle.vx_check_rules.specs.CheckedView.{typed_plan};
 ghost use Rattle.vx_ops.specs.declared.fault.Fault.TheVariants.{Passed};
 ghost use Rattle.vx_exchange.specs.Tasks.{keep, keeps};
 ghost use Rattle.vx_worker.specs.Destination.{task_of, post_of};
@@ -25,18 +25,18 @@ use crate::ran::Ran;
 use crate::setup::job_of;
 use std::alloc::Global;
 use vx_catalog::Database;
-use vx_nodes::Router;
+use vx_check_rules::CheckedPlan;
 use vx_ops::{Code, Fault};
+use vx_plan_nodes::Router;
 use vx_rows::Rows;
-use vx_rules::CheckedPlan;
 use vx_setup::{RunFault, Setup};
-use vx_steps::{Verdict, finish_rounds, finish_steps};
+use vx_steps::{Verdict, judge_rounds, judge_schedule};
 use vx_worker::{Destination, Operator, Worker};
 
 // The rows that the first worker kept.
 fn rows_of_root(mut workers: Vec<Worker<Operator, Destination>>) -> Rows
     requires there { 0 < length workers.items }
-    requires keeps { (d : AWorker AnOperator ADestination) → (types : List Kind) × (post_of (sender_of (slice_index_or workers.items 0 d)) ≡ keeps types) }
+    requires keeps { (d : AWorker AnOperator ADestination) → (types : List ColType) × (post_of (sender_of (slice_index_or workers.items 0 d)) ≡ keeps types) }
     ensures rows { (d : AWorker AnOperator ADestination) → task_of (sender_of (slice_index_or workers.items 0 d)) ≡ keep result.rows }
     ensures types { (d : AWorker AnOperator ADestination) → post_of (sender_of (slice_index_or workers.items 0 d)) ≡ keeps result.types }
 {
@@ -66,7 +66,7 @@ fn fault_of(fault: Fault) -> RunFault
 // What workers with such a verdict are told as.
 fn answer_of(workers: Vec<Worker<Operator, Destination>>, verdict: Verdict) -> Result<Ran, RunFault>
     requires there { verdict ≡ Verdict.Done → 0 < length workers.items }
-    requires keeps { verdict ≡ Verdict.Done → (d : AWorker AnOperator ADestination) → (types : List Kind) × (post_of (sender_of (slice_index_or workers.items 0 d)) ≡ keeps types) }
+    requires keeps { verdict ≡ Verdict.Done → (d : AWorker AnOperator ADestination) → (types : List ColType) × (post_of (sender_of (slice_index_or workers.items 0 d)) ≡ keeps types) }
     requires own { verdict ≡ Verdict.Failed Passed → ⊥ }
     ensures { ComesTo workers.items verdict result }
 {
@@ -89,7 +89,7 @@ fn run_job<R: Router>(alloc: Global, job: &Job<'_>, router: &R, limit: u64) -> R
     job.meets();
     let crew = Crew::new(alloc, job)?;
     let (mut workers, mut links) = crew.into_parts();
-    let verdict = finish_rounds(&mut workers, job, router, &mut links, limit);
+    let verdict = judge_rounds(&mut workers, job, router, &mut links, limit);
     answer_of(workers, verdict)
 }
 
@@ -113,7 +113,7 @@ fn schedule_job<R: Router>(
     job.meets();
     let crew = Crew::new(alloc, job)?;
     let (mut workers, mut links) = crew.into_parts();
-    match finish_steps(&mut workers, job, router, &mut links, steps) {
+    match judge_schedule(&mut workers, job, router, &mut links, steps) {
         Err(index) => return Err(RunFault::BadStep { index }),
         Ok(verdict) => return answer_of(workers, verdict),
     }

@@ -2,9 +2,9 @@
 
 ghost use Rattle.std.specs.Prelude.{◌≡◌, ◌+◌, ◌*◌, ◌≤◌, map, string_bytes, IfOk, IfErr};
 ghost use Rattle.std.specs.List.{All};
-ghost use Rattle.vx_nodes.specs.Numbering.{nodes};
-ghost use Rattle.vx_nodes.specs.Outline.{plan_of};
-ghost use Rattle.vx_typed.specs.TypedView.{names_in, scope, resolved_of, plan as plan_of_typed};
+ghost use Rattle.vx_plan_nodes.specs.Numbering.{nodes};
+ghost use Rattle.vx_plan_nodes.specs.Outline.{plan_of};
+ghost use Rattle.vx_plan_nodes.specs.TypedView.{names_in, scope, resolved_of, plan as plan_of_typed};
 ghost use Rattle.vx_laws.specs.Layout.{workers_below};
 ghost use Rattle.vx_steps.specs.Roles.{crew_size};
 ghost use Rattle.vx_exec.specs.Sizes.{IsWithin, Sizes, group_at};
@@ -16,9 +16,8 @@ ghost use Rattle.vx_exec.specs.Runs.{IsSetUp, RunFails};
 use crate::job::{Job, workers_of};
 use std::alloc::{AllocError, Global};
 use vx_catalog::Database;
-use vx_nodes::TypedNode;
+use vx_plan_nodes::{TypedNode, TypedPlan};
 use vx_setup::{RunFault, Setup, is_within};
-use vx_typed::TypedPlan;
 
 // The most rows of a packet.
 const MOST_IN_PACKET: u32 = 4096;

@@ -7,13 +7,13 @@ use Rattle.vx_values.specs.Values.{Val, num, Row, val_cmp, row_eq, value_at, pic
 use Rattle.vx_rows.specs.Order.{agree, sorted, compare_on}
 use Rattle.vx_rows.specs.Bags.{total, count, SameRows}
 use Rattle.vx_rows.specs.Keys.{HasKey}
-use Rattle.vx_nodes.specs.Plan.{Route, Aggregate, least, greatest, sum, count_rows}
-use Rattle.vx_nodes.specs.Serial.{firsts, group_row, group_fits, of_key, aggregate_of, fits, sum_of, count_of, above_zero, below_zero, least_of, greatest_of}
+use Rattle.vx_plan_nodes.specs.Plan.{Route, Aggregate, least, greatest, sum, count_rows}
+use Rattle.vx_plan_nodes.specs.Serial.{firsts, group_row, group_fits, of_key, aggregate_of, fits, sum_of, count_of, above_zero, below_zero, least_of, greatest_of}
 use Rattle.vx_values.specs.Types.{fits_64}
-use Rattle.vx_nodes.specs.Streams.{Streams, joined, across}
-use Rattle.vx_nodes.specs.Routes.{Router}
-use Rattle.vx_rules.specs.Rules.{within, contains, numbers_below}
-use Rattle.vx_rules.specs.Claims.{InItsStream}
+use Rattle.vx_plan_nodes.specs.Streams.{Streams, joined, across}
+use Rattle.vx_plan_nodes.specs.Routes.{Router}
+use Rattle.vx_check_rules.specs.Rules.{within, contains, numbers_below}
+use Rattle.vx_check_rules.specs.Claims.{InItsStream}
 use Rattle.vx_laws.proofs.Bags.{and-left, and-right, and-both, when, total-map, total-filter, total-ext, total-zero, total-joined, across-ext, SameRows-all, SameRows-sym}
 use Rattle.vx_laws.proofs.Parts.{list_all-weaken}
 use Rattle.vx_laws.proofs.Keys.{agree-within, agree-at, one-if-mono}

@@ -3,14 +3,14 @@ use Rattle.std.proofs.Common.{◌≡◌, ℕ, ◌+◌, ◌-◌, ◌<◌, ◌==�
 use Rattle.std.specs.List.{list_all}
 use Rattle.vx_values.specs.Values.{Row, pick}
 use Rattle.vx_rows.specs.Bags.{total, SameRows}
-use Rattle.vx_nodes.specs.Plan.{Route, Part, one, any, all, routed}
-use Rattle.vx_nodes.specs.Types.{part_columns}
+use Rattle.vx_plan_nodes.specs.Plan.{Route, Part, one, any, all, routed}
+use Rattle.vx_plan_nodes.specs.Types.{part_columns}
 use Rattle.vx_relations.specs.Catalog.{all_below}
-use Rattle.vx_nodes.specs.Serial.{join_rows}
-use Rattle.vx_nodes.specs.Streams.{Streams, joined, across}
-use Rattle.vx_nodes.specs.Routes.{Router}
-use Rattle.vx_rules.specs.Rules.{part_gives, route_eq, numbers_eq, all_pairs, routed_alike, alike_shows, right_columns, left_columns, if_some, front}
-use Rattle.vx_rules.specs.Claims.{PartHolds, InItsStream}
+use Rattle.vx_plan_nodes.specs.Serial.{join_rows}
+use Rattle.vx_plan_nodes.specs.Streams.{Streams, joined, across}
+use Rattle.vx_plan_nodes.specs.Routes.{Router}
+use Rattle.vx_check_rules.specs.Rules.{part_gives, route_eq, numbers_eq, all_pairs, routed_alike, alike_shows, right_columns, left_columns, if_some, front}
+use Rattle.vx_check_rules.specs.Claims.{PartHolds, InItsStream}
 use Rattle.vx_laws.proofs.Bags.{and-left, and-right, and-both, total-append, total-joined, across-ext, across-add, stream-all, SameRows-all, SameRows-sym}
 use Rattle.vx_laws.proofs.Parts.{or-cases, route_eq-is, numbers_eq-is, list_all-always}
 use Rattle.vx_laws.proofs.Copies.{if_some-is}

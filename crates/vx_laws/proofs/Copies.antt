@@ -1,7 +1,7 @@
 -- Columns that an operator copies.
 use Rattle.std.proofs.Common.{◌≡◌, ℕ, zero, suc, Bool, true, List, [], ◌∷◌, ◌++◌, refl, sym, ap, ◌∙◌, true≢false, Option, Some, None, slice_get, append-nil}
 use Rattle.vx_values.specs.Values.{Row, value_at, pick}
-use Rattle.vx_rules.specs.Rules.{cons_both, copied, if_some}
+use Rattle.vx_check_rules.specs.Rules.{cons_both, copied, if_some}
 
 -- the columns are copied, and the test holds of where they come from
 pub if_some-is : (o : Option (List ℕ)) (test : List ℕ → Bool) → if_some o test ≡ true → (ds : List ℕ) × (o ≡ Some ds) × (test ds ≡ true)

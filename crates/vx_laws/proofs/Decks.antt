@@ -6,7 +6,7 @@ use Rattle.std.proofs.lemmas.List.{drop-drop, drop_all, take-append-drop}
 use Rattle.std.proofs.lemmas.Nat.{div-add-mod', mod_below}
 use Rattle.std.proofs.Math.Nat.{suc-mul}
 use Rattle.vx_values.specs.Values.{Row}
-use Rattle.vx_nodes.specs.Streams.{across, bearing, Dealt}
+use Rattle.vx_plan_nodes.specs.Streams.{across, bearing, Dealt}
 use Rattle.vx_morsel.specs.Draws.{Draws, times, once_below, AllAbove, Rises}
 use Rattle.vx_worker.specs.Morsels.{morsel_of, morsel_count, morsels, Dispatched}
 use Rattle.vx_laws.proofs.Bags.{across-least, eqb-refl, and-both}

@@ -4,11 +4,11 @@ use Rattle.std.specs.List.{list_all}
 use Rattle.vx_values.specs.Values.{Row, pick}
 use Rattle.vx_rows.specs.Order.{sorted}
 use Rattle.vx_rows.specs.Bags.{total, SameRows}
-use Rattle.vx_nodes.specs.Plan.{Size, Route, Kind, route_to, round, broadcast, gather}
-use Rattle.vx_nodes.specs.Streams.{Streams, joined, Dealt, across}
-use Rattle.vx_nodes.specs.Routes.{Router, Sends}
-use Rattle.vx_nodes.specs.Runs.{Exchanges}
-use Rattle.vx_rules.specs.Claims.{InItsStream}
+use Rattle.vx_plan_nodes.specs.Plan.{Size, Route, ExchangeKind, route_to, round, broadcast, gather}
+use Rattle.vx_plan_nodes.specs.Streams.{Streams, joined, Dealt, across}
+use Rattle.vx_plan_nodes.specs.Routes.{Router, Sends}
+use Rattle.vx_plan_nodes.specs.Runs.{Exchanges}
+use Rattle.vx_check_rules.specs.Claims.{InItsStream}
 use Rattle.vx_laws.proofs.Bags.{and-both, Dealt-total, total-joined, total-filter, total-ext, across-ext, across-swap, across-zero, across-total, across-one, when, against, against-none, none-against}
 use Rattle.vx_laws.proofs.Parts.{InRange}
 use Rattle.vx_laws.proofs.Orders.{Dealt-sorted, Dealt-one, sorted-filter}
@@ -26,7 +26,7 @@ routed-total goes law r cols n some f xs =
     ∙ total-ext _ f (λ row. across-one n (goes r (pick cols row) n) (f row) (law r (pick cols row) n some)) xs)
 
 -- what a producer sends to all consumers together; a broadcast sends everything to each
-pub sends-total : (goes : Router) → InRange goes → (k : Kind) (n : ℕ) (xs : List Row) (sent : Streams) → Sends goes k n xs sent
+pub sends-total : (goes : Router) → InRange goes → (k : ExchangeKind) (n : ℕ) (xs : List Row) (sent : Streams) → Sends goes k n xs sent
     → 0 < n → (f : Row → ℕ) → ((z : Size) → k ≡ broadcast z → n ≡ 1) → (k ≡ gather → n ≡ 1)
     → across n (λ j. total f (sent j)) ≡ total f xs
 sends-total goes law (route_to z r cols) n xs sent h some f b g =
@@ -46,7 +46,7 @@ sends-total goes law gather n xs sent h some f b g =
     omega (arith, a, c)
 
 -- the streams of all consumers have the rows of all producers, where nothing is sent twice
-pub exchange-any : (goes : Router) → InRange goes → (k : Kind) (merge : List ℕ) (m n : ℕ) (s s' : Streams) (base : List Row)
+pub exchange-any : (goes : Router) → InRange goes → (k : ExchangeKind) (merge : List ℕ) (m n : ℕ) (s s' : Streams) (base : List Row)
     → Exchanges goes k merge m n s s' → 0 < n → ((z : Size) → k ≡ broadcast z → n ≡ 1) → (k ≡ gather → n ≡ 1)
     → SameRows (joined m s) base → SameRows (joined n s') base
 exchange-any goes law k merge m n s s' base x some b g same = record {
@@ -88,7 +88,7 @@ routed-in-stream goes z r cols merge m n s s' x j l =
     ∙ across-zero m))
 
 -- what one producer sends in order stays in order
-pub sends-sorted : (goes : Router) (k : Kind) (n : ℕ) (xs : List Row) (sent : Streams) → Sends goes k n xs sent
+pub sends-sorted : (goes : Router) (k : ExchangeKind) (n : ℕ) (xs : List Row) (sent : Streams) → Sends goes k n xs sent
     → (cs : List ℕ) → sorted cs xs ≡ true → (j : ℕ) → j < n → sorted cs (sent j) ≡ true
 sends-sorted goes (route_to z r cols) n xs sent h cs up j l =
     let P : List Row → Type 0 = λ ys. sorted cs ys ≡ true in subst P (h j l) (sorted-filter cs _ xs up)
@@ -96,7 +96,7 @@ sends-sorted goes (round z) n xs sent h cs up j l = Dealt-sorted h cs up j l
 sends-sorted goes (broadcast z) n xs sent h cs up j l = let P : List Row → Type 0 = λ ys. sorted cs ys ≡ true in subst P (h j l) up
 sends-sorted goes gather n xs sent h cs up j l = let P : List Row → Type 0 = λ ys. sorted cs ys ≡ true in subst P (h j l) up
 
-pub single-sorted : (goes : Router) (k : Kind) (merge : List ℕ) (m n : ℕ) (s s' : Streams) → Exchanges goes k merge m n s s' → m ≡ 1
+pub single-sorted : (goes : Router) (k : ExchangeKind) (merge : List ℕ) (m n : ℕ) (s s' : Streams) → Exchanges goes k merge m n s s' → m ≡ 1
     → (cs : List ℕ) → sorted cs (s 0) ≡ true → (j : ℕ) → j < n → sorted cs (s' j) ≡ true
 single-sorted goes k merge m n s s' x e cs up j l =
     let D : ℕ → Type 0 = λ a. Dealt a (s' j) (λ i. x.sent i j) in

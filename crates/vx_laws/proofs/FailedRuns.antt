@@ -1,7 +1,7 @@
 -- The worked run that fails.
 use Rattle.std.proofs.Common.{◌≡◌, ℕ, zero, suc, ◌==◌, false, cond, inl, inr, [], ◌∷◌, refl, ap, subst, arith, ne_eqb}
-use Rattle.vx_nodes.specs.Plan.{sum, group}
-use Rattle.vx_nodes.specs.Streams.{across}
+use Rattle.vx_plan_nodes.specs.Plan.{sum, group}
+use Rattle.vx_plan_nodes.specs.Streams.{across}
 use Rattle.vx_morsel.specs.Draws.{times, once_below}
 use Rattle.vx_ops.specs.Ledger.{Stream, Ledger, fresh, one_op, scan_op, OwnBlame, Told}
 use Rattle.vx_worker.specs.Fragment.{fragment}

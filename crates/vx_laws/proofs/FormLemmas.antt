@@ -2,8 +2,8 @@
 use Rattle.std.proofs.Common.{ℕ, ◌<◌, ◌≤◌, List, arith, is_le}
 use Rattle.vx_values.specs.Values.{Val, Row, val_cmp}
 use Rattle.vx_rows.specs.Bags.{count}
-use Rattle.vx_nodes.specs.Plan.{Route, by_hash, by_range}
-use Rattle.vx_nodes.specs.Routes.{sends_by}
+use Rattle.vx_plan_nodes.specs.Plan.{Route, by_hash, by_range}
+use Rattle.vx_plan_nodes.specs.Routes.{sends_by}
 use Rattle.vx_rows.proofs.KeyFacts.{to-key, from-key}
 use Rattle.vx_laws.specs.Forms.{FormsAgree}
 use Rattle.vx_laws.proofs.Keys.{count-mono}

@@ -4,16 +4,16 @@ use Rattle.std.specs.List.{list_all}
 use Rattle.vx_values.specs.Values.{Row, pick}
 use Rattle.vx_rows.specs.Order.{agree, sorted, sort_on}
 use Rattle.vx_rows.specs.Bags.{SameRows}
-use Rattle.vx_nodes.specs.Types.{well_formed, names_columns, part_columns, width}
+use Rattle.vx_plan_nodes.specs.Types.{well_formed, names_columns, part_columns, width}
 use Rattle.vx_relations.specs.Catalog.{all_below}
-use Rattle.vx_nodes.specs.Plan.{Size, Route, Part, one, any, all, routed, Claim, Plan, scan, unary, binary, exchange, claim, size, Unary, select, project, distinct, sort, group, Binary, union, join, Kind, route_to, round, broadcast, gather, target, is_one, size_eq}
+use Rattle.vx_plan_nodes.specs.Plan.{Size, Route, Part, one, any, all, routed, Claim, Plan, scan, unary, binary, exchange, claim, size, Unary, select, project, distinct, sort, group, Binary, union, join, ExchangeKind, route_to, round, broadcast, gather, target, is_one, size_eq}
 use Rattle.vx_relations.specs.Relation.{Relation}
-use Rattle.vx_nodes.specs.Serial.{passes, firsts, group_keys, group_fits, unary_rows, binary_rows, join_rows, rows, or_overflow, after, serial}
-use Rattle.vx_nodes.specs.Streams.{Streams, joined, workers}
-use Rattle.vx_nodes.specs.Routes.{Router}
-use Rattle.vx_nodes.specs.Runs.{Exchanges, Runs}
-use Rattle.vx_rules.specs.Rules.{part_gives, has, through, copied, covers, front, if_some, within, numbers_below, routed_within, allowed, allowed_here, sizes_match, not_replicated, inputs_match, order_given, part_shown, order_shown, keys_shown, keeps_apart, unary_shows, unary_orders, unary_keys, both_have, routed_alike, alike_shows, left_columns, right_columns, join_shows, join_keys, kind_shows}
-use Rattle.vx_rules.specs.Claims.{PartHolds, InItsStream, ClaimHolds, Given}
+use Rattle.vx_plan_nodes.specs.Serial.{passes, firsts, group_keys, group_fits, unary_rows, binary_rows, join_rows, rows, or_overflow, after, serial}
+use Rattle.vx_plan_nodes.specs.Streams.{Streams, joined, workers}
+use Rattle.vx_plan_nodes.specs.Routes.{Router}
+use Rattle.vx_plan_nodes.specs.Runs.{Exchanges, Runs}
+use Rattle.vx_check_rules.specs.Rules.{part_gives, has, through, copied, covers, front, if_some, within, numbers_below, routed_within, allowed, allowed_here, sizes_match, not_replicated, inputs_match, order_given, part_shown, order_shown, keys_shown, keeps_apart, unary_shows, unary_orders, unary_keys, both_have, routed_alike, alike_shows, left_columns, right_columns, join_shows, join_keys, kind_shows}
+use Rattle.vx_check_rules.specs.Claims.{PartHolds, InItsStream, ClaimHolds, Given}
 use Rattle.vx_laws.specs.Sound.{SoundThroughout, Sound, NoOverflow}
 use Rattle.vx_laws.proofs.Erased.{erased-rows}
 use Rattle.vx_laws.proofs.Bags.{SameRows-sym, and-left, and-right, SameRows-refl, SameRows-trans}
@@ -333,7 +333,7 @@ module _ (catalog : ℕ → Relation) (db : ℕ → List Row) (sizes : ℕ → �
         holds = t.holds;
       }
 
-  exchange-shown : (kind : Kind) (merge : List ℕ) (p : Plan) (ih : Held db sizes goes p) (s' : Streams)
+  exchange-shown : (kind : ExchangeKind) (merge : List ℕ) (p : Plan) (ih : Held db sizes goes p) (s' : Streams)
       → Exchanges goes kind merge (workers sizes (size p)) (workers sizes (target kind)) (ih.s) s'
       → has p any ≡ true → (q : Part) → kind_shows kind q ≡ true
       → PartHolds goes q (workers sizes (target kind)) s' ih.base
@@ -351,7 +351,7 @@ module _ (catalog : ℕ → Relation) (db : ℕ → List Row) (sizes : ℕ → �
       single goes given.in_range q 1 s' ih.base refl
       (exchange-any goes given.in_range gather merge _ 1 (ih.s) s' ih.base x (omega arith) (λ y e. cc) (λ e. refl) (had p ih any h))
 
-  exchange-part : (kind : Kind) (c : Claim) (merge : List ℕ) (p : Plan) (ih : Held db sizes goes p) (s' : Streams)
+  exchange-part : (kind : ExchangeKind) (c : Claim) (merge : List ℕ) (p : Plan) (ih : Held db sizes goes p) (s' : Streams)
       → has p any ≡ true
       → Exchanges goes kind merge (workers sizes (size p)) (workers sizes (target kind)) (ih.s) s'
       → (is_one (target kind) || kind_shows kind c.part) ≡ true
@@ -364,7 +364,7 @@ module _ (catalog : ℕ → Relation) (db : ℕ → List Row) (sizes : ℕ → �
       (λ z e. one-worker sizes (target kind) one) (λ e. one-worker sizes (target kind) one) (had p ih any h_any))
       (λ g. exchange-shown kind merge p ih s' x h_any c.part g)
 
-  exchange-holds : (k : ℕ) (c : Claim) (kind : Kind) (merge : List ℕ) (p : Plan) (out : Streams) (ih : Held db sizes goes p) → allowed_here catalog (exchange k c kind merge p) ≡ true
+  exchange-holds : (k : ℕ) (c : Claim) (kind : ExchangeKind) (merge : List ℕ) (p : Plan) (out : Streams) (ih : Held db sizes goes p) → allowed_here catalog (exchange k c kind merge p) ≡ true
       → Exchanges goes kind merge (workers sizes (size p)) (workers sizes (target kind)) (ih.s) out
       → Holding db sizes goes (exchange k c kind merge p) out
   exchange-holds k c kind merge p out ih ok x =

@@ -5,13 +5,13 @@ use Rattle.vx_values.specs.Values.{Row, row_eq, pick}
 use Rattle.vx_rows.specs.Order.{agree, sorted, compare_on}
 use Rattle.vx_rows.specs.Bags.{total, count, SameRows}
 use Rattle.vx_rows.specs.Keys.{HasKey}
-use Rattle.vx_nodes.specs.Plan.{Route, Part, one, any, all, routed, Aggregate}
+use Rattle.vx_plan_nodes.specs.Plan.{Route, Part, one, any, all, routed, Aggregate}
 use Rattle.vx_relations.specs.Catalog.{all_below}
-use Rattle.vx_nodes.specs.Serial.{firsts, group_keys, group_row, group_fits, of_key, aggregate_of}
-use Rattle.vx_nodes.specs.Streams.{Streams, joined}
-use Rattle.vx_nodes.specs.Routes.{Router}
-use Rattle.vx_rules.specs.Rules.{within, copied, numbers_below, part_gives, routed_within}
-use Rattle.vx_rules.specs.Claims.{InItsStream}
+use Rattle.vx_plan_nodes.specs.Serial.{firsts, group_keys, group_row, group_fits, of_key, aggregate_of}
+use Rattle.vx_plan_nodes.specs.Streams.{Streams, joined}
+use Rattle.vx_plan_nodes.specs.Routes.{Router}
+use Rattle.vx_check_rules.specs.Rules.{within, copied, numbers_below, part_gives, routed_within}
+use Rattle.vx_check_rules.specs.Claims.{InItsStream}
 use Rattle.vx_laws.proofs.Bags.{and-left, and-right, and-both, total-map, total-joined, across-ext, SameRows-all, stream-all}
 use Rattle.vx_laws.proofs.Parts.{list_all-weaken, list_all-always}
 use Rattle.vx_laws.proofs.Keys.{agree-within}

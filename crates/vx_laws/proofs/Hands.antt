@@ -1,6 +1,6 @@
 -- From a list of hands to seats by number.
 use Rattle.std.proofs.Common.{◌≡◌, ℕ, zero, suc, ◌+◌, ◌<◌, Bool, true, false, ◌||◌, List, [], ◌∷◌, length, refl, ap, ◌∙◌, arith}
-use Rattle.vx_nodes.specs.Streams.{across}
+use Rattle.vx_plan_nodes.specs.Streams.{across}
 use Rattle.vx_morsel.specs.Draws.{Draws, times, Rises, AllRise, any_ended, drawn_times, seat_at}
 use Rattle.vx_laws.specs.Dispatch.{HandsDispatched}
 

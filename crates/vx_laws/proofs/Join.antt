@@ -4,13 +4,13 @@ use Rattle.std.specs.List.{list_all}
 use Rattle.std.proofs.lemmas.Bool.{eqb-false}
 use Rattle.vx_values.specs.Values.{Row, val_cmp, value_at, pick}
 use Rattle.vx_rows.specs.Bags.{total, SameRows}
-use Rattle.vx_nodes.specs.Plan.{Route}
+use Rattle.vx_plan_nodes.specs.Plan.{Route}
 use Rattle.vx_relations.specs.Catalog.{all_below}
-use Rattle.vx_nodes.specs.Serial.{matches, joined_with, join_rows}
-use Rattle.vx_nodes.specs.Streams.{Streams, joined, across}
-use Rattle.vx_nodes.specs.Routes.{Router}
-use Rattle.vx_rules.specs.Rules.{shifted, has_pair, all_pairs}
-use Rattle.vx_rules.specs.Claims.{InItsStream}
+use Rattle.vx_plan_nodes.specs.Serial.{matches, joined_with, join_rows}
+use Rattle.vx_plan_nodes.specs.Streams.{Streams, joined, across}
+use Rattle.vx_plan_nodes.specs.Routes.{Router}
+use Rattle.vx_check_rules.specs.Rules.{shifted, has_pair, all_pairs}
+use Rattle.vx_check_rules.specs.Claims.{InItsStream}
 use Rattle.vx_laws.proofs.Bags.{and-left, and-right, when, total-map, total-filter, total-flat_map, total-ext, total-add, total-zero, total-joined, across-ext}
 use Rattle.vx_laws.proofs.Parts.{or-cases}
 use Rattle.vx_laws.proofs.Keys.{is_eq-then}

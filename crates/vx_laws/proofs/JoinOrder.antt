@@ -6,8 +6,8 @@ use Rattle.vx_rows.specs.Order.{compare_on, agree, sorted}
 use Rattle.vx_rows.specs.Bags.{total, count}
 use Rattle.vx_rows.specs.Keys.{HasKey}
 use Rattle.vx_relations.specs.Catalog.{all_below}
-use Rattle.vx_nodes.specs.Serial.{matches, joined_with, join_rows}
-use Rattle.vx_rules.specs.Rules.{within, covers, shifted, join_keys}
+use Rattle.vx_plan_nodes.specs.Serial.{matches, joined_with, join_rows}
+use Rattle.vx_check_rules.specs.Rules.{within, covers, shifted, join_keys}
 use Rattle.vx_relations.specs.Relation.{KeysHold}
 use Rattle.vx_laws.proofs.Bags.{and-left, and-right, and-both, when}
 use Rattle.vx_laws.proofs.Parts.{or-cases, list_all-weaken, list_all-always}

@@ -2,13 +2,13 @@
 use Rattle.std.proofs.Common.{◌≡◌, ℕ, suc, ◌+◌, ◌<◌, ◌≤◌, ◌==◌, ◌&&◌, Bool, true, false, cond, refl, ap, ◌∙◌, arith, eqb-true, eq-eqb}
 use Rattle.std.proofs.lemmas.Bool.{le-ltb, lt-ltb}
 use Rattle.vx_relations.specs.Relation.{Relation}
-use Rattle.vx_nodes.specs.Plan.{Plan, scan, unary, binary, exchange, size, number, size_eq}
-use Rattle.vx_nodes.specs.Streams.{workers}
-use Rattle.vx_rules.specs.Rules.{allowed, allowed_here}
+use Rattle.vx_plan_nodes.specs.Plan.{Plan, scan, unary, binary, exchange, size, number, size_eq}
+use Rattle.vx_plan_nodes.specs.Streams.{workers}
+use Rattle.vx_check_rules.specs.Rules.{allowed, allowed_here}
 use Rattle.vx_worker.specs.Fragment.{Setting}
 use Rattle.vx_worker.specs.Trace.{Trace, IsWell, Ends}
 use Rattle.vx_laws.specs.RunOf.{Known, RunOf}
-use Rattle.vx_nodes.specs.Numbering.{is_fit, nodes, is_numbered, relation_in}
+use Rattle.vx_plan_nodes.specs.Numbering.{is_fit, nodes, is_numbered, relation_in}
 use Rattle.vx_laws.specs.Layout.{workers_below, FlatRun, FlatIsRun, NumberedIsFit}
 use Rattle.vx_laws.proofs.Bags.{and-left, and-right, and-both}
 use Rattle.vx_laws.proofs.Frame.{tests}

@@ -3,7 +3,7 @@ use Rattle.std.proofs.Common.{◌≡◌, ℕ, ◌+◌, ◌<◌, Bool, true, fals
 use Rattle.vx_values.specs.Values.{Row}
 use Rattle.vx_rows.specs.Bags.{total, SameRows}
 use Rattle.vx_rows.specs.Order.{compare_on, insert_sorted, sort_on}
-use Rattle.vx_nodes.specs.Streams.{Streams, joined}
+use Rattle.vx_plan_nodes.specs.Streams.{Streams, joined}
 use Rattle.vx_laws.proofs.Bags.{total-map, total-filter, total-joined, across-ext, when}
 
 pub record Linear (op : List Row → List Row) : Type 0 where

@@ -1,8 +1,8 @@
 -- The theorems on runs and faults, from traces by the workers' numbers.
 use Rattle.std.proofs.Common.{◌≡◌, inl, inr, ⊎_elim, ℕ, ◌+◌, ◌<◌, true, false, List, sym, subst, arith}
 use Rattle.vx_values.specs.Values.{Row}
-use Rattle.vx_nodes.specs.Plan.{Plan, scan, unary, binary, exchange, size, is_one}
-use Rattle.vx_nodes.specs.Streams.{workers}
+use Rattle.vx_plan_nodes.specs.Plan.{Plan, scan, unary, binary, exchange, size, is_one}
+use Rattle.vx_plan_nodes.specs.Streams.{workers}
 use Rattle.vx_ops.specs.declared.fault.Code.TheVariants.{Overflow}
 use Rattle.vx_ops.specs.declared.fault.Fault.{Fault}
 use Rattle.vx_ops.specs.declared.fault.Fault.TheVariants.{Own}

@@ -3,19 +3,19 @@ use Rattle.vx_worker.specs.Fragment.{goes, Setting, Reads, fragment, FragTold}
 use Rattle.std.proofs.Common.{◌≡◌, ⊎_elim, ℕ, ◌<◌, Bool, true, false, ◌&&◌, List, [], ◌∷◌, ◌++◌, map, refl, sym, ap, ◌∙◌, subst, arith, true≢false}
 use Rattle.vx_values.specs.Values.{Row}
 use Rattle.vx_rows.specs.Order.{sorted}
-use Rattle.vx_nodes.specs.Plan.{Size, Kind, target, Unary, select, project, distinct, sort, group, Binary, union, join, Plan, scan, unary, binary, exchange, size, claim, size_eq}
-use Rattle.vx_nodes.specs.Types.{width, well_formed, names_columns, types_of}
-use Rattle.vx_rules.specs.Rules.{front, allowed, allowed_here}
-use Rattle.vx_nodes.specs.Streams.{workers}
-use Rattle.vx_rules.specs.Claims.{Given}
-use Rattle.vx_ports.specs.Packets.{Content, last, fault, Parcel, rows_of}
+use Rattle.vx_plan_nodes.specs.Plan.{Size, ExchangeKind, target, Unary, select, project, distinct, sort, group, Binary, union, join, Plan, scan, unary, binary, exchange, size, claim, size_eq}
+use Rattle.vx_plan_nodes.specs.Types.{width, well_formed, names_columns, types_of}
+use Rattle.vx_check_rules.specs.Rules.{front, allowed, allowed_here}
+use Rattle.vx_plan_nodes.specs.Streams.{workers}
+use Rattle.vx_check_rules.specs.Claims.{Given}
+use Rattle.vx_ports.specs.Packets.{Content, last, fault, PacketView, rows_of}
 use Rattle.vx_ops.specs.Ledger.{Stream, ConsumerEnd, scan_op, one_op, two_op, receive, OwnBlame, IsFor}
 use Rattle.vx_rows.specs.Lists.{IsBeginning}
 use Rattle.vx_exchange.specs.Ship.{packet_at, packet_of}
 use Rattle.vx_worker.specs.Trace.{Trace, ReadsBegin, Fate, well, failed, HasFailed, Honest, Ends}
 use Rattle.vx_exchange.specs.Tasks.{keep, send, Task}
 use Rattle.vx_laws.specs.RunOf.{ship_of, RunOf}
-use Rattle.vx_nodes.specs.Numbering.{is_fit}
+use Rattle.vx_plan_nodes.specs.Numbering.{is_fit}
 use Rattle.vx_laws.specs.Faults.{FailsBelow, IsOrderFault, NoOrderFault}
 use Rattle.vx_ops.specs.declared.fault.Code.TheVariants.{Overflow, NoMemory, Unsorted, Stranger}
 use Rattle.vx_ops.specs.declared.fault.Fault.{Fault}
@@ -29,18 +29,18 @@ use Rattle.vx_laws.proofs.Frame.{tests, well-left, well-right}
 use Rattle.vx_laws.proofs.Tidy.{tidy, came-tidy}
 
 -- all packets are for this port, from this producer
-abbrev AllFor : ConsumerEnd → ℕ → List Parcel → Type 0
+abbrev AllFor : ConsumerEnd → ℕ → List PacketView → Type 0
 AllFor port i [] = Unit {0}
 AllFor port i (p ∷ ps) = IsFor port i p × AllFor port i ps
 
-for-left : (port : ConsumerEnd) (i : ℕ) (ps qs : List Parcel) → AllFor port i (ps ++ qs) → AllFor port i ps
+for-left : (port : ConsumerEnd) (i : ℕ) (ps qs : List PacketView) → AllFor port i (ps ++ qs) → AllFor port i ps
 for-left port i [] qs h = tt
 for-left port i (p ∷ ps) qs h = (h.0, for-left port i ps qs h.1)
 
-for-begins : (port : ConsumerEnd) (i : ℕ) (ps qs : List Parcel) → IsBeginning ps qs → AllFor port i qs → AllFor port i ps
-for-begins port i ps qs b h = let P : List Parcel → Type 0 = λ xs. AllFor port i xs in for-left port i ps b.rest (subst P (sym b.joined) h)
+for-begins : (port : ConsumerEnd) (i : ℕ) (ps qs : List PacketView) → IsBeginning ps qs → AllFor port i qs → AllFor port i ps
+for-begins port i ps qs b h = let P : List PacketView → Type 0 = λ xs. AllFor port i xs in for-left port i ps b.rest (subst P (sym b.joined) h)
 
-no-stranger : (port : ConsumerEnd) (i : ℕ) (front : List Parcel) (p : Parcel) (back : List Parcel) → AllFor port i (front ++ p ∷ back) → (IsFor port i p → ⊥) → ⊥
+no-stranger : (port : ConsumerEnd) (i : ℕ) (front : List PacketView) (p : PacketView) (back : List PacketView) → AllFor port i (front ++ p ∷ back) → (IsFor port i p → ⊥) → ⊥
 no-stranger port i [] p back h k = k h.0
 no-stranger port i (q ∷ front) p back h k = no-stranger port i front p back h.1 k
 
@@ -48,17 +48,17 @@ module _ (S : Setting) (giv : Given S.catalog S.db S.sizes (goes S)) where
   abbrev port_of : ℕ → ℕ → List ℕ → Plan → ConsumerEnd
   port_of n w merge p = record { exchange = n; place = w; producers = workers S.sizes (size p); types = types_of S.catalog p; merge = merge }
 
-  packets-for : (n i w : ℕ) (k : Kind) (merge : List ℕ) (p : Plan) (parts : List (List Row)) (end : Content)
+  packets-for : (n i w : ℕ) (k : ExchangeKind) (merge : List ℕ) (p : Plan) (parts : List (List Row)) (end : Content)
       → AllFor (port_of n w merge p) i (map (packet_at (ship_of S n i k p) w) parts ++ packet_of (ship_of S n i k p) w end ∷ [])
   packets-for n i w k merge p [] end = (record { exchange = refl; from_is = refl; to = refl; types = refl }, tt)
   packets-for n i w k merge p (x ∷ parts) end = (record { exchange = refl; from_is = refl; to = refl; types = refl }, packets-for n i w k merge p parts end)
 
-  put-for : (n i w : ℕ) (k : Kind) (merge : List ℕ) (p : Plan) (u : Trace) → w < workers S.sizes (target k) → (e : Ends S (fragment S i p) (send (ship_of S n i k p)) u) → AllFor (port_of n w merge p) i (u.sent w)
+  put-for : (n i w : ℕ) (k : ExchangeKind) (merge : List ℕ) (p : Plan) (u : Trace) → w < workers S.sizes (target k) → (e : Ends S (fragment S i p) (send (ship_of S n i k p)) u) → AllFor (port_of n w merge p) i (u.sent w)
   put-for n i w k merge p u l e = go e.0 e.1
     where
       go : (fate : Fate) → Honest S (fragment S i p) (send (ship_of S n i k p)) fate u → AllFor (port_of n w merge p) i (u.sent w)
-      go well h = let P : List Parcel → Type 0 = λ ps. AllFor (port_of n w merge p) i ps in subst P (h.finished.ports w l).closed (packets-for n i w k merge p (h.finished.ports w l).parts last)
-      go (failed x) h = let P : List Parcel → Type 0 = λ ps. AllFor (port_of n w merge p) i ps in subst P (h.stopped.ports w l).closed (packets-for n i w k merge p (h.stopped.ports w l).parts fault)
+      go well h = let P : List PacketView → Type 0 = λ ps. AllFor (port_of n w merge p) i ps in subst P (h.finished.ports w l).closed (packets-for n i w k merge p (h.finished.ports w l).parts last)
+      go (failed x) h = let P : List PacketView → Type 0 = λ ps. AllFor (port_of n w merge p) i ps in subst P (h.stopped.ports w l).closed (packets-for n i w k merge p (h.stopped.ports w l).parts fault)
 
   order-fails : (p : Plan) → is_fit S.relation_of p ≡ true → well_formed S.catalog p ≡ true → allowed S.catalog p ≡ true
       → (ts : ℕ → Trace) → RunOf S (Ends S) p ts → (w : ℕ) → w < workers S.sizes (size p)
@@ -139,15 +139,15 @@ module _ (S : Setting) (giv : Given S.catalog S.db S.sizes (goes S)) where
       let wp = and-left (well_formed S.catalog p) (names_columns (width S.catalog p) c) wf in
       let okp = and-left (allowed S.catalog p) here ok in
       let t = tests S.catalog (exchange n c k merge p) (and-right (allowed S.catalog p) here ok) in
-      let seen : (i : ℕ) → h.0.came i ≡ reads.came n i = λ i. ap (λ (g : ℕ → List Parcel). g i) h.1.came in
+      let seen : (i : ℕ) → h.0.came i ≡ reads.came n i = λ i. ap (λ (g : ℕ → List PacketView). g i) h.1.came in
       ⊎_elim (λ i. i)
       (λ b. own f o
       (λ i a.
-      let P : List Parcel → Type 0 = λ ps. sorted merge (rows_of ps) ≡ true in
+      let P : List PacketView → Type 0 = λ ps. sorted merge (rows_of ps) ≡ true in
       subst P (sym (seen i)) (sorted-front merge (claim p).order t.3 (rows_of (reads.came n i))
       (came-tidy S giv n i k p run.0 ts (tidy S giv p fit wp okp run.0 run.1 i a) (run.2 i a) w l (run.3 i w a l) (reads.came n i) (begin.came n i)).1))
       (λ i a.
-      let P : List Parcel → Type 0 = λ ps. AllFor (port_of n w merge p) i ps in
+      let P : List PacketView → Type 0 = λ ps. AllFor (port_of n w merge p) i ps in
       let flow = run.3 i w a l in
       subst P (sym (seen i)) (for-begins (port_of n w merge p) i (reads.came n i) ((ts w).came n i) (begin.came n i)
       (for-begins (port_of n w merge p) i ((ts w).came n i) ((run.0 i).sent w) (record { rest = flow.rest; joined = flow.begins }) (put-for n i w k merge p (run.0 i) l (run.2 i a)))))
@@ -162,7 +162,7 @@ module _ (S : Setting) (giv : Given S.catalog S.db S.sizes (goes S)) where
       own (Own Unsorted node) o a z b = true≢false (sym (a b.1.0 b.1.1) ∙ b.1.2)
       own (Own Stranger node) o a z b =
           let x = b.1.2 in
-          let P : List Parcel → Type 0 = λ ps. AllFor (port_of n w merge p) b.1.0 ps in
+          let P : List PacketView → Type 0 = λ ps. AllFor (port_of n w merge p) b.1.0 ps in
           no-stranger (port_of n w merge p) b.1.0 x.front x.packet x.back (subst P (sym x.joined) (z b.1.0 b.1.1)) x.is
 
   pub ends-so : (p : Plan) → is_fit S.relation_of p ≡ true → well_formed S.catalog p ≡ true → allowed S.catalog p ≡ true

@@ -4,15 +4,15 @@ use Rattle.std.proofs.Common.{◌≡◌, ◌⊎◌, inl, inr, ⊎_elim, ℕ, zer
 use Rattle.vx_values.specs.Values.{Row}
 use Rattle.vx_rows.specs.Order.{sorted}
 use Rattle.vx_rows.specs.Bags.{total, SameRows}
-use Rattle.vx_nodes.specs.Plan.{Size, Kind, target, Claim, Part, one, any, all, routed, Unary, select, project, distinct, sort, group, Binary, union, join, Aggregate, Plan, scan, unary, binary, exchange, size, claim, size_eq}
-use Rattle.vx_nodes.specs.Types.{width, well_formed, names_columns}
-use Rattle.vx_nodes.specs.Serial.{unary_rows, binary_rows, group_rows, Outcome, rows, overflow, or_overflow, after, serial, IsOverflow, IsTooLong, HasTooLong}
-use Rattle.vx_rules.specs.Rules.{allowed, allowed_here}
-use Rattle.vx_nodes.specs.Streams.{Streams, workers, joined, Dealt}
-use Rattle.vx_nodes.specs.Routes.{Router}
-use Rattle.vx_nodes.specs.Runs.{Runs}
-use Rattle.vx_rules.specs.Claims.{Given, PartHolds}
-use Rattle.vx_ports.specs.Packets.{fault, Parcel, rows_of, closes, is_last, is_closed, has_last, is_empty, is_stream, Flows}
+use Rattle.vx_plan_nodes.specs.Plan.{Size, ExchangeKind, target, Claim, Part, one, any, all, routed, Unary, select, project, distinct, sort, group, Binary, union, join, Aggregate, Plan, scan, unary, binary, exchange, size, claim, size_eq}
+use Rattle.vx_plan_nodes.specs.Types.{width, well_formed, names_columns}
+use Rattle.vx_plan_nodes.specs.Serial.{unary_rows, binary_rows, group_rows, SerialResult, rows, overflow, or_overflow, after, serial, IsOverflow, IsTooLong, HasTooLong}
+use Rattle.vx_check_rules.specs.Rules.{allowed, allowed_here}
+use Rattle.vx_plan_nodes.specs.Streams.{Streams, workers, joined, Dealt}
+use Rattle.vx_plan_nodes.specs.Routes.{Router}
+use Rattle.vx_plan_nodes.specs.Runs.{Runs}
+use Rattle.vx_check_rules.specs.Claims.{Given, PartHolds}
+use Rattle.vx_ports.specs.Packets.{fault, PacketView, rows_of, closes, is_last, is_closed, has_last, is_empty, is_stream, Flows}
 use Rattle.vx_worker.specs.Morsels.{morsel_of, morsels}
 use Rattle.vx_ops.specs.Ledger.{Stream, one_op, two_op, OwnBlame}
 use Rattle.vx_rows.specs.Lists.{IsBeginning}
@@ -20,7 +20,7 @@ use Rattle.vx_exchange.specs.Ship.{Ship, packet_at, packet_of}
 use Rattle.vx_worker.specs.Trace.{Trace, scan_morsels, ReadsAre, ReadsBegin, Fate, well, failed, IsWell, HasFailed, Honest, Ends}
 use Rattle.vx_exchange.specs.Tasks.{keep, send, Task}
 use Rattle.vx_laws.specs.RunOf.{ship_of, RunOf}
-use Rattle.vx_nodes.specs.Numbering.{is_fit}
+use Rattle.vx_plan_nodes.specs.Numbering.{is_fit}
 use Rattle.vx_laws.specs.Faults.{IsReal, FailsBelow, OverflowIsReal}
 use Rattle.vx_ops.specs.declared.fault.Code.TheVariants.{Overflow}
 use Rattle.vx_ops.specs.declared.fault.Fault.TheVariants.{Own}
@@ -41,7 +41,7 @@ use Rattle.vx_laws.proofs.Shuffles.{sorted-shuffle}
 
 -- lists of packets
 
-append-last : (ps qs : List Parcel) → has_last ps ≡ true → has_last (ps ++ qs) ≡ true
+append-last : (ps qs : List PacketView) → has_last ps ≡ true → has_last (ps ++ qs) ≡ true
 append-last [] qs e = absurd (true≢false (sym e))
 append-last (p ∷ ps) qs e = go (is_last p.content) (has_last ps) (append-last ps qs) e
   where
@@ -53,13 +53,13 @@ cut-no-last : (s : Ship) (j : ℕ) (parts : List (List Row)) → has_last (map (
 cut-no-last s j [] = refl
 cut-no-last s j (p ∷ ps) = cut-no-last s j ps
 
-nothing-more : (ps qs : List Parcel) → is_empty (ps ++ qs) ≡ true → ps ≡ ps ++ qs
+nothing-more : (ps qs : List PacketView) → is_empty (ps ++ qs) ≡ true → ps ≡ ps ++ qs
 nothing-more [] [] e = refl
 nothing-more [] (q ∷ qs) e = absurd (true≢false (sym e))
 nothing-more (p ∷ ps) qs e = absurd (true≢false (sym e))
 
 -- a closed beginning of a stream is the stream
-stream-end : (ps qs : List Parcel) → is_stream (ps ++ qs) ≡ true → is_closed ps ≡ true → ps ≡ ps ++ qs
+stream-end : (ps qs : List PacketView) → is_stream (ps ++ qs) ≡ true → is_closed ps ≡ true → ps ≡ ps ++ qs
 stream-end [] qs s e = absurd (true≢false (sym e))
 stream-end (p ∷ ps) qs s e = ap (λ xs. p ∷ xs) (go (closes p.content) (is_closed ps) (stream-end ps qs) s e)
   where
@@ -68,12 +68,12 @@ stream-end (p ∷ ps) qs s e = ap (λ xs. p ∷ xs) (go (closes p.content) (is_c
     go false b f h k = f h k
 
 -- what was read of a producer, where Last was, is all that the producer put
-read-whole : (put taken seen : List Parcel) → Flows put taken → IsBeginning seen taken → has_last seen ≡ true → seen ≡ put
+read-whole : (put taken seen : List PacketView) → Flows put taken → IsBeginning seen taken → has_last seen ≡ true → seen ≡ put
 read-whole put taken seen f b h =
-    let P : List Parcel → Type 0 = λ ps. has_last ps ≡ true in
+    let P : List PacketView → Type 0 = λ ps. has_last ps ≡ true in
     let all : taken ≡ put = whole-flow put taken f (subst P b.joined (append-last seen b.rest h)) in
     let e : seen ++ b.rest ≡ put = b.joined ∙ all in
-    let Q : List Parcel → Type 0 = λ ps. is_stream ps ≡ true in
+    let Q : List PacketView → Type 0 = λ ps. is_stream ps ≡ true in
     stream-end seen b.rest (subst Q (sym e) f.stream) (last-closed seen h) ∙ e
 
 -- a producer that put Last was well
@@ -84,7 +84,7 @@ ends-well S f s t j l h e = go h.0 h.1
     go well k = k
     go (failed x) k =
         let c = k.stopped.ports j l in
-        let P : List Parcel → Type 0 = λ ps. has_last ps ≡ true in
+        let P : List PacketView → Type 0 = λ ps. has_last ps ≡ true in
         absurd (true≢false (sym (subst P (sym c.closed) e) ∙ cut-no-last s j c.parts))
 
 -- a worker made these rows of beginnings of what it read
@@ -105,7 +105,7 @@ reads-begin S t r h = record {
     ended = λ e. (refl, (h.scanned n).ended e);
     never_fails = (h.scanned n).never_fails;
   };
-  came = λ n i. record { rest = []; joined = append-nil (r.came n i) ∙ ap (λ (f : ℕ → List Parcel). f i) (h.came n) };
+  came = λ n i. record { rest = []; joined = append-nil (r.came n i) ∙ ap (λ (f : ℕ → List PacketView). f i) (h.came n) };
 }
 
 well-maker : (S : Setting) (i : ℕ) (p : Plan) (task : Task) (t : Trace) → IsWell S (fragment S i p) task t → (out : List Row) × MadeOf S (fragment S i p) t out
@@ -120,21 +120,21 @@ Overflows db p = IsOverflow (serial db p) ⊎ HasTooLong db p
 real-unary : (db : ℕ → List Row) (n : ℕ) (c : Claim) (op : Unary) (p : Plan) → Overflows db p → Overflows db (unary n c op p)
 real-unary db n c op p h = ⊎_elim (λ o. inl (go (serial db p) o)) (λ l. inr (inl l)) h
   where
-    go : (o : Outcome) → IsOverflow o → IsOverflow (after o (λ xs. or_overflow n (unary_rows op xs)))
+    go : (o : SerialResult) → IsOverflow o → IsOverflow (after o (λ xs. or_overflow n (unary_rows op xs)))
     go (rows xs) k = absurd k
     go (overflow m) k = k
 
 real-left : (db : ℕ → List Row) (n : ℕ) (c : Claim) (op : Binary) (p q : Plan) → Overflows db p → Overflows db (binary n c op p q)
 real-left db n c op p q h = ⊎_elim (λ o. inl (go (serial db p) o)) (λ l. inr (inl l)) h
   where
-    go : (o : Outcome) → IsOverflow o → IsOverflow (after o (λ xs. after (serial db q) (λ ys. rows (binary_rows op xs ys))))
+    go : (o : SerialResult) → IsOverflow o → IsOverflow (after o (λ xs. after (serial db q) (λ ys. rows (binary_rows op xs ys))))
     go (rows xs) k = absurd k
     go (overflow m) k = k
 
 real-right : (db : ℕ → List Row) (n : ℕ) (c : Claim) (op : Binary) (p q : Plan) → Overflows db q → Overflows db (binary n c op p q)
 real-right db n c op p q h = ⊎_elim (λ o. inl (go (serial db p) (serial db q) o)) (λ l. inr (inr l)) h
   where
-    go : (o u : Outcome) → IsOverflow u → IsOverflow (after o (λ xs. after u (λ ys. rows (binary_rows op xs ys))))
+    go : (o u : SerialResult) → IsOverflow u → IsOverflow (after o (λ xs. after u (λ ys. rows (binary_rows op xs ys))))
     go (rows xs) (rows ys) k = absurd k
     go (rows xs) (overflow m) k = k
     go (overflow m) u k = tt
@@ -195,18 +195,18 @@ module _ (S : Setting) (giv : Given S.catalog S.db S.sizes (goes S)) (some : 0 <
       (sym (h.makes.3 ∙ subst P (eqb-true (S.relation_of n) r fit) e), end.1)
 
   -- a consumer that took Last from a producer took all that it put
-  came-whole : (n : ℕ) (c : Claim) (k : Kind) (merge : List ℕ) (p : Plan) (j : ℕ) (t : Trace) (out : List Row) (h : MadeOf S (fragment S j (exchange n c k merge p)) t out)
-      → (i : ℕ) → i < workers S.sizes (size p) → (put : List Parcel) → Flows put (t.came n i) → h.makes.0.came i ≡ put
+  came-whole : (n : ℕ) (c : Claim) (k : ExchangeKind) (merge : List ℕ) (p : Plan) (j : ℕ) (t : Trace) (out : List Row) (h : MadeOf S (fragment S j (exchange n c k merge p)) t out)
+      → (i : ℕ) → i < workers S.sizes (size p) → (put : List PacketView) → Flows put (t.came n i) → h.makes.0.came i ≡ put
   came-whole n c k merge p j t out h i l put f =
-      let seen : h.makes.0.came i ≡ h.reads.came n i = ap (λ (g : ℕ → List Parcel). g i) h.makes.1.came in
-      let P : List Parcel → Type 0 = λ ps. has_last ps ≡ true in
+      let seen : h.makes.0.came i ≡ h.reads.came n i = ap (λ (g : ℕ → List PacketView). g i) h.makes.1.came in
+      let P : List PacketView → Type 0 = λ ps. has_last ps ≡ true in
       seen ∙ read-whole put (t.came n i) (h.reads.came n i) f (h.reads_begin.came n i) (subst P seen (h.makes.2 i l))
 
-  came-well : (n : ℕ) (c : Claim) (k : Kind) (merge : List ℕ) (p : Plan) (j : ℕ) → j < workers S.sizes (target k) → (t : Trace) (out : List Row) → MadeOf S (fragment S j (exchange n c k merge p)) t out
+  came-well : (n : ℕ) (c : Claim) (k : ExchangeKind) (merge : List ℕ) (p : Plan) (j : ℕ) → j < workers S.sizes (target k) → (t : Trace) (out : List Row) → MadeOf S (fragment S j (exchange n c k merge p)) t out
       → (i : ℕ) → i < workers S.sizes (size p) → (u : Trace) → Flows (u.sent j) (t.came n i) → Ends S (fragment S i p) (send (ship_of S n i k p)) u
       → IsWell S (fragment S i p) (send (ship_of S n i k p)) u
   came-well n c k merge p j b t out h i l u f e =
-      let P : List Parcel → Type 0 = λ ps. has_last ps ≡ true in
+      let P : List PacketView → Type 0 = λ ps. has_last ps ≡ true in
       ends-well S (fragment S i p) (ship_of S n i k p) u j b e (subst P (came-whole n c k merge p j t out h i l (u.sent j) f) (h.makes.2 i l))
 
   -- where the top's workers had all their inputs whole, all workers below are well
@@ -240,7 +240,7 @@ module _ (S : Setting) (giv : Given S.catalog S.db S.sizes (goes S)) (some : 0 <
       no None e k = true≢false (sym k)
       no (Some xs) e k = cc
 
-      go : (o : Outcome) → serial S.db (unary n c op p) ≡ o → IsOverflow o
+      go : (o : SerialResult) → serial S.db (unary n c op p) ≡ o → IsOverflow o
       go (rows xs) e =
           no (unary_rows op (u w)) none (no-overflow-at S.catalog S.db S.sizes (goes S) giv n c op p u wf ok run xs e w l)
       go (overflow m) e = tt
@@ -345,7 +345,7 @@ module _ (S : Setting) (giv : Given S.catalog S.db S.sizes (goes S)) (some : 0 <
       (and-left (well_formed S.catalog p) (names_columns (width S.catalog (unary n c (group by aggregates) p)) c) wf)
       (and-left (allowed S.catalog p) (allowed_here S.catalog (unary n c (group by aggregates) p)) ok) run in
       let most = part-length (goes S) (claim p).part (workers S.sizes (size p)) u holds.base holds.holds.part w l in
-      let P : Outcome → Type 0 = λ o. IsTooLong (group by aggregates) o in
+      let P : SerialResult → Type 0 = λ o. IsTooLong (group by aggregates) o in
       let big : 4611686018427387904 < length holds.base = omega (arith, most, long) in
       inr (inr (subst P (sym holds.is_serial) big)))
       why

@@ -3,11 +3,11 @@ use Rattle.std.proofs.Common.{⊎_elim, ◌≡◌, ℕ, ◌<◌, Bool, true, fal
 use Rattle.std.specs.List.{list_all}
 use Rattle.vx_values.specs.Values.{Row, pick}
 use Rattle.vx_rows.specs.Bags.{SameRows}
-use Rattle.vx_nodes.specs.Plan.{Size, one_worker, group_of, Route, by_hash, by_range, Part, one, any, all, routed, is_one, size_eq}
-use Rattle.vx_nodes.specs.Streams.{Streams, joined, workers}
-use Rattle.vx_nodes.specs.Routes.{Router}
-use Rattle.vx_rules.specs.Rules.{numbers_eq, route_eq, part_gives}
-use Rattle.vx_rules.specs.Claims.{PartHolds, InItsStream}
+use Rattle.vx_plan_nodes.specs.Plan.{Size, one_worker, group_of, Route, by_hash, by_range, Part, one, any, all, routed, is_one, size_eq}
+use Rattle.vx_plan_nodes.specs.Streams.{Streams, joined, workers}
+use Rattle.vx_plan_nodes.specs.Routes.{Router}
+use Rattle.vx_check_rules.specs.Rules.{numbers_eq, route_eq, part_gives}
+use Rattle.vx_check_rules.specs.Claims.{PartHolds, InItsStream}
 use Rattle.vx_laws.proofs.Bags.{and-left, and-right, and-both}
 
 pub or-cases : (a b : Bool) → (a || b) ≡ true → (a ≡ true) ⊎ (b ≡ true)

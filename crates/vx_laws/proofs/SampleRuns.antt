@@ -1,7 +1,7 @@
 -- The worked run.
 use Rattle.std.proofs.Common.{◌≡◌, ℕ, zero, suc, ◌<◌, ◌≤◌, ◌==◌, true, false, cond, inl, [], ◌∷◌, refl, ap, arith, append-nil, ne_eqb}
-use Rattle.vx_nodes.specs.Plan.{gather, any, scan, group_of}
-use Rattle.vx_nodes.specs.Streams.{across, Dealt}
+use Rattle.vx_plan_nodes.specs.Plan.{gather, any, scan, group_of}
+use Rattle.vx_plan_nodes.specs.Streams.{across, Dealt}
 use Rattle.vx_ports.specs.Packets.{rows_of, has_last, Flows}
 use Rattle.vx_worker.specs.Morsels.{morsels}
 use Rattle.vx_morsel.specs.Draws.{times, once_below}
@@ -18,7 +18,7 @@ use Rattle.vx_laws.proofs.Decks.{past-once}
 abbrev heard : ℕ → ℕ → Stream
 heard i n = record { rows = morsels (scan_morsels setting n) (i ∷ []); over = Ended }
 
-abbrev scans : Rattle.vx_nodes.specs.Plan.Plan
+abbrev scans : Rattle.vx_plan_nodes.specs.Plan.Plan
 scans = scan 1 (record { part = any; order = []; keys = [] }) 0 true (group_of 0)
 
 well-producer : (i : ℕ) → morsels (scan_morsels setting 1) (i ∷ []) ≡ row i ∷ [] → IsWell setting (fragment setting i scans) (send (ship_of setting 0 i gather scans)) (producer i)
@@ -66,7 +66,7 @@ shuffled = record {
   numbered = (1, row 1) ∷ (0, row 0) ∷ [];
   whole = refl;
   in_range = refl;
-  lists_are = two (λ i. Rattle.vx_nodes.specs.Streams.bearing i ((1, row 1) ∷ (0, row 0) ∷ []) ≡ rows_of (put i 0)) refl refl;
+  lists_are = two (λ i. Rattle.vx_plan_nodes.specs.Streams.bearing i ((1, row 1) ∷ (0, row 0) ∷ []) ≡ rows_of (put i 0)) refl refl;
 }
 
 well-consumer : IsWell setting (fragment setting 0 plan) (keep (row 1 ∷ row 0 ∷ [])) consumer

@@ -1,5 +1,5 @@
 -- What a setting gives to the laws on plans.
-use Rattle.vx_rules.specs.Claims.{Given}
+use Rattle.vx_check_rules.specs.Claims.{Given}
 use Rattle.vx_worker.specs.Fragment.{Setting, goes, IsSet}
 use Rattle.vx_laws.proofs.FormLemmas.{sends-below}
 

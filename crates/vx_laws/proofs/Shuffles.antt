@@ -3,7 +3,7 @@ use Rattle.std.proofs.Common.{◌≡◌, ℕ, zero, suc, ◌<◌, ◌≤◌, ◌
 use Rattle.std.specs.List.{list_all}
 use Rattle.vx_values.specs.Values.{Row}
 use Rattle.vx_rows.specs.Order.{compare_on, sorted, insert_sorted, sort_on}
-use Rattle.vx_nodes.specs.Streams.{Streams, bearing, Dealt}
+use Rattle.vx_plan_nodes.specs.Streams.{Streams, bearing, Dealt}
 use Rattle.vx_laws.proofs.Bags.{and-left, and-right, and-both}
 use Rattle.vx_laws.proofs.Parts.{list_all-weaken}
 use Rattle.vx_rows.proofs.Compare.{le-trans}

@@ -4,15 +4,15 @@ use Rattle.std.proofs.Common.{◌≡◌, ⊎_elim, ℕ, ◌<◌, ◌==◌, Bool,
 use Rattle.std.specs.List.{list_all}
 use Rattle.vx_values.specs.Values.{Row, pick}
 use Rattle.vx_rows.specs.Order.{compare_on, sorted, sort_on}
-use Rattle.vx_nodes.specs.Plan.{Size, Kind, route_to, round, broadcast, gather, target, Claim, Unary, select, project, distinct, sort, group, Binary, union, join, Plan, scan, unary, binary, exchange, size, claim, is_one, size_eq}
-use Rattle.vx_nodes.specs.Types.{width, unary_width, well_formed, names_columns, part_columns}
+use Rattle.vx_plan_nodes.specs.Plan.{Size, ExchangeKind, route_to, round, broadcast, gather, target, Claim, Unary, select, project, distinct, sort, group, Binary, union, join, Plan, scan, unary, binary, exchange, size, claim, is_one, size_eq}
+use Rattle.vx_plan_nodes.specs.Types.{width, unary_width, well_formed, names_columns, part_columns}
 use Rattle.vx_relations.specs.Catalog.{all_below}
-use Rattle.vx_nodes.specs.Serial.{passes, group_keys, group_fits, unary_rows, binary_rows}
-use Rattle.vx_rules.specs.Rules.{front, copied, unary_orders, allowed, allowed_here}
-use Rattle.vx_nodes.specs.Streams.{Streams, workers, bearing, Dealt}
-use Rattle.vx_nodes.specs.Routes.{Router, Sends}
-use Rattle.vx_rules.specs.Claims.{Given}
-use Rattle.vx_ports.specs.Packets.{Parcel, rows_of, Flows}
+use Rattle.vx_plan_nodes.specs.Serial.{passes, group_keys, group_fits, unary_rows, binary_rows}
+use Rattle.vx_check_rules.specs.Rules.{front, copied, unary_orders, allowed, allowed_here}
+use Rattle.vx_plan_nodes.specs.Streams.{Streams, workers, bearing, Dealt}
+use Rattle.vx_plan_nodes.specs.Routes.{Router, Sends}
+use Rattle.vx_check_rules.specs.Claims.{Given}
+use Rattle.vx_ports.specs.Packets.{PacketView, rows_of, Flows}
 use Rattle.vx_worker.specs.Morsels.{morsel_of, morsels}
 use Rattle.vx_ops.specs.Ledger.{Stream}
 use Rattle.vx_rows.specs.Lists.{IsBeginning}
@@ -20,7 +20,7 @@ use Rattle.vx_exchange.specs.Ship.{Ship, end_to_end, packet_at, IsCutPort}
 use Rattle.vx_worker.specs.Trace.{Trace, ReadsBegin, Fate, well, failed, Honest, Ends}
 use Rattle.vx_exchange.specs.Tasks.{send}
 use Rattle.vx_laws.specs.RunOf.{ship_of, RunOf}
-use Rattle.vx_nodes.specs.Numbering.{is_fit}
+use Rattle.vx_plan_nodes.specs.Numbering.{is_fit}
 use Rattle.vx_laws.proofs.Bags.{and-left, and-right, and-both, against, against-none, none-against, Dealt-total, across-ext, across-zero}
 use Rattle.vx_laws.proofs.Parts.{size_eq-is, one-worker, or-cases}
 use Rattle.vx_laws.proofs.Orders.{list_all-bearing, list_all-filter, sorted-bearing, sorted-filter, sorted-front, sorted-none, Dealt-one}
@@ -91,7 +91,7 @@ unary-sorted (group by aggregates) below order xs ys o h e =
     (groups-sorted by order k.0 aggregates k.1 xs (sorted-front k.0 below k.2 xs h))
 
 -- what is sent of rows that all pass a test passes it
-sends-all : (goes : Router) (k : Kind) (n : ℕ) (xs : List Row) (sent : Streams) → Sends goes k n xs sent → (q : Row → Bool) → list_all q xs ≡ true → (j : ℕ) → j < n → list_all q (sent j) ≡ true
+sends-all : (goes : Router) (k : ExchangeKind) (n : ℕ) (xs : List Row) (sent : Streams) → Sends goes k n xs sent → (q : Row → Bool) → list_all q xs ≡ true → (j : ℕ) → j < n → list_all q (sent j) ≡ true
 sends-all goes (route_to z r cols) n xs sent h q a j l = let P : List Row → Type 0 = λ ys. list_all q ys ≡ true in subst P (h j l) (list_all-filter q _ xs a)
 sends-all goes (round z) n xs sent h q a j l =
     let P : List Row → Type 0 = λ ys. list_all q ys ≡ true in subst P (h.lists_are j l) (list_all-bearing q j h.numbered (subst P (sym h.whole) a))
@@ -101,10 +101,10 @@ sends-all goes gather n xs sent h q a j l = let P : List Row → Type 0 = λ ys.
 dealt-all : (m : ℕ) (xs : List Row) (ls : Streams) → Dealt m xs ls → (q : Row → Bool) → ((i : ℕ) → i < m → list_all q (ls i) ≡ true) → list_all q xs ≡ true
 dealt-all m xs ls d q h = none-against q xs (Dealt-total d (against q) ∙ across-ext m _ (λ i. 0) (λ i l. against-none q (ls i) (h i l)) ∙ across-zero m)
 
-begins-rows : (ps qs : List Parcel) → IsBeginning ps qs → IsBeginning (rows_of ps) (rows_of qs)
+begins-rows : (ps qs : List PacketView) → IsBeginning ps qs → IsBeginning (rows_of ps) (rows_of qs)
 begins-rows ps qs b = record { rest = rows_of b.rest; joined = sym (rows_of-append ps b.rest) ∙ ap rows_of b.joined }
 
-cut-rows : (s : Ship) (j : ℕ) (xs : List Row) (ps : List Parcel) → (h : IsCutPort s j xs ps) → rows_of ps ≡ end_to_end h.parts
+cut-rows : (s : Ship) (j : ℕ) (xs : List Row) (ps : List PacketView) → (h : IsCutPort s j xs ps) → rows_of ps ≡ end_to_end h.parts
 cut-rows s j xs ps h =
     ap rows_of (sym h.closed) ∙ rows_of-append (map (packet_at s j) h.parts) _ ∙ append-nil (rows_of (map (packet_at s j) h.parts)) ∙ rows_of-packets s j h.parts
 
@@ -117,7 +117,7 @@ module _ (S : Setting) (giv : Given S.catalog S.db S.sizes (goes S)) where
   Gives p ts w = (reads : Reads) → ReadsBegin S (ts w) reads → (out : Stream) → FragTold (fragment S w p) reads out → IsTidy p out.rows
 
   -- what a producer put, well or not
-  put-tidy : (n i : ℕ) (k : Kind) (p : Plan) (us : ℕ → Trace) → Gives p us i → Ends S (fragment S i p) (send (ship_of S n i k p)) (us i)
+  put-tidy : (n i : ℕ) (k : ExchangeKind) (p : Plan) (us : ℕ → Trace) → Gives p us i → Ends S (fragment S i p) (send (ship_of S n i k p)) (us i)
       → (j : ℕ) → j < workers S.sizes (target k) → IsTidy p (rows_of ((us i).sent j))
   put-tidy n i k p us gives e j b = go e.0 e.1
     where
@@ -141,8 +141,8 @@ module _ (S : Setting) (giv : Given S.catalog S.db S.sizes (goes S)) where
           (tidy-begins (width S.catalog p) (claim p).order (end_to_end c.parts) (h.stopped.sent j) c.begins t)
 
   -- what a consumer has read of a producer so far
-  pub came-tidy : (n : ℕ) (i : ℕ) (k : Kind) (p : Plan) (us ts : ℕ → Trace) → Gives p us i → Ends S (fragment S i p) (send (ship_of S n i k p)) (us i)
-      → (j : ℕ) → j < workers S.sizes (target k) → Flows ((us i).sent j) ((ts j).came n i) → (seen : List Parcel) → IsBeginning seen ((ts j).came n i) → IsTidy p (rows_of seen)
+  pub came-tidy : (n : ℕ) (i : ℕ) (k : ExchangeKind) (p : Plan) (us ts : ℕ → Trace) → Gives p us i → Ends S (fragment S i p) (send (ship_of S n i k p)) (us i)
+      → (j : ℕ) → j < workers S.sizes (target k) → Flows ((us i).sent j) ((ts j).came n i) → (seen : List PacketView) → IsBeginning seen ((ts j).came n i) → IsTidy p (rows_of seen)
   came-tidy n i k p us ts gives e j b f seen s =
       let t = put-tidy n i k p us gives e j b in
       let taken = begins-rows ((ts j).came n i) ((us i).sent j) (record { rest = f.rest; joined = f.begins }) in
@@ -235,11 +235,11 @@ module _ (S : Setting) (giv : Given S.catalog S.db S.sizes (goes S)) where
       let t = tests S.catalog (exchange n c k merge p) (and-right (allowed S.catalog p) here ok) in
       let b = h.2.before in
       let lists : (i : ℕ) → i < m → Tidy wd (claim p).order (rows_of (b.inputs.came i)) = λ i a.
-      let seen : h.0.came i ≡ reads.came n i = ap (λ (g : ℕ → List Parcel). g i) h.1.came in
+      let seen : h.0.came i ≡ reads.came n i = ap (λ (g : ℕ → List PacketView). g i) h.1.came in
       let came = came-tidy n i k p run.0 ts
       (tidy p fit (and-left (well_formed S.catalog p) (names_columns (width S.catalog p) c) wf) (and-left (allowed S.catalog p) here ok) run.0 run.1 i a)
       (run.2 i a) w l (run.3 i w a l) (reads.came n i) (begin.came n i) in
-      let P : List Parcel → Type 0 = λ ps. Tidy wd (claim p).order (rows_of ps) in
+      let P : List PacketView → Type 0 = λ ps. Tidy wd (claim p).order (rows_of ps) in
       tidy-begins wd (claim p).order (rows_of (b.inputs.came i)) (rows_of (h.0.came i)) (b.begins.came i) (subst P (sym seen) came) in
       let whole_wide : wide wd b.whole ≡ true = dealt-all m b.whole (λ i. rows_of (b.inputs.came i)) b.makes.0 (λ row. length row == wd) (λ i a. (lists i a).0) in
       let whole_sorted : sorted c.order b.whole ≡ true = ⊎_elim

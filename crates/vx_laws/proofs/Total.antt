@@ -6,10 +6,10 @@ use Rattle.vx_values.specs.Values.{Row, row_eq, pick}
 use Rattle.vx_rows.specs.Order.{agree, sorted, compare_on}
 use Rattle.vx_rows.specs.Bags.{count, SameRows}
 use Rattle.vx_rows.specs.Keys.{HasKey}
-use Rattle.vx_nodes.specs.Plan.{claim, size, is_one}
-use Rattle.vx_nodes.specs.Types.{width}
-use Rattle.vx_nodes.specs.Streams.{joined, workers}
-use Rattle.vx_rules.specs.Rules.{within, numbers_below, is_total_order}
+use Rattle.vx_plan_nodes.specs.Plan.{claim, size, is_one}
+use Rattle.vx_plan_nodes.specs.Types.{width}
+use Rattle.vx_plan_nodes.specs.Streams.{joined, workers}
+use Rattle.vx_check_rules.specs.Rules.{within, numbers_below, is_total_order}
 use Rattle.vx_relations.specs.Relation.{KeysHold}
 use Rattle.vx_laws.specs.Sound.{SoundAtRoot}
 use Rattle.vx_laws.proofs.Bags.{and-left, and-right, and-both, total-add, SameRows-all, SameRows-sym}

@@ -5,11 +5,11 @@ use Rattle.vx_values.specs.declared.value.ColType.{ColType}
 use Rattle.vx_values.specs.Types.{type_at}
 use Rattle.vx_relations.specs.Relation.{Relation}
 use Rattle.vx_relations.specs.Catalog.{relation_at, all_below, are_distinct}
-use Rattle.vx_nodes.specs.Plan.{by_hash, by_range, Part, one, any, all, routed, Claim, Unary, select, project, distinct, sort, group, Binary, union, join, Plan, scan, unary, binary, exchange}
-use Rattle.vx_nodes.specs.Types.{aggregate_type, unary_types, unary_width, binary_types, binary_width, types_of, width, part_columns, names_columns, well_formed}
-use Rattle.vx_typed.specs.Typed.{Scope, type_eq, types_eq, are_columns, range_type, bounds_at, is_part, is_claim, is_unary, is_binary, is_kind, is_size, is_output, typed}
+use Rattle.vx_plan_nodes.specs.Plan.{by_hash, by_range, Part, one, any, all, routed, Claim, Unary, select, project, distinct, sort, group, Binary, union, join, Plan, scan, unary, binary, exchange}
+use Rattle.vx_plan_nodes.specs.Types.{aggregate_type, unary_types, unary_width, binary_types, binary_width, types_of, width, part_columns, names_columns, well_formed}
+use Rattle.vx_plan_nodes.specs.Typed.{Scope, type_eq, types_eq, are_columns, range_type, bounds_at, is_part, is_claim, is_unary, is_binary, is_kind, is_size, is_output, typed}
 use Rattle.vx_values.specs.Lists.{is_some_list}
-use Rattle.vx_typed.proofs.ErasedFacts.{erased-typed, erased-numbered}
+use Rattle.vx_plan_nodes.proofs.ErasedFacts.{erased-typed, erased-numbered}
 use Rattle.vx_laws.specs.Forms.{TypedIsWellFormed, ErasedIsTyped}
 use Rattle.vx_laws.proofs.Bags.{and-left, and-right, and-both}
 use Rattle.vx_laws.proofs.Parts.{list_all-weaken}

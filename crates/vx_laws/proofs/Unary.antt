@@ -5,11 +5,11 @@ use Rattle.vx_values.specs.Values.{Row, pick}
 use Rattle.vx_rows.specs.Order.{compare_on, agree, sorted, insert_sorted, sort_on}
 use Rattle.vx_rows.specs.Bags.{count, SameRows}
 use Rattle.vx_rows.specs.Keys.{HasKey}
-use Rattle.vx_nodes.specs.Plan.{Route, Part, one, any, all, routed}
-use Rattle.vx_nodes.specs.Streams.{Streams, joined}
-use Rattle.vx_nodes.specs.Routes.{Router}
-use Rattle.vx_rules.specs.Rules.{through, copied}
-use Rattle.vx_rules.specs.Claims.{PartHolds, InItsStream, OrderHolds}
+use Rattle.vx_plan_nodes.specs.Plan.{Route, Part, one, any, all, routed}
+use Rattle.vx_plan_nodes.specs.Streams.{Streams, joined}
+use Rattle.vx_plan_nodes.specs.Routes.{Router}
+use Rattle.vx_check_rules.specs.Rules.{through, copied}
+use Rattle.vx_check_rules.specs.Claims.{PartHolds, InItsStream, OrderHolds}
 use Rattle.vx_laws.proofs.Bags.{and-left, and-right, and-both, total-map, SameRows-trans}
 use Rattle.vx_laws.proofs.Parts.{list_all-weaken}
 use Rattle.vx_laws.proofs.Keys.{count-mono}

@@ -2,19 +2,19 @@
 use Rattle.vx_worker.specs.Fragment.{goes, IsSet, Setting, Reads, fragment, FragTold, FragMakes}
 use Rattle.std.proofs.Common.{◌≡◌, ℕ, ◌<◌, ◌==◌, ◌&&◌, Bool, true, false, List, [], sym, ap, ◌∙◌, subst, arith, eqb-true, Some}
 use Rattle.vx_values.specs.Values.{Row}
-use Rattle.vx_nodes.specs.Plan.{Size, Kind, target, Claim, Plan, scan, unary, binary, exchange, size, is_one, size_eq}
-use Rattle.vx_nodes.specs.Serial.{unary_rows, binary_rows}
-use Rattle.vx_nodes.specs.Streams.{Streams, workers, Dealt}
-use Rattle.vx_nodes.specs.Routes.{Sends}
-use Rattle.vx_nodes.specs.Runs.{Runs}
-use Rattle.vx_ports.specs.Packets.{Parcel, rows_of, Flows}
+use Rattle.vx_plan_nodes.specs.Plan.{Size, ExchangeKind, target, Claim, Plan, scan, unary, binary, exchange, size, is_one, size_eq}
+use Rattle.vx_plan_nodes.specs.Serial.{unary_rows, binary_rows}
+use Rattle.vx_plan_nodes.specs.Streams.{Streams, workers, Dealt}
+use Rattle.vx_plan_nodes.specs.Routes.{Sends}
+use Rattle.vx_plan_nodes.specs.Runs.{Runs}
+use Rattle.vx_ports.specs.Packets.{PacketView, rows_of, Flows}
 use Rattle.vx_worker.specs.Morsels.{morsel_of, morsels}
 use Rattle.vx_ops.specs.Ledger.{Stream, scan_op, one_op, two_op, receive, Makes}
 use Rattle.vx_exchange.specs.Ship.{IsPort}
 use Rattle.vx_worker.specs.Trace.{Trace, scan_morsels, IsWell}
 use Rattle.vx_exchange.specs.Tasks.{keep, send}
 use Rattle.vx_laws.specs.RunOf.{ship_of, RunOf, Made, WellRuns, WellRunGives, WellRunDelivers}
-use Rattle.vx_nodes.specs.Numbering.{is_fit}
+use Rattle.vx_plan_nodes.specs.Numbering.{is_fit}
 use Rattle.vx_ops.specs.declared.fault.Over.TheVariants.{Ended}
 use Rattle.vx_laws.proofs.Settings.{set-given}
 use Rattle.vx_laws.proofs.Bags.{and-left, and-right}
@@ -49,7 +49,7 @@ told-makes S w (binary n c op p q) r out h e =
     (h.0, told-makes S w p r h.0.left h.1 t.0.0, told-makes S w q r h.0.right h.2 t.0.1, subst P h.4 t.1)
 told-makes S w (exchange n c k merge p) r out h e =
     let t = h.2.ended (ap (λ (s : Stream). s.over) h.3 ∙ e) in
-    let P : Stream → Type 0 = λ s. Makes (receive (record { exchange = n; place = w; producers = workers S.sizes (size p); types = Rattle.vx_nodes.specs.Types.types_of S.catalog p; merge = merge })) h.0 s.rows in
+    let P : Stream → Type 0 = λ s. Makes (receive (record { exchange = n; place = w; producers = workers S.sizes (size p); types = Rattle.vx_plan_nodes.specs.Types.types_of S.catalog p; merge = merge })) h.0 s.rows in
     (h.0, h.1, t.0, subst P h.3 t.1)
 
 pub well-made : (S : Setting) (w : ℕ) (p : Plan) (task : Rattle.vx_exchange.specs.Tasks.Task) (t : Trace) → (h : IsWell S (fragment S w p) task t) → Made S (fragment S w p) t h.out.rows
@@ -72,12 +72,12 @@ scan-made S n c r m z w t rows fit h =
 
 module _ (S : Setting) (sized : Sized S) where
   -- what a producer made and sent
-  pub record Produced (n i : ℕ) (k : Kind) (p : Plan) (t : Trace) (x : List Row × Streams) : Type 0 where
+  pub record Produced (n i : ℕ) (k : ExchangeKind) (p : Plan) (t : Trace) (x : List Row × Streams) : Type 0 where
     pub made : Made S (fragment S i p) t x.0
     pub sends : Sends (goes S) k (workers S.sizes (target k)) x.0 x.1
     pub ports : (j : ℕ) → j < workers S.sizes (target k) → IsPort (ship_of S n i k p) j (x.1 j) (t.sent j)
 
-  pub produced : (n i : ℕ) (k : Kind) (p : Plan) (t : Trace) → IsWell S (fragment S i p) (send (ship_of S n i k p)) t → (x : List Row × Streams) × Produced n i k p t x
+  pub produced : (n i : ℕ) (k : ExchangeKind) (p : Plan) (t : Trace) → IsWell S (fragment S i p) (send (ship_of S n i k p)) t → (x : List Row × Streams) × Produced n i k p t x
   produced n i k p t h = ((h.out.rows, h.finished.sent), record { made = well-made S i p (send (ship_of S n i k p)) t h; sends = h.finished.sends; ports = h.finished.ports })
 
   pub runs-of : (p : Plan) → is_fit S.relation_of p ≡ true
@@ -124,8 +124,8 @@ module _ (S : Setting) (sized : Sized S) where
       let came : (i j : ℕ) → (a : i < m) → (b : j < workers S.sizes (target k)) → rows_of ((made j b).makes.0.came i) ≡ (u.0 i).1 j
       = λ i j a b.
       let h = made j b in
-      let taken : h.makes.0.came i ≡ (ts j).came n i = ap (λ (f : ℕ → List Parcel). f i) (h.makes.1.came ∙ h.reads_are.came n) in
-      let P : List Parcel → Type 0 = λ ps. Rattle.vx_ports.specs.Packets.has_last ps ≡ true in
+      let taken : h.makes.0.came i ≡ (ts j).came n i = ap (λ (f : ℕ → List PacketView). f i) (h.makes.1.came ∙ h.reads_are.came n) in
+      let P : List PacketView → Type 0 = λ ps. Rattle.vx_ports.specs.Packets.has_last ps ≡ true in
       let all_taken : (ts j).came n i ≡ (us i).sent j = whole-flow ((us i).sent j) ((ts j).came n i) (run.3 i j a b) (subst P taken (h.makes.2 i a)) in
       ap rows_of (taken ∙ all_taken) ∙ port-rows (ship_of S n i k p) j ((u.0 i).1 j) ((us i).sent j) ((u.1 i a).ports j b) in (
         λ i. (u.0 i).0,

@@ -4,10 +4,10 @@ use Rattle.std.specs.List.{list_all, AllByRecursion}
 use Rattle.vx_values.specs.declared.value.ColType.{ColType}
 use Rattle.vx_values.specs.Types.{Fits, type_of}
 use Rattle.vx_values.specs.Values.{Row, pick, row_eq}
-use Rattle.vx_nodes.specs.Plan.{Unary, select, project, distinct, sort, group, union, join, Plan, scan, unary, binary, exchange}
+use Rattle.vx_plan_nodes.specs.Plan.{Unary, select, project, distinct, sort, group, union, join, Plan, scan, unary, binary, exchange}
 use Rattle.vx_relations.specs.Relation.{Relation, Meets}
-use Rattle.vx_nodes.specs.Types.{width, unary_width, well_formed, names_columns}
-use Rattle.vx_nodes.specs.Serial.{passes, firsts, group_keys, group_row, group_fits, of_key, aggregate_of, unary_rows, join_rows, Outcome, rows, overflow, or_overflow, after, serial}
+use Rattle.vx_plan_nodes.specs.Types.{width, unary_width, well_formed, names_columns}
+use Rattle.vx_plan_nodes.specs.Serial.{passes, firsts, group_keys, group_row, group_fits, of_key, aggregate_of, unary_rows, join_rows, SerialResult, rows, overflow, or_overflow, after, serial}
 use Rattle.vx_rows.specs.Order.{sort_on}
 use Rattle.vx_laws.proofs.Bags.{and-left, and-right, and-both}
 use Rattle.vx_laws.proofs.Parts.{list_all-weaken, list_all-always}
@@ -97,7 +97,7 @@ module _ (catalog : ℕ → Relation) (db : ℕ → List Row) (meets : (r : ℕ)
           subst P a (unary-wide op (width catalog p) ys zs h k)
       done None ys h k e = cc
 
-      go : (o : Outcome) → ((ys : List Row) → o ≡ rows ys → wide (width catalog p) ys ≡ true) → after o (λ ys. or_overflow n (unary_rows op ys)) ≡ rows xs
+      go : (o : SerialResult) → ((ys : List Row) → o ≡ rows ys → wide (width catalog p) ys ≡ true) → after o (λ ys. or_overflow n (unary_rows op ys)) ≡ rows xs
           → wide (unary_width op (width catalog p)) xs ≡ true
       go (rows ys) ih e = done (unary_rows op ys) ys (ih ys refl) refl e
       go (overflow m) ih e = cc
@@ -109,7 +109,7 @@ module _ (catalog : ℕ → Relation) (db : ℕ → List Row) (meets : (r : ℕ)
       (λ ys. serial-wide p ys (and-left (well_formed catalog p) (well_formed catalog q && ((width catalog p == width catalog q) && names_columns (width catalog p) c)) ok))
       (λ ys. serial-wide q ys (and-left (well_formed catalog q) ((width catalog p == width catalog q) && names_columns (width catalog p) c) k1)) same e
     where
-      go : (o u : Outcome) → ((ys : List Row) → o ≡ rows ys → wide (width catalog p) ys ≡ true) → ((ys : List Row) → u ≡ rows ys → wide (width catalog q) ys ≡ true)
+      go : (o u : SerialResult) → ((ys : List Row) → o ≡ rows ys → wide (width catalog p) ys ≡ true) → ((ys : List Row) → u ≡ rows ys → wide (width catalog q) ys ≡ true)
           → width catalog p ≡ width catalog q → after o (λ ys. after u (λ zs. rows (ys ++ zs))) ≡ rows xs → wide (width catalog p) xs ≡ true
       go (rows ys) (rows zs) ih jh s e =
           let a : ys ++ zs ≡ xs = cc in
@@ -124,7 +124,7 @@ module _ (catalog : ℕ → Relation) (db : ℕ → List Row) (meets : (r : ℕ)
       (λ ys. serial-wide p ys (and-left (well_formed catalog p) (well_formed catalog q && names_columns (width catalog p + width catalog q) c) ok))
       (λ ys. serial-wide q ys (and-left (well_formed catalog q) (names_columns (width catalog p + width catalog q) c) k1)) e
     where
-      go : (o u : Outcome) → ((ys : List Row) → o ≡ rows ys → wide (width catalog p) ys ≡ true) → ((ys : List Row) → u ≡ rows ys → wide (width catalog q) ys ≡ true)
+      go : (o u : SerialResult) → ((ys : List Row) → o ≡ rows ys → wide (width catalog p) ys ≡ true) → ((ys : List Row) → u ≡ rows ys → wide (width catalog q) ys ≡ true)
           → after o (λ ys. after u (λ zs. rows (join_rows on ys zs))) ≡ rows xs → wide (width catalog p + width catalog q) xs ≡ true
       go (rows ys) (rows zs) ih jh e =
           let a : join_rows on ys zs ≡ xs = cc in

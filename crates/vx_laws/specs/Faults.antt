@@ -3,16 +3,16 @@ use Rattle.std.specs.Prelude.{◌+◌, ◌≡◌, ℕ, ◌<◌, ◌⊎◌, ◌�
 use Rattle.vx_worker.specs.Fragment.{IsSet, Setting, fragment}
 use Rattle.vx_laws.specs.Layout.{FlatRun, workers_below}
 use Rattle.vx_values.specs.Values.{Row}
-use Rattle.vx_nodes.specs.Plan.{Plan, scan, unary, binary, exchange, size, is_one}
-use Rattle.vx_nodes.specs.Types.{well_formed}
-use Rattle.vx_nodes.specs.Serial.{serial, IsOverflow, HasTooLong}
-use Rattle.vx_nodes.specs.Streams.{workers}
-use Rattle.vx_rules.specs.Rules.{allowed}
-use Rattle.vx_nodes.specs.Erase.{erase}
+use Rattle.vx_plan_nodes.specs.Plan.{Plan, scan, unary, binary, exchange, size, is_one}
+use Rattle.vx_plan_nodes.specs.Types.{well_formed}
+use Rattle.vx_plan_nodes.specs.Serial.{serial, IsOverflow, HasTooLong}
+use Rattle.vx_plan_nodes.specs.Streams.{workers}
+use Rattle.vx_check_rules.specs.Rules.{allowed}
+use Rattle.vx_plan_nodes.specs.Erase.{erase}
 use Rattle.vx_worker.specs.Trace.{Trace, failed, Ends}
 use Rattle.vx_exchange.specs.Tasks.{keep}
 use Rattle.vx_laws.specs.RunOf.{RunOf}
-use Rattle.vx_nodes.specs.Numbering.{is_fit}
+use Rattle.vx_plan_nodes.specs.Numbering.{is_fit}
 use Rattle.vx_ops.specs.declared.fault.Code.TheVariants.{Overflow, Unsorted, Stranger}
 use Rattle.vx_ops.specs.declared.fault.Fault.{Fault}
 use Rattle.vx_ops.specs.declared.fault.Fault.TheVariants.{Own}

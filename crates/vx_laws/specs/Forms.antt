@@ -1,19 +1,19 @@
 -- Definitions that stand in two forms, and that the two say the same.
 use Rattle.std.specs.Prelude.{length, ◌≡◌, ◌↔◌, ℕ, ◌<◌, ◌≤◌, Bool, true, List, None, IsPermutation}
 use Rattle.vx_relations.specs.Catalog.{relation_at}
-use Rattle.vx_typed.specs.Typed.{Scope, typed, IsTyped}
-use Rattle.vx_nodes.specs.Types.{types_of, width, well_formed}
-use Rattle.vx_nodes.specs.Numbering.{is_numbered}
-use Rattle.vx_nodes.specs.Erase.{erase}
+use Rattle.vx_plan_nodes.specs.Typed.{Scope, typed, IsTyped}
+use Rattle.vx_plan_nodes.specs.Types.{types_of, width, well_formed}
+use Rattle.vx_plan_nodes.specs.Numbering.{is_numbered}
+use Rattle.vx_plan_nodes.specs.Erase.{erase}
 use Rattle.std.specs.Ordering.{is_le}
 use Rattle.vx_values.specs.Values.{Val, Row, val_cmp, row_eq}
 use Rattle.vx_rows.specs.Bags.{count, SameRows}
 use Rattle.vx_rows.specs.Keys.{HasKey, is_key}
-use Rattle.vx_nodes.specs.Plan.{Route, Plan}
+use Rattle.vx_plan_nodes.specs.Plan.{Route, Plan}
 use Rattle.vx_relations.specs.Relation.{Relation}
-use Rattle.vx_nodes.specs.Routes.{range_consumer, sends_by}
-use Rattle.vx_rules.specs.Rules.{allowed, root_allowed}
-use Rattle.vx_rules.specs.Refusal.{refusal}
+use Rattle.vx_plan_nodes.specs.Routes.{range_consumer, sends_by}
+use Rattle.vx_check_rules.specs.Rules.{allowed, root_allowed}
+use Rattle.vx_check_rules.specs.Refusal.{refusal}
 
 -- a key by a test is a key; the ranges and a hash router that keeps its law answer below the number of consumers; the ranges rise with the value
 pub record FormsAgree : Type 0 where

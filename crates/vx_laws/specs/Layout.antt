@@ -1,20 +1,20 @@
 -- Workers by their numbers: the top fragment's first, then those of the fragments below its exchanges, in preorder of their tops.
 use Rattle.std.specs.Prelude.{Bool, List, ◌≡◌, ℕ, ◌+◌, ◌<◌, true, false, length}
 use Rattle.vx_values.specs.Values.{Row}
-use Rattle.vx_nodes.specs.Types.{well_formed}
-use Rattle.vx_nodes.specs.Runs.{Runs}
-use Rattle.vx_rules.specs.Rules.{root_allowed, allowed}
-use Rattle.vx_rules.specs.Claims.{Delivers}
+use Rattle.vx_plan_nodes.specs.Types.{well_formed}
+use Rattle.vx_plan_nodes.specs.Runs.{Runs}
+use Rattle.vx_check_rules.specs.Rules.{root_allowed, allowed}
+use Rattle.vx_check_rules.specs.Claims.{Delivers}
 use Rattle.vx_worker.specs.Fragment.{goes, IsSet, Setting, fragment}
 use Rattle.vx_worker.specs.Trace.{Trace, IsWell, Ends}
 use Rattle.vx_exchange.specs.Tasks.{keep, send}
-use Rattle.vx_nodes.specs.Plan.{target, Plan, scan, unary, binary, exchange, size}
+use Rattle.vx_plan_nodes.specs.Plan.{target, Plan, scan, unary, binary, exchange, size}
 use Rattle.vx_relations.specs.Relation.{Relation}
-use Rattle.vx_nodes.specs.Streams.{workers}
+use Rattle.vx_plan_nodes.specs.Streams.{workers}
 use Rattle.vx_ports.specs.Packets.{Flows}
 use Rattle.vx_worker.specs.Morsels.{Dispatched, morsel_count}
 use Rattle.vx_laws.specs.RunOf.{Known, RunOf, ship_of}
-use Rattle.vx_nodes.specs.Numbering.{is_fit, is_numbered, relation_in}
+use Rattle.vx_plan_nodes.specs.Numbering.{is_fit, is_numbered, relation_in}
 
 -- how many workers the fragments below the plan's top fragment have
 abbrev pub workers_below : (ℕ → ℕ) → Plan → ℕ

@@ -2,21 +2,21 @@
 use Rattle.vx_worker.specs.Fragment.{goes, IsSet, Setting, Frag, Reads, FragMakes, fragment}
 use Rattle.std.specs.Prelude.{◌≡◌, ℕ, ◌<◌, Bool, true, false, List, length}
 use Rattle.vx_values.specs.Values.{Row}
-use Rattle.vx_nodes.specs.Plan.{Kind, target, Plan, scan, unary, binary, exchange, size, is_one}
-use Rattle.vx_nodes.specs.Types.{well_formed, types_of}
-use Rattle.vx_nodes.specs.Streams.{Streams, workers}
-use Rattle.vx_nodes.specs.Runs.{Runs}
-use Rattle.vx_rules.specs.Rules.{allowed, root_allowed}
-use Rattle.vx_rules.specs.Claims.{Delivers}
+use Rattle.vx_plan_nodes.specs.Plan.{ExchangeKind, target, Plan, scan, unary, binary, exchange, size, is_one}
+use Rattle.vx_plan_nodes.specs.Types.{well_formed, types_of}
+use Rattle.vx_plan_nodes.specs.Streams.{Streams, workers}
+use Rattle.vx_plan_nodes.specs.Runs.{Runs}
+use Rattle.vx_check_rules.specs.Rules.{allowed, root_allowed}
+use Rattle.vx_check_rules.specs.Claims.{Delivers}
 use Rattle.vx_ports.specs.Packets.{Flows}
 use Rattle.vx_worker.specs.Morsels.{Dispatched, morsel_count}
 use Rattle.vx_exchange.specs.Ship.{Ship}
 use Rattle.vx_worker.specs.Trace.{Trace, IsWell, ReadsAre}
 use Rattle.vx_exchange.specs.Tasks.{keep, send, Task}
-use Rattle.vx_nodes.specs.Numbering.{is_fit}
+use Rattle.vx_plan_nodes.specs.Numbering.{is_fit}
 
 -- the sending end of the producer at a place, for an exchange above the plan p
-abbrev pub ship_of : Setting → (exchange place : ℕ) → Kind → Plan → Ship
+abbrev pub ship_of : Setting → (exchange place : ℕ) → ExchangeKind → Plan → Ship
 ship_of S n i k p = record { exchange = n; place = i; consumers = workers S.sizes (target k); types = types_of S.catalog p; kind = k; size = S.packet }
 
 -- what is known of a worker by its fragment, its task and its trace

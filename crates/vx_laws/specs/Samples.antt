@@ -2,8 +2,8 @@
 use Rattle.std.specs.Prelude.{◌≡◌, ℕ, zero, suc, true, false, pos, List, [], ◌∷◌}
 use Rattle.vx_values.specs.Values.{num, Row}
 use Rattle.vx_values.specs.declared.value.ColType.TheVariants.{Int}
-use Rattle.vx_nodes.specs.Plan.{one_worker, group_of, one, any, sum, group, gather, Plan, scan, unary, exchange}
-use Rattle.vx_ports.specs.Packets.{brings, last, Parcel}
+use Rattle.vx_plan_nodes.specs.Plan.{one_worker, group_of, one, any, sum, group, gather, Plan, scan, unary, exchange}
+use Rattle.vx_ports.specs.Packets.{brings, last, PacketView}
 use Rattle.vx_worker.specs.Fragment.{Setting, fragment}
 use Rattle.vx_worker.specs.Trace.{Trace, IsWell, failed, Ends}
 use Rattle.vx_exchange.specs.Tasks.{keep}
@@ -31,7 +31,7 @@ abbrev pub plan : Plan
 plan = exchange 0 (record { part = one; order = []; keys = [] }) gather [] (scan 1 (record { part = any; order = []; keys = [] }) 0 true (group_of 0))
 
 -- one row and Last to consumer 0
-abbrev pub put : ℕ → ℕ → List Parcel
+abbrev pub put : ℕ → ℕ → List PacketView
 put i zero = record { exchange = 0; from = i; to = 0; types = Int ∷ []; content = brings (row i ∷ []) } ∷ record { exchange = 0; from = i; to = 0; types = Int ∷ []; content = last } ∷ []
 put i (suc j) = []
 

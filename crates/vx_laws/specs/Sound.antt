@@ -1,15 +1,15 @@
 -- The theorems on the rule table: an allowed plan's claims hold in every run.
 use Rattle.std.specs.Prelude.{◌≡◌, ℕ, ◌<◌, Bool, true, List, IsSome}
 use Rattle.vx_values.specs.Values.{Row}
-use Rattle.vx_nodes.specs.Plan.{scan, binary, exchange, Plan, unary, size, Claim, Unary}
+use Rattle.vx_plan_nodes.specs.Plan.{scan, binary, exchange, Plan, unary, size, Claim, Unary}
 use Rattle.vx_relations.specs.Relation.{Relation}
-use Rattle.vx_nodes.specs.Types.{well_formed}
-use Rattle.vx_nodes.specs.Routes.{Router}
-use Rattle.vx_nodes.specs.Streams.{Streams, workers}
-use Rattle.vx_nodes.specs.Runs.{Runs}
-use Rattle.vx_rules.specs.Rules.{allowed, root_allowed}
-use Rattle.vx_nodes.specs.Serial.{rows, serial, unary_rows}
-use Rattle.vx_rules.specs.Claims.{HoldsAt, Given, Delivers}
+use Rattle.vx_plan_nodes.specs.Types.{well_formed}
+use Rattle.vx_plan_nodes.specs.Routes.{Router}
+use Rattle.vx_plan_nodes.specs.Streams.{Streams, workers}
+use Rattle.vx_plan_nodes.specs.Runs.{Runs}
+use Rattle.vx_check_rules.specs.Rules.{allowed, root_allowed}
+use Rattle.vx_plan_nodes.specs.Serial.{rows, serial, unary_rows}
+use Rattle.vx_check_rules.specs.Claims.{HoldsAt, Given, Delivers}
 
 -- the theorem, for the top of every plan
 abbrev pub Sound : Type 0

@@ -3,8 +3,8 @@ use Rattle.std.specs.Prelude.{ℕ, zero, suc, true, false, pos, negsuc, List, []
 use Rattle.vx_values.specs.declared.value.ColType.TheVariants.{Int, Text}
 use Rattle.vx_values.specs.Values.{Val, num, text, Row}
 use Rattle.vx_relations.specs.Relation.{Relation}
-use Rattle.vx_typed.specs.Typed.{Scope}
-use Rattle.vx_nodes.specs.Plan.{Size, one_worker, group_of, Route, by_hash, Part, one, any, all, routed, Claim, equal, constant, sum, count_rows, Unary, select, sort, group, union, join, route_to, round, broadcast, gather, Plan, scan, unary, binary, exchange}
+use Rattle.vx_plan_nodes.specs.Typed.{Scope}
+use Rattle.vx_plan_nodes.specs.Plan.{Size, one_worker, group_of, Route, by_hash, Part, one, any, all, routed, Claim, equal, constant, sum, count_rows, Unary, select, sort, group, union, join, route_to, round, broadcast, gather, Plan, scan, unary, binary, exchange}
 
 abbrev pub t_and_d : ℕ → Relation
 t_and_d zero = record { name = []; names = []; types = Int ∷ Text ∷ Int ∷ []; keys = (0 ∷ []) ∷ []; order = 0 ∷ [] }

@@ -2,17 +2,17 @@
 use Rattle.std.specs.Prelude.{◌≡◌, true, false, [], ◌∷◌, ◌++◌, Some, None}
 use Rattle.vx_values.specs.Values.{text}
 use Rattle.vx_rows.specs.Keys.{first_clash, is_key}
-use Rattle.vx_nodes.specs.Plan.{one, any, all, routed}
-use Rattle.vx_nodes.specs.Serial.{rows, overflow, serial}
+use Rattle.vx_plan_nodes.specs.Plan.{one, any, all, routed}
+use Rattle.vx_plan_nodes.specs.Serial.{rows, overflow, serial}
 use Rattle.vx_rows.specs.Order.{sort_on}
-use Rattle.vx_nodes.specs.Erase.{erase}
-use Rattle.vx_nodes.specs.Routes.{range_consumer}
-use Rattle.vx_typed.specs.Typed.{typed, is_range}
-use Rattle.vx_nodes.specs.Numbering.{nodes}
+use Rattle.vx_plan_nodes.specs.Erase.{erase}
+use Rattle.vx_plan_nodes.specs.Routes.{range_consumer}
+use Rattle.vx_plan_nodes.specs.Typed.{typed, is_range}
+use Rattle.vx_plan_nodes.specs.Numbering.{nodes}
 use Rattle.vx_exchange.specs.Rounds.{in_turn}
 use Rattle.vx_worker.specs.Morsels.{morsel_count, morsel_of}
-use Rattle.vx_rules.specs.Rules.{allowed, root_allowed}
-use Rattle.vx_rules.specs.Refusal.{size_mismatch, root_not_one, part_not_shown, inputs_not_matched, replicated_input, order_not_shown, order_needed, key_not_shown, total_not_shown, refusal}
+use Rattle.vx_check_rules.specs.Rules.{allowed, root_allowed}
+use Rattle.vx_check_rules.specs.Refusal.{size_mismatch, root_not_one, part_not_shown, inputs_not_matched, replicated_input, order_not_shown, order_needed, key_not_shown, total_not_shown, refusal}
 use Rattle.vx_laws.specs.WorkedPlans.{t_and_d, h, h2, claimed, part_only, first, first_key, shared_t, select_gathered, select_merged, sums_over, h_sorted, h_grouped, t_by_k, h_on_k, sums_by_hash, sums_unrouted, join_broadcast, t_with_d, replica_gathered, join_unlike, union_mixed, union_two_sizes, round_replicated, join_off_key, text_summed, union_unlike, worked_scope, sums_with_d, rows_counted, merge_joined, d_sorted, d_unsorted, one_row, a, b, c, n, minus_2, t_rows, db, empty_db, large, minus_1_row}
 
 -- plans that are accepted

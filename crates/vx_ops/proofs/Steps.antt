@@ -1,8 +1,8 @@
 -- Turns of an operator that answers each batch as it comes.
 use Rattle.std.proofs.Common.{◌≡◌, ℕ, List, ◌++◌, Some, refl, sym, ◌∙◌, inl, inr}
 use Rattle.vx_values.specs.Values.{Row}
-use Rattle.vx_nodes.specs.Plan.{Unary}
-use Rattle.vx_nodes.specs.Serial.{unary_rows}
+use Rattle.vx_plan_nodes.specs.Plan.{Unary}
+use Rattle.vx_plan_nodes.specs.Serial.{unary_rows}
 use Rattle.vx_ops.specs.Ledger.{Ledger, one_op}
 use Rattle.vx_ops.specs.Begun.{all_of, begun_whole}
 use Rattle.vx_ops.specs.declared.fault.Code.TheVariants.{NoMemory}

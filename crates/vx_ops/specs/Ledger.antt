@@ -3,10 +3,10 @@ use Rattle.std.specs.Prelude.{ℕ, ◌≡◌, ◌<◌, ◌⊎◌, true, false, L
 use Rattle.vx_values.specs.Values.{Row}
 use Rattle.vx_rows.specs.Order.{sorted}
 use Rattle.vx_values.specs.declared.value.ColType.{ColType}
-use Rattle.vx_nodes.specs.Plan.{Unary, group, Binary, join}
-use Rattle.vx_nodes.specs.Serial.{unary_rows, binary_rows, group_rows}
-use Rattle.vx_nodes.specs.Streams.{Dealt}
-use Rattle.vx_ports.specs.Packets.{Parcel, rows_of, has_last, has_fault}
+use Rattle.vx_plan_nodes.specs.Plan.{Unary, group, Binary, join}
+use Rattle.vx_plan_nodes.specs.Serial.{unary_rows, binary_rows, group_rows}
+use Rattle.vx_plan_nodes.specs.Streams.{Dealt}
+use Rattle.vx_ports.specs.Packets.{PacketView, rows_of, has_last, has_fault}
 use Rattle.vx_ops.specs.declared.fault.Code.TheVariants.{Overflow, NoMemory, Unsorted, Stranger}
 use Rattle.vx_ops.specs.declared.fault.Fault.{Fault}
 use Rattle.vx_ops.specs.declared.fault.Fault.TheVariants.{Own, Passed}
@@ -27,7 +27,7 @@ fresh = record { rows = []; over = Running }
 pub record Ledger : Type 0 where
   pub left : Stream
   pub right : Stream
-  pub came : ℕ → List Parcel
+  pub came : ℕ → List PacketView
   pub gave : Stream
 
 -- the consumer end of an exchange, at one of its places; it merges on the last list of columns, if that is not empty
@@ -60,17 +60,17 @@ InputsEnded (two_op n op) l = (l.left.over ≡ Ended) × (l.right.over ≡ Ended
 InputsEnded (receive port) l = (i : ℕ) → i < port.producers → has_last (l.came i) ≡ true
 
 -- a packet for this port, from this producer
-pub record IsFor (port : ConsumerEnd) (from : ℕ) (p : Parcel) : Type 0 where
+pub record IsFor (port : ConsumerEnd) (from : ℕ) (p : PacketView) : Type 0 where
   pub exchange : p.exchange ≡ port.exchange
   pub from_is : p.from ≡ from
   pub to : p.to ≡ port.place
   pub types : p.types ≡ port.types
 
 -- a packet of which P holds stands among these
-pub record Came (P : Parcel → Type 0) (ps : List Parcel) : Type 0 where
-  pub front : List Parcel
-  pub packet : Parcel
-  pub back : List Parcel
+pub record Came (P : PacketView → Type 0) (ps : List PacketView) : Type 0 where
+  pub front : List PacketView
+  pub packet : PacketView
+  pub back : List PacketView
   pub joined : front ++ packet ∷ back ≡ ps
   pub is : P packet
 

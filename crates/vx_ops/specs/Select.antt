@@ -1,9 +1,9 @@
 -- What the kernel of a selection makes, and when a selection may have heard and given what a ledger says.
 use Rattle.std.specs.Prelude.{◌≡◌, List, filter}
 use Rattle.vx_values.specs.Values.{Row}
-use Rattle.vx_nodes.specs.Plan.{Unary, select}
-use Rattle.vx_nodes.specs.Serial.{passes}
-use Rattle.vx_nodes.specs.Conditions.{conditions_of}
+use Rattle.vx_plan_nodes.specs.Plan.{Unary, select}
+use Rattle.vx_plan_nodes.specs.Serial.{passes}
+use Rattle.vx_plan_nodes.specs.Conditions.{conditions_of}
 use Rattle.vx_ops.specs.Ledger.{Ledger, Op}
 use Rattle.vx_ops.specs.Turn.{Shape}
 use Rattle.vx_ops.specs.Meaning.{Meaning}

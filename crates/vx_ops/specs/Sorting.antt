@@ -1,14 +1,14 @@
 -- What a caller sees of the kernel of a sort, and what it has read.
 use Rattle.std.specs.Prelude.{◌≡◌, ℕ, List}
 use Rattle.vx_values.specs.Values.{Row}
-use Rattle.vx_rows.specs.View.{Table}
-use Rattle.vx_nodes.specs.Plan.{Unary, sort}
+use Rattle.vx_rows.specs.View.{RowsView}
+use Rattle.vx_plan_nodes.specs.Plan.{Unary, sort}
 use Rattle.vx_ops.specs.Turn.{Shape}
 
 -- the columns that it sorts on, and the rows that it has read
 pub record SortingView : Type 0 where
   pub columns : List ℕ
-  pub table : Table
+  pub table : RowsView
 
 abbrev pub sorting : SortingView → Unary
 sorting s = sort s.columns

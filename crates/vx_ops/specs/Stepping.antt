@@ -1,8 +1,8 @@
 -- When an operator that answers each batch as it comes may have heard and given what a ledger says.
 use Rattle.std.specs.Prelude.{ℕ, ◌≡◌, List, Some}
 use Rattle.vx_values.specs.Values.{Row}
-use Rattle.vx_nodes.specs.Plan.{Unary}
-use Rattle.vx_nodes.specs.Serial.{unary_rows}
+use Rattle.vx_plan_nodes.specs.Plan.{Unary}
+use Rattle.vx_plan_nodes.specs.Serial.{unary_rows}
 use Rattle.vx_ops.specs.Ledger.{Ledger, Op, one_op, Told}
 use Rattle.vx_ops.specs.Turn.{Shape, while_running}
 use Rattle.vx_ops.specs.Meaning.{Meaning}

@@ -1,7 +1,7 @@
 -- One turn of a source: what it is given fits what it wants, and what its ledger is afterwards.
 use Rattle.std.specs.Prelude.{ℕ, ◌≡◌, ◌<◌, ◌==◌, List, [], ◌∷◌, ◌++◌, length, Option, Some, None, cond}
 use Rattle.vx_values.specs.declared.value.ColType.{ColType}
-use Rattle.vx_ports.specs.Packets.{Parcel}
+use Rattle.vx_ports.specs.Packets.{PacketView}
 use Rattle.vx_ops.specs.Ledger.{Stream, Ledger, fresh}
 use Rattle.vx_ops.specs.declared.fault.Over.{Over}
 use Rattle.vx_ops.specs.declared.fault.Over.TheVariants.{Running, Ended, Failed}
@@ -53,7 +53,7 @@ IsTyped s want.Right (got.Input p) = GivesRows s.right p
 IsTyped s _ _ = Unit {0}
 
 -- the lists with one more packet at this place
-abbrev pub with_packet : (ℕ → List Parcel) → ℕ → Option Parcel → ℕ → List Parcel
+abbrev pub with_packet : (ℕ → List PacketView) → ℕ → Option PacketView → ℕ → List PacketView
 with_packet f i None = f
 with_packet f i (Some p) = λ j. cond (j == i) (f j ++ p ∷ []) (f j)
 

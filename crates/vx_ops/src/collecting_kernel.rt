@@ -18,8 +18,8 @@ pub enum FinishFault {
 pub trait CollectingKernel: Drop {
     ghost use Rattle.std.specs.Prelude.{◌≡◌, ◌++◌, List, [], Some, IfOk, OnOk, IfErr};
     ghost use Rattle.vx_values.specs.Values.{Row};
-    ghost use Rattle.vx_nodes.specs.Plan.{Unary};
-    ghost use Rattle.vx_nodes.specs.Serial.{unary_rows};
+    ghost use Rattle.vx_plan_nodes.specs.Plan.{Unary};
+    ghost use Rattle.vx_plan_nodes.specs.Serial.{unary_rows};
     ghost use Rattle.vx_ops.specs.Turn.{Shape};
     ghost use Rattle.vx_ops.specs.CollectingKernel.{FinishBlame};
 

@@ -4,7 +4,7 @@ use crate::step_kernel::StepKernel;
 use crate::stepping::Stepping;
 use std::alloc::{AllocError, Global};
 use vx_algebra::selected;
-use vx_nodes::Condition;
+use vx_plan_nodes::Condition;
 use vx_rows::{ColType, Rows};
 
 /// Calls: new (wants turn)*
@@ -22,8 +22,8 @@ pub struct Selection {
 
 impl Stepping<Selection> {
     ghost use Rattle.std.specs.Prelude.{◌≡◌};
-    ghost use Rattle.vx_nodes.specs.Plan.{select};
-    ghost use Rattle.vx_nodes.specs.Conditions.{conditions_of};
+    ghost use Rattle.vx_plan_nodes.specs.Plan.{select};
+    ghost use Rattle.vx_plan_nodes.specs.Conditions.{conditions_of};
     ghost use Rattle.vx_ops.specs.Ledger.{one_op};
     ghost use Rattle.vx_ops.specs.Turn.{fresh_ledger};
     ghost use Rattle.vx_ops.specs.Select.{SelectStands, select_op, select_types};

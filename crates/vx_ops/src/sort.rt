@@ -35,7 +35,7 @@ impl Model for Sorting {
 impl Collecting<Sorting> {
     ghost use Rattle.std.specs.Prelude.{◌≡◌, length, IfOk};
     ghost use Rattle.vx_rows.specs.View.{AreColumns};
-    ghost use Rattle.vx_nodes.specs.Plan.{sort};
+    ghost use Rattle.vx_plan_nodes.specs.Plan.{sort};
     ghost use Rattle.vx_ops.specs.Ledger.{one_op};
     ghost use Rattle.vx_ops.specs.Turn.{fresh_ledger};
     ghost use Rattle.vx_ops.specs.Sort.{SortStands, sort_op, sort_types};

@@ -9,8 +9,8 @@ use vx_rows::Rows;
 pub trait StepKernel: Drop {
     ghost use Rattle.std.specs.Prelude.{◌≡◌, ◌++◌, List, Some, IfOk};
     ghost use Rattle.vx_values.specs.Values.{Row};
-    ghost use Rattle.vx_nodes.specs.Plan.{Unary};
-    ghost use Rattle.vx_nodes.specs.Serial.{unary_rows};
+    ghost use Rattle.vx_plan_nodes.specs.Plan.{Unary};
+    ghost use Rattle.vx_plan_nodes.specs.Serial.{unary_rows};
     ghost use Rattle.vx_ops.specs.Turn.{Shape};
 
     // The operator.

@@ -5,11 +5,11 @@ use Rattle.std.specs.List.{list_any, list_all}
 use Rattle.std.proofs.lemmas.Bool.{eqb-true, or_parts, or_from, not-true, not_from_false}
 use Rattle.std.proofs.lemmas.Slice.Eq.{bytes_eq-Decides}
 use Rattle.vx_relations.specs.Catalog.{are_distinct}
-use Rattle.vx_typed.specs.Typed.{are_distinct_pairs}
+use Rattle.vx_plan_nodes.specs.Typed.{are_distinct_pairs}
 use Rattle.vx_values.specs.Values.{Name}
-use Rattle.vx_document.specs.Fault.{Refusal, duplicate_column}
+use Rattle.vx_plan_json.specs.Fault.{Refusal, duplicate_column}
 use Rattle.vx_plan.specs.Lookup.{tested_onto, is_among, once, pair_eq, is_among_pairs, pairs_once}
-use Rattle.vx_document.proofs.Holds.{Holds}
+use Rattle.vx_plan_json.proofs.Holds.{Holds}
 use Rattle.vx_values.proofs.Booleans.{and-left, and-right, and-both}
 
 -- no element equals a later one

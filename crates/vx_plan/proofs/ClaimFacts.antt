@@ -6,20 +6,20 @@ use Rattle.std.proofs.lemmas.List.{length-map}
 use Rattle.std.proofs.lemmas.List.Quantifiers.{position-Some}
 use Rattle.vx_values.specs.declared.value.ColType.{ColType}
 use Rattle.vx_values.specs.Types.{type_at}
-use Rattle.vx_nodes.specs.Plan.{one_worker, by_hash, by_range, Part, routed, Claim}
-use Rattle.vx_typed.specs.Typed.{are_columns, is_size, is_routed, is_part, is_claim, range_type, bounds_at, type_eq}
+use Rattle.vx_plan_nodes.specs.Plan.{one_worker, by_hash, by_range, Part, routed, Claim}
+use Rattle.vx_plan_nodes.specs.Typed.{are_columns, is_size, is_routed, is_part, is_claim, range_type, bounds_at, type_eq}
 use Rattle.vx_values.specs.Lists.{is_some_list}
 use Rattle.vx_values.specs.Values.{Name}
-use Rattle.vx_document.specs.Document.{PartForm, hash_part, range_part, ClaimForm}
+use Rattle.vx_plan_json.specs.Document.{PartForm, hash_part, range_part, ClaimForm}
 use Rattle.vx_values.specs.Ranges.{RangeForm}
-use Rattle.vx_document.specs.Document as form
-use Rattle.vx_nodes.specs.Outline.{Columns, Top}
-use Rattle.vx_document.specs.Fault.{Refusal, too_wide, ◌>>=◌}
+use Rattle.vx_plan_json.specs.Document as form
+use Rattle.vx_plan_nodes.specs.Outline.{Columns, Top}
+use Rattle.vx_plan_json.specs.Fault.{Refusal, too_wide, ◌>>=◌}
 use Rattle.vx_plan.specs.Lookup.{column_found, columns_found, keys_found, once, keys_once, matched, narrow, size_or, size_found, range_or, range_found}
-use Rattle.vx_typed.specs.Names.{Names, scope_of}
+use Rattle.vx_plan_nodes.specs.Names.{Names, scope_of}
 use Rattle.vx_plan.specs.Resolve.{part_found, part_names, part_fits, claim_columns, claim_once, claim_found, topped}
-use Rattle.vx_document.specs.Formed.{are_names, are_some_names, is_part_form, is_claim_form}
-use Rattle.vx_document.proofs.Holds.{Holds, holds_then}
+use Rattle.vx_plan_json.specs.Formed.{are_names, are_some_names, is_part_form, is_claim_form}
+use Rattle.vx_plan_json.proofs.Holds.{Holds, holds_then}
 use Rattle.vx_values.proofs.Booleans.{and-left, and-right, and-both}
 use Rattle.vx_plan.proofs.Apart.{apart, once-apart}
 use Rattle.vx_plan.proofs.FoundFacts.{AreColumns, IsColumn, AreKeys, column-found, columns-found, keys-found, keys_once-apart, once-columns, once-keys, some-columns}

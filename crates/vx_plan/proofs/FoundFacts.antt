@@ -6,12 +6,12 @@ use Rattle.std.proofs.lemmas.List.{length_push, map_push}
 use Rattle.std.proofs.lemmas.List.Quantifiers.{position-Some}
 use Rattle.std.proofs.lemmas.Slice.Eq.{bytes_eq-Decides}
 use Rattle.vx_relations.specs.Catalog.{all_below, are_distinct}
-use Rattle.vx_typed.specs.Typed.{are_columns}
+use Rattle.vx_plan_nodes.specs.Typed.{are_columns}
 use Rattle.vx_values.specs.Lists.{is_some_list}
 use Rattle.vx_values.specs.Values.{Name}
-use Rattle.vx_document.specs.Fault.{Refusal}
+use Rattle.vx_plan_json.specs.Fault.{Refusal}
 use Rattle.vx_plan.specs.Lookup.{walk_onto, column_or, column_found, columns_found, keys_found, once, keys_once}
-use Rattle.vx_document.proofs.Holds.{all_push, Holds, holds_then}
+use Rattle.vx_plan_json.proofs.Holds.{all_push, Holds, holds_then}
 use Rattle.vx_values.proofs.Booleans.{and-left, and-right, and-both}
 use Rattle.vx_plan.proofs.Apart.{apart, once-apart, distinct-columns}
 

@@ -7,21 +7,21 @@ use Rattle.std.proofs.lemmas.List.Quantifiers.{position-Some}
 use Rattle.vx_values.specs.declared.value.ColType.{ColType}
 use Rattle.vx_relations.specs.Relation.{Relation}
 use Rattle.vx_relations.specs.Catalog.{relation_at, IsRelation, IsCatalog}
-use Rattle.vx_nodes.specs.Types.{types_of, unary_types, binary_types}
-use Rattle.vx_typed.specs.Outputs.{IsOutputOf, HasOutputs}
-use Rattle.vx_typed.specs.Typed.{is_size, is_unary, is_binary, is_kind, is_claim, is_output, is_range, are_columns, typed, IsTyped}
-use Rattle.vx_nodes.specs.Numbering.{nodes, is_numbered}
+use Rattle.vx_plan_nodes.specs.Types.{types_of, unary_types, binary_types}
+use Rattle.vx_plan_nodes.specs.Outputs.{IsOutputOf, HasOutputs}
+use Rattle.vx_plan_nodes.specs.Typed.{is_size, is_unary, is_binary, is_kind, is_claim, is_output, is_range, are_columns, typed, IsTyped}
+use Rattle.vx_plan_nodes.specs.Numbering.{nodes, is_numbered}
 use Rattle.vx_values.specs.Values.{Name}
-use Rattle.vx_document.specs.Document.{ClaimForm, ScanForm, UnaryForm, BinaryForm, KindForm, Tree}
+use Rattle.vx_plan_json.specs.Document.{ClaimForm, ScanForm, UnaryForm, BinaryForm, KindForm, Tree}
 use Rattle.vx_values.specs.Ranges.{RangeForm}
-use Rattle.vx_document.specs.Document as form
-use Rattle.vx_nodes.specs.Outline.{Columns, Top, Outline, scan, unary, binary, exchange, columns, plan_in}
-use Rattle.vx_document.specs.Fault.{Refusal, bad_size, bad_range, ◌>>=◌}
+use Rattle.vx_plan_json.specs.Document as form
+use Rattle.vx_plan_nodes.specs.Outline.{Columns, Top, Outline, scan, unary, binary, exchange, columns, plan_in}
+use Rattle.vx_plan_json.specs.Fault.{Refusal, bad_size, bad_range, ◌>>=◌}
 use Rattle.vx_plan.specs.Lookup.{tested_onto, size_found}
-use Rattle.vx_typed.specs.Names.{Names, scope_of}
+use Rattle.vx_plan_nodes.specs.Names.{Names, scope_of}
 use Rattle.vx_plan.specs.Resolve.{scan_columns, relation_or, relation_found, scan_typed, topped, unary_shape, unary_typed, binary_shape, binary_typed, exchange_shape, exchange_typed, typed_in, is_bad_size, sizes_tested, is_bad_range, ranges_tested}
-use Rattle.vx_document.specs.Formed.{are_names, is_claim_form, is_scan_form, is_unary_form, is_binary_form, is_kind_form, is_tree_form}
-use Rattle.vx_document.proofs.Holds.{Holds, holds_then, holds_at}
+use Rattle.vx_plan_json.specs.Formed.{are_names, is_claim_form, is_scan_form, is_unary_form, is_binary_form, is_kind_form, is_tree_form}
+use Rattle.vx_plan_json.proofs.Holds.{Holds, holds_then, holds_at}
 use Rattle.vx_values.proofs.Booleans.{and-left, and-right, and-both}
 use Rattle.vx_plan.proofs.ClaimFacts.{size-holds, IsTop, top-holds}
 use Rattle.vx_plan.proofs.ShapeFacts.{IsOutput, IsShape, shape-holds, IsJoint, joint-holds, IsExchange, exchange-holds}

@@ -6,22 +6,22 @@ use Rattle.std.proofs.lemmas.List.{length-map, length_push, map_push}
 use Rattle.vx_values.specs.declared.value.ColType.{ColType}
 use Rattle.vx_values.specs.Types.{type_at}
 use Rattle.vx_relations.specs.Catalog.{all_below}
-use Rattle.vx_nodes.specs.declared.typed.Kept.{Kept}
-use Rattle.vx_nodes.specs.Plan.{Aggregate, Condition, Kind, route_to, by_hash, by_range}
-use Rattle.vx_nodes.specs.Plan as plan
-use Rattle.vx_nodes.specs.Types.{unary_types, binary_types, aggregate_type}
-use Rattle.vx_typed.specs.Typed.{are_columns, is_condition, is_aggregate, is_unary, is_pair, are_distinct_pairs, is_binary, types_eq, is_kind, is_size, is_routed}
+use Rattle.vx_plan_nodes.specs.declared.typed.Projected.{Projected}
+use Rattle.vx_plan_nodes.specs.Plan.{Aggregate, Condition, ExchangeKind, route_to, by_hash, by_range}
+use Rattle.vx_plan_nodes.specs.Plan as plan
+use Rattle.vx_plan_nodes.specs.Types.{unary_types, binary_types, aggregate_type}
+use Rattle.vx_plan_nodes.specs.Typed.{are_columns, is_condition, is_aggregate, is_unary, is_pair, are_distinct_pairs, is_binary, types_eq, is_kind, is_size, is_routed}
 use Rattle.vx_values.specs.Lists.{is_some_list}
 use Rattle.vx_values.specs.Values.{Name}
-use Rattle.vx_document.specs.Document.{ConditionForm, OutputForm, AggregateForm, UnaryForm, BinaryForm, KindForm}
-use Rattle.vx_document.specs.Document as form
-use Rattle.vx_nodes.specs.Outline.{Columns}
-use Rattle.vx_document.specs.Fault.{Refusal, ◌>>=◌}
+use Rattle.vx_plan_json.specs.Document.{ConditionForm, OutputForm, AggregateForm, UnaryForm, BinaryForm, KindForm}
+use Rattle.vx_plan_json.specs.Document as form
+use Rattle.vx_plan_nodes.specs.Outline.{Columns}
+use Rattle.vx_plan_json.specs.Fault.{Refusal, ◌>>=◌}
 use Rattle.vx_plan.specs.Lookup.{walk_onto, column_found, columns_found, once, pairs_once, pair_eq, matched, narrow, size_found, range_found}
-use Rattle.vx_typed.specs.Names.{Names, scope_of}
+use Rattle.vx_plan_nodes.specs.Names.{Names, scope_of}
 use Rattle.vx_plan.specs.Resolve.{condition_found, conditions_found, select_shape, Shape, output_name, kept_found, all_kept_found, kept_shape, kept_columns, project_shape, distinct_shape, sort_shape, function_found, aggregates_found, group_found, group_tested, group_columns, group_shape, unary_shape, pair_found, pairs_found, join_tested, join_pairs, both_columns, Joint, binary_shape, kind_found, kind_names, kind_fits, exchange_columns, exchange_once, exchange_shape}
-use Rattle.vx_document.specs.Formed.{are_names, are_some_names, is_condition_form, is_output_form, is_aggregate_form, is_unary_form, is_pair_form, is_binary_form, is_kind_form}
-use Rattle.vx_document.proofs.Holds.{all_push, Holds, holds_then}
+use Rattle.vx_plan_json.specs.Formed.{are_names, are_some_names, is_condition_form, is_output_form, is_aggregate_form, is_unary_form, is_pair_form, is_binary_form, is_kind_form}
+use Rattle.vx_plan_json.proofs.Holds.{all_push, Holds, holds_then}
 use Rattle.vx_values.proofs.Booleans.{and-left, and-right, and-both}
 use Rattle.vx_plan.proofs.Apart.{apart, apart-front, once-apart, pairs_once-apart, distinct-pairs}
 use Rattle.vx_plan.proofs.FoundFacts.{name_of, AreColumns, IsColumn, column-found, columns-found, walk-holds, walk-length, once-columns, some-columns}
@@ -51,31 +51,31 @@ select-holds node cols cs out h =
     (λ ks l. holds_then (λ (u : ⊤). list_all (is_condition cols.types) ks ≡ true) (IsShape cols) (λ u. Ok (record { op = plan.select ks; renamed = []; columns = cols })) (matched node (list_all (is_condition cols.types) ks)) (matched-holds node (list_all (is_condition cols.types) ks))
     (λ u m. record { op = and-both (is_some_list ks) (list_all (is_condition cols.types) ks) (some-alike ks cs l ∙ h) m; output = out }))
 
-record AreKept (names : List Name) (os : List OutputForm) (ks : List Kept) : Type 0 where
-  below : all_below (length names) (map (λ (k : Kept). k.column) ks) ≡ true
+record AreKept (names : List Name) (os : List OutputForm) (ks : List Projected) : Type 0 where
+  below : all_below (length names) (map (λ (k : Projected). k.column) ks) ≡ true
   count : length ks ≡ length os
 
 map-map : {A B C : Type 0} (f : B → C) (g : A → B) (xs : List A) → map f (map g xs) ≡ map (λ x. f (g x)) xs
 map-map f g [] = refl
 map-map f g (x ∷ xs) = ap (λ ys. f (g x) ∷ ys) (map-map f g xs)
 
-one-kept : (node : ℕ) (names : List Name) (o : OutputForm) → Holds (λ (k : Kept). nat_lt k.column (length names) ≡ true) (kept_found node names o)
+one-kept : (node : ℕ) (names : List Name) (o : OutputForm) → Holds (λ (k : Projected). nat_lt k.column (length names) ≡ true) (kept_found node names o)
 unfolding kept_found
 one-kept node names o =
-    holds_then (IsColumn names o.column) (λ (k : Kept). nat_lt k.column (length names) ≡ true) (λ c. Ok (record { column = c; renamed = is_some o.renamed })) (column_found node names o.column) (column-found node names o.column) (λ c h. h.below)
+    holds_then (IsColumn names o.column) (λ (k : Projected). nat_lt k.column (length names) ≡ true) (λ c. Ok (record { column = c; renamed = is_some o.renamed })) (column_found node names o.column) (column-found node names o.column) (λ c h. h.below)
 
 all-kept : (node : ℕ) (names : List Name) (os : List OutputForm) → Holds (AreKept names os) (all_kept_found node names os)
 unfolding all_kept_found
 all-kept node names os =
-    walk-holds (kept_found node names) (λ o (k : Kept). nat_lt k.column (length names) ≡ true) (AreKept names) (one-kept node names)
+    walk-holds (kept_found node names) (λ o (k : Projected). nat_lt k.column (length names) ≡ true) (AreKept names) (one-kept node names)
     (λ xs ks x k h p.
     let P : List ℕ → Type 0 = λ cs. all_below (length names) cs ≡ true in
     record {
-      below = subst P (sym (map_push (λ (k : Kept). k.column) ks k)) (all_push (λ c. nat_lt c (length names)) (map (λ (k : Kept). k.column) ks) k.column h.below p);
+      below = subst P (sym (map_push (λ (k : Projected). k.column) ks k)) (all_push (λ c. nat_lt c (length names)) (map (λ (k : Projected). k.column) ks) k.column h.below p);
       count = length_push ks k ∙ ap (λ n. n + 1) h.count ∙ sym (length_push xs x);
     }) os [] [] (record { below = refl; count = refl })
 
-record IsKeptShape (cols : Columns) (os : List OutputForm) (ks : List Kept) : Type 0 where
+record IsKeptShape (cols : Columns) (os : List OutputForm) (ks : List Projected) : Type 0 where
   kept : AreKept cols.names os ks
   few : nat_le (length os) 64 ≡ true
 
@@ -86,34 +86,34 @@ kept-holds node cols os =
     (λ ks h. holds_then (λ (u : ⊤). apart bytes_eq (map output_name os) ≡ true) (IsKeptShape cols os) (λ u. narrow node (length os) >>= λ v. Ok ks) (once node (map output_name os)) (once-apart node (map output_name os))
     (λ u a. holds_then (λ (v : ⊤). nat_le (length os) 64 ≡ true) (IsKeptShape cols os) (λ v. Ok ks) (narrow node (length os)) (narrow-holds node (length os)) (λ v n. record { kept = h; few = n })))
 
-kept-output : (cols : Columns) (os : List OutputForm) (ks : List Kept) → IsKeptShape cols os ks → IsOutput (map (type_at cols.types) (map (λ (k : Kept). k.column) ks)) (kept_columns cols os ks)
+kept-output : (cols : Columns) (os : List OutputForm) (ks : List Projected) → IsKeptShape cols os ks → IsOutput (map (type_at cols.types) (map (λ (k : Projected). k.column) ks)) (kept_columns cols os ks)
 kept-output cols os ks h =
-    let types : List ColType = map (λ (k : Kept). type_at cols.types k.column) ks in
-    let e : length types ≡ length os = length-map ks (λ (k : Kept). type_at cols.types k.column) ∙ h.kept.count in
+    let types : List ColType = map (λ (k : Projected). type_at cols.types k.column) ks in
+    let e : length types ≡ length os = length-map ks (λ (k : Projected). type_at cols.types k.column) ∙ h.kept.count in
     let P : ℕ → Type 0 = λ n. nat_le n 64 ≡ true in
     record {
-      types_are = sym (map-map (type_at cols.types) (λ (k : Kept). k.column) ks);
+      types_are = sym (map-map (type_at cols.types) (λ (k : Projected). k.column) ks);
       names_are = length-map os output_name ∙ sym e;
       few = subst P (sym e) h.few;
     }
 
-kept-below : (cols : Columns) (os : List OutputForm) (ks : List Kept) → length cols.names ≡ length cols.types → is_some_list os ≡ true → IsKeptShape cols os ks
-    → (is_some_list (map (λ (k : Kept). k.column) ks) && all_below (length cols.types) (map (λ (k : Kept). k.column) ks)) ≡ true
+kept-below : (cols : Columns) (os : List OutputForm) (ks : List Projected) → length cols.names ≡ length cols.types → is_some_list os ≡ true → IsKeptShape cols os ks
+    → (is_some_list (map (λ (k : Projected). k.column) ks) && all_below (length cols.types) (map (λ (k : Projected). k.column) ks)) ≡ true
 kept-below cols os ks e h k =
-    let P : ℕ → Type 0 = λ n. all_below n (map (λ (k : Kept). k.column) ks) ≡ true in
-    and-both (is_some_list (map (λ (k : Kept). k.column) ks)) (all_below (length cols.types) (map (λ (k : Kept). k.column) ks))
-    (some-alike (map (λ (k : Kept). k.column) ks) os (length-map ks (λ (k : Kept). k.column) ∙ k.kept.count) ∙ h) (subst P e k.kept.below)
+    let P : ℕ → Type 0 = λ n. all_below n (map (λ (k : Projected). k.column) ks) ≡ true in
+    and-both (is_some_list (map (λ (k : Projected). k.column) ks)) (all_below (length cols.types) (map (λ (k : Projected). k.column) ks))
+    (some-alike (map (λ (k : Projected). k.column) ks) os (length-map ks (λ (k : Projected). k.column) ∙ k.kept.count) ∙ h) (subst P e k.kept.below)
 
 project-holds : (node : ℕ) (cols : Columns) (os : List OutputForm) → IsOutput cols.types cols → is_some_list os ≡ true → Holds (IsShape cols) (project_shape node cols os)
 unfolding project_shape
 project-holds node cols os out h =
-    holds_then (IsKeptShape cols os) (IsShape cols) (λ ks. Ok (record { op = plan.project (map (λ (k : Kept). k.column) ks); renamed = map (λ (k : Kept). k.renamed) ks; columns = kept_columns cols os ks })) (kept_shape node cols os) (kept-holds node cols os)
+    holds_then (IsKeptShape cols os) (IsShape cols) (λ ks. Ok (record { op = plan.project (map (λ (k : Projected). k.column) ks); renamed = map (λ (k : Projected). k.renamed) ks; columns = kept_columns cols os ks })) (kept_shape node cols os) (kept-holds node cols os)
     (λ ks k. record { op = kept-below cols os ks out.names_are h k; output = kept-output cols os ks k })
 
 distinct-holds : (node : ℕ) (cols : Columns) (os : List OutputForm) → IsOutput cols.types cols → is_some_list os ≡ true → Holds (IsShape cols) (distinct_shape node cols os)
 unfolding distinct_shape
 distinct-holds node cols os out h =
-    holds_then (IsKeptShape cols os) (IsShape cols) (λ ks. Ok (record { op = plan.distinct (map (λ (k : Kept). k.column) ks); renamed = map (λ (k : Kept). k.renamed) ks; columns = kept_columns cols os ks })) (kept_shape node cols os) (kept-holds node cols os)
+    holds_then (IsKeptShape cols os) (IsShape cols) (λ ks. Ok (record { op = plan.distinct (map (λ (k : Projected). k.column) ks); renamed = map (λ (k : Projected). k.renamed) ks; columns = kept_columns cols os ks })) (kept_shape node cols os) (kept-holds node cols os)
     (λ ks k. record { op = kept-below cols os ks out.names_are h k; output = kept-output cols os ks k })
 
 sort-holds : (node : ℕ) (cols : Columns) (names : List Name) → IsOutput cols.types cols → is_some_list names ≡ true → Holds (IsShape cols) (sort_shape node cols names)
@@ -266,7 +266,7 @@ joint-holds node l r (form.join merging on) lo ro h =
 -- ---- exchanges
 
 -- a found kind is typed, where its columns stand once and have its type
-abbrev IsKind : Names → List ColType → KindForm → Kind → Type 0
+abbrev IsKind : Names → List ColType → KindForm → ExchangeKind → Type 0
 IsKind s types form k = apart bytes_eq (kind_names form) ≡ true → kind_fits s types k ≡ true → is_kind (scope_of s) types k ≡ true
 
 kind-holds : (s : Names) (node : ℕ) (cols : Columns) (kind : KindForm) → IsOutput cols.types cols → is_kind_form kind ≡ true → Holds (IsKind s cols.types kind) (kind_found s node cols.names kind)
@@ -288,7 +288,7 @@ kind-holds s node cols (form.broadcast size) out h =
     holds_then (λ z. is_size (length s.sizes) z ≡ true) (IsKind s cols.types (form.broadcast size)) (λ z. Ok (plan.broadcast z)) (size_found s size) (size-holds s size) (λ z hz a m. hz)
 kind-holds s node cols form.gather out h = λ a m. refl
 
-record IsExchangeFound (s : Names) (cols : Columns) (kind : KindForm) (merge : List Name) (x : Kind × List ℕ) : Type 0 where
+record IsExchangeFound (s : Names) (cols : Columns) (kind : KindForm) (merge : List Name) (x : ExchangeKind × List ℕ) : Type 0 where
   sends : IsKind s cols.types kind x.0
   merges : AreColumns cols.names merge x.1
 
@@ -311,7 +311,7 @@ exchange_once-holds node kind merge =
     go k (Ok u) m = record { sends = k; merges = m }
     go k (Err e) m = tt
 
-pub record IsExchange (s : Names) (types : List ColType) (x : Kind × List ℕ) : Type 0 where
+pub record IsExchange (s : Names) (types : List ColType) (x : ExchangeKind × List ℕ) : Type 0 where
   pub kind : is_kind (scope_of s) types x.0 ≡ true
   pub merge : are_columns (length types) x.1 ≡ true
 

@@ -1,7 +1,7 @@
 -- Steps of a loop that tests each element against those before it.
 use Rattle.std.proofs.Common.{◌≡◌, ℕ, ◌+◌, ◌<◌, ◌≤◌, List, [], ◌∷◌, ◌++◌, Bool, true, false, cond, Ok, Err, refl, sym, ap, map, get_or, drop, take, length, drop-cons, add-one}
 use Rattle.std.proofs.lemmas.List.{drop_all, map_push, take_more}
-use Rattle.vx_document.specs.Fault.{Refusal}
+use Rattle.vx_plan_json.specs.Fault.{Refusal}
 use Rattle.vx_plan.specs.Lookup.{tested_onto}
 
 test_step : {A X : Type 0} (is_bad : List A → A → Bool) (refusal : A → Refusal) (look : X → A) (front : List A) (xs : List X) (k : ℕ) (x : X) → k < length xs → x ≡ get_or xs k x

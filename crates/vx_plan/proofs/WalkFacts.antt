@@ -2,12 +2,12 @@
 use Rattle.std.proofs.Common.{◌≡◌, ℕ, ◌+◌, ◌<◌, ◌≤◌, List, [], ◌∷◌, ◌++◌, Result, Ok, refl, sym, ap, ◌∙◌, map, get_or, drop, length, drop-cons, add-one, subst}
 use Rattle.std.proofs.lemmas.List.{drop_all, map_push}
 use Rattle.std.proofs.lemmas.Result.{err_from_is_err_and}
-use Rattle.vx_document.specs.declared.fault.PlanFault.{PlanFault}
-use Rattle.vx_document.specs.Fault.{Refusal, ◌>>=◌, Fails, Gives}
+use Rattle.vx_plan_json.specs.declared.fault.PlanFault.{PlanFault}
+use Rattle.vx_plan_json.specs.Fault.{Refusal, ◌>>=◌, Fails, Gives}
 use Rattle.vx_plan.specs.Lookup.{walk_onto, once, keys_once}
 use Rattle.vx_values.specs.Values.{Name}
 use Rattle.std.specs.Prelude.{⊤, IsErrAnd}
-use Rattle.vx_document.proofs.NodeFacts.{fails_then}
+use Rattle.vx_plan_json.proofs.NodeFacts.{fails_then}
 
 walk_step : {A B X : Type 0} (f : A → Result B Refusal) (look : X → A) (front : List B) (xs : List X) (k : ℕ) (x : X) → k < length xs → x ≡ get_or xs k x
     → walk_onto f front (map look (drop k xs)) ≡ (f (look x) >>= λ y. walk_onto f (front ++ y ∷ []) (map look (drop (k + 1) xs)))

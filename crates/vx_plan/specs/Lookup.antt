@@ -1,10 +1,10 @@
 -- Looking up names: columns of an input, sizes and ranges of a plan, relations of a catalog.
 use Rattle.std.specs.Prelude.{ℕ, List, [], ◌∷◌, ◌++◌, Bool, ◌&&◌, Option, Some, None, Result, Ok, Err, ⊤, position, bytes_eq, codes, nat_le, if◌then◌else◌}
 use Rattle.std.specs.List.{list_any}
-use Rattle.vx_nodes.specs.Plan.{Size, one_worker, group_of}
-use Rattle.vx_typed.specs.Names.{Names}
+use Rattle.vx_plan_nodes.specs.Plan.{Size, one_worker, group_of}
+use Rattle.vx_plan_nodes.specs.Names.{Names}
 use Rattle.vx_values.specs.Values.{Name}
-use Rattle.vx_document.specs.Fault.{Refusal, unknown_column, duplicate_column, type_mismatch, unknown_range, bad_size, too_wide, ◌>>=◌}
+use Rattle.vx_plan_json.specs.Fault.{Refusal, unknown_column, duplicate_column, type_mismatch, unknown_range, bad_size, too_wide, ◌>>=◌}
 
 -- each in turn, after those at the front, or the first refusal
 unfoldable pub walk_onto : {A B : Type 0} → (A → Result B Refusal) → List B → List A → Result (List B) Refusal

@@ -5,19 +5,19 @@ use Rattle.vx_values.specs.declared.value.ColType.{ColType}
 use Rattle.vx_values.specs.Types.{type_at}
 use Rattle.vx_relations.specs.Relation.{Relation}
 use Rattle.vx_relations.specs.Catalog.{relation_at}
-use Rattle.vx_nodes.specs.Plan.{Route, by_hash, by_range, Part, routed, Claim, Side, Condition, Aggregate, Unary, Binary, Kind, route_to}
-use Rattle.vx_nodes.specs.Plan as plan
-use Rattle.vx_nodes.specs.Types.{aggregate_type}
-use Rattle.vx_typed.specs.Typed.{bounds_at, type_eq, types_eq, range_type, is_range, is_condition, is_aggregate, is_pair}
+use Rattle.vx_plan_nodes.specs.Plan.{Route, by_hash, by_range, Part, routed, Claim, Side, Condition, Aggregate, Unary, Binary, ExchangeKind, route_to}
+use Rattle.vx_plan_nodes.specs.Plan as plan
+use Rattle.vx_plan_nodes.specs.Types.{aggregate_type}
+use Rattle.vx_plan_nodes.specs.Typed.{bounds_at, type_eq, types_eq, range_type, is_range, is_condition, is_aggregate, is_pair}
 use Rattle.vx_values.specs.Values.{Name}
-use Rattle.vx_document.specs.Document.{PartForm, hash_part, range_part, ClaimForm, SideForm, ConditionForm, OutputForm, FunctionForm, AggregateForm, ScanForm, UnaryForm, BinaryForm, KindForm, Tree, Document}
+use Rattle.vx_plan_json.specs.Document.{PartForm, hash_part, range_part, ClaimForm, SideForm, ConditionForm, OutputForm, FunctionForm, AggregateForm, ScanForm, UnaryForm, BinaryForm, KindForm, Tree, Document}
 use Rattle.vx_values.specs.Ranges.{RangeForm}
-use Rattle.vx_document.specs.Document as form
-use Rattle.vx_nodes.specs.Outline.{Columns, Top, Outline, scan, unary, binary, exchange, columns}
-use Rattle.vx_nodes.specs.declared.typed.Kept.{Kept}
-use Rattle.vx_document.specs.Fault.{Refusal, unknown_relation, bad_range, bad_size, ◌>>=◌}
+use Rattle.vx_plan_json.specs.Document as form
+use Rattle.vx_plan_nodes.specs.Outline.{Columns, Top, Outline, scan, unary, binary, exchange, columns}
+use Rattle.vx_plan_nodes.specs.declared.typed.Projected.{Projected}
+use Rattle.vx_plan_json.specs.Fault.{Refusal, unknown_relation, bad_range, bad_size, ◌>>=◌}
 use Rattle.vx_plan.specs.Lookup.{walk_onto, tested_onto, column_found, columns_found, keys_found, once, pairs_once, keys_once, matched, narrow, size_found, range_found}
-use Rattle.vx_typed.specs.Names.{Names, Resolved}
+use Rattle.vx_plan_nodes.specs.Names.{Names, TypedPlanView}
 
 -- ---- claims
 
@@ -114,18 +114,18 @@ select_shape node cols cs =
 abbrev pub output_name : OutputForm → Name
 output_name o = unwrap_or o.renamed o.column
 
-unfoldable pub kept_found : ℕ → List Name → OutputForm → Result Kept Refusal
+unfoldable pub kept_found : ℕ → List Name → OutputForm → Result Projected Refusal
 kept_found node names o = column_found node names o.column >>= λ c. Ok (record { column = c; renamed = is_some o.renamed })
 
-unfoldable pub all_kept_found : ℕ → List Name → List OutputForm → Result (List Kept) Refusal
+unfoldable pub all_kept_found : ℕ → List Name → List OutputForm → Result (List Projected) Refusal
 all_kept_found node names os = walk_onto (kept_found node names) [] os
 
 -- the kept columns of a projection or a distinct
-unfoldable pub kept_shape : ℕ → Columns → List OutputForm → Result (List Kept) Refusal
+unfoldable pub kept_shape : ℕ → Columns → List OutputForm → Result (List Projected) Refusal
 kept_shape node cols os =
     all_kept_found node cols.names os >>= λ ks. once node (map output_name os) >>= λ u. narrow node (length os) >>= λ v. Ok ks
 
-abbrev pub kept_columns : Columns → List OutputForm → List Kept → Columns
+abbrev pub kept_columns : Columns → List OutputForm → List Projected → Columns
 kept_columns cols os ks = record { names = map output_name os; types = map (λ k. type_at cols.types k.column) ks }
 
 unfoldable pub project_shape : ℕ → Columns → List OutputForm → Result Shape Refusal
@@ -212,7 +212,7 @@ binary_typed s node c op t u = binary_shape node (columns t) (columns u) op >>= 
 -- ---- exchanges
 
 -- a size, then a range, then columns
-unfoldable pub kind_found : Names → ℕ → List Name → KindForm → Result Kind Refusal
+unfoldable pub kind_found : Names → ℕ → List Name → KindForm → Result ExchangeKind Refusal
 kind_found s node names (form.hash size route cols) = size_found s size >>= λ z. columns_found node names cols >>= λ ps. Ok (route_to z (by_hash route) ps)
 kind_found s node names (form.range size range col) =
     size_found s size >>= λ z. range_found s node range >>= λ k. column_found node names col >>= λ p. Ok (route_to z (by_range k) (p ∷ []))
@@ -227,20 +227,20 @@ kind_names (form.round size) = []
 kind_names (form.broadcast size) = []
 kind_names form.gather = []
 
-abbrev pub kind_fits : Names → List ColType → Kind → Bool
+abbrev pub kind_fits : Names → List ColType → ExchangeKind → Bool
 kind_fits s types (route_to z r cols) = route_fits s types r cols
 kind_fits s types (plan.round z) = true
 kind_fits s types (plan.broadcast z) = true
 kind_fits s types plan.gather = true
 
 -- a kind and the columns to merge on: the routed columns come before those
-unfoldable pub exchange_columns : Names → ℕ → List Name → KindForm → List Name → Result (Kind × List ℕ) Refusal
+unfoldable pub exchange_columns : Names → ℕ → List Name → KindForm → List Name → Result (ExchangeKind × List ℕ) Refusal
 exchange_columns s node names kind merge = kind_found s node names kind >>= λ k. columns_found node names merge >>= λ ms. Ok (k, ms)
 
 unfoldable pub exchange_once : ℕ → KindForm → List Name → Result ⊤ Refusal
 exchange_once node kind merge = once node (kind_names kind) >>= λ u. once node merge
 
-unfoldable pub exchange_shape : Names → ℕ → Columns → KindForm → List Name → Result (Kind × List ℕ) Refusal
+unfoldable pub exchange_shape : Names → ℕ → Columns → KindForm → List Name → Result (ExchangeKind × List ℕ) Refusal
 exchange_shape s node cols kind merge =
     exchange_columns s node cols.names kind merge >>= λ x. exchange_once node kind merge >>= λ u. matched node (kind_fits s cols.types x.0) >>= λ v. Ok x
 
@@ -273,7 +273,7 @@ unfoldable pub ranges_tested : List RangeForm → Result ⊤ Refusal
 ranges_tested ranges = tested_onto is_bad_range (λ r. bad_range r.name) [] ranges
 
 -- the typed plan of a document over a catalog
-unfoldable pub resolved : Document → List Relation → Result Resolved Refusal
+unfoldable pub resolved : Document → List Relation → Result TypedPlanView Refusal
 resolved d catalog =
     sizes_tested d.sizes >>= λ u. ranges_tested d.ranges >>= λ v.
     typed_in (record { catalog = catalog; ranges = d.ranges; sizes = d.sizes }) 0 d.root >>= λ t.

@@ -1,7 +1,7 @@
 -- Operators that were found, as the program holds them.
 use Rattle.vx_plan.specs.declared.unary_nodes.Shape as rust
 use Rattle.vx_plan.specs.declared.binary_nodes.Joint as rust_joint
-use Rattle.vx_nodes.specs.Outline.{unary_of, renamed_of, binary_of, columns_of}
+use Rattle.vx_plan_nodes.specs.Outline.{unary_of, renamed_of, binary_of, columns_of}
 use Rattle.vx_plan.specs.Resolve.{Shape, Joint}
 
 abbrev pub shape_of : rust.Shape → Shape

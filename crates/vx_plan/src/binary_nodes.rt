@@ -1,9 +1,9 @@
 //! Operators over two inputs, by the columns of those inputs.
 
 ghost use Rattle.std.specs.Prelude.{◌≡◌, map, string_bytes, IfOk};
-ghost use Rattle.vx_document.specs.Fault.{Gives};
-ghost use Rattle.vx_document.specs.Document.{pair_form, binary_form};
-ghost use Rattle.vx_nodes.specs.Outline.{columns_of};
+ghost use Rattle.vx_plan_json.specs.Fault.{Gives};
+ghost use Rattle.vx_plan_json.specs.Document.{pair_form, binary_form};
+ghost use Rattle.vx_plan_nodes.specs.Outline.{columns_of};
 ghost use Rattle.vx_plan.specs.Resolve.{pair_found, pairs_found, both_columns, join_tested, join_pairs, binary_shape};
 ghost use Rattle.vx_plan.specs.Shaped.{joint_of};
 
@@ -11,8 +11,8 @@ use crate::columns::{copied, side_by_side};
 use crate::fits::{are_pairs, are_same_types};
 use crate::lookup::{column_found, matched, narrow, once, pairs_once};
 use std::alloc::Global;
-use vx_document::{NamedBinary, PlanFault};
-use vx_nodes::{Binary, Columns};
+use vx_plan_json::{NamedBinary, PlanFault};
+use vx_plan_nodes::{Binary, Columns};
 
 /// An operator over two inputs, and its output.
 #[derive(Debug, Drop)]

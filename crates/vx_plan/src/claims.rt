@@ -1,9 +1,9 @@
 //! Claims over the columns of an output.
 
 ghost use Rattle.std.specs.Prelude.{◌≡◌, [], ◌∷◌, map, string_bytes, IfOk};
-ghost use Rattle.vx_document.specs.Fault.{Gives};
-ghost use Rattle.vx_document.specs.Document.{part_form, claim_form};
-ghost use Rattle.vx_nodes.specs.Outline.{part_of, claim_of, columns_of, top_of};
+ghost use Rattle.vx_plan_json.specs.Fault.{Gives};
+ghost use Rattle.vx_plan_json.specs.Document.{part_form, claim_form};
+ghost use Rattle.vx_plan_nodes.specs.Outline.{part_of, claim_of, columns_of, top_of};
 ghost use Rattle.vx_plan.specs.Lookup.{once};
 ghost use Rattle.vx_plan.specs.Resolve.{part_found, part_names, part_fits, claim_columns, claim_once, claim_found, topped};
 ghost use Rattle.vx_plan.specs.Named.{names_of};
@@ -13,8 +13,8 @@ use crate::lookup::{
     Declared, column_found, columns_found, keys_found, keys_once, matched, once, range_found,
 };
 use std::alloc::{AllocError, Global};
-use vx_document::{NamedClaim, NamedPart, PlanFault};
-use vx_nodes::{Claim, Columns, Head, Part, Route};
+use vx_plan_json::{NamedClaim, NamedPart, PlanFault};
+use vx_plan_nodes::{Claim, Columns, Head, Part, Route};
 use vx_rows::ColType;
 
 /// A list of one column.

@@ -2,15 +2,15 @@
 
 ghost use Rattle.std.specs.Prelude.{◌≡◌, ◌++◌, map, string_bytes, IfOk, OnOk};
 ghost use Rattle.vx_values.specs.Types.{type_at};
-ghost use Rattle.vx_document.specs.Document.{aggregate_form, output_form};
-ghost use Rattle.vx_nodes.specs.Outline.{columns_of, aggregate_of};
-ghost use Rattle.vx_nodes.specs.Types.{aggregate_type};
+ghost use Rattle.vx_plan_json.specs.Document.{aggregate_form, output_form};
+ghost use Rattle.vx_plan_nodes.specs.Outline.{columns_of, aggregate_of};
+ghost use Rattle.vx_plan_nodes.specs.Types.{aggregate_type};
 ghost use Rattle.vx_plan.specs.Resolve.{both_columns, output_name, scan_columns};
 
 use crate::fits::type_at;
 use std::alloc::{AllocError, Global};
-use vx_document::{NamedAggregate, NamedOutput};
-use vx_nodes::{Aggregate, Columns, Kept};
+use vx_plan_json::{NamedAggregate, NamedOutput};
+use vx_plan_nodes::{Aggregate, Columns, Projected};
 use vx_relations::Relation;
 use vx_values::ColType;
 
@@ -79,7 +79,7 @@ pub fn output_names(alloc: Global, outputs: &[NamedOutput]) -> Result<Vec<String
 pub fn kept_types(
     alloc: Global,
     types: &[ColType],
-    kept: &[Kept],
+    kept: &[Projected],
 ) -> Result<Vec<ColType>, AllocError>
     ensures { IfOk result (λ v. v.items ≡ map (λ k. type_at types.now k.column) kept.now) }
 {

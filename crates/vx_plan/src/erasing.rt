@@ -1,18 +1,19 @@
 //! A typed plan without its exchanges.
 
 ghost use Rattle.std.specs.Prelude.{◌≡◌, ◌+◌, ◌<◌, ◌≤◌, ◌^◌, false, string_bytes, IfOk, IfErr};
-ghost use Rattle.vx_nodes.specs.Numbering.{nodes};
-ghost use Rattle.vx_nodes.specs.Erase.{nodes_left, erase};
-ghost use Rattle.vx_typed.specs.Erased.{erased_top, erased_from};
-ghost use Rattle.vx_nodes.specs.Outline.{top_of, unary_of, renamed_of, binary_of, outline_of, plan_of};
-ghost use Rattle.vx_typed.specs.TypedView.{names_in, plan, resolved_of};
+ghost use Rattle.vx_plan_nodes.specs.Numbering.{nodes};
+ghost use Rattle.vx_plan_nodes.specs.Erase.{nodes_left, erase};
+ghost use Rattle.vx_plan_nodes.specs.Erased.{erased_top, erased_from};
+ghost use Rattle.vx_plan_nodes.specs.Outline.{top_of, unary_of, renamed_of, binary_of, outline_of, plan_of};
+ghost use Rattle.vx_plan_nodes.specs.TypedView.{names_in, plan, resolved_of};
 
 use crate::columns::{copied, copied_names};
 use crate::resolving::copied_ranges;
 use std::alloc::{AllocError, Global};
-use vx_document::PlanFault;
-use vx_nodes::{Binary, Claim, Head, Part, Scan, Size, TypedNode, Unary, copied_conditions};
-use vx_typed::TypedPlan;
+use vx_plan_json::PlanFault;
+use vx_plan_nodes::{
+    Binary, Claim, Head, Part, ScanNode, Size, TypedNode, TypedPlan, Unary, copied_conditions,
+};
 
 fn copied_unary(alloc: Global, unary: &Unary) -> Result<Unary, AllocError>
     ensures op { IfOk result (λ u. unary_of u ≡ unary_of unary.now) }
@@ -59,10 +60,10 @@ fn erased_head(alloc: Global, number: u32, head: &Head) -> Result<Head, AllocErr
     })
 }
 
-fn erased_scan(alloc: Global, scan: &Scan) -> Result<Scan, AllocError>
+fn erased_scan(alloc: Global, scan: &ScanNode) -> Result<ScanNode, AllocError>
     ensures { IfOk result (λ s. (s.relation ≡ scan.now.relation) × (s.shared ≡ false) × (s.size ≡ Size.One) × (string_bytes s.prefix ≡ string_bytes scan.now.prefix)) }
 {
-    Ok(Scan {
+    Ok(ScanNode {
         relation: scan.relation,
         shared: false,
         size: Size::One,

@@ -1,9 +1,9 @@
 //! Exchanges and scans.
 
 ghost use Rattle.std.specs.Prelude.{◌≡◌, ◌<◌, map, length, string_bytes, position, IfOk};
-ghost use Rattle.vx_document.specs.Fault.{Gives};
-ghost use Rattle.vx_document.specs.Document.{kind_form};
-ghost use Rattle.vx_nodes.specs.Outline.{columns_of, kind_of};
+ghost use Rattle.vx_plan_json.specs.Fault.{Gives};
+ghost use Rattle.vx_plan_json.specs.Document.{kind_form};
+ghost use Rattle.vx_plan_nodes.specs.Outline.{columns_of, kind_of};
 ghost use Rattle.vx_plan.specs.Lookup.{once};
 ghost use Rattle.vx_plan.specs.Resolve.{kind_found, kind_names, kind_fits, exchange_columns, exchange_once, exchange_shape, relation_found};
 ghost use Rattle.vx_plan.specs.Named.{names_of};
@@ -14,8 +14,8 @@ use crate::lookup::{
     Declared, column_found, columns_found, matched, once, range_found, size_found,
 };
 use std::alloc::Global;
-use vx_document::{NamedKind, PlanFault};
-use vx_nodes::{Columns, Exchange, Kind, Route};
+use vx_plan_json::{NamedKind, PlanFault};
+use vx_plan_nodes::{Columns, Exchange, ExchangeKind, Route};
 use vx_rows::ColType;
 
 // How an exchange sends: a size comes before a range, and that before columns.
@@ -26,7 +26,7 @@ fn kind_found(
     node: u32,
     names: &[String],
     kind: &NamedKind,
-) -> Result<Kind, PlanFault>
+) -> Result<ExchangeKind, PlanFault>
     ensures { Gives kind_of result (kind_found (names_of declared.now) node (map string_bytes names.now) (kind_form kind.now)) }
 {
     match kind {
@@ -38,7 +38,7 @@ fn kind_found(
             let size = size_found(alloc, declared, size.as_str())?;
             let positions = columns_found(alloc, node, names, columns.as_slice())?;
             let name = String::from_str(alloc, route.as_str())?;
-            Ok(Kind::Route(size, Route::Hash(name), positions))
+            Ok(ExchangeKind::Route(size, Route::Hash(name), positions))
         }
         NamedKind::Range {
             size,
@@ -49,14 +49,18 @@ fn kind_found(
             let number = range_found(alloc, declared, node, range.as_str())?;
             let position = column_found(alloc, node, names, column.as_str())?;
             let positions = single(alloc, position)?;
-            Ok(Kind::Route(size, Route::Range(number), positions))
+            Ok(ExchangeKind::Route(size, Route::Range(number), positions))
         }
-        NamedKind::Round(size) => Ok(Kind::Round(size_found(alloc, declared, size.as_str())?)),
+        NamedKind::Round(size) => Ok(ExchangeKind::Round(size_found(
+            alloc,
+            declared,
+            size.as_str(),
+        )?)),
         NamedKind::Broadcast(size) => {
             let size = size_found(alloc, declared, size.as_str())?;
-            Ok(Kind::Broadcast(size))
+            Ok(ExchangeKind::Broadcast(size))
         }
-        NamedKind::Gather => Ok(Kind::Gather),
+        NamedKind::Gather => Ok(ExchangeKind::Gather),
     }
 }
 
@@ -74,12 +78,17 @@ fn kind_once(alloc: Global, node: u32, kind: &NamedKind) -> Result<(), PlanFault
     }
 }
 
-fn kind_fits(declared: &Declared<'_>, types: &[ColType], kind: &Kind) -> bool
+fn kind_fits(declared: &Declared<'_>, types: &[ColType], kind: &ExchangeKind) -> bool
     ensures { result ≡ kind_fits (names_of declared.now) types.now (kind_of kind.now) }
 {
     match kind {
-        Kind::Route(_, route, columns) => route_fits(declared, types, route, columns.as_slice()),
-        Kind::Round(_) | Kind::Broadcast(_) | Kind::Gather => true,
+        ExchangeKind::Route(_, route, columns) => route_fits(
+            declared,
+            types,
+            route,
+            columns.as_slice(),
+        ),
+        ExchangeKind::Round(_) | ExchangeKind::Broadcast(_) | ExchangeKind::Gather => true,
     }
 }
 

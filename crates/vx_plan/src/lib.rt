@@ -14,9 +14,8 @@ mod unary_nodes;
 
 pub use erasing::erase;
 pub use resolving::resolve;
-pub use vx_document::{Plan, PlanFault, Test, to_json};
-pub use vx_nodes::{
-    Aggregate, Binary, Claim, Columns, Condition, Exchange, Head, Kept, Kind, Part, Route, Router,
-    Scan, Side, Size, TypedNode, Unary, copied_conditions,
+pub use vx_plan_json::{Plan, PlanFault, Test, to_json};
+pub use vx_plan_nodes::{
+    Aggregate, Binary, Claim, Columns, Condition, Exchange, ExchangeKind, Head, Part, Projected,
+    Route, Router, ScanNode, Side, Size, TypedNode, TypedPlan, Unary, copied_conditions,
 };
-pub use vx_typed::TypedPlan;

@@ -2,16 +2,16 @@
 
 ghost use Rattle.std.specs.Prelude.{◌≡◌, map, position, bytes_eq, string_bytes};
 ghost use Rattle.std.specs.List.{list_any};
-ghost use Rattle.vx_document.specs.Fault.{Gives};
-ghost use Rattle.vx_document.specs.Document.{pair_form};
+ghost use Rattle.vx_plan_json.specs.Fault.{Gives};
+ghost use Rattle.vx_plan_json.specs.Document.{pair_form};
 ghost use Rattle.vx_values.specs.Ranges.{range_form};
-ghost use Rattle.vx_nodes.specs.Outline.{size_of};
+ghost use Rattle.vx_plan_nodes.specs.Outline.{size_of};
 ghost use Rattle.vx_plan.specs.Lookup.{column_found, columns_found, keys_found, once, pairs_once, keys_once, matched, narrow, pair_eq, size_found, range_found};
 ghost use Rattle.vx_plan.specs.Named.{names_of};
 
 use std::alloc::{AllocError, Global};
-use vx_document::PlanFault;
-use vx_nodes::Size;
+use vx_plan_json::PlanFault;
+use vx_plan_nodes::Size;
 use vx_relations::{Catalog, find_name};
 use vx_values::NamedRange;
 

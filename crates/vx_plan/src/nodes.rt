@@ -1,9 +1,9 @@
 //! The nodes of a plan over a catalog: numbered in preorder, tested in post-order.
 
 ghost use Rattle.std.specs.Prelude.{◌≡◌, ◌+◌, ◌<◌, ◌^◌, map, string_bytes, IfOk};
-ghost use Rattle.vx_document.specs.Fault.{Gives};
-ghost use Rattle.vx_document.specs.Document.{claim_form, scan_form, unary_form, binary_form, kind_form, tree_of, tree_nodes};
-ghost use Rattle.vx_nodes.specs.Outline.{outline_of, columns_of, columns};
+ghost use Rattle.vx_plan_json.specs.Fault.{Gives};
+ghost use Rattle.vx_plan_json.specs.Document.{claim_form, scan_form, unary_form, binary_form, kind_form, tree_of, tree_nodes};
+ghost use Rattle.vx_plan_nodes.specs.Outline.{outline_of, columns_of, columns};
 ghost use Rattle.vx_plan.specs.Resolve.{scan_typed, unary_typed, binary_typed, exchange_typed, typed_in};
 ghost use Rattle.vx_plan.specs.Named.{names_of};
 
@@ -14,8 +14,8 @@ use crate::exchange_nodes::{exchange_shape, relation_found};
 use crate::lookup::{Declared, size_found};
 use crate::unary_nodes::{Shape, unary_shape};
 use std::alloc::Global;
-use vx_document::{NamedBinary, NamedClaim, NamedKind, NamedScan, NamedUnary, Node, PlanFault};
-use vx_nodes::{Columns, Scan, TypedNode};
+use vx_plan_json::{NamedBinary, NamedClaim, NamedKind, NamedScan, NamedUnary, Node, PlanFault};
+use vx_plan_nodes::{Columns, ScanNode, TypedNode};
 
 // The columns of a node's output.
 fn columns(node: &TypedNode) -> &Columns
@@ -41,7 +41,7 @@ fn scan_typed(
     let prefix = String::from_str(alloc, scan.prefix.as_str())?;
     Ok(TypedNode::Scan(
         head,
-        Scan {
+        ScanNode {
             relation,
             shared: scan.shared,
             size,

@@ -3,20 +3,20 @@
 ghost use Rattle.std.specs.Prelude.{◌≡◌, map, string_bytes, IfOk, bytes_eq};
 ghost use Rattle.std.specs.List.{list_any};
 ghost use Rattle.vx_values.specs.ValueView.{val_of};
-ghost use Rattle.vx_document.specs.Fault.{Gives};
+ghost use Rattle.vx_plan_json.specs.Fault.{Gives};
 ghost use Rattle.vx_values.specs.Ranges.{range_form};
-ghost use Rattle.vx_document.specs.PlanView.{document_of};
+ghost use Rattle.vx_plan_json.specs.PlanView.{document_of};
 ghost use Rattle.vx_plan.specs.Resolve.{is_bad_size, sizes_tested, is_bad_range, ranges_tested, resolved};
-ghost use Rattle.vx_typed.specs.TypedView.{resolved_of};
+ghost use Rattle.vx_plan_nodes.specs.TypedView.{resolved_of};
 
 use crate::columns::copied_names;
 use crate::fits::is_range;
 use crate::lookup::{Declared, has_name};
 use crate::nodes::typed_in;
 use std::alloc::{AllocError, Global};
-use vx_document::{Plan, PlanFault};
+use vx_plan_json::{Plan, PlanFault};
+use vx_plan_nodes::TypedPlan;
 use vx_relations::Catalog;
-use vx_typed::TypedPlan;
 use vx_values::{NamedRange, Value};
 
 fn is_bad_size(front: &[String], name: &str) -> bool

@@ -1,9 +1,9 @@
 //! Operators over one input, by the columns of that input.
 
 ghost use Rattle.std.specs.Prelude.{◌≡◌, map, string_bytes, IfOk};
-ghost use Rattle.vx_document.specs.Fault.{Gives};
-ghost use Rattle.vx_document.specs.Document.{side_form, condition_form, output_form, function_form, aggregate_form, unary_form};
-ghost use Rattle.vx_nodes.specs.Outline.{side_of, condition_of, aggregate_of, columns_of};
+ghost use Rattle.vx_plan_json.specs.Fault.{Gives};
+ghost use Rattle.vx_plan_json.specs.Document.{side_form, condition_form, output_form, function_form, aggregate_form, unary_form};
+ghost use Rattle.vx_plan_nodes.specs.Outline.{side_of, condition_of, aggregate_of, columns_of};
 ghost use Rattle.vx_plan.specs.Resolve.{side_found, condition_found, conditions_found, select_shape, output_name, kept_found, all_kept_found, kept_shape, project_shape, distinct_shape, sort_shape, function_found, aggregates_found, group_found, group_tested, group_shape, unary_shape};
 ghost use Rattle.vx_plan.specs.Shaped.{shape_of};
 
@@ -11,10 +11,10 @@ use crate::columns::{copied, group_names, group_types, kept_types, output_names}
 use crate::fits::{are_aggregates, are_conditions};
 use crate::lookup::{column_found, columns_found, matched, narrow, once};
 use std::alloc::Global;
-use vx_document::{
+use vx_plan_json::{
     NamedAggregate, NamedCondition, NamedFunction, NamedOutput, NamedSide, NamedUnary, PlanFault,
 };
-use vx_nodes::{Aggregate, Columns, Condition, Kept, Side, Unary};
+use vx_plan_nodes::{Aggregate, Columns, Condition, Projected, Side, Unary};
 use vx_rows::ColType;
 
 /// An operator over one input, and its output.
@@ -104,11 +104,11 @@ fn kept_found(
     node: u32,
     names: &[String],
     output: &NamedOutput,
-) -> Result<Kept, PlanFault>
+) -> Result<Projected, PlanFault>
     ensures { Gives (λ k. k) result (kept_found node (map string_bytes names.now) (output_form output.now)) }
 {
     let column = column_found(alloc, node, names, output.column.as_str())?;
-    Ok(Kept {
+    Ok(Projected {
         column,
         renamed: output.renamed.is_some(),
     })
@@ -120,7 +120,7 @@ fn all_kept_found(
     node: u32,
     names: &[String],
     outputs: &[NamedOutput],
-) -> Result<Vec<Kept>, PlanFault>
+) -> Result<Vec<Projected>, PlanFault>
     ensures { Gives (λ v. v.items) result (all_kept_found node (map string_bytes names.now) (map output_form outputs.now)) }
 {
     let mut found = Vec::new(alloc);
@@ -138,7 +138,7 @@ fn kept_shape(
     node: u32,
     input: &Columns,
     outputs: &[NamedOutput],
-) -> Result<(Vec<Kept>, Vec<String>), PlanFault>
+) -> Result<(Vec<Projected>, Vec<String>), PlanFault>
     ensures kept { Gives (λ r. r.0.items) result (kept_shape node (columns_of input.now) (map output_form outputs.now)) }
     ensures names { IfOk result (λ r. map string_bytes r.1.items ≡ map output_name (map output_form outputs.now)) }
 {

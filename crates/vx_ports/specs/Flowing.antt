@@ -1,13 +1,13 @@
 -- When what was put and what was taken flow.
 use Rattle.std.proofs.Common.{◌≡◌, Bool, true, false, not, ◌||◌, ◌&&◌, List, [], ◌∷◌, ◌++◌, refl, sym, ap, ◌∙◌, subst, append-nil, true≢false}
-use Rattle.vx_ports.specs.Packets.{Parcel, closes, is_closed, is_empty, is_stream, Flows}
+use Rattle.vx_ports.specs.Packets.{PacketView, closes, is_closed, is_empty, is_stream, Flows}
 
 -- behind the end of a stream nothing stands
-pub ended_whole : (begun back : List Parcel) → is_stream (begun ++ back) ≡ true → is_closed begun ≡ true → back ≡ []
+pub ended_whole : (begun back : List PacketView) → is_stream (begun ++ back) ≡ true → is_closed begun ≡ true → back ≡ []
 ended_whole [] back s c = absurd (true≢false (sym c))
 ended_whole (p ∷ ps) back s c = go (closes p.content) (is_stream (ps ++ back)) (is_closed ps) (ended_whole ps back) s c
   where
-    nothing : (xs ys : List Parcel) → is_empty (xs ++ ys) ≡ true → ys ≡ []
+    nothing : (xs ys : List PacketView) → is_empty (xs ++ ys) ≡ true → ys ≡ []
     nothing [] [] e = refl
     nothing [] (y ∷ ys) e = absurd (true≢false (sym e))
     nothing (x ∷ xs) ys e = absurd (true≢false (sym e))
@@ -21,7 +21,7 @@ ended_whole (p ∷ ps) back s c = go (closes p.content) (is_stream (ps ++ back))
     go false s c ih e f = ih e f
 
 -- a stream of which these were taken, and the rest waits
-pub flow_is : (put taken queue : List Parcel) → put ≡ taken ++ queue → is_stream put ≡ true → Flows put taken
+pub flow_is : (put taken queue : List PacketView) → put ≡ taken ++ queue → is_stream put ≡ true → Flows put taken
 flow_is put taken queue e s = record {
   rest = queue;
   begins = sym e;

@@ -12,7 +12,7 @@ pub data Content : Type 0 where
   fault : Content
 
 -- a packet: its exchange's number, the producer, the consumer, the types of its rows
-pub record Parcel : Type 0 where
+pub record PacketView : Type 0 where
   pub exchange : ℕ
   pub from : ℕ
   pub to : ℕ
@@ -32,7 +32,7 @@ content_rows last = []
 content_rows fault = []
 
 -- the rows of a list of packets
-abbrev pub rows_of : List Parcel → List Row
+abbrev pub rows_of : List PacketView → List Row
 rows_of [] = []
 rows_of (p ∷ ps) = content_rows p.content ++ rows_of ps
 
@@ -55,33 +55,33 @@ is_fault last = false
 is_fault fault = true
 
 -- some packet of the list ends the stream
-abbrev pub is_closed : List Parcel → Bool
+abbrev pub is_closed : List PacketView → Bool
 is_closed [] = false
 is_closed (p ∷ ps) = closes p.content || is_closed ps
 
 -- a Last is among them
-abbrev pub has_last : List Parcel → Bool
+abbrev pub has_last : List PacketView → Bool
 has_last [] = false
 has_last (p ∷ ps) = is_last p.content || has_last ps
 
 -- a Fault is among them
-abbrev pub has_fault : List Parcel → Bool
+abbrev pub has_fault : List PacketView → Bool
 has_fault [] = false
 has_fault (p ∷ ps) = is_fault p.content || has_fault ps
 
 -- no packets
-abbrev pub is_empty : List Parcel → Bool
+abbrev pub is_empty : List PacketView → Bool
 is_empty [] = true
 is_empty (p ∷ ps) = false
 
 -- a packet that ends the stream stands at most once, as the final entry
-abbrev pub is_stream : List Parcel → Bool
+abbrev pub is_stream : List PacketView → Bool
 is_stream [] = true
 is_stream (p ∷ ps) = (not (closes p.content) || is_empty ps) && is_stream ps
 
 -- what was taken is a beginning of what was put, in order, and all of it once the stream's end was taken
-pub record Flows (put taken : List Parcel) : Type 0 where
-  pub rest : List Parcel
+pub record Flows (put taken : List PacketView) : Type 0 where
+  pub rest : List PacketView
   pub begins : taken ++ rest ≡ put
   pub stream : is_stream put ≡ true
   pub whole : is_closed taken ≡ true → taken ≡ put
@@ -89,5 +89,5 @@ pub record Flows (put taken : List Parcel) : Type 0 where
 -- where Last was taken of what flows through a port, it is the final entry of what was taken
 abbrev pub LastIsFinal : Type 0
 LastIsFinal =
-    (put taken : List Parcel) → Flows put taken → has_last taken ≡ true
-    → (front : List Parcel) × (end : Parcel) × (front ++ end ∷ [] ≡ taken) × (is_last end.content ≡ true)
+    (put taken : List PacketView) → Flows put taken → has_last taken ≡ true
+    → (front : List PacketView) × (end : PacketView) × (front ++ end ∷ [] ≡ taken) × (is_last end.content ≡ true)

@@ -1,11 +1,11 @@
 -- What a port answers to a put.
 use Rattle.std.specs.Prelude.{◌≡◌}
-use Rattle.vx_ports.specs.Packets.{Parcel}
+use Rattle.vx_ports.specs.Packets.{PacketView}
 use Rattle.vx_ports.specs.declared.port.Put.{Put}
 use Rattle.vx_ports.specs.declared.port.Put.TheVariants.{Done, Full, NoMemory}
 
 -- the packet went in, or came back
-abbrev pub PutOutcome : Parcel → Put → Type 0 → Type 0 → Type 0
+abbrev pub PutOutcome : PacketView → Put → Type 0 → Type 0 → Type 0
 PutOutcome p Done Puts Stays = Puts
 PutOutcome p (Full q) Puts Stays = (q ≡ p) × Stays
 PutOutcome p (NoMemory q) Puts Stays = (q ≡ p) × Stays

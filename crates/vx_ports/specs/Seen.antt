@@ -2,13 +2,13 @@
 use Rattle.std.specs.Prelude.{List}
 use Rattle.vx_values.specs.Values.{Row}
 use Rattle.vx_ports.specs.Packets.{Content, brings, last, fault}
-use Rattle.vx_ports.specs.declared.packet.Kind.{Kind}
-use Rattle.vx_ports.specs.declared.packet.Kind.TheVariants as kind
+use Rattle.vx_ports.specs.declared.packet.PacketKind.{PacketKind}
+use Rattle.vx_ports.specs.declared.packet.PacketKind.TheVariants as kind
 use Rattle.vx_ports.specs.declared.packet.Ending.{Ending}
 use Rattle.vx_ports.specs.declared.packet.Ending.TheVariants as ending
 
 -- the content of a packet of this kind with these rows
-abbrev pub content_of : Kind → List Row → Content
+abbrev pub content_of : PacketKind → List Row → Content
 content_of kind.Rows xs = brings xs
 content_of kind.Last xs = last
 content_of kind.Fault xs = fault

@@ -15,10 +15,10 @@ pub struct Link {
 }
 
 impl Model for Link {
-    ghost use Rattle.vx_ports.specs.Line.{Line, HasPlace};
+    ghost use Rattle.vx_ports.specs.LinkView.{LinkView, HasPlace};
     ghost use Rattle.std.specs.VecDeque.{deque_len, deque_capacity};
 
-    ghost Value = { Line };
+    ghost Value = { LinkView };
 
     ghost view = { λ l. record { queue = l.queue.items; closed = l.closed } };
 
@@ -43,7 +43,7 @@ impl OutPort for Link {
     ghost use Rattle.std.specs.Prelude.{◌≡◌, false, true};
     ghost use Rattle.vx_ports.specs.Packets.{closes};
     ghost use Rattle.vx_ports.specs.Puts.{PutOutcome, IsDone, IsNeverFull};
-    ghost use Rattle.vx_ports.specs.Line.{PutsOnLine};
+    ghost use Rattle.vx_ports.specs.LinkView.{PutsOnLine};
 
     ghost closed = { λ l. l.closed };
 
@@ -77,7 +77,7 @@ impl OutPort for Link {
 
 impl InPort for Link {
     ghost use Rattle.std.specs.Prelude.{◌≡◌, ◌∷◌, []};
-    ghost use Rattle.vx_ports.specs.Line.{TakesFromLine};
+    ghost use Rattle.vx_ports.specs.LinkView.{TakesFromLine};
 
     ghost Takes = { TakesFromLine };
 

@@ -5,7 +5,7 @@ use vx_rows::{ColType, Rows};
 
 /// What a packet is: rows, or one of the two ends of a stream.
 #[derive(Clone, Copy, Debug, PartialEq, Eq)]
-pub enum Kind {
+pub enum PacketKind {
     Rows,
     Last,
     Fault,
@@ -35,15 +35,15 @@ pub struct Packet {
     exchange: u32,
     from: u32,
     to: u32,
-    kind: Kind,
+    kind: PacketKind,
     rows: Rows,
 }
 
 impl Model for Packet {
-    ghost use Rattle.vx_ports.specs.Packets.{Parcel, FitsContent};
+    ghost use Rattle.vx_ports.specs.Packets.{PacketView, FitsContent};
     ghost use Rattle.vx_ports.specs.Seen.{content_of};
 
-    ghost Value = { Parcel };
+    ghost Value = { PacketView };
 
     ghost view = { λ p. record { exchange = p.exchange; from = p.from; to = p.to; types = p.rows.types; content = content_of p.kind p.rows.rows } };
 
@@ -70,7 +70,7 @@ impl Packet {
             exchange,
             from,
             to,
-            kind: Kind::Rows,
+            kind: PacketKind::Rows,
             rows,
         }
     }
@@ -81,8 +81,8 @@ impl Packet {
         ensures { result ≡ record { exchange = exchange; from = from; to = to; types = none.types; content = ending_content ending } }
     {
         let kind = match ending {
-            Ending::Last => Kind::Last,
-            Ending::Fault => Kind::Fault,
+            Ending::Last => PacketKind::Last,
+            Ending::Fault => PacketKind::Fault,
         };
         Packet {
             exchange,
@@ -126,9 +126,9 @@ impl Packet {
         ensures { result ≡ closes self.now.content }
     {
         match self.kind {
-            Kind::Rows => false,
-            Kind::Last => true,
-            Kind::Fault => true,
+            PacketKind::Rows => false,
+            PacketKind::Last => true,
+            PacketKind::Fault => true,
         }
     }
 
@@ -151,9 +151,9 @@ impl Packet {
             rows,
         } = self;
         match kind {
-            Kind::Rows => Body::Rows(rows),
-            Kind::Last => Body::End(Ending::Last),
-            Kind::Fault => Body::End(Ending::Fault),
+            PacketKind::Rows => Body::Rows(rows),
+            PacketKind::Last => Body::End(Ending::Last),
+            PacketKind::Fault => Body::End(Ending::Fault),
         }
     }
 }

@@ -16,14 +16,14 @@ pub enum Put {
 /// The end of a producer: packets go in, and behind the one that closes it none.
 pub trait OutPort {
     ghost use Rattle.std.specs.Prelude.{◌≡◌, false, Bool};
-    ghost use Rattle.vx_ports.specs.Packets.{Parcel};
+    ghost use Rattle.vx_ports.specs.Packets.{PacketView};
     ghost use Rattle.vx_ports.specs.Puts.{PutOutcome};
 
     // Whether Last or Fault was put.
     ghost closed: { Self → Bool };
 
     // What a put of this packet does to the port.
-    ghost Puts: { Self → Parcel → Self → Type 0 };
+    ghost Puts: { Self → PacketView → Self → Type 0 };
 
     // What a put that is refused does.
     ghost Stays: { Self → Self → Type 0 };
@@ -41,10 +41,10 @@ pub trait OutPort {
 /// The end of a consumer: packets come out in the order in which they went in.
 pub trait InPort {
     ghost use Rattle.std.specs.Prelude.{List, IfSome, OnSome, IfNone};
-    ghost use Rattle.vx_ports.specs.Packets.{Parcel};
+    ghost use Rattle.vx_ports.specs.Packets.{PacketView};
 
     // What a take of this packet does to the port.
-    ghost Takes: { Self → Parcel → Self → Type 0 };
+    ghost Takes: { Self → PacketView → Self → Type 0 };
 
     // What a take that finds nothing does.
     ghost Looks: { Self → Self → Type 0 };

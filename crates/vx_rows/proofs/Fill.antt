@@ -18,10 +18,10 @@ use Rattle.vx_values.specs.Values.{Val, Row, value_at, pick}
 use Rattle.vx_rows.specs.Lists.{each_below}
 use Rattle.vx_values.specs.Types.{type_of, is_held, Fits}
 use Rattle.vx_rows.specs.Columns.{column_type, size, entry, row_of, rows_of, AreLong, KeepsFront, KeepRows, Fills, AreRows, AreHeld}
-use Rattle.vx_rows.specs.View.{Table}
+use Rattle.vx_rows.specs.View.{RowsView}
 use Rattle.vx_rows.proofs.Below.{length-each_below, get_or-each_below, each_below-ext, each_below-more}
 
-abbrev pub viewed : List ColType → ℕ → List Column → Table
+abbrev pub viewed : List ColType → ℕ → List Column → RowsView
 viewed types n xs = record { types = types; rows = rows_of n xs }
 
 -- a read element under a map
@@ -124,11 +124,11 @@ pub on_err_any : {T E : Type 0} (r : Result T E) {P : Type 0} → P → OnErr r 
 on_err_any (Ok x) p = tt
 on_err_any (Err e) p = p
 
-pub rows_are : (r : Table) (types : List ColType) (n : ℕ) (xs : List Column) → viewed types n xs ≡ r → rows_of n xs ≡ r.rows
-rows_are r types n xs e = ap (λ (t : Table). t.rows) e
+pub rows_are : (r : RowsView) (types : List ColType) (n : ℕ) (xs : List Column) → viewed types n xs ≡ r → rows_of n xs ≡ r.rows
+rows_are r types n xs e = ap (λ (t : RowsView). t.rows) e
 
-pub types_are : (r : Table) (types : List ColType) (n : ℕ) (xs : List Column) → viewed types n xs ≡ r → types ≡ r.types
-types_are r types n xs e = ap (λ (t : Table). t.types) e
+pub types_are : (r : RowsView) (types : List ColType) (n : ℕ) (xs : List Column) → viewed types n xs ≡ r → types ≡ r.types
+types_are r types n xs e = ap (λ (t : RowsView). t.types) e
 
 pub width_is : (types : List ColType) (xs : List Column) → map column_type xs ≡ types → length xs ≡ length types
 width_is types xs e = sym (length-map xs column_type) ∙ ap length e

@@ -9,19 +9,19 @@ use Rattle.vx_values.specs.Values.{Val, Row}
 use Rattle.vx_rows.specs.Lists.{each_below}
 use Rattle.vx_values.specs.Types.{type_of, is_held}
 use Rattle.vx_rows.specs.Columns.{size, row_of, rows_of, KeepRows, Fills, AreRows}
-use Rattle.vx_rows.specs.View.{Table, row, ArePositions}
+use Rattle.vx_rows.specs.View.{RowsView, row, ArePositions}
 use Rattle.vx_rows.proofs.Below.{each_below-one, slice_range-each_below}
 use Rattle.vx_rows.proofs.Fill.{viewed, rows_are, types_are, width_is, count_is, row_is, same_rows, more_rows, now_rows, fill_as, fill_more, each_at}
 
 -- the first n rows of these columns are those of a table
-pub record Seen (t : Table) (types : List ColType) (n : ℕ) (xs : List Column) : Type 0 where
+pub record Seen (t : RowsView) (types : List ColType) (n : ℕ) (xs : List Column) : Type 0 where
   pub is : viewed types n xs ≡ t
   pub are : AreRows types n xs
 
-pub seen : {t : Table} {types : List ColType} {n : ℕ} {xs : List Column} → viewed types n xs ≡ t → AreRows types n xs → Seen t types n xs
+pub seen : {t : RowsView} {types : List ColType} {n : ℕ} {xs : List Column} → viewed types n xs ≡ t → AreRows types n xs → Seen t types n xs
 seen e a = record { is = e; are = a }
 
-module _ {t : Table} {types : List ColType} {n : ℕ} {xs : List Column} (s : Seen t types n xs) where
+module _ {t : RowsView} {types : List ColType} {n : ℕ} {xs : List Column} (s : Seen t types n xs) where
   pub count_seen : length t.rows ≡ n
   count_seen = count_is n xs t.rows (rows_are t types n xs s.is)
 
@@ -43,11 +43,11 @@ module _ {t : Table} {types : List ColType} {n : ℕ} {xs : List Column} (s : Se
   still_seen ys p = same_rows n xs ys p ∙ rows_are t types n xs s.is
 
 -- the columns after a write that filled m rows, and what is seen of them
-pub record Grown (t : Table) (types : List ColType) (count m : ℕ) (ys : List Column) (f : ℕ → Row) : Type 0 where
+pub record Grown (t : RowsView) (types : List ColType) (count m : ℕ) (ys : List Column) (f : ℕ → Row) : Type 0 where
   pub are : AreRows types count ys
   pub rows : rows_of count ys ≡ t.rows ++ each_below m f
 
-pub grown : {t : Table} {types : List ColType} {at : ℕ} {xs : List Column} → Seen t types at xs → (m n count : ℕ) (ys : List Column) (f : ℕ → Row) → KeepRows at xs ys → n ≡ length t.types
+pub grown : {t : RowsView} {types : List ColType} {at : ℕ} {xs : List Column} → Seen t types at xs → (m n count : ℕ) (ys : List Column) (f : ℕ → Row) → KeepRows at xs ys → n ≡ length t.types
     → Fills at m 0 n xs ys f → ((k : ℕ) → k < m → list_all is_held (f k) ≡ true) → count ≡ at + m → Grown t types count m ys f
 grown {t} {types} {at} {xs} s m n count ys f p e q held c =
     let w : n ≡ length xs = e ∙ sym (width_seen s) in
@@ -57,11 +57,11 @@ grown {t} {types} {at} {xs} s m n count ys f p e q held c =
     }
 
 -- one row more
-pub grown_one : {t : Table} {types : List ColType} {count : ℕ} {ys : List Column} {x : Row} → Grown t types count 1 ys (λ _. x) → (r : Row) → x ≡ r → rows_of count ys ≡ t.rows ++ r ∷ []
+pub grown_one : {t : RowsView} {types : List ColType} {count : ℕ} {ys : List Column} {x : Row} → Grown t types count 1 ys (λ _. x) → (r : Row) → x ≡ r → rows_of count ys ≡ t.rows ++ r ∷ []
 grown_one {t} {types} {count} {ys} {x} g r e = g.rows ∙ (ap (λ l. t.rows ++ l) (each_below-one (λ _. x)) ∙ ap (λ v. t.rows ++ v ∷ []) e)
 
 -- a part of others' rows more
-pub grown_part : {t r : Table} {types kinds : List ColType} {count many : ℕ} {ys others : List Column} (from to : ℕ)
+pub grown_part : {t r : RowsView} {types kinds : List ColType} {count many : ℕ} {ys others : List Column} (from to : ℕ)
     → Grown t types count (to - from) ys (λ k. row_of others (from + k)) → Seen r kinds many others
     → from ≤ to → to ≤ length r.rows → rows_of count ys ≡ t.rows ++ slice_range r.rows from to
 grown_part {t} {r} {types} {kinds} {count} {many} {ys} {others} from to g o h l =
@@ -71,7 +71,7 @@ grown_part {t} {r} {types} {kinds} {count} {many} {ys} {others} from to g o h l 
     (sym (slice_range-each_below many from to (row_of others) h (omega (arith, c, l))) ∙ ap (λ rows. slice_range rows from to) (rows_are r kinds many others o.is))
 
 -- rows of others at some positions more
-pub grown_at : {t r : Table} {types kinds : List ColType} {count many : ℕ} {ys others : List Column} (positions : List ℕ)
+pub grown_at : {t r : RowsView} {types kinds : List ColType} {count many : ℕ} {ys others : List Column} (positions : List ℕ)
     → Grown t types count (length positions) ys (λ k. row_of others (get_or positions k 0)) → Seen r kinds many others
     → ArePositions (length r.rows) positions → rows_of count ys ≡ t.rows ++ map (row r) positions
 grown_at {t} {r} {types} {kinds} {count} {many} {ys} {others} positions g o there =
@@ -82,7 +82,7 @@ pub width_of : {X : Type 0} (f : X → Val) (xs : List X) (types : List ColType)
 width_of f xs types e = sym (length-map xs f) ∙ (sym (length-map (map f xs) type_of) ∙ ap length e)
 
 -- the columns of two others, side by side
-pub width_both : {l r : Table} {ls rs : List ColType} {n m : ℕ} {xs ys : List Column} → Seen l ls n xs → Seen r rs m ys → (width : ℕ) (types : List ColType)
+pub width_both : {l r : RowsView} {ls rs : List ColType} {n m : ℕ} {xs ys : List Column} → Seen l ls n xs → Seen r rs m ys → (width : ℕ) (types : List ColType)
     → width ≡ length xs → types ≡ l.types ++ r.types → width + length ys ≡ length types
 width_both {l} {r} s o width types w e =
     let a = width_seen s in

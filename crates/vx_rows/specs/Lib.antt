@@ -8,5 +8,4 @@ pub mod View
 pub mod Texts
 pub mod Columns
 pub mod Open
-pub mod Ports
 pub mod Hashing

@@ -9,12 +9,12 @@ abbrev pub HasTypes : List ColType → Row → Type 0
 HasTypes types row = map type_of row ≡ types
 
 -- what a caller sees of rows
-pub record Table : Type 0 where
+pub record RowsView : Type 0 where
   pub types : List ColType
   pub rows : List Row
 
 -- row i, counted from 0, and one of no values past the end
-abbrev pub row : Table → ℕ → Row
+abbrev pub row : RowsView → ℕ → Row
 row t i = slice_index_or t.rows i []
 
 -- each of these columns is one of so many

@@ -1,10 +1,8 @@
 //! Rows kept by columns and seen as a list of rows, their orders and keys, and the ports for bytes.
 #![tactic(auto)]
 
-mod bytes;
 mod clash;
 mod column;
-mod memory;
 mod open;
 mod row;
 mod rows;
@@ -12,11 +10,12 @@ mod sorting;
 mod texts;
 mod writes;
 
-pub use bytes::{Broken, ByteIn, ByteOut, ReadFault, Real, read_all, write_all};
 pub use clash::keys_are_tested;
-pub use memory::{MemoryIn, MemoryOut};
 pub use open::OpenRows;
 pub use row::Row;
 pub use rows::Rows;
 pub use sorting::compare_on;
+pub use vx_bytes::{
+    Broken, ByteIn, ByteOut, MemoryIn, MemoryOut, ReadFault, Real, read_all, write_all,
+};
 pub use vx_values::{Cell, ColType, Value, compare_cells};

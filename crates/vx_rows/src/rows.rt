@@ -56,10 +56,10 @@ impl Drop for Rows {
 }
 
 impl Model for Rows {
-    ghost use Rattle.vx_rows.specs.View.{Table};
+    ghost use Rattle.vx_rows.specs.View.{RowsView};
     ghost use Rattle.vx_rows.specs.Columns.{rows_of, AreRows};
 
-    ghost Value = { Table };
+    ghost Value = { RowsView };
 
     ghost view = { λ r. record { types = r.types.items; rows = rows_of r.count r.columns.items } };
 

@@ -8,9 +8,9 @@ use Rattle.vx_rows.specs.View.{AreColumns}
 use Rattle.vx_relations.specs.Catalog.{relation_at, all_below}
 use Rattle.vx_catalog.proofs.OrderFacts.{columns_below}
 use Rattle.vx_values.proofs.Booleans.{and-left, and-right, and-both}
-use Rattle.vx_nodes.specs.Plan.{Plan, scan, unary, binary, exchange, union}
-use Rattle.vx_typed.specs.Typed.{Scope, type_eq, types_eq, are_columns, is_unary, is_pair, is_binary, is_kind, is_size, is_output, typed}
-use Rattle.vx_nodes.specs.Types.{types_of}
+use Rattle.vx_plan_nodes.specs.Plan.{Plan, scan, unary, binary, exchange, union}
+use Rattle.vx_plan_nodes.specs.Typed.{Scope, type_eq, types_eq, are_columns, is_unary, is_pair, is_binary, is_kind, is_size, is_output, typed}
+use Rattle.vx_plan_nodes.specs.Types.{types_of}
 use Rattle.vx_serial.specs.Evaluated.{IsFit}
 
 pub typed-fits : (s : Scope) (p : Plan) → typed s p ≡ true → IsFit s.catalog p

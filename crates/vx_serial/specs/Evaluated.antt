@@ -3,10 +3,10 @@ use Rattle.std.specs.Prelude.{ℕ, ◌≡◌, ◌<◌, nat_lt, Bool, true, false
 use Rattle.vx_values.specs.Values.{Row}
 use Rattle.vx_relations.specs.Relation.{Relation}
 use Rattle.vx_relations.specs.Catalog.{relation_at}
-use Rattle.vx_nodes.specs.Plan.{Unary, group, Plan, scan, unary, binary, exchange}
-use Rattle.vx_nodes.specs.Serial.{unary_rows, binary_rows, Outcome, rows, or_overflow, after}
-use Rattle.vx_typed.specs.Typed.{is_unary, is_binary}
-use Rattle.vx_nodes.specs.Types.{types_of}
+use Rattle.vx_plan_nodes.specs.Plan.{Unary, group, Plan, scan, unary, binary, exchange}
+use Rattle.vx_plan_nodes.specs.Serial.{unary_rows, binary_rows, SerialResult, rows, or_overflow, after}
+use Rattle.vx_plan_nodes.specs.Typed.{is_unary, is_binary}
+use Rattle.vx_plan_nodes.specs.Types.{types_of}
 
 -- the first of two, if there is one, or else the second
 abbrev pub first_of : Option ℕ → Option ℕ → Option ℕ
@@ -30,7 +30,7 @@ abbrev pub evaluated_rows : Unary → List Row → Option (List Row)
 evaluated_rows op xs = if is_too_long op xs then None else unary_rows op xs
 
 -- the rows of a plan, or the first node that overflows: the left input's first, then the right's, then the node's own
-abbrev pub evaluated : (ℕ → List Row) → Plan → Outcome
+abbrev pub evaluated : (ℕ → List Row) → Plan → SerialResult
 evaluated db (scan n c r m z) = rows (db r)
 evaluated db (unary n c op p) = after (evaluated db p) (λ xs. or_overflow n (evaluated_rows op xs))
 evaluated db (binary n c op p q) = after (evaluated db p) (λ xs. after (evaluated db q) (λ ys. rows (binary_rows op xs ys)))

@@ -1,20 +1,20 @@
 -- What the evaluation of a plan over a database gives.
 use Rattle.std.specs.Prelude.{ℕ, ◌≡◌, ◌≢◌, ◌⊎◌, List, Option, Some, None}
 use Rattle.vx_values.specs.Values.{Row}
-use Rattle.vx_rows.specs.View.{Table}
+use Rattle.vx_rows.specs.View.{RowsView}
 use Rattle.vx_relations.specs.Catalog.{relation_at}
 use Rattle.vx_catalog.specs.Database.{Database, rows_at}
-use Rattle.vx_nodes.specs.Outline.{plan_in}
-use Rattle.vx_nodes.specs.Plan.{Plan}
-use Rattle.vx_typed.specs.Names.{Resolved}
-use Rattle.vx_nodes.specs.Serial.{Outcome, rows, overflow, serial, HasTooLong}
-use Rattle.vx_nodes.specs.Types.{types_of}
+use Rattle.vx_plan_nodes.specs.Outline.{plan_in}
+use Rattle.vx_plan_nodes.specs.Plan.{Plan}
+use Rattle.vx_plan_nodes.specs.Names.{TypedPlanView}
+use Rattle.vx_plan_nodes.specs.Serial.{SerialResult, rows, overflow, serial, HasTooLong}
+use Rattle.vx_plan_nodes.specs.Types.{types_of}
 use Rattle.vx_serial.specs.Evaluated.{first_exchange, evaluated}
 use Rattle.vx_serial.specs.declared.fault.EvalFault.{EvalFault}
 use Rattle.vx_serial.specs.declared.fault.EvalFault.TheVariants as fault
 
 -- a fault is the overflow of an outcome; want of memory excuses
-abbrev pub IsFaultOf : Outcome → EvalFault → Type 0
+abbrev pub IsFaultOf : SerialResult → EvalFault → Type 0
 IsFaultOf o fault.NoMemory = Unit {0}
 IsFaultOf o (fault.Overflow node) = o ≡ overflow node
 IsFaultOf o _ = ⊥
@@ -26,12 +26,12 @@ IsFaultAt n made (fault.Overflow node) = (node ≡ n) × (made ≡ None)
 IsFaultAt n made _ = ⊥
 
 -- the database is one of the plan's catalog, and the plan has no exchange
-pub record IsPlain (p : Resolved) (db : Database) : Type 0 where
+pub record IsPlain (p : TypedPlanView) (db : Database) : Type 0 where
   pub same : db.catalog ≡ p.names.catalog
   pub none : first_exchange (plan_in p.root) ≡ None
 
 -- rows of a plan over a database: those of its serial meaning, of the output's types
-pub record IsSerialOf (p : Resolved) (db : Database) (t : Table) : Type 0 where
+pub record IsSerialOf (p : TypedPlanView) (db : Database) (t : RowsView) : Type 0 where
   pub plain : IsPlain p db
   pub meaning : serial (rows_at db) (plan_in p.root) ≡ rows t.rows
   pub types : t.types ≡ types_of (relation_at p.names.catalog) (plan_in p.root)
@@ -42,7 +42,7 @@ pub record EndsAt (db : ℕ → List Row) (p : Plan) (node : ℕ) : Type 0 where
   pub real : (serial db p ≡ overflow node) ⊎ HasTooLong db p
 
 -- why a plan has no rows over a database: another catalog, its first exchange, or the first overflow; want of memory may come anywhere
-abbrev pub EvalFails : Resolved → Database → EvalFault → Type 0
+abbrev pub EvalFails : TypedPlanView → Database → EvalFault → Type 0
 EvalFails p db fault.OtherCatalog = db.catalog ≢ p.names.catalog
 EvalFails p db (fault.HasExchange node) = (db.catalog ≡ p.names.catalog) × (first_exchange (plan_in p.root) ≡ Some node)
 EvalFails p db (fault.Overflow node) = IsPlain p db × EndsAt (rows_at db) (plan_in p.root) node

@@ -4,10 +4,10 @@ ghost use Rattle.std.specs.Prelude.{◌≡◌, IfOk, IfErr};
 ghost use Rattle.std.specs.Cow.{cow_value};
 ghost use Rattle.vx_relations.specs.Catalog.{relation_at};
 ghost use Rattle.vx_catalog.specs.Database.{rows_at};
-ghost use Rattle.vx_nodes.specs.Outline.{plan_of};
-ghost use Rattle.vx_nodes.specs.Serial.{rows};
-ghost use Rattle.vx_typed.specs.TypedView.{resolved_of};
-ghost use Rattle.vx_nodes.specs.Types.{types_of};
+ghost use Rattle.vx_plan_nodes.specs.Outline.{plan_of};
+ghost use Rattle.vx_plan_nodes.specs.Serial.{rows};
+ghost use Rattle.vx_plan_nodes.specs.TypedView.{resolved_of};
+ghost use Rattle.vx_plan_nodes.specs.Types.{types_of};
 ghost use Rattle.vx_serial.specs.Evaluated.{evaluated, IsFit};
 ghost use Rattle.vx_serial.specs.Results.{IsFaultOf, IsSerialOf, EvalFails};
 
@@ -18,9 +18,8 @@ use crate::operators::{binary_rows, unary_rows};
 use std::alloc::Global;
 use std::borrow::Cow;
 use vx_catalog::Database;
-use vx_nodes::TypedNode;
+use vx_plan_nodes::{TypedNode, TypedPlan};
 use vx_rows::Rows;
-use vx_typed::TypedPlan;
 
 // The rows of a node. Each input is taken to its end, also where no further row can come of it. An exchange gives its
 // input. A scan lends the rows of its relation, and what hands its input on hands on what is lent.

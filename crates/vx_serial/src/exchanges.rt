@@ -1,10 +1,10 @@
 //! Exchanges in a plan.
 
 ghost use Rattle.std.specs.Prelude.{◌≡◌};
-ghost use Rattle.vx_nodes.specs.Outline.{plan_of};
+ghost use Rattle.vx_plan_nodes.specs.Outline.{plan_of};
 ghost use Rattle.vx_serial.specs.Evaluated.{first_exchange};
 
-use vx_nodes::TypedNode;
+use vx_plan_nodes::TypedNode;
 
 /// The number of the first exchange in preorder.
 pub fn first_exchange(node: &TypedNode) -> Option<u32>

@@ -3,11 +3,11 @@
 ghost use Rattle.std.specs.Prelude.{◌≡◌, ◌++◌, true, Some, map, IfOk, IfErr};
 ghost use Rattle.std.specs.Cow.{cow_value};
 ghost use Rattle.std.specs.List.{list_all};
-ghost use Rattle.vx_nodes.specs.Outline.{aggregate_of, unary_of, binary_of};
-ghost use Rattle.vx_nodes.specs.Plan.{group};
-ghost use Rattle.vx_nodes.specs.Serial.{binary_rows, join_rows};
-ghost use Rattle.vx_typed.specs.Typed.{is_unary, is_binary, is_pair};
-ghost use Rattle.vx_nodes.specs.Types.{unary_types, binary_types};
+ghost use Rattle.vx_plan_nodes.specs.Outline.{aggregate_of, unary_of, binary_of};
+ghost use Rattle.vx_plan_nodes.specs.Plan.{group};
+ghost use Rattle.vx_plan_nodes.specs.Serial.{binary_rows, join_rows};
+ghost use Rattle.vx_plan_nodes.specs.Typed.{is_unary, is_binary, is_pair};
+ghost use Rattle.vx_plan_nodes.specs.Types.{unary_types, binary_types};
 ghost use Rattle.vx_serial.specs.Evaluated.{evaluated_rows};
 ghost use Rattle.vx_serial.specs.Results.{IsFaultAt};
 
@@ -16,15 +16,15 @@ use crate::lending::owned;
 use std::alloc::{AllocError, Global};
 use std::borrow::Cow;
 use vx_algebra::{passing, projected, sorted, united};
-use vx_matching::{GroupFault, distinct, grouped, hash_join};
-use vx_nodes::{Aggregate, Binary, Kept, Unary};
+use vx_match::{GroupFault, distinct, grouped, hash_join};
+use vx_plan_nodes::{Aggregate, Binary, Projected, Unary};
 use vx_rows::Rows;
 
 // The most rows of one grouping.
 const MAX_GROUPED: usize = 1 << 62;
 
 // The columns that are kept, without their names.
-fn columns_of(alloc: Global, kept: &[Kept]) -> Result<Vec<usize>, AllocError>
+fn columns_of(alloc: Global, kept: &[Projected]) -> Result<Vec<usize>, AllocError>
     ensures { IfOk result (λ v. v.items ≡ map (λ k. k.column) kept.now) }
 {
     kept.iter().map(|kept| kept.column).collect(alloc)

@@ -1,6 +1,6 @@
 -- Which plans workers can run.
 use Rattle.std.specs.Prelude.{Bool, true, false, []}
-use Rattle.vx_nodes.specs.Plan.{Plan, scan, unary, binary, exchange, select, gather}
+use Rattle.vx_plan_nodes.specs.Plan.{Plan, scan, unary, binary, exchange, select, gather}
 
 -- the operators that workers run so far: scans, selections, and gathers that do not merge
 abbrev pub can_run : Plan → Bool

@@ -11,7 +11,7 @@ abbrev pub entry_of : String Global × ℕ → Entry
 entry_of e = (string_bytes e.0, e.1)
 
 -- how a run is set up: the workers of size names, the rows of a packet and of a morsel, and by how many packets a producer may run ahead
-pub record SetupForm : Type 0 where
+pub record SetupView : Type 0 where
   pub sizes : List Entry
   pub packet : ℕ
   pub morsel : ℕ

@@ -1,12 +1,11 @@
 //! Which plans workers can run.
 
 ghost use Rattle.std.specs.Prelude.{◌≡◌};
-ghost use Rattle.vx_nodes.specs.Outline.{plan_of};
-ghost use Rattle.vx_typed.specs.TypedView.{plan as whole_plan};
+ghost use Rattle.vx_plan_nodes.specs.Outline.{plan_of};
+ghost use Rattle.vx_plan_nodes.specs.TypedView.{plan as whole_plan};
 ghost use Rattle.vx_setup.specs.Runnable.{can_run};
 
-use vx_nodes::{Kind, TypedNode, Unary};
-use vx_typed::TypedPlan;
+use vx_plan_nodes::{ExchangeKind, TypedNode, TypedPlan, Unary};
 
 // Whether workers can run a node and all below it.
 fn node_can_run(node: &TypedNode) -> bool
@@ -18,7 +17,7 @@ fn node_can_run(node: &TypedNode) -> bool
         TypedNode::Unary(_, _, _) => false,
         TypedNode::Binary(_, _, _, _) => false,
         TypedNode::Exchange(_, exchange, input) => match &exchange.kind {
-            Kind::Gather => exchange.merge.is_empty() && node_can_run(input),
+            ExchangeKind::Gather => exchange.merge.is_empty() && node_can_run(input),
             _ => false,
         },
     }

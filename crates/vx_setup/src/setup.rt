@@ -30,9 +30,9 @@ pub struct Setup {
 
 impl Model for Setup {
     ghost use Rattle.std.specs.Prelude.{map};
-    ghost use Rattle.vx_setup.specs.Setup.{SetupForm, entry_of};
+    ghost use Rattle.vx_setup.specs.Setup.{SetupView, entry_of};
 
-    ghost Value = { SetupForm };
+    ghost Value = { SetupView };
 
     ghost view = { λ s. record { sizes = map entry_of s.sizes.items; packet = s.packet; morsel = s.morsel; slack = s.slack } };
 }

@@ -6,8 +6,8 @@ use Rattle.vx_values.specs.Values.{Row}
 use Rattle.vx_relations.specs.Relation.{Relation}
 use Rattle.vx_relations.specs.Catalog.{relation_at}
 use Rattle.vx_catalog.specs.Database.{Database, rows_at, with_rows}
-use Rattle.vx_nodes.specs.Plan.{Plan}
-use Rattle.vx_tables.specs.declared.refusal.Refusal.{Refusal}
+use Rattle.vx_plan_nodes.specs.Plan.{Plan}
+use Rattle.vx_refusals.specs.declared.refusal.Refusal.{Refusal}
 use Rattle.vx_tables.specs.Filled.{scans, IsFilled, IsFirstMissing, first_missing}
 
 -- the scanned relations before this number are filled, and the others are empty

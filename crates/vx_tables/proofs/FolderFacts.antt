@@ -5,8 +5,8 @@ use Rattle.vx_relations.specs.Relation.{Relation}
 use Rattle.vx_catalog.specs.Loading.{load_of, Fails}
 use Rattle.vx_catalog.specs.declared.fault.LoadFault.{LoadFault}
 use Rattle.vx_catalog.specs.declared.fault.LoadFault.TheVariants as load
-use Rattle.vx_tables.specs.declared.refusal.Refusal.TheVariants as refusal
-use Rattle.vx_tables.specs.Stored.{Stored, silent, absent, present, IfBytes, MayBePresent, OpensAs}
+use Rattle.vx_refusals.specs.declared.refusal.Refusal.TheVariants as refusal
+use Rattle.vx_bytes.specs.Stored.{Stored, silent, absent, present, IfBytes, MayBePresent, OpensAs}
 use Rattle.vx_tables.specs.Folder.{path_in, LacksAt, for_reading, for_text}
 
 -- what failed was not reliable

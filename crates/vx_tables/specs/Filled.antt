@@ -4,9 +4,9 @@ use Rattle.vx_values.specs.Values.{Row}
 use Rattle.vx_relations.specs.Relation.{Relation}
 use Rattle.vx_relations.specs.Catalog.{relation_at}
 use Rattle.vx_catalog.specs.Database.{Database, rows_at}
-use Rattle.vx_nodes.specs.Plan.{Plan, scan, unary, binary, exchange}
-use Rattle.vx_tables.specs.declared.refusal.Refusal.{Refusal}
-use Rattle.vx_tables.specs.declared.refusal.Refusal.TheVariants as refusal
+use Rattle.vx_plan_nodes.specs.Plan.{Plan, scan, unary, binary, exchange}
+use Rattle.vx_refusals.specs.declared.refusal.Refusal.{Refusal}
+use Rattle.vx_refusals.specs.declared.refusal.Refusal.TheVariants as refusal
 
 -- a plan scans the relation with this number
 abbrev pub scans : Plan → ℕ → Bool

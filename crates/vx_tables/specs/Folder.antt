@@ -6,9 +6,9 @@ use Rattle.vx_relations.specs.Relation.{Relation}
 use Rattle.vx_catalog.specs.Loading.{load_of, Fails}
 use Rattle.vx_catalog.specs.declared.fault.LoadFault.{LoadFault}
 use Rattle.vx_catalog.specs.declared.fault.LoadFault.TheVariants as load
-use Rattle.vx_tables.specs.declared.refusal.Refusal.{Refusal}
-use Rattle.vx_tables.specs.declared.refusal.Refusal.TheVariants as refusal
-use Rattle.vx_tables.specs.Stored.{Stored, IfBytes, MayBeAbsent, MayBePresent}
+use Rattle.vx_refusals.specs.declared.refusal.Refusal.{Refusal}
+use Rattle.vx_refusals.specs.declared.refusal.Refusal.TheVariants as refusal
+use Rattle.vx_bytes.specs.Stored.{Stored, IfBytes, MayBeAbsent, MayBePresent}
 
 -- where the text of a relation is
 abbrev pub path_in : List ℕ → List ℕ → List ℕ

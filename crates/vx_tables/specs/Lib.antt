@@ -1,5 +1,3 @@
-pub mod Status
 pub mod Texts
 pub mod Filled
-pub mod Stored
 pub mod Folder

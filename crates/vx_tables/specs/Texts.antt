@@ -7,8 +7,8 @@ use Rattle.vx_relations.specs.Relation.{Relation}
 use Rattle.vx_catalog.specs.Loading.{load_of}
 use Rattle.vx_catalog.specs.declared.fault.LoadFault.{LoadFault}
 use Rattle.vx_catalog.specs.declared.fault.LoadFault.TheVariants as load
-use Rattle.vx_tables.specs.declared.refusal.Refusal.{Refusal}
-use Rattle.vx_tables.specs.declared.refusal.Refusal.TheVariants as refusal
+use Rattle.vx_refusals.specs.declared.refusal.Refusal.{Refusal}
+use Rattle.vx_refusals.specs.declared.refusal.Refusal.TheVariants as refusal
 use Rattle.vx_bundle.specs.Setting.{Named}
 
 -- why the rows of a relation are not there: it has no text, or its text does not hold them

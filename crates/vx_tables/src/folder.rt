@@ -3,11 +3,11 @@
 ghost use Rattle.std.specs.Prelude.{◌≡◌, IfOk, string_bytes};
 ghost use Rattle.vx_tables.specs.Folder.{path_in};
 
-use crate::refusal::Refusal;
-use crate::store::Store;
 use crate::tables::Tables;
 use std::alloc::{AllocError, Global};
+use vx_bytes::Store;
 use vx_catalog::{Catalog, Loaded, Loader};
+use vx_refusals::Refusal;
 
 /// A folder with a text NAME.csv for each relation NAME.
 #[derive(Clone, Copy)]

@@ -2,14 +2,8 @@
 #![tactic(auto)]
 
 mod folder;
-mod refusal;
-mod statuses;
-mod store;
 mod tables;
 mod texts;
 
 pub use folder::Folder;
-pub use refusal::{Refusal, tell};
-pub use statuses::status;
-pub use store::{Disk, Store};
 pub use tables::{Tables, load_tables};

@@ -4,15 +4,14 @@ ghost use Rattle.std.specs.Prelude.{◌≡◌, ◌<◌, length, IfOk, IfErr, OnO
 ghost use Rattle.vx_values.specs.Values.{Row};
 ghost use Rattle.vx_relations.specs.Catalog.{relation_at};
 ghost use Rattle.vx_catalog.specs.Database.{with_rows};
-ghost use Rattle.vx_nodes.specs.Outline.{plan_of};
-ghost use Rattle.vx_typed.specs.TypedView.{scope, plan as plan_of_typed};
+ghost use Rattle.vx_plan_nodes.specs.Outline.{plan_of};
+ghost use Rattle.vx_plan_nodes.specs.TypedView.{scope, plan as plan_of_typed};
 ghost use Rattle.vx_tables.specs.Filled.{scans, IsFilled, IsFirstMissing};
 
-use crate::refusal::Refusal;
 use std::alloc::Global;
 use vx_catalog::{Catalog, Database, Loaded};
-use vx_nodes::TypedNode;
-use vx_typed::TypedPlan;
+use vx_plan_nodes::{TypedNode, TypedPlan};
+use vx_refusals::Refusal;
 
 /// What has the rows of relations: the texts of a bundle, or the files of a folder.
 pub trait Tables {
@@ -20,7 +19,7 @@ pub trait Tables {
     ghost use Rattle.vx_values.specs.Values.{Row};
     ghost use Rattle.vx_relations.specs.Relation.{Relation};
     ghost use Rattle.vx_relations.specs.Catalog.{relation_at};
-    ghost use Rattle.vx_tables.specs.declared.refusal.Refusal.{Refusal};
+    ghost use Rattle.vx_refusals.specs.declared.refusal.Refusal.{Refusal};
 
     // That these are the rows of a relation.
     ghost holds: { Self → Relation → List Row → Type 0 };

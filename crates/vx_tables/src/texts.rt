@@ -4,12 +4,12 @@ ghost use Rattle.std.specs.Prelude.{◌≡◌, ◌<◌, length, IfOk};
 ghost use Rattle.vx_relations.specs.Catalog.{relation_at};
 ghost use Rattle.vx_catalog.specs.Loading.{Gives, load_of};
 
-use crate::refusal::Refusal;
 use crate::tables::Tables;
 use std::alloc::Global;
 use vx_bundle::Bundle;
+use vx_bytes::MemoryIn;
 use vx_catalog::{Catalog, LoadFault, Loaded, Loader};
-use vx_rows::MemoryIn;
+use vx_refusals::Refusal;
 
 // The rows of a relation from its text.
 fn load_text(

@@ -4,7 +4,7 @@ use Rattle.std.proofs.lemmas.Bool.Decides.{eqb_tells}
 use Rattle.std.proofs.lemmas.List.Folds.{list_any-append}
 use Rattle.std.proofs.lemmas.List.Elements.{All-map}
 use Rattle.std.specs.List.{All, list_any}
-use Rattle.vx_ports.specs.Packets.{Parcel, closes, is_closed}
+use Rattle.vx_ports.specs.Packets.{PacketView, closes, is_closed}
 use Rattle.vx_ops.specs.Turn.{with_packet}
 use Rattle.vx_worker.specs.Trace.{Event, idle, drew_one, took_one, put_one, Trace, added}
 use Rattle.vx_worker.specs.Intake.{source_of, has_met_end, MarksStand, IntakeStands, IsDrained}
@@ -24,16 +24,16 @@ or-left true c e h = refl
 or-left false c e h = absurd (true≢false (sym h ∙ ap (λ b. b || false) e))
 
 -- a closed list stays closed
-closed-append : (ps qs : List Parcel) → is_closed ps ≡ true → is_closed (ps ++ qs) ≡ true
+closed-append : (ps qs : List PacketView) → is_closed ps ≡ true → is_closed (ps ++ qs) ≡ true
 closed-append [] qs e = absurd (true≢false (sym e))
 closed-append (p ∷ ps) qs e = or-right (closes p.content) (is_closed ps) (is_closed (ps ++ qs)) (closed-append ps qs) e
 
 -- with a packet that closes at its end it is closed
-closed-last : (ps : List Parcel) (p : Parcel) → closes p.content ≡ true → is_closed (ps ++ p ∷ []) ≡ true
+closed-last : (ps : List PacketView) (p : PacketView) → closes p.content ≡ true → is_closed (ps ++ p ∷ []) ≡ true
 closed-last [] p e = ap (λ b. b || false) e
 closed-last (q ∷ ps) p e = ap (λ b. closes q.content || b) (closed-last ps p e) ∙ or-true (closes q.content)
 
-closed-with : (f : ℕ → List Parcel) (i : ℕ) (o : Option Parcel) (j : ℕ) → is_closed (f j) ≡ true → is_closed (with_packet f i o j) ≡ true
+closed-with : (f : ℕ → List PacketView) (i : ℕ) (o : Option PacketView) (j : ℕ) → is_closed (f j) ≡ true → is_closed (with_packet f i o j) ≡ true
 closed-with f i None j e = e
 closed-with f i (Some p) j e = elim (eqb_tells j i) [
   | inl d ↦ rw d.0 (closed-append (f j) (p ∷ []) e)
@@ -51,7 +51,7 @@ closed-added t (took_one k j o) x i h = elim (eqb_tells x k) [
 closed-added t (put_one j p) x i h = h
 
 -- after a packet that closes was taken
-pub closed-took : (t : Trace) (x i : ℕ) (p : Parcel) → closes p.content ≡ true → is_closed ((added t (took_one x i (Some p))).came x i) ≡ true
+pub closed-took : (t : Trace) (x i : ℕ) (p : PacketView) → closes p.content ≡ true → is_closed ((added t (took_one x i (Some p))).came x i) ≡ true
 closed-took t x i p e = elim (eqb_tells x x) [
   | inl d ↦ elim (eqb_tells i i) [
     | inl c ↦ rw (d.0, c.0) (closed-last (t.came x i) p e)
@@ -109,7 +109,7 @@ intake-met old new t k a b h = record {
 }
 
 -- a producer that closed is marked
-pub intake-closed : (old new : Intake) (t : Trace) (x i : ℕ) (p : Parcel) → new.finished.items ≡ old.finished.items
+pub intake-closed : (old new : Intake) (t : Trace) (x i : ℕ) (p : PacketView) → new.finished.items ≡ old.finished.items
     → ((s : Trace) → is_closed (s.came x i) ≡ true → MarksStand old.inputs.items s → MarksStand new.inputs.items s)
     → closes p.content ≡ true → IntakeStands old t → IntakeStands new (added t (took_one x i (Some p)))
 intake-closed old new t x i p b marks c h = record {

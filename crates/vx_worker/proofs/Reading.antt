@@ -2,9 +2,9 @@
 use Rattle.std.proofs.Common.{ℕ, ◌≡◌, inl, inr, refl, sym, ap, ◌∙◌, true, true≢false, List, [], ◌∷◌, ◌++◌, Option, Some, None, append-nil, append_assoc}
 use Rattle.std.proofs.lemmas.Bool.Decides.{eqb_tells}
 use Rattle.vx_values.specs.Values.{Row}
-use Rattle.vx_rows.specs.View.{Table}
+use Rattle.vx_rows.specs.View.{RowsView}
 use Rattle.vx_rows.specs.Lists.{IsBeginning}
-use Rattle.vx_ports.specs.Packets.{Parcel}
+use Rattle.vx_ports.specs.Packets.{PacketView}
 use Rattle.vx_morsel.specs.Draws.{Draws}
 use Rattle.vx_ops.specs.Begun.{all_of}
 use Rattle.vx_ops.specs.Ledger.{Stream}
@@ -27,7 +27,7 @@ pub morsels-append : (m : ℕ → List Row) (ns : List ℕ) (n : ℕ) → morsel
 morsels-append m [] n = append-nil (m n)
 morsels-append m (k ∷ ns) n = ap (λ ys. m k ++ ys) (morsels-append m ns n) ∙ sym (append_assoc (m k) (morsels m ns) (m n))
 
-scanned-more : (m : ℕ → List Row) (d : Draws) (s : Stream) (t : Table) (n : ℕ) → t.rows ≡ m n → Scanned m d s → Scanned m (drawn d (Some n)) (heard s (polled.Gave t))
+scanned-more : (m : ℕ → List Row) (d : Draws) (s : Stream) (t : RowsView) (n : ℕ) → t.rows ≡ m n → Scanned m d s → Scanned m (drawn d (Some n)) (heard s (polled.Gave t))
 scanned-more m d s t n e h = record {
   rows = ap (λ ys. ys ++ t.rows) h.rows ∙ ap (λ ys. morsels m d.numbers ++ ys) e ∙ sym (morsels-append m d.numbers n);
   ended = h.ended;
@@ -131,7 +131,7 @@ scan-met : (m : ℕ → List Row) (d : Draws) (s : Stream) → Scanned m d s →
 scan-met m d s h = record { numbers = d.numbers; begins = all_of d.numbers; rows = h.rows; ended = λ o. (refl, refl); never_fails = h.never_fails }
 
 -- the packets are a beginning of those with one more
-with-packet-begins : (f : ℕ → List Parcel) (i : ℕ) (o : Option Parcel) (j : ℕ) → IsBeginning (f j) (with_packet f i o j)
+with-packet-begins : (f : ℕ → List PacketView) (i : ℕ) (o : Option PacketView) (j : ℕ) → IsBeginning (f j) (with_packet f i o j)
 with-packet-begins f i None j = all_of (f j)
 with-packet-begins f i (Some p) j = elim (eqb_tells j i) [
   | inl e ↦ rw e.0 (record { rest = p ∷ []; joined = refl })
@@ -152,7 +152,7 @@ came-begins t (took_one k j o) n i = elim (eqb_tells n k) [
 came-begins t (put_one j p) n i = all_of (t.came n i)
 
 same-begins : (r : Reads) (t : Trace) (n i : ℕ) → r.came n ≡ t.came n → IsBeginning (r.came n i) (t.came n i)
-same-begins r t n i e = record { rest = []; joined = append-nil (r.came n i) ∙ ap (λ (f : ℕ → List Parcel). f i) e }
+same-begins r t n i e = record { rest = []; joined = append-nil (r.came n i) ∙ ap (λ (f : ℕ → List PacketView). f i) e }
 
 pub reads-whole : (m : ℕ → ℕ → List Row) (t : Trace) (r : Reads) → ReadsAreOf m t r → ReadsBeginOf m t r
 reads-whole m t r h = record { scanned = λ n. scan-whole (m n) (t.drew n) (r.scanned n) (h.scanned n); came = λ n i. same-begins r t n i (h.came n) }

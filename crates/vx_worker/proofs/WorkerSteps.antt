@@ -3,8 +3,8 @@ use Rattle.std.proofs.Common.{ℕ, ◌≡◌, ◌⊎◌, inl, inr, refl, sym, ap
 use Rattle.std.specs.List.{All}
 use Rattle.vx_values.specs.Values.{Row}
 use Rattle.vx_values.specs.declared.value.ColType.{ColType}
-use Rattle.vx_nodes.specs.Routes.{Router}
-use Rattle.vx_ports.specs.Packets.{Parcel, closes}
+use Rattle.vx_plan_nodes.specs.Routes.{Router}
+use Rattle.vx_ports.specs.Packets.{PacketView, closes}
 use Rattle.vx_ops.specs.Ledger.{Stream, Ledger, Op, Told, fresh}
 use Rattle.vx_ops.specs.Turn.{Shape, heard}
 use Rattle.vx_ops.specs.declared.fault.Fault.{Fault}
@@ -56,7 +56,7 @@ failed-later m goes f task x t e is h = record {
 }
 
 -- only the packets put are seen from another trace with the same draws and takes
-pub failed-same : (m : ℕ → ℕ → List Row) (goes : Router) (f : Frag) (task : Task) (x : Fault) (t : Trace) (put : ℕ → List Parcel) → t.sent ≡ put → HasFailedBy m goes f task x t
+pub failed-same : (m : ℕ → ℕ → List Row) (goes : Router) (f : Frag) (task : Task) (x : Fault) (t : Trace) (put : ℕ → List PacketView) → t.sent ≡ put → HasFailedBy m goes f task x t
     → HasFailedBy m goes f task x (record t { sent = put })
 failed-same m goes f task x t put e h = record {
   reads = h.reads;
@@ -70,7 +70,7 @@ failed-same m goes f task x t put e h = record {
 -- it holds packets that close, and nothing else
 pub closing-fails : {O S : Type 0} (w : Worker O S) (p : Post) → w.pending ≡ None → w.closing.items ≡ closing_of p → IsClosing w
 closing-fails w p pending closing = record {
-  closing = subst (λ ps. All (λ (q : Parcel). closes q.content ≡ true) ps) (sym closing) (closing-closes p);
+  closing = subst (λ ps. All (λ (q : PacketView). closes q.content ≡ true) ps) (sym closing) (closing-closes p);
   pending = λ x e. let none : None ≡ Some x = sym pending ∙ e in cc;
 }
 
@@ -102,7 +102,7 @@ module _ {O S : Type 0} (types : O → Shape) (post : S → Post) (is_open has_c
     });
   }
 
-module _ {O S : Type 0} (OS : O → Ledger → Type 0) (op : O → Op) (SS : S → Router → Stream → (ℕ → List Parcel) → Type 0) (task : S → Task) (goes : Router) (m : ℕ → ℕ → List Row) where
+module _ {O S : Type 0} (OS : O → Ledger → Type 0) (op : O → Op) (SS : S → Router → Stream → (ℕ → List PacketView) → Type 0) (task : S → Task) (goes : Router) (m : ℕ → ℕ → List Row) where
   -- of a worker that has not failed
   pub running : (w : Worker O S) (t : Trace) → w.phase ≡ Running → WorkerStands OS op SS task goes m w t → IsRunning OS op SS task goes m w t
   running w t phase h = subst (λ x. StandsIn OS op SS task goes m x w t) phase h.1
@@ -140,7 +140,7 @@ module _ {O S : Type 0} (OS : O → Ledger → Type 0) (op : O → Op) (SS : S �
       told = told;
       why = why;
       stopped = fault-stops goes (task w.sender) out.rows t.sent (with_all (with_pending t.sent w.pending) w.closing.items)
-          (λ j. ap (λ (x : Option (ℕ × Parcel)). with_all (with_pending t.sent x) w.closing.items j) pending ∙ ap (λ ps. with_all t.sent ps j) closing
+          (λ j. ap (λ (x : Option (ℕ × PacketView)). with_all (with_pending t.sent x) w.closing.items j) pending ∙ ap (λ ps. with_all t.sent ps j) closing
           ∙ with-closing p (task w.sender) at t.sent j)
           begun;
     }),
@@ -150,19 +150,19 @@ module _ {O S : Type 0} (OS : O → Ledger → Type 0) (op : O → Op) (SS : S �
   pub loses : ((o : O) (l : Ledger) → OS o l → Told (op o) l) → (w v : Worker O S) (f : Fault) (p : Post) (t : Trace) (e : Event)
       → v.phase ≡ Failing f → v.pending ≡ None → v.closing.items ≡ closing_of p → IsAt p (task v.sender) → shape op v.tree ≡ shape op w.tree → IsNoMemory f
       → IntakeStands v.intake (added t e) → IsRead w.intake e → w.pending ≡ None
-      → ((a : Stream) (g : ℕ → List Parcel) → SS w.sender goes a g → Begun goes (task v.sender) a.rows g)
+      → ((a : Stream) (g : ℕ → List PacketView) → SS w.sender goes a g → Begun goes (task v.sender) a.rows g)
       → IsRunning OS op SS task goes m w t → WorkerStands OS op SS task goes m v (added t e)
   loses told w v f p t e phase pending closing at same why intake is empty begun h =
       fails v f p (added t e) h.reads h.out phase pending closing at intake (reads-before m w.intake t h.reads e is h.ended h.reads_are)
       (subst (λ x. FragTold x h.reads h.out) (sym same) (tree-told OS op told w.tree h.reads h.out h.tree)) (inr why)
-      (subst (λ g. Begun goes (task v.sender) h.out.rows g) (ap (λ (x : Option (ℕ × Parcel)). with_pending t.sent x) empty ∙ sym (sent-same w.intake t e is))
+      (subst (λ g. Begun goes (task v.sender) h.out.rows g) (ap (λ (x : Option (ℕ × PacketView)). with_pending t.sent x) empty ∙ sym (sent-same w.intake t e is))
       (begun h.out (with_pending t.sent w.pending) h.sender))
 
   -- memory was refused to a put
-  pub refused : ((o : O) (l : Ledger) → OS o l → Told (op o) l) → (w v : Worker O S) (f : Fault) (p : Post) (t : Trace) (to : ℕ) (packet : Parcel)
+  pub refused : ((o : O) (l : Ledger) → OS o l → Told (op o) l) → (w v : Worker O S) (f : Fault) (p : Post) (t : Trace) (to : ℕ) (packet : PacketView)
       → v.phase ≡ Failing f → v.pending ≡ None → v.closing.items ≡ closing_of p → IsAt p (task v.sender) → v.tree ≡ w.tree → IsNoMemory f
       → IntakeStands v.intake t → w.pending ≡ Some (to, packet)
-      → ((a : Stream) (g : ℕ → List Parcel) → SS w.sender goes a g → Begun goes (task v.sender) a.rows g)
+      → ((a : Stream) (g : ℕ → List PacketView) → SS w.sender goes a g → Begun goes (task v.sender) a.rows g)
       → IsRunning OS op SS task goes m w t → WorkerStands OS op SS task goes m v t
   refused told w v f p t to packet phase pending closing at same why intake here begun h =
       fails v f p t h.reads h.out phase pending closing at intake (reads-whole m t h.reads h.reads_are)
@@ -176,7 +176,7 @@ module _ {O S : Type 0} (OS : O → Ledger → Type 0) (op : O → Op) (SS : S �
       → x ≡ tree_want want w.tree → Fetches {E = E} m w.intake k x (Ok g) e → IntakeStands w.intake t
       → ((low high : ℕ) (r : Reads) (out : Stream) → Numbered low high w.tree → TreeStands OS w.tree r out
       → TreeStands OS tree (read r (tree_want want w.tree) g) (heard out (polled.Fault f)))
-      → w.pending ≡ None → ((a : Stream) (g : ℕ → List Parcel) → SS w.sender goes a g → Begun goes (task v.sender) a.rows g)
+      → w.pending ≡ None → ((a : Stream) (g : ℕ → List PacketView) → SS w.sender goes a g → Begun goes (task v.sender) a.rows g)
       → IsRunning OS op SS task goes m w t → WorkerStands OS op SS task goes m v (added t e)
   gives-fault told want w v k tree f p t e x g phase pending closing at same sameIntake wish fetched intake stands empty begun h =
       let y = tree_want want w.tree in
@@ -186,7 +186,7 @@ module _ {O S : Type 0} (OS : O → Ledger → Type 0) (op : O → Op) (SS : S �
       (reads-whole m (added t e) (read h.reads y g) (reads-more m w.intake k t h.reads y g e answers intake.scans h.reads_are))
       (subst (λ z. FragTold (shape op z) (read h.reads y g) (heard h.out (polled.Fault f))) (sym same)
       (tree-told OS op told tree (read h.reads y g) (heard h.out (polled.Fault f)) (stands h.low h.high h.reads h.out h.numbered h.tree))) (inl refl)
-      (subst (λ g. Begun goes (task v.sender) h.out.rows g) (ap (λ (x : Option (ℕ × Parcel)). with_pending t.sent x) empty ∙ sym (sent-same w.intake t e fetched.is_read))
+      (subst (λ g. Begun goes (task v.sender) h.out.rows g) (ap (λ (x : Option (ℕ × PacketView)). with_pending t.sent x) empty ∙ sym (sent-same w.intake t e fetched.is_read))
       (begun h.out (with_pending t.sent w.pending) h.sender))
 
   -- the tree turned, and the sending end accepted what its top gave
@@ -194,7 +194,7 @@ module _ {O S : Type 0} (OS : O → Ledger → Type 0) (op : O → Op) (SS : S �
       → v.phase ≡ Running → v.pending ≡ None → x ≡ tree_want want w.tree → Fetches {E = E} m w.intake v.intake x (Ok g) e → IntakeStands w.intake t
       → ((low high : ℕ) → Numbered low high w.tree → Numbered low high v.tree)
       → ((low high : ℕ) (r : Reads) (out : Stream) → Numbered low high w.tree → TreeStands OS w.tree r out → TreeStands OS v.tree (read r (tree_want want w.tree) g) (heard out a))
-      → w.pending ≡ None → ((s : Stream) (put : ℕ → List Parcel) → SS w.sender goes s put → SS v.sender goes (heard s a) put)
+      → w.pending ≡ None → ((s : Stream) (put : ℕ → List PacketView) → SS w.sender goes s put → SS v.sender goes (heard s a) put)
       → ((s : Stream) → v.is_over ≡ true → (heard s a).over ≡ over.Ended)
       → IsRunning OS op SS task goes m w t → WorkerStands OS op SS task goes m v (added t e)
   turns want w v t e x g a phase pending wish fetched intake numbered stands empty accepts ends h =
@@ -211,8 +211,8 @@ module _ {O S : Type 0} (OS : O → Ledger → Type 0) (op : O → Op) (SS : S �
           out = heard h.out a;
           tree = stands h.low h.high h.reads h.out h.numbered h.tree;
           sender = subst (λ put. SS v.sender goes (heard h.out a) put)
-              (ap (λ (z : Option (ℕ × Parcel)). with_pending t.sent z) empty ∙ sym (sent-same w.intake t e fetched.is_read)
-              ∙ ap (λ (z : Option (ℕ × Parcel)). with_pending (added t e).sent z) (sym pending))
+              (ap (λ (z : Option (ℕ × PacketView)). with_pending t.sent z) empty ∙ sym (sent-same w.intake t e fetched.is_read)
+              ∙ ap (λ (z : Option (ℕ × PacketView)). with_pending (added t e).sent z) (sym pending))
               (accepts h.out (with_pending t.sent w.pending) h.sender);
           is_over = ends h.out;
         }),
@@ -241,7 +241,7 @@ module _ {O S : Type 0} (OS : O → Ledger → Type 0) (op : O → Op) (SS : S �
 
   -- nothing is left to put after the end
   pub ends-well : ((o : O) (l : Ledger) → OS o l → Told (op o) l) → (w : Worker O S) (s : S) (t : Trace) → w.pending ≡ None → w.is_over ≡ true
-      → ((a : Stream) (g : ℕ → List Parcel) → SS w.sender goes a g → a.over ≡ over.Ended → Finished goes (task s) a.rows g)
+      → ((a : Stream) (g : ℕ → List PacketView) → SS w.sender goes a g → a.over ≡ over.Ended → Finished goes (task s) a.rows g)
       → IsRunning OS op SS task goes m w t → IsWellBy m goes (shape op w.tree) (task s) t
   ends-well told w s t empty o drained h = record {
     reads = h.reads;

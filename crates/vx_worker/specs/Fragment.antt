@@ -2,11 +2,11 @@
 use Rattle.std.specs.Prelude.{ℕ, ◌≡◌, ◌<◌, List}
 use Rattle.vx_values.specs.Values.{Val, Row}
 use Rattle.vx_relations.specs.Relation.{Relation, Meets}
-use Rattle.vx_nodes.specs.Plan.{Plan, scan, unary, binary, exchange, size}
-use Rattle.vx_nodes.specs.Routes.{Router, sends_by}
-use Rattle.vx_nodes.specs.Streams.{workers}
-use Rattle.vx_nodes.specs.Types.{types_of}
-use Rattle.vx_ports.specs.Packets.{Parcel}
+use Rattle.vx_plan_nodes.specs.Plan.{Plan, scan, unary, binary, exchange, size}
+use Rattle.vx_plan_nodes.specs.Routes.{Router, sends_by}
+use Rattle.vx_plan_nodes.specs.Streams.{workers}
+use Rattle.vx_plan_nodes.specs.Types.{types_of}
+use Rattle.vx_ports.specs.Packets.{PacketView}
 use Rattle.vx_ops.specs.Ledger.{Stream, Ledger, Op, scan_op, one_op, two_op, receive, Makes, InputsEnded, Told}
 
 -- what a run is given, beside the plan. relation_of: the relation that the scan with a number reads; sizes: the workers of each size name;
@@ -42,7 +42,7 @@ fragment S w (exchange n c k merge p) =
 -- what the leaves read: the rows of the morsels at each scan, and the packets at each exchange
 pub record Reads : Type 0 where
   pub scanned : ℕ → Stream
-  pub came : ℕ → ℕ → List Parcel
+  pub came : ℕ → ℕ → List PacketView
 
 -- the ledger of a leaf is what was read under its number
 pub record LeafReads (k : ℕ) (r : Reads) (l : Ledger) : Type 0 where

@@ -1,8 +1,8 @@
 -- The trace of a worker, one event, and what an ended worker's trace says.
 use Rattle.std.specs.Prelude.{ℕ, ◌≡◌, ◌==◌, ◌⊎◌, List, [], ◌∷◌, ◌++◌, true, false, Option, Some, None, cond}
 use Rattle.vx_values.specs.Values.{Row}
-use Rattle.vx_nodes.specs.Routes.{Router}
-use Rattle.vx_ports.specs.Packets.{Parcel}
+use Rattle.vx_plan_nodes.specs.Routes.{Router}
+use Rattle.vx_ports.specs.Packets.{PacketView}
 use Rattle.vx_morsel.specs.Draws.{Draws}
 use Rattle.vx_worker.specs.Morsels.{morsel_of, morsels}
 use Rattle.vx_ops.specs.Ledger.{Stream}
@@ -19,14 +19,14 @@ use Rattle.vx_ops.specs.declared.fault.Over.TheVariants.{Ended, Failed}
 pub data Event : Type 0 where
   idle : Event
   drew_one : (scan : ℕ) → (number : Option ℕ) → Event
-  took_one : (exchange from : ℕ) → (packet : Option Parcel) → Event
-  put_one : (to : ℕ) → (packet : Parcel) → Event
+  took_one : (exchange from : ℕ) → (packet : Option PacketView) → Event
+  put_one : (to : ℕ) → (packet : PacketView) → Event
 
 -- the numbers drawn for each scan, the packets taken from each producer of each exchange, and those put to each consumer
 pub record Trace : Type 0 where
   pub drew : ℕ → Draws
-  pub came : ℕ → ℕ → List Parcel
-  pub sent : ℕ → List Parcel
+  pub came : ℕ → ℕ → List PacketView
+  pub sent : ℕ → List PacketView
 
 -- of a worker that made no step
 abbrev pub empty_trace : Trace

@@ -4,8 +4,8 @@ use Rattle.std.specs.List.{All}
 use Rattle.vx_values.specs.Values.{Val, Row}
 use Rattle.vx_rows.specs.Lists.{each_below}
 use Rattle.vx_values.specs.declared.value.ColType.{ColType}
-use Rattle.vx_nodes.specs.Routes.{Router}
-use Rattle.vx_ports.specs.Packets.{fault, Parcel, closes}
+use Rattle.vx_plan_nodes.specs.Routes.{Router}
+use Rattle.vx_ports.specs.Packets.{fault, PacketView, closes}
 use Rattle.vx_ops.specs.Ledger.{Stream, Ledger, Op}
 use Rattle.vx_ops.specs.Turn.{Shape, with_packet}
 use Rattle.vx_ops.specs.declared.fault.Over.TheVariants as over
@@ -23,17 +23,17 @@ use Rattle.vx_worker.specs.declared.worker.Outcome.{Outcome}
 use Rattle.vx_worker.specs.declared.worker.Outcome.TheVariants as outcome
 
 -- the packets put, with one that is still with the worker
-abbrev pub with_pending : (ℕ → List Parcel) → Option (ℕ × Parcel) → ℕ → List Parcel
+abbrev pub with_pending : (ℕ → List PacketView) → Option (ℕ × PacketView) → ℕ → List PacketView
 with_pending put None = put
 with_pending put (Some x) = with_packet put x.0 (Some x.1)
 
 -- and with each packet of a list
-abbrev pub with_all : (ℕ → List Parcel) → List Parcel → ℕ → List Parcel
+abbrev pub with_all : (ℕ → List PacketView) → List PacketView → ℕ → List PacketView
 with_all put [] = put
 with_all put (p ∷ ps) = with_packet (with_all put ps) p.to (Some p)
 
 -- Fault for each consumer: what a worker holds in order to close its ports
-abbrev pub closing_of : Post → List Parcel
+abbrev pub closing_of : Post → List PacketView
 closing_of (sends_by_ship s) = each_below s.consumers (λ j. packet_of s j fault)
 closing_of (keeps types) = []
 
@@ -56,8 +56,8 @@ fate_of (outcome.Failed f) = failed f
 
 -- it holds only packets that close
 pub record IsClosing {O S : Type 0} (w : Worker O S) : Type 0 where
-  pub closing : All (λ (p : Parcel). closes p.content ≡ true) w.closing.items
-  pub pending : (x : ℕ × Parcel) → w.pending ≡ Some x → closes x.1.content ≡ true
+  pub closing : All (λ (p : PacketView). closes p.content ≡ true) w.closing.items
+  pub pending : (x : ℕ × PacketView) → w.pending ≡ Some x → closes x.1.content ≡ true
 
 -- its sending end
 abbrev pub sender_of : {O S : Type 0} → Worker O S → S
@@ -83,7 +83,7 @@ module _ {O S : Type 0} (post : S → Post) (is_open has_closed : S → Bool) wh
   pub record IsGoing (w : Worker O S) : Type 0 where
     pub opens : w.is_over ≡ false → is_open w.sender ≡ true
     pub closing : w.closing.items ≡ closing_of (post w.sender)
-    pub pending : (x : ℕ × Parcel) → w.pending ≡ Some x → has_closed w.sender ≡ closes x.1.content
+    pub pending : (x : ℕ × PacketView) → w.pending ≡ Some x → has_closed w.sender ≡ closes x.1.content
 
   -- by phase
   abbrev pub IsReadyIn : Phase → Worker O S → Type 0
@@ -104,7 +104,7 @@ abbrev pub closed_trace : {O S : Type 0} → Worker O S → Trace → Trace
 closed_trace w t = record t { sent = with_all (with_pending t.sent w.pending) w.closing.items }
 
 -- when a worker may have done what a trace says, where rows go as `goes` says, and m says the rows of each scan's morsels
-module _ {O S : Type 0} (OS : O → Ledger → Type 0) (op : O → Op) (SS : S → Router → Stream → (ℕ → List Parcel) → Type 0) (task : S → Task) (goes : Router)
+module _ {O S : Type 0} (OS : O → Ledger → Type 0) (op : O → Op) (SS : S → Router → Stream → (ℕ → List PacketView) → Type 0) (task : S → Task) (goes : Router)
     (m : ℕ → ℕ → List Row) where
   -- while it runs: its tree read all that was drawn and taken, and its sending end accepted what the tree gave, and gave what was put and what is still here
   pub record IsRunning (w : Worker O S) (t : Trace) : Type 0 where

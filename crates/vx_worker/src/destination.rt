@@ -2,8 +2,8 @@
 
 use std::alloc::AllocError;
 use vx_exchange::{Collector, Sender, Sends};
-use vx_nodes::Router;
 use vx_ops::Polled;
+use vx_plan_nodes::Router;
 use vx_ports::Packet;
 
 /// Through the sending end of an exchange, or, at the root, to the rows of the answer.

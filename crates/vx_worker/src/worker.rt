@@ -5,8 +5,8 @@ use crate::tree::Tree;
 use crate::wires::{Morsels, Wires};
 use std::alloc::Global;
 use vx_exchange::Sends;
-use vx_nodes::Router;
 use vx_ops::{Code, Fault, Got, Polled, Source};
+use vx_plan_nodes::Router;
 use vx_ports::{Packet, Put};
 
 // Where a worker stands.
@@ -64,8 +64,8 @@ impl<O: Source, S: Sends> Worker<O, S> {
     ghost use Rattle.std.specs.List.{All};
     ghost use Rattle.vx_values.specs.Values.{Row};
     ghost use Rattle.vx_values.specs.declared.value.ColType.{ColType};
-    ghost use Rattle.vx_nodes.specs.Routes.{Router as Routing};
-    ghost use Rattle.vx_ports.specs.Packets.{Parcel, closes};
+    ghost use Rattle.vx_plan_nodes.specs.Routes.{Router as Routing};
+    ghost use Rattle.vx_ports.specs.Packets.{PacketView, closes};
     ghost use Rattle.vx_ops.specs.Ledger.{fresh};
     ghost use Rattle.vx_exchange.specs.Tasks.{post_types};
     ghost use Rattle.vx_exchange.specs.Sending.{RoutesAs};
@@ -317,7 +317,7 @@ impl<O: Source, S: Sends> Worker<O, S> {
         requires { IsClosing self.old }
         ensures closes { IfSome result (λ x. closes x.1.content ≡ true) }
         ensures closing { IsClosing self.new }
-        ensures some { IfSome result (λ x. (put : ℕ → List Parcel)
+        ensures some { IfSome result (λ x. (put : ℕ → List PacketView)
             → with_all (with_pending put self.old.pending) self.old.closing.items ≡ with_all (with_pending put (Some x)) self.new.closing.items) }
         ensures none { IfNone result ((self.old.pending ≡ None) × (self.old.closing.items ≡ [])) }
         ensures pending { self.new.pending ≡ None }

@@ -1,4 +1,4 @@
-use Rattle.vx_rules.proofs.Refusals.{refusal-decides}
+use Rattle.vx_check_rules.proofs.Refusals.{refusal-decides}
 use Rattle.vx_laws.proofs.refusal_decides.Goals as goal
 
 pub returns : goal.returns

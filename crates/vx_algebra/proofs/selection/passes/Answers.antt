@@ -2,8 +2,8 @@ use Rattle.std.proofs.Common.{◌≡◌, false, sym, ap, ◌∙◌}
 use Rattle.vx_values.specs.Values.{Val, val_cmp, value_at}
 use Rattle.vx_values.specs.ValueView.{cell_val, test_of}
 use Rattle.vx_rows.specs.View.{row}
-use Rattle.vx_nodes.specs.Serial.{side, answers}
-use Rattle.vx_nodes.specs.Outline.{side_of}
+use Rattle.vx_plan_nodes.specs.Serial.{side, answers}
+use Rattle.vx_plan_nodes.specs.Outline.{side_of}
 use Rattle.vx_algebra.proofs.Conditions.{holds_of, one-fails, whole-list}
 use Rattle.vx_algebra.proofs.selection.passes.Goals as goal
 

@@ -1,7 +1,7 @@
 use Rattle.std.proofs.Common.{◌≡◌, ◌≤◌, [], ◌++◌, take, filter}
 use Rattle.std.specs.List.{slice_range}
-use Rattle.vx_nodes.specs.Serial.{passes}
-use Rattle.vx_nodes.specs.Conditions.{conditions_of}
+use Rattle.vx_plan_nodes.specs.Serial.{passes}
+use Rattle.vx_plan_nodes.specs.Conditions.{conditions_of}
 use Rattle.vx_algebra.proofs.selection.passing.Given as goal
 
 abbrev pub invariant-loop-i : goal.invariant-loop-i

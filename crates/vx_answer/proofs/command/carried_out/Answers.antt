@@ -1,5 +1,5 @@
 use Rattle.std.proofs.Common.{rules, ◌≡◌}
-use Rattle.vx_typed.specs.TypedView.{resolved_of}
+use Rattle.vx_plan_nodes.specs.TypedView.{resolved_of}
 use Rattle.vx_bundle.specs.declared.command.Command.TheVariants as command
 use Rattle.vx_answer.proofs.Refusing.{rest_refused, serial_refused}
 use Rattle.vx_answer.proofs.command.carried_out.Goals as goal

@@ -1,5 +1,5 @@
-use Rattle.vx_typed.specs.TypedView.{resolved_of}
-use Rattle.vx_rules.specs.CheckedView.{typed_plan}
+use Rattle.vx_plan_nodes.specs.TypedView.{resolved_of}
+use Rattle.vx_check_rules.specs.CheckedView.{typed_plan}
 use Rattle.vx_answer.specs.Commanded.{for_tables}
 use Rattle.vx_answer.proofs.Refusing.{run_refused}
 use Rattle.vx_answer.proofs.run.run_plan.Goals as goal

@@ -1,4 +1,4 @@
-use Rattle.vx_typed.specs.TypedView.{resolved_of}
+use Rattle.vx_plan_nodes.specs.TypedView.{resolved_of}
 use Rattle.vx_answer.specs.Commanded.{for_texts}
 use Rattle.vx_answer.proofs.SerialFacts.{refuses}
 use Rattle.vx_answer.proofs.serial.serial_plan.Goals as goal

@@ -1,4 +1,4 @@
-use Rattle.vx_document.specs.PlanView.{document_of}
+use Rattle.vx_plan_json.specs.PlanView.{document_of}
 use Rattle.vx_answer.proofs.RunnableFacts.{resolve_runs}
 use Rattle.vx_answer.proofs.PlanFacts.{resolve_over}
 use Rattle.vx_answer.proofs.sources.plan_over.Goals as goal

@@ -1,4 +1,4 @@
-use Rattle.vx_typed.specs.TypedView.{resolved_of}
+use Rattle.vx_plan_nodes.specs.TypedView.{resolved_of}
 use Rattle.vx_answer.specs.Worded.{for_planning}
 use Rattle.vx_answer.specs.WordsView.{task_is}
 use Rattle.vx_answer.proofs.WordFacts.{task_refused}

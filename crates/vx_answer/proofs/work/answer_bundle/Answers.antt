@@ -1,5 +1,5 @@
 use Rattle.std.proofs.Common.{sym, ◌∙◌}
-use Rattle.vx_typed.specs.TypedView.{resolved_of}
+use Rattle.vx_plan_nodes.specs.TypedView.{resolved_of}
 use Rattle.vx_bundle.specs.BundleView.{bundle_form}
 use Rattle.vx_answer.specs.Answer.{for_planning}
 use Rattle.vx_answer.proofs.Outputs.{outputs}

@@ -1,6 +1,6 @@
 use Rattle.std.proofs.Common.{ℕ, ◌≡◌, ◌∙◌, ap, [], length, arith}
 use Rattle.std.proofs.lemmas.List.{length_push}
-use Rattle.vx_rows.specs.View.{Table}
+use Rattle.vx_rows.specs.View.{RowsView}
 use Rattle.vx_relations.specs.Relation.{Relation}
 use Rattle.vx_relations.specs.Catalog.{relation_at}
 use Rattle.vx_catalog.proofs.DatabaseFacts.{pushed, empty_database, all_empty}
@@ -12,9 +12,9 @@ loop-relation-preserved c =
     let long = length_push c.loop-relation.tables.items c.in_ok-new.field-0 in
     rw c.in_ok-push.ensures.items (record {
       many = long ∙ omega (arith, many);
-      types = pushed (λ (i : ℕ) (t : Table). t.types ≡ (relation_at c.args.catalog.now i).types) c.loop-relation.tables.items c.in_ok-new.field-0 c.loop-relation.relation many c.loop-relation.invariant.types
+      types = pushed (λ (i : ℕ) (t : RowsView). t.types ≡ (relation_at c.args.catalog.now i).types) c.loop-relation.tables.items c.in_ok-new.field-0 c.loop-relation.relation many c.loop-relation.invariant.types
           (c.in_ok-new.ensures.types ∙ (c.types.ensures ∙ ap (λ (r : Relation). r.types) c.get.ensures.value));
-      empty = pushed (λ (i : ℕ) (t : Table). t.rows ≡ []) c.loop-relation.tables.items c.in_ok-new.field-0 c.loop-relation.relation many c.loop-relation.invariant.empty c.in_ok-new.ensures.rows;
+      empty = pushed (λ (i : ℕ) (t : RowsView). t.rows ≡ []) c.loop-relation.tables.items c.in_ok-new.field-0 c.loop-relation.relation many c.loop-relation.invariant.empty c.in_ok-new.ensures.rows;
     })
 
 pub returns-clause-database : goal.returns-clause-database

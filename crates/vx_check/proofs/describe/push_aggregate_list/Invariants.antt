@@ -1,5 +1,5 @@
 use Rattle.std.proofs.Common.{◌≡◌, ◌++◌, ◌+◌, map, string_bytes, codes, false, drop, nat_lt}
-use Rattle.vx_nodes.specs.Outline.{aggregate_of}
+use Rattle.vx_plan_nodes.specs.Outline.{aggregate_of}
 use Rattle.vx_check.specs.Explain.{separated, aggregate_texts}
 use Rattle.vx_check.proofs.describe.push_aggregate_list.Given as goal
 

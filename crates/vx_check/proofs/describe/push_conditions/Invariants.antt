@@ -1,5 +1,5 @@
 use Rattle.std.proofs.Common.{◌≡◌, ◌++◌, map, string_bytes, codes, false, drop, nat_lt}
-use Rattle.vx_nodes.specs.Outline.{condition_of}
+use Rattle.vx_plan_nodes.specs.Outline.{condition_of}
 use Rattle.vx_check.specs.Explain.{separated, condition_text}
 use Rattle.vx_check.proofs.describe.push_conditions.Given as goal
 

@@ -1,6 +1,6 @@
 use Rattle.std.proofs.Common.{◌<◌, ◌≡◌, ◌∙◌, ap, List, true, length, sym, subst, arith, Some, slice_get}
 use Rattle.std.proofs.lemmas.Option.{slice_get_within}
-use Rattle.vx_exchange.specs.Outlet.{Outlet}
+use Rattle.vx_exchange.specs.LaneView.{LaneView}
 use Rattle.vx_exchange.proofs.LaneLists.{unchanged, read-at, below-set, all-from_lanes}
 use Rattle.vx_exchange.proofs.lanes.close_next.Goals as goal
 
@@ -11,13 +11,13 @@ loop-consumer-preserved c =
     let i = c.loop-consumer.invariant in
     let o = c.index_mut.result.now in
     let o' = c.close.new.self in
-    let many = ap (λ (zs : List Outlet). length zs) i.0 in
+    let many = ap (λ (zs : List LaneView). length zs) i.0 in
     let test = c.loop-consumer-test.true in
     let end = c.len-consumer-end.ensures in
     let within : k < length items = omega (arith, many, test, end) in
     let same = c.in_default.ensures.same in (
       unchanged items k o o' c.index_mut.ensures.value same ∙ i.0,
-      below-set (λ z. z.closed ≡ true) items k o' within (ap (λ (z : Outlet). z.closed) same ∙ c.in_default.ensures.none) i.1,
+      below-set (λ z. z.closed ≡ true) items k o' within (ap (λ (z : LaneView). z.closed) same ∙ c.in_default.ensures.none) i.1,
     )
 
 pub returns-clause-none : goal.returns-clause-none

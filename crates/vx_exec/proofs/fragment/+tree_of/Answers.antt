@@ -1,5 +1,5 @@
 use Rattle.std.proofs.Common.{◌≡◌, true, subst}
-use Rattle.vx_nodes.specs.Outline.{plan_of, claim_of}
+use Rattle.vx_plan_nodes.specs.Outline.{plan_of, claim_of}
 use Rattle.vx_setup.specs.Runnable.{can_run}
 use Rattle.vx_exec.proofs.fragment.+tree_of.Goals as goal
 

@@ -1,7 +1,7 @@
 use Rattle.std.proofs.Common.{ap, subst, sym, ◌∙◌, map}
 use Rattle.vx_ops.specs.Ledger.{one_op}
-use Rattle.vx_nodes.specs.Outline.{unary_of, condition_of}
-use Rattle.vx_nodes.specs.Plan.{unary as over, select}
+use Rattle.vx_plan_nodes.specs.Outline.{unary_of, condition_of}
+use Rattle.vx_plan_nodes.specs.Plan.{unary as over, select}
 use Rattle.vx_worker.specs.declared.operator.Operator.TheVariants as operator
 use Rattle.vx_worker.specs.declared.tree.Tree.{One}
 use Rattle.vx_exec.specs.Crew.{IsTreeOf}

@@ -1,6 +1,6 @@
-use Rattle.vx_typed.specs.TypedView.{plan as whole_plan}
-use Rattle.vx_nodes.specs.Types.{types_of}
-use Rattle.vx_rules.specs.Checked.{relations}
+use Rattle.vx_plan_nodes.specs.TypedView.{plan as whole_plan}
+use Rattle.vx_plan_nodes.specs.Types.{types_of}
+use Rattle.vx_check_rules.specs.Checked.{relations}
 use Rattle.vx_exec.proofs.Finishing.{job-accepted, ready-parts, has-run, first-types, not-passed, comes-done, comes-failed, comes-first}
 use Rattle.vx_exec.proofs.run.run_job.Goals as goal
 
@@ -11,7 +11,7 @@ answer_of-requires g c =
     let parts = c.into_parts-workers in
     let ok = job-accepted j hash (g.met.R.Router.in_range c.args.router.now) c.meets.ensures c.requires.allowed c.requires.root in
     let begun = ready-parts j hash ok c.in_ok-crew.crew parts.result.0 parts.result.1 parts.ensures.workers parts.ensures.links (c.in_ok-crew.ensures.ready hash) in
-    let end = c.finish_rounds-verdict in
+    let end = c.judge_rounds-verdict in
     let run = has-run j hash parts.result.0.items end.new.workers.items parts.result.1 end.result begun end.ensures.roles end.ensures.answers end.ensures.first in
     record {
       there = λ e. run.keeps.some;
@@ -26,7 +26,7 @@ returns g c =
     let parts = c.into_parts-workers in
     let ok = job-accepted j hash (g.met.R.Router.in_range c.args.router.now) c.meets.ensures c.requires.allowed c.requires.root in
     let begun = ready-parts j hash ok c.in_ok-crew.crew parts.result.0 parts.result.1 parts.ensures.workers parts.ensures.links (c.in_ok-crew.ensures.ready hash) in
-    let end = c.finish_rounds-verdict in
+    let end = c.judge_rounds-verdict in
     let run = has-run j hash parts.result.0.items end.new.workers.items parts.result.1 end.result begun end.ensures.roles end.ensures.answers end.ensures.first in
     record {
       done = comes-done end.result c.answer_of.result run c.answer_of.ensures;

@@ -1,6 +1,6 @@
 use Rattle.std.proofs.Common.{◌⊎◌, inl, inr, subst, sym, ◌∙◌, IfErr}
-use Rattle.vx_typed.specs.TypedView.{resolved_of, plan as whole_plan}
-use Rattle.vx_rules.specs.CheckedView.{typed_plan}
+use Rattle.vx_plan_nodes.specs.TypedView.{resolved_of, plan as whole_plan}
+use Rattle.vx_check_rules.specs.CheckedView.{typed_plan}
 use Rattle.vx_steps.specs.Roles.{crew_size}
 use Rattle.vx_exec.specs.Job.{sizes_of}
 use Rattle.vx_exec.specs.Sizes.{Sizes, group_at, setting}

@@ -1,5 +1,5 @@
-use Rattle.vx_typed.specs.TypedView.{plan as whole_plan, resolved_of}
-use Rattle.vx_nodes.specs.Types.{types_of}
+use Rattle.vx_plan_nodes.specs.TypedView.{plan as whole_plan, resolved_of}
+use Rattle.vx_plan_nodes.specs.Types.{types_of}
 use Rattle.std.proofs.Common.{◌<◌, ℕ, inl, inr, subst}
 use Rattle.std.specs.List.{All}
 use Rattle.vx_steps.specs.Roles.{crew_size}
@@ -8,7 +8,7 @@ use Rattle.vx_exec.specs.Sizes.{group_at}
 use Rattle.vx_exec.specs.Runs.{IsTrueOf, IsFirstTold, IsBadStepOf}
 use Rattle.vx_exec.specs.Job.{setting_of}
 use Rattle.vx_setup.specs.declared.fault.RunFault.{RunFault}
-use Rattle.vx_rules.specs.Checked.{relations}
+use Rattle.vx_check_rules.specs.Checked.{relations}
 use Rattle.vx_exec.proofs.Outcomes.{failed-or, names-told}
 use Rattle.vx_exec.proofs.Finishing.{job-accepted, ready-parts, ready-count, has-run, first-types, not-passed, comes-done, comes-failed, comes-first}
 use Rattle.vx_exec.proofs.run.schedule_job.Goals as goal
@@ -20,7 +20,7 @@ answer_of-requires g c =
     let parts = c.into_parts-workers in
     let ok = job-accepted j hash (g.met.R.Router.in_range c.args.router.now) c.meets.ensures c.requires.allowed c.requires.root in
     let begun = ready-parts j hash ok c.in_ok-crew.crew parts.result.0 parts.result.1 parts.ensures.workers parts.ensures.links (c.in_ok-crew.ensures.ready hash) in
-    let end = c.finish_steps in
+    let end = c.judge_schedule in
     let run = has-run j hash parts.result.0.items end.new.workers.items parts.result.1 c.in-Ok.verdict begun end.ensures.roles c.in-Ok.ensures.answers c.in-Ok.ensures.first in
     record {
       there = λ e. run.keeps.some;
@@ -35,7 +35,7 @@ returns-in-Ok g c =
     let parts = c.into_parts-workers in
     let ok = job-accepted j hash (g.met.R.Router.in_range c.args.router.now) c.meets.ensures c.requires.allowed c.requires.root in
     let begun = ready-parts j hash ok c.in_ok-crew.crew parts.result.0 parts.result.1 parts.ensures.workers parts.ensures.links (c.in_ok-crew.ensures.ready hash) in
-    let end = c.finish_steps in
+    let end = c.judge_schedule in
     let run = has-run j hash parts.result.0.items end.new.workers.items parts.result.1 c.in-Ok.verdict begun end.ensures.roles c.in-Ok.ensures.answers c.in-Ok.ensures.first in
     let p = whole_plan j.plan.now in
     let count : ℕ = crew_size (group_at j.groups.items) p in

@@ -1,5 +1,5 @@
 use Rattle.std.proofs.Common.{ap, ◌∙◌, map, sym, subst}
-use Rattle.vx_nodes.specs.Outline.{plan_of}
+use Rattle.vx_plan_nodes.specs.Outline.{plan_of}
 use Rattle.vx_steps.specs.Crews.{duty_of}
 use Rattle.vx_exchange.specs.Sending.{RoutesAs}
 use Rattle.vx_exchange.specs.Tasks.{Post}

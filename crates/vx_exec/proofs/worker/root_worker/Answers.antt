@@ -1,5 +1,5 @@
 use Rattle.std.proofs.Common.{ap, ◌∙◌, map}
-use Rattle.vx_nodes.specs.Outline.{plan_of}
+use Rattle.vx_plan_nodes.specs.Outline.{plan_of}
 use Rattle.vx_steps.specs.Crews.{duty_of}
 use Rattle.vx_worker.specs.Destination.{post_of}
 use Rattle.vx_worker.specs.Intake.{source_of}

@@ -1,6 +1,6 @@
 use Rattle.std.proofs.Common.{◌≡◌, [], map, drop, string_bytes}
 use Rattle.vx_plan.specs.Lookup.{walk_onto}
-use Rattle.vx_document.specs.Document.{pair_form}
+use Rattle.vx_plan_json.specs.Document.{pair_form}
 use Rattle.vx_plan.specs.Resolve.{pair_found}
 use Rattle.vx_plan.proofs.binary_nodes.pairs_found.Given as goal
 

@@ -1,5 +1,5 @@
 use Rattle.std.proofs.Common.{◌≡◌, map, take, string_bytes}
-use Rattle.vx_document.specs.Document.{output_form}
+use Rattle.vx_plan_json.specs.Document.{output_form}
 use Rattle.vx_plan.specs.Resolve.{output_name}
 use Rattle.vx_plan.proofs.columns.output_names.Given as goal
 

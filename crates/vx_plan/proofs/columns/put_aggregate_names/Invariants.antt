@@ -1,5 +1,5 @@
 use Rattle.std.proofs.Common.{◌≡◌, ◌++◌, map, take, string_bytes}
-use Rattle.vx_document.specs.Document.{aggregate_form}
+use Rattle.vx_plan_json.specs.Document.{aggregate_form}
 use Rattle.vx_plan.proofs.columns.put_aggregate_names.Given as goal
 
 abbrev pub invariant-loop-aggregate : goal.invariant-loop-aggregate

@@ -1,6 +1,6 @@
 use Rattle.std.proofs.Common.{◌≡◌, ◌++◌, map, take}
-use Rattle.vx_nodes.specs.Outline.{aggregate_of}
-use Rattle.vx_nodes.specs.Types.{aggregate_type}
+use Rattle.vx_plan_nodes.specs.Outline.{aggregate_of}
+use Rattle.vx_plan_nodes.specs.Types.{aggregate_type}
 use Rattle.vx_plan.proofs.columns.put_aggregate_types.Given as goal
 
 abbrev pub invariant-loop-aggregate : goal.invariant-loop-aggregate

@@ -1,6 +1,6 @@
 use Rattle.std.specs.Prelude.{◌+◌, ◌*◌}
-use Rattle.vx_nodes.specs.Numbering.{nodes}
-use Rattle.vx_nodes.specs.Outline.{plan_of}
+use Rattle.vx_plan_nodes.specs.Numbering.{nodes}
+use Rattle.vx_plan_nodes.specs.Outline.{plan_of}
 use Rattle.vx_plan.proofs.erasing.+nodes.Given as goal
 
 abbrev pub decreases-erased_from : goal.decreases-erased_from

@@ -1,10 +1,10 @@
 use Rattle.std.proofs.Common.{ap, ◌∙◌, arith}
-use Rattle.vx_nodes.specs.Erase.{erase}
-use Rattle.vx_nodes.specs.Outline.{outline_of, plan_in}
-use Rattle.vx_typed.specs.TypedView.{scope}
+use Rattle.vx_plan_nodes.specs.Erase.{erase}
+use Rattle.vx_plan_nodes.specs.Outline.{outline_of, plan_in}
+use Rattle.vx_plan_nodes.specs.TypedView.{scope}
 use Rattle.vx_relations.specs.Catalog.{relation_at}
-use Rattle.vx_typed.proofs.ErasedFacts.{erased-plan, erased-is-typed}
-use Rattle.vx_typed.proofs.OutputFacts.{erased-outputs}
+use Rattle.vx_plan_nodes.proofs.ErasedFacts.{erased-plan, erased-is-typed}
+use Rattle.vx_plan_nodes.proofs.OutputFacts.{erased-outputs}
 use Rattle.vx_plan.proofs.erasing.erase.Goals as goal
 
 pub new-requires-clause-typed : goal.new-requires-clause-typed

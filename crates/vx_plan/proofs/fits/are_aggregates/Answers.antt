@@ -1,6 +1,6 @@
 use Rattle.std.proofs.Common.{sym, ◌∙◌}
-use Rattle.vx_typed.specs.Typed.{is_aggregate}
-use Rattle.vx_nodes.specs.Outline.{aggregate_of}
+use Rattle.vx_plan_nodes.specs.Typed.{is_aggregate}
+use Rattle.vx_plan_nodes.specs.Outline.{aggregate_of}
 use Rattle.std.proofs.lemmas.List.Folds.{list_all-map}
 use Rattle.vx_plan.proofs.fits.are_aggregates.Goals as goal
 

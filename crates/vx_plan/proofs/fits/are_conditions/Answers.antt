@@ -1,6 +1,6 @@
 use Rattle.std.proofs.Common.{sym, ◌∙◌}
-use Rattle.vx_typed.specs.Typed.{is_condition}
-use Rattle.vx_nodes.specs.Outline.{condition_of}
+use Rattle.vx_plan_nodes.specs.Typed.{is_condition}
+use Rattle.vx_plan_nodes.specs.Outline.{condition_of}
 use Rattle.std.proofs.lemmas.List.Folds.{list_all-map}
 use Rattle.vx_plan.proofs.fits.are_conditions.Goals as goal
 

@@ -1,5 +1,5 @@
 use Rattle.std.proofs.Common.{◌≡◌, drop}
-use Rattle.vx_typed.specs.Typed.{types_eq}
+use Rattle.vx_plan_nodes.specs.Typed.{types_eq}
 use Rattle.vx_plan.proofs.fits.are_same_types.Given as goal
 
 abbrev pub invariant-loop-i : goal.invariant-loop-i

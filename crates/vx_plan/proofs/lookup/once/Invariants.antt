@@ -1,6 +1,6 @@
 use Rattle.std.proofs.Common.{◌≡◌, [], map, drop, take, string_bytes}
 use Rattle.vx_plan.specs.Lookup.{tested_onto, is_among}
-use Rattle.vx_document.specs.Fault.{duplicate_column}
+use Rattle.vx_plan_json.specs.Fault.{duplicate_column}
 use Rattle.vx_plan.proofs.lookup.once.Given as goal
 
 abbrev pub invariant-loop-i : goal.invariant-loop-i

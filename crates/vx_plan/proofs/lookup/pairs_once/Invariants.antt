@@ -1,7 +1,7 @@
 use Rattle.std.proofs.Common.{◌≡◌, [], map, drop, take}
-use Rattle.vx_document.specs.Document.{pair_form}
+use Rattle.vx_plan_json.specs.Document.{pair_form}
 use Rattle.vx_plan.specs.Lookup.{tested_onto, is_among_pairs}
-use Rattle.vx_document.specs.Fault.{duplicate_column}
+use Rattle.vx_plan_json.specs.Fault.{duplicate_column}
 use Rattle.vx_plan.proofs.lookup.pairs_once.Given as goal
 
 abbrev pub invariant-loop-i : goal.invariant-loop-i

@@ -1,6 +1,6 @@
 use Rattle.std.proofs.Common.{◌≡◌, [], map, drop, take}
 use Rattle.vx_values.specs.Ranges.{range_form}
-use Rattle.vx_document.specs.Fault.{bad_range}
+use Rattle.vx_plan_json.specs.Fault.{bad_range}
 use Rattle.vx_plan.specs.Lookup.{tested_onto}
 use Rattle.vx_plan.specs.Resolve.{is_bad_range}
 use Rattle.vx_plan.proofs.resolving.ranges_tested.Given as goal

@@ -1,5 +1,5 @@
 use Rattle.std.proofs.Common.{◌≡◌, [], map, drop, take, string_bytes}
-use Rattle.vx_document.specs.Fault.{bad_size}
+use Rattle.vx_plan_json.specs.Fault.{bad_size}
 use Rattle.vx_plan.specs.Lookup.{tested_onto}
 use Rattle.vx_plan.specs.Resolve.{is_bad_size}
 use Rattle.vx_plan.proofs.resolving.sizes_tested.Given as goal

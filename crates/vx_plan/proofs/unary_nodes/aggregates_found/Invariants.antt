@@ -1,7 +1,7 @@
 use Rattle.std.proofs.Common.{◌≡◌, [], map, drop, string_bytes}
 use Rattle.vx_plan.specs.Lookup.{walk_onto}
-use Rattle.vx_document.specs.Document.{aggregate_form}
-use Rattle.vx_nodes.specs.Outline.{aggregate_of}
+use Rattle.vx_plan_json.specs.Document.{aggregate_form}
+use Rattle.vx_plan_nodes.specs.Outline.{aggregate_of}
 use Rattle.vx_plan.specs.Resolve.{function_found}
 use Rattle.vx_plan.proofs.unary_nodes.aggregates_found.Given as goal
 

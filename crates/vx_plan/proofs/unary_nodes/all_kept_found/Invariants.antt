@@ -1,6 +1,6 @@
 use Rattle.std.proofs.Common.{◌≡◌, [], map, drop, string_bytes}
 use Rattle.vx_plan.specs.Lookup.{walk_onto}
-use Rattle.vx_document.specs.Document.{output_form}
+use Rattle.vx_plan_json.specs.Document.{output_form}
 use Rattle.vx_plan.specs.Resolve.{kept_found}
 use Rattle.vx_plan.proofs.unary_nodes.all_kept_found.Given as goal
 

@@ -1,7 +1,7 @@
 use Rattle.std.proofs.Common.{◌≡◌, [], map, drop, string_bytes}
 use Rattle.vx_plan.specs.Lookup.{walk_onto}
-use Rattle.vx_document.specs.Document.{condition_form}
-use Rattle.vx_nodes.specs.Outline.{condition_of}
+use Rattle.vx_plan_json.specs.Document.{condition_form}
+use Rattle.vx_plan_nodes.specs.Outline.{condition_of}
 use Rattle.vx_plan.specs.Resolve.{condition_found}
 use Rattle.vx_plan.proofs.unary_nodes.conditions_found.Given as goal
 

@@ -1,7 +1,7 @@
 use Rattle.std.proofs.Common.{rules, ◌≡◌, ◌∙◌, sym, ap, subst, List, None}
 use Rattle.vx_relations.specs.Relation.{Relation}
-use Rattle.vx_nodes.specs.Outline.{plan_of, plan_in}
-use Rattle.vx_typed.specs.TypedView.{scope, resolved_of}
+use Rattle.vx_plan_nodes.specs.Outline.{plan_of, plan_in}
+use Rattle.vx_plan_nodes.specs.TypedView.{scope, resolved_of}
 use Rattle.vx_serial.specs.Evaluated.{first_exchange, IsFit}
 use Rattle.vx_serial.specs.Results.{IsPlain}
 use Rattle.vx_serial.proofs.Answered.{serial-rows, serial-fails}

@@ -1,13 +1,13 @@
 use Rattle.std.proofs.Common.{◌≡◌, ◌∙◌, true, ap, sym, subst}
 use Rattle.std.specs.Cow.{cow_value}
-use Rattle.vx_rows.specs.View.{Table}
-use Rattle.vx_nodes.specs.Outline.{binary_of}
-use Rattle.vx_typed.specs.Typed.{is_binary}
-use Rattle.vx_nodes.specs.declared.typed.Binary.{Binary}
+use Rattle.vx_rows.specs.View.{RowsView}
+use Rattle.vx_plan_nodes.specs.Outline.{binary_of}
+use Rattle.vx_plan_nodes.specs.Typed.{is_binary}
+use Rattle.vx_plan_nodes.specs.declared.typed.Binary.{Binary}
 use Rattle.vx_serial.proofs.ColumnFacts.{union-types}
 use Rattle.vx_serial.proofs.operators.binary_rows.Goals as goal
 
 pub united-requires : goal.united-requires
 united-requires c =
     let P : Binary → Type 0 = λ b. is_binary (cow_value c.args.left).types c.args.right.now.types (binary_of b) ≡ true in
-    union-types (cow_value c.args.left).types c.args.right.now.types (subst P c.in-Union.is c.requires) ∙ ap (λ (t : Table). t.types) (sym c.in_ok-owned-in-Union.ensures)
+    union-types (cow_value c.args.left).types c.args.right.now.types (subst P c.in-Union.is c.requires) ∙ ap (λ (t : RowsView). t.types) (sym c.in_ok-owned-in-Union.ensures)

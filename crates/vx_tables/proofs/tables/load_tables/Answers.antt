@@ -1,5 +1,5 @@
 use Rattle.std.proofs.Common.{arith, ◌≡◌, ◌∙◌, ◌<◌, length, true, sym, ap}
-use Rattle.vx_typed.specs.TypedView.{scope, plan as plan_of_typed}
+use Rattle.vx_plan_nodes.specs.TypedView.{scope, plan as plan_of_typed}
 use Rattle.vx_tables.specs.Filled.{scans}
 use Rattle.vx_tables.proofs.FillFacts.{filled_none, stops_at}
 use Rattle.vx_tables.proofs.tables.load_tables.Goals as goal

@@ -1,4 +1,4 @@
-use Rattle.vx_typed.specs.TypedView.{scope, plan}
+use Rattle.vx_plan_nodes.specs.TypedView.{scope, plan}
 use Rattle.vx_tables.proofs.FillFacts.{IsFilledTo}
 use Rattle.vx_tables.proofs.tables.load_tables.Given as goal
 

@@ -1,5 +1,5 @@
 use Rattle.std.proofs.Common.{◌≡◌, ◌≤◌, ◌-◌, length, take}
-use Rattle.vx_exchange.specs.Outlet.{Cuts}
+use Rattle.vx_exchange.specs.LaneView.{Cuts}
 use Rattle.vx_exchange.proofs.lane.Lane.fill_all.Given as goal
 
 abbrev pub invariant-loop-from : goal.invariant-loop-from

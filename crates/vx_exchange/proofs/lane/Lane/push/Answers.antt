@@ -1,19 +1,19 @@
 use Rattle.std.proofs.Common.{rules, ◌≡◌, false, true≢false, sym, ap, ◌∙◌}
 use Rattle.std.proofs.lemmas.List.Elements.{All-push, All-same}
-use Rattle.vx_ports.specs.Packets.{Parcel, closes}
-use Rattle.vx_exchange.specs.Outlet.{Outlet, is_given}
+use Rattle.vx_ports.specs.Packets.{PacketView, closes}
+use Rattle.vx_exchange.specs.LaneView.{LaneView, is_given}
 use Rattle.vx_exchange.proofs.lane.Lane.push.Goals as goal
 
 pub invariant_of-self : goal.invariant_of-self
 invariant_of-self c =
     let i = c.self.invariant in
-    let still : is_given c.self.inside.closing ≡ false = ap (λ (o : Outlet). o.closed) c.self.view_is ∙ c.requires.open in
-    let P : Parcel → Type 0 = λ p. closes p.content ≡ false in
+    let still : is_given c.self.inside.closing ≡ false = ap (λ (o : LaneView). o.closed) c.self.view_is ∙ c.requires.open in
+    let P : PacketView → Type 0 = λ p. closes p.content ≡ false in
     record {
       some = i.some;
       few = i.few;
       shorter = i.shorter;
       none_after = λ e. absurd (true≢false (sym e ∙ still));
-      of_rows = All-same P c.push_back.new.self.items _ (search rules) (All-push P c.self.inside.ready.items c.of_rows-packet.result i.of_rows (ap (λ (p : Parcel). closes p.content) c.of_rows-packet.ensures));
+      of_rows = All-same P c.push_back.new.self.items _ (search rules) (All-push P c.self.inside.ready.items c.of_rows-packet.result i.of_rows (ap (λ (p : PacketView). closes p.content) c.of_rows-packet.ensures));
       keeps = i.keeps;
     }

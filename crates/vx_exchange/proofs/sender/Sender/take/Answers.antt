@@ -1,6 +1,6 @@
 use Rattle.std.proofs.Common.{refl}
 use Rattle.std.proofs.lemmas.List.{length-map}
-use Rattle.vx_exchange.specs.Outlet.{Outlet}
+use Rattle.vx_exchange.specs.LaneView.{LaneView}
 use Rattle.vx_exchange.specs.Lanes.{ways_of, any_closed}
 use Rattle.vx_exchange.specs.Sender.{sender_ship}
 use Rattle.vx_exchange.proofs.LaneLists.{same-ship, numbered-way}
@@ -16,7 +16,7 @@ returns-in-Gave-clause-ok g c =
     let same = c.deal_rows.ensures.same in
     rw (c.in-Gave.is, is_open.0) (λ goes routes a put h.
     in-ship goes (sender_ship s) _ _ new _ put (same-ship s.deal s.deal old new refl same)
-    (sender-takes goes (sender_ship s) old new a put c.in-Gave.rows.rows (length-map old (λ (z : Outlet). z.way)) (numbered-way s.deal old s.numbered) same (c.in_ok-deal_rows-in-Gave.ensures.ok goes routes) h))
+    (sender-takes goes (sender_ship s) old new a put c.in-Gave.rows.rows (length-map old (λ (z : LaneView). z.way)) (numbered-way s.deal old s.numbered) same (c.in_ok-deal_rows-in-Gave.ensures.ok goes routes) h))
 
 pub returns-in-End-clause-ok : goal.returns-in-End-clause-ok
 returns-in-End-clause-ok g c =

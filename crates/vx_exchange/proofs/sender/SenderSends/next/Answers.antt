@@ -2,8 +2,8 @@ use Rattle.std.proofs.Common.{◌≡◌, ◌∙◌, ◌&&◌, not, ℕ, List, tr
 use Rattle.std.specs.Prelude.{IfNone}
 use Rattle.std.proofs.lemmas.List.{length-map}
 use Rattle.std.proofs.lemmas.Option.{IfSome_then}
-use Rattle.vx_ports.specs.Packets.{Parcel, closes, last, fault}
-use Rattle.vx_exchange.specs.Outlet.{Way, Outlet}
+use Rattle.vx_ports.specs.Packets.{PacketView, closes, last, fault}
+use Rattle.vx_exchange.specs.LaneView.{Way, LaneView}
 use Rattle.vx_exchange.specs.Lanes.{ways_of, ship_of, may_close, AreNumbered}
 use Rattle.vx_exchange.specs.Ship.{IsShipped, IsCutShort}
 use Rattle.vx_exchange.specs.Sender.{takes_more, SenderAt}
@@ -103,9 +103,9 @@ invariant_of-self-in-Ending c =
     let k = c.in_default.ensures.same in
     let e = c.close_next.ensures in
     let w = closed-ways last mid new c.close_next.result e.some e.same in
-    let count = ways-count mid new w ∙ ap (λ (zs : List Outlet). length zs) k in
+    let count = ways-count mid new w ∙ ap (λ (zs : List LaneView). length zs) k in
     let N : List Way → Type 0 = λ ws. AreNumbered s.deal ws in
-    let I : List Outlet → Type 0 = λ zs. All (λ o. o.ready ≡ []) zs in
+    let I : List LaneView → Type 0 = λ zs. All (λ o. o.ready ≡ []) zs in
     record {
       numbered = subst N (sym (w ∙ ap ways_of k)) s.numbered;
       served = served-same s.deal old new count s.served;
@@ -118,11 +118,11 @@ returns-in-Ending-clause-some c =
     let s = c.args.self.now in
     let mid = c.next_packet-in-Ending.new.lanes.items in
     let k = c.in_default.ensures.same in
-    let N : List Outlet → Type 0 = λ zs. AreNumbered s.deal (ways_of zs) in
-    let I : List Outlet → Type 0 = λ zs. All (λ o. o.ready ≡ []) zs in
+    let N : List LaneView → Type 0 = λ zs. AreNumbered s.deal (ways_of zs) in
+    let I : List LaneView → Type 0 = λ zs. All (λ o. o.ready ≡ []) zs in
     let C : Stage → Type 0 = λ st. closes-with st last in
     IfSome_then c.close_next.result c.close_next.ensures.some (λ x p. λ goes a g h.
-    let H : List Outlet → Type 0 = λ zs. SenderAt goes (ship_of s.deal (ways_of zs)) s.stage zs a g in
+    let H : List LaneView → Type 0 = λ zs. SenderAt goes (ship_of s.deal (ways_of zs)) s.stage zs a g in
     closes-now goes s.deal s.stage last mid c.close_next.new.lanes.items a g x.0 x.1 (subst N (sym k) s.numbered) (subst I (sym k) c.in_default.ensures.none) (subst C (sym c.in-Ending.is) refl) p
     (subst H (sym k) h))
 
@@ -132,11 +132,11 @@ returns-in-Ending-clause-drained c =
     let old = s.lanes.items in
     let k = c.in_default.ensures.same in
     let e = c.close_next.ensures in
-    let I : List Outlet → Type 0 = λ zs. All (λ o. o.closed ≡ true) zs in
+    let I : List LaneView → Type 0 = λ zs. All (λ o. o.closed ≡ true) zs in
     both-none c.close_next.result e.none e.same (λ closed same. λ goes a g h _.
-    let D : List Outlet → Type 0 = λ zs. IsShipped goes (ship_of s.deal (ways_of zs)) a.rows g in
+    let D : List LaneView → Type 0 = λ zs. IsShipped goes (ship_of s.deal (ways_of zs)) a.rows g in
     let H : Stage → Type 0 = λ st. SenderAt goes (ship_of s.deal (ways_of old)) st old a g in
-    subst D (sym (same ∙ k)) (sender-shipped goes (ship_of s.deal (ways_of old)) old a g (length-map old (λ (z : Outlet). z.way)) (subst I k closed) c.in_default.ensures.none (subst H c.in-Ending.is h)))
+    subst D (sym (same ∙ k)) (sender-shipped goes (ship_of s.deal (ways_of old)) old a g (length-map old (λ (z : LaneView). z.way)) (subst I k closed) c.in_default.ensures.none (subst H c.in-Ending.is h)))
 
 pub invariant_of-self-in-Failing : goal.invariant_of-self-in-Failing
 invariant_of-self-in-Failing c =
@@ -170,15 +170,15 @@ returns-in-Failing-clause-cut c =
     let old = s.lanes.items in
     let e = c.close_next-in-Failing.ensures in
     both-none c.close_next-in-Failing.result e.none e.same (λ closed same. λ goes a g h f _.
-    let D : List Outlet → Type 0 = λ zs. IsCutShort goes (ship_of s.deal (ways_of zs)) a.rows g in
+    let D : List LaneView → Type 0 = λ zs. IsCutShort goes (ship_of s.deal (ways_of zs)) a.rows g in
     let H : Stage → Type 0 = λ st. SenderAt goes (ship_of s.deal (ways_of old)) st old a g in
-    subst D (sym same) (sender-cut goes (ship_of s.deal (ways_of old)) old a g (length-map old (λ (z : Outlet). z.way)) closed (subst H c.in-Failing.is h)))
+    subst D (sym same) (sender-cut goes (ship_of s.deal (ways_of old)) old a g (length-map old (λ (z : LaneView). z.way)) closed (subst H c.in-Failing.is h)))
 
 pub returns-in-Failing-clause-closing : goal.returns-in-Failing-clause-closing
 returns-in-Failing-clause-closing c =
     let s = c.args.self.now in
     IfSome_then c.close_next-in-Failing.result c.close_next-in-Failing.ensures.some (λ x p.
-    closes-somewhere fault s.lanes.items c.close_next-in-Failing.new.lanes.items x.0 x.1 p ∙ sym (ap (λ (z : Parcel). closes z.content) p.packet))
+    closes-somewhere fault s.lanes.items c.close_next-in-Failing.new.lanes.items x.0 x.1 p ∙ sym (ap (λ (z : PacketView). closes z.content) p.packet))
 
 pub returns-in-Failing-clause-post : goal.returns-in-Failing-clause-post
 returns-in-Failing-clause-post c =

@@ -1,7 +1,7 @@
 use Rattle.std.proofs.Common.{◌≡◌, true, arith, refl, sym, subst, length}
-use Rattle.vx_nodes.specs.Outline.{plan_of, claim_of, size_of, unary_of, kind_of}
-use Rattle.vx_nodes.specs.Plan.{gather, size}
-use Rattle.vx_nodes.specs.Streams.{workers}
+use Rattle.vx_plan_nodes.specs.Outline.{plan_of, claim_of, size_of, unary_of, kind_of}
+use Rattle.vx_plan_nodes.specs.Plan.{gather, size}
+use Rattle.vx_plan_nodes.specs.Streams.{workers}
 use Rattle.vx_steps.specs.Additions.{AddsTeam, AddsBelow}
 use Rattle.vx_exec.specs.Sizes.{group_at}
 use Rattle.vx_setup.specs.Runnable.{can_run}

@@ -1,7 +1,7 @@
 use Rattle.std.proofs.Common.{◌≡◌, ◌∙◌, ap, subst, arith}
-use Rattle.vx_nodes.specs.Outline.{plan_of}
-use Rattle.vx_nodes.specs.Plan.{gather, size}
-use Rattle.vx_nodes.specs.Streams.{workers}
+use Rattle.vx_plan_nodes.specs.Outline.{plan_of}
+use Rattle.vx_plan_nodes.specs.Plan.{gather, size}
+use Rattle.vx_plan_nodes.specs.Streams.{workers}
 use Rattle.vx_steps.specs.Additions.{AddsTeam}
 use Rattle.vx_exec.specs.Sizes.{group_at}
 use Rattle.vx_steps.proofs.Adding.{team-none, team-more}

@@ -1,8 +1,8 @@
 use Rattle.std.proofs.Common.{ℕ, List}
 use Rattle.std.specs.List.{All}
 use Rattle.vx_values.specs.Values.{Row}
-use Rattle.vx_nodes.specs.Outline.{plan_of}
-use Rattle.vx_nodes.specs.Plan.{gather}
+use Rattle.vx_plan_nodes.specs.Outline.{plan_of}
+use Rattle.vx_plan_nodes.specs.Plan.{gather}
 use Rattle.vx_steps.specs.Additions.{AddsTeam}
 use Rattle.vx_exec.specs.Crew.{IsNew}
 use Rattle.vx_exec.specs.Job.{setting_of}

@@ -1,8 +1,8 @@
 use Rattle.std.proofs.Common.{◌≡◌, true, sym, subst, ap, ◌∙◌, map, [], ◌∷◌}
-use Rattle.vx_nodes.specs.Numbering.{is_numbered}
-use Rattle.vx_nodes.specs.Outline.{plan_of}
-use Rattle.vx_typed.specs.TypedView.{plan as whole_plan}
-use Rattle.vx_rules.specs.Checked.{relations}
+use Rattle.vx_plan_nodes.specs.Numbering.{is_numbered}
+use Rattle.vx_plan_nodes.specs.Outline.{plan_of}
+use Rattle.vx_plan_nodes.specs.TypedView.{plan as whole_plan}
+use Rattle.vx_check_rules.specs.Checked.{relations}
 use Rattle.vx_steps.specs.Additions.{AddsBelow}
 use Rattle.vx_steps.specs.Crews.{root_duty}
 use Rattle.vx_exec.specs.Crew.{duty}

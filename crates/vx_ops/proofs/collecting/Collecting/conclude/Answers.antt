@@ -1,6 +1,6 @@
 use Rattle.std.proofs.Common.{sym, subst, Bool, List, true, false}
 use Rattle.vx_values.specs.Values.{Row}
-use Rattle.vx_nodes.specs.Plan.{Unary}
+use Rattle.vx_plan_nodes.specs.Plan.{Unary}
 use Rattle.vx_ops.specs.declared.fault.Over.{Over}
 use Rattle.vx_ops.specs.declared.fault.Over.TheVariants.{Running}
 use Rattle.vx_ops.specs.Collecting.{IsCollected}

@@ -1,6 +1,6 @@
 use Rattle.std.proofs.Common.{◌≡◌, ◌++◌, sym, subst, Some}
-use Rattle.vx_nodes.specs.Plan.{Unary}
-use Rattle.vx_nodes.specs.Serial.{unary_rows}
+use Rattle.vx_plan_nodes.specs.Plan.{Unary}
+use Rattle.vx_plan_nodes.specs.Serial.{unary_rows}
 use Rattle.vx_ops.specs.declared.fault.Over.{Over}
 use Rattle.vx_ops.specs.declared.fault.Over.TheVariants.{Running}
 use Rattle.vx_ops.specs.Stepping.{IsStepped}

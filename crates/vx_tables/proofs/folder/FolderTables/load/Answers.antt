@@ -1,6 +1,6 @@
 use Rattle.std.proofs.Common.{rules, ◌≡◌, ◌∙◌, ℕ, List, refl, ap, subst, string_bytes}
 use Rattle.vx_relations.specs.Catalog.{relation_at}
-use Rattle.vx_tables.specs.Stored.{MayBeAbsent, OpensAs}
+use Rattle.vx_bytes.specs.Stored.{MayBeAbsent, OpensAs}
 use Rattle.vx_tables.specs.Folder.{path_in, for_path}
 use Rattle.vx_tables.proofs.FolderFacts.{lacks_read}
 use Rattle.vx_tables.proofs.folder.FolderTables.load.Goals as goal

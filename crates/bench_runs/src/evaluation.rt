@@ -1,0 +1,184 @@
+//! Serial queries, beside the same queries written by hand over plain columns. It fails where the two differ. bprime has a
+//! tenth of the rows of tenk1.
+
+ghost use Rattle.std.specs.Prelude.{◌≤◌, ◌<◌, length};
+
+use crate::bench::{Bench, last_of_hundredth, nanos_since};
+use crate::digest::{Digest, table_of};
+use crate::plain::Table;
+use crate::queries::{QUERIES, Query, SCAN};
+use crate::wisconsin::{CATALOG, MAX_ROWS, relation};
+use anyhow::{Error, bail};
+use std::alloc::Global;
+use std::rt::Clock;
+use std::time::Instant;
+use vx_bytes::MemoryIn;
+use vx_catalog::{Catalog, Database, Loader};
+use vx_plan::{Plan, resolve};
+use vx_rows::Rows;
+use vx_serial::eval;
+
+// The relations, as both kinds of queries read them.
+#[derive(Drop)]
+struct Relations {
+    database: Database,
+    tenk1: Table,
+    bprime: Table,
+}
+
+// Loads n rows of one relation, and answers them as plain columns too.
+fn load(
+    alloc: Global,
+    catalog: &Catalog,
+    database: &mut Database,
+    number: usize,
+    n: u64,
+) -> Result<Table, Error>
+    requires relation { number < length catalog.now }
+    requires few { n ≤ MAX_ROWS }
+{
+    let text = relation(alloc, n)?;
+    let loaded = Loader::load(
+        alloc,
+        catalog,
+        number,
+        &mut MemoryIn::new(text.as_bytes(), None),
+    )?;
+    let table = table_of(alloc, loaded.rows())?;
+    if database.put(loaded).is_err() {
+        bail!("the rows are of another catalog");
+    }
+    Ok(table)
+}
+
+// The rows of a plan, and how long its evaluation took in nanoseconds.
+fn evaluated<R: Clock>(
+    rt: &R,
+    alloc: Global,
+    database: &Database,
+    text: &str,
+) -> Result<(Rows, u64), Error> {
+    let plan = Plan::read(alloc, text.as_bytes())?;
+    let typed = resolve(alloc, &plan, database.catalog())?;
+    let start = Instant::now(rt)?;
+    let rows = eval(alloc, &typed, database)?;
+    Ok((rows, nanos_since(rt, start)?))
+}
+
+impl Bench {
+    // How many rows a query reads.
+    fn rows_read(self, query: Query) -> u64 {
+        if query.is_join() {
+            self.rows.saturating_add(self.rows / 10)
+        } else {
+            self.rows
+        }
+    }
+
+    // Shows both times for each row that is read, and how many times longer evaluation takes.
+    fn show_both<R: Print>(
+        self,
+        rt: &R,
+        query: Query,
+        serial: u64,
+        by_hand: u64,
+    ) -> Result<(), Error> {
+        let rows = self.rows_read(query).max(1);
+        let hundredths = serial.saturating_mul(100) / by_hand.max(1);
+        println!(rt;
+            "query {}: {} ns a row, by hand {} ns a row, {}.{:02} times as long",
+            query.number(),
+            serial / rows,
+            by_hand / rows,
+            hundredths / 100,
+            hundredths % 100
+        )?;
+        Ok(())
+    }
+
+    // Runs a query both ways, and shows what they gave.
+    fn run_query<R: Print + Clock>(
+        self,
+        rt: &R,
+        alloc: Global,
+        relations: &Relations,
+        query: Query,
+    ) -> Result<(), Error> {
+        let text = query.plan(alloc, last_of_hundredth(self.rows))?;
+        let (rows, serial) = evaluated(rt, alloc, &relations.database, text.as_str())?;
+        let start = Instant::now(rt)?;
+        let table = query.by_hand(
+            alloc,
+            &relations.tenk1,
+            &relations.bprime,
+            last_of_hundredth(self.rows),
+        )?;
+        let by_hand = nanos_since(rt, start)?;
+        let digest = Digest::of_rows(&rows);
+        if digest != Digest::of_table(&table) {
+            bail!("query {} differs", query.number());
+        }
+        println!(rt;
+            "query {}: {} rows, numbers add up to {}, checksum {}",
+            query.number(),
+            digest.rows,
+            digest.sum,
+            digest.checksum
+        )?;
+        if self.with_times {
+            self.show_both(rt, query, serial, by_hand)?;
+        }
+        Ok(())
+    }
+
+    // Shows the time to evaluate a scan of tenk1 alone, which each query has as a part.
+    fn show_scan<R: Print + Clock>(
+        self,
+        rt: &R,
+        alloc: Global,
+        database: &Database,
+    ) -> Result<(), Error> {
+        if !self.with_times {
+            return Ok(());
+        }
+        let (rows, nanos) = evaluated(rt, alloc, database, SCAN)?;
+        let each = nanos / self.rows.max(1);
+        println!(rt; "part: a scan, {} rows: {each} ns a row", rows.len())?;
+        Ok(())
+    }
+
+    // Runs the queries that are asked for.
+    fn run_queries<R: Print + Clock>(
+        self,
+        rt: &R,
+        alloc: Global,
+        relations: &Relations,
+    ) -> Result<(), Error> {
+        self.show_scan(rt, alloc, &relations.database)?;
+        for query in QUERIES {
+            if self.only.is_none() || self.only == Some(query.number()) {
+                self.run_query(rt, alloc, relations, query)?;
+            }
+        }
+        Ok(())
+    }
+}
+
+/// The queries that are asked for, both ways.
+pub fn run<R: Print + Clock>(rt: &R, alloc: Global, bench: Bench) -> Result<(), Error>
+    requires few { bench.rows ≤ MAX_ROWS }
+{
+    let catalog = Catalog::read(alloc, CATALOG.as_bytes())?;
+    if catalog.len() < 2 {
+        bail!("the catalog has fewer than two relations");
+    }
+    let mut database = Database::empty(alloc, &catalog)?;
+    let tenk1 = load(alloc, &catalog, &mut database, 0, bench.rows)?;
+    let bprime = load(alloc, &catalog, &mut database, 1, bench.rows / 10)?;
+    let relations = Relations {
+        database,
+        tenk1,
+        bprime,
+    };
+    bench.run_queries(rt, alloc, &relations)
+}

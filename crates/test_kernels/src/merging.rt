@@ -1,0 +1,181 @@
+//! Small merge joins, with their rows written out.
+
+ghost use Rattle.std.specs.Prelude.{◌≡◌, ◌<◌, ◌≤◌, [], ◌∷◌, length};
+ghost use Rattle.vx_values.specs.declared.value.ColType.TheVariants as kind;
+ghost use Rattle.vx_rows.specs.View.{AreColumns};
+
+use std::alloc::{AllocError, Global};
+use std::process::Abort;
+use std::test::Fail;
+use test_tables::{shown, table};
+use vx_match::{Merge, MergeFault, merge_join};
+use vx_rows::{ColType, Rows};
+
+const TYPES: [ColType; 4] = [ColType::Int, ColType::Text, ColType::Int, ColType::Text];
+
+// The rows of a table.
+type Table<'a> = &'a [(i64, &'a str)];
+
+// The merge join of two tables on the same columns of both, as text, or that one falls.
+fn merged(
+    alloc: Global,
+    left: Table<'_>,
+    right: Table<'_>,
+    columns: &[usize],
+) -> Result<String, AllocError>
+    requires { AreColumns 2 columns.now }
+{
+    let left = table(alloc, left)?;
+    let right = table(alloc, right)?;
+    match merge_join(alloc, &left, columns, &right, columns) {
+        Ok(joined) => shown(alloc, &joined),
+        Err(MergeFault::Falls) => String::from_str(alloc, "falls"),
+        Err(MergeFault::NoMemory) => Err(AllocError),
+    }
+}
+
+// Merges the two tables of each case on these columns, and compares what comes of it with the text of the case.
+fn compare<R: Abort>(
+    rt: &R,
+    alloc: Global,
+    cases: &[(Table<'_>, Table<'_>, &str)],
+    columns: &[usize],
+) -> Result<(), Fail>
+    requires { AreColumns 2 columns.now }
+{
+    for case in cases {
+        let got = merged(alloc, case.0, case.1, columns)?;
+        assert_eq!(rt; got.as_str(), case.2);
+    }
+    Ok(())
+}
+
+const WITH_EQUAL_KEYS: [(Table<'_>, Table<'_>, &str); 1] = [(
+    &[
+        (i64::MIN, "a"),
+        (-1, "b"),
+        (-1, "c"),
+        (0, "d"),
+        (i64::MAX, "e"),
+    ],
+    &[
+        (i64::MIN, "u"),
+        (-2, "v"),
+        (-1, "w"),
+        (-1, "x"),
+        (1, "y"),
+        (i64::MAX, "z"),
+    ],
+    "-9223372036854775808 'a' -9223372036854775808 'u';-1 'b' -1 'w';-1 'b' -1 'x';-1 'c' -1 'w';-1 'c' -1 'x';9223372036854775807 'e' 9223372036854775807 'z';",
+)];
+
+#[test]
+fn each_of_equal_keys_meets_each(rt: HostRuntime) -> Result<(), Fail> {
+    compare(&rt, rt.alloc(), &WITH_EQUAL_KEYS, &[0])
+}
+
+const WORDS: [(i64, &str); 4] = [(1, ""), (2, "ke"), (1, "key"), (2, "key")];
+
+const MORE_WORDS: [(i64, &str); 5] = [(5, "k"), (1, "key"), (1, "key"), (3, "key"), (2, "keys")];
+
+const BY_TEXT: [(Table<'_>, Table<'_>, &str); 1] = [(
+    &WORDS,
+    &MORE_WORDS,
+    "1 'key' 1 'key';1 'key' 1 'key';1 'key' 3 'key';2 'key' 1 'key';2 'key' 1 'key';2 'key' 3 'key';",
+)];
+
+const BY_BOTH: [(Table<'_>, Table<'_>, &str); 1] = [(
+    &WORDS,
+    &MORE_WORDS,
+    "1 'key' 1 'key';1 'key' 1 'key';",
+)];
+
+#[test]
+fn texts_and_pairs_of_columns_are_merged(rt: HostRuntime) -> Result<(), Fail> {
+    compare(&rt, rt.alloc(), &BY_TEXT, &[1])?;
+    compare(&rt, rt.alloc(), &BY_BOTH, &[1, 0])
+}
+
+const RISING: [(i64, &str); 2] = [(1, "a"), (2, "b")];
+
+const FALLING: [(i64, &str); 3] = [(3, "c"), (4, "d"), (1, "e")];
+
+const WITH_NO_ROWS: [(Table<'_>, Table<'_>, &str); 3] = [
+    (&[], &RISING, ""),
+    (&RISING, &[], ""),
+    (&[], &[], ""),
+];
+
+#[test]
+fn a_merge_with_no_rows_is_empty(rt: HostRuntime) -> Result<(), Fail> {
+    compare(&rt, rt.alloc(), &WITH_NO_ROWS, &[0])
+}
+
+const WITH_ONE_THAT_FALLS: [(Table<'_>, Table<'_>, &str); 5] = [
+    (&FALLING, &RISING, "falls"),
+    (&RISING, &FALLING, "falls"),
+    (&[], &FALLING, "falls"),
+    (&FALLING, &[], "falls"),
+    (&RISING, &[(2, "y"), (1, "x")], "falls"),
+];
+
+#[test]
+fn an_input_that_falls_is_told(rt: HostRuntime) -> Result<(), Fail> {
+    compare(&rt, rt.alloc(), &WITH_ONE_THAT_FALLS, &[0])
+}
+
+// Adds the rows of a table.
+fn add(alloc: Global, rows: &mut Rows, more: Table<'_>) -> Result<(), AllocError>
+    requires { rows.old.types ≡ kind.Int ∷ kind.Text ∷ [] }
+    ensures types { rows.new.types ≡ rows.old.types }
+    ensures more { length rows.old.rows ≤ length rows.new.rows }
+{
+    let more = table(alloc, more)?;
+    rows.append_range(&more, 0, more.len())
+}
+
+// The join of the first left row with the run, as text.
+fn joined_run(alloc: Global, merge: &Merge, left: &Rows, right: &Rows) -> Result<String, AllocError>
+    requires row { 0 < length left.now.rows }
+    requires there { merge.now.end ≤ length right.now.rows }
+    requires left { left.now.types ≡ kind.Int ∷ kind.Text ∷ [] }
+    requires right { right.now.types ≡ kind.Int ∷ kind.Text ∷ [] }
+{
+    let mut joined = Rows::new(alloc, &TYPES)?;
+    merge.push_run(left, 0, right, &mut joined)?;
+    shown(alloc, &joined)
+}
+
+// Takes the left row, and its run among right rows that come in two parts.
+fn goes_on<R: Abort>(
+    rt: &R,
+    alloc: Global,
+    merge: &mut Merge,
+    left: &Rows,
+    right: &mut Rows,
+) -> Result<(), Fail>
+    requires lefts { merge.old.lefts ≡ 0 ∷ [] }
+    requires rights { merge.old.rights ≡ 0 ∷ [] }
+    requires none { merge.old.end ≡ 0 }
+    requires left { left.now.types ≡ kind.Int ∷ kind.Text ∷ [] }
+    requires right { right.old.types ≡ kind.Int ∷ kind.Text ∷ [] }
+{
+    assert!(rt; left.len() > 0);
+    merge.take_left(left, 0)?;
+    assert!(rt; !merge.take_run(right)?);
+    add(alloc, right, &[(1, "c"), (2, "d")])?;
+    assert!(rt; merge.take_run(right)?);
+    let text = joined_run(alloc, merge, left, right)?;
+    assert_eq!(rt; text.as_str(), "1 'l' 1 'b';1 'l' 1 'c';");
+    assert!(rt; merge.right_rises(right));
+    Ok(())
+}
+
+#[test]
+fn a_run_goes_on_in_rows_that_come_later(rt: HostRuntime) -> Result<(), Fail> {
+    let alloc = rt.alloc();
+    let left = table(alloc, &[(1, "l")])?;
+    let mut right = table(alloc, &[(0, "a"), (1, "b")])?;
+    let mut merge = Merge::new(alloc, vec![in alloc; 0]?, vec![in alloc; 0]?);
+    goes_on(&rt, alloc, &mut merge, &left, &mut right)
+}

@@ -1,0 +1,129 @@
+//! What no clause says: small plans have their rows, and refusals their lines.
+
+use std::alloc::{AllocError, Global};
+use std::test::Fail;
+use test_tables::shown;
+use vx_bytes::MemoryIn;
+use vx_catalog::{Catalog, Database, Loader};
+use vx_plan::{Plan, TypedPlan, resolve};
+use vx_serial::eval;
+
+const CATALOG: &str =
+    r#"{"relations":[{"name":"t","columns":[{"name":"id","type":"int"},{"name":"k","type":"text"},{"name":"v","type":"int"}]}]}"#;
+
+const TABLE: &str = "id,k,v\n0,b,5\n1,b,7\n2,a,-2\n3,c,7\n";
+
+fn database_of(alloc: Global, text: &str) -> Result<Database, Fail> {
+    let catalog = Catalog::read(alloc, text.as_bytes())?;
+    let mut database = Database::empty(alloc, &catalog)?;
+    if catalog.len() == 0 {
+        return Ok(database);
+    }
+    let mut reader = MemoryIn::new(TABLE.as_bytes(), None);
+    match database.put(Loader::load(alloc, &catalog, 0, &mut reader)?) {
+        Ok(()) => Ok(database),
+        Err(_) => Err(Fail::new("the rows are of this catalog")),
+    }
+}
+
+fn read_plan(alloc: Global, root: &str) -> Result<Plan, Fail> {
+    let text = format!(in alloc; "{{\"sizes\":[\"n\"],\"root\":{root}}}")?;
+    Ok(Plan::read(alloc, text.as_bytes())?)
+}
+
+fn plan_of(alloc: Global, root: &str) -> Result<TypedPlan, Fail> {
+    let plan = read_plan(alloc, root)?;
+    let catalog = Catalog::read(alloc, CATALOG.as_bytes())?;
+    Ok(resolve(alloc, &plan, &catalog)?)
+}
+
+const SCAN: &str = r#"{"op":"scan","relation":"t","mode":"whole","size":"one"}"#;
+
+const OTHER_SCAN: &str = r#"{"op":"scan","relation":"t","mode":"shared","size":"n","prefix":"u."}"#;
+
+// A root where each word in capitals is replaced by a scan.
+fn with_scans(alloc: Global, root: &str) -> Result<String, AllocError> {
+    let root = root.replace(alloc, "T", SCAN)?;
+    root.replace(alloc, "U", OTHER_SCAN)
+}
+
+// What a plan comes to over a database: its rows as text, or the line of a refusal.
+fn told(alloc: Global, plan: &TypedPlan, database: &Database) -> Result<String, AllocError> {
+    match eval(alloc, plan, database) {
+        Ok(rows) => shown(alloc, &rows),
+        Err(fault) => format!(in alloc; "{fault}"),
+    }
+}
+
+// What the plan of this root comes to over the table, where a word in capitals stands for a scan.
+fn comes_to(alloc: Global, root: &str) -> Result<String, Fail> {
+    let root = with_scans(alloc, root)?;
+    let plan = plan_of(alloc, root.as_str())?;
+    let database = database_of(alloc, CATALOG)?;
+    Ok(told(alloc, &plan, &database)?)
+}
+
+// Roots of plans, and the rows that each comes to.
+const PLANS: [(&str, &str); 8] = [
+    ("T", "0 'b' 5;1 'b' 7;2 'a' -2;3 'c' 7;"),
+    (
+        r#"{"op":"select","where":[{"column":"v","op":"=","value":7}],"input":T}"#,
+        "1 'b' 7;3 'c' 7;",
+    ),
+    (
+        r#"{"op":"project","columns":["v",{"column":"id","as":"n"}],"input":T}"#,
+        "5 0;7 1;-2 2;7 3;",
+    ),
+    (
+        r#"{"op":"distinct","columns":["k"],"input":T}"#,
+        "'b';'a';'c';",
+    ),
+    (
+        r#"{"op":"sort","columns":["k"],"input":T}"#,
+        "2 'a' -2;0 'b' 5;1 'b' 7;3 'c' 7;",
+    ),
+    (
+        r#"{"op":"union","left":T,"right":T}"#,
+        "0 'b' 5;1 'b' 7;2 'a' -2;3 'c' 7;0 'b' 5;1 'b' 7;2 'a' -2;3 'c' 7;",
+    ),
+    (
+        r#"{"op":"join","method":"hash","on":[["k","u.k"]],"left":T,"right":U}"#,
+        "0 'b' 5 0 'b' 5;0 'b' 5 1 'b' 7;1 'b' 7 0 'b' 5;1 'b' 7 1 'b' 7;2 'a' -2 2 'a' -2;3 'c' 7 3 'c' 7;",
+    ),
+    (
+        r#"{"op":"join","method":"merge","on":[["v","u.v"]],"left":T,"right":U}"#,
+        "0 'b' 5 0 'b' 5;1 'b' 7 1 'b' 7;1 'b' 7 3 'c' 7;2 'a' -2 2 'a' -2;3 'c' 7 1 'b' 7;3 'c' 7 3 'c' 7;",
+    ),
+];
+
+#[test]
+fn plans_have_their_rows(rt: HostRuntime) -> Result<(), Fail> {
+    for (root, rows) in PLANS {
+        let got = comes_to(rt.alloc(), root)?;
+        assert_eq!(rt; got.as_str(), rows);
+    }
+    Ok(())
+}
+
+const WITH_EXCHANGES: &str =
+    r#"{"op":"union","left":T,"right":{"op":"exchange","kind":"gather","input":{"op":"exchange","kind":"gather","input":T}}}"#;
+
+#[test]
+fn the_first_exchange_is_refused(rt: HostRuntime) -> Result<(), Fail> {
+    let line = comes_to(rt.alloc(), WITH_EXCHANGES)?;
+    assert_eq!(rt; line.as_str(), "X13 HasExchange node=2");
+    Ok(())
+}
+
+const GATHER: &str =
+    r#"{"op":"exchange","kind":"gather","input":{"op":"scan","relation":"t","mode":"whole","size":"one"}}"#;
+
+#[test]
+fn another_catalog_comes_first(rt: HostRuntime) -> Result<(), Fail> {
+    let alloc = rt.alloc();
+    let plan = plan_of(alloc, GATHER)?;
+    let database = database_of(alloc, r#"{"relations":[]}"#)?;
+    let line = told(alloc, &plan, &database)?;
+    assert_eq!(rt; line.as_str(), "X6 OtherCatalog");
+    Ok(())
+}

@@ -1,5 +1,0 @@
-use Rattle.vx_cases.proofs.built.+unions.Given as goal
-
--- both halves of two scans or more are fewer
-abbrev pub decreases-unions : goal.decreases-unions
-decreases-unions l = l.scans

@@ -1,0 +1,12 @@
+use Rattle.std.proofs.Common.{◌∙◌, sym, map, ℕ, Vec, Global, rules}
+use Rattle.std.proofs.lemmas.Iterator.{YieldsList-from_slice}
+use Rattle.std.proofs.lemmas.Iterator.Search.{all_from_yields_List}
+use Rattle.std.proofs.lemmas.List.Folds.{list_all-map}
+use borrow.Author.Tests.{tests}
+use Rattle.vx_check_rules.specs.Rules.{covers}
+use Rattle.vx_check_rules.proofs.keys.are_covered.Goals as goal
+
+pub returns : goal.returns
+returns c =
+    all_from_yields_List (λ (v : Vec ℕ Global). covers (map (λ (v : Vec ℕ Global). v.items) c.args.below.now) v.items) _ _ _ c.all.ensures.ran (YieldsList-from_slice c.args.keys.now cc) (λ x b q k. search (rules, tests))
+    ∙ sym (list_all-map (covers (map (λ (v : Vec ℕ Global). v.items) c.args.below.now)) (λ (v : Vec ℕ Global). v.items) c.args.keys.now)

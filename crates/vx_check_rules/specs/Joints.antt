@@ -1,0 +1,19 @@
+-- What operators over two inputs show, in the words of the rule table.
+use Rattle.std.specs.Prelude.{ℕ, Bool, false, List, []}
+use Rattle.vx_plan_nodes.specs.Plan.{Part, Plan, Binary, union, join}
+use Rattle.vx_check_rules.specs.Rules.{front, join_keys, both_have, join_shows}
+
+-- the orders over a left input that is sorted so
+abbrev pub binary_orders : Binary → List ℕ → List ℕ → Bool
+binary_orders union below order = front order []
+binary_orders (join m on) below order = front order below
+
+-- the keys over inputs with these keys, the left one so wide
+abbrev pub binary_keys : Binary → ℕ → List (List ℕ) → List (List ℕ) → List ℕ → Bool
+binary_keys union w lefts rights x = false
+binary_keys (join m on) w lefts rights x = join_keys on w lefts rights x
+
+-- the parts over these inputs, the left one so wide
+abbrev pub binary_shows : Binary → ℕ → Plan → Plan → Part → Bool
+binary_shows union w p q x = both_have p q x
+binary_shows (join m on) w p q x = join_shows on w p q x

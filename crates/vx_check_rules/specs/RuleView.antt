@@ -1,0 +1,20 @@
+-- Rules as the program names them.
+use Rattle.std.specs.Prelude.{ℕ}
+use Rattle.vx_check_rules.specs.Refusal.{Rule, size_mismatch, root_not_one, part_not_shown, inputs_not_matched, replicated_input, order_not_shown, order_needed, key_not_shown, total_not_shown}
+use Rattle.vx_check_rules.specs.declared.rule.Rule as rust_rule
+use Rattle.vx_check_rules.specs.declared.rule.Rule.TheVariants as rule
+
+abbrev pub rule_of : rust_rule.Rule → Rule
+rule_of rule.SizeMismatch = size_mismatch
+rule_of rule.RootNotOne = root_not_one
+rule_of rule.PartNotShown = part_not_shown
+rule_of rule.InputsNotMatched = inputs_not_matched
+rule_of rule.ReplicatedInput = replicated_input
+rule_of rule.OrderNotShown = order_not_shown
+rule_of rule.OrderNeeded = order_needed
+rule_of rule.KeyNotShown = key_not_shown
+rule_of rule.TotalNotShown = total_not_shown
+
+-- a node and the rule that refuses it
+abbrev pub refusal_of : ℕ × rust_rule.Rule → ℕ × Rule
+refusal_of r = (r.0, rule_of r.1)

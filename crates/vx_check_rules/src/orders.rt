@@ -1,0 +1,106 @@
+//! Orders: what is needed of the inputs', and what is shown of the output's.
+
+ghost use Rattle.std.specs.Prelude.{◌≡◌, ℕ, ◌&&◌, ◌||◌};
+ghost use Rattle.vx_relations.specs.Relation.{Relation};
+ghost use Rattle.vx_relations.specs.Catalog.{relation_at};
+ghost use Rattle.vx_plan_nodes.specs.Plan.{claim, size, is_one};
+ghost use Rattle.vx_plan_nodes.specs.Outline.{unary_of, binary_of, outline_of, plan_of};
+ghost use Rattle.vx_check_rules.specs.Rules.{front, unary_orders, order_given, order_shown, is_total_order};
+ghost use Rattle.vx_plan_nodes.specs.Outputs.{HasOutputs};
+ghost use Rattle.vx_check_rules.specs.Joints.{binary_orders};
+
+use crate::columns::{has_first, is_covered, is_front};
+use crate::copies::Copies;
+use crate::nodes::{claimed_keys, claimed_order, has_one_worker, width_of};
+use crate::pairs::{Input, are_front};
+use vx_plan_nodes::{Binary, Exchange, TypedNode, Unary};
+use vx_relations::Catalog;
+
+/// Whether a merge join's inputs begin with the columns that it joins on, and a merging exchange's with those that it
+/// merges on: K7.
+pub fn is_order_given(node: &TypedNode) -> bool
+    ensures { result ≡ order_given (plan_of node.now) }
+{
+    match node {
+        TypedNode::Binary(_, Binary::MergeJoin(on), left, right) => {
+            are_front(Input::Left, on.as_slice(), claimed_order(left))
+                && are_front(Input::Right, on.as_slice(), claimed_order(right))
+        }
+        TypedNode::Exchange(_, exchange, input) => {
+            is_front(exchange.merge.as_slice(), claimed_order(input))
+        }
+        _ => true,
+    }
+}
+
+// Whether the relation's declared order begins so.
+fn declares_order(catalog: &Catalog, relation: usize, order: &[usize]) -> bool
+    ensures { result ≡ front order.now (relation_at catalog.now relation).order }
+{
+    if relation < catalog.len() {
+        is_front(order, catalog.get(relation).order())
+    } else {
+        is_front(order, &[])
+    }
+}
+
+// Whether an operator shows the order, over an input that is sorted on `below`.
+fn shows_order_over(operator: &Unary, below: &[usize], order: &[usize]) -> bool
+    ensures { result ≡ unary_orders (unary_of operator.now) below.now order.now }
+{
+    match operator {
+        Unary::Select(_) => is_front(order, below),
+        Unary::Sort(columns) => is_front(order, columns.as_slice()),
+        Unary::Project(kept) | Unary::Distinct(kept) => Copies::Outputs(
+            kept.as_slice(),
+        ).stand_for_front(order, below),
+        Unary::Group(by, _) => Copies::Keys(by.as_slice()).stand_for_front(order, below),
+    }
+}
+
+// Whether an operator over two inputs shows the order, where the left input is sorted on `left`.
+fn binary_shows_order(operator: &Binary, left: &[usize], order: &[usize]) -> bool
+    ensures { result ≡ binary_orders (binary_of operator.now) left.now order.now }
+{
+    match operator {
+        Binary::Union => is_front(order, &[]),
+        Binary::HashJoin(_) | Binary::MergeJoin(_) => is_front(order, left),
+    }
+}
+
+// Whether an exchange over the input shows the order.
+fn exchange_shows_order(exchange: &Exchange, input: &TypedNode, order: &[usize]) -> bool
+    ensures { result ≡ (front order.now exchange.now.merge.items || (is_one (size (plan_of input.now)) && front order.now (claim (plan_of input.now)).order)) }
+{
+    is_front(order, exchange.merge.as_slice())
+        || (has_one_worker(input) && is_front(order, claimed_order(input)))
+}
+
+/// Whether the node's claimed order is shown, as an empty one always is: K6.
+pub fn is_order_shown(catalog: &Catalog, node: &TypedNode) -> bool
+    ensures { result ≡ order_shown (relation_at catalog.now) (plan_of node.now) }
+{
+    let order = claimed_order(node);
+    match node {
+        TypedNode::Scan(_, scan) => declares_order(catalog, scan.relation, order),
+        TypedNode::Unary(_, operator, input) => shows_order_over(
+            operator,
+            claimed_order(input),
+            order,
+        ),
+        TypedNode::Binary(_, operator, left, _) => binary_shows_order(
+            operator,
+            claimed_order(left),
+            order,
+        ),
+        TypedNode::Exchange(_, exchange, input) => exchange_shows_order(exchange, input, order),
+    }
+}
+
+/// Whether the node's claimed order contains all columns of a claimed key, or all output columns: K9.
+pub fn is_order_total(node: &TypedNode) -> bool
+    ensures { (catalog : ℕ → Relation) → HasOutputs catalog (outline_of node.now) → result ≡ is_total_order catalog (plan_of node.now) }
+{
+    let order = claimed_order(node);
+    is_covered(claimed_keys(node), order) || has_first(order, width_of(node))
+}

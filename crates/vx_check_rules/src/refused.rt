@@ -1,0 +1,15 @@
+//! What the checker answers of a plan that it refuses.
+
+use crate::rule::Rule;
+use thiserror::Error;
+use vx_plan_nodes::TypedPlan;
+
+/// A plan that is refused: the first node in post-order that does not show its note, and the first test that fails
+/// there. The plan is as it was given.
+#[derive(Debug, Drop, Error)]
+#[error("{rule} node={node}")]
+pub struct Refused {
+    pub node: u32,
+    pub rule: Rule,
+    pub plan: TypedPlan,
+}

@@ -1,0 +1,325 @@
+-- The JSON of a plan reads as the plan.
+use Rattle.std.proofs.Common.{◌≡◌, ℕ, suc, ◌+◌, ◌-◌, ◌≤◌, ltb, pos, negsuc, List, [], ◌∷◌, ◌++◌, map, Bool, true, false, ◌&&◌, Option, Some, None, Ok, codes, refl, sym, ap, ◌∙◌, subst, arith}
+use Rattle.std.proofs.lemmas.List.{append_assoc, append-nil}
+use Rattle.std.proofs.lemmas.Bool.Decides.{nat_tests}
+use Rattle.std.proofs.Math.Nat.{le-max_left, le-max_right}
+use Rattle.std.specs.List.{list_all}
+use Rattle.serde_json.specs.Data.{Data, string, object, Members, no_members, member, put}
+use Rattle.vx_values.specs.Values.{Val, num, text, Name}
+use Rattle.vx_values.specs.Types.{is_held}
+use Rattle.vx_values.specs.Test as comparison
+use Rattle.vx_json.specs.Look.{name_in, each_onto}
+use Rattle.vx_plan_json.specs.Look.{name_at, text_at, value_in, each_in, some_in}
+use Rattle.vx_values.specs.Lists.{is_some_list}
+use Rattle.vx_plan_json.specs.Document.{PartForm, one, any, all, hash_part, range_part, ClaimForm, SideForm, column, constant, ConditionForm, OutputForm, FunctionForm, least, greatest, sum, count_rows, AggregateForm, ScanForm, UnaryForm, select, project, distinct, sort, group, BinaryForm, union, join, KindForm, hash, range, round, broadcast, gather, Tree, scan, unary, binary, exchange, Document, tree_nodes, tree_levels}
+use Rattle.vx_values.specs.Ranges.{RangeForm}
+use Rattle.vx_plan_json.specs.Form.{names_in, some_names_in, hash_part_in, range_part_in, part_in, keys_in, claim_in, claimed, test_named, side_in, condition_in, renamed_in, output_in, function_at, aggregate_in, pair_in}
+use Rattle.vx_plan_json.specs.Formed.{are_names, are_some_names, is_range_form, is_head_form, is_part_form, is_claim_form, is_side_form, is_condition_form, is_new_name, is_output_form, is_function_form, is_aggregate_form, is_scan_form, is_unary_form, is_pair_form, is_binary_form, is_kind_form, is_tree_form}
+use Rattle.vx_plan_json.specs.Operators.{own_scan, own_unary, own_binary, own_exchange, own_in, scan_in, scan_own, select_in, outputs_in, sort_in, group_in, unary_in, unary_own, join_in, union_in, hash_in, range_in, sized_in, gather_in, kind_in, exchange_own}
+use Rattle.vx_plan_json.specs.Reading.{node_in, declared_in, head_of, head_in, document_in}
+use Rattle.vx_plan_json.specs.Written.{list_json, names_json, value_json, with_some, with_text, range_json, part_json, with_part, claim_members, with_object, with_claim, with_side, condition_json, output_json, with_function, aggregate_json, pair_json, with_scan, with_unary, with_binary, with_kind, scan_json, unary_json, binary_json, exchange_json, node_json, with_total, document_json}
+use Rattle.vx_plan_json.proofs.Holds.{and-left, and-right}
+use Rattle.vx_json.proofs.LookFacts.{list_of-items_of}
+use Rattle.vx_plan_json.proofs.NodeFacts.{node_step}
+
+name-back : (n : Name) → is_some_list n ≡ true → name_in (string n) ≡ Some n
+unfolding name_in
+name-back [] h = cc
+name-back (b ∷ bs) h = refl
+
+each-back : {A : Type 0} (p : A → Bool) (f : Data → Option A) (json : A → Data) → ((x : A) → p x ≡ true → f (json x) ≡ Some x) → (front xs : List A) → list_all p xs ≡ true
+    → each_onto f front (map json xs) ≡ Some (front ++ xs)
+unfolding each_onto
+each-back p f json back front [] h = ap Some (sym (append-nil front))
+each-back p f json back front (x ∷ xs) h =
+    rw (back x (and-left (p x) (list_all p xs) h)) (each-back p f json back (front ++ x ∷ []) xs (and-right (p x) (list_all p xs) h) ∙ ap Some (append_assoc front (x ∷ []) xs))
+
+list-back : {A : Type 0} (p : A → Bool) (f : Data → Option A) (json : A → Data) → ((x : A) → p x ≡ true → f (json x) ≡ Some x) → (xs : List A) → list_all p xs ≡ true
+    → each_in f (list_json json xs) ≡ Some xs
+list-back p f json back xs h = ap (each_onto f []) (list_of-items_of (map json xs)) ∙ each-back p f json back [] xs h
+
+some-back : {A : Type 0} (p : A → Bool) (f : Data → Option A) (json : A → Data) → ((x : A) → p x ≡ true → f (json x) ≡ Some x) → (xs : List A) → (is_some_list xs && list_all p xs) ≡ true
+    → some_in f (list_json json xs) ≡ Some xs
+some-back p f json back [] h = cc
+some-back p f json back (x ∷ xs) h =
+    ap (λ (t : List Data). each_onto f [] (json x ∷ t)) (list_of-items_of (map json xs)) ∙ each-back p f json back [] (x ∷ xs) h
+
+names-back : (ns : List Name) → are_names ns ≡ true → names_in (names_json ns) ≡ Some ns
+unfolding names_in
+names-back ns h = list-back is_some_list name_in string name-back ns h
+
+some_names-back : (ns : List Name) → are_some_names ns ≡ true → some_names_in (names_json ns) ≡ Some ns
+unfolding some_names_in
+some_names-back ns h = some-back is_some_list name_in string name-back ns h
+
+small : (n : ℕ) → is_held (num (pos n)) ≡ true → ltb n 9223372036854775808 ≡ true
+small n h = grind (arith, nat_tests, h)
+
+value-back : (v : Val) → is_held v ≡ true → value_in (value_json v) ≡ Some v
+unfolding value_in
+value-back (num (pos n)) h = rw (small n h, h) refl
+value-back (num (negsuc n)) h = rw h refl
+value-back (text s) h = rw h refl
+
+declared-back : (r : RangeForm) → is_range_form r ≡ true → declared_in (range_json r) ≡ Some r
+unfolding declared_in name_at
+declared-back r h =
+    rw (name-back r.name (and-left (is_some_list r.name) (list_all is_held r.bounds) h), list-back is_held value_in value_json value-back r.bounds (and-right (is_some_list r.name) (list_all is_held r.bounds) h)) refl
+
+-- ---- claims
+
+part-back : (p : PartForm) → is_part_form p ≡ true → part_in (part_json p) ≡ Some p
+unfolding part_in hash_part_in range_part_in name_at
+part-back one h = refl
+part-back any h = refl
+part-back all h = refl
+part-back (hash_part route cols) h =
+    rw (name-back route (and-left (is_some_list route) (are_some_names cols) h), some_names-back cols (and-right (is_some_list route) (are_some_names cols) h)) refl
+part-back (range_part name col) h =
+    rw (name-back name (and-left (is_some_list name) (is_some_list col) h), name-back col (and-right (is_some_list name) (is_some_list col) h)) refl
+
+keys-back : (ks : List (List Name)) → list_all are_names ks ≡ true → keys_in (list_json names_json ks) ≡ Some ks
+unfolding keys_in
+keys-back ks h = list-back are_names names_in names_json names-back ks h
+
+lists-bare : (o : List Name) (ks : List (List Name)) → are_names o ≡ true → list_all are_names ks ≡ true
+    → claim_in (object (with_some (codes "keys") names_json ks (with_some (codes "order") string o no_members))) ≡ Some (record { part = any; order = o; keys = ks })
+unfolding claim_in
+lists-bare [] [] h k = refl
+lists-bare (n ∷ ns) [] h k = rw (names-back (n ∷ ns) h) refl
+lists-bare [] (x ∷ xs) h k = rw (keys-back (x ∷ xs) k) refl
+lists-bare (n ∷ ns) (x ∷ xs) h k = rw (names-back (n ∷ ns) h, keys-back (x ∷ xs) k) refl
+
+lists-parted : (p : PartForm) (d : Data) → part_in d ≡ Some p → (o : List Name) (ks : List (List Name)) → are_names o ≡ true → list_all are_names ks ≡ true
+    → claim_in (object (with_some (codes "keys") names_json ks (with_some (codes "order") string o (member (codes "part") d no_members)))) ≡ Some (record { part = p; order = o; keys = ks })
+unfolding claim_in
+lists-parted p d e [] [] h k = rw e refl
+lists-parted p d e (n ∷ ns) [] h k = rw (e, names-back (n ∷ ns) h) refl
+lists-parted p d e [] (x ∷ xs) h k = rw (e, keys-back (x ∷ xs) k) refl
+lists-parted p d e (n ∷ ns) (x ∷ xs) h k = rw (e, names-back (n ∷ ns) h, keys-back (x ∷ xs) k) refl
+
+claim_at : (p : PartForm) (o : List Name) (ks : List (List Name)) → is_part_form p ≡ true → are_names o ≡ true → list_all are_names ks ≡ true
+    → claim_in (object (with_some (codes "keys") names_json ks (with_some (codes "order") string o (with_part p no_members)))) ≡ Some (record { part = p; order = o; keys = ks })
+claim_at one o ks g h k = lists-parted one (part_json one) (part-back one g) o ks h k
+claim_at any o ks g h k = lists-bare o ks h k
+claim_at all o ks g h k = lists-parted all (part_json all) (part-back all g) o ks h k
+claim_at (hash_part route cols) o ks g h k = lists-parted (hash_part route cols) (part_json (hash_part route cols)) (part-back (hash_part route cols) g) o ks h k
+claim_at (range_part name col) o ks g h k = lists-parted (range_part name col) (part_json (range_part name col)) (part-back (range_part name col) g) o ks h k
+
+claim-back : (c : ClaimForm) → is_claim_form c ≡ true → claim_in (object (claim_members c)) ≡ Some c
+claim-back c h =
+    let rest = and-right (is_part_form c.part) (are_names c.order && list_all are_names c.keys) h in
+    claim_at c.part c.order c.keys (and-left (is_part_form c.part) (are_names c.order && list_all are_names c.keys) h)
+    (and-left (are_names c.order) (list_all are_names c.keys) rest) (and-right (are_names c.order) (list_all are_names c.keys) rest)
+
+-- nothing is claimed
+abbrev bare : ClaimForm
+bare = record { part = any; order = []; keys = [] }
+
+nothing_claimed : (c : ClaimForm) → claim_in (object no_members) ≡ Some c → bare ≡ c
+unfolding claim_in
+nothing_claimed c e = cc
+
+-- a claim is left out, or it is a member that reads as the claim
+by_claim : (P : Members → ClaimForm → Type 0) → P no_members bare → ((e : Data) (c : ClaimForm) → claim_in e ≡ Some c → P (member (codes "claim") e no_members) c)
+    → (c : ClaimForm) → is_claim_form c ≡ true → P (with_claim c no_members) c
+by_claim P without with c h = go (claim_members c) (claim-back c h)
+  where
+    go : (ms : Members) → claim_in (object ms) ≡ Some c → P (with_object (codes "claim") ms no_members) c
+    go no_members e = subst (P no_members) (nothing_claimed c e) without
+    go (member k d more) e = with (object (member k d more)) c e
+
+-- ---- conditions, kept columns, aggregates and pairs
+
+test-back : (t : comparison.Test) → test_named (comparison.test_text t) ≡ Some t
+test-back comparison.equal = refl
+test-back comparison.unequal = refl
+test-back comparison.below = refl
+test-back comparison.at_most = refl
+test-back comparison.above = refl
+test-back comparison.at_least = refl
+
+condition_at : (l : Name) (t : comparison.Test) (r : SideForm) → is_some_list l ≡ true → is_side_form r ≡ true
+    → condition_in (object (with_side r (with_text (codes "op") (comparison.test_text t) (with_text (codes "column") l no_members)))) ≡ Some (record { left = l; test = t; right = r })
+unfolding condition_in side_in name_at text_at
+condition_at l t (column n) h k = rw (name-back l h, test-back t, name-back n k) refl
+condition_at l t (constant v) h k = rw (name-back l h, test-back t, value-back v k) refl
+
+condition-back : (c : ConditionForm) → is_condition_form c ≡ true → condition_in (condition_json c) ≡ Some c
+condition-back c h = condition_at c.left c.test c.right (and-left (is_some_list c.left) (is_side_form c.right) h) (and-right (is_some_list c.left) (is_side_form c.right) h)
+
+output_at : (col : Name) (new : Option Name) → is_some_list col ≡ true → is_new_name new ≡ true → output_in (output_json (record { column = col; renamed = new })) ≡ Some (record { column = col; renamed = new })
+unfolding output_in renamed_in name_at
+output_at [] None h k = cc
+output_at (b ∷ bs) None h k = refl
+output_at col (Some n) h k = rw (name-back col h, name-back n k) refl
+
+output-back : (o : OutputForm) → is_output_form o ≡ true → output_in (output_json o) ≡ Some o
+output-back o h = output_at o.column o.renamed (and-left (is_some_list o.column) (is_new_name o.renamed) h) (and-right (is_some_list o.column) (is_new_name o.renamed) h)
+
+aggregate_at : (f : FunctionForm) (n : Name) → is_function_form f ≡ true → is_some_list n ≡ true → aggregate_in (object (with_text (codes "as") n (with_function f no_members))) ≡ Some (record { function = f; name = n })
+unfolding aggregate_in function_at name_at text_at
+aggregate_at (least col) n h k = rw (name-back col h, name-back n k) refl
+aggregate_at (greatest col) n h k = rw (name-back col h, name-back n k) refl
+aggregate_at (sum col) n h k = rw (name-back col h, name-back n k) refl
+aggregate_at count_rows n h k = rw (name-back n k) refl
+
+aggregate-back : (a : AggregateForm) → is_aggregate_form a ≡ true → aggregate_in (aggregate_json a) ≡ Some a
+aggregate-back a h = aggregate_at a.function a.name (and-left (is_function_form a.function) (is_some_list a.name) h) (and-right (is_function_form a.function) (is_some_list a.name) h)
+
+pair-back : (p : Name × Name) → is_pair_form p ≡ true → pair_in (pair_json p) ≡ Some p
+unfolding pair_in
+pair-back p h = rw (name-back p.0 (and-left (is_some_list p.0) (is_some_list p.1) h), name-back p.1 (and-right (is_some_list p.0) (is_some_list p.1) h)) refl
+
+-- ---- nodes
+
+scan_at : (r : Name) (shared : Bool) (z : Name) (p : List ℕ) → is_some_list r ≡ true → is_some_list z ≡ true
+    → own_in (object (with_scan (record { relation = r; shared = shared; size = z; prefix = p }) no_members)) ≡ Some (own_scan bare (record { relation = r; shared = shared; size = z; prefix = p }))
+unfolding own_in text_at name_at scan_own scan_in claimed
+scan_at r true z [] h k = rw (name-back r h, name-back z k) refl
+scan_at r true z (x ∷ xs) h k = rw (name-back r h, name-back z k) refl
+scan_at r false z [] h k = rw (name-back r h, name-back z k) refl
+scan_at r false z (x ∷ xs) h k = rw (name-back r h, name-back z k) refl
+
+scan_claimed : (e : Data) (c : ClaimForm) → claim_in e ≡ Some c → (r : Name) (shared : Bool) (z : Name) (p : List ℕ) → is_some_list r ≡ true → is_some_list z ≡ true
+    → own_in (object (with_scan (record { relation = r; shared = shared; size = z; prefix = p }) (member (codes "claim") e no_members))) ≡ Some (own_scan c (record { relation = r; shared = shared; size = z; prefix = p }))
+unfolding own_in text_at name_at scan_own scan_in claimed
+scan_claimed e c g r true z [] h k = rw (g, name-back r h, name-back z k) refl
+scan_claimed e c g r true z (x ∷ xs) h k = rw (g, name-back r h, name-back z k) refl
+scan_claimed e c g r false z [] h k = rw (g, name-back r h, name-back z k) refl
+scan_claimed e c g r false z (x ∷ xs) h k = rw (g, name-back r h, name-back z k) refl
+
+scan-back : (c : ClaimForm) (s : ScanForm) → is_claim_form c ≡ true → is_scan_form s ≡ true → own_in (scan_json c s) ≡ Some (own_scan c s)
+scan-back c s h k =
+    let r = and-left (is_some_list s.relation) (is_some_list s.size) k in
+    let z = and-right (is_some_list s.relation) (is_some_list s.size) k in
+    by_claim (λ ms c. own_in (object (with_scan s ms)) ≡ Some (own_scan c s)) (scan_at s.relation s.shared s.size s.prefix r z)
+    (λ e c g. scan_claimed e c g s.relation s.shared s.size s.prefix r z) c h
+
+unary_bare : (op : UnaryForm) (d : Data) → is_unary_form op ≡ true → own_in (object (put (codes "input") d (with_unary op no_members))) ≡ Some (own_unary bare op d)
+unfolding own_in text_at unary_own unary_in select_in outputs_in sort_in group_in claimed
+unary_bare (select cs) d h = rw (some-back is_condition_form condition_in condition_json condition-back cs h) refl
+unary_bare (project os) d h = rw (some-back is_output_form output_in output_json output-back os h) refl
+unary_bare (distinct os) d h = rw (some-back is_output_form output_in output_json output-back os h) refl
+unary_bare (sort cols) d h = rw (some_names-back cols h) refl
+unary_bare (group [] []) d h = cc
+unary_bare (group [] (a ∷ as')) d h = rw (names-back [] refl, list-back is_aggregate_form aggregate_in aggregate_json aggregate-back (a ∷ as') h) refl
+unary_bare (group (n ∷ ns) as') d h = rw (names-back (n ∷ ns) (and-left (are_names (n ∷ ns)) (list_all is_aggregate_form as') h), list-back is_aggregate_form aggregate_in aggregate_json aggregate-back as' (and-right (are_names (n ∷ ns)) (list_all is_aggregate_form as') h)) refl
+
+unary_claimed : (e : Data) (c : ClaimForm) → claim_in e ≡ Some c → (op : UnaryForm) (d : Data) → is_unary_form op ≡ true
+    → own_in (object (put (codes "input") d (with_unary op (member (codes "claim") e no_members)))) ≡ Some (own_unary c op d)
+unfolding own_in text_at unary_own unary_in select_in outputs_in sort_in group_in claimed
+unary_claimed e c g (select cs) d h = rw (g, some-back is_condition_form condition_in condition_json condition-back cs h) refl
+unary_claimed e c g (project os) d h = rw (g, some-back is_output_form output_in output_json output-back os h) refl
+unary_claimed e c g (distinct os) d h = rw (g, some-back is_output_form output_in output_json output-back os h) refl
+unary_claimed e c g (sort cols) d h = rw (g, some_names-back cols h) refl
+unary_claimed e c g (group [] []) d h = cc
+unary_claimed e c g (group [] (a ∷ as')) d h = rw (g, names-back [] refl, list-back is_aggregate_form aggregate_in aggregate_json aggregate-back (a ∷ as') h) refl
+unary_claimed e c g (group (n ∷ ns) as') d h = rw (g, names-back (n ∷ ns) (and-left (are_names (n ∷ ns)) (list_all is_aggregate_form as') h), list-back is_aggregate_form aggregate_in aggregate_json aggregate-back as' (and-right (are_names (n ∷ ns)) (list_all is_aggregate_form as') h)) refl
+
+unary-back : (c : ClaimForm) (op : UnaryForm) (d : Data) → is_claim_form c ≡ true → is_unary_form op ≡ true → own_in (unary_json c op d) ≡ Some (own_unary c op d)
+unary-back c op d h k =
+    by_claim (λ ms c. own_in (object (put (codes "input") d (with_unary op ms))) ≡ Some (own_unary c op d)) (unary_bare op d k) (λ e c g. unary_claimed e c g op d k) c h
+
+binary_bare : (op : BinaryForm) (d f : Data) → is_binary_form op ≡ true → own_in (object (put (codes "right") f (put (codes "left") d (with_binary op no_members)))) ≡ Some (own_binary bare op d f)
+unfolding own_in text_at union_in join_in claimed
+binary_bare union d f h = refl
+binary_bare (join true on) d f h = rw (some-back is_pair_form pair_in pair_json pair-back on h) refl
+binary_bare (join false on) d f h = rw (some-back is_pair_form pair_in pair_json pair-back on h) refl
+
+binary_claimed : (e : Data) (c : ClaimForm) → claim_in e ≡ Some c → (op : BinaryForm) (d f : Data) → is_binary_form op ≡ true
+    → own_in (object (put (codes "right") f (put (codes "left") d (with_binary op (member (codes "claim") e no_members))))) ≡ Some (own_binary c op d f)
+unfolding own_in text_at union_in join_in claimed
+binary_claimed e c g union d f h = rw g refl
+binary_claimed e c g (join true on) d f h = rw (g, some-back is_pair_form pair_in pair_json pair-back on h) refl
+binary_claimed e c g (join false on) d f h = rw (g, some-back is_pair_form pair_in pair_json pair-back on h) refl
+
+binary-back : (c : ClaimForm) (op : BinaryForm) (d f : Data) → is_claim_form c ≡ true → is_binary_form op ≡ true → own_in (binary_json c op d f) ≡ Some (own_binary c op d f)
+binary-back c op d f h k =
+    by_claim (λ ms c. own_in (object (put (codes "right") f (put (codes "left") d (with_binary op ms)))) ≡ Some (own_binary c op d f)) (binary_bare op d f k) (λ e c g. binary_claimed e c g op d f k) c h
+
+exchange_bare : (k : KindForm) (m : List Name) (d : Data) → is_kind_form k ≡ true → are_names m ≡ true
+    → own_in (object (put (codes "input") d (with_some (codes "merge") string m (with_kind k (with_text (codes "op") (codes "exchange") no_members))))) ≡ Some (own_exchange bare k m d)
+unfolding own_in text_at name_at exchange_own kind_in hash_in range_in sized_in gather_in claimed
+exchange_bare (hash z r cols) [] d h k = rw (name-back z (and-left (is_some_list z) (is_some_list r && are_some_names cols) h), name-back r (and-left (is_some_list r) (are_some_names cols) (and-right (is_some_list z) (is_some_list r && are_some_names cols) h)), some_names-back cols (and-right (is_some_list r) (are_some_names cols) (and-right (is_some_list z) (is_some_list r && are_some_names cols) h))) refl
+exchange_bare (hash z r cols) (x ∷ xs) d h k = rw (name-back z (and-left (is_some_list z) (is_some_list r && are_some_names cols) h), name-back r (and-left (is_some_list r) (are_some_names cols) (and-right (is_some_list z) (is_some_list r && are_some_names cols) h)), some_names-back cols (and-right (is_some_list r) (are_some_names cols) (and-right (is_some_list z) (is_some_list r && are_some_names cols) h)), some_names-back (x ∷ xs) k) refl
+exchange_bare (range z n col) [] d h k = rw (name-back z (and-left (is_some_list z) (is_some_list n && is_some_list col) h), name-back n (and-left (is_some_list n) (is_some_list col) (and-right (is_some_list z) (is_some_list n && is_some_list col) h)), name-back col (and-right (is_some_list n) (is_some_list col) (and-right (is_some_list z) (is_some_list n && is_some_list col) h))) refl
+exchange_bare (range z n col) (x ∷ xs) d h k = rw (name-back z (and-left (is_some_list z) (is_some_list n && is_some_list col) h), name-back n (and-left (is_some_list n) (is_some_list col) (and-right (is_some_list z) (is_some_list n && is_some_list col) h)), name-back col (and-right (is_some_list n) (is_some_list col) (and-right (is_some_list z) (is_some_list n && is_some_list col) h)), some_names-back (x ∷ xs) k) refl
+exchange_bare (round z) [] d h k = rw (name-back z h) refl
+exchange_bare (round z) (x ∷ xs) d h k = rw (name-back z h, some_names-back (x ∷ xs) k) refl
+exchange_bare (broadcast z) [] d h k = rw (name-back z h) refl
+exchange_bare (broadcast z) (x ∷ xs) d h k = rw (name-back z h, some_names-back (x ∷ xs) k) refl
+exchange_bare gather [] d h k = refl
+exchange_bare gather (x ∷ xs) d h k = rw (some_names-back (x ∷ xs) k) refl
+
+exchange_claimed : (e : Data) (c : ClaimForm) → claim_in e ≡ Some c → (k : KindForm) (m : List Name) (d : Data) → is_kind_form k ≡ true → are_names m ≡ true
+    → own_in (object (put (codes "input") d (with_some (codes "merge") string m (with_kind k (with_text (codes "op") (codes "exchange") (member (codes "claim") e no_members)))))) ≡ Some (own_exchange c k m d)
+unfolding own_in text_at name_at exchange_own kind_in hash_in range_in sized_in gather_in claimed
+exchange_claimed e c g (hash z r cols) [] d h k = rw (g, name-back z (and-left (is_some_list z) (is_some_list r && are_some_names cols) h), name-back r (and-left (is_some_list r) (are_some_names cols) (and-right (is_some_list z) (is_some_list r && are_some_names cols) h)), some_names-back cols (and-right (is_some_list r) (are_some_names cols) (and-right (is_some_list z) (is_some_list r && are_some_names cols) h))) refl
+exchange_claimed e c g (hash z r cols) (x ∷ xs) d h k = rw (g, name-back z (and-left (is_some_list z) (is_some_list r && are_some_names cols) h), name-back r (and-left (is_some_list r) (are_some_names cols) (and-right (is_some_list z) (is_some_list r && are_some_names cols) h)), some_names-back cols (and-right (is_some_list r) (are_some_names cols) (and-right (is_some_list z) (is_some_list r && are_some_names cols) h)), some_names-back (x ∷ xs) k) refl
+exchange_claimed e c g (range z n col) [] d h k = rw (g, name-back z (and-left (is_some_list z) (is_some_list n && is_some_list col) h), name-back n (and-left (is_some_list n) (is_some_list col) (and-right (is_some_list z) (is_some_list n && is_some_list col) h)), name-back col (and-right (is_some_list n) (is_some_list col) (and-right (is_some_list z) (is_some_list n && is_some_list col) h))) refl
+exchange_claimed e c g (range z n col) (x ∷ xs) d h k = rw (g, name-back z (and-left (is_some_list z) (is_some_list n && is_some_list col) h), name-back n (and-left (is_some_list n) (is_some_list col) (and-right (is_some_list z) (is_some_list n && is_some_list col) h)), name-back col (and-right (is_some_list n) (is_some_list col) (and-right (is_some_list z) (is_some_list n && is_some_list col) h)), some_names-back (x ∷ xs) k) refl
+exchange_claimed e c g (round z) [] d h k = rw (g, name-back z h) refl
+exchange_claimed e c g (round z) (x ∷ xs) d h k = rw (g, name-back z h, some_names-back (x ∷ xs) k) refl
+exchange_claimed e c g (broadcast z) [] d h k = rw (g, name-back z h) refl
+exchange_claimed e c g (broadcast z) (x ∷ xs) d h k = rw (g, name-back z h, some_names-back (x ∷ xs) k) refl
+exchange_claimed e c g gather [] d h k = rw (g) refl
+exchange_claimed e c g gather (x ∷ xs) d h k = rw (g, some_names-back (x ∷ xs) k) refl
+
+exchange-back : (c : ClaimForm) (k : KindForm) (m : List Name) (d : Data) → is_claim_form c ≡ true → is_kind_form k ≡ true → are_names m ≡ true → own_in (exchange_json c k m d) ≡ Some (own_exchange c k m d)
+exchange-back c k m d h i j =
+    by_claim (λ ms c. own_in (object (put (codes "input") d (with_some (codes "merge") string m (with_kind k (with_text (codes "op") (codes "exchange") ms))))) ≡ Some (own_exchange c k m d))
+    (exchange_bare k m d i j) (λ e c g. exchange_claimed e c g k m d i j) c h
+
+-- a tree that is neither too deep nor too large
+pub node-back : (levels seen : ℕ) (path : List ℕ) (t : Tree) → is_tree_form t ≡ true → tree_levels t ≤ levels → seen + tree_nodes t ≤ 1000
+    → node_in levels seen path (node_json t) ≡ Ok (t, seen + tree_nodes t)
+node-back levels seen path (scan c s) h low few =
+    node_step levels seen path _ _ (omega (arith, low)) (omega (arith, few)) (scan-back c s (and-left (is_claim_form c) (is_scan_form s) h) (and-right (is_claim_form c) (is_scan_form s) h))
+node-back levels seen path (unary c op t) h low few =
+    let rest = and-right (is_claim_form c) (is_unary_form op && is_tree_form t) h in
+    let own = unary-back c op (node_json t) (and-left (is_claim_form c) (is_unary_form op && is_tree_form t) h) (and-left (is_unary_form op) (is_tree_form t) rest) in
+    let step = node_step levels seen path _ _ (omega (arith, low)) (omega (arith, few)) own in
+    let below = node-back (levels - 1) (seen + 1) (path ++ codes ".input") t (and-right (is_unary_form op) (is_tree_form t) rest) (omega (arith, low)) (omega (arith, few)) in
+    let count : seen + 1 + tree_nodes t ≡ seen + suc (tree_nodes t) = omega arith in
+    rw (step, below) (ap (λ n. Ok (unary c op t, n)) count)
+node-back levels seen path (binary c op t u) h low few =
+    let rest = and-right (is_claim_form c) (is_binary_form op && (is_tree_form t && is_tree_form u)) h in
+    let trees = and-right (is_binary_form op) (is_tree_form t && is_tree_form u) rest in
+    let own = binary-back c op (node_json t) (node_json u) (and-left (is_claim_form c) (is_binary_form op && (is_tree_form t && is_tree_form u)) h) (and-left (is_binary_form op) (is_tree_form t && is_tree_form u) rest) in
+    let step = node_step levels seen path _ _ (omega (arith, low)) (omega (arith, few)) own in
+    let l = le-max_left (tree_levels t) (tree_levels u) in
+    let r = le-max_right (tree_levels t) (tree_levels u) in
+    let first = node-back (levels - 1) (seen + 1) (path ++ codes ".left") t (and-left (is_tree_form t) (is_tree_form u) trees) (omega (arith, low, l)) (omega (arith, few)) in
+    let second = node-back (levels - 1) (seen + 1 + tree_nodes t) (path ++ codes ".right") u (and-right (is_tree_form t) (is_tree_form u) trees) (omega (arith, low, r)) (omega (arith, few)) in
+    let count : seen + 1 + tree_nodes t + tree_nodes u ≡ seen + suc (tree_nodes t + tree_nodes u) = omega arith in
+    rw (step, first, second) (ap (λ n. Ok (binary c op t u, n)) count)
+node-back levels seen path (exchange c k m t) h low few =
+    let rest = and-right (is_claim_form c) (is_kind_form k && (are_names m && is_tree_form t)) h in
+    let last = and-right (is_kind_form k) (are_names m && is_tree_form t) rest in
+    let own = exchange-back c k m (node_json t) (and-left (is_claim_form c) (is_kind_form k && (are_names m && is_tree_form t)) h) (and-left (is_kind_form k) (are_names m && is_tree_form t) rest) (and-left (are_names m) (is_tree_form t) last) in
+    let step = node_step levels seen path _ _ (omega (arith, low)) (omega (arith, few)) own in
+    let below = node-back (levels - 1) (seen + 1) (path ++ codes ".input") t (and-right (are_names m) (is_tree_form t) last) (omega (arith, low)) (omega (arith, few)) in
+    let count : seen + 1 + tree_nodes t ≡ seen + suc (tree_nodes t) = omega arith in
+    rw (step, below) (ap (λ n. Ok (exchange c k m t, n)) count)
+
+-- ---- documents
+
+head-back : (zs : List Name) (rs : List RangeForm) (b : Bool) (d : Data) → are_names zs ≡ true → list_all is_range_form rs ≡ true
+    → head_in (object (put (codes "root") d (with_total b (with_some (codes "ranges") range_json rs (with_some (codes "sizes") string zs no_members))))) ≡ Some (head_of zs rs b d)
+unfolding head_in
+head-back [] [] true d h k = refl
+head-back [] (r ∷ rs) true d h k = rw (list-back is_range_form declared_in range_json declared-back (r ∷ rs) k) refl
+head-back (z ∷ zs) [] true d h k = rw (names-back (z ∷ zs) h) refl
+head-back (z ∷ zs) (r ∷ rs) true d h k = rw (names-back (z ∷ zs) h, list-back is_range_form declared_in range_json declared-back (r ∷ rs) k) refl
+head-back [] [] false d h k = refl
+head-back [] (r ∷ rs) false d h k = rw (list-back is_range_form declared_in range_json declared-back (r ∷ rs) k) refl
+head-back (z ∷ zs) [] false d h k = rw (names-back (z ∷ zs) h) refl
+head-back (z ∷ zs) (r ∷ rs) false d h k = rw (names-back (z ∷ zs) h, list-back is_range_form declared_in range_json declared-back (r ∷ rs) k) refl
+
+pub document-back : (d : Document) → is_head_form d.sizes d.ranges ≡ true → is_tree_form d.root ≡ true → tree_levels d.root ≤ 64 → tree_nodes d.root ≤ 1000 → document_in (document_json d) ≡ Ok d
+unfolding document_in
+document-back d h formed low few =
+    let head = head-back d.sizes d.ranges d.total (node_json d.root) (and-left (are_names d.sizes) (list_all is_range_form d.ranges) h) (and-right (are_names d.sizes) (list_all is_range_form d.ranges) h) in
+    let root = node-back 64 0 (codes "root") d.root formed low (omega (arith, few)) in
+    rw (head, root) refl

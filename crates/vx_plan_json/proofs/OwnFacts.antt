@@ -1,0 +1,210 @@
+-- What a node says of itself has the form, and so has every tree that is read.
+use Rattle.std.proofs.Common.{◌≡◌, ℕ, zero, suc, ◌+◌, List, [], ◌∷◌, ◌++◌, Bool, true, false, cond, ltb, ◌&&◌, Option, Some, None, option_map, option_and_then, Result, Ok, Err, codes, bytes_eq, refl}
+use Rattle.std.specs.List.{list_all}
+use Rattle.serde_json.specs.Data.{Data}
+use Rattle.serde_json.specs.Find.{get, as_str}
+use Rattle.vx_json.specs.Look.{has_only}
+use Rattle.vx_plan_json.specs.Look.{name_at, text_at, each_in, some_in, or_default}
+use Rattle.vx_values.specs.Lists.{is_some_list}
+use Rattle.vx_plan_json.specs.Fault.{Refusal, too_deep, ◌>>=◌}
+use Rattle.vx_values.specs.Values.{Name}
+use Rattle.vx_plan_json.specs.Document.{AggregateForm, select, project, distinct, sort, BinaryForm, union, join, hash, range, round, broadcast, gather, Tree, unary, binary, exchange}
+use Rattle.vx_plan_json.specs.Form.{names_in, some_names_in, claimed, condition_in, output_in, aggregate_in, pair_in}
+use Rattle.vx_plan_json.specs.Operators.{OwnForm, own_scan, own_unary, own_binary, own_exchange, mode_named, scan_in, scan_own, select_in, outputs_in, sort_in, group_or, group_in, unary_in, unary_own, method_named, join_in, union_in, binary_own, hash_in, range_in, sized_in, gather_in, kind_in, exchange_own, own_named, own_in}
+use Rattle.vx_plan_json.specs.Reading.{node_in, with_inputs}
+use Rattle.vx_plan_json.specs.Formed.{are_names, are_some_names, is_claim_form, is_condition_form, is_output_form, is_aggregate_form, is_scan_form, is_unary_form, is_pair_form, is_binary_form, is_kind_form, is_tree_form}
+use Rattle.vx_plan_json.proofs.Holds.{and-left, and-right, and-both, Within, within_then, within_any, within_map, within_if, Holds, holds_then}
+use Rattle.vx_plan_json.proofs.FormedFacts.{name_at-some, each_within, some_within, names_within, some_names_within, claimed-within, condition-within, output-within, aggregate-within, pair-within}
+
+-- what a node says of itself has the form
+is_own_form : OwnForm → Bool
+is_own_form (own_scan c s) = is_claim_form c && is_scan_form s
+is_own_form (own_unary c op d) = is_claim_form c && is_unary_form op
+is_own_form (own_binary c op d e) = is_claim_form c && is_binary_form op
+is_own_form (own_exchange c k m d) = is_claim_form c && (is_kind_form k && are_names m)
+
+scan_in-within : (d : Data) → Within is_scan_form (scan_in d)
+unfolding scan_in
+scan_in-within d =
+    within_then is_some_list is_scan_form
+    (λ r. option_and_then (λ m. option_and_then (λ z. option_and_then (λ p. Some (record { relation = r; shared = m; size = z; prefix = p })) (or_default [] as_str (get (codes "prefix") d))) (name_at (codes "size") d)) (option_and_then mode_named (text_at (codes "mode") d)))
+    (name_at (codes "relation") d) (name_at-some (codes "relation") d)
+    (λ r h. within_any is_scan_form (λ m. option_and_then (λ z. option_and_then (λ p. Some (record { relation = r; shared = m; size = z; prefix = p })) (or_default [] as_str (get (codes "prefix") d))) (name_at (codes "size") d)) (option_and_then mode_named (text_at (codes "mode") d))
+    (λ m. within_then is_some_list is_scan_form (λ z. option_and_then (λ p. Some (record { relation = r; shared = m; size = z; prefix = p })) (or_default [] as_str (get (codes "prefix") d))) (name_at (codes "size") d) (name_at-some (codes "size") d)
+    (λ z k. within_any is_scan_form (λ p. Some (record { relation = r; shared = m; size = z; prefix = p })) (or_default [] as_str (get (codes "prefix") d))
+    (λ p. and-both (is_some_list r) (is_some_list z) h k))))
+
+scan_own-within : (d : Data) → Within is_own_form (scan_own d)
+unfolding scan_own is_own_form
+scan_own-within d =
+    within_if is_own_form (has_only (codes "op" ∷ codes "relation" ∷ codes "mode" ∷ codes "size" ∷ codes "prefix" ∷ codes "claim" ∷ []) d) _ None
+    (within_then is_scan_form is_own_form (λ s. option_and_then (λ c. Some (own_scan c s)) (claimed d)) (scan_in d) (scan_in-within d)
+    (λ s h. within_then is_claim_form is_own_form (λ c. Some (own_scan c s)) (claimed d) (claimed-within d) (λ c k. and-both (is_claim_form c) (is_scan_form s) k h))) tt
+
+-- a list of a form with an entry, in a member
+some_at : {A : Type 0} (p : A → Bool) (f : Data → Option A) → ((d : Data) → Within p (f d)) → (key : List ℕ) (d : Data) → Within (λ xs. is_some_list xs && list_all p xs) (option_and_then (some_in f) (get key d))
+some_at p f k key d = within_any (λ xs. is_some_list xs && list_all p xs) (some_in f) (get key d) (some_within p f k)
+
+select-within : (d : Data) → Within is_unary_form (select_in d)
+unfolding select_in
+select-within d =
+    within_if is_unary_form (has_only (codes "op" ∷ codes "where" ∷ codes "input" ∷ codes "claim" ∷ []) d) _ None
+    (within_map (λ xs. is_some_list xs && list_all is_condition_form xs) is_unary_form select (option_and_then (some_in condition_in) (get (codes "where") d)) (some_at is_condition_form condition_in condition-within (codes "where") d) (λ cs h. h)) tt
+
+outputs-within : (d : Data) → Within (λ xs. is_some_list xs && list_all is_output_form xs) (outputs_in d)
+unfolding outputs_in
+outputs-within d =
+    within_if (λ xs. is_some_list xs && list_all is_output_form xs) (has_only (codes "op" ∷ codes "columns" ∷ codes "input" ∷ codes "claim" ∷ []) d) _ None
+    (some_at is_output_form output_in output-within (codes "columns") d) tt
+
+sort-within : (d : Data) → Within is_unary_form (sort_in d)
+unfolding sort_in
+sort-within d =
+    within_if is_unary_form (has_only (codes "op" ∷ codes "columns" ∷ codes "input" ∷ codes "claim" ∷ []) d) _ None
+    (within_map are_some_names is_unary_form sort (option_and_then some_names_in (get (codes "columns") d)) (within_any are_some_names some_names_in (get (codes "columns") d) some_names_within) (λ ns h. h)) tt
+
+group_or-within : (by : List Name) (aggregates : List AggregateForm) → are_names by ≡ true → list_all is_aggregate_form aggregates ≡ true → Within is_unary_form (group_or by aggregates)
+group_or-within [] [] h k = tt
+group_or-within [] (a ∷ as') h k = k
+group_or-within (n ∷ ns) as' h k = and-both (are_names (n ∷ ns)) (list_all is_aggregate_form as') h k
+
+group-within : (d : Data) → Within is_unary_form (group_in d)
+unfolding group_in
+group-within d =
+    within_if is_unary_form (has_only (codes "op" ∷ codes "by" ∷ codes "aggregates" ∷ codes "input" ∷ codes "claim" ∷ []) d) _ None
+    (within_then are_names is_unary_form (λ by. option_and_then (λ aggregates. group_or by aggregates) (option_and_then (each_in aggregate_in) (get (codes "aggregates") d))) (option_and_then names_in (get (codes "by") d))
+    (within_any are_names names_in (get (codes "by") d) names_within)
+    (λ by h. within_then (list_all is_aggregate_form) is_unary_form (λ aggregates. group_or by aggregates) (option_and_then (each_in aggregate_in) (get (codes "aggregates") d))
+    (within_any (list_all is_aggregate_form) (each_in aggregate_in) (get (codes "aggregates") d) (each_within is_aggregate_form aggregate_in aggregate-within))
+    (λ aggregates k. group_or-within by aggregates h k))) tt
+
+unary-within : (s : List ℕ) (d : Data) → Within is_unary_form (unary_in s d)
+unfolding unary_in
+unary-within s d =
+    within_if is_unary_form (bytes_eq s (codes "select")) (select_in d) _ (select-within d)
+    (within_if is_unary_form (bytes_eq s (codes "project")) (option_map project (outputs_in d)) _ (within_map (λ xs. is_some_list xs && list_all is_output_form xs) is_unary_form project (outputs_in d) (outputs-within d) (λ os h. h))
+    (within_if is_unary_form (bytes_eq s (codes "distinct")) (option_map distinct (outputs_in d)) _ (within_map (λ xs. is_some_list xs && list_all is_output_form xs) is_unary_form distinct (outputs_in d) (outputs-within d) (λ os h. h))
+    (within_if is_unary_form (bytes_eq s (codes "sort")) (sort_in d) _ (sort-within d)
+    (within_if is_unary_form (bytes_eq s (codes "group")) (group_in d) None (group-within d) tt))))
+
+unary_own-within : (s : List ℕ) (d : Data) → Within is_own_form (unary_own s d)
+unfolding unary_own is_own_form
+unary_own-within s d =
+    within_then is_unary_form is_own_form (λ op. option_and_then (λ c. option_and_then (λ i. Some (own_unary c op i)) (get (codes "input") d)) (claimed d)) (unary_in s d) (unary-within s d)
+    (λ op h. within_then is_claim_form is_own_form (λ c. option_and_then (λ i. Some (own_unary c op i)) (get (codes "input") d)) (claimed d) (claimed-within d)
+    (λ c k. within_any is_own_form (λ i. Some (own_unary c op i)) (get (codes "input") d) (λ i. and-both (is_claim_form c) (is_unary_form op) k h)))
+
+join-within : (d : Data) → Within is_binary_form (join_in d)
+unfolding join_in
+join-within d =
+    within_if is_binary_form (has_only (codes "op" ∷ codes "method" ∷ codes "on" ∷ codes "left" ∷ codes "right" ∷ codes "claim" ∷ []) d) _ None
+    (within_any is_binary_form (λ m. option_and_then (λ on. Some (join m on)) (option_and_then (some_in pair_in) (get (codes "on") d))) (option_and_then method_named (text_at (codes "method") d))
+    (λ m. within_then (λ xs. is_some_list xs && list_all is_pair_form xs) is_binary_form (λ on. Some (join m on)) (option_and_then (some_in pair_in) (get (codes "on") d))
+    (some_at is_pair_form pair_in pair-within (codes "on") d) (λ on h. h))) tt
+
+union-within : (d : Data) → Within is_binary_form (union_in d)
+unfolding union_in
+union-within d = within_if is_binary_form (has_only (codes "op" ∷ codes "left" ∷ codes "right" ∷ codes "claim" ∷ []) d) (Some union) None refl tt
+
+binary_own-within : (form : Option BinaryForm) (d : Data) → Within is_binary_form form → Within is_own_form (binary_own form d)
+unfolding is_own_form
+binary_own-within form d w =
+    within_then is_binary_form is_own_form (λ op. option_and_then (λ c. option_and_then (λ l. option_and_then (λ r. Some (own_binary c op l r)) (get (codes "right") d)) (get (codes "left") d)) (claimed d)) form w
+    (λ op h. within_then is_claim_form is_own_form (λ c. option_and_then (λ l. option_and_then (λ r. Some (own_binary c op l r)) (get (codes "right") d)) (get (codes "left") d)) (claimed d) (claimed-within d)
+    (λ c k. within_any is_own_form (λ l. option_and_then (λ r. Some (own_binary c op l r)) (get (codes "right") d)) (get (codes "left") d)
+    (λ l. within_any is_own_form (λ r. Some (own_binary c op l r)) (get (codes "right") d) (λ r. and-both (is_claim_form c) (is_binary_form op) k h))))
+
+hash-within : (d : Data) → Within is_kind_form (hash_in d)
+unfolding hash_in
+hash-within d =
+    within_if is_kind_form (has_only (codes "op" ∷ codes "kind" ∷ codes "size" ∷ codes "route" ∷ codes "columns" ∷ codes "merge" ∷ codes "input" ∷ codes "claim" ∷ []) d) _ None
+    (within_then is_some_list is_kind_form (λ z. option_and_then (λ r. option_and_then (λ cols. Some (hash z r cols)) (option_and_then some_names_in (get (codes "columns") d))) (name_at (codes "route") d)) (name_at (codes "size") d) (name_at-some (codes "size") d)
+    (λ z h. within_then is_some_list is_kind_form (λ r. option_and_then (λ cols. Some (hash z r cols)) (option_and_then some_names_in (get (codes "columns") d))) (name_at (codes "route") d) (name_at-some (codes "route") d)
+    (λ r k. within_then are_some_names is_kind_form (λ cols. Some (hash z r cols)) (option_and_then some_names_in (get (codes "columns") d)) (within_any are_some_names some_names_in (get (codes "columns") d) some_names_within)
+    (λ cols m. and-both (is_some_list z) (is_some_list r && are_some_names cols) h (and-both (is_some_list r) (are_some_names cols) k m))))) tt
+
+range-within : (d : Data) → Within is_kind_form (range_in d)
+unfolding range_in
+range-within d =
+    within_if is_kind_form (has_only (codes "op" ∷ codes "kind" ∷ codes "size" ∷ codes "route" ∷ codes "column" ∷ codes "merge" ∷ codes "input" ∷ codes "claim" ∷ []) d) _ None
+    (within_then is_some_list is_kind_form (λ z. option_and_then (λ r. option_and_then (λ c. Some (range z r c)) (name_at (codes "column") d)) (name_at (codes "route") d)) (name_at (codes "size") d) (name_at-some (codes "size") d)
+    (λ z h. within_then is_some_list is_kind_form (λ r. option_and_then (λ c. Some (range z r c)) (name_at (codes "column") d)) (name_at (codes "route") d) (name_at-some (codes "route") d)
+    (λ r k. within_then is_some_list is_kind_form (λ c. Some (range z r c)) (name_at (codes "column") d) (name_at-some (codes "column") d)
+    (λ c m. and-both (is_some_list z) (is_some_list r && is_some_list c) h (and-both (is_some_list r) (is_some_list c) k m))))) tt
+
+sized-within : (d : Data) → Within is_some_list (sized_in d)
+unfolding sized_in
+sized-within d = within_if is_some_list (has_only (codes "op" ∷ codes "kind" ∷ codes "size" ∷ codes "merge" ∷ codes "input" ∷ codes "claim" ∷ []) d) (name_at (codes "size") d) None (name_at-some (codes "size") d) tt
+
+gather-within : (d : Data) → Within is_kind_form (gather_in d)
+unfolding gather_in
+gather-within d = within_if is_kind_form (has_only (codes "op" ∷ codes "kind" ∷ codes "merge" ∷ codes "input" ∷ codes "claim" ∷ []) d) (Some gather) None refl tt
+
+kind-within : (s : List ℕ) (d : Data) → Within is_kind_form (kind_in s d)
+unfolding kind_in
+kind-within s d =
+    within_if is_kind_form (bytes_eq s (codes "hash")) (hash_in d) _ (hash-within d)
+    (within_if is_kind_form (bytes_eq s (codes "range")) (range_in d) _ (range-within d)
+    (within_if is_kind_form (bytes_eq s (codes "round")) (option_map round (sized_in d)) _ (within_map is_some_list is_kind_form round (sized_in d) (sized-within d) (λ z h. h))
+    (within_if is_kind_form (bytes_eq s (codes "broadcast")) (option_map broadcast (sized_in d)) _ (within_map is_some_list is_kind_form broadcast (sized_in d) (sized-within d) (λ z h. h))
+    (within_if is_kind_form (bytes_eq s (codes "gather")) (gather_in d) None (gather-within d) tt))))
+
+some_are_names : (ns : List Name) → are_some_names ns ≡ true → are_names ns ≡ true
+some_are_names ns h = and-right (is_some_list ns) (are_names ns) h
+
+merge-within : (o : Option Data) → Within are_names (or_default [] some_names_in o)
+merge-within None = refl
+merge-within (Some d) = go (some_names_in d) (some_names_within d)
+  where
+    go : (o : Option (List Name)) → Within are_some_names o → Within are_names o
+    go None h = tt
+    go (Some ns) h = some_are_names ns h
+
+exchange_own-within : (d : Data) → Within is_own_form (exchange_own d)
+unfolding exchange_own is_own_form
+exchange_own-within d =
+    within_any is_own_form (λ s. option_and_then (λ k. option_and_then (λ m. option_and_then (λ c. option_and_then (λ i. Some (own_exchange c k m i)) (get (codes "input") d)) (claimed d)) (or_default [] some_names_in (get (codes "merge") d))) (kind_in s d)) (text_at (codes "kind") d)
+    (λ s. within_then is_kind_form is_own_form (λ k. option_and_then (λ m. option_and_then (λ c. option_and_then (λ i. Some (own_exchange c k m i)) (get (codes "input") d)) (claimed d)) (or_default [] some_names_in (get (codes "merge") d))) (kind_in s d) (kind-within s d)
+    (λ k h. within_then are_names is_own_form (λ m. option_and_then (λ c. option_and_then (λ i. Some (own_exchange c k m i)) (get (codes "input") d)) (claimed d)) (or_default [] some_names_in (get (codes "merge") d)) (merge-within (get (codes "merge") d))
+    (λ m n. within_then is_claim_form is_own_form (λ c. option_and_then (λ i. Some (own_exchange c k m i)) (get (codes "input") d)) (claimed d) (claimed-within d)
+    (λ c w. within_any is_own_form (λ i. Some (own_exchange c k m i)) (get (codes "input") d) (λ i. and-both (is_claim_form c) (is_kind_form k && are_names m) w (and-both (is_kind_form k) (are_names m) h n))))))
+
+own-within : (d : Data) → Within is_own_form (own_in d)
+unfolding own_in
+own-within d = within_any is_own_form (λ s. own_named s d) (text_at (codes "op") d) (λ s.
+    within_if is_own_form (bytes_eq s (codes "scan")) (scan_own d) _ (scan_own-within d)
+    (within_if is_own_form (bytes_eq s (codes "union")) (binary_own (union_in d) d) _ (binary_own-within (union_in d) d (union-within d))
+    (within_if is_own_form (bytes_eq s (codes "join")) (binary_own (join_in d) d) _ (binary_own-within (join_in d) d (join-within d))
+    (within_if is_own_form (bytes_eq s (codes "exchange")) (exchange_own d) (unary_own s d) (exchange_own-within d) (unary_own-within s d)))))
+
+abbrev IsFormed : Tree × ℕ → Type 0
+IsFormed r = is_tree_form r.0 ≡ true
+
+inputs-formed : (below : ℕ → List ℕ → Data → Result (Tree × ℕ) Refusal) → ((seen : ℕ) (path : List ℕ) (d : Data) → Holds IsFormed (below seen path d)) → (seen : ℕ) (path : List ℕ) (own : Option OwnForm)
+    → Within is_own_form own → Holds IsFormed (with_inputs below seen path own)
+unfolding is_own_form
+inputs-formed below formed seen path None w = tt
+inputs-formed below formed seen path (Some (own_scan c s)) w = w
+inputs-formed below formed seen path (Some (own_unary c op d)) w =
+    holds_then IsFormed IsFormed (λ t. Ok (unary c op t.0, t.1)) (below (seen + 1) (path ++ codes ".input") d) (formed (seen + 1) (path ++ codes ".input") d)
+    (λ t h. and-both (is_claim_form c) (is_unary_form op && is_tree_form t.0) (and-left (is_claim_form c) (is_unary_form op) w) (and-both (is_unary_form op) (is_tree_form t.0) (and-right (is_claim_form c) (is_unary_form op) w) h))
+inputs-formed below formed seen path (Some (own_binary c op d e)) w =
+    holds_then IsFormed IsFormed (λ l. below l.1 (path ++ codes ".right") e >>= λ r. Ok (binary c op l.0 r.0, r.1)) (below (seen + 1) (path ++ codes ".left") d) (formed (seen + 1) (path ++ codes ".left") d)
+    (λ l h. holds_then IsFormed IsFormed (λ r. Ok (binary c op l.0 r.0, r.1)) (below l.1 (path ++ codes ".right") e) (formed l.1 (path ++ codes ".right") e)
+    (λ r k. and-both (is_claim_form c) (is_binary_form op && (is_tree_form l.0 && is_tree_form r.0)) (and-left (is_claim_form c) (is_binary_form op) w)
+    (and-both (is_binary_form op) (is_tree_form l.0 && is_tree_form r.0) (and-right (is_claim_form c) (is_binary_form op) w) (and-both (is_tree_form l.0) (is_tree_form r.0) h k))))
+inputs-formed below formed seen path (Some (own_exchange c k m d)) w =
+    holds_then IsFormed IsFormed (λ t. Ok (exchange c k m t.0, t.1)) (below (seen + 1) (path ++ codes ".input") d) (formed (seen + 1) (path ++ codes ".input") d)
+    (λ t h. let rest = and-right (is_claim_form c) (is_kind_form k && are_names m) w in
+    and-both (is_claim_form c) (is_kind_form k && (are_names m && is_tree_form t.0)) (and-left (is_claim_form c) (is_kind_form k && are_names m) w)
+    (and-both (is_kind_form k) (are_names m && is_tree_form t.0) (and-left (is_kind_form k) (are_names m) rest) (and-both (are_names m) (is_tree_form t.0) (and-right (is_kind_form k) (are_names m) rest) h)))
+
+formed_if : (b : Bool) (r : Result (Tree × ℕ) Refusal) → Holds IsFormed r → Holds IsFormed (cond b r (Err too_deep))
+formed_if true r h = h
+formed_if false r h = tt
+
+-- every tree that is read has the form
+pub node-formed : (levels seen : ℕ) (path : List ℕ) (d : Data) → Holds (λ (r : Tree × ℕ). is_tree_form r.0 ≡ true) (node_in levels seen path d)
+unfolding node_in
+node-formed zero seen path d = tt
+node-formed (suc levels) seen path d = formed_if (ltb seen 1000) (with_inputs (node_in levels) seen path (own_in d)) (inputs-formed (node_in levels) (node-formed levels) seen path (own_in d) (own-within d))

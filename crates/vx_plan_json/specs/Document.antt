@@ -1,0 +1,176 @@
+-- Plans as their documents say them: relations, columns, sizes and ranges by name.
+use Rattle.std.specs.Prelude.{ℕ, suc, ◌+◌, max, List, map, Bool, true, false, Option, option_map, string_bytes, String}
+use Rattle.std.specs.declared.alloc.Global.{Global}
+use Rattle.vx_values.specs.Values.{Name, Val}
+use Rattle.vx_values.specs.ValueView.{val_of, test_of}
+use Rattle.vx_values.specs.Test as comparison
+use Rattle.vx_values.specs.Ranges.{RangeForm}
+use Rattle.vx_plan_json.specs.declared.plan.NamedPart.{NamedPart}
+use Rattle.vx_plan_json.specs.declared.plan.NamedPart.TheVariants as part
+use Rattle.vx_plan_json.specs.declared.plan.NamedClaim.{NamedClaim}
+use Rattle.vx_plan_json.specs.declared.plan.NamedSide.{NamedSide}
+use Rattle.vx_plan_json.specs.declared.plan.NamedSide.TheVariants as side
+use Rattle.vx_plan_json.specs.declared.plan.NamedCondition.{NamedCondition}
+use Rattle.vx_plan_json.specs.declared.plan.NamedOutput.{NamedOutput}
+use Rattle.vx_plan_json.specs.declared.plan.NamedFunction.{NamedFunction}
+use Rattle.vx_plan_json.specs.declared.plan.NamedFunction.TheVariants as function
+use Rattle.vx_plan_json.specs.declared.plan.NamedAggregate.{NamedAggregate}
+use Rattle.vx_plan_json.specs.declared.plan.NamedScan.{NamedScan}
+use Rattle.vx_plan_json.specs.declared.plan.NamedUnary.{NamedUnary}
+use Rattle.vx_plan_json.specs.declared.plan.NamedUnary.TheVariants as op
+use Rattle.vx_plan_json.specs.declared.plan.NamedBinary.{NamedBinary}
+use Rattle.vx_plan_json.specs.declared.plan.NamedBinary.TheVariants as both
+use Rattle.vx_plan_json.specs.declared.plan.NamedKind.{NamedKind}
+use Rattle.vx_plan_json.specs.declared.plan.NamedKind.TheVariants as kind
+use Rattle.vx_plan_json.specs.declared.plan.Node.{Node}
+use Rattle.vx_plan_json.specs.declared.plan.Node.TheVariants as node
+
+pub data PartForm : Type 0 where
+  one : PartForm
+  any : PartForm
+  all : PartForm
+  hash_part : (route : Name) → List Name → PartForm
+  range_part : (range : Name) → Name → PartForm
+
+pub record ClaimForm : Type 0 where
+  pub part : PartForm
+  pub order : List Name
+  pub keys : List (List Name)
+
+pub data SideForm : Type 0 where
+  column : Name → SideForm
+  constant : Val → SideForm
+
+pub record ConditionForm : Type 0 where
+  pub left : Name
+  pub test : comparison.Test
+  pub right : SideForm
+
+-- a column that is kept, with its new name where one is given
+pub record OutputForm : Type 0 where
+  pub column : Name
+  pub renamed : Option Name
+
+pub data FunctionForm : Type 0 where
+  least : Name → FunctionForm
+  greatest : Name → FunctionForm
+  sum : Name → FunctionForm
+  count_rows : FunctionForm
+
+pub record AggregateForm : Type 0 where
+  pub function : FunctionForm
+  pub name : Name
+
+-- an empty prefix is none
+pub record ScanForm : Type 0 where
+  pub relation : Name
+  pub shared : Bool
+  pub size : Name
+  pub prefix : List ℕ
+
+pub data UnaryForm : Type 0 where
+  select : List ConditionForm → UnaryForm
+  project : List OutputForm → UnaryForm
+  distinct : List OutputForm → UnaryForm
+  sort : List Name → UnaryForm
+  group : List Name → List AggregateForm → UnaryForm
+
+pub data BinaryForm : Type 0 where
+  union : BinaryForm
+  join : (merging : Bool) → List (Name × Name) → BinaryForm
+
+pub data KindForm : Type 0 where
+  hash : (size route : Name) → List Name → KindForm
+  range : (size range : Name) → Name → KindForm
+  round : (size : Name) → KindForm
+  broadcast : (size : Name) → KindForm
+  gather : KindForm
+
+-- an exchange merges on its list of columns, if that is not empty
+pub data Tree : Type 0 where
+  scan : ClaimForm → ScanForm → Tree
+  unary : ClaimForm → UnaryForm → Tree → Tree
+  binary : ClaimForm → BinaryForm → Tree → Tree → Tree
+  exchange : ClaimForm → KindForm → List Name → Tree → Tree
+
+pub record Document : Type 0 where
+  pub sizes : List Name
+  pub ranges : List RangeForm
+  pub total : Bool
+  pub root : Tree
+
+-- how many nodes
+abbrev pub tree_nodes : Tree → ℕ
+tree_nodes (scan c s) = 1
+tree_nodes (unary c op t) = suc (tree_nodes t)
+tree_nodes (binary c op t u) = suc (tree_nodes t + tree_nodes u)
+tree_nodes (exchange c k m t) = suc (tree_nodes t)
+
+-- how many nodes stand below one another
+abbrev pub tree_levels : Tree → ℕ
+tree_levels (scan c s) = 1
+tree_levels (unary c op t) = suc (tree_levels t)
+tree_levels (binary c op t u) = suc (max (tree_levels t) (tree_levels u))
+tree_levels (exchange c k m t) = suc (tree_levels t)
+
+-- ---- the values of the program, without where they lie in memory
+
+abbrev pub part_form : NamedPart → PartForm
+part_form part.One = one
+part_form part.Any = any
+part_form part.All = all
+part_form (part.Hash route columns) = hash_part (string_bytes route) (map string_bytes columns.items)
+part_form (part.Range name col) = range_part (string_bytes name) (string_bytes col)
+
+abbrev pub claim_form : NamedClaim → ClaimForm
+claim_form c = record { part = part_form c.part; order = map string_bytes c.order.items; keys = map (λ k. map string_bytes k.items) c.keys.items }
+
+abbrev pub side_form : NamedSide → SideForm
+side_form (side.Column name) = column (string_bytes name)
+side_form (side.Constant value) = constant (val_of value)
+
+abbrev pub condition_form : NamedCondition → ConditionForm
+condition_form c = record { left = string_bytes c.left; test = test_of c.test; right = side_form c.right }
+
+abbrev pub output_form : NamedOutput → OutputForm
+output_form o = record { column = string_bytes o.column; renamed = option_map string_bytes o.renamed }
+
+abbrev pub function_form : NamedFunction → FunctionForm
+function_form (function.Least col) = least (string_bytes col)
+function_form (function.Greatest col) = greatest (string_bytes col)
+function_form (function.Sum col) = sum (string_bytes col)
+function_form function.CountRows = count_rows
+
+abbrev pub aggregate_form : NamedAggregate → AggregateForm
+aggregate_form a = record { function = function_form a.function; name = string_bytes a.name }
+
+abbrev pub scan_form : NamedScan → ScanForm
+scan_form s = record { relation = string_bytes s.relation; shared = s.shared; size = string_bytes s.size; prefix = string_bytes s.prefix }
+
+abbrev pub unary_form : NamedUnary → UnaryForm
+unary_form (op.Select conditions) = select (map condition_form conditions.items)
+unary_form (op.Project outputs) = project (map output_form outputs.items)
+unary_form (op.Distinct outputs) = distinct (map output_form outputs.items)
+unary_form (op.Sort columns) = sort (map string_bytes columns.items)
+unary_form (op.Group by aggregates) = group (map string_bytes by.items) (map aggregate_form aggregates.items)
+
+abbrev pub pair_form : String Global × String Global → Name × Name
+pair_form p = (string_bytes p.0, string_bytes p.1)
+
+abbrev pub binary_form : NamedBinary → BinaryForm
+binary_form both.Union = union
+binary_form (both.HashJoin pairs) = join false (map pair_form pairs.items)
+binary_form (both.MergeJoin pairs) = join true (map pair_form pairs.items)
+
+abbrev pub kind_form : NamedKind → KindForm
+kind_form (kind.Hash size route columns) = hash (string_bytes size) (string_bytes route) (map string_bytes columns.items)
+kind_form (kind.Range size name col) = range (string_bytes size) (string_bytes name) (string_bytes col)
+kind_form (kind.Round size) = round (string_bytes size)
+kind_form (kind.Broadcast size) = broadcast (string_bytes size)
+kind_form kind.Gather = gather
+
+abbrev pub tree_of : Node → Tree
+tree_of (node.Scan claim s) = scan (claim_form claim) (scan_form s)
+tree_of (node.Unary' claim o p input) = unary (claim_form claim) (unary_form o) (tree_of input)
+tree_of (node.Binary' claim o p left q right) = binary (claim_form claim) (binary_form o) (tree_of left) (tree_of right)
+tree_of (node.Exchange' claim k merge p input) = exchange (claim_form claim) (kind_form k) (map string_bytes merge.items) (tree_of input)

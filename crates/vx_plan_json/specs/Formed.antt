@@ -1,0 +1,86 @@
+-- What reading assures of a plan: no name and no list that must have an entry is empty, and every constant and bound can be held.
+use Rattle.std.specs.Prelude.{Bool, true, ◌&&◌, ◌||◌, List, Option, Some, None}
+use Rattle.std.specs.List.{list_all}
+use Rattle.vx_values.specs.Types.{is_held}
+use Rattle.vx_values.specs.Lists.{is_some_list}
+use Rattle.vx_values.specs.Values.{Name}
+use Rattle.vx_plan_json.specs.Document.{PartForm, one, any, all, hash_part, range_part, ClaimForm, SideForm, column, constant, ConditionForm, OutputForm, FunctionForm, least, greatest, sum, count_rows, AggregateForm, ScanForm, UnaryForm, select, project, distinct, sort, group, BinaryForm, union, join, KindForm, hash, range, round, broadcast, gather, Tree, scan, unary, binary, exchange}
+use Rattle.vx_values.specs.Ranges.{RangeForm}
+
+abbrev pub are_names : List Name → Bool
+are_names names = list_all is_some_list names
+
+-- an entry or more, and none is empty
+abbrev pub are_some_names : List Name → Bool
+are_some_names names = is_some_list names && are_names names
+
+abbrev pub is_range_form : RangeForm → Bool
+is_range_form r = is_some_list r.name && list_all is_held r.bounds
+
+-- what a document declares
+abbrev pub is_head_form : List Name → List RangeForm → Bool
+is_head_form sizes ranges = are_names sizes && list_all is_range_form ranges
+
+abbrev pub is_part_form : PartForm → Bool
+is_part_form one = true
+is_part_form any = true
+is_part_form all = true
+is_part_form (hash_part route cols) = is_some_list route && are_some_names cols
+is_part_form (range_part name col) = is_some_list name && is_some_list col
+
+abbrev pub is_claim_form : ClaimForm → Bool
+is_claim_form c = is_part_form c.part && (are_names c.order && list_all are_names c.keys)
+
+abbrev pub is_side_form : SideForm → Bool
+is_side_form (column name) = is_some_list name
+is_side_form (constant v) = is_held v
+
+abbrev pub is_condition_form : ConditionForm → Bool
+is_condition_form c = is_some_list c.left && is_side_form c.right
+
+abbrev pub is_new_name : Option Name → Bool
+is_new_name None = true
+is_new_name (Some name) = is_some_list name
+
+abbrev pub is_output_form : OutputForm → Bool
+is_output_form o = is_some_list o.column && is_new_name o.renamed
+
+abbrev pub is_function_form : FunctionForm → Bool
+is_function_form (least c) = is_some_list c
+is_function_form (greatest c) = is_some_list c
+is_function_form (sum c) = is_some_list c
+is_function_form count_rows = true
+
+abbrev pub is_aggregate_form : AggregateForm → Bool
+is_aggregate_form a = is_function_form a.function && is_some_list a.name
+
+abbrev pub is_scan_form : ScanForm → Bool
+is_scan_form s = is_some_list s.relation && is_some_list s.size
+
+abbrev pub is_unary_form : UnaryForm → Bool
+is_unary_form (select cs) = is_some_list cs && list_all is_condition_form cs
+is_unary_form (project os) = is_some_list os && list_all is_output_form os
+is_unary_form (distinct os) = is_some_list os && list_all is_output_form os
+is_unary_form (sort names) = are_some_names names
+is_unary_form (group by aggregates) = (is_some_list by || is_some_list aggregates) && (are_names by && list_all is_aggregate_form aggregates)
+
+abbrev pub is_pair_form : Name × Name → Bool
+is_pair_form p = is_some_list p.0 && is_some_list p.1
+
+abbrev pub is_binary_form : BinaryForm → Bool
+is_binary_form union = true
+is_binary_form (join merging on) = is_some_list on && list_all is_pair_form on
+
+abbrev pub is_kind_form : KindForm → Bool
+is_kind_form (hash size route cols) = is_some_list size && (is_some_list route && are_some_names cols)
+is_kind_form (range size name col) = is_some_list size && (is_some_list name && is_some_list col)
+is_kind_form (round size) = is_some_list size
+is_kind_form (broadcast size) = is_some_list size
+is_kind_form gather = true
+
+-- every node has the form
+abbrev pub is_tree_form : Tree → Bool
+is_tree_form (scan c s) = is_claim_form c && is_scan_form s
+is_tree_form (unary c op t) = is_claim_form c && (is_unary_form op && is_tree_form t)
+is_tree_form (binary c op t u) = is_claim_form c && (is_binary_form op && (is_tree_form t && is_tree_form u))
+is_tree_form (exchange c k m t) = is_claim_form c && (is_kind_form k && (are_names m && is_tree_form t))

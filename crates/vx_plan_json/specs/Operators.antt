@@ -1,0 +1,166 @@
+-- Which operator a JSON object is, by its own members.
+use Rattle.std.specs.Prelude.{ℕ, List, [], ◌∷◌, Bool, true, false, Option, Some, None, option_map, option_and_then, bytes_eq, codes, if◌then◌else◌, map, string_bytes}
+use Rattle.serde_json.specs.Data.{Data}
+use Rattle.serde_json.specs.Find.{get, as_str}
+use Rattle.serde_json.specs.View.{view}
+use Rattle.vx_json.specs.Look.{has_only}
+use Rattle.vx_plan_json.specs.Look.{name_at, text_at, each_in, some_in, or_default}
+use Rattle.vx_values.specs.Values.{Name}
+use Rattle.vx_plan_json.specs.Document.{ClaimForm, ScanForm, OutputForm, AggregateForm, UnaryForm, select, project, distinct, sort, group, BinaryForm, union, join, KindForm, hash, range, round, broadcast, gather, claim_form, scan_form, unary_form, binary_form, kind_form}
+use Rattle.vx_plan_json.specs.Form.{names_in, some_names_in, claimed, condition_in, output_in, aggregate_in, pair_in}
+use Rattle.vx_plan_json.specs.declared.operators.Own.{Own}
+use Rattle.vx_plan_json.specs.declared.operators.Own.TheVariants as own
+
+infixl 10 ◌>>=◌
+abbrev ◌>>=◌ : {A B : Type 0} → Option A → (A → Option B) → Option B
+o >>= f = option_and_then f o
+
+-- what a node says of itself, and the values of its inputs
+pub data OwnForm : Type 0 where
+  own_scan : ClaimForm → ScanForm → OwnForm
+  own_unary : ClaimForm → UnaryForm → Data → OwnForm
+  own_binary : ClaimForm → BinaryForm → Data → Data → OwnForm
+  own_exchange : ClaimForm → KindForm → List Name → Data → OwnForm
+
+abbrev pub own_form : Own → OwnForm
+own_form (own.Scan c s) = own_scan (claim_form c) (scan_form s)
+own_form (own.Unary c op d) = own_unary (claim_form c) (unary_form op) (view d.now)
+own_form (own.Binary c op d e) = own_binary (claim_form c) (binary_form op) (view d.now) (view e.now)
+own_form (own.Exchange c k m d) = own_exchange (claim_form c) (kind_form k) (map string_bytes m.items) (view d.now)
+
+-- whether the workers share the rows
+abbrev pub mode_named : List ℕ → Option Bool
+mode_named s = if bytes_eq s (codes "shared") then Some true else (if bytes_eq s (codes "whole") then Some false else None)
+
+unfoldable pub scan_in : Data → Option ScanForm
+scan_in d = do
+  r ← name_at (codes "relation") d
+  m ← option_and_then mode_named (text_at (codes "mode") d)
+  z ← name_at (codes "size") d
+  p ← or_default [] as_str (get (codes "prefix") d)
+  Some (record { relation = r; shared = m; size = z; prefix = p })
+
+unfoldable pub scan_own : Data → Option OwnForm
+scan_own d = if has_only (codes "op" ∷ codes "relation" ∷ codes "mode" ∷ codes "size" ∷ codes "prefix" ∷ codes "claim" ∷ []) d
+    then (do
+      s ← scan_in d
+      c ← claimed d
+      Some (own_scan c s))
+    else None
+
+unfoldable pub select_in : Data → Option UnaryForm
+select_in d = if has_only (codes "op" ∷ codes "where" ∷ codes "input" ∷ codes "claim" ∷ []) d
+    then option_map select (option_and_then (some_in condition_in) (get (codes "where") d)) else None
+
+-- the kept columns of a projection or a distinct
+unfoldable pub outputs_in : Data → Option (List OutputForm)
+outputs_in d = if has_only (codes "op" ∷ codes "columns" ∷ codes "input" ∷ codes "claim" ∷ []) d
+    then option_and_then (some_in output_in) (get (codes "columns") d) else None
+
+unfoldable pub sort_in : Data → Option UnaryForm
+sort_in d = if has_only (codes "op" ∷ codes "columns" ∷ codes "input" ∷ codes "claim" ∷ []) d
+    then option_map sort (option_and_then some_names_in (get (codes "columns") d)) else None
+
+-- not both lists are empty
+abbrev pub group_or : List Name → List AggregateForm → Option UnaryForm
+group_or [] [] = None
+group_or [] (a ∷ as') = Some (group [] (a ∷ as'))
+group_or (n ∷ ns) as' = Some (group (n ∷ ns) as')
+
+unfoldable pub group_in : Data → Option UnaryForm
+group_in d = if has_only (codes "op" ∷ codes "by" ∷ codes "aggregates" ∷ codes "input" ∷ codes "claim" ∷ []) d
+    then (do
+      by ← option_and_then names_in (get (codes "by") d)
+      aggregates ← option_and_then (each_in aggregate_in) (get (codes "aggregates") d)
+      group_or by aggregates)
+    else None
+
+unfoldable pub unary_in : List ℕ → Data → Option UnaryForm
+unary_in s d =
+    if bytes_eq s (codes "select") then select_in d
+    else (if bytes_eq s (codes "project") then option_map project (outputs_in d)
+    else (if bytes_eq s (codes "distinct") then option_map distinct (outputs_in d)
+    else (if bytes_eq s (codes "sort") then sort_in d
+    else (if bytes_eq s (codes "group") then group_in d else None))))
+
+unfoldable pub unary_own : List ℕ → Data → Option OwnForm
+unary_own s d = do
+  op ← unary_in s d
+  c ← claimed d
+  i ← get (codes "input") d
+  Some (own_unary c op i)
+
+abbrev pub method_named : List ℕ → Option Bool
+method_named s = if bytes_eq s (codes "merge") then Some true else (if bytes_eq s (codes "hash") then Some false else None)
+
+unfoldable pub join_in : Data → Option BinaryForm
+join_in d = if has_only (codes "op" ∷ codes "method" ∷ codes "on" ∷ codes "left" ∷ codes "right" ∷ codes "claim" ∷ []) d
+    then (do
+      m ← option_and_then method_named (text_at (codes "method") d)
+      on ← option_and_then (some_in pair_in) (get (codes "on") d)
+      Some (join m on))
+    else None
+
+unfoldable pub union_in : Data → Option BinaryForm
+union_in d = if has_only (codes "op" ∷ codes "left" ∷ codes "right" ∷ codes "claim" ∷ []) d then Some union else None
+
+abbrev pub binary_own : Option BinaryForm → Data → Option OwnForm
+binary_own form d = do
+  op ← form
+  c ← claimed d
+  l ← get (codes "left") d
+  r ← get (codes "right") d
+  Some (own_binary c op l r)
+
+unfoldable pub hash_in : Data → Option KindForm
+hash_in d = if has_only (codes "op" ∷ codes "kind" ∷ codes "size" ∷ codes "route" ∷ codes "columns" ∷ codes "merge" ∷ codes "input" ∷ codes "claim" ∷ []) d
+    then (do
+      z ← name_at (codes "size") d
+      r ← name_at (codes "route") d
+      cols ← option_and_then some_names_in (get (codes "columns") d)
+      Some (hash z r cols))
+    else None
+
+unfoldable pub range_in : Data → Option KindForm
+range_in d = if has_only (codes "op" ∷ codes "kind" ∷ codes "size" ∷ codes "route" ∷ codes "column" ∷ codes "merge" ∷ codes "input" ∷ codes "claim" ∷ []) d
+    then (do
+      z ← name_at (codes "size") d
+      r ← name_at (codes "route") d
+      c ← name_at (codes "column") d
+      Some (range z r c))
+    else None
+
+-- the size of an exchange that neither routes nor gathers
+unfoldable pub sized_in : Data → Option Name
+sized_in d = if has_only (codes "op" ∷ codes "kind" ∷ codes "size" ∷ codes "merge" ∷ codes "input" ∷ codes "claim" ∷ []) d
+    then name_at (codes "size") d else None
+
+unfoldable pub gather_in : Data → Option KindForm
+gather_in d = if has_only (codes "op" ∷ codes "kind" ∷ codes "merge" ∷ codes "input" ∷ codes "claim" ∷ []) d then Some gather else None
+
+unfoldable pub kind_in : List ℕ → Data → Option KindForm
+kind_in s d =
+    if bytes_eq s (codes "hash") then hash_in d
+    else (if bytes_eq s (codes "range") then range_in d
+    else (if bytes_eq s (codes "round") then option_map round (sized_in d)
+    else (if bytes_eq s (codes "broadcast") then option_map broadcast (sized_in d)
+    else (if bytes_eq s (codes "gather") then gather_in d else None))))
+
+unfoldable pub exchange_own : Data → Option OwnForm
+exchange_own d = do
+  s ← text_at (codes "kind") d
+  k ← kind_in s d
+  m ← or_default [] some_names_in (get (codes "merge") d)
+  c ← claimed d
+  i ← get (codes "input") d
+  Some (own_exchange c k m i)
+
+abbrev pub own_named : List ℕ → Data → Option OwnForm
+own_named s d =
+    if bytes_eq s (codes "scan") then scan_own d
+    else (if bytes_eq s (codes "union") then binary_own (union_in d) d
+    else (if bytes_eq s (codes "join") then binary_own (join_in d) d
+    else (if bytes_eq s (codes "exchange") then exchange_own d else unary_own s d)))
+
+unfoldable pub own_in : Data → Option OwnForm
+own_in d = option_and_then (λ s. own_named s d) (text_at (codes "op") d)

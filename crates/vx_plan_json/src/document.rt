@@ -1,0 +1,112 @@
+//! A plan as it was read.
+
+ghost use Rattle.std.specs.Prelude.{◌≡◌, ◌≤◌, true, map, string_bytes};
+ghost use Rattle.vx_plan_json.specs.Formed.{is_tree_form, is_head_form};
+ghost use Rattle.vx_plan_json.specs.Document.{tree_of, tree_nodes, tree_levels};
+ghost use Rattle.vx_values.specs.Ranges.{range_form};
+
+use crate::fault::PlanFault;
+use crate::plan::Node;
+use crate::reading::{read_document, read_text};
+use serde_json::Value as Json;
+use std::alloc::Global;
+use vx_values::NamedRange;
+
+/// A plan that was read, with names in place of positions. It has at most 1,000 nodes, 64 below one another, and no name in
+/// it is empty.
+#[derive(Debug)]
+pub struct Plan {
+    sizes: Vec<String>,
+    ranges: Vec<NamedRange>,
+    total: bool,
+    root: Node,
+    ghost few_nodes: { tree_nodes (tree_of root) ≤ 1000 },
+    ghost few_levels: { tree_levels (tree_of root) ≤ 64 },
+    ghost declared: { is_head_form (map string_bytes sizes.items) (map range_form ranges.items) ≡ true },
+    ghost formed: { is_tree_form (tree_of root) ≡ true },
+}
+
+// By hand, so that the drops of its parts are made and proved here once, and not again in each crate that drops one.
+impl Drop for Plan {
+    fn drop(self) {
+        let Plan {
+            sizes: _,
+            ranges: _,
+            total: _,
+            root: _,
+        } = self;
+    }
+}
+
+impl Plan {
+    ghost use Rattle.vx_plan_json.specs.Fault.{Gives};
+    ghost use Rattle.vx_plan_json.specs.Reading.{document_in, document_of_text};
+    ghost use Rattle.vx_plan_json.specs.PlanView.{document_of};
+    ghost use Rattle.serde_json.specs.View.{view};
+
+    /// The parts of a plan, as a document has them.
+    pub fn new(sizes: Vec<String>, ranges: Vec<NamedRange>, total: bool, root: Node) -> Plan
+        requires few { tree_nodes (tree_of root) ≤ 1000 }
+        requires low { tree_levels (tree_of root) ≤ 64 }
+        requires declared { is_head_form (map string_bytes sizes.items) (map range_form ranges.items) ≡ true }
+        requires formed { is_tree_form (tree_of root) ≡ true }
+        ensures sizes { (document_of result).sizes ≡ map string_bytes sizes.items }
+        ensures ranges { (document_of result).ranges ≡ map range_form ranges.items }
+        ensures total { (document_of result).total ≡ total }
+        ensures root { (document_of result).root ≡ tree_of root }
+    {
+        Plan {
+            sizes,
+            ranges,
+            total,
+            root,
+        }
+    }
+
+    /// The plan of a JSON value. Refusals are `BadNode` and `TooDeep`: the document's own members come first, then its
+    /// nodes in preorder.
+    pub fn of_value(alloc: Global, value: &Json) -> Result<Plan, PlanFault>
+        ensures { Gives document_of result (document_in (view value.now)) }
+    {
+        read_document(alloc, value)
+    }
+
+    /// The plan of a JSON text in UTF-8. Refusals are `NotJson` and those of `of_value`.
+    pub fn read(alloc: Global, bytes: &[u8]) -> Result<Plan, PlanFault>
+        ensures { Gives document_of result (document_of_text bytes.now) }
+    {
+        read_text(alloc, bytes)
+    }
+
+    /// The declared size names, in order.
+    pub fn sizes(&self) -> &[String]
+        ensures { map string_bytes result.now ≡ (document_of self.now).sizes }
+    {
+        self.sizes.as_slice()
+    }
+
+    /// The declared ranges, in order.
+    pub fn ranges(&self) -> &[NamedRange]
+        ensures { map range_form result.now ≡ (document_of self.now).ranges }
+    {
+        self.ranges.as_slice()
+    }
+
+    /// Whether the plan says that its root's list is in a total order.
+    pub fn is_total(&self) -> bool
+        ensures { result ≡ (document_of self.now).total }
+    {
+        self.total
+    }
+
+    /// The node at the top.
+    pub fn root(&self) -> &Node
+        ensures root { tree_of result.now ≡ (document_of self.now).root }
+        ensures few { tree_nodes (tree_of result.now) ≤ 1000 }
+        ensures low { tree_levels (tree_of result.now) ≤ 64 }
+        ensures declared { is_head_form (document_of self.now).sizes (document_of self.now).ranges ≡ true }
+        ensures formed { is_tree_form (tree_of result.now) ≡ true }
+    {
+        &self.root
+    }
+}

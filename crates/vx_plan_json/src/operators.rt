@@ -1,0 +1,297 @@
+//! What a node's JSON object says of the node itself.
+
+ghost use Rattle.std.specs.Prelude.{[], Some, map, string_bytes, codes};
+ghost use Rattle.serde_json.specs.Find.{get, as_str};
+ghost use Rattle.serde_json.specs.View.{view};
+ghost use Rattle.vx_json.specs.Look.{Finds, Parses};
+ghost use Rattle.vx_plan_json.specs.Look.{or_default};
+ghost use Rattle.vx_plan_json.specs.Document.{output_form, scan_form, unary_form, binary_form, kind_form};
+ghost use Rattle.vx_plan_json.specs.Form.{some_names_in};
+ghost use Rattle.vx_plan_json.specs.Operators.{own_form, mode_named, scan_in, scan_own, select_in, outputs_in, sort_in, group_in, unary_in, unary_own, method_named, join_in, union_in, binary_own, hash_in, range_in, sized_in, gather_in, kind_in, exchange_own, own_named, own_in};
+
+use crate::forms::{AggregateReader, ConditionReader, OutputReader, PairReader, read_node_claim};
+use crate::look::{get_text_at, read_name_at};
+use crate::plan::{NamedBinary, NamedClaim, NamedKind, NamedOutput, NamedScan, NamedUnary};
+use serde_json::Value as Json;
+use std::alloc::Global;
+use vx_json::{Misread, NameReader, get_member, get_text, read_list, read_some, test_members};
+
+/// What a node says of itself, and the values of its inputs.
+#[derive(Drop)]
+pub enum Own<'v> {
+    Scan(NamedClaim, NamedScan),
+    Unary(NamedClaim, NamedUnary, &'v Json),
+    Binary(NamedClaim, NamedBinary, &'v Json, &'v Json),
+    Exchange(NamedClaim, NamedKind, Vec<String>, &'v Json),
+}
+
+// Whether the workers share the rows.
+fn parse_mode(text: &str) -> Result<bool, Misread>
+    ensures { Finds (λ b. b) result (mode_named text.now) }
+{
+    match text {
+        "shared" => Ok(true),
+        "whole" => Ok(false),
+        _ => Err(Misread::NotOfForm),
+    }
+}
+
+fn read_prefix(alloc: Global, value: &Json) -> Result<String, Misread>
+    ensures { Parses string_bytes result (or_default [] as_str (get (codes "prefix") (view value.now))) }
+{
+    match value.get("prefix") {
+        Some(prefix) => Ok(String::from_str(alloc, get_text(prefix)?)?),
+        None => Ok(String::new(alloc)),
+    }
+}
+
+#[tactic(auto, unfolding(crate::specs::Operators::scan_in))]
+fn read_scan(alloc: Global, value: &Json) -> Result<NamedScan, Misread>
+    ensures { Parses scan_form result (scan_in (view value.now)) }
+{
+    let relation = read_name_at(alloc, value, "relation")?;
+    let shared = parse_mode(get_text_at(value, "mode")?)?;
+    let size = read_name_at(alloc, value, "size")?;
+    let prefix = read_prefix(alloc, value)?;
+    Ok(NamedScan {
+        relation,
+        shared,
+        size,
+        prefix,
+    })
+}
+
+#[tactic(auto, unfolding(crate::specs::Operators::scan_own))]
+fn read_scan_node<'v>(alloc: Global, value: &'v Json) -> Result<Own<'v>, Misread>
+    ensures { Parses own_form result (scan_own (view value.now)) }
+{
+    test_members(
+        value,
+        &["op", "relation", "mode", "size", "prefix", "claim"],
+    )?;
+    let scan = read_scan(alloc, value)?;
+    let claim = read_node_claim(alloc, value)?;
+    Ok(Own::Scan(claim, scan))
+}
+
+#[tactic(auto, unfolding(crate::specs::Operators::select_in))]
+fn read_select(alloc: Global, value: &Json) -> Result<NamedUnary, Misread>
+    ensures { Parses unary_form result (select_in (view value.now)) }
+{
+    test_members(value, &["op", "where", "input", "claim"])?;
+    let conditions = read_some::<ConditionReader>(alloc, get_member(value, "where")?)?;
+    Ok(NamedUnary::Select(conditions))
+}
+
+// The kept columns of a projection or a distinct.
+#[tactic(auto, unfolding(crate::specs::Operators::outputs_in))]
+fn read_outputs(alloc: Global, value: &Json) -> Result<Vec<NamedOutput>, Misread>
+    ensures { Parses (λ v. map output_form v.items) result (outputs_in (view value.now)) }
+{
+    test_members(value, &["op", "columns", "input", "claim"])?;
+    read_some::<OutputReader>(alloc, get_member(value, "columns")?)
+}
+
+#[tactic(auto, unfolding(crate::specs::Operators::sort_in, crate::specs::Form::some_names_in))]
+fn read_sort(alloc: Global, value: &Json) -> Result<NamedUnary, Misread>
+    ensures { Parses unary_form result (sort_in (view value.now)) }
+{
+    test_members(value, &["op", "columns", "input", "claim"])?;
+    let columns = read_some::<NameReader>(alloc, get_member(value, "columns")?)?;
+    Ok(NamedUnary::Sort(columns))
+}
+
+#[tactic(auto, unfolding(crate::specs::Operators::group_in, crate::specs::Form::names_in))]
+fn read_group(alloc: Global, value: &Json) -> Result<NamedUnary, Misread>
+    ensures { Parses unary_form result (group_in (view value.now)) }
+{
+    test_members(value, &["op", "by", "aggregates", "input", "claim"])?;
+    let by = read_list::<NameReader>(alloc, get_member(value, "by")?)?;
+    let aggregates = read_list::<AggregateReader>(alloc, get_member(value, "aggregates")?)?;
+    if by.is_empty() && aggregates.is_empty() {
+        return Err(Misread::NotOfForm);
+    }
+    Ok(NamedUnary::Group(by, aggregates))
+}
+
+#[tactic(auto, unfolding(crate::specs::Operators::unary_in))]
+fn read_unary(alloc: Global, op: &str, value: &Json) -> Result<NamedUnary, Misread>
+    ensures { Parses unary_form result (unary_in op.now (view value.now)) }
+{
+    match op {
+        "select" => read_select(alloc, value),
+        "project" => Ok(NamedUnary::Project(read_outputs(alloc, value)?)),
+        "distinct" => Ok(NamedUnary::Distinct(read_outputs(alloc, value)?)),
+        "sort" => read_sort(alloc, value),
+        "group" => read_group(alloc, value),
+        _ => Err(Misread::NotOfForm),
+    }
+}
+
+#[tactic(auto, unfolding(crate::specs::Operators::unary_own))]
+fn read_unary_node<'v>(alloc: Global, op: &str, value: &'v Json) -> Result<Own<'v>, Misread>
+    ensures { Parses own_form result (unary_own op.now (view value.now)) }
+{
+    let unary = read_unary(alloc, op, value)?;
+    let claim = read_node_claim(alloc, value)?;
+    let input = get_member(value, "input")?;
+    Ok(Own::Unary(claim, unary, input))
+}
+
+// Whether a join merges.
+fn parse_method(text: &str) -> Result<bool, Misread>
+    ensures { Finds (λ b. b) result (method_named text.now) }
+{
+    match text {
+        "merge" => Ok(true),
+        "hash" => Ok(false),
+        _ => Err(Misread::NotOfForm),
+    }
+}
+
+#[tactic(auto, unfolding(crate::specs::Operators::join_in))]
+fn read_join(alloc: Global, value: &Json) -> Result<NamedBinary, Misread>
+    ensures { Parses binary_form result (join_in (view value.now)) }
+{
+    test_members(value, &["op", "method", "on", "left", "right", "claim"])?;
+    let merging = parse_method(get_text_at(value, "method")?)?;
+    let on = read_some::<PairReader>(alloc, get_member(value, "on")?)?;
+    Ok(if merging {
+        NamedBinary::MergeJoin(on)
+    } else {
+        NamedBinary::HashJoin(on)
+    })
+}
+
+#[tactic(auto, unfolding(crate::specs::Operators::union_in))]
+fn read_union(value: &Json) -> Result<NamedBinary, Misread>
+    ensures { Finds binary_form result (union_in (view value.now)) }
+{
+    test_members(value, &["op", "left", "right", "claim"])?;
+    Ok(NamedBinary::Union)
+}
+
+fn read_binary_node<'v>(
+    alloc: Global,
+    binary: NamedBinary,
+    value: &'v Json,
+) -> Result<Own<'v>, Misread>
+    ensures { Parses own_form result (binary_own (Some (binary_form binary)) (view value.now)) }
+{
+    let claim = read_node_claim(alloc, value)?;
+    let left = get_member(value, "left")?;
+    let right = get_member(value, "right")?;
+    Ok(Own::Binary(claim, binary, left, right))
+}
+
+#[tactic(auto, unfolding(crate::specs::Operators::hash_in, crate::specs::Form::some_names_in))]
+fn read_hash(alloc: Global, value: &Json) -> Result<NamedKind, Misread>
+    ensures { Parses kind_form result (hash_in (view value.now)) }
+{
+    test_members(
+        value,
+        &[
+            "op", "kind", "size", "route", "columns", "merge", "input", "claim",
+        ],
+    )?;
+    let size = read_name_at(alloc, value, "size")?;
+    let route = read_name_at(alloc, value, "route")?;
+    let columns = read_some::<NameReader>(alloc, get_member(value, "columns")?)?;
+    Ok(NamedKind::Hash {
+        size,
+        route,
+        columns,
+    })
+}
+
+#[tactic(auto, unfolding(crate::specs::Operators::range_in))]
+fn read_range(alloc: Global, value: &Json) -> Result<NamedKind, Misread>
+    ensures { Parses kind_form result (range_in (view value.now)) }
+{
+    test_members(
+        value,
+        &[
+            "op", "kind", "size", "route", "column", "merge", "input", "claim",
+        ],
+    )?;
+    let size = read_name_at(alloc, value, "size")?;
+    let range = read_name_at(alloc, value, "route")?;
+    let column = read_name_at(alloc, value, "column")?;
+    Ok(NamedKind::Range {
+        size,
+        range,
+        column,
+    })
+}
+
+// The size of an exchange that neither routes nor gathers.
+#[tactic(auto, unfolding(crate::specs::Operators::sized_in))]
+fn read_size(alloc: Global, value: &Json) -> Result<String, Misread>
+    ensures { Parses string_bytes result (sized_in (view value.now)) }
+{
+    test_members(value, &["op", "kind", "size", "merge", "input", "claim"])?;
+    read_name_at(alloc, value, "size")
+}
+
+#[tactic(auto, unfolding(crate::specs::Operators::gather_in))]
+fn read_gather(value: &Json) -> Result<NamedKind, Misread>
+    ensures { Finds kind_form result (gather_in (view value.now)) }
+{
+    test_members(value, &["op", "kind", "merge", "input", "claim"])?;
+    Ok(NamedKind::Gather)
+}
+
+#[tactic(auto, unfolding(crate::specs::Operators::kind_in))]
+fn read_kind(alloc: Global, kind: &str, value: &Json) -> Result<NamedKind, Misread>
+    ensures { Parses kind_form result (kind_in kind.now (view value.now)) }
+{
+    match kind {
+        "hash" => read_hash(alloc, value),
+        "range" => read_range(alloc, value),
+        "round" => Ok(NamedKind::Round(read_size(alloc, value)?)),
+        "broadcast" => Ok(NamedKind::Broadcast(read_size(alloc, value)?)),
+        "gather" => read_gather(value),
+        _ => Err(Misread::NotOfForm),
+    }
+}
+
+#[tactic(auto, unfolding(crate::specs::Form::some_names_in))]
+fn read_merge(alloc: Global, value: &Json) -> Result<Vec<String>, Misread>
+    ensures { Parses (λ v. map string_bytes v.items) result (or_default [] some_names_in (get (codes "merge") (view value.now))) }
+{
+    match value.get("merge") {
+        Some(names) => read_some::<NameReader>(alloc, names),
+        None => Ok(Vec::new(alloc)),
+    }
+}
+
+#[tactic(auto, unfolding(crate::specs::Operators::exchange_own))]
+fn read_exchange_node<'v>(alloc: Global, value: &'v Json) -> Result<Own<'v>, Misread>
+    ensures { Parses own_form result (exchange_own (view value.now)) }
+{
+    let kind = read_kind(alloc, get_text_at(value, "kind")?, value)?;
+    let merge = read_merge(alloc, value)?;
+    let claim = read_node_claim(alloc, value)?;
+    let input = get_member(value, "input")?;
+    Ok(Own::Exchange(claim, kind, merge, input))
+}
+
+fn read_node_of<'v>(alloc: Global, op: &str, value: &'v Json) -> Result<Own<'v>, Misread>
+    ensures { Parses own_form result (own_named op.now (view value.now)) }
+{
+    match op {
+        "scan" => read_scan_node(alloc, value),
+        "union" => read_binary_node(alloc, read_union(value)?, value),
+        "join" => read_binary_node(alloc, read_join(alloc, value)?, value),
+        "exchange" => read_exchange_node(alloc, value),
+        _ => read_unary_node(alloc, op, value),
+    }
+}
+
+/// What a value says of a node, if it is a node.
+#[tactic(auto, unfolding(crate::specs::Operators::own_in))]
+pub fn read_own<'v>(alloc: Global, value: &'v Json) -> Result<Own<'v>, Misread>
+    ensures { Parses own_form result (own_in (view value.now)) }
+{
+    read_node_of(alloc, get_text_at(value, "op")?, value)
+}

@@ -1,0 +1,25 @@
+-- The plan without its exchanges.
+use Rattle.std.specs.Prelude.{ℕ, ◌+◌, false, []}
+use Rattle.vx_plan_nodes.specs.Plan.{one_worker, one, Claim, Plan, scan, unary, binary, exchange}
+
+-- at part one, without order and keys
+abbrev pub no_claim : Claim
+no_claim = record { part = one; order = []; keys = [] }
+
+-- how many nodes are not exchanges
+abbrev pub nodes_left : Plan → ℕ
+nodes_left (scan n c r m z) = 1
+nodes_left (unary n c op p) = 1 + nodes_left p
+nodes_left (binary n c op p q) = 1 + nodes_left p + nodes_left q
+nodes_left (exchange n c k m p) = nodes_left p
+
+-- the plan without exchanges, numbered in preorder from i: one worker everywhere, every scan whole, no claims
+abbrev pub erase_from : ℕ → Plan → Plan
+erase_from i (scan n c r m z) = scan i no_claim r false one_worker
+erase_from i (unary n c op p) = unary i no_claim op (erase_from (i + 1) p)
+erase_from i (binary n c op p q) = binary i no_claim op (erase_from (i + 1) p) (erase_from (i + 1 + nodes_left p) q)
+erase_from i (exchange n c k m p) = erase_from i p
+
+-- numbered from 0
+abbrev pub erase : Plan → Plan
+erase p = erase_from 0 p

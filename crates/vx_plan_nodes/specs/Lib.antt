@@ -1,0 +1,16 @@
+pub mod Plan
+pub mod Types
+pub mod Numbering
+pub mod Serial
+pub mod Erase
+pub mod Streams
+pub mod Routes
+pub mod Runs
+pub mod Outline
+pub mod Conditions
+pub mod Typed
+pub mod Outputs
+pub mod OutputProps
+pub mod Names
+pub mod TypedView
+pub mod Erased

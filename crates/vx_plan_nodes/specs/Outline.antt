@@ -1,0 +1,138 @@
+-- Typed plans with the names that they keep, and the plan of the definitions that each stands for.
+use Rattle.std.specs.Prelude.{ℕ, List, [], map, Bool, true, false, string_bytes}
+use Rattle.vx_values.specs.declared.value.ColType.{ColType}
+use Rattle.vx_values.specs.ValueView.{val_of, test_of}
+use Rattle.vx_plan_nodes.specs.Plan.{Size, one_worker, group_of, Route, by_hash, by_range, Part, one, any, all, routed, Claim, Side, column, constant, Condition, Aggregate, least, greatest, sum, count_rows, Unary, select, project, distinct, sort, group, Binary, union, join, ExchangeKind, route_to, round, broadcast, gather, Plan}
+use Rattle.vx_plan_nodes.specs.Plan as plan
+use Rattle.vx_values.specs.Values.{Name}
+use Rattle.vx_plan_nodes.specs.declared.typed.Size as rust_size
+use Rattle.vx_plan_nodes.specs.declared.typed.Size.TheVariants as size
+use Rattle.vx_plan_nodes.specs.declared.typed.Route as rust_route
+use Rattle.vx_plan_nodes.specs.declared.typed.Route.TheVariants as route
+use Rattle.vx_plan_nodes.specs.declared.typed.Part as rust_part
+use Rattle.vx_plan_nodes.specs.declared.typed.Part.TheVariants as part
+use Rattle.vx_plan_nodes.specs.declared.typed.Claim as rust_claim
+use Rattle.vx_plan_nodes.specs.declared.typed.Side as rust_side
+use Rattle.vx_plan_nodes.specs.declared.typed.Side.TheVariants as side
+use Rattle.vx_plan_nodes.specs.declared.typed.Condition as rust_condition
+use Rattle.vx_plan_nodes.specs.declared.typed.Aggregate as rust_aggregate
+use Rattle.vx_plan_nodes.specs.declared.typed.Aggregate.TheVariants as aggregate
+use Rattle.vx_plan_nodes.specs.declared.typed.Columns as rust_columns
+use Rattle.vx_plan_nodes.specs.declared.typed.Head as rust_head
+use Rattle.vx_plan_nodes.specs.declared.typed.Unary as rust_unary
+use Rattle.vx_plan_nodes.specs.declared.typed.Unary.TheVariants as op
+use Rattle.vx_plan_nodes.specs.declared.typed.Binary as rust_binary
+use Rattle.vx_plan_nodes.specs.declared.typed.Binary.TheVariants as both
+use Rattle.vx_plan_nodes.specs.declared.typed.ExchangeKind as rust_kind
+use Rattle.vx_plan_nodes.specs.declared.typed.ExchangeKind.TheVariants as kind
+use Rattle.vx_plan_nodes.specs.declared.typed.TypedNode.{TypedNode}
+use Rattle.vx_plan_nodes.specs.declared.typed.TypedNode.TheVariants as node
+
+-- an output's columns: as many names as types
+pub record Columns : Type 0 where
+  pub names : List Name
+  pub types : List ColType
+
+-- what every node has
+pub record Top : Type 0 where
+  pub number : ℕ
+  pub claim : Claim
+  pub columns : Columns
+
+-- a typed plan with its names: each output's, a scan's prefix, and which kept columns have a new name
+pub data Outline : Type 0 where
+  scan : Top → (relation : ℕ) → (shared : Bool) → Size → (prefix : List ℕ) → Outline
+  unary : Top → Unary → (renamed : List Bool) → Outline → Outline
+  binary : Top → Binary → Outline → Outline → Outline
+  exchange : Top → ExchangeKind → List ℕ → Outline → Outline
+
+-- the node at the top
+abbrev pub top : Outline → Top
+top (scan h r m z p) = h
+top (unary h op flags t) = h
+top (binary h op t u) = h
+top (exchange h k m t) = h
+
+abbrev pub columns : Outline → Columns
+columns t = (top t).columns
+
+-- the plan without the names
+abbrev pub plan_in : Outline → Plan
+plan_in (scan h r m z p) = plan.scan h.number h.claim r m z
+plan_in (unary h op flags t) = plan.unary h.number h.claim op (plan_in t)
+plan_in (binary h op t u) = plan.binary h.number h.claim op (plan_in t) (plan_in u)
+plan_in (exchange h k m t) = plan.exchange h.number h.claim k m (plan_in t)
+
+-- ---- the values of the program, without where they lie in memory
+
+abbrev pub size_of : rust_size.Size → Size
+size_of size.One = one_worker
+size_of (size.Group k) = group_of k
+
+abbrev pub route_of : rust_route.Route → Route
+route_of (route.Hash name) = by_hash (string_bytes name)
+route_of (route.Range k) = by_range k
+
+abbrev pub part_of : rust_part.Part → Part
+part_of part.One = one
+part_of part.Any = any
+part_of part.All = all
+part_of (part.Routed r cols) = routed (route_of r) cols.items
+
+abbrev pub claim_of : rust_claim.Claim → Claim
+claim_of c = record { part = part_of c.part; order = c.order.items; keys = map (λ k. k.items) c.keys.items }
+
+abbrev pub side_of : rust_side.Side → Side
+side_of (side.Column c) = column c
+side_of (side.Constant v) = constant (val_of v)
+
+abbrev pub condition_of : rust_condition.Condition → Condition
+condition_of c = record { left = c.left; test = test_of c.test; right = side_of c.right }
+
+abbrev pub aggregate_of : rust_aggregate.Aggregate → Aggregate
+aggregate_of (aggregate.Least c) = least c
+aggregate_of (aggregate.Greatest c) = greatest c
+aggregate_of (aggregate.Sum c) = sum c
+aggregate_of aggregate.CountRows = count_rows
+
+abbrev pub columns_of : rust_columns.Columns → Columns
+columns_of c = record { names = map string_bytes c.names.items; types = c.types.items }
+
+abbrev pub top_of : rust_head.Head → Top
+top_of h = record { number = h.number; claim = claim_of h.claim; columns = columns_of h.columns }
+
+abbrev pub unary_of : rust_unary.Unary → Unary
+unary_of (op.Select conditions) = select (map condition_of conditions.items)
+unary_of (op.Project kept) = project (map (λ k. k.column) kept.items)
+unary_of (op.Distinct kept) = distinct (map (λ k. k.column) kept.items)
+unary_of (op.Sort cols) = sort cols.items
+unary_of (op.Group by aggregates) = group by.items (map aggregate_of aggregates.items)
+
+-- which kept columns have a new name
+abbrev pub renamed_of : rust_unary.Unary → List Bool
+renamed_of (op.Select conditions) = []
+renamed_of (op.Project kept) = map (λ k. k.renamed) kept.items
+renamed_of (op.Distinct kept) = map (λ k. k.renamed) kept.items
+renamed_of (op.Sort cols) = []
+renamed_of (op.Group by aggregates) = []
+
+abbrev pub binary_of : rust_binary.Binary → Binary
+binary_of both.Union = union
+binary_of (both.HashJoin on) = join false on.items
+binary_of (both.MergeJoin on) = join true on.items
+
+abbrev pub kind_of : rust_kind.ExchangeKind → ExchangeKind
+kind_of (kind.Route z r cols) = route_to (size_of z) (route_of r) cols.items
+kind_of (kind.Round z) = round (size_of z)
+kind_of (kind.Broadcast z) = broadcast (size_of z)
+kind_of kind.Gather = gather
+
+abbrev pub outline_of : TypedNode → Outline
+outline_of (node.Scan h s) = scan (top_of h) s.relation s.shared (size_of s.size) (string_bytes s.prefix)
+outline_of (node.Unary' h o p t) = unary (top_of h) (unary_of o) (renamed_of o) (outline_of t)
+outline_of (node.Binary' h o p t q u) = binary (top_of h) (binary_of o) (outline_of t) (outline_of u)
+outline_of (node.Exchange' h x p t) = exchange (top_of h) (kind_of x.kind) x.merge.items (outline_of t)
+
+-- the plan that a typed node stands for
+abbrev pub plan_of : TypedNode → Plan
+plan_of t = plan_in (outline_of t)

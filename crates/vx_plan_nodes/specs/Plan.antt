@@ -1,0 +1,112 @@
+-- Typed plans: columns by position, nodes by their numbers in preorder. The exchange is Graefe's: producers below it, consumers above it.
+use Rattle.std.specs.Prelude.{ℕ, ◌==◌, Bool, true, false, List}
+use Rattle.vx_values.specs.Values.{Val}
+pub use Rattle.vx_values.specs.Test.{Test, equal, unequal, below, at_most, above, at_least}
+
+-- the number of workers: one, or that of a declared size name
+pub data Size : Type 0 where
+  one_worker : Size
+  group_of : ℕ → Size
+
+-- a hash route by its name, or a declared range
+pub data Route : Type 0 where
+  by_hash : List ℕ → Route
+  by_range : ℕ → Route
+
+-- how the rows of a node lie on its workers, as its note claims: all on one; some on each; all on each; or each row where its key is sent
+pub data Part : Type 0 where
+  one : Part
+  any : Part
+  all : Part
+  routed : Route → List ℕ → Part
+
+-- an optimizer's note on a node: how its rows lie, on which columns they are sorted, and which lists of columns are keys; columns of the output by position
+pub record Claim : Type 0 where
+  pub part : Part
+  pub order : List ℕ
+  pub keys : List (List ℕ)
+
+-- the right side of a condition
+pub data Side : Type 0 where
+  column : ℕ → Side
+  constant : Val → Side
+
+-- a column compared with a column or a constant
+pub record Condition : Type 0 where
+  pub left : ℕ
+  pub test : Test
+  pub right : Side
+
+-- the least, the greatest or the sum of a column, or how many rows
+pub data Aggregate : Type 0 where
+  least : ℕ → Aggregate
+  greatest : ℕ → Aggregate
+  sum : ℕ → Aggregate
+  count_rows : Aggregate
+
+-- operators over one input; of a projection, a distinct and a group the columns are those of the input that are kept
+pub data Unary : Type 0 where
+  select : List Condition → Unary
+  project : List ℕ → Unary
+  distinct : List ℕ → Unary
+  sort : List ℕ → Unary
+  group : List ℕ → List Aggregate → Unary
+
+-- operators over two inputs; a join by the pairs (left column, right column), by merging or by hashing
+pub data Binary : Type 0 where
+  union : Binary
+  join : (merging : Bool) → List (ℕ × ℕ) → Binary
+
+-- how an exchange sends, and to how many
+pub data ExchangeKind : Type 0 where
+  route_to : Size → Route → List ℕ → ExchangeKind
+  round : Size → ExchangeKind
+  broadcast : Size → ExchangeKind
+  gather : ExchangeKind
+
+-- each node has its number and its claim; an exchange merges on its last list of columns, if that is not empty
+pub data Plan : Type 0 where
+  scan : ℕ → Claim → (relation : ℕ) → (shared : Bool) → Size → Plan
+  unary : ℕ → Claim → Unary → Plan → Plan
+  binary : ℕ → Claim → Binary → Plan → Plan → Plan
+  exchange : ℕ → Claim → ExchangeKind → List ℕ → Plan → Plan
+
+-- the node at the top
+abbrev pub number : Plan → ℕ
+number (scan n c r m z) = n
+number (unary n c op p) = n
+number (binary n c op p q) = n
+number (exchange n c k m p) = n
+
+-- its note
+abbrev pub claim : Plan → Claim
+claim (scan n c r m z) = c
+claim (unary n c op p) = c
+claim (binary n c op p q) = c
+claim (exchange n c k m p) = c
+
+-- the size of an exchange's consumer group
+abbrev pub target : ExchangeKind → Size
+target (route_to z r cols) = z
+target (round z) = z
+target (broadcast z) = z
+target gather = one_worker
+
+-- the size of the node at the top: its own for a scan and an exchange, else that of its (left) input
+abbrev pub size : Plan → Size
+size (scan n c r m z) = z
+size (unary n c op p) = size p
+size (binary n c op p q) = size p
+size (exchange n c k m p) = target k
+
+-- the same size name
+abbrev pub size_eq : Size → Size → Bool
+size_eq one_worker one_worker = true
+size_eq one_worker (group_of k) = false
+size_eq (group_of j) one_worker = false
+size_eq (group_of j) (group_of k) = j == k
+
+-- one worker
+abbrev pub is_one : Size → Bool
+is_one one_worker = true
+is_one (group_of k) = false

@@ -1,0 +1,74 @@
+-- The types of a plan's output columns, and how many there are.
+use Rattle.std.specs.Prelude.{ℕ, ◌+◌, ◌==◌, ◌&&◌, Bool, List, [], ◌++◌, map, length}
+use Rattle.std.specs.List.{list_all}
+use Rattle.vx_values.specs.declared.value.ColType.{ColType}
+use Rattle.vx_values.specs.declared.value.ColType.TheVariants.{Int}
+use Rattle.vx_values.specs.Types.{type_at}
+use Rattle.vx_relations.specs.Relation.{Relation}
+use Rattle.vx_relations.specs.Catalog.{all_below}
+use Rattle.vx_plan_nodes.specs.Plan.{Part, routed, Claim, Aggregate, least, greatest, sum, count_rows, Unary, select, project, distinct, sort, group, Binary, union, join, Plan, scan, unary, binary, exchange}
+
+-- a least and a greatest value have the column's type, a sum and a count are numbers
+abbrev pub aggregate_type : List ColType → Aggregate → ColType
+aggregate_type types (least c) = type_at types c
+aggregate_type types (greatest c) = type_at types c
+aggregate_type types (sum c) = Int
+aggregate_type types count_rows = Int
+
+-- of an operator over one input with these types
+abbrev pub unary_types : Unary → List ColType → List ColType
+unary_types (select cs) types = types
+unary_types (project cols) types = map (type_at types) cols
+unary_types (distinct cols) types = map (type_at types) cols
+unary_types (sort cols) types = types
+unary_types (group by aggregates) types = map (type_at types) by ++ map (aggregate_type types) aggregates
+
+-- of an operator over two inputs
+abbrev pub binary_types : Binary → List ColType → List ColType → List ColType
+binary_types union ts us = ts
+binary_types (join m on) ts us = ts ++ us
+
+-- the types of the output columns
+abbrev pub types_of : (ℕ → Relation) → Plan → List ColType
+types_of catalog (scan n c r m z) = (catalog r).types
+types_of catalog (unary n c op p) = unary_types op (types_of catalog p)
+types_of catalog (binary n c op p q) = binary_types op (types_of catalog p) (types_of catalog q)
+types_of catalog (exchange n c k m p) = types_of catalog p
+
+-- the same, counted
+abbrev pub unary_width : Unary → ℕ → ℕ
+unary_width (select cs) w = w
+unary_width (project cols) w = length cols
+unary_width (distinct cols) w = length cols
+unary_width (sort cols) w = w
+unary_width (group by aggregates) w = length by + length aggregates
+
+abbrev pub binary_width : Binary → ℕ → ℕ → ℕ
+binary_width union v w = v
+binary_width (join m on) v w = v + w
+
+-- the number of output columns: the law `typed_plan_is_well_formed` shows that it is the number of their types
+abbrev pub width : (ℕ → Relation) → Plan → ℕ
+width catalog (scan n c r m z) = length (catalog r).types
+width catalog (unary n c op p) = unary_width op (width catalog p)
+width catalog (binary n c op p q) = binary_width op (width catalog p) (width catalog q)
+width catalog (exchange n c k m p) = width catalog p
+
+-- the columns that a part names
+abbrev pub part_columns : Part → List ℕ
+part_columns (routed r cols) = cols
+part_columns _ = []
+
+-- a claim names columns of the output
+abbrev pub names_columns : ℕ → Claim → Bool
+names_columns w c = all_below w (part_columns c.part) && (all_below w c.order && list_all (all_below w) c.keys)
+
+-- the part of being typed that the meaning of claims needs: claims name output columns, and the inputs of a union are equally wide
+abbrev pub well_formed : (ℕ → Relation) → Plan → Bool
+well_formed catalog (scan n c r m z) = names_columns (width catalog (scan n c r m z)) c
+well_formed catalog (unary n c op p) = well_formed catalog p && names_columns (width catalog (unary n c op p)) c
+well_formed catalog (binary n c union p q) =
+    well_formed catalog p && (well_formed catalog q && ((width catalog p == width catalog q) && names_columns (width catalog p) c))
+well_formed catalog (binary n c (join m on) p q) =
+    well_formed catalog p && (well_formed catalog q && names_columns (width catalog p + width catalog q) c)
+well_formed catalog (exchange n c k m p) = well_formed catalog p && names_columns (width catalog p) c

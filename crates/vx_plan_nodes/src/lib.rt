@@ -1,0 +1,14 @@
+//! Plans over a catalog: their nodes, what they mean in series and by their workers, and plans that have the types that they need.
+#![tactic(auto)]
+
+mod conditions;
+mod outputs;
+mod router;
+mod typed;
+mod typed_plan;
+
+pub use conditions::copied_conditions;
+pub use outputs::output_types;
+pub use router::Router;
+pub use typed::{Aggregate, Binary, Claim, Columns, Condition, Exchange, ExchangeKind, Head, Part, Projected, Route, ScanNode, Side, Size, TypedNode, Unary};
+pub use typed_plan::TypedPlan;

@@ -1,0 +1,286 @@
+//! Nodes over a catalog: columns by position, nodes by number.
+
+ghost use Rattle.std.specs.Prelude.{◌≡◌};
+ghost use Rattle.vx_plan_nodes.specs.Outline.{outline_of, plan_of, top_of, claim_of, kind_of, size_of, top};
+ghost use Rattle.vx_plan_nodes.specs.Plan.{claim, number, size, target};
+
+use vx_values::{ColType, Test, Value};
+
+/// How many workers: one, or as many as a declared size name is bound to, by the name's number.
+#[derive(Clone, Copy, Debug, PartialEq, Eq)]
+pub enum Size {
+    /// One worker.
+    One,
+    /// As many as the size name with this number is bound to.
+    Group(usize),
+}
+
+/// Where a key is sent: by a hash of this name, or by the declared range with this number.
+#[derive(Debug, Drop)]
+pub enum Route {
+    /// To the worker that the router names for this route and these values.
+    Hash(String),
+    /// To the worker whose number is how many of the range's bounds are not above the value.
+    Range(usize),
+}
+
+/// How rows lie on workers, as a note claims it.
+#[derive(Debug, Drop)]
+pub enum Part {
+    /// All rows at one worker.
+    One,
+    /// Each row at one worker, whichever.
+    Any,
+    /// Every row at every worker.
+    All,
+    /// Each row at the worker to which the route sends its values in these columns.
+    Routed(Route, Vec<usize>),
+}
+
+/// An optimizer's note, over the columns of the node's output.
+#[derive(Debug)]
+pub struct Claim {
+    pub part: Part,
+    /// The columns on which each stream is sorted, the first before the second.
+    pub order: Vec<usize>,
+    /// Lists of columns on which no two rows agree.
+    pub keys: Vec<Vec<usize>>,
+}
+
+// By hand, so that the drops of its parts are made and proved here once, and not in each function that drops one.
+impl Drop for Claim {
+    fn drop(self) {
+        let Claim {
+            part: _,
+            order: _,
+            keys: _,
+        } = self;
+    }
+}
+
+/// The right side of a condition.
+#[derive(Debug, Drop)]
+pub enum Side {
+    Column(usize),
+    Constant(Value),
+}
+
+/// A column compared with a constant or another column of its type.
+#[derive(Debug, Drop)]
+pub struct Condition {
+    pub left: usize,
+    pub test: Test,
+    pub right: Side,
+}
+
+/// What is computed of the rows of a group.
+#[derive(Clone, Copy, Debug, PartialEq, Eq)]
+pub enum Aggregate {
+    /// The least value of a column.
+    Least(usize),
+    /// The greatest value of a column.
+    Greatest(usize),
+    /// The sum of a column of numbers.
+    Sum(usize),
+    /// How many rows there are.
+    CountRows,
+}
+
+/// A column of the input that is kept, and whether the plan gives it a new name.
+#[derive(Clone, Copy, Debug, PartialEq, Eq)]
+pub struct Projected {
+    pub column: usize,
+    pub renamed: bool,
+}
+
+/// The columns of an output: as many names as types.
+#[derive(Debug)]
+pub struct Columns {
+    pub names: Vec<String>,
+    pub types: Vec<ColType>,
+}
+
+// By hand, so that the drops of its parts are made and proved here once, and not in each function that drops one.
+impl Drop for Columns {
+    fn drop(self) {
+        let Columns { names: _, types: _ } = self;
+    }
+}
+
+/// What every node has: its number in preorder, its claim and its output.
+#[derive(Debug)]
+pub struct Head {
+    pub number: u32,
+    pub claim: Claim,
+    pub columns: Columns,
+}
+
+// By hand, so that the drops of its parts are made and proved here once, and not in each function that drops one.
+impl Drop for Head {
+    fn drop(self) {
+        let Head {
+            number: _,
+            claim: _,
+            columns: _,
+        } = self;
+    }
+}
+
+/// A scan of the relation with this number. An empty prefix is none.
+#[derive(Debug)]
+pub struct ScanNode {
+    pub relation: usize,
+    /// The workers share the rows, or else each has all of them.
+    pub shared: bool,
+    pub size: Size,
+    pub prefix: String,
+}
+
+// By hand, so that the drops of its parts are made and proved here once, and not in each function that drops one.
+impl Drop for ScanNode {
+    fn drop(self) {
+        let ScanNode {
+            relation: _,
+            shared: _,
+            size: _,
+            prefix: _,
+        } = self;
+    }
+}
+
+/// An operator over one input, by the columns of that input.
+#[derive(Debug)]
+pub enum Unary {
+    /// The rows of which all conditions hold.
+    Select(Vec<Condition>),
+    /// These columns of each row.
+    Project(Vec<Projected>),
+    /// These columns of each row, each list of values once.
+    Distinct(Vec<Projected>),
+    /// The rows in ascending order on these columns; rows that are equal on them keep theirs.
+    Sort(Vec<usize>),
+    /// For each key the values in these columns, and then the aggregates of its rows.
+    Group(Vec<usize>, Vec<Aggregate>),
+}
+
+// By hand, so that the drops of its parts are made and proved here once, and not in each function that drops one.
+impl Drop for Unary {
+    fn drop(self) {
+        match self {
+            Unary::Select(_) => {}
+            Unary::Project(_) => {}
+            Unary::Distinct(_) => {}
+            Unary::Sort(_) => {}
+            Unary::Group(_, _) => {}
+        }
+    }
+}
+
+/// An operator over two inputs. A join has pairs (left column, right column).
+#[derive(Debug)]
+pub enum Binary {
+    Union,
+    HashJoin(Vec<(usize, usize)>),
+    MergeJoin(Vec<(usize, usize)>),
+}
+
+// By hand, so that the drops of its parts are made and proved here once, and not in each function that drops one.
+impl Drop for Binary {
+    fn drop(self) {
+        match self {
+            Binary::Union => {}
+            Binary::HashJoin(_) => {}
+            Binary::MergeJoin(_) => {}
+        }
+    }
+}
+
+/// How an exchange sends, and to a group of which size.
+#[derive(Debug, Drop)]
+pub enum ExchangeKind {
+    /// Each row to the worker of its values in these columns.
+    Route(Size, Route, Vec<usize>),
+    /// Each producer's rows to the workers in turn.
+    Round(Size),
+    /// Every row to every worker.
+    Broadcast(Size),
+    /// Every row to one worker.
+    Gather,
+}
+
+impl ExchangeKind {
+    /// The size of the group of consumers.
+    pub fn target(&self) -> Size
+        ensures { size_of result ≡ target (kind_of self.now) }
+    {
+        match self {
+            ExchangeKind::Route(size, _, _) => *size,
+            ExchangeKind::Round(size) => *size,
+            ExchangeKind::Broadcast(size) => *size,
+            ExchangeKind::Gather => Size::One,
+        }
+    }
+}
+
+/// An exchange. It merges on these columns, if there are any.
+#[derive(Debug)]
+pub struct Exchange {
+    pub kind: ExchangeKind,
+    pub merge: Vec<usize>,
+}
+
+// By hand, so that the drops of its parts are made and proved here once, and not in each function that drops one.
+impl Drop for Exchange {
+    fn drop(self) {
+        let Exchange { kind: _, merge: _ } = self;
+    }
+}
+
+/// A tree of operators over a catalog.
+#[derive(Debug)]
+pub enum TypedNode {
+    Scan(Head, ScanNode),
+    Unary(Head, Unary, Box<TypedNode>),
+    Binary(Head, Binary, Box<TypedNode>, Box<TypedNode>),
+    Exchange(Head, Exchange, Box<TypedNode>),
+}
+
+// By hand, so that the drops of its parts are made and proved here once, and not in each function that drops one.
+impl Drop for TypedNode {
+    fn drop(self) {
+        match self {
+            TypedNode::Scan(_, _) => {}
+            TypedNode::Unary(_, _, _) => {}
+            TypedNode::Binary(_, _, _, _) => {}
+            TypedNode::Exchange(_, _, _) => {}
+        }
+    }
+}
+
+impl TypedNode {
+    /// What every node has: its number, its claim and its output.
+    pub fn head(&self) -> &Head
+        ensures top { top_of result.now ≡ top (outline_of self.now) }
+        ensures number { result.now.number ≡ number (plan_of self.now) }
+        ensures claim { claim_of result.now.claim ≡ claim (plan_of self.now) }
+    {
+        match self {
+            TypedNode::Scan(head, _) => head,
+            TypedNode::Unary(head, _, _) => head,
+            TypedNode::Binary(head, _, _, _) => head,
+            TypedNode::Exchange(head, _, _) => head,
+        }
+    }
+
+    /// The size of the group of workers that has the node's rows.
+    pub fn size(&self) -> Size
+        ensures { size_of result ≡ size (plan_of self.now) }
+    {
+        match self {
+            TypedNode::Scan(_, scan) => scan.size,
+            TypedNode::Unary(_, _, input) => input.size(),
+            TypedNode::Binary(_, _, left, _) => left.size(),
+            TypedNode::Exchange(_, exchange, _) => exchange.kind.target(),
+        }
+    }
+}

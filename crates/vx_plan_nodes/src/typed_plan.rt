@@ -1,0 +1,114 @@
+//! A plan over a catalog that was resolved.
+
+ghost use Rattle.std.specs.Prelude.{◌≡◌, ◌≤◌, true, nat_le, map, length, string_bytes};
+ghost use Rattle.std.specs.List.{list_all};
+ghost use Rattle.vx_values.specs.Ranges.{range_form};
+ghost use Rattle.vx_relations.specs.Catalog.{relation_at};
+ghost use Rattle.vx_plan_nodes.specs.Names.{scope_of};
+ghost use Rattle.vx_plan_nodes.specs.Numbering.{nodes, is_numbered};
+ghost use Rattle.vx_plan_nodes.specs.Outline.{outline_of, plan_of};
+ghost use Rattle.vx_plan_nodes.specs.Typed.{is_range, typed, IsTyped};
+ghost use Rattle.vx_plan_nodes.specs.Outputs.{HasOutputs};
+ghost use Rattle.vx_plan_nodes.specs.OutputProps.{outputs-prop};
+
+use crate::typed::TypedNode;
+use vx_relations::Catalog;
+use vx_values::NamedRange;
+
+/// A plan with its catalog. Every node names what there is, has the types that it needs, says which types its output
+/// has, and is numbered in preorder from 0. There are at most 1,000 nodes.
+#[derive(Debug)]
+pub struct TypedPlan {
+    catalog: Catalog,
+    sizes: Vec<String>,
+    ranges: Vec<NamedRange>,
+    total: bool,
+    root: TypedNode,
+    ghost ranges_are: { list_all is_range (map (λ r. r.bounds) (map range_form ranges.items)) ≡ true },
+    ghost few_sizes: { nat_le (length (map string_bytes sizes.items)) 16 ≡ true },
+    ghost typed_nodes: { typed (scope_of (record { catalog = catalog; ranges = map range_form ranges.items; sizes = map string_bytes sizes.items })) (plan_of root) ≡ true },
+    ghost outputs: { HasOutputs (relation_at catalog) (outline_of root) } by { outputs-prop (relation_at catalog) (outline_of root) },
+    ghost numbered: { is_numbered 0 (plan_of root) ≡ true },
+    ghost few_nodes: { nodes (plan_of root) ≤ 1000 },
+}
+
+// By hand, so that the drops of its parts are made and proved here once, and not again in each crate that drops one.
+impl Drop for TypedPlan {
+    fn drop(self) {
+        let TypedPlan {
+            catalog: _,
+            sizes: _,
+            ranges: _,
+            total: _,
+            root: _,
+        } = self;
+    }
+}
+
+impl TypedPlan {
+    ghost use Rattle.vx_plan_nodes.specs.TypedView.{names_in, scope, plan, resolved_of};
+
+    /// A typed plan of its parts.
+    pub fn new(
+        catalog: Catalog,
+        sizes: Vec<String>,
+        ranges: Vec<NamedRange>,
+        total: bool,
+        root: TypedNode,
+    ) -> TypedPlan
+        requires typed { IsTyped (scope_of (record { catalog = catalog; ranges = map range_form ranges.items; sizes = map string_bytes sizes.items })) (plan_of root) }
+        requires outputs { HasOutputs (relation_at catalog) (outline_of root) }
+        requires few { nodes (plan_of root) ≤ 1000 }
+        ensures names { names_in result ≡ record { catalog = catalog; ranges = map range_form ranges.items; sizes = map string_bytes sizes.items } }
+        ensures total { (resolved_of result).total ≡ total }
+        ensures root { (resolved_of result).root ≡ outline_of root }
+    {
+        TypedPlan {
+            catalog,
+            sizes,
+            ranges,
+            total,
+            root,
+        }
+    }
+
+    /// The catalog whose relations the plan scans.
+    pub fn catalog(&self) -> &Catalog
+        ensures { result.now ≡ (scope self.now).catalog }
+    {
+        &self.catalog
+    }
+
+    /// The declared size names, in order.
+    pub fn sizes(&self) -> &[String]
+        ensures names { map string_bytes result.now ≡ (names_in self.now).sizes }
+        ensures count { length result.now ≡ (scope self.now).sizes }
+    {
+        self.sizes.as_slice()
+    }
+
+    /// The declared ranges, in order.
+    pub fn ranges(&self) -> &[NamedRange]
+        ensures { map range_form result.now ≡ (names_in self.now).ranges }
+    {
+        self.ranges.as_slice()
+    }
+
+    /// Whether the plan says that its root's list is in a total order.
+    pub fn is_total(&self) -> bool
+        ensures { result ≡ (resolved_of self.now).total }
+    {
+        self.total
+    }
+
+    /// The node at the top.
+    pub fn root(&self) -> &TypedNode
+        ensures root { outline_of result.now ≡ (resolved_of self.now).root }
+        ensures plan { plan_of result.now ≡ plan self.now }
+        ensures typed { IsTyped (scope self.now) (plan_of result.now) }
+        ensures outputs { HasOutputs (relation_at (scope self.now).catalog) (outline_of result.now) }
+        ensures few { nodes (plan_of result.now) ≤ 1000 }
+    {
+        &self.root
+    }
+}

@@ -1,0 +1,101 @@
+//! Why the program gives no text, and with which status it then ends.
+
+use std::alloc::{AllocError, AllocFailed};
+use std::fmt;
+use std::fmt::Write;
+use thiserror::Error;
+use vx_bytes::{ByteOut, write_all};
+use vx_catalog::{CatalogFault, LoadFault};
+use vx_check_rules::Rule;
+use vx_plan_json::PlanFault;
+use vx_serial::EvalFault;
+use vx_setup::RunFault;
+
+/// The first reason why the program gives no text.
+#[derive(Debug, Drop, Error)]
+pub enum Refusal {
+    /// The catalog is none.
+    #[error(transparent)]
+    Catalog(CatalogFault),
+    /// A relation's text does not hold its rows.
+    #[error(transparent)]
+    Load(LoadFault),
+    /// The plan is none, or does not fit the catalog.
+    #[error(transparent)]
+    Plan(PlanFault),
+    /// The plan claims what is not shown.
+    #[error("{rule} node={node}")]
+    Check { rule: Rule, node: u32 },
+    /// The setup does not fit the plan, or the run failed.
+    #[error(transparent)]
+    Run(RunFault),
+    /// The plan without its exchanges has no rows over the tables.
+    #[error(transparent)]
+    Eval(EvalFault),
+    /// The input is not of a bundle's form.
+    #[error("V1 BadBundle")]
+    BadBundle,
+    /// A bundle has no text for a relation that its plan scans.
+    #[error("V2 NoTable name={name}")]
+    NoTable { name: String },
+    /// A file does not open, or a catalog's or plan's file fails while it is read or has over 2^40 bytes.
+    #[error("V3 FileUnreadable path={path}")]
+    FileUnreadable { path: String },
+    /// The standard input fails, or has over 2^40 bytes.
+    #[error("V3 FileUnreadable path=-")]
+    InputUnreadable,
+    /// The output failed.
+    #[error("V4 WriteFailed")]
+    WriteFailed,
+    /// The rounds were over before the last worker had ended.
+    #[error("V5 Unfinished")]
+    Unfinished,
+    /// A generated relation may not have so many rows.
+    #[error("V6 TooLarge")]
+    TooLarge,
+    /// A growth was refused where no layer has a code for that.
+    #[error("X8 NoMemory")]
+    NoMemory,
+}
+
+impl From<AllocError> for Refusal {
+    ghost use Rattle.std.specs.Prelude.{◌≡◌};
+    ghost use Rattle.vx_refusals.specs.declared.refusal.Refusal.TheVariants.{NoMemory};
+
+    ghost from_gives = { λ _ e. e ≡ NoMemory };
+
+    fn from(_e: AllocError) -> Refusal {
+        Refusal::NoMemory
+    }
+}
+
+impl<T: Drop> From<AllocFailed<T>> for Refusal {
+    ghost use Rattle.std.specs.Prelude.{◌≡◌};
+    ghost use Rattle.vx_refusals.specs.declared.refusal.Refusal.TheVariants.{NoMemory};
+
+    ghost from_gives = { λ _ e. e ≡ NoMemory };
+
+    fn from(_e: AllocFailed<T>) -> Refusal {
+        Refusal::NoMemory
+    }
+}
+
+// Text that goes to a writer of bytes as it is made, so that it takes no memory.
+#[derive(Drop)]
+struct Printer<'w, W> {
+    out: &'w mut W,
+}
+
+impl<W: ByteOut> Write for Printer<'_, W> {
+    fn write_str(&mut self, text: &str) -> fmt::Result {
+        match write_all(self.out, text.as_bytes()) {
+            Ok(()) => Ok(()),
+            Err(_) => Err(fmt::Error),
+        }
+    }
+}
+
+/// Tells a refusal in one line. That the writer fails changes nothing else.
+pub fn tell<E: ByteOut>(refusal: &Refusal, err: &mut E) {
+    let _ = writeln!(Printer { out: err }, "volcano: {refusal}");
+}

@@ -1,7 +1,0 @@
-use Rattle.std.proofs.Common.{ap, ◌∙◌}
-use Rattle.vx_nodes.specs.Outline.{outline_of}
-use Rattle.vx_typed.proofs.OutputFacts.{top-output}
-use Rattle.vx_typed.proofs.outputs.output_types.Goals as goal
-
-pub returns : goal.returns
-returns c = λ catalog h. c.as_slice.ensures.value ∙ (ap (λ t. t.columns.types) c.head.ensures.top ∙ (top-output catalog (outline_of c.args.node.now) h).types_are)

@@ -1,6 +1,0 @@
-pub mod Typed
-pub mod Outputs
-pub mod OutputProps
-pub mod Names
-pub mod TypedView
-pub mod Erased
