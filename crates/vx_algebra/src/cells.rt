@@ -15,6 +15,5 @@ pub fn cell_or_zero(rows: &Rows, i: usize, column: usize) -> Cell<'_>
     if column < rows.types().len() {
         return rows.cell(i, column);
     }
-    rows.fit();
     Cell::Int(0)
 }

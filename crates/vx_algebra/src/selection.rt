@@ -94,7 +94,7 @@ pub fn passing(
     Ok(Some(kept))
 }
 
-/// The rows for which all conditions hold, in order. Where they hold of all rows, these are handed on as they are.
+/// The rows for which all conditions hold, in order. Where they hold of all rows, these are returned as they are.
 pub fn selected(alloc: Global, conditions: &[Condition], rows: Rows) -> Result<Rows, AllocError>
     ensures types { IfOk result (λ r. r.types ≡ rows.types) }
     ensures rows { IfOk result (λ r. r.rows ≡ filter (passes (conditions_of conditions.now)) rows.rows) }

@@ -15,16 +15,16 @@ pub struct Broken;
 
 /// Where bytes come from.
 pub trait ByteIn {
-    // The bytes that reads will give from here on, where the type tells them.
+    // The bytes that later reads return, where the type knows them.
     ghost remaining: { Self → Option (List ℕ) };
 
-    // Whether a call has answered `Err`.
+    // Whether a call has failed.
     ghost has_failed: { Self → Bool };
 
-    // Whether no read will answer `Err`, as far as the type tells: `false` says nothing.
+    // Whether no read will fail, as far as the type knows: `false` says nothing.
     ghost is_reliable: { Self → Bool };
 
-    /// Fills the front of `buf`, and says how far. 0 into a buffer with room is the end.
+    /// Reads bytes into the beginning of `buf`, and returns how many. 0 into a buffer that is not empty is the end.
     fn read(&mut self, buf: &mut [u8]) -> Result<usize, Broken>
         ensures bound { IfOk result (λ n. n ≤ length buf.new) }
         ensures bytes { ReadConsumes (remaining self.old) (remaining self.new) result buf.new }
@@ -32,20 +32,20 @@ pub trait ByteIn {
         ensures stays { has_failed self.old ≡ true → IsErr result }
         ensures reliable { is_reliable self.old ≡ true → (is_reliable self.new ≡ true) × IsOk result };
 
-    /// Whether a call has answered `Err`.
+    /// Whether a call has failed.
     fn failed(&self) -> bool
         ensures { result ≡ has_failed self.now };
 }
 
 /// Where bytes go.
 pub trait ByteOut {
-    // The bytes that the writer got, where the type tells them.
+    // The bytes that were written, where the type knows them.
     ghost contents: { Self → Option (List ℕ) };
 
-    // Whether a call has answered `Err`.
+    // Whether a call has failed.
     ghost has_failed: { Self → Bool };
 
-    /// Takes bytes from the front of `buf`, at least one where there is one, and says how many.
+    /// Writes a prefix of `buf`, at least one byte if there is one, and returns its length.
     fn write(&mut self, buf: &[u8]) -> Result<usize, Broken>
         ensures bound { IfOk result (λ n. n ≤ length buf.now) }
         ensures some { IfOk result (λ n. 0 < length buf.now → 0 < n) }
@@ -53,12 +53,12 @@ pub trait ByteOut {
         ensures fails { has_failed self.new ≡ (has_failed self.old || is_err result) }
         ensures stays { has_failed self.old ≡ true → IsErr result };
 
-    /// Whether a call has answered `Err`.
+    /// Whether a call has failed.
     fn failed(&self) -> bool
         ensures { result ≡ has_failed self.now };
 }
 
-/// Gives all bytes to a writer. After an `Err` it may have got some of them.
+/// Writes all bytes. After an `Err` some of them may have been written.
 pub fn write_all<W: ByteOut>(out: &mut W, bytes: &[u8]) -> Result<(), Broken>
     ensures ok { OnOk result (Appends (W.contents out.old) (W.contents out.new) bytes.now) }
     ensures fails { W.has_failed out.new ≡ (W.has_failed out.old || is_err result) }
@@ -72,13 +72,13 @@ pub fn write_all<W: ByteOut>(out: &mut W, bytes: &[u8]) -> Result<(), Broken>
     Ok(())
 }
 
-/// Why not all bytes of a reader were taken.
+/// Why not all bytes of a reader were read.
 #[derive(Clone, Copy, Debug, PartialEq, Eq, Error)]
 pub enum ReadFault {
     /// The reader failed.
     #[error("the reader failed")]
     Broken,
-    /// A growth was refused.
+    /// Out of memory.
     #[error("no memory")]
     NoMemory,
     /// There are more bytes than the limit.
@@ -97,8 +97,8 @@ impl From<AllocError> for ReadFault {
     }
 }
 
-/// All bytes that a reader has left, where these are `limit` or fewer. Whichever comes first is told:
-/// that the reader fails, or that it gives more.
+/// All bytes that a reader has left, if these are `limit` or fewer. It fails if the reader fails or has more bytes,
+/// with the error that comes first.
 pub fn read_all<R: ByteIn>(
     alloc: Global,
     reader: &mut R,

@@ -1,11 +1,11 @@
-//! Ports over memory, which fail at a stated byte or never: for texts that are at hand, and for tests of what reads and writes.
+//! Ports over memory, which fail at a stated byte or never: for texts in memory, and for tests of what reads and writes.
 
 ghost use Rattle.std.specs.Prelude.{◌≡◌, ◌&&◌, [], Some, false, not, is_none};
 
 use crate::bytes::{Broken, ByteIn, ByteOut};
 use std::alloc::Global;
 
-/// A reader over memory. It fails once it has given so many bytes, or never.
+/// A reader over memory. It fails after so many bytes, or never.
 #[derive(Drop)]
 pub struct MemoryIn<'a> {
     rest: &'a [u8],
@@ -59,7 +59,7 @@ impl<'a> ByteIn for MemoryIn<'a> {
     }
 }
 
-/// A writer into memory, which takes a few bytes at a time. It fails once it has taken so many bytes.
+/// A writer into memory, which writes a few bytes at a time. It fails after so many bytes.
 #[derive(Drop)]
 pub struct MemoryOut {
     bytes: Vec<u8>,
@@ -69,7 +69,7 @@ pub struct MemoryOut {
 }
 
 impl MemoryOut {
-    /// A writer that takes at most `at_once` bytes in a call, or one where that is 0, and `room` bytes in all.
+    /// A writer that writes at most `at_once` bytes in a call, or one if that is 0, and `room` bytes in all.
     pub fn new(alloc: Global, at_once: usize, room: usize) -> MemoryOut
         ensures empty { result.bytes.items ≡ [] }
         ensures at_once { result.at_once ≡ at_once }
@@ -84,7 +84,7 @@ impl MemoryOut {
         }
     }
 
-    /// The bytes that were taken.
+    /// The bytes that were written.
     pub fn bytes(&self) -> &[u8]
         ensures { result.now ≡ self.now.bytes.items }
     {

@@ -12,10 +12,10 @@ pub trait Store {
     /// A file that is open, at its first byte.
     type In: ByteIn + Drop;
 
-    // What the store says of the file at this path: nothing, that there is none, or its bytes. A file with known bytes opens.
+    // What the store knows of the file at this path: nothing, that there is no such file, or its bytes. A file with known bytes opens.
     ghost holds: { Self → List ℕ → Stored };
 
-    // Whether no read of the file at this path will fail, as far as the store says: `false` says nothing.
+    // Whether no read of the file at this path will fail, as far as the store knows: `false` says nothing.
     ghost is_reliable: { Self → List ℕ → Bool };
 
     /// The file at this path, if there is one that opens.

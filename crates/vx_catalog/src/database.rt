@@ -64,9 +64,10 @@ impl Database {
         })
     }
 
-    /// The catalog whose relations these are.
+    /// The catalog whose relations these are. The rows of each meet all that it declares.
     pub fn catalog(&self) -> &Catalog
-        ensures { result.now ≡ self.now.catalog }
+        ensures catalog { result.now ≡ self.now.catalog }
+        ensures meets { MeetsAll self.now }
     {
         &self.catalog
     }
@@ -80,14 +81,6 @@ impl Database {
         ensures few { length result.now.rows ≤ max_rows }
     {
         &self.tables[relation]
-    }
-
-    /// The rows of each relation meet all that the catalog declares of it. It does nothing: a caller who needs the
-    /// fact calls it.
-    pub fn meets(&self)
-        ensures { MeetsAll self.now }
-    {
-        let _ = &self.catalog;
     }
 
     /// Replaces the rows of one relation. Those of another catalog come back.

@@ -3,6 +3,8 @@
 ghost use Rattle.std.specs.Prelude.{◌≡◌, ◌≢◌, ◌⊎◌, ◌<◌, ◌≤◌, ◌-◌, length, true, false, Err, IfOk, IfSome, IsErrOf, IfErr};
 ghost use Rattle.csv.specs.Reading.{source_of};
 ghost use Rattle.std.specs.Ordering.{is_lt};
+ghost use Rattle.std.specs.List.{AllByRecursion};
+ghost use Rattle.vx_values.specs.Types.{Fits};
 ghost use Rattle.vx_rows.specs.View.{row, AreColumns};
 ghost use Rattle.vx_rows.specs.Order.{compare_on};
 ghost use Rattle.vx_relations.specs.Relation.{Meets};
@@ -32,6 +34,7 @@ fn read_text<S: Read>(
 ) -> Result<Rows, LoadFault>
     requires { IsPlain reader.old }
     ensures types { IfOk result (λ r. r.types ≡ relation.now.types) }
+    ensures fit { IfOk result (λ r. AllByRecursion (Fits r.types) r.rows) }
     ensures rows { IfSome (rest_of S.remaining reader.old) (λ records. Gives (λ r. r.rows) result (under_header relation.now.names relation.now.types records)) }
     ensures few { IfOk result (λ r. length r.rows ≤ max_rows) }
     ensures known { (result ≡ Err LoadFault.NoMemory) ⊎ StaysKnown (source_of S.remaining reader.old) (source_of S.remaining reader.new) }
@@ -92,13 +95,13 @@ fn test_keys(alloc: Global, rows: &Rows, relation: &Relation) -> Result<(), Load
 fn test_rows(alloc: Global, relation: &Relation, rows: Rows) -> Result<Rows, LoadFault>
     requires relation { IsRelation relation.now }
     requires types { rows.types ≡ relation.now.types }
+    requires fit { AllByRecursion (Fits rows.types) rows.rows }
     ensures same { IfOk result (λ r. r ≡ rows) }
     ensures rows { Gives (λ r. r.rows) result (tested relation.now rows.rows) }
     ensures meets { IfOk result (λ r. Meets relation.now r.rows) }
 {
     test_keys(alloc, &rows, relation)?;
     test_order(&rows, relation.order())?;
-    rows.fit();
     Ok(rows)
 }
 

@@ -4,6 +4,8 @@ ghost use Rattle.std.specs.Prelude.{◌≡◌, ◌≢◌, ◌⊎◌, ◌≤◌, 
 ghost use Rattle.std.specs.Option.{option_copied};
 ghost use Rattle.csv.specs.Reading.{source_of, strip_bom};
 ghost use Rattle.csv.specs.Records.{fields_of, field_at};
+ghost use Rattle.std.specs.List.{AllByRecursion};
+ghost use Rattle.vx_values.specs.Types.{Fits};
 ghost use Rattle.vx_values.specs.ValueView.{cell_val};
 ghost use Rattle.vx_relations.specs.Walk.{walk_onto};
 ghost use Rattle.vx_catalog.specs.Counting.{StaysKnown};
@@ -130,6 +132,7 @@ pub fn read_rows<S: Read>(
 ) -> Result<Rows, LoadFault>
     requires { IsPlain reader.old }
     ensures types { IfOk result (λ r. r.types ≡ types.now) }
+    ensures fit { IfOk result (λ r. AllByRecursion (Fits r.types) r.rows) }
     ensures rows { IfSome (rest_of S.remaining reader.old) (λ records. Gives (λ r. r.rows) result (rows_onto types.now [] records)) }
     ensures few { IfOk result (λ r. length r.rows ≤ max_rows) }
     ensures known { (result ≡ Err LoadFault.NoMemory) ⊎ StaysKnown (source_of S.remaining reader.old) (source_of S.remaining reader.new) }

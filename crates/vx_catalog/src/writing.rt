@@ -35,7 +35,6 @@ fn fill_line(line: &mut StringRecord, rows: &Rows, i: usize) -> Result<(), Alloc
     ensures { OnOk result (fields_of line.new ≡ map field_text (row rows.now i)) }
 {
     line.clear();
-    rows.fit();
     for column in 0..rows.types().len() {
         push_cell(line, rows.cell(i, column))?;
     }

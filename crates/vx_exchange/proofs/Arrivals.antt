@@ -16,6 +16,7 @@ use Rattle.vx_plan_nodes.specs.Streams.{Dealt, bearing}
 use Rattle.vx_ports.specs.Packets.{brings, last, fault, PacketView, content_rows, rows_of, is_last, is_fault, has_last, has_fault}
 use Rattle.vx_ops.specs.Ledger.{Ledger, ConsumerEnd, receive, Makes, Begun, OwnBlame, IsFor, Came}
 use Rattle.vx_ops.specs.Begun.{begun_whole}
+use Rattle.vx_ops.proofs.Strangers.{none-came}
 use Rattle.vx_ops.specs.Turn.{fresh_ledger, with_packet, after}
 use Rattle.vx_ops.specs.declared.fault.Over.TheVariants.{Running, Ended, Failed}
 use Rattle.vx_ops.specs.declared.fault.Fault.{Fault}
@@ -125,11 +126,16 @@ module _ (port : ConsumerEnd) (next : ℕ) (flags : List Bool) (packet : PacketV
     | inr e ↦ rw (other_came i next l.came packet e.1) (s.ours i)
   ]
 
+  -- and none that is not
+  none-strange : IsFor port next packet → EndStands port flags next Running l → (i : ℕ) → Came (λ p. IsFor port i p → ⊥) (with_packet l.came next (Some packet) i) → ⊥
+  none-strange f s i c = none-came (IsFor port i) (with_packet l.came next (Some packet) i) (all_ours f s i) c
+
   -- it fails at this packet
   port-fails : (f : Fault) → EndStands port flags next Running l → OwnBlame (receive port) (with_one l) f
+      → ((i : ℕ) → Came (λ p. IsFor port i p → ⊥) (with_packet l.came next (Some packet) i) → f ≡ Own Stranger port.exchange)
       → EndStands port flags next (Failed f) (after l (want.Packet next) (got.Packet (Some packet)) (polled.Fault f))
   unfolding with_one
-  port-fails f s b =
+  port-fails f s b t =
       record {
         as_many = s.as_many;
         same = refl;
@@ -139,6 +145,7 @@ module _ (port : ConsumerEnd) (next : ℕ) (flags : List Bool) (packet : PacketV
         is_open = λ e. cc;
         closed = still_closed s;
         all_closed = λ e. cc;
+        tests = λ i c. ap Failed (t i c);
         blame = λ f' e. let e' : f ≡ f' = cc in subst (λ g. OwnBlame (receive port) (with_one l) g) e' b;
       }
 
@@ -149,12 +156,12 @@ module _ (port : ConsumerEnd) (next : ℕ) (flags : List Bool) (packet : PacketV
   pub port-stranger : (IsFor port next packet → ⊥) → EndStands port flags next Running l
       → EndStands port flags next (Failed (Own Stranger port.exchange)) (after l (want.Packet next) (got.Packet (Some packet)) (polled.Fault (Own Stranger port.exchange)))
   unfolding with_one
-  port-stranger h s = port-fails (Own Stranger port.exchange) s (refl, (next, is_within s, came_last (λ p. IsFor port next p → ⊥) h))
+  port-stranger h s = port-fails (Own Stranger port.exchange) s (refl, (next, is_within s, came_last (λ p. IsFor port next p → ⊥) h)) (λ i c. refl)
 
-  pub port-broken : packet.content ≡ fault → EndStands port flags next Running l
+  pub port-broken : IsFor port next packet → packet.content ≡ fault → EndStands port flags next Running l
       → EndStands port flags next (Failed Passed) (after l (want.Packet next) (got.Packet (Some packet)) (polled.Fault Passed))
   unfolding with_one
-  port-broken h s = port-fails Passed s (next, is_within s, rw (this_came next l.came packet) (has_fault-push (l.came next) packet (ap is_fault h)))
+  port-broken f h s = port-fails Passed s (next, is_within s, rw (this_came next l.came packet) (has_fault-push (l.came next) packet (ap is_fault h))) (λ i c. absurd (none-strange f s i c))
 
   -- rows come: another producer may be next
   pub port-rows : IsFor port next packet → (rows : List Row) (t : Rows) (next' : ℕ) → t.rows ≡ rows → packet.content ≡ brings rows → slice_get flags next' ≡ Some false → EndStands port flags next Running l
@@ -171,6 +178,7 @@ module _ (port : ConsumerEnd) (next : ℕ) (flags : List Bool) (packet : PacketV
         is_open = λ _. o;
         closed = still_closed s;
         all_closed = λ e. cc;
+        tests = λ i c. absurd (none-strange f s i c);
         blame = λ f e. cc;
       }
 
@@ -201,6 +209,7 @@ module _ (port : ConsumerEnd) (next : ℕ) (flags : List Bool) (packet : PacketV
         is_open = λ _. o;
         closed = last_closed b s;
         all_closed = λ e. cc;
+        tests = λ i c. absurd (none-strange f s i c);
         blame = λ f e. cc;
       }
 
@@ -218,6 +227,7 @@ module _ (port : ConsumerEnd) (next : ℕ) (flags : List Bool) (packet : PacketV
         is_open = λ e. cc;
         closed = last_closed b s;
         all_closed = λ e i h. last_closed b s i (all i (let e : length flags ≡ port.producers = s.as_many in rw (length-set, e) h));
+        tests = λ i c. absurd (none-strange f s i c);
         blame = λ f e. cc;
       }
 
@@ -243,6 +253,7 @@ port-fresh exchange place n types flags e lt =
       is_open = λ _. none 0 lt;
       closed = λ i t. let f : slice_get flags i ≡ Some false = none i (subst (λ k. i < k) many (slice_get_within flags i true t)) in cc;
       all_closed = λ e. cc;
+      tests = λ i c. absurd (none-came (IsFor port i) [] (All-nil (IsFor port i)) c);
       blame = λ f e. cc;
     })
 

@@ -1,4 +1,4 @@
--- Laws on beginnings of rows and of packets, for those that a trait asks for.
+-- Laws on prefixes of rows and of packets, for those that a trait asks for.
 use Rattle.std.specs.Prelude.{◌≡◌, ℕ, List, [], ◌∷◌, ◌++◌, length, map, take, drop}
 use Rattle.std.proofs.Common.{refl, sym, ap, ◌∙◌, append_assoc}
 use Rattle.std.proofs.lemmas.List.{take-map, take-append-drop}
@@ -7,11 +7,11 @@ use Rattle.vx_values.specs.Values.{Row}
 use Rattle.vx_rows.specs.Lists.{IsBeginning}
 use Rattle.vx_exchange.specs.Ship.{end_to_end}
 
--- a beginning of a beginning
+-- a prefix of a prefix
 pub begins-along : {X : Type 0} (xs ys zs : List X) → IsBeginning xs ys → IsBeginning ys zs → IsBeginning xs zs
 begins-along xs ys zs a b = record { rest = a.rest ++ b.rest; joined = sym (append_assoc xs a.rest b.rest) ∙ ap (λ us. us ++ b.rest) a.joined ∙ b.joined }
 
--- a beginning of what is made one by one is made of the first
+-- a prefix of what is made one by one is made of the first
 pub mapped-take : {X Y : Type 0} (f : X → Y) (xs : List X) (front rest : List Y) → front ++ rest ≡ map f xs → map f (take (length front) xs) ≡ front
 mapped-take f xs front rest e = sym (take-map f (length front) xs) ∙ ap (take (length front)) (sym e) ∙ take-append_seam front rest
 

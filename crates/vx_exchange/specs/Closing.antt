@@ -1,20 +1,20 @@
--- A sending end that closes: what it gave before, and then Last or Fault for each consumer.
+-- A sending end that closes: what it returned before, and then Last or Fault for each consumer.
 use Rattle.std.specs.Prelude.{ℕ, ◌<◌, nat_lt, cond, List, [], ◌∷◌, ◌++◌}
 use Rattle.vx_values.specs.Values.{Row}
 use Rattle.vx_plan_nodes.specs.Routes.{Router}
 use Rattle.vx_ports.specs.Packets.{Content, last, fault, PacketView}
 use Rattle.vx_exchange.specs.Ship.{Ship, packet_of, IsCut, IsShipped, IsCutShort, IsPartShipped}
 
--- a closing packet behind what was given for each consumer
+-- a closing packet behind what was returned for each consumer
 abbrev pub closed_by : Ship → Content → (ℕ → List PacketView) → ℕ → List PacketView
 closed_by s c put j = cond (nat_lt j s.consumers) (put j ++ packet_of s j c ∷ []) (put j)
 
--- what was given in part, and then Fault, is cut short
+-- what was returned in part, and then Fault, is cut short
 abbrev pub FaultCutsShort : Type 0
 FaultCutsShort =
     (goes : Router) (s : Ship) (rows : List Row) (put : ℕ → List PacketView) → IsPartShipped goes s rows put → IsCutShort goes s rows (closed_by s fault put)
 
--- what was given in part, where it is all that the rows send, cut, and then Last, is shipped
+-- what was returned in part, where it is all that the rows send, cut, and then Last, is shipped
 abbrev pub LastShips : Type 0
 LastShips =
     (goes : Router) (s : Ship) (rows : List Row) (put : ℕ → List PacketView) → (part : IsPartShipped goes s rows put)

@@ -1,4 +1,4 @@
--- When the root may have accepted a stream: it kept the rows, and gave no packet.
+-- When the root may have accepted a stream: it kept the rows, and returned no packet.
 use Rattle.std.specs.Prelude.{ℕ, ◌≡◌, Bool, true, false, List, []}
 use Rattle.std.proofs.Common.{refl}
 use Rattle.vx_values.specs.Values.{Val}
@@ -24,7 +24,7 @@ collector_bounds s = []
 abbrev pub collector_is_open : Collector → Bool
 collector_is_open s = s.takes_more
 
--- it gives no packet
+-- it returns no packet
 abbrev pub collector_has_closed : Collector → Bool
 collector_has_closed s = false
 
@@ -37,7 +37,7 @@ pub record CollectorStands (s : Collector) (goes : Router) (a : Stream) (g : ℕ
 pub collector_open_first : (s : Collector) → collector_is_open s ≡ true → collector_has_closed s ≡ false
 collector_open_first s e = refl
 
--- nothing was given
+-- nothing was returned
 pub collector_begun : (s : Collector) (goes : Router) (a : Stream) (g : ℕ → List PacketView) → CollectorStands s goes a g → collector_has_closed s ≡ false → Begun goes (collector_task s) a.rows g
 collector_begun s goes a g h e = h.nothing
 

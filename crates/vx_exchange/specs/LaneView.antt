@@ -15,7 +15,7 @@ pub record Way : Type 0 where
   pub types : List ColType
   pub size : ℕ
 
--- the rows at hand, the packets that wait, and whether the closing packet was given
+-- the rows at hand, the packets that wait, and whether the closing packet was returned
 pub record LaneView : Type 0 where
   pub way : Way
   pub current : List Row
@@ -34,12 +34,12 @@ parcel_at w rows = parcel_of w (brings rows)
 abbrev pub empty_outlet : Way → LaneView
 empty_outlet w = record { way = w; current = []; ready = []; closed = false }
 
--- the rows of the closing packet, until it is given: none, of these types
+-- the rows of the closing packet, until it is returned: none, of these types
 abbrev pub KeepsClosing : List ColType → Option RowsView → Type 0
 KeepsClosing types None = Unit {0}
 KeepsClosing types (Some t) = (t.types ≡ types) × (t.rows ≡ [])
 
--- whether what was kept was given
+-- whether what was kept was returned
 abbrev pub is_given : {X : Type 0} → Option X → Bool
 is_given None = true
 is_given (Some x) = false

@@ -33,11 +33,11 @@ IsLane lanes j o = slice_get lanes j ≡ Some o
 abbrev pub ways_of : List LaneView → List Way
 ways_of lanes = map (λ (o : LaneView). o.way) lanes
 
--- whether each gave its closing packet
+-- whether each returned its closing packet
 abbrev pub closings_of : List LaneView → List Bool
 closings_of lanes = map (λ (o : LaneView). o.closed) lanes
 
--- some lane gave its closing packet
+-- some lane returned its closing packet
 abbrev pub any_closed : List LaneView → Bool
 any_closed lanes = list_any (λ b. b) (closings_of lanes)
 
@@ -69,7 +69,7 @@ way_to s j = record { exchange = s.exchange; place = s.place; consumer = j; type
 abbrev pub AreNumbered : Deal → List Way → Type 0
 AreNumbered deal ways = (j : ℕ) (w : Way) → slice_get ways j ≡ Some w → w ≡ way_to (ship_of deal ways) j
 
--- whether a closing packet may have been given or be next
+-- whether a closing packet may have been returned or be next
 abbrev pub may_close : Stage → List LaneView → Bool
 may_close Open lanes = any_closed lanes
 may_close Ending lanes = any_closed lanes
@@ -95,7 +95,7 @@ pub record Deals (goes : Router) (k : ExchangeKind) (rows : List Row) (old new :
 abbrev pub Finishes : List LaneView → List LaneView → Type 0
 Finishes old new = (j : ℕ) (o o' : LaneView) → IsLane old j o → IsLane new j o' → CutsRest o.way o.current o.ready o'.ready
 
--- the lane of a consumer gave a packet of rows that waited
+-- the lane of a consumer returned a packet of rows that waited
 pub record GivesPacket (old new : List LaneView) (consumer : ℕ) (p : PacketView) : Type 0 where
   pub before : LaneView
   pub after : LaneView
@@ -107,7 +107,7 @@ pub record GivesPacket (old new : List LaneView) (consumer : ℕ) (p : PacketVie
   pub closed : after.closed ≡ before.closed
   pub of_rows : closes p.content ≡ false
 
--- the lane of a consumer gave its closing packet
+-- the lane of a consumer returned its closing packet
 pub record GivesClosing (content : Content) (old new : List LaneView) (consumer : ℕ) (p : PacketView) : Type 0 where
   pub before : LaneView
   pub after : LaneView

@@ -1,4 +1,4 @@
--- What was given in part stays so while more rows come and while packets are taken away, and Fault cuts it short.
+-- What was returned in part stays so while more rows come and while packets are taken away, and Fault cuts it short.
 use Rattle.std.specs.Prelude.{ℕ, ◌≡◌, ◌<◌, List, ◌++◌, Some}
 use Rattle.vx_values.specs.Values.{Row}
 use Rattle.vx_rows.specs.Lists.{IsBeginning}
@@ -14,7 +14,7 @@ abbrev pub HasConsumers : Task → Type 0
 HasConsumers (send s) = 0 < s.consumers
 HasConsumers (keep kept) = Unit {0}
 
--- what was given of some rows is in part what is to be given of these and more
+-- what was returned of some rows is in part what is to be returned of these and more
 abbrev pub PartStaysAsRowsCome : Type 0
 PartStaysAsRowsCome =
     (goes : Router) (s : Ship) (xs ys : List Row) (put : ℕ → List PacketView) → 0 < s.consumers → IsPartShipped goes s xs put → IsPartShipped goes s (xs ++ ys) put

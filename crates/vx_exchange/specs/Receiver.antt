@@ -1,9 +1,9 @@
--- When the consumer end of an exchange may have heard and given what a ledger says.
+-- When the consumer end of an exchange may have received and returned what a ledger says.
 use Rattle.std.specs.Prelude.{ℕ, ◌≡◌, ◌<◌, ◌+◌, Some, true, false, slice_get, length, List, [], Bool, All}
 use Rattle.std.proofs.Common.{◌∙◌, sym, inr, subst}
 use Rattle.vx_values.specs.declared.value.ColType.{ColType}
 use Rattle.vx_ports.specs.Packets.{has_last}
-use Rattle.vx_ops.specs.Ledger.{Ledger, ConsumerEnd, Op, receive, Makes, Begun, OwnBlame, IsFor, Told}
+use Rattle.vx_ops.specs.Ledger.{Ledger, ConsumerEnd, Op, receive, Makes, Begun, OwnBlame, IsFor, TestsPackets, Told}
 use Rattle.vx_ops.specs.Turn.{Shape}
 use Rattle.vx_ops.specs.declared.fault.Over.{Over}
 use Rattle.vx_ops.specs.declared.fault.Over.TheVariants.{Running, Ended, Failed}
@@ -21,7 +21,7 @@ unmerged_end exchange place producers types = record { exchange = exchange; plac
 abbrev pub receiver_end : Receiver → ConsumerEnd
 receiver_end s = unmerged_end s.exchange s.place (length s.ended.items) s.types.items
 
--- it gives a shuffle of what comes there
+-- it returns a shuffle of what comes there
 abbrev pub receiver_op : Receiver → Op
 receiver_op s = receive (receiver_end s)
 
@@ -55,7 +55,7 @@ UnlessFailed Running P = P
 UnlessFailed Ended P = P
 UnlessFailed (Failed f) P = Unit {0}
 
--- the producers whose flag is set have ended, what was given is a shuffle of what came, and all of that was for this end
+-- the producers whose flag is set have ended, what was returned is a shuffle of what came, and all of that was for this end
 pub record EndStands (port : ConsumerEnd) (flags : List Bool) (next : ℕ) (over : Over) (l : Ledger) : Type 0 where
   pub as_many : length flags ≡ port.producers
   pub same : l.gave.over ≡ over
@@ -65,6 +65,7 @@ pub record EndStands (port : ConsumerEnd) (flags : List Bool) (next : ℕ) (over
   pub is_open : over ≡ Running → slice_get flags next ≡ Some false
   pub closed : (i : ℕ) → slice_get flags i ≡ Some true → has_last (l.came i) ≡ true
   pub all_closed : over ≡ Ended → (i : ℕ) → i < port.producers → has_last (l.came i) ≡ true
+  pub tests : TestsPackets (receive port) l
   pub blame : (f : Fault) → over ≡ Failed f → OwnBlame (receive port) l f
 
 -- so a receiver stands
@@ -77,5 +78,6 @@ receiver_told s l h = record {
   before = h.begun;
   ended = λ e. (h.all_closed (sym h.same ∙ e), subst (λ o. UnlessFailed o (Makes (receiver_op s) l l.gave.rows)) (sym h.same ∙ e) h.makes);
   passes = λ f e. absurd e;
+  tests = h.tests;
   blame = λ f e. inr (h.blame f (sym h.same ∙ e));
 }

@@ -1,4 +1,4 @@
--- When a sending end may have accepted a stream and given packets for its consumers.
+-- When a sending end may have accepted a stream and returned packets for its consumers.
 use Rattle.std.specs.Prelude.{ℕ, ◌≡◌, ◌<◌, ◌≤◌, ◌&&◌, not, Bool, true, false, List, [], ◌∷◌, ◌++◌, length, map, take}
 use Rattle.std.specs.List.{AllByRecursion}
 use Rattle.std.proofs.Common.{refl, sym, ◌∙◌, subst, true≢false, append-nil}
@@ -44,15 +44,15 @@ takes_more Open = true
 takes_more Ending = false
 takes_more Failing = false
 
--- it takes more until it closes
+-- it accepts more until it closes
 abbrev pub sender_is_open : Sender → Bool
 sender_is_open s = takes_more s.stage && not (any_closed s.lanes.items)
 
--- Last or Fault was given to some consumer
+-- Last or Fault was returned to some consumer
 abbrev pub sender_has_closed : Sender → Bool
 sender_has_closed s = any_closed s.lanes.items
 
--- the closing packet for a consumer, where it was given
+-- the closing packet for a consumer, where it was returned
 abbrev pub closing_given : Ship → (consumer : ℕ) → Content → (closed : Bool) → List PacketView
 closing_given s j content true = packet_of s j content ∷ []
 closing_given s j content false = []
@@ -64,19 +64,19 @@ pub record IsFilling (s : Ship) (consumer : ℕ) (o : LaneView) (rows : List Row
   pub rows_are : end_to_end full ++ o.current ≡ rows
   pub packets : given ++ o.ready ≡ map (packet_at s consumer) full
 
--- all rows for a consumer came: all packets of them were made, and Last is given behind them
+-- all rows for a consumer came: all packets of them were made, and Last is returned behind them
 pub record IsEnding (s : Ship) (consumer : ℕ) (o : LaneView) (rows : List Row) (given : List PacketView) : Type 0 where
   pub parts : List (List Row)
   pub cut : IsCut s.size rows parts
   pub packets : given ++ o.ready ≡ map (packet_at s consumer) parts ++ closing_given s consumer last o.closed
 
--- a fault came, or memory was refused: Fault is given behind what was given
+-- a fault came, or memory ran out: Fault is returned behind what was returned
 pub record IsFailing (s : Ship) (consumer : ℕ) (o : LaneView) (rows : List Row) (given : List PacketView) : Type 0 where
   pub parts : List (List Row)
   pub begins : IsBeginning (end_to_end parts) rows
   pub packets : map (packet_at s consumer) parts ++ closing_given s consumer fault o.closed ≡ given
 
--- what the lane of a consumer gave
+-- what the lane of a consumer returned
 abbrev pub LaneAt : Stage → Ship → (consumer : ℕ) → LaneView → List Row → List PacketView → Type 0
 LaneAt Open s j o rows given = IsFilling s j o rows given
 LaneAt Ending s j o rows given = IsEnding s j o rows given
@@ -88,7 +88,7 @@ IsOver Open over = over ≡ Running
 IsOver Ending over = over ≡ Ended
 IsOver Failing over = (f : Fault) × (over ≡ Failed f)
 
--- what each lane gave of what the rows send to its consumer, and nothing for any other
+-- what each lane returned of what the rows send to its consumer, and nothing for any other
 pub record SenderAt (goes : Router) (s : Ship) (st : Stage) (lanes : List LaneView) (a : Stream) (g : ℕ → List PacketView) : Type 0 where
   pub sent : Streams
   pub sends : Sends goes s.kind s.consumers a.rows sent
@@ -100,7 +100,7 @@ pub record SenderAt (goes : Router) (s : Ship) (st : Stage) (lanes : List LaneVi
 abbrev pub SenderStands : Sender → Router → Stream → (ℕ → List PacketView) → Type 0
 SenderStands s goes a g = SenderAt goes (sender_ship s) s.stage s.lanes.items a g
 
--- it takes more only before it closes
+-- it accepts more only before it closes
 pub sender_open_first : (s : Sender) → sender_is_open s ≡ true → sender_has_closed s ≡ false
 sender_open_first s e = go (takes_more s.stage) (any_closed s.lanes.items) e
   where
@@ -113,7 +113,7 @@ sender_open_first s e = go (takes_more s.stage) (any_closed s.lanes.items) e
 pub sender_at_post : (s : Sender) → IsAt (sender_post s) (sender_task s)
 sender_at_post s = refl
 
--- before it closes, a lane gave packets of a beginning of the rows for its consumer
+-- before it closes, a lane returned packets of a prefix of the rows for its consumer
 record GaveInPart (s : Ship) (consumer : ℕ) (rows : List Row) (given : List PacketView) (parts : List (List Row)) : Type 0 where
   begins : IsBeginning (end_to_end parts) rows
   packets : map (packet_at s consumer) parts ≡ given

@@ -1,4 +1,4 @@
--- What a sending end knows of where rows go, and when it takes more.
+-- What a sending end knows of where rows go, and when it accepts more.
 use Rattle.std.specs.Prelude.{◌≡◌, ℕ, ◌<◌, Bool, true, false, List}
 use Rattle.vx_values.specs.Values.{Val, Row, value_at}
 use Rattle.vx_plan_nodes.specs.Plan.{ExchangeKind, route_to, round, broadcast, gather, by_hash, by_range}
@@ -19,7 +19,7 @@ abbrev pub RoutesAs : Post → List Val → (List ℕ → Row → ℕ → ℕ) �
 RoutesAs (sends_by_ship s) bounds hash goes = KindRoutesAs s.kind bounds hash goes
 RoutesAs (keeps types) bounds hash goes = Unit {0}
 
--- a sending end takes more after rows, and after nothing
+-- a sending end accepts more after rows, and after nothing
 abbrev pub is_open_after : Polled → Bool
 is_open_after (polled.Gave t) = true
 is_open_after polled.Waiting = true

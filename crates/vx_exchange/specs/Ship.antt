@@ -47,7 +47,7 @@ pub record IsPort (s : Ship) (j : ℕ) (rows : List Row) (packets : List PacketV
   pub cut : IsCut s.size rows parts
   pub closed : map (packet_at s j) parts ++ packet_of s j last ∷ [] ≡ packets
 
--- a beginning of the rows for a consumer, and then Fault
+-- a prefix of the rows for a consumer, and then Fault
 pub record IsCutPort (s : Ship) (j : ℕ) (rows : List Row) (packets : List PacketView) : Type 0 where
   pub parts : List (List Row)
   pub begins : IsBeginning (end_to_end parts) rows
@@ -67,7 +67,7 @@ pub record IsCutShort (goes : Router) (s : Ship) (rows : List Row) (put : ℕ �
   pub ports : (j : ℕ) → j < s.consumers → IsCutPort s j (sent j) (put j)
   pub nothing : (j : ℕ) → s.consumers ≤ j → put j ≡ []
 
--- what a sending end gave so far of the rows that it accepted so far: packets of a beginning of what they send (before any closing packet)
+-- what a sending end returned so far of the rows that it accepted so far: packets of a prefix of what they send (before any closing packet)
 pub record IsPartShipped (goes : Router) (s : Ship) (rows : List Row) (put : ℕ → List PacketView) : Type 0 where
   pub sent : Streams
   pub sends : Sends goes s.kind s.consumers rows sent

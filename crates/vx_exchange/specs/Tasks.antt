@@ -16,12 +16,12 @@ abbrev pub Finished : Router → Task → List Row → (ℕ → List PacketView)
 Finished goes (send s) rows put = IsShipped goes s rows put
 Finished goes (keep kept) rows put = (kept ≡ rows) × ((j : ℕ) → put j ≡ [])
 
--- a beginning of them did, and each port was closed by Fault
+-- a prefix of them did, and each port was closed by Fault
 abbrev pub Stopped : Router → Task → List Row → (ℕ → List PacketView) → Type 0
 Stopped goes (send s) rows put = IsCutShort goes s rows put
 Stopped goes (keep kept) rows put = (j : ℕ) → put j ≡ []
 
--- a beginning of them did so far, and no port was closed
+-- a prefix of them did so far, and no port was closed
 abbrev pub Begun : Router → Task → List Row → (ℕ → List PacketView) → Type 0
 Begun goes (send s) rows put = IsPartShipped goes s rows put
 Begun goes (keep kept) rows put = (j : ℕ) → put j ≡ []

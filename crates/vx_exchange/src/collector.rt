@@ -7,7 +7,7 @@ use vx_plan_nodes::Router;
 use vx_ports::Packet;
 use vx_rows::{ColType, Rows};
 
-/// The rows that the top of the root's fragment gives, in order. It gives no packet.
+/// The rows that the top of the root's fragment returns, in order. It returns no packet.
 #[derive(Drop)]
 pub struct Collector {
     rows: Rows,
@@ -42,7 +42,7 @@ impl Collector {
         self.rows
     }
 
-    // Keeps more rows. The first ones are taken as they are.
+    // Keeps more rows. The first ones are kept as they are.
     fn add(&mut self, rows: Rows) -> Result<(), AllocError>
         requires { rows.types ≡ self.old.rows.types }
         ensures ok { OnOk result (self.new.rows.rows ≡ self.old.rows.rows ++ rows.rows) }

@@ -9,7 +9,7 @@ use vx_rows::{ColType, Rows};
 /// Calls: `new (add | next_packet)* (finish next_packet* | clear) close`. After an `Err` of `add` or `finish` comes `clear`.
 ///
 /// The rows for one consumer, cut into packets: fewer rows than one packet holds, and the packets that wait.
-/// It has the rows of its closing packet, which are none, from the first, so that closing asks for no memory.
+/// It has the empty rows of its closing packet from the beginning, so that closing needs no memory.
 #[derive(Drop)]
 pub struct Lane {
     alloc: Global,
@@ -93,7 +93,7 @@ impl Lane {
         }
     }
 
-    // Takes rows from a position on: all, or as many as make a full packet with those at hand. It says from which position on they are left.
+    // Adds rows from a position on: all, or as many as make a full packet with those at hand. It returns the position of the first row that is left.
     fn fill(&mut self, rows: &Rows, from: usize) -> Result<usize, AllocError>
         requires types { rows.now.types ≡ self.old.way.types }
         requires open { self.old.closed ≡ false }
@@ -116,7 +116,7 @@ impl Lane {
         Ok(to)
     }
 
-    // Takes all of these rows.
+    // Adds all of these rows.
     fn fill_all(&mut self, rows: &Rows) -> Result<(), AllocError>
         requires types { rows.now.types ≡ self.old.way.types }
         requires open { self.old.closed ≡ false }
@@ -131,7 +131,7 @@ impl Lane {
         Ok(())
     }
 
-    /// Takes more rows. Those that are just one packet, where none are at hand, become it as they are. After a refusal some of them may be lost.
+    /// Adds rows. If none are at hand and these are just one packet, they become it as they are. After an `Err` some of them may be lost.
     pub fn add(&mut self, rows: Rows) -> Result<(), AllocError>
         requires types { rows.types ≡ self.old.way.types }
         requires open { self.old.closed ≡ false }

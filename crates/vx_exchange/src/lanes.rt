@@ -68,7 +68,7 @@ pub fn next_packet(lanes: &mut Vec<Lane>) -> Option<(u32, Packet)>
     None
 }
 
-/// The closing packet of the first lane that did not give it.
+/// The closing packet of the first lane that has not returned it.
 pub fn close_next(lanes: &mut Vec<Lane>, ending: Ending) -> Option<(u32, Packet)>
     requires few { length lanes.old.items < 2 ^ 32 }
     requires idle { All (λ o. o.ready ≡ []) lanes.old.items }

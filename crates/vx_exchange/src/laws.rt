@@ -4,7 +4,7 @@ ghost use Rattle.vx_exchange.specs.Closing.{FaultCutsShort, LastShips};
 ghost use Rattle.vx_exchange.specs.Parts.{PartStaysAsRowsCome, PartStaysWithLess, PartStaysWithoutLast, BegunStaysAsRowsCome, BegunStaysWithoutLast, FaultStops};
 ghost use Rattle.vx_exchange.specs.Rounds.{TurnsAreDealt};
 
-/// Fault behind what was given in part makes a stream that is cut short.
+/// Fault behind packets of a prefix makes a stream that is cut short.
 pub fn fault_cuts_short()
     ensures { FaultCutsShort }
 {}
@@ -19,12 +19,12 @@ pub fn turns_are_dealt()
     ensures { TurnsAreDealt }
 {}
 
-/// What was given of some rows is in part what is to be given of these and more.
+/// Packets of a prefix of some rows are packets of a prefix of these and more.
 pub fn part_stays_as_rows_come()
     ensures { PartStaysAsRowsCome }
 {}
 
-/// So is less of what was given.
+/// So are fewer of these packets.
 pub fn part_stays_with_less()
     ensures { PartStaysWithLess }
 {}

@@ -11,7 +11,7 @@ use vx_rows::ColType;
 
 /// Calls: `new (wants turn)*`.
 ///
-/// The consumer end of an exchange at one of its places: it gives the rows of its producers' packets as they come.
+/// The consumer end of an exchange at one of its places: it returns the rows of its producers' packets as they come.
 ///
 /// It asks the producers that have not ended in turn, for one packet each time.
 #[derive(Drop)]
@@ -27,7 +27,7 @@ pub struct Receiver {
 }
 
 impl Receiver {
-    ghost use Rattle.vx_ports.specs.Packets.{PacketView, last};
+    ghost use Rattle.vx_ports.specs.Packets.{PacketView, last, FitsContent};
     ghost use Rattle.vx_ops.specs.Ledger.{Ledger, receive, IsFor};
     ghost use Rattle.vx_ops.specs.Turn.{after, fresh_ledger, GivesRows};
     ghost use Rattle.vx_ops.specs.declared.turn.Got.TheVariants as got;
@@ -69,7 +69,8 @@ impl Receiver {
 
     // Whether a packet is one of this exchange, from the producer that is next to this place, with rows of these types.
     fn is_expected(&self, packet: &Packet) -> bool
-        ensures { IsTrue result ↔ IsFor (receiver_end self.now) self.now.next packet.now }
+        ensures ours { IsTrue result ↔ IsFor (receiver_end self.now) self.now.next packet.now }
+        ensures fit { IsTrue result → FitsContent packet.now.types packet.now.content }
     {
         packet.exchange() == self.exchange
             && packet.from() == self.next as u32
@@ -99,7 +100,7 @@ impl Receiver {
         }
     }
 
-    // Takes a packet from the producer that is next.
+    // Tests a packet from the producer that is next, and returns what it brings.
     fn take_packet(&mut self, packet: Packet) -> Polled
         requires { self.old.over ≡ Over.Running }
         ensures stands { (l : Ledger) → ReceiverStands self.old l
@@ -116,7 +117,6 @@ impl Receiver {
             self.over = Over::Failed(stranger);
             return Polled::Fault(stranger);
         }
-        packet.fit();
         match packet.into_body() {
             Body::Rows(rows) => {
                 self.move_on();

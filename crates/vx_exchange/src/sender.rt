@@ -16,17 +16,17 @@ use vx_rows::ColType;
 /// What a sending end is about.
 #[derive(Clone, Copy)]
 pub enum Stage {
-    /// It takes rows.
+    /// It accepts rows.
     Open,
-    /// All rows came: their packets are given, and then Last.
+    /// All rows came: their packets are returned, and then Last.
     Ending,
-    /// A fault came, or memory was refused: Fault is given, and what waited was dropped.
+    /// A fault came, or memory ran out: what waited was dropped, and Fault is returned.
     Failing,
 }
 
 /// Calls: `new (accept next*)*`, with no `accept` after the end, a fault or an `Err`.
 ///
-/// The sending end of an exchange at one of its producers. It deals the rows that come to its lanes, one for each consumer, and gives
+/// The sending end of an exchange at one of its producers. It deals the rows that come to its lanes, one for each consumer, and returns
 /// their packets; then Last for each consumer, or Fault.
 #[derive(Drop)]
 pub struct Sender {
@@ -87,7 +87,7 @@ impl Sender {
         self.stage = Stage::Failing;
     }
 
-    // Takes what the fragment's top gave.
+    // Accepts what the fragment's top returned.
     fn take<R: Router>(&mut self, router: &R, polled: Polled) -> Result<(), AllocError>
         requires open { sender_is_open self.old ≡ true }
         requires typed { GivesRows (sender_ship self.old).types polled }

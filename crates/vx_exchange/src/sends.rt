@@ -5,7 +5,7 @@ use vx_ops::Polled;
 use vx_plan_nodes::Router;
 use vx_ports::Packet;
 
-/// What takes the rows that the top of a fragment gives: the sending end of an exchange, which gives packets for the consumers, or the root's rows.
+/// What accepts the rows that the top of a fragment returns: the sending end of an exchange, which returns packets for the consumers, or the root's rows.
 pub trait Sends {
     ghost use Rattle.std.specs.Prelude.{◌≡◌, ℕ, Bool, true, false, List, OnOk, OnErr, IfSome, IfNone, Some};
     ghost use Rattle.vx_values.specs.Values.{Val, Row};
@@ -18,7 +18,7 @@ pub trait Sends {
     ghost use Rattle.vx_exchange.specs.Tasks.{Task, Post, post_types, Finished, Stopped, Begun, IsAt};
     ghost use Rattle.vx_exchange.specs.Sending.{RoutesAs, is_open_after};
 
-    // That this may have accepted such a stream and given such packets for each consumer, where rows go so.
+    // That this may have accepted such a stream and returned such packets for each consumer, where rows go so.
     ghost Stands: { Self → Routing → Stream → (ℕ → List PacketView) → Type 0 };
 
     // What it does with the rows: it sends them, or keeps them.
@@ -30,13 +30,13 @@ pub trait Sends {
     // The bounds of its range, none if it is not by range.
     ghost bounds: { Self → List Val };
 
-    // Whether it takes more: neither the end nor a fault was accepted, and no memory was refused.
+    // Whether it accepts more: neither the end nor a fault was accepted, and memory has not run out.
     ghost is_open: { Self → Bool };
 
-    // Whether a closing packet was given.
+    // Whether a closing packet was returned.
     ghost has_closed: { Self → Bool };
 
-    /// Takes what the fragment's top gave. After a refusal it stands as after a fault.
+    /// Accepts what the fragment's top returned. After an `Err` it stands as after a fault.
     fn accept<R: Router>(&mut self, router: &R, polled: Polled) -> Result<(), AllocError>
         requires open { is_open self.old ≡ true }
         requires typed { GivesRows (post_types (post self.old)) polled }
@@ -61,10 +61,10 @@ pub trait Sends {
         ensures post { post self.new ≡ post self.old }
         ensures bounds { bounds self.new ≡ bounds self.old };
 
-    // While it takes more, it has not closed.
+    // While it accepts more, it has not closed.
     ghost open_first: { (s : Self) → is_open s ≡ true → has_closed s ≡ false };
 
-    // Until it closes, what it gave is packets of a beginning of what its rows send.
+    // Until it closes, what it returned is packets of a prefix of what its rows send.
     ghost begun: { (s : Self) (goes : Routing) (a : Stream) (g : ℕ → List PacketView) → Stands s goes a g → has_closed s ≡ false → Begun goes (task s) a.rows g };
 
     // The task is that of the post.

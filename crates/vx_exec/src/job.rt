@@ -129,7 +129,7 @@ impl<'j> Job<'j> {
     pub fn meets(&self)
         ensures { MeetsAll self.now.database.now }
     {
-        self.database.meets();
+        let _catalog = self.database.catalog();
     }
 
     /// The rows of a packet.

@@ -39,6 +39,7 @@ told-group = record {
       (record { left = record { rest = large.db 0; joined = refl }; right = all_of []; came = λ i. all_of [] }) refl refl;
   ended = λ e. absurd (not-ended e);
   passes = λ f e. absurd (not-failed f e);
+  tests = tt;
   blame = λ f e.
       let P : Fault → Type 0 = λ x. OwnBlame (one_op 0 (group [] (sum 0 ∷ []))) grouping x in
       inr (subst P (same-fault (Own Overflow 0) f e) (refl, refl, inl refl));
@@ -60,7 +61,7 @@ failed-worker = record {
   out = stopped;
   told = (
     grouping,
-    (scanning, record { scanned = refl; came = refl }, record { before = begun_whole scan_op scanning refl; ended = λ e. (refl, refl); passes = λ f e. e; blame = λ f e. inl e }, refl),
+    (scanning, record { scanned = refl; came = refl }, record { before = begun_whole scan_op scanning refl; ended = λ e. (refl, refl); passes = λ f e. e; tests = tt; blame = λ f e. inl e }, refl),
     told-group,
     refl,
   );

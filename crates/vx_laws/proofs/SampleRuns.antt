@@ -1,11 +1,14 @@
 -- The worked run.
-use Rattle.std.proofs.Common.{◌≡◌, ℕ, zero, suc, ◌<◌, ◌≤◌, ◌==◌, true, false, cond, inl, [], ◌∷◌, refl, ap, arith, append-nil, ne_eqb}
+use Rattle.std.proofs.Common.{◌≡◌, ℕ, zero, suc, ◌<◌, ◌≤◌, ◌==◌, true, false, cond, inl, All, [], ◌∷◌, refl, ap, arith, append-nil, ne_eqb}
 use Rattle.vx_plan_nodes.specs.Plan.{gather, any, scan, group_of}
 use Rattle.vx_plan_nodes.specs.Streams.{across, Dealt}
-use Rattle.vx_ports.specs.Packets.{rows_of, has_last, Flows}
+use Rattle.vx_ports.specs.Packets.{Content, brings, last, PacketView, rows_of, has_last, Flows}
 use Rattle.vx_worker.specs.Morsels.{morsels}
 use Rattle.vx_morsel.specs.Draws.{times, once_below}
-use Rattle.vx_ops.specs.Ledger.{Stream, fresh}
+use Rattle.std.proofs.lemmas.List.Elements.{All-nil, All-cons}
+use Rattle.vx_values.specs.declared.value.ColType.TheVariants.{Int}
+use Rattle.vx_ops.specs.Ledger.{Stream, fresh, ConsumerEnd, IsFor}
+use Rattle.vx_ops.proofs.Strangers.{none-came}
 use Rattle.vx_worker.specs.Fragment.{fragment}
 use Rattle.vx_worker.specs.Trace.{scan_morsels, IsWell}
 use Rattle.vx_exchange.specs.Tasks.{keep, send}
@@ -29,7 +32,7 @@ well-producer i e = record {
   told = (
     record { left = heard i 1; right = fresh; came = λ j. []; gave = heard i 1 },
     record { scanned = refl; came = refl },
-    record { before = begun_whole _ _ refl; ended = λ e. (refl, refl); passes = λ f e. e; blame = λ f e. inl e },
+    record { before = begun_whole _ _ refl; ended = λ e. (refl, refl); passes = λ f e. e; tests = tt; blame = λ f e. inl e },
     refl,
   );
   ended = refl;
@@ -69,6 +72,18 @@ shuffled = record {
   lists_are = two (λ i. Rattle.vx_plan_nodes.specs.Streams.bearing i ((1, row 1) ∷ (0, row 0) ∷ []) ≡ rows_of (put i 0)) refl refl;
 }
 
+-- the consumer end at the root, and each producer's packets are for it
+abbrev root_end : ConsumerEnd
+root_end = record { exchange = 0; place = 0; producers = 2; types = Int ∷ []; merge = [] }
+
+abbrev packet : ℕ → Content → PacketView
+packet i c = record { exchange = 0; from = i; to = 0; types = Int ∷ []; content = c }
+
+all-for : (i : ℕ) → All (IsFor root_end i) (put i 0)
+all-for i =
+    All-cons (IsFor root_end i) (packet i (brings (row i ∷ []))) (packet i last ∷ []) (record { exchange = refl; from_is = refl; to = refl; types = refl })
+    (All-cons (IsFor root_end i) (packet i last) [] (record { exchange = refl; from_is = refl; to = refl; types = refl }) (All-nil (IsFor root_end i)))
+
 well-consumer : IsWell setting (fragment setting 0 plan) (keep (row 1 ∷ row 0 ∷ [])) consumer
 well-consumer = record {
   reads = record { scanned = λ n. fresh; came = λ n i. put i 0 };
@@ -81,6 +96,7 @@ well-consumer = record {
       before = begun_whole _ _ (shuffled, refl);
       ended = λ e. (two (λ i. has_last (put i 0) ≡ true) refl refl, (shuffled, refl));
       passes = λ f e. absurd e;
+      tests = λ i c. absurd (none-came (IsFor root_end i) (put i 0) (all-for i) c);
       blame = λ f e. cc;
     },
     refl,

@@ -28,25 +28,27 @@ parts-new by xs y past =
     ∙ ap (λ l. parts_of by xs ++ l ∷ []) (places-more by (pick by y) xs y (row_eq-refl (pick by y)) ∙ ap (λ l. l ++ length xs ∷ []) (places-none by (pick by y) xs (keyed-none by xs y past)))
 
 -- the two ways to take a right row, as a build shows them
-pub built-known : (b b' : Built) (rs : List Row) (y : Row) (n : ℕ) → HasBuilt b rs → n ≡ position_or_len (row_eq (pick b.columns y)) b.keys → n < length b.parts → b'.columns ≡ b.columns
+pub built-known : (b b' : Built) (rs : List Row) (y : Row) (n : ℕ) → HasBuilt b rs → n ≡ position_or_len (row_eq (pick b.columns y)) b.keys → n < length b.parts → b'.columns ≡ b.columns → b'.failed ≡ b.failed
     → b'.keys ≡ insert_key row_eq b.keys (pick b.columns y) → IsDistinct row_eq b.keys → b'.parts ≡ set b.parts n (get_or b.parts n [] ++ length rs ∷ []) → HasBuilt b' (rs ++ y ∷ [])
-built-known b b' rs y n built at inside columns-are keys-are distinct parts-are =
+built-known b b' rs y n built at inside columns-are failed-is keys-are distinct parts-are =
     let ks = group_keys b.columns rs in
     let long : length b.parts ≡ length ks = ap length built.parts_are ∙ length-map ks (λ k. places_of b.columns k rs) in
     let at' : n ≡ position_or_len (row_eq (pick b.columns y)) ks = at ∙ ap (position_or_len (row_eq (pick b.columns y))) built.keys_are in
     record {
+      runs = failed-is ∙ built.runs;
       keys_are = keys-are ∙ (ap (λ l. insert_key row_eq l (pick b.columns y)) built.keys_are ∙ (sym (keys-push b.columns rs y) ∙ ap (λ c. group_keys c (rs ++ y ∷ [])) (sym columns-are)));
       parts_are = parts-are ∙ (ap (λ l. set l n (get_or l n [] ++ length rs ∷ [])) built.parts_are
           ∙ (sym (parts-present b.columns rs y n at' (omega (arith, inside, long)) (subst (IsDistinct row_eq) built.keys_are distinct)) ∙ ap (λ c. parts_of c (rs ++ y ∷ [])) (sym columns-are)));
     }
 
-pub built-new : (b b' : Built) (rs : List Row) (y : Row) (n : ℕ) → HasBuilt b rs → n ≡ position_or_len (row_eq (pick b.columns y)) b.keys → length b.parts ≤ n → b'.columns ≡ b.columns
+pub built-new : (b b' : Built) (rs : List Row) (y : Row) (n : ℕ) → HasBuilt b rs → n ≡ position_or_len (row_eq (pick b.columns y)) b.keys → length b.parts ≤ n → b'.columns ≡ b.columns → b'.failed ≡ b.failed
     → b'.keys ≡ insert_key row_eq b.keys (pick b.columns y) → b'.parts ≡ b.parts ++ (length rs ∷ []) ∷ [] → HasBuilt b' (rs ++ y ∷ [])
-built-new b b' rs y n built at past columns-are keys-are parts-are =
+built-new b b' rs y n built at past columns-are failed-is keys-are parts-are =
     let ks = group_keys b.columns rs in
     let long : length b.parts ≡ length ks = ap length built.parts_are ∙ length-map ks (λ k. places_of b.columns k rs) in
     let at' : n ≡ position_or_len (row_eq (pick b.columns y)) ks = at ∙ ap (position_or_len (row_eq (pick b.columns y))) built.keys_are in
     record {
+      runs = failed-is ∙ built.runs;
       keys_are = keys-are ∙ (ap (λ l. insert_key row_eq l (pick b.columns y)) built.keys_are ∙ (sym (keys-push b.columns rs y) ∙ ap (λ c. group_keys c (rs ++ y ∷ [])) (sym columns-are)));
       parts_are = parts-are ∙ (ap (λ l. l ++ (length rs ∷ []) ∷ []) built.parts_are
           ∙ (sym (parts-new b.columns rs y (omega (arith, past, long, at'))) ∙ ap (λ c. parts_of c (rs ++ y ∷ [])) (sym columns-are)));

@@ -43,14 +43,15 @@ all-push P (x ∷ xs) y all h = (all.0, all-push P xs y all.1 h)
 
 -- the two ways to take a row, as a grouping shows them
 pub took-known : (g h : Groups) (xs : List Row) (y : Row) (n : ℕ) → HasTaken g xs → n ≡ position_or_len (row_eq (pick g.by y)) g.keys → n < length g.groups
-    → h.types ≡ g.types → Fits g.types y → h.by ≡ g.by → h.aggregates ≡ g.aggregates → h.keys ≡ insert_key row_eq g.keys (pick g.by y) → IsDistinct row_eq g.keys
+    → h.types ≡ g.types → Fits g.types y → h.by ≡ g.by → h.aggregates ≡ g.aggregates → h.failed ≡ g.failed → h.keys ≡ insert_key row_eq g.keys (pick g.by y) → IsDistinct row_eq g.keys
     → h.groups ≡ set g.groups n (map (advance y) (get_or g.groups n [])) → HasTaken h (xs ++ y ∷ [])
-took-known g h xs y n taken at below types-are fit by-is as-is keys-is distinct groups-is =
+took-known g h xs y n taken at below types-are fit by-is as-is failed-is keys-is distinct groups-is =
     let ks = group_keys g.by xs in
     let long : length g.groups ≡ length ks = ap length taken.groups_are ∙ length-map ks (part_of g.by g.aggregates xs) in
     let at' : n ≡ position_or_len (row_eq (pick g.by y)) ks = at ∙ ap (position_or_len (row_eq (pick g.by y))) taken.keys_are in
     let more = groups-present g.by g.aggregates xs y n at' (omega (arith, below, long)) (subst (IsDistinct row_eq) taken.keys_are distinct) in
     record {
+      runs = failed-is ∙ taken.runs;
       keys_are = keys-is ∙ (ap (λ l. insert_key row_eq l (pick g.by y)) taken.keys_are ∙ (sym (keys-push g.by xs y) ∙ ap (λ b. group_keys b (xs ++ y ∷ [])) (sym by-is)));
       groups_are = groups-is ∙ (ap (λ l. set l n (map (advance y) (get_or l n []))) taken.groups_are
           ∙ (sym more ∙ (λ i. map (part_of (sym by-is i) (sym as-is i) (xs ++ y ∷ [])) (group_keys (sym by-is i) (xs ++ y ∷ [])))));
@@ -58,14 +59,15 @@ took-known g h xs y n taken at below types-are fit by-is as-is keys-is distinct 
     }
 
 pub took-new : (g h : Groups) (xs : List Row) (y : Row) (n : ℕ) → HasTaken g xs → n ≡ position_or_len (row_eq (pick g.by y)) g.keys → length g.groups ≤ n
-    → h.types ≡ g.types → Fits g.types y → h.by ≡ g.by → h.aggregates ≡ g.aggregates → h.keys ≡ insert_key row_eq g.keys (pick g.by y)
+    → h.types ≡ g.types → Fits g.types y → h.by ≡ g.by → h.aggregates ≡ g.aggregates → h.failed ≡ g.failed → h.keys ≡ insert_key row_eq g.keys (pick g.by y)
     → h.groups ≡ g.groups ++ all_held g.aggregates (y ∷ []) ∷ [] → HasTaken h (xs ++ y ∷ [])
-took-new g h xs y n taken at past types-are fit by-is as-is keys-is groups-is =
+took-new g h xs y n taken at past types-are fit by-is as-is failed-is keys-is groups-is =
     let ks = group_keys g.by xs in
     let long : length g.groups ≡ length ks = ap length taken.groups_are ∙ length-map ks (part_of g.by g.aggregates xs) in
     let at' : n ≡ position_or_len (row_eq (pick g.by y)) ks = at ∙ ap (position_or_len (row_eq (pick g.by y))) taken.keys_are in
     let more = groups-new g.by g.aggregates xs y (omega (arith, past, long, at')) in
     record {
+      runs = failed-is ∙ taken.runs;
       keys_are = keys-is ∙ (ap (λ l. insert_key row_eq l (pick g.by y)) taken.keys_are ∙ (sym (keys-push g.by xs y) ∙ ap (λ b. group_keys b (xs ++ y ∷ [])) (sym by-is)));
       groups_are = groups-is ∙ (ap (λ l. l ++ all_held g.aggregates (y ∷ []) ∷ []) taken.groups_are
           ∙ (sym more ∙ (λ i. map (part_of (sym by-is i) (sym as-is i) (xs ++ y ∷ [])) (group_keys (sym by-is i) (xs ++ y ∷ [])))));

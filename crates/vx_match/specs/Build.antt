@@ -1,5 +1,5 @@
 -- The right rows of a join, by key: each key with the places of its rows.
-use Rattle.std.specs.Prelude.{◌≡◌, ℕ, suc, Bool, cond, List, [], ◌∷◌, ◌++◌, map, filter}
+use Rattle.std.specs.Prelude.{◌≡◌, ℕ, suc, Bool, false, cond, List, [], ◌∷◌, ◌++◌, map, filter}
 use Rattle.vx_values.specs.Values.{Row, row_eq, pick}
 use Rattle.vx_plan_nodes.specs.Serial.{group_keys}
 
@@ -16,14 +16,17 @@ places_of by key rows = places (λ r. row_eq key (pick by r)) rows
 abbrev pub parts_of : List ℕ → List Row → List (List ℕ)
 parts_of by rows = map (λ k. places_of by k rows) (group_keys by rows)
 
--- what the build side of a join shows: its columns, the keys in order of first occurrence, and the places of each key's rows
+-- what the build side of a join shows: its columns, the keys in order of first occurrence, and the places of each key's rows;
+-- and whether it failed
 pub record Built : Type 0 where
   pub columns : List ℕ
   pub keys : List Row
   pub parts : List (List ℕ)
+  pub failed : Bool
 
--- these rows were taken, and no others
+-- these rows were added, and no others, and it has not failed
 pub record HasBuilt (b : Built) (rows : List Row) : Type 0 where
+  pub runs : b.failed ≡ false
   pub keys_are : b.keys ≡ group_keys b.columns rows
   pub parts_are : b.parts ≡ parts_of b.columns rows
 

@@ -1,10 +1,11 @@
 -- Rows by key: the aggregates of each key's rows, and how they change when one more row comes.
-use Rattle.std.specs.Prelude.{◌≡◌, ℕ, ℤ, pos, ◌+◌, ◌+ℤ◌, Bool, true, List, map, length}
+use Rattle.std.specs.Prelude.{◌≡◌, ℕ, ℤ, pos, ◌+◌, ◌+ℤ◌, Bool, true, List, Option, None, map, length}
 use Rattle.std.specs.List.{AllByRecursion}
 use Rattle.vx_values.specs.declared.value.ColType.{ColType}
 use Rattle.vx_values.specs.Values.{Val, num, text, Row, value_at}
 use Rattle.vx_values.specs.Types.{Fits, fits_64}
 use Rattle.vx_plan_nodes.specs.Plan.{Aggregate, least, greatest, sum, count_rows}
+use Rattle.vx_match.specs.declared.accumulator.GroupFault.{GroupFault}
 use Rattle.vx_plan_nodes.specs.Serial.{smaller, larger, aggregate_of, of_key, group_keys}
 
 -- a value as a number, a text as 0
@@ -58,21 +59,23 @@ abbrev pub part_of : List ℕ → List Aggregate → List Row → Row → List H
 part_of by aggregates xs key = all_held aggregates (of_key by key xs)
 
 -- what a grouping shows: the types of its rows' columns, the columns of the key and the aggregates, each key in order of
--- first occurrence, and beside it the aggregates of its rows
+-- first occurrence, and beside it the aggregates of its rows; and the fault with which it failed, if it did
 pub record Groups : Type 0 where
   pub types : List ColType
   pub by : List ℕ
   pub aggregates : List Aggregate
   pub keys : List Row
   pub groups : List (List Held)
+  pub failed : Option GroupFault
 
--- these rows were taken, and no others
+-- these rows were added, and no others, and it has not failed
 pub record HasTaken (g : Groups) (xs : List Row) : Type 0 where
+  pub runs : g.failed ≡ None
   pub keys_are : g.keys ≡ group_keys g.by xs
   pub groups_are : g.groups ≡ map (part_of g.by g.aggregates xs) (group_keys g.by xs)
   pub fit : AllByRecursion (Fits g.types) xs
 
--- some rows were taken, and no others
+-- some rows were added, and no others
 pub record HasTakenSome (g : Groups) : Type 0 where
   pub rows : List Row
   pub taken : HasTaken g rows

@@ -23,7 +23,7 @@ last_key by [] = []
 last_key by (x ∷ []) = pick by x
 last_key by (x ∷ y ∷ ys) = last_key by (y ∷ ys)
 
--- these left and right rows were taken, and no others: both rise, and the right ones are those below the key, and then
+-- these left and right rows were added, and no others: both rise, and the right ones are those below the key, and then
 -- the run
 pub record HasMerged (m : MergeState) (ls rs : List Row) : Type 0 where
   pub before : List Row
@@ -43,7 +43,7 @@ abbrev pub HoldsKey : MergeState → Bool → List Row → Type 0
 HoldsKey m closed rs =
     (more : List Row) → (closed ≡ false → more ≡ []) → sorted m.rights (rs ++ more) ≡ true → of_key m.rights m.key (rs ++ more) ≡ slice_range rs m.start m.end
 
--- why a merge stops: rows that do not rise, or a growth that was refused
+-- why a merge stops: rows that do not rise, or out of memory
 abbrev pub MergeBlame : MergeFault → Bool → Type 0
 MergeBlame Falls rises = rises ≡ false
 MergeBlame NoMemory rises = Unit {0}

@@ -1,4 +1,4 @@
-//! One aggregate of a group's rows, taken one row at a time.
+//! One aggregate of a group's rows, to which one row is added at a time.
 
 ghost use Rattle.std.specs.Prelude.{◌≡◌, ◌<◌, ◌≤◌, [], ◌∷◌, length, OnOk, IfOk, IfErr, IfSome, IfNone, true, false};
 ghost use Rattle.vx_values.specs.Values.{value_at};
@@ -23,7 +23,7 @@ pub enum GroupFault {
     Overflow,
     /// More than 2^62 rows.
     TooMany,
-    /// A growth was refused.
+    /// Out of memory.
     NoMemory,
 }
 
@@ -100,7 +100,7 @@ impl Accumulator {
         }
     }
 
-    /// Takes row i, behind those that it took. After an `Err` it is any.
+    /// Adds row i behind those that were added. After an `Err` the value is arbitrary.
     #[tactic(auto, using(crate::proofs::AggregateFacts::smaller_first, crate::proofs::AggregateFacts::smaller_second, crate::proofs::AggregateFacts::larger_first, crate::proofs::AggregateFacts::larger_second))]
     pub fn add(&mut self, alloc: Global, rows: &Rows, i: usize) -> Result<(), GroupFault>
         requires { i < length rows.now.rows }

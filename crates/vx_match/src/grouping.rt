@@ -1,7 +1,8 @@
 //! Grouping: rows by key, each key with the aggregates of its rows.
 
-ghost use Rattle.std.specs.Prelude.{◌≡◌, ◌<◌, ◌≤◌, ◌++◌, ◌∷◌, [], List, length, map, OnOk, IfOk, IfErr, Some, true, false};
+ghost use Rattle.std.specs.Prelude.{◌≡◌, ◌<◌, ◌≤◌, ◌++◌, ◌∷◌, [], List, length, map, OnOk, IfOk, IfErr, IfSome, Some, Err, true, false};
 ghost use Rattle.std.specs.List.{list_all};
+ghost use Rattle.vx_values.specs.Types.{Fits};
 ghost use Rattle.vx_values.specs.Values.{Row as Cells};
 ghost use Rattle.vx_values.specs.ValueView.{cell_val};
 ghost use Rattle.vx_rows.specs.View.{row, AreColumns};
@@ -21,6 +22,8 @@ use vx_algebra::types_at;
 use vx_plan_nodes::Aggregate;
 use vx_rows::{Cell, ColType, Row, Rows};
 
+/// Calls: `new add* finish`, and no `finish` after an `Err`.
+///
 /// Rows by key, in order of first occurrence: each key with the aggregates of its rows.
 #[derive(Drop)]
 pub struct Grouping {
@@ -30,6 +33,7 @@ pub struct Grouping {
     keys: Keys,
     groups: Vec<Vec<Accumulator>>,
     scratch: Row,
+    failed: Option<GroupFault>,
     alloc: Global,
 }
 
@@ -42,7 +46,7 @@ impl Model for Grouping {
 
     ghost Value = { Groups };
 
-    ghost view = { λ g. record { types = g.types.items; by = g.by.items; aggregates = map op_of g.aggregates.items; keys = g.keys; groups = map (λ v. map held v.items) g.groups.items } };
+    ghost view = { λ g. record { types = g.types.items; by = g.by.items; aggregates = map op_of g.aggregates.items; keys = g.keys; groups = map (λ v. map held v.items) g.groups.items; failed = g.failed } };
 
     ghost invariant = { λ g. (length g.groups.items ≤ length g.keys) × AreColumns (length g.types.items) g.by.items };
 }
@@ -64,7 +68,7 @@ fn start_group(
     Ok(group)
 }
 
-// The aggregates with row i too. After an `Err` they are any.
+// The aggregates with row i too. After an `Err` they are arbitrary.
 fn advance_group(
     alloc: Global,
     group: &mut Vec<Accumulator>,
@@ -164,21 +168,23 @@ impl Grouping {
             keys: Keys::new(alloc),
             groups: Vec::new(alloc),
             scratch: Row::new(alloc),
+            failed: None,
             alloc,
         })
     }
 
-    /// Takes row i, behind those that it took. After an `Err` the grouping is of no more use.
-    pub fn add(&mut self, rows: &Rows, i: usize) -> Result<(), GroupFault>
+    // Adds row i behind those that were added. After an `Err` some aggregates may have it.
+    fn add_row(&mut self, rows: &Rows, i: usize) -> Result<(), GroupFault>
         requires types { rows.now.types ≡ self.old.types }
         requires row { i < length rows.now.rows }
+        requires fits { Fits self.old.types (row rows.now i) }
         ensures types { self.new.types ≡ self.old.types }
         ensures by { self.new.by ≡ self.old.by }
         ensures aggregates { self.new.aggregates ≡ self.old.aggregates }
+        ensures failed { self.new.failed ≡ self.old.failed }
         ensures taken { OnOk result ((xs : List Cells) → HasTaken self.old xs → HasTaken self.new (xs ++ row rows.now i ∷ [])) }
         ensures err { IfErr result (λ e. (xs : List Cells) → HasTaken self.old xs → TakeBlame e xs) }
     {
-        rows.fit();
         self.scratch.read(rows, i, &self.by)?;
         let number = self.keys.number(&self.scratch)?;
         if number < self.groups.len() {
@@ -188,6 +194,31 @@ impl Grouping {
         let group = start_group(self.alloc, &self.aggregates, rows, i)?;
         self.groups.push(group)?;
         Ok(())
+    }
+
+    /// Adds row i behind those that were added. After an `Err` it fails with this error at each later row too.
+    pub fn add(&mut self, rows: &Rows, i: usize) -> Result<(), GroupFault>
+        requires types { rows.now.types ≡ self.old.types }
+        requires row { i < length rows.now.rows }
+        requires fits { Fits self.old.types (row rows.now i) }
+        ensures types { self.new.types ≡ self.old.types }
+        ensures by { self.new.by ≡ self.old.by }
+        ensures aggregates { self.new.aggregates ≡ self.old.aggregates }
+        ensures taken { OnOk result ((xs : List Cells) → HasTaken self.old xs → HasTaken self.new (xs ++ row rows.now i ∷ [])) }
+        ensures err { IfErr result (λ e. (xs : List Cells) → HasTaken self.old xs → TakeBlame e xs) }
+        ensures failed { IfErr result (λ e. self.new.failed ≡ Some e) }
+        ensures again { IfSome self.old.failed (λ e. result ≡ Err e) }
+    {
+        if let Some(fault) = self.failed {
+            return Err(fault);
+        }
+        match self.add_row(rows, i) {
+            Ok(()) => Ok(()),
+            Err(fault) => {
+                self.failed = Some(fault);
+                Err(fault)
+            }
+        }
     }
 
     /// Each key with the aggregates of its rows, in order of first occurrence.

@@ -1,6 +1,6 @@
 //! The hash join: a table of the right rows by key is built, and each left row probes it (DeWitt and others, 1984).
 
-ghost use Rattle.std.specs.Prelude.{◌≡◌, ◌<◌, ◌+◌, ◌++◌, [], ℕ, List, length, map, take, OnOk, IfOk};
+ghost use Rattle.std.specs.Prelude.{◌≡◌, ◌<◌, ◌+◌, ◌++◌, [], ℕ, List, length, map, take, true, OnOk, OnErr, IsErr, IfOk};
 ghost use Rattle.vx_values.specs.Values.{Row as Cells, row_eq, pick};
 ghost use Rattle.vx_rows.specs.View.{row, AreColumns, ArePositions};
 ghost use Rattle.vx_plan_nodes.specs.Serial.{join_rows};
@@ -11,6 +11,8 @@ use std::alloc::{AllocError, Global};
 use std::marker::Model;
 use vx_rows::{Row, Rows};
 
+/// Calls: `new add* matches*`, with an `add` for each row of one list, in order, and no `matches` after an `Err`.
+///
 /// The build side of a join: its keys, and the positions of the rows of each key.
 #[derive(Drop)]
 pub struct Build {
@@ -18,6 +20,7 @@ pub struct Build {
     keys: Keys,
     parts: Vec<Vec<usize>>,
     scratch: Row,
+    failed: bool,
     alloc: Global,
 }
 
@@ -27,7 +30,7 @@ impl Model for Build {
 
     ghost Value = { Built };
 
-    ghost view = { λ b. record { columns = b.columns.items; keys = b.keys; parts = map (λ v. v.items) b.parts.items } };
+    ghost view = { λ b. record { columns = b.columns.items; keys = b.keys; parts = map (λ v. v.items) b.parts.items; failed = b.failed } };
 }
 
 impl Build {
@@ -41,15 +44,17 @@ impl Build {
             keys: Keys::new(alloc),
             parts: Vec::new(alloc),
             scratch: Row::new(alloc),
+            failed: false,
             alloc,
         }
     }
 
-    /// Takes row i, which comes after those before it. After an `Err` the build side is of no more use.
-    pub fn add(&mut self, rows: &Rows, i: usize) -> Result<(), AllocError>
+    // Adds row i behind those that were added. After an `Err` some of it may have been added.
+    fn add_row(&mut self, rows: &Rows, i: usize) -> Result<(), AllocError>
         requires row { i < length rows.now.rows }
         requires columns { AreColumns (length rows.now.types) self.old.columns }
         ensures columns { self.new.columns ≡ self.old.columns }
+        ensures failed { self.new.failed ≡ self.old.failed }
         ensures built { OnOk result (HasBuilt self.old (take i rows.now.rows) → HasBuilt self.new (take (i + 1) rows.now.rows)) }
     {
         self.scratch.read(rows, i, &self.columns)?;
@@ -62,6 +67,27 @@ impl Build {
         first.push(i)?;
         self.parts.push(first)?;
         Ok(())
+    }
+
+    /// Adds row i behind those that were added. After an `Err` it fails at each later row too.
+    pub fn add(&mut self, rows: &Rows, i: usize) -> Result<(), AllocError>
+        requires row { i < length rows.now.rows }
+        requires columns { AreColumns (length rows.now.types) self.old.columns }
+        ensures columns { self.new.columns ≡ self.old.columns }
+        ensures built { OnOk result (HasBuilt self.old (take i rows.now.rows) → HasBuilt self.new (take (i + 1) rows.now.rows)) }
+        ensures failed { OnErr result (self.new.failed ≡ true) }
+        ensures again { self.old.failed ≡ true → IsErr result }
+    {
+        if self.failed {
+            return Err(AllocError);
+        }
+        match self.add_row(rows, i) {
+            Ok(()) => Ok(()),
+            Err(refused) => {
+                self.failed = true;
+                Err(refused)
+            }
+        }
     }
 
     /// The positions of the rows with this key, in order.

@@ -76,7 +76,7 @@ impl Keys {
         Ok(number)
     }
 
-    /// Adds a key if it is new, and answers whether it is. After an `Err` the keys are as before.
+    /// Adds a key if it is new, and returns whether it was. After an `Err` the keys are as before.
     pub fn add(&mut self, key: &Row) -> Result<bool, AllocError>
         ensures keys { OnOk result (self.new ≡ insert_key row_eq self.old key.now) }
         ensures new { IfOk result (λ b. self.new ≡ (if b then self.old ++ key.now ∷ [] else self.old)) }

@@ -19,7 +19,7 @@ use vx_rows::{Row, Rows, compare_cells, compare_on};
 pub enum MergeFault {
     /// A row is smaller than an earlier one of its input.
     Falls,
-    /// A growth was refused.
+    /// Out of memory.
     NoMemory,
 }
 
@@ -34,10 +34,12 @@ impl From<AllocError> for MergeFault {
     }
 }
 
+/// Calls: `new (take_left take_run+ push_run*)* right_rises`, and none after an `Err`.
+///
 /// A merge of two inputs: the key of the last left row, and the run of right rows that have it.
 ///
 /// The right rows lie in one list, to which more may be added behind. The merge keeps only where the run starts and
-/// ends: of the rows before that, none but the last that was taken is looked at again.
+/// ends: of the rows before that, only the last one that was added is looked at again.
 #[derive(Drop)]
 pub struct Merge {
     left_columns: Vec<usize>,
@@ -138,7 +140,7 @@ impl Merge {
         }
     }
 
-    /// Takes left row i, behind those that it took. After an `Err` the merge is of no more use.
+    /// Adds left row i behind those that were added. After an `Err` the merge must not be used again.
     pub fn take_left(&mut self, left: &Rows, i: usize) -> Result<(), MergeFault>
         requires row { i < length left.now.rows }
         requires columns { AreColumns (length left.now.types) self.old.lefts }
@@ -159,7 +161,7 @@ impl Merge {
         }
     }
 
-    // Takes the next right row, unless there is none or it is above the key: whether it did.
+    // Adds the next right row, unless there is none or it is above the key, and returns whether it did.
     fn take_right(&mut self, right: &Rows) -> Result<bool, MergeFault>
         requires { AreColumns (length right.now.types) self.old.rights }
         ensures lefts { self.new.lefts ≡ self.old.lefts }
@@ -191,8 +193,8 @@ impl Merge {
         }
     }
 
-    /// Takes right rows up to the end of the run: whether the run is closed, since a row above the key stands behind it.
-    /// Where it is not, right rows that come later may be added to it. After an `Err` the merge is of no more use.
+    /// Adds right rows up to the end of the run, and returns whether a row above the key behind it closes the run. If not,
+    /// right rows that come later may belong to it. After an `Err` the merge must not be used again.
     pub fn take_run(&mut self, right: &Rows) -> Result<bool, MergeFault>
         requires columns { AreColumns (length right.now.types) self.old.rights }
         requires taken { self.old.end ≤ length right.now.rows }
@@ -238,7 +240,7 @@ impl Merge {
 /// Each left row joined with the right rows that agree with it on the pairs of columns, where both inputs rise on
 /// them: in the order of the left rows, and for one left row in the order of the right rows.
 ///
-/// Both inputs are gone through to their end: one that falls is told, wherever it does.
+/// Both inputs are read to their end: it fails if one of them falls, wherever that is.
 pub fn merge_join(
     alloc: Global,
     left: &Rows,

@@ -40,7 +40,7 @@ impl Seen {
         }
     }
 
-    /// Sees row i in these columns, and answers whether it is new. After an `Err` it was not seen.
+    /// Sees row i in these columns, and returns whether it is new. After an `Err` it was not seen.
     pub fn is_new(&mut self, rows: &Rows, i: usize, columns: &[usize]) -> Result<bool, AllocError>
         requires row { i < length rows.now.rows }
         requires columns { AreColumns (length rows.now.types) columns.now }

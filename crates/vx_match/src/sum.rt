@@ -29,7 +29,7 @@ impl WideSum {
         }
     }
 
-    /// Takes one more number. It is refused exactly where there are 2^62, and then the sum stays.
+    /// Adds one more number. It fails exactly if there are 2^62 already, and then the sum stays.
     pub fn add(&mut self, x: i64) -> Result<(), SumIsFull>
         ensures total { OnOk result (self.new.total ≡ self.old.total +ℤ x) }
         ensures taken { OnOk result (self.new.taken ≡ self.old.taken + 1) }

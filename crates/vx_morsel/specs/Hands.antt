@@ -12,7 +12,7 @@ pub record HandState : Type 0 where
 abbrev pub IsSmall : ℕ → ℕ → Type 0
 IsSmall size morsels = (0 < size) × (size ≤ 64) × (morsels ≤ 100000000)
 
--- a draw gives the next number, and the one after it is `size` larger; past the bound it gives none and changes nothing
+-- a draw returns the next number, and the one after it is `size` larger; past the bound it returns none and changes nothing
 abbrev pub HandDraws : HandState → Option ℕ → HandState → Type 0
 HandDraws h None g = (h.morsels ≤ h.next) × (g ≡ h)
 HandDraws h (Some m) g = (m ≡ h.next) × (h.next < h.morsels) × (g ≡ record { place = h.place; size = h.size; morsels = h.morsels; next = h.next + h.size })
@@ -25,7 +25,7 @@ pub record DeckState : Type 0 where
 abbrev pub IsDeck : ℕ → ℕ → Type 0
 IsDeck morsels next = (morsels ≤ 100000000) × (next ≤ morsels)
 
--- a draw gives the next number; at the end it gives none and changes nothing
+-- a draw returns the next number; at the end it returns none and changes nothing
 abbrev pub DeckDraws : DeckState → Option ℕ → DeckState → Type 0
 DeckDraws d None e = (d.next ≡ d.morsels) × (e ≡ d)
 DeckDraws d (Some m) e = (m ≡ d.next) × (d.next < d.morsels) × (e ≡ record { morsels = d.morsels; next = d.next + 1 })

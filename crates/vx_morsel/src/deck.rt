@@ -3,6 +3,8 @@
 use crate::draw::Draw;
 use std::marker::Model;
 
+/// Calls: `new draw*`.
+///
 /// Deals out 0, 1, 2, and so on, below `morsels`.
 #[derive(Drop)]
 pub struct Deck {

@@ -52,6 +52,7 @@ module _ (n : ℕ) (op : Unary) (none : unary_rows op [] ≡ Some []) where
       before = begun-none l g;
       ended = λ e. absurd (running-ended (sym o ∙ e));
       passes = λ f e. absurd (running-failed f (sym a ∙ e));
+      tests = tt;
       blame = λ f e. absurd (running-failed f (sym o ∙ e));
     };
   }
@@ -77,6 +78,7 @@ module _ (n : ℕ) (op : Unary) (none : unary_rows op [] ≡ Some []) where
           before = begun-none k r.2;
           ended = λ e. absurd (failed-ended (Own NoMemory m) e);
           passes = λ f e. absurd (running-failed f (sym r.0 ∙ e));
+          tests = tt;
           blame = λ f e. inr (own-memory n op m k f (same-fault (Own NoMemory m) f e));
         };
       }
@@ -92,6 +94,7 @@ module _ (n : ℕ) (op : Unary) (none : unary_rows op [] ≡ Some []) where
           before = begun-none (with_overs l (Failed g) (Failed g)) r.2;
           ended = λ e. absurd (failed-ended g e);
           passes = λ f e. e;
+          tests = tt;
           blame = λ f e. inl e;
         };
       }
@@ -108,6 +111,7 @@ module _ (n : ℕ) (op : Unary) (none : unary_rows op [] ≡ Some []) where
           before = begun-none k r.2;
           ended = λ e. absurd (failed-ended (Own NoMemory m) e);
           passes = λ f e. absurd (ended-failed f e);
+          tests = tt;
           blame = λ f e. inr (own-memory n op m k f (same-fault (Own NoMemory m) f e));
         };
       }
@@ -124,6 +128,7 @@ module _ (n : ℕ) (op : Unary) (none : unary_rows op [] ≡ Some []) where
           before = begun-none k r.2;
           ended = λ e. absurd (failed-ended (Own Overflow n) e);
           passes = λ f e. absurd (ended-failed f e);
+          tests = tt;
           blame = λ f e. inr (own-overflow k f (overflows n op k refl (may r.1)) (same-fault (Own Overflow n) f e));
         };
       }
@@ -141,6 +146,7 @@ module _ (n : ℕ) (op : Unary) (none : unary_rows op [] ≡ Some []) where
           before = begun_whole (one_op n op) k all;
           ended = λ e. (refl, all);
           passes = λ f e. absurd (ended-failed f e);
+          tests = tt;
           blame = λ f e. absurd (ended-failed f e);
         };
       }
@@ -158,6 +164,7 @@ module _ (n : ℕ) (op : Unary) (none : unary_rows op [] ≡ Some []) where
           before = begun_whole (one_op n op) k all;
           ended = λ e. absurd (running-ended (sym h.stands ∙ e));
           passes = λ f e. absurd (ended-failed f e);
+          tests = tt;
           blame = λ f e. absurd (running-failed f (sym h.stands ∙ e));
         };
       }
@@ -173,6 +180,7 @@ module _ (n : ℕ) (op : Unary) (none : unary_rows op [] ≡ Some []) where
           before = begun_whole (one_op n op) (with_end l) r.1;
           ended = λ e. (r.0, r.1);
           passes = λ f e. absurd (ended-failed f (sym r.0 ∙ e));
+          tests = tt;
           blame = λ f e. absurd (ended-failed f e);
         };
       }

@@ -30,6 +30,7 @@ module _ (n : ℕ) (op : Unary) where
       before = begun_whole (one_op n op) l m;
       ended = λ e. absurd (running-ended (sym o ∙ e));
       passes = λ f e. absurd (running-failed f (sym a ∙ e));
+      tests = tt;
       blame = λ f e. absurd (running-failed f (sym o ∙ e));
     };
   }
@@ -49,6 +50,7 @@ module _ (n : ℕ) (op : Unary) where
           before = begun_whole (one_op n op) (with_over l Ended) r.2;
           ended = λ e. (refl, r.2);
           passes = λ f e. absurd (ended-failed f e);
+          tests = tt;
           blame = λ f e. absurd (ended-failed f e);
         };
       }
@@ -63,6 +65,7 @@ module _ (n : ℕ) (op : Unary) where
           before = begun_whole (one_op n op) (with_over l (Failed g)) r.2;
           ended = λ e. absurd (failed-ended g e);
           passes = λ f e. e;
+          tests = tt;
           blame = λ f e. inl e;
         };
       }
@@ -84,6 +87,7 @@ module _ (n : ℕ) (op : Unary) where
           };
           ended = λ e. absurd (failed-ended (Own NoMemory m) e);
           passes = λ f e. absurd (running-failed f (sym r.0 ∙ e));
+          tests = tt;
           blame = λ f e. inr (own-memory n op m k f (same-fault (Own NoMemory m) f e));
         };
       }

@@ -8,7 +8,7 @@ use Rattle.vx_rows.specs.Lists.{IsBeginning}
 pub all_of : {X : Type 0} (xs : List X) → IsBeginning xs xs
 all_of xs = record { rest = []; joined = append-nil xs }
 
--- what was given is all that the operator makes of what it took so far
+-- what was returned is all that the operator makes of what it received so far
 pub begun_whole : (op : Op) (l : Ledger) → Makes op l l.gave.rows → Begun op l
 begun_whole op l m = record {
   inputs = l;
@@ -18,7 +18,7 @@ begun_whole op l m = record {
   gave = all_of l.gave.rows;
 }
 
--- nothing was given, and the operator makes something of some beginnings of what it took
+-- nothing was returned, and the operator makes something of some prefixes of what it received
 pub begun_nothing : (op : Op) (l k : Ledger) (whole : List Row) → Begins k l → Makes op k whole → l.gave.rows ≡ [] → Begun op l
 begun_nothing op l k whole b m e = record {
   inputs = k;

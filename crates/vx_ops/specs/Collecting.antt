@@ -1,4 +1,4 @@
--- When an operator that reads all of its input first may have heard and given what a ledger says.
+-- When an operator that reads all of its input first may have received and returned what a ledger says.
 use Rattle.std.specs.Prelude.{ℕ, ◌≡◌, Bool, true, false, List, [], Some}
 use Rattle.vx_values.specs.Values.{Row}
 use Rattle.vx_plan_nodes.specs.Plan.{Unary}

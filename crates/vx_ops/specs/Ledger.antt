@@ -1,4 +1,4 @@
--- What one source heard and gave so far, and what is known of a source at any moment (Volcano's iterators).
+-- What one source received and returned so far, and what is known of a source at any moment (Volcano's iterators).
 use Rattle.std.specs.Prelude.{ℕ, ◌≡◌, ◌<◌, ◌⊎◌, true, false, List, [], ◌∷◌, ◌++◌, length, map, Some, None}
 use Rattle.vx_values.specs.Values.{Row}
 use Rattle.vx_rows.specs.Order.{sorted}
@@ -23,7 +23,7 @@ pub record Stream : Type 0 where
 abbrev pub fresh : Stream
 fresh = record { rows = []; over = Running }
 
--- what one source heard from its inputs and producers, and what it gave; a scan hears its morsels on the left
+-- what one source received from its inputs and producers, and what it returned; a scan receives its morsels on the left
 pub record Ledger : Type 0 where
   pub left : Stream
   pub right : Stream
@@ -74,7 +74,7 @@ pub record Came (P : PacketView → Type 0) (ps : List PacketView) : Type 0 wher
   pub joined : front ++ packet ∷ back ≡ ps
   pub is : P packet
 
--- why a source answers a fault that no input gave
+-- why a source returns a fault that no input returned
 abbrev pub OwnBlame : Op → Ledger → Fault → Type 0
 OwnBlame op l (Own NoMemory node) = Unit {0}
 OwnBlame (one_op n (group by aggregates)) l (Own Overflow node) =
@@ -88,20 +88,20 @@ OwnBlame (receive port) l (Own Stranger node) =
 OwnBlame (receive port) l Passed = (i : ℕ) × (i < port.producers) × (has_fault (l.came i) ≡ true)
 OwnBlame op l f = ⊥
 
--- an input of the operator gave this fault
+-- an input of the operator returned this fault
 abbrev pub InputFault : Op → Ledger → Fault → Type 0
 InputFault scan_op l f = l.left.over ≡ Failed f
 InputFault (one_op n op) l f = l.left.over ≡ Failed f
 InputFault (two_op n op) l f = (l.left.over ≡ Failed f) ⊎ (l.right.over ≡ Failed f)
 InputFault (receive port) l f = ⊥
 
--- one ledger's inputs are beginnings of another's
+-- one ledger's inputs are prefixes of another's
 pub record Begins (k l : Ledger) : Type 0 where
   pub left : IsBeginning k.left.rows l.left.rows
   pub right : IsBeginning k.right.rows l.right.rows
   pub came : (i : ℕ) → IsBeginning (rows_of (k.came i)) (rows_of (l.came i))
 
--- what was given is a beginning of what the operator makes of beginnings of what it took
+-- what was returned is a prefix of what the operator makes of prefixes of what it received
 pub record Begun (op : Op) (l : Ledger) : Type 0 where
   pub inputs : Ledger
   pub begins : Begins inputs l
@@ -109,9 +109,15 @@ pub record Begun (op : Op) (l : Ledger) : Type 0 where
   pub makes : Makes op inputs whole
   pub gave : IsBeginning l.gave.rows whole
 
+-- a consumer end tests each packet before it uses a row of it: once one came that is not for its port, it has failed by Stranger at its exchange
+abbrev pub TestsPackets : Op → Ledger → Type 0
+TestsPackets (receive port) l = (i : ℕ) → Came (λ p. IsFor port i p → ⊥) (l.came i) → l.gave.over ≡ Failed (Own Stranger port.exchange)
+TestsPackets op l = Unit {0}
+
 -- what is known of a source after any turns
 pub record Told (op : Op) (l : Ledger) : Type 0 where
   pub before : Begun op l
   pub ended : l.gave.over ≡ Ended → InputsEnded op l × Makes op l l.gave.rows
   pub passes : (f : Fault) → InputFault op l f → l.gave.over ≡ Failed f
+  pub tests : TestsPackets op l
   pub blame : (f : Fault) → l.gave.over ≡ Failed f → InputFault op l f ⊎ OwnBlame op l f

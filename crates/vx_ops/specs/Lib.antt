@@ -2,6 +2,7 @@ pub mod Ledger
 pub mod Begun
 pub mod Turn
 pub mod Meaning
+pub mod Strangers
 pub mod Scan
 pub mod Stepping
 pub mod Select

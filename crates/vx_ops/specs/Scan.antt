@@ -1,4 +1,4 @@
--- When a scan may have heard and given what a ledger says.
+-- When a scan may have received and returned what a ledger says.
 use Rattle.std.specs.Prelude.{◌≡◌}
 use Rattle.std.proofs.Common.{◌∙◌, sym, inl}
 use Rattle.vx_ops.specs.Ledger.{Ledger, scan_op, Told}
@@ -8,7 +8,7 @@ use Rattle.vx_ops.specs.Meaning.{Meaning}
 use Rattle.vx_ops.specs.declared.turn.Want.TheVariants as want
 use Rattle.vx_ops.specs.declared.scan.Scan.{Scan}
 
--- it gave what it heard, and stands as its input does
+-- it returned what it received, and stands as its input does
 pub record ScanStands (s : Scan) (l : Ledger) : Type 0 where
   pub rows : l.gave.rows ≡ l.left.rows
   pub over : l.gave.over ≡ s.over
@@ -22,6 +22,7 @@ scan_told s l h = record {
   before = begun_whole scan_op l h.rows;
   ended = λ e. (h.input ∙ sym h.over ∙ e, h.rows);
   passes = λ f e. h.over ∙ sym h.input ∙ e;
+  tests = tt;
   blame = λ f e. inl (h.input ∙ sym h.over ∙ e);
 }
 

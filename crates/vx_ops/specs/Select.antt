@@ -1,4 +1,4 @@
--- What the kernel of a selection makes, and when a selection may have heard and given what a ledger says.
+-- What the kernel of a selection makes, and when a selection may have received and returned what a ledger says.
 use Rattle.std.specs.Prelude.{◌≡◌, List, filter}
 use Rattle.vx_values.specs.Values.{Row}
 use Rattle.vx_plan_nodes.specs.Plan.{Unary, select}

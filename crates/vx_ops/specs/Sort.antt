@@ -1,4 +1,4 @@
--- When a sort may have heard and given what a ledger says.
+-- When a sort may have received and returned what a ledger says.
 use Rattle.vx_ops.specs.Ledger.{Ledger, Op}
 use Rattle.vx_ops.specs.Turn.{Shape}
 use Rattle.vx_ops.specs.Meaning.{Meaning}

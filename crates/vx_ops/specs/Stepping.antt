@@ -1,4 +1,4 @@
--- When an operator that answers each batch as it comes may have heard and given what a ledger says.
+-- When an operator that answers each batch as it comes may have received and returned what a ledger says.
 use Rattle.std.specs.Prelude.{ℕ, ◌≡◌, List, Some}
 use Rattle.vx_values.specs.Values.{Row}
 use Rattle.vx_plan_nodes.specs.Plan.{Unary}
@@ -11,7 +11,7 @@ use Rattle.vx_ops.specs.declared.fault.Over.{Over}
 use Rattle.vx_ops.specs.declared.fault.Over.TheVariants.{Running}
 use Rattle.vx_ops.specs.declared.stepping.Stepping.{Stepping}
 
--- it stands so; while it runs so does its input, its kernel made the rows that were given of those that came,
+-- it stands so; while it runs so does its input, its kernel made the rows that were returned of those that came,
 -- and they are what the operator makes of them; and what is known of any source
 pub record IsStepped (n : ℕ) (op : Unary) (made : List Row → List Row → Type 0) (over : Over) (l : Ledger) : Type 0 where
   pub stands : l.gave.over ≡ over

@@ -1,4 +1,4 @@
--- One turn of a source: what it is given fits what it wants, and what its ledger is afterwards.
+-- One turn of a source: what it gets fits what it wants, and what its ledger is afterwards.
 use Rattle.std.specs.Prelude.{ℕ, ◌≡◌, ◌<◌, ◌==◌, List, [], ◌∷◌, ◌++◌, length, Option, Some, None, cond}
 use Rattle.vx_values.specs.declared.value.ColType.{ColType}
 use Rattle.vx_ports.specs.Packets.{PacketView}
@@ -18,18 +18,18 @@ pub record Shape : Type 0 where
   pub right : List ColType
   pub out : List ColType
 
--- the stream after an answer
+-- the stream after what was returned
 abbrev pub heard : Stream → Polled → Stream
 heard s (polled.Gave t) = record { rows = s.rows ++ t.rows; over = s.over }
 heard s polled.Waiting = s
 heard s polled.End = record { rows = s.rows; over = Ended }
 heard s (polled.Fault f) = record { rows = s.rows; over = Failed f }
 
--- a source that heard and gave nothing
+-- a source that received and returned nothing
 abbrev pub fresh_ledger : Ledger
 fresh_ledger = record { left = fresh; right = fresh; came = λ _. []; gave = fresh }
 
--- what is given is what is wanted
+-- what it gets is what it wants
 abbrev pub Fits : Want → Got → Type 0
 Fits want.Nothing got.Nothing = Unit {0}
 Fits want.Morsel (got.Input p) = Unit {0}
@@ -38,7 +38,7 @@ Fits want.Right (got.Input p) = Unit {0}
 Fits (want.Packet i) (got.Packet o) = Unit {0}
 Fits _ _ = ⊥
 
--- rows that are given have these types, and are at least one
+-- rows that are returned have these types, and are at least one
 abbrev pub GivesRows : List ColType → Polled → Type 0
 GivesRows types (polled.Gave t) = (t.types ≡ types) × (0 < length t.rows)
 GivesRows types polled.Waiting = Unit {0}
@@ -57,7 +57,7 @@ abbrev pub with_packet : (ℕ → List PacketView) → ℕ → Option PacketView
 with_packet f i None = f
 with_packet f i (Some p) = λ j. cond (j == i) (f j ++ p ∷ []) (f j)
 
--- the ledger with what was given
+-- the ledger with what was received
 abbrev pub took : Ledger → Want → Got → Ledger
 took l want.Morsel (got.Input p) = record l { left = heard l.left p }
 took l want.Left (got.Input p) = record l { left = heard l.left p }
@@ -65,7 +65,7 @@ took l want.Right (got.Input p) = record l { right = heard l.right p }
 took l (want.Packet i) (got.Packet o) = record l { came = with_packet l.came i o }
 took l _ _ = l
 
--- and with the answer
+-- and with what was returned
 abbrev pub gives : Ledger → Polled → Ledger
 gives l p = record l { gave = heard l.gave p }
 
@@ -73,7 +73,7 @@ gives l p = record l { gave = heard l.gave p }
 abbrev pub after : Ledger → Want → Got → Polled → Ledger
 after l w g p = gives (took l w g) p
 
--- what ended or failed answers the same again
+-- what ended or failed returns the same again
 abbrev pub Again : Over → Polled → Type 0
 Again Running p = Unit {0}
 Again Ended p = p ≡ polled.End

@@ -1,4 +1,4 @@
-//! The source that a kernel makes which reads all of its input first.
+//! The source that is made of a kernel which reads all of its input first.
 
 use crate::collecting_kernel::{CollectingKernel, FinishFault};
 use crate::fault::{Code, Fault, Over};
@@ -6,7 +6,7 @@ use crate::source::Source;
 use crate::turn::{Got, Polled, Want};
 use vx_rows::Rows;
 
-/// Calls: with_kernel (wants turn)*
+/// Calls: `with_kernel (wants turn)*`.
 ///
 /// An operator of one input: once its input has ended, it returns what its kernel makes of all of it, in one batch.
 #[derive(Drop)]
@@ -42,7 +42,7 @@ impl<K: CollectingKernel> Collecting<K> {
         }
     }
 
-    // The answer to a batch.
+    // What is returned for a batch.
     fn collect(&mut self, batch: Rows) -> Polled
         requires running { self.old.over ≡ Running }
         requires reading { self.old.finished ≡ false }
@@ -66,7 +66,7 @@ impl<K: CollectingKernel> Collecting<K> {
         }
     }
 
-    // The answer to the end of the input.
+    // What is returned at the end of the input.
     fn conclude(&mut self) -> Polled
         requires running { self.old.over ≡ Running }
         requires reading { self.old.finished ≡ false }

@@ -12,7 +12,7 @@ pub enum FinishFault {
     NoMemory,
 }
 
-/// Calls: take* finish, and none after an `Err`
+/// Calls: `take* finish`, and none after an `Err`.
 ///
 /// What an operator of one input computes of its whole input: `Collecting` makes a source of it.
 pub trait CollectingKernel: Drop {

@@ -1,9 +1,10 @@
-//! Operators that give rows turn by turn, as sources that do not hold their inputs.
+//! Operators that return rows turn by turn, as sources that do not hold their inputs.
 #![tactic(auto)]
 
 mod collecting;
 mod collecting_kernel;
 pub mod fault;
+pub mod laws;
 mod scan;
 mod select;
 mod sort;

@@ -5,9 +5,9 @@ use crate::source::Source;
 use crate::turn::{Got, Polled, Want};
 use vx_rows::ColType;
 
-/// Calls: new (wants turn)*
+/// Calls: `new (wants turn)*`.
 ///
-/// Passes on the rows of the morsels that it is given.
+/// Returns the rows of the morsels that it gets.
 ///
 /// It shares no machine with the operators over an input: it computes nothing, so nothing of its own can fail, and it has no node number.
 #[derive(Drop)]

@@ -7,7 +7,7 @@ use vx_algebra::selected;
 use vx_plan_nodes::Condition;
 use vx_rows::{ColType, Rows};
 
-/// Calls: new (wants turn)*
+/// Calls: `new (wants turn)*`.
 ///
 /// Returns the rows of its input for which all conditions hold.
 pub type Select = Stepping<Selection>;

@@ -7,7 +7,7 @@ use std::marker::Model;
 use vx_algebra::sorted;
 use vx_rows::{ColType, Rows};
 
-/// Calls: new (wants turn)*
+/// Calls: `new (wants turn)*`.
 ///
 /// Returns the rows of its input in the order of some columns, once the input has ended.
 pub type Sort = Collecting<Sorting>;

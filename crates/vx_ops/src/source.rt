@@ -1,17 +1,17 @@
-//! Operators that give rows turn by turn (Volcano's iterators, without hold of their inputs).
+//! Operators that return rows turn by turn (Volcano's iterators, which do not hold their inputs here).
 
 use crate::turn::{Got, Polled, Want};
 
-/// Calls: (wants turn)*
+/// Calls: `(wants turn)*`.
 ///
-/// An operator that does not hold its inputs: it says what it wants, and is given it.
+/// An operator that does not hold its inputs: it says what it wants, and gets it as the argument of its next turn.
 pub trait Source {
     ghost use Rattle.std.specs.Prelude.{◌≡◌};
     ghost use Rattle.vx_ops.specs.Ledger.{Ledger, Op, Told};
     ghost use Rattle.vx_ops.specs.Turn.{Shape, Fits, IsTyped, GivesRows, after, Again};
     ghost use Rattle.vx_ops.specs.declared.turn.Want.{Want};
 
-    // That this source may have heard and given what the ledger says.
+    // That this source may have received and returned what the ledger says.
     ghost Stands: { Self → Ledger → Type 0 };
 
     // What the source does.
@@ -27,7 +27,7 @@ pub trait Source {
     fn wants(&self) -> Want
         ensures { result ≡ want self.now };
 
-    /// One turn, given what it wants. Want of memory is a fault.
+    /// One turn with what it wants. Running out of memory is a fault.
     fn turn(&mut self, got: Got) -> Polled
         requires fits { Fits (want self.old) got }
         requires typed { IsTyped (types self.old) (want self.old) got }

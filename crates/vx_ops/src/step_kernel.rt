@@ -1,9 +1,9 @@
-//! Kernels that answer each batch of their input with rows as it comes.
+//! Kernels that return rows for each batch of their input.
 
 use std::alloc::AllocError;
 use vx_rows::Rows;
 
-/// Calls: step*, and none after an `Err`
+/// Calls: `step*`, and none after an `Err`.
 ///
 /// What an operator of one input computes, a batch at a time: `Stepping` makes a source of it.
 pub trait StepKernel: Drop {

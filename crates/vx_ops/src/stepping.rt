@@ -1,4 +1,4 @@
-//! The source that a kernel makes which answers each batch as it comes.
+//! The source that is made of a kernel which returns rows for each batch.
 
 use crate::fault::{Code, Fault, Over};
 use crate::source::Source;
@@ -6,7 +6,7 @@ use crate::step_kernel::StepKernel;
 use crate::turn::{Got, Polled, Want};
 use vx_rows::Rows;
 
-/// Calls: with_kernel (wants turn)*
+/// Calls: `with_kernel (wants turn)*`.
 ///
 /// An operator of one input: it returns what its kernel makes of each batch, as the batches come.
 #[derive(Drop)]
@@ -40,7 +40,7 @@ impl<K: StepKernel> Stepping<K> {
         }
     }
 
-    // The answer to a batch.
+    // What is returned for a batch.
     fn step(&mut self, batch: Rows) -> Polled
         requires running { self.old.over ≡ Running }
         requires typed { batch.types ≡ (K.types self.old.kernel).left }

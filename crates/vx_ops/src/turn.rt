@@ -11,33 +11,33 @@ pub enum Want {
     Nothing,
     /// The rows of a morsel.
     Morsel,
-    /// What its left, or only, input gives.
+    /// What its left, or only, input returns.
     Left,
-    /// What its right input gives.
+    /// What its right input returns.
     Right,
     /// A packet of the producer at this place.
     Packet(u32),
 }
 
-/// What a source gives in one turn.
+/// What a source returns for one turn.
 #[derive(Drop)]
 pub enum Polled {
     /// Some rows: at least one.
     Gave(Rows),
     /// Nothing yet.
     Waiting,
-    /// All rows were given. It comes again after it came.
+    /// All rows were returned. Every later turn returns it again.
     End,
     /// The source failed. It comes again after it came.
     Fault(Fault),
 }
 
-/// What a source is given: what it wants. A morsel comes as an input.
+/// What a source gets for a turn: what it wants. A morsel counts as an input.
 #[derive(Drop)]
 pub enum Got {
     /// It wanted nothing.
     Nothing,
-    /// What the input gave in one turn, or a morsel.
+    /// What the input returned for one turn, or a morsel.
     Input(Polled),
     /// A packet, or none where none has come yet.
     Packet(Option<Packet>),

@@ -62,11 +62,9 @@ impl Reader for ValueReader {
     #[tactic(auto, unfolding(crate::specs::Look::value_in))]
     fn read(alloc: Global, value: &Json) -> Result<Value, Misread> {
         if let Some(number) = value.as_i64() {
-            Cell::Int(number).held();
-            return Ok(Value::Int(number));
+            return Ok(Cell::Int(number).to_value(alloc)?);
         }
         let text = get_text(value)?;
-        Cell::Text(text).held();
-        Ok(Value::Text(String::from_str(alloc, text)?))
+        Ok(Cell::Text(text).to_value(alloc)?)
     }
 }

@@ -30,6 +30,6 @@ Lives a [] b = b ≡ a
 Lives a (put_on p ∷ es) b = (c : LinkView) × (a.closed ≡ false) × PutsOnLine a p c × Lives c es b
 Lives a (taken_off p ∷ es) b = (c : LinkView) × TakesFromLine a p c × Lives c es b
 
--- whatever is done to a new link: what was taken is a beginning of what was put, in order, and all of it once the stream's end was taken
+-- whatever is done to a new link: what was taken is a prefix of what was put, in order, and all of it once the stream's end was taken
 abbrev pub LinkFlows : Type 0
 LinkFlows = (es : List Move) (b : LinkView) → Lives new_line es b → Flows (puts_of es) (takes_of es)

@@ -19,6 +19,12 @@ pub record PacketView : Type 0 where
   pub types : List ColType
   pub content : Content
 
+-- as many rows as a packet may bring: 1 to 4,096
+abbrev pub HasFew : Content → Type 0
+HasFew (brings xs) = (1 ≤ length xs) × (length xs ≤ 4096)
+HasFew last = Unit {0}
+HasFew fault = Unit {0}
+
 -- what every packet keeps: 1 to 4,096 rows that fit its types
 abbrev pub FitsContent : List ColType → Content → Type 0
 FitsContent types (brings xs) = (1 ≤ length xs) × (length xs ≤ 4096) × AllByRecursion (Fits types) xs
@@ -79,7 +85,7 @@ abbrev pub is_stream : List PacketView → Bool
 is_stream [] = true
 is_stream (p ∷ ps) = (not (closes p.content) || is_empty ps) && is_stream ps
 
--- what was taken is a beginning of what was put, in order, and all of it once the stream's end was taken
+-- what was taken is a prefix of what was put, in order, and all of it once the stream's end was taken
 pub record Flows (put taken : List PacketView) : Type 0 where
   pub rest : List PacketView
   pub begins : taken ++ rest ≡ put

@@ -1,10 +1,10 @@
--- What a port answers to a put.
+-- What a put returns.
 use Rattle.std.specs.Prelude.{◌≡◌}
 use Rattle.vx_ports.specs.Packets.{PacketView}
 use Rattle.vx_ports.specs.declared.port.Put.{Put}
 use Rattle.vx_ports.specs.declared.port.Put.TheVariants.{Done, Full, NoMemory}
 
--- the packet went in, or came back
+-- the packet was put, or is returned
 abbrev pub PutOutcome : PacketView → Put → Type 0 → Type 0 → Type 0
 PutOutcome p Done Puts Stays = Puts
 PutOutcome p (Full q) Puts Stays = (q ≡ p) × Stays

@@ -6,6 +6,8 @@ use std::alloc::{AllocError, Global};
 use std::collections::VecDeque;
 use std::marker::Model;
 
+/// Calls: `new (put | take)*`, with no `put` after that of a packet that closes it.
+///
 /// A queue of packets between a producer and a consumer that take turns in one thread. It is never full: what waits in it is bounded by memory alone. It keeps room
 /// for the packet that closes it, so that a stream can always be ended.
 #[derive(Drop)]

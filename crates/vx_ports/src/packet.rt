@@ -40,14 +40,14 @@ pub struct Packet {
 }
 
 impl Model for Packet {
-    ghost use Rattle.vx_ports.specs.Packets.{PacketView, FitsContent};
+    ghost use Rattle.vx_ports.specs.Packets.{PacketView, HasFew};
     ghost use Rattle.vx_ports.specs.Seen.{content_of};
 
     ghost Value = { PacketView };
 
     ghost view = { λ p. record { exchange = p.exchange; from = p.from; to = p.to; types = p.rows.types; content = content_of p.kind p.rows.rows } };
 
-    ghost invariant = { λ p. FitsContent p.rows.types (content_of p.kind p.rows.rows) };
+    ghost invariant = { λ p. HasFew (content_of p.kind p.rows.rows) };
 }
 
 impl Packet {
@@ -65,7 +65,6 @@ impl Packet {
         requires few { length rows.rows ≤ 4096 }
         ensures { result ≡ record { exchange = exchange; from = from; to = to; types = rows.types; content = brings rows.rows } }
     {
-        rows.fit();
         Packet {
             exchange,
             from,
@@ -75,7 +74,7 @@ impl Packet {
         }
     }
 
-    /// A packet that closes a stream of rows like these, which are none.
+    /// A packet that closes a stream of rows of these types; `none` has no rows.
     pub fn closing(exchange: u32, from: u32, to: u32, ending: Ending, none: Rows) -> Packet
         requires { none.rows ≡ [] }
         ensures { result ≡ record { exchange = exchange; from = from; to = to; types = none.types; content = ending_content ending } }
@@ -114,9 +113,10 @@ impl Packet {
         self.to
     }
 
-    /// The types of its rows.
+    /// The types of its rows, which are 1 to 4,096 and fit them, if it has any.
     pub fn types(&self) -> &[ColType]
-        ensures { result.now ≡ self.now.types }
+        ensures types { result.now ≡ self.now.types }
+        ensures fit { FitsContent self.now.types self.now.content }
     {
         self.rows.types()
     }
@@ -130,13 +130,6 @@ impl Packet {
             PacketKind::Last => true,
             PacketKind::Fault => true,
         }
-    }
-
-    /// A packet of rows has 1 to 4,096, and they fit its types. It does nothing: a caller who needs the fact calls it.
-    pub fn fit(&self)
-        ensures { FitsContent self.now.types self.now.content }
-    {
-        let _kind = &self.kind;
     }
 
     /// Its rows, or how it ends the stream.

@@ -7,13 +7,15 @@ use crate::packet::Packet;
 pub enum Put {
     /// It is on its way.
     Done,
-    /// As many packets wait as the port takes (its slack, in packets): this one comes back, and may be put again later.
+    /// The port is full (as many packets wait as its slack): the packet is returned, and may be put again later.
     Full(Packet),
-    /// Memory was refused: the packet comes back. One that closes the port never does so from a `Link`.
+    /// Out of memory: the packet is returned. A `Link` never returns one that closes it.
     NoMemory(Packet),
 }
 
-/// The end of a producer: packets go in, and behind the one that closes it none.
+/// Calls: `put*`, and none after that of a packet that closes the port.
+///
+/// The end of a producer: packets are put, and none after the one that closes it.
 pub trait OutPort {
     ghost use Rattle.std.specs.Prelude.{◌≡◌, false, Bool};
     ghost use Rattle.vx_ports.specs.Packets.{PacketView};
@@ -25,7 +27,7 @@ pub trait OutPort {
     // What a put of this packet does to the port.
     ghost Puts: { Self → PacketView → Self → Type 0 };
 
-    // What a put that is refused does.
+    // What a put that fails does.
     ghost Stays: { Self → Self → Type 0 };
 
     /// Puts a packet behind those that were put before.
@@ -38,6 +40,8 @@ pub trait OutPort {
         ensures { result ≡ closed self.now };
 }
 
+/// Calls: `take*`.
+///
 /// The end of a consumer: packets come out in the order in which they went in.
 pub trait InPort {
     ghost use Rattle.std.specs.Prelude.{List, IfSome, OnSome, IfNone};

@@ -25,7 +25,7 @@ abbrev pub fault_of : Misread → CatalogFault
 fault_of misread.NotOfForm = fault.BadCatalog
 fault_of misread.NoMemory = fault.NoMemory
 
--- what a call refused is what the reading refuses, and want of memory excuses
+-- a call fails with the error that reading has, or ran out of memory
 abbrev pub Fails : {Y : Type 0} → CatalogFault → Result Y Refusal → Type 0
 Fails fault.NoMemory read = Unit {0}
 Fails fault.BadCatalog read = read ≡ Err bad_catalog
@@ -33,12 +33,12 @@ Fails fault.TooLarge read = read ≡ Err too_large
 Fails (fault.DuplicateName name) read = read ≡ Err (duplicate_name (string_bytes name))
 Fails (fault.UnknownColumn name) read = read ≡ Err (unknown_column (string_bytes name))
 
--- what a call answered, seen by `look`, is what the reading gives, unless memory ran out
+-- what a call returned, seen by `look`, is what reading has, unless it ran out of memory
 abbrev pub Gives : {X Y : Type 0} → (X → Y) → Result X CatalogFault → Result Y Refusal → Type 0
 Gives look (Ok x) read = read ≡ Ok (look x)
 Gives look (Err e) read = Fails e read
 
--- a name that does not stand at the front
+-- a name that is none of those before it
 unfoldable pub name_once : List (List ℕ) → List ℕ → Result (List ℕ) Refusal
 name_once front name = if list_any (λ y. bytes_eq y name) front then Err (duplicate_name name) else Ok name
 
@@ -50,7 +50,7 @@ abbrev pub column_once : List ℕ → List ℕ → Option ℕ → Result ℕ Ref
 column_once front name None = Err (unknown_column name)
 column_once front name (Some c) = if list_any (λ y. y == c) front then Err (duplicate_name name) else Ok c
 
--- the column of this name, which does not stand at the front
+-- the column of this name, which is none of those before it
 unfoldable pub column_of : List (List ℕ) → List ℕ → List ℕ → Result ℕ Refusal
 column_of names front name = column_once front name (position (bytes_eq name) names)
 

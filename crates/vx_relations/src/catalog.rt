@@ -95,7 +95,7 @@ impl Catalog {
         }
     }
 
-    /// How many relations there are. Its second clause is the fact that the type keeps.
+    /// How many relations there are. They keep all limits of a catalog.
     pub fn len(&self) -> usize
         ensures count { result ≡ length self.now }
         ensures fine { IsCatalog self.now }

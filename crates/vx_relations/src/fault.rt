@@ -16,7 +16,7 @@ pub enum CatalogFault {
     /// A key or an order names no column.
     #[error("C3 UnknownColumn name={name}")]
     UnknownColumn { name: String },
-    /// A growth was refused.
+    /// Out of memory.
     #[error("C11 NoMemory")]
     NoMemory,
     /// Over 256 relations, or a relation with over 64 columns or 16 keys.

@@ -1,17 +1,17 @@
 -- Rows as a caller sees them, and what is seen of them after a write.
-use Rattle.std.proofs.Common.{◌≡◌, ℕ, true, ◌+◌, ◌-◌, ◌<◌, ◌≤◌, List, [], ◌∷◌, ◌++◌, refl, sym, ap, ◌∙◌, length, get_or, map, arith}
+use Rattle.std.proofs.Common.{◌≡◌, ℕ, true, ◌+◌, ◌-◌, ◌<◌, ◌≤◌, List, [], ◌∷◌, ◌++◌, refl, sym, ap, ◌∙◌, subst, length, get_or, map, arith}
 use Rattle.std.specs.Prelude.{slice_range}
-use Rattle.std.specs.List.{list_all}
+use Rattle.std.specs.List.{list_all, AllByRecursion}
 use Rattle.std.proofs.lemmas.List.{length-map, length-append}
 use Rattle.vx_values.specs.declared.value.ColType.{ColType}
 use Rattle.vx_rows.specs.declared.column.Column.{Column}
 use Rattle.vx_values.specs.Values.{Val, Row}
 use Rattle.vx_rows.specs.Lists.{each_below}
-use Rattle.vx_values.specs.Types.{type_of, is_held}
+use Rattle.vx_values.specs.Types.{type_of, is_held, Fits}
 use Rattle.vx_rows.specs.Columns.{size, row_of, rows_of, KeepRows, Fills, AreRows}
 use Rattle.vx_rows.specs.View.{RowsView, row, ArePositions}
 use Rattle.vx_rows.proofs.Below.{each_below-one, slice_range-each_below}
-use Rattle.vx_rows.proofs.Fill.{viewed, rows_are, types_are, width_is, count_is, row_is, same_rows, more_rows, now_rows, fill_as, fill_more, each_at}
+use Rattle.vx_rows.proofs.Fill.{viewed, all_fit, rows_are, types_are, width_is, count_is, row_is, same_rows, more_rows, now_rows, fill_as, fill_more, each_at}
 
 -- the first n rows of these columns are those of a table
 pub record Seen (t : RowsView) (types : List ColType) (n : ℕ) (xs : List Column) : Type 0 where
@@ -37,6 +37,9 @@ module _ {t : RowsView} {types : List ColType} {n : ℕ} {xs : List Column} (s :
 
   pub held_seen : (i : ℕ) → i < length t.rows → list_all is_held (row_of xs i) ≡ true
   held_seen i h = let c = count_seen in s.are.held i (omega (arith, c, h))
+
+  pub fit_seen : AllByRecursion (Fits t.types) t.rows
+  fit_seen = subst (λ (r : RowsView). AllByRecursion (Fits r.types) r.rows) s.is (all_fit types n xs s.are.kinds s.are.held)
 
   -- a write that was refused leaves what is seen
   pub still_seen : (ys : List Column) → KeepRows n xs ys → rows_of n ys ≡ t.rows

@@ -1,4 +1,4 @@
--- The order on values and rows is a total order, and what it does not tell apart is one: the laws that maps of rows ask for.
+-- The order on values and rows is a total order, and what it does not distinguish is equal: the laws that maps of rows ask for.
 use Rattle.std.proofs.Common.{◌≡◌, true, refl, sym, ap, true≢false, is_eq, is_lt, Ordering, Less, Equal, Greater}
 use Rattle.std.specs.Ordering.{ordering_reverse}
 use Rattle.std.specs.Cmp.{IsTotalOrder, IsEquivalence}

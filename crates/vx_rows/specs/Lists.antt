@@ -1,7 +1,7 @@
--- Words on lists.
+-- Definitions on lists.
 use Rattle.std.specs.Prelude.{◌≡◌, ℕ, zero, suc, List, [], ◌∷◌, ◌++◌}
 
--- the first list begins the second
+-- the first list is a prefix of the second
 pub record IsBeginning {X : Type 0} (xs ys : List X) : Type 0 where
   pub rest : List X
   pub joined : xs ++ rest ≡ ys

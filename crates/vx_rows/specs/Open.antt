@@ -1,4 +1,4 @@
--- Rows, and the front of one more row that is being filled.
+-- Rows, and the first values of one more row, which is being filled.
 use Rattle.std.specs.Prelude.{◌≡◌, ℕ, ◌+◌, ◌≤◌, true, List, length, take}
 use Rattle.std.specs.List.{list_all}
 use Rattle.vx_values.specs.declared.value.ColType.{ColType}
@@ -7,7 +7,7 @@ use Rattle.vx_values.specs.Types.{is_held}
 use Rattle.vx_values.specs.Values.{Row}
 use Rattle.vx_rows.specs.Columns.{row_of, LongTo, AreRows}
 
--- what a caller sees: the types, the whole rows, and the values given so far of the next row
+-- what a caller sees: the types, the whole rows, and the values of the next row so far
 pub record Opened : Type 0 where
   pub types : List ColType
   pub rows : List Row

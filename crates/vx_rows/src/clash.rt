@@ -75,7 +75,7 @@ impl Rows {
     }
 
     /// The first two rows that agree on these columns, as (earlier, second): the least second position that agrees
-    /// with an earlier one, and the least such earlier one. It takes no memory where the rows rise strictly.
+    /// with an earlier one, and the least such earlier one. It needs no memory if the rows rise strictly.
     pub fn first_key_clash(
         &self,
         alloc: Global,

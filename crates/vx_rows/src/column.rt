@@ -1,9 +1,9 @@
 //! The values of one column.
 
-ghost use Rattle.std.specs.Prelude.{◌≡◌, ℕ, ◌+◌, ◌-◌, ◌<◌, ◌≤◌, length, pos, slice_index, slice_index_or, OnOk, IfOk};
+ghost use Rattle.std.specs.Prelude.{◌≡◌, ℕ, ◌+◌, ◌-◌, ◌<◌, ◌≤◌, length, pos, slice_index, slice_index_or, true, OnOk, IfOk};
 ghost use Rattle.vx_values.specs.ValueView.{cell_val};
 ghost use Rattle.vx_rows.specs.View.{ArePositions};
-ghost use Rattle.vx_values.specs.Types.{type_of};
+ghost use Rattle.vx_values.specs.Types.{type_of, is_held};
 ghost use Rattle.vx_rows.specs.Columns.{column_type, size, entry, KeepsFront};
 
 use crate::texts::Texts;
@@ -44,6 +44,7 @@ impl Column {
     pub fn put(&mut self, at: usize, cell: Cell<'_>) -> Result<(), AllocError>
         requires room { at ≤ size self.old }
         requires kind { type_of (cell_val cell) ≡ column_type self.old }
+        ensures held { is_held (cell_val cell.entry) ≡ true }
         ensures front { KeepsFront at self.old self.new }
         ensures ok { OnOk result (entry self.new at ≡ cell_val cell.entry) }
         ensures ok_long { OnOk result (size self.new ≡ at + 1) }

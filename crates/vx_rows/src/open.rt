@@ -1,8 +1,9 @@
 //! Rows that get one value after another.
 
 ghost use Rattle.std.specs.Prelude.{◌≡◌, ◌<◌, ◌++◌, ◌∷◌, [], length, OnOk, OnErr, IfOk};
+ghost use Rattle.std.specs.List.{AllByRecursion};
 ghost use Rattle.vx_values.specs.ValueView.{cell_val};
-ghost use Rattle.vx_values.specs.Types.{type_of, type_at};
+ghost use Rattle.vx_values.specs.Types.{type_of, type_at, Fits};
 
 use crate::column::Column;
 use crate::rows::Rows;
@@ -11,7 +12,9 @@ use std::alloc::{AllocError, Global};
 use std::marker::Model;
 use vx_values::{Cell, ColType};
 
-/// Rows, and the front of one more row, which gets one value after another.
+/// Calls: `new (push_cell* end_row)* push_cell* into_rows`, with as many `push_cell` before each `end_row` as there are columns.
+///
+/// Rows, and the first values of one more row, which gets one value after another.
 ///
 /// No list of a row's values is made: each value goes into its column at once.
 #[derive(Debug, Drop)]
@@ -63,7 +66,7 @@ impl OpenRows {
         self.count
     }
 
-    /// Adds a value to the front. After an `Err` all is as before.
+    /// Adds a value to the row that is being filled. After an `Err` nothing has changed.
     pub fn push_cell(&mut self, cell: Cell<'_>) -> Result<(), AllocError>
         requires room { length self.old.front < length self.old.types }
         requires kind { type_of (cell_val cell) ≡ type_at self.old.types (length self.old.front) }
@@ -72,14 +75,13 @@ impl OpenRows {
         ensures ok { OnOk result (self.new.front ≡ self.old.front ++ cell_val cell.entry ∷ []) }
         ensures err { OnErr result (self.new.front ≡ self.old.front) }
     {
-        cell.held();
         put_cell(&mut self.columns, self.filled, self.count, cell)?;
         self.filled += 1;
         Ok(())
     }
 
-    /// Makes the front a row, once it has a value of each column. An `Err` says that the rows cannot be counted, and
-    /// then all is as before.
+    /// Ends the row that is being filled, once it has a value of each column. It fails if there are too many rows to
+    /// count, and then nothing has changed.
     pub fn end_row(&mut self) -> Result<(), AllocError>
         requires { length self.old.front ≡ length self.old.types }
         ensures types { self.new.types ≡ self.old.types }
@@ -95,10 +97,11 @@ impl OpenRows {
         Ok(())
     }
 
-    /// The whole rows. A front that was not made a row is dropped.
+    /// The whole rows. A row that was not ended is dropped.
     pub fn into_rows(self) -> Rows
         ensures types { result.types ≡ self.types }
         ensures rows { result.rows ≡ self.rows }
+        ensures fit { AllByRecursion (Fits result.types) result.rows }
     {
         Rows::of_columns(self.types, self.columns, self.count)
     }

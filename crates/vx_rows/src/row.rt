@@ -88,7 +88,7 @@ impl Row {
         self.values.len()
     }
 
-    /// The values, as `Rows::push` takes them.
+    /// The values, as an argument of `Rows::push`.
     pub fn values(&self) -> &[Value]
         ensures { map val_of result.now ≡ self.now }
     {
@@ -112,8 +112,8 @@ impl Row {
         Ok(())
     }
 
-    /// Becomes the values of a row in these columns. Numbers take no memory once there is room for so many values,
-    /// and texts keep their room. After an `Err` the values are any.
+    /// Becomes the values of a row in these columns. Numbers need no memory once there is room for so many values,
+    /// and texts keep their capacity. After an `Err` the values are arbitrary.
     pub fn read(&mut self, rows: &Rows, i: usize, cols: &[usize]) -> Result<(), AllocError>
         requires row { i < length rows.now.rows }
         requires columns { AreColumns (length rows.now.types) cols.now }

@@ -36,12 +36,12 @@ fn put_key(alloc: Global, key: &mut Vec<Value>, j: usize, cell: Cell<'_>) -> Res
 
 /// Rows that fit one list of types, kept by columns.
 ///
-/// A column may hold more values than there are rows, after a growth that was refused.
+/// After a call that ran out of memory a column may hold more values than there are rows.
 #[derive(Debug)]
 pub struct Rows {
     types: Vec<ColType>,
     columns: Vec<Column>,
-    count: usize,
+    pub(crate) count: usize,
 }
 
 // By hand, so that the drops of its parts are made and proved here once, and not again in each crate that drops one.
@@ -100,18 +100,12 @@ impl Rows {
         self.count
     }
 
-    /// The types of the columns.
+    /// The types of the columns, which each row fits.
     pub fn types(&self) -> &[ColType]
-        ensures { result.now ≡ self.now.types }
+        ensures types { result.now ≡ self.now.types }
+        ensures fit { AllByRecursion (Fits self.now.types) self.now.rows }
     {
         self.types.as_slice()
-    }
-
-    /// Each row fits the types. It does nothing: a caller who needs the fact calls it.
-    pub fn fit(&self)
-        ensures { AllByRecursion (Fits self.now.types) self.now.rows }
-    {
-        let _types = &self.types;
     }
 
     /// Whether a row of these values fits the types.
@@ -124,7 +118,6 @@ impl Rows {
         }
         for j in 0..n {
             let cell = values[j].cell();
-            cell.held();
             if !cell.is_of(self.types[j]) {
                 return false;
             }
@@ -141,7 +134,7 @@ impl Rows {
         self.columns[column].get(i)
     }
 
-    /// Makes a key of these columns of row i. Texts of the key keep their room. After an `Err` the key is any.
+    /// Makes a key of these columns of row i. Texts of the key keep their capacity. After an `Err` the key is arbitrary.
     pub fn read_key(
         &self,
         alloc: Global,
@@ -160,7 +153,7 @@ impl Rows {
         Ok(())
     }
 
-    /// Leaves the first `n` rows, or all where there are fewer. No memory is given back.
+    /// Keeps the first `n` rows, or all if there are fewer. The capacity stays.
     pub fn truncate(&mut self, n: usize)
         ensures types { self.new.types ≡ self.old.types }
         ensures rows { self.new.rows ≡ take n self.old.rows }
@@ -346,7 +339,7 @@ impl Rows {
         Ok(rows)
     }
 
-    /// Takes all rows out, leaving none of the same types.
+    /// Moves all rows out, and leaves none, of the same types.
     pub fn take(&mut self, alloc: Global) -> Result<Rows, AllocError>
         ensures types { self.new.types ≡ self.old.types }
         ensures ok { IfOk result (λ r. r ≡ self.old) }

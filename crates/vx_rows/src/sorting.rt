@@ -155,9 +155,8 @@ impl Rows {
         ensures sorted { IfOk result (λ v. map (row self.now) v.items ≡ sort_on cols.now self.now.rows) }
         ensures there { IfOk result (λ v. ArePositions (length self.now.rows) v.items) }
     {
-        self.fit();
         let places = self.sorted_places(alloc, cols)?;
-        let mut positions = Vec::with_capacity(alloc, places.len())?;
+        let mut positions = Vec::with_capacity(alloc, self.count)?;
         for place in &places {
             positions.push(place.position)?;
         }

@@ -1,7 +1,7 @@
 //! Texts that lie one after another.
 
-ghost use Rattle.std.specs.Prelude.{◌≡◌, ℕ, ◌+◌, ◌-◌, ◌^◌, ◌<◌, ◌≤◌, [], length, slice_index, slice_index_or, slice_range, OnOk, IfOk};
-ghost use Rattle.std.specs.Str.{IsUtf8};
+ghost use Rattle.std.specs.Prelude.{◌≡◌, ℕ, ◌+◌, ◌-◌, ◌^◌, ◌<◌, ◌≤◌, [], length, slice_index, slice_index_or, slice_range, true, OnOk, IfOk};
+ghost use Rattle.std.specs.Str.{IsUtf8, is_utf8};
 ghost use Rattle.vx_rows.specs.View.{ArePositions};
 ghost use Rattle.vx_rows.specs.Texts.{piece, AreCuts, AreMoved, Rise};
 
@@ -132,9 +132,10 @@ impl Texts {
         text_of(self.bytes.as_slice(), self.cuts[i], self.cuts[i + 1])
     }
 
-    /// Leaves the first `at` texts, and adds one.
+    /// Leaves the first `at` texts, and adds one, which is in UTF-8 as any `str` is.
     pub fn put(&mut self, at: usize, text: &str) -> Result<(), AllocError>
         requires { at ≤ length self.old }
+        ensures held { is_utf8 text.now ≡ true }
         ensures kept { (k : ℕ) → k < at → slice_index_or self.new k [] ≡ slice_index_or self.old k [] }
         ensures long { at ≤ length self.new }
         ensures ok { OnOk result (slice_index_or self.new at [] ≡ text.now) }

@@ -25,6 +25,7 @@ pub fn put_cell(
     requires kind { type_at (map column_type columns.old.items) j ≡ type_of (cell_val cell) }
     ensures rows { KeepRows at columns.old.items columns.new.items }
     ensures before { take j columns.new.items ≡ take j columns.old.items }
+    ensures held { is_held (cell_val cell.entry) ≡ true }
     ensures ok { OnOk result (Fills at 1 j (j + 1) columns.old.items columns.new.items (λ _. cell_val cell.entry ∷ [])) }
 {
     let column = &mut columns[j];
@@ -131,9 +132,7 @@ pub fn put_values(columns: &mut Vec<Column>, at: usize, values: &[Value]) -> Res
     ensures ok { OnOk result (Fills at 1 0 (length values.now) columns.old.items columns.new.items (λ _. map val_of values.now)) }
 {
     for j in 0..values.len() {
-        let cell = values[j].cell();
-        cell.held();
-        put_cell(columns, j, at, cell)?;
+        put_cell(columns, j, at, values[j].cell())?;
     }
     Ok(())
 }
@@ -149,9 +148,7 @@ pub fn put_cells(columns: &mut Vec<Column>, at: usize, cells: &[Cell<'_>]) -> Re
     ensures ok { OnOk result (Fills at 1 0 (length cells.now) columns.old.items columns.new.items (λ _. map cell_val cells.now)) }
 {
     for j in 0..cells.len() {
-        let cell = cells[j];
-        cell.held();
-        put_cell(columns, j, at, cell)?;
+        put_cell(columns, j, at, cells[j])?;
     }
     Ok(())
 }

@@ -2,7 +2,7 @@
 
 ghost use Rattle.std.specs.Prelude.{◌≡◌, ◌↔◌, true, IfOk, OnOk, IsTrue};
 ghost use Rattle.std.specs.Str.{is_utf8};
-ghost use Rattle.vx_values.specs.Values.{val_cmp};
+ghost use Rattle.vx_values.specs.Values.{val_cmp, text as text_val};
 ghost use Rattle.vx_values.specs.ValueView.{val_of, cell_val};
 ghost use Rattle.vx_values.specs.Types.{type_of, is_held};
 
@@ -39,7 +39,8 @@ pub enum Cell<'a> {
 impl Value {
     /// The value, borrowed.
     pub fn cell(&self) -> Cell<'_>
-        ensures { cell_val result ≡ val_of self.now }
+        ensures same { cell_val result ≡ val_of self.now }
+        ensures held { is_held (val_of self.now) ≡ true }
     {
         match self {
             Value::Int(n) => Cell::Int(*n),
@@ -54,7 +55,7 @@ impl Value {
         self.cell().to_value(alloc)
     }
 
-    /// Becomes the value of a cell. A text keeps its room. After an `Err` it is any value.
+    /// Becomes the value of a cell. A text keeps its capacity. After an `Err` it is an arbitrary value.
     pub fn set(&mut self, alloc: Global, cell: Cell<'_>) -> Result<(), AllocError>
         ensures { OnOk result (val_of self.new ≡ cell_val cell.entry) }
     {
@@ -67,14 +68,23 @@ impl Value {
     }
 }
 
+// A text of its own, as a value.
+fn text_value(alloc: Global, text: &str) -> Result<Value, AllocError>
+    ensures same { IfOk result (λ v. val_of v ≡ text_val text.now) }
+    ensures held { is_utf8 text.now ≡ true }
+{
+    Ok(Value::Text(String::from_str(alloc, text)?))
+}
+
 impl Cell<'_> {
     /// The value, with a text of its own.
     pub fn to_value(self, alloc: Global) -> Result<Value, AllocError>
-        ensures { IfOk result (λ v. val_of v ≡ cell_val self.entry) }
+        ensures same { IfOk result (λ v. val_of v ≡ cell_val self.entry) }
+        ensures held { is_held (cell_val self.entry) ≡ true }
     {
         match self {
             Cell::Int(n) => Ok(Value::Int(n)),
-            Cell::Text(s) => Ok(Value::Text(String::from_str(alloc, s)?)),
+            Cell::Text(s) => text_value(alloc, s),
         }
     }
 
@@ -90,15 +100,6 @@ impl Cell<'_> {
         }
     }
 
-    /// A program holds the value. It does nothing: a caller who needs the fact calls it.
-    pub fn held(self)
-        ensures { is_held (cell_val self.entry) ≡ true }
-    {
-        if let Cell::Text(text) = self {
-            utf8(text);
-        }
-    }
-
     /// The type of the value.
     pub fn col_type(self) -> ColType
         ensures { result ≡ type_of (cell_val self.entry) }
@@ -108,13 +109,6 @@ impl Cell<'_> {
             Cell::Text(_) => ColType::Text,
         }
     }
-}
-
-// A text is in UTF-8. It does nothing: a caller who needs the fact calls it.
-fn utf8(text: &str)
-    ensures { is_utf8 text.now ≡ true }
-{
-    let _bytes = text.as_bytes();
 }
 
 /// Numbers by size, texts by their bytes.

@@ -12,7 +12,7 @@ use vx_ports::{Packet, Put};
 // Where a worker stands.
 #[derive(Clone, Copy)]
 enum Phase {
-    /// It draws, takes, turns and puts.
+    /// It draws morsels, takes packets, turns operators and puts packets.
     Running,
     /// It failed and closes its ports with Fault.
     Failing(Fault),
@@ -44,7 +44,9 @@ pub enum Stepped {
     Ended,
 }
 
-/// A worker: the tree of its fragment, and what takes the rows that the tree's top gives.
+/// Calls: `new (step | outcome)* into_sender`.
+///
+/// A worker: the tree of its fragment, and what accepts the rows that the tree's top returns.
 #[derive(Drop)]
 pub struct Worker<O, S> {
     tree: Tree<O>,

@@ -1,5 +1,6 @@
 use Rattle.std.proofs.Common.{rules, arith, ◌≡◌, ◌∙◌, ◌++◌, ◌∷◌, [], sym, subst, map, take, length, List, ℕ, ◌+◌, ◌<◌, Some}
 use Rattle.std.proofs.lemmas.List.{take_more, take_all}
+use Rattle.vx_values.specs.Types.{Fits}
 use Rattle.vx_values.specs.Values.{Row}
 use Rattle.vx_rows.specs.View.{row, RowsView}
 use Rattle.vx_plan_nodes.specs.Plan.{Aggregate, group}
@@ -9,8 +10,16 @@ use Rattle.vx_plan_nodes.specs.Outline.{aggregate_of as op_of}
 use Rattle.vx_match.specs.declared.accumulator.GroupFault.{GroupFault}
 use Rattle.vx_match.specs.Groups.{HasTaken}
 use Rattle.vx_match.specs.GroupFaults.{GroupBlame, EndBlame}
+use Rattle.vx_match.proofs.TypeFacts.{all-at}
 use Rattle.vx_match.proofs.BlameFacts.{told, if-ok, if-err, row-blame, finish-blame}
 use Rattle.vx_match.proofs.grouping.grouped.Goals as goal
+
+pub add-requires-clause-fits : goal.add-requires-clause-fits
+add-requires-clause-fits c =
+    let xs = c.args.rows.now.rows in
+    let n = c.loop-i.i in
+    let near : n < length xs = search rules in
+    subst (λ types. Fits types (row c.args.rows.now n)) (sym c.loop-i.invariant.0) (all-at (Fits c.args.rows.now.types) xs n [] c.types.ensures.fit near)
 
 pub loop-i-preserved : goal.loop-i-preserved
 loop-i-preserved c =

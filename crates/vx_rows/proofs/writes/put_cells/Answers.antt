@@ -27,7 +27,7 @@ loop-j-preserved c =
     record {
       rows = keep_more _ _ _ _ c.loop-j.invariant.rows c.in_ok-put_cell.ensures.rows;
       fills = value_next cell_val cells c.args.at j _ _ _ (cell_val v) c.loop-j-test.true e c.loop-j.invariant.fills c.in_ok-put_cell.ensures.ok;
-      held = held_next cell_val cells j (cell_val v) c.loop-j-test.true e c.loop-j.invariant.held c.held.ensures;
+      held = held_next cell_val cells j (cell_val v) c.loop-j-test.true e c.loop-j.invariant.held c.in_ok-put_cell.ensures.held;
     }
 
 pub returns-clause-held : goal.returns-clause-held

@@ -15,12 +15,12 @@ kind-decides Int Text = (λ e. cc, λ e. cc)
 kind-decides Text Int = (λ e. cc, λ e. cc)
 kind-decides Text Text = (λ e. refl, λ e. refl)
 
-pub returns-then-to-self : goal.returns-then-to-self
-returns-then-to-self c =
+pub returns-then-to-self-clause-ours : goal.returns-then-to-self-clause-ours
+returns-then-to-self-clause-ours c =
     let t = c.if-to-self.true in
     let same = slice_eq-Decides kind-decides c.types.result.now c.as_slice.result.now c.eq.result c.eq.ensures in
     let value = c.as_slice.ensures.value in (
       λ e. is-for (receiver_end c.args.self.now) c.args.self.now.next c.args.packet.now (search rules) (search rules) (search rules)
-          (sym c.types.ensures ∙ same.0 (search rules) ∙ value),
-      λ f. let types = f.types in let s : c.eq.result ≡ true = same.1 (c.types.ensures ∙ types ∙ sym value) in rw s (search rules),
+          (sym c.types.ensures.types ∙ same.0 (search rules) ∙ value),
+      λ f. let types = f.types in let s : c.eq.result ≡ true = same.1 (c.types.ensures.types ∙ types ∙ sym value) in rw s (search rules),
     )

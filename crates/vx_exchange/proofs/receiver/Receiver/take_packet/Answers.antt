@@ -18,4 +18,5 @@ returns-in-Rows-clause-stands c =
 
 pub returns-in-End-Fault-clause-stands : goal.returns-in-End-Fault-clause-stands
 returns-in-End-Fault-clause-stands c =
-    rw c.requires (λ l h. port-broken (receiver_end c.args.self.now) c.args.self.now.next c.args.self.now.ended.items c.args.packet l refl (rw c.in-End-Fault.field-0-is at c.in-End-Fault.ensures) h)
+    let ours : IsFor (receiver_end c.args.self.now) c.args.self.now.next c.args.packet = search rules in
+    rw c.requires (λ l h. port-broken (receiver_end c.args.self.now) c.args.self.now.next c.args.self.now.ended.items c.args.packet l refl ours (rw c.in-End-Fault.field-0-is at c.in-End-Fault.ensures) h)

@@ -27,7 +27,7 @@ invariant_of-self-2 c =
     let l = front_length s.filled s.count s.columns.items c.self.invariant.room in
     let room = c.requires.room in
     let near : s.filled < length s.columns.items = omega (arith, w, t, f, l, room) in
-    now_open s.types.items s.count s.filled _ s.columns.items _ (cell_val c.args.cell) c.self.invariant c.in_ok-put_cell.ensures.rows near c.in_ok-put_cell.ensures.ok c.held.ensures refl
+    now_open s.types.items s.count s.filled _ s.columns.items _ (cell_val c.args.cell) c.self.invariant c.in_ok-put_cell.ensures.rows near c.in_ok-put_cell.ensures.ok c.in_ok-put_cell.ensures.held refl
 
 pub returns-clause-rows : goal.returns-clause-rows
 returns-clause-rows c =

@@ -22,8 +22,8 @@ loop-j-preserved c =
     let same : type_of (cell_val c.cell-cell.result) ≡ c.index.result.now = c.is_of.ensures.0 (let f : c.is_of.result ≡ true = c.if-not-is_of.false in f) in
     record {
       same = take_more_same (map type_of (map val_of values)) types j kind.Int (omega (arith, n, m, near)) there c.loop-j.invariant.same
-          (t ∙ (ap type_of (sym c.cell-cell.ensures) ∙ (same ∙ get_or_read types j c.index.result.now there c.index.ensures kind.Int)));
-      held = held_more (map val_of values) j (val_of v) (omega (arith, n, near)) (sym e) c.loop-j.invariant.held (ap is_held (sym c.cell-cell.ensures) ∙ c.held.ensures);
+          (t ∙ (ap type_of (sym c.cell-cell.ensures.same) ∙ (same ∙ get_or_read types j c.index.result.now there c.index.ensures kind.Int)));
+      held = held_more (map val_of values) j (val_of v) (omega (arith, n, near)) (sym e) c.loop-j.invariant.held c.cell-cell.ensures.held;
     }
 
 pub returns-then-not-is_of : goal.returns-then-not-is_of
@@ -42,7 +42,7 @@ returns-then-not-is_of c =
       λ f. absurd (true≢false (sym f)),
       λ f.
           let yes : c.is_of.result ≡ true =
-          c.is_of.ensures.1 (ap type_of c.cell-cell.ensures ∙ (sym t ∙ (ap (λ l. get_or l j kind.Int) (f.types_are ∙ sym s) ∙ sym (get_or_read types j c.index.result.now there c.index.ensures kind.Int)))) in
+          c.is_of.ensures.1 (ap type_of c.cell-cell.ensures.same ∙ (sym t ∙ (ap (λ l. get_or l j kind.Int) (f.types_are ∙ sym s) ∙ sym (get_or_read types j c.index.result.now there c.index.ensures kind.Int)))) in
           absurd (true≢false (sym yes ∙ no)),
     )
 

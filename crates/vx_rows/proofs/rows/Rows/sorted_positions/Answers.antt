@@ -2,6 +2,7 @@ use Rattle.std.proofs.Common.{◌∙◌, List, ℕ, ap, sym, subst, arith, map, 
 use Rattle.std.proofs.lemmas.List.{take_all}
 use Rattle.vx_rows.specs.View.{row, ArePositions}
 use Rattle.vx_rows.proofs.PlaceFacts.{places-order, rows-order, order-there}
+use Rattle.vx_rows.proofs.Grown.{seen, fit_seen}
 use Rattle.vx_rows.proofs.rows.Rows.sorted_positions.Goals as goal
 
 pub returns-clause-order : goal.returns-clause-order
@@ -10,7 +11,7 @@ returns-clause-order c =
     let ps = c.in_ok-places.places.items in
     c.loop-place.invariant
     ∙ (ap (map (λ p. p.position)) (take_all c.loop-place.place-index c.deref-place-items.result.now (omega (arith, c.loop-place-test.false)) ∙ c.deref-place-items.ensures.value)
-    ∙ (ap (map (λ p. p.position)) c.in_ok-places.ensures ∙ places-order t.types c.args.cols.now t.rows c.fit.ensures))
+    ∙ (ap (map (λ p. p.position)) c.in_ok-places.ensures ∙ places-order t.types c.args.cols.now t.rows (fit_seen (seen c.self.view_is c.self.invariant))))
 
 pub returns-clause-sorted : goal.returns-clause-sorted
 returns-clause-sorted c = ap (map (row c.args.self.now)) (returns-clause-order c) ∙ rows-order c.args.cols.now c.args.self.now.rows

@@ -1,4 +1,5 @@
 use Rattle.std.proofs.Common.{◌∙◌, arith, refl, ◌≡◌, ◌+◌, length}
+use Rattle.std.proofs.lemmas.Str.{is_utf8-from_IsUtf8}
 use Rattle.vx_rows.specs.Texts.{piece}
 use Rattle.vx_rows.proofs.Splice.{count_of, at_piece, kept_texts, on_ok, on_ok_both}
 use Rattle.vx_rows.proofs.texts.Texts.put.Goals as goal
@@ -23,3 +24,6 @@ returns-clause-ok c =
 
 pub returns-clause-ok_long : goal.returns-clause-ok_long
 returns-clause-ok_long c = on_ok c.put_text.result (λ (many : length c.put_text.new.cuts.items ≡ c.args.at + 2). omega (arith, count_of c.put_text.new.bytes.items c.put_text.new.cuts.items _ refl)) c.put_text.ensures.ok_long
+
+pub returns-clause-held : goal.returns-clause-held
+returns-clause-held c = is_utf8-from_IsUtf8 c.args.text.now c.utf8.text

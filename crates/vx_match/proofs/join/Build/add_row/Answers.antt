@@ -6,7 +6,7 @@ use Rattle.vx_values.specs.Values.{Row, pick, row_eq}
 use Rattle.vx_rows.specs.View.{row}
 use Rattle.vx_match.specs.Build.{Built, HasBuilt}
 use Rattle.vx_match.proofs.BuildFacts.{built-known, built-new}
-use Rattle.vx_match.proofs.join.Build.add.Goals as goal
+use Rattle.vx_match.proofs.join.Build.add_row.Goals as goal
 
 -- the positions of each key
 abbrev parts_at : List (Vec ℕ Global) → List (List ℕ)
@@ -33,7 +33,7 @@ returns-then-number-len-clause-built c = λ built.
     (built-known _ _ rs (row rows at) c.in_ok-number.number as_built
     (c.in_ok-number.ensures.number ∙ ap (λ (k : Row). position_or_len (row_eq k) c.self.inside.keys) key_is)
     (omega (arith, within, many))
-    refl
+    refl refl
     (c.in_ok-number.ensures.keys ∙ ap (λ (k : Row). insert_key row_eq c.self.inside.keys k) key_is)
     c.in_ok-number.ensures.known
     (map-set (λ (v : Vec ℕ Global). v.items) c.self.inside.parts.items c.in_ok-number.number c.push.new.self ∙ ap (λ (l : List ℕ). set (parts_at c.self.inside.parts.items) c.in_ok-number.number l) pushed))
@@ -55,7 +55,7 @@ returns-clause-built c = λ built.
     (built-new _ _ rs (row rows at) c.in_ok-number.number as_built
     (c.in_ok-number.ensures.number ∙ ap (λ (k : Row). position_or_len (row_eq k) c.self.inside.keys) key_is)
     (omega (arith, past, many))
-    refl
+    refl refl
     (c.in_ok-number.ensures.keys ∙ ap (λ (k : Row). insert_key row_eq c.self.inside.keys k) key_is)
     (ap parts_at c.in_ok-push-3.ensures.items ∙ (map-append (λ (v : Vec ℕ Global). v.items) c.self.inside.parts.items (c.push-2.new.self ∷ [])
     ∙ ap (λ (l : List ℕ). parts_at c.self.inside.parts.items ++ l ∷ []) (c.in_ok-push-2.ensures.items ∙ (ap (λ (l : List ℕ). l ++ at ∷ []) c.new-first.ensures.items ∙ ap (λ (n : ℕ). n ∷ []) (sym long))))))

@@ -11,10 +11,9 @@ use Rattle.vx_match.specs.Groups.{HasTaken, all_held, advance, Held, Groups}
 use Rattle.vx_match.specs.Shown.{held}
 use Rattle.vx_match.specs.GroupFaults.{StepsBlame, TakeBlame}
 use Rattle.vx_match.proofs.GroupFacts.{took-known, took-new}
-use Rattle.vx_match.proofs.TypeFacts.{all-at}
 use Rattle.vx_match.proofs.ShownFacts.{groups_at, shown-long, shown-group}
 use Rattle.vx_match.proofs.BlameFacts.{told, take-blame}
-use Rattle.vx_match.proofs.grouping.Grouping.add.Goals as goal
+use Rattle.vx_match.proofs.grouping.Grouping.add_row.Goals as goal
 
 pub returns-then-number-len-clause-taken : goal.returns-then-number-len-clause-taken
 returns-then-number-len-clause-taken c = λ xs taken.
@@ -23,7 +22,7 @@ returns-then-number-len-clause-taken c = λ xs taken.
     let vs = c.self.inside.groups.items in
     let as_taken = subst (λ (g : Groups). HasTaken g xs) (sym c.self.view_is) taken in
     let fit : Fits c.self.inside.types.items y =
-    subst (λ types. Fits types y) (c.requires.types ∙ sym (ap (λ (g : Groups). g.types) c.self.view_is)) (all-at (Fits c.args.rows.now.types) c.args.rows.now.rows c.args.i [] c.fit.ensures c.requires.row) in
+    subst (λ types. Fits types y) (sym (ap (λ (g : Groups). g.types) c.self.view_is)) c.requires.fits in
     let key_is : c.read.new.self ≡ pick c.self.inside.by.items y = c.in_ok-read.ensures ∙ ap (λ (b : List ℕ). pick b y) c.deref.ensures.value in
     let long : length (groups_at vs) ≡ length vs = length-map vs (λ v. map held v.items) in
     let test = c.if-number-len.true in
@@ -31,7 +30,7 @@ returns-then-number-len-clause-taken c = λ xs taken.
     took-known _ _ xs y n as_taken
     (c.in_ok-number.ensures.number ∙ ap (λ (k : Row). position_or_len (row_eq k) c.self.inside.keys) key_is)
     (omega (arith, within, long))
-    refl fit refl refl
+    refl fit refl refl refl
     (c.in_ok-number.ensures.keys ∙ ap (λ (k : Row). insert_key row_eq c.self.inside.keys k) key_is)
     c.in_ok-number.ensures.known
     (map-set (λ (v : Vec Accumulator Global). map held v.items) vs n c.advance_group.new.group
@@ -58,7 +57,7 @@ returns-clause-taken c = λ xs taken.
     let vs = c.self.inside.groups.items in
     let as_taken = subst (λ (g : Groups). HasTaken g xs) (sym c.self.view_is) taken in
     let fit : Fits c.self.inside.types.items y =
-    subst (λ types. Fits types y) (c.requires.types ∙ sym (ap (λ (g : Groups). g.types) c.self.view_is)) (all-at (Fits c.args.rows.now.types) c.args.rows.now.rows c.args.i [] c.fit.ensures c.requires.row) in
+    subst (λ types. Fits types y) (sym (ap (λ (g : Groups). g.types) c.self.view_is)) c.requires.fits in
     let key_is : c.read.new.self ≡ pick c.self.inside.by.items y = c.in_ok-read.ensures ∙ ap (λ (b : List ℕ). pick b y) c.deref.ensures.value in
     let long : length (groups_at vs) ≡ length vs = length-map vs (λ v. map held v.items) in
     let test = c.if-number-len.false in
@@ -66,7 +65,7 @@ returns-clause-taken c = λ xs taken.
     took-new _ _ xs y n as_taken
     (c.in_ok-number.ensures.number ∙ ap (λ (k : Row). position_or_len (row_eq k) c.self.inside.keys) key_is)
     (omega (arith, past, long))
-    refl fit refl refl
+    refl fit refl refl refl
     (c.in_ok-number.ensures.keys ∙ ap (λ (k : Row). insert_key row_eq c.self.inside.keys k) key_is)
     (ap groups_at c.in_ok-push.ensures.items ∙ (map-append (λ (v : Vec Accumulator Global). map held v.items) vs (c.in_ok-group.group ∷ [])
     ∙ ap (λ (h : List Held). groups_at vs ++ h ∷ []) (c.in_ok-group.ensures ∙ ap (λ as'. all_held (map op_of as') (y ∷ [])) c.deref-2.ensures.value)))
