@@ -1,20 +1,30 @@
 -- The tree of a fragment, by the node at its top.
-use Rattle.std.proofs.Common.{Box, Global, ◌≡◌, ℕ, suc, ◌+◌, ◌≤◌, ◌==◌, List, refl, sym, ap, ◌∙◌, arith}
+use Rattle.std.proofs.Common.{Box, Global, ◌≡◌, ℕ, suc, ◌+◌, ◌≤◌, ◌<◌, ◌==◌, ◌&&◌, true, Bool, List, [], ◌∷◌, refl, sym, ap, ◌∙◌, subst, arith, eqb-true, true≢false}
 use Rattle.vx_values.specs.declared.value.ColType.{ColType}
-use Rattle.vx_plan_nodes.specs.Plan.{Plan, Claim, Condition, unary, select}
+use Rattle.vx_plan_nodes.specs.Plan.{Plan, Claim, Condition, Size, Unary, Binary, ExchangeKind, scan, unary, binary, exchange, select, size}
 use Rattle.vx_plan_nodes.specs.Numbering.{is_numbered, nodes}
-use Rattle.vx_laws.proofs.Bags.{and-right}
-use Rattle.vx_ops.specs.Ledger.{one_op}
+use Rattle.vx_plan_nodes.specs.Streams.{workers}
+use Rattle.vx_plan_nodes.specs.Types.{types_of}
+use Rattle.vx_check_rules.specs.Checked.{relations}
+use Rattle.vx_laws.proofs.Bags.{and-left, and-right}
+use Rattle.vx_ops.specs.Ledger.{one_op, two_op, receive}
 use Rattle.vx_ops.specs.Turn.{Shape, fresh_ledger}
+use Rattle.vx_ops.specs.Scan.{ScanStands, scan_types}
+use Rattle.vx_ops.specs.declared.scan.Scan.{Scan}
 use Rattle.vx_ops.specs.Select.{Select, SelectStands, select_op, select_types}
-use Rattle.vx_worker.specs.Fragment.{above}
-use Rattle.vx_worker.specs.Operator.{operator_op}
+use Rattle.vx_exchange.specs.Receiver.{ReceiverStands, receiver_op, receiver_types, unmerged_end}
+use Rattle.vx_exchange.specs.declared.receiver.Receiver.{Receiver}
+use Rattle.vx_worker.specs.Fragment.{alone, above, both, fragment}
+use Rattle.vx_worker.specs.Operator.{operator_op, operator_types}
 use Rattle.vx_worker.specs.Trees.{shape as tree_shape}
 use Rattle.vx_worker.specs.Wishes.{Numbered}
 use Rattle.vx_worker.specs.declared.operator.Operator.{Operator}
 use Rattle.vx_worker.specs.declared.operator.Operator.TheVariants as operator
-use Rattle.vx_worker.specs.declared.tree.Tree.{Tree, One, Leaf, One', Two'}
-use Rattle.vx_exec.specs.Crew.{IsTreeOf}
+use Rattle.vx_worker.specs.declared.tree.Tree.{Tree, One, Two, Leaf, One', Two'}
+use Rattle.vx_setup.specs.Runnable.{can_run, can_run_kind, can_merge}
+use Rattle.vx_exec.specs.Sizes.{group_at}
+use Rattle.vx_exec.specs.Crew.{IsOperatorOf, IsTreeOf}
+use Rattle.vx_exec.specs.Job.{setting_of}
 use Rattle.vx_exec.specs.declared.job.Job.{Job}
 
 -- numbers of a range are numbers of a wider one
@@ -23,14 +33,97 @@ widened (Leaf k o) low high lower higher a b h = let l = h.0 in let r = h.1 in (
 widened (One' o p c) low high lower higher a b h = widened c low high lower higher a b h
 widened (Two' o p a q b) low high lower higher l r h = (h.0, widened a low h.0 lower h.0 l (omega arith) h.1, widened b h.0 high h.0 higher (omega arith) r h.2)
 
-pub select-tree : (j : Job) (place n : ℕ) (c : Claim) (cs : List Condition) (p : Plan) (s : Select) (b : Box (Tree Operator) Global) (own types : List ColType)
-    → IsTreeOf j place p b.value types → SelectStands s fresh_ledger → select_op s ≡ one_op n (select cs) → select_types s ≡ record { left = own; right = own; out = own } → own ≡ types
-    → IsTreeOf j place (unary n c (select cs) p) (One (operator.Select s) b) types
-select-tree j place n c cs p s b own types h stands op shape e = record {
-  shape_is = λ hash. ap (λ x. above x (tree_shape operator_op b.value)) op ∙ ap (λ x. above (one_op n (select cs)) x) (h.shape_is hash);
-  types_are = h.types_are;
+-- a leaf that has the number of its node
+leaf-numbered : (n i : ℕ) (count : ℕ) → 1 ≤ count → n ≡ i → (i ≤ n) × (n < i + count)
+leaf-numbered n i count some e = (omega (arith, e), omega (arith, e, some))
+
+pub scan-tree : (j : Job) (place n : ℕ) (c : Claim) (r : ℕ) (shared : Bool) (z : Size) (o : Operator)
+    → IsOperatorOf j place (scan n c r shared z) o → IsTreeOf j place (scan n c r shared z) (Leaf n o)
+scan-tree j place n c r shared z o h = record {
+  shape_is = λ hash. ap (λ x. alone n x) (h.op_is hash);
+  gives = h.gives;
+  stands = (fresh_ledger, h.stands, record { scanned = refl; came = refl }, refl);
+  numbered = λ i k. leaf-numbered n i 1 (omega arith) (eqb-true n i k);
+  typed = λ leaves fit. h.takes ∙ fit;
+}
+
+pub exchange-tree : (j : Job) (place n : ℕ) (c : Claim) (kind : ExchangeKind) (merge : List ℕ) (p : Plan) (o : Operator)
+    → IsOperatorOf j place (exchange n c kind merge p) o → IsTreeOf j place (exchange n c kind merge p) (Leaf n o)
+exchange-tree j place n c kind merge p o h = record {
+  shape_is = λ hash. ap (λ x. alone n x) (h.op_is hash);
+  gives = h.gives;
+  stands = (fresh_ledger, h.stands, record { scanned = refl; came = refl }, refl);
+  numbered = λ i k. leaf-numbered n i (suc (nodes p)) (omega arith) (eqb-true n i (and-left (n == i) (is_numbered (suc i) p) k));
+  typed = λ leaves fit. h.takes ∙ fit.0;
+}
+
+pub unary-tree : (j : Job) (place n : ℕ) (c : Claim) (op : Unary) (p : Plan) (o : Operator) (b : Box (Tree Operator) Global)
+    → IsOperatorOf j place (unary n c op p) o → IsTreeOf j place p b.value → IsTreeOf j place (unary n c op p) (One o b)
+unary-tree j place n c op p o b h below = record {
+  shape_is = λ hash. ap (λ x. above x (tree_shape operator_op b.value)) (h.op_is hash) ∙ ap (λ x. above (one_op n op) x) (below.shape_is hash);
+  gives = h.gives;
+  stands = (fresh_ledger, h.stands, below.stands, refl);
+  numbered = λ i k. widened b.value (suc i) (suc i + nodes p) i (i + suc (nodes p)) (omega arith) (omega arith) (below.numbered (suc i) (and-right (n == i) (is_numbered (suc i) p) k));
+  typed = λ leaves fit. (h.takes ∙ sym below.gives, below.typed leaves fit);
+}
+
+pub binary-tree : (j : Job) (place n : ℕ) (c : Claim) (op : Binary) (p q : Plan) (o : Operator) (a b : Box (Tree Operator) Global)
+    → IsOperatorOf j place (binary n c op p q) o → IsTreeOf j place p a.value → IsTreeOf j place q b.value → IsTreeOf j place (binary n c op p q) (Two o a b)
+binary-tree j place n c op p q o a b h left right = record {
+  shape_is = λ hash.
+      ap (λ x. both x (tree_shape operator_op a.value) (tree_shape operator_op b.value)) (h.op_is hash)
+      ∙ ap (λ x. both (two_op n op) x (tree_shape operator_op b.value)) (left.shape_is hash)
+      ∙ ap (λ x. both (two_op n op) (fragment (setting_of hash j) place p) x) (right.shape_is hash);
+  gives = h.gives;
+  stands = (fresh_ledger, h.stands, left.stands, right.stands, refl);
+  numbered = λ i k.
+      let inputs = and-right (n == i) (is_numbered (suc i) p && is_numbered (suc i + nodes p) q) k in (
+        suc i + nodes p,
+        widened a.value (suc i) (suc i + nodes p) i (suc i + nodes p) (omega arith) (omega arith) (left.numbered (suc i) (and-left (is_numbered (suc i) p) (is_numbered (suc i + nodes p) q) inputs)),
+        widened b.value (suc i + nodes p) (suc i + nodes p + nodes q) (suc i + nodes p) (i + suc (nodes p + nodes q)) (omega arith) (omega arith)
+            (right.numbered (suc i + nodes p) (and-right (is_numbered (suc i) p) (is_numbered (suc i + nodes p) q) inputs)),
+      );
+  typed = λ leaves fit. (h.takes.0 ∙ sym left.gives, h.takes.1 ∙ sym right.gives, left.typed leaves fit.0, right.typed leaves fit.1);
+}
+
+pub select-operator : (j : Job) (place n : ℕ) (c : Claim) (cs : List Condition) (p : Plan) (s : Select) (types : List ColType)
+    → SelectStands s fresh_ledger → select_op s ≡ one_op n (select cs) → select_types s ≡ record { left = types; right = types; out = types }
+    → types ≡ types_of (relations j.plan.now) p → IsOperatorOf j place (unary n c (select cs) p) (operator.Select s)
+select-operator j place n c cs p s types stands op shape e = record {
+  op_is = λ hash. op;
+  stands = stands;
+  takes = ap (λ (x : Shape). x.left) shape ∙ e;
   gives = ap (λ (x : Shape). x.out) shape ∙ e;
-  stands = (fresh_ledger, stands, h.stands, refl);
-  numbered = λ i k. widened b.value (suc i) (suc i + nodes p) i (i + suc (nodes p)) (omega arith) (omega arith) (h.numbered (suc i) (and-right (n == i) (is_numbered (suc i) p) k));
-  typed = λ leaves fit. (ap (λ (x : Shape). x.left) shape ∙ e ∙ sym h.gives, h.typed leaves fit);
+}
+
+pub scan-operator : (j : Job) (place n : ℕ) (c : Claim) (r : ℕ) (shared : Bool) (z : Size) (s : Scan) (types : List ColType)
+    → ScanStands s fresh_ledger → scan_types s ≡ record { left = types; right = types; out = types }
+    → types ≡ types_of (relations j.plan.now) (scan n c r shared z) → IsOperatorOf j place (scan n c r shared z) (operator.Scan s)
+scan-operator j place n c r shared z s types stands shape e = record {
+  op_is = λ hash. refl;
+  stands = stands;
+  takes = ap (λ (x : Shape). x.left) shape ∙ e;
+  gives = ap (λ (x : Shape). x.out) shape ∙ e;
+}
+
+no-columns : (columns : List ℕ) → can_merge columns ≡ true → columns ≡ []
+no-columns [] h = refl
+no-columns (x ∷ xs) h = absurd (true≢false (sym h))
+
+-- an exchange that workers can run does not merge
+merges-not : (n : ℕ) (c : Claim) (kind : ExchangeKind) (merge : List ℕ) (p : Plan) → can_run (exchange n c kind merge p) ≡ true → merge ≡ []
+merges-not n c kind merge p runs = no-columns merge (and-left (can_merge merge) (can_run p) (and-right (can_run_kind kind) (can_merge merge && can_run p) runs))
+
+-- a consumer end at an exchange that workers can run
+pub receiver-operator : (j : Job) (place n : ℕ) (c : Claim) (kind : ExchangeKind) (merge : List ℕ) (p : Plan) (s : Receiver) (types : List ColType) (producers : ℕ)
+    → can_run (exchange n c kind merge p) ≡ true → ReceiverStands s fresh_ledger → receiver_op s ≡ receive (unmerged_end n place producers types)
+    → receiver_types s ≡ record { left = types; right = types; out = types } → producers ≡ workers (group_at j.groups.items) (size p)
+    → types ≡ types_of (relations j.plan.now) p → IsOperatorOf j place (exchange n c kind merge p) (operator.Receiver s)
+receiver-operator j place n c kind merge p s types producers runs stands op shape many e = record {
+  op_is = λ hash.
+      op ∙ ap (λ z. receive (unmerged_end n place z types)) many ∙ ap (λ z. receive (unmerged_end n place (workers (group_at j.groups.items) (size p)) z)) e
+      ∙ ap (λ z. receive (record { exchange = n; place = place; producers = workers (group_at j.groups.items) (size p); types = types_of (relations j.plan.now) p; merge = z })) (sym (merges-not n c kind merge p runs));
+  stands = stands;
+  takes = ap (λ (x : Shape). x.left) shape ∙ e;
+  gives = ap (λ (x : Shape). x.out) shape ∙ e;
 }

@@ -3,7 +3,7 @@ use Rattle.std.proofs.Common.{◌≡◌, ℕ, Bool, List, [], ◌∷◌, ◌++�
 use Rattle.std.specs.List.{All}
 use Rattle.std.proofs.lemmas.List.Elements.{All-map}
 use Rattle.vx_values.specs.Values.{Row}
-use Rattle.vx_plan_nodes.specs.Plan.{Plan, Claim, Unary, ExchangeKind, Size, scan, unary, exchange, size, gather}
+use Rattle.vx_plan_nodes.specs.Plan.{Plan, Claim, Unary, Binary, ExchangeKind, Size, scan, unary, binary, exchange, size}
 use Rattle.vx_plan_nodes.specs.Numbering.{is_numbered}
 use Rattle.vx_plan_nodes.specs.Streams.{workers}
 use Rattle.vx_plan_nodes.specs.TypedView.{plan}
@@ -17,20 +17,18 @@ use Rattle.vx_worker.specs.Destination.{DestinationStands, task_of, post_of, bou
 use Rattle.vx_worker.specs.declared.operator.Operator.{Operator}
 use Rattle.vx_worker.specs.declared.destination.Destination.{Destination}
 use Rattle.vx_worker.specs.declared.worker.Worker.{Worker}
-use Rattle.vx_steps.specs.Additions.{Made, AddsTeam, AddsBelow}
+use Rattle.vx_steps.specs.Additions.{Made, AddsProducers, AddsBelow}
 use Rattle.vx_steps.specs.Crews.{stations_of, duty_of, root_duty}
 use Rattle.vx_steps.specs.Queues.{AreEmpty}
 use Rattle.vx_steps.specs.Ready.{Ready}
 use Rattle.vx_steps.specs.declared.station.Station.{Station}
 use Rattle.vx_steps.specs.declared.station.Station.TheVariants.{Inner, Exchange}
-use Rattle.vx_steps.proofs.Adding.{adds-scan, adds-unary, adds-exchange, crew-made}
-use Rattle.vx_setup.specs.Runnable.{can_run}
+use Rattle.vx_steps.proofs.Adding.{adds-scan, adds-unary, adds-binary, adds-exchange, crew-made}
 use Rattle.vx_exec.specs.Job.{setting_of}
 use Rattle.vx_exec.specs.Crew.{duty, IsNew}
 use Rattle.vx_exec.specs.Making.{made_of, board_of}
 use Rattle.vx_exec.specs.declared.crew.Crew.{Crew}
 use Rattle.vx_exec.specs.declared.job.Job.{Job}
-use Rattle.vx_exec.proofs.CanRun.{runs-gather}
 
 pub grows-scan : (S : Setting) (n : ℕ) (c : Claim) (r : ℕ) (shared : Bool) (z : Size) (top : ℕ) (old new : Made) (s : Station)
     → new.stations ≡ old.stations ++ s ∷ [] → stations_of S (scan n c r shared z) top (length old.sends) ≡ s ∷ []
@@ -41,13 +39,17 @@ pub grows-unary : (S : Setting) (n : ℕ) (c : Claim) (op : Unary) (p : Plan) (t
     → stations ≡ old.stations ++ Inner ∷ [] → AddsBelow S p top (record old { stations = stations }) new → AddsBelow S (unary n c op p) top old new
 grows-unary S n c op p top old new stations e h = adds-unary S n c op p top old new (subst (λ z. AddsBelow S p top (record old { stations = z }) new) e h)
 
+pub grows-binary : (S : Setting) (n : ℕ) (c : Claim) (op : Binary) (p q : Plan) (top : ℕ) (old mid new : Made) (stations : List Station)
+    → stations ≡ old.stations ++ Inner ∷ [] → AddsBelow S p top (record old { stations = stations }) mid → AddsBelow S q top mid new → AddsBelow S (binary n c op p q) top old new
+grows-binary S n c op p q top old mid new stations e left right =
+    adds-binary S n c op p q top old mid new (subst (λ z. AddsBelow S p top (record old { stations = z }) mid) e left) right
+
 pub grows-exchange : (S : Setting) (n : ℕ) (c : Claim) (k : ExchangeKind) (merge : List ℕ) (p : Plan) (top next : ℕ) (old mid new : Made) (stations : List Station)
-    → can_run (exchange n c k merge p) ≡ true → next ≡ length old.sends → stations ≡ old.stations ++ Exchange next top ∷ []
-    → AddsTeam S n gather p (workers S.sizes (size p)) (record old { stations = stations }) mid → AddsBelow S p next mid new → AddsBelow S (exchange n c k merge p) top old new
-grows-exchange S n c k merge p top next old mid new stations runs at e team below =
+    → next ≡ length old.sends → stations ≡ old.stations ++ Exchange next top ∷ []
+    → AddsProducers S n k p (workers S.sizes (size p)) (record old { stations = stations }) mid → AddsBelow S p next mid new → AddsBelow S (exchange n c k merge p) top old new
+grows-exchange S n c k merge p top next old mid new stations at e producers below =
     adds-exchange S n c k merge p top old mid new
-    (subst (λ z. AddsTeam S n z p (workers S.sizes (size p)) (record old { stations = old.stations ++ Exchange (length old.sends) top ∷ [] }) mid) (sym (runs-gather n c k merge p runs).0)
-    (subst (λ z. AddsTeam S n gather p (workers S.sizes (size p)) (record old { stations = z }) mid) (e ∙ ap (λ z. old.stations ++ Exchange z top ∷ []) at) team))
+    (subst (λ z. AddsProducers S n k p (workers S.sizes (size p)) (record old { stations = z }) mid) (e ∙ ap (λ z. old.stations ++ Exchange z top ∷ []) at) producers)
     (subst (λ z. AddsBelow S p z mid new) at below)
 
 duties-of-roles : (ws : List (Worker Operator Destination)) → map duty_of (map (role_of operator_op post_of bounds_of) ws) ≡ map duty ws

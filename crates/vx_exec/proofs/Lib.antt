@@ -1,5 +1,5 @@
 pub mod Leaves
-pub mod CanRun
+pub mod Parts
 pub mod Fragments
 pub mod Starting
 pub mod Posts

@@ -1,15 +1,18 @@
 -- Trees and workers of a job, before any step.
 use Rattle.std.specs.Prelude.{ℕ, ◌≡◌, ◌+◌, true, List}
+use Rattle.vx_relations.specs.Relation.{Relation}
 use Rattle.vx_values.specs.Values.{Row}
 use Rattle.vx_values.specs.declared.value.ColType.{ColType}
-use Rattle.vx_plan_nodes.specs.Plan.{Plan}
+use Rattle.vx_plan_nodes.specs.Plan.{Plan, scan, unary, binary, exchange, size}
+use Rattle.vx_plan_nodes.specs.Streams.{workers}
 use Rattle.vx_plan_nodes.specs.Routes.{Router}
 use Rattle.vx_plan_nodes.specs.Types.{types_of}
 use Rattle.vx_plan_nodes.specs.Numbering.{is_numbered, nodes}
 use Rattle.vx_check_rules.specs.Checked.{relations}
-use Rattle.vx_ops.specs.Ledger.{fresh}
+use Rattle.vx_ops.specs.Ledger.{fresh, Op, scan_op, one_op, two_op, receive}
+use Rattle.vx_ops.specs.Turn.{Shape, fresh_ledger}
 use Rattle.vx_exchange.specs.Sending.{RoutesAs}
-use Rattle.vx_worker.specs.Fragment.{fragment, goes}
+use Rattle.vx_worker.specs.Fragment.{Setting, fragment, goes}
 use Rattle.vx_worker.specs.Trace.{empty_trace}
 use Rattle.vx_worker.specs.Trees.{shape, TreeStands}
 use Rattle.vx_worker.specs.Wishes.{fresh_reads, tree_types, Numbered, TreeTyped}
@@ -25,11 +28,32 @@ use Rattle.vx_exec.specs.Job.{setting_of, types_at}
 use Rattle.vx_exec.specs.LeafTypes.{LeavesFit}
 use Rattle.vx_exec.specs.declared.job.Job.{Job}
 
--- the operators of the plan's top fragment for the worker at a place, to which nothing came, and the types of the rows that they give
-pub record IsTreeOf (j : Job) (place : ℕ) (p : Plan) (tree : Tree Operator) (types : List ColType) : Type 0 where
+-- what the operator at the top of a plan does, for the worker at a place
+abbrev pub op_at : Setting → (place : ℕ) → Plan → Op
+op_at S place (scan n c r m z) = scan_op
+op_at S place (unary n c op p) = one_op n op
+op_at S place (binary n c op p q) = two_op n op
+op_at S place (exchange n c k merge p) =
+    receive (record { exchange = n; place = place; producers = workers S.sizes (size p); types = types_of S.catalog p; merge = merge })
+
+-- it takes rows of its inputs' types; what has no input takes rows of the types that it gives
+abbrev pub TakesAt : (ℕ → Relation) → Plan → Shape → Type 0
+TakesAt catalog (scan n c r m z) s = s.left ≡ (catalog r).types
+TakesAt catalog (unary n c op p) s = s.left ≡ types_of catalog p
+TakesAt catalog (binary n c op p q) s = (s.left ≡ types_of catalog p) × (s.right ≡ types_of catalog q)
+TakesAt catalog (exchange n c k merge p) s = s.left ≡ types_of catalog p
+
+-- the operator at the top of a plan for the worker at a place, to which nothing came
+pub record IsOperatorOf (j : Job) (place : ℕ) (p : Plan) (o : Operator) : Type 0 where
+  pub op_is : (hash : List ℕ → Row → ℕ → ℕ) → operator_op o ≡ op_at (setting_of hash j) place p
+  pub stands : OperatorStands o fresh_ledger
+  pub takes : TakesAt (relations j.plan.now) p (operator_types o)
+  pub gives : (operator_types o).out ≡ types_of (relations j.plan.now) p
+
+-- the operators of the plan's top fragment for the worker at a place, to which nothing came
+pub record IsTreeOf (j : Job) (place : ℕ) (p : Plan) (tree : Tree Operator) : Type 0 where
   pub shape_is : (hash : List ℕ → Row → ℕ → ℕ) → shape operator_op tree ≡ fragment (setting_of hash j) place p
-  pub types_are : types ≡ types_of (relations j.plan.now) p
-  pub gives : tree_types operator_types tree ≡ types
+  pub gives : tree_types operator_types tree ≡ types_of (relations j.plan.now) p
   pub stands : TreeStands OperatorStands tree fresh_reads fresh
   pub numbered : (i : ℕ) → is_numbered i p ≡ true → Numbered i (i + nodes p) tree
   pub typed : (leaves : ℕ → List ColType) → LeavesFit leaves (relations j.plan.now) p → TreeTyped operator_types leaves tree

@@ -1,6 +1,7 @@
 pub mod Sizes
 pub mod LeafTypes
 pub mod Job
+pub mod Part
 pub mod Setup
 pub mod Inputs
 pub mod Crew

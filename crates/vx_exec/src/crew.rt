@@ -3,32 +3,29 @@
 ghost use Rattle.std.specs.Prelude.{◌≡◌, ◌<◌, ◌∷◌, ◌++◌, [], ℕ, true, List, map, length, IfOk, OnOk};
 ghost use Rattle.std.specs.List.{All};
 ghost use Rattle.vx_values.specs.Values.{Row};
-ghost use Rattle.vx_plan_nodes.specs.Numbering.{is_numbered};
-ghost use Rattle.vx_plan_nodes.specs.Outline.{plan_of, size_of};
-ghost use Rattle.vx_plan_nodes.specs.Plan.{scan as scan_at, gather, size, Claim};
+ghost use Rattle.vx_plan_nodes.specs.Outline.{outline_of, plan_of, kind_of, size_of};
+ghost use Rattle.vx_plan_nodes.specs.Plan.{scan as scan_at, size, Claim};
 ghost use Rattle.vx_plan_nodes.specs.Streams.{workers};
-ghost use Rattle.vx_plan_nodes.specs.Typed.{typed};
 ghost use Rattle.vx_plan_nodes.specs.TypedView.{scope, plan};
-ghost use Rattle.vx_check_rules.specs.Checked.{relations};
 ghost use Rattle.vx_ports.specs.LinkView.{LinkView};
 ghost use Rattle.vx_worker.specs.Operator.{OperatorStands, operator_op, operator_types};
 ghost use Rattle.vx_worker.specs.Destination.{DestinationStands, task_of, post_of, bounds_of, is_open, has_closed};
 ghost use Rattle.vx_worker.specs.Trace.{scan_morsels};
 ghost use Rattle.vx_worker.specs.Worker.{IsReady};
-ghost use Rattle.vx_steps.specs.Additions.{AddsTeam, AddsBelow};
+ghost use Rattle.vx_steps.specs.Additions.{AddsProducers, AddsBelow};
 ghost use Rattle.vx_steps.specs.Crews.{stations_of, producer_duty, root_duty};
 ghost use Rattle.vx_steps.specs.Queues.{AreEmpty};
 ghost use Rattle.vx_steps.specs.Ready.{Ready};
 ghost use Rattle.vx_exec.specs.Sizes.{group_at};
-ghost use Rattle.vx_setup.specs.Runnable.{can_run};
-ghost use Rattle.vx_exec.specs.Job.{setting_of, types_at};
-ghost use Rattle.vx_exec.specs.LeafTypes.{LeavesFit};
+ghost use Rattle.vx_setup.specs.Runnable.{can_run, can_run_kind};
+ghost use Rattle.vx_exec.specs.Job.{setting_of};
+ghost use Rattle.vx_exec.specs.Part.{IsPartOf};
 ghost use Rattle.vx_exec.specs.Crew.{duty, IsNew};
 
 use crate::job::Job;
 use crate::worker::{producer, root_worker};
 use std::alloc::{AllocError, Global};
-use vx_plan_nodes::{ScanNode, TypedNode};
+use vx_plan_nodes::{ExchangeKind, ScanNode, TypedNode};
 use vx_steps::{Links, Ports, SharedScan, Station, WholeScan};
 use vx_worker::{Destination, Operator, Worker};
 
@@ -65,52 +62,50 @@ fn station_of(
 impl Crew {
     ghost use Rattle.vx_exec.specs.Making.{made_of, board_of};
 
-    // Adds the producer at a place of an exchange over a node.
+    // Adds the producer at a place of an exchange of this kind over a node.
     fn add_producer(
         &mut self,
         alloc: Global,
         job: &Job<'_>,
         exchange: u32,
+        kind: &ExchangeKind,
         node: &TypedNode,
         place: u32,
     ) -> Result<(), AllocError>
-        requires runs { can_run (plan_of node.now) ≡ true }
-        requires typed { typed (scope job.now.plan.now) (plan_of node.now) ≡ true }
-        requires numbered { (i : ℕ) × (is_numbered i (plan_of node.now) ≡ true) }
-        requires leaves { LeavesFit (types_at job.now) (relations job.now.plan.now) (plan_of node.now) }
+        requires kind { can_run_kind (kind_of kind.now) ≡ true }
+        requires part { IsPartOf job.now (outline_of node.now) }
         ensures stations { OnOk result (self.new.stations ≡ self.old.stations) }
         ensures sends { OnOk result (self.new.sends.items ≡ self.old.sends.items ++ exchange ∷ []) }
         ensures duties { OnOk result ((hash : List ℕ → Row → ℕ → ℕ)
-            → map duty self.new.workers.items ≡ map duty self.old.workers.items ++ producer_duty (setting_of hash job.now) exchange gather (plan_of node.now) place ∷ []) }
+            → map duty self.new.workers.items ≡ map duty self.old.workers.items ++ producer_duty (setting_of hash job.now) exchange (kind_of kind.now) (plan_of node.now) place ∷ []) }
         ensures queues { OnOk result ((lines : List LinkView) × (self.new.ports.items ≡ self.old.ports.items ++ lines ∷ []) × AreEmpty lines) }
         ensures new { OnOk result (All (IsNew job.now) self.old.workers.items → All (IsNew job.now) self.new.workers.items) }
     {
-        let worker = producer(alloc, job, exchange, node, place)?;
-        let ports = Ports::new(alloc, 1)?;
+        let worker = producer(alloc, job, exchange, kind, node, place)?;
+        let ports = Ports::new(alloc, job.workers(kind.target()) as usize)?;
         self.workers.push(worker)?;
         self.sends.push(exchange)?;
         self.ports.push(ports)?;
         Ok(())
     }
 
-    // Adds all producers of an exchange over a node.
-    fn add_team(
+    // Adds all producers of an exchange of this kind over a node.
+    fn add_producers(
         &mut self,
         alloc: Global,
         job: &Job<'_>,
         exchange: u32,
+        kind: &ExchangeKind,
         node: &TypedNode,
     ) -> Result<(), AllocError>
-        requires runs { can_run (plan_of node.now) ≡ true }
-        requires typed { typed (scope job.now.plan.now) (plan_of node.now) ≡ true }
-        requires numbered { (i : ℕ) × (is_numbered i (plan_of node.now) ≡ true) }
-        requires leaves { LeavesFit (types_at job.now) (relations job.now.plan.now) (plan_of node.now) }
+        requires kind { can_run_kind (kind_of kind.now) ≡ true }
+        requires part { IsPartOf job.now (outline_of node.now) }
         ensures added { OnOk result ((hash : List ℕ → Row → ℕ → ℕ)
-            → AddsTeam (setting_of hash job.now) exchange gather (plan_of node.now) (workers (group_at job.now.groups.items) (size (plan_of node.now))) (made_of self.old) (made_of self.new)) }
+            → AddsProducers (setting_of hash job.now) exchange (kind_of kind.now) (plan_of node.now) (workers (group_at job.now.groups.items) (size (plan_of node.now))) (made_of self.old) (made_of self.new)) }
         ensures new { OnOk result (All (IsNew job.now) self.old.workers.items → All (IsNew job.now) self.new.workers.items) }
     {
         for place in 0..job.workers(node.size()) {
-            self.add_producer(alloc, job, exchange, node, place)?;
+            self.add_producer(alloc, job, exchange, kind, node, place)?;
         }
         Ok(())
     }
@@ -123,10 +118,7 @@ impl Crew {
         node: &TypedNode,
         top: usize,
     ) -> Result<(), AllocError>
-        requires runs { can_run (plan_of node.now) ≡ true }
-        requires typed { typed (scope job.now.plan.now) (plan_of node.now) ≡ true }
-        requires numbered { (i : ℕ) × (is_numbered i (plan_of node.now) ≡ true) }
-        requires leaves { LeavesFit (types_at job.now) (relations job.now.plan.now) (plan_of node.now) }
+        requires { IsPartOf job.now (outline_of node.now) }
         ensures added { OnOk result ((hash : List ℕ → Row → ℕ → ℕ) → AddsBelow (setting_of hash job.now) (plan_of node.now) top (made_of self.old) (made_of self.new)) }
         ensures new { OnOk result (All (IsNew job.now) self.old.workers.items → All (IsNew job.now) self.new.workers.items) }
     {
@@ -141,14 +133,19 @@ impl Crew {
                 self.add_below(alloc, job, input, top)?;
                 return Ok(());
             }
-            TypedNode::Binary(_, _, _, _) => unreachable!(),
-            TypedNode::Exchange(head, _, input) => {
+            TypedNode::Binary(_, _, left, right) => {
+                self.stations.push(Station::Inner)?;
+                self.add_below(alloc, job, left, top)?;
+                self.add_below(alloc, job, right, top)?;
+                return Ok(());
+            }
+            TypedNode::Exchange(head, exchange, input) => {
                 let next = self.sends.len();
                 self.stations.push(Station::Exchange {
                     below: next,
                     above: top,
                 })?;
-                self.add_team(alloc, job, head.number, input)?;
+                self.add_producers(alloc, job, head.number, &exchange.kind, input)?;
                 self.add_below(alloc, job, input, next)?;
                 return Ok(());
             }
@@ -157,10 +154,7 @@ impl Crew {
 
     // The root's worker alone.
     fn at_root(alloc: Global, job: &Job<'_>, node: &TypedNode) -> Result<Crew, AllocError>
-        requires runs { can_run (plan_of node.now) ≡ true }
-        requires typed { typed (scope job.now.plan.now) (plan_of node.now) ≡ true }
-        requires numbered { is_numbered 0 (plan_of node.now) ≡ true }
-        requires leaves { LeavesFit (types_at job.now) (relations job.now.plan.now) (plan_of node.now) }
+        requires { IsPartOf job.now (outline_of node.now) }
         ensures stations { IfOk result (λ c. c.stations.items ≡ []) }
         ensures sends { IfOk result (λ c. c.sends.items ≡ 0 ∷ []) }
         ensures duties { IfOk result (λ c. (hash : List ℕ → Row → ℕ → ℕ) → map duty c.workers.items ≡ root_duty (setting_of hash job.now) (plan_of node.now) ∷ []) }

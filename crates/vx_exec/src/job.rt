@@ -141,14 +141,6 @@ impl<'j> Job<'j> {
         self.packet
     }
 
-    /// The types of a relation's rows.
-    pub fn relation_types(&self, relation: usize) -> &[ColType]
-        requires { relation < length (scope self.now.plan.now).catalog }
-        ensures { result.now ≡ (relations self.now.plan.now relation).types }
-    {
-        self.plan.catalog().get(relation).types()
-    }
-
     /// How many morsels a relation has.
     pub fn morsel_count(&self, relation: usize) -> u64
         requires { relation < length (scope self.now.plan.now).catalog }

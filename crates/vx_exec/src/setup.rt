@@ -31,15 +31,15 @@ const MOST_SLACK: u32 = 1024;
 // The most workers of a plan.
 const MOST_WORKERS: u32 = 256;
 
-// A fault, if a test failed.
-fn tested(is_right: bool, fault: RunFault) -> Result<(), RunFault>
+// This fault, if a test failed.
+fn fail_unless(is_right: bool, fault: RunFault) -> Result<(), RunFault>
     ensures { Gives (λ _. tt) result (tested is_right (refusal_of fault)) }
 {
     if is_right { Ok(()) } else { Err(fault) }
 }
 
 // Each name has an entry.
-fn missing_tested(alloc: Global, setup: &Setup, names: &[String]) -> Result<(), RunFault>
+fn test_missing(alloc: Global, setup: &Setup, names: &[String]) -> Result<(), RunFault>
     ensures { Gives (λ _. tt) result (no_name size_missing (first_missing setup.now.sizes (map string_bytes names.now))) }
 {
     match setup.first_missing(names) {
@@ -51,7 +51,7 @@ fn missing_tested(alloc: Global, setup: &Setup, names: &[String]) -> Result<(), 
 }
 
 // Each name has 1 to 64 workers.
-fn range_tested(alloc: Global, setup: &Setup, names: &[String]) -> Result<(), RunFault>
+fn test_ranges(alloc: Global, setup: &Setup, names: &[String]) -> Result<(), RunFault>
     ensures { Gives (λ _. tt) result (no_name size_out_of_range (first_out_of_range setup.now.sizes (map string_bytes names.now))) }
 {
     match setup.first_out_of_range(names) {
@@ -90,12 +90,12 @@ fn crew_size(groups: &[u32], plan: &TypedPlan) -> u32
 }
 
 // The plan has at most 256 workers.
-fn crew_tested(groups: &[u32], plan: &TypedPlan) -> Result<(), RunFault>
+fn test_workers(groups: &[u32], plan: &TypedPlan) -> Result<(), RunFault>
     requires { All (IsWithin 1 64) groups.now }
     ensures { Gives (λ _. tt) result (few_workers groups.now (plan_of_typed plan.now)) }
 {
     let number = crew_size(groups, plan);
-    tested(number <= MOST_WORKERS, RunFault::TooManyWorkers { number })
+    fail_unless(number <= MOST_WORKERS, RunFault::TooManyWorkers { number })
 }
 
 // The job of a plan over a database of its catalog, or the first refusal of its setup.
@@ -112,19 +112,19 @@ fn job_in<'j>(
     ensures database { IfOk result (λ j. j.database.now ≡ database.now) }
 {
     let names = plan.sizes();
-    missing_tested(alloc, setup, names)?;
-    range_tested(alloc, setup, names)?;
-    tested(
+    test_missing(alloc, setup, names)?;
+    test_ranges(alloc, setup, names)?;
+    fail_unless(
         is_within(MOST_IN_PACKET, setup.packet()),
         RunFault::BadPacket,
     )?;
-    tested(
+    fail_unless(
         is_within(MOST_IN_MORSEL, setup.morsel()),
         RunFault::BadMorsel,
     )?;
-    tested(is_within(MOST_SLACK, setup.slack()), RunFault::BadSlack)?;
+    fail_unless(is_within(MOST_SLACK, setup.slack()), RunFault::BadSlack)?;
     let groups = setup.groups(alloc, names)?;
-    crew_tested(groups.as_slice(), plan)?;
+    test_workers(groups.as_slice(), plan)?;
     let packet = setup.packet() as usize;
     let morsel = setup.morsel() as usize;
     Ok(Job::new(alloc, plan, database, groups, packet, morsel))

@@ -1,38 +1,33 @@
 //! Workers of a job, before any step.
 
-ghost use Rattle.std.specs.Prelude.{◌≡◌, ◌∷◌, ◌++◌, ℕ, true, List, map, IfOk, OnOk};
+ghost use Rattle.std.specs.Prelude.{◌≡◌, ◌++◌, ℕ, true, List, map, IfOk, OnOk};
 ghost use Rattle.std.specs.List.{All};
 ghost use Rattle.vx_values.specs.Values.{Row};
 ghost use Rattle.vx_rows.specs.Lists.{each_below};
-ghost use Rattle.vx_plan_nodes.specs.Numbering.{is_numbered};
-ghost use Rattle.vx_plan_nodes.specs.Outline.{plan_of};
-ghost use Rattle.vx_plan_nodes.specs.Plan.{gather};
-ghost use Rattle.vx_plan_nodes.specs.Typed.{typed};
-ghost use Rattle.vx_plan_nodes.specs.TypedView.{scope};
-ghost use Rattle.vx_check_rules.specs.Checked.{relations};
+ghost use Rattle.vx_plan_nodes.specs.Outline.{outline_of, plan_of, kind_of};
 ghost use Rattle.vx_ports.specs.Packets.{fault};
 ghost use Rattle.vx_exchange.specs.Ship.{Ship, packet_of};
 ghost use Rattle.vx_worker.specs.Intake.{source_of, IsFresh};
 ghost use Rattle.vx_worker.specs.Worker.{inputs_of as sources_of};
 ghost use Rattle.vx_steps.specs.Crews.{producer_duty, root_duty};
+ghost use Rattle.vx_setup.specs.Runnable.{can_run_kind};
 ghost use Rattle.vx_exec.specs.Sizes.{group_at};
-ghost use Rattle.vx_setup.specs.Runnable.{can_run};
-ghost use Rattle.vx_exec.specs.Job.{setting_of, types_at};
-ghost use Rattle.vx_exec.specs.LeafTypes.{LeavesFit};
+ghost use Rattle.vx_exec.specs.Job.{setting_of};
+ghost use Rattle.vx_exec.specs.Part.{IsPartOf};
 ghost use Rattle.vx_exec.specs.Inputs.{inputs_of};
 ghost use Rattle.vx_exec.specs.Crew.{duty, IsNew};
 
 use crate::fragment::tree_of;
 use crate::job::Job;
 use std::alloc::{AllocError, Global};
-use vx_exchange::{Collector, Deal, Sender};
-use vx_plan_nodes::TypedNode;
+use vx_exchange::{Collector, Sender};
+use vx_plan_nodes::{ExchangeKind, TypedNode, output_types};
 use vx_ports::{Ending, Packet};
 use vx_rows::{ColType, Rows};
 use vx_worker::{Destination, Input, Operator, Worker};
 
 // Adds each of so many producers of an exchange.
-fn add_producers(inputs: &mut Vec<Input>, exchange: u32, count: u32) -> Result<(), AllocError>
+fn push_inputs(inputs: &mut Vec<Input>, exchange: u32, count: u32) -> Result<(), AllocError>
     ensures fresh { All IsFresh inputs.old.items → OnOk result (All IsFresh inputs.new.items) }
     ensures sources { OnOk result (map source_of inputs.new.items ≡ map source_of inputs.old.items ++ each_below count (λ i. (exchange, i))) }
 {
@@ -56,7 +51,7 @@ fn add_inputs(inputs: &mut Vec<Input>, job: &Job<'_>, node: &TypedNode) -> Resul
         }
         TypedNode::Exchange(head, _, input) => {
             let count = job.workers(input.size());
-            return add_producers(inputs, head.number, count);
+            return push_inputs(inputs, head.number, count);
         }
     }
 }
@@ -96,16 +91,13 @@ pub fn root_worker(
     job: &Job<'_>,
     node: &TypedNode,
 ) -> Result<Worker<Operator, Destination>, AllocError>
-    requires runs { can_run (plan_of node.now) ≡ true }
-    requires typed { typed (scope job.now.plan.now) (plan_of node.now) ≡ true }
-    requires numbered { is_numbered 0 (plan_of node.now) ≡ true }
-    requires leaves { LeavesFit (types_at job.now) (relations job.now.plan.now) (plan_of node.now) }
+    requires { IsPartOf job.now (outline_of node.now) }
     ensures duty { IfOk result (λ w. (hash : List ℕ → Row → ℕ → ℕ) → duty w ≡ root_duty (setting_of hash job.now) (plan_of node.now)) }
     ensures new { IfOk result (λ w. IsNew job.now w) }
     ensures inputs { IfOk result (λ w. sources_of w ≡ inputs_of (group_at job.now.groups.items) (plan_of node.now)) }
 {
-    let (tree, types) = tree_of(alloc, job, node, 0)?;
-    let collector = Collector::new(alloc, types.as_slice())?;
+    let tree = tree_of(alloc, job, node, 0)?;
+    let collector = Collector::new(alloc, output_types(node))?;
     let inputs = inputs_of(alloc, job, node)?;
     Ok(Worker::new(
         alloc,
@@ -117,33 +109,28 @@ pub fn root_worker(
     ))
 }
 
-/// The producer at a place of a gather over a node.
+/// The producer at a place of an exchange of this kind over a node.
 pub fn producer(
     alloc: Global,
     job: &Job<'_>,
     exchange: u32,
+    kind: &ExchangeKind,
     node: &TypedNode,
     place: u32,
 ) -> Result<Worker<Operator, Destination>, AllocError>
-    requires runs { can_run (plan_of node.now) ≡ true }
-    requires typed { typed (scope job.now.plan.now) (plan_of node.now) ≡ true }
-    requires numbered { (i : ℕ) × (is_numbered i (plan_of node.now) ≡ true) }
-    requires leaves { LeavesFit (types_at job.now) (relations job.now.plan.now) (plan_of node.now) }
-    ensures duty { IfOk result (λ w. (hash : List ℕ → Row → ℕ → ℕ) → duty w ≡ producer_duty (setting_of hash job.now) exchange gather (plan_of node.now) place) }
+    requires kind { can_run_kind (kind_of kind.now) ≡ true }
+    requires part { IsPartOf job.now (outline_of node.now) }
+    ensures duty { IfOk result (λ w. (hash : List ℕ → Row → ℕ → ℕ)
+        → duty w ≡ producer_duty (setting_of hash job.now) exchange (kind_of kind.now) (plan_of node.now) place) }
     ensures new { IfOk result (λ w. IsNew job.now w) }
     ensures inputs { IfOk result (λ w. sources_of w ≡ inputs_of (group_at job.now.groups.items) (plan_of node.now)) }
 {
-    let (tree, types) = tree_of(alloc, job, node, place)?;
-    let sender = Sender::new(
-        alloc,
-        exchange,
-        place,
-        1,
-        job.packet(),
-        types.as_slice(),
-        Deal::ToOne,
-    )?;
-    let closing = closing_packets(alloc, exchange, place, 1, types.as_slice())?;
+    let tree = tree_of(alloc, job, node, place)?;
+    let types = output_types(node);
+    let consumers = job.workers(kind.target());
+    let deal = job.deal_of(kind);
+    let sender = Sender::new(alloc, exchange, place, consumers, job.packet(), types, deal)?;
+    let closing = closing_packets(alloc, exchange, place, consumers, types)?;
     let inputs = inputs_of(alloc, job, node)?;
     Ok(Worker::new(
         alloc,

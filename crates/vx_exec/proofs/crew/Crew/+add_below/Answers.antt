@@ -1,13 +1,12 @@
-use Rattle.std.proofs.Common.{◌≡◌, true, arith, refl, sym, subst, length}
-use Rattle.vx_plan_nodes.specs.Outline.{plan_of, claim_of, size_of, unary_of, kind_of}
-use Rattle.vx_plan_nodes.specs.Plan.{gather, size}
+use Rattle.std.proofs.Common.{arith, refl, sym, subst, length}
+use Rattle.vx_plan_nodes.specs.Outline.{plan_of, claim_of, size_of, unary_of, binary_of, kind_of}
+use Rattle.vx_plan_nodes.specs.Plan.{size}
 use Rattle.vx_plan_nodes.specs.Streams.{workers}
-use Rattle.vx_steps.specs.Additions.{AddsTeam, AddsBelow}
+use Rattle.vx_steps.specs.Additions.{AddsProducers, AddsBelow}
 use Rattle.vx_exec.specs.Sizes.{group_at}
-use Rattle.vx_setup.specs.Runnable.{can_run}
 use Rattle.vx_exec.specs.Job.{setting_of}
 use Rattle.vx_exec.specs.Making.{made_of}
-use Rattle.vx_exec.proofs.Growing.{grows-scan, grows-unary, grows-exchange}
+use Rattle.vx_exec.proofs.Growing.{grows-scan, grows-unary, grows-binary, grows-exchange}
 use Rattle.vx_exec.proofs.crew.Crew.+add_below.Goals as goal
 
 pub returns-in-Scan-clause-added : goal.returns-in-Scan-clause-added
@@ -28,16 +27,34 @@ returns-in-Unary-clause-added t c = λ hash.
 
 pub returns-in-Exchange-clause-added : goal.returns-in-Exchange-clause-added
 returns-in-Exchange-clause-added t c = λ hash.
+    let S = setting_of hash c.args.job.now in
     let h = c.in-Exchange.head in
-    let x = c.in-Exchange.field-1 in
-    subst (λ z. AddsBelow (setting_of hash c.args.job.now) (plan_of z) c.args.top (made_of c.args.self.now) (made_of c.add_below-in-Exchange.new.self)) (sym c.in-Exchange.is)
-    (grows-exchange (setting_of hash c.args.job.now) h.number (claim_of h.claim) (kind_of x.kind) x.merge.items (plan_of c.in-Exchange.input.value) c.args.top c.len-next.result
-    (made_of c.args.self.now) (made_of c.add_team.new.self) (made_of c.add_below-in-Exchange.new.self) c.push-in-Exchange.new.self.items
-    (subst (λ z. can_run (plan_of z) ≡ true) c.in-Exchange.is c.requires.runs) (let k = c.args.self.now.sends.ok in omega (arith, c.len-next.ensures, k)) c.in_ok-push-in-Exchange.ensures.items
-    (subst (λ z. AddsTeam (setting_of hash c.args.job.now) h.number gather (plan_of z) (workers (group_at c.args.job.now.groups.items) (size (plan_of z)))
-    (made_of (record c.args.self.now { stations = c.push-in-Exchange.new.self })) (made_of c.add_team.new.self)) c.deref-in-Exchange.ensures (c.in_ok-add_team-in-Exchange.ensures.added hash))
-    (subst (λ z. AddsBelow (setting_of hash c.args.job.now) (plan_of z) c.len-next.result (made_of c.add_team.new.self) (made_of c.add_below-in-Exchange.new.self)) c.deref-in-Exchange-2.ensures
+    let x = c.in-Exchange.exchange in
+    subst (λ z. AddsBelow S (plan_of z) c.args.top (made_of c.args.self.now) (made_of c.add_below-in-Exchange.new.self)) (sym c.in-Exchange.is)
+    (grows-exchange S h.number (claim_of h.claim) (kind_of x.kind) x.merge.items (plan_of c.in-Exchange.input.value) c.args.top c.len-next.result
+    (made_of c.args.self.now) (made_of c.add_producers.new.self) (made_of c.add_below-in-Exchange.new.self) c.push-in-Exchange.new.self.items
+    (let k = c.args.self.now.sends.ok in omega (arith, c.len-next.ensures, k)) c.in_ok-push-in-Exchange.ensures.items
+    (subst (λ z. AddsProducers S h.number (kind_of x.kind) (plan_of z) (workers (group_at c.args.job.now.groups.items) (size (plan_of z)))
+    (made_of (record c.args.self.now { stations = c.push-in-Exchange.new.self })) (made_of c.add_producers.new.self)) c.deref-in-Exchange.ensures
+    (c.in_ok-add_producers-in-Exchange.ensures.added hash))
+    (subst (λ z. AddsBelow S (plan_of z) c.len-next.result (made_of c.add_producers.new.self) (made_of c.add_below-in-Exchange.new.self)) c.deref-in-Exchange-2.ensures
     (c.in_ok-add_below-in-Exchange.ensures.added hash)))
 
 pub returns-in-Exchange-clause-new : goal.returns-in-Exchange-clause-new
-returns-in-Exchange-clause-new t c = λ h. c.in_ok-add_below-in-Exchange.ensures.new (c.in_ok-add_team-in-Exchange.ensures.new h)
+returns-in-Exchange-clause-new t c = λ h. c.in_ok-add_below-in-Exchange.ensures.new (c.in_ok-add_producers-in-Exchange.ensures.new h)
+
+pub returns-in-Binary-clause-added : goal.returns-in-Binary-clause-added
+returns-in-Binary-clause-added t c = λ hash.
+    let S = setting_of hash c.args.job.now in
+    let h = c.in-Binary.field-0 in
+    let mid = made_of c.add_below-in-Binary.new.self in
+    let new = made_of c.add_below-in-Binary-2.new.self in
+    subst (λ z. AddsBelow S (plan_of z) c.args.top (made_of c.args.self.now) new) (sym c.in-Binary.is)
+    (grows-binary S h.number (claim_of h.claim) (binary_of c.in-Binary.field-1) (plan_of c.in-Binary.left.value) (plan_of c.in-Binary.right.value) c.args.top
+    (made_of c.args.self.now) mid new c.push-in-Binary.new.self.items c.in_ok-push-in-Binary.ensures.items
+    (subst (λ z. AddsBelow S (plan_of z) c.args.top (made_of (record c.args.self.now { stations = c.push-in-Binary.new.self })) mid) c.deref-in-Binary.ensures
+    (c.in_ok-add_below-in-Binary.ensures.added hash))
+    (subst (λ z. AddsBelow S (plan_of z) c.args.top mid new) c.deref-in-Binary-2.ensures (c.in_ok-add_below-in-Binary-2.ensures.added hash)))
+
+pub returns-in-Binary-clause-new : goal.returns-in-Binary-clause-new
+returns-in-Binary-clause-new t c = λ h. c.in_ok-add_below-in-Binary-2.ensures.new (c.in_ok-add_below-in-Binary.ensures.new h)

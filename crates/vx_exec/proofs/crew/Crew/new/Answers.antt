@@ -1,31 +1,21 @@
 use Rattle.std.proofs.Common.{◌≡◌, true, sym, subst, ap, ◌∙◌, map, [], ◌∷◌}
-use Rattle.vx_plan_nodes.specs.Numbering.{is_numbered}
 use Rattle.vx_plan_nodes.specs.Outline.{plan_of}
+use Rattle.vx_plan_nodes.specs.Numbering.{is_numbered}
 use Rattle.vx_plan_nodes.specs.TypedView.{plan as whole_plan}
-use Rattle.vx_check_rules.specs.Checked.{relations}
 use Rattle.vx_steps.specs.Additions.{AddsBelow}
 use Rattle.vx_steps.specs.Crews.{root_duty}
 use Rattle.vx_exec.specs.Crew.{duty}
-use Rattle.vx_exec.specs.Job.{setting_of, types_at}
-use Rattle.vx_exec.specs.LeafTypes.{LeavesFit}
+use Rattle.vx_exec.specs.Job.{setting_of}
 use Rattle.vx_exec.specs.Making.{made_of}
-use Rattle.vx_exec.proofs.Leaves.{leaves-fit}
 use Rattle.vx_exec.proofs.Growing.{grown}
+use Rattle.vx_exec.proofs.Parts.{root-is-part}
 use Rattle.vx_exec.proofs.crew.Crew.new.Goals as goal
 
-pub at_root-requires-clause-leaves : goal.at_root-requires-clause-leaves
-at_root-requires-clause-leaves c =
-    let p = c.args.job.now.plan.now in
-    let e : plan_of c.root-root.result.now ≡ whole_plan p = c.root-root.ensures.plan ∙ ap whole_plan c.plan.ensures.same in
-    subst (λ z. LeavesFit (types_at c.args.job.now) (relations p) z) (sym e)
-    (leaves-fit (relations p) (whole_plan p) (subst (λ z. is_numbered 0 z ≡ true) e c.root-root.ensures.typed.numbered))
+pub at_root-requires : goal.at_root-requires
+at_root-requires c = root-is-part c.args.job.now c.plan.result.now c.root-root.result.now c.plan.ensures.same c.root-root.ensures.root c.requires.runs
 
-pub add_below-requires-clause-leaves : goal.add_below-requires-clause-leaves
-add_below-requires-clause-leaves c =
-    let p = c.args.job.now.plan.now in
-    let e : plan_of c.root-root.result.now ≡ whole_plan p = c.root-root.ensures.plan ∙ ap whole_plan c.plan.ensures.same in
-    subst (λ z. LeavesFit (types_at c.args.job.now) (relations p) z) (sym e)
-    (leaves-fit (relations p) (whole_plan p) (subst (λ z. is_numbered 0 z ≡ true) e c.root-root.ensures.typed.numbered))
+pub add_below-requires : goal.add_below-requires
+add_below-requires c = root-is-part c.args.job.now c.plan.result.now c.root-root.result.now c.plan.ensures.same c.root-root.ensures.root c.requires.runs
 
 pub returns-clause-ready : goal.returns-clause-ready
 returns-clause-ready c = λ hash.

@@ -2,7 +2,7 @@ use Rattle.std.proofs.Common.{◌≡◌, ◌++◌, map}
 use Rattle.std.specs.List.{All}
 use Rattle.vx_rows.specs.Lists.{each_below}
 use Rattle.vx_worker.specs.Intake.{source_of, IsFresh}
-use Rattle.vx_exec.proofs.worker.add_producers.Given as goal
+use Rattle.vx_exec.proofs.worker.push_inputs.Given as goal
 
 abbrev pub invariant-loop-from : goal.invariant-loop-from
 invariant-loop-from l = record {

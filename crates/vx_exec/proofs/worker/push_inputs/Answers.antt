@@ -3,7 +3,7 @@ use Rattle.std.proofs.lemmas.List.Elements.{All-push, All-same}
 use Rattle.vx_worker.specs.Intake.{source_of, IsFresh}
 use Rattle.vx_worker.specs.declared.intake.Input.{Input}
 use Rattle.vx_exec.proofs.Starting.{producers_none, producers_more}
-use Rattle.vx_exec.proofs.worker.add_producers.Goals as goal
+use Rattle.vx_exec.proofs.worker.push_inputs.Goals as goal
 
 pub loop-from-init : goal.loop-from-init
 loop-from-init c = record { fresh = λ h. h; sources = producers_none c.args.exchange (map source_of c.args.inputs.now.items) }
