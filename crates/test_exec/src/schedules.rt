@@ -1,4 +1,4 @@
-//! What no clause says of schedules: drawn at random, they all come to the same bag of rows.
+//! What no clause says of schedules: drawn at random, they all come to the same bag of rows, and one worker can do all the work.
 
 use crate::plans::{SELECTED, ToFirst, checked, filled, of_three};
 use std::alloc::{AllocError, Global};
@@ -77,5 +77,54 @@ fn drawn_schedules_come_to_the_same_rows(rt: HostRuntime) -> Result<(), Fail> {
             Ran::Unfinished => assert!(rt; false, "the workers ended"),
         }
     }
+    Ok(())
+}
+
+// So many steps of each of these workers, one worker after the other.
+fn in_turn(alloc: Global, workers: &[u32], steps_of_each: u32) -> Result<Vec<u32>, AllocError> {
+    let mut steps = Vec::new(alloc);
+    for worker in workers {
+        for _ in 0..steps_of_each {
+            steps.push(*worker)?;
+        }
+    }
+    Ok(steps)
+}
+
+// What the plan of the selected rows comes to by a schedule.
+fn by_schedule(alloc: Global, steps: &[u32]) -> Result<Ran, Fail> {
+    let plan = checked(alloc, SELECTED)?;
+    let database = filled(alloc)?;
+    if !can_run(plan.plan()) {
+        return Err(Fail::new("workers can run the plan"));
+    }
+    Ok(run_scheduled(alloc, &plan, &database, &of_three(alloc)?, &ToFirst, steps)?)
+}
+
+#[test]
+fn one_worker_takes_all(rt: HostRuntime) -> Result<(), Fail> {
+    let alloc = rt.alloc();
+    // Worker 2 draws every morsel before another worker makes a step, so the rows come in the order of the relation.
+    let steps = in_turn(alloc, &[2, 1, 3, 0], 1000)?;
+    match by_schedule(alloc, steps.as_slice())? {
+        Ran::Done(rows) => {
+            assert_eq!(rt; rows.len(), 2);
+            assert!(rt; is_row(&rows, 0, 1, "b"));
+            assert!(rt; is_row(&rows, 1, 3, "c"));
+        }
+        Ran::Unfinished => assert!(rt; false, "the workers ended"),
+    }
+    Ok(())
+}
+
+#[test]
+fn a_schedule_without_a_worker_is_too_short(rt: HostRuntime) -> Result<(), Fail> {
+    let alloc = rt.alloc();
+    // Worker 3 makes no step, so the root waits for what it sends.
+    let steps = in_turn(alloc, &[2, 1, 0], 1000)?;
+    assert!(rt; matches!(by_schedule(alloc, steps.as_slice())?, Ran::Unfinished));
+    // The root's worker makes none.
+    let short = in_turn(alloc, &[2, 1, 3], 1000)?;
+    assert!(rt; matches!(by_schedule(alloc, short.as_slice())?, Ran::Unfinished));
     Ok(())
 }

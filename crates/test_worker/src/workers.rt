@@ -25,6 +25,10 @@ struct Numbers {
 impl Wires for Numbers {
     ghost Does = { λ _ _ _. Unit {0} };
 
+    ghost IsFull = { λ _ _. Unit {0} };
+
+    ghost LacksMemory = { λ _. ⊥ };
+
     ghost idle = { λ w. tt };
 
     fn draw(&mut self, _scan: u32) -> Result<Option<u64>, AllocError> {

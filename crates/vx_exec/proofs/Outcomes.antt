@@ -3,13 +3,16 @@ use Rattle.std.proofs.Common.{◌≡◌, ◌⊎◌, ℕ, ◌<◌, List, Ok, Err,
 use Rattle.std.specs.List.{All}
 use Rattle.std.specs.Result.{IsErrAnd}
 use Rattle.vx_catalog.specs.Database.{Database}
+use Rattle.vx_values.specs.Values.{Row}
+use Rattle.vx_plan_nodes.specs.Plan.{Plan}
 use Rattle.vx_plan_nodes.specs.TypedView.{resolved_of}
+use Rattle.vx_worker.specs.Fragment.{Setting}
 use Rattle.vx_plan_nodes.specs.declared.typed_plan.TypedPlan.{TypedPlan}
 use Rattle.vx_exec.specs.Sizes.{Sizes}
 use Rattle.vx_exec.specs.Setup.{SetupRefusal}
 use Rattle.vx_setup.specs.Setup.{SetupView}
 use Rattle.vx_exec.specs.Job.{sizes_of}
-use Rattle.vx_exec.specs.Runs.{NamesFirst, IsSetUp}
+use Rattle.vx_exec.specs.Runs.{NamesFirst, IsSetUp, IsScheduled, IsInRounds, Scheduled, InRounds}
 use Rattle.vx_setup.specs.declared.fault.RunFault.{RunFault}
 use Rattle.vx_setup.specs.declared.fault.RunFault.TheVariants as fault
 use Rattle.vx_exec.specs.declared.job.Job.{Job}
@@ -52,3 +55,22 @@ names-nothing (Err y) e steps n h p = inl (h ∙ p)
 pub ok-told : (r : Result Ran RunFault) (P : Type 0) → P → IfOk r (λ _. P)
 ok-told (Ok x) P h = h
 ok-told (Err e) P h = tt
+
+module _ (hash : List ℕ → Row → ℕ → ℕ) (W : Setting) (p : Plan) where
+  -- the steps were made, whatever they come to
+  pub steps-told : (r : Result Ran RunFault) (steps : List ℕ) → IsScheduled hash W p steps r → Scheduled hash W p steps r
+  steps-told (Ok x) steps h = h
+  steps-told (Err e) steps h = inr (inr h)
+
+  pub rounds-told : (r : Result Ran RunFault) (limit : ℕ) → IsInRounds hash W p limit r → InRounds hash W p limit r
+  rounds-told (Ok x) limit h = h
+  rounds-told (Err e) limit h = inr h
+
+  -- memory ran out before a step was made
+  pub steps-nothing : (r : Result Ran RunFault) (e : RunFault) (steps : List ℕ) → IsErrAnd r (λ y. y ≡ e) → e ≡ fault.NoMemory → Scheduled hash W p steps r
+  steps-nothing (Ok x) e steps h k = absurd h
+  steps-nothing (Err y) e steps h k = inl (h ∙ k)
+
+  pub rounds-nothing : (r : Result Ran RunFault) (e : RunFault) (limit : ℕ) → IsErrAnd r (λ y. y ≡ e) → e ≡ fault.NoMemory → InRounds hash W p limit r
+  rounds-nothing (Ok x) e limit h k = absurd h
+  rounds-nothing (Err y) e limit h k = inl (h ∙ k)

@@ -18,13 +18,19 @@ use Rattle.vx_ops.specs.declared.fault.Code.TheVariants.{Overflow, NoMemory, Uns
 use Rattle.vx_ops.specs.declared.fault.Fault.{Fault}
 use Rattle.vx_ops.specs.declared.fault.Fault.TheVariants.{Own, Passed}
 use Rattle.vx_exchange.specs.Tasks.{keep, keeps}
-use Rattle.vx_worker.specs.Destination.{task_of, post_of}
+use Rattle.vx_worker.specs.Operator.{OperatorStands, operator_op, operator_want}
+use Rattle.vx_worker.specs.Destination.{DestinationStands, task_of, post_of, bounds_of}
 use Rattle.vx_worker.specs.Fragment.{Setting}
+use Rattle.vx_worker.specs.Trace.{scan_morsels}
 use Rattle.vx_worker.specs.Worker.{sender_of}
 use Rattle.vx_worker.specs.declared.operator.Operator.{Operator}
 use Rattle.vx_worker.specs.declared.destination.Destination.{Destination}
 use Rattle.vx_worker.specs.declared.worker.Worker.{Worker}
 use Rattle.vx_steps.specs.Endings.{FailsFirst}
+use Rattle.vx_steps.specs.Following.{Follows, FollowsRounds}
+use Rattle.vx_steps.specs.LinksView.{LinksView}
+use Rattle.vx_steps.specs.Ready.{Ready}
+use Rattle.vx_steps.specs.Verdicts.{Judged}
 use Rattle.vx_steps.specs.Roles.{crew_size}
 use Rattle.vx_steps.specs.Schedules.{IsBadStep}
 use Rattle.vx_steps.specs.declared.verdict.Verdict.{Verdict}
@@ -76,6 +82,48 @@ ComesTo ws verdict.Unfinished (Ok ran.Unfinished) = Unit {0}
 ComesTo ws (verdict.Failed f) (Err e) = e ≡ fault_told f
 ComesTo ws v r = ⊥
 
+-- a step of the schedule names none of so many workers
+abbrev pub IsBadStepOf : List ℕ → ℕ → RunFault → Type 0
+IsBadStepOf steps workers (fault.BadStep index) = IsBadStep steps workers index
+IsBadStepOf steps workers e = ⊥
+
+-- workers of a plan in a setting made steps, none of which had made any before: those with which they began, those that they became, and what
+-- these come to, which the result tells
+module _ (hash : List ℕ → Row → ℕ → ℕ) (W : Setting) (p : Plan) where
+  -- exactly these steps, in this order
+  pub record IsScheduled (steps : List ℕ) (result : Result Ran RunFault) : Type 0 where
+    pub begun : List (Worker Operator Destination)
+    pub links : LinksView
+    pub ready : Ready OperatorStands operator_op DestinationStands task_of post_of bounds_of hash (scan_morsels W) W p begun links
+    pub ended : List (Worker Operator Destination)
+    pub links_after : LinksView
+    pub follows : Follows OperatorStands operator_want operator_op DestinationStands task_of post_of bounds_of hash (scan_morsels W) steps begun links ended links_after
+    pub verdict : Verdict
+    pub judged : Judged ended verdict
+    pub comes : ComesTo ended verdict result
+
+  -- rounds of all workers: as many as the limit says, or fewer where all have ended
+  pub record IsInRounds (limit : ℕ) (result : Result Ran RunFault) : Type 0 where
+    pub begun : List (Worker Operator Destination)
+    pub links : LinksView
+    pub ready : Ready OperatorStands operator_op DestinationStands task_of post_of bounds_of hash (scan_morsels W) W p begun links
+    pub ended : List (Worker Operator Destination)
+    pub links_after : LinksView
+    pub follows : FollowsRounds OperatorStands operator_want operator_op DestinationStands task_of post_of bounds_of hash (scan_morsels W) limit begun links ended links_after
+    pub verdict : Verdict
+    pub judged : Judged ended verdict
+    pub comes : ComesTo ended verdict result
+
+  -- what a schedule comes to: memory was refused before a step was made, a step names no worker, or all steps were made
+  abbrev pub Scheduled : (steps : List ℕ) → Result Ran RunFault → Type 0
+  Scheduled steps (Ok r) = IsScheduled steps (Ok r)
+  Scheduled steps (Err e) = (e ≡ fault.NoMemory) ⊎ IsBadStepOf steps (crew_size W.sizes p) e ⊎ IsScheduled steps (Err e)
+
+  -- what rounds come to: memory was refused before a step was made, or they were made
+  abbrev pub InRounds : (limit : ℕ) → Result Ran RunFault → Type 0
+  InRounds limit (Ok r) = IsInRounds limit (Ok r)
+  InRounds limit (Err e) = (e ≡ fault.NoMemory) ⊎ IsInRounds limit (Err e)
+
 -- the database is one of the plan's catalog, and the setup comes to these sizes
 pub record IsSetUp (p : TypedPlanView) (db : Database) (setup : SetupView) (s : Sizes) : Type 0 where
   pub same : db.catalog ≡ p.names.catalog
@@ -86,11 +134,6 @@ pub data RunFails (p : TypedPlanView) (db : Database) (setup : SetupView) (e : R
   for_catalog : e ≡ fault.OtherCatalog → db.catalog ≢ p.names.catalog → RunFails p db setup e
   for_setup : db.catalog ≡ p.names.catalog → Fails e (sizes_set setup p.names.sizes (plan_in p.root)) → RunFails p db setup e
   for_fault : (s : Sizes) → IsSetUp p db setup s → IsTrueOf p db e → RunFails p db setup e
-
--- a step of the schedule names none of so many workers
-abbrev pub IsBadStepOf : List ℕ → ℕ → RunFault → Type 0
-IsBadStepOf steps workers (fault.BadStep index) = IsBadStep steps workers index
-IsBadStepOf steps workers e = ⊥
 
 -- what a schedule comes to first: its bad step is told unless memory ran out, so with anything else each step names one of so many workers
 abbrev pub NamesFirst : List ℕ → (workers : ℕ) → Result Ran RunFault → Type 0

@@ -17,7 +17,7 @@ ghost use Rattle.vx_steps.specs.Roles.{crew_size};
 ghost use Rattle.vx_exec.specs.Sizes.{group_at, setting, Sizes};
 ghost use Rattle.vx_setup.specs.Runnable.{can_run};
 ghost use Rattle.vx_exec.specs.Job.{setting_of};
-ghost use Rattle.vx_exec.specs.Runs.{fault_told, ComesTo, IsRunOf, IfDone, IsTrueOf, IsFirstTold, IsSetUp, RunFails, IsBadStepOf, NamesFirst, ScheduleFails};
+ghost use Rattle.vx_exec.specs.Runs.{fault_told, ComesTo, IsRunOf, IfDone, IsTrueOf, IsFirstTold, IsSetUp, RunFails, IsBadStepOf, NamesFirst, ScheduleFails, Scheduled, InRounds};
 
 use crate::crew::Crew;
 use crate::job::Job;
@@ -85,6 +85,7 @@ fn run_job<R: Router>(alloc: Global, job: &Job<'_>, router: &R, limit: u64) -> R
     ensures done { IfOk result (IfDone (IsRunOf (R.route_of router.now) (resolved_of job.now.plan.now) job.now.database.now job.now.groups.items)) }
     ensures failed { IfErr result (IsTrueOf (resolved_of job.now.plan.now) job.now.database.now) }
     ensures first { IfErr result (IsFirstTold (setting_of (R.route_of router.now) job.now) (whole_plan job.now.plan.now)) }
+    ensures rounds { InRounds (R.route_of router.now) (setting_of (R.route_of router.now) job.now) (whole_plan job.now.plan.now) limit result }
 {
     job.meets();
     let crew = Crew::new(alloc, job)?;
@@ -109,6 +110,7 @@ fn schedule_job<R: Router>(
     ensures first { IfErr result (λ e. IsFirstTold (setting_of (R.route_of router.now) job.now) (whole_plan job.now.plan.now) e
         ⊎ IsBadStepOf steps.now (crew_size (group_at job.now.groups.items) (whole_plan job.now.plan.now)) e) }
     ensures named { NamesFirst steps.now (crew_size (group_at job.now.groups.items) (whole_plan job.now.plan.now)) result }
+    ensures scheduled { Scheduled (R.route_of router.now) (setting_of (R.route_of router.now) job.now) (whole_plan job.now.plan.now) steps.now result }
 {
     job.meets();
     let crew = Crew::new(alloc, job)?;
@@ -136,6 +138,8 @@ pub fn run_rounds<R: Router>(
     ensures refused { IfErr result (RunFails (resolved_of (typed_plan plan.now)) database.now setup.now) }
     ensures first { (s : Sizes) → IsSetUp (resolved_of (typed_plan plan.now)) database.now setup.now s
         → IfErr result (IsFirstTold (setting (R.route_of router.now) (typed_plan plan.now) database.now s) (whole_plan (typed_plan plan.now))) }
+    ensures rounds { (s : Sizes) → IsSetUp (resolved_of (typed_plan plan.now)) database.now setup.now s
+        → InRounds (R.route_of router.now) (setting (R.route_of router.now) (typed_plan plan.now) database.now s) (whole_plan (typed_plan plan.now)) limit result }
 {
     let job = job_of(alloc, plan.plan(), database, setup)?;
     run_job(alloc, &job, router, limit)
@@ -161,6 +165,8 @@ pub fn run_scheduled<R: Router>(
         ⊎ IsBadStepOf steps.now (crew_size (group_at s.groups) (whole_plan (typed_plan plan.now))) e) }
     ensures named { (s : Sizes) → IsSetUp (resolved_of (typed_plan plan.now)) database.now setup.now s
         → NamesFirst steps.now (crew_size (group_at s.groups) (whole_plan (typed_plan plan.now))) result }
+    ensures scheduled { (s : Sizes) → IsSetUp (resolved_of (typed_plan plan.now)) database.now setup.now s
+        → Scheduled (R.route_of router.now) (setting (R.route_of router.now) (typed_plan plan.now) database.now s) (whole_plan (typed_plan plan.now)) steps.now result }
 {
     let job = job_of(alloc, plan.plan(), database, setup)?;
     schedule_job(alloc, &job, router, steps)

@@ -1,10 +1,10 @@
 -- What all workers of a run share, as plain data: queues of packets, decks and hands.
-use Rattle.std.specs.Prelude.{ℕ, ◌≡◌, ◌+◌, ◌<◌, length, List, [], ◌∷◌, ◌++◌, Option, Some, None, slice_get, refl}
+use Rattle.std.specs.Prelude.{ℕ, ◌≡◌, ◌+◌, ◌<◌, length, List, [], ◌∷◌, ◌++◌, Option, Some, None, slice_get, refl, true}
 use Rattle.std.specs.List.{slice_index_or}
 use Rattle.vx_ports.specs.Packets.{PacketView}
 use Rattle.vx_ports.specs.LinkView.{LinkView}
 use Rattle.vx_worker.specs.Trace.{Event, idle, drew_one, took_one, put_one}
-use Rattle.vx_steps.specs.Queues.{queue_in}
+use Rattle.vx_steps.specs.Queues.{line_in, queue_in}
 use Rattle.vx_steps.specs.Stations.{StationDraws}
 use Rattle.vx_steps.specs.declared.station.Station.{Station}
 use Rattle.vx_steps.specs.declared.station.Station.TheVariants.{Inner, Exchange}
@@ -22,6 +22,10 @@ queue_at w a j = queue_in (slice_index_or w.queues a []) j
 
 abbrev pub station_at : LinksView → ℕ → Station
 station_at w k = slice_index_or w.stations k Inner
+
+-- the worker whose turn it is has no queue to consumer j, or that queue was closed
+abbrev pub PortIsClosed : LinksView → (j : ℕ) → Type 0
+PortIsClosed w j = (line_in (slice_index_or w.queues w.turn []) j).closed ≡ true
 
 -- the tables that no event changes
 pub record SameTables (w v : LinksView) : Type 0 where

@@ -5,3 +5,4 @@ pub mod Marks
 pub mod Reading
 pub mod Stopping
 pub mod WorkerSteps
+pub mod Answering

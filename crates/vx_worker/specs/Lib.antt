@@ -6,5 +6,6 @@ pub mod Trees
 pub mod Wiring
 pub mod Wishes
 pub mod Worker
+pub mod Answering
 pub mod Operator
 pub mod Destination

@@ -66,6 +66,7 @@ impl Intake {
     ghost use Rattle.vx_ports.specs.Packets.{is_closed};
     ghost use Rattle.vx_worker.specs.Trace.{Event, Trace, added, took_one};
     ghost use Rattle.vx_worker.specs.declared.intake.Input.{Input};
+    ghost use Rattle.vx_worker.specs.Answering.{DrainFinds};
     ghost use Rattle.vx_worker.specs.Wishes.{WishFits, WishTyped};
     ghost use Rattle.vx_worker.specs.Intake.{source_of, sources_of, IsFresh, has_met_end, MarksStand, IntakeStands, IsDrained, Fetches, Drains};
 
@@ -181,7 +182,7 @@ impl Intake {
 
     /// Takes from the next producer that has not closed, and drops what came. Memory that is refused counts as nothing.
     pub fn drain<W: Wires>(&mut self, wires: &mut W) -> Drained
-        ensures drains { (e : Event) × W.Does wires.old e wires.new × Drains self.old self.new e }
+        ensures drains { (e : Event) × W.Does wires.old e wires.new × Drains self.old self.new e × DrainFinds (W.LacksMemory wires.old) self.old result e }
         ensures all { result ≡ Drained.All → (t : Trace) → IntakeStands self.new t → IsDrained (sources_of self.new) t }
     {
         let Some(place) = next_open(self.inputs.as_slice(), self.next) else {

@@ -6,26 +6,34 @@ use vx_rows::Rows;
 
 /// The decks, inward ports and outward ports of one worker. Each call draws, takes or puts at most once, and nothing where it refuses.
 pub trait Wires {
-    ghost use Rattle.std.specs.Prelude.{IfOk, OnErr};
+    ghost use Rattle.std.specs.Prelude.{ℕ, IfOk, OnErr};
     ghost use Rattle.vx_worker.specs.Trace.{Event, idle as idling, drew_one, took_one};
     ghost use Rattle.vx_worker.specs.Wiring.{PutGives};
 
     // That this event leads from one state to another.
     ghost Does: { Self → Event → Self → Type 0 };
 
+    // That the port to a consumer is full in this state: it takes no packet.
+    ghost IsFull: { Self → ℕ → Type 0 };
+
+    // That memory may be refused to a draw or a take in this state.
+    ghost LacksMemory: { Self → Type 0 };
+
     /// Draws the next morsel of the scan with this number, or none at its end.
     fn draw(&mut self, scan: u32) -> Result<Option<u64>, AllocError>
         ensures ok { IfOk result (λ d. Does self.old (drew_one scan d) self.new) }
-        ensures err { OnErr result (Does self.old idling self.new) };
+        ensures err { OnErr result (Does self.old idling self.new) }
+        ensures memory { OnErr result (LacksMemory self.old) };
 
     /// Takes the next packet of an exchange from a producer, if one has come.
     fn take(&mut self, exchange: u32, from: u32) -> Result<Option<Packet>, AllocError>
         ensures ok { IfOk result (λ p. Does self.old (took_one exchange from p) self.new) }
-        ensures err { OnErr result (Does self.old idling self.new) };
+        ensures err { OnErr result (Does self.old idling self.new) }
+        ensures memory { OnErr result (LacksMemory self.old) };
 
     /// Puts a packet to a consumer.
     fn put(&mut self, to: u32, packet: Packet) -> Put
-        ensures { PutGives Does self.old self.new to packet result };
+        ensures { PutGives Does IsFull self.old self.new to packet result };
 
     // Doing nothing is allowed.
     ghost idle: { (w : Self) → Does w idling w };

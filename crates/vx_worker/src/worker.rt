@@ -74,6 +74,7 @@ impl<O: Source, S: Sends> Worker<O, S> {
     ghost use Rattle.vx_worker.specs.Trace.{Event, Trace, added, empty_trace, IsNoMemory};
     ghost use Rattle.vx_worker.specs.Trees.{shape, TreeStands};
     ghost use Rattle.vx_worker.specs.Wishes.{Numbered, TreeTyped, tree_types, fresh_reads};
+    ghost use Rattle.vx_worker.specs.Answering.{Answered};
     ghost use Rattle.vx_worker.specs.Intake.{source_of, IsFresh};
     ghost use Rattle.vx_worker.specs.Worker.{closing_of, with_pending, with_all, outcome_of, sender_of, inputs_of, role_of, IsReady, IsReadyIn, IsGoing, IsClosing, WorkerStands, EndsAs};
 
@@ -139,7 +140,8 @@ impl<O: Source, S: Sends> Worker<O, S> {
         ensures stands { (e : Event) × W.Does wires.old e wires.new × ((goes : Routing)
             → RoutesAs (S.post (sender_of self.old)) (S.bounds (sender_of self.old)) (R.route_of router.now) goes
             → (t : Trace) → WorkerStands O.Stands O.op S.Stands S.task goes (G.morsel_of morsels.now) self.old t
-            → WorkerStands O.Stands O.op S.Stands S.task goes (G.morsel_of morsels.now) self.new (added t e)) }
+            → WorkerStands O.Stands O.op S.Stands S.task goes (G.morsel_of morsels.now) self.new (added t e))
+            × Answered O.Stands O.want (W.IsFull wires.old) (W.LacksMemory wires.old) self.old self.new e result }
         ensures ended { (result ≡ Stepped.Ended) ↔ IsSome (outcome_of self.new) }
         ensures honest { IfSome (outcome_of self.new) (λ o. (goes : Routing) (t : Trace)
             → WorkerStands O.Stands O.op S.Stands S.task goes (G.morsel_of morsels.now) self.new t
@@ -169,7 +171,8 @@ impl<O: Source, S: Sends> Worker<O, S> {
         ensures stands { (e : Event) × W.Does wires.old e wires.new × ((goes : Routing)
             → RoutesAs (S.post self.old.sender) (S.bounds self.old.sender) (R.route_of router.now) goes
             → (t : Trace) → WorkerStands O.Stands O.op S.Stands S.task goes (G.morsel_of morsels.now) self.old t
-            → WorkerStands O.Stands O.op S.Stands S.task goes (G.morsel_of morsels.now) self.new (added t e)) }
+            → WorkerStands O.Stands O.op S.Stands S.task goes (G.morsel_of morsels.now) self.new (added t e))
+            × Answered O.Stands O.want (W.IsFull wires.old) (W.LacksMemory wires.old) self.old self.new e result }
         ensures ended { (result ≡ Stepped.Ended) ↔ IsSome (outcome_of self.new) }
     {
         if self.pending.is_some() {
@@ -193,6 +196,7 @@ impl<O: Source, S: Sends> Worker<O, S> {
     // Puts the packet that is here.
     fn send<W: Wires>(&mut self, wires: &mut W) -> Stepped
         requires running { self.old.phase ≡ Phase.Running }
+        requires held { IsSome self.old.pending }
         requires going { IsGoing S.post S.is_open S.has_closed self.old }
         ensures ready { IsReadyIn S.post S.is_open S.has_closed self.new.phase self.new }
         ensures tree { self.new.tree ≡ self.old.tree }
@@ -200,11 +204,12 @@ impl<O: Source, S: Sends> Worker<O, S> {
         ensures intake { self.new.intake ≡ self.old.intake }
         ensures stands { (e : Event) × W.Does wires.old e wires.new × ((goes : Routing) (m : ℕ → ℕ → List Row) (t : Trace)
             → WorkerStands O.Stands O.op S.Stands S.task goes m self.old t
-            → WorkerStands O.Stands O.op S.Stands S.task goes m self.new (added t e)) }
+            → WorkerStands O.Stands O.op S.Stands S.task goes m self.new (added t e))
+            × Answered O.Stands O.want (W.IsFull wires.old) (W.LacksMemory wires.old) self.old self.new e result }
         ensures goes_on { (outcome_of self.new ≡ None) × (result ≡ Stepped.Ended → ⊥) }
     {
         match self.pending.take() {
-            None => return Stepped::Waiting,
+            None => unreachable!("a packet is held"),
             Some((to, packet)) => match wires.put(to, packet) {
                 Put::Done => return Stepped::Moved,
                 Put::Full(packet) => {
@@ -232,7 +237,8 @@ impl<O: Source, S: Sends> Worker<O, S> {
         ensures stands { (e : Event) × W.Does wires.old e wires.new × ((goes : Routing)
             → RoutesAs (S.post self.old.sender) (S.bounds self.old.sender) (R.route_of router.now) goes
             → (t : Trace) → WorkerStands O.Stands O.op S.Stands S.task goes (G.morsel_of morsels.now) self.old t
-            → WorkerStands O.Stands O.op S.Stands S.task goes (G.morsel_of morsels.now) self.new (added t e)) }
+            → WorkerStands O.Stands O.op S.Stands S.task goes (G.morsel_of morsels.now) self.new (added t e))
+            × Answered O.Stands O.want (W.IsFull wires.old) (W.LacksMemory wires.old) self.old self.new e result }
         ensures goes_on { (outcome_of self.new ≡ None) × (result ≡ Stepped.Ended → ⊥) }
     {
         let wish = self.tree.wants();
@@ -295,7 +301,8 @@ impl<O: Source, S: Sends> Worker<O, S> {
         ensures intake { self.new.intake ≡ self.old.intake }
         ensures stands { (e : Event) × W.Does wires.old e wires.new × ((goes : Routing) (m : ℕ → ℕ → List Row) (t : Trace)
             → WorkerStands O.Stands O.op S.Stands S.task goes m self.old t
-            → WorkerStands O.Stands O.op S.Stands S.task goes m self.new (added t e)) }
+            → WorkerStands O.Stands O.op S.Stands S.task goes m self.new (added t e))
+            × Answered O.Stands O.want (W.IsFull wires.old) (W.LacksMemory wires.old) self.old self.new e result }
         ensures goes_on { (outcome_of self.new ≡ None) × (result ≡ Stepped.Ended → ⊥) }
     {
         match self.next_closing() {
@@ -346,7 +353,8 @@ impl<O: Source, S: Sends> Worker<O, S> {
         ensures sources { inputs_of self.new ≡ inputs_of self.old }
         ensures stands { (e : Event) × W.Does wires.old e wires.new × ((goes : Routing) (m : ℕ → ℕ → List Row) (t : Trace)
             → WorkerStands O.Stands O.op S.Stands S.task goes m self.old t
-            → WorkerStands O.Stands O.op S.Stands S.task goes m self.new (added t e)) }
+            → WorkerStands O.Stands O.op S.Stands S.task goes m self.new (added t e))
+            × Answered O.Stands O.want (W.IsFull wires.old) (W.LacksMemory wires.old) self.old self.new e result }
         ensures ended { (result ≡ Stepped.Ended) ↔ IsSome (outcome_of self.new) }
     {
         match self.intake.drain(wires) {

@@ -3,8 +3,8 @@ use Rattle.vx_plan_nodes.specs.TypedView.{resolved_of, plan as whole_plan}
 use Rattle.vx_check_rules.specs.CheckedView.{typed_plan}
 use Rattle.vx_exec.specs.Job.{sizes_of}
 use Rattle.vx_exec.specs.Sizes.{Sizes, setting}
-use Rattle.vx_exec.specs.Runs.{IsTrueOf, IsFirstTold, IsSetUp, RunFails, for_fault}
-use Rattle.vx_exec.proofs.Outcomes.{failed-by, err-told, of-job, ok-told}
+use Rattle.vx_exec.specs.Runs.{InRounds, IsTrueOf, IsFirstTold, IsSetUp, RunFails, for_fault}
+use Rattle.vx_exec.proofs.Outcomes.{rounds-nothing, failed-by, err-told, of-job, ok-told}
 use Rattle.vx_exec.proofs.run.run_rounds.Goals as goal
 
 pub returns-clause-refused : goal.returns-clause-refused
@@ -37,3 +37,18 @@ returns-clause-set g c =
     let j = c.in_ok-job.job in
     let mine = subst (λ z. IsSetUp (resolved_of z) c.args.database.now c.args.setup.now (sizes_of j)) c.plan.ensures.same c.in_ok-job.ensures.set in
     ok-told c.run_job.result ((s : Sizes) × IsSetUp (resolved_of (typed_plan c.args.plan.now)) c.args.database.now c.args.setup.now s) (sizes_of j, mine)
+
+pub returns-clause-rounds : goal.returns-clause-rounds
+returns-clause-rounds g c = λ s set.
+    let j = c.in_ok-job.job in
+    let hash = g.R.Router.route_of c.args.router.now in
+    let mine = subst (λ z. IsSetUp (resolved_of z) c.args.database.now c.args.setup.now (sizes_of j)) c.plan.ensures.same c.in_ok-job.ensures.set in
+    of-job (λ p db z. InRounds hash (setting hash p db z) (whole_plan p) c.args.limit c.run_job.result)
+    j (typed_plan c.args.plan.now) c.args.database.now c.args.setup.now s (c.in_ok-job.ensures.plan ∙ c.plan.ensures.same) c.in_ok-job.ensures.database mine set c.run_job.ensures.rounds
+
+pub returns-in_err-job-clause-rounds : goal.returns-in_err-job-clause-rounds
+returns-in_err-job-clause-rounds g c = λ s set.
+    let p = typed_plan c.args.plan.now in
+    let hash = g.R.Router.route_of c.args.router.now in
+    rounds-nothing hash (setting hash p c.args.database.now s) (whole_plan p) c.from_residual.result c.in_err-job.field-0.0 c.args.limit c.from_residual.ensures.1
+    (c.in_err-job.ensures.memory s (subst (λ z. IsSetUp (resolved_of z) c.args.database.now c.args.setup.now s) (sym c.plan.ensures.same) set))

@@ -9,7 +9,7 @@ use Rattle.vx_exec.specs.Runs.{IsTrueOf, IsFirstTold, IsBadStepOf}
 use Rattle.vx_exec.specs.Job.{setting_of}
 use Rattle.vx_setup.specs.declared.fault.RunFault.{RunFault}
 use Rattle.vx_check_rules.specs.Checked.{relations}
-use Rattle.vx_exec.proofs.Outcomes.{failed-or, names-told}
+use Rattle.vx_exec.proofs.Outcomes.{failed-or, names-told, steps-told}
 use Rattle.vx_exec.proofs.Finishing.{job-accepted, ready-parts, ready-count, has-run, first-types, not-passed, comes-done, comes-failed, comes-first}
 use Rattle.vx_exec.proofs.run.schedule_job.Goals as goal
 
@@ -47,6 +47,17 @@ returns-in-Ok g c =
       first = failed-or r (IsFirstTold (setting_of hash j) p) bad (comes-first c.in-Ok.verdict r run c.answer_of.ensures);
       named = names-told r c.args.steps.now count
           (subst (λ z. All (λ k. k < z) c.args.steps.now) (ready-count j hash parts.result.0 parts.result.1 begun) c.in-Ok.ensures.good);
+      scheduled = steps-told hash (setting_of hash j) p r c.args.steps.now (record {
+        begun = parts.result.0.items;
+        links = parts.result.1;
+        ready = begun.ready;
+        ended = end.new.workers.items;
+        links_after = end.new.links;
+        follows = c.in-Ok.ensures.follows;
+        verdict = c.in-Ok.verdict;
+        judged = c.in-Ok.ensures.judged;
+        comes = c.answer_of.ensures;
+      });
     }
 
 pub returns-in-Err : goal.returns-in-Err
@@ -57,4 +68,4 @@ returns-in-Err g c =
     let ok = job-accepted j hash (g.met.R.Router.in_range c.args.router.now) c.meets.ensures c.requires.allowed c.requires.root in
     let begun = ready-parts j hash ok c.in_ok-crew.crew parts.result.0 parts.result.1 parts.ensures.workers parts.ensures.links (c.in_ok-crew.ensures.ready hash) in
     let bad = subst (λ z. IsBadStep c.args.steps.now z c.in-Err.index) (ready-count j hash parts.result.0 parts.result.1 begun) c.in-Err.ensures.bad in
-    record { done = tt; failed = inr bad; first = inr bad; named = inr (inl bad) }
+    record { done = tt; failed = inr bad; first = inr bad; named = inr (inl bad); scheduled = inr (inl bad) }

@@ -11,4 +11,5 @@ returns-in-Ok-Some-clause-drains g c = (
   took_one c.index.result.now.exchange c.index.result.now.from (Some c.in-Ok-Some.packet),
   rw c.in-Ok-Some.field-0-is at c.in-Ok-Some.ensures.ok,
   record { is_take = tt; stands = c.note.ensures.stands; sources = c.note.ensures.sources },
+  tt,
 )

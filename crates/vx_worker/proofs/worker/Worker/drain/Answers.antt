@@ -1,15 +1,31 @@
+use Rattle.std.proofs.Common.{refl, subst}
+use Rattle.vx_worker.specs.Answering.{DrainFinds}
+use Rattle.vx_worker.specs.declared.worker.Phase.TheVariants.{Draining}
+use Rattle.vx_worker.proofs.Answering.{drains-none, drains-one}
 use Rattle.vx_worker.proofs.WorkerSteps.{failed-later}
 use Rattle.vx_worker.proofs.worker.Worker.drain.Goals as goal
 
 pub returns-in-Dropped-clause-stands : goal.returns-in-Dropped-clause-stands
 returns-in-Dropped-clause-stands g c =
     let x = c.drain.ensures.drains in
-    rw c.requires (x.0, x.1, λ goes m t h. (x.2.stands t h.0, failed-later m goes _ _ c.args.fault t x.0 x.2.is_take h.1))
+    rw c.requires (
+      x.0,
+      x.1,
+      λ goes m t h. (x.2.stands t h.0, failed-later m goes _ _ c.args.fault t x.0 x.2.is_take h.1),
+      drains-one g.O.Source.Stands g.O.Source.want (g.W.Wires.IsFull c.args.wires.now) (g.W.Wires.LacksMemory c.args.wires.now) (Draining c.args.fault) c.args.self.now (record c.args.self.now { intake = c.drain.new.self; phase = Draining c.args.fault }) x.0
+          (subst (λ r. DrainFinds (g.W.Wires.LacksMemory c.args.wires.now) c.args.self.now.intake r x.0) c.in-Dropped.is x.3),
+    )
 
 pub returns-in-Nothing-clause-stands : goal.returns-in-Nothing-clause-stands
 returns-in-Nothing-clause-stands g c =
     let x = c.drain.ensures.drains in
-    rw c.requires (x.0, x.1, λ goes m t h. (x.2.stands t h.0, failed-later m goes _ _ c.args.fault t x.0 x.2.is_take h.1))
+    rw c.requires (
+      x.0,
+      x.1,
+      λ goes m t h. (x.2.stands t h.0, failed-later m goes _ _ c.args.fault t x.0 x.2.is_take h.1),
+      drains-none g.O.Source.Stands g.O.Source.want (g.W.Wires.IsFull c.args.wires.now) (g.W.Wires.LacksMemory c.args.wires.now) (Draining c.args.fault) c.args.self.now (record c.args.self.now { intake = c.drain.new.self; phase = Draining c.args.fault }) c.args.fault x.0 refl
+          (subst (λ r. DrainFinds (g.W.Wires.LacksMemory c.args.wires.now) c.args.self.now.intake r x.0) c.in-Nothing.is x.3),
+    )
 
 pub returns-in-All-clause-stands : goal.returns-in-All-clause-stands
 returns-in-All-clause-stands g c =
@@ -18,4 +34,5 @@ returns-in-All-clause-stands g c =
       x.0,
       x.1,
       λ goes m t h. (x.2.stands t h.0, (failed-later m goes _ _ c.args.fault t x.0 x.2.is_take h.1, c.drain.ensures.all c.in-All.is _ (x.2.stands t h.0))),
+      refl,
     )

@@ -1,8 +1,10 @@
-use Rattle.std.proofs.Common.{◌≡◌, ap, refl, sym, ◌∙◌, subst, true, false}
+use Rattle.std.proofs.Common.{◌≡◌, ap, refl, sym, ◌∙◌, subst, true, false, rules}
 use Rattle.vx_exchange.specs.Tasks.{Begun, IsAt}
 use Rattle.vx_ops.specs.declared.fault.Over.TheVariants as over
 use Rattle.vx_ops.specs.declared.turn.Polled.TheVariants as polled
 use Rattle.vx_worker.specs.Intake.{IntakeStands}
+use Rattle.vx_worker.specs.Answering.{by_rows, by_fault}
+use Rattle.vx_worker.proofs.Answering.{waits, moves}
 use Rattle.vx_worker.proofs.WorkerSteps.{going-of, ready-fails, ready-runs, loses, gives-fault, turns, running}
 use Rattle.vx_worker.proofs.worker.Worker.pull.Goals as goal
 
@@ -30,6 +32,7 @@ returns-in-Err-clause-stands g c =
           (subst (λ k. IntakeStands k (Rattle.vx_worker.specs.Trace.added t x.0)) (sym c.fail.ensures.intake) (x.2.stands t h.0)) x.2.is_read c.requires.empty
           (λ a put s. subst (λ z. Begun goes (g.S.Sends.task z) a.rows put) (sym c.fail.ensures.sender) (g.met.S.Sends.begun w.sender goes a put s unclosed))
           (running g.O.Source.Stands g.O.Source.op g.S.Sends.Stands g.S.Sends.task goes (g.G.Morsels.morsel_of c.args.morsels.now) w t c.requires.running h),
+      rw c.fail.ensures.moved (by_fault c.no_memory.result c.requires.running c.fail.ensures.phase),
     )
 
 pub returns-in-Waiting-clause-ready : goal.returns-in-Waiting-clause-ready
@@ -48,6 +51,7 @@ returns-in-Waiting-clause-stands g c =
       λ goes r t h. turns g.O.Source.Stands g.O.Source.op g.S.Sends.Stands g.S.Sends.task goes (g.G.Morsels.morsel_of c.args.morsels.now) g.O.Source.want w (record w { tree = c.turn.new.self; intake = c.fetch.new.self }) t x.0 c.wants-wish.result c.in-Ok.got polled.Waiting
           c.requires.running c.requires.empty c.wants-wish.ensures x.2 h.0 c.in-Waiting.ensures.numbered c.in-Waiting.ensures.stands c.requires.empty (λ s put k. k)
           (λ s o. let off : false ≡ true = sym c.requires.goes_on ∙ o in cc) (running g.O.Source.Stands g.O.Source.op g.S.Sends.Stands g.S.Sends.task goes (g.G.Morsels.morsel_of c.args.morsels.now) w t c.requires.running h),
+      waits g.O.Source.Stands g.O.Source.want (g.W.Wires.IsFull c.args.wires.now) (g.W.Wires.LacksMemory c.args.wires.now) (g.G.Morsels.morsel_of c.args.morsels.now) w (record w { tree = c.turn.new.self; intake = c.fetch.new.self }) c.fetch.new.self c.wants-wish.result c.in-Ok.got x.0 c.requires.running c.wants-wish.ensures (search rules) x.2.answers,
     )
 
 pub returns-in-Waiting-2-clause-ready : goal.returns-in-Waiting-2-clause-ready
@@ -66,6 +70,7 @@ returns-in-Waiting-2-clause-stands g c =
       λ goes r t h. turns g.O.Source.Stands g.O.Source.op g.S.Sends.Stands g.S.Sends.task goes (g.G.Morsels.morsel_of c.args.morsels.now) g.O.Source.want w (record w { tree = c.turn.new.self; intake = c.fetch.new.self }) t x.0 c.wants-wish.result c.in-Ok.got polled.Waiting
           c.requires.running c.requires.empty c.wants-wish.ensures x.2 h.0 c.in-Waiting-2.ensures.numbered c.in-Waiting-2.ensures.stands c.requires.empty (λ s put k. k)
           (λ s o. let off : false ≡ true = sym c.requires.goes_on ∙ o in cc) (running g.O.Source.Stands g.O.Source.op g.S.Sends.Stands g.S.Sends.task goes (g.G.Morsels.morsel_of c.args.morsels.now) w t c.requires.running h),
+      moves g.O.Source.Stands g.O.Source.want (g.W.Wires.IsFull c.args.wires.now) (g.W.Wires.LacksMemory c.args.wires.now) (g.G.Morsels.morsel_of c.args.morsels.now) w (record w { tree = c.turn.new.self; intake = c.fetch.new.self }) c.fetch.new.self c.wants-wish.result c.in-Ok.got x.0 c.requires.running c.requires.empty c.requires.goes_on c.wants-wish.ensures (search rules) x.2.answers,
     )
 
 pub returns-in-Fault-clause-ready : goal.returns-in-Fault-clause-ready
@@ -91,6 +96,7 @@ returns-in-Fault-clause-stands g c =
           c.fail-in-Fault.ensures.tree c.fail-in-Fault.ensures.intake c.wants-wish.ensures x.2 h.0 c.in-Fault.ensures.stands c.requires.empty
           (λ a put s. subst (λ z. Begun goes (g.S.Sends.task z) a.rows put) (sym c.fail-in-Fault.ensures.sender) (g.met.S.Sends.begun w.sender goes a put s unclosed))
           (running g.O.Source.Stands g.O.Source.op g.S.Sends.Stands g.S.Sends.task goes (g.G.Morsels.morsel_of c.args.morsels.now) w t c.requires.running h),
+      rw c.fail-in-Fault.ensures.moved (by_fault c.in-Fault.fault c.requires.running c.fail-in-Fault.ensures.phase),
     )
 
 pub returns-in-Ok-accept-clause-ready : goal.returns-in-Ok-accept-clause-ready
@@ -109,6 +115,7 @@ returns-in-Ok-accept-clause-stands g c =
       λ goes r t h. turns g.O.Source.Stands g.O.Source.op g.S.Sends.Stands g.S.Sends.task goes (g.G.Morsels.morsel_of c.args.morsels.now) g.O.Source.want w (record w { tree = c.turn.new.self; intake = c.fetch.new.self; sender = c.accept.new.self; is_over = w.is_over }) t x.0 c.wants-wish.result c.in-Ok.got (polled.Gave c.in-Gave.rows)
           c.requires.running c.requires.empty c.wants-wish.ensures x.2 h.0 c.in-Gave.ensures.numbered c.in-Gave.ensures.stands c.requires.empty (c.in-Ok-accept.ensures.ok goes r)
           (λ s o. let off : false ≡ true = sym c.requires.goes_on ∙ o in cc) (running g.O.Source.Stands g.O.Source.op g.S.Sends.Stands g.S.Sends.task goes (g.G.Morsels.morsel_of c.args.morsels.now) w t c.requires.running h),
+      by_rows c.in-Ok.got (polled.Gave c.in-Gave.rows) (λ e. cc) c.in-Gave.ensures.stands,
     )
 
 pub returns-in-Ok-accept-2-clause-ready : goal.returns-in-Ok-accept-2-clause-ready
@@ -127,6 +134,7 @@ returns-in-Ok-accept-2-clause-stands g c =
       λ goes r t h. turns g.O.Source.Stands g.O.Source.op g.S.Sends.Stands g.S.Sends.task goes (g.G.Morsels.morsel_of c.args.morsels.now) g.O.Source.want w (record w { tree = c.turn.new.self; intake = c.fetch.new.self; sender = c.accept-in-End.new.self; is_over = true }) t x.0 c.wants-wish.result c.in-Ok.got polled.End
           c.requires.running c.requires.empty c.wants-wish.ensures x.2 h.0 c.in-End.ensures.numbered c.in-End.ensures.stands c.requires.empty (c.in-Ok-accept-2.ensures.ok goes r)
           (λ s o. refl) (running g.O.Source.Stands g.O.Source.op g.S.Sends.Stands g.S.Sends.task goes (g.G.Morsels.morsel_of c.args.morsels.now) w t c.requires.running h),
+      by_rows c.in-Ok.got polled.End (λ e. cc) c.in-End.ensures.stands,
     )
 
 pub returns-in-Err-accept-clause-ready : goal.returns-in-Err-accept-clause-ready
@@ -156,6 +164,7 @@ returns-in-Err-accept-clause-stands g c =
           (λ a put s. subst (λ z. Begun goes (g.S.Sends.task z) a.rows put) (sym c.fail-in-Err-accept.ensures.sender)
           (g.met.S.Sends.begun s' goes (record { rows = a.rows; over = over.Failed c.no_memory-in-Err-accept.result }) put (c.in-Err-accept.ensures.err goes a put s c.no_memory-in-Err-accept.result) unclosed))
           (running g.O.Source.Stands g.O.Source.op g.S.Sends.Stands g.S.Sends.task goes (g.G.Morsels.morsel_of c.args.morsels.now) w t c.requires.running h),
+      rw c.fail-in-Err-accept.ensures.moved (by_fault c.no_memory-in-Err-accept.result c.requires.running c.fail-in-Err-accept.ensures.phase),
     )
 
 pub returns-in-Err-accept-2-clause-ready : goal.returns-in-Err-accept-2-clause-ready
@@ -185,4 +194,5 @@ returns-in-Err-accept-2-clause-stands g c =
           (λ a put s. subst (λ z. Begun goes (g.S.Sends.task z) a.rows put) (sym c.fail-in-Err-accept-2.ensures.sender)
           (g.met.S.Sends.begun s' goes (record { rows = a.rows; over = over.Failed c.no_memory-in-Err-accept-2.result }) put (c.in-Err-accept-2.ensures.err goes a put s c.no_memory-in-Err-accept-2.result) unclosed))
           (running g.O.Source.Stands g.O.Source.op g.S.Sends.Stands g.S.Sends.task goes (g.G.Morsels.morsel_of c.args.morsels.now) w t c.requires.running h),
+      rw c.fail-in-Err-accept-2.ensures.moved (by_fault c.no_memory-in-Err-accept-2.result c.requires.running c.fail-in-Err-accept-2.ensures.phase),
     )

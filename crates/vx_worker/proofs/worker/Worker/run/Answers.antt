@@ -22,6 +22,7 @@ returns-in-Some-clause-stands g c =
           c.requires.running c.requires.running refl refl refl
           (λ s k. subst (λ z. g.S.Sends.Stands c.next.new.self goes s (with_packet (with_pending t.sent z) c.in-Some.next.0 (Some c.in-Some.next.1))) none
           (c.in-Some.ensures.some goes s (with_pending t.sent w.pending) k)) h),
+      x.3,
     )
 
 pub returns-then-self-clause-stands : goal.returns-then-self-clause-stands
@@ -36,6 +37,7 @@ returns-then-self-clause-stands g c =
         ends-well g.O.Source.Stands g.O.Source.op g.S.Sends.Stands g.S.Sends.task goes m g.met.O.Source.told w c.next.new.self t none c.if-self.true
             (c.in-None.ensures.drained goes) (running g.O.Source.Stands g.O.Source.op g.S.Sends.Stands g.S.Sends.task goes m w t c.requires.running h),
       ),
+      refl,
     )
 
 pub returns-in-None-clause-stands : goal.returns-in-None-clause-stands
@@ -52,4 +54,5 @@ returns-in-None-clause-stands g c =
           (subst (λ b. RoutesAs (g.S.Sends.post w.sender) b hash goes) (sym c.in-None.ensures.bounds) r)) t
           (asked g.O.Source.Stands g.O.Source.op g.S.Sends.Stands g.S.Sends.task goes m w (record w { sender = s' }) t c.requires.running c.requires.running refl refl refl
           (λ s k. c.in-None.ensures.none goes s (with_pending t.sent w.pending) k) h),
+      x.3,
     )

@@ -1,6 +1,7 @@
-use Rattle.std.proofs.Common.{sym, ◌∙◌, subst}
+use Rattle.std.proofs.Common.{refl, rules, sym, ◌∙◌, subst}
 use Rattle.vx_exchange.specs.Tasks.{IsAt, Begun}
 use Rattle.vx_worker.specs.Trace.{idle}
+use Rattle.vx_worker.specs.Answering.{is_full, by_fault}
 use Rattle.vx_worker.specs.Intake.{IntakeStands}
 use Rattle.vx_worker.specs.Worker.{IsReadyIn}
 use Rattle.vx_worker.proofs.WorkerSteps.{closing-fails, refused, running}
@@ -27,4 +28,8 @@ returns-in-NoMemory-clause-stands g c =
           c.fail.ensures.tree c.no_memory.ensures (subst (λ k. IntakeStands k t) (sym c.fail.ensures.intake) h.0) here
           (λ a put s. subst (λ z. Begun goes (g.S.Sends.task z) a.rows put) (sym c.fail.ensures.sender) (g.met.S.Sends.begun w.sender goes a put s open_sender))
           (running g.O.Source.Stands g.O.Source.op g.S.Sends.Stands g.S.Sends.task goes m w t c.requires.running h),
+      rw c.fail.ensures.moved (by_fault c.no_memory.result c.requires.running c.fail.ensures.phase),
     )
+
+pub returns-in-Full-clause-stands : goal.returns-in-Full-clause-stands
+returns-in-Full-clause-stands g c = (idle, c.in-Full.ensures.2, search rules, is_full c.in-Some.to c.in-Full.packet refl c.in-Full.ensures.1 refl)
