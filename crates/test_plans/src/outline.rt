@@ -10,7 +10,7 @@ fn unary_name(unary: &Unary) -> &'static str {
         Unary::Project(_) => "project",
         Unary::Distinct(_) => "distinct",
         Unary::Sort(_) => "sort",
-        Unary::Group(_, _) => "group",
+        Unary::Group(_, _, _) => "group",
     }
 }
 

@@ -5,7 +5,7 @@ use Rattle.serde_json.specs.Data.{string}
 use Rattle.serde_json.specs.Written.{compact_text}
 use Rattle.vx_values.specs.Values.{Val, num, text, Name}
 use Rattle.vx_relations.specs.Catalog.{relation_at}
-use Rattle.vx_plan_nodes.specs.Plan.{Size, one_worker, group_of, Route, by_hash, by_range, Part, one, any, all, routed, Claim, Side, column, constant, Condition, Aggregate, least, greatest, sum, count_rows, Unary, select, project, distinct, sort, group, Binary, union, join, ExchangeKind, route_to, round, broadcast, gather, size}
+use Rattle.vx_plan_nodes.specs.Plan.{Size, one_worker, group_of, Route, by_hash, by_range, Part, one, any, all, routed, Claim, Side, column, constant, Condition, Aggregate, least, greatest, sum, count_rows, Unary, select, project, distinct, sort, group, plain, partial, final, Binary, union, join, ExchangeKind, route_to, round, broadcast, gather, concat, size}
 use Rattle.vx_values.specs.Test.{test_text}
 use Rattle.vx_plan_nodes.specs.Names.{Names}
 use Rattle.vx_plan_nodes.specs.Outline.{Outline, scan, unary, binary, exchange, top, columns, plan_in}
@@ -93,12 +93,19 @@ abbrev pub aggregates_text : List Name → List Name → ℕ → List Aggregate 
 aggregates_text inputs outputs i [] = []
 aggregates_text inputs outputs i (a ∷ as') = codes " " ++ separated (codes ", ") false (aggregate_texts inputs outputs i (a ∷ as'))
 
+-- the key columns and the aggregates of a grouping
+abbrev pub group_text : List Name → List Name → List ℕ → List Aggregate → List ℕ
+group_text inputs outputs by aggregates = list_text inputs by ++ aggregates_text inputs outputs (length by) aggregates
+
+-- a final grouping has nothing of its own to say: its columns are those of its partial
 abbrev pub unary_text : List Name → List Name → List Bool → Unary → List ℕ
 unary_text inputs outputs renamed (select cs) = codes "select " ++ separated (codes " and ") false (map (condition_text inputs) cs)
 unary_text inputs outputs renamed (project cols) = codes "project [" ++ (separated (codes ",") false (kept_texts inputs outputs 0 cols renamed) ++ codes "]")
 unary_text inputs outputs renamed (distinct cols) = codes "distinct [" ++ (separated (codes ",") false (kept_texts inputs outputs 0 cols renamed) ++ codes "]")
 unary_text inputs outputs renamed (sort cols) = codes "sort " ++ list_text inputs cols
-unary_text inputs outputs renamed (group by aggregates) = codes "group " ++ (list_text inputs by ++ aggregates_text inputs outputs (length by) aggregates)
+unary_text inputs outputs renamed (group plain by aggregates) = codes "group " ++ group_text inputs outputs by aggregates
+unary_text inputs outputs renamed (group partial by aggregates) = codes "partial-group " ++ group_text inputs outputs by aggregates
+unary_text inputs outputs renamed (group final by aggregates) = codes "final-group"
 
 -- ---- operators over two inputs, and exchanges
 
@@ -115,6 +122,7 @@ kind_text s inputs (route_to z r cols) = route_text s r ++ list_text inputs cols
 kind_text s inputs (round z) = codes "round"
 kind_text s inputs (broadcast z) = codes "broadcast"
 kind_text s inputs gather = codes "gather"
+kind_text s inputs concat = codes "concat"
 
 abbrev pub merge_text : List Name → List ℕ → List ℕ
 merge_text inputs [] = []

@@ -5,14 +5,14 @@ ghost use Rattle.vx_values.specs.ValueView.{val_of};
 ghost use Rattle.vx_relations.specs.Catalog.{relation_at};
 ghost use Rattle.vx_plan_nodes.specs.Outline.{condition_of, aggregate_of, unary_of, renamed_of, binary_of, kind_of};
 ghost use Rattle.vx_plan_nodes.specs.TypedView.{names_in};
-ghost use Rattle.vx_check.specs.Explain.{name_at, separated, value_text, condition_text, kept_text, kept_texts, function_text, aggregate_texts, aggregates_text, unary_text, pair_text, binary_text, kind_text, merge_text, scan_text, prefix_text};
+ghost use Rattle.vx_check.specs.Explain.{name_at, separated, value_text, condition_text, kept_text, kept_texts, function_text, aggregate_texts, aggregates_text, group_text, unary_text, pair_text, binary_text, kind_text, merge_text, scan_text, prefix_text};
 
 use crate::words::{name_at, push_between, push_list, push_routed};
 use itoa::Buffer;
 use std::alloc::{AllocError, Global};
 use vx_plan_nodes::{
-    Aggregate, Binary, Condition, Exchange, ExchangeKind, Projected, ScanNode, Side, TypedPlan,
-    Unary,
+    Aggregate, Binary, Condition, Exchange, ExchangeKind, Phase, Projected, ScanNode, Side,
+    TypedPlan, Unary,
 };
 use vx_rows::Value;
 
@@ -176,6 +176,23 @@ fn push_aggregates(
     push_aggregate_list(text, inputs, outputs, first, aggregates)
 }
 
+// Adds a grouping's word, its key columns and its aggregates.
+fn push_group(
+    text: &mut String,
+    word: &str,
+    inputs: &[String],
+    outputs: &[String],
+    by: &[usize],
+    aggregates: &[Aggregate],
+) -> Result<(), AllocError>
+    requires { length by.now + length aggregates.now < 2 ^ 64 }
+    ensures { OnOk result (string_bytes text.new ≡ string_bytes text.old ++ (word.now ++ group_text (map string_bytes inputs.now) (map string_bytes outputs.now) by.now (map aggregate_of aggregates.now))) }
+{
+    text.push_str(word)?;
+    push_list(text, inputs, by)?;
+    push_aggregates(text, inputs, outputs, by.len(), aggregates)
+}
+
 /// Adds an operator over one input; inputs and outputs are the names of the columns.
 pub fn push_unary(
     alloc: Global,
@@ -197,11 +214,23 @@ pub fn push_unary(
             text.push_str("sort ")?;
             push_list(text, inputs, columns.as_slice())
         }
-        Unary::Group(by, aggregates) => {
-            text.push_str("group ")?;
-            push_list(text, inputs, by.as_slice())?;
-            push_aggregates(text, inputs, outputs, by.len(), aggregates.as_slice())
-        }
+        Unary::Group(Phase::Plain, by, aggregates) => push_group(
+            text,
+            "group ",
+            inputs,
+            outputs,
+            by.as_slice(),
+            aggregates.as_slice(),
+        ),
+        Unary::Group(Phase::Partial, by, aggregates) => push_group(
+            text,
+            "partial-group ",
+            inputs,
+            outputs,
+            by.as_slice(),
+            aggregates.as_slice(),
+        ),
+        Unary::Group(Phase::Final, _, _) => text.push_str("final-group"),
     }
 }
 
@@ -272,6 +301,7 @@ fn push_kind(
         ExchangeKind::Round(_) => text.push_str("round"),
         ExchangeKind::Broadcast(_) => text.push_str("broadcast"),
         ExchangeKind::Gather => text.push_str("gather"),
+        ExchangeKind::Concat => text.push_str("concat"),
     }
 }
 

@@ -12,7 +12,7 @@ unary_types-width (select cs) types = refl
 unary_types-width (project cols) types = length-map cols (type_at types)
 unary_types-width (distinct cols) types = length-map cols (type_at types)
 unary_types-width (sort cols) types = refl
-unary_types-width (group by aggregates) types =
+unary_types-width (group phase by aggregates) types =
     length-append (map (type_at types) by) (map (aggregate_type types) aggregates)
     ∙ ap (λ k. k + length (map (aggregate_type types) aggregates)) (length-map by (type_at types))
     ∙ ap (λ k. length by + k) (length-map aggregates (aggregate_type types))

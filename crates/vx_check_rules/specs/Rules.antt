@@ -1,7 +1,7 @@
 -- The rule table (our own): what a node may claim, from size names, claims and columns alone, and at a scan from what the catalog declares. Every rule is a test that computes.
 use Rattle.std.specs.Prelude.{ℕ, zero, suc, ◌+◌, ◌-◌, ◌==◌, nat_lt, nat_le, Bool, true, false, cond, not, ◌&&◌, ◌||◌, List, [], ◌∷◌, map, length, Option, Some, None, slice_get}
 use Rattle.std.specs.List.{list_all, list_any}
-use Rattle.vx_plan_nodes.specs.Plan.{Route, by_hash, by_range, Part, one, any, all, routed, Unary, select, project, distinct, sort, group, Binary, union, join, ExchangeKind, route_to, round, broadcast, gather, Plan, scan, unary, binary, exchange, claim, size, size_eq, is_one}
+use Rattle.vx_plan_nodes.specs.Plan.{Route, by_hash, by_range, Part, one, any, all, routed, Unary, select, project, distinct, sort, group, Binary, union, join, ExchangeKind, route_to, round, broadcast, gather, Plan, scan, unary, binary, exchange, claim, size, size_eq, is_one, Claim, plain, partial, final, concat}
 use Rattle.vx_relations.specs.Relation.{Relation}
 use Rattle.vx_plan_nodes.specs.Types.{width}
 
@@ -113,7 +113,9 @@ binary_inputs_match (join m on) p q = routed_alike on (claim p).part (claim q).p
 -- the rows of a distinct or a group that belong together are on one worker
 abbrev pub keeps_apart : Unary → Plan → Bool
 keeps_apart (distinct cols) p = has p all || routed_within (claim p).part cols
-keeps_apart (group by aggregates) p = has p all || routed_within (claim p).part by
+keeps_apart (group plain by aggregates) p = has p all || routed_within (claim p).part by
+keeps_apart (group partial by aggregates) p = true
+keeps_apart (group final by aggregates) p = has p all || routed_within (claim p).part by
 keeps_apart _ p = true
 
 -- K4: what an operator with more than one worker asks of its inputs' parts
@@ -135,7 +137,7 @@ unary_shows (select cs) p q = has p q
 unary_shows (sort cols) p q = has p q
 unary_shows (project cols) p q = through (has p) (copied cols) q
 unary_shows (distinct cols) p q = through (has p) (copied cols) q
-unary_shows (group by aggregates) p q = through (has p) (copied by) q
+unary_shows (group phase by aggregates) p q = through (has p) (copied by) q
 
 -- from two inputs that are routed alike: any, the left route, and the right route at the output's columns
 abbrev pub alike_shows : ℕ → Part → Part → Part → Bool
@@ -162,6 +164,7 @@ kind_shows (route_to z r cols) q = part_gives (routed r cols) q
 kind_shows (round z) q = part_gives any q
 kind_shows (broadcast z) q = part_gives all q
 kind_shows gather q = part_gives one q
+kind_shows concat q = part_gives one q
 
 -- the parts shown at a node whose size is not one
 abbrev pub shows : (ℕ → Relation) → Plan → Part → Bool
@@ -182,7 +185,17 @@ unary_orders (select cs) below order = front order below
 unary_orders (sort cols) below order = front order cols
 unary_orders (project cols) below order = if_some (copied cols order) (λ cs. front cs below)
 unary_orders (distinct cols) below order = if_some (copied cols order) (λ cs. front cs below)
-unary_orders (group by aggregates) below order = if_some (copied by order) (λ cs. front cs below)
+unary_orders (group phase by aggregates) below order = if_some (copied by order) (λ cs. front cs below)
+
+-- the rows are routed by a range on a column, and the order begins with it
+abbrev pub rises_by : Part → List ℕ → Bool
+rises_by (routed (by_range k) (c ∷ [])) (d ∷ order) = c == d
+rises_by q order = false
+
+-- the producers' lists one after the other are sorted where each of them is
+abbrev pub goes_on : ExchangeKind → Claim → Bool
+goes_on concat c = rises_by c.part c.order
+goes_on k c = false
 
 -- the orders shown at a node, an empty one always
 abbrev pub orders : (ℕ → Relation) → Plan → List ℕ → Bool
@@ -191,7 +204,7 @@ orders catalog (unary n c op p) order = unary_orders op (claim p).order order
 orders catalog (binary n c union p q) order = front order []
 orders catalog (binary n c (join m on) p q) order = front order (claim p).order
 orders catalog (exchange n c k merge p) order =
-    front order merge || (is_one (size p) && front order (claim p).order)
+    front order merge || ((is_one (size p) || goes_on k (claim p)) && front order (claim p).order)
 
 -- K6: the claimed order is shown
 abbrev pub order_shown : (ℕ → Relation) → Plan → Bool
@@ -212,7 +225,9 @@ unary_keys (select cs) keys x = covers keys x
 unary_keys (sort cols) keys x = covers keys x
 unary_keys (project cols) keys x = if_some (copied cols x) (covers keys)
 unary_keys (distinct cols) keys x = within (numbers_below (length cols)) x && within x (numbers_below (length cols))
-unary_keys (group by aggregates) keys x = within (numbers_below (length by)) x
+unary_keys (group plain by aggregates) keys x = within (numbers_below (length by)) x
+unary_keys (group partial by aggregates) keys x = false
+unary_keys (group final by aggregates) keys x = within (numbers_below (length by)) x
 
 -- the columns of a join's right input, where they stand in its output
 abbrev pub shifted : ℕ → List ℕ → List ℕ

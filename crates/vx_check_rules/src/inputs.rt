@@ -6,7 +6,7 @@ ghost use Rattle.vx_check_rules.specs.Rules.{sizes_match, not_replicated, keeps_
 
 use crate::nodes::{claimed_part, has_one_worker, have_same_size};
 use crate::parts::{are_routed_alike, has_part, is_routed_on_kept, is_routed_within};
-use vx_plan_nodes::{Binary, Part, TypedNode, Unary};
+use vx_plan_nodes::{Binary, Part, Phase, TypedNode, Unary};
 
 /// Whether the inputs of a join or a union have the same size name: K1.
 pub fn do_sizes_match(node: &TypedNode) -> bool
@@ -28,7 +28,8 @@ pub fn is_not_replicated(node: &TypedNode) -> bool
     }
 }
 
-// Whether the rows of a distinct or a group that belong together are on one worker.
+// Whether the rows of a distinct or a group that belong together are on one worker. A partial group takes them as
+// they lie, since the final one puts its results together.
 fn is_kept_apart(operator: &Unary, input: &TypedNode) -> bool
     ensures { result ≡ keeps_apart (unary_of operator.now) (plan_of input.now) }
 {
@@ -36,8 +37,11 @@ fn is_kept_apart(operator: &Unary, input: &TypedNode) -> bool
         Unary::Distinct(kept) => {
             has_part(input, &Part::All) || is_routed_on_kept(claimed_part(input), kept.as_slice())
         }
-        Unary::Group(by, _) => has_part(input, &Part::All)
-            || is_routed_within(claimed_part(input), by.as_slice()),
+        Unary::Group(Phase::Plain, by, _) | Unary::Group(Phase::Final, by, _) => has_part(
+            input,
+            &Part::All,
+        ) || is_routed_within(claimed_part(input), by.as_slice()),
+        Unary::Group(Phase::Partial, _, _) => true,
         Unary::Select(_) | Unary::Project(_) | Unary::Sort(_) => true,
     }
 }

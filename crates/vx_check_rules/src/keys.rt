@@ -12,7 +12,7 @@ use crate::columns::{has_first, is_covered, is_of_first, is_within};
 use crate::copies::{Copies, is_covered_behind};
 use crate::nodes::{claimed_keys, width_of};
 use crate::pairs::{Input, hold_key};
-use vx_plan_nodes::{Binary, TypedNode, Unary};
+use vx_plan_nodes::{Binary, Phase, TypedNode, Unary};
 use vx_relations::{Catalog, Relation};
 
 // Whether the columns are a superset of a key that the relation declares.
@@ -47,7 +47,11 @@ fn shows_key_over(operator: &Unary, below: &[Vec<usize>], key: &[usize]) -> bool
         Unary::Select(_) | Unary::Sort(_) => is_covered(below, key),
         Unary::Project(kept) => Copies::Outputs(kept.as_slice()).cover(key, below),
         Unary::Distinct(kept) => has_first(key, kept.len()) && is_of_first(key, kept.len()),
-        Unary::Group(by, _) => has_first(key, by.len()),
+        Unary::Group(Phase::Plain, by, _) | Unary::Group(Phase::Final, by, _) => has_first(
+            key,
+            by.len(),
+        ),
+        Unary::Group(Phase::Partial, _, _) => false,
     }
 }
 

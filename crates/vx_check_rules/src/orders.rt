@@ -4,16 +4,16 @@ ghost use Rattle.std.specs.Prelude.{◌≡◌, ℕ, ◌&&◌, ◌||◌};
 ghost use Rattle.vx_relations.specs.Relation.{Relation};
 ghost use Rattle.vx_relations.specs.Catalog.{relation_at};
 ghost use Rattle.vx_plan_nodes.specs.Plan.{claim, size, is_one};
-ghost use Rattle.vx_plan_nodes.specs.Outline.{unary_of, binary_of, outline_of, plan_of};
-ghost use Rattle.vx_check_rules.specs.Rules.{front, unary_orders, order_given, order_shown, is_total_order};
+ghost use Rattle.vx_plan_nodes.specs.Outline.{part_of, kind_of, unary_of, binary_of, outline_of, plan_of};
+ghost use Rattle.vx_check_rules.specs.Rules.{front, rises_by, goes_on, unary_orders, order_given, order_shown, is_total_order};
 ghost use Rattle.vx_plan_nodes.specs.Outputs.{HasOutputs};
 ghost use Rattle.vx_check_rules.specs.Joints.{binary_orders};
 
 use crate::columns::{has_first, is_covered, is_front};
 use crate::copies::Copies;
-use crate::nodes::{claimed_keys, claimed_order, has_one_worker, width_of};
+use crate::nodes::{claimed_keys, claimed_order, claimed_part, has_one_worker, width_of};
 use crate::pairs::{Input, are_front};
-use vx_plan_nodes::{Binary, Exchange, TypedNode, Unary};
+use vx_plan_nodes::{Binary, Exchange, ExchangeKind, Part, Route, TypedNode, Unary};
 use vx_relations::Catalog;
 
 /// Whether a merge join's inputs begin with the columns that it joins on, and a merging exchange's with those that it
@@ -54,7 +54,7 @@ fn shows_order_over(operator: &Unary, below: &[usize], order: &[usize]) -> bool
         Unary::Project(kept) | Unary::Distinct(kept) => Copies::Outputs(
             kept.as_slice(),
         ).stand_for_front(order, below),
-        Unary::Group(by, _) => Copies::Keys(by.as_slice()).stand_for_front(order, below),
+        Unary::Group(_, by, _) => Copies::Keys(by.as_slice()).stand_for_front(order, below),
     }
 }
 
@@ -68,12 +68,39 @@ fn binary_shows_order(operator: &Binary, left: &[usize], order: &[usize]) -> boo
     }
 }
 
+// Whether rows with this part rise with the number of their worker, where each worker's rows are in this order: a range
+// on the order's first column put them there.
+fn rises_with_workers(part: &Part, order: &[usize]) -> bool
+    ensures { result ≡ rises_by (part_of part.now) order.now }
+{
+    match part {
+        Part::Routed(Route::Range(_), columns) => {
+            columns.len() == 1 && is_front(columns.as_slice(), order)
+        }
+        Part::One | Part::Any | Part::All | Part::Routed(Route::Hash(_), _) => false,
+    }
+}
+
+// Whether an exchange of this kind keeps the order of its producers' rows, since it takes one producer after the other.
+fn goes_on_in_order(kind: &ExchangeKind, input: &TypedNode) -> bool
+    ensures { result ≡ goes_on (kind_of kind.now) (claim (plan_of input.now)) }
+{
+    match kind {
+        ExchangeKind::Concat => rises_with_workers(claimed_part(input), claimed_order(input)),
+        ExchangeKind::Route(_, _, _)
+        | ExchangeKind::Round(_)
+        | ExchangeKind::Broadcast(_)
+        | ExchangeKind::Gather => false,
+    }
+}
+
 // Whether an exchange over the input shows the order.
 fn exchange_shows_order(exchange: &Exchange, input: &TypedNode, order: &[usize]) -> bool
-    ensures { result ≡ (front order.now exchange.now.merge.items || (is_one (size (plan_of input.now)) && front order.now (claim (plan_of input.now)).order)) }
+    ensures { result ≡ (front order.now exchange.now.merge.items || ((is_one (size (plan_of input.now)) || goes_on (kind_of exchange.now.kind) (claim (plan_of input.now))) && front order.now (claim (plan_of input.now)).order)) }
 {
     is_front(order, exchange.merge.as_slice())
-        || (has_one_worker(input) && is_front(order, claimed_order(input)))
+        || ((has_one_worker(input) || goes_on_in_order(&exchange.kind, input))
+            && is_front(order, claimed_order(input)))
 }
 
 /// Whether the node's claimed order is shown, as an empty one always is: K6.

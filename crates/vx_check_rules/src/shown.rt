@@ -24,7 +24,7 @@ fn shows_over(operator: &Unary, input: &TypedNode, wanted: &Part) -> bool
             Copies::Outputs(kept.as_slice()),
             wanted,
         ),
-        Unary::Group(by, _) => passes_through(input, Copies::Keys(by.as_slice()), wanted),
+        Unary::Group(_, by, _) => passes_through(input, Copies::Keys(by.as_slice()), wanted),
     }
 }
 
@@ -100,7 +100,7 @@ fn kind_gives(kind: &ExchangeKind, wanted: &Part) -> bool
         ExchangeKind::Route(_, route, columns) => route_gives(route, columns.as_slice(), wanted),
         ExchangeKind::Round(_) => gives(&Part::Any, wanted),
         ExchangeKind::Broadcast(_) => gives(&Part::All, wanted),
-        ExchangeKind::Gather => gives(&Part::One, wanted),
+        ExchangeKind::Gather | ExchangeKind::Concat => gives(&Part::One, wanted),
     }
 }
 

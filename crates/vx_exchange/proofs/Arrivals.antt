@@ -1,5 +1,5 @@
 -- One more packet at a consumer end.
-use Rattle.std.proofs.Common.{ℕ, ◌≡◌, ◌≢◌, ◌<◌, ◌==◌, inl, inr, refl, sym, ap, ◌∙◌, arith, subst, All, replicate, List, [], ◌∷◌, ◌++◌, Some, Bool, true, false, length, map, slice_get, append-nil, append_assoc}
+use Rattle.std.proofs.Common.{ℕ, ◌≡◌, ◌≢◌, ◌<◌, ◌==◌, inl, inr, refl, sym, ap, ◌∙◌, true≢false, arith, subst, All, replicate, List, [], ◌∷◌, ◌++◌, Some, Bool, true, false, length, map, slice_get, append-nil, append_assoc}
 use Rattle.std.specs.List.{list_all}
 use Rattle.std.proofs.Math.ListN.{set, get_or}
 use Rattle.std.proofs.Common.{length-set}
@@ -94,7 +94,7 @@ flag_elsewhere flags i j ne h =
     let w : get_or flags j false ≡ true = sym (get_or-set_other flags i j true false ne) ∙ v in
     slice_get-get_or flags j false b ∙ ap Some w
 
-module _ (port : ConsumerEnd) (next : ℕ) (flags : List Bool) (packet : PacketView) (l : Ledger) (plain : port.merge ≡ []) where
+module _ (port : ConsumerEnd) (next : ℕ) (flags : List Bool) (packet : PacketView) (l : Ledger) (plain : port.merge ≡ []) (unordered : port.in_order ≡ false) where
   unfoldable pub with_one : Ledger → Ledger
   with_one k = record k { came = with_packet k.came next (Some packet) }
 
@@ -168,7 +168,7 @@ module _ (port : ConsumerEnd) (next : ℕ) (flags : List Bool) (packet : PacketV
       → EndStands port flags next' Running (after l (want.Packet next) (got.Packet (Some packet)) (polled.Gave t))
   port-rows f rows t next' e b o s =
       let d = subst (λ ys. Dealt port.producers (l.gave.rows ++ ys) (λ j. rows_of (with_packet l.came next (Some packet) j))) (ap content_rows b ∙ sym e) (dealt-more port.producers next l.came packet l.gave.rows (is_within s) s.makes.0) in
-      let m : Makes (receive port) (after l (want.Packet next) (got.Packet (Some packet)) (polled.Gave t)) (l.gave.rows ++ t.rows) = (d, rw plain (sorted-on_none (l.gave.rows ++ t.rows))) in
+      let m : Makes (receive port) (after l (want.Packet next) (got.Packet (Some packet)) (polled.Gave t)) (l.gave.rows ++ t.rows) = (d, rw plain (sorted-on_none (l.gave.rows ++ t.rows)), λ e. absurd (true≢false (sym e ∙ unordered))) in
       record {
         as_many = s.as_many;
         same = s.same;
@@ -186,7 +186,7 @@ module _ (port : ConsumerEnd) (next : ℕ) (flags : List Bool) (packet : PacketV
   unfolding with_one
   last_makes b s =
       let d = subst (λ ys. Dealt port.producers ys (λ j. rows_of (with_packet l.came next (Some packet) j))) (ap (λ c. l.gave.rows ++ content_rows c) b ∙ append-nil l.gave.rows) (dealt-more port.producers next l.came packet l.gave.rows (is_within s) s.makes.0) in
-      (d, s.makes.1)
+      (d, s.makes.1, λ e. absurd (true≢false (sym e ∙ unordered)))
 
   last_closed : packet.content ≡ last → EndStands port flags next Running l
       → (i : ℕ) → slice_get (set flags next true) i ≡ Some true → has_last (with_packet l.came next (Some packet) i) ≡ true
@@ -243,7 +243,7 @@ port-fresh exchange place n types flags e lt =
     let none : (i : ℕ) → i < n → slice_get flags i ≡ Some false = λ i l. rw e (none_set n i l) in
     let port = unmerged_end exchange place n types in
     let d : Dealt n [] (λ i. rows_of []) = record { numbered = []; whole = refl; in_range = refl; lists_are = λ i h. refl } in
-    let m : Makes (receive port) fresh_ledger [] = (d, refl) in
+    let m : Makes (receive port) fresh_ledger [] = (d, refl, λ e. absurd (true≢false (sym e))) in
     subst (λ k. EndStands (unmerged_end exchange place k types) flags 0 Running fresh_ledger) (sym many) (record {
       as_many = many;
       same = refl;

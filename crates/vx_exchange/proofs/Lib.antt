@@ -4,6 +4,8 @@ pub mod Deals
 pub mod Sendings
 pub mod Parts
 pub mod Arrivals
+pub mod Joined
+pub mod InOrderFacts
 pub mod Cuts
 pub mod LaneLists
 pub mod Senders

@@ -2,7 +2,7 @@
 use Rattle.std.proofs.Common.{◌≡◌, ℕ, ◌<◌, ◌==◌, List, [], ◌++◌, map, filter, refl, ap, ◌∙◌}
 use Rattle.std.proofs.lemmas.List.Elements.{filter-append}
 use Rattle.vx_values.specs.Values.{Row, pick}
-use Rattle.vx_plan_nodes.specs.Plan.{ExchangeKind, route_to, round, broadcast, gather}
+use Rattle.vx_plan_nodes.specs.Plan.{ExchangeKind, route_to, round, broadcast, gather, concat}
 use Rattle.vx_plan_nodes.specs.Routes.{Router, Sends}
 use Rattle.vx_plan_nodes.specs.Streams.{Streams, bearing}
 use Rattle.vx_exchange.proofs.Deals.{numbered_same, rows-numbered_same, range-numbered_same, bearing-append, numbers-append, ranges-append}
@@ -21,6 +21,7 @@ sends-append goes (round z) n xs ys sent more h m = record {
 }
 sends-append goes (broadcast z) n xs ys sent more h m = λ j l. ap (λ zs. zs ++ ys) (h j l) ∙ ap (λ zs. sent j ++ zs) (m j l)
 sends-append goes gather n xs ys sent more h m = λ j l. ap (λ zs. zs ++ ys) (h j l) ∙ ap (λ zs. sent j ++ zs) (m j l)
+sends-append goes concat n xs ys sent more h m = λ j l. ap (λ zs. zs ++ ys) (h j l) ∙ ap (λ zs. sent j ++ zs) (m j l)
 
 -- any rows can be sent where there is a consumer
 pub sends-some : (goes : Router) (k : ExchangeKind) (n : ℕ) (xs : List Row) → 0 < n → (sent : Streams) × Sends goes k n xs sent
@@ -36,6 +37,7 @@ sends-some goes (round z) n xs some = (
 )
 sends-some goes (broadcast z) n xs some = (λ j. xs, λ j l. refl)
 sends-some goes gather n xs some = (λ j. xs, λ j l. refl)
+sends-some goes concat n xs some = (λ j. xs, λ j l. refl)
 
 -- no rows send nothing
 pub sends-none : (goes : Router) (k : ExchangeKind) (n : ℕ) → Sends goes k n [] (λ j. [])
@@ -43,3 +45,4 @@ sends-none goes (route_to z r cols) n = λ j l. refl
 sends-none goes (round z) n = record { numbered = []; whole = refl; in_range = refl; lists_are = λ j l. refl }
 sends-none goes (broadcast z) n = λ j l. refl
 sends-none goes gather n = λ j l. refl
+sends-none goes concat n = λ j l. refl

@@ -7,6 +7,7 @@ pub mod Beginnings
 pub mod Parts
 pub mod InTurn
 pub mod Receiver
+pub mod InOrder
 pub mod LaneView
 pub mod Lanes
 pub mod LaneLaws

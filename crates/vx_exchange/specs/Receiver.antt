@@ -13,9 +13,9 @@ use Rattle.vx_ops.specs.declared.turn.Want.TheVariants as want
 use Rattle.vx_exchange.specs.InTurn.{IsInTurn}
 use Rattle.vx_exchange.specs.declared.receiver.Receiver.{Receiver}
 
--- a consumer end that does not merge
+-- a consumer end that does not merge, and takes the producers as their packets come
 abbrev pub unmerged_end : (exchange place producers : ℕ) → List ColType → ConsumerEnd
-unmerged_end exchange place producers types = record { exchange = exchange; place = place; producers = producers; types = types; merge = [] }
+unmerged_end exchange place producers types = record { exchange = exchange; place = place; producers = producers; types = types; merge = []; in_order = false }
 
 -- where a receiver stands
 abbrev pub receiver_end : Receiver → ConsumerEnd

@@ -1,7 +1,7 @@
 -- What a sending end knows of where rows go, and when it accepts more.
 use Rattle.std.specs.Prelude.{◌≡◌, ℕ, ◌<◌, Bool, true, false, List}
 use Rattle.vx_values.specs.Values.{Val, Row, value_at}
-use Rattle.vx_plan_nodes.specs.Plan.{ExchangeKind, route_to, round, broadcast, gather, by_hash, by_range}
+use Rattle.vx_plan_nodes.specs.Plan.{ExchangeKind, route_to, round, broadcast, gather, concat, by_hash, by_range}
 use Rattle.vx_plan_nodes.specs.Routes.{Router, range_consumer}
 use Rattle.vx_ops.specs.declared.turn.Polled.{Polled}
 use Rattle.vx_ops.specs.declared.turn.Polled.TheVariants as polled
@@ -14,6 +14,7 @@ KindRoutesAs (route_to z (by_range k) cols) bounds hash goes = (key : Row) (n : 
 KindRoutesAs (round z) bounds hash goes = Unit {0}
 KindRoutesAs (broadcast z) bounds hash goes = Unit {0}
 KindRoutesAs gather bounds hash goes = Unit {0}
+KindRoutesAs concat bounds hash goes = Unit {0}
 
 abbrev pub RoutesAs : Post → List Val → (List ℕ → Row → ℕ → ℕ) → Router → Type 0
 RoutesAs (sends_by_ship s) bounds hash goes = KindRoutesAs s.kind bounds hash goes

@@ -1,5 +1,6 @@
 //! What sending ends owe, by the definitions alone.
 
+ghost use Rattle.vx_exchange.specs.InOrder.{InOrderLaw};
 ghost use Rattle.vx_exchange.specs.Closing.{FaultCutsShort, LastShips};
 ghost use Rattle.vx_exchange.specs.Parts.{PartStaysAsRowsCome, PartStaysWithLess, PartStaysWithoutLast, BegunStaysAsRowsCome, BegunStaysWithoutLast, FaultStops};
 ghost use Rattle.vx_exchange.specs.Rounds.{TurnsAreDealt};
@@ -47,4 +48,9 @@ pub fn begun_stays_without_last()
 /// A task that has begun is stopped by Fault on each port.
 pub fn fault_stops()
     ensures { FaultStops }
+{}
+
+/// A consumer end that asks its producers one after the other gives, at any moment, what it is to make of what came.
+pub fn in_order_receiver_stands()
+    ensures { InOrderLaw }
 {}

@@ -108,6 +108,7 @@ module _ (j : Job) (hash : List ℕ → Row → ℕ → ℕ) where
         };
         fit = numbered-is-fit (relations j.plan.now) (plan j.plan.now) j.plan.now.numbered allowed;
         formed = (typed-is-well-formed (scope j.plan.now) (plan j.plan.now) j.plan.now.typed_nodes).0;
+        closed = j.plan.now.closed;
         allows = allowed;
         root = root;
       }

@@ -264,10 +264,10 @@ val-trans a b c h k = le-not_gt _ (upto val_cmp_total a b c (not_gt-le _ h) (not
 val-other : (a b : Val) → is_le (val_cmp a b) ≡ false → is_le (val_cmp b a) ≡ true
 val-other a b h = le-reverse (val_cmp a b) (val_cmp b a) (val_cmp_total.antisymm a b) h
 
-val-refl : (a : Val) → is_le (val_cmp a a) ≡ true
+pub val-refl : (a : Val) → is_le (val_cmp a a) ≡ true
 val-refl a = let e = tied_itself val_cmp_total a in ap is_le e
 
-val-both : (a b : Val) → is_le (val_cmp a b) ≡ true → is_le (val_cmp b a) ≡ true → a ≡ b
+pub val-both : (a b : Val) → is_le (val_cmp a b) ≡ true → is_le (val_cmp b a) ≡ true → a ≡ b
 val-both a b h k = val_cmp-same a b (go (val_cmp a b) (val_cmp b a) (val_cmp_total.antisymm a b) h k)
   where
     go : (o p : Ordering) → o ≡ ordering_reverse p → is_le o ≡ true → is_le p ≡ true → o ≡ Equal
@@ -276,7 +276,7 @@ val-both a b h k = val_cmp-same a b (go (val_cmp a b) (val_cmp b a) (val_cmp_tot
     go o Greater e h k = absurd (true≢false (sym k))
 
 -- the least value is below all, and is one of them
-least-below : (c : ℕ) (x : Row) (xs : List Row) → list_all (λ r. is_le (val_cmp (least_of c x xs) (value_at r c))) (x ∷ xs) ≡ true
+pub least-below : (c : ℕ) (x : Row) (xs : List Row) → list_all (λ r. is_le (val_cmp (least_of c x xs) (value_at r c))) (x ∷ xs) ≡ true
 least-below c x [] = and-both _ true (val-refl (value_at x c)) refl
 least-below c x (y ∷ ys) = cases (is_le (val_cmp (value_at x c) (least_of c y ys))) refl (least-below c y ys)
   where
@@ -291,7 +291,7 @@ least-below c x (y ∷ ys) = cases (is_le (val_cmp (value_at x c) (least_of c y 
         (λ r k. val-trans (value_at x c) (least_of c y ys) (value_at r c) e k) (y ∷ ys) ih)
     cases false e ih = and-both _ _ (val-other (value_at x c) (least_of c y ys) e) ih
 
-least-among : (c : ℕ) (x : Row) (xs : List Row) (p : Val → Bool) → list_all (λ r. p (value_at r c)) (x ∷ xs) ≡ true → p (least_of c x xs) ≡ true
+pub least-among : (c : ℕ) (x : Row) (xs : List Row) (p : Val → Bool) → list_all (λ r. p (value_at r c)) (x ∷ xs) ≡ true → p (least_of c x xs) ≡ true
 least-among c x [] p h = and-left (p (value_at x c)) true h
 least-among c x (y ∷ ys) p h = cases (is_le (val_cmp (value_at x c) (least_of c y ys)))
     (least-among c y ys p (and-right (p (value_at x c)) (list_all (λ r. p (value_at r c)) (y ∷ ys)) h))
@@ -300,7 +300,7 @@ least-among c x (y ∷ ys) p h = cases (is_le (val_cmp (value_at x c) (least_of 
     cases true ih = and-left (p (value_at x c)) (list_all (λ r. p (value_at r c)) (y ∷ ys)) h
     cases false ih = ih
 
-greatest-above : (c : ℕ) (x : Row) (xs : List Row) → list_all (λ r. is_le (val_cmp (value_at r c) (greatest_of c x xs))) (x ∷ xs) ≡ true
+pub greatest-above : (c : ℕ) (x : Row) (xs : List Row) → list_all (λ r. is_le (val_cmp (value_at r c) (greatest_of c x xs))) (x ∷ xs) ≡ true
 greatest-above c x [] = and-both _ true (val-refl (value_at x c)) refl
 greatest-above c x (y ∷ ys) = cases (is_le (val_cmp (value_at x c) (greatest_of c y ys))) refl (greatest-above c y ys)
   where
@@ -312,7 +312,7 @@ greatest-above c x (y ∷ ys) = cases (is_le (val_cmp (value_at x c) (greatest_o
         (list_all-weaken (λ r. is_le (val_cmp (value_at r c) (greatest_of c y ys))) (λ r. is_le (val_cmp (value_at r c) (value_at x c)))
         (λ r k. val-trans (value_at r c) (greatest_of c y ys) (value_at x c) k (val-other (value_at x c) (greatest_of c y ys) e)) (y ∷ ys) ih)
 
-greatest-among : (c : ℕ) (x : Row) (xs : List Row) (p : Val → Bool) → list_all (λ r. p (value_at r c)) (x ∷ xs) ≡ true → p (greatest_of c x xs) ≡ true
+pub greatest-among : (c : ℕ) (x : Row) (xs : List Row) (p : Val → Bool) → list_all (λ r. p (value_at r c)) (x ∷ xs) ≡ true → p (greatest_of c x xs) ≡ true
 greatest-among c x [] p h = and-left (p (value_at x c)) true h
 greatest-among c x (y ∷ ys) p h = cases (is_le (val_cmp (value_at x c) (greatest_of c y ys)))
     (greatest-among c y ys p (and-right (p (value_at x c)) (list_all (λ r. p (value_at r c)) (y ∷ ys)) h))

@@ -4,7 +4,7 @@ use Rattle.std.specs.List.{list_all}
 use Rattle.vx_values.specs.Values.{Row, pick}
 use Rattle.vx_rows.specs.Order.{sorted}
 use Rattle.vx_rows.specs.Bags.{total, SameRows}
-use Rattle.vx_plan_nodes.specs.Plan.{Size, Route, ExchangeKind, route_to, round, broadcast, gather}
+use Rattle.vx_plan_nodes.specs.Plan.{Size, Route, ExchangeKind, route_to, round, broadcast, gather, concat}
 use Rattle.vx_plan_nodes.specs.Streams.{Streams, joined, Dealt, across}
 use Rattle.vx_plan_nodes.specs.Routes.{Router, Sends}
 use Rattle.vx_plan_nodes.specs.Runs.{Exchanges}
@@ -27,34 +27,39 @@ routed-total goes law r cols n some f xs =
 
 -- what a producer sends to all consumers together; a broadcast sends everything to each
 pub sends-total : (goes : Router) → InRange goes → (k : ExchangeKind) (n : ℕ) (xs : List Row) (sent : Streams) → Sends goes k n xs sent
-    → 0 < n → (f : Row → ℕ) → ((z : Size) → k ≡ broadcast z → n ≡ 1) → (k ≡ gather → n ≡ 1)
+    → 0 < n → (f : Row → ℕ) → ((z : Size) → k ≡ broadcast z → n ≡ 1) → (k ≡ gather → n ≡ 1) → (k ≡ concat → n ≡ 1)
     → across n (λ j. total f (sent j)) ≡ total f xs
-sends-total goes law (route_to z r cols) n xs sent h some f b g =
+sends-total goes law (route_to z r cols) n xs sent h some f b g o =
     across-ext n _ _ (λ j l. ap (total f) (sym (h j l))) ∙ routed-total goes law r cols n some f xs
-sends-total goes law (round z) n xs sent h some f b g = sym (Dealt-total h f)
-sends-total goes law (broadcast z) n xs sent h some f b g = one-consumer n xs sent f (b z refl) h
+sends-total goes law (round z) n xs sent h some f b g o = sym (Dealt-total h f)
+sends-total goes law (broadcast z) n xs sent h some f b g o = one-consumer n xs sent f (b z refl) h
   where
     one-consumer : (n : ℕ) (xs : List Row) (sent : Streams) (f : Row → ℕ) → n ≡ 1 → ((j : ℕ) → j < n → xs ≡ sent j) → across n (λ j. total f (sent j)) ≡ total f xs
     one-consumer n xs sent f e h =
         let a : across n (λ j. total f (sent j)) ≡ across 1 (λ j. total f (sent j)) = ap (λ m. across m (λ j. total f (sent j))) e in
         let c : total f xs ≡ total f (sent 0) = ap (total f) (h 0 (omega arith)) in
         omega (arith, a, c)
-sends-total goes law gather n xs sent h some f b g =
+sends-total goes law gather n xs sent h some f b g o =
     let e : n ≡ 1 = g refl in
+    let a : across n (λ j. total f (sent j)) ≡ across 1 (λ j. total f (sent j)) = ap (λ m. across m (λ j. total f (sent j))) e in
+    let c : total f xs ≡ total f (sent 0) = ap (total f) (h 0 (omega arith)) in
+    omega (arith, a, c)
+sends-total goes law concat n xs sent h some f b g o =
+    let e : n ≡ 1 = o refl in
     let a : across n (λ j. total f (sent j)) ≡ across 1 (λ j. total f (sent j)) = ap (λ m. across m (λ j. total f (sent j))) e in
     let c : total f xs ≡ total f (sent 0) = ap (total f) (h 0 (omega arith)) in
     omega (arith, a, c)
 
 -- the streams of all consumers have the rows of all producers, where nothing is sent twice
 pub exchange-any : (goes : Router) → InRange goes → (k : ExchangeKind) (merge : List ℕ) (m n : ℕ) (s s' : Streams) (base : List Row)
-    → Exchanges goes k merge m n s s' → 0 < n → ((z : Size) → k ≡ broadcast z → n ≡ 1) → (k ≡ gather → n ≡ 1)
+    → Exchanges goes k merge m n s s' → 0 < n → ((z : Size) → k ≡ broadcast z → n ≡ 1) → (k ≡ gather → n ≡ 1) → (k ≡ concat → n ≡ 1)
     → SameRows (joined m s) base → SameRows (joined n s') base
-exchange-any goes law k merge m n s s' base x some b g same = record {
+exchange-any goes law k merge m n s s' base x some b g o same = record {
   totals = λ f.
       total-joined f n s'
       ∙ (across-ext n (λ j. total f (s' j)) (λ j. across m (λ i. total f (x.sent i j))) (λ j l. Dealt-total (x.gets j l) f)
       ∙ (across-swap n m (λ j i. total f (x.sent i j))
-      ∙ (across-ext m (λ i. across n (λ j. total f (x.sent i j))) (λ i. total f (s i)) (λ i l. sends-total goes law k n (s i) (x.sent i) (x.sends i l) some f b g)
+      ∙ (across-ext m (λ i. across n (λ j. total f (x.sent i j))) (λ i. total f (s i)) (λ i l. sends-total goes law k n (s i) (x.sent i) (x.sends i l) some f b g o)
       ∙ (sym (total-joined f m s) ∙ same.totals f))));
 }
 
@@ -95,6 +100,7 @@ sends-sorted goes (route_to z r cols) n xs sent h cs up j l =
 sends-sorted goes (round z) n xs sent h cs up j l = Dealt-sorted h cs up j l
 sends-sorted goes (broadcast z) n xs sent h cs up j l = let P : List Row → Type 0 = λ ys. sorted cs ys ≡ true in subst P (h j l) up
 sends-sorted goes gather n xs sent h cs up j l = let P : List Row → Type 0 = λ ys. sorted cs ys ≡ true in subst P (h j l) up
+sends-sorted goes concat n xs sent h cs up j l = let P : List Row → Type 0 = λ ys. sorted cs ys ≡ true in subst P (h j l) up
 
 pub single-sorted : (goes : Router) (k : ExchangeKind) (merge : List ℕ) (m n : ℕ) (s s' : Streams) → Exchanges goes k merge m n s s' → m ≡ 1
     → (cs : List ℕ) → sorted cs (s 0) ≡ true → (j : ℕ) → j < n → sorted cs (s' j) ≡ true

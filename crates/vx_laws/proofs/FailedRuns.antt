@@ -1,6 +1,6 @@
 -- The worked run that fails.
 use Rattle.std.proofs.Common.{◌≡◌, ℕ, zero, suc, ◌==◌, false, cond, inl, inr, [], ◌∷◌, refl, ap, subst, arith, ne_eqb}
-use Rattle.vx_plan_nodes.specs.Plan.{sum, group}
+use Rattle.vx_plan_nodes.specs.Plan.{sum, group, plain}
 use Rattle.vx_plan_nodes.specs.Streams.{across}
 use Rattle.vx_morsel.specs.Draws.{times, once_below}
 use Rattle.vx_ops.specs.Ledger.{Stream, Ledger, fresh, one_op, scan_op, OwnBlame, Told}
@@ -33,15 +33,15 @@ nothing = record { left = fresh; right = fresh; came = λ i. []; gave = fresh }
 same-fault : (f g : Fault) → Failed f ≡ Failed g → f ≡ g
 same-fault f g e = cc
 
-told-group : Told (one_op 0 (group [] (sum 0 ∷ []))) grouping
+told-group : Told (one_op 0 (group plain [] (sum 0 ∷ []))) grouping
 told-group = record {
-  before = begun_nothing (one_op 0 (group [] (sum 0 ∷ []))) grouping nothing []
+  before = begun_nothing (one_op 0 (group plain [] (sum 0 ∷ []))) grouping nothing []
       (record { left = record { rest = large.db 0; joined = refl }; right = all_of []; came = λ i. all_of [] }) refl refl;
   ended = λ e. absurd (not-ended e);
   passes = λ f e. absurd (not-failed f e);
   tests = tt;
   blame = λ f e.
-      let P : Fault → Type 0 = λ x. OwnBlame (one_op 0 (group [] (sum 0 ∷ []))) grouping x in
+      let P : Fault → Type 0 = λ x. OwnBlame (one_op 0 (group plain [] (sum 0 ∷ []))) grouping x in
       inr (subst P (same-fault (Own Overflow 0) f e) (refl, refl, inl refl));
 }
   where

@@ -11,7 +11,7 @@ use Rattle.vx_laws.specs.RunOf.{Known, RunOf}
 use Rattle.vx_plan_nodes.specs.Numbering.{is_fit, nodes, is_numbered, relation_in}
 use Rattle.vx_laws.specs.Layout.{workers_below, FlatRun, FlatIsRun, NumberedIsFit}
 use Rattle.vx_laws.proofs.Bags.{and-left, and-right, and-both}
-use Rattle.vx_laws.proofs.Frame.{tests}
+use Rattle.vx_laws.proofs.OneInput.{tests}
 
 abbrev pub flat-to-run : (S : Setting) (E : Known) (ts : ℕ → Trace) (p : Plan) (top next : ℕ) → FlatRun S E ts p top next → RunOf S E p (λ w. ts (top + w))
 flat-to-run S E ts (scan n c r true z) top next h = h

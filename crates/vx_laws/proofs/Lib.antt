@@ -12,6 +12,10 @@ pub mod Widths
 pub mod Binary
 pub mod Apart
 pub mod Groups
+pub mod Pieces
+pub mod Concat
+pub mod Opened
+pub mod OneInput
 pub mod Frame
 pub mod Erased
 pub mod Total
@@ -31,4 +35,5 @@ pub mod FailedRuns
 pub mod Hands
 pub mod Settings
 pub mod TypedPlans
+pub mod PhaseFacts
 pub mod Numbered

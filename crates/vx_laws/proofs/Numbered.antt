@@ -22,7 +22,7 @@ use Rattle.vx_laws.proofs.Overflows.{ends-with, below, real-erased}
 use Rattle.vx_laws.proofs.OrderFaults.{ends-so, below-so}
 
 pub numbered-run-delivers : NumberedRunDelivers
-numbered-run-delivers S set is_total p fit wf ok root ts rows h =
+numbered-run-delivers S set is_total p fit wf shut ok root ts rows h =
     let n1 : workers S.sizes (size p) ≡ 1 = one-worker S.sizes (size p) (and-left (is_one (size p)) _ root) in
     let Q : List Row → Type 0 = λ xs. Made S (fragment S 0 p) (ts 0) xs in
     let made : Made S (fragment S 0 p) (ts 0) rows = subst Q (sym h.root.finished.0) (well-made S 0 p (keep rows) (ts 0) h.root) in
@@ -33,7 +33,7 @@ numbered-run-delivers S set is_total p fit wf ok root ts rows h =
     let w0 : 0 ≡ w = omega (arith, z) in
     let R : ℕ → Type 0 = λ v. Made S (fragment S v p) (ts (0 + v)) rows in
     subst R w0 made) (flat-to-run S (IsWell S) ts p 0 1 h.below) in
-    (runs, sound-at-root S.catalog S.db S.sizes (goes S) (set-given S set) is_total p (λ w. rows) wf ok root runs)
+    (runs, sound-at-root S.catalog S.db S.sizes (goes S) (set-given S set) is_total p (λ w. rows) wf shut ok root runs)
 
 -- a failure by number is a failure by fragments
 flat-fails : (S : Setting) (f : Fault) (ts : ℕ → Trace) (p : Plan) (top next : ℕ) (run : FlatRun S (Ends S) ts p top next)
@@ -53,7 +53,7 @@ numbered-faults-are-real = record {
       let run = flat-to-run S (Ends S) ts p 0 1 h.below in
       let n1 : workers S.sizes (size p) ≡ 1 = one-worker S.sizes (size p) single in
       let P : ℕ → Type 0 = λ m. 0 < m in
-      real-erased S.db p (⊎_elim
+      real-erased S.catalog S.db p wf (⊎_elim
       (λ e. ends-with S giv set.some_morsel p fit wf ok (λ w. ts (0 + w)) run 0 (subst P (sym n1) (omega arith)) (keep h.kept) node h.root.0 h.root.1 e)
       (λ b. below S giv set.some_morsel p fit wf ok (λ w. ts (0 + w)) run node (flat-fails S (Own Overflow node) ts p 0 1 h.below b))
       h.fails);

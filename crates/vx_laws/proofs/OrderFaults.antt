@@ -25,8 +25,11 @@ use Rattle.vx_laws.proofs.Settings.{set-given}
 use Rattle.vx_laws.proofs.Bags.{and-left, and-right}
 use Rattle.vx_laws.proofs.Parts.{size_eq-is, one-worker}
 use Rattle.vx_laws.proofs.Orders.{sorted-front}
-use Rattle.vx_laws.proofs.Frame.{tests, well-left, well-right}
+use Rattle.vx_laws.proofs.OneInput.{tests}
+use Rattle.vx_laws.proofs.Frame.{well-left, well-right}
 use Rattle.vx_laws.proofs.Tidy.{tidy, came-tidy}
+use Rattle.vx_plan_nodes.specs.Phases.{phase_fits}
+use Rattle.vx_plan_nodes.specs.Runs.{is_concat}
 
 -- all packets are for this port, from this producer
 abbrev AllFor : ConsumerEnd → ℕ → List PacketView → Type 0
@@ -45,20 +48,20 @@ no-stranger port i [] p back h k = k h.0
 no-stranger port i (q ∷ front) p back h k = no-stranger port i front p back h.1 k
 
 module _ (S : Setting) (giv : Given S.catalog S.db S.sizes (goes S)) where
-  abbrev port_of : ℕ → ℕ → List ℕ → Plan → ConsumerEnd
-  port_of n w merge p = record { exchange = n; place = w; producers = workers S.sizes (size p); types = types_of S.catalog p; merge = merge }
+  abbrev port_of : ℕ → ℕ → ExchangeKind → List ℕ → Plan → ConsumerEnd
+  port_of n w k merge p = record { exchange = n; place = w; producers = workers S.sizes (size p); types = types_of S.catalog p; merge = merge; in_order = is_concat k }
 
   packets-for : (n i w : ℕ) (k : ExchangeKind) (merge : List ℕ) (p : Plan) (parts : List (List Row)) (end : Content)
-      → AllFor (port_of n w merge p) i (map (packet_at (ship_of S n i k p) w) parts ++ packet_of (ship_of S n i k p) w end ∷ [])
+      → AllFor (port_of n w k merge p) i (map (packet_at (ship_of S n i k p) w) parts ++ packet_of (ship_of S n i k p) w end ∷ [])
   packets-for n i w k merge p [] end = (record { exchange = refl; from_is = refl; to = refl; types = refl }, tt)
   packets-for n i w k merge p (x ∷ parts) end = (record { exchange = refl; from_is = refl; to = refl; types = refl }, packets-for n i w k merge p parts end)
 
-  put-for : (n i w : ℕ) (k : ExchangeKind) (merge : List ℕ) (p : Plan) (u : Trace) → w < workers S.sizes (target k) → (e : Ends S (fragment S i p) (send (ship_of S n i k p)) u) → AllFor (port_of n w merge p) i (u.sent w)
+  put-for : (n i w : ℕ) (k : ExchangeKind) (merge : List ℕ) (p : Plan) (u : Trace) → w < workers S.sizes (target k) → (e : Ends S (fragment S i p) (send (ship_of S n i k p)) u) → AllFor (port_of n w k merge p) i (u.sent w)
   put-for n i w k merge p u l e = go e.0 e.1
     where
-      go : (fate : Fate) → Honest S (fragment S i p) (send (ship_of S n i k p)) fate u → AllFor (port_of n w merge p) i (u.sent w)
-      go well h = let P : List PacketView → Type 0 = λ ps. AllFor (port_of n w merge p) i ps in subst P (h.finished.ports w l).closed (packets-for n i w k merge p (h.finished.ports w l).parts last)
-      go (failed x) h = let P : List PacketView → Type 0 = λ ps. AllFor (port_of n w merge p) i ps in subst P (h.stopped.ports w l).closed (packets-for n i w k merge p (h.stopped.ports w l).parts fault)
+      go : (fate : Fate) → Honest S (fragment S i p) (send (ship_of S n i k p)) fate u → AllFor (port_of n w k merge p) i (u.sent w)
+      go well h = let P : List PacketView → Type 0 = λ ps. AllFor (port_of n w k merge p) i ps in subst P (h.finished.ports w l).closed (packets-for n i w k merge p (h.finished.ports w l).parts last)
+      go (failed x) h = let P : List PacketView → Type 0 = λ ps. AllFor (port_of n w k merge p) i ps in subst P (h.stopped.ports w l).closed (packets-for n i w k merge p (h.stopped.ports w l).parts fault)
 
   order-fails : (p : Plan) → is_fit S.relation_of p ≡ true → well_formed S.catalog p ≡ true → allowed S.catalog p ≡ true
       → (ts : ℕ → Trace) → RunOf S (Ends S) p ts → (w : ℕ) → w < workers S.sizes (size p)
@@ -76,7 +79,7 @@ module _ (S : Setting) (giv : Given S.catalog S.db S.sizes (goes S)) where
       own (Own Stranger node) o b = b
       own Passed o b = o
   order-fails (unary n c op p) fit wf ok ts run w l reads begin out h f o e = ⊎_elim
-      (λ i. order-fails p fit (and-left (well_formed S.catalog p) (names_columns (width S.catalog (unary n c op p)) c) wf)
+      (λ i. order-fails p fit (and-left (well_formed S.catalog p) (phase_fits op p && names_columns (width S.catalog (unary n c op p)) c) wf)
       (and-left (allowed S.catalog p) (allowed_here S.catalog (unary n c op p)) ok) ts run w l reads begin h.0.left h.1 f o i)
       (λ b. own op f o b)
       (h.2.blame f (ap (λ (s : Stream). s.over) h.3 ∙ e))
@@ -89,12 +92,12 @@ module _ (S : Setting) (giv : Given S.catalog S.db S.sizes (goes S)) where
       own (project cols) (Own Unsorted node) o b = b
       own (distinct cols) (Own Unsorted node) o b = b
       own (sort cols) (Own Unsorted node) o b = b
-      own (group by aggregates) (Own Unsorted node) o b = b
+      own (group phase by aggregates) (Own Unsorted node) o b = b
       own (select cs) (Own Stranger node) o b = b
       own (project cols) (Own Stranger node) o b = b
       own (distinct cols) (Own Stranger node) o b = b
       own (sort cols) (Own Stranger node) o b = b
-      own (group by aggregates) (Own Stranger node) o b = b
+      own (group phase by aggregates) (Own Stranger node) o b = b
   order-fails (binary n c op p q) fit wf ok ts run w l reads begin out h f o e =
       let here : Bool = allowed_here S.catalog (binary n c op p q) in
       let rest = and-right (allowed S.catalog p) (allowed S.catalog q && here) ok in
@@ -113,7 +116,7 @@ module _ (S : Setting) (giv : Given S.catalog S.db S.sizes (goes S)) where
       (λ a. order-fails p fp wp okp ts run.0 w l reads begin h.0.left h.1 f o a)
       (λ b. order-fails q fq wq okq ts run.1 w right reads begin h.0.right h.2 f o b)
       i)
-      (λ b. own op f o (and-right (allowed S.catalog q) here rest) (tidy S giv p fp wp okp ts run.0 w l reads begin h.0.left h.1).1 (tidy S giv q fq wq okq ts run.1 w right reads begin h.0.right h.2).1 b)
+      (λ b. own op f o (and-right (allowed S.catalog q) here rest) (tidy S giv p fp wp okp ts run.0 w l reads begin h.0.left h.1).0.1 (tidy S giv q fq wq okq ts run.1 w right reads begin h.0.right h.2).0.1 b)
       (h.3.blame f (ap (λ (s : Stream). s.over) h.4 ∙ e))
     where
       own : (op : Binary) (f : Fault) → IsOrderFault f → allowed_here S.catalog (binary n c op p q) ≡ true
@@ -145,25 +148,25 @@ module _ (S : Setting) (giv : Given S.catalog S.db S.sizes (goes S)) where
       (λ i a.
       let P : List PacketView → Type 0 = λ ps. sorted merge (rows_of ps) ≡ true in
       subst P (sym (seen i)) (sorted-front merge (claim p).order t.3 (rows_of (reads.came n i))
-      (came-tidy S giv n i k p run.0 ts (tidy S giv p fit wp okp run.0 run.1 i a) (run.2 i a) w l (run.3 i w a l) (reads.came n i) (begin.came n i)).1))
+      (came-tidy S giv n i k p run.0 ts (tidy S giv p fit wp okp run.0 run.1 i a) (run.2 i a) w l (run.3 i w a l) (reads.came n i) (begin.came n i)).0.1))
       (λ i a.
-      let P : List PacketView → Type 0 = λ ps. AllFor (port_of n w merge p) i ps in
+      let P : List PacketView → Type 0 = λ ps. AllFor (port_of n w k merge p) i ps in
       let flow = run.3 i w a l in
-      subst P (sym (seen i)) (for-begins (port_of n w merge p) i (reads.came n i) ((ts w).came n i) (begin.came n i)
-      (for-begins (port_of n w merge p) i ((ts w).came n i) ((run.0 i).sent w) (record { rest = flow.rest; joined = flow.begins }) (put-for n i w k merge p (run.0 i) l (run.2 i a)))))
+      subst P (sym (seen i)) (for-begins (port_of n w k merge p) i (reads.came n i) ((ts w).came n i) (begin.came n i)
+      (for-begins (port_of n w k merge p) i ((ts w).came n i) ((run.0 i).sent w) (record { rest = flow.rest; joined = flow.begins }) (put-for n i w k merge p (run.0 i) l (run.2 i a)))))
       b)
       (h.2.blame f (ap (λ (s : Stream). s.over) h.3 ∙ e))
     where
       own : (f : Fault) → IsOrderFault f → ((i : ℕ) → i < workers S.sizes (size p) → sorted merge (rows_of (h.0.came i)) ≡ true)
-          → ((i : ℕ) → i < workers S.sizes (size p) → AllFor (port_of n w merge p) i (h.0.came i)) → OwnBlame (receive (port_of n w merge p)) h.0 f → ⊥
+          → ((i : ℕ) → i < workers S.sizes (size p) → AllFor (port_of n w k merge p) i (h.0.came i)) → OwnBlame (receive (port_of n w k merge p)) h.0 f → ⊥
       own (Own Overflow node) o a z b = o
       own (Own NoMemory node) o a z b = o
       own Passed o a z b = o
       own (Own Unsorted node) o a z b = true≢false (sym (a b.1.0 b.1.1) ∙ b.1.2)
       own (Own Stranger node) o a z b =
           let x = b.1.2 in
-          let P : List PacketView → Type 0 = λ ps. AllFor (port_of n w merge p) b.1.0 ps in
-          no-stranger (port_of n w merge p) b.1.0 x.front x.packet x.back (subst P (sym x.joined) (z b.1.0 b.1.1)) x.is
+          let P : List PacketView → Type 0 = λ ps. AllFor (port_of n w k merge p) b.1.0 ps in
+          no-stranger (port_of n w k merge p) b.1.0 x.front x.packet x.back (subst P (sym x.joined) (z b.1.0 b.1.1)) x.is
 
   pub ends-so : (p : Plan) → is_fit S.relation_of p ≡ true → well_formed S.catalog p ≡ true → allowed S.catalog p ≡ true
       → (ts : ℕ → Trace) → RunOf S (Ends S) p ts → (w : ℕ) → w < workers S.sizes (size p) → (task : Task) → (f : Fault) → IsOrderFault f
@@ -184,7 +187,7 @@ module _ (S : Setting) (giv : Given S.catalog S.db S.sizes (goes S)) where
       → (ts : ℕ → Trace) (run : RunOf S (Ends S) p ts) (f : Fault) → IsOrderFault f → FailsBelow S f p ts run → ⊥
   below-so (scan n c r m z) fit wf ok ts run f o h = h
   below-so (unary n c op p) fit wf ok ts run f o h =
-      below-so p fit (and-left (well_formed S.catalog p) (names_columns (width S.catalog (unary n c op p)) c) wf)
+      below-so p fit (and-left (well_formed S.catalog p) (phase_fits op p && names_columns (width S.catalog (unary n c op p)) c) wf)
       (and-left (allowed S.catalog p) (allowed_here S.catalog (unary n c op p)) ok) ts run f o h
   below-so (binary n c op p q) fit wf ok ts run f o h =
       let here : Bool = allowed_here S.catalog (binary n c op p q) in

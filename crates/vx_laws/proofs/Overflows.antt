@@ -1,17 +1,17 @@
 -- An overflow that a run answers is one of the data.
 use Rattle.vx_worker.specs.Fragment.{goes, Setting, Frag, Reads, fragment, FragTold, FragMakes}
-use Rattle.std.proofs.Common.{◌≡◌, ◌⊎◌, inl, inr, ⊎_elim, ℕ, zero, suc, ◌<◌, ◌≤◌, ◌==◌, Bool, true, false, cond, not, ◌||◌, ◌&&◌, List, [], ◌∷◌, ◌++◌, map, length, Option, Some, None, IsSome, refl, sym, ap, ◌∙◌, subst, arith, append-nil, true≢false, eqb-true, eq-eqb}
+use Rattle.std.proofs.Common.{◌≡◌, ◌⊎◌, inl, inr, ⊎_elim, ℕ, zero, suc, ◌<◌, ◌≤◌, ◌==◌, Bool, true, false, cond, not, ◌||◌, ◌&&◌, List, [], ◌∷◌, ◌++◌, map, length, Option, Some, None, IsSome, refl, sym, ap, ◌∙◌, subst, arith, append-nil, true≢false, eqb-true, eq-eqb, ◌+◌, flat_map, length-append}
 use Rattle.vx_values.specs.Values.{Row}
 use Rattle.vx_rows.specs.Order.{sorted}
 use Rattle.vx_rows.specs.Bags.{total, SameRows}
-use Rattle.vx_plan_nodes.specs.Plan.{Size, ExchangeKind, target, Claim, Part, one, any, all, routed, Unary, select, project, distinct, sort, group, Binary, union, join, Aggregate, Plan, scan, unary, binary, exchange, size, claim, size_eq}
+use Rattle.vx_plan_nodes.specs.Plan.{Size, ExchangeKind, target, Claim, Part, one, any, all, routed, Unary, select, project, distinct, sort, group, Binary, union, join, Aggregate, Plan, scan, unary, binary, exchange, size, claim, size_eq, Phase, plain, partial, final, route_to, round, broadcast, gather, concat}
 use Rattle.vx_plan_nodes.specs.Types.{width, well_formed, names_columns}
-use Rattle.vx_plan_nodes.specs.Serial.{unary_rows, binary_rows, group_rows, SerialResult, rows, overflow, or_overflow, after, serial, IsOverflow, IsTooLong, HasTooLong}
+use Rattle.vx_plan_nodes.specs.Serial.{unary_rows, binary_rows, group_rows, SerialResult, rows, overflow, or_overflow, after, serial, IsOverflow, IsTooLong, HasTooLong, HasLargePart}
 use Rattle.vx_check_rules.specs.Rules.{allowed, allowed_here}
 use Rattle.vx_plan_nodes.specs.Streams.{Streams, workers, joined, Dealt}
 use Rattle.vx_plan_nodes.specs.Routes.{Router}
-use Rattle.vx_plan_nodes.specs.Runs.{Runs}
-use Rattle.vx_check_rules.specs.Claims.{Given, PartHolds}
+use Rattle.vx_plan_nodes.specs.Runs.{Runs, is_concat}
+use Rattle.vx_check_rules.specs.Claims.{Given, PartOf}
 use Rattle.vx_ports.specs.Packets.{fault, PacketView, rows_of, closes, is_last, is_closed, has_last, is_empty, is_stream, Flows}
 use Rattle.vx_worker.specs.Morsels.{morsel_of, morsels}
 use Rattle.vx_ops.specs.Ledger.{Stream, one_op, two_op, OwnBlame}
@@ -30,14 +30,20 @@ use Rattle.vx_laws.proofs.Parts.{some-workers, size_eq-is, one-worker}
 use Rattle.vx_laws.proofs.Orders.{Dealt-one, sorted-front}
 use Rattle.vx_laws.proofs.Unary.{some-is}
 use Rattle.vx_laws.proofs.Exchange.{sends-sorted}
-use Rattle.vx_laws.proofs.Frame.{Holding, tests, all-hold, no-overflow-at, well-left, well-right}
+use Rattle.vx_laws.proofs.OneInput.{tests, HoldingAt}
+use Rattle.vx_laws.proofs.Frame.{all-hold, no-overflow-at, well-left, well-right, phase-of, not-open}
 use Rattle.vx_laws.proofs.Erased.{erased-overflows}
 use Rattle.vx_laws.proofs.Settings.{set-given}
 use Rattle.vx_laws.proofs.Choose.{choose, one-more}
 use Rattle.vx_laws.proofs.Packets.{port-rows, last-closed, whole-flow}
 use Rattle.vx_laws.proofs.Decks.{dispatched-dealt}
 use Rattle.vx_laws.proofs.WellRun.{Sized, told-makes, runs-of, dealt-lists, Produced, produced}
+use Rattle.vx_exchange.proofs.Joined.{joined-ext}
 use Rattle.vx_laws.proofs.Shuffles.{sorted-shuffle}
+use Rattle.vx_laws.proofs.Opened.{closed-spoken}
+use Rattle.vx_plan_nodes.specs.Phases.{is_open, opens, phase_fits, spoken, Gives, is_row_of}
+use Rattle.vx_relations.specs.Relation.{Relation}
+use Rattle.std.specs.List.{list_all}
 
 -- lists of packets
 
@@ -111,28 +117,28 @@ reads-begin S t r h = record {
 well-maker : (S : Setting) (i : ℕ) (p : Plan) (task : Task) (t : Trace) → IsWell S (fragment S i p) task t → (out : List Row) × MadeOf S (fragment S i p) t out
 well-maker S i p task t h = (h.out.rows, record { reads = h.reads; reads_begin = reads-begin S t h.reads h.reads_are; makes = told-makes S i p h.reads h.out h.told h.ended })
 
--- the plan overflows, or one of its groupings takes too long a list
+-- the plan overflows, or one of its groupings takes too long a list, or one in two phases rows of one key whose sum is too large
 abbrev pub Overflows : (ℕ → List Row) → Plan → Type 0
-Overflows db p = IsOverflow (serial db p) ⊎ HasTooLong db p
+Overflows db p = IsOverflow (serial db p) ⊎ (HasTooLong db p ⊎ HasLargePart db p)
 
 -- what is real of an input is real of the plan
 
 real-unary : (db : ℕ → List Row) (n : ℕ) (c : Claim) (op : Unary) (p : Plan) → Overflows db p → Overflows db (unary n c op p)
-real-unary db n c op p h = ⊎_elim (λ o. inl (go (serial db p) o)) (λ l. inr (inl l)) h
+real-unary db n c op p h = ⊎_elim (λ o. inl (go (serial db p) o)) (λ x. ⊎_elim (λ l. inr (inl (inl l))) (λ l. inr (inr (inl l))) x) h
   where
     go : (o : SerialResult) → IsOverflow o → IsOverflow (after o (λ xs. or_overflow n (unary_rows op xs)))
     go (rows xs) k = absurd k
     go (overflow m) k = k
 
 real-left : (db : ℕ → List Row) (n : ℕ) (c : Claim) (op : Binary) (p q : Plan) → Overflows db p → Overflows db (binary n c op p q)
-real-left db n c op p q h = ⊎_elim (λ o. inl (go (serial db p) o)) (λ l. inr (inl l)) h
+real-left db n c op p q h = ⊎_elim (λ o. inl (go (serial db p) o)) (λ x. ⊎_elim (λ l. inr (inl (inl l))) (λ l. inr (inr (inl l))) x) h
   where
     go : (o : SerialResult) → IsOverflow o → IsOverflow (after o (λ xs. after (serial db q) (λ ys. rows (binary_rows op xs ys))))
     go (rows xs) k = absurd k
     go (overflow m) k = k
 
 real-right : (db : ℕ → List Row) (n : ℕ) (c : Claim) (op : Binary) (p q : Plan) → Overflows db q → Overflows db (binary n c op p q)
-real-right db n c op p q h = ⊎_elim (λ o. inl (go (serial db p) (serial db q) o)) (λ l. inr (inr l)) h
+real-right db n c op p q h = ⊎_elim (λ o. inl (go (serial db p) (serial db q) o)) (λ x. ⊎_elim (λ l. inr (inl (inr l))) (λ l. inr (inr (inr l))) x) h
   where
     go : (o u : SerialResult) → IsOverflow u → IsOverflow (after o (λ xs. after u (λ ys. rows (binary_rows op xs ys))))
     go (rows xs) (rows ys) k = absurd k
@@ -152,31 +158,61 @@ all-some (suc n) f = ⊎_elim
     go None e some = inr (n, omega arith, e)
     go (Some xs) e some = inl (λ v. cond (v == n) xs (some.0 v), λ v l. one-more (λ v ys. f v ≡ Some ys) n some.0 xs some.1 e v l (v == n) refl)
 
--- one stream has no more rows than all
-part-length : (goes : Router) (q : Part) (n : ℕ) (s : Streams) (base : List Row) → PartHolds goes q n s base → (w : ℕ) → w < n → length (s w) ≤ length base
-part-length goes q n s base h w l = shown q h
+-- what stands for some rows has no more than they are
+row-list : (by : List ℕ) (aggregates : List Aggregate) (ts : List (Row × List Row)) → list_all (λ t. is_row_of by aggregates t.0 t.1) ts ≡ true
+    → length (map (λ (t : Row × List Row). t.0) ts) ≤ length (flat_map (λ (t : Row × List Row). t.1) ts)
+row-list by aggregates [] h = omega arith
+row-list by aggregates (t ∷ ts) h =
+    let r = row-list by aggregates ts (and-right (is_row_of by aggregates t.0 t.1) (list_all (λ (t : Row × List Row). is_row_of by aggregates t.0 t.1) ts) h) in
+    let one = some-rows t.0 t.1 (and-left (is_row_of by aggregates t.0 t.1) (list_all (λ (t : Row × List Row). is_row_of by aggregates t.0 t.1) ts) h) in
+    let e : length (t.1 ++ flat_map (λ (t : Row × List Row). t.1) ts) ≡ length t.1 + length (flat_map (λ (t : Row × List Row). t.1) ts) = length-append t.1 (flat_map (λ (t : Row × List Row). t.1) ts) in
+    omega (arith, r, one, e)
   where
-    counted : (xs : List Row) → total (λ r. 1) xs ≡ length xs
-    counted [] = refl
-    counted (x ∷ xs) = let e = counted xs in omega (arith, e)
+    some-rows : (row : Row) (xs : List Row) → is_row_of by aggregates row xs ≡ true → 1 ≤ length xs
+    some-rows row [] h = absurd (true≢false (sym h))
+    some-rows row (x ∷ xs) h = omega arith
 
-    by-all : SameRows (joined n s) base → length (s w) ≤ length base
-    by-all same =
+counted : (xs : List Row) → total (λ r. 1) xs ≡ length xs
+counted [] = refl
+counted (x ∷ xs) = let e = counted xs in omega (arith, e)
+
+same-length : (xs ys : List Row) → SameRows xs ys → length xs ≡ length ys
+same-length xs ys s = sym (counted xs) ∙ (s.totals (λ r. 1) ∙ counted ys)
+
+gives-length : (p : Plan) (base xs : List Row) → Gives p base xs → length xs ≤ length base
+gives-length (scan n c r m z) base xs h = let e = same-length xs base h in omega (arith, e)
+gives-length (unary n c (select cs) p) base xs h = let e = same-length xs base h in omega (arith, e)
+gives-length (unary n c (project cols) p) base xs h = let e = same-length xs base h in omega (arith, e)
+gives-length (unary n c (distinct cols) p) base xs h = let e = same-length xs base h in omega (arith, e)
+gives-length (unary n c (sort cols) p) base xs h = let e = same-length xs base h in omega (arith, e)
+gives-length (unary n c (group plain by aggregates) p) base xs h = let e = same-length xs base h in omega (arith, e)
+gives-length (unary n c (group partial by aggregates) p) base xs h =
+    let e = row-list by aggregates h.pieces h.each in
+    let a : length (map (λ (t : Row × List Row). t.0) h.pieces) ≡ length xs = ap length h.rows_are in
+    let b = same-length (flat_map (λ (t : Row × List Row). t.1) h.pieces) base h.whole in
+    omega (arith, e, a, b)
+gives-length (unary n c (group final by aggregates) p) base xs h = let e = same-length xs base h in omega (arith, e)
+gives-length (binary n c op p q) base xs h = let e = same-length xs base h in omega (arith, e)
+gives-length (exchange n c k m p) base xs h = gives-length p base xs h
+
+-- one stream has no more rows than all
+stands-length : (goes : Router) (q : Part) (n : ℕ) (s : Streams) (stands : List Row → Type 0) (most : ℕ) → ((xs : List Row) → stands xs → length xs ≤ most)
+    → PartOf goes q n s stands → (w : ℕ) → w < n → length (s w) ≤ most
+stands-length goes q n s stands most law h w l = shown q h
+  where
+    by-all : stands (joined n s) → length (s w) ≤ most
+    by-all g =
         let a = counted (s w) in
-        let b = counted base in
-        let c = same.totals (λ r. 1) in
+        let b = counted (joined n s) in
         let d = total-joined (λ r. 1) n s in
         let e = across-least n (λ i. total (λ r. 1) (s i)) w l in
-        omega (arith, a, b, c, d, e)
+        let f = law (joined n s) g in
+        omega (arith, a, b, d, e, f)
 
-    shown : (q : Part) → PartHolds goes q n s base → length (s w) ≤ length base
+    shown : (q : Part) → PartOf goes q n s stands → length (s w) ≤ most
     shown one h = by-all h.1
     shown any h = by-all h
-    shown all h =
-        let a = counted (s w) in
-        let b = counted base in
-        let c = (h w l).totals (λ r. 1) in
-        omega (arith, a, b, c)
+    shown all h = law (s w) (h w l)
     shown (routed r cs) h = by-all h.0
 
 module _ (S : Setting) (giv : Given S.catalog S.db S.sizes (goes S)) (some : 0 < S.morsel) where
@@ -233,17 +269,19 @@ module _ (S : Setting) (giv : Given S.catalog S.db S.sizes (goes S)) (some : 0 <
       (run.0, all-well p fit run.0 (λ i l. well-maker S i p (send (ship_of S n i k p)) (run.0 i) (wells i l)) run.1, wells, run.3)
 
   not-overflow : (n : ℕ) (c : Claim) (op : Unary) (p : Plan) (u : Streams) → well_formed S.catalog (unary n c op p) ≡ true → allowed S.catalog (unary n c op p) ≡ true
-      → Runs S.db S.sizes (goes S) p u → (w : ℕ) → w < workers S.sizes (size p) → unary_rows op (u w) ≡ None → IsOverflow (serial S.db (unary n c op p))
+      → Runs S.db S.sizes (goes S) p u → (w : ℕ) → w < workers S.sizes (size p) → unary_rows op (u w) ≡ None → Overflows S.db (unary n c op p)
   not-overflow n c op p u wf ok run w l none = go (serial S.db (unary n c op p)) refl
     where
       no : (x : Option (List Row)) → x ≡ None → IsSome x → ⊥
       no None e k = true≢false (sym k)
       no (Some xs) e k = cc
 
-      go : (o : SerialResult) → serial S.db (unary n c op p) ≡ o → IsOverflow o
-      go (rows xs) e =
-          no (unary_rows op (u w)) none (no-overflow-at S.catalog S.db S.sizes (goes S) giv n c op p u wf ok run xs e w l)
-      go (overflow m) e = tt
+      go : (o : SerialResult) → serial S.db (unary n c op p) ≡ o → Overflows S.db (unary n c op p)
+      go (rows xs) e = ⊎_elim
+          (λ some. absurd (no (unary_rows op (u w)) none some))
+          (λ x. ⊎_elim (λ large. inr (inr (inr large))) (λ long. inr (inl (inr long))) x)
+          (no-overflow-at S.catalog S.db S.sizes (goes S) giv n c op p u wf ok run xs e w l)
+      go (overflow m) e = let P : SerialResult → Type 0 = λ o. IsOverflow o in inl (subst P (sym e) tt)
 
   -- a worker whose inputs were whole has its list in a run of the plan, or the plan itself overflows
   complete : (p : Plan) → is_fit S.relation_of p ≡ true → well_formed S.catalog p ≡ true → allowed S.catalog p ≡ true
@@ -264,10 +302,10 @@ module _ (S : Setting) (giv : Given S.catalog S.db S.sizes (goes S)) (some : 0 <
       ⊎_elim
       (λ got. ⊎_elim
       (λ s. inl (s.0, (got.0, got.1, s.1), some-is _ _ (sym (s.1 w l) ∙ ap (unary_rows op) got.2 ∙ h.makes.2)))
-      (λ none. inr (inl (not-overflow n c op p got.0 wf ok got.1 none.0 none.1 none.2)))
+      (λ none. inr (not-overflow n c op p got.0 wf ok got.1 none.0 none.1 none.2))
       (all-some (workers S.sizes (size p)) (λ v. unary_rows op (got.0 v))))
       (λ real. inr (real-unary S.db n c op p real))
-      (complete p fit (and-left (well_formed S.catalog p) (names_columns (width S.catalog (unary n c op p)) c) wf) (and-left (allowed S.catalog p) here ok) ts run w l h.makes.0.left.rows
+      (complete p fit (and-left (well_formed S.catalog p) (phase_fits op p && names_columns (width S.catalog (unary n c op p)) c) wf) (and-left (allowed S.catalog p) here ok) ts run w l h.makes.0.left.rows
       (record { reads = h.reads; reads_begin = h.reads_begin; makes = h.makes.1 }))
   complete (binary n c op p q) fit wf ok ts run w l out h =
       let here : Bool = allowed_here S.catalog (binary n c op p q) in
@@ -297,7 +335,7 @@ module _ (S : Setting) (giv : Given S.catalog S.db S.sizes (goes S)) (some : 0 <
       let below : RunOf S (IsWell S) p us = all-well p fit us (λ i a. well-maker S i p (send (ship_of S n i k p)) (us i) (wells i a)) run.1 in
       let u = choose (λ i (x : List Row × Streams). Produced S fit-sized n i k p (us i) x) ([], λ j. []) m (λ i a. produced S fit-sized n i k p (us i) (wells i a)) in
       let runs : Runs S.db S.sizes (goes S) p (λ i. (u.0 i).0) = runs-of S fit-sized p fit us (λ i. (u.0 i).0) (λ i a. (u.1 i a).made) below in
-      let holds : Holding S.db S.sizes (goes S) p (λ i. (u.0 i).0)
+      let holds : HoldingAt S.db S.sizes (goes S) p (λ i. (u.0 i).0)
       = all-hold S.catalog S.db S.sizes (goes S) giv p (λ i. (u.0 i).0) (and-left (well_formed S.catalog p) (names_columns (width S.catalog p) c) wf) (and-left (allowed S.catalog p) here ok) runs in
       let test = tests S.catalog (exchange n c k merge p) (and-right (allowed S.catalog p) here ok) in
       let up : (j : ℕ) → j < workers S.sizes (target k) → (i : ℕ) → i < m → sorted merge ((u.0 i).1 j) ≡ true
@@ -305,8 +343,11 @@ module _ (S : Setting) (giv : Given S.catalog S.db S.sizes (goes S)) (some : 0 <
       let own : Dealt m out (λ i. (u.0 i).1 w)
       = dealt-lists m out (λ i. rows_of (h.makes.0.came i)) (λ i. (u.0 i).1 w)
       (λ i a. ap rows_of (came-whole n c k merge p w (ts w) out h i a ((us i).sent w) (run.3 i w a l)) ∙ port-rows (ship_of S n i k p) w ((u.0 i).1 w) ((us i).sent w) ((u.1 i a).ports w l)) h.makes.3.0 in
-      let outs = choose (λ j xs. Dealt m xs (λ i. (u.0 i).1 j) × (sorted merge xs ≡ true) × ((j == w) ≡ true → xs ≡ out)) [] (workers S.sizes (target k))
-      (λ j b. at-consumer m merge out (λ j i. (u.0 i).1 j) w own h.makes.3.1 j (up j b) (j == w) refl) in
+      let own_order : is_concat k ≡ true → joined m (λ i. (u.0 i).1 w) ≡ out
+      = λ e. joined-ext m (λ i. (u.0 i).1 w) (λ i. rows_of (h.makes.0.came i))
+      (λ i a. sym (ap rows_of (came-whole n c k merge p w (ts w) out h i a ((us i).sent w) (run.3 i w a l)) ∙ port-rows (ship_of S n i k p) w ((u.0 i).1 w) ((us i).sent w) ((u.1 i a).ports w l))) ∙ h.makes.3.2 e in
+      let outs = choose (λ j xs. Dealt m xs (λ i. (u.0 i).1 j) × (sorted merge xs ≡ true) × ((j == w) ≡ true → xs ≡ out) × (is_concat k ≡ true → joined m (λ i. (u.0 i).1 j) ≡ xs)) [] (workers S.sizes (target k))
+      (λ j b. at-consumer m merge out (λ j i. (u.0 i).1 j) w own h.makes.3.1 k own_order j (λ e. one-place k e j w b l) (up j b) (j == w) refl) in
       inl (
         outs.0,
         (
@@ -317,38 +358,73 @@ module _ (S : Setting) (giv : Given S.catalog S.db S.sizes (goes S)) (some : 0 <
             sends = λ i a. (u.1 i a).sends;
             gets = λ j b. (outs.1 j b).0;
             merged = λ j b. (outs.1 j b).1;
+            in_order = λ e j b. (outs.1 j b).3 e;
           },
         ),
         (outs.1 w l).2 (eq-eqb w w refl),
       )
     where
+      -- a concat has one consumer
+      one-place : (k : ExchangeKind) → is_concat k ≡ true → (j w : ℕ) → j < workers S.sizes (target k) → w < workers S.sizes (target k) → (j == w) ≡ true
+      one-place (route_to z r cols) e j w a b = absurd (true≢false (sym e))
+      one-place (round z) e j w a b = absurd (true≢false (sym e))
+      one-place (broadcast z) e j w a b = absurd (true≢false (sym e))
+      one-place gather e j w a b = absurd (true≢false (sym e))
+      one-place concat e j w a b = eq-eqb j w (omega (arith, a, b))
+
       at-consumer : (m : ℕ) (merge : List ℕ) (out : List Row) (sent : ℕ → Streams) (w : ℕ) → Dealt m out (sent w) → sorted merge out ≡ true
-          → (j : ℕ) → ((i : ℕ) → i < m → sorted merge (sent j i) ≡ true) → (b : Bool) → (j == w) ≡ b
-          → (xs : List Row) × (Dealt m xs (sent j) × (sorted merge xs ≡ true) × ((j == w) ≡ true → xs ≡ out))
-      at-consumer m merge out sent w own s j up true e =
+          → (k : ExchangeKind) → (is_concat k ≡ true → joined m (sent w) ≡ out)
+          → (j : ℕ) → (is_concat k ≡ true → (j == w) ≡ true) → ((i : ℕ) → i < m → sorted merge (sent j i) ≡ true) → (b : Bool) → (j == w) ≡ b
+          → (xs : List Row) × (Dealt m xs (sent j) × (sorted merge xs ≡ true) × ((j == w) ≡ true → xs ≡ out) × (is_concat k ≡ true → joined m (sent j) ≡ xs))
+      at-consumer m merge out sent w own s k order j only up true e =
           let P : ℕ → Type 0 = λ v. Dealt m out (sent v) in
-          (out, (subst P (sym (eqb-true j w e)) own, s, λ x. refl))
-      at-consumer m merge out sent w own s j up false e =
+          let Q : ℕ → Type 0 = λ v. is_concat k ≡ true → joined m (sent v) ≡ out in
+          (out, (subst P (sym (eqb-true j w e)) own, s, λ x. refl, subst Q (sym (eqb-true j w e)) order))
+      at-consumer m merge out sent w own s k order j only up false e =
           let x = sorted-shuffle merge m (sent j) up in
-          (x.0, (x.1, x.2, λ y. absurd (true≢false (sym y ∙ e))))
+          (x.0, (x.1, x.2, (λ y. absurd (true≢false (sym y ∙ e))), λ y. absurd (true≢false (sym (only y) ∙ e))))
+
+  -- an open node whose partial takes too long a list
+  open-long : (keys : List ℕ) (puts : List Aggregate) (p : Plan) → opens keys puts p ≡ true → (base : List Row) → serial S.db (spoken p) ≡ rows base → 4611686018427387904 < length base → HasTooLong S.db p
+  open-long keys puts (scan n c r m z) e base h l = absurd (true≢false (sym e))
+  open-long keys puts (unary n c (select cs) p) e base h l = absurd (true≢false (sym e))
+  open-long keys puts (unary n c (project cols) p) e base h l = absurd (true≢false (sym e))
+  open-long keys puts (unary n c (distinct cols) p) e base h l = absurd (true≢false (sym e))
+  open-long keys puts (unary n c (sort cols) p) e base h l = absurd (true≢false (sym e))
+  open-long keys puts (unary n c (group plain by aggregates) p) e base h l = absurd (true≢false (sym e))
+  open-long keys puts (unary n c (group partial by aggregates) p) e base h l =
+      let P : SerialResult → Type 0 = λ o. IsTooLong (group partial by aggregates) o in inr (subst P (sym h) l)
+  open-long keys puts (unary n c (group final by aggregates) p) e base h l = absurd (true≢false (sym e))
+  open-long keys puts (binary n c op p q) e base h l = absurd (true≢false (sym e))
+  open-long keys puts (exchange n c k m p) e base h l = open-long keys puts p e base h l
 
   -- a group with an overflow of its own
-  group-fails : (n : ℕ) (c : Claim) (by : List ℕ) (aggregates : List Aggregate) (p : Plan) (u : Streams)
-      → well_formed S.catalog (unary n c (group by aggregates) p) ≡ true → allowed S.catalog (unary n c (group by aggregates) p) ≡ true
+  group-fails : (n : ℕ) (c : Claim) (phase : Phase) (by : List ℕ) (aggregates : List Aggregate) (p : Plan) (u : Streams)
+      → well_formed S.catalog (unary n c (group phase by aggregates) p) ≡ true → allowed S.catalog (unary n c (group phase by aggregates) p) ≡ true
       → Runs S.db S.sizes (goes S) p u → (w : ℕ) → w < workers S.sizes (size p)
-      → (group_rows by aggregates (u w) ≡ None) ⊎ (4611686018427387904 < length (u w)) → Overflows S.db (unary n c (group by aggregates) p)
-  group-fails n c by aggregates p u wf ok run w l why = ⊎_elim
-      (λ none. inl (not-overflow n c (group by aggregates) p u wf ok run w l none))
+      → (group_rows by aggregates (u w) ≡ None) ⊎ (4611686018427387904 < length (u w)) → Overflows S.db (unary n c (group phase by aggregates) p)
+  group-fails n c phase by aggregates p u wf ok run w l why = ⊎_elim
+      (λ none. not-overflow n c (group phase by aggregates) p u wf ok run w l none)
       (λ long.
-      let holds : Holding S.db S.sizes (goes S) p u
+      let holds : HoldingAt S.db S.sizes (goes S) p u
       = all-hold S.catalog S.db S.sizes (goes S) giv p u
-      (and-left (well_formed S.catalog p) (names_columns (width S.catalog (unary n c (group by aggregates) p)) c) wf)
-      (and-left (allowed S.catalog p) (allowed_here S.catalog (unary n c (group by aggregates) p)) ok) run in
-      let most = part-length (goes S) (claim p).part (workers S.sizes (size p)) u holds.base holds.holds.part w l in
-      let P : SerialResult → Type 0 = λ o. IsTooLong (group by aggregates) o in
-      let big : 4611686018427387904 < length holds.base = omega (arith, most, long) in
-      inr (inr (subst P (sym holds.is_serial) big)))
+      (and-left (well_formed S.catalog p) (phase_fits (group phase by aggregates) p && names_columns (width S.catalog (unary n c (group phase by aggregates) p)) c) wf)
+      (and-left (allowed S.catalog p) (allowed_here S.catalog (unary n c (group phase by aggregates) p)) ok) run in
+      let most = stands-length (goes S) (claim p).part (workers S.sizes (size p)) u (λ xs. Gives p holds.base xs) (length holds.base) (λ xs g. gives-length p holds.base xs g) holds.holds.part w l in
+      go phase (phase-of S.catalog S.db S.sizes (goes S) giv n c (group phase by aggregates) p wf) holds.base holds.is_serial (omega (arith, most, long)))
       why
+    where
+      closed : (phase : Phase) → not (is_open p) ≡ true → (base : List Row) → serial S.db (spoken p) ≡ rows base → 4611686018427387904 < length base → HasTooLong S.db (unary n c (group phase by aggregates) p)
+      closed phase e base h big =
+          let P : SerialResult → Type 0 = λ o. IsTooLong (group phase by aggregates) o in
+          let same : serial S.db p ≡ rows base = sym (closed-spoken S.db p (not-open S.catalog S.db S.sizes (goes S) giv (is_open p) e)) ∙ h in
+          inr (subst P (sym same) big)
+
+      go : (phase : Phase) → phase_fits (group phase by aggregates) p ≡ true → (base : List Row) → serial S.db (spoken p) ≡ rows base → 4611686018427387904 < length base
+          → Overflows S.db (unary n c (group phase by aggregates) p)
+      go plain e base h big = inr (inl (closed plain e base h big))
+      go partial e base h big = inr (inl (closed partial e base h big))
+      go final e base h big = inr (inl (inl (open-long by aggregates p e base h big)))
 
   -- a worker whose top answers an overflow
   fails : (p : Plan) → is_fit S.relation_of p ≡ true → well_formed S.catalog p ≡ true → allowed S.catalog p ≡ true
@@ -360,7 +436,7 @@ module _ (S : Setting) (giv : Given S.catalog S.db S.sizes (goes S)) (some : 0 <
       (λ o. absurd o)
       (h.2.blame (Own Overflow node) (ap (λ (s : Stream). s.over) h.3 ∙ e))
   fails (unary n c op p) fit wf ok ts run w l reads begin out h node e =
-      let wp = and-left (well_formed S.catalog p) (names_columns (width S.catalog (unary n c op p)) c) wf in
+      let wp = and-left (well_formed S.catalog p) (phase_fits op p && names_columns (width S.catalog (unary n c op p)) c) wf in
       let okp = and-left (allowed S.catalog p) (allowed_here S.catalog (unary n c op p)) ok in
       ⊎_elim
       (λ i. real-unary S.db n c op p (fails p fit wp okp ts run w l reads begin h.0.left h.1 node i))
@@ -372,14 +448,14 @@ module _ (S : Setting) (giv : Given S.catalog S.db S.sizes (goes S)) (some : 0 <
       own (project cols) wf ok o = absurd o
       own (distinct cols) wf ok o = absurd o
       own (sort cols) wf ok o = absurd o
-      own (group by aggregates) wf ok o =
-          let wp = and-left (well_formed S.catalog p) (names_columns (width S.catalog (unary n c (group by aggregates) p)) c) wf in
-          let okp = and-left (allowed S.catalog p) (allowed_here S.catalog (unary n c (group by aggregates) p)) ok in
+      own (group phase by aggregates) wf ok o =
+          let wp = and-left (well_formed S.catalog p) (phase_fits (group phase by aggregates) p && names_columns (width S.catalog (unary n c (group phase by aggregates) p)) c) wf in
+          let okp = and-left (allowed S.catalog p) (allowed_here S.catalog (unary n c (group phase by aggregates) p)) ok in
           ⊎_elim
           (λ got.
           let P : List Row → Type 0 = λ xs. (group_rows by aggregates xs ≡ None) ⊎ (4611686018427387904 < length xs) in
-          group-fails n c by aggregates p got.0 wf ok got.1 w l (subst P (sym got.2) o.2))
-          (λ real. real-unary S.db n c (group by aggregates) p real)
+          group-fails n c phase by aggregates p got.0 wf ok got.1 w l (subst P (sym got.2) o.2))
+          (λ real. real-unary S.db n c (group phase by aggregates) p real)
           (complete p fit wp okp ts run w l h.0.left.rows (record { reads = reads; reads_begin = begin; makes = told-makes S w p reads h.0.left h.1 o.1 }))
   fails (binary n c op p q) fit wf ok ts run w l reads begin out h node e =
       let here : Bool = allowed_here S.catalog (binary n c op p q) in
@@ -418,7 +494,7 @@ module _ (S : Setting) (giv : Given S.catalog S.db S.sizes (goes S)) (some : 0 <
       → (ts : ℕ → Trace) (run : RunOf S (Ends S) p ts) (node : ℕ) → FailsBelow S (Own Overflow node) p ts run → Overflows S.db p
   below (scan n c r m z) fit wf ok ts run node h = absurd h
   below (unary n c op p) fit wf ok ts run node h =
-      real-unary S.db n c op p (below p fit (and-left (well_formed S.catalog p) (names_columns (width S.catalog (unary n c op p)) c) wf)
+      real-unary S.db n c op p (below p fit (and-left (well_formed S.catalog p) (phase_fits op p && names_columns (width S.catalog (unary n c op p)) c) wf)
       (and-left (allowed S.catalog p) (allowed_here S.catalog (unary n c op p)) ok) ts run node h)
   below (binary n c op p q) fit wf ok ts run node h =
       let here : Bool = allowed_here S.catalog (binary n c op p q) in
@@ -438,15 +514,15 @@ module _ (S : Setting) (giv : Given S.catalog S.db S.sizes (goes S)) (some : 0 <
       (λ x. below p fit wp okp run.0 run.1 node x)
       h
 
-pub real-erased : (db : ℕ → List Row) (p : Plan) → Overflows db p → IsReal db p
-real-erased db p h = ⊎_elim (λ o. inl ((erased-overflows db p).0 o)) (λ l. inr l) h
+pub real-erased : (catalog : ℕ → Relation) (db : ℕ → List Row) (p : Plan) → well_formed catalog p ≡ true → Overflows db p → IsReal db p
+real-erased catalog db p wf h = ⊎_elim (λ o. inl ((erased-overflows catalog db p wf).0 o)) (λ l. inr l) h
 
 pub overflow-is-real : OverflowIsReal
 overflow-is-real S set p fit wf ok single t kept root run node h =
     let giv = set-given S set in
     let n1 : workers S.sizes (size p) ≡ 1 = one-worker S.sizes (size p) single in
     let P : ℕ → Type 0 = λ m. 0 < m in
-    real-erased S.db p (⊎_elim
+    real-erased S.catalog S.db p wf (⊎_elim
     (λ e. ends-with S giv set.some_morsel p fit wf ok (λ w. t) run 0 (subst P (sym n1) (omega arith)) (keep kept) node root.0 root.1 e)
     (λ b. below S giv set.some_morsel p fit wf ok (λ w. t) run node b)
     h)

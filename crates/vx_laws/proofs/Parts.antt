@@ -7,7 +7,7 @@ use Rattle.vx_plan_nodes.specs.Plan.{Size, one_worker, group_of, Route, by_hash,
 use Rattle.vx_plan_nodes.specs.Streams.{Streams, joined, workers}
 use Rattle.vx_plan_nodes.specs.Routes.{Router}
 use Rattle.vx_check_rules.specs.Rules.{numbers_eq, route_eq, part_gives}
-use Rattle.vx_check_rules.specs.Claims.{PartHolds, InItsStream}
+use Rattle.vx_check_rules.specs.Claims.{PartHolds, InItsStream, PartOf}
 use Rattle.vx_laws.proofs.Bags.{and-left, and-right, and-both}
 
 pub or-cases : (a b : Bool) → (a || b) ≡ true → (a ≡ true) ⊎ (b ≡ true)
@@ -56,50 +56,71 @@ InRange goes = (r : Route) (key : Row) (n : ℕ) → 0 < n → goes r key n < n
 
 module _ (goes : Router) (law : InRange goes) where
   -- with one worker each part says the same
-  pub single : (q : Part) (n : ℕ) (s : Streams) (base : List Row) → n ≡ 1 → SameRows (joined n s) base → PartHolds goes q n s base
-  single one n s base e h = (e, h)
-  single any n s base e h = h
-  single all n s base e h = λ w l.
-      let P : ℕ → Type 0 = λ m. SameRows (joined m s) base → SameRows (s w) base in
+  pub single-of : (q : Part) (n : ℕ) (s : Streams) (stands : List Row → Type 0) → n ≡ 1 → stands (joined n s) → PartOf goes q n s stands
+  single-of one n s stands e h = (e, h)
+  single-of any n s stands e h = h
+  single-of all n s stands e h = λ w l.
+      let P : ℕ → Type 0 = λ m. stands (joined m s) → stands (s w) in
       let zeroth : w ≡ 0 = omega arith in
-      subst P (sym e) (λ k. let Q : ℕ → Type 0 = λ i. SameRows (s i) base in subst Q (sym zeroth) k) h
-  single (routed r cols) n s base e h = (h, λ w l. list_all-always _ (λ row. eq-eqb _ w (let b = law r (pick cols row) n (omega arith) in omega (arith, b))) (s w))
+      subst P (sym e) (λ k. let Q : ℕ → Type 0 = λ i. stands (s i) in subst Q (sym zeroth) k) h
+  single-of (routed r cols) n s stands e h = (h, λ w l. list_all-always _ (λ row. eq-eqb _ w (let b = law r (pick cols row) n (omega arith) in omega (arith, b))) (s w))
 
-  pub from_single : (q : Part) (n : ℕ) (s : Streams) (base : List Row) → n ≡ 1 → PartHolds goes q n s base → SameRows (joined n s) base
-  from_single one n s base e h = h.1
-  from_single any n s base e h = h
-  from_single all n s base e h =
-      let P : ℕ → Type 0 = λ m. SameRows (joined m s) base in
+  pub from_single-of : (q : Part) (n : ℕ) (s : Streams) (stands : List Row → Type 0) → n ≡ 1 → PartOf goes q n s stands → stands (joined n s)
+  from_single-of one n s stands e h = h.1
+  from_single-of any n s stands e h = h
+  from_single-of all n s stands e h =
+      let P : ℕ → Type 0 = λ m. stands (joined m s) in
       subst P (sym e) (h 0 (omega arith))
-  from_single (routed r cols) n s base e h = h.0
+  from_single-of (routed r cols) n s stands e h = h.0
 
-  pub weaker : (p q : Part) (n : ℕ) (s : Streams) (base : List Row) → part_gives p q ≡ true → PartHolds goes p n s base → PartHolds goes q n s base
-  weaker one one n s base e h = h
-  weaker one any n s base e h = absurd (true≢false (sym e))
-  weaker one all n s base e h = absurd (true≢false (sym e))
-  weaker one (routed r cols) n s base e h = absurd (true≢false (sym e))
-  weaker any one n s base e h = absurd (true≢false (sym e))
-  weaker any any n s base e h = h
-  weaker any all n s base e h = absurd (true≢false (sym e))
-  weaker any (routed r cols) n s base e h = absurd (true≢false (sym e))
-  weaker all one n s base e h = absurd (true≢false (sym e))
-  weaker all any n s base e h = absurd (true≢false (sym e))
-  weaker all all n s base e h = h
-  weaker all (routed r cols) n s base e h = absurd (true≢false (sym e))
-  weaker (routed r cols) one n s base e h = absurd (true≢false (sym e))
-  weaker (routed r cols) any n s base e h = h.0
-  weaker (routed r cols) all n s base e h = absurd (true≢false (sym e))
-  weaker (routed r cols) (routed t ds) n s base e h =
+  pub weaker-of : (p q : Part) (n : ℕ) (s : Streams) (stands : List Row → Type 0) → part_gives p q ≡ true → PartOf goes p n s stands → PartOf goes q n s stands
+  weaker-of one one n s stands e h = h
+  weaker-of one any n s stands e h = absurd (true≢false (sym e))
+  weaker-of one all n s stands e h = absurd (true≢false (sym e))
+  weaker-of one (routed r cols) n s stands e h = absurd (true≢false (sym e))
+  weaker-of any one n s stands e h = absurd (true≢false (sym e))
+  weaker-of any any n s stands e h = h
+  weaker-of any all n s stands e h = absurd (true≢false (sym e))
+  weaker-of any (routed r cols) n s stands e h = absurd (true≢false (sym e))
+  weaker-of all one n s stands e h = absurd (true≢false (sym e))
+  weaker-of all any n s stands e h = absurd (true≢false (sym e))
+  weaker-of all all n s stands e h = h
+  weaker-of all (routed r cols) n s stands e h = absurd (true≢false (sym e))
+  weaker-of (routed r cols) one n s stands e h = absurd (true≢false (sym e))
+  weaker-of (routed r cols) any n s stands e h = h.0
+  weaker-of (routed r cols) all n s stands e h = absurd (true≢false (sym e))
+  weaker-of (routed r cols) (routed t ds) n s stands e h =
       let a : r ≡ t = route_eq-is r t (and-left _ _ e) in
       let b : cols ≡ ds = numbers_eq-is cols ds (and-right _ _ e) in
-      let P : Route → Type 0 = λ x. SameRows (joined n s) base × InItsStream goes x ds n s in
-      let Q : List ℕ → Type 0 = λ x. SameRows (joined n s) base × InItsStream goes r x n s in
+      let P : Route → Type 0 = λ x. stands (joined n s) × InItsStream goes x ds n s in
+      let Q : List ℕ → Type 0 = λ x. stands (joined n s) × InItsStream goes r x n s in
       subst P a (subst Q b h)
 
   -- what `has` shows
+  pub has-holds-of : (sizes : ℕ → ℕ) (z : Size) (p q : Part) (s : Streams) (stands : List Row → Type 0)
+      → (is_one z || part_gives p q) ≡ true → PartOf goes p (workers sizes z) s stands → PartOf goes q (workers sizes z) s stands
+  has-holds-of sizes z p q s stands e h = ⊎_elim
+      (λ o. single-of q _ s stands (one-worker sizes z o) (from_single-of p _ s stands (one-worker sizes z o) h))
+      (λ g. weaker-of p q _ s stands g h)
+      (or-cases _ _ e)
+
+  -- and for the serial rows, each as often
+  pub single : (q : Part) (n : ℕ) (s : Streams) (base : List Row) → n ≡ 1 → SameRows (joined n s) base → PartHolds goes q n s base
+  single q n s base e h = single-of q n s (λ xs. SameRows xs base) e h
+
+  pub from_single : (q : Part) (n : ℕ) (s : Streams) (base : List Row) → n ≡ 1 → PartHolds goes q n s base → SameRows (joined n s) base
+  from_single q n s base e h = from_single-of q n s (λ xs. SameRows xs base) e h
+
+  pub weaker : (p q : Part) (n : ℕ) (s : Streams) (base : List Row) → part_gives p q ≡ true → PartHolds goes p n s base → PartHolds goes q n s base
+  weaker p q n s base e h = weaker-of p q n s (λ xs. SameRows xs base) e h
+
   pub has-holds : (sizes : ℕ → ℕ) (z : Size) (p q : Part) (s : Streams) (base : List Row)
       → (is_one z || part_gives p q) ≡ true → PartHolds goes p (workers sizes z) s base → PartHolds goes q (workers sizes z) s base
-  has-holds sizes z p q s base e h = ⊎_elim
-      (λ o. single q _ s base (one-worker sizes z o) (from_single p _ s base (one-worker sizes z o) h))
-      (λ g. weaker p q _ s base g h)
-      (or-cases _ _ e)
+  has-holds sizes z p q s base e h = has-holds-of sizes z p q s (λ xs. SameRows xs base) e h
+
+  -- what stands for less
+  pub part-map : (q : Part) (n : ℕ) (s : Streams) (A B : List Row → Type 0) → ((xs : List Row) → A xs → B xs) → PartOf goes q n s A → PartOf goes q n s B
+  part-map one n s A B f h = (h.0, f (joined n s) h.1)
+  part-map any n s A B f h = f (joined n s) h
+  part-map all n s A B f h = λ w l. f (s w) (h w l)
+  part-map (routed r cols) n s A B f h = (f (joined n s) h.0, h.1)

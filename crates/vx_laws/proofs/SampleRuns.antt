@@ -1,5 +1,5 @@
 -- The worked run.
-use Rattle.std.proofs.Common.{◌≡◌, ℕ, zero, suc, ◌<◌, ◌≤◌, ◌==◌, true, false, cond, inl, All, [], ◌∷◌, refl, ap, arith, append-nil, ne_eqb}
+use Rattle.std.proofs.Common.{◌≡◌, ℕ, zero, suc, ◌<◌, ◌≤◌, ◌==◌, true, false, cond, inl, All, [], ◌∷◌, refl, sym, ap, true≢false, arith, append-nil, ne_eqb}
 use Rattle.vx_plan_nodes.specs.Plan.{gather, any, scan, group_of}
 use Rattle.vx_plan_nodes.specs.Streams.{across, Dealt}
 use Rattle.vx_ports.specs.Packets.{Content, brings, last, PacketView, rows_of, has_last, Flows}
@@ -93,8 +93,8 @@ well-consumer = record {
     record { left = fresh; right = fresh; came = λ i. put i 0; gave = gathered },
     record { scanned = refl; came = refl },
     record {
-      before = begun_whole _ _ (shuffled, refl);
-      ended = λ e. (two (λ i. has_last (put i 0) ≡ true) refl refl, (shuffled, refl));
+      before = begun_whole _ _ (shuffled, refl, λ e. absurd (true≢false (sym e)));
+      ended = λ e. (two (λ i. has_last (put i 0) ≡ true) refl refl, (shuffled, refl, λ e. absurd (true≢false (sym e))));
       passes = λ f e. absurd e;
       tests = λ i c. absurd (none-came (IsFor root_end i) (put i 0) (all-for i) c);
       blame = λ f e. cc;

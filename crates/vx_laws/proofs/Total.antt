@@ -21,6 +21,7 @@ use Rattle.vx_laws.proofs.JoinOrder.{wide}
 use Rattle.vx_laws.proofs.Widths.{serial-wide}
 use Rattle.vx_laws.proofs.Apart.{self-counts, nothing-same, find-in, agree-all}
 use Rattle.vx_laws.proofs.Erased.{erased-rows}
+use Rattle.vx_laws.proofs.OneInput.{close}
 use Rattle.vx_laws.proofs.Frame.{all-hold}
 
 le-both : (o p : Ordering) → o ≡ ordering_reverse p → is_le o ≡ true → is_le p ≡ true → is_eq o ≡ true
@@ -98,8 +99,8 @@ some-key [] cols xs h e = absurd (true≢false (sym e))
 some-key (k ∷ keys) cols xs h e = ⊎_elim (λ w. key-tells k cols xs w h.0) (λ l. some-key keys cols xs h.1 l) (or-cases (within k cols) (list_any (λ k. within k cols) keys) e)
 
 pub sound-at-root : SoundAtRoot
-sound-at-root catalog db sizes goes given is_total p s wf ok root run =
-    let h = all-hold catalog db sizes goes given p s wf ok run in
+sound-at-root catalog db sizes goes given is_total p s wf shut ok root run =
+    let h = close catalog db sizes goes given p s shut (all-hold catalog db sizes goes given p s wf ok run) in
     let one_size : is_one (size p) ≡ true = and-left (is_one (size p)) (not is_total || is_total_order catalog p) root in
     let n1 : workers sizes (size p) ≡ 1 = one-worker sizes (size p) one_size in
     let all_one : SameRows (joined (workers sizes (size p)) s) h.base = from_single goes given.in_range (claim p).part (workers sizes (size p)) (s) h.base n1 h.holds.part in
@@ -109,7 +110,7 @@ sound-at-root catalog db sizes goes given is_total p s wf ok root run =
     let first : 0 < workers sizes (size p) = subst L (sym n1) (omega arith) in
     record {
       base = h.base;
-      is_serial = erased-rows db 0 p h.base h.is_serial;
+      is_serial = erased-rows catalog db 0 p h.base wf h.is_serial;
       same = same;
       list = λ t.
           let o : is_total_order catalog p ≡ true = claimed is_total (is_total_order catalog p) t (and-right (is_one (size p)) (not is_total || is_total_order catalog p) root) in

@@ -7,13 +7,14 @@ use Rattle.vx_relations.specs.Relation.{Relation}
 use Rattle.vx_relations.specs.Catalog.{relation_at, all_below, are_distinct}
 use Rattle.vx_plan_nodes.specs.Plan.{by_hash, by_range, Part, one, any, all, routed, Claim, Unary, select, project, distinct, sort, group, Binary, union, join, Plan, scan, unary, binary, exchange}
 use Rattle.vx_plan_nodes.specs.Types.{aggregate_type, unary_types, unary_width, binary_types, binary_width, types_of, width, part_columns, names_columns, well_formed}
-use Rattle.vx_plan_nodes.specs.Typed.{Scope, type_eq, types_eq, are_columns, range_type, bounds_at, is_part, is_claim, is_unary, is_binary, is_kind, is_size, is_output, typed}
+use Rattle.vx_plan_nodes.specs.Typed.{Scope, type_eq, types_eq, are_columns, range_type, bounds_at, is_part, is_claim, is_unary, is_binary, is_kind, is_size, is_output, typed, may_merge}
 use Rattle.vx_values.specs.Lists.{is_some_list}
-use Rattle.vx_plan_nodes.proofs.ErasedFacts.{erased-typed, erased-numbered}
+use Rattle.vx_plan_nodes.proofs.ErasedFacts.{erased-types, erased-typed, erased-numbered, erased-closed}
 use Rattle.vx_laws.specs.Forms.{TypedIsWellFormed, ErasedIsTyped}
 use Rattle.vx_laws.proofs.Bags.{and-left, and-right, and-both}
 use Rattle.vx_laws.proofs.Parts.{list_all-weaken}
 use Rattle.vx_laws.proofs.Widths.{length-values}
+use Rattle.vx_plan_nodes.specs.Phases.{phase_fits, both_closed}
 
 -- as many types as columns
 
@@ -22,7 +23,7 @@ unary-types-width (select cs) types = refl
 unary-types-width (project cols) types = length-values (type_at types) cols
 unary-types-width (distinct cols) types = length-values (type_at types) cols
 unary-types-width (sort cols) types = refl
-unary-types-width (group by aggregates) types =
+unary-types-width (group phase by aggregates) types =
     length-append (map (type_at types) by) (map (aggregate_type types) aggregates)
     ∙ ap (λ k. k + length (map (aggregate_type types) aggregates)) (length-values (type_at types) by)
     ∙ ap (λ k. length by + k) (length-values (aggregate_type types) aggregates)
@@ -85,42 +86,51 @@ typed-well-formed s (scan n c r m z) h =
 typed-well-formed s (unary n c op p) h =
     let out : Bool = is_output s (types_of (relation_at s.catalog) (unary n c op p)) c in
     let op_typed : Bool = is_unary (types_of (relation_at s.catalog) p) op in
-    and-both (well_formed (relation_at s.catalog) p) (names_columns (width (relation_at s.catalog) (unary n c op p)) c)
-    (typed-well-formed s p (and-left (typed s p) (op_typed && out) h))
-    (names-at s (unary n c op p) c (and-right op_typed out (and-right (typed s p) (op_typed && out) h)))
+    let nm : Bool = names_columns (width (relation_at s.catalog) (unary n c op p)) c in
+    let rest = and-right (typed s p) (phase_fits op p && (op_typed && out)) h in
+    and-both (well_formed (relation_at s.catalog) p) (phase_fits op p && nm)
+    (typed-well-formed s p (and-left (typed s p) (phase_fits op p && (op_typed && out)) h))
+    (and-both (phase_fits op p) nm (and-left (phase_fits op p) (op_typed && out) rest)
+    (names-at s (unary n c op p) c (and-right op_typed out (and-right (phase_fits op p) (op_typed && out) rest))))
 typed-well-formed s (binary n c union p q) h =
     let ts : List ColType = types_of (relation_at s.catalog) p in
     let us : List ColType = types_of (relation_at s.catalog) q in
     let out : Bool = is_output s ts c in
-    let rest = and-right (typed s p) (typed s q && (types_eq ts us && out)) h in
-    let last = and-right (typed s q) (types_eq ts us && out) rest in
+    let rest = and-right (typed s p) (typed s q && (both_closed p q && (types_eq ts us && out))) h in
+    let more = and-right (typed s q) (both_closed p q && (types_eq ts us && out)) rest in
+    let last = and-right (both_closed p q) (types_eq ts us && out) more in
     let wp : ℕ = width (relation_at s.catalog) p in
     let wq : ℕ = width (relation_at s.catalog) q in
     let same : wp ≡ wq = sym (types-width (relation_at s.catalog) p) ∙ types_eq-length ts us (and-left (types_eq ts us) out last) ∙ types-width (relation_at s.catalog) q in
-    and-both (well_formed (relation_at s.catalog) p) (well_formed (relation_at s.catalog) q && ((wp == wq) && names_columns wp c))
-    (typed-well-formed s p (and-left (typed s p) (typed s q && (types_eq ts us && out)) h))
-    (and-both (well_formed (relation_at s.catalog) q) ((wp == wq) && names_columns wp c)
-    (typed-well-formed s q (and-left (typed s q) (types_eq ts us && out) rest))
-    (and-both (wp == wq) (names_columns wp c) (eq-eqb wp wq same) (names-at s p c (and-right (types_eq ts us) out last))))
+    and-both (well_formed (relation_at s.catalog) p) (well_formed (relation_at s.catalog) q && (both_closed p q && ((wp == wq) && names_columns wp c)))
+    (typed-well-formed s p (and-left (typed s p) (typed s q && (both_closed p q && (types_eq ts us && out))) h))
+    (and-both (well_formed (relation_at s.catalog) q) (both_closed p q && ((wp == wq) && names_columns wp c))
+    (typed-well-formed s q (and-left (typed s q) (both_closed p q && (types_eq ts us && out)) rest))
+    (and-both (both_closed p q) ((wp == wq) && names_columns wp c) (and-left (both_closed p q) (types_eq ts us && out) more)
+    (and-both (wp == wq) (names_columns wp c) (eq-eqb wp wq same) (names-at s p c (and-right (types_eq ts us) out last)))))
 typed-well-formed s (binary n c (join m on) p q) h =
     let ts : List ColType = types_of (relation_at s.catalog) p in
     let us : List ColType = types_of (relation_at s.catalog) q in
     let out : Bool = is_output s (ts ++ us) c in
     let op_typed : Bool = is_binary ts us (join m on) in
-    let rest = and-right (typed s p) (typed s q && (op_typed && out)) h in
-    and-both (well_formed (relation_at s.catalog) p) (well_formed (relation_at s.catalog) q && names_columns (width (relation_at s.catalog) p + width (relation_at s.catalog) q) c)
-    (typed-well-formed s p (and-left (typed s p) (typed s q && (op_typed && out)) h))
-    (and-both (well_formed (relation_at s.catalog) q) (names_columns (width (relation_at s.catalog) p + width (relation_at s.catalog) q) c)
-    (typed-well-formed s q (and-left (typed s q) (op_typed && out) rest))
-    (names-at s (binary n c (join m on) p q) c (and-right op_typed out (and-right (typed s q) (op_typed && out) rest))))
+    let rest = and-right (typed s p) (typed s q && (both_closed p q && (op_typed && out))) h in
+    let more = and-right (typed s q) (both_closed p q && (op_typed && out)) rest in
+    let nm : Bool = names_columns (width (relation_at s.catalog) p + width (relation_at s.catalog) q) c in
+    and-both (well_formed (relation_at s.catalog) p) (well_formed (relation_at s.catalog) q && (both_closed p q && nm))
+    (typed-well-formed s p (and-left (typed s p) (typed s q && (both_closed p q && (op_typed && out))) h))
+    (and-both (well_formed (relation_at s.catalog) q) (both_closed p q && nm)
+    (typed-well-formed s q (and-left (typed s q) (both_closed p q && (op_typed && out)) rest))
+    (and-both (both_closed p q) nm (and-left (both_closed p q) (op_typed && out) more)
+    (names-at s (binary n c (join m on) p q) c (and-right op_typed out (and-right (both_closed p q) (op_typed && out) more)))))
 typed-well-formed s (exchange n c k m p) h =
     let ts : List ColType = types_of (relation_at s.catalog) p in
     let out : Bool = is_output s ts c in
     let kind_typed : Bool = is_kind s ts k in
-    let rest = and-right (typed s p) (kind_typed && (are_columns (length ts) m && out)) h in
+    let more : Bool = may_merge k m && out in
+    let rest = and-right (typed s p) (kind_typed && (are_columns (length ts) m && more)) h in
     and-both (well_formed (relation_at s.catalog) p) (names_columns (width (relation_at s.catalog) p) c)
-    (typed-well-formed s p (and-left (typed s p) (kind_typed && (are_columns (length ts) m && out)) h))
-    (names-at s p c (and-right (are_columns (length ts) m) out (and-right kind_typed (are_columns (length ts) m && out) rest)))
+    (typed-well-formed s p (and-left (typed s p) (kind_typed && (are_columns (length ts) m && more)) h))
+    (names-at s p c (and-right (may_merge k m) out (and-right (are_columns (length ts) m) more (and-right kind_typed (are_columns (length ts) m && more) rest))))
 
 pub typed-is-well-formed : TypedIsWellFormed
 typed-is-well-formed s p h = (typed-well-formed s p h, types-width (relation_at s.catalog) p)
@@ -130,5 +140,6 @@ typed-is-well-formed s p h = (typed-well-formed s p h, types-width (relation_at 
 pub erased-is-typed : ErasedIsTyped
 erased-is-typed = record {
   numbered = erased-numbered 0;
-  typed = λ s p h. record { ranges = h.ranges; sizes = h.sizes; nodes = erased-typed s 0 p h.nodes; numbered = erased-numbered 0 p };
+  typed = λ s p h. record { ranges = h.ranges; sizes = h.sizes; nodes = erased-typed s 0 p h.nodes; numbered = erased-numbered 0 p; closed = erased-closed 0 p };
+  types = λ s p h. erased-types s 0 p h.nodes;
 }

@@ -1,12 +1,12 @@
 -- From the traces of all workers to a run of the plan relation.
 use Rattle.vx_worker.specs.Fragment.{goes, IsSet, Setting, Reads, fragment, FragTold, FragMakes}
-use Rattle.std.proofs.Common.{◌≡◌, ℕ, ◌<◌, ◌==◌, ◌&&◌, Bool, true, false, List, [], sym, ap, ◌∙◌, subst, arith, eqb-true, Some}
+use Rattle.std.proofs.Common.{◌≡◌, ℕ, ◌<◌, ◌==◌, ◌&&◌, Bool, true, false, List, [], sym, ap, ◌∙◌, subst, arith, eqb-true, Some, ap₂, zero, suc, refl, ◌++◌}
 use Rattle.vx_values.specs.Values.{Row}
 use Rattle.vx_plan_nodes.specs.Plan.{Size, ExchangeKind, target, Claim, Plan, scan, unary, binary, exchange, size, is_one, size_eq}
 use Rattle.vx_plan_nodes.specs.Serial.{unary_rows, binary_rows}
-use Rattle.vx_plan_nodes.specs.Streams.{Streams, workers, Dealt}
+use Rattle.vx_plan_nodes.specs.Streams.{Streams, workers, Dealt, joined}
 use Rattle.vx_plan_nodes.specs.Routes.{Sends}
-use Rattle.vx_plan_nodes.specs.Runs.{Runs}
+use Rattle.vx_plan_nodes.specs.Runs.{Runs, is_concat}
 use Rattle.vx_ports.specs.Packets.{PacketView, rows_of, Flows}
 use Rattle.vx_worker.specs.Morsels.{morsel_of, morsels}
 use Rattle.vx_ops.specs.Ledger.{Stream, scan_op, one_op, two_op, receive, Makes}
@@ -16,6 +16,7 @@ use Rattle.vx_exchange.specs.Tasks.{keep, send}
 use Rattle.vx_laws.specs.RunOf.{ship_of, RunOf, Made, WellRuns, WellRunGives, WellRunDelivers}
 use Rattle.vx_plan_nodes.specs.Numbering.{is_fit}
 use Rattle.vx_ops.specs.declared.fault.Over.TheVariants.{Ended}
+use Rattle.vx_exchange.proofs.Joined.{joined-ext}
 use Rattle.vx_laws.proofs.Settings.{set-given}
 use Rattle.vx_laws.proofs.Bags.{and-left, and-right}
 use Rattle.vx_laws.proofs.Parts.{some-workers, size_eq-is, one-worker}
@@ -49,7 +50,7 @@ told-makes S w (binary n c op p q) r out h e =
     (h.0, told-makes S w p r h.0.left h.1 t.0.0, told-makes S w q r h.0.right h.2 t.0.1, subst P h.4 t.1)
 told-makes S w (exchange n c k merge p) r out h e =
     let t = h.2.ended (ap (λ (s : Stream). s.over) h.3 ∙ e) in
-    let P : Stream → Type 0 = λ s. Makes (receive (record { exchange = n; place = w; producers = workers S.sizes (size p); types = Rattle.vx_plan_nodes.specs.Types.types_of S.catalog p; merge = merge })) h.0 s.rows in
+    let P : Stream → Type 0 = λ s. Makes (receive (record { exchange = n; place = w; producers = workers S.sizes (size p); types = Rattle.vx_plan_nodes.specs.Types.types_of S.catalog p; merge = merge; in_order = is_concat k })) h.0 s.rows in
     (h.0, h.1, t.0, subst P h.3 t.1)
 
 pub well-made : (S : Setting) (w : ℕ) (p : Plan) (task : Rattle.vx_exchange.specs.Tasks.Task) (t : Trace) → (h : IsWell S (fragment S w p) task t) → Made S (fragment S w p) t h.out.rows
@@ -135,6 +136,7 @@ module _ (S : Setting) (sized : Sized S) where
           sends = λ i l. (u.1 i l).sends;
           gets = λ j b. dealt-lists m (out j) (λ i. rows_of ((made j b).makes.0.came i)) (λ i. (u.0 i).1 j) (λ i a. came i j a b) (made j b).makes.3.0;
           merged = λ j b. (made j b).makes.3.1;
+          in_order = λ e j b. joined-ext m (λ i. (u.0 i).1 j) (λ i. rows_of ((made j b).makes.0.came i)) (λ i a. sym (came i j a b)) ∙ (made j b).makes.3.2 e;
         },
       )
 
@@ -154,6 +156,6 @@ well-run-gives S set p fit one t rows h run =
     subst R w0 (subst Q (sym h.finished.0) (well-made S 0 p (keep rows) t h))) run
 
 pub well-run-delivers : WellRunDelivers
-well-run-delivers S set is_total p fit wf ok root t rows h run =
-    sound-at-root S.catalog S.db S.sizes (goes S) (set-given S set) is_total p (λ w. rows) wf ok root
+well-run-delivers S set is_total p fit wf shut ok root t rows h run =
+    sound-at-root S.catalog S.db S.sizes (goes S) (set-given S set) is_total p (λ w. rows) wf shut ok root
     (well-run-gives S set p fit (and-left (is_one (size p)) _ root) t rows h run)

@@ -14,6 +14,7 @@ use Rattle.vx_laws.proofs.Parts.{list_all-weaken, list_all-always}
 use Rattle.vx_laws.proofs.Orders.{list_all-filter}
 use Rattle.vx_laws.proofs.Unary.{map-all, sort-all}
 use Rattle.vx_laws.proofs.JoinOrder.{wide, join-all, list_all-append}
+use Rattle.vx_plan_nodes.specs.Phases.{phase_fits, both_closed}
 
 pub length-values : {X Y : Type 0} (g : X → Y) (xs : List X) → length (map g xs) ≡ length xs
 length-values g [] = refl
@@ -61,7 +62,7 @@ unary-wide (distinct cols) w xs ys h e =
 unary-wide (sort cols) w xs ys h e =
     let k : sort_on cols xs ≡ ys = cc in
     let P : List Row → Type 0 = λ l. wide w l ≡ true in subst P k (sort-all _ cols xs h)
-unary-wide (group by aggregates) w xs ys h e =
+unary-wide (group phase by aggregates) w xs ys h e =
     let k = (some-of (list_all (group_fits by aggregates xs) (group_keys by xs)) (map (group_row by aggregates xs) (group_keys by xs)) ys e).1 in
     let P : List Row → Type 0 = λ l. wide (length by + length aggregates) l ≡ true in
     subst P k (map-all _ (group_row by aggregates xs) (group_keys by xs)
@@ -88,7 +89,7 @@ module _ (catalog : ℕ → Relation) (db : ℕ → List Row) (meets : (r : ℕ)
       let k : db r ≡ xs = cc in
       let P : List Row → Type 0 = λ l. wide (length (catalog r).types) l ≡ true in subst P k (fit-wide (catalog r).types (db r) (meets r).fit)
   serial-wide (unary n c op p) xs ok e =
-      go (serial db p) (λ ys. serial-wide p ys (and-left (well_formed catalog p) (names_columns (width catalog (unary n c op p)) c) ok)) e
+      go (serial db p) (λ ys. serial-wide p ys (and-left (well_formed catalog p) (phase_fits op p && names_columns (width catalog (unary n c op p)) c) ok)) e
     where
       done : (o : Option (List Row)) (ys : List Row) → wide (width catalog p) ys ≡ true → unary_rows op ys ≡ o → or_overflow n o ≡ rows xs → wide (unary_width op (width catalog p)) xs ≡ true
       done (Some zs) ys h k e =
@@ -102,12 +103,13 @@ module _ (catalog : ℕ → Relation) (db : ℕ → List Row) (meets : (r : ℕ)
       go (rows ys) ih e = done (unary_rows op ys) ys (ih ys refl) refl e
       go (overflow m) ih e = cc
   serial-wide (binary n c union p q) xs ok e =
-      let k1 = and-right (well_formed catalog p) (well_formed catalog q && ((width catalog p == width catalog q) && names_columns (width catalog p) c)) ok in
-      let k2 = and-right (well_formed catalog q) ((width catalog p == width catalog q) && names_columns (width catalog p) c) k1 in
-      let same = eqb-true (width catalog p) (width catalog q) (and-left (width catalog p == width catalog q) (names_columns (width catalog p) c) k2) in
+      let k1 = and-right (well_formed catalog p) (well_formed catalog q && (both_closed p q && ((width catalog p == width catalog q) && names_columns (width catalog p) c))) ok in
+      let k2 = and-right (well_formed catalog q) (both_closed p q && ((width catalog p == width catalog q) && names_columns (width catalog p) c)) k1 in
+      let k3 = and-right (both_closed p q) ((width catalog p == width catalog q) && names_columns (width catalog p) c) k2 in
+      let same = eqb-true (width catalog p) (width catalog q) (and-left (width catalog p == width catalog q) (names_columns (width catalog p) c) k3) in
       go (serial db p) (serial db q)
-      (λ ys. serial-wide p ys (and-left (well_formed catalog p) (well_formed catalog q && ((width catalog p == width catalog q) && names_columns (width catalog p) c)) ok))
-      (λ ys. serial-wide q ys (and-left (well_formed catalog q) ((width catalog p == width catalog q) && names_columns (width catalog p) c) k1)) same e
+      (λ ys. serial-wide p ys (and-left (well_formed catalog p) (well_formed catalog q && (both_closed p q && ((width catalog p == width catalog q) && names_columns (width catalog p) c))) ok))
+      (λ ys. serial-wide q ys (and-left (well_formed catalog q) (both_closed p q && ((width catalog p == width catalog q) && names_columns (width catalog p) c)) k1)) same e
     where
       go : (o u : SerialResult) → ((ys : List Row) → o ≡ rows ys → wide (width catalog p) ys ≡ true) → ((ys : List Row) → u ≡ rows ys → wide (width catalog q) ys ≡ true)
           → width catalog p ≡ width catalog q → after o (λ ys. after u (λ zs. rows (ys ++ zs))) ≡ rows xs → wide (width catalog p) xs ≡ true
@@ -119,10 +121,10 @@ module _ (catalog : ℕ → Relation) (db : ℕ → List Row) (meets : (r : ℕ)
       go (rows ys) (overflow m) ih jh s e = cc
       go (overflow m) u ih jh s e = cc
   serial-wide (binary n c (join m on) p q) xs ok e =
-      let k1 = and-right (well_formed catalog p) (well_formed catalog q && names_columns (width catalog p + width catalog q) c) ok in
+      let k1 = and-right (well_formed catalog p) (well_formed catalog q && (both_closed p q && names_columns (width catalog p + width catalog q) c)) ok in
       go (serial db p) (serial db q)
-      (λ ys. serial-wide p ys (and-left (well_formed catalog p) (well_formed catalog q && names_columns (width catalog p + width catalog q) c) ok))
-      (λ ys. serial-wide q ys (and-left (well_formed catalog q) (names_columns (width catalog p + width catalog q) c) k1)) e
+      (λ ys. serial-wide p ys (and-left (well_formed catalog p) (well_formed catalog q && (both_closed p q && names_columns (width catalog p + width catalog q) c)) ok))
+      (λ ys. serial-wide q ys (and-left (well_formed catalog q) ((both_closed p q && names_columns (width catalog p + width catalog q) c)) k1)) e
     where
       go : (o u : SerialResult) → ((ys : List Row) → o ≡ rows ys → wide (width catalog p) ys ≡ true) → ((ys : List Row) → u ≡ rows ys → wide (width catalog q) ys ≡ true)
           → after o (λ ys. after u (λ zs. rows (join_rows on ys zs))) ≡ rows xs → wide (width catalog p + width catalog q) xs ≡ true

@@ -5,7 +5,7 @@ use Rattle.vx_laws.specs.Layout.{FlatRun, workers_below}
 use Rattle.vx_values.specs.Values.{Row}
 use Rattle.vx_plan_nodes.specs.Plan.{Plan, scan, unary, binary, exchange, size, is_one}
 use Rattle.vx_plan_nodes.specs.Types.{well_formed}
-use Rattle.vx_plan_nodes.specs.Serial.{serial, IsOverflow, HasTooLong}
+use Rattle.vx_plan_nodes.specs.Serial.{serial, IsOverflow, HasTooLong, HasLargePart}
 use Rattle.vx_plan_nodes.specs.Streams.{workers}
 use Rattle.vx_check_rules.specs.Rules.{allowed}
 use Rattle.vx_plan_nodes.specs.Erase.{erase}
@@ -16,10 +16,12 @@ use Rattle.vx_plan_nodes.specs.Numbering.{is_fit}
 use Rattle.vx_ops.specs.declared.fault.Code.TheVariants.{Overflow, Unsorted, Stranger}
 use Rattle.vx_ops.specs.declared.fault.Fault.{Fault}
 use Rattle.vx_ops.specs.declared.fault.Fault.TheVariants.{Own}
+use Rattle.vx_relations.specs.Relation.{Relation}
 
--- the plan without exchanges overflows, or the serial input of one of its groupings has more than 2^62 rows
+-- the plan without exchanges overflows, or the serial input of one of its groupings has more than 2^62 rows, or, of a grouping in two phases,
+-- some rows of one key of its serial input have a sum outside 64 bits
 abbrev pub IsReal : (ℕ → List Row) → Plan → Type 0
-IsReal db p = IsOverflow (serial db (erase p)) ⊎ HasTooLong db p
+IsReal db p = IsOverflow (serial db (erase p)) ⊎ (HasTooLong db p ⊎ HasLargePart db p)
 
 -- some worker below an exchange of the plan ended with this fault
 abbrev pub FailsBelow : (S : Setting) → Fault → (p : Plan) (ts : ℕ → Trace) → RunOf S (Ends S) p ts → Type 0
@@ -54,7 +56,7 @@ NoOrderFault =
 
 -- the plan without its exchanges overflows where the plan does
 abbrev pub ErasedOverflows : Type 0
-ErasedOverflows = (db : ℕ → List Row) (p : Plan) → IsOverflow (serial db p) ↔ IsOverflow (serial db (erase p))
+ErasedOverflows = (catalog : ℕ → Relation) (db : ℕ → List Row) (p : Plan) → well_formed catalog p ≡ true → IsOverflow (serial db p) ↔ IsOverflow (serial db (erase p))
 
 -- some worker of a fragment below an exchange ended with this fault, by numbers
 abbrev pub FlatFails : (S : Setting) → Fault → (ts : ℕ → Trace) (p : Plan) (top next : ℕ) → FlatRun S (Ends S) ts p top next → Type 0

@@ -1,8 +1,9 @@
 -- Definitions that stand in two forms, and that the two say the same.
-use Rattle.std.specs.Prelude.{length, ◌≡◌, ◌↔◌, ℕ, ◌<◌, ◌≤◌, Bool, true, List, None, IsPermutation}
+use Rattle.std.specs.Prelude.{length, ◌≡◌, ◌↔◌, ℕ, ◌<◌, ◌≤◌, Bool, true, false, not, ◌&&◌, List, None, IsPermutation}
 use Rattle.vx_relations.specs.Catalog.{relation_at}
 use Rattle.vx_plan_nodes.specs.Typed.{Scope, typed, IsTyped}
 use Rattle.vx_plan_nodes.specs.Types.{types_of, width, well_formed}
+use Rattle.vx_plan_nodes.specs.Phases.{phased, phases_seen, is_open}
 use Rattle.vx_plan_nodes.specs.Numbering.{is_numbered}
 use Rattle.vx_plan_nodes.specs.Erase.{erase}
 use Rattle.std.specs.Ordering.{is_le}
@@ -32,13 +33,19 @@ abbrev pub TypedIsWellFormed : Type 0
 TypedIsWellFormed =
     (s : Scope) (p : Plan) → typed s p ≡ true → (well_formed (relation_at s.catalog) p ≡ true) × (length (types_of (relation_at s.catalog) p) ≡ width (relation_at s.catalog) p)
 
--- the plan without exchanges is numbered in preorder, and typed where the plan is
+-- the plan without exchanges is numbered in preorder, typed where the plan is, and has the same types
 pub record ErasedIsTyped : Type 0 where
   pub numbered : (p : Plan) → is_numbered 0 (erase p) ≡ true
   pub typed : (s : Scope) (p : Plan) → IsTyped s p → IsTyped s (erase p)
+  pub types : (s : Scope) (p : Plan) → IsTyped s p → types_of (relation_at s.catalog) (erase p) ≡ types_of (relation_at s.catalog) p
 
 -- the same rows, each as often, is a permutation, and it is equal counts of each row
 pub record SameRowsIs : Type 0 where
   pub permutation : (xs ys : List Row) → SameRows xs ys ↔ IsPermutation xs ys
   pub counts : (xs ys : List Row) → SameRows xs ys ↔ ((row : Row) → count (row_eq row) xs ≡ count (row_eq row) ys)
   pub same_row : (a b : Row) → (row_eq a b ≡ true) ↔ (a ≡ b)
+
+-- the phases of a plan fit, seen from below, where each node sees that its own does; and those of a typed plan fit
+pub record PhasesAgree : Type 0 where
+  pub seen : (p : Plan) → phases_seen false p ≡ (phased p && not (is_open p))
+  pub well : (s : Scope) (p : Plan) → typed s p ≡ true → phased p ≡ true

@@ -15,6 +15,7 @@ use Rattle.vx_ports.specs.Packets.{Flows}
 use Rattle.vx_worker.specs.Morsels.{Dispatched, morsel_count}
 use Rattle.vx_laws.specs.RunOf.{Known, RunOf, ship_of}
 use Rattle.vx_plan_nodes.specs.Numbering.{is_fit, is_numbered, relation_in}
+use Rattle.vx_plan_nodes.specs.Phases.{is_open}
 
 -- how many workers the fragments below the plan's top fragment have
 abbrev pub workers_below : (ℕ → ℕ) → Plan → ℕ
@@ -56,6 +57,6 @@ pub record AllWell (S : Setting) (p : Plan) (ts : ℕ → Trace) (rows : List Ro
 abbrev pub NumberedRunDelivers : Type 0
 NumberedRunDelivers =
     (S : Setting) → IsSet S → (is_total : Bool) (p : Plan) → is_fit S.relation_of p ≡ true
-    → well_formed S.catalog p ≡ true → allowed S.catalog p ≡ true → root_allowed S.catalog is_total p ≡ true
+    → well_formed S.catalog p ≡ true → is_open p ≡ false → allowed S.catalog p ≡ true → root_allowed S.catalog is_total p ≡ true
     → (ts : ℕ → Trace) (rows : List Row) → AllWell S p ts rows
     → Runs S.db S.sizes (goes S) p (λ _. rows) × Delivers S.db is_total p rows

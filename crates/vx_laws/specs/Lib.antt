@@ -2,6 +2,7 @@ pub mod Sound
 pub mod Forms
 pub mod WorkedPlans
 pub mod WorkedRows
+pub mod Worked
 pub mod Dispatch
 pub mod RunOf
 pub mod Layout

@@ -14,6 +14,7 @@ use Rattle.vx_exchange.specs.Ship.{Ship}
 use Rattle.vx_worker.specs.Trace.{Trace, IsWell, ReadsAre}
 use Rattle.vx_exchange.specs.Tasks.{keep, send, Task}
 use Rattle.vx_plan_nodes.specs.Numbering.{is_fit}
+use Rattle.vx_plan_nodes.specs.Phases.{is_open}
 
 -- the sending end of the producer at a place, for an exchange above the plan p
 abbrev pub ship_of : Setting → (exchange place : ℕ) → ExchangeKind → Plan → Ship
@@ -60,6 +61,6 @@ abbrev pub WellRunDelivers : Type 0
 WellRunDelivers =
     (S : Setting) → IsSet S
     → (is_total : Bool) (p : Plan) → is_fit S.relation_of p ≡ true
-    → well_formed S.catalog p ≡ true → allowed S.catalog p ≡ true → root_allowed S.catalog is_total p ≡ true
+    → well_formed S.catalog p ≡ true → is_open p ≡ false → allowed S.catalog p ≡ true → root_allowed S.catalog is_total p ≡ true
     → (t : Trace) (rows : List Row) → IsWell S (fragment S 0 p) (keep rows) t
     → RunOf S (IsWell S) p (λ _. t) → Delivers S.db is_total p rows

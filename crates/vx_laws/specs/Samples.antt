@@ -2,7 +2,7 @@
 use Rattle.std.specs.Prelude.{◌≡◌, ℕ, zero, suc, true, false, pos, List, [], ◌∷◌}
 use Rattle.vx_values.specs.Values.{num, Row}
 use Rattle.vx_values.specs.declared.value.ColType.TheVariants.{Int}
-use Rattle.vx_plan_nodes.specs.Plan.{one_worker, group_of, one, any, sum, group, gather, Plan, scan, unary, exchange}
+use Rattle.vx_plan_nodes.specs.Plan.{one_worker, group_of, one, any, sum, group, plain, gather, Plan, scan, unary, exchange}
 use Rattle.vx_ports.specs.Packets.{brings, last, PacketView}
 use Rattle.vx_worker.specs.Fragment.{Setting, fragment}
 use Rattle.vx_worker.specs.Trace.{Trace, IsWell, failed, Ends}
@@ -60,7 +60,7 @@ large = record {
 
 abbrev pub summing : Plan
 summing =
-    unary 0 (record { part = one; order = []; keys = [] }) (group [] (sum 0 ∷ []))
+    unary 0 (record { part = one; order = []; keys = [] }) (group plain [] (sum 0 ∷ []))
     (scan 1 (record { part = one; order = []; keys = [] }) 0 false one_worker)
 
 abbrev pub summer : Trace

@@ -4,7 +4,7 @@ use Rattle.vx_values.specs.declared.value.ColType.TheVariants.{Int, Text}
 use Rattle.vx_values.specs.Values.{Val, num, text, Row}
 use Rattle.vx_relations.specs.Relation.{Relation}
 use Rattle.vx_plan_nodes.specs.Typed.{Scope}
-use Rattle.vx_plan_nodes.specs.Plan.{Size, one_worker, group_of, Route, by_hash, Part, one, any, all, routed, Claim, equal, constant, sum, count_rows, Unary, select, sort, group, union, join, route_to, round, broadcast, gather, Plan, scan, unary, binary, exchange}
+use Rattle.vx_plan_nodes.specs.Plan.{Size, one_worker, group_of, Route, by_hash, Part, one, any, all, routed, Claim, equal, constant, sum, count_rows, Unary, select, sort, group, plain, union, join, route_to, round, broadcast, gather, Plan, scan, unary, binary, exchange}
 
 abbrev pub t_and_d : ℕ → Relation
 t_and_d zero = record { name = []; names = []; types = Int ∷ Text ∷ Int ∷ []; keys = (0 ∷ []) ∷ []; order = 0 ∷ [] }
@@ -67,7 +67,7 @@ abbrev pub sums_over : (sorted grouped : Claim) → Plan → Plan
 sums_over sorted grouped below =
     exchange 0 (claimed one first first_key) gather first
     (unary 1 sorted (sort first)
-    (unary 2 grouped (group (1 ∷ []) (sum 2 ∷ [])) below))
+    (unary 2 grouped (group plain (1 ∷ []) (sum 2 ∷ [])) below))
 
 abbrev pub h_sorted : Claim
 h_sorted = claimed (routed h first) first first_key
@@ -126,7 +126,7 @@ join_off_key =
 
 -- a sum of texts, and a union of unlike types
 abbrev pub text_summed : Plan
-text_summed = unary 0 (part_only one) (group [] (sum 1 ∷ [])) (scan 1 (part_only one) 0 false one_worker)
+text_summed = unary 0 (part_only one) (group plain [] (sum 1 ∷ [])) (scan 1 (part_only one) 0 false one_worker)
 
 abbrev pub union_unlike : Plan
 union_unlike = binary 0 (part_only one) union (scan 1 (part_only one) 0 false one_worker) (scan 2 (part_only one) 1 false one_worker)
@@ -147,12 +147,12 @@ union_two_sizes = exchange 0 (part_only one) gather [] (binary 1 (part_only any)
 abbrev pub sums_with_d : Plan
 sums_with_d =
     binary 0 (part_only one) (join false ((0, 0) ∷ []))
-    (unary 1 (part_only one) (group (1 ∷ []) (sum 2 ∷ [])) (scan 2 (part_only one) 0 false one_worker))
+    (unary 1 (part_only one) (group plain (1 ∷ []) (sum 2 ∷ [])) (scan 2 (part_only one) 0 false one_worker))
     (scan 3 (part_only one) 1 false one_worker)
 
 -- on one worker: how many rows t has, in a grouping by nothing
 abbrev pub rows_counted : Plan
-rows_counted = unary 0 (part_only one) (group [] (count_rows ∷ [])) (scan 1 (part_only one) 0 false one_worker)
+rows_counted = unary 0 (part_only one) (group plain [] (count_rows ∷ [])) (scan 1 (part_only one) 0 false one_worker)
 
 -- on one worker, total: a merge join of t and d, both sorted on k
 abbrev pub merge_joined : (right_order : List ℕ) → Plan → Plan

@@ -4,7 +4,7 @@
 pub mod runs;
 pub mod worked;
 
-ghost use Rattle.vx_laws.specs.Forms.{ErasedIsTyped, FormsAgree, RefusalDecides, SameRowsIs, TypedIsWellFormed};
+ghost use Rattle.vx_laws.specs.Forms.{ErasedIsTyped, FormsAgree, PhasesAgree, RefusalDecides, SameRowsIs, TypedIsWellFormed};
 ghost use Rattle.vx_laws.specs.Sound.{NoOverflow, Sound, SoundAtRoot, SoundThroughout};
 
 /// In every run of an allowed plan each claim holds, and the plan has serial rows.
@@ -32,7 +32,8 @@ pub fn forms_agree()
     ensures { FormsAgree }
 {}
 
-/// No worker's group overflows where the serial plan does not overflow there.
+/// No worker's group overflows where the serial plan does not overflow there, but a partial one: there some rows of one key
+/// of its serial input have a sum outside 64 bits, or that input is too long.
 pub fn overflow_is_real()
     ensures { NoOverflow }
 {}
@@ -47,7 +48,12 @@ pub fn typed_plan_is_well_formed()
     ensures { TypedIsWellFormed }
 {}
 
-/// The plan without exchanges is typed, and numbered in preorder.
+/// The plan without exchanges is typed, of the same types, and numbered in preorder.
 pub fn erased_plan_is_typed()
     ensures { ErasedIsTyped }
+{}
+
+/// The phases of a plan fit, seen from below, where each node sees that its own does.
+pub fn phases_agree()
+    ensures { PhasesAgree }
 {}

@@ -1,5 +1,6 @@
 //! Worked plans, judged and evaluated by the definitions alone.
 
+ghost use Rattle.vx_laws.specs.Worked.{WorkedPhases};
 ghost use Rattle.vx_laws.specs.WorkedRows.{AreAccepted, AreRefused, HaveForms, HaveSerialRows};
 
 /// These plans are accepted.
@@ -20,4 +21,9 @@ pub fn worked_plans_have_rows()
 /// Which of these plans and ranges are typed, and what keys, clashes, round robin, morsels and range routes come to, as worked by hand.
 pub fn worked_forms_compute()
     ensures { HaveForms }
+{}
+
+/// Groupings in two steps and exchanges that take one producer after the other: what is accepted of them, what is refused, and what they mean.
+pub fn worked_plans_compute()
+    ensures { WorkedPhases }
 {}

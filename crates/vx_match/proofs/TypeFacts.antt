@@ -6,7 +6,7 @@ use Rattle.std.proofs.lemmas.List.Folds.{list_any_at}
 use Rattle.vx_values.specs.declared.value.ColType.{ColType}
 use Rattle.vx_values.specs.Values.{Val, Row, val_cmp, value_at, row_eq, pick}
 use Rattle.vx_values.specs.Types.{type_of, type_at, Fits}
-use Rattle.vx_plan_nodes.specs.Plan.{Aggregate, least, greatest, sum, count_rows, group}
+use Rattle.vx_plan_nodes.specs.Plan.{Aggregate, least, greatest, sum, count_rows, group, plain}
 use Rattle.vx_plan_nodes.specs.Types.{aggregate_type, unary_types}
 use Rattle.vx_plan_nodes.specs.Serial.{least_of, greatest_of, aggregate_of, firsts, group_keys, of_key, group_row}
 use Rattle.std.specs.Ordering.{is_le}
@@ -74,7 +74,7 @@ aggregates-typed types (a ∷ as') x xs fit = λ i. aggregate-typed types a x xs
 
 -- the row of a key that some row has
 row-typed : (types : List ColType) (by : List ℕ) (as' : List Aggregate) (xs : List Row) (k : Row) → AllByRecursion (Fits types) xs → map type_of k ≡ map (type_at types) by
-    → list_any (row_eq k) (map (pick by) xs) ≡ true → map type_of (group_row by as' xs k) ≡ unary_types (group by as') types
+    → list_any (row_eq k) (map (pick by) xs) ≡ true → map type_of (group_row by as' xs k) ≡ unary_types (group plain by as') types
 row-typed types by as' xs k fit key h =
     let some = of_key-some by k xs h in
     let kept = subst (AllByRecursion (Fits types)) some.1.1 (all-kept (Fits types) (λ r. row_eq k (pick by r)) xs fit) in
@@ -90,7 +90,7 @@ any-at : (ks : List Row) (i : ℕ) → i < length ks → list_any (row_eq (get_o
 any-at ks i l = list_any_at (row_eq (get_or ks i [])) ks i [] l (row_eq-refl (get_or ks i []))
 
 -- the row that a grouping shows at a place
-pub shown-typed : (g : Groups) (xs : List Row) (i : ℕ) → HasTaken g xs → i < length g.keys → map type_of (key_row (get_or g.keys i []) (get_or g.groups i [])) ≡ unary_types (group g.by g.aggregates) g.types
+pub shown-typed : (g : Groups) (xs : List Row) (i : ℕ) → HasTaken g xs → i < length g.keys → map type_of (key_row (get_or g.keys i []) (get_or g.groups i [])) ≡ unary_types (group plain g.by g.aggregates) g.types
 shown-typed g xs i t l =
     let ks = group_keys g.by xs in
     let inside : i < length ks = subst (λ keys. i < length keys) t.keys_are l in

@@ -6,7 +6,7 @@ ghost use Rattle.vx_values.specs.Types.{Fits};
 ghost use Rattle.vx_values.specs.Values.{Row as Cells};
 ghost use Rattle.vx_values.specs.ValueView.{cell_val};
 ghost use Rattle.vx_rows.specs.View.{row, AreColumns};
-ghost use Rattle.vx_plan_nodes.specs.Plan.{group};
+ghost use Rattle.vx_plan_nodes.specs.Plan.{group, plain};
 ghost use Rattle.vx_plan_nodes.specs.Types.{unary_types, aggregate_type};
 ghost use Rattle.vx_plan_nodes.specs.Serial.{group_rows};
 ghost use Rattle.vx_plan_nodes.specs.Outline.{aggregate_of as op_of};
@@ -138,7 +138,7 @@ fn group_types(
     aggregates: &[Aggregate],
 ) -> Result<Vec<ColType>, AllocError>
     requires { AreColumns (length types.now) by.now }
-    ensures { IfOk result (λ v. v.items ≡ unary_types (group by.now (map op_of aggregates.now)) types.now) }
+    ensures { IfOk result (λ v. v.items ≡ unary_types (group plain by.now (map op_of aggregates.now)) types.now) }
 {
     let mut found = types_at(alloc, types, by)?;
     for aggregate in aggregates {
@@ -224,7 +224,7 @@ impl Grouping {
     /// Each key with the aggregates of its rows, in order of first occurrence.
     pub fn finish(&self) -> Result<Rows, GroupFault>
         requires { HasTakenSome self.now }
-        ensures types { IfOk result (λ r. r.types ≡ unary_types (group self.now.by self.now.aggregates) self.now.types) }
+        ensures types { IfOk result (λ r. r.types ≡ unary_types (group plain self.now.by self.now.aggregates) self.now.types) }
         ensures rows { IfOk result (λ r. (xs : List Cells) → HasTaken self.now xs → group_rows self.now.by self.now.aggregates xs ≡ Some r.rows) }
         ensures err { IfErr result (λ e. (xs : List Cells) → HasTaken self.now xs → EndBlame e self.now.by self.now.aggregates xs) }
     {
@@ -246,7 +246,7 @@ pub fn grouped(
     aggregates: &[Aggregate],
 ) -> Result<Rows, GroupFault>
     requires { AreColumns (length rows.now.types) by.now }
-    ensures types { IfOk result (λ r. r.types ≡ unary_types (group by.now (map op_of aggregates.now)) rows.now.types) }
+    ensures types { IfOk result (λ r. r.types ≡ unary_types (group plain by.now (map op_of aggregates.now)) rows.now.types) }
     ensures rows { IfOk result (λ r. group_rows by.now (map op_of aggregates.now) rows.now.rows ≡ Some r.rows) }
     ensures err { IfErr result (λ e. GroupBlame e by.now (map op_of aggregates.now) rows.now.rows) }
 {

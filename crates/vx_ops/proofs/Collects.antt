@@ -33,7 +33,7 @@ with_end l = record l { gave = record { rows = l.gave.rows; over = Ended } }
 
 -- an overflow of all rows is one's own, once the input ended
 overflows : (n : ℕ) (op : Unary) (l : Ledger) → l.left.over ≡ Ended → MayOverflow op l.left.rows → OwnBlame (one_op n op) l (Own Overflow n)
-overflows n (group by aggregates) l e m = (refl, e, m)
+overflows n (group phase by aggregates) l e m = (refl, e, m)
 overflows n (select cs) l e m = m
 overflows n (project cs) l e m = m
 overflows n (distinct cs) l e m = m

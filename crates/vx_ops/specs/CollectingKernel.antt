@@ -8,7 +8,7 @@ use Rattle.vx_ops.specs.declared.collecting_kernel.FinishFault.TheVariants.{Over
 
 -- a sum or a count of these rows does not fit 64 bits, or they are too many
 abbrev pub MayOverflow : Unary → List Row → Type 0
-MayOverflow (group by aggregates) xs = (group_rows by aggregates xs ≡ None) ⊎ (4611686018427387904 < length xs)
+MayOverflow (group phase by aggregates) xs = (group_rows by aggregates xs ≡ None) ⊎ (4611686018427387904 < length xs)
 MayOverflow op xs = ⊥
 
 -- why a kernel makes nothing of all these rows

@@ -1,11 +1,11 @@
 -- What one source received and returned so far, and what is known of a source at any moment (Volcano's iterators).
-use Rattle.std.specs.Prelude.{ℕ, ◌≡◌, ◌<◌, ◌⊎◌, true, false, List, [], ◌∷◌, ◌++◌, length, map, Some, None}
+use Rattle.std.specs.Prelude.{ℕ, ◌≡◌, ◌<◌, ◌⊎◌, true, false, List, [], ◌∷◌, ◌++◌, length, map, Some, None, Bool}
 use Rattle.vx_values.specs.Values.{Row}
 use Rattle.vx_rows.specs.Order.{sorted}
 use Rattle.vx_values.specs.declared.value.ColType.{ColType}
 use Rattle.vx_plan_nodes.specs.Plan.{Unary, group, Binary, join}
 use Rattle.vx_plan_nodes.specs.Serial.{unary_rows, binary_rows, group_rows}
-use Rattle.vx_plan_nodes.specs.Streams.{Dealt}
+use Rattle.vx_plan_nodes.specs.Streams.{Dealt, joined}
 use Rattle.vx_ports.specs.Packets.{PacketView, rows_of, has_last, has_fault}
 use Rattle.vx_ops.specs.declared.fault.Code.TheVariants.{Overflow, NoMemory, Unsorted, Stranger}
 use Rattle.vx_ops.specs.declared.fault.Fault.{Fault}
@@ -30,13 +30,14 @@ pub record Ledger : Type 0 where
   pub came : ℕ → List PacketView
   pub gave : Stream
 
--- the consumer end of an exchange, at one of its places; it merges on the last list of columns, if that is not empty
+-- the consumer end of an exchange, at one of its places; it merges on the list of columns, if that is not empty; or it takes the producers in the order of their numbers
 pub record ConsumerEnd : Type 0 where
   pub exchange : ℕ
   pub place : ℕ
   pub producers : ℕ
   pub types : List ColType
   pub merge : List ℕ
+  pub in_order : Bool
 
 -- what a source does; with its node's number
 pub data Op : Type 0 where
@@ -50,7 +51,8 @@ abbrev pub Makes : Op → Ledger → List Row → Type 0
 Makes scan_op l out = out ≡ l.left.rows
 Makes (one_op n op) l out = unary_rows op l.left.rows ≡ Some out
 Makes (two_op n op) l out = binary_rows op l.left.rows l.right.rows ≡ out
-Makes (receive port) l out = Dealt port.producers out (λ i. rows_of (l.came i)) × (sorted port.merge out ≡ true)
+Makes (receive port) l out =
+    Dealt port.producers out (λ i. rows_of (l.came i)) × (sorted port.merge out ≡ true) × (port.in_order ≡ true → joined port.producers (λ i. rows_of (l.came i)) ≡ out)
 
 -- all its inputs have ended
 abbrev pub InputsEnded : Op → Ledger → Type 0
@@ -77,7 +79,7 @@ pub record Came (P : PacketView → Type 0) (ps : List PacketView) : Type 0 wher
 -- why a source returns a fault that no input returned
 abbrev pub OwnBlame : Op → Ledger → Fault → Type 0
 OwnBlame op l (Own NoMemory node) = Unit {0}
-OwnBlame (one_op n (group by aggregates)) l (Own Overflow node) =
+OwnBlame (one_op n (group phase by aggregates)) l (Own Overflow node) =
     (node ≡ n) × (l.left.over ≡ Ended) × ((group_rows by aggregates l.left.rows ≡ None) ⊎ (4611686018427387904 < length l.left.rows))
 OwnBlame (two_op n (join true on)) l (Own Unsorted node) =
     (node ≡ n) × ((sorted (map (λ x. x.0) on) l.left.rows ≡ false) ⊎ (sorted (map (λ x. x.1) on) l.right.rows ≡ false))

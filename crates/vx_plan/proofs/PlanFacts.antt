@@ -9,7 +9,8 @@ use Rattle.vx_relations.specs.Relation.{Relation}
 use Rattle.vx_relations.specs.Catalog.{relation_at, IsRelation, IsCatalog}
 use Rattle.vx_plan_nodes.specs.Types.{types_of, unary_types, binary_types}
 use Rattle.vx_plan_nodes.specs.Outputs.{IsOutputOf, HasOutputs}
-use Rattle.vx_plan_nodes.specs.Typed.{is_size, is_unary, is_binary, is_kind, is_claim, is_output, is_range, are_columns, typed, IsTyped}
+use Rattle.vx_plan_nodes.specs.Typed.{is_size, is_unary, is_binary, is_kind, is_claim, is_output, is_range, are_columns, may_merge, typed, IsTyped}
+use Rattle.vx_plan_nodes.specs.Phases.{is_open, phase_fits, both_closed}
 use Rattle.vx_plan_nodes.specs.Numbering.{nodes, is_numbered}
 use Rattle.vx_values.specs.Values.{Name}
 use Rattle.vx_plan_json.specs.Document.{ClaimForm, ScanForm, UnaryForm, BinaryForm, KindForm, Tree}
@@ -31,6 +32,7 @@ pub record IsResolved (s : Names) (n : ℕ) (o : Outline) (next : ℕ) : Type 0 
   pub output : IsOutput (types_of (relation_at s.catalog) (plan_in o)) (columns o)
   pub outputs : HasOutputs (relation_at s.catalog) o
   pub typed : typed (scope_of s) (plan_in o) ≡ true
+  pub closed : is_open (plan_in o) ≡ false
   pub numbered : is_numbered n (plan_in o) ≡ true
   pub count : next ≡ n + nodes (plan_in o)
 
@@ -83,6 +85,7 @@ scan-holds s n c f cat h =
       outputs = output-of (top-columns s n (relation_at s.catalog r).types (scan_columns (relation_at s.catalog r) f.prefix) t out ht);
       typed = and-both (nat_lt r (length s.catalog)) (is_size (length s.sizes) z && is_output (scope_of s) (relation_at s.catalog r).types t.claim) hr
           (and-both (is_size (length s.sizes) z) (is_output (scope_of s) (relation_at s.catalog r).types t.claim) hz (top-output s n (relation_at s.catalog r).types (scan_columns (relation_at s.catalog r) f.prefix) t out ht));
+      closed = refl;
       numbered = eq-eqb t.number n ht.number;
       count = refl;
     })))
@@ -102,8 +105,10 @@ unary-holds s n c op i next hc ho hi =
     record {
       output = top-columns s n (unary_types o.op ts) o.columns t out ht;
       outputs = (output-of (top-columns s n (unary_types o.op ts) o.columns t out ht), hi.outputs);
-      typed = and-both (typed (scope_of s) (plan_in i)) (is_unary ts o.op && is_output (scope_of s) (unary_types o.op ts) t.claim) hi.typed
-          (and-both (is_unary ts o.op) (is_output (scope_of s) (unary_types o.op ts) t.claim) (subst Q hi.output.types_are sh.op) (top-output s n (unary_types o.op ts) o.columns t out ht));
+      typed = and-both (typed (scope_of s) (plan_in i)) (phase_fits o.op (plan_in i) && (is_unary ts o.op && is_output (scope_of s) (unary_types o.op ts) t.claim)) hi.typed
+          (and-both (phase_fits o.op (plan_in i)) (is_unary ts o.op && is_output (scope_of s) (unary_types o.op ts) t.claim) (sh.phase (plan_in i) hi.closed)
+          (and-both (is_unary ts o.op) (is_output (scope_of s) (unary_types o.op ts) t.claim) (subst Q hi.output.types_are sh.op) (top-output s n (unary_types o.op ts) o.columns t out ht)));
+      closed = sh.shut;
       numbered = and-both (t.number == n) (is_numbered (suc n) (plan_in i)) (eq-eqb t.number n ht.number) (let up : n + 1 ≡ suc n = omega arith in subst R up hi.numbered);
       count = omega (arith, hi.count);
     }))
@@ -133,8 +138,11 @@ binary-holds s n c op l r between next hc ho hl hr =
     record {
       output = top-columns s n (binary_types o.op ts us) o.columns t out ht;
       outputs = (output-of (top-columns s n (binary_types o.op ts us) o.columns t out ht), hl.outputs, hr.outputs);
-      typed = and-both (typed (scope_of s) (plan_in l)) (typed (scope_of s) (plan_in r) && (is_binary ts us o.op && last)) hl.typed
-          (and-both (typed (scope_of s) (plan_in r)) (is_binary ts us o.op && last) hr.typed (and-both (is_binary ts us o.op) last typed_op (top-output s n (binary_types o.op ts us) o.columns t out ht)));
+      typed = and-both (typed (scope_of s) (plan_in l)) (typed (scope_of s) (plan_in r) && (both_closed (plan_in l) (plan_in r) && (is_binary ts us o.op && last))) hl.typed
+          (and-both (typed (scope_of s) (plan_in r)) (both_closed (plan_in l) (plan_in r) && (is_binary ts us o.op && last)) hr.typed
+          (and-both (both_closed (plan_in l) (plan_in r)) (is_binary ts us o.op && last)
+          (and-both (not (is_open (plan_in l))) (not (is_open (plan_in r))) (ap not hl.closed) (ap not hr.closed)) (and-both (is_binary ts us o.op) last typed_op (top-output s n (binary_types o.op ts us) o.columns t out ht))));
+      closed = refl;
       numbered = and-both (t.number == n) (is_numbered (suc n) (plan_in l) && is_numbered (suc n + nodes (plan_in l)) (plan_in r)) (eq-eqb t.number n ht.number)
           (and-both (is_numbered (suc n) (plan_in l)) (is_numbered (suc n + nodes (plan_in l)) (plan_in r)) (let up : n + 1 ≡ suc n = omega arith in subst R up hl.numbered)
           (let at : between ≡ suc n + nodes (plan_in l) = omega (arith, hl.count) in subst S at hr.numbered));
@@ -156,9 +164,11 @@ exchanged-holds s n c kind merge i next hc hk hi =
     record {
       output = top-columns s n ts (columns i) t hi.output ht;
       outputs = (output-of (top-columns s n ts (columns i) t hi.output ht), hi.outputs);
-      typed = and-both (typed (scope_of s) (plan_in i)) (is_kind (scope_of s) ts x.0 && (are_columns (length ts) x.1 && last)) hi.typed
-          (and-both (is_kind (scope_of s) ts x.0) (are_columns (length ts) x.1 && last) (subst P hi.output.types_are hx.kind)
-          (and-both (are_columns (length ts) x.1) last (subst Q hi.output.types_are hx.merge) (top-output s n ts (columns i) t hi.output ht)));
+      typed = and-both (typed (scope_of s) (plan_in i)) (is_kind (scope_of s) ts x.0 && (are_columns (length ts) x.1 && (may_merge x.0 x.1 && last))) hi.typed
+          (and-both (is_kind (scope_of s) ts x.0) (are_columns (length ts) x.1 && (may_merge x.0 x.1 && last)) (subst P hi.output.types_are hx.kind)
+          (and-both (are_columns (length ts) x.1) (may_merge x.0 x.1 && last) (subst Q hi.output.types_are hx.merge)
+          (and-both (may_merge x.0 x.1) last hx.may (top-output s n ts (columns i) t hi.output ht))));
+      closed = hi.closed;
       numbered = and-both (t.number == n) (is_numbered (suc n) (plan_in i)) (eq-eqb t.number n ht.number) (let up : n + 1 ≡ suc n = omega arith in subst R up hi.numbered);
       count = omega (arith, hi.count);
     }))
@@ -232,6 +242,7 @@ resolved-typed s t o next cat formed sizes ranges h =
         sizes = le-leb (length s.sizes) 16 few;
         nodes = r.typed;
         numbered = r.numbered;
+        closed = r.closed;
       },
       omega (arith, r.count),
       r.outputs,

@@ -1,5 +1,5 @@
 -- Operators that were found are typed, and give the columns that they say.
-use Rattle.std.proofs.Common.{◌≡◌, ℕ, ◌+◌, nat_lt, nat_le, List, [], ◌∷◌, ◌++◌, true, ◌&&◌, ◌||◌, is_some, Result, Ok, Err, map, length, bytes_eq, refl, sym, ap, ◌∙◌, subst, length-append}
+use Rattle.std.proofs.Common.{◌≡◌, ℕ, ◌+◌, nat_lt, nat_le, List, [], ◌∷◌, ◌++◌, true, ◌&&◌, ◌||◌, is_some, Result, Ok, Err, map, length, bytes_eq, refl, sym, ap, ◌∙◌, subst, length-append, false, not}
 use Rattle.std.specs.Prelude.{⊤}
 use Rattle.std.specs.List.{list_all}
 use Rattle.std.proofs.lemmas.List.{length-map, length_push, map_push}
@@ -7,10 +7,11 @@ use Rattle.vx_values.specs.declared.value.ColType.{ColType}
 use Rattle.vx_values.specs.Types.{type_at}
 use Rattle.vx_relations.specs.Catalog.{all_below}
 use Rattle.vx_plan_nodes.specs.declared.typed.Projected.{Projected}
-use Rattle.vx_plan_nodes.specs.Plan.{Aggregate, Condition, ExchangeKind, route_to, by_hash, by_range}
+use Rattle.vx_plan_nodes.specs.Plan.{Aggregate, Condition, Plan, ExchangeKind, route_to, by_hash, by_range}
 use Rattle.vx_plan_nodes.specs.Plan as plan
+use Rattle.vx_plan_nodes.specs.Phases.{is_partial, is_open, phase_fits}
 use Rattle.vx_plan_nodes.specs.Types.{unary_types, binary_types, aggregate_type}
-use Rattle.vx_plan_nodes.specs.Typed.{are_columns, is_condition, is_aggregate, is_unary, is_pair, are_distinct_pairs, is_binary, types_eq, is_kind, is_size, is_routed}
+use Rattle.vx_plan_nodes.specs.Typed.{are_columns, is_condition, is_aggregate, is_unary, is_pair, are_distinct_pairs, is_binary, types_eq, is_kind, is_size, is_routed, may_merge}
 use Rattle.vx_values.specs.Lists.{is_some_list}
 use Rattle.vx_values.specs.Values.{Name}
 use Rattle.vx_plan_json.specs.Document.{ConditionForm, OutputForm, AggregateForm, UnaryForm, BinaryForm, KindForm}
@@ -42,6 +43,8 @@ pub record IsOutput (types : List ColType) (cols : Columns) : Type 0 where
 pub record IsShape (cols : Columns) (o : Shape) : Type 0 where
   pub op : is_unary cols.types o.op ≡ true
   pub output : IsOutput (unary_types o.op cols.types) o.columns
+  pub shut : is_partial o.op ≡ false
+  pub phase : (p : Plan) → is_open p ≡ false → phase_fits o.op p ≡ true
 
 select-holds : (node : ℕ) (cols : Columns) (cs : List ConditionForm) → IsOutput cols.types cols → is_some_list cs ≡ true → Holds (IsShape cols) (select_shape node cols cs)
 unfolding select_shape conditions_found
@@ -49,7 +52,7 @@ select-holds node cols cs out h =
     holds_then (λ (ks : List Condition). length ks ≡ length cs) (IsShape cols) (λ ks. matched node (list_all (is_condition cols.types) ks) >>= λ u. Ok (record { op = plan.select ks; renamed = []; columns = cols }))
     (walk_onto (condition_found node cols.names) [] cs) (walk-length (condition_found node cols.names) cs)
     (λ ks l. holds_then (λ (u : ⊤). list_all (is_condition cols.types) ks ≡ true) (IsShape cols) (λ u. Ok (record { op = plan.select ks; renamed = []; columns = cols })) (matched node (list_all (is_condition cols.types) ks)) (matched-holds node (list_all (is_condition cols.types) ks))
-    (λ u m. record { op = and-both (is_some_list ks) (list_all (is_condition cols.types) ks) (some-alike ks cs l ∙ h) m; output = out }))
+    (λ u m. record { op = and-both (is_some_list ks) (list_all (is_condition cols.types) ks) (some-alike ks cs l ∙ h) m; output = out; shut = refl; phase = λ p e. ap not e }))
 
 record AreKept (names : List Name) (os : List OutputForm) (ks : List Projected) : Type 0 where
   below : all_below (length names) (map (λ (k : Projected). k.column) ks) ≡ true
@@ -108,13 +111,13 @@ project-holds : (node : ℕ) (cols : Columns) (os : List OutputForm) → IsOutpu
 unfolding project_shape
 project-holds node cols os out h =
     holds_then (IsKeptShape cols os) (IsShape cols) (λ ks. Ok (record { op = plan.project (map (λ (k : Projected). k.column) ks); renamed = map (λ (k : Projected). k.renamed) ks; columns = kept_columns cols os ks })) (kept_shape node cols os) (kept-holds node cols os)
-    (λ ks k. record { op = kept-below cols os ks out.names_are h k; output = kept-output cols os ks k })
+    (λ ks k. record { op = kept-below cols os ks out.names_are h k; output = kept-output cols os ks k; shut = refl; phase = λ p e. ap not e })
 
 distinct-holds : (node : ℕ) (cols : Columns) (os : List OutputForm) → IsOutput cols.types cols → is_some_list os ≡ true → Holds (IsShape cols) (distinct_shape node cols os)
 unfolding distinct_shape
 distinct-holds node cols os out h =
     holds_then (IsKeptShape cols os) (IsShape cols) (λ ks. Ok (record { op = plan.distinct (map (λ (k : Projected). k.column) ks); renamed = map (λ (k : Projected). k.renamed) ks; columns = kept_columns cols os ks })) (kept_shape node cols os) (kept-holds node cols os)
-    (λ ks k. record { op = kept-below cols os ks out.names_are h k; output = kept-output cols os ks k })
+    (λ ks k. record { op = kept-below cols os ks out.names_are h k; output = kept-output cols os ks k; shut = refl; phase = λ p e. ap not e })
 
 sort-holds : (node : ℕ) (cols : Columns) (names : List Name) → IsOutput cols.types cols → is_some_list names ≡ true → Holds (IsShape cols) (sort_shape node cols names)
 unfolding sort_shape
@@ -124,6 +127,8 @@ sort-holds node cols names out h =
     (λ u a. record {
       op = and-both (is_some_list ps) (are_columns (length cols.types) ps) (some-columns cols.names names ps f h) (once-columns cols.names names ps (length cols.types) out.names_are f a);
       output = out;
+      shut = refl;
+      phase = λ p e. ap not e;
     }))
 
 record IsGroupFound (cols : Columns) (by : List Name) (aggregates : List AggregateForm) (g : List ℕ × List Aggregate) : Type 0 where
@@ -160,9 +165,9 @@ group-holds : (node : ℕ) (cols : Columns) (by : List Name) (aggregates : List 
 unfolding group_shape
 group-holds node cols by aggregates out h =
     holds_then (IsGroupFound cols by aggregates) (IsShape cols)
-    (λ g. group_tested node cols.types (by ++ map (λ (a : AggregateForm). a.name) aggregates) g.1 >>= λ u. Ok (record { op = plan.group g.0 g.1; renamed = []; columns = group_columns cols by aggregates g.0 g.1 }))
+    (λ g. group_tested node cols.types (by ++ map (λ (a : AggregateForm). a.name) aggregates) g.1 >>= λ u. Ok (record { op = plan.group plan.plain g.0 g.1; renamed = []; columns = group_columns cols by aggregates g.0 g.1 }))
     (group_found node cols.names by aggregates) (group_found-holds node cols by aggregates)
-    (λ g f. holds_then (λ (u : ⊤). IsGroupTested cols.types (by ++ map (λ (a : AggregateForm). a.name) aggregates) g.1) (IsShape cols) (λ u. Ok (record { op = plan.group g.0 g.1; renamed = []; columns = group_columns cols by aggregates g.0 g.1 }))
+    (λ g f. holds_then (λ (u : ⊤). IsGroupTested cols.types (by ++ map (λ (a : AggregateForm). a.name) aggregates) g.1) (IsShape cols) (λ u. Ok (record { op = plan.group plan.plain g.0 g.1; renamed = []; columns = group_columns cols by aggregates g.0 g.1 }))
     (group_tested node cols.types (by ++ map (λ (a : AggregateForm). a.name) aggregates) g.1) (group_tested-holds node cols.types (by ++ map (λ (a : AggregateForm). a.name) aggregates) g.1)
     (λ u m.
     let names : List Name = by ++ map (λ (a : AggregateForm). a.name) aggregates in
@@ -179,6 +184,8 @@ group-holds node cols by aggregates out h =
           (and-both (are_columns (length cols.types) g.0) (list_all (is_aggregate cols.types) g.1)
           (once-columns cols.names by g.0 (length cols.types) out.names_are f.keys (apart-front bytes_eq by (map (λ (a : AggregateForm). a.name) aggregates) m.once)) m.typed);
       output = record { types_are = refl; names_are = wide; few = subst P wide m.few };
+      shut = refl;
+      phase = λ p e. ap not e;
     }))
 
 pub shape-holds : (node : ℕ) (cols : Columns) (op : UnaryForm) → IsOutput cols.types cols → is_unary_form op ≡ true → Holds (IsShape cols) (unary_shape node cols op)
@@ -265,9 +272,9 @@ joint-holds node l r (form.join merging on) lo ro h =
 
 -- ---- exchanges
 
--- a found kind is typed, where its columns stand once and have its type
+-- a found kind is typed, where its columns stand once and have its type, and may merge
 abbrev IsKind : Names → List ColType → KindForm → ExchangeKind → Type 0
-IsKind s types form k = apart bytes_eq (kind_names form) ≡ true → kind_fits s types k ≡ true → is_kind (scope_of s) types k ≡ true
+IsKind s types form k = apart bytes_eq (kind_names form) ≡ true → kind_fits s types k ≡ true → (is_kind (scope_of s) types k ≡ true) × ((merge : List ℕ) → may_merge k merge ≡ true)
 
 kind-holds : (s : Names) (node : ℕ) (cols : Columns) (kind : KindForm) → IsOutput cols.types cols → is_kind_form kind ≡ true → Holds (IsKind s cols.types kind) (kind_found s node cols.names kind)
 unfolding kind_found
@@ -275,18 +282,21 @@ kind-holds s node cols (form.hash size route names) out h =
     let rest = and-right (is_some_list size) (is_some_list route && are_some_names names) h in
     holds_then (λ z. is_size (length s.sizes) z ≡ true) (IsKind s cols.types (form.hash size route names)) (λ z. columns_found node cols.names names >>= λ ps. Ok (route_to z (by_hash route) ps)) (size_found s size) (size-holds s size)
     (λ z hz. holds_then (AreColumns cols.names names) (IsKind s cols.types (form.hash size route names)) (λ ps. Ok (route_to z (by_hash route) ps)) (columns_found node cols.names names) (columns-found node cols.names names)
-    (λ ps f a m. and-both (is_size (length s.sizes) z) (is_routed (scope_of s) cols.types (by_hash route) ps) hz
-    (hash-routed s cols.names cols.types route names ps out.names_are (and-left (is_some_list route) (are_some_names names) rest) (and-right (is_some_list route) (are_some_names names) rest) f a)))
+    (λ ps f a m. (
+      and-both (is_size (length s.sizes) z) (is_routed (scope_of s) cols.types (by_hash route) ps) hz
+          (hash-routed s cols.names cols.types route names ps out.names_are (and-left (is_some_list route) (are_some_names names) rest) (and-right (is_some_list route) (are_some_names names) rest) f a),
+      λ merge. refl,
+    )))
 kind-holds s node cols (form.range size range col) out h =
     holds_then (λ z. is_size (length s.sizes) z ≡ true) (IsKind s cols.types (form.range size range col)) (λ z. range_found s node range >>= λ k. column_found node cols.names col >>= λ p. Ok (route_to z (by_range k) (p ∷ []))) (size_found s size) (size-holds s size)
     (λ z hz. holds_then (λ k. nat_lt k (length s.ranges) ≡ true) (IsKind s cols.types (form.range size range col)) (λ k. column_found node cols.names col >>= λ p. Ok (route_to z (by_range k) (p ∷ []))) (range_found s node range) (range-holds s node range)
     (λ k hk. holds_then (IsColumn cols.names col) (IsKind s cols.types (form.range size range col)) (λ p. Ok (route_to z (by_range k) (p ∷ []))) (column_found node cols.names col) (column-found node cols.names col)
-    (λ p c a m. and-both (is_size (length s.sizes) z) (is_routed (scope_of s) cols.types (by_range k) (p ∷ [])) hz (range-routed s cols.names cols.types k p out.names_are hk c.below m))))
+    (λ p c a m. (and-both (is_size (length s.sizes) z) (is_routed (scope_of s) cols.types (by_range k) (p ∷ [])) hz (range-routed s cols.names cols.types k p out.names_are hk c.below m), λ merge. refl))))
 kind-holds s node cols (form.round size) out h =
-    holds_then (λ z. is_size (length s.sizes) z ≡ true) (IsKind s cols.types (form.round size)) (λ z. Ok (plan.round z)) (size_found s size) (size-holds s size) (λ z hz a m. hz)
+    holds_then (λ z. is_size (length s.sizes) z ≡ true) (IsKind s cols.types (form.round size)) (λ z. Ok (plan.round z)) (size_found s size) (size-holds s size) (λ z hz a m. (hz, λ merge. refl))
 kind-holds s node cols (form.broadcast size) out h =
-    holds_then (λ z. is_size (length s.sizes) z ≡ true) (IsKind s cols.types (form.broadcast size)) (λ z. Ok (plan.broadcast z)) (size_found s size) (size-holds s size) (λ z hz a m. hz)
-kind-holds s node cols form.gather out h = λ a m. refl
+    holds_then (λ z. is_size (length s.sizes) z ≡ true) (IsKind s cols.types (form.broadcast size)) (λ z. Ok (plan.broadcast z)) (size_found s size) (size-holds s size) (λ z hz a m. (hz, λ merge. refl))
+kind-holds s node cols form.gather out h = λ a m. (refl, λ merge. refl)
 
 record IsExchangeFound (s : Names) (cols : Columns) (kind : KindForm) (merge : List Name) (x : ExchangeKind × List ℕ) : Type 0 where
   sends : IsKind s cols.types kind x.0
@@ -314,6 +324,7 @@ exchange_once-holds node kind merge =
 pub record IsExchange (s : Names) (types : List ColType) (x : ExchangeKind × List ℕ) : Type 0 where
   pub kind : is_kind (scope_of s) types x.0 ≡ true
   pub merge : are_columns (length types) x.1 ≡ true
+  pub may : may_merge x.0 x.1 ≡ true
 
 pub exchange-holds : (s : Names) (node : ℕ) (cols : Columns) (kind : KindForm) (merge : List Name) → IsOutput cols.types cols → is_kind_form kind ≡ true → Holds (IsExchange s cols.types) (exchange_shape s node cols kind merge)
 unfolding exchange_shape
@@ -321,4 +332,4 @@ exchange-holds s node cols kind merge out h =
     holds_then (IsExchangeFound s cols kind merge) (IsExchange s cols.types) (λ x. exchange_once node kind merge >>= λ u. matched node (kind_fits s cols.types x.0) >>= λ v. Ok x) (exchange_columns s node cols.names kind merge) (exchange_columns-holds s node cols kind merge out h)
     (λ x f. holds_then (λ (u : ⊤). IsExchangeOnce kind merge) (IsExchange s cols.types) (λ u. matched node (kind_fits s cols.types x.0) >>= λ v. Ok x) (exchange_once node kind merge) (exchange_once-holds node kind merge)
     (λ u o. holds_then (λ (v : ⊤). kind_fits s cols.types x.0 ≡ true) (IsExchange s cols.types) (λ v. Ok x) (matched node (kind_fits s cols.types x.0)) (matched-holds node (kind_fits s cols.types x.0))
-    (λ v m. record { kind = f.sends o.sends m; merge = once-columns cols.names merge x.1 (length cols.types) out.names_are f.merges o.merges })))
+    (λ v m. record { kind = (f.sends o.sends m).0; merge = once-columns cols.names merge x.1 (length cols.types) out.names_are f.merges o.merges; may = (f.sends o.sends m).1 x.1 })))

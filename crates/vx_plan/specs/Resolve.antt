@@ -163,7 +163,7 @@ group_tested node types names ks = once node names >>= λ u. narrow node (length
 unfoldable pub group_shape : ℕ → Columns → List Name → List AggregateForm → Result Shape Refusal
 group_shape node cols by aggregates =
     group_found node cols.names by aggregates >>= λ g. group_tested node cols.types (by ++ map (λ a. a.name) aggregates) g.1 >>= λ u.
-    Ok (record { op = plan.group g.0 g.1; renamed = []; columns = group_columns cols by aggregates g.0 g.1 })
+    Ok (record { op = plan.group plan.plain g.0 g.1; renamed = []; columns = group_columns cols by aggregates g.0 g.1 })
 
 unfoldable pub unary_shape : ℕ → Columns → UnaryForm → Result Shape Refusal
 unary_shape node cols (form.select cs) = select_shape node cols cs
@@ -232,6 +232,7 @@ kind_fits s types (route_to z r cols) = route_fits s types r cols
 kind_fits s types (plan.round z) = true
 kind_fits s types (plan.broadcast z) = true
 kind_fits s types plan.gather = true
+kind_fits s types plan.concat = true
 
 -- a kind and the columns to merge on: the routed columns come before those
 unfoldable pub exchange_columns : Names → ℕ → List Name → KindForm → List Name → Result (ExchangeKind × List ℕ) Refusal

@@ -2,7 +2,8 @@
 
 ghost use Rattle.std.specs.Prelude.{◌≡◌, ◌+◌, ◌<◌, ◌≤◌, ◌^◌, false, string_bytes, IfOk, IfErr};
 ghost use Rattle.vx_plan_nodes.specs.Numbering.{nodes};
-ghost use Rattle.vx_plan_nodes.specs.Erase.{nodes_left, erase};
+ghost use Rattle.vx_plan_nodes.specs.Erase.{nodes_left, at_once, erase};
+ghost use Rattle.vx_plan_nodes.specs.Phases.{is_final};
 ghost use Rattle.vx_plan_nodes.specs.Erased.{erased_top, erased_from};
 ghost use Rattle.vx_plan_nodes.specs.Outline.{top_of, unary_of, renamed_of, binary_of, outline_of, plan_of};
 ghost use Rattle.vx_plan_nodes.specs.TypedView.{names_in, plan, resolved_of};
@@ -12,11 +13,13 @@ use crate::resolving::copied_ranges;
 use std::alloc::{AllocError, Global};
 use vx_plan_json::PlanFault;
 use vx_plan_nodes::{
-    Binary, Claim, Head, Part, ScanNode, Size, TypedNode, TypedPlan, Unary, copied_conditions,
+    Binary, Claim, Head, Part, Phase, ScanNode, Size, TypedNode, TypedPlan, Unary,
+    copied_conditions,
 };
 
-fn copied_unary(alloc: Global, unary: &Unary) -> Result<Unary, AllocError>
-    ensures op { IfOk result (λ u. unary_of u ≡ unary_of unary.now) }
+// The operator that is left: a grouping is one of all rows at once.
+fn copied_at_once(alloc: Global, unary: &Unary) -> Result<Unary, AllocError>
+    ensures op { IfOk result (λ u. unary_of u ≡ at_once (unary_of unary.now)) }
     ensures renamed { IfOk result (λ u. renamed_of u ≡ renamed_of unary.now) }
 {
     match unary {
@@ -27,11 +30,22 @@ fn copied_unary(alloc: Global, unary: &Unary) -> Result<Unary, AllocError>
         Unary::Project(kept) => Ok(Unary::Project(Vec::from_slice(alloc, kept.as_slice())?)),
         Unary::Distinct(kept) => Ok(Unary::Distinct(Vec::from_slice(alloc, kept.as_slice())?)),
         Unary::Sort(columns) => Ok(Unary::Sort(Vec::from_slice(alloc, columns.as_slice())?)),
-        Unary::Group(by, aggregates) => {
+        Unary::Group(_, by, aggregates) => {
             let keys = Vec::from_slice(alloc, by.as_slice())?;
             let found = Vec::from_slice(alloc, aggregates.as_slice())?;
-            Ok(Unary::Group(keys, found))
+            Ok(Unary::Group(Phase::Plain, keys, found))
         }
+    }
+}
+
+// Whether it is the final one of a grouping in two steps.
+fn is_final(unary: &Unary) -> bool
+    ensures { result ≡ is_final (unary_of unary.now) }
+{
+    match unary {
+        Unary::Group(Phase::Final, _, _) => true,
+        Unary::Group(Phase::Plain, _, _) | Unary::Group(Phase::Partial, _, _) => false,
+        Unary::Select(_) | Unary::Project(_) | Unary::Distinct(_) | Unary::Sort(_) => false,
     }
 }
 
@@ -87,7 +101,7 @@ fn erased_input(
     Ok((Box::new(alloc, below)?, next))
 }
 
-// The nodes that are no exchanges, numbered in preorder from here, and the number after the last.
+// The nodes that are neither exchanges nor final groupings, numbered in preorder from here, and the number after the last.
 #[cycle(nodes)]
 fn erased_from(alloc: Global, number: u32, node: &TypedNode) -> Result<(TypedNode, u32), AllocError>
     requires { number + nodes (plan_of node.now) < 2 ^ 32 }
@@ -102,8 +116,11 @@ fn erased_from(alloc: Global, number: u32, node: &TypedNode) -> Result<(TypedNod
             Ok((TypedNode::Scan(head, scan), number + 1))
         }
         TypedNode::Unary(head, unary, input) => {
+            if is_final(unary) {
+                return erased_from(alloc, number, input);
+            }
             let head = erased_head(alloc, number, head)?;
-            let unary = copied_unary(alloc, unary)?;
+            let unary = copied_at_once(alloc, unary)?;
             let (below, next) = erased_input(alloc, number + 1, input)?;
             Ok((TypedNode::Unary(head, unary, below), next))
         }
@@ -118,8 +135,9 @@ fn erased_from(alloc: Global, number: u32, node: &TypedNode) -> Result<(TypedNod
     }
 }
 
-/// The plan with every exchange replaced by its input, every scan whole and of one worker, every claim one stream
-/// without order and keys, and not total. Nodes are numbered anew; declared sizes and ranges stay.
+/// The plan with every exchange and every final grouping replaced by its input, every partial grouping made of all rows at
+/// once, every scan whole and of one worker, every claim one stream without order and keys, and not total. Nodes are
+/// numbered anew; declared sizes and ranges stay.
 pub fn erase(alloc: Global, typed: &TypedPlan) -> Result<TypedPlan, PlanFault>
     ensures plan { IfOk result (λ p. plan p ≡ erase (plan typed.now)) }
     ensures names { IfOk result (λ p. names_in p ≡ names_in typed.now) }

@@ -88,7 +88,10 @@ fn kind_fits(declared: &Declared<'_>, types: &[ColType], kind: &ExchangeKind) ->
             route,
             columns.as_slice(),
         ),
-        ExchangeKind::Round(_) | ExchangeKind::Broadcast(_) | ExchangeKind::Gather => true,
+        ExchangeKind::Round(_)
+        | ExchangeKind::Broadcast(_)
+        | ExchangeKind::Gather
+        | ExchangeKind::Concat => true,
     }
 }
 

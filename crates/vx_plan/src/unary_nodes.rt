@@ -14,7 +14,7 @@ use std::alloc::Global;
 use vx_plan_json::{
     NamedAggregate, NamedCondition, NamedFunction, NamedOutput, NamedSide, NamedUnary, PlanFault,
 };
-use vx_plan_nodes::{Aggregate, Columns, Condition, Projected, Side, Unary};
+use vx_plan_nodes::{Aggregate, Columns, Condition, Phase, Projected, Side, Unary};
 use vx_rows::ColType;
 
 /// An operator over one input, and its output.
@@ -300,7 +300,7 @@ fn group_shape(
         found.as_slice(),
     )?;
     Ok(Shape {
-        unary: Unary::Group(keys, found),
+        unary: Unary::Group(Phase::Plain, keys, found),
         columns: Columns { names, types },
     })
 }

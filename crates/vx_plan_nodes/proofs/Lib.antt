@@ -1,2 +1,3 @@
+pub mod PhaseEqual
 pub mod ErasedFacts
 pub mod OutputFacts

@@ -2,6 +2,7 @@ pub mod Plan
 pub mod Types
 pub mod Numbering
 pub mod Serial
+pub mod Phases
 pub mod Erase
 pub mod Streams
 pub mod Routes

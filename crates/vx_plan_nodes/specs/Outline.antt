@@ -2,7 +2,7 @@
 use Rattle.std.specs.Prelude.{ℕ, List, [], map, Bool, true, false, string_bytes}
 use Rattle.vx_values.specs.declared.value.ColType.{ColType}
 use Rattle.vx_values.specs.ValueView.{val_of, test_of}
-use Rattle.vx_plan_nodes.specs.Plan.{Size, one_worker, group_of, Route, by_hash, by_range, Part, one, any, all, routed, Claim, Side, column, constant, Condition, Aggregate, least, greatest, sum, count_rows, Unary, select, project, distinct, sort, group, Binary, union, join, ExchangeKind, route_to, round, broadcast, gather, Plan}
+use Rattle.vx_plan_nodes.specs.Plan.{Size, one_worker, group_of, Route, by_hash, by_range, Part, one, any, all, routed, Claim, Side, column, constant, Condition, Aggregate, least, greatest, sum, count_rows, Unary, select, project, distinct, sort, group, Phase, plain, partial, final, Binary, union, join, ExchangeKind, route_to, round, broadcast, gather, concat, Plan}
 use Rattle.vx_plan_nodes.specs.Plan as plan
 use Rattle.vx_values.specs.Values.{Name}
 use Rattle.vx_plan_nodes.specs.declared.typed.Size as rust_size
@@ -18,6 +18,8 @@ use Rattle.vx_plan_nodes.specs.declared.typed.Condition as rust_condition
 use Rattle.vx_plan_nodes.specs.declared.typed.Aggregate as rust_aggregate
 use Rattle.vx_plan_nodes.specs.declared.typed.Aggregate.TheVariants as aggregate
 use Rattle.vx_plan_nodes.specs.declared.typed.Columns as rust_columns
+use Rattle.vx_plan_nodes.specs.declared.typed.Phase as rust_phase
+use Rattle.vx_plan_nodes.specs.declared.typed.Phase.TheVariants as phase
 use Rattle.vx_plan_nodes.specs.declared.typed.Head as rust_head
 use Rattle.vx_plan_nodes.specs.declared.typed.Unary as rust_unary
 use Rattle.vx_plan_nodes.specs.declared.typed.Unary.TheVariants as op
@@ -101,12 +103,17 @@ columns_of c = record { names = map string_bytes c.names.items; types = c.types.
 abbrev pub top_of : rust_head.Head → Top
 top_of h = record { number = h.number; claim = claim_of h.claim; columns = columns_of h.columns }
 
+abbrev pub phase_of : rust_phase.Phase → Phase
+phase_of phase.Plain = plain
+phase_of phase.Partial = partial
+phase_of phase.Final = final
+
 abbrev pub unary_of : rust_unary.Unary → Unary
 unary_of (op.Select conditions) = select (map condition_of conditions.items)
 unary_of (op.Project kept) = project (map (λ k. k.column) kept.items)
 unary_of (op.Distinct kept) = distinct (map (λ k. k.column) kept.items)
 unary_of (op.Sort cols) = sort cols.items
-unary_of (op.Group by aggregates) = group by.items (map aggregate_of aggregates.items)
+unary_of (op.Group phase by aggregates) = group (phase_of phase) by.items (map aggregate_of aggregates.items)
 
 -- which kept columns have a new name
 abbrev pub renamed_of : rust_unary.Unary → List Bool
@@ -114,7 +121,7 @@ renamed_of (op.Select conditions) = []
 renamed_of (op.Project kept) = map (λ k. k.renamed) kept.items
 renamed_of (op.Distinct kept) = map (λ k. k.renamed) kept.items
 renamed_of (op.Sort cols) = []
-renamed_of (op.Group by aggregates) = []
+renamed_of (op.Group phase by aggregates) = []
 
 abbrev pub binary_of : rust_binary.Binary → Binary
 binary_of both.Union = union
@@ -126,6 +133,7 @@ kind_of (kind.Route z r cols) = route_to (size_of z) (route_of r) cols.items
 kind_of (kind.Round z) = round (size_of z)
 kind_of (kind.Broadcast z) = broadcast (size_of z)
 kind_of kind.Gather = gather
+kind_of kind.Concat = concat
 
 abbrev pub outline_of : TypedNode → Outline
 outline_of (node.Scan h s) = scan (top_of h) s.relation s.shared (size_of s.size) (string_bytes s.prefix)

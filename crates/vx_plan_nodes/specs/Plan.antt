@@ -44,25 +44,33 @@ pub data Aggregate : Type 0 where
   sum : ℕ → Aggregate
   count_rows : Aggregate
 
--- operators over one input; of a projection, a distinct and a group the columns are those of the input that are kept
+-- a grouping in one step; one of some of the rows, whose results a final one puts together; and that final one (Graefe's local and global aggregation)
+pub data Phase : Type 0 where
+  plain : Phase
+  partial : Phase
+  final : Phase
+
+-- operators over one input; of a projection, a distinct and a group the columns are those of the input that are kept.
+-- A final grouping has the columns and the aggregates that it takes from its partial's output
 pub data Unary : Type 0 where
   select : List Condition → Unary
   project : List ℕ → Unary
   distinct : List ℕ → Unary
   sort : List ℕ → Unary
-  group : List ℕ → List Aggregate → Unary
+  group : Phase → List ℕ → List Aggregate → Unary
 
 -- operators over two inputs; a join by the pairs (left column, right column), by merging or by hashing
 pub data Binary : Type 0 where
   union : Binary
   join : (merging : Bool) → List (ℕ × ℕ) → Binary
 
--- how an exchange sends, and to how many
+-- how an exchange sends, and to how many; a gather shuffles what it gets, a concat takes the producers in the order of their numbers
 pub data ExchangeKind : Type 0 where
   route_to : Size → Route → List ℕ → ExchangeKind
   round : Size → ExchangeKind
   broadcast : Size → ExchangeKind
   gather : ExchangeKind
+  concat : ExchangeKind
 
 -- each node has its number and its claim; an exchange merges on its last list of columns, if that is not empty
 pub data Plan : Type 0 where
@@ -91,6 +99,7 @@ target (route_to z r cols) = z
 target (round z) = z
 target (broadcast z) = z
 target gather = one_worker
+target concat = one_worker
 
 -- the size of the node at the top: its own for a scan and an exchange, else that of its (left) input
 abbrev pub size : Plan → Size

@@ -3,7 +3,7 @@ use Rattle.std.specs.Prelude.{◌≡◌, ℕ, ◌<◌, ◌==◌, List, filter, �
 use Rattle.std.specs.Ordering.{is_le}
 use Rattle.vx_values.specs.Values.{Row, pick, Val, val_cmp, value_at}
 use Rattle.vx_rows.specs.Bags.{count}
-use Rattle.vx_plan_nodes.specs.Plan.{Route, ExchangeKind, route_to, round, broadcast, gather, by_hash, by_range}
+use Rattle.vx_plan_nodes.specs.Plan.{Route, ExchangeKind, route_to, round, broadcast, gather, by_hash, by_range, concat}
 use Rattle.vx_plan_nodes.specs.Streams.{Streams, Dealt}
 
 -- the consumer of a key among n
@@ -16,6 +16,7 @@ Sends goes (route_to z r cols) n xs sent = (j : ℕ) → j < n → filter (λ ro
 Sends goes (round z) n xs sent = Dealt n xs sent
 Sends goes (broadcast z) n xs sent = (j : ℕ) → j < n → xs ≡ sent j
 Sends goes gather n xs sent = (j : ℕ) → j < n → xs ≡ sent j
+Sends goes concat n xs sent = (j : ℕ) → j < n → xs ≡ sent j
 
 -- the consumer of a value: the number of bounds that are not above it, and the last consumer past the end
 abbrev pub range_consumer : List Val → Val → ℕ → ℕ

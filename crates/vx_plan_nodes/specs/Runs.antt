@@ -1,18 +1,27 @@
 -- The run relation: which streams a plan's workers may make together, without packets and order of events (Graefe's exchange).
-use Rattle.std.specs.Prelude.{◌≡◌, ℕ, ◌<◌, true, false, List, Some}
+use Rattle.std.specs.Prelude.{◌≡◌, ℕ, ◌<◌, true, false, List, Some, Bool}
 use Rattle.vx_values.specs.Values.{Row}
 use Rattle.vx_rows.specs.Order.{sorted}
-use Rattle.vx_plan_nodes.specs.Plan.{ExchangeKind, target, Plan, scan, unary, binary, exchange, size}
+use Rattle.vx_plan_nodes.specs.Plan.{ExchangeKind, target, Plan, scan, unary, binary, exchange, size, route_to, round, broadcast, gather, concat}
 use Rattle.vx_plan_nodes.specs.Serial.{unary_rows, binary_rows}
-use Rattle.vx_plan_nodes.specs.Streams.{workers, Streams, Dealt}
+use Rattle.vx_plan_nodes.specs.Streams.{workers, Streams, Dealt, joined}
 use Rattle.vx_plan_nodes.specs.Routes.{Router, Sends}
 
--- what each of m producers sends to each of n consumers, and each consumer's shuffle of what it gets
+-- the exchange takes its producers one after the other
+abbrev pub is_concat : ExchangeKind → Bool
+is_concat (route_to z r cols) = false
+is_concat (round z) = false
+is_concat (broadcast z) = false
+is_concat gather = false
+is_concat concat = true
+
+-- what each of m producers sends to each of n consumers, and each consumer's shuffle of what it gets; of a concat it is the producers' lists in the order of their numbers
 pub record Exchanges (goes : Router) (kind : ExchangeKind) (merge : List ℕ) (m n : ℕ) (inputs outputs : Streams) : Type 0 where
   pub sent : ℕ → Streams
   pub sends : (i : ℕ) → i < m → Sends goes kind n (inputs i) (sent i)
   pub gets : (j : ℕ) → j < n → Dealt m (outputs j) (λ i. sent i j)
   pub merged : (j : ℕ) → j < n → sorted merge (outputs j) ≡ true
+  pub in_order : is_concat kind ≡ true → (j : ℕ) → j < n → joined m (λ i. sent i j) ≡ outputs j
 
 -- the run relation: these may be the streams of the plan's top node, for some streams of the nodes below it.
 -- A shared scan chooses a worker for each row; a whole one gives each worker all rows

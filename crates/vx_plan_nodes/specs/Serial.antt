@@ -1,13 +1,13 @@
 -- What a plan means without workers (relational algebra over lists): its exchanges give their input.
-use Rattle.std.specs.Prelude.{ℕ, ℤ, pos, negsuc, ◌-ℤ◌, suc, Bool, true, cond, not, List, [], ◌∷◌, ◌++◌, map, filter, flat_map, Option, Some, None, ◌<◌, ◌⊎◌, length}
-use Rattle.std.specs.List.{list_all}
+use Rattle.std.specs.Prelude.{ℕ, ℤ, pos, negsuc, ◌-ℤ◌, suc, Bool, true, cond, not, List, [], ◌∷◌, ◌++◌, map, filter, flat_map, Option, Some, None, ◌<◌, ◌⊎◌, length, ◌≡◌, ◌≤◌, ◌==◌, false}
+use Rattle.std.specs.List.{list_all, list_any}
 use Rattle.std.specs.declared.cmp.Ordering.{Ordering}
 use Rattle.std.specs.Ordering.{is_eq, is_ne, is_lt, is_le, is_gt, is_ge}
 use Rattle.vx_values.specs.Values.{Val, num, text, Row, val_cmp, row_eq, value_at, pick}
 use Rattle.vx_rows.specs.Order.{sort_on}
 use Rattle.vx_values.specs.Types.{fits_64}
-use Rattle.vx_rows.specs.Bags.{total}
-use Rattle.vx_plan_nodes.specs.Plan.{Side, column, constant, Test, equal, unequal, below, at_most, above, at_least, Condition, Aggregate, least, greatest, sum, count_rows, Unary, select, project, distinct, sort, group, Binary, union, join, Plan, scan, unary, binary, exchange}
+use Rattle.vx_rows.specs.Bags.{total, count}
+use Rattle.vx_plan_nodes.specs.Plan.{Side, column, constant, Test, equal, unequal, below, at_most, above, at_least, Condition, Aggregate, least, greatest, sum, count_rows, Unary, select, project, distinct, sort, group, Binary, union, join, Plan, scan, unary, binary, exchange, partial}
 
 -- the value of a condition's right side
 abbrev pub side : Side → Row → Val
@@ -125,12 +125,19 @@ unary_rows (select cs) xs = Some (filter (passes cs) xs)
 unary_rows (project cols) xs = Some (map (pick cols) xs)
 unary_rows (distinct cols) xs = Some (firsts (map (pick cols) xs))
 unary_rows (sort cols) xs = Some (sort_on cols xs)
-unary_rows (group by aggregates) xs = group_rows by aggregates xs
+unary_rows (group phase by aggregates) xs = group_rows by aggregates xs
 
 -- the list that an operator makes of the lists of its left and its right input
 abbrev pub binary_rows : Binary → List Row → List Row → List Row
 binary_rows union ls rs = ls ++ rs
 binary_rows (join m on) ls rs = join_rows on ls rs
+
+-- the sum of this column
+abbrev pub is_sum_of : ℕ → Aggregate → Bool
+is_sum_of c (least d) = false
+is_sum_of c (greatest d) = false
+is_sum_of c (sum d) = c == d
+is_sum_of c count_rows = false
 
 -- a list of rows, or overflow at a node
 pub data SerialResult : Type 0 where
@@ -161,7 +168,7 @@ IsOverflow (overflow n) = Unit {0}
 
 -- this list is the operator's serial input, and too long for one grouping
 abbrev pub IsTooLong : Unary → SerialResult → Type 0
-IsTooLong (group by aggregates) (rows xs) = 4611686018427387904 < length xs
+IsTooLong (group phase by aggregates) (rows xs) = 4611686018427387904 < length xs
 IsTooLong op o = ⊥
 
 -- the serial input of one of the plan's groupings has more than 2^62 rows
@@ -170,3 +177,24 @@ HasTooLong db (scan n c r m z) = ⊥
 HasTooLong db (unary n c op p) = HasTooLong db p ⊎ IsTooLong op (serial db p)
 HasTooLong db (binary n c op p q) = HasTooLong db p ⊎ HasTooLong db q
 HasTooLong db (exchange n c k m p) = HasTooLong db p
+
+-- some rows of one key of this list, the serial input of a partial, have a sum outside 64 bits
+pub record LargePart (by : List ℕ) (aggregates : List Aggregate) (xs : List Row) : Type 0 where
+  pub some : List Row
+  pub among : (row : Row) → count (row_eq row) some ≤ count (row_eq row) xs
+  pub key : Row
+  pub alike : list_all (λ r. row_eq key (pick by r)) some ≡ true
+  pub column : ℕ
+  pub summed : list_any (is_sum_of column) aggregates ≡ true
+  pub outside : fits_64 (sum_of column some) ≡ false
+
+abbrev pub HasLargeInput : Unary → SerialResult → Type 0
+HasLargeInput (group partial by aggregates) (rows xs) = LargePart by aggregates xs
+HasLargeInput op o = ⊥
+
+-- of one of the plan's groupings in two phases, some rows of one key of its serial input have a sum outside 64 bits
+abbrev pub HasLargePart : (ℕ → List Row) → Plan → Type 0
+HasLargePart db (scan n c r m z) = ⊥
+HasLargePart db (unary n c op p) = HasLargePart db p ⊎ HasLargeInput op (serial db p)
+HasLargePart db (binary n c op p q) = HasLargePart db p ⊎ HasLargePart db q
+HasLargePart db (exchange n c k m p) = HasLargePart db p

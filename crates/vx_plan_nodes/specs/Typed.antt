@@ -9,9 +9,10 @@ use Rattle.vx_values.specs.Values.{Val, val_cmp}
 use Rattle.vx_values.specs.Types.{type_of, type_at, is_held}
 use Rattle.vx_relations.specs.Relation.{Relation}
 use Rattle.vx_relations.specs.Catalog.{relation_at, all_below, are_distinct}
-use Rattle.vx_plan_nodes.specs.Plan.{Size, one_worker, group_of, Route, by_hash, by_range, Part, routed, Claim, Side, column, constant, Condition, Aggregate, least, greatest, sum, count_rows, Unary, select, project, distinct, sort, group, Binary, union, join, ExchangeKind, route_to, round, broadcast, gather, Plan, scan, unary, binary, exchange}
+use Rattle.vx_plan_nodes.specs.Plan.{Size, one_worker, group_of, Route, by_hash, by_range, Part, routed, Claim, Side, column, constant, Condition, Aggregate, least, greatest, sum, count_rows, Unary, select, project, distinct, sort, group, Binary, union, join, ExchangeKind, route_to, round, broadcast, gather, Plan, scan, unary, binary, exchange, concat}
 use Rattle.vx_plan_nodes.specs.Types.{types_of}
 use Rattle.vx_plan_nodes.specs.Numbering.{is_numbered}
+use Rattle.vx_plan_nodes.specs.Phases.{phase_fits, both_closed, is_open}
 
 -- what the nodes of a plan may name: the relations of a catalog, the plan's ranges by their bounds, and so many size names
 pub record Scope : Type 0 where
@@ -98,7 +99,7 @@ is_unary types (select cs) = is_some_list cs && list_all (is_condition types) cs
 is_unary types (project cols) = is_some_list cols && all_below (length types) cols
 is_unary types (distinct cols) = is_some_list cols && all_below (length types) cols
 is_unary types (sort cols) = is_some_list cols && are_columns (length types) cols
-is_unary types (group by aggregates) =
+is_unary types (group phase by aggregates) =
     (is_some_list by || is_some_list aggregates) && (are_columns (length types) by && list_all (is_aggregate types) aggregates)
 
 -- the two columns of a pair have one type
@@ -121,6 +122,12 @@ is_kind s types (route_to z r cols) = is_size s.sizes z && is_routed s types r c
 is_kind s types (round z) = is_size s.sizes z
 is_kind s types (broadcast z) = is_size s.sizes z
 is_kind s types gather = true
+is_kind s types concat = true
+
+-- a concat does not merge
+abbrev pub may_merge : ExchangeKind → List ℕ → Bool
+may_merge concat (c ∷ cols) = false
+may_merge k cols = true
 
 -- at most 64 output columns, and a claim on them
 abbrev pub is_output : Scope → List ColType → Claim → Bool
@@ -131,15 +138,17 @@ abbrev pub typed : Scope → Plan → Bool
 typed s (scan n c r m z) =
     nat_lt r (length s.catalog) && (is_size s.sizes z && is_output s (types_of (relation_at s.catalog) (scan n c r m z)) c)
 typed s (unary n c op p) =
-    typed s p && (is_unary (types_of (relation_at s.catalog) p) op && is_output s (types_of (relation_at s.catalog) (unary n c op p)) c)
+    typed s p && (phase_fits op p && (is_unary (types_of (relation_at s.catalog) p) op && is_output s (types_of (relation_at s.catalog) (unary n c op p)) c))
 typed s (binary n c op p q) =
-    typed s p && (typed s q && (is_binary (types_of (relation_at s.catalog) p) (types_of (relation_at s.catalog) q) op && is_output s (types_of (relation_at s.catalog) (binary n c op p q)) c))
+    typed s p && (typed s q && (both_closed p q && (is_binary (types_of (relation_at s.catalog) p) (types_of (relation_at s.catalog) q) op && is_output s (types_of (relation_at s.catalog) (binary n c op p q)) c)))
 typed s (exchange n c k m p) =
-    typed s p && (is_kind s (types_of (relation_at s.catalog) p) k && (are_columns (length (types_of (relation_at s.catalog) p)) m && is_output s (types_of (relation_at s.catalog) p) c))
+    typed s p && (is_kind s (types_of (relation_at s.catalog) p) k && (are_columns (length (types_of (relation_at s.catalog) p)) m && (may_merge k m && is_output s (types_of (relation_at s.catalog) p) c)))
 
--- what a typed plan keeps: its ranges are ranges, at most 16 size names, every node is typed, and nodes are numbered in preorder from 0
+-- what a typed plan keeps: its ranges are ranges, at most 16 size names, every node is typed, nodes are numbered in preorder from 0, and no partial
+-- grouping is left without its final
 pub record IsTyped (s : Scope) (p : Plan) : Type 0 where
   pub ranges : list_all is_range s.ranges ≡ true
   pub sizes : nat_le s.sizes 16 ≡ true
   pub nodes : typed s p ≡ true
   pub numbered : is_numbered 0 p ≡ true
+  pub closed : is_open p ≡ false

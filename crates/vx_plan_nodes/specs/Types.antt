@@ -7,6 +7,7 @@ use Rattle.vx_values.specs.Types.{type_at}
 use Rattle.vx_relations.specs.Relation.{Relation}
 use Rattle.vx_relations.specs.Catalog.{all_below}
 use Rattle.vx_plan_nodes.specs.Plan.{Part, routed, Claim, Aggregate, least, greatest, sum, count_rows, Unary, select, project, distinct, sort, group, Binary, union, join, Plan, scan, unary, binary, exchange}
+use Rattle.vx_plan_nodes.specs.Phases.{phase_fits, both_closed}
 
 -- a least and a greatest value have the column's type, a sum and a count are numbers
 abbrev pub aggregate_type : List ColType → Aggregate → ColType
@@ -21,7 +22,7 @@ unary_types (select cs) types = types
 unary_types (project cols) types = map (type_at types) cols
 unary_types (distinct cols) types = map (type_at types) cols
 unary_types (sort cols) types = types
-unary_types (group by aggregates) types = map (type_at types) by ++ map (aggregate_type types) aggregates
+unary_types (group phase by aggregates) types = map (type_at types) by ++ map (aggregate_type types) aggregates
 
 -- of an operator over two inputs
 abbrev pub binary_types : Binary → List ColType → List ColType → List ColType
@@ -41,7 +42,7 @@ unary_width (select cs) w = w
 unary_width (project cols) w = length cols
 unary_width (distinct cols) w = length cols
 unary_width (sort cols) w = w
-unary_width (group by aggregates) w = length by + length aggregates
+unary_width (group phase by aggregates) w = length by + length aggregates
 
 abbrev pub binary_width : Binary → ℕ → ℕ → ℕ
 binary_width union v w = v
@@ -63,12 +64,13 @@ part_columns _ = []
 abbrev pub names_columns : ℕ → Claim → Bool
 names_columns w c = all_below w (part_columns c.part) && (all_below w c.order && list_all (all_below w) c.keys)
 
--- the part of being typed that the meaning of claims needs: claims name output columns, and the inputs of a union are equally wide
+-- the part of being typed that the meaning of claims needs: claims name output columns, the inputs of a union are equally wide, and each final grouping
+-- stands over its partial, each partial under its final
 abbrev pub well_formed : (ℕ → Relation) → Plan → Bool
 well_formed catalog (scan n c r m z) = names_columns (width catalog (scan n c r m z)) c
-well_formed catalog (unary n c op p) = well_formed catalog p && names_columns (width catalog (unary n c op p)) c
+well_formed catalog (unary n c op p) = well_formed catalog p && (phase_fits op p && names_columns (width catalog (unary n c op p)) c)
 well_formed catalog (binary n c union p q) =
-    well_formed catalog p && (well_formed catalog q && ((width catalog p == width catalog q) && names_columns (width catalog p) c))
+    well_formed catalog p && (well_formed catalog q && (both_closed p q && ((width catalog p == width catalog q) && names_columns (width catalog p) c)))
 well_formed catalog (binary n c (join m on) p q) =
-    well_formed catalog p && (well_formed catalog q && names_columns (width catalog p + width catalog q) c)
+    well_formed catalog p && (well_formed catalog q && (both_closed p q && names_columns (width catalog p + width catalog q) c))
 well_formed catalog (exchange n c k m p) = well_formed catalog p && names_columns (width catalog p) c

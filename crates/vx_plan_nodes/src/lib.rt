@@ -10,5 +10,8 @@ mod typed_plan;
 pub use conditions::copied_conditions;
 pub use outputs::output_types;
 pub use router::Router;
-pub use typed::{Aggregate, Binary, Claim, Columns, Condition, Exchange, ExchangeKind, Head, Part, Projected, Route, ScanNode, Side, Size, TypedNode, Unary};
+pub use typed::{
+    Aggregate, Binary, Claim, Columns, Condition, Exchange, ExchangeKind, Head, Part, Phase,
+    Projected, Route, ScanNode, Side, Size, TypedNode, Unary,
+};
 pub use typed_plan::TypedPlan;

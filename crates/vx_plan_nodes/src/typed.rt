@@ -148,6 +148,17 @@ impl Drop for ScanNode {
     }
 }
 
+/// In how many steps a grouping is made, and which step this one is.
+#[derive(Clone, Copy, Debug, PartialEq, Eq)]
+pub enum Phase {
+    /// In one step, of all rows.
+    Plain,
+    /// The first of two steps: of some of the rows. Its results are put together by the final one.
+    Partial,
+    /// The second of two steps: of the results of partial ones, with the columns and the aggregates that it takes from their output.
+    Final,
+}
+
 /// An operator over one input, by the columns of that input.
 #[derive(Debug)]
 pub enum Unary {
@@ -160,7 +171,7 @@ pub enum Unary {
     /// The rows in ascending order on these columns; rows that are equal on them keep theirs.
     Sort(Vec<usize>),
     /// For each key the values in these columns, and then the aggregates of its rows.
-    Group(Vec<usize>, Vec<Aggregate>),
+    Group(Phase, Vec<usize>, Vec<Aggregate>),
 }
 
 // By hand, so that the drops of its parts are made and proved here once, and not in each function that drops one.
@@ -171,7 +182,7 @@ impl Drop for Unary {
             Unary::Project(_) => {}
             Unary::Distinct(_) => {}
             Unary::Sort(_) => {}
-            Unary::Group(_, _) => {}
+            Unary::Group(_, _, _) => {}
         }
     }
 }
@@ -206,6 +217,8 @@ pub enum ExchangeKind {
     Broadcast(Size),
     /// Every row to one worker.
     Gather,
+    /// Every row to one worker, which takes the producers' rows in the order of the producers' numbers.
+    Concat,
 }
 
 impl ExchangeKind {
@@ -217,7 +230,7 @@ impl ExchangeKind {
             ExchangeKind::Route(size, _, _) => *size,
             ExchangeKind::Round(size) => *size,
             ExchangeKind::Broadcast(size) => *size,
-            ExchangeKind::Gather => Size::One,
+            ExchangeKind::Gather | ExchangeKind::Concat => Size::One,
         }
     }
 }

@@ -1,12 +1,13 @@
 //! A plan over a catalog that was resolved.
 
-ghost use Rattle.std.specs.Prelude.{◌≡◌, ◌≤◌, true, nat_le, map, length, string_bytes};
+ghost use Rattle.std.specs.Prelude.{◌≡◌, ◌≤◌, true, false, nat_le, map, length, string_bytes};
 ghost use Rattle.std.specs.List.{list_all};
 ghost use Rattle.vx_values.specs.Ranges.{range_form};
 ghost use Rattle.vx_relations.specs.Catalog.{relation_at};
 ghost use Rattle.vx_plan_nodes.specs.Names.{scope_of};
 ghost use Rattle.vx_plan_nodes.specs.Numbering.{nodes, is_numbered};
 ghost use Rattle.vx_plan_nodes.specs.Outline.{outline_of, plan_of};
+ghost use Rattle.vx_plan_nodes.specs.Phases.{is_open};
 ghost use Rattle.vx_plan_nodes.specs.Typed.{is_range, typed, IsTyped};
 ghost use Rattle.vx_plan_nodes.specs.Outputs.{HasOutputs};
 ghost use Rattle.vx_plan_nodes.specs.OutputProps.{outputs-prop};
@@ -16,7 +17,7 @@ use vx_relations::Catalog;
 use vx_values::NamedRange;
 
 /// A plan with its catalog. Every node names what there is, has the types that it needs, says which types its output
-/// has, and is numbered in preorder from 0. There are at most 1,000 nodes.
+/// has, and is numbered in preorder from 0. Each grouping in two steps has both of them. There are at most 1,000 nodes.
 #[derive(Debug)]
 pub struct TypedPlan {
     catalog: Catalog,
@@ -29,6 +30,7 @@ pub struct TypedPlan {
     ghost typed_nodes: { typed (scope_of (record { catalog = catalog; ranges = map range_form ranges.items; sizes = map string_bytes sizes.items })) (plan_of root) ≡ true },
     ghost outputs: { HasOutputs (relation_at catalog) (outline_of root) } by { outputs-prop (relation_at catalog) (outline_of root) },
     ghost numbered: { is_numbered 0 (plan_of root) ≡ true },
+    ghost closed: { is_open (plan_of root) ≡ false },
     ghost few_nodes: { nodes (plan_of root) ≤ 1000 },
 }
 

@@ -25,7 +25,7 @@ one-operator T n (select cs) xs = refl
 one-operator T n (project cols) xs = refl
 one-operator T n (distinct cols) xs = refl
 one-operator T n (sort cols) xs = refl
-one-operator T n (group by aggregates) xs = one-group T n by aggregates xs (nat_lt 4611686018427387904 (length xs)) refl
+one-operator T n (group phase by aggregates) xs = one-group T n by aggregates xs (nat_lt 4611686018427387904 (length xs)) refl
 
 above-one : (T : Type 0) (n : ℕ) (op : Unary) (e o : SerialResult) → Agrees T e o
     → Agrees (T ⊎ IsTooLong op o) (after e (λ xs. or_overflow n (evaluated_rows op xs))) (after o (λ xs. or_overflow n (unary_rows op xs)))

@@ -22,7 +22,7 @@ first_exchange (exchange n c k m p) = Some n
 
 -- one grouping of more than 2^62 rows
 abbrev pub is_too_long : Unary → List Row → Bool
-is_too_long (group by aggregates) xs = nat_lt 4611686018427387904 (length xs)
+is_too_long (group phase by aggregates) xs = nat_lt 4611686018427387904 (length xs)
 is_too_long _ xs = false
 
 -- the list that an operator makes of its input's list, or none on overflow and of a list that is too long

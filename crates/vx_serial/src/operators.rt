@@ -4,7 +4,7 @@ ghost use Rattle.std.specs.Prelude.{◌≡◌, ◌++◌, true, Some, map, IfOk, 
 ghost use Rattle.std.specs.Cow.{cow_value};
 ghost use Rattle.std.specs.List.{list_all};
 ghost use Rattle.vx_plan_nodes.specs.Outline.{aggregate_of, unary_of, binary_of};
-ghost use Rattle.vx_plan_nodes.specs.Plan.{group};
+ghost use Rattle.vx_plan_nodes.specs.Plan.{group, plain};
 ghost use Rattle.vx_plan_nodes.specs.Serial.{binary_rows, join_rows};
 ghost use Rattle.vx_plan_nodes.specs.Typed.{is_unary, is_binary, is_pair};
 ghost use Rattle.vx_plan_nodes.specs.Types.{unary_types, binary_types};
@@ -38,10 +38,10 @@ fn groups_of(
     by: &[usize],
     aggregates: &[Aggregate],
 ) -> Result<Rows, EvalFault>
-    requires { is_unary rows.now.types (group by.now (map aggregate_of aggregates.now)) ≡ true }
-    ensures types { IfOk result (λ t. t.types ≡ unary_types (group by.now (map aggregate_of aggregates.now)) rows.now.types) }
-    ensures rows { IfOk result (λ t. evaluated_rows (group by.now (map aggregate_of aggregates.now)) rows.now.rows ≡ Some t.rows) }
-    ensures fault { IfErr result (IsFaultAt number (evaluated_rows (group by.now (map aggregate_of aggregates.now)) rows.now.rows)) }
+    requires { is_unary rows.now.types (group plain by.now (map aggregate_of aggregates.now)) ≡ true }
+    ensures types { IfOk result (λ t. t.types ≡ unary_types (group plain by.now (map aggregate_of aggregates.now)) rows.now.types) }
+    ensures rows { IfOk result (λ t. evaluated_rows (group plain by.now (map aggregate_of aggregates.now)) rows.now.rows ≡ Some t.rows) }
+    ensures fault { IfErr result (IsFaultAt number (evaluated_rows (group plain by.now (map aggregate_of aggregates.now)) rows.now.rows)) }
 {
     if rows.len() > MAX_GROUPED {
         return Err(EvalFault::Overflow { node: number });
@@ -81,7 +81,7 @@ pub fn unary_rows<'d>(
             Ok(Cow::Owned(distinct(alloc, &rows, columns.as_slice())?))
         }
         Unary::Sort(columns) => Ok(Cow::Owned(sorted(alloc, &rows, columns.as_slice())?)),
-        Unary::Group(by, aggregates) => {
+        Unary::Group(_, by, aggregates) => {
             let groups = groups_of(alloc, number, &rows, by.as_slice(), aggregates.as_slice())?;
             Ok(Cow::Owned(groups))
         }

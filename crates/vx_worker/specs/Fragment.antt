@@ -8,6 +8,7 @@ use Rattle.vx_plan_nodes.specs.Streams.{workers}
 use Rattle.vx_plan_nodes.specs.Types.{types_of}
 use Rattle.vx_ports.specs.Packets.{PacketView}
 use Rattle.vx_ops.specs.Ledger.{Stream, Ledger, Op, scan_op, one_op, two_op, receive, Makes, InputsEnded, Told}
+use Rattle.vx_plan_nodes.specs.Runs.{is_concat}
 
 -- what a run is given, beside the plan. relation_of: the relation that the scan with a number reads; sizes: the workers of each size name;
 -- hash: the consumer of a key among n, by the route's name; bounds: those of each range; packet and morsel: their sizes in rows
@@ -37,7 +38,7 @@ fragment S w (scan n c r m z) = alone n scan_op
 fragment S w (unary n c op p) = above (one_op n op) (fragment S w p)
 fragment S w (binary n c op p q) = both (two_op n op) (fragment S w p) (fragment S w q)
 fragment S w (exchange n c k merge p) =
-    alone n (receive (record { exchange = n; place = w; producers = workers S.sizes (size p); types = types_of S.catalog p; merge = merge }))
+    alone n (receive (record { exchange = n; place = w; producers = workers S.sizes (size p); types = types_of S.catalog p; merge = merge; in_order = is_concat k }))
 
 -- what the leaves read: the rows of the morsels at each scan, and the packets at each exchange
 pub record Reads : Type 0 where

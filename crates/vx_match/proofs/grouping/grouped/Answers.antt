@@ -3,7 +3,7 @@ use Rattle.std.proofs.lemmas.List.{take_more, take_all}
 use Rattle.vx_values.specs.Types.{Fits}
 use Rattle.vx_values.specs.Values.{Row}
 use Rattle.vx_rows.specs.View.{row, RowsView}
-use Rattle.vx_plan_nodes.specs.Plan.{Aggregate, group}
+use Rattle.vx_plan_nodes.specs.Plan.{Aggregate, group, plain}
 use Rattle.vx_plan_nodes.specs.Types.{unary_types}
 use Rattle.vx_plan_nodes.specs.Serial.{group_rows}
 use Rattle.vx_plan_nodes.specs.Outline.{aggregate_of as op_of}
@@ -52,9 +52,9 @@ pub returns-clause-types : goal.returns-clause-types
 returns-clause-types c =
     let inv = c.loop-i.invariant in
     let ops = map op_of c.args.aggregates.now in
-    if-ok c.finish.result (λ (r : RowsView). r.types ≡ unary_types (group c.loop-i.grouping.by c.loop-i.grouping.aggregates) c.loop-i.grouping.types)
-    (λ (r : RowsView). r.types ≡ unary_types (group c.args.by.now ops) c.args.rows.now.types)
-    (λ r h. h ∙ (λ j. unary_types (group (inv.1 j) (inv.2 j)) (inv.0 j))) c.finish.ensures.types
+    if-ok c.finish.result (λ (r : RowsView). r.types ≡ unary_types (group plain c.loop-i.grouping.by c.loop-i.grouping.aggregates) c.loop-i.grouping.types)
+    (λ (r : RowsView). r.types ≡ unary_types (group plain c.args.by.now ops) c.args.rows.now.types)
+    (λ r h. h ∙ (λ j. unary_types (group plain (inv.1 j) (inv.2 j)) (inv.0 j))) c.finish.ensures.types
 
 pub returns-clause-rows : goal.returns-clause-rows
 returns-clause-rows c =

@@ -2,7 +2,6 @@ use Rattle.std.proofs.Common.{ap, ◌∙◌, arith}
 use Rattle.vx_plan_nodes.specs.Erase.{erase}
 use Rattle.vx_plan_nodes.specs.Outline.{outline_of, plan_in}
 use Rattle.vx_plan_nodes.specs.TypedView.{scope}
-use Rattle.vx_relations.specs.Catalog.{relation_at}
 use Rattle.vx_plan_nodes.proofs.ErasedFacts.{erased-plan, erased-is-typed}
 use Rattle.vx_plan_nodes.proofs.OutputFacts.{erased-outputs}
 use Rattle.vx_plan.proofs.erasing.erase.Goals as goal
@@ -24,4 +23,4 @@ returns-clause-plan c =
 pub new-requires-clause-outputs : goal.new-requires-clause-outputs
 new-requires-clause-outputs c =
     rw (c.in_ok-catalog.ensures, c.catalog.ensures, c.in_ok-root.ensures.value)
-    (erased-outputs (relation_at (scope c.args.typed.now).catalog) 0 (outline_of c.root.result.now) c.root.ensures.outputs)
+    (erased-outputs (scope c.args.typed.now) 0 (outline_of c.root.result.now) c.root.ensures.typed.nodes c.root.ensures.outputs)

@@ -5,7 +5,7 @@ use Rattle.std.proofs.lemmas.List.Folds.{list_all_more}
 use Rattle.vx_values.specs.Values.{Row}
 use Rattle.vx_values.specs.Types.{type_of}
 use Rattle.vx_values.specs.ValueView.{cell_val}
-use Rattle.vx_plan_nodes.specs.Plan.{group}
+use Rattle.vx_plan_nodes.specs.Plan.{group, plain}
 use Rattle.vx_plan_nodes.specs.Types.{unary_types}
 use Rattle.vx_plan_nodes.specs.Serial.{group_keys}
 use Rattle.vx_plan_nodes.specs.Outline.{aggregate_of as op_of}
@@ -20,9 +20,9 @@ use Rattle.vx_match.proofs.grouping.Grouping.finish.Goals as goal
 
 pub loop-number-init : goal.loop-number-init
 loop-number-init c =
-    let P : Groups → Type 0 = λ g. c.in_ok-found.found.types ≡ unary_types (group g.by g.aggregates) g.types in (
+    let P : Groups → Type 0 = λ g. c.in_ok-found.found.types ≡ unary_types (group plain g.by g.aggregates) g.types in (
       subst P c.self.view_is (c.in_ok-found.ensures.types ∙ (c.as_slice.ensures.value
-          ∙ (c.in_ok-types.ensures ∙ (λ i. unary_types (group (c.deref-2.ensures.value i) (map op_of (c.deref-3.ensures.value i))) (c.deref.ensures.value i))))),
+          ∙ (c.in_ok-types.ensures ∙ (λ i. unary_types (group plain (c.deref-2.ensures.value i) (map op_of (c.deref-3.ensures.value i))) (c.deref.ensures.value i))))),
       c.in_ok-found.ensures.rows,
       refl,
     )

@@ -1,0 +1,55 @@
+-- Lists one after the other are sorted where a range routed their rows.
+use Rattle.std.proofs.Common.{◌≡◌, ℕ, zero, suc, ◌+◌, ◌<◌, ◌≤◌, ◌==◌, nat_lt, Bool, true, false, cond, ◌&&◌, List, [], ◌∷◌, ◌++◌, map, refl, sym, ap, ap₂, ◌∙◌, subst, arith, true≢false, eqb-true, eq-eqb, ne_eqb, ltb-true, lt-ltb, is_le, Ordering, Less, Equal, Greater}
+use Rattle.std.specs.List.{list_all}
+use Rattle.std.specs.Ordering.{ordering_then, ordering_reverse}
+use Rattle.vx_values.specs.Values.{Row, val_cmp, value_at, pick}
+use Rattle.vx_rows.specs.Order.{compare_on, sorted}
+use Rattle.vx_plan_nodes.specs.Plan.{by_range}
+use Rattle.vx_plan_nodes.specs.Streams.{Streams, joined, bearing, Dealt}
+use Rattle.vx_plan_nodes.specs.Routes.{Router}
+use Rattle.vx_rows.proofs.Compare.{val_cmp_total}
+use Rattle.vx_laws.proofs.Bags.{and-left, and-right, and-both}
+use Rattle.vx_laws.proofs.Parts.{list_all-weaken}
+use Rattle.vx_laws.proofs.JoinOrder.{list_all-append}
+use Rattle.vx_laws.proofs.Groups.{joined-all}
+
+-- two sorted lists, of which no row of the second is smaller than one of the first
+pub sorted-two : (cs : List ℕ) (xs ys : List Row) → sorted cs xs ≡ true → sorted cs ys ≡ true
+    → list_all (λ x. list_all (λ y. is_le (compare_on cs x y)) ys) xs ≡ true → sorted cs (xs ++ ys) ≡ true
+sorted-two cs [] ys h k b = k
+sorted-two cs (x ∷ xs) ys h k b =
+    let le : Row → Bool = λ y. is_le (compare_on cs x y) in
+    let rest : Bool = list_all (λ x. list_all (λ y. is_le (compare_on cs x y)) ys) xs in
+    and-both (list_all le (xs ++ ys)) (sorted cs (xs ++ ys))
+    (list_all-append le xs ys (and-left (list_all le xs) (sorted cs xs) h) (and-left (list_all le ys) rest b))
+    (sorted-two cs xs ys (and-right (list_all le xs) (sorted cs xs) h) k (and-right (list_all le ys) rest b))
+
+abbrev pub Rising : Router → Type 0
+Rising goes = (k : ℕ) (a b : Row) (n : ℕ) → is_le (val_cmp (value_at a 0) (value_at b 0)) ≡ true → goes (by_range k) a n ≤ goes (by_range k) b n
+
+module _ (goes : Router) (rising : Rising goes) (k c : ℕ) (cs : List ℕ) (n : ℕ) where
+  abbrev place : Row → ℕ
+  place row = goes (by_range k) (pick (c ∷ []) row) n
+
+  -- a row with a smaller place is smaller
+  below : (x y : Row) → place x < place y → is_le (compare_on (c ∷ cs) x y) ≡ true
+  below x y l = go (val_cmp (value_at x c) (value_at y c)) (val_cmp (value_at y c) (value_at x c)) (val_cmp_total.antisymm (value_at y c) (value_at x c)) refl
+    where
+      go : (o p : Ordering) → p ≡ ordering_reverse o → val_cmp (value_at y c) (value_at x c) ≡ p → is_le (ordering_then o (compare_on cs x y)) ≡ true
+      go Less p e f = refl
+      go Equal p e f = absurd (let r = rising k (pick (c ∷ []) y) (pick (c ∷ []) x) n (ap is_le (f ∙ e)) in omega (arith, l, r))
+      go Greater p e f = absurd (let r = rising k (pick (c ∷ []) y) (pick (c ∷ []) x) n (ap is_le (f ∙ e)) in omega (arith, l, r))
+
+  -- streams of which each row stands where the range sends it, one after the other
+  pub joined-sorted : (m : ℕ) (s : Streams) → ((w : ℕ) → w < m → list_all (λ row. place row == w) (s w) ≡ true) → ((w : ℕ) → w < m → sorted (c ∷ cs) (s w) ≡ true)
+      → sorted (c ∷ cs) (joined m s) ≡ true
+  joined-sorted zero s at up = refl
+  joined-sorted (suc m) s at up =
+      let before : list_all (λ row. nat_lt (place row) m) (joined m s) ≡ true
+      = joined-all (λ row. nat_lt (place row) m) m s (λ w l. list_all-weaken (λ row. place row == w) (λ row. nat_lt (place row) m) (λ row e. let q : place row ≡ w = eqb-true (place row) w e in lt-ltb (place row) m (omega (arith, q, l))) (s w) (at w (omega arith))) in
+      let last : list_all (λ row. place row == m) (s m) ≡ true = at m (omega arith) in
+      sorted-two (c ∷ cs) (joined m s) (s m) (joined-sorted m s (λ w l. at w (omega arith)) (λ w l. up w (omega arith))) (up m (omega arith))
+      (list_all-weaken (λ row. nat_lt (place row) m) (λ x. list_all (λ y. is_le (compare_on (c ∷ cs) x y)) (s m))
+      (λ x e. list_all-weaken (λ row. place row == m) (λ y. is_le (compare_on (c ∷ cs) x y))
+      (λ y f. let a : place x < m = ltb-true (place x) m e in let b : place y ≡ m = eqb-true (place y) m f in below x y (omega (arith, a, b))) (s m) last)
+      (joined m s) before)
