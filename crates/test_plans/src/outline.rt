@@ -1,7 +1,7 @@
 //! Typed plans in a few words.
 
 use std::alloc::{AllocError, Global};
-use vx_plan::{Binary, Head, TypedNode, TypedPlan, Unary};
+use vx_plan::{Binary, Head, Phase, TypedNode, TypedPlan, Unary};
 use vx_rows::ColType;
 
 fn unary_name(unary: &Unary) -> &'static str {
@@ -10,7 +10,9 @@ fn unary_name(unary: &Unary) -> &'static str {
         Unary::Project(_) => "project",
         Unary::Distinct(_) => "distinct",
         Unary::Sort(_) => "sort",
-        Unary::Group(_, _, _) => "group",
+        Unary::Group(Phase::Plain, _, _) => "group",
+        Unary::Group(Phase::Partial, _, _) => "partial-group",
+        Unary::Group(Phase::Final, _, _) => "final-group",
     }
 }
 

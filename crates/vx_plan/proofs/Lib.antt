@@ -4,5 +4,6 @@ pub mod BoundFacts
 pub mod Apart
 pub mod FoundFacts
 pub mod ClaimFacts
+pub mod PhaseFacts
 pub mod ShapeFacts
 pub mod PlanFacts

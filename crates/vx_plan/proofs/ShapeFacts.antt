@@ -1,38 +1,34 @@
 -- Operators that were found are typed, and give the columns that they say.
-use Rattle.std.proofs.Common.{◌≡◌, ℕ, ◌+◌, nat_lt, nat_le, List, [], ◌∷◌, ◌++◌, true, ◌&&◌, ◌||◌, is_some, Result, Ok, Err, map, length, bytes_eq, refl, sym, ap, ◌∙◌, subst, length-append, false, not}
+use Rattle.std.proofs.Common.{◌≡◌, ℕ, ◌+◌, nat_lt, nat_le, List, [], ◌∷◌, ◌++◌, true, ◌&&◌, ◌||◌, is_some, Result, Ok, Err, map, length, bytes_eq, refl, sym, ap, ◌∙◌, subst, length-append, not, false, Bool, Option, Some, None, true≢false}
 use Rattle.std.specs.Prelude.{⊤}
 use Rattle.std.specs.List.{list_all}
 use Rattle.std.proofs.lemmas.List.{length-map, length_push, map_push}
 use Rattle.vx_values.specs.declared.value.ColType.{ColType}
 use Rattle.vx_values.specs.Types.{type_at}
-use Rattle.vx_relations.specs.Catalog.{all_below}
+use Rattle.vx_relations.specs.Catalog.{all_below, relation_at}
 use Rattle.vx_plan_nodes.specs.declared.typed.Projected.{Projected}
-use Rattle.vx_plan_nodes.specs.Plan.{Aggregate, Condition, Plan, ExchangeKind, route_to, by_hash, by_range}
+use Rattle.vx_plan_nodes.specs.Plan.{Aggregate, Phase, Unary, Condition, ExchangeKind, Plan, route_to, by_hash, by_range}
 use Rattle.vx_plan_nodes.specs.Plan as plan
-use Rattle.vx_plan_nodes.specs.Phases.{is_partial, is_open, phase_fits}
-use Rattle.vx_plan_nodes.specs.Types.{unary_types, binary_types, aggregate_type}
-use Rattle.vx_plan_nodes.specs.Typed.{are_columns, is_condition, is_aggregate, is_unary, is_pair, are_distinct_pairs, is_binary, types_eq, is_kind, is_size, is_routed, may_merge}
+use Rattle.vx_plan_nodes.specs.Types.{types_of, unary_types, binary_types, aggregate_type}
+use Rattle.vx_plan_nodes.specs.Phases.{first_columns, merged, is_partial, is_open, phase_fits}
+use Rattle.vx_plan_nodes.specs.Typed.{are_columns, is_condition, is_aggregate, is_unary, is_pair, are_distinct_pairs, is_binary, types_eq, is_kind, may_merge, is_size, is_routed, typed}
 use Rattle.vx_values.specs.Lists.{is_some_list}
 use Rattle.vx_values.specs.Values.{Name}
 use Rattle.vx_plan_json.specs.Document.{ConditionForm, OutputForm, AggregateForm, UnaryForm, BinaryForm, KindForm}
 use Rattle.vx_plan_json.specs.Document as form
-use Rattle.vx_plan_nodes.specs.Outline.{Columns}
+use Rattle.vx_plan_nodes.specs.Outline.{Columns, Outline, columns, plan_in}
 use Rattle.vx_plan_json.specs.Fault.{Refusal, ◌>>=◌}
 use Rattle.vx_plan.specs.Lookup.{walk_onto, column_found, columns_found, once, pairs_once, pair_eq, matched, narrow, size_found, range_found}
 use Rattle.vx_plan_nodes.specs.Names.{Names, scope_of}
-use Rattle.vx_plan.specs.Resolve.{condition_found, conditions_found, select_shape, Shape, output_name, kept_found, all_kept_found, kept_shape, kept_columns, project_shape, distinct_shape, sort_shape, function_found, aggregates_found, group_found, group_tested, group_columns, group_shape, unary_shape, pair_found, pairs_found, join_tested, join_pairs, both_columns, Joint, binary_shape, kind_found, kind_names, kind_fits, exchange_columns, exchange_once, exchange_shape}
-use Rattle.vx_plan_json.specs.Formed.{are_names, are_some_names, is_condition_form, is_output_form, is_aggregate_form, is_unary_form, is_pair_form, is_binary_form, is_kind_form}
+use Rattle.vx_plan.specs.Resolve.{condition_found, conditions_found, select_shape, Shape, output_name, kept_found, all_kept_found, kept_shape, kept_columns, project_shape, distinct_shape, sort_shape, function_found, aggregates_found, group_found, group_tested, group_columns, group_shape, finished, partial_shape, parts_of, final_shape, is_final_form, unary_shape, pair_found, pairs_found, join_tested, join_pairs, both_columns, Joint, binary_shape, kind_found, kind_names, kind_fits, exchange_columns, exchange_once, exchange_shape}
+use Rattle.vx_plan_json.specs.Formed.{are_names, are_some_names, is_condition_form, is_output_form, is_aggregate_form, is_unary_form, is_pair_form, is_binary_form, is_kind_form, is_merge_form}
 use Rattle.vx_plan_json.proofs.Holds.{all_push, Holds, holds_then}
 use Rattle.vx_values.proofs.Booleans.{and-left, and-right, and-both}
 use Rattle.vx_plan.proofs.Apart.{apart, apart-front, once-apart, pairs_once-apart, distinct-pairs}
 use Rattle.vx_plan.proofs.FoundFacts.{name_of, AreColumns, IsColumn, column-found, columns-found, walk-holds, walk-length, once-columns, some-columns}
+use Rattle.vx_plan_nodes.proofs.ErasedFacts.{final-types}
+use Rattle.vx_plan.proofs.PhaseFacts.{some-alike, parts-open, final-unary}
 use Rattle.vx_plan.proofs.ClaimFacts.{matched-holds, narrow-holds, size-holds, range-holds, hash-routed, range-routed}
-
-some-alike : {A B : Type 0} (xs : List A) (ys : List B) → length xs ≡ length ys → is_some_list xs ≡ is_some_list ys
-some-alike [] [] e = refl
-some-alike [] (y ∷ ys) e = cc
-some-alike (x ∷ xs) [] e = cc
-some-alike (x ∷ xs) (y ∷ ys) e = refl
 
 -- as wide as the types say, and at most 64 columns
 pub record IsOutput (types : List ColType) (cols : Columns) : Type 0 where
@@ -40,19 +36,24 @@ pub record IsOutput (types : List ColType) (cols : Columns) : Type 0 where
   pub names_are : length cols.names ≡ length cols.types
   pub few : nat_le (length cols.types) 64 ≡ true
 
-pub record IsShape (cols : Columns) (o : Shape) : Type 0 where
+-- an output is one of its own types
+pub own-output : {types : List ColType} {cols : Columns} → IsOutput types cols → IsOutput cols.types cols
+own-output out = record { types_are = refl; names_are = out.names_are; few = out.few }
+
+-- over this plan, whose columns these are; only under a final group it may be a partial one
+pub record IsShape (under : Bool) (p : Plan) (cols : Columns) (o : Shape) : Type 0 where
   pub op : is_unary cols.types o.op ≡ true
   pub output : IsOutput (unary_types o.op cols.types) o.columns
-  pub shut : is_partial o.op ≡ false
-  pub phase : (p : Plan) → is_open p ≡ false → phase_fits o.op p ≡ true
+  pub fits : phase_fits o.op p ≡ true
+  pub closed : under ≡ false → is_partial o.op ≡ false
 
-select-holds : (node : ℕ) (cols : Columns) (cs : List ConditionForm) → IsOutput cols.types cols → is_some_list cs ≡ true → Holds (IsShape cols) (select_shape node cols cs)
+select-holds : (under : Bool) (p : Plan) (node : ℕ) (cols : Columns) (cs : List ConditionForm) → IsOutput cols.types cols → is_some_list cs ≡ true → is_open p ≡ false → Holds (IsShape under p cols) (select_shape node cols cs)
 unfolding select_shape conditions_found
-select-holds node cols cs out h =
-    holds_then (λ (ks : List Condition). length ks ≡ length cs) (IsShape cols) (λ ks. matched node (list_all (is_condition cols.types) ks) >>= λ u. Ok (record { op = plan.select ks; renamed = []; columns = cols }))
+select-holds under p node cols cs out h shut =
+    holds_then (λ (ks : List Condition). length ks ≡ length cs) (IsShape under p cols) (λ ks. matched node (list_all (is_condition cols.types) ks) >>= λ u. Ok (record { op = plan.select ks; renamed = []; columns = cols }))
     (walk_onto (condition_found node cols.names) [] cs) (walk-length (condition_found node cols.names) cs)
-    (λ ks l. holds_then (λ (u : ⊤). list_all (is_condition cols.types) ks ≡ true) (IsShape cols) (λ u. Ok (record { op = plan.select ks; renamed = []; columns = cols })) (matched node (list_all (is_condition cols.types) ks)) (matched-holds node (list_all (is_condition cols.types) ks))
-    (λ u m. record { op = and-both (is_some_list ks) (list_all (is_condition cols.types) ks) (some-alike ks cs l ∙ h) m; output = out; shut = refl; phase = λ p e. ap not e }))
+    (λ ks l. holds_then (λ (u : ⊤). list_all (is_condition cols.types) ks ≡ true) (IsShape under p cols) (λ u. Ok (record { op = plan.select ks; renamed = []; columns = cols })) (matched node (list_all (is_condition cols.types) ks)) (matched-holds node (list_all (is_condition cols.types) ks))
+    (λ u m. record { op = and-both (is_some_list ks) (list_all (is_condition cols.types) ks) (some-alike ks cs l ∙ h) m; output = out; fits = ap not shut; closed = λ e. refl }))
 
 record AreKept (names : List Name) (os : List OutputForm) (ks : List Projected) : Type 0 where
   below : all_below (length names) (map (λ (k : Projected). k.column) ks) ≡ true
@@ -107,28 +108,28 @@ kept-below cols os ks e h k =
     and-both (is_some_list (map (λ (k : Projected). k.column) ks)) (all_below (length cols.types) (map (λ (k : Projected). k.column) ks))
     (some-alike (map (λ (k : Projected). k.column) ks) os (length-map ks (λ (k : Projected). k.column) ∙ k.kept.count) ∙ h) (subst P e k.kept.below)
 
-project-holds : (node : ℕ) (cols : Columns) (os : List OutputForm) → IsOutput cols.types cols → is_some_list os ≡ true → Holds (IsShape cols) (project_shape node cols os)
+project-holds : (under : Bool) (p : Plan) (node : ℕ) (cols : Columns) (os : List OutputForm) → IsOutput cols.types cols → is_some_list os ≡ true → is_open p ≡ false → Holds (IsShape under p cols) (project_shape node cols os)
 unfolding project_shape
-project-holds node cols os out h =
-    holds_then (IsKeptShape cols os) (IsShape cols) (λ ks. Ok (record { op = plan.project (map (λ (k : Projected). k.column) ks); renamed = map (λ (k : Projected). k.renamed) ks; columns = kept_columns cols os ks })) (kept_shape node cols os) (kept-holds node cols os)
-    (λ ks k. record { op = kept-below cols os ks out.names_are h k; output = kept-output cols os ks k; shut = refl; phase = λ p e. ap not e })
+project-holds under p node cols os out h shut =
+    holds_then (IsKeptShape cols os) (IsShape under p cols) (λ ks. Ok (record { op = plan.project (map (λ (k : Projected). k.column) ks); renamed = map (λ (k : Projected). k.renamed) ks; columns = kept_columns cols os ks })) (kept_shape node cols os) (kept-holds node cols os)
+    (λ ks k. record { op = kept-below cols os ks out.names_are h k; output = kept-output cols os ks k; fits = ap not shut; closed = λ e. refl })
 
-distinct-holds : (node : ℕ) (cols : Columns) (os : List OutputForm) → IsOutput cols.types cols → is_some_list os ≡ true → Holds (IsShape cols) (distinct_shape node cols os)
+distinct-holds : (under : Bool) (p : Plan) (node : ℕ) (cols : Columns) (os : List OutputForm) → IsOutput cols.types cols → is_some_list os ≡ true → is_open p ≡ false → Holds (IsShape under p cols) (distinct_shape node cols os)
 unfolding distinct_shape
-distinct-holds node cols os out h =
-    holds_then (IsKeptShape cols os) (IsShape cols) (λ ks. Ok (record { op = plan.distinct (map (λ (k : Projected). k.column) ks); renamed = map (λ (k : Projected). k.renamed) ks; columns = kept_columns cols os ks })) (kept_shape node cols os) (kept-holds node cols os)
-    (λ ks k. record { op = kept-below cols os ks out.names_are h k; output = kept-output cols os ks k; shut = refl; phase = λ p e. ap not e })
+distinct-holds under p node cols os out h shut =
+    holds_then (IsKeptShape cols os) (IsShape under p cols) (λ ks. Ok (record { op = plan.distinct (map (λ (k : Projected). k.column) ks); renamed = map (λ (k : Projected). k.renamed) ks; columns = kept_columns cols os ks })) (kept_shape node cols os) (kept-holds node cols os)
+    (λ ks k. record { op = kept-below cols os ks out.names_are h k; output = kept-output cols os ks k; fits = ap not shut; closed = λ e. refl })
 
-sort-holds : (node : ℕ) (cols : Columns) (names : List Name) → IsOutput cols.types cols → is_some_list names ≡ true → Holds (IsShape cols) (sort_shape node cols names)
+sort-holds : (under : Bool) (p : Plan) (node : ℕ) (cols : Columns) (names : List Name) → IsOutput cols.types cols → is_some_list names ≡ true → is_open p ≡ false → Holds (IsShape under p cols) (sort_shape node cols names)
 unfolding sort_shape
-sort-holds node cols names out h =
-    holds_then (AreColumns cols.names names) (IsShape cols) (λ ps. once node names >>= λ u. Ok (record { op = plan.sort ps; renamed = []; columns = cols })) (columns_found node cols.names names) (columns-found node cols.names names)
-    (λ ps f. holds_then (λ (u : ⊤). apart bytes_eq names ≡ true) (IsShape cols) (λ u. Ok (record { op = plan.sort ps; renamed = []; columns = cols })) (once node names) (once-apart node names)
+sort-holds under p node cols names out h shut =
+    holds_then (AreColumns cols.names names) (IsShape under p cols) (λ ps. once node names >>= λ u. Ok (record { op = plan.sort ps; renamed = []; columns = cols })) (columns_found node cols.names names) (columns-found node cols.names names)
+    (λ ps f. holds_then (λ (u : ⊤). apart bytes_eq names ≡ true) (IsShape under p cols) (λ u. Ok (record { op = plan.sort ps; renamed = []; columns = cols })) (once node names) (once-apart node names)
     (λ u a. record {
       op = and-both (is_some_list ps) (are_columns (length cols.types) ps) (some-columns cols.names names ps f h) (once-columns cols.names names ps (length cols.types) out.names_are f a);
       output = out;
-      shut = refl;
-      phase = λ p e. ap not e;
+      fits = ap not shut;
+      closed = λ e. refl;
     }))
 
 record IsGroupFound (cols : Columns) (by : List Name) (aggregates : List AggregateForm) (g : List ℕ × List Aggregate) : Type 0 where
@@ -161,13 +162,15 @@ group_tested-holds node types names ks =
 columns-count : (names list : List Name) (cs : List ℕ) → AreColumns names list cs → length cs ≡ length list
 columns-count names list cs h = sym (length-map cs (name_of names)) ∙ ap length h.named
 
-group-holds : (node : ℕ) (cols : Columns) (by : List Name) (aggregates : List AggregateForm) → IsOutput cols.types cols → (is_some_list by || is_some_list aggregates) ≡ true → Holds (IsShape cols) (group_shape node cols by aggregates)
+group-holds : (under : Bool) (p : Plan) (phase : Phase) (node : ℕ) (cols : Columns) (by : List Name) (aggregates : List AggregateForm) → IsOutput cols.types cols → (is_some_list by || is_some_list aggregates) ≡ true
+    → ((bs : List ℕ) (ks : List Aggregate) → phase_fits (plan.group phase bs ks) p ≡ true) → ((bs : List ℕ) (ks : List Aggregate) → under ≡ false → is_partial (plan.group phase bs ks) ≡ false)
+    → Holds (IsShape under p cols) (group_shape phase node cols by aggregates)
 unfolding group_shape
-group-holds node cols by aggregates out h =
-    holds_then (IsGroupFound cols by aggregates) (IsShape cols)
-    (λ g. group_tested node cols.types (by ++ map (λ (a : AggregateForm). a.name) aggregates) g.1 >>= λ u. Ok (record { op = plan.group plan.plain g.0 g.1; renamed = []; columns = group_columns cols by aggregates g.0 g.1 }))
+group-holds under p phase node cols by aggregates out h fits shut =
+    holds_then (IsGroupFound cols by aggregates) (IsShape under p cols)
+    (λ g. group_tested node cols.types (by ++ map (λ (a : AggregateForm). a.name) aggregates) g.1 >>= λ u. Ok (record { op = plan.group phase g.0 g.1; renamed = []; columns = group_columns cols by aggregates g.0 g.1 }))
     (group_found node cols.names by aggregates) (group_found-holds node cols by aggregates)
-    (λ g f. holds_then (λ (u : ⊤). IsGroupTested cols.types (by ++ map (λ (a : AggregateForm). a.name) aggregates) g.1) (IsShape cols) (λ u. Ok (record { op = plan.group plan.plain g.0 g.1; renamed = []; columns = group_columns cols by aggregates g.0 g.1 }))
+    (λ g f. holds_then (λ (u : ⊤). IsGroupTested cols.types (by ++ map (λ (a : AggregateForm). a.name) aggregates) g.1) (IsShape under p cols) (λ u. Ok (record { op = plan.group phase g.0 g.1; renamed = []; columns = group_columns cols by aggregates g.0 g.1 }))
     (group_tested node cols.types (by ++ map (λ (a : AggregateForm). a.name) aggregates) g.1) (group_tested-holds node cols.types (by ++ map (λ (a : AggregateForm). a.name) aggregates) g.1)
     (λ u m.
     let names : List Name = by ++ map (λ (a : AggregateForm). a.name) aggregates in
@@ -184,18 +187,52 @@ group-holds node cols by aggregates out h =
           (and-both (are_columns (length cols.types) g.0) (list_all (is_aggregate cols.types) g.1)
           (once-columns cols.names by g.0 (length cols.types) out.names_are f.keys (apart-front bytes_eq by (map (λ (a : AggregateForm). a.name) aggregates) m.once)) m.typed);
       output = record { types_are = refl; names_are = wide; few = subst P wide m.few };
-      shut = refl;
-      phase = λ p e. ap not e;
+      fits = fits g.0 g.1;
+      closed = shut g.0 g.1;
     }))
 
-pub shape-holds : (node : ℕ) (cols : Columns) (op : UnaryForm) → IsOutput cols.types cols → is_unary_form op ≡ true → Holds (IsShape cols) (unary_shape node cols op)
+finished-holds : (node : ℕ) (under : Bool) → Holds (λ (u : ⊤). under ≡ true) (finished node under)
+unfolding finished
+finished-holds node true = refl
+finished-holds node false = tt
+
+partial-holds : (under : Bool) (p : Plan) (node : ℕ) (cols : Columns) (by : List Name) (aggregates : List AggregateForm) → IsOutput cols.types cols → (is_some_list by || is_some_list aggregates) ≡ true → is_open p ≡ false
+    → Holds (IsShape under p cols) (partial_shape under node cols by aggregates)
+unfolding partial_shape
+partial-holds under p node cols by aggregates out h shut =
+    holds_then (λ (u : ⊤). under ≡ true) (IsShape under p cols) (λ u. group_shape plan.partial node cols by aggregates) (finished node under) (finished-holds node under)
+    (λ u e. group-holds under p plan.partial node cols by aggregates out h (λ bs ks. ap not shut) (λ bs ks f. absurd (true≢false (sym e ∙ f))))
+
+final-holds : (under : Bool) (s : Names) (node : ℕ) (t : Outline) (parts : Option (List ℕ × List Aggregate)) → parts_of t ≡ parts → IsOutput (types_of (relation_at s.catalog) (plan_in t)) (columns t) → typed (scope_of s) (plan_in t) ≡ true
+    → Holds (IsShape under (plan_in t) (columns t)) (final_shape node (columns t) parts)
+unfolding final_shape
+final-holds under s node t None e out h = tt
+final-holds under s node t (Some g) e out h =
+    let op : Unary = plan.group plan.final (first_columns (length g.0)) (merged (length g.0) g.1) in
+    let opened = parts-open t g e in
+    let U : List ColType → Type 0 = λ ts. is_unary ts op ≡ true in
+    let T : List ColType → Type 0 = λ ts. ts ≡ unary_types op ts in
+    record {
+      op = subst U (sym out.types_are) (final-unary s t g e h);
+      output = record { types_are = subst T (sym out.types_are) (sym (final-types (relation_at s.catalog) (first_columns (length g.0)) (merged (length g.0) g.1) (plan_in t) opened)); names_are = out.names_are; few = out.few };
+      fits = opened;
+      closed = λ f. refl;
+    }
+
+-- of an operator that is no final group the input is closed
+pub shape-holds : (under : Bool) (s : Names) (node : ℕ) (t : Outline) (op : UnaryForm) → IsOutput (types_of (relation_at s.catalog) (plan_in t)) (columns t) → typed (scope_of s) (plan_in t) ≡ true → is_unary_form op ≡ true
+    → (is_final_form op ≡ false → is_open (plan_in t) ≡ false) → Holds (IsShape under (plan_in t) (columns t)) (unary_shape under node t op)
 unfolding unary_shape
-shape-holds node cols (form.select cs) out h = select-holds node cols cs out (and-left (is_some_list cs) (list_all is_condition_form cs) h)
-shape-holds node cols (form.project os) out h = project-holds node cols os out (and-left (is_some_list os) (list_all is_output_form os) h)
-shape-holds node cols (form.distinct os) out h = distinct-holds node cols os out (and-left (is_some_list os) (list_all is_output_form os) h)
-shape-holds node cols (form.sort names) out h = sort-holds node cols names out (and-left (is_some_list names) (are_names names) h)
-shape-holds node cols (form.group by aggregates) out h =
-    group-holds node cols by aggregates out (and-left (is_some_list by || is_some_list aggregates) (are_names by && list_all is_aggregate_form aggregates) h)
+shape-holds under s node t (form.select cs) out typed h shut = select-holds under (plan_in t) node (columns t) cs (own-output out) (and-left (is_some_list cs) (list_all is_condition_form cs) h) (shut refl)
+shape-holds under s node t (form.project os) out typed h shut = project-holds under (plan_in t) node (columns t) os (own-output out) (and-left (is_some_list os) (list_all is_output_form os) h) (shut refl)
+shape-holds under s node t (form.distinct os) out typed h shut = distinct-holds under (plan_in t) node (columns t) os (own-output out) (and-left (is_some_list os) (list_all is_output_form os) h) (shut refl)
+shape-holds under s node t (form.sort names) out typed h shut = sort-holds under (plan_in t) node (columns t) names (own-output out) (and-left (is_some_list names) (are_names names) h) (shut refl)
+shape-holds under s node t (form.group by aggregates) out typed h shut =
+    group-holds under (plan_in t) plan.plain node (columns t) by aggregates (own-output out) (and-left (is_some_list by || is_some_list aggregates) (are_names by && list_all is_aggregate_form aggregates) h)
+    (λ bs ks. ap not (shut refl)) (λ bs ks e. refl)
+shape-holds under s node t (form.partial_group by aggregates) out typed h shut =
+    partial-holds under (plan_in t) node (columns t) by aggregates (own-output out) (and-left (is_some_list by || is_some_list aggregates) (are_names by && list_all is_aggregate_form aggregates) h) (shut refl)
+shape-holds under s node t form.final_group out typed h shut = final-holds under s node t (parts_of t) refl out typed
 
 -- ---- two inputs
 
@@ -272,9 +309,10 @@ joint-holds node l r (form.join merging on) lo ro h =
 
 -- ---- exchanges
 
--- a found kind is typed, where its columns stand once and have its type, and may merge
-abbrev IsKind : Names → List ColType → KindForm → ExchangeKind → Type 0
-IsKind s types form k = apart bytes_eq (kind_names form) ≡ true → kind_fits s types k ≡ true → (is_kind (scope_of s) types k ≡ true) × ((merge : List ℕ) → may_merge k merge ≡ true)
+-- a found kind is typed, where its columns stand once and have its type, and merges on columns where its form does
+record IsKind (s : Names) (types : List ColType) (form : KindForm) (k : ExchangeKind) : Type 0 where
+  sends : apart bytes_eq (kind_names form) ≡ true → kind_fits s types k ≡ true → is_kind (scope_of s) types k ≡ true
+  merges : (names : List Name) (cols : List ℕ) → is_merge_form form names ≡ true → length cols ≡ length names → may_merge k cols ≡ true
 
 kind-holds : (s : Names) (node : ℕ) (cols : Columns) (kind : KindForm) → IsOutput cols.types cols → is_kind_form kind ≡ true → Holds (IsKind s cols.types kind) (kind_found s node cols.names kind)
 unfolding kind_found
@@ -282,21 +320,30 @@ kind-holds s node cols (form.hash size route names) out h =
     let rest = and-right (is_some_list size) (is_some_list route && are_some_names names) h in
     holds_then (λ z. is_size (length s.sizes) z ≡ true) (IsKind s cols.types (form.hash size route names)) (λ z. columns_found node cols.names names >>= λ ps. Ok (route_to z (by_hash route) ps)) (size_found s size) (size-holds s size)
     (λ z hz. holds_then (AreColumns cols.names names) (IsKind s cols.types (form.hash size route names)) (λ ps. Ok (route_to z (by_hash route) ps)) (columns_found node cols.names names) (columns-found node cols.names names)
-    (λ ps f a m. (
-      and-both (is_size (length s.sizes) z) (is_routed (scope_of s) cols.types (by_hash route) ps) hz
-          (hash-routed s cols.names cols.types route names ps out.names_are (and-left (is_some_list route) (are_some_names names) rest) (and-right (is_some_list route) (are_some_names names) rest) f a),
-      λ merge. refl,
-    )))
+    (λ ps f. record {
+      sends = λ a m. and-both (is_size (length s.sizes) z) (is_routed (scope_of s) cols.types (by_hash route) ps) hz
+          (hash-routed s cols.names cols.types route names ps out.names_are (and-left (is_some_list route) (are_some_names names) rest) (and-right (is_some_list route) (are_some_names names) rest) f a);
+      merges = λ ns ms g e. refl;
+    }))
 kind-holds s node cols (form.range size range col) out h =
     holds_then (λ z. is_size (length s.sizes) z ≡ true) (IsKind s cols.types (form.range size range col)) (λ z. range_found s node range >>= λ k. column_found node cols.names col >>= λ p. Ok (route_to z (by_range k) (p ∷ []))) (size_found s size) (size-holds s size)
     (λ z hz. holds_then (λ k. nat_lt k (length s.ranges) ≡ true) (IsKind s cols.types (form.range size range col)) (λ k. column_found node cols.names col >>= λ p. Ok (route_to z (by_range k) (p ∷ []))) (range_found s node range) (range-holds s node range)
     (λ k hk. holds_then (IsColumn cols.names col) (IsKind s cols.types (form.range size range col)) (λ p. Ok (route_to z (by_range k) (p ∷ []))) (column_found node cols.names col) (column-found node cols.names col)
-    (λ p c a m. (and-both (is_size (length s.sizes) z) (is_routed (scope_of s) cols.types (by_range k) (p ∷ [])) hz (range-routed s cols.names cols.types k p out.names_are hk c.below m), λ merge. refl))))
+    (λ p c. record {
+      sends = λ a m. and-both (is_size (length s.sizes) z) (is_routed (scope_of s) cols.types (by_range k) (p ∷ [])) hz (range-routed s cols.names cols.types k p out.names_are hk c.below m);
+      merges = λ ns ms g e. refl;
+    })))
 kind-holds s node cols (form.round size) out h =
-    holds_then (λ z. is_size (length s.sizes) z ≡ true) (IsKind s cols.types (form.round size)) (λ z. Ok (plan.round z)) (size_found s size) (size-holds s size) (λ z hz a m. (hz, λ merge. refl))
+    holds_then (λ z. is_size (length s.sizes) z ≡ true) (IsKind s cols.types (form.round size)) (λ z. Ok (plan.round z)) (size_found s size) (size-holds s size) (λ z hz. record { sends = λ a m. hz; merges = λ ns ms g e. refl })
 kind-holds s node cols (form.broadcast size) out h =
-    holds_then (λ z. is_size (length s.sizes) z ≡ true) (IsKind s cols.types (form.broadcast size)) (λ z. Ok (plan.broadcast z)) (size_found s size) (size-holds s size) (λ z hz a m. (hz, λ merge. refl))
-kind-holds s node cols form.gather out h = λ a m. (refl, λ merge. refl)
+    holds_then (λ z. is_size (length s.sizes) z ≡ true) (IsKind s cols.types (form.broadcast size)) (λ z. Ok (plan.broadcast z)) (size_found s size) (size-holds s size) (λ z hz. record { sends = λ a m. hz; merges = λ ns ms g e. refl })
+kind-holds s node cols form.gather out h = record { sends = λ a m. refl; merges = λ ns ms g e. refl }
+kind-holds s node cols form.concat out h = record { sends = λ a m. refl; merges = none-merged }
+  where
+    none-merged : (names : List Name) (cols : List ℕ) → is_merge_form form.concat names ≡ true → length cols ≡ length names → may_merge plan.concat cols ≡ true
+    none-merged [] [] g e = refl
+    none-merged [] (c ∷ cs) g e = cc
+    none-merged (n ∷ ns) cs g e = cc
 
 record IsExchangeFound (s : Names) (cols : Columns) (kind : KindForm) (merge : List Name) (x : ExchangeKind × List ℕ) : Type 0 where
   sends : IsKind s cols.types kind x.0
@@ -326,10 +373,10 @@ pub record IsExchange (s : Names) (types : List ColType) (x : ExchangeKind × Li
   pub merge : are_columns (length types) x.1 ≡ true
   pub may : may_merge x.0 x.1 ≡ true
 
-pub exchange-holds : (s : Names) (node : ℕ) (cols : Columns) (kind : KindForm) (merge : List Name) → IsOutput cols.types cols → is_kind_form kind ≡ true → Holds (IsExchange s cols.types) (exchange_shape s node cols kind merge)
+pub exchange-holds : (s : Names) (node : ℕ) (cols : Columns) (kind : KindForm) (merge : List Name) → IsOutput cols.types cols → is_kind_form kind ≡ true → is_merge_form kind merge ≡ true → Holds (IsExchange s cols.types) (exchange_shape s node cols kind merge)
 unfolding exchange_shape
-exchange-holds s node cols kind merge out h =
+exchange-holds s node cols kind merge out h g =
     holds_then (IsExchangeFound s cols kind merge) (IsExchange s cols.types) (λ x. exchange_once node kind merge >>= λ u. matched node (kind_fits s cols.types x.0) >>= λ v. Ok x) (exchange_columns s node cols.names kind merge) (exchange_columns-holds s node cols kind merge out h)
     (λ x f. holds_then (λ (u : ⊤). IsExchangeOnce kind merge) (IsExchange s cols.types) (λ u. matched node (kind_fits s cols.types x.0) >>= λ v. Ok x) (exchange_once node kind merge) (exchange_once-holds node kind merge)
     (λ u o. holds_then (λ (v : ⊤). kind_fits s cols.types x.0 ≡ true) (IsExchange s cols.types) (λ v. Ok x) (matched node (kind_fits s cols.types x.0)) (matched-holds node (kind_fits s cols.types x.0))
-    (λ v m. record { kind = (f.sends o.sends m).0; merge = once-columns cols.names merge x.1 (length cols.types) out.names_are f.merges o.merges; may = (f.sends o.sends m).1 x.1 })))
+    (λ v m. record { kind = f.sends.sends o.sends m; merge = once-columns cols.names merge x.1 (length cols.types) out.names_are f.merges o.merges; may = f.sends.merges merge x.1 g (columns-count cols.names merge x.1 f.merges) })))

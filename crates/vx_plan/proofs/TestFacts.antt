@@ -9,7 +9,7 @@ test_step : {A X : Type 0} (is_bad : List A → A → Bool) (refusal : A → Ref
 unfolding tested_onto
 test_step is_bad refusal look front xs k x h e = rw (drop-cons xs k x, ← e, add-one) refl
 
-taken_more : {A X : Type 0} (look : X → A) (xs : List X) (k : ℕ) (x : X) → k < length xs → x ≡ get_or xs k x → map look (take (k + 1) xs) ≡ map look (take k xs) ++ look x ∷ []
+pub taken_more : {A X : Type 0} (look : X → A) (xs : List X) (k : ℕ) (x : X) → k < length xs → x ≡ get_or xs k x → map look (take (k + 1) xs) ≡ map look (take k xs) ++ look x ∷ []
 taken_more look xs k x h e = rw (take_more xs k x h, ← e) (map_push look (take k xs) x)
 
 pub test_next : {A X : Type 0} (is_bad : List A → A → Bool) (refusal : A → Refusal) (look : X → A) (xs : List X) (k : ℕ) (x : X) → k < length xs → x ≡ get_or xs k x

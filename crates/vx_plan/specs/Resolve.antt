@@ -1,13 +1,14 @@
 -- The typed plan of a document over a catalog, or the first refusal: sizes, ranges, then the nodes in post-order.
-use Rattle.std.specs.Prelude.{ℕ, ◌+◌, List, [], ◌∷◌, ◌++◌, map, length, Bool, true, not, ◌||◌, Option, Some, None, Result, Ok, Err, ⊤, position, bytes_eq, codes, nat_le, unwrap_or, is_some}
+use Rattle.std.specs.Prelude.{ℕ, ◌+◌, List, [], ◌∷◌, ◌++◌, map, length, Bool, true, false, not, if◌then◌else◌, ◌||◌, Option, Some, None, Result, Ok, Err, ⊤, position, bytes_eq, codes, nat_le, unwrap_or, is_some}
 use Rattle.std.specs.List.{list_all, list_any}
 use Rattle.vx_values.specs.declared.value.ColType.{ColType}
 use Rattle.vx_values.specs.Types.{type_at}
 use Rattle.vx_relations.specs.Relation.{Relation}
 use Rattle.vx_relations.specs.Catalog.{relation_at}
-use Rattle.vx_plan_nodes.specs.Plan.{Route, by_hash, by_range, Part, routed, Claim, Side, Condition, Aggregate, Unary, Binary, ExchangeKind, route_to}
+use Rattle.vx_plan_nodes.specs.Plan.{Route, by_hash, by_range, Part, routed, Claim, Side, Condition, Aggregate, Phase, Unary, Binary, ExchangeKind, route_to}
 use Rattle.vx_plan_nodes.specs.Plan as plan
 use Rattle.vx_plan_nodes.specs.Types.{aggregate_type}
+use Rattle.vx_plan_nodes.specs.Phases.{first_columns, merged}
 use Rattle.vx_plan_nodes.specs.Typed.{bounds_at, type_eq, types_eq, range_type, is_range, is_condition, is_aggregate, is_pair}
 use Rattle.vx_values.specs.Values.{Name}
 use Rattle.vx_plan_json.specs.Document.{PartForm, hash_part, range_part, ClaimForm, SideForm, ConditionForm, OutputForm, FunctionForm, AggregateForm, ScanForm, UnaryForm, BinaryForm, KindForm, Tree, Document}
@@ -15,7 +16,7 @@ use Rattle.vx_values.specs.Ranges.{RangeForm}
 use Rattle.vx_plan_json.specs.Document as form
 use Rattle.vx_plan_nodes.specs.Outline.{Columns, Top, Outline, scan, unary, binary, exchange, columns}
 use Rattle.vx_plan_nodes.specs.declared.typed.Projected.{Projected}
-use Rattle.vx_plan_json.specs.Fault.{Refusal, unknown_relation, bad_range, bad_size, ◌>>=◌}
+use Rattle.vx_plan_json.specs.Fault.{Refusal, unknown_relation, bad_range, bad_size, phase_mismatch, ◌>>=◌}
 use Rattle.vx_plan.specs.Lookup.{walk_onto, tested_onto, column_found, columns_found, keys_found, once, pairs_once, keys_once, matched, narrow, size_found, range_found}
 use Rattle.vx_plan_nodes.specs.Names.{Names, TypedPlanView}
 
@@ -160,20 +161,52 @@ group_found node names by aggregates = columns_found node names by >>= λ bs. ag
 unfoldable pub group_tested : ℕ → List ColType → List Name → List Aggregate → Result ⊤ Refusal
 group_tested node types names ks = once node names >>= λ u. narrow node (length names) >>= λ v. matched node (list_all (is_aggregate types) ks)
 
-unfoldable pub group_shape : ℕ → Columns → List Name → List AggregateForm → Result Shape Refusal
-group_shape node cols by aggregates =
+unfoldable pub group_shape : Phase → ℕ → Columns → List Name → List AggregateForm → Result Shape Refusal
+group_shape phase node cols by aggregates =
     group_found node cols.names by aggregates >>= λ g. group_tested node cols.types (by ++ map (λ a. a.name) aggregates) g.1 >>= λ u.
-    Ok (record { op = plan.group plan.plain g.0 g.1; renamed = []; columns = group_columns cols by aggregates g.0 g.1 })
+    Ok (record { op = plan.group phase g.0 g.1; renamed = []; columns = group_columns cols by aggregates g.0 g.1 })
 
-unfoldable pub unary_shape : ℕ → Columns → UnaryForm → Result Shape Refusal
-unary_shape node cols (form.select cs) = select_shape node cols cs
-unary_shape node cols (form.project os) = project_shape node cols os
-unary_shape node cols (form.distinct os) = distinct_shape node cols os
-unary_shape node cols (form.sort names) = sort_shape node cols names
-unary_shape node cols (form.group by aggregates) = group_shape node cols by aggregates
+-- a partial group is to stand below a final one, with exchanges alone between
+unfoldable pub finished : ℕ → Bool → Result ⊤ Refusal
+finished node under = if under then Ok tt else Err (phase_mismatch node)
 
-unfoldable pub unary_typed : Names → ℕ → ClaimForm → UnaryForm → Outline → Result Outline Refusal
-unary_typed s node c op t = unary_shape node (columns t) op >>= λ o. topped s node o.columns c >>= λ h. Ok (unary h o.op o.renamed t)
+unfoldable pub partial_shape : Bool → ℕ → Columns → List Name → List AggregateForm → Result Shape Refusal
+partial_shape under node cols by aggregates = finished node under >>= λ u. group_shape plan.partial node cols by aggregates
+
+-- the columns and the aggregates of a partial group
+abbrev pub parts_made : Unary → Option (List ℕ × List Aggregate)
+parts_made (plan.select cs) = None
+parts_made (plan.project cols) = None
+parts_made (plan.distinct cols) = None
+parts_made (plan.sort cols) = None
+parts_made (plan.group plan.plain by aggregates) = None
+parts_made (plan.group plan.partial by aggregates) = Some (by, aggregates)
+parts_made (plan.group plan.final by aggregates) = None
+
+-- the same of the first node from here down that is no exchange
+abbrev pub parts_of : Outline → Option (List ℕ × List Aggregate)
+parts_of (scan h r m z p) = None
+parts_of (unary h op flags t) = parts_made op
+parts_of (binary h op t u) = None
+parts_of (exchange h k m t) = parts_of t
+
+-- a final group puts together what the partial one below it gives, and has its columns
+unfoldable pub final_shape : ℕ → Columns → Option (List ℕ × List Aggregate) → Result Shape Refusal
+final_shape node cols None = Err (phase_mismatch node)
+final_shape node cols (Some g) = Ok (record { op = plan.group plan.final (first_columns (length g.0)) (merged (length g.0) g.1); renamed = []; columns = cols })
+
+-- whether the way up through exchanges alone reaches a final group decides for a partial one
+unfoldable pub unary_shape : Bool → ℕ → Outline → UnaryForm → Result Shape Refusal
+unary_shape under node t (form.select cs) = select_shape node (columns t) cs
+unary_shape under node t (form.project os) = project_shape node (columns t) os
+unary_shape under node t (form.distinct os) = distinct_shape node (columns t) os
+unary_shape under node t (form.sort names) = sort_shape node (columns t) names
+unary_shape under node t (form.group by aggregates) = group_shape plan.plain node (columns t) by aggregates
+unary_shape under node t (form.partial_group by aggregates) = partial_shape under node (columns t) by aggregates
+unary_shape under node t form.final_group = final_shape node (columns t) (parts_of t)
+
+unfoldable pub unary_typed : Names → Bool → ℕ → ClaimForm → UnaryForm → Outline → Result Outline Refusal
+unary_typed s under node c op t = unary_shape under node t op >>= λ o. topped s node o.columns c >>= λ h. Ok (unary h o.op o.renamed t)
 
 -- ---- operators over two inputs
 
@@ -219,6 +252,7 @@ kind_found s node names (form.range size range col) =
 kind_found s node names (form.round size) = size_found s size >>= λ z. Ok (plan.round z)
 kind_found s node names (form.broadcast size) = size_found s size >>= λ z. Ok (plan.broadcast z)
 kind_found s node names form.gather = Ok plan.gather
+kind_found s node names form.concat = Ok plan.concat
 
 abbrev pub kind_names : KindForm → List Name
 kind_names (form.hash size route cols) = cols
@@ -226,6 +260,7 @@ kind_names (form.range size range col) = []
 kind_names (form.round size) = []
 kind_names (form.broadcast size) = []
 kind_names form.gather = []
+kind_names form.concat = []
 
 abbrev pub kind_fits : Names → List ColType → ExchangeKind → Bool
 kind_fits s types (route_to z r cols) = route_fits s types r cols
@@ -251,13 +286,23 @@ exchange_typed s node c kind merge t =
 
 -- ---- the walk: nodes are numbered in preorder and tested in post-order
 
--- the typed nodes of a tree whose top has this number, and the number after its last
-unfoldable pub typed_in : Names → ℕ → Tree → Result (Outline × ℕ) Refusal
-typed_in s node (form.scan c f) = scan_typed s node c f >>= λ o. Ok (o, node + 1)
-typed_in s node (form.unary c op t) = typed_in s (node + 1) t >>= λ i. unary_typed s node c op i.0 >>= λ o. Ok (o, i.1)
-typed_in s node (form.binary c op t u) =
-    typed_in s (node + 1) t >>= λ l. typed_in s l.1 u >>= λ r. binary_typed s node c op l.0 r.0 >>= λ o. Ok (o, r.1)
-typed_in s node (form.exchange c k m t) = typed_in s (node + 1) t >>= λ i. exchange_typed s node c k m i.0 >>= λ o. Ok (o, i.1)
+abbrev pub is_final_form : UnaryForm → Bool
+is_final_form (form.select cs) = false
+is_final_form (form.project os) = false
+is_final_form (form.distinct os) = false
+is_final_form (form.sort names) = false
+is_final_form (form.group by aggregates) = false
+is_final_form (form.partial_group by aggregates) = false
+is_final_form form.final_group = true
+
+-- the typed nodes of a tree whose top has this number, and the number after its last; the flag says whether the way up from here through
+-- exchanges alone reaches a final group
+unfoldable pub typed_in : Names → Bool → ℕ → Tree → Result (Outline × ℕ) Refusal
+typed_in s under node (form.scan c f) = scan_typed s node c f >>= λ o. Ok (o, node + 1)
+typed_in s under node (form.unary c op t) = typed_in s (is_final_form op) (node + 1) t >>= λ i. unary_typed s under node c op i.0 >>= λ o. Ok (o, i.1)
+typed_in s under node (form.binary c op t u) =
+    typed_in s false (node + 1) t >>= λ l. typed_in s false l.1 u >>= λ r. binary_typed s node c op l.0 r.0 >>= λ o. Ok (o, r.1)
+typed_in s under node (form.exchange c k m t) = typed_in s under (node + 1) t >>= λ i. exchange_typed s node c k m i.0 >>= λ o. Ok (o, i.1)
 
 -- a size name that is `one`, is declared before or is the 17th is refused
 abbrev pub is_bad_size : List Name → Name → Bool
@@ -277,5 +322,5 @@ ranges_tested ranges = tested_onto is_bad_range (λ r. bad_range r.name) [] rang
 unfoldable pub resolved : Document → List Relation → Result TypedPlanView Refusal
 resolved d catalog =
     sizes_tested d.sizes >>= λ u. ranges_tested d.ranges >>= λ v.
-    typed_in (record { catalog = catalog; ranges = d.ranges; sizes = d.sizes }) 0 d.root >>= λ t.
+    typed_in (record { catalog = catalog; ranges = d.ranges; sizes = d.sizes }) false 0 d.root >>= λ t.
     Ok (record { names = record { catalog = catalog; ranges = d.ranges; sizes = d.sizes }; total = d.total; root = t.0 })

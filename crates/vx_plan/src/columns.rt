@@ -3,16 +3,23 @@
 ghost use Rattle.std.specs.Prelude.{◌≡◌, ◌++◌, map, string_bytes, IfOk, OnOk};
 ghost use Rattle.vx_values.specs.Types.{type_at};
 ghost use Rattle.vx_plan_json.specs.Document.{aggregate_form, output_form};
-ghost use Rattle.vx_plan_nodes.specs.Outline.{columns_of, aggregate_of};
+ghost use Rattle.vx_plan_nodes.specs.Outline.{columns_of, columns, aggregate_of, outline_of};
 ghost use Rattle.vx_plan_nodes.specs.Types.{aggregate_type};
 ghost use Rattle.vx_plan.specs.Resolve.{both_columns, output_name, scan_columns};
 
 use crate::fits::type_at;
 use std::alloc::{AllocError, Global};
 use vx_plan_json::{NamedAggregate, NamedOutput};
-use vx_plan_nodes::{Aggregate, Columns, Projected};
+use vx_plan_nodes::{Aggregate, Columns, Projected, TypedNode};
 use vx_relations::Relation;
 use vx_values::ColType;
+
+/// The columns of a node's output.
+pub fn columns(node: &TypedNode) -> &Columns
+    ensures { columns_of result.now ≡ columns (outline_of node.now) }
+{
+    &node.head().columns
+}
 
 // Copies of these names at the end of a list.
 fn put_names(alloc: Global, list: &mut Vec<String>, names: &[String]) -> Result<(), AllocError>

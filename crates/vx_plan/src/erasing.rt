@@ -1,4 +1,4 @@
-//! A typed plan without its exchanges.
+//! A typed plan without its exchanges: a group in two phases becomes one.
 
 ghost use Rattle.std.specs.Prelude.{◌≡◌, ◌+◌, ◌<◌, ◌≤◌, ◌^◌, false, string_bytes, IfOk, IfErr};
 ghost use Rattle.vx_plan_nodes.specs.Numbering.{nodes};
@@ -17,8 +17,14 @@ use vx_plan_nodes::{
     copied_conditions,
 };
 
-// The operator that is left: a grouping is one of all rows at once.
-fn copied_at_once(alloc: Global, unary: &Unary) -> Result<Unary, AllocError>
+fn is_final(unary: &Unary) -> bool
+    ensures { result ≡ is_final (unary_of unary.now) }
+{
+    matches!(unary, Unary::Group(Phase::Final, _, _))
+}
+
+// A copy, of a group one in a single phase.
+fn copied_unary(alloc: Global, unary: &Unary) -> Result<Unary, AllocError>
     ensures op { IfOk result (λ u. unary_of u ≡ at_once (unary_of unary.now)) }
     ensures renamed { IfOk result (λ u. renamed_of u ≡ renamed_of unary.now) }
 {
@@ -35,17 +41,6 @@ fn copied_at_once(alloc: Global, unary: &Unary) -> Result<Unary, AllocError>
             let found = Vec::from_slice(alloc, aggregates.as_slice())?;
             Ok(Unary::Group(Phase::Plain, keys, found))
         }
-    }
-}
-
-// Whether it is the final one of a grouping in two steps.
-fn is_final(unary: &Unary) -> bool
-    ensures { result ≡ is_final (unary_of unary.now) }
-{
-    match unary {
-        Unary::Group(Phase::Final, _, _) => true,
-        Unary::Group(Phase::Plain, _, _) | Unary::Group(Phase::Partial, _, _) => false,
-        Unary::Select(_) | Unary::Project(_) | Unary::Distinct(_) | Unary::Sort(_) => false,
     }
 }
 
@@ -101,7 +96,7 @@ fn erased_input(
     Ok((Box::new(alloc, below)?, next))
 }
 
-// The nodes that are neither exchanges nor final groupings, numbered in preorder from here, and the number after the last.
+// The nodes that are neither exchanges nor final groups, numbered in preorder from here, and the number after the last.
 #[cycle(nodes)]
 fn erased_from(alloc: Global, number: u32, node: &TypedNode) -> Result<(TypedNode, u32), AllocError>
     requires { number + nodes (plan_of node.now) < 2 ^ 32 }
@@ -115,12 +110,10 @@ fn erased_from(alloc: Global, number: u32, node: &TypedNode) -> Result<(TypedNod
             let scan = erased_scan(alloc, scan)?;
             Ok((TypedNode::Scan(head, scan), number + 1))
         }
+        TypedNode::Unary(_, unary, input) if is_final(unary) => erased_from(alloc, number, input),
         TypedNode::Unary(head, unary, input) => {
-            if is_final(unary) {
-                return erased_from(alloc, number, input);
-            }
             let head = erased_head(alloc, number, head)?;
-            let unary = copied_at_once(alloc, unary)?;
+            let unary = copied_unary(alloc, unary)?;
             let (below, next) = erased_input(alloc, number + 1, input)?;
             Ok((TypedNode::Unary(head, unary, below), next))
         }
@@ -135,9 +128,8 @@ fn erased_from(alloc: Global, number: u32, node: &TypedNode) -> Result<(TypedNod
     }
 }
 
-/// The plan with every exchange and every final grouping replaced by its input, every partial grouping made of all rows at
-/// once, every scan whole and of one worker, every claim one stream without order and keys, and not total. Nodes are
-/// numbered anew; declared sizes and ranges stay.
+/// The plan with every exchange replaced by its input, every group in two phases made one over the input of its partial, every scan whole and of one worker, every claim one stream
+/// without order and keys, and not total. Nodes are numbered anew; declared sizes and ranges stay.
 pub fn erase(alloc: Global, typed: &TypedPlan) -> Result<TypedPlan, PlanFault>
     ensures plan { IfOk result (λ p. plan p ≡ erase (plan typed.now)) }
     ensures names { IfOk result (λ p. names_in p ≡ names_in typed.now) }

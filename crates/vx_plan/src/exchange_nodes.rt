@@ -61,6 +61,7 @@ fn kind_found(
             Ok(ExchangeKind::Broadcast(size))
         }
         NamedKind::Gather => Ok(ExchangeKind::Gather),
+        NamedKind::Concat => Ok(ExchangeKind::Concat),
     }
 }
 
@@ -74,7 +75,8 @@ fn kind_once(alloc: Global, node: u32, kind: &NamedKind) -> Result<(), PlanFault
         NamedKind::Range { .. }
         | NamedKind::Round(_)
         | NamedKind::Broadcast(_)
-        | NamedKind::Gather => Ok(()),
+        | NamedKind::Gather
+        | NamedKind::Concat => Ok(()),
     }
 }
 

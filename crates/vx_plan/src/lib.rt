@@ -9,6 +9,7 @@ mod exchange_nodes;
 mod fits;
 mod lookup;
 mod nodes;
+mod phases;
 mod resolving;
 mod unary_nodes;
 
@@ -16,6 +17,6 @@ pub use erasing::erase;
 pub use resolving::resolve;
 pub use vx_plan_json::{Plan, PlanFault, Test, to_json};
 pub use vx_plan_nodes::{
-    Aggregate, Binary, Claim, Columns, Condition, Exchange, ExchangeKind, Head, Part, Projected,
-    Route, Router, ScanNode, Side, Size, TypedNode, TypedPlan, Unary, copied_conditions,
+    Aggregate, Binary, Claim, Columns, Condition, Exchange, ExchangeKind, Head, Part, Phase,
+    Projected, Route, Router, ScanNode, Side, Size, TypedNode, TypedPlan, Unary, copied_conditions,
 };

@@ -3,26 +3,19 @@
 ghost use Rattle.std.specs.Prelude.{◌≡◌, ◌+◌, ◌<◌, ◌^◌, map, string_bytes, IfOk};
 ghost use Rattle.vx_plan_json.specs.Fault.{Gives};
 ghost use Rattle.vx_plan_json.specs.Document.{claim_form, scan_form, unary_form, binary_form, kind_form, tree_of, tree_nodes};
-ghost use Rattle.vx_plan_nodes.specs.Outline.{outline_of, columns_of, columns};
-ghost use Rattle.vx_plan.specs.Resolve.{scan_typed, unary_typed, binary_typed, exchange_typed, typed_in};
+ghost use Rattle.vx_plan_nodes.specs.Outline.{outline_of};
+ghost use Rattle.vx_plan.specs.Resolve.{is_final_form, scan_typed, unary_typed, binary_typed, exchange_typed, typed_in};
 ghost use Rattle.vx_plan.specs.Named.{names_of};
 
 use crate::binary_nodes::{Joint, binary_shape};
 use crate::claims::topped;
-use crate::columns::{copied, scanned};
+use crate::columns::{columns, copied, scanned};
 use crate::exchange_nodes::{exchange_shape, relation_found};
 use crate::lookup::{Declared, size_found};
 use crate::unary_nodes::{Shape, unary_shape};
 use std::alloc::Global;
 use vx_plan_json::{NamedBinary, NamedClaim, NamedKind, NamedScan, NamedUnary, Node, PlanFault};
-use vx_plan_nodes::{Columns, ScanNode, TypedNode};
-
-// The columns of a node's output.
-fn columns(node: &TypedNode) -> &Columns
-    ensures { columns_of result.now ≡ columns (outline_of node.now) }
-{
-    &node.head().columns
-}
+use vx_plan_nodes::{ScanNode, TypedNode};
 
 #[tactic(auto, unfolding(crate::specs::Resolve::scan_typed))]
 fn scan_typed(
@@ -54,14 +47,15 @@ fn scan_typed(
 fn unary_typed(
     alloc: Global,
     declared: &Declared<'_>,
+    under: bool,
     node: u32,
     claim: &NamedClaim,
     unary: &NamedUnary,
     input: TypedNode,
 ) -> Result<TypedNode, PlanFault>
-    ensures { Gives outline_of result (unary_typed (names_of declared.now) node (claim_form claim.now) (unary_form unary.now) (outline_of input)) }
+    ensures { Gives outline_of result (unary_typed (names_of declared.now) under node (claim_form claim.now) (unary_form unary.now) (outline_of input)) }
 {
-    let shape = unary_shape(alloc, node, columns(&input), unary)?;
+    let shape = unary_shape(alloc, under, node, &input, unary)?;
     let Shape { unary, columns } = shape;
     let head = topped(alloc, declared, node, columns, claim)?;
     Ok(TypedNode::Unary(head, unary, Box::new(alloc, input)?))
@@ -108,16 +102,32 @@ fn exchange_typed(
     Ok(TypedNode::Exchange(head, exchange, Box::new(alloc, input)?))
 }
 
-/// The typed nodes of a tree whose top has this number, and the number after its last.
+fn is_final(unary: &NamedUnary) -> bool
+    ensures { result ≡ is_final_form (unary_form unary.now) }
+{
+    match unary {
+        NamedUnary::FinalGroup => true,
+        NamedUnary::Select(_)
+        | NamedUnary::Project(_)
+        | NamedUnary::Distinct(_)
+        | NamedUnary::Sort(_)
+        | NamedUnary::Group(_, _)
+        | NamedUnary::PartialGroup(_, _) => false,
+    }
+}
+
+/// The typed nodes of a tree whose top has this number, and the number after its last. The flag says whether the way up from
+/// here through exchanges alone reaches a final group.
 #[tactic(auto, unfolding(crate::specs::Resolve::typed_in))]
 pub fn typed_in(
     alloc: Global,
     declared: &Declared<'_>,
+    under: bool,
     number: u32,
     tree: &Node,
 ) -> Result<(TypedNode, u32), PlanFault>
     requires { number + tree_nodes (tree_of tree.now) < 2 ^ 32 }
-    ensures value { Gives (λ r. (outline_of r.0, r.1)) result (typed_in (names_of declared.now) number (tree_of tree.now)) }
+    ensures value { Gives (λ r. (outline_of r.0, r.1)) result (typed_in (names_of declared.now) under number (tree_of tree.now)) }
     ensures count { IfOk result (λ r. r.1 ≡ number + tree_nodes (tree_of tree.now)) }
 {
     match tree {
@@ -126,18 +136,18 @@ pub fn typed_in(
             Ok((node, number + 1))
         }
         Node::Unary(claim, unary, input) => {
-            let (below, next) = typed_in(alloc, declared, number + 1, input)?;
-            let node = unary_typed(alloc, declared, number, claim, unary, below)?;
+            let (below, next) = typed_in(alloc, declared, is_final(unary), number + 1, input)?;
+            let node = unary_typed(alloc, declared, under, number, claim, unary, below)?;
             Ok((node, next))
         }
         Node::Binary(claim, binary, left, right) => {
-            let (first, between) = typed_in(alloc, declared, number + 1, left)?;
-            let (second, next) = typed_in(alloc, declared, between, right)?;
+            let (first, between) = typed_in(alloc, declared, false, number + 1, left)?;
+            let (second, next) = typed_in(alloc, declared, false, between, right)?;
             let node = binary_typed(alloc, declared, number, claim, binary, first, second)?;
             Ok((node, next))
         }
         Node::Exchange(claim, kind, merge, input) => {
-            let (below, next) = typed_in(alloc, declared, number + 1, input)?;
+            let (below, next) = typed_in(alloc, declared, under, number + 1, input)?;
             let merge = merge.as_slice();
             let node = exchange_typed(alloc, declared, number, claim, kind, merge, below)?;
             Ok((node, next))

@@ -107,8 +107,9 @@ pub fn copied_ranges(alloc: Global, ranges: &[NamedRange]) -> Result<Vec<NamedRa
 
 /// The typed plan of a plan over a catalog: column positions, types, and preorder numbers of nodes, the left input
 /// before the right one. The refusal is the first: the sizes' `BadSize`, the ranges' `BadRange`, then the nodes in
-/// post-order. At a node the tests of its operator come before those of its claim, each in the order
-/// `UnknownRelation`, `BadSize`, `UnknownRange`, `UnknownColumn`, `DuplicateColumn`, `TooWide`, `TypeMismatch`.
+/// post-order. At a node `PhaseMismatch` comes first: of a final group over no partial one, and of a partial group from which
+/// no way up through exchanges alone leads to a final one. Then the tests of its operator come before those of its claim,
+/// each in the order `UnknownRelation`, `BadSize`, `UnknownRange`, `UnknownColumn`, `DuplicateColumn`, `TooWide`, `TypeMismatch`.
 #[tactic(auto, unfolding(crate::specs::Resolve::resolved))]
 pub fn resolve(alloc: Global, plan: &Plan, catalog: &Catalog) -> Result<TypedPlan, PlanFault>
     ensures { Gives resolved_of result (resolved (document_of plan.now) catalog.now) }
@@ -120,7 +121,7 @@ pub fn resolve(alloc: Global, plan: &Plan, catalog: &Catalog) -> Result<TypedPla
     };
     sizes_tested(alloc, declared.sizes)?;
     ranges_tested(alloc, declared.ranges)?;
-    let (root, _) = typed_in(alloc, &declared, 0, plan.root())?;
+    let (root, _) = typed_in(alloc, &declared, false, 0, plan.root())?;
     let _relations = catalog.len();
     let own = catalog.copy(alloc)?;
     let sizes = copied_names(alloc, declared.sizes)?;

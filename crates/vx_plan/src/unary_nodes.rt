@@ -3,18 +3,19 @@
 ghost use Rattle.std.specs.Prelude.{◌≡◌, map, string_bytes, IfOk};
 ghost use Rattle.vx_plan_json.specs.Fault.{Gives};
 ghost use Rattle.vx_plan_json.specs.Document.{side_form, condition_form, output_form, function_form, aggregate_form, unary_form};
-ghost use Rattle.vx_plan_nodes.specs.Outline.{side_of, condition_of, aggregate_of, columns_of};
-ghost use Rattle.vx_plan.specs.Resolve.{side_found, condition_found, conditions_found, select_shape, output_name, kept_found, all_kept_found, kept_shape, project_shape, distinct_shape, sort_shape, function_found, aggregates_found, group_found, group_tested, group_shape, unary_shape};
+ghost use Rattle.vx_plan_nodes.specs.Outline.{side_of, condition_of, aggregate_of, phase_of, columns_of, columns, outline_of};
+ghost use Rattle.vx_plan.specs.Resolve.{side_found, condition_found, conditions_found, select_shape, output_name, kept_found, all_kept_found, kept_shape, project_shape, distinct_shape, sort_shape, function_found, aggregates_found, group_found, group_tested, group_shape, partial_shape, parts_of, final_shape, unary_shape};
 ghost use Rattle.vx_plan.specs.Shaped.{shape_of};
 
-use crate::columns::{copied, group_names, group_types, kept_types, output_names};
+use crate::columns::{columns, copied, group_names, group_types, kept_types, output_names};
 use crate::fits::{are_aggregates, are_conditions};
 use crate::lookup::{column_found, columns_found, matched, narrow, once};
+use crate::phases::{finished, first_columns, merged, parts_of};
 use std::alloc::Global;
 use vx_plan_json::{
     NamedAggregate, NamedCondition, NamedFunction, NamedOutput, NamedSide, NamedUnary, PlanFault,
 };
-use vx_plan_nodes::{Aggregate, Columns, Condition, Phase, Projected, Side, Unary};
+use vx_plan_nodes::{Aggregate, Columns, Condition, Phase, Projected, Side, TypedNode, Unary};
 use vx_rows::ColType;
 
 /// An operator over one input, and its output.
@@ -277,12 +278,13 @@ fn group_tested(
 #[tactic(auto, unfolding(crate::specs::Resolve::group_shape))]
 fn group_shape(
     alloc: Global,
+    phase: Phase,
     node: u32,
     input: &Columns,
     by: &[String],
     aggregates: &[NamedAggregate],
 ) -> Result<Shape, PlanFault>
-    ensures { Gives shape_of result (group_shape node (columns_of input.now) (map string_bytes by.now) (map aggregate_form aggregates.now)) }
+    ensures { Gives shape_of result (group_shape (phase_of phase) node (columns_of input.now) (map string_bytes by.now) (map aggregate_form aggregates.now)) }
 {
     let (keys, found) = group_found(alloc, node, input.names.as_slice(), by, aggregates)?;
     let names = group_names(alloc, by, aggregates)?;
@@ -300,28 +302,69 @@ fn group_shape(
         found.as_slice(),
     )?;
     Ok(Shape {
-        unary: Unary::Group(Phase::Plain, keys, found),
+        unary: Unary::Group(phase, keys, found),
         columns: Columns { names, types },
     })
 }
 
-/// An operator by positions, and its output.
+#[tactic(auto, unfolding(crate::specs::Resolve::partial_shape))]
+fn partial_shape(
+    alloc: Global,
+    under: bool,
+    node: u32,
+    input: &Columns,
+    by: &[String],
+    aggregates: &[NamedAggregate],
+) -> Result<Shape, PlanFault>
+    ensures { Gives shape_of result (partial_shape under node (columns_of input.now) (map string_bytes by.now) (map aggregate_form aggregates.now)) }
+{
+    finished(node, under)?;
+    group_shape(alloc, Phase::Partial, node, input, by, aggregates)
+}
+
+// A final group puts together what the partial one below it gives, and has its columns.
+#[tactic(auto, unfolding(crate::specs::Resolve::final_shape))]
+fn final_shape(alloc: Global, node: u32, input: &TypedNode) -> Result<Shape, PlanFault>
+    ensures { Gives shape_of result (final_shape node (columns (outline_of input.now)) (parts_of (outline_of input.now))) }
+{
+    let Some((by, aggregates)) = parts_of(input) else {
+        return Err(PlanFault::PhaseMismatch { node });
+    };
+    let keys = first_columns(alloc, by.len())?;
+    let found = merged(alloc, by.len(), aggregates)?;
+    let columns = copied(alloc, columns(input))?;
+    Ok(Shape {
+        unary: Unary::Group(Phase::Final, keys, found),
+        columns,
+    })
+}
+
+/// An operator by positions, and its output. Whether the way up through exchanges alone reaches a final group decides for a
+/// partial one.
 #[tactic(auto, unfolding(crate::specs::Resolve::unary_shape))]
 pub fn unary_shape(
     alloc: Global,
+    under: bool,
     node: u32,
-    input: &Columns,
+    input: &TypedNode,
     unary: &NamedUnary,
 ) -> Result<Shape, PlanFault>
-    ensures { Gives shape_of result (unary_shape node (columns_of input.now) (unary_form unary.now)) }
+    ensures { Gives shape_of result (unary_shape under node (outline_of input.now) (unary_form unary.now)) }
 {
+    let columns = columns(input);
     match unary {
-        NamedUnary::Select(conditions) => select_shape(alloc, node, input, conditions.as_slice()),
-        NamedUnary::Project(outputs) => project_shape(alloc, node, input, outputs.as_slice()),
-        NamedUnary::Distinct(outputs) => distinct_shape(alloc, node, input, outputs.as_slice()),
-        NamedUnary::Sort(names) => sort_shape(alloc, node, input, names.as_slice()),
+        NamedUnary::Select(conditions) => select_shape(alloc, node, columns, conditions.as_slice()),
+        NamedUnary::Project(outputs) => project_shape(alloc, node, columns, outputs.as_slice()),
+        NamedUnary::Distinct(outputs) => distinct_shape(alloc, node, columns, outputs.as_slice()),
+        NamedUnary::Sort(names) => sort_shape(alloc, node, columns, names.as_slice()),
         NamedUnary::Group(by, aggregates) => {
-            group_shape(alloc, node, input, by.as_slice(), aggregates.as_slice())
+            let (by, aggregates) = (by.as_slice(), aggregates.as_slice());
+            group_shape(alloc, Phase::Plain, node, columns, by, aggregates)
         }
+        NamedUnary::PartialGroup(by, aggregates) => {
+            let (by, aggregates) = (by.as_slice(), aggregates.as_slice());
+            partial_shape(alloc, under, node, columns, by, aggregates)
+        }
+        NamedUnary::FinalGroup => final_shape(alloc, node, input),
     }
 }

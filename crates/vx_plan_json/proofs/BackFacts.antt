@@ -11,11 +11,11 @@ use Rattle.vx_values.specs.Test as comparison
 use Rattle.vx_json.specs.Look.{name_in, each_onto}
 use Rattle.vx_plan_json.specs.Look.{name_at, text_at, value_in, each_in, some_in}
 use Rattle.vx_values.specs.Lists.{is_some_list}
-use Rattle.vx_plan_json.specs.Document.{PartForm, one, any, all, hash_part, range_part, ClaimForm, SideForm, column, constant, ConditionForm, OutputForm, FunctionForm, least, greatest, sum, count_rows, AggregateForm, ScanForm, UnaryForm, select, project, distinct, sort, group, BinaryForm, union, join, KindForm, hash, range, round, broadcast, gather, Tree, scan, unary, binary, exchange, Document, tree_nodes, tree_levels}
+use Rattle.vx_plan_json.specs.Document.{PartForm, one, any, all, hash_part, range_part, ClaimForm, SideForm, column, constant, ConditionForm, OutputForm, FunctionForm, least, greatest, sum, count_rows, AggregateForm, ScanForm, UnaryForm, select, project, distinct, sort, group, partial_group, final_group, BinaryForm, union, join, KindForm, hash, range, round, broadcast, gather, concat, Tree, scan, unary, binary, exchange, Document, tree_nodes, tree_levels}
 use Rattle.vx_values.specs.Ranges.{RangeForm}
 use Rattle.vx_plan_json.specs.Form.{names_in, some_names_in, hash_part_in, range_part_in, part_in, keys_in, claim_in, claimed, test_named, side_in, condition_in, renamed_in, output_in, function_at, aggregate_in, pair_in}
-use Rattle.vx_plan_json.specs.Formed.{are_names, are_some_names, is_range_form, is_head_form, is_part_form, is_claim_form, is_side_form, is_condition_form, is_new_name, is_output_form, is_function_form, is_aggregate_form, is_scan_form, is_unary_form, is_pair_form, is_binary_form, is_kind_form, is_tree_form}
-use Rattle.vx_plan_json.specs.Operators.{own_scan, own_unary, own_binary, own_exchange, own_in, scan_in, scan_own, select_in, outputs_in, sort_in, group_in, unary_in, unary_own, join_in, union_in, hash_in, range_in, sized_in, gather_in, kind_in, exchange_own}
+use Rattle.vx_plan_json.specs.Formed.{are_names, are_some_names, is_range_form, is_head_form, is_part_form, is_claim_form, is_side_form, is_condition_form, is_new_name, is_output_form, is_function_form, is_aggregate_form, is_scan_form, is_unary_form, is_pair_form, is_binary_form, is_kind_form, is_merge_form, is_tree_form}
+use Rattle.vx_plan_json.specs.Operators.{own_scan, own_unary, own_binary, own_exchange, own_in, scan_in, scan_own, select_in, outputs_in, sort_in, lists_in, group_in, partial_in, final_in, phased_in, unary_in, unary_own, join_in, union_in, hash_in, range_in, sized_in, gather_in, concat_in, kind_in, merge_in, exchange_own}
 use Rattle.vx_plan_json.specs.Reading.{node_in, declared_in, head_of, head_in, document_in}
 use Rattle.vx_plan_json.specs.Written.{list_json, names_json, value_json, with_some, with_text, range_json, part_json, with_part, claim_members, with_object, with_claim, with_side, condition_json, output_json, with_function, aggregate_json, pair_json, with_scan, with_unary, with_binary, with_kind, scan_json, unary_json, binary_json, exchange_json, node_json, with_total, document_json}
 use Rattle.vx_plan_json.proofs.Holds.{and-left, and-right}
@@ -197,7 +197,7 @@ scan-back c s h k =
     (λ e c g. scan_claimed e c g s.relation s.shared s.size s.prefix r z) c h
 
 unary_bare : (op : UnaryForm) (d : Data) → is_unary_form op ≡ true → own_in (object (put (codes "input") d (with_unary op no_members))) ≡ Some (own_unary bare op d)
-unfolding own_in text_at unary_own unary_in select_in outputs_in sort_in group_in claimed
+unfolding own_in text_at unary_own unary_in select_in outputs_in sort_in lists_in group_in partial_in final_in phased_in claimed
 unary_bare (select cs) d h = rw (some-back is_condition_form condition_in condition_json condition-back cs h) refl
 unary_bare (project os) d h = rw (some-back is_output_form output_in output_json output-back os h) refl
 unary_bare (distinct os) d h = rw (some-back is_output_form output_in output_json output-back os h) refl
@@ -205,10 +205,14 @@ unary_bare (sort cols) d h = rw (some_names-back cols h) refl
 unary_bare (group [] []) d h = cc
 unary_bare (group [] (a ∷ as')) d h = rw (names-back [] refl, list-back is_aggregate_form aggregate_in aggregate_json aggregate-back (a ∷ as') h) refl
 unary_bare (group (n ∷ ns) as') d h = rw (names-back (n ∷ ns) (and-left (are_names (n ∷ ns)) (list_all is_aggregate_form as') h), list-back is_aggregate_form aggregate_in aggregate_json aggregate-back as' (and-right (are_names (n ∷ ns)) (list_all is_aggregate_form as') h)) refl
+unary_bare (partial_group [] []) d h = cc
+unary_bare (partial_group [] (a ∷ as')) d h = rw (names-back [] refl, list-back is_aggregate_form aggregate_in aggregate_json aggregate-back (a ∷ as') h) refl
+unary_bare (partial_group (n ∷ ns) as') d h = rw (names-back (n ∷ ns) (and-left (are_names (n ∷ ns)) (list_all is_aggregate_form as') h), list-back is_aggregate_form aggregate_in aggregate_json aggregate-back as' (and-right (are_names (n ∷ ns)) (list_all is_aggregate_form as') h)) refl
+unary_bare final_group d h = refl
 
 unary_claimed : (e : Data) (c : ClaimForm) → claim_in e ≡ Some c → (op : UnaryForm) (d : Data) → is_unary_form op ≡ true
     → own_in (object (put (codes "input") d (with_unary op (member (codes "claim") e no_members)))) ≡ Some (own_unary c op d)
-unfolding own_in text_at unary_own unary_in select_in outputs_in sort_in group_in claimed
+unfolding own_in text_at unary_own unary_in select_in outputs_in sort_in lists_in group_in partial_in final_in phased_in claimed
 unary_claimed e c g (select cs) d h = rw (g, some-back is_condition_form condition_in condition_json condition-back cs h) refl
 unary_claimed e c g (project os) d h = rw (g, some-back is_output_form output_in output_json output-back os h) refl
 unary_claimed e c g (distinct os) d h = rw (g, some-back is_output_form output_in output_json output-back os h) refl
@@ -216,6 +220,10 @@ unary_claimed e c g (sort cols) d h = rw (g, some_names-back cols h) refl
 unary_claimed e c g (group [] []) d h = cc
 unary_claimed e c g (group [] (a ∷ as')) d h = rw (g, names-back [] refl, list-back is_aggregate_form aggregate_in aggregate_json aggregate-back (a ∷ as') h) refl
 unary_claimed e c g (group (n ∷ ns) as') d h = rw (g, names-back (n ∷ ns) (and-left (are_names (n ∷ ns)) (list_all is_aggregate_form as') h), list-back is_aggregate_form aggregate_in aggregate_json aggregate-back as' (and-right (are_names (n ∷ ns)) (list_all is_aggregate_form as') h)) refl
+unary_claimed e c g (partial_group [] []) d h = cc
+unary_claimed e c g (partial_group [] (a ∷ as')) d h = rw (g, names-back [] refl, list-back is_aggregate_form aggregate_in aggregate_json aggregate-back (a ∷ as') h) refl
+unary_claimed e c g (partial_group (n ∷ ns) as') d h = rw (g, names-back (n ∷ ns) (and-left (are_names (n ∷ ns)) (list_all is_aggregate_form as') h), list-back is_aggregate_form aggregate_in aggregate_json aggregate-back as' (and-right (are_names (n ∷ ns)) (list_all is_aggregate_form as') h)) refl
+unary_claimed e c g final_group d h = rw g refl
 
 unary-back : (c : ClaimForm) (op : UnaryForm) (d : Data) → is_claim_form c ≡ true → is_unary_form op ≡ true → own_in (unary_json c op d) ≡ Some (own_unary c op d)
 unary-back c op d h k =
@@ -238,9 +246,9 @@ binary-back : (c : ClaimForm) (op : BinaryForm) (d f : Data) → is_claim_form c
 binary-back c op d f h k =
     by_claim (λ ms c. own_in (object (put (codes "right") f (put (codes "left") d (with_binary op ms)))) ≡ Some (own_binary c op d f)) (binary_bare op d f k) (λ e c g. binary_claimed e c g op d f k) c h
 
-exchange_bare : (k : KindForm) (m : List Name) (d : Data) → is_kind_form k ≡ true → are_names m ≡ true
+exchange_bare : (k : KindForm) (m : List Name) (d : Data) → is_kind_form k ≡ true → is_merge_form k m ≡ true
     → own_in (object (put (codes "input") d (with_some (codes "merge") string m (with_kind k (with_text (codes "op") (codes "exchange") no_members))))) ≡ Some (own_exchange bare k m d)
-unfolding own_in text_at name_at exchange_own kind_in hash_in range_in sized_in gather_in claimed
+unfolding own_in text_at name_at exchange_own kind_in hash_in range_in sized_in gather_in concat_in merge_in claimed
 exchange_bare (hash z r cols) [] d h k = rw (name-back z (and-left (is_some_list z) (is_some_list r && are_some_names cols) h), name-back r (and-left (is_some_list r) (are_some_names cols) (and-right (is_some_list z) (is_some_list r && are_some_names cols) h)), some_names-back cols (and-right (is_some_list r) (are_some_names cols) (and-right (is_some_list z) (is_some_list r && are_some_names cols) h))) refl
 exchange_bare (hash z r cols) (x ∷ xs) d h k = rw (name-back z (and-left (is_some_list z) (is_some_list r && are_some_names cols) h), name-back r (and-left (is_some_list r) (are_some_names cols) (and-right (is_some_list z) (is_some_list r && are_some_names cols) h)), some_names-back cols (and-right (is_some_list r) (are_some_names cols) (and-right (is_some_list z) (is_some_list r && are_some_names cols) h)), some_names-back (x ∷ xs) k) refl
 exchange_bare (range z n col) [] d h k = rw (name-back z (and-left (is_some_list z) (is_some_list n && is_some_list col) h), name-back n (and-left (is_some_list n) (is_some_list col) (and-right (is_some_list z) (is_some_list n && is_some_list col) h)), name-back col (and-right (is_some_list n) (is_some_list col) (and-right (is_some_list z) (is_some_list n && is_some_list col) h))) refl
@@ -251,10 +259,12 @@ exchange_bare (broadcast z) [] d h k = rw (name-back z h) refl
 exchange_bare (broadcast z) (x ∷ xs) d h k = rw (name-back z h, some_names-back (x ∷ xs) k) refl
 exchange_bare gather [] d h k = refl
 exchange_bare gather (x ∷ xs) d h k = rw (some_names-back (x ∷ xs) k) refl
+exchange_bare concat [] d h k = refl
+exchange_bare concat (x ∷ xs) d h k = cc
 
-exchange_claimed : (e : Data) (c : ClaimForm) → claim_in e ≡ Some c → (k : KindForm) (m : List Name) (d : Data) → is_kind_form k ≡ true → are_names m ≡ true
+exchange_claimed : (e : Data) (c : ClaimForm) → claim_in e ≡ Some c → (k : KindForm) (m : List Name) (d : Data) → is_kind_form k ≡ true → is_merge_form k m ≡ true
     → own_in (object (put (codes "input") d (with_some (codes "merge") string m (with_kind k (with_text (codes "op") (codes "exchange") (member (codes "claim") e no_members)))))) ≡ Some (own_exchange c k m d)
-unfolding own_in text_at name_at exchange_own kind_in hash_in range_in sized_in gather_in claimed
+unfolding own_in text_at name_at exchange_own kind_in hash_in range_in sized_in gather_in concat_in merge_in claimed
 exchange_claimed e c g (hash z r cols) [] d h k = rw (g, name-back z (and-left (is_some_list z) (is_some_list r && are_some_names cols) h), name-back r (and-left (is_some_list r) (are_some_names cols) (and-right (is_some_list z) (is_some_list r && are_some_names cols) h)), some_names-back cols (and-right (is_some_list r) (are_some_names cols) (and-right (is_some_list z) (is_some_list r && are_some_names cols) h))) refl
 exchange_claimed e c g (hash z r cols) (x ∷ xs) d h k = rw (g, name-back z (and-left (is_some_list z) (is_some_list r && are_some_names cols) h), name-back r (and-left (is_some_list r) (are_some_names cols) (and-right (is_some_list z) (is_some_list r && are_some_names cols) h)), some_names-back cols (and-right (is_some_list r) (are_some_names cols) (and-right (is_some_list z) (is_some_list r && are_some_names cols) h)), some_names-back (x ∷ xs) k) refl
 exchange_claimed e c g (range z n col) [] d h k = rw (g, name-back z (and-left (is_some_list z) (is_some_list n && is_some_list col) h), name-back n (and-left (is_some_list n) (is_some_list col) (and-right (is_some_list z) (is_some_list n && is_some_list col) h)), name-back col (and-right (is_some_list n) (is_some_list col) (and-right (is_some_list z) (is_some_list n && is_some_list col) h))) refl
@@ -265,8 +275,10 @@ exchange_claimed e c g (broadcast z) [] d h k = rw (g, name-back z h) refl
 exchange_claimed e c g (broadcast z) (x ∷ xs) d h k = rw (g, name-back z h, some_names-back (x ∷ xs) k) refl
 exchange_claimed e c g gather [] d h k = rw (g) refl
 exchange_claimed e c g gather (x ∷ xs) d h k = rw (g, some_names-back (x ∷ xs) k) refl
+exchange_claimed e c g concat [] d h k = rw (g) refl
+exchange_claimed e c g concat (x ∷ xs) d h k = cc
 
-exchange-back : (c : ClaimForm) (k : KindForm) (m : List Name) (d : Data) → is_claim_form c ≡ true → is_kind_form k ≡ true → are_names m ≡ true → own_in (exchange_json c k m d) ≡ Some (own_exchange c k m d)
+exchange-back : (c : ClaimForm) (k : KindForm) (m : List Name) (d : Data) → is_claim_form c ≡ true → is_kind_form k ≡ true → is_merge_form k m ≡ true → own_in (exchange_json c k m d) ≡ Some (own_exchange c k m d)
 exchange-back c k m d h i j =
     by_claim (λ ms c. own_in (object (put (codes "input") d (with_some (codes "merge") string m (with_kind k (with_text (codes "op") (codes "exchange") ms))))) ≡ Some (own_exchange c k m d))
     (exchange_bare k m d i j) (λ e c g. exchange_claimed e c g k m d i j) c h
@@ -295,11 +307,11 @@ node-back levels seen path (binary c op t u) h low few =
     let count : seen + 1 + tree_nodes t + tree_nodes u ≡ seen + suc (tree_nodes t + tree_nodes u) = omega arith in
     rw (step, first, second) (ap (λ n. Ok (binary c op t u, n)) count)
 node-back levels seen path (exchange c k m t) h low few =
-    let rest = and-right (is_claim_form c) (is_kind_form k && (are_names m && is_tree_form t)) h in
-    let last = and-right (is_kind_form k) (are_names m && is_tree_form t) rest in
-    let own = exchange-back c k m (node_json t) (and-left (is_claim_form c) (is_kind_form k && (are_names m && is_tree_form t)) h) (and-left (is_kind_form k) (are_names m && is_tree_form t) rest) (and-left (are_names m) (is_tree_form t) last) in
+    let rest = and-right (is_claim_form c) (is_kind_form k && (is_merge_form k m && is_tree_form t)) h in
+    let last = and-right (is_kind_form k) (is_merge_form k m && is_tree_form t) rest in
+    let own = exchange-back c k m (node_json t) (and-left (is_claim_form c) (is_kind_form k && (is_merge_form k m && is_tree_form t)) h) (and-left (is_kind_form k) (is_merge_form k m && is_tree_form t) rest) (and-left (is_merge_form k m) (is_tree_form t) last) in
     let step = node_step levels seen path _ _ (omega (arith, low)) (omega (arith, few)) own in
-    let below = node-back (levels - 1) (seen + 1) (path ++ codes ".input") t (and-right (are_names m) (is_tree_form t) last) (omega (arith, low)) (omega (arith, few)) in
+    let below = node-back (levels - 1) (seen + 1) (path ++ codes ".input") t (and-right (is_merge_form k m) (is_tree_form t) last) (omega (arith, low)) (omega (arith, few)) in
     let count : seen + 1 + tree_nodes t ≡ seen + suc (tree_nodes t) = omega arith in
     rw (step, below) (ap (λ n. Ok (exchange c k m t, n)) count)
 

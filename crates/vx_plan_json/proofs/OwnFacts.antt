@@ -8,11 +8,11 @@ use Rattle.vx_plan_json.specs.Look.{name_at, text_at, each_in, some_in, or_defau
 use Rattle.vx_values.specs.Lists.{is_some_list}
 use Rattle.vx_plan_json.specs.Fault.{Refusal, too_deep, ◌>>=◌}
 use Rattle.vx_values.specs.Values.{Name}
-use Rattle.vx_plan_json.specs.Document.{AggregateForm, select, project, distinct, sort, BinaryForm, union, join, hash, range, round, broadcast, gather, Tree, unary, binary, exchange}
+use Rattle.vx_plan_json.specs.Document.{AggregateForm, select, project, distinct, sort, group, partial_group, final_group, BinaryForm, union, join, hash, range, round, broadcast, gather, concat, KindForm, Tree, unary, binary, exchange}
 use Rattle.vx_plan_json.specs.Form.{names_in, some_names_in, claimed, condition_in, output_in, aggregate_in, pair_in}
-use Rattle.vx_plan_json.specs.Operators.{OwnForm, own_scan, own_unary, own_binary, own_exchange, mode_named, scan_in, scan_own, select_in, outputs_in, sort_in, group_or, group_in, unary_in, unary_own, method_named, join_in, union_in, binary_own, hash_in, range_in, sized_in, gather_in, kind_in, exchange_own, own_named, own_in}
+use Rattle.vx_plan_json.specs.Operators.{OwnForm, own_scan, own_unary, own_binary, own_exchange, mode_named, scan_in, scan_own, select_in, outputs_in, sort_in, group_or, lists_in, group_in, partial_in, final_in, phase_named, group_by, phased_in, unary_in, unary_own, method_named, join_in, union_in, binary_own, hash_in, range_in, sized_in, gather_in, concat_in, kind_in, merge_in, merge_by, exchange_own, own_named, own_in}
 use Rattle.vx_plan_json.specs.Reading.{node_in, with_inputs}
-use Rattle.vx_plan_json.specs.Formed.{are_names, are_some_names, is_claim_form, is_condition_form, is_output_form, is_aggregate_form, is_scan_form, is_unary_form, is_pair_form, is_binary_form, is_kind_form, is_tree_form}
+use Rattle.vx_plan_json.specs.Formed.{are_names, are_some_names, is_claim_form, is_condition_form, is_output_form, is_aggregate_form, is_scan_form, is_group_form, is_unary_form, is_pair_form, is_binary_form, is_kind_form, is_merge_form, is_tree_form}
 use Rattle.vx_plan_json.proofs.Holds.{and-left, and-right, and-both, Within, within_then, within_any, within_map, within_if, Holds, holds_then}
 use Rattle.vx_plan_json.proofs.FormedFacts.{name_at-some, each_within, some_within, names_within, some_names_within, claimed-within, condition-within, output-within, aggregate-within, pair-within}
 
@@ -21,7 +21,7 @@ is_own_form : OwnForm → Bool
 is_own_form (own_scan c s) = is_claim_form c && is_scan_form s
 is_own_form (own_unary c op d) = is_claim_form c && is_unary_form op
 is_own_form (own_binary c op d e) = is_claim_form c && is_binary_form op
-is_own_form (own_exchange c k m d) = is_claim_form c && (is_kind_form k && are_names m)
+is_own_form (own_exchange c k m d) = is_claim_form c && (is_kind_form k && is_merge_form k m)
 
 scan_in-within : (d : Data) → Within is_scan_form (scan_in d)
 unfolding scan_in
@@ -63,20 +63,48 @@ sort-within d =
     within_if is_unary_form (has_only (codes "op" ∷ codes "columns" ∷ codes "input" ∷ codes "claim" ∷ []) d) _ None
     (within_map are_some_names is_unary_form sort (option_and_then some_names_in (get (codes "columns") d)) (within_any are_some_names some_names_in (get (codes "columns") d) some_names_within) (λ ns h. h)) tt
 
-group_or-within : (by : List Name) (aggregates : List AggregateForm) → are_names by ≡ true → list_all is_aggregate_form aggregates ≡ true → Within is_unary_form (group_or by aggregates)
+group_or-within : (by : List Name) (aggregates : List AggregateForm) → are_names by ≡ true → list_all is_aggregate_form aggregates ≡ true → Within (λ (g : List Name × List AggregateForm). is_group_form g.0 g.1) (group_or by aggregates)
 group_or-within [] [] h k = tt
 group_or-within [] (a ∷ as') h k = k
 group_or-within (n ∷ ns) as' h k = and-both (are_names (n ∷ ns)) (list_all is_aggregate_form as') h k
+
+lists-within : (d : Data) → Within (λ (g : List Name × List AggregateForm). is_group_form g.0 g.1) (lists_in d)
+unfolding lists_in
+lists-within d =
+    within_then are_names (λ (g : List Name × List AggregateForm). is_group_form g.0 g.1) (λ by. option_and_then (λ aggregates. group_or by aggregates) (option_and_then (each_in aggregate_in) (get (codes "aggregates") d))) (option_and_then names_in (get (codes "by") d))
+    (within_any are_names names_in (get (codes "by") d) names_within)
+    (λ by h. within_then (list_all is_aggregate_form) (λ (g : List Name × List AggregateForm). is_group_form g.0 g.1) (λ aggregates. group_or by aggregates) (option_and_then (each_in aggregate_in) (get (codes "aggregates") d))
+    (within_any (list_all is_aggregate_form) (each_in aggregate_in) (get (codes "aggregates") d) (each_within is_aggregate_form aggregate_in aggregate-within))
+    (λ aggregates k. group_or-within by aggregates h k))
 
 group-within : (d : Data) → Within is_unary_form (group_in d)
 unfolding group_in
 group-within d =
     within_if is_unary_form (has_only (codes "op" ∷ codes "by" ∷ codes "aggregates" ∷ codes "input" ∷ codes "claim" ∷ []) d) _ None
-    (within_then are_names is_unary_form (λ by. option_and_then (λ aggregates. group_or by aggregates) (option_and_then (each_in aggregate_in) (get (codes "aggregates") d))) (option_and_then names_in (get (codes "by") d))
-    (within_any are_names names_in (get (codes "by") d) names_within)
-    (λ by h. within_then (list_all is_aggregate_form) is_unary_form (λ aggregates. group_or by aggregates) (option_and_then (each_in aggregate_in) (get (codes "aggregates") d))
-    (within_any (list_all is_aggregate_form) (each_in aggregate_in) (get (codes "aggregates") d) (each_within is_aggregate_form aggregate_in aggregate-within))
-    (λ aggregates k. group_or-within by aggregates h k))) tt
+    (within_map (λ (g : List Name × List AggregateForm). is_group_form g.0 g.1) is_unary_form (λ (g : List Name × List AggregateForm). group g.0 g.1) (lists_in d) (lists-within d) (λ g h. h)) tt
+
+partial-within : (d : Data) → Within is_unary_form (partial_in d)
+unfolding partial_in
+partial-within d =
+    within_if is_unary_form (has_only (codes "op" ∷ codes "phase" ∷ codes "by" ∷ codes "aggregates" ∷ codes "input" ∷ codes "claim" ∷ []) d) _ None
+    (within_map (λ (g : List Name × List AggregateForm). is_group_form g.0 g.1) is_unary_form (λ (g : List Name × List AggregateForm). partial_group g.0 g.1) (lists_in d) (lists-within d) (λ g h. h)) tt
+
+final-within : (d : Data) → Within is_unary_form (final_in d)
+unfolding final_in
+final-within d = within_if is_unary_form (has_only (codes "op" ∷ codes "phase" ∷ codes "input" ∷ codes "claim" ∷ []) d) (Some final_group) None refl tt
+
+phase-within : (s : List ℕ) (d : Data) → Within is_unary_form (phase_named s d)
+phase-within s d =
+    within_if is_unary_form (bytes_eq s (codes "partial")) (partial_in d) _ (partial-within d)
+    (within_if is_unary_form (bytes_eq s (codes "final")) (final_in d) None (final-within d) tt)
+
+group_by-within : (o : Option Data) (d : Data) → Within is_unary_form (group_by o d)
+group_by-within None d = group-within d
+group_by-within (Some p) d = within_any is_unary_form (λ s. phase_named s d) (as_str p) (λ s. phase-within s d)
+
+phased-within : (d : Data) → Within is_unary_form (phased_in d)
+unfolding phased_in
+phased-within d = group_by-within (get (codes "phase") d) d
 
 unary-within : (s : List ℕ) (d : Data) → Within is_unary_form (unary_in s d)
 unfolding unary_in
@@ -85,7 +113,7 @@ unary-within s d =
     (within_if is_unary_form (bytes_eq s (codes "project")) (option_map project (outputs_in d)) _ (within_map (λ xs. is_some_list xs && list_all is_output_form xs) is_unary_form project (outputs_in d) (outputs-within d) (λ os h. h))
     (within_if is_unary_form (bytes_eq s (codes "distinct")) (option_map distinct (outputs_in d)) _ (within_map (λ xs. is_some_list xs && list_all is_output_form xs) is_unary_form distinct (outputs_in d) (outputs-within d) (λ os h. h))
     (within_if is_unary_form (bytes_eq s (codes "sort")) (sort_in d) _ (sort-within d)
-    (within_if is_unary_form (bytes_eq s (codes "group")) (group_in d) None (group-within d) tt))))
+    (within_if is_unary_form (bytes_eq s (codes "group")) (phased_in d) None (phased-within d) tt))))
 
 unary_own-within : (s : List ℕ) (d : Data) → Within is_own_form (unary_own s d)
 unfolding unary_own is_own_form
@@ -140,6 +168,10 @@ gather-within : (d : Data) → Within is_kind_form (gather_in d)
 unfolding gather_in
 gather-within d = within_if is_kind_form (has_only (codes "op" ∷ codes "kind" ∷ codes "merge" ∷ codes "input" ∷ codes "claim" ∷ []) d) (Some gather) None refl tt
 
+concat-within : (d : Data) → Within is_kind_form (concat_in d)
+unfolding concat_in
+concat-within d = within_if is_kind_form (has_only (codes "op" ∷ codes "kind" ∷ codes "input" ∷ codes "claim" ∷ []) d) (Some concat) None refl tt
+
 kind-within : (s : List ℕ) (d : Data) → Within is_kind_form (kind_in s d)
 unfolding kind_in
 kind-within s d =
@@ -147,27 +179,40 @@ kind-within s d =
     (within_if is_kind_form (bytes_eq s (codes "range")) (range_in d) _ (range-within d)
     (within_if is_kind_form (bytes_eq s (codes "round")) (option_map round (sized_in d)) _ (within_map is_some_list is_kind_form round (sized_in d) (sized-within d) (λ z h. h))
     (within_if is_kind_form (bytes_eq s (codes "broadcast")) (option_map broadcast (sized_in d)) _ (within_map is_some_list is_kind_form broadcast (sized_in d) (sized-within d) (λ z h. h))
-    (within_if is_kind_form (bytes_eq s (codes "gather")) (gather_in d) None (gather-within d) tt))))
+    (within_if is_kind_form (bytes_eq s (codes "gather")) (gather_in d) _ (gather-within d)
+    (within_if is_kind_form (bytes_eq s (codes "concat")) (concat_in d) None (concat-within d) tt)))))
 
 some_are_names : (ns : List Name) → are_some_names ns ≡ true → are_names ns ≡ true
 some_are_names ns h = and-right (is_some_list ns) (are_names ns) h
 
-merge-within : (o : Option Data) → Within are_names (or_default [] some_names_in o)
-merge-within None = refl
-merge-within (Some d) = go (some_names_in d) (some_names_within d)
+default-within : (o : Option Data) → Within are_names (or_default [] some_names_in o)
+default-within None = refl
+default-within (Some d) = go (some_names_in d) (some_names_within d)
   where
     go : (o : Option (List Name)) → Within are_some_names o → Within are_names o
     go None h = tt
     go (Some ns) h = some_are_names ns h
 
+merge_in-within : (d : Data) → Within are_names (merge_in d)
+unfolding merge_in
+merge_in-within d = default-within (get (codes "merge") d)
+
+merge-within : (k : KindForm) (d : Data) → Within (is_merge_form k) (merge_by k d)
+merge-within (hash z r cols) d = merge_in-within d
+merge-within (range z n col) d = merge_in-within d
+merge-within (round z) d = merge_in-within d
+merge-within (broadcast z) d = merge_in-within d
+merge-within gather d = merge_in-within d
+merge-within concat d = refl
+
 exchange_own-within : (d : Data) → Within is_own_form (exchange_own d)
 unfolding exchange_own is_own_form
 exchange_own-within d =
-    within_any is_own_form (λ s. option_and_then (λ k. option_and_then (λ m. option_and_then (λ c. option_and_then (λ i. Some (own_exchange c k m i)) (get (codes "input") d)) (claimed d)) (or_default [] some_names_in (get (codes "merge") d))) (kind_in s d)) (text_at (codes "kind") d)
-    (λ s. within_then is_kind_form is_own_form (λ k. option_and_then (λ m. option_and_then (λ c. option_and_then (λ i. Some (own_exchange c k m i)) (get (codes "input") d)) (claimed d)) (or_default [] some_names_in (get (codes "merge") d))) (kind_in s d) (kind-within s d)
-    (λ k h. within_then are_names is_own_form (λ m. option_and_then (λ c. option_and_then (λ i. Some (own_exchange c k m i)) (get (codes "input") d)) (claimed d)) (or_default [] some_names_in (get (codes "merge") d)) (merge-within (get (codes "merge") d))
+    within_any is_own_form (λ s. option_and_then (λ k. option_and_then (λ m. option_and_then (λ c. option_and_then (λ i. Some (own_exchange c k m i)) (get (codes "input") d)) (claimed d)) (merge_by k d)) (kind_in s d)) (text_at (codes "kind") d)
+    (λ s. within_then is_kind_form is_own_form (λ k. option_and_then (λ m. option_and_then (λ c. option_and_then (λ i. Some (own_exchange c k m i)) (get (codes "input") d)) (claimed d)) (merge_by k d)) (kind_in s d) (kind-within s d)
+    (λ k h. within_then (is_merge_form k) is_own_form (λ m. option_and_then (λ c. option_and_then (λ i. Some (own_exchange c k m i)) (get (codes "input") d)) (claimed d)) (merge_by k d) (merge-within k d)
     (λ m n. within_then is_claim_form is_own_form (λ c. option_and_then (λ i. Some (own_exchange c k m i)) (get (codes "input") d)) (claimed d) (claimed-within d)
-    (λ c w. within_any is_own_form (λ i. Some (own_exchange c k m i)) (get (codes "input") d) (λ i. and-both (is_claim_form c) (is_kind_form k && are_names m) w (and-both (is_kind_form k) (are_names m) h n))))))
+    (λ c w. within_any is_own_form (λ i. Some (own_exchange c k m i)) (get (codes "input") d) (λ i. and-both (is_claim_form c) (is_kind_form k && is_merge_form k m) w (and-both (is_kind_form k) (is_merge_form k m) h n))))))
 
 own-within : (d : Data) → Within is_own_form (own_in d)
 unfolding own_in
@@ -195,9 +240,9 @@ inputs-formed below formed seen path (Some (own_binary c op d e)) w =
     (and-both (is_binary_form op) (is_tree_form l.0 && is_tree_form r.0) (and-right (is_claim_form c) (is_binary_form op) w) (and-both (is_tree_form l.0) (is_tree_form r.0) h k))))
 inputs-formed below formed seen path (Some (own_exchange c k m d)) w =
     holds_then IsFormed IsFormed (λ t. Ok (exchange c k m t.0, t.1)) (below (seen + 1) (path ++ codes ".input") d) (formed (seen + 1) (path ++ codes ".input") d)
-    (λ t h. let rest = and-right (is_claim_form c) (is_kind_form k && are_names m) w in
-    and-both (is_claim_form c) (is_kind_form k && (are_names m && is_tree_form t.0)) (and-left (is_claim_form c) (is_kind_form k && are_names m) w)
-    (and-both (is_kind_form k) (are_names m && is_tree_form t.0) (and-left (is_kind_form k) (are_names m) rest) (and-both (are_names m) (is_tree_form t.0) (and-right (is_kind_form k) (are_names m) rest) h)))
+    (λ t h. let rest = and-right (is_claim_form c) (is_kind_form k && is_merge_form k m) w in
+    and-both (is_claim_form c) (is_kind_form k && (is_merge_form k m && is_tree_form t.0)) (and-left (is_claim_form c) (is_kind_form k && is_merge_form k m) w)
+    (and-both (is_kind_form k) (is_merge_form k m && is_tree_form t.0) (and-left (is_kind_form k) (is_merge_form k m) rest) (and-both (is_merge_form k m) (is_tree_form t.0) (and-right (is_kind_form k) (is_merge_form k m) rest) h)))
 
 formed_if : (b : Bool) (r : Result (Tree × ℕ) Refusal) → Holds IsFormed r → Holds IsFormed (cond b r (Err too_deep))
 formed_if true r h = h

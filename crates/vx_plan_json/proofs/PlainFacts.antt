@@ -10,9 +10,9 @@ use Rattle.serde_json.specs.View.{items_of, members_view}
 use Rattle.serde_json.specs.declared.value.Value.{Value}
 use Rattle.vx_values.specs.Values.{Val, num, text, Name}
 use Rattle.vx_values.specs.Test.{test_text}
-use Rattle.vx_plan_json.specs.Document.{PartForm, one, any, all, hash_part, range_part, ClaimForm, SideForm, column, constant, ConditionForm, OutputForm, FunctionForm, least, greatest, sum, count_rows, AggregateForm, ScanForm, UnaryForm, select, project, distinct, sort, group, BinaryForm, union, join, KindForm, hash, range, round, broadcast, gather, Tree, scan, unary, binary, exchange, Document, tree_levels}
+use Rattle.vx_plan_json.specs.Document.{PartForm, one, any, all, hash_part, range_part, ClaimForm, SideForm, column, constant, ConditionForm, OutputForm, FunctionForm, least, greatest, sum, count_rows, AggregateForm, ScanForm, UnaryForm, select, project, distinct, sort, group, partial_group, final_group, BinaryForm, union, join, KindForm, hash, range, round, broadcast, gather, concat, Tree, scan, unary, binary, exchange, Document, tree_levels}
 use Rattle.vx_values.specs.Ranges.{RangeForm}
-use Rattle.vx_plan_json.specs.Written.{list_json, names_json, value_json, with_some, with_text, range_json, part_json, with_part, claim_members, with_object, with_claim, with_side, condition_json, renamed_json, output_json, with_call, with_function, aggregate_json, pair_json, with_some_text, mode_text, with_scan, with_unary, method_text, with_binary, with_kind, node_json, with_total, document_json}
+use Rattle.vx_plan_json.specs.Written.{list_json, names_json, value_json, with_some, with_text, range_json, part_json, with_part, claim_members, with_object, with_claim, with_side, condition_json, renamed_json, output_json, with_call, with_function, aggregate_json, pair_json, with_some_text, mode_text, with_scan, with_lists, with_phase, with_unary, method_text, with_binary, with_kind, node_json, with_total, document_json}
 
 -- no deeper than n, and without floats
 pub record IsPlain (n : ℕ) (d : Data) : Type 0 where
@@ -159,13 +159,21 @@ with_scan-plain n s ms q =
     with_some_text-plain n (codes "prefix") s.prefix _ (with_text-plain n (codes "size") s.size _
     (with_text-plain n (codes "mode") (mode_text s.shared) _ (with_text-plain n (codes "relation") s.relation _ (with_text-plain n (codes "op") (codes "scan") ms q))))
 
+lists-plain : (by : List Name) (aggregates : List AggregateForm) (ms : Members) → ArePlain 3 ms → ArePlain 3 (with_lists by aggregates ms)
+lists-plain by aggregates ms q =
+    put-plain 3 (codes "aggregates") _ _ (more (omega arith) (list-plain 1 aggregate_json aggregate-plain aggregates)) (put-plain 3 (codes "by") _ _ (names-plain 2 by) q)
+
+phase-plain : (phase : List ℕ) (ms : Members) → ArePlain 3 ms → ArePlain 3 (with_phase phase ms)
+phase-plain phase ms q = with_text-plain 3 (codes "phase") phase _ (with_text-plain 3 (codes "op") (codes "group") ms q)
+
 with_unary-plain : (op : UnaryForm) (ms : Members) → ArePlain 3 ms → ArePlain 3 (with_unary op ms)
 with_unary-plain (select cs) ms q = put-plain 3 (codes "where") _ _ (more (omega arith) (list-plain 1 condition_json condition-plain cs)) (with_text-plain 3 (codes "op") (codes "select") ms q)
 with_unary-plain (project os) ms q = put-plain 3 (codes "columns") _ _ (more (omega arith) (list-plain 1 output_json output-plain os)) (with_text-plain 3 (codes "op") (codes "project") ms q)
 with_unary-plain (distinct os) ms q = put-plain 3 (codes "columns") _ _ (more (omega arith) (list-plain 1 output_json output-plain os)) (with_text-plain 3 (codes "op") (codes "distinct") ms q)
 with_unary-plain (sort cols) ms q = put-plain 3 (codes "columns") _ _ (names-plain 2 cols) (with_text-plain 3 (codes "op") (codes "sort") ms q)
-with_unary-plain (group by aggregates) ms q =
-    put-plain 3 (codes "aggregates") _ _ (more (omega arith) (list-plain 1 aggregate_json aggregate-plain aggregates)) (put-plain 3 (codes "by") _ _ (names-plain 2 by) (with_text-plain 3 (codes "op") (codes "group") ms q))
+with_unary-plain (group by aggregates) ms q = lists-plain by aggregates _ (with_text-plain 3 (codes "op") (codes "group") ms q)
+with_unary-plain (partial_group by aggregates) ms q = lists-plain by aggregates _ (phase-plain (codes "partial") ms q)
+with_unary-plain final_group ms q = phase-plain (codes "final") ms q
 
 with_binary-plain : (op : BinaryForm) (ms : Members) → ArePlain 3 ms → ArePlain 3 (with_binary op ms)
 with_binary-plain union ms q = with_text-plain 3 (codes "op") (codes "union") ms q
@@ -180,6 +188,7 @@ with_kind-plain (range size name col) ms q =
 with_kind-plain (round size) ms q = with_text-plain 3 (codes "size") size _ (with_text-plain 3 (codes "kind") (codes "round") ms q)
 with_kind-plain (broadcast size) ms q = with_text-plain 3 (codes "size") size _ (with_text-plain 3 (codes "kind") (codes "broadcast") ms q)
 with_kind-plain gather ms q = with_text-plain 3 (codes "kind") (codes "gather") ms q
+with_kind-plain concat ms q = with_text-plain 3 (codes "kind") (codes "concat") ms q
 
 node-plain : (t : Tree) → IsPlain (tree_levels t + 3) (node_json t)
 node-plain (scan c s) = object-plain 3 _ (with_scan-plain 3 s _ (with_claim-plain c))

@@ -68,12 +68,15 @@ pub record ScanForm : Type 0 where
   pub size : Name
   pub prefix : List ℕ
 
+-- a final group has the columns and the aggregates of the partial one below it
 pub data UnaryForm : Type 0 where
   select : List ConditionForm → UnaryForm
   project : List OutputForm → UnaryForm
   distinct : List OutputForm → UnaryForm
   sort : List Name → UnaryForm
   group : List Name → List AggregateForm → UnaryForm
+  partial_group : List Name → List AggregateForm → UnaryForm
+  final_group : UnaryForm
 
 pub data BinaryForm : Type 0 where
   union : BinaryForm
@@ -85,6 +88,7 @@ pub data KindForm : Type 0 where
   round : (size : Name) → KindForm
   broadcast : (size : Name) → KindForm
   gather : KindForm
+  concat : KindForm
 
 -- an exchange merges on its list of columns, if that is not empty
 pub data Tree : Type 0 where
@@ -153,6 +157,8 @@ unary_form (op.Project outputs) = project (map output_form outputs.items)
 unary_form (op.Distinct outputs) = distinct (map output_form outputs.items)
 unary_form (op.Sort columns) = sort (map string_bytes columns.items)
 unary_form (op.Group by aggregates) = group (map string_bytes by.items) (map aggregate_form aggregates.items)
+unary_form (op.PartialGroup by aggregates) = partial_group (map string_bytes by.items) (map aggregate_form aggregates.items)
+unary_form op.FinalGroup = final_group
 
 abbrev pub pair_form : String Global × String Global → Name × Name
 pair_form p = (string_bytes p.0, string_bytes p.1)
@@ -168,6 +174,7 @@ kind_form (kind.Range size name col) = range (string_bytes size) (string_bytes n
 kind_form (kind.Round size) = round (string_bytes size)
 kind_form (kind.Broadcast size) = broadcast (string_bytes size)
 kind_form kind.Gather = gather
+kind_form kind.Concat = concat
 
 abbrev pub tree_of : Node → Tree
 tree_of (node.Scan claim s) = scan (claim_form claim) (scan_form s)

@@ -17,6 +17,7 @@ pub data Refusal : Type 0 where
   bad_range : List ℕ → Refusal
   bad_size : List ℕ → Refusal
   too_wide : ℕ → Refusal
+  phase_mismatch : ℕ → Refusal
 
 infixl 10 ◌>>=◌
 -- the first refusal of the two steps, or what the second makes of the first
@@ -38,6 +39,7 @@ refusal_of (fault.BadRange name) = bad_range (string_bytes name)
 refusal_of (fault.BadSize name) = bad_size (string_bytes name)
 refusal_of fault.NoMemory = not_json
 refusal_of (fault.TooWide node) = too_wide node
+refusal_of (fault.PhaseMismatch node) = phase_mismatch node
 
 -- the pure answer is this refusal, or memory ran out
 abbrev pub Fails : {Y : Type 0} → PlanFault → Result Y Refusal → Type 0

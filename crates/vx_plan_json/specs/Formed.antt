@@ -1,10 +1,10 @@
 -- What reading assures of a plan: no name and no list that must have an entry is empty, and every constant and bound can be held.
-use Rattle.std.specs.Prelude.{Bool, true, ◌&&◌, ◌||◌, List, Option, Some, None}
+use Rattle.std.specs.Prelude.{Bool, true, not, ◌&&◌, ◌||◌, List, Option, Some, None}
 use Rattle.std.specs.List.{list_all}
 use Rattle.vx_values.specs.Types.{is_held}
 use Rattle.vx_values.specs.Lists.{is_some_list}
 use Rattle.vx_values.specs.Values.{Name}
-use Rattle.vx_plan_json.specs.Document.{PartForm, one, any, all, hash_part, range_part, ClaimForm, SideForm, column, constant, ConditionForm, OutputForm, FunctionForm, least, greatest, sum, count_rows, AggregateForm, ScanForm, UnaryForm, select, project, distinct, sort, group, BinaryForm, union, join, KindForm, hash, range, round, broadcast, gather, Tree, scan, unary, binary, exchange}
+use Rattle.vx_plan_json.specs.Document.{PartForm, one, any, all, hash_part, range_part, ClaimForm, SideForm, column, constant, ConditionForm, OutputForm, FunctionForm, least, greatest, sum, count_rows, AggregateForm, ScanForm, UnaryForm, select, project, distinct, sort, group, partial_group, final_group, BinaryForm, union, join, KindForm, hash, range, round, broadcast, gather, concat, Tree, scan, unary, binary, exchange}
 use Rattle.vx_values.specs.Ranges.{RangeForm}
 
 abbrev pub are_names : List Name → Bool
@@ -57,12 +57,18 @@ is_aggregate_form a = is_function_form a.function && is_some_list a.name
 abbrev pub is_scan_form : ScanForm → Bool
 is_scan_form s = is_some_list s.relation && is_some_list s.size
 
+-- not both lists are empty
+abbrev pub is_group_form : List Name → List AggregateForm → Bool
+is_group_form by aggregates = (is_some_list by || is_some_list aggregates) && (are_names by && list_all is_aggregate_form aggregates)
+
 abbrev pub is_unary_form : UnaryForm → Bool
 is_unary_form (select cs) = is_some_list cs && list_all is_condition_form cs
 is_unary_form (project os) = is_some_list os && list_all is_output_form os
 is_unary_form (distinct os) = is_some_list os && list_all is_output_form os
 is_unary_form (sort names) = are_some_names names
-is_unary_form (group by aggregates) = (is_some_list by || is_some_list aggregates) && (are_names by && list_all is_aggregate_form aggregates)
+is_unary_form (group by aggregates) = is_group_form by aggregates
+is_unary_form (partial_group by aggregates) = is_group_form by aggregates
+is_unary_form final_group = true
 
 abbrev pub is_pair_form : Name × Name → Bool
 is_pair_form p = is_some_list p.0 && is_some_list p.1
@@ -77,10 +83,20 @@ is_kind_form (range size name col) = is_some_list size && (is_some_list name && 
 is_kind_form (round size) = is_some_list size
 is_kind_form (broadcast size) = is_some_list size
 is_kind_form gather = true
+is_kind_form concat = true
+
+-- the columns on which an exchange of the kind merges: a concatenation on none
+abbrev pub is_merge_form : KindForm → List Name → Bool
+is_merge_form (hash size route cols) names = are_names names
+is_merge_form (range size name col) names = are_names names
+is_merge_form (round size) names = are_names names
+is_merge_form (broadcast size) names = are_names names
+is_merge_form gather names = are_names names
+is_merge_form concat names = not (is_some_list names)
 
 -- every node has the form
 abbrev pub is_tree_form : Tree → Bool
 is_tree_form (scan c s) = is_claim_form c && is_scan_form s
 is_tree_form (unary c op t) = is_claim_form c && (is_unary_form op && is_tree_form t)
 is_tree_form (binary c op t u) = is_claim_form c && (is_binary_form op && (is_tree_form t && is_tree_form u))
-is_tree_form (exchange c k m t) = is_claim_form c && (is_kind_form k && (are_names m && is_tree_form t))
+is_tree_form (exchange c k m t) = is_claim_form c && (is_kind_form k && (is_merge_form k m && is_tree_form t))

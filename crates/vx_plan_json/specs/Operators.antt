@@ -6,7 +6,7 @@ use Rattle.serde_json.specs.View.{view}
 use Rattle.vx_json.specs.Look.{has_only}
 use Rattle.vx_plan_json.specs.Look.{name_at, text_at, each_in, some_in, or_default}
 use Rattle.vx_values.specs.Values.{Name}
-use Rattle.vx_plan_json.specs.Document.{ClaimForm, ScanForm, OutputForm, AggregateForm, UnaryForm, select, project, distinct, sort, group, BinaryForm, union, join, KindForm, hash, range, round, broadcast, gather, claim_form, scan_form, unary_form, binary_form, kind_form}
+use Rattle.vx_plan_json.specs.Document.{ClaimForm, ScanForm, OutputForm, AggregateForm, UnaryForm, select, project, distinct, sort, group, partial_group, final_group, BinaryForm, union, join, KindForm, hash, range, round, broadcast, gather, concat, claim_form, scan_form, unary_form, binary_form, kind_form}
 use Rattle.vx_plan_json.specs.Form.{names_in, some_names_in, claimed, condition_in, output_in, aggregate_in, pair_in}
 use Rattle.vx_plan_json.specs.declared.operators.Own.{Own}
 use Rattle.vx_plan_json.specs.declared.operators.Own.TheVariants as own
@@ -62,18 +62,39 @@ sort_in d = if has_only (codes "op" ∷ codes "columns" ∷ codes "input" ∷ co
     then option_map sort (option_and_then some_names_in (get (codes "columns") d)) else None
 
 -- not both lists are empty
-abbrev pub group_or : List Name → List AggregateForm → Option UnaryForm
+abbrev pub group_or : List Name → List AggregateForm → Option (List Name × List AggregateForm)
 group_or [] [] = None
-group_or [] (a ∷ as') = Some (group [] (a ∷ as'))
-group_or (n ∷ ns) as' = Some (group (n ∷ ns) as')
+group_or [] (a ∷ as') = Some ([], a ∷ as')
+group_or (n ∷ ns) as' = Some (n ∷ ns, as')
+
+-- the columns and the aggregates of a group
+unfoldable pub lists_in : Data → Option (List Name × List AggregateForm)
+lists_in d = do
+  by ← option_and_then names_in (get (codes "by") d)
+  aggregates ← option_and_then (each_in aggregate_in) (get (codes "aggregates") d)
+  group_or by aggregates
 
 unfoldable pub group_in : Data → Option UnaryForm
 group_in d = if has_only (codes "op" ∷ codes "by" ∷ codes "aggregates" ∷ codes "input" ∷ codes "claim" ∷ []) d
-    then (do
-      by ← option_and_then names_in (get (codes "by") d)
-      aggregates ← option_and_then (each_in aggregate_in) (get (codes "aggregates") d)
-      group_or by aggregates)
-    else None
+    then option_map (λ g. group g.0 g.1) (lists_in d) else None
+
+unfoldable pub partial_in : Data → Option UnaryForm
+partial_in d = if has_only (codes "op" ∷ codes "phase" ∷ codes "by" ∷ codes "aggregates" ∷ codes "input" ∷ codes "claim" ∷ []) d
+    then option_map (λ g. partial_group g.0 g.1) (lists_in d) else None
+
+unfoldable pub final_in : Data → Option UnaryForm
+final_in d = if has_only (codes "op" ∷ codes "phase" ∷ codes "input" ∷ codes "claim" ∷ []) d then Some final_group else None
+
+abbrev pub phase_named : List ℕ → Data → Option UnaryForm
+phase_named s d = if bytes_eq s (codes "partial") then partial_in d else (if bytes_eq s (codes "final") then final_in d else None)
+
+-- a group by what its member `phase` says, if there is one
+abbrev pub group_by : Option Data → Data → Option UnaryForm
+group_by None d = group_in d
+group_by (Some p) d = option_and_then (λ s. phase_named s d) (as_str p)
+
+unfoldable pub phased_in : Data → Option UnaryForm
+phased_in d = group_by (get (codes "phase") d) d
 
 unfoldable pub unary_in : List ℕ → Data → Option UnaryForm
 unary_in s d =
@@ -81,7 +102,7 @@ unary_in s d =
     else (if bytes_eq s (codes "project") then option_map project (outputs_in d)
     else (if bytes_eq s (codes "distinct") then option_map distinct (outputs_in d)
     else (if bytes_eq s (codes "sort") then sort_in d
-    else (if bytes_eq s (codes "group") then group_in d else None))))
+    else (if bytes_eq s (codes "group") then phased_in d else None))))
 
 unfoldable pub unary_own : List ℕ → Data → Option OwnForm
 unary_own s d = do
@@ -130,7 +151,7 @@ range_in d = if has_only (codes "op" ∷ codes "kind" ∷ codes "size" ∷ codes
       Some (range z r c))
     else None
 
--- the size of an exchange that neither routes nor gathers
+-- the size of an exchange that neither routes nor has one receiver
 unfoldable pub sized_in : Data → Option Name
 sized_in d = if has_only (codes "op" ∷ codes "kind" ∷ codes "size" ∷ codes "merge" ∷ codes "input" ∷ codes "claim" ∷ []) d
     then name_at (codes "size") d else None
@@ -138,19 +159,36 @@ sized_in d = if has_only (codes "op" ∷ codes "kind" ∷ codes "size" ∷ codes
 unfoldable pub gather_in : Data → Option KindForm
 gather_in d = if has_only (codes "op" ∷ codes "kind" ∷ codes "merge" ∷ codes "input" ∷ codes "claim" ∷ []) d then Some gather else None
 
+unfoldable pub concat_in : Data → Option KindForm
+concat_in d = if has_only (codes "op" ∷ codes "kind" ∷ codes "input" ∷ codes "claim" ∷ []) d then Some concat else None
+
 unfoldable pub kind_in : List ℕ → Data → Option KindForm
 kind_in s d =
     if bytes_eq s (codes "hash") then hash_in d
     else (if bytes_eq s (codes "range") then range_in d
     else (if bytes_eq s (codes "round") then option_map round (sized_in d)
     else (if bytes_eq s (codes "broadcast") then option_map broadcast (sized_in d)
-    else (if bytes_eq s (codes "gather") then gather_in d else None))))
+    else (if bytes_eq s (codes "gather") then gather_in d
+    else (if bytes_eq s (codes "concat") then concat_in d else None)))))
+
+-- the columns in `merge`; none where it is left out
+unfoldable pub merge_in : Data → Option (List Name)
+merge_in d = or_default [] some_names_in (get (codes "merge") d)
+
+-- the columns on which an exchange of the kind merges: a concatenation on none
+abbrev pub merge_by : KindForm → Data → Option (List Name)
+merge_by (hash size route cols) d = merge_in d
+merge_by (range size name col) d = merge_in d
+merge_by (round size) d = merge_in d
+merge_by (broadcast size) d = merge_in d
+merge_by gather d = merge_in d
+merge_by concat d = Some []
 
 unfoldable pub exchange_own : Data → Option OwnForm
 exchange_own d = do
   s ← text_at (codes "kind") d
   k ← kind_in s d
-  m ← or_default [] some_names_in (get (codes "merge") d)
+  m ← merge_by k d
   c ← claimed d
   i ← get (codes "input") d
   Some (own_exchange c k m i)

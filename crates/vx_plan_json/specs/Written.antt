@@ -5,7 +5,7 @@ use Rattle.serde_json.specs.Find.{of_integer}
 use Rattle.serde_json.specs.View.{items_of}
 use Rattle.vx_values.specs.Values.{Val, num, text, Name}
 use Rattle.vx_values.specs.Test as comparison
-use Rattle.vx_plan_json.specs.Document.{PartForm, one, any, all, hash_part, range_part, ClaimForm, SideForm, column, constant, ConditionForm, OutputForm, FunctionForm, least, greatest, sum, count_rows, AggregateForm, ScanForm, UnaryForm, select, project, distinct, sort, group, BinaryForm, union, join, KindForm, hash, range, round, broadcast, gather, Tree, scan, unary, binary, exchange, Document}
+use Rattle.vx_plan_json.specs.Document.{PartForm, one, any, all, hash_part, range_part, ClaimForm, SideForm, column, constant, ConditionForm, OutputForm, FunctionForm, least, greatest, sum, count_rows, AggregateForm, ScanForm, UnaryForm, select, project, distinct, sort, group, partial_group, final_group, BinaryForm, union, join, KindForm, hash, range, round, broadcast, gather, concat, Tree, scan, unary, binary, exchange, Document}
 use Rattle.vx_values.specs.Ranges.{RangeForm}
 
 abbrev pub list_json : {X : Type 0} → (X → Data) → List X → Data
@@ -108,13 +108,22 @@ abbrev pub with_scan : ScanForm → Members → Members
 with_scan s ms = with_some_text (codes "prefix") s.prefix (with_text (codes "size") s.size
     (with_text (codes "mode") (mode_text s.shared) (with_text (codes "relation") s.relation (with_text (codes "op") (codes "scan") ms))))
 
+-- with the columns and the aggregates of a group
+abbrev pub with_lists : List Name → List AggregateForm → Members → Members
+with_lists by aggregates ms = put (codes "aggregates") (list_json aggregate_json aggregates) (put (codes "by") (names_json by) ms)
+
+-- with a group's name and phase
+abbrev pub with_phase : List ℕ → Members → Members
+with_phase phase ms = with_text (codes "phase") phase (with_text (codes "op") (codes "group") ms)
+
 abbrev pub with_unary : UnaryForm → Members → Members
 with_unary (select cs) ms = put (codes "where") (list_json condition_json cs) (with_text (codes "op") (codes "select") ms)
 with_unary (project os) ms = put (codes "columns") (list_json output_json os) (with_text (codes "op") (codes "project") ms)
 with_unary (distinct os) ms = put (codes "columns") (list_json output_json os) (with_text (codes "op") (codes "distinct") ms)
 with_unary (sort cols) ms = put (codes "columns") (names_json cols) (with_text (codes "op") (codes "sort") ms)
-with_unary (group by aggregates) ms = put (codes "aggregates") (list_json aggregate_json aggregates)
-    (put (codes "by") (names_json by) (with_text (codes "op") (codes "group") ms))
+with_unary (group by aggregates) ms = with_lists by aggregates (with_text (codes "op") (codes "group") ms)
+with_unary (partial_group by aggregates) ms = with_lists by aggregates (with_phase (codes "partial") ms)
+with_unary final_group ms = with_phase (codes "final") ms
 
 abbrev pub method_text : Bool → List ℕ
 method_text true = codes "merge"
@@ -133,6 +142,7 @@ with_kind (range size name col) ms = with_text (codes "column") col (with_text (
 with_kind (round size) ms = with_text (codes "size") size (with_text (codes "kind") (codes "round") ms)
 with_kind (broadcast size) ms = with_text (codes "size") size (with_text (codes "kind") (codes "broadcast") ms)
 with_kind gather ms = with_text (codes "kind") (codes "gather") ms
+with_kind concat ms = with_text (codes "kind") (codes "concat") ms
 
 abbrev pub scan_json : ClaimForm → ScanForm → Data
 scan_json c s = object (with_scan s (with_claim c no_members))

@@ -44,6 +44,10 @@ pub enum PlanFault {
     /// Over 64 output columns.
     #[error("P12 TooWide node={node}")]
     TooWide { node: u32 },
+    /// A final group whose first node below it that is no exchange is no partial group, or a partial group that no final
+    /// group takes up through exchanges alone.
+    #[error("P13 PhaseMismatch node={node}")]
+    PhaseMismatch { node: u32 },
 }
 
 impl From<AllocError> for PlanFault {

@@ -10,7 +10,7 @@ ghost use Rattle.vx_plan_json.specs.Document.{hash_part, range_part, part_form, 
 ghost use Rattle.vx_values.specs.Ranges.{RangeForm, range_form};
 ghost use Rattle.vx_plan_json.specs.PlanView.{document_of};
 ghost use Rattle.vx_plan_json.specs.Reading.{document_of_text};
-ghost use Rattle.vx_plan_json.specs.Written.{names_json, list_json, value_json, with_some, with_text, range_json, part_json, with_part, claim_members, with_object, with_claim, with_side, condition_json, output_json, with_function, with_call, aggregate_json, pair_json, with_some_text, with_scan, with_unary, with_join, with_binary, with_kind, scan_json, unary_json, binary_json, exchange_json, node_json, with_total, document_json};
+ghost use Rattle.vx_plan_json.specs.Written.{names_json, list_json, value_json, with_some, with_text, range_json, part_json, with_part, claim_members, with_object, with_claim, with_side, condition_json, output_json, with_function, with_call, aggregate_json, pair_json, with_some_text, with_scan, with_lists, with_phase, with_unary, with_join, with_binary, with_kind, scan_json, unary_json, binary_json, exchange_json, node_json, with_total, document_json};
 
 use crate::document::Plan;
 use crate::plan::{
@@ -345,6 +345,27 @@ fn put_scan(members: &mut Members, alloc: Global, scan: &NamedScan) -> Result<()
     put_some_text(members, alloc, "prefix", scan.prefix.as_str())
 }
 
+// The columns and the aggregates of a group.
+fn put_lists(
+    members: &mut Members,
+    alloc: Global,
+    by: &[String],
+    aggregates: &[NamedAggregate],
+) -> Result<(), AllocError>
+    ensures { OnOk result (members_view members.new.entries ≡ with_lists (map string_bytes by.now) (map aggregate_form aggregates.now) (members_view members.old.entries)) }
+{
+    put_list(members, alloc, "by", by)?;
+    put_list(members, alloc, "aggregates", aggregates)
+}
+
+// A group's name and phase.
+fn put_phase(members: &mut Members, alloc: Global, phase: &str) -> Result<(), AllocError>
+    ensures { OnOk result (members_view members.new.entries ≡ with_phase phase.now (members_view members.old.entries)) }
+{
+    put_text(members, alloc, "op", "group")?;
+    put_text(members, alloc, "phase", phase)
+}
+
 fn put_unary(members: &mut Members, alloc: Global, unary: &NamedUnary) -> Result<(), AllocError>
     ensures { OnOk result (members_view members.new.entries ≡ with_unary (unary_form unary.now) (members_view members.old.entries)) }
 {
@@ -367,9 +388,13 @@ fn put_unary(members: &mut Members, alloc: Global, unary: &NamedUnary) -> Result
         }
         NamedUnary::Group(by, aggregates) => {
             put_text(members, alloc, "op", "group")?;
-            put_list(members, alloc, "by", by.as_slice())?;
-            put_list(members, alloc, "aggregates", aggregates.as_slice())
+            put_lists(members, alloc, by.as_slice(), aggregates.as_slice())
         }
+        NamedUnary::PartialGroup(by, aggregates) => {
+            put_phase(members, alloc, "partial")?;
+            put_lists(members, alloc, by.as_slice(), aggregates.as_slice())
+        }
+        NamedUnary::FinalGroup => put_phase(members, alloc, "final"),
     }
 }
 
@@ -428,6 +453,7 @@ fn put_kind(members: &mut Members, alloc: Global, kind: &NamedKind) -> Result<()
         NamedKind::Round(size) => put_sized(members, alloc, "round", size.as_str()),
         NamedKind::Broadcast(size) => put_sized(members, alloc, "broadcast", size.as_str()),
         NamedKind::Gather => put_text(members, alloc, "kind", "gather"),
+        NamedKind::Concat => put_text(members, alloc, "kind", "concat"),
     }
 }
 

@@ -5,13 +5,15 @@ ghost use Rattle.serde_json.specs.Find.{get, as_str};
 ghost use Rattle.serde_json.specs.View.{view};
 ghost use Rattle.vx_json.specs.Look.{Finds, Parses};
 ghost use Rattle.vx_plan_json.specs.Look.{or_default};
-ghost use Rattle.vx_plan_json.specs.Document.{output_form, scan_form, unary_form, binary_form, kind_form};
+ghost use Rattle.vx_plan_json.specs.Document.{output_form, aggregate_form, scan_form, unary_form, binary_form, kind_form};
 ghost use Rattle.vx_plan_json.specs.Form.{some_names_in};
-ghost use Rattle.vx_plan_json.specs.Operators.{own_form, mode_named, scan_in, scan_own, select_in, outputs_in, sort_in, group_in, unary_in, unary_own, method_named, join_in, union_in, binary_own, hash_in, range_in, sized_in, gather_in, kind_in, exchange_own, own_named, own_in};
+ghost use Rattle.vx_plan_json.specs.Operators.{own_form, mode_named, scan_in, scan_own, select_in, outputs_in, sort_in, lists_in, group_in, partial_in, final_in, phase_named, phased_in, unary_in, unary_own, method_named, join_in, union_in, binary_own, hash_in, range_in, sized_in, gather_in, concat_in, kind_in, merge_by, exchange_own, own_named, own_in};
 
 use crate::forms::{AggregateReader, ConditionReader, OutputReader, PairReader, read_node_claim};
 use crate::look::{get_text_at, read_name_at};
-use crate::plan::{NamedBinary, NamedClaim, NamedKind, NamedOutput, NamedScan, NamedUnary};
+use crate::plan::{
+    NamedAggregate, NamedBinary, NamedClaim, NamedKind, NamedOutput, NamedScan, NamedUnary,
+};
 use serde_json::Value as Json;
 use std::alloc::Global;
 use vx_json::{Misread, NameReader, get_member, get_text, read_list, read_some, test_members};
@@ -101,17 +103,66 @@ fn read_sort(alloc: Global, value: &Json) -> Result<NamedUnary, Misread>
     Ok(NamedUnary::Sort(columns))
 }
 
-#[tactic(auto, unfolding(crate::specs::Operators::group_in, crate::specs::Form::names_in))]
-fn read_group(alloc: Global, value: &Json) -> Result<NamedUnary, Misread>
-    ensures { Parses unary_form result (group_in (view value.now)) }
+// The columns and the aggregates of a group. Not both lists are empty.
+#[tactic(auto, unfolding(crate::specs::Operators::lists_in, crate::specs::Form::names_in))]
+fn read_lists(alloc: Global, value: &Json) -> Result<(Vec<String>, Vec<NamedAggregate>), Misread>
+    ensures { Parses (λ g. (map string_bytes g.0.items, map aggregate_form g.1.items)) result (lists_in (view value.now)) }
 {
-    test_members(value, &["op", "by", "aggregates", "input", "claim"])?;
     let by = read_list::<NameReader>(alloc, get_member(value, "by")?)?;
     let aggregates = read_list::<AggregateReader>(alloc, get_member(value, "aggregates")?)?;
     if by.is_empty() && aggregates.is_empty() {
         return Err(Misread::NotOfForm);
     }
+    Ok((by, aggregates))
+}
+
+#[tactic(auto, unfolding(crate::specs::Operators::group_in))]
+fn read_plain_group(alloc: Global, value: &Json) -> Result<NamedUnary, Misread>
+    ensures { Parses unary_form result (group_in (view value.now)) }
+{
+    test_members(value, &["op", "by", "aggregates", "input", "claim"])?;
+    let (by, aggregates) = read_lists(alloc, value)?;
     Ok(NamedUnary::Group(by, aggregates))
+}
+
+#[tactic(auto, unfolding(crate::specs::Operators::partial_in))]
+fn read_partial_group(alloc: Global, value: &Json) -> Result<NamedUnary, Misread>
+    ensures { Parses unary_form result (partial_in (view value.now)) }
+{
+    test_members(
+        value,
+        &["op", "phase", "by", "aggregates", "input", "claim"],
+    )?;
+    let (by, aggregates) = read_lists(alloc, value)?;
+    Ok(NamedUnary::PartialGroup(by, aggregates))
+}
+
+#[tactic(auto, unfolding(crate::specs::Operators::final_in))]
+fn read_final_group(value: &Json) -> Result<NamedUnary, Misread>
+    ensures { Finds unary_form result (final_in (view value.now)) }
+{
+    test_members(value, &["op", "phase", "input", "claim"])?;
+    Ok(NamedUnary::FinalGroup)
+}
+
+fn read_phase(alloc: Global, phase: &str, value: &Json) -> Result<NamedUnary, Misread>
+    ensures { Parses unary_form result (phase_named phase.now (view value.now)) }
+{
+    match phase {
+        "partial" => read_partial_group(alloc, value),
+        "final" => read_final_group(value),
+        _ => Err(Misread::NotOfForm),
+    }
+}
+
+#[tactic(auto, unfolding(crate::specs::Operators::phased_in))]
+fn read_group(alloc: Global, value: &Json) -> Result<NamedUnary, Misread>
+    ensures { Parses unary_form result (phased_in (view value.now)) }
+{
+    match value.get("phase") {
+        Some(phase) => read_phase(alloc, get_text(phase)?, value),
+        None => read_plain_group(alloc, value),
+    }
 }
 
 #[tactic(auto, unfolding(crate::specs::Operators::unary_in))]
@@ -224,7 +275,7 @@ fn read_range(alloc: Global, value: &Json) -> Result<NamedKind, Misread>
     })
 }
 
-// The size of an exchange that neither routes nor gathers.
+// The size of an exchange that neither routes nor has one receiver.
 #[tactic(auto, unfolding(crate::specs::Operators::sized_in))]
 fn read_size(alloc: Global, value: &Json) -> Result<String, Misread>
     ensures { Parses string_bytes result (sized_in (view value.now)) }
@@ -241,6 +292,14 @@ fn read_gather(value: &Json) -> Result<NamedKind, Misread>
     Ok(NamedKind::Gather)
 }
 
+#[tactic(auto, unfolding(crate::specs::Operators::concat_in))]
+fn read_concat(value: &Json) -> Result<NamedKind, Misread>
+    ensures { Finds kind_form result (concat_in (view value.now)) }
+{
+    test_members(value, &["op", "kind", "input", "claim"])?;
+    Ok(NamedKind::Concat)
+}
+
 #[tactic(auto, unfolding(crate::specs::Operators::kind_in))]
 fn read_kind(alloc: Global, kind: &str, value: &Json) -> Result<NamedKind, Misread>
     ensures { Parses kind_form result (kind_in kind.now (view value.now)) }
@@ -251,14 +310,19 @@ fn read_kind(alloc: Global, kind: &str, value: &Json) -> Result<NamedKind, Misre
         "round" => Ok(NamedKind::Round(read_size(alloc, value)?)),
         "broadcast" => Ok(NamedKind::Broadcast(read_size(alloc, value)?)),
         "gather" => read_gather(value),
+        "concat" => read_concat(value),
         _ => Err(Misread::NotOfForm),
     }
 }
 
-#[tactic(auto, unfolding(crate::specs::Form::some_names_in))]
-fn read_merge(alloc: Global, value: &Json) -> Result<Vec<String>, Misread>
-    ensures { Parses (λ v. map string_bytes v.items) result (or_default [] some_names_in (get (codes "merge") (view value.now))) }
+// The columns on which an exchange of the kind merges.
+#[tactic(auto, unfolding(crate::specs::Operators::merge_in, crate::specs::Form::some_names_in))]
+fn read_merge(alloc: Global, kind: &NamedKind, value: &Json) -> Result<Vec<String>, Misread>
+    ensures { Parses (λ v. map string_bytes v.items) result (merge_by (kind_form kind.now) (view value.now)) }
 {
+    if matches!(kind, NamedKind::Concat) {
+        return Ok(Vec::new(alloc));
+    }
     match value.get("merge") {
         Some(names) => read_some::<NameReader>(alloc, names),
         None => Ok(Vec::new(alloc)),
@@ -270,7 +334,7 @@ fn read_exchange_node<'v>(alloc: Global, value: &'v Json) -> Result<Own<'v>, Mis
     ensures { Parses own_form result (exchange_own (view value.now)) }
 {
     let kind = read_kind(alloc, get_text_at(value, "kind")?, value)?;
-    let merge = read_merge(alloc, value)?;
+    let merge = read_merge(alloc, &kind, value)?;
     let claim = read_node_claim(alloc, value)?;
     let input = get_member(value, "input")?;
     Ok(Own::Exchange(claim, kind, merge, input))

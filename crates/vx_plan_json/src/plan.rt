@@ -96,7 +96,8 @@ impl Drop for NamedScan {
     }
 }
 
-/// An operator over one input.
+/// An operator over one input. A group in two phases is a partial group, exchanges, and a final group that has the columns
+/// and the aggregates of the partial one.
 #[derive(Debug)]
 pub enum NamedUnary {
     Select(Vec<NamedCondition>),
@@ -104,6 +105,8 @@ pub enum NamedUnary {
     Distinct(Vec<NamedOutput>),
     Sort(Vec<String>),
     Group(Vec<String>, Vec<NamedAggregate>),
+    PartialGroup(Vec<String>, Vec<NamedAggregate>),
+    FinalGroup,
 }
 
 // By hand, so that the drops of its parts are made and proved here once, and not in each function that drops one.
@@ -115,6 +118,8 @@ impl Drop for NamedUnary {
             NamedUnary::Distinct(_) => {}
             NamedUnary::Sort(_) => {}
             NamedUnary::Group(_, _) => {}
+            NamedUnary::PartialGroup(_, _) => {}
+            NamedUnary::FinalGroup => {}
         }
     }
 }
@@ -154,6 +159,8 @@ pub enum NamedKind {
     Round(String),
     Broadcast(String),
     Gather,
+    /// To one worker, all rows of producer 0, then all of producer 1, and so on.
+    Concat,
 }
 
 // By hand, so that the drops of its parts are made and proved here once, and not in each function that drops one.
@@ -173,6 +180,7 @@ impl Drop for NamedKind {
             NamedKind::Round(_) => {}
             NamedKind::Broadcast(_) => {}
             NamedKind::Gather => {}
+            NamedKind::Concat => {}
         }
     }
 }

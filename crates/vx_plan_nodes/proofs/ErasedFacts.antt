@@ -49,7 +49,7 @@ type-left [] us c h = absurd (omega arith)
 type-left (k ∷ ks) us zero h = refl
 type-left (k ∷ ks) us (suc c) h = type-left ks us c (omega arith)
 
-type-right : (ks us : List ColType) (c d : ℕ) → c ≡ length ks + d → type_at (ks ++ us) c ≡ type_at us d
+pub type-right : (ks us : List ColType) (c d : ℕ) → c ≡ length ks + d → type_at (ks ++ us) c ≡ type_at us d
 type-right [] us c d h = let e : c ≡ d = omega arith in ap (type_at us) e
 type-right (k ∷ ks) us zero d h = absurd (omega arith)
 type-right (k ∷ ks) us (suc c) d h = type-right ks us c d (omega arith)
@@ -86,7 +86,7 @@ final-types-of ts by aggregates =
     let b : map (aggregate_type (ks ++ as')) (merged (length by) aggregates) ≡ as' = merged-types ts (ks ++ as') ks (length by) aggregates refl n in
     ap₂ (λ x y. x ++ y) a b
 
-final-types : (catalog : ℕ → Relation) (keys : List ℕ) (puts : List Aggregate) (p : Plan) → opens keys puts p ≡ true → unary_types (group final keys puts) (types_of catalog p) ≡ types_of catalog p
+pub final-types : (catalog : ℕ → Relation) (keys : List ℕ) (puts : List Aggregate) (p : Plan) → opens keys puts p ≡ true → unary_types (group final keys puts) (types_of catalog p) ≡ types_of catalog p
 final-types catalog keys puts (scan n c r m z) e = absurd (true≢false (sym e))
 final-types catalog keys puts (unary n c (select cs) p) e = absurd (true≢false (sym e))
 final-types catalog keys puts (unary n c (project cols) p) e = absurd (true≢false (sym e))

@@ -35,7 +35,7 @@ load_status load.ReadFailed = 3
 load_status load.NoMemory = 4
 load_status load.TooLarge = 3
 
--- of a plan: P1 to P10 and P12, and want of memory
+-- of a plan: P1 to P10, P12 and P13, and want of memory
 abbrev pub plan_status : PlanFault → ℕ
 plan_status plan.NotJson = 3
 plan_status (plan.BadNode path) = 3
@@ -49,6 +49,7 @@ plan_status (plan.BadRange name) = 3
 plan_status (plan.BadSize name) = 3
 plan_status plan.NoMemory = 4
 plan_status (plan.TooWide node) = 3
+plan_status (plan.PhaseMismatch node) = 3
 
 -- of the checker: K1 to K9
 abbrev pub rule_status : Rule → ℕ

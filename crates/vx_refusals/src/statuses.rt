@@ -52,7 +52,8 @@ fn plan_status(fault: &PlanFault) -> u8
         | PlanFault::UnknownRange { .. }
         | PlanFault::BadRange { .. }
         | PlanFault::BadSize { .. }
-        | PlanFault::TooWide { .. } => 3,
+        | PlanFault::TooWide { .. }
+        | PlanFault::PhaseMismatch { .. } => 3,
         PlanFault::NoMemory => 4,
     }
 }
