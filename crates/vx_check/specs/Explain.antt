@@ -5,7 +5,7 @@ use Rattle.serde_json.specs.Data.{string}
 use Rattle.serde_json.specs.Written.{compact_text}
 use Rattle.vx_values.specs.Values.{Val, num, text, Name}
 use Rattle.vx_relations.specs.Catalog.{relation_at}
-use Rattle.vx_plan_nodes.specs.Plan.{Size, one_worker, group_of, Route, by_hash, by_range, Part, one, any, all, routed, Claim, Side, column, constant, Condition, Aggregate, least, greatest, sum, count_rows, Unary, select, project, distinct, sort, group, plain, partial, final, Binary, union, join, ExchangeKind, route_to, round, broadcast, gather, concat, size}
+use Rattle.vx_plan_nodes.specs.Plan.{Size, one_worker, group_of, Route, by_hash, by_range, Part, one, any, all, routed, Claim, Side, column, constant, Condition, Aggregate, least, greatest, sum, count_rows, Unary, select, project, distinct, sort, group, Phase, plain, partial, final, Binary, union, join, ExchangeKind, route_to, round, broadcast, gather, concat, size}
 use Rattle.vx_values.specs.Test.{test_text}
 use Rattle.vx_plan_nodes.specs.Names.{Names}
 use Rattle.vx_plan_nodes.specs.Outline.{Outline, scan, unary, binary, exchange, top, columns, plan_in}
@@ -97,15 +97,18 @@ aggregates_text inputs outputs i (a ∷ as') = codes " " ++ separated (codes ", 
 abbrev pub group_text : List Name → List Name → List ℕ → List Aggregate → List ℕ
 group_text inputs outputs by aggregates = list_text inputs by ++ aggregates_text inputs outputs (length by) aggregates
 
--- a final grouping has nothing of its own to say: its columns are those of its partial
+-- a grouping in one of its phases; a final one says no columns, since its columns are those of its partial
+abbrev pub grouping_text : List Name → List Name → Phase → List ℕ → List Aggregate → List ℕ
+grouping_text inputs outputs plain by aggregates = codes "group " ++ group_text inputs outputs by aggregates
+grouping_text inputs outputs partial by aggregates = codes "partial-group " ++ group_text inputs outputs by aggregates
+grouping_text inputs outputs final by aggregates = codes "final-group"
+
 abbrev pub unary_text : List Name → List Name → List Bool → Unary → List ℕ
 unary_text inputs outputs renamed (select cs) = codes "select " ++ separated (codes " and ") false (map (condition_text inputs) cs)
 unary_text inputs outputs renamed (project cols) = codes "project [" ++ (separated (codes ",") false (kept_texts inputs outputs 0 cols renamed) ++ codes "]")
 unary_text inputs outputs renamed (distinct cols) = codes "distinct [" ++ (separated (codes ",") false (kept_texts inputs outputs 0 cols renamed) ++ codes "]")
 unary_text inputs outputs renamed (sort cols) = codes "sort " ++ list_text inputs cols
-unary_text inputs outputs renamed (group plain by aggregates) = codes "group " ++ group_text inputs outputs by aggregates
-unary_text inputs outputs renamed (group partial by aggregates) = codes "partial-group " ++ group_text inputs outputs by aggregates
-unary_text inputs outputs renamed (group final by aggregates) = codes "final-group"
+unary_text inputs outputs renamed (group phase by aggregates) = grouping_text inputs outputs phase by aggregates
 
 -- ---- operators over two inputs, and exchanges
 

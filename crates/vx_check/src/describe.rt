@@ -3,9 +3,9 @@
 ghost use Rattle.std.specs.Prelude.{◌≡◌, ◌++◌, ◌+◌, ◌<◌, ◌^◌, map, string_bytes, length, OnOk, codes, false};
 ghost use Rattle.vx_values.specs.ValueView.{val_of};
 ghost use Rattle.vx_relations.specs.Catalog.{relation_at};
-ghost use Rattle.vx_plan_nodes.specs.Outline.{condition_of, aggregate_of, unary_of, renamed_of, binary_of, kind_of};
+ghost use Rattle.vx_plan_nodes.specs.Outline.{condition_of, aggregate_of, phase_of, unary_of, renamed_of, binary_of, kind_of};
 ghost use Rattle.vx_plan_nodes.specs.TypedView.{names_in};
-ghost use Rattle.vx_check.specs.Explain.{name_at, separated, value_text, condition_text, kept_text, kept_texts, function_text, aggregate_texts, aggregates_text, group_text, unary_text, pair_text, binary_text, kind_text, merge_text, scan_text, prefix_text};
+ghost use Rattle.vx_check.specs.Explain.{name_at, separated, value_text, condition_text, kept_text, kept_texts, function_text, aggregate_texts, aggregates_text, group_text, grouping_text, unary_text, pair_text, binary_text, kind_text, merge_text, scan_text, prefix_text};
 
 use crate::words::{name_at, push_between, push_list, push_routed};
 use itoa::Buffer;
@@ -193,6 +193,25 @@ fn push_group(
     push_aggregates(text, inputs, outputs, by.len(), aggregates)
 }
 
+// Adds a grouping in one of its phases.
+fn push_grouping(
+    text: &mut String,
+    inputs: &[String],
+    outputs: &[String],
+    phase: Phase,
+    by: &[usize],
+    aggregates: &[Aggregate],
+) -> Result<(), AllocError>
+    requires { length by.now + length aggregates.now < 2 ^ 64 }
+    ensures { OnOk result (string_bytes text.new ≡ string_bytes text.old ++ grouping_text (map string_bytes inputs.now) (map string_bytes outputs.now) (phase_of phase) by.now (map aggregate_of aggregates.now)) }
+{
+    match phase {
+        Phase::Plain => push_group(text, "group ", inputs, outputs, by, aggregates),
+        Phase::Partial => push_group(text, "partial-group ", inputs, outputs, by, aggregates),
+        Phase::Final => text.push_str("final-group"),
+    }
+}
+
 /// Adds an operator over one input; inputs and outputs are the names of the columns.
 pub fn push_unary(
     alloc: Global,
@@ -214,23 +233,14 @@ pub fn push_unary(
             text.push_str("sort ")?;
             push_list(text, inputs, columns.as_slice())
         }
-        Unary::Group(Phase::Plain, by, aggregates) => push_group(
+        Unary::Group(phase, by, aggregates) => push_grouping(
             text,
-            "group ",
             inputs,
             outputs,
+            *phase,
             by.as_slice(),
             aggregates.as_slice(),
         ),
-        Unary::Group(Phase::Partial, by, aggregates) => push_group(
-            text,
-            "partial-group ",
-            inputs,
-            outputs,
-            by.as_slice(),
-            aggregates.as_slice(),
-        ),
-        Unary::Group(Phase::Final, _, _) => text.push_str("final-group"),
     }
 }
 
