@@ -74,7 +74,7 @@ shuffled = record {
 
 -- the consumer end at the root, and each producer's packets are for it
 abbrev root_end : ConsumerEnd
-root_end = record { exchange = 0; place = 0; producers = 2; types = Int ∷ []; merge = [] }
+root_end = record { exchange = 0; place = 0; producers = 2; types = Int ∷ []; merge = []; in_order = false }
 
 abbrev packet : ℕ → Content → PacketView
 packet i c = record { exchange = 0; from = i; to = 0; types = Int ∷ []; content = c }
