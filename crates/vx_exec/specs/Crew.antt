@@ -6,6 +6,7 @@ use Rattle.vx_values.specs.declared.value.ColType.{ColType}
 use Rattle.vx_plan_nodes.specs.Plan.{Plan, scan, unary, binary, exchange, size}
 use Rattle.vx_plan_nodes.specs.Streams.{workers}
 use Rattle.vx_plan_nodes.specs.Routes.{Router}
+use Rattle.vx_plan_nodes.specs.Runs.{is_concat}
 use Rattle.vx_plan_nodes.specs.Types.{types_of}
 use Rattle.vx_plan_nodes.specs.Numbering.{is_numbered, nodes}
 use Rattle.vx_check_rules.specs.Checked.{relations}
@@ -34,7 +35,7 @@ op_at S place (scan n c r m z) = scan_op
 op_at S place (unary n c op p) = one_op n op
 op_at S place (binary n c op p q) = two_op n op
 op_at S place (exchange n c k merge p) =
-    receive (record { exchange = n; place = place; producers = workers S.sizes (size p); types = types_of S.catalog p; merge = merge })
+    receive (record { exchange = n; place = place; producers = workers S.sizes (size p); types = types_of S.catalog p; merge = merge; in_order = is_concat k })
 
 -- it takes rows of its inputs' types; what has no input takes rows of the types that it gives
 abbrev pub TakesAt : (ℕ → Relation) → Plan → Shape → Type 0
