@@ -1,10 +1,13 @@
 //! The values of one column.
 
-ghost use Rattle.std.specs.Prelude.{◌≡◌, ℕ, ◌+◌, ◌-◌, ◌<◌, ◌≤◌, length, pos, slice_index, slice_index_or, true, OnOk, IfOk};
+ghost use Rattle.std.specs.Prelude.{◌≡◌, ℕ, ◌+◌, ◌-◌, ◌<◌, ◌≤◌, [], length, pos, slice_index, slice_index_or, true, OnOk, IfOk};
 ghost use Rattle.vx_values.specs.ValueView.{cell_val};
 ghost use Rattle.vx_rows.specs.View.{ArePositions};
 ghost use Rattle.vx_values.specs.Types.{type_of, is_held};
 ghost use Rattle.vx_rows.specs.Columns.{column_type, size, entry, KeepsFront};
+ghost use Rattle.std.specs.Prelude.{IfSome, IfNone};
+ghost use Rattle.vx_values.specs.declared.value.ColType.TheVariants as kind;
+ghost use Rattle.vx_values.specs.Values.{num, text};
 
 use crate::texts::Texts;
 use std::alloc::{AllocError, Global};
@@ -37,6 +40,32 @@ impl Column {
         match self {
             Column::Int(v) => Cell::Int(v[i]),
             Column::Text(t) => Cell::Text(t.get(i)),
+        }
+    }
+
+    /// The values, where they are numbers.
+    pub fn numbers(&self) -> Option<&[i64]>
+        ensures some { IfSome result (λ _. column_type self.now ≡ kind.Int) }
+        ensures none { IfNone result (column_type self.now ≡ kind.Text) }
+        ensures long { IfSome result (λ v. length v.now ≡ size self.now) }
+        ensures values { IfSome result (λ v. (k : ℕ) → entry self.now k ≡ num (slice_index_or v.now k (pos 0))) }
+    {
+        match self {
+            Column::Int(v) => Some(v.as_slice()),
+            Column::Text(_) => None,
+        }
+    }
+
+    /// The values, where they are texts.
+    pub fn texts(&self) -> Option<&Texts>
+        ensures some { IfSome result (λ _. column_type self.now ≡ kind.Text) }
+        ensures none { IfNone result (column_type self.now ≡ kind.Int) }
+        ensures long { IfSome result (λ t. length t.now ≡ size self.now) }
+        ensures values { IfSome result (λ t. (k : ℕ) → entry self.now k ≡ text (slice_index_or t.now k [])) }
+    {
+        match self {
+            Column::Int(_) => None,
+            Column::Text(t) => Some(t),
         }
     }
 

@@ -15,6 +15,7 @@ pub use open::OpenRows;
 pub use row::Row;
 pub use rows::Rows;
 pub use sorting::compare_on;
+pub use texts::Texts;
 pub use vx_bytes::{
     Broken, ByteIn, ByteOut, MemoryIn, MemoryOut, ReadFault, Real, read_all, write_all,
 };

@@ -9,6 +9,7 @@ ghost use Rattle.vx_values.specs.Types.{type_at, Fits};
 ghost use Rattle.vx_rows.specs.Columns.{entry, rows_of, AreRows};
 
 use crate::column::Column;
+use crate::texts::Texts;
 use crate::writes::{
     empty_columns, put_cells, put_picked, put_row, put_rows, put_rows_at, put_values, reserve_rows,
 };
@@ -348,5 +349,34 @@ impl Rows {
     {
         let empty = Rows::new(alloc, self.types())?;
         Ok(mem::replace(self, empty))
+    }
+}
+
+// The values of a column where they lie, for loops over one column.
+impl Rows {
+    ghost use Rattle.std.specs.Prelude.{ℕ, pos, slice_index_or, IfSome, IfNone};
+    ghost use Rattle.vx_values.specs.declared.value.ColType.TheVariants as kind;
+    ghost use Rattle.vx_values.specs.Values.{num, text};
+
+    /// The numbers of a column, that of row i at position i, where it has numbers. More may follow the last row's.
+    pub fn numbers(&self, column: usize) -> Option<&[i64]>
+        requires { column < length self.now.types }
+        ensures some { IfSome result (λ _. type_at self.now.types column ≡ kind.Int) }
+        ensures none { IfNone result (type_at self.now.types column ≡ kind.Text) }
+        ensures long { IfSome result (λ v. length self.now.rows ≤ length v.now) }
+        ensures values { IfSome result (λ v. (k : ℕ) → k < length self.now.rows → value_at (row self.now k) column ≡ num (slice_index_or v.now k (pos 0))) }
+    {
+        self.columns[column].numbers()
+    }
+
+    /// The texts of a column, that of row i at position i, where it has texts. More may follow the last row's.
+    pub fn texts(&self, column: usize) -> Option<&Texts>
+        requires { column < length self.now.types }
+        ensures some { IfSome result (λ _. type_at self.now.types column ≡ kind.Text) }
+        ensures none { IfNone result (type_at self.now.types column ≡ kind.Int) }
+        ensures long { IfSome result (λ t. length self.now.rows ≤ length t.now) }
+        ensures values { IfSome result (λ t. (k : ℕ) → k < length self.now.rows → value_at (row self.now k) column ≡ text (slice_index_or t.now k [])) }
+    {
+        self.columns[column].texts()
     }
 }

@@ -113,7 +113,7 @@ impl Model for Texts {
 
 impl Texts {
     /// No texts.
-    pub fn new(alloc: Global) -> Result<Texts, AllocError>
+    pub(crate) fn new(alloc: Global) -> Result<Texts, AllocError>
         ensures { IfOk result (λ t. t ≡ []) }
     {
         let mut cuts = Vec::new(alloc);
@@ -122,6 +122,13 @@ impl Texts {
             bytes: Vec::new(alloc),
             cuts,
         })
+    }
+
+    /// How many texts there are.
+    pub fn len(&self) -> usize
+        ensures { result ≡ length self.now }
+    {
+        self.cuts.len() - 1
     }
 
     /// The text at a position.
@@ -133,7 +140,7 @@ impl Texts {
     }
 
     /// Leaves the first `at` texts, and adds one, which is in UTF-8 as any `str` is.
-    pub fn put(&mut self, at: usize, text: &str) -> Result<(), AllocError>
+    pub(crate) fn put(&mut self, at: usize, text: &str) -> Result<(), AllocError>
         requires { at ≤ length self.old }
         ensures held { is_utf8 text.now ≡ true }
         ensures kept { (k : ℕ) → k < at → slice_index_or self.new k [] ≡ slice_index_or self.old k [] }
@@ -145,7 +152,7 @@ impl Texts {
     }
 
     /// Leaves the first `at` texts, and adds those of another from `from` up to `to`.
-    pub fn put_range(
+    pub(crate) fn put_range(
         &mut self,
         at: usize,
         other: &Texts,
@@ -172,7 +179,7 @@ impl Texts {
     }
 
     /// Leaves the first `at` texts, and adds those of another at some positions, in their order.
-    pub fn put_at(
+    pub(crate) fn put_at(
         &mut self,
         at: usize,
         other: &Texts,
@@ -197,7 +204,7 @@ impl Texts {
     }
 
     /// Makes room for so many more texts, but for none of their bytes.
-    pub fn reserve(&mut self, additional: usize) -> Result<(), AllocError>
+    pub(crate) fn reserve(&mut self, additional: usize) -> Result<(), AllocError>
         ensures { self.new ≡ self.old }
     {
         self.cuts.reserve(additional)

@@ -1,0 +1,113 @@
+//! Rows in many chunks.
+
+ghost use Rattle.std.specs.Prelude.{◌≡◌, [], ◌∷◌, IfOk};
+ghost use Rattle.vx_values.specs.declared.value.ColType.TheVariants as kind;
+
+use crate::cuts::{all_below, cut, five, whole};
+use std::alloc::{AllocError, Global};
+use std::test::Fail;
+use test_tables::shown;
+use vx_views::ChunkedRows;
+
+// The five rows in three chunks: two rows, none, and three.
+fn three_chunks(alloc: Global) -> Result<ChunkedRows, AllocError>
+    ensures { IfOk result (λ r. r.types ≡ kind.Int ∷ kind.Text ∷ []) }
+{
+    let all = whole(alloc, &five(alloc)?)?;
+    let mut rows = ChunkedRows::new(alloc, all.types())?;
+    rows.push(cut(alloc, &all, 0, 2)?)?;
+    rows.push(cut(alloc, &all, 2, 2)?)?;
+    rows.push(cut(alloc, &all, 2, 5)?)?;
+    Ok(rows)
+}
+
+// The rows as text.
+fn text(alloc: Global, rows: &ChunkedRows) -> Result<String, AllocError> {
+    shown(alloc, &rows.gathered(alloc)?)
+}
+
+// The rows from `from` up to `to`, as far as there are such.
+fn part(
+    alloc: Global,
+    rows: &ChunkedRows,
+    from: usize,
+    to: usize,
+) -> Result<ChunkedRows, AllocError> {
+    let to = to.min(rows.len());
+    let from = from.min(to);
+    Ok(rows.slice(alloc, from, to)?)
+}
+
+#[test]
+fn a_cut_goes_over_the_ends_of_chunks(rt: HostRuntime) -> Result<(), Fail> {
+    let alloc = rt.alloc();
+    let rows = three_chunks(alloc)?;
+    assert_eq!(rt; rows.len(), 5);
+    assert_eq!(rt; rows.chunks().len(), 2);
+    assert_eq!(rt;
+        text(alloc, &rows)?.as_str(),
+        "1 'a';2 'b';3 'c';4 'd';5 'e';"
+    );
+    assert_eq!(rt;
+        text(alloc, &part(alloc, &rows, 1, 4)?)?.as_str(),
+        "2 'b';3 'c';4 'd';"
+    );
+    assert_eq!(rt;
+        text(alloc, &part(alloc, &rows, 3, 5)?)?.as_str(),
+        "4 'd';5 'e';"
+    );
+    assert_eq!(rt; text(alloc, &part(alloc, &rows, 2, 2)?)?.as_str(), "");
+    Ok(())
+}
+
+// The rows at some places, or none where a place is too great.
+fn at(alloc: Global, rows: &ChunkedRows, places: &[usize]) -> Result<ChunkedRows, AllocError> {
+    if all_below(places, rows.len()) {
+        return Ok(rows.at(alloc, places)?);
+    }
+    Ok(ChunkedRows::new(alloc, rows.types())?)
+}
+
+#[test]
+fn places_may_lie_in_any_chunk(rt: HostRuntime) -> Result<(), Fail> {
+    let alloc = rt.alloc();
+    let rows = three_chunks(alloc)?;
+    let some = at(alloc, &rows, &[4, 2, 0, 1, 3])?;
+    assert_eq!(rt; some.chunks().len(), 3);
+    assert_eq!(rt;
+        text(alloc, &some)?.as_str(),
+        "5 'e';3 'c';1 'a';2 'b';4 'd';"
+    );
+    assert!(rt; at(alloc, &rows, &[])?.is_empty());
+    Ok(())
+}
+
+// These columns, or all where one is too great.
+fn columns(alloc: Global, rows: ChunkedRows, cols: &[usize]) -> Result<ChunkedRows, AllocError> {
+    if all_below(cols, rows.types().len()) {
+        return Ok(rows.project(alloc, cols)?);
+    }
+    Ok(rows)
+}
+
+#[test]
+fn all_chunks_are_projected(rt: HostRuntime) -> Result<(), Fail> {
+    let alloc = rt.alloc();
+    let texts = columns(alloc, three_chunks(alloc)?, &[1])?;
+    assert_eq!(rt; text(alloc, &texts)?.as_str(), "'a';'b';'c';'d';'e';");
+    Ok(())
+}
+
+#[test]
+fn appended_rows_stand_behind(rt: HostRuntime) -> Result<(), Fail> {
+    let alloc = rt.alloc();
+    let mut rows = three_chunks(alloc)?;
+    let others = three_chunks(alloc)?;
+    rows.append(others)?;
+    assert_eq!(rt; rows.len(), 10);
+    let taken = rows.take(alloc)?;
+    assert!(rt; rows.is_empty());
+    let text = text(alloc, &part(alloc, &taken, 3, 7)?)?;
+    assert_eq!(rt; text.as_str(), "4 'd';5 'e';1 'a';2 'b';");
+    Ok(())
+}

@@ -1,0 +1,9 @@
+pub mod Facts
+pub mod Passing
+pub mod Columns
+pub mod Fitting
+pub mod Chunked
+pub mod Own
+pub mod Joined
+pub mod Whole
+pub mod Maybe

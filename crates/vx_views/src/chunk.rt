@@ -1,0 +1,378 @@
+//! Rows whose values lie in several shared tables side by side.
+
+ghost use Rattle.std.specs.Prelude.{◌≡◌, ◌↔◌, ◌+◌, ◌^◌, ◌<◌, ◌≤◌, ◌++◌, [], length, map, zip, slice_range, All, IfOk, IfSome, IfNone, IsTrue, OnOk};
+ghost use Rattle.std.specs.List.{AllByRecursion};
+ghost use Rattle.std.specs.Arc.{arc_value};
+ghost use Rattle.vx_values.specs.declared.value.ColType.TheVariants as kind;
+ghost use Rattle.vx_values.specs.Values.{value_at, pick};
+ghost use Rattle.vx_values.specs.ValueView.{cell_val};
+ghost use Rattle.vx_values.specs.Types.{type_at, Fits};
+ghost use Rattle.vx_rows.specs.View.{row, AreColumns, ArePositions};
+ghost use Rattle.vx_rows.specs.Lists.{each_below};
+ghost use Rattle.vx_views.specs.Chunks.{sliced, chosen, field_at, own_field, shifted};
+ghost use Rattle.vx_views.specs.Selected.{of_number, places_of, AreNumbers, AreTexts};
+ghost use Rattle.vx_views.specs.Seen.{seen_positions};
+
+use crate::part::Part;
+use crate::places::NumberTest;
+use crate::selection::Seen;
+use std::alloc::{AllocError, Global};
+use std::marker::Model;
+use std::sync::Arc;
+use vx_rows::{Cell, ColType, Rows, Texts};
+
+/// Where the values of a column lie: a part, and a column of it.
+#[derive(Clone, Copy, Debug)]
+pub struct Field {
+    pub part: usize,
+    pub column: usize,
+}
+
+/// Rows whose values lie in several shared tables side by side. Columns of one table share one list of positions.
+#[derive(Drop)]
+pub struct Chunk {
+    types: Vec<ColType>,
+    parts: Vec<Part>,
+    fields: Vec<Field>,
+    count: usize,
+}
+
+impl Model for Chunk {
+    ghost use Rattle.vx_rows.specs.View.{RowsView};
+    ghost use Rattle.vx_rows.specs.Lists.{each_below};
+
+    ghost Value = { RowsView };
+
+    ghost use Rattle.vx_views.specs.Chunks.{row_in, IsChunk};
+
+    ghost view = { λ c. record { types = c.types.items; rows = each_below c.count (row_in c.parts.items c.fields.items) } };
+
+    ghost invariant = { λ c. IsChunk c.types.items c.parts.items c.fields.items c.count };
+}
+
+impl Chunk {
+    /// The rows of a table from `from` up to `to`, with all columns. No cell is copied.
+    pub fn of(alloc: Global, base: &Arc<Rows>, from: usize, to: usize) -> Result<Chunk, AllocError>
+        requires order { from ≤ to }
+        requires there { to ≤ length (arc_value base.now).rows }
+        ensures types { IfOk result (λ c. c.types ≡ (arc_value base.now).types) }
+        ensures rows { IfOk result (λ c. c.rows ≡ slice_range (arc_value base.now).rows from to) }
+    {
+        base.fit();
+        let types = Vec::from_slice(alloc, base.types())?;
+        let fields = own_fields(alloc, types.len())?;
+        let part = Part::of(base, from, to)?;
+        let count = to - from;
+        let mut parts = Vec::with_capacity(alloc, 1)?;
+        parts.push(part)?;
+        Ok(Chunk {
+            types,
+            parts,
+            fields,
+            count,
+        })
+    }
+
+    /// How many rows there are.
+    pub fn len(&self) -> usize
+        ensures { result ≡ length self.now.rows }
+    {
+        self.count
+    }
+
+    /// Whether there are no rows.
+    pub fn is_empty(&self) -> bool
+        ensures { IsTrue result ↔ (self.now.rows ≡ []) }
+    {
+        self.len() == 0
+    }
+
+    /// Each row fits the types. It does nothing: a caller who needs the fact calls it.
+    pub fn fit(&self)
+        ensures { AllByRecursion (Fits self.now.types) self.now.rows }
+    {
+        let _types = &self.types;
+    }
+
+    /// The types of the columns.
+    pub fn types(&self) -> &[ColType]
+        ensures { result.now ≡ self.now.types }
+    {
+        self.types.as_slice()
+    }
+
+    /// The value of a row in a column.
+    pub fn cell(&self, i: usize, column: usize) -> Cell<'_>
+        requires row { i < length self.now.rows }
+        requires column { column < length self.now.types }
+        ensures { cell_val result ≡ value_at (row self.now i) column }
+    {
+        let field = self.fields[column];
+        self.parts[field.part].cell(i, field.column)
+    }
+
+    /// The rows from `from` up to `to`.
+    pub fn slice(&self, alloc: Global, from: usize, to: usize) -> Result<Chunk, AllocError>
+        requires order { from ≤ to }
+        requires there { to ≤ length self.now.rows }
+        ensures types { IfOk result (λ c. c.types ≡ self.now.types) }
+        ensures rows { IfOk result (λ c. c.rows ≡ slice_range self.now.rows from to) }
+    {
+        let parts = parts_slice(alloc, self.parts.as_slice(), from, to)?;
+        let types = Vec::from_slice(alloc, self.types.as_slice())?;
+        let fields = Vec::from_slice(alloc, self.fields.as_slice())?;
+        Ok(Chunk {
+            types,
+            parts,
+            fields,
+            count: to - from,
+        })
+    }
+
+    /// The rows at some places, in their order.
+    pub fn at(&self, alloc: Global, places: &[usize]) -> Result<Chunk, AllocError>
+        requires { ArePositions (length self.now.rows) places.now }
+        ensures types { IfOk result (λ c. c.types ≡ self.now.types) }
+        ensures rows { IfOk result (λ c. c.rows ≡ map (row self.now) places.now) }
+    {
+        let parts = parts_at(alloc, self.parts.as_slice(), places)?;
+        let types = Vec::from_slice(alloc, self.types.as_slice())?;
+        let fields = Vec::from_slice(alloc, self.fields.as_slice())?;
+        Ok(Chunk {
+            types,
+            parts,
+            fields,
+            count: places.len(),
+        })
+    }
+
+    /// These columns, in this order.
+    pub fn project(self, alloc: Global, cols: &[usize]) -> Result<Chunk, AllocError>
+        requires { AreColumns (length self.types) cols.now }
+        ensures types { IfOk result (λ c. c.types ≡ map (type_at self.types) cols.now) }
+        ensures rows { IfOk result (λ c. c.rows ≡ map (pick cols.now) self.rows) }
+    {
+        let types = types_at(alloc, self.types.as_slice(), cols)?;
+        let fields = fields_at(alloc, self.fields.as_slice(), cols)?;
+        let Chunk {
+            types: _,
+            parts,
+            fields: _,
+            count,
+        } = self;
+        Ok(Chunk {
+            types,
+            parts,
+            fields,
+            count,
+        })
+    }
+
+    /// The same rows once more, by other handles on the same tables.
+    pub fn share(&self, alloc: Global) -> Result<Chunk, AllocError>
+        ensures { IfOk result (λ c. c ≡ self.now) }
+    {
+        Ok(self.slice(alloc, 0, self.len())?)
+    }
+
+    /// Rows of two others side by side: the first places together, then the second, and so on.
+    pub fn joined(
+        alloc: Global,
+        left: &Chunk,
+        left_places: &[usize],
+        right: &Chunk,
+        right_places: &[usize],
+    ) -> Result<Chunk, AllocError>
+        requires left { ArePositions (length left.now.rows) left_places.now }
+        requires right { ArePositions (length right.now.rows) right_places.now }
+        requires many { length left_places.now ≡ length right_places.now }
+        ensures types { IfOk result (λ c. c.types ≡ left.now.types ++ right.now.types) }
+        ensures rows { IfOk result (λ c. c.rows ≡ map (λ p. row left.now p.0 ++ row right.now p.1) (zip left_places.now right_places.now)) }
+    {
+        let left = left.at(alloc, left_places)?;
+        let right = right.at(alloc, right_places)?;
+        Ok(beside(alloc, left, right)?)
+    }
+
+    /// The places of the rows whose number in a column passes a test.
+    pub fn places_where<T: NumberTest>(
+        &self,
+        alloc: Global,
+        column: usize,
+        test: &T,
+    ) -> Result<Vec<usize>, AllocError>
+        requires column { column < length self.now.types }
+        requires number { type_at self.now.types column ≡ kind.Int }
+        ensures { IfOk result (λ v. v.items ≡ places_of (λ r. of_number (T.says test.now) (value_at r column)) self.now.rows) }
+    {
+        let field = self.fields[column];
+        self.parts[field.part].places_where(alloc, field.column, test)
+    }
+
+    /// The numbers of a column where they lie, and the positions in them of the rows, where it has numbers.
+    pub fn numbers(&self, column: usize) -> Option<(&[i64], Seen<'_>)>
+        requires { column < length self.now.types }
+        ensures kind { IfSome result (λ _. type_at self.now.types column ≡ kind.Int) }
+        ensures none { IfNone result (type_at self.now.types column ≡ kind.Text) }
+        ensures values { IfSome result (λ r. AreNumbers r.0.now (seen_positions r.1) column self.now.rows) }
+    {
+        let field = self.fields[column];
+        self.parts[field.part].numbers(field.column)
+    }
+
+    /// The texts of a column where they lie, and the positions in them of the rows, where it has texts.
+    pub fn texts(&self, column: usize) -> Option<(&Texts, Seen<'_>)>
+        requires { column < length self.now.types }
+        ensures kind { IfSome result (λ _. type_at self.now.types column ≡ kind.Text) }
+        ensures none { IfNone result (type_at self.now.types column ≡ kind.Int) }
+        ensures values { IfSome result (λ r. AreTexts r.0.now (seen_positions r.1) column self.now.rows) }
+    {
+        let field = self.fields[column];
+        self.parts[field.part].texts(field.column)
+    }
+
+    // The part whose rows these are as they stand there, all columns in order, where there is one.
+    pub(crate) fn only_part(&self) -> Option<&Part>
+        ensures { IfSome result (λ p. p.now ≡ self.now) }
+    {
+        if self.parts.len() != 1 {
+            return None;
+        }
+        let part = &self.parts[0];
+        if are_own(self.fields.as_slice(), part.types().len()) {
+            return Some(part);
+        }
+        None
+    }
+}
+
+// Two chunks of equally many rows, side by side.
+fn beside(alloc: Global, left: Chunk, right: Chunk) -> Result<Chunk, AllocError>
+    requires { length left.rows ≡ length right.rows }
+    ensures types { IfOk result (λ c. c.types ≡ left.types ++ right.types) }
+    ensures rows { IfOk result (λ c. c.rows ≡ map (λ p. p.0 ++ p.1) (zip left.rows right.rows)) }
+{
+    let Chunk {
+        mut types,
+        mut parts,
+        mut fields,
+        count,
+    } = left;
+    let Chunk {
+        types: right_types,
+        parts: mut right_parts,
+        fields: right_fields,
+        count: _,
+    } = right;
+    types.extend_from_slice(right_types.as_slice())?;
+    push_shifted(&mut fields, right_fields.as_slice(), parts.len())?;
+    parts.append(&mut right_parts)?;
+    Ok(Chunk {
+        types,
+        parts,
+        fields,
+        count,
+    })
+}
+
+// Adds the fields of others, before whose parts so many stand.
+fn push_shifted(fields: &mut Vec<Field>, others: &[Field], before: usize) -> Result<(), AllocError>
+    requires { All (λ f. f.part + before < 2 ^ 64) others.now }
+    ensures { OnOk result (fields.new.items ≡ fields.old.items ++ map (shifted before) others.now) }
+{
+    for i in 0..others.len() {
+        let field = others[i];
+        fields.push(Field {
+            part: field.part + before,
+            column: field.column,
+        })?;
+    }
+    Ok(())
+}
+
+// Whether these fields are all columns of the first part, in order.
+fn are_own(fields: &[Field], width: usize) -> bool
+    ensures { IsTrue result → fields.now ≡ each_below width own_field }
+{
+    if fields.len() != width {
+        return false;
+    }
+    for column in 0..width {
+        let field = fields[column];
+        if field.part != 0 || field.column != column {
+            return false;
+        }
+    }
+    true
+}
+
+// The parts at some places.
+fn parts_at(alloc: Global, parts: &[Part], places: &[usize]) -> Result<Vec<Part>, AllocError>
+    requires { All (λ t. ArePositions (length t.rows) places.now) parts.now }
+    ensures { IfOk result (λ v. v.items ≡ map (chosen places.now) parts.now) }
+{
+    let mut found = Vec::with_capacity(alloc, parts.len())?;
+    for i in 0..parts.len() {
+        let part = parts[i].at(alloc, places)?;
+        found.push(part)?;
+    }
+    Ok(found)
+}
+
+// A part of the rows of each part.
+fn parts_slice(
+    alloc: Global,
+    parts: &[Part],
+    from: usize,
+    to: usize,
+) -> Result<Vec<Part>, AllocError>
+    requires order { from ≤ to }
+    requires there { All (λ t. to ≤ length t.rows) parts.now }
+    ensures { IfOk result (λ v. v.items ≡ map (sliced from to) parts.now) }
+{
+    let mut found = Vec::with_capacity(alloc, parts.len())?;
+    for i in 0..parts.len() {
+        let part = parts[i].slice(from, to)?;
+        found.push(part)?;
+    }
+    Ok(found)
+}
+
+// The types of some columns.
+pub(crate) fn types_at(
+    alloc: Global,
+    types: &[ColType],
+    cols: &[usize],
+) -> Result<Vec<ColType>, AllocError>
+    requires { AreColumns (length types.now) cols.now }
+    ensures { IfOk result (λ v. v.items ≡ map (type_at types.now) cols.now) }
+{
+    let mut found = Vec::with_capacity(alloc, cols.len())?;
+    for i in 0..cols.len() {
+        found.push(types[cols[i]])?;
+    }
+    Ok(found)
+}
+
+// The fields of some columns.
+fn fields_at(alloc: Global, fields: &[Field], cols: &[usize]) -> Result<Vec<Field>, AllocError>
+    requires { AreColumns (length fields.now) cols.now }
+    ensures { IfOk result (λ v. v.items ≡ map (field_at fields.now) cols.now) }
+{
+    let mut found = Vec::with_capacity(alloc, cols.len())?;
+    for i in 0..cols.len() {
+        found.push(fields[cols[i]])?;
+    }
+    Ok(found)
+}
+
+// All columns of one part.
+fn own_fields(alloc: Global, n: usize) -> Result<Vec<Field>, AllocError>
+    ensures { IfOk result (λ v. v.items ≡ each_below n own_field) }
+{
+    let mut fields = Vec::with_capacity(alloc, n)?;
+    for column in 0..n {
+        fields.push(Field { part: 0, column })?;
+    }
+    Ok(fields)
+}

@@ -1,0 +1,92 @@
+//! The places of numbers that pass a test.
+
+ghost use Rattle.std.specs.Prelude.{◌≡◌, ℕ, ◌+◌, ◌<◌, ◌++◌, ◌∷◌, [], cond, pos, length, map, slice_index_or, IfOk, OnOk};
+ghost use Rattle.vx_values.specs.Values.{num};
+ghost use Rattle.vx_rows.specs.View.{ArePositions};
+ghost use Rattle.vx_rows.specs.Lists.{each_below};
+ghost use Rattle.vx_views.specs.Selected.{of_number, places_of};
+
+use std::alloc::{AllocError, Global};
+
+/// A test of a number. What it says of a number depends on nothing else.
+pub trait NumberTest {
+    ghost use Rattle.std.specs.Prelude.{◌≡◌, ℤ, Bool};
+
+    ghost says: { Self → ℤ → Bool };
+
+    /// Whether a number passes.
+    fn passes(&self, number: &i64) -> bool
+        ensures { result ≡ says self.now number.now };
+}
+
+/// The numbers from `least` to `most`: none, where `most` is smaller.
+#[derive(Clone, Copy, Debug)]
+pub struct Between {
+    pub least: i64,
+    pub most: i64,
+}
+
+impl NumberTest for Between {
+    ghost use Rattle.vx_views.specs.Selected.{is_between};
+
+    ghost says = { λ b z. is_between b.least b.most z };
+
+    fn passes(&self, number: &i64) -> bool {
+        self.least <= *number && *number <= self.most
+    }
+}
+
+// The numbers at the positions from `from` on, so many.
+pub(crate) fn part_of(numbers: &[i64], from: usize, count: usize) -> &[i64]
+    requires { (k : ℕ) → k < count → from + k < length numbers.now }
+    ensures { map num result.now ≡ map (λ q. num (slice_index_or numbers.now q (pos 0))) (each_below count (λ k. from + k)) }
+{
+    if count == 0 {
+        return &[];
+    }
+    &numbers[from..from + count]
+}
+
+// Adds a place, if it passes.
+fn push_if(places: &mut Vec<usize>, place: usize, passes: bool) -> Result<(), AllocError>
+    ensures { OnOk result (places.new.items ≡ places.old.items ++ cond passes (place ∷ []) []) }
+{
+    if passes {
+        places.push(place)?;
+    }
+    Ok(())
+}
+
+// The places of numbers that pass.
+pub(crate) fn places_in<T: NumberTest>(
+    alloc: Global,
+    numbers: &[i64],
+    test: &T,
+) -> Result<Vec<usize>, AllocError>
+    ensures { IfOk result (λ v. v.items ≡ places_of (of_number (T.says test.now)) (map num numbers.now)) }
+{
+    let mut places = Vec::new(alloc);
+    for i in 0..numbers.len() {
+        let passes = test.passes(&numbers[i]);
+        push_if(&mut places, i, passes)?;
+    }
+    Ok(places)
+}
+
+// The places of positions whose numbers pass.
+pub(crate) fn places_at<T: NumberTest>(
+    alloc: Global,
+    numbers: &[i64],
+    positions: &[usize],
+    test: &T,
+) -> Result<Vec<usize>, AllocError>
+    requires { ArePositions (length numbers.now) positions.now }
+    ensures { IfOk result (λ v. v.items ≡ places_of (of_number (T.says test.now)) (map (λ p. num (slice_index_or numbers.now p (pos 0))) positions.now)) }
+{
+    let mut places = Vec::new(alloc);
+    for i in 0..positions.len() {
+        let passes = test.passes(&numbers[positions[i]]);
+        push_if(&mut places, i, passes)?;
+    }
+    Ok(places)
+}
