@@ -133,7 +133,7 @@ receiver-operator j place n c kind merge p s types producers runs stands op shap
       op ∙ ap (λ z. receive (unmerged_end n place z types)) many ∙ ap (λ z. receive (unmerged_end n place (workers (group_at j.groups.items) (size p)) z)) e
       ∙ ap (λ z. receive (record { exchange = n; place = place; producers = workers (group_at j.groups.items) (size p); types = types_of (relations j.plan.now) p; merge = z; in_order = false })) (sym (merges-not n c kind merge p runs))
       ∙ ap (λ b. receive (record { exchange = n; place = place; producers = workers (group_at j.groups.items) (size p); types = types_of (relations j.plan.now) p; merge = merge; in_order = b }))
-        (sym (not-concat kind (and-left (can_run_kind kind) (can_merge merge && can_run p) runs)));
+      (sym (not-concat kind (and-left (can_run_kind kind) (can_merge merge && can_run p) runs)));
   stands = stands;
   takes = ap (λ (x : Shape). x.left) shape ∙ e;
   gives = ap (λ (x : Shape). x.out) shape ∙ e;
