@@ -58,7 +58,6 @@ impl Chunk {
         ensures types { IfOk result (λ c. c.types ≡ (arc_value base.now).types) }
         ensures rows { IfOk result (λ c. c.rows ≡ slice_range (arc_value base.now).rows from to) }
     {
-        base.fit();
         let types = Vec::from_slice(alloc, base.types())?;
         let fields = own_fields(alloc, types.len())?;
         let part = Part::of(base, from, to)?;
@@ -87,16 +86,10 @@ impl Chunk {
         self.len() == 0
     }
 
-    /// Each row fits the types. It does nothing: a caller who needs the fact calls it.
-    pub fn fit(&self)
-        ensures { AllByRecursion (Fits self.now.types) self.now.rows }
-    {
-        let _types = &self.types;
-    }
-
-    /// The types of the columns.
+    /// The types of the columns, which each row fits.
     pub fn types(&self) -> &[ColType]
-        ensures { result.now ≡ self.now.types }
+        ensures types { result.now ≡ self.now.types }
+        ensures fit { AllByRecursion (Fits self.now.types) self.now.rows }
     {
         self.types.as_slice()
     }

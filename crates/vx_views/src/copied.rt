@@ -43,7 +43,6 @@ fn push_row(filling: &mut OpenRows, chunk: &Chunk, i: usize) -> Result<(), Alloc
     ensures rows { OnOk result (filling.new.rows ≡ filling.old.rows ++ row chunk.now i ∷ []) }
     ensures front { OnOk result (filling.new.front ≡ []) }
 {
-    chunk.fit();
     for column in 0..chunk.types().len() {
         filling.push_cell(chunk.cell(i, column))?;
     }
