@@ -9,4 +9,4 @@ returns-then-are_own c =
     let own = c.are_own.ensures c.if-are_own.true in
     only-seen c.self.inside.types.items c.self.inside.parts.items c.self.inside.fields.items c.self.inside.count c.args.self.now c.index-part.result.now c.self.invariant c.self.view_is
     (omega (arith, c.if-len-ne1.false, c.len.ensures, c.self.inside.parts.ok.0)) c.index-part.ensures
-    (sym c.as_slice.ensures.value ∙ (own ∙ ap (λ ts. each_below (length ts) own_field) c.types.ensures.types))
+    (sym c.as_slice.ensures.value ∙ (own ∙ ap (λ ts. each_below (length ts) own_field) c.types.ensures))
