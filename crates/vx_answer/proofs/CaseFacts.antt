@@ -1,5 +1,5 @@
 -- A case is refused with status 3 only by its setup.
-use Rattle.std.proofs.Common.{◌≡◌, ◌∙◌, ℕ, ◌+◌, ◌<◌, List, length, Bool, true, false, Option, Some, None, Result, Ok, Err, refl, ap, arith, inl, inr, subst}
+use Rattle.std.proofs.Common.{◌≡◌, ◌∙◌, ℕ, ◌+◌, ◌<◌, List, length, Bool, true, false, cond, Option, Some, None, Result, Ok, Err, refl, ap, arith, inl, inr, subst}
 use Rattle.std.specs.Prelude.{⊤}
 use Rattle.vx_values.specs.Values.{Row}
 use Rattle.vx_relations.specs.Relation.{Relation}
@@ -16,8 +16,9 @@ use Rattle.vx_plan_json.specs.declared.fault.PlanFault.{PlanFault}
 use Rattle.vx_plan_json.specs.declared.fault.PlanFault.TheVariants as of_plan
 use Rattle.vx_plan_nodes.specs.Plan.{Plan}
 use Rattle.vx_plan_nodes.specs.Outline.{Outline, scan, unary, binary, exchange, plan_in}
-use Rattle.vx_plan_nodes.specs.Erase.{nodes_left}
-use Rattle.vx_plan_nodes.specs.Erased.{erased_from}
+use Rattle.vx_plan_nodes.specs.Erase.{nodes_left, at_once}
+use Rattle.vx_plan_nodes.specs.Erased.{erased_from, erased_top}
+use Rattle.vx_plan_nodes.specs.Phases.{is_final}
 use Rattle.vx_plan_nodes.specs.Names.{TypedPlanView}
 use Rattle.vx_setup.specs.Setup.{SetupView, is_within, groups_named, first_missing, first_out_of_range}
 use Rattle.vx_setup.specs.declared.fault.RunFault.{RunFault}
@@ -156,10 +157,16 @@ plan_refuses : (b : Bundle) (p : TypedPlanView) (e : Refusal) → IsCase b p →
 plan_refuses b p e case (commanded.for_tables h) three = absurd (tables_load b.tables (plan_in p.root) p.names.catalog e case.loaded h three)
 plan_refuses b p e case (commanded.for_run db there h) three = run_refuses b p db e there.same h three
 
+-- of two plans without exchanges either has none
+either_left : (b : Bool) (x y : Outline) → first_exchange (plan_in x) ≡ None → first_exchange (plan_in y) ≡ None → first_exchange (plan_in (cond b x y)) ≡ None
+either_left true x y p q = p
+either_left false x y p q = q
+
 -- a plan without its exchanges has none
 none_left : (i : ℕ) (o : Outline) → first_exchange (plan_in (erased_from i o)) ≡ None
 none_left i (scan h r m z p) = refl
-none_left i (unary h op flags t) = none_left (i + 1) t
+none_left i (unary h op flags t) =
+    either_left (is_final op) (erased_from i t) (unary (erased_top i h) (at_once op) flags (erased_from (i + 1) t)) (none_left i t) (none_left (i + 1) t)
 none_left i (binary h op t u) = rw (none_left (i + 1) t) (none_left (i + 1 + nodes_left (plan_in t)) u)
 none_left i (exchange h k m t) = none_left i t
 

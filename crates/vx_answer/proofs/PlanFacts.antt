@@ -1,5 +1,5 @@
 -- A resolved plan names the catalog over which it was resolved.
-use Rattle.std.proofs.Common.{◌≡◌, ℕ, List, Result, Ok, Err, refl}
+use Rattle.std.proofs.Common.{◌≡◌, ℕ, List, Result, Ok, Err, refl, false}
 use Rattle.std.specs.Prelude.{IfOk}
 use Rattle.vx_relations.specs.Relation.{Relation}
 use Rattle.vx_plan_json.specs.Document.{Document}
@@ -21,9 +21,9 @@ unfolding resolved
 resolved_is_over d catalog =
     let s : Names = record { catalog = catalog; ranges = d.ranges; sizes = d.sizes } in
     let last = λ (t : Outline × ℕ). Ok (record { names = s; total = d.total; root = t.0 }) in
-    then_holds (IsOver catalog) (λ u. ranges_tested d.ranges >>= λ v. typed_in s 0 d.root >>= last) (sizes_tested d.sizes)
-    (λ u. then_holds (IsOver catalog) (λ v. typed_in s 0 d.root >>= last) (ranges_tested d.ranges)
-    (λ v. then_holds (IsOver catalog) last (typed_in s 0 d.root) (λ t. refl)))
+    then_holds (IsOver catalog) (λ u. ranges_tested d.ranges >>= λ v. typed_in s false 0 d.root >>= last) (sizes_tested d.sizes)
+    (λ u. then_holds (IsOver catalog) (λ v. typed_in s false 0 d.root >>= last) (ranges_tested d.ranges)
+    (λ v. then_holds (IsOver catalog) last (typed_in s false 0 d.root) (λ t. refl)))
 
 pub resolve_over : (r : Result TypedPlan PlanFault) (d : Document) (catalog : List Relation) → Gives resolved_of r (resolved d catalog)
     → IfOk r (λ p. (resolved_of p).names.catalog ≡ catalog)

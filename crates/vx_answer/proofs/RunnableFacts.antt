@@ -1,5 +1,5 @@
 -- The plan of a document with no node that workers do not run is one that they can run.
-use Rattle.std.proofs.Common.{◌≡◌, ℕ, ◌+◌, List, [], ◌∷◌, ◌++◌, codes, true, Option, Some, None, Result, Ok, Err, refl, ap, ◌∙◌, subst}
+use Rattle.std.proofs.Common.{◌≡◌, ℕ, ◌+◌, List, [], ◌∷◌, ◌++◌, codes, Bool, true, false, Option, Some, None, Result, Ok, Err, refl, ap, ◌∙◌, subst}
 use Rattle.std.specs.Prelude.{⊤, IfOk}
 use Rattle.std.specs.List.{list_all}
 use Rattle.vx_relations.specs.Relation.{Relation}
@@ -54,16 +54,17 @@ Selects o = (ks : List plan.Condition) × (o.op ≡ plan.select ks)
 abbrev selection : Columns → List plan.Condition → Shape
 selection cols ks = record { op = plan.select ks; renamed = []; columns = cols }
 
-select_is : (node : ℕ) (cols : Columns) (cs : List ConditionForm) → Holds Selects (unary_shape node cols (form.select cs))
+select_is : (under : Bool) (node : ℕ) (t : Outline) (cs : List ConditionForm) → Holds Selects (unary_shape under node t (form.select cs))
 unfolding unary_shape select_shape
-select_is node cols cs =
+select_is under node t cs =
+    let cols : Columns = columns t in
     then_holds Selects (λ (ks : List plan.Condition). matched node (list_all (is_condition cols.types) ks) >>= λ u. Ok (selection cols ks)) (conditions_found node cols.names cs)
     (λ ks. then_holds Selects (λ (u : ⊤). Ok (selection cols ks)) (matched node (list_all (is_condition cols.types) ks)) (λ u. (ks, refl)))
 
-select_runs : (s : Names) (node : ℕ) (c : ClaimForm) (cs : List ConditionForm) (t : Outline) → Runs t → Holds Runs (unary_typed s node c (form.select cs) t)
+select_runs : (s : Names) (under : Bool) (node : ℕ) (c : ClaimForm) (cs : List ConditionForm) (t : Outline) → Runs t → Holds Runs (unary_typed s under node c (form.select cs) t)
 unfolding unary_typed
-select_runs s node c cs t runs =
-    holds_then Selects Runs (λ o. topped s node o.columns c >>= λ h. Ok (unary h o.op o.renamed t)) (unary_shape node (columns t) (form.select cs)) (select_is node (columns t) cs)
+select_runs s under node c cs t runs =
+    holds_then Selects Runs (λ o. topped s node o.columns c >>= λ h. Ok (unary h o.op o.renamed t)) (unary_shape under node t (form.select cs)) (select_is under node t cs)
     (λ o is. topped_runs s node o.columns c (λ h. unary h o.op o.renamed t) (λ h. rw is.1 runs))
 
 -- an exchange gathers, and does not merge
@@ -87,25 +88,28 @@ gather_runs s node c t runs =
 abbrev AllRun : Outline × ℕ → Type 0
 AllRun x = Runs x.0
 
-typed_runs : (s : Names) (node : ℕ) (path : List ℕ) (t : Tree) → first_unrunnable path t ≡ None → Holds AllRun (typed_in s node t)
+typed_runs : (s : Names) (under : Bool) (node : ℕ) (path : List ℕ) (t : Tree) → first_unrunnable path t ≡ None → Holds AllRun (typed_in s under node t)
 unfolding typed_in
-typed_runs s node path (form.scan c f) none = holds_then Runs AllRun (λ o. Ok (o, node + 1)) (scan_typed s node c f) (scan_runs s node c f) (λ o h. h)
-typed_runs s node path (form.unary c (form.select cs) t) none =
-    holds_then AllRun AllRun (λ i. unary_typed s node c (form.select cs) i.0 >>= λ o. Ok (o, i.1)) (typed_in s (node + 1) t) (typed_runs s (node + 1) (path ++ codes ".input") t none)
-    (λ i h. holds_then Runs AllRun (λ o. Ok (o, i.1)) (unary_typed s node c (form.select cs) i.0) (select_runs s node c cs i.0 h) (λ o k. k))
-typed_runs s node path (form.unary c (form.project os) t) none = cc
-typed_runs s node path (form.unary c (form.distinct os) t) none = cc
-typed_runs s node path (form.unary c (form.sort names) t) none = cc
-typed_runs s node path (form.unary c (form.group by aggregates) t) none = cc
-typed_runs s node path (form.binary c op t u) none = cc
-typed_runs s node path (form.exchange c (form.hash size route cols) m t) none = cc
-typed_runs s node path (form.exchange c (form.range size range col) m t) none = cc
-typed_runs s node path (form.exchange c (form.round size) m t) none = cc
-typed_runs s node path (form.exchange c (form.broadcast size) m t) none = cc
-typed_runs s node path (form.exchange c form.gather [] t) none =
-    holds_then AllRun AllRun (λ i. exchange_typed s node c form.gather [] i.0 >>= λ o. Ok (o, i.1)) (typed_in s (node + 1) t) (typed_runs s (node + 1) (path ++ codes ".input") t none)
+typed_runs s under node path (form.scan c f) none = holds_then Runs AllRun (λ o. Ok (o, node + 1)) (scan_typed s node c f) (scan_runs s node c f) (λ o h. h)
+typed_runs s under node path (form.unary c (form.select cs) t) none =
+    holds_then AllRun AllRun (λ i. unary_typed s under node c (form.select cs) i.0 >>= λ o. Ok (o, i.1)) (typed_in s false (node + 1) t) (typed_runs s false (node + 1) (path ++ codes ".input") t none)
+    (λ i h. holds_then Runs AllRun (λ o. Ok (o, i.1)) (unary_typed s under node c (form.select cs) i.0) (select_runs s under node c cs i.0 h) (λ o k. k))
+typed_runs s under node path (form.unary c (form.project os) t) none = cc
+typed_runs s under node path (form.unary c (form.distinct os) t) none = cc
+typed_runs s under node path (form.unary c (form.sort names) t) none = cc
+typed_runs s under node path (form.unary c (form.group by aggregates) t) none = cc
+typed_runs s under node path (form.unary c (form.partial_group by aggregates) t) none = cc
+typed_runs s under node path (form.unary c form.final_group t) none = cc
+typed_runs s under node path (form.binary c op t u) none = cc
+typed_runs s under node path (form.exchange c (form.hash size route cols) m t) none = cc
+typed_runs s under node path (form.exchange c (form.range size range col) m t) none = cc
+typed_runs s under node path (form.exchange c (form.round size) m t) none = cc
+typed_runs s under node path (form.exchange c (form.broadcast size) m t) none = cc
+typed_runs s under node path (form.exchange c form.concat m t) none = cc
+typed_runs s under node path (form.exchange c form.gather [] t) none =
+    holds_then AllRun AllRun (λ i. exchange_typed s node c form.gather [] i.0 >>= λ o. Ok (o, i.1)) (typed_in s under (node + 1) t) (typed_runs s under (node + 1) (path ++ codes ".input") t none)
     (λ i h. holds_then Runs AllRun (λ o. Ok (o, i.1)) (exchange_typed s node c form.gather [] i.0) (gather_runs s node c i.0 h) (λ o k. k))
-typed_runs s node path (form.exchange c form.gather (name ∷ names) t) none = cc
+typed_runs s under node path (form.exchange c form.gather (name ∷ names) t) none = cc
 
 abbrev RootRuns : TypedPlanView → Type 0
 RootRuns p = Runs p.root
@@ -115,9 +119,9 @@ unfolding resolved
 resolved_runs d catalog none =
     let s : Names = record { catalog = catalog; ranges = d.ranges; sizes = d.sizes } in
     let last = λ (t : Outline × ℕ). Ok (record { names = s; total = d.total; root = t.0 }) in
-    then_holds RootRuns (λ u. ranges_tested d.ranges >>= λ v. typed_in s 0 d.root >>= last) (sizes_tested d.sizes)
-    (λ u. then_holds RootRuns (λ v. typed_in s 0 d.root >>= last) (ranges_tested d.ranges)
-    (λ v. holds_then AllRun RootRuns last (typed_in s 0 d.root) (typed_runs s 0 (codes "root") d.root none) (λ t h. h)))
+    then_holds RootRuns (λ u. ranges_tested d.ranges >>= λ v. typed_in s false 0 d.root >>= last) (sizes_tested d.sizes)
+    (λ u. then_holds RootRuns (λ v. typed_in s false 0 d.root >>= last) (ranges_tested d.ranges)
+    (λ v. holds_then AllRun RootRuns last (typed_in s false 0 d.root) (typed_runs s false 0 (codes "root") d.root none) (λ t h. h)))
 
 unless_runs : (d : Document) (catalog : List Relation) (o : Option (List ℕ)) → first_unrunnable (codes "root") d.root ≡ o → Holds RootRuns (unless_at d o >>= λ d. resolved d catalog)
 unless_runs d catalog None is = resolved_runs d catalog is
