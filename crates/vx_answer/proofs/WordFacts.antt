@@ -5,7 +5,7 @@ use Rattle.clap.specs.Values.{kind_of}
 use Rattle.clap.specs.Words.{HasKind}
 use Rattle.clap.specs.declared.error.Error.{Error}
 use Rattle.vx_plan_nodes.specs.Names.{TypedPlanView}
-use Rattle.vx_words.specs.Asked.{Ask, faults_of}
+use Rattle.vx_arguments.specs.Asked.{Ask, faults_of}
 use Rattle.vx_refusals.specs.declared.refusal.Refusal.{Refusal}
 use Rattle.vx_answer.specs.declared.worded.NotTaken.{NotTaken}
 use Rattle.vx_answer.specs.declared.worded.NotTaken.TheVariants as taken

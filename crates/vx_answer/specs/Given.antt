@@ -2,7 +2,7 @@
 use Rattle.std.specs.Prelude.{◌≡◌, ℕ, ◌^◌, ◌<◌, ◌==◌, ◌++◌, List, [], ◌∷◌, length, slice_index_or, Option, Some, None, SomeIff, bytes_eq, codes, if◌then◌else◌}
 use Rattle.std.specs.Str.{NoCharPasses}
 use Rattle.std.specs.Str.Parse.{IsNumeral, digits_value, without_leading_plus}
-use Rattle.vx_words.specs.Asked.{Given}
+use Rattle.vx_arguments.specs.Asked.{Given}
 use Rattle.vx_bundle.specs.declared.setting.Mode.{Mode}
 use Rattle.vx_bundle.specs.declared.setting.Mode.TheVariants as mode
 use Rattle.vx_bundle.specs.Setting.{Named, Setting}

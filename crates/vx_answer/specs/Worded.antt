@@ -15,7 +15,7 @@ use Rattle.vx_plan_json.specs.Fault.{◌>>=◌}
 use Rattle.vx_plan_json.specs.Fault as plan
 use Rattle.vx_plan_json.specs.Reading.{document_of_text}
 use Rattle.vx_plan_json.specs.declared.fault.PlanFault.{PlanFault}
-use Rattle.vx_words.specs.Asked.{Ask, Paths, bundle, check, explain, serial, run, asked_by, faults_of}
+use Rattle.vx_arguments.specs.Asked.{Ask, Paths, bundle, check, explain, serial, run, asked_by, faults_of}
 use Rattle.vx_bundle.specs.declared.command.Command.{Command}
 use Rattle.vx_bundle.specs.declared.command.Command.TheVariants as command
 use Rattle.vx_bundle.specs.declared.setting.Mode.TheVariants as mode

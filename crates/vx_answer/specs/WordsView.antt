@@ -1,6 +1,6 @@
 -- A task that is held, and why words were not taken.
 use Rattle.std.specs.Prelude.{◌≡◌, ℕ, List, Bool, Option, string_bytes}
-use Rattle.vx_words.specs.Asked.{paths_are, Ask}
+use Rattle.vx_arguments.specs.Asked.{paths_are, Ask}
 use Rattle.vx_answer.specs.declared.worded.Task as held
 use Rattle.vx_answer.specs.declared.worded.NotTaken.{NotTaken}
 use Rattle.vx_answer.specs.declared.worded.NotTaken.TheVariants as taken

@@ -1,13 +1,13 @@
 //! How arguments set a run up.
 
 ghost use Rattle.std.specs.Prelude.{◌≡◌, map, MatchOption, IfOk};
-ghost use Rattle.vx_words.specs.Asked.{given_is};
+ghost use Rattle.vx_arguments.specs.Asked.{given_is};
 ghost use Rattle.vx_bundle.specs.Setting.{size_form};
 ghost use Rattle.vx_answer.specs.Given.{Numbers, mode_named, IsSize, IsNoSize, AreSizes, HasNoSize, IsSetting, IsNoSetting};
 
 use std::alloc::{AllocError, Global};
+use vx_arguments::Limits;
 use vx_bundle::{Mode, Setting};
-use vx_words::Limits;
 
 // The number of 32 bits that a text is.
 fn number_in(text: &str) -> Option<u32>

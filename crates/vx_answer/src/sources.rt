@@ -6,19 +6,19 @@ ghost use Rattle.vx_plan_json.specs.Fault.{Gives};
 ghost use Rattle.vx_plan_nodes.specs.TypedView.{resolved_of};
 ghost use Rattle.vx_plan_nodes.specs.Outline.{plan_in};
 ghost use Rattle.vx_setup.specs.Runnable.{can_run};
-ghost use Rattle.vx_words.specs.Asked.{paths_are};
+ghost use Rattle.vx_arguments.specs.Asked.{paths_are};
 ghost use Rattle.vx_bytes.specs.Stored.{IfBytes};
 ghost use Rattle.vx_answer.specs.Worded.{is_input, left_of, told_at, plan_text, IsFileRefusal, IsInputRefusal, Untaken, UnplannedIn, IsPlannedIn, catalog_told, plan_told};
 
 use crate::answering::MAX_BYTES;
 use crate::unrunnable::test_taken;
 use std::alloc::Global;
+use vx_arguments::Sources;
 use vx_bundle::Command;
 use vx_bytes::{ByteIn, ReadFault, Store, read_all};
 use vx_catalog::Catalog;
 use vx_plan::{Plan, PlanFault, TypedPlan, resolve};
 use vx_refusals::Refusal;
-use vx_words::Sources;
 
 // The path of standard input.
 const INPUT: &str = "-";

@@ -3,7 +3,7 @@
 ghost use Rattle.std.specs.Prelude.{◌≡◌, ◌⊎◌, map, MatchOption, IfOk, IfErr, Ok, Err};
 ghost use Rattle.clap.specs.Values.{kind_of};
 ghost use Rattle.clap.specs.declared.error.kind.ErrorKind.TheVariants as kind;
-ghost use Rattle.vx_words.specs.Asked.{asked_is, paths_are, given_is, bundle, run};
+ghost use Rattle.vx_arguments.specs.Asked.{asked_is, paths_are, given_is, bundle, run};
 ghost use Rattle.vx_answer.specs.Given.{IsNoSetting};
 ghost use Rattle.vx_answer.specs.Worded.{default_setting, IsTask, IsNoTask, IsDone, TaskRefuses, named, AnswersAsk, IsWorded};
 ghost use Rattle.vx_answer.specs.WordsView.{task_is, IsWrong, IsFault, IsNotAnswered, IsNotTaken};
@@ -15,11 +15,11 @@ use crate::sources::planned_in;
 use clap::Error;
 use clap::error::ErrorKind;
 use std::alloc::{AllocError, Global};
+use vx_arguments::{Asked, Limits, Sources, asked_for};
 use vx_bundle::{Command, MORSEL, Mode, PACKET, SLACK, Setting};
 use vx_bytes::{ByteIn, Store};
 use vx_refusals::Refusal;
 use vx_tables::Folder;
-use vx_words::{Asked, Limits, Sources, asked_for};
 
 /// A command over the catalog, the plan and the folder of tables that words name.
 #[derive(Drop)]

@@ -12,27 +12,27 @@ Entry = String Global × Value
 
 -- what the reading makes of the members once this value's is x
 abbrev after : {A : Type 0} → (Data → Option A) → Named A → Entry → List Entry → Option A → Option (Named A)
-after read front e left o = option_and_then (λ x. each_member read (front ++ (string_bytes e.0, x) ∷ []) (members_view left)) o
+after read prior e left o = option_and_then (λ x. each_member read (prior ++ (string_bytes e.0, x) ∷ []) (members_view left)) o
 
-member_step : {A : Type 0} (read : Data → Option A) (front : Named A) (e : Entry) (left : List Entry)
-    → each_member read front (members_view (e ∷ left)) ≡ after read front e left (read (view e.1))
+member_step : {A : Type 0} (read : Data → Option A) (prior : Named A) (e : Entry) (left : List Entry)
+    → each_member read prior (members_view (e ∷ left)) ≡ after read prior e left (read (view e.1))
 unfolding each_member
-member_step read front e left = refl
+member_step read prior e left = refl
 
-pub member_more : {A : Type 0} (read : Data → Option A) (front : Named A) (s : List Entry) (e : Entry) (left : List Entry) (x : A) (total : Option (Named A)) → s ≡ e ∷ left
-    → read (view e.1) ≡ Some x → each_member read front (members_view s) ≡ total → each_member read (front ++ (string_bytes e.0, x) ∷ []) (members_view left) ≡ total
-member_more read front s e left x total steps is so_far =
-    ap (after read front e left) (sym is) ∙ (sym (member_step read front e left) ∙ (sym (ap (λ es. each_member read front (members_view es)) steps) ∙ so_far))
+pub member_more : {A : Type 0} (read : Data → Option A) (prior : Named A) (s : List Entry) (e : Entry) (left : List Entry) (x : A) (total : Option (Named A)) → s ≡ e ∷ left
+    → read (view e.1) ≡ Some x → each_member read prior (members_view s) ≡ total → each_member read (prior ++ (string_bytes e.0, x) ∷ []) (members_view left) ≡ total
+member_more read prior s e left x total steps is so_far =
+    ap (after read prior e left) (sym is) ∙ (sym (member_step read prior e left) ∙ (sym (ap (λ es. each_member read prior (members_view es)) steps) ∙ so_far))
 
-pub member_none : {A : Type 0} (read : Data → Option A) (front : Named A) (s : List Entry) (e : Entry) (left : List Entry) (total : Option (Named A)) → s ≡ e ∷ left
-    → read (view e.1) ≡ None → each_member read front (members_view s) ≡ total → total ≡ None
-member_none read front s e left total steps is so_far =
-    sym (ap (after read front e left) (sym is) ∙ (sym (member_step read front e left) ∙ (sym (ap (λ es. each_member read front (members_view es)) steps) ∙ so_far)))
+pub member_none : {A : Type 0} (read : Data → Option A) (prior : Named A) (s : List Entry) (e : Entry) (left : List Entry) (total : Option (Named A)) → s ≡ e ∷ left
+    → read (view e.1) ≡ None → each_member read prior (members_view s) ≡ total → total ≡ None
+member_none read prior s e left total steps is so_far =
+    sym (ap (after read prior e left) (sym is) ∙ (sym (member_step read prior e left) ∙ (sym (ap (λ es. each_member read prior (members_view es)) steps) ∙ so_far)))
 
-pub member_done : {A : Type 0} (read : Data → Option A) (front : Named A) (s : List Entry) (total : Option (Named A)) → s ≡ []
-    → each_member read front (members_view s) ≡ total → total ≡ Some front
+pub member_done : {A : Type 0} (read : Data → Option A) (prior : Named A) (s : List Entry) (total : Option (Named A)) → s ≡ []
+    → each_member read prior (members_view s) ≡ total → total ≡ Some prior
 unfolding each_member
-member_done read front s total none so_far = sym so_far ∙ ap (λ es. each_member read front (members_view es)) none
+member_done read prior s total none so_far = sym so_far ∙ ap (λ es. each_member read prior (members_view es)) none
 
 if_found : {T : Type 0} (b : Bool) (x : List ℕ) (t : T) (text : T → List ℕ) (later : Option T) (others : Option (List ℕ × List ℕ)) → option_map text later ≡ option_map (λ (p : List ℕ × List ℕ). p.1) others
     → option_map text (cond b (Some t) later) ≡ option_map (λ (p : List ℕ × List ℕ). p.1) (cond b (Some (x, text t)) others)

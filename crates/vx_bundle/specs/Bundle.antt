@@ -33,10 +33,10 @@ if_small n = if nat_lt n (2 ^ 32) then Some n else None
 unfoldable pub number_in : Data → Option ℕ
 number_in d = option_and_then if_small (option_and_then as_u64 (as_number d))
 
--- each member's name with what `read` makes of its value, after those at the front
+-- each member's name with what `read` makes of its value, after those before
 unfoldable pub each_member : {A : Type 0} → (Data → Option A) → Named A → Members → Option (Named A)
-each_member read front no_members = Some front
-each_member read front (member k d ms) = option_and_then (λ x. each_member read (front ++ (k, x) ∷ []) ms) (read d)
+each_member read prior no_members = Some prior
+each_member read prior (member k d ms) = option_and_then (λ x. each_member read (prior ++ (k, x) ∷ []) ms) (read d)
 
 -- an object, each of whose members `read` takes
 abbrev pub members_in : {A : Type 0} → (Data → Option A) → Data → Option (Named A)

@@ -49,9 +49,9 @@ abbrev pub some_value : ℕ → ℕ → ColType → Option (List ℕ) → Result
 some_value row col type None = Err (fault.BadWidth row)
 some_value row col type (Some field) = value_of row col type field
 
--- the next value of a row, behind those at the front, in a column of this type
+-- the next value of a row, behind those before, in a column of this type
 unfoldable pub next_value : ℕ → List (List ℕ) → List Val → ColType → Result Val LoadFault
-next_value row fields front type = some_value row (length front) type (field_at fields (length front))
+next_value row fields prior type = some_value row (length prior) type (field_at fields (length prior))
 
 -- the row with this number
 unfoldable pub row_of : ℕ → List ColType → List (List ℕ) → Result Row LoadFault
@@ -61,15 +61,15 @@ row_of row types fields = if length fields == length types then walk_onto (next_
 abbrev pub max_rows : ℕ
 max_rows = 100_000_000
 
--- the rows at the front, and one more
+-- the rows at the prior, and one more
 unfoldable pub row_added : List ColType → List Row → List (List ℕ) → Result (List Row) LoadFault
-row_added types front fields =
-    if nat_lt (length front) max_rows then (row_of (length front) types fields >>= λ row. Ok (front ++ row ∷ [])) else Err fault.TooLarge
+row_added types prior fields =
+    if nat_lt (length prior) max_rows then (row_of (length prior) types fields >>= λ row. Ok (prior ++ row ∷ [])) else Err fault.TooLarge
 
--- the rows of these records, behind those at the front
+-- the rows of these records, behind those before
 unfoldable pub rows_onto : List ColType → List Row → List (List (List ℕ)) → Result (List Row) LoadFault
-rows_onto types front [] = Ok front
-rows_onto types front (fields ∷ records) = row_added types front fields >>= λ rows. rows_onto types rows records
+rows_onto types prior [] = Ok prior
+rows_onto types prior (fields ∷ records) = row_added types prior fields >>= λ rows. rows_onto types rows records
 
 abbrev pub same_name : List ℕ → ℕ → Option (List ℕ) → Bool
 same_name name i None = false

@@ -5,7 +5,7 @@ use Rattle.std.proofs.Math.Bool.{and-false}
 use Rattle.std.specs.List.{list_all, list_any}
 use Rattle.std.specs.Cmp.Lexicographic.{pointwise}
 use Rattle.std.proofs.lemmas.Bool.Decides.{nat_tests}
-use Rattle.vx_check_rules.specs.Rules.{numbers_eq, contains, within, front, numbers_below}
+use Rattle.vx_check_rules.specs.Rules.{numbers_eq, contains, within, is_prefix, numbers_below}
 
 pub list_all-ext : {X : Type 0} (p q : X → Bool) (xs : List X) → ((x : X) → p x ≡ q x) → list_all p xs ≡ list_all q xs
 list_all-ext p q [] h = refl
@@ -15,7 +15,7 @@ pub list_any-ext : {X : Type 0} (p q : X → Bool) (xs : List X) → ((x : X) �
 list_any-ext p q [] h = refl
 list_any-ext p q (x ∷ xs) h = rw (h x, list_any-ext p q xs h) refl
 
-pub front-starts : (p s : List ℕ) → pointwise eqb p (take (length p) s) ≡ front p s
+pub front-starts : (p s : List ℕ) → pointwise eqb p (take (length p) s) ≡ is_prefix p s
 front-starts [] s = refl
 front-starts (x ∷ xs) [] = refl
 front-starts (x ∷ xs) (y ∷ ys) = ap (λ b. (x == y) && b) (front-starts xs ys)

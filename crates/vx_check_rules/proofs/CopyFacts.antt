@@ -7,7 +7,7 @@ use Rattle.std.proofs.lemmas.Bool.Decides.{nat_tests}
 use Rattle.std.proofs.Math.Bool.{and-false}
 use Rattle.vx_check_rules.specs.declared.copies.Copies.{Copies}
 use Rattle.vx_check_rules.specs.declared.copies.Copies.TheVariants.{Outputs, Keys, Left, Right}
-use Rattle.vx_check_rules.specs.Rules.{numbers_eq, front, copied, left_columns, right_columns, cons_both, if_some}
+use Rattle.vx_check_rules.specs.Rules.{numbers_eq, is_prefix, copied, left_columns, right_columns, cons_both, if_some}
 use Rattle.vx_check_rules.specs.Copies.{input_of, copied_by}
 
 -- what each column stands for, if each stands for one
@@ -97,29 +97,29 @@ stands-length f (c ∷ cs) (x ∷ xs) other = longer (f c) (each_input f cs) (st
 pub stands-copied : (p : Copies) (cols inputs : List ℕ) → if_some (copied_by p cols) (numbers_eq inputs) ≡ stands (input_of p) cols inputs
 stands-copied p cols inputs = ap (λ o. if_some o (numbers_eq inputs)) (copied_by-each p cols)
 
-front_cons : (o : Option ℕ) (os : Option (List ℕ)) (x : ℕ) (ys xs : List ℕ) → if_some os (numbers_eq ys) ≡ if_some os (λ cs. front cs xs)
-    → if_some (cons_both o os) (numbers_eq (x ∷ ys)) ≡ if_some (cons_both o os) (λ cs. front cs (x ∷ xs))
+front_cons : (o : Option ℕ) (os : Option (List ℕ)) (x : ℕ) (ys xs : List ℕ) → if_some os (numbers_eq ys) ≡ if_some os (λ cs. is_prefix cs xs)
+    → if_some (cons_both o os) (numbers_eq (x ∷ ys)) ≡ if_some (cons_both o os) (λ cs. is_prefix cs (x ∷ xs))
 front_cons None os x ys xs h = refl
 front_cons (Some d) None x ys xs h = refl
 front_cons (Some d) (Some ds) x ys xs h = rw (h, eq_swap x d) refl
 
 -- the copied columns begin these
-pub stands-front : (f : ℕ → Option ℕ) (cols inputs : List ℕ) → length cols ≤ length inputs → stands f cols (take (length cols) inputs) ≡ if_some (each_input f cols) (λ cs. front cs inputs)
+pub stands-front : (f : ℕ → Option ℕ) (cols inputs : List ℕ) → length cols ≤ length inputs → stands f cols (take (length cols) inputs) ≡ if_some (each_input f cols) (λ cs. is_prefix cs inputs)
 stands-front f [] inputs h = refl
 stands-front f (c ∷ cs) [] h = absurd (omega arith)
 stands-front f (c ∷ cs) (x ∷ xs) h = front_cons (f c) (each_input f cs) x (take (length cs) xs) xs (stands-front f cs xs (omega arith))
 
-short_cons : (o : Option ℕ) (os : Option (List ℕ)) (x : ℕ) (xs : List ℕ) → if_some os (λ cs. front cs xs) ≡ false → if_some (cons_both o os) (λ cs. front cs (x ∷ xs)) ≡ false
+short_cons : (o : Option ℕ) (os : Option (List ℕ)) (x : ℕ) (xs : List ℕ) → if_some os (λ cs. is_prefix cs xs) ≡ false → if_some (cons_both o os) (λ cs. is_prefix cs (x ∷ xs)) ≡ false
 short_cons None os x xs h = refl
 short_cons (Some d) None x xs h = refl
 short_cons (Some d) (Some ds) x xs h = rw h (and-false (d == x))
 
-short_end : (o : Option ℕ) (os : Option (List ℕ)) → if_some (cons_both o os) (λ cs. front cs []) ≡ false
+short_end : (o : Option ℕ) (os : Option (List ℕ)) → if_some (cons_both o os) (λ cs. is_prefix cs []) ≡ false
 short_end None os = refl
 short_end (Some d) None = refl
 short_end (Some d) (Some ds) = refl
 
-pub stands-short : (f : ℕ → Option ℕ) (cols inputs : List ℕ) → length inputs < length cols → if_some (each_input f cols) (λ cs. front cs inputs) ≡ false
+pub stands-short : (f : ℕ → Option ℕ) (cols inputs : List ℕ) → length inputs < length cols → if_some (each_input f cols) (λ cs. is_prefix cs inputs) ≡ false
 stands-short f [] inputs h = absurd (omega arith)
 stands-short f (c ∷ cs) [] h = short_end (f c) (each_input f cs)
 stands-short f (c ∷ cs) (x ∷ xs) h = short_cons (f c) (each_input f cs) x xs (stands-short f cs xs (omega arith))

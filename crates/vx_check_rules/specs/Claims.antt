@@ -8,24 +8,24 @@ use Rattle.vx_plan_nodes.specs.Plan.{Route, Part, one, any, all, routed, Claim, 
 use Rattle.vx_relations.specs.Relation.{Relation, KeysHold, Meets}
 use Rattle.vx_plan_nodes.specs.Serial.{rows, serial}
 use Rattle.vx_plan_nodes.specs.Streams.{Streams, joined, workers}
-use Rattle.vx_plan_nodes.specs.Routes.{Router}
+use Rattle.vx_plan_nodes.specs.Routes.{Routing}
 use Rattle.vx_plan_nodes.specs.Erase.{erase}
 use Rattle.vx_plan_nodes.specs.Phases.{spoken, Gives, listed}
 use Rattle.std.specs.Ordering.{is_le}
 
 -- each row stands in the stream of the consumer that its key is sent to
-abbrev pub InItsStream : Router → Route → List ℕ → ℕ → Streams → Type 0
+abbrev pub InItsStream : Routing → Route → List ℕ → ℕ → Streams → Type 0
 InItsStream goes r cols n s = (w : ℕ) → w < n → list_all (λ row. goes r (pick cols row) n == w) (s w) ≡ true
 
 -- what a claimed part says of n streams, by what a list must be that stands for the serial rows
-abbrev pub PartOf : Router → Part → ℕ → Streams → (List Row → Type 0) → Type 0
+abbrev pub PartOf : Routing → Part → ℕ → Streams → (List Row → Type 0) → Type 0
 PartOf goes one n s stands = (n ≡ 1) × stands (joined n s)
 PartOf goes any n s stands = stands (joined n s)
 PartOf goes all n s stands = (w : ℕ) → w < n → stands (s w)
 PartOf goes (routed r cols) n s stands = stands (joined n s) × InItsStream goes r cols n s
 
 -- and by the serial rows, each as often
-abbrev pub PartHolds : Router → Part → ℕ → Streams → List Row → Type 0
+abbrev pub PartHolds : Routing → Part → ℕ → Streams → List Row → Type 0
 PartHolds goes q n s base = PartOf goes q n s (λ xs. SameRows xs base)
 
 -- the streams and the serial rows are sorted
@@ -33,24 +33,24 @@ abbrev pub OrderHolds : List ℕ → ℕ → Streams → List Row → Type 0
 OrderHolds cols n s base = ((w : ℕ) → w < n → sorted cols (s w) ≡ true) × (sorted cols base ≡ true)
 
 -- a claim holds of the streams of n workers, by what a list must be that stands for the serial rows, and the list of which order and keys are claimed
-pub record ClaimOf (goes : Router) (c : Claim) (n : ℕ) (s : Streams) (stands : List Row → Type 0) (list : List Row) : Type 0 where
+pub record ClaimOf (goes : Routing) (c : Claim) (n : ℕ) (s : Streams) (stands : List Row → Type 0) (list : List Row) : Type 0 where
   pub part : PartOf goes c.part n s stands
   pub order : OrderHolds c.order n s list
   pub keys : KeysHold c.keys list
 
 -- a claim holds of the streams of n workers and the serial rows
-abbrev pub ClaimHolds : Router → Claim → ℕ → Streams → List Row → Type 0
+abbrev pub ClaimHolds : Routing → Claim → ℕ → Streams → List Row → Type 0
 ClaimHolds goes c n s base = ClaimOf goes c n s (λ xs. SameRows xs base) base
 
 -- the plan that the top's claim speaks of (at an open node the input of its partial) has serial rows, which are those of the plan without its exchanges, and the claim holds of them and of these streams
-pub record HoldsAt (db : ℕ → List Row) (sizes : ℕ → ℕ) (goes : Router) (p : Plan) (s : Streams) : Type 0 where
+pub record HoldsAt (db : ℕ → List Row) (sizes : ℕ → ℕ) (goes : Routing) (p : Plan) (s : Streams) : Type 0 where
   pub base : List Row
   pub is_serial : serial db (spoken p) ≡ rows base
   pub is_erased : serial db (erase (spoken p)) ≡ rows base
   pub holds : ClaimOf goes (claim p) (workers sizes (size p)) s (λ xs. Gives p base xs) (listed p base)
 
 -- the premises: relations that meet what the catalog declares, sizes above 0, a router that answers below the number of consumers, and whose ranges rise with the value
-pub record Given (catalog : ℕ → Relation) (db : ℕ → List Row) (sizes : ℕ → ℕ) (goes : Router) : Type 0 where
+pub record Given (catalog : ℕ → Relation) (db : ℕ → List Row) (sizes : ℕ → ℕ) (goes : Routing) : Type 0 where
   pub meets : (r : ℕ) → Meets (catalog r) (db r)
   pub some_workers : (k : ℕ) → 0 < sizes k
   pub in_range : (r : Route) (key : Row) (n : ℕ) → 0 < n → goes r key n < n

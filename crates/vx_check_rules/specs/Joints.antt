@@ -1,12 +1,12 @@
 -- What operators over two inputs show, in the words of the rule table.
 use Rattle.std.specs.Prelude.{ℕ, Bool, false, List, []}
 use Rattle.vx_plan_nodes.specs.Plan.{Part, Plan, Binary, union, join}
-use Rattle.vx_check_rules.specs.Rules.{front, join_keys, both_have, join_shows}
+use Rattle.vx_check_rules.specs.Rules.{is_prefix, join_keys, both_have, join_shows}
 
 -- the orders over a left input that is sorted so
 abbrev pub binary_orders : Binary → List ℕ → List ℕ → Bool
-binary_orders union below order = front order []
-binary_orders (join m on) below order = front order below
+binary_orders union below order = is_prefix order []
+binary_orders (join m on) below order = is_prefix order below
 
 -- the keys over inputs with these keys, the left one so wide
 abbrev pub binary_keys : Binary → ℕ → List (List ℕ) → List (List ℕ) → List ℕ → Bool

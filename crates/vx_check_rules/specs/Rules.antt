@@ -41,10 +41,10 @@ abbrev pub within : List ℕ → List ℕ → Bool
 within xs ys = list_all (contains ys) xs
 
 -- the first list begins the second
-abbrev pub front : List ℕ → List ℕ → Bool
-front [] ys = true
-front (x ∷ xs) [] = false
-front (x ∷ xs) (y ∷ ys) = (x == y) && front xs ys
+abbrev pub is_prefix : List ℕ → List ℕ → Bool
+is_prefix [] ys = true
+is_prefix (x ∷ xs) [] = false
+is_prefix (x ∷ xs) (y ∷ ys) = (x == y) && is_prefix xs ys
 
 -- a column in front of the others, where all are there
 abbrev pub cons_both : Option ℕ → Option (List ℕ) → Option (List ℕ)
@@ -127,8 +127,8 @@ inputs_match _ = true
 -- K7: a merge join's inputs begin with the columns that it joins on, a merging exchange's with those that it merges on
 abbrev pub order_given : Plan → Bool
 order_given (binary n c (join true on) p q) =
-    front (map (λ x. x.0) on) (claim p).order && front (map (λ x. x.1) on) (claim q).order
-order_given (exchange n c k merge p) = front merge (claim p).order
+    is_prefix (map (λ x. x.0) on) (claim p).order && is_prefix (map (λ x. x.1) on) (claim q).order
+order_given (exchange n c k merge p) = is_prefix merge (claim p).order
 order_given _ = true
 
 -- the parts that an operator shows of its input's
@@ -181,11 +181,11 @@ part_shown catalog p = is_one (size p) || shows catalog p (claim p).part
 
 -- the orders that an operator shows
 abbrev pub unary_orders : Unary → List ℕ → List ℕ → Bool
-unary_orders (select cs) below order = front order below
-unary_orders (sort cols) below order = front order cols
-unary_orders (project cols) below order = if_some (copied cols order) (λ cs. front cs below)
-unary_orders (distinct cols) below order = if_some (copied cols order) (λ cs. front cs below)
-unary_orders (group phase by aggregates) below order = if_some (copied by order) (λ cs. front cs below)
+unary_orders (select cs) below order = is_prefix order below
+unary_orders (sort cols) below order = is_prefix order cols
+unary_orders (project cols) below order = if_some (copied cols order) (λ cs. is_prefix cs below)
+unary_orders (distinct cols) below order = if_some (copied cols order) (λ cs. is_prefix cs below)
+unary_orders (group phase by aggregates) below order = if_some (copied by order) (λ cs. is_prefix cs below)
 
 -- the rows are routed by a range on a column, and the order begins with it
 abbrev pub rises_by : Part → List ℕ → Bool
@@ -199,12 +199,12 @@ goes_on k c = false
 
 -- the orders shown at a node, an empty one always
 abbrev pub orders : (ℕ → Relation) → Plan → List ℕ → Bool
-orders catalog (scan n c r m z) order = front order (catalog r).order
+orders catalog (scan n c r m z) order = is_prefix order (catalog r).order
 orders catalog (unary n c op p) order = unary_orders op (claim p).order order
-orders catalog (binary n c union p q) order = front order []
-orders catalog (binary n c (join m on) p q) order = front order (claim p).order
+orders catalog (binary n c union p q) order = is_prefix order []
+orders catalog (binary n c (join m on) p q) order = is_prefix order (claim p).order
 orders catalog (exchange n c k merge p) order =
-    front order merge || ((is_one (size p) || goes_on k (claim p)) && front order (claim p).order)
+    is_prefix order merge || ((is_one (size p) || goes_on k (claim p)) && is_prefix order (claim p).order)
 
 -- K6: the claimed order is shown
 abbrev pub order_shown : (ℕ → Relation) → Plan → Bool

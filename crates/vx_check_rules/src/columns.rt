@@ -1,7 +1,7 @@
 //! Lists of columns: equality, membership, fronts and keys.
 
 ghost use Rattle.std.specs.Prelude.{◌≡◌, map};
-ghost use Rattle.vx_check_rules.specs.Rules.{numbers_eq, contains, within, front, covers, numbers_below};
+ghost use Rattle.vx_check_rules.specs.Rules.{numbers_eq, contains, within, is_prefix, covers, numbers_below};
 
 /// The same columns in the same order.
 pub fn are_same(xs: &[usize], ys: &[usize]) -> bool
@@ -25,8 +25,8 @@ pub fn is_within(xs: &[usize], ys: &[usize]) -> bool
 }
 
 /// Whether the first list begins the second.
-pub fn is_front(xs: &[usize], ys: &[usize]) -> bool
-    ensures { result ≡ front xs.now ys.now }
+pub fn is_prefix(xs: &[usize], ys: &[usize]) -> bool
+    ensures { result ≡ is_prefix xs.now ys.now }
 {
     ys.starts_with(xs)
 }

@@ -2,7 +2,7 @@
 
 ghost use Rattle.std.specs.Prelude.{◌≡◌, ◌&&◌, map, true};
 ghost use Rattle.std.specs.List.{list_all};
-ghost use Rattle.vx_check_rules.specs.Rules.{numbers_eq, front, covers, if_some, shifted};
+ghost use Rattle.vx_check_rules.specs.Rules.{numbers_eq, is_prefix, covers, if_some, shifted};
 
 use vx_plan_nodes::Projected;
 
@@ -57,8 +57,8 @@ impl Copies<'_> {
     }
 
     /// Whether the output columns are copies of input columns that begin these.
-    pub fn stand_for_front(self, columns: &[usize], inputs: &[usize]) -> bool
-        ensures { result ≡ if_some (copied_by self.entry columns.now) (λ cs. front cs inputs.now) }
+    pub fn stand_for_prefix(self, columns: &[usize], inputs: &[usize]) -> bool
+        ensures { result ≡ if_some (copied_by self.entry columns.now) (λ cs. is_prefix cs inputs.now) }
     {
         columns.len() <= inputs.len() && self.stand_for(columns, &inputs[..columns.len()])
     }

@@ -5,14 +5,14 @@ ghost use Rattle.vx_relations.specs.Relation.{Relation};
 ghost use Rattle.vx_relations.specs.Catalog.{relation_at};
 ghost use Rattle.vx_plan_nodes.specs.Plan.{claim, size, is_one};
 ghost use Rattle.vx_plan_nodes.specs.Outline.{part_of, kind_of, unary_of, binary_of, outline_of, plan_of};
-ghost use Rattle.vx_check_rules.specs.Rules.{front, rises_by, goes_on, unary_orders, order_given, order_shown, is_total_order};
+ghost use Rattle.vx_check_rules.specs.Rules.{is_prefix, rises_by, goes_on, unary_orders, order_given, order_shown, is_total_order};
 ghost use Rattle.vx_plan_nodes.specs.Outputs.{HasOutputs};
 ghost use Rattle.vx_check_rules.specs.Joints.{binary_orders};
 
-use crate::columns::{has_first, is_covered, is_front};
+use crate::columns::{has_first, is_covered, is_prefix};
 use crate::copies::Copies;
 use crate::nodes::{claimed_keys, claimed_order, claimed_part, has_one_worker, width_of};
-use crate::pairs::{Input, are_front};
+use crate::pairs::{Input, are_prefix};
 use vx_plan_nodes::{Binary, Exchange, ExchangeKind, Part, Route, TypedNode, Unary};
 use vx_relations::Catalog;
 
@@ -23,11 +23,11 @@ pub fn is_order_given(node: &TypedNode) -> bool
 {
     match node {
         TypedNode::Binary(_, Binary::MergeJoin(on), left, right) => {
-            are_front(Input::Left, on.as_slice(), claimed_order(left))
-                && are_front(Input::Right, on.as_slice(), claimed_order(right))
+            are_prefix(Input::Left, on.as_slice(), claimed_order(left))
+                && are_prefix(Input::Right, on.as_slice(), claimed_order(right))
         }
         TypedNode::Exchange(_, exchange, input) => {
-            is_front(exchange.merge.as_slice(), claimed_order(input))
+            is_prefix(exchange.merge.as_slice(), claimed_order(input))
         }
         _ => true,
     }
@@ -35,12 +35,12 @@ pub fn is_order_given(node: &TypedNode) -> bool
 
 // Whether the relation's declared order begins so.
 fn declares_order(catalog: &Catalog, relation: usize, order: &[usize]) -> bool
-    ensures { result ≡ front order.now (relation_at catalog.now relation).order }
+    ensures { result ≡ is_prefix order.now (relation_at catalog.now relation).order }
 {
     if relation < catalog.len() {
-        is_front(order, catalog.get(relation).order())
+        is_prefix(order, catalog.get(relation).order())
     } else {
-        is_front(order, &[])
+        is_prefix(order, &[])
     }
 }
 
@@ -49,12 +49,12 @@ fn shows_order_over(operator: &Unary, below: &[usize], order: &[usize]) -> bool
     ensures { result ≡ unary_orders (unary_of operator.now) below.now order.now }
 {
     match operator {
-        Unary::Select(_) => is_front(order, below),
-        Unary::Sort(columns) => is_front(order, columns.as_slice()),
+        Unary::Select(_) => is_prefix(order, below),
+        Unary::Sort(columns) => is_prefix(order, columns.as_slice()),
         Unary::Project(kept) | Unary::Distinct(kept) => Copies::Outputs(
             kept.as_slice(),
-        ).stand_for_front(order, below),
-        Unary::Group(_, by, _) => Copies::Keys(by.as_slice()).stand_for_front(order, below),
+        ).stand_for_prefix(order, below),
+        Unary::Group(_, by, _) => Copies::Keys(by.as_slice()).stand_for_prefix(order, below),
     }
 }
 
@@ -63,8 +63,8 @@ fn binary_shows_order(operator: &Binary, left: &[usize], order: &[usize]) -> boo
     ensures { result ≡ binary_orders (binary_of operator.now) left.now order.now }
 {
     match operator {
-        Binary::Union => is_front(order, &[]),
-        Binary::HashJoin(_) | Binary::MergeJoin(_) => is_front(order, left),
+        Binary::Union => is_prefix(order, &[]),
+        Binary::HashJoin(_) | Binary::MergeJoin(_) => is_prefix(order, left),
     }
 }
 
@@ -75,7 +75,7 @@ fn rises_with_workers(part: &Part, order: &[usize]) -> bool
 {
     match part {
         Part::Routed(Route::Range(_), columns) => {
-            columns.len() == 1 && is_front(columns.as_slice(), order)
+            columns.len() == 1 && is_prefix(columns.as_slice(), order)
         }
         Part::One | Part::Any | Part::All | Part::Routed(Route::Hash(_), _) => false,
     }
@@ -96,11 +96,11 @@ fn goes_on_in_order(kind: &ExchangeKind, input: &TypedNode) -> bool
 
 // Whether an exchange over the input shows the order.
 fn exchange_shows_order(exchange: &Exchange, input: &TypedNode, order: &[usize]) -> bool
-    ensures { result ≡ (front order.now exchange.now.merge.items || ((is_one (size (plan_of input.now)) || goes_on (kind_of exchange.now.kind) (claim (plan_of input.now))) && front order.now (claim (plan_of input.now)).order)) }
+    ensures { result ≡ (is_prefix order.now exchange.now.merge.items || ((is_one (size (plan_of input.now)) || goes_on (kind_of exchange.now.kind) (claim (plan_of input.now))) && is_prefix order.now (claim (plan_of input.now)).order)) }
 {
-    is_front(order, exchange.merge.as_slice())
+    is_prefix(order, exchange.merge.as_slice())
         || ((has_one_worker(input) || goes_on_in_order(&exchange.kind, input))
-            && is_front(order, claimed_order(input)))
+            && is_prefix(order, claimed_order(input)))
 }
 
 /// Whether the node's claimed order is shown, as an empty one always is: K6.

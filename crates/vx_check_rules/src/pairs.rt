@@ -1,7 +1,7 @@
 //! The pairs of columns on which a join's inputs agree.
 
 ghost use Rattle.std.specs.Prelude.{◌≡◌, map};
-ghost use Rattle.vx_check_rules.specs.Rules.{contains, within, front, covers, has_pair, all_pairs};
+ghost use Rattle.vx_check_rules.specs.Rules.{contains, within, is_prefix, covers, has_pair, all_pairs};
 ghost use Rattle.vx_check_rules.specs.Pairs.{column_of};
 
 /// One of a join's inputs.
@@ -22,8 +22,8 @@ fn column_in(input: Input, pair: (usize, usize)) -> usize
 }
 
 /// Whether the input's columns of the pairs begin an order.
-pub fn are_front(input: Input, on: &[(usize, usize)], order: &[usize]) -> bool
-    ensures { result ≡ front (map (column_of input) on.now) order.now }
+pub fn are_prefix(input: Input, on: &[(usize, usize)], order: &[usize]) -> bool
+    ensures { result ≡ is_prefix (map (column_of input) on.now) order.now }
 {
     for (i, pair) in on.iter().enumerate() {
         if i >= order.len() || column_in(input, *pair) != order[i] {

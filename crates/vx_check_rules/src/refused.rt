@@ -5,7 +5,7 @@ use thiserror::Error;
 use vx_plan_nodes::TypedPlan;
 
 /// A plan that is refused: the first node in post-order that does not show its note, and the first test that fails
-/// there. The plan is as it was given.
+/// there. The plan is returned as it was.
 #[derive(Debug, Drop, Error)]
 #[error("{rule} node={node}")]
 pub struct Refused {

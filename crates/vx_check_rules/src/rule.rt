@@ -11,7 +11,7 @@ pub enum Rule {
     /// The root has more than one worker.
     #[error("K2 RootNotOne")]
     RootNotOne,
-    /// The claimed part is not given.
+    /// The claimed part does not follow.
     #[error("K3 PartNotShown")]
     PartNotShown,
     /// A distinct, a group, a join or a union over unfit parts.
@@ -20,13 +20,13 @@ pub enum Rule {
     /// An exchange over rows that each of several workers has.
     #[error("K5 ReplicatedInput")]
     ReplicatedInput,
-    /// The claimed order is not given.
+    /// The claimed order does not follow.
     #[error("K6 OrderNotShown")]
     OrderNotShown,
     /// A merge join or a merging exchange over an input that is not sorted so.
     #[error("K7 OrderNeeded")]
     OrderNeeded,
-    /// A claimed key is not given.
+    /// A claimed key does not follow.
     #[error("K8 KeyNotShown")]
     KeyNotShown,
     /// The plan says total, and the order that the root claims is not total.

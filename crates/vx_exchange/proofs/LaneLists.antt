@@ -11,7 +11,7 @@ use Rattle.std.proofs.lemmas.List.Elements.{All-get_or, All-set}
 use Rattle.std.proofs.lemmas.Option.{none-some, same_Some, slice_get-map, slice_get_within, slice_get-get_or, get_or_from_slice_get}
 use Rattle.vx_values.specs.Values.{Row}
 use Rattle.vx_plan_nodes.specs.Plan.{ExchangeKind, gather}
-use Rattle.vx_plan_nodes.specs.Routes.{Router}
+use Rattle.vx_plan_nodes.specs.Routes.{Routing}
 use Rattle.vx_ports.specs.Packets.{Content, PacketView, is_empty}
 use Rattle.vx_exchange.specs.Ship.{Ship}
 use Rattle.vx_exchange.specs.LaneView.{Way, LaneView, empty_outlet, Cuts, CutsRest}
@@ -233,7 +233,7 @@ finish-more n old new o o' within e w c cuts f = record {
 }
 
 -- all rows go to the one lane
-pub one-deals : (goes : Router) (rows : List Row) (lanes : List LaneView) (o o' : LaneView) → length lanes ≡ 1 → o ≡ get_or lanes 0 o → Cuts o.way o.current o.ready rows o'.current o'.ready
+pub one-deals : (goes : Routing) (rows : List Row) (lanes : List LaneView) (o o' : LaneView) → length lanes ≡ 1 → o ≡ get_or lanes 0 o → Cuts o.way o.current o.ready rows o'.current o'.ready
     → Deals goes gather rows lanes (set lanes 0 o')
 one-deals goes rows [] o o' one e cuts = absurd (omega (arith, one))
 one-deals goes rows (x ∷ []) o o' one e cuts = record { more = λ j. rows; sends = λ j l. refl; cuts = each }

@@ -2,7 +2,7 @@
 use Rattle.std.proofs.Common.{◌≡◌, ℕ, ◌<◌, ◌==◌, Bool, true, false, Some, cond, List, [], ◌∷◌, ◌++◌, length, take, refl, sym, ◌∙◌, append-nil}
 use Rattle.vx_values.specs.Values.{Row}
 use Rattle.vx_rows.specs.Lists.{IsBeginning}
-use Rattle.vx_plan_nodes.specs.Routes.{Router}
+use Rattle.vx_plan_nodes.specs.Routes.{Routing}
 use Rattle.vx_ports.specs.Packets.{fault, PacketView}
 use Rattle.vx_ops.specs.Turn.{with_packet}
 use Rattle.vx_exchange.specs.Ship.{Ship, packet_at, end_to_end, IsCutShort}
@@ -60,7 +60,7 @@ begun-without-last goes (send s) rows put j p h = without-last-packet goes s row
 begun-without-last goes (keep kept) rows put j p h = λ i. none-before (put i) (begins-without put j p i).rest ((begins-without put j p i).joined ∙ h i)
 
 -- the same packets are cut short alike
-cut-short-alike : (goes : Router) (s : Ship) (rows : List Row) (put alike : ℕ → List PacketView) → ((j : ℕ) → alike j ≡ put j)
+cut-short-alike : (goes : Routing) (s : Ship) (rows : List Row) (put alike : ℕ → List PacketView) → ((j : ℕ) → alike j ≡ put j)
     → IsCutShort goes s rows put → IsCutShort goes s rows alike
 cut-short-alike goes s rows put alike e h = record {
   sent = h.sent;

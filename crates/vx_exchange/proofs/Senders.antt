@@ -4,7 +4,7 @@ use Rattle.std.proofs.lemmas.Bool.Decides.{eqb_tells}
 use Rattle.std.proofs.lemmas.List.{map-append, length-map}
 use Rattle.std.proofs.lemmas.Option.{same_Some, slice_get_within}
 use Rattle.vx_values.specs.Values.{Row}
-use Rattle.vx_plan_nodes.specs.Routes.{Router, Sends}
+use Rattle.vx_plan_nodes.specs.Routes.{Routing, Sends}
 use Rattle.vx_ports.specs.Packets.{Content, last, fault, PacketView}
 use Rattle.vx_ops.specs.Ledger.{Stream, fresh}
 use Rattle.vx_ops.specs.Turn.{with_packet}
@@ -130,7 +130,7 @@ lane-closes Failing content s j o o' rows given p f w none r e before after k = 
 -- all lanes
 
 -- rows come
-pub sender-takes : (goes : Router) (s : Ship) (lanes lanes' : List LaneView) (a : Stream) (g : ℕ → List PacketView) (more : List Row) → s.consumers ≡ length lanes
+pub sender-takes : (goes : Routing) (s : Ship) (lanes lanes' : List LaneView) (a : Stream) (g : ℕ → List PacketView) (more : List Row) → s.consumers ≡ length lanes
     → ((j : ℕ) (o : LaneView) → IsLane lanes j o → o.way ≡ way_to s j) → SameLanes lanes lanes' → Deals goes s.kind more lanes lanes'
     → SenderAt goes s Open lanes a g → SenderAt goes s Open lanes' (record { rows = a.rows ++ more; over = a.over }) g
 sender-takes goes s lanes lanes' a g more many ways same d h = record {
@@ -143,7 +143,7 @@ sender-takes goes s lanes lanes' a g more many ways same d h = record {
 }
 
 -- all rows came
-pub sender-ends : (goes : Router) (s : Ship) (lanes lanes' : List LaneView) (a : Stream) (g : ℕ → List PacketView) → any_closed lanes ≡ false
+pub sender-ends : (goes : Routing) (s : Ship) (lanes lanes' : List LaneView) (a : Stream) (g : ℕ → List PacketView) → any_closed lanes ≡ false
     → ((j : ℕ) (o : LaneView) → IsLane lanes j o → o.way ≡ way_to s j) → SameLanes lanes lanes' → Finishes lanes lanes'
     → SenderAt goes s Open lanes a g → SenderAt goes s Ending lanes' (record { rows = a.rows; over = Ended }) g
 sender-ends goes s lanes lanes' a g unclosed ways same f h = record {
@@ -156,7 +156,7 @@ sender-ends goes s lanes lanes' a g unclosed ways same f h = record {
 }
 
 -- a fault came, or memory was refused
-pub sender-fails : (goes : Router) (s : Ship) (lanes lanes' : List LaneView) (a : Stream) (g : ℕ → List PacketView) (f : Fault) → any_closed lanes ≡ false → SameLanes lanes lanes'
+pub sender-fails : (goes : Routing) (s : Ship) (lanes lanes' : List LaneView) (a : Stream) (g : ℕ → List PacketView) (f : Fault) → any_closed lanes ≡ false → SameLanes lanes lanes'
     → SenderAt goes s Open lanes a g → SenderAt goes s Failing lanes' (record { rows = a.rows; over = Failed f }) g
 sender-fails goes s lanes lanes' a g f unclosed same h = record {
   sent = h.sent;
@@ -168,7 +168,7 @@ sender-fails goes s lanes lanes' a g f unclosed same h = record {
 }
 
 -- one lane gives a packet
-sender-puts : (goes : Router) (s : Ship) (st : Stage) (lanes : List LaneView) (a : Stream) (g : ℕ → List PacketView) (i : ℕ) (o o' : LaneView) (p : PacketView) → s.consumers ≡ length lanes → IsLane lanes i o
+sender-puts : (goes : Routing) (s : Ship) (st : Stage) (lanes : List LaneView) (a : Stream) (g : ℕ → List PacketView) (i : ℕ) (o o' : LaneView) (p : PacketView) → s.consumers ≡ length lanes → IsLane lanes i o
     → ((rows : List Row) (given : List PacketView) → LaneAt st s i o rows given → LaneAt st s i o' rows (given ++ p ∷ []))
     → SenderAt goes s st lanes a g → SenderAt goes s st (set lanes i o') a (with_packet g i (Some p))
 sender-puts goes s st lanes a g i o o' p many there step h =
@@ -190,7 +190,7 @@ sender-puts goes s st lanes a g i o o' p many there step h =
     }
 
 -- one of rows that waited
-pub sender-gives : (goes : Router) (s : Ship) (st : Stage) (lanes lanes' : List LaneView) (a : Stream) (g : ℕ → List PacketView) (i : ℕ) (p : PacketView) → s.consumers ≡ length lanes → (st ≡ Failing → ⊥)
+pub sender-gives : (goes : Routing) (s : Ship) (st : Stage) (lanes lanes' : List LaneView) (a : Stream) (g : ℕ → List PacketView) (i : ℕ) (p : PacketView) → s.consumers ≡ length lanes → (st ≡ Failing → ⊥)
     → GivesPacket lanes lanes' i p → SenderAt goes s st lanes a g → SenderAt goes s st lanes' a (with_packet g i (Some p))
 sender-gives goes s st lanes lanes' a g i p many f x h =
     let P : List LaneView → Type 0 = λ z. SenderAt goes s st z a (with_packet g i (Some p)) in
@@ -198,7 +198,7 @@ sender-gives goes s st lanes lanes' a g i p many f x h =
     (λ rows given k. lane-gives st s i x.before x.after rows given p f x.current x.ready x.closed k) h)
 
 -- its closing packet
-pub sender-closes : (goes : Router) (s : Ship) (st : Stage) (content : Content) (lanes lanes' : List LaneView) (a : Stream) (g : ℕ → List PacketView) (i : ℕ) (p : PacketView) → s.consumers ≡ length lanes
+pub sender-closes : (goes : Routing) (s : Ship) (st : Stage) (content : Content) (lanes lanes' : List LaneView) (a : Stream) (g : ℕ → List PacketView) (i : ℕ) (p : PacketView) → s.consumers ≡ length lanes
     → ((j : ℕ) (o : LaneView) → IsLane lanes j o → o.way ≡ way_to s j) → All (λ o. o.ready ≡ []) lanes → closes-with st content
     → GivesClosing content lanes lanes' i p → SenderAt goes s st lanes a g → SenderAt goes s st lanes' a (with_packet g i (Some p))
 sender-closes goes s st content lanes lanes' a g i p many ways idle f x h =
@@ -215,7 +215,7 @@ lane-shipped s j o rows given closed none k = record {
   closed = sym (sym (append-nil given) ∙ ap (λ zs. given ++ zs) (sym none) ∙ k.packets ∙ ap (λ b. map (packet_at s j) k.parts ++ closing_given s j last b) closed);
 }
 
-pub sender-shipped : (goes : Router) (s : Ship) (lanes : List LaneView) (a : Stream) (g : ℕ → List PacketView) → s.consumers ≡ length lanes → All (λ o. o.closed ≡ true) lanes → All (λ o. o.ready ≡ []) lanes
+pub sender-shipped : (goes : Routing) (s : Ship) (lanes : List LaneView) (a : Stream) (g : ℕ → List PacketView) → s.consumers ≡ length lanes → All (λ o. o.closed ≡ true) lanes → All (λ o. o.ready ≡ []) lanes
     → SenderAt goes s Ending lanes a g → IsShipped goes s a.rows g
 sender-shipped goes s lanes a g many closed idle h = record {
   sent = h.sent;
@@ -234,7 +234,7 @@ lane-cut s j o rows given closed k = record {
   closed = ap (λ b. map (packet_at s j) k.parts ++ closing_given s j fault b) (sym closed) ∙ k.packets;
 }
 
-pub sender-cut : (goes : Router) (s : Ship) (lanes : List LaneView) (a : Stream) (g : ℕ → List PacketView) → s.consumers ≡ length lanes → All (λ o. o.closed ≡ true) lanes
+pub sender-cut : (goes : Routing) (s : Ship) (lanes : List LaneView) (a : Stream) (g : ℕ → List PacketView) → s.consumers ≡ length lanes → All (λ o. o.closed ≡ true) lanes
     → SenderAt goes s Failing lanes a g → IsCutShort goes s a.rows g
 sender-cut goes s lanes a g many closed h = record {
   sent = h.sent;
@@ -248,7 +248,7 @@ sender-cut goes s lanes a g many closed h = record {
 lane-fresh : (s : Ship) (j : ℕ) (o : LaneView) → o ≡ empty_outlet (way_to s j) → IsFilling s j o [] []
 lane-fresh s j o e = let P : LaneView → Type 0 = λ z. IsFilling s j z [] [] in subst P (sym e) (record { full = []; all_full = tt; rows_are = refl; packets = refl })
 
-pub sender-fresh : (goes : Router) (s : Ship) (lanes : List LaneView) → AreFresh s.consumers (way_to s) lanes → SenderAt goes s Open lanes fresh (λ _. [])
+pub sender-fresh : (goes : Routing) (s : Ship) (lanes : List LaneView) → AreFresh s.consumers (way_to s) lanes → SenderAt goes s Open lanes fresh (λ _. [])
 sender-fresh goes s lanes f = record {
   sent = λ j. [];
   sends = sends-none goes s.kind s.consumers;
@@ -258,7 +258,7 @@ sender-fresh goes s lanes f = record {
 }
 
 -- the same is known of the same sending end
-pub in-ship : (goes : Router) (s s' : Ship) (st : Stage) (lanes : List LaneView) (a : Stream) (g : ℕ → List PacketView) → s' ≡ s → SenderAt goes s st lanes a g → SenderAt goes s' st lanes a g
+pub in-ship : (goes : Routing) (s s' : Ship) (st : Stage) (lanes : List LaneView) (a : Stream) (g : ℕ → List PacketView) → s' ≡ s → SenderAt goes s st lanes a g → SenderAt goes s' st lanes a g
 in-ship goes s s' st lanes a g e h = let P : Ship → Type 0 = λ z. SenderAt goes z st lanes a g in subst P (sym e) h
 
 -- a sending end that takes more
@@ -276,13 +276,13 @@ ending-not_failing st e f = let g : Ending ≡ Failing = sym e ∙ f in cc
 
 -- where lanes lead to the consumers of their numbers
 
-pub gives-now : (goes : Router) (deal : Deal) (st : Stage) (old new : List LaneView) (a : Stream) (g : ℕ → List PacketView) (i : ℕ) (p : PacketView) → (st ≡ Failing → ⊥) → GivesPacket old new i p
+pub gives-now : (goes : Routing) (deal : Deal) (st : Stage) (old new : List LaneView) (a : Stream) (g : ℕ → List PacketView) (i : ℕ) (p : PacketView) → (st ≡ Failing → ⊥) → GivesPacket old new i p
     → SenderAt goes (ship_of deal (ways_of old)) st old a g → SenderAt goes (ship_of deal (ways_of new)) st new a (with_packet g i (Some p))
 gives-now goes deal st old new a g i p f x h =
     in-ship goes (ship_of deal (ways_of old)) (ship_of deal (ways_of new)) st new a (with_packet g i (Some p)) (same-ship deal deal old new refl (gives-same old new i p x))
     (sender-gives goes (ship_of deal (ways_of old)) st old new a g i p (length-map old (λ (z : LaneView). z.way)) f x h)
 
-pub closes-now : (goes : Router) (deal : Deal) (st : Stage) (content : Content) (old new : List LaneView) (a : Stream) (g : ℕ → List PacketView) (i : ℕ) (p : PacketView) → AreNumbered deal (ways_of old)
+pub closes-now : (goes : Routing) (deal : Deal) (st : Stage) (content : Content) (old new : List LaneView) (a : Stream) (g : ℕ → List PacketView) (i : ℕ) (p : PacketView) → AreNumbered deal (ways_of old)
     → All (λ o. o.ready ≡ []) old → closes-with st content → GivesClosing content old new i p
     → SenderAt goes (ship_of deal (ways_of old)) st old a g → SenderAt goes (ship_of deal (ways_of new)) st new a (with_packet g i (Some p))
 closes-now goes deal st content old new a g i p numbered idle f x h =

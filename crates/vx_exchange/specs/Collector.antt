@@ -2,10 +2,10 @@
 use Rattle.std.specs.Prelude.{ℕ, ◌≡◌, Bool, true, false, List, []}
 use Rattle.std.proofs.Common.{refl}
 use Rattle.vx_values.specs.Values.{Val}
-use Rattle.vx_plan_nodes.specs.Routes.{Router}
+use Rattle.vx_plan_nodes.specs.Routes.{Routing}
 use Rattle.vx_ports.specs.Packets.{PacketView}
 use Rattle.vx_ops.specs.Ledger.{Stream}
-use Rattle.vx_exchange.specs.Tasks.{Task, keep, Post, keeps, Begun, IsAt}
+use Rattle.vx_exchange.specs.Tasks.{Task, keep, Post, keeps, BeganSending, IsAt}
 use Rattle.vx_exchange.specs.declared.collector.Collector.{Collector}
 
 -- the rows are its task
@@ -29,7 +29,7 @@ abbrev pub collector_has_closed : Collector → Bool
 collector_has_closed s = false
 
 -- all rows are kept, and none went anywhere
-pub record CollectorStands (s : Collector) (goes : Router) (a : Stream) (g : ℕ → List PacketView) : Type 0 where
+pub record CollectorStands (s : Collector) (goes : Routing) (a : Stream) (g : ℕ → List PacketView) : Type 0 where
   pub all : s.rows.rows ≡ a.rows
   pub nothing : (j : ℕ) → g j ≡ []
 
@@ -38,7 +38,7 @@ pub collector_open_first : (s : Collector) → collector_is_open s ≡ true → 
 collector_open_first s e = refl
 
 -- nothing was returned
-pub collector_begun : (s : Collector) (goes : Router) (a : Stream) (g : ℕ → List PacketView) → CollectorStands s goes a g → collector_has_closed s ≡ false → Begun goes (collector_task s) a.rows g
+pub collector_begun : (s : Collector) (goes : Routing) (a : Stream) (g : ℕ → List PacketView) → CollectorStands s goes a g → collector_has_closed s ≡ false → BeganSending goes (collector_task s) a.rows g
 collector_begun s goes a g h e = h.nothing
 
 -- its post is that of its task

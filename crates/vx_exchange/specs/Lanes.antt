@@ -3,7 +3,7 @@ use Rattle.std.specs.Prelude.{ℕ, ◌≡◌, ◌==◌, Bool, true, false, List,
 use Rattle.std.specs.List.{list_any, list_all}
 use Rattle.vx_values.specs.Values.{Val, Row}
 use Rattle.vx_plan_nodes.specs.Plan.{ExchangeKind, gather}
-use Rattle.vx_plan_nodes.specs.Routes.{Router, Sends}
+use Rattle.vx_plan_nodes.specs.Routes.{Routing, Sends}
 use Rattle.vx_plan_nodes.specs.Streams.{Streams}
 use Rattle.vx_ports.specs.Packets.{Content, closes, is_empty, PacketView}
 use Rattle.vx_exchange.specs.Ship.{Ship}
@@ -86,7 +86,7 @@ pub record SameLanes (old new : List LaneView) : Type 0 where
   pub closings : closings_of new ≡ closings_of old
 
 -- rows were dealt to the lanes, and each cut those for its consumer
-pub record Deals (goes : Router) (k : ExchangeKind) (rows : List Row) (old new : List LaneView) : Type 0 where
+pub record Deals (goes : Routing) (k : ExchangeKind) (rows : List Row) (old new : List LaneView) : Type 0 where
   pub more : Streams
   pub sends : Sends goes k (length old) rows more
   pub cuts : (j : ℕ) (o o' : LaneView) → IsLane old j o → IsLane new j o' → Cuts o.way o.current o.ready (more j) o'.current o'.ready

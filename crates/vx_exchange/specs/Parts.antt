@@ -2,11 +2,11 @@
 use Rattle.std.specs.Prelude.{ℕ, ◌≡◌, ◌<◌, List, ◌++◌, Some}
 use Rattle.vx_values.specs.Values.{Row}
 use Rattle.vx_rows.specs.Lists.{IsBeginning}
-use Rattle.vx_plan_nodes.specs.Routes.{Router}
+use Rattle.vx_plan_nodes.specs.Routes.{Routing}
 use Rattle.vx_ports.specs.Packets.{fault, PacketView}
 use Rattle.vx_ops.specs.Turn.{with_packet}
 use Rattle.vx_exchange.specs.Ship.{Ship, IsPartShipped}
-use Rattle.vx_exchange.specs.Tasks.{Task, send, keep, Stopped, Begun}
+use Rattle.vx_exchange.specs.Tasks.{Task, send, keep, Stopped, BeganSending}
 use Rattle.vx_exchange.specs.Closing.{closed_by}
 
 -- rows that are sent have some consumer
@@ -17,30 +17,30 @@ HasConsumers (keep kept) = Unit {0}
 -- what was returned of some rows is in part what is to be returned of these and more
 abbrev pub PartStaysAsRowsCome : Type 0
 PartStaysAsRowsCome =
-    (goes : Router) (s : Ship) (xs ys : List Row) (put : ℕ → List PacketView) → 0 < s.consumers → IsPartShipped goes s xs put → IsPartShipped goes s (xs ++ ys) put
+    (goes : Routing) (s : Ship) (xs ys : List Row) (put : ℕ → List PacketView) → 0 < s.consumers → IsPartShipped goes s xs put → IsPartShipped goes s (xs ++ ys) put
 
 -- so is less of it
 abbrev pub PartStaysWithLess : Type 0
 PartStaysWithLess =
-    (goes : Router) (s : Ship) (rows : List Row) (put more : ℕ → List PacketView) → ((j : ℕ) → IsBeginning (put j) (more j))
+    (goes : Routing) (s : Ship) (rows : List Row) (put more : ℕ → List PacketView) → ((j : ℕ) → IsBeginning (put j) (more j))
     → IsPartShipped goes s rows more → IsPartShipped goes s rows put
 
 -- so is all but the last packet for a consumer
 abbrev pub PartStaysWithoutLast : Type 0
 PartStaysWithoutLast =
-    (goes : Router) (s : Ship) (rows : List Row) (put : ℕ → List PacketView) (j : ℕ) (p : PacketView)
+    (goes : Routing) (s : Ship) (rows : List Row) (put : ℕ → List PacketView) (j : ℕ) (p : PacketView)
     → IsPartShipped goes s rows (with_packet put j (Some p)) → IsPartShipped goes s rows put
 
 -- the same of a task: more rows
 abbrev pub BegunStaysAsRowsCome : Type 0
 BegunStaysAsRowsCome =
-    (goes : Router) (task : Task) (xs ys : List Row) (put : ℕ → List PacketView) → HasConsumers task → Begun goes task xs put → Begun goes task (xs ++ ys) put
+    (goes : Routing) (task : Task) (xs ys : List Row) (put : ℕ → List PacketView) → HasConsumers task → BeganSending goes task xs put → BeganSending goes task (xs ++ ys) put
 
 -- the same of a task: a packet less
 abbrev pub BegunStaysWithoutLast : Type 0
 BegunStaysWithoutLast =
-    (goes : Router) (task : Task) (rows : List Row) (put : ℕ → List PacketView) (j : ℕ) (p : PacketView)
-    → Begun goes task rows (with_packet put j (Some p)) → Begun goes task rows put
+    (goes : Routing) (task : Task) (rows : List Row) (put : ℕ → List PacketView) (j : ℕ) (p : PacketView)
+    → BeganSending goes task rows (with_packet put j (Some p)) → BeganSending goes task rows put
 
 -- Fault behind the packets of each consumer, and nothing where rows are kept
 abbrev pub faulted : Task → (ℕ → List PacketView) → ℕ → List PacketView
@@ -50,5 +50,5 @@ faulted (keep kept) put = put
 -- what began is stopped by Fault on each port
 abbrev pub FaultStops : Type 0
 FaultStops =
-    (goes : Router) (task : Task) (rows : List Row) (put closed : ℕ → List PacketView) → ((j : ℕ) → closed j ≡ faulted task put j)
-    → Begun goes task rows put → Stopped goes task rows closed
+    (goes : Routing) (task : Task) (rows : List Row) (put closed : ℕ → List PacketView) → ((j : ℕ) → closed j ≡ faulted task put j)
+    → BeganSending goes task rows put → Stopped goes task rows closed

@@ -3,7 +3,7 @@ use Rattle.std.specs.Prelude.{ℕ, ◌≡◌, ◌<◌, ◌+◌, Some, true, fals
 use Rattle.std.proofs.Common.{◌∙◌, sym, inr, subst}
 use Rattle.vx_values.specs.declared.value.ColType.{ColType}
 use Rattle.vx_ports.specs.Packets.{has_last}
-use Rattle.vx_ops.specs.Ledger.{Ledger, ConsumerEnd, Op, receive, Makes, Begun, OwnBlame, IsFor, TestsPackets, Told}
+use Rattle.vx_ops.specs.Ledger.{Ledger, ConsumerEnd, Op, receive, Makes, Begun, OwnBlame, IsFor, TestsPackets, Abides}
 use Rattle.vx_ops.specs.Turn.{Shape}
 use Rattle.vx_ops.specs.declared.fault.Over.{Over}
 use Rattle.vx_ops.specs.declared.fault.Over.TheVariants.{Running, Ended, Failed}
@@ -73,8 +73,8 @@ abbrev pub ReceiverStands : Receiver → Ledger → Type 0
 ReceiverStands s l = EndStands (receiver_end s) s.ended.items s.next s.over l
 
 -- what is known of it then
-pub receiver_told : (s : Receiver) (l : Ledger) → ReceiverStands s l → Told (receiver_op s) l
-receiver_told s l h = record {
+pub receiver_abides : (s : Receiver) (l : Ledger) → ReceiverStands s l → Abides (receiver_op s) l
+receiver_abides s l h = record {
   before = h.begun;
   ended = λ e. (h.all_closed (sym h.same ∙ e), subst (λ o. UnlessFailed o (Makes (receiver_op s) l l.gave.rows)) (sym h.same ∙ e) h.makes);
   passes = λ f e. absurd e;

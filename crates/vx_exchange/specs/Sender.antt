@@ -5,7 +5,7 @@ use Rattle.std.proofs.Common.{refl, sym, ◌∙◌, subst, true≢false, append-
 use Rattle.std.proofs.lemmas.List.{length-map}
 use Rattle.vx_values.specs.Values.{Val, Row}
 use Rattle.vx_rows.specs.Lists.{IsBeginning}
-use Rattle.vx_plan_nodes.specs.Routes.{Router, Sends}
+use Rattle.vx_plan_nodes.specs.Routes.{Routing, Sends}
 use Rattle.vx_plan_nodes.specs.Streams.{Streams}
 use Rattle.vx_ports.specs.Packets.{Content, last, fault, PacketView}
 use Rattle.vx_ops.specs.Ledger.{Stream}
@@ -16,7 +16,7 @@ use Rattle.vx_exchange.specs.Ship.{Ship, end_to_end, packet_of, packet_at, IsCut
 use Rattle.vx_exchange.specs.LaneView.{LaneView}
 use Rattle.vx_exchange.specs.Lanes.{IsLane, ways_of, any_closed, ship_of, bounds_of}
 use Rattle.vx_exchange.specs.LaneLaws.{element_at, choose, open_at}
-use Rattle.vx_exchange.specs.Tasks.{Task, send, Post, sends_by_ship, Begun, IsAt}
+use Rattle.vx_exchange.specs.Tasks.{Task, send, Post, sends_by_ship, BeganSending, IsAt}
 use Rattle.vx_exchange.specs.declared.sender.Sender.{Sender}
 use Rattle.vx_exchange.specs.declared.sender.Stage.{Stage}
 use Rattle.vx_exchange.specs.declared.sender.Stage.TheVariants.{Open, Ending, Failing}
@@ -89,7 +89,7 @@ IsOver Ending over = over ≡ Ended
 IsOver Failing over = (f : Fault) × (over ≡ Failed f)
 
 -- what each lane returned of what the rows send to its consumer, and nothing for any other
-pub record SenderAt (goes : Router) (s : Ship) (st : Stage) (lanes : List LaneView) (a : Stream) (g : ℕ → List PacketView) : Type 0 where
+pub record SenderAt (goes : Routing) (s : Ship) (st : Stage) (lanes : List LaneView) (a : Stream) (g : ℕ → List PacketView) : Type 0 where
   pub sent : Streams
   pub sends : Sends goes s.kind s.consumers a.rows sent
   pub gives : (j : ℕ) (o : LaneView) → IsLane lanes j o → LaneAt st s j o (sent j) (g j)
@@ -97,7 +97,7 @@ pub record SenderAt (goes : Router) (s : Ship) (st : Stage) (lanes : List LaneVi
   pub is_over : IsOver st a.over
 
 -- so the sending end stands
-abbrev pub SenderStands : Sender → Router → Stream → (ℕ → List PacketView) → Type 0
+abbrev pub SenderStands : Sender → Routing → Stream → (ℕ → List PacketView) → Type 0
 SenderStands s goes a g = SenderAt goes (sender_ship s) s.stage s.lanes.items a g
 
 -- it accepts more only before it closes
@@ -141,7 +141,7 @@ gave_in_part Failing s j o rows given k e =
     (k.parts, record { begins = k.begins; packets = sym (append-nil (map (packet_at s j) k.parts)) ∙ subst P e k.packets })
 
 -- so did all lanes
-begun_at : (goes : Router) (s : Ship) (st : Stage) (lanes : List LaneView) (a : Stream) (g : ℕ → List PacketView) → s.consumers ≡ length lanes
+begun_at : (goes : Routing) (s : Ship) (st : Stage) (lanes : List LaneView) (a : Stream) (g : ℕ → List PacketView) → s.consumers ≡ length lanes
     → SenderAt goes s st lanes a g → any_closed lanes ≡ false → IsPartShipped goes s a.rows g
 begun_at goes s st lanes a g many h unclosed =
     let P : ℕ → List (List Row) → Type 0 = λ j parts. GaveInPart s j (h.sent j) (g j) parts in
@@ -157,5 +157,5 @@ begun_at goes s st lanes a g many h unclosed =
     }
 
 -- and so the sending end has begun
-pub sender_begun : (s : Sender) (goes : Router) (a : Stream) (g : ℕ → List PacketView) → SenderStands s goes a g → sender_has_closed s ≡ false → Begun goes (sender_task s) a.rows g
+pub sender_begun : (s : Sender) (goes : Routing) (a : Stream) (g : ℕ → List PacketView) → SenderStands s goes a g → sender_has_closed s ≡ false → BeganSending goes (sender_task s) a.rows g
 sender_begun s goes a g h e = begun_at goes (sender_ship s) s.stage s.lanes.items a g (length-map s.lanes.items (λ (o : LaneView). o.way)) h e

@@ -5,7 +5,7 @@ use Rattle.vx_values.specs.Values.{Row}
 use Rattle.vx_values.specs.declared.value.ColType.{ColType}
 use Rattle.vx_plan_nodes.specs.Plan.{ExchangeKind}
 use Rattle.vx_plan_nodes.specs.Streams.{Streams}
-use Rattle.vx_plan_nodes.specs.Routes.{Router, Sends}
+use Rattle.vx_plan_nodes.specs.Routes.{Routing, Sends}
 use Rattle.vx_ports.specs.Packets.{Content, brings, last, fault, PacketView}
 use Rattle.vx_rows.specs.Lists.{IsBeginning}
 
@@ -54,21 +54,21 @@ pub record IsCutPort (s : Ship) (j : ℕ) (rows : List Row) (packets : List Pack
   pub closed : map (packet_at s j) parts ++ packet_of s j fault ∷ [] ≡ packets
 
 -- what a producer put that was well: to each consumer what the rows send to it
-pub record IsShipped (goes : Router) (s : Ship) (rows : List Row) (put : ℕ → List PacketView) : Type 0 where
+pub record IsShipped (goes : Routing) (s : Ship) (rows : List Row) (put : ℕ → List PacketView) : Type 0 where
   pub sent : Streams
   pub sends : Sends goes s.kind s.consumers rows sent
   pub ports : (j : ℕ) → j < s.consumers → IsPort s j (sent j) (put j)
   pub nothing : (j : ℕ) → s.consumers ≤ j → put j ≡ []
 
 -- what a producer put that failed
-pub record IsCutShort (goes : Router) (s : Ship) (rows : List Row) (put : ℕ → List PacketView) : Type 0 where
+pub record IsCutShort (goes : Routing) (s : Ship) (rows : List Row) (put : ℕ → List PacketView) : Type 0 where
   pub sent : Streams
   pub sends : Sends goes s.kind s.consumers rows sent
   pub ports : (j : ℕ) → j < s.consumers → IsCutPort s j (sent j) (put j)
   pub nothing : (j : ℕ) → s.consumers ≤ j → put j ≡ []
 
 -- what a sending end returned so far of the rows that it accepted so far: packets of a prefix of what they send (before any closing packet)
-pub record IsPartShipped (goes : Router) (s : Ship) (rows : List Row) (put : ℕ → List PacketView) : Type 0 where
+pub record IsPartShipped (goes : Routing) (s : Ship) (rows : List Row) (put : ℕ → List PacketView) : Type 0 where
   pub sent : Streams
   pub sends : Sends goes s.kind s.consumers rows sent
   pub parts : ℕ → List (List Row)

@@ -2,7 +2,7 @@
 use Rattle.std.specs.Prelude.{ℕ, ◌≡◌, List, []}
 use Rattle.vx_values.specs.declared.value.ColType.{ColType}
 use Rattle.vx_values.specs.Values.{Row}
-use Rattle.vx_plan_nodes.specs.Routes.{Router}
+use Rattle.vx_plan_nodes.specs.Routes.{Routing}
 use Rattle.vx_ports.specs.Packets.{PacketView}
 use Rattle.vx_exchange.specs.Ship.{Ship, IsShipped, IsCutShort, IsPartShipped}
 
@@ -12,19 +12,19 @@ pub data Task : Type 0 where
   keep : List Row → Task
 
 -- all rows went on their way; the root's worker kept them and put nothing
-abbrev pub Finished : Router → Task → List Row → (ℕ → List PacketView) → Type 0
+abbrev pub Finished : Routing → Task → List Row → (ℕ → List PacketView) → Type 0
 Finished goes (send s) rows put = IsShipped goes s rows put
 Finished goes (keep kept) rows put = (kept ≡ rows) × ((j : ℕ) → put j ≡ [])
 
 -- a prefix of them did, and each port was closed by Fault
-abbrev pub Stopped : Router → Task → List Row → (ℕ → List PacketView) → Type 0
+abbrev pub Stopped : Routing → Task → List Row → (ℕ → List PacketView) → Type 0
 Stopped goes (send s) rows put = IsCutShort goes s rows put
 Stopped goes (keep kept) rows put = (j : ℕ) → put j ≡ []
 
 -- a prefix of them did so far, and no port was closed
-abbrev pub Begun : Router → Task → List Row → (ℕ → List PacketView) → Type 0
-Begun goes (send s) rows put = IsPartShipped goes s rows put
-Begun goes (keep kept) rows put = (j : ℕ) → put j ≡ []
+abbrev pub BeganSending : Routing → Task → List Row → (ℕ → List PacketView) → Type 0
+BeganSending goes (send s) rows put = IsPartShipped goes s rows put
+BeganSending goes (keep kept) rows put = (j : ℕ) → put j ≡ []
 
 -- what stays of a task while its rows come: the sending end, or the types of the rows kept
 pub data Post : Type 0 where

@@ -16,7 +16,7 @@ pub struct Collector {
 
 impl Collector {
     ghost use Rattle.std.specs.Prelude.{◌≡◌, ◌++◌, ℕ, List, [], IfOk, OnOk, OnErr, true};
-    ghost use Rattle.vx_plan_nodes.specs.Routes.{Router as Routing};
+    ghost use Rattle.vx_plan_nodes.specs.Routes.{Routing};
     ghost use Rattle.vx_ops.specs.Ledger.{fresh};
     ghost use Rattle.vx_exchange.specs.Tasks.{keep, keeps};
     ghost use Rattle.vx_exchange.specs.Collector.{CollectorStands, collector_task, collector_post, collector_is_open};

@@ -3,7 +3,7 @@
 ghost use Rattle.std.specs.Prelude.{◌≡◌, length, true, false, OnOk};
 ghost use Rattle.std.specs.List.{All};
 ghost use Rattle.vx_plan_nodes.specs.Plan.{gather};
-ghost use Rattle.vx_plan_nodes.specs.Routes.{Router as Routing};
+ghost use Rattle.vx_plan_nodes.specs.Routes.{Routing};
 ghost use Rattle.vx_exchange.specs.Sending.{KindRoutesAs};
 ghost use Rattle.vx_exchange.specs.Lanes.{kind_of, serves, bounds_of, SameLanes, Deals};
 

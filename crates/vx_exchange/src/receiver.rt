@@ -133,8 +133,8 @@ impl Receiver {
 
 impl Source for Receiver {
     ghost use Rattle.vx_ops.specs.Ledger.{Ledger};
-    ghost use Rattle.vx_ops.specs.Turn.{Fits, IsTyped, GivesRows, after, Again};
-    ghost use Rattle.vx_exchange.specs.Receiver.{ReceiverStands, receiver_op, receiver_types, receiver_want, receiver_told};
+    ghost use Rattle.vx_ops.specs.Turn.{Fits, GotTyped, GivesRows, after, Again};
+    ghost use Rattle.vx_exchange.specs.Receiver.{ReceiverStands, receiver_op, receiver_types, receiver_want, receiver_abides};
 
     ghost Stands = { ReceiverStands };
 
@@ -144,7 +144,7 @@ impl Source for Receiver {
 
     ghost want = { receiver_want };
 
-    ghost told = { receiver_told };
+    ghost abides = { receiver_abides };
 
     fn wants(&self) -> Want {
         match self.over {
@@ -155,7 +155,7 @@ impl Source for Receiver {
 
     fn turn(&mut self, got: Got) -> Polled
         requires fits { Fits (receiver_want self.old) got }
-        requires typed { IsTyped (receiver_types self.old) (receiver_want self.old) got }
+        requires typed { GotTyped (receiver_types self.old) (receiver_want self.old) got }
         ensures stands { (l : Ledger) → ReceiverStands self.old l → ReceiverStands self.new (after l (receiver_want self.old) got result) }
         ensures again { (l : Ledger) → ReceiverStands self.old l → Again l.gave.over result }
         ensures gives { GivesRows (receiver_types self.old).out result }

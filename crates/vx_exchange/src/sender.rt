@@ -41,7 +41,7 @@ pub struct Sender {
 
 impl Sender {
     ghost use Rattle.std.specs.Prelude.{◌≤◌, ℕ, List, [], IfOk, OnOk};
-    ghost use Rattle.vx_plan_nodes.specs.Routes.{Router as Routing};
+    ghost use Rattle.vx_plan_nodes.specs.Routes.{Routing};
     ghost use Rattle.vx_ports.specs.Packets.{PacketView};
     ghost use Rattle.vx_ops.specs.Ledger.{fresh, Stream};
     ghost use Rattle.vx_ops.specs.Turn.{heard, GivesRows};

@@ -9,13 +9,13 @@ use vx_ports::Packet;
 pub trait Sends {
     ghost use Rattle.std.specs.Prelude.{◌≡◌, ℕ, Bool, true, false, List, OnOk, OnErr, IfSome, IfNone, Some};
     ghost use Rattle.vx_values.specs.Values.{Val, Row};
-    ghost use Rattle.vx_plan_nodes.specs.Routes.{Router as Routing};
+    ghost use Rattle.vx_plan_nodes.specs.Routes.{Routing};
     ghost use Rattle.vx_ports.specs.Packets.{PacketView, closes};
     ghost use Rattle.vx_ops.specs.Ledger.{Stream};
     ghost use Rattle.vx_ops.specs.Turn.{heard, GivesRows, with_packet};
     ghost use Rattle.vx_ops.specs.declared.fault.Over.TheVariants.{Ended, Failed};
     ghost use Rattle.vx_ops.specs.declared.fault.Fault.{Fault};
-    ghost use Rattle.vx_exchange.specs.Tasks.{Task, Post, post_types, Finished, Stopped, Begun, IsAt};
+    ghost use Rattle.vx_exchange.specs.Tasks.{Task, Post, post_types, Finished, Stopped, BeganSending, IsAt};
     ghost use Rattle.vx_exchange.specs.Sending.{RoutesAs, is_open_after};
 
     // That this may have accepted such a stream and returned such packets for each consumer, where rows go so.
@@ -65,7 +65,7 @@ pub trait Sends {
     ghost open_first: { (s : Self) → is_open s ≡ true → has_closed s ≡ false };
 
     // Until it closes, what it returned is packets of a prefix of what its rows send.
-    ghost begun: { (s : Self) (goes : Routing) (a : Stream) (g : ℕ → List PacketView) → Stands s goes a g → has_closed s ≡ false → Begun goes (task s) a.rows g };
+    ghost begun: { (s : Self) (goes : Routing) (a : Stream) (g : ℕ → List PacketView) → Stands s goes a g → has_closed s ≡ false → BeganSending goes (task s) a.rows g };
 
     // The task is that of the post.
     ghost at_post: { (s : Self) → IsAt (post s) (task s) };

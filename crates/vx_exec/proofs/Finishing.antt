@@ -17,7 +17,7 @@ use Rattle.vx_ops.specs.declared.fault.Code.TheVariants.{Overflow, NoMemory, Uns
 use Rattle.vx_ops.specs.declared.fault.Fault.{Fault}
 use Rattle.vx_ops.specs.declared.fault.Fault.TheVariants.{Own, Passed}
 use Rattle.vx_exchange.specs.Tasks.{keeps, post_types}
-use Rattle.vx_worker.specs.Fragment.{Setting}
+use Rattle.vx_worker.specs.Fragment.{RunModel}
 use Rattle.vx_worker.specs.Operator.{OperatorStands, operator_op}
 use Rattle.vx_worker.specs.Destination.{DestinationStands, task_of, post_of, bounds_of}
 use Rattle.vx_worker.specs.Trace.{scan_morsels}
@@ -31,7 +31,7 @@ use Rattle.vx_laws.proofs.TypedPlans.{typed-is-well-formed}
 use Rattle.vx_steps.specs.Crews.{Duty, duty_of, root_duty, duties_below}
 use Rattle.vx_steps.specs.LinksView.{LinksView}
 use Rattle.vx_steps.specs.Roles.{crew_size}
-use Rattle.vx_steps.specs.Endings.{TellsFirst}
+use Rattle.vx_steps.specs.Endings.{ReportsFirst}
 use Rattle.vx_steps.specs.Ready.{Ready}
 use Rattle.vx_steps.specs.Headline.{IsAccepted, IsTrueFault, Answers}
 use Rattle.vx_steps.specs.declared.verdict.Verdict.{Verdict}
@@ -39,8 +39,8 @@ use Rattle.vx_steps.specs.declared.verdict.Verdict.TheVariants as verdict
 use Rattle.vx_steps.proofs.Build.{crew-count}
 use Rattle.vx_steps.proofs.RunSteps.{map-length}
 use Rattle.vx_exec.specs.Sizes.{IsWithin, group_at}
-use Rattle.vx_exec.specs.Job.{setting_of}
-use Rattle.vx_exec.specs.Runs.{IfDone, ComesTo, IsRunOf, fault_told, IsTrueOf, IsFirstTold}
+use Rattle.vx_exec.specs.Job.{model_of}
+use Rattle.vx_exec.specs.Runs.{IfDone, ComesTo, IsRunOf, fault_reported, IsTrueOf, IsFirstReported}
 use Rattle.vx_exec.specs.Making.{board_of}
 use Rattle.vx_setup.specs.declared.fault.RunFault.{RunFault}
 use Rattle.vx_exec.specs.declared.crew.Crew.{Crew}
@@ -66,7 +66,7 @@ pub record KeepsFirst (ws : List (Worker Operator Destination)) (types : List Co
   pub is_first : (d : Worker Operator Destination) → slice_index_or ws 0 d ≡ first
   pub keeps_types : post_of (sender_of first) ≡ keeps types
 
-first-keeps : (S : Setting) (p : Plan) (ws : List (Worker Operator Destination)) (ds : List Duty)
+first-keeps : (S : RunModel) (p : Plan) (ws : List (Worker Operator Destination)) (ds : List Duty)
     → map duty_of (map (role_of operator_op post_of bounds_of) ws) ≡ root_duty S p ∷ ds → KeepsFirst ws (types_of S.catalog p)
 first-keeps S p [] ds e = let k = ap (λ (l : List Duty). length l) e in absurd (omega (arith, k))
 first-keeps S p (w ∷ ws) ds e = record {
@@ -79,18 +79,18 @@ first-keeps S p (w ∷ ws) ds e = record {
 keeps-same : (ts us : List ColType) → keeps ts ≡ keeps us → ts ≡ us
 keeps-same ts us e = ap post_types e
 
--- the fault of an accepted plan's run is told as it is
-true-told : (W : Setting) (p : TypedPlanView) (db : Database) (f : Fault) → W.db ≡ rows_at db → IsTrueFault W (plan_in p.root) f → IsTrueOf p db (fault_told f)
-true-told W p db (Own Overflow n) e h = let Q : (ℕ → List Row) → Type 0 = λ z. IsReal z (plan_in p.root) in subst Q e (h.overflow n refl)
-true-told W p db (Own NoMemory n) e h = tt
-true-told W p db (Own Unsorted n) e h = absurd (h.order tt)
-true-told W p db (Own Stranger n) e h = absurd (h.order tt)
-true-told W p db Passed e h = absurd h.own
+-- the fault of an accepted plan's run is reported as it is
+true-reported : (W : RunModel) (p : TypedPlanView) (db : Database) (f : Fault) → W.db ≡ rows_at db → IsTrueFault W (plan_in p.root) f → IsTrueOf p db (fault_reported f)
+true-reported W p db (Own Overflow n) e h = let Q : (ℕ → List Row) → Type 0 = λ z. IsReal z (plan_in p.root) in subst Q e (h.overflow n refl)
+true-reported W p db (Own NoMemory n) e h = tt
+true-reported W p db (Own Unsorted n) e h = absurd (h.order tt)
+true-reported W p db (Own Stranger n) e h = absurd (h.order tt)
+true-reported W p db Passed e h = absurd h.own
 
 module _ (j : Job) (hash : List ℕ → Row → ℕ → ℕ) where
   -- the plan of a job is accepted, in the setting of its run
   abbrev pub IsJobAccepted : Type 0
-  IsJobAccepted = IsAccepted (setting_of hash j) (resolved_of j.plan.now).total (plan j.plan.now)
+  IsJobAccepted = IsAccepted (model_of hash j) (resolved_of j.plan.now).total (plan j.plan.now)
 
   pub job-accepted : ((name : List ℕ) (key : Row) (n : ℕ) → 0 < n → hash name key n < n) → MeetsAll j.database.now
       → is_allowed j.plan.now ≡ true → is_root_allowed j.plan.now ≡ true → IsJobAccepted
@@ -114,19 +114,19 @@ module _ (j : Job) (hash : List ℕ → Row → ℕ → ℕ) where
       }
 
   -- workers and links that are ready for a plan in a setting, where the morsels are those of the job
-  abbrev pub ReadyIn : Setting → Plan → List (Worker Operator Destination) → LinksView → Type 0
-  ReadyIn W p ws w = Ready OperatorStands operator_op DestinationStands task_of post_of bounds_of hash (scan_morsels (setting_of hash j)) W p ws w
+  abbrev pub ReadyIn : RunModel → Plan → List (Worker Operator Destination) → LinksView → Type 0
+  ReadyIn W p ws w = Ready OperatorStands operator_op DestinationStands task_of post_of bounds_of hash (scan_morsels (model_of hash j)) W p ws w
 
   -- they are ready for the job's plan, which is accepted
   pub record IsReadyFor (ws : List (Worker Operator Destination)) (w : LinksView) : Type 0 where
     pub accepted : IsJobAccepted
-    pub ready : ReadyIn (setting_of hash j) (plan j.plan.now) ws w
+    pub ready : ReadyIn (model_of hash j) (plan j.plan.now) ws w
 
   -- the workers and links of a crew are ready as the crew is
   pub ready-parts : IsJobAccepted → (crew : Crew) (ws : Vec (Worker Operator Destination) Global) (w : LinksView) → ws ≡ crew.workers → w ≡ board_of crew
-      → ReadyIn (setting_of hash j) (plan j.plan.now) crew.workers.items (board_of crew) → IsReadyFor ws.items w
+      → ReadyIn (model_of hash j) (plan j.plan.now) crew.workers.items (board_of crew) → IsReadyFor ws.items w
   ready-parts ok crew ws w e f h =
-      let P : List (Worker Operator Destination) → LinksView → Type 0 = λ z b. ReadyIn (setting_of hash j) (plan j.plan.now) z b in
+      let P : List (Worker Operator Destination) → LinksView → Type 0 = λ z b. ReadyIn (model_of hash j) (plan j.plan.now) z b in
       record {
         accepted = ok;
         ready = subst (λ z. P z w) (sym (ap (λ (v : Vec (Worker Operator Destination) Global). v.items) e)) (subst (λ b. P crew.workers.items b) (sym f) h);
@@ -137,24 +137,24 @@ module _ (j : Job) (hash : List ℕ → Row → ℕ → ℕ) where
   ready-count ws w begun =
       let roles = map (role_of operator_op post_of bounds_of) ws.items in
       let a = map-length (role_of operator_op post_of bounds_of) ws.items in
-      let b : length roles ≡ crew_size (group_at j.groups.items) (plan j.plan.now) = crew-count (setting_of hash j) (plan j.plan.now) roles w begun.ready.crew in
+      let b : length roles ≡ crew_size (group_at j.groups.items) (plan j.plan.now) = crew-count (model_of hash j) (plan j.plan.now) roles w begun.ready.crew in
       let ok = ws.ok in
       omega (arith, a, b, ok)
 
   -- what workers came to that were ready for the job's accepted plan: the first keeps rows of the plan's types, and the verdict is worth what it says
   pub record HasRun (ws : List (Worker Operator Destination)) (v : Verdict) : Type 0 where
     pub keeps : KeepsFirst ws (types_of (relations j.plan.now) (plan j.plan.now))
-    pub answers : Answers task_of (setting_of hash j) (resolved_of j.plan.now).total (plan j.plan.now) ws v
-    pub first : TellsFirst (setting_of hash j) (plan j.plan.now) v
+    pub answers : Answers task_of (model_of hash j) (resolved_of j.plan.now).total (plan j.plan.now) ws v
+    pub first : ReportsFirst (model_of hash j) (plan j.plan.now) v
 
   -- after steps that keep the roles, with a verdict that is worth what it says wherever the workers were ready
   pub has-run : (old new : List (Worker Operator Destination)) (w : LinksView) (v : Verdict) → IsReadyFor old w
       → map (role_of operator_op post_of bounds_of) new ≡ map (role_of operator_op post_of bounds_of) old
-      → ((W : Setting) (is_total : Bool) (p : Plan) → IsAccepted W is_total p → ReadyIn W p old w → Answers task_of W is_total p new v)
-      → ((W : Setting) (is_total : Bool) (p : Plan) → IsAccepted W is_total p → ReadyIn W p old w → TellsFirst W p v)
+      → ((W : RunModel) (is_total : Bool) (p : Plan) → IsAccepted W is_total p → ReadyIn W p old w → Answers task_of W is_total p new v)
+      → ((W : RunModel) (is_total : Bool) (p : Plan) → IsAccepted W is_total p → ReadyIn W p old w → ReportsFirst W p v)
       → HasRun new v
   has-run old new w v begun roles answers first =
-      let W = setting_of hash j in
+      let W = model_of hash j in
       let p : Plan = plan j.plan.now in
       let is_total : Bool = (resolved_of j.plan.now).total in
       record {
@@ -169,10 +169,10 @@ module _ {j : Job} {hash : List ℕ → Row → ℕ → ℕ} {ws : List (Worker 
       → post_of (sender_of (slice_index_or ws 0 d)) ≡ keeps (types_of (relations j.plan.now) (plan j.plan.now))
   first-types run d = ap (λ w. post_of (sender_of w)) (run.keeps.is_first d) ∙ run.keeps.keeps_types
 
-  -- no worker's fault is that it was told of one by a packet
+  -- no worker's fault is only that a Fault came in a packet
   pub not-passed : (v : Verdict) → HasRun j hash ws v → v ≡ verdict.Failed Passed → ⊥
   not-passed v run e =
-      let Q : Verdict → Type 0 = λ z. Answers task_of (setting_of hash j) (resolved_of j.plan.now).total (plan j.plan.now) ws z in
+      let Q : Verdict → Type 0 = λ z. Answers task_of (model_of hash j) (resolved_of j.plan.now).total (plan j.plan.now) ws z in
       (subst Q e run.answers).own
 
   -- the rows that they give are those of a run of the plan
@@ -197,13 +197,13 @@ module _ {j : Job} {hash : List ℕ → Row → ℕ → ℕ} {ws : List (Worker 
   pub comes-failed : (v : Verdict) (r : Result Ran RunFault) → HasRun j hash ws v → ComesTo ws v r → IfErr r (IsTrueOf (resolved_of j.plan.now) j.database.now)
   comes-failed (verdict.Failed f) (Err e) run h =
       let p = resolved_of j.plan.now in
-      subst (λ z. IsTrueOf p j.database.now z) (sym h) (true-told (setting_of hash j) p j.database.now f refl run.answers)
+      subst (λ z. IsTrueOf p j.database.now z) (sym h) (true-reported (model_of hash j) p j.database.now f refl run.answers)
   comes-failed verdict.Done (Err e) run h = absurd h
   comes-failed verdict.Unfinished (Err e) run h = absurd h
   comes-failed v (Ok x) run h = tt
 
   -- and it is that of the lowest-numbered one that failed by itself
-  pub comes-first : (v : Verdict) (r : Result Ran RunFault) → HasRun j hash ws v → ComesTo ws v r → IfErr r (IsFirstTold (setting_of hash j) (plan j.plan.now))
+  pub comes-first : (v : Verdict) (r : Result Ran RunFault) → HasRun j hash ws v → ComesTo ws v r → IfErr r (IsFirstReported (model_of hash j) (plan j.plan.now))
   comes-first (verdict.Failed f) (Err e) run h = inr (f, h, run.first)
   comes-first verdict.Done (Err e) run h = absurd h
   comes-first verdict.Unfinished (Err e) run h = absurd h

@@ -25,7 +25,7 @@ use Rattle.vx_worker.specs.declared.tree.Tree.{Tree, One, Two, Leaf, One', Two'}
 use Rattle.vx_setup.specs.Runnable.{can_run, can_run_kind, can_merge}
 use Rattle.vx_exec.specs.Sizes.{group_at}
 use Rattle.vx_exec.specs.Crew.{IsOperatorOf, IsTreeOf}
-use Rattle.vx_exec.specs.Job.{setting_of}
+use Rattle.vx_exec.specs.Job.{model_of}
 use Rattle.vx_exec.specs.declared.job.Job.{Job}
 
 -- numbers of a range are numbers of a wider one
@@ -74,7 +74,7 @@ binary-tree j place n c op p q o a b h left right = record {
   shape_is = λ hash.
       ap (λ x. both x (tree_shape operator_op a.value) (tree_shape operator_op b.value)) (h.op_is hash)
       ∙ ap (λ x. both (two_op n op) x (tree_shape operator_op b.value)) (left.shape_is hash)
-      ∙ ap (λ x. both (two_op n op) (fragment (setting_of hash j) place p) x) (right.shape_is hash);
+      ∙ ap (λ x. both (two_op n op) (fragment (model_of hash j) place p) x) (right.shape_is hash);
   gives = h.gives;
   stands = (fresh_ledger, h.stands, left.stands, right.stands, refl);
   numbered = λ i k.

@@ -1,4 +1,4 @@
--- What a run of a job comes to, told of the plan, the database and the setup that the job was made of.
+-- What a run of a job comes to, in terms of the plan, the database and the setup that the job was made of.
 use Rattle.std.proofs.Common.{◌≡◌, ◌⊎◌, ℕ, ◌<◌, List, Ok, Err, Result, IfOk, IfErr, sym, ◌∙◌, subst, inl, inr}
 use Rattle.std.specs.List.{All}
 use Rattle.std.specs.Result.{IsErrAnd}
@@ -6,7 +6,7 @@ use Rattle.vx_catalog.specs.Database.{Database}
 use Rattle.vx_values.specs.Values.{Row}
 use Rattle.vx_plan_nodes.specs.Plan.{Plan}
 use Rattle.vx_plan_nodes.specs.TypedView.{resolved_of}
-use Rattle.vx_worker.specs.Fragment.{Setting}
+use Rattle.vx_worker.specs.Fragment.{RunModel}
 use Rattle.vx_plan_nodes.specs.declared.typed_plan.TypedPlan.{TypedPlan}
 use Rattle.vx_exec.specs.Sizes.{Sizes}
 use Rattle.vx_exec.specs.Setup.{SetupRefusal}
@@ -37,14 +37,14 @@ pub failed-or : (r : Result Ran RunFault) (P Q : RunFault → Type 0) → IfErr 
 failed-or r P Q h = failed-by r P (λ e. P e ⊎ Q e) (λ e. inl) h
 
 -- what holds of the error that was handed on
-pub err-told : (r : Result Ran RunFault) (e : RunFault) (P : RunFault → Type 0) → IsErrAnd r (λ y. y ≡ e) → P e → IfErr r P
-err-told (Ok x) e P h p = tt
-err-told (Err y) e P h p = subst P (sym h) p
+pub err-reported : (r : Result Ran RunFault) (e : RunFault) (P : RunFault → Type 0) → IsErrAnd r (λ y. y ≡ e) → P e → IfErr r P
+err-reported (Ok x) e P h p = tt
+err-reported (Err y) e P h p = subst P (sym h) p
 
 -- each step names a worker, whatever the run comes to
-pub names-told : (r : Result Ran RunFault) (steps : List ℕ) (n : ℕ) → All (λ s. s < n) steps → NamesFirst steps n r
-names-told (Ok x) steps n h = h
-names-told (Err e) steps n h = inr (inr h)
+pub names-reported : (r : Result Ran RunFault) (steps : List ℕ) (n : ℕ) → All (λ s. s < n) steps → NamesFirst steps n r
+names-reported (Ok x) steps n h = h
+names-reported (Err e) steps n h = inr (inr h)
 
 -- memory ran out before a step was looked at
 pub names-nothing : (r : Result Ran RunFault) (e : RunFault) (steps : List ℕ) (n : ℕ) → IsErrAnd r (λ y. y ≡ e) → e ≡ fault.NoMemory → NamesFirst steps n r
@@ -52,19 +52,19 @@ names-nothing (Ok x) e steps n h p = absurd h
 names-nothing (Err y) e steps n h p = inl (h ∙ p)
 
 -- what holds of a run that was set up, whatever it comes to
-pub ok-told : (r : Result Ran RunFault) (P : Type 0) → P → IfOk r (λ _. P)
-ok-told (Ok x) P h = h
-ok-told (Err e) P h = tt
+pub ok-reported : (r : Result Ran RunFault) (P : Type 0) → P → IfOk r (λ _. P)
+ok-reported (Ok x) P h = h
+ok-reported (Err e) P h = tt
 
-module _ (hash : List ℕ → Row → ℕ → ℕ) (W : Setting) (p : Plan) where
+module _ (hash : List ℕ → Row → ℕ → ℕ) (W : RunModel) (p : Plan) where
   -- the steps were made, whatever they come to
-  pub steps-told : (r : Result Ran RunFault) (steps : List ℕ) → IsScheduled hash W p steps r → Scheduled hash W p steps r
-  steps-told (Ok x) steps h = h
-  steps-told (Err e) steps h = inr (inr h)
+  pub steps-reported : (r : Result Ran RunFault) (steps : List ℕ) → IsScheduled hash W p steps r → Scheduled hash W p steps r
+  steps-reported (Ok x) steps h = h
+  steps-reported (Err e) steps h = inr (inr h)
 
-  pub rounds-told : (r : Result Ran RunFault) (limit : ℕ) → IsInRounds hash W p limit r → InRounds hash W p limit r
-  rounds-told (Ok x) limit h = h
-  rounds-told (Err e) limit h = inr h
+  pub rounds-reported : (r : Result Ran RunFault) (limit : ℕ) → IsInRounds hash W p limit r → InRounds hash W p limit r
+  rounds-reported (Ok x) limit h = h
+  rounds-reported (Err e) limit h = inr h
 
   -- memory ran out before a step was made
   pub steps-nothing : (r : Result Ran RunFault) (e : RunFault) (steps : List ℕ) → IsErrAnd r (λ y. y ≡ e) → e ≡ fault.NoMemory → Scheduled hash W p steps r

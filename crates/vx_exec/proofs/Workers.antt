@@ -4,7 +4,7 @@ use Rattle.vx_values.specs.Values.{Row}
 use Rattle.vx_values.specs.declared.value.ColType.{ColType}
 use Rattle.vx_plan_nodes.specs.Plan.{Plan, ExchangeKind, target}
 use Rattle.vx_plan_nodes.specs.Streams.{workers}
-use Rattle.vx_plan_nodes.specs.Routes.{Router}
+use Rattle.vx_plan_nodes.specs.Routes.{Routing}
 use Rattle.vx_plan_nodes.specs.Types.{types_of}
 use Rattle.vx_check_rules.specs.Checked.{relations}
 use Rattle.vx_ops.specs.Ledger.{fresh}
@@ -23,7 +23,7 @@ use Rattle.vx_worker.specs.declared.tree.Tree.{Tree}
 use Rattle.vx_worker.specs.declared.worker.Worker.{Worker}
 use Rattle.vx_steps.specs.Crews.{Duty, root_duty, producer_duty}
 use Rattle.vx_exec.specs.Sizes.{group_at}
-use Rattle.vx_exec.specs.Job.{setting_of, types_at}
+use Rattle.vx_exec.specs.Job.{model_of, types_at}
 use Rattle.vx_exec.specs.LeafTypes.{LeavesFit}
 use Rattle.vx_exec.specs.Crew.{IsTreeOf, IsNew}
 use Rattle.vx_exec.specs.declared.job.Job.{Job}
@@ -36,11 +36,11 @@ pub producer-does : (j : Job) (hash : List ℕ → Row → ℕ → ℕ) (n place
     (consumers : ℕ) (types : List ColType) (kind : ExchangeKind) (size : ℕ) → IsTreeOf j place p tree
     → post ≡ sends_by_ship (record { exchange = n; place = place; consumers = consumers; types = types; kind = kind; size = size })
     → consumers ≡ workers (group_at j.groups.items) (target k) → types ≡ types_of (relations j.plan.now) p → kind ≡ k → size ≡ j.packet
-    → ◌≡◌ {A = Duty} (record { frag = shape operator_op tree; post = post }) (producer_duty (setting_of hash j) n k p place)
+    → ◌≡◌ {A = Duty} (record { frag = shape operator_op tree; post = post }) (producer_duty (model_of hash j) n k p place)
 unfolding duty-with
 producer-does j hash n place k p tree post consumers types kind size h e many same is packet =
     ap (λ z. duty-with z post) (h.shape_is hash)
-    ∙ ap (λ z. duty-with (fragment (setting_of hash j) place p) z) (
+    ∙ ap (λ z. duty-with (fragment (model_of hash j) place p) z) (
     e ∙ ap (λ z. sends_by_ship (record { exchange = n; place = place; consumers = z; types = types; kind = kind; size = size })) many
     ∙ ap (λ z. sends_by_ship (record { exchange = n; place = place; consumers = workers (group_at j.groups.items) (target k); types = z; kind = kind; size = size })) same
     ∙ ap (λ z. sends_by_ship (record { exchange = n; place = place; consumers = workers (group_at j.groups.items) (target k); types = types_of (relations j.plan.now) p; kind = z; size = size })) is
@@ -49,22 +49,22 @@ producer-does j hash n place k p tree post consumers types kind size h e many sa
 -- of the root's worker
 pub root-does : (j : Job) (hash : List ℕ → Row → ℕ → ℕ) (p : Plan) (tree : Tree Operator) (types : List ColType) (post : Post)
     → IsTreeOf j 0 p tree → post ≡ keeps types → types ≡ types_of (relations j.plan.now) p
-    → ◌≡◌ {A = Duty} (record { frag = shape operator_op tree; post = post }) (root_duty (setting_of hash j) p)
+    → ◌≡◌ {A = Duty} (record { frag = shape operator_op tree; post = post }) (root_duty (model_of hash j) p)
 unfolding duty-with
 root-does j hash p tree types post h e same =
-    ap (λ z. duty-with z post) (h.shape_is hash) ∙ ap (λ z. duty-with (fragment (setting_of hash j) 0 p) z) (e ∙ ap keeps same)
+    ap (λ z. duty-with z post) (h.shape_is hash) ∙ ap (λ z. duty-with (fragment (model_of hash j) 0 p) z) (e ∙ ap keeps same)
 
 -- made of this tree and destination it is new
 pub made-new : (j : Job) (place : ℕ) (p : Plan) (tree : Tree Operator) (d : Destination) (inputs : List (ℕ × ℕ)) (w : Worker Operator Destination)
     → IsTreeOf j place p tree → LeavesFit (types_at j) (relations j.plan.now) p
     → ((m : ℕ → List ColType) → TreeTyped operator_types m tree → IsReady operator_types post_of is_open has_closed m w)
     → role_of operator_op post_of bounds_of w ≡ record { frag = shape operator_op tree; post = post_of d; bounds = bounds_of d; inputs = inputs }
-    → ((goes : Router) (m : ℕ → ℕ → List Row) → DestinationStands d goes fresh (λ _. []) → WorkerStands OperatorStands operator_op DestinationStands task_of goes m w empty_trace)
-    → ((goes : Router) → DestinationStands d goes fresh (λ _. []))
-    → ((hash : List ℕ → Row → ℕ → ℕ) → RoutesAs (post_of d) (bounds_of d) hash (goes (setting_of hash j)))
+    → ((goes : Routing) (m : ℕ → ℕ → List Row) → DestinationStands d goes fresh (λ _. []) → WorkerStands OperatorStands operator_op DestinationStands task_of goes m w empty_trace)
+    → ((goes : Routing) → DestinationStands d goes fresh (λ _. []))
+    → ((hash : List ℕ → Row → ℕ → ℕ) → RoutesAs (post_of d) (bounds_of d) hash (goes (model_of hash j)))
     → IsNew j w
 made-new j place p tree d inputs w h leaves ready role stands begins routes = record {
   ready = ready (types_at j) (h.typed (types_at j) leaves);
   stands = λ r m. stands r m (begins r);
-  routes = λ hash. subst (λ (x : Role). RoutesAs x.post x.bounds hash (goes (setting_of hash j))) (sym role) (routes hash);
+  routes = λ hash. subst (λ (x : Role). RoutesAs x.post x.bounds hash (goes (model_of hash j))) (sym role) (routes hash);
 }

@@ -5,7 +5,7 @@ use Rattle.vx_values.specs.Values.{Row}
 use Rattle.vx_values.specs.declared.value.ColType.{ColType}
 use Rattle.vx_plan_nodes.specs.Plan.{Plan, scan, unary, binary, exchange, size}
 use Rattle.vx_plan_nodes.specs.Streams.{workers}
-use Rattle.vx_plan_nodes.specs.Routes.{Router}
+use Rattle.vx_plan_nodes.specs.Routes.{Routing}
 use Rattle.vx_plan_nodes.specs.Runs.{is_concat}
 use Rattle.vx_plan_nodes.specs.Types.{types_of}
 use Rattle.vx_plan_nodes.specs.Numbering.{is_numbered, nodes}
@@ -13,7 +13,7 @@ use Rattle.vx_check_rules.specs.Checked.{relations}
 use Rattle.vx_ops.specs.Ledger.{fresh, Op, scan_op, one_op, two_op, receive}
 use Rattle.vx_ops.specs.Turn.{Shape, fresh_ledger}
 use Rattle.vx_exchange.specs.Sending.{RoutesAs}
-use Rattle.vx_worker.specs.Fragment.{Setting, fragment, goes}
+use Rattle.vx_worker.specs.Fragment.{RunModel, fragment, goes}
 use Rattle.vx_worker.specs.Trace.{empty_trace}
 use Rattle.vx_worker.specs.Trees.{shape, TreeStands}
 use Rattle.vx_worker.specs.Wishes.{fresh_reads, tree_types, Numbered, TreeTyped}
@@ -25,12 +25,12 @@ use Rattle.vx_worker.specs.declared.destination.Destination.{Destination}
 use Rattle.vx_worker.specs.declared.tree.Tree.{Tree}
 use Rattle.vx_worker.specs.declared.worker.Worker.{Worker}
 use Rattle.vx_steps.specs.Crews.{Duty, duty_of}
-use Rattle.vx_exec.specs.Job.{setting_of, types_at}
+use Rattle.vx_exec.specs.Job.{model_of, types_at}
 use Rattle.vx_exec.specs.LeafTypes.{LeavesFit}
 use Rattle.vx_exec.specs.declared.job.Job.{Job}
 
 -- what the operator at the top of a plan does, for the worker at a place
-abbrev pub op_at : Setting → (place : ℕ) → Plan → Op
+abbrev pub op_at : RunModel → (place : ℕ) → Plan → Op
 op_at S place (scan n c r m z) = scan_op
 op_at S place (unary n c op p) = one_op n op
 op_at S place (binary n c op p q) = two_op n op
@@ -46,14 +46,14 @@ TakesAt catalog (exchange n c k merge p) s = s.left ≡ types_of catalog p
 
 -- the operator at the top of a plan for the worker at a place, to which nothing came
 pub record IsOperatorOf (j : Job) (place : ℕ) (p : Plan) (o : Operator) : Type 0 where
-  pub op_is : (hash : List ℕ → Row → ℕ → ℕ) → operator_op o ≡ op_at (setting_of hash j) place p
+  pub op_is : (hash : List ℕ → Row → ℕ → ℕ) → operator_op o ≡ op_at (model_of hash j) place p
   pub stands : OperatorStands o fresh_ledger
   pub takes : TakesAt (relations j.plan.now) p (operator_types o)
   pub gives : (operator_types o).out ≡ types_of (relations j.plan.now) p
 
 -- the operators of the plan's top fragment for the worker at a place, to which nothing came
 pub record IsTreeOf (j : Job) (place : ℕ) (p : Plan) (tree : Tree Operator) : Type 0 where
-  pub shape_is : (hash : List ℕ → Row → ℕ → ℕ) → shape operator_op tree ≡ fragment (setting_of hash j) place p
+  pub shape_is : (hash : List ℕ → Row → ℕ → ℕ) → shape operator_op tree ≡ fragment (model_of hash j) place p
   pub gives : tree_types operator_types tree ≡ types_of (relations j.plan.now) p
   pub stands : TreeStands OperatorStands tree fresh_reads fresh
   pub numbered : (i : ℕ) → is_numbered i p ≡ true → Numbered i (i + nodes p) tree
@@ -66,5 +66,5 @@ duty w = duty_of (role_of operator_op post_of bounds_of w)
 -- a worker of a job that can make its first step, and has made none
 pub record IsNew (j : Job) (w : Worker Operator Destination) : Type 0 where
   pub ready : IsReady operator_types post_of is_open has_closed (types_at j) w
-  pub stands : (goes : Router) (m : ℕ → ℕ → List Row) → WorkerStands OperatorStands operator_op DestinationStands task_of goes m w empty_trace
-  pub routes : (hash : List ℕ → Row → ℕ → ℕ) → RoutesAs (post_of (sender_of w)) (bounds_of (sender_of w)) hash (goes (setting_of hash j))
+  pub stands : (goes : Routing) (m : ℕ → ℕ → List Row) → WorkerStands OperatorStands operator_op DestinationStands task_of goes m w empty_trace
+  pub routes : (hash : List ℕ → Row → ℕ → ℕ) → RoutesAs (post_of (sender_of w)) (bounds_of (sender_of w)) hash (goes (model_of hash j))

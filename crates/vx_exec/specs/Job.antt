@@ -4,8 +4,8 @@ use Rattle.vx_values.specs.Values.{Row}
 use Rattle.vx_values.specs.declared.value.ColType.{ColType}
 use Rattle.vx_plan_nodes.specs.TypedView.{plan}
 use Rattle.vx_check_rules.specs.Checked.{relations}
-use Rattle.vx_worker.specs.Fragment.{Setting}
-use Rattle.vx_exec.specs.Sizes.{Sizes, setting}
+use Rattle.vx_worker.specs.Fragment.{RunModel}
+use Rattle.vx_exec.specs.Sizes.{Sizes, run_model}
 use Rattle.vx_exec.specs.LeafTypes.{leaf_types}
 use Rattle.vx_exec.specs.declared.job.Job.{Job}
 
@@ -13,8 +13,8 @@ abbrev pub sizes_of : Job → Sizes
 sizes_of j = record { groups = j.groups.items; packet = j.packet; morsel = j.morsel }
 
 -- the setting of its run
-abbrev pub setting_of : (hash : List ℕ → Row → ℕ → ℕ) → Job → Setting
-setting_of hash j = setting hash j.plan.now j.database.now (sizes_of j)
+abbrev pub model_of : (hash : List ℕ → Row → ℕ → ℕ) → Job → RunModel
+model_of hash j = run_model hash j.plan.now j.database.now (sizes_of j)
 
 -- the types of the rows that the leaves of its plan read
 abbrev pub types_at : Job → ℕ → List ColType

@@ -20,7 +20,7 @@ use Rattle.vx_ops.specs.declared.fault.Fault.TheVariants.{Own, Passed}
 use Rattle.vx_exchange.specs.Tasks.{keep, keeps}
 use Rattle.vx_worker.specs.Operator.{OperatorStands, operator_op, operator_want}
 use Rattle.vx_worker.specs.Destination.{DestinationStands, task_of, post_of, bounds_of}
-use Rattle.vx_worker.specs.Fragment.{Setting}
+use Rattle.vx_worker.specs.Fragment.{RunModel}
 use Rattle.vx_worker.specs.Trace.{scan_morsels}
 use Rattle.vx_worker.specs.Worker.{sender_of}
 use Rattle.vx_worker.specs.declared.operator.Operator.{Operator}
@@ -61,25 +61,25 @@ IsTrueOf p db fault.NoMemory = Unit {0}
 IsTrueOf p db (fault.Overflow node) = IsReal (rows_at db) (plan_in p.root)
 IsTrueOf p db _ = ⊥
 
--- what the fault of a worker is told as. A run of an accepted plan never tells one that only came in a packet, since some worker first fails by itself, so any
+-- how the fault of a worker is reported. A run of an accepted plan never reports one that only came in a packet, since some worker first fails by itself, so any
 -- value will do for that
-abbrev pub fault_told : Fault → RunFault
-fault_told (Own Overflow node) = fault.Overflow node
-fault_told (Own NoMemory node) = fault.NoMemory
-fault_told (Own Unsorted node) = fault.Unsorted node
-fault_told (Own Stranger node) = fault.Stranger node
-fault_told Passed = fault.NoMemory
+abbrev pub fault_reported : Fault → RunFault
+fault_reported (Own Overflow node) = fault.Overflow node
+fault_reported (Own NoMemory node) = fault.NoMemory
+fault_reported (Own Unsorted node) = fault.Unsorted node
+fault_reported (Own Stranger node) = fault.Stranger node
+fault_reported Passed = fault.NoMemory
 
--- whose fault a run tells: want of memory, or that of the lowest-numbered worker that failed by itself, where all workers of the run ended
-abbrev pub IsFirstTold : Setting → Plan → RunFault → Type 0
-IsFirstTold W p e = (e ≡ fault.NoMemory) ⊎ ((f : Fault) × (e ≡ fault_told f) × FailsFirst W p f)
+-- whose fault a run reports: out of memory, or that of the lowest-numbered worker that failed by itself, where all workers of the run ended
+abbrev pub IsFirstReported : RunModel → Plan → RunFault → Type 0
+IsFirstReported W p e = (e ≡ fault.NoMemory) ⊎ ((f : Fault) × (e ≡ fault_reported f) × FailsFirst W p f)
 
--- what workers with such a verdict are told as: the rows that the first of them kept, or the fault
+-- the result of workers with such a verdict: the rows that the first of them kept, or the fault
 abbrev pub ComesTo : List (Worker Operator Destination) → Verdict → Result Ran RunFault → Type 0
 ComesTo ws verdict.Done (Ok (ran.Done t)) =
     (d : Worker Operator Destination) → (task_of (sender_of (slice_index_or ws 0 d)) ≡ keep t.rows) × (post_of (sender_of (slice_index_or ws 0 d)) ≡ keeps t.types)
 ComesTo ws verdict.Unfinished (Ok ran.Unfinished) = Unit {0}
-ComesTo ws (verdict.Failed f) (Err e) = e ≡ fault_told f
+ComesTo ws (verdict.Failed f) (Err e) = e ≡ fault_reported f
 ComesTo ws v r = ⊥
 
 -- a step of the schedule names none of so many workers
@@ -88,8 +88,8 @@ IsBadStepOf steps workers (fault.BadStep index) = IsBadStep steps workers index
 IsBadStepOf steps workers e = ⊥
 
 -- workers of a plan in a setting made steps, none of which had made any before: those with which they began, those that they became, and what
--- these come to, which the result tells
-module _ (hash : List ℕ → Row → ℕ → ℕ) (W : Setting) (p : Plan) where
+-- these come to, which the result says
+module _ (hash : List ℕ → Row → ℕ → ℕ) (W : RunModel) (p : Plan) where
   -- exactly these steps, in this order
   pub record IsScheduled (steps : List ℕ) (result : Result Ran RunFault) : Type 0 where
     pub begun : List (Worker Operator Destination)
@@ -135,7 +135,7 @@ pub data RunFails (p : TypedPlanView) (db : Database) (setup : SetupView) (e : R
   for_setup : db.catalog ≡ p.names.catalog → Fails e (sizes_set setup p.names.sizes (plan_in p.root)) → RunFails p db setup e
   for_fault : (s : Sizes) → IsSetUp p db setup s → IsTrueOf p db e → RunFails p db setup e
 
--- what a schedule comes to first: its bad step is told unless memory ran out, so with anything else each step names one of so many workers
+-- what a schedule comes to first: its bad step is reported unless memory ran out, so with anything else each step names one of so many workers
 abbrev pub NamesFirst : List ℕ → (workers : ℕ) → Result Ran RunFault → Type 0
 NamesFirst steps workers (Ok r) = All (λ s. s < workers) steps
 NamesFirst steps workers (Err e) = (e ≡ fault.NoMemory) ⊎ IsBadStepOf steps workers e ⊎ All (λ s. s < workers) steps

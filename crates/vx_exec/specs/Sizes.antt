@@ -8,7 +8,7 @@ use Rattle.vx_plan_nodes.specs.Typed.{bounds_at}
 use Rattle.vx_plan_nodes.specs.TypedView.{scope, plan}
 use Rattle.vx_plan_nodes.specs.declared.typed_plan.TypedPlan.{TypedPlan}
 use Rattle.vx_check_rules.specs.Checked.{relations}
-use Rattle.vx_worker.specs.Fragment.{Setting}
+use Rattle.vx_worker.specs.Fragment.{RunModel}
 
 -- the workers of each size name by its number, the rows of a packet and those of a morsel
 pub record Sizes : Type 0 where
@@ -31,8 +31,8 @@ pub record AreWithin (s : Sizes) : Type 0 where
   pub morsel : IsWithin 1 1000000 s.morsel
 
 -- what a run of a plan over a database is given, where a hash route sends keys so
-abbrev pub setting : (hash : List ℕ → Row → ℕ → ℕ) → TypedPlan → Database → Sizes → Setting
-setting hash p db s = record {
+abbrev pub run_model : (hash : List ℕ → Row → ℕ → ℕ) → TypedPlan → Database → Sizes → RunModel
+run_model hash p db s = record {
   catalog = relations p;
   db = rows_at db;
   relation_of = relation_in (plan p);

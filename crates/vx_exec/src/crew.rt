@@ -18,7 +18,7 @@ ghost use Rattle.vx_steps.specs.Queues.{AreEmpty};
 ghost use Rattle.vx_steps.specs.Ready.{Ready};
 ghost use Rattle.vx_exec.specs.Sizes.{group_at};
 ghost use Rattle.vx_setup.specs.Runnable.{can_run, can_run_kind};
-ghost use Rattle.vx_exec.specs.Job.{setting_of};
+ghost use Rattle.vx_exec.specs.Job.{model_of};
 ghost use Rattle.vx_exec.specs.Part.{IsPartOf};
 ghost use Rattle.vx_exec.specs.Crew.{duty, IsNew};
 
@@ -49,7 +49,7 @@ fn station_of(
 ) -> Result<Station, AllocError>
     requires { scan.now.relation < length (scope job.now.plan.now).catalog }
     ensures { IfOk result (λ s. (hash : List ℕ → Row → ℕ → ℕ) (n : ℕ) (c : Claim) (next : ℕ)
-        → stations_of (setting_of hash job.now) (scan_at n c scan.now.relation scan.now.shared (size_of scan.now.size)) top next ≡ s ∷ []) }
+        → stations_of (model_of hash job.now) (scan_at n c scan.now.relation scan.now.shared (size_of scan.now.size)) top next ≡ s ∷ []) }
 {
     let count = job.workers(scan.size) as usize;
     let morsels = job.morsel_count(scan.relation);
@@ -77,7 +77,7 @@ impl Crew {
         ensures stations { OnOk result (self.new.stations ≡ self.old.stations) }
         ensures sends { OnOk result (self.new.sends.items ≡ self.old.sends.items ++ exchange ∷ []) }
         ensures duties { OnOk result ((hash : List ℕ → Row → ℕ → ℕ)
-            → map duty self.new.workers.items ≡ map duty self.old.workers.items ++ producer_duty (setting_of hash job.now) exchange (kind_of kind.now) (plan_of node.now) place ∷ []) }
+            → map duty self.new.workers.items ≡ map duty self.old.workers.items ++ producer_duty (model_of hash job.now) exchange (kind_of kind.now) (plan_of node.now) place ∷ []) }
         ensures queues { OnOk result ((lines : List LinkView) × (self.new.ports.items ≡ self.old.ports.items ++ lines ∷ []) × AreEmpty lines) }
         ensures new { OnOk result (All (IsNew job.now) self.old.workers.items → All (IsNew job.now) self.new.workers.items) }
     {
@@ -101,7 +101,7 @@ impl Crew {
         requires kind { can_run_kind (kind_of kind.now) ≡ true }
         requires part { IsPartOf job.now (outline_of node.now) }
         ensures added { OnOk result ((hash : List ℕ → Row → ℕ → ℕ)
-            → AddsProducers (setting_of hash job.now) exchange (kind_of kind.now) (plan_of node.now) (workers (group_at job.now.groups.items) (size (plan_of node.now))) (made_of self.old) (made_of self.new)) }
+            → AddsProducers (model_of hash job.now) exchange (kind_of kind.now) (plan_of node.now) (workers (group_at job.now.groups.items) (size (plan_of node.now))) (made_of self.old) (made_of self.new)) }
         ensures new { OnOk result (All (IsNew job.now) self.old.workers.items → All (IsNew job.now) self.new.workers.items) }
     {
         for place in 0..job.workers(node.size()) {
@@ -119,7 +119,7 @@ impl Crew {
         top: usize,
     ) -> Result<(), AllocError>
         requires { IsPartOf job.now (outline_of node.now) }
-        ensures added { OnOk result ((hash : List ℕ → Row → ℕ → ℕ) → AddsBelow (setting_of hash job.now) (plan_of node.now) top (made_of self.old) (made_of self.new)) }
+        ensures added { OnOk result ((hash : List ℕ → Row → ℕ → ℕ) → AddsBelow (model_of hash job.now) (plan_of node.now) top (made_of self.old) (made_of self.new)) }
         ensures new { OnOk result (All (IsNew job.now) self.old.workers.items → All (IsNew job.now) self.new.workers.items) }
     {
         match node {
@@ -157,7 +157,7 @@ impl Crew {
         requires { IsPartOf job.now (outline_of node.now) }
         ensures stations { IfOk result (λ c. c.stations.items ≡ []) }
         ensures sends { IfOk result (λ c. c.sends.items ≡ 0 ∷ []) }
-        ensures duties { IfOk result (λ c. (hash : List ℕ → Row → ℕ → ℕ) → map duty c.workers.items ≡ root_duty (setting_of hash job.now) (plan_of node.now) ∷ []) }
+        ensures duties { IfOk result (λ c. (hash : List ℕ → Row → ℕ → ℕ) → map duty c.workers.items ≡ root_duty (model_of hash job.now) (plan_of node.now) ∷ []) }
         ensures queues { IfOk result (λ c. (lines : List LinkView) × (c.ports.items ≡ lines ∷ []) × AreEmpty lines) }
         ensures new { IfOk result (λ c. All (IsNew job.now) c.workers.items) }
     {
@@ -179,7 +179,7 @@ impl Crew {
     pub fn new(alloc: Global, job: &Job<'_>) -> Result<Crew, AllocError>
         requires runs { can_run (plan job.now.plan.now) ≡ true }
         ensures ready { IfOk result (λ c. (hash : List ℕ → Row → ℕ → ℕ)
-            → Ready OperatorStands operator_op DestinationStands task_of post_of bounds_of hash (scan_morsels (setting_of hash job.now)) (setting_of hash job.now) (plan job.now.plan.now) c.workers.items (board_of c)) }
+            → Ready OperatorStands operator_op DestinationStands task_of post_of bounds_of hash (scan_morsels (model_of hash job.now)) (model_of hash job.now) (plan job.now.plan.now) c.workers.items (board_of c)) }
         ensures new { IfOk result (λ c. All (IsNew job.now) c.workers.items) }
     {
         let root = job.plan().root();

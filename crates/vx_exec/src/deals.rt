@@ -10,7 +10,7 @@ ghost use Rattle.vx_exchange.specs.Sending.{KindRoutesAs};
 ghost use Rattle.vx_worker.specs.Fragment.{goes};
 ghost use Rattle.vx_setup.specs.Runnable.{can_run_kind};
 ghost use Rattle.vx_exec.specs.Sizes.{group_at};
-ghost use Rattle.vx_exec.specs.Job.{setting_of};
+ghost use Rattle.vx_exec.specs.Job.{model_of};
 
 use crate::job::Job;
 use vx_exchange::Deal;
@@ -22,7 +22,7 @@ impl Job<'_> {
         requires { can_run_kind (kind_of kind.now) ≡ true }
         ensures kind { kind_dealt result ≡ kind_of kind.now }
         ensures served { serves result (workers (group_at self.now.groups.items) (target (kind_of kind.now))) ≡ true }
-        ensures routes { (hash : List ℕ → Row → ℕ → ℕ) (bounds : List Val) → KindRoutesAs (kind_of kind.now) bounds hash (goes (setting_of hash self.now)) }
+        ensures routes { (hash : List ℕ → Row → ℕ → ℕ) (bounds : List Val) → KindRoutesAs (kind_of kind.now) bounds hash (goes (model_of hash self.now)) }
     {
         match kind {
             ExchangeKind::Gather => Deal::ToOne,

@@ -14,10 +14,10 @@ ghost use Rattle.vx_worker.specs.declared.worker.Worker.{Worker as AWorker};
 ghost use Rattle.vx_worker.specs.declared.operator.Operator.{Operator as AnOperator};
 ghost use Rattle.vx_worker.specs.declared.destination.Destination.{Destination as ADestination};
 ghost use Rattle.vx_steps.specs.Roles.{crew_size};
-ghost use Rattle.vx_exec.specs.Sizes.{group_at, setting, Sizes};
+ghost use Rattle.vx_exec.specs.Sizes.{group_at, run_model, Sizes};
 ghost use Rattle.vx_setup.specs.Runnable.{can_run};
-ghost use Rattle.vx_exec.specs.Job.{setting_of};
-ghost use Rattle.vx_exec.specs.Runs.{fault_told, ComesTo, IsRunOf, IfDone, IsTrueOf, IsFirstTold, IsSetUp, RunFails, IsBadStepOf, NamesFirst, ScheduleFails, Scheduled, InRounds};
+ghost use Rattle.vx_exec.specs.Job.{model_of};
+ghost use Rattle.vx_exec.specs.Runs.{fault_reported, ComesTo, IsRunOf, IfDone, IsTrueOf, IsFirstReported, IsSetUp, RunFails, IsBadStepOf, NamesFirst, ScheduleFails, Scheduled, InRounds};
 
 use crate::crew::Crew;
 use crate::job::Job;
@@ -47,10 +47,10 @@ fn rows_of_root(mut workers: Vec<Worker<Operator, Destination>>) -> Rows
     }
 }
 
-// What the fault of a worker is told as.
+// The fault of a run whose worker failed like this.
 fn fault_of(fault: Fault) -> RunFault
     requires { fault ≡ Passed → ⊥ }
-    ensures { result ≡ fault_told fault }
+    ensures { result ≡ fault_reported fault }
 {
     match fault {
         Fault::Own { code, node } => match code {
@@ -63,7 +63,7 @@ fn fault_of(fault: Fault) -> RunFault
     }
 }
 
-// What workers with such a verdict are told as.
+// The result of a run with such a verdict.
 fn answer_of(workers: Vec<Worker<Operator, Destination>>, verdict: Verdict) -> Result<Ran, RunFault>
     requires there { verdict ≡ Verdict.Done → 0 < length workers.items }
     requires keeps { verdict ≡ Verdict.Done → (d : AWorker AnOperator ADestination) → (types : List ColType) × (post_of (sender_of (slice_index_or workers.items 0 d)) ≡ keeps types) }
@@ -84,8 +84,8 @@ fn run_job<R: Router>(alloc: Global, job: &Job<'_>, router: &R, limit: u64) -> R
     requires root { is_root_allowed job.now.plan.now ≡ true }
     ensures done { IfOk result (IfDone (IsRunOf (R.route_of router.now) (resolved_of job.now.plan.now) job.now.database.now job.now.groups.items)) }
     ensures failed { IfErr result (IsTrueOf (resolved_of job.now.plan.now) job.now.database.now) }
-    ensures first { IfErr result (IsFirstTold (setting_of (R.route_of router.now) job.now) (whole_plan job.now.plan.now)) }
-    ensures rounds { InRounds (R.route_of router.now) (setting_of (R.route_of router.now) job.now) (whole_plan job.now.plan.now) limit result }
+    ensures first { IfErr result (IsFirstReported (model_of (R.route_of router.now) job.now) (whole_plan job.now.plan.now)) }
+    ensures rounds { InRounds (R.route_of router.now) (model_of (R.route_of router.now) job.now) (whole_plan job.now.plan.now) limit result }
 {
     job.meets();
     let crew = Crew::new(alloc, job)?;
@@ -107,10 +107,10 @@ fn schedule_job<R: Router>(
     ensures done { IfOk result (IfDone (IsRunOf (R.route_of router.now) (resolved_of job.now.plan.now) job.now.database.now job.now.groups.items)) }
     ensures failed { IfErr result (λ e. IsTrueOf (resolved_of job.now.plan.now) job.now.database.now e
         ⊎ IsBadStepOf steps.now (crew_size (group_at job.now.groups.items) (whole_plan job.now.plan.now)) e) }
-    ensures first { IfErr result (λ e. IsFirstTold (setting_of (R.route_of router.now) job.now) (whole_plan job.now.plan.now) e
+    ensures first { IfErr result (λ e. IsFirstReported (model_of (R.route_of router.now) job.now) (whole_plan job.now.plan.now) e
         ⊎ IsBadStepOf steps.now (crew_size (group_at job.now.groups.items) (whole_plan job.now.plan.now)) e) }
     ensures named { NamesFirst steps.now (crew_size (group_at job.now.groups.items) (whole_plan job.now.plan.now)) result }
-    ensures scheduled { Scheduled (R.route_of router.now) (setting_of (R.route_of router.now) job.now) (whole_plan job.now.plan.now) steps.now result }
+    ensures scheduled { Scheduled (R.route_of router.now) (model_of (R.route_of router.now) job.now) (whole_plan job.now.plan.now) steps.now result }
 {
     job.meets();
     let crew = Crew::new(alloc, job)?;
@@ -137,9 +137,9 @@ pub fn run_rounds<R: Router>(
     ensures set { IfOk result (λ _. (s : Sizes) × IsSetUp (resolved_of (typed_plan plan.now)) database.now setup.now s) }
     ensures refused { IfErr result (RunFails (resolved_of (typed_plan plan.now)) database.now setup.now) }
     ensures first { (s : Sizes) → IsSetUp (resolved_of (typed_plan plan.now)) database.now setup.now s
-        → IfErr result (IsFirstTold (setting (R.route_of router.now) (typed_plan plan.now) database.now s) (whole_plan (typed_plan plan.now))) }
+        → IfErr result (IsFirstReported (run_model (R.route_of router.now) (typed_plan plan.now) database.now s) (whole_plan (typed_plan plan.now))) }
     ensures rounds { (s : Sizes) → IsSetUp (resolved_of (typed_plan plan.now)) database.now setup.now s
-        → InRounds (R.route_of router.now) (setting (R.route_of router.now) (typed_plan plan.now) database.now s) (whole_plan (typed_plan plan.now)) limit result }
+        → InRounds (R.route_of router.now) (run_model (R.route_of router.now) (typed_plan plan.now) database.now s) (whole_plan (typed_plan plan.now)) limit result }
 {
     let job = job_of(alloc, plan.plan(), database, setup)?;
     run_job(alloc, &job, router, limit)
@@ -161,12 +161,12 @@ pub fn run_scheduled<R: Router>(
     ensures set { IfOk result (λ _. (s : Sizes) × IsSetUp (resolved_of (typed_plan plan.now)) database.now setup.now s) }
     ensures refused { IfErr result (ScheduleFails (resolved_of (typed_plan plan.now)) database.now setup.now steps.now) }
     ensures first { (s : Sizes) → IsSetUp (resolved_of (typed_plan plan.now)) database.now setup.now s
-        → IfErr result (λ e. IsFirstTold (setting (R.route_of router.now) (typed_plan plan.now) database.now s) (whole_plan (typed_plan plan.now)) e
+        → IfErr result (λ e. IsFirstReported (run_model (R.route_of router.now) (typed_plan plan.now) database.now s) (whole_plan (typed_plan plan.now)) e
         ⊎ IsBadStepOf steps.now (crew_size (group_at s.groups) (whole_plan (typed_plan plan.now))) e) }
     ensures named { (s : Sizes) → IsSetUp (resolved_of (typed_plan plan.now)) database.now setup.now s
         → NamesFirst steps.now (crew_size (group_at s.groups) (whole_plan (typed_plan plan.now))) result }
     ensures scheduled { (s : Sizes) → IsSetUp (resolved_of (typed_plan plan.now)) database.now setup.now s
-        → Scheduled (R.route_of router.now) (setting (R.route_of router.now) (typed_plan plan.now) database.now s) (whole_plan (typed_plan plan.now)) steps.now result }
+        → Scheduled (R.route_of router.now) (run_model (R.route_of router.now) (typed_plan plan.now) database.now s) (whole_plan (typed_plan plan.now)) steps.now result }
 {
     let job = job_of(alloc, plan.plan(), database, setup)?;
     schedule_job(alloc, &job, router, steps)

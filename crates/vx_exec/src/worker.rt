@@ -12,7 +12,7 @@ ghost use Rattle.vx_worker.specs.Worker.{inputs_of as sources_of};
 ghost use Rattle.vx_steps.specs.Crews.{producer_duty, root_duty};
 ghost use Rattle.vx_setup.specs.Runnable.{can_run_kind};
 ghost use Rattle.vx_exec.specs.Sizes.{group_at};
-ghost use Rattle.vx_exec.specs.Job.{setting_of};
+ghost use Rattle.vx_exec.specs.Job.{model_of};
 ghost use Rattle.vx_exec.specs.Part.{IsPartOf};
 ghost use Rattle.vx_exec.specs.Inputs.{inputs_of};
 ghost use Rattle.vx_exec.specs.Crew.{duty, IsNew};
@@ -92,7 +92,7 @@ pub fn root_worker(
     node: &TypedNode,
 ) -> Result<Worker<Operator, Destination>, AllocError>
     requires { IsPartOf job.now (outline_of node.now) }
-    ensures duty { IfOk result (λ w. (hash : List ℕ → Row → ℕ → ℕ) → duty w ≡ root_duty (setting_of hash job.now) (plan_of node.now)) }
+    ensures duty { IfOk result (λ w. (hash : List ℕ → Row → ℕ → ℕ) → duty w ≡ root_duty (model_of hash job.now) (plan_of node.now)) }
     ensures new { IfOk result (λ w. IsNew job.now w) }
     ensures inputs { IfOk result (λ w. sources_of w ≡ inputs_of (group_at job.now.groups.items) (plan_of node.now)) }
 {
@@ -121,7 +121,7 @@ pub fn producer(
     requires kind { can_run_kind (kind_of kind.now) ≡ true }
     requires part { IsPartOf job.now (outline_of node.now) }
     ensures duty { IfOk result (λ w. (hash : List ℕ → Row → ℕ → ℕ)
-        → duty w ≡ producer_duty (setting_of hash job.now) exchange (kind_of kind.now) (plan_of node.now) place) }
+        → duty w ≡ producer_duty (model_of hash job.now) exchange (kind_of kind.now) (plan_of node.now) place) }
     ensures new { IfOk result (λ w. IsNew job.now w) }
     ensures inputs { IfOk result (λ w. sources_of w ≡ inputs_of (group_at job.now.groups.items) (plan_of node.now)) }
 {

@@ -55,10 +55,10 @@ some_entry (x ∷ xs) = Some (x ∷ xs)
 unfoldable pub name_in : Data → Option (List ℕ)
 name_in d = option_and_then some_entry (as_str d)
 
--- each of these values in turn, after those at the front
+-- each of these values in turn, after those before
 unfoldable pub each_onto : {A : Type 0} → (Data → Option A) → List A → List Data → Option (List A)
-each_onto f front [] = Some front
-each_onto f front (d ∷ ds) = option_and_then (λ x. each_onto f (front ++ x ∷ []) ds) (f d)
+each_onto f prior [] = Some prior
+each_onto f prior (d ∷ ds) = option_and_then (λ x. each_onto f (prior ++ x ∷ []) ds) (f d)
 
 -- a list of values of a form
 abbrev pub each_in : {A : Type 0} → (Data → Option A) → Data → Option (List A)

@@ -11,7 +11,7 @@ use Rattle.vx_plan_nodes.specs.Plan.{Route, Aggregate, least, greatest, sum, cou
 use Rattle.vx_plan_nodes.specs.Serial.{firsts, group_row, group_fits, of_key, aggregate_of, fits, sum_of, count_of, above_zero, below_zero, least_of, greatest_of}
 use Rattle.vx_values.specs.Types.{fits_64}
 use Rattle.vx_plan_nodes.specs.Streams.{Streams, joined, across}
-use Rattle.vx_plan_nodes.specs.Routes.{Router}
+use Rattle.vx_plan_nodes.specs.Routes.{Routing}
 use Rattle.vx_check_rules.specs.Rules.{within, contains, numbers_below}
 use Rattle.vx_check_rules.specs.Claims.{InItsStream}
 use Rattle.vx_laws.proofs.Bags.{and-left, and-right, and-both, when, total-map, total-filter, total-ext, total-zero, total-joined, across-ext, SameRows-all, SameRows-sym}
@@ -141,7 +141,7 @@ find-in {X} P p (x ∷ xs) h = cases (p x) refl (find-in P p xs (and-right (P x)
     cases false e r = ⊎_elim (λ z. inl (omega arith)) (λ w. inr w) r
 
 -- rows with one key have one route, where the route's columns are among the key's
-pub same-route : (goes : Router) (rt : Route) (cols kept : List ℕ) (n i j : ℕ) (key x y : Row) → within cols kept ≡ true
+pub same-route : (goes : Routing) (rt : Route) (cols kept : List ℕ) (n i j : ℕ) (key x y : Row) → within cols kept ≡ true
     → row_eq key (pick kept x) ≡ true → row_eq key (pick kept y) ≡ true
     → (goes rt (pick cols x) n == i) ≡ true → (goes rt (pick cols y) n == j) ≡ true → i ≡ j
 same-route goes rt cols kept n i j key x y w hx hy gx gy =
@@ -160,7 +160,7 @@ firsts-same {xs} {ys} s = same-from-counts (firsts xs) (firsts ys) (λ r.
     firsts-count r xs ∙ (ap sign (s.totals (λ y. cond (row_eq r y) 1 0)) ∙ sym (firsts-count r ys)))
 
 -- the first occurrences of the streams are those of all rows
-pub firsts-joined : (goes : Router) (rt : Route) (cols kept : List ℕ) (n : ℕ) (s s' : Streams) (base : List Row) → within cols kept ≡ true
+pub firsts-joined : (goes : Routing) (rt : Route) (cols kept : List ℕ) (n : ℕ) (s s' : Streams) (base : List Row) → within cols kept ≡ true
     → ((w : ℕ) → w < n → firsts (map (pick kept) (s w)) ≡ s' w)
     → SameRows (joined n s) base → InItsStream goes rt cols n s → SameRows (joined n s') (firsts (map (pick kept) base))
 firsts-joined goes rt cols kept n s s' base sub run same apart = same-from-counts _ _ (λ r.
@@ -363,7 +363,7 @@ pub group_fits-same : (by : List ℕ) (aggregates : List Aggregate) (xs ys : Lis
 group_fits-same by aggregates xs ys key s = all-fit-same aggregates (of_key by key xs) (of_key by key ys) s
 
 -- a key's rows all stand in the stream of one of them
-pub key-apart : (goes : Router) (rt : Route) (cols by : List ℕ) (n : ℕ) (s : Streams) (base : List Row) → within cols by ≡ true
+pub key-apart : (goes : Routing) (rt : Route) (cols by : List ℕ) (n : ℕ) (s : Streams) (base : List Row) → within cols by ≡ true
     → SameRows (joined n s) base → InItsStream goes rt cols n s
     → (i : ℕ) → i < n → (x : Row) → (goes rt (pick cols x) n == i) ≡ true → SameRows (of_key by (pick by x) (s i)) (of_key by (pick by x) base)
 key-apart goes rt cols by n s base sub same apart i l x here = record {

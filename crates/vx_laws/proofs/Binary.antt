@@ -8,8 +8,8 @@ use Rattle.vx_plan_nodes.specs.Types.{part_columns}
 use Rattle.vx_relations.specs.Catalog.{all_below}
 use Rattle.vx_plan_nodes.specs.Serial.{join_rows}
 use Rattle.vx_plan_nodes.specs.Streams.{Streams, joined, across}
-use Rattle.vx_plan_nodes.specs.Routes.{Router}
-use Rattle.vx_check_rules.specs.Rules.{part_gives, route_eq, numbers_eq, all_pairs, routed_alike, alike_shows, right_columns, left_columns, if_some, front}
+use Rattle.vx_plan_nodes.specs.Routes.{Routing}
+use Rattle.vx_check_rules.specs.Rules.{part_gives, route_eq, numbers_eq, all_pairs, routed_alike, alike_shows, right_columns, left_columns, if_some, is_prefix}
 use Rattle.vx_check_rules.specs.Claims.{PartHolds, InItsStream}
 use Rattle.vx_laws.proofs.Bags.{and-left, and-right, and-both, total-append, total-joined, across-ext, across-add, stream-all, SameRows-all, SameRows-sym}
 use Rattle.vx_laws.proofs.Parts.{or-cases, route_eq-is, numbers_eq-is, list_all-always}
@@ -18,7 +18,7 @@ use Rattle.vx_laws.proofs.Join.{pick-left, pick-minus, join-alike}
 use Rattle.vx_laws.proofs.JoinOrder.{wide, join-all, list_all-append}
 
 -- what holds of the serial rows holds of each stream's
-pub streams-all : (goes : Router) (q : Part) (n : ℕ) (s : Streams) (base : List Row) → PartHolds goes q n s base
+pub streams-all : (goes : Routing) (q : Part) (n : ℕ) (s : Streams) (base : List Row) → PartHolds goes q n s base
     → (p : Row → Bool) → list_all p base ≡ true → (w : ℕ) → w < n → list_all p (s w) ≡ true
 streams-all goes one n s base h p k w l = stream-all n s base h.1 p k w l
 streams-all goes any n s base h p k w l = stream-all n s base h p k w l
@@ -51,7 +51,7 @@ append-same {xs} {xs'} {ys} {ys'} a b = record {
       omega (arith, x, y, u, v);
 }
 
-pub union-part : (goes : Router) (q : Part) (n : ℕ) (s t s' : Streams) (base rbase : List Row) → ((w : ℕ) → w < n → (s w ++ t w) ≡ s' w)
+pub union-part : (goes : Routing) (q : Part) (n : ℕ) (s t s' : Streams) (base rbase : List Row) → ((w : ℕ) → w < n → (s w ++ t w) ≡ s' w)
     → PartHolds goes q n s base → PartHolds goes q n t rbase → PartHolds goes q n s' (base ++ rbase)
 union-part goes one n s t s' base rbase run h k = (h.0, union-any n s t s' base rbase run h.1 k.1)
 union-part goes any n s t s' base rbase run h k = union-any n s t s' base rbase run h k
@@ -65,7 +65,7 @@ union-part goes (routed r cols) n s t s' base rbase run h k = (
 )
 
 -- join: a route of the left rows, and one of the right rows
-pub stream-left : (goes : Router) (v : Route) (cols : List ℕ) (on : List (ℕ × ℕ)) (wd n : ℕ) (s t s' : Streams)
+pub stream-left : (goes : Routing) (v : Route) (cols : List ℕ) (on : List (ℕ × ℕ)) (wd n : ℕ) (s t s' : Streams)
     → ((w : ℕ) → w < n → join_rows on (s w) (t w) ≡ s' w) → ((w : ℕ) → w < n → wide wd (s w) ≡ true) → all_below wd cols ≡ true
     → InItsStream goes v cols n s → InItsStream goes v cols n s'
 stream-left goes v cols on wd n s t s' run ws below h w l =
@@ -97,7 +97,7 @@ left_columns-is w cols cs e = go (all_below w cols) e
     go true e = (refl, cc)
     go false e = cc
 
-pub stream-right : (goes : Router) (v : Route) (cols cs : List ℕ) (on : List (ℕ × ℕ)) (wd n : ℕ) (s t s' : Streams)
+pub stream-right : (goes : Routing) (v : Route) (cols cs : List ℕ) (on : List (ℕ × ℕ)) (wd n : ℕ) (s t s' : Streams)
     → ((w : ℕ) → w < n → join_rows on (s w) (t w) ≡ s' w) → ((w : ℕ) → w < n → wide wd (s w) ≡ true) → right_columns wd cols ≡ Some cs
     → InItsStream goes v cs n t → InItsStream goes v cols n s'
 stream-right goes v cols cs on wd n s t s' run ws e h w l =
@@ -111,7 +111,7 @@ stream-right goes v cols cs on wd n s t s' run ws e h w l =
     (ws w l) (h w l))
 
 -- by like routes
-pub join-alike-part : (goes : Router) (on : List (ℕ × ℕ)) (wd : ℕ) (pp qp x : Part) (n : ℕ) (s t s' : Streams) (base rbase : List Row)
+pub join-alike-part : (goes : Routing) (on : List (ℕ × ℕ)) (wd : ℕ) (pp qp x : Part) (n : ℕ) (s t s' : Streams) (base rbase : List Row)
     → routed_alike on pp qp ≡ true → alike_shows wd pp qp x ≡ true
     → ((w : ℕ) → w < n → join_rows on (s w) (t w) ≡ s' w) → ((w : ℕ) → w < n → wide wd (s w) ≡ true) → all_below wd (part_columns pp) ≡ true
     → PartHolds goes pp n s base → PartHolds goes qp n t rbase → PartHolds goes x n s' (join_rows on base rbase)
@@ -151,10 +151,10 @@ join-alike-part goes on wd (routed r ls) (routed u rs) x n s t s' base rbase ra 
           (or-cases (part_gives (routed r ls) (routed v cols)) (if_some (right_columns wd cols) (λ cs. part_gives (routed u rs) (routed v cs))) sh),
     )
 
-pub front-below : (w : ℕ) (cs ds : List ℕ) → front cs ds ≡ true → all_below w ds ≡ true → all_below w cs ≡ true
+pub front-below : (w : ℕ) (cs ds : List ℕ) → is_prefix cs ds ≡ true → all_below w ds ≡ true → all_below w cs ≡ true
 front-below w [] ds f h = refl
 front-below w (c ∷ cs) [] f h = absurd (true≢false (sym f))
 front-below w (c ∷ cs) (d ∷ ds) f h =
-    let e : c ≡ d = eqb-true c d (and-left (c == d) (front cs ds) f) in
+    let e : c ≡ d = eqb-true c d (and-left (c == d) (is_prefix cs ds) f) in
     let b : d < w = ltb-true d w (and-left (nat_lt d w) (all_below w ds) h) in
-    and-both (nat_lt c w) (all_below w cs) (lt-ltb c w (omega arith)) (front-below w cs ds (and-right (c == d) (front cs ds) f) (and-right (nat_lt d w) (all_below w ds) h))
+    and-both (nat_lt c w) (all_below w cs) (lt-ltb c w (omega arith)) (front-below w cs ds (and-right (c == d) (is_prefix cs ds) f) (and-right (nat_lt d w) (all_below w ds) h))

@@ -6,7 +6,7 @@ use Rattle.vx_values.specs.Values.{Row, val_cmp, value_at, pick}
 use Rattle.vx_rows.specs.Order.{compare_on, sorted}
 use Rattle.vx_plan_nodes.specs.Plan.{by_range}
 use Rattle.vx_plan_nodes.specs.Streams.{Streams, joined, bearing, Dealt}
-use Rattle.vx_plan_nodes.specs.Routes.{Router}
+use Rattle.vx_plan_nodes.specs.Routes.{Routing}
 use Rattle.vx_rows.proofs.Compare.{val_cmp_total}
 use Rattle.vx_laws.proofs.Bags.{and-left, and-right, and-both}
 use Rattle.vx_laws.proofs.Parts.{list_all-weaken}
@@ -24,10 +24,10 @@ sorted-two cs (x ∷ xs) ys h k b =
     (list_all-append le xs ys (and-left (list_all le xs) (sorted cs xs) h) (and-left (list_all le ys) rest b))
     (sorted-two cs xs ys (and-right (list_all le xs) (sorted cs xs) h) k (and-right (list_all le ys) rest b))
 
-abbrev pub Rising : Router → Type 0
+abbrev pub Rising : Routing → Type 0
 Rising goes = (k : ℕ) (a b : Row) (n : ℕ) → is_le (val_cmp (value_at a 0) (value_at b 0)) ≡ true → goes (by_range k) a n ≤ goes (by_range k) b n
 
-module _ (goes : Router) (rising : Rising goes) (k c : ℕ) (cs : List ℕ) (n : ℕ) where
+module _ (goes : Routing) (rising : Rising goes) (k c : ℕ) (cs : List ℕ) (n : ℕ) where
   abbrev place : Row → ℕ
   place row = goes (by_range k) (pick (c ∷ []) row) n
 

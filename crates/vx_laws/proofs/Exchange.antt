@@ -6,7 +6,7 @@ use Rattle.vx_rows.specs.Order.{sorted}
 use Rattle.vx_rows.specs.Bags.{total, SameRows}
 use Rattle.vx_plan_nodes.specs.Plan.{Size, Route, ExchangeKind, route_to, round, broadcast, gather, concat}
 use Rattle.vx_plan_nodes.specs.Streams.{Streams, joined, Dealt, across}
-use Rattle.vx_plan_nodes.specs.Routes.{Router, Sends}
+use Rattle.vx_plan_nodes.specs.Routes.{Routing, Sends}
 use Rattle.vx_plan_nodes.specs.Runs.{Exchanges}
 use Rattle.vx_check_rules.specs.Claims.{InItsStream}
 use Rattle.vx_laws.proofs.Bags.{and-both, Dealt-total, total-joined, total-filter, total-ext, across-ext, across-swap, across-zero, across-total, across-one, when, against, against-none, none-against}
@@ -18,7 +18,7 @@ pub Dealt-same : {n : ℕ} {xs : List Row} {s : Streams} → Dealt n xs s → Sa
 Dealt-same {n} {xs} {s} d = record { totals = λ f. total-joined f n s ∙ sym (Dealt-total d f) }
 
 -- rows that are routed go to one consumer each
-pub routed-total : (goes : Router) → InRange goes → (r : Route) (cols : List ℕ) (n : ℕ) → 0 < n → (f : Row → ℕ) (xs : List Row)
+pub routed-total : (goes : Routing) → InRange goes → (r : Route) (cols : List ℕ) (n : ℕ) → 0 < n → (f : Row → ℕ) (xs : List Row)
     → across n (λ j. total f (filter (λ row. goes r (pick cols row) n == j) xs)) ≡ total f xs
 routed-total goes law r cols n some f xs =
     across-ext n _ _ (λ j l. total-filter f (λ row. goes r (pick cols row) n == j) xs)
@@ -26,7 +26,7 @@ routed-total goes law r cols n some f xs =
     ∙ total-ext _ f (λ row. across-one n (goes r (pick cols row) n) (f row) (law r (pick cols row) n some)) xs)
 
 -- what a producer sends to all consumers together; a broadcast sends everything to each
-pub sends-total : (goes : Router) → InRange goes → (k : ExchangeKind) (n : ℕ) (xs : List Row) (sent : Streams) → Sends goes k n xs sent
+pub sends-total : (goes : Routing) → InRange goes → (k : ExchangeKind) (n : ℕ) (xs : List Row) (sent : Streams) → Sends goes k n xs sent
     → 0 < n → (f : Row → ℕ) → ((z : Size) → k ≡ broadcast z → n ≡ 1) → (k ≡ gather → n ≡ 1) → (k ≡ concat → n ≡ 1)
     → across n (λ j. total f (sent j)) ≡ total f xs
 sends-total goes law (route_to z r cols) n xs sent h some f b g o =
@@ -51,7 +51,7 @@ sends-total goes law concat n xs sent h some f b g o =
     omega (arith, a, c)
 
 -- the streams of all consumers have the rows of all producers, where nothing is sent twice
-pub exchange-any : (goes : Router) → InRange goes → (k : ExchangeKind) (merge : List ℕ) (m n : ℕ) (s s' : Streams) (base : List Row)
+pub exchange-any : (goes : Routing) → InRange goes → (k : ExchangeKind) (merge : List ℕ) (m n : ℕ) (s s' : Streams) (base : List Row)
     → Exchanges goes k merge m n s s' → 0 < n → ((z : Size) → k ≡ broadcast z → n ≡ 1) → (k ≡ gather → n ≡ 1) → (k ≡ concat → n ≡ 1)
     → SameRows (joined m s) base → SameRows (joined n s') base
 exchange-any goes law k merge m n s s' base x some b g o same = record {
@@ -64,7 +64,7 @@ exchange-any goes law k merge m n s s' base x some b g o same = record {
 }
 
 -- a broadcast gives each consumer all rows
-pub broadcast-all : (goes : Router) (z : Size) (merge : List ℕ) (m n : ℕ) (s s' : Streams) (base : List Row)
+pub broadcast-all : (goes : Routing) (z : Size) (merge : List ℕ) (m n : ℕ) (s s' : Streams) (base : List Row)
     → Exchanges goes (broadcast z) merge m n s s' → SameRows (joined m s) base → (j : ℕ) → j < n → SameRows (s' j) base
 broadcast-all goes z merge m n s s' base x same j l = record {
   totals = λ f.
@@ -82,7 +82,7 @@ filter-all p (x ∷ xs) = cases (p x) refl (filter-all p xs)
     cases false e r = r
 
 -- each row of a consumer was sent to it
-pub routed-in-stream : (goes : Router) (z : Size) (r : Route) (cols : List ℕ) (merge : List ℕ) (m n : ℕ) (s s' : Streams)
+pub routed-in-stream : (goes : Routing) (z : Size) (r : Route) (cols : List ℕ) (merge : List ℕ) (m n : ℕ) (s s' : Streams)
     → Exchanges goes (route_to z r cols) merge m n s s' → InItsStream goes r cols n s'
 routed-in-stream goes z r cols merge m n s s' x j l =
     let p : Row → Bool = λ row. goes r (pick cols row) n == j in
@@ -93,7 +93,7 @@ routed-in-stream goes z r cols merge m n s s' x j l =
     ∙ across-zero m))
 
 -- what one producer sends in order stays in order
-pub sends-sorted : (goes : Router) (k : ExchangeKind) (n : ℕ) (xs : List Row) (sent : Streams) → Sends goes k n xs sent
+pub sends-sorted : (goes : Routing) (k : ExchangeKind) (n : ℕ) (xs : List Row) (sent : Streams) → Sends goes k n xs sent
     → (cs : List ℕ) → sorted cs xs ≡ true → (j : ℕ) → j < n → sorted cs (sent j) ≡ true
 sends-sorted goes (route_to z r cols) n xs sent h cs up j l =
     let P : List Row → Type 0 = λ ys. sorted cs ys ≡ true in subst P (h j l) (sorted-filter cs _ xs up)
@@ -102,7 +102,7 @@ sends-sorted goes (broadcast z) n xs sent h cs up j l = let P : List Row → Typ
 sends-sorted goes gather n xs sent h cs up j l = let P : List Row → Type 0 = λ ys. sorted cs ys ≡ true in subst P (h j l) up
 sends-sorted goes concat n xs sent h cs up j l = let P : List Row → Type 0 = λ ys. sorted cs ys ≡ true in subst P (h j l) up
 
-pub single-sorted : (goes : Router) (k : ExchangeKind) (merge : List ℕ) (m n : ℕ) (s s' : Streams) → Exchanges goes k merge m n s s' → m ≡ 1
+pub single-sorted : (goes : Routing) (k : ExchangeKind) (merge : List ℕ) (m n : ℕ) (s s' : Streams) → Exchanges goes k merge m n s s' → m ≡ 1
     → (cs : List ℕ) → sorted cs (s 0) ≡ true → (j : ℕ) → j < n → sorted cs (s' j) ≡ true
 single-sorted goes k merge m n s s' x e cs up j l =
     let D : ℕ → Type 0 = λ a. Dealt a (s' j) (λ i. x.sent i j) in

@@ -3,7 +3,7 @@ use Rattle.std.proofs.Common.{◌≡◌, ℕ, zero, suc, ◌==◌, false, cond, 
 use Rattle.vx_plan_nodes.specs.Plan.{sum, group, plain}
 use Rattle.vx_plan_nodes.specs.Streams.{across}
 use Rattle.vx_morsel.specs.Draws.{times, once_below}
-use Rattle.vx_ops.specs.Ledger.{Stream, Ledger, fresh, one_op, scan_op, OwnBlame, Told}
+use Rattle.vx_ops.specs.Ledger.{Stream, Ledger, fresh, one_op, scan_op, OwnBlame, Abides}
 use Rattle.vx_worker.specs.Fragment.{fragment}
 use Rattle.vx_worker.specs.Trace.{failed, HasFailed}
 use Rattle.vx_exchange.specs.Tasks.{keep}
@@ -33,8 +33,8 @@ nothing = record { left = fresh; right = fresh; came = λ i. []; gave = fresh }
 same-fault : (f g : Fault) → Failed f ≡ Failed g → f ≡ g
 same-fault f g e = cc
 
-told-group : Told (one_op 0 (group plain [] (sum 0 ∷ []))) grouping
-told-group = record {
+abides-group : Abides (one_op 0 (group plain [] (sum 0 ∷ []))) grouping
+abides-group = record {
   before = begun_nothing (one_op 0 (group plain [] (sum 0 ∷ []))) grouping nothing []
       (record { left = record { rest = large.db 0; joined = refl }; right = all_of []; came = λ i. all_of [] }) refl refl;
   ended = λ e. absurd (not-ended e);
@@ -59,10 +59,10 @@ failed-worker = record {
     came = λ n i. all_of [];
   };
   out = stopped;
-  told = (
+  abides = (
     grouping,
     (scanning, record { scanned = refl; came = refl }, record { before = begun_whole scan_op scanning refl; ended = λ e. (refl, refl); passes = λ f e. e; tests = tt; blame = λ f e. inl e }, refl),
-    told-group,
+    abides-group,
     refl,
   );
   why = inl refl;

@@ -10,9 +10,9 @@ use Rattle.vx_plan_nodes.specs.Plan.{Size, Route, Part, one, any, all, routed, C
 use Rattle.vx_relations.specs.Relation.{Relation}
 use Rattle.vx_plan_nodes.specs.Serial.{passes, firsts, group_keys, group_fits, unary_rows, binary_rows, join_rows, rows, or_overflow, after, serial, group_row, aggregate_of, group_rows, SerialResult, overflow, IsTooLong, HasLargeInput, LargePart, is_sum_of, fits, sum_of, count_of, of_key}
 use Rattle.vx_plan_nodes.specs.Streams.{Streams, joined, workers}
-use Rattle.vx_plan_nodes.specs.Routes.{Router}
+use Rattle.vx_plan_nodes.specs.Routes.{Routing}
 use Rattle.vx_plan_nodes.specs.Runs.{Exchanges, Runs}
-use Rattle.vx_check_rules.specs.Rules.{part_gives, has, through, copied, covers, front, if_some, within, numbers_below, routed_within, allowed, allowed_here, sizes_match, not_replicated, inputs_match, order_given, part_shown, order_shown, keys_shown, keeps_apart, unary_shows, unary_orders, unary_keys, both_have, routed_alike, alike_shows, left_columns, right_columns, join_shows, join_keys, kind_shows, goes_on, rises_by}
+use Rattle.vx_check_rules.specs.Rules.{part_gives, has, through, copied, covers, is_prefix, if_some, within, numbers_below, routed_within, allowed, allowed_here, sizes_match, not_replicated, inputs_match, order_given, part_shown, order_shown, keys_shown, keeps_apart, unary_shows, unary_orders, unary_keys, both_have, routed_alike, alike_shows, left_columns, right_columns, join_shows, join_keys, kind_shows, goes_on, rises_by}
 use Rattle.vx_check_rules.specs.Claims.{PartHolds, InItsStream, ClaimHolds, Given, PartOf, ClaimOf}
 use Rattle.vx_laws.specs.Sound.{SoundThroughout, Sound, NoOverflow}
 use Rattle.vx_laws.proofs.Erased.{erased-rows}
@@ -37,7 +37,7 @@ use Rattle.vx_laws.proofs.Pieces.{Parts-base, Parts-joined, Parts-groups, final-
 use Rattle.vx_laws.proofs.Concat.{joined-sorted}
 use Rattle.vx_laws.proofs.OneInput.{tests, Holding, HoldingAt, Held, stream-total, either-part, had, had-one, routed-any, or-left, apart-else, scan-holds, unary-holds, close, widen, exchange-holds, partial-holds, final-else, final-holds}
 
-module _ (catalog : ℕ → Relation) (db : ℕ → List Row) (sizes : ℕ → ℕ) (goes : Router) (given : Given catalog db sizes goes) where
+module _ (catalog : ℕ → Relation) (db : ℕ → List Row) (sizes : ℕ → ℕ) (goes : Routing) (given : Given catalog db sizes goes) where
   -- the right input's workers are the left one's
   had-right : (p q : Plan) (jh : Held db sizes goes q) → size_eq (size p) (size q) ≡ true → (x : Part) → has q x ≡ true
       → PartHolds goes x (workers sizes (size p)) (jh.s) jh.base
@@ -132,7 +132,7 @@ module _ (catalog : ℕ → Relation) (db : ℕ → List Row) (sizes : ℕ → �
         };
       }
     where
-      front-none : (cs : List ℕ) → front cs [] ≡ true → cs ≡ []
+      front-none : (cs : List ℕ) → is_prefix cs [] ≡ true → cs ≡ []
       front-none [] e = refl
       front-none (x ∷ cs) e = absurd (true≢false (sym e))
   binary-holds k c (join m on) p q out ih jh wf names ok run =

@@ -9,7 +9,7 @@ use Rattle.vx_plan_nodes.specs.Plan.{Route, Part, one, any, all, routed, Aggrega
 use Rattle.vx_relations.specs.Catalog.{all_below}
 use Rattle.vx_plan_nodes.specs.Serial.{firsts, group_keys, group_row, group_fits, of_key, aggregate_of}
 use Rattle.vx_plan_nodes.specs.Streams.{Streams, joined}
-use Rattle.vx_plan_nodes.specs.Routes.{Router}
+use Rattle.vx_plan_nodes.specs.Routes.{Routing}
 use Rattle.vx_check_rules.specs.Rules.{within, copied, numbers_below, part_gives, routed_within}
 use Rattle.vx_check_rules.specs.Claims.{InItsStream}
 use Rattle.vx_laws.proofs.Bags.{and-left, and-right, and-both, total-map, total-joined, across-ext, SameRows-all, stream-all}
@@ -66,7 +66,7 @@ fits-same-rows by aggregates xs ys s h =
     (λ key e. sym (group_fits-same by aggregates xs ys key (of_key-same by key s)) ∙ e) (group_keys by ys)
     (SameRows-all (keys-same by s) (group_fits by aggregates xs) h)
 
-module _ (goes : Router) (rt : Route) (cols by : List ℕ) (aggregates : List Aggregate) (n : ℕ) (s : Streams) (base : List Row)
+module _ (goes : Routing) (rt : Route) (cols by : List ℕ) (aggregates : List Aggregate) (n : ℕ) (s : Streams) (base : List Row)
     (sub : within cols by ≡ true) (same : SameRows (joined n s) base) (apart : InItsStream goes rt cols n s) where
   keys-joined : SameRows (joined n (λ i. group_keys by (s i))) (group_keys by base)
   keys-joined = firsts-joined goes rt cols by n s (λ i. group_keys by (s i)) base sub (λ w l. refl) same apart
@@ -113,7 +113,7 @@ module _ (goes : Router) (rt : Route) (cols by : List ℕ) (aggregates : List Ag
       (s i) (apart i l))))
 
 -- routes of output rows, through copied columns
-pub firsts-in-stream : (goes : Router) (rt : Route) (kept cs ds : List ℕ) (n : ℕ) (s s' : Streams) → copied kept cs ≡ Some ds
+pub firsts-in-stream : (goes : Routing) (rt : Route) (kept cs ds : List ℕ) (n : ℕ) (s s' : Streams) → copied kept cs ≡ Some ds
     → ((w : ℕ) → w < n → firsts (map (pick kept) (s w)) ≡ s' w) → InItsStream goes rt ds n s → InItsStream goes rt cs n s'
 firsts-in-stream goes rt kept cs ds n s s' e run h w l =
     let P : List Row → Type 0 = λ xs. list_all (λ row. goes rt (pick cs row) n == w) xs ≡ true in
@@ -121,7 +121,7 @@ firsts-in-stream goes rt kept cs ds n s s' e run h w l =
     (list_all-weaken (λ row. goes rt (pick ds row) n == w) (λ row. goes rt (pick cs (pick kept row)) n == w)
     (λ row t. ap (λ k. goes rt k n == w) (copied-alone kept cs ds row e) ∙ t) (s w) (h w l)))
 
-pub groups-in-stream : (goes : Router) (rt : Route) (by cs ds : List ℕ) (aggregates : List Aggregate) (n : ℕ) (s s' : Streams) → copied by cs ≡ Some ds
+pub groups-in-stream : (goes : Routing) (rt : Route) (by cs ds : List ℕ) (aggregates : List Aggregate) (n : ℕ) (s s' : Streams) → copied by cs ≡ Some ds
     → ((w : ℕ) → w < n → groups by aggregates (s w) ≡ s' w) → InItsStream goes rt ds n s → InItsStream goes rt cs n s'
 groups-in-stream goes rt by cs ds aggregates n s s' e run h w l =
     let P : List Row → Type 0 = λ xs. list_all (λ row. goes rt (pick cs row) n == w) xs ≡ true in

@@ -8,7 +8,7 @@ use Rattle.vx_plan_nodes.specs.Plan.{Route}
 use Rattle.vx_relations.specs.Catalog.{all_below}
 use Rattle.vx_plan_nodes.specs.Serial.{matches, joined_with, join_rows}
 use Rattle.vx_plan_nodes.specs.Streams.{Streams, joined, across}
-use Rattle.vx_plan_nodes.specs.Routes.{Router}
+use Rattle.vx_plan_nodes.specs.Routes.{Routing}
 use Rattle.vx_check_rules.specs.Rules.{shifted, has_pair, all_pairs}
 use Rattle.vx_check_rules.specs.Claims.{InItsStream}
 use Rattle.vx_laws.proofs.Bags.{and-left, and-right, when, total-map, total-filter, total-flat_map, total-ext, total-add, total-zero, total-joined, across-ext}
@@ -177,7 +177,7 @@ match-pick on (a ∷ as') (b ∷ bs) l r h e =
     cc
 
 -- a right row of another worker than the left row's does not match
-pub pair-elsewhere : (goes : Router) (rt : Route) (on : List (ℕ × ℕ)) (as' bs : List ℕ) (n i j : ℕ) (f : Row → ℕ) (l r : Row)
+pub pair-elsewhere : (goes : Routing) (rt : Route) (on : List (ℕ × ℕ)) (as' bs : List ℕ) (n i j : ℕ) (f : Row → ℕ) (l r : Row)
     → all_pairs on as' bs ≡ true → j ≢ i → (goes rt (pick as' l) n == i) ≡ true → (goes rt (pick bs r) n == j) ≡ true → pair on f l r ≡ 0
 pair-elsewhere goes rt on as' bs n i j f l r e ne hl hr = cases (matches on l r) refl
   where
@@ -191,7 +191,7 @@ pair-elsewhere goes rt on as' bs n i j f l r e ne hl hr = cases (matches on l r)
         absurd (ne d)
     cases false m = refl
 
-pub join-alike : (goes : Router) (rt : Route) (on : List (ℕ × ℕ)) (as' bs : List ℕ) (n : ℕ) (s t s' : Streams) (base rbase : List Row)
+pub join-alike : (goes : Routing) (rt : Route) (on : List (ℕ × ℕ)) (as' bs : List ℕ) (n : ℕ) (s t s' : Streams) (base rbase : List Row)
     → all_pairs on as' bs ≡ true
     → ((w : ℕ) → w < n → join_rows on (s w) (t w) ≡ s' w)
     → SameRows (joined n s) base → InItsStream goes rt as' n s

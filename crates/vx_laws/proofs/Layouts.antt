@@ -5,7 +5,7 @@ use Rattle.vx_relations.specs.Relation.{Relation}
 use Rattle.vx_plan_nodes.specs.Plan.{Plan, scan, unary, binary, exchange, size, number, size_eq}
 use Rattle.vx_plan_nodes.specs.Streams.{workers}
 use Rattle.vx_check_rules.specs.Rules.{allowed, allowed_here}
-use Rattle.vx_worker.specs.Fragment.{Setting}
+use Rattle.vx_worker.specs.Fragment.{RunModel}
 use Rattle.vx_worker.specs.Trace.{Trace, IsWell, Ends}
 use Rattle.vx_laws.specs.RunOf.{Known, RunOf}
 use Rattle.vx_plan_nodes.specs.Numbering.{is_fit, nodes, is_numbered, relation_in}
@@ -13,7 +13,7 @@ use Rattle.vx_laws.specs.Layout.{workers_below, FlatRun, FlatIsRun, NumberedIsFi
 use Rattle.vx_laws.proofs.Bags.{and-left, and-right, and-both}
 use Rattle.vx_laws.proofs.OneInput.{tests}
 
-abbrev pub flat-to-run : (S : Setting) (E : Known) (ts : ℕ → Trace) (p : Plan) (top next : ℕ) → FlatRun S E ts p top next → RunOf S E p (λ w. ts (top + w))
+abbrev pub flat-to-run : (S : RunModel) (E : Known) (ts : ℕ → Trace) (p : Plan) (top next : ℕ) → FlatRun S E ts p top next → RunOf S E p (λ w. ts (top + w))
 flat-to-run S E ts (scan n c r true z) top next h = h
 flat-to-run S E ts (scan n c r false z) top next h = h
 flat-to-run S E ts (unary n c op p) top next h = flat-to-run S E ts p top next h

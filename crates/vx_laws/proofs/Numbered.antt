@@ -6,7 +6,7 @@ use Rattle.vx_plan_nodes.specs.Streams.{workers}
 use Rattle.vx_ops.specs.declared.fault.Code.TheVariants.{Overflow}
 use Rattle.vx_ops.specs.declared.fault.Fault.{Fault}
 use Rattle.vx_ops.specs.declared.fault.Fault.TheVariants.{Own}
-use Rattle.vx_worker.specs.Fragment.{Setting, goes, fragment}
+use Rattle.vx_worker.specs.Fragment.{RunModel, goes, fragment}
 use Rattle.vx_worker.specs.Trace.{Trace, IsWell, Ends}
 use Rattle.vx_exchange.specs.Tasks.{keep}
 use Rattle.vx_laws.specs.RunOf.{Made}
@@ -36,7 +36,7 @@ numbered-run-delivers S set is_total p fit wf shut ok root ts rows h =
     (runs, sound-at-root S.catalog S.db S.sizes (goes S) (set-given S set) is_total p (λ w. rows) wf shut ok root runs)
 
 -- a failure by number is a failure by fragments
-flat-fails : (S : Setting) (f : Fault) (ts : ℕ → Trace) (p : Plan) (top next : ℕ) (run : FlatRun S (Ends S) ts p top next)
+flat-fails : (S : RunModel) (f : Fault) (ts : ℕ → Trace) (p : Plan) (top next : ℕ) (run : FlatRun S (Ends S) ts p top next)
     → FlatFails S f ts p top next run → FailsBelow S f p (λ w. ts (top + w)) (flat-to-run S (Ends S) ts p top next run)
 flat-fails S f ts (scan n c r true z) top next run h = absurd h
 flat-fails S f ts (scan n c r false z) top next run h = absurd h

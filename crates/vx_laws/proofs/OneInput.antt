@@ -10,9 +10,9 @@ use Rattle.vx_plan_nodes.specs.Plan.{Size, Route, Part, one, any, all, routed, C
 use Rattle.vx_relations.specs.Relation.{Relation}
 use Rattle.vx_plan_nodes.specs.Serial.{passes, firsts, group_keys, group_fits, unary_rows, binary_rows, join_rows, rows, or_overflow, after, serial, group_row, aggregate_of, group_rows, SerialResult, overflow, IsTooLong, HasLargeInput, LargePart, is_sum_of, fits, sum_of, count_of, of_key}
 use Rattle.vx_plan_nodes.specs.Streams.{Streams, joined, workers}
-use Rattle.vx_plan_nodes.specs.Routes.{Router}
+use Rattle.vx_plan_nodes.specs.Routes.{Routing}
 use Rattle.vx_plan_nodes.specs.Runs.{Exchanges, Runs}
-use Rattle.vx_check_rules.specs.Rules.{part_gives, has, through, copied, covers, front, if_some, within, numbers_below, routed_within, allowed, allowed_here, sizes_match, not_replicated, inputs_match, order_given, part_shown, order_shown, keys_shown, keeps_apart, unary_shows, unary_orders, unary_keys, both_have, routed_alike, alike_shows, left_columns, right_columns, join_shows, join_keys, kind_shows, goes_on, rises_by}
+use Rattle.vx_check_rules.specs.Rules.{part_gives, has, through, copied, covers, is_prefix, if_some, within, numbers_below, routed_within, allowed, allowed_here, sizes_match, not_replicated, inputs_match, order_given, part_shown, order_shown, keys_shown, keeps_apart, unary_shows, unary_orders, unary_keys, both_have, routed_alike, alike_shows, left_columns, right_columns, join_shows, join_keys, kind_shows, goes_on, rises_by}
 use Rattle.vx_check_rules.specs.Claims.{PartHolds, InItsStream, ClaimHolds, Given, PartOf, ClaimOf}
 use Rattle.vx_laws.specs.Sound.{SoundThroughout, Sound, NoOverflow}
 use Rattle.vx_laws.proofs.Erased.{erased-rows}
@@ -53,26 +53,26 @@ pub tests : (catalog : ℕ → Relation) (p : Plan) → allowed_here catalog p �
 tests catalog p h = seven (sizes_match p) (not_replicated p) (inputs_match p) (order_given p) (part_shown catalog p) (order_shown catalog p) (keys_shown catalog p) h
 
 -- the plan has serial rows, and its top's claim holds of them and of these streams
-pub record Holding (db : ℕ → List Row) (sizes : ℕ → ℕ) (goes : Router) (p : Plan) (s : Streams) : Type 0 where
+pub record Holding (db : ℕ → List Row) (sizes : ℕ → ℕ) (goes : Routing) (p : Plan) (s : Streams) : Type 0 where
   pub base : List Row
   pub is_serial : serial db p ≡ rows base
   pub holds : ClaimHolds goes (claim p) (workers sizes (size p)) s base
 
 -- the same where the node may be open
-pub record HoldingAt (db : ℕ → List Row) (sizes : ℕ → ℕ) (goes : Router) (p : Plan) (s : Streams) : Type 0 where
+pub record HoldingAt (db : ℕ → List Row) (sizes : ℕ → ℕ) (goes : Routing) (p : Plan) (s : Streams) : Type 0 where
   pub base : List Row
   pub is_serial : serial db (spoken p) ≡ rows base
   pub holds : ClaimOf goes (claim p) (workers sizes (size p)) s (λ xs. Gives p base xs) (listed p base)
 
 -- a plan below, with its streams
-pub record Held (db : ℕ → List Row) (sizes : ℕ → ℕ) (goes : Router) (p : Plan) : Type 0 where
+pub record Held (db : ℕ → List Row) (sizes : ℕ → ℕ) (goes : Routing) (p : Plan) : Type 0 where
   pub s : Streams
   pub base : List Row
   pub is_serial : serial db p ≡ rows base
   pub holds : ClaimHolds goes (claim p) (workers sizes (size p)) s base
 
 -- what an operator owes: a list of its own from the serial rows, of which the claim holds
-pub record Step (goes : Router) (op : Unary) (c : Claim) (n : ℕ) (s' : Streams) (base : List Row) : Type 0 where
+pub record Step (goes : Routing) (op : Unary) (c : Claim) (n : ℕ) (s' : Streams) (base : List Row) : Type 0 where
   pub base' : List Row
   pub is : unary_rows op base ≡ Some base'
   pub holds : ClaimHolds goes c n s' base'
@@ -85,7 +85,7 @@ stream-total n s base same f w l =
     omega (arith, a, b, c)
 
 -- a part is shown, or there is one worker, by what stands for the serial rows
-pub either-of : (goes : Router) → InRange goes → (sizes : ℕ → ℕ) (z : Size) (q : Part) (shown : Bool) (s' : Streams) (stands : List Row → Type 0)
+pub either-of : (goes : Routing) → InRange goes → (sizes : ℕ → ℕ) (z : Size) (q : Part) (shown : Bool) (s' : Streams) (stands : List Row → Type 0)
     → (is_one z || shown) ≡ true
     → (is_one z ≡ true → stands (joined (workers sizes z) s'))
     → (shown ≡ true → PartOf goes q (workers sizes z) s' stands)
@@ -96,7 +96,7 @@ either-of goes law sizes z q shown s' stands h one_ok shown_ok = ⊎_elim
     (or-cases _ _ h)
 
 -- a part is shown, or there is one worker
-pub either-part : (goes : Router) → InRange goes → (sizes : ℕ → ℕ) (z : Size) (q : Part) (shown : Bool) (s' : Streams) (base' : List Row)
+pub either-part : (goes : Routing) → InRange goes → (sizes : ℕ → ℕ) (z : Size) (q : Part) (shown : Bool) (s' : Streams) (base' : List Row)
     → (is_one z || shown) ≡ true
     → (is_one z ≡ true → SameRows (joined (workers sizes z) s') base')
     → (shown ≡ true → PartHolds goes q (workers sizes z) s' base')
@@ -106,7 +106,7 @@ either-part goes law sizes z q shown s' base' h one_ok shown_ok = ⊎_elim
     (λ e. shown_ok e)
     (or-cases _ _ h)
 
-module _ (catalog : ℕ → Relation) (db : ℕ → List Row) (sizes : ℕ → ℕ) (goes : Router) (given : Given catalog db sizes goes) where
+module _ (catalog : ℕ → Relation) (db : ℕ → List Row) (sizes : ℕ → ℕ) (goes : Routing) (given : Given catalog db sizes goes) where
   given_some : (z : Size) → 0 < workers sizes z
   given_some z = some-workers sizes given.some_workers z
 
@@ -208,7 +208,7 @@ module _ (catalog : ℕ → Relation) (db : ℕ → List Row) (sizes : ℕ → �
       let lin : Linear (map (pick cols)) = Linear-map (pick cols) in
       let any_ok : SameRows (joined n s) ih.base → SameRows (joined n s') (map (pick cols) ih.base)
       = λ same. SameRows-trans (linear-joined lin n s s' runs) (linear-same lin same) in
-      let o = if_some-is (copied cols c.order) (λ ds. front ds (claim p).order) order in
+      let o = if_some-is (copied cols c.order) (λ ds. is_prefix ds (claim p).order) order in
       record {
         base' = map (pick cols) ih.base;
         is = refl;
@@ -242,7 +242,7 @@ module _ (catalog : ℕ → Relation) (db : ℕ → List Row) (sizes : ℕ → �
       let any_ok : has p any ≡ true → SameRows (joined n s') (op ih.base)
       = apart-any p ih cols s' (op ih.base) apart each
       (λ r cs sub same at. firsts-joined goes r cs cols n s s' ih.base sub runs same at) in
-      let o = if_some-is (copied cols c.order) (λ ds. front ds (claim p).order) order in
+      let o = if_some-is (copied cols c.order) (λ ds. is_prefix ds (claim p).order) order in
       record {
         base' = op ih.base;
         is = refl;
@@ -299,7 +299,7 @@ module _ (catalog : ℕ → Relation) (db : ℕ → List Row) (sizes : ℕ → �
       = apart-else p ih by (list_all (group_fits by aggregates ih.base) (group_keys by ih.base) ≡ true) apart
       (λ same. fits-same-rows by aggregates (s 0) ih.base (same 0 (given_some (size p))) (both 0 (given_some (size p))).0)
       (λ r cs sub same at. fits-joined goes r cs by aggregates n s ih.base sub same at (λ w l. (both w l).0)) in
-      let o = if_some-is (copied by c.order) (λ ds. front ds (claim p).order) order in
+      let o = if_some-is (copied by c.order) (λ ds. is_prefix ds (claim p).order) order in
       record {
         base' = op ih.base;
         is = ap (λ b. cond b (Some (op ih.base)) None) fit;
@@ -499,15 +499,15 @@ module _ (catalog : ℕ → Relation) (db : ℕ → List Row) (sizes : ℕ → �
                 sorted-front c.order merge by_merge list (sorted-front merge (claim p).order h.3 list ih.holds.order.1),
               ))
               (λ single.
-              let f = and-right (is_one (size p) || goes_on kind (claim p)) (front c.order (claim p).order) single in (
+              let f = and-right (is_one (size p) || goes_on kind (claim p)) (is_prefix c.order (claim p).order) single in (
                 λ w l. ⊎_elim
                     (λ o. single-sorted goes kind merge _ _ s out x (one-worker sizes (size p) o) c.order
                     (sorted-front c.order (claim p).order f _ (ih.holds.order.0 0 (given_some (size p)))) w l)
                     (λ g. sorted-front c.order (claim p).order f (out w) (concat-sorted kind merge p s ih out x g w l))
-                    (or-cases (is_one (size p)) (goes_on kind (claim p)) (and-left (is_one (size p) || goes_on kind (claim p)) (front c.order (claim p).order) single)),
+                    (or-cases (is_one (size p)) (goes_on kind (claim p)) (and-left (is_one (size p) || goes_on kind (claim p)) (is_prefix c.order (claim p).order) single)),
                 sorted-front c.order (claim p).order f list ih.holds.order.1,
               ))
-              (or-cases (front c.order merge) ((is_one (size p) || goes_on kind (claim p)) && front c.order (claim p).order) h.5);
+              (or-cases (is_prefix c.order merge) ((is_one (size p) || goes_on kind (claim p)) && is_prefix c.order (claim p).order) h.5);
           keys = keys-from (covers (claim p).keys) list (λ y e. covers-key (claim p).keys y e list ih.holds.keys) c.keys h.6;
         };
       }
@@ -529,7 +529,7 @@ module _ (catalog : ℕ → Relation) (db : ℕ → List Row) (sizes : ℕ → �
       = λ w l. let P : List Row → Type 0 = λ xs. Parts by aggregates (s w) xs in subst P (runs w l) (Parts-groups by aggregates (s w)) in
       let any_ok : SameRows (joined n s) ih.base → stands (joined n out)
       = λ same. Parts-base by aggregates (joined n s) ih.base (joined n out) same (Parts-joined by aggregates n s out parts) in
-      let o = if_some-is (copied by c.order) (λ ds. front ds (claim p).order) h.5 in
+      let o = if_some-is (copied by c.order) (λ ds. is_prefix ds (claim p).order) h.5 in
       record {
         base = ih.base;
         is_serial = ih.is_serial;
@@ -643,7 +643,7 @@ module _ (catalog : ℕ → Relation) (db : ℕ → List Row) (sizes : ℕ → �
       (λ r cs sub g at. fits-final by aggregates ih.base (joined n s) (gives ih.base (joined n s) g)
       (fits-joined goes r cs keys puts n s (joined n s) sub (SameRows-refl (joined n s)) at (λ w l. (both w l).0))) in
       let below : serial db p ≡ rows base' = serial_is db ∙ (ap (λ o. after o (λ xs. or_overflow node (group_rows by aggregates xs))) ih.is_serial ∙ ap (λ b. or_overflow node (cond b (Some base') None)) fit) in
-      let o = if_some-is (copied keys c.order) (λ ds. front ds (claim p).order) h.5 in
+      let o = if_some-is (copied keys c.order) (λ ds. is_prefix ds (claim p).order) h.5 in
       let as_keys : o.0 ≡ c.order = copied-same (length by) c.order o.0 o.1 in
       let Q : List ℕ → Type 0 = λ v. sorted v (group_keys by ih.base) ≡ true in
       let R : List Row → Type 0 = λ l. sorted (claim p).order l ≡ true in

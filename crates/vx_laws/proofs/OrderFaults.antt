@@ -1,11 +1,11 @@
 -- No worker of an allowed plan ends with rows that fall, or with a packet that isn't its own.
-use Rattle.vx_worker.specs.Fragment.{goes, Setting, Reads, fragment, FragTold}
+use Rattle.vx_worker.specs.Fragment.{goes, RunModel, Reads, fragment, FragAbides}
 use Rattle.std.proofs.Common.{◌≡◌, ⊎_elim, ℕ, ◌<◌, Bool, true, false, ◌&&◌, List, [], ◌∷◌, ◌++◌, map, refl, sym, ap, ◌∙◌, subst, arith, true≢false}
 use Rattle.vx_values.specs.Values.{Row}
 use Rattle.vx_rows.specs.Order.{sorted}
 use Rattle.vx_plan_nodes.specs.Plan.{Size, ExchangeKind, target, Unary, select, project, distinct, sort, group, Binary, union, join, Plan, scan, unary, binary, exchange, size, claim, size_eq}
 use Rattle.vx_plan_nodes.specs.Types.{width, well_formed, names_columns, types_of}
-use Rattle.vx_check_rules.specs.Rules.{front, allowed, allowed_here}
+use Rattle.vx_check_rules.specs.Rules.{is_prefix, allowed, allowed_here}
 use Rattle.vx_plan_nodes.specs.Streams.{workers}
 use Rattle.vx_check_rules.specs.Claims.{Given}
 use Rattle.vx_ports.specs.Packets.{Content, last, fault, PacketView, rows_of}
@@ -43,11 +43,11 @@ for-left port i (p ∷ ps) qs h = (h.0, for-left port i ps qs h.1)
 for-begins : (port : ConsumerEnd) (i : ℕ) (ps qs : List PacketView) → IsBeginning ps qs → AllFor port i qs → AllFor port i ps
 for-begins port i ps qs b h = let P : List PacketView → Type 0 = λ xs. AllFor port i xs in for-left port i ps b.rest (subst P (sym b.joined) h)
 
-no-stranger : (port : ConsumerEnd) (i : ℕ) (front : List PacketView) (p : PacketView) (back : List PacketView) → AllFor port i (front ++ p ∷ back) → (IsFor port i p → ⊥) → ⊥
+no-stranger : (port : ConsumerEnd) (i : ℕ) (before : List PacketView) (p : PacketView) (back : List PacketView) → AllFor port i (before ++ p ∷ back) → (IsFor port i p → ⊥) → ⊥
 no-stranger port i [] p back h k = k h.0
-no-stranger port i (q ∷ front) p back h k = no-stranger port i front p back h.1 k
+no-stranger port i (q ∷ before) p back h k = no-stranger port i before p back h.1 k
 
-module _ (S : Setting) (giv : Given S.catalog S.db S.sizes (goes S)) where
+module _ (S : RunModel) (giv : Given S.catalog S.db S.sizes (goes S)) where
   abbrev port_of : ℕ → ℕ → ExchangeKind → List ℕ → Plan → ConsumerEnd
   port_of n w k merge p = record { exchange = n; place = w; producers = workers S.sizes (size p); types = types_of S.catalog p; merge = merge; in_order = is_concat k }
 
@@ -65,7 +65,7 @@ module _ (S : Setting) (giv : Given S.catalog S.db S.sizes (goes S)) where
 
   order-fails : (p : Plan) → is_fit S.relation_of p ≡ true → well_formed S.catalog p ≡ true → allowed S.catalog p ≡ true
       → (ts : ℕ → Trace) → RunOf S (Ends S) p ts → (w : ℕ) → w < workers S.sizes (size p)
-      → (reads : Reads) → ReadsBegin S (ts w) reads → (out : Stream) → FragTold (fragment S w p) reads out
+      → (reads : Reads) → ReadsBegin S (ts w) reads → (out : Stream) → FragAbides (fragment S w p) reads out
       → (f : Fault) → IsOrderFault f → out.over ≡ Failed f → ⊥
   order-fails (scan n c r m z) fit wf ok ts run w l reads begin out h f o e = ⊎_elim
       (λ i. (begin.scanned n).never_fails f (sym (ap (λ (s : Stream). s.over) h.1.scanned) ∙ i))
@@ -131,8 +131,8 @@ module _ (S : Setting) (giv : Given S.catalog S.db S.sizes (goes S)) where
       own (join false on) (Own Stranger node) o ok a b k = k
       own (join true on) (Own Unsorted node) o ok a b k =
           let t = tests S.catalog (binary n c (join true on) p q) ok in
-          let fl = and-left (front (map (λ x. x.0) on) (claim p).order) (front (map (λ x. x.1) on) (claim q).order) t.3 in
-          let fr = and-right (front (map (λ x. x.0) on) (claim p).order) (front (map (λ x. x.1) on) (claim q).order) t.3 in
+          let fl = and-left (is_prefix (map (λ x. x.0) on) (claim p).order) (is_prefix (map (λ x. x.1) on) (claim q).order) t.3 in
+          let fr = and-right (is_prefix (map (λ x. x.0) on) (claim p).order) (is_prefix (map (λ x. x.1) on) (claim q).order) t.3 in
           ⊎_elim
           (λ x. true≢false (sym (sorted-front (map (λ x. x.0) on) (claim p).order fl h.0.left.rows a) ∙ x))
           (λ x. true≢false (sym (sorted-front (map (λ x. x.1) on) (claim q).order fr h.0.right.rows b) ∙ x))
@@ -174,7 +174,7 @@ module _ (S : Setting) (giv : Given S.catalog S.db S.sizes (goes S)) where
   ends-so p fit wf ok ts run w l task f o fate h e =
       let P : Fate → Type 0 = λ x. Honest S (fragment S w p) task x (ts w) in
       let k : HasFailed S (fragment S w p) task f (ts w) = subst P e h in
-      ⊎_elim (λ x. order-fails p fit wf ok ts run w l k.reads k.reads_begin k.out k.told f o x) (λ m. memory f o m) k.why
+      ⊎_elim (λ x. order-fails p fit wf ok ts run w l k.reads k.reads_begin k.out k.abides f o x) (λ m. memory f o m) k.why
     where
       memory : (f : Fault) → IsOrderFault f → Rattle.vx_worker.specs.Trace.IsNoMemory f → ⊥
       memory (Own Overflow node) o m = o

@@ -5,11 +5,11 @@ use Rattle.std.specs.Ordering.{ordering_then}
 use Rattle.vx_values.specs.Values.{Row, val_cmp, value_at}
 use Rattle.vx_rows.specs.Order.{compare_on, sorted}
 use Rattle.vx_plan_nodes.specs.Streams.{Streams, bearing, Dealt}
-use Rattle.vx_check_rules.specs.Rules.{front}
+use Rattle.vx_check_rules.specs.Rules.{is_prefix}
 use Rattle.vx_laws.proofs.Bags.{and-left, and-right, and-both}
 use Rattle.vx_laws.proofs.Parts.{list_all-weaken}
 
-pub le-front : (cs ds : List ℕ) (a b : Row) → front cs ds ≡ true → is_le (compare_on ds a b) ≡ true → is_le (compare_on cs a b) ≡ true
+pub le-front : (cs ds : List ℕ) (a b : Row) → is_prefix cs ds ≡ true → is_le (compare_on ds a b) ≡ true → is_le (compare_on cs a b) ≡ true
 le-front [] ds a b f h = refl
 le-front (c ∷ cs) [] a b f h = absurd (true≢false (sym f))
 le-front (c ∷ cs) (d ∷ ds) a b f h =
@@ -22,7 +22,7 @@ le-front (c ∷ cs) (d ∷ ds) a b f h =
     step Equal p q f h = f h
     step Greater p q f h = h
 
-pub sorted-front : (cs ds : List ℕ) → front cs ds ≡ true → (xs : List Row) → sorted ds xs ≡ true → sorted cs xs ≡ true
+pub sorted-front : (cs ds : List ℕ) → is_prefix cs ds ≡ true → (xs : List Row) → sorted ds xs ≡ true → sorted cs xs ≡ true
 sorted-front cs ds f [] h = refl
 sorted-front cs ds f (x ∷ xs) h = and-both _ _
     (list_all-weaken (λ y. is_le (compare_on ds x y)) (λ y. is_le (compare_on cs x y)) (λ y. le-front cs ds x y f) xs (and-left _ _ h))

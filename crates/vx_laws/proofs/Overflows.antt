@@ -1,5 +1,5 @@
 -- An overflow that a run answers is one of the data.
-use Rattle.vx_worker.specs.Fragment.{goes, Setting, Frag, Reads, fragment, FragTold, FragMakes}
+use Rattle.vx_worker.specs.Fragment.{goes, RunModel, Frag, Reads, fragment, FragAbides, FragMakes}
 use Rattle.std.proofs.Common.{◌≡◌, ◌⊎◌, inl, inr, ⊎_elim, ℕ, zero, suc, ◌<◌, ◌≤◌, ◌==◌, Bool, true, false, cond, not, ◌||◌, ◌&&◌, List, [], ◌∷◌, ◌++◌, map, length, Option, Some, None, IsSome, refl, sym, ap, ◌∙◌, subst, arith, append-nil, true≢false, eqb-true, eq-eqb, ◌+◌, flat_map, length-append}
 use Rattle.vx_values.specs.Values.{Row}
 use Rattle.vx_rows.specs.Order.{sorted}
@@ -9,7 +9,7 @@ use Rattle.vx_plan_nodes.specs.Types.{width, well_formed, names_columns}
 use Rattle.vx_plan_nodes.specs.Serial.{unary_rows, binary_rows, group_rows, SerialResult, rows, overflow, or_overflow, after, serial, IsOverflow, IsTooLong, HasTooLong, HasLargePart}
 use Rattle.vx_check_rules.specs.Rules.{allowed, allowed_here}
 use Rattle.vx_plan_nodes.specs.Streams.{Streams, workers, joined, Dealt}
-use Rattle.vx_plan_nodes.specs.Routes.{Router}
+use Rattle.vx_plan_nodes.specs.Routes.{Routing}
 use Rattle.vx_plan_nodes.specs.Runs.{Runs, is_concat}
 use Rattle.vx_check_rules.specs.Claims.{Given, PartOf}
 use Rattle.vx_ports.specs.Packets.{fault, PacketView, rows_of, closes, is_last, is_closed, has_last, is_empty, is_stream, Flows}
@@ -37,7 +37,7 @@ use Rattle.vx_laws.proofs.Settings.{set-given}
 use Rattle.vx_laws.proofs.Choose.{choose, one-more}
 use Rattle.vx_laws.proofs.Packets.{port-rows, last-closed, whole-flow}
 use Rattle.vx_laws.proofs.Decks.{dispatched-dealt}
-use Rattle.vx_laws.proofs.WellRun.{Sized, told-makes, runs-of, dealt-lists, Produced, produced}
+use Rattle.vx_laws.proofs.WellRun.{Sized, abides-makes, runs-of, dealt-lists, Produced, produced}
 use Rattle.vx_exchange.proofs.Joined.{joined-ext}
 use Rattle.vx_laws.proofs.Shuffles.{sorted-shuffle}
 use Rattle.vx_laws.proofs.Opened.{closed-spoken}
@@ -83,7 +83,7 @@ read-whole put taken seen f b h =
     stream-end seen b.rest (subst Q (sym e) f.stream) (last-closed seen h) ∙ e
 
 -- a producer that put Last was well
-ends-well : (S : Setting) (f : Frag) (s : Ship) (t : Trace) (j : ℕ) → j < s.consumers → Ends S f (send s) t → has_last (t.sent j) ≡ true → IsWell S f (send s) t
+ends-well : (S : RunModel) (f : Frag) (s : Ship) (t : Trace) (j : ℕ) → j < s.consumers → Ends S f (send s) t → has_last (t.sent j) ≡ true → IsWell S f (send s) t
 ends-well S f s t j l h e = go h.0 h.1
   where
     go : (fate : Fate) → Honest S f (send s) fate t → IsWell S f (send s) t
@@ -94,15 +94,15 @@ ends-well S f s t j l h e = go h.0 h.1
         absurd (true≢false (sym (subst P (sym c.closed) e) ∙ cut-no-last s j c.parts))
 
 -- a worker made these rows of beginnings of what it read
-pub record MadeOf (S : Setting) (f : Frag) (t : Trace) (out : List Row) : Type 0 where
+pub record MadeOf (S : RunModel) (f : Frag) (t : Trace) (out : List Row) : Type 0 where
   pub reads : Reads
   pub reads_begin : ReadsBegin S t reads
   pub makes : FragMakes f reads out
 
-abbrev pub Makers : Setting → Plan → (ℕ → Trace) → ℕ → Type 0
+abbrev pub Makers : RunModel → Plan → (ℕ → Trace) → ℕ → Type 0
 Makers S p ts w = (out : List Row) × MadeOf S (fragment S w p) (ts w) out
 
-pub reads-begin : (S : Setting) (t : Trace) (r : Reads) → ReadsAre S t r → ReadsBegin S t r
+pub reads-begin : (S : RunModel) (t : Trace) (r : Reads) → ReadsAre S t r → ReadsBegin S t r
 reads-begin S t r h = record {
   scanned = λ n. record {
     numbers = (t.drew n).numbers;
@@ -114,8 +114,8 @@ reads-begin S t r h = record {
   came = λ n i. record { rest = []; joined = append-nil (r.came n i) ∙ ap (λ (f : ℕ → List PacketView). f i) (h.came n) };
 }
 
-well-maker : (S : Setting) (i : ℕ) (p : Plan) (task : Task) (t : Trace) → IsWell S (fragment S i p) task t → (out : List Row) × MadeOf S (fragment S i p) t out
-well-maker S i p task t h = (h.out.rows, record { reads = h.reads; reads_begin = reads-begin S t h.reads h.reads_are; makes = told-makes S i p h.reads h.out h.told h.ended })
+well-maker : (S : RunModel) (i : ℕ) (p : Plan) (task : Task) (t : Trace) → IsWell S (fragment S i p) task t → (out : List Row) × MadeOf S (fragment S i p) t out
+well-maker S i p task t h = (h.out.rows, record { reads = h.reads; reads_begin = reads-begin S t h.reads h.reads_are; makes = abides-makes S i p h.reads h.out h.abides h.ended })
 
 -- the plan overflows, or one of its groupings takes too long a list, or one in two phases rows of one key whose sum is too large
 abbrev pub Overflows : (ℕ → List Row) → Plan → Type 0
@@ -196,7 +196,7 @@ gives-length (binary n c op p q) base xs h = let e = same-length xs base h in om
 gives-length (exchange n c k m p) base xs h = gives-length p base xs h
 
 -- one stream has no more rows than all
-stands-length : (goes : Router) (q : Part) (n : ℕ) (s : Streams) (stands : List Row → Type 0) (most : ℕ) → ((xs : List Row) → stands xs → length xs ≤ most)
+stands-length : (goes : Routing) (q : Part) (n : ℕ) (s : Streams) (stands : List Row → Type 0) (most : ℕ) → ((xs : List Row) → stands xs → length xs ≤ most)
     → PartOf goes q n s stands → (w : ℕ) → w < n → length (s w) ≤ most
 stands-length goes q n s stands most law h w l = shown q h
   where
@@ -215,7 +215,7 @@ stands-length goes q n s stands most law h w l = shown q h
     shown all h = law (s w) (h w l)
     shown (routed r cs) h = by-all h.0
 
-module _ (S : Setting) (giv : Given S.catalog S.db S.sizes (goes S)) (some : 0 < S.morsel) where
+module _ (S : RunModel) (giv : Given S.catalog S.db S.sizes (goes S)) (some : 0 < S.morsel) where
   fit-sized : Sized S
   fit-sized = record { some_rows = some; some_workers = giv.some_workers }
 
@@ -429,7 +429,7 @@ module _ (S : Setting) (giv : Given S.catalog S.db S.sizes (goes S)) (some : 0 <
   -- a worker whose top answers an overflow
   fails : (p : Plan) → is_fit S.relation_of p ≡ true → well_formed S.catalog p ≡ true → allowed S.catalog p ≡ true
       → (ts : ℕ → Trace) → RunOf S (Ends S) p ts → (w : ℕ) → w < workers S.sizes (size p)
-      → (reads : Reads) → ReadsBegin S (ts w) reads → (out : Stream) → FragTold (fragment S w p) reads out
+      → (reads : Reads) → ReadsBegin S (ts w) reads → (out : Stream) → FragAbides (fragment S w p) reads out
       → (node : ℕ) → out.over ≡ Failed (Own Overflow node) → Overflows S.db p
   fails (scan n c r m z) fit wf ok ts run w l reads begin out h node e = ⊎_elim
       (λ i. absurd ((begin.scanned n).never_fails (Own Overflow node) (sym (ap (λ (s : Stream). s.over) h.1.scanned) ∙ i)))
@@ -456,7 +456,7 @@ module _ (S : Setting) (giv : Given S.catalog S.db S.sizes (goes S)) (some : 0 <
           let P : List Row → Type 0 = λ xs. (group_rows by aggregates xs ≡ None) ⊎ (4611686018427387904 < length xs) in
           group-fails n c phase by aggregates p got.0 wf ok got.1 w l (subst P (sym got.2) o.2))
           (λ real. real-unary S.db n c (group phase by aggregates) p real)
-          (complete p fit wp okp ts run w l h.0.left.rows (record { reads = reads; reads_begin = begin; makes = told-makes S w p reads h.0.left h.1 o.1 }))
+          (complete p fit wp okp ts run w l h.0.left.rows (record { reads = reads; reads_begin = begin; makes = abides-makes S w p reads h.0.left h.1 o.1 }))
   fails (binary n c op p q) fit wf ok ts run w l reads begin out h node e =
       let here : Bool = allowed_here S.catalog (binary n c op p q) in
       let rest = and-right (allowed S.catalog p) (allowed S.catalog q && here) ok in
@@ -488,7 +488,7 @@ module _ (S : Setting) (giv : Given S.catalog S.db S.sizes (goes S)) (some : 0 <
   ends-with p fit wf ok ts run w l task node fate h e =
       let P : Fate → Type 0 = λ x. Honest S (fragment S w p) task x (ts w) in
       let f : HasFailed S (fragment S w p) task (Own Overflow node) (ts w) = subst P e h in
-      ⊎_elim (λ o. fails p fit wf ok ts run w l f.reads f.reads_begin f.out f.told node o) (λ m. absurd m) f.why
+      ⊎_elim (λ o. fails p fit wf ok ts run w l f.reads f.reads_begin f.out f.abides node o) (λ m. absurd m) f.why
 
   pub below : (p : Plan) → is_fit S.relation_of p ≡ true → well_formed S.catalog p ≡ true → allowed S.catalog p ≡ true
       → (ts : ℕ → Trace) (run : RunOf S (Ends S) p ts) (node : ℕ) → FailsBelow S (Own Overflow node) p ts run → Overflows S.db p

@@ -5,7 +5,7 @@ use Rattle.vx_values.specs.Values.{Row, pick}
 use Rattle.vx_rows.specs.Bags.{SameRows}
 use Rattle.vx_plan_nodes.specs.Plan.{Size, one_worker, group_of, Route, by_hash, by_range, Part, one, any, all, routed, is_one, size_eq}
 use Rattle.vx_plan_nodes.specs.Streams.{Streams, joined, workers}
-use Rattle.vx_plan_nodes.specs.Routes.{Router}
+use Rattle.vx_plan_nodes.specs.Routes.{Routing}
 use Rattle.vx_check_rules.specs.Rules.{numbers_eq, route_eq, part_gives}
 use Rattle.vx_check_rules.specs.Claims.{PartHolds, InItsStream, PartOf}
 use Rattle.vx_laws.proofs.Bags.{and-left, and-right, and-both}
@@ -51,10 +51,10 @@ pub list_all-weaken : {X : Type 0} (p q : X → Bool) → ((x : X) → p x ≡ t
 list_all-weaken p q h [] e = refl
 list_all-weaken p q h (x ∷ xs) e = and-both _ _ (h x (and-left _ _ e)) (list_all-weaken p q h xs (and-right _ _ e))
 
-abbrev pub InRange : Router → Type 0
+abbrev pub InRange : Routing → Type 0
 InRange goes = (r : Route) (key : Row) (n : ℕ) → 0 < n → goes r key n < n
 
-module _ (goes : Router) (law : InRange goes) where
+module _ (goes : Routing) (law : InRange goes) where
   -- with one worker each part says the same
   pub single-of : (q : Part) (n : ℕ) (s : Streams) (stands : List Row → Type 0) → n ≡ 1 → stands (joined n s) → PartOf goes q n s stands
   single-of one n s stands e h = (e, h)

@@ -29,7 +29,7 @@ well-producer i e = record {
   reads = record { scanned = heard i; came = λ n j. [] };
   reads_are = record { scanned = λ n. record { rows = refl; ended = λ e. refl; never_fails = λ f e. cc }; came = λ n. refl };
   out = heard i 1;
-  told = (
+  abides = (
     record { left = heard i 1; right = fresh; came = λ j. []; gave = heard i 1 },
     record { scanned = refl; came = refl },
     record { before = begun_whole _ _ refl; ended = λ e. (refl, refl); passes = λ f e. e; tests = tt; blame = λ f e. inl e },
@@ -89,7 +89,7 @@ well-consumer = record {
   reads = record { scanned = λ n. fresh; came = λ n i. put i 0 };
   reads_are = record { scanned = λ n. record { rows = refl; ended = λ e. cc; never_fails = λ f e. cc }; came = λ n. refl };
   out = gathered;
-  told = (
+  abides = (
     record { left = fresh; right = fresh; came = λ i. put i 0; gave = gathered },
     record { scanned = refl; came = refl },
     record {

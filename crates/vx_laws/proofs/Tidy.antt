@@ -1,5 +1,5 @@
 -- What a node has given so far is as wide as its columns, and sorted on its claimed order.
-use Rattle.vx_worker.specs.Fragment.{goes, Setting, Reads, fragment, FragTold}
+use Rattle.vx_worker.specs.Fragment.{goes, RunModel, Reads, fragment, FragAbides}
 use Rattle.std.proofs.Common.{◌≡◌, ⊎_elim, ℕ, ◌<◌, ◌==◌, Bool, true, false, ◌&&◌, List, [], ◌∷◌, ◌++◌, map, length, Some, refl, sym, ap, ◌∙◌, subst, arith, append-nil, append_assoc, true≢false, eqb-true, is_le, eq-eqb, ◌||◌, Option}
 use Rattle.std.specs.List.{list_all}
 use Rattle.vx_values.specs.Values.{Row, pick}
@@ -8,9 +8,9 @@ use Rattle.vx_plan_nodes.specs.Plan.{Size, ExchangeKind, route_to, round, broadc
 use Rattle.vx_plan_nodes.specs.Types.{width, unary_width, well_formed, names_columns, part_columns}
 use Rattle.vx_relations.specs.Catalog.{all_below}
 use Rattle.vx_plan_nodes.specs.Serial.{passes, group_keys, group_fits, unary_rows, binary_rows, group_row, of_key, aggregate_of, join_rows}
-use Rattle.vx_check_rules.specs.Rules.{front, copied, unary_orders, allowed, allowed_here, has, part_gives, route_eq, numbers_eq, through, unary_shows, both_have, join_shows, routed_alike, alike_shows, left_columns, right_columns, if_some, kind_shows, goes_on, rises_by}
+use Rattle.vx_check_rules.specs.Rules.{is_prefix, copied, unary_orders, allowed, allowed_here, has, part_gives, route_eq, numbers_eq, through, unary_shows, both_have, join_shows, routed_alike, alike_shows, left_columns, right_columns, if_some, kind_shows, goes_on, rises_by}
 use Rattle.vx_plan_nodes.specs.Streams.{Streams, workers, bearing, Dealt, joined}
-use Rattle.vx_plan_nodes.specs.Routes.{Router, Sends}
+use Rattle.vx_plan_nodes.specs.Routes.{Routing, Sends}
 use Rattle.vx_check_rules.specs.Claims.{Given}
 use Rattle.vx_ports.specs.Packets.{PacketView, rows_of, Flows}
 use Rattle.vx_worker.specs.Morsels.{morsel_of, morsels}
@@ -81,22 +81,22 @@ unary-sorted : (op : Unary) (below order : List ℕ) (xs ys : List Row) → unar
 unary-sorted (select cs) below order xs ys o h e =
     let P : List Row → Type 0 = λ l. sorted order l ≡ true in subst P (some-is _ _ e) (sorted-filter order (passes cs) xs (sorted-front order below o xs h))
 unary-sorted (project cols) below order xs ys o h e =
-    let k = if_some-is (copied cols order) (λ ds. front ds below) o in
+    let k = if_some-is (copied cols order) (λ ds. is_prefix ds below) o in
     let P : List Row → Type 0 = λ l. sorted order l ≡ true in subst P (some-is _ _ e) (project-sorted cols order k.0 k.1 xs (sorted-front k.0 below k.2 xs h))
 unary-sorted (distinct cols) below order xs ys o h e =
-    let k = if_some-is (copied cols order) (λ ds. front ds below) o in
+    let k = if_some-is (copied cols order) (λ ds. is_prefix ds below) o in
     let P : List Row → Type 0 = λ l. sorted order l ≡ true in
     subst P (some-is _ _ e) (firsts-sorted order (map (pick cols) xs) (project-sorted cols order k.0 k.1 xs (sorted-front k.0 below k.2 xs h)))
 unary-sorted (sort cols) below order xs ys o h e =
     let P : List Row → Type 0 = λ l. sorted order l ≡ true in subst P (some-is _ _ e) (sorted-front order cols o (sort_on cols xs) (sort-sorted cols xs))
 unary-sorted (group phase by aggregates) below order xs ys o h e =
-    let k = if_some-is (copied by order) (λ ds. front ds below) o in
+    let k = if_some-is (copied by order) (λ ds. is_prefix ds below) o in
     let P : List Row → Type 0 = λ l. sorted order l ≡ true in
     subst P (some-of (list_all (group_fits by aggregates xs) (group_keys by xs)) (groups by aggregates xs) ys e).1
     (groups-sorted by order k.0 aggregates k.1 xs (sorted-front k.0 below k.2 xs h))
 
 -- what is sent of rows that all pass a test passes it
-sends-all : (goes : Router) (k : ExchangeKind) (n : ℕ) (xs : List Row) (sent : Streams) → Sends goes k n xs sent → (q : Row → Bool) → list_all q xs ≡ true → (j : ℕ) → j < n → list_all q (sent j) ≡ true
+sends-all : (goes : Routing) (k : ExchangeKind) (n : ℕ) (xs : List Row) (sent : Streams) → Sends goes k n xs sent → (q : Row → Bool) → list_all q xs ≡ true → (j : ℕ) → j < n → list_all q (sent j) ≡ true
 sends-all goes (route_to z r cols) n xs sent h q a j l = let P : List Row → Type 0 = λ ys. list_all q ys ≡ true in subst P (h j l) (list_all-filter q _ xs a)
 sends-all goes (round z) n xs sent h q a j l =
     let P : List Row → Type 0 = λ ys. list_all q ys ≡ true in subst P (h.lists_are j l) (list_all-bearing q j h.numbered (subst P (sym h.whole) a))
@@ -117,16 +117,16 @@ cut-rows s j xs ps h =
 -- ---- where rows stand
 
 -- a row of the worker at a place among n, as a part says
-abbrev pub at_place : Router → Part → (n w : ℕ) → Row → Bool
+abbrev pub at_place : Routing → Part → (n w : ℕ) → Row → Bool
 at_place goes one n w row = true
 at_place goes any n w row = true
 at_place goes all n w row = true
 at_place goes (routed r cols) n w row = goes r (pick cols row) n == w
 
-abbrev pub Placed : Router → Part → (n w : ℕ) → List Row → Type 0
+abbrev pub Placed : Routing → Part → (n w : ℕ) → List Row → Type 0
 Placed goes q n w xs = list_all (at_place goes q n w) xs ≡ true
 
-place-gives : (goes : Router) (p q : Part) (n w : ℕ) (xs : List Row) → part_gives p q ≡ true → Placed goes p n w xs → Placed goes q n w xs
+place-gives : (goes : Routing) (p q : Part) (n w : ℕ) (xs : List Row) → part_gives p q ≡ true → Placed goes p n w xs → Placed goes q n w xs
 place-gives goes p one n w xs g h = list_all-always (at_place goes one n w) (λ row. refl) xs
 place-gives goes p any n w xs g h = list_all-always (at_place goes any n w) (λ row. refl) xs
 place-gives goes p all n w xs g h = list_all-always (at_place goes all n w) (λ row. refl) xs
@@ -141,13 +141,13 @@ place-gives goes (routed t ds) (routed r cols) n w xs g h =
     subst Q b (subst P a h)
 
 -- one worker has every place
-place-one : (goes : Router) → InRange goes → (q : Part) (n w : ℕ) → n ≡ 1 → w < n → (xs : List Row) → Placed goes q n w xs
+place-one : (goes : Routing) → InRange goes → (q : Part) (n w : ℕ) → n ≡ 1 → w < n → (xs : List Row) → Placed goes q n w xs
 place-one goes law one n w e l xs = list_all-always (at_place goes one n w) (λ row. refl) xs
 place-one goes law any n w e l xs = list_all-always (at_place goes any n w) (λ row. refl) xs
 place-one goes law all n w e l xs = list_all-always (at_place goes all n w) (λ row. refl) xs
 place-one goes law (routed r cols) n w e l xs = list_all-always (at_place goes (routed r cols) n w) (λ row. eq-eqb (goes r (pick cols row) n) w (let b = law r (pick cols row) n (omega arith) in omega (arith, b, e, l))) xs
 
-place-joined : (goes : Router) (v : Route) (cols : List ℕ) (on : List (ℕ × ℕ)) (wd n w : ℕ) (ls rs : List Row) → all_below wd cols ≡ true → wide wd ls ≡ true
+place-joined : (goes : Routing) (v : Route) (cols : List ℕ) (on : List (ℕ × ℕ)) (wd n w : ℕ) (ls rs : List Row) → all_below wd cols ≡ true → wide wd ls ≡ true
     → Placed goes (routed v cols) n w ls → Placed goes (routed v cols) n w (join_rows on ls rs)
 place-joined goes v cols on wd n w ls rs below ws h =
     let q : Row → Bool = λ row. goes v (pick cols row) n == w in
@@ -155,7 +155,7 @@ place-joined goes v cols on wd n w ls rs below ws h =
     (λ x r e _. ap (λ k. goes v k n == w) (pick-left wd cols x r below (eqb-true (length x) wd (and-right (q x) (length x == wd) e))) ∙ and-left (q x) (length x == wd) e)
     (all-and q (λ x. length x == wd) ls h ws) (list_all-always (λ r. true) (λ r. refl) rs)
 
-place-right : (goes : Router) (v : Route) (cols cs : List ℕ) (on : List (ℕ × ℕ)) (wd n w : ℕ) (ls rs : List Row) → right_columns wd cols ≡ Some cs → wide wd ls ≡ true
+place-right : (goes : Routing) (v : Route) (cols cs : List ℕ) (on : List (ℕ × ℕ)) (wd n w : ℕ) (ls rs : List Row) → right_columns wd cols ≡ Some cs → wide wd ls ≡ true
     → Placed goes (routed v cs) n w rs → Placed goes (routed v cols) n w (join_rows on ls rs)
 place-right goes v cols cs on wd n w ls rs e ws h =
     let k = right_columns-is wd cols cs e in
@@ -164,7 +164,7 @@ place-right goes v cols cs on wd n w ls rs e ws h =
     ws h
 
 -- what a claim's part says through copied columns
-through-place : (goes : Router) (q : Part) (n w : ℕ) (ys : List Row) (had : Part → Bool) (columns : List ℕ → Option (List ℕ))
+through-place : (goes : Routing) (q : Part) (n w : ℕ) (ys : List Row) (had : Part → Bool) (columns : List ℕ → Option (List ℕ))
     → ((r : Route) (cs ds : List ℕ) → columns cs ≡ Some ds → had (routed r ds) ≡ true → Placed goes (routed r cs) n w ys)
     → through had columns q ≡ true → Placed goes q n w ys
 through-place goes one n w ys had columns f h = absurd (true≢false (sym h))
@@ -173,14 +173,14 @@ through-place goes all n w ys had columns f h = list_all-always (at_place goes a
 through-place goes (routed r cs) n w ys had columns f h = let k = if_some-is (columns cs) (λ ds. had (routed r ds)) h in f r cs k.0 k.1 k.2
 
 -- what a kind of exchange sends to a consumer stands there
-abbrev kind_place : Router → ExchangeKind → (n j : ℕ) → Row → Bool
+abbrev kind_place : Routing → ExchangeKind → (n j : ℕ) → Row → Bool
 kind_place goes (route_to z r cols) n j row = goes r (pick cols row) n == j
 kind_place goes (round z) n j row = true
 kind_place goes (broadcast z) n j row = true
 kind_place goes gather n j row = true
 kind_place goes concat n j row = true
 
-sends-place : (goes : Router) (k : ExchangeKind) (n : ℕ) (xs : List Row) (sent : Streams) → Sends goes k n xs sent → (j : ℕ) → j < n → list_all (kind_place goes k n j) (sent j) ≡ true
+sends-place : (goes : Routing) (k : ExchangeKind) (n : ℕ) (xs : List Row) (sent : Streams) → Sends goes k n xs sent → (j : ℕ) → j < n → list_all (kind_place goes k n j) (sent j) ≡ true
 sends-place goes (route_to z r cols) n xs sent h j l =
     let P : List Row → Type 0 = λ ys. list_all (λ row. goes r (pick cols row) n == j) ys ≡ true in subst P (h j l) (filter-all (λ row. goes r (pick cols row) n == j) xs)
 sends-place goes (round z) n xs sent h j l = list_all-always (λ row. true) (λ row. refl) (sent j)
@@ -188,7 +188,7 @@ sends-place goes (broadcast z) n xs sent h j l = list_all-always (λ row. true) 
 sends-place goes gather n xs sent h j l = list_all-always (λ row. true) (λ row. refl) (sent j)
 sends-place goes concat n xs sent h j l = list_all-always (λ row. true) (λ row. refl) (sent j)
 
-kind-placed : (goes : Router) (k : ExchangeKind) (q : Part) (n j : ℕ) (xs : List Row) → kind_shows k q ≡ true → list_all (kind_place goes k n j) xs ≡ true → Placed goes q n j xs
+kind-placed : (goes : Routing) (k : ExchangeKind) (q : Part) (n j : ℕ) (xs : List Row) → kind_shows k q ≡ true → list_all (kind_place goes k n j) xs ≡ true → Placed goes q n j xs
 kind-placed goes (route_to z r cols) q n j xs g h = place-gives goes (routed r cols) q n j xs g h
 kind-placed goes (round z) q n j xs g h = place-gives goes any q n j xs g (list_all-always (at_place goes any n j) (λ row. refl) xs)
 kind-placed goes (broadcast z) q n j xs g h = place-gives goes all q n j xs g (list_all-always (at_place goes all n j) (λ row. refl) xs)
@@ -196,21 +196,21 @@ kind-placed goes gather q n j xs g h = place-gives goes one q n j xs g (list_all
 kind-placed goes concat q n j xs g h = place-gives goes one q n j xs g (list_all-always (at_place goes one n j) (λ row. refl) xs)
 
 -- wide, sorted, and each row at its place
-abbrev pub Neat : Router → Claim → (wd n w : ℕ) → List Row → Type 0
+abbrev pub Neat : Routing → Claim → (wd n w : ℕ) → List Row → Type 0
 Neat goes c wd n w xs = Tidy wd c.order xs × Placed goes c.part n w xs
 
-pub neat-begins : (goes : Router) (c : Claim) (wd n w : ℕ) (xs zs : List Row) → IsBeginning xs zs → Neat goes c wd n w zs → Neat goes c wd n w xs
+pub neat-begins : (goes : Routing) (c : Claim) (wd n w : ℕ) (xs zs : List Row) → IsBeginning xs zs → Neat goes c wd n w zs → Neat goes c wd n w xs
 neat-begins goes c wd n w xs zs b h =
     let P : List Row → Type 0 = λ l. list_all (at_place goes c.part n w) l ≡ true in
     (tidy-begins wd c.order xs zs b h.0, all-left (at_place goes c.part n w) xs b.rest (subst P (sym b.joined) h.1))
 
-module _ (S : Setting) (giv : Given S.catalog S.db S.sizes (goes S)) where
+module _ (S : RunModel) (giv : Given S.catalog S.db S.sizes (goes S)) where
   abbrev IsTidy : Plan → (w : ℕ) → List Row → Type 0
   IsTidy p w xs = Neat (goes S) (claim p) (width S.catalog p) (workers S.sizes (size p)) w xs
 
   -- what one worker of a plan has given so far
   abbrev Gives : Plan → (ℕ → Trace) → ℕ → Type 0
-  Gives p ts w = (reads : Reads) → ReadsBegin S (ts w) reads → (out : Stream) → FragTold (fragment S w p) reads out → IsTidy p w out.rows
+  Gives p ts w = (reads : Reads) → ReadsBegin S (ts w) reads → (out : Stream) → FragAbides (fragment S w p) reads out → IsTidy p w out.rows
 
   -- what a producer put, well or not
   put-tidy : (n i : ℕ) (k : ExchangeKind) (p : Plan) (us : ℕ → Trace) → Gives p us i → Ends S (fragment S i p) (send (ship_of S n i k p)) (us i)
@@ -225,11 +225,11 @@ module _ (S : Setting) (giv : Given S.catalog S.db S.sizes (goes S)) where
 
       go : (fate : Fate) → Honest S (fragment S i p) (send (ship_of S n i k p)) fate (us i) → IsTidy p i (rows_of ((us i).sent j))
       go well h =
-          let t = sent-tidy h.out.rows h.finished.sent h.finished.sends (gives h.reads (reads-begin S (us i) h.reads h.reads_are) h.out h.told) in
+          let t = sent-tidy h.out.rows h.finished.sent h.finished.sends (gives h.reads (reads-begin S (us i) h.reads h.reads_are) h.out h.abides) in
           let Q : List Row → Type 0 = λ xs. IsTidy p i xs in
           subst Q (sym (port-rows (ship_of S n i k p) j (h.finished.sent j) ((us i).sent j) (h.finished.ports j b))) t
       go (failed x) h =
-          let t = sent-tidy h.out.rows h.stopped.sent h.stopped.sends (gives h.reads h.reads_begin h.out h.told) in
+          let t = sent-tidy h.out.rows h.stopped.sent h.stopped.sends (gives h.reads h.reads_begin h.out h.abides) in
           let c = h.stopped.ports j b in
           let Q : List Row → Type 0 = λ xs. IsTidy p i xs in
           subst Q (sym (cut-rows (ship_of S n i k p) j (h.stopped.sent j) ((us i).sent j) c))
@@ -391,9 +391,9 @@ module _ (S : Setting) (giv : Given S.catalog S.db S.sizes (goes S)) where
               let P : List ℕ → Type 0 = λ z. all_below wd z ≡ true in
               place-joined (goes S) v cols on wd n w ls rs (subst P k below) ws (place-gives (goes S) (routed r ks) (routed v cols) n w ls g a)
 
-  scan-tidy : (n : ℕ) (c : Claim) (r : ℕ) (m : Bool) (z : Size) → (S.relation_of n == r) ≡ true → front c.order (S.catalog r).order ≡ true
+  scan-tidy : (n : ℕ) (c : Claim) (r : ℕ) (m : Bool) (z : Size) → (S.relation_of n == r) ≡ true → is_prefix c.order (S.catalog r).order ≡ true
       → (w i : ℕ) (t : Trace) → Drawn S.morsel (S.db r) i (t.drew n).numbers
-      → (reads : Reads) → ReadsBegin S t reads → (out : Stream) → FragTold (fragment S w (scan n c r m z)) reads out → Tidy (length (S.catalog r).types) c.order out.rows
+      → (reads : Reads) → ReadsBegin S t reads → (out : Stream) → FragAbides (fragment S w (scan n c r m z)) reads out → Tidy (length (S.catalog r).types) c.order out.rows
   scan-tidy n c r m z fit up w i t d reads begin out h =
       let wd : ℕ = length (S.catalog r).types in
       let db_tidy : Tidy wd c.order (S.db r) = (fit-wide (S.catalog r).types (S.db r) (giv.meets r).fit, sorted-front c.order (S.catalog r).order up (S.db r) (giv.meets r).order) in
@@ -458,7 +458,7 @@ module _ (S : Setting) (giv : Given S.catalog S.db S.sizes (goes S)) where
       subst Q h.4 (neat-begins (goes S) c (width S.catalog (binary n c op p q)) (workers S.sizes (size p)) w h.0.gave.rows k.whole k.gave
       (subst R k.makes (both op same l wf (and-right (allowed S.catalog q) here rest) wp k.inputs.left.rows k.inputs.right.rows ls rs)))
     where
-      front-none : (cs : List ℕ) → front cs [] ≡ true → (xs : List Row) → sorted cs xs ≡ true
+      front-none : (cs : List ℕ) → is_prefix cs [] ≡ true → (xs : List Row) → sorted cs xs ≡ true
       front-none [] e xs = sorted-none xs
       front-none (x ∷ cs) e xs = absurd (true≢false (sym e))
 
@@ -520,7 +520,7 @@ module _ (S : Setting) (giv : Given S.catalog S.db S.sizes (goes S)) where
       let whole_sorted : sorted c.order b.whole ≡ true = ⊎_elim
       (λ by_merge. sorted-front c.order merge by_merge b.whole b.makes.1)
       (λ single.
-      let f = and-right (is_one (size p) || goes_on k (claim p)) (front c.order (claim p).order) single in
+      let f = and-right (is_one (size p) || goes_on k (claim p)) (is_prefix c.order (claim p).order) single in
       ⊎_elim
       (λ o.
       let e = one-worker S.sizes (size p) o in
@@ -530,8 +530,8 @@ module _ (S : Setting) (giv : Given S.catalog S.db S.sizes (goes S)) where
       let Q : List Row → Type 0 = λ xs. sorted c.order xs ≡ true in
       subst Q (sym is) (sorted-front c.order (claim p).order f (rows_of (b.inputs.came 0)) (lists 0 (subst N (sym e) (omega arith))).0.1))
       (λ g. sorted-front c.order (claim p).order f b.whole (in-order k (claim p) m (λ i. rows_of (b.inputs.came i)) b.whole g b.makes.2 (λ i a. (lists i a).0.1) (λ i a. (lists i a).1)))
-      (or-cases (is_one (size p)) (goes_on k (claim p)) (and-left (is_one (size p) || goes_on k (claim p)) (front c.order (claim p).order) single)))
-      (or-cases (front c.order merge) ((is_one (size p) || goes_on k (claim p)) && front c.order (claim p).order) t.5) in
+      (or-cases (is_one (size p)) (goes_on k (claim p)) (and-left (is_one (size p) || goes_on k (claim p)) (is_prefix c.order (claim p).order) single)))
+      (or-cases (is_prefix c.order merge) ((is_one (size p) || goes_on k (claim p)) && is_prefix c.order (claim p).order) t.5) in
       let Q : Stream → Type 0 = λ s. Neat (goes S) c wd n0 w s.rows in
       subst Q h.3 (neat-begins (goes S) c wd n0 w h.0.gave.rows b.whole b.gave ((whole_wide, whole_sorted), whole_place))
     where

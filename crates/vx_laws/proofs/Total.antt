@@ -30,10 +30,10 @@ le-both o Equal e h k = ap is_eq e
 le-both o Greater e h k = absurd (true≢false (sym k))
 
 -- rows of the list that agree on these columns are equal
-abbrev pub Tells : List ℕ → List Row → Type 0
-Tells cols xs = (a b : Row) → 0 < count (row_eq a) xs → 0 < count (row_eq b) xs → agree cols a b ≡ true → a ≡ b
+abbrev pub Reports : List ℕ → List Row → Type 0
+Reports cols xs = (a b : Row) → 0 < count (row_eq a) xs → 0 < count (row_eq b) xs → agree cols a b ≡ true → a ≡ b
 
-pub same-list : (cols : List ℕ) (xs ys : List Row) → Tells cols xs → SameRows xs ys → sorted cols xs ≡ true → sorted cols ys ≡ true → xs ≡ ys
+pub same-list : (cols : List ℕ) (xs ys : List Row) → Reports cols xs → SameRows xs ys → sorted cols xs ≡ true → sorted cols ys ≡ true → xs ≡ ys
 same-list cols [] [] t s h k = refl
 same-list cols [] (y ∷ ys) t s h k = absurd (nothing-same y ys s)
 same-list cols (x ∷ xs) [] t s h k = absurd (nothing-same x xs (SameRows-sym s))
@@ -59,8 +59,8 @@ same-list cols (x ∷ xs) (y ∷ ys) t s h k =
     eq-is-le Equal h = refl
     eq-is-le Greater h = h
 
--- an order that contains a key tells rows apart
-pub key-tells : (k cols : List ℕ) (xs : List Row) → within k cols ≡ true → HasKey k xs → Tells cols xs
+-- an order that contains a key distinguishes rows
+pub key-tells : (k cols : List ℕ) (xs : List Row) → within k cols ≡ true → HasKey k xs → Reports cols xs
 key-tells k cols xs w key a b ca cb e = cases (row_eq a b) refl
   where
     kab : agree k a b ≡ true
@@ -86,7 +86,7 @@ key-tells k cols xs w key a b ca cb e = cases (row_eq a b) refl
         absurd (omega (arith, le, sums, most, ca, cb))
 
 -- and so does an order of all columns
-pub all-columns-tell : (n : ℕ) (cols : List ℕ) (xs : List Row) → within (numbers_below n) cols ≡ true → wide n xs ≡ true → Tells cols xs
+pub all-columns-tell : (n : ℕ) (cols : List ℕ) (xs : List Row) → within (numbers_below n) cols ≡ true → wide n xs ≡ true → Reports cols xs
 all-columns-tell n cols xs w h a b ca cb e = agree-all n cols a b w (width-of a ca) (width-of b cb) e
   where
     width-of : (a : Row) → 0 < count (row_eq a) xs → length a ≡ n
@@ -94,7 +94,7 @@ all-columns-tell n cols xs w h a b ca cb e = agree-all n cols a b w (width-of a 
         (λ r. let s : a ≡ r.0 = row_eq-same a r.0 r.1 in ap length s ∙ eqb-true (length r.0) n r.2)
         (find-in (λ row. length row == n) (row_eq a) xs h)
 
-some-key : (keys : List (List ℕ)) (cols : List ℕ) (xs : List Row) → KeysHold keys xs → list_any (λ k. within k cols) keys ≡ true → Tells cols xs
+some-key : (keys : List (List ℕ)) (cols : List ℕ) (xs : List Row) → KeysHold keys xs → list_any (λ k. within k cols) keys ≡ true → Reports cols xs
 some-key [] cols xs h e = absurd (true≢false (sym e))
 some-key (k ∷ keys) cols xs h e = ⊎_elim (λ w. key-tells k cols xs w h.0) (λ l. some-key keys cols xs h.1 l) (or-cases (within k cols) (list_any (λ k. within k cols) keys) e)
 
@@ -114,7 +114,7 @@ sound-at-root catalog db sizes goes given is_total p s wf shut ok root run =
       same = same;
       list = λ t.
           let o : is_total_order catalog p ≡ true = claimed is_total (is_total_order catalog p) t (and-right (is_one (size p)) (not is_total || is_total_order catalog p) root) in
-          let tells : Tells (claim p).order h.base = ⊎_elim
+          let tells : Reports (claim p).order h.base = ⊎_elim
           (λ k. some-key (claim p).keys (claim p).order h.base h.holds.keys k)
           (λ w. all-columns-tell (width catalog p) (claim p).order h.base w (serial-wide catalog db given.meets p h.base wf h.is_serial))
           (or-cases (list_any (λ k. within k (claim p).order) (claim p).keys) (within (numbers_below (width catalog p)) (claim p).order) o) in

@@ -7,7 +7,7 @@ use Rattle.vx_rows.specs.Bags.{count, SameRows}
 use Rattle.vx_rows.specs.Keys.{HasKey}
 use Rattle.vx_plan_nodes.specs.Plan.{Route, Part, one, any, all, routed}
 use Rattle.vx_plan_nodes.specs.Streams.{Streams, joined}
-use Rattle.vx_plan_nodes.specs.Routes.{Router}
+use Rattle.vx_plan_nodes.specs.Routes.{Routing}
 use Rattle.vx_check_rules.specs.Rules.{through, copied}
 use Rattle.vx_check_rules.specs.Claims.{PartHolds, InItsStream, OrderHolds, PartOf}
 use Rattle.vx_laws.proofs.Bags.{and-left, and-right, and-both, total-map, SameRows-trans}
@@ -21,7 +21,7 @@ pub some-is : {X : Type 0} (x y : X) → Some x ≡ Some y → x ≡ y
 some-is x y e = ap (λ o. unwrap_or o x) e
 
 -- a part that is had through the columns that the output copies
-pub through-of : (goes : Router) (n : ℕ) (s' : Streams) (stands : List Row → Type 0) (had : Part → Bool) (columns : List ℕ → Option (List ℕ))
+pub through-of : (goes : Routing) (n : ℕ) (s' : Streams) (stands : List Row → Type 0) (had : Part → Bool) (columns : List ℕ → Option (List ℕ))
     → (had any ≡ true → stands (joined n s'))
     → ((r : Route) (ds : List ℕ) → had (routed r ds) ≡ true → had any ≡ true)
     → (had all ≡ true → (w : ℕ) → w < n → stands (s' w))
@@ -34,7 +34,7 @@ through-of goes n s' stands had columns any_ok routed_any all_ok routed_ok (rout
     let w = if_some-is (columns cs) (λ ds. had (routed r ds)) h in
     (any_ok (routed_any r w.0 w.2), routed_ok r cs w.0 w.1 w.2)
 
-pub through-holds : (goes : Router) (n : ℕ) (s' : Streams) (base' : List Row) (had : Part → Bool) (columns : List ℕ → Option (List ℕ))
+pub through-holds : (goes : Routing) (n : ℕ) (s' : Streams) (base' : List Row) (had : Part → Bool) (columns : List ℕ → Option (List ℕ))
     → (had any ≡ true → SameRows (joined n s') base')
     → ((r : Route) (ds : List ℕ) → had (routed r ds) ≡ true → had any ≡ true)
     → (had all ≡ true → (w : ℕ) → w < n → SameRows (s' w) base')
@@ -43,7 +43,7 @@ pub through-holds : (goes : Router) (n : ℕ) (s' : Streams) (base' : List Row) 
 through-holds goes n s' base' had columns any_ok routed_any all_ok routed_ok q h = through-of goes n s' (λ xs. SameRows xs base') had columns any_ok routed_any all_ok routed_ok q h
 
 -- an operator whose totals are totals of its input, and that leaves each row's route
-pub linear-part : (goes : Router) (op : List Row → List Row) → Linear op → (n : ℕ) (s s' : Streams) (base : List Row)
+pub linear-part : (goes : Routing) (op : List Row → List Row) → Linear op → (n : ℕ) (s s' : Streams) (base : List Row)
     → ((w : ℕ) → w < n → op (s w) ≡ s' w)
     → ((p : Row → Bool) (xs : List Row) → list_all p xs ≡ true → list_all p (op xs) ≡ true)
     → (q : Part) → PartHolds goes q n s base → PartHolds goes q n s' (op base)

@@ -1,5 +1,5 @@
 -- From the traces of all workers to a run of the plan relation.
-use Rattle.vx_worker.specs.Fragment.{goes, IsSet, Setting, Reads, fragment, FragTold, FragMakes}
+use Rattle.vx_worker.specs.Fragment.{goes, IsSet, RunModel, Reads, fragment, FragAbides, FragMakes}
 use Rattle.std.proofs.Common.{◌≡◌, ℕ, ◌<◌, ◌==◌, ◌&&◌, Bool, true, false, List, [], sym, ap, ◌∙◌, subst, arith, eqb-true, Some, ap₂, zero, suc, refl, ◌++◌}
 use Rattle.vx_values.specs.Values.{Row}
 use Rattle.vx_plan_nodes.specs.Plan.{Size, ExchangeKind, target, Claim, Plan, scan, unary, binary, exchange, size, is_one, size_eq}
@@ -27,40 +27,40 @@ use Rattle.vx_laws.proofs.Decks.{dispatched-dealt}
 use Rattle.vx_laws.proofs.Total.{sound-at-root}
 
 -- morsels of a row or more, and workers of each size
-pub record Sized (S : Setting) : Type 0 where
+pub record Sized (S : RunModel) : Type 0 where
   pub some_rows : 0 < S.morsel
   pub some_workers : (k : ℕ) → 0 < S.sizes k
 
-pub set-sized : (S : Setting) → IsSet S → Sized S
+pub set-sized : (S : RunModel) → IsSet S → Sized S
 set-sized S set = record { some_rows = set.some_morsel; some_workers = set.some_workers }
 
 -- where the top of a fragment ended, it made all that its operators make
-pub told-makes : (S : Setting) (w : ℕ) (p : Plan) (r : Reads) (out : Stream) → FragTold (fragment S w p) r out → out.over ≡ Ended → FragMakes (fragment S w p) r out.rows
-told-makes S w (scan n c k m z) r out h e =
+pub abides-makes : (S : RunModel) (w : ℕ) (p : Plan) (r : Reads) (out : Stream) → FragAbides (fragment S w p) r out → out.over ≡ Ended → FragMakes (fragment S w p) r out.rows
+abides-makes S w (scan n c k m z) r out h e =
     let t = h.2.ended (ap (λ (s : Stream). s.over) h.3 ∙ e) in
     let P : Stream → Type 0 = λ s. Makes scan_op h.0 s.rows in
     (h.0, h.1, t.0, subst P h.3 t.1)
-told-makes S w (unary n c op p) r out h e =
+abides-makes S w (unary n c op p) r out h e =
     let t = h.2.ended (ap (λ (s : Stream). s.over) h.3 ∙ e) in
     let P : Stream → Type 0 = λ s. Makes (one_op n op) h.0 s.rows in
-    (h.0, told-makes S w p r h.0.left h.1 t.0, subst P h.3 t.1)
-told-makes S w (binary n c op p q) r out h e =
+    (h.0, abides-makes S w p r h.0.left h.1 t.0, subst P h.3 t.1)
+abides-makes S w (binary n c op p q) r out h e =
     let t = h.3.ended (ap (λ (s : Stream). s.over) h.4 ∙ e) in
     let P : Stream → Type 0 = λ s. Makes (two_op n op) h.0 s.rows in
-    (h.0, told-makes S w p r h.0.left h.1 t.0.0, told-makes S w q r h.0.right h.2 t.0.1, subst P h.4 t.1)
-told-makes S w (exchange n c k merge p) r out h e =
+    (h.0, abides-makes S w p r h.0.left h.1 t.0.0, abides-makes S w q r h.0.right h.2 t.0.1, subst P h.4 t.1)
+abides-makes S w (exchange n c k merge p) r out h e =
     let t = h.2.ended (ap (λ (s : Stream). s.over) h.3 ∙ e) in
     let P : Stream → Type 0 = λ s. Makes (receive (record { exchange = n; place = w; producers = workers S.sizes (size p); types = Rattle.vx_plan_nodes.specs.Types.types_of S.catalog p; merge = merge; in_order = is_concat k })) h.0 s.rows in
     (h.0, h.1, t.0, subst P h.3 t.1)
 
-pub well-made : (S : Setting) (w : ℕ) (p : Plan) (task : Rattle.vx_exchange.specs.Tasks.Task) (t : Trace) → (h : IsWell S (fragment S w p) task t) → Made S (fragment S w p) t h.out.rows
-well-made S w p task t h = record { reads = h.reads; reads_are = h.reads_are; makes = told-makes S w p h.reads h.out h.told h.ended }
+pub well-made : (S : RunModel) (w : ℕ) (p : Plan) (task : Rattle.vx_exchange.specs.Tasks.Task) (t : Trace) → (h : IsWell S (fragment S w p) task t) → Made S (fragment S w p) t h.out.rows
+well-made S w p task t h = record { reads = h.reads; reads_are = h.reads_are; makes = abides-makes S w p h.reads h.out h.abides h.ended }
 
 pub dealt-lists : (n : ℕ) (xs : List Row) (f g : Streams) → ((i : ℕ) → i < n → f i ≡ g i) → Dealt n xs f → Dealt n xs g
 dealt-lists n xs f g e d = record { numbered = d.numbered; whole = d.whole; in_range = d.in_range; lists_are = λ i l. d.lists_are i l ∙ e i l }
 
 -- what a scan made is the rows of the morsels drawn, and its end was met
-scan-made : (S : Setting) (n : ℕ) (c : Claim) (r : ℕ) (m : Bool) (z : Size) (w : ℕ) (t : Trace) (rows : List Row) → (S.relation_of n == r) ≡ true
+scan-made : (S : RunModel) (n : ℕ) (c : Claim) (r : ℕ) (m : Bool) (z : Size) (w : ℕ) (t : Trace) (rows : List Row) → (S.relation_of n == r) ≡ true
     → Made S (fragment S w (scan n c r m z)) t rows → (morsels (morsel_of S.morsel (S.db r)) (t.drew n).numbers ≡ rows) × ((t.drew n).met_end ≡ true)
 scan-made S n c r m z w t rows fit h =
     let l = h.makes.0 in
@@ -71,7 +71,7 @@ scan-made S n c r m z w t rows fit h =
       (h.reads_are.scanned n).ended (sym (ap (λ (s : Stream). s.over) heard) ∙ h.makes.2),
     )
 
-module _ (S : Setting) (sized : Sized S) where
+module _ (S : RunModel) (sized : Sized S) where
   -- what a producer made and sent
   pub record Produced (n i : ℕ) (k : ExchangeKind) (p : Plan) (t : Trace) (x : List Row × Streams) : Type 0 where
     pub made : Made S (fragment S i p) t x.0

@@ -5,7 +5,7 @@ use Rattle.vx_plan_nodes.specs.Types.{well_formed}
 use Rattle.vx_plan_nodes.specs.Runs.{Runs}
 use Rattle.vx_check_rules.specs.Rules.{root_allowed, allowed}
 use Rattle.vx_check_rules.specs.Claims.{Delivers}
-use Rattle.vx_worker.specs.Fragment.{goes, IsSet, Setting, fragment}
+use Rattle.vx_worker.specs.Fragment.{goes, IsSet, RunModel, fragment}
 use Rattle.vx_worker.specs.Trace.{Trace, IsWell, Ends}
 use Rattle.vx_exchange.specs.Tasks.{keep, send}
 use Rattle.vx_plan_nodes.specs.Plan.{target, Plan, scan, unary, binary, exchange, size}
@@ -25,7 +25,7 @@ workers_below sizes (binary n c op p q) = workers_below sizes p + workers_below 
 workers_below sizes (exchange n c k m p) = workers sizes (size p) + workers_below sizes p
 
 -- the same as RunOf, of one list of traces: the top fragment's workers begin at `top`, those below at `next`
-abbrev pub FlatRun : Setting → Known → (ts : ℕ → Trace) → Plan → (top next : ℕ) → Type 0
+abbrev pub FlatRun : RunModel → Known → (ts : ℕ → Trace) → Plan → (top next : ℕ) → Type 0
 FlatRun S E ts (scan n c r true z) top next = Dispatched (workers S.sizes z) (morsel_count S.morsel (length (S.db r))) (λ w. (ts (top + w)).drew n)
 FlatRun S E ts (scan n c r false z) top next =
     (w : ℕ) → w < workers S.sizes z → Dispatched 1 (morsel_count S.morsel (length (S.db r))) (λ _. (ts (top + w)).drew n)
@@ -39,7 +39,7 @@ FlatRun S E ts (exchange n c k merge p) top next =
 -- for workers that are well, and for workers that ended (a clause cannot speak of every Known at once)
 abbrev pub FlatIsRun : Type 0
 FlatIsRun =
-    (S : Setting) (ts : ℕ → Trace) (p : Plan) (top next : ℕ)
+    (S : RunModel) (ts : ℕ → Trace) (p : Plan) (top next : ℕ)
     → (FlatRun S (IsWell S) ts p top next → RunOf S (IsWell S) p (λ w. ts (top + w))) × (FlatRun S (Ends S) ts p top next → RunOf S (Ends S) p (λ w. ts (top + w)))
 
 -- a numbered plan that the rule table allows is fit
@@ -48,7 +48,7 @@ NumberedIsFit =
     (catalog : ℕ → Relation) (p : Plan) → is_numbered 0 p ≡ true → allowed catalog p ≡ true → is_fit (relation_in p) p ≡ true
 
 -- all workers of a run ended well: worker 0 gathered these rows at the root, the others are numbered from 1 on
-pub record AllWell (S : Setting) (p : Plan) (ts : ℕ → Trace) (rows : List Row) : Type 0 where
+pub record AllWell (S : RunModel) (p : Plan) (ts : ℕ → Trace) (rows : List Row) : Type 0 where
   pub root : IsWell S (fragment S 0 p) (keep rows) (ts 0)
   pub below : FlatRun S (IsWell S) ts p 0 1
 
@@ -56,7 +56,7 @@ pub record AllWell (S : Setting) (p : Plan) (ts : ℕ → Trace) (rows : List Ro
 -- and the same list where the root claims a total order
 abbrev pub NumberedRunDelivers : Type 0
 NumberedRunDelivers =
-    (S : Setting) → IsSet S → (is_total : Bool) (p : Plan) → is_fit S.relation_of p ≡ true
+    (S : RunModel) → IsSet S → (is_total : Bool) (p : Plan) → is_fit S.relation_of p ≡ true
     → well_formed S.catalog p ≡ true → is_open p ≡ false → allowed S.catalog p ≡ true → root_allowed S.catalog is_total p ≡ true
     → (ts : ℕ → Trace) (rows : List Row) → AllWell S p ts rows
     → Runs S.db S.sizes (goes S) p (λ _. rows) × Delivers S.db is_total p rows

@@ -4,7 +4,7 @@ use Rattle.vx_values.specs.Values.{num, Row}
 use Rattle.vx_values.specs.declared.value.ColType.TheVariants.{Int}
 use Rattle.vx_plan_nodes.specs.Plan.{one_worker, group_of, one, any, sum, group, plain, gather, Plan, scan, unary, exchange}
 use Rattle.vx_ports.specs.Packets.{brings, last, PacketView}
-use Rattle.vx_worker.specs.Fragment.{Setting, fragment}
+use Rattle.vx_worker.specs.Fragment.{RunModel, fragment}
 use Rattle.vx_worker.specs.Trace.{Trace, IsWell, failed, Ends}
 use Rattle.vx_exchange.specs.Tasks.{keep}
 use Rattle.vx_ops.specs.declared.fault.Code.TheVariants.{Overflow}
@@ -15,7 +15,7 @@ abbrev pub row : ℕ → Row
 row zero = num (pos 1) ∷ []
 row (suc i) = num (pos 2) ∷ []
 
-abbrev pub setting : Setting
+abbrev pub setting : RunModel
 setting = record {
   catalog = λ r. record { name = []; names = []; types = Int ∷ []; keys = []; order = [] };
   db = λ r. row 0 ∷ row 1 ∷ [];
@@ -46,7 +46,7 @@ abbrev pub SampleRun : Type 0
 SampleRun = IsWell setting (fragment setting 0 plan) (keep (row 1 ∷ row 0 ∷ [])) consumer × RunOf setting (IsWell setting) plan (λ _. consumer)
 
 -- a run that fails: one worker groups two rows whose sum leaves 64 bits
-abbrev pub large : Setting
+abbrev pub large : RunModel
 large = record {
   catalog = λ r. record { name = []; names = []; types = Int ∷ []; keys = []; order = [] };
   db = λ r. (num (pos 9223372036854775807) ∷ []) ∷ (num (pos 1) ∷ []) ∷ [];

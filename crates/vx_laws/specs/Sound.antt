@@ -4,7 +4,7 @@ use Rattle.vx_values.specs.Values.{Row}
 use Rattle.vx_plan_nodes.specs.Plan.{scan, binary, exchange, Plan, unary, size, Claim, Unary}
 use Rattle.vx_relations.specs.Relation.{Relation}
 use Rattle.vx_plan_nodes.specs.Types.{well_formed}
-use Rattle.vx_plan_nodes.specs.Routes.{Router}
+use Rattle.vx_plan_nodes.specs.Routes.{Routing}
 use Rattle.vx_plan_nodes.specs.Streams.{Streams, workers}
 use Rattle.vx_plan_nodes.specs.Runs.{Runs}
 use Rattle.vx_check_rules.specs.Rules.{allowed, root_allowed}
@@ -15,11 +15,11 @@ use Rattle.vx_plan_nodes.specs.Phases.{is_open}
 -- the theorem, for the top of every plan
 abbrev pub Sound : Type 0
 Sound =
-    (catalog : ℕ → Relation) (db : ℕ → List Row) (sizes : ℕ → ℕ) (goes : Router) → Given catalog db sizes goes
+    (catalog : ℕ → Relation) (db : ℕ → List Row) (sizes : ℕ → ℕ) (goes : Routing) → Given catalog db sizes goes
     → (p : Plan) (s : Streams) → well_formed catalog p ≡ true → allowed catalog p ≡ true → Runs db sizes goes p s → HoldsAt db sizes goes p s
 
 -- in a run, the claim of every node of the plan holds of the node's streams
-abbrev pub HoldsThroughout : (db : ℕ → List Row) (sizes : ℕ → ℕ) (goes : Router) (p : Plan) (s : Streams) → Runs db sizes goes p s → Type 0
+abbrev pub HoldsThroughout : (db : ℕ → List Row) (sizes : ℕ → ℕ) (goes : Routing) (p : Plan) (s : Streams) → Runs db sizes goes p s → Type 0
 HoldsThroughout db sizes goes (scan n c r m z) s run = HoldsAt db sizes goes (scan n c r m z) s
 HoldsThroughout db sizes goes (unary n c op p) s run = HoldsThroughout db sizes goes p run.0 run.1 × HoldsAt db sizes goes (unary n c op p) s
 HoldsThroughout db sizes goes (binary n c op p q) s run =
@@ -29,14 +29,14 @@ HoldsThroughout db sizes goes (exchange n c k m p) s run = HoldsThroughout db si
 -- the theorem, for every node of an allowed plan
 abbrev pub SoundThroughout : Type 0
 SoundThroughout =
-    (catalog : ℕ → Relation) (db : ℕ → List Row) (sizes : ℕ → ℕ) (goes : Router) → Given catalog db sizes goes
+    (catalog : ℕ → Relation) (db : ℕ → List Row) (sizes : ℕ → ℕ) (goes : Routing) → Given catalog db sizes goes
     → (p : Plan) (s : Streams) → well_formed catalog p ≡ true → allowed catalog p ≡ true → (run : Runs db sizes goes p s)
     → HoldsThroughout db sizes goes p s run
 
 -- the theorem at the root
 abbrev pub SoundAtRoot : Type 0
 SoundAtRoot =
-    (catalog : ℕ → Relation) (db : ℕ → List Row) (sizes : ℕ → ℕ) (goes : Router) → Given catalog db sizes goes
+    (catalog : ℕ → Relation) (db : ℕ → List Row) (sizes : ℕ → ℕ) (goes : Routing) → Given catalog db sizes goes
     → (is_total : Bool) (p : Plan) (s : Streams)
     → well_formed catalog p ≡ true → is_open p ≡ false → allowed catalog p ≡ true → root_allowed catalog is_total p ≡ true → Runs db sizes goes p s
     → Delivers db is_total p (s 0)
@@ -45,7 +45,7 @@ SoundAtRoot =
 -- of its serial input have a sum outside 64 bits, or the input is too long
 abbrev pub NoOverflow : Type 0
 NoOverflow =
-    (catalog : ℕ → Relation) (db : ℕ → List Row) (sizes : ℕ → ℕ) (goes : Router) → Given catalog db sizes goes
+    (catalog : ℕ → Relation) (db : ℕ → List Row) (sizes : ℕ → ℕ) (goes : Routing) → Given catalog db sizes goes
     → (n : ℕ) (c : Claim) (op : Unary) (p : Plan) (u : Streams)
     → well_formed catalog (unary n c op p) ≡ true → allowed catalog (unary n c op p) ≡ true → Runs db sizes goes p u
     → (xs : List Row) → serial db (unary n c op p) ≡ rows xs

@@ -48,7 +48,7 @@ module _ (n : ℕ) (op : Unary) (none : unary_rows op [] ≡ Some []) where
   collect-taking R l a t g o = record {
     stands = o;
     runs = λ e. (a, t, g);
-    told = record {
+    abides = record {
       before = begun-none l g;
       ended = λ e. absurd (running-ended (sym o ∙ e));
       passes = λ f e. absurd (running-failed f (sym a ∙ e));
@@ -74,7 +74,7 @@ module _ (n : ℕ) (op : Unary) (none : unary_rows op [] ≡ Some []) where
       record {
         stands = refl;
         runs = λ e. absurd (failed-running (Own NoMemory m) e);
-        told = record {
+        abides = record {
           before = begun-none k r.2;
           ended = λ e. absurd (failed-ended (Own NoMemory m) e);
           passes = λ f e. absurd (running-failed f (sym r.0 ∙ e));
@@ -90,7 +90,7 @@ module _ (n : ℕ) (op : Unary) (none : unary_rows op [] ≡ Some []) where
       record {
         stands = refl;
         runs = λ e. absurd (failed-running g e);
-        told = record {
+        abides = record {
           before = begun-none (with_overs l (Failed g) (Failed g)) r.2;
           ended = λ e. absurd (failed-ended g e);
           passes = λ f e. e;
@@ -107,7 +107,7 @@ module _ (n : ℕ) (op : Unary) (none : unary_rows op [] ≡ Some []) where
       record {
         stands = refl;
         runs = λ e. absurd (failed-running (Own NoMemory m) e);
-        told = record {
+        abides = record {
           before = begun-none k r.2;
           ended = λ e. absurd (failed-ended (Own NoMemory m) e);
           passes = λ f e. absurd (ended-failed f e);
@@ -124,7 +124,7 @@ module _ (n : ℕ) (op : Unary) (none : unary_rows op [] ≡ Some []) where
       record {
         stands = refl;
         runs = λ e. absurd (failed-running (Own Overflow n) e);
-        told = record {
+        abides = record {
           before = begun-none k r.2;
           ended = λ e. absurd (failed-ended (Own Overflow n) e);
           passes = λ f e. absurd (ended-failed f e);
@@ -142,7 +142,7 @@ module _ (n : ℕ) (op : Unary) (none : unary_rows op [] ≡ Some []) where
       record {
         stands = refl;
         runs = λ e. absurd (ended-running e);
-        told = record {
+        abides = record {
           before = begun_whole (one_op n op) k all;
           ended = λ e. (refl, all);
           passes = λ f e. absurd (ended-failed f e);
@@ -160,7 +160,7 @@ module _ (n : ℕ) (op : Unary) (none : unary_rows op [] ≡ Some []) where
       record {
         stands = h.stands;
         runs = λ e. (refl, all);
-        told = record {
+        abides = record {
           before = begun_whole (one_op n op) k all;
           ended = λ e. absurd (running-ended (sym h.stands ∙ e));
           passes = λ f e. absurd (ended-failed f e);
@@ -176,7 +176,7 @@ module _ (n : ℕ) (op : Unary) (none : unary_rows op [] ≡ Some []) where
       record {
         stands = refl;
         runs = λ e. absurd (ended-running e);
-        told = record {
+        abides = record {
           before = begun_whole (one_op n op) (with_end l) r.1;
           ended = λ e. (r.0, r.1);
           passes = λ f e. absurd (ended-failed f (sym r.0 ∙ e));

@@ -26,7 +26,7 @@ module _ (n : ℕ) (op : Unary) where
   step-running H l a t m o = record {
     stands = o;
     runs = λ e. (a, t, m);
-    told = record {
+    abides = record {
       before = begun_whole (one_op n op) l m;
       ended = λ e. absurd (running-ended (sym o ∙ e));
       passes = λ f e. absurd (running-failed f (sym a ∙ e));
@@ -46,7 +46,7 @@ module _ (n : ℕ) (op : Unary) where
       record {
         stands = refl;
         runs = λ e. absurd (ended-running e);
-        told = record {
+        abides = record {
           before = begun_whole (one_op n op) (with_over l Ended) r.2;
           ended = λ e. (refl, r.2);
           passes = λ f e. absurd (ended-failed f e);
@@ -61,7 +61,7 @@ module _ (n : ℕ) (op : Unary) where
       record {
         stands = refl;
         runs = λ e. absurd (failed-running g e);
-        told = record {
+        abides = record {
           before = begun_whole (one_op n op) (with_over l (Failed g)) r.2;
           ended = λ e. absurd (failed-ended g e);
           passes = λ f e. e;
@@ -77,7 +77,7 @@ module _ (n : ℕ) (op : Unary) where
       record {
         stands = refl;
         runs = λ e. absurd (failed-running (Own NoMemory m) e);
-        told = record {
+        abides = record {
           before = record {
             inputs = l;
             begins = record { left = record { rest = xs; joined = refl }; right = all_of l.right.rows; came = λ i. all_of (Rattle.vx_ports.specs.Packets.rows_of (l.came i)) };

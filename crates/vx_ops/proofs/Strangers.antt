@@ -4,7 +4,7 @@ use Rattle.std.proofs.Math.ListN.{get_or}
 use Rattle.std.proofs.lemmas.List.Elements.{All-get_or}
 use Rattle.vx_ports.specs.Packets.{PacketView}
 use Rattle.std.proofs.lemmas.Bool.Decides.{nat_tests}
-use Rattle.vx_ops.specs.Ledger.{Ledger, ConsumerEnd, receive, IsFor, Came, Told}
+use Rattle.vx_ops.specs.Ledger.{Ledger, ConsumerEnd, receive, IsFor, Came, Abides}
 use Rattle.vx_ops.specs.Turn.{with_packet, after}
 use Rattle.vx_ops.specs.Strangers.{StrangerLaw}
 use Rattle.vx_ops.specs.declared.fault.Code.TheVariants.{Stranger}

@@ -3,7 +3,7 @@ use Rattle.std.specs.Prelude.{ℕ, ◌≡◌, Bool, true, false, List, [], Some}
 use Rattle.vx_values.specs.Values.{Row}
 use Rattle.vx_plan_nodes.specs.Plan.{Unary}
 use Rattle.vx_plan_nodes.specs.Serial.{unary_rows}
-use Rattle.vx_ops.specs.Ledger.{Ledger, Op, one_op, Told}
+use Rattle.vx_ops.specs.Ledger.{Ledger, Op, one_op, Abides}
 use Rattle.vx_ops.specs.Turn.{Shape, while_running}
 use Rattle.vx_ops.specs.Meaning.{Meaning}
 use Rattle.vx_ops.specs.declared.fault.Over.{Over}
@@ -21,7 +21,7 @@ Phase op read true l = (l.left.over ≡ Ended) × (unary_rows op l.left.rows ≡
 pub record IsCollected (n : ℕ) (op : Unary) (read : List Row → Type 0) (finished : Bool) (over : Over) (l : Ledger) : Type 0 where
   pub stands : l.gave.over ≡ over
   pub runs : over ≡ Running → Phase op read finished l
-  pub told : Told (one_op n op) l
+  pub abides : Abides (one_op n op) l
 
 abbrev pub collecting_op : {K : Type 0} → (K → Unary) → Collecting K → Op
 collecting_op unary s = one_op s.node (unary s.kernel)
@@ -37,9 +37,9 @@ collecting_want false over = while_running want.Left over
 abbrev pub CollectingStands : {K : Type 0} → (K → Unary) → (K → List Row → Type 0) → Collecting K → Ledger → Type 0
 CollectingStands unary read s l = IsCollected s.node (unary s.kernel) (read s.kernel) s.finished s.over l
 
-pub collecting_told : {K : Type 0} (unary : K → Unary) (read : K → List Row → Type 0) (s : Collecting K) (l : Ledger)
-    → CollectingStands unary read s l → Told (collecting_op unary s) l
-collecting_told unary read s l h = h.told
+pub collecting_abides : {K : Type 0} (unary : K → Unary) (read : K → List Row → Type 0) (s : Collecting K) (l : Ledger)
+    → CollectingStands unary read s l → Abides (collecting_op unary s) l
+collecting_abides unary read s l h = h.abides
 
 -- of an operator whose kernel computes this, over rows of these types, and has read this
 abbrev pub collecting_meaning : {K : Type 0} → (K → Unary) → (K → Shape) → (K → List Row → Type 0) → Collecting K → Meaning
@@ -48,5 +48,5 @@ collecting_meaning unary types read s = record {
   op = collecting_op unary s;
   types = collecting_types types s;
   want = collecting_want s.finished s.over;
-  told = collecting_told unary read s;
+  abides = collecting_abides unary read s;
 }

@@ -117,7 +117,7 @@ TestsPackets (receive port) l = (i : ℕ) → Came (λ p. IsFor port i p → ⊥
 TestsPackets op l = Unit {0}
 
 -- what is known of a source after any turns
-pub record Told (op : Op) (l : Ledger) : Type 0 where
+pub record Abides (op : Op) (l : Ledger) : Type 0 where
   pub before : Begun op l
   pub ended : l.gave.over ≡ Ended → InputsEnded op l × Makes op l l.gave.rows
   pub passes : (f : Fault) → InputFault op l f → l.gave.over ≡ Failed f

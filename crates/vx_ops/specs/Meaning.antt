@@ -1,5 +1,5 @@
 -- All that a source says of itself: one value for each kind of operator, from which an enum of operators has its own.
-use Rattle.vx_ops.specs.Ledger.{Ledger, Op, Told}
+use Rattle.vx_ops.specs.Ledger.{Ledger, Op, Abides}
 use Rattle.vx_ops.specs.Turn.{Shape}
 use Rattle.vx_ops.specs.declared.turn.Want.{Want}
 
@@ -8,4 +8,4 @@ pub record Meaning : Type 1 where
   pub op : Op
   pub types : Shape
   pub want : Want
-  pub told : (l : Ledger) → stands l → Told op l
+  pub abides : (l : Ledger) → stands l → Abides op l

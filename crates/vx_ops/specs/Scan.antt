@@ -1,7 +1,7 @@
 -- When a scan may have received and returned what a ledger says.
 use Rattle.std.specs.Prelude.{◌≡◌}
 use Rattle.std.proofs.Common.{◌∙◌, sym, inl}
-use Rattle.vx_ops.specs.Ledger.{Ledger, scan_op, Told}
+use Rattle.vx_ops.specs.Ledger.{Ledger, scan_op, Abides}
 use Rattle.vx_ops.specs.Begun.{begun_whole}
 use Rattle.vx_ops.specs.Turn.{Shape, while_running}
 use Rattle.vx_ops.specs.Meaning.{Meaning}
@@ -17,8 +17,8 @@ pub record ScanStands (s : Scan) (l : Ledger) : Type 0 where
 abbrev pub scan_types : Scan → Shape
 scan_types s = record { left = s.types.items; right = s.types.items; out = s.types.items }
 
-pub scan_told : (s : Scan) (l : Ledger) → ScanStands s l → Told scan_op l
-scan_told s l h = record {
+pub scan_abides : (s : Scan) (l : Ledger) → ScanStands s l → Abides scan_op l
+scan_abides s l h = record {
   before = begun_whole scan_op l h.rows;
   ended = λ e. (h.input ∙ sym h.over ∙ e, h.rows);
   passes = λ f e. h.over ∙ sym h.input ∙ e;
@@ -27,4 +27,4 @@ scan_told s l h = record {
 }
 
 abbrev pub scan_meaning : Scan → Meaning
-scan_meaning s = record { stands = ScanStands s; op = scan_op; types = scan_types s; want = while_running want.Morsel s.over; told = scan_told s }
+scan_meaning s = record { stands = ScanStands s; op = scan_op; types = scan_types s; want = while_running want.Morsel s.over; abides = scan_abides s }

@@ -3,7 +3,7 @@ use Rattle.std.specs.Prelude.{ℕ, ◌≡◌, List, Some}
 use Rattle.vx_values.specs.Values.{Row}
 use Rattle.vx_plan_nodes.specs.Plan.{Unary}
 use Rattle.vx_plan_nodes.specs.Serial.{unary_rows}
-use Rattle.vx_ops.specs.Ledger.{Ledger, Op, one_op, Told}
+use Rattle.vx_ops.specs.Ledger.{Ledger, Op, one_op, Abides}
 use Rattle.vx_ops.specs.Turn.{Shape, while_running}
 use Rattle.vx_ops.specs.Meaning.{Meaning}
 use Rattle.vx_ops.specs.declared.turn.Want.TheVariants as want
@@ -16,7 +16,7 @@ use Rattle.vx_ops.specs.declared.stepping.Stepping.{Stepping}
 pub record IsStepped (n : ℕ) (op : Unary) (made : List Row → List Row → Type 0) (over : Over) (l : Ledger) : Type 0 where
   pub stands : l.gave.over ≡ over
   pub runs : over ≡ Running → (l.left.over ≡ Running) × made l.left.rows l.gave.rows × (unary_rows op l.left.rows ≡ Some l.gave.rows)
-  pub told : Told (one_op n op) l
+  pub abides : Abides (one_op n op) l
 
 abbrev pub stepping_op : {K : Type 0} → (K → Unary) → Stepping K → Op
 stepping_op unary s = one_op s.node (unary s.kernel)
@@ -27,9 +27,9 @@ stepping_types types s = types s.kernel
 abbrev pub SteppingStands : {K : Type 0} → (K → Unary) → (K → List Row → List Row → Type 0) → Stepping K → Ledger → Type 0
 SteppingStands unary made s l = IsStepped s.node (unary s.kernel) (made s.kernel) s.over l
 
-pub stepping_told : {K : Type 0} (unary : K → Unary) (made : K → List Row → List Row → Type 0) (s : Stepping K) (l : Ledger)
-    → SteppingStands unary made s l → Told (stepping_op unary s) l
-stepping_told unary made s l h = h.told
+pub stepping_abides : {K : Type 0} (unary : K → Unary) (made : K → List Row → List Row → Type 0) (s : Stepping K) (l : Ledger)
+    → SteppingStands unary made s l → Abides (stepping_op unary s) l
+stepping_abides unary made s l h = h.abides
 
 -- of an operator whose kernel computes this, over rows of these types, and has made this
 abbrev pub stepping_meaning : {K : Type 0} → (K → Unary) → (K → Shape) → (K → List Row → List Row → Type 0) → Stepping K → Meaning
@@ -38,5 +38,5 @@ stepping_meaning unary types made s = record {
   op = stepping_op unary s;
   types = stepping_types types s;
   want = while_running want.Left s.over;
-  told = stepping_told unary made s;
+  abides = stepping_abides unary made s;
 }

@@ -1,7 +1,7 @@
 -- Packets that are not for the port at which they come.
 use Rattle.std.specs.Prelude.{ℕ, ◌≡◌, Some}
 use Rattle.vx_ports.specs.Packets.{PacketView}
-use Rattle.vx_ops.specs.Ledger.{Ledger, ConsumerEnd, receive, IsFor, Told}
+use Rattle.vx_ops.specs.Ledger.{Ledger, ConsumerEnd, receive, IsFor, Abides}
 use Rattle.vx_ops.specs.Turn.{after}
 use Rattle.vx_ops.specs.declared.fault.Code.TheVariants.{Stranger}
 use Rattle.vx_ops.specs.declared.fault.Fault.TheVariants.{Own}
@@ -16,4 +16,4 @@ use Rattle.vx_ops.specs.declared.turn.Polled.TheVariants as polled
 abbrev pub StrangerLaw : Type 0
 StrangerLaw =
     (port : ConsumerEnd) (l : Ledger) (i : ℕ) (p : PacketView) (returned : Polled) → l.gave.over ≡ Running → (IsFor port i p → ⊥)
-    → Told (receive port) (after l (want.Packet i) (got.Packet (Some p)) returned) → returned ≡ polled.Fault (Own Stranger port.exchange)
+    → Abides (receive port) (after l (want.Packet i) (got.Packet (Some p)) returned) → returned ≡ polled.Fault (Own Stranger port.exchange)

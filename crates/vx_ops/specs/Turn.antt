@@ -46,11 +46,11 @@ GivesRows types polled.End = Unit {0}
 GivesRows types (polled.Fault f) = Unit {0}
 
 -- the same of what an input brings; packets are tested by the receiver itself
-abbrev pub IsTyped : Shape → Want → Got → Type 0
-IsTyped s want.Morsel (got.Input p) = GivesRows s.left p
-IsTyped s want.Left (got.Input p) = GivesRows s.left p
-IsTyped s want.Right (got.Input p) = GivesRows s.right p
-IsTyped s _ _ = Unit {0}
+abbrev pub GotTyped : Shape → Want → Got → Type 0
+GotTyped s want.Morsel (got.Input p) = GivesRows s.left p
+GotTyped s want.Left (got.Input p) = GivesRows s.left p
+GotTyped s want.Right (got.Input p) = GivesRows s.right p
+GotTyped s _ _ = Unit {0}
 
 -- the lists with one more packet at this place
 abbrev pub with_packet : (ℕ → List PacketView) → ℕ → Option PacketView → ℕ → List PacketView

@@ -106,7 +106,7 @@ impl<K: CollectingKernel> Collecting<K> {
 }
 
 impl<K: CollectingKernel> Source for Collecting<K> {
-    ghost use Rattle.vx_ops.specs.Collecting.{CollectingStands, collecting_op, collecting_types, collecting_want, collecting_told};
+    ghost use Rattle.vx_ops.specs.Collecting.{CollectingStands, collecting_op, collecting_types, collecting_want, collecting_abides};
 
     ghost Stands = { CollectingStands K.unary K.HasRead };
 
@@ -116,7 +116,7 @@ impl<K: CollectingKernel> Source for Collecting<K> {
 
     ghost want = { λ s. collecting_want s.finished s.over };
 
-    ghost told = { collecting_told K.unary K.HasRead };
+    ghost abides = { collecting_abides K.unary K.HasRead };
 
     fn wants(&self) -> Want {
         if self.finished {

@@ -37,7 +37,7 @@ impl Source for Scan {
     ghost use Rattle.vx_ops.specs.Ledger.{scan_op};
     ghost use Rattle.vx_ops.specs.Turn.{while_running};
     ghost use Rattle.vx_ops.specs.Scan.{ScanStands, scan_types};
-    ghost use Rattle.vx_ops.specs.Scan.{scan_told};
+    ghost use Rattle.vx_ops.specs.Scan.{scan_abides};
     ghost use Rattle.vx_ops.specs.declared.turn.Want.TheVariants as want_of;
 
     ghost Stands = { ScanStands };
@@ -48,7 +48,7 @@ impl Source for Scan {
 
     ghost want = { λ s. while_running want_of.Morsel s.over };
 
-    ghost told = { scan_told };
+    ghost abides = { scan_abides };
 
     fn wants(&self) -> Want {
         match self.over {

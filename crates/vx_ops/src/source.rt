@@ -7,8 +7,8 @@ use crate::turn::{Got, Polled, Want};
 /// An operator that does not hold its inputs: it says what it wants, and gets it as the argument of its next turn.
 pub trait Source {
     ghost use Rattle.std.specs.Prelude.{◌≡◌};
-    ghost use Rattle.vx_ops.specs.Ledger.{Ledger, Op, Told};
-    ghost use Rattle.vx_ops.specs.Turn.{Shape, Fits, IsTyped, GivesRows, after, Again};
+    ghost use Rattle.vx_ops.specs.Ledger.{Ledger, Op, Abides};
+    ghost use Rattle.vx_ops.specs.Turn.{Shape, Fits, GotTyped, GivesRows, after, Again};
     ghost use Rattle.vx_ops.specs.declared.turn.Want.{Want};
 
     // That this source may have received and returned what the ledger says.
@@ -30,7 +30,7 @@ pub trait Source {
     /// One turn with what it wants. Running out of memory is a fault.
     fn turn(&mut self, got: Got) -> Polled
         requires fits { Fits (want self.old) got }
-        requires typed { IsTyped (types self.old) (want self.old) got }
+        requires typed { GotTyped (types self.old) (want self.old) got }
         ensures stands { (l : Ledger) → Stands self.old l → Stands self.new (after l (want self.old) got result) }
         ensures again { (l : Ledger) → Stands self.old l → Again l.gave.over result }
         ensures gives { GivesRows (types self.old).out result }
@@ -38,5 +38,5 @@ pub trait Source {
         ensures types { types self.new ≡ types self.old };
 
     // What is known of a source that stands.
-    ghost told: { (s : Self) (l : Ledger) → Stands s l → Told (op s) l };
+    ghost abides: { (s : Self) (l : Ledger) → Stands s l → Abides (op s) l };
 }

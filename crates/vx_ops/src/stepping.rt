@@ -71,7 +71,7 @@ impl<K: StepKernel> Stepping<K> {
 
 impl<K: StepKernel> Source for Stepping<K> {
     ghost use Rattle.vx_ops.specs.Turn.{while_running};
-    ghost use Rattle.vx_ops.specs.Stepping.{SteppingStands, stepping_op, stepping_types, stepping_told};
+    ghost use Rattle.vx_ops.specs.Stepping.{SteppingStands, stepping_op, stepping_types, stepping_abides};
     ghost use Rattle.vx_ops.specs.declared.turn.Want.TheVariants as want_of;
 
     ghost Stands = { SteppingStands K.unary K.HasMade };
@@ -82,7 +82,7 @@ impl<K: StepKernel> Source for Stepping<K> {
 
     ghost want = { λ s. while_running want_of.Left s.over };
 
-    ghost told = { stepping_told K.unary K.HasMade };
+    ghost abides = { stepping_abides K.unary K.HasMade };
 
     fn wants(&self) -> Want {
         match self.over {

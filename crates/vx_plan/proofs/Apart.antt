@@ -36,42 +36,42 @@ any-last : {A : Type 0} (p : A → Bool) (xs : List A) (x : A) → list_any p (x
 any-last p [] x h = (or_parts (p x) false h).0
 any-last p (y ∷ xs) x h = any-last p xs x (or_parts (p y) (list_any p (xs ++ x ∷ [])) h).1
 
--- none of these equals one of the front
+-- none of these equals one of those before
 abbrev clear : {A : Type 0} → (A → A → Bool) → List A → List A → Bool
-clear eq front xs = list_all (λ x. not (list_any (eq x) front)) xs
+clear eq prior xs = list_all (λ x. not (list_any (eq x) prior)) xs
 
-clear-front : {A : Type 0} (eq : A → A → Bool) (front : List A) (x : A) (ys : List A) → clear eq (front ++ x ∷ []) ys ≡ true → clear eq front ys ≡ true
-clear-front eq front x [] h = refl
-clear-front eq front x (y ∷ ys) h =
-    let first : Bool = not (list_any (eq y) (front ++ x ∷ [])) in
-    and-both (not (list_any (eq y) front)) (clear eq front ys)
-    (not_from_false (list_any (eq y) front) (any-front (eq y) front x (not-true (list_any (eq y) (front ++ x ∷ [])) (and-left first (clear eq (front ++ x ∷ []) ys) h))))
-    (clear-front eq front x ys (and-right first (clear eq (front ++ x ∷ []) ys) h))
+clear-front : {A : Type 0} (eq : A → A → Bool) (prior : List A) (x : A) (ys : List A) → clear eq (prior ++ x ∷ []) ys ≡ true → clear eq prior ys ≡ true
+clear-front eq prior x [] h = refl
+clear-front eq prior x (y ∷ ys) h =
+    let first : Bool = not (list_any (eq y) (prior ++ x ∷ [])) in
+    and-both (not (list_any (eq y) prior)) (clear eq prior ys)
+    (not_from_false (list_any (eq y) prior) (any-front (eq y) prior x (not-true (list_any (eq y) (prior ++ x ∷ [])) (and-left first (clear eq (prior ++ x ∷ []) ys) h))))
+    (clear-front eq prior x ys (and-right first (clear eq (prior ++ x ∷ []) ys) h))
 
-clear-last : {A : Type 0} (eq : A → A → Bool) → IsSymmetric eq → (front : List A) (x : A) (ys : List A) → clear eq (front ++ x ∷ []) ys ≡ true → list_any (eq x) ys ≡ false
-clear-last eq s front x [] h = refl
-clear-last eq s front x (y ∷ ys) h =
-    let first : Bool = not (list_any (eq y) (front ++ x ∷ [])) in
+clear-last : {A : Type 0} (eq : A → A → Bool) → IsSymmetric eq → (prior : List A) (x : A) (ys : List A) → clear eq (prior ++ x ∷ []) ys ≡ true → list_any (eq x) ys ≡ false
+clear-last eq s prior x [] h = refl
+clear-last eq s prior x (y ∷ ys) h =
+    let first : Bool = not (list_any (eq y) (prior ++ x ∷ [])) in
     or_from (eq x y) (list_any (eq x) ys)
-    (other-false eq s x y (any-last (eq y) front x (not-true (list_any (eq y) (front ++ x ∷ [])) (and-left first (clear eq (front ++ x ∷ []) ys) h))))
-    (clear-last eq s front x ys (and-right first (clear eq (front ++ x ∷ []) ys) h))
+    (other-false eq s x y (any-last (eq y) prior x (not-true (list_any (eq y) (prior ++ x ∷ [])) (and-left first (clear eq (prior ++ x ∷ []) ys) h))))
+    (clear-last eq s prior x ys (and-right first (clear eq (prior ++ x ∷ []) ys) h))
 
-tested-apart : {A : Type 0} (eq : A → A → Bool) (refusal : A → Refusal) → IsSymmetric eq → (xs front : List A) → tested_onto (λ front x. list_any (eq x) front) refusal front xs ≡ Ok tt
-    → (clear eq front xs ≡ true) × (apart eq xs ≡ true)
+tested-apart : {A : Type 0} (eq : A → A → Bool) (refusal : A → Refusal) → IsSymmetric eq → (xs prior : List A) → tested_onto (λ prior x. list_any (eq x) prior) refusal prior xs ≡ Ok tt
+    → (clear eq prior xs ≡ true) × (apart eq xs ≡ true)
 unfolding tested_onto
-tested-apart eq refusal s [] front h = (refl, refl)
-tested-apart eq refusal s (x ∷ xs) front h = go (list_any (eq x) front) refl (tested-apart eq refusal s xs (front ++ x ∷ [])) h
+tested-apart eq refusal s [] prior h = (refl, refl)
+tested-apart eq refusal s (x ∷ xs) prior h = go (list_any (eq x) prior) refl (tested-apart eq refusal s xs (prior ++ x ∷ [])) h
   where
-    go : (b : Bool) → list_any (eq x) front ≡ b → (tested_onto (λ front x. list_any (eq x) front) refusal (front ++ x ∷ []) xs ≡ Ok tt → (clear eq (front ++ x ∷ []) xs ≡ true) × (apart eq xs ≡ true))
-        → cond b (Err (refusal x)) (tested_onto (λ front x. list_any (eq x) front) refusal (front ++ x ∷ []) xs) ≡ Ok tt → (clear eq front (x ∷ xs) ≡ true) × (apart eq (x ∷ xs) ≡ true)
+    go : (b : Bool) → list_any (eq x) prior ≡ b → (tested_onto (λ prior x. list_any (eq x) prior) refusal (prior ++ x ∷ []) xs ≡ Ok tt → (clear eq (prior ++ x ∷ []) xs ≡ true) × (apart eq xs ≡ true))
+        → cond b (Err (refusal x)) (tested_onto (λ prior x. list_any (eq x) prior) refusal (prior ++ x ∷ []) xs) ≡ Ok tt → (clear eq prior (x ∷ xs) ≡ true) × (apart eq (x ∷ xs) ≡ true)
     go true e next k = cc
     go false e next k =
         let r = next k in (
-          and-both (not (list_any (eq x) front)) (clear eq front xs) (not_from_false (list_any (eq x) front) e) (clear-front eq front x xs r.0),
-          and-both (not (list_any (eq x) xs)) (apart eq xs) (not_from_false (list_any (eq x) xs) (clear-last eq s front x xs r.0)) r.1,
+          and-both (not (list_any (eq x) prior)) (clear eq prior xs) (not_from_false (list_any (eq x) prior) e) (clear-front eq prior x xs r.0),
+          and-both (not (list_any (eq x) xs)) (apart eq xs) (not_from_false (list_any (eq x) xs) (clear-last eq s prior x xs r.0)) r.1,
         )
 
-holds_tested : {A : Type 0} (eq : A → A → Bool) (refusal : A → Refusal) → IsSymmetric eq → (xs : List A) (r : Result ⊤ Refusal) → tested_onto (λ front x. list_any (eq x) front) refusal [] xs ≡ r → Holds (λ (u : ⊤). apart eq xs ≡ true) r
+holds_tested : {A : Type 0} (eq : A → A → Bool) (refusal : A → Refusal) → IsSymmetric eq → (xs : List A) (r : Result ⊤ Refusal) → tested_onto (λ prior x. list_any (eq x) prior) refusal [] xs ≡ r → Holds (λ (u : ⊤). apart eq xs ≡ true) r
 holds_tested eq refusal s xs (Ok u) h = (tested-apart eq refusal s xs [] h).1
 holds_tested eq refusal s xs (Err e) h = tt
 
@@ -128,7 +128,7 @@ distinct-pairs f g xs h =
     ((bytes_eq-Decides (f x.0) (f y.0)).1 (ap f (eqb-true x.0 y.0 (and-left (x.0 == y.0) (x.1 == y.1) e))))
     ((bytes_eq-Decides (g x.1) (g y.1)).1 (ap g (eqb-true x.1 y.1 (and-right (x.0 == y.0) (x.1 == y.1) e))))) xs h
 
--- the front of what is apart is apart
+-- the beginning of what is apart is apart
 pub apart-front : {A : Type 0} (eq : A → A → Bool) (xs ys : List A) → apart eq (xs ++ ys) ≡ true → apart eq xs ≡ true
 apart-front eq [] ys h = refl
 apart-front eq (x ∷ xs) ys h =

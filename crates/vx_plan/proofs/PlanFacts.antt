@@ -198,32 +198,32 @@ tree-holds s under n (form.exchange c k m t) cat h =
     (exchanged-holds s under n c k m i.0 i.1 (and-left (is_claim_form c) (is_kind_form k && (is_merge_form k m && is_tree_form t)) h) (and-left (is_kind_form k) (is_merge_form k m && is_tree_form t) rest) (and-left (is_merge_form k m) (is_tree_form t) last) hi))
 
 -- at most 16 size names
-sizes-few : (names front : List Name) → length front ≤ 16 → tested_onto is_bad_size bad_size front names ≡ Ok tt → length front + length names ≤ 16
+sizes-few : (names prior : List Name) → length prior ≤ 16 → tested_onto is_bad_size bad_size prior names ≡ Ok tt → length prior + length names ≤ 16
 unfolding tested_onto
-sizes-few [] front few h = omega (arith, few)
-sizes-few (x ∷ xs) front few h = go (is_bad_size front x) refl (λ e k. sizes-few xs (front ++ x ∷ []) e k) h
+sizes-few [] prior few h = omega (arith, few)
+sizes-few (x ∷ xs) prior few h = go (is_bad_size prior x) refl (λ e k. sizes-few xs (prior ++ x ∷ []) e k) h
   where
-    go : (b : Bool) → is_bad_size front x ≡ b → (length (front ++ x ∷ []) ≤ 16 → tested_onto is_bad_size bad_size (front ++ x ∷ []) xs ≡ Ok tt → length (front ++ x ∷ []) + length xs ≤ 16)
-        → cond b (Err (bad_size x)) (tested_onto is_bad_size bad_size (front ++ x ∷ []) xs) ≡ Ok tt → length front + suc (length xs) ≤ 16
+    go : (b : Bool) → is_bad_size prior x ≡ b → (length (prior ++ x ∷ []) ≤ 16 → tested_onto is_bad_size bad_size (prior ++ x ∷ []) xs ≡ Ok tt → length (prior ++ x ∷ []) + length xs ≤ 16)
+        → cond b (Err (bad_size x)) (tested_onto is_bad_size bad_size (prior ++ x ∷ []) xs) ≡ Ok tt → length prior + suc (length xs) ≤ 16
     go true e next k = cc
     go false e next k =
-        let room = leb-false 16 (length front) (or_parts (nat_le 16 (length front)) _ e).0 in
-        let n = length_push front x in
+        let room = leb-false 16 (length prior) (or_parts (nat_le 16 (length prior)) _ e).0 in
+        let n = length_push prior x in
         let m = next (omega (arith, n, room)) k in
         omega (arith, n, m)
 
 -- every range is one
-ranges-are : (ranges front : List RangeForm) → tested_onto is_bad_range (λ (r : RangeForm). bad_range r.name) front ranges ≡ Ok tt → list_all is_range (map (λ (r : RangeForm). r.bounds) ranges) ≡ true
+ranges-are : (ranges prior : List RangeForm) → tested_onto is_bad_range (λ (r : RangeForm). bad_range r.name) prior ranges ≡ Ok tt → list_all is_range (map (λ (r : RangeForm). r.bounds) ranges) ≡ true
 unfolding tested_onto
-ranges-are [] front h = refl
-ranges-are (r ∷ rs) front h = go (is_bad_range front r) refl (ranges-are rs (front ++ r ∷ [])) h
+ranges-are [] prior h = refl
+ranges-are (r ∷ rs) prior h = go (is_bad_range prior r) refl (ranges-are rs (prior ++ r ∷ [])) h
   where
-    go : (b : Bool) → is_bad_range front r ≡ b → (tested_onto is_bad_range (λ (r : RangeForm). bad_range r.name) (front ++ r ∷ []) rs ≡ Ok tt → list_all is_range (map (λ (r : RangeForm). r.bounds) rs) ≡ true)
-        → cond b (Err (bad_range r.name)) (tested_onto is_bad_range (λ (r : RangeForm). bad_range r.name) (front ++ r ∷ []) rs) ≡ Ok tt → (is_range r.bounds && list_all is_range (map (λ (r : RangeForm). r.bounds) rs)) ≡ true
+    go : (b : Bool) → is_bad_range prior r ≡ b → (tested_onto is_bad_range (λ (r : RangeForm). bad_range r.name) (prior ++ r ∷ []) rs ≡ Ok tt → list_all is_range (map (λ (r : RangeForm). r.bounds) rs) ≡ true)
+        → cond b (Err (bad_range r.name)) (tested_onto is_bad_range (λ (r : RangeForm). bad_range r.name) (prior ++ r ∷ []) rs) ≡ Ok tt → (is_range r.bounds && list_all is_range (map (λ (r : RangeForm). r.bounds) rs)) ≡ true
     go true e next k = cc
     go false e next k =
         and-both (is_range r.bounds) (list_all is_range (map (λ (r : RangeForm). r.bounds) rs))
-        (not-false (is_range r.bounds) (or_parts (list_any (λ (q : RangeForm). bytes_eq r.name q.name) front) (not (is_range r.bounds)) e).1) (next k)
+        (not-false (is_range r.bounds) (or_parts (list_any (λ (q : RangeForm). bytes_eq r.name q.name) prior) (not (is_range r.bounds)) e).1) (next k)
 
 -- what was resolved is typed, and every node has the columns of its output
 pub resolved-typed : (s : Names) (t : Tree) (o : Outline) (next : ℕ) → IsCatalog s.catalog → is_tree_form t ≡ true → sizes_tested s.sizes ≡ Ok tt → ranges_tested s.ranges ≡ Ok tt → typed_in s false 0 t ≡ Ok (o, next)

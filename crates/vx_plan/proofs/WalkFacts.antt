@@ -9,35 +9,35 @@ use Rattle.vx_values.specs.Values.{Name}
 use Rattle.std.specs.Prelude.{⊤, IsErrAnd}
 use Rattle.vx_plan_json.proofs.NodeFacts.{fails_then}
 
-walk_step : {A B X : Type 0} (f : A → Result B Refusal) (look : X → A) (front : List B) (xs : List X) (k : ℕ) (x : X) → k < length xs → x ≡ get_or xs k x
-    → walk_onto f front (map look (drop k xs)) ≡ (f (look x) >>= λ y. walk_onto f (front ++ y ∷ []) (map look (drop (k + 1) xs)))
+walk_step : {A B X : Type 0} (f : A → Result B Refusal) (look : X → A) (prior : List B) (xs : List X) (k : ℕ) (x : X) → k < length xs → x ≡ get_or xs k x
+    → walk_onto f prior (map look (drop k xs)) ≡ (f (look x) >>= λ y. walk_onto f (prior ++ y ∷ []) (map look (drop (k + 1) xs)))
 unfolding walk_onto
-walk_step f look front xs k x h e = rw (drop-cons xs k x, ← e, add-one) refl
+walk_step f look prior xs k x h e = rw (drop-cons xs k x, ← e, add-one) refl
 
-pub walk_next : {A B X : Type 0} (f : A → Result B Refusal) (look : X → A) (front : List B) (y : B) (xs : List X) (k : ℕ) (x : X) → k < length xs → x ≡ get_or xs k x
-    → f (look x) ≡ Ok y → walk_onto f (front ++ y ∷ []) (map look (drop (k + 1) xs)) ≡ walk_onto f front (map look (drop k xs))
-walk_next f look front y xs k x h e found =
-    sym (walk_step f look front xs k x h e ∙ ap (λ r. r >>= λ z. walk_onto f (front ++ z ∷ []) (map look (drop (k + 1) xs))) found)
+pub walk_next : {A B X : Type 0} (f : A → Result B Refusal) (look : X → A) (prior : List B) (y : B) (xs : List X) (k : ℕ) (x : X) → k < length xs → x ≡ get_or xs k x
+    → f (look x) ≡ Ok y → walk_onto f (prior ++ y ∷ []) (map look (drop (k + 1) xs)) ≡ walk_onto f prior (map look (drop k xs))
+walk_next f look prior y xs k x h e found =
+    sym (walk_step f look prior xs k x h e ∙ ap (λ r. r >>= λ z. walk_onto f (prior ++ z ∷ []) (map look (drop (k + 1) xs))) found)
 
 pub walk_more : {A B T X : Type 0} (f : A → Result B Refusal) (look : X → A) (read : T → B) (found : List T) (y : T) (xs : List X) (k : ℕ) (x : X) → k < length xs
     → x ≡ get_or xs k x → f (look x) ≡ Ok (read y) → walk_onto f (map read (found ++ y ∷ [])) (map look (drop (k + 1) xs)) ≡ walk_onto f (map read found) (map look (drop k xs))
 walk_more f look read found y xs k x h e one = rw map_push (walk_next f look (map read found) (read y) xs k x h e one)
 
-pub walk_done : {A B X : Type 0} (f : A → Result B Refusal) (look : X → A) (front : List B) (xs : List X) (k : ℕ) → length xs ≤ k → walk_onto f front (map look (drop k xs)) ≡ Ok front
+pub walk_done : {A B X : Type 0} (f : A → Result B Refusal) (look : X → A) (prior : List B) (xs : List X) (k : ℕ) → length xs ≤ k → walk_onto f prior (map look (drop k xs)) ≡ Ok prior
 unfolding walk_onto
-walk_done f look front xs k h = let none : drop k xs ≡ [] = drop_all k xs h in ap (λ (l : List _). walk_onto f front (map look l)) none
+walk_done f look prior xs k h = let none : drop k xs ≡ [] = drop_all k xs h in ap (λ (l : List _). walk_onto f prior (map look l)) none
 
 -- the steps of a loop that looks up each name
 pub ruleset walk_steps = (walk_next, walk_more, walk_done)
 
 -- what the loop returns at the first refusal
-pub walk_fails : {A B T X : Type 0} (f : A → Result B Refusal) (look : X → A) (front : List B) (xs : List X) {k : ℕ} {x : X} {fault : PlanFault} (read : T → List B) (r : Result T PlanFault)
-    {total : Result (List B) Refusal} → walk_onto f front (map look (drop k xs)) ≡ total → k < length xs → x ≡ get_or xs k x → Fails fault (f (look x)) → IsErrAnd r (λ e. e ≡ fault) → Gives read r total
-walk_fails f look front xs {k} {x} {fault} read r {total} so_far h e failed returned =
-    let next = λ (y : _). walk_onto f (front ++ y ∷ []) (map look (drop (k + 1) xs)) in
+pub walk_fails : {A B T X : Type 0} (f : A → Result B Refusal) (look : X → A) (prior : List B) (xs : List X) {k : ℕ} {x : X} {fault : PlanFault} (read : T → List B) (r : Result T PlanFault)
+    {total : Result (List B) Refusal} → walk_onto f prior (map look (drop k xs)) ≡ total → k < length xs → x ≡ get_or xs k x → Fails fault (f (look x)) → IsErrAnd r (λ e. e ≡ fault) → Gives read r total
+walk_fails f look prior xs {k} {x} {fault} read r {total} so_far h e failed returned =
+    let next = λ (y : _). walk_onto f (prior ++ y ∷ []) (map look (drop (k + 1) xs)) in
     let P : Result (List _) Refusal → Type 0 = λ r. Fails fault r in
     let p = err_from_is_err_and r returned in
-    rw (p.1, p.2) (subst P (sym (walk_step f look front xs k x h e) ∙ so_far) (fails_then fault (f (look x)) next failed))
+    rw (p.1, p.2) (subst P (sym (walk_step f look prior xs k x h e) ∙ so_far) (fails_then fault (f (look x)) next failed))
 
 keys_step : {X : Type 0} (node : ℕ) (look : X → List Name) (xs : List X) (k : ℕ) (x : X) → k < length xs → x ≡ get_or xs k x
     → keys_once node (map look (drop k xs)) ≡ (once node (look x) >>= λ u. keys_once node (map look (drop (k + 1) xs)))

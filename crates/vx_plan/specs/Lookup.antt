@@ -6,10 +6,10 @@ use Rattle.vx_plan_nodes.specs.Names.{Names}
 use Rattle.vx_values.specs.Values.{Name}
 use Rattle.vx_plan_json.specs.Fault.{Refusal, unknown_column, duplicate_column, type_mismatch, unknown_range, bad_size, too_wide, ◌>>=◌}
 
--- each in turn, after those at the front, or the first refusal
+-- each in turn, after those before, or the first refusal
 unfoldable pub walk_onto : {A B : Type 0} → (A → Result B Refusal) → List B → List A → Result (List B) Refusal
-walk_onto f front [] = Ok front
-walk_onto f front (x ∷ xs) = f x >>= λ y. walk_onto f (front ++ y ∷ []) xs
+walk_onto f prior [] = Ok prior
+walk_onto f prior (x ∷ xs) = f x >>= λ y. walk_onto f (prior ++ y ∷ []) xs
 
 abbrev pub column_or : ℕ → Name → Option ℕ → Result ℕ Refusal
 column_or node name None = Err (unknown_column node name)
@@ -27,11 +27,11 @@ keys_found node names keys = walk_onto (columns_found node names) [] keys
 
 -- each in turn against those before it, or the refusal of the first that is bad
 unfoldable pub tested_onto : {X : Type 0} → (List X → X → Bool) → (X → Refusal) → List X → List X → Result ⊤ Refusal
-tested_onto is_bad refusal front [] = Ok tt
-tested_onto is_bad refusal front (x ∷ xs) = if is_bad front x then Err (refusal x) else tested_onto is_bad refusal (front ++ x ∷ []) xs
+tested_onto is_bad refusal prior [] = Ok tt
+tested_onto is_bad refusal prior (x ∷ xs) = if is_bad prior x then Err (refusal x) else tested_onto is_bad refusal (prior ++ x ∷ []) xs
 
 abbrev pub is_among : List Name → Name → Bool
-is_among front name = list_any (bytes_eq name) front
+is_among prior name = list_any (bytes_eq name) prior
 
 -- no name twice, or the first that repeats an earlier one
 unfoldable pub once : ℕ → List Name → Result ⊤ Refusal
@@ -41,7 +41,7 @@ abbrev pub pair_eq : Name × Name → Name × Name → Bool
 pair_eq p q = bytes_eq p.0 q.0 && bytes_eq p.1 q.1
 
 abbrev pub is_among_pairs : List (Name × Name) → Name × Name → Bool
-is_among_pairs front pair = list_any (pair_eq pair) front
+is_among_pairs prior pair = list_any (pair_eq pair) prior
 
 -- no pair twice, or the left column of the first that repeats an earlier one
 unfoldable pub pairs_once : ℕ → List (Name × Name) → Result ⊤ Refusal

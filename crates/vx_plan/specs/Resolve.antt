@@ -306,14 +306,14 @@ typed_in s under node (form.exchange c k m t) = typed_in s under (node + 1) t >>
 
 -- a size name that is `one`, is declared before or is the 17th is refused
 abbrev pub is_bad_size : List Name → Name → Bool
-is_bad_size front name = nat_le 16 (length front) || (bytes_eq name (codes "one") || list_any (bytes_eq name) front)
+is_bad_size prior name = nat_le 16 (length prior) || (bytes_eq name (codes "one") || list_any (bytes_eq name) prior)
 
 unfoldable pub sizes_tested : List Name → Result ⊤ Refusal
 sizes_tested names = tested_onto is_bad_size bad_size [] names
 
 -- a range that is declared before or has bad bounds is refused
 abbrev pub is_bad_range : List RangeForm → RangeForm → Bool
-is_bad_range front r = list_any (λ q. bytes_eq r.name q.name) front || not (is_range r.bounds)
+is_bad_range prior r = list_any (λ q. bytes_eq r.name q.name) prior || not (is_range r.bounds)
 
 unfoldable pub ranges_tested : List RangeForm → Result ⊤ Refusal
 ranges_tested ranges = tested_onto is_bad_range (λ r. bad_range r.name) [] ranges

@@ -19,10 +19,10 @@ use vx_plan_nodes::TypedPlan;
 use vx_relations::Catalog;
 use vx_values::{NamedRange, Value};
 
-fn is_bad_size(front: &[String], name: &str) -> bool
-    ensures { result ≡ is_bad_size (map string_bytes front.now) name.now }
+fn is_bad_size(prior: &[String], name: &str) -> bool
+    ensures { result ≡ is_bad_size (map string_bytes prior.now) name.now }
 {
-    front.len() >= 16 || name == "one" || has_name(front, name)
+    prior.len() >= 16 || name == "one" || has_name(prior, name)
 }
 
 // No size name is `one`, stands twice or is the 17th.
@@ -53,10 +53,10 @@ fn has_range(ranges: &[NamedRange], name: &str) -> bool
     is_any_range(ranges, name)
 }
 
-fn is_bad_range(front: &[NamedRange], range: &NamedRange) -> bool
-    ensures { result ≡ is_bad_range (map range_form front.now) (range_form range.now) }
+fn is_bad_range(prior: &[NamedRange], range: &NamedRange) -> bool
+    ensures { result ≡ is_bad_range (map range_form prior.now) (range_form range.now) }
 {
-    has_range(front, range.name.as_str()) || !is_range(range.bounds.as_slice())
+    has_range(prior, range.name.as_str()) || !is_range(range.bounds.as_slice())
 }
 
 // No range stands twice or has bad bounds.

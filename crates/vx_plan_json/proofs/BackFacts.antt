@@ -27,12 +27,12 @@ unfolding name_in
 name-back [] h = cc
 name-back (b ∷ bs) h = refl
 
-each-back : {A : Type 0} (p : A → Bool) (f : Data → Option A) (json : A → Data) → ((x : A) → p x ≡ true → f (json x) ≡ Some x) → (front xs : List A) → list_all p xs ≡ true
-    → each_onto f front (map json xs) ≡ Some (front ++ xs)
+each-back : {A : Type 0} (p : A → Bool) (f : Data → Option A) (json : A → Data) → ((x : A) → p x ≡ true → f (json x) ≡ Some x) → (prior xs : List A) → list_all p xs ≡ true
+    → each_onto f prior (map json xs) ≡ Some (prior ++ xs)
 unfolding each_onto
-each-back p f json back front [] h = ap Some (sym (append-nil front))
-each-back p f json back front (x ∷ xs) h =
-    rw (back x (and-left (p x) (list_all p xs) h)) (each-back p f json back (front ++ x ∷ []) xs (and-right (p x) (list_all p xs) h) ∙ ap Some (append_assoc front (x ∷ []) xs))
+each-back p f json back prior [] h = ap Some (sym (append-nil prior))
+each-back p f json back prior (x ∷ xs) h =
+    rw (back x (and-left (p x) (list_all p xs) h)) (each-back p f json back (prior ++ x ∷ []) xs (and-right (p x) (list_all p xs) h) ∙ ap Some (append_assoc prior (x ∷ []) xs))
 
 list-back : {A : Type 0} (p : A → Bool) (f : Data → Option A) (json : A → Data) → ((x : A) → p x ≡ true → f (json x) ≡ Some x) → (xs : List A) → list_all p xs ≡ true
     → each_in f (list_json json xs) ≡ Some xs

@@ -32,18 +32,18 @@ pub all_push : {A : Type 0} (p : A → Bool) (xs : List A) (x : A) → list_all 
 all_push p [] x h k = and-both (p x) true k refl
 all_push p (y ∷ xs) x h k = and-both (p y) (list_all p (xs ++ x ∷ [])) (and-left (p y) (list_all p xs) h) (all_push p xs x (and-right (p y) (list_all p xs) h) k)
 
-onto_step : {A : Type 0} (q : List A → Bool) (p : A → Bool) (f : Data → Option A) (front : List A) (ds : List Data) (o : Option A)
-    → ((front : List A) (x : A) → q front ≡ true → p x ≡ true → q (front ++ x ∷ []) ≡ true) → q front ≡ true → Within p o
-    → ((front : List A) → q front ≡ true → Within q (each_onto f front ds)) → Within q (option_and_then (λ x. each_onto f (front ++ x ∷ []) ds) o)
-onto_step q p f front ds None push h k next = tt
-onto_step q p f front ds (Some x) push h k next = next (front ++ x ∷ []) (push front x h k)
+onto_step : {A : Type 0} (q : List A → Bool) (p : A → Bool) (f : Data → Option A) (prior : List A) (ds : List Data) (o : Option A)
+    → ((prior : List A) (x : A) → q prior ≡ true → p x ≡ true → q (prior ++ x ∷ []) ≡ true) → q prior ≡ true → Within p o
+    → ((prior : List A) → q prior ≡ true → Within q (each_onto f prior ds)) → Within q (option_and_then (λ x. each_onto f (prior ++ x ∷ []) ds) o)
+onto_step q p f prior ds None push h k next = tt
+onto_step q p f prior ds (Some x) push h k next = next (prior ++ x ∷ []) (push prior x h k)
 
 -- a test of a list that each further element keeps
-pub within_onto : {A : Type 0} (q : List A → Bool) (p : A → Bool) (f : Data → Option A) → ((front : List A) (x : A) → q front ≡ true → p x ≡ true → q (front ++ x ∷ []) ≡ true)
-    → ((d : Data) → Within p (f d)) → (ds : List Data) (front : List A) → q front ≡ true → Within q (each_onto f front ds)
+pub within_onto : {A : Type 0} (q : List A → Bool) (p : A → Bool) (f : Data → Option A) → ((prior : List A) (x : A) → q prior ≡ true → p x ≡ true → q (prior ++ x ∷ []) ≡ true)
+    → ((d : Data) → Within p (f d)) → (ds : List Data) (prior : List A) → q prior ≡ true → Within q (each_onto f prior ds)
 unfolding each_onto
-within_onto q p f push k [] front h = h
-within_onto q p f push k (d ∷ ds) front h = onto_step q p f front ds (f d) push h (k d) (within_onto q p f push k ds)
+within_onto q p f push k [] prior h = h
+within_onto q p f push k (d ∷ ds) prior h = onto_step q p f prior ds (f d) push h (k d) (within_onto q p f push k ds)
 
 pub within_each : {A : Type 0} (p : A → Bool) (f : Data → Option A) → ((d : Data) → Within p (f d)) → (ds : List Data) → Within (list_all p) (each_onto f [] ds)
 within_each p f k ds = within_onto (list_all p) p f (all_push p) k ds [] refl

@@ -46,7 +46,7 @@ pub record ConditionForm : Type 0 where
   pub test : comparison.Test
   pub right : SideForm
 
--- a column that is kept, with its new name where one is given
+-- a column that is kept, with its new name, if it has one
 pub record OutputForm : Type 0 where
   pub column : Name
   pub renamed : Option Name

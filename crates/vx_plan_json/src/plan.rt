@@ -51,7 +51,7 @@ pub struct NamedCondition {
     pub right: NamedSide,
 }
 
-/// A column that is kept, with its new name where one is given.
+/// A column that is kept, with its new name, if it has one.
 #[derive(Debug, Drop)]
 pub struct NamedOutput {
     pub column: String,

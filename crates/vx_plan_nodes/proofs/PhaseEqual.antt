@@ -1,4 +1,4 @@
--- Columns and aggregates that are told to be the same are the same.
+-- Columns and aggregates that are tested to be the same are the same.
 use Rattle.std.proofs.Common.{◌≡◌, ℕ, ◌==◌, true, List, [], ◌∷◌, refl, sym, ap, true≢false, eqb-true}
 use Rattle.vx_plan_nodes.specs.Plan.{Aggregate, least, greatest, sum, count_rows}
 use Rattle.vx_plan_nodes.specs.Phases.{aggregate_eq, aggregates_eq, columns_eq}

@@ -7,11 +7,11 @@ use Rattle.vx_plan_nodes.specs.Plan.{Route, ExchangeKind, route_to, round, broad
 use Rattle.vx_plan_nodes.specs.Streams.{Streams, Dealt}
 
 -- the consumer of a key among n
-abbrev pub Router : Type 0
-Router = Route → Row → ℕ → ℕ
+abbrev pub Routing : Type 0
+Routing = Route → Row → ℕ → ℕ
 
 -- what a producer sends to each of n consumers: each row to the consumer of its key; each row to one consumer, freely chosen; all rows to all; all to the one
-abbrev pub Sends : Router → ExchangeKind → ℕ → List Row → Streams → Type 0
+abbrev pub Sends : Routing → ExchangeKind → ℕ → List Row → Streams → Type 0
 Sends goes (route_to z r cols) n xs sent = (j : ℕ) → j < n → filter (λ row. goes r (pick cols row) n == j) xs ≡ sent j
 Sends goes (round z) n xs sent = Dealt n xs sent
 Sends goes (broadcast z) n xs sent = (j : ℕ) → j < n → xs ≡ sent j
@@ -23,6 +23,6 @@ abbrev pub range_consumer : List Val → Val → ℕ → ℕ
 range_consumer bounds v n = min (count (λ b. is_le (val_cmp b v)) bounds) (n - 1)
 
 -- by a hash router, of which only the name and the key count, and by the declared ranges
-abbrev pub sends_by : (List ℕ → Row → ℕ → ℕ) → (ℕ → List Val) → Router
+abbrev pub sends_by : (List ℕ → Row → ℕ → ℕ) → (ℕ → List Val) → Routing
 sends_by hash bounds (by_hash name) key n = hash name key n
 sends_by hash bounds (by_range k) key n = range_consumer (bounds k) (value_at key 0) n

@@ -5,7 +5,7 @@ use Rattle.vx_rows.specs.Order.{sorted}
 use Rattle.vx_plan_nodes.specs.Plan.{ExchangeKind, target, Plan, scan, unary, binary, exchange, size, route_to, round, broadcast, gather, concat}
 use Rattle.vx_plan_nodes.specs.Serial.{unary_rows, binary_rows}
 use Rattle.vx_plan_nodes.specs.Streams.{workers, Streams, Dealt, joined}
-use Rattle.vx_plan_nodes.specs.Routes.{Router, Sends}
+use Rattle.vx_plan_nodes.specs.Routes.{Routing, Sends}
 
 -- the exchange takes its producers one after the other
 abbrev pub is_concat : ExchangeKind → Bool
@@ -16,7 +16,7 @@ is_concat gather = false
 is_concat concat = true
 
 -- what each of m producers sends to each of n consumers, and each consumer's shuffle of what it gets; of a concat it is the producers' lists in the order of their numbers
-pub record Exchanges (goes : Router) (kind : ExchangeKind) (merge : List ℕ) (m n : ℕ) (inputs outputs : Streams) : Type 0 where
+pub record Exchanges (goes : Routing) (kind : ExchangeKind) (merge : List ℕ) (m n : ℕ) (inputs outputs : Streams) : Type 0 where
   pub sent : ℕ → Streams
   pub sends : (i : ℕ) → i < m → Sends goes kind n (inputs i) (sent i)
   pub gets : (j : ℕ) → j < n → Dealt m (outputs j) (λ i. sent i j)
@@ -25,7 +25,7 @@ pub record Exchanges (goes : Router) (kind : ExchangeKind) (merge : List ℕ) (m
 
 -- the run relation: these may be the streams of the plan's top node, for some streams of the nodes below it.
 -- A shared scan chooses a worker for each row; a whole one gives each worker all rows
-abbrev pub Runs : (ℕ → List Row) → (ℕ → ℕ) → Router → Plan → Streams → Type 0
+abbrev pub Runs : (ℕ → List Row) → (ℕ → ℕ) → Routing → Plan → Streams → Type 0
 Runs db sizes goes (scan n c r true z) s = Dealt (workers sizes z) (db r) s
 Runs db sizes goes (scan n c r false z) s = (w : ℕ) → w < workers sizes z → s w ≡ db r
 Runs db sizes goes (unary n c op p) s =

@@ -63,7 +63,7 @@ rule_status rule.OrderNeeded = 3
 rule_status rule.KeyNotShown = 3
 rule_status rule.TotalNotShown = 3
 
--- of a run: X1 to X6, X12 and X14 are told before it begins (X5 by no bundle), X7 to X11 end it
+-- of a run: X1 to X6, X12 and X14 are reported before it begins (X5 by no bundle), X7 to X11 end it
 abbrev pub run_status : RunFault → ℕ
 run_status (run.SizeMissing name) = 3
 run_status (run.SizeOutOfRange name) = 3
@@ -79,7 +79,7 @@ run_status (run.Stranger exchange) = 4
 run_status (run.TooManyWorkers number) = 3
 run_status run.BadSlack = 3
 
--- of a serial evaluation: X6 and X13 are told before it begins, X7 and X8 end it
+-- of a serial evaluation: X6 and X13 are reported before it begins, X7 and X8 end it
 abbrev pub eval_status : EvalFault → ℕ
 eval_status eval.OtherCatalog = 3
 eval_status (eval.HasExchange node) = 3

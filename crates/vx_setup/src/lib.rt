@@ -1,4 +1,4 @@
-//! What a run is given beside its plan and its database, which plans workers can run, and why a run gives no rows.
+//! What a run gets beside its plan and its database, which plans workers can run, and why a run returns no rows.
 #![tactic(auto)]
 
 mod fault;

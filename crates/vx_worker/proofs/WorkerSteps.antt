@@ -3,9 +3,9 @@ use Rattle.std.proofs.Common.{ℕ, ◌≡◌, ◌⊎◌, inl, inr, refl, sym, ap
 use Rattle.std.specs.List.{All}
 use Rattle.vx_values.specs.Values.{Row}
 use Rattle.vx_values.specs.declared.value.ColType.{ColType}
-use Rattle.vx_plan_nodes.specs.Routes.{Router}
+use Rattle.vx_plan_nodes.specs.Routes.{Routing}
 use Rattle.vx_ports.specs.Packets.{PacketView, closes}
-use Rattle.vx_ops.specs.Ledger.{Stream, Ledger, Op, Told, fresh}
+use Rattle.vx_ops.specs.Ledger.{Stream, Ledger, Op, Abides, fresh}
 use Rattle.vx_ops.specs.Turn.{Shape, heard}
 use Rattle.vx_ops.specs.declared.fault.Fault.{Fault}
 use Rattle.vx_ops.specs.declared.fault.Over.TheVariants as over
@@ -13,9 +13,9 @@ use Rattle.vx_ops.specs.declared.turn.Want.{Want}
 use Rattle.vx_ops.specs.declared.turn.Got.{Got}
 use Rattle.vx_ops.specs.declared.turn.Polled.{Polled}
 use Rattle.vx_ops.specs.declared.turn.Polled.TheVariants as polled
-use Rattle.vx_exchange.specs.Tasks.{Task, Post, post_types, Finished, Begun, IsAt}
+use Rattle.vx_exchange.specs.Tasks.{Task, Post, post_types, Finished, BeganSending, IsAt}
 use Rattle.vx_exchange.proofs.Parts.{begun-without-last, fault-stops}
-use Rattle.vx_worker.specs.Fragment.{Frag, Reads, FragTold}
+use Rattle.vx_worker.specs.Fragment.{Frag, Reads, FragAbides}
 use Rattle.vx_worker.specs.Trace.{Event, idle, drew_one, took_one, put_one, Trace, added, empty_trace, ReadsBeginOf, IsNoMemory, IsWellBy, HasFailedBy}
 use Rattle.vx_worker.specs.Trees.{shape, TreeStands}
 use Rattle.vx_worker.specs.Wishes.{Numbered, tree_want, read, fresh_reads, tree_types, TreeTyped}
@@ -26,7 +26,7 @@ use Rattle.vx_worker.specs.declared.wish.Wish.{Wish}
 use Rattle.vx_worker.specs.declared.intake.Intake.{Intake}
 use Rattle.vx_worker.specs.declared.worker.Worker.{Worker}
 use Rattle.vx_worker.specs.declared.worker.Phase.TheVariants.{Running, Failing}
-use Rattle.vx_worker.proofs.Trees.{tree-told}
+use Rattle.vx_worker.proofs.Trees.{tree-abides}
 use Rattle.vx_worker.proofs.Reading.{reads-more, ended-more, reads-whole, reads-before, reads-later}
 use Rattle.vx_worker.proofs.Stopping.{with-closing, closing-closes}
 
@@ -44,25 +44,25 @@ take-same t (took_one x i o) h = refl
 take-same t (put_one j p) h = elim h [ ]
 
 -- a worker that failed did so also after it took and dropped one more packet
-pub failed-later : (m : ℕ → ℕ → List Row) (goes : Router) (f : Frag) (task : Task) (x : Fault) (t : Trace) (e : Event) → IsTake e → HasFailedBy m goes f task x t
+pub failed-later : (m : ℕ → ℕ → List Row) (goes : Routing) (f : Frag) (task : Task) (x : Fault) (t : Trace) (e : Event) → IsTake e → HasFailedBy m goes f task x t
     → HasFailedBy m goes f task x (added t e)
 failed-later m goes f task x t e is h = record {
   reads = h.reads;
   reads_begin = reads-later m t h.reads e is h.reads_begin;
   out = h.out;
-  told = h.told;
+  abides = h.abides;
   why = h.why;
   stopped = subst (λ put. Rattle.vx_exchange.specs.Tasks.Stopped goes task h.out.rows put) (sym (take-same t e is)) h.stopped;
 }
 
 -- only the packets put are seen from another trace with the same draws and takes
-pub failed-same : (m : ℕ → ℕ → List Row) (goes : Router) (f : Frag) (task : Task) (x : Fault) (t : Trace) (put : ℕ → List PacketView) → t.sent ≡ put → HasFailedBy m goes f task x t
+pub failed-same : (m : ℕ → ℕ → List Row) (goes : Routing) (f : Frag) (task : Task) (x : Fault) (t : Trace) (put : ℕ → List PacketView) → t.sent ≡ put → HasFailedBy m goes f task x t
     → HasFailedBy m goes f task x (record t { sent = put })
 failed-same m goes f task x t put e h = record {
   reads = h.reads;
   reads_begin = record { scanned = h.reads_begin.scanned; came = h.reads_begin.came };
   out = h.out;
-  told = h.told;
+  abides = h.abides;
   why = h.why;
   stopped = subst (λ sent. Rattle.vx_exchange.specs.Tasks.Stopped goes task h.out.rows sent) e h.stopped;
 }
@@ -102,7 +102,7 @@ module _ {O S : Type 0} (types : O → Shape) (post : S → Post) (is_open has_c
     });
   }
 
-module _ {O S : Type 0} (OS : O → Ledger → Type 0) (op : O → Op) (SS : S → Router → Stream → (ℕ → List PacketView) → Type 0) (task : S → Task) (goes : Router) (m : ℕ → ℕ → List Row) where
+module _ {O S : Type 0} (OS : O → Ledger → Type 0) (op : O → Op) (SS : S → Routing → Stream → (ℕ → List PacketView) → Type 0) (task : S → Task) (goes : Routing) (m : ℕ → ℕ → List Row) where
   -- of a worker that has not failed
   pub running : (w : Worker O S) (t : Trace) → w.phase ≡ Running → WorkerStands OS op SS task goes m w t → IsRunning OS op SS task goes m w t
   running w t phase h = subst (λ x. StandsIn OS op SS task goes m x w t) phase h.1
@@ -129,15 +129,15 @@ module _ {O S : Type 0} (OS : O → Ledger → Type 0) (op : O → Op) (SS : S �
   -- a worker that begins to fail: what it read before is a beginning of what was drawn and taken, and what it put a beginning of what its rows send
   pub fails : (w : Worker O S) (f : Fault) (p : Post) (t : Trace) (reads : Reads) (out : Stream)
       → w.phase ≡ Failing f → w.pending ≡ None → w.closing.items ≡ closing_of p → IsAt p (task w.sender)
-      → IntakeStands w.intake t → ReadsBeginOf m t reads → FragTold (shape op w.tree) reads out → (out.over ≡ over.Failed f) ⊎ IsNoMemory f
-      → Begun goes (task w.sender) out.rows t.sent → WorkerStands OS op SS task goes m w t
-  fails w f p t reads out phase pending closing at intake begin told why begun = (
+      → IntakeStands w.intake t → ReadsBeginOf m t reads → FragAbides (shape op w.tree) reads out → (out.over ≡ over.Failed f) ⊎ IsNoMemory f
+      → BeganSending goes (task w.sender) out.rows t.sent → WorkerStands OS op SS task goes m w t
+  fails w f p t reads out phase pending closing at intake begin abides why begun = (
     intake,
     subst (λ x. StandsIn OS op SS task goes m x w t) (sym phase) (record {
       reads = reads;
       reads_begin = record { scanned = begin.scanned; came = begin.came };
       out = out;
-      told = told;
+      abides = abides;
       why = why;
       stopped = fault-stops goes (task w.sender) out.rows t.sent (with_all (with_pending t.sent w.pending) w.closing.items)
           (λ j. ap (λ (x : Option (ℕ × PacketView)). with_all (with_pending t.sent x) w.closing.items j) pending ∙ ap (λ ps. with_all t.sent ps j) closing
@@ -147,46 +147,46 @@ module _ {O S : Type 0} (OS : O → Ledger → Type 0) (op : O → Op) (SS : S �
   )
 
   -- memory was refused after a draw or a take that the tree did not see
-  pub loses : ((o : O) (l : Ledger) → OS o l → Told (op o) l) → (w v : Worker O S) (f : Fault) (p : Post) (t : Trace) (e : Event)
+  pub loses : ((o : O) (l : Ledger) → OS o l → Abides (op o) l) → (w v : Worker O S) (f : Fault) (p : Post) (t : Trace) (e : Event)
       → v.phase ≡ Failing f → v.pending ≡ None → v.closing.items ≡ closing_of p → IsAt p (task v.sender) → shape op v.tree ≡ shape op w.tree → IsNoMemory f
       → IntakeStands v.intake (added t e) → IsRead w.intake e → w.pending ≡ None
-      → ((a : Stream) (g : ℕ → List PacketView) → SS w.sender goes a g → Begun goes (task v.sender) a.rows g)
+      → ((a : Stream) (g : ℕ → List PacketView) → SS w.sender goes a g → BeganSending goes (task v.sender) a.rows g)
       → IsRunning OS op SS task goes m w t → WorkerStands OS op SS task goes m v (added t e)
-  loses told w v f p t e phase pending closing at same why intake is empty begun h =
+  loses abides w v f p t e phase pending closing at same why intake is empty begun h =
       fails v f p (added t e) h.reads h.out phase pending closing at intake (reads-before m w.intake t h.reads e is h.ended h.reads_are)
-      (subst (λ x. FragTold x h.reads h.out) (sym same) (tree-told OS op told w.tree h.reads h.out h.tree)) (inr why)
-      (subst (λ g. Begun goes (task v.sender) h.out.rows g) (ap (λ (x : Option (ℕ × PacketView)). with_pending t.sent x) empty ∙ sym (sent-same w.intake t e is))
+      (subst (λ x. FragAbides x h.reads h.out) (sym same) (tree-abides OS op abides w.tree h.reads h.out h.tree)) (inr why)
+      (subst (λ g. BeganSending goes (task v.sender) h.out.rows g) (ap (λ (x : Option (ℕ × PacketView)). with_pending t.sent x) empty ∙ sym (sent-same w.intake t e is))
       (begun h.out (with_pending t.sent w.pending) h.sender))
 
   -- memory was refused to a put
-  pub refused : ((o : O) (l : Ledger) → OS o l → Told (op o) l) → (w v : Worker O S) (f : Fault) (p : Post) (t : Trace) (to : ℕ) (packet : PacketView)
+  pub refused : ((o : O) (l : Ledger) → OS o l → Abides (op o) l) → (w v : Worker O S) (f : Fault) (p : Post) (t : Trace) (to : ℕ) (packet : PacketView)
       → v.phase ≡ Failing f → v.pending ≡ None → v.closing.items ≡ closing_of p → IsAt p (task v.sender) → v.tree ≡ w.tree → IsNoMemory f
       → IntakeStands v.intake t → w.pending ≡ Some (to, packet)
-      → ((a : Stream) (g : ℕ → List PacketView) → SS w.sender goes a g → Begun goes (task v.sender) a.rows g)
+      → ((a : Stream) (g : ℕ → List PacketView) → SS w.sender goes a g → BeganSending goes (task v.sender) a.rows g)
       → IsRunning OS op SS task goes m w t → WorkerStands OS op SS task goes m v t
-  refused told w v f p t to packet phase pending closing at same why intake here begun h =
+  refused abides w v f p t to packet phase pending closing at same why intake here begun h =
       fails v f p t h.reads h.out phase pending closing at intake (reads-whole m t h.reads h.reads_are)
-      (subst (λ x. FragTold (shape op x) h.reads h.out) (sym same) (tree-told OS op told w.tree h.reads h.out h.tree)) (inr why)
+      (subst (λ x. FragAbides (shape op x) h.reads h.out) (sym same) (tree-abides OS op abides w.tree h.reads h.out h.tree)) (inr why)
       (begun-without-last goes (task v.sender) h.out.rows t.sent to packet
-      (subst (λ x. Begun goes (task v.sender) h.out.rows (with_pending t.sent x)) here (begun h.out (with_pending t.sent w.pending) h.sender)))
+      (subst (λ x. BeganSending goes (task v.sender) h.out.rows (with_pending t.sent x)) here (begun h.out (with_pending t.sent w.pending) h.sender)))
 
   -- the tree's top gave a fault
-  pub gives-fault : {E : Type 0} → ((o : O) (l : Ledger) → OS o l → Told (op o) l) → (want : O → Want) → (w v : Worker O S) (k : Intake) (tree : Tree O) (f : Fault) (p : Post) (t : Trace) (e : Event)
+  pub gives-fault : {E : Type 0} → ((o : O) (l : Ledger) → OS o l → Abides (op o) l) → (want : O → Want) → (w v : Worker O S) (k : Intake) (tree : Tree O) (f : Fault) (p : Post) (t : Trace) (e : Event)
       (x : Wish) (g : Got) → v.phase ≡ Failing f → v.pending ≡ None → v.closing.items ≡ closing_of p → IsAt p (task v.sender) → v.tree ≡ tree → v.intake ≡ k
       → x ≡ tree_want want w.tree → Fetches {E = E} m w.intake k x (Ok g) e → IntakeStands w.intake t
       → ((low high : ℕ) (r : Reads) (out : Stream) → Numbered low high w.tree → TreeStands OS w.tree r out
       → TreeStands OS tree (read r (tree_want want w.tree) g) (heard out (polled.Fault f)))
-      → w.pending ≡ None → ((a : Stream) (g : ℕ → List PacketView) → SS w.sender goes a g → Begun goes (task v.sender) a.rows g)
+      → w.pending ≡ None → ((a : Stream) (g : ℕ → List PacketView) → SS w.sender goes a g → BeganSending goes (task v.sender) a.rows g)
       → IsRunning OS op SS task goes m w t → WorkerStands OS op SS task goes m v (added t e)
-  gives-fault told want w v k tree f p t e x g phase pending closing at same sameIntake wish fetched intake stands empty begun h =
+  gives-fault abides want w v k tree f p t e x g phase pending closing at same sameIntake wish fetched intake stands empty begun h =
       let y = tree_want want w.tree in
       let answers : Answers m w.intake k y g e = subst (λ z. Answers m w.intake k z g e) wish fetched.answers in
       fails v f p (added t e) (read h.reads y g) (heard h.out (polled.Fault f)) phase pending closing at
       (subst (λ z. IntakeStands z (added t e)) (sym sameIntake) (fetched.stands t intake))
       (reads-whole m (added t e) (read h.reads y g) (reads-more m w.intake k t h.reads y g e answers intake.scans h.reads_are))
-      (subst (λ z. FragTold (shape op z) (read h.reads y g) (heard h.out (polled.Fault f))) (sym same)
-      (tree-told OS op told tree (read h.reads y g) (heard h.out (polled.Fault f)) (stands h.low h.high h.reads h.out h.numbered h.tree))) (inl refl)
-      (subst (λ g. Begun goes (task v.sender) h.out.rows g) (ap (λ (x : Option (ℕ × PacketView)). with_pending t.sent x) empty ∙ sym (sent-same w.intake t e fetched.is_read))
+      (subst (λ z. FragAbides (shape op z) (read h.reads y g) (heard h.out (polled.Fault f))) (sym same)
+      (tree-abides OS op abides tree (read h.reads y g) (heard h.out (polled.Fault f)) (stands h.low h.high h.reads h.out h.numbered h.tree))) (inl refl)
+      (subst (λ g. BeganSending goes (task v.sender) h.out.rows g) (ap (λ (x : Option (ℕ × PacketView)). with_pending t.sent x) empty ∙ sym (sent-same w.intake t e fetched.is_read))
       (begun h.out (with_pending t.sent w.pending) h.sender))
 
   -- the tree turned, and the sending end accepted what its top gave
@@ -240,14 +240,14 @@ module _ {O S : Type 0} (OS : O → Ledger → Type 0) (op : O → Op) (SS : S �
       )
 
   -- nothing is left to put after the end
-  pub ends-well : ((o : O) (l : Ledger) → OS o l → Told (op o) l) → (w : Worker O S) (s : S) (t : Trace) → w.pending ≡ None → w.is_over ≡ true
+  pub ends-well : ((o : O) (l : Ledger) → OS o l → Abides (op o) l) → (w : Worker O S) (s : S) (t : Trace) → w.pending ≡ None → w.is_over ≡ true
       → ((a : Stream) (g : ℕ → List PacketView) → SS w.sender goes a g → a.over ≡ over.Ended → Finished goes (task s) a.rows g)
       → IsRunning OS op SS task goes m w t → IsWellBy m goes (shape op w.tree) (task s) t
-  ends-well told w s t empty o drained h = record {
+  ends-well abides w s t empty o drained h = record {
     reads = h.reads;
     reads_are = h.reads_are;
     out = h.out;
-    told = tree-told OS op told w.tree h.reads h.out h.tree;
+    abides = tree-abides OS op abides w.tree h.reads h.out h.tree;
     ended = h.is_over o;
     finished = subst (λ x. Finished goes (task s) h.out.rows (with_pending t.sent x)) empty (drained h.out (with_pending t.sent w.pending) h.sender (h.is_over o));
   }

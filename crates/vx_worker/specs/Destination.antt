@@ -1,16 +1,16 @@
 -- A destination stands as the one that it is.
 use Rattle.std.specs.Prelude.{◌≡◌, ℕ, Bool, true, false, List}
 use Rattle.vx_values.specs.Values.{Val}
-use Rattle.vx_plan_nodes.specs.Routes.{Router}
+use Rattle.vx_plan_nodes.specs.Routes.{Routing}
 use Rattle.vx_ports.specs.Packets.{PacketView}
 use Rattle.vx_ops.specs.Ledger.{Stream}
-use Rattle.vx_exchange.specs.Tasks.{Task, Post, Begun, IsAt}
+use Rattle.vx_exchange.specs.Tasks.{Task, Post, BeganSending, IsAt}
 use Rattle.vx_exchange.specs.Sender.{SenderStands, sender_task, sender_post, sender_bounds, sender_is_open, sender_has_closed, sender_open_first, sender_begun, sender_at_post}
 use Rattle.vx_exchange.specs.Collector.{CollectorStands, collector_task, collector_post, collector_bounds, collector_is_open, collector_has_closed, collector_open_first, collector_begun, collector_at_post}
 use Rattle.vx_worker.specs.declared.destination.Destination.{Destination}
 use Rattle.vx_worker.specs.declared.destination.Destination.TheVariants as destination
 
-abbrev pub DestinationStands : Destination → Router → Stream → (ℕ → List PacketView) → Type 0
+abbrev pub DestinationStands : Destination → Routing → Stream → (ℕ → List PacketView) → Type 0
 DestinationStands (destination.Send s) = SenderStands s
 DestinationStands (destination.Collect s) = CollectorStands s
 
@@ -40,7 +40,7 @@ pub open_first : (s : Destination) → is_open s ≡ true → has_closed s ≡ f
 open_first (destination.Send s) e = sender_open_first s e
 open_first (destination.Collect s) e = collector_open_first s e
 
-pub begun : (s : Destination) (goes : Router) (a : Stream) (g : ℕ → List PacketView) → DestinationStands s goes a g → has_closed s ≡ false → Begun goes (task_of s) a.rows g
+pub begun : (s : Destination) (goes : Routing) (a : Stream) (g : ℕ → List PacketView) → DestinationStands s goes a g → has_closed s ≡ false → BeganSending goes (task_of s) a.rows g
 begun (destination.Send s) goes a g h e = sender_begun s goes a g h e
 begun (destination.Collect s) goes a g h e = collector_begun s goes a g h e
 

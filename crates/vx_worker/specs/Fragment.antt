@@ -3,16 +3,16 @@ use Rattle.std.specs.Prelude.{ℕ, ◌≡◌, ◌<◌, List}
 use Rattle.vx_values.specs.Values.{Val, Row}
 use Rattle.vx_relations.specs.Relation.{Relation, Meets}
 use Rattle.vx_plan_nodes.specs.Plan.{Plan, scan, unary, binary, exchange, size}
-use Rattle.vx_plan_nodes.specs.Routes.{Router, sends_by}
+use Rattle.vx_plan_nodes.specs.Routes.{Routing, sends_by}
 use Rattle.vx_plan_nodes.specs.Streams.{workers}
 use Rattle.vx_plan_nodes.specs.Types.{types_of}
 use Rattle.vx_ports.specs.Packets.{PacketView}
-use Rattle.vx_ops.specs.Ledger.{Stream, Ledger, Op, scan_op, one_op, two_op, receive, Makes, InputsEnded, Told}
+use Rattle.vx_ops.specs.Ledger.{Stream, Ledger, Op, scan_op, one_op, two_op, receive, Makes, InputsEnded, Abides}
 use Rattle.vx_plan_nodes.specs.Runs.{is_concat}
 
--- what a run is given, beside the plan. relation_of: the relation that the scan with a number reads; sizes: the workers of each size name;
+-- what a run gets beside its plan. relation_of: the relation that the scan with a number reads; sizes: the workers of each size name;
 -- hash: the consumer of a key among n, by the route's name; bounds: those of each range; packet and morsel: their sizes in rows
-pub record Setting : Type 0 where
+pub record RunModel : Type 0 where
   pub catalog : ℕ → Relation
   pub db : ℕ → List Row
   pub relation_of : ℕ → ℕ
@@ -23,7 +23,7 @@ pub record Setting : Type 0 where
   pub morsel : ℕ
 
 -- where rows go: by the hash router, and by the ranges
-abbrev pub goes : Setting → Router
+abbrev pub goes : RunModel → Routing
 goes S = sends_by S.hash S.bounds
 
 -- the operators of a fragment: a leaf has its node's number
@@ -33,7 +33,7 @@ pub data Frag : Type 0 where
   both : Op → Frag → Frag → Frag
 
 -- the fragment at the top of a plan, for the worker at a place
-abbrev pub fragment : Setting → (place : ℕ) → Plan → Frag
+abbrev pub fragment : RunModel → (place : ℕ) → Plan → Frag
 fragment S w (scan n c r m z) = alone n scan_op
 fragment S w (unary n c op p) = above (one_op n op) (fragment S w p)
 fragment S w (binary n c op p q) = both (two_op n op) (fragment S w p) (fragment S w q)
@@ -51,10 +51,10 @@ pub record LeafReads (k : ℕ) (r : Reads) (l : Ledger) : Type 0 where
   pub came : l.came ≡ r.came k
 
 -- each source of a fragment stands as its contract says, and hears what the sources below it gave
-abbrev pub FragTold : Frag → Reads → Stream → Type 0
-FragTold (alone k x) r out = (l : Ledger) × LeafReads k r l × Told x l × (l.gave ≡ out)
-FragTold (above x f) r out = (l : Ledger) × FragTold f r l.left × Told x l × (l.gave ≡ out)
-FragTold (both x f h) r out = (l : Ledger) × FragTold f r l.left × FragTold h r l.right × Told x l × (l.gave ≡ out)
+abbrev pub FragAbides : Frag → Reads → Stream → Type 0
+FragAbides (alone k x) r out = (l : Ledger) × LeafReads k r l × Abides x l × (l.gave ≡ out)
+FragAbides (above x f) r out = (l : Ledger) × FragAbides f r l.left × Abides x l × (l.gave ≡ out)
+FragAbides (both x f h) r out = (l : Ledger) × FragAbides f r l.left × FragAbides h r l.right × Abides x l × (l.gave ≡ out)
 
 -- what a fragment makes of all that its leaves read
 abbrev pub FragMakes : Frag → Reads → List Row → Type 0
@@ -63,7 +63,7 @@ FragMakes (above x f) r out = (l : Ledger) × FragMakes f r l.left.rows × Makes
 FragMakes (both x f h) r out = (l : Ledger) × FragMakes f r l.left.rows × FragMakes h r l.right.rows × Makes x l out
 
 -- the premises of a run: relations that meet what the catalog declares, sizes above 0, a hash router that answers below the number of consumers
-pub record IsSet (S : Setting) : Type 0 where
+pub record IsSet (S : RunModel) : Type 0 where
   pub meets : (r : ℕ) → Meets (S.catalog r) (S.db r)
   pub some_workers : (k : ℕ) → 0 < S.sizes k
   pub in_range : (name : List ℕ) (key : Row) (n : ℕ) → 0 < n → S.hash name key n < n

@@ -1,17 +1,17 @@
 -- An operator stands as the source that it is.
-use Rattle.vx_ops.specs.Ledger.{Ledger, Op, Told}
+use Rattle.vx_ops.specs.Ledger.{Ledger, Op, Abides}
 use Rattle.vx_ops.specs.Turn.{Shape}
 use Rattle.vx_ops.specs.Meaning.{Meaning}
 use Rattle.vx_ops.specs.Scan.{scan_meaning}
 use Rattle.vx_ops.specs.Select.{select_meaning}
 use Rattle.vx_ops.specs.declared.turn.Want.{Want}
-use Rattle.vx_exchange.specs.Receiver.{ReceiverStands, receiver_op, receiver_types, receiver_want, receiver_told}
+use Rattle.vx_exchange.specs.Receiver.{ReceiverStands, receiver_op, receiver_types, receiver_want, receiver_abides}
 use Rattle.vx_exchange.specs.declared.receiver.Receiver.{Receiver}
 use Rattle.vx_worker.specs.declared.operator.Operator.{Operator}
 use Rattle.vx_worker.specs.declared.operator.Operator.TheVariants as operator
 
 abbrev pub receiver_meaning : Receiver → Meaning
-receiver_meaning s = record { stands = ReceiverStands s; op = receiver_op s; types = receiver_types s; want = receiver_want s; told = receiver_told s }
+receiver_meaning s = record { stands = ReceiverStands s; op = receiver_op s; types = receiver_types s; want = receiver_want s; abides = receiver_abides s }
 
 -- what each kind of operator says of itself
 abbrev pub operator_meaning : Operator → Meaning
@@ -32,5 +32,5 @@ abbrev pub operator_want : Operator → Want
 operator_want s = (operator_meaning s).want
 
 -- what is known of it
-pub operator_told : (s : Operator) (l : Ledger) → OperatorStands s l → Told (operator_op s) l
-operator_told s l h = (operator_meaning s).told l h
+pub operator_abides : (s : Operator) (l : Ledger) → OperatorStands s l → Abides (operator_op s) l
+operator_abides s l h = (operator_meaning s).abides l h

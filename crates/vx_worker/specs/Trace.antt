@@ -1,7 +1,7 @@
 -- The trace of a worker, one event, and what an ended worker's trace says.
 use Rattle.std.specs.Prelude.{ℕ, ◌≡◌, ◌==◌, ◌⊎◌, List, [], ◌∷◌, ◌++◌, true, false, Option, Some, None, cond}
 use Rattle.vx_values.specs.Values.{Row}
-use Rattle.vx_plan_nodes.specs.Routes.{Router}
+use Rattle.vx_plan_nodes.specs.Routes.{Routing}
 use Rattle.vx_ports.specs.Packets.{PacketView}
 use Rattle.vx_morsel.specs.Draws.{Draws}
 use Rattle.vx_worker.specs.Morsels.{morsel_of, morsels}
@@ -9,7 +9,7 @@ use Rattle.vx_ops.specs.Ledger.{Stream}
 use Rattle.vx_ops.specs.Turn.{with_packet}
 use Rattle.vx_rows.specs.Lists.{IsBeginning}
 use Rattle.vx_exchange.specs.Tasks.{Task, Finished, Stopped}
-use Rattle.vx_worker.specs.Fragment.{Setting, goes, Frag, Reads, FragTold}
+use Rattle.vx_worker.specs.Fragment.{RunModel, goes, Frag, Reads, FragAbides}
 use Rattle.vx_ops.specs.declared.fault.Code.TheVariants.{NoMemory}
 use Rattle.vx_ops.specs.declared.fault.Fault.{Fault}
 use Rattle.vx_ops.specs.declared.fault.Fault.TheVariants.{Own}
@@ -80,48 +80,48 @@ pub data Fate : Type 0 where
 
 -- it took all that came, its top ended, and all that the top gave went on its way. That each taken list ends with Last follows: Last is in it
 -- (a consumer end that ended had one from each producer), and what flowed through a port has nothing behind Last
-pub record IsWellBy (m : ℕ → ℕ → List Row) (goes : Router) (f : Frag) (task : Task) (t : Trace) : Type 0 where
+pub record IsWellBy (m : ℕ → ℕ → List Row) (goes : Routing) (f : Frag) (task : Task) (t : Trace) : Type 0 where
   pub reads : Reads
   pub reads_are : ReadsAreOf m t reads
   pub out : Stream
-  pub told : FragTold f reads out
+  pub abides : FragAbides f reads out
   pub ended : out.over ≡ Ended
   pub finished : Finished goes task out.rows t.sent
 
 -- its sources stood as they should when it failed: the top gave the fault, or memory was refused to the worker
-pub record HasFailedBy (m : ℕ → ℕ → List Row) (goes : Router) (f : Frag) (task : Task) (x : Fault) (t : Trace) : Type 0 where
+pub record HasFailedBy (m : ℕ → ℕ → List Row) (goes : Routing) (f : Frag) (task : Task) (x : Fault) (t : Trace) : Type 0 where
   pub reads : Reads
   pub reads_begin : ReadsBeginOf m t reads
   pub out : Stream
-  pub told : FragTold f reads out
+  pub abides : FragAbides f reads out
   pub why : (out.over ≡ Failed x) ⊎ IsNoMemory x
   pub stopped : Stopped goes task out.rows t.sent
 
 -- what the trace of an ended worker says, by the morsels of each scan and the routes
-abbrev pub HonestBy : (ℕ → ℕ → List Row) → Router → Frag → Task → Fate → Trace → Type 0
+abbrev pub HonestBy : (ℕ → ℕ → List Row) → Routing → Frag → Task → Fate → Trace → Type 0
 HonestBy m goes f task well t = IsWellBy m goes f task t
 HonestBy m goes f task (failed x) t = HasFailedBy m goes f task x t
 
 -- the morsels of the relation that a scan reads
-abbrev pub scan_morsels : Setting → (scan : ℕ) → (k : ℕ) → List Row
+abbrev pub scan_morsels : RunModel → (scan : ℕ) → (k : ℕ) → List Row
 scan_morsels S n = morsel_of S.morsel (S.db (S.relation_of n))
 
 -- the same in a setting
-abbrev pub ReadsAre : Setting → Trace → Reads → Type 0
+abbrev pub ReadsAre : RunModel → Trace → Reads → Type 0
 ReadsAre S t r = ReadsAreOf (scan_morsels S) t r
 
-abbrev pub ReadsBegin : Setting → Trace → Reads → Type 0
+abbrev pub ReadsBegin : RunModel → Trace → Reads → Type 0
 ReadsBegin S t r = ReadsBeginOf (scan_morsels S) t r
 
-abbrev pub IsWell : Setting → Frag → Task → Trace → Type 0
+abbrev pub IsWell : RunModel → Frag → Task → Trace → Type 0
 IsWell S f task t = IsWellBy (scan_morsels S) (goes S) f task t
 
-abbrev pub HasFailed : Setting → Frag → Task → Fault → Trace → Type 0
+abbrev pub HasFailed : RunModel → Frag → Task → Fault → Trace → Type 0
 HasFailed S f task x t = HasFailedBy (scan_morsels S) (goes S) f task x t
 
-abbrev pub Honest : Setting → Frag → Task → Fate → Trace → Type 0
+abbrev pub Honest : RunModel → Frag → Task → Fate → Trace → Type 0
 Honest S f task fate t = HonestBy (scan_morsels S) (goes S) f task fate t
 
 -- how it ended is open
-abbrev pub Ends : Setting → Frag → Task → Trace → Type 0
+abbrev pub Ends : RunModel → Frag → Task → Trace → Type 0
 Ends S f task t = (fate : Fate) × Honest S f task fate t

@@ -4,7 +4,7 @@ use Rattle.std.specs.List.{All}
 use Rattle.vx_values.specs.Values.{Val, Row}
 use Rattle.vx_rows.specs.Lists.{each_below}
 use Rattle.vx_values.specs.declared.value.ColType.{ColType}
-use Rattle.vx_plan_nodes.specs.Routes.{Router}
+use Rattle.vx_plan_nodes.specs.Routes.{Routing}
 use Rattle.vx_ports.specs.Packets.{fault, PacketView, closes}
 use Rattle.vx_ops.specs.Ledger.{Stream, Ledger, Op}
 use Rattle.vx_ops.specs.Turn.{Shape, with_packet}
@@ -104,7 +104,7 @@ abbrev pub closed_trace : {O S : Type 0} → Worker O S → Trace → Trace
 closed_trace w t = record t { sent = with_all (with_pending t.sent w.pending) w.closing.items }
 
 -- when a worker may have done what a trace says, where rows go as `goes` says, and m says the rows of each scan's morsels
-module _ {O S : Type 0} (OS : O → Ledger → Type 0) (op : O → Op) (SS : S → Router → Stream → (ℕ → List PacketView) → Type 0) (task : S → Task) (goes : Router)
+module _ {O S : Type 0} (OS : O → Ledger → Type 0) (op : O → Op) (SS : S → Routing → Stream → (ℕ → List PacketView) → Type 0) (task : S → Task) (goes : Routing)
     (m : ℕ → ℕ → List Row) where
   -- while it runs: its tree read all that was drawn and taken, and its sending end accepted what the tree gave, and gave what was put and what is still here
   pub record IsRunning (w : Worker O S) (t : Trace) : Type 0 where
@@ -132,6 +132,6 @@ module _ {O S : Type 0} (OS : O → Ledger → Type 0) (op : O → Op) (SS : S �
   WorkerStands w t = IntakeStands w.intake t × StandsIn w.phase w t
 
 -- an ended worker's trace is honest, and one that failed took what each producer sent to its end
-abbrev pub EndsAs : {O S : Type 0} → (op : O → Op) → (task : S → Task) → Router → (m : ℕ → ℕ → List Row) → Outcome → Worker O S → Trace → Type 0
+abbrev pub EndsAs : {O S : Type 0} → (op : O → Op) → (task : S → Task) → Routing → (m : ℕ → ℕ → List Row) → Outcome → Worker O S → Trace → Type 0
 EndsAs op task goes m outcome.Well w t = HonestBy m goes (shape op w.tree) (task w.sender) well t
 EndsAs op task goes m (outcome.Failed f) w t = HonestBy m goes (shape op w.tree) (task w.sender) (failed f) t × IsDrained (sources_of w.intake) t

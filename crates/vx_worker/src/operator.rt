@@ -12,7 +12,7 @@ pub enum Operator {
 }
 
 impl Source for Operator {
-    ghost use Rattle.vx_worker.specs.Operator.{OperatorStands, operator_op, operator_types, operator_want, operator_told};
+    ghost use Rattle.vx_worker.specs.Operator.{OperatorStands, operator_op, operator_types, operator_want, operator_abides};
 
     ghost Stands = { OperatorStands };
 
@@ -22,7 +22,7 @@ impl Source for Operator {
 
     ghost want = { operator_want };
 
-    ghost told = { operator_told };
+    ghost abides = { operator_abides };
 
     fn wants(&self) -> Want {
         match self {

@@ -66,7 +66,7 @@ impl<O: Source, S: Sends> Worker<O, S> {
     ghost use Rattle.std.specs.List.{All};
     ghost use Rattle.vx_values.specs.Values.{Row};
     ghost use Rattle.vx_values.specs.declared.value.ColType.{ColType};
-    ghost use Rattle.vx_plan_nodes.specs.Routes.{Router as Routing};
+    ghost use Rattle.vx_plan_nodes.specs.Routes.{Routing};
     ghost use Rattle.vx_ports.specs.Packets.{PacketView, closes};
     ghost use Rattle.vx_ops.specs.Ledger.{fresh};
     ghost use Rattle.vx_exchange.specs.Tasks.{post_types};

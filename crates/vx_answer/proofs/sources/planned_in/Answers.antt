@@ -2,7 +2,7 @@ use Rattle.std.proofs.Common.{◌≡◌, ℕ, List, Option, Ok, refl, ap, subst}
 use Rattle.vx_relations.specs.Naming.{catalog_text}
 use Rattle.vx_relations.specs.Naming as catalog
 use Rattle.vx_plan_json.specs.Fault as plan
-use Rattle.vx_words.specs.Asked.{paths_are}
+use Rattle.vx_arguments.specs.Asked.{paths_are}
 use Rattle.vx_bytes.specs.Stored.{IfBytes}
 use Rattle.vx_plan_nodes.specs.TypedView.{resolved_of}
 use Rattle.vx_answer.specs.Worded.{is_input, left_of, input_after, told_at, Untaken, plan_text, catalog_told, for_catalog_bytes, for_catalog, for_plan_bytes, for_plan}

@@ -1,4 +1,4 @@
-use Rattle.vx_words.specs.Asked.{asked_is}
+use Rattle.vx_arguments.specs.Asked.{asked_is}
 use Rattle.vx_answer.specs.Worded.{IsTask, IsDone, TaskRefuses, AnswersAsk, for_task, for_asked}
 use Rattle.vx_answer.specs.WordsView.{task_is, IsNotAnswered}
 use Rattle.vx_answer.proofs.WordFacts.{told_text, told_refusal}

@@ -1,5 +1,5 @@
 use Rattle.std.proofs.Common.{◌≡◌, ◌∙◌, sym, ap, map}
-use Rattle.vx_words.specs.Asked.{asked_is}
+use Rattle.vx_arguments.specs.Asked.{asked_is}
 use Rattle.vx_answer.specs.Worded.{named, AsksFor}
 use Rattle.vx_answer.proofs.WordFacts.{words_text, words_refused, said_refused}
 use Rattle.vx_answer.proofs.worded.worded.Goals as goal

@@ -1,8 +1,8 @@
 use Rattle.vx_plan_nodes.specs.TypedView.{plan as whole_plan}
 use Rattle.vx_plan_nodes.specs.Types.{types_of}
 use Rattle.vx_check_rules.specs.Checked.{relations}
-use Rattle.vx_exec.specs.Job.{setting_of}
-use Rattle.vx_exec.proofs.Outcomes.{rounds-told}
+use Rattle.vx_exec.specs.Job.{model_of}
+use Rattle.vx_exec.proofs.Outcomes.{rounds-reported}
 use Rattle.vx_exec.proofs.Finishing.{job-accepted, ready-parts, has-run, first-types, not-passed, comes-done, comes-failed, comes-first}
 use Rattle.vx_exec.proofs.run.run_job.Goals as goal
 
@@ -34,7 +34,7 @@ returns g c =
       done = comes-done end.result c.answer_of.result run c.answer_of.ensures;
       failed = comes-failed end.result c.answer_of.result run c.answer_of.ensures;
       first = comes-first end.result c.answer_of.result run c.answer_of.ensures;
-      rounds = rounds-told hash (setting_of hash j) (whole_plan j.plan.now) c.answer_of.result c.args.limit (record {
+      rounds = rounds-reported hash (model_of hash j) (whole_plan j.plan.now) c.answer_of.result c.args.limit (record {
         begun = parts.result.0.items;
         links = parts.result.1;
         ready = begun.ready;

@@ -2,9 +2,9 @@ use Rattle.std.proofs.Common.{subst, sym, ◌∙◌, inl, IfErr}
 use Rattle.vx_plan_nodes.specs.TypedView.{resolved_of, plan as whole_plan}
 use Rattle.vx_check_rules.specs.CheckedView.{typed_plan}
 use Rattle.vx_exec.specs.Job.{sizes_of}
-use Rattle.vx_exec.specs.Sizes.{Sizes, setting}
-use Rattle.vx_exec.specs.Runs.{InRounds, IsTrueOf, IsFirstTold, IsSetUp, RunFails, for_fault}
-use Rattle.vx_exec.proofs.Outcomes.{rounds-nothing, failed-by, err-told, of-job, ok-told}
+use Rattle.vx_exec.specs.Sizes.{Sizes, run_model}
+use Rattle.vx_exec.specs.Runs.{InRounds, IsTrueOf, IsFirstReported, IsSetUp, RunFails, for_fault}
+use Rattle.vx_exec.proofs.Outcomes.{rounds-nothing, failed-by, err-reported, of-job, ok-reported}
 use Rattle.vx_exec.proofs.run.run_rounds.Goals as goal
 
 pub returns-clause-refused : goal.returns-clause-refused
@@ -22,33 +22,33 @@ pub returns-clause-first : goal.returns-clause-first
 returns-clause-first g c = λ s set.
     let j = c.in_ok-job.job in
     let mine = subst (λ z. IsSetUp (resolved_of z) c.args.database.now c.args.setup.now (sizes_of j)) c.plan.ensures.same c.in_ok-job.ensures.set in
-    of-job (λ p db z. IfErr c.run_job.result (IsFirstTold (setting (g.R.Router.route_of c.args.router.now) p db z) (whole_plan p)))
+    of-job (λ p db z. IfErr c.run_job.result (IsFirstReported (run_model (g.R.Router.route_of c.args.router.now) p db z) (whole_plan p)))
     j (typed_plan c.args.plan.now) c.args.database.now c.args.setup.now s (c.in_ok-job.ensures.plan ∙ c.plan.ensures.same) c.in_ok-job.ensures.database mine set c.run_job.ensures.first
 
 pub returns-in_err-job-clause-first : goal.returns-in_err-job-clause-first
 returns-in_err-job-clause-first g c = λ s set.
     let e = c.in_err-job.field-0.0 in
     let p = typed_plan c.args.plan.now in
-    err-told c.from_residual.result e (IsFirstTold (setting (g.R.Router.route_of c.args.router.now) p c.args.database.now s) (whole_plan p)) c.from_residual.ensures.1
+    err-reported c.from_residual.result e (IsFirstReported (run_model (g.R.Router.route_of c.args.router.now) p c.args.database.now s) (whole_plan p)) c.from_residual.ensures.1
     (inl (c.in_err-job.ensures.memory s (subst (λ z. IsSetUp (resolved_of z) c.args.database.now c.args.setup.now s) (sym c.plan.ensures.same) set)))
 
 pub returns-clause-set : goal.returns-clause-set
 returns-clause-set g c =
     let j = c.in_ok-job.job in
     let mine = subst (λ z. IsSetUp (resolved_of z) c.args.database.now c.args.setup.now (sizes_of j)) c.plan.ensures.same c.in_ok-job.ensures.set in
-    ok-told c.run_job.result ((s : Sizes) × IsSetUp (resolved_of (typed_plan c.args.plan.now)) c.args.database.now c.args.setup.now s) (sizes_of j, mine)
+    ok-reported c.run_job.result ((s : Sizes) × IsSetUp (resolved_of (typed_plan c.args.plan.now)) c.args.database.now c.args.setup.now s) (sizes_of j, mine)
 
 pub returns-clause-rounds : goal.returns-clause-rounds
 returns-clause-rounds g c = λ s set.
     let j = c.in_ok-job.job in
     let hash = g.R.Router.route_of c.args.router.now in
     let mine = subst (λ z. IsSetUp (resolved_of z) c.args.database.now c.args.setup.now (sizes_of j)) c.plan.ensures.same c.in_ok-job.ensures.set in
-    of-job (λ p db z. InRounds hash (setting hash p db z) (whole_plan p) c.args.limit c.run_job.result)
+    of-job (λ p db z. InRounds hash (run_model hash p db z) (whole_plan p) c.args.limit c.run_job.result)
     j (typed_plan c.args.plan.now) c.args.database.now c.args.setup.now s (c.in_ok-job.ensures.plan ∙ c.plan.ensures.same) c.in_ok-job.ensures.database mine set c.run_job.ensures.rounds
 
 pub returns-in_err-job-clause-rounds : goal.returns-in_err-job-clause-rounds
 returns-in_err-job-clause-rounds g c = λ s set.
     let p = typed_plan c.args.plan.now in
     let hash = g.R.Router.route_of c.args.router.now in
-    rounds-nothing hash (setting hash p c.args.database.now s) (whole_plan p) c.from_residual.result c.in_err-job.field-0.0 c.args.limit c.from_residual.ensures.1
+    rounds-nothing hash (run_model hash p c.args.database.now s) (whole_plan p) c.from_residual.result c.in_err-job.field-0.0 c.args.limit c.from_residual.ensures.1
     (c.in_err-job.ensures.memory s (subst (λ z. IsSetUp (resolved_of z) c.args.database.now c.args.setup.now s) (sym c.plan.ensures.same) set))

@@ -5,11 +5,11 @@ use Rattle.std.specs.List.{All}
 use Rattle.vx_steps.specs.Roles.{crew_size}
 use Rattle.vx_steps.specs.Schedules.{IsBadStep}
 use Rattle.vx_exec.specs.Sizes.{group_at}
-use Rattle.vx_exec.specs.Runs.{IsTrueOf, IsFirstTold, IsBadStepOf}
-use Rattle.vx_exec.specs.Job.{setting_of}
+use Rattle.vx_exec.specs.Runs.{IsTrueOf, IsFirstReported, IsBadStepOf}
+use Rattle.vx_exec.specs.Job.{model_of}
 use Rattle.vx_setup.specs.declared.fault.RunFault.{RunFault}
 use Rattle.vx_check_rules.specs.Checked.{relations}
-use Rattle.vx_exec.proofs.Outcomes.{failed-or, names-told, steps-told}
+use Rattle.vx_exec.proofs.Outcomes.{failed-or, names-reported, steps-reported}
 use Rattle.vx_exec.proofs.Finishing.{job-accepted, ready-parts, ready-count, has-run, first-types, not-passed, comes-done, comes-failed, comes-first}
 use Rattle.vx_exec.proofs.run.schedule_job.Goals as goal
 
@@ -44,10 +44,10 @@ returns-in-Ok g c =
     record {
       done = comes-done c.in-Ok.verdict r run c.answer_of.ensures;
       failed = failed-or r (IsTrueOf (resolved_of j.plan.now) j.database.now) bad (comes-failed c.in-Ok.verdict r run c.answer_of.ensures);
-      first = failed-or r (IsFirstTold (setting_of hash j) p) bad (comes-first c.in-Ok.verdict r run c.answer_of.ensures);
-      named = names-told r c.args.steps.now count
+      first = failed-or r (IsFirstReported (model_of hash j) p) bad (comes-first c.in-Ok.verdict r run c.answer_of.ensures);
+      named = names-reported r c.args.steps.now count
           (subst (λ z. All (λ k. k < z) c.args.steps.now) (ready-count j hash parts.result.0 parts.result.1 begun) c.in-Ok.ensures.good);
-      scheduled = steps-told hash (setting_of hash j) p r c.args.steps.now (record {
+      scheduled = steps-reported hash (model_of hash j) p r c.args.steps.now (record {
         begun = parts.result.0.items;
         links = parts.result.1;
         ready = begun.ready;

@@ -12,7 +12,7 @@ use Rattle.vx_worker.specs.Fragment.{goes}
 use Rattle.vx_worker.specs.Intake.{source_of}
 use Rattle.vx_worker.specs.declared.destination.Destination.TheVariants as destination
 use Rattle.vx_exec.specs.Sizes.{group_at}
-use Rattle.vx_exec.specs.Job.{setting_of}
+use Rattle.vx_exec.specs.Job.{model_of}
 use Rattle.vx_exec.proofs.Workers.{producer-does, made-new}
 use Rattle.vx_exec.proofs.worker.producer.Goals as goal
 
@@ -32,6 +32,6 @@ returns-clause-new c =
     c.in_ok-sender.ensures.stands
     (λ hash.
     let bounds = bounds_of (destination.Send c.in_ok-sender.sender) in
-    let P : Post → Type 0 = λ z. RoutesAs z bounds hash (goes (setting_of hash c.args.job.now)) in
-    let K : ExchangeKind → Type 0 = λ z. KindRoutesAs z bounds hash (goes (setting_of hash c.args.job.now)) in
+    let P : Post → Type 0 = λ z. RoutesAs z bounds hash (goes (model_of hash c.args.job.now)) in
+    let K : ExchangeKind → Type 0 = λ z. KindRoutesAs z bounds hash (goes (model_of hash c.args.job.now)) in
     subst P (sym c.in_ok-sender.ensures.post) (subst K (sym c.deal_of-deal.ensures.kind) (c.deal_of-deal.ensures.routes hash bounds)))

@@ -1,5 +1,5 @@
 use Rattle.std.proofs.Common.{◌≡◌, ap, refl, sym, ◌∙◌, subst, true, false, rules}
-use Rattle.vx_exchange.specs.Tasks.{Begun, IsAt}
+use Rattle.vx_exchange.specs.Tasks.{BeganSending, IsAt}
 use Rattle.vx_ops.specs.declared.fault.Over.TheVariants as over
 use Rattle.vx_ops.specs.declared.turn.Polled.TheVariants as polled
 use Rattle.vx_worker.specs.Intake.{IntakeStands}
@@ -25,12 +25,12 @@ returns-in-Err-clause-stands g c =
     let unclosed = g.met.S.Sends.open_first w.sender (going.opens c.requires.goes_on) in (
       x.0,
       x.1,
-      λ goes r t h. loses g.O.Source.Stands g.O.Source.op g.S.Sends.Stands g.S.Sends.task goes (g.G.Morsels.morsel_of c.args.morsels.now) g.met.O.Source.told w v c.no_memory.result (g.S.Sends.post w.sender) t x.0
+      λ goes r t h. loses g.O.Source.Stands g.O.Source.op g.S.Sends.Stands g.S.Sends.task goes (g.G.Morsels.morsel_of c.args.morsels.now) g.met.O.Source.abides w v c.no_memory.result (g.S.Sends.post w.sender) t x.0
           c.fail.ensures.phase c.fail.ensures.pending (c.fail.ensures.closing ∙ going.closing)
           (subst (λ s. IsAt (g.S.Sends.post w.sender) (g.S.Sends.task s)) (sym c.fail.ensures.sender) (g.met.S.Sends.at_post w.sender))
           (ap (Rattle.vx_worker.specs.Trees.shape g.O.Source.op) c.fail.ensures.tree) c.no_memory.ensures
           (subst (λ k. IntakeStands k (Rattle.vx_worker.specs.Trace.added t x.0)) (sym c.fail.ensures.intake) (x.2.stands t h.0)) x.2.is_read c.requires.empty
-          (λ a put s. subst (λ z. Begun goes (g.S.Sends.task z) a.rows put) (sym c.fail.ensures.sender) (g.met.S.Sends.begun w.sender goes a put s unclosed))
+          (λ a put s. subst (λ z. BeganSending goes (g.S.Sends.task z) a.rows put) (sym c.fail.ensures.sender) (g.met.S.Sends.begun w.sender goes a put s unclosed))
           (running g.O.Source.Stands g.O.Source.op g.S.Sends.Stands g.S.Sends.task goes (g.G.Morsels.morsel_of c.args.morsels.now) w t c.requires.running h),
       rw c.fail.ensures.moved (by_fault c.no_memory.result c.requires.running c.fail.ensures.phase),
     )
@@ -90,11 +90,11 @@ returns-in-Fault-clause-stands g c =
     let unclosed = g.met.S.Sends.open_first w.sender (going.opens c.requires.goes_on) in (
       x.0,
       x.1,
-      λ goes r t h. gives-fault g.O.Source.Stands g.O.Source.op g.S.Sends.Stands g.S.Sends.task goes (g.G.Morsels.morsel_of c.args.morsels.now) g.met.O.Source.told g.O.Source.want w v c.fetch.new.self c.turn.new.self c.in-Fault.fault (g.S.Sends.post w.sender) t x.0
+      λ goes r t h. gives-fault g.O.Source.Stands g.O.Source.op g.S.Sends.Stands g.S.Sends.task goes (g.G.Morsels.morsel_of c.args.morsels.now) g.met.O.Source.abides g.O.Source.want w v c.fetch.new.self c.turn.new.self c.in-Fault.fault (g.S.Sends.post w.sender) t x.0
           c.wants-wish.result c.in-Ok.got c.fail-in-Fault.ensures.phase c.fail-in-Fault.ensures.pending (c.fail-in-Fault.ensures.closing ∙ going.closing)
           (subst (λ s. IsAt (g.S.Sends.post w.sender) (g.S.Sends.task s)) (sym c.fail-in-Fault.ensures.sender) (g.met.S.Sends.at_post w.sender))
           c.fail-in-Fault.ensures.tree c.fail-in-Fault.ensures.intake c.wants-wish.ensures x.2 h.0 c.in-Fault.ensures.stands c.requires.empty
-          (λ a put s. subst (λ z. Begun goes (g.S.Sends.task z) a.rows put) (sym c.fail-in-Fault.ensures.sender) (g.met.S.Sends.begun w.sender goes a put s unclosed))
+          (λ a put s. subst (λ z. BeganSending goes (g.S.Sends.task z) a.rows put) (sym c.fail-in-Fault.ensures.sender) (g.met.S.Sends.begun w.sender goes a put s unclosed))
           (running g.O.Source.Stands g.O.Source.op g.S.Sends.Stands g.S.Sends.task goes (g.G.Morsels.morsel_of c.args.morsels.now) w t c.requires.running h),
       rw c.fail-in-Fault.ensures.moved (by_fault c.in-Fault.fault c.requires.running c.fail-in-Fault.ensures.phase),
     )
@@ -155,13 +155,13 @@ returns-in-Err-accept-clause-stands g c =
     let unclosed = c.in-Err-accept.ensures.closed ∙ g.met.S.Sends.open_first w.sender (going.opens c.requires.goes_on) in (
       x.0,
       x.1,
-      λ goes r t h. loses g.O.Source.Stands g.O.Source.op g.S.Sends.Stands g.S.Sends.task goes (g.G.Morsels.morsel_of c.args.morsels.now) g.met.O.Source.told w v c.no_memory-in-Err-accept.result (g.S.Sends.post w.sender) t x.0
+      λ goes r t h. loses g.O.Source.Stands g.O.Source.op g.S.Sends.Stands g.S.Sends.task goes (g.G.Morsels.morsel_of c.args.morsels.now) g.met.O.Source.abides w v c.no_memory-in-Err-accept.result (g.S.Sends.post w.sender) t x.0
           c.fail-in-Err-accept.ensures.phase c.fail-in-Err-accept.ensures.pending (c.fail-in-Err-accept.ensures.closing ∙ going.closing)
           (subst (λ s. IsAt (g.S.Sends.post w.sender) (g.S.Sends.task s)) (sym c.fail-in-Err-accept.ensures.sender)
           (subst (λ p. IsAt p (g.S.Sends.task s')) c.in-Err-accept.ensures.post (g.met.S.Sends.at_post s')))
           (ap (Rattle.vx_worker.specs.Trees.shape g.O.Source.op) c.fail-in-Err-accept.ensures.tree ∙ c.in-Gave.ensures.shape) c.no_memory-in-Err-accept.ensures
           (subst (λ k. IntakeStands k (Rattle.vx_worker.specs.Trace.added t x.0)) (sym c.fail-in-Err-accept.ensures.intake) (x.2.stands t h.0)) x.2.is_read c.requires.empty
-          (λ a put s. subst (λ z. Begun goes (g.S.Sends.task z) a.rows put) (sym c.fail-in-Err-accept.ensures.sender)
+          (λ a put s. subst (λ z. BeganSending goes (g.S.Sends.task z) a.rows put) (sym c.fail-in-Err-accept.ensures.sender)
           (g.met.S.Sends.begun s' goes (record { rows = a.rows; over = over.Failed c.no_memory-in-Err-accept.result }) put (c.in-Err-accept.ensures.err goes a put s c.no_memory-in-Err-accept.result) unclosed))
           (running g.O.Source.Stands g.O.Source.op g.S.Sends.Stands g.S.Sends.task goes (g.G.Morsels.morsel_of c.args.morsels.now) w t c.requires.running h),
       rw c.fail-in-Err-accept.ensures.moved (by_fault c.no_memory-in-Err-accept.result c.requires.running c.fail-in-Err-accept.ensures.phase),
@@ -185,13 +185,13 @@ returns-in-Err-accept-2-clause-stands g c =
     let unclosed = c.in-Err-accept-2.ensures.closed ∙ g.met.S.Sends.open_first w.sender (going.opens c.requires.goes_on) in (
       x.0,
       x.1,
-      λ goes r t h. loses g.O.Source.Stands g.O.Source.op g.S.Sends.Stands g.S.Sends.task goes (g.G.Morsels.morsel_of c.args.morsels.now) g.met.O.Source.told w v c.no_memory-in-Err-accept-2.result (g.S.Sends.post w.sender) t x.0
+      λ goes r t h. loses g.O.Source.Stands g.O.Source.op g.S.Sends.Stands g.S.Sends.task goes (g.G.Morsels.morsel_of c.args.morsels.now) g.met.O.Source.abides w v c.no_memory-in-Err-accept-2.result (g.S.Sends.post w.sender) t x.0
           c.fail-in-Err-accept-2.ensures.phase c.fail-in-Err-accept-2.ensures.pending (c.fail-in-Err-accept-2.ensures.closing ∙ going.closing)
           (subst (λ s. IsAt (g.S.Sends.post w.sender) (g.S.Sends.task s)) (sym c.fail-in-Err-accept-2.ensures.sender)
           (subst (λ p. IsAt p (g.S.Sends.task s')) c.in-Err-accept-2.ensures.post (g.met.S.Sends.at_post s')))
           (ap (Rattle.vx_worker.specs.Trees.shape g.O.Source.op) c.fail-in-Err-accept-2.ensures.tree ∙ c.in-End.ensures.shape) c.no_memory-in-Err-accept-2.ensures
           (subst (λ k. IntakeStands k (Rattle.vx_worker.specs.Trace.added t x.0)) (sym c.fail-in-Err-accept-2.ensures.intake) (x.2.stands t h.0)) x.2.is_read c.requires.empty
-          (λ a put s. subst (λ z. Begun goes (g.S.Sends.task z) a.rows put) (sym c.fail-in-Err-accept-2.ensures.sender)
+          (λ a put s. subst (λ z. BeganSending goes (g.S.Sends.task z) a.rows put) (sym c.fail-in-Err-accept-2.ensures.sender)
           (g.met.S.Sends.begun s' goes (record { rows = a.rows; over = over.Failed c.no_memory-in-Err-accept-2.result }) put (c.in-Err-accept-2.ensures.err goes a put s c.no_memory-in-Err-accept-2.result) unclosed))
           (running g.O.Source.Stands g.O.Source.op g.S.Sends.Stands g.S.Sends.task goes (g.G.Morsels.morsel_of c.args.morsels.now) w t c.requires.running h),
       rw c.fail-in-Err-accept-2.ensures.moved (by_fault c.no_memory-in-Err-accept-2.result c.requires.running c.fail-in-Err-accept-2.ensures.phase),

@@ -34,7 +34,7 @@ returns-then-self-clause-stands g c =
       g.met.W.Wires.idle c.args.wires.now,
       λ goes r t h. (
         h.0,
-        ends-well g.O.Source.Stands g.O.Source.op g.S.Sends.Stands g.S.Sends.task goes m g.met.O.Source.told w c.next.new.self t none c.if-self.true
+        ends-well g.O.Source.Stands g.O.Source.op g.S.Sends.Stands g.S.Sends.task goes m g.met.O.Source.abides w c.next.new.self t none c.if-self.true
             (c.in-None.ensures.drained goes) (running g.O.Source.Stands g.O.Source.op g.S.Sends.Stands g.S.Sends.task goes m w t c.requires.running h),
       ),
       refl,

@@ -1,5 +1,5 @@
 use Rattle.std.proofs.Common.{refl, rules, sym, ◌∙◌, subst}
-use Rattle.vx_exchange.specs.Tasks.{IsAt, Begun}
+use Rattle.vx_exchange.specs.Tasks.{IsAt, BeganSending}
 use Rattle.vx_worker.specs.Trace.{idle}
 use Rattle.vx_worker.specs.Answering.{is_full, by_fault}
 use Rattle.vx_worker.specs.Intake.{IntakeStands}
@@ -22,11 +22,11 @@ returns-in-NoMemory-clause-stands g c =
     let open_sender = going.pending (c.in-Some.to, c.in-Some.packet) here ∙ c.in-NoMemory.ensures.0 in (
       idle,
       c.in-NoMemory.ensures.1,
-      λ goes m t h. refused g.O.Source.Stands g.O.Source.op g.S.Sends.Stands g.S.Sends.task goes m g.met.O.Source.told w v c.no_memory.result (g.S.Sends.post w.sender) t
+      λ goes m t h. refused g.O.Source.Stands g.O.Source.op g.S.Sends.Stands g.S.Sends.task goes m g.met.O.Source.abides w v c.no_memory.result (g.S.Sends.post w.sender) t
           c.in-Some.to c.in-Some.packet c.fail.ensures.phase c.fail.ensures.pending (c.fail.ensures.closing ∙ going.closing)
           (subst (λ s. IsAt (g.S.Sends.post w.sender) (g.S.Sends.task s)) (sym c.fail.ensures.sender) (g.met.S.Sends.at_post w.sender))
           c.fail.ensures.tree c.no_memory.ensures (subst (λ k. IntakeStands k t) (sym c.fail.ensures.intake) h.0) here
-          (λ a put s. subst (λ z. Begun goes (g.S.Sends.task z) a.rows put) (sym c.fail.ensures.sender) (g.met.S.Sends.begun w.sender goes a put s open_sender))
+          (λ a put s. subst (λ z. BeganSending goes (g.S.Sends.task z) a.rows put) (sym c.fail.ensures.sender) (g.met.S.Sends.begun w.sender goes a put s open_sender))
           (running g.O.Source.Stands g.O.Source.op g.S.Sends.Stands g.S.Sends.task goes m w t c.requires.running h),
       rw c.fail.ensures.moved (by_fault c.no_memory.result c.requires.running c.fail.ensures.phase),
     )

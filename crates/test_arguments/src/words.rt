@@ -1,0 +1,99 @@
+//! What no clause says: that the commands are there, and the kinds of what is refused.
+
+use clap::Error;
+use std::alloc::{AllocError, Global};
+use std::test::Fail;
+use vx_arguments::{Asked, asked_for};
+
+// The words of a line.
+fn words_of<'a>(alloc: Global, line: &'a str) -> Result<Vec<&'a str>, AllocError> {
+    let mut words = Vec::new(alloc);
+    for word in line.split(' ') {
+        words.push(word)?;
+    }
+    Ok(words)
+}
+
+// What the words of a line ask for, as a text.
+fn shown(alloc: Global, line: &str) -> Result<String, Fail> {
+    let words = words_of(alloc, line)?;
+    match asked_for(alloc, words.as_slice()) {
+        Ok(Some(asked)) => Ok(described(alloc, &asked)?),
+        Ok(None) => Ok(String::from_str(alloc, "nothing")?),
+        Err(error) => Ok(kind_of(alloc, &error)?),
+    }
+}
+
+fn described(alloc: Global, asked: &Asked<'_>) -> Result<String, AllocError> {
+    format!(in alloc; "{asked:?}")
+}
+
+fn kind_of(alloc: Global, error: &Error) -> Result<String, AllocError> {
+    let kind = error.kind();
+    format!(in alloc; "{kind:?}")
+}
+
+// Lines, and what each asks for.
+const ASKED: [(&str, &str); 6] = [
+    ("volcano", "Bundle"),
+    (
+        "volcano check --catalog c --plan=-",
+        r#"Check(Sources { catalog: "c", plan: "-" })"#,
+    ),
+    (
+        "volcano explain --plan p --catalog c",
+        r#"Explain(Sources { catalog: "c", plan: "p" })"#,
+    ),
+    (
+        "volcano serial --catalog c --plan p --data d",
+        r#"Serial(Sources { catalog: "c", plan: "p" }, "d")"#,
+    ),
+    (
+        "volcano run --catalog c --plan p --data d --morsel 7 many=4 few=2",
+        r#"Run(Sources { catalog: "c", plan: "p" }, "d", Limits { packet: "256", morsel: "7", slack: "8", mode: "rounds", sizes: ["many=4", "few=2"] })"#,
+    ),
+    (
+        "volcano run --catalog c --plan p --data d --mode threads",
+        r#"Run(Sources { catalog: "c", plan: "p" }, "d", Limits { packet: "256", morsel: "1024", slack: "8", mode: "threads", sizes: [] })"#,
+    ),
+];
+
+#[test]
+fn commands_are_there(rt: HostRuntime) -> Result<(), Fail> {
+    for (line, asked) in ASKED {
+        assert_eq!(rt; shown(rt.alloc(), line)?.as_str(), asked);
+    }
+    Ok(())
+}
+
+// Lines that are refused, and the kind of each refusal.
+const REFUSED: [(&str, &str); 8] = [
+    ("volcano check --catalog c", "MissingRequiredArgument"),
+    (
+        "volcano check --catalog c --plan p --data d",
+        "UnknownArgument",
+    ),
+    (
+        "volcano check --catalog c --catalog c --plan p",
+        "ArgumentConflict",
+    ),
+    (
+        "volcano run --catalog c --plan p --data d --packet x",
+        "ValueValidation",
+    ),
+    (
+        "volcano run --catalog c --plan p --data d --slack 4294967296",
+        "ValueValidation",
+    ),
+    ("volcano fly", "InvalidSubcommand"),
+    ("volcano --version", "DisplayVersion"),
+    ("volcano run --help", "DisplayHelp"),
+];
+
+#[test]
+fn words_are_refused(rt: HostRuntime) -> Result<(), Fail> {
+    for (line, kind) in REFUSED {
+        assert_eq!(rt; shown(rt.alloc(), line)?.as_str(), kind);
+    }
+    Ok(())
+}

@@ -1,0 +1,118 @@
+-- What the words of the command line ask for: the commands and options that the program has, and what each comes to.
+use Rattle.std.specs.Prelude.{pos, List, [], ◌∷◌, Option, Some, None, map, option_map, option_and_then, bytes_eq, codes, true, if◌then◌else◌}
+use Rattle.std.specs.Option.{option_map_or}
+use Rattle.clap.specs.Lexer.{usize_max}
+use Rattle.clap.specs.Words.{App, Kinds, Row, Rule, Text, all_of, fault_of, first_of, new_app, new_rule, subcommand_of, with_rule, with_subcommand}
+use Rattle.clap.specs.Simple.{on_top}
+use Rattle.clap.specs.declared.builder.value_parser.ValueParser.TheVariants as parser
+use Rattle.vx_arguments.specs.declared.asked.Sources.{Sources}
+use Rattle.vx_arguments.specs.declared.asked.Limits.{Limits}
+use Rattle.vx_arguments.specs.declared.asked.Asked.{Asked}
+use Rattle.vx_arguments.specs.declared.asked.Asked.TheVariants as asked
+
+-- an option with a path, which has to be given
+abbrev pub path_rule : Text → Rule
+path_rule name = record (new_rule name) { long = Some name; value_names = 1; required = true }
+
+-- an option with a number of 32 bits, which has a default
+abbrev pub number_rule : Text → Text → Rule
+number_rule name default =
+    record (new_rule name) { long = Some name; value_names = 1; defaults = default ∷ []; parser = Some (parser.Signed (pos 0) (pos 4294967295)) }
+
+-- the mode of a run, which has a default
+abbrev pub mode_rule : Rule
+mode_rule = record (new_rule (codes "mode")) { long = Some (codes "mode"); value_names = 1; defaults = codes "rounds" ∷ [] }
+
+-- the words behind all options: each a size name with its number of workers
+abbrev pub sizes_rule : Rule
+sizes_rule = record (new_rule (codes "sizes")) { value_names = 1; range = Some (record { start_inclusive = 0; end_inclusive = usize_max }) }
+
+-- check and explain
+abbrev pub judging_app : Text → App
+judging_app name = with_rule (with_rule (new_app name) (path_rule (codes "catalog"))) (path_rule (codes "plan"))
+
+abbrev pub serial_app : App
+serial_app = with_rule (judging_app (codes "serial")) (path_rule (codes "data"))
+
+abbrev pub run_app : App
+run_app =
+    with_rule (with_rule (with_rule (with_rule (with_rule (with_rule (judging_app (codes "run")) (path_rule (codes "data")))
+    (number_rule (codes "packet") (codes "256"))) (number_rule (codes "morsel") (codes "1024"))) (number_rule (codes "slack") (codes "8"))) mode_rule) sizes_rule
+
+-- the program without its commands, which has a version
+abbrev pub program_app : App
+program_app = on_top (λ s. record s { has_version = true }) (new_app (codes "volcano"))
+
+-- the program
+abbrev pub volcano_app : App
+volcano_app =
+    with_subcommand (with_subcommand (with_subcommand (with_subcommand program_app run_app.top) serial_app.top) (judging_app (codes "check")).top) (judging_app (codes "explain")).top
+
+-- the paths of a catalog and of a plan
+pub record Paths : Type 0 where
+  pub catalog : Text
+  pub plan : Text
+
+-- the texts of a run's numbers and of its mode, and its words NAME=N
+pub record Given : Type 0 where
+  pub packet : Text
+  pub morsel : Text
+  pub slack : Text
+  pub mode : Text
+  pub sizes : List Text
+
+pub data Ask : Type 0 where
+  bundle : Ask
+  check : Paths → Ask
+  explain : Paths → Ask
+  serial : Paths → Text → Ask
+  run : Paths → Text → Given → Ask
+
+-- both options of a catalog and a plan
+abbrev pub paths_of : List Row → Option Paths
+paths_of rows = option_and_then (λ c. option_map (λ p. record { catalog = c; plan = p }) (first_of (codes "plan") rows)) (first_of (codes "catalog") rows)
+
+-- the values of the words behind the options, none where there are none
+abbrev pub sizes_of : List Row → List Text
+sizes_of rows = option_map_or (λ ts. ts) (all_of (codes "sizes") rows) []
+
+abbrev pub given_of : List Row → Option Given
+given_of rows = option_and_then (λ p. option_and_then (λ m. option_and_then (λ s. option_map (λ w. record { packet = p; morsel = m; slack = s; mode = w; sizes = sizes_of rows })
+    (first_of (codes "mode") rows)) (first_of (codes "slack") rows)) (first_of (codes "morsel") rows)) (first_of (codes "packet") rows)
+
+abbrev pub serial_of : List Row → Option Ask
+serial_of rows = option_and_then (λ p. option_map (serial p) (first_of (codes "data") rows)) (paths_of rows)
+
+abbrev pub run_of : List Row → Option Ask
+run_of rows = option_and_then (λ p. option_and_then (λ d. option_map (run p d) (given_of rows)) (first_of (codes "data") rows)) (paths_of rows)
+
+-- what a subcommand with these matches asks for; without one, a bundle
+abbrev pub ask_of : Option (Text × List Row) → Option Ask
+ask_of None = Some bundle
+ask_of (Some p) =
+    if bytes_eq p.0 (codes "run") then run_of p.1
+    else if bytes_eq p.0 (codes "serial") then serial_of p.1
+    else if bytes_eq p.0 (codes "check") then option_map check (paths_of p.1)
+    else if bytes_eq p.0 (codes "explain") then option_map explain (paths_of p.1)
+    else None
+
+-- what the words ask for, the program's name first
+unfoldable pub asked_by : List Text → Option Ask
+asked_by words = ask_of (subcommand_of volcano_app words)
+
+-- the kinds that a refusal of the words may have; none where they are taken
+unfoldable pub faults_of : List Text → Kinds
+faults_of words = fault_of volcano_app words
+
+abbrev pub paths_are : Sources → Paths
+paths_are s = record { catalog = s.catalog.now; plan = s.plan.now }
+
+abbrev pub given_is : Limits → Given
+given_is l = record { packet = l.packet.now; morsel = l.morsel.now; slack = l.slack.now; mode = l.mode.now; sizes = map (λ t. t.now) l.sizes.items }
+
+abbrev pub asked_is : Asked → Ask
+asked_is asked.Bundle = bundle
+asked_is (asked.Check sources) = check (paths_are sources)
+asked_is (asked.Explain sources) = explain (paths_are sources)
+asked_is (asked.Serial sources folder) = serial (paths_are sources) folder.now
+asked_is (asked.Run sources folder limits) = run (paths_are sources) folder.now (given_is limits)

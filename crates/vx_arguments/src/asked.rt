@@ -1,0 +1,152 @@
+//! What the words of the command line ask for.
+
+ghost use Rattle.std.specs.Prelude.{◌≡◌, IfOk, false, map, option_map};
+ghost use Rattle.clap.specs.Words.{FailsBy, fault_of, rows_of, found_of, first_of, all_of, subcommand_of, subcommand_rows_of};
+ghost use Rattle.vx_arguments.specs.Asked.{volcano_app, paths_of, given_of, sizes_of, serial_of, run_of, ask_of, asked_by, faults_of, paths_are, given_is, asked_is};
+
+use crate::command_line::command;
+use clap::{ArgMatches, Error};
+use std::alloc::{AllocError, Global};
+
+/// The paths of a catalog and of a plan; `-` is standard input.
+#[derive(Clone, Copy, Debug)]
+pub struct Sources<'a> {
+    pub catalog: &'a str,
+    pub plan: &'a str,
+}
+
+/// The numbers and the mode of a run as they were written or are by default, and its words `NAME=N`.
+#[derive(Debug, Drop)]
+pub struct Limits<'a> {
+    pub packet: &'a str,
+    pub morsel: &'a str,
+    pub slack: &'a str,
+    pub mode: &'a str,
+    pub sizes: Vec<&'a str>,
+}
+
+/// What the words ask for.
+#[derive(Debug, Drop)]
+pub enum Asked<'a> {
+    /// No command: the answer to a bundle on standard input.
+    Bundle,
+    Check(Sources<'a>),
+    Explain(Sources<'a>),
+    /// With the folder of the tables.
+    Serial(Sources<'a>, &'a str),
+    /// With the folder of the tables.
+    Run(Sources<'a>, &'a str, Limits<'a>),
+}
+
+// The first value of an option.
+fn value<'a>(found: &ArgMatches<'a>, id: &str) -> Option<&'a str>
+    ensures { option_map (λ s. s.now) result ≡ first_of id.now (rows_of (found_of found.now)) }
+{
+    found.get_str(id)
+}
+
+fn sources_in<'a>(found: &ArgMatches<'a>) -> Option<Sources<'a>>
+    ensures { option_map paths_are result ≡ paths_of (rows_of (found_of found.now)) }
+{
+    let catalog = value(found, "catalog")?;
+    let plan = value(found, "plan")?;
+    Some(Sources { catalog, plan })
+}
+
+// The values of the words behind the options.
+fn values<'f, 'a>(found: &'f ArgMatches<'a>, id: &str) -> Option<&'f [&'a str]>
+    ensures { option_map (λ s. map (λ v. v.now) s.now) result ≡ all_of id.now (rows_of (found_of found.now)) }
+{
+    found.get_strs(id)
+}
+
+fn sizes_in<'a>(alloc: Global, found: &ArgMatches<'a>) -> Result<Vec<&'a str>, AllocError>
+    ensures { IfOk result (λ v. map (λ t. t.now) v.items ≡ sizes_of (rows_of (found_of found.now))) }
+{
+    match values(found, "sizes") {
+        Some(words) => Vec::from_slice(alloc, words),
+        None => Ok(Vec::new(alloc)),
+    }
+}
+
+fn limits_in<'a>(alloc: Global, found: &ArgMatches<'a>) -> Result<Option<Limits<'a>>, AllocError>
+    ensures { IfOk result (λ o. option_map given_is o ≡ given_of (rows_of (found_of found.now))) }
+{
+    let Some(packet) = value(found, "packet") else {
+        return Ok(None);
+    };
+    let Some(morsel) = value(found, "morsel") else {
+        return Ok(None);
+    };
+    let Some(slack) = value(found, "slack") else {
+        return Ok(None);
+    };
+    let Some(mode) = value(found, "mode") else {
+        return Ok(None);
+    };
+    let sizes = sizes_in(alloc, found)?;
+    Ok(Some(Limits {
+        packet,
+        morsel,
+        slack,
+        mode,
+        sizes,
+    }))
+}
+
+fn serial_asked<'a>(found: &ArgMatches<'a>) -> Option<Asked<'a>>
+    ensures { option_map asked_is result ≡ serial_of (rows_of (found_of found.now)) }
+{
+    let sources = sources_in(found)?;
+    let data = value(found, "data")?;
+    Some(Asked::Serial(sources, data))
+}
+
+fn run_asked<'a>(alloc: Global, found: &ArgMatches<'a>) -> Result<Option<Asked<'a>>, AllocError>
+    ensures { IfOk result (λ o. option_map asked_is o ≡ run_of (rows_of (found_of found.now))) }
+{
+    let Some(sources) = sources_in(found) else {
+        return Ok(None);
+    };
+    let Some(data) = value(found, "data") else {
+        return Ok(None);
+    };
+    match limits_in(alloc, found)? {
+        Some(limits) => Ok(Some(Asked::Run(sources, data, limits))),
+        None => Ok(None),
+    }
+}
+
+// What clap makes of the words.
+fn matches_in<'a>(alloc: Global, words: &'a [&'a str]) -> Result<ArgMatches<'a>, Error>
+    ensures found { IfOk result (λ m. subcommand_rows_of m ≡ subcommand_of volcano_app (map (λ w. w.now) words.entry.now)) }
+    ensures faults { FailsBy (fault_of volcano_app (map (λ w. w.now) words.entry.now)) result }
+{
+    command(alloc)?.try_get_matches_from(words)
+}
+
+// What matches ask for.
+fn asked_in<'a>(alloc: Global, matches: &ArgMatches<'a>) -> Result<Option<Asked<'a>>, AllocError>
+    ensures { IfOk result (λ o. option_map asked_is o ≡ ask_of (subcommand_rows_of matches.now)) }
+{
+    let Some((name, found)) = matches.subcommand() else {
+        return Ok(Some(Asked::Bundle));
+    };
+    match name {
+        "run" => run_asked(alloc, found),
+        "serial" => Ok(serial_asked(found)),
+        "check" => Ok(sources_in(found).map(Asked::Check)),
+        "explain" => Ok(sources_in(found).map(Asked::Explain)),
+        _ => Ok(None),
+    }
+}
+
+/// What the words ask for, the program's name first. An `Err` is want of memory, a fault of the words, or help.
+#[tactic(auto, unfolding(crate::specs::Asked::asked_by, crate::specs::Asked::faults_of))]
+pub fn asked_for<'a>(alloc: Global, words: &'a [&'a str]) -> Result<Option<Asked<'a>>, Error>
+    ensures asked { IfOk result (λ o. option_map asked_is o ≡ asked_by (map (λ w. w.now) words.entry.now)) }
+    ensures faults { FailsBy (faults_of (map (λ w. w.now) words.entry.now)) result }
+{
+    let matches = matches_in(alloc, words)?;
+    Ok(asked_in(alloc, &matches)?)
+}

@@ -1,0 +1,203 @@
+//! The commands of the program and their options, with the help that they show.
+
+ghost use Rattle.std.specs.Prelude.{◌≡◌, IfOk, false, codes};
+ghost use Rattle.clap.specs.Words.{app_of, rule_of};
+ghost use Rattle.clap.specs.declared.builder.command.Command.TheViews.{out-Command as fields_of};
+ghost use Rattle.vx_arguments.specs.Asked.{path_rule, number_rule, mode_rule, sizes_rule, judging_app, serial_app, run_app, program_app, volcano_app};
+
+use clap::{Arg, Command, value_parser};
+use std::alloc::{AllocError, Global};
+
+// An option with a path, which has to be given.
+fn path_option<'a>(alloc: Global, name: &'a str, kind: &'a str, help: &'a str) -> Arg<'a>
+    ensures rule { rule_of result ≡ path_rule name.entry.now }
+    ensures own { result.global ≡ false }
+{
+    Arg::new(alloc, name)
+        .long(name)
+        .value_name(kind)
+        .help(help)
+        .required(true)
+}
+
+// An option with a number, which has a default.
+fn number_option<'a>(alloc: Global, name: &'a str, default: &'a str, help: &'a str) -> Arg<'a>
+    ensures rule { rule_of result ≡ number_rule name.entry.now default.entry.now }
+    ensures own { result.global ≡ false }
+{
+    Arg::new(alloc, name)
+        .long(name)
+        .value_name("N")
+        .help(help)
+        .default_value(default)
+        .value_parser(value_parser!(u32))
+}
+
+fn mode_option<'a>(alloc: Global) -> Arg<'a>
+    ensures rule { rule_of result ≡ mode_rule }
+    ensures own { result.global ≡ false }
+{
+    Arg::new(alloc, "mode")
+        .long("mode")
+        .value_name("MODE")
+        .help("How the workers take turns: `rounds`, all of them in turn")
+        .default_value("rounds")
+}
+
+fn sizes_argument<'a>(alloc: Global) -> Arg<'a>
+    ensures rule { rule_of result ≡ sizes_rule }
+    ensures own { result.global ≡ false }
+{
+    Arg::new(alloc, "sizes")
+        .value_name("NAME=N")
+        .help("How many workers each size name of the plan stands for, 1 to 64")
+        .num_args(0..)
+}
+
+fn catalog_option<'a>(alloc: Global) -> Arg<'a>
+    ensures rule { rule_of result ≡ path_rule (codes "catalog") }
+    ensures own { result.global ≡ false }
+{
+    path_option(
+        alloc,
+        "catalog",
+        "FILE",
+        "The catalog, as JSON: relations with their columns, keys and orders",
+    )
+}
+
+fn plan_option<'a>(alloc: Global) -> Arg<'a>
+    ensures rule { rule_of result ≡ path_rule (codes "plan") }
+    ensures own { result.global ≡ false }
+{
+    path_option(
+        alloc,
+        "plan",
+        "FILE",
+        "The plan, as JSON: a tree of operators with the notes of the optimizer",
+    )
+}
+
+fn data_option<'a>(alloc: Global) -> Arg<'a>
+    ensures rule { rule_of result ≡ path_rule (codes "data") }
+    ensures own { result.global ≡ false }
+{
+    path_option(
+        alloc,
+        "data",
+        "DIR",
+        "The folder with a text DIR/NAME.csv for each relation NAME that the plan scans",
+    )
+}
+
+// A command that reads a catalog and a plan alone.
+fn judging<'a>(
+    alloc: Global,
+    name: &'a str,
+    about: &'a str,
+    example: &'a str,
+) -> Result<Command<'a>, AllocError>
+    ensures app { IfOk result (λ c. app_of c ≡ judging_app name.entry.now) }
+    ensures local { IfOk result (λ c. (fields_of c).has_globals ≡ false) }
+{
+    Command::new(alloc, name)
+        .about(about)
+        .after_help(example)
+        .arg(catalog_option(alloc))?
+        .arg(plan_option(alloc))
+}
+
+fn serial<'a>(alloc: Global) -> Result<Command<'a>, AllocError>
+    ensures app { IfOk result (λ c. app_of c ≡ serial_app) }
+    ensures local { IfOk result (λ c. (fields_of c).has_globals ≡ false) }
+{
+    judging(
+        alloc,
+        "serial",
+        "Evaluates the plan without its exchanges and prints the rows as CSV; the notes of the plan are not checked",
+        "Example: volcano serial --catalog catalog.json --plan plan.json --data tables",
+    )?
+    .arg(data_option(alloc))
+}
+
+fn run<'a>(alloc: Global) -> Result<Command<'a>, AllocError>
+    ensures app { IfOk result (λ c. app_of c ≡ run_app) }
+    ensures local { IfOk result (λ c. (fields_of c).has_globals ≡ false) }
+{
+    judging(
+        alloc,
+        "run",
+        "Runs a plan that the checker accepts, by many workers, and prints the rows as CSV",
+        "Example: volcano run --catalog catalog.json --plan plan.json --data tables many=4",
+    )?
+    .arg(data_option(alloc))?
+    .arg(number_option(
+        alloc,
+        "packet",
+        "256",
+        "The most rows in a packet, 1 to 4096",
+    ))?
+    .arg(number_option(
+        alloc,
+        "morsel",
+        "1024",
+        "The rows of a morsel of a scan, 1 to 1000000",
+    ))?
+    .arg(number_option(
+        alloc,
+        "slack",
+        "8",
+        "The most packets that wait between two workers, 1 to 1024",
+    ))?
+    .arg(mode_option(alloc))?
+    .arg(sizes_argument(alloc))
+}
+
+fn check<'a>(alloc: Global) -> Result<Command<'a>, AllocError>
+    ensures app { IfOk result (λ c. app_of c ≡ judging_app (codes "check")) }
+    ensures local { IfOk result (λ c. (fields_of c).has_globals ≡ false) }
+{
+    judging(
+        alloc,
+        "check",
+        "Says whether every note of the plan is shown: `accepted`, `accepted total`, or the first note that is not",
+        "Example: volcano check --catalog catalog.json --plan plan.json",
+    )
+}
+
+fn explain<'a>(alloc: Global) -> Result<Command<'a>, AllocError>
+    ensures app { IfOk result (λ c. app_of c ≡ judging_app (codes "explain")) }
+    ensures local { IfOk result (λ c. (fields_of c).has_globals ≡ false) }
+{
+    judging(
+        alloc,
+        "explain",
+        "Prints a plan that the checker accepts as a text, a line for each node",
+        "Example: volcano explain --catalog catalog.json --plan plan.json",
+    )
+}
+
+// The program without its commands.
+fn program<'a>(alloc: Global) -> Command<'a>
+    ensures { app_of result ≡ program_app }
+{
+    Command::new(alloc, "volcano")
+        .version("0.1.0")
+        .about(
+            "Runs query plans in parallel, once each note on them is shown to hold. Without a command it reads a bundle, as JSON, from standard input",
+        )
+        .after_help(
+            "A file - is standard input. Status 0: done; 2: the words are wrong; 3: a file, the catalog, the plan or its data is refused; 4: the machine or the run failed",
+        )
+}
+
+/// The command line of the program.
+pub fn command<'a>(alloc: Global) -> Result<Command<'a>, AllocError>
+    ensures { IfOk result (λ c. app_of c ≡ volcano_app) }
+{
+    program(alloc)
+        .subcommand(run(alloc)?)?
+        .subcommand(serial(alloc)?)?
+        .subcommand(check(alloc)?)?
+        .subcommand(explain(alloc)?)
+}

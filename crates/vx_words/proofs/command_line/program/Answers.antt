@@ -1,9 +1,0 @@
-use Rattle.std.proofs.Common.{◌≡◌, ◌∙◌, ap, true}
-use Rattle.clap.specs.Words.{app_of}
-use Rattle.clap.specs.Simple.{app_of_fields, on_top}
-use Rattle.vx_words.proofs.command_line.program.Goals as goal
-
-pub returns : goal.returns
-returns c =
-    let versioned : app_of c.version.result ≡ on_top (λ s. record s { has_version = true }) (app_of c.new.result) = ap app_of_fields c.version.ensures in
-    ap app_of_fields c.after_help.ensures ∙ (ap app_of_fields c.about.ensures ∙ (versioned ∙ ap (on_top (λ s. record s { has_version = true })) c.new.ensures.app))
