@@ -2,9 +2,12 @@
 
 use std::alloc::Global;
 use std::process::Abort;
+use std::sync::Arc;
 use std::test::Fail;
 use vx_bytes::{MemoryIn, MemoryOut};
-use vx_catalog::{Catalog, Database, Loader, write_rows};
+use vx_catalog::{Catalog, Database, Loader, format_rows, write_rows};
+use vx_rows::Rows;
+use vx_views::ChunkedRows;
 
 /// One relation, with a key and an order.
 pub const KEYED: &str =
@@ -40,8 +43,10 @@ fn answer(
     if database.put(loaded).is_err() {
         return Err(Fail::new("the rows are of this catalog"));
     }
+    let count = database.rows(0).len();
+    let rows = ChunkedRows::of(alloc, database.table(0), 0, count)?;
     let mut writer = MemoryOut::new(alloc, 10, room);
-    match write_rows(alloc, catalog.get(0).names(), database.rows(0), &mut writer) {
+    match write_rows(alloc, catalog.get(0).names(), &rows, &mut writer) {
         Ok(()) => Ok(String::from_utf8(Vec::from_slice(alloc, writer.bytes())?)?),
         Err(fault) => Ok(format!(in alloc; "{fault}")?),
     }
@@ -185,4 +190,30 @@ const OF_TWO_KEYS: [(&[u8], &str); 3] = [
 fn other_relations(rt: HostRuntime) -> Result<(), Fail> {
     compare(&rt, rt.alloc(), ONE_TEXT, &OF_ONE_TEXT)?;
     compare(&rt, rt.alloc(), TWO_KEYS, &OF_TWO_KEYS)
+}
+
+// The rows of the text, shared: nothing else is left of their database.
+fn shared_rows(alloc: Global, catalog: &Catalog) -> Result<Arc<Rows>, Fail> {
+    if catalog.is_empty() {
+        return Err(Fail::new("the catalog has no relations"));
+    }
+    let loaded = Loader::load(alloc, catalog, 0, &mut MemoryIn::new(TEXT, None))?;
+    let mut database = Database::empty(alloc, catalog)?;
+    database.replace(loaded);
+    Ok(Arc::try_clone(database.table(0))?)
+}
+
+#[test]
+fn shared_rows_outlive_their_database(rt: HostRuntime) -> Result<(), Fail> {
+    let alloc = rt.alloc();
+    let catalog = Catalog::read(alloc, KEYED.as_bytes())?;
+    let rows = shared_rows(alloc, &catalog.share()?)?;
+    let names = Catalog::read(alloc, KEYED.as_bytes())?;
+    if names.is_empty() {
+        return Err(Fail::new("the catalog has no relations"));
+    }
+    let seen = ChunkedRows::of(alloc, &rows, 0, rows.len())?;
+    let text = format_rows(alloc, names.get(0).names(), &seen)?;
+    assert_eq!(rt; text.as_slice(), TEXT);
+    Ok(())
 }

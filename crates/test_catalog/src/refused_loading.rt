@@ -7,6 +7,7 @@ use std::process::Abort;
 use std::test::Fail;
 use vx_bytes::{MemoryIn, Real};
 use vx_catalog::{Catalog, CatalogFault, Database, LoadFault, Loader, WriteFault, write_rows};
+use vx_views::ChunkedRows;
 
 const SMALL: &str =
     r#"{"relations":[{"name":"w","columns":[{"name":"a","type":"int"},{"name":"b","type":"text"}],"keys":[["a"]],"order":["b"]}]}"#;
@@ -76,7 +77,9 @@ fn again(alloc: Global, text: &[u8]) -> Result<Vec<u8>, Stopped> {
         return Err(Stopped::Other);
     }
     let mut writer = Real::new(&mut written);
-    write_rows(alloc, catalog.get(0).names(), database.rows(0), &mut writer)?;
+    let count = database.rows(0).len();
+    let rows = ChunkedRows::of(alloc, database.table(0), 0, count)?;
+    write_rows(alloc, catalog.get(0).names(), &rows, &mut writer)?;
     Ok(written)
 }
 

@@ -6,7 +6,7 @@ ghost use Rattle.vx_values.specs.declared.value.ColType.TheVariants as kind;
 use crate::cuts::{all_below, cut, five, whole};
 use std::alloc::{AllocError, Global};
 use std::test::Fail;
-use test_tables::shown;
+use test_tables::{shown, table};
 use vx_views::ChunkedRows;
 
 // The five rows in three chunks: two rows, none, and three.
@@ -109,5 +109,35 @@ fn appended_rows_stand_behind(rt: HostRuntime) -> Result<(), Fail> {
     assert!(rt; rows.is_empty());
     let text = text(alloc, &part(alloc, &taken, 3, 7)?)?;
     assert_eq!(rt; text.as_str(), "4 'd';5 'e';1 'a';2 'b';");
+    Ok(())
+}
+
+// The rows of a shared table from `from` up to `to`, as far as there are such.
+fn of(alloc: Global, from: usize, to: usize) -> Result<ChunkedRows, AllocError> {
+    let base = five(alloc)?;
+    let to = to.min(base.len());
+    let from = from.min(to);
+    Ok(ChunkedRows::of(alloc, &base, from, to)?)
+}
+
+#[test]
+fn a_part_of_a_table_is_one_chunk(rt: HostRuntime) -> Result<(), Fail> {
+    let alloc = rt.alloc();
+    let some = of(alloc, 1, 3)?;
+    assert_eq!(rt; some.chunks().len(), 1);
+    assert_eq!(rt; text(alloc, &some)?.as_str(), "2 'b';3 'c';");
+    assert_eq!(rt; of(alloc, 5, 5)?.chunks().len(), 0);
+    Ok(())
+}
+
+#[test]
+fn a_table_becomes_one_chunk(rt: HostRuntime) -> Result<(), Fail> {
+    let alloc = rt.alloc();
+    let mut rows = ChunkedRows::of_table(alloc, table(alloc, &[(7, "x"), (8, "y")])?)?;
+    assert_eq!(rt; rows.chunks().len(), 1);
+    assert_eq!(rt; text(alloc, &rows)?.as_str(), "7 'x';8 'y';");
+    rows.clear();
+    assert!(rt; rows.is_empty());
+    assert_eq!(rt; rows.types().len(), 2);
     Ok(())
 }

@@ -1,21 +1,21 @@
--- The bytes of a port, counted as they are taken.
+-- The bytes of a port, counted as they are read.
 use Rattle.std.specs.Prelude.{◌≡◌, ℕ, ◌+◌, ◌==◌, ◌≤◌, nat_le, List, length, Option, Some, None, IsSome, if◌then◌else◌, Bool, true, false, ◌&&◌, ◌||◌, not, Result, Err, ◌⊎◌}
 use Rattle.vx_bytes.specs.Ports.{IsOver}
 use Rattle.vx_catalog.specs.Loading.{max_bytes}
 use Rattle.vx_catalog.specs.declared.fault.LoadFault.{LoadFault}
 use Rattle.vx_catalog.specs.declared.fault.LoadFault.TheVariants as fault
 
--- where the text and the bytes that are left of it are known, those that were taken and those that are left are no more than the text
+-- where the text and the bytes that are left of it are known, those that were read and those that are left are no more than the text
 abbrev pub is_within : Option (List ℕ) → Option (List ℕ) → ℕ → Bool
 is_within None rest taken = true
 is_within (Some text) None taken = false
 is_within (Some text) (Some rest) taken = nat_le (taken + length rest) (length text)
 
--- so many bytes of a text were taken where these are left, and at its end none is
+-- so many bytes of a text were read where these are left, and at its end none is
 abbrev pub is_count : List ℕ → List ℕ → ℕ → Bool → Bool
 is_count text rest taken at_end = (length text == taken + length rest) && (not at_end || (length rest == 0))
 
--- the bytes that are left of a known text of which so many were taken
+-- the bytes that are left of a known text of which so many were read
 abbrev pub left_of : Option (List ℕ) → Option (List ℕ) → ℕ → Bool → Option (List ℕ)
 left_of None rest taken at_end = None
 left_of (Some text) None taken at_end = None

@@ -15,7 +15,7 @@ use Rattle.vx_catalog.specs.Number.{number_of}
 use Rattle.vx_catalog.specs.declared.fault.LoadFault.{LoadFault}
 use Rattle.vx_catalog.specs.declared.fault.LoadFault.TheVariants as fault
 
--- what a call refused is what the reading refuses; want of memory excuses, and no reading of bytes fails as a reader does
+-- what a call refused is what the reading refuses; running out of memory excuses, and no reading of bytes fails as a reader does
 abbrev pub Fails : {Y : Type 0} → LoadFault → Result Y LoadFault → Type 0
 Fails fault.NoMemory read = Unit {0}
 Fails fault.ReadFailed read = ⊥
@@ -49,7 +49,7 @@ abbrev pub some_value : ℕ → ℕ → ColType → Option (List ℕ) → Result
 some_value row col type None = Err (fault.BadWidth row)
 some_value row col type (Some field) = value_of row col type field
 
--- the next value of a row, behind those before, in a column of this type
+-- the next value of a row, behind those before it, in a column of this type
 unfoldable pub next_value : ℕ → List (List ℕ) → List Val → ColType → Result Val LoadFault
 next_value row fields prior type = some_value row (length prior) type (field_at fields (length prior))
 
@@ -61,12 +61,12 @@ row_of row types fields = if length fields == length types then walk_onto (next_
 abbrev pub max_rows : ℕ
 max_rows = 100_000_000
 
--- the rows at the prior, and one more
+-- the rows so far, and one more
 unfoldable pub row_added : List ColType → List Row → List (List ℕ) → Result (List Row) LoadFault
 row_added types prior fields =
     if nat_lt (length prior) max_rows then (row_of (length prior) types fields >>= λ row. Ok (prior ++ row ∷ [])) else Err fault.TooLarge
 
--- the rows of these records, behind those before
+-- the rows of these records, behind those so far
 unfoldable pub rows_onto : List ColType → List Row → List (List (List ℕ)) → Result (List Row) LoadFault
 rows_onto types prior [] = Ok prior
 rows_onto types prior (fields ∷ records) = row_added types prior fields >>= λ rows. rows_onto types rows records

@@ -1,4 +1,4 @@
-//! A port whose bytes are counted as they are taken.
+//! A port whose bytes are counted as they are read.
 
 ghost use Rattle.std.specs.Prelude.{◌≡◌, ◌⊎◌, ℕ, List, Option, None, Bool, Err, true, false};
 ghost use Rattle.std.specs.Io.KnownBytes.{IsAtEnd};
@@ -17,13 +17,13 @@ use vx_rows::Rows;
 // The most bytes that a text may have.
 const MAX_BYTES: usize = 1 << 40;
 
-/// Names a port, and what was known of it when its counting began. A type names them, since whoever reads through a
-/// `Counted` tells nothing of it but the bytes that are left.
+/// Names a port, and what was known of it when its counting began. A type names them, since the contracts of what reads through a
+/// `Counted` say nothing of it but the bytes that are left.
 pub trait Origin {
-    // All bytes that it had, where its type tells them.
+    // All bytes that it had, if its type says them.
     ghost text: { Option (List ℕ) };
 
-    // Whether no read of it will fail, as far as its type tells.
+    // Whether no read of it will fail, as far as its type says.
     ghost is_reliable: { Bool };
 
     // The borrow of it.
@@ -38,13 +38,13 @@ impl Origin for Brand {
     ghost name = { 0 };
 }
 
-/// A port that was lent, and is given back: so it is known to be the same port.
+/// A port that was lent, and is returned: so it is known to be the same port.
 #[derive(Drop)]
 pub struct Lent<'a, R> {
     pub port: &'a mut R,
 }
 
-/// A reader of the bytes of a port. It fails where the port does, and once it has given more bytes than a text may have.
+/// A reader of the bytes of a port. It fails where the port does, and once it has returned more bytes than a text may have.
 #[derive(Drop)]
 pub struct Counted<'a, R: ByteIn, T: Origin> {
     port: &'a mut R,
@@ -80,8 +80,8 @@ impl<'a, R: ByteIn, T: Origin> Counted<'a, R, T> {
         Lent { port: self.port }
     }
 
-    // Why a text is not read to its end: it is too large, or else memory ran out. That the port failed goes before
-    // both, and is asked of the port.
+    // Why a text is not read to its end: it is too large, or else memory ran out. A failure of the port goes before
+    // both; the port itself says whether it failed.
     fn refusal(&self) -> LoadFault
         ensures { (result ≡ LoadFault.NoMemory) ⊎ ((result ≡ LoadFault.TooLarge) × IsOver max_bytes T.text) }
     {
@@ -92,7 +92,7 @@ impl<'a, R: ByteIn, T: Origin> Counted<'a, R, T> {
         }
     }
 
-    // Takes all bytes that are left, where they are not too many, and says whether it came to their end.
+    // Reads all bytes that are left, if they are not too many, and returns whether it came to their end.
     fn drain(&mut self) -> bool
         ensures known { StaysKnown (left_of T.text (R.remaining self.old.port.now) self.old.taken self.old.is_at_end) (left_of T.text (R.remaining self.new.port.now) self.new.taken self.new.is_at_end) }
         ensures end { result ≡ true → IsAtEnd (left_of T.text (R.remaining self.new.port.now) self.new.taken self.new.is_at_end) }
@@ -108,7 +108,7 @@ impl<'a, R: ByteIn, T: Origin> Counted<'a, R, T> {
         false
     }
 
-    /// What is answered of a text that was read so. All of its bytes are taken first, unless memory ran out.
+    /// The result for a text that was read so. All of its bytes are read first, unless memory ran out.
     pub fn settle(&mut self, read: Result<Rows, LoadFault>) -> Result<Rows, LoadFault>
         requires { (read ≡ Err LoadFault.NoMemory) ⊎ StaysKnown T.text (left_of T.text (R.remaining self.old.port.now) self.old.taken self.old.is_at_end) }
         ensures { Settles T.text read result }

@@ -1,34 +1,38 @@
 //! Databases.
 
 ghost use Rattle.std.specs.Prelude.{◌≡◌, ◌≢◌, ◌<◌, ◌≤◌, [], map, length, IfOk, IfErr, OnOk, OnErr};
+ghost use Rattle.std.specs.Arc.{arc_value};
 ghost use Rattle.vx_relations.specs.Relation.{Meets};
 ghost use Rattle.vx_relations.specs.Catalog.{relation_at};
 ghost use Rattle.vx_catalog.specs.Database.{rows_at, with_rows, IsDatabase, MeetsAll};
 ghost use Rattle.vx_catalog.specs.Loading.{max_rows};
 
 use crate::loader::Loaded;
+use crate::table::Table;
 use std::alloc::{AllocError, Global};
 use std::marker::Model;
+use std::sync::Arc;
 use vx_relations::Catalog;
 use vx_rows::Rows;
 
 // No rows for each relation of a catalog.
-fn empty_tables(alloc: Global, catalog: &Catalog) -> Result<Vec<Rows>, AllocError>
+fn empty_tables(alloc: Global, catalog: &Catalog) -> Result<Vec<Table>, AllocError>
     ensures database { IfOk result (λ v. IsDatabase catalog.now v.items) }
     ensures empty { IfOk result (λ v. map (λ t. t.rows) v.items ≡ map (λ _. []) catalog.now) }
 {
     let mut tables = Vec::new(alloc);
     for relation in 0..catalog.len() {
-        tables.push(Rows::new(alloc, catalog.get(relation).types())?)?;
+        let rows = Rows::new(alloc, catalog.get(relation).types())?;
+        tables.push(Table::new(alloc, rows)?)?;
     }
     Ok(tables)
 }
 
-/// Rows for each relation of a catalog, 100,000,000 at most for each, which meet all that it declares.
+/// Rows for each relation of a catalog, 100,000,000 at most for each, which meet all that it declares. They are shared: runs read them in place.
 #[derive(Debug)]
 pub struct Database {
     catalog: Catalog,
-    tables: Vec<Rows>,
+    tables: Vec<Table>,
 }
 
 // By hand, so that the drops of its parts are made and proved here once, and not again in each crate that drops one.
@@ -53,13 +57,13 @@ impl Model for Database {
 }
 
 impl Database {
-    /// A database of a copy of a catalog, with every relation empty.
+    /// A database of a catalog, with every relation empty.
     pub fn empty(alloc: Global, catalog: &Catalog) -> Result<Database, AllocError>
         ensures catalog { IfOk result (λ d. d.catalog ≡ catalog.now) }
         ensures empty { IfOk result (λ d. d.rows ≡ map (λ _. []) catalog.now) }
     {
         Ok(Database {
-            catalog: catalog.copy(alloc)?,
+            catalog: catalog.share()?,
             tables: empty_tables(alloc, catalog)?,
         })
     }
@@ -80,10 +84,28 @@ impl Database {
         ensures meets { Meets (relation_at self.now.catalog relation) result.now.rows }
         ensures few { length result.now.rows ≤ max_rows }
     {
-        &self.tables[relation]
+        self.tables[relation].rows()
     }
 
-    /// Replaces the rows of one relation. Those of another catalog come back.
+    /// The rows of a relation, for whoever is to share them.
+    pub fn table(&self, relation: usize) -> &Arc<Rows>
+        requires { relation < length self.now.catalog }
+        ensures types { (arc_value result.now).types ≡ (relation_at self.now.catalog relation).types }
+        ensures rows { (arc_value result.now).rows ≡ rows_at self.now relation }
+    {
+        self.tables[relation].shared()
+    }
+
+    /// Replaces the rows of one relation by those that were loaded for this catalog.
+    pub fn replace(&mut self, loaded: Loaded)
+        requires { loaded.catalog ≡ self.old.catalog }
+        ensures { self.new ≡ with_rows self.old loaded.relation loaded.rows }
+    {
+        let relation = loaded.relation();
+        self.tables[relation] = loaded.into_table();
+    }
+
+    /// Replaces the rows of one relation, after a test of their catalog. Rows of another catalog come back.
     pub fn put(&mut self, loaded: Loaded) -> Result<(), Loaded>
         ensures ok { OnOk result (self.new ≡ with_rows self.old loaded.relation loaded.rows) }
         ensures own { OnOk result (loaded.catalog ≡ self.old.catalog) }
@@ -94,8 +116,7 @@ impl Database {
         if !self.catalog.is_same(loaded.catalog()) {
             return Err(loaded);
         }
-        let relation = loaded.relation();
-        self.tables[relation] = loaded.into_rows();
+        self.replace(loaded);
         Ok(())
     }
 }

@@ -72,7 +72,7 @@ impl<T: Drop> From<AllocFailed<T>> for LoadFault {
     }
 }
 
-/// Why rows were not written. It has no code of its own: the program gives it one.
+/// Why rows were not written. It has no code of its own: the program prints one.
 #[derive(Clone, Copy, Debug, PartialEq, Eq, Error)]
 pub enum WriteFault {
     /// The writer failed. It may have got some of the text.

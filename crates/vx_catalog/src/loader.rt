@@ -18,6 +18,7 @@ ghost use Rattle.vx_catalog.specs.Loading.{Gives, under_header, tested, keys_kep
 use crate::counted::{Counted, Lent, Origin};
 use crate::fault::LoadFault;
 use crate::record::{is_header, next_record, read_rows};
+use crate::table::Table;
 use csv::{ByteRecord, Reader, ReaderBuilder};
 use std::alloc::Global;
 use std::io::Read;
@@ -26,7 +27,7 @@ use vx_bytes::ByteIn;
 use vx_relations::{Catalog, Relation};
 use vx_rows::{Rows, compare_on};
 
-// The rows under a text's header. Want of memory is told where the source underneath failed too.
+// The rows under a text's header. It also fails with NoMemory if the source underneath failed.
 fn read_text<S: Read>(
     alloc: Global,
     relation: &Relation,
@@ -105,9 +106,9 @@ fn test_rows(alloc: Global, relation: &Relation, rows: Rows) -> Result<Rows, Loa
     Ok(rows)
 }
 
-// Loads the rows of a relation from a port into `loaded`, and gives the port back: else nothing would be known of it.
-// All bytes of the port are taken before anything but want of memory is told. That the port failed goes before whatever
-// was loaded, and is asked of the port.
+// Loads the rows of a relation from a port into `loaded`, and returns the port: otherwise nothing would be known of it.
+// All bytes of the port are read before any error but NoMemory is returned. A failure of the port goes before whatever
+// was loaded; the port itself says whether it failed.
 fn load_text<'p, R: ByteIn, T: Origin>(
     alloc: Global,
     relation: &Relation,
@@ -145,7 +146,7 @@ fn load_text<'p, R: ByteIn, T: Origin>(
 pub struct Loaded {
     catalog: Catalog,
     relation: usize,
-    rows: Rows,
+    table: Table,
 }
 
 impl Model for Loaded {
@@ -156,9 +157,9 @@ impl Model for Loaded {
 
     ghost Value = { LoadedRows };
 
-    ghost view = { λ l. record { catalog = l.catalog; relation = l.relation; rows = l.rows.rows } };
+    ghost view = { λ l. record { catalog = l.catalog; relation = l.relation; rows = l.table.rows } };
 
-    ghost invariant = { λ l. IsLoaded l.catalog l.relation l.rows };
+    ghost invariant = { λ l. IsLoaded l.catalog l.relation l.table };
 }
 
 impl Loaded {
@@ -184,15 +185,15 @@ impl Loaded {
         ensures meets { Meets (relation_at self.now.catalog self.now.relation) result.now.rows }
         ensures few { length result.now.rows ≤ max_rows }
     {
-        &self.rows
+        self.table.rows()
     }
 
     /// The rows alone.
-    pub(crate) fn into_rows(self) -> Rows
+    pub(crate) fn into_table(self) -> Table
         ensures loaded { IsLoaded self.catalog self.relation result }
         ensures rows { result.rows ≡ self.rows }
     {
-        self.rows
+        self.table
     }
 }
 
@@ -201,11 +202,11 @@ impl Loaded {
 pub struct Loader;
 
 impl Loader {
-    /// The rows of a relation of a catalog, from all that a reader gives.
+    /// The rows of a relation of a catalog, from all bytes of a reader.
     ///
-    /// That the reader fails, or that it gives more than 2^40 bytes, whichever comes first, goes before all refusals of
-    /// the text, of which all bytes are taken. Then come the header, each row from its front, the keys in declared order,
-    /// and the order of the rows. Records are read as the bytes come. Only want of memory is told without taking the rest.
+    /// A failure of the reader, or more than 2^40 bytes of it, whichever comes first, goes before all errors in the text, which is
+    /// read to its end. Then come the header, each row from its first field on, the keys in declared order, and the order of the
+    /// rows. Records are read as the bytes come. Only running out of memory is reported without reading the rest.
     pub fn load<R: ByteIn>(
         alloc: Global,
         catalog: &Catalog,
@@ -214,8 +215,8 @@ impl Loader {
     ) -> Result<Loaded, LoadFault>
         requires { relation < length catalog.now }
 
-        // Of a reader that tells its bytes and did not fail: these rows, or the first refusal.
-        ensures told { R.has_failed reader.new ≡ false → IfSome (R.remaining reader.old) (λ bytes. Gives (λ l. l.rows) result (load_of (relation_at catalog.now relation) bytes)) }
+        // Of a reader whose bytes are known and that did not fail: these rows, or the first error.
+        ensures known { R.has_failed reader.new ≡ false → IfSome (R.remaining reader.old) (λ bytes. Gives (λ l. l.rows) result (load_of (relation_at catalog.now relation) bytes)) }
         ensures catalog { IfOk result (λ l. l.catalog ≡ catalog.now) }
         ensures relation { IfOk result (λ l. l.relation ≡ relation) }
 
@@ -223,7 +224,7 @@ impl Loader {
         ensures failed { IsErrOf result LoadFault.ReadFailed → R.has_failed reader.new ≡ true }
         ensures broken { R.has_failed reader.new ≡ true → IsErrOf result LoadFault.ReadFailed }
 
-        // A reader that tells that it never fails has not failed.
+        // A reader that is known never to fail has not failed.
         ensures reliable { R.is_reliable reader.old ≡ true → R.has_failed reader.old ≡ false → R.has_failed reader.new ≡ false }
     {
         let mut read = Err(LoadFault::NoMemory);
@@ -231,11 +232,11 @@ impl Loader {
         if lent.port.failed() {
             return Err(LoadFault::ReadFailed);
         }
-        let rows = read?;
+        let table = Table::new(alloc, read?)?;
         Ok(Loaded {
-            catalog: catalog.copy(alloc)?,
+            catalog: catalog.share()?,
             relation,
-            rows,
+            table,
         })
     }
 }

@@ -60,7 +60,7 @@ fn value_in<'r>(
     }
 }
 
-// Makes the values of a record the front, column by column.
+// Puts the values of a record into the open row, column by column.
 fn push_values(row: usize, rows: &mut OpenRows, line: &ByteRecord) -> Result<(), LoadFault>
     requires { rows.old.front ≡ [] }
     ensures types { rows.new.types ≡ rows.old.types }
@@ -76,7 +76,7 @@ fn push_values(row: usize, rows: &mut OpenRows, line: &ByteRecord) -> Result<(),
     Ok(())
 }
 
-// Makes the row with this number the front.
+// Puts the row with this number into the open row.
 #[tactic(auto, unfolding(crate::specs::Loading::row_of))]
 fn push_row(row: usize, rows: &mut OpenRows, line: &ByteRecord) -> Result<(), LoadFault>
     requires { rows.old.front ≡ [] }
@@ -108,13 +108,13 @@ fn push_record(rows: &mut OpenRows, line: &ByteRecord) -> Result<(), LoadFault>
     Ok(())
 }
 
-/// Takes the next record, if there is one. An error may be of the source underneath, which its owner asks.
+/// Reads the next record, if there is one. An error may be of the source underneath, which its owner asks.
 pub fn next_record<S: Read>(
     reader: &mut Reader<S>,
     line: &mut ByteRecord,
 ) -> Result<bool, LoadFault>
     requires { IsPlain reader.old }
-    ensures taken { IfOk result (λ found. Takes S.remaining found reader.old reader.new (fields_of line.new)) }
+    ensures read { IfOk result (λ found. Takes S.remaining found reader.old reader.new (fields_of line.new)) }
     ensures known { OnOk result (StaysKnown (source_of S.remaining reader.old) (source_of S.remaining reader.new)) }
     ensures err { IsOkUnless result LoadFault.NoMemory }
 {
@@ -124,7 +124,7 @@ pub fn next_record<S: Read>(
     Ok(found)
 }
 
-/// The rows of the records that a reader has left. Want of memory is told where the source underneath failed too.
+/// The rows of the records that a reader has left. It also fails with NoMemory if the source underneath failed.
 pub fn read_rows<S: Read>(
     alloc: Global,
     types: &[ColType],
@@ -149,7 +149,7 @@ pub fn read_rows<S: Read>(
     unreachable!()
 }
 
-// A field without a byte order mark at its front.
+// A field without the byte order mark that it begins with.
 #[tactic(auto, unfolding(csv::specs::Reading::strip_bom))]
 fn without_mark(field: &[u8]) -> &[u8]
     ensures { result.now ≡ strip_bom field.now }

@@ -17,17 +17,17 @@ pub ok_bind : {E A B : Type 0} (r : Result A E) (f : A → Result B E) (y : B) �
 ok_bind (Ok x) f y h = (x, refl, h)
 ok_bind (Err e) f y h = cc
 
--- what holds of the front and each step keeps, holds of the whole
+-- what holds of the prior and each step keeps, holds of the whole
 pub walk_keeps : {E A B : Type 0} (step : List B → A → Result B E) (P : List A → List B → Type 0)
-    → ((done : List A) (front : List B) (x : A) (y : B) → P done front → step front x ≡ Ok y → P (done ++ x ∷ []) (front ++ y ∷ []))
-    → (xs : List A) (done : List A) (front : List B) (out : List B) → P done front → walk_onto step front xs ≡ Ok out → P (done ++ xs) out
+    → ((done : List A) (prior : List B) (x : A) (y : B) → P done prior → step prior x ≡ Ok y → P (done ++ x ∷ []) (prior ++ y ∷ []))
+    → (xs : List A) (done : List A) (prior : List B) (out : List B) → P done prior → walk_onto step prior xs ≡ Ok out → P (done ++ xs) out
 unfolding walk_onto
-walk_keeps step P more [] done front out p h =
-    let e : front ≡ out = cc in
+walk_keeps step P more [] done prior out p h =
+    let e : prior ≡ out = cc in
     subst (λ (l : List _). P l out) (sym (append-nil done)) (subst (λ (l : List _). P done l) e p)
-walk_keeps step P more (x ∷ xs) done front out p h =
-    let b = ok_bind (step front x) (λ (y : _). walk_onto step (front ++ y ∷ []) xs) out h in
-    subst (λ (l : List _). P l out) (append_assoc done (x ∷ []) xs) (walk_keeps step P more xs (done ++ x ∷ []) (front ++ b.0 ∷ []) out (more done front x b.0 p b.1) b.2)
+walk_keeps step P more (x ∷ xs) done prior out p h =
+    let b = ok_bind (step prior x) (λ (y : _). walk_onto step (prior ++ y ∷ []) xs) out h in
+    subst (λ (l : List _). P l out) (append_assoc done (x ∷ []) xs) (walk_keeps step P more xs (done ++ x ∷ []) (prior ++ b.0 ∷ []) out (more done prior x b.0 p b.1) b.2)
 
 -- ---- names that stand once
 
@@ -35,23 +35,23 @@ taken_if : {X : Type 0} (b : Bool) (name : List ℕ) (n m : X) (whole : Result X
 taken_if true name n m whole h e = cc
 taken_if false name n m whole h e = let k : n ≡ m = cc in (k, refl)
 
-name_taken : (front : List (List ℕ)) (n m : List ℕ) → name_once front n ≡ Ok m → (n ≡ m) × (list_any (λ y. bytes_eq y n) front ≡ false)
+name_taken : (prior : List (List ℕ)) (n m : List ℕ) → name_once prior n ≡ Ok m → (n ≡ m) × (list_any (λ y. bytes_eq y n) prior ≡ false)
 unfolding name_once
-name_taken front n m h = taken_if (list_any (λ y. bytes_eq y n) front) n n m _ h refl
+name_taken prior n m h = taken_if (list_any (λ y. bytes_eq y n) prior) n n m _ h refl
 
 or_none : (a b : Bool) → a ≡ false → b ≡ false → (a || (b || false)) ≡ false
 or_none true b p q = cc
 or_none false true p q = cc
 or_none false false p q = refl
 
-pub distinct_names_push : (front : List (List ℕ)) (n : List ℕ) → are_distinct_names front ≡ true → list_any (λ y. bytes_eq y n) front ≡ false → are_distinct_names (front ++ n ∷ []) ≡ true
+pub distinct_names_push : (prior : List (List ℕ)) (n : List ℕ) → are_distinct_names prior ≡ true → list_any (λ y. bytes_eq y n) prior ≡ false → are_distinct_names (prior ++ n ∷ []) ≡ true
 distinct_names_push [] n d h = refl
 distinct_names_push (x ∷ xs) n d h =
     let parts = and_parts (not (list_any (bytes_eq x) xs)) (are_distinct_names xs) d in
     let apart = or_parts (bytes_eq x n) (list_any (λ y. bytes_eq y n) xs) h in
     and_from _ _ (not_from_false _ (list_any-append (bytes_eq x) xs (n ∷ []) ∙ or_none _ _ (not-true _ parts.0) apart.0)) (distinct_names_push xs n parts.1 apart.1)
 
-pub distinct_push : (front : List ℕ) (n : ℕ) → are_distinct front ≡ true → list_any (λ y. y == n) front ≡ false → are_distinct (front ++ n ∷ []) ≡ true
+pub distinct_push : (prior : List ℕ) (n : ℕ) → are_distinct prior ≡ true → list_any (λ y. y == n) prior ≡ false → are_distinct (prior ++ n ∷ []) ≡ true
 distinct_push [] n d h = refl
 distinct_push (x ∷ xs) n d h =
     let parts = and_parts (not (list_any (λ y. x == y) xs)) (are_distinct xs) d in
@@ -60,40 +60,40 @@ distinct_push (x ∷ xs) n d h =
 
 names_kept : (ns out : List (List ℕ)) → names_of ns ≡ Ok out → (out ≡ ns) × (are_distinct_names out ≡ true)
 names_kept ns out h =
-    walk_keeps name_once (λ (done : List (List ℕ)) (front : List (List ℕ)). (front ≡ done) × (are_distinct_names front ≡ true))
-    (λ (done : List (List ℕ)) (front : List (List ℕ)) (x : List ℕ) (y : List ℕ) (p : (front ≡ done) × (are_distinct_names front ≡ true)) e.
-    let t = name_taken front x y e in
-    (rw (p.0, ← t.0) refl, rw (← t.0) (distinct_names_push front x p.1 t.1)))
+    walk_keeps name_once (λ (done : List (List ℕ)) (prior : List (List ℕ)). (prior ≡ done) × (are_distinct_names prior ≡ true))
+    (λ (done : List (List ℕ)) (prior : List (List ℕ)) (x : List ℕ) (y : List ℕ) (p : (prior ≡ done) × (are_distinct_names prior ≡ true)) e.
+    let t = name_taken prior x y e in
+    (rw (p.0, ← t.0) refl, rw (← t.0) (distinct_names_push prior x p.1 t.1)))
     ns [] [] out (refl, refl) h
 
 -- ---- columns by their names
 
-column_taken : (names : List (List ℕ)) (front : List ℕ) (n : List ℕ) (c : ℕ) → column_of names front n ≡ Ok c
-    → (c < length names) × (name_at names c ≡ n) × (list_any (λ y. y == c) front ≡ false)
+column_taken : (names : List (List ℕ)) (prior : List ℕ) (n : List ℕ) (c : ℕ) → column_of names prior n ≡ Ok c
+    → (c < length names) × (name_at names c ≡ n) × (list_any (λ y. y == c) prior ≡ false)
 unfolding column_of
-column_taken names front n c h = by_position (position (bytes_eq n) names) refl h
+column_taken names prior n c h = by_position (position (bytes_eq n) names) refl h
   where
-    by_position : (o : Option ℕ) → position (bytes_eq n) names ≡ o → column_once front n o ≡ Ok c → (c < length names) × (name_at names c ≡ n) × (list_any (λ y. y == c) front ≡ false)
+    by_position : (o : Option ℕ) → position (bytes_eq n) names ≡ o → column_once prior n o ≡ Ok c → (c < length names) × (name_at names c ≡ n) × (list_any (λ y. y == c) prior ≡ false)
     by_position None e k = cc
     by_position (Some d) e k =
-        let t = taken_if (list_any (λ y. y == d) front) n d c _ k refl in
+        let t = taken_if (list_any (λ y. y == d) prior) n d c _ k refl in
         let at = position-Some (bytes_eq n) names d [] e in
         (rw (← t.0) at.0, rw (← t.0) (sym ((text_decides n (get_or names d [])).0 at.1)), rw (← t.0) t.1)
 
-record Columns (names done : List (List ℕ)) (front : List ℕ) : Type 0 where
-  below : all_below (length names) front ≡ true
-  apart : are_distinct front ≡ true
-  same : map (name_at names) front ≡ done
+record Columns (names done : List (List ℕ)) (prior : List ℕ) : Type 0 where
+  below : all_below (length names) prior ≡ true
+  apart : are_distinct prior ≡ true
+  same : map (name_at names) prior ≡ done
 
 columns_kept : (names list : List (List ℕ)) (out : List ℕ) → columns_of names list ≡ Ok out → Columns names list out
 columns_kept names list out h =
     walk_keeps (column_of names) (Columns names)
-    (λ (done : List (List ℕ)) (front : List ℕ) (x : List ℕ) (y : ℕ) (p : Columns names done front) e.
-    let t = column_taken names front x y e in
+    (λ (done : List (List ℕ)) (prior : List ℕ) (x : List ℕ) (y : ℕ) (p : Columns names done prior) e.
+    let t = column_taken names prior x y e in
     record {
-      below = list_all-append (λ c. nat_lt c (length names)) front (y ∷ []) ∙ and_from _ _ p.below (and_from _ _ ((Decides-ltb y (length names)).1 t.0) refl);
-      apart = distinct_push front y p.apart t.2;
-      same = map-append (name_at names) front (y ∷ []) ∙ rw (p.same, t.1) refl;
+      below = list_all-append (λ c. nat_lt c (length names)) prior (y ∷ []) ∙ and_from _ _ p.below (and_from _ _ ((Decides-ltb y (length names)).1 t.0) refl);
+      apart = distinct_push prior y p.apart t.2;
+      same = map-append (name_at names) prior (y ∷ []) ∙ rw (p.same, t.1) refl;
     })
     list [] [] out (record { below = refl; apart = refl; same = refl }) h
 
@@ -102,9 +102,9 @@ columns_kept names list out h =
 some_left : {X Y : Type 0} (f : X → Y) (xs : List X) (ys : List Y) → map f xs ≡ ys → nat_lt 0 (length ys) ≡ true → nat_lt 0 (length xs) ≡ true
 some_left f xs ys e h = rw (← length-map xs f, e) h
 
-record Keys (names : List (List ℕ)) (done : List (List (List ℕ))) (front : List (List ℕ)) : Type 0 where
-  keys : list_all (λ k. nat_lt 0 (length k)) done ≡ true → list_all (is_key_of (length names)) front ≡ true
-  same : map (λ k. map (name_at names) k) front ≡ done
+record Keys (names : List (List ℕ)) (done : List (List (List ℕ))) (prior : List (List ℕ)) : Type 0 where
+  keys : list_all (λ k. nat_lt 0 (length k)) done ≡ true → list_all (is_key_of (length names)) prior ≡ true
+  same : map (λ k. map (name_at names) k) prior ≡ done
 
 key_kept : (names key : List (List ℕ)) (out : List ℕ) → columns_of names key ≡ Ok out → nat_lt 0 (length key) ≡ true → is_key_of (length names) out ≡ true
 key_kept names key out h some =
@@ -113,14 +113,14 @@ key_kept names key out h some =
 
 keys_kept : (names : List (List ℕ)) (list : List (List (List ℕ))) (out : List (List ℕ)) → keys_of list names ≡ Ok out → Keys names list out
 keys_kept names list out h =
-    walk_keeps (λ (front : List (List ℕ)) (key : List (List ℕ)). columns_of names key) (Keys names)
-    (λ (done : List (List (List ℕ))) (front : List (List ℕ)) (x : List (List ℕ)) (y : List ℕ) (p : Keys names done front) e.
+    walk_keeps (λ (prior : List (List ℕ)) (key : List (List ℕ)). columns_of names key) (Keys names)
+    (λ (done : List (List (List ℕ))) (prior : List (List ℕ)) (x : List (List ℕ)) (y : List ℕ) (p : Keys names done prior) e.
     record {
       keys = λ all.
           let parts = and_parts (list_all (λ k. nat_lt 0 (length k)) done) _ (sym (list_all-append (λ k. nat_lt 0 (length k)) done (x ∷ [])) ∙ all) in
           let some = and_parts (nat_lt 0 (length x)) true parts.1 in
-          list_all-append (is_key_of (length names)) front (y ∷ []) ∙ and_from _ _ (p.keys parts.0) (and_from _ _ (key_kept names x y e some.0) refl);
-      same = map-append (λ k. map (name_at names) k) front (y ∷ []) ∙ rw (p.same, (columns_kept names x y e).same) refl;
+          list_all-append (is_key_of (length names)) prior (y ∷ []) ∙ and_from _ _ (p.keys parts.0) (and_from _ _ (key_kept names x y e some.0) refl);
+      same = map-append (λ k. map (name_at names) k) prior (y ∷ []) ∙ rw (p.same, (columns_kept names x y e).same) refl;
     })
     list [] [] out (record { keys = λ _. refl; same = refl }) h
 
@@ -180,9 +180,9 @@ relation_made t r h =
 
 -- ---- relations
 
-relation_taken : (front : List Relation) (t : RelationText) (r : Relation) → relation_after front t ≡ Ok r → (relation_of t ≡ Ok r) × (list_any (λ x. bytes_eq x.name t.name) front ≡ false)
+relation_taken : (prior : List Relation) (t : RelationText) (r : Relation) → relation_after prior t ≡ Ok r → (relation_of t ≡ Ok r) × (list_any (λ x. bytes_eq x.name t.name) prior ≡ false)
 unfolding relation_after
-relation_taken front t r h = by_test (list_any (λ (x : Relation). bytes_eq x.name t.name) front) h
+relation_taken prior t r h = by_test (list_any (λ (x : Relation). bytes_eq x.name t.name) prior) h
   where
     by_test : (b : Bool) → cond b (Err (duplicate_name t.name)) (relation_of t) ≡ Ok r → (relation_of t ≡ Ok r) × (b ≡ false)
     by_test true e = cc
@@ -203,26 +203,26 @@ each_at (x ∷ xs) e (suc i) h =
     let k : suc i < suc (length xs) = (Decides-ltb (suc i) (length (x ∷ xs))).0 h in
     each_at xs e.1 i ((Decides-ltb i (length xs)).1 (omega arith))
 
-record Relations (done : List RelationText) (front : List Relation) : Type 0 where
-  is : list_all is_stated done ≡ true → list_all is_small done ≡ true → Each front
-  distinct : are_distinct_names (map (λ (r : Relation). r.name) front) ≡ true
-  says : map text_of front ≡ done
+record Relations (done : List RelationText) (prior : List Relation) : Type 0 where
+  is : list_all is_stated done ≡ true → list_all is_small done ≡ true → Each prior
+  distinct : are_distinct_names (map (λ (r : Relation). r.name) prior) ≡ true
+  says : map text_of prior ≡ done
 
 relations_kept : (ts : List RelationText) (out : List Relation) → walk_onto relation_after [] ts ≡ Ok out → Relations ts out
 relations_kept ts out h =
     walk_keeps relation_after Relations
-    (λ (done : List RelationText) (front : List Relation) (x : RelationText) (y : Relation) (p : Relations done front) e.
-    let t = relation_taken front x y e in
+    (λ (done : List RelationText) (prior : List Relation) (x : RelationText) (y : Relation) (p : Relations done prior) e.
+    let t = relation_taken prior x y e in
     let m = relation_made x y t.0 in
-    let new : list_any (λ n. bytes_eq n y.name) (map (λ (r : Relation). r.name) front) ≡ false =
-    list_any-map (λ n. bytes_eq n y.name) (λ (r : Relation). r.name) front ∙ rw (m.name) t.1 in
+    let new : list_any (λ n. bytes_eq n y.name) (map (λ (r : Relation). r.name) prior) ≡ false =
+    list_any-map (λ n. bytes_eq n y.name) (λ (r : Relation). r.name) prior ∙ rw (m.name) t.1 in
     record {
       is = λ stated small.
           let s = and_parts (list_all is_stated done) _ (sym (list_all-append is_stated done (x ∷ [])) ∙ stated) in
           let z = and_parts (list_all is_small done) _ (sym (list_all-append is_small done (x ∷ [])) ∙ small) in
-          each_push front y (p.is s.0 z.0) (m.is (and_parts (is_stated x) true s.1).0 (and_parts (is_small x) true z.1).0);
-      distinct = rw (map-append (λ (r : Relation). r.name) front (y ∷ [])) (distinct_names_push (map (λ (r : Relation). r.name) front) y.name p.distinct new);
-      says = map-append text_of front (y ∷ []) ∙ rw (p.says, m.says) refl;
+          each_push prior y (p.is s.0 z.0) (m.is (and_parts (is_stated x) true s.1).0 (and_parts (is_small x) true z.1).0);
+      distinct = rw (map-append (λ (r : Relation). r.name) prior (y ∷ [])) (distinct_names_push (map (λ (r : Relation). r.name) prior) y.name p.distinct new);
+      says = map-append text_of prior (y ∷ []) ∙ rw (p.says, m.says) refl;
     })
     ts [] [] out (record { is = λ _ _. tt; distinct = refl; says = refl }) h
 

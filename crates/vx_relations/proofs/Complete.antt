@@ -19,27 +19,27 @@ use Rattle.vx_relations.proofs.NamingFacts.{relation_made}
 
 -- each element comes back of what it looks like
 walk_finds : {E A B : Type 0} (look : B → A) (step : List B → A → Result B E) (whole : List B)
-    → ((front : List B) (y : B) (rest : List B) → front ++ y ∷ rest ≡ whole → step front (look y) ≡ Ok y)
-    → (ys front : List B) → front ++ ys ≡ whole → walk_onto step front (map look ys) ≡ Ok whole
+    → ((prior : List B) (y : B) (rest : List B) → prior ++ y ∷ rest ≡ whole → step prior (look y) ≡ Ok y)
+    → (ys prior : List B) → prior ++ ys ≡ whole → walk_onto step prior (map look ys) ≡ Ok whole
 unfolding walk_onto
-walk_finds look step whole finds [] front e = ap (λ (l : List _). Ok l) (sym (append-nil front) ∙ e)
-walk_finds look step whole finds (y ∷ ys) front e =
-    ap (λ (r : Result _ _). r >>= λ (y : _). walk_onto step (front ++ y ∷ []) (map look ys)) (finds front y ys e)
-    ∙ walk_finds look step whole finds ys (front ++ y ∷ []) (append_assoc front (y ∷ []) ys ∙ e)
+walk_finds look step whole finds [] prior e = ap (λ (l : List _). Ok l) (sym (append-nil prior) ∙ e)
+walk_finds look step whole finds (y ∷ ys) prior e =
+    ap (λ (r : Result _ _). r >>= λ (y : _). walk_onto step (prior ++ y ∷ []) (map look ys)) (finds prior y ys e)
+    ∙ walk_finds look step whole finds ys (prior ++ y ∷ []) (append_assoc prior (y ∷ []) ys ∙ e)
 
 first_of_rest : (a b c : Bool) → (a || (b || c)) ≡ false → b ≡ false
 first_of_rest true b c h = cc
 first_of_rest false true c h = cc
 first_of_rest false false c h = refl
 
-names_apart : (front : List (List ℕ)) (y : List ℕ) (rest : List (List ℕ)) → are_distinct_names (front ++ y ∷ rest) ≡ true → list_any (λ z. bytes_eq z y) front ≡ false
+names_apart : (prior : List (List ℕ)) (y : List ℕ) (rest : List (List ℕ)) → are_distinct_names (prior ++ y ∷ rest) ≡ true → list_any (λ z. bytes_eq z y) prior ≡ false
 names_apart [] y rest h = refl
 names_apart (x ∷ xs) y rest h =
     let parts = and_parts (not (list_any (bytes_eq x) (xs ++ y ∷ rest))) (are_distinct_names (xs ++ y ∷ rest)) h in
     let none = sym (list_any-append (bytes_eq x) xs (y ∷ rest)) ∙ not-true _ parts.0 in
     or_from _ _ (first_of_rest (list_any (bytes_eq x) xs) (bytes_eq x y) (list_any (bytes_eq x) rest) none) (names_apart xs y rest parts.1)
 
-columns_apart : (front : List ℕ) (y : ℕ) (rest : List ℕ) → are_distinct (front ++ y ∷ rest) ≡ true → list_any (λ z. z == y) front ≡ false
+columns_apart : (prior : List ℕ) (y : ℕ) (rest : List ℕ) → are_distinct (prior ++ y ∷ rest) ≡ true → list_any (λ z. z == y) prior ≡ false
 columns_apart [] y rest h = refl
 columns_apart (x ∷ xs) y rest h =
     let parts = and_parts (not (list_any (λ z. x == z) (xs ++ y ∷ rest))) (are_distinct (xs ++ y ∷ rest)) h in
@@ -47,15 +47,15 @@ columns_apart (x ∷ xs) y rest h =
     or_from _ _ (first_of_rest (list_any (λ z. x == z) xs) (x == y) (list_any (λ z. x == z) rest) none) (columns_apart xs y rest parts.1)
 
 -- what all of a list pass, one in the middle passes
-one_passes : {X : Type 0} (p : X → Bool) (front : List X) (y : X) (rest whole : List X) → front ++ y ∷ rest ≡ whole → list_all p whole ≡ true → p y ≡ true
-one_passes p front y rest whole e h =
-    (and_parts (p y) (list_all p rest) (and_parts (list_all p front) (list_all p (y ∷ rest)) (sym (list_all-append p front (y ∷ rest)) ∙ (ap (list_all p) e ∙ h))).1).0
+one_passes : {X : Type 0} (p : X → Bool) (prior : List X) (y : X) (rest whole : List X) → prior ++ y ∷ rest ≡ whole → list_all p whole ≡ true → p y ≡ true
+one_passes p prior y rest whole e h =
+    (and_parts (p y) (list_all p rest) (and_parts (list_all p prior) (list_all p (y ∷ rest)) (sym (list_all-append p prior (y ∷ rest)) ∙ (ap (list_all p) e ∙ h))).1).0
 
 names_found : (names : List (List ℕ)) → are_distinct_names names ≡ true → names_of names ≡ Ok names
 unfolding name_once
 names_found names h =
     let all : walk_onto name_once [] (map (λ (n : List ℕ). n) names) ≡ Ok names =
-    walk_finds (λ (n : List ℕ). n) name_once names (λ front y rest e. rw (names_apart front y rest (ap are_distinct_names e ∙ h)) refl) names [] refl in
+    walk_finds (λ (n : List ℕ). n) name_once names (λ prior y rest e. rw (names_apart prior y rest (ap are_distinct_names e ∙ h)) refl) names [] refl in
     rw map-id at all
 
 other_way : (a b : List ℕ) (r : Bool) → bytes_eq b a ≡ r → bytes_eq a b ≡ false → r ≡ false
@@ -83,16 +83,16 @@ columns_found : (names : List (List ℕ)) (key : List ℕ) → are_distinct_name
 unfolding column_of
 columns_found names key h below apart =
     walk_finds (name_at names) (column_of names) key
-    (λ front y rest e.
-    let there = (Decides-ltb y (length names)).0 (one_passes (λ c. nat_lt c (length names)) front y rest key e below) in
-    rw (position_found names y h there, columns_apart front y rest (ap are_distinct e ∙ apart)) refl)
+    (λ prior y rest e.
+    let there = (Decides-ltb y (length names)).0 (one_passes (λ c. nat_lt c (length names)) prior y rest key e below) in
+    rw (position_found names y h there, columns_apart prior y rest (ap are_distinct e ∙ apart)) refl)
     key [] refl
 
 keys_found : (names : List (List ℕ)) (keys : List (List ℕ)) → are_distinct_names names ≡ true → list_all (is_key_of (length names)) keys ≡ true → keys_of (map (λ (k : List ℕ). map (name_at names) k) keys) names ≡ Ok keys
 keys_found names keys h all =
-    walk_finds (λ (k : List ℕ). map (name_at names) k) (λ (front : List (List ℕ)) (key : List (List ℕ)). columns_of names key) keys
-    (λ front y rest e.
-    let key = and_parts (nat_lt 0 (length y)) _ (one_passes (is_key_of (length names)) front y rest keys e all) in
+    walk_finds (λ (k : List ℕ). map (name_at names) k) (λ (prior : List (List ℕ)) (key : List (List ℕ)). columns_of names key) keys
+    (λ prior y rest e.
+    let key = and_parts (nat_lt 0 (length y)) _ (one_passes (is_key_of (length names)) prior y rest keys e all) in
     let parts = and_parts (all_below (length names) y) (are_distinct y) key.1 in
     columns_found names y h parts.0 parts.1)
     keys [] refl
@@ -128,21 +128,21 @@ small_texts (r ∷ rs) each =
     (small_texts rs (λ i h. each (suc i) (let k = (Decides-ltb i (length rs)).0 h in (Decides-ltb (suc i) (length (r ∷ rs))).1 (omega arith))))
 
 -- a relation of a catalog, in the middle of the others
-in_middle : (front : List Relation) (y : Relation) (rest whole : List Relation) → front ++ y ∷ rest ≡ whole → ((i : ℕ) → nat_lt i (length whole) ≡ true → IsRelation (relation_at whole i)) → IsRelation y
-in_middle front y rest whole e each =
+in_middle : (prior : List Relation) (y : Relation) (rest whole : List Relation) → prior ++ y ∷ rest ≡ whole → ((i : ℕ) → nat_lt i (length whole) ≡ true → IsRelation (relation_at whole i)) → IsRelation y
+in_middle prior y rest whole e each =
     let n = ap length e in
-    let m = length-append front (y ∷ rest) in
-    subst (λ (r : Relation). IsRelation r) (ap (λ (l : List Relation). relation_at l (length front)) (sym e) ∙ get_or-append_seam front y rest _) (each (length front) ((Decides-ltb (length front) (length whole)).1 (omega arith)))
+    let m = length-append prior (y ∷ rest) in
+    subst (λ (r : Relation). IsRelation r) (ap (λ (l : List Relation). relation_at l (length prior)) (sym e) ∙ get_or-append_seam prior y rest _) (each (length prior) ((Decides-ltb (length prior) (length whole)).1 (omega arith)))
 
 relations_found : (catalog : List Relation) → IsCatalog catalog → walk_onto relation_after [] (map text_of catalog) ≡ Ok catalog
 unfolding relation_after
 relations_found catalog is =
     walk_finds text_of relation_after catalog
-    (λ front y rest e.
+    (λ prior y rest e.
     let all = ap (map (λ (r : Relation). r.name)) e in
-    let parts = sym (map-append (λ (r : Relation). r.name) front (y ∷ rest)) ∙ all in
-    let new = sym (list_any-map (λ n. bytes_eq n y.name) (λ (r : Relation). r.name) front) ∙ names_apart (map (λ (r : Relation). r.name) front) y.name (map (λ (r : Relation). r.name) rest) (ap are_distinct_names parts ∙ is.distinct) in
-    rw new (relation_found y (in_middle front y rest catalog e is.each)))
+    let parts = sym (map-append (λ (r : Relation). r.name) prior (y ∷ rest)) ∙ all in
+    let new = sym (list_any-map (λ n. bytes_eq n y.name) (λ (r : Relation). r.name) prior) ∙ names_apart (map (λ (r : Relation). r.name) prior) y.name (map (λ (r : Relation). r.name) rest) (ap are_distinct_names parts ∙ is.distinct) in
+    rw new (relation_found y (in_middle prior y rest catalog e is.each)))
     catalog [] refl
 
 pub catalog_found : (d : Data) (catalog : List Relation) → IsCatalog catalog → States d catalog → catalog_of d ≡ Ok catalog

@@ -1,12 +1,11 @@
--- Tests of names over lists of strings, and copies of such lists.
-use Rattle.std.proofs.Common.{◌≡◌, ℕ, List, [], ◌∷◌, Bool, refl, sym, ap, ◌∙◌, map, position, ◌||◌, String, Vec, Global, string_bytes, bytes_eq, vec_len}
+-- Tests of names over lists of strings.
+use Rattle.std.proofs.Common.{◌≡◌, ℕ, List, [], ◌∷◌, Bool, refl, sym, ap, ◌∙◌, map, position, ◌||◌, String, Vec, Global, string_bytes, bytes_eq}
 use Rattle.std.specs.Bool.{Decides}
 use Rattle.std.specs.Cmp.{unsigned_Decides}
 use Rattle.std.specs.Cmp.Lexicographic.{pointwise}
 use Rattle.std.specs.Cmp.Derive.Mapped.{pointwise-map}
 use Rattle.std.proofs.lemmas.Slice.Eq.{slice_eq-Decides}
-use Rattle.vx_relations.specs.Relation.{Relation}
-use Rattle.std.specs.List.{list_any, position_or_len, AllZip}
+use Rattle.std.specs.List.{list_any, position_or_len}
 use Rattle.std.proofs.lemmas.List.{length-map}
 
 pub list_any-map : {X Y : Type 0} (p : X → Bool) (h : Y → X) (ys : List Y) → list_any p (map h ys) ≡ list_any (λ y. p (h y)) ys
@@ -28,27 +27,3 @@ same_texts xs ys r e = slice_eq-Decides text_decides (map string_bytes xs) (map 
 
 pub same_lists : (xs ys : List (Vec ℕ Global)) (r : Bool) → r ≡ pointwise (λ (s t : Vec ℕ Global). bytes_eq s.items t.items) xs ys → Decides r (map (λ (k : Vec ℕ Global). k.items) xs ≡ map (λ (k : Vec ℕ Global). k.items) ys)
 same_lists xs ys r e = slice_eq-Decides text_decides (map (λ (k : Vec ℕ Global). k.items) xs) (map (λ (k : Vec ℕ Global). k.items) ys) r (e ∙ sym (pointwise-map (λ (k : Vec ℕ Global). k.items) bytes_eq xs ys))
-
-pub copied_texts : (xs ys : List (String Global)) → AllZip (λ (s t : String Global). string_bytes t ≡ string_bytes s) xs ys → map string_bytes ys ≡ map string_bytes xs
-copied_texts [] [] h = refl
-copied_texts [] (y ∷ ys) h = absurd h
-copied_texts (x ∷ xs) [] h = absurd h
-copied_texts (x ∷ xs) (y ∷ ys) h = rw (h.0, copied_texts xs ys h.1) refl
-
-pub copied : {X : Type 0} (xs ys : List X) → AllZip (λ (s t : X). t ≡ s) xs ys → ys ≡ xs
-copied [] [] h = refl
-copied [] (y ∷ ys) h = absurd h
-copied (x ∷ xs) [] h = absurd h
-copied (x ∷ xs) (y ∷ ys) h = rw (h.0, copied xs ys h.1) refl
-
-pub copied_lists : (xs ys : List (Vec ℕ Global)) → AllZip (λ (v w : Vec ℕ Global). AllZip (λ (s t : ℕ). t ≡ s) v.items w.items × (vec_len w ≡ vec_len v)) xs ys → map (λ (k : Vec ℕ Global). k.items) ys ≡ map (λ (k : Vec ℕ Global). k.items) xs
-copied_lists [] [] h = refl
-copied_lists [] (y ∷ ys) h = absurd h
-copied_lists (x ∷ xs) [] h = absurd h
-copied_lists (x ∷ xs) (y ∷ ys) h = rw (copied x.items y.items h.0.0, copied_lists xs ys h.1) refl
-
--- a relation from its parts
-pub same_parts : (a b : Relation) → a.name ≡ b.name → a.names ≡ b.names → a.types ≡ b.types → a.keys ≡ b.keys → a.order ≡ b.order → a ≡ b
-same_parts a b n ns ts ks o =
-    let e : a ≡ record { name = a.name; names = a.names; types = a.types; keys = a.keys; order = a.order } = refl in
-    e ∙ rw (n, ns, ts, ks, o) refl

@@ -33,12 +33,12 @@ if_some false o y h = cc
 
 -- what is read of each value passes a test that each reading passes
 each_passes : {B : Type 0} (read : Data → Option B) (p : B → Bool) → ((x : Data) (y : B) → read x ≡ Some y → p y ≡ true)
-    → (xs : List Data) (front : List B) (out : List B) → list_all p front ≡ true → each_onto read front xs ≡ Some out → list_all p out ≡ true
+    → (xs : List Data) (prior : List B) (out : List B) → list_all p prior ≡ true → each_onto read prior xs ≡ Some out → list_all p out ≡ true
 unfolding each_onto
-each_passes read p passes [] front out h e = let k : front ≡ out = cc in rw (← k) h
-each_passes read p passes (x ∷ xs) front out h e =
-    let t = then_some (λ (y : _). each_onto read (front ++ y ∷ []) xs) (read x) out e in
-    each_passes read p passes xs (front ++ t.0 ∷ []) out (list_all-append p front (t.0 ∷ []) ∙ and_from _ _ h (and_from _ _ (passes x t.0 t.1) refl)) t.2
+each_passes read p passes [] prior out h e = let k : prior ≡ out = cc in rw (← k) h
+each_passes read p passes (x ∷ xs) prior out h e =
+    let t = then_some (λ (y : _). each_onto read (prior ++ y ∷ []) xs) (read x) out e in
+    each_passes read p passes xs (prior ++ t.0 ∷ []) out (list_all-append p prior (t.0 ∷ []) ∙ and_from _ _ h (and_from _ _ (passes x t.0 t.1) refl)) t.2
 
 is_some_length : (n : ℕ) → nat_lt 0 (suc n) ≡ true
 is_some_length n = (Decides-ltb 0 (suc n)).1 (omega arith)
@@ -69,13 +69,13 @@ entries_some d ds h = by_list (as_list d) h
     by_list : (o : Option (List Data)) → option_and_then some_entry o ≡ Some ds → nat_lt 0 (length ds) ≡ true
     by_list o e = let t = then_some some_entry o ds e in by_entries t.0 t.2
 
-each_long : {B : Type 0} (read : Data → Option B) (xs : List Data) (front : List B) (out : List B) → each_onto read front xs ≡ Some out → length out ≡ length front + length xs
+each_long : {B : Type 0} (read : Data → Option B) (xs : List Data) (prior : List B) (out : List B) → each_onto read prior xs ≡ Some out → length out ≡ length prior + length xs
 unfolding each_onto
-each_long read [] front out e = let k : front ≡ out = cc in rw (← k) (omega arith)
-each_long read (x ∷ xs) front out e =
-    let t = then_some (λ (y : _). each_onto read (front ++ y ∷ []) xs) (read x) out e in
-    let l = each_long read xs (front ++ t.0 ∷ []) out t.2 in
-    let m = length-append front (t.0 ∷ []) in
+each_long read [] prior out e = let k : prior ≡ out = cc in rw (← k) (omega arith)
+each_long read (x ∷ xs) prior out e =
+    let t = then_some (λ (y : _). each_onto read (prior ++ y ∷ []) xs) (read x) out e in
+    let l = each_long read xs (prior ++ t.0 ∷ []) out t.2 in
+    let m = length-append prior (t.0 ∷ []) in
     omega (arith, l, m)
 
 entries_long : {B : Type 0} (read : Data → Option B) (d : Data) (out : List B) → option_and_then (each_onto read []) (entries d) ≡ Some out → nat_lt 0 (length out) ≡ true

@@ -1,4 +1,4 @@
--- The form of a catalog in JSON: a value of the form is read, with columns by their names, and any other is None.
+-- The form of a catalog in JSON: a value of the form is read, with columns by their names; any other is `None`.
 use Rattle.std.specs.Prelude.{ℕ, List, [], ◌∷◌, Option, Some, None, option_map, option_and_then, bytes_eq, codes, if◌then◌else◌}
 use Rattle.serde_json.specs.Data.{Data}
 use Rattle.serde_json.specs.Find.{get, as_str}

@@ -1,4 +1,4 @@
--- A catalog with columns by position, or the first reason why a value is none.
+-- A catalog with columns by position, or the first reason why a value is not one.
 use Rattle.std.specs.Prelude.{◌≡◌, ◌↔◌, ℕ, ◌==◌, nat_le, ◌&&◌, Bool, List, [], ◌∷◌, map, length, position, bytes_eq, string_bytes, slice_index_or, Option, Some, None, Result, Ok, Err, if◌then◌else◌}
 use Rattle.std.specs.List.{list_all, list_any}
 use Rattle.std.specs.Str.{is_utf8}
@@ -38,21 +38,21 @@ abbrev pub Gives : {X Y : Type 0} → (X → Y) → Result X CatalogFault → Re
 Gives look (Ok x) read = read ≡ Ok (look x)
 Gives look (Err e) read = Fails e read
 
--- a name that is none of those before it
+-- a name that differs from each before it
 unfoldable pub name_once : List (List ℕ) → List ℕ → Result (List ℕ) Refusal
-name_once front name = if list_any (λ y. bytes_eq y name) front then Err (duplicate_name name) else Ok name
+name_once prior name = if list_any (λ y. bytes_eq y name) prior then Err (duplicate_name name) else Ok name
 
 -- the names, where none stands twice
 abbrev pub names_of : List (List ℕ) → Result (List (List ℕ)) Refusal
 names_of names = walk_onto name_once [] names
 
 abbrev pub column_once : List ℕ → List ℕ → Option ℕ → Result ℕ Refusal
-column_once front name None = Err (unknown_column name)
-column_once front name (Some c) = if list_any (λ y. y == c) front then Err (duplicate_name name) else Ok c
+column_once prior name None = Err (unknown_column name)
+column_once prior name (Some c) = if list_any (λ y. y == c) prior then Err (duplicate_name name) else Ok c
 
--- the column of this name, which is none of those before it
+-- the column of this name, which differs from each before it
 unfoldable pub column_of : List (List ℕ) → List ℕ → List ℕ → Result ℕ Refusal
-column_of names front name = column_once front name (position (bytes_eq name) names)
+column_of names prior name = column_once prior name (position (bytes_eq name) names)
 
 -- the columns of these names, where none stands twice
 abbrev pub columns_of : List (List ℕ) → List (List ℕ) → Result (List ℕ) Refusal
@@ -60,7 +60,7 @@ columns_of names list = walk_onto (column_of names) [] list
 
 -- the columns of each key
 abbrev pub keys_of : List (List (List ℕ)) → List (List ℕ) → Result (List (List ℕ)) Refusal
-keys_of keys names = walk_onto (λ front key. columns_of names key) [] keys
+keys_of keys names = walk_onto (λ prior key. columns_of names key) [] keys
 
 -- a relation's columns, then its keys, then its order
 unfoldable pub relation_of : RelationText → Result Relation Refusal
@@ -70,7 +70,7 @@ relation_of t =
 
 -- a relation whose name no earlier one has
 unfoldable pub relation_after : List Relation → RelationText → Result Relation Refusal
-relation_after front t = if list_any (λ r. bytes_eq r.name t.name) front then Err (duplicate_name t.name) else relation_of t
+relation_after prior t = if list_any (λ r. bytes_eq r.name t.name) prior then Err (duplicate_name t.name) else relation_of t
 
 -- at most 64 columns and 16 keys
 abbrev pub is_small : RelationText → Bool

@@ -8,5 +8,5 @@ abbrev pub ◌>>=◌ : {E A B : Type 0} → Result A E → (A → Result B E) �
 
 -- what `step` makes of each of these elements and of what was made before it, behind what was made already; or the first refusal
 unfoldable pub walk_onto : {E A B : Type 0} → (List B → A → Result B E) → List B → List A → Result (List B) E
-walk_onto step front [] = Ok front
-walk_onto step front (x ∷ xs) = step front x >>= λ y. walk_onto step (front ++ y ∷ []) xs
+walk_onto step prior [] = Ok prior
+walk_onto step prior (x ∷ xs) = step prior x >>= λ y. walk_onto step (prior ++ y ∷ []) xs

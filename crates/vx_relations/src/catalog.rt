@@ -12,13 +12,41 @@ use crate::relation::Relation;
 use serde_json::{Category, Value};
 use std::alloc::{AllocError, Global};
 use std::marker::Model;
+use std::sync::Arc;
+
+// The relations of a catalog, which its handles share.
+#[derive(Debug, Drop)]
+struct Relations {
+    list: Vec<Relation>,
+}
+
+impl Model for Relations {
+    ghost use Rattle.std.specs.Prelude.{List};
+    ghost use Rattle.vx_relations.specs.Relation.{Relation};
+    ghost use Rattle.vx_relations.specs.Catalog.{IsCatalog};
+
+    ghost Value = { List Relation };
+
+    ghost view = { λ r. r.list.items };
+
+    ghost invariant = { λ r. IsCatalog r.list.items };
+}
+
+impl Relations {
+    fn as_slice(&self) -> &[Relation]
+        ensures value { result.now ≡ self.now }
+        ensures fine { IsCatalog self.now }
+    {
+        self.list.as_slice()
+    }
+}
 
 /// What is known of relations before their rows are: at most 256 relations, with names of their own.
 ///
-/// Keys and orders name columns of their relations, each once.
+/// Keys and orders name columns of their relations, each once. A catalog is a handle: `share` makes another on the same relations.
 #[derive(Debug)]
 pub struct Catalog {
-    relations: Vec<Relation>,
+    relations: Arc<Relations>,
 }
 
 // By hand, so that the drops of its parts are made and proved here once, and not again in each crate that drops one.
@@ -30,25 +58,12 @@ impl Drop for Catalog {
 
 impl Model for Catalog {
     ghost use Rattle.std.specs.Prelude.{List};
+    ghost use Rattle.std.specs.Arc.{arc_value};
     ghost use Rattle.vx_relations.specs.Relation.{Relation};
-    ghost use Rattle.vx_relations.specs.Catalog.{IsCatalog};
 
     ghost Value = { List Relation };
 
-    ghost view = { λ c. c.relations.items };
-
-    ghost invariant = { λ c. IsCatalog c.relations.items };
-}
-
-// Copies of relations.
-fn copies(alloc: Global, relations: &[Relation]) -> Result<Vec<Relation>, AllocError>
-    ensures { IfOk result (λ v. v.items ≡ relations.now) }
-{
-    let mut copies = Vec::new(alloc);
-    for relation in relations {
-        copies.push(relation.copy(alloc)?)?;
-    }
-    Ok(copies)
+    ghost view = { λ c. arc_value c.relations };
 }
 
 // Whether these are the same relations in the same order.
@@ -66,7 +81,25 @@ fn are_same(relations: &[Relation], others: &[Relation]) -> bool
     true
 }
 
+// The number of the first relation of this name.
+fn position_of(relations: &[Relation], name: &str) -> Option<usize>
+    ensures { result ≡ position (λ r. bytes_eq name.now r.name) relations.now }
+{
+    relations.iter().position(|r| name == r.name())
+}
+
 impl Catalog {
+    // A catalog of relations that keep its rules.
+    fn of_list(alloc: Global, list: Vec<Relation>) -> Result<Catalog, AllocError>
+        requires { IsCatalog list.items }
+        ensures { IfOk result (λ c. c ≡ list.items) }
+    {
+        match Arc::new(alloc, Relations { list }) {
+            Ok(relations) => Ok(Catalog { relations }),
+            Err(_) => Err(AllocError),
+        }
+    }
+
     /// The catalog that a JSON value is. Its form comes first, then its limits, then its names,
     /// relation by relation: its name, the names of its columns, its keys and its order.
     #[tactic(auto, unfolding(crate::specs::Naming::catalog_of), using(crate::proofs::SameFacts::misread_fails))]
@@ -78,7 +111,7 @@ impl Catalog {
             return Err(CatalogFault::TooLarge);
         }
         let relations = relations_of(alloc, texts.as_slice())?;
-        Ok(Catalog { relations })
+        Ok(Catalog::of_list(alloc, relations)?)
     }
 
     /// The catalog that a JSON text is.
@@ -100,14 +133,14 @@ impl Catalog {
         ensures count { result ≡ length self.now }
         ensures fine { IsCatalog self.now }
     {
-        self.relations.len()
+        self.as_slice().len()
     }
 
     /// Whether there is no relation.
     pub fn is_empty(&self) -> bool
         ensures { IsTrue result ↔ (length self.now ≡ 0) }
     {
-        self.relations.is_empty()
+        self.as_slice().is_empty()
     }
 
     /// The relation with this number, counted from 0.
@@ -116,29 +149,36 @@ impl Catalog {
         ensures value { result.now ≡ relation_at self.now relation }
         ensures fine { IsRelation result.now }
     {
-        &self.relations[relation]
+        &self.as_slice()[relation]
     }
 
     /// The number of the relation of this name.
     pub fn find(&self, name: &str) -> Option<usize>
         ensures { result ≡ position (λ r. bytes_eq name.now r.name) self.now }
     {
-        self.relations.iter().position(|r| name == r.name())
+        position_of(self.as_slice(), name)
     }
 
     /// Whether the other has the same relations in the same order.
     pub fn is_same(&self, other: &Catalog) -> bool
         ensures { IsTrue result ↔ (self.now ≡ other.now) }
     {
-        are_same(self.relations.as_slice(), other.relations.as_slice())
+        are_same(self.as_slice(), other.as_slice())
     }
 
-    /// The same catalog in memory of its own.
-    pub fn copy(&self, alloc: Global) -> Result<Catalog, AllocError>
+    /// Another handle on the same relations. Only 2^63 handles would make it fail.
+    pub fn share(&self) -> Result<Catalog, AllocError>
         ensures { IfOk result (λ c. c ≡ self.now) }
     {
-        let relations = copies(alloc, self.relations.as_slice())?;
+        let relations = Arc::try_clone(&self.relations)?;
         Ok(Catalog { relations })
+    }
+
+    fn as_slice(&self) -> &[Relation]
+        ensures value { result.now ≡ self.now }
+        ensures fine { IsCatalog self.now }
+    {
+        self.relations.as_slice()
     }
 }
 

@@ -14,11 +14,11 @@ use vx_rows::ColType;
 
 // A copy of a name that no earlier one is.
 #[tactic(auto, unfolding(crate::specs::Naming::name_once))]
-fn name_once(alloc: Global, front: &[String], name: &str) -> Result<String, CatalogFault>
-    ensures { Gives string_bytes result (name_once (map string_bytes front.now) name.now) }
+fn name_once(alloc: Global, prior: &[String], name: &str) -> Result<String, CatalogFault>
+    ensures { Gives string_bytes result (name_once (map string_bytes prior.now) name.now) }
 {
     let copy = String::from_str(alloc, name)?;
-    if has_name(front, name) {
+    if has_name(prior, name) {
         return Err(CatalogFault::DuplicateName { name: copy });
     }
     Ok(copy)
@@ -52,17 +52,17 @@ fn types_of(alloc: Global, columns: &[ColumnText]) -> Result<Vec<ColType>, Alloc
 fn column_of(
     alloc: Global,
     names: &[String],
-    front: &[usize],
+    prior: &[usize],
     name: &str,
 ) -> Result<usize, CatalogFault>
-    ensures { Gives (λ c. c) result (column_of (map string_bytes names.now) front.now name.now) }
+    ensures { Gives (λ c. c) result (column_of (map string_bytes names.now) prior.now name.now) }
 {
     let Some(column) = find_name(names, name) else {
         return Err(CatalogFault::UnknownColumn {
             name: String::from_str(alloc, name)?,
         });
     };
-    if front.contains(&column) {
+    if prior.contains(&column) {
         return Err(CatalogFault::DuplicateName {
             name: String::from_str(alloc, name)?,
         });
@@ -111,22 +111,22 @@ fn relation_of(alloc: Global, text: &RelationText) -> Result<Relation, CatalogFa
     Ok(Relation::new(name, names, types, keys, order))
 }
 
-fn is_taken(front: &[Relation], name: &str) -> bool
-    ensures { result ≡ list_any (λ r. bytes_eq r.name name.now) front.now }
+fn is_used(prior: &[Relation], name: &str) -> bool
+    ensures { result ≡ list_any (λ r. bytes_eq r.name name.now) prior.now }
 {
-    front.iter().any(|r| r.name() == name)
+    prior.iter().any(|r| r.name() == name)
 }
 
 // A relation whose name no earlier one has.
 #[tactic(auto, unfolding(crate::specs::Naming::relation_after))]
 fn relation_after(
     alloc: Global,
-    front: &[Relation],
+    prior: &[Relation],
     text: &RelationText,
 ) -> Result<Relation, CatalogFault>
-    ensures { Gives (λ r. r) result (relation_after front.now text.now) }
+    ensures { Gives (λ r. r) result (relation_after prior.now text.now) }
 {
-    if is_taken(front, text.name.as_str()) {
+    if is_used(prior, text.name.as_str()) {
         return Err(CatalogFault::DuplicateName {
             name: String::from_str(alloc, text.name.as_str())?,
         });

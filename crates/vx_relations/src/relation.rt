@@ -1,10 +1,9 @@
 //! What a catalog declares of one relation.
 
-ghost use Rattle.std.specs.Prelude.{◌≡◌, ◌↔◌, ◌<◌, [], map, length, position, bytes_eq, string_bytes, slice_index_or, IfOk, IsTrue};
+ghost use Rattle.std.specs.Prelude.{◌≡◌, ◌↔◌, ◌<◌, [], map, length, position, bytes_eq, string_bytes, slice_index_or, IsTrue};
 ghost use Rattle.vx_values.specs.Types.{type_at};
 
 use crate::names::find_name;
-use std::alloc::{AllocError, Global};
 use std::marker::Model;
 use vx_rows::ColType;
 
@@ -158,18 +157,5 @@ impl Relation {
             return false;
         }
         self.order == other.order
-    }
-
-    /// The same relation in memory of its own.
-    pub fn copy(&self, alloc: Global) -> Result<Relation, AllocError>
-        ensures { IfOk result (λ r. r ≡ self.now) }
-    {
-        Ok(Relation {
-            name: String::from_str(alloc, self.name.as_str())?,
-            names: self.names.clone()?,
-            types: self.types.clone()?,
-            keys: self.keys.clone()?,
-            order: self.order.clone()?,
-        })
     }
 }

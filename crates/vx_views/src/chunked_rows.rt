@@ -1,9 +1,11 @@
 //! Rows in chunks, one behind the other.
 
 ghost use Rattle.std.specs.Prelude.{◌≡◌, ℕ, ◌+◌, ◌-◌, ◌<◌, ◌≤◌, ◌++◌, [], ◌↔◌, drop, take, length, map, min, slice_index, slice_index_or, slice_range, All, OnOk, OnErr, IfOk, IsTrue};
+ghost use Rattle.std.specs.Arc.{arc_value};
+ghost use Rattle.std.specs.List.{AllByRecursion};
 ghost use Rattle.vx_values.specs.Values.{value_at, pick};
 ghost use Rattle.vx_values.specs.ValueView.{cell_val};
-ghost use Rattle.vx_values.specs.Types.{type_at};
+ghost use Rattle.vx_values.specs.Types.{type_at, Fits};
 ghost use Rattle.vx_rows.specs.View.{row, AreColumns, ArePositions};
 ghost use Rattle.vx_views.specs.Chunks.{all_rows, rows_in};
 
@@ -11,6 +13,7 @@ use crate::chunk::{Chunk, types_at};
 use std::alloc::{AllocError, Global};
 use std::marker::Model;
 use std::mem;
+use std::sync::Arc;
 use vx_rows::{Cell, ColType, Rows};
 
 /// Rows in chunks, one behind the other. To add rows copies none.
@@ -23,6 +26,8 @@ pub struct ChunkedRows {
 
 impl Model for ChunkedRows {
     ghost use Rattle.std.specs.Prelude.{◌≡◌, length, All};
+    ghost use Rattle.std.specs.List.{AllByRecursion};
+    ghost use Rattle.vx_values.specs.Types.{Fits};
     ghost use Rattle.vx_rows.specs.View.{RowsView};
     ghost use Rattle.vx_views.specs.Chunks.{all_rows};
 
@@ -30,7 +35,7 @@ impl Model for ChunkedRows {
 
     ghost view = { λ r. record { types = r.types.items; rows = all_rows r.chunks.items } };
 
-    ghost invariant = { λ r. (r.count ≡ length (all_rows r.chunks.items)) × All (λ c. c.types ≡ r.types.items) r.chunks.items };
+    ghost invariant = { λ r. (r.count ≡ length (all_rows r.chunks.items)) × All (λ c. c.types ≡ r.types.items) r.chunks.items × AllByRecursion (Fits r.types.items) (all_rows r.chunks.items) };
 }
 
 impl ChunkedRows {
@@ -44,6 +49,33 @@ impl ChunkedRows {
             chunks: Vec::new(alloc),
             count: 0,
         })
+    }
+
+    /// The rows of a table from `from` up to `to`, with all columns, as one chunk. No cell is copied.
+    pub fn of(
+        alloc: Global,
+        base: &Arc<Rows>,
+        from: usize,
+        to: usize,
+    ) -> Result<ChunkedRows, AllocError>
+        requires order { from ≤ to }
+        requires there { to ≤ length (arc_value base.now).rows }
+        ensures types { IfOk result (λ r. r.types ≡ (arc_value base.now).types) }
+        ensures rows { IfOk result (λ r. r.rows ≡ slice_range (arc_value base.now).rows from to) }
+    {
+        let chunk = Chunk::of(alloc, base, from, to)?;
+        let mut rows = ChunkedRows::new(alloc, chunk.types())?;
+        rows.push(chunk)?;
+        Ok(rows)
+    }
+
+    /// All rows of a table, as one chunk. No cell is copied: the table is shared from now on.
+    pub fn of_table(alloc: Global, table: Rows) -> Result<ChunkedRows, AllocError>
+        ensures { IfOk result (λ r. r ≡ table) }
+    {
+        let count = table.len();
+        let base = Arc::new(alloc, table)?;
+        Ok(ChunkedRows::of(alloc, &base, 0, count)?)
     }
 
     /// How many rows there are.
@@ -60,9 +92,10 @@ impl ChunkedRows {
         self.count == 0
     }
 
-    /// The types of the columns.
+    /// The types of the columns, which each row fits.
     pub fn types(&self) -> &[ColType]
-        ensures { result.now ≡ self.now.types }
+        ensures types { result.now ≡ self.now.types }
+        ensures fit { AllByRecursion (Fits self.now.types) self.now.rows }
     {
         self.types.as_slice()
     }
@@ -98,6 +131,8 @@ impl ChunkedRows {
         let Some(count) = self.count.checked_add(chunk.len()) else {
             return Err(AllocError);
         };
+        // its rows fit its types
+        let _types = chunk.types();
         self.chunks.push(chunk)?;
         self.count = count;
         Ok(())
@@ -132,6 +167,15 @@ impl ChunkedRows {
     {
         let empty = ChunkedRows::new(alloc, self.types.as_slice())?;
         Ok(mem::replace(self, empty))
+    }
+
+    /// Drops all rows.
+    pub fn clear(&mut self)
+        ensures types { self.new.types ≡ self.old.types }
+        ensures rows { self.new.rows ≡ [] }
+    {
+        self.chunks.clear();
+        self.count = 0;
     }
 
     /// The rows from `from` up to `to`.

@@ -8,6 +8,6 @@ use Rattle.vx_catalog.proofs.loader.read_text.Goals as goal
 pub returns-clause-rows : goal.returns-clause-rows
 returns-clause-rows g c =
     let rem = g.S.Read.remaining in
-    let taken = rw c.if-not-branch.false at c.in_ok-next_record.ensures.taken in
+    let taken = rw c.if-not-branch.false at c.in_ok-next_record.ensures.read in
     let yes : is_header c.args.relation.now.names (fields_of c.next_record.new.line) ≡ true = search rules in
     under_told (λ r. r.rows) c.read_rows.result c.args.relation.now.names c.args.relation.now.types (fields_of c.next_record.new.line) (rest_of rem c.args.reader.now) (rest_of rem c.next_record.new.reader) taken.1 yes (rw c.types.ensures at c.read_rows.ensures.rows)

@@ -9,7 +9,7 @@ use Rattle.vx_catalog.proofs.record.read_rows.Goals as goal
 
 pub returns-then-not-branch-clause-rows : goal.returns-then-not-branch-clause-rows
 returns-then-not-branch-clause-rows g c =
-    let none = rw c.if-not-branch.true at c.in_ok-next_record.ensures.taken in
+    let none = rw c.if-not-branch.true at c.in_ok-next_record.ensures.read in
     rw c.into_rows.ensures.rows (rows_told_done c.args.types.now c.loop.rows.rows (rest_of g.S.Read.remaining c.args.reader.now) (rest_of g.S.Read.remaining c.loop.reader) c.loop.invariant.so_far none)
 
 pub returns-then-not-branch-clause-known : goal.returns-then-not-branch-clause-known
@@ -20,7 +20,7 @@ returns-then-not-branch-clause-known g c =
 pub returns-in_err-push_record-clause-rows : goal.returns-in_err-push_record-clause-rows
 returns-in_err-push_record-clause-rows g c =
     let p = err_from_is_err_and c.from_residual-in_err-push_record.result c.from_residual-in_err-push_record.ensures.1 in
-    let taken = rw c.if-not-branch.false at c.in_ok-next_record.ensures.taken in
+    let taken = rw c.if-not-branch.false at c.in_ok-next_record.ensures.read in
     let bad = rw c.loop.invariant.types at c.in_err-push_record.ensures.rows in
     let rem = g.S.Read.remaining in
     rw (p.1, p.2) (rows_told_stop c.args.types.now c.loop.rows.rows (fields_of c.next_record.new.line) (rest_of rem c.args.reader.now) (rest_of rem c.loop.reader) (rest_of rem c.next_record.new.reader) _ c.loop.invariant.so_far taken.1 bad)
@@ -37,7 +37,7 @@ returns-in_err-push_record-clause-own g c =
 
 pub loop-preserved : goal.loop-preserved
 loop-preserved g c =
-    let taken = rw c.if-not-branch.false at c.in_ok-next_record.ensures.taken in
+    let taken = rw c.if-not-branch.false at c.in_ok-next_record.ensures.read in
     let added = rw c.loop.invariant.types at c.in_ok-push_record.ensures.rows in
     let few = row_added_few c.args.types.now c.loop.rows.rows (fields_of c.next_record.new.line) c.push_record.new.rows.rows added in
     let count = c.loop.invariant.count in
