@@ -69,7 +69,7 @@ fn setup_of(alloc: Global, workers: u32) -> Result<Setup, AllocError> {
     Ok(Setup::new(sizes, 256, 1024, 8))
 }
 
-// The rows of a plan, and how long its run took in nanoseconds.
+// The rows of a plan in a table, and how long its run took in nanoseconds, without making the table.
 fn ran<R: Clock>(
     rt: &R,
     alloc: Global,
@@ -83,7 +83,10 @@ fn ran<R: Clock>(
     }
     let start = Instant::now(rt)?;
     match run_rounds(alloc, plan, database, &setup, &ToFirst, u64::MAX)? {
-        Ran::Done(rows) => Ok((rows, nanos_since(rt, start)?)),
+        Ran::Done(rows) => {
+            let took = nanos_since(rt, start)?;
+            Ok((rows.gathered(alloc)?, took))
+        }
         Ran::Unfinished => bail!("the run does not end"),
     }
 }

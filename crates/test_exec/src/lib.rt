@@ -12,3 +12,5 @@ mod runs;
 mod schedules;
 #[cfg(test)]
 mod setups;
+#[cfg(test)]
+mod sizes;

@@ -46,12 +46,17 @@ pub fn checked(alloc: Global, text: &str) -> Result<CheckedPlan, Fail> {
 
 /// The database of these rows.
 pub fn filled(alloc: Global) -> Result<Database, Fail> {
+    filled_with(alloc, TABLE)
+}
+
+/// A database of the rows of a text.
+pub fn filled_with(alloc: Global, text: &str) -> Result<Database, Fail> {
     let catalog = Catalog::read(alloc, CATALOG.as_bytes())?;
     let mut database = Database::empty(alloc, &catalog)?;
     if catalog.len() == 0 {
         return Err(Fail::new("the catalog has a relation"));
     }
-    let mut reader = MemoryIn::new(TABLE.as_bytes(), None);
+    let mut reader = MemoryIn::new(text.as_bytes(), None);
     match database.put(Loader::load(alloc, &catalog, 0, &mut reader)?) {
         Ok(()) => Ok(database),
         Err(_) => Err(Fail::new("the rows are of this catalog")),

@@ -10,16 +10,17 @@ use std::process::Abort;
 use std::test::Fail;
 use vx_ops::{Fault, Got, Polled, Sort, Source, Want};
 use vx_rows::{Cell, ColType, Rows, Value};
+use vx_views::ChunkedRows;
 
 // One row for each of these numbers.
-fn rows_of(alloc: Global, numbers: &[i64]) -> Result<Rows, AllocError>
+fn rows_of(alloc: Global, numbers: &[i64]) -> Result<ChunkedRows, AllocError>
     ensures { IfOk result (λ rows. rows.types ≡ ExchangeKind.Int ∷ []) }
 {
     let mut rows = Rows::new(alloc, &[ColType::Int])?;
     for number in numbers {
         rows.push(&[Value::Int(*number)])?;
     }
-    Ok(rows)
+    Ok(ChunkedRows::of_table(alloc, rows)?)
 }
 
 // Whether the answer is rows of one number each, and these numbers.

@@ -13,6 +13,7 @@ use vx_exchange::Collector;
 use vx_ops::{Code, Fault, Scan};
 use vx_ports::{Packet, Put};
 use vx_rows::{ColType, Rows, Value};
+use vx_views::ChunkedRows;
 use vx_worker::{Morsels, Outcome, Stepped, Tree, Wires, Worker};
 
 // Numbers from `next` to below `end`, and no packet.
@@ -61,11 +62,12 @@ impl Morsels for Pages {
 
     ghost types_of = { λ s _. s.rows.types };
 
-    fn morsel(&self, _scan: u32, number: u64) -> Result<Rows, AllocError> {
+    fn morsel(&self, _scan: u32, number: u64) -> Result<ChunkedRows, AllocError> {
         if number == self.refused {
             return Err(AllocError);
         }
-        self.rows.copy(self.alloc)
+        let copy = self.rows.copy(self.alloc)?;
+        Ok(ChunkedRows::of_table(self.alloc, copy)?)
     }
 }
 

@@ -1,30 +1,52 @@
 -- All conditions hold, one by one.
-use Rattle.std.proofs.Common.{◌≡◌, ℕ, ◌+◌, ◌<◌, ◌≤◌, Bool, true, false, List, length, take, get_or, sym, ◌∙◌, ap, refl, take_all}
+use Rattle.std.proofs.Common.{◌≡◌, ℕ, ◌+◌, ◌<◌, ◌≤◌, ◌&&◌, Bool, true, false, cond, List, [], ◌∷◌, length, take, filter, get_or, sym, ◌∙◌, ap, refl, take_all}
 use Rattle.std.specs.List.{list_all}
 use Rattle.std.proofs.lemmas.List.Folds.{list_all-map, list_all_at, list_all_more}
-use Rattle.vx_values.specs.Values.{Row, val_cmp, value_at}
-use Rattle.vx_plan_nodes.specs.Plan.{Condition as PlanCondition}
-use Rattle.vx_plan_nodes.specs.Serial.{side, answers, passes}
+use Rattle.vx_values.specs.Values.{Row}
+use Rattle.vx_plan_nodes.specs.Serial.{passes}
 use Rattle.vx_plan_nodes.specs.Conditions.{conditions_of}
 use Rattle.vx_plan_nodes.specs.Outline.{condition_of}
 use Rattle.vx_plan_nodes.specs.declared.typed.Condition.{Condition}
+use Rattle.vx_algebra.specs.Holds.{holds, holds_of}
 
-abbrev pub holds : Row → PlanCondition → Bool
-holds row c = answers c.test (val_cmp (value_at row c.left) (side c.right row))
+pub all-hold : (cs : List Condition) (row : Row) → passes (conditions_of cs) row ≡ list_all (λ c. holds_of c row) cs
+all-hold cs row = list_all-map (λ c. holds c row) condition_of cs
 
--- a condition of the program holds of the row
-abbrev pub holds_of : Row → Condition → Bool
-holds_of row c = holds row (condition_of c)
+pub one-fails : (cs : List Condition) (row : Row) (i : ℕ) (c : Condition) → i < length cs → get_or cs i c ≡ c → holds_of c row ≡ false → false ≡ passes (conditions_of cs) row
+one-fails cs row i c l e h = sym (all-hold cs row ∙ list_all_at (λ c. holds_of c row) cs i c l (ap (λ c. holds_of c row) e ∙ h))
 
-pub all-hold : (cs : List Condition) (row : Row) → passes (conditions_of cs) row ≡ list_all (holds_of row) cs
-all-hold cs row = list_all-map (holds row) condition_of cs
+pub one-more : (cs : List Condition) (row : Row) (i : ℕ) (c : Condition) → i < length cs → get_or cs i c ≡ c → holds_of c row ≡ true
+    → list_all (λ c. holds_of c row) (take i cs) ≡ true → list_all (λ c. holds_of c row) (take (i + 1) cs) ≡ true
+one-more cs row i c l e h k = list_all_more (λ c. holds_of c row) cs i c l ∙ rw (k, ap (λ c. holds_of c row) e ∙ h) refl
 
-pub one-fails : (cs : List Condition) (row : Row) (i : ℕ) (c : Condition) → i < length cs → get_or cs i c ≡ c → holds_of row c ≡ false → false ≡ passes (conditions_of cs) row
-one-fails cs row i c l e h = sym (all-hold cs row ∙ list_all_at (holds_of row) cs i c l (ap (holds_of row) e ∙ h))
+pub whole-list : (cs : List Condition) (row : Row) (i : ℕ) → length cs ≤ i → list_all (λ c. holds_of c row) (take i cs) ≡ true → true ≡ passes (conditions_of cs) row
+whole-list cs row i l h = sym (all-hold cs row ∙ ap (list_all (λ c. holds_of c row)) (sym (take_all i cs l)) ∙ h)
 
-pub one-more : (cs : List Condition) (row : Row) (i : ℕ) (c : Condition) → i < length cs → get_or cs i c ≡ c → holds_of row c ≡ true
-    → list_all (holds_of row) (take i cs) ≡ true → list_all (holds_of row) (take (i + 1) cs) ≡ true
-one-more cs row i c l e h k = list_all_more (holds_of row) cs i c l ∙ rw (k, ap (holds_of row) e ∙ h) refl
+-- rows filtered by one condition after the other
+filter-both : (p q : Row → Bool) (xs : List Row) → filter q (filter p xs) ≡ filter (λ x. p x && q x) xs
+filter-both p q [] = refl
+filter-both p q (x ∷ xs) = go (p x) (filter-both p q xs)
+  where
+    go : (b : Bool) → filter q (filter p xs) ≡ filter (λ y. p y && q y) xs
+        → filter q (cond b (x ∷ filter p xs) (filter p xs)) ≡ cond (b && q x) (x ∷ filter (λ y. p y && q y) xs) (filter (λ y. p y && q y) xs)
+    go true e = ap (λ ys. cond (q x) (x ∷ ys) ys) e
+    go false e = e
 
-pub whole-list : (cs : List Condition) (row : Row) (i : ℕ) → length cs ≤ i → list_all (holds_of row) (take i cs) ≡ true → true ≡ passes (conditions_of cs) row
-whole-list cs row i l h = sym (all-hold cs row ∙ ap (list_all (holds_of row)) (sym (take_all i cs l)) ∙ h)
+filter-same : (p q : Row → Bool) (xs : List Row) → ((x : Row) → p x ≡ q x) → filter p xs ≡ filter q xs
+filter-same p q [] e = refl
+filter-same p q (x ∷ xs) e = ap (λ b. cond b (x ∷ filter p xs) (filter p xs)) (e x) ∙ ap (λ ys. cond (q x) (x ∷ ys) ys) (filter-same p q xs e)
+
+-- no condition: all rows
+pub chosen-none : (xs : List Row) → xs ≡ filter (passes (conditions_of [])) xs
+chosen-none [] = refl
+chosen-none (x ∷ xs) = ap (λ ys. x ∷ ys) (chosen-none xs)
+
+-- one condition more
+pub chosen-more : (cs : List Condition) (i : ℕ) (c : Condition) (xs : List Row) → i < length cs → get_or cs i c ≡ c
+    → filter (holds_of c) (filter (passes (conditions_of (take i cs))) xs) ≡ filter (passes (conditions_of (take (i + 1) cs))) xs
+chosen-more cs i c xs l e =
+    filter-both (passes (conditions_of (take i cs))) (holds_of c) xs
+    ∙ filter-same (λ r. passes (conditions_of (take i cs)) r && holds_of c r) (passes (conditions_of (take (i + 1) cs))) xs (λ r.
+    ap (λ b. b && holds_of c r) (all-hold (take i cs) r)
+    ∙ (ap (λ d. list_all (λ c. holds_of c r) (take i cs) && holds_of d r) (sym e)
+    ∙ (sym (list_all_more (λ c. holds_of c r) cs i c l) ∙ sym (all-hold (take (i + 1) cs) r))))

@@ -15,7 +15,7 @@ use vx_rows::{Cell, Rows, compare_cells};
 use vx_values::Test;
 
 // What a test says of a comparison.
-fn answer(test: Test, order: Ordering) -> bool
+pub(crate) fn answer(test: Test, order: Ordering) -> bool
     ensures { result ≡ answers (test_of test) order }
 {
     match test {
@@ -92,13 +92,4 @@ pub fn passing(
     }
     append_run(&mut kept, rows, start, n)?;
     Ok(Some(kept))
-}
-
-/// The rows for which all conditions hold, in order. Where they hold of all rows, these are returned as they are.
-pub fn selected(alloc: Global, conditions: &[Condition], rows: Rows) -> Result<Rows, AllocError>
-    ensures types { IfOk result (λ r. r.types ≡ rows.types) }
-    ensures rows { IfOk result (λ r. r.rows ≡ filter (passes (conditions_of conditions.now)) rows.rows) }
-{
-    let kept = passing(alloc, conditions, &rows)?;
-    Ok(kept.unwrap_or(rows))
 }

@@ -5,17 +5,18 @@ use std::alloc::{AllocError, Global};
 use vx_ops::Polled;
 use vx_plan_nodes::Router;
 use vx_ports::Packet;
-use vx_rows::{ColType, Rows};
+use vx_rows::ColType;
+use vx_views::ChunkedRows;
 
 /// The rows that the top of the root's fragment returns, in order. It returns no packet.
 #[derive(Drop)]
 pub struct Collector {
-    rows: Rows,
+    rows: ChunkedRows,
     takes_more: bool,
 }
 
 impl Collector {
-    ghost use Rattle.std.specs.Prelude.{◌≡◌, ◌++◌, ℕ, List, [], IfOk, OnOk, OnErr, true};
+    ghost use Rattle.std.specs.Prelude.{◌≡◌, ℕ, List, [], IfOk, true};
     ghost use Rattle.vx_plan_nodes.specs.Routes.{Routing};
     ghost use Rattle.vx_ops.specs.Ledger.{fresh};
     ghost use Rattle.vx_exchange.specs.Tasks.{keep, keeps};
@@ -27,7 +28,7 @@ impl Collector {
         ensures post { IfOk result (λ s. collector_post s ≡ keeps types.now) }
         ensures open { IfOk result (λ s. collector_is_open s ≡ true) }
     {
-        let rows = Rows::new(alloc, types)?;
+        let rows = ChunkedRows::new(alloc, types)?;
         Ok(Collector {
             rows,
             takes_more: true,
@@ -35,27 +36,11 @@ impl Collector {
     }
 
     /// All rows that came.
-    pub fn into_rows(self) -> Rows
+    pub fn into_rows(self) -> ChunkedRows
         ensures rows { collector_task self ≡ keep result.rows }
         ensures types { collector_post self ≡ keeps result.types }
     {
         self.rows
-    }
-
-    // Keeps more rows. The first ones are kept as they are.
-    fn add(&mut self, rows: Rows) -> Result<(), AllocError>
-        requires { rows.types ≡ self.old.rows.types }
-        ensures ok { OnOk result (self.new.rows.rows ≡ self.old.rows.rows ++ rows.rows) }
-        ensures err { OnErr result (self.new.rows.rows ≡ self.old.rows.rows) }
-        ensures types { self.new.rows.types ≡ self.old.rows.types }
-        ensures open { self.new.takes_more ≡ self.old.takes_more }
-    {
-        if self.rows.len() == 0 {
-            self.rows = rows;
-            return Ok(());
-        }
-        self.rows.append_range(&rows, 0, rows.len())?;
-        Ok(())
     }
 }
 
@@ -83,7 +68,7 @@ impl Sends for Collector {
     fn accept<R: Router>(&mut self, _router: &R, polled: Polled) -> Result<(), AllocError> {
         match polled {
             Polled::Gave(rows) => {
-                if let Err(refused) = self.add(rows) {
+                if let Err(refused) = self.rows.append(rows) {
                     self.takes_more = false;
                     return Err(refused);
                 }

@@ -4,7 +4,8 @@ use std::alloc::{AllocError, Global};
 use std::collections::VecDeque;
 use std::marker::Model;
 use vx_ports::{Ending, Packet};
-use vx_rows::{ColType, Rows};
+use vx_rows::ColType;
+use vx_views::{Chunk, ChunkedRows};
 
 /// Calls: `new (add | next_packet)* (finish next_packet* | clear) close`. After an `Err` of `add` or `finish` comes `clear`.
 ///
@@ -17,9 +18,9 @@ pub struct Lane {
     place: u32,
     consumer: u32,
     size: usize,
-    current: Rows,
+    current: ChunkedRows,
     ready: VecDeque<Packet>,
-    closing: Option<Rows>,
+    closing: Option<ChunkedRows>,
 }
 
 impl Model for Lane {
@@ -43,7 +44,8 @@ impl Model for Lane {
 }
 
 impl Lane {
-    ghost use Rattle.std.specs.Prelude.{◌≡◌, ◌<◌, ◌≤◌, ◌++◌, ◌∷◌, [], length, slice_range, true, false, IfOk, OnOk, IfSome, IfNone};
+    ghost use Rattle.std.specs.Prelude.{◌≡◌, ◌<◌, ◌≤◌, ◌++◌, ◌∷◌, [], length, slice_range, true, false, All, IfOk, OnOk, IfSome, IfNone};
+    ghost use Rattle.vx_views.specs.Chunks.{all_rows};
     ghost use Rattle.vx_ports.specs.Packets.{closes};
     ghost use Rattle.vx_ports.specs.Seen.{ending_content};
     ghost use Rattle.vx_exchange.specs.LaneView.{parcel_of, parcel_at, empty_outlet, Cuts, CutsRest};
@@ -61,8 +63,8 @@ impl Lane {
         requires few { size ≤ 4096 }
         ensures { IfOk result (λ l. l ≡ empty_outlet (record { exchange = exchange; place = place; consumer = consumer; types = types.now; size = size })) }
     {
-        let current = Rows::new(alloc, types)?;
-        let closing = Rows::new(alloc, types)?;
+        let current = ChunkedRows::new(alloc, types)?;
+        let closing = ChunkedRows::new(alloc, types)?;
         Ok(Lane {
             alloc,
             exchange,
@@ -76,7 +78,7 @@ impl Lane {
     }
 
     // Makes a packet of these rows.
-    fn push(&mut self, rows: Rows) -> Result<(), AllocError>
+    fn push(&mut self, rows: ChunkedRows) -> Result<(), AllocError>
         requires some { 0 < length rows.rows }
         requires few { length rows.rows ≤ 4096 }
         requires types { rows.types ≡ self.old.way.types }
@@ -93,46 +95,62 @@ impl Lane {
         }
     }
 
-    // Adds rows from a position on: all, or as many as make a full packet with those at hand. It returns the position of the first row that is left.
-    fn fill(&mut self, rows: &Rows, from: usize) -> Result<usize, AllocError>
-        requires types { rows.now.types ≡ self.old.way.types }
+    // Adds rows of a chunk from a position on: all, or as many as make a full packet with those at hand. It returns the position of the first row that is left.
+    fn fill(&mut self, chunk: &Chunk, from: usize) -> Result<usize, AllocError>
+        requires types { chunk.now.types ≡ self.old.way.types }
         requires open { self.old.closed ≡ false }
-        requires some { from < length rows.now.rows }
+        requires some { from < length chunk.now.rows }
         ensures next { IfOk result (λ to. from < to) }
-        ensures within { IfOk result (λ to. to ≤ length rows.now.rows) }
-        ensures ok { IfOk result (λ to. Cuts self.old.way self.old.current self.old.ready (slice_range rows.now.rows from to) self.new.current self.new.ready) }
+        ensures within { IfOk result (λ to. to ≤ length chunk.now.rows) }
+        ensures ok { IfOk result (λ to. Cuts self.old.way self.old.current self.old.ready (slice_range chunk.now.rows from to) self.new.current self.new.ready) }
         ensures way { self.new.way ≡ self.old.way }
         ensures closed { self.new.closed ≡ self.old.closed }
     {
         let room = self.size - self.current.len();
-        if rows.len() - from < room {
-            self.current.append_range(rows, from, rows.len())?;
-            return Ok(rows.len());
+        if chunk.len() - from < room {
+            let rest = chunk.slice(self.alloc, from, chunk.len())?;
+            self.current.push(rest)?;
+            return Ok(chunk.len());
         }
         let to = from + room;
+        let part = chunk.slice(self.alloc, from, to)?;
         let mut full = self.current.take(self.alloc)?;
-        full.append_range(rows, from, to)?;
+        full.push(part)?;
         self.push(full)?;
         Ok(to)
     }
 
-    // Adds all of these rows.
-    fn fill_all(&mut self, rows: &Rows) -> Result<(), AllocError>
-        requires types { rows.now.types ≡ self.old.way.types }
+    // Adds all rows of a chunk.
+    fn fill_all(&mut self, chunk: &Chunk) -> Result<(), AllocError>
+        requires types { chunk.now.types ≡ self.old.way.types }
         requires open { self.old.closed ≡ false }
-        ensures ok { OnOk result (Cuts self.old.way self.old.current self.old.ready rows.now.rows self.new.current self.new.ready) }
+        ensures ok { OnOk result (Cuts self.old.way self.old.current self.old.ready chunk.now.rows self.new.current self.new.ready) }
         ensures way { self.new.way ≡ self.old.way }
         ensures closed { self.new.closed ≡ self.old.closed }
     {
         let mut from = 0;
-        while from < rows.len() {
-            from = self.fill(rows, from)?;
+        while from < chunk.len() {
+            from = self.fill(chunk, from)?;
         }
         Ok(())
     }
 
-    /// Adds rows. If none are at hand and these are just one packet, they become it as they are. After an `Err` some of them may be lost.
-    pub fn add(&mut self, rows: Rows) -> Result<(), AllocError>
+    // Adds all rows of chunks.
+    fn fill_each(&mut self, chunks: &[Chunk]) -> Result<(), AllocError>
+        requires types { All (λ c. c.types ≡ self.old.way.types) chunks.now }
+        requires open { self.old.closed ≡ false }
+        ensures ok { OnOk result (Cuts self.old.way self.old.current self.old.ready (all_rows chunks.now) self.new.current self.new.ready) }
+        ensures way { self.new.way ≡ self.old.way }
+        ensures closed { self.new.closed ≡ self.old.closed }
+    {
+        for i in 0..chunks.len() {
+            self.fill_all(&chunks[i])?;
+        }
+        Ok(())
+    }
+
+    /// Adds rows; no cell is copied. If none are at hand and these are just one packet, they become it as they are. After an `Err` some of them may be lost.
+    pub fn add(&mut self, rows: ChunkedRows) -> Result<(), AllocError>
         requires types { rows.types ≡ self.old.way.types }
         requires open { self.old.closed ≡ false }
         ensures ok { OnOk result (Cuts self.old.way self.old.current self.old.ready rows.rows self.new.current self.new.ready) }
@@ -143,7 +161,11 @@ impl Lane {
             self.push(rows)?;
             return Ok(());
         }
-        self.fill_all(&rows)
+        if rows.len() < self.size - self.current.len() {
+            self.current.append(rows)?;
+            return Ok(());
+        }
+        self.fill_each(rows.chunks())
     }
 
     /// Makes a packet of the rows at hand, if there are any.
@@ -168,7 +190,7 @@ impl Lane {
         ensures way { self.new.way ≡ self.old.way }
         ensures closed { self.new.closed ≡ self.old.closed }
     {
-        self.current.truncate(0);
+        self.current.clear();
         self.ready.clear();
     }
 

@@ -1,10 +1,9 @@
 -- The tree of a fragment, by the node at its top.
 use Rattle.std.proofs.Common.{Box, Global, ◌≡◌, ℕ, suc, ◌+◌, ◌≤◌, ◌<◌, ◌==◌, ◌&&◌, true, false, Bool, List, [], ◌∷◌, refl, sym, ap, ◌∙◌, subst, arith, eqb-true, true≢false}
 use Rattle.vx_values.specs.declared.value.ColType.{ColType}
-use Rattle.vx_plan_nodes.specs.Plan.{Plan, Claim, Condition, Size, Unary, Binary, ExchangeKind, scan, unary, binary, exchange, select, size, route_to, round, broadcast, gather, concat}
+use Rattle.vx_plan_nodes.specs.Plan.{Plan, Claim, Condition, Size, Unary, Binary, ExchangeKind, scan, unary, binary, exchange, select, size}
 use Rattle.vx_plan_nodes.specs.Numbering.{is_numbered, nodes}
 use Rattle.vx_plan_nodes.specs.Streams.{workers}
-use Rattle.vx_plan_nodes.specs.Runs.{is_concat}
 use Rattle.vx_plan_nodes.specs.Types.{types_of}
 use Rattle.vx_check_rules.specs.Checked.{relations}
 use Rattle.vx_laws.proofs.Bags.{and-left, and-right}
@@ -23,6 +22,7 @@ use Rattle.vx_worker.specs.declared.operator.Operator.{Operator}
 use Rattle.vx_worker.specs.declared.operator.Operator.TheVariants as operator
 use Rattle.vx_worker.specs.declared.tree.Tree.{Tree, One, Two, Leaf, One', Two'}
 use Rattle.vx_setup.specs.Runnable.{can_run, can_run_kind, can_merge}
+use Rattle.vx_setup.proofs.KindFacts.{in-any-order}
 use Rattle.vx_exec.specs.Sizes.{group_at}
 use Rattle.vx_exec.specs.Crew.{IsOperatorOf, IsTreeOf}
 use Rattle.vx_exec.specs.Job.{model_of}
@@ -115,14 +115,6 @@ no-columns (x ∷ xs) h = absurd (true≢false (sym h))
 merges-not : (n : ℕ) (c : Claim) (kind : ExchangeKind) (merge : List ℕ) (p : Plan) → can_run (exchange n c kind merge p) ≡ true → merge ≡ []
 merges-not n c kind merge p runs = no-columns merge (and-left (can_merge merge) (can_run p) (and-right (can_run_kind kind) (can_merge merge && can_run p) runs))
 
--- nor does it take one producer after the other
-not-concat : (kind : ExchangeKind) → can_run_kind kind ≡ true → is_concat kind ≡ false
-not-concat gather h = refl
-not-concat (route_to z r cols) h = refl
-not-concat (round z) h = refl
-not-concat (broadcast z) h = refl
-not-concat concat h = absurd (true≢false (sym h))
-
 -- a consumer end at an exchange that workers can run
 pub receiver-operator : (j : Job) (place n : ℕ) (c : Claim) (kind : ExchangeKind) (merge : List ℕ) (p : Plan) (s : Receiver) (types : List ColType) (producers : ℕ)
     → can_run (exchange n c kind merge p) ≡ true → ReceiverStands s fresh_ledger → receiver_op s ≡ receive (unmerged_end n place producers types)
@@ -133,7 +125,7 @@ receiver-operator j place n c kind merge p s types producers runs stands op shap
       op ∙ ap (λ z. receive (unmerged_end n place z types)) many ∙ ap (λ z. receive (unmerged_end n place (workers (group_at j.groups.items) (size p)) z)) e
       ∙ ap (λ z. receive (record { exchange = n; place = place; producers = workers (group_at j.groups.items) (size p); types = types_of (relations j.plan.now) p; merge = z; in_order = false })) (sym (merges-not n c kind merge p runs))
       ∙ ap (λ b. receive (record { exchange = n; place = place; producers = workers (group_at j.groups.items) (size p); types = types_of (relations j.plan.now) p; merge = merge; in_order = b }))
-      (sym (not-concat kind (and-left (can_run_kind kind) (can_merge merge && can_run p) runs)));
+      (sym (in-any-order kind (and-left (can_run_kind kind) (can_merge merge && can_run p) runs)));
   stands = stands;
   takes = ap (λ (x : Shape). x.left) shape ∙ e;
   gives = ap (λ (x : Shape). x.out) shape ∙ e;

@@ -18,7 +18,8 @@ ghost use Rattle.vx_exec.specs.LeafTypes.{leaf_types};
 use std::alloc::{AllocError, Global};
 use vx_catalog::{Catalog, Database};
 use vx_plan_nodes::{Size, TypedNode, TypedPlan};
-use vx_rows::{ColType, Rows};
+use vx_rows::ColType;
+use vx_views::ChunkedRows;
 use vx_worker::Morsels;
 
 /// A plan with a database of its catalog, and the sizes of a run, each within its limits.
@@ -151,20 +152,16 @@ impl<'j> Job<'j> {
         ((rows + (self.morsel - 1)) / self.morsel) as u64
     }
 
-    // A morsel of a relation: the rows from the morsel's first on, as many as there are.
-    fn copy_morsel(&self, relation: usize, number: u64) -> Result<Rows, AllocError>
+    // A morsel of a relation: the rows from the morsel's first on, as many as there are. They are lent: none is copied.
+    fn lend_morsel(&self, relation: usize, number: u64) -> Result<ChunkedRows, AllocError>
         requires { relation < length (scope self.now.plan.now).catalog }
         ensures rows { IfOk result (λ r. r.rows ≡ morsel_of self.now.morsel (rows_at self.now.database.now relation) number) }
         ensures types { IfOk result (λ r. r.types ≡ (relations self.now.plan.now relation).types) }
     {
-        let rows = self.database.rows(relation);
-        let mut part = Rows::new(self.alloc, rows.types())?;
-        let from = (number as usize)
-            .saturating_mul(self.morsel)
-            .min(rows.len());
-        let to = from + self.morsel.min(rows.len() - from);
-        part.append_range(rows, from, to)?;
-        Ok(part)
+        let count = self.database.rows(relation).len();
+        let from = (number as usize).saturating_mul(self.morsel).min(count);
+        let to = from + self.morsel.min(count - from);
+        ChunkedRows::of(self.alloc, self.database.table(relation), from, to)
     }
 }
 
@@ -175,10 +172,10 @@ impl Morsels for Job<'_> {
 
     ghost types_of = { types_at };
 
-    /// A copy of a morsel. Only scans read morsels: a number of another leaf gets none.
-    fn morsel(&self, scan: u32, number: u64) -> Result<Rows, AllocError> {
+    /// A morsel, lent. Only scans read morsels: a number of another leaf gets none.
+    fn morsel(&self, scan: u32, number: u64) -> Result<ChunkedRows, AllocError> {
         match relation_of(self.plan.root(), scan) {
-            Some(relation) => self.copy_morsel(relation, number),
+            Some(relation) => self.lend_morsel(relation, number),
             None => Err(AllocError),
         }
     }

@@ -1,12 +1,12 @@
-//! What a run that began answers.
+//! How a run ends.
 
-use vx_rows::Rows;
+use vx_views::ChunkedRows;
 
 /// How a run ended without a fault.
-#[derive(Debug, Drop)]
+#[derive(Drop)]
 pub enum Ran {
-    /// Every worker has ended well: the rows that the root's worker gathered.
-    Done(Rows),
+    /// Every worker has ended well: the rows that the root's worker collected. None was copied.
+    Done(ChunkedRows),
     /// The rounds or steps were over, and some worker had not ended.
     Unfinished,
 }

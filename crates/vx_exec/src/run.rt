@@ -28,13 +28,13 @@ use vx_catalog::Database;
 use vx_check_rules::CheckedPlan;
 use vx_ops::{Code, Fault};
 use vx_plan_nodes::Router;
-use vx_rows::Rows;
 use vx_setup::{RunFault, Setup};
 use vx_steps::{Verdict, judge_rounds, judge_schedule};
+use vx_views::ChunkedRows;
 use vx_worker::{Destination, Operator, Worker};
 
 // The rows that the first worker kept.
-fn rows_of_root(mut workers: Vec<Worker<Operator, Destination>>) -> Rows
+fn rows_of_root(mut workers: Vec<Worker<Operator, Destination>>) -> ChunkedRows
     requires there { 0 < length workers.items }
     requires keeps { (d : AWorker AnOperator ADestination) → (types : List ColType) × (post_of (sender_of (slice_index_or workers.items 0 d)) ≡ keeps types) }
     ensures rows { (d : AWorker AnOperator ADestination) → task_of (sender_of (slice_index_or workers.items 0 d)) ≡ keep result.rows }

@@ -23,7 +23,8 @@ use std::alloc::{AllocError, Global};
 use vx_exchange::{Collector, Sender};
 use vx_plan_nodes::{ExchangeKind, TypedNode, output_types};
 use vx_ports::{Ending, Packet};
-use vx_rows::{ColType, Rows};
+use vx_rows::ColType;
+use vx_views::ChunkedRows;
 use vx_worker::{Destination, Input, Operator, Worker};
 
 // Adds each of so many producers of an exchange.
@@ -79,7 +80,7 @@ fn closing_packets(
 {
     let mut packets = Vec::new(alloc);
     for to in 0..consumers {
-        let none = Rows::new(alloc, types)?;
+        let none = ChunkedRows::new(alloc, types)?;
         packets.push(Packet::closing(exchange, place, to, Ending::Fault, none))?;
     }
     Ok(packets)

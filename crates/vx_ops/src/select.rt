@@ -3,9 +3,10 @@
 use crate::step_kernel::StepKernel;
 use crate::stepping::Stepping;
 use std::alloc::{AllocError, Global};
-use vx_algebra::selected;
+use vx_algebra::chosen;
 use vx_plan_nodes::Condition;
-use vx_rows::{ColType, Rows};
+use vx_rows::ColType;
+use vx_views::ChunkedRows;
 
 /// Calls: `new (wants turn)*`.
 ///
@@ -56,7 +57,7 @@ impl StepKernel for Selection {
 
     ghost serial = { λ s xs ys made. ap Some (sym made) };
 
-    fn step(&mut self, batch: Rows) -> Result<Rows, AllocError> {
-        selected(self.alloc, self.conditions.as_slice(), batch)
+    fn step(&mut self, batch: ChunkedRows) -> Result<ChunkedRows, AllocError> {
+        chosen(self.alloc, self.conditions.as_slice(), &batch)
     }
 }

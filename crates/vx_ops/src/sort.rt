@@ -4,8 +4,9 @@ use crate::collecting::Collecting;
 use crate::collecting_kernel::{CollectingKernel, FinishFault};
 use std::alloc::{AllocError, Global};
 use std::marker::Model;
-use vx_algebra::sorted;
-use vx_rows::{ColType, Rows};
+use vx_algebra::sorted_chunks;
+use vx_rows::ColType;
+use vx_views::ChunkedRows;
 
 /// Calls: `new (wants turn)*`.
 ///
@@ -17,7 +18,7 @@ pub type Sort = Collecting<Sorting>;
 pub struct Sorting {
     alloc: Global,
     columns: Vec<usize>,
-    read: Rows,
+    read: ChunkedRows,
 }
 
 impl Model for Sorting {
@@ -52,7 +53,7 @@ impl Collecting<Sorting> {
         ensures op { IfOk result (λ s. sort_op s ≡ one_op node (sort columns.items)) }
         ensures types { IfOk result (λ s. sort_types s ≡ record { left = types.now; right = types.now; out = types.now }) }
     {
-        let read = Rows::new(alloc, types)?;
+        let read = ChunkedRows::new(alloc, types)?;
         let kernel = Sorting {
             alloc,
             columns,
@@ -74,13 +75,12 @@ impl CollectingKernel for Sorting {
 
     ghost empty = { λ s. refl };
 
-    fn take(&mut self, batch: Rows) -> Result<(), AllocError> {
-        self.read.append_range(&batch, 0, batch.len())?;
-        Ok(())
+    fn take(&mut self, batch: ChunkedRows) -> Result<(), AllocError> {
+        self.read.append(batch)
     }
 
-    fn finish(&mut self) -> Result<Rows, FinishFault> {
-        match sorted(self.alloc, &self.read, self.columns.as_slice()) {
+    fn finish(&mut self) -> Result<ChunkedRows, FinishFault> {
+        match sorted_chunks(self.alloc, &self.read, self.columns.as_slice()) {
             Ok(rows) => Ok(rows),
             Err(_) => Err(FinishFault::NoMemory),
         }

@@ -1,2 +1,3 @@
 pub mod FindFacts
 pub mod NumberFacts
+pub mod KindFacts

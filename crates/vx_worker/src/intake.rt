@@ -83,7 +83,7 @@ impl Intake {
         }
     }
 
-    /// Gets what a tree wishes, by one draw or one take at most. A morsel that cannot be copied is lost.
+    /// Gets what a tree wishes, by one draw or one take at most. A morsel is lost where memory runs out.
     pub fn fetch<G: Morsels, W: Wires>(
         &mut self,
         wish: Wish,

@@ -2,7 +2,7 @@
 
 use std::alloc::AllocError;
 use vx_ports::{Packet, Put};
-use vx_rows::Rows;
+use vx_views::ChunkedRows;
 
 /// The decks, inward ports and outward ports of one worker. Each call draws, takes or puts at most once, and nothing where it refuses.
 pub trait Wires {
@@ -51,8 +51,8 @@ pub trait Morsels {
     // The types of a scan's rows.
     ghost types_of: { Self → ℕ → List ColType };
 
-    /// A copy of a morsel of the scan with this node number.
-    fn morsel(&self, scan: u32, number: u64) -> Result<Rows, AllocError>
+    /// A morsel of the scan with this node number.
+    fn morsel(&self, scan: u32, number: u64) -> Result<ChunkedRows, AllocError>
         ensures rows { IfOk result (λ r. r.rows ≡ morsel_of self.now scan number) }
         ensures types { IfOk result (λ r. r.types ≡ types_of self.now scan) };
 }

@@ -11,6 +11,6 @@ loop-from-preserved c =
     let current = c.args.self.now.current in
     let ready = c.args.self.now.ready in
     let next = e.next in
-    let step = cuts-both way current ready (take c.loop-from.from c.args.rows.now.rows) c.loop-from.self.current c.loop-from.self.ready (slice_range c.args.rows.now.rows c.loop-from.from c.in_ok-from.from)
+    let step = cuts-both way current ready (take c.loop-from.from c.args.chunk.now.rows) c.loop-from.self.current c.loop-from.self.ready (slice_range c.args.chunk.now.rows c.loop-from.from c.in_ok-from.from)
     c.fill.new.self.current c.fill.new.self.ready i.3 (rw i.1 at e.ok) in
-    (e.within, e.way ∙ i.1, e.closed ∙ i.2, rw (← (take-range c.loop-from.from c.in_ok-from.from c.args.rows.now.rows (omega (arith, next)))) step)
+    (e.within, e.way ∙ i.1, e.closed ∙ i.2, rw (← (take-range c.loop-from.from c.in_ok-from.from c.args.chunk.now.rows (omega (arith, next)))) step)

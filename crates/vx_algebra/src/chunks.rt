@@ -1,0 +1,206 @@
+//! Selection and sorting of rows in chunks. Rows are picked by their places: a selection copies no cell, a sort each one once.
+
+ghost use Rattle.std.specs.Prelude.{◌≡◌, ◌<◌, ◌++◌, ◌∷◌, [], cond, filter, length, IfOk, IfSome, OnOk};
+ghost use Rattle.std.specs.List.{All};
+ghost use Rattle.vx_values.specs.declared.value.ColType.TheVariants as kind;
+ghost use Rattle.vx_values.specs.Types.{type_at};
+ghost use Rattle.vx_values.specs.Values.{num, value_at};
+ghost use Rattle.vx_values.specs.ValueView.{cell_val};
+ghost use Rattle.vx_rows.specs.Order.{sort_on};
+ghost use Rattle.vx_rows.specs.View.{row, AreColumns};
+ghost use Rattle.vx_plan_nodes.specs.Conditions.{conditions_of};
+ghost use Rattle.vx_plan_nodes.specs.Outline.{side_of};
+ghost use Rattle.vx_plan_nodes.specs.Plan.{constant};
+ghost use Rattle.vx_plan_nodes.specs.Serial.{passes, side};
+ghost use Rattle.vx_views.specs.Chunks.{all_rows};
+ghost use Rattle.vx_views.specs.Selected.{places_of};
+ghost use Rattle.vx_algebra.specs.Holds.{holds_of};
+
+use crate::selection::answer;
+use std::alloc::{AllocError, Global};
+use vx_plan_nodes::{Condition, Side};
+use vx_rows::{Cell, ColType, Value, compare_cells};
+use vx_values::Test;
+use vx_views::{Chunk, ChunkedRows, NumberTest, places_are_a_filter};
+
+// A comparison of a number with a constant.
+#[derive(Clone, Copy)]
+struct NumberCondition {
+    test: Test,
+    constant: i64,
+}
+
+impl NumberTest for NumberCondition {
+    ghost use Rattle.vx_values.specs.Values.{num, val_cmp};
+    ghost use Rattle.vx_values.specs.ValueView.{test_of};
+    ghost use Rattle.vx_plan_nodes.specs.Serial.{answers};
+
+    ghost says = { λ c z. answers (test_of c.test) (val_cmp (num z) (num c.constant)) };
+
+    fn passes(&self, number: &i64) -> bool {
+        answer(self.test, number.cmp(&self.constant))
+    }
+}
+
+// The comparison with a constant that a condition makes of a column of numbers; none where it makes another one.
+fn number_condition(condition: &Condition, types: &[ColType]) -> Option<NumberCondition>
+    ensures column { IfSome result (λ _. condition.now.left < length types.now) }
+    ensures kind { IfSome result (λ _. type_at types.now condition.now.left ≡ kind.Int) }
+    ensures test { IfSome result (λ t. t.test ≡ condition.now.test) }
+    ensures constant { IfSome result (λ t. side_of condition.now.right ≡ constant (num t.constant)) }
+{
+    if condition.left >= types.len() {
+        return None;
+    }
+    match (types[condition.left], &condition.right) {
+        (ColType::Int, Side::Constant(Value::Int(number))) => Some(NumberCondition {
+            test: condition.test,
+            constant: *number,
+        }),
+        _ => None,
+    }
+}
+
+// The value of row i of a chunk at a column, and the number 0 where there is no such column, as the definitions have it.
+fn cell_or_zero(chunk: &Chunk, i: usize, column: usize) -> Cell<'_>
+    requires { i < length chunk.now.rows }
+    ensures { cell_val result ≡ value_at (row chunk.now i) column }
+{
+    if column < chunk.types().len() {
+        return chunk.cell(i, column);
+    }
+    Cell::Int(0)
+}
+
+// The value of a condition's right side.
+fn right_side<'a>(right: &'a Side, chunk: &'a Chunk, i: usize) -> Cell<'a>
+    requires { i < length chunk.now.rows }
+    ensures { cell_val result ≡ side (side_of right.entry.now) (row chunk.entry.now i) }
+{
+    match right {
+        Side::Column(c) => cell_or_zero(chunk, i, *c),
+        Side::Constant(v) => v.cell(),
+    }
+}
+
+// Whether a condition holds of row i of a chunk.
+fn holds(condition: &Condition, chunk: &Chunk, i: usize) -> bool
+    requires { i < length chunk.now.rows }
+    ensures { result ≡ holds_of condition.now (row chunk.now i) }
+{
+    let left = cell_or_zero(chunk, i, condition.left);
+    let order = compare_cells(left, right_side(&condition.right, chunk, i));
+    answer(condition.test, order)
+}
+
+// Adds a place, if it passes.
+fn push_if(places: &mut Vec<usize>, place: usize, passes: bool) -> Result<(), AllocError>
+    ensures { OnOk result (places.new.items ≡ places.old.items ++ cond passes (place ∷ []) []) }
+{
+    if passes {
+        places.push(place)?;
+    }
+    Ok(())
+}
+
+// The places of the rows of a chunk of which a condition holds, row by row.
+fn places_by_rows(
+    alloc: Global,
+    condition: &Condition,
+    chunk: &Chunk,
+) -> Result<Vec<usize>, AllocError>
+    ensures { IfOk result (λ v. v.items ≡ places_of (holds_of condition.now) chunk.now.rows) }
+{
+    let mut places = Vec::new(alloc);
+    for i in 0..chunk.len() {
+        push_if(&mut places, i, holds(condition, chunk, i))?;
+    }
+    Ok(places)
+}
+
+// The places of the rows of a chunk of which a condition holds. A column of numbers that is compared with a constant is gone over where it lies.
+fn places_that_pass(
+    alloc: Global,
+    condition: &Condition,
+    chunk: &Chunk,
+) -> Result<Vec<usize>, AllocError>
+    ensures { IfOk result (λ v. v.items ≡ places_of (holds_of condition.now) chunk.now.rows) }
+{
+    match number_condition(condition, chunk.types()) {
+        Some(test) => Ok(chunk.places_where(alloc, condition.left, &test)?),
+        None => Ok(places_by_rows(alloc, condition, chunk)?),
+    }
+}
+
+// The rows of a chunk of which a condition holds. Where it holds of all, the chunk is returned as it is.
+fn kept(alloc: Global, condition: &Condition, chunk: Chunk) -> Result<Chunk, AllocError>
+    ensures types { IfOk result (λ c. c.types ≡ chunk.types) }
+    ensures rows { IfOk result (λ c. c.rows ≡ filter (holds_of condition.now) chunk.rows) }
+{
+    let places = places_that_pass(alloc, condition, &chunk)?;
+    if places.len() == chunk.len() {
+        return Ok(chunk);
+    }
+    places_are_a_filter();
+    Ok(chunk.at(alloc, places.as_slice())?)
+}
+
+// The rows of a chunk of which all conditions hold.
+fn chosen_of(alloc: Global, conditions: &[Condition], chunk: &Chunk) -> Result<Chunk, AllocError>
+    ensures types { IfOk result (λ c. c.types ≡ chunk.now.types) }
+    ensures rows { IfOk result (λ c. c.rows ≡ filter (passes (conditions_of conditions.now)) chunk.now.rows) }
+{
+    let mut found = chunk.share(alloc)?;
+    for i in 0..conditions.len() {
+        found = kept(alloc, &conditions[i], found)?;
+    }
+    Ok(found)
+}
+
+// Adds the rows of chunks of which all conditions hold.
+fn add_chosen(
+    alloc: Global,
+    found: &mut ChunkedRows,
+    conditions: &[Condition],
+    chunks: &[Chunk],
+) -> Result<(), AllocError>
+    requires { All (λ c. c.types ≡ found.old.types) chunks.now }
+    ensures types { found.new.types ≡ found.old.types }
+    ensures ok { OnOk result (found.new.rows ≡ found.old.rows ++ filter (passes (conditions_of conditions.now)) (all_rows chunks.now)) }
+{
+    for i in 0..chunks.len() {
+        let chunk = chosen_of(alloc, conditions, &chunks[i])?;
+        found.push(chunk)?;
+    }
+    Ok(())
+}
+
+/// The rows of which all conditions hold, in order. No cell is copied, and a chunk of which they hold throughout is handed on without positions.
+pub fn chosen(
+    alloc: Global,
+    conditions: &[Condition],
+    rows: &ChunkedRows,
+) -> Result<ChunkedRows, AllocError>
+    ensures types { IfOk result (λ r. r.types ≡ rows.now.types) }
+    ensures rows { IfOk result (λ r. r.rows ≡ filter (passes (conditions_of conditions.now)) rows.now.rows) }
+{
+    let mut found = ChunkedRows::new(alloc, rows.types())?;
+    add_chosen(alloc, &mut found, conditions, rows.chunks())?;
+    Ok(found)
+}
+
+/// The rows sorted on these columns; rows that agree on them stay in their order. They are gathered into one table, whose rows are seen by their positions.
+pub fn sorted_chunks(
+    alloc: Global,
+    rows: &ChunkedRows,
+    columns: &[usize],
+) -> Result<ChunkedRows, AllocError>
+    requires { AreColumns (length rows.now.types) columns.now }
+    ensures types { IfOk result (λ r. r.types ≡ rows.now.types) }
+    ensures rows { IfOk result (λ r. r.rows ≡ sort_on columns.now rows.now.rows) }
+{
+    let table = rows.gathered(alloc)?;
+    let order = table.sorted_positions(alloc, columns)?;
+    let risen = ChunkedRows::of_table(alloc, table)?;
+    Ok(risen.at(alloc, order.as_slice())?)
+}
