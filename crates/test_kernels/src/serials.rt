@@ -50,7 +50,7 @@ fn with_scans(alloc: Global, root: &str) -> Result<String, AllocError> {
 // What a plan comes to over a database: its rows as text, or the line of a refusal.
 fn told(alloc: Global, plan: &TypedPlan, database: &Database) -> Result<String, AllocError> {
     match eval(alloc, plan, database) {
-        Ok(rows) => shown(alloc, &rows),
+        Ok(rows) => shown(alloc, &rows.gathered(alloc)?),
         Err(fault) => format!(in alloc; "{fault}"),
     }
 }

@@ -1,7 +1,7 @@
 //! The rows of a plan over a database.
 
 ghost use Rattle.std.specs.Prelude.{◌≡◌, IfOk, IfErr};
-ghost use Rattle.std.specs.Cow.{cow_value};
+ghost use Rattle.std.specs.Arc.{arc_value};
 ghost use Rattle.vx_relations.specs.Catalog.{relation_at};
 ghost use Rattle.vx_catalog.specs.Database.{rows_at};
 ghost use Rattle.vx_plan_nodes.specs.Outline.{plan_of};
@@ -13,28 +13,24 @@ ghost use Rattle.vx_serial.specs.Results.{IsFaultOf, IsSerialOf, EvalFails};
 
 use crate::exchanges::first_exchange;
 use crate::fault::EvalFault;
-use crate::lending::owned;
 use crate::operators::{binary_rows, unary_rows};
 use std::alloc::Global;
-use std::borrow::Cow;
+use std::sync::Arc;
 use vx_catalog::Database;
 use vx_plan_nodes::{TypedNode, TypedPlan};
 use vx_rows::Rows;
+use vx_views::ChunkedRows;
 
-// The rows of a node. Each input is taken to its end, also where no further row can come of it. An exchange gives its
-// input. A scan lends the rows of its relation, and what hands its input on hands on what is lent.
-fn eval_node<'d>(
-    alloc: Global,
-    database: &'d Database,
-    node: &TypedNode,
-) -> Result<Cow<'d, Rows>, EvalFault>
+// The rows of a node. Each input is read to its end, also where no further row can come of it. An exchange returns its
+// input. A scan shares the rows of its relation, and an operator that returns its input returns the same table.
+fn eval_node(alloc: Global, database: &Database, node: &TypedNode) -> Result<Arc<Rows>, EvalFault>
     requires { IsFit database.now.catalog (plan_of node.now) }
-    ensures types { IfOk result (λ t. (cow_value t).types ≡ types_of (relation_at database.now.catalog) (plan_of node.now)) }
-    ensures rows { IfOk result (λ t. evaluated (rows_at database.now) (plan_of node.now) ≡ rows (cow_value t).rows) }
+    ensures types { IfOk result (λ t. (arc_value t).types ≡ types_of (relation_at database.now.catalog) (plan_of node.now)) }
+    ensures rows { IfOk result (λ t. evaluated (rows_at database.now) (plan_of node.now) ≡ rows (arc_value t).rows) }
     ensures fault { IfErr result (IsFaultOf (evaluated (rows_at database.now) (plan_of node.now))) }
 {
     match node {
-        TypedNode::Scan(_, scan) => Ok(Cow::Borrowed(database.rows(scan.relation))),
+        TypedNode::Scan(_, scan) => Ok(Arc::try_clone(database.table(scan.relation))?),
         TypedNode::Unary(head, unary, input) => {
             let rows = eval_node(alloc, database, input)?;
             unary_rows(alloc, head.number, unary, rows)
@@ -42,27 +38,32 @@ fn eval_node<'d>(
         TypedNode::Binary(_, binary, left, right) => {
             let first = eval_node(alloc, database, left)?;
             let second = eval_node(alloc, database, right)?;
-            Ok(Cow::Owned(binary_rows(alloc, binary, first, &second)?))
+            let made = binary_rows(alloc, binary, first, &second)?;
+            Ok(Arc::new(alloc, made)?)
         }
         TypedNode::Exchange(_, _, input) => eval_node(alloc, database, input),
     }
 }
 
-// The rows of a node as one's own, for a caller who keeps them.
-fn own_rows(alloc: Global, database: &Database, node: &TypedNode) -> Result<Rows, EvalFault>
+// The rows of a node as one chunk, for a caller who goes through them. None is copied.
+fn shared_rows(
+    alloc: Global,
+    database: &Database,
+    node: &TypedNode,
+) -> Result<ChunkedRows, EvalFault>
     requires { IsFit database.now.catalog (plan_of node.now) }
     ensures types { IfOk result (λ t. t.types ≡ types_of (relation_at database.now.catalog) (plan_of node.now)) }
     ensures rows { IfOk result (λ t. evaluated (rows_at database.now) (plan_of node.now) ≡ rows t.rows) }
     ensures fault { IfErr result (IsFaultOf (evaluated (rows_at database.now) (plan_of node.now))) }
 {
-    let rows = eval_node(alloc, database, node)?;
-    Ok(owned(alloc, rows)?)
+    let table = eval_node(alloc, database, node)?;
+    Ok(ChunkedRows::of(alloc, &table, 0, table.len())?)
 }
 
 /// The rows of a plan without exchanges over a database of its catalog: those of its serial meaning.
 ///
 /// It is refused for another catalog first, then for its first exchange, then for the first node that overflows.
-pub fn eval(alloc: Global, plan: &TypedPlan, database: &Database) -> Result<Rows, EvalFault>
+pub fn eval(alloc: Global, plan: &TypedPlan, database: &Database) -> Result<ChunkedRows, EvalFault>
     ensures rows { IfOk result (IsSerialOf (resolved_of plan.now) database.now) }
     ensures refused { IfErr result (EvalFails (resolved_of plan.now) database.now) }
 {
@@ -72,5 +73,5 @@ pub fn eval(alloc: Global, plan: &TypedPlan, database: &Database) -> Result<Rows
     if let Some(node) = first_exchange(plan.root()) {
         return Err(EvalFault::HasExchange { node });
     }
-    own_rows(alloc, database, plan.root())
+    shared_rows(alloc, database, plan.root())
 }

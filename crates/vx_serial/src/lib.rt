@@ -4,8 +4,8 @@
 mod evaluation;
 mod exchanges;
 mod fault;
-mod lending;
 mod operators;
+mod sharing;
 
 pub use evaluation::eval;
 pub use fault::EvalFault;

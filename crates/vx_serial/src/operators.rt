@@ -1,7 +1,7 @@
 //! What one operator makes of the rows of its inputs.
 
 ghost use Rattle.std.specs.Prelude.{◌≡◌, ◌++◌, true, Some, map, IfOk, IfErr};
-ghost use Rattle.std.specs.Cow.{cow_value};
+ghost use Rattle.std.specs.Arc.{arc_value};
 ghost use Rattle.std.specs.List.{list_all};
 ghost use Rattle.vx_plan_nodes.specs.Outline.{aggregate_of, unary_of, binary_of};
 ghost use Rattle.vx_plan_nodes.specs.Plan.{group, plain};
@@ -12,9 +12,9 @@ ghost use Rattle.vx_serial.specs.Evaluated.{evaluated_rows};
 ghost use Rattle.vx_serial.specs.Results.{IsFaultAt};
 
 use crate::fault::EvalFault;
-use crate::lending::owned;
+use crate::sharing::owned;
 use std::alloc::{AllocError, Global};
-use std::borrow::Cow;
+use std::sync::Arc;
 use vx_algebra::{passing, projected, sorted, united};
 use vx_match::{GroupFault, distinct, grouped, hash_join};
 use vx_plan_nodes::{Aggregate, Binary, Projected, Unary};
@@ -56,34 +56,34 @@ fn groups_of(
 }
 
 /// What the operator with this number makes of its input's rows. A selection hands them on where all of them pass.
-pub fn unary_rows<'d>(
+pub fn unary_rows(
     alloc: Global,
     number: u32,
     unary: &Unary,
-    rows: Cow<'d, Rows>,
-) -> Result<Cow<'d, Rows>, EvalFault>
-    requires { is_unary (cow_value rows).types (unary_of unary.now) ≡ true }
-    ensures types { IfOk result (λ t. (cow_value t).types ≡ unary_types (unary_of unary.now) (cow_value rows.entry).types) }
-    ensures rows { IfOk result (λ t. evaluated_rows (unary_of unary.now) (cow_value rows.entry).rows ≡ Some (cow_value t).rows) }
-    ensures fault { IfErr result (IsFaultAt number (evaluated_rows (unary_of unary.now) (cow_value rows.entry).rows)) }
+    rows: Arc<Rows>,
+) -> Result<Arc<Rows>, EvalFault>
+    requires { is_unary (arc_value rows).types (unary_of unary.now) ≡ true }
+    ensures types { IfOk result (λ t. (arc_value t).types ≡ unary_types (unary_of unary.now) (arc_value rows).types) }
+    ensures rows { IfOk result (λ t. evaluated_rows (unary_of unary.now) (arc_value rows).rows ≡ Some (arc_value t).rows) }
+    ensures fault { IfErr result (IsFaultAt number (evaluated_rows (unary_of unary.now) (arc_value rows).rows)) }
 {
     match unary {
         Unary::Select(conditions) => match passing(alloc, conditions.as_slice(), &rows)? {
-            Some(kept) => Ok(Cow::Owned(kept)),
+            Some(kept) => Ok(Arc::new(alloc, kept)?),
             None => Ok(rows),
         },
         Unary::Project(kept) => {
             let columns = columns_of(alloc, kept.as_slice())?;
-            Ok(Cow::Owned(projected(alloc, &rows, columns.as_slice())?))
+            Ok(Arc::new(alloc, projected(alloc, &rows, columns.as_slice())?)?)
         }
         Unary::Distinct(kept) => {
             let columns = columns_of(alloc, kept.as_slice())?;
-            Ok(Cow::Owned(distinct(alloc, &rows, columns.as_slice())?))
+            Ok(Arc::new(alloc, distinct(alloc, &rows, columns.as_slice())?)?)
         }
-        Unary::Sort(columns) => Ok(Cow::Owned(sorted(alloc, &rows, columns.as_slice())?)),
+        Unary::Sort(columns) => Ok(Arc::new(alloc, sorted(alloc, &rows, columns.as_slice())?)?),
         Unary::Group(_, by, aggregates) => {
             let groups = groups_of(alloc, number, &rows, by.as_slice(), aggregates.as_slice())?;
-            Ok(Cow::Owned(groups))
+            Ok(Arc::new(alloc, groups)?)
         }
     }
 }
@@ -119,16 +119,16 @@ fn joined(
 }
 
 /// What an operator makes of the rows of its left and its right input. A merge join gives the list of a hash join. A
-/// union adds to the left rows, and copies them where they are lent.
+/// union adds to the left rows, and copies them if others share them.
 pub fn binary_rows(
     alloc: Global,
     binary: &Binary,
-    left: Cow<'_, Rows>,
+    left: Arc<Rows>,
     right: &Rows,
 ) -> Result<Rows, AllocError>
-    requires { is_binary (cow_value left).types right.now.types (binary_of binary.now) ≡ true }
-    ensures types { IfOk result (λ t. t.types ≡ binary_types (binary_of binary.now) (cow_value left.entry).types right.now.types) }
-    ensures rows { IfOk result (λ t. t.rows ≡ binary_rows (binary_of binary.now) (cow_value left.entry).rows right.now.rows) }
+    requires { is_binary (arc_value left).types right.now.types (binary_of binary.now) ≡ true }
+    ensures types { IfOk result (λ t. t.types ≡ binary_types (binary_of binary.now) (arc_value left).types right.now.types) }
+    ensures rows { IfOk result (λ t. t.rows ≡ binary_rows (binary_of binary.now) (arc_value left).rows right.now.rows) }
 {
     match binary {
         Binary::Union => united(owned(alloc, left)?, right),
