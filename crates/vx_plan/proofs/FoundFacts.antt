@@ -10,10 +10,10 @@ use Rattle.vx_plan_nodes.specs.Typed.{are_columns}
 use Rattle.vx_values.specs.Lists.{is_some_list}
 use Rattle.vx_values.specs.Values.{Name}
 use Rattle.vx_plan_json.specs.Fault.{Refusal}
-use Rattle.vx_plan.specs.Lookup.{walk_onto, column_or, column_found, columns_found, keys_found, once, keys_once}
+use Rattle.vx_plan.specs.Lookup.{walk_onto, column_or, find_column, find_columns, find_keys, test_distinct, test_distinct_keys}
 use Rattle.vx_plan_json.proofs.Holds.{all_push, Holds, holds_then}
 use Rattle.vx_values.proofs.Booleans.{and-left, and-right, and-both}
-use Rattle.vx_plan.proofs.Apart.{apart, once-apart, distinct-columns}
+use Rattle.vx_plan.proofs.Apart.{apart, test_distinct-apart, distinct-columns}
 
 -- the name of a column
 abbrev pub name_of : List Name → ℕ → Name
@@ -29,8 +29,8 @@ column_or-found node names name (Some c) h =
     let p = position-Some (bytes_eq name) names c [] h in
     record { below = lt-ltb c (length names) p.0; named = sym ((bytes_eq-Decides name (name_of names c)).0 p.1) }
 
-pub column-found : (node : ℕ) (names : List Name) (name : Name) → Holds (IsColumn names name) (column_found node names name)
-unfolding column_found
+pub column-found : (node : ℕ) (names : List Name) (name : Name) → Holds (IsColumn names name) (find_column node names name)
+unfolding find_column
 column-found node names name = column_or-found node names name (position (bytes_eq name) names) refl
 
 -- what holds of each answer of a walk, and of the lists so far
@@ -57,18 +57,18 @@ pub record AreColumns (names : List Name) (list : List Name) (cs : List ℕ) : T
   pub below : all_below (length names) cs ≡ true
   pub named : map (name_of names) cs ≡ list
 
-pub columns-found : (node : ℕ) (names : List Name) (list : List Name) → Holds (AreColumns names list) (columns_found node names list)
-unfolding columns_found
+pub columns-found : (node : ℕ) (names : List Name) (list : List Name) → Holds (AreColumns names list) (find_columns node names list)
+unfolding find_columns
 columns-found node names list =
-    walk-holds (column_found node names) (IsColumn names) (AreColumns names) (column-found node names)
+    walk-holds (find_column node names) (IsColumn names) (AreColumns names) (column-found node names)
     (λ xs cs x c h p. record {
       below = all_push (λ c. nat_lt c (length names)) cs c h.below p.below;
       named = map_push (name_of names) cs c ∙ ap (λ zs. zs ++ name_of names c ∷ []) h.named ∙ ap (λ n. xs ++ n ∷ []) p.named;
     }) list [] [] (record { below = refl; named = refl })
 
 -- found columns of names that stand once are columns, none of them twice
-pub once-columns : (names list : List Name) (cs : List ℕ) (w : ℕ) → length names ≡ w → AreColumns names list cs → apart bytes_eq list ≡ true → are_columns w cs ≡ true
-once-columns names list cs w e h a =
+pub test_distinct-columns : (names list : List Name) (cs : List ℕ) (w : ℕ) → length names ≡ w → AreColumns names list cs → apart bytes_eq list ≡ true → are_columns w cs ≡ true
+test_distinct-columns names list cs w e h a =
     let P : ℕ → Type 0 = λ n. all_below n cs ≡ true in
     let Q : List Name → Type 0 = λ zs. apart bytes_eq zs ≡ true in
     and-both (all_below w cs) (are_distinct cs) (subst P e h.below) (distinct-columns (name_of names) cs (subst Q (sym h.named) a))
@@ -92,25 +92,25 @@ keys-push names [] (x ∷ ks) l k h p = absurd h
 keys-push names (x ∷ ls) [] l k h p = absurd h
 keys-push names (x ∷ ls) (y ∷ ks) l k h p = (h.0, keys-push names ls ks l k h.1 p)
 
-pub keys-found : (node : ℕ) (names : List Name) (keys : List (List Name)) → Holds (AreKeys names keys) (keys_found node names keys)
-unfolding keys_found
-keys-found node names keys = walk-holds (columns_found node names) (AreColumns names) (AreKeys names) (columns-found node names) (λ ls ks l k h p. keys-push names ls ks l k h p) keys [] [] tt
+pub keys-found : (node : ℕ) (names : List Name) (keys : List (List Name)) → Holds (AreKeys names keys) (find_keys node names keys)
+unfolding find_keys
+keys-found node names keys = walk-holds (find_columns node names) (AreColumns names) (AreKeys names) (columns-found node names) (λ ls ks l k h p. keys-push names ls ks l k h p) keys [] [] tt
 
-pub keys_once-apart : (node : ℕ) (keys : List (List Name)) → Holds (λ (u : ⊤). list_all (apart bytes_eq) keys ≡ true) (keys_once node keys)
-unfolding keys_once
-keys_once-apart node [] = refl
-keys_once-apart node (k ∷ keys) =
-    holds_then (λ (u : ⊤). apart bytes_eq k ≡ true) (λ (u : ⊤). list_all (apart bytes_eq) (k ∷ keys) ≡ true) (λ u. keys_once node keys) (once node k) (once-apart node k)
-    (λ u h. holds-weaker (keys_once node keys) (λ v a. and-both (apart bytes_eq k) (list_all (apart bytes_eq) keys) h a) (keys_once-apart node keys))
+pub test_distinct_keys-apart : (node : ℕ) (keys : List (List Name)) → Holds (λ (u : ⊤). list_all (apart bytes_eq) keys ≡ true) (test_distinct_keys node keys)
+unfolding test_distinct_keys
+test_distinct_keys-apart node [] = refl
+test_distinct_keys-apart node (k ∷ keys) =
+    holds_then (λ (u : ⊤). apart bytes_eq k ≡ true) (λ (u : ⊤). list_all (apart bytes_eq) (k ∷ keys) ≡ true) (λ u. test_distinct_keys node keys) (test_distinct node k) (test_distinct-apart node k)
+    (λ u h. holds-weaker (test_distinct_keys node keys) (λ v a. and-both (apart bytes_eq k) (list_all (apart bytes_eq) keys) h a) (test_distinct_keys-apart node keys))
   where
     holds-weaker : {A : Type 0} {P Q : A → Type 0} (r : Result A Refusal) → ((x : A) → P x → Q x) → Holds P r → Holds Q r
     holds-weaker (Ok x) f h = f x h
     holds-weaker (Err e) f h = tt
 
-pub once-keys : (names : List Name) (keys : List (List Name)) (ks : List (List ℕ)) (w : ℕ) → length names ≡ w → AreKeys names keys ks → list_all (apart bytes_eq) keys ≡ true → list_all (are_columns w) ks ≡ true
-once-keys names [] [] w e h a = refl
-once-keys names [] (k ∷ ks) w e h a = absurd h
-once-keys names (l ∷ keys) [] w e h a = absurd h
-once-keys names (l ∷ keys) (k ∷ ks) w e h a =
-    and-both (are_columns w k) (list_all (are_columns w) ks) (once-columns names l k w e h.0 (and-left (apart bytes_eq l) (list_all (apart bytes_eq) keys) a))
-    (once-keys names keys ks w e h.1 (and-right (apart bytes_eq l) (list_all (apart bytes_eq) keys) a))
+pub test_distinct-keys : (names : List Name) (keys : List (List Name)) (ks : List (List ℕ)) (w : ℕ) → length names ≡ w → AreKeys names keys ks → list_all (apart bytes_eq) keys ≡ true → list_all (are_columns w) ks ≡ true
+test_distinct-keys names [] [] w e h a = refl
+test_distinct-keys names [] (k ∷ ks) w e h a = absurd h
+test_distinct-keys names (l ∷ keys) [] w e h a = absurd h
+test_distinct-keys names (l ∷ keys) (k ∷ ks) w e h a =
+    and-both (are_columns w k) (list_all (are_columns w) ks) (test_distinct-columns names l k w e h.0 (and-left (apart bytes_eq l) (list_all (apart bytes_eq) keys) a))
+    (test_distinct-keys names keys ks w e h.1 (and-right (apart bytes_eq l) (list_all (apart bytes_eq) keys) a))

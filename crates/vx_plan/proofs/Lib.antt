@@ -7,3 +7,13 @@ pub mod ClaimFacts
 pub mod PhaseFacts
 pub mod ShapeFacts
 pub mod PlanFacts
+pub mod Each
+pub mod Passed
+pub mod Looked
+pub mod ClaimExact
+pub mod UnarySaid
+pub mod UnaryAgain
+pub mod PairExact
+pub mod PlanSaid
+pub mod PlanAgain
+pub mod PlanExact

@@ -1,5 +1,5 @@
 -- Grouping in two phases: a final group that was found over its partial one is typed.
-use Rattle.std.proofs.Common.{◌≡◌, ℕ, zero, suc, ◌+◌, ◌<◌, ◌≤◌, ◌==◌, nat_lt, Bool, true, false, not, ◌&&◌, ◌||◌, List, [], ◌∷◌, ◌++◌, map, length, Option, Some, None, refl, sym, ap, ◌∙◌, subst, arith, eq-eqb, lt-ltb, append_assoc, length-append, take, get_or}
+use Rattle.std.proofs.Common.{◌≡◌, ℕ, zero, suc, ◌+◌, ◌<◌, ◌≤◌, ◌==◌, nat_lt, true, false, not, ◌&&◌, ◌||◌, List, [], ◌∷◌, ◌++◌, map, length, Some, refl, sym, ap, ◌∙◌, subst, arith, eq-eqb, lt-ltb, append_assoc, length-append, take, get_or}
 use Rattle.std.specs.List.{list_all, list_any}
 use Rattle.std.proofs.lemmas.List.{length-map, length-take-le, map_push}
 use Rattle.vx_values.specs.declared.value.ColType.{ColType}
@@ -7,7 +7,7 @@ use Rattle.vx_values.specs.declared.value.ColType.TheVariants.{Int}
 use Rattle.vx_values.specs.Types.{type_at}
 use Rattle.vx_values.specs.Lists.{is_some_list}
 use Rattle.vx_relations.specs.Catalog.{relation_at, all_below, are_distinct}
-use Rattle.vx_plan_nodes.specs.Plan.{Aggregate, least, greatest, sum, count_rows, Unary, select, project, distinct, sort, group, plain, partial, final}
+use Rattle.vx_plan_nodes.specs.Plan.{Aggregate, least, greatest, sum, count_rows, select, project, distinct, sort, group, plain, partial, final}
 use Rattle.vx_plan_nodes.specs.Types.{types_of, aggregate_type}
 use Rattle.vx_plan_nodes.specs.Typed.{type_eq, are_columns, is_aggregate, is_unary, is_output, is_kind, may_merge, typed}
 use Rattle.vx_plan_nodes.specs.Phases.{columns_from, first_columns, merging, merged, aggregate_eq, aggregates_eq, columns_eq, opens, phase_fits}
@@ -15,7 +15,7 @@ use Rattle.vx_plan_nodes.specs.declared.typed.Aggregate as rust
 use Rattle.vx_plan_nodes.specs.Outline.{Outline, aggregate_of, scan, unary, binary, exchange, plan_in}
 use Rattle.vx_plan_nodes.specs.Names.{Names, scope_of}
 use Rattle.vx_plan_nodes.proofs.ErasedFacts.{type-right}
-use Rattle.vx_plan.specs.Resolve.{parts_made, parts_of}
+use Rattle.vx_plan.specs.Resolve.{parts_of}
 use Rattle.vx_plan.proofs.TestFacts.{taken_more}
 use Rattle.vx_values.proofs.Booleans.{and-left, and-right, and-both}
 
@@ -46,12 +46,12 @@ first_push n =
     ap first_columns e ∙ (columns-push 0 n ∙ ap (λ k. columns_from 0 n ++ k ∷ []) z)
 
 -- the next aggregate of a loop that puts them together
-pub merged_next : (prior : List rust.Aggregate) (y : rust.Aggregate) (i k : ℕ) (xs : List rust.Aggregate) (x : rust.Aggregate) → k < length xs → x ≡ get_or xs k x → map aggregate_of prior ≡ merged i (map aggregate_of (take k xs))
-    → aggregate_of y ≡ merging (i + k) (aggregate_of x) → map aggregate_of (prior ++ y ∷ []) ≡ merged i (map aggregate_of (take (k + 1) xs))
-merged_next prior y i k xs x h e so_far put =
+pub merged_next : (before : List rust.Aggregate) (y : rust.Aggregate) (i k : ℕ) (xs : List rust.Aggregate) (x : rust.Aggregate) → k < length xs → x ≡ get_or xs k x → map aggregate_of before ≡ merged i (map aggregate_of (take k xs))
+    → aggregate_of y ≡ merging (i + k) (aggregate_of x) → map aggregate_of (before ++ y ∷ []) ≡ merged i (map aggregate_of (take (k + 1) xs))
+merged_next before y i k xs x h e so_far put =
     let n : length (map aggregate_of (take k xs)) ≡ k = length-map (take k xs) aggregate_of ∙ length-take-le k xs (omega (arith, h)) in
     let at : merging (i + length (map aggregate_of (take k xs))) (aggregate_of x) ≡ merging (i + k) (aggregate_of x) = ap (λ m. merging (i + m) (aggregate_of x)) n in
-    map_push aggregate_of prior y ∙ ap (λ zs. zs ++ aggregate_of y ∷ []) so_far ∙ ap (λ z. merged i (map aggregate_of (take k xs)) ++ z ∷ []) (put ∙ sym at)
+    map_push aggregate_of before y ∙ ap (λ zs. zs ++ aggregate_of y ∷ []) so_far ∙ ap (λ z. merged i (map aggregate_of (take k xs)) ++ z ∷ []) (put ∙ sym at)
     ∙ sym (ap (merged i) (taken_more aggregate_of xs k x h e) ∙ merged-push i (map aggregate_of (take k xs)) (aggregate_of x))
 
 columns-length : (i n : ℕ) → length (columns_from i n) ≡ n
@@ -111,17 +111,17 @@ parts-open (binary h op t u) g e = cc
 parts-open (exchange h k m t) g e = parts-open t g e
 
 -- the aggregates of the final group name columns of the partial one, and sum numbers alone
-merged-typed : (ts prior : List ColType) (i : ℕ) (aggregates : List Aggregate) → length prior ≡ i → list_all (is_aggregate (prior ++ map (aggregate_type ts) aggregates)) (merged i aggregates) ≡ true
-merged-typed ts prior i [] e = refl
-merged-typed ts prior i (a ∷ aggregates) e =
+merged-typed : (ts before : List ColType) (i : ℕ) (aggregates : List Aggregate) → length before ≡ i → list_all (is_aggregate (before ++ map (aggregate_type ts) aggregates)) (merged i aggregates) ≡ true
+merged-typed ts before i [] e = refl
+merged-typed ts before i (a ∷ aggregates) e =
     let v : ColType = aggregate_type ts a in
     let vs : List ColType = map (aggregate_type ts) aggregates in
-    let us : List ColType = prior ++ v ∷ vs in
-    let wide : i < length us = (let k = length-append prior (v ∷ vs) in omega (arith, k, e)) in
-    let at : type_at us i ≡ v = type-right prior (v ∷ vs) i 0 (omega (arith, e)) in
-    let more : length (prior ++ v ∷ []) ≡ suc i = (let k = length-append prior (v ∷ []) in omega (arith, k, e)) in
+    let us : List ColType = before ++ v ∷ vs in
+    let wide : i < length us = (let k = length-append before (v ∷ vs) in omega (arith, k, e)) in
+    let at : type_at us i ≡ v = type-right before (v ∷ vs) i 0 (omega (arith, e)) in
+    let more : length (before ++ v ∷ []) ≡ suc i = (let k = length-append before (v ∷ []) in omega (arith, k, e)) in
     let P : List ColType → Type 0 = λ us. list_all (is_aggregate us) (merged (suc i) aggregates) ≡ true in
-    and-both (is_aggregate us (merging i a)) (list_all (is_aggregate us) (merged (suc i) aggregates)) (here a us (lt-ltb i (length us) wide) at) (subst P (append_assoc prior (v ∷ []) vs) (merged-typed ts (prior ++ v ∷ []) (suc i) aggregates more))
+    and-both (is_aggregate us (merging i a)) (list_all (is_aggregate us) (merged (suc i) aggregates)) (here a us (lt-ltb i (length us) wide) at) (subst P (append_assoc before (v ∷ []) vs) (merged-typed ts (before ++ v ∷ []) (suc i) aggregates more))
   where
     here : (a : Aggregate) (us : List ColType) → nat_lt i (length us) ≡ true → type_at us i ≡ aggregate_type ts a → is_aggregate us (merging i a) ≡ true
     here (least c) us l h = l

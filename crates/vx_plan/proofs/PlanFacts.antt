@@ -18,9 +18,9 @@ use Rattle.vx_values.specs.Ranges.{RangeForm}
 use Rattle.vx_plan_json.specs.Document as form
 use Rattle.vx_plan_nodes.specs.Outline.{Columns, Top, Outline, scan, unary, binary, exchange, columns, plan_in}
 use Rattle.vx_plan_json.specs.Fault.{Refusal, bad_size, bad_range, ◌>>=◌}
-use Rattle.vx_plan.specs.Lookup.{tested_onto, size_found}
+use Rattle.vx_plan.specs.Lookup.{tested_onto, find_size}
 use Rattle.vx_plan_nodes.specs.Names.{Names, scope_of}
-use Rattle.vx_plan.specs.Resolve.{scan_columns, relation_or, relation_found, scan_typed, topped, is_final_form, unary_shape, unary_typed, binary_shape, binary_typed, exchange_shape, exchange_typed, typed_in, is_bad_size, sizes_tested, is_bad_range, ranges_tested}
+use Rattle.vx_plan.specs.Resolve.{scan_columns, relation_or, find_relation, scan_typed, with_claim, is_final_form, unary_shape, unary_typed, binary_shape, binary_typed, exchange_shape, exchange_typed, typed_in, is_bad_size, test_sizes, is_bad_range, test_ranges}
 use Rattle.vx_plan_json.specs.Formed.{is_claim_form, is_scan_form, is_unary_form, is_binary_form, is_kind_form, is_merge_form, is_tree_form}
 use Rattle.vx_plan_json.proofs.Holds.{Holds, holds_then, holds_at}
 use Rattle.vx_values.proofs.Booleans.{and-left, and-right, and-both}
@@ -53,8 +53,8 @@ relation_or-holds : (catalog : List Relation) (node : ℕ) (name : Name) (o : Op
 relation_or-holds catalog node name None h = tt
 relation_or-holds catalog node name (Some r) h = lt-ltb r (length catalog) (position-Some (λ (r : Relation). bytes_eq name r.name) catalog r (relation_at catalog r) h).0
 
-relation-holds : (s : Names) (node : ℕ) (name : Name) → Holds (λ r. nat_lt r (length s.catalog) ≡ true) (relation_found s node name)
-unfolding relation_found
+pub relation-holds : (s : Names) (node : ℕ) (name : Name) → Holds (λ r. nat_lt r (length s.catalog) ≡ true) (find_relation s node name)
+unfolding find_relation
 relation-holds s node name = relation_or-holds s.catalog node name (position (λ (r : Relation). bytes_eq name r.name) s.catalog) refl
 
 scan-output : (r : Relation) (prefix : List ℕ) → IsRelation r → IsOutput r.types (scan_columns r prefix)
@@ -70,11 +70,11 @@ scan-holds : (s : Names) (under : Bool) (n : ℕ) (c : ClaimForm) (f : ScanForm)
 unfolding scan_typed
 scan-holds s under n c f cat h =
     holds_then (λ r. nat_lt r (length s.catalog) ≡ true) (λ o. IsResolved s under n o (n + 1))
-    (λ r. size_found s f.size >>= λ z. topped s n (scan_columns (relation_at s.catalog r) f.prefix) c >>= λ t. Ok (scan t r f.shared z f.prefix)) (relation_found s n f.relation) (relation-holds s n f.relation)
+    (λ r. find_size s f.size >>= λ z. with_claim s n (scan_columns (relation_at s.catalog r) f.prefix) c >>= λ t. Ok (scan t r f.shared z f.prefix)) (find_relation s n f.relation) (relation-holds s n f.relation)
     (λ r hr.
     let out = scan-output (relation_at s.catalog r) f.prefix (cat.each r hr) in
-    holds_then (λ z. is_size (length s.sizes) z ≡ true) (λ o. IsResolved s under n o (n + 1)) (λ z. topped s n (scan_columns (relation_at s.catalog r) f.prefix) c >>= λ t. Ok (scan t r f.shared z f.prefix)) (size_found s f.size) (size-holds s f.size)
-    (λ z hz. holds_then (IsTop s n (scan_columns (relation_at s.catalog r) f.prefix)) (λ o. IsResolved s under n o (n + 1)) (λ t. Ok (scan t r f.shared z f.prefix)) (topped s n (scan_columns (relation_at s.catalog r) f.prefix) c)
+    holds_then (λ z. is_size (length s.sizes) z ≡ true) (λ o. IsResolved s under n o (n + 1)) (λ z. with_claim s n (scan_columns (relation_at s.catalog r) f.prefix) c >>= λ t. Ok (scan t r f.shared z f.prefix)) (find_size s f.size) (size-holds s f.size)
+    (λ z hz. holds_then (IsTop s n (scan_columns (relation_at s.catalog r) f.prefix)) (λ o. IsResolved s under n o (n + 1)) (λ t. Ok (scan t r f.shared z f.prefix)) (with_claim s n (scan_columns (relation_at s.catalog r) f.prefix) c)
     (top-holds s n (scan_columns (relation_at s.catalog r) f.prefix) c out.names_are h)
     (λ t ht. record {
       output = top-columns s n (relation_at s.catalog r).types (scan_columns (relation_at s.catalog r) f.prefix) t out ht;
@@ -90,12 +90,12 @@ unary-holds : (s : Names) (under : Bool) (n : ℕ) (c : ClaimForm) (op : UnaryFo
 unfolding unary_typed
 unary-holds s under n c op i next hc ho hi =
     let ts : List ColType = types_of (relation_at s.catalog) (plan_in i) in
-    holds_then (IsShape under (plan_in i) (columns i)) (λ o. IsResolved s under n o next) (λ o. topped s n o.columns c >>= λ h. Ok (unary h o.op o.renamed i)) (unary_shape under n i op) (shape-holds under s n i op hi.output hi.typed ho hi.closed)
+    holds_then (IsShape under (plan_in i) (columns i)) (λ o. IsResolved s under n o next) (λ o. with_claim s n o.columns c >>= λ h. Ok (unary h o.op o.renamed i)) (unary_shape under n i op) (shape-holds under s n i op hi.output hi.typed ho hi.closed)
     (λ o sh.
     let P : List ColType → Type 0 = λ us. IsOutput (unary_types o.op us) o.columns in
     let Q : List ColType → Type 0 = λ us. is_unary us o.op ≡ true in
     let out : IsOutput (unary_types o.op ts) o.columns = subst P hi.output.types_are sh.output in
-    holds_then (IsTop s n o.columns) (λ o. IsResolved s under n o next) (λ h. Ok (unary h o.op o.renamed i)) (topped s n o.columns c) (top-holds s n o.columns c out.names_are hc)
+    holds_then (IsTop s n o.columns) (λ o. IsResolved s under n o next) (λ h. Ok (unary h o.op o.renamed i)) (with_claim s n o.columns c) (top-holds s n o.columns c out.names_are hc)
     (λ t ht.
     let R : ℕ → Type 0 = λ k. is_numbered k (plan_in i) ≡ true in
     record {
@@ -114,7 +114,7 @@ unfolding binary_typed
 binary-holds s under n c op l r between next hc ho hl hr =
     let ts : List ColType = types_of (relation_at s.catalog) (plan_in l) in
     let us : List ColType = types_of (relation_at s.catalog) (plan_in r) in
-    holds_then (IsJoint (columns l) (columns r)) (λ o. IsResolved s under n o next) (λ o. topped s n o.columns c >>= λ h. Ok (binary h o.op l r)) (binary_shape n (columns l) (columns r) op)
+    holds_then (IsJoint (columns l) (columns r)) (λ o. IsResolved s under n o next) (λ o. with_claim s n o.columns c >>= λ h. Ok (binary h o.op l r)) (binary_shape n (columns l) (columns r) op)
     (joint-holds n (columns l) (columns r) op (own-output hl.output) (own-output hr.output) ho)
     (λ o j.
     let out : IsOutput (binary_types o.op ts us) o.columns =
@@ -125,7 +125,7 @@ binary-holds s under n c op l r between next hc ho hl hr =
     (let Q : List ColType → Type 0 = λ xs. is_binary xs us o.op ≡ true in
     let Q' : List ColType → Type 0 = λ xs. is_binary (columns l).types xs o.op ≡ true in
     subst Q hl.output.types_are (subst Q' hr.output.types_are j.op)) in
-    holds_then (IsTop s n o.columns) (λ o. IsResolved s under n o next) (λ h. Ok (binary h o.op l r)) (topped s n o.columns c) (top-holds s n o.columns c out.names_are hc)
+    holds_then (IsTop s n o.columns) (λ o. IsResolved s under n o next) (λ h. Ok (binary h o.op l r)) (with_claim s n o.columns c) (top-holds s n o.columns c out.names_are hc)
     (λ t ht.
     let R : ℕ → Type 0 = λ k. is_numbered k (plan_in l) ≡ true in
     let S : ℕ → Type 0 = λ k. is_numbered k (plan_in r) ≡ true in
@@ -148,8 +148,8 @@ exchanged-holds : (s : Names) (under : Bool) (n : ℕ) (c : ClaimForm) (kind : K
 unfolding exchange_typed
 exchanged-holds s under n c kind merge i next hc hk hm hi =
     let ts : List ColType = types_of (relation_at s.catalog) (plan_in i) in
-    holds_then (IsExchange s (columns i).types) (λ o. IsResolved s under n o next) (λ k. topped s n (columns i) c >>= λ h. Ok (exchange h k.0 k.1 i)) (exchange_shape s n (columns i) kind merge) (exchange-holds s n (columns i) kind merge (own-output hi.output) hk hm)
-    (λ x hx. holds_then (IsTop s n (columns i)) (λ o. IsResolved s under n o next) (λ h. Ok (exchange h x.0 x.1 i)) (topped s n (columns i) c) (top-holds s n (columns i) c hi.output.names_are hc)
+    holds_then (IsExchange s (columns i).types) (λ o. IsResolved s under n o next) (λ k. with_claim s n (columns i) c >>= λ h. Ok (exchange h k.0 k.1 i)) (exchange_shape s n (columns i) kind merge) (exchange-holds s n (columns i) kind merge (own-output hi.output) hk hm)
+    (λ x hx. holds_then (IsTop s n (columns i)) (λ o. IsResolved s under n o next) (λ h. Ok (exchange h x.0 x.1 i)) (with_claim s n (columns i) c) (top-holds s n (columns i) c hi.output.names_are hc)
     (λ t ht.
     let P : List ColType → Type 0 = λ us. is_kind (scope_of s) us x.0 ≡ true in
     let Q : List ColType → Type 0 = λ us. are_columns (length us) x.1 ≡ true in
@@ -198,37 +198,37 @@ tree-holds s under n (form.exchange c k m t) cat h =
     (exchanged-holds s under n c k m i.0 i.1 (and-left (is_claim_form c) (is_kind_form k && (is_merge_form k m && is_tree_form t)) h) (and-left (is_kind_form k) (is_merge_form k m && is_tree_form t) rest) (and-left (is_merge_form k m) (is_tree_form t) last) hi))
 
 -- at most 16 size names
-sizes-few : (names prior : List Name) → length prior ≤ 16 → tested_onto is_bad_size bad_size prior names ≡ Ok tt → length prior + length names ≤ 16
+sizes-few : (names before : List Name) → length before ≤ 16 → tested_onto is_bad_size bad_size before names ≡ Ok tt → length before + length names ≤ 16
 unfolding tested_onto
-sizes-few [] prior few h = omega (arith, few)
-sizes-few (x ∷ xs) prior few h = go (is_bad_size prior x) refl (λ e k. sizes-few xs (prior ++ x ∷ []) e k) h
+sizes-few [] before few h = omega (arith, few)
+sizes-few (x ∷ xs) before few h = go (is_bad_size before x) refl (λ e k. sizes-few xs (before ++ x ∷ []) e k) h
   where
-    go : (b : Bool) → is_bad_size prior x ≡ b → (length (prior ++ x ∷ []) ≤ 16 → tested_onto is_bad_size bad_size (prior ++ x ∷ []) xs ≡ Ok tt → length (prior ++ x ∷ []) + length xs ≤ 16)
-        → cond b (Err (bad_size x)) (tested_onto is_bad_size bad_size (prior ++ x ∷ []) xs) ≡ Ok tt → length prior + suc (length xs) ≤ 16
+    go : (b : Bool) → is_bad_size before x ≡ b → (length (before ++ x ∷ []) ≤ 16 → tested_onto is_bad_size bad_size (before ++ x ∷ []) xs ≡ Ok tt → length (before ++ x ∷ []) + length xs ≤ 16)
+        → cond b (Err (bad_size x)) (tested_onto is_bad_size bad_size (before ++ x ∷ []) xs) ≡ Ok tt → length before + suc (length xs) ≤ 16
     go true e next k = cc
     go false e next k =
-        let room = leb-false 16 (length prior) (or_parts (nat_le 16 (length prior)) _ e).0 in
-        let n = length_push prior x in
+        let room = leb-false 16 (length before) (or_parts (nat_le 16 (length before)) _ e).0 in
+        let n = length_push before x in
         let m = next (omega (arith, n, room)) k in
         omega (arith, n, m)
 
 -- every range is one
-ranges-are : (ranges prior : List RangeForm) → tested_onto is_bad_range (λ (r : RangeForm). bad_range r.name) prior ranges ≡ Ok tt → list_all is_range (map (λ (r : RangeForm). r.bounds) ranges) ≡ true
+ranges-are : (ranges before : List RangeForm) → tested_onto is_bad_range (λ (r : RangeForm). bad_range r.name) before ranges ≡ Ok tt → list_all is_range (map (λ (r : RangeForm). r.bounds) ranges) ≡ true
 unfolding tested_onto
-ranges-are [] prior h = refl
-ranges-are (r ∷ rs) prior h = go (is_bad_range prior r) refl (ranges-are rs (prior ++ r ∷ [])) h
+ranges-are [] before h = refl
+ranges-are (r ∷ rs) before h = go (is_bad_range before r) refl (ranges-are rs (before ++ r ∷ [])) h
   where
-    go : (b : Bool) → is_bad_range prior r ≡ b → (tested_onto is_bad_range (λ (r : RangeForm). bad_range r.name) (prior ++ r ∷ []) rs ≡ Ok tt → list_all is_range (map (λ (r : RangeForm). r.bounds) rs) ≡ true)
-        → cond b (Err (bad_range r.name)) (tested_onto is_bad_range (λ (r : RangeForm). bad_range r.name) (prior ++ r ∷ []) rs) ≡ Ok tt → (is_range r.bounds && list_all is_range (map (λ (r : RangeForm). r.bounds) rs)) ≡ true
+    go : (b : Bool) → is_bad_range before r ≡ b → (tested_onto is_bad_range (λ (r : RangeForm). bad_range r.name) (before ++ r ∷ []) rs ≡ Ok tt → list_all is_range (map (λ (r : RangeForm). r.bounds) rs) ≡ true)
+        → cond b (Err (bad_range r.name)) (tested_onto is_bad_range (λ (r : RangeForm). bad_range r.name) (before ++ r ∷ []) rs) ≡ Ok tt → (is_range r.bounds && list_all is_range (map (λ (r : RangeForm). r.bounds) rs)) ≡ true
     go true e next k = cc
     go false e next k =
         and-both (is_range r.bounds) (list_all is_range (map (λ (r : RangeForm). r.bounds) rs))
-        (not-false (is_range r.bounds) (or_parts (list_any (λ (q : RangeForm). bytes_eq r.name q.name) prior) (not (is_range r.bounds)) e).1) (next k)
+        (not-false (is_range r.bounds) (or_parts (list_any (λ (q : RangeForm). bytes_eq r.name q.name) before) (not (is_range r.bounds)) e).1) (next k)
 
 -- what was resolved is typed, and every node has the columns of its output
-pub resolved-typed : (s : Names) (t : Tree) (o : Outline) (next : ℕ) → IsCatalog s.catalog → is_tree_form t ≡ true → sizes_tested s.sizes ≡ Ok tt → ranges_tested s.ranges ≡ Ok tt → typed_in s false 0 t ≡ Ok (o, next)
+pub resolved-typed : (s : Names) (t : Tree) (o : Outline) (next : ℕ) → IsCatalog s.catalog → is_tree_form t ≡ true → test_sizes s.sizes ≡ Ok tt → test_ranges s.ranges ≡ Ok tt → typed_in s false 0 t ≡ Ok (o, next)
     → IsTyped (scope_of s) (plan_in o) × (next ≡ nodes (plan_in o)) × HasOutputs (relation_at s.catalog) o
-unfolding sizes_tested ranges_tested
+unfolding test_sizes test_ranges
 resolved-typed s t o next cat formed sizes ranges h =
     let r = holds_at (λ (r : Outline × ℕ). IsResolved s false 0 r.0 r.1) (typed_in s false 0 t) (o, next) (tree-holds s false 0 t cat formed) h in
     let few : length s.sizes ≤ 16 = (let f = sizes-few s.sizes [] (omega arith) sizes in omega (arith, f)) in (

@@ -18,17 +18,17 @@ use Rattle.vx_plan_json.specs.Document.{ConditionForm, OutputForm, AggregateForm
 use Rattle.vx_plan_json.specs.Document as form
 use Rattle.vx_plan_nodes.specs.Outline.{Columns, Outline, columns, plan_in}
 use Rattle.vx_plan_json.specs.Fault.{Refusal, ◌>>=◌}
-use Rattle.vx_plan.specs.Lookup.{walk_onto, column_found, columns_found, once, pairs_once, pair_eq, matched, narrow, size_found, range_found}
+use Rattle.vx_plan.specs.Lookup.{walk_onto, find_column, find_columns, test_distinct, test_distinct_pairs, pair_eq, test_match, test_width, find_size, find_range}
 use Rattle.vx_plan_nodes.specs.Names.{Names, scope_of}
-use Rattle.vx_plan.specs.Resolve.{condition_found, conditions_found, select_shape, Shape, output_name, kept_found, all_kept_found, kept_shape, kept_columns, project_shape, distinct_shape, sort_shape, function_found, aggregates_found, group_found, group_tested, group_columns, group_shape, finished, partial_shape, parts_of, final_shape, is_final_form, unary_shape, pair_found, pairs_found, join_tested, join_pairs, both_columns, Joint, binary_shape, kind_found, kind_names, kind_fits, exchange_columns, exchange_once, exchange_shape}
+use Rattle.vx_plan.specs.Resolve.{find_condition, find_conditions, select_shape, Shape, output_name, find_kept, find_all_kept, kept_shape, kept_columns, project_shape, distinct_shape, sort_shape, find_function, find_aggregates, find_group, test_group, group_columns, group_shape, test_phase, partial_shape, parts_of, final_shape, is_final_form, unary_shape, find_pair, find_pairs, test_join, join_pairs, both_columns, Joint, binary_shape, find_kind, kind_names, kind_fits, exchange_columns, test_exchange, exchange_shape}
 use Rattle.vx_plan_json.specs.Formed.{are_names, are_some_names, is_condition_form, is_output_form, is_aggregate_form, is_unary_form, is_pair_form, is_binary_form, is_kind_form, is_merge_form}
 use Rattle.vx_plan_json.proofs.Holds.{all_push, Holds, holds_then}
 use Rattle.vx_values.proofs.Booleans.{and-left, and-right, and-both}
-use Rattle.vx_plan.proofs.Apart.{apart, apart-front, once-apart, pairs_once-apart, distinct-pairs}
-use Rattle.vx_plan.proofs.FoundFacts.{name_of, AreColumns, IsColumn, column-found, columns-found, walk-holds, walk-length, once-columns, some-columns}
+use Rattle.vx_plan.proofs.Apart.{apart, apart-prefix, test_distinct-apart, test_distinct_pairs-apart, distinct-pairs}
+use Rattle.vx_plan.proofs.FoundFacts.{name_of, AreColumns, IsColumn, column-found, columns-found, walk-holds, walk-length, test_distinct-columns, some-columns}
 use Rattle.vx_plan_nodes.proofs.ErasedFacts.{final-types}
 use Rattle.vx_plan.proofs.PhaseFacts.{some-alike, parts-open, final-unary}
-use Rattle.vx_plan.proofs.ClaimFacts.{matched-holds, narrow-holds, size-holds, range-holds, hash-routed, range-routed}
+use Rattle.vx_plan.proofs.ClaimFacts.{test_match-holds, test_width-holds, size-holds, range-holds, hash-routed, range-routed}
 
 -- as wide as the types say, and at most 64 columns
 pub record IsOutput (types : List ColType) (cols : Columns) : Type 0 where
@@ -48,30 +48,30 @@ pub record IsShape (under : Bool) (p : Plan) (cols : Columns) (o : Shape) : Type
   pub closed : under ≡ false → is_partial o.op ≡ false
 
 select-holds : (under : Bool) (p : Plan) (node : ℕ) (cols : Columns) (cs : List ConditionForm) → IsOutput cols.types cols → is_some_list cs ≡ true → is_open p ≡ false → Holds (IsShape under p cols) (select_shape node cols cs)
-unfolding select_shape conditions_found
+unfolding select_shape find_conditions
 select-holds under p node cols cs out h shut =
-    holds_then (λ (ks : List Condition). length ks ≡ length cs) (IsShape under p cols) (λ ks. matched node (list_all (is_condition cols.types) ks) >>= λ u. Ok (record { op = plan.select ks; renamed = []; columns = cols }))
-    (walk_onto (condition_found node cols.names) [] cs) (walk-length (condition_found node cols.names) cs)
-    (λ ks l. holds_then (λ (u : ⊤). list_all (is_condition cols.types) ks ≡ true) (IsShape under p cols) (λ u. Ok (record { op = plan.select ks; renamed = []; columns = cols })) (matched node (list_all (is_condition cols.types) ks)) (matched-holds node (list_all (is_condition cols.types) ks))
+    holds_then (λ (ks : List Condition). length ks ≡ length cs) (IsShape under p cols) (λ ks. test_match node (list_all (is_condition cols.types) ks) >>= λ u. Ok (record { op = plan.select ks; renamed = []; columns = cols }))
+    (walk_onto (find_condition node cols.names) [] cs) (walk-length (find_condition node cols.names) cs)
+    (λ ks l. holds_then (λ (u : ⊤). list_all (is_condition cols.types) ks ≡ true) (IsShape under p cols) (λ u. Ok (record { op = plan.select ks; renamed = []; columns = cols })) (test_match node (list_all (is_condition cols.types) ks)) (test_match-holds node (list_all (is_condition cols.types) ks))
     (λ u m. record { op = and-both (is_some_list ks) (list_all (is_condition cols.types) ks) (some-alike ks cs l ∙ h) m; output = out; fits = ap not shut; closed = λ e. refl }))
 
 record AreKept (names : List Name) (os : List OutputForm) (ks : List Projected) : Type 0 where
   below : all_below (length names) (map (λ (k : Projected). k.column) ks) ≡ true
   count : length ks ≡ length os
 
-map-map : {A B C : Type 0} (f : B → C) (g : A → B) (xs : List A) → map f (map g xs) ≡ map (λ x. f (g x)) xs
+pub map-map : {A B C : Type 0} (f : B → C) (g : A → B) (xs : List A) → map f (map g xs) ≡ map (λ x. f (g x)) xs
 map-map f g [] = refl
 map-map f g (x ∷ xs) = ap (λ ys. f (g x) ∷ ys) (map-map f g xs)
 
-one-kept : (node : ℕ) (names : List Name) (o : OutputForm) → Holds (λ (k : Projected). nat_lt k.column (length names) ≡ true) (kept_found node names o)
-unfolding kept_found
+one-kept : (node : ℕ) (names : List Name) (o : OutputForm) → Holds (λ (k : Projected). nat_lt k.column (length names) ≡ true) (find_kept node names o)
+unfolding find_kept
 one-kept node names o =
-    holds_then (IsColumn names o.column) (λ (k : Projected). nat_lt k.column (length names) ≡ true) (λ c. Ok (record { column = c; renamed = is_some o.renamed })) (column_found node names o.column) (column-found node names o.column) (λ c h. h.below)
+    holds_then (IsColumn names o.column) (λ (k : Projected). nat_lt k.column (length names) ≡ true) (λ c. Ok (record { column = c; renamed = is_some o.renamed })) (find_column node names o.column) (column-found node names o.column) (λ c h. h.below)
 
-all-kept : (node : ℕ) (names : List Name) (os : List OutputForm) → Holds (AreKept names os) (all_kept_found node names os)
-unfolding all_kept_found
+all-kept : (node : ℕ) (names : List Name) (os : List OutputForm) → Holds (AreKept names os) (find_all_kept node names os)
+unfolding find_all_kept
 all-kept node names os =
-    walk-holds (kept_found node names) (λ o (k : Projected). nat_lt k.column (length names) ≡ true) (AreKept names) (one-kept node names)
+    walk-holds (find_kept node names) (λ o (k : Projected). nat_lt k.column (length names) ≡ true) (AreKept names) (one-kept node names)
     (λ xs ks x k h p.
     let P : List ℕ → Type 0 = λ cs. all_below (length names) cs ≡ true in
     record {
@@ -86,9 +86,9 @@ record IsKeptShape (cols : Columns) (os : List OutputForm) (ks : List Projected)
 kept-holds : (node : ℕ) (cols : Columns) (os : List OutputForm) → Holds (IsKeptShape cols os) (kept_shape node cols os)
 unfolding kept_shape
 kept-holds node cols os =
-    holds_then (AreKept cols.names os) (IsKeptShape cols os) (λ ks. once node (map output_name os) >>= λ u. narrow node (length os) >>= λ v. Ok ks) (all_kept_found node cols.names os) (all-kept node cols.names os)
-    (λ ks h. holds_then (λ (u : ⊤). apart bytes_eq (map output_name os) ≡ true) (IsKeptShape cols os) (λ u. narrow node (length os) >>= λ v. Ok ks) (once node (map output_name os)) (once-apart node (map output_name os))
-    (λ u a. holds_then (λ (v : ⊤). nat_le (length os) 64 ≡ true) (IsKeptShape cols os) (λ v. Ok ks) (narrow node (length os)) (narrow-holds node (length os)) (λ v n. record { kept = h; few = n })))
+    holds_then (AreKept cols.names os) (IsKeptShape cols os) (λ ks. test_distinct node (map output_name os) >>= λ u. test_width node (length os) >>= λ v. Ok ks) (find_all_kept node cols.names os) (all-kept node cols.names os)
+    (λ ks h. holds_then (λ (u : ⊤). apart bytes_eq (map output_name os) ≡ true) (IsKeptShape cols os) (λ u. test_width node (length os) >>= λ v. Ok ks) (test_distinct node (map output_name os)) (test_distinct-apart node (map output_name os))
+    (λ u a. holds_then (λ (v : ⊤). nat_le (length os) 64 ≡ true) (IsKeptShape cols os) (λ v. Ok ks) (test_width node (length os)) (test_width-holds node (length os)) (λ v n. record { kept = h; few = n })))
 
 kept-output : (cols : Columns) (os : List OutputForm) (ks : List Projected) → IsKeptShape cols os ks → IsOutput (map (type_at cols.types) (map (λ (k : Projected). k.column) ks)) (kept_columns cols os ks)
 kept-output cols os ks h =
@@ -123,10 +123,10 @@ distinct-holds under p node cols os out h shut =
 sort-holds : (under : Bool) (p : Plan) (node : ℕ) (cols : Columns) (names : List Name) → IsOutput cols.types cols → is_some_list names ≡ true → is_open p ≡ false → Holds (IsShape under p cols) (sort_shape node cols names)
 unfolding sort_shape
 sort-holds under p node cols names out h shut =
-    holds_then (AreColumns cols.names names) (IsShape under p cols) (λ ps. once node names >>= λ u. Ok (record { op = plan.sort ps; renamed = []; columns = cols })) (columns_found node cols.names names) (columns-found node cols.names names)
-    (λ ps f. holds_then (λ (u : ⊤). apart bytes_eq names ≡ true) (IsShape under p cols) (λ u. Ok (record { op = plan.sort ps; renamed = []; columns = cols })) (once node names) (once-apart node names)
+    holds_then (AreColumns cols.names names) (IsShape under p cols) (λ ps. test_distinct node names >>= λ u. Ok (record { op = plan.sort ps; renamed = []; columns = cols })) (find_columns node cols.names names) (columns-found node cols.names names)
+    (λ ps f. holds_then (λ (u : ⊤). apart bytes_eq names ≡ true) (IsShape under p cols) (λ u. Ok (record { op = plan.sort ps; renamed = []; columns = cols })) (test_distinct node names) (test_distinct-apart node names)
     (λ u a. record {
-      op = and-both (is_some_list ps) (are_columns (length cols.types) ps) (some-columns cols.names names ps f h) (once-columns cols.names names ps (length cols.types) out.names_are f a);
+      op = and-both (is_some_list ps) (are_columns (length cols.types) ps) (some-columns cols.names names ps f h) (test_distinct-columns cols.names names ps (length cols.types) out.names_are f a);
       output = out;
       fits = ap not shut;
       closed = λ e. refl;
@@ -136,27 +136,27 @@ record IsGroupFound (cols : Columns) (by : List Name) (aggregates : List Aggrega
   keys : AreColumns cols.names by g.0
   count : length g.1 ≡ length aggregates
 
-group_found-holds : (node : ℕ) (cols : Columns) (by : List Name) (aggregates : List AggregateForm) → Holds (IsGroupFound cols by aggregates) (group_found node cols.names by aggregates)
-unfolding group_found aggregates_found
-group_found-holds node cols by aggregates =
-    holds_then (AreColumns cols.names by) (IsGroupFound cols by aggregates) (λ bs. walk_onto (λ (a : AggregateForm). function_found node cols.names a.function) [] aggregates >>= λ ks. Ok (bs, ks)) (columns_found node cols.names by) (columns-found node cols.names by)
-    (λ bs f. holds_then (λ (ks : List Aggregate). length ks ≡ length aggregates) (IsGroupFound cols by aggregates) (λ ks. Ok (bs, ks)) (walk_onto (λ (a : AggregateForm). function_found node cols.names a.function) [] aggregates)
-    (walk-length (λ (a : AggregateForm). function_found node cols.names a.function) aggregates) (λ ks l. record { keys = f; count = l }))
+find_group-holds : (node : ℕ) (cols : Columns) (by : List Name) (aggregates : List AggregateForm) → Holds (IsGroupFound cols by aggregates) (find_group node cols.names by aggregates)
+unfolding find_group find_aggregates
+find_group-holds node cols by aggregates =
+    holds_then (AreColumns cols.names by) (IsGroupFound cols by aggregates) (λ bs. walk_onto (λ (a : AggregateForm). find_function node cols.names a.function) [] aggregates >>= λ ks. Ok (bs, ks)) (find_columns node cols.names by) (columns-found node cols.names by)
+    (λ bs f. holds_then (λ (ks : List Aggregate). length ks ≡ length aggregates) (IsGroupFound cols by aggregates) (λ ks. Ok (bs, ks)) (walk_onto (λ (a : AggregateForm). find_function node cols.names a.function) [] aggregates)
+    (walk-length (λ (a : AggregateForm). find_function node cols.names a.function) aggregates) (λ ks l. record { keys = f; count = l }))
 
 record IsGroupTested (types : List ColType) (names : List Name) (ks : List Aggregate) : Type 0 where
-  once : apart bytes_eq names ≡ true
+  distinct : apart bytes_eq names ≡ true
   few : nat_le (length names) 64 ≡ true
   typed : list_all (is_aggregate types) ks ≡ true
 
-group_tested-holds : (node : ℕ) (types : List ColType) (names : List Name) (ks : List Aggregate) → Holds (λ (u : ⊤). IsGroupTested types names ks) (group_tested node types names ks)
-unfolding group_tested
-group_tested-holds node types names ks =
-    holds_then (λ (u : ⊤). apart bytes_eq names ≡ true) (λ (u : ⊤). IsGroupTested types names ks) (λ u. narrow node (length names) >>= λ v. matched node (list_all (is_aggregate types) ks)) (once node names) (once-apart node names)
-    (λ u a. holds_then (λ (u : ⊤). nat_le (length names) 64 ≡ true) (λ (u : ⊤). IsGroupTested types names ks) (λ v. matched node (list_all (is_aggregate types) ks)) (narrow node (length names)) (narrow-holds node (length names))
-    (λ v n. go a n (matched node (list_all (is_aggregate types) ks)) (matched-holds node (list_all (is_aggregate types) ks))))
+test_group-holds : (node : ℕ) (types : List ColType) (names : List Name) (ks : List Aggregate) → Holds (λ (u : ⊤). IsGroupTested types names ks) (test_group node types names ks)
+unfolding test_group
+test_group-holds node types names ks =
+    holds_then (λ (u : ⊤). apart bytes_eq names ≡ true) (λ (u : ⊤). IsGroupTested types names ks) (λ u. test_width node (length names) >>= λ v. test_match node (list_all (is_aggregate types) ks)) (test_distinct node names) (test_distinct-apart node names)
+    (λ u a. holds_then (λ (u : ⊤). nat_le (length names) 64 ≡ true) (λ (u : ⊤). IsGroupTested types names ks) (λ v. test_match node (list_all (is_aggregate types) ks)) (test_width node (length names)) (test_width-holds node (length names))
+    (λ v n. go a n (test_match node (list_all (is_aggregate types) ks)) (test_match-holds node (list_all (is_aggregate types) ks))))
   where
     go : apart bytes_eq names ≡ true → nat_le (length names) 64 ≡ true → (r : Result ⊤ Refusal) → Holds (λ (u : ⊤). list_all (is_aggregate types) ks ≡ true) r → Holds (λ (u : ⊤). IsGroupTested types names ks) r
-    go a n (Ok u) m = record { once = a; few = n; typed = m }
+    go a n (Ok u) m = record { distinct = a; few = n; typed = m }
     go a n (Err e) m = tt
 
 columns-count : (names list : List Name) (cs : List ℕ) → AreColumns names list cs → length cs ≡ length list
@@ -168,10 +168,10 @@ group-holds : (under : Bool) (p : Plan) (phase : Phase) (node : ℕ) (cols : Col
 unfolding group_shape
 group-holds under p phase node cols by aggregates out h fits shut =
     holds_then (IsGroupFound cols by aggregates) (IsShape under p cols)
-    (λ g. group_tested node cols.types (by ++ map (λ (a : AggregateForm). a.name) aggregates) g.1 >>= λ u. Ok (record { op = plan.group phase g.0 g.1; renamed = []; columns = group_columns cols by aggregates g.0 g.1 }))
-    (group_found node cols.names by aggregates) (group_found-holds node cols by aggregates)
+    (λ g. test_group node cols.types (by ++ map (λ (a : AggregateForm). a.name) aggregates) g.1 >>= λ u. Ok (record { op = plan.group phase g.0 g.1; renamed = []; columns = group_columns cols by aggregates g.0 g.1 }))
+    (find_group node cols.names by aggregates) (find_group-holds node cols by aggregates)
     (λ g f. holds_then (λ (u : ⊤). IsGroupTested cols.types (by ++ map (λ (a : AggregateForm). a.name) aggregates) g.1) (IsShape under p cols) (λ u. Ok (record { op = plan.group phase g.0 g.1; renamed = []; columns = group_columns cols by aggregates g.0 g.1 }))
-    (group_tested node cols.types (by ++ map (λ (a : AggregateForm). a.name) aggregates) g.1) (group_tested-holds node cols.types (by ++ map (λ (a : AggregateForm). a.name) aggregates) g.1)
+    (test_group node cols.types (by ++ map (λ (a : AggregateForm). a.name) aggregates) g.1) (test_group-holds node cols.types (by ++ map (λ (a : AggregateForm). a.name) aggregates) g.1)
     (λ u m.
     let names : List Name = by ++ map (λ (a : AggregateForm). a.name) aggregates in
     let types : List ColType = map (type_at cols.types) g.0 ++ map (aggregate_type cols.types) g.1 in
@@ -185,22 +185,22 @@ group-holds under p phase node cols by aggregates out h fits shut =
       op = and-both (is_some_list g.0 || is_some_list g.1) (are_columns (length cols.types) g.0 && list_all (is_aggregate cols.types) g.1)
           (ap (λ b. b || is_some_list g.1) (some-alike g.0 by keys) ∙ ap (λ b. is_some_list by || b) (some-alike g.1 aggregates f.count) ∙ h)
           (and-both (are_columns (length cols.types) g.0) (list_all (is_aggregate cols.types) g.1)
-          (once-columns cols.names by g.0 (length cols.types) out.names_are f.keys (apart-front bytes_eq by (map (λ (a : AggregateForm). a.name) aggregates) m.once)) m.typed);
+          (test_distinct-columns cols.names by g.0 (length cols.types) out.names_are f.keys (apart-prefix bytes_eq by (map (λ (a : AggregateForm). a.name) aggregates) m.distinct)) m.typed);
       output = record { types_are = refl; names_are = wide; few = subst P wide m.few };
       fits = fits g.0 g.1;
       closed = shut g.0 g.1;
     }))
 
-finished-holds : (node : ℕ) (under : Bool) → Holds (λ (u : ⊤). under ≡ true) (finished node under)
-unfolding finished
-finished-holds node true = refl
-finished-holds node false = tt
+test_phase-holds : (node : ℕ) (under : Bool) → Holds (λ (u : ⊤). under ≡ true) (test_phase node under)
+unfolding test_phase
+test_phase-holds node true = refl
+test_phase-holds node false = tt
 
 partial-holds : (under : Bool) (p : Plan) (node : ℕ) (cols : Columns) (by : List Name) (aggregates : List AggregateForm) → IsOutput cols.types cols → (is_some_list by || is_some_list aggregates) ≡ true → is_open p ≡ false
     → Holds (IsShape under p cols) (partial_shape under node cols by aggregates)
 unfolding partial_shape
 partial-holds under p node cols by aggregates out h shut =
-    holds_then (λ (u : ⊤). under ≡ true) (IsShape under p cols) (λ u. group_shape plan.partial node cols by aggregates) (finished node under) (finished-holds node under)
+    holds_then (λ (u : ⊤). under ≡ true) (IsShape under p cols) (λ u. group_shape plan.partial node cols by aggregates) (test_phase node under) (test_phase-holds node under)
     (λ u e. group-holds under p plan.partial node cols by aggregates out h (λ bs ks. ap not shut) (λ bs ks f. absurd (true≢false (sym e ∙ f))))
 
 final-holds : (under : Bool) (s : Names) (node : ℕ) (t : Outline) (parts : Option (List ℕ × List Aggregate)) → parts_of t ≡ parts → IsOutput (types_of (relation_at s.catalog) (plan_in t)) (columns t) → typed (scope_of s) (plan_in t) ≡ true
@@ -244,17 +244,17 @@ record ArePairs (l r : Columns) (on : List (Name × Name)) (ps : List (ℕ × �
   named : map (λ (p : ℕ × ℕ). (name_of l.names p.0, name_of r.names p.1)) ps ≡ on
   count : length ps ≡ length on
 
-one-pair : (node : ℕ) (ls rs : List Name) (p : Name × Name) → Holds (λ (q : ℕ × ℕ). (name_of ls q.0, name_of rs q.1) ≡ p) (pair_found node ls rs p)
-unfolding pair_found
+one-pair : (node : ℕ) (ls rs : List Name) (p : Name × Name) → Holds (λ (q : ℕ × ℕ). (name_of ls q.0, name_of rs q.1) ≡ p) (find_pair node ls rs p)
+unfolding find_pair
 one-pair node ls rs p =
-    holds_then (IsColumn ls p.0) (λ (q : ℕ × ℕ). (name_of ls q.0, name_of rs q.1) ≡ p) (λ l. column_found node rs p.1 >>= λ r. Ok (l, r)) (column_found node ls p.0) (column-found node ls p.0)
-    (λ l h. holds_then (IsColumn rs p.1) (λ (q : ℕ × ℕ). (name_of ls q.0, name_of rs q.1) ≡ p) (λ r. Ok (l, r)) (column_found node rs p.1) (column-found node rs p.1)
+    holds_then (IsColumn ls p.0) (λ (q : ℕ × ℕ). (name_of ls q.0, name_of rs q.1) ≡ p) (λ l. find_column node rs p.1 >>= λ r. Ok (l, r)) (find_column node ls p.0) (column-found node ls p.0)
+    (λ l h. holds_then (IsColumn rs p.1) (λ (q : ℕ × ℕ). (name_of ls q.0, name_of rs q.1) ≡ p) (λ r. Ok (l, r)) (find_column node rs p.1) (column-found node rs p.1)
     (λ r k. ap (λ n. (n, name_of rs r)) h.named ∙ ap (λ n. (p.0, n)) k.named))
 
-all-pairs : (node : ℕ) (l r : Columns) (on : List (Name × Name)) → Holds (ArePairs l r on) (pairs_found node l.names r.names on)
-unfolding pairs_found
+all-pairs : (node : ℕ) (l r : Columns) (on : List (Name × Name)) → Holds (ArePairs l r on) (find_pairs node l.names r.names on)
+unfolding find_pairs
 all-pairs node l r on =
-    walk-holds (pair_found node l.names r.names) (λ p (q : ℕ × ℕ). (name_of l.names q.0, name_of r.names q.1) ≡ p) (ArePairs l r) (one-pair node l.names r.names)
+    walk-holds (find_pair node l.names r.names) (λ p (q : ℕ × ℕ). (name_of l.names q.0, name_of r.names q.1) ≡ p) (ArePairs l r) (one-pair node l.names r.names)
     (λ xs ps x p h e. record {
       named = map_push (λ (p : ℕ × ℕ). (name_of l.names p.0, name_of r.names p.1)) ps p ∙ ap (λ zs. zs ++ (name_of l.names p.0, name_of r.names p.1) ∷ []) h.named ∙ ap (λ q. xs ++ q ∷ []) e;
       count = length_push ps p ∙ ap (λ n. n + 1) h.count ∙ sym (length_push xs x);
@@ -264,12 +264,12 @@ record IsJoinTested (names : List Name) (on : List (Name × Name)) : Type 0 wher
   pairs : apart pair_eq on ≡ true
   few : nat_le (length names) 64 ≡ true
 
-join_tested-holds : (node : ℕ) (names : List Name) (on : List (Name × Name)) → Holds (λ (u : ⊤). IsJoinTested names on) (join_tested node names on)
-unfolding join_tested
-join_tested-holds node names on =
-    holds_then (λ (u : ⊤). apart bytes_eq names ≡ true) (λ (u : ⊤). IsJoinTested names on) (λ u. pairs_once node on >>= λ v. narrow node (length names)) (once node names) (once-apart node names)
-    (λ u a. holds_then (λ (u : ⊤). apart pair_eq on ≡ true) (λ (u : ⊤). IsJoinTested names on) (λ v. narrow node (length names)) (pairs_once node on) (pairs_once-apart node on)
-    (λ v p. go p (narrow node (length names)) (narrow-holds node (length names))))
+test_join-holds : (node : ℕ) (names : List Name) (on : List (Name × Name)) → Holds (λ (u : ⊤). IsJoinTested names on) (test_join node names on)
+unfolding test_join
+test_join-holds node names on =
+    holds_then (λ (u : ⊤). apart bytes_eq names ≡ true) (λ (u : ⊤). IsJoinTested names on) (λ u. test_distinct_pairs node on >>= λ v. test_width node (length names)) (test_distinct node names) (test_distinct-apart node names)
+    (λ u a. holds_then (λ (u : ⊤). apart pair_eq on ≡ true) (λ (u : ⊤). IsJoinTested names on) (λ v. test_width node (length names)) (test_distinct_pairs node on) (test_distinct_pairs-apart node on)
+    (λ v p. go p (test_width node (length names)) (test_width-holds node (length names))))
   where
     go : apart pair_eq on ≡ true → (r : Result ⊤ Refusal) → Holds (λ (u : ⊤). nat_le (length names) 64 ≡ true) r → Holds (λ (u : ⊤). IsJoinTested names on) r
     go p (Ok u) n = record { pairs = p; few = n }
@@ -283,15 +283,15 @@ record IsJoined (l r : Columns) (on : List (Name × Name)) (ps : List (ℕ × �
 join-holds : (node : ℕ) (l r : Columns) (on : List (Name × Name)) → Holds (IsJoined l r on) (join_pairs node l r on)
 unfolding join_pairs
 join-holds node l r on =
-    holds_then (ArePairs l r on) (IsJoined l r on) (λ ps. join_tested node (l.names ++ r.names) on >>= λ u. matched node (list_all (is_pair l.types r.types) ps) >>= λ v. Ok ps) (pairs_found node l.names r.names on) (all-pairs node l r on)
-    (λ ps f. holds_then (λ (u : ⊤). IsJoinTested (l.names ++ r.names) on) (IsJoined l r on) (λ u. matched node (list_all (is_pair l.types r.types) ps) >>= λ v. Ok ps) (join_tested node (l.names ++ r.names) on) (join_tested-holds node (l.names ++ r.names) on)
-    (λ u t. holds_then (λ (v : ⊤). list_all (is_pair l.types r.types) ps ≡ true) (IsJoined l r on) (λ v. Ok ps) (matched node (list_all (is_pair l.types r.types) ps)) (matched-holds node (list_all (is_pair l.types r.types) ps))
+    holds_then (ArePairs l r on) (IsJoined l r on) (λ ps. test_join node (l.names ++ r.names) on >>= λ u. test_match node (list_all (is_pair l.types r.types) ps) >>= λ v. Ok ps) (find_pairs node l.names r.names on) (all-pairs node l r on)
+    (λ ps f. holds_then (λ (u : ⊤). IsJoinTested (l.names ++ r.names) on) (IsJoined l r on) (λ u. test_match node (list_all (is_pair l.types r.types) ps) >>= λ v. Ok ps) (test_join node (l.names ++ r.names) on) (test_join-holds node (l.names ++ r.names) on)
+    (λ u t. holds_then (λ (v : ⊤). list_all (is_pair l.types r.types) ps ≡ true) (IsJoined l r on) (λ v. Ok ps) (test_match node (list_all (is_pair l.types r.types) ps)) (test_match-holds node (list_all (is_pair l.types r.types) ps))
     (λ v m. record { found = f; tested = t; typed = m })))
 
 pub joint-holds : (node : ℕ) (l r : Columns) (op : BinaryForm) → IsOutput l.types l → IsOutput r.types r → is_binary_form op ≡ true → Holds (IsJoint l r) (binary_shape node l r op)
 unfolding binary_shape
 joint-holds node l r form.union lo ro h =
-    holds_then (λ (u : ⊤). types_eq l.types r.types ≡ true) (IsJoint l r) (λ u. Ok (record { op = plan.union; columns = l })) (matched node (types_eq l.types r.types)) (matched-holds node (types_eq l.types r.types)) (λ u m. record { op = m; output = lo })
+    holds_then (λ (u : ⊤). types_eq l.types r.types ≡ true) (IsJoint l r) (λ u. Ok (record { op = plan.union; columns = l })) (test_match node (types_eq l.types r.types)) (test_match-holds node (types_eq l.types r.types)) (λ u m. record { op = m; output = lo })
 joint-holds node l r (form.join merging on) lo ro h =
     holds_then (IsJoined l r on) (IsJoint l r) (λ ps. Ok (record { op = plan.join merging ps; columns = both_columns l r })) (join_pairs node l r on) (join-holds node l r on)
     (λ ps j.
@@ -314,29 +314,29 @@ record IsKind (s : Names) (types : List ColType) (form : KindForm) (k : Exchange
   sends : apart bytes_eq (kind_names form) ≡ true → kind_fits s types k ≡ true → is_kind (scope_of s) types k ≡ true
   merges : (names : List Name) (cols : List ℕ) → is_merge_form form names ≡ true → length cols ≡ length names → may_merge k cols ≡ true
 
-kind-holds : (s : Names) (node : ℕ) (cols : Columns) (kind : KindForm) → IsOutput cols.types cols → is_kind_form kind ≡ true → Holds (IsKind s cols.types kind) (kind_found s node cols.names kind)
-unfolding kind_found
+kind-holds : (s : Names) (node : ℕ) (cols : Columns) (kind : KindForm) → IsOutput cols.types cols → is_kind_form kind ≡ true → Holds (IsKind s cols.types kind) (find_kind s node cols.names kind)
+unfolding find_kind
 kind-holds s node cols (form.hash size route names) out h =
     let rest = and-right (is_some_list size) (is_some_list route && are_some_names names) h in
-    holds_then (λ z. is_size (length s.sizes) z ≡ true) (IsKind s cols.types (form.hash size route names)) (λ z. columns_found node cols.names names >>= λ ps. Ok (route_to z (by_hash route) ps)) (size_found s size) (size-holds s size)
-    (λ z hz. holds_then (AreColumns cols.names names) (IsKind s cols.types (form.hash size route names)) (λ ps. Ok (route_to z (by_hash route) ps)) (columns_found node cols.names names) (columns-found node cols.names names)
+    holds_then (λ z. is_size (length s.sizes) z ≡ true) (IsKind s cols.types (form.hash size route names)) (λ z. find_columns node cols.names names >>= λ ps. Ok (route_to z (by_hash route) ps)) (find_size s size) (size-holds s size)
+    (λ z hz. holds_then (AreColumns cols.names names) (IsKind s cols.types (form.hash size route names)) (λ ps. Ok (route_to z (by_hash route) ps)) (find_columns node cols.names names) (columns-found node cols.names names)
     (λ ps f. record {
       sends = λ a m. and-both (is_size (length s.sizes) z) (is_routed (scope_of s) cols.types (by_hash route) ps) hz
           (hash-routed s cols.names cols.types route names ps out.names_are (and-left (is_some_list route) (are_some_names names) rest) (and-right (is_some_list route) (are_some_names names) rest) f a);
       merges = λ ns ms g e. refl;
     }))
 kind-holds s node cols (form.range size range col) out h =
-    holds_then (λ z. is_size (length s.sizes) z ≡ true) (IsKind s cols.types (form.range size range col)) (λ z. range_found s node range >>= λ k. column_found node cols.names col >>= λ p. Ok (route_to z (by_range k) (p ∷ []))) (size_found s size) (size-holds s size)
-    (λ z hz. holds_then (λ k. nat_lt k (length s.ranges) ≡ true) (IsKind s cols.types (form.range size range col)) (λ k. column_found node cols.names col >>= λ p. Ok (route_to z (by_range k) (p ∷ []))) (range_found s node range) (range-holds s node range)
-    (λ k hk. holds_then (IsColumn cols.names col) (IsKind s cols.types (form.range size range col)) (λ p. Ok (route_to z (by_range k) (p ∷ []))) (column_found node cols.names col) (column-found node cols.names col)
+    holds_then (λ z. is_size (length s.sizes) z ≡ true) (IsKind s cols.types (form.range size range col)) (λ z. find_range s node range >>= λ k. find_column node cols.names col >>= λ p. Ok (route_to z (by_range k) (p ∷ []))) (find_size s size) (size-holds s size)
+    (λ z hz. holds_then (λ k. nat_lt k (length s.ranges) ≡ true) (IsKind s cols.types (form.range size range col)) (λ k. find_column node cols.names col >>= λ p. Ok (route_to z (by_range k) (p ∷ []))) (find_range s node range) (range-holds s node range)
+    (λ k hk. holds_then (IsColumn cols.names col) (IsKind s cols.types (form.range size range col)) (λ p. Ok (route_to z (by_range k) (p ∷ []))) (find_column node cols.names col) (column-found node cols.names col)
     (λ p c. record {
       sends = λ a m. and-both (is_size (length s.sizes) z) (is_routed (scope_of s) cols.types (by_range k) (p ∷ [])) hz (range-routed s cols.names cols.types k p out.names_are hk c.below m);
       merges = λ ns ms g e. refl;
     })))
 kind-holds s node cols (form.round size) out h =
-    holds_then (λ z. is_size (length s.sizes) z ≡ true) (IsKind s cols.types (form.round size)) (λ z. Ok (plan.round z)) (size_found s size) (size-holds s size) (λ z hz. record { sends = λ a m. hz; merges = λ ns ms g e. refl })
+    holds_then (λ z. is_size (length s.sizes) z ≡ true) (IsKind s cols.types (form.round size)) (λ z. Ok (plan.round z)) (find_size s size) (size-holds s size) (λ z hz. record { sends = λ a m. hz; merges = λ ns ms g e. refl })
 kind-holds s node cols (form.broadcast size) out h =
-    holds_then (λ z. is_size (length s.sizes) z ≡ true) (IsKind s cols.types (form.broadcast size)) (λ z. Ok (plan.broadcast z)) (size_found s size) (size-holds s size) (λ z hz. record { sends = λ a m. hz; merges = λ ns ms g e. refl })
+    holds_then (λ z. is_size (length s.sizes) z ≡ true) (IsKind s cols.types (form.broadcast size)) (λ z. Ok (plan.broadcast z)) (find_size s size) (size-holds s size) (λ z hz. record { sends = λ a m. hz; merges = λ ns ms g e. refl })
 kind-holds s node cols form.gather out h = record { sends = λ a m. refl; merges = λ ns ms g e. refl }
 kind-holds s node cols form.concat out h = record { sends = λ a m. refl; merges = none-merged }
   where
@@ -352,17 +352,17 @@ record IsExchangeFound (s : Names) (cols : Columns) (kind : KindForm) (merge : L
 exchange_columns-holds : (s : Names) (node : ℕ) (cols : Columns) (kind : KindForm) (merge : List Name) → IsOutput cols.types cols → is_kind_form kind ≡ true → Holds (IsExchangeFound s cols kind merge) (exchange_columns s node cols.names kind merge)
 unfolding exchange_columns
 exchange_columns-holds s node cols kind merge out h =
-    holds_then (IsKind s cols.types kind) (IsExchangeFound s cols kind merge) (λ k. columns_found node cols.names merge >>= λ ms. Ok (k, ms)) (kind_found s node cols.names kind) (kind-holds s node cols kind out h)
-    (λ k hk. holds_then (AreColumns cols.names merge) (IsExchangeFound s cols kind merge) (λ ms. Ok (k, ms)) (columns_found node cols.names merge) (columns-found node cols.names merge) (λ ms f. record { sends = hk; merges = f }))
+    holds_then (IsKind s cols.types kind) (IsExchangeFound s cols kind merge) (λ k. find_columns node cols.names merge >>= λ ms. Ok (k, ms)) (find_kind s node cols.names kind) (kind-holds s node cols kind out h)
+    (λ k hk. holds_then (AreColumns cols.names merge) (IsExchangeFound s cols kind merge) (λ ms. Ok (k, ms)) (find_columns node cols.names merge) (columns-found node cols.names merge) (λ ms f. record { sends = hk; merges = f }))
 
 record IsExchangeOnce (kind : KindForm) (merge : List Name) : Type 0 where
   sends : apart bytes_eq (kind_names kind) ≡ true
   merges : apart bytes_eq merge ≡ true
 
-exchange_once-holds : (node : ℕ) (kind : KindForm) (merge : List Name) → Holds (λ (u : ⊤). IsExchangeOnce kind merge) (exchange_once node kind merge)
-unfolding exchange_once
-exchange_once-holds node kind merge =
-    holds_then (λ (u : ⊤). apart bytes_eq (kind_names kind) ≡ true) (λ (u : ⊤). IsExchangeOnce kind merge) (λ u. once node merge) (once node (kind_names kind)) (once-apart node (kind_names kind)) (λ u k. go k (once node merge) (once-apart node merge))
+test_exchange-holds : (node : ℕ) (kind : KindForm) (merge : List Name) → Holds (λ (u : ⊤). IsExchangeOnce kind merge) (test_exchange node kind merge)
+unfolding test_exchange
+test_exchange-holds node kind merge =
+    holds_then (λ (u : ⊤). apart bytes_eq (kind_names kind) ≡ true) (λ (u : ⊤). IsExchangeOnce kind merge) (λ u. test_distinct node merge) (test_distinct node (kind_names kind)) (test_distinct-apart node (kind_names kind)) (λ u k. go k (test_distinct node merge) (test_distinct-apart node merge))
   where
     go : apart bytes_eq (kind_names kind) ≡ true → (r : Result ⊤ Refusal) → Holds (λ (u : ⊤). apart bytes_eq merge ≡ true) r → Holds (λ (u : ⊤). IsExchangeOnce kind merge) r
     go k (Ok u) m = record { sends = k; merges = m }
@@ -376,7 +376,7 @@ pub record IsExchange (s : Names) (types : List ColType) (x : ExchangeKind × Li
 pub exchange-holds : (s : Names) (node : ℕ) (cols : Columns) (kind : KindForm) (merge : List Name) → IsOutput cols.types cols → is_kind_form kind ≡ true → is_merge_form kind merge ≡ true → Holds (IsExchange s cols.types) (exchange_shape s node cols kind merge)
 unfolding exchange_shape
 exchange-holds s node cols kind merge out h g =
-    holds_then (IsExchangeFound s cols kind merge) (IsExchange s cols.types) (λ x. exchange_once node kind merge >>= λ u. matched node (kind_fits s cols.types x.0) >>= λ v. Ok x) (exchange_columns s node cols.names kind merge) (exchange_columns-holds s node cols kind merge out h)
-    (λ x f. holds_then (λ (u : ⊤). IsExchangeOnce kind merge) (IsExchange s cols.types) (λ u. matched node (kind_fits s cols.types x.0) >>= λ v. Ok x) (exchange_once node kind merge) (exchange_once-holds node kind merge)
-    (λ u o. holds_then (λ (v : ⊤). kind_fits s cols.types x.0 ≡ true) (IsExchange s cols.types) (λ v. Ok x) (matched node (kind_fits s cols.types x.0)) (matched-holds node (kind_fits s cols.types x.0))
-    (λ v m. record { kind = f.sends.sends o.sends m; merge = once-columns cols.names merge x.1 (length cols.types) out.names_are f.merges o.merges; may = f.sends.merges merge x.1 g (columns-count cols.names merge x.1 f.merges) })))
+    holds_then (IsExchangeFound s cols kind merge) (IsExchange s cols.types) (λ x. test_exchange node kind merge >>= λ u. test_match node (kind_fits s cols.types x.0) >>= λ v. Ok x) (exchange_columns s node cols.names kind merge) (exchange_columns-holds s node cols kind merge out h)
+    (λ x f. holds_then (λ (u : ⊤). IsExchangeOnce kind merge) (IsExchange s cols.types) (λ u. test_match node (kind_fits s cols.types x.0) >>= λ v. Ok x) (test_exchange node kind merge) (test_exchange-holds node kind merge)
+    (λ u o. holds_then (λ (v : ⊤). kind_fits s cols.types x.0 ≡ true) (IsExchange s cols.types) (λ v. Ok x) (test_match node (kind_fits s cols.types x.0)) (test_match-holds node (kind_fits s cols.types x.0))
+    (λ v m. record { kind = f.sends.sends o.sends m; merge = test_distinct-columns cols.names merge x.1 (length cols.types) out.names_are f.merges o.merges; may = f.sends.merges merge x.1 g (columns-count cols.names merge x.1 f.merges) })))

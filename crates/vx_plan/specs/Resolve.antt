@@ -17,18 +17,18 @@ use Rattle.vx_plan_json.specs.Document as form
 use Rattle.vx_plan_nodes.specs.Outline.{Columns, Top, Outline, scan, unary, binary, exchange, columns}
 use Rattle.vx_plan_nodes.specs.declared.typed.Projected.{Projected}
 use Rattle.vx_plan_json.specs.Fault.{Refusal, unknown_relation, bad_range, bad_size, phase_mismatch, ◌>>=◌}
-use Rattle.vx_plan.specs.Lookup.{walk_onto, tested_onto, column_found, columns_found, keys_found, once, pairs_once, keys_once, matched, narrow, size_found, range_found}
+use Rattle.vx_plan.specs.Lookup.{walk_onto, tested_onto, find_column, find_columns, find_keys, test_distinct, test_distinct_pairs, test_distinct_keys, test_match, test_width, find_size, find_range}
 use Rattle.vx_plan_nodes.specs.Names.{Names, TypedPlanView}
 
 -- ---- claims
 
 -- a range comes before its column
-unfoldable pub part_found : Names → ℕ → List Name → PartForm → Result Part Refusal
-part_found s node names form.one = Ok plan.one
-part_found s node names form.any = Ok plan.any
-part_found s node names form.all = Ok plan.all
-part_found s node names (hash_part route cols) = columns_found node names cols >>= λ ps. Ok (routed (by_hash route) ps)
-part_found s node names (range_part range col) = range_found s node range >>= λ k. column_found node names col >>= λ p. Ok (routed (by_range k) (p ∷ []))
+unfoldable pub find_part : Names → ℕ → List Name → PartForm → Result Part Refusal
+find_part s node names form.one = Ok plan.one
+find_part s node names form.any = Ok plan.any
+find_part s node names form.all = Ok plan.all
+find_part s node names (hash_part route cols) = find_columns node names cols >>= λ ps. Ok (routed (by_hash route) ps)
+find_part s node names (range_part range col) = find_range s node range >>= λ k. find_column node names col >>= λ p. Ok (routed (by_range k) (p ∷ []))
 
 abbrev pub part_names : PartForm → List Name
 part_names form.one = []
@@ -56,20 +56,20 @@ part_fits s types (routed r cols) = route_fits s types r cols
 -- the columns of a claim: of its part, its order, its keys
 unfoldable pub claim_columns : Names → ℕ → List Name → ClaimForm → Result Claim Refusal
 claim_columns s node names c =
-    part_found s node names c.part >>= λ p. columns_found node names c.order >>= λ o. keys_found node names c.keys >>= λ ks.
+    find_part s node names c.part >>= λ p. find_columns node names c.order >>= λ o. find_keys node names c.keys >>= λ ks.
     Ok (record { part = p; order = o; keys = ks })
 
 -- no column twice in one list of a claim
-unfoldable pub claim_once : ℕ → ClaimForm → Result ⊤ Refusal
-claim_once node c = once node (part_names c.part) >>= λ u. once node c.order >>= λ v. keys_once node c.keys
+unfoldable pub test_claim : ℕ → ClaimForm → Result ⊤ Refusal
+test_claim node c = test_distinct node (part_names c.part) >>= λ u. test_distinct node c.order >>= λ v. test_distinct_keys node c.keys
 
-unfoldable pub claim_found : Names → ℕ → Columns → ClaimForm → Result Claim Refusal
-claim_found s node cols c =
-    claim_columns s node cols.names c >>= λ k. claim_once node c >>= λ u. matched node (part_fits s cols.types k.part) >>= λ v. Ok k
+unfoldable pub find_claim : Names → ℕ → Columns → ClaimForm → Result Claim Refusal
+find_claim s node cols c =
+    claim_columns s node cols.names c >>= λ k. test_claim node c >>= λ u. test_match node (part_fits s cols.types k.part) >>= λ v. Ok k
 
 -- what every node has: after the operator comes the claim
-unfoldable pub topped : Names → ℕ → Columns → ClaimForm → Result Top Refusal
-topped s node cols c = claim_found s node cols c >>= λ k. Ok (record { number = node; claim = k; columns = cols })
+unfoldable pub with_claim : Names → ℕ → Columns → ClaimForm → Result Top Refusal
+with_claim s node cols c = find_claim s node cols c >>= λ k. Ok (record { number = node; claim = k; columns = cols })
 
 -- ---- scans
 
@@ -80,13 +80,13 @@ abbrev pub relation_or : ℕ → Name → Option ℕ → Result ℕ Refusal
 relation_or node name None = Err (unknown_relation node name)
 relation_or node name (Some r) = Ok r
 
-unfoldable pub relation_found : Names → ℕ → Name → Result ℕ Refusal
-relation_found s node name = relation_or node name (position (λ r. bytes_eq name r.name) s.catalog)
+unfoldable pub find_relation : Names → ℕ → Name → Result ℕ Refusal
+find_relation s node name = relation_or node name (position (λ r. bytes_eq name r.name) s.catalog)
 
 unfoldable pub scan_typed : Names → ℕ → ClaimForm → ScanForm → Result Outline Refusal
 scan_typed s node c f =
-    relation_found s node f.relation >>= λ r. size_found s f.size >>= λ z.
-    topped s node (scan_columns (relation_at s.catalog r) f.prefix) c >>= λ t. Ok (scan t r f.shared z f.prefix)
+    find_relation s node f.relation >>= λ r. find_size s f.size >>= λ z.
+    with_claim s node (scan_columns (relation_at s.catalog r) f.prefix) c >>= λ t. Ok (scan t r f.shared z f.prefix)
 
 -- ---- operators over one input
 
@@ -96,35 +96,35 @@ pub record Shape : Type 0 where
   pub renamed : List Bool
   pub columns : Columns
 
-unfoldable pub side_found : ℕ → List Name → SideForm → Result Side Refusal
-side_found node names (form.column name) = column_found node names name >>= λ c. Ok (plan.column c)
-side_found node names (form.constant v) = Ok (plan.constant v)
+unfoldable pub find_side : ℕ → List Name → SideForm → Result Side Refusal
+find_side node names (form.column name) = find_column node names name >>= λ c. Ok (plan.column c)
+find_side node names (form.constant v) = Ok (plan.constant v)
 
-unfoldable pub condition_found : ℕ → List Name → ConditionForm → Result Condition Refusal
-condition_found node names c = column_found node names c.left >>= λ l. side_found node names c.right >>= λ r. Ok (record { left = l; test = c.test; right = r })
+unfoldable pub find_condition : ℕ → List Name → ConditionForm → Result Condition Refusal
+find_condition node names c = find_column node names c.left >>= λ l. find_side node names c.right >>= λ r. Ok (record { left = l; test = c.test; right = r })
 
-unfoldable pub conditions_found : ℕ → List Name → List ConditionForm → Result (List Condition) Refusal
-conditions_found node names cs = walk_onto (condition_found node names) [] cs
+unfoldable pub find_conditions : ℕ → List Name → List ConditionForm → Result (List Condition) Refusal
+find_conditions node names cs = walk_onto (find_condition node names) [] cs
 
 unfoldable pub select_shape : ℕ → Columns → List ConditionForm → Result Shape Refusal
 select_shape node cols cs =
-    conditions_found node cols.names cs >>= λ ks. matched node (list_all (is_condition cols.types) ks) >>= λ u.
+    find_conditions node cols.names cs >>= λ ks. test_match node (list_all (is_condition cols.types) ks) >>= λ u.
     Ok (record { op = plan.select ks; renamed = []; columns = cols })
 
 -- the name of a kept column in the output
 abbrev pub output_name : OutputForm → Name
 output_name o = unwrap_or o.renamed o.column
 
-unfoldable pub kept_found : ℕ → List Name → OutputForm → Result Projected Refusal
-kept_found node names o = column_found node names o.column >>= λ c. Ok (record { column = c; renamed = is_some o.renamed })
+unfoldable pub find_kept : ℕ → List Name → OutputForm → Result Projected Refusal
+find_kept node names o = find_column node names o.column >>= λ c. Ok (record { column = c; renamed = is_some o.renamed })
 
-unfoldable pub all_kept_found : ℕ → List Name → List OutputForm → Result (List Projected) Refusal
-all_kept_found node names os = walk_onto (kept_found node names) [] os
+unfoldable pub find_all_kept : ℕ → List Name → List OutputForm → Result (List Projected) Refusal
+find_all_kept node names os = walk_onto (find_kept node names) [] os
 
 -- the kept columns of a projection or a distinct
 unfoldable pub kept_shape : ℕ → Columns → List OutputForm → Result (List Projected) Refusal
 kept_shape node cols os =
-    all_kept_found node cols.names os >>= λ ks. once node (map output_name os) >>= λ u. narrow node (length os) >>= λ v. Ok ks
+    find_all_kept node cols.names os >>= λ ks. test_distinct node (map output_name os) >>= λ u. test_width node (length os) >>= λ v. Ok ks
 
 abbrev pub kept_columns : Columns → List OutputForm → List Projected → Columns
 kept_columns cols os ks = record { names = map output_name os; types = map (λ k. type_at cols.types k.column) ks }
@@ -136,16 +136,16 @@ unfoldable pub distinct_shape : ℕ → Columns → List OutputForm → Result S
 distinct_shape node cols os = kept_shape node cols os >>= λ ks. Ok (record { op = plan.distinct (map (λ k. k.column) ks); renamed = map (λ k. k.renamed) ks; columns = kept_columns cols os ks })
 
 unfoldable pub sort_shape : ℕ → Columns → List Name → Result Shape Refusal
-sort_shape node cols names = columns_found node cols.names names >>= λ ps. once node names >>= λ u. Ok (record { op = plan.sort ps; renamed = []; columns = cols })
+sort_shape node cols names = find_columns node cols.names names >>= λ ps. test_distinct node names >>= λ u. Ok (record { op = plan.sort ps; renamed = []; columns = cols })
 
-unfoldable pub function_found : ℕ → List Name → FunctionForm → Result Aggregate Refusal
-function_found node names (form.least c) = column_found node names c >>= λ p. Ok (plan.least p)
-function_found node names (form.greatest c) = column_found node names c >>= λ p. Ok (plan.greatest p)
-function_found node names (form.sum c) = column_found node names c >>= λ p. Ok (plan.sum p)
-function_found node names form.count_rows = Ok plan.count_rows
+unfoldable pub find_function : ℕ → List Name → FunctionForm → Result Aggregate Refusal
+find_function node names (form.least c) = find_column node names c >>= λ p. Ok (plan.least p)
+find_function node names (form.greatest c) = find_column node names c >>= λ p. Ok (plan.greatest p)
+find_function node names (form.sum c) = find_column node names c >>= λ p. Ok (plan.sum p)
+find_function node names form.count_rows = Ok plan.count_rows
 
-unfoldable pub aggregates_found : ℕ → List Name → List AggregateForm → Result (List Aggregate) Refusal
-aggregates_found node names aggregates = walk_onto (λ a. function_found node names a.function) [] aggregates
+unfoldable pub find_aggregates : ℕ → List Name → List AggregateForm → Result (List Aggregate) Refusal
+find_aggregates node names aggregates = walk_onto (λ a. find_function node names a.function) [] aggregates
 
 -- the keys, then the aggregates
 abbrev pub group_columns : Columns → List Name → List AggregateForm → List ℕ → List Aggregate → Columns
@@ -155,23 +155,23 @@ group_columns cols by aggregates bs ks = record {
 }
 
 -- the columns of a group: of its keys, then of its aggregates
-unfoldable pub group_found : ℕ → List Name → List Name → List AggregateForm → Result (List ℕ × List Aggregate) Refusal
-group_found node names by aggregates = columns_found node names by >>= λ bs. aggregates_found node names aggregates >>= λ ks. Ok (bs, ks)
+unfoldable pub find_group : ℕ → List Name → List Name → List AggregateForm → Result (List ℕ × List Aggregate) Refusal
+find_group node names by aggregates = find_columns node names by >>= λ bs. find_aggregates node names aggregates >>= λ ks. Ok (bs, ks)
 
-unfoldable pub group_tested : ℕ → List ColType → List Name → List Aggregate → Result ⊤ Refusal
-group_tested node types names ks = once node names >>= λ u. narrow node (length names) >>= λ v. matched node (list_all (is_aggregate types) ks)
+unfoldable pub test_group : ℕ → List ColType → List Name → List Aggregate → Result ⊤ Refusal
+test_group node types names ks = test_distinct node names >>= λ u. test_width node (length names) >>= λ v. test_match node (list_all (is_aggregate types) ks)
 
 unfoldable pub group_shape : Phase → ℕ → Columns → List Name → List AggregateForm → Result Shape Refusal
 group_shape phase node cols by aggregates =
-    group_found node cols.names by aggregates >>= λ g. group_tested node cols.types (by ++ map (λ a. a.name) aggregates) g.1 >>= λ u.
+    find_group node cols.names by aggregates >>= λ g. test_group node cols.types (by ++ map (λ a. a.name) aggregates) g.1 >>= λ u.
     Ok (record { op = plan.group phase g.0 g.1; renamed = []; columns = group_columns cols by aggregates g.0 g.1 })
 
 -- a partial group is to stand below a final one, with exchanges alone between
-unfoldable pub finished : ℕ → Bool → Result ⊤ Refusal
-finished node under = if under then Ok tt else Err (phase_mismatch node)
+unfoldable pub test_phase : ℕ → Bool → Result ⊤ Refusal
+test_phase node under = if under then Ok tt else Err (phase_mismatch node)
 
 unfoldable pub partial_shape : Bool → ℕ → Columns → List Name → List AggregateForm → Result Shape Refusal
-partial_shape under node cols by aggregates = finished node under >>= λ u. group_shape plan.partial node cols by aggregates
+partial_shape under node cols by aggregates = test_phase node under >>= λ u. group_shape plan.partial node cols by aggregates
 
 -- the columns and the aggregates of a partial group
 abbrev pub parts_made : Unary → Option (List ℕ × List Aggregate)
@@ -206,29 +206,29 @@ unary_shape under node t (form.partial_group by aggregates) = partial_shape unde
 unary_shape under node t form.final_group = final_shape node (columns t) (parts_of t)
 
 unfoldable pub unary_typed : Names → Bool → ℕ → ClaimForm → UnaryForm → Outline → Result Outline Refusal
-unary_typed s under node c op t = unary_shape under node t op >>= λ o. topped s node o.columns c >>= λ h. Ok (unary h o.op o.renamed t)
+unary_typed s under node c op t = unary_shape under node t op >>= λ o. with_claim s node o.columns c >>= λ h. Ok (unary h o.op o.renamed t)
 
 -- ---- operators over two inputs
 
-unfoldable pub pair_found : ℕ → List Name → List Name → Name × Name → Result (ℕ × ℕ) Refusal
-pair_found node ls rs p = column_found node ls p.0 >>= λ l. column_found node rs p.1 >>= λ r. Ok (l, r)
+unfoldable pub find_pair : ℕ → List Name → List Name → Name × Name → Result (ℕ × ℕ) Refusal
+find_pair node ls rs p = find_column node ls p.0 >>= λ l. find_column node rs p.1 >>= λ r. Ok (l, r)
 
-unfoldable pub pairs_found : ℕ → List Name → List Name → List (Name × Name) → Result (List (ℕ × ℕ)) Refusal
-pairs_found node ls rs on = walk_onto (pair_found node ls rs) [] on
+unfoldable pub find_pairs : ℕ → List Name → List Name → List (Name × Name) → Result (List (ℕ × ℕ)) Refusal
+find_pairs node ls rs on = walk_onto (find_pair node ls rs) [] on
 
 -- the left columns, then the right ones
 abbrev pub both_columns : Columns → Columns → Columns
 both_columns l r = record { names = l.names ++ r.names; types = l.types ++ r.types }
 
 -- an output name twice comes before a pair twice
-unfoldable pub join_tested : ℕ → List Name → List (Name × Name) → Result ⊤ Refusal
-join_tested node names on = once node names >>= λ u. pairs_once node on >>= λ v. narrow node (length names)
+unfoldable pub test_join : ℕ → List Name → List (Name × Name) → Result ⊤ Refusal
+test_join node names on = test_distinct node names >>= λ u. test_distinct_pairs node on >>= λ v. test_width node (length names)
 
 -- the pairs of a join
 unfoldable pub join_pairs : ℕ → Columns → Columns → List (Name × Name) → Result (List (ℕ × ℕ)) Refusal
 join_pairs node l r on =
-    pairs_found node l.names r.names on >>= λ ps. join_tested node (l.names ++ r.names) on >>= λ u.
-    matched node (list_all (is_pair l.types r.types) ps) >>= λ v. Ok ps
+    find_pairs node l.names r.names on >>= λ ps. test_join node (l.names ++ r.names) on >>= λ u.
+    test_match node (list_all (is_pair l.types r.types) ps) >>= λ v. Ok ps
 
 -- an operator over two inputs, and its output
 pub record Joint : Type 0 where
@@ -236,23 +236,23 @@ pub record Joint : Type 0 where
   pub columns : Columns
 
 unfoldable pub binary_shape : ℕ → Columns → Columns → BinaryForm → Result Joint Refusal
-binary_shape node l r form.union = matched node (types_eq l.types r.types) >>= λ u. Ok (record { op = plan.union; columns = l })
+binary_shape node l r form.union = test_match node (types_eq l.types r.types) >>= λ u. Ok (record { op = plan.union; columns = l })
 binary_shape node l r (form.join merging on) = join_pairs node l r on >>= λ ps. Ok (record { op = plan.join merging ps; columns = both_columns l r })
 
 unfoldable pub binary_typed : Names → ℕ → ClaimForm → BinaryForm → Outline → Outline → Result Outline Refusal
-binary_typed s node c op t u = binary_shape node (columns t) (columns u) op >>= λ o. topped s node o.columns c >>= λ h. Ok (binary h o.op t u)
+binary_typed s node c op t u = binary_shape node (columns t) (columns u) op >>= λ o. with_claim s node o.columns c >>= λ h. Ok (binary h o.op t u)
 
 -- ---- exchanges
 
 -- a size, then a range, then columns
-unfoldable pub kind_found : Names → ℕ → List Name → KindForm → Result ExchangeKind Refusal
-kind_found s node names (form.hash size route cols) = size_found s size >>= λ z. columns_found node names cols >>= λ ps. Ok (route_to z (by_hash route) ps)
-kind_found s node names (form.range size range col) =
-    size_found s size >>= λ z. range_found s node range >>= λ k. column_found node names col >>= λ p. Ok (route_to z (by_range k) (p ∷ []))
-kind_found s node names (form.round size) = size_found s size >>= λ z. Ok (plan.round z)
-kind_found s node names (form.broadcast size) = size_found s size >>= λ z. Ok (plan.broadcast z)
-kind_found s node names form.gather = Ok plan.gather
-kind_found s node names form.concat = Ok plan.concat
+unfoldable pub find_kind : Names → ℕ → List Name → KindForm → Result ExchangeKind Refusal
+find_kind s node names (form.hash size route cols) = find_size s size >>= λ z. find_columns node names cols >>= λ ps. Ok (route_to z (by_hash route) ps)
+find_kind s node names (form.range size range col) =
+    find_size s size >>= λ z. find_range s node range >>= λ k. find_column node names col >>= λ p. Ok (route_to z (by_range k) (p ∷ []))
+find_kind s node names (form.round size) = find_size s size >>= λ z. Ok (plan.round z)
+find_kind s node names (form.broadcast size) = find_size s size >>= λ z. Ok (plan.broadcast z)
+find_kind s node names form.gather = Ok plan.gather
+find_kind s node names form.concat = Ok plan.concat
 
 abbrev pub kind_names : KindForm → List Name
 kind_names (form.hash size route cols) = cols
@@ -271,18 +271,18 @@ kind_fits s types plan.concat = true
 
 -- a kind and the columns to merge on: the routed columns come before those
 unfoldable pub exchange_columns : Names → ℕ → List Name → KindForm → List Name → Result (ExchangeKind × List ℕ) Refusal
-exchange_columns s node names kind merge = kind_found s node names kind >>= λ k. columns_found node names merge >>= λ ms. Ok (k, ms)
+exchange_columns s node names kind merge = find_kind s node names kind >>= λ k. find_columns node names merge >>= λ ms. Ok (k, ms)
 
-unfoldable pub exchange_once : ℕ → KindForm → List Name → Result ⊤ Refusal
-exchange_once node kind merge = once node (kind_names kind) >>= λ u. once node merge
+unfoldable pub test_exchange : ℕ → KindForm → List Name → Result ⊤ Refusal
+test_exchange node kind merge = test_distinct node (kind_names kind) >>= λ u. test_distinct node merge
 
 unfoldable pub exchange_shape : Names → ℕ → Columns → KindForm → List Name → Result (ExchangeKind × List ℕ) Refusal
 exchange_shape s node cols kind merge =
-    exchange_columns s node cols.names kind merge >>= λ x. exchange_once node kind merge >>= λ u. matched node (kind_fits s cols.types x.0) >>= λ v. Ok x
+    exchange_columns s node cols.names kind merge >>= λ x. test_exchange node kind merge >>= λ u. test_match node (kind_fits s cols.types x.0) >>= λ v. Ok x
 
 unfoldable pub exchange_typed : Names → ℕ → ClaimForm → KindForm → List Name → Outline → Result Outline Refusal
 exchange_typed s node c kind merge t =
-    exchange_shape s node (columns t) kind merge >>= λ k. topped s node (columns t) c >>= λ h. Ok (exchange h k.0 k.1 t)
+    exchange_shape s node (columns t) kind merge >>= λ k. with_claim s node (columns t) c >>= λ h. Ok (exchange h k.0 k.1 t)
 
 -- ---- the walk: nodes are numbered in preorder and tested in post-order
 
@@ -306,21 +306,21 @@ typed_in s under node (form.exchange c k m t) = typed_in s under (node + 1) t >>
 
 -- a size name that is `one`, is declared before or is the 17th is refused
 abbrev pub is_bad_size : List Name → Name → Bool
-is_bad_size prior name = nat_le 16 (length prior) || (bytes_eq name (codes "one") || list_any (bytes_eq name) prior)
+is_bad_size before name = nat_le 16 (length before) || (bytes_eq name (codes "one") || list_any (bytes_eq name) before)
 
-unfoldable pub sizes_tested : List Name → Result ⊤ Refusal
-sizes_tested names = tested_onto is_bad_size bad_size [] names
+unfoldable pub test_sizes : List Name → Result ⊤ Refusal
+test_sizes names = tested_onto is_bad_size bad_size [] names
 
 -- a range that is declared before or has bad bounds is refused
 abbrev pub is_bad_range : List RangeForm → RangeForm → Bool
-is_bad_range prior r = list_any (λ q. bytes_eq r.name q.name) prior || not (is_range r.bounds)
+is_bad_range before r = list_any (λ q. bytes_eq r.name q.name) before || not (is_range r.bounds)
 
-unfoldable pub ranges_tested : List RangeForm → Result ⊤ Refusal
-ranges_tested ranges = tested_onto is_bad_range (λ r. bad_range r.name) [] ranges
+unfoldable pub test_ranges : List RangeForm → Result ⊤ Refusal
+test_ranges ranges = tested_onto is_bad_range (λ r. bad_range r.name) [] ranges
 
 -- the typed plan of a document over a catalog
 unfoldable pub resolved : Document → List Relation → Result TypedPlanView Refusal
 resolved d catalog =
-    sizes_tested d.sizes >>= λ u. ranges_tested d.ranges >>= λ v.
+    test_sizes d.sizes >>= λ u. test_ranges d.ranges >>= λ v.
     typed_in (record { catalog = catalog; ranges = d.ranges; sizes = d.sizes }) false 0 d.root >>= λ t.
     Ok (record { names = record { catalog = catalog; ranges = d.ranges; sizes = d.sizes }; total = d.total; root = t.0 })

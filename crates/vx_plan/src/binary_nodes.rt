@@ -4,12 +4,12 @@ ghost use Rattle.std.specs.Prelude.{◌≡◌, map, string_bytes, IfOk};
 ghost use Rattle.vx_plan_json.specs.Fault.{Gives};
 ghost use Rattle.vx_plan_json.specs.Document.{pair_form, binary_form};
 ghost use Rattle.vx_plan_nodes.specs.Outline.{columns_of};
-ghost use Rattle.vx_plan.specs.Resolve.{pair_found, pairs_found, both_columns, join_tested, join_pairs, binary_shape};
+ghost use Rattle.vx_plan.specs.Resolve.{find_pair, find_pairs, both_columns, test_join, join_pairs, binary_shape};
 ghost use Rattle.vx_plan.specs.Shaped.{joint_of};
 
 use crate::columns::{copied, side_by_side};
 use crate::fits::{are_pairs, are_same_types};
-use crate::lookup::{column_found, matched, narrow, once, pairs_once};
+use crate::lookup::{find_column, test_distinct, test_distinct_pairs, test_match, test_width};
 use std::alloc::Global;
 use vx_plan_json::{NamedBinary, PlanFault};
 use vx_plan_nodes::{Binary, Columns};
@@ -21,52 +21,52 @@ pub struct Joint {
     pub columns: Columns,
 }
 
-#[tactic(auto, unfolding(crate::specs::Resolve::pair_found))]
-fn pair_found(
+#[tactic(auto, unfolding(crate::specs::Resolve::find_pair))]
+fn find_pair(
     alloc: Global,
     node: u32,
     left: &[String],
     right: &[String],
     pair: &(String, String),
 ) -> Result<(usize, usize), PlanFault>
-    ensures { Gives (λ p. p) result (pair_found node (map string_bytes left.now) (map string_bytes right.now) (pair_form pair.now)) }
+    ensures { Gives (λ p. p) result (find_pair node (map string_bytes left.now) (map string_bytes right.now) (pair_form pair.now)) }
 {
-    let first = column_found(alloc, node, left, pair.0.as_str())?;
-    let second = column_found(alloc, node, right, pair.1.as_str())?;
+    let first = find_column(alloc, node, left, pair.0.as_str())?;
+    let second = find_column(alloc, node, right, pair.1.as_str())?;
     Ok((first, second))
 }
 
-#[tactic(auto, unfolding(crate::specs::Resolve::pairs_found), using(crate::proofs::WalkFacts::walk_steps))]
-fn pairs_found(
+#[tactic(auto, unfolding(crate::specs::Resolve::find_pairs), using(crate::proofs::WalkFacts::walk_steps))]
+fn find_pairs(
     alloc: Global,
     node: u32,
     left: &[String],
     right: &[String],
     on: &[(String, String)],
 ) -> Result<Vec<(usize, usize)>, PlanFault>
-    ensures { Gives (λ v. v.items) result (pairs_found node (map string_bytes left.now) (map string_bytes right.now) (map pair_form on.now)) }
+    ensures { Gives (λ v. v.items) result (find_pairs node (map string_bytes left.now) (map string_bytes right.now) (map pair_form on.now)) }
 {
     let mut found = Vec::new(alloc);
     for pair in on {
-        let one = pair_found(alloc, node, left, right, pair)?;
+        let one = find_pair(alloc, node, left, right, pair)?;
         found.push(one)?;
     }
     Ok(found)
 }
 
 // No output name and no pair stands twice, and the output is not too wide.
-#[tactic(auto, unfolding(crate::specs::Resolve::join_tested))]
-fn join_tested(
+#[tactic(auto, unfolding(crate::specs::Resolve::test_join))]
+fn test_join(
     alloc: Global,
     node: u32,
     names: &[String],
     on: &[(String, String)],
 ) -> Result<(), PlanFault>
-    ensures { Gives (λ _. tt) result (join_tested node (map string_bytes names.now) (map pair_form on.now)) }
+    ensures { Gives (λ _. tt) result (test_join node (map string_bytes names.now) (map pair_form on.now)) }
 {
-    once(alloc, node, names)?;
-    pairs_once(alloc, node, on)?;
-    narrow(node, names.len())
+    test_distinct(alloc, node, names)?;
+    test_distinct_pairs(alloc, node, on)?;
+    test_width(node, names.len())
 }
 
 #[tactic(auto, unfolding(crate::specs::Resolve::join_pairs))]
@@ -81,15 +81,15 @@ fn join_pairs(
     requires { columns_of output.now ≡ both_columns (columns_of left.now) (columns_of right.now) }
     ensures { Gives (λ v. v.items) result (join_pairs node (columns_of left.now) (columns_of right.now) (map pair_form on.now)) }
 {
-    let found = pairs_found(
+    let found = find_pairs(
         alloc,
         node,
         left.names.as_slice(),
         right.names.as_slice(),
         on,
     )?;
-    join_tested(alloc, node, output.names.as_slice(), on)?;
-    matched(
+    test_join(alloc, node, output.names.as_slice(), on)?;
+    test_match(
         node,
         are_pairs(
             left.types.as_slice(),
@@ -129,7 +129,7 @@ pub fn binary_shape(
 {
     match binary {
         NamedBinary::Union => {
-            matched(
+            test_match(
                 node,
                 are_same_types(left.types.as_slice(), right.types.as_slice()),
             )?;

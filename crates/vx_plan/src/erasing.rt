@@ -138,7 +138,7 @@ pub fn erase(alloc: Global, typed: &TypedPlan) -> Result<TypedPlan, PlanFault>
     ensures memory { IfErr result (λ e. e ≡ PlanFault.NoMemory) }
 {
     let (root, _) = erased_from(alloc, 0, typed.root())?;
-    let catalog = typed.catalog().copy(alloc)?;
+    let catalog = typed.catalog().share()?;
     let sizes = copied_names(alloc, typed.sizes())?;
     let ranges = copied_ranges(alloc, typed.ranges())?;
     Ok(TypedPlan::new(catalog, sizes, ranges, false, root))

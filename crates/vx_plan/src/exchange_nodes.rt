@@ -4,14 +4,14 @@ ghost use Rattle.std.specs.Prelude.{◌≡◌, ◌<◌, map, length, string_byte
 ghost use Rattle.vx_plan_json.specs.Fault.{Gives};
 ghost use Rattle.vx_plan_json.specs.Document.{kind_form};
 ghost use Rattle.vx_plan_nodes.specs.Outline.{columns_of, kind_of};
-ghost use Rattle.vx_plan.specs.Lookup.{once};
-ghost use Rattle.vx_plan.specs.Resolve.{kind_found, kind_names, kind_fits, exchange_columns, exchange_once, exchange_shape, relation_found};
+ghost use Rattle.vx_plan.specs.Lookup.{test_distinct};
+ghost use Rattle.vx_plan.specs.Resolve.{find_kind, kind_names, kind_fits, exchange_columns, test_exchange, exchange_shape, find_relation};
 ghost use Rattle.vx_plan.specs.Named.{names_of};
 
 use crate::claims::single;
 use crate::fits::route_fits;
 use crate::lookup::{
-    Declared, column_found, columns_found, matched, once, range_found, size_found,
+    Declared, find_column, find_columns, find_range, find_size, test_distinct, test_match,
 };
 use std::alloc::Global;
 use vx_plan_json::{NamedKind, PlanFault};
@@ -19,15 +19,15 @@ use vx_plan_nodes::{Columns, Exchange, ExchangeKind, Route};
 use vx_rows::ColType;
 
 // How an exchange sends: a size comes before a range, and that before columns.
-#[tactic(auto, unfolding(crate::specs::Resolve::kind_found))]
-fn kind_found(
+#[tactic(auto, unfolding(crate::specs::Resolve::find_kind))]
+fn find_kind(
     alloc: Global,
     declared: &Declared<'_>,
     node: u32,
     names: &[String],
     kind: &NamedKind,
 ) -> Result<ExchangeKind, PlanFault>
-    ensures { Gives kind_of result (kind_found (names_of declared.now) node (map string_bytes names.now) (kind_form kind.now)) }
+    ensures { Gives kind_of result (find_kind (names_of declared.now) node (map string_bytes names.now) (kind_form kind.now)) }
 {
     match kind {
         NamedKind::Hash {
@@ -35,8 +35,8 @@ fn kind_found(
             route,
             columns,
         } => {
-            let size = size_found(alloc, declared, size.as_str())?;
-            let positions = columns_found(alloc, node, names, columns.as_slice())?;
+            let size = find_size(alloc, declared, size.as_str())?;
+            let positions = find_columns(alloc, node, names, columns.as_slice())?;
             let name = String::from_str(alloc, route.as_str())?;
             Ok(ExchangeKind::Route(size, Route::Hash(name), positions))
         }
@@ -45,19 +45,19 @@ fn kind_found(
             range,
             column,
         } => {
-            let size = size_found(alloc, declared, size.as_str())?;
-            let number = range_found(alloc, declared, node, range.as_str())?;
-            let position = column_found(alloc, node, names, column.as_str())?;
+            let size = find_size(alloc, declared, size.as_str())?;
+            let number = find_range(alloc, declared, node, range.as_str())?;
+            let position = find_column(alloc, node, names, column.as_str())?;
             let positions = single(alloc, position)?;
             Ok(ExchangeKind::Route(size, Route::Range(number), positions))
         }
-        NamedKind::Round(size) => Ok(ExchangeKind::Round(size_found(
+        NamedKind::Round(size) => Ok(ExchangeKind::Round(find_size(
             alloc,
             declared,
             size.as_str(),
         )?)),
         NamedKind::Broadcast(size) => {
-            let size = size_found(alloc, declared, size.as_str())?;
+            let size = find_size(alloc, declared, size.as_str())?;
             Ok(ExchangeKind::Broadcast(size))
         }
         NamedKind::Gather => Ok(ExchangeKind::Gather),
@@ -66,12 +66,12 @@ fn kind_found(
 }
 
 // The hashed columns of an exchange stand once.
-#[tactic(auto, unfolding(crate::specs::Lookup::once, crate::specs::Lookup::tested_onto))]
+#[tactic(auto, unfolding(crate::specs::Lookup::test_distinct, crate::specs::Lookup::tested_onto))]
 fn kind_once(alloc: Global, node: u32, kind: &NamedKind) -> Result<(), PlanFault>
-    ensures { Gives (λ _. tt) result (once node (kind_names (kind_form kind.now))) }
+    ensures { Gives (λ _. tt) result (test_distinct node (kind_names (kind_form kind.now))) }
 {
     match kind {
-        NamedKind::Hash { columns, .. } => once(alloc, node, columns.as_slice()),
+        NamedKind::Hash { columns, .. } => test_distinct(alloc, node, columns.as_slice()),
         NamedKind::Range { .. }
         | NamedKind::Round(_)
         | NamedKind::Broadcast(_)
@@ -108,22 +108,22 @@ fn exchange_columns(
 ) -> Result<Exchange, PlanFault>
     ensures { Gives (λ e. (kind_of e.kind, e.merge.items)) result (exchange_columns (names_of declared.now) node (map string_bytes names.now) (kind_form kind.now) (map string_bytes merge.now)) }
 {
-    let kind = kind_found(alloc, declared, node, names, kind)?;
-    let merge = columns_found(alloc, node, names, merge)?;
+    let kind = find_kind(alloc, declared, node, names, kind)?;
+    let merge = find_columns(alloc, node, names, merge)?;
     Ok(Exchange { kind, merge })
 }
 
-#[tactic(auto, unfolding(crate::specs::Resolve::exchange_once))]
-fn exchange_once(
+#[tactic(auto, unfolding(crate::specs::Resolve::test_exchange))]
+fn test_exchange(
     alloc: Global,
     node: u32,
     kind: &NamedKind,
     merge: &[String],
 ) -> Result<(), PlanFault>
-    ensures { Gives (λ _. tt) result (exchange_once node (kind_form kind.now) (map string_bytes merge.now)) }
+    ensures { Gives (λ _. tt) result (test_exchange node (kind_form kind.now) (map string_bytes merge.now)) }
 {
     kind_once(alloc, node, kind)?;
-    once(alloc, node, merge)
+    test_distinct(alloc, node, merge)
 }
 
 /// An exchange by positions. The routed columns come before those to merge on.
@@ -139,8 +139,8 @@ pub fn exchange_shape(
     ensures { Gives (λ e. (kind_of e.kind, e.merge.items)) result (exchange_shape (names_of declared.now) node (columns_of input.now) (kind_form kind.now) (map string_bytes merge.now)) }
 {
     let exchange = exchange_columns(alloc, declared, node, input.names.as_slice(), kind, merge)?;
-    exchange_once(alloc, node, kind, merge)?;
-    matched(
+    test_exchange(alloc, node, kind, merge)?;
+    test_match(
         node,
         kind_fits(declared, input.types.as_slice(), &exchange.kind),
     )?;
@@ -148,14 +148,14 @@ pub fn exchange_shape(
 }
 
 /// The number of the relation of this name.
-#[tactic(auto, unfolding(crate::specs::Resolve::relation_found))]
-pub fn relation_found(
+#[tactic(auto, unfolding(crate::specs::Resolve::find_relation))]
+pub fn find_relation(
     alloc: Global,
     declared: &Declared<'_>,
     node: u32,
     name: &str,
 ) -> Result<usize, PlanFault>
-    ensures value { Gives (λ r. r) result (relation_found (names_of declared.now) node name.now) }
+    ensures value { Gives (λ r. r) result (find_relation (names_of declared.now) node name.now) }
     ensures there { IfOk result (λ r. r < length declared.now.catalog.now) }
 {
     match declared.catalog.find(name) {

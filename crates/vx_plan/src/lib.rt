@@ -14,7 +14,7 @@ mod resolving;
 mod unary_nodes;
 
 pub use erasing::erase;
-pub use resolving::resolve;
+pub use resolving::{plans_are_resolved_exactly, resolve};
 pub use vx_plan_json::{Plan, PlanFault, Test, to_json};
 pub use vx_plan_nodes::{
     Aggregate, Binary, Claim, Columns, Condition, Exchange, ExchangeKind, Head, Part, Phase,

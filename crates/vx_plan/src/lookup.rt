@@ -6,7 +6,7 @@ ghost use Rattle.vx_plan_json.specs.Fault.{Gives};
 ghost use Rattle.vx_plan_json.specs.Document.{pair_form};
 ghost use Rattle.vx_values.specs.Ranges.{range_form};
 ghost use Rattle.vx_plan_nodes.specs.Outline.{size_of};
-ghost use Rattle.vx_plan.specs.Lookup.{column_found, columns_found, keys_found, once, pairs_once, keys_once, matched, narrow, pair_eq, size_found, range_found};
+ghost use Rattle.vx_plan.specs.Lookup.{find_column, find_columns, find_keys, test_distinct, test_distinct_pairs, test_distinct_keys, test_match, test_width, pair_eq, find_size, find_range};
 ghost use Rattle.vx_plan.specs.Named.{names_of};
 
 use std::alloc::{AllocError, Global};
@@ -37,14 +37,14 @@ pub fn has_name(names: &[String], name: &str) -> bool
 }
 
 /// The position of the column with this name.
-#[tactic(auto, unfolding(crate::specs::Lookup::column_found))]
-pub fn column_found(
+#[tactic(auto, unfolding(crate::specs::Lookup::find_column))]
+pub fn find_column(
     alloc: Global,
     node: u32,
     names: &[String],
     name: &str,
 ) -> Result<usize, PlanFault>
-    ensures { Gives (λ c. c) result (column_found node (map string_bytes names.now) name.now) }
+    ensures { Gives (λ c. c) result (find_column node (map string_bytes names.now) name.now) }
 {
     match find_name(names, name) {
         Some(column) => Ok(column),
@@ -56,45 +56,45 @@ pub fn column_found(
 }
 
 /// The positions of the columns with these names.
-#[tactic(auto, unfolding(crate::specs::Lookup::columns_found), using(crate::proofs::WalkFacts::walk_steps))]
-pub fn columns_found(
+#[tactic(auto, unfolding(crate::specs::Lookup::find_columns), using(crate::proofs::WalkFacts::walk_steps))]
+pub fn find_columns(
     alloc: Global,
     node: u32,
     names: &[String],
     list: &[String],
 ) -> Result<Vec<usize>, PlanFault>
-    ensures { Gives (λ v. v.items) result (columns_found node (map string_bytes names.now) (map string_bytes list.now)) }
+    ensures { Gives (λ v. v.items) result (find_columns node (map string_bytes names.now) (map string_bytes list.now)) }
 {
     let mut found = Vec::new(alloc);
     for name in list {
-        let column = column_found(alloc, node, names, name.as_str())?;
+        let column = find_column(alloc, node, names, name.as_str())?;
         found.push(column)?;
     }
     Ok(found)
 }
 
 /// The positions of the columns of each key.
-#[tactic(auto, unfolding(crate::specs::Lookup::keys_found), using(crate::proofs::WalkFacts::walk_steps))]
-pub fn keys_found(
+#[tactic(auto, unfolding(crate::specs::Lookup::find_keys), using(crate::proofs::WalkFacts::walk_steps))]
+pub fn find_keys(
     alloc: Global,
     node: u32,
     names: &[String],
     keys: &[Vec<String>],
 ) -> Result<Vec<Vec<usize>>, PlanFault>
-    ensures { Gives (λ v. map (λ k. k.items) v.items) result (keys_found node (map string_bytes names.now) (map (λ k. map string_bytes k.items) keys.now)) }
+    ensures { Gives (λ v. map (λ k. k.items) v.items) result (find_keys node (map string_bytes names.now) (map (λ k. map string_bytes k.items) keys.now)) }
 {
     let mut found = Vec::new(alloc);
     for key in keys {
-        let columns = columns_found(alloc, node, names, key.as_slice())?;
+        let columns = find_columns(alloc, node, names, key.as_slice())?;
         found.push(columns)?;
     }
     Ok(found)
 }
 
 /// No name stands twice, or the first that repeats an earlier one.
-#[tactic(auto, unfolding(crate::specs::Lookup::once), using(crate::proofs::TestFacts::test_steps))]
-pub fn once(alloc: Global, node: u32, names: &[String]) -> Result<(), PlanFault>
-    ensures { Gives (λ _. tt) result (once node (map string_bytes names.now)) }
+#[tactic(auto, unfolding(crate::specs::Lookup::test_distinct), using(crate::proofs::TestFacts::test_steps))]
+pub fn test_distinct(alloc: Global, node: u32, names: &[String]) -> Result<(), PlanFault>
+    ensures { Gives (λ _. tt) result (test_distinct node (map string_bytes names.now)) }
 {
     for i in 0..names.len() {
         let name = names[i].as_str();
@@ -127,9 +127,13 @@ fn has_pair(pairs: &[(String, String)], pair: &(String, String)) -> bool
 }
 
 /// No pair stands twice, or the left column of the first that repeats an earlier one.
-#[tactic(auto, unfolding(crate::specs::Lookup::pairs_once), using(crate::proofs::TestFacts::test_steps))]
-pub fn pairs_once(alloc: Global, node: u32, pairs: &[(String, String)]) -> Result<(), PlanFault>
-    ensures { Gives (λ _. tt) result (pairs_once node (map pair_form pairs.now)) }
+#[tactic(auto, unfolding(crate::specs::Lookup::test_distinct_pairs), using(crate::proofs::TestFacts::test_steps))]
+pub fn test_distinct_pairs(
+    alloc: Global,
+    node: u32,
+    pairs: &[(String, String)],
+) -> Result<(), PlanFault>
+    ensures { Gives (λ _. tt) result (test_distinct_pairs node (map pair_form pairs.now)) }
 {
     for i in 0..pairs.len() {
         let pair = &pairs[i];
@@ -145,19 +149,19 @@ pub fn pairs_once(alloc: Global, node: u32, pairs: &[(String, String)]) -> Resul
 
 /// No name stands twice in one of these lists.
 #[tactic(auto, using(crate::proofs::WalkFacts::keys_steps))]
-pub fn keys_once(alloc: Global, node: u32, keys: &[Vec<String>]) -> Result<(), PlanFault>
-    ensures { Gives (λ _. tt) result (keys_once node (map (λ k. map string_bytes k.items) keys.now)) }
+pub fn test_distinct_keys(alloc: Global, node: u32, keys: &[Vec<String>]) -> Result<(), PlanFault>
+    ensures { Gives (λ _. tt) result (test_distinct_keys node (map (λ k. map string_bytes k.items) keys.now)) }
 {
     for key in keys {
-        once(alloc, node, key.as_slice())?;
+        test_distinct(alloc, node, key.as_slice())?;
     }
     Ok(())
 }
 
 /// Types are equal where they have to be.
-#[tactic(auto, unfolding(crate::specs::Lookup::matched))]
-pub fn matched(node: u32, are_equal: bool) -> Result<(), PlanFault>
-    ensures { Gives (λ _. tt) result (matched node are_equal) }
+#[tactic(auto, unfolding(crate::specs::Lookup::test_match))]
+pub fn test_match(node: u32, are_equal: bool) -> Result<(), PlanFault>
+    ensures { Gives (λ _. tt) result (test_match node are_equal) }
 {
     if are_equal {
         Ok(())
@@ -167,9 +171,9 @@ pub fn matched(node: u32, are_equal: bool) -> Result<(), PlanFault>
 }
 
 /// An output is at most 64 columns wide.
-#[tactic(auto, unfolding(crate::specs::Lookup::narrow))]
-pub fn narrow(node: u32, width: usize) -> Result<(), PlanFault>
-    ensures { Gives (λ _. tt) result (narrow node width) }
+#[tactic(auto, unfolding(crate::specs::Lookup::test_width))]
+pub fn test_width(node: u32, width: usize) -> Result<(), PlanFault>
+    ensures { Gives (λ _. tt) result (test_width node width) }
 {
     if width <= 64 {
         Ok(())
@@ -179,9 +183,9 @@ pub fn narrow(node: u32, width: usize) -> Result<(), PlanFault>
 }
 
 /// `one`, or a declared size name.
-#[tactic(auto, unfolding(crate::specs::Lookup::size_found))]
-pub fn size_found(alloc: Global, declared: &Declared<'_>, name: &str) -> Result<Size, PlanFault>
-    ensures { Gives size_of result (size_found (names_of declared.now) name.now) }
+#[tactic(auto, unfolding(crate::specs::Lookup::find_size))]
+pub fn find_size(alloc: Global, declared: &Declared<'_>, name: &str) -> Result<Size, PlanFault>
+    ensures { Gives size_of result (find_size (names_of declared.now) name.now) }
 {
     if name == "one" {
         return Ok(Size::One);
@@ -194,29 +198,29 @@ pub fn size_found(alloc: Global, declared: &Declared<'_>, name: &str) -> Result<
     }
 }
 
-fn range_at(ranges: &[NamedRange], name: &str) -> Option<usize>
+fn range_at_name(ranges: &[NamedRange], name: &str) -> Option<usize>
     ensures { result ≡ position (λ r. bytes_eq name.now (string_bytes r.name)) ranges.now }
 {
     ranges.iter().position(|r| name == r.name.as_str())
 }
 
-fn find_range(ranges: &[NamedRange], name: &str) -> Option<usize>
+fn range_number(ranges: &[NamedRange], name: &str) -> Option<usize>
     ensures { result ≡ position (λ r. bytes_eq name.now r.name) (map range_form ranges.now) }
 {
-    range_at(ranges, name)
+    range_at_name(ranges, name)
 }
 
 /// The number of the declared range with this name.
-#[tactic(auto, unfolding(crate::specs::Lookup::range_found))]
-pub fn range_found(
+#[tactic(auto, unfolding(crate::specs::Lookup::find_range))]
+pub fn find_range(
     alloc: Global,
     declared: &Declared<'_>,
     node: u32,
     name: &str,
 ) -> Result<usize, PlanFault>
-    ensures { Gives (λ k. k) result (range_found (names_of declared.now) node name.now) }
+    ensures { Gives (λ k. k) result (find_range (names_of declared.now) node name.now) }
 {
-    match find_range(declared.ranges, name) {
+    match range_number(declared.ranges, name) {
         Some(range) => Ok(range),
         None => Err(PlanFault::UnknownRange {
             node,

@@ -8,10 +8,10 @@ ghost use Rattle.vx_plan.specs.Resolve.{is_final_form, scan_typed, unary_typed, 
 ghost use Rattle.vx_plan.specs.Named.{names_of};
 
 use crate::binary_nodes::{Joint, binary_shape};
-use crate::claims::topped;
+use crate::claims::with_claim;
 use crate::columns::{columns, copied, scanned};
-use crate::exchange_nodes::{exchange_shape, relation_found};
-use crate::lookup::{Declared, size_found};
+use crate::exchange_nodes::{exchange_shape, find_relation};
+use crate::lookup::{Declared, find_size};
 use crate::unary_nodes::{Shape, unary_shape};
 use std::alloc::Global;
 use vx_plan_json::{NamedBinary, NamedClaim, NamedKind, NamedScan, NamedUnary, Node, PlanFault};
@@ -27,10 +27,10 @@ fn scan_typed(
 ) -> Result<TypedNode, PlanFault>
     ensures { Gives outline_of result (scan_typed (names_of declared.now) node (claim_form claim.now) (scan_form scan.now)) }
 {
-    let relation = relation_found(alloc, declared, node, scan.relation.as_str())?;
-    let size = size_found(alloc, declared, scan.size.as_str())?;
+    let relation = find_relation(alloc, declared, node, scan.relation.as_str())?;
+    let size = find_size(alloc, declared, scan.size.as_str())?;
     let columns = scanned(alloc, declared.catalog.get(relation), scan.prefix.as_str())?;
-    let head = topped(alloc, declared, node, columns, claim)?;
+    let head = with_claim(alloc, declared, node, columns, claim)?;
     let prefix = String::from_str(alloc, scan.prefix.as_str())?;
     Ok(TypedNode::Scan(
         head,
@@ -57,7 +57,7 @@ fn unary_typed(
 {
     let shape = unary_shape(alloc, under, node, &input, unary)?;
     let Shape { unary, columns } = shape;
-    let head = topped(alloc, declared, node, columns, claim)?;
+    let head = with_claim(alloc, declared, node, columns, claim)?;
     Ok(TypedNode::Unary(head, unary, Box::new(alloc, input)?))
 }
 
@@ -75,7 +75,7 @@ fn binary_typed(
 {
     let joint = binary_shape(alloc, node, columns(&left), columns(&right), binary)?;
     let Joint { binary, columns } = joint;
-    let head = topped(alloc, declared, node, columns, claim)?;
+    let head = with_claim(alloc, declared, node, columns, claim)?;
     Ok(TypedNode::Binary(
         head,
         binary,
@@ -98,7 +98,7 @@ fn exchange_typed(
 {
     let exchange = exchange_shape(alloc, declared, node, columns(&input), kind, merge)?;
     let output = copied(alloc, columns(&input))?;
-    let head = topped(alloc, declared, node, output, claim)?;
+    let head = with_claim(alloc, declared, node, output, claim)?;
     Ok(TypedNode::Exchange(head, exchange, Box::new(alloc, input)?))
 }
 

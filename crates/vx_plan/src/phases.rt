@@ -4,16 +4,16 @@ ghost use Rattle.std.specs.Prelude.{◌≡◌, ◌<◌, ◌^◌, map, option_map
 ghost use Rattle.vx_plan_json.specs.Fault.{Gives};
 ghost use Rattle.vx_plan_nodes.specs.Outline.{aggregate_of, unary_of, outline_of};
 ghost use Rattle.vx_plan_nodes.specs.Phases.{first_columns, merged, merging};
-ghost use Rattle.vx_plan.specs.Resolve.{finished, parts_made, parts_of};
+ghost use Rattle.vx_plan.specs.Resolve.{test_phase, parts_made, parts_of};
 
 use std::alloc::{AllocError, Global};
 use vx_plan_json::PlanFault;
 use vx_plan_nodes::{Aggregate, Phase, TypedNode, Unary};
 
 /// A partial group stands below a final one, with exchanges alone between.
-#[tactic(auto, unfolding(crate::specs::Resolve::finished))]
-pub fn finished(node: u32, under: bool) -> Result<(), PlanFault>
-    ensures { Gives (λ _. tt) result (finished node under) }
+#[tactic(auto, unfolding(crate::specs::Resolve::test_phase))]
+pub fn test_phase(node: u32, under: bool) -> Result<(), PlanFault>
+    ensures { Gives (λ _. tt) result (test_phase node under) }
 {
     if !under {
         return Err(PlanFault::PhaseMismatch { node });

@@ -6,8 +6,9 @@ ghost use Rattle.vx_values.specs.ValueView.{val_of};
 ghost use Rattle.vx_plan_json.specs.Fault.{Gives};
 ghost use Rattle.vx_values.specs.Ranges.{range_form};
 ghost use Rattle.vx_plan_json.specs.PlanView.{document_of};
-ghost use Rattle.vx_plan.specs.Resolve.{is_bad_size, sizes_tested, is_bad_range, ranges_tested, resolved};
+ghost use Rattle.vx_plan.specs.Resolve.{is_bad_size, test_sizes, is_bad_range, test_ranges, resolved};
 ghost use Rattle.vx_plan_nodes.specs.TypedView.{resolved_of};
+ghost use Rattle.vx_plan.specs.Exact.{PlanLaw};
 
 use crate::columns::copied_names;
 use crate::fits::is_range;
@@ -19,16 +20,16 @@ use vx_plan_nodes::TypedPlan;
 use vx_relations::Catalog;
 use vx_values::{NamedRange, Value};
 
-fn is_bad_size(prior: &[String], name: &str) -> bool
-    ensures { result ≡ is_bad_size (map string_bytes prior.now) name.now }
+fn is_bad_size(before: &[String], name: &str) -> bool
+    ensures { result ≡ is_bad_size (map string_bytes before.now) name.now }
 {
-    prior.len() >= 16 || name == "one" || has_name(prior, name)
+    before.len() >= 16 || name == "one" || has_name(before, name)
 }
 
 // No size name is `one`, stands twice or is the 17th.
-#[tactic(auto, unfolding(crate::specs::Resolve::sizes_tested), using(crate::proofs::TestFacts::test_steps))]
-fn sizes_tested(alloc: Global, sizes: &[String]) -> Result<(), PlanFault>
-    ensures { Gives (λ _. tt) result (sizes_tested (map string_bytes sizes.now)) }
+#[tactic(auto, unfolding(crate::specs::Resolve::test_sizes), using(crate::proofs::TestFacts::test_steps))]
+fn test_sizes(alloc: Global, sizes: &[String]) -> Result<(), PlanFault>
+    ensures { Gives (λ _. tt) result (test_sizes (map string_bytes sizes.now)) }
 {
     for i in 0..sizes.len() {
         let name = sizes[i].as_str();
@@ -53,16 +54,16 @@ fn has_range(ranges: &[NamedRange], name: &str) -> bool
     is_any_range(ranges, name)
 }
 
-fn is_bad_range(prior: &[NamedRange], range: &NamedRange) -> bool
-    ensures { result ≡ is_bad_range (map range_form prior.now) (range_form range.now) }
+fn is_bad_range(before: &[NamedRange], range: &NamedRange) -> bool
+    ensures { result ≡ is_bad_range (map range_form before.now) (range_form range.now) }
 {
-    has_range(prior, range.name.as_str()) || !is_range(range.bounds.as_slice())
+    has_range(before, range.name.as_str()) || !is_range(range.bounds.as_slice())
 }
 
 // No range stands twice or has bad bounds.
-#[tactic(auto, unfolding(crate::specs::Resolve::ranges_tested), using(crate::proofs::TestFacts::test_steps))]
-fn ranges_tested(alloc: Global, ranges: &[NamedRange]) -> Result<(), PlanFault>
-    ensures { Gives (λ _. tt) result (ranges_tested (map range_form ranges.now)) }
+#[tactic(auto, unfolding(crate::specs::Resolve::test_ranges), using(crate::proofs::TestFacts::test_steps))]
+fn test_ranges(alloc: Global, ranges: &[NamedRange]) -> Result<(), PlanFault>
+    ensures { Gives (λ _. tt) result (test_ranges (map range_form ranges.now)) }
 {
     for i in 0..ranges.len() {
         let range = &ranges[i];
@@ -119,12 +120,18 @@ pub fn resolve(alloc: Global, plan: &Plan, catalog: &Catalog) -> Result<TypedPla
         ranges: plan.ranges(),
         sizes: plan.sizes(),
     };
-    sizes_tested(alloc, declared.sizes)?;
-    ranges_tested(alloc, declared.ranges)?;
+    test_sizes(alloc, declared.sizes)?;
+    test_ranges(alloc, declared.ranges)?;
     let (root, _) = typed_in(alloc, &declared, false, 0, plan.root())?;
     let _relations = catalog.len();
-    let own = catalog.copy(alloc)?;
+    let own = catalog.share()?;
     let sizes = copied_names(alloc, declared.sizes)?;
     let ranges = copied_ranges(alloc, declared.ranges)?;
     Ok(TypedPlan::new(own, sizes, ranges, plan.is_total(), root))
 }
+
+/// The law of resolving: a plan resolves to a typed plan exactly where the typed plan is over the catalog, typed and well named, and
+/// the plan is what the typed one says with names in place of positions. It does nothing.
+pub fn plans_are_resolved_exactly()
+    ensures { PlanLaw }
+{}

@@ -4,13 +4,13 @@ ghost use Rattle.std.specs.Prelude.{◌≡◌, map, string_bytes, IfOk};
 ghost use Rattle.vx_plan_json.specs.Fault.{Gives};
 ghost use Rattle.vx_plan_json.specs.Document.{side_form, condition_form, output_form, function_form, aggregate_form, unary_form};
 ghost use Rattle.vx_plan_nodes.specs.Outline.{side_of, condition_of, aggregate_of, phase_of, columns_of, columns, outline_of};
-ghost use Rattle.vx_plan.specs.Resolve.{side_found, condition_found, conditions_found, select_shape, output_name, kept_found, all_kept_found, kept_shape, project_shape, distinct_shape, sort_shape, function_found, aggregates_found, group_found, group_tested, group_shape, partial_shape, parts_of, final_shape, unary_shape};
+ghost use Rattle.vx_plan.specs.Resolve.{find_side, find_condition, find_conditions, select_shape, output_name, find_kept, find_all_kept, kept_shape, project_shape, distinct_shape, sort_shape, find_function, find_aggregates, find_group, test_group, group_shape, partial_shape, parts_of, final_shape, unary_shape};
 ghost use Rattle.vx_plan.specs.Shaped.{shape_of};
 
 use crate::columns::{columns, copied, group_names, group_types, kept_types, output_names};
 use crate::fits::{are_aggregates, are_conditions};
-use crate::lookup::{column_found, columns_found, matched, narrow, once};
-use crate::phases::{finished, first_columns, merged, parts_of};
+use crate::lookup::{find_column, find_columns, test_distinct, test_match, test_width};
+use crate::phases::{first_columns, merged, parts_of, test_phase};
 use std::alloc::Global;
 use vx_plan_json::{
     NamedAggregate, NamedCondition, NamedFunction, NamedOutput, NamedSide, NamedUnary, PlanFault,
@@ -25,35 +25,35 @@ pub struct Shape {
     pub columns: Columns,
 }
 
-#[tactic(auto, unfolding(crate::specs::Resolve::side_found))]
-fn side_found(
+#[tactic(auto, unfolding(crate::specs::Resolve::find_side))]
+fn find_side(
     alloc: Global,
     node: u32,
     names: &[String],
     side: &NamedSide,
 ) -> Result<Side, PlanFault>
-    ensures { Gives side_of result (side_found node (map string_bytes names.now) (side_form side.now)) }
+    ensures { Gives side_of result (find_side node (map string_bytes names.now) (side_form side.now)) }
 {
     match side {
         NamedSide::Column(name) => {
-            let column = column_found(alloc, node, names, name.as_str())?;
+            let column = find_column(alloc, node, names, name.as_str())?;
             Ok(Side::Column(column))
         }
         NamedSide::Constant(value) => Ok(Side::Constant(value.copy(alloc)?)),
     }
 }
 
-#[tactic(auto, unfolding(crate::specs::Resolve::condition_found))]
-fn condition_found(
+#[tactic(auto, unfolding(crate::specs::Resolve::find_condition))]
+fn find_condition(
     alloc: Global,
     node: u32,
     names: &[String],
     condition: &NamedCondition,
 ) -> Result<Condition, PlanFault>
-    ensures { Gives condition_of result (condition_found node (map string_bytes names.now) (condition_form condition.now)) }
+    ensures { Gives condition_of result (find_condition node (map string_bytes names.now) (condition_form condition.now)) }
 {
-    let left = column_found(alloc, node, names, condition.left.as_str())?;
-    let right = side_found(alloc, node, names, &condition.right)?;
+    let left = find_column(alloc, node, names, condition.left.as_str())?;
+    let right = find_side(alloc, node, names, &condition.right)?;
     Ok(Condition {
         left,
         test: condition.test,
@@ -61,18 +61,18 @@ fn condition_found(
     })
 }
 
-#[tactic(auto, unfolding(crate::specs::Resolve::conditions_found), using(crate::proofs::WalkFacts::walk_steps))]
-fn conditions_found(
+#[tactic(auto, unfolding(crate::specs::Resolve::find_conditions), using(crate::proofs::WalkFacts::walk_steps))]
+fn find_conditions(
     alloc: Global,
     node: u32,
     names: &[String],
     conditions: &[NamedCondition],
 ) -> Result<Vec<Condition>, PlanFault>
-    ensures { Gives (λ v. map condition_of v.items) result (conditions_found node (map string_bytes names.now) (map condition_form conditions.now)) }
+    ensures { Gives (λ v. map condition_of v.items) result (find_conditions node (map string_bytes names.now) (map condition_form conditions.now)) }
 {
     let mut found = Vec::new(alloc);
     for condition in conditions {
-        let one = condition_found(alloc, node, names, condition)?;
+        let one = find_condition(alloc, node, names, condition)?;
         found.push(one)?;
     }
     Ok(found)
@@ -87,8 +87,8 @@ fn select_shape(
 ) -> Result<Shape, PlanFault>
     ensures { Gives shape_of result (select_shape node (columns_of input.now) (map condition_form conditions.now)) }
 {
-    let found = conditions_found(alloc, node, input.names.as_slice(), conditions)?;
-    matched(
+    let found = find_conditions(alloc, node, input.names.as_slice(), conditions)?;
+    test_match(
         node,
         are_conditions(input.types.as_slice(), found.as_slice()),
     )?;
@@ -99,34 +99,34 @@ fn select_shape(
     })
 }
 
-#[tactic(auto, unfolding(crate::specs::Resolve::kept_found))]
-fn kept_found(
+#[tactic(auto, unfolding(crate::specs::Resolve::find_kept))]
+fn find_kept(
     alloc: Global,
     node: u32,
     names: &[String],
     output: &NamedOutput,
 ) -> Result<Projected, PlanFault>
-    ensures { Gives (λ k. k) result (kept_found node (map string_bytes names.now) (output_form output.now)) }
+    ensures { Gives (λ k. k) result (find_kept node (map string_bytes names.now) (output_form output.now)) }
 {
-    let column = column_found(alloc, node, names, output.column.as_str())?;
+    let column = find_column(alloc, node, names, output.column.as_str())?;
     Ok(Projected {
         column,
         renamed: output.renamed.is_some(),
     })
 }
 
-#[tactic(auto, unfolding(crate::specs::Resolve::all_kept_found), using(crate::proofs::WalkFacts::walk_steps))]
-fn all_kept_found(
+#[tactic(auto, unfolding(crate::specs::Resolve::find_all_kept), using(crate::proofs::WalkFacts::walk_steps))]
+fn find_all_kept(
     alloc: Global,
     node: u32,
     names: &[String],
     outputs: &[NamedOutput],
 ) -> Result<Vec<Projected>, PlanFault>
-    ensures { Gives (λ v. v.items) result (all_kept_found node (map string_bytes names.now) (map output_form outputs.now)) }
+    ensures { Gives (λ v. v.items) result (find_all_kept node (map string_bytes names.now) (map output_form outputs.now)) }
 {
     let mut found = Vec::new(alloc);
     for output in outputs {
-        let one = kept_found(alloc, node, names, output)?;
+        let one = find_kept(alloc, node, names, output)?;
         found.push(one)?;
     }
     Ok(found)
@@ -143,10 +143,10 @@ fn kept_shape(
     ensures kept { Gives (λ r. r.0.items) result (kept_shape node (columns_of input.now) (map output_form outputs.now)) }
     ensures names { IfOk result (λ r. map string_bytes r.1.items ≡ map output_name (map output_form outputs.now)) }
 {
-    let found = all_kept_found(alloc, node, input.names.as_slice(), outputs)?;
+    let found = find_all_kept(alloc, node, input.names.as_slice(), outputs)?;
     let names = output_names(alloc, outputs)?;
-    once(alloc, node, names.as_slice())?;
-    narrow(node, outputs.len())?;
+    test_distinct(alloc, node, names.as_slice())?;
+    test_width(node, outputs.len())?;
     Ok((found, names))
 }
 
@@ -193,8 +193,8 @@ fn sort_shape(
 ) -> Result<Shape, PlanFault>
     ensures { Gives shape_of result (sort_shape node (columns_of input.now) (map string_bytes names.now)) }
 {
-    let found = columns_found(alloc, node, input.names.as_slice(), names)?;
-    once(alloc, node, names)?;
+    let found = find_columns(alloc, node, input.names.as_slice(), names)?;
+    test_distinct(alloc, node, names)?;
     let columns = copied(alloc, input)?;
     Ok(Shape {
         unary: Unary::Sort(found),
@@ -202,77 +202,77 @@ fn sort_shape(
     })
 }
 
-#[tactic(auto, unfolding(crate::specs::Resolve::function_found))]
-fn function_found(
+#[tactic(auto, unfolding(crate::specs::Resolve::find_function))]
+fn find_function(
     alloc: Global,
     node: u32,
     names: &[String],
     function: &NamedFunction,
 ) -> Result<Aggregate, PlanFault>
-    ensures { Gives aggregate_of result (function_found node (map string_bytes names.now) (function_form function.now)) }
+    ensures { Gives aggregate_of result (find_function node (map string_bytes names.now) (function_form function.now)) }
 {
     match function {
         NamedFunction::Least(name) => {
-            let column = column_found(alloc, node, names, name.as_str())?;
+            let column = find_column(alloc, node, names, name.as_str())?;
             Ok(Aggregate::Least(column))
         }
         NamedFunction::Greatest(name) => {
-            let column = column_found(alloc, node, names, name.as_str())?;
+            let column = find_column(alloc, node, names, name.as_str())?;
             Ok(Aggregate::Greatest(column))
         }
         NamedFunction::Sum(name) => {
-            let column = column_found(alloc, node, names, name.as_str())?;
+            let column = find_column(alloc, node, names, name.as_str())?;
             Ok(Aggregate::Sum(column))
         }
         NamedFunction::CountRows => Ok(Aggregate::CountRows),
     }
 }
 
-#[tactic(auto, unfolding(crate::specs::Resolve::aggregates_found), using(crate::proofs::WalkFacts::walk_steps))]
-fn aggregates_found(
+#[tactic(auto, unfolding(crate::specs::Resolve::find_aggregates), using(crate::proofs::WalkFacts::walk_steps))]
+fn find_aggregates(
     alloc: Global,
     node: u32,
     names: &[String],
     aggregates: &[NamedAggregate],
 ) -> Result<Vec<Aggregate>, PlanFault>
-    ensures { Gives (λ v. map aggregate_of v.items) result (aggregates_found node (map string_bytes names.now) (map aggregate_form aggregates.now)) }
+    ensures { Gives (λ v. map aggregate_of v.items) result (find_aggregates node (map string_bytes names.now) (map aggregate_form aggregates.now)) }
 {
     let mut found = Vec::new(alloc);
     for aggregate in aggregates {
-        let one = function_found(alloc, node, names, &aggregate.function)?;
+        let one = find_function(alloc, node, names, &aggregate.function)?;
         found.push(one)?;
     }
     Ok(found)
 }
 
-#[tactic(auto, unfolding(crate::specs::Resolve::group_found))]
-fn group_found(
+#[tactic(auto, unfolding(crate::specs::Resolve::find_group))]
+fn find_group(
     alloc: Global,
     node: u32,
     names: &[String],
     by: &[String],
     aggregates: &[NamedAggregate],
 ) -> Result<(Vec<usize>, Vec<Aggregate>), PlanFault>
-    ensures { Gives (λ r. (r.0.items, map aggregate_of r.1.items)) result (group_found node (map string_bytes names.now) (map string_bytes by.now) (map aggregate_form aggregates.now)) }
+    ensures { Gives (λ r. (r.0.items, map aggregate_of r.1.items)) result (find_group node (map string_bytes names.now) (map string_bytes by.now) (map aggregate_form aggregates.now)) }
 {
-    let keys = columns_found(alloc, node, names, by)?;
-    let found = aggregates_found(alloc, node, names, aggregates)?;
+    let keys = find_columns(alloc, node, names, by)?;
+    let found = find_aggregates(alloc, node, names, aggregates)?;
     Ok((keys, found))
 }
 
-#[tactic(auto, unfolding(crate::specs::Resolve::group_tested))]
-fn group_tested(
+#[tactic(auto, unfolding(crate::specs::Resolve::test_group))]
+fn test_group(
     alloc: Global,
     node: u32,
     types: &[ColType],
     names: &[String],
     aggregates: &[Aggregate],
 ) -> Result<(), PlanFault>
-    ensures { Gives (λ _. tt) result (group_tested node types.now (map string_bytes names.now) (map aggregate_of aggregates.now)) }
+    ensures { Gives (λ _. tt) result (test_group node types.now (map string_bytes names.now) (map aggregate_of aggregates.now)) }
 {
-    once(alloc, node, names)?;
-    narrow(node, names.len())?;
-    matched(node, are_aggregates(types, aggregates))
+    test_distinct(alloc, node, names)?;
+    test_width(node, names.len())?;
+    test_match(node, are_aggregates(types, aggregates))
 }
 
 #[tactic(auto, unfolding(crate::specs::Resolve::group_shape))]
@@ -286,9 +286,9 @@ fn group_shape(
 ) -> Result<Shape, PlanFault>
     ensures { Gives shape_of result (group_shape (phase_of phase) node (columns_of input.now) (map string_bytes by.now) (map aggregate_form aggregates.now)) }
 {
-    let (keys, found) = group_found(alloc, node, input.names.as_slice(), by, aggregates)?;
+    let (keys, found) = find_group(alloc, node, input.names.as_slice(), by, aggregates)?;
     let names = group_names(alloc, by, aggregates)?;
-    group_tested(
+    test_group(
         alloc,
         node,
         input.types.as_slice(),
@@ -318,7 +318,7 @@ fn partial_shape(
 ) -> Result<Shape, PlanFault>
     ensures { Gives shape_of result (partial_shape under node (columns_of input.now) (map string_bytes by.now) (map aggregate_form aggregates.now)) }
 {
-    finished(node, under)?;
+    test_phase(node, under)?;
     group_shape(alloc, Phase::Partial, node, input, by, aggregates)
 }
 

@@ -1,6 +1,5 @@
-use Rattle.std.proofs.Common.{◌≡◌, ◌<◌, get_or, length}
+use Rattle.std.proofs.Common.{◌<◌, get_or, length}
 use Rattle.std.proofs.lemmas.List.{get_or_default}
-use Rattle.vx_plan_nodes.specs.declared.typed.Aggregate.{Aggregate}
 use Rattle.vx_plan_nodes.specs.declared.typed.Aggregate.TheVariants.{Least}
 use Rattle.vx_plan.proofs.PhaseFacts.{merged_next}
 use Rattle.vx_plan.proofs.phases.merged.Goals as goal

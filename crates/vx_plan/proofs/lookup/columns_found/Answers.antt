@@ -1,7 +1,0 @@
-use Rattle.vx_plan.specs.Lookup.{columns_found}
-use Rattle.vx_plan.proofs.WalkFacts.{walk_fails}
-use Rattle.vx_plan.proofs.lookup.columns_found.Goals as goal
-
-pub returns-in_err-column : goal.returns-in_err-column
-unfolding columns_found
-returns-in_err-column c = walk_fails _ _ _ _ _ _ c.loop-name.invariant c.loop-name-test.true c.name-item.is (rw c.as_str.ensures.value at c.in_err-column.ensures) c.from_residual.ensures.1

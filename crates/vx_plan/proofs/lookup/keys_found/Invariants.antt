@@ -1,8 +1,0 @@
-use Rattle.std.proofs.Common.{◌≡◌, [], map, drop, string_bytes}
-use Rattle.vx_plan.specs.Lookup.{walk_onto, columns_found}
-use Rattle.vx_plan.proofs.lookup.keys_found.Given as goal
-
-abbrev pub invariant-loop-key : goal.invariant-loop-key
-invariant-loop-key l =
-    walk_onto (columns_found l.node (map string_bytes l.names)) (map (λ k. k.items) l.found.items) (map (λ k. map string_bytes k.items) (drop l.key-index l.keys))
-    ≡ walk_onto (columns_found l.node (map string_bytes l.names)) [] (map (λ k. map string_bytes k.items) l.keys)

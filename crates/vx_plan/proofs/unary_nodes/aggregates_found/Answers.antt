@@ -1,7 +1,0 @@
-use Rattle.vx_plan.specs.Resolve.{aggregates_found}
-use Rattle.vx_plan.proofs.WalkFacts.{walk_fails}
-use Rattle.vx_plan.proofs.unary_nodes.aggregates_found.Goals as goal
-
-pub returns-in_err-one : goal.returns-in_err-one
-unfolding aggregates_found
-returns-in_err-one c = walk_fails _ _ _ _ _ _ c.loop-aggregate.invariant c.loop-aggregate-test.true c.aggregate-item.is c.in_err-one.ensures c.from_residual.ensures.1

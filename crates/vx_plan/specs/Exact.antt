@@ -1,0 +1,61 @@
+-- The law of resolving: a document resolves to a typed plan exactly where the plan is well named over the catalog and the document says it.
+use Rattle.std.specs.Prelude.{◌≡◌, ◌↔◌, ℕ, List, [], ◌∷◌, ◌++◌, map, length, take, Bool, true, false, ◌&&◌, ◌||◌, Ok, bytes_eq, codes}
+use Rattle.vx_values.specs.Values.{Name}
+use Rattle.vx_relations.specs.Relation.{Relation}
+use Rattle.vx_relations.specs.Catalog.{relation_at, are_distinct_names, IsCatalog}
+use Rattle.vx_relations.specs.Naming.{name_at}
+use Rattle.vx_plan_nodes.specs.Plan.{Unary, Binary}
+use Rattle.vx_plan_nodes.specs.Plan as plan
+use Rattle.vx_plan_nodes.specs.Outline.{Outline, scan, unary, binary, exchange, plan_in}
+use Rattle.vx_plan_nodes.specs.Outputs.{HasOutputs}
+use Rattle.vx_plan_nodes.specs.Typed.{IsTyped}
+use Rattle.vx_plan_nodes.specs.Names.{scope_of, TypedPlanView}
+use Rattle.vx_plan_json.specs.Document.{Document}
+use Rattle.vx_plan_json.specs.Formed.{is_tree_form}
+use Rattle.vx_plan.specs.Resolve.{resolved}
+use Rattle.vx_plan.specs.ByName.{names_at, column_names, document_by_name}
+
+-- each kept column has its name of the input, unless it has a new one
+abbrev pub are_kept : List Name → List ℕ → List Bool → List Name → Bool
+are_kept names [] [] [] = true
+are_kept names (c ∷ cols) (b ∷ renamed) (n ∷ output) = (b || bytes_eq n (name_at names c)) && are_kept names cols renamed output
+are_kept names _ _ _ = false
+
+-- the names that an operator over one input gives its output, where the input's columns have these: the same, or those of the kept columns;
+-- of a group first those of its keys. A final group has the names of its partial one
+abbrev pub UnaryNames : Unary → List Bool → List Name → List Name → Type 0
+UnaryNames (plan.select cs) renamed names output = (renamed ≡ []) × (output ≡ names)
+UnaryNames (plan.project cols) renamed names output = are_kept names cols renamed output ≡ true
+UnaryNames (plan.distinct cols) renamed names output = are_kept names cols renamed output ≡ true
+UnaryNames (plan.sort cols) renamed names output = (renamed ≡ []) × (output ≡ names)
+UnaryNames (plan.group plan.plain by aggregates) renamed names output = (renamed ≡ []) × (take (length by) output ≡ names_at names by)
+UnaryNames (plan.group plan.partial by aggregates) renamed names output = (renamed ≡ []) × (take (length by) output ≡ names_at names by)
+UnaryNames (plan.group plan.final by aggregates) renamed names output = (renamed ≡ []) × (output ≡ names)
+
+-- a union has the names of its left input, a join those of both
+abbrev pub binary_names : Binary → List Name → List Name → List Name
+binary_names plan.union left right = left
+binary_names (plan.join merging on) left right = left ++ right
+
+-- at every node the output's columns have the names that its operator gives them, and no two have one name
+abbrev pub AreNamed : List Relation → Outline → Type 0
+AreNamed catalog (scan h r shared z prefix) =
+    (h.columns.names ≡ map (λ n. prefix ++ n) (relation_at catalog r).names) × (are_distinct_names h.columns.names ≡ true)
+AreNamed catalog (unary h op renamed t) = UnaryNames op renamed (column_names t) h.columns.names × (are_distinct_names h.columns.names ≡ true) × AreNamed catalog t
+AreNamed catalog (binary h op t u) =
+    (h.columns.names ≡ binary_names op (column_names t) (column_names u)) × (are_distinct_names h.columns.names ≡ true) × AreNamed catalog t × AreNamed catalog u
+AreNamed catalog (exchange h k merge t) = (h.columns.names ≡ column_names t) × (are_distinct_names h.columns.names ≡ true) × AreNamed catalog t
+
+-- a typed plan whose names are right: it is typed, its nodes have the columns of their outputs, no size is `one`, no size and no range stands twice,
+-- and the columns are named
+pub record IsNamed (p : TypedPlanView) : Type 0 where
+  pub typed : IsTyped (scope_of p.names) (plan_in p.root)
+  pub outputs : HasOutputs (relation_at p.names.catalog) p.root
+  pub sizes : are_distinct_names (codes "one" ∷ p.names.sizes) ≡ true
+  pub ranges : are_distinct_names (map (λ r. r.name) p.names.ranges) ≡ true
+  pub columns : AreNamed p.names.catalog p.root
+
+-- over a catalog a document of the form resolves to a typed plan exactly where the plan is over that catalog, well named, and said by the document
+pub record PlanLaw : Type 0 where
+  pub resolves : (d : Document) (catalog : List Relation) (p : TypedPlanView) → IsCatalog catalog → is_tree_form d.root ≡ true
+      → (resolved d catalog ≡ Ok p) ↔ ((p.names.catalog ≡ catalog) × IsNamed p × (document_by_name p ≡ d))
