@@ -9,7 +9,7 @@ use std::alloc::Global;
 use std::sync::Wait;
 use std::test::Fail;
 use std::thread::Threads;
-use vx_answer::{ByteRouter, Refusal, Store, deliver, tell};
+use vx_answer::{ByteRouter, Refusal, Store, deliver, report};
 use vx_bundle::{Command, Mode, bundle_in};
 use vx_bytes::{MemoryIn, MemoryOut};
 use vx_catalog::LoadFault;
@@ -37,15 +37,15 @@ impl Store for NoFiles {
     }
 }
 
-/// What goes to the output, to the errors, and the status, for words and an input that fails after so many bytes.
+/// What goes to the output, to the errors, and the status, for arguments and an input that fails after so many bytes.
 pub fn line_for<R: Threads + Wait + Sync + AllocGlobal>(
     rt: &R,
-    words: &[&str],
+    arguments: &[&str],
     bytes: &[u8],
     fails_after: Option<usize>,
 ) -> Result<String, Fail> {
     let mut input = MemoryIn::new(bytes, fails_after);
-    line_of(rt, words, &NoFiles, &mut input)
+    line_of(rt, arguments, &NoFiles, &mut input)
 }
 
 // The line of the first bundle with one text in the place of another.
@@ -83,10 +83,10 @@ fn other_forms_are_refused(rt: HostRuntime) -> Result<(), Fail> {
 }
 
 #[test]
-fn fronts_and_broken_inputs_are_refused(rt: HostRuntime) -> Result<(), Fail> {
+fn prefixes_and_broken_inputs_are_refused(rt: HostRuntime) -> Result<(), Fail> {
     for n in 0..FIRST.len() {
-        let (front, _) = FIRST.as_bytes().split_at(n);
-        let line = line_for(&rt, &[], front, None)?;
+        let (prefix, _) = FIRST.as_bytes().split_at(n);
+        let line = line_for(&rt, &[], prefix, None)?;
         assert_eq!(rt; line.as_str(), "|volcano: V1 BadBundle\n|3", "{n} bytes");
         let line = line_for(&rt, &[], FIRST.as_bytes(), Some(n))?;
         assert_eq!(rt;
@@ -177,7 +177,7 @@ fn tables_that_are_refused_have_their_lines(rt: HostRuntime) -> Result<(), Fail>
 }
 
 #[test]
-fn words_without_paths_are_wrong(rt: HostRuntime) -> Result<(), Fail> {
+fn arguments_without_paths_are_wrong(rt: HostRuntime) -> Result<(), Fail> {
     let line = line_for(&rt, &["run"], FIRST.as_bytes(), None)?;
     assert!(rt; line.as_str().ends_with("\n|2"));
     Ok(())
@@ -284,7 +284,7 @@ fn delivered(alloc: Global, text: &[u8], room: usize, err_room: usize) -> Result
 }
 
 #[test]
-fn outputs_that_fail_are_told(rt: HostRuntime) -> Result<(), Fail> {
+fn outputs_that_fail_are_reported(rt: HostRuntime) -> Result<(), Fail> {
     let lines = [
         "|volcano: V4 WriteFailed\n|4",
         "i|volcano: V4 WriteFailed\n|4",
@@ -304,9 +304,9 @@ fn outputs_that_fail_are_told(rt: HostRuntime) -> Result<(), Fail> {
     Ok(())
 }
 
-fn told(alloc: Global, refusal: &Refusal) -> Result<String, Fail> {
+fn reported(alloc: Global, refusal: &Refusal) -> Result<String, Fail> {
     let mut err = MemoryOut::new(alloc, 10, 100);
-    tell(refusal, &mut err);
+    report(refusal, &mut err);
     Ok(String::from_str(alloc, str::from_utf8(err.bytes())?)?)
 }
 
@@ -340,7 +340,7 @@ fn refusals_have_their_lines(rt: HostRuntime) -> Result<(), Fail> {
         (Refusal::TooLarge, "volcano: V6 TooLarge\n"),
         (Refusal::NoMemory, "volcano: X8 NoMemory\n"),
     ] {
-        assert_eq!(rt; told(rt.alloc(), &refusal)?.as_str(), line);
+        assert_eq!(rt; reported(rt.alloc(), &refusal)?.as_str(), line);
     }
     Ok(())
 }

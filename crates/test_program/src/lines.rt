@@ -6,16 +6,16 @@ use std::thread::Threads;
 use vx_answer::{Store, answer};
 use vx_bytes::{MemoryIn, MemoryOut};
 
-/// What goes to the output, to the errors, and the status, for words over files and a standard input.
+/// What goes to the output, to the errors, and the status, for arguments over files and a standard input.
 pub fn line_of<R: Threads + Wait + Sync + AllocGlobal, F: Store>(
     rt: &R,
-    words: &[&str],
+    arguments: &[&str],
     files: &F,
     input: &mut MemoryIn<'_>,
 ) -> Result<String, Fail> {
     let mut out = MemoryOut::new(rt.alloc(), 10, 10000);
     let mut err = MemoryOut::new(rt.alloc(), 10, 10000);
-    let status = answer(rt, rt.alloc(), words, files, input, &mut out, &mut err);
+    let status = answer(rt, rt.alloc(), arguments, files, input, &mut out, &mut err);
     let out = str::from_utf8(out.bytes())?;
     let err = str::from_utf8(err.bytes())?;
     Ok(format!(in rt.alloc(); "{out}|{err}|{status}")?)

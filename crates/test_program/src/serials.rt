@@ -95,7 +95,7 @@ fn a_hash_join_keeps_the_order_of_its_left_rows(rt: HostRuntime) -> Result<(), F
 }
 
 #[test]
-fn an_overflow_is_told_where_no_row_could_come_of_it(rt: HostRuntime) -> Result<(), Fail> {
+fn an_overflow_is_reported_where_no_row_could_come_of_it(rt: HostRuntime) -> Result<(), Fail> {
     let line = serial(&rt, JOINED_SUMS, TOO_LARGE, "")?;
     assert_eq!(rt; line.as_str(), "|volcano: X7 Overflow node=1\n|4");
     let line = serial(&rt, JOINED_SUMS, LARGE, "")?;

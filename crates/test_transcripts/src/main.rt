@@ -1,7 +1,7 @@
 //! Runs the commands of transcripts, and prints each with what came of it.
 //!
-//! The words of the command line name transcripts: text files in which each line that begins with `$ volcano` is a command.
-//! Behind that stand the program's words, parted by spaces, and at the end there may be `< FILE`, whose bytes are its
+//! The arguments name transcripts: text files in which each line that begins with `$ volcano` is a command.
+//! After that come the program's arguments, separated by spaces, and at the end there may be `< FILE`, whose bytes are its
 //! standard input; without it that is empty. Any other line is a note. For each command its line is printed, then what went
 //! to the output, what went to the errors, and the status.
 #![tactic(auto)]
@@ -22,22 +22,22 @@ const ROOM: usize = 1 << 20;
 #[derive(Drop)]
 struct Command<'a> {
     /// Without the program's name.
-    words: Vec<&'a str>,
+    arguments: Vec<&'a str>,
     /// The path of what it reads as its standard input.
     input: Option<&'a str>,
 }
 
-// The command that a line has behind the program's name.
+// The command that a line has after the program's name.
 fn command_in(alloc: Global, text: &str) -> Result<Command<'_>, AllocError> {
     let (texts, input) = match text.split_once('<') {
         Some((texts, path)) => (texts, Some(path.trim())),
         None => (text, None),
     };
-    let mut words = Vec::new(alloc);
-    for word in texts.split_whitespace() {
-        words.push(word)?;
+    let mut arguments = Vec::new(alloc);
+    for argument in texts.split_whitespace() {
+        arguments.push(argument)?;
     }
-    Ok(Command { words, input })
+    Ok(Command { arguments, input })
 }
 
 // The bytes of a command's standard input.
@@ -60,7 +60,7 @@ fn show<R: Threads + Wait + Sync + Files<File = File> + Print + AllocGlobal>(
     let status = answer(
         rt,
         rt.alloc(),
-        command.words.as_slice(),
+        command.arguments.as_slice(),
         &Disk::new(rt),
         &mut input,
         &mut out,
@@ -87,8 +87,8 @@ fn show_all<R: Threads + Wait + Sync + Files<File = File> + Print + AllocGlobal>
 }
 
 fn main(rt: HostRuntime) -> Result<(), Error> {
-    for word in env::args(&rt)?.skip(1) {
-        let path = word.as_str();
+    for argument in env::args(&rt)?.skip(1) {
+        let path = argument.as_str();
         let transcript = fs::read_to_string(&rt, path).context(format_args!("reading {path}"))?;
         show_all(&rt, transcript.as_str())?;
     }

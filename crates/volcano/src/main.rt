@@ -1,4 +1,4 @@
-//! The program: from words or a bundle to rows.
+//! The program: from arguments or a bundle to rows.
 #![tactic(auto)]
 
 use std::alloc::{AllocError, Global};
@@ -6,23 +6,23 @@ use std::env::Env;
 use std::io::ErrorKind;
 use std::process::ExitCode;
 use std::{env, io};
-use vx_answer::{Disk, Refusal, answer, tell};
+use vx_answer::{Disk, Refusal, answer, report};
 use vx_bytes::{Real, write_all};
 
-// The words of the command line without the program's name.
-fn words_of(rt: &(impl Env + AllocGlobal)) -> io::Result<Vec<String>> {
-    let mut words = Vec::new(rt.alloc());
-    for word in env::args(rt)?.skip(1) {
-        words.push(word)?;
+// The arguments, without the program's name.
+fn arguments_of(rt: &(impl Env + AllocGlobal)) -> io::Result<Vec<String>> {
+    let mut arguments = Vec::new(rt.alloc());
+    for argument in env::args(rt)?.skip(1) {
+        arguments.push(argument)?;
     }
-    Ok(words)
+    Ok(arguments)
 }
 
-// The texts of words.
-fn texts_of(alloc: Global, words: &[String]) -> Result<Vec<&str>, AllocError> {
+// The texts of arguments.
+fn texts_of(alloc: Global, arguments: &[String]) -> Result<Vec<&str>, AllocError> {
     let mut texts = Vec::new(alloc);
-    for word in words {
-        texts.push(word.as_str())?;
+    for argument in arguments {
+        texts.push(argument.as_str())?;
     }
     Ok(texts)
 }
@@ -31,10 +31,10 @@ fn main(rt: HostRuntime) -> ExitCode {
     let mut input = Real::new(rt.reader());
     let mut out = Real::new(rt.stdout());
     let mut err = Real::new(rt.stderr());
-    let words = match words_of(&rt) {
-        Ok(words) => words,
+    let arguments = match arguments_of(&rt) {
+        Ok(arguments) => arguments,
         Err(e) if e.kind() == ErrorKind::OutOfMemory => {
-            tell(&Refusal::NoMemory, &mut err);
+            report(&Refusal::NoMemory, &mut err);
             return ExitCode::from(4);
         }
         Err(_) => {
@@ -42,8 +42,8 @@ fn main(rt: HostRuntime) -> ExitCode {
             return ExitCode::from(2);
         }
     };
-    let Ok(texts) = texts_of(rt.alloc(), words.as_slice()) else {
-        tell(&Refusal::NoMemory, &mut err);
+    let Ok(texts) = texts_of(rt.alloc(), arguments.as_slice()) else {
+        report(&Refusal::NoMemory, &mut err);
         return ExitCode::from(4);
     };
     let files = Disk::new(&rt);

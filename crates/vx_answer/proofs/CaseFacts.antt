@@ -12,6 +12,7 @@ use Rattle.vx_catalog.specs.Database.{Database}
 use Rattle.vx_catalog.specs.declared.fault.LoadFault.{LoadFault}
 use Rattle.vx_catalog.specs.declared.fault.LoadFault.TheVariants as load
 use Rattle.vx_plan_json.specs.Fault as plan
+use Rattle.vx_plan_json.specs.Reading.{document_in}
 use Rattle.vx_plan_json.specs.declared.fault.PlanFault.{PlanFault}
 use Rattle.vx_plan_json.specs.declared.fault.PlanFault.TheVariants as of_plan
 use Rattle.vx_plan_nodes.specs.Plan.{Plan}
@@ -34,12 +35,14 @@ use Rattle.vx_bundle.specs.Bundle.{Bundle}
 use Rattle.vx_bundle.specs.Setting.{Named}
 use Rattle.vx_refusals.specs.declared.refusal.Refusal.{Refusal}
 use Rattle.vx_refusals.specs.declared.refusal.Refusal.TheVariants as refusal
-use Rattle.vx_tables.specs.Filled.{scans, IsFirstMissing, nothing_missing, first_missing as first_of_missing}
+use Rattle.vx_tables.specs.Filled.{scans, IsFirstMissing, missing_memory, first_missing as first_of_missing}
 use Rattle.vx_refusals.specs.Status.{status_of}
 use Rattle.vx_tables.specs.Texts.{Missing, text_of, rows_from, holds_in, lacks_in, MissesBy, Misses, for_memory, for_no_text, for_bad_text}
-use Rattle.vx_answer.specs.Commanded.{refusal_in, setup_of, RunRefuses, PlanRefuses, SerialRefuses, CommandRefuses, erased}
-use Rattle.vx_answer.specs.Commanded as commanded
-use Rattle.vx_answer.specs.Answer.{is_taken, plan_for, IsPlanned, Refuses, Unplanned}
+use Rattle.vx_answer.specs.Commands.{refusal_in, setup_of, RunRefuses, PlanRefuses, SerialRefuses, CommandRefuses, erased}
+use Rattle.vx_answer.specs.Commands as commands
+use Rattle.vx_answer.specs.Answer.{is_supported, IsBundlePlan, IsBundlePlanRefusal, Refuses}
+use Rattle.vx_answer.specs.Planning.{plan_from}
+use Rattle.vx_answer.specs.Planning as planning
 use Rattle.vx_answer.specs.Answer as answer
 use Rattle.vx_answer.specs.Case.{IsCase, is_of_setup, IsOfSetup}
 
@@ -89,7 +92,7 @@ rows_are_there e rows x ok (for_bad_text fault is h) three = table_loads e fault
 tables_load : (tables : Named (List ℕ)) (p : Plan) (relations : List Relation) (e : Refusal)
     → ((i : ℕ) → i < length relations → scans p i ≡ true → (rows : List Row) × holds_in tables (relation_at relations i) rows)
     → IsFirstMissing p (holds_in tables) (lacks_in tables) relations e → status_of e ≡ 3 → ⊥
-tables_load tables p relations e loaded (nothing_missing is) three = not_three e refusal.NoMemory is refl three
+tables_load tables p relations e loaded (missing_memory is) three = not_three e refusal.NoMemory is refl three
 tables_load tables p relations e loaded (first_of_missing i there scanned before lacks) three =
     let relation = relation_at relations i in
     let rows = loaded i there scanned in
@@ -149,13 +152,13 @@ run_fails p db s fault e same is (runs.for_setup c (inr err)) three = (fault, is
 run_fails p db s fault e same is (runs.for_fault sizes set h) three = absurd (run_ends p db fault e is h three)
 
 run_refuses : (b : Bundle) (p : TypedPlanView) (db : Database) (e : Refusal) → db.catalog ≡ p.names.catalog → RunRefuses p db b.setting e → status_of e ≡ 3 → IsOfSetup e
-run_refuses b p db e same (commanded.for_rounds s set is) three = absurd (not_three e refusal.Unfinished is refl three)
-run_refuses b p db e same (commanded.for_want is) three = absurd (not_three e refusal.NoMemory is refl three)
-run_refuses b p db e same (commanded.for_fault fault is h) three = run_fails p db (setup_of b.setting) fault e same is h three
+run_refuses b p db e same (commands.for_rounds s set is) three = absurd (not_three e refusal.Unfinished is refl three)
+run_refuses b p db e same (commands.run_memory is) three = absurd (not_three e refusal.NoMemory is refl three)
+run_refuses b p db e same (commands.for_fault fault is h) three = run_fails p db (setup_of b.setting) fault e same is h three
 
 plan_refuses : (b : Bundle) (p : TypedPlanView) (e : Refusal) → IsCase b p → PlanRefuses p (holds_in b.tables) (lacks_in b.tables) b.setting e → status_of e ≡ 3 → IsOfSetup e
-plan_refuses b p e case (commanded.for_tables h) three = absurd (tables_load b.tables (plan_in p.root) p.names.catalog e case.loaded h three)
-plan_refuses b p e case (commanded.for_run db there h) three = run_refuses b p db e there.same h three
+plan_refuses b p e case (commands.for_tables h) three = absurd (tables_load b.tables (plan_in p.root) p.names.catalog e case.loaded h three)
+plan_refuses b p e case (commands.for_run db there h) three = run_refuses b p db e there.same h three
 
 -- of two plans without exchanges either has none
 either_left : (b : Bool) (x y : Outline) → first_exchange (plan_in x) ≡ None → first_exchange (plan_in y) ≡ None → first_exchange (plan_in (cond b x y)) ≡ None
@@ -177,33 +180,43 @@ evaluation_fails p db (eval.Overflow node) e same is h three = not_three e (refu
 evaluation_fails p db eval.NoMemory e same is h three = not_three e (refusal.Eval eval.NoMemory) is refl three
 
 serial_refuses : (b : Bundle) (p : TypedPlanView) (e : Refusal) → IsCase b p → SerialRefuses p (holds_in b.tables) (lacks_in b.tables) e → status_of e ≡ 3 → ⊥
-serial_refuses b p e case (commanded.for_room is) three = not_three e refusal.NoMemory is refl three
-serial_refuses b p e case (commanded.for_texts h) three = tables_load b.tables (plan_in p.root) p.names.catalog e case.loaded h three
-serial_refuses b p e case (commanded.for_evaluation db fault there is h) three = evaluation_fails p db fault e there.same is h three
+serial_refuses b p e case (commands.serial_memory is) three = not_three e refusal.NoMemory is refl three
+serial_refuses b p e case (commands.for_texts h) three = tables_load b.tables (plan_in p.root) p.names.catalog e case.loaded h three
+serial_refuses b p e case (commands.for_evaluation db fault there is h) three = evaluation_fails p db fault e there.same is h three
 
 command_refuses : (b : Bundle) (p : TypedPlanView) (e : Refusal) → IsCase b p → CommandRefuses b.command p (holds_in b.tables) (lacks_in b.tables) b.setting e → status_of e ≡ 3 → IsOfSetup e
-command_refuses b p e case (commanded.for_memory is) three = absurd (not_three e refusal.NoMemory is refl three)
-command_refuses b p e case (commanded.for_rule checked h) three = absurd (none_some (refusal_in p) _ case.shown h.3)
-command_refuses b p e case (commanded.for_rest runs shown h) three = plan_refuses b p e case h three
-command_refuses b p e case (commanded.for_serial runs h) three = absurd (serial_refuses b p e case h three)
+command_refuses b p e case (commands.command_memory is) three = absurd (not_three e refusal.NoMemory is refl three)
+command_refuses b p e case (commands.for_rule checked h) three = absurd (none_some (refusal_in p) _ case.shown h.3)
+command_refuses b p e case (commands.for_rest runs shown h) three = plan_refuses b p e case h three
+command_refuses b p e case (commands.for_serial runs h) three = absurd (serial_refuses b p e case h three)
+
+-- the plan of a bundle over these relations
+abbrev plan_over_relations : Bundle → List Relation → Result TypedPlanView plan.Refusal
+plan_over_relations b relations = plan_from b.command relations (document_in b.plan)
 
 -- a bundle has one plan
-one_plan : (b : Bundle) (p q : TypedPlanView) → IsPlanned b p → IsPlanned b q → q ≡ p
+one_plan : (b : Bundle) (p q : TypedPlanView) → IsBundlePlan b p → IsBundlePlan b q → q ≡ p
 one_plan b p q x y =
-    let declared : x.catalog ≡ y.catalog = cc (x.declared, y.declared) in
-    let planned : plan_for b x.catalog ≡ plan_for b y.catalog = ap (plan_for b) declared in
-    cc (x.planned, y.planned)
+    let declares : catalog.catalog_of b.catalog ≡ Ok p.names.catalog = x.declares in
+    let declares_too : catalog.catalog_of b.catalog ≡ Ok q.names.catalog = y.declares in
+    let same : p.names.catalog ≡ q.names.catalog = cc (declares, declares_too) in
+    let over : plan_over_relations b p.names.catalog ≡ plan_over_relations b q.names.catalog = ap (plan_over_relations b) same in
+    let planned : plan_over_relations b p.names.catalog ≡ Ok p = x.planned in
+    let planned_too : plan_over_relations b q.names.catalog ≡ Ok q = y.planned in
+    cc (over, planned, planned_too)
 
-unplanned : (b : Bundle) (p : TypedPlanView) (e : Refusal) → IsPlanned b p → Unplanned b e → status_of e ≡ 3 → ⊥
-unplanned b p e x (answer.for_catalog fault is h) three = catalog_reads e fault (catalog.catalog_of b.catalog) x.catalog x.declared is h three
-unplanned b p e x (answer.for_plan relations fault is declared h) three =
-    let same : relations ≡ x.catalog = cc (declared, x.declared) in
-    plan_resolves e fault (plan_for b relations) p (ap (plan_for b) same ∙ x.planned) is h three
+has_plan : (b : Bundle) (p : TypedPlanView) (e : Refusal) → IsBundlePlan b p → IsBundlePlanRefusal b e → status_of e ≡ 3 → ⊥
+has_plan b p e x (planning.for_catalog fault is h) three = catalog_reads e fault (catalog.catalog_of b.catalog) p.names.catalog x.declares is h three
+has_plan b p e x (planning.for_plan relations fault is declared h) three =
+    let declares : catalog.catalog_of b.catalog ≡ Ok p.names.catalog = x.declares in
+    let declares_too : catalog.catalog_of b.catalog ≡ Ok relations = declared in
+    let same : relations ≡ p.names.catalog = cc (declares, declares_too) in
+    plan_resolves e fault (plan_over_relations b relations) p (ap (plan_over_relations b) same ∙ x.planned) is h three
 
 pub case_is_refused_by_setup : (b : Bundle) (p : TypedPlanView) (e : Refusal) → IsCase b p → Refuses b e → status_of e ≡ 3 → IsOfSetup e
-case_is_refused_by_setup b p e case (answer.for_want is) three = absurd (not_three e refusal.NoMemory is refl three)
-case_is_refused_by_setup b p e case (answer.for_command is unsupported) three = absurd (true_false (is_taken b.command b.setting.mode) case.supported unsupported)
-case_is_refused_by_setup b p e case (answer.for_planning h) three = absurd (unplanned b p e case.planned h three)
+case_is_refused_by_setup b p e case (answer.bundle_memory is) three = absurd (not_three e refusal.NoMemory is refl three)
+case_is_refused_by_setup b p e case (answer.for_command is unsupported) three = absurd (true_false (is_supported b.command b.setting.mode) case.supported unsupported)
+case_is_refused_by_setup b p e case (answer.for_planning h) three = absurd (has_plan b p e case.planned h three)
 case_is_refused_by_setup b p e case (answer.for_plan_of q planned h) three =
     let P : TypedPlanView → Type 0 = λ q. CommandRefuses b.command q (holds_in b.tables) (lacks_in b.tables) b.setting e in
     command_refuses b p e case (subst P (one_plan b p q case.planned planned) h) three

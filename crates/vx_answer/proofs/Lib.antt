@@ -3,7 +3,7 @@ pub mod PlanFacts
 pub mod Refusing
 pub mod SerialFacts
 pub mod Outputs
-pub mod SourceFacts
-pub mod WordFacts
-pub mod GivenFacts
+pub mod FileFacts
+pub mod CommandLineFacts
+pub mod ArgumentFacts
 pub mod CaseFacts

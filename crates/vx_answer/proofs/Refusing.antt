@@ -1,5 +1,5 @@
 -- From one step's refusal to the refusal of the whole.
-use Rattle.std.proofs.Common.{arith, ◌≡◌, ◌≢◌, ◌∙◌, ℕ, List, Bool, Option, Result, Ok, Err, refl, sym}
+use Rattle.std.proofs.Common.{arith, ◌≡◌, ◌≢◌, ◌⊎◌, inl, inr, ◌∙◌, ℕ, List, Bool, Option, Result, Ok, Err, refl, sym}
 use Rattle.std.specs.Prelude.{IfOk, IfErr}
 use Rattle.vx_catalog.specs.Database.{Database}
 use Rattle.vx_plan_nodes.specs.Names.{TypedPlanView}
@@ -9,8 +9,8 @@ use Rattle.vx_bundle.specs.Bundle.{Bundle}
 use Rattle.vx_bundle.specs.Setting.{Setting}
 use Rattle.vx_refusals.specs.Status.{status_of}
 use Rattle.vx_tables.specs.Texts.{holds_in, lacks_in}
-use Rattle.vx_answer.specs.Commanded.{Holding, Lacking, IsShown, IsDatabaseFor, RunRefuses, PlanRefuses, for_run, SerialRefuses, CommandRefuses, for_rest, for_serial}
-use Rattle.vx_answer.specs.Answer.{IsPlanned, Refuses, for_plan_of, RefusedWith, IsRefusedBy}
+use Rattle.vx_answer.specs.Commands.{Holding, Lacking, IsShown, IsDatabaseFor, RunRefuses, PlanRefuses, for_run, SerialRefuses, CommandRefuses, for_rest, for_serial}
+use Rattle.vx_answer.specs.Answer.{IsBundlePlan, Refuses, for_plan_of, RefusedWith, IsRefusedBy}
 
 pub run_refused : {T : Type 0} (r : Result T Refusal) (p : TypedPlanView) (holds : Holding) (lacks : Lacking) (s : Setting) (db : Database)
     → IsDatabaseFor p holds db → IfErr r (λ e. RunRefuses p db s e) → IfErr r (λ e. PlanRefuses p holds lacks s e)
@@ -27,7 +27,7 @@ pub serial_refused : {T : Type 0} (r : Result T Refusal) (p : TypedPlanView) (ho
 serial_refused (Ok x) p holds lacks s h = tt
 serial_refused (Err e) p holds lacks s h = for_serial refl h
 
-pub bundle_refused : {T : Type 0} (r : Result T Refusal) (b : Bundle) (p : TypedPlanView) → IsPlanned b p
+pub bundle_refused : {T : Type 0} (r : Result T Refusal) (b : Bundle) (p : TypedPlanView) → IsBundlePlan b p
     → IfErr r (λ e. CommandRefuses b.command p (holds_in b.tables) (lacks_in b.tables) b.setting e) → IfErr r (λ e. Refuses b e)
 bundle_refused (Ok x) b p there h = tt
 bundle_refused (Err e) b p there h = for_plan_of p there h
@@ -40,3 +40,10 @@ refused_by X Y known failed (Ok x) n written refused h three =
     let four : n ≡ 4 = (written (λ z. absurd (omega (arith, z, three)))).0 in
     absurd (omega (arith, four, three))
 refused_by X Y known failed (Err e) n written refused h three = (e, sym refused.0 ∙ three, h)
+
+-- status 4 comes of a write that failed, or of a refusal
+pub failed_by : {T : Type 0} (X Y : Type 0) (known : Option (List ℕ)) (failed : Bool) (r : Result T Refusal) (n : ℕ)
+    → IfOk r (λ x. n ≢ 0 → (n ≡ 4) × X) → IfErr r (λ e. (n ≡ status_of e) × Y) → IfErr r (λ e. RefusedWith known failed e)
+    → n ≡ 4 → X ⊎ IsRefusedBy 4 known failed
+failed_by X Y known failed (Ok x) n written refused h four = inl (written (λ z. absurd (omega (arith, z, four)))).1
+failed_by X Y known failed (Err e) n written refused h four = inr (e, sym refused.0 ∙ four, h)

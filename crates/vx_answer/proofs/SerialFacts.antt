@@ -7,7 +7,7 @@ use Rattle.vx_plan_nodes.specs.Outline.{Outline}
 use Rattle.vx_serial.specs.Results.{EvalFails}
 use Rattle.vx_serial.specs.declared.fault.EvalFault.{EvalFault}
 use Rattle.vx_refusals.specs.declared.refusal.Refusal.TheVariants as refusal
-use Rattle.vx_answer.specs.Commanded.{Holding, Lacking, erased, IsDatabaseFor, SerialRefuses, for_evaluation}
+use Rattle.vx_answer.specs.Commands.{Holding, Lacking, erased, IsDatabaseFor, SerialRefuses, for_evaluation}
 
 is-erased : (e p : TypedPlanView) → e.names ≡ p.names → e.total ≡ false → e.root ≡ erased_from 0 p.root → e ≡ erased p
 is-erased e p names total root =

@@ -12,12 +12,12 @@ use Rattle.vx_refusals.specs.declared.refusal.Refusal.TheVariants as refusal
 use Rattle.vx_tables.specs.Filled.{scans}
 use Rattle.vx_refusals.specs.Status.{status_of}
 use Rattle.vx_tables.specs.Texts.{holds_in}
-use Rattle.vx_answer.specs.Commanded.{IsShown}
-use Rattle.vx_answer.specs.Answer.{is_taken, IsPlanned, Refuses}
+use Rattle.vx_answer.specs.Commands.{IsShown}
+use Rattle.vx_answer.specs.Answer.{is_supported, IsBundlePlan, Refuses}
 
 pub record IsCase (b : Bundle) (p : TypedPlanView) : Type 0 where
-  pub supported : is_taken b.command b.setting.mode ≡ true
-  pub planned : IsPlanned b p
+  pub supported : is_supported b.command b.setting.mode ≡ true
+  pub planned : IsBundlePlan b p
   pub shown : IsShown p
   pub loaded : (i : ℕ) → i < length p.names.catalog → scans (plan_in p.root) i ≡ true → (rows : List Row) × holds_in b.tables (relation_at p.names.catalog i) rows
 

@@ -1,8 +1,9 @@
 pub mod ByteRouter
-pub mod Unrunnable
-pub mod Commanded
+pub mod Planning
+pub mod Commands
 pub mod Answer
-pub mod Given
-pub mod Worded
-pub mod WordsView
+pub mod Arguments
+pub mod Files
+pub mod CommandLine
+pub mod CommandLineView
 pub mod Case

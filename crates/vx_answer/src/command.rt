@@ -5,7 +5,7 @@ ghost use Rattle.vx_plan_nodes.specs.TypedView.{resolved_of};
 ghost use Rattle.vx_plan_nodes.specs.Outline.{plan_in};
 ghost use Rattle.vx_check_rules.specs.CheckedView.{typed_plan};
 ghost use Rattle.vx_setup.specs.Runnable.{can_run};
-ghost use Rattle.vx_answer.specs.Commanded.{IsShown, IsNotShown, accepted_text, IsFor, CommandRefuses};
+ghost use Rattle.vx_answer.specs.Commands.{IsShown, IsNotShown, accepted_text, IsResultOf, CommandRefuses};
 
 use crate::run::run_plan;
 use crate::serial::serial_plan;
@@ -16,7 +16,7 @@ use vx_plan::TypedPlan;
 use vx_refusals::Refusal;
 use vx_tables::Tables;
 
-// What the checker's answer is told as.
+// The text of the checker's answer.
 fn accepted_text(alloc: Global, is_total: bool) -> Result<Vec<u8>, AllocError>
     ensures { IfOk result (λ text. text.items ≡ accepted_text is_total) }
 {
@@ -42,8 +42,8 @@ fn accepted(plan: TypedPlan) -> Result<CheckedPlan, Refusal>
     }
 }
 
-/// The text that a command asks for of a plan over tables. Workers have to be able to run a plan that is to be run.
-pub fn carried_out<T: Tables>(
+/// The text that a command makes of a plan over tables. Workers have to be able to run a plan that is to be run.
+pub fn execute<T: Tables>(
     alloc: Global,
     command: Command,
     tables: &T,
@@ -51,7 +51,7 @@ pub fn carried_out<T: Tables>(
     plan: TypedPlan,
 ) -> Result<Vec<u8>, Refusal>
     requires runs { command ≡ Command.Run → can_run (plan_in (resolved_of plan).root) ≡ true }
-    ensures text { IfOk result (λ text. IsFor command (resolved_of plan) (T.holds tables.now) setting.now text.items) }
+    ensures text { IfOk result (λ text. IsResultOf command (resolved_of plan) (T.holds tables.now) setting.now text.items) }
     ensures refused { IfErr result (λ e. CommandRefuses command (resolved_of plan) (T.holds tables.now) (T.lacks tables.now) setting.now e) }
 {
     match command {

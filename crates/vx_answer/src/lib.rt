@@ -1,21 +1,20 @@
-//! From words, files and standard input to all output.
+//! The program as a library: from arguments, files and standard input to all output.
 #![tactic(auto)]
 
-mod answering;
+mod arguments;
+mod bundle;
 mod command;
-mod given;
+mod command_line;
+mod files;
 mod laws;
-mod page;
+mod planning;
+mod program;
 mod router;
 mod run;
 mod serial;
-mod sources;
-mod unrunnable;
-mod worded;
-mod work;
 
-pub use answering::{answer, deliver};
 pub use laws::case_is_refused_by_setup;
+pub use program::{answer, deliver};
 pub use router::ByteRouter;
 pub use vx_bytes::{Disk, Store};
-pub use vx_refusals::{Refusal, tell};
+pub use vx_refusals::{Refusal, report};

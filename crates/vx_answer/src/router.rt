@@ -54,7 +54,7 @@ impl Router for ByteRouter {
     ghost in_range = { λ r name key n some. mod_below (key_hash name key) n some };
 
     fn route(&self, name: &str, key: &[Value], n: u32) -> u32 {
-        let named = hash_byte(hash_bytes(7, name.as_bytes()), 0);
-        hash_key(named, key) % n
+        let start = hash_byte(hash_bytes(7, name.as_bytes()), 0);
+        hash_key(start, key) % n
     }
 }

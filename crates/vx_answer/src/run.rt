@@ -7,19 +7,18 @@ ghost use Rattle.vx_plan_nodes.specs.TypedView.{plan as plan_of_typed, resolved_
 ghost use Rattle.vx_check_rules.specs.CheckedView.{typed_plan};
 ghost use Rattle.vx_setup.specs.Runnable.{can_run};
 ghost use Rattle.vx_bundle.specs.Setting.{size_form};
-ghost use Rattle.vx_answer.specs.Commanded.{IsRunOver, RunRefuses, IsRun, PlanRefuses, setup_of};
+ghost use Rattle.vx_answer.specs.Commands.{IsRunOver, RunRefuses, IsRun, PlanRefuses, setup_of};
 
-use crate::page::Page;
 use crate::router::ByteRouter;
 use std::alloc::{AllocError, Global};
 use vx_bundle::Setting;
-use vx_catalog::{Database, write_rows};
+use vx_catalog::{Database, format_rows};
 use vx_check::CheckedPlan;
 use vx_exec::{Ran, Setup, run_rounds};
 use vx_plan::TypedPlan;
 use vx_refusals::Refusal;
-use vx_rows::Rows;
 use vx_tables::{Tables, load_tables};
+use vx_views::ChunkedRows;
 
 // The most rounds of a run.
 const MAX_ROUNDS: u64 = 1_000_000_000;
@@ -35,7 +34,7 @@ fn copied_sizes(alloc: Global, sizes: &[(String, u32)]) -> Result<Vec<(String, u
     Ok(copies)
 }
 
-// What a run is told of how it is set up.
+// The setup of a run, with a copy of the sizes.
 fn setup_of(alloc: Global, setting: &Setting) -> Result<Setup, AllocError>
     ensures { IfOk result (λ s. s ≡ setup_of setting.now) }
 {
@@ -44,15 +43,11 @@ fn setup_of(alloc: Global, setting: &Setting) -> Result<Setup, AllocError>
 }
 
 /// The text of rows under the names of a plan's output.
-pub fn text_of(alloc: Global, plan: &TypedPlan, rows: &Rows) -> Result<Vec<u8>, AllocError>
+pub fn text_of(alloc: Global, plan: &TypedPlan, rows: &ChunkedRows) -> Result<Vec<u8>, AllocError>
     ensures { IfOk result (λ v. v.items ≡ csv_text (columns (resolved_of plan.now).root).names rows.now.rows) }
 {
     let names = plan.root().head().columns.names.as_slice();
-    let mut page = Page::new(alloc);
-    match write_rows(alloc, names, rows, &mut page) {
-        Ok(()) => Ok(page.into_bytes()),
-        Err(_) => Err(AllocError),
-    }
+    format_rows(alloc, names, rows)
 }
 
 // The text of a run of a plan over a database in rounds.
@@ -67,10 +62,9 @@ fn run_over(
     ensures refused { IfErr result (λ e. RunRefuses (resolved_of (typed_plan plan.now)) database.now setting.now e) }
 {
     let setup = setup_of(alloc, setting)?;
-    match run_rounds(alloc, plan, database, &setup, &ByteRouter, MAX_ROUNDS) {
-        Ok(Ran::Done(rows)) => Ok(text_of(alloc, plan.plan(), &rows)?),
-        Ok(Ran::Unfinished) => Err(Refusal::Unfinished),
-        Err(fault) => Err(Refusal::Run(fault)),
+    match run_rounds(alloc, plan, database, &setup, &ByteRouter, MAX_ROUNDS)? {
+        Ran::Done(rows) => Ok(text_of(alloc, plan.plan(), &rows)?),
+        Ran::Unfinished => Err(Refusal::Unfinished),
     }
 }
 
@@ -85,9 +79,6 @@ pub fn run_plan<T: Tables>(
     ensures text { IfOk result (λ text. IsRun (resolved_of (typed_plan plan.now)) (T.holds tables.now) setting.now text.items) }
     ensures refused { IfErr result (λ e. PlanRefuses (resolved_of (typed_plan plan.now)) (T.holds tables.now) (T.lacks tables.now) setting.now e) }
 {
-    let database = match load_tables(alloc, plan.plan(), tables) {
-        Ok(database) => database,
-        Err(refusal) => return Err(refusal),
-    };
+    let database = load_tables(alloc, plan.plan(), tables)?;
     run_over(alloc, setting, plan, &database)
 }

@@ -2,7 +2,7 @@
 
 ghost use Rattle.std.specs.Prelude.{IfOk, IfErr};
 ghost use Rattle.vx_plan_nodes.specs.TypedView.{resolved_of};
-ghost use Rattle.vx_answer.specs.Commanded.{IsSerial, SerialRefuses};
+ghost use Rattle.vx_answer.specs.Commands.{IsSerial, SerialRefuses};
 
 use crate::run::text_of;
 use std::alloc::Global;
@@ -20,15 +20,10 @@ pub fn serial_plan<T: Tables>(
     ensures text { IfOk result (λ text. IsSerial (resolved_of plan.now) (T.holds tables.now) text.items) }
     ensures refused { IfErr result (λ e. SerialRefuses (resolved_of plan.now) (T.holds tables.now) (T.lacks tables.now) e) }
 {
-    let database = match load_tables(alloc, plan, tables) {
-        Ok(database) => database,
-        Err(refusal) => return Err(refusal),
-    };
+    let database = load_tables(alloc, plan, tables)?;
     let Ok(erased) = erase(alloc, plan) else {
         return Err(Refusal::NoMemory);
     };
-    match eval(alloc, &erased, &database) {
-        Ok(rows) => Ok(text_of(alloc, plan, &rows)?),
-        Err(fault) => Err(Refusal::Eval(fault)),
-    }
+    let rows = eval(alloc, &erased, &database)?;
+    Ok(text_of(alloc, plan, &rows)?)
 }

@@ -1,4 +1,4 @@
--- What the words of the command line ask for: the commands and options that the program has, and what each comes to.
+-- What the command-line arguments ask for: the commands and options that the program has, and what each comes to.
 use Rattle.std.specs.Prelude.{pos, List, [], ◌∷◌, Option, Some, None, map, option_map, option_and_then, bytes_eq, codes, true, if◌then◌else◌}
 use Rattle.std.specs.Option.{option_map_or}
 use Rattle.clap.specs.Lexer.{usize_max}
@@ -23,7 +23,7 @@ number_rule name default =
 abbrev pub mode_rule : Rule
 mode_rule = record (new_rule (codes "mode")) { long = Some (codes "mode"); value_names = 1; defaults = codes "rounds" ∷ [] }
 
--- the words behind all options: each a size name with its number of workers
+-- the arguments behind all options: each a size name with its number of workers
 abbrev pub sizes_rule : Rule
 sizes_rule = record (new_rule (codes "sizes")) { value_names = 1; range = Some (record { start_inclusive = 0; end_inclusive = usize_max }) }
 
@@ -53,7 +53,7 @@ pub record Paths : Type 0 where
   pub catalog : Text
   pub plan : Text
 
--- the texts of a run's numbers and of its mode, and its words NAME=N
+-- the texts of a run's numbers and of its mode, and its arguments NAME=N
 pub record Given : Type 0 where
   pub packet : Text
   pub morsel : Text
@@ -72,7 +72,7 @@ pub data Ask : Type 0 where
 abbrev pub paths_of : List Row → Option Paths
 paths_of rows = option_and_then (λ c. option_map (λ p. record { catalog = c; plan = p }) (first_of (codes "plan") rows)) (first_of (codes "catalog") rows)
 
--- the values of the words behind the options, none where there are none
+-- the values of the arguments behind the options, none where there are none
 abbrev pub sizes_of : List Row → List Text
 sizes_of rows = option_map_or (λ ts. ts) (all_of (codes "sizes") rows) []
 
@@ -96,13 +96,13 @@ ask_of (Some p) =
     else if bytes_eq p.0 (codes "explain") then option_map explain (paths_of p.1)
     else None
 
--- what the words ask for, the program's name first
+-- what the arguments ask for, the program's name first
 unfoldable pub asked_by : List Text → Option Ask
-asked_by words = ask_of (subcommand_of volcano_app words)
+asked_by arguments = ask_of (subcommand_of volcano_app arguments)
 
--- the kinds that a refusal of the words may have; none where they are taken
+-- the kinds that a refusal of the arguments may have; none if they are accepted
 unfoldable pub faults_of : List Text → Kinds
-faults_of words = fault_of volcano_app words
+faults_of arguments = fault_of volcano_app arguments
 
 abbrev pub paths_are : Sources → Paths
 paths_are s = record { catalog = s.catalog.now; plan = s.plan.now }

@@ -1,4 +1,4 @@
-//! What the words of the command line ask for.
+//! What the command-line arguments ask for.
 
 ghost use Rattle.std.specs.Prelude.{◌≡◌, IfOk, false, map, option_map};
 ghost use Rattle.clap.specs.Words.{FailsBy, fault_of, rows_of, found_of, first_of, all_of, subcommand_of, subcommand_rows_of};
@@ -15,7 +15,7 @@ pub struct Sources<'a> {
     pub plan: &'a str,
 }
 
-/// The numbers and the mode of a run as they were written or are by default, and its words `NAME=N`.
+/// The numbers and the mode of a run as they were written or are by default, and its arguments `NAME=N`.
 #[derive(Debug, Drop)]
 pub struct Limits<'a> {
     pub packet: &'a str,
@@ -25,7 +25,7 @@ pub struct Limits<'a> {
     pub sizes: Vec<&'a str>,
 }
 
-/// What the words ask for.
+/// What the arguments ask for.
 #[derive(Debug, Drop)]
 pub enum Asked<'a> {
     /// No command: the answer to a bundle on standard input.
@@ -53,7 +53,7 @@ fn sources_in<'a>(found: &ArgMatches<'a>) -> Option<Sources<'a>>
     Some(Sources { catalog, plan })
 }
 
-// The values of the words behind the options.
+// The values of the arguments behind the options.
 fn values<'f, 'a>(found: &'f ArgMatches<'a>, id: &str) -> Option<&'f [&'a str]>
     ensures { option_map (λ s. map (λ v. v.now) s.now) result ≡ all_of id.now (rows_of (found_of found.now)) }
 {
@@ -64,7 +64,7 @@ fn sizes_in<'a>(alloc: Global, found: &ArgMatches<'a>) -> Result<Vec<&'a str>, A
     ensures { IfOk result (λ v. map (λ t. t.now) v.items ≡ sizes_of (rows_of (found_of found.now))) }
 {
     match values(found, "sizes") {
-        Some(words) => Vec::from_slice(alloc, words),
+        Some(arguments) => Vec::from_slice(alloc, arguments),
         None => Ok(Vec::new(alloc)),
     }
 }
@@ -117,12 +117,12 @@ fn run_asked<'a>(alloc: Global, found: &ArgMatches<'a>) -> Result<Option<Asked<'
     }
 }
 
-// What clap makes of the words.
-fn matches_in<'a>(alloc: Global, words: &'a [&'a str]) -> Result<ArgMatches<'a>, Error>
-    ensures found { IfOk result (λ m. subcommand_rows_of m ≡ subcommand_of volcano_app (map (λ w. w.now) words.entry.now)) }
-    ensures faults { FailsBy (fault_of volcano_app (map (λ w. w.now) words.entry.now)) result }
+// What clap makes of the arguments.
+fn matches_in<'a>(alloc: Global, arguments: &'a [&'a str]) -> Result<ArgMatches<'a>, Error>
+    ensures found { IfOk result (λ m. subcommand_rows_of m ≡ subcommand_of volcano_app (map (λ w. w.now) arguments.entry.now)) }
+    ensures faults { FailsBy (fault_of volcano_app (map (λ w. w.now) arguments.entry.now)) result }
 {
-    command(alloc)?.try_get_matches_from(words)
+    command(alloc)?.try_get_matches_from(arguments)
 }
 
 // What matches ask for.
@@ -141,12 +141,12 @@ fn asked_in<'a>(alloc: Global, matches: &ArgMatches<'a>) -> Result<Option<Asked<
     }
 }
 
-/// What the words ask for, the program's name first. An `Err` is want of memory, a fault of the words, or help.
+/// What the arguments ask for, the program's name first. An `Err` is running out of memory, a usage error, or help.
 #[tactic(auto, unfolding(crate::specs::Asked::asked_by, crate::specs::Asked::faults_of))]
-pub fn asked_for<'a>(alloc: Global, words: &'a [&'a str]) -> Result<Option<Asked<'a>>, Error>
-    ensures asked { IfOk result (λ o. option_map asked_is o ≡ asked_by (map (λ w. w.now) words.entry.now)) }
-    ensures faults { FailsBy (faults_of (map (λ w. w.now) words.entry.now)) result }
+pub fn asked_for<'a>(alloc: Global, arguments: &'a [&'a str]) -> Result<Option<Asked<'a>>, Error>
+    ensures asked { IfOk result (λ o. option_map asked_is o ≡ asked_by (map (λ w. w.now) arguments.entry.now)) }
+    ensures faults { FailsBy (faults_of (map (λ w. w.now) arguments.entry.now)) result }
 {
-    let matches = matches_in(alloc, words)?;
+    let matches = matches_in(alloc, arguments)?;
     Ok(asked_in(alloc, &matches)?)
 }

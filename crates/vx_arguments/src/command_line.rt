@@ -8,7 +8,7 @@ ghost use Rattle.vx_arguments.specs.Asked.{path_rule, number_rule, mode_rule, si
 use clap::{Arg, Command, value_parser};
 use std::alloc::{AllocError, Global};
 
-// An option with a path, which has to be given.
+// A required option with a path.
 fn path_option<'a>(alloc: Global, name: &'a str, kind: &'a str, help: &'a str) -> Arg<'a>
     ensures rule { rule_of result ≡ path_rule name.entry.now }
     ensures own { result.global ≡ false }
@@ -127,7 +127,7 @@ fn run<'a>(alloc: Global) -> Result<Command<'a>, AllocError>
     judging(
         alloc,
         "run",
-        "Runs a plan that the checker accepts, by many workers, and prints the rows as CSV",
+        "Runs a plan that the checker accepts, with many workers, and prints the rows as CSV",
         "Example: volcano run --catalog catalog.json --plan plan.json --data tables many=4",
     )?
     .arg(data_option(alloc))?
@@ -160,7 +160,7 @@ fn check<'a>(alloc: Global) -> Result<Command<'a>, AllocError>
     judging(
         alloc,
         "check",
-        "Says whether every note of the plan is shown: `accepted`, `accepted total`, or the first note that is not",
+        "Says whether every note of the plan follows: `accepted`, `accepted total`, or the first note that does not",
         "Example: volcano check --catalog catalog.json --plan plan.json",
     )
 }
@@ -184,10 +184,10 @@ fn program<'a>(alloc: Global) -> Command<'a>
     Command::new(alloc, "volcano")
         .version("0.1.0")
         .about(
-            "Runs query plans in parallel, once each note on them is shown to hold. Without a command it reads a bundle, as JSON, from standard input",
+            "Runs query plans in parallel, after a check that every note on them follows. Without a command it reads one request, as JSON, from standard input",
         )
         .after_help(
-            "A file - is standard input. Status 0: done; 2: the words are wrong; 3: a file, the catalog, the plan or its data is refused; 4: the machine or the run failed",
+            "A file - is standard input. Exit status: 0 with the whole answer; 2 for a usage error; 3 if a file, the catalog, the plan or its data is refused; 4 if the machine or the run failed",
         )
 }
 

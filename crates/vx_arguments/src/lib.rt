@@ -1,4 +1,4 @@
-//! The words of the command line: what they ask for, and the help that they bring.
+//! Command-line arguments: what they ask for, and the help that they bring.
 #![tactic(auto)]
 
 mod asked;

@@ -15,7 +15,7 @@ use Rattle.vx_serial.specs.declared.fault.EvalFault.TheVariants as eval
 use Rattle.vx_refusals.specs.declared.refusal.Refusal.{Refusal}
 use Rattle.vx_refusals.specs.declared.refusal.Refusal.TheVariants as refusal
 
--- of a catalog: C1 to C3 and C12, and want of memory
+-- of a catalog: C1 to C3 and C12, and out of memory
 abbrev pub catalog_status : CatalogFault → ℕ
 catalog_status catalog.BadCatalog = 3
 catalog_status (catalog.DuplicateName name) = 3
@@ -23,7 +23,7 @@ catalog_status (catalog.UnknownColumn name) = 3
 catalog_status catalog.NoMemory = 4
 catalog_status catalog.TooLarge = 3
 
--- of a relation's text: C4 to C10 and C12, and want of memory
+-- of a relation's text: C4 to C10 and C12, and out of memory
 abbrev pub load_status : LoadFault → ℕ
 load_status load.HeaderMismatch = 3
 load_status (load.BadWidth row) = 3
@@ -35,7 +35,7 @@ load_status load.ReadFailed = 3
 load_status load.NoMemory = 4
 load_status load.TooLarge = 3
 
--- of a plan: P1 to P10, P12 and P13, and want of memory
+-- of a plan: P1 to P10, P12 and P13, and out of memory
 abbrev pub plan_status : PlanFault → ℕ
 plan_status plan.NotJson = 3
 plan_status (plan.BadNode path) = 3
@@ -86,7 +86,7 @@ eval_status (eval.HasExchange node) = 3
 eval_status (eval.Overflow node) = 4
 eval_status eval.NoMemory = 4
 
--- of the program: V1 to V3 and V6 are 3, V4, V5 and want of memory are 4
+-- of the program: V1 to V3 and V6 are 3, V4, V5 and out of memory are 4
 abbrev pub status_of : Refusal → ℕ
 status_of (refusal.Catalog fault) = catalog_status fault
 status_of (refusal.Load fault) = load_status fault

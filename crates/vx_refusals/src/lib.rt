@@ -4,5 +4,5 @@
 mod refusal;
 mod statuses;
 
-pub use refusal::{Refusal, tell};
+pub use refusal::{Refusal, report};
 pub use statuses::status;

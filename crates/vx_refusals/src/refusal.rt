@@ -1,4 +1,4 @@
-//! Why the program gives no text, and with which status it then ends.
+//! Why the program has no answer.
 
 use std::alloc::{AllocError, AllocFailed};
 use std::fmt;
@@ -11,19 +11,19 @@ use vx_plan_json::PlanFault;
 use vx_serial::EvalFault;
 use vx_setup::RunFault;
 
-/// The first reason why the program gives no text.
+/// The first reason why the program has no answer.
 #[derive(Debug, Drop, Error)]
 pub enum Refusal {
-    /// The catalog is none.
+    /// The catalog is refused.
     #[error(transparent)]
     Catalog(CatalogFault),
     /// A relation's text does not hold its rows.
     #[error(transparent)]
     Load(LoadFault),
-    /// The plan is none, or does not fit the catalog.
+    /// The plan is refused: its form, or it does not fit the catalog.
     #[error(transparent)]
     Plan(PlanFault),
-    /// The plan claims what is not shown.
+    /// A claim of the plan does not follow.
     #[error("{rule} node={node}")]
     Check { rule: Rule, node: u32 },
     /// The setup does not fit the plan, or the run failed.
@@ -53,7 +53,7 @@ pub enum Refusal {
     /// A generated relation may not have so many rows.
     #[error("V6 TooLarge")]
     TooLarge,
-    /// A growth was refused where no layer has a code for that.
+    /// Out of memory, where no layer has a code of its own for that.
     #[error("X8 NoMemory")]
     NoMemory,
 }
@@ -80,7 +80,62 @@ impl<T: Drop> From<AllocFailed<T>> for Refusal {
     }
 }
 
-// Text that goes to a writer of bytes as it is made, so that it takes no memory.
+impl From<CatalogFault> for Refusal {
+    ghost use Rattle.std.specs.Prelude.{◌≡◌};
+    ghost use Rattle.vx_refusals.specs.declared.refusal.Refusal.TheVariants as refusal;
+
+    ghost from_gives = { λ fault e. e ≡ refusal.Catalog fault };
+
+    fn from(fault: CatalogFault) -> Refusal {
+        Refusal::Catalog(fault)
+    }
+}
+
+impl From<LoadFault> for Refusal {
+    ghost use Rattle.std.specs.Prelude.{◌≡◌};
+    ghost use Rattle.vx_refusals.specs.declared.refusal.Refusal.TheVariants as refusal;
+
+    ghost from_gives = { λ fault e. e ≡ refusal.Load fault };
+
+    fn from(fault: LoadFault) -> Refusal {
+        Refusal::Load(fault)
+    }
+}
+
+impl From<PlanFault> for Refusal {
+    ghost use Rattle.std.specs.Prelude.{◌≡◌};
+    ghost use Rattle.vx_refusals.specs.declared.refusal.Refusal.TheVariants as refusal;
+
+    ghost from_gives = { λ fault e. e ≡ refusal.Plan fault };
+
+    fn from(fault: PlanFault) -> Refusal {
+        Refusal::Plan(fault)
+    }
+}
+
+impl From<RunFault> for Refusal {
+    ghost use Rattle.std.specs.Prelude.{◌≡◌};
+    ghost use Rattle.vx_refusals.specs.declared.refusal.Refusal.TheVariants as refusal;
+
+    ghost from_gives = { λ fault e. e ≡ refusal.Run fault };
+
+    fn from(fault: RunFault) -> Refusal {
+        Refusal::Run(fault)
+    }
+}
+
+impl From<EvalFault> for Refusal {
+    ghost use Rattle.std.specs.Prelude.{◌≡◌};
+    ghost use Rattle.vx_refusals.specs.declared.refusal.Refusal.TheVariants as refusal;
+
+    ghost from_gives = { λ fault e. e ≡ refusal.Eval fault };
+
+    fn from(fault: EvalFault) -> Refusal {
+        Refusal::Eval(fault)
+    }
+}
+
+// Text that goes to a writer of bytes as it is made, so that it needs no memory.
 #[derive(Drop)]
 struct Printer<'w, W> {
     out: &'w mut W,
@@ -95,7 +150,7 @@ impl<W: ByteOut> Write for Printer<'_, W> {
     }
 }
 
-/// Tells a refusal in one line. That the writer fails changes nothing else.
-pub fn tell<E: ByteOut>(refusal: &Refusal, err: &mut E) {
+/// Reports a refusal in one line. That the writer fails changes nothing else.
+pub fn report<E: ByteOut>(refusal: &Refusal, err: &mut E) {
     let _ = writeln!(Printer { out: err }, "volcano: {refusal}");
 }

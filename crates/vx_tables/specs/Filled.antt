@@ -1,4 +1,4 @@
--- The rows of the relations that a plan scans, from tables. What tables have is told by which rows they hold of a relation, and by how they refuse one.
+-- The rows of the relations that a plan scans, from tables. `holds` says which rows the tables have of a relation, and `lacks` how they refuse one.
 use Rattle.std.specs.Prelude.{◌≡◌, ℕ, ◌<◌, ◌==◌, ◌||◌, List, [], length, Bool, true, false}
 use Rattle.vx_values.specs.Values.{Row}
 use Rattle.vx_relations.specs.Relation.{Relation}
@@ -21,9 +21,9 @@ pub record IsFilled (plan : Plan) (holds : Relation → List Row → Type 0) (db
   pub scanned : (i : ℕ) → i < length db.catalog → scans plan i ≡ true → holds (relation_at db.catalog i) (rows_at db i)
   pub others : (i : ℕ) → scans plan i ≡ false → rows_at db i ≡ []
 
--- a refusal for the first scanned relation whose rows are not there, or for want of memory
+-- a refusal for the first scanned relation whose rows are not there, or out of memory
 pub data IsFirstMissing (plan : Plan) (holds : Relation → List Row → Type 0) (lacks : Relation → Refusal → Type 0) (catalog : List Relation) (e : Refusal) : Type 0 where
-  nothing_missing : e ≡ refusal.NoMemory → IsFirstMissing plan holds lacks catalog e
+  missing_memory : e ≡ refusal.NoMemory → IsFirstMissing plan holds lacks catalog e
   first_missing : (i : ℕ) → i < length catalog → scans plan i ≡ true
       → ((j : ℕ) → j < i → scans plan j ≡ true → (rows : List Row) × holds (relation_at catalog j) rows)
       → lacks (relation_at catalog i) e → IsFirstMissing plan holds lacks catalog e

@@ -20,7 +20,7 @@ holds_at files folder relation rows = IfBytes (files (path_in folder relation.na
 
 -- why the files have no rows of a relation: its file is not there, reading one that is there failed, which no file does whose path is reliable, or its text does not hold them
 pub data LacksAt (files : List ℕ → Stored) (reliable : List ℕ → Bool) (folder : List ℕ) (relation : Relation) (e : Refusal) : Type 0 where
-  for_room : e ≡ refusal.NoMemory → LacksAt files reliable folder relation e
+  for_memory : e ≡ refusal.NoMemory → LacksAt files reliable folder relation e
   for_path : (path : String Global) → e ≡ refusal.FileUnreadable path → string_bytes path ≡ path_in folder relation.name → MayBeAbsent (files (path_in folder relation.name))
       → LacksAt files reliable folder relation e
   for_reading : e ≡ refusal.Load load.ReadFailed → reliable (path_in folder relation.name) ≡ false → MayBePresent (files (path_in folder relation.name))

@@ -28,7 +28,7 @@ abbrev pub rows_from : Relation → Option (List ℕ) → Result (List Row) Miss
 rows_from relation None = Err (no_text relation.name)
 rows_from relation (Some text) = held_by (load_of relation text)
 
--- a fault is why the rows of a text are not there; want of memory excuses, and no reading of bytes fails as a reader does
+-- a fault is why the rows of a text are not there; out of memory may come anywhere, and no reading of bytes fails as a reader does
 abbrev pub MissesBy : {Y : Type 0} → LoadFault → Result Y Missing → Type 0
 MissesBy load.NoMemory rows = Unit {0}
 MissesBy load.ReadFailed rows = ⊥

@@ -40,9 +40,6 @@ impl<F: Store> Tables for Folder<'_, F> {
             Some(file) => file,
             None => return Err(Refusal::FileUnreadable { path }),
         };
-        match Loader::load(alloc, catalog, relation, &mut file) {
-            Ok(loaded) => Ok(loaded),
-            Err(fault) => Err(Refusal::Load(fault)),
-        }
+        Ok(Loader::load(alloc, catalog, relation, &mut file)?)
     }
 }

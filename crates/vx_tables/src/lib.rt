@@ -1,4 +1,4 @@
-//! Where the rows of a plan's relations come from: the texts of a bundle, or the files of a folder. And why the program gives no text.
+//! Where the rows of a plan's relations come from: the texts of a bundle, or the files of a folder.
 #![tactic(auto)]
 
 mod folder;

@@ -47,14 +47,9 @@ fn fill<T: Tables>(
     ensures filled { OnOk result ((rows : List Row) × T.holds tables.now (relation_at database.old.catalog relation) rows × (database.new ≡ with_rows database.old relation rows)) }
     ensures refused { IfErr result (λ e. T.lacks tables.now (relation_at database.old.catalog relation) e) }
 {
-    let loaded = match tables.load(alloc, database.catalog(), relation) {
-        Ok(loaded) => loaded,
-        Err(refusal) => return Err(refusal),
-    };
-    match database.put(loaded) {
-        Ok(()) => Ok(()),
-        Err(_) => unreachable!(),
-    }
+    let loaded = tables.load(alloc, database.catalog(), relation)?;
+    database.replace(loaded);
+    Ok(())
 }
 
 // Whether a node or one below it scans the relation with this number.
@@ -82,9 +77,7 @@ pub fn load_tables<T: Tables>(
     let mut database = Database::empty(alloc, plan.catalog())?;
     for relation in 0..plan.catalog().len() {
         if scans(plan.root(), relation) {
-            if let Err(refusal) = fill(alloc, &mut database, relation, tables) {
-                return Err(refusal);
-            }
+            fill(alloc, &mut database, relation, tables)?;
         }
     }
     Ok(database)

@@ -41,9 +41,6 @@ impl Tables for Bundle<'_> {
             let name = String::from_str(alloc, name)?;
             return Err(Refusal::NoTable { name });
         };
-        match load_text(alloc, catalog, relation, text) {
-            Ok(loaded) => Ok(loaded),
-            Err(fault) => Err(Refusal::Load(fault)),
-        }
+        Ok(load_text(alloc, catalog, relation, text)?)
     }
 }

@@ -1,4 +1,4 @@
--- About and examples are no part of what a command reads of words.
+-- About and examples are no part of what a command reads of its arguments.
 use Rattle.std.proofs.Common.{◌≡◌, ◌∙◌, ◌||◌, ap, ap₂, Bool, false, codes}
 use Rattle.std.proofs.lemmas.Result.{IfOk-weaker}
 use Rattle.clap.specs.Words.{app_of, new_app, with_rule}

@@ -1,4 +1,5 @@
 use Rattle.std.proofs.Common.{rules, ◌≡◌, refl}
+use Rattle.std.proofs.lemmas.Result.{err_from_is_err_and}
 use Rattle.vx_relations.specs.Catalog.{relation_at}
 use Rattle.vx_bundle.specs.BundleView.{bundle_form}
 use Rattle.vx_tables.specs.Texts.{for_no_text, for_bad_text}
@@ -13,10 +14,12 @@ returns-in_default-clause-refused c =
     let none = rw c.in_default.is at c.table.ensures in
     for_no_text c.in_ok-name.name refl (no_text_found relation tables c.name-name.result.now c.in_ok-name.name same c.in_ok-name.ensures.ok none)
 
-pub returns-in-Err-clause-refused : goal.returns-in-Err-clause-refused
-returns-in-Err-clause-refused c =
+pub returns-in_err-load_text-clause-refused : goal.returns-in_err-load_text-clause-refused
+returns-in_err-load_text-clause-refused c =
     let relation = relation_at c.args.catalog.now c.args.relation in
     let tables = (bundle_form c.args.self.now).tables in
     let same : c.name-name.result.now ≡ relation.name = search rules in
     let found = rw c.in-Some.is at c.table.ensures in
-    for_bad_text c.in-Err.fault refl (bad_text_found relation tables c.name-name.result.now c.in-Some.text.now c.in-Err.fault same found c.in-Err.ensures.rows)
+    let p = err_from_is_err_and c.from_residual-in_err-load_text.result c.from_residual-in_err-load_text.ensures.1 in
+    let fault = c.in_err-load_text.field-0.0 in
+    rw (p.1, p.2) (for_bad_text fault refl (bad_text_found relation tables c.name-name.result.now c.in-Some.text.now fault same found c.in_err-load_text.ensures.rows))

@@ -1,0 +1,45 @@
+-- From the answer to what arguments ask for, or its refusal, to that of the arguments.
+use Rattle.std.proofs.Common.{ℕ, List, Vec, Global, Bool, Option, Result, Ok, Err, inl, inr}
+use Rattle.std.specs.Prelude.{IfOk, IfErr}
+use Rattle.clap.specs.Values.{kind_of}
+use Rattle.clap.specs.Words.{HasKind}
+use Rattle.clap.specs.declared.error.Error.{Error}
+use Rattle.vx_plan_nodes.specs.Names.{TypedPlanView}
+use Rattle.vx_arguments.specs.Asked.{Ask, faults_of}
+use Rattle.vx_refusals.specs.declared.refusal.Refusal.{Refusal}
+use Rattle.vx_answer.specs.declared.command_line.ArgumentFault.{ArgumentFault}
+use Rattle.vx_answer.specs.declared.command_line.ArgumentFault.TheVariants as fault
+use Rattle.vx_answer.specs.Commands.{CommandRefuses}
+use Rattle.vx_bytes.specs.Stored.{Stored}
+use Rattle.vx_tables.specs.Folder.{holds_at, LacksAt}
+use Rattle.vx_answer.specs.Files.{IsFilesPlan}
+use Rattle.vx_answer.specs.CommandLine.{FileCommand, TaskRefuses, for_plan_of, AnswersAsk, with_program_name, AsksFor, AnswersArguments, for_what_is_asked, for_kind, for_no_task, arguments_memory, for_ask}
+use Rattle.vx_answer.specs.CommandLineView.{IsClapFault, IsAskFault, IsArgumentFault}
+
+-- what the command makes nothing of, the task has no answer to
+pub task_refused : {T : Type 0} (files : List ℕ → Stored) (reliable : List ℕ → Bool) (input : Option (List ℕ)) (failed : Bool) (t : FileCommand) (p : TypedPlanView) (r : Result T Refusal)
+    → IsFilesPlan t.command files input t.paths p
+    → IfErr r (λ e. CommandRefuses t.command p (holds_at files t.folder) (LacksAt files reliable t.folder) t.setting e) → IfErr r (λ e. TaskRefuses files reliable input failed t e)
+task_refused files reliable input failed t p (Ok x) planned h = tt
+task_refused files reliable input failed t p (Err e) planned h = for_plan_of p planned h
+
+-- the answer to what arguments ask for answers the arguments
+pub arguments_text : (files : List ℕ → Stored) (input : Option (List ℕ)) (arguments : List (List ℕ)) (ask : Ask) (r : Result (Vec ℕ Global) ArgumentFault)
+    → AsksFor arguments ask → IfOk r (λ v. AnswersAsk files input ask v.items) → IfOk r (λ v. AnswersArguments files input arguments v.items)
+arguments_text files input arguments ask (Ok v) asked h = for_what_is_asked ask asked h
+arguments_text files input arguments ask (Err e) asked h = tt
+
+-- and so does its refusal
+pub arguments_refused : {T : Type 0} (files : List ℕ → Stored) (reliable : List ℕ → Bool) (input : Option (List ℕ)) (failed : Bool) (arguments : List (List ℕ)) (ask : Ask) (r : Result T ArgumentFault)
+    → AsksFor arguments ask → IfErr r (IsAskFault files reliable input failed ask) → IfErr r (IsArgumentFault files reliable input failed arguments)
+arguments_refused files reliable input failed arguments ask (Ok v) asked h = tt
+arguments_refused files reliable input failed arguments ask (Err (fault.Usage text)) asked h = for_no_task ask asked h
+arguments_refused files reliable input failed arguments ask (Err (fault.Refused e)) asked h = for_ask ask asked h
+
+-- what clap refuses is refused as its kind says
+pub clap_refused : {T : Type 0} (files : List ℕ → Stored) (reliable : List ℕ → Bool) (input : Option (List ℕ)) (failed : Bool) (arguments : List (List ℕ)) (error : Error) (r : Result T ArgumentFault)
+    → HasKind (faults_of (with_program_name arguments)) error → IfErr r (IsClapFault (kind_of error)) → IfErr r (IsArgumentFault files reliable input failed arguments)
+clap_refused files reliable input failed arguments error (Ok x) has h = tt
+clap_refused files reliable input failed arguments error (Err (fault.Usage text)) (inl memory) h = absurd (h.2 memory)
+clap_refused files reliable input failed arguments error (Err (fault.Usage text)) (inr among) h = for_kind (kind_of error) among h
+clap_refused files reliable input failed arguments error (Err (fault.Refused e)) has h = arguments_memory h

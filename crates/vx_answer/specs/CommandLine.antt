@@ -1,0 +1,106 @@
+-- What answers arguments, over files and standard input, and why arguments may have no answer. `files`, `reliable`, `input` and `failed` are as in `Files`.
+use Rattle.std.specs.Prelude.{◌≡◌, ◌≢◌, ℕ, ◌⊎◌, List, [], ◌∷◌, Bool, Option, Some, None, IfSome, codes}
+use Rattle.clap.specs.Words.{IsAmong}
+use Rattle.clap.specs.declared.error.kind.ErrorKind.{ErrorKind}
+use Rattle.clap.specs.declared.error.kind.ErrorKind.TheVariants as kind
+use Rattle.vx_plan_nodes.specs.Names.{TypedPlanView}
+use Rattle.vx_arguments.specs.Asked.{Ask, Paths, bundle, check, explain, serial, run, asked_by, faults_of}
+use Rattle.vx_bundle.specs.declared.command.Command.{Command}
+use Rattle.vx_bundle.specs.declared.command.Command.TheVariants as command
+use Rattle.vx_bundle.specs.declared.setting.Mode.TheVariants as mode
+use Rattle.vx_bundle.specs.Setting.{Setting}
+use Rattle.vx_bytes.specs.Stored.{Stored}
+use Rattle.vx_refusals.specs.declared.refusal.Refusal.{Refusal}
+use Rattle.vx_refusals.specs.declared.refusal.Refusal.TheVariants as refusal
+use Rattle.vx_refusals.specs.Status.{status_of}
+use Rattle.vx_tables.specs.Folder.{holds_at, LacksAt}
+use Rattle.vx_answer.specs.Commands.{IsResultOf, CommandRefuses}
+use Rattle.vx_answer.specs.Answer.{IsAnswer, RefusedWith}
+use Rattle.vx_answer.specs.Arguments.{IsSetting, IsNoSetting}
+use Rattle.vx_answer.specs.Files.{IsFilesPlan, IsFilesRefusal}
+
+-- a command over the catalog, the plan and the folder of tables that arguments name
+pub record FileCommand : Type 0 where
+  pub command : Command
+  pub paths : Paths
+  pub folder : List ℕ
+  pub setting : Setting
+
+-- by default: 256 rows a packet, 1,024 a morsel, 8 packets of slack, in rounds
+abbrev pub default_setting : Setting
+default_setting = record { sizes = []; packet = 256; morsel = 1024; slack = 8; mode = mode.Rounds }
+
+-- a task is what arguments ask for
+abbrev pub IsTask : Ask → FileCommand → Type 0
+IsTask bundle t = ⊥
+IsTask (check paths) t = t ≡ record { command = command.Check; paths = paths; folder = []; setting = default_setting }
+IsTask (explain paths) t = t ≡ record { command = command.Explain; paths = paths; folder = []; setting = default_setting }
+IsTask (serial paths folder) t = t ≡ record { command = command.Serial; paths = paths; folder = folder; setting = default_setting }
+IsTask (run paths folder limits) t = (s : Setting) × IsSetting limits s × (t ≡ record { command = command.Run; paths = paths; folder = folder; setting = s })
+
+-- arguments ask for a run, and set none up
+abbrev pub IsNoTask : Ask → Type 0
+IsNoTask bundle = ⊥
+IsNoTask (check paths) = ⊥
+IsNoTask (explain paths) = ⊥
+IsNoTask (serial paths folder) = ⊥
+IsNoTask (run paths folder limits) = IsNoSetting limits
+
+-- the text answers a task: it is what its command asks for of its plan over the files of its folder
+abbrev pub AnswersTask : (List ℕ → Stored) → Option (List ℕ) → FileCommand → List ℕ → Type 0
+AnswersTask files input t text = (p : TypedPlanView) × IsFilesPlan t.command files input t.paths p × IsResultOf t.command p (holds_at files t.folder) t.setting text
+
+-- the first reason why a task has no answer: its plan, or what the command makes of that; out of memory may come anywhere
+pub data TaskRefuses (files : List ℕ → Stored) (reliable : List ℕ → Bool) (input : Option (List ℕ)) (failed : Bool) (t : FileCommand) (e : Refusal) : Type 0 where
+  task_memory : e ≡ refusal.NoMemory → TaskRefuses files reliable input failed t e
+  for_planning : IsFilesRefusal t.command files reliable input failed t.paths e → TaskRefuses files reliable input failed t e
+  for_plan_of : (p : TypedPlanView) → IsFilesPlan t.command files input t.paths p
+      → CommandRefuses t.command p (holds_at files t.folder) (LacksAt files reliable t.folder) t.setting e → TaskRefuses files reliable input failed t e
+
+-- the program's name, and then the arguments
+abbrev pub with_program_name : List (List ℕ) → List (List ℕ)
+with_program_name arguments = codes "volcano" ∷ arguments
+
+-- the text answers what arguments ask for: the bundle on standard input, or a task
+pub data AnswersAsk (files : List ℕ → Stored) (input : Option (List ℕ)) (ask : Ask) (text : List ℕ) : Type 0 where
+  for_bundle : ask ≡ bundle → IfSome input (λ bytes. IsAnswer bytes text) → AnswersAsk files input ask text
+  for_task : (t : FileCommand) → IsTask ask t → AnswersTask files input t text → AnswersAsk files input ask text
+
+-- what arguments ask for is refused with this refusal
+pub data AskRefuses (files : List ℕ → Stored) (reliable : List ℕ → Bool) (input : Option (List ℕ)) (failed : Bool) (ask : Ask) (e : Refusal) : Type 0 where
+  ask_memory : e ≡ refusal.NoMemory → AskRefuses files reliable input failed ask e
+  for_asked_bundle : ask ≡ bundle → RefusedWith input failed e → AskRefuses files reliable input failed ask e
+  for_asked_task : (t : FileCommand) → IsTask ask t → TaskRefuses files reliable input failed t e → AskRefuses files reliable input failed ask e
+
+-- arguments ask for help or for the version
+abbrev pub AskForHelp : List (List ℕ) → Type 0
+AskForHelp arguments = IsAmong kind.DisplayHelp (faults_of (with_program_name arguments)) ⊎ IsAmong kind.DisplayVersion (faults_of (with_program_name arguments))
+
+-- arguments of which clap refuses nothing, and what they ask for
+pub record AsksFor (arguments : List (List ℕ)) (ask : Ask) : Type 0 where
+  pub unrefused : faults_of (with_program_name arguments) ≡ []
+  pub asked : asked_by (with_program_name arguments) ≡ Some ask
+
+-- the text answers arguments
+pub data AnswersArguments (files : List ℕ → Stored) (input : Option (List ℕ)) (arguments : List (List ℕ)) (text : List ℕ) : Type 0 where
+  for_help : AskForHelp arguments → AnswersArguments files input arguments text
+  for_what_is_asked : (ask : Ask) → AsksFor arguments ask → AnswersAsk files input ask text → AnswersArguments files input arguments text
+
+-- a kind of fault of wrong arguments: neither an answer nor out of memory
+abbrev pub IsUsageKind : ErrorKind → Type 0
+IsUsageKind k = (k ≢ kind.DisplayHelp) × (k ≢ kind.DisplayVersion) × (k ≢ kind.OutOfMemory)
+
+-- wrong arguments: those that clap refuses, those that ask for nothing, and those that ask for a run and set none up
+pub data IsUsageError (arguments : List (List ℕ)) : Type 0 where
+  for_kind : (k : ErrorKind) → IsAmong k (faults_of (with_program_name arguments)) → IsUsageKind k → IsUsageError arguments
+  for_nothing : faults_of (with_program_name arguments) ≡ [] → asked_by (with_program_name arguments) ≡ None → IsUsageError arguments
+  for_no_task : (ask : Ask) → AsksFor arguments ask → IsNoTask ask → IsUsageError arguments
+
+-- what arguments ask for is refused with this refusal, or memory ran out
+pub data ArgumentsRefuse (files : List ℕ → Stored) (reliable : List ℕ → Bool) (input : Option (List ℕ)) (failed : Bool) (arguments : List (List ℕ)) (e : Refusal) : Type 0 where
+  arguments_memory : e ≡ refusal.NoMemory → ArgumentsRefuse files reliable input failed arguments e
+  for_ask : (ask : Ask) → AsksFor arguments ask → AskRefuses files reliable input failed ask e → ArgumentsRefuse files reliable input failed arguments e
+
+-- arguments are refused by a refusal of this status
+abbrev pub AreRefusedBy : ℕ → (List ℕ → Stored) → (List ℕ → Bool) → Option (List ℕ) → Bool → List (List ℕ) → Type 0
+AreRefusedBy status files reliable input failed arguments = (e : Refusal) × (status_of e ≡ status) × ArgumentsRefuse files reliable input failed arguments e

@@ -1,0 +1,33 @@
+-- A task that is held, and why arguments have no answer.
+use Rattle.std.specs.Prelude.{◌≡◌, ℕ, List, Bool, Option, string_bytes}
+use Rattle.vx_arguments.specs.Asked.{paths_are, Ask}
+use Rattle.vx_answer.specs.declared.command_line.FileCommand as held
+use Rattle.vx_answer.specs.declared.command_line.ArgumentFault.{ArgumentFault}
+use Rattle.vx_answer.specs.declared.command_line.ArgumentFault.TheVariants as fault
+use Rattle.clap.specs.declared.error.kind.ErrorKind.{ErrorKind}
+use Rattle.vx_refusals.specs.declared.refusal.Refusal.TheVariants as refusal
+use Rattle.vx_bytes.specs.Stored.{Stored}
+use Rattle.vx_answer.specs.CommandLine.{FileCommand, IsNoTask, IsUsageKind, AskRefuses, IsUsageError, ArgumentsRefuse}
+
+abbrev pub task_is : held.FileCommand → FileCommand
+task_is t = record { command = t.command; paths = paths_are t.sources; folder = t.folder.now; setting = t.setting }
+
+-- arguments are wrong, with this text, or memory ran out
+abbrev pub HasUsageText : List ℕ → ArgumentFault → Type 0
+HasUsageText message (fault.Usage text) = string_bytes text ≡ message
+HasUsageText message (fault.Refused e) = e ≡ refusal.NoMemory
+
+-- a refusal by clap of this kind: arguments are wrong only by a kind that says so
+abbrev pub IsClapFault : ErrorKind → ArgumentFault → Type 0
+IsClapFault k (fault.Usage text) = IsUsageKind k
+IsClapFault k (fault.Refused e) = e ≡ refusal.NoMemory
+
+-- why what arguments ask for is not answered
+abbrev pub IsAskFault : (List ℕ → Stored) → (List ℕ → Bool) → Option (List ℕ) → Bool → Ask → ArgumentFault → Type 0
+IsAskFault files reliable input failed ask (fault.Usage text) = IsNoTask ask
+IsAskFault files reliable input failed ask (fault.Refused e) = AskRefuses files reliable input failed ask e
+
+-- why arguments are not answered
+abbrev pub IsArgumentFault : (List ℕ → Stored) → (List ℕ → Bool) → Option (List ℕ) → Bool → List (List ℕ) → ArgumentFault → Type 0
+IsArgumentFault files reliable input failed arguments (fault.Usage text) = IsUsageError arguments
+IsArgumentFault files reliable input failed arguments (fault.Refused e) = ArgumentsRefuse files reliable input failed arguments e

@@ -1,0 +1,77 @@
+//! How arguments set a run up.
+
+ghost use Rattle.std.specs.Prelude.{◌≡◌, map, MatchOption, IfOk};
+ghost use Rattle.vx_arguments.specs.Asked.{given_is};
+ghost use Rattle.vx_bundle.specs.Setting.{size_form};
+ghost use Rattle.vx_answer.specs.Arguments.{Numbers, mode_named, IsSize, IsNoSize, AreSizes, HasNoSize, IsSetting, IsNoSetting};
+
+use std::alloc::{AllocError, Global};
+use vx_arguments::Limits;
+use vx_bundle::{Mode, Setting};
+
+// The number of 32 bits that a text is.
+fn number_in(text: &str) -> Option<u32>
+    ensures { Numbers text.now result }
+{
+    text.parse::<u32>().ok()
+}
+
+// The mode of a name, if workers run in it so far.
+fn mode_named(text: &str) -> Option<Mode>
+    ensures { result ≡ mode_named text.now }
+{
+    if text == "rounds" {
+        Some(Mode::Rounds)
+    } else {
+        None
+    }
+}
+
+// The name and the number of an argument NAME=N.
+fn size_in(alloc: Global, argument: &str) -> Result<Option<(String, u32)>, AllocError>
+    ensures { IfOk result (λ o. MatchOption o (IsNoSize argument.now) (λ z. IsSize argument.now (size_form z))) }
+{
+    let Some((name, number)) = argument.rsplit_once('=') else {
+        return Ok(None);
+    };
+    let Some(workers) = number_in(number) else {
+        return Ok(None);
+    };
+    Ok(Some((String::from_str(alloc, name)?, workers)))
+}
+
+// The names and the numbers of arguments NAME=N.
+fn sizes_in(alloc: Global, arguments: &[&str]) -> Result<Option<Vec<(String, u32)>>, AllocError>
+    ensures { IfOk result (λ o. MatchOption o (HasNoSize (map (λ a. a.now) arguments.now)) (λ v. AreSizes (map (λ a. a.now) arguments.now) (map size_form v.items))) }
+{
+    let mut sizes = Vec::new(alloc);
+    for argument in arguments {
+        let Some(size) = size_in(alloc, argument)? else {
+            return Ok(None);
+        };
+        sizes.push(size)?;
+    }
+    Ok(Some(sizes))
+}
+
+/// How arguments set a run up, if they do.
+pub fn setting_in(alloc: Global, limits: &Limits<'_>) -> Result<Option<Setting>, AllocError>
+    ensures { IfOk result (λ o. MatchOption o (IsNoSetting (given_is limits.now)) (λ s. IsSetting (given_is limits.now) s)) }
+{
+    let Some(packet) = number_in(limits.packet) else {
+        return Ok(None);
+    };
+    let Some(morsel) = number_in(limits.morsel) else {
+        return Ok(None);
+    };
+    let Some(slack) = number_in(limits.slack) else {
+        return Ok(None);
+    };
+    let Some(mode) = mode_named(limits.mode) else {
+        return Ok(None);
+    };
+    match sizes_in(alloc, limits.sizes.as_slice())? {
+        Some(sizes) => Ok(Some(Setting::new(sizes, packet, morsel, slack, mode))),
+        None => Ok(None),
+    }
+}

@@ -1,0 +1,65 @@
+//! The answer to a bundle, over values: no byte is read or written here.
+
+ghost use Rattle.std.specs.Prelude.{◌≡◌, true, IfOk, IfErr};
+ghost use Rattle.vx_bundle.specs.BundleView.{bundle_form};
+ghost use Rattle.vx_plan_nodes.specs.Outline.{plan_in};
+ghost use Rattle.vx_plan_nodes.specs.TypedView.{resolved_of};
+ghost use Rattle.vx_setup.specs.Runnable.{can_run};
+ghost use Rattle.vx_answer.specs.Answer.{IsBundlePlan, IsBundlePlanRefusal, is_supported, IsOutput, Refuses, IsAnswer, IsRefused};
+
+use crate::command::execute;
+use crate::planning::plan_over;
+use std::alloc::Global;
+use vx_bundle::{Bundle, Command, Mode, bundle_in, value_of_text};
+use vx_catalog::Catalog;
+use vx_plan::{Plan, TypedPlan};
+use vx_refusals::Refusal;
+
+// The plan of a bundle over the bundle's catalog.
+fn plan_from_bundle(alloc: Global, bundle: &Bundle<'_>) -> Result<TypedPlan, Refusal>
+    ensures planned { IfOk result (λ p. IsBundlePlan (bundle_form bundle.now) (resolved_of p)) }
+    ensures runs { IfOk result (λ p. (bundle_form bundle.now).command ≡ Command.Run → can_run (plan_in (resolved_of p).root) ≡ true) }
+    ensures refused { IfErr result (λ e. IsBundlePlanRefusal (bundle_form bundle.now) e) }
+{
+    let catalog = Catalog::of_value(alloc, bundle.catalog())?;
+    let plan = Plan::of_value(alloc, bundle.plan())?;
+    Ok(plan_over(alloc, bundle.command(), &plan, &catalog)?)
+}
+
+// Whether the program runs a command in this mode so far.
+fn is_supported(command: Command, mode: Mode) -> bool
+    ensures { result ≡ is_supported command mode }
+{
+    match (command, mode) {
+        (Command::Run, Mode::Rounds) | (Command::Serial | Command::Check | Command::Explain, _) => {
+            true
+        }
+        (Command::Run, Mode::Threads) => false,
+    }
+}
+
+// The text that answers a bundle.
+fn answer_bundle(alloc: Global, bundle: &Bundle<'_>) -> Result<Vec<u8>, Refusal>
+    ensures text { IfOk result (λ text. IsOutput (bundle_form bundle.now) text.items) }
+    ensures refused { IfErr result (λ e. Refuses (bundle_form bundle.now) e) }
+{
+    if !is_supported(bundle.command(), bundle.setting().mode()) {
+        return Err(Refusal::BadBundle);
+    }
+    let plan = plan_from_bundle(alloc, bundle)?;
+    execute(alloc, bundle.command(), bundle, bundle.setting(), plan)
+}
+
+/// The text that answers a bundle's bytes, before a byte of it is written.
+pub fn answer_bytes(alloc: Global, bytes: &[u8]) -> Result<Vec<u8>, Refusal>
+    ensures text { IfOk result (λ text. IsAnswer bytes.now text.items) }
+    ensures refused { IfErr result (λ e. IsRefused bytes.now e) }
+{
+    let Some(value) = value_of_text(alloc, bytes)? else {
+        return Err(Refusal::BadBundle);
+    };
+    let Some(bundle) = bundle_in(alloc, &value)? else {
+        return Err(Refusal::BadBundle);
+    };
+    answer_bundle(alloc, &bundle)
+}

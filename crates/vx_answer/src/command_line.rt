@@ -1,0 +1,215 @@
+//! What arguments ask for, answered from files and standard input.
+
+ghost use Rattle.std.specs.Prelude.{◌≡◌, ◌⊎◌, map, MatchOption, IfOk, IfErr};
+ghost use Rattle.clap.specs.Values.{kind_of};
+ghost use Rattle.clap.specs.declared.error.kind.ErrorKind.TheVariants as kind;
+ghost use Rattle.vx_arguments.specs.Asked.{asked_is, paths_are, given_is, bundle, run};
+ghost use Rattle.vx_answer.specs.Arguments.{IsNoSetting};
+ghost use Rattle.vx_answer.specs.CommandLine.{default_setting, IsTask, IsNoTask, AnswersTask, TaskRefuses, with_program_name, AnswersAsk, AnswersArguments};
+ghost use Rattle.vx_answer.specs.CommandLineView.{task_is, HasUsageText, IsClapFault, IsAskFault, IsArgumentFault};
+
+use crate::arguments::setting_in;
+use crate::command::execute;
+use crate::files::plan_from_files;
+use crate::program::outcome_of;
+use clap::Error;
+use clap::error::ErrorKind;
+use std::alloc::{AllocError, Global};
+use vx_arguments::{Asked, Limits, Sources, asked_for};
+use vx_bundle::{Command, MORSEL, Mode, PACKET, SLACK, Setting};
+use vx_bytes::{ByteIn, Store};
+use vx_refusals::Refusal;
+use vx_tables::Folder;
+
+/// A command over the catalog, the plan and the folder of tables that arguments name.
+#[derive(Drop)]
+pub struct FileCommand<'a> {
+    command: Command,
+    sources: Sources<'a>,
+    folder: &'a str,
+    setting: Setting,
+}
+
+/// Why arguments have no answer.
+#[derive(Drop)]
+pub enum ArgumentFault {
+    /// They are wrong, with the text that says how.
+    Usage(String),
+    /// What they ask for is refused.
+    Refused(Refusal),
+}
+
+impl From<Refusal> for ArgumentFault {
+    ghost use Rattle.std.specs.Prelude.{◌≡◌};
+    ghost use Rattle.vx_answer.specs.declared.command_line.ArgumentFault.TheVariants as fault;
+
+    ghost from_gives = { λ refusal e. e ≡ fault.Refused refusal };
+
+    fn from(refusal: Refusal) -> ArgumentFault {
+        ArgumentFault::Refused(refusal)
+    }
+}
+
+impl From<AllocError> for ArgumentFault {
+    ghost use Rattle.std.specs.Prelude.{◌≡◌};
+    ghost use Rattle.vx_answer.specs.declared.command_line.ArgumentFault.TheVariants as fault;
+    ghost use Rattle.vx_refusals.specs.declared.refusal.Refusal.TheVariants.{NoMemory};
+
+    ghost from_gives = { λ _ e. e ≡ fault.Refused NoMemory };
+
+    fn from(_e: AllocError) -> ArgumentFault {
+        ArgumentFault::Refused(Refusal::NoMemory)
+    }
+}
+
+// How a run is set up by default.
+fn default_setting(alloc: Global) -> Setting
+    ensures { result ≡ default_setting }
+{
+    Setting::new(Vec::new(alloc), PACKET, MORSEL, SLACK, Mode::Rounds)
+}
+
+// A command that needs no more than a catalog and a plan, or a folder of tables too.
+fn plain_task<'a>(
+    alloc: Global,
+    command: Command,
+    sources: Sources<'a>,
+    folder: &'a str,
+) -> FileCommand<'a>
+    ensures { task_is result ≡ record { command = command; paths = paths_are sources.entry; folder = folder.entry.now; setting = default_setting } }
+{
+    FileCommand {
+        command,
+        sources,
+        folder,
+        setting: default_setting(alloc),
+    }
+}
+
+// A run, if the arguments set one up.
+fn run_task<'a>(
+    alloc: Global,
+    sources: Sources<'a>,
+    folder: &'a str,
+    limits: &Limits<'a>,
+) -> Result<Option<FileCommand<'a>>, AllocError>
+    ensures { IfOk result (λ o. MatchOption o (IsNoSetting (given_is limits.now)) (λ t. IsTask (run (paths_are sources.entry) folder.entry.now (given_is limits.now)) (task_is t))) }
+{
+    match setting_in(alloc, limits)? {
+        Some(setting) => Ok(Some(FileCommand {
+            command: Command::Run,
+            sources,
+            folder,
+            setting,
+        })),
+        None => Ok(None),
+    }
+}
+
+// The task that is asked for: `None` if a bundle is, or if the arguments set no run up.
+fn task_in<'a>(alloc: Global, asked: &Asked<'a>) -> Result<Option<FileCommand<'a>>, AllocError>
+    ensures { IfOk result (λ o. MatchOption o ((asked_is asked.now ≡ bundle) ⊎ IsNoTask (asked_is asked.now)) (λ t. IsTask (asked_is asked.now) (task_is t))) }
+{
+    match asked {
+        Asked::Bundle => Ok(None),
+        Asked::Check(sources) => Ok(Some(plain_task(alloc, Command::Check, *sources, ""))),
+        Asked::Explain(sources) => Ok(Some(plain_task(alloc, Command::Explain, *sources, ""))),
+        Asked::Serial(sources, folder) => {
+            Ok(Some(plain_task(alloc, Command::Serial, *sources, *folder)))
+        }
+        Asked::Run(sources, folder, limits) => run_task(alloc, *sources, *folder, limits),
+    }
+}
+
+// The text that answers a task.
+fn answer_task<F: Store, I: ByteIn>(
+    alloc: Global,
+    files: &F,
+    input: &mut I,
+    task: &FileCommand<'_>,
+) -> Result<Vec<u8>, Refusal>
+    ensures text { IfOk result (λ text. AnswersTask (F.holds files.now) (I.remaining input.old) (task_is task.now) text.items) }
+    ensures refused { IfErr result (λ e. TaskRefuses (F.holds files.now) (F.is_reliable files.now) (I.remaining input.old) (I.has_failed input.new) (task_is task.now) e) }
+{
+    let plan = plan_from_files(alloc, files, input, task.command, task.sources)?;
+    let folder = Folder {
+        files,
+        path: task.folder,
+    };
+    execute(alloc, task.command, &folder, &task.setting, plan)
+}
+
+// The fault of wrong arguments, with the text that says how they are wrong.
+fn usage_error(alloc: Global, text: &str) -> ArgumentFault
+    ensures { HasUsageText text.now result }
+{
+    match String::from_str(alloc, text) {
+        Ok(text) => ArgumentFault::Usage(text),
+        Err(_) => ArgumentFault::Refused(Refusal::NoMemory),
+    }
+}
+
+// The text that answers what arguments ask for.
+fn answer_asked<F: Store, I: ByteIn>(
+    alloc: Global,
+    files: &F,
+    input: &mut I,
+    asked: &Asked<'_>,
+) -> Result<Vec<u8>, ArgumentFault>
+    ensures text { IfOk result (λ text. AnswersAsk (F.holds files.now) (I.remaining input.old) (asked_is asked.now) text.items) }
+    ensures refused { IfErr result (IsAskFault (F.holds files.now) (F.is_reliable files.now) (I.remaining input.old) (I.has_failed input.new) (asked_is asked.now)) }
+{
+    if let Asked::Bundle = asked {
+        return Ok(outcome_of(alloc, input)?);
+    }
+    match task_in(alloc, asked)? {
+        Some(task) => Ok(answer_task(alloc, files, input, &task)?),
+        None => Err(usage_error(
+            alloc,
+            "volcano: a mode is `rounds`, and a size is NAME=N with a number of workers; see volcano run --help\n",
+        )),
+    }
+}
+
+// The program's name, and then the arguments.
+fn with_program_name<'a>(alloc: Global, arguments: &[&'a str]) -> Result<Vec<&'a str>, AllocError>
+    ensures { IfOk result (λ v. map (λ a. a.now) v.items ≡ with_program_name (map (λ a. a.now) arguments.now)) }
+{
+    let mut all = Vec::new(alloc);
+    all.push("volcano")?;
+    for argument in arguments {
+        all.push(*argument)?;
+    }
+    Ok(all)
+}
+
+// What clap returns in place of matches: help, which is an answer, or a fault.
+fn help_or_fault(alloc: Global, error: &Error) -> Result<Vec<u8>, ArgumentFault>
+    ensures help { IfOk result (λ _. (kind_of error.now ≡ kind.DisplayHelp) ⊎ (kind_of error.now ≡ kind.DisplayVersion)) }
+    ensures fault { IfErr result (IsClapFault (kind_of error.now)) }
+{
+    let text = format!(in alloc; "{error}")?;
+    match error.kind() {
+        ErrorKind::DisplayHelp | ErrorKind::DisplayVersion => Ok(text.into_bytes()),
+        ErrorKind::OutOfMemory => Err(ArgumentFault::Refused(Refusal::NoMemory)),
+        _ => Err(ArgumentFault::Usage(text)),
+    }
+}
+
+/// The text that answers arguments.
+pub fn answer_arguments<F: Store, I: ByteIn>(
+    alloc: Global,
+    files: &F,
+    input: &mut I,
+    arguments: &[&str],
+) -> Result<Vec<u8>, ArgumentFault>
+    ensures text { IfOk result (λ text. AnswersArguments (F.holds files.now) (I.remaining input.old) (map (λ a. a.now) arguments.now) text.items) }
+    ensures refused { IfErr result (IsArgumentFault (F.holds files.now) (F.is_reliable files.now) (I.remaining input.old) (I.has_failed input.new) (map (λ a. a.now) arguments.now)) }
+{
+    let arguments = with_program_name(alloc, arguments)?;
+    match asked_for(alloc, arguments.as_slice()) {
+        Ok(Some(asked)) => answer_asked(alloc, files, input, &asked),
+        Ok(None) => Err(usage_error(alloc, "volcano: these words ask for nothing\n")),
+        Err(error) => help_or_fault(alloc, &error),
+    }
+}

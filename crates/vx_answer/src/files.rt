@@ -1,0 +1,103 @@
+//! A catalog and a plan from files and standard input.
+
+ghost use Rattle.std.specs.Prelude.{◌≡◌, true, false, codes, IfOk, IfErr, IsErrOf};
+ghost use Rattle.vx_bytes.specs.Ports.{IsAll};
+ghost use Rattle.vx_plan_nodes.specs.TypedView.{resolved_of};
+ghost use Rattle.vx_plan_nodes.specs.Outline.{plan_in};
+ghost use Rattle.vx_setup.specs.Runnable.{can_run};
+ghost use Rattle.vx_arguments.specs.Asked.{paths_are};
+ghost use Rattle.vx_bytes.specs.Stored.{IfBytes};
+ghost use Rattle.vx_answer.specs.Files.{is_input, left_of, known_at, IsFileRefusal, IsInputRefusal, IsReadRefusal, IsFilesPlan, IsFilesRefusal};
+
+use crate::planning::plan_over;
+use crate::program::MAX_BYTES;
+use std::alloc::Global;
+use vx_arguments::Sources;
+use vx_bundle::Command;
+use vx_bytes::{ByteIn, ReadFault, Store, read_all};
+use vx_catalog::Catalog;
+use vx_plan::{Plan, TypedPlan};
+use vx_refusals::Refusal;
+
+// The path of standard input.
+const INPUT: &str = "-";
+
+// Whether a path is that of standard input.
+fn is_input(path: &str) -> bool
+    ensures { result ≡ is_input path.now }
+{
+    path == INPUT
+}
+
+// All bytes of a file.
+fn file_bytes<F: Store>(alloc: Global, files: &F, path: &str) -> Result<Vec<u8>, Refusal>
+    ensures bytes { IfOk result (λ v. IfBytes (F.holds files.now path.now) (λ bytes. bytes ≡ v.items)) }
+    ensures refused { IfErr result (IsFileRefusal (F.holds files.now path.now) (F.is_reliable files.now path.now) path.now) }
+{
+    let name = String::from_str(alloc, path)?;
+    let mut file = match files.open(path) {
+        Some(file) => file,
+        None => return Err(Refusal::FileUnreadable { path: name }),
+    };
+    match read_all(alloc, &mut file, MAX_BYTES) {
+        Ok(bytes) => Ok(bytes),
+        Err(ReadFault::NoMemory) => Err(Refusal::NoMemory),
+        Err(ReadFault::Broken) => Err(Refusal::FileUnreadable { path: name }),
+        Err(ReadFault::TooLarge) => Err(Refusal::FileUnreadable { path: name }),
+    }
+}
+
+/// All bytes that standard input has left.
+pub fn input_bytes<I: ByteIn>(alloc: Global, input: &mut I) -> Result<Vec<u8>, Refusal>
+    ensures bytes { IfOk result (λ v. IsAll (I.remaining input.old) v.items) }
+    ensures refused { IfErr result (IsInputRefusal (I.remaining input.old) (I.has_failed input.new)) }
+    ensures broken { I.has_failed input.new ≡ true → IsErrOf result Refusal.InputUnreadable }
+{
+    match read_all(alloc, input, MAX_BYTES) {
+        Ok(bytes) => Ok(bytes),
+        Err(ReadFault::NoMemory) => Err(Refusal::NoMemory),
+        Err(ReadFault::Broken | ReadFault::TooLarge) => Err(Refusal::InputUnreadable),
+    }
+}
+
+// All bytes under a path. Standard input is read once: where it was read before, it has nothing left.
+#[tactic(auto, using(crate::proofs::FileFacts::input_all))]
+fn bytes_at<F: Store, I: ByteIn>(
+    alloc: Global,
+    files: &F,
+    input: &mut I,
+    was_read: bool,
+    path: &str,
+) -> Result<Vec<u8>, Refusal>
+    ensures bytes { IfOk result (λ v. IfBytes (known_at (F.holds files.now) (left_of was_read (I.remaining input.old)) path.now) (λ bytes. bytes ≡ v.items)) }
+    ensures refused { IfErr result (IsReadRefusal (F.holds files.now) (F.is_reliable files.now) (left_of was_read (I.remaining input.old)) (I.has_failed input.new) path.now) }
+    ensures kept { is_input path.now ≡ false → input.new ≡ input.old }
+{
+    if !is_input(path) {
+        return file_bytes(alloc, files, path);
+    }
+    if was_read {
+        return Ok(Vec::new(alloc));
+    }
+    input_bytes(alloc, input)
+}
+
+/// The plan at one path for a command, over the catalog at the other.
+pub fn plan_from_files<F: Store, I: ByteIn>(
+    alloc: Global,
+    files: &F,
+    input: &mut I,
+    command: Command,
+    sources: Sources<'_>,
+) -> Result<TypedPlan, Refusal>
+    ensures planned { IfOk result (λ p. IsFilesPlan command (F.holds files.now) (I.remaining input.old) (paths_are sources.entry) (resolved_of p)) }
+    ensures runs { IfOk result (λ p. command ≡ Command.Run → can_run (plan_in (resolved_of p).root) ≡ true) }
+    ensures refused { IfErr result (IsFilesRefusal command (F.holds files.now) (F.is_reliable files.now) (I.remaining input.old) (I.has_failed input.new) (paths_are sources.entry)) }
+{
+    let catalog_text = bytes_at(alloc, files, input, false, sources.catalog)?;
+    let catalog = Catalog::read(alloc, catalog_text.as_slice())?;
+    let was_read = is_input(sources.catalog);
+    let plan_text = bytes_at(alloc, files, input, was_read, sources.plan)?;
+    let plan = Plan::read(alloc, plan_text.as_slice())?;
+    Ok(plan_over(alloc, command, &plan, &catalog)?)
+}

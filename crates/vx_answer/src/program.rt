@@ -1,0 +1,160 @@
+//! The whole program but its `main`: from all input to all output.
+
+ghost use Rattle.std.specs.Prelude.{◌≡◌, ◌≢◌, ◌⊎◌, ℕ, List, [], true, false, map, IfSome, IfOk, IfErr, IsErrOf};
+ghost use Rattle.std.specs.Io.KnownBytes.{Appends, Keeps};
+ghost use Rattle.vx_answer.specs.Answer.{IsAnswer, RefusedWith, IsRefusedBy};
+ghost use Rattle.vx_refusals.specs.Status.{status_of};
+ghost use Rattle.vx_answer.specs.CommandLine.{AnswersArguments, IsUsageError, AreRefusedBy};
+
+use crate::bundle::answer_bytes;
+use crate::command_line::{ArgumentFault, answer_arguments};
+use crate::files::input_bytes;
+use std::alloc::Global;
+use std::sync::Wait;
+use std::thread::Threads;
+use vx_bytes::{ByteIn, ByteOut, Store, write_all};
+use vx_refusals::{Refusal, report, status};
+
+/// The most bytes that an input may have.
+pub const MAX_BYTES: usize = 1 << 40;
+
+/// The text that answers the bundle of which an input has the bytes that are left.
+pub fn outcome_of<I: ByteIn>(alloc: Global, input: &mut I) -> Result<Vec<u8>, Refusal>
+    ensures text { IfOk result (λ text. IfSome (I.remaining input.old) (λ bytes. IsAnswer bytes text.items)) }
+    ensures refused { IfErr result (λ e. RefusedWith (I.remaining input.old) (I.has_failed input.new) e) }
+    ensures broken { I.has_failed input.new ≡ true → IsErrOf result Refusal.InputUnreadable }
+{
+    answer_bytes(alloc, input_bytes(alloc, input)?.as_slice())
+}
+
+// Reports a refusal on `err`. The status is that of the refusal.
+fn refuse<E: ByteOut>(refusal: &Refusal, err: &mut E) -> u8
+    ensures { result ≡ status_of refusal.now }
+{
+    report(refusal, err);
+    status(refusal)
+}
+
+// Writes a text on `out`, or reports on `err` that this failed.
+fn write_text<O: ByteOut, E: ByteOut>(text: &[u8], out: &mut O, err: &mut E) -> u8
+    ensures done { result ≡ 0 → Appends (O.contents out.old) (O.contents out.new) text.now }
+    ensures failed { result ≢ 0 → (result ≡ 4) × (O.has_failed out.new ≡ true) }
+{
+    match write_all(out, text) {
+        Ok(()) => 0,
+        Err(_) => refuse(&Refusal::WriteFailed, err),
+    }
+}
+
+/// Writes the text of finished work on `out`, or reports on `err` why there is none. The status is 0 if the text was
+/// written, and that of the refusal if not.
+pub fn deliver<O: ByteOut, E: ByteOut>(
+    outcome: Result<Vec<u8>, Refusal>,
+    out: &mut O,
+    err: &mut E,
+) -> u8
+    ensures done { IfOk outcome (λ text. result ≡ 0 → Appends (O.contents out.old) (O.contents out.new) text.items) }
+    ensures failed { IfOk outcome (λ _. result ≢ 0 → (result ≡ 4) × (O.has_failed out.new ≡ true)) }
+    ensures refused { IfErr outcome (λ e. (result ≡ status_of e) × (out.new ≡ out.old)) }
+{
+    match outcome {
+        Ok(text) => write_text(text.as_slice(), out, err),
+        Err(refusal) => refuse(&refusal, err),
+    }
+}
+
+/// Answers the bundle on `input`: writes the answer on `out`, or reports on `err` why there is none.
+pub fn reply<I: ByteIn, O: ByteOut, E: ByteOut>(
+    alloc: Global,
+    input: &mut I,
+    out: &mut O,
+    err: &mut E,
+) -> u8
+    // Status 0 comes only for a bundle that has an answer, and then `out` got exactly that.
+    ensures done { result ≡ 0 → IfSome (I.remaining input.old) (λ bytes. (text : List ℕ) × IsAnswer bytes text × Appends (O.contents out.old) (O.contents out.new) text) }
+
+    // Any other leaves `out` as it was, unless `out` failed.
+    ensures kept { result ≢ 0 → O.has_failed out.new ≡ false → out.new ≡ out.old }
+    ensures statuses { (result ≡ 0) ⊎ (result ≡ 3) ⊎ (result ≡ 4) }
+
+    // Status 3 comes only for input that fails, is too long or is refused.
+    ensures refused { result ≡ 3 → IsRefusedBy 3 (I.remaining input.old) (I.has_failed input.new) }
+    ensures unread { I.has_failed input.new ≡ true → result ≡ 3 }
+
+    // Status 4 comes only for a write that failed, or where the machine or the run failed.
+    ensures failed { result ≡ 4 → (O.has_failed out.new ≡ true) ⊎ IsRefusedBy 4 (I.remaining input.old) (I.has_failed input.new) }
+{
+    deliver(outcome_of(alloc, input), out, err)
+}
+
+// Answers arguments: writes the answer on `out`, or reports on `err` why there is none.
+fn reply_to_arguments<F: Store, I: ByteIn, O: ByteOut, E: ByteOut>(
+    alloc: Global,
+    arguments: &[&str],
+    files: &F,
+    input: &mut I,
+    out: &mut O,
+    err: &mut E,
+) -> u8
+    ensures done { result ≡ 0 → (text : List ℕ) × AnswersArguments (F.holds files.now) (I.remaining input.old) (map (λ a. a.now) arguments.now) text × Appends (O.contents out.old) (O.contents out.new) text }
+    ensures kept { result ≢ 0 → O.has_failed out.new ≡ false → out.new ≡ out.old }
+    ensures statuses { (result ≡ 0) ⊎ (result ≡ 2) ⊎ (result ≡ 3) ⊎ (result ≡ 4) }
+    ensures usage { result ≡ 2 → IsUsageError (map (λ a. a.now) arguments.now) × (out.new ≡ out.old) }
+    ensures refused { result ≡ 3 → AreRefusedBy 3 (F.holds files.now) (F.is_reliable files.now) (I.remaining input.old) (I.has_failed input.new) (map (λ a. a.now) arguments.now) }
+    ensures failed { result ≡ 4 → (O.has_failed out.new ≡ true) ⊎ AreRefusedBy 4 (F.holds files.now) (F.is_reliable files.now) (I.remaining input.old) (I.has_failed input.new) (map (λ a. a.now) arguments.now) }
+{
+    match answer_arguments(alloc, files, input, arguments) {
+        Ok(text) => deliver(Ok(text), out, err),
+        Err(ArgumentFault::Refused(refusal)) => deliver(Err(refusal), out, err),
+        Err(ArgumentFault::Usage(text)) => {
+            let _ = write_all(err, text.as_bytes());
+            2
+        }
+    }
+}
+
+/// Answers what the arguments ask for, which come without the program's name. Without arguments it answers the bundle on
+/// `input`.
+///
+/// The status is 0 if `out` got the answer, 2 for wrong arguments, 3 for input that is refused, and 4 if the machine or
+/// the run failed. All work ends before the first byte goes to `out`. A refusal is one line on `err`, and a write of it
+/// that fails changes nothing else.
+pub fn answer<T: Threads + Wait + Sync, F: Store, I: ByteIn, O: ByteOut, E: ByteOut>(
+    _rt: &T,
+    alloc: Global,
+    arguments: &[&str],
+    files: &F,
+    input: &mut I,
+    out: &mut O,
+    err: &mut E,
+) -> u8
+    // Without arguments, status 0 comes only for a bundle that has an answer, and then `out` got exactly that.
+    ensures done { arguments.now ≡ [] → result ≡ 0 → IfSome (I.remaining input.old) (λ bytes. (text : List ℕ) × IsAnswer bytes text × Appends (O.contents out.old) (O.contents out.new) text) }
+    ensures statuses { arguments.now ≡ [] → (result ≡ 0) ⊎ (result ≡ 3) ⊎ (result ≡ 4) }
+
+    // Status 3 comes only for input that fails, is too long or is refused.
+    ensures refused { arguments.now ≡ [] → result ≡ 3 → IsRefusedBy 3 (I.remaining input.old) (I.has_failed input.new) }
+    ensures unread { arguments.now ≡ [] → I.has_failed input.new ≡ true → result ≡ 3 }
+
+    // Status 4 comes only for a write that failed, or where the machine or the run failed.
+    ensures failed { arguments.now ≡ [] → result ≡ 4 → (O.has_failed out.new ≡ true) ⊎ IsRefusedBy 4 (I.remaining input.old) (I.has_failed input.new) }
+
+    // With arguments, status 0 comes only for what they ask for, answered, and then `out` got exactly that.
+    ensures arguments_done { arguments.now ≢ [] → result ≡ 0 → (text : List ℕ) × AnswersArguments (F.holds files.now) (I.remaining input.old) (map (λ a. a.now) arguments.now) text × Appends (O.contents out.old) (O.contents out.new) text }
+    ensures arguments_statuses { arguments.now ≢ [] → (result ≡ 0) ⊎ (result ≡ 2) ⊎ (result ≡ 3) ⊎ (result ≡ 4) }
+
+    // Status 2 comes only for arguments that are wrong, status 3 only for what they ask for, refused, and status 4 only for a
+    // write that failed, or where the machine or the run failed.
+    ensures usage { arguments.now ≢ [] → result ≡ 2 → IsUsageError (map (λ a. a.now) arguments.now) }
+    ensures arguments_refused { arguments.now ≢ [] → result ≡ 3 → AreRefusedBy 3 (F.holds files.now) (F.is_reliable files.now) (I.remaining input.old) (I.has_failed input.new) (map (λ a. a.now) arguments.now) }
+    ensures arguments_failed { arguments.now ≢ [] → result ≡ 4 → (O.has_failed out.new ≡ true) ⊎ AreRefusedBy 4 (F.holds files.now) (F.is_reliable files.now) (I.remaining input.old) (I.has_failed input.new) (map (λ a. a.now) arguments.now) }
+
+    // Any status but 0 leaves `out` as it was, unless `out` failed; status 2 in any case.
+    ensures kept { result ≢ 0 → O.has_failed out.new ≡ false → out.new ≡ out.old }
+    ensures untouched { result ≡ 2 → out.new ≡ out.old }
+{
+    if arguments.is_empty() {
+        return reply(alloc, input, out, err);
+    }
+    reply_to_arguments(alloc, arguments, files, input, out, err)
+}
