@@ -10,12 +10,12 @@ use std::cmp::Ordering;
 use std::io;
 use std::rt::Clock;
 use std::time::Instant;
-use vx_rows::{Cell, ColType, Rows, compare_on};
+use vx_rows::{Cell, ColType, Table, compare_on};
 
 const PACKET: usize = 256;
 
-fn build(alloc: Global, types: &[ColType], n: u64) -> Result<Rows, AllocError> {
-    let mut rows = Rows::new(alloc, types)?;
+fn build(alloc: Global, types: &[ColType], n: u64) -> Result<Table, AllocError> {
+    let mut rows = Table::new(alloc, types)?;
     for i in 0..n {
         let values = values_of(alloc, i)?;
         if rows.fits(values.as_slice()) {
@@ -26,8 +26,8 @@ fn build(alloc: Global, types: &[ColType], n: u64) -> Result<Rows, AllocError> {
 }
 
 // Row by row into a packet that is used again.
-fn append_rows(alloc: Global, all: &Rows) -> Result<u64, AllocError> {
-    let mut packet = Rows::new(alloc, all.types())?;
+fn append_rows(alloc: Global, all: &Table) -> Result<u64, AllocError> {
+    let mut packet = Table::new(alloc, all.types())?;
     let mut sent = 0u64;
     for i in 0..all.len() {
         if packet.len() >= PACKET {
@@ -40,10 +40,10 @@ fn append_rows(alloc: Global, all: &Rows) -> Result<u64, AllocError> {
 }
 
 // Ranges into packets that are made anew.
-fn append_ranges(alloc: Global, all: &Rows) -> Result<u64, AllocError> {
+fn append_ranges(alloc: Global, all: &Table) -> Result<u64, AllocError> {
     let mut sent = 0u64;
     for k in 0..all.len() / PACKET {
-        let mut packet = Rows::new(alloc, all.types())?;
+        let mut packet = Table::new(alloc, all.types())?;
         packet.append_range(all, k * PACKET, k * PACKET + PACKET)?;
         sent = sent.wrapping_add(packet.len() as u64);
     }
@@ -51,8 +51,8 @@ fn append_ranges(alloc: Global, all: &Rows) -> Result<u64, AllocError> {
 }
 
 // Ranges into a packet that is used again.
-fn append_ranges_reused(alloc: Global, all: &Rows) -> Result<u64, AllocError> {
-    let mut packet = Rows::new(alloc, all.types())?;
+fn append_ranges_reused(alloc: Global, all: &Table) -> Result<u64, AllocError> {
+    let mut packet = Table::new(alloc, all.types())?;
     let mut sent = 0u64;
     for k in 0..all.len() / PACKET {
         packet.truncate(0);
@@ -77,8 +77,8 @@ fn positions_from(alloc: Global, at: usize, step: usize, n: usize) -> Result<Vec
 }
 
 // Every fourth row, by positions, into a packet that is used again.
-fn append_at(alloc: Global, all: &Rows) -> Result<u64, AllocError> {
-    let mut packet = Rows::new(alloc, all.types())?;
+fn append_at(alloc: Global, all: &Table) -> Result<u64, AllocError> {
+    let mut packet = Table::new(alloc, all.types())?;
     let mut sent = 0u64;
     for k in 0..all.len() / PACKET {
         let at = k / 4 * PACKET * 4 + k % 4;
@@ -90,7 +90,7 @@ fn append_at(alloc: Global, all: &Rows) -> Result<u64, AllocError> {
     Ok(sent)
 }
 
-fn sum(all: &Rows, column: usize) -> u64 {
+fn sum(all: &Table, column: usize) -> u64 {
     let mut total = 0u64;
     if column < all.types().len() {
         for i in 0..all.len() {
@@ -103,7 +103,7 @@ fn sum(all: &Rows, column: usize) -> u64 {
     total
 }
 
-fn count_less(all: &Rows, cols: &[usize]) -> u64
+fn count_less(all: &Table, cols: &[usize]) -> u64
     requires { AreColumns (length all.now.types) cols.now }
 {
     let mut less = 0u64;
@@ -117,14 +117,14 @@ fn count_less(all: &Rows, cols: &[usize]) -> u64
 
 fn project_all(
     alloc: Global,
-    all: &Rows,
+    all: &Table,
     types: &[ColType],
     cols: &[usize],
 ) -> Result<u64, AllocError>
     requires columns { AreColumns (length all.now.types) cols.now }
     requires types { types.now ≡ map (type_at all.now.types) cols.now }
 {
-    let mut packet = Rows::new(alloc, types)?;
+    let mut packet = Table::new(alloc, types)?;
     let mut sent = 0u64;
     for i in 0..all.len() {
         if packet.len() >= PACKET {
@@ -159,7 +159,7 @@ fn are_columns(cols: &[usize], n: usize) -> bool
 }
 
 // The second position of a clash, and 0 where there is none.
-fn second_of_clash(alloc: Global, all: &Rows, cols: &[usize]) -> Result<u64, AllocError>
+fn second_of_clash(alloc: Global, all: &Table, cols: &[usize]) -> Result<u64, AllocError>
     requires { AreColumns (length all.now.types) cols.now }
 {
     match all.first_key_clash(alloc, cols)? {
@@ -169,7 +169,7 @@ fn second_of_clash(alloc: Global, all: &Rows, cols: &[usize]) -> Result<u64, All
 }
 
 // The first position in the order of these columns.
-fn first_of_order(alloc: Global, all: &Rows, cols: &[usize]) -> Result<u64, AllocError>
+fn first_of_order(alloc: Global, all: &Table, cols: &[usize]) -> Result<u64, AllocError>
     requires { AreColumns (length all.now.types) cols.now }
 {
     let positions = all.sorted_positions(alloc, cols)?;
@@ -183,7 +183,7 @@ fn run_appends<R: Print + Clock>(
     rt: &R,
     alloc: Global,
     bench: Bench,
-    all: &Rows,
+    all: &Table,
 ) -> io::Result<u64> {
     let start = Instant::now(rt)?;
     let sent = append_rows(alloc, all)?;
@@ -210,7 +210,7 @@ fn run_columns<R: Print + Clock>(
     rt: &R,
     alloc: Global,
     bench: Bench,
-    all: &Rows,
+    all: &Table,
     cols: &[usize],
     name: &str,
 ) -> io::Result<Times> {

@@ -2,9 +2,9 @@
 
 ghost use Rattle.std.specs.Prelude.{◌<◌, length};
 
-use crate::plain::{Column, Table};
+use crate::plain::{Column, PlainTable};
 use std::alloc::{AllocError, Global};
-use vx_rows::{Cell, ColType, Rows};
+use vx_rows::{Cell, ColType, Table};
 
 /// What is the same of equal lists of rows: how many there are, what all numbers add up to, and a checksum of all
 /// values, one column after another.
@@ -57,7 +57,7 @@ impl Digest {
     }
 
     // With the values of one column more.
-    fn with_column(self, rows: &Rows, column: usize) -> Digest
+    fn with_column(self, rows: &Table, column: usize) -> Digest
         requires { column < length rows.now.types }
     {
         let mut digest = self;
@@ -71,7 +71,7 @@ impl Digest {
     }
 
     /// Of all columns.
-    pub fn of_rows(rows: &Rows) -> Digest {
+    pub fn of_rows(rows: &Table) -> Digest {
         let mut digest = Digest::of_count(rows.len());
         for column in 0..rows.types().len() {
             digest = digest.with_column(rows, column);
@@ -80,7 +80,7 @@ impl Digest {
     }
 
     /// Of all columns.
-    pub fn of_table(table: &Table) -> Digest {
+    pub fn of_table(table: &PlainTable) -> Digest {
         let mut digest = Digest::of_count(table.len());
         for column in &table.columns {
             digest = match column {
@@ -93,7 +93,7 @@ impl Digest {
 }
 
 // The numbers of a column.
-fn numbers_of(alloc: Global, rows: &Rows, column: usize) -> Result<Vec<i64>, AllocError>
+fn numbers_of(alloc: Global, rows: &Table, column: usize) -> Result<Vec<i64>, AllocError>
     requires { column < length rows.now.types }
 {
     let mut numbers = Vec::with_capacity(alloc, rows.len())?;
@@ -106,7 +106,7 @@ fn numbers_of(alloc: Global, rows: &Rows, column: usize) -> Result<Vec<i64>, All
 }
 
 // The bytes of the texts of a column.
-fn bytes_of(alloc: Global, rows: &Rows, column: usize) -> Result<Vec<u8>, AllocError>
+fn bytes_of(alloc: Global, rows: &Table, column: usize) -> Result<Vec<u8>, AllocError>
     requires { column < length rows.now.types }
 {
     let mut bytes = Vec::new(alloc);
@@ -119,7 +119,7 @@ fn bytes_of(alloc: Global, rows: &Rows, column: usize) -> Result<Vec<u8>, AllocE
 }
 
 /// The same rows as plain columns.
-pub fn table_of(alloc: Global, rows: &Rows) -> Result<Table, AllocError> {
+pub fn table_of(alloc: Global, rows: &Table) -> Result<PlainTable, AllocError> {
     let mut columns = Vec::new(alloc);
     for column in 0..rows.types().len() {
         columns.push(match rows.types()[column] {
@@ -127,5 +127,5 @@ pub fn table_of(alloc: Global, rows: &Rows) -> Result<Table, AllocError> {
             ColType::Text => Column::Texts(bytes_of(alloc, rows, column)?),
         })?;
     }
-    Ok(Table { columns })
+    Ok(PlainTable { columns })
 }

@@ -5,7 +5,7 @@ ghost use Rattle.std.specs.Prelude.{◌≤◌, ◌<◌, length};
 
 use crate::bench::{Bench, last_of_hundredth, nanos_since};
 use crate::digest::{Digest, table_of};
-use crate::plain::Table;
+use crate::plain::PlainTable;
 use crate::queries::{QUERIES, Query, SCAN};
 use crate::wisconsin::{CATALOG, MAX_ROWS, relation};
 use anyhow::{Error, bail};
@@ -15,15 +15,15 @@ use std::time::Instant;
 use vx_bytes::MemoryIn;
 use vx_catalog::{Catalog, Database, Loader};
 use vx_plan::{Plan, resolve};
-use vx_rows::Rows;
+use vx_rows::Table;
 use vx_serial::eval;
 
 // The relations, as both kinds of queries read them.
 #[derive(Drop)]
 struct Relations {
     database: Database,
-    tenk1: Table,
-    bprime: Table,
+    tenk1: PlainTable,
+    bprime: PlainTable,
 }
 
 // Loads n rows of one relation, and answers them as plain columns too.
@@ -33,7 +33,7 @@ fn load(
     database: &mut Database,
     number: usize,
     n: u64,
-) -> Result<Table, Error>
+) -> Result<PlainTable, Error>
     requires relation { number < length catalog.now }
     requires few { n ≤ MAX_ROWS }
 {
@@ -57,7 +57,7 @@ fn evaluated<R: Clock>(
     alloc: Global,
     database: &Database,
     text: &str,
-) -> Result<(Rows, u64), Error> {
+) -> Result<(Table, u64), Error> {
     let plan = Plan::read(alloc, text.as_bytes())?;
     let typed = resolve(alloc, &plan, database.catalog())?;
     let start = Instant::now(rt)?;

@@ -12,7 +12,7 @@ use std::rt::Clock;
 use std::time::Instant;
 use vx_bytes::{MemoryIn, read_all};
 use vx_catalog::{Catalog, Loader};
-use vx_rows::{Cell, Rows};
+use vx_rows::{Cell, Table};
 
 // What was read of a text, and how long it took in nanoseconds.
 #[derive(Clone, Copy)]
@@ -50,7 +50,7 @@ fn read_records<R: Clock>(rt: &R, alloc: Global, text: &[u8]) -> Result<Read, Er
 }
 
 // The sum of the numbers in the first column.
-fn sum_of_first(rows: &Rows) -> i64 {
+fn sum_of_first(rows: &Table) -> i64 {
     let mut sum = 0i64;
     if rows.types().is_empty() {
         return sum;
@@ -64,7 +64,7 @@ fn sum_of_first(rows: &Rows) -> i64 {
 }
 
 // The text of the last row in the column before the last.
-fn last_text(rows: &Rows) -> &str {
+fn last_text(rows: &Table) -> &str {
     let width = rows.types().len();
     if rows.len() == 0 || width < 2 {
         return "";
@@ -108,7 +108,12 @@ impl Bench {
     }
 
     // Shows the times of the parts of loading that can be run by themselves: the two keys and the order.
-    fn show_parts<R: Print + Clock>(self, rt: &R, alloc: Global, rows: &Rows) -> Result<(), Error> {
+    fn show_parts<R: Print + Clock>(
+        self,
+        rt: &R,
+        alloc: Global,
+        rows: &Table,
+    ) -> Result<(), Error> {
         if !self.with_times || rows.types().len() < 2 {
             return Ok(());
         }

@@ -71,7 +71,7 @@ fn texts_at(alloc: Global, bytes: &[u8], positions: &[usize]) -> Result<Vec<u8>,
 
 /// Columns with as many rows each.
 #[derive(Drop)]
-pub struct Table {
+pub struct PlainTable {
     pub columns: Vec<Column>,
 }
 
@@ -82,7 +82,7 @@ struct Matches {
     right: Vec<usize>,
 }
 
-impl Table {
+impl PlainTable {
     /// How many rows there are.
     pub fn len(&self) -> usize {
         match self.columns.first() {
@@ -122,9 +122,14 @@ impl Table {
     }
 
     /// The rows whose number in a column is from 0 to `last`.
-    pub fn selected(&self, alloc: Global, column: usize, last: i64) -> Result<Table, AllocError> {
+    pub fn selected(
+        &self,
+        alloc: Global,
+        column: usize,
+        last: i64,
+    ) -> Result<PlainTable, AllocError> {
         let positions = positions_within(alloc, self.numbers(column), last)?;
-        let mut rows = Table {
+        let mut rows = PlainTable {
             columns: Vec::new(alloc),
         };
         rows.add(alloc, self.columns.as_slice(), positions.as_slice())?;
@@ -132,8 +137,13 @@ impl Table {
     }
 
     // The rows side by side with those of the other that match.
-    fn beside(&self, alloc: Global, other: &Table, matches: &Matches) -> Result<Table, AllocError> {
-        let mut rows = Table {
+    fn beside(
+        &self,
+        alloc: Global,
+        other: &PlainTable,
+        matches: &Matches,
+    ) -> Result<PlainTable, AllocError> {
+        let mut rows = PlainTable {
             columns: Vec::new(alloc),
         };
         rows.add(alloc, self.columns.as_slice(), matches.left.as_slice())?;
@@ -145,9 +155,9 @@ impl Table {
     pub fn hash_joined(
         &self,
         alloc: Global,
-        other: &Table,
+        other: &PlainTable,
         column: usize,
-    ) -> Result<Table, AllocError> {
+    ) -> Result<PlainTable, AllocError> {
         let places = places_of(alloc, other.numbers(column))?;
         let matches = matches_by_hash(alloc, self.numbers(column), &places)?;
         self.beside(alloc, other, &matches)
@@ -157,17 +167,22 @@ impl Table {
     pub fn merge_joined(
         &self,
         alloc: Global,
-        other: &Table,
+        other: &PlainTable,
         column: usize,
-    ) -> Result<Table, AllocError> {
+    ) -> Result<PlainTable, AllocError> {
         let matches = matches_by_merge(alloc, self.numbers(column), other.numbers(column))?;
         self.beside(alloc, other, &matches)
     }
 
     /// A column of numbers and one of texts, with each row once.
-    pub fn distinct(&self, alloc: Global, number: usize, text: usize) -> Result<Table, AllocError> {
+    pub fn distinct(
+        &self,
+        alloc: Global,
+        number: usize,
+        text: usize,
+    ) -> Result<PlainTable, AllocError> {
         let positions = self.firsts(alloc, number, text)?;
-        let mut rows = Table {
+        let mut rows = PlainTable {
             columns: Vec::new(alloc),
         };
         for column in [number, text] {
@@ -193,13 +208,23 @@ impl Table {
     }
 
     /// The least number of a column for each number of another, by that number.
-    pub fn least_by(&self, alloc: Global, by: usize, column: usize) -> Result<Table, AllocError> {
+    pub fn least_by(
+        &self,
+        alloc: Global,
+        by: usize,
+        column: usize,
+    ) -> Result<PlainTable, AllocError> {
         let least = least_of_keys(alloc, self.numbers(by), self.numbers(column))?;
         sorted_entries(alloc, &least)
     }
 
     /// The sum of a column for each number of another, by that number.
-    pub fn sum_by(&self, alloc: Global, by: usize, column: usize) -> Result<Table, AllocError> {
+    pub fn sum_by(
+        &self,
+        alloc: Global,
+        by: usize,
+        column: usize,
+    ) -> Result<PlainTable, AllocError> {
         let sums = sums_of_keys(alloc, self.numbers(by), self.numbers(column))?;
         sorted_entries(alloc, &sums)
     }
@@ -302,7 +327,7 @@ fn sums_of_keys(
 }
 
 // Keys and numbers as two columns, sorted by the key.
-fn sorted_entries(alloc: Global, entries: &HashMap<i64, i64>) -> Result<Table, AllocError> {
+fn sorted_entries(alloc: Global, entries: &HashMap<i64, i64>) -> Result<PlainTable, AllocError> {
     let mut pairs = Vec::with_capacity(alloc, entries.len())?;
     for (key, number) in entries.iter() {
         pairs.push((*key, *number))?;
@@ -313,5 +338,5 @@ fn sorted_entries(alloc: Global, entries: &HashMap<i64, i64>) -> Result<Table, A
     let mut columns = Vec::new(alloc);
     columns.push(Column::Numbers(keys))?;
     columns.push(Column::Numbers(numbers))?;
-    Ok(Table { columns })
+    Ok(PlainTable { columns })
 }

@@ -1,6 +1,6 @@
 //! The queries that are measured, as plans without exchanges and by hand.
 
-use crate::plain::Table;
+use crate::plain::PlainTable;
 use std::alloc::{AllocError, Global};
 
 const TENK1: &str = r#"{"op":"scan","relation":"tenk1","mode":"whole","size":"one"}"#;
@@ -99,10 +99,10 @@ impl Query {
     pub fn by_hand(
         self,
         alloc: Global,
-        tenk1: &Table,
-        bprime: &Table,
+        tenk1: &PlainTable,
+        bprime: &PlainTable,
         last: i64,
-    ) -> Result<Table, AllocError> {
+    ) -> Result<PlainTable, AllocError> {
         match self {
             Query::Selection => tenk1.selected(alloc, UNIQUE2, last),
             Query::HashJoin => tenk1.hash_joined(alloc, bprime, UNIQUE2),

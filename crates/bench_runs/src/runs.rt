@@ -14,7 +14,7 @@ use vx_catalog::{Catalog, Database, Loader};
 use vx_check::{CheckedPlan, check};
 use vx_exec::{Ran, Setup, can_run, run_rounds};
 use vx_plan::{Plan, Router, resolve};
-use vx_rows::{Rows, Value};
+use vx_rows::{Table, Value};
 
 // The workers that scan and select.
 const TEAMS: [u32; 3] = [1, 4, 64];
@@ -76,7 +76,7 @@ fn ran<R: Clock>(
     plan: &CheckedPlan,
     database: &Database,
     workers: u32,
-) -> Result<(Rows, u64), Error> {
+) -> Result<(Table, u64), Error> {
     let setup = setup_of(alloc, workers)?;
     if !can_run(plan.plan()) {
         bail!("workers cannot run the plan");

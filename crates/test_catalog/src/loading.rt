@@ -6,8 +6,8 @@ use std::sync::Arc;
 use std::test::Fail;
 use vx_bytes::{MemoryIn, MemoryOut};
 use vx_catalog::{Catalog, Database, Loader, format_rows, write_rows};
-use vx_rows::Rows;
-use vx_views::ChunkedRows;
+use vx_rows::Table;
+use vx_views::Rows;
 
 /// One relation, with a key and an order.
 pub const KEYED: &str =
@@ -44,7 +44,7 @@ fn answer(
         return Err(Fail::new("the rows are of this catalog"));
     }
     let count = database.rows(0).len();
-    let rows = ChunkedRows::of(alloc, database.table(0), 0, count)?;
+    let rows = Rows::of(alloc, database.table(0), 0, count)?;
     let mut writer = MemoryOut::new(alloc, 10, room);
     match write_rows(alloc, catalog.get(0).names(), &rows, &mut writer) {
         Ok(()) => Ok(String::from_utf8(Vec::from_slice(alloc, writer.bytes())?)?),
@@ -193,7 +193,7 @@ fn other_relations(rt: HostRuntime) -> Result<(), Fail> {
 }
 
 // The rows of the text, shared: nothing else is left of their database.
-fn shared_rows(alloc: Global, catalog: &Catalog) -> Result<Arc<Rows>, Fail> {
+fn shared_rows(alloc: Global, catalog: &Catalog) -> Result<Arc<Table>, Fail> {
     if catalog.is_empty() {
         return Err(Fail::new("the catalog has no relations"));
     }
@@ -212,7 +212,7 @@ fn shared_rows_outlive_their_database(rt: HostRuntime) -> Result<(), Fail> {
     if names.is_empty() {
         return Err(Fail::new("the catalog has no relations"));
     }
-    let seen = ChunkedRows::of(alloc, &rows, 0, rows.len())?;
+    let seen = Rows::of(alloc, &rows, 0, rows.len())?;
     let text = format_rows(alloc, names.get(0).names(), &seen)?;
     assert_eq!(rt; text.as_slice(), TEXT);
     Ok(())

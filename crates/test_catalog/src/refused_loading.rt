@@ -7,7 +7,7 @@ use std::process::Abort;
 use std::test::Fail;
 use vx_bytes::{MemoryIn, Real};
 use vx_catalog::{Catalog, CatalogFault, Database, LoadFault, Loader, WriteFault, write_rows};
-use vx_views::ChunkedRows;
+use vx_views::Rows;
 
 const SMALL: &str =
     r#"{"relations":[{"name":"w","columns":[{"name":"a","type":"int"},{"name":"b","type":"text"}],"keys":[["a"]],"order":["b"]}]}"#;
@@ -78,7 +78,7 @@ fn again(alloc: Global, text: &[u8]) -> Result<Vec<u8>, Stopped> {
     }
     let mut writer = Real::new(&mut written);
     let count = database.rows(0).len();
-    let rows = ChunkedRows::of(alloc, database.table(0), 0, count)?;
+    let rows = Rows::of(alloc, database.table(0), 0, count)?;
     write_rows(alloc, catalog.get(0).names(), &rows, &mut writer)?;
     Ok(written)
 }

@@ -9,7 +9,7 @@ use std::alloc::{AllocError, Global};
 use std::process::Abort;
 use std::test::Fail;
 use test_tables::TYPES;
-use vx_rows::{Cell, Rows};
+use vx_rows::{Cell, Table};
 
 // What stands in the rows after each growth.
 const GROWN: [(i64, &str); 7] = [
@@ -23,7 +23,7 @@ const GROWN: [(i64, &str); 7] = [
 ];
 
 // Whether a row has these values.
-fn has(rows: &Rows, i: usize, values: (i64, &str)) -> bool
+fn has(rows: &Table, i: usize, values: (i64, &str)) -> bool
     requires row { i < length rows.now.rows }
     requires types { rows.now.types ≡ kind.Int ∷ kind.Text ∷ [] }
 {
@@ -34,7 +34,7 @@ fn has(rows: &Rows, i: usize, values: (i64, &str)) -> bool
 }
 
 // Whether the rows are a beginning of those that stand after each growth. It takes no memory.
-fn are_front(rows: &Rows) -> bool
+fn are_front(rows: &Table) -> bool
     requires { rows.now.types ≡ kind.Int ∷ kind.Text ∷ [] }
 {
     if rows.len() > GROWN.len() {
@@ -49,17 +49,17 @@ fn are_front(rows: &Rows) -> bool
 }
 
 // Two rows to add from.
-fn two_rows(alloc: Global) -> Result<Rows, AllocError>
+fn two_rows(alloc: Global) -> Result<Table, AllocError>
     ensures { IfOk result (λ r. r.types ≡ kind.Int ∷ kind.Text ∷ []) }
 {
-    let mut rows = Rows::new(alloc, TYPES.as_slice())?;
+    let mut rows = Table::new(alloc, TYPES.as_slice())?;
     rows.push_cells(&[Cell::Int(7), Cell::Text("b")])?;
     rows.push_cells(&[Cell::Int(-5), Cell::Text("")])?;
     Ok(rows)
 }
 
 // Adds by the growing calls, one after the other.
-fn grow(rows: &mut Rows, two: &Rows) -> Result<(), AllocError>
+fn grow(rows: &mut Table, two: &Table) -> Result<(), AllocError>
     requires types { rows.old.types ≡ kind.Int ∷ kind.Text ∷ [] }
     requires others { two.now.types ≡ kind.Int ∷ kind.Text ∷ [] }
     requires two { length two.now.rows ≡ 2 }
@@ -74,11 +74,11 @@ fn grow(rows: &mut Rows, two: &Rows) -> Result<(), AllocError>
 }
 
 // The rows after each growth. Where a growth is refused, those before it stand.
-fn grown<R: Abort>(rt: &R, alloc: Global) -> Result<Rows, AllocError>
+fn grown<R: Abort>(rt: &R, alloc: Global) -> Result<Table, AllocError>
     ensures { IfOk result (λ r. r.types ≡ kind.Int ∷ kind.Text ∷ []) }
 {
     let two = two_rows(alloc)?;
-    let mut rows = Rows::new(alloc, TYPES.as_slice())?;
+    let mut rows = Table::new(alloc, TYPES.as_slice())?;
     assert!(rt; two.len() == 2);
     let answer = grow(&mut rows, &two);
     assert!(rt;
@@ -91,7 +91,7 @@ fn grown<R: Abort>(rt: &R, alloc: Global) -> Result<Rows, AllocError>
 }
 
 // The rows four times, taken out of a copy. Where that is refused, the copy stays as it was.
-fn four_times<R: Abort>(rt: &R, alloc: Global, rows: &Rows) -> Result<Rows, AllocError>
+fn four_times<R: Abort>(rt: &R, alloc: Global, rows: &Table) -> Result<Table, AllocError>
     requires { rows.now.types ≡ kind.Int ∷ kind.Text ∷ [] }
     ensures { IfOk result (λ r. r.types ≡ kind.Int ∷ kind.Text ∷ []) }
 {
@@ -106,7 +106,7 @@ fn four_times<R: Abort>(rt: &R, alloc: Global, rows: &Rows) -> Result<Rows, Allo
 }
 
 // Sorts and tests keys of so many rows that the sort needs memory of its own.
-fn order<R: Abort>(rt: &R, alloc: Global, rows: &Rows) -> Result<(), AllocError>
+fn order<R: Abort>(rt: &R, alloc: Global, rows: &Table) -> Result<(), AllocError>
     requires { rows.now.types ≡ kind.Int ∷ kind.Text ∷ [] }
 {
     let positions = rows.sorted_positions(alloc, &[0])?;

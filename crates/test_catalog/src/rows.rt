@@ -9,12 +9,12 @@ use std::collections::HashMap;
 use std::process::Abort;
 use std::test::Fail;
 use test_tables::{shown, table};
-use vx_rows::{Cell, ColType, Row, Rows};
+use vx_rows::{Cell, ColType, Row, Table};
 
 // Four rows, two of them with one text of more than one byte a character.
 const FOUR: [(i64, &str); 4] = [(i64::MIN, ""), (i64::MAX, "aä€😀"), (0, "b"), (7, "aä€😀")];
 
-fn sample(alloc: Global) -> Result<Rows, AllocError>
+fn sample(alloc: Global) -> Result<Table, AllocError>
     ensures { IfOk result (λ r. r.types ≡ kind.Int ∷ kind.Text ∷ []) }
 {
     table(alloc, &FOUR)
@@ -27,14 +27,14 @@ const GROWN: &str =
     "-9223372036854775808 '';0 'b';7 'aä€😀';-9223372036854775808 '';7 'aä€😀';7 'aä€😀';9223372036854775807 'aä€😀';";
 
 // Compares rows, as text, with a text.
-fn compare<R: Abort>(rt: &R, alloc: Global, rows: &Rows, text: &str) -> Result<(), Fail> {
+fn compare<R: Abort>(rt: &R, alloc: Global, rows: &Table, text: &str) -> Result<(), Fail> {
     let all = shown(alloc, rows)?;
     assert_eq!(rt; all.as_str(), text);
     Ok(())
 }
 
 // Pushes a row behind those of the sample.
-fn push<R: Abort>(rt: &R, alloc: Global, rows: &mut Rows) -> Result<(), Fail>
+fn push<R: Abort>(rt: &R, alloc: Global, rows: &mut Table) -> Result<(), Fail>
     requires { rows.old.types ≡ kind.Int ∷ kind.Text ∷ [] }
     ensures { rows.new.types ≡ rows.old.types }
 {
@@ -46,7 +46,7 @@ fn push<R: Abort>(rt: &R, alloc: Global, rows: &mut Rows) -> Result<(), Fail>
 }
 
 // Keeps the first row, and adds rows of others behind it.
-fn grow(rows: &mut Rows, others: &Rows) -> Result<(), AllocError>
+fn grow(rows: &mut Table, others: &Table) -> Result<(), AllocError>
     requires types { others.now.types ≡ rows.old.types }
     requires many { length others.now.rows ≡ 4 }
 {
@@ -58,7 +58,7 @@ fn grow(rows: &mut Rows, others: &Rows) -> Result<(), AllocError>
 }
 
 // Takes the rows that have grown.
-fn take_all<R: Abort>(rt: &R, alloc: Global, rows: &mut Rows) -> Result<(), Fail> {
+fn take_all<R: Abort>(rt: &R, alloc: Global, rows: &mut Table) -> Result<(), Fail> {
     let taken = rows.take(alloc)?;
     assert_eq!(rt; taken.len(), 7);
     assert_eq!(rt; rows.len(), 0);
@@ -83,7 +83,7 @@ fn columns_are_projected(rt: HostRuntime) -> Result<(), Fail> {
     let alloc = rt.alloc();
     let rows = sample(alloc)?;
     assert_eq!(rt; rows.len(), 4);
-    let mut texts = Rows::new(alloc, &[ColType::Text, ColType::Int, ColType::Text])?;
+    let mut texts = Table::new(alloc, &[ColType::Text, ColType::Int, ColType::Text])?;
     texts.append_projected(&rows, 1, &[1, 0, 1])?;
     compare(&rt, alloc, &texts, "'aä€😀' 9223372036854775807 'aä€😀';")
 }
@@ -97,7 +97,7 @@ fn rows_are_joined(rt: HostRuntime) -> Result<(), Fail> {
     let rows = sample(alloc)?;
     assert_eq!(rt; rows.len(), 4);
     let both = [ColType::Int, ColType::Text, ColType::Int, ColType::Text];
-    let mut joined = Rows::new(alloc, &both)?;
+    let mut joined = Table::new(alloc, &both)?;
     joined.append_joined(&rows, 0, &rows, 2)?;
     joined.append_joined_at(&rows, &[2, 3], &rows, &[3, 0])?;
     compare(&rt, alloc, &joined, JOINED)
@@ -107,7 +107,7 @@ fn rows_are_joined(rt: HostRuntime) -> Result<(), Fail> {
 fn compare_order<R: Abort>(
     rt: &R,
     alloc: Global,
-    rows: &Rows,
+    rows: &Table,
     columns: &[usize],
     order: &[usize],
 ) -> Result<(), Fail>
@@ -139,7 +139,7 @@ fn keys_clash(rt: HostRuntime) -> Result<(), Fail> {
 }
 
 // Notes the first row of each text, and leaves the last text as the key.
-fn note(rows: &Rows, key: &mut Row, seen: &mut HashMap<Row, usize>) -> Result<(), AllocError>
+fn note(rows: &Table, key: &mut Row, seen: &mut HashMap<Row, usize>) -> Result<(), AllocError>
     requires { rows.now.types ≡ kind.Int ∷ kind.Text ∷ [] }
 {
     for i in 0..rows.len() {

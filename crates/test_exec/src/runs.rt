@@ -5,14 +5,14 @@ use std::alloc::{AllocError, Global};
 use std::test::Fail;
 use vx_exec::{Ran, RunFault, can_run, run_rounds, run_scheduled};
 use vx_rows::Cell;
-use vx_views::ChunkedRows;
+use vx_views::Rows;
 
 // One worker scans.
 const WHOLE: &str =
     r#"{"root":{"op":"scan","relation":"t","mode":"whole","size":"one","claim":{"part":"one","order":["id"],"keys":[["id"]]}},"total":true}"#;
 
 // The numbers in the first column.
-fn ids(alloc: Global, rows: &ChunkedRows) -> Result<Vec<i64>, AllocError> {
+fn ids(alloc: Global, rows: &Rows) -> Result<Vec<i64>, AllocError> {
     let mut ids = Vec::new(alloc);
     if rows.types().len() == 0 {
         return Ok(ids);

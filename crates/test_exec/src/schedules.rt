@@ -5,7 +5,7 @@ use std::alloc::{AllocError, Global};
 use std::test::Fail;
 use vx_exec::{Ran, can_run, run_scheduled};
 use vx_rows::Cell;
-use vx_views::ChunkedRows;
+use vx_views::Rows;
 
 // How many schedules are drawn.
 const SCHEDULES: u32 = 1000;
@@ -36,7 +36,7 @@ impl Draws {
 }
 
 // Whether this row has this number, this text, and 7.
-fn is_row(rows: &ChunkedRows, index: usize, id: i64, key: &str) -> bool {
+fn is_row(rows: &Rows, index: usize, id: i64, key: &str) -> bool {
     if index >= rows.len() || rows.types().len() != 3 {
         return false;
     }
@@ -53,7 +53,7 @@ fn is_row(rows: &ChunkedRows, index: usize, id: i64, key: &str) -> bool {
 }
 
 // Whether these are the two selected rows, in either order.
-fn are_selected(rows: &ChunkedRows) -> bool {
+fn are_selected(rows: &Rows) -> bool {
     if rows.len() != 2 {
         return false;
     }

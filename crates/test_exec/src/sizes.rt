@@ -5,7 +5,7 @@ use std::alloc::{AllocError, Global};
 use std::test::Fail;
 use vx_exec::{Ran, Setup, can_run, run_rounds};
 use vx_rows::Cell;
-use vx_views::ChunkedRows;
+use vx_views::Rows;
 
 // Rows of the table, every second of which has the number 7.
 const ROWS: i64 = 5000;
@@ -44,7 +44,7 @@ fn sized(alloc: Global, workers: u32, packet: u32, morsel: u32) -> Result<Setup,
 }
 
 // The number of a row, if its other cells belong to it.
-fn number_of(alloc: Global, rows: &ChunkedRows, i: usize) -> Result<Option<i64>, AllocError> {
+fn number_of(alloc: Global, rows: &Rows, i: usize) -> Result<Option<i64>, AllocError> {
     if rows.types().len() != 3 || i >= rows.len() {
         return Ok(None);
     }
@@ -62,7 +62,7 @@ fn number_of(alloc: Global, rows: &ChunkedRows, i: usize) -> Result<Option<i64>,
 }
 
 // The numbers of rows, in rising order.
-fn numbers_of(alloc: Global, rows: &ChunkedRows) -> Result<Vec<i64>, AllocError> {
+fn numbers_of(alloc: Global, rows: &Rows) -> Result<Vec<i64>, AllocError> {
     let mut numbers = Vec::new(alloc);
     for i in 0..rows.len() {
         if let Some(id) = number_of(alloc, rows, i)? {

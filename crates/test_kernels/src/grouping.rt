@@ -6,7 +6,7 @@ use std::alloc::{AllocError, Global};
 use std::process::Abort;
 use std::test::Fail;
 use test_tables::{shown, table};
-use vx_match::{GroupFault, grouped};
+use vx_keys::{GroupFault, grouped};
 use vx_plan::Aggregate;
 
 // The groups of a table, as text, or that a number of theirs does not fit.

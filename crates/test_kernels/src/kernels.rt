@@ -8,7 +8,7 @@ use std::process::Abort;
 use std::test::Fail;
 use test_tables::{shown, table};
 use vx_algebra::{projected, sorted, united};
-use vx_match::{distinct, hash_join};
+use vx_keys::{distinct, hash_join};
 
 // A kernel over one input and some of its columns.
 #[derive(Clone, Copy)]

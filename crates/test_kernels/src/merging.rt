@@ -8,19 +8,19 @@ use std::alloc::{AllocError, Global};
 use std::process::Abort;
 use std::test::Fail;
 use test_tables::{shown, table};
-use vx_match::{Merge, MergeFault, merge_join};
-use vx_rows::{ColType, Rows};
+use vx_keys::{Merge, MergeFault, merge_join};
+use vx_rows::{ColType, Table};
 
 const TYPES: [ColType; 4] = [ColType::Int, ColType::Text, ColType::Int, ColType::Text];
 
 // The rows of a table.
-type Table<'a> = &'a [(i64, &'a str)];
+type Pairs<'a> = &'a [(i64, &'a str)];
 
 // The merge join of two tables on the same columns of both, as text, or that one falls.
 fn merged(
     alloc: Global,
-    left: Table<'_>,
-    right: Table<'_>,
+    left: Pairs<'_>,
+    right: Pairs<'_>,
     columns: &[usize],
 ) -> Result<String, AllocError>
     requires { AreColumns 2 columns.now }
@@ -38,7 +38,7 @@ fn merged(
 fn compare<R: Abort>(
     rt: &R,
     alloc: Global,
-    cases: &[(Table<'_>, Table<'_>, &str)],
+    cases: &[(Pairs<'_>, Pairs<'_>, &str)],
     columns: &[usize],
 ) -> Result<(), Fail>
     requires { AreColumns 2 columns.now }
@@ -50,7 +50,7 @@ fn compare<R: Abort>(
     Ok(())
 }
 
-const WITH_EQUAL_KEYS: [(Table<'_>, Table<'_>, &str); 1] = [(
+const WITH_EQUAL_KEYS: [(Pairs<'_>, Pairs<'_>, &str); 1] = [(
     &[
         (i64::MIN, "a"),
         (-1, "b"),
@@ -78,13 +78,13 @@ const WORDS: [(i64, &str); 4] = [(1, ""), (2, "ke"), (1, "key"), (2, "key")];
 
 const MORE_WORDS: [(i64, &str); 5] = [(5, "k"), (1, "key"), (1, "key"), (3, "key"), (2, "keys")];
 
-const BY_TEXT: [(Table<'_>, Table<'_>, &str); 1] = [(
+const BY_TEXT: [(Pairs<'_>, Pairs<'_>, &str); 1] = [(
     &WORDS,
     &MORE_WORDS,
     "1 'key' 1 'key';1 'key' 1 'key';1 'key' 3 'key';2 'key' 1 'key';2 'key' 1 'key';2 'key' 3 'key';",
 )];
 
-const BY_BOTH: [(Table<'_>, Table<'_>, &str); 1] = [(
+const BY_BOTH: [(Pairs<'_>, Pairs<'_>, &str); 1] = [(
     &WORDS,
     &MORE_WORDS,
     "1 'key' 1 'key';1 'key' 1 'key';",
@@ -100,7 +100,7 @@ const RISING: [(i64, &str); 2] = [(1, "a"), (2, "b")];
 
 const FALLING: [(i64, &str); 3] = [(3, "c"), (4, "d"), (1, "e")];
 
-const WITH_NO_ROWS: [(Table<'_>, Table<'_>, &str); 3] = [
+const WITH_NO_ROWS: [(Pairs<'_>, Pairs<'_>, &str); 3] = [
     (&[], &RISING, ""),
     (&RISING, &[], ""),
     (&[], &[], ""),
@@ -111,7 +111,7 @@ fn a_merge_with_no_rows_is_empty(rt: HostRuntime) -> Result<(), Fail> {
     compare(&rt, rt.alloc(), &WITH_NO_ROWS, &[0])
 }
 
-const WITH_ONE_THAT_FALLS: [(Table<'_>, Table<'_>, &str); 5] = [
+const WITH_ONE_THAT_FALLS: [(Pairs<'_>, Pairs<'_>, &str); 5] = [
     (&FALLING, &RISING, "falls"),
     (&RISING, &FALLING, "falls"),
     (&[], &FALLING, "falls"),
@@ -125,7 +125,7 @@ fn an_input_that_falls_is_told(rt: HostRuntime) -> Result<(), Fail> {
 }
 
 // Adds the rows of a table.
-fn add(alloc: Global, rows: &mut Rows, more: Table<'_>) -> Result<(), AllocError>
+fn add(alloc: Global, rows: &mut Table, more: Pairs<'_>) -> Result<(), AllocError>
     requires { rows.old.types ≡ kind.Int ∷ kind.Text ∷ [] }
     ensures types { rows.new.types ≡ rows.old.types }
     ensures more { length rows.old.rows ≤ length rows.new.rows }
@@ -135,13 +135,18 @@ fn add(alloc: Global, rows: &mut Rows, more: Table<'_>) -> Result<(), AllocError
 }
 
 // The join of the first left row with the run, as text.
-fn joined_run(alloc: Global, merge: &Merge, left: &Rows, right: &Rows) -> Result<String, AllocError>
+fn joined_run(
+    alloc: Global,
+    merge: &Merge,
+    left: &Table,
+    right: &Table,
+) -> Result<String, AllocError>
     requires row { 0 < length left.now.rows }
     requires there { merge.now.end ≤ length right.now.rows }
     requires left { left.now.types ≡ kind.Int ∷ kind.Text ∷ [] }
     requires right { right.now.types ≡ kind.Int ∷ kind.Text ∷ [] }
 {
-    let mut joined = Rows::new(alloc, &TYPES)?;
+    let mut joined = Table::new(alloc, &TYPES)?;
     merge.push_run(left, 0, right, &mut joined)?;
     shown(alloc, &joined)
 }
@@ -151,8 +156,8 @@ fn goes_on<R: Abort>(
     rt: &R,
     alloc: Global,
     merge: &mut Merge,
-    left: &Rows,
-    right: &mut Rows,
+    left: &Table,
+    right: &mut Table,
 ) -> Result<(), Fail>
     requires lefts { merge.old.lefts ≡ 0 ∷ [] }
     requires rights { merge.old.rights ≡ 0 ∷ [] }

@@ -4,7 +4,7 @@ ghost use Rattle.std.specs.Prelude.{◌≡◌, ◌<◌, [], ◌∷◌, length, I
 ghost use Rattle.vx_values.specs.declared.value.ColType.TheVariants as kind;
 
 use std::alloc::{AllocError, Global};
-use vx_rows::{Cell, ColType, Rows, Value};
+use vx_rows::{Cell, ColType, Table, Value};
 
 /// A number and a text.
 pub const TYPES: [ColType; 2] = [ColType::Int, ColType::Text];
@@ -18,7 +18,7 @@ fn show_cell(text: &mut String, cell: Cell<'_>) -> Result<(), AllocError> {
 }
 
 // Adds the values of a row with a space between them, and a semicolon.
-fn show_row(text: &mut String, rows: &Rows, row: usize) -> Result<(), AllocError>
+fn show_row(text: &mut String, rows: &Table, row: usize) -> Result<(), AllocError>
     requires { row < length rows.now.rows }
 {
     for column in 0..rows.types().len() {
@@ -31,7 +31,7 @@ fn show_row(text: &mut String, rows: &Rows, row: usize) -> Result<(), AllocError
 }
 
 /// The rows as text: numbers as they are, texts in quotes, a space between values, a semicolon behind each row.
-pub fn shown(alloc: Global, rows: &Rows) -> Result<String, AllocError> {
+pub fn shown(alloc: Global, rows: &Table) -> Result<String, AllocError> {
     let mut text = String::new(alloc);
     for row in 0..rows.len() {
         show_row(&mut text, rows, row)?;
@@ -40,7 +40,7 @@ pub fn shown(alloc: Global, rows: &Rows) -> Result<String, AllocError> {
 }
 
 // Adds a number and a text.
-fn add(alloc: Global, rows: &mut Rows, number: i64, text: &str) -> Result<(), AllocError>
+fn add(alloc: Global, rows: &mut Table, number: i64, text: &str) -> Result<(), AllocError>
     ensures { rows.new.types ≡ rows.old.types }
 {
     let values = vec![in alloc;
@@ -54,10 +54,10 @@ fn add(alloc: Global, rows: &mut Rows, number: i64, text: &str) -> Result<(), Al
 }
 
 /// Rows of a number and a text.
-pub fn table(alloc: Global, entries: &[(i64, &str)]) -> Result<Rows, AllocError>
+pub fn table(alloc: Global, entries: &[(i64, &str)]) -> Result<Table, AllocError>
     ensures { IfOk result (λ r. r.types ≡ kind.Int ∷ kind.Text ∷ []) }
 {
-    let mut rows = Rows::new(alloc, TYPES.as_slice())?;
+    let mut rows = Table::new(alloc, TYPES.as_slice())?;
     for entry in entries {
         add(alloc, &mut rows, entry.0, entry.1)?;
     }

@@ -5,8 +5,8 @@ use std::alloc::{AllocError, Global};
 use std::sync::Arc;
 use std::test::Fail;
 use test_tables::table;
-use vx_rows::{ColType, Rows};
-use vx_views::{Between, Chunk, Seen};
+use vx_rows::{ColType, Table};
+use vx_views::{Between, Chunk, PositionsRef};
 
 #[test]
 fn a_cut_shows_its_rows(rt: HostRuntime) -> Result<(), Fail> {
@@ -152,8 +152,8 @@ fn number(chunk: &Chunk, k: usize) -> Option<i64> {
     }
     let (numbers, seen) = chunk.numbers(0)?;
     match seen {
-        Seen::Range(from, _) => numbers.get(from.checked_add(k)?).copied(),
-        Seen::Listed(positions) => numbers.get(*positions.get(k)?).copied(),
+        PositionsRef::Range(from, _) => numbers.get(from.checked_add(k)?).copied(),
+        PositionsRef::Listed(positions) => numbers.get(*positions.get(k)?).copied(),
     }
 }
 

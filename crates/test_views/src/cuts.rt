@@ -8,11 +8,11 @@ ghost use Rattle.vx_rows.specs.View.{ArePositions};
 use std::alloc::{AllocError, Global};
 use std::sync::Arc;
 use test_tables::{shown, table};
-use vx_rows::{Cell, Rows};
+use vx_rows::{Cell, Table};
 use vx_views::Chunk;
 
 /// A table of five rows, shared.
-pub fn five(alloc: Global) -> Result<Arc<Rows>, AllocError>
+pub fn five(alloc: Global) -> Result<Arc<Table>, AllocError>
     ensures { IfOk result (λ a. (arc_value a).types ≡ kind.Int ∷ kind.Text ∷ []) }
 {
     let entries = [(1, "a"), (2, "b"), (3, "c"), (4, "d"), (5, "e")];
@@ -21,7 +21,7 @@ pub fn five(alloc: Global) -> Result<Arc<Rows>, AllocError>
 }
 
 /// All rows of a table.
-pub fn whole(alloc: Global, base: &Arc<Rows>) -> Result<Chunk, AllocError>
+pub fn whole(alloc: Global, base: &Arc<Table>) -> Result<Chunk, AllocError>
     ensures { IfOk result (λ c. c.types ≡ (arc_value base.now).types) }
 {
     let count = base.len();
@@ -86,7 +86,7 @@ pub fn cells(alloc: Global, chunk: &Chunk) -> Result<String, AllocError> {
 
 /// The rows as text, copied into a table first.
 pub fn copied(alloc: Global, chunk: &Chunk) -> Result<String, AllocError> {
-    let mut rows = Rows::new(alloc, chunk.types())?;
+    let mut rows = Table::new(alloc, chunk.types())?;
     chunk.copy_onto(alloc, &mut rows)?;
     shown(alloc, &rows)
 }

@@ -7,14 +7,14 @@ use crate::cuts::{all_below, cut, five, whole};
 use std::alloc::{AllocError, Global};
 use std::test::Fail;
 use test_tables::{shown, table};
-use vx_views::ChunkedRows;
+use vx_views::Rows;
 
 // The five rows in three chunks: two rows, none, and three.
-fn three_chunks(alloc: Global) -> Result<ChunkedRows, AllocError>
+fn three_chunks(alloc: Global) -> Result<Rows, AllocError>
     ensures { IfOk result (λ r. r.types ≡ kind.Int ∷ kind.Text ∷ []) }
 {
     let all = whole(alloc, &five(alloc)?)?;
-    let mut rows = ChunkedRows::new(alloc, all.types())?;
+    let mut rows = Rows::new(alloc, all.types())?;
     rows.push(cut(alloc, &all, 0, 2)?)?;
     rows.push(cut(alloc, &all, 2, 2)?)?;
     rows.push(cut(alloc, &all, 2, 5)?)?;
@@ -22,17 +22,12 @@ fn three_chunks(alloc: Global) -> Result<ChunkedRows, AllocError>
 }
 
 // The rows as text.
-fn text(alloc: Global, rows: &ChunkedRows) -> Result<String, AllocError> {
+fn text(alloc: Global, rows: &Rows) -> Result<String, AllocError> {
     shown(alloc, &rows.gathered(alloc)?)
 }
 
 // The rows from `from` up to `to`, as far as there are such.
-fn part(
-    alloc: Global,
-    rows: &ChunkedRows,
-    from: usize,
-    to: usize,
-) -> Result<ChunkedRows, AllocError> {
+fn part(alloc: Global, rows: &Rows, from: usize, to: usize) -> Result<Rows, AllocError> {
     let to = to.min(rows.len());
     let from = from.min(to);
     Ok(rows.slice(alloc, from, to)?)
@@ -61,11 +56,11 @@ fn a_cut_goes_over_the_ends_of_chunks(rt: HostRuntime) -> Result<(), Fail> {
 }
 
 // The rows at some places, or none where a place is too great.
-fn at(alloc: Global, rows: &ChunkedRows, places: &[usize]) -> Result<ChunkedRows, AllocError> {
+fn at(alloc: Global, rows: &Rows, places: &[usize]) -> Result<Rows, AllocError> {
     if all_below(places, rows.len()) {
         return Ok(rows.at(alloc, places)?);
     }
-    Ok(ChunkedRows::new(alloc, rows.types())?)
+    Ok(Rows::new(alloc, rows.types())?)
 }
 
 #[test]
@@ -83,7 +78,7 @@ fn places_may_lie_in_any_chunk(rt: HostRuntime) -> Result<(), Fail> {
 }
 
 // These columns, or all where one is too great.
-fn columns(alloc: Global, rows: ChunkedRows, cols: &[usize]) -> Result<ChunkedRows, AllocError> {
+fn columns(alloc: Global, rows: Rows, cols: &[usize]) -> Result<Rows, AllocError> {
     if all_below(cols, rows.types().len()) {
         return Ok(rows.project(alloc, cols)?);
     }
@@ -113,11 +108,11 @@ fn appended_rows_stand_behind(rt: HostRuntime) -> Result<(), Fail> {
 }
 
 // The rows of a shared table from `from` up to `to`, as far as there are such.
-fn of(alloc: Global, from: usize, to: usize) -> Result<ChunkedRows, AllocError> {
+fn of(alloc: Global, from: usize, to: usize) -> Result<Rows, AllocError> {
     let base = five(alloc)?;
     let to = to.min(base.len());
     let from = from.min(to);
-    Ok(ChunkedRows::of(alloc, &base, from, to)?)
+    Ok(Rows::of(alloc, &base, from, to)?)
 }
 
 #[test]
@@ -133,7 +128,7 @@ fn a_part_of_a_table_is_one_chunk(rt: HostRuntime) -> Result<(), Fail> {
 #[test]
 fn a_table_becomes_one_chunk(rt: HostRuntime) -> Result<(), Fail> {
     let alloc = rt.alloc();
-    let mut rows = ChunkedRows::of_table(alloc, table(alloc, &[(7, "x"), (8, "y")])?)?;
+    let mut rows = Rows::of_table(alloc, table(alloc, &[(7, "x"), (8, "y")])?)?;
     assert_eq!(rt; rows.chunks().len(), 1);
     assert_eq!(rt; text(alloc, &rows)?.as_str(), "7 'x';8 'y';");
     rows.clear();

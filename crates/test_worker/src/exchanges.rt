@@ -11,18 +11,18 @@ use std::test::Fail;
 use vx_exchange::{Collector, Deal, Receiver, Sender, Sends};
 use vx_ops::{Code, Fault, Got, Polled, Source, Want};
 use vx_ports::{Body, Ending, Packet};
-use vx_rows::{ColType, Rows, Value};
-use vx_views::ChunkedRows;
+use vx_rows::{ColType, Table, Value};
+use vx_views::Rows;
 
 // Rows of one number each: 1, 2, and so on.
-fn numbers(alloc: Global, n: i64) -> Result<ChunkedRows, AllocError>
+fn numbers(alloc: Global, n: i64) -> Result<Rows, AllocError>
     ensures { IfOk result (λ rows. rows.types ≡ ExchangeKind.Int ∷ []) }
 {
-    let mut rows = Rows::new(alloc, &[ColType::Int])?;
+    let mut rows = Table::new(alloc, &[ColType::Int])?;
     for i in 0..n {
         rows.push(&[Value::Int(i + 1)])?;
     }
-    Ok(ChunkedRows::of_table(alloc, rows)?)
+    Ok(Rows::of_table(alloc, rows)?)
 }
 
 // A receiver's turn with a packet, or with none.
@@ -75,23 +75,11 @@ fn ends_after_both_producers(rt: HostRuntime) -> Result<(), Fail> {
     let first = turn(&rt, &mut receiver, Some(Packet::of_rows(3, 0, 4, rows)));
     assert!(rt; matches!(first, Polled::Gave(_)));
     assert_eq!(rt; receiver.wants(), Want::Packet(1));
-    let last = Packet::closing(
-        3,
-        1,
-        4,
-        Ending::Last,
-        ChunkedRows::new(alloc, &[ColType::Int])?,
-    );
+    let last = Packet::closing(3, 1, 4, Ending::Last, Rows::new(alloc, &[ColType::Int])?);
     assert!(rt; matches!(turn(&rt, &mut receiver, Some(last)), Polled::Waiting));
     assert_eq!(rt; receiver.wants(), Want::Packet(0));
     assert!(rt; matches!(turn(&rt, &mut receiver, None), Polled::Waiting));
-    let last = Packet::closing(
-        3,
-        0,
-        4,
-        Ending::Last,
-        ChunkedRows::new(alloc, &[ColType::Int])?,
-    );
+    let last = Packet::closing(3, 0, 4, Ending::Last, Rows::new(alloc, &[ColType::Int])?);
     assert!(rt; matches!(turn(&rt, &mut receiver, Some(last)), Polled::End));
     assert!(rt; matches!(turn(&rt, &mut receiver, None), Polled::End));
     Ok(())

@@ -9,18 +9,18 @@ use std::alloc::{AllocError, Global};
 use std::process::Abort;
 use std::test::Fail;
 use vx_ops::{Fault, Got, Polled, Sort, Source, Want};
-use vx_rows::{Cell, ColType, Rows, Value};
-use vx_views::ChunkedRows;
+use vx_rows::{Cell, ColType, Table, Value};
+use vx_views::Rows;
 
 // One row for each of these numbers.
-fn rows_of(alloc: Global, numbers: &[i64]) -> Result<ChunkedRows, AllocError>
+fn rows_of(alloc: Global, numbers: &[i64]) -> Result<Rows, AllocError>
     ensures { IfOk result (λ rows. rows.types ≡ ExchangeKind.Int ∷ []) }
 {
-    let mut rows = Rows::new(alloc, &[ColType::Int])?;
+    let mut rows = Table::new(alloc, &[ColType::Int])?;
     for number in numbers {
         rows.push(&[Value::Int(*number)])?;
     }
-    Ok(ChunkedRows::of_table(alloc, rows)?)
+    Ok(Rows::of_table(alloc, rows)?)
 }
 
 // Whether the answer is rows of one number each, and these numbers.

@@ -12,8 +12,8 @@ use std::test::Fail;
 use vx_exchange::Collector;
 use vx_ops::{Code, Fault, Scan};
 use vx_ports::{Packet, Put};
-use vx_rows::{ColType, Rows, Value};
-use vx_views::ChunkedRows;
+use vx_rows::{ColType, Table, Value};
+use vx_views::Rows;
 use vx_worker::{Morsels, Outcome, Stepped, Tree, Wires, Worker};
 
 // Numbers from `next` to below `end`, and no packet.
@@ -53,7 +53,7 @@ impl Wires for Numbers {
 #[derive(Drop)]
 struct Pages {
     alloc: Global,
-    rows: Rows,
+    rows: Table,
     refused: u64,
 }
 
@@ -62,12 +62,12 @@ impl Morsels for Pages {
 
     ghost types_of = { λ s _. s.rows.types };
 
-    fn morsel(&self, _scan: u32, number: u64) -> Result<ChunkedRows, AllocError> {
+    fn morsel(&self, _scan: u32, number: u64) -> Result<Rows, AllocError> {
         if number == self.refused {
             return Err(AllocError);
         }
         let copy = self.rows.copy(self.alloc)?;
-        Ok(ChunkedRows::of_table(self.alloc, copy)?)
+        Ok(Rows::of_table(self.alloc, copy)?)
     }
 }
 
@@ -75,7 +75,7 @@ impl Morsels for Pages {
 fn three_rows(alloc: Global, refused: u64) -> Result<Pages, AllocError>
     ensures { IfOk result (λ s. s.rows.types ≡ ExchangeKind.Int ∷ []) }
 {
-    let mut rows = Rows::new(alloc, &[ColType::Int])?;
+    let mut rows = Table::new(alloc, &[ColType::Int])?;
     for i in 0..3 {
         rows.push(&[Value::Int(i)])?;
     }

@@ -5,10 +5,10 @@ ghost use Rattle.vx_values.specs.Values.{value_at};
 ghost use Rattle.vx_values.specs.ValueView.{cell_val};
 ghost use Rattle.vx_rows.specs.View.{row};
 
-use vx_rows::{Cell, Rows};
+use vx_rows::{Cell, Table};
 
 /// The value of row i at a column, and the number 0 where there is no such column, as the definitions have it.
-pub fn cell_or_zero(rows: &Rows, i: usize, column: usize) -> Cell<'_>
+pub fn cell_or_zero(rows: &Table, i: usize, column: usize) -> Cell<'_>
     requires { i < length rows.now.rows }
     ensures { cell_val result ≡ value_at (row rows.now i) column }
 {

@@ -21,7 +21,7 @@ use std::alloc::{AllocError, Global};
 use vx_plan_nodes::{Condition, Side};
 use vx_rows::{Cell, ColType, Value, compare_cells};
 use vx_values::Test;
-use vx_views::{Chunk, ChunkedRows, NumberTest, places_are_a_filter};
+use vx_views::{Chunk, NumberTest, Rows, places_are_a_filter};
 
 // A comparison of a number with a constant.
 #[derive(Clone, Copy)]
@@ -160,7 +160,7 @@ fn chosen_of(alloc: Global, conditions: &[Condition], chunk: &Chunk) -> Result<C
 // Adds the rows of chunks of which all conditions hold.
 fn add_chosen(
     alloc: Global,
-    found: &mut ChunkedRows,
+    found: &mut Rows,
     conditions: &[Condition],
     chunks: &[Chunk],
 ) -> Result<(), AllocError>
@@ -176,31 +176,23 @@ fn add_chosen(
 }
 
 /// The rows of which all conditions hold, in order. No cell is copied, and a chunk of which they hold throughout is handed on without positions.
-pub fn chosen(
-    alloc: Global,
-    conditions: &[Condition],
-    rows: &ChunkedRows,
-) -> Result<ChunkedRows, AllocError>
+pub fn chosen(alloc: Global, conditions: &[Condition], rows: &Rows) -> Result<Rows, AllocError>
     ensures types { IfOk result (λ r. r.types ≡ rows.now.types) }
     ensures rows { IfOk result (λ r. r.rows ≡ filter (passes (conditions_of conditions.now)) rows.now.rows) }
 {
-    let mut found = ChunkedRows::new(alloc, rows.types())?;
+    let mut found = Rows::new(alloc, rows.types())?;
     add_chosen(alloc, &mut found, conditions, rows.chunks())?;
     Ok(found)
 }
 
 /// The rows sorted on these columns; rows that agree on them stay in their order. They are gathered into one table, whose rows are seen by their positions.
-pub fn sorted_chunks(
-    alloc: Global,
-    rows: &ChunkedRows,
-    columns: &[usize],
-) -> Result<ChunkedRows, AllocError>
+pub fn sorted_chunks(alloc: Global, rows: &Rows, columns: &[usize]) -> Result<Rows, AllocError>
     requires { AreColumns (length rows.now.types) columns.now }
     ensures types { IfOk result (λ r. r.types ≡ rows.now.types) }
     ensures rows { IfOk result (λ r. r.rows ≡ sort_on columns.now rows.now.rows) }
 {
     let table = rows.gathered(alloc)?;
     let order = table.sorted_positions(alloc, columns)?;
-    let risen = ChunkedRows::of_table(alloc, table)?;
+    let risen = Rows::of_table(alloc, table)?;
     Ok(risen.at(alloc, order.as_slice())?)
 }

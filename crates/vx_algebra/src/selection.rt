@@ -11,7 +11,7 @@ use crate::cells::cell_or_zero;
 use std::alloc::{AllocError, Global};
 use std::cmp::Ordering;
 use vx_plan_nodes::{Condition, Side};
-use vx_rows::{Cell, Rows, compare_cells};
+use vx_rows::{Cell, Table, compare_cells};
 use vx_values::Test;
 
 // What a test says of a comparison.
@@ -29,7 +29,7 @@ pub(crate) fn answer(test: Test, order: Ordering) -> bool
 }
 
 // The value of a condition's right side.
-fn right_side<'a>(right: &'a Side, rows: &'a Rows, i: usize) -> Cell<'a>
+fn right_side<'a>(right: &'a Side, rows: &'a Table, i: usize) -> Cell<'a>
     requires { i < length rows.now.rows }
     ensures { cell_val result ≡ side (side_of right.entry.now) (row rows.entry.now i) }
 {
@@ -40,7 +40,7 @@ fn right_side<'a>(right: &'a Side, rows: &'a Rows, i: usize) -> Cell<'a>
 }
 
 /// Whether all conditions hold of row i.
-pub fn passes(conditions: &[Condition], rows: &Rows, i: usize) -> bool
+pub fn passes(conditions: &[Condition], rows: &Table, i: usize) -> bool
     requires { i < length rows.now.rows }
     ensures { result ≡ passes (conditions_of conditions.now) (row rows.now i) }
 {
@@ -55,7 +55,7 @@ pub fn passes(conditions: &[Condition], rows: &Rows, i: usize) -> bool
 }
 
 // Adds the rows of others from `from` up to `to`, where there are any.
-fn append_run(kept: &mut Rows, rows: &Rows, from: usize, to: usize) -> Result<(), AllocError>
+fn append_run(kept: &mut Table, rows: &Table, from: usize, to: usize) -> Result<(), AllocError>
     requires same_types { rows.now.types ≡ kept.old.types }
     requires order { from ≤ to }
     requires there { to ≤ length rows.now.rows }
@@ -72,13 +72,13 @@ fn append_run(kept: &mut Rows, rows: &Rows, from: usize, to: usize) -> Result<()
 pub fn passing(
     alloc: Global,
     conditions: &[Condition],
-    rows: &Rows,
-) -> Result<Option<Rows>, AllocError>
+    rows: &Table,
+) -> Result<Option<Table>, AllocError>
     ensures types { IfOk result (λ r. (unwrap_or r rows.now).types ≡ rows.now.types) }
     ensures rows { IfOk result (λ r. (unwrap_or r rows.now).rows ≡ filter (passes (conditions_of conditions.now)) rows.now.rows) }
 {
     let n = rows.len();
-    let mut kept = Rows::new(alloc, rows.types())?;
+    let mut kept = Table::new(alloc, rows.types())?;
     // the first row that was not looked at or passed, but is not yet kept
     let mut start = 0;
     for i in 0..n {

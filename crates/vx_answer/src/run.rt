@@ -18,7 +18,7 @@ use vx_exec::{Ran, Setup, run_rounds};
 use vx_plan::TypedPlan;
 use vx_refusals::Refusal;
 use vx_tables::{Tables, load_tables};
-use vx_views::ChunkedRows;
+use vx_views::Rows;
 
 // The most rounds of a run.
 const MAX_ROUNDS: u64 = 1_000_000_000;
@@ -43,7 +43,7 @@ fn setup_of(alloc: Global, setting: &Setting) -> Result<Setup, AllocError>
 }
 
 /// The text of rows under the names of a plan's output.
-pub fn text_of(alloc: Global, plan: &TypedPlan, rows: &ChunkedRows) -> Result<Vec<u8>, AllocError>
+pub fn text_of(alloc: Global, plan: &TypedPlan, rows: &Rows) -> Result<Vec<u8>, AllocError>
     ensures { IfOk result (λ v. v.items ≡ csv_text (columns (resolved_of plan.now).root).names rows.now.rows) }
 {
     let names = plan.root().head().columns.names.as_slice();

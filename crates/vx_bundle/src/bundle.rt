@@ -17,7 +17,7 @@ use vx_json::{Misread, get_member, get_text, test_members};
 
 // A relation's name with its text.
 #[derive(Clone, Copy)]
-struct Table<'v> {
+struct TableText<'v> {
     name: &'v str,
     text: &'v str,
 }
@@ -28,7 +28,7 @@ pub struct Bundle<'v> {
     command: Command,
     catalog: &'v Value,
     plan: &'v Value,
-    tables: Vec<Table<'v>>,
+    tables: Vec<TableText<'v>>,
     setting: Setting,
 }
 
@@ -125,19 +125,19 @@ fn read_setting(alloc: Global, value: &Value) -> Result<Setting, Misread>
 fn read_each_table<'v>(
     alloc: Global,
     members: &'v Map<String, Value>,
-) -> Result<Vec<Table<'v>>, Misread>
+) -> Result<Vec<TableText<'v>>, Misread>
     ensures { Parses (λ v. map table_form v.items) result (each_member as_str [] (members_view members.now.entries)) }
 {
     let mut tables = Vec::new(alloc);
     for (name, value) in members.iter() {
         let text = get_text(value)?;
         let name = name.as_str();
-        tables.push(Table { name, text })?;
+        tables.push(TableText { name, text })?;
     }
     Ok(tables)
 }
 
-fn read_tables<'v>(alloc: Global, value: &'v Value) -> Result<Vec<Table<'v>>, Misread>
+fn read_tables<'v>(alloc: Global, value: &'v Value) -> Result<Vec<TableText<'v>>, Misread>
     ensures { Parses (λ v. map table_form v.items) result (or_default [] (members_in as_str) (get (codes "tables") (view value.now))) }
 {
     match value.get("tables") {
@@ -193,7 +193,7 @@ pub fn value_of_text(alloc: Global, bytes: &[u8]) -> Result<Option<Value>, Alloc
 }
 
 // The first table of a name.
-fn find_table<'t, 'v>(tables: &'t [Table<'v>], name: &str) -> Option<&'t Table<'v>>
+fn find_table<'t, 'v>(tables: &'t [TableText<'v>], name: &str) -> Option<&'t TableText<'v>>
     ensures { option_map (λ t. t.now) result ≡ find (λ t. bytes_eq t.name.now name.now) tables.now }
 {
     tables.iter().find(|table| table.name == name)

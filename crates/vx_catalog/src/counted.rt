@@ -12,7 +12,7 @@ use std::io;
 use std::io::{ErrorKind, Read};
 use std::marker::{Brand, PhantomData};
 use vx_bytes::ByteIn;
-use vx_rows::Rows;
+use vx_rows::Table;
 
 // The most bytes that a text may have.
 const MAX_BYTES: usize = 1 << 40;
@@ -109,7 +109,7 @@ impl<'a, R: ByteIn, T: Origin> Counted<'a, R, T> {
     }
 
     /// The result for a text that was read so. All of its bytes are read first, unless memory ran out.
-    pub fn settle(&mut self, read: Result<Rows, LoadFault>) -> Result<Rows, LoadFault>
+    pub fn settle(&mut self, read: Result<Table, LoadFault>) -> Result<Table, LoadFault>
         requires { (read ≡ Err LoadFault.NoMemory) ⊎ StaysKnown T.text (left_of T.text (R.remaining self.old.port.now) self.old.taken self.old.is_at_end) }
         ensures { Settles T.text read result }
     {

@@ -8,22 +8,22 @@ ghost use Rattle.vx_catalog.specs.Database.{rows_at, with_rows, IsDatabase, Meet
 ghost use Rattle.vx_catalog.specs.Loading.{max_rows};
 
 use crate::loader::Loaded;
-use crate::table::Table;
+use crate::shared_table::SharedTable;
 use std::alloc::{AllocError, Global};
 use std::marker::Model;
 use std::sync::Arc;
 use vx_relations::Catalog;
-use vx_rows::Rows;
+use vx_rows::Table;
 
 // No rows for each relation of a catalog.
-fn empty_tables(alloc: Global, catalog: &Catalog) -> Result<Vec<Table>, AllocError>
+fn empty_tables(alloc: Global, catalog: &Catalog) -> Result<Vec<SharedTable>, AllocError>
     ensures database { IfOk result (λ v. IsDatabase catalog.now v.items) }
     ensures empty { IfOk result (λ v. map (λ t. t.rows) v.items ≡ map (λ _. []) catalog.now) }
 {
     let mut tables = Vec::new(alloc);
     for relation in 0..catalog.len() {
-        let rows = Rows::new(alloc, catalog.get(relation).types())?;
-        tables.push(Table::new(alloc, rows)?)?;
+        let rows = Table::new(alloc, catalog.get(relation).types())?;
+        tables.push(SharedTable::new(alloc, rows)?)?;
     }
     Ok(tables)
 }
@@ -32,7 +32,7 @@ fn empty_tables(alloc: Global, catalog: &Catalog) -> Result<Vec<Table>, AllocErr
 #[derive(Debug)]
 pub struct Database {
     catalog: Catalog,
-    tables: Vec<Table>,
+    tables: Vec<SharedTable>,
 }
 
 // By hand, so that the drops of its parts are made and proved here once, and not again in each crate that drops one.
@@ -77,7 +77,7 @@ impl Database {
     }
 
     /// The rows of a relation.
-    pub fn rows(&self, relation: usize) -> &Rows
+    pub fn rows(&self, relation: usize) -> &Table
         requires { relation < length self.now.catalog }
         ensures types { result.now.types ≡ (relation_at self.now.catalog relation).types }
         ensures rows { result.now.rows ≡ rows_at self.now relation }
@@ -88,7 +88,7 @@ impl Database {
     }
 
     /// The rows of a relation, for whoever is to share them.
-    pub fn table(&self, relation: usize) -> &Arc<Rows>
+    pub fn table(&self, relation: usize) -> &Arc<Table>
         requires { relation < length self.now.catalog }
         ensures types { (arc_value result.now).types ≡ (relation_at self.now.catalog relation).types }
         ensures rows { (arc_value result.now).rows ≡ rows_at self.now relation }

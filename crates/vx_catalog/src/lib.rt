@@ -7,12 +7,12 @@ mod fault;
 mod loader;
 mod number;
 mod record;
-mod table;
+mod shared_table;
 mod writing;
 
 pub use database::Database;
 pub use fault::{LoadFault, WriteFault};
 pub use loader::{Loaded, Loader, texts_are_loaded_exactly};
-pub use table::Table;
+pub use shared_table::SharedTable;
 pub use vx_relations::{Catalog, CatalogFault, Relation, catalogs_are_read_exactly, find_name};
 pub use writing::{format_rows, write_rows};

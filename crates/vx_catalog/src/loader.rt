@@ -18,21 +18,21 @@ ghost use Rattle.vx_catalog.specs.Loading.{Gives, under_header, tested, keys_kep
 use crate::counted::{Counted, Lent, Origin};
 use crate::fault::LoadFault;
 use crate::record::{is_header, next_record, read_rows};
-use crate::table::Table;
+use crate::shared_table::SharedTable;
 use csv::{ByteRecord, Reader, ReaderBuilder};
 use std::alloc::Global;
 use std::io::Read;
 use std::marker::{Brand, Model};
 use vx_bytes::ByteIn;
 use vx_relations::{Catalog, Relation};
-use vx_rows::{Rows, compare_on};
+use vx_rows::{Table, compare_on};
 
 // The rows under a text's header. It also fails with NoMemory if the source underneath failed.
 fn read_text<S: Read>(
     alloc: Global,
     relation: &Relation,
     reader: &mut Reader<S>,
-) -> Result<Rows, LoadFault>
+) -> Result<Table, LoadFault>
     requires { IsPlain reader.old }
     ensures types { IfOk result (λ r. r.types ≡ relation.now.types) }
     ensures fit { IfOk result (λ r. AllByRecursion (Fits r.types) r.rows) }
@@ -53,7 +53,7 @@ fn read_text<S: Read>(
 
 // The first row that is smaller than the one before it.
 #[tactic(auto, unfolding(crate::specs::Loading::first_fall))]
-fn first_fall(rows: &Rows, order: &[usize]) -> Option<usize>
+fn first_fall(rows: &Table, order: &[usize]) -> Option<usize>
     requires { AreColumns (length rows.now.types) order.now }
     ensures { result ≡ first_fall order.now rows.now.rows }
 {
@@ -66,7 +66,7 @@ fn first_fall(rows: &Rows, order: &[usize]) -> Option<usize>
 }
 
 // Tests that no row is smaller than the one before it.
-fn test_order(rows: &Rows, order: &[usize]) -> Result<(), LoadFault>
+fn test_order(rows: &Table, order: &[usize]) -> Result<(), LoadFault>
     requires { AreColumns (length rows.now.types) order.now }
     ensures { Gives (λ _. rows.now.rows) result (order_kept order.now rows.now.rows) }
 {
@@ -77,7 +77,7 @@ fn test_order(rows: &Rows, order: &[usize]) -> Result<(), LoadFault>
 }
 
 // Tests the keys of a relation in declared order.
-fn test_keys(alloc: Global, rows: &Rows, relation: &Relation) -> Result<(), LoadFault>
+fn test_keys(alloc: Global, rows: &Table, relation: &Relation) -> Result<(), LoadFault>
     requires types { length rows.now.types ≡ length relation.now.names }
     requires relation { IsRelation relation.now }
     ensures { Gives (λ _. rows.now.rows) result (keys_kept 0 relation.now.keys rows.now.rows) }
@@ -93,7 +93,7 @@ fn test_keys(alloc: Global, rows: &Rows, relation: &Relation) -> Result<(), Load
 }
 
 // The rows of a relation, if they meet its keys and then its order.
-fn test_rows(alloc: Global, relation: &Relation, rows: Rows) -> Result<Rows, LoadFault>
+fn test_rows(alloc: Global, relation: &Relation, rows: Table) -> Result<Table, LoadFault>
     requires relation { IsRelation relation.now }
     requires types { rows.types ≡ relation.now.types }
     requires fit { AllByRecursion (Fits rows.types) rows.rows }
@@ -113,7 +113,7 @@ fn load_text<'p, R: ByteIn, T: Origin>(
     alloc: Global,
     relation: &Relation,
     port: &'p mut R,
-    loaded: &mut Result<Rows, LoadFault>,
+    loaded: &mut Result<Table, LoadFault>,
 ) -> Lent<'p, R>
     requires text { R.remaining port.now ≡ T.text }
     requires whole { T.is_reliable ≡ true → (R.is_reliable port.now ≡ true) × (R.has_failed port.now ≡ false) }
@@ -146,7 +146,7 @@ fn load_text<'p, R: ByteIn, T: Origin>(
 pub struct Loaded {
     catalog: Catalog,
     relation: usize,
-    table: Table,
+    table: SharedTable,
 }
 
 impl Model for Loaded {
@@ -179,7 +179,7 @@ impl Loaded {
     }
 
     /// The rows of the relation.
-    pub fn rows(&self) -> &Rows
+    pub fn rows(&self) -> &Table
         ensures types { result.now.types ≡ (relation_at self.now.catalog self.now.relation).types }
         ensures rows { result.now.rows ≡ self.now.rows }
         ensures meets { Meets (relation_at self.now.catalog self.now.relation) result.now.rows }
@@ -189,7 +189,7 @@ impl Loaded {
     }
 
     /// The rows alone.
-    pub(crate) fn into_table(self) -> Table
+    pub(crate) fn into_table(self) -> SharedTable
         ensures loaded { IsLoaded self.catalog self.relation result }
         ensures rows { result.rows ≡ self.rows }
     {
@@ -232,7 +232,7 @@ impl Loader {
         if lent.port.failed() {
             return Err(LoadFault::ReadFailed);
         }
-        let table = Table::new(alloc, read?)?;
+        let table = SharedTable::new(alloc, read?)?;
         Ok(Loaded {
             catalog: catalog.share()?,
             relation,

@@ -18,7 +18,7 @@ use csv::{ByteRecord, Reader};
 use std::alloc::Global;
 use std::io::Read;
 use std::str;
-use vx_rows::{Cell, ColType, OpenRows, Rows};
+use vx_rows::{Cell, ColType, OpenRows, Table};
 
 // The most rows that a relation may have.
 const MAX_ROWS: usize = 100_000_000;
@@ -129,7 +129,7 @@ pub fn read_rows<S: Read>(
     alloc: Global,
     types: &[ColType],
     reader: &mut Reader<S>,
-) -> Result<Rows, LoadFault>
+) -> Result<Table, LoadFault>
     requires { IsPlain reader.old }
     ensures types { IfOk result (λ r. r.types ≡ types.now) }
     ensures fit { IfOk result (λ r. AllByRecursion (Fits r.types) r.rows) }

@@ -16,7 +16,7 @@ use itoa::Buffer;
 use std::alloc::{AllocError, Global};
 use vx_bytes::{ByteOut, write_all};
 use vx_rows::Cell;
-use vx_views::{Chunk, ChunkedRows};
+use vx_views::{Chunk, Rows};
 
 // Adds the text of a value to a record.
 fn push_cell(line: &mut StringRecord, cell: Cell<'_>) -> Result<(), AllocError>
@@ -94,11 +94,7 @@ fn write_chunks(
 }
 
 /// The text of rows under a header with these names: as `csv` writes by default, lines ended by a line feed, numbers in plain decimal.
-pub fn format_rows(
-    alloc: Global,
-    names: &[String],
-    rows: &ChunkedRows,
-) -> Result<Vec<u8>, AllocError>
+pub fn format_rows(alloc: Global, names: &[String], rows: &Rows) -> Result<Vec<u8>, AllocError>
     ensures { IfOk result (λ v. v.items ≡ csv_text (map string_bytes names.now) rows.now.rows) }
 {
     let mut text = WriterBuilder::new().from_writer(Vec::new(alloc));
@@ -115,7 +111,7 @@ pub fn format_rows(
 pub fn write_rows<W: ByteOut>(
     alloc: Global,
     names: &[String],
-    rows: &ChunkedRows,
+    rows: &Rows,
     writer: &mut W,
 ) -> Result<(), WriteFault>
     ensures text { OnOk result (Appends (W.contents writer.old) (W.contents writer.new) (csv_text (map string_bytes names.now) rows.now.rows)) }

@@ -25,7 +25,7 @@ use Rattle.vx_ops.specs.declared.fault.Code.TheVariants.{Stranger}
 use Rattle.vx_ops.specs.declared.turn.Want.TheVariants as want
 use Rattle.vx_ops.specs.declared.turn.Got.TheVariants as got
 use Rattle.vx_ops.specs.declared.turn.Polled.TheVariants as polled
-use Rattle.vx_rows.specs.declared.rows.Rows.{Rows}
+use Rattle.vx_rows.specs.declared.table.Table.{Table}
 use Rattle.vx_exchange.specs.Receiver.{EndStands, unmerged_end}
 use Rattle.vx_exchange.proofs.Deals.{numbered_same, rows-numbered_same, range-numbered_same, bearing-same, bearing-other, bearing-append, numbers-append, ranges-append}
 
@@ -164,7 +164,7 @@ module _ (port : ConsumerEnd) (next : ℕ) (flags : List Bool) (packet : PacketV
   port-broken f h s = port-fails Passed s (next, is_within s, rw (this_came next l.came packet) (has_fault-push (l.came next) packet (ap is_fault h))) (λ i c. absurd (none-strange f s i c))
 
   -- rows come: another producer may be next
-  pub port-rows : IsFor port next packet → (rows : List Row) (t : Rows) (next' : ℕ) → t.rows ≡ rows → packet.content ≡ brings rows → slice_get flags next' ≡ Some false → EndStands port flags next Running l
+  pub port-rows : IsFor port next packet → (rows : List Row) (t : Table) (next' : ℕ) → t.rows ≡ rows → packet.content ≡ brings rows → slice_get flags next' ≡ Some false → EndStands port flags next Running l
       → EndStands port flags next' Running (after l (want.Packet next) (got.Packet (Some packet)) (polled.Gave t))
   port-rows f rows t next' e b o s =
       let d = subst (λ ys. Dealt port.producers (l.gave.rows ++ ys) (λ j. rows_of (with_packet l.came next (Some packet) j))) (ap content_rows b ∙ sym e) (dealt-more port.producers next l.came packet l.gave.rows (is_within s) s.makes.0) in

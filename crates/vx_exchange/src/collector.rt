@@ -6,12 +6,12 @@ use vx_ops::Polled;
 use vx_plan_nodes::Router;
 use vx_ports::Packet;
 use vx_rows::ColType;
-use vx_views::ChunkedRows;
+use vx_views::Rows;
 
 /// The rows that the top of the root's fragment returns, in order. It returns no packet.
 #[derive(Drop)]
 pub struct Collector {
-    rows: ChunkedRows,
+    rows: Rows,
     takes_more: bool,
 }
 
@@ -28,7 +28,7 @@ impl Collector {
         ensures post { IfOk result (λ s. collector_post s ≡ keeps types.now) }
         ensures open { IfOk result (λ s. collector_is_open s ≡ true) }
     {
-        let rows = ChunkedRows::new(alloc, types)?;
+        let rows = Rows::new(alloc, types)?;
         Ok(Collector {
             rows,
             takes_more: true,
@@ -36,7 +36,7 @@ impl Collector {
     }
 
     /// All rows that came.
-    pub fn into_rows(self) -> ChunkedRows
+    pub fn into_rows(self) -> Rows
         ensures rows { collector_task self ≡ keep result.rows }
         ensures types { collector_post self ≡ keeps result.types }
     {

@@ -10,7 +10,7 @@ ghost use Rattle.vx_exchange.specs.Lanes.{kind_of, serves, bounds_of, SameLanes,
 use crate::lane::Lane;
 use std::alloc::AllocError;
 use vx_plan_nodes::Router;
-use vx_views::ChunkedRows;
+use vx_views::Rows;
 
 /// How rows are dealt to the consumers.
 #[derive(Clone, Copy)]
@@ -20,7 +20,7 @@ pub enum Deal {
 }
 
 // All rows to the one lane.
-fn deal_to_one(lanes: &mut Vec<Lane>, rows: ChunkedRows) -> Result<(), AllocError>
+fn deal_to_one(lanes: &mut Vec<Lane>, rows: Rows) -> Result<(), AllocError>
     requires one { length lanes.old.items ≡ 1 }
     requires open { All (λ o. o.closed ≡ false) lanes.old.items }
     requires types { All (λ o. rows.types ≡ o.way.types) lanes.old.items }
@@ -36,7 +36,7 @@ pub fn deal_rows<R: Router>(
     deal: Deal,
     lanes: &mut Vec<Lane>,
     _router: &R,
-    rows: ChunkedRows,
+    rows: Rows,
 ) -> Result<(), AllocError>
     requires served { serves deal (length lanes.old.items) ≡ true }
     requires open { All (λ o. o.closed ≡ false) lanes.old.items }

@@ -5,7 +5,7 @@ use std::collections::VecDeque;
 use std::marker::Model;
 use vx_ports::{Ending, Packet};
 use vx_rows::ColType;
-use vx_views::{Chunk, ChunkedRows};
+use vx_views::{Chunk, Rows};
 
 /// Calls: `new (add | next_packet)* (finish next_packet* | clear) close`. After an `Err` of `add` or `finish` comes `clear`.
 ///
@@ -18,9 +18,9 @@ pub struct Lane {
     place: u32,
     consumer: u32,
     size: usize,
-    current: ChunkedRows,
+    current: Rows,
     ready: VecDeque<Packet>,
-    closing: Option<ChunkedRows>,
+    closing: Option<Rows>,
 }
 
 impl Model for Lane {
@@ -63,8 +63,8 @@ impl Lane {
         requires few { size ≤ 4096 }
         ensures { IfOk result (λ l. l ≡ empty_outlet (record { exchange = exchange; place = place; consumer = consumer; types = types.now; size = size })) }
     {
-        let current = ChunkedRows::new(alloc, types)?;
-        let closing = ChunkedRows::new(alloc, types)?;
+        let current = Rows::new(alloc, types)?;
+        let closing = Rows::new(alloc, types)?;
         Ok(Lane {
             alloc,
             exchange,
@@ -78,7 +78,7 @@ impl Lane {
     }
 
     // Makes a packet of these rows.
-    fn push(&mut self, rows: ChunkedRows) -> Result<(), AllocError>
+    fn push(&mut self, rows: Rows) -> Result<(), AllocError>
         requires some { 0 < length rows.rows }
         requires few { length rows.rows ≤ 4096 }
         requires types { rows.types ≡ self.old.way.types }
@@ -150,7 +150,7 @@ impl Lane {
     }
 
     /// Adds rows; no cell is copied. If none are at hand and these are just one packet, they become it as they are. After an `Err` some of them may be lost.
-    pub fn add(&mut self, rows: ChunkedRows) -> Result<(), AllocError>
+    pub fn add(&mut self, rows: Rows) -> Result<(), AllocError>
         requires types { rows.types ≡ self.old.way.types }
         requires open { self.old.closed ≡ false }
         ensures ok { OnOk result (Cuts self.old.way self.old.current self.old.ready rows.rows self.new.current self.new.ready) }

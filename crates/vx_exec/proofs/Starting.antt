@@ -6,7 +6,7 @@ use Rattle.vx_rows.specs.Lists.{each_below}
 use Rattle.vx_ports.specs.Packets.{PacketView, fault}
 use Rattle.vx_exchange.specs.Ship.{Ship, packet_of}
 use Rattle.vx_worker.specs.Intake.{source_of, fresh_input}
-use Rattle.vx_worker.specs.declared.intake.Input.{Input}
+use Rattle.vx_worker.specs.declared.intake.ExchangeInput.{ExchangeInput}
 use Rattle.vx_steps.proofs.Each.{none-each, more-each}
 
 pub closing_none : (ship : Ship) → [] ≡ each_below 0 (λ j. packet_of ship j fault)
@@ -29,7 +29,7 @@ pub producers_none : (exchange : ℕ) (front : List (ℕ × ℕ)) → front ≡ 
 producers_none exchange front = sym (ap (λ z. front ++ z) (none-each (λ (i : ℕ). (exchange, i))) ∙ append-nil front)
 
 -- one more producer
-pub producers_more : (exchange k : ℕ) (front : List (ℕ × ℕ)) (old new : List Input) (i : Input)
+pub producers_more : (exchange k : ℕ) (front : List (ℕ × ℕ)) (old new : List ExchangeInput) (i : ExchangeInput)
     → map source_of old ≡ front ++ each_below k (λ i. (exchange, i)) → new ≡ old ++ i ∷ [] → i ≡ fresh_input exchange k
     → map source_of new ≡ front ++ each_below (k + 1) (λ i. (exchange, i))
 producers_more exchange k front old new i so_far e is =

@@ -19,7 +19,7 @@ use std::alloc::{AllocError, Global};
 use vx_catalog::{Catalog, Database};
 use vx_plan_nodes::{Size, TypedNode, TypedPlan};
 use vx_rows::ColType;
-use vx_views::ChunkedRows;
+use vx_views::Rows;
 use vx_worker::Morsels;
 
 /// A plan with a database of its catalog, and the sizes of a run, each within its limits.
@@ -153,7 +153,7 @@ impl<'j> Job<'j> {
     }
 
     // A morsel of a relation: the rows from the morsel's first on, as many as there are. They are lent: none is copied.
-    fn lend_morsel(&self, relation: usize, number: u64) -> Result<ChunkedRows, AllocError>
+    fn lend_morsel(&self, relation: usize, number: u64) -> Result<Rows, AllocError>
         requires { relation < length (scope self.now.plan.now).catalog }
         ensures rows { IfOk result (λ r. r.rows ≡ morsel_of self.now.morsel (rows_at self.now.database.now relation) number) }
         ensures types { IfOk result (λ r. r.types ≡ (relations self.now.plan.now relation).types) }
@@ -161,7 +161,7 @@ impl<'j> Job<'j> {
         let count = self.database.rows(relation).len();
         let from = (number as usize).saturating_mul(self.morsel).min(count);
         let to = from + self.morsel.min(count - from);
-        ChunkedRows::of(self.alloc, self.database.table(relation), from, to)
+        Rows::of(self.alloc, self.database.table(relation), from, to)
     }
 }
 
@@ -173,7 +173,7 @@ impl Morsels for Job<'_> {
     ghost types_of = { types_at };
 
     /// A morsel, lent. Only scans read morsels: a number of another leaf gets none.
-    fn morsel(&self, scan: u32, number: u64) -> Result<ChunkedRows, AllocError> {
+    fn morsel(&self, scan: u32, number: u64) -> Result<Rows, AllocError> {
         match relation_of(self.plan.root(), scan) {
             Some(relation) => self.lend_morsel(relation, number),
             None => Err(AllocError),

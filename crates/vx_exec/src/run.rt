@@ -30,11 +30,11 @@ use vx_ops::{Code, Fault};
 use vx_plan_nodes::Router;
 use vx_setup::{RunFault, Setup};
 use vx_steps::{Verdict, judge_rounds, judge_schedule};
-use vx_views::ChunkedRows;
+use vx_views::Rows;
 use vx_worker::{Destination, Operator, Worker};
 
 // The rows that the first worker kept.
-fn rows_of_root(mut workers: Vec<Worker<Operator, Destination>>) -> ChunkedRows
+fn rows_of_root(mut workers: Vec<Worker<Operator, Destination>>) -> Rows
     requires there { 0 < length workers.items }
     requires keeps { (d : AWorker AnOperator ADestination) → (types : List ColType) × (post_of (sender_of (slice_index_or workers.items 0 d)) ≡ keeps types) }
     ensures rows { (d : AWorker AnOperator ADestination) → task_of (sender_of (slice_index_or workers.items 0 d)) ≡ keep result.rows }

@@ -24,22 +24,26 @@ use vx_exchange::{Collector, Sender};
 use vx_plan_nodes::{ExchangeKind, TypedNode, output_types};
 use vx_ports::{Ending, Packet};
 use vx_rows::ColType;
-use vx_views::ChunkedRows;
-use vx_worker::{Destination, Input, Operator, Worker};
+use vx_views::Rows;
+use vx_worker::{Destination, ExchangeInput, Operator, Worker};
 
 // Adds each of so many producers of an exchange.
-fn push_inputs(inputs: &mut Vec<Input>, exchange: u32, count: u32) -> Result<(), AllocError>
+fn push_inputs(inputs: &mut Vec<ExchangeInput>, exchange: u32, count: u32) -> Result<(), AllocError>
     ensures fresh { All IsFresh inputs.old.items → OnOk result (All IsFresh inputs.new.items) }
     ensures sources { OnOk result (map source_of inputs.new.items ≡ map source_of inputs.old.items ++ each_below count (λ i. (exchange, i))) }
 {
     for from in 0..count {
-        inputs.push(Input::new(exchange, from))?;
+        inputs.push(ExchangeInput::new(exchange, from))?;
     }
     Ok(())
 }
 
 // Adds the producers from which the workers of a node's fragment take.
-fn add_inputs(inputs: &mut Vec<Input>, job: &Job<'_>, node: &TypedNode) -> Result<(), AllocError>
+fn add_inputs(
+    inputs: &mut Vec<ExchangeInput>,
+    job: &Job<'_>,
+    node: &TypedNode,
+) -> Result<(), AllocError>
     ensures fresh { All IsFresh inputs.old.items → OnOk result (All IsFresh inputs.new.items) }
     ensures sources { OnOk result (map source_of inputs.new.items ≡ map source_of inputs.old.items ++ inputs_of (group_at job.now.groups.items) (plan_of node.now)) }
 {
@@ -58,7 +62,11 @@ fn add_inputs(inputs: &mut Vec<Input>, job: &Job<'_>, node: &TypedNode) -> Resul
 }
 
 // The producers from which the workers of a node's fragment take.
-fn inputs_of(alloc: Global, job: &Job<'_>, node: &TypedNode) -> Result<Vec<Input>, AllocError>
+fn inputs_of(
+    alloc: Global,
+    job: &Job<'_>,
+    node: &TypedNode,
+) -> Result<Vec<ExchangeInput>, AllocError>
     ensures fresh { IfOk result (λ v. All IsFresh v.items) }
     ensures sources { IfOk result (λ v. map source_of v.items ≡ inputs_of (group_at job.now.groups.items) (plan_of node.now)) }
 {
@@ -80,7 +88,7 @@ fn closing_packets(
 {
     let mut packets = Vec::new(alloc);
     for to in 0..consumers {
-        let none = ChunkedRows::new(alloc, types)?;
+        let none = Rows::new(alloc, types)?;
         packets.push(Packet::closing(exchange, place, to, Ending::Fault, none))?;
     }
     Ok(packets)

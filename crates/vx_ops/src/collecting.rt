@@ -4,7 +4,7 @@ use crate::collecting_kernel::{CollectingKernel, FinishFault};
 use crate::fault::{Code, Fault, Over};
 use crate::source::Source;
 use crate::turn::{Got, Polled, Want};
-use vx_views::ChunkedRows;
+use vx_views::Rows;
 
 /// Calls: `with_kernel (wants turn)*`.
 ///
@@ -43,7 +43,7 @@ impl<K: CollectingKernel> Collecting<K> {
     }
 
     // What is returned for a batch.
-    fn collect(&mut self, batch: ChunkedRows) -> Polled
+    fn collect(&mut self, batch: Rows) -> Polled
         requires running { self.old.over ≡ Running }
         requires reading { self.old.finished ≡ false }
         requires typed { batch.types ≡ (K.types self.old.kernel).left }

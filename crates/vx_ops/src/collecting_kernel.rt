@@ -1,7 +1,7 @@
 //! Kernels that read all of their input before they make any row.
 
 use std::alloc::AllocError;
-use vx_views::ChunkedRows;
+use vx_views::Rows;
 
 /// Why a kernel makes nothing of its whole input.
 #[derive(Clone, Copy)]
@@ -33,14 +33,14 @@ pub trait CollectingKernel: Drop {
     ghost HasRead: { Self → List Row → Type 0 };
 
     /// Reads a further batch of the input.
-    fn take(&mut self, batch: ChunkedRows) -> Result<(), AllocError>
+    fn take(&mut self, batch: Rows) -> Result<(), AllocError>
         requires typed { batch.types ≡ (types self.old).left }
         ensures read { OnOk result ((xs : List Row) → HasRead self.old xs → HasRead self.new (xs ++ batch.rows)) }
         ensures unary { unary self.new ≡ unary self.old }
         ensures types { types self.new ≡ types self.old };
 
     /// The output rows: what the operator makes of all that was read, by its serial meaning.
-    fn finish(&mut self) -> Result<ChunkedRows, FinishFault>
+    fn finish(&mut self) -> Result<Rows, FinishFault>
         ensures rows { IfOk result (λ r. (xs : List Row) → HasRead self.old xs → unary_rows (unary self.old) xs ≡ Some r.rows) }
         ensures typed { IfOk result (λ r. r.types ≡ (types self.old).out) }
         ensures err { IfErr result (λ e. (xs : List Row) → HasRead self.old xs → FinishBlame (unary self.old) xs e) }

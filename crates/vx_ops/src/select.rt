@@ -6,7 +6,7 @@ use std::alloc::{AllocError, Global};
 use vx_algebra::chosen;
 use vx_plan_nodes::Condition;
 use vx_rows::ColType;
-use vx_views::ChunkedRows;
+use vx_views::Rows;
 
 /// Calls: `new (wants turn)*`.
 ///
@@ -57,7 +57,7 @@ impl StepKernel for Selection {
 
     ghost serial = { λ s xs ys made. ap Some (sym made) };
 
-    fn step(&mut self, batch: ChunkedRows) -> Result<ChunkedRows, AllocError> {
+    fn step(&mut self, batch: Rows) -> Result<Rows, AllocError> {
         chosen(self.alloc, self.conditions.as_slice(), &batch)
     }
 }

@@ -6,7 +6,7 @@ use std::alloc::{AllocError, Global};
 use std::marker::Model;
 use vx_algebra::sorted_chunks;
 use vx_rows::ColType;
-use vx_views::ChunkedRows;
+use vx_views::Rows;
 
 /// Calls: `new (wants turn)*`.
 ///
@@ -18,7 +18,7 @@ pub type Sort = Collecting<Sorting>;
 pub struct Sorting {
     alloc: Global,
     columns: Vec<usize>,
-    read: ChunkedRows,
+    read: Rows,
 }
 
 impl Model for Sorting {
@@ -53,7 +53,7 @@ impl Collecting<Sorting> {
         ensures op { IfOk result (λ s. sort_op s ≡ one_op node (sort columns.items)) }
         ensures types { IfOk result (λ s. sort_types s ≡ record { left = types.now; right = types.now; out = types.now }) }
     {
-        let read = ChunkedRows::new(alloc, types)?;
+        let read = Rows::new(alloc, types)?;
         let kernel = Sorting {
             alloc,
             columns,
@@ -75,11 +75,11 @@ impl CollectingKernel for Sorting {
 
     ghost empty = { λ s. refl };
 
-    fn take(&mut self, batch: ChunkedRows) -> Result<(), AllocError> {
+    fn take(&mut self, batch: Rows) -> Result<(), AllocError> {
         self.read.append(batch)
     }
 
-    fn finish(&mut self) -> Result<ChunkedRows, FinishFault> {
+    fn finish(&mut self) -> Result<Rows, FinishFault> {
         match sorted_chunks(self.alloc, &self.read, self.columns.as_slice()) {
             Ok(rows) => Ok(rows),
             Err(_) => Err(FinishFault::NoMemory),

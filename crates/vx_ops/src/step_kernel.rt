@@ -1,7 +1,7 @@
 //! Kernels that return rows for each batch of their input.
 
 use std::alloc::AllocError;
-use vx_views::ChunkedRows;
+use vx_views::Rows;
 
 /// Calls: `step*`, and none after an `Err`.
 ///
@@ -23,7 +23,7 @@ pub trait StepKernel: Drop {
     ghost HasMade: { Self → List Row → List Row → Type 0 };
 
     /// The output rows that a further batch of the input adds.
-    fn step(&mut self, batch: ChunkedRows) -> Result<ChunkedRows, AllocError>
+    fn step(&mut self, batch: Rows) -> Result<Rows, AllocError>
         requires typed { batch.types ≡ (types self.old).left }
         ensures made { IfOk result (λ r. (xs ys : List Row) → HasMade self.old xs ys → HasMade self.new (xs ++ batch.rows) (ys ++ r.rows)) }
         ensures typed { IfOk result (λ r. r.types ≡ (types self.old).out) }

@@ -4,7 +4,7 @@ use crate::fault::{Code, Fault, Over};
 use crate::source::Source;
 use crate::step_kernel::StepKernel;
 use crate::turn::{Got, Polled, Want};
-use vx_views::ChunkedRows;
+use vx_views::Rows;
 
 /// Calls: `with_kernel (wants turn)*`.
 ///
@@ -41,7 +41,7 @@ impl<K: StepKernel> Stepping<K> {
     }
 
     // What is returned for a batch.
-    fn step(&mut self, batch: ChunkedRows) -> Polled
+    fn step(&mut self, batch: Rows) -> Polled
         requires running { self.old.over ≡ Running }
         requires typed { batch.types ≡ (K.types self.old.kernel).left }
         ensures stands { (l : Ledger) → SteppingStands K.unary K.HasMade self.old l

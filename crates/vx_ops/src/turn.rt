@@ -2,7 +2,7 @@
 
 use crate::fault::Fault;
 use vx_ports::Packet;
-use vx_views::ChunkedRows;
+use vx_views::Rows;
 
 /// What a source wants before its next turn.
 #[derive(Clone, Copy, Debug, PartialEq, Eq)]
@@ -23,7 +23,7 @@ pub enum Want {
 #[derive(Drop)]
 pub enum Polled {
     /// Some rows: at least one.
-    Gave(ChunkedRows),
+    Gave(Rows),
     /// Nothing yet.
     Waiting,
     /// All rows were returned. Every later turn returns it again.

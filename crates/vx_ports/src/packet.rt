@@ -2,7 +2,7 @@
 
 use std::marker::Model;
 use vx_rows::ColType;
-use vx_views::ChunkedRows;
+use vx_views::Rows;
 
 /// What a packet is: rows, or one of the two ends of a stream.
 #[derive(Clone, Copy, Debug, PartialEq, Eq)]
@@ -25,7 +25,7 @@ pub enum Ending {
 #[derive(Drop)]
 pub enum Body {
     /// 1 to 4,096 rows.
-    Rows(ChunkedRows),
+    Rows(Rows),
     /// No row: the stream is over.
     End(Ending),
 }
@@ -37,7 +37,7 @@ pub struct Packet {
     from: u32,
     to: u32,
     kind: PacketKind,
-    rows: ChunkedRows,
+    rows: Rows,
 }
 
 impl Model for Packet {
@@ -61,7 +61,7 @@ impl Packet {
     ghost use Rattle.vx_ports.specs.Bodies.{IsBody};
 
     /// A packet of rows: 1 to 4,096.
-    pub fn of_rows(exchange: u32, from: u32, to: u32, rows: ChunkedRows) -> Packet
+    pub fn of_rows(exchange: u32, from: u32, to: u32, rows: Rows) -> Packet
         requires some { 0 < length rows.rows }
         requires few { length rows.rows ≤ 4096 }
         ensures { result ≡ record { exchange = exchange; from = from; to = to; types = rows.types; content = brings rows.rows } }
@@ -76,7 +76,7 @@ impl Packet {
     }
 
     /// A packet that closes a stream of rows of these types; `none` has no rows.
-    pub fn closing(exchange: u32, from: u32, to: u32, ending: Ending, none: ChunkedRows) -> Packet
+    pub fn closing(exchange: u32, from: u32, to: u32, ending: Ending, none: Rows) -> Packet
         requires { none.rows ≡ [] }
         ensures { result ≡ record { exchange = exchange; from = from; to = to; types = none.types; content = ending_content ending } }
     {

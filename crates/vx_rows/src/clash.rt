@@ -6,8 +6,8 @@ ghost use Rattle.vx_rows.specs.Keys.{first_clash, earlier_clash, KeyLaw};
 ghost use Rattle.vx_rows.specs.Sorting.{order_on};
 ghost use Rattle.vx_rows.specs.View.{row, AreColumns};
 
-use crate::rows::Rows;
 use crate::sorting::compare_on;
+use crate::table::Table;
 use std::alloc::{AllocError, Global};
 
 // The clash found before, or this one where its second row comes first.
@@ -26,7 +26,7 @@ fn earlier(best: Option<(usize, usize)>, first: usize, second: usize) -> Option<
     }
 }
 
-impl Rows {
+impl Table {
     // The clash found before, or that of these two rows where they agree and the second of them comes first.
     fn with_pair(
         &self,

@@ -5,16 +5,16 @@ mod clash;
 mod column;
 mod open;
 mod row;
-mod rows;
 mod sorting;
+mod table;
 mod texts;
 mod writes;
 
 pub use clash::keys_are_tested;
 pub use open::OpenRows;
 pub use row::Row;
-pub use rows::Rows;
 pub use sorting::compare_on;
+pub use table::Table;
 pub use texts::Texts;
 pub use vx_bytes::{
     Broken, ByteIn, ByteOut, MemoryIn, MemoryOut, ReadFault, Real, read_all, write_all,

@@ -6,7 +6,7 @@ ghost use Rattle.vx_values.specs.ValueView.{cell_val};
 ghost use Rattle.vx_values.specs.Types.{type_of, type_at, Fits};
 
 use crate::column::Column;
-use crate::rows::Rows;
+use crate::table::Table;
 use crate::writes::{empty_columns, put_cell};
 use std::alloc::{AllocError, Global};
 use std::marker::Model;
@@ -98,11 +98,11 @@ impl OpenRows {
     }
 
     /// The whole rows. A row that was not ended is dropped.
-    pub fn into_rows(self) -> Rows
+    pub fn into_rows(self) -> Table
         ensures types { result.types ≡ self.types }
         ensures rows { result.rows ≡ self.rows }
         ensures fit { AllByRecursion (Fits result.types) result.rows }
     {
-        Rows::of_columns(self.types, self.columns, self.count)
+        Table::of_columns(self.types, self.columns, self.count)
     }
 }

@@ -10,7 +10,7 @@ ghost use Rattle.vx_rows.specs.View.{row, AreColumns};
 ghost use Rattle.vx_rows.specs.Hashing.{val_feed, row_feed};
 ghost use Rattle.vx_rows.specs.Equality.{row_eq-laws, row_eq-same};
 
-use crate::rows::Rows;
+use crate::table::Table;
 use std::alloc::{AllocError, Global};
 use std::hash::{Hash, Hasher};
 use std::marker::Model;
@@ -88,7 +88,7 @@ impl Row {
         self.values.len()
     }
 
-    /// The values, as an argument of `Rows::push`.
+    /// The values, as an argument of `Table::push`.
     pub fn values(&self) -> &[Value]
         ensures { map val_of result.now ≡ self.now }
     {
@@ -114,7 +114,7 @@ impl Row {
 
     /// Becomes the values of a row in these columns. Numbers need no memory once there is room for so many values,
     /// and texts keep their capacity. After an `Err` the values are arbitrary.
-    pub fn read(&mut self, rows: &Rows, i: usize, cols: &[usize]) -> Result<(), AllocError>
+    pub fn read(&mut self, rows: &Table, i: usize, cols: &[usize]) -> Result<(), AllocError>
         requires row { i < length rows.now.rows }
         requires columns { AreColumns (length rows.now.types) cols.now }
         ensures { OnOk result (self.new ≡ pick cols.now (row rows.now i)) }

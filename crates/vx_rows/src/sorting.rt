@@ -9,13 +9,13 @@ ghost use Rattle.vx_rows.specs.Lists.{each_below};
 ghost use Rattle.vx_values.specs.ValueView.{cell_val};
 ghost use Rattle.vx_rows.specs.View.{row, AreColumns, ArePositions};
 
-use crate::rows::Rows;
+use crate::table::Table;
 use std::alloc::{AllocError, Global};
 use std::cmp::Ordering;
 use vx_values::{Cell, compare_cells};
 
 /// Compares two rows column by column: numbers by size, texts by their bytes.
-pub fn compare_on(cols: &[usize], a: &Rows, i: usize, b: &Rows, j: usize) -> Ordering
+pub fn compare_on(cols: &[usize], a: &Table, i: usize, b: &Table, j: usize) -> Ordering
     requires types { a.now.types ≡ b.now.types }
     requires columns { AreColumns (length a.now.types) cols.now }
     requires a { i < length a.now.rows }
@@ -38,7 +38,7 @@ pub(crate) struct Place {
     position: usize,
 }
 
-impl Rows {
+impl Table {
     // Whether the row at a position is smaller than the one before it.
     fn falls(&self, cols: &[usize], i: usize) -> bool
         requires later { 0 < i }

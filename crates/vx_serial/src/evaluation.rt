@@ -18,12 +18,12 @@ use std::alloc::Global;
 use std::sync::Arc;
 use vx_catalog::Database;
 use vx_plan_nodes::{TypedNode, TypedPlan};
-use vx_rows::Rows;
-use vx_views::ChunkedRows;
+use vx_rows::Table;
+use vx_views::Rows;
 
 // The rows of a node. Each input is read to its end, also where no further row can come of it. An exchange returns its
 // input. A scan shares the rows of its relation, and an operator that returns its input returns the same table.
-fn eval_node(alloc: Global, database: &Database, node: &TypedNode) -> Result<Arc<Rows>, EvalFault>
+fn eval_node(alloc: Global, database: &Database, node: &TypedNode) -> Result<Arc<Table>, EvalFault>
     requires { IsFit database.now.catalog (plan_of node.now) }
     ensures types { IfOk result (λ t. (arc_value t).types ≡ types_of (relation_at database.now.catalog) (plan_of node.now)) }
     ensures rows { IfOk result (λ t. evaluated (rows_at database.now) (plan_of node.now) ≡ rows (arc_value t).rows) }
@@ -46,24 +46,20 @@ fn eval_node(alloc: Global, database: &Database, node: &TypedNode) -> Result<Arc
 }
 
 // The rows of a node as one chunk, for a caller who goes through them. None is copied.
-fn shared_rows(
-    alloc: Global,
-    database: &Database,
-    node: &TypedNode,
-) -> Result<ChunkedRows, EvalFault>
+fn shared_rows(alloc: Global, database: &Database, node: &TypedNode) -> Result<Rows, EvalFault>
     requires { IsFit database.now.catalog (plan_of node.now) }
     ensures types { IfOk result (λ t. t.types ≡ types_of (relation_at database.now.catalog) (plan_of node.now)) }
     ensures rows { IfOk result (λ t. evaluated (rows_at database.now) (plan_of node.now) ≡ rows t.rows) }
     ensures fault { IfErr result (IsFaultOf (evaluated (rows_at database.now) (plan_of node.now))) }
 {
     let table = eval_node(alloc, database, node)?;
-    Ok(ChunkedRows::of(alloc, &table, 0, table.len())?)
+    Ok(Rows::of(alloc, &table, 0, table.len())?)
 }
 
 /// The rows of a plan without exchanges over a database of its catalog: those of its serial meaning.
 ///
 /// It is refused for another catalog first, then for its first exchange, then for the first node that overflows.
-pub fn eval(alloc: Global, plan: &TypedPlan, database: &Database) -> Result<ChunkedRows, EvalFault>
+pub fn eval(alloc: Global, plan: &TypedPlan, database: &Database) -> Result<Rows, EvalFault>
     ensures rows { IfOk result (IsSerialOf (resolved_of plan.now) database.now) }
     ensures refused { IfErr result (EvalFails (resolved_of plan.now) database.now) }
 {

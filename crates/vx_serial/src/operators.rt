@@ -16,9 +16,9 @@ use crate::sharing::owned;
 use std::alloc::{AllocError, Global};
 use std::sync::Arc;
 use vx_algebra::{passing, projected, sorted, united};
-use vx_match::{GroupFault, distinct, grouped, hash_join};
+use vx_keys::{GroupFault, distinct, grouped, hash_join};
 use vx_plan_nodes::{Aggregate, Binary, Projected, Unary};
-use vx_rows::Rows;
+use vx_rows::Table;
 
 // The most rows of one grouping.
 const MAX_GROUPED: usize = 1 << 62;
@@ -34,10 +34,10 @@ fn columns_of(alloc: Global, kept: &[Projected]) -> Result<Vec<usize>, AllocErro
 fn groups_of(
     alloc: Global,
     number: u32,
-    rows: &Rows,
+    rows: &Table,
     by: &[usize],
     aggregates: &[Aggregate],
-) -> Result<Rows, EvalFault>
+) -> Result<Table, EvalFault>
     requires { is_unary rows.now.types (group plain by.now (map aggregate_of aggregates.now)) ≡ true }
     ensures types { IfOk result (λ t. t.types ≡ unary_types (group plain by.now (map aggregate_of aggregates.now)) rows.now.types) }
     ensures rows { IfOk result (λ t. evaluated_rows (group plain by.now (map aggregate_of aggregates.now)) rows.now.rows ≡ Some t.rows) }
@@ -60,8 +60,8 @@ pub fn unary_rows(
     alloc: Global,
     number: u32,
     unary: &Unary,
-    rows: Arc<Rows>,
-) -> Result<Arc<Rows>, EvalFault>
+    rows: Arc<Table>,
+) -> Result<Arc<Table>, EvalFault>
     requires { is_unary (arc_value rows).types (unary_of unary.now) ≡ true }
     ensures types { IfOk result (λ t. (arc_value t).types ≡ unary_types (unary_of unary.now) (arc_value rows).types) }
     ensures rows { IfOk result (λ t. evaluated_rows (unary_of unary.now) (arc_value rows).rows ≡ Some (arc_value t).rows) }
@@ -105,10 +105,10 @@ fn right_columns(alloc: Global, on: &[(usize, usize)]) -> Result<Vec<usize>, All
 // The left rows joined with the right rows that agree with them on these pairs of columns.
 fn joined(
     alloc: Global,
-    left: &Rows,
-    right: &Rows,
+    left: &Table,
+    right: &Table,
     on: &[(usize, usize)],
-) -> Result<Rows, AllocError>
+) -> Result<Table, AllocError>
     requires { list_all (is_pair left.now.types right.now.types) on.now ≡ true }
     ensures types { IfOk result (λ t. t.types ≡ left.now.types ++ right.now.types) }
     ensures rows { IfOk result (λ t. t.rows ≡ join_rows on.now left.now.rows right.now.rows) }
@@ -123,9 +123,9 @@ fn joined(
 pub fn binary_rows(
     alloc: Global,
     binary: &Binary,
-    left: Arc<Rows>,
-    right: &Rows,
-) -> Result<Rows, AllocError>
+    left: Arc<Table>,
+    right: &Table,
+) -> Result<Table, AllocError>
     requires { is_binary (arc_value left).types right.now.types (binary_of binary.now) ≡ true }
     ensures types { IfOk result (λ t. t.types ≡ binary_types (binary_of binary.now) (arc_value left).types right.now.types) }
     ensures rows { IfOk result (λ t. t.rows ≡ binary_rows (binary_of binary.now) (arc_value left).rows right.now.rows) }

@@ -5,10 +5,10 @@ ghost use Rattle.std.specs.Arc.{arc_value};
 
 use std::alloc::{AllocError, Global};
 use std::sync::Arc;
-use vx_rows::Rows;
+use vx_rows::Table;
 
 /// The rows as one's own: rows that others share are copied.
-pub fn owned(alloc: Global, rows: Arc<Rows>) -> Result<Rows, AllocError>
+pub fn owned(alloc: Global, rows: Arc<Table>) -> Result<Table, AllocError>
     ensures { IfOk result (λ r. r ≡ arc_value rows) }
 {
     match Arc::try_unwrap(rows) {

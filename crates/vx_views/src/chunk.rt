@@ -13,13 +13,13 @@ ghost use Rattle.vx_views.specs.Chunks.{sliced, chosen, field_at, own_field, shi
 ghost use Rattle.vx_views.specs.Selected.{of_number, places_of, AreNumbers, AreTexts};
 ghost use Rattle.vx_views.specs.Seen.{seen_positions};
 
-use crate::part::Part;
 use crate::places::NumberTest;
-use crate::selection::Seen;
+use crate::positions::PositionsRef;
+use crate::table_rows::TableRows;
 use std::alloc::{AllocError, Global};
 use std::marker::Model;
 use std::sync::Arc;
-use vx_rows::{Cell, ColType, Rows, Texts};
+use vx_rows::{Cell, ColType, Table, Texts};
 
 /// Where the values of a column lie: a part, and a column of it.
 #[derive(Clone, Copy, Debug)]
@@ -32,7 +32,7 @@ pub struct Field {
 #[derive(Drop)]
 pub struct Chunk {
     types: Vec<ColType>,
-    parts: Vec<Part>,
+    parts: Vec<TableRows>,
     fields: Vec<Field>,
     count: usize,
 }
@@ -52,7 +52,7 @@ impl Model for Chunk {
 
 impl Chunk {
     /// The rows of a table from `from` up to `to`, with all columns. No cell is copied.
-    pub fn of(alloc: Global, base: &Arc<Rows>, from: usize, to: usize) -> Result<Chunk, AllocError>
+    pub fn of(alloc: Global, base: &Arc<Table>, from: usize, to: usize) -> Result<Chunk, AllocError>
         requires order { from ≤ to }
         requires there { to ≤ length (arc_value base.now).rows }
         ensures types { IfOk result (λ c. c.types ≡ (arc_value base.now).types) }
@@ -60,7 +60,7 @@ impl Chunk {
     {
         let types = Vec::from_slice(alloc, base.types())?;
         let fields = own_fields(alloc, types.len())?;
-        let part = Part::of(base, from, to)?;
+        let part = TableRows::of(base, from, to)?;
         let count = to - from;
         let mut parts = Vec::with_capacity(alloc, 1)?;
         parts.push(part)?;
@@ -203,7 +203,7 @@ impl Chunk {
     }
 
     /// The numbers of a column where they lie, and the positions in them of the rows, where it has numbers.
-    pub fn numbers(&self, column: usize) -> Option<(&[i64], Seen<'_>)>
+    pub fn numbers(&self, column: usize) -> Option<(&[i64], PositionsRef<'_>)>
         requires { column < length self.now.types }
         ensures kind { IfSome result (λ _. type_at self.now.types column ≡ kind.Int) }
         ensures none { IfNone result (type_at self.now.types column ≡ kind.Text) }
@@ -214,7 +214,7 @@ impl Chunk {
     }
 
     /// The texts of a column where they lie, and the positions in them of the rows, where it has texts.
-    pub fn texts(&self, column: usize) -> Option<(&Texts, Seen<'_>)>
+    pub fn texts(&self, column: usize) -> Option<(&Texts, PositionsRef<'_>)>
         requires { column < length self.now.types }
         ensures kind { IfSome result (λ _. type_at self.now.types column ≡ kind.Text) }
         ensures none { IfNone result (type_at self.now.types column ≡ kind.Int) }
@@ -225,7 +225,7 @@ impl Chunk {
     }
 
     // The part whose rows these are as they stand there, all columns in order, where there is one.
-    pub(crate) fn only_part(&self) -> Option<&Part>
+    pub(crate) fn only_part(&self) -> Option<&TableRows>
         ensures { IfSome result (λ p. p.now ≡ self.now) }
     {
         if self.parts.len() != 1 {
@@ -300,7 +300,11 @@ fn are_own(fields: &[Field], width: usize) -> bool
 }
 
 // The parts at some places.
-fn parts_at(alloc: Global, parts: &[Part], places: &[usize]) -> Result<Vec<Part>, AllocError>
+fn parts_at(
+    alloc: Global,
+    parts: &[TableRows],
+    places: &[usize],
+) -> Result<Vec<TableRows>, AllocError>
     requires { All (λ t. ArePositions (length t.rows) places.now) parts.now }
     ensures { IfOk result (λ v. v.items ≡ map (chosen places.now) parts.now) }
 {
@@ -315,10 +319,10 @@ fn parts_at(alloc: Global, parts: &[Part], places: &[usize]) -> Result<Vec<Part>
 // A part of the rows of each part.
 fn parts_slice(
     alloc: Global,
-    parts: &[Part],
+    parts: &[TableRows],
     from: usize,
     to: usize,
-) -> Result<Vec<Part>, AllocError>
+) -> Result<Vec<TableRows>, AllocError>
     requires order { from ≤ to }
     requires there { All (λ t. to ≤ length t.rows) parts.now }
     ensures { IfOk result (λ v. v.items ≡ map (sliced from to) parts.now) }

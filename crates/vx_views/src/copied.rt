@@ -5,11 +5,11 @@ ghost use Rattle.vx_rows.specs.View.{row};
 
 use crate::chunk::Chunk;
 use std::alloc::{AllocError, Global};
-use vx_rows::{OpenRows, Rows};
+use vx_rows::{OpenRows, Table};
 
 impl Chunk {
     /// Adds copies of the rows behind those of a table. After an `Err` these are as before.
-    pub fn copy_onto(&self, alloc: Global, rows: &mut Rows) -> Result<(), AllocError>
+    pub fn copy_onto(&self, alloc: Global, rows: &mut Table) -> Result<(), AllocError>
         requires { self.now.types ≡ rows.old.types }
         ensures types { rows.new.types ≡ rows.old.types }
         ensures ok { OnOk result (rows.new.rows ≡ rows.old.rows ++ self.now.rows) }
@@ -23,7 +23,7 @@ impl Chunk {
     }
 
     // The rows as a table, cell by cell.
-    fn copied(&self, alloc: Global) -> Result<Rows, AllocError>
+    fn copied(&self, alloc: Global) -> Result<Table, AllocError>
         ensures { IfOk result (λ r. r ≡ self.now) }
     {
         let mut filling = OpenRows::new(alloc, self.types())?;

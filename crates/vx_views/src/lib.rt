@@ -5,7 +5,7 @@
 //! by side, and says for each column in which part it lies. Rows are chunks one behind the other.
 //!
 //! ```text
-//!   ChunkedRows    chunk 0, chunk 1, chunk 2 ..         one behind the other
+//!   Rows    chunk 0, chunk 1, chunk 2 ..         one behind the other
 //!                            |
 //!   Chunk          fields:  name   city   price         (part, column of it)
 //!                          (0,0)  (1,2)   (0,1)
@@ -22,16 +22,16 @@
 #![tactic(auto)]
 
 mod chunk;
-mod chunked_rows;
 mod copied;
 mod laws;
-mod part;
 mod places;
-mod selection;
+mod positions;
+mod rows;
+mod table_rows;
 
 pub use chunk::Chunk;
-pub use chunked_rows::ChunkedRows;
 pub use laws::places_are_a_filter;
-pub use part::Part;
 pub use places::{Between, NumberTest};
-pub use selection::{Seen, Selection};
+pub use positions::{Positions, PositionsRef};
+pub use rows::Rows;
+pub use table_rows::TableRows;

@@ -8,7 +8,7 @@ use Rattle.vx_ports.specs.Packets.{PacketView, closes, is_closed}
 use Rattle.vx_ops.specs.Turn.{with_packet}
 use Rattle.vx_worker.specs.Trace.{Event, idle, drew_one, took_one, put_one, Trace, added}
 use Rattle.vx_worker.specs.Intake.{source_of, has_met_end, MarksStand, IntakeStands, IsDrained}
-use Rattle.vx_worker.specs.declared.intake.Input.{Input}
+use Rattle.vx_worker.specs.declared.intake.ExchangeInput.{ExchangeInput}
 use Rattle.vx_worker.specs.declared.intake.Intake.{Intake}
 
 or-true : (a : Bool) → (a || true) ≡ true
@@ -60,7 +60,7 @@ closed-took t x i p e = elim (eqb_tells x x) [
   | inr d ↦ absurd (d.1 refl)
 ]
 
-pub marks-added : (is : List Input) (t : Trace) (e : Event) → MarksStand is t → MarksStand is (added t e)
+pub marks-added : (is : List ExchangeInput) (t : Trace) (e : Event) → MarksStand is t → MarksStand is (added t e)
 marks-added is t e h = λ k d l m. closed-added t e _ _ (h k d l m)
 
 met-kept : (t : Trace) (e : Event) (n : ℕ) → (t.drew n).met_end ≡ true → ((added t e).drew n).met_end ≡ true
@@ -118,5 +118,5 @@ intake-closed old new t x i p b marks c h = record {
 }
 
 -- where every producer is marked, each stream was taken to its end
-pub drained : (is : List Input) (t : Trace) → All (λ i. i.is_closed ≡ true) is → MarksStand is t → IsDrained (map source_of is) t
+pub drained : (is : List ExchangeInput) (t : Trace) → All (λ i. i.is_closed ≡ true) is → MarksStand is t → IsDrained (map source_of is) t
 drained is t all marks = All-map (λ s. is_closed (t.came s.0 s.1) ≡ true) source_of is (λ k d l. marks k d l (all k d l))

@@ -18,7 +18,7 @@ use Rattle.vx_worker.specs.Worker.{outcome_of}
 use Rattle.vx_worker.specs.declared.tree.Tree.{Tree}
 use Rattle.vx_worker.specs.declared.wish.Wish.{Wish}
 use Rattle.vx_worker.specs.declared.wish.Wish.TheVariants as wish
-use Rattle.vx_worker.specs.declared.intake.Input.{Input}
+use Rattle.vx_worker.specs.declared.intake.ExchangeInput.{ExchangeInput}
 use Rattle.vx_worker.specs.declared.intake.Intake.{Intake}
 use Rattle.vx_worker.specs.declared.intake.Drained.{Drained}
 use Rattle.vx_worker.specs.declared.intake.Drained.TheVariants as drained
@@ -40,8 +40,8 @@ IsMove (put_one j p) = Unit {0}
 pub record IsOpenInput (k : Intake) (x i : ℕ) : Type 0 where
   pub place : ℕ
   pub within : place < length k.inputs.items
-  pub source : (d : Input) → source_of (slice_index_or k.inputs.items place d) ≡ (x, i)
-  pub is_open : (d : Input) → (slice_index_or k.inputs.items place d).is_closed ≡ false
+  pub source : (d : ExchangeInput) → source_of (slice_index_or k.inputs.items place d) ≡ (x, i)
+  pub is_open : (d : ExchangeInput) → (slice_index_or k.inputs.items place d).is_closed ≡ false
 
 -- what was found that takes and drops: a packet, or none at an open producer, or no memory, or each producer is closed
 abbrev pub DrainFinds : (lacks : Type 0) → Intake → Drained → Event → Type 0

@@ -7,21 +7,21 @@ use Rattle.vx_ops.specs.declared.turn.Got.{Got}
 use Rattle.vx_ops.specs.declared.turn.Got.TheVariants as got
 use Rattle.vx_ops.specs.declared.turn.Polled.TheVariants as polled
 use Rattle.vx_worker.specs.Trace.{Event, idle, drew_one, took_one, put_one, Trace, added}
-use Rattle.vx_worker.specs.declared.intake.Input.{Input}
+use Rattle.vx_worker.specs.declared.intake.ExchangeInput.{ExchangeInput}
 use Rattle.vx_worker.specs.declared.intake.Intake.{Intake}
 use Rattle.vx_worker.specs.declared.wish.Wish.{Wish}
 use Rattle.vx_worker.specs.declared.wish.Wish.TheVariants as wish
 
 -- a producer of an exchange, before any step
-abbrev pub fresh_input : (exchange from : ℕ) → Input
+abbrev pub fresh_input : (exchange from : ℕ) → ExchangeInput
 fresh_input exchange from = record { exchange = exchange; from = from; is_closed = false }
 
 -- it is not marked
-abbrev pub IsFresh : Input → Type 0
+abbrev pub IsFresh : ExchangeInput → Type 0
 IsFresh i = i.is_closed ≡ false
 
 -- the exchange and the producer's place
-abbrev pub source_of : Input → ℕ × ℕ
+abbrev pub source_of : ExchangeInput → ℕ × ℕ
 source_of i = (i.exchange, i.from)
 
 -- the producers from which a worker takes
@@ -33,11 +33,11 @@ abbrev pub has_met_end : Intake → ℕ → Bool
 has_met_end k n = list_any (λ y. y == n) k.finished.items
 
 -- a producer that is marked as closed sent a packet that closes
-abbrev pub MarksStand : List Input → Trace → Type 0
+abbrev pub MarksStand : List ExchangeInput → Trace → Type 0
 MarksStand is t = All (λ i. i.is_closed ≡ true → is_closed (t.came i.exchange i.from) ≡ true) is
 
 -- the producers that are marked, and the scans of the list, have ended
-pub record HaveEnded (is : List Input) (finished : List ℕ) (t : Trace) : Type 0 where
+pub record HaveEnded (is : List ExchangeInput) (finished : List ℕ) (t : Trace) : Type 0 where
   pub scans : (n : ℕ) → list_any (λ y. y == n) finished ≡ true → (t.drew n).met_end ≡ true
   pub inputs : MarksStand is t
 

@@ -9,21 +9,21 @@ use vx_ports::Packet;
 
 /// A producer of an exchange from which a worker takes.
 #[derive(Clone, Copy, Debug, PartialEq, Eq)]
-pub struct Input {
+pub struct ExchangeInput {
     exchange: u32,
     from: u32,
     is_closed: bool,
 }
 
-impl Input {
+impl ExchangeInput {
     ghost use Rattle.std.specs.Prelude.{◌≡◌};
     ghost use Rattle.vx_worker.specs.Intake.{fresh_input};
 
     /// The producer at this place of the exchange with this node number, from which nothing was taken.
-    pub fn new(exchange: u32, from: u32) -> Input
+    pub fn new(exchange: u32, from: u32) -> ExchangeInput
         ensures { result ≡ fresh_input exchange from }
     {
-        Input {
+        ExchangeInput {
             exchange,
             from,
             is_closed: false,
@@ -31,7 +31,7 @@ impl Input {
     }
 }
 
-impl MayEnd for Input {
+impl MayEnd for ExchangeInput {
     ghost ended = { λ i. i.is_closed };
 
     fn has_ended(&self) -> bool {
@@ -42,7 +42,7 @@ impl MayEnd for Input {
 /// The producers from which a worker takes, and the scans whose end it met.
 #[derive(Drop)]
 pub struct Intake {
-    inputs: Vec<Input>,
+    inputs: Vec<ExchangeInput>,
     finished: Vec<u32>,
     next: usize,
 }
@@ -65,13 +65,13 @@ impl Intake {
     ghost use Rattle.vx_values.specs.declared.value.ColType.{ColType};
     ghost use Rattle.vx_ports.specs.Packets.{is_closed};
     ghost use Rattle.vx_worker.specs.Trace.{Event, Trace, added, took_one};
-    ghost use Rattle.vx_worker.specs.declared.intake.Input.{Input};
+    ghost use Rattle.vx_worker.specs.declared.intake.ExchangeInput.{ExchangeInput};
     ghost use Rattle.vx_worker.specs.Answering.{DrainFinds};
     ghost use Rattle.vx_worker.specs.Wishes.{WishFits, WishTyped};
     ghost use Rattle.vx_worker.specs.Intake.{source_of, sources_of, IsFresh, has_met_end, MarksStand, IntakeStands, IsDrained, Fetches, Drains};
 
     /// Nothing was read yet.
-    pub fn new(alloc: Global, inputs: Vec<Input>) -> Intake
+    pub fn new(alloc: Global, inputs: Vec<ExchangeInput>) -> Intake
         requires { All IsFresh inputs.items }
         ensures sources { sources_of result ≡ map source_of inputs.items }
         ensures stands { (t : Trace) → IntakeStands result t }
@@ -170,7 +170,7 @@ impl Intake {
     // Where a producer stands among the inputs.
     fn place_of(&self, exchange: u32, from: u32) -> Option<usize>
         ensures { IfSome result (λ k. (k < length self.now.inputs.items)
-            × ((d : Input) → source_of (slice_index_or self.now.inputs.items k d) ≡ (exchange, from))) }
+            × ((d : ExchangeInput) → source_of (slice_index_or self.now.inputs.items k d) ≡ (exchange, from))) }
     {
         for (k, input) in self.inputs.iter().enumerate() {
             if input.exchange == exchange && input.from == from {
@@ -188,7 +188,7 @@ impl Intake {
         let Some(place) = next_open(self.inputs.as_slice(), self.next) else {
             return Drained::All;
         };
-        let Input { exchange, from, .. } = self.inputs[place];
+        let ExchangeInput { exchange, from, .. } = self.inputs[place];
         self.next = place + 1;
         match wires.take(exchange, from) {
             Err(_) => return Drained::Nothing,

@@ -10,7 +10,7 @@ mod wish;
 mod worker;
 
 pub use destination::Destination;
-pub use intake::Input;
+pub use intake::ExchangeInput;
 pub use operator::Operator;
 pub use tree::Tree;
 pub use wires::{Morsels, Wires};

@@ -2,7 +2,7 @@
 
 use std::alloc::AllocError;
 use vx_ports::{Packet, Put};
-use vx_views::ChunkedRows;
+use vx_views::Rows;
 
 /// The decks, inward ports and outward ports of one worker. Each call draws, takes or puts at most once, and nothing where it refuses.
 pub trait Wires {
@@ -52,7 +52,7 @@ pub trait Morsels {
     ghost types_of: { Self → ℕ → List ColType };
 
     /// A morsel of the scan with this node number.
-    fn morsel(&self, scan: u32, number: u64) -> Result<ChunkedRows, AllocError>
+    fn morsel(&self, scan: u32, number: u64) -> Result<Rows, AllocError>
         ensures rows { IfOk result (λ r. r.rows ≡ morsel_of self.now scan number) }
         ensures types { IfOk result (λ r. r.types ≡ types_of self.now scan) };
 }

@@ -1,6 +1,6 @@
 //! Workers: the operators of a fragment at one place, step by step.
 
-use crate::intake::{Drained, Input, Intake};
+use crate::intake::{Drained, ExchangeInput, Intake};
 use crate::tree::Tree;
 use crate::wires::{Morsels, Wires};
 use std::alloc::Global;
@@ -86,7 +86,7 @@ impl<O: Source, S: Sends> Worker<O, S> {
         sender: S,
         node: u32,
         closing: Vec<Packet>,
-        inputs: Vec<Input>,
+        inputs: Vec<ExchangeInput>,
     ) -> Worker<O, S>
         requires numbered { (low : ℕ) × (high : ℕ) × Numbered low high tree }
         requires tree { TreeStands O.Stands tree fresh_reads fresh }

@@ -1,0 +1,78 @@
+-- Why a grouping stops, from why its parts do.
+use Rattle.std.proofs.Common.{◌≡◌, ℕ, suc, ◌<◌, ◌≤◌, Bool, true, false, cond, List, [], ◌∷◌, filter, take, length, get_or, sym, ap, ◌∙◌, subst, arith, Result, Ok, Err, IfOk, IfErr}
+use Rattle.std.specs.List.{AllByRecursion}
+use Rattle.std.specs.Result.{IsErrAnd}
+use Rattle.std.proofs.lemmas.List.{get_or-map, length-map, length-take-le}
+use Rattle.vx_values.specs.Values.{Row, row_eq, pick}
+use Rattle.vx_plan_nodes.specs.Plan.{Aggregate}
+use Rattle.vx_plan_nodes.specs.Serial.{group_keys, of_key}
+use Rattle.vx_keys.specs.declared.accumulator.GroupFault.{GroupFault}
+use Rattle.vx_keys.specs.declared.accumulator.GroupFault.TheVariants.{Overflow, TooMany, NoMemory}
+use Rattle.vx_keys.specs.Groups.{Held, all_held, counted, part_of, Groups, HasTaken}
+use Rattle.vx_keys.specs.GroupFaults.{GroupBlame, TakeBlame, EndBlame, StepBlame, StepsBlame, CellsBlame}
+use Rattle.vx_keys.proofs.AggregateFacts.{counted-most}
+use Rattle.vx_keys.proofs.EndFacts.{finished-none}
+use Rattle.vx_keys.proofs.TypeFacts.{all-at}
+
+-- what holds of an error that was handed on
+pub told : {T E : Type 0} (r : Result T E) (e : E) (P : E → Type 0) → IsErrAnd r (λ y. y ≡ e) → P e → IfErr r P
+told (Ok x) e P h p = tt
+told (Err y) e P h p = subst P (sym h) p
+
+pub if-ok : {T E : Type 0} (r : Result T E) (P Q : T → Type 0) → ((x : T) → P x → Q x) → IfOk r P → IfOk r Q
+if-ok (Ok x) P Q f h = f x h
+if-ok (Err y) P Q f h = tt
+
+pub if-err : {T E : Type 0} (r : Result T E) (P Q : E → Type 0) → ((y : E) → P y → Q y) → IfErr r P → IfErr r Q
+if-err (Ok x) P Q f h = tt
+if-err (Err y) P Q f h = f y h
+
+-- one of the aggregates is full
+pub steps-blame : (e : GroupFault) (hs : List Held) (i : ℕ) (d : Held) → i < length hs → StepBlame e (get_or hs i d).taken → StepsBlame e hs
+steps-blame Overflow hs i d l h = h
+steps-blame TooMany hs i d l h = λ n all. let bound : (get_or hs i d).taken ≤ n = all-at (λ x. x.taken ≤ n) hs i d all l in omega (arith, h, bound)
+steps-blame NoMemory hs i d l h = tt
+
+-- each counts no more than there are rows
+few : {X : Type 0} (p : X → Bool) (xs : List X) → length (filter p xs) ≤ length xs
+few p [] = omega arith
+few p (x ∷ xs) = step (p x) (few p xs)
+  where
+    step : (b : Bool) → length (filter p xs) ≤ length xs → length (cond b (x ∷ filter p xs) (filter p xs)) ≤ suc (length xs)
+    step true h = omega (arith, h)
+    step false h = omega (arith, h)
+
+all-counted : (as' : List Aggregate) (xs : List Row) (n : ℕ) → length xs ≤ n → AllByRecursion (λ h. h.taken ≤ n) (all_held as' xs)
+all-counted [] xs n l = tt
+all-counted (a ∷ as') xs n l = (let most : counted a (length xs) ≤ length xs = counted-most a (length xs) in omega (arith, most, l), all-counted as' xs n l)
+
+part-at : (g : Groups) (xs : List Row) (n : ℕ) → HasTaken g xs → n < length g.groups → get_or g.groups n [] ≡ part_of g.by g.aggregates xs (get_or (group_keys g.by xs) n [])
+part-at g xs n t l =
+    let ks = group_keys g.by xs in
+    let long : length g.groups ≡ length ks = ap length t.groups_are ∙ length-map ks (part_of g.by g.aggregates xs) in
+    ap (λ gs. get_or gs n []) t.groups_are ∙ get_or-map (part_of g.by g.aggregates xs) ks n [] [] (omega (arith, l, long))
+
+pub take-blame : (e : GroupFault) (g : Groups) (xs : List Row) (n : ℕ) → HasTaken g xs → n < length g.groups → StepsBlame e (get_or g.groups n []) → TakeBlame e xs
+take-blame Overflow g xs n t l h = h
+take-blame TooMany g xs n t l h =
+    let k = get_or (group_keys g.by xs) n [] in
+    h (length xs) (subst (AllByRecursion (λ x. x.taken ≤ length xs)) (sym (part-at g xs n t l))
+    (all-counted g.aggregates (of_key g.by k xs) (length xs) (few (λ r. row_eq k (pick g.by r)) xs)))
+take-blame NoMemory g xs n t l h = tt
+
+-- one group does not fit
+pub end-blame : (e : GroupFault) (g : Groups) (xs : List Row) (n : ℕ) → HasTaken g xs → n < length g.groups → CellsBlame e (get_or g.groups n []) → EndBlame e g.by g.aggregates xs
+end-blame Overflow g xs n t l h = finished-none g xs n t l h
+end-blame TooMany g xs n t l h = h
+end-blame NoMemory g xs n t l h = tt
+
+-- the row behind the first i was not taken
+pub row-blame : (e : GroupFault) (by : List ℕ) (as' : List Aggregate) (xs : List Row) (i : ℕ) → i < length xs → TakeBlame e (take i xs) → GroupBlame e by as' xs
+row-blame Overflow by as' xs i l h = absurd h
+row-blame TooMany by as' xs i l h = let long : length (take i xs) ≡ i = length-take-le i xs (omega (arith, l)) in omega (arith, l, h, long)
+row-blame NoMemory by as' xs i l h = tt
+
+pub finish-blame : (e : GroupFault) (by : List ℕ) (as' : List Aggregate) (xs : List Row) → EndBlame e by as' xs → GroupBlame e by as' xs
+finish-blame Overflow by as' xs h = h
+finish-blame TooMany by as' xs h = absurd h
+finish-blame NoMemory by as' xs h = tt

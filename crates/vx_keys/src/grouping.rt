@@ -1,0 +1,258 @@
+//! Grouping: rows by key, each key with the aggregates of its rows.
+
+ghost use Rattle.std.specs.Prelude.{◌≡◌, ◌<◌, ◌≤◌, ◌++◌, ◌∷◌, [], List, length, map, OnOk, IfOk, IfErr, IfSome, Some, Err, true, false};
+ghost use Rattle.std.specs.List.{list_all};
+ghost use Rattle.vx_values.specs.Types.{Fits};
+ghost use Rattle.vx_values.specs.Values.{Row as Cells};
+ghost use Rattle.vx_values.specs.ValueView.{cell_val};
+ghost use Rattle.vx_rows.specs.View.{row, AreColumns};
+ghost use Rattle.vx_plan_nodes.specs.Plan.{group, plain};
+ghost use Rattle.vx_plan_nodes.specs.Types.{unary_types, aggregate_type};
+ghost use Rattle.vx_plan_nodes.specs.Serial.{group_rows};
+ghost use Rattle.vx_plan_nodes.specs.Outline.{aggregate_of as op_of};
+ghost use Rattle.vx_keys.specs.Groups.{HasTaken, HasTakenSome, all_held, advance, held_fits};
+ghost use Rattle.vx_keys.specs.Shown.{held};
+ghost use Rattle.vx_keys.specs.GroupFaults.{GroupBlame, TakeBlame, EndBlame, StepsBlame, CellsBlame};
+
+use crate::accumulator::{Accumulator, GroupFault};
+use crate::keys::Keys;
+use std::alloc::{AllocError, Global};
+use std::marker::Model;
+use vx_algebra::types_at;
+use vx_plan_nodes::Aggregate;
+use vx_rows::{Cell, ColType, Row, Table};
+
+/// Calls: `new add* finish`, and no `finish` after an `Err`.
+///
+/// Rows by key, in order of first occurrence: each key with the aggregates of its rows.
+#[derive(Drop)]
+pub struct Grouping {
+    types: Vec<ColType>,
+    by: Vec<usize>,
+    aggregates: Vec<Aggregate>,
+    keys: Keys,
+    groups: Vec<Vec<Accumulator>>,
+    scratch: Row,
+    failed: Option<GroupFault>,
+    alloc: Global,
+}
+
+impl Model for Grouping {
+    ghost use Rattle.std.specs.Prelude.{◌≤◌, length, map};
+    ghost use Rattle.vx_rows.specs.View.{AreColumns};
+    ghost use Rattle.vx_plan_nodes.specs.Outline.{aggregate_of as op_of};
+    ghost use Rattle.vx_keys.specs.Groups.{Groups};
+    ghost use Rattle.vx_keys.specs.Shown.{held};
+
+    ghost Value = { Groups };
+
+    ghost view = { λ g. record { types = g.types.items; by = g.by.items; aggregates = map op_of g.aggregates.items; keys = g.keys; groups = map (λ v. map held v.items) g.groups.items; failed = g.failed } };
+
+    ghost invariant = { λ g. (length g.groups.items ≤ length g.keys) × AreColumns (length g.types.items) g.by.items };
+}
+
+// The aggregates of row i alone.
+fn start_group(
+    alloc: Global,
+    aggregates: &[Aggregate],
+    rows: &Table,
+    i: usize,
+) -> Result<Vec<Accumulator>, AllocError>
+    requires { i < length rows.now.rows }
+    ensures { IfOk result (λ v. map held v.items ≡ all_held (map op_of aggregates.now) (row rows.now i ∷ [])) }
+{
+    let mut group = Vec::with_capacity(alloc, aggregates.len())?;
+    for aggregate in aggregates {
+        group.push(Accumulator::of(alloc, *aggregate, rows, i)?)?;
+    }
+    Ok(group)
+}
+
+// The aggregates with row i too. After an `Err` they are arbitrary.
+fn advance_group(
+    alloc: Global,
+    group: &mut Vec<Accumulator>,
+    rows: &Table,
+    i: usize,
+) -> Result<(), GroupFault>
+    requires { i < length rows.now.rows }
+    ensures ok { OnOk result (map held group.new.items ≡ map (advance (row rows.now i)) (map held group.old.items)) }
+    ensures err { IfErr result (λ e. StepsBlame e (map held group.old.items)) }
+{
+    for place in 0..group.len() {
+        group[place].add(alloc, rows, i)?;
+    }
+    Ok(())
+}
+
+// A key and the values of its aggregates.
+fn cells_of<'a>(
+    alloc: Global,
+    key: &'a Row,
+    group: &'a [Accumulator],
+) -> Result<Vec<Cell<'a>>, GroupFault>
+    ensures cells { IfOk result (λ v. map cell_val v.items ≡ key.now ++ map (λ h. h.value) (map held group.now)) }
+    ensures fit { OnOk result (list_all held_fits (map held group.now) ≡ true) }
+    ensures err { IfErr result (λ e. CellsBlame e (map held group.now)) }
+{
+    let mut cells = key_cells(alloc, key)?;
+    for accumulator in group {
+        let Some(cell) = accumulator.cell() else {
+            return Err(GroupFault::Overflow);
+        };
+        cells.push(cell)?;
+    }
+    Ok(cells)
+}
+
+// The values of a key.
+fn key_cells(alloc: Global, key: &Row) -> Result<Vec<Cell<'_>>, AllocError>
+    ensures { IfOk result (λ v. map cell_val v.items ≡ key.now) }
+{
+    let values = key.values();
+    let mut cells = Vec::new(alloc);
+    for value in values {
+        cells.push(value.cell())?;
+    }
+    Ok(cells)
+}
+
+// The types of these aggregates: a least and a greatest value have the column's type, a sum and a count are numbers.
+fn aggregate_type(types: &[ColType], aggregate: Aggregate) -> ColType
+    ensures { result ≡ aggregate_type types.now (op_of aggregate) }
+{
+    match aggregate {
+        Aggregate::Least(c) | Aggregate::Greatest(c) => match types.get(c) {
+            Some(kind) => *kind,
+            None => ColType::Int,
+        },
+        Aggregate::Sum(_) | Aggregate::CountRows => ColType::Int,
+    }
+}
+
+// The types of the columns of a group: those of the key, then those of the aggregates.
+fn group_types(
+    alloc: Global,
+    types: &[ColType],
+    by: &[usize],
+    aggregates: &[Aggregate],
+) -> Result<Vec<ColType>, AllocError>
+    requires { AreColumns (length types.now) by.now }
+    ensures { IfOk result (λ v. v.items ≡ unary_types (group plain by.now (map op_of aggregates.now)) types.now) }
+{
+    let mut found = types_at(alloc, types, by)?;
+    for aggregate in aggregates {
+        found.push(aggregate_type(types, *aggregate))?;
+    }
+    Ok(found)
+}
+
+impl Grouping {
+    /// A grouping of no rows, which are to have these types.
+    pub fn new(
+        alloc: Global,
+        types: &[ColType],
+        by: &[usize],
+        aggregates: &[Aggregate],
+    ) -> Result<Grouping, AllocError>
+        requires { AreColumns (length types.now) by.now }
+        ensures types { IfOk result (λ g. g.types ≡ types.now) }
+        ensures by { IfOk result (λ g. g.by ≡ by.now) }
+        ensures aggregates { IfOk result (λ g. g.aggregates ≡ map op_of aggregates.now) }
+        ensures nothing { IfOk result (λ g. HasTaken g []) }
+    {
+        Ok(Grouping {
+            types: Vec::from_slice(alloc, types)?,
+            by: Vec::from_slice(alloc, by)?,
+            aggregates: Vec::from_slice(alloc, aggregates)?,
+            keys: Keys::new(alloc),
+            groups: Vec::new(alloc),
+            scratch: Row::new(alloc),
+            failed: None,
+            alloc,
+        })
+    }
+
+    // Adds row i behind those that were added. After an `Err` some aggregates may have it.
+    fn add_row(&mut self, rows: &Table, i: usize) -> Result<(), GroupFault>
+        requires types { rows.now.types ≡ self.old.types }
+        requires row { i < length rows.now.rows }
+        requires fits { Fits self.old.types (row rows.now i) }
+        ensures types { self.new.types ≡ self.old.types }
+        ensures by { self.new.by ≡ self.old.by }
+        ensures aggregates { self.new.aggregates ≡ self.old.aggregates }
+        ensures failed { self.new.failed ≡ self.old.failed }
+        ensures taken { OnOk result ((xs : List Cells) → HasTaken self.old xs → HasTaken self.new (xs ++ row rows.now i ∷ [])) }
+        ensures err { IfErr result (λ e. (xs : List Cells) → HasTaken self.old xs → TakeBlame e xs) }
+    {
+        self.scratch.read(rows, i, &self.by)?;
+        let number = self.keys.number(&self.scratch)?;
+        if number < self.groups.len() {
+            advance_group(self.alloc, &mut self.groups[number], rows, i)?;
+            return Ok(());
+        }
+        let group = start_group(self.alloc, &self.aggregates, rows, i)?;
+        self.groups.push(group)?;
+        Ok(())
+    }
+
+    /// Adds row i behind those that were added. After an `Err` it fails with this error at each later row too.
+    pub fn add(&mut self, rows: &Table, i: usize) -> Result<(), GroupFault>
+        requires types { rows.now.types ≡ self.old.types }
+        requires row { i < length rows.now.rows }
+        requires fits { Fits self.old.types (row rows.now i) }
+        ensures types { self.new.types ≡ self.old.types }
+        ensures by { self.new.by ≡ self.old.by }
+        ensures aggregates { self.new.aggregates ≡ self.old.aggregates }
+        ensures taken { OnOk result ((xs : List Cells) → HasTaken self.old xs → HasTaken self.new (xs ++ row rows.now i ∷ [])) }
+        ensures err { IfErr result (λ e. (xs : List Cells) → HasTaken self.old xs → TakeBlame e xs) }
+        ensures failed { IfErr result (λ e. self.new.failed ≡ Some e) }
+        ensures again { IfSome self.old.failed (λ e. result ≡ Err e) }
+    {
+        if let Some(fault) = self.failed {
+            return Err(fault);
+        }
+        match self.add_row(rows, i) {
+            Ok(()) => Ok(()),
+            Err(fault) => {
+                self.failed = Some(fault);
+                Err(fault)
+            }
+        }
+    }
+
+    /// Each key with the aggregates of its rows, in order of first occurrence.
+    pub fn finish(&self) -> Result<Table, GroupFault>
+        requires { HasTakenSome self.now }
+        ensures types { IfOk result (λ r. r.types ≡ unary_types (group plain self.now.by self.now.aggregates) self.now.types) }
+        ensures rows { IfOk result (λ r. (xs : List Cells) → HasTaken self.now xs → group_rows self.now.by self.now.aggregates xs ≡ Some r.rows) }
+        ensures err { IfErr result (λ e. (xs : List Cells) → HasTaken self.now xs → EndBlame e self.now.by self.now.aggregates xs) }
+    {
+        let types = group_types(self.alloc, &self.types, &self.by, &self.aggregates)?;
+        let mut found = Table::new(self.alloc, types.as_slice())?;
+        for number in 0..self.groups.len() {
+            let cells = cells_of(self.alloc, self.keys.key(number), &self.groups[number])?;
+            found.push_cells(cells.as_slice())?;
+        }
+        Ok(found)
+    }
+}
+
+/// The rows by key: for each key, in order of first occurrence, the key and the aggregates of its rows.
+pub fn grouped(
+    alloc: Global,
+    rows: &Table,
+    by: &[usize],
+    aggregates: &[Aggregate],
+) -> Result<Table, GroupFault>
+    requires { AreColumns (length rows.now.types) by.now }
+    ensures types { IfOk result (λ r. r.types ≡ unary_types (group plain by.now (map op_of aggregates.now)) rows.now.types) }
+    ensures rows { IfOk result (λ r. group_rows by.now (map op_of aggregates.now) rows.now.rows ≡ Some r.rows) }
+    ensures err { IfErr result (λ e. GroupBlame e by.now (map op_of aggregates.now) rows.now.rows) }
+{
+    let mut grouping = Grouping::new(alloc, rows.types(), by, aggregates)?;
+    for i in 0..rows.len() {
+        grouping.add(rows, i)?;
+    }
+    grouping.finish()
+}

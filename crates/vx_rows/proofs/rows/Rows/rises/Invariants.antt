@@ -1,5 +1,0 @@
-use Rattle.vx_rows.proofs.KeyFacts.{Rises}
-use Rattle.vx_rows.proofs.rows.Rows.rises.Given as goal
-
-abbrev pub invariant-loop-i : goal.invariant-loop-i
-invariant-loop-i l = Rises l.cols l.self.rows l.i

@@ -1,0 +1,21 @@
+use Rattle.std.proofs.Common.{◌≡◌, ◌+◌, ◌<◌, List, [], arith, sym, ap, ◌∙◌, subst, length, get_or, take}
+use Rattle.vx_values.specs.Values.{value_at}
+use Rattle.vx_rows.specs.View.{RowsView}
+use Rattle.vx_rows.proofs.Fill.{map_at}
+use Rattle.vx_views.specs.Chunks.{all_rows, rows_in}
+use Rattle.vx_views.proofs.Whole.{spot-row}
+use Rattle.vx_views.proofs.rows.Rows.cell.Goals as goal
+
+pub returns : goal.returns
+returns c =
+    let ts = c.self.inside.chunks.items in
+    let k = c.spot_of-spot.result.chunk in
+    let p = c.spot_of-spot.result.place in
+    let t = c.index.result.now in
+    let v = c.as_slice.ensures.value in
+    let near : k < length ts = omega (arith, ap length v, c.spot_of-spot.ensures.chunk) in
+    let e = map_at (λ u. u.rows) ts k t [] near c.index.ensures in
+    let there : p < length (rows_in ts k) = subst (λ (us : List RowsView). p < length (rows_in us k)) v c.spot_of-spot.ensures.there in
+    let at : c.args.i ≡ length (all_rows (take k ts)) + p = subst (λ (us : List RowsView). c.args.i ≡ length (all_rows (take k us)) + p) v c.spot_of-spot.ensures.place in
+    let rows = spot-row ts c.args.i k p t near c.index.ensures (omega (arith, ap length e, there)) at in
+    c.cell.ensures ∙ ap (λ r. value_at r c.args.column) (sym rows ∙ ap (λ u. get_or u.rows c.args.i []) c.self.view_is)

@@ -1,0 +1,173 @@
+//! Rows of one table that is shared.
+
+ghost use Rattle.std.specs.Prelude.{◌≡◌, ◌+◌, ◌<◌, ◌≤◌, ◌++◌, length, map, slice_range, IfOk, IfSome, IfNone, OnOk, OnErr};
+ghost use Rattle.std.specs.Arc.{arc_value};
+ghost use Rattle.vx_values.specs.declared.value.ColType.TheVariants as kind;
+ghost use Rattle.vx_values.specs.Values.{value_at};
+ghost use Rattle.vx_values.specs.ValueView.{cell_val};
+ghost use Rattle.vx_values.specs.Types.{type_at};
+ghost use Rattle.vx_rows.specs.View.{row, ArePositions};
+ghost use Rattle.vx_rows.specs.Lists.{each_below};
+ghost use Rattle.vx_views.specs.Selected.{of_number, places_of, AreNumbers, AreTexts};
+ghost use Rattle.vx_views.specs.Seen.{seen_positions};
+
+use crate::places::{NumberTest, part_of, places_at, places_in};
+use crate::positions::{Positions, PositionsRef};
+use std::alloc::{AllocError, Global};
+use std::marker::Model;
+use std::sync::Arc;
+use vx_rows::{Cell, ColType, Table, Texts};
+
+/// Rows of one table that is shared, by their positions.
+#[derive(Drop)]
+pub struct TableRows {
+    base: Arc<Table>,
+    at: Positions,
+}
+
+impl Model for TableRows {
+    ghost use Rattle.std.specs.Prelude.{map, length};
+    ghost use Rattle.std.specs.Arc.{arc_value};
+    ghost use Rattle.vx_rows.specs.View.{RowsView, row, ArePositions};
+
+    ghost Value = { RowsView };
+
+    ghost view = { λ p. record { types = (arc_value p.base).types; rows = map (row (arc_value p.base)) p.at } };
+
+    ghost invariant = { λ p. ArePositions (length (arc_value p.base).rows) p.at };
+}
+
+impl TableRows {
+    /// The rows of a table from `from` up to `to`.
+    pub fn of(base: &Arc<Table>, from: usize, to: usize) -> Result<TableRows, AllocError>
+        requires order { from ≤ to }
+        requires there { to ≤ length (arc_value base.now).rows }
+        ensures types { IfOk result (λ p. p.types ≡ (arc_value base.now).types) }
+        ensures rows { IfOk result (λ p. p.rows ≡ slice_range (arc_value base.now).rows from to) }
+    {
+        let base = Arc::try_clone(base)?;
+        let at = Positions::range(from, to - from);
+        Ok(TableRows { base, at })
+    }
+
+    /// How many rows there are.
+    pub fn len(&self) -> usize
+        ensures { result ≡ length self.now.rows }
+    {
+        self.at.len()
+    }
+
+    /// The types of the columns.
+    pub fn types(&self) -> &[ColType]
+        ensures { result.now ≡ self.now.types }
+    {
+        self.base.types()
+    }
+
+    /// The value of a row in a column.
+    pub fn cell(&self, i: usize, column: usize) -> Cell<'_>
+        requires row { i < length self.now.rows }
+        requires column { column < length self.now.types }
+        ensures { cell_val result ≡ value_at (row self.now i) column }
+    {
+        self.base.cell(self.at.get(i), column)
+    }
+
+    /// The rows from `from` up to `to`.
+    pub fn slice(&self, from: usize, to: usize) -> Result<TableRows, AllocError>
+        requires order { from ≤ to }
+        requires there { to ≤ length self.now.rows }
+        ensures types { IfOk result (λ p. p.types ≡ self.now.types) }
+        ensures rows { IfOk result (λ p. p.rows ≡ slice_range self.now.rows from to) }
+    {
+        let base = Arc::try_clone(&self.base)?;
+        let at = self.at.slice(from, to)?;
+        Ok(TableRows { base, at })
+    }
+
+    /// The rows at some places, in their order.
+    pub fn at(&self, alloc: Global, places: &[usize]) -> Result<TableRows, AllocError>
+        requires { ArePositions (length self.now.rows) places.now }
+        ensures types { IfOk result (λ p. p.types ≡ self.now.types) }
+        ensures rows { IfOk result (λ p. p.rows ≡ map (row self.now) places.now) }
+    {
+        let base = Arc::try_clone(&self.base)?;
+        let at = self.at.at(alloc, places)?;
+        Ok(TableRows { base, at })
+    }
+
+    /// The places of the rows whose number in a column passes a test.
+    pub fn places_where<T: NumberTest>(
+        &self,
+        alloc: Global,
+        column: usize,
+        test: &T,
+    ) -> Result<Vec<usize>, AllocError>
+        requires column { column < length self.now.types }
+        requires number { type_at self.now.types column ≡ kind.Int }
+        ensures { IfOk result (λ v. v.items ≡ places_of (λ r. of_number (T.says test.now) (value_at r column)) self.now.rows) }
+    {
+        let Some(numbers) = self.base.numbers(column) else {
+            unreachable!()
+        };
+        match self.at.seen() {
+            PositionsRef::Range(from, count) => {
+                let part = part_of(numbers, from, count);
+                Ok(places_in(alloc, part, test)?)
+            }
+            PositionsRef::Listed(positions) => Ok(places_at(alloc, numbers, positions, test)?),
+        }
+    }
+
+    /// The numbers of a column of the table, and the positions in them of the rows, where it has numbers.
+    pub fn numbers(&self, column: usize) -> Option<(&[i64], PositionsRef<'_>)>
+        requires { column < length self.now.types }
+        ensures kind { IfSome result (λ _. type_at self.now.types column ≡ kind.Int) }
+        ensures none { IfNone result (type_at self.now.types column ≡ kind.Text) }
+        ensures values { IfSome result (λ r. AreNumbers r.0.now (seen_positions r.1) column self.now.rows) }
+    {
+        let numbers = self.base.numbers(column)?;
+        Some((numbers, self.at.seen()))
+    }
+
+    /// The texts of a column of the table, and the positions in them of the rows, where it has texts.
+    pub fn texts(&self, column: usize) -> Option<(&Texts, PositionsRef<'_>)>
+        requires { column < length self.now.types }
+        ensures kind { IfSome result (λ _. type_at self.now.types column ≡ kind.Text) }
+        ensures none { IfNone result (type_at self.now.types column ≡ kind.Int) }
+        ensures values { IfSome result (λ r. AreTexts r.0.now (seen_positions r.1) column self.now.rows) }
+    {
+        let texts = self.base.texts(column)?;
+        Some((texts, self.at.seen()))
+    }
+
+    /// Adds copies of the rows behind those of a table.
+    pub fn copy_onto(&self, rows: &mut Table) -> Result<(), AllocError>
+        requires { self.now.types ≡ rows.old.types }
+        ensures types { rows.new.types ≡ rows.old.types }
+        ensures ok { OnOk result (rows.new.rows ≡ rows.old.rows ++ self.now.rows) }
+        ensures err { OnErr result (rows.new.rows ≡ rows.old.rows) }
+    {
+        match self.at.seen() {
+            PositionsRef::Range(from, count) => append_part(rows, &*self.base, from, count),
+            PositionsRef::Listed(positions) => rows.append_rows_at(&*self.base, positions),
+        }
+    }
+}
+
+// Adds so many rows of another table from a position on.
+fn append_part(rows: &mut Table, other: &Table, from: usize, count: usize) -> Result<(), AllocError>
+    requires types { other.now.types ≡ rows.old.types }
+    requires there { ArePositions (length other.now.rows) (each_below count (λ k. from + k)) }
+    ensures types { rows.new.types ≡ rows.old.types }
+    ensures ok { OnOk result (rows.new.rows ≡ rows.old.rows ++ map (row other.now) (each_below count (λ k. from + k))) }
+    ensures err { OnErr result (rows.new.rows ≡ rows.old.rows) }
+{
+    if count == 0 {
+        return Ok(());
+    }
+    let Some(to) = from.checked_add(count) else {
+        return Err(AllocError);
+    };
+    rows.append_range(other, from, to)
+}
