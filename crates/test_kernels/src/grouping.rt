@@ -8,6 +8,7 @@ use std::test::Fail;
 use test_tables::{shown, table};
 use vx_keys::{GroupFault, grouped};
 use vx_plan::Aggregate;
+use vx_views::Rows;
 
 // The groups of a table, as text, or that a number of theirs does not fit.
 fn groups_of(
@@ -18,7 +19,7 @@ fn groups_of(
 ) -> Result<String, AllocError>
     requires { AreColumns 2 by.now }
 {
-    let rows = table(alloc, entries)?;
+    let rows = Rows::of_table(alloc, table(alloc, entries)?)?;
     match grouped(alloc, &rows, by, aggregates) {
         Ok(groups) => shown(alloc, &groups),
         Err(GroupFault::Overflow) => String::from_str(alloc, "overflow"),
@@ -55,7 +56,8 @@ const SUM: [Aggregate; 1] = [Aggregate::Sum(0)];
 #[test]
 fn no_rows_have_no_group(rt: HostRuntime) -> Result<(), Fail> {
     let alloc = rt.alloc();
-    let none = grouped(alloc, &table(alloc, &[])?, &[], &EVERY)?;
+    let rows = Rows::of_table(alloc, table(alloc, &[])?)?;
+    let none = grouped(alloc, &rows, &[], &EVERY)?;
     assert_eq!(rt; none.len(), 0);
     assert_eq!(rt; none.types().len(), 4);
     Ok(())

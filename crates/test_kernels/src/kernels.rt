@@ -7,8 +7,9 @@ use std::alloc::{AllocError, Global};
 use std::process::Abort;
 use std::test::Fail;
 use test_tables::{shown, table};
-use vx_algebra::{projected, sorted, united};
-use vx_keys::{distinct, hash_join};
+use vx_algebra::sorted_chunks;
+use vx_keys::{Build, Seen, hash_join};
+use vx_views::Rows;
 
 // A kernel over one input and some of its columns.
 #[derive(Clone, Copy)]
@@ -27,13 +28,16 @@ fn made(
 ) -> Result<String, AllocError>
     requires { AreColumns 2 columns.now }
 {
-    let rows = table(alloc, entries)?;
+    let rows = Rows::of_table(alloc, table(alloc, entries)?)?;
     let made = match kernel {
-        Kernel::Projected => projected(alloc, &rows, columns)?,
-        Kernel::Sorted => sorted(alloc, &rows, columns)?,
-        Kernel::Distinct => distinct(alloc, &rows, columns)?,
+        Kernel::Projected => rows.project(alloc, columns)?,
+        Kernel::Sorted => sorted_chunks(alloc, &rows, columns)?,
+        Kernel::Distinct => {
+            let mut seen = Seen::new(alloc);
+            seen.keep_new(&rows, columns)?
+        }
     };
-    shown(alloc, &made)
+    shown(alloc, &made.gathered(alloc)?)
 }
 
 // Compares what a kernel makes of a table, by these columns, with a text.
@@ -97,25 +101,35 @@ fn the_first_of_equal_rows_is_kept(rt: HostRuntime) -> Result<(), Fail> {
     compare(&rt, alloc, Kernel::Distinct, &REPEATED, &[1], "'b';'a';")
 }
 
-// The union of two tables, as text.
-fn union_of(
+// What is new in each of two batches, as text.
+fn news_of(
     alloc: Global,
-    left: &[(i64, &str)],
-    right: &[(i64, &str)],
-) -> Result<String, AllocError> {
-    let left = table(alloc, left)?;
-    let right = table(alloc, right)?;
-    let both = united(left, &right)?;
-    shown(alloc, &both)
+    first: &[(i64, &str)],
+    second: &[(i64, &str)],
+    columns: &[usize],
+) -> Result<(String, String), AllocError>
+    requires { AreColumns 2 columns.now }
+{
+    let first = Rows::of_table(alloc, table(alloc, first)?)?;
+    let second = Rows::of_table(alloc, table(alloc, second)?)?;
+    let mut seen = Seen::new(alloc);
+    let early = seen.keep_new(&first, columns)?.gathered(alloc)?;
+    let late = seen.keep_new(&second, columns)?.gathered(alloc)?;
+    Ok((shown(alloc, &early)?, shown(alloc, &late)?))
 }
 
+const AGAIN: [(i64, &str); 4] = [(2, "a"), (4, "b"), (3, "b"), (4, "b")];
+
 #[test]
-fn a_union_keeps_copies(rt: HostRuntime) -> Result<(), Fail> {
+fn rows_of_an_earlier_batch_are_not_new(rt: HostRuntime) -> Result<(), Fail> {
     let alloc = rt.alloc();
-    let both = union_of(alloc, &[(1, "a")], &[(1, "a"), (0, "b")])?;
-    assert_eq!(rt; both.as_str(), "1 'a';1 'a';0 'b';");
-    let none = union_of(alloc, &[], &[])?;
-    assert_eq!(rt; none.as_str(), "");
+    let news = news_of(alloc, &REPEATED, &AGAIN, &[0, 1])?;
+    assert_eq!(rt; news.0.as_str(), "3 'b';1 'a';2 'a';");
+    assert_eq!(rt; news.1.as_str(), "4 'b';");
+    let numbers = news_of(alloc, &REPEATED, &AGAIN, &[0])?;
+    assert_eq!(rt; numbers.1.as_str(), "4;");
+    let texts = news_of(alloc, &REPEATED, &AGAIN, &[1])?;
+    assert_eq!(rt; texts.1.as_str(), "");
     Ok(())
 }
 
@@ -128,10 +142,10 @@ fn joined(
 ) -> Result<String, AllocError>
     requires { column < 2 }
 {
-    let left = table(alloc, left)?;
-    let right = table(alloc, right)?;
-    let joined = hash_join(alloc, &left, &[column], &right, vec![in alloc; column]?)?;
-    shown(alloc, &joined)
+    let left = Rows::of_table(alloc, table(alloc, left)?)?;
+    let right = Rows::of_table(alloc, table(alloc, right)?)?;
+    let joined = hash_join(alloc, left, &[column], &right, vec![in alloc; column]?)?;
+    shown(alloc, &joined.gathered(alloc)?)
 }
 
 const LEFT: [(i64, &str); 3] = [(1, "key"), (2, "ke"), (3, "key")];
@@ -155,5 +169,24 @@ fn a_join_with_no_rows_is_empty(rt: HostRuntime) -> Result<(), Fail> {
     assert_eq!(rt; left.as_str(), "");
     let right = joined(alloc, &[(1, "a")], &[], 0)?;
     assert_eq!(rt; right.as_str(), "");
+    Ok(())
+}
+
+// How many rows the first probe of a join joins, and how many left rows it leaves.
+fn probed(alloc: Global, most: usize) -> Result<(usize, usize), AllocError> {
+    let left = Rows::of_table(alloc, table(alloc, &LEFT)?)?;
+    let right = Rows::of_table(alloc, table(alloc, &RIGHT)?)?;
+    let build = Build::of(alloc, &right, vec![in alloc; 1]?)?;
+    let (joined, rest) = build.probe(left, &[1], most)?;
+    Ok((joined.len(), rest.len()))
+}
+
+#[test]
+fn a_probe_ends_at_most_rows(rt: HostRuntime) -> Result<(), Fail> {
+    let alloc = rt.alloc();
+    assert_eq!(rt; probed(alloc, 0)?, (2, 2));
+    assert_eq!(rt; probed(alloc, 2)?, (2, 2));
+    assert_eq!(rt; probed(alloc, 3)?, (4, 0));
+    assert_eq!(rt; probed(alloc, 5)?, (4, 0));
     Ok(())
 }

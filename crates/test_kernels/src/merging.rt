@@ -1,20 +1,27 @@
 //! Small merge joins, with their rows written out.
 
-ghost use Rattle.std.specs.Prelude.{◌≡◌, ◌<◌, ◌≤◌, [], ◌∷◌, length};
+ghost use Rattle.std.specs.Prelude.{◌≡◌, [], ◌∷◌, IfOk};
 ghost use Rattle.vx_values.specs.declared.value.ColType.TheVariants as kind;
 ghost use Rattle.vx_rows.specs.View.{AreColumns};
+ghost use Rattle.vx_keys.specs.Merged.{HasSameInputs};
 
 use std::alloc::{AllocError, Global};
 use std::process::Abort;
 use std::test::Fail;
-use test_tables::{shown, table};
-use vx_keys::{Merge, MergeFault, merge_join};
-use vx_rows::{ColType, Table};
-
-const TYPES: [ColType; 4] = [ColType::Int, ColType::Text, ColType::Int, ColType::Text];
+use test_tables::{TYPES, shown, table};
+use vx_keys::{Merge, MergeFault, MergeNeed, merge_join};
+use vx_views::Rows;
 
 // The rows of a table.
 type Pairs<'a> = &'a [(i64, &'a str)];
+
+// A batch of rows.
+fn batch(alloc: Global, rows: Pairs<'_>) -> Result<Rows, AllocError>
+    ensures { IfOk result (λ r. r.types ≡ kind.Int ∷ kind.Text ∷ []) }
+{
+    let rows = table(alloc, rows)?;
+    Rows::of_table(alloc, rows)
+}
 
 // The merge join of two tables on the same columns of both, as text, or that one falls.
 fn merged(
@@ -25,10 +32,10 @@ fn merged(
 ) -> Result<String, AllocError>
     requires { AreColumns 2 columns.now }
 {
-    let left = table(alloc, left)?;
-    let right = table(alloc, right)?;
+    let left = batch(alloc, left)?;
+    let right = batch(alloc, right)?;
     match merge_join(alloc, &left, columns, &right, columns) {
-        Ok(joined) => shown(alloc, &joined),
+        Ok(joined) => shown(alloc, &joined.gathered(alloc)?),
         Err(MergeFault::Falls) => String::from_str(alloc, "falls"),
         Err(MergeFault::NoMemory) => Err(AllocError),
     }
@@ -120,67 +127,43 @@ const WITH_ONE_THAT_FALLS: [(Pairs<'_>, Pairs<'_>, &str); 5] = [
 ];
 
 #[test]
-fn an_input_that_falls_is_told(rt: HostRuntime) -> Result<(), Fail> {
+fn an_input_that_falls_is_reported(rt: HostRuntime) -> Result<(), Fail> {
     compare(&rt, rt.alloc(), &WITH_ONE_THAT_FALLS, &[0])
 }
 
-// Adds the rows of a table.
-fn add(alloc: Global, rows: &mut Table, more: Pairs<'_>) -> Result<(), AllocError>
-    requires { rows.old.types ≡ kind.Int ∷ kind.Text ∷ [] }
-    ensures types { rows.new.types ≡ rows.old.types }
-    ensures more { length rows.old.rows ≤ length rows.new.rows }
-{
-    let more = table(alloc, more)?;
-    rows.append_range(&more, 0, more.len())
+// Of a merge only the memory may run out here.
+fn succeeded(taken: Result<(), MergeFault>) -> Result<(), AllocError> {
+    match taken {
+        Ok(()) => Ok(()),
+        Err(_) => Err(AllocError),
+    }
 }
 
-// The join of the first left row with the run, as text.
-fn joined_run(
-    alloc: Global,
-    merge: &Merge,
-    left: &Table,
-    right: &Table,
-) -> Result<String, AllocError>
-    requires row { 0 < length left.now.rows }
-    requires there { merge.now.end ≤ length right.now.rows }
-    requires left { left.now.types ≡ kind.Int ∷ kind.Text ∷ [] }
-    requires right { right.now.types ≡ kind.Int ∷ kind.Text ∷ [] }
+// The rows that a merge joins of what is at hand, as text.
+fn joined(alloc: Global, merge: &mut Merge) -> Result<String, AllocError>
+    ensures inputs { HasSameInputs merge.old merge.new }
 {
-    let mut joined = Table::new(alloc, &TYPES)?;
-    merge.push_run(left, 0, right, &mut joined)?;
-    shown(alloc, &joined)
-}
-
-// Takes the left row, and its run among right rows that come in two parts.
-fn goes_on<R: Abort>(
-    rt: &R,
-    alloc: Global,
-    merge: &mut Merge,
-    left: &Table,
-    right: &mut Table,
-) -> Result<(), Fail>
-    requires lefts { merge.old.lefts ≡ 0 ∷ [] }
-    requires rights { merge.old.rights ≡ 0 ∷ [] }
-    requires none { merge.old.end ≡ 0 }
-    requires left { left.now.types ≡ kind.Int ∷ kind.Text ∷ [] }
-    requires right { right.old.types ≡ kind.Int ∷ kind.Text ∷ [] }
-{
-    assert!(rt; left.len() > 0);
-    merge.take_left(left, 0)?;
-    assert!(rt; !merge.take_run(right)?);
-    add(alloc, right, &[(1, "c"), (2, "d")])?;
-    assert!(rt; merge.take_run(right)?);
-    let text = joined_run(alloc, merge, left, right)?;
-    assert_eq!(rt; text.as_str(), "1 'l' 1 'b';1 'l' 1 'c';");
-    assert!(rt; merge.right_rises(right));
-    Ok(())
+    match merge.join_some(usize::MAX) {
+        Ok(rows) => shown(alloc, &rows.gathered(alloc)?),
+        Err(MergeFault::Falls) => String::from_str(alloc, "falls"),
+        Err(MergeFault::NoMemory) => Err(AllocError),
+    }
 }
 
 #[test]
 fn a_run_goes_on_in_rows_that_come_later(rt: HostRuntime) -> Result<(), Fail> {
     let alloc = rt.alloc();
-    let left = table(alloc, &[(1, "l")])?;
-    let mut right = table(alloc, &[(0, "a"), (1, "b")])?;
-    let mut merge = Merge::new(alloc, vec![in alloc; 0]?, vec![in alloc; 0]?);
-    goes_on(&rt, alloc, &mut merge, &left, &mut right)
+    let columns = vec![in alloc; 0]?;
+    let mut merge = Merge::new(alloc, vec![in alloc; 0]?, &TYPES, columns, &TYPES)?;
+    succeeded(merge.take_left(batch(alloc, &[(1, "l")])?))?;
+    succeeded(merge.take_right(batch(alloc, &[(0, "a"), (1, "b")])?))?;
+    assert_eq!(&rt; joined(alloc, &mut merge)?.as_str(), "");
+    assert_eq!(&rt; merge.needs(), MergeNeed::Right);
+    succeeded(merge.take_right(batch(alloc, &[(1, "c"), (2, "d")])?))?;
+    assert_eq!(&rt;
+        joined(alloc, &mut merge)?.as_str(),
+        "1 'l' 1 'b';1 'l' 1 'c';"
+    );
+    assert_eq!(&rt; merge.needs(), MergeNeed::Left);
+    Ok(())
 }

@@ -12,16 +12,6 @@ use Rattle.vx_algebra.specs.Holds.{holds, holds_of}
 pub all-hold : (cs : List Condition) (row : Row) → passes (conditions_of cs) row ≡ list_all (λ c. holds_of c row) cs
 all-hold cs row = list_all-map (λ c. holds c row) condition_of cs
 
-pub one-fails : (cs : List Condition) (row : Row) (i : ℕ) (c : Condition) → i < length cs → get_or cs i c ≡ c → holds_of c row ≡ false → false ≡ passes (conditions_of cs) row
-one-fails cs row i c l e h = sym (all-hold cs row ∙ list_all_at (λ c. holds_of c row) cs i c l (ap (λ c. holds_of c row) e ∙ h))
-
-pub one-more : (cs : List Condition) (row : Row) (i : ℕ) (c : Condition) → i < length cs → get_or cs i c ≡ c → holds_of c row ≡ true
-    → list_all (λ c. holds_of c row) (take i cs) ≡ true → list_all (λ c. holds_of c row) (take (i + 1) cs) ≡ true
-one-more cs row i c l e h k = list_all_more (λ c. holds_of c row) cs i c l ∙ rw (k, ap (λ c. holds_of c row) e ∙ h) refl
-
-pub whole-list : (cs : List Condition) (row : Row) (i : ℕ) → length cs ≤ i → list_all (λ c. holds_of c row) (take i cs) ≡ true → true ≡ passes (conditions_of cs) row
-whole-list cs row i l h = sym (all-hold cs row ∙ ap (list_all (λ c. holds_of c row)) (sym (take_all i cs l)) ∙ h)
-
 -- rows filtered by one condition after the other
 filter-both : (p q : Row → Bool) (xs : List Row) → filter q (filter p xs) ≡ filter (λ x. p x && q x) xs
 filter-both p q [] = refl

@@ -1,3 +1,4 @@
 pub mod Runs
 pub mod Conditions
 pub mod Numbers
+pub mod ColumnFacts

@@ -5,23 +5,38 @@ ghost use Rattle.std.specs.List.{All};
 ghost use Rattle.vx_values.specs.declared.value.ColType.TheVariants as kind;
 ghost use Rattle.vx_values.specs.Types.{type_at};
 ghost use Rattle.vx_values.specs.Values.{num, value_at};
-ghost use Rattle.vx_values.specs.ValueView.{cell_val};
+ghost use Rattle.vx_values.specs.ValueView.{cell_val, test_of};
 ghost use Rattle.vx_rows.specs.Order.{sort_on};
 ghost use Rattle.vx_rows.specs.View.{row, AreColumns};
 ghost use Rattle.vx_plan_nodes.specs.Conditions.{conditions_of};
 ghost use Rattle.vx_plan_nodes.specs.Outline.{side_of};
 ghost use Rattle.vx_plan_nodes.specs.Plan.{constant};
-ghost use Rattle.vx_plan_nodes.specs.Serial.{passes, side};
+ghost use Rattle.vx_plan_nodes.specs.Serial.{passes, side, answers};
 ghost use Rattle.vx_views.specs.Chunks.{all_rows};
 ghost use Rattle.vx_views.specs.Selected.{places_of};
 ghost use Rattle.vx_algebra.specs.Holds.{holds_of};
 
-use crate::selection::answer;
+use crate::cells::cell_or_zero;
 use std::alloc::{AllocError, Global};
+use std::cmp::Ordering;
 use vx_plan_nodes::{Condition, Side};
 use vx_rows::{Cell, ColType, Value, compare_cells};
 use vx_values::Test;
 use vx_views::{Chunk, NumberTest, Rows, places_are_a_filter};
+
+// What a test says of a comparison.
+fn answer(test: Test, order: Ordering) -> bool
+    ensures { result ≡ answers (test_of test) order }
+{
+    match test {
+        Test::Equal => order.is_eq(),
+        Test::Unequal => order.is_ne(),
+        Test::Below => order.is_lt(),
+        Test::AtMost => order.is_le(),
+        Test::Above => order.is_gt(),
+        Test::AtLeast => order.is_ge(),
+    }
+}
 
 // A comparison of a number with a constant.
 #[derive(Clone, Copy)]
@@ -59,17 +74,6 @@ fn number_condition(condition: &Condition, types: &[ColType]) -> Option<NumberCo
         }),
         _ => None,
     }
-}
-
-// The value of row i of a chunk at a column, and the number 0 where there is no such column, as the definitions have it.
-fn cell_or_zero(chunk: &Chunk, i: usize, column: usize) -> Cell<'_>
-    requires { i < length chunk.now.rows }
-    ensures { cell_val result ≡ value_at (row chunk.now i) column }
-{
-    if column < chunk.types().len() {
-        return chunk.cell(i, column);
-    }
-    Cell::Int(0)
 }
 
 // The value of a condition's right side.

@@ -1,14 +1,16 @@
--- The build side of a join when one more row is taken.
-use Rattle.std.proofs.Common.{◌≡◌, ℕ, ◌<◌, ◌≤◌, Bool, false, List, [], ◌∷◌, ◌++◌, map, filter, length, get_or, set, refl, sym, ap, ◌∙◌, subst, arith, Some, None, position}
+-- The build side of a join, one row at a time.
+use Rattle.std.proofs.Common.{◌≡◌, ℕ, ◌+◌, ◌<◌, ◌≤◌, false, true, List, [], ◌∷◌, ◌++◌, map, filter, take, length, get_or, set, refl, sym, ap, ◌∙◌, subst, arith}
 use Rattle.std.specs.List.{IsDistinct, position_or_len}
-use Rattle.std.proofs.lemmas.List.{get_or-map, length-map}
-use Rattle.std.proofs.lemmas.List.Quantifiers.{position-Some}
-use Rattle.indexmap.specs.IndexSet.{insert_key}
+use Rattle.std.proofs.lemmas.List.{get_or-map, length-map, take_more, take-map, length-take-le}
+use Rattle.std.proofs.lemmas.List.Sums.{passes_at_first}
+use Rattle.indexmap.specs.IndexSet.{insert_all}
 use Rattle.vx_values.specs.Values.{Row, row_eq, pick}
-use Rattle.vx_plan_nodes.specs.Serial.{group_keys}
+use Rattle.vx_plan_nodes.specs.Serial.{firsts, group_keys}
 use Rattle.vx_rows.specs.Equality.{row_eq-same}
-use Rattle.vx_keys.specs.Build.{Built, HasBuilt, parts_of, places_of}
-use Rattle.vx_keys.proofs.KeyFacts.{eq-swap, row_eq-refl, keys-push, any-firsts, any-absent, keyed-present, keyed-own, keyed-new, keyed-none}
+use Rattle.vx_keys.specs.Build.{IsIndex, parts_of, places_of}
+use Rattle.vx_keys.specs.Numbers.{numbers_of}
+use Rattle.vx_keys.proofs.KeyFacts.{eq-swap, row_eq-refl, any-firsts, any-absent, keyed-present, keyed-own, keyed-new, keyed-none, firsts-distinct}
+use Rattle.vx_keys.proofs.NumberFacts.{number-at, firsts-all}
 use Rattle.vx_keys.proofs.PlaceFacts.{places-other, places-more, places-none, rows-at}
 
 other : (by : List ℕ) (xs : List Row) (y z : Row) → row_eq (pick by y) z ≡ false → places_of by z (xs ++ y ∷ []) ≡ places_of by z xs
@@ -27,49 +29,55 @@ parts-new by xs y past =
     keyed-new (λ k. places_of by k xs) (λ k. places_of by k (xs ++ y ∷ [])) by xs y past (λ z h. other by xs y z h)
     ∙ ap (λ l. parts_of by xs ++ l ∷ []) (places-more by (pick by y) xs y (row_eq-refl (pick by y)) ∙ ap (λ l. l ++ length xs ∷ []) (places-none by (pick by y) xs (keyed-none by xs y past)))
 
--- the two ways to take a right row, as a build shows them
-pub built-known : (b b' : Built) (rs : List Row) (y : Row) (n : ℕ) → HasBuilt b rs → n ≡ position_or_len (row_eq (pick b.columns y)) b.keys → n < length b.parts → b'.columns ≡ b.columns → b'.failed ≡ b.failed
-    → b'.keys ≡ insert_key row_eq b.keys (pick b.columns y) → IsDistinct row_eq b.keys → b'.parts ≡ set b.parts n (get_or b.parts n [] ++ length rs ∷ []) → HasBuilt b' (rs ++ y ∷ [])
-built-known b b' rs y n built at inside columns-are failed-is keys-are distinct parts-are =
-    let ks = group_keys b.columns rs in
-    let long : length b.parts ≡ length ks = ap length built.parts_are ∙ length-map ks (λ k. places_of b.columns k rs) in
-    let at' : n ≡ position_or_len (row_eq (pick b.columns y)) ks = at ∙ ap (position_or_len (row_eq (pick b.columns y))) built.keys_are in
-    record {
-      runs = failed-is ∙ built.runs;
-      keys_are = keys-are ∙ (ap (λ l. insert_key row_eq l (pick b.columns y)) built.keys_are ∙ (sym (keys-push b.columns rs y) ∙ ap (λ c. group_keys c (rs ++ y ∷ [])) (sym columns-are)));
-      parts_are = parts-are ∙ (ap (λ l. set l n (get_or l n [] ++ length rs ∷ [])) built.parts_are
-          ∙ (sym (parts-present b.columns rs y n at' (omega (arith, inside, long)) (subst (IsDistinct row_eq) built.keys_are distinct)) ∙ ap (λ c. parts_of c (rs ++ y ∷ [])) (sym columns-are)));
-    }
+-- the parts when one more row comes, by the number of its key
+module _ (by : List ℕ) (rows : List Row) (ns : List ℕ) (is : ns ≡ numbers_of [] (map (pick by) rows)) (i : ℕ) (l : i < length rows) where
+  number-is : get_or ns i 0 ≡ position_or_len (row_eq (pick by (get_or rows i []))) (group_keys by (take i rows))
+  number-is =
+      let keys = map (pick by) rows in
+      let long = length-map rows (pick by) in
+      ap (λ l. get_or l i 0) is
+      ∙ (number-at [] keys i (omega (arith, l, long))
+      ∙ ((λ j. position_or_len (row_eq (get_or-map (pick by) rows i [] [] l j)) (insert_all row_eq [] (take i keys)))
+      ∙ ap (λ ks. position_or_len (row_eq (pick by (get_or rows i []))) ks) (firsts-all [] (take i keys) ∙ ap firsts (take-map (pick by) i rows))))
 
-pub built-new : (b b' : Built) (rs : List Row) (y : Row) (n : ℕ) → HasBuilt b rs → n ≡ position_or_len (row_eq (pick b.columns y)) b.keys → length b.parts ≤ n → b'.columns ≡ b.columns → b'.failed ≡ b.failed
-    → b'.keys ≡ insert_key row_eq b.keys (pick b.columns y) → b'.parts ≡ b.parts ++ (length rs ∷ []) ∷ [] → HasBuilt b' (rs ++ y ∷ [])
-built-new b b' rs y n built at past columns-are failed-is keys-are parts-are =
-    let ks = group_keys b.columns rs in
-    let long : length b.parts ≡ length ks = ap length built.parts_are ∙ length-map ks (λ k. places_of b.columns k rs) in
-    let at' : n ≡ position_or_len (row_eq (pick b.columns y)) ks = at ∙ ap (position_or_len (row_eq (pick b.columns y))) built.keys_are in
-    record {
-      runs = failed-is ∙ built.runs;
-      keys_are = keys-are ∙ (ap (λ l. insert_key row_eq l (pick b.columns y)) built.keys_are ∙ (sym (keys-push b.columns rs y) ∙ ap (λ c. group_keys c (rs ++ y ∷ [])) (sym columns-are)));
-      parts_are = parts-are ∙ (ap (λ l. l ++ (length rs ∷ []) ∷ []) built.parts_are
-          ∙ (sym (parts-new b.columns rs y (omega (arith, past, long, at'))) ∙ ap (λ c. parts_of c (rs ++ y ∷ [])) (sym columns-are)));
-    }
+  pub part-more : get_or ns i 0 < length (parts_of by (take i rows))
+      → parts_of by (take (i + 1) rows) ≡ set (parts_of by (take i rows)) (get_or ns i 0) (get_or (parts_of by (take i rows)) (get_or ns i 0) [] ++ i ∷ [])
+  part-more h =
+      let xs = take i rows in
+      let y = get_or rows i [] in
+      let n = get_or ns i 0 in
+      let long = length-map (group_keys by xs) (λ k. places_of by k xs) in
+      let here : length xs ≡ i = length-take-le i rows (omega (arith, l)) in
+      ap (parts_of by) (take_more rows i [] l)
+      ∙ (parts-present by xs y n number-is (omega (arith, h, long)) (firsts-distinct (map (pick by) xs))
+      ∙ ap (λ m. set (parts_of by xs) n (get_or (parts_of by xs) n [] ++ m ∷ [])) here)
+
+  pub part-next : length (parts_of by (take i rows)) ≤ get_or ns i 0 → parts_of by (take (i + 1) rows) ≡ parts_of by (take i rows) ++ (i ∷ []) ∷ []
+  part-next h =
+      let xs = take i rows in
+      let y = get_or rows i [] in
+      let long = length-map (group_keys by xs) (λ k. places_of by k xs) in
+      let here : length xs ≡ i = length-take-le i rows (omega (arith, l)) in
+      let at = number-is in
+      ap (parts_of by) (take_more rows i [] l)
+      ∙ (parts-new by xs y (omega (arith, h, long, at)) ∙ ap (λ m. parts_of by xs ++ (m ∷ []) ∷ []) here)
 
 -- a key that is found has its part, and one that is not has no rows
-pub part-found : (b : Built) (rs : List Row) (key : Row) (n : ℕ) → HasBuilt b rs → position (row_eq key) b.keys ≡ Some n → (n < length b.parts) × (get_or b.parts n [] ≡ places_of b.columns key rs)
-part-found b rs key n built at =
-    let ks = group_keys b.columns rs in
-    let long : length b.parts ≡ length ks = ap length built.parts_are ∙ length-map ks (λ k. places_of b.columns k rs) in
-    let found = position-Some (row_eq key) ks n [] (ap (position (row_eq key)) (sym built.keys_are) ∙ at) in
-    let inside : n < length ks = found.0 in
-    (omega (arith, inside, long), ap (λ l. get_or l n []) built.parts_are ∙ (get_or-map (λ k. places_of b.columns k rs) ks n [] [] inside ∙ ap (λ k. places_of b.columns k rs) (sym (row_eq-same key (get_or ks n []) found.1))))
+pub part-found : (by : List ℕ) (rows keys : List Row) (parts : List (List ℕ)) (key : Row) (n : ℕ) → IsIndex by rows keys parts → n ≡ position_or_len (row_eq key) (group_keys by rows) → n < length parts
+    → get_or parts n [] ≡ places_of by key rows
+part-found by rows keys parts key n is at inside =
+    let ks = group_keys by rows in
+    let long : length parts ≡ length ks = ap length is.parts_are ∙ length-map ks (λ k. places_of by k rows) in
+    let near : n < length ks = omega (arith, inside, long) in
+    let passes : row_eq key (get_or ks n []) ≡ true = subst (λ m. row_eq key (get_or ks m []) ≡ true) (sym at) (passes_at_first (row_eq key) ks [] (subst (λ m. m < length ks) at near)) in
+    ap (λ l. get_or l n []) is.parts_are ∙ (get_or-map (λ k. places_of by k rows) ks n [] [] near ∙ ap (λ k. places_of by k rows) (sym (row_eq-same key (get_or ks n []) passes)))
 
-pub part-missing : (b : Built) (rs : List Row) (key : Row) → HasBuilt b rs → position (row_eq key) b.keys ≡ None → places_of b.columns key rs ≡ []
-part-missing b rs key built at =
-    let ks = group_keys b.columns rs in
-    places-none b.columns key rs (sym (any-firsts key (map (pick b.columns) rs)) ∙ any-absent (row_eq key) ks (past (row_eq key) ks (ap (position (row_eq key)) (sym built.keys_are) ∙ at)))
-  where
-    past : (p : Row → Bool) (xs : List Row) → position p xs ≡ None → length xs ≤ position_or_len p xs
-    past p xs h = grind (arith, h)
+pub part-missing : (by : List ℕ) (rows keys : List Row) (parts : List (List ℕ)) (key : Row) (n : ℕ) → IsIndex by rows keys parts → n ≡ position_or_len (row_eq key) (group_keys by rows) → length parts ≤ n
+    → [] ≡ places_of by key rows
+part-missing by rows keys parts key n is at past =
+    let ks = group_keys by rows in
+    let long : length parts ≡ length ks = ap length is.parts_are ∙ length-map ks (λ k. places_of by k rows) in
+    sym (places-none by key rows (sym (any-firsts key (map (pick by) rows)) ∙ any-absent (row_eq key) ks (omega (arith, past, long, at))))
 
 behind : (l : Row) (f : ℕ → Row) (ks : List ℕ) → map (λ j. l ++ f j) ks ≡ map (λ r. l ++ r) (map f ks)
 behind l f [] = refl

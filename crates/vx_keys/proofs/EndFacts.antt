@@ -1,6 +1,7 @@
 -- What a grouping shows at its end is the definition's rows, or an overflow.
 use Rattle.std.proofs.Common.{◌≡◌, ℕ, suc, zero, ◌+◌, ◌<◌, Bool, true, false, cond, ◌&&◌, List, [], ◌∷◌, ◌++◌, map, take, length, get_or, Some, None, refl, sym, ap, ◌∙◌, arith}
 use Rattle.std.specs.List.{list_all}
+use Rattle.std.proofs.lemmas.List.{length-map}
 use Rattle.std.proofs.lemmas.List.Folds.{list_all_at}
 use Rattle.vx_values.specs.Values.{Row}
 use Rattle.vx_plan_nodes.specs.Plan.{Aggregate, least, greatest, sum, count_rows}
@@ -43,6 +44,10 @@ row-is by as' xs k = ap (λ vs. k ++ vs) (values-are as' (of_key by k xs))
 groups-rows : (by : List ℕ) (as' : List Aggregate) (xs ks : List Row) → key_rows ks (map (part_of by as' xs) ks) ≡ map (group_row by as' xs) ks
 groups-rows by as' xs [] = refl
 groups-rows by as' xs (k ∷ ks) = λ i. row-is by as' xs k i ∷ groups-rows by as' xs ks i
+
+-- there are as many groups as keys
+pub level : (g : Groups) (xs : List Row) → HasTaken g xs → length g.groups ≡ length g.keys
+level g xs t = ap length t.groups_are ∙ (length-map (group_keys g.by xs) (part_of g.by g.aggregates xs) ∙ sym (ap length t.keys_are))
 
 finished : (g : Groups) (xs : List Row) → HasTaken g xs → cond (all_fit g.groups) (Some (key_rows g.keys g.groups)) None ≡ group_rows g.by g.aggregates xs
 finished g xs t =

@@ -1,14 +1,16 @@
 -- A grouping when one more row is taken.
-use Rattle.std.proofs.Common.{◌≡◌, ℕ, ◌<◌, ◌≤◌, true, false, List, [], ◌∷◌, ◌++◌, map, length, get_or, set, sym, ap, ◌∙◌, subst, arith}
+use Rattle.std.proofs.Common.{◌≡◌, ℕ, zero, suc, ◌+◌, ◌<◌, ◌≤◌, true, false, List, [], ◌∷◌, ◌++◌, map, length, take, get_or, set, refl, append_assoc, sym, ap, ◌∙◌, subst, arith}
 use Rattle.std.specs.List.{list_any, AllByRecursion, IsDistinct, position_or_len}
-use Rattle.std.proofs.lemmas.List.{length-map}
-use Rattle.indexmap.specs.IndexSet.{insert_key}
+use Rattle.std.proofs.lemmas.List.{length-map, append-nil, get_or-map, map_more, take-map, take_more}
+use Rattle.indexmap.specs.IndexSet.{insert_key, insert_all}
 use Rattle.vx_values.specs.Values.{Row, row_eq, pick}
 use Rattle.vx_values.specs.Types.{Fits}
 use Rattle.vx_plan_nodes.specs.Plan.{Aggregate}
 use Rattle.vx_plan_nodes.specs.Serial.{group_keys}
-use Rattle.vx_keys.specs.Groups.{all_held, advance, part_of, Groups, HasTaken}
-use Rattle.vx_keys.proofs.KeyFacts.{row_eq-refl, eq-swap, keys-push, any-firsts, keyed-any, keyed-present, keyed-own, keyed-new, keyed-none, of_key-other, of_key-more, of_key-none, of_key-some}
+use Rattle.vx_keys.specs.Numbers.{numbers_of}
+use Rattle.vx_keys.specs.Groups.{Held, all_held, advance, part_of, Groups, HasTaken, behind}
+use Rattle.vx_keys.proofs.KeyFacts.{row_eq-refl, eq-swap, keys-push, any-firsts, firsts-distinct, keyed-any, keyed-present, keyed-own, keyed-new, keyed-none, of_key-other, of_key-more, of_key-none, of_key-some}
+use Rattle.vx_keys.proofs.NumberFacts.{all-more, number-at}
 use Rattle.vx_keys.proofs.AggregateFacts.{held-push}
 
 part-other : (by : List ℕ) (as' : List Aggregate) (xs : List Row) (y z : Row) → row_eq (pick by y) z ≡ false → part_of by as' (xs ++ y ∷ []) z ≡ part_of by as' xs z
@@ -73,3 +75,46 @@ took-new g h xs y n taken at past types-are fit by-is as-is failed-is keys-is gr
           ∙ (sym more ∙ (λ i. map (part_of (sym by-is i) (sym as-is i) (xs ++ y ∷ [])) (group_keys (sym by-is i) (xs ++ y ∷ [])))));
       fit = subst (λ types. AllByRecursion (Fits types) (xs ++ y ∷ [])) (sym types-are) (all-push (Fits g.types) xs y taken.fit fit);
     }
+
+-- one number is below another, or is not
+pub by-order : {P : Type 0} (n m : ℕ) → (n < m → P) → (m ≤ n → P) → P
+by-order n zero f g = g (omega arith)
+by-order zero (suc m) f g = f (omega arith)
+by-order (suc n) (suc m) f g = by-order n m (λ l. f (omega (arith, l))) (λ l. g (omega (arith, l)))
+
+-- the first i + 1 of rows, behind others
+pub one-more : (xs rows : List Row) (i : ℕ) → i < length rows → xs ++ take (i + 1) rows ≡ (xs ++ take i rows) ++ get_or rows i [] ∷ []
+one-more xs rows i near = ap (λ l. xs ++ l) (take_more rows i [] near) ∙ sym (append_assoc xs (take i rows) (get_or rows i [] ∷ []))
+
+-- no row came yet
+pub behind-none : (g : Groups) (groups : List (List Held)) (xs : List Row) → g.groups ≡ groups → HasTaken g xs → HasTaken (behind g [] groups) (xs ++ [])
+behind-none g groups xs is t = subst (HasTaken (behind g [] groups)) (sym (append-nil xs)) (record {
+  runs = t.runs;
+  keys_are = t.keys_are;
+  groups_are = sym is ∙ t.groups_are;
+  fit = t.fit;
+})
+
+-- one row more came, to the group of its number or as the first of the next one
+pub behind-next : (g : Groups) (as' : List Aggregate) (old new : List (List Held)) (xs rows : List Row) (i number : ℕ) → i < length rows
+    → number ≡ get_or (numbers_of g.keys (map (pick g.by) rows)) i 0 → Fits g.types (get_or rows i []) → g.aggregates ≡ as'
+    → (number < length old → new ≡ set old number (map (advance (get_or rows i [])) (get_or old number [])))
+    → (length old ≤ number → new ≡ old ++ all_held as' (get_or rows i [] ∷ []) ∷ [])
+    → HasTaken (behind g (take i rows) old) (xs ++ take i rows) → HasTaken (behind g (take (i + 1) rows) new) (xs ++ take (i + 1) rows)
+behind-next g as' old new xs rows i number near is fit as-are known fresh taken =
+    let f = pick g.by in
+    let y = get_or rows i [] in
+    let before = behind g (take i rows) old in
+    let after = behind g (take (i + 1) rows) new in
+    let near' : i < length (map f rows) = let long = length-map rows f in omega (arith, near, long) in
+    let at : number ≡ position_or_len (row_eq (f y)) (insert_all row_eq g.keys (map f (take i rows))) =
+    is ∙ (number-at g.keys (map f rows) i near'
+    ∙ (λ j. position_or_len (row_eq (get_or-map f rows i [] [] near j)) (insert_all row_eq g.keys (take-map f i rows j)))) in
+    let keys-are : after.keys ≡ insert_key row_eq before.keys (f y) =
+    ap (insert_all row_eq g.keys) (map_more f rows i [] near) ∙ all-more g.keys (map f (take i rows)) (f y) in
+    let apart : IsDistinct row_eq before.keys =
+    subst (IsDistinct row_eq) (sym taken.keys_are) (firsts-distinct (map f (xs ++ take i rows))) in
+    subst (HasTaken after) (sym (one-more xs rows i near))
+    (by-order number (length old)
+    (λ below. took-known before after (xs ++ take i rows) y number taken at below refl fit refl refl refl keys-are apart (known below))
+    (λ past. took-new before after (xs ++ take i rows) y number taken at past refl fit refl refl refl keys-are (fresh past ∙ ap (λ as''. old ++ all_held as'' (y ∷ []) ∷ []) (sym as-are))))

@@ -5,7 +5,8 @@ use Rattle.std.proofs.lemmas.List.Folds.{list_any_none, list_any_at}
 use Rattle.std.proofs.lemmas.List.Sums.{fails_before_first, passes_at_first}
 use Rattle.std.proofs.lemmas.List.Elements.{filter-append}
 use Rattle.std.proofs.lemmas.List.{map-append, append-nil, map_more, get_or-map}
-use Rattle.std.proofs.lemmas.Map.Keys.{IsDistinct-head, IsDistinct-tail, apart_from_distinct}
+use Rattle.std.proofs.lemmas.Map.Keys.{IsDistinct-cons, IsDistinct-head, IsDistinct-tail, apart_from_distinct}
+use Rattle.std.proofs.lemmas.Map.Made.{IsDistinct-from_count}
 use Rattle.indexmap.specs.IndexSet.{insert_key}
 use Rattle.vx_values.specs.Values.{Row, row_eq, pick}
 use Rattle.vx_plan_nodes.specs.Serial.{firsts, group_keys, of_key}
@@ -83,6 +84,38 @@ any-firsts k (x ∷ ys) = step (row_eq k x) refl (any-firsts k ys)
     step : (b : Bool) → row_eq k x ≡ b → list_any (row_eq k) (firsts ys) ≡ list_any (row_eq k) ys → (row_eq k x || list_any (row_eq k) (others x (firsts ys))) ≡ (row_eq k x || list_any (row_eq k) ys)
     step true e r = ap (λ b. b || list_any (row_eq k) (others x (firsts ys))) e ∙ sym (ap (λ b. b || list_any (row_eq k) ys) e)
     step false e r = ap (λ b. row_eq k x || b) (any-without k x (firsts ys) e ∙ r)
+
+-- first occurrences are apart
+all-left : (P : Row → Type 0) (p : Row → Bool) (xs : List Row) → AllByRecursion P xs → AllByRecursion P (filter p xs)
+all-left P p [] all = tt
+all-left P p (x ∷ xs) all = step (p x) (all-left P p xs all.1)
+  where
+    step : (b : Bool) → AllByRecursion P (filter p xs) → AllByRecursion P (cond b (x ∷ filter p xs) (filter p xs))
+    step true rest = (all.0, rest)
+    step false rest = rest
+
+apart-others : (x : Row) (ys : List Row) → AllByRecursion (λ y. row_eq x y ≡ false) (others x ys)
+apart-others x [] = tt
+apart-others x (y ∷ ys) = step (row_eq x y) refl (apart-others x ys)
+  where
+    step : (b : Bool) → row_eq x y ≡ b → AllByRecursion (λ y. row_eq x y ≡ false) (others x ys) → AllByRecursion (λ y. row_eq x y ≡ false) (cond (not b) (y ∷ others x ys) (others x ys))
+    step true e rest = rest
+    step false e rest = (e, rest)
+
+none-distinct : IsDistinct row_eq []
+none-distinct = IsDistinct-from_count row_eq-laws [] refl
+
+distinct-left : (p : Row → Bool) (xs : List Row) → IsDistinct row_eq xs → IsDistinct row_eq (filter p xs)
+distinct-left p [] d = d
+distinct-left p (x ∷ xs) d = step (p x) (distinct-left p xs (IsDistinct-tail row_eq x xs d))
+  where
+    step : (b : Bool) → IsDistinct row_eq (filter p xs) → IsDistinct row_eq (cond b (x ∷ filter p xs) (filter p xs))
+    step true rest = IsDistinct-cons row_eq x (filter p xs) (all-left (λ y. row_eq x y ≡ false) p xs (IsDistinct-head row_eq x xs d)) rest
+    step false rest = rest
+
+pub firsts-distinct : (xs : List Row) → IsDistinct row_eq (firsts xs)
+firsts-distinct [] = none-distinct
+firsts-distinct (x ∷ xs) = IsDistinct-cons row_eq x (others x (firsts xs)) (apart-others x (firsts xs)) (distinct-left (λ y. not (row_eq x y)) (firsts xs) (firsts-distinct xs))
 
 -- a write at a key's place is the change that the key makes
 pub map-same : {X : Type 0} (F G : Row → X) (key : Row) (ks : List Row) → AllByRecursion (λ y. row_eq key y ≡ false) ks → ((z : Row) → row_eq key z ≡ false → G z ≡ F z) → map G ks ≡ map F ks

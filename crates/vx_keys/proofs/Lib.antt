@@ -1,4 +1,5 @@
 pub mod KeyFacts
+pub mod NumberFacts
 pub mod PlaceFacts
 pub mod BuildFacts
 pub mod PairFacts
@@ -11,3 +12,6 @@ pub mod BlameFacts
 pub mod ShownFacts
 pub mod RiseFacts
 pub mod MergeFacts
+pub mod MergeTurns
+pub mod MergeCalls
+pub mod BesideFacts

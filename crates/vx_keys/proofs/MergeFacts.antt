@@ -1,21 +1,20 @@
 -- A merge when one more left or right row is taken, and what its run holds.
-use Rattle.std.proofs.Common.{◌≡◌, ℕ, suc, ◌+◌, ◌-◌, ◌<◌, ◌≤◌, Bool, true, false, cond, ◌&&◌, List, [], ◌∷◌, ◌++◌, length, take, drop, filter, map, get_or, pos, slice_range, refl, sym, ap, ◌∙◌, arith, true≢false, drop-cons, inl, inr, append_assoc, append-nil, is_le, is_eq, is_gt, Ordering, Less, Equal, Greater}
+use Rattle.std.proofs.Common.{◌≡◌, ℕ, suc, ◌+◌, ◌-◌, ◌<◌, ◌≤◌, Bool, true, false, cond, ◌&&◌, List, [], ◌∷◌, ◌++◌, length, take, drop, filter, get_or, slice_range, nat_lt, refl, subst, sym, ap, ◌∙◌, arith, true≢false, drop-cons, inl, inr, append_assoc, append-nil, is_le, is_lt, is_eq, is_gt, Ordering, Less, Equal, Greater}
 use Rattle.std.specs.List.{list_all}
 use Rattle.std.specs.Ordering.{is_ge, ordering_reverse, nat_cmp}
 use Rattle.std.proofs.lemmas.Cmp.{ranked, by_ranked}
 use Rattle.std.proofs.lemmas.Bool.{cases_lt}
+use Rattle.std.proofs.lemmas.Bool.Decides.{nat_tests}
+use Rattle.std.proofs.Math.Seq.{drop-append-add, take-append-add}
 use Rattle.std.proofs.lemmas.List.{length-append, take-append-drop, drop_all}
 use Rattle.std.proofs.lemmas.List.Elements.{filter-append}
-use Rattle.vx_values.specs.Values.{Row, num, row_cmp, row_eq, pick}
+use Rattle.vx_values.specs.Values.{Row, row_cmp, row_eq, pick}
 use Rattle.vx_rows.specs.Order.{compare_on, sorted}
 use Rattle.vx_values.proofs.Booleans.{and-left, and-right, and-both}
 use Rattle.vx_rows.proofs.Compare.{row_eq-same, row_cmp_total}
 use Rattle.vx_plan_nodes.specs.Serial.{of_key}
-use Rattle.vx_keys.specs.Build.{matched}
-use Rattle.vx_keys.specs.declared.merging.MergeFault.{MergeFault}
-use Rattle.vx_keys.specs.declared.merging.MergeFault.TheVariants.{Falls, NoMemory}
-use Rattle.vx_keys.specs.Merged.{MergeState, last_key, HasMerged, HoldsKey, MergeBlame}
-use Rattle.vx_keys.proofs.RiseFacts.{none-below, all-join, all-weaken, rise-back, rise-push, rise-next, rise-under, last-all, last-push, fall-take}
+use Rattle.vx_keys.specs.Merged.{MergeState, last_key, HasMerged, HoldsKey, state_at}
+use Rattle.vx_keys.proofs.RiseFacts.{none-below, all-join, all-weaken, rise-back, rise-push, rise-next, rise-under, last-all, last-push}
 
 -- a key above one that c is not above is above c
 above-more : (a b c : Row) → row_cmp a b ≡ Less → is_ge (row_cmp a c) ≡ true → is_gt (row_cmp b c) ≡ true
@@ -233,31 +232,74 @@ holds-key m ls rows closed h above past = λ more ends s.
     ] in
     ap (λ l. of_key m.rights m.key (l ++ more)) (sym whole) ∙ (run-is m ls front rest more h none ∙ ap (λ l. slice_range l m.start m.end) whole)
 
--- the run of the last left row, joined with it, is all that it is joined with
-pub run-matched : (m : MergeState) (lefts rights : List ℕ) (ls rs taken : List Row) (l : Row) (closed : Bool) → HasMerged m (ls ++ l ∷ []) taken → m.lefts ≡ lefts → m.rights ≡ rights
-    → HoldsKey m closed rs → sorted rights rs ≡ true → map (λ r. l ++ r) (slice_range rs m.start m.end) ≡ matched lefts rights rs l
-run-matched m lefts rights ls rs taken l closed h e f holds s =
-    let key : m.key ≡ pick lefts l = h.key_is ∙ (last-push m.lefts ls l ∙ ap (λ b. pick b l) e) in
-    let held = holds [] (λ _. refl) ((λ i. sorted (f i) (append-nil rs i)) ∙ s) in
-    ap (map (λ r. l ++ r)) (sym held ∙ (λ i. of_key (f i) (key i) (append-nil rs i)))
-
 -- the order of two lengths, where the second list is at its end
-pub lengths-decide : (key : Row) (n : ℕ) (o : Ordering) → o ≡ nat_cmp (length key) n → n ≤ length key → o ≡ row_cmp (drop n key) []
-lengths-decide key n o e l =
-    by_ranked (length key < n) (length key ≡ n) (n < length key) o (ranked (length key) n o e)
+pub lengths-decide : (by : List ℕ) (r : Row) (n : ℕ) (o : Ordering) → o ≡ nat_cmp (length by) n → n ≤ length by → o ≡ row_cmp (pick (drop n by) r) []
+lengths-decide by r n o e l =
+    by_ranked (length by < n) (length by ≡ n) (n < length by) o (ranked (length by) n o e)
     (λ q p. absurd (omega arith))
-    (λ q p. q ∙ ap (λ k. row_cmp k []) (sym (drop_all n key (omega arith))))
-    (λ q p. q ∙ ap (λ k. row_cmp k []) (sym (drop-cons key n (num (pos 0)) p)))
+    (λ q p. q ∙ ap (λ b. row_cmp (pick b r) []) (sym (drop_all n by (omega arith))))
+    (λ q p. q ∙ ap (λ b. row_cmp (pick b r) []) (sym (drop-cons by n 0 p)))
+
+-- behind some right rows that were dropped
+module _ (lefts rights : List ℕ) (ls passed rs : List Row) (start end : ℕ) (h : HasMerged (state_at lefts rights ls passed start end) ls rs) where
+  -- the next left row, where it does not fall
+  pub left-next : (y : Row) (o : Ordering) → o ≡ row_cmp (last_key lefts ls) (pick lefts y) → is_le o ≡ true
+      → HasMerged (state_at lefts rights (ls ++ y ∷ []) passed (cond (is_lt o) end start) end) (ls ++ y ∷ []) rs
+  left-next y Less e l = left-above (state_at lefts rights ls passed start end) ls rs h y (last_key lefts (ls ++ y ∷ [])) (sym e) (last-push lefts ls y)
+  left-next y Equal e l =
+      let same : last_key lefts ls ≡ last_key lefts (ls ++ y ∷ []) = row_eq-same (last_key lefts ls) (pick lefts y) (ap is_eq (sym e)) ∙ sym (last-push lefts ls y) in
+      subst (λ (key : Row). HasMerged (record { lefts = lefts; rights = rights; key = key; start = length passed + start; end = length passed + end }) (ls ++ y ∷ []) rs) same
+      (left-same (state_at lefts rights ls passed start end) ls rs h y (sym e))
+  left-next y Greater e l = absurd (true≢false (sym l))
+
+  pub left-fall : (y : Row) (o : Ordering) → o ≡ row_cmp (last_key lefts ls) (pick lefts y) → is_le o ≡ false → sorted lefts (ls ++ y ∷ []) ≡ false
+  left-fall y o e l = sym (rise-next lefts ls y h.left_rises) ∙ (ap is_le (sym e) ∙ l)
+
+  -- the next right row, where it is not above the key
+  pub right-next : (y : Row) (o : Ordering) (to : ℕ) → o ≡ row_cmp (last_key lefts ls) (pick rights y) → is_lt o ≡ false → to ≡ cond (is_gt o) (end + 1) start → sorted rights (rs ++ y ∷ []) ≡ true
+      → HasMerged (state_at lefts rights ls passed to (end + 1)) ls (rs ++ y ∷ [])
+  right-next y Less to e l t s = absurd (true≢false l)
+  right-next y Equal to e l t s =
+      let m = state_at lefts rights ls passed start end in
+      let at : (length passed + end) + 1 ≡ length passed + (end + 1) = omega arith in
+      let from : length passed + start ≡ length passed + to = ap (λ n. length passed + n) (sym t) in
+      let is : HasMerged (record { lefts = lefts; rights = rights; key = last_key lefts ls; start = length passed + start; end = (length passed + end) + 1 }) ls (rs ++ y ∷ []) = right-equal m ls rs h y (sym e) in
+      subst (λ (n : ℕ). HasMerged (record { lefts = lefts; rights = rights; key = last_key lefts ls; start = length passed + to; end = n }) ls (rs ++ y ∷ [])) at
+      (subst (λ (n : ℕ). HasMerged (record { lefts = lefts; rights = rights; key = last_key lefts ls; start = n; end = (length passed + end) + 1 }) ls (rs ++ y ∷ [])) from is)
+  right-next y Greater to e l t s =
+      let m = state_at lefts rights ls passed start end in
+      let at : (length passed + end) + 1 ≡ length passed + (end + 1) = omega arith in
+      let is = right-below m ls rs h y (length passed + to) (sym e) s (omega (arith, t)) in
+      subst (λ (n : ℕ). HasMerged (record { lefts = lefts; rights = rights; key = last_key lefts ls; start = length passed + to; end = n }) ls (rs ++ y ∷ [])) at is
+
+get-behind : (ps ws : List Row) (n : ℕ) → get_or (ps ++ ws) (length ps + n) [] ≡ get_or ws n []
+get-behind [] ws n = ap (λ k. get_or ws k []) (omega arith)
+get-behind (p ∷ ps) ws n = let e : suc (length ps) + n ≡ suc (length ps + n) = omega arith in ap (λ k. get_or (p ∷ ps ++ ws) k []) e ∙ get-behind ps ws n
+
+range-moved : {X : Type 0} (ps ws : List X) (a b : ℕ) → slice_range (ps ++ ws) (length ps + a) (length ps + b) ≡ slice_range ws a b
+range-moved ps ws a b =
+    let e : (length ps + b) - (length ps + a) ≡ b - a = omega arith in
+    ap (λ k. take k (drop (length ps + a) (ps ++ ws))) e ∙ ap (take (b - a)) (drop-append-add ps ws a)
+
+-- the run is all that the last left row is joined with, where a row above its key is behind the run, or none follows
+pub holds-run : (lefts rights : List ℕ) (ls passed ws : List Row) (l : Row) (start end : ℕ)
+    → HasMerged (state_at lefts rights (ls ++ l ∷ []) passed start end) (ls ++ l ∷ []) (passed ++ take end ws)
+    → (end < length ws → row_cmp (pick lefts l) (pick rights (get_or ws end [])) ≡ Less)
+    → (more : List Row) → (length ws ≤ end → more ≡ []) → sorted rights ((passed ++ ws) ++ more) ≡ true
+    → of_key rights (pick lefts l) ((passed ++ ws) ++ more) ≡ slice_range ws start end
+holds-run lefts rights ls passed ws l start end h above more ends s =
+    let m = state_at lefts rights (ls ++ l ∷ []) passed start end in
+    let key : m.key ≡ pick lefts l = last-push lefts ls l in
+    let long = length-append passed ws in
+    let taken : HasMerged m (ls ++ l ∷ []) (take m.end (passed ++ ws)) = subst (HasMerged m (ls ++ l ∷ [])) (sym (take-append-add passed ws end)) h in
+    let over : m.end < length (passed ++ ws) → row_cmp m.key (pick rights (get_or (passed ++ ws) m.end [])) ≡ Less =
+    λ n. (λ i. row_cmp (key i) (pick rights (get-behind passed ws end i))) ∙ above (omega (arith, n, long)) in
+    let past : length (passed ++ ws) ≤ m.end → nat_lt end (length ws) ≡ false = λ n. let q : length ws ≤ end = omega (arith, n, long) in grind (arith, nat_tests, q) in
+    let closes : nat_lt end (length ws) ≡ false → more ≡ [] = λ f. ends (grind (arith, nat_tests)) in
+    ap (λ k. of_key rights k ((passed ++ ws) ++ more)) (sym key)
+    ∙ (holds-key m (ls ++ l ∷ []) (passed ++ ws) (nat_lt end (length ws)) taken over past more closes s ∙ range-moved passed ws start end)
 
 -- an input that falls is to blame
 pub right-falls : (a b : Bool) → b ≡ false → (a && b) ≡ false
 right-falls true b h = h
 right-falls false b h = refl
-
-pub left-blame : (e : MergeFault) (lefts rights : List ℕ) (ls rs : List Row) (n : ℕ) → MergeBlame e (sorted lefts (take n ls)) → MergeBlame e (sorted lefts ls && sorted rights rs)
-left-blame Falls lefts rights ls rs n h = ap (λ b. b && sorted rights rs) (fall-take lefts ls n h)
-left-blame NoMemory lefts rights ls rs n h = tt
-
-pub right-blame : (e : MergeFault) (lefts rights : List ℕ) (ls rs : List Row) → MergeBlame e (sorted rights rs) → MergeBlame e (sorted lefts ls && sorted rights rs)
-right-blame Falls lefts rights ls rs h = right-falls (sorted lefts ls) (sorted rights rs) h
-right-blame NoMemory lefts rights ls rs h = tt

@@ -1,5 +1,5 @@
 -- Rows that rise, when one more comes behind them.
-use Rattle.std.proofs.Common.{◌≡◌, ℕ, suc, zero, ◌<◌, Bool, true, false, List, [], ◌∷◌, ◌++◌, length, take, drop, get_or, refl, sym, ap, ◌∙◌, arith, true≢false, is_le}
+use Rattle.std.proofs.Common.{◌≡◌, ℕ, suc, zero, ◌<◌, Bool, true, false, List, [], ◌∷◌, ◌++◌, length, take, drop, get_or, refl, sym, ap, ◌∙◌, arith, true≢false, is_le, append_assoc}
 use Rattle.std.specs.List.{list_all}
 use Rattle.std.proofs.lemmas.List.{take-append-drop}
 use Rattle.vx_values.specs.Values.{Row, row_cmp, pick}
@@ -96,3 +96,35 @@ fall-front by xs ys h = not-so _ (λ s. true≢false (sym (rise-front by xs ys s
 
 pub fall-take : (by : List ℕ) (xs : List Row) (n : ℕ) → sorted by (take n xs) ≡ false → sorted by xs ≡ false
 fall-take by xs n h = ap (sorted by) (sym (take-append-drop n xs)) ∙ fall-front by (take n xs) (drop n xs) h
+
+-- rows that rise up to one, and from it on, rise
+pub rise-meet : (by : List ℕ) (xs : List Row) (y : Row) (ys : List Row) → sorted by (xs ++ y ∷ []) ≡ true → sorted by (y ∷ ys) ≡ true → sorted by (xs ++ y ∷ ys) ≡ true
+rise-meet by [] y ys h k = k
+rise-meet by (x ∷ xs) y ys h k =
+    let above = λ (r : Row). is_le (compare_on by x r) in
+    let all : list_all above (xs ++ y ∷ []) ≡ true = and-left _ _ h in
+    let here : above y ≡ true = and-left (above y) true (all-back above xs (y ∷ []) all) in
+    let behind : list_all above ys ≡ true = all-weaken (λ r. is_le (compare_on by y r)) above (λ r l. row_le-trans (pick by x) (pick by y) (pick by r) here l) ys (and-left _ _ k) in
+    and-both (list_all above (xs ++ y ∷ ys)) (sorted by (xs ++ y ∷ ys))
+    (all-join above xs (y ∷ ys) (all-front above xs (y ∷ []) all) (and-both (above y) (list_all above ys) here behind))
+    (rise-meet by xs y ys (and-right _ _ h) k)
+
+-- rows that rise behind others, where the last of these are among them
+pub rise-behind : (by : List ℕ) (ps ws bs : List Row) → (ws ≡ [] → ps ≡ []) → sorted by (ps ++ ws) ≡ true → sorted by (ws ++ bs) ≡ true → sorted by (ps ++ (ws ++ bs)) ≡ true
+rise-behind by ps [] bs edge h k = ap (λ xs. sorted by (xs ++ bs)) (edge refl) ∙ k
+rise-behind by ps (w ∷ ws) bs edge h k =
+    rise-meet by ps w (ws ++ bs) (rise-front by (ps ++ w ∷ []) ws (ap (sorted by) (append_assoc ps (w ∷ []) ws) ∙ h)) k
+
+-- where the last rows fall, so do all
+pub fall-back : (by : List ℕ) (xs ys : List Row) → sorted by ys ≡ false → sorted by (xs ++ ys) ≡ false
+fall-back by xs ys h = not-so _ (λ s. true≢false (sym (rise-back by xs ys s) ∙ h))
+
+-- the last key of rows behind others
+pub last-back : (by : List ℕ) (xs ys : List Row) → (ys ≡ [] → xs ≡ []) → last_key by (xs ++ ys) ≡ last_key by ys
+last-back by xs [] edge = ap (λ zs. last_key by (zs ++ [])) (edge refl)
+last-back by [] (y ∷ ys) edge = refl
+last-back by (x ∷ []) (y ∷ ys) edge = refl
+last-back by (x ∷ z ∷ zs) (y ∷ ys) edge = last-back by (z ∷ zs) (y ∷ ys) (λ e. absurd (cons-nil e))
+  where
+    cons-nil : y ∷ ys ≡ [] → ⊥
+    cons-nil e = cc

@@ -5,15 +5,12 @@ use Rattle.std.proofs.lemmas.Option.{get_or_from_slice_get}
 use Rattle.vx_values.specs.Values.{Row}
 use Rattle.vx_keys.specs.declared.accumulator.Accumulator.{Accumulator}
 use Rattle.vx_keys.specs.Groups.{Held}
-use Rattle.vx_keys.specs.Shown.{held}
+use Rattle.vx_keys.specs.Shown.{held, all_shown}
 
-abbrev pub groups_at : List (Vec Accumulator Global) → List (List Held)
-groups_at vs = map (λ v. map held v.items) vs
-
-pub shown-long : (vs : List (Vec Accumulator Global)) (gs : List (List Held)) → groups_at vs ≡ gs → length gs ≡ length vs
+pub shown-long : (vs : List (Vec Accumulator Global)) (gs : List (List Held)) → all_shown vs ≡ gs → length gs ≡ length vs
 shown-long vs gs h = ap length (sym h) ∙ length-map vs (λ v. map held v.items)
 
-pub shown-group : (vs : List (Vec Accumulator Global)) (gs : List (List Held)) (n : ℕ) (v : Vec Accumulator Global) → n < length vs → v ≡ get_or vs n v → groups_at vs ≡ gs → map held v.items ≡ get_or gs n []
+pub shown-group : (vs : List (Vec Accumulator Global)) (gs : List (List Held)) (n : ℕ) (v : Vec Accumulator Global) → n < length vs → v ≡ get_or vs n v → all_shown vs ≡ gs → map held v.items ≡ get_or gs n []
 shown-group vs gs n v l e h = ap (λ w. map held w.items) e ∙ (sym (get_or-map (λ w. map held w.items) vs n v [] l) ∙ ap (λ xs. get_or xs n []) h)
 
 pub shown-key : (ks gs : List Row) (n : ℕ) (k : Row) → slice_get ks n ≡ Some k → ks ≡ gs → k ≡ get_or gs n []

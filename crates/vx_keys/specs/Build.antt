@@ -1,6 +1,9 @@
--- The right rows of a join, by key: each key with the places of its rows.
-use Rattle.std.specs.Prelude.{◌≡◌, ℕ, suc, Bool, false, cond, List, [], ◌∷◌, ◌++◌, map, filter}
+-- The right rows of a join, by key: each key with the places of its rows; and the pairs of rows that match.
+use Rattle.std.specs.Prelude.{◌≡◌, ℕ, suc, Bool, cond, List, [], ◌∷◌, ◌++◌, length, map, filter, slice_index_or}
+use Rattle.std.specs.List.{zip}
+use Rattle.vx_values.specs.declared.value.ColType.{ColType}
 use Rattle.vx_values.specs.Values.{Row, row_eq, pick}
+use Rattle.vx_rows.specs.View.{ArePositions}
 use Rattle.vx_plan_nodes.specs.Serial.{group_keys}
 
 -- where the elements stand that pass a test, counted from 0
@@ -16,20 +19,24 @@ places_of by key rows = places (λ r. row_eq key (pick by r)) rows
 abbrev pub parts_of : List ℕ → List Row → List (List ℕ)
 parts_of by rows = map (λ k. places_of by k rows) (group_keys by rows)
 
--- what the build side of a join shows: its columns, the keys in order of first occurrence, and the places of each key's rows;
--- and whether it failed
+-- what the build side of a join shows: its rows with their types, and its columns of the join
 pub record Built : Type 0 where
+  pub types : List ColType
+  pub rows : List Row
   pub columns : List ℕ
-  pub keys : List Row
-  pub parts : List (List ℕ)
-  pub failed : Bool
 
--- these rows were added, and no others, and it has not failed
-pub record HasBuilt (b : Built) (rows : List Row) : Type 0 where
-  pub runs : b.failed ≡ false
-  pub keys_are : b.keys ≡ group_keys b.columns rows
-  pub parts_are : b.parts ≡ parts_of b.columns rows
+-- the keys of rows in order of first occurrence, and the places of each key's rows
+pub record IsIndex (by : List ℕ) (rows keys : List Row) (parts : List (List ℕ)) : Type 0 where
+  pub keys_are : keys ≡ group_keys by rows
+  pub parts_are : parts ≡ parts_of by rows
 
 -- a left row with each right row that agrees with it on these columns
 abbrev pub matched : List ℕ → List ℕ → List Row → Row → List Row
 matched lefts rights rs l = map (λ r. l ++ r) (filter (λ r. row_eq (pick lefts l) (pick rights r)) rs)
+
+-- places of left rows, and beside each that of a right row: side by side they make these rows
+pub record ArePairs (ls rs : List Row) (lefts rights : List ℕ) (made : List Row) : Type 0 where
+  pub many : length lefts ≡ length rights
+  pub lefts_are : ArePositions (length ls) lefts
+  pub rights_are : ArePositions (length rs) rights
+  pub rows_are : map (λ (p : ℕ × ℕ). slice_index_or ls p.0 [] ++ slice_index_or rs p.1 []) (zip lefts rights) ≡ made

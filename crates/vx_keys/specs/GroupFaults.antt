@@ -14,10 +14,10 @@ GroupBlame Overflow by aggregates xs = group_rows by aggregates xs ≡ None
 GroupBlame TooMany by aggregates xs = 4611686018427387904 < length xs
 GroupBlame NoMemory by aggregates xs = Unit {0}
 
--- one more row behind these: there are 2^62 already, or memory ran out
+-- these rows were to be taken: they are more than 2^62, or memory ran out
 abbrev pub TakeBlame : GroupFault → List Row → Type 0
 TakeBlame Overflow xs = ⊥
-TakeBlame TooMany xs = 4611686018427387904 ≤ length xs
+TakeBlame TooMany xs = 4611686018427387904 < length xs
 TakeBlame NoMemory xs = Unit {0}
 
 -- the end behind these rows: a sum or a count does not fit 64 bits, or memory ran out

@@ -2,8 +2,11 @@
 use Rattle.std.specs.Prelude.{◌≡◌, ℕ, ℤ, pos, ◌+◌, ◌+ℤ◌, Bool, true, List, Option, None, map, length}
 use Rattle.std.specs.List.{AllByRecursion}
 use Rattle.vx_values.specs.declared.value.ColType.{ColType}
-use Rattle.vx_values.specs.Values.{Val, num, text, Row, value_at}
+use Rattle.indexmap.specs.IndexSet.{insert_all}
+use Rattle.vx_values.specs.Values.{Val, num, text, Row, row_eq, pick, value_at}
 use Rattle.vx_values.specs.Types.{Fits, fits_64}
+use Rattle.vx_rows.specs.View.{RowsView}
+use Rattle.vx_keys.specs.Numbers.{numbers_of}
 use Rattle.vx_plan_nodes.specs.Plan.{Aggregate, least, greatest, sum, count_rows}
 use Rattle.vx_keys.specs.declared.accumulator.GroupFault.{GroupFault}
 use Rattle.vx_plan_nodes.specs.Serial.{smaller, larger, aggregate_of, of_key, group_keys}
@@ -79,3 +82,14 @@ pub record HasTaken (g : Groups) (xs : List Row) : Type 0 where
 pub record HasTakenSome (g : Groups) : Type 0 where
   pub rows : List Row
   pub taken : HasTaken g rows
+
+-- rows that come next, with the numbers of their keys: a grouping with these groups and aggregates takes them
+pub record Comes (g : Groups) (groups : List (List Held)) (aggregates : List Aggregate) (rows : RowsView) (numbers : List ℕ) : Type 0 where
+  pub types_are : rows.types ≡ g.types
+  pub groups_are : g.groups ≡ groups
+  pub aggregates_are : g.aggregates ≡ aggregates
+  pub numbers_are : numbers ≡ numbers_of g.keys (map (pick g.by) rows.rows)
+
+-- the same with these groups and with the keys of more rows
+abbrev pub behind : Groups → List Row → List (List Held) → Groups
+behind g rows groups = record { types = g.types; by = g.by; aggregates = g.aggregates; keys = insert_all row_eq g.keys (map (pick g.by) rows); groups = groups; failed = g.failed }

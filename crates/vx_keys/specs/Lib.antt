@@ -3,3 +3,4 @@ pub mod Groups
 pub mod Shown
 pub mod GroupFaults
 pub mod Merged
+pub mod Numbers

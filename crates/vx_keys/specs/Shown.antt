@@ -1,5 +1,7 @@
 -- What an accumulator shows.
-use Rattle.std.specs.Prelude.{pos}
+use Rattle.std.specs.Prelude.{pos, List, map}
+use Rattle.std.specs.declared.alloc.Global.{Global}
+use Rattle.std.specs.declared.vec.Vec.{Vec}
 use Rattle.vx_values.specs.Values.{num}
 use Rattle.vx_values.specs.ValueView.{val_of}
 use Rattle.vx_plan_nodes.specs.Plan.{least, greatest, sum, count_rows}
@@ -12,3 +14,7 @@ held (Least c v) = record { aggregate = least c; value = val_of v; taken = 0 }
 held (Greatest c v) = record { aggregate = greatest c; value = val_of v; taken = 0 }
 held (Sum c s) = record { aggregate = sum c; value = num s.total; taken = s.taken }
 held (CountRows n) = record { aggregate = count_rows; value = num (pos n); taken = n }
+
+-- what groups of accumulators show
+abbrev pub all_shown : List (Vec Accumulator Global) → List (List Held)
+all_shown groups = map (λ v. map held v.items) groups

@@ -14,7 +14,8 @@ use crate::sum::WideSum;
 use std::alloc::{AllocError, AllocFailed, Global};
 use vx_algebra::cell_or_zero;
 use vx_plan_nodes::Aggregate;
-use vx_rows::{Cell, Table, Value, compare_cells};
+use vx_rows::{Cell, Value, compare_cells};
+use vx_views::Chunk;
 
 /// Why a grouping stops.
 #[derive(Clone, Copy, Debug, PartialEq, Eq)]
@@ -63,65 +64,65 @@ pub enum Accumulator {
 }
 
 // The number of a cell, and of a text 0, as the definitions have it.
-fn number_at(rows: &Table, i: usize, column: usize) -> i64
-    requires { i < length rows.now.rows }
-    ensures { result ≡ number_of (value_at (row rows.now i) column) }
+fn number_at(chunk: &Chunk, i: usize, column: usize) -> i64
+    requires { i < length chunk.now.rows }
+    ensures { result ≡ number_of (value_at (row chunk.now i) column) }
 {
-    match cell_or_zero(rows, i, column) {
+    match cell_or_zero(chunk, i, column) {
         Cell::Int(n) => n,
         Cell::Text(_) => 0,
     }
 }
 
 // The value of a cell, with a text of its own.
-fn value_at(alloc: Global, rows: &Table, i: usize, column: usize) -> Result<Value, AllocError>
-    requires { i < length rows.now.rows }
-    ensures { IfOk result (λ v. val_of v ≡ value_at (row rows.now i) column) }
+fn value_at(alloc: Global, chunk: &Chunk, i: usize, column: usize) -> Result<Value, AllocError>
+    requires { i < length chunk.now.rows }
+    ensures { IfOk result (λ v. val_of v ≡ value_at (row chunk.now i) column) }
 {
-    cell_or_zero(rows, i, column).to_value(alloc)
+    cell_or_zero(chunk, i, column).to_value(alloc)
 }
 
 impl Accumulator {
-    /// Of row i alone.
+    /// Of row i of a chunk alone.
     pub fn of(
         alloc: Global,
         aggregate: Aggregate,
-        rows: &Table,
+        chunk: &Chunk,
         i: usize,
     ) -> Result<Accumulator, AllocError>
-        requires { i < length rows.now.rows }
-        ensures { IfOk result (λ a. held a ≡ held_of (op_of aggregate) (row rows.now i ∷ [])) }
+        requires { i < length chunk.now.rows }
+        ensures { IfOk result (λ a. held a ≡ held_of (op_of aggregate) (row chunk.now i ∷ [])) }
     {
         match aggregate {
-            Aggregate::Least(c) => Ok(Accumulator::Least(c, value_at(alloc, rows, i, c)?)),
-            Aggregate::Greatest(c) => Ok(Accumulator::Greatest(c, value_at(alloc, rows, i, c)?)),
-            Aggregate::Sum(c) => Ok(Accumulator::Sum(c, WideSum::of(number_at(rows, i, c)))),
+            Aggregate::Least(c) => Ok(Accumulator::Least(c, value_at(alloc, chunk, i, c)?)),
+            Aggregate::Greatest(c) => Ok(Accumulator::Greatest(c, value_at(alloc, chunk, i, c)?)),
+            Aggregate::Sum(c) => Ok(Accumulator::Sum(c, WideSum::of(number_at(chunk, i, c)))),
             Aggregate::CountRows => Ok(Accumulator::CountRows(1)),
         }
     }
 
-    /// Adds row i behind those that were added. After an `Err` the value is arbitrary.
+    /// Adds row i of a chunk behind those that were added. After an `Err` the value is arbitrary.
     #[tactic(auto, using(crate::proofs::AggregateFacts::smaller_first, crate::proofs::AggregateFacts::smaller_second, crate::proofs::AggregateFacts::larger_first, crate::proofs::AggregateFacts::larger_second))]
-    pub fn add(&mut self, alloc: Global, rows: &Table, i: usize) -> Result<(), GroupFault>
-        requires { i < length rows.now.rows }
-        ensures ok { OnOk result (held self.new ≡ advance (row rows.now i) (held self.old)) }
+    pub fn add(&mut self, alloc: Global, chunk: &Chunk, i: usize) -> Result<(), GroupFault>
+        requires { i < length chunk.now.rows }
+        ensures ok { OnOk result (held self.new ≡ advance (row chunk.now i) (held self.old)) }
         ensures err { IfErr result (λ e. StepBlame e (held self.old).taken) }
     {
         match self {
             Accumulator::Least(c, value) => {
-                let cell = cell_or_zero(rows, i, *c);
+                let cell = cell_or_zero(chunk, i, *c);
                 if compare_cells(value.cell(), cell).is_gt() {
                     value.set(alloc, cell)?;
                 }
             }
             Accumulator::Greatest(c, value) => {
-                let cell = cell_or_zero(rows, i, *c);
+                let cell = cell_or_zero(chunk, i, *c);
                 if compare_cells(value.cell(), cell).is_lt() {
                     value.set(alloc, cell)?;
                 }
             }
             Accumulator::Sum(c, sum) => {
-                if sum.add(number_at(rows, i, *c)).is_err() {
+                if sum.add(number_at(chunk, i, *c)).is_err() {
                     return Err(GroupFault::TooMany);
                 }
             }

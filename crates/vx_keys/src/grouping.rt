@@ -1,17 +1,17 @@
 //! Grouping: rows by key, each key with the aggregates of its rows.
 
-ghost use Rattle.std.specs.Prelude.{◌≡◌, ◌<◌, ◌≤◌, ◌++◌, ◌∷◌, [], List, length, map, OnOk, IfOk, IfErr, IfSome, Some, Err, true, false};
+ghost use Rattle.std.specs.Prelude.{◌≡◌, ◌<◌, ◌≤◌, ◌++◌, ◌∷◌, [], List, All, length, map, set, slice_index_or, OnOk, IfOk, IfErr, IfSome, Some, Err, true, false};
 ghost use Rattle.std.specs.List.{list_all};
-ghost use Rattle.vx_values.specs.Types.{Fits};
 ghost use Rattle.vx_values.specs.Values.{Row as Cells};
 ghost use Rattle.vx_values.specs.ValueView.{cell_val};
 ghost use Rattle.vx_rows.specs.View.{row, AreColumns};
+ghost use Rattle.vx_views.specs.Chunks.{all_rows};
 ghost use Rattle.vx_plan_nodes.specs.Plan.{group, plain};
 ghost use Rattle.vx_plan_nodes.specs.Types.{unary_types, aggregate_type};
 ghost use Rattle.vx_plan_nodes.specs.Serial.{group_rows};
 ghost use Rattle.vx_plan_nodes.specs.Outline.{aggregate_of as op_of};
-ghost use Rattle.vx_keys.specs.Groups.{HasTaken, HasTakenSome, all_held, advance, held_fits};
-ghost use Rattle.vx_keys.specs.Shown.{held};
+ghost use Rattle.vx_keys.specs.Groups.{Groups, HasTaken, HasTakenSome, Comes, behind, all_held, advance, held_fits};
+ghost use Rattle.vx_keys.specs.Shown.{held, all_shown};
 ghost use Rattle.vx_keys.specs.GroupFaults.{GroupBlame, TakeBlame, EndBlame, StepsBlame, CellsBlame};
 
 use crate::accumulator::{Accumulator, GroupFault};
@@ -21,6 +21,7 @@ use std::marker::Model;
 use vx_algebra::types_at;
 use vx_plan_nodes::Aggregate;
 use vx_rows::{Cell, ColType, Row, Table};
+use vx_views::{Chunk, Rows};
 
 /// Calls: `new add* finish`, and no `finish` after an `Err`.
 ///
@@ -32,55 +33,97 @@ pub struct Grouping {
     aggregates: Vec<Aggregate>,
     keys: Keys,
     groups: Vec<Vec<Accumulator>>,
-    scratch: Row,
     failed: Option<GroupFault>,
     alloc: Global,
 }
 
 impl Model for Grouping {
-    ghost use Rattle.std.specs.Prelude.{◌≤◌, length, map};
+    ghost use Rattle.std.specs.Prelude.{length, map};
     ghost use Rattle.vx_rows.specs.View.{AreColumns};
     ghost use Rattle.vx_plan_nodes.specs.Outline.{aggregate_of as op_of};
     ghost use Rattle.vx_keys.specs.Groups.{Groups};
-    ghost use Rattle.vx_keys.specs.Shown.{held};
+    ghost use Rattle.vx_keys.specs.Shown.{all_shown};
 
     ghost Value = { Groups };
 
-    ghost view = { λ g. record { types = g.types.items; by = g.by.items; aggregates = map op_of g.aggregates.items; keys = g.keys; groups = map (λ v. map held v.items) g.groups.items; failed = g.failed } };
+    ghost view = { λ g. record { types = g.types.items; by = g.by.items; aggregates = map op_of g.aggregates.items; keys = g.keys; groups = all_shown g.groups.items; failed = g.failed } };
 
-    ghost invariant = { λ g. (length g.groups.items ≤ length g.keys) × AreColumns (length g.types.items) g.by.items };
+    ghost invariant = { λ g. AreColumns (length g.types.items) g.by.items };
 }
 
-// The aggregates of row i alone.
+// The aggregates of row i of a chunk alone.
 fn start_group(
     alloc: Global,
     aggregates: &[Aggregate],
-    rows: &Table,
+    chunk: &Chunk,
     i: usize,
 ) -> Result<Vec<Accumulator>, AllocError>
-    requires { i < length rows.now.rows }
-    ensures { IfOk result (λ v. map held v.items ≡ all_held (map op_of aggregates.now) (row rows.now i ∷ [])) }
+    requires { i < length chunk.now.rows }
+    ensures { IfOk result (λ v. map held v.items ≡ all_held (map op_of aggregates.now) (row chunk.now i ∷ [])) }
 {
     let mut group = Vec::with_capacity(alloc, aggregates.len())?;
     for aggregate in aggregates {
-        group.push(Accumulator::of(alloc, *aggregate, rows, i)?)?;
+        group.push(Accumulator::of(alloc, *aggregate, chunk, i)?)?;
     }
     Ok(group)
 }
 
-// The aggregates with row i too. After an `Err` they are arbitrary.
+// The aggregates with row i of a chunk too. After an `Err` they are arbitrary.
 fn advance_group(
     alloc: Global,
     group: &mut Vec<Accumulator>,
-    rows: &Table,
+    chunk: &Chunk,
     i: usize,
 ) -> Result<(), GroupFault>
-    requires { i < length rows.now.rows }
-    ensures ok { OnOk result (map held group.new.items ≡ map (advance (row rows.now i)) (map held group.old.items)) }
+    requires { i < length chunk.now.rows }
+    ensures ok { OnOk result (map held group.new.items ≡ map (advance (row chunk.now i)) (map held group.old.items)) }
     ensures err { IfErr result (λ e. StepsBlame e (map held group.old.items)) }
 {
     for place in 0..group.len() {
-        group[place].add(alloc, rows, i)?;
+        group[place].add(alloc, chunk, i)?;
+    }
+    Ok(())
+}
+
+// Adds row i of a chunk to the group of this number, or starts the next one with it.
+fn add_row(
+    alloc: Global,
+    groups: &mut Vec<Vec<Accumulator>>,
+    aggregates: &[Aggregate],
+    chunk: &Chunk,
+    i: usize,
+    number: usize,
+) -> Result<(), GroupFault>
+    requires { i < length chunk.now.rows }
+    ensures known { OnOk result (number < length groups.old.items → all_shown groups.new.items ≡ set (all_shown groups.old.items) number (map (advance (row chunk.now i)) (slice_index_or (all_shown groups.old.items) number []))) }
+    ensures new { OnOk result (length groups.old.items ≤ number → all_shown groups.new.items ≡ all_shown groups.old.items ++ all_held (map op_of aggregates.now) (row chunk.now i ∷ []) ∷ []) }
+    ensures err { IfErr result (λ e. StepsBlame e (slice_index_or (all_shown groups.old.items) number [])) }
+{
+    if number < groups.len() {
+        advance_group(alloc, &mut groups[number], chunk, i)?;
+        return Ok(());
+    }
+    let group = start_group(alloc, aggregates, chunk, i)?;
+    groups.push(group)?;
+    Ok(())
+}
+
+// Adds the rows of a chunk, each to the group of its key's number. After an `Err` some aggregates may have some of them.
+fn add_numbered(
+    alloc: Global,
+    groups: &mut Vec<Vec<Accumulator>>,
+    aggregates: &[Aggregate],
+    chunk: &Chunk,
+    numbers: &[usize],
+) -> Result<(), GroupFault>
+    requires { length numbers.now ≡ length chunk.now.rows }
+    ensures taken { OnOk result ((g : Groups) (xs : List Cells) → Comes g (all_shown groups.old.items) (map op_of aggregates.now) chunk.now numbers.now → HasTaken g xs → HasTaken (behind g chunk.now.rows (all_shown groups.new.items)) (xs ++ chunk.now.rows)) }
+    ensures err { IfErr result (λ e. (g : Groups) (xs : List Cells) → Comes g (all_shown groups.old.items) (map op_of aggregates.now) chunk.now numbers.now → HasTaken g xs → TakeBlame e (xs ++ chunk.now.rows)) }
+{
+    // each row fits the types
+    let _types = chunk.types();
+    for i in 0..chunk.len() {
+        add_row(alloc, groups, aggregates, chunk, i, numbers[i])?;
     }
     Ok(())
 }
@@ -167,52 +210,65 @@ impl Grouping {
             aggregates: Vec::from_slice(alloc, aggregates)?,
             keys: Keys::new(alloc),
             groups: Vec::new(alloc),
-            scratch: Row::new(alloc),
             failed: None,
             alloc,
         })
     }
 
-    // Adds row i behind those that were added. After an `Err` some aggregates may have it.
-    fn add_row(&mut self, rows: &Table, i: usize) -> Result<(), GroupFault>
-        requires types { rows.now.types ≡ self.old.types }
-        requires row { i < length rows.now.rows }
-        requires fits { Fits self.old.types (row rows.now i) }
+    // Adds the rows of a chunk behind those that were added. After an `Err` some aggregates may have some of them.
+    fn add_chunk(&mut self, chunk: &Chunk) -> Result<(), GroupFault>
+        requires types { chunk.now.types ≡ self.old.types }
         ensures types { self.new.types ≡ self.old.types }
         ensures by { self.new.by ≡ self.old.by }
         ensures aggregates { self.new.aggregates ≡ self.old.aggregates }
         ensures failed { self.new.failed ≡ self.old.failed }
-        ensures taken { OnOk result ((xs : List Cells) → HasTaken self.old xs → HasTaken self.new (xs ++ row rows.now i ∷ [])) }
-        ensures err { IfErr result (λ e. (xs : List Cells) → HasTaken self.old xs → TakeBlame e xs) }
+        ensures taken { OnOk result ((xs : List Cells) → HasTaken self.old xs → HasTaken self.new (xs ++ chunk.now.rows)) }
+        ensures err { IfErr result (λ e. (xs : List Cells) → HasTaken self.old xs → TakeBlame e (xs ++ chunk.now.rows)) }
     {
-        self.scratch.read(rows, i, &self.by)?;
-        let number = self.keys.number(&self.scratch)?;
-        if number < self.groups.len() {
-            advance_group(self.alloc, &mut self.groups[number], rows, i)?;
-            return Ok(());
-        }
-        let group = start_group(self.alloc, &self.aggregates, rows, i)?;
-        self.groups.push(group)?;
+        let mut numbers = Vec::with_capacity(self.alloc, chunk.len())?;
+        self.keys.number_chunk(chunk, &self.by, &mut numbers)?;
+        add_numbered(
+            self.alloc,
+            &mut self.groups,
+            &self.aggregates,
+            chunk,
+            numbers.as_slice(),
+        )?;
         Ok(())
     }
 
-    /// Adds row i behind those that were added. After an `Err` it fails with this error at each later row too.
-    pub fn add(&mut self, rows: &Table, i: usize) -> Result<(), GroupFault>
-        requires types { rows.now.types ≡ self.old.types }
-        requires row { i < length rows.now.rows }
-        requires fits { Fits self.old.types (row rows.now i) }
+    // Adds the rows of chunks behind those that were added. After an `Err` some aggregates may have some of them.
+    fn add_chunks(&mut self, chunks: &[Chunk]) -> Result<(), GroupFault>
+        requires types { All (λ c. c.types ≡ self.old.types) chunks.now }
         ensures types { self.new.types ≡ self.old.types }
         ensures by { self.new.by ≡ self.old.by }
         ensures aggregates { self.new.aggregates ≡ self.old.aggregates }
-        ensures taken { OnOk result ((xs : List Cells) → HasTaken self.old xs → HasTaken self.new (xs ++ row rows.now i ∷ [])) }
-        ensures err { IfErr result (λ e. (xs : List Cells) → HasTaken self.old xs → TakeBlame e xs) }
+        ensures failed { self.new.failed ≡ self.old.failed }
+        ensures taken { OnOk result ((xs : List Cells) → HasTaken self.old xs → HasTaken self.new (xs ++ all_rows chunks.now)) }
+        ensures err { IfErr result (λ e. (xs : List Cells) → HasTaken self.old xs → TakeBlame e (xs ++ all_rows chunks.now)) }
+    {
+        for i in 0..chunks.len() {
+            self.add_chunk(&chunks[i])?;
+        }
+        Ok(())
+    }
+
+    /// Adds the rows of a batch behind those that were added. After an `Err` it fails with this error at each later
+    /// batch too.
+    pub fn add_rows(&mut self, batch: &Rows) -> Result<(), GroupFault>
+        requires types { batch.now.types ≡ self.old.types }
+        ensures types { self.new.types ≡ self.old.types }
+        ensures by { self.new.by ≡ self.old.by }
+        ensures aggregates { self.new.aggregates ≡ self.old.aggregates }
+        ensures taken { OnOk result ((xs : List Cells) → HasTaken self.old xs → HasTaken self.new (xs ++ batch.now.rows)) }
+        ensures err { IfErr result (λ e. (xs : List Cells) → HasTaken self.old xs → TakeBlame e (xs ++ batch.now.rows)) }
         ensures failed { IfErr result (λ e. self.new.failed ≡ Some e) }
         ensures again { IfSome self.old.failed (λ e. result ≡ Err e) }
     {
         if let Some(fault) = self.failed {
             return Err(fault);
         }
-        match self.add_row(rows, i) {
+        match self.add_chunks(batch.chunks()) {
             Ok(()) => Ok(()),
             Err(fault) => {
                 self.failed = Some(fault);
@@ -241,7 +297,7 @@ impl Grouping {
 /// The rows by key: for each key, in order of first occurrence, the key and the aggregates of its rows.
 pub fn grouped(
     alloc: Global,
-    rows: &Table,
+    rows: &Rows,
     by: &[usize],
     aggregates: &[Aggregate],
 ) -> Result<Table, GroupFault>
@@ -251,8 +307,6 @@ pub fn grouped(
     ensures err { IfErr result (λ e. GroupBlame e by.now (map op_of aggregates.now) rows.now.rows) }
 {
     let mut grouping = Grouping::new(alloc, rows.types(), by, aggregates)?;
-    for i in 0..rows.len() {
-        grouping.add(rows, i)?;
-    }
+    grouping.add_rows(rows)?;
     grouping.finish()
 }

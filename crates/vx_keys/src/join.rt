@@ -1,173 +1,292 @@
-//! The hash join: a table of the right rows by key is built, and each left row probes it (DeWitt and others, 1984).
+//! The hash join: the right rows are indexed by key, and left rows probe them (DeWitt and others, 1984).
 
-ghost use Rattle.std.specs.Prelude.{◌≡◌, ◌<◌, ◌+◌, ◌++◌, [], ℕ, List, length, map, take, true, OnOk, OnErr, IsErr, IfOk};
-ghost use Rattle.vx_values.specs.Values.{Row as Cells, row_eq, pick};
-ghost use Rattle.vx_rows.specs.View.{row, AreColumns, ArePositions};
-ghost use Rattle.vx_plan_nodes.specs.Serial.{join_rows};
-ghost use Rattle.vx_keys.specs.Build.{HasBuilt, places_of};
+ghost use Rattle.std.specs.Prelude.{◌≡◌, ◌<◌, ◌≤◌, ◌+◌, ◌++◌, ◌∷◌, [], ℕ, List, length, map, flat_map, take, slice_range, slice_set, slice_index_or, OnOk, IfOk};
+ghost use Rattle.std.specs.List.{position_or_len};
+ghost use Rattle.vx_values.specs.Values.{Row, row_eq, pick};
+ghost use Rattle.vx_rows.specs.View.{AreColumns};
+ghost use Rattle.vx_plan_nodes.specs.Serial.{group_keys, join_rows};
+ghost use Rattle.vx_keys.specs.Build.{places_of, parts_of, matched, ArePairs};
+ghost use Rattle.vx_keys.specs.Numbers.{numbers_of};
 
 use crate::keys::Keys;
 use std::alloc::{AllocError, Global};
 use std::marker::Model;
-use vx_rows::{Row, Table};
+use std::sync::Arc;
+use vx_rows::{ColType, Table};
+use vx_views::{Chunk, Rows};
 
-/// Calls: `new add* matches*`, with an `add` for each row of one list, in order, and no `matches` after an `Err`.
+// How many rows a probe looks up at once.
+const BLOCK: usize = 4_096;
+
+/// Calls: `of probe*`.
 ///
-/// The build side of a join: its keys, and the positions of the rows of each key.
+/// The build side of a join: the right rows, their keys, and the places of the rows of each key.
 #[derive(Drop)]
 pub struct Build {
+    rows: Chunk,
     columns: Vec<usize>,
     keys: Keys,
     parts: Vec<Vec<usize>>,
-    scratch: Row,
-    failed: bool,
     alloc: Global,
 }
 
 impl Model for Build {
     ghost use Rattle.std.specs.Prelude.{map};
-    ghost use Rattle.vx_keys.specs.Build.{Built};
+    ghost use Rattle.vx_keys.specs.Build.{Built, IsIndex};
 
     ghost Value = { Built };
 
-    ghost view = { λ b. record { columns = b.columns.items; keys = b.keys; parts = map (λ v. v.items) b.parts.items; failed = b.failed } };
+    ghost view = { λ b. record { types = b.rows.types; rows = b.rows.rows; columns = b.columns.items } };
+
+    ghost invariant = { λ b. IsIndex b.columns.items b.rows.rows b.keys (map (λ v. v.items) b.parts.items) };
+}
+
+// Places of left rows, and beside each that of a right row.
+#[derive(Drop)]
+struct Pairs {
+    lefts: Vec<usize>,
+    rights: Vec<usize>,
+}
+
+// Adds a place to those of the key with this number, or behind all as the first place of a new key.
+fn push_place(
+    alloc: Global,
+    parts: &mut Vec<Vec<usize>>,
+    number: usize,
+    place: usize,
+) -> Result<(), AllocError>
+    ensures known { OnOk result (number < length parts.old.items → map (λ p. p.items) parts.new.items ≡ slice_set (map (λ p. p.items) parts.old.items) number (slice_index_or (map (λ p. p.items) parts.old.items) number [] ++ place ∷ [])) }
+    ensures new { OnOk result (length parts.old.items ≤ number → map (λ p. p.items) parts.new.items ≡ map (λ p. p.items) parts.old.items ++ (place ∷ []) ∷ []) }
+{
+    if number < parts.len() {
+        parts[number].push(place)?;
+        return Ok(());
+    }
+    let mut first = Vec::new(alloc);
+    first.push(place)?;
+    parts.push(first)?;
+    Ok(())
+}
+
+// The places of each key's rows, by the numbers of the rows' keys.
+fn places_by_number(alloc: Global, numbers: &[usize]) -> Result<Vec<Vec<usize>>, AllocError>
+    ensures { IfOk result (λ v. (by : List ℕ) (rows : List Row) → numbers.now ≡ numbers_of [] (map (pick by) rows) → map (λ p. p.items) v.items ≡ parts_of by rows) }
+{
+    let mut parts: Vec<Vec<usize>> = Vec::new(alloc);
+    for i in 0..numbers.len() {
+        push_place(alloc, &mut parts, numbers[i], i)?;
+    }
+    Ok(parts)
+}
+
+// Where a block ends that starts at a row, of so many rows.
+fn block_end(from: usize, count: usize) -> usize
+    requires { from < count }
+    ensures more { from < result }
+    ensures within { result ≤ count }
+{
+    if count - from <= BLOCK {
+        return count;
+    }
+    from + BLOCK
+}
+
+// Adds the place of a left row, beside each of some places of right rows.
+fn push_pairs(pairs: &mut Pairs, left: usize, places: &[usize]) -> Result<(), AllocError>
+    ensures lefts { OnOk result (pairs.new.lefts.items ≡ pairs.old.lefts.items ++ map (λ _. left) places.now) }
+    ensures rights { OnOk result (pairs.new.rights.items ≡ pairs.old.rights.items ++ places.now) }
+{
+    for place in places {
+        pairs.lefts.push(left)?;
+        pairs.rights.push(*place)?;
+    }
+    Ok(())
 }
 
 impl Build {
-    /// A build side of no rows, with its columns of the join.
-    pub fn new(alloc: Global, columns: Vec<usize>) -> Build
-        ensures columns { result.columns ≡ columns.items }
-        ensures nothing { HasBuilt result [] }
+    /// The build side of a join, with its columns of the join. The rows are copied once, into one table.
+    pub fn of(alloc: Global, rows: &Rows, columns: Vec<usize>) -> Result<Build, AllocError>
+        requires { AreColumns (length rows.now.types) columns.items }
+        ensures types { IfOk result (λ b. b.types ≡ rows.now.types) }
+        ensures rows { IfOk result (λ b. b.rows ≡ rows.now.rows) }
+        ensures columns { IfOk result (λ b. b.columns ≡ columns.items) }
     {
-        Build {
+        let table = rows.gathered(alloc)?;
+        let count = table.len();
+        let base = Arc::new(alloc, table)?;
+        let whole = Rows::of(alloc, &base, 0, count)?;
+        let mut keys = Keys::new(alloc);
+        let numbers = keys.number_all(&whole, columns.as_slice())?;
+        let parts = places_by_number(alloc, numbers.as_slice())?;
+        Ok(Build {
+            rows: Chunk::of(alloc, &base, 0, count)?,
             columns,
-            keys: Keys::new(alloc),
-            parts: Vec::new(alloc),
-            scratch: Row::new(alloc),
-            failed: false,
+            keys,
+            parts,
             alloc,
-        }
+        })
     }
 
-    // Adds row i behind those that were added. After an `Err` some of it may have been added.
-    fn add_row(&mut self, rows: &Table, i: usize) -> Result<(), AllocError>
-        requires row { i < length rows.now.rows }
-        requires columns { AreColumns (length rows.now.types) self.old.columns }
-        ensures columns { self.new.columns ≡ self.old.columns }
-        ensures failed { self.new.failed ≡ self.old.failed }
-        ensures built { OnOk result (HasBuilt self.old (take i rows.now.rows) → HasBuilt self.new (take (i + 1) rows.now.rows)) }
+    // The places of the rows whose key has this number, or of no rows where no key has it.
+    fn matches(&self, number: usize) -> &[usize]
+        ensures { (key : Row) → number ≡ position_or_len (row_eq key) (group_keys self.now.columns self.now.rows) → result.now ≡ places_of self.now.columns key self.now.rows }
     {
-        self.scratch.read(rows, i, &self.columns)?;
-        let number = self.keys.number(&self.scratch)?;
-        if number < self.parts.len() {
-            self.parts[number].push(i)?;
-            return Ok(());
-        }
-        let mut first = Vec::new(self.alloc);
-        first.push(i)?;
-        self.parts.push(first)?;
-        Ok(())
-    }
-
-    /// Adds row i behind those that were added. After an `Err` it fails at each later row too.
-    pub fn add(&mut self, rows: &Table, i: usize) -> Result<(), AllocError>
-        requires row { i < length rows.now.rows }
-        requires columns { AreColumns (length rows.now.types) self.old.columns }
-        ensures columns { self.new.columns ≡ self.old.columns }
-        ensures built { OnOk result (HasBuilt self.old (take i rows.now.rows) → HasBuilt self.new (take (i + 1) rows.now.rows)) }
-        ensures failed { OnErr result (self.new.failed ≡ true) }
-        ensures again { self.old.failed ≡ true → IsErr result }
-    {
-        if self.failed {
-            return Err(AllocError);
-        }
-        match self.add_row(rows, i) {
-            Ok(()) => Ok(()),
-            Err(refused) => {
-                self.failed = true;
-                Err(refused)
-            }
-        }
-    }
-
-    /// The positions of the rows with this key, in order.
-    pub fn matches(&self, key: &Row) -> &[usize]
-        ensures { (rows : List Cells) → HasBuilt self.now rows → result.now ≡ places_of self.now.columns key.now rows }
-    {
-        let Some(number) = self.keys.find(key) else {
-            return &[];
-        };
         if number >= self.parts.len() {
             return &[];
         }
         self.parts[number].as_slice()
     }
-}
 
-// Adds the position of a left row, beside each of some positions of right rows.
-fn push_pairs(
-    left: usize,
-    positions: &[usize],
-    lefts: &mut Vec<usize>,
-    rights: &mut Vec<usize>,
-) -> Result<(), AllocError>
-    ensures lefts { OnOk result (lefts.new.items ≡ lefts.old.items ++ map (λ _. left) positions.now) }
-    ensures rights { OnOk result (rights.new.items ≡ rights.old.items ++ positions.now) }
-{
-    for j in positions {
-        lefts.push(left)?;
-        rights.push(*j)?;
+    // Adds the pairs of left rows from place `from` up to `to`, whose keys have these numbers, until there are `most`
+    // pairs or more, and returns the place behind them.
+    fn pair_numbers(
+        &self,
+        pairs: &mut Pairs,
+        from: usize,
+        to: usize,
+        numbers: &[usize],
+        most: usize,
+    ) -> Result<usize, AllocError>
+        requires { from + length numbers.now ≡ to }
+        ensures end { IfOk result (λ n. n ≤ to) }
+        ensures more { IfOk result (λ n. length pairs.old.lefts.items < most → from < to → from < n) }
+        ensures pairs { IfOk result (λ n. (columns : List ℕ) (ls : List Row) → to ≤ length ls
+            → numbers.now ≡ map (λ r. position_or_len (row_eq (pick columns r)) (group_keys self.now.columns self.now.rows)) (slice_range ls from to)
+            → ArePairs ls self.now.rows pairs.old.lefts.items pairs.old.rights.items (flat_map (matched columns self.now.columns self.now.rows) (take from ls))
+            → ArePairs ls self.now.rows pairs.new.lefts.items pairs.new.rights.items (flat_map (matched columns self.now.columns self.now.rows) (take n ls))) }
+    {
+        for i in 0..numbers.len() {
+            if pairs.lefts.len() >= most {
+                return Ok(from + i);
+            }
+            push_pairs(pairs, from + i, self.matches(numbers[i]))?;
+        }
+        Ok(to)
     }
-    Ok(())
-}
 
-// The build side of all these rows.
-fn built(alloc: Global, rows: &Table, columns: Vec<usize>) -> Result<Build, AllocError>
-    requires { AreColumns (length rows.now.types) columns.items }
-    ensures columns { IfOk result (λ b. b.columns ≡ columns.items) }
-    ensures built { IfOk result (λ b. HasBuilt b rows.now.rows) }
-{
-    let mut build = Build::new(alloc, columns);
-    for i in 0..rows.len() {
-        build.add(rows, i)?;
+    // The same for a block of rows of a chunk.
+    fn pair_block(
+        &self,
+        pairs: &mut Pairs,
+        chunk: &Chunk,
+        columns: &[usize],
+        from: usize,
+        most: usize,
+    ) -> Result<usize, AllocError>
+        requires columns { AreColumns (length chunk.now.types) columns.now }
+        requires row { from < length chunk.now.rows }
+        requires room { length pairs.old.lefts.items < most }
+        ensures end { IfOk result (λ n. n ≤ length chunk.now.rows) }
+        ensures more { IfOk result (λ n. from < n) }
+        ensures pairs { IfOk result (λ n.
+            ArePairs chunk.now.rows self.now.rows pairs.old.lefts.items pairs.old.rights.items (flat_map (matched columns.now self.now.columns self.now.rows) (take from chunk.now.rows))
+            → ArePairs chunk.now.rows self.now.rows pairs.new.lefts.items pairs.new.rights.items (flat_map (matched columns.now self.now.columns self.now.rows) (take n chunk.now.rows))) }
+    {
+        let to = block_end(from, chunk.len());
+        let block = chunk.slice(self.alloc, from, to)?;
+        let numbers = self.keys.find_all(&block, columns)?;
+        let behind = self.pair_numbers(pairs, from, to, numbers.as_slice(), most)?;
+        Ok(behind)
     }
-    Ok(build)
-}
 
-/// No rows of the columns of two lists, the left ones first.
-pub(crate) fn joined_none(alloc: Global, left: &Table, right: &Table) -> Result<Table, AllocError>
-    ensures types { IfOk result (λ r. r.types ≡ left.now.types ++ right.now.types) }
-    ensures rows { IfOk result (λ r. r.rows ≡ []) }
-{
-    let mut types = Vec::from_slice(alloc, left.types())?;
-    types.extend_from_slice(right.types())?;
-    Table::new(alloc, types.as_slice())
+    // Joins rows of a chunk from its first on, until the joined rows are `most` or more, and returns how many of its
+    // rows were joined.
+    fn join_chunk(
+        &self,
+        chunk: &Chunk,
+        columns: &[usize],
+        most: usize,
+        joined: &mut Rows,
+    ) -> Result<usize, AllocError>
+        requires columns { AreColumns (length chunk.now.types) columns.now }
+        requires types { joined.old.types ≡ chunk.now.types ++ self.now.types }
+        ensures types { joined.new.types ≡ joined.old.types }
+        ensures within { IfOk result (λ n. n ≤ length chunk.now.rows) }
+        ensures rows { IfOk result (λ n. joined.new.rows ≡ joined.old.rows ++ flat_map (matched columns.now self.now.columns self.now.rows) (take n chunk.now.rows)) }
+        ensures whole { IfOk result (λ n. length joined.new.rows < most → n ≡ length chunk.now.rows) }
+        ensures more { IfOk result (λ n. length joined.old.rows < most → 0 < length chunk.now.rows → 0 < n) }
+    {
+        let room = most.saturating_sub(joined.len());
+        let mut pairs = Pairs {
+            lefts: Vec::new(self.alloc),
+            rights: Vec::new(self.alloc),
+        };
+        let mut taken = 0;
+        while taken < chunk.len() && pairs.lefts.len() < room {
+            taken = self.pair_block(&mut pairs, chunk, columns, taken, room)?;
+        }
+        let lefts = pairs.lefts.as_slice();
+        let rights = pairs.rights.as_slice();
+        let found = Chunk::joined(self.alloc, chunk, lefts, &self.rows, rights)?;
+        joined.push(found)?;
+        Ok(taken)
+    }
+
+    // No rows, of the columns of left rows and then of the right ones.
+    fn none_joined(&self, left: &[ColType]) -> Result<Rows, AllocError>
+        ensures types { IfOk result (λ r. r.types ≡ left.now ++ self.now.types) }
+        ensures rows { IfOk result (λ r. r.rows ≡ []) }
+    {
+        let mut types = Vec::from_slice(self.alloc, left)?;
+        types.extend_from_slice(self.rows.types())?;
+        Rows::new(self.alloc, types.as_slice())
+    }
+
+    /// Joins rows of a batch from its first on, until the joined rows are `most` or more: each left row with the right
+    /// rows that agree with it on the pairs of columns, in the order of the left rows, and for one left row in the order
+    /// of the right rows. It returns the joined rows, for which no cell is copied, and the rest of the batch.
+    ///
+    /// A `most` of 0 means 1: of a batch that has rows, one or more are joined.
+    pub fn probe(
+        &self,
+        batch: Rows,
+        columns: &[usize],
+        most: usize,
+    ) -> Result<(Rows, Rows), AllocError>
+        requires { AreColumns (length batch.types) columns.now }
+        ensures types { IfOk result (λ p. p.0.types ≡ batch.types ++ self.now.types) }
+        ensures rest_types { IfOk result (λ p. p.1.types ≡ batch.types) }
+        ensures rows { IfOk result (λ p. (front : List Row) × (front ++ p.1.rows ≡ batch.rows)
+            × ((on : List (ℕ × ℕ)) → columns.now ≡ map (λ c. c.0) on → self.now.columns ≡ map (λ c. c.1) on → p.0.rows ≡ join_rows on front self.now.rows)) }
+        ensures progress { IfOk result (λ p. 0 < length batch.rows → length p.1.rows < length batch.rows) }
+    {
+        let room = most.max(1);
+        let count = batch.len();
+        let mut joined = self.none_joined(batch.types())?;
+        let chunks = batch.chunks();
+        let mut taken = 0;
+        let mut next = 0;
+        while next < chunks.len() && joined.len() < room {
+            let more = self.join_chunk(&chunks[next], columns, room, &mut joined)?;
+            taken += more;
+            next += 1;
+        }
+        let rest = batch.slice(self.alloc, taken, count)?;
+        Ok((joined, rest))
+    }
 }
 
 /// Each left row joined with the right rows that agree with it on the pairs of columns: in the order of the left rows,
-/// and for one left row in the order of the right rows. The positions of all pairs are found first, and then the rows are
-/// made column by column.
+/// and for one left row in the order of the right rows. No cell of a left row is copied.
 pub fn hash_join(
     alloc: Global,
-    left: &Table,
+    left: Rows,
     left_columns: &[usize],
-    right: &Table,
+    right: &Rows,
     right_columns: Vec<usize>,
-) -> Result<Table, AllocError>
-    requires left { AreColumns (length left.now.types) left_columns.now }
+) -> Result<Rows, AllocError>
+    requires left { AreColumns (length left.types) left_columns.now }
     requires right { AreColumns (length right.now.types) right_columns.items }
-    ensures types { IfOk result (λ r. r.types ≡ left.now.types ++ right.now.types) }
-    ensures rows { IfOk result (λ r. (on : List (ℕ × ℕ)) → left_columns.now ≡ map (λ p. p.0) on → right_columns.items ≡ map (λ p. p.1) on → r.rows ≡ join_rows on left.now.rows right.now.rows) }
+    ensures types { IfOk result (λ r. r.types ≡ left.types ++ right.now.types) }
+    ensures rows { IfOk result (λ r. (on : List (ℕ × ℕ)) → left_columns.now ≡ map (λ p. p.0) on → right_columns.items ≡ map (λ p. p.1) on → r.rows ≡ join_rows on left.rows right.now.rows) }
 {
-    let build = built(alloc, right, right_columns)?;
-    let mut key = Row::new(alloc);
-    let mut lefts = Vec::new(alloc);
-    let mut rights = Vec::new(alloc);
-    for i in 0..left.len() {
-        key.read(left, i, left_columns)?;
-        push_pairs(i, build.matches(&key), &mut lefts, &mut rights)?;
+    let build = Build::of(alloc, right, right_columns)?;
+    let mut joined = build.none_joined(left.types())?;
+    let mut rest = left;
+    'probes: while !rest.is_empty() {
+        let probed = build.probe(rest, left_columns, usize::MAX)?;
+        joined.append(probed.0)?;
+        rest = probed.1;
     }
-    let mut joined = joined_none(alloc, left, right)?;
-    joined.append_joined_at(left, lefts.as_slice(), right, rights.as_slice())?;
     Ok(joined)
 }

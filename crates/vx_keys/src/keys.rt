@@ -1,19 +1,25 @@
 //! Keys, numbered in order of first occurrence.
 
-ghost use Rattle.std.specs.Prelude.{◌≡◌, ◌<◌, ◌≤◌, ◌++◌, ◌∷◌, [], if◌then◌else◌, length, OnOk, OnErr, IfOk, position, slice_get, Some};
+ghost use Rattle.std.specs.Prelude.{◌≡◌, ◌<◌, ◌≤◌, ◌++◌, [], length, map, All, OnOk, OnErr, IfOk, position, slice_get, Some};
 ghost use Rattle.std.specs.List.{position_or_len, IsDistinct};
-ghost use Rattle.vx_values.specs.Values.{row_eq};
-ghost use Rattle.indexmap.specs.IndexSet.{insert_key};
+ghost use Rattle.vx_values.specs.Values.{row_eq, pick};
+ghost use Rattle.vx_rows.specs.View.{AreColumns};
+ghost use Rattle.vx_rows.specs.Lists.{each_below};
+ghost use Rattle.indexmap.specs.IndexSet.{insert_key, insert_all};
+ghost use Rattle.vx_views.specs.Chunks.{all_rows};
+ghost use Rattle.vx_keys.specs.Numbers.{numbers_of};
 
 use indexmap::IndexSet;
 use std::alloc::{AllocError, Global};
 use std::marker::Model;
-use vx_rows::Row;
+use vx_rows::{Row, Table};
+use vx_views::{Chunk, Rows};
 
 /// Keys, each once, numbered from 0 in order of first occurrence. They are found by hashing.
 #[derive(Drop)]
 pub struct Keys {
     set: IndexSet<Row>,
+    alloc: Global,
 }
 
 impl Model for Keys {
@@ -32,6 +38,7 @@ impl Keys {
     {
         Keys {
             set: IndexSet::new(alloc),
+            alloc,
         }
     }
 
@@ -76,16 +83,123 @@ impl Keys {
         Ok(number)
     }
 
-    /// Adds a key if it is new, and returns whether it was. After an `Err` the keys are as before.
-    pub fn add(&mut self, key: &Row) -> Result<bool, AllocError>
-        ensures keys { OnOk result (self.new ≡ insert_key row_eq self.old key.now) }
-        ensures new { IfOk result (λ b. self.new ≡ (if b then self.old ++ key.now ∷ [] else self.old)) }
-        ensures err { OnErr result (self.new ≡ self.old) }
+    // Adds the numbers of keys that are the rows of a table. Keys that are new are added.
+    fn number_rows(&mut self, keys: &Table, numbers: &mut Vec<usize>) -> Result<(), AllocError>
+        ensures numbers { OnOk result (numbers.new.items ≡ numbers.old.items ++ numbers_of self.old keys.now.rows) }
+        ensures keys { OnOk result (self.new ≡ insert_all row_eq self.old keys.now.rows) }
     {
-        if self.set.contains(key) {
-            return Ok(false);
+        let columns = columns_below(self.alloc, keys.types().len())?;
+        let mut key = Row::new(self.alloc);
+        for i in 0..keys.len() {
+            key.read(keys, i, columns.as_slice())?;
+            let number = self.number(&key)?;
+            numbers.push(number)?;
         }
-        let (_, _) = self.set.insert_full(key.copy()?)?;
-        Ok(true)
+        Ok(())
     }
+
+    // Adds the numbers of the keys that the rows of a chunk have in these columns. Keys that are new are added.
+    pub(crate) fn number_chunk(
+        &mut self,
+        chunk: &Chunk,
+        columns: &[usize],
+        numbers: &mut Vec<usize>,
+    ) -> Result<(), AllocError>
+        requires { AreColumns (length chunk.now.types) columns.now }
+        ensures numbers { OnOk result (numbers.new.items ≡ numbers.old.items ++ numbers_of self.old (map (pick columns.now) chunk.now.rows)) }
+        ensures keys { OnOk result (self.new ≡ insert_all row_eq self.old (map (pick columns.now) chunk.now.rows)) }
+    {
+        let keys = keys_of(self.alloc, chunk, columns)?;
+        self.number_rows(&keys, numbers)?;
+        Ok(())
+    }
+
+    // Adds the numbers of the keys that the rows of chunks have in these columns. Keys that are new are added.
+    fn number_chunks(
+        &mut self,
+        chunks: &[Chunk],
+        columns: &[usize],
+        numbers: &mut Vec<usize>,
+    ) -> Result<(), AllocError>
+        requires { All (λ c. AreColumns (length c.types) columns.now) chunks.now }
+        ensures numbers { OnOk result (numbers.new.items ≡ numbers.old.items ++ numbers_of self.old (map (pick columns.now) (all_rows chunks.now))) }
+        ensures keys { OnOk result (self.new ≡ insert_all row_eq self.old (map (pick columns.now) (all_rows chunks.now))) }
+    {
+        for i in 0..chunks.len() {
+            self.number_chunk(&chunks[i], columns, numbers)?;
+        }
+        Ok(())
+    }
+
+    /// The numbers of the keys that the rows of a batch have in these columns. A key that is new is copied and added.
+    /// After an `Err` some of the keys may have been added.
+    pub fn number_all(&mut self, batch: &Rows, columns: &[usize]) -> Result<Vec<usize>, AllocError>
+        requires { AreColumns (length batch.now.types) columns.now }
+        ensures numbers { IfOk result (λ v. v.items ≡ numbers_of self.old (map (pick columns.now) batch.now.rows)) }
+        ensures keys { OnOk result (self.new ≡ insert_all row_eq self.old (map (pick columns.now) batch.now.rows)) }
+        ensures known { IsDistinct row_eq self.old }
+    {
+        let _count = self.len();
+        let mut numbers = Vec::with_capacity(self.alloc, batch.len())?;
+        self.number_chunks(batch.chunks(), columns, &mut numbers)?;
+        Ok(numbers)
+    }
+
+    // The number of a key, and for a key that is not here the number of the next new one.
+    fn number_or_next(&self, key: &Row) -> usize
+        ensures { result ≡ position_or_len (row_eq key.now) self.now }
+    {
+        let Some(number) = self.find(key) else {
+            return self.len();
+        };
+        number
+    }
+
+    // The numbers of keys that are the rows of a table, as `find_all`.
+    fn find_rows(&self, keys: &Table) -> Result<Vec<usize>, AllocError>
+        ensures { IfOk result (λ v. v.items ≡ map (λ k. position_or_len (row_eq k) self.now) keys.now.rows) }
+    {
+        let columns = columns_below(self.alloc, keys.types().len())?;
+        let mut key = Row::new(self.alloc);
+        let mut numbers = Vec::with_capacity(self.alloc, keys.len())?;
+        for i in 0..keys.len() {
+            key.read(keys, i, columns.as_slice())?;
+            let number = self.number_or_next(&key);
+            numbers.push(number)?;
+        }
+        Ok(numbers)
+    }
+
+    /// The numbers of the keys that the rows of a chunk have in these columns, and for a key that is not here the number
+    /// of the next new one.
+    pub fn find_all(&self, chunk: &Chunk, columns: &[usize]) -> Result<Vec<usize>, AllocError>
+        requires { AreColumns (length chunk.now.types) columns.now }
+        ensures { IfOk result (λ v. v.items ≡ map (λ r. position_or_len (row_eq (pick columns.now r)) self.now) chunk.now.rows) }
+    {
+        let keys = keys_of(self.alloc, chunk, columns)?;
+        let numbers = self.find_rows(&keys)?;
+        Ok(numbers)
+    }
+}
+
+// The keys that the rows of a chunk have in these columns, as a table.
+fn keys_of(alloc: Global, chunk: &Chunk, columns: &[usize]) -> Result<Table, AllocError>
+    requires { AreColumns (length chunk.now.types) columns.now }
+    ensures { IfOk result (λ t. t.rows ≡ map (pick columns.now) chunk.now.rows) }
+{
+    let keys = chunk.share(alloc)?.project(alloc, columns)?;
+    let mut table = Table::new(alloc, keys.types())?;
+    keys.copy_onto(alloc, &mut table)?;
+    Ok(table)
+}
+
+// The columns 0, 1, and so on, so many.
+fn columns_below(alloc: Global, count: usize) -> Result<Vec<usize>, AllocError>
+    ensures { IfOk result (λ v. v.items ≡ each_below count (λ c. c)) }
+{
+    let mut columns = Vec::with_capacity(alloc, count)?;
+    for column in 0..count {
+        columns.push(column)?;
+    }
+    Ok(columns)
 }

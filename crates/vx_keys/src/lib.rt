@@ -4,15 +4,18 @@
 mod accumulator;
 mod grouping;
 mod join;
+mod key_run;
 mod keys;
 mod merging;
 mod seen;
+mod side_by_side;
 mod sum;
 
 pub use accumulator::{Accumulator, GroupFault};
 pub use grouping::{Grouping, grouped};
 pub use join::{Build, hash_join};
+pub use key_run::rise_from;
 pub use keys::Keys;
-pub use merging::{Merge, MergeFault, merge_join, rise_from};
-pub use seen::{Seen, distinct};
+pub use merging::{Merge, MergeFault, MergeNeed, merge_join};
+pub use seen::Seen;
 pub use sum::{SumIsFull, WideSum};

@@ -1,23 +1,25 @@
 //! Distinct rows: the first occurrence of each.
 
-ghost use Rattle.std.specs.Prelude.{List, ◌≡◌, ◌<◌, ◌++◌, ◌∷◌, [], length, map, OnOk, OnErr, IfOk, if◌then◌else◌};
+ghost use Rattle.std.specs.Prelude.{List, ◌≡◌, ◌≢◌, ◌+◌, ◌++◌, ◌∷◌, [], cond, true, false, length, map, slice_index_or, OnOk, IfOk};
 ghost use Rattle.vx_values.specs.Types.{type_at};
 ghost use Rattle.vx_values.specs.Values.{Row, row_eq, pick};
-ghost use Rattle.vx_rows.specs.View.{row, AreColumns};
+ghost use Rattle.vx_rows.specs.View.{AreColumns, ArePositions};
 ghost use Rattle.vx_plan_nodes.specs.Serial.{firsts};
-ghost use Rattle.indexmap.specs.IndexSet.{insert_key};
+ghost use Rattle.indexmap.specs.IndexSet.{insert_all};
+ghost use Rattle.vx_keys.specs.Numbers.{numbers_of};
 
 use crate::keys::Keys;
 use std::alloc::{AllocError, Global};
 use std::marker::Model;
-use vx_algebra::types_at;
-use vx_rows::{Row, Table};
+use vx_views::Rows;
 
+/// Calls: `new keep_new*`, and no `keep_new` after an `Err`.
+///
 /// The rows that were seen so far, each once, in order of first occurrence.
 #[derive(Drop)]
 pub struct Seen {
     keys: Keys,
-    scratch: Row,
+    alloc: Global,
 }
 
 impl Model for Seen {
@@ -29,6 +31,40 @@ impl Model for Seen {
     ghost view = { λ s. s.keys };
 }
 
+// Whether a number is that of the next new key, behind so many known keys and so many new ones.
+fn is_next(number: usize, known: usize, new: usize) -> bool
+    ensures yes { result ≡ true → number ≡ known + new }
+    ensures no { result ≡ false → number ≢ known + new }
+{
+    if number < known {
+        return false;
+    }
+    number - known == new
+}
+
+// Adds a place, if its key is new.
+fn push_if(places: &mut Vec<usize>, place: usize, new: bool) -> Result<(), AllocError>
+    ensures { OnOk result (places.new.items ≡ places.old.items ++ cond new (place ∷ []) []) }
+{
+    if new {
+        places.push(place)?;
+    }
+    Ok(())
+}
+
+// The places of keys that are new, by the numbers of all: where so many are known, the next new one has that number.
+fn first_places(alloc: Global, known: usize, numbers: &[usize]) -> Result<Vec<usize>, AllocError>
+    ensures new { IfOk result (λ v. (ks xs : List Row) → length ks ≡ known → numbers.now ≡ numbers_of ks xs → insert_all row_eq ks xs ≡ ks ++ map (λ i. slice_index_or xs i []) v.items) }
+    ensures there { IfOk result (λ v. ArePositions (length numbers.now) v.items) }
+{
+    let mut places = Vec::new(alloc);
+    for i in 0..numbers.len() {
+        let new = is_next(numbers[i], known, places.len());
+        push_if(&mut places, i, new)?;
+    }
+    Ok(places)
+}
+
 impl Seen {
     /// No row was seen.
     pub fn new(alloc: Global) -> Seen
@@ -36,55 +72,22 @@ impl Seen {
     {
         Seen {
             keys: Keys::new(alloc),
-            scratch: Row::new(alloc),
+            alloc,
         }
     }
 
-    /// Sees row i in these columns, and returns whether it is new. After an `Err` it was not seen.
-    pub fn is_new(&mut self, rows: &Table, i: usize, columns: &[usize]) -> Result<bool, AllocError>
-        requires row { i < length rows.now.rows }
-        requires columns { AreColumns (length rows.now.types) columns.now }
-        ensures seen { OnOk result (self.new ≡ insert_key row_eq self.old (pick columns.now (row rows.now i))) }
-        ensures new { IfOk result (λ b. self.new ≡ (if b then self.old ++ pick columns.now (row rows.now i) ∷ [] else self.old)) }
-        ensures err { OnErr result (self.new ≡ self.old) }
+    /// The rows of a batch, with these columns alone, that were not seen before. No cell is copied but those of keys.
+    pub fn keep_new(&mut self, batch: &Rows, columns: &[usize]) -> Result<Rows, AllocError>
+        requires { AreColumns (length batch.now.types) columns.now }
+        ensures types { IfOk result (λ r. r.types ≡ map (type_at batch.now.types) columns.now) }
+        ensures new { IfOk result (λ r. self.new ≡ self.old ++ r.rows) }
+        ensures seen { OnOk result ((xs : List Row) → self.old ≡ firsts xs → self.new ≡ firsts (xs ++ map (pick columns.now) batch.now.rows)) }
     {
-        self.scratch.read(rows, i, columns)?;
-        self.keys.add(&self.scratch)
+        let known = self.keys.len();
+        let numbers = self.keys.number_all(batch, columns)?;
+        let places = first_places(self.alloc, known, numbers.as_slice())?;
+        let fresh = batch.at(self.alloc, places.as_slice())?;
+        let found = fresh.project(self.alloc, columns)?;
+        Ok(found)
     }
-
-    /// Sees row i in these columns, and keeps it where it is new. After an `Err` it may have been seen.
-    pub fn keep_new(
-        &mut self,
-        rows: &Table,
-        i: usize,
-        columns: &[usize],
-        kept: &mut Table,
-    ) -> Result<(), AllocError>
-        requires row { i < length rows.now.rows }
-        requires columns { AreColumns (length rows.now.types) columns.now }
-        requires types { kept.old.types ≡ map (type_at rows.now.types) columns.now }
-        ensures types { kept.new.types ≡ kept.old.types }
-        ensures seen { OnOk result (self.new ≡ insert_key row_eq self.old (pick columns.now (row rows.now i))) }
-        ensures kept { OnOk result ((front : List Row) → self.old ≡ front ++ kept.old.rows → self.new ≡ front ++ kept.new.rows) }
-    {
-        if !self.is_new(rows, i, columns)? {
-            return Ok(());
-        }
-        kept.append_projected(rows, i, columns)
-    }
-}
-
-/// The rows with these columns alone, each once, in order of first occurrence.
-pub fn distinct(alloc: Global, rows: &Table, columns: &[usize]) -> Result<Table, AllocError>
-    requires { AreColumns (length rows.now.types) columns.now }
-    ensures types { IfOk result (λ r. r.types ≡ map (type_at rows.now.types) columns.now) }
-    ensures rows { IfOk result (λ r. r.rows ≡ firsts (map (pick columns.now) rows.now.rows)) }
-{
-    let types = types_at(alloc, rows.types(), columns)?;
-    let mut kept = Table::new(alloc, types.as_slice())?;
-    let mut seen = Seen::new(alloc);
-    for i in 0..rows.len() {
-        seen.keep_new(rows, i, columns, &mut kept)?;
-    }
-    Ok(kept)
 }

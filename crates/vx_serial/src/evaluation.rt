@@ -1,7 +1,6 @@
 //! The rows of a plan over a database.
 
 ghost use Rattle.std.specs.Prelude.{◌≡◌, IfOk, IfErr};
-ghost use Rattle.std.specs.Arc.{arc_value};
 ghost use Rattle.vx_relations.specs.Catalog.{relation_at};
 ghost use Rattle.vx_catalog.specs.Database.{rows_at};
 ghost use Rattle.vx_plan_nodes.specs.Outline.{plan_of};
@@ -15,45 +14,34 @@ use crate::exchanges::first_exchange;
 use crate::fault::EvalFault;
 use crate::operators::{binary_rows, unary_rows};
 use std::alloc::Global;
-use std::sync::Arc;
 use vx_catalog::Database;
 use vx_plan_nodes::{TypedNode, TypedPlan};
-use vx_rows::Table;
 use vx_views::Rows;
 
 // The rows of a node. Each input is read to its end, also where no further row can come of it. An exchange returns its
-// input. A scan shares the rows of its relation, and an operator that returns its input returns the same table.
-fn eval_node(alloc: Global, database: &Database, node: &TypedNode) -> Result<Arc<Table>, EvalFault>
-    requires { IsFit database.now.catalog (plan_of node.now) }
-    ensures types { IfOk result (λ t. (arc_value t).types ≡ types_of (relation_at database.now.catalog) (plan_of node.now)) }
-    ensures rows { IfOk result (λ t. evaluated (rows_at database.now) (plan_of node.now) ≡ rows (arc_value t).rows) }
-    ensures fault { IfErr result (IsFaultOf (evaluated (rows_at database.now) (plan_of node.now))) }
-{
-    match node {
-        TypedNode::Scan(_, scan) => Ok(Arc::try_clone(database.table(scan.relation))?),
-        TypedNode::Unary(head, unary, input) => {
-            let rows = eval_node(alloc, database, input)?;
-            unary_rows(alloc, head.number, unary, rows)
-        }
-        TypedNode::Binary(_, binary, left, right) => {
-            let first = eval_node(alloc, database, left)?;
-            let second = eval_node(alloc, database, right)?;
-            let made = binary_rows(alloc, binary, first, &second)?;
-            Ok(Arc::new(alloc, made)?)
-        }
-        TypedNode::Exchange(_, _, input) => eval_node(alloc, database, input),
-    }
-}
-
-// The rows of a node as one chunk, for a caller who goes through them. None is copied.
-fn shared_rows(alloc: Global, database: &Database, node: &TypedNode) -> Result<Rows, EvalFault>
+// input. A scan shares the rows of its relation.
+fn eval_node(alloc: Global, database: &Database, node: &TypedNode) -> Result<Rows, EvalFault>
     requires { IsFit database.now.catalog (plan_of node.now) }
     ensures types { IfOk result (λ t. t.types ≡ types_of (relation_at database.now.catalog) (plan_of node.now)) }
     ensures rows { IfOk result (λ t. evaluated (rows_at database.now) (plan_of node.now) ≡ rows t.rows) }
     ensures fault { IfErr result (IsFaultOf (evaluated (rows_at database.now) (plan_of node.now))) }
 {
-    let table = eval_node(alloc, database, node)?;
-    Ok(Rows::of(alloc, &table, 0, table.len())?)
+    match node {
+        TypedNode::Scan(_, scan) => {
+            let table = database.table(scan.relation);
+            Ok(Rows::of(alloc, table, 0, table.len())?)
+        }
+        TypedNode::Unary(head, unary, input) => {
+            let rows = eval_node(alloc, database, input)?;
+            unary_rows(alloc, head.number, unary, &rows)
+        }
+        TypedNode::Binary(_, binary, left, right) => {
+            let first = eval_node(alloc, database, left)?;
+            let second = eval_node(alloc, database, right)?;
+            Ok(binary_rows(alloc, binary, first, second)?)
+        }
+        TypedNode::Exchange(_, _, input) => eval_node(alloc, database, input),
+    }
 }
 
 /// The rows of a plan without exchanges over a database of its catalog: those of its serial meaning.
@@ -69,5 +57,5 @@ pub fn eval(alloc: Global, plan: &TypedPlan, database: &Database) -> Result<Rows
     if let Some(node) = first_exchange(plan.root()) {
         return Err(EvalFault::HasExchange { node });
     }
-    shared_rows(alloc, database, plan.root())
+    eval_node(alloc, database, plan.root())
 }

@@ -5,7 +5,6 @@ mod evaluation;
 mod exchanges;
 mod fault;
 mod operators;
-mod sharing;
 
 pub use evaluation::eval;
 pub use fault::EvalFault;

@@ -1,14 +1,16 @@
-use Rattle.std.proofs.Common.{◌≡◌, ◌++◌, ℕ, map, length, take, flat_map}
-use Rattle.std.specs.List.{zip}
-use Rattle.vx_rows.specs.View.{row, ArePositions}
-use Rattle.vx_keys.specs.Build.{matched}
+use Rattle.std.proofs.Common.{◌≡◌, ◌++◌, ℕ, List, map, length}
+use Rattle.vx_values.specs.Values.{Row}
+use Rattle.vx_plan_nodes.specs.Serial.{join_rows}
 use Rattle.vx_keys.proofs.join.hash_join.Given as goal
 
-abbrev pub invariant-loop-i : goal.invariant-loop-i
-invariant-loop-i l = record {
-  many : length l.lefts.items ≡ length l.rights.items;
-  lefts : ArePositions (length l.left.rows) l.lefts.items;
-  rights : ArePositions (length l.right.rows) l.rights.items;
-  rows : map (λ (p : ℕ × ℕ). row l.left p.0 ++ row l.right p.1) (zip l.lefts.items l.rights.items)
-      ≡ flat_map (matched l.left_columns l.fn.right_columns.items l.right.rows) (take l.i l.left.rows);
+abbrev pub invariant-probes : goal.invariant-probes
+invariant-probes l = record {
+  types : l.joined.types ≡ l.fn.left.types ++ l.right.types;
+  rest_types : l.rest.types ≡ l.fn.left.types;
+  done : List Row;
+  parts : done ++ l.rest.rows ≡ l.fn.left.rows;
+  rows : (on : List (ℕ × ℕ)) → l.left_columns ≡ map (λ p. p.0) on → l.fn.right_columns.items ≡ map (λ p. p.1) on → l.joined.rows ≡ join_rows on done l.right.rows;
 }
+
+abbrev pub decreases-probes : goal.decreases-probes
+decreases-probes l = length l.rest.rows

@@ -8,8 +8,8 @@ use Rattle.vx_serial.proofs.Answered.{serial-rows, serial-fails}
 use Rattle.vx_serial.proofs.ColumnFacts.{typed-fits}
 use Rattle.vx_serial.proofs.evaluation.eval.Goals as goal
 
-pub shared_rows-requires : goal.shared_rows-requires
-shared_rows-requires c =
+pub eval_node-requires : goal.eval_node-requires
+eval_node-requires c =
     let s = scope c.args.plan.now in
     let same : c.args.database.now.catalog ≡ s.catalog = search rules in
     let P : List Relation → Type 0 = λ catalog. IsFit catalog (plan_of c.root-2.result.now) in
@@ -21,7 +21,7 @@ returns-clause-rows c =
     let same : c.args.database.now.catalog ≡ p.names.catalog = search rules in
     let none : first_exchange (plan_of c.root.result.now) ≡ None = search rules in
     let plain : IsPlain p c.args.database.now = record { same = same; none = ap (λ t. first_exchange (plan_in t)) (sym c.root.ensures.root) ∙ none } in
-    serial-rows p c.args.database.now (plan_of c.root-2.result.now) c.shared_rows.result plain (ap plan_in c.root-2.ensures.root) c.shared_rows.ensures.types c.shared_rows.ensures.rows
+    serial-rows p c.args.database.now (plan_of c.root-2.result.now) c.eval_node.result plain (ap plan_in c.root-2.ensures.root) c.eval_node.ensures.types c.eval_node.ensures.rows
 
 pub returns-clause-refused : goal.returns-clause-refused
 returns-clause-refused c =
@@ -29,4 +29,4 @@ returns-clause-refused c =
     let same : c.args.database.now.catalog ≡ p.names.catalog = search rules in
     let none : first_exchange (plan_of c.root.result.now) ≡ None = search rules in
     let plain : IsPlain p c.args.database.now = record { same = same; none = ap (λ t. first_exchange (plan_in t)) (sym c.root.ensures.root) ∙ none } in
-    serial-fails p c.args.database.now (plan_of c.root-2.result.now) c.shared_rows.result plain (ap plan_in c.root-2.ensures.root) c.shared_rows.ensures.fault
+    serial-fails p c.args.database.now (plan_of c.root-2.result.now) c.eval_node.result plain (ap plan_in c.root-2.ensures.root) c.eval_node.ensures.fault

@@ -1,18 +1,17 @@
 use Rattle.std.proofs.Common.{arith, ◌≡◌, ◌<◌, ◌≤◌, ◌++◌, ◌∷◌, [], List, length, map, take, get_or, true, refl, sym, ap, subst, ◌∙◌, Some}
 use Rattle.std.specs.List.{list_all}
-use Rattle.std.proofs.lemmas.List.{take_all, length-map}
+use Rattle.std.proofs.lemmas.List.{take_all}
 use Rattle.std.proofs.lemmas.List.Folds.{list_all_more}
 use Rattle.vx_values.specs.Values.{Row}
 use Rattle.vx_values.specs.Types.{type_of}
 use Rattle.vx_values.specs.ValueView.{cell_val}
 use Rattle.vx_plan_nodes.specs.Plan.{group, plain}
 use Rattle.vx_plan_nodes.specs.Types.{unary_types}
-use Rattle.vx_plan_nodes.specs.Serial.{group_keys}
 use Rattle.vx_plan_nodes.specs.Outline.{aggregate_of as op_of}
-use Rattle.vx_keys.specs.Groups.{Groups, HasTaken, Held, held_fits, part_of}
+use Rattle.vx_keys.specs.Groups.{Groups, HasTaken, Held, held_fits}
 use Rattle.vx_keys.specs.Shown.{held}
 use Rattle.vx_keys.specs.GroupFaults.{CellsBlame, EndBlame}
-use Rattle.vx_keys.proofs.EndFacts.{key_row, key_rows, all_fit, finished-rows, rows-more}
+use Rattle.vx_keys.proofs.EndFacts.{key_row, key_rows, all_fit, level, finished-rows, rows-more}
 use Rattle.vx_keys.proofs.TypeFacts.{shown-typed}
 use Rattle.vx_keys.proofs.ShownFacts.{shown-long, shown-group, shown-key}
 use Rattle.vx_keys.proofs.BlameFacts.{told, end-blame}
@@ -41,6 +40,16 @@ returns-in_err-cells-clause-err c =
     told c.from_residual-in_err-cells.result e (λ x. (xs : List Row) → HasTaken g xs → EndBlame x g.by g.aggregates xs) c.from_residual-in_err-cells.ensures.1
     (λ xs taken. end-blame e g xs n taken (omega (arith, within, long)) (subst (CellsBlame e) group-is c.in_err-cells.ensures.err))
 
+pub key-requires : goal.key-requires
+key-requires c =
+    let g = c.args.self.now in
+    let test = c.loop-number-test.true in
+    let within : c.loop-number.number < length c.self.inside.groups.items = omega (arith, test, c.len-number-end.ensures) in
+    let long = shown-long c.self.inside.groups.items g.groups (ap (λ (x : Groups). x.groups) c.self.view_is) in
+    let many : length c.self.inside.keys ≡ length g.keys = ap (λ (x : Groups). length x.keys) c.self.view_is in
+    let even = level g c.requires.rows c.requires.taken in
+    omega (arith, within, long, even, many)
+
 pub push_cells-requires : goal.push_cells-requires
 push_cells-requires c =
     let g = c.args.self.now in
@@ -49,14 +58,14 @@ push_cells-requires c =
     let keys-are = ap (λ (x : Groups). x.keys) c.self.view_is in
     let test = c.loop-number-test.true in
     let within : n < length c.self.inside.groups.items = omega (arith, test, c.len-number-end.ensures) in
-    let few = c.self.invariant.0 in
-    let many : length c.self.inside.keys ≡ length g.keys = ap length keys-are in
+    let long = shown-long c.self.inside.groups.items g.groups groups-are in
+    let even = level g c.requires.rows c.requires.taken in
     let group-is : map held c.deref-in-loop-number.result.now ≡ get_or g.groups n [] =
     ap (map held) c.deref-in-loop-number.ensures.value ∙ shown-group c.self.inside.groups.items g.groups n c.index.result.now within c.index.ensures groups-are in
     let key-is : c.key.result.now ≡ get_or g.keys n [] = shown-key c.self.inside.keys g.keys n c.key.result.now c.key.ensures keys-are in
     let cells-are : map cell_val c.as_slice-in-loop-number.result.now ≡ key_row (get_or g.keys n []) (get_or g.groups n []) =
     ap (map cell_val) c.as_slice-in-loop-number.ensures.value ∙ (c.in_ok-cells.ensures.cells ∙ (λ i. key_row (key-is i) (group-is i))) in
-    ap (map type_of) cells-are ∙ (shown-typed g c.requires.rows n c.requires.taken (omega (arith, within, few, many)) ∙ sym c.loop-number.invariant.0)
+    ap (map type_of) cells-are ∙ (shown-typed g c.requires.rows n c.requires.taken (omega (arith, within, long, even)) ∙ sym c.loop-number.invariant.0)
 
 pub loop-number-preserved : goal.loop-number-preserved
 loop-number-preserved c =
@@ -67,8 +76,7 @@ loop-number-preserved c =
     let keys-are = ap (λ (x : Groups). x.keys) c.self.view_is in
     let test = c.loop-number-test.true in
     let within : n < length c.self.inside.groups.items = omega (arith, test, c.len-number-end.ensures) in
-    let few = c.self.invariant.0 in
-    let many : length c.self.inside.keys ≡ length g.keys = ap length keys-are in
+    let even = level g c.requires.rows c.requires.taken in
     let long = shown-long c.self.inside.groups.items g.groups groups-are in
     let inside : n < length g.groups = omega (arith, within, long) in
     let group-is : map held c.deref-in-loop-number.result.now ≡ get_or g.groups n [] =
@@ -78,7 +86,7 @@ loop-number-preserved c =
     ap (map cell_val) c.as_slice-in-loop-number.ensures.value ∙ (c.in_ok-cells.ensures.cells ∙ (λ i. key_row (key-is i) (group-is i))) in
     let fit : list_all held_fits (get_or g.groups n []) ≡ true = ap (list_all held_fits) (sym group-is) ∙ c.in_ok-cells.ensures.fit in (
       c.push_cells.ensures.types ∙ inv.0,
-      c.in_ok-push_cells.ensures.ok ∙ ((λ i. inv.1 i ++ cells-are i ∷ []) ∙ sym (rows-more g.keys g.groups n (omega (arith, within, few, many)) inside)),
+      c.in_ok-push_cells.ensures.ok ∙ ((λ i. inv.1 i ++ cells-are i ∷ []) ∙ sym (rows-more g.keys g.groups n (omega (arith, within, long, even)) inside)),
       list_all_more (λ hs. list_all held_fits hs) g.groups n [] inside ∙ rw (inv.2, fit) refl,
     )
 
@@ -93,8 +101,8 @@ returns-clause-rows c = λ xs taken.
     let test = c.loop-number-test.false in
     let past : length c.self.inside.groups.items ≤ n = omega (arith, test, c.len-number-end.ensures) in
     let long = shown-long c.self.inside.groups.items g.groups (ap (λ (x : Groups). x.groups) c.self.view_is) in
-    let level : length g.groups ≡ length g.keys = ap length taken.groups_are ∙ (length-map (group_keys g.by xs) (part_of g.by g.aggregates xs) ∙ sym (ap length taken.keys_are)) in
+    let even = level g xs taken in
     let whole : take n g.groups ≡ g.groups = take_all n g.groups (omega (arith, past, long)) in
-    let all : take n g.keys ≡ g.keys = take_all n g.keys (omega (arith, past, long, level)) in
+    let all : take n g.keys ≡ g.keys = take_all n g.keys (omega (arith, past, long, even)) in
     let P : List (List Held) → Type 0 = λ gs. all_fit gs ≡ true in
     finished-rows g xs taken (subst P whole inv.2) ∙ sym (ap Some (inv.1 ∙ (λ i. key_rows (all i) (whole i))))

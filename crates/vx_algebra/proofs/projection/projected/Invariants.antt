@@ -1,7 +1,0 @@
-use Rattle.std.proofs.Common.{◌≡◌, map, take}
-use Rattle.vx_values.specs.Types.{type_at}
-use Rattle.vx_values.specs.Values.{pick}
-use Rattle.vx_algebra.proofs.projection.projected.Given as goal
-
-abbrev pub invariant-loop-i : goal.invariant-loop-i
-invariant-loop-i l = (l.kept.types ≡ map (type_at l.rows.types) l.columns) × (l.kept.rows ≡ map (pick l.columns) (take l.i l.rows.rows))
