@@ -1,15 +1,15 @@
 -- Packets that are not for a port: none came where all are for it, and one that comes is refused.
-use Rattle.std.proofs.Common.{◌≡◌, ◌<◌, ℕ, ◌==◌, true, Some, ap, All, List, [], ◌∷◌, ◌++◌, refl, sym, subst, arith, length}
+use Rattle.std.proofs.Common.{◌≡◌, ◌<◌, ℕ, ◌==◌, true, Some, All, List, [], ◌∷◌, ◌++◌, refl, sym, subst, arith, length}
 use Rattle.std.proofs.Math.ListN.{get_or}
 use Rattle.std.proofs.lemmas.List.Elements.{All-get_or}
 use Rattle.vx_ports.specs.Packets.{PacketView}
 use Rattle.std.proofs.lemmas.Bool.Decides.{nat_tests}
-use Rattle.vx_ops.specs.Ledger.{Ledger, ConsumerEnd, receive, IsFor, Came, Abides}
+use Rattle.vx_ops.specs.Ledger.{IsFor, Came}
 use Rattle.vx_ops.specs.Turn.{with_packet, after}
 use Rattle.vx_ops.specs.Strangers.{StrangerLaw}
 use Rattle.vx_ops.specs.declared.fault.Code.TheVariants.{Stranger}
 use Rattle.vx_ops.specs.declared.fault.Fault.TheVariants.{Own}
-use Rattle.vx_ops.specs.declared.fault.Over.TheVariants.{Running, Ended, Failed}
+use Rattle.vx_ops.specs.declared.fault.Over.TheVariants.{Failed}
 use Rattle.vx_ops.specs.declared.turn.Want.TheVariants as want
 use Rattle.vx_ops.specs.declared.turn.Got.TheVariants as got
 use Rattle.vx_ops.specs.declared.turn.Polled.{Polled}

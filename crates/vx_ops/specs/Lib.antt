@@ -4,9 +4,16 @@ pub mod Turn
 pub mod Meaning
 pub mod Strangers
 pub mod Scan
+pub mod Union
 pub mod Stepping
 pub mod Select
+pub mod Projection
+pub mod Project
+pub mod FirstRows
+pub mod Distinct
 pub mod CollectingKernel
 pub mod Collecting
 pub mod Sorting
 pub mod Sort
+pub mod ProbeKernel
+pub mod Probing

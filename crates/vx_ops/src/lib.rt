@@ -3,8 +3,12 @@
 
 mod collecting;
 mod collecting_kernel;
+mod distinct;
 pub mod fault;
 pub mod laws;
+mod probe_kernel;
+mod probing;
+mod project;
 mod scan;
 mod select;
 mod sort;
@@ -12,10 +16,15 @@ mod source;
 mod step_kernel;
 mod stepping;
 mod turn;
+mod union;
 
 pub use collecting::Collecting;
 pub use collecting_kernel::{CollectingKernel, FinishFault};
+pub use distinct::{Distinct, FirstRows};
 pub use fault::{Code, Fault, Over};
+pub use probe_kernel::ProbeKernel;
+pub use probing::Probing;
+pub use project::{Project, Projection};
 pub use scan::Scan;
 pub use select::{Select, Selection};
 pub use sort::{Sort, Sorting};
@@ -23,3 +32,4 @@ pub use source::Source;
 pub use step_kernel::StepKernel;
 pub use stepping::Stepping;
 pub use turn::{Got, Polled, Want};
+pub use union::Union;

@@ -1,0 +1,80 @@
+-- When an operator that builds a table of its right input before it reads its left one may have received and returned what a ledger says.
+use Rattle.std.specs.Prelude.{ℕ, ◌≡◌, Bool, true, false, List, [], Option, Some, None}
+use Rattle.vx_values.specs.declared.value.ColType.{ColType}
+use Rattle.vx_values.specs.Values.{Row}
+use Rattle.vx_rows.specs.View.{RowsView}
+use Rattle.vx_plan_nodes.specs.Plan.{Binary}
+use Rattle.vx_ops.specs.Ledger.{Ledger, Op, two_op, Abides}
+use Rattle.vx_ops.specs.Turn.{Shape, while_running}
+use Rattle.vx_ops.specs.Meaning.{Meaning}
+use Rattle.vx_ops.specs.ProbeKernel.{IsProbed}
+use Rattle.vx_ops.specs.declared.fault.Over.{Over}
+use Rattle.vx_ops.specs.declared.fault.Over.TheVariants.{Running, Ended}
+use Rattle.vx_ops.specs.declared.turn.Want.{Want}
+use Rattle.vx_ops.specs.declared.turn.Want.TheVariants as want
+
+-- what a caller sees of it: whether its build side is ready, the rest of a batch of its left input that it holds, and how it stands
+pub record ProbingView (K : Type 0) : Type 0 where
+  pub node : ℕ
+  pub kernel : K
+  pub ready : Bool
+  pub rest : Option RowsView
+  pub over : Over
+
+-- the rows that it holds
+abbrev pub rest_rows : Option RowsView → List Row
+rest_rows None = []
+rest_rows (Some rest) = rest.rows
+
+-- they have these types
+abbrev pub RestTyped : List ColType → Option RowsView → Type 0
+RestTyped types None = Unit {0}
+RestTyped types (Some rest) = rest.types ≡ types
+
+-- while it runs: either it reads its right input and nothing else came or was returned;
+-- or that has ended, and it has returned the join of all left rows but those that it holds
+abbrev pub ProbingPhase : Binary → (List Row → Type 0) → (List Row → Type 0) → Bool → Option RowsView → Ledger → Type 0
+ProbingPhase op read built false None l =
+    (l.right.over ≡ Running) × read l.right.rows × (l.left.rows ≡ []) × (l.gave.rows ≡ [])
+ProbingPhase op read built false (Some rest) l = ⊥
+ProbingPhase op read built true rest l =
+    (l.right.over ≡ Ended) × built l.right.rows × IsProbed op l.right.rows l.left.rows l.gave.rows (rest_rows rest)
+
+-- it stands so; its phase while it runs, and its left input runs too; and what is known of any source
+pub record IsProbing (n : ℕ) (op : Binary) (read built : List Row → Type 0) (ready : Bool) (rest : Option RowsView) (over : Over) (l : Ledger) : Type 0 where
+  pub stands : l.gave.over ≡ over
+  pub left : over ≡ Running → l.left.over ≡ Running
+  pub runs : over ≡ Running → ProbingPhase op read built ready rest l
+  pub abides : Abides (two_op n op) l
+
+abbrev pub probing_op : {K : Type 0} → (K → Binary) → ProbingView K → Op
+probing_op binary s = two_op s.node (binary s.kernel)
+
+abbrev pub probing_types : {K : Type 0} → (K → Shape) → ProbingView K → Shape
+probing_types types s = types s.kernel
+
+-- what it wants while it runs: its right input until that has ended, and then its left one, but nothing while it holds rows
+abbrev pub reads_next : Bool → Option RowsView → Want
+reads_next ready (Some rest) = want.Nothing
+reads_next false None = want.Right
+reads_next true None = want.Left
+
+abbrev pub probing_want : {K : Type 0} → ProbingView K → Want
+probing_want s = while_running (reads_next s.ready s.rest) s.over
+
+abbrev pub ProbingStands : {K : Type 0} → (K → Binary) → (K → List Row → Type 0) → (K → List Row → Type 0) → ProbingView K → Ledger → Type 0
+ProbingStands binary read built s l = IsProbing s.node (binary s.kernel) (read s.kernel) (built s.kernel) s.ready s.rest s.over l
+
+pub probing_abides : {K : Type 0} (binary : K → Binary) (read built : K → List Row → Type 0) (s : ProbingView K) (l : Ledger)
+    → ProbingStands binary read built s l → Abides (probing_op binary s) l
+probing_abides binary read built s l h = h.abides
+
+-- of an operator whose kernel computes this, over rows of these types, and has read and built this
+abbrev pub probing_meaning : {K : Type 0} → (K → Binary) → (K → Shape) → (K → List Row → Type 0) → (K → List Row → Type 0) → ProbingView K → Meaning
+probing_meaning binary types read built s = record {
+  stands = ProbingStands binary read built s;
+  op = probing_op binary s;
+  types = probing_types types s;
+  want = probing_want s;
+  abides = probing_abides binary read built s;
+}

@@ -1,0 +1,60 @@
+//! Kernels that join the rows of their left input with a build side, which is all of their right input.
+
+use std::alloc::AllocError;
+use vx_views::Rows;
+
+/// Calls: `build* finish_build probe*`, and none after an `Err`.
+///
+/// What a join computes that reads one of its inputs whole before the other (the build and the probe side of DeWitt's
+/// hash join): `Probing` makes a source of it.
+pub trait ProbeKernel: Drop {
+    ghost use Rattle.std.specs.Prelude.{◌≡◌, ◌<◌, ◌++◌, List, [], length, IfOk, OnOk};
+    ghost use Rattle.vx_values.specs.Values.{Row};
+    ghost use Rattle.vx_plan_nodes.specs.Plan.{Binary};
+    ghost use Rattle.vx_plan_nodes.specs.Serial.{binary_rows};
+    ghost use Rattle.vx_ops.specs.Turn.{Shape};
+    ghost use Rattle.vx_ops.specs.ProbeKernel.{IsProbed};
+
+    // The operator.
+    ghost binary: { Self → Binary };
+
+    // The types of the rows of its inputs and of its output.
+    ghost types: { Self → Shape };
+
+    // That these rows of the right input were read, and no others.
+    ghost HasRead: { Self → List Row → Type 0 };
+
+    // That the build side is ready, and is these rows.
+    ghost HasBuilt: { Self → List Row → Type 0 };
+
+    /// Reads a further batch of the right input.
+    fn build(&mut self, batch: Rows) -> Result<(), AllocError>
+        requires typed { batch.types ≡ (types self.old).right }
+        ensures read { OnOk result ((rs : List Row) → HasRead self.old rs → HasRead self.new (rs ++ batch.rows)) }
+        ensures binary { binary self.new ≡ binary self.old }
+        ensures types { types self.new ≡ types self.old };
+
+    /// Makes the build side ready, of all that was read.
+    fn finish_build(&mut self) -> Result<(), AllocError>
+        ensures built { OnOk result ((rs : List Row) → HasRead self.old rs → HasBuilt self.new rs) }
+        ensures binary { binary self.new ≡ binary self.old }
+        ensures types { types self.new ≡ types self.old };
+
+    /// Joins the first rows of a batch of the left input, as many as make a batch of joined rows that is large enough.
+    /// Returns the joined rows, and the rest of the batch.
+    fn probe(&mut self, batch: Rows) -> Result<(Rows, Rows), AllocError>
+        requires typed { batch.types ≡ (types self.old).left }
+        ensures probed { IfOk result (λ p. (rs : List Row) → HasBuilt self.old rs → IsProbed (binary self.old) rs batch.rows p.0.rows p.1.rows) }
+        ensures fewer { IfOk result (λ p. 0 < length batch.rows → length p.1.rows < length batch.rows) }
+        ensures built { OnOk result ((rs : List Row) → HasBuilt self.old rs → HasBuilt self.new rs) }
+        ensures joined_typed { IfOk result (λ p. p.0.types ≡ (types self.old).out) }
+        ensures rest_typed { IfOk result (λ p. p.1.types ≡ (types self.old).left) }
+        ensures binary { binary self.new ≡ binary self.old }
+        ensures types { types self.new ≡ types self.old };
+
+    // Of no left rows the operator makes none.
+    ghost empty: { (s : Self) (rs : List Row) → binary_rows (binary s) [] rs ≡ [] };
+
+    // What it makes of left rows does not depend on those before them.
+    ghost parts: { (s : Self) (xs ys rs : List Row) → binary_rows (binary s) (xs ++ ys) rs ≡ binary_rows (binary s) xs rs ++ binary_rows (binary s) ys rs };
+}
