@@ -1,0 +1,5 @@
+pub mod HashJoining
+pub mod HashJoin
+pub mod KeyedGroups
+pub mod Group
+pub mod MergeJoin

@@ -1,0 +1,73 @@
+-- When a merge join may have received and returned what a ledger says.
+use Rattle.std.specs.Prelude.{◌≡◌, ℕ, Bool, true, false, List, ◌++◌, map}
+use Rattle.vx_plan_nodes.specs.Plan.{join}
+use Rattle.vx_keys.specs.Merged.{MergeView, HasJoined, merge_need}
+use Rattle.vx_keys.specs.declared.merging.MergeFault.{MergeFault}
+use Rattle.vx_keys.specs.declared.merging.MergeFault.TheVariants as stops
+use Rattle.vx_keys.specs.declared.merging.MergeNeed.{MergeNeed}
+use Rattle.vx_keys.specs.declared.merging.MergeNeed.TheVariants as need
+use Rattle.vx_ops.specs.Ledger.{Ledger, Op, two_op, Abides}
+use Rattle.vx_ops.specs.Turn.{Shape}
+use Rattle.vx_ops.specs.Meaning.{Meaning}
+use Rattle.vx_ops.specs.declared.fault.Code.TheVariants.{Unsorted, NoMemory}
+use Rattle.vx_ops.specs.declared.fault.Fault.{Fault}
+use Rattle.vx_ops.specs.declared.fault.Fault.TheVariants.{Own}
+use Rattle.vx_ops.specs.declared.fault.Over.{Over}
+use Rattle.vx_ops.specs.declared.fault.Over.TheVariants.{Running, Ended, Failed}
+use Rattle.vx_ops.specs.declared.turn.Want.{Want}
+use Rattle.vx_ops.specs.declared.turn.Want.TheVariants as want
+use Rattle.vx_match.specs.declared.merge_join.MergeJoin.{MergeJoin}
+
+-- how an input stands that has not failed
+abbrev pub over_of : Bool → Over
+over_of true = Ended
+over_of false = Running
+
+-- the kernel joins on these pairs of columns, and it has received and returned what the ledger says
+pub record Merges (on : List (ℕ × ℕ)) (k : MergeView) (l : Ledger) : Type 0 where
+  pub left_over : l.left.over ≡ over_of k.left_ended
+  pub right_over : l.right.over ≡ over_of k.right_ended
+  pub lefts_are : k.lefts ≡ map (λ p. p.0) on
+  pub rights_are : k.rights ≡ map (λ p. p.1) on
+  pub joined : HasJoined k l.left.rows l.right.rows l.gave.rows
+
+-- it stands so; while it runs so does its kernel; and what is known of any source
+pub record IsMergeJoined (n : ℕ) (on : List (ℕ × ℕ)) (k : MergeView) (over : Over) (l : Ledger) : Type 0 where
+  pub stands : l.gave.over ≡ over
+  pub runs : over ≡ Running → Merges on k l
+  pub abides : Abides (two_op n (join true on)) l
+
+abbrev pub merge_join_op : MergeJoin → Op
+merge_join_op s = two_op s.node (join true s.on.items)
+
+abbrev pub merge_join_types : MergeJoin → Shape
+merge_join_types s = record { left = s.kernel.left.types; right = s.kernel.right.types; out = s.kernel.left.types ++ s.kernel.right.types }
+
+-- it wants what its kernel needs
+abbrev pub want_of_need : MergeNeed → Want
+want_of_need need.Nothing = want.Nothing
+want_of_need need.Left = want.Left
+want_of_need need.Right = want.Right
+want_of_need need.End = want.Nothing
+
+abbrev pub wanted : MergeNeed → Over → Want
+wanted n Running = want_of_need n
+wanted n Ended = want.Nothing
+wanted n (Failed f) = want.Nothing
+
+abbrev pub merge_join_want : MergeJoin → Want
+merge_join_want s = wanted (merge_need s.kernel) s.over
+
+abbrev pub MergeJoinStands : MergeJoin → Ledger → Type 0
+MergeJoinStands s l = IsMergeJoined s.node s.on.items s.kernel s.over l
+
+pub merge_join_abides : (s : MergeJoin) (l : Ledger) → MergeJoinStands s l → Abides (merge_join_op s) l
+merge_join_abides s l h = h.abides
+
+abbrev pub merge_join_meaning : MergeJoin → Meaning
+merge_join_meaning s = record { stands = MergeJoinStands s; op = merge_join_op s; types = merge_join_types s; want = merge_join_want s; abides = merge_join_abides s }
+
+-- the fault of its own
+abbrev pub fault_of : MergeFault → ℕ → Fault
+fault_of stops.Falls n = Own Unsorted n
+fault_of stops.NoMemory n = Own NoMemory n

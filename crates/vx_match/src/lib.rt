@@ -1,0 +1,11 @@
+//! Operators that match rows on keys, as sources that do not hold their inputs.
+#![tactic(auto)]
+
+mod group;
+mod hash_join;
+mod merge_join;
+mod pairs;
+
+pub use group::{Group, KeyedGroups};
+pub use hash_join::{HashJoin, HashJoining};
+pub use merge_join::MergeJoin;

@@ -1,0 +1,254 @@
+//! The merge join, a batch at a time (Blasgen and Eswaran, 1977).
+
+ghost use Rattle.std.specs.Prelude.{◌≡◌};
+ghost use Rattle.vx_match.specs.MergeJoin.{fault_of};
+
+use crate::pairs::{left_columns, right_columns};
+use std::alloc::{AllocError, Global};
+use vx_keys::{Merge, MergeFault, MergeNeed};
+use vx_ops::{Code, Fault, Got, Over, Polled, Source, Want};
+use vx_rows::ColType;
+use vx_views::Rows;
+
+// A batch of joined rows is cut once it has so many.
+const MOST: usize = 65_536;
+
+/// Calls: `new (wants turn)*`.
+///
+/// Returns each row of its left input joined with the rows of its right input that agree with it on pairs of columns. Both
+/// inputs must rise on these, and are read to their end: it fails where one of them falls.
+///
+/// It never hashes. It keeps the batch at hand of each input, and of the right rows before that only those with the key of
+/// the left row at hand.
+#[derive(Drop)]
+pub struct MergeJoin {
+    node: u32,
+    on: Vec<(usize, usize)>,
+    kernel: Merge,
+    over: Over,
+}
+
+impl MergeJoin {
+    ghost use Rattle.std.specs.Prelude.{◌≡◌, ◌++◌, length, map, true, IfOk};
+    ghost use Rattle.vx_rows.specs.View.{AreColumns};
+    ghost use Rattle.vx_plan_nodes.specs.Plan.{join};
+    ghost use Rattle.vx_keys.specs.Merged.{merge_need};
+    ghost use Rattle.vx_keys.specs.declared.merging.MergeNeed.TheVariants as need;
+    ghost use Rattle.vx_ops.specs.Ledger.{Ledger, two_op};
+    ghost use Rattle.vx_ops.specs.Turn.{fresh_ledger, after, gives, GivesRows, GotTyped, Fits};
+    ghost use Rattle.vx_ops.specs.declared.fault.Over.TheVariants.{Running};
+    ghost use Rattle.vx_ops.specs.declared.turn.Polled.TheVariants as polled;
+    ghost use Rattle.vx_ops.specs.declared.turn.Got.TheVariants as got_of;
+    ghost use Rattle.vx_ops.specs.declared.turn.Want.TheVariants as want_of;
+    ghost use Rattle.vx_match.specs.MergeJoin.{MergeJoinStands, merge_join_op, merge_join_types};
+
+    /// A merge join on these pairs of a left and a right column, over rows of these types, at the node with this number,
+    /// to which nothing came.
+    pub fn new(
+        alloc: Global,
+        node: u32,
+        on: &[(usize, usize)],
+        left: &[ColType],
+        right: &[ColType],
+    ) -> Result<MergeJoin, AllocError>
+        requires left { AreColumns (length left.now) (map (λ p. p.0) on.now) }
+        requires right { AreColumns (length right.now) (map (λ p. p.1) on.now) }
+        ensures stands { IfOk result (λ s. MergeJoinStands s fresh_ledger) }
+        ensures op { IfOk result (λ s. merge_join_op s ≡ two_op node (join true on.now)) }
+        ensures types { IfOk result (λ s. merge_join_types s ≡ record { left = left.now; right = right.now; out = left.now ++ right.now }) }
+    {
+        let lefts = left_columns(alloc, on)?;
+        let rights = right_columns(alloc, on)?;
+        let kernel = Merge::new(alloc, lefts, left, rights, right)?;
+        Ok(MergeJoin {
+            node,
+            on: Vec::from_slice(alloc, on)?,
+            kernel,
+            over: Over::Running,
+        })
+    }
+
+    // What is returned for what the left input returned.
+    fn read_left(&mut self, got: Got) -> Polled
+        requires running { self.old.over ≡ Running }
+        requires need { merge_need self.old.kernel ≡ need.Left }
+        requires fits { Fits want_of.Left got }
+        requires typed { GotTyped (merge_join_types self.old) want_of.Left got }
+        ensures stands { (l : Ledger) → MergeJoinStands self.old l → MergeJoinStands self.new (after l want_of.Left got result) }
+        ensures gives { GivesRows (merge_join_types self.old).out result }
+        ensures op { merge_join_op self.new ≡ merge_join_op self.old }
+        ensures types { merge_join_types self.new ≡ merge_join_types self.old }
+    {
+        match got {
+            Got::Input(Polled::Gave(batch)) => self.take_left(batch),
+            Got::Input(Polled::End) => {
+                self.kernel.end_left();
+                self.go_on()
+            }
+            Got::Input(Polled::Fault(f)) => {
+                self.over = Over::Failed(f);
+                Polled::Fault(f)
+            }
+            _ => Polled::Waiting,
+        }
+    }
+
+    // What is returned for a batch of the left input.
+    fn take_left(&mut self, batch: Rows) -> Polled
+        requires running { self.old.over ≡ Running }
+        requires need { merge_need self.old.kernel ≡ need.Left }
+        requires typed { batch.types ≡ (merge_join_types self.old).left }
+        ensures stands { (l : Ledger) → MergeJoinStands self.old l → MergeJoinStands self.new (after l want_of.Left (got_of.Input (polled.Gave batch)) result) }
+        ensures gives { GivesRows (merge_join_types self.old).out result }
+        ensures op { merge_join_op self.new ≡ merge_join_op self.old }
+        ensures types { merge_join_types self.new ≡ merge_join_types self.old }
+    {
+        match self.kernel.take_left(batch) {
+            Ok(()) => self.go_on(),
+            Err(e) => {
+                let fault = own_fault(e, self.node);
+                self.over = Over::Failed(fault);
+                Polled::Fault(fault)
+            }
+        }
+    }
+
+    // What is returned for what the right input returned.
+    fn read_right(&mut self, got: Got) -> Polled
+        requires running { self.old.over ≡ Running }
+        requires need { merge_need self.old.kernel ≡ need.Right }
+        requires fits { Fits want_of.Right got }
+        requires typed { GotTyped (merge_join_types self.old) want_of.Right got }
+        ensures stands { (l : Ledger) → MergeJoinStands self.old l → MergeJoinStands self.new (after l want_of.Right got result) }
+        ensures gives { GivesRows (merge_join_types self.old).out result }
+        ensures op { merge_join_op self.new ≡ merge_join_op self.old }
+        ensures types { merge_join_types self.new ≡ merge_join_types self.old }
+    {
+        match got {
+            Got::Input(Polled::Gave(batch)) => self.take_right(batch),
+            Got::Input(Polled::End) => {
+                self.kernel.end_right();
+                self.go_on()
+            }
+            Got::Input(Polled::Fault(f)) => {
+                self.over = Over::Failed(f);
+                Polled::Fault(f)
+            }
+            _ => Polled::Waiting,
+        }
+    }
+
+    // What is returned for a batch of the right input.
+    fn take_right(&mut self, batch: Rows) -> Polled
+        requires running { self.old.over ≡ Running }
+        requires need { merge_need self.old.kernel ≡ need.Right }
+        requires typed { batch.types ≡ (merge_join_types self.old).right }
+        ensures stands { (l : Ledger) → MergeJoinStands self.old l → MergeJoinStands self.new (after l want_of.Right (got_of.Input (polled.Gave batch)) result) }
+        ensures gives { GivesRows (merge_join_types self.old).out result }
+        ensures op { merge_join_op self.new ≡ merge_join_op self.old }
+        ensures types { merge_join_types self.new ≡ merge_join_types self.old }
+    {
+        match self.kernel.take_right(batch) {
+            Ok(()) => self.go_on(),
+            Err(e) => {
+                let fault = own_fault(e, self.node);
+                self.over = Over::Failed(fault);
+                Polled::Fault(fault)
+            }
+        }
+    }
+
+    // Joins rows that are at hand.
+    fn go_on(&mut self) -> Polled
+        requires running { self.old.over ≡ Running }
+        ensures stands { (l : Ledger) → MergeJoinStands self.old l → MergeJoinStands self.new (gives l result) }
+        ensures gives { GivesRows (merge_join_types self.old).out result }
+        ensures op { merge_join_op self.new ≡ merge_join_op self.old }
+        ensures types { merge_join_types self.new ≡ merge_join_types self.old }
+    {
+        match self.kernel.join_some(MOST) {
+            Ok(joined) => {
+                if joined.len() == 0 {
+                    return self.conclude();
+                }
+                Polled::Gave(joined)
+            }
+            Err(e) => {
+                let fault = own_fault(e, self.node);
+                self.over = Over::Failed(fault);
+                Polled::Fault(fault)
+            }
+        }
+    }
+
+    // What is returned where no row was joined.
+    fn conclude(&mut self) -> Polled
+        requires running { self.old.over ≡ Running }
+        ensures stands { (l : Ledger) → MergeJoinStands self.old l → MergeJoinStands self.new (gives l result) }
+        ensures gives { GivesRows (merge_join_types self.old).out result }
+        ensures op { merge_join_op self.new ≡ merge_join_op self.old }
+        ensures types { merge_join_types self.new ≡ merge_join_types self.old }
+    {
+        match self.kernel.needs() {
+            MergeNeed::End => {
+                self.over = Over::Ended;
+                Polled::End
+            }
+            _ => Polled::Waiting,
+        }
+    }
+}
+
+impl Source for MergeJoin {
+    ghost use Rattle.vx_match.specs.MergeJoin.{MergeJoinStands, merge_join_op, merge_join_types, merge_join_want, merge_join_abides};
+
+    ghost Stands = { MergeJoinStands };
+
+    ghost op = { merge_join_op };
+
+    ghost types = { merge_join_types };
+
+    ghost want = { merge_join_want };
+
+    ghost abides = { merge_join_abides };
+
+    fn wants(&self) -> Want {
+        match self.over {
+            Over::Running => match self.kernel.needs() {
+                MergeNeed::Left => Want::Left,
+                MergeNeed::Right => Want::Right,
+                _ => Want::Nothing,
+            },
+            _ => Want::Nothing,
+        }
+    }
+
+    fn turn(&mut self, got: Got) -> Polled {
+        match self.over {
+            Over::Ended => Polled::End,
+            Over::Failed(f) => Polled::Fault(f),
+            Over::Running => match self.kernel.needs() {
+                MergeNeed::Left => self.read_left(got),
+                MergeNeed::Right => self.read_right(got),
+                MergeNeed::Nothing => self.go_on(),
+                MergeNeed::End => self.go_on(),
+            },
+        }
+    }
+}
+
+// The fault of a merge join at a node.
+fn own_fault(e: MergeFault, node: u32) -> Fault
+    ensures { result ≡ fault_of e node }
+{
+    match e {
+        MergeFault::Falls => Fault::Own {
+            code: Code::Unsorted,
+            node,
+        },
+        MergeFault::NoMemory => Fault::Own {
+            code: Code::NoMemory,
+            node,
+        },
+    }
+}
