@@ -1,0 +1,2 @@
+pub mod Wisconsin
+pub mod Line
