@@ -101,21 +101,35 @@ fn the_first_of_equal_rows_is_kept(rt: HostRuntime) -> Result<(), Fail> {
     compare(&rt, alloc, Kernel::Distinct, &REPEATED, &[1], "'b';'a';")
 }
 
-// What is new in each of two batches, as text.
+// What is new in a batch, by some of its columns, as text.
+fn new_in(
+    alloc: Global,
+    seen: &mut Seen,
+    pairs: &[(i64, &str)],
+    columns: &[usize],
+) -> Result<String, AllocError>
+    requires { AreColumns 2 columns.now }
+{
+    let batch = Rows::of_table(alloc, table(alloc, pairs)?)?;
+    let new = seen.keep_new(&batch, columns)?.gathered(alloc)?;
+    shown(alloc, &new)
+}
+
+// What is new in each of two batches, by columns of each, as text.
 fn news_of(
     alloc: Global,
     first: &[(i64, &str)],
-    second: &[(i64, &str)],
     columns: &[usize],
+    second: &[(i64, &str)],
+    later: &[usize],
 ) -> Result<(String, String), AllocError>
-    requires { AreColumns 2 columns.now }
+    requires columns { AreColumns 2 columns.now }
+    requires later { AreColumns 2 later.now }
 {
-    let first = Rows::of_table(alloc, table(alloc, first)?)?;
-    let second = Rows::of_table(alloc, table(alloc, second)?)?;
     let mut seen = Seen::new(alloc);
-    let early = seen.keep_new(&first, columns)?.gathered(alloc)?;
-    let late = seen.keep_new(&second, columns)?.gathered(alloc)?;
-    Ok((shown(alloc, &early)?, shown(alloc, &late)?))
+    let early = new_in(alloc, &mut seen, first, columns)?;
+    let late = new_in(alloc, &mut seen, second, later)?;
+    Ok((early, late))
 }
 
 const AGAIN: [(i64, &str); 4] = [(2, "a"), (4, "b"), (3, "b"), (4, "b")];
@@ -123,13 +137,24 @@ const AGAIN: [(i64, &str); 4] = [(2, "a"), (4, "b"), (3, "b"), (4, "b")];
 #[test]
 fn rows_of_an_earlier_batch_are_not_new(rt: HostRuntime) -> Result<(), Fail> {
     let alloc = rt.alloc();
-    let news = news_of(alloc, &REPEATED, &AGAIN, &[0, 1])?;
+    let news = news_of(alloc, &REPEATED, &[0, 1], &AGAIN, &[0, 1])?;
     assert_eq!(rt; news.0.as_str(), "3 'b';1 'a';2 'a';");
     assert_eq!(rt; news.1.as_str(), "4 'b';");
-    let numbers = news_of(alloc, &REPEATED, &AGAIN, &[0])?;
+    let numbers = news_of(alloc, &REPEATED, &[0], &AGAIN, &[0])?;
     assert_eq!(rt; numbers.1.as_str(), "4;");
-    let texts = news_of(alloc, &REPEATED, &AGAIN, &[1])?;
+    let texts = news_of(alloc, &REPEATED, &[1], &AGAIN, &[1])?;
     assert_eq!(rt; texts.1.as_str(), "");
+    Ok(())
+}
+
+#[test]
+fn keys_of_another_type_are_new(rt: HostRuntime) -> Result<(), Fail> {
+    let alloc = rt.alloc();
+    let texts = news_of(alloc, &REPEATED, &[0], &AGAIN, &[1])?;
+    assert_eq!(rt; texts.0.as_str(), "3;1;2;");
+    assert_eq!(rt; texts.1.as_str(), "'a';'b';");
+    let numbers = news_of(alloc, &REPEATED, &[1], &AGAIN, &[0])?;
+    assert_eq!(rt; numbers.1.as_str(), "2;4;3;");
     Ok(())
 }
 

@@ -102,7 +102,7 @@ apart-others x (y ∷ ys) = step (row_eq x y) refl (apart-others x ys)
     step true e rest = rest
     step false e rest = (e, rest)
 
-none-distinct : IsDistinct row_eq []
+pub none-distinct : IsDistinct row_eq []
 none-distinct = IsDistinct-from_count row_eq-laws [] refl
 
 distinct-left : (p : Row → Bool) (xs : List Row) → IsDistinct row_eq xs → IsDistinct row_eq (filter p xs)

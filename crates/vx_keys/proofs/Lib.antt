@@ -15,3 +15,5 @@ pub mod MergeFacts
 pub mod MergeTurns
 pub mod MergeCalls
 pub mod BesideFacts
+pub mod MadeFacts
+pub mod ColumnFacts

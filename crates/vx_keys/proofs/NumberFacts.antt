@@ -3,6 +3,7 @@ use Rattle.std.proofs.Common.{◌≡◌, ℕ, suc, zero, ◌+◌, ◌<◌, ◌�
 use Rattle.std.specs.Prelude.{All, position, Some, None}
 use Rattle.std.specs.List.{AllByRecursion, position_or_len}
 use Rattle.std.proofs.lemmas.List.{take_more, get_or-map, append-nil, map-append, length-map, length-append}
+use Rattle.std.proofs.lemmas.Simd.{map-map}
 use Rattle.std.proofs.lemmas.List.Sums.{fold-append, passes_at_first, prefix_len-le-length}
 use Rattle.std.proofs.lemmas.List.Folds.{list_any_at}
 use Rattle.std.proofs.lemmas.List.Elements.{All-append}
@@ -64,7 +65,7 @@ key-new ks x h = ap (λ b. if b then ks else ks ++ x ∷ []) (any-absent (row_eq
 pub key-known : (ks : List Row) (x : Row) → position_or_len (row_eq x) ks < length ks → insert_key row_eq ks x ≡ ks
 key-known ks x h = ap (λ b. if b then ks else ks ++ x ∷ []) (list_any_at (row_eq x) ks (position_or_len (row_eq x) ks) [] h (passes_at_first (row_eq x) ks [] h))
 
-pub number-most : (p : Row → Bool) (ks : List Row) → position_or_len p ks ≤ length ks
+pub number-most : {X : Type 0} (p : X → Bool) (ks : List X) → position_or_len p ks ≤ length ks
 number-most p ks = prefix_len-le-length (λ x. not (p x)) ks
 
 -- all values of a row
@@ -81,13 +82,13 @@ whole-key types rows i n cols key fit near long is read =
     read ∙ (ap (λ cs. pick cs r) is ∙ pick-all r n wide)
 
 -- the number of a key that was looked for
-pub found-number : (p : Row → Bool) (xs : List Row) (n : ℕ) → position p xs ≡ Some n → n ≡ position_or_len p xs
+pub found-number : {X : Type 0} (p : X → Bool) (xs : List X) (n : ℕ) → position p xs ≡ Some n → n ≡ position_or_len p xs
 found-number p xs n h = grind (arith, h)
 
-past-number : (p : Row → Bool) (xs : List Row) → position p xs ≡ None → length xs ≤ position_or_len p xs
+past-number : {X : Type 0} (p : X → Bool) (xs : List X) → position p xs ≡ None → length xs ≤ position_or_len p xs
 past-number p xs h = grind (arith, h)
 
-pub missing-number : (p : Row → Bool) (xs : List Row) → position p xs ≡ None → length xs ≡ position_or_len p xs
+pub missing-number : {X : Type 0} (p : X → Bool) (xs : List X) → position p xs ≡ None → length xs ≡ position_or_len p xs
 missing-number p xs h = let past = past-number p xs h in let most = number-most p xs in omega (arith, past, most)
 
 -- the places of new keys, when one more key comes
@@ -135,3 +136,9 @@ picked-at cols rows (p ∷ ps) h =
 -- the columns of a table are columns of it
 pub all-columns : (n m : ℕ) (cols : List ℕ) → m ≡ n → cols ≡ each_below m (λ c. c) → AreColumns n cols
 all-columns n m cols e is = subst (AreColumns n) (sym is) (all_at (λ c. c < n) (each_below m (λ c. c)) (each_below-all (λ c. c < n) m (λ c. c) (λ k l. omega (arith, l, e))))
+
+-- the numbers of keys that rows have
+pub numbers-found : (ks known column : List Row) (cols : List ℕ) (rows : List Row) → ks ≡ known → column ≡ map (pick cols) rows
+    → map (λ k. position_or_len (row_eq k) ks) column ≡ map (λ r. position_or_len (row_eq (pick cols r)) known) rows
+numbers-found ks known column cols rows same is =
+    let f = λ (k : Row). position_or_len (row_eq k) known in (λ i. map (λ k. position_or_len (row_eq k) (same i)) (is i)) ∙ map-map f (pick cols) rows

@@ -4,3 +4,5 @@ pub mod Shown
 pub mod GroupFaults
 pub mod Merged
 pub mod Numbers
+pub mod Columns
+pub mod Kinds

@@ -1,6 +1,6 @@
 //! Grouping: rows by key, each key with the aggregates of its rows.
 
-ghost use Rattle.std.specs.Prelude.{◌≡◌, ◌<◌, ◌≤◌, ◌++◌, ◌∷◌, [], List, All, length, map, set, slice_index_or, OnOk, IfOk, IfErr, IfSome, Some, Err, true, false};
+ghost use Rattle.std.specs.Prelude.{◌≡◌, ◌<◌, ◌≤◌, ◌++◌, ◌∷◌, [], List, All, length, map, set, slice_index_or, OnOk, IfOk, IfErr, IfSome, Some, Err, true};
 ghost use Rattle.std.specs.List.{list_all};
 ghost use Rattle.vx_values.specs.Values.{Row as Cells};
 ghost use Rattle.vx_values.specs.ValueView.{cell_val};
@@ -20,7 +20,7 @@ use std::alloc::{AllocError, Global};
 use std::marker::Model;
 use vx_algebra::types_at;
 use vx_plan_nodes::Aggregate;
-use vx_rows::{Cell, ColType, Row, Table};
+use vx_rows::{Cell, ColType, Table};
 use vx_views::{Chunk, Rows};
 
 /// Calls: `new add* finish`, and no `finish` after an `Err`.
@@ -128,34 +128,18 @@ fn add_numbered(
     Ok(())
 }
 
-// A key and the values of its aggregates.
-fn cells_of<'a>(
-    alloc: Global,
-    key: &'a Row,
-    group: &'a [Accumulator],
-) -> Result<Vec<Cell<'a>>, GroupFault>
-    ensures cells { IfOk result (λ v. map cell_val v.items ≡ key.now ++ map (λ h. h.value) (map held group.now)) }
+// The values of a key, and behind them those of its aggregates.
+fn cells_of<'a>(key: Vec<Cell<'a>>, group: &'a [Accumulator]) -> Result<Vec<Cell<'a>>, GroupFault>
+    ensures cells { IfOk result (λ v. map cell_val v.items ≡ map cell_val key.entry.items ++ map (λ h. h.value) (map held group.now)) }
     ensures fit { OnOk result (list_all held_fits (map held group.now) ≡ true) }
     ensures err { IfErr result (λ e. CellsBlame e (map held group.now)) }
 {
-    let mut cells = key_cells(alloc, key)?;
+    let mut cells = key;
     for accumulator in group {
         let Some(cell) = accumulator.cell() else {
             return Err(GroupFault::Overflow);
         };
         cells.push(cell)?;
-    }
-    Ok(cells)
-}
-
-// The values of a key.
-fn key_cells(alloc: Global, key: &Row) -> Result<Vec<Cell<'_>>, AllocError>
-    ensures { IfOk result (λ v. map cell_val v.items ≡ key.now) }
-{
-    let values = key.values();
-    let mut cells = Vec::new(alloc);
-    for value in values {
-        cells.push(value.cell())?;
     }
     Ok(cells)
 }
@@ -287,7 +271,8 @@ impl Grouping {
         let types = group_types(self.alloc, &self.types, &self.by, &self.aggregates)?;
         let mut found = Table::new(self.alloc, types.as_slice())?;
         for number in 0..self.groups.len() {
-            let cells = cells_of(self.alloc, self.keys.key(number), &self.groups[number])?;
+            let key = self.keys.cells(number)?;
+            let cells = cells_of(key, &self.groups[number])?;
             found.push_cells(cells.as_slice())?;
         }
         Ok(found)

@@ -1,34 +1,86 @@
 //! Keys, numbered in order of first occurrence.
 
-ghost use Rattle.std.specs.Prelude.{◌≡◌, ◌<◌, ◌≤◌, ◌++◌, [], length, map, All, OnOk, OnErr, IfOk, position, slice_get, Some};
+ghost use Rattle.std.specs.Prelude.{◌≡◌, ◌<◌, ◌++◌, ◌∷◌, [], length, map, All, OnOk, IfOk, IsTrue, false, slice_get, Some};
 ghost use Rattle.std.specs.List.{position_or_len, IsDistinct};
 ghost use Rattle.vx_values.specs.Values.{row_eq, pick};
+ghost use Rattle.vx_values.specs.ValueView.{cell_val};
 ghost use Rattle.vx_rows.specs.View.{AreColumns};
-ghost use Rattle.vx_rows.specs.Lists.{each_below};
-ghost use Rattle.indexmap.specs.IndexSet.{insert_key, insert_all};
+ghost use Rattle.indexmap.specs.IndexSet.{insert_all};
 ghost use Rattle.vx_views.specs.Chunks.{all_rows};
+ghost use Rattle.vx_keys.specs.Kinds.{kind_keys};
 ghost use Rattle.vx_keys.specs.Numbers.{numbers_of};
 
-use indexmap::IndexSet;
+use crate::columns::{IntColumn, TextColumn};
+use crate::int_keys::IntKeys;
+use crate::row_keys::RowKeys;
+use crate::text_keys::TextKeys;
 use std::alloc::{AllocError, Global};
 use std::marker::Model;
-use vx_rows::{Row, Table};
+use vx_rows::{Cell, Row};
 use vx_views::{Chunk, Rows};
 
-/// Keys, each once, numbered from 0 in order of first occurrence. They are found by hashing.
+// Keys of one number each, of one text each, or any others.
+#[derive(Drop)]
+enum Kind {
+    Ints(IntKeys),
+    Texts(TextKeys),
+    Rows(RowKeys),
+}
+
+/// Keys, each once, numbered from 0 in order of first occurrence. They are found by hashing: a key of one value as the
+/// number or the text that it is, and any other value by value.
+///
+/// The first rows that are numbered decide which of these it is. Where later ones have keys of another type, all keys are
+/// copied and are hashed value by value from then on.
 #[derive(Drop)]
 pub struct Keys {
-    set: IndexSet<Row>,
+    kind: Kind,
     alloc: Global,
 }
 
 impl Model for Keys {
     ghost use Rattle.std.specs.Prelude.{List};
     ghost use Rattle.vx_values.specs.Values.{Row};
+    ghost use Rattle.vx_keys.specs.Kinds.{kind_keys};
 
     ghost Value = { List Row };
 
-    ghost view = { λ k. k.set.keys };
+    ghost view = { λ k. kind_keys k.kind };
+}
+
+// No keys, of the kind that the rows of a chunk have in these columns.
+fn kind_of(alloc: Global, chunk: &Chunk, columns: &[usize]) -> Kind
+    requires { AreColumns (length chunk.now.types) columns.now }
+    ensures { kind_keys result ≡ [] }
+{
+    if IntColumn::of(chunk, columns).is_some() {
+        return Kind::Ints(IntKeys::new(alloc));
+    }
+    if TextColumn::of(chunk, columns).is_some() {
+        return Kind::Texts(TextKeys::new(alloc));
+    }
+    Kind::Rows(RowKeys::new(alloc))
+}
+
+// One value as a list.
+fn one_cell(alloc: Global, cell: Cell<'_>) -> Result<Vec<Cell<'_>>, AllocError>
+    ensures { IfOk result (λ v. map cell_val v.items ≡ cell_val cell.entry ∷ []) }
+{
+    let mut cells = Vec::with_capacity(alloc, 1)?;
+    cells.push(cell)?;
+    Ok(cells)
+}
+
+// The values of a row.
+fn row_cells(alloc: Global, row: &Row) -> Result<Vec<Cell<'_>>, AllocError>
+    ensures { IfOk result (λ v. map cell_val v.items ≡ row.now) }
+{
+    let values = row.values();
+    let mut cells = Vec::with_capacity(alloc, values.len())?;
+    for value in values {
+        cells.push(value.cell())?;
+    }
+    Ok(cells)
 }
 
 impl Keys {
@@ -37,7 +89,7 @@ impl Keys {
         ensures { result ≡ [] }
     {
         Keys {
-            set: IndexSet::new(alloc),
+            kind: Kind::Rows(RowKeys::new(alloc)),
             alloc,
         }
     }
@@ -47,55 +99,66 @@ impl Keys {
         ensures len { result ≡ length self.now }
         ensures unique { IsDistinct row_eq self.now }
     {
-        self.set.len()
+        match &self.kind {
+            Kind::Ints(keys) => keys.len(),
+            Kind::Texts(keys) => keys.len(),
+            Kind::Rows(keys) => keys.len(),
+        }
     }
 
-    /// The key of a number.
-    pub fn key(&self, number: usize) -> &Row
+    /// The values of the key of a number.
+    pub fn cells(&self, number: usize) -> Result<Vec<Cell<'_>>, AllocError>
         requires { number < length self.now }
-        ensures { slice_get self.now number ≡ Some result.now }
+        ensures { IfOk result (λ v. slice_get self.now number ≡ Some (map cell_val v.items)) }
     {
-        &self.set.as_slice()[number]
-    }
-
-    /// The number of a key, if it is here.
-    pub fn find(&self, key: &Row) -> Option<usize>
-        ensures { result ≡ position (row_eq key.now) self.now }
-    {
-        self.set.get_index_of(key)
-    }
-
-    /// The number of a key, which is copied and added if it is new. After an `Err` the keys are as before.
-    pub fn number(&mut self, key: &Row) -> Result<usize, AllocError>
-        ensures number { IfOk result (λ n. n ≡ position_or_len (row_eq key.now) self.old) }
-        ensures keys { OnOk result (self.new ≡ insert_key row_eq self.old key.now) }
-        ensures known { OnOk result (IsDistinct row_eq self.old) }
-        ensures unique { OnOk result (IsDistinct row_eq self.new) }
-        ensures within { IfOk result (λ n. n < length self.new) }
-        ensures grows { length self.old ≤ length self.new }
-        ensures err { OnErr result (self.new ≡ self.old) }
-    {
-        let _count = self.set.len();
-        if let Some(number) = self.set.get_index_of(key) {
-            return Ok(number);
+        match &self.kind {
+            Kind::Ints(keys) => one_cell(self.alloc, Cell::Int(keys.get(number))),
+            Kind::Texts(keys) => one_cell(self.alloc, Cell::Text(keys.get(number))),
+            Kind::Rows(keys) => row_cells(self.alloc, keys.get(number)),
         }
-        let (number, _) = self.set.insert_full(key.copy()?)?;
-        Ok(number)
     }
 
-    // Adds the numbers of keys that are the rows of a table. Keys that are new are added.
-    fn number_rows(&mut self, keys: &Table, numbers: &mut Vec<usize>) -> Result<(), AllocError>
-        ensures numbers { OnOk result (numbers.new.items ≡ numbers.old.items ++ numbers_of self.old keys.now.rows) }
-        ensures keys { OnOk result (self.new ≡ insert_all row_eq self.old keys.now.rows) }
+    // The same keys, hashed value by value.
+    fn as_rows(&self) -> Result<RowKeys, AllocError>
+        ensures { IfOk result (λ k. k ≡ self.now) }
     {
-        let columns = columns_below(self.alloc, keys.types().len())?;
-        let mut key = Row::new(self.alloc);
-        for i in 0..keys.len() {
-            key.read(keys, i, columns.as_slice())?;
-            let number = self.number(&key)?;
-            numbers.push(number)?;
+        let mut rows = RowKeys::new(self.alloc);
+        for number in 0..self.len() {
+            let cells = self.cells(number)?;
+            rows.add(cells.as_slice())?;
         }
-        Ok(())
+        Ok(rows)
+    }
+
+    // Does what `number_chunk` does, and returns `true`, where the keys of the chunk are of the kind of these. Else it
+    // does nothing.
+    fn number_kind(
+        &mut self,
+        chunk: &Chunk,
+        columns: &[usize],
+        numbers: &mut Vec<usize>,
+    ) -> Result<bool, AllocError>
+        requires { AreColumns (length chunk.now.types) columns.now }
+        ensures numbers { IfOk result (λ done. IsTrue done → numbers.new.items ≡ numbers.old.items ++ numbers_of self.old (map (pick columns.now) chunk.now.rows)) }
+        ensures keys { IfOk result (λ done. IsTrue done → self.new ≡ insert_all row_eq self.old (map (pick columns.now) chunk.now.rows)) }
+        ensures nothing { IfOk result (λ done. done ≡ false → (self.new ≡ self.old) × (numbers.new.items ≡ numbers.old.items)) }
+    {
+        match &mut self.kind {
+            Kind::Ints(keys) => {
+                let Some(column) = IntColumn::of(chunk, columns) else {
+                    return Ok(false);
+                };
+                keys.number_all(&column, numbers)?;
+            }
+            Kind::Texts(keys) => {
+                let Some(column) = TextColumn::of(chunk, columns) else {
+                    return Ok(false);
+                };
+                keys.number_all(&column, numbers)?;
+            }
+            Kind::Rows(keys) => keys.number_all(chunk, columns, numbers)?,
+        }
+        Ok(true)
     }
 
     // Adds the numbers of the keys that the rows of a chunk have in these columns. Keys that are new are added.
@@ -109,8 +172,15 @@ impl Keys {
         ensures numbers { OnOk result (numbers.new.items ≡ numbers.old.items ++ numbers_of self.old (map (pick columns.now) chunk.now.rows)) }
         ensures keys { OnOk result (self.new ≡ insert_all row_eq self.old (map (pick columns.now) chunk.now.rows)) }
     {
-        let keys = keys_of(self.alloc, chunk, columns)?;
-        self.number_rows(&keys, numbers)?;
+        if self.len() == 0 {
+            self.kind = kind_of(self.alloc, chunk, columns);
+        }
+        if self.number_kind(chunk, columns, numbers)? {
+            return Ok(());
+        }
+        let mut rows = self.as_rows()?;
+        rows.number_all(chunk, columns, numbers)?;
+        self.kind = Kind::Rows(rows);
         Ok(())
     }
 
@@ -145,61 +215,26 @@ impl Keys {
         Ok(numbers)
     }
 
-    // The number of a key, and for a key that is not here the number of the next new one.
-    fn number_or_next(&self, key: &Row) -> usize
-        ensures { result ≡ position_or_len (row_eq key.now) self.now }
-    {
-        let Some(number) = self.find(key) else {
-            return self.len();
-        };
-        number
-    }
-
-    // The numbers of keys that are the rows of a table, as `find_all`.
-    fn find_rows(&self, keys: &Table) -> Result<Vec<usize>, AllocError>
-        ensures { IfOk result (λ v. v.items ≡ map (λ k. position_or_len (row_eq k) self.now) keys.now.rows) }
-    {
-        let columns = columns_below(self.alloc, keys.types().len())?;
-        let mut key = Row::new(self.alloc);
-        let mut numbers = Vec::with_capacity(self.alloc, keys.len())?;
-        for i in 0..keys.len() {
-            key.read(keys, i, columns.as_slice())?;
-            let number = self.number_or_next(&key);
-            numbers.push(number)?;
-        }
-        Ok(numbers)
-    }
-
     /// The numbers of the keys that the rows of a chunk have in these columns, and for a key that is not here the number
     /// of the next new one.
     pub fn find_all(&self, chunk: &Chunk, columns: &[usize]) -> Result<Vec<usize>, AllocError>
         requires { AreColumns (length chunk.now.types) columns.now }
         ensures { IfOk result (λ v. v.items ≡ map (λ r. position_or_len (row_eq (pick columns.now r)) self.now) chunk.now.rows) }
     {
-        let keys = keys_of(self.alloc, chunk, columns)?;
-        let numbers = self.find_rows(&keys)?;
-        Ok(numbers)
+        match &self.kind {
+            Kind::Ints(keys) => {
+                if let Some(column) = IntColumn::of(chunk, columns) {
+                    return keys.find_all(&column);
+                }
+            }
+            Kind::Texts(keys) => {
+                if let Some(column) = TextColumn::of(chunk, columns) {
+                    return keys.find_all(&column);
+                }
+            }
+            Kind::Rows(keys) => return keys.find_all(chunk, columns),
+        }
+        let rows = self.as_rows()?;
+        rows.find_all(chunk, columns)
     }
-}
-
-// The keys that the rows of a chunk have in these columns, as a table.
-fn keys_of(alloc: Global, chunk: &Chunk, columns: &[usize]) -> Result<Table, AllocError>
-    requires { AreColumns (length chunk.now.types) columns.now }
-    ensures { IfOk result (λ t. t.rows ≡ map (pick columns.now) chunk.now.rows) }
-{
-    let keys = chunk.share(alloc)?.project(alloc, columns)?;
-    let mut table = Table::new(alloc, keys.types())?;
-    keys.copy_onto(alloc, &mut table)?;
-    Ok(table)
-}
-
-// The columns 0, 1, and so on, so many.
-fn columns_below(alloc: Global, count: usize) -> Result<Vec<usize>, AllocError>
-    ensures { IfOk result (λ v. v.items ≡ each_below count (λ c. c)) }
-{
-    let mut columns = Vec::with_capacity(alloc, count)?;
-    for column in 0..count {
-        columns.push(column)?;
-    }
-    Ok(columns)
 }

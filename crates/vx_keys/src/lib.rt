@@ -2,14 +2,18 @@
 #![tactic(auto)]
 
 mod accumulator;
+mod columns;
 mod grouping;
+mod int_keys;
 mod join;
 mod key_run;
 mod keys;
 mod merging;
+mod row_keys;
 mod seen;
 mod side_by_side;
 mod sum;
+mod text_keys;
 
 pub use accumulator::{Accumulator, GroupFault};
 pub use grouping::{Grouping, grouped};

@@ -7,5 +7,5 @@ use Rattle.vx_keys.proofs.grouping.cells_of.Given as goal
 
 abbrev pub invariant-loop-accumulator : goal.invariant-loop-accumulator
 invariant-loop-accumulator l =
-    (map cell_val l.cells.items ≡ l.key ++ map (λ h. h.value) (map held (take l.accumulator-index l.group)))
+    (map cell_val l.cells.items ≡ map cell_val l.fn.key.items ++ map (λ h. h.value) (map held (take l.accumulator-index l.group)))
     × (list_all held_fits (map held (take l.accumulator-index l.group)) ≡ true)

@@ -1,10 +1,17 @@
-use Rattle.std.proofs.Common.{ap, ◌∙◌, map}
-use Rattle.std.specs.List.{position_or_len}
-use Rattle.std.proofs.lemmas.Simd.{map-map}
-use Rattle.vx_values.specs.Values.{Row, row_eq, pick}
+use Rattle.std.proofs.Common.{◌≡◌, ℕ, List, sym, ap, ◌∙◌, subst}
+use Rattle.std.specs.Prelude.{IfOk}
+use Rattle.vx_keys.specs.Kinds.{kind_keys}
+use Rattle.vx_keys.proofs.NumberFacts.{numbers-found}
 use Rattle.vx_keys.proofs.keys.Keys.find_all.Goals as goal
 
-pub returns : goal.returns
-returns c =
-    let f = λ (k : Row). position_or_len (row_eq k) c.args.self.now in
-    c.in_ok-numbers.ensures ∙ (ap (map f) c.in_ok-keys.ensures ∙ map-map f (pick c.args.columns.now) c.args.chunk.now.rows)
+pub returns-in-Some : goal.returns-in-Some
+returns-in-Some c =
+    let P : List ℕ → Type 0 = λ ns. IfOk c.find_all.result (λ v. v.items ≡ ns) in
+    let known = sym (ap kind_keys c.in-Ints.is) ∙ c.self.view_is in
+    subst P (numbers-found c.in-Ints.keys c.args.self.now c.in-Some.column c.args.columns.now c.args.chunk.now.rows known c.in-Some.ensures) c.find_all.ensures
+
+pub returns-in-Some-of : goal.returns-in-Some-of
+returns-in-Some-of c =
+    let P : List ℕ → Type 0 = λ ns. IfOk c.find_all-in-Some-of.result (λ v. v.items ≡ ns) in
+    let known = sym (ap kind_keys c.in-Texts.is) ∙ c.self.view_is in
+    subst P (numbers-found c.in-Texts.keys c.args.self.now c.in-Some-of.column c.args.columns.now c.args.chunk.now.rows known c.in-Some-of.ensures) c.find_all-in-Some-of.ensures

@@ -1,0 +1,139 @@
+//! Columns whose values are keys by themselves, read where they lie.
+
+ghost use Rattle.std.specs.Prelude.{◌≡◌, ◌^◌, ◌<◌, [], length, map, slice_index, slice_index_or, IfSome};
+ghost use Rattle.vx_values.specs.Values.{pick};
+ghost use Rattle.vx_rows.specs.View.{AreColumns};
+ghost use Rattle.vx_views.specs.Seen.{seen_positions};
+ghost use Rattle.vx_keys.specs.Columns.{number_key, text_key};
+
+use std::marker::Model;
+use vx_rows::Texts;
+use vx_views::{Chunk, PositionsRef};
+
+// How many positions there are.
+fn count_of(at: PositionsRef<'_>) -> usize
+    ensures { result ≡ length (seen_positions at.entry) }
+{
+    match at {
+        PositionsRef::Range(_, count) => count,
+        PositionsRef::Listed(positions) => positions.len(),
+    }
+}
+
+// Position k.
+fn position(at: PositionsRef<'_>, k: usize) -> usize
+    requires there { k < length (seen_positions at) }
+    requires fits { slice_index (seen_positions at) k < 2 ^ 64 }
+    ensures { result ≡ slice_index (seen_positions at.entry) k }
+{
+    match at {
+        PositionsRef::Range(from, _) => from + k,
+        PositionsRef::Listed(positions) => positions[k],
+    }
+}
+
+/// The keys of rows, where each is one number.
+#[derive(Drop)]
+pub(crate) struct IntColumn<'a> {
+    numbers: &'a [i64],
+    at: PositionsRef<'a>,
+}
+
+impl<'a> Model for IntColumn<'a> {
+    ghost use Rattle.std.specs.Prelude.{List, length};
+    ghost use Rattle.vx_values.specs.Values.{Row};
+    ghost use Rattle.vx_rows.specs.View.{ArePositions};
+    ghost use Rattle.vx_views.specs.Seen.{seen_positions};
+    ghost use Rattle.vx_keys.specs.Columns.{number_keys};
+
+    ghost Value = { List Row };
+
+    ghost view = { λ c. number_keys c.numbers.now (seen_positions c.at) };
+
+    ghost invariant = { λ c. ArePositions (length c.numbers.now) (seen_positions c.at) };
+}
+
+impl<'a> IntColumn<'a> {
+    /// The keys that the rows of a chunk have in these columns, where that is one column of numbers.
+    pub fn of(chunk: &'a Chunk, columns: &[usize]) -> Option<IntColumn<'a>>
+        requires { AreColumns (length chunk.now.types) columns.now }
+        ensures { IfSome result (λ c. c ≡ map (pick columns.now) chunk.now.rows) }
+    {
+        if columns.len() != 1 {
+            return None;
+        }
+        match chunk.numbers(columns[0]) {
+            None => None,
+            Some((numbers, at)) => Some(IntColumn { numbers, at }),
+        }
+    }
+
+    /// How many rows there are.
+    pub fn len(&self) -> usize
+        ensures { result ≡ length self.now }
+    {
+        count_of(self.at)
+    }
+
+    /// The number of row k.
+    pub fn get(&self, k: usize) -> &'a i64
+        requires { k < length self.now }
+        ensures { number_key result.now ≡ slice_index_or self.now k [] }
+    {
+        &self.numbers[position(self.at, k)]
+    }
+}
+
+/// The keys of rows, where each is one text.
+#[derive(Drop)]
+pub(crate) struct TextColumn<'a> {
+    texts: &'a Texts,
+    at: PositionsRef<'a>,
+}
+
+impl<'a> Model for TextColumn<'a> {
+    ghost use Rattle.std.specs.Prelude.{List, length};
+    ghost use Rattle.vx_values.specs.Values.{Row};
+    ghost use Rattle.vx_rows.specs.View.{ArePositions};
+    ghost use Rattle.vx_views.specs.Seen.{seen_positions};
+    ghost use Rattle.vx_keys.specs.Columns.{text_keys};
+
+    ghost Value = { List Row };
+
+    ghost view = { λ c. text_keys c.texts.now (seen_positions c.at) };
+
+    ghost invariant = { λ c. ArePositions (length c.texts.now) (seen_positions c.at) };
+}
+
+impl<'a> TextColumn<'a> {
+    /// The keys that the rows of a chunk have in these columns, where that is one column of texts.
+    pub fn of(chunk: &'a Chunk, columns: &[usize]) -> Option<TextColumn<'a>>
+        requires { AreColumns (length chunk.now.types) columns.now }
+        ensures { IfSome result (λ c. c ≡ map (pick columns.now) chunk.now.rows) }
+    {
+        if columns.len() != 1 {
+            return None;
+        }
+        match chunk.texts(columns[0]) {
+            None => None,
+            Some((texts, at)) => Some(TextColumn { texts, at }),
+        }
+    }
+
+    /// How many rows there are.
+    pub fn len(&self) -> usize
+        ensures { result ≡ length self.now }
+    {
+        count_of(self.at)
+    }
+
+    /// The text of row k.
+    pub fn get(&self, k: usize) -> &'a str
+        requires { k < length self.now }
+        ensures { text_key result.now ≡ slice_index_or self.now k [] }
+    {
+        // no position is above this
+        let _count = self.texts.len();
+        self.texts.get(position(self.at, k))
+    }
+}

@@ -1,0 +1,105 @@
+//! Keys that are one number each.
+
+ghost use Rattle.std.specs.Prelude.{◌≡◌, ◌<◌, ◌++◌, [], length, map, OnOk, IfOk, slice_get, Some};
+ghost use Rattle.std.specs.List.{position_or_len, IsDistinct};
+ghost use Rattle.vx_values.specs.Values.{row_eq};
+ghost use Rattle.indexmap.specs.IndexSet.{insert_key, insert_all};
+ghost use Rattle.vx_keys.specs.Columns.{number_key};
+ghost use Rattle.vx_keys.specs.Numbers.{numbers_of};
+
+use crate::columns::IntColumn;
+use indexmap::IndexSet;
+use std::alloc::{AllocError, Global};
+use std::marker::Model;
+
+/// Keys of one number each, which are hashed as the numbers that they are.
+#[derive(Drop)]
+pub(crate) struct IntKeys {
+    set: IndexSet<i64>,
+    alloc: Global,
+}
+
+impl Model for IntKeys {
+    ghost use Rattle.std.specs.Prelude.{List, map};
+    ghost use Rattle.vx_values.specs.Values.{Row};
+    ghost use Rattle.vx_keys.specs.Columns.{number_key};
+
+    ghost Value = { List Row };
+
+    ghost view = { λ k. map number_key k.set.keys };
+}
+
+impl IntKeys {
+    /// No keys.
+    pub fn new(alloc: Global) -> IntKeys
+        ensures { result ≡ [] }
+    {
+        IntKeys {
+            set: IndexSet::new(alloc),
+            alloc,
+        }
+    }
+
+    /// How many keys there are.
+    pub fn len(&self) -> usize
+        ensures len { result ≡ length self.now }
+        ensures unique { IsDistinct row_eq self.now }
+    {
+        self.set.len()
+    }
+
+    /// The key of a number.
+    pub fn get(&self, number: usize) -> i64
+        requires { number < length self.now }
+        ensures { slice_get self.now number ≡ Some (number_key result) }
+    {
+        self.set.as_slice()[number]
+    }
+
+    // The number of a key, which is added if it is new.
+    fn number(&mut self, key: &i64) -> Result<usize, AllocError>
+        ensures number { IfOk result (λ n. n ≡ position_or_len (row_eq (number_key key.now)) self.old) }
+        ensures keys { OnOk result (self.new ≡ insert_key row_eq self.old (number_key key.now)) }
+    {
+        let (number, _) = self.set.insert_full(*key)?;
+        Ok(number)
+    }
+
+    /// Adds the numbers of these keys. Keys that are new are added.
+    pub fn number_all(
+        &mut self,
+        column: &IntColumn<'_>,
+        numbers: &mut Vec<usize>,
+    ) -> Result<(), AllocError>
+        ensures numbers { OnOk result (numbers.new.items ≡ numbers.old.items ++ numbers_of self.old column.now) }
+        ensures keys { OnOk result (self.new ≡ insert_all row_eq self.old column.now) }
+    {
+        for i in 0..column.len() {
+            let number = self.number(column.get(i))?;
+            numbers.push(number)?;
+        }
+        Ok(())
+    }
+
+    // The number of a key, and for a key that is not here the number of the next new one.
+    fn number_or_next(&self, key: &i64) -> usize
+        ensures { result ≡ position_or_len (row_eq (number_key key.now)) self.now }
+    {
+        let Some(number) = self.set.get_index_of(key) else {
+            return self.set.len();
+        };
+        number
+    }
+
+    /// The numbers of these keys, and for a key that is not here the number of the next new one.
+    pub fn find_all(&self, column: &IntColumn<'_>) -> Result<Vec<usize>, AllocError>
+        ensures { IfOk result (λ v. v.items ≡ map (λ k. position_or_len (row_eq k) self.now) column.now) }
+    {
+        let mut numbers = Vec::with_capacity(self.alloc, column.len())?;
+        for i in 0..column.len() {
+            let number = self.number_or_next(column.get(i));
+            numbers.push(number)?;
+        }
+        Ok(numbers)
+    }
+}
