@@ -1,5 +1,5 @@
-//! Serial queries, beside the same queries written by hand over plain columns. It fails where the two differ. bprime has a
-//! tenth of the rows of tenk1.
+//! Serial queries, beside the same queries run by one worker in rounds, and written by hand over plain columns. It fails
+//! where one differs. bprime has a tenth of the rows of tenk1.
 
 ghost use Rattle.std.specs.Prelude.{◌≤◌, ◌<◌, length};
 
@@ -7,6 +7,7 @@ use crate::bench::{Bench, last_of_hundredth, nanos_since};
 use crate::digest::{Digest, table_of};
 use crate::plain::PlainTable;
 use crate::queries::{QUERIES, Query, SCAN};
+use crate::runs::ran_by_one;
 use crate::wisconsin::{CATALOG, MAX_ROWS, relation};
 use anyhow::{Error, bail};
 use std::alloc::Global;
@@ -51,6 +52,14 @@ fn load(
     Ok(table)
 }
 
+// How long a query took each way, in nanoseconds.
+#[derive(Clone, Copy)]
+struct Times {
+    serial: u64,
+    by_one_worker: u64,
+    by_hand: u64,
+}
+
 // The rows of a plan in a table, and how long its evaluation took in nanoseconds, without making the table.
 fn evaluated<R: Clock>(
     rt: &R,
@@ -76,28 +85,42 @@ impl Bench {
         }
     }
 
-    // Shows both times for each row that is read, and how many times longer evaluation takes.
-    fn show_both<R: Print>(
-        self,
-        rt: &R,
-        query: Query,
-        serial: u64,
-        by_hand: u64,
-    ) -> Result<(), Error> {
+    // Shows the times for each row that is read, and how many times longer than by hand evaluation takes.
+    fn show_times<R: Print>(self, rt: &R, query: Query, times: Times) -> Result<(), Error> {
         let rows = self.rows_read(query).max(1);
-        let hundredths = serial.saturating_mul(100) / by_hand.max(1);
+        let hundredths = times.serial.saturating_mul(100) / times.by_hand.max(1);
         println!(rt;
-            "query {}: {} ns a row, by hand {} ns a row, {}.{:02} times as long",
+            "query {}: {} ns a row, by one worker {} ns a row, by hand {} ns a row, {}.{:02} times as long",
             query.number(),
-            serial / rows,
-            by_hand / rows,
+            times.serial / rows,
+            times.by_one_worker / rows,
+            times.by_hand / rows,
             hundredths / 100,
             hundredths % 100
         )?;
         Ok(())
     }
 
-    // Runs a query both ways, and shows what they gave.
+    // What a query gives by hand, and how long it took in nanoseconds.
+    fn run_by_hand<R: Clock>(
+        self,
+        rt: &R,
+        alloc: Global,
+        relations: &Relations,
+        query: Query,
+    ) -> Result<(Digest, u64), Error> {
+        let start = Instant::now(rt)?;
+        let table = query.by_hand(
+            alloc,
+            &relations.tenk1,
+            &relations.bprime,
+            last_of_hundredth(self.rows),
+        )?;
+        let took = nanos_since(rt, start)?;
+        Ok((Digest::of_table(&table), took))
+    }
+
+    // Runs a query each way, and shows what all gave.
     fn run_query<R: Print + Clock>(
         self,
         rt: &R,
@@ -107,17 +130,15 @@ impl Bench {
     ) -> Result<(), Error> {
         let text = query.plan(alloc, last_of_hundredth(self.rows))?;
         let (rows, serial) = evaluated(rt, alloc, &relations.database, text.as_str())?;
-        let start = Instant::now(rt)?;
-        let table = query.by_hand(
-            alloc,
-            &relations.tenk1,
-            &relations.bprime,
-            last_of_hundredth(self.rows),
-        )?;
-        let by_hand = nanos_since(rt, start)?;
         let digest = Digest::of_rows(&rows);
-        if digest != Digest::of_table(&table) {
-            bail!("query {} differs", query.number());
+        drop(rows);
+        let (rows, by_one_worker) = ran_by_one(rt, alloc, &relations.database, text.as_str())?;
+        if digest != Digest::of_rows(&rows) {
+            bail!("query {} differs by a worker", query.number());
+        }
+        let (other, by_hand) = self.run_by_hand(rt, alloc, relations, query)?;
+        if digest != other {
+            bail!("query {} differs by hand", query.number());
         }
         println!(rt;
             "query {}: {} rows, numbers add up to {}, checksum {}",
@@ -127,7 +148,12 @@ impl Bench {
             digest.checksum
         )?;
         if self.with_times {
-            self.show_both(rt, query, serial, by_hand)?;
+            let times = Times {
+                serial,
+                by_one_worker,
+                by_hand,
+            };
+            self.show_times(rt, query, times)?;
         }
         Ok(())
     }
@@ -165,7 +191,7 @@ impl Bench {
     }
 }
 
-/// The queries that are asked for, both ways.
+/// The queries that are asked for, each way.
 pub fn run<R: Print + Clock>(rt: &R, alloc: Global, bench: Bench) -> Result<(), Error>
     requires few { bench.rows ≤ MAX_ROWS }
 {

@@ -1,4 +1,5 @@
-//! Times over Wisconsin relations: of loading (`load`), of serial queries (`queries`), and of runs by workers (`runs`).
+//! Times over Wisconsin relations: of loading (`load`), of queries, serial and by one worker (`queries`), and of runs by
+//! workers (`runs`).
 //!
 //! Without an argument each part is done with 10,000 rows, and each line shows what is the same in each run. With the
 //! name of a part and a number, that part is done with so many rows, and its times are shown too. Behind these words of

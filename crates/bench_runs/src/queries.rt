@@ -1,4 +1,4 @@
-//! The queries that are measured, as plans without exchanges and by hand.
+//! The queries that are measured, as plans without exchanges that one worker can run, and by hand.
 
 use crate::plain::PlainTable;
 use std::alloc::{AllocError, Global};
@@ -8,8 +8,9 @@ const TENK1: &str = r#"{"op":"scan","relation":"tenk1","mode":"whole","size":"on
 /// The plan of a scan alone.
 pub const SCAN: &str = r#"{"root":{"op":"scan","relation":"tenk1","mode":"whole","size":"one"}}"#;
 
+// The columns that a join is on, and its inputs, of which a merge join needs the orders.
 const BOTH: &str =
-    r#""on":[["a.unique2","b.unique2"]],"left":{"op":"scan","relation":"tenk1","mode":"whole","size":"one","prefix":"a."},"right":{"op":"scan","relation":"bprime","mode":"whole","size":"one","prefix":"b."}"#;
+    r#""on":[["a.unique2","b.unique2"]],"left":{"op":"scan","relation":"tenk1","mode":"whole","size":"one","prefix":"a.","claim":{"part":"one","order":["a.unique2"]}},"right":{"op":"scan","relation":"bprime","mode":"whole","size":"one","prefix":"b.","claim":{"part":"one","order":["b.unique2"]}}"#;
 
 // Columns of the relations.
 const UNIQUE1: usize = 0;

@@ -1,4 +1,4 @@
-//! Runs by workers in rounds: tenk1 is scanned shared, selected on unique2 and gathered.
+//! Runs by workers in rounds: tenk1 is scanned shared, selected on unique2 and gathered; and runs of any plan by one worker.
 
 ghost use Rattle.std.specs.Prelude.{◌≤◌, ◌<◌, length};
 
@@ -50,16 +50,21 @@ fn database_of(alloc: Global, catalog: &Catalog, rows: u64) -> Result<Database, 
     Ok(database)
 }
 
-// The plan for the rows up to a number of unique2.
-fn plan_up_to(alloc: Global, catalog: &Catalog, last: i64) -> Result<CheckedPlan, Error> {
-    let text = format!(in alloc;
-        "{{\"sizes\":[\"many\"],\"root\":{{\"op\":\"exchange\",\"kind\":\"gather\",\"claim\":{{\"part\":\"one\"}},\"input\":{{\"op\":\"select\",\"where\":[{{\"column\":\"unique2\",\"op\":\"<=\",\"value\":{last}}}],\"claim\":{{\"part\":\"any\"}},\"input\":{{\"op\":\"scan\",\"relation\":\"tenk1\",\"mode\":\"shared\",\"size\":\"many\",\"claim\":{{\"part\":\"any\"}}}}}}}}}}"
-    )?;
+// A plan of a text.
+fn plan_in(alloc: Global, catalog: &Catalog, text: &str) -> Result<CheckedPlan, Error> {
     let plan = Plan::read(alloc, text.as_bytes())?;
     match check(resolve(alloc, &plan, catalog)?) {
         Ok(plan) => Ok(plan),
         Err(_) => bail!("the checker refuses the plan"),
     }
+}
+
+// The plan for the rows up to a number of unique2.
+fn plan_up_to(alloc: Global, catalog: &Catalog, last: i64) -> Result<CheckedPlan, Error> {
+    let text = format!(in alloc;
+        "{{\"sizes\":[\"many\"],\"root\":{{\"op\":\"exchange\",\"kind\":\"gather\",\"claim\":{{\"part\":\"one\"}},\"input\":{{\"op\":\"select\",\"where\":[{{\"column\":\"unique2\",\"op\":\"<=\",\"value\":{last}}}],\"claim\":{{\"part\":\"any\"}},\"input\":{{\"op\":\"scan\",\"relation\":\"tenk1\",\"mode\":\"shared\",\"size\":\"many\",\"claim\":{{\"part\":\"any\"}}}}}}}}}}"
+    )?;
+    plan_in(alloc, catalog, text.as_str())
 }
 
 // A team of so many workers, with packets, morsels and slack as they are by default.
@@ -89,6 +94,18 @@ fn ran<R: Clock>(
         }
         Ran::Unfinished => bail!("the run does not end"),
     }
+}
+
+/// The rows in a table that one worker comes to by a plan of a text, and how long its run took in nanoseconds, without
+/// making the table.
+pub fn ran_by_one<R: Clock>(
+    rt: &R,
+    alloc: Global,
+    database: &Database,
+    text: &str,
+) -> Result<(Table, u64), Error> {
+    let plan = plan_in(alloc, database.catalog(), text)?;
+    ran(rt, alloc, &plan, database, 1)
 }
 
 impl Bench {

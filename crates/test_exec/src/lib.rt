@@ -1,9 +1,15 @@
-//! What no clause says of runs: small plans deliver their rows by rounds and by schedules, and setups are refused with
-//! their lines.
+//! What no clause says of runs: small plans of each operator deliver their rows by rounds and by schedules, and setups are
+//! refused with their lines.
 //!
 //! The tests stand in a crate of their own, since a crate with tests is proved twice.
 #![tactic(auto)]
 
+#[cfg(test)]
+mod databases;
+#[cfg(test)]
+mod draws;
+#[cfg(test)]
+mod operators;
 #[cfg(test)]
 mod plans;
 #[cfg(test)]

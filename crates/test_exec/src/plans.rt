@@ -63,9 +63,9 @@ pub fn filled_with(alloc: Global, text: &str) -> Result<Database, Fail> {
     }
 }
 
-/// Three workers of each group, which send and read row by row.
-pub fn of_three(alloc: Global) -> Result<Setup, AllocError> {
+/// So many workers of each group, which send and read row by row.
+pub fn of_workers(alloc: Global, workers: u32) -> Result<Setup, AllocError> {
     let mut sizes = Vec::new(alloc);
-    sizes.push((String::from_str(alloc, "many")?, 3))?;
+    sizes.push((String::from_str(alloc, "many")?, workers))?;
     Ok(Setup::new(sizes, 1, 1, 4))
 }

@@ -1,6 +1,6 @@
 //! What no clause says of runs: small plans deliver their rows, by rounds and by schedules.
 
-use crate::plans::{SELECTED, ToFirst, checked, filled, of_three};
+use crate::plans::{SELECTED, ToFirst, checked, filled, of_workers};
 use std::alloc::{AllocError, Global};
 use std::test::Fail;
 use vx_exec::{Ran, RunFault, can_run, run_rounds, run_scheduled};
@@ -32,7 +32,14 @@ fn in_rounds(alloc: Global, text: &str, limit: u64) -> Result<Ran, Fail> {
     if !can_run(plan.plan()) {
         return Err(Fail::new("workers can run the plan"));
     }
-    Ok(run_rounds(alloc, &plan, &database, &of_three(alloc)?, &ToFirst, limit)?)
+    Ok(run_rounds(
+        alloc,
+        &plan,
+        &database,
+        &of_workers(alloc, 3)?,
+        &ToFirst,
+        limit,
+    )?)
 }
 
 // What a plan comes to by a schedule.
@@ -42,7 +49,14 @@ fn by_steps(alloc: Global, text: &str, steps: &[u32]) -> Result<Result<Ran, RunF
     if !can_run(plan.plan()) {
         return Err(Fail::new("workers can run the plan"));
     }
-    Ok(run_scheduled(alloc, &plan, &database, &of_three(alloc)?, &ToFirst, steps))
+    Ok(run_scheduled(
+        alloc,
+        &plan,
+        &database,
+        &of_workers(alloc, 3)?,
+        &ToFirst,
+        steps,
+    ))
 }
 
 #[test]

@@ -1,39 +1,12 @@
 //! What no clause says of schedules: drawn at random, they all come to the same bag of rows, and one worker can do all the work.
 
-use crate::plans::{SELECTED, ToFirst, checked, filled, of_three};
-use std::alloc::{AllocError, Global};
+use crate::draws::{Draws, SCHEDULES, in_turn};
+use crate::plans::{SELECTED, ToFirst, checked, filled, of_workers};
+use std::alloc::Global;
 use std::test::Fail;
 use vx_exec::{Ran, can_run, run_scheduled};
 use vx_rows::Cell;
 use vx_views::Rows;
-
-// How many schedules are drawn.
-const SCHEDULES: u32 = 1000;
-
-// The numbers of a linear congruential generator.
-#[derive(Drop)]
-struct Draws {
-    state: u64,
-}
-
-impl Draws {
-    // The number of one of four workers.
-    fn worker(&mut self) -> u32 {
-        let next = self.state.wrapping_mul(1_103_515_245).wrapping_add(12_345) % 2_147_483_648;
-        self.state = next;
-        (next / 65_536 % 4) as u32
-    }
-
-    // Steps of 500 workers that are drawn, and then of each of the four in turn, 2,000 times.
-    fn schedule(&mut self, alloc: Global) -> Result<Vec<u32>, AllocError> {
-        let mut steps = Vec::new(alloc);
-        for step in 0..8500 {
-            let worker = if step < 500 { self.worker() } else { step % 4 };
-            steps.push(worker)?;
-        }
-        Ok(steps)
-    }
-}
 
 // Whether this row has this number, this text, and 7.
 fn is_row(rows: &Rows, index: usize, id: i64, key: &str) -> bool {
@@ -66,30 +39,19 @@ fn drawn_schedules_come_to_the_same_rows(rt: HostRuntime) -> Result<(), Fail> {
     let alloc = rt.alloc();
     let plan = checked(alloc, SELECTED)?;
     let database = filled(alloc)?;
-    let setup = of_three(alloc)?;
-    let mut draws = Draws { state: 1 };
+    let setup = of_workers(alloc, 3)?;
+    let mut draws = Draws::new();
     if !can_run(plan.plan()) {
         return Err(Fail::new("workers can run the plan"));
     }
     for _ in 0..SCHEDULES {
-        let steps = draws.schedule(alloc)?;
+        let steps = draws.schedule(alloc, 4, 2000)?;
         match run_scheduled(alloc, &plan, &database, &setup, &ToFirst, steps.as_slice())? {
             Ran::Done(rows) => assert!(rt; are_selected(&rows)),
             Ran::Unfinished => assert!(rt; false, "the workers ended"),
         }
     }
     Ok(())
-}
-
-// So many steps of each of these workers, one worker after the other.
-fn in_turn(alloc: Global, workers: &[u32], steps_of_each: u32) -> Result<Vec<u32>, AllocError> {
-    let mut steps = Vec::new(alloc);
-    for worker in workers {
-        for _ in 0..steps_of_each {
-            steps.push(*worker)?;
-        }
-    }
-    Ok(steps)
 }
 
 // What the plan of the selected rows comes to by a schedule.
@@ -99,7 +61,14 @@ fn by_schedule(alloc: Global, steps: &[u32]) -> Result<Ran, Fail> {
     if !can_run(plan.plan()) {
         return Err(Fail::new("workers can run the plan"));
     }
-    Ok(run_scheduled(alloc, &plan, &database, &of_three(alloc)?, &ToFirst, steps)?)
+    Ok(run_scheduled(
+        alloc,
+        &plan,
+        &database,
+        &of_workers(alloc, 3)?,
+        &ToFirst,
+        steps,
+    )?)
 }
 
 #[test]

@@ -16,9 +16,9 @@ const CATALOG: &str =
 const PLAN: &str =
     r#"{"sizes":["many"],"root":{"op":"exchange","kind":"gather","claim":{"part":"one"},"input":{"op":"select","where":[{"column":"v","op":"=","value":7}],"input":{"op":"scan","relation":"t","mode":"shared","size":"many"}}}}"#;
 
-// A sort, which workers do not run so far, of a relation that no catalog has.
-const SORT: &str =
-    r#"{"root":{"op":"sort","columns":["id"],"input":{"op":"scan","relation":"u","mode":"whole","size":"one"}}}"#;
+// A gather that merges, which workers do not run so far, of a relation that no catalog has.
+const MERGED: &str =
+    r#"{"sizes":["many"],"root":{"op":"exchange","kind":"gather","merge":["id"],"input":{"op":"scan","relation":"u","mode":"shared","size":"many"}}}"#;
 
 const ROWS: &str = "id,k,v\n0,a,5\n1,b,7\n2,a,-2\n3,c,7\n";
 
@@ -91,8 +91,8 @@ const LEAVES: [Leaf<'static>; 8] = [
         fails_after: Some(9),
     },
     Leaf {
-        path: "sort.json",
-        text: SORT,
+        path: "merged.json",
+        text: MERGED,
         fails_after: None,
     },
     Leaf {
@@ -287,9 +287,9 @@ fn standard_input_is_read_once(rt: HostRuntime) -> Result<(), Fail> {
 
 #[test]
 fn support_is_tested_before_resolving(rt: HostRuntime) -> Result<(), Fail> {
-    let line = run_with(&rt, "sort.json", &["many=3"])?;
+    let line = run_with(&rt, "merged.json", &["many=3"])?;
     assert_eq!(rt; line.as_str(), "|volcano: P2 BadNode path=root\n|3");
-    let line = judged(&rt, "check", "c.json", "sort.json", "")?;
+    let line = judged(&rt, "check", "c.json", "merged.json", "")?;
     assert_eq!(rt;
         line.as_str(),
         "|volcano: P4 UnknownRelation node=1 name=u\n|3"

@@ -9,11 +9,12 @@ use std::alloc::Global;
 use std::sync::Wait;
 use std::test::Fail;
 use std::thread::Threads;
-use vx_answer::{ByteRouter, Refusal, Store, deliver, report};
+use vx_answer::{Refusal, Store, deliver, report};
 use vx_bundle::{Command, Mode, bundle_in};
 use vx_bytes::{MemoryIn, MemoryOut};
 use vx_catalog::LoadFault;
 use vx_check::Rule;
+use vx_exchange::ByteRouter;
 use vx_exec::RunFault;
 use vx_plan::Router;
 use vx_rows::Value;
@@ -223,11 +224,11 @@ fn runs_that_are_set_up_wrongly_have_their_lines(rt: HostRuntime) -> Result<(), 
 }
 
 #[test]
-fn nodes_that_do_not_run_yet_are_refused(rt: HostRuntime) -> Result<(), Fail> {
+fn exchanges_that_do_not_run_yet_are_refused(rt: HostRuntime) -> Result<(), Fail> {
     let text = FIRST.replace(
         rt.alloc(),
         r#""op":"scan","#,
-        r#""op":"sort","columns":["id"],"input":{"op":"scan","#,
+        r#""op":"exchange","kind":"round","merge":["id"],"size":"many","input":{"op":"scan","#,
     )?;
     let text = text.replace(rt.alloc(), r#""size":"many"}"#, r#""size":"many"}}"#)?;
     let line = line_for(&rt, &[], text.as_bytes(), None)?;

@@ -10,4 +10,8 @@ mod bundles;
 #[cfg(test)]
 mod lines;
 #[cfg(test)]
+mod operators;
+#[cfg(test)]
+mod roots;
+#[cfg(test)]
 mod serials;

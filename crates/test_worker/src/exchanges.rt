@@ -102,7 +102,7 @@ fn next_size(sender: &mut Sender) -> i64
 #[test]
 fn cuts_rows_into_packets(rt: HostRuntime) -> Result<(), Fail> {
     let alloc = rt.alloc();
-    let mut sender = Sender::new(alloc, 3, 0, 1, 2, &[ColType::Int], Deal::ToOne)?;
+    let mut sender = Sender::new(alloc, 3, 0, 1, 2, &[ColType::Int], Deal::Gather)?;
     let rows = numbers(alloc, 5)?;
     assert_eq!(rt; rows.len(), 5);
     sender.accept(&ToFirst, Polled::Gave(rows))?;
@@ -116,7 +116,7 @@ fn cuts_rows_into_packets(rt: HostRuntime) -> Result<(), Fail> {
 #[test]
 fn gives_fault_in_place_of_last(rt: HostRuntime) -> Result<(), Fail> {
     let alloc = rt.alloc();
-    let mut sender = Sender::new(alloc, 3, 0, 1, 2, &[ColType::Int], Deal::ToOne)?;
+    let mut sender = Sender::new(alloc, 3, 0, 1, 2, &[ColType::Int], Deal::Gather)?;
     let rows = numbers(alloc, 5)?;
     assert_eq!(rt; rows.len(), 5);
     sender.accept(&ToFirst, Polled::Gave(rows))?;

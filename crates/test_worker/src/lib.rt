@@ -8,6 +8,8 @@ mod exchanges;
 #[cfg(test)]
 mod routers;
 #[cfg(test)]
+mod senders;
+#[cfg(test)]
 mod sorts;
 #[cfg(test)]
 mod workers;

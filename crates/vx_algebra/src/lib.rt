@@ -3,8 +3,10 @@
 
 mod cells;
 mod chunks;
+mod pairs;
 mod projection;
 
 pub use cells::cell_or_zero;
 pub use chunks::{chosen, sorted_chunks};
-pub use projection::types_at;
+pub use pairs::{left_columns, right_columns};
+pub use projection::{kept_columns, types_at};

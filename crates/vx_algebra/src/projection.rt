@@ -1,10 +1,11 @@
-//! The types of some columns.
+//! Some of the columns of rows, and their types.
 
 ghost use Rattle.std.specs.Prelude.{◌≡◌, length, map, IfOk};
 ghost use Rattle.vx_values.specs.Types.{type_at};
 ghost use Rattle.vx_rows.specs.View.{AreColumns};
 
 use std::alloc::{AllocError, Global};
+use vx_plan_nodes::Projected;
 use vx_rows::ColType;
 
 /// The types of these columns.
@@ -21,4 +22,11 @@ pub fn types_at(
         found.push(types[*column])?;
     }
     Ok(found)
+}
+
+/// The columns that a projection or a distinct keeps, without their names.
+pub fn kept_columns(alloc: Global, kept: &[Projected]) -> Result<Vec<usize>, AllocError>
+    ensures { IfOk result (λ v. v.items ≡ map (λ k. k.column) kept.now) }
+{
+    kept.iter().map(|kept| kept.column).collect(alloc)
 }

@@ -1,26 +1,24 @@
 -- The plan of a document with no node that workers do not run is one that they can run.
-use Rattle.std.proofs.Common.{◌≡◌, ℕ, ◌+◌, List, [], ◌∷◌, ◌++◌, codes, Bool, true, false, Option, Some, None, Result, Ok, Err, refl, ap, ◌∙◌, subst}
+use Rattle.std.proofs.Common.{◌≡◌, ℕ, ◌+◌, List, [], ◌∷◌, ◌++◌, codes, Bool, true, false, ◌&&◌, Option, Some, None, Result, Ok, Err, refl, ap, ◌∙◌, subst}
 use Rattle.std.specs.Prelude.{⊤, IfOk}
-use Rattle.std.specs.List.{list_all}
 use Rattle.vx_relations.specs.Relation.{Relation}
 use Rattle.vx_relations.specs.Catalog.{relation_at}
-use Rattle.vx_plan_json.specs.Document.{ClaimForm, ConditionForm, ScanForm, Tree, Document}
+use Rattle.vx_plan_json.specs.Document.{ClaimForm, ScanForm, Tree, Document}
 use Rattle.vx_plan_json.specs.Document as form
 use Rattle.vx_plan_json.specs.Fault.{Refusal, ◌>>=◌, Gives}
 use Rattle.vx_plan_json.specs.declared.fault.PlanFault.{PlanFault}
 use Rattle.vx_plan_json.proofs.Holds.{Holds, holds_then, holds_at}
 use Rattle.vx_plan_nodes.specs.Plan as plan
-use Rattle.vx_plan_nodes.specs.Typed.{is_condition}
 use Rattle.vx_plan.specs.Lookup.{find_size, find_columns, test_match, walk_onto}
 use Rattle.vx_plan_nodes.specs.Names.{Names, TypedPlanView}
-use Rattle.vx_plan_nodes.specs.Outline.{Columns, Top, Outline, scan, unary, exchange, columns, plan_in}
-use Rattle.vx_plan.specs.Resolve.{Shape, scan_columns, find_relation, with_claim, scan_typed, find_conditions, select_shape, unary_shape, unary_typed, find_kind, kind_fits, exchange_columns, test_exchange, exchange_shape, exchange_typed, typed_in, test_sizes, test_ranges, resolved}
+use Rattle.vx_plan_nodes.specs.Outline.{Columns, Top, Outline, scan, unary, binary, exchange, columns, plan_in}
+use Rattle.vx_plan.specs.Resolve.{scan_columns, find_relation, with_claim, scan_typed, is_final_form, unary_shape, unary_typed, binary_shape, binary_typed, find_kind, kind_fits, exchange_columns, test_exchange, exchange_shape, exchange_typed, typed_in, test_sizes, test_ranges, resolved}
 use Rattle.vx_plan_nodes.specs.TypedView.{resolved_of}
 use Rattle.vx_plan_nodes.specs.declared.typed_plan.TypedPlan.{TypedPlan}
 use Rattle.vx_setup.specs.Runnable.{can_run}
 use Rattle.vx_bundle.specs.declared.command.Command.{Command}
 use Rattle.vx_bundle.specs.declared.command.Command.TheVariants as command
-use Rattle.vx_answer.specs.Planning.{first_unrunnable, unless_at, supported_by}
+use Rattle.vx_answer.specs.Planning.{first_of, first_unrunnable, unless_at, supported_by}
 
 -- workers can run it
 abbrev Runs : Outline → Type 0
@@ -44,42 +42,51 @@ scan_runs s node c f =
     (λ r. then_holds Runs (λ z. with_claim s node (scan_columns (relation_at s.catalog r) f.prefix) c >>= λ t. Ok (scan t r f.shared z f.prefix)) (find_size s f.size)
     (λ z. topped_runs s node (scan_columns (relation_at s.catalog r) f.prefix) c (λ t. scan t r f.shared z f.prefix) (λ t. refl)))
 
--- a selection's operator is one
-abbrev Selects : Shape → Type 0
-Selects o = (ks : List plan.Condition) × (o.op ≡ plan.select ks)
-
-abbrev selection : Columns → List plan.Condition → Shape
-selection cols ks = record { op = plan.select ks; renamed = []; columns = cols }
-
-select_is : (under : Bool) (node : ℕ) (t : Outline) (cs : List ConditionForm) → Holds Selects (unary_shape under node t (form.select cs))
-unfolding unary_shape select_shape
-select_is under node t cs =
-    let cols : Columns = columns t in
-    then_holds Selects (λ (ks : List plan.Condition). test_match node (list_all (is_condition cols.types) ks) >>= λ u. Ok (selection cols ks)) (find_conditions node cols.names cs)
-    (λ ks. then_holds Selects (λ (u : ⊤). Ok (selection cols ks)) (test_match node (list_all (is_condition cols.types) ks)) (λ u. (ks, refl)))
-
-select_runs : (s : Names) (under : Bool) (node : ℕ) (c : ClaimForm) (cs : List ConditionForm) (t : Outline) → Runs t → Holds Runs (unary_typed s under node c (form.select cs) t)
+unary_runs : (s : Names) (under : Bool) (node : ℕ) (c : ClaimForm) (op : form.UnaryForm) (t : Outline) → Runs t → Holds Runs (unary_typed s under node c op t)
 unfolding unary_typed
-select_runs s under node c cs t runs =
-    holds_then Selects Runs (λ o. with_claim s node o.columns c >>= λ h. Ok (unary h o.op o.renamed t)) (unary_shape under node t (form.select cs)) (select_is under node t cs)
-    (λ o is. topped_runs s node o.columns c (λ h. unary h o.op o.renamed t) (λ h. rw is.1 runs))
+unary_runs s under node c op t runs =
+    then_holds Runs (λ o. with_claim s node o.columns c >>= λ h. Ok (unary h o.op o.renamed t)) (unary_shape under node t op)
+    (λ o. topped_runs s node o.columns c (λ h. unary h o.op o.renamed t) (λ h. runs))
 
--- an exchange gathers, and does not merge
-abbrev Gathers : plan.ExchangeKind × List ℕ → Type 0
-Gathers k = k ≡ (plan.gather, [])
+both_run : (a b : Bool) → a ≡ true → b ≡ true → a && b ≡ true
+both_run true b h k = k
+both_run false b h k = h
 
-gather_is : (s : Names) (node : ℕ) (cols : Columns) → Holds Gathers (exchange_shape s node cols form.gather [])
-unfolding exchange_shape exchange_columns find_kind find_columns walk_onto
-gather_is s node cols =
-    let gathers : plan.ExchangeKind × List ℕ = (plan.gather, []) in
-    then_holds Gathers (λ (u : ⊤). test_match node (kind_fits s cols.types plan.gather) >>= λ v. Ok gathers) (test_exchange node form.gather [])
-    (λ u. then_holds Gathers (λ (v : ⊤). Ok gathers) (test_match node (kind_fits s cols.types plan.gather)) (λ v. refl))
+binary_runs : (s : Names) (node : ℕ) (c : ClaimForm) (op : form.BinaryForm) (t u : Outline) → Runs t → Runs u → Holds Runs (binary_typed s node c op t u)
+unfolding binary_typed
+binary_runs s node c op t u left right =
+    then_holds Runs (λ o. with_claim s node o.columns c >>= λ h. Ok (binary h o.op t u)) (binary_shape node (columns t) (columns u) op)
+    (λ o. topped_runs s node o.columns c (λ h. binary h o.op t u) (λ h. both_run (can_run (plan_in t)) (can_run (plan_in u)) left right))
 
-gather_runs : (s : Names) (node : ℕ) (c : ClaimForm) (t : Outline) → Runs t → Holds Runs (exchange_typed s node c form.gather [] t)
+-- an exchange does not merge
+abbrev MergesNot : plan.ExchangeKind × List ℕ → Type 0
+MergesNot k = k.1 ≡ []
+
+columns_are : (s : Names) (node : ℕ) (names : List (List ℕ)) (kind : form.KindForm) → Holds MergesNot (exchange_columns s node names kind [])
+unfolding exchange_columns find_columns walk_onto
+columns_are s node names kind = then_holds MergesNot (λ k. find_columns node names [] >>= λ ms. Ok (k, ms)) (find_kind s node names kind) (λ k. refl)
+
+merges_not : (s : Names) (node : ℕ) (cols : Columns) (kind : form.KindForm) → Holds MergesNot (exchange_shape s node cols kind [])
+unfolding exchange_shape
+merges_not s node cols kind =
+    holds_then MergesNot MergesNot (λ x. test_exchange node kind [] >>= λ u. test_match node (kind_fits s cols.types x.0) >>= λ v. Ok x) (exchange_columns s node cols.names kind [])
+    (columns_are s node cols.names kind)
+    (λ x h. then_holds MergesNot (λ (u : ⊤). test_match node (kind_fits s cols.types x.0) >>= λ v. Ok x) (test_exchange node kind [])
+    (λ u. then_holds MergesNot (λ (v : ⊤). Ok x) (test_match node (kind_fits s cols.types x.0)) (λ v. h)))
+
+exchange_runs : (s : Names) (node : ℕ) (c : ClaimForm) (kind : form.KindForm) (t : Outline) → Runs t → Holds Runs (exchange_typed s node c kind [] t)
 unfolding exchange_typed
-gather_runs s node c t runs =
-    holds_then Gathers Runs (λ k. with_claim s node (columns t) c >>= λ h. Ok (exchange h k.0 k.1 t)) (exchange_shape s node (columns t) form.gather []) (gather_is s node (columns t))
+exchange_runs s node c kind t runs =
+    holds_then MergesNot Runs (λ k. with_claim s node (columns t) c >>= λ h. Ok (exchange h k.0 k.1 t)) (exchange_shape s node (columns t) kind []) (merges_not s node (columns t) kind)
     (λ k is. topped_runs s node (columns t) c (λ h. exchange h k.0 k.1 t) (λ h. rw is runs))
+
+neither-left : (a b : Option (List ℕ)) → first_of a b ≡ None → a ≡ None
+neither-left None b e = refl
+neither-left (Some path) b e = cc
+
+neither-right : (a b : Option (List ℕ)) → first_of a b ≡ None → b ≡ None
+neither-right None b e = e
+neither-right (Some path) b e = cc
 
 -- workers can run the typed nodes of a tree
 abbrev AllRun : Outline × ℕ → Type 0
@@ -88,25 +95,19 @@ AllRun x = Runs x.0
 typed_runs : (s : Names) (under : Bool) (node : ℕ) (path : List ℕ) (t : Tree) → first_unrunnable path t ≡ None → Holds AllRun (typed_in s under node t)
 unfolding typed_in
 typed_runs s under node path (form.scan c f) none = holds_then Runs AllRun (λ o. Ok (o, node + 1)) (scan_typed s node c f) (scan_runs s node c f) (λ o h. h)
-typed_runs s under node path (form.unary c (form.select cs) t) none =
-    holds_then AllRun AllRun (λ i. unary_typed s under node c (form.select cs) i.0 >>= λ o. Ok (o, i.1)) (typed_in s false (node + 1) t) (typed_runs s false (node + 1) (path ++ codes ".input") t none)
-    (λ i h. holds_then Runs AllRun (λ o. Ok (o, i.1)) (unary_typed s under node c (form.select cs) i.0) (select_runs s under node c cs i.0 h) (λ o k. k))
-typed_runs s under node path (form.unary c (form.project os) t) none = cc
-typed_runs s under node path (form.unary c (form.distinct os) t) none = cc
-typed_runs s under node path (form.unary c (form.sort names) t) none = cc
-typed_runs s under node path (form.unary c (form.group by aggregates) t) none = cc
-typed_runs s under node path (form.unary c (form.partial_group by aggregates) t) none = cc
-typed_runs s under node path (form.unary c form.final_group t) none = cc
-typed_runs s under node path (form.binary c op t u) none = cc
-typed_runs s under node path (form.exchange c (form.hash size route cols) m t) none = cc
-typed_runs s under node path (form.exchange c (form.range size range col) m t) none = cc
-typed_runs s under node path (form.exchange c (form.round size) m t) none = cc
-typed_runs s under node path (form.exchange c (form.broadcast size) m t) none = cc
-typed_runs s under node path (form.exchange c form.concat m t) none = cc
-typed_runs s under node path (form.exchange c form.gather [] t) none =
-    holds_then AllRun AllRun (λ i. exchange_typed s node c form.gather [] i.0 >>= λ o. Ok (o, i.1)) (typed_in s under (node + 1) t) (typed_runs s under (node + 1) (path ++ codes ".input") t none)
-    (λ i h. holds_then Runs AllRun (λ o. Ok (o, i.1)) (exchange_typed s node c form.gather [] i.0) (gather_runs s node c i.0 h) (λ o k. k))
-typed_runs s under node path (form.exchange c form.gather (name ∷ names) t) none = cc
+typed_runs s under node path (form.unary c op t) none =
+    holds_then AllRun AllRun (λ i. unary_typed s under node c op i.0 >>= λ o. Ok (o, i.1)) (typed_in s (is_final_form op) (node + 1) t) (typed_runs s (is_final_form op) (node + 1) (path ++ codes ".input") t none)
+    (λ i h. holds_then Runs AllRun (λ o. Ok (o, i.1)) (unary_typed s under node c op i.0) (unary_runs s under node c op i.0 h) (λ o k. k))
+typed_runs s under node path (form.binary c op t u) none =
+    let left = neither-left (first_unrunnable (path ++ codes ".left") t) (first_unrunnable (path ++ codes ".right") u) none in
+    let right = neither-right (first_unrunnable (path ++ codes ".left") t) (first_unrunnable (path ++ codes ".right") u) none in
+    holds_then AllRun AllRun (λ l. typed_in s false l.1 u >>= λ r. binary_typed s node c op l.0 r.0 >>= λ o. Ok (o, r.1)) (typed_in s false (node + 1) t) (typed_runs s false (node + 1) (path ++ codes ".left") t left)
+    (λ l h. holds_then AllRun AllRun (λ r. binary_typed s node c op l.0 r.0 >>= λ o. Ok (o, r.1)) (typed_in s false l.1 u) (typed_runs s false l.1 (path ++ codes ".right") u right)
+    (λ r k. holds_then Runs AllRun (λ o. Ok (o, r.1)) (binary_typed s node c op l.0 r.0) (binary_runs s node c op l.0 r.0 h k) (λ o m. m)))
+typed_runs s under node path (form.exchange c kind [] t) none =
+    holds_then AllRun AllRun (λ i. exchange_typed s node c kind [] i.0 >>= λ o. Ok (o, i.1)) (typed_in s under (node + 1) t) (typed_runs s under (node + 1) (path ++ codes ".input") t none)
+    (λ i h. holds_then Runs AllRun (λ o. Ok (o, i.1)) (exchange_typed s node c kind [] i.0) (exchange_runs s node c kind i.0 h) (λ o k. k))
+typed_runs s under node path (form.exchange c kind (name ∷ names) t) none = cc
 
 abbrev RootRuns : TypedPlanView → Type 0
 RootRuns p = Runs p.root

@@ -23,7 +23,7 @@ use Rattle.vx_bundle.specs.declared.command.Command.{Command}
 use Rattle.vx_bundle.specs.declared.command.Command.TheVariants as command
 use Rattle.vx_refusals.specs.declared.refusal.Refusal.{Refusal}
 use Rattle.vx_refusals.specs.declared.refusal.Refusal.TheVariants as refusal
-use Rattle.vx_answer.specs.ByteRouter.{byte_route}
+use Rattle.vx_exchange.specs.ByteRouter.{byte_route}
 use Rattle.vx_tables.specs.Filled.{IsFilled, IsFirstMissing}
 use Rattle.vx_bundle.specs.Setting.{Setting}
 

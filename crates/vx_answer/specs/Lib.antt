@@ -1,4 +1,3 @@
-pub mod ByteRouter
 pub mod Planning
 pub mod Commands
 pub mod Answer

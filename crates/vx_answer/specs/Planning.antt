@@ -1,10 +1,10 @@
 -- The plan of a command over a catalog, and why there is none: what a command supports of a plan that was read, what the plan is over the catalog, and what is known of both where not all bytes are.
-use Rattle.std.specs.Prelude.{◌≡◌, ℕ, List, [], ◌++◌, codes, Option, Some, None, Result, Ok, Err}
+use Rattle.std.specs.Prelude.{◌≡◌, ℕ, List, [], ◌∷◌, ◌++◌, codes, Option, Some, None, Result, Ok, Err}
 use Rattle.vx_relations.specs.Relation.{Relation}
 use Rattle.vx_relations.specs.Naming as catalog
 use Rattle.vx_relations.specs.declared.fault.CatalogFault.{CatalogFault}
 use Rattle.vx_plan.specs.Resolve.{resolved}
-use Rattle.vx_plan_json.specs.Document.{Tree, scan, unary, binary, exchange, select, gather, Document}
+use Rattle.vx_plan_json.specs.Document.{Tree, scan, unary, binary, exchange, Document}
 use Rattle.vx_plan_json.specs.Fault.{bad_node, ◌>>=◌}
 use Rattle.vx_plan_json.specs.Fault as plan
 use Rattle.vx_plan_json.specs.declared.fault.PlanFault.{PlanFault}
@@ -15,14 +15,18 @@ use Rattle.vx_bundle.specs.declared.command.Command.TheVariants as command
 use Rattle.vx_refusals.specs.declared.refusal.Refusal.{Refusal}
 use Rattle.vx_refusals.specs.declared.refusal.Refusal.TheVariants as refusal
 
--- the path of the first node in preorder that is no scan, no selection and no gather that does not merge, from a node with this path on
+-- the first path, if there is one
+abbrev pub first_of : Option (List ℕ) → Option (List ℕ) → Option (List ℕ)
+first_of (Some path) other = Some path
+first_of None other = other
+
+-- the path of the first exchange in preorder that merges, from a node with this path on
 abbrev pub first_unrunnable : (path : List ℕ) → Tree → Option (List ℕ)
 first_unrunnable path (scan c s) = None
-first_unrunnable path (unary c (select cs) t) = first_unrunnable (path ++ codes ".input") t
-first_unrunnable path (unary c _ t) = Some path
-first_unrunnable path (binary c op t u) = Some path
-first_unrunnable path (exchange c gather [] t) = first_unrunnable (path ++ codes ".input") t
-first_unrunnable path (exchange c _ _ t) = Some path
+first_unrunnable path (unary c op t) = first_unrunnable (path ++ codes ".input") t
+first_unrunnable path (binary c op t u) = first_of (first_unrunnable (path ++ codes ".left") t) (first_unrunnable (path ++ codes ".right") u)
+first_unrunnable path (exchange c k [] t) = first_unrunnable (path ++ codes ".input") t
+first_unrunnable path (exchange c k (name ∷ names) t) = Some path
 
 -- the document, unless there is a node with this path that workers do not run
 abbrev pub unless_at : Document → Option (List ℕ) → Result Document plan.Refusal

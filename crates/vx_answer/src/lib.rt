@@ -9,12 +9,10 @@ mod files;
 mod laws;
 mod planning;
 mod program;
-mod router;
 mod run;
 mod serial;
 
 pub use laws::case_is_refused_by_setup;
 pub use program::{answer, deliver};
-pub use router::ByteRouter;
 pub use vx_bytes::{Disk, Store};
 pub use vx_refusals::{Refusal, report};

@@ -1,6 +1,6 @@
 //! Plans for a command: whether the command supports their operators, and what they are over a catalog.
 
-ghost use Rattle.std.specs.Prelude.{◌≡◌, ◌++◌, codes, string_bytes, true, IfOk};
+ghost use Rattle.std.specs.Prelude.{◌≡◌, ◌++◌, string_bytes, true, IfOk};
 ghost use Rattle.vx_plan_json.specs.Document.{tree_of};
 ghost use Rattle.vx_plan_json.specs.Fault.{Gives, Reads};
 ghost use Rattle.vx_plan_json.specs.PlanView.{document_of};
@@ -13,14 +13,14 @@ use std::alloc::{AllocError, Global};
 use vx_bundle::Command;
 use vx_catalog::Catalog;
 use vx_plan::{Plan, PlanFault, TypedPlan, resolve};
-use vx_plan_json::{NamedKind, NamedUnary, Node};
+use vx_plan_json::Node;
 
-// The path of a node's input.
-fn path_of_input(alloc: Global, path: &str) -> Result<String, AllocError>
-    ensures { IfOk result (λ s. string_bytes s ≡ path.now ++ codes ".input") }
+// The path of a node's input that stands there as a member of this name, with a dot before it.
+fn path_below(alloc: Global, path: &str, member: &str) -> Result<String, AllocError>
+    ensures { IfOk result (λ s. string_bytes s ≡ path.now ++ member.now) }
 {
     let mut below = String::from_str(alloc, path)?;
-    below.push_str(".input")?;
+    below.push_str(member)?;
     Ok(below)
 }
 
@@ -30,15 +30,22 @@ fn first_unrunnable(alloc: Global, path: &str, node: &Node) -> Result<Option<Str
 {
     match node {
         Node::Scan(_, _) => Ok(None),
-        Node::Unary(_, NamedUnary::Select(_), input) => {
-            let below = path_of_input(alloc, path)?;
+        Node::Unary(_, _, input) => {
+            let below = path_below(alloc, path, ".input")?;
             first_unrunnable(alloc, below.as_str(), input)
         }
-        Node::Unary(_, _, _) | Node::Binary(_, _, _, _) => {
-            Ok(Some(String::from_str(alloc, path)?))
+        Node::Binary(_, _, left, right) => {
+            let below = path_below(alloc, path, ".left")?;
+            match first_unrunnable(alloc, below.as_str(), left)? {
+                Some(found) => Ok(Some(found)),
+                None => {
+                    let below = path_below(alloc, path, ".right")?;
+                    first_unrunnable(alloc, below.as_str(), right)
+                }
+            }
         }
-        Node::Exchange(_, NamedKind::Gather, merge, input) if merge.is_empty() => {
-            let below = path_of_input(alloc, path)?;
+        Node::Exchange(_, _, merge, input) if merge.is_empty() => {
+            let below = path_below(alloc, path, ".input")?;
             first_unrunnable(alloc, below.as_str(), input)
         }
         Node::Exchange(_, _, _, _) => Ok(Some(String::from_str(alloc, path)?)),

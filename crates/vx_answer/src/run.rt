@@ -9,11 +9,11 @@ ghost use Rattle.vx_setup.specs.Runnable.{can_run};
 ghost use Rattle.vx_bundle.specs.Setting.{size_form};
 ghost use Rattle.vx_answer.specs.Commands.{IsRunOver, RunRefuses, IsRun, PlanRefuses, setup_of};
 
-use crate::router::ByteRouter;
 use std::alloc::{AllocError, Global};
 use vx_bundle::Setting;
 use vx_catalog::{Database, format_rows};
 use vx_check::CheckedPlan;
+use vx_exchange::ByteRouter;
 use vx_exec::{Ran, Setup, run_rounds};
 use vx_plan::TypedPlan;
 use vx_refusals::Refusal;

@@ -27,7 +27,7 @@ use Rattle.vx_ops.specs.declared.turn.Got.TheVariants as got
 use Rattle.vx_ops.specs.declared.turn.Polled.TheVariants as polled
 use Rattle.vx_rows.specs.declared.table.Table.{Table}
 use Rattle.vx_exchange.specs.Receiver.{EndStands, unmerged_end}
-use Rattle.vx_exchange.proofs.Deals.{numbered_same, rows-numbered_same, range-numbered_same, bearing-same, bearing-other, bearing-append, numbers-append, ranges-append}
+use Rattle.vx_ends.proofs.Deals.{numbered_same, rows-numbered_same, range-numbered_same, bearing-same, bearing-other, bearing-append, numbers-append, ranges-append}
 
 eqb-same : (i : ℕ) → (i == i) ≡ true
 eqb-same i = grind (arith, nat_tests)

@@ -8,7 +8,7 @@ use Rattle.vx_plan_nodes.specs.Streams.{Streams, joined, Dealt}
 use Rattle.vx_ports.specs.Packets.{rows_of}
 use Rattle.vx_exchange.specs.InOrder.{StandsInOrder, InOrderLaw}
 use Rattle.vx_exchange.proofs.Arrivals.{sorted-on_none}
-use Rattle.vx_exchange.proofs.Joined.{joined-dealt, joined-ext}
+use Rattle.vx_ends.proofs.Joined.{joined-dealt, joined-ext}
 
 -- behind k streams there is nothing
 joined-short : (d k : ℕ) (s : Streams) → ((i : ℕ) → k ≤ i → i < d + k → s i ≡ []) → joined (d + k) s ≡ joined k s

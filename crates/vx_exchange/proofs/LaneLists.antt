@@ -1,24 +1,25 @@
 -- Lists of lanes, read lane by lane.
-use Rattle.std.proofs.Common.{ℕ, zero, suc, ◌≡◌, ◌≢◌, ◌+◌, ◌<◌, ◌≤◌, ◌⊎◌, inl, inr, ◌||◌, ◌&&◌, Bool, true, false, true≢false, List, [], ◌∷◌, ◌++◌, length, map, get_or, set, All, Option, Some, None, slice_get, refl, sym, ap, ◌∙◌, subst, arith, length-append}
+use Rattle.std.proofs.Common.{ℕ, zero, suc, ◌≡◌, ◌≢◌, ◌+◌, ◌<◌, ◌≤◌, ◌⊎◌, inl, inr, ◌==◌, ◌||◌, ◌&&◌, Bool, true, false, true≢false, List, [], ◌∷◌, ◌++◌, length, map, get_or, set, All, Option, Some, None, slice_get, refl, sym, ap, ◌∙◌, subst, arith, length-append}
 use Rattle.std.specs.List.{list_any}
 use Rattle.std.specs.Option.{option_map}
 use Rattle.std.specs.Prelude.{IfSome, IfNone}
 use Rattle.std.proofs.lemmas.Bool.Decides.{eqb_tells}
 use Rattle.std.proofs.Math.Seq.{map-set_same}
-use Rattle.std.proofs.lemmas.Bool.{cases_lt}
+use Rattle.std.proofs.lemmas.Bool.{cases_lt, ltb-true}
 use Rattle.std.proofs.lemmas.List.{length-map, set-get_or}
 use Rattle.std.proofs.lemmas.List.Elements.{All-get_or, All-set}
 use Rattle.std.proofs.lemmas.Option.{none-some, same_Some, slice_get-map, slice_get_within, slice_get-get_or, get_or_from_slice_get}
 use Rattle.vx_values.specs.Values.{Row}
-use Rattle.vx_plan_nodes.specs.Plan.{ExchangeKind, gather}
-use Rattle.vx_plan_nodes.specs.Routes.{Routing}
+use Rattle.vx_rows.specs.View.{AreColumns}
+use Rattle.vx_plan_nodes.specs.Plan.{ExchangeKind}
+use Rattle.vx_plan_nodes.specs.Streams.{Streams}
 use Rattle.vx_ports.specs.Packets.{Content, PacketView, is_empty}
-use Rattle.vx_exchange.specs.Ship.{Ship}
+use Rattle.vx_ends.specs.Ship.{Ship}
 use Rattle.vx_exchange.specs.LaneView.{Way, LaneView, empty_outlet, Cuts, CutsRest}
-use Rattle.vx_exchange.specs.Lanes.{IsLane, ways_of, closings_of, any_closed, are_idle, first_way, ship_of, way_to, kind_of, serves, may_close, AreNumbered, AreFresh, SameLanes, Deals, GivesPacket, GivesClosing}
+use Rattle.vx_exchange.specs.Lanes.{IsLane, ways_of, any_closed, are_idle, first_way, ship_of, way_to, kind_of, serves, columns_of, may_close, AreNumbered, AreFresh, SameLanes, CutsEach, GivesPacket, GivesClosing}
 use Rattle.vx_exchange.specs.LaneLaws.{element_at, open_at}
 use Rattle.vx_exchange.specs.declared.deal.Deal.{Deal}
-use Rattle.vx_exchange.specs.declared.deal.Deal.TheVariants.{ToOne}
+use Rattle.vx_exchange.specs.declared.deal.Deal.TheVariants.{Route, Round, Broadcast, Gather, Concat}
 use Rattle.vx_exchange.specs.declared.sender.Stage.{Stage}
 use Rattle.vx_exchange.specs.declared.sender.Stage.TheVariants.{Open, Ending, Failing}
 
@@ -116,6 +117,16 @@ served-same deal old new e h = let P : ℕ → Type 0 = λ n. serves deal n ≡ 
 
 pub few-same : (old new : List LaneView) (most : ℕ) → length new ≡ length old → length old < most → length new < most
 few-same old new most e h = let P : ℕ → Type 0 = λ n. n < most in subst P (sym e) h
+
+pub turn-same : (r : ℕ) (old new : List LaneView) → length new ≡ length old → r < length old → r < length new
+turn-same r old new e h = let P : ℕ → Type 0 = λ n. r < n in subst P (sym e) h
+
+pub columns-same : (deal deal' : Deal) (old new : List LaneView) → deal' ≡ deal → ways_of new ≡ ways_of old → AreColumns (length (ship_of deal (ways_of old)).types) (columns_of deal)
+    → AreColumns (length (ship_of deal' (ways_of new)).types) (columns_of deal')
+columns-same deal deal' old new d w h =
+    let P : List Way → Type 0 = λ ws. AreColumns (length (first_way ws).types) (columns_of deal) in
+    let Q : Deal → Type 0 = λ z. AreColumns (length (first_way (ways_of new)).types) (columns_of z) in
+    subst Q (sym d) (subst P (sym w) h)
 
 -- each leads to its consumer
 pub numbered-way : (deal : Deal) (lanes : List LaneView) → AreNumbered deal (ways_of lanes) → (j : ℕ) (o : LaneView) → IsLane lanes j o → o.way ≡ way_to (ship_of deal (ways_of lanes)) j
@@ -233,10 +244,10 @@ finish-more n old new o o' within e w c cuts f = record {
 }
 
 -- all rows go to the one lane
-pub one-deals : (goes : Routing) (rows : List Row) (lanes : List LaneView) (o o' : LaneView) → length lanes ≡ 1 → o ≡ get_or lanes 0 o → Cuts o.way o.current o.ready rows o'.current o'.ready
-    → Deals goes gather rows lanes (set lanes 0 o')
-one-deals goes rows [] o o' one e cuts = absurd (omega (arith, one))
-one-deals goes rows (x ∷ []) o o' one e cuts = record { more = λ j. rows; sends = λ j l. refl; cuts = each }
+pub one-cuts : (rows : List Row) (lanes : List LaneView) (o o' : LaneView) → length lanes ≡ 1 → o ≡ get_or lanes 0 o → Cuts o.way o.current o.ready rows o'.current o'.ready
+    → CutsEach (λ j. rows) lanes (set lanes 0 o')
+one-cuts rows [] o o' one e cuts = absurd (omega (arith, one))
+one-cuts rows (x ∷ []) o o' one e cuts = each
   where
     each : (j : ℕ) (z z' : LaneView) → IsLane (x ∷ []) j z → IsLane (o' ∷ []) j z' → Cuts z.way z.current z.ready rows z'.current z'.ready
     each zero z z' h h' =
@@ -244,14 +255,67 @@ one-deals goes rows (x ∷ []) o o' one e cuts = record { more = λ j. rows; sen
         let Q : LaneView → Type 0 = λ y. Cuts o.way o.current o.ready rows y.current y.ready in
         subst P (e ∙ same_Some x z h) (subst Q (same_Some o' z' h') cuts)
     each (suc j) z z' h h' = absurd (none-some z h)
-one-deals goes rows (x ∷ y ∷ lanes) o o' one e cuts = absurd (omega (arith, one))
+one-cuts rows (x ∷ y ∷ lanes) o o' one e cuts = absurd (omega (arith, one))
+
+-- lanes of which the first ones cut their rows
+pub record CutsBelow (n : ℕ) (more : Streams) (old new : List LaneView) : Type 0 where
+  pub same : SameLanes old new
+  pub done : (j : ℕ) (o o' : LaneView) → j < n → IsLane old j o → IsLane new j o' → Cuts o.way o.current o.ready (more j) o'.current o'.ready
+  pub left : (j : ℕ) → n ≤ j → slice_get new j ≡ slice_get old j
+
+pub cuts-none : (more : Streams) (lanes : List LaneView) → CutsBelow 0 more lanes lanes
+cuts-none more lanes = record { same = same-refl lanes; done = λ j o o' l. absurd (omega (arith, l)); left = λ j l. refl }
+
+pub cuts-more : (n : ℕ) (more : Streams) (old new : List LaneView) (o o' : LaneView) → n < length new → o ≡ get_or new n o → o'.way ≡ o.way → o'.closed ≡ o.closed → Cuts o.way o.current o.ready (more n) o'.current o'.ready
+    → CutsBelow n more old new → CutsBelow (n + 1) more old (set new n o')
+cuts-more n more old new o o' within e w c cuts f = record {
+  same = same-along old new (set new n o') f.same (same-set new n o o' e w c);
+  done = λ j z z' l h h'. elim (cases_lt j n) [
+    | inl less ↦ f.done j z z' less h (sym (get-set_other new n j o' (omega (arith, less))) ∙ h')
+    | inr more_than ↦
+        let at : n ≡ j = omega (arith, l, more_than) in
+        let was : o ≡ z = same_Some o z (sym (read-at new n o within e) ∙ f.left n (omega arith) ∙ ap (slice_get old) at ∙ h) in
+        let now : o' ≡ z' = same_Some o' z' (sym (get-set_same new n o' within) ∙ ap (slice_get (set new n o')) at ∙ h') in
+        let P : LaneView → Type 0 = λ x. Cuts x.way x.current x.ready (more j) z'.current z'.ready in
+        let Q : LaneView → Type 0 = λ x. Cuts o.way o.current o.ready (more j) x.current x.ready in
+        let M : ℕ → Type 0 = λ i. Cuts o.way o.current o.ready (more i) o'.current o'.ready in
+        subst P was (subst Q now (subst M at cuts))
+  ];
+  left = λ j l. get-set_other new n j o' (omega (arith, l)) ∙ f.left j (omega (arith, l));
+}
+
+-- a lane that is next is as it was
+pub next-was : (n : ℕ) (more : Streams) (old new : List LaneView) (o : LaneView) → n < length new → o ≡ get_or new n o → CutsBelow n more old new → IsLane old n o
+next-was n more old new o within e f = sym (f.left n (omega arith)) ∙ read-at new n o within e
+
+pub cuts-all : (n : ℕ) (more : Streams) (old new : List LaneView) → length old ≤ n → CutsBelow n more old new → CutsEach more old new
+cuts-all n more old new l f = λ j o o' h h'. f.done j o o' (let there = slice_get_within old j o h in omega (arith, l, there)) h h'
+
+-- the same lanes, where the rows are the same
+pub cuts-same : (more more' : Streams) (old new : List LaneView) → ((j : ℕ) → j < length old → more j ≡ more' j) → CutsEach more old new → CutsEach more' old new
+cuts-same more more' old new e cuts = λ j o o' h h'.
+    let P : List Row → Type 0 = λ rows. Cuts o.way o.current o.ready rows o'.current o'.ready in
+    subst P (e j (slice_get_within old j o h)) (cuts j o o' h h')
+
+pub serves-one : (n : ℕ) → (n == 1) ≡ true → n ≡ 1
+serves-one n h = elim (eqb_tells n 1) [
+  | inl d ↦ d.1
+  | inr d ↦ absurd (true≢false (sym h ∙ d.0))
+]
 
 -- rows are dealt to some consumer
 pub serves-some : (deal : Deal) (n : ℕ) → serves deal n ≡ true → 0 < n
-serves-some ToOne n h = elim (eqb_tells n 1) [
-  | inl d ↦ let e = d.1 in omega (arith, e)
-  | inr d ↦ absurd (true≢false (sym h ∙ d.0))
-]
+serves-some (Route z r) n h = ltb-true 0 n h
+serves-some (Round z) n h = ltb-true 0 n h
+serves-some (Broadcast z) n h = ltb-true 0 n h
+serves-some Gather n h = let e = serves-one n h in omega (arith, e)
+serves-some Concat n h = let e = serves-one n h in omega (arith, e)
+
+-- while rows come nothing closes
+pub open-idle : (st : Stage) (old new : List LaneView) → st ≡ Open → any_closed old ≡ false → SameLanes old new → may_close st new ≡ true → are_idle new ≡ true
+open-idle Open old new o unclosed same e = absurd (true≢false (sym e ∙ same-any old new same ∙ unclosed))
+open-idle Ending old new o unclosed same e = absurd (true≢false (sym e ∙ same-any old new same ∙ unclosed))
+open-idle Failing old new o unclosed same e = cc
 
 -- a packet was given
 

@@ -1,11 +1,9 @@
-pub mod Closings
-pub mod Turns
-pub mod Deals
-pub mod Sendings
-pub mod Parts
 pub mod Arrivals
-pub mod Joined
 pub mod InOrderFacts
 pub mod Cuts
 pub mod LaneLists
+pub mod Turns
+pub mod PlaceFacts
+pub mod RangeFacts
+pub mod KindDeals
 pub mod Senders

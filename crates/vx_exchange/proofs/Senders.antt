@@ -1,26 +1,30 @@
 -- What comes to a sending end, and what it gives.
-use Rattle.std.proofs.Common.{ℕ, ◌≡◌, ◌≢◌, ◌<◌, ◌≤◌, ◌==◌, inl, inr, ◌&&◌, not, Bool, true, false, true≢false, Some, List, [], ◌∷◌, ◌++◌, length, map, take, set, All, slice_get, refl, sym, ap, ◌∙◌, subst, arith, append_assoc, append-nil}
+use Rattle.std.proofs.Common.{ℕ, ◌≡◌, ◌+◌, ◌%◌, ◌<◌, inl, inr, ◌&&◌, not, Bool, true, false, true≢false, Some, List, [], ◌∷◌, ◌++◌, length, map, take, set, All, slice_get, refl, sym, ap, ◌∙◌, subst, arith, append_assoc, append-nil}
 use Rattle.std.proofs.lemmas.Bool.Decides.{eqb_tells}
 use Rattle.std.proofs.lemmas.List.{map-append, length-map}
 use Rattle.std.proofs.lemmas.Option.{same_Some, slice_get_within}
 use Rattle.vx_values.specs.Values.{Row}
+use Rattle.vx_plan_nodes.specs.Plan.{ExchangeKind, Size, round}
 use Rattle.vx_plan_nodes.specs.Routes.{Routing, Sends}
+use Rattle.vx_plan_nodes.specs.Streams.{Streams, bearing}
 use Rattle.vx_ports.specs.Packets.{Content, last, fault, PacketView}
 use Rattle.vx_ops.specs.Ledger.{Stream, fresh}
 use Rattle.vx_ops.specs.Turn.{with_packet}
 use Rattle.vx_ops.specs.declared.fault.Fault.{Fault}
 use Rattle.vx_ops.specs.declared.fault.Over.TheVariants.{Ended, Failed}
-use Rattle.vx_exchange.specs.Ship.{Ship, end_to_end, packet_at, packet_of, IsPort, IsCutPort, IsShipped, IsCutShort}
+use Rattle.vx_ends.specs.Ship.{Ship, end_to_end, packet_at, packet_of, IsPort, IsCutPort, IsShipped, IsCutShort}
 use Rattle.vx_exchange.specs.LaneView.{LaneView, empty_outlet, parcel_of, Cuts, CutsRest}
-use Rattle.vx_exchange.specs.Lanes.{IsLane, ways_of, any_closed, ship_of, way_to, AreNumbered, AreFresh, SameLanes, Deals, Finishes, GivesPacket, GivesClosing}
+use Rattle.vx_exchange.specs.Lanes.{IsLane, ways_of, any_closed, ship_of, way_to, AreNumbered, AreFresh, SameLanes, in_turn, TakesTurns, Deals, Finishes, GivesPacket, GivesClosing}
 use Rattle.vx_exchange.specs.LaneLaws.{element_at, open_at}
-use Rattle.vx_exchange.specs.Beginnings.{begins-along, begins-take, mapped-take, end_to_end-append}
-use Rattle.vx_exchange.specs.Sender.{closing_given, IsFilling, IsEnding, IsFailing, LaneAt, takes_more, SenderAt}
+use Rattle.vx_ends.specs.Beginnings.{begins-along, begins-take, mapped-take, end_to_end-append}
+use Rattle.vx_exchange.specs.Sender.{closing_given, IsFilling, IsEnding, IsFailing, LaneAt, takes_more, SenderAt, sender_ship}
+use Rattle.vx_exchange.specs.RoundRobin.{RoundRobinLaw}
 use Rattle.vx_exchange.specs.declared.deal.Deal.{Deal}
 use Rattle.vx_exchange.specs.declared.sender.Stage.{Stage}
 use Rattle.vx_exchange.specs.declared.sender.Stage.TheVariants.{Open, Ending, Failing}
 use Rattle.vx_exchange.proofs.Cuts.{all-append}
-use Rattle.vx_exchange.proofs.Sendings.{sends-append, sends-none}
+use Rattle.vx_ends.proofs.Sendings.{sends-append, sends-none}
+use Rattle.vx_exchange.proofs.Turns.{turns-append, turns-none, turn-after, turn-first}
 use Rattle.vx_exchange.proofs.LaneLists.{get-set_same, get-set_other, all-lanes, lane-before, same-any, same-ship, numbered-way, gives-same, closes-ways}
 
 -- one lane
@@ -130,48 +134,54 @@ lane-closes Failing content s j o o' rows given p f w none r e before after k = 
 -- all lanes
 
 -- rows come
-pub sender-takes : (goes : Routing) (s : Ship) (lanes lanes' : List LaneView) (a : Stream) (g : ℕ → List PacketView) (more : List Row) → s.consumers ≡ length lanes
-    → ((j : ℕ) (o : LaneView) → IsLane lanes j o → o.way ≡ way_to s j) → SameLanes lanes lanes' → Deals goes s.kind more lanes lanes'
-    → SenderAt goes s Open lanes a g → SenderAt goes s Open lanes' (record { rows = a.rows ++ more; over = a.over }) g
-sender-takes goes s lanes lanes' a g more many ways same d h = record {
+pub sender-takes : (goes : Routing) (s : Ship) (r r' : ℕ) (lanes lanes' : List LaneView) (a : Stream) (g : ℕ → List PacketView) (more : List Row) → s.consumers ≡ length lanes → r' ≡ (r + length more) % length lanes
+    → ((j : ℕ) (o : LaneView) → IsLane lanes j o → o.way ≡ way_to s j) → SameLanes lanes lanes' → Deals goes s.kind r more lanes lanes'
+    → SenderAt goes s Open r lanes a g → SenderAt goes s Open r' lanes' (record { rows = a.rows ++ more; over = a.over }) g
+sender-takes goes s r r' lanes lanes' a g more many next ways same d h = record {
   sent = λ j. h.sent j ++ d.more j;
   sends = let D : ℕ → Type 0 = λ n. Sends goes s.kind n more d.more in sends-append goes s.kind s.consumers a.rows more h.sent d.more h.sends (subst D (sym many) d.sends);
   gives = λ j o' e. let b = lane-before lanes lanes' same j o' e in
       lane-takes s j b.0 o' (h.sent j) (d.more j) (g j) (ways j b.0 b.1) (d.cuts j b.0 o' b.1 e) (h.gives j b.0 b.1);
   nothing = h.nothing;
   is_over = h.is_over;
+  turns = let T : ℕ → Type 0 = λ n. TakesTurns s.kind n r more d.more in turns-append s.kind s.consumers r a.rows more h.sent d.more h.turn h.turns (subst T (sym many) d.turns);
+  turn = next ∙ ap (λ n. (r + length more) % n) (sym many) ∙ turn-after s.consumers r a.rows more h.turn;
 }
 
 -- all rows came
-pub sender-ends : (goes : Routing) (s : Ship) (lanes lanes' : List LaneView) (a : Stream) (g : ℕ → List PacketView) → any_closed lanes ≡ false
+pub sender-ends : (goes : Routing) (s : Ship) (r : ℕ) (lanes lanes' : List LaneView) (a : Stream) (g : ℕ → List PacketView) → any_closed lanes ≡ false
     → ((j : ℕ) (o : LaneView) → IsLane lanes j o → o.way ≡ way_to s j) → SameLanes lanes lanes' → Finishes lanes lanes'
-    → SenderAt goes s Open lanes a g → SenderAt goes s Ending lanes' (record { rows = a.rows; over = Ended }) g
-sender-ends goes s lanes lanes' a g unclosed ways same f h = record {
+    → SenderAt goes s Open r lanes a g → SenderAt goes s Ending r lanes' (record { rows = a.rows; over = Ended }) g
+sender-ends goes s r lanes lanes' a g unclosed ways same f h = record {
   sent = h.sent;
   sends = h.sends;
   gives = λ j o' e. let b = lane-before lanes lanes' same j o' e in
       lane-ends s j b.0 o' (h.sent j) (g j) (ways j b.0 b.1) (open_at lanes' j o' (same-any lanes lanes' same ∙ unclosed) e) (f j b.0 o' b.1 e) (h.gives j b.0 b.1);
   nothing = h.nothing;
   is_over = refl;
+  turns = h.turns;
+  turn = tt;
 }
 
 -- a fault came, or memory was refused
-pub sender-fails : (goes : Routing) (s : Ship) (lanes lanes' : List LaneView) (a : Stream) (g : ℕ → List PacketView) (f : Fault) → any_closed lanes ≡ false → SameLanes lanes lanes'
-    → SenderAt goes s Open lanes a g → SenderAt goes s Failing lanes' (record { rows = a.rows; over = Failed f }) g
-sender-fails goes s lanes lanes' a g f unclosed same h = record {
+pub sender-fails : (goes : Routing) (s : Ship) (r r' : ℕ) (lanes lanes' : List LaneView) (a : Stream) (g : ℕ → List PacketView) (f : Fault) → any_closed lanes ≡ false → SameLanes lanes lanes'
+    → SenderAt goes s Open r lanes a g → SenderAt goes s Failing r' lanes' (record { rows = a.rows; over = Failed f }) g
+sender-fails goes s r r' lanes lanes' a g f unclosed same h = record {
   sent = h.sent;
   sends = h.sends;
   gives = λ j o' e. let b = lane-before lanes lanes' same j o' e in
       lane-fails s j b.0 o' (h.sent j) (g j) (open_at lanes' j o' (same-any lanes lanes' same ∙ unclosed) e) (h.gives j b.0 b.1);
   nothing = h.nothing;
   is_over = (f, refl);
+  turns = h.turns;
+  turn = tt;
 }
 
 -- one lane gives a packet
-sender-puts : (goes : Routing) (s : Ship) (st : Stage) (lanes : List LaneView) (a : Stream) (g : ℕ → List PacketView) (i : ℕ) (o o' : LaneView) (p : PacketView) → s.consumers ≡ length lanes → IsLane lanes i o
+sender-puts : (goes : Routing) (s : Ship) (st : Stage) (r : ℕ) (lanes : List LaneView) (a : Stream) (g : ℕ → List PacketView) (i : ℕ) (o o' : LaneView) (p : PacketView) → s.consumers ≡ length lanes → IsLane lanes i o
     → ((rows : List Row) (given : List PacketView) → LaneAt st s i o rows given → LaneAt st s i o' rows (given ++ p ∷ []))
-    → SenderAt goes s st lanes a g → SenderAt goes s st (set lanes i o') a (with_packet g i (Some p))
-sender-puts goes s st lanes a g i o o' p many there step h =
+    → SenderAt goes s st r lanes a g → SenderAt goes s st r (set lanes i o') a (with_packet g i (Some p))
+sender-puts goes s st r lanes a g i o o' p many there step h =
     let within : i < length lanes = slice_get_within lanes i o there in
     record {
       sent = h.sent;
@@ -187,23 +197,25 @@ sender-puts goes s st lanes a g i o o' p many there step h =
         | inr d ↦ rw d.0 (h.nothing j l)
       ];
       is_over = h.is_over;
+      turns = h.turns;
+      turn = h.turn;
     }
 
 -- one of rows that waited
-pub sender-gives : (goes : Routing) (s : Ship) (st : Stage) (lanes lanes' : List LaneView) (a : Stream) (g : ℕ → List PacketView) (i : ℕ) (p : PacketView) → s.consumers ≡ length lanes → (st ≡ Failing → ⊥)
-    → GivesPacket lanes lanes' i p → SenderAt goes s st lanes a g → SenderAt goes s st lanes' a (with_packet g i (Some p))
-sender-gives goes s st lanes lanes' a g i p many f x h =
-    let P : List LaneView → Type 0 = λ z. SenderAt goes s st z a (with_packet g i (Some p)) in
-    subst P (sym x.lanes) (sender-puts goes s st lanes a g i x.before x.after p many x.there
+pub sender-gives : (goes : Routing) (s : Ship) (st : Stage) (r : ℕ) (lanes lanes' : List LaneView) (a : Stream) (g : ℕ → List PacketView) (i : ℕ) (p : PacketView) → s.consumers ≡ length lanes → (st ≡ Failing → ⊥)
+    → GivesPacket lanes lanes' i p → SenderAt goes s st r lanes a g → SenderAt goes s st r lanes' a (with_packet g i (Some p))
+sender-gives goes s st r lanes lanes' a g i p many f x h =
+    let P : List LaneView → Type 0 = λ z. SenderAt goes s st r z a (with_packet g i (Some p)) in
+    subst P (sym x.lanes) (sender-puts goes s st r lanes a g i x.before x.after p many x.there
     (λ rows given k. lane-gives st s i x.before x.after rows given p f x.current x.ready x.closed k) h)
 
 -- its closing packet
-pub sender-closes : (goes : Routing) (s : Ship) (st : Stage) (content : Content) (lanes lanes' : List LaneView) (a : Stream) (g : ℕ → List PacketView) (i : ℕ) (p : PacketView) → s.consumers ≡ length lanes
+pub sender-closes : (goes : Routing) (s : Ship) (st : Stage) (r : ℕ) (content : Content) (lanes lanes' : List LaneView) (a : Stream) (g : ℕ → List PacketView) (i : ℕ) (p : PacketView) → s.consumers ≡ length lanes
     → ((j : ℕ) (o : LaneView) → IsLane lanes j o → o.way ≡ way_to s j) → All (λ o. o.ready ≡ []) lanes → closes-with st content
-    → GivesClosing content lanes lanes' i p → SenderAt goes s st lanes a g → SenderAt goes s st lanes' a (with_packet g i (Some p))
-sender-closes goes s st content lanes lanes' a g i p many ways idle f x h =
-    let P : List LaneView → Type 0 = λ z. SenderAt goes s st z a (with_packet g i (Some p)) in
-    subst P (sym x.lanes) (sender-puts goes s st lanes a g i x.before x.after p many x.there
+    → GivesClosing content lanes lanes' i p → SenderAt goes s st r lanes a g → SenderAt goes s st r lanes' a (with_packet g i (Some p))
+sender-closes goes s st r content lanes lanes' a g i p many ways idle f x h =
+    let P : List LaneView → Type 0 = λ z. SenderAt goes s st r z a (with_packet g i (Some p)) in
+    subst P (sym x.lanes) (sender-puts goes s st r lanes a g i x.before x.after p many x.there
     (λ rows given k. lane-closes st content s i x.before x.after rows given p f (ways i x.before x.there) (all-lanes (λ o. o.ready ≡ []) lanes idle i x.before x.there) x.ready x.packet x.was_open x.closed k) h)
 
 -- nothing is left to give after Last
@@ -215,14 +227,34 @@ lane-shipped s j o rows given closed none k = record {
   closed = sym (sym (append-nil given) ∙ ap (λ zs. given ++ zs) (sym none) ∙ k.packets ∙ ap (λ b. map (packet_at s j) k.parts ++ closing_given s j last b) closed);
 }
 
-pub sender-shipped : (goes : Routing) (s : Ship) (lanes : List LaneView) (a : Stream) (g : ℕ → List PacketView) → s.consumers ≡ length lanes → All (λ o. o.closed ≡ true) lanes → All (λ o. o.ready ≡ []) lanes
-    → SenderAt goes s Ending lanes a g → IsShipped goes s a.rows g
-sender-shipped goes s lanes a g many closed idle h = record {
+pub sender-shipped : (goes : Routing) (s : Ship) (r : ℕ) (lanes : List LaneView) (a : Stream) (g : ℕ → List PacketView) → s.consumers ≡ length lanes → All (λ o. o.closed ≡ true) lanes → All (λ o. o.ready ≡ []) lanes
+    → SenderAt goes s Ending r lanes a g → IsShipped goes s a.rows g
+sender-shipped goes s r lanes a g many closed idle h = record {
   sent = h.sent;
   sends = h.sends;
   ports = λ j l. let L : ℕ → Type 0 = λ n. j < n in let e = element_at lanes j (subst L many l) in
       lane-shipped s j e.0 (h.sent j) (g j) (all-lanes (λ o. o.closed ≡ true) lanes closed j e.0 e.1) (all-lanes (λ o. o.ready ≡ []) lanes idle j e.0 e.1) (h.gives j e.0 e.1);
   nothing = h.nothing;
+}
+
+-- so a round robin took turns
+turned : (k : ExchangeKind) (z : Size) (n : ℕ) (rows : List Row) (sent : Streams) → k ≡ round z → TakesTurns k n 0 rows sent → (j : ℕ) → j < n → bearing j (in_turn n 0 rows) ≡ sent j
+turned k z n rows sent e t = let P : ExchangeKind → Type 0 = λ x. TakesTurns x n 0 rows sent in subst P e t
+
+turned-port : (goes : Routing) (s : Ship) (z : Size) (st : Stage) (r : ℕ) (lanes : List LaneView) (a : Stream) (g : ℕ → List PacketView) → s.consumers ≡ length lanes → s.kind ≡ round z → st ≡ Ending
+    → All (λ o. o.ready ≡ []) lanes → All (λ o. o.closed ≡ true) lanes → SenderAt goes s st r lanes a g → (j : ℕ) → j < s.consumers → IsPort s j (bearing j (in_turn s.consumers 0 a.rows)) (g j)
+turned-port goes s z st r lanes a g many kind ending idle closed k j l =
+    let H : Stage → Type 0 = λ x. SenderAt goes s x r lanes a g in
+    let h = subst H ending k in
+    let L : ℕ → Type 0 = λ n. j < n in
+    let e = element_at lanes j (subst L many l) in
+    let P : List Row → Type 0 = λ rows. IsPort s j rows (g j) in
+    subst P (sym (turned s.kind z s.consumers a.rows h.sent kind h.turns j l))
+    (lane-shipped s j e.0 (h.sent j) (g j) (all-lanes (λ o. o.closed ≡ true) lanes closed j e.0 e.1) (all-lanes (λ o. o.ready ≡ []) lanes idle j e.0 e.1) (h.gives j e.0 e.1))
+
+pub round-robin-law : RoundRobinLaw
+round-robin-law = record {
+  ports = λ s goes a g z kind h d. turned-port goes (sender_ship s) z s.stage s.next s.lanes.items a g (length-map s.lanes.items (λ (o : LaneView). o.way)) kind d.ending d.idle d.closed h;
 }
 
 -- nor after Fault
@@ -234,9 +266,9 @@ lane-cut s j o rows given closed k = record {
   closed = ap (λ b. map (packet_at s j) k.parts ++ closing_given s j fault b) (sym closed) ∙ k.packets;
 }
 
-pub sender-cut : (goes : Routing) (s : Ship) (lanes : List LaneView) (a : Stream) (g : ℕ → List PacketView) → s.consumers ≡ length lanes → All (λ o. o.closed ≡ true) lanes
-    → SenderAt goes s Failing lanes a g → IsCutShort goes s a.rows g
-sender-cut goes s lanes a g many closed h = record {
+pub sender-cut : (goes : Routing) (s : Ship) (r : ℕ) (lanes : List LaneView) (a : Stream) (g : ℕ → List PacketView) → s.consumers ≡ length lanes → All (λ o. o.closed ≡ true) lanes
+    → SenderAt goes s Failing r lanes a g → IsCutShort goes s a.rows g
+sender-cut goes s r lanes a g many closed h = record {
   sent = h.sent;
   sends = h.sends;
   ports = λ j l. let L : ℕ → Type 0 = λ n. j < n in let e = element_at lanes j (subst L many l) in
@@ -248,18 +280,20 @@ sender-cut goes s lanes a g many closed h = record {
 lane-fresh : (s : Ship) (j : ℕ) (o : LaneView) → o ≡ empty_outlet (way_to s j) → IsFilling s j o [] []
 lane-fresh s j o e = let P : LaneView → Type 0 = λ z. IsFilling s j z [] [] in subst P (sym e) (record { full = []; all_full = tt; rows_are = refl; packets = refl })
 
-pub sender-fresh : (goes : Routing) (s : Ship) (lanes : List LaneView) → AreFresh s.consumers (way_to s) lanes → SenderAt goes s Open lanes fresh (λ _. [])
-sender-fresh goes s lanes f = record {
+pub sender-fresh : (goes : Routing) (s : Ship) (lanes : List LaneView) → 0 < s.consumers → AreFresh s.consumers (way_to s) lanes → SenderAt goes s Open 0 lanes fresh (λ _. [])
+sender-fresh goes s lanes some f = record {
   sent = λ j. [];
   sends = sends-none goes s.kind s.consumers;
   gives = λ j o e. lane-fresh s j o (f.each j o e);
   nothing = λ j l. refl;
   is_over = refl;
+  turns = turns-none s.kind s.consumers;
+  turn = turn-first s.consumers some;
 }
 
 -- the same is known of the same sending end
-pub in-ship : (goes : Routing) (s s' : Ship) (st : Stage) (lanes : List LaneView) (a : Stream) (g : ℕ → List PacketView) → s' ≡ s → SenderAt goes s st lanes a g → SenderAt goes s' st lanes a g
-in-ship goes s s' st lanes a g e h = let P : Ship → Type 0 = λ z. SenderAt goes z st lanes a g in subst P (sym e) h
+pub in-ship : (goes : Routing) (s s' : Ship) (st : Stage) (r : ℕ) (lanes : List LaneView) (a : Stream) (g : ℕ → List PacketView) → s' ≡ s → SenderAt goes s st r lanes a g → SenderAt goes s' st r lanes a g
+in-ship goes s s' st r lanes a g e h = let P : Ship → Type 0 = λ z. SenderAt goes z st r lanes a g in subst P (sym e) h
 
 -- a sending end that takes more
 pub opened : (st : Stage) (closed : Bool) → (takes_more st && not closed) ≡ true → (st ≡ Open) × (closed ≡ false)
@@ -276,15 +310,15 @@ ending-not_failing st e f = let g : Ending ≡ Failing = sym e ∙ f in cc
 
 -- where lanes lead to the consumers of their numbers
 
-pub gives-now : (goes : Routing) (deal : Deal) (st : Stage) (old new : List LaneView) (a : Stream) (g : ℕ → List PacketView) (i : ℕ) (p : PacketView) → (st ≡ Failing → ⊥) → GivesPacket old new i p
-    → SenderAt goes (ship_of deal (ways_of old)) st old a g → SenderAt goes (ship_of deal (ways_of new)) st new a (with_packet g i (Some p))
-gives-now goes deal st old new a g i p f x h =
-    in-ship goes (ship_of deal (ways_of old)) (ship_of deal (ways_of new)) st new a (with_packet g i (Some p)) (same-ship deal deal old new refl (gives-same old new i p x))
-    (sender-gives goes (ship_of deal (ways_of old)) st old new a g i p (length-map old (λ (z : LaneView). z.way)) f x h)
+pub gives-now : (goes : Routing) (deal : Deal) (st : Stage) (r : ℕ) (old new : List LaneView) (a : Stream) (g : ℕ → List PacketView) (i : ℕ) (p : PacketView) → (st ≡ Failing → ⊥) → GivesPacket old new i p
+    → SenderAt goes (ship_of deal (ways_of old)) st r old a g → SenderAt goes (ship_of deal (ways_of new)) st r new a (with_packet g i (Some p))
+gives-now goes deal st r old new a g i p f x h =
+    in-ship goes (ship_of deal (ways_of old)) (ship_of deal (ways_of new)) st r new a (with_packet g i (Some p)) (same-ship deal deal old new refl (gives-same old new i p x))
+    (sender-gives goes (ship_of deal (ways_of old)) st r old new a g i p (length-map old (λ (z : LaneView). z.way)) f x h)
 
-pub closes-now : (goes : Routing) (deal : Deal) (st : Stage) (content : Content) (old new : List LaneView) (a : Stream) (g : ℕ → List PacketView) (i : ℕ) (p : PacketView) → AreNumbered deal (ways_of old)
+pub closes-now : (goes : Routing) (deal : Deal) (st : Stage) (r : ℕ) (content : Content) (old new : List LaneView) (a : Stream) (g : ℕ → List PacketView) (i : ℕ) (p : PacketView) → AreNumbered deal (ways_of old)
     → All (λ o. o.ready ≡ []) old → closes-with st content → GivesClosing content old new i p
-    → SenderAt goes (ship_of deal (ways_of old)) st old a g → SenderAt goes (ship_of deal (ways_of new)) st new a (with_packet g i (Some p))
-closes-now goes deal st content old new a g i p numbered idle f x h =
-    in-ship goes (ship_of deal (ways_of old)) (ship_of deal (ways_of new)) st new a (with_packet g i (Some p)) (ap (ship_of deal) (closes-ways content old new i p x))
-    (sender-closes goes (ship_of deal (ways_of old)) st content old new a g i p (length-map old (λ (z : LaneView). z.way)) (numbered-way deal old numbered) idle f x h)
+    → SenderAt goes (ship_of deal (ways_of old)) st r old a g → SenderAt goes (ship_of deal (ways_of new)) st r new a (with_packet g i (Some p))
+closes-now goes deal st r content old new a g i p numbered idle f x h =
+    in-ship goes (ship_of deal (ways_of old)) (ship_of deal (ways_of new)) st r new a (with_packet g i (Some p)) (ap (ship_of deal) (closes-ways content old new i p x))
+    (sender-closes goes (ship_of deal (ways_of old)) st r content old new a g i p (length-map old (λ (z : LaneView). z.way)) (numbered-way deal old numbered) idle f x h)

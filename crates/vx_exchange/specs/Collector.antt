@@ -5,7 +5,7 @@ use Rattle.vx_values.specs.Values.{Val}
 use Rattle.vx_plan_nodes.specs.Routes.{Routing}
 use Rattle.vx_ports.specs.Packets.{PacketView}
 use Rattle.vx_ops.specs.Ledger.{Stream}
-use Rattle.vx_exchange.specs.Tasks.{Task, keep, Post, keeps, BeganSending, IsAt}
+use Rattle.vx_ends.specs.Tasks.{Task, keep, Post, keeps, BeganSending, IsAt}
 use Rattle.vx_exchange.specs.declared.collector.Collector.{Collector}
 
 -- the rows are its task

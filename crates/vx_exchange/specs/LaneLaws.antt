@@ -1,6 +1,6 @@
 -- Laws on lists of lanes, for those that a trait asks for.
 use Rattle.std.specs.Prelude.{ℕ, zero, suc, ◌≡◌, ◌<◌, ◌||◌, Bool, true, false, List, [], ◌∷◌, length, Some, slice_get, slice_index_or}
-use Rattle.std.proofs.Common.{refl, sym, ap, ◌∙◌, subst, true≢false, le_of_suc-le-suc, not-suc-le-zero}
+use Rattle.std.proofs.Common.{refl, sym, ap, ◌∙◌, true≢false, le_of_suc-le-suc, not-suc-le-zero}
 use Rattle.std.proofs.lemmas.Option.{none-some, same_Some}
 use Rattle.vx_exchange.specs.LaneView.{LaneView}
 use Rattle.vx_exchange.specs.Lanes.{IsLane, any_closed}

@@ -5,7 +5,7 @@ use Rattle.vx_values.specs.Values.{Row}
 use Rattle.vx_rows.specs.View.{RowsView}
 use Rattle.vx_values.specs.declared.value.ColType.{ColType}
 use Rattle.vx_ports.specs.Packets.{Content, brings, closes, PacketView}
-use Rattle.vx_exchange.specs.Ship.{end_to_end}
+use Rattle.vx_ends.specs.Ship.{end_to_end}
 
 -- where packets come from and go to, and how large they are
 pub record Way : Type 0 where

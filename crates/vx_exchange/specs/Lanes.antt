@@ -1,29 +1,64 @@
 -- The lanes of a sending end, one for each consumer, and how rows are dealt to them.
-use Rattle.std.specs.Prelude.{ℕ, ◌≡◌, ◌==◌, Bool, true, false, List, [], ◌∷◌, length, map, Some, slice_get, slice_set}
+use Rattle.std.specs.Prelude.{ℕ, ◌≡◌, ◌<◌, ◌+◌, ◌%◌, ◌==◌, nat_lt, Bool, true, false, List, [], ◌∷◌, length, map, zip, Some, slice_get, slice_set}
 use Rattle.std.specs.List.{list_any, list_all}
 use Rattle.vx_values.specs.Values.{Val, Row}
-use Rattle.vx_plan_nodes.specs.Plan.{ExchangeKind, gather}
+use Rattle.vx_rows.specs.Lists.{each_below}
+use Rattle.vx_plan_nodes.specs.Outline.{size_of}
+use Rattle.vx_plan_nodes.specs.Plan.{ExchangeKind, route_to, round, broadcast, gather, concat}
 use Rattle.vx_plan_nodes.specs.Routes.{Routing, Sends}
-use Rattle.vx_plan_nodes.specs.Streams.{Streams}
+use Rattle.vx_plan_nodes.specs.Streams.{Streams, bearing}
 use Rattle.vx_ports.specs.Packets.{Content, closes, is_empty, PacketView}
-use Rattle.vx_exchange.specs.Ship.{Ship}
+use Rattle.vx_ends.specs.Ship.{Ship}
 use Rattle.vx_exchange.specs.LaneView.{Way, LaneView, parcel_of, empty_outlet, Cuts, CutsRest}
+use Rattle.vx_exchange.specs.Routed.{key_route, key_columns, key_bounds}
 use Rattle.vx_exchange.specs.declared.deal.Deal.{Deal}
-use Rattle.vx_exchange.specs.declared.deal.Deal.TheVariants.{ToOne}
+use Rattle.vx_exchange.specs.declared.deal.Deal.TheVariants.{Route, Round, Broadcast, Gather, Concat}
 use Rattle.vx_exchange.specs.declared.sender.Stage.{Stage}
 use Rattle.vx_exchange.specs.declared.sender.Stage.TheVariants.{Open, Ending, Failing}
 
 -- the kind of the exchange whose rows are dealt so
 abbrev pub kind_of : Deal → ExchangeKind
-kind_of ToOne = gather
+kind_of (Route z r) = route_to (size_of z) (key_route r) (key_columns r)
+kind_of (Round z) = round (size_of z)
+kind_of (Broadcast z) = broadcast (size_of z)
+kind_of Gather = gather
+kind_of Concat = concat
 
--- whether rows can be dealt so to this many consumers: those of a gather go to one
+-- whether rows can be dealt so to this many consumers: those of a gather and of a concat go to one, others to some
 abbrev pub serves : Deal → ℕ → Bool
-serves ToOne n = n == 1
+serves (Route z r) n = nat_lt 0 n
+serves (Round z) n = nat_lt 0 n
+serves (Broadcast z) n = nat_lt 0 n
+serves Gather n = n == 1
+serves Concat n = n == 1
 
--- the bounds by which they are dealt: those of a gather by none
+-- the bounds by which they are dealt, none if it is not by range
 abbrev pub bounds_of : Deal → List Val
-bounds_of ToOne = []
+bounds_of (Route z r) = key_bounds r
+bounds_of (Round z) = []
+bounds_of (Broadcast z) = []
+bounds_of Gather = []
+bounds_of Concat = []
+
+-- the columns by which they are dealt
+abbrev pub columns_of : Deal → List ℕ
+columns_of (Route z r) = key_columns r
+columns_of (Round z) = []
+columns_of (Broadcast z) = []
+columns_of Gather = []
+columns_of Concat = []
+
+-- rows with the consumers that take turns, from consumer r among n on: row i goes to consumer (r + i) mod n
+abbrev pub in_turn : (n r : ℕ) → List Row → List (ℕ × Row)
+in_turn n r rows = zip (each_below (length rows) (λ i. (r + i) % n)) rows
+
+-- a round robin sends each row to the consumer whose turn it is; of the other kinds `Sends` says all
+abbrev pub TakesTurns : ExchangeKind → (n r : ℕ) → List Row → Streams → Type 0
+TakesTurns (round z) n r rows sent = (j : ℕ) → j < n → bearing j (in_turn n r rows) ≡ sent j
+TakesTurns (route_to z route cols) n r rows sent = Unit {0}
+TakesTurns (broadcast z) n r rows sent = Unit {0}
+TakesTurns gather n r rows sent = Unit {0}
+TakesTurns concat n r rows sent = Unit {0}
 
 -- the lane of a consumer
 abbrev pub IsLane : List LaneView → (consumer : ℕ) → LaneView → Type 0
@@ -85,11 +120,16 @@ pub record SameLanes (old new : List LaneView) : Type 0 where
   pub ways : ways_of new ≡ ways_of old
   pub closings : closings_of new ≡ closings_of old
 
--- rows were dealt to the lanes, and each cut those for its consumer
-pub record Deals (goes : Routing) (k : ExchangeKind) (rows : List Row) (old new : List LaneView) : Type 0 where
+-- each lane cut the rows for its consumer
+abbrev pub CutsEach : Streams → List LaneView → List LaneView → Type 0
+CutsEach more old new = (j : ℕ) (o o' : LaneView) → IsLane old j o → IsLane new j o' → Cuts o.way o.current o.ready (more j) o'.current o'.ready
+
+-- rows were dealt to the lanes, where it was the turn of consumer r, and each cut those for its consumer
+pub record Deals (goes : Routing) (k : ExchangeKind) (r : ℕ) (rows : List Row) (old new : List LaneView) : Type 0 where
   pub more : Streams
   pub sends : Sends goes k (length old) rows more
-  pub cuts : (j : ℕ) (o o' : LaneView) → IsLane old j o → IsLane new j o' → Cuts o.way o.current o.ready (more j) o'.current o'.ready
+  pub turns : TakesTurns k (length old) r rows more
+  pub cuts : CutsEach more old new
 
 -- the rows at hand of each lane went into one packet
 abbrev pub Finishes : List LaneView → List LaneView → Type 0

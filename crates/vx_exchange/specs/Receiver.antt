@@ -10,7 +10,7 @@ use Rattle.vx_ops.specs.declared.fault.Over.TheVariants.{Running, Ended, Failed}
 use Rattle.vx_ops.specs.declared.fault.Fault.{Fault}
 use Rattle.vx_ops.specs.declared.turn.Want.{Want}
 use Rattle.vx_ops.specs.declared.turn.Want.TheVariants as want
-use Rattle.vx_exchange.specs.InTurn.{IsInTurn}
+use Rattle.vx_ends.specs.InTurn.{IsInTurn}
 use Rattle.vx_exchange.specs.declared.receiver.Receiver.{Receiver}
 
 -- a consumer end that does not merge, and takes the producers as their packets come

@@ -1,5 +1,5 @@
 -- When a sending end may have accepted a stream and returned packets for its consumers.
-use Rattle.std.specs.Prelude.{ℕ, ◌≡◌, ◌<◌, ◌≤◌, ◌&&◌, not, Bool, true, false, List, [], ◌∷◌, ◌++◌, length, map, take}
+use Rattle.std.specs.Prelude.{ℕ, ◌≡◌, ◌<◌, ◌≤◌, ◌%◌, ◌&&◌, not, Bool, true, false, List, [], ◌∷◌, ◌++◌, length, map, take}
 use Rattle.std.specs.List.{AllByRecursion}
 use Rattle.std.proofs.Common.{refl, sym, ◌∙◌, subst, true≢false, append-nil}
 use Rattle.std.proofs.lemmas.List.{length-map}
@@ -12,15 +12,15 @@ use Rattle.vx_ops.specs.Ledger.{Stream}
 use Rattle.vx_ops.specs.declared.fault.Fault.{Fault}
 use Rattle.vx_ops.specs.declared.fault.Over.{Over}
 use Rattle.vx_ops.specs.declared.fault.Over.TheVariants.{Running, Ended, Failed}
-use Rattle.vx_exchange.specs.Ship.{Ship, end_to_end, packet_of, packet_at, IsCut, IsPartShipped}
+use Rattle.vx_ends.specs.Ship.{Ship, end_to_end, packet_of, packet_at, IsCut, IsPartShipped}
 use Rattle.vx_exchange.specs.LaneView.{LaneView}
-use Rattle.vx_exchange.specs.Lanes.{IsLane, ways_of, any_closed, ship_of, bounds_of}
+use Rattle.vx_exchange.specs.Lanes.{IsLane, ways_of, any_closed, ship_of, bounds_of, TakesTurns}
 use Rattle.vx_exchange.specs.LaneLaws.{element_at, choose, open_at}
-use Rattle.vx_exchange.specs.Tasks.{Task, send, Post, sends_by_ship, BeganSending, IsAt}
+use Rattle.vx_ends.specs.Tasks.{Task, send, Post, sends_by_ship, BeganSending, IsAt}
 use Rattle.vx_exchange.specs.declared.sender.Sender.{Sender}
 use Rattle.vx_exchange.specs.declared.sender.Stage.{Stage}
 use Rattle.vx_exchange.specs.declared.sender.Stage.TheVariants.{Open, Ending, Failing}
-use Rattle.vx_exchange.specs.Beginnings.{begins-along, begins-take, mapped-take}
+use Rattle.vx_ends.specs.Beginnings.{begins-along, begins-take, mapped-take}
 
 -- what it sends, and where
 abbrev pub sender_ship : Sender → Ship
@@ -88,17 +88,25 @@ IsOver Open over = over ≡ Running
 IsOver Ending over = over ≡ Ended
 IsOver Failing over = (f : Fault) × (over ≡ Failed f)
 
--- what each lane returned of what the rows send to its consumer, and nothing for any other
-pub record SenderAt (goes : Routing) (s : Ship) (st : Stage) (lanes : List LaneView) (a : Stream) (g : ℕ → List PacketView) : Type 0 where
+-- whose turn it is among n while rows come: that of the consumer behind that of the last row
+abbrev pub IsTurn : Stage → (n r : ℕ) → List Row → Type 0
+IsTurn Open n r rows = r ≡ length rows % n
+IsTurn Ending n r rows = Unit {0}
+IsTurn Failing n r rows = Unit {0}
+
+-- what each lane returned of what the rows send to its consumer, and nothing for any other; it is the turn of consumer r
+pub record SenderAt (goes : Routing) (s : Ship) (st : Stage) (r : ℕ) (lanes : List LaneView) (a : Stream) (g : ℕ → List PacketView) : Type 0 where
   pub sent : Streams
   pub sends : Sends goes s.kind s.consumers a.rows sent
   pub gives : (j : ℕ) (o : LaneView) → IsLane lanes j o → LaneAt st s j o (sent j) (g j)
   pub nothing : (j : ℕ) → s.consumers ≤ j → g j ≡ []
   pub is_over : IsOver st a.over
+  pub turns : TakesTurns s.kind s.consumers 0 a.rows sent
+  pub turn : IsTurn st s.consumers r a.rows
 
 -- so the sending end stands
 abbrev pub SenderStands : Sender → Routing → Stream → (ℕ → List PacketView) → Type 0
-SenderStands s goes a g = SenderAt goes (sender_ship s) s.stage s.lanes.items a g
+SenderStands s goes a g = SenderAt goes (sender_ship s) s.stage s.next s.lanes.items a g
 
 -- it accepts more only before it closes
 pub sender_open_first : (s : Sender) → sender_is_open s ≡ true → sender_has_closed s ≡ false
@@ -141,9 +149,9 @@ gave_in_part Failing s j o rows given k e =
     (k.parts, record { begins = k.begins; packets = sym (append-nil (map (packet_at s j) k.parts)) ∙ subst P e k.packets })
 
 -- so did all lanes
-begun_at : (goes : Routing) (s : Ship) (st : Stage) (lanes : List LaneView) (a : Stream) (g : ℕ → List PacketView) → s.consumers ≡ length lanes
-    → SenderAt goes s st lanes a g → any_closed lanes ≡ false → IsPartShipped goes s a.rows g
-begun_at goes s st lanes a g many h unclosed =
+begun_at : (goes : Routing) (s : Ship) (st : Stage) (r : ℕ) (lanes : List LaneView) (a : Stream) (g : ℕ → List PacketView) → s.consumers ≡ length lanes
+    → SenderAt goes s st r lanes a g → any_closed lanes ≡ false → IsPartShipped goes s a.rows g
+begun_at goes s st r lanes a g many h unclosed =
     let P : ℕ → List (List Row) → Type 0 = λ j parts. GaveInPart s j (h.sent j) (g j) parts in
     let f = choose P [] lanes (λ j o e. gave_in_part st s j o (h.sent j) (g j) (h.gives j o e) (open_at lanes j o unclosed e)) in
     let at : (j : ℕ) → j < s.consumers → P j (f.0 j) = λ j l. let L : ℕ → Type 0 = λ n. j < n in let e = element_at lanes j (subst L many l) in f.1 j e.0 e.1 in
@@ -158,4 +166,4 @@ begun_at goes s st lanes a g many h unclosed =
 
 -- and so the sending end has begun
 pub sender_begun : (s : Sender) (goes : Routing) (a : Stream) (g : ℕ → List PacketView) → SenderStands s goes a g → sender_has_closed s ≡ false → BeganSending goes (sender_task s) a.rows g
-sender_begun s goes a g h e = begun_at goes (sender_ship s) s.stage s.lanes.items a g (length-map s.lanes.items (λ (o : LaneView). o.way)) h e
+sender_begun s goes a g h e = begun_at goes (sender_ship s) s.stage s.next s.lanes.items a g (length-map s.lanes.items (λ (o : LaneView). o.way)) h e

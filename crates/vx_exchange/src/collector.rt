@@ -1,7 +1,7 @@
 //! The end of the root's fragment: its rows are kept.
 
-use crate::sends::Sends;
 use std::alloc::{AllocError, Global};
+use vx_ends::Sends;
 use vx_ops::Polled;
 use vx_plan_nodes::Router;
 use vx_ports::Packet;
@@ -19,7 +19,7 @@ impl Collector {
     ghost use Rattle.std.specs.Prelude.{◌≡◌, ℕ, List, [], IfOk, true};
     ghost use Rattle.vx_plan_nodes.specs.Routes.{Routing};
     ghost use Rattle.vx_ops.specs.Ledger.{fresh};
-    ghost use Rattle.vx_exchange.specs.Tasks.{keep, keeps};
+    ghost use Rattle.vx_ends.specs.Tasks.{keep, keeps};
     ghost use Rattle.vx_exchange.specs.Collector.{CollectorStands, collector_task, collector_post, collector_is_open};
 
     /// No rows yet, of these types.

@@ -1,19 +1,24 @@
 //! Sending and receiving ends of exchanges.
 #![tactic(auto)]
 
+mod byte_router;
 mod collector;
 mod deal;
-mod in_turn;
 mod lane;
 mod lanes;
 pub mod laws;
+mod places;
+mod ranges;
 mod receiver;
+mod routes;
 mod sender;
-mod sends;
 
+pub use byte_router::ByteRouter;
 pub use collector::Collector;
 pub use deal::Deal;
-pub use in_turn::{MayEnd, next_open};
+pub use ranges::Ranges;
 pub use receiver::Receiver;
+pub use routes::KeyRoute;
 pub use sender::Sender;
-pub use sends::Sends;
+pub use vx_ends::Sends;
+pub use vx_plan_nodes::Router;

@@ -1,10 +1,10 @@
 //! Consumer ends of exchanges.
 
 ghost use Rattle.std.specs.Prelude.{◌≡◌, ◌≤◌, ◌<◌, ◌+◌, ℕ, length, slice_get, Some, IfNone, IfSome, IfOk, true, false, vec_len, IsTrue, ◌↔◌};
-ghost use Rattle.vx_exchange.specs.InTurn.{IsInTurn};
+ghost use Rattle.vx_ends.specs.InTurn.{IsInTurn};
 
-use crate::in_turn::next_unset;
 use std::alloc::{AllocError, Global};
+use vx_ends::next_unset;
 use vx_ops::{Code, Fault, Got, Over, Polled, Source, Want};
 use vx_ports::{Body, Ending, Packet};
 use vx_rows::ColType;

@@ -1,13 +1,15 @@
 //! Sending ends of exchanges: what all kinds share.
 
 ghost use Rattle.std.specs.Prelude.{◌≡◌, ◌<◌, ◌^◌, length, true};
-ghost use Rattle.vx_exchange.specs.Lanes.{AreNumbered, ways_of, serves, may_close, are_idle};
+ghost use Rattle.vx_rows.specs.View.{AreColumns};
+ghost use Rattle.vx_exchange.specs.Lanes.{AreNumbered, ways_of, ship_of, serves, columns_of, may_close, are_idle};
 
 use crate::deal::{Deal, deal_rows};
 use crate::lane::Lane;
 use crate::lanes::{clear_lanes, close_next, finish_lanes, make_lanes, next_packet};
-use crate::sends::Sends;
+use crate::places::turn;
 use std::alloc::{AllocError, Global};
+use vx_ends::Sends;
 use vx_ops::Polled;
 use vx_plan_nodes::Router;
 use vx_ports::{Ending, Packet};
@@ -26,16 +28,21 @@ pub enum Stage {
 
 /// Calls: `new (accept next*)*`, with no `accept` after the end, a fault or an `Err`.
 ///
-/// The sending end of an exchange at one of its producers. It deals the rows that come to its lanes, one for each consumer, and returns
-/// their packets; then Last for each consumer, or Fault.
+/// The sending end of an exchange at one of its producers (Graefe's exchange, its producer half). It deals the rows that come to its lanes,
+/// one for each consumer, and returns their packets; then Last for each consumer, or Fault. The rows of a round robin are counted from its
+/// first one on, over all calls: `next` is the consumer whose turn it is.
 #[derive(Drop)]
 pub struct Sender {
+    alloc: Global,
     lanes: Vec<Lane>,
     deal: Deal,
+    next: u32,
     stage: Stage,
     ghost numbered: { AreNumbered deal (ways_of lanes.items) },
     ghost served: { serves deal (length lanes.items) ≡ true },
     ghost few: { length lanes.items < 2 ^ 32 },
+    ghost turns: { next < length lanes.items },
+    ghost columns: { AreColumns (length (ship_of deal (ways_of lanes.items)).types) (columns_of deal) },
     ghost idle: { may_close stage lanes.items ≡ true → are_idle lanes.items ≡ true },
 }
 
@@ -45,13 +52,13 @@ impl Sender {
     ghost use Rattle.vx_ports.specs.Packets.{PacketView};
     ghost use Rattle.vx_ops.specs.Ledger.{fresh, Stream};
     ghost use Rattle.vx_ops.specs.Turn.{heard, GivesRows};
-    ghost use Rattle.vx_exchange.specs.Tasks.{sends_by_ship};
-    ghost use Rattle.vx_exchange.specs.Sending.{RoutesAs, is_open_after};
-    ghost use Rattle.vx_exchange.specs.Lanes.{kind_of, SameLanes};
+    ghost use Rattle.vx_ends.specs.Tasks.{sends_by_ship};
+    ghost use Rattle.vx_ends.specs.Sending.{RoutesAs, is_open_after};
+    ghost use Rattle.vx_exchange.specs.Lanes.{kind_of, bounds_of, SameLanes};
     ghost use Rattle.vx_exchange.specs.Sender.{SenderStands, sender_ship, sender_post, sender_bounds, sender_is_open};
 
     /// The sending end of an exchange by its node number, at a producer's place, for so many consumers and packets of up to `size` rows
-    /// of these types: 1 to 4,096. A gather has one consumer.
+    /// of these types: 1 to 4,096. A gather and a concat have one consumer, other kinds one or more.
     pub fn new(
         alloc: Global,
         exchange: u32,
@@ -62,17 +69,21 @@ impl Sender {
         deal: Deal,
     ) -> Result<Sender, AllocError>
         requires served { serves deal consumers ≡ true }
+        requires columns { AreColumns (length types.now) (columns_of deal) }
         requires some { 1 ≤ size }
         requires few { size ≤ 4096 }
         ensures stands { IfOk result (λ s. (goes : Routing) → SenderStands s goes fresh (λ _. [])) }
         ensures post { IfOk result (λ s. sender_post s
             ≡ sends_by_ship (record { exchange = exchange; place = place; consumers = consumers; types = types.now; kind = kind_of deal; size = size })) }
+        ensures bounds { IfOk result (λ s. sender_bounds s ≡ bounds_of deal) }
         ensures open { IfOk result (λ s. sender_is_open s ≡ true) }
     {
         let lanes = make_lanes(alloc, exchange, place, consumers, size, types)?;
         Ok(Sender {
+            alloc,
             lanes,
             deal,
+            next: 0,
             stage: Stage::Open,
         })
     }
@@ -99,7 +110,16 @@ impl Sender {
     {
         match polled {
             Polled::Gave(rows) => {
-                deal_rows(self.deal, &mut self.lanes, router, rows)?;
+                let count = rows.len();
+                deal_rows(
+                    self.alloc,
+                    &self.deal,
+                    self.next,
+                    &mut self.lanes,
+                    router,
+                    rows,
+                )?;
+                self.next = turn(self.next, count, self.lanes.len() as u32);
                 return Ok(());
             }
             Polled::Waiting => return Ok(()),

@@ -1,28 +1,26 @@
 -- The tree of a fragment, by the node at its top.
-use Rattle.std.proofs.Common.{Box, Global, ◌≡◌, ℕ, suc, ◌+◌, ◌≤◌, ◌<◌, ◌==◌, ◌&&◌, true, false, Bool, List, [], ◌∷◌, refl, sym, ap, ◌∙◌, subst, arith, eqb-true, true≢false}
+use Rattle.std.proofs.Common.{Box, Global, Result, Ok, Err, ◌≡◌, ℕ, suc, ◌+◌, ◌≤◌, ◌<◌, ◌==◌, ◌&&◌, true, false, Bool, List, [], ◌∷◌, refl, sym, ap, ◌∙◌, subst, arith, eqb-true, true≢false}
+use Rattle.std.specs.Prelude.{IfOk}
 use Rattle.vx_values.specs.declared.value.ColType.{ColType}
-use Rattle.vx_plan_nodes.specs.Plan.{Plan, Claim, Condition, Size, Unary, Binary, ExchangeKind, scan, unary, binary, exchange, select, size}
+use Rattle.vx_plan_nodes.specs.Plan.{Plan, Claim, Size, Unary, Binary, ExchangeKind, scan, unary, binary, exchange, size}
 use Rattle.vx_plan_nodes.specs.Numbering.{is_numbered, nodes}
+use Rattle.vx_plan_nodes.specs.Runs.{is_concat}
 use Rattle.vx_plan_nodes.specs.Streams.{workers}
 use Rattle.vx_plan_nodes.specs.Types.{types_of}
 use Rattle.vx_check_rules.specs.Checked.{relations}
 use Rattle.vx_laws.proofs.Bags.{and-left, and-right}
-use Rattle.vx_ops.specs.Ledger.{one_op, two_op, receive}
+use Rattle.vx_ops.specs.Ledger.{Op, one_op, two_op, receive}
 use Rattle.vx_ops.specs.Turn.{Shape, fresh_ledger}
 use Rattle.vx_ops.specs.Scan.{ScanStands, scan_types}
 use Rattle.vx_ops.specs.declared.scan.Scan.{Scan}
-use Rattle.vx_ops.specs.Select.{Select, SelectStands, select_op, select_types}
-use Rattle.vx_exchange.specs.Receiver.{ReceiverStands, receiver_op, receiver_types, unmerged_end}
-use Rattle.vx_exchange.specs.declared.receiver.Receiver.{Receiver}
 use Rattle.vx_worker.specs.Fragment.{alone, above, both, fragment}
-use Rattle.vx_worker.specs.Operator.{operator_op, operator_types}
+use Rattle.vx_operators.specs.Operator.{OperatorStands, operator_op, operator_types}
 use Rattle.vx_worker.specs.Trees.{shape as tree_shape}
 use Rattle.vx_worker.specs.Wishes.{Numbered}
-use Rattle.vx_worker.specs.declared.operator.Operator.{Operator}
-use Rattle.vx_worker.specs.declared.operator.Operator.TheVariants as operator
+use Rattle.vx_operators.specs.declared.operator.Operator.{Operator}
+use Rattle.vx_operators.specs.declared.operator.Operator.TheVariants as operator
 use Rattle.vx_worker.specs.declared.tree.Tree.{Tree, One, Two, Leaf, One', Two'}
-use Rattle.vx_setup.specs.Runnable.{can_run, can_run_kind, can_merge}
-use Rattle.vx_setup.proofs.KindFacts.{in-any-order}
+use Rattle.vx_setup.specs.Runnable.{can_run, can_merge}
 use Rattle.vx_exec.specs.Sizes.{group_at}
 use Rattle.vx_exec.specs.Crew.{IsOperatorOf, IsTreeOf}
 use Rattle.vx_exec.specs.Job.{model_of}
@@ -87,16 +85,6 @@ binary-tree j place n c op p q o a b h left right = record {
   typed = λ leaves fit. (h.takes.0 ∙ sym left.gives, h.takes.1 ∙ sym right.gives, left.typed leaves fit.0, right.typed leaves fit.1);
 }
 
-pub select-operator : (j : Job) (place n : ℕ) (c : Claim) (cs : List Condition) (p : Plan) (s : Select) (types : List ColType)
-    → SelectStands s fresh_ledger → select_op s ≡ one_op n (select cs) → select_types s ≡ record { left = types; right = types; out = types }
-    → types ≡ types_of (relations j.plan.now) p → IsOperatorOf j place (unary n c (select cs) p) (operator.Select s)
-select-operator j place n c cs p s types stands op shape e = record {
-  op_is = λ hash. op;
-  stands = stands;
-  takes = ap (λ (x : Shape). x.left) shape ∙ e;
-  gives = ap (λ (x : Shape). x.out) shape ∙ e;
-}
-
 pub scan-operator : (j : Job) (place n : ℕ) (c : Claim) (r : ℕ) (shared : Bool) (z : Size) (s : Scan) (types : List ColType)
     → ScanStands s fresh_ledger → scan_types s ≡ record { left = types; right = types; out = types }
     → types ≡ types_of (relations j.plan.now) (scan n c r shared z) → IsOperatorOf j place (scan n c r shared z) (operator.Scan s)
@@ -112,21 +100,24 @@ no-columns [] h = refl
 no-columns (x ∷ xs) h = absurd (true≢false (sym h))
 
 -- an exchange that workers can run does not merge
-merges-not : (n : ℕ) (c : Claim) (kind : ExchangeKind) (merge : List ℕ) (p : Plan) → can_run (exchange n c kind merge p) ≡ true → merge ≡ []
-merges-not n c kind merge p runs = no-columns merge (and-left (can_merge merge) (can_run p) (and-right (can_run_kind kind) (can_merge merge && can_run p) runs))
+merges-not : (n : ℕ) (c : Claim) (kind : ExchangeKind) (merge : List ℕ) (p : Plan) → can_run (exchange n c kind merge p) ≡ true → [] ≡ merge
+merges-not n c kind merge p runs = sym (no-columns merge (and-left (can_merge merge) (can_run p) runs))
 
--- a consumer end at an exchange that workers can run
-pub receiver-operator : (j : Job) (place n : ℕ) (c : Claim) (kind : ExchangeKind) (merge : List ℕ) (p : Plan) (s : Receiver) (types : List ColType) (producers : ℕ)
-    → can_run (exchange n c kind merge p) ≡ true → ReceiverStands s fresh_ledger → receiver_op s ≡ receive (unmerged_end n place producers types)
-    → receiver_types s ≡ record { left = types; right = types; out = types } → producers ≡ workers (group_at j.groups.items) (size p)
-    → types ≡ types_of (relations j.plan.now) p → IsOperatorOf j place (exchange n c kind merge p) (operator.Receiver s)
-receiver-operator j place n c kind merge p s types producers runs stands op shape many e = record {
+-- the consumer end of an exchange
+abbrev consumes : (number place producers : ℕ) → List ColType → List ℕ → Bool → Op
+consumes number place producers types merge in_order = receive (record { exchange = number; place = place; producers = producers; types = types; merge = merge; in_order = in_order })
+
+-- one that was made for an exchange that workers can run
+pub consumer-made : {E : Type 0} (j : Job) (place n : ℕ) (c : Claim) (kind : ExchangeKind) (merge : List ℕ) (p : Plan) (types : List ColType) (producers : ℕ) (made : Result Operator E)
+    → can_run (exchange n c kind merge p) ≡ true → IfOk made (λ o. operator_op o ≡ consumes n place producers types [] (is_concat kind))
+    → IfOk made (λ o. OperatorStands o fresh_ledger) → IfOk made (λ o. (operator_types o).left ≡ types) → IfOk made (λ o. (operator_types o).out ≡ types)
+    → producers ≡ workers (group_at j.groups.items) (size p) → types ≡ types_of (relations j.plan.now) p → IfOk made (IsOperatorOf j place (exchange n c kind merge p))
+consumer-made j place n c kind merge p types producers (Ok o) runs op stands reads returns many e = record {
   op_is = λ hash.
-      op ∙ ap (λ z. receive (unmerged_end n place z types)) many ∙ ap (λ z. receive (unmerged_end n place (workers (group_at j.groups.items) (size p)) z)) e
-      ∙ ap (λ z. receive (record { exchange = n; place = place; producers = workers (group_at j.groups.items) (size p); types = types_of (relations j.plan.now) p; merge = z; in_order = false })) (sym (merges-not n c kind merge p runs))
-      ∙ ap (λ b. receive (record { exchange = n; place = place; producers = workers (group_at j.groups.items) (size p); types = types_of (relations j.plan.now) p; merge = merge; in_order = b }))
-      (sym (in-any-order kind (and-left (can_run_kind kind) (can_merge merge && can_run p) runs)));
+      op ∙ ap (λ z. consumes n place z types [] (is_concat kind)) many ∙ ap (λ z. consumes n place (workers (group_at j.groups.items) (size p)) z [] (is_concat kind)) e
+      ∙ ap (λ z. consumes n place (workers (group_at j.groups.items) (size p)) (types_of (relations j.plan.now) p) z (is_concat kind)) (merges-not n c kind merge p runs);
   stands = stands;
-  takes = ap (λ (x : Shape). x.left) shape ∙ e;
-  gives = ap (λ (x : Shape). x.out) shape ∙ e;
+  takes = reads ∙ e;
+  gives = returns ∙ e;
 }
+consumer-made j place n c kind merge p types producers (Err x) runs op stands reads returns many e = tt

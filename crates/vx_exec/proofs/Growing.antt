@@ -8,14 +8,14 @@ use Rattle.vx_plan_nodes.specs.Numbering.{is_numbered}
 use Rattle.vx_plan_nodes.specs.Streams.{workers}
 use Rattle.vx_plan_nodes.specs.TypedView.{plan}
 use Rattle.vx_ports.specs.LinkView.{LinkView}
-use Rattle.vx_exchange.specs.Sending.{RoutesAs}
+use Rattle.vx_ends.specs.Sending.{RoutesAs}
 use Rattle.vx_worker.specs.Fragment.{RunModel, goes}
 use Rattle.vx_worker.specs.Trace.{scan_morsels}
 use Rattle.vx_worker.specs.Worker.{Role, role_of}
-use Rattle.vx_worker.specs.Operator.{OperatorStands, operator_op}
-use Rattle.vx_worker.specs.Destination.{DestinationStands, task_of, post_of, bounds_of}
-use Rattle.vx_worker.specs.declared.operator.Operator.{Operator}
-use Rattle.vx_worker.specs.declared.destination.Destination.{Destination}
+use Rattle.vx_operators.specs.Operator.{OperatorStands, operator_op}
+use Rattle.vx_operators.specs.Destination.{DestinationStands, task_of, post_of, bounds_of}
+use Rattle.vx_operators.specs.declared.operator.Operator.{Operator}
+use Rattle.vx_operators.specs.declared.destination.Destination.{Destination}
 use Rattle.vx_worker.specs.declared.worker.Worker.{Worker}
 use Rattle.vx_steps.specs.Additions.{Made, AddsProducers, AddsBelow}
 use Rattle.vx_steps.specs.Crews.{stations_of, duty_of, root_duty}

@@ -1,6 +1,7 @@
 pub mod Leaves
 pub mod Parts
 pub mod Fragments
+pub mod Dealing
 pub mod Starting
 pub mod Posts
 pub mod Workers

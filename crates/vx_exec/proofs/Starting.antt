@@ -4,7 +4,7 @@ use Rattle.std.proofs.lemmas.List.{map_push}
 use Rattle.vx_values.specs.declared.value.ColType.{ColType}
 use Rattle.vx_rows.specs.Lists.{each_below}
 use Rattle.vx_ports.specs.Packets.{PacketView, fault}
-use Rattle.vx_exchange.specs.Ship.{Ship, packet_of}
+use Rattle.vx_ends.specs.Ship.{Ship, packet_of}
 use Rattle.vx_worker.specs.Intake.{source_of, fresh_input}
 use Rattle.vx_worker.specs.declared.intake.ExchangeInput.{ExchangeInput}
 use Rattle.vx_steps.proofs.Each.{none-each, more-each}

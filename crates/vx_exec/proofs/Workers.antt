@@ -8,17 +8,17 @@ use Rattle.vx_plan_nodes.specs.Routes.{Routing}
 use Rattle.vx_plan_nodes.specs.Types.{types_of}
 use Rattle.vx_check_rules.specs.Checked.{relations}
 use Rattle.vx_ops.specs.Ledger.{fresh}
-use Rattle.vx_exchange.specs.Tasks.{Post, sends_by_ship, keeps}
-use Rattle.vx_exchange.specs.Sending.{RoutesAs}
+use Rattle.vx_ends.specs.Tasks.{Post, sends_by_ship, keeps}
+use Rattle.vx_ends.specs.Sending.{RoutesAs}
 use Rattle.vx_worker.specs.Fragment.{Frag, fragment, goes}
 use Rattle.vx_worker.specs.Trace.{empty_trace}
 use Rattle.vx_worker.specs.Trees.{shape}
 use Rattle.vx_worker.specs.Wishes.{TreeTyped}
 use Rattle.vx_worker.specs.Worker.{Role, role_of, IsReady, WorkerStands}
-use Rattle.vx_worker.specs.Operator.{OperatorStands, operator_op, operator_types}
-use Rattle.vx_worker.specs.Destination.{DestinationStands, task_of, post_of, bounds_of, is_open, has_closed}
-use Rattle.vx_worker.specs.declared.operator.Operator.{Operator}
-use Rattle.vx_worker.specs.declared.destination.Destination.{Destination}
+use Rattle.vx_operators.specs.Operator.{OperatorStands, operator_op, operator_types}
+use Rattle.vx_operators.specs.Destination.{DestinationStands, task_of, post_of, bounds_of, is_open, has_closed}
+use Rattle.vx_operators.specs.declared.operator.Operator.{Operator}
+use Rattle.vx_operators.specs.declared.destination.Destination.{Destination}
 use Rattle.vx_worker.specs.declared.tree.Tree.{Tree}
 use Rattle.vx_worker.specs.declared.worker.Worker.{Worker}
 use Rattle.vx_steps.specs.Crews.{Duty, root_duty, producer_duty}

@@ -12,16 +12,16 @@ use Rattle.vx_plan_nodes.specs.Numbering.{is_numbered, nodes}
 use Rattle.vx_check_rules.specs.Checked.{relations}
 use Rattle.vx_ops.specs.Ledger.{fresh, Op, scan_op, one_op, two_op, receive}
 use Rattle.vx_ops.specs.Turn.{Shape, fresh_ledger}
-use Rattle.vx_exchange.specs.Sending.{RoutesAs}
+use Rattle.vx_ends.specs.Sending.{RoutesAs}
 use Rattle.vx_worker.specs.Fragment.{RunModel, fragment, goes}
 use Rattle.vx_worker.specs.Trace.{empty_trace}
 use Rattle.vx_worker.specs.Trees.{shape, TreeStands}
 use Rattle.vx_worker.specs.Wishes.{fresh_reads, tree_types, Numbered, TreeTyped}
 use Rattle.vx_worker.specs.Worker.{role_of, sender_of, IsReady, WorkerStands}
-use Rattle.vx_worker.specs.Operator.{OperatorStands, operator_op, operator_types}
-use Rattle.vx_worker.specs.Destination.{DestinationStands, task_of, post_of, bounds_of, is_open, has_closed}
-use Rattle.vx_worker.specs.declared.operator.Operator.{Operator}
-use Rattle.vx_worker.specs.declared.destination.Destination.{Destination}
+use Rattle.vx_operators.specs.Operator.{OperatorStands, operator_op, operator_types}
+use Rattle.vx_operators.specs.Destination.{DestinationStands, task_of, post_of, bounds_of, is_open, has_closed}
+use Rattle.vx_operators.specs.declared.operator.Operator.{Operator}
+use Rattle.vx_operators.specs.declared.destination.Destination.{Destination}
 use Rattle.vx_worker.specs.declared.tree.Tree.{Tree}
 use Rattle.vx_worker.specs.declared.worker.Worker.{Worker}
 use Rattle.vx_steps.specs.Crews.{Duty, duty_of}

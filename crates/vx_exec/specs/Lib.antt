@@ -3,6 +3,7 @@ pub mod LeafTypes
 pub mod Job
 pub mod Part
 pub mod Setup
+pub mod Bounds
 pub mod Inputs
 pub mod Crew
 pub mod Making

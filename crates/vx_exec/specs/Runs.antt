@@ -17,14 +17,14 @@ use Rattle.vx_laws.specs.Faults.{IsReal}
 use Rattle.vx_ops.specs.declared.fault.Code.TheVariants.{Overflow, NoMemory, Unsorted, Stranger}
 use Rattle.vx_ops.specs.declared.fault.Fault.{Fault}
 use Rattle.vx_ops.specs.declared.fault.Fault.TheVariants.{Own, Passed}
-use Rattle.vx_exchange.specs.Tasks.{keep, keeps}
-use Rattle.vx_worker.specs.Operator.{OperatorStands, operator_op, operator_want}
-use Rattle.vx_worker.specs.Destination.{DestinationStands, task_of, post_of, bounds_of}
+use Rattle.vx_ends.specs.Tasks.{keep, keeps}
+use Rattle.vx_operators.specs.Operator.{OperatorStands, operator_op, operator_want}
+use Rattle.vx_operators.specs.Destination.{DestinationStands, task_of, post_of, bounds_of}
 use Rattle.vx_worker.specs.Fragment.{RunModel}
 use Rattle.vx_worker.specs.Trace.{scan_morsels}
 use Rattle.vx_worker.specs.Worker.{sender_of}
-use Rattle.vx_worker.specs.declared.operator.Operator.{Operator}
-use Rattle.vx_worker.specs.declared.destination.Destination.{Destination}
+use Rattle.vx_operators.specs.declared.operator.Operator.{Operator}
+use Rattle.vx_operators.specs.declared.destination.Destination.{Destination}
 use Rattle.vx_worker.specs.declared.worker.Worker.{Worker}
 use Rattle.vx_steps.specs.Endings.{FailsFirst}
 use Rattle.vx_steps.specs.Following.{Follows, FollowsRounds}

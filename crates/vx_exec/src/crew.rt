@@ -6,10 +6,13 @@ ghost use Rattle.vx_values.specs.Values.{Row};
 ghost use Rattle.vx_plan_nodes.specs.Outline.{outline_of, plan_of, kind_of, size_of};
 ghost use Rattle.vx_plan_nodes.specs.Plan.{scan as scan_at, size, Claim};
 ghost use Rattle.vx_plan_nodes.specs.Streams.{workers};
+ghost use Rattle.vx_plan_nodes.specs.Typed.{is_kind};
 ghost use Rattle.vx_plan_nodes.specs.TypedView.{scope, plan};
+ghost use Rattle.vx_plan_nodes.specs.Types.{types_of};
+ghost use Rattle.vx_check_rules.specs.Checked.{relations};
 ghost use Rattle.vx_ports.specs.LinkView.{LinkView};
-ghost use Rattle.vx_worker.specs.Operator.{OperatorStands, operator_op, operator_types};
-ghost use Rattle.vx_worker.specs.Destination.{DestinationStands, task_of, post_of, bounds_of, is_open, has_closed};
+ghost use Rattle.vx_operators.specs.Operator.{OperatorStands, operator_op, operator_types};
+ghost use Rattle.vx_operators.specs.Destination.{DestinationStands, task_of, post_of, bounds_of, is_open, has_closed};
 ghost use Rattle.vx_worker.specs.Trace.{scan_morsels};
 ghost use Rattle.vx_worker.specs.Worker.{IsReady};
 ghost use Rattle.vx_steps.specs.Additions.{AddsProducers, AddsBelow};
@@ -17,7 +20,7 @@ ghost use Rattle.vx_steps.specs.Crews.{stations_of, producer_duty, root_duty};
 ghost use Rattle.vx_steps.specs.Queues.{AreEmpty};
 ghost use Rattle.vx_steps.specs.Ready.{Ready};
 ghost use Rattle.vx_exec.specs.Sizes.{group_at};
-ghost use Rattle.vx_setup.specs.Runnable.{can_run, can_run_kind};
+ghost use Rattle.vx_setup.specs.Runnable.{can_run};
 ghost use Rattle.vx_exec.specs.Job.{model_of};
 ghost use Rattle.vx_exec.specs.Part.{IsPartOf};
 ghost use Rattle.vx_exec.specs.Crew.{duty, IsNew};
@@ -25,9 +28,10 @@ ghost use Rattle.vx_exec.specs.Crew.{duty, IsNew};
 use crate::job::Job;
 use crate::worker::{producer, root_worker};
 use std::alloc::{AllocError, Global};
+use vx_operators::{Destination, Operator};
 use vx_plan_nodes::{ExchangeKind, ScanNode, TypedNode};
 use vx_steps::{Links, Ports, SharedScan, Station, WholeScan};
-use vx_worker::{Destination, Operator, Worker};
+use vx_worker::Worker;
 
 /// The workers of a job in number order, the root's first, and what connects them.
 #[derive(Drop)]
@@ -72,7 +76,7 @@ impl Crew {
         node: &TypedNode,
         place: u32,
     ) -> Result<(), AllocError>
-        requires kind { can_run_kind (kind_of kind.now) ≡ true }
+        requires kind { is_kind (scope job.now.plan.now) (types_of (relations job.now.plan.now) (plan_of node.now)) (kind_of kind.now) ≡ true }
         requires part { IsPartOf job.now (outline_of node.now) }
         ensures stations { OnOk result (self.new.stations ≡ self.old.stations) }
         ensures sends { OnOk result (self.new.sends.items ≡ self.old.sends.items ++ exchange ∷ []) }
@@ -98,7 +102,7 @@ impl Crew {
         kind: &ExchangeKind,
         node: &TypedNode,
     ) -> Result<(), AllocError>
-        requires kind { can_run_kind (kind_of kind.now) ≡ true }
+        requires kind { is_kind (scope job.now.plan.now) (types_of (relations job.now.plan.now) (plan_of node.now)) (kind_of kind.now) ≡ true }
         requires part { IsPartOf job.now (outline_of node.now) }
         ensures added { OnOk result ((hash : List ℕ → Row → ℕ → ℕ)
             → AddsProducers (model_of hash job.now) exchange (kind_of kind.now) (plan_of node.now) (workers (group_at job.now.groups.items) (size (plan_of node.now))) (made_of self.old) (made_of self.new)) }

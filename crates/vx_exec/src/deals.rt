@@ -1,32 +1,79 @@
 //! How the exchanges of each kind deal their rows.
 
-ghost use Rattle.std.specs.Prelude.{◌≡◌, ℕ, List, true};
-ghost use Rattle.vx_values.specs.Values.{Val, Row};
-ghost use Rattle.vx_plan_nodes.specs.Outline.{kind_of};
-ghost use Rattle.vx_plan_nodes.specs.Plan.{target};
-ghost use Rattle.vx_plan_nodes.specs.Streams.{workers};
-ghost use Rattle.vx_exchange.specs.Lanes.{kind_of as kind_dealt, serves};
-ghost use Rattle.vx_exchange.specs.Sending.{KindRoutesAs};
-ghost use Rattle.vx_worker.specs.Fragment.{goes};
-ghost use Rattle.vx_setup.specs.Runnable.{can_run_kind};
-ghost use Rattle.vx_exec.specs.Sizes.{group_at};
-ghost use Rattle.vx_exec.specs.Job.{model_of};
+ghost use Rattle.std.specs.Prelude.{◌≡◌, true, map, IfOk};
+ghost use Rattle.vx_values.specs.ValueView.{val_of};
+ghost use Rattle.vx_plan_nodes.specs.Outline.{kind_of, route_of};
+ghost use Rattle.vx_plan_nodes.specs.Typed.{is_kind, is_routed};
+ghost use Rattle.vx_plan_nodes.specs.TypedView.{scope};
+ghost use Rattle.vx_exchange.specs.Lanes.{kind_of as kind_dealt, bounds_of};
+ghost use Rattle.vx_exchange.specs.Routed.{key_route, key_columns, key_bounds};
+ghost use Rattle.vx_exec.specs.Bounds.{route_bounds, kind_bounds};
 
 use crate::job::Job;
-use vx_exchange::Deal;
-use vx_plan_nodes::ExchangeKind;
+use std::alloc::{AllocError, Global};
+use vx_exchange::{Deal, KeyRoute, Ranges};
+use vx_plan_nodes::{ExchangeKind, Route};
+use vx_rows::{ColType, Value};
+
+// Copies of values.
+fn copied_values(alloc: Global, values: &[Value]) -> Result<Vec<Value>, AllocError>
+    ensures { IfOk result (λ v. map val_of v.items ≡ map val_of values.now) }
+{
+    let mut copies = Vec::new(alloc);
+    for value in values {
+        copies.push(value.copy(alloc)?)?;
+    }
+    Ok(copies)
+}
 
 impl Job<'_> {
-    /// How the producers of an exchange of this kind deal their rows. Each kind that workers can run has its arm here.
-    pub fn deal_of(&self, kind: &ExchangeKind) -> Deal
-        requires { can_run_kind (kind_of kind.now) ≡ true }
-        ensures kind { kind_dealt result ≡ kind_of kind.now }
-        ensures served { serves result (workers (group_at self.now.groups.items) (target (kind_of kind.now))) ≡ true }
-        ensures routes { (hash : List ℕ → Row → ℕ → ℕ) (bounds : List Val) → KindRoutesAs (kind_of kind.now) bounds hash (goes (model_of hash self.now)) }
+    // The route of rows of these types by their values in some columns.
+    fn key_route(
+        &self,
+        alloc: Global,
+        types: &[ColType],
+        route: &Route,
+        columns: &[usize],
+    ) -> Result<KeyRoute, AllocError>
+        requires { is_routed (scope self.now.plan.now) types.now (route_of route.now) columns.now ≡ true }
+        ensures route { IfOk result (λ r. key_route r ≡ route_of route.now) }
+        ensures columns { IfOk result (λ r. key_columns r ≡ columns.now) }
+        ensures bounds { IfOk result (λ r. key_bounds r ≡ route_bounds (scope self.now.plan.now).ranges (route_of route.now)) }
+    {
+        match route {
+            Route::Hash(name) => {
+                let name = String::from_str(alloc, name.as_str())?;
+                let columns = Vec::from_slice(alloc, columns)?;
+                Ok(KeyRoute::Hash(name, columns))
+            }
+            Route::Range(number) => {
+                let range = &self.plan().ranges()[*number];
+                let bounds = copied_values(alloc, range.bounds.as_slice())?;
+                Ok(KeyRoute::Range(*number, Ranges::new(bounds), columns[0]))
+            }
+        }
+    }
+
+    /// How the producers of an exchange of this kind deal rows of these types.
+    pub fn deal_of(
+        &self,
+        alloc: Global,
+        types: &[ColType],
+        kind: &ExchangeKind,
+    ) -> Result<Deal, AllocError>
+        requires { is_kind (scope self.now.plan.now) types.now (kind_of kind.now) ≡ true }
+        ensures kind { IfOk result (λ d. kind_dealt d ≡ kind_of kind.now) }
+        ensures bounds { IfOk result (λ d. bounds_of d ≡ kind_bounds (scope self.now.plan.now).ranges (kind_of kind.now)) }
     {
         match kind {
-            ExchangeKind::Gather => Deal::ToOne,
-            _ => unreachable!(),
+            ExchangeKind::Route(size, route, columns) => {
+                let route = self.key_route(alloc, types, route, columns.as_slice())?;
+                Ok(Deal::Route(*size, route))
+            }
+            ExchangeKind::Round(size) => Ok(Deal::Round(*size)),
+            ExchangeKind::Broadcast(size) => Ok(Deal::Broadcast(*size)),
+            ExchangeKind::Gather => Ok(Deal::Gather),
+            ExchangeKind::Concat => Ok(Deal::Concat),
         }
     }
 }

@@ -1,45 +1,19 @@
 //! The operators of a fragment, for the worker at a place.
 
-ghost use Rattle.std.specs.Prelude.{◌≡◌, ℕ, true, IfOk};
-ghost use Rattle.vx_plan_nodes.specs.Outline.{outline_of, plan_of, unary_of};
-ghost use Rattle.vx_plan_nodes.specs.Plan.{Plan, Claim, unary as over};
-ghost use Rattle.vx_plan_nodes.specs.Types.{types_of};
-ghost use Rattle.vx_check_rules.specs.Checked.{relations};
-ghost use Rattle.vx_setup.specs.Runnable.{can_run_unary};
+ghost use Rattle.std.specs.Prelude.{IfOk};
+ghost use Rattle.vx_plan_nodes.specs.Outline.{outline_of, plan_of};
 ghost use Rattle.vx_exec.specs.Crew.{IsOperatorOf, IsTreeOf};
 ghost use Rattle.vx_exec.specs.Part.{IsPartOf};
 ghost use Rattle.vx_exec.specs.declared.job.Job.{Job};
 
 use crate::job::Job;
 use std::alloc::{AllocError, Global};
-use vx_exchange::Receiver;
-use vx_ops::{Scan, Select};
-use vx_plan_nodes::{TypedNode, Unary, copied_conditions, output_types};
-use vx_rows::ColType;
-use vx_worker::{Operator, Tree};
+use vx_operators::{Operator, binary_operator, consumer_operator, unary_operator};
+use vx_ops::Scan;
+use vx_plan_nodes::{TypedNode, output_types};
+use vx_worker::Tree;
 
-// The operator of a node with one input, which gives rows of these types. Each one that workers can run has its arm here.
-fn unary_operator(
-    alloc: Global,
-    number: u32,
-    unary: &Unary,
-    types: Vec<ColType>,
-) -> Result<Operator, AllocError>
-    requires { can_run_unary (unary_of unary.now) ≡ true }
-    ensures { (j : Job) (place : ℕ) (c : Claim) (p : Plan) → types.items ≡ types_of (relations j.plan.now) (over number c (unary_of unary.now) p)
-        → IfOk result (IsOperatorOf j place (over number c (unary_of unary.now) p)) }
-{
-    match unary {
-        Unary::Select(conditions) => {
-            let copies = copied_conditions(alloc, conditions.as_slice())?;
-            let select = Select::new(alloc, number, copies, types);
-            return Ok(Operator::Select(select));
-        }
-        _ => unreachable!(),
-    }
-}
-
-// The operator of a node, to which nothing came. Each operator that workers can run has its arm here.
+// The operator of a node, to which nothing came.
 fn operator_of(
     alloc: Global,
     job: &Job<'_>,
@@ -49,16 +23,24 @@ fn operator_of(
     requires { IsPartOf job.now (outline_of node.now) }
     ensures { IfOk result (IsOperatorOf job.now place (plan_of node.now)) }
 {
-    let types = Vec::from_slice(alloc, output_types(node))?;
     match node {
-        TypedNode::Scan(_, _) => Ok(Operator::Scan(Scan::new(types))),
-        TypedNode::Unary(head, unary, _) => unary_operator(alloc, head.number, unary, types),
-        TypedNode::Exchange(head, _, input) => {
-            let producers = job.workers(input.size());
-            let receiver = Receiver::new(alloc, head.number, place, producers, types)?;
-            Ok(Operator::Receiver(receiver))
+        TypedNode::Scan(_, _) => {
+            let types = Vec::from_slice(alloc, output_types(node))?;
+            Ok(Operator::Scan(Scan::new(types)))
         }
-        TypedNode::Binary(_, _, _, _) => unreachable!(),
+        TypedNode::Unary(head, unary, input) => {
+            unary_operator(alloc, head.number, unary, output_types(input))
+        }
+        TypedNode::Binary(head, binary, left, right) => {
+            let left = output_types(left);
+            let right = output_types(right);
+            binary_operator(alloc, head.number, binary, left, right)
+        }
+        TypedNode::Exchange(head, exchange, input) => {
+            let types = Vec::from_slice(alloc, output_types(node))?;
+            let producers = job.workers(input.size());
+            consumer_operator(alloc, head.number, &exchange.kind, place, producers, types)
+        }
     }
 }
 

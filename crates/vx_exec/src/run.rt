@@ -7,12 +7,12 @@ ghost use Rattle.vx_plan_nodes.specs.TypedView.{plan as whole_plan, resolved_of}
 ghost use Rattle.vx_check_rules.specs.Checked.{is_allowed, is_root_allowed};
 ghost use Rattle.vx_check_rules.specs.CheckedView.{typed_plan};
 ghost use Rattle.vx_ops.specs.declared.fault.Fault.TheVariants.{Passed};
-ghost use Rattle.vx_exchange.specs.Tasks.{keep, keeps};
-ghost use Rattle.vx_worker.specs.Destination.{task_of, post_of};
+ghost use Rattle.vx_ends.specs.Tasks.{keep, keeps};
+ghost use Rattle.vx_operators.specs.Destination.{task_of, post_of};
 ghost use Rattle.vx_worker.specs.Worker.{sender_of};
 ghost use Rattle.vx_worker.specs.declared.worker.Worker.{Worker as AWorker};
-ghost use Rattle.vx_worker.specs.declared.operator.Operator.{Operator as AnOperator};
-ghost use Rattle.vx_worker.specs.declared.destination.Destination.{Destination as ADestination};
+ghost use Rattle.vx_operators.specs.declared.operator.Operator.{Operator as AnOperator};
+ghost use Rattle.vx_operators.specs.declared.destination.Destination.{Destination as ADestination};
 ghost use Rattle.vx_steps.specs.Roles.{crew_size};
 ghost use Rattle.vx_exec.specs.Sizes.{group_at, run_model, Sizes};
 ghost use Rattle.vx_setup.specs.Runnable.{can_run};
@@ -26,12 +26,13 @@ use crate::setup::job_of;
 use std::alloc::Global;
 use vx_catalog::Database;
 use vx_check_rules::CheckedPlan;
+use vx_operators::{Destination, Operator};
 use vx_ops::{Code, Fault};
 use vx_plan_nodes::Router;
 use vx_setup::{RunFault, Setup};
 use vx_steps::{Verdict, judge_rounds, judge_schedule};
 use vx_views::Rows;
-use vx_worker::{Destination, Operator, Worker};
+use vx_worker::Worker;
 
 // The rows that the first worker kept.
 fn rows_of_root(mut workers: Vec<Worker<Operator, Destination>>) -> Rows

@@ -5,12 +5,15 @@ ghost use Rattle.std.specs.List.{All};
 ghost use Rattle.vx_values.specs.Values.{Row};
 ghost use Rattle.vx_rows.specs.Lists.{each_below};
 ghost use Rattle.vx_plan_nodes.specs.Outline.{outline_of, plan_of, kind_of};
+ghost use Rattle.vx_plan_nodes.specs.Typed.{is_kind};
+ghost use Rattle.vx_plan_nodes.specs.TypedView.{scope};
+ghost use Rattle.vx_plan_nodes.specs.Types.{types_of};
 ghost use Rattle.vx_ports.specs.Packets.{fault};
-ghost use Rattle.vx_exchange.specs.Ship.{Ship, packet_of};
+ghost use Rattle.vx_ends.specs.Ship.{Ship, packet_of};
 ghost use Rattle.vx_worker.specs.Intake.{source_of, IsFresh};
 ghost use Rattle.vx_worker.specs.Worker.{inputs_of as sources_of};
 ghost use Rattle.vx_steps.specs.Crews.{producer_duty, root_duty};
-ghost use Rattle.vx_setup.specs.Runnable.{can_run_kind};
+ghost use Rattle.vx_check_rules.specs.Checked.{relations};
 ghost use Rattle.vx_exec.specs.Sizes.{group_at};
 ghost use Rattle.vx_exec.specs.Job.{model_of};
 ghost use Rattle.vx_exec.specs.Part.{IsPartOf};
@@ -21,11 +24,12 @@ use crate::fragment::tree_of;
 use crate::job::Job;
 use std::alloc::{AllocError, Global};
 use vx_exchange::{Collector, Sender};
+use vx_operators::{Destination, Operator};
 use vx_plan_nodes::{ExchangeKind, TypedNode, output_types};
 use vx_ports::{Ending, Packet};
 use vx_rows::ColType;
 use vx_views::Rows;
-use vx_worker::{Destination, ExchangeInput, Operator, Worker};
+use vx_worker::{ExchangeInput, Worker};
 
 // Adds each of so many producers of an exchange.
 fn push_inputs(inputs: &mut Vec<ExchangeInput>, exchange: u32, count: u32) -> Result<(), AllocError>
@@ -127,7 +131,7 @@ pub fn producer(
     node: &TypedNode,
     place: u32,
 ) -> Result<Worker<Operator, Destination>, AllocError>
-    requires kind { can_run_kind (kind_of kind.now) ≡ true }
+    requires kind { is_kind (scope job.now.plan.now) (types_of (relations job.now.plan.now) (plan_of node.now)) (kind_of kind.now) ≡ true }
     requires part { IsPartOf job.now (outline_of node.now) }
     ensures duty { IfOk result (λ w. (hash : List ℕ → Row → ℕ → ℕ)
         → duty w ≡ producer_duty (model_of hash job.now) exchange (kind_of kind.now) (plan_of node.now) place) }
@@ -137,7 +141,7 @@ pub fn producer(
     let tree = tree_of(alloc, job, node, place)?;
     let types = output_types(node);
     let consumers = job.workers(kind.target());
-    let deal = job.deal_of(kind);
+    let deal = job.deal_of(alloc, types, kind)?;
     let sender = Sender::new(alloc, exchange, place, consumers, job.packet(), types, deal)?;
     let closing = closing_packets(alloc, exchange, place, consumers, types)?;
     let inputs = inputs_of(alloc, job, node)?;

@@ -6,7 +6,7 @@ use Rattle.vx_morsel.specs.Draws.{times, once_below}
 use Rattle.vx_ops.specs.Ledger.{Stream, Ledger, fresh, one_op, scan_op, OwnBlame, Abides}
 use Rattle.vx_worker.specs.Fragment.{fragment}
 use Rattle.vx_worker.specs.Trace.{failed, HasFailed}
-use Rattle.vx_exchange.specs.Tasks.{keep}
+use Rattle.vx_ends.specs.Tasks.{keep}
 use Rattle.vx_laws.specs.Samples.{large, summing, summer, FailedRun}
 use Rattle.vx_ops.specs.declared.fault.Code.TheVariants.{Overflow}
 use Rattle.vx_ops.specs.declared.fault.Fault.{Fault}

@@ -8,7 +8,7 @@ use Rattle.vx_ops.specs.declared.fault.Fault.{Fault}
 use Rattle.vx_ops.specs.declared.fault.Fault.TheVariants.{Own}
 use Rattle.vx_worker.specs.Fragment.{RunModel, goes, fragment}
 use Rattle.vx_worker.specs.Trace.{Trace, IsWell, Ends}
-use Rattle.vx_exchange.specs.Tasks.{keep}
+use Rattle.vx_ends.specs.Tasks.{keep}
 use Rattle.vx_laws.specs.RunOf.{Made}
 use Rattle.vx_laws.specs.Layout.{workers_below, FlatRun, NumberedRunDelivers}
 use Rattle.vx_laws.specs.Faults.{FailsBelow, FlatFails, NumberedFaultsAreReal}

@@ -11,9 +11,9 @@ use Rattle.vx_check_rules.specs.Claims.{Given}
 use Rattle.vx_ports.specs.Packets.{Content, last, fault, PacketView, rows_of}
 use Rattle.vx_ops.specs.Ledger.{Stream, ConsumerEnd, scan_op, one_op, two_op, receive, OwnBlame, IsFor}
 use Rattle.vx_rows.specs.Lists.{IsBeginning}
-use Rattle.vx_exchange.specs.Ship.{packet_at, packet_of}
+use Rattle.vx_ends.specs.Ship.{packet_at, packet_of}
 use Rattle.vx_worker.specs.Trace.{Trace, ReadsBegin, Fate, well, failed, HasFailed, Honest, Ends}
-use Rattle.vx_exchange.specs.Tasks.{keep, send, Task}
+use Rattle.vx_ends.specs.Tasks.{keep, send, Task}
 use Rattle.vx_laws.specs.RunOf.{ship_of, RunOf}
 use Rattle.vx_plan_nodes.specs.Numbering.{is_fit}
 use Rattle.vx_laws.specs.Faults.{FailsBelow, IsOrderFault, NoOrderFault}

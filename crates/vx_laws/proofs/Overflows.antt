@@ -16,9 +16,9 @@ use Rattle.vx_ports.specs.Packets.{fault, PacketView, rows_of, closes, is_last, 
 use Rattle.vx_worker.specs.Morsels.{morsel_of, morsels}
 use Rattle.vx_ops.specs.Ledger.{Stream, one_op, two_op, OwnBlame}
 use Rattle.vx_rows.specs.Lists.{IsBeginning}
-use Rattle.vx_exchange.specs.Ship.{Ship, packet_at, packet_of}
+use Rattle.vx_ends.specs.Ship.{Ship, packet_at, packet_of}
 use Rattle.vx_worker.specs.Trace.{Trace, scan_morsels, ReadsAre, ReadsBegin, Fate, well, failed, IsWell, HasFailed, Honest, Ends}
-use Rattle.vx_exchange.specs.Tasks.{keep, send, Task}
+use Rattle.vx_ends.specs.Tasks.{keep, send, Task}
 use Rattle.vx_laws.specs.RunOf.{ship_of, RunOf}
 use Rattle.vx_plan_nodes.specs.Numbering.{is_fit}
 use Rattle.vx_laws.specs.Faults.{IsReal, FailsBelow, OverflowIsReal}
@@ -38,7 +38,7 @@ use Rattle.vx_laws.proofs.Choose.{choose, one-more}
 use Rattle.vx_laws.proofs.Packets.{port-rows, last-closed, whole-flow}
 use Rattle.vx_laws.proofs.Decks.{dispatched-dealt}
 use Rattle.vx_laws.proofs.WellRun.{Sized, abides-makes, runs-of, dealt-lists, Produced, produced}
-use Rattle.vx_exchange.proofs.Joined.{joined-ext}
+use Rattle.vx_ends.proofs.Joined.{joined-ext}
 use Rattle.vx_laws.proofs.Shuffles.{sorted-shuffle}
 use Rattle.vx_laws.proofs.Opened.{closed-spoken}
 use Rattle.vx_plan_nodes.specs.Phases.{is_open, opens, phase_fits, spoken, Gives, is_row_of}

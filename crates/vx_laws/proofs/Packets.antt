@@ -2,7 +2,7 @@
 use Rattle.std.proofs.Common.{◌≡◌, ℕ, Bool, true, ◌||◌, List, [], ◌∷◌, ◌++◌, map, refl, sym, ap, ◌∙◌, append-nil, append_assoc, true≢false}
 use Rattle.vx_values.specs.Values.{Row}
 use Rattle.vx_ports.specs.Packets.{Content, brings, last, fault, PacketView, content_rows, rows_of, closes, is_last, is_closed, has_last, Flows}
-use Rattle.vx_exchange.specs.Ship.{Ship, packet_at, end_to_end, IsPort}
+use Rattle.vx_ends.specs.Ship.{Ship, packet_at, end_to_end, IsPort}
 
 pub rows_of-append : (ps qs : List PacketView) → rows_of (ps ++ qs) ≡ rows_of ps ++ rows_of qs
 rows_of-append [] qs = refl

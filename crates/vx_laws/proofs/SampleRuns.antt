@@ -11,7 +11,7 @@ use Rattle.vx_ops.specs.Ledger.{Stream, fresh, ConsumerEnd, IsFor}
 use Rattle.vx_ops.proofs.Strangers.{none-came}
 use Rattle.vx_worker.specs.Fragment.{fragment}
 use Rattle.vx_worker.specs.Trace.{scan_morsels, IsWell}
-use Rattle.vx_exchange.specs.Tasks.{keep, send}
+use Rattle.vx_ends.specs.Tasks.{keep, send}
 use Rattle.vx_laws.specs.RunOf.{ship_of}
 use Rattle.vx_laws.specs.Samples.{row, setting, plan, put, producer, consumer, SampleRun}
 use Rattle.vx_ops.specs.declared.fault.Over.TheVariants.{Ended}
@@ -44,7 +44,7 @@ well-producer i e = record {
   };
 }
   where
-    port : (j : ℕ) → j < 1 → Rattle.vx_exchange.specs.Ship.IsPort (ship_of setting 0 i gather scans) j (row i ∷ []) (put i j)
+    port : (j : ℕ) → j < 1 → Rattle.vx_ends.specs.Ship.IsPort (ship_of setting 0 i gather scans) j (row i ∷ []) (put i j)
     port zero l = record {
       parts = (row i ∷ []) ∷ [];
       cut = record { full = (row i ∷ []) ∷ []; rest = []; all_full = (refl, tt); at_most_one = omega arith; shorter = tt; parts_are = refl; rows_are = refl };

@@ -16,9 +16,9 @@ use Rattle.vx_ports.specs.Packets.{PacketView, rows_of, Flows}
 use Rattle.vx_worker.specs.Morsels.{morsel_of, morsels}
 use Rattle.vx_ops.specs.Ledger.{Stream}
 use Rattle.vx_rows.specs.Lists.{IsBeginning}
-use Rattle.vx_exchange.specs.Ship.{Ship, end_to_end, packet_at, IsCutPort}
+use Rattle.vx_ends.specs.Ship.{Ship, end_to_end, packet_at, IsCutPort}
 use Rattle.vx_worker.specs.Trace.{Trace, ReadsBegin, Fate, well, failed, Honest, Ends}
-use Rattle.vx_exchange.specs.Tasks.{send}
+use Rattle.vx_ends.specs.Tasks.{send}
 use Rattle.vx_laws.specs.RunOf.{ship_of, RunOf}
 use Rattle.vx_plan_nodes.specs.Numbering.{is_fit}
 use Rattle.vx_laws.proofs.Bags.{and-left, and-right, and-both, against, against-none, none-against, Dealt-total, across-ext, across-zero}

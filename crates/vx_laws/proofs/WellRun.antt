@@ -10,13 +10,13 @@ use Rattle.vx_plan_nodes.specs.Runs.{Runs, is_concat}
 use Rattle.vx_ports.specs.Packets.{PacketView, rows_of, Flows}
 use Rattle.vx_worker.specs.Morsels.{morsel_of, morsels}
 use Rattle.vx_ops.specs.Ledger.{Stream, scan_op, one_op, two_op, receive, Makes}
-use Rattle.vx_exchange.specs.Ship.{IsPort}
+use Rattle.vx_ends.specs.Ship.{IsPort}
 use Rattle.vx_worker.specs.Trace.{Trace, scan_morsels, IsWell}
-use Rattle.vx_exchange.specs.Tasks.{keep, send}
+use Rattle.vx_ends.specs.Tasks.{keep, send}
 use Rattle.vx_laws.specs.RunOf.{ship_of, RunOf, Made, WellRuns, WellRunGives, WellRunDelivers}
 use Rattle.vx_plan_nodes.specs.Numbering.{is_fit}
 use Rattle.vx_ops.specs.declared.fault.Over.TheVariants.{Ended}
-use Rattle.vx_exchange.proofs.Joined.{joined-ext}
+use Rattle.vx_ends.proofs.Joined.{joined-ext}
 use Rattle.vx_laws.proofs.Settings.{set-given}
 use Rattle.vx_laws.proofs.Bags.{and-left, and-right}
 use Rattle.vx_laws.proofs.Parts.{some-workers, size_eq-is, one-worker}
@@ -53,7 +53,7 @@ abides-makes S w (exchange n c k merge p) r out h e =
     let P : Stream → Type 0 = λ s. Makes (receive (record { exchange = n; place = w; producers = workers S.sizes (size p); types = Rattle.vx_plan_nodes.specs.Types.types_of S.catalog p; merge = merge; in_order = is_concat k })) h.0 s.rows in
     (h.0, h.1, t.0, subst P h.3 t.1)
 
-pub well-made : (S : RunModel) (w : ℕ) (p : Plan) (task : Rattle.vx_exchange.specs.Tasks.Task) (t : Trace) → (h : IsWell S (fragment S w p) task t) → Made S (fragment S w p) t h.out.rows
+pub well-made : (S : RunModel) (w : ℕ) (p : Plan) (task : Rattle.vx_ends.specs.Tasks.Task) (t : Trace) → (h : IsWell S (fragment S w p) task t) → Made S (fragment S w p) t h.out.rows
 well-made S w p task t h = record { reads = h.reads; reads_are = h.reads_are; makes = abides-makes S w p h.reads h.out h.abides h.ended }
 
 pub dealt-lists : (n : ℕ) (xs : List Row) (f g : Streams) → ((i : ℕ) → i < n → f i ≡ g i) → Dealt n xs f → Dealt n xs g

@@ -10,7 +10,7 @@ use Rattle.vx_plan_nodes.specs.Streams.{workers}
 use Rattle.vx_check_rules.specs.Rules.{allowed}
 use Rattle.vx_plan_nodes.specs.Erase.{erase}
 use Rattle.vx_worker.specs.Trace.{Trace, failed, Ends}
-use Rattle.vx_exchange.specs.Tasks.{keep}
+use Rattle.vx_ends.specs.Tasks.{keep}
 use Rattle.vx_laws.specs.RunOf.{RunOf}
 use Rattle.vx_plan_nodes.specs.Numbering.{is_fit}
 use Rattle.vx_ops.specs.declared.fault.Code.TheVariants.{Overflow, Unsorted, Stranger}

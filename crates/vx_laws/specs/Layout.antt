@@ -7,7 +7,7 @@ use Rattle.vx_check_rules.specs.Rules.{root_allowed, allowed}
 use Rattle.vx_check_rules.specs.Claims.{Delivers}
 use Rattle.vx_worker.specs.Fragment.{goes, IsSet, RunModel, fragment}
 use Rattle.vx_worker.specs.Trace.{Trace, IsWell, Ends}
-use Rattle.vx_exchange.specs.Tasks.{keep, send}
+use Rattle.vx_ends.specs.Tasks.{keep, send}
 use Rattle.vx_plan_nodes.specs.Plan.{target, Plan, scan, unary, binary, exchange, size}
 use Rattle.vx_relations.specs.Relation.{Relation}
 use Rattle.vx_plan_nodes.specs.Streams.{workers}

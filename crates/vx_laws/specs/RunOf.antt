@@ -10,9 +10,9 @@ use Rattle.vx_check_rules.specs.Rules.{allowed, root_allowed}
 use Rattle.vx_check_rules.specs.Claims.{Delivers}
 use Rattle.vx_ports.specs.Packets.{Flows}
 use Rattle.vx_worker.specs.Morsels.{Dispatched, morsel_count}
-use Rattle.vx_exchange.specs.Ship.{Ship}
+use Rattle.vx_ends.specs.Ship.{Ship}
 use Rattle.vx_worker.specs.Trace.{Trace, IsWell, ReadsAre}
-use Rattle.vx_exchange.specs.Tasks.{keep, send, Task}
+use Rattle.vx_ends.specs.Tasks.{keep, send, Task}
 use Rattle.vx_plan_nodes.specs.Numbering.{is_fit}
 use Rattle.vx_plan_nodes.specs.Phases.{is_open}
 

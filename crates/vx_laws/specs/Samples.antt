@@ -6,7 +6,7 @@ use Rattle.vx_plan_nodes.specs.Plan.{one_worker, group_of, one, any, sum, group,
 use Rattle.vx_ports.specs.Packets.{brings, last, PacketView}
 use Rattle.vx_worker.specs.Fragment.{RunModel, fragment}
 use Rattle.vx_worker.specs.Trace.{Trace, IsWell, failed, Ends}
-use Rattle.vx_exchange.specs.Tasks.{keep}
+use Rattle.vx_ends.specs.Tasks.{keep}
 use Rattle.vx_ops.specs.declared.fault.Code.TheVariants.{Overflow}
 use Rattle.vx_ops.specs.declared.fault.Fault.TheVariants.{Own}
 use Rattle.vx_laws.specs.RunOf.{RunOf}

@@ -9,7 +9,7 @@ use Rattle.vx_plan_nodes.specs.Erase.{erase}
 use Rattle.vx_plan_nodes.specs.Routes.{range_consumer}
 use Rattle.vx_plan_nodes.specs.Typed.{typed, is_range}
 use Rattle.vx_plan_nodes.specs.Numbering.{nodes}
-use Rattle.vx_exchange.specs.Rounds.{in_turn}
+use Rattle.vx_ends.specs.Rounds.{in_turn}
 use Rattle.vx_worker.specs.Morsels.{morsel_count, morsel_of}
 use Rattle.vx_check_rules.specs.Rules.{allowed, root_allowed}
 use Rattle.vx_check_rules.specs.Refusal.{size_mismatch, root_not_one, part_not_shown, inputs_not_matched, replicated_input, order_not_shown, order_needed, key_not_shown, total_not_shown, refusal}

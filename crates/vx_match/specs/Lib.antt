@@ -1,3 +1,5 @@
+pub mod FirstRows
+pub mod Distinct
 pub mod HashJoining
 pub mod HashJoin
 pub mod KeyedGroups

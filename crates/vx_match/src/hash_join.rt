@@ -2,9 +2,9 @@
 
 ghost use Rattle.std.specs.Prelude.{◌≡◌, ℕ, List, length, map, IfOk};
 
-use crate::pairs;
 use std::alloc::{AllocError, Global};
 use std::marker::Model;
+use vx_algebra::{left_columns, right_columns};
 use vx_keys::Build;
 use vx_ops::{ProbeKernel, Probing};
 use vx_rows::ColType;
@@ -64,8 +64,8 @@ impl HashJoining {
         ensures op { IfOk result (λ s. hash_join_op s ≡ two_op node (join false on.items)) }
         ensures types { IfOk result (λ s. hash_join_types s ≡ record { left = left.now; right = right.now; out = left.now ++ right.now }) }
     {
-        let left_columns = pairs::left_columns(alloc, on.as_slice())?;
-        let right_columns = pairs::right_columns(alloc, on.as_slice())?;
+        let left_columns = left_columns(alloc, on.as_slice())?;
+        let right_columns = right_columns(alloc, on.as_slice())?;
         let left = Vec::from_slice(alloc, left)?;
         let read = Rows::new(alloc, right)?;
         let build = Build::of(alloc, &read, right_columns)?;
@@ -104,7 +104,7 @@ impl ProbeKernel for HashJoining {
     }
 
     fn finish_build(&mut self) -> Result<(), AllocError> {
-        let columns = pairs::right_columns(self.alloc, self.on.as_slice())?;
+        let columns = right_columns(self.alloc, self.on.as_slice())?;
         self.build = Build::of(self.alloc, &self.read, columns)?;
         self.read.clear();
         Ok(())

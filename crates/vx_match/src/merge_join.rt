@@ -3,8 +3,8 @@
 ghost use Rattle.std.specs.Prelude.{◌≡◌};
 ghost use Rattle.vx_match.specs.MergeJoin.{fault_of};
 
-use crate::pairs::{left_columns, right_columns};
 use std::alloc::{AllocError, Global};
+use vx_algebra::{left_columns, right_columns};
 use vx_keys::{Merge, MergeFault, MergeNeed};
 use vx_ops::{Code, Fault, Got, Over, Polled, Source, Want};
 use vx_rows::ColType;

@@ -9,8 +9,6 @@ pub mod Stepping
 pub mod Select
 pub mod Projection
 pub mod Project
-pub mod FirstRows
-pub mod Distinct
 pub mod CollectingKernel
 pub mod Collecting
 pub mod Sorting

@@ -3,7 +3,6 @@
 
 mod collecting;
 mod collecting_kernel;
-mod distinct;
 pub mod fault;
 pub mod laws;
 mod probe_kernel;
@@ -20,7 +19,6 @@ mod union;
 
 pub use collecting::Collecting;
 pub use collecting_kernel::{CollectingKernel, FinishFault};
-pub use distinct::{Distinct, FirstRows};
 pub use fault::{Code, Fault, Over};
 pub use probe_kernel::ProbeKernel;
 pub use probing::Probing;

@@ -15,20 +15,13 @@ ghost use Rattle.vx_serial.specs.Results.{IsFaultAt};
 
 use crate::fault::EvalFault;
 use std::alloc::{AllocError, Global};
-use vx_algebra::{chosen, sorted_chunks};
+use vx_algebra::{chosen, kept_columns, left_columns, right_columns, sorted_chunks};
 use vx_keys::{GroupFault, Seen, grouped, hash_join};
-use vx_plan_nodes::{Aggregate, Binary, Projected, Unary};
+use vx_plan_nodes::{Aggregate, Binary, Unary};
 use vx_views::Rows;
 
 // The most rows of one grouping.
 const MAX_GROUPED: usize = 1 << 62;
-
-// The columns that are kept, without their names.
-fn columns_of(alloc: Global, kept: &[Projected]) -> Result<Vec<usize>, AllocError>
-    ensures { IfOk result (λ v. v.items ≡ map (λ k. k.column) kept.now) }
-{
-    kept.iter().map(|kept| kept.column).collect(alloc)
-}
 
 // The rows with these columns alone, each once, in order of first occurrence.
 fn distinct(alloc: Global, rows: &Rows, columns: &[usize]) -> Result<Rows, AllocError>
@@ -75,11 +68,11 @@ pub fn unary_rows(alloc: Global, number: u32, unary: &Unary, rows: &Rows) -> Res
     match unary {
         Unary::Select(conditions) => Ok(chosen(alloc, conditions.as_slice(), rows)?),
         Unary::Project(kept) => {
-            let columns = columns_of(alloc, kept.as_slice())?;
+            let columns = kept_columns(alloc, kept.as_slice())?;
             Ok(rows.project(alloc, columns.as_slice())?)
         }
         Unary::Distinct(kept) => {
-            let columns = columns_of(alloc, kept.as_slice())?;
+            let columns = kept_columns(alloc, kept.as_slice())?;
             Ok(distinct(alloc, rows, columns.as_slice())?)
         }
         Unary::Sort(columns) => Ok(sorted_chunks(alloc, rows, columns.as_slice())?),
@@ -87,20 +80,6 @@ pub fn unary_rows(alloc: Global, number: u32, unary: &Unary, rows: &Rows) -> Res
             groups_of(alloc, number, rows, by.as_slice(), aggregates.as_slice())
         }
     }
-}
-
-// The left columns of pairs.
-fn left_columns(alloc: Global, on: &[(usize, usize)]) -> Result<Vec<usize>, AllocError>
-    ensures { IfOk result (λ v. v.items ≡ map (λ p. p.0) on.now) }
-{
-    on.iter().map(|pair| pair.0).collect(alloc)
-}
-
-// The right columns of pairs.
-fn right_columns(alloc: Global, on: &[(usize, usize)]) -> Result<Vec<usize>, AllocError>
-    ensures { IfOk result (λ v. v.items ≡ map (λ p. p.1) on.now) }
-{
-    on.iter().map(|pair| pair.1).collect(alloc)
 }
 
 // The left rows joined with the right rows that agree with them on these pairs of columns.

@@ -1,3 +1,2 @@
 pub mod FindFacts
 pub mod NumberFacts
-pub mod KindFacts

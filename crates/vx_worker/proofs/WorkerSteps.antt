@@ -13,8 +13,8 @@ use Rattle.vx_ops.specs.declared.turn.Want.{Want}
 use Rattle.vx_ops.specs.declared.turn.Got.{Got}
 use Rattle.vx_ops.specs.declared.turn.Polled.{Polled}
 use Rattle.vx_ops.specs.declared.turn.Polled.TheVariants as polled
-use Rattle.vx_exchange.specs.Tasks.{Task, Post, post_types, Finished, BeganSending, IsAt}
-use Rattle.vx_exchange.proofs.Parts.{begun-without-last, fault-stops}
+use Rattle.vx_ends.specs.Tasks.{Task, Post, post_types, Finished, BeganSending, IsAt}
+use Rattle.vx_ends.proofs.Parts.{begun-without-last, fault-stops}
 use Rattle.vx_worker.specs.Fragment.{Frag, Reads, FragAbides}
 use Rattle.vx_worker.specs.Trace.{Event, idle, drew_one, took_one, put_one, Trace, added, empty_trace, ReadsBeginOf, IsNoMemory, IsWellBy, HasFailedBy}
 use Rattle.vx_worker.specs.Trees.{shape, TreeStands}
@@ -52,7 +52,7 @@ failed-later m goes f task x t e is h = record {
   out = h.out;
   abides = h.abides;
   why = h.why;
-  stopped = subst (λ put. Rattle.vx_exchange.specs.Tasks.Stopped goes task h.out.rows put) (sym (take-same t e is)) h.stopped;
+  stopped = subst (λ put. Rattle.vx_ends.specs.Tasks.Stopped goes task h.out.rows put) (sym (take-same t e is)) h.stopped;
 }
 
 -- only the packets put are seen from another trace with the same draws and takes
@@ -64,7 +64,7 @@ failed-same m goes f task x t put e h = record {
   out = h.out;
   abides = h.abides;
   why = h.why;
-  stopped = subst (λ sent. Rattle.vx_exchange.specs.Tasks.Stopped goes task h.out.rows sent) e h.stopped;
+  stopped = subst (λ sent. Rattle.vx_ends.specs.Tasks.Stopped goes task h.out.rows sent) e h.stopped;
 }
 
 -- it holds packets that close, and nothing else

@@ -7,5 +7,3 @@ pub mod Wiring
 pub mod Wishes
 pub mod Worker
 pub mod Answering
-pub mod Operator
-pub mod Destination

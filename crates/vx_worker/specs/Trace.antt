@@ -8,7 +8,7 @@ use Rattle.vx_worker.specs.Morsels.{morsel_of, morsels}
 use Rattle.vx_ops.specs.Ledger.{Stream}
 use Rattle.vx_ops.specs.Turn.{with_packet}
 use Rattle.vx_rows.specs.Lists.{IsBeginning}
-use Rattle.vx_exchange.specs.Tasks.{Task, Finished, Stopped}
+use Rattle.vx_ends.specs.Tasks.{Task, Finished, Stopped}
 use Rattle.vx_worker.specs.Fragment.{RunModel, goes, Frag, Reads, FragAbides}
 use Rattle.vx_ops.specs.declared.fault.Code.TheVariants.{NoMemory}
 use Rattle.vx_ops.specs.declared.fault.Fault.{Fault}

@@ -9,8 +9,8 @@ use Rattle.vx_ports.specs.Packets.{fault, PacketView, closes}
 use Rattle.vx_ops.specs.Ledger.{Stream, Ledger, Op}
 use Rattle.vx_ops.specs.Turn.{Shape, with_packet}
 use Rattle.vx_ops.specs.declared.fault.Over.TheVariants as over
-use Rattle.vx_exchange.specs.Ship.{packet_of}
-use Rattle.vx_exchange.specs.Tasks.{Task, Post, sends_by_ship, keeps, post_types}
+use Rattle.vx_ends.specs.Ship.{packet_of}
+use Rattle.vx_ends.specs.Tasks.{Task, Post, sends_by_ship, keeps, post_types}
 use Rattle.vx_worker.specs.Fragment.{Frag, Reads}
 use Rattle.vx_worker.specs.Trace.{Trace, ReadsAreOf, IsWellBy, HasFailedBy, HonestBy, Fate, well, failed}
 use Rattle.vx_worker.specs.Trees.{shape, TreeStands}

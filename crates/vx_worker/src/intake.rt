@@ -3,7 +3,7 @@
 use crate::wires::{Morsels, Wires};
 use crate::wish::Wish;
 use std::alloc::{AllocError, Global};
-use vx_exchange::{MayEnd, next_open};
+use vx_ends::{MayEnd, next_open};
 use vx_ops::{Got, Polled};
 use vx_ports::Packet;
 

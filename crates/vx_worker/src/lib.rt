@@ -1,17 +1,13 @@
 //! Workers: the operators of a fragment at one place.
 #![tactic(auto)]
 
-mod destination;
 mod intake;
-mod operator;
 pub mod tree;
 mod wires;
 mod wish;
 mod worker;
 
-pub use destination::Destination;
 pub use intake::ExchangeInput;
-pub use operator::Operator;
 pub use tree::Tree;
 pub use wires::{Morsels, Wires};
 pub use wish::Wish;

@@ -1,5 +1,4 @@
 use Rattle.std.proofs.Common.{◌<◌, ◌≡◌, [], length, arith}
-use Rattle.vx_exchange.specs.Lanes.{SameLanes}
 use Rattle.vx_exchange.proofs.LaneLists.{same-refl, same-along, same-set, same-count, below-set, all-from_lanes}
 use Rattle.std.proofs.lemmas.Option.{slice_get_within}
 use Rattle.vx_exchange.proofs.lanes.clear_lanes.Goals as goal

@@ -1,7 +1,7 @@
 use Rattle.std.proofs.Common.{◌<◌, ◌≡◌, ◌∙◌, ap, List, true, length, sym, subst, arith, Some, slice_get}
 use Rattle.std.proofs.lemmas.Option.{slice_get_within}
 use Rattle.vx_exchange.specs.LaneView.{LaneView}
-use Rattle.vx_exchange.proofs.LaneLists.{unchanged, read-at, below-set, all-from_lanes}
+use Rattle.vx_exchange.proofs.LaneLists.{unchanged, below-set, all-from_lanes}
 use Rattle.vx_exchange.proofs.lanes.close_next.Goals as goal
 
 pub loop-consumer-preserved : goal.loop-consumer-preserved

@@ -1,4 +1,4 @@
-use Rattle.std.proofs.Common.{rules, ◌<◌, ◌≡◌, ◌∙◌, length, sym, false, arith}
+use Rattle.std.proofs.Common.{◌<◌, ◌≡◌, ◌∙◌, length, sym, false, arith}
 use Rattle.std.proofs.lemmas.Option.{slice_get_within}
 use Rattle.vx_exchange.proofs.LaneLists.{finish-none, finish-more, same-count, same-along, same-set, all-lanes, read-at}
 use Rattle.vx_exchange.proofs.lanes.finish_lanes.Goals as goal

@@ -1,4 +1,4 @@
-use Rattle.std.proofs.Common.{◌≡◌, ◌≤◌, ◌+◌, ℕ, List, ap, ◌∙◌, subst, sym, arith}
+use Rattle.std.proofs.Common.{◌+◌, ℕ, List, subst, sym}
 use Rattle.vx_exchange.specs.LaneView.{Way, LaneView}
 use Rattle.vx_exchange.specs.Lanes.{AreFresh}
 use Rattle.vx_exchange.proofs.LaneLists.{fresh-none, fresh-push}

@@ -1,4 +1,3 @@
-use Rattle.std.proofs.Common.{◌≡◌}
 use Rattle.vx_exchange.specs.Lanes.{AreFresh}
 use Rattle.vx_exchange.proofs.lanes.make_lanes.Given as goal
 

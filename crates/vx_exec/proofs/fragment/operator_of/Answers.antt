@@ -1,47 +1,38 @@
-use Rattle.std.proofs.Common.{◌≡◌, IfOk, ap, subst, sym, ◌∙◌, true}
+use Rattle.std.specs.Prelude.{IfOk}
+use Rattle.std.proofs.Common.{◌≡◌, ap, subst, sym, ◌∙◌, true}
 use Rattle.vx_plan_nodes.specs.Outline.{plan_of, claim_of, kind_of, size_of}
 use Rattle.vx_plan_nodes.specs.Plan.{size}
 use Rattle.vx_plan_nodes.specs.Streams.{workers}
 use Rattle.vx_plan_nodes.specs.Types.{types_of}
 use Rattle.vx_check_rules.specs.Checked.{relations}
-use Rattle.vx_worker.specs.declared.operator.Operator.TheVariants as operator
+use Rattle.vx_operators.specs.declared.operator.Operator.TheVariants as operator
 use Rattle.vx_setup.specs.Runnable.{can_run}
 use Rattle.vx_exec.specs.Crew.{IsOperatorOf}
 use Rattle.vx_exec.specs.Sizes.{group_at}
-use Rattle.vx_exec.proofs.Fragments.{scan-operator, receiver-operator}
+use Rattle.vx_exec.proofs.Fragments.{scan-operator, consumer-made}
 use Rattle.vx_exec.proofs.fragment.operator_of.Goals as goal
 
-pub returns-in-Scan : goal.returns-in-Scan
-returns-in-Scan c =
+pub returns-in_ok-types-in-Scan : goal.returns-in_ok-types-in-Scan
+returns-in_ok-types-in-Scan c =
     let j = c.args.job.now in
-    let types = c.in_ok-types.types.items in
-    let given : types ≡ types_of (relations j.plan.now) (plan_of c.args.node.now) = c.in_ok-types.ensures.items ∙ c.output_types.ensures (relations j.plan.now) c.requires.outputs in
+    let types = c.in_ok-types-in-Scan.types.items in
+    let given : types ≡ types_of (relations j.plan.now) (plan_of c.args.node.now) = c.in_ok-types-in-Scan.ensures.items ∙ c.output_types.ensures (relations j.plan.now) c.requires.outputs in
     let h = c.in-Scan.field-0 in
     let s = c.in-Scan.field-1 in
     subst (λ z. IsOperatorOf j c.args.place (plan_of z) (operator.Scan c.new.result)) (sym c.in-Scan.is)
     (scan-operator j c.args.place h.number (claim_of h.claim) s.relation s.shared (size_of s.size) c.new.result types c.new.ensures.stands c.new.ensures.types
     (subst (λ z. types ≡ types_of (relations j.plan.now) (plan_of z)) c.in-Scan.is given))
 
-pub returns-in-Unary : goal.returns-in-Unary
-returns-in-Unary c =
+pub returns-in_ok-types-in-Exchange : goal.returns-in_ok-types-in-Exchange
+returns-in_ok-types-in-Exchange c =
     let j = c.args.job.now in
-    let types = c.in_ok-types.types.items in
-    let given : types ≡ types_of (relations j.plan.now) (plan_of c.args.node.now) = c.in_ok-types.ensures.items ∙ c.output_types.ensures (relations j.plan.now) c.requires.outputs in
-    let h = c.in-Unary.head in
-    let p = plan_of c.in-Unary.field-2.value in
-    subst (λ z. IfOk c.unary_operator.result (IsOperatorOf j c.args.place (plan_of z))) (sym c.in-Unary.is)
-    (c.unary_operator.ensures j c.args.place (claim_of h.claim) p (subst (λ z. types ≡ types_of (relations j.plan.now) (plan_of z)) c.in-Unary.is given))
-
-pub returns-in_ok-receiver-in-Exchange : goal.returns-in_ok-receiver-in-Exchange
-returns-in_ok-receiver-in-Exchange c =
-    let j = c.args.job.now in
-    let types = c.in_ok-types.types.items in
-    let given : types ≡ types_of (relations j.plan.now) (plan_of c.args.node.now) = c.in_ok-types.ensures.items ∙ c.output_types.ensures (relations j.plan.now) c.requires.outputs in
+    let types = c.in_ok-types-in-Exchange.types.items in
+    let given : types ≡ types_of (relations j.plan.now) (plan_of c.args.node.now) = c.in_ok-types-in-Exchange.ensures.items ∙ c.output_types-in-Exchange.ensures (relations j.plan.now) c.requires.outputs in
     let h = c.in-Exchange.head in
-    let x = c.in-Exchange.field-1 in
-    subst (λ z. IsOperatorOf j c.args.place (plan_of z) (operator.Receiver c.in_ok-receiver-in-Exchange.receiver)) (sym c.in-Exchange.is)
-    (receiver-operator j c.args.place h.number (claim_of h.claim) (kind_of x.kind) x.merge.items (plan_of c.in-Exchange.input.value) c.in_ok-receiver-in-Exchange.receiver types
-    c.workers-producers.result (subst (λ z. can_run (plan_of z) ≡ true) c.in-Exchange.is c.requires.runs)
-    c.in_ok-receiver-in-Exchange.ensures.stands c.in_ok-receiver-in-Exchange.ensures.op c.in_ok-receiver-in-Exchange.ensures.types
-    (c.workers-producers.ensures.value ∙ ap (λ z. workers (group_at j.groups.items) z) c.size.ensures ∙ ap (λ z. workers (group_at j.groups.items) (size (plan_of z))) c.deref.ensures)
+    let x = c.in-Exchange.exchange in
+    let made = c.consumer_operator in
+    subst (λ z. IfOk made.result (IsOperatorOf j c.args.place (plan_of z))) (sym c.in-Exchange.is)
+    (consumer-made j c.args.place h.number (claim_of h.claim) (kind_of x.kind) x.merge.items (plan_of c.in-Exchange.input.value) types c.workers-producers.result made.result
+    (subst (λ z. can_run (plan_of z) ≡ true) c.in-Exchange.is c.requires.runs) made.ensures.op made.ensures.stands made.ensures.reads made.ensures.returns
+    (c.workers-producers.ensures.value ∙ ap (λ z. workers (group_at j.groups.items) z) c.size.ensures ∙ ap (λ z. workers (group_at j.groups.items) (size (plan_of z))) c.deref-in-Exchange.ensures)
     (subst (λ z. types ≡ types_of (relations j.plan.now) (plan_of z)) c.in-Exchange.is given))

@@ -2,9 +2,9 @@ use Rattle.std.proofs.Common.{ap, ◌∙◌, map}
 use Rattle.vx_plan_nodes.specs.Outline.{plan_of}
 use Rattle.vx_check_rules.specs.Checked.{relations}
 use Rattle.vx_steps.specs.Crews.{duty_of}
-use Rattle.vx_worker.specs.Destination.{post_of}
+use Rattle.vx_operators.specs.Destination.{post_of}
 use Rattle.vx_worker.specs.Intake.{source_of}
-use Rattle.vx_worker.specs.declared.destination.Destination.TheVariants as destination
+use Rattle.vx_operators.specs.declared.destination.Destination.TheVariants as destination
 use Rattle.vx_exec.proofs.Workers.{root-does, made-new}
 use Rattle.vx_exec.proofs.worker.root_worker.Goals as goal
 

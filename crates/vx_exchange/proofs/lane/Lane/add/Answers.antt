@@ -1,6 +1,6 @@
 use Rattle.std.proofs.Common.{rules, ◌≡◌, length, [], ◌∙◌}
 use Rattle.std.proofs.lemmas.List.{nil_from_length}
-use Rattle.vx_exchange.proofs.Cuts.{cuts-none, cuts-one}
+use Rattle.vx_exchange.proofs.Cuts.{cuts-one}
 use Rattle.vx_exchange.proofs.lane.Lane.add.Goals as goal
 
 pub returns-then-len-self-clause-ok : goal.returns-then-len-self-clause-ok

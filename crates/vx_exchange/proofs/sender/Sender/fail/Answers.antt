@@ -1,5 +1,5 @@
 use Rattle.std.proofs.Common.{refl}
-use Rattle.vx_exchange.proofs.LaneLists.{same-count, numbered-same, served-same, few-same, idle-from_all}
+use Rattle.vx_exchange.proofs.LaneLists.{same-count, numbered-same, served-same, few-same, turn-same, columns-same, idle-from_all}
 use Rattle.vx_exchange.proofs.sender.Sender.fail.Goals as goal
 
 pub invariant_of-self : goal.invariant_of-self
@@ -13,5 +13,7 @@ invariant_of-self c =
       numbered = numbered-same s.deal s.deal old new refl same s.numbered;
       served = served-same s.deal old new count s.served;
       few = few-same old new 4294967296 count s.few;
+      turns = turn-same s.next old new count s.turns;
+      columns = columns-same s.deal s.deal old new refl same.ways s.columns;
       idle = λ _. idle-from_all new c.clear_lanes.ensures.idle;
     }

@@ -13,5 +13,5 @@ returns-in-Err-clause-err g c =
     let e = c.fail.ensures in
     let same = same-along s.lanes.items c.take.new.self.lanes.items t.lanes.items c.take.ensures.same e.same in
     rw (is_open.0, e.stage) (λ goes a put h f.
-    in-ship goes (sender_ship s) _ _ t.lanes.items _ put (same-ship s.deal t.deal s.lanes.items t.lanes.items (e.deal ∙ c.take.ensures.deal) same)
-    (sender-fails goes (sender_ship s) s.lanes.items t.lanes.items a put f is_open.1 same h))
+    in-ship goes (sender_ship s) _ _ t.next t.lanes.items _ put (same-ship s.deal t.deal s.lanes.items t.lanes.items (e.deal ∙ c.take.ensures.deal) same)
+    (sender-fails goes (sender_ship s) s.next t.next s.lanes.items t.lanes.items a put f is_open.1 same h))

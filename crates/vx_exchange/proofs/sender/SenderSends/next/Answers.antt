@@ -1,16 +1,15 @@
-use Rattle.std.proofs.Common.{◌≡◌, ◌∙◌, ◌&&◌, not, ℕ, List, true, Option, Some, None, refl, sym, ap, subst, length, All, []}
+use Rattle.std.proofs.Common.{◌≡◌, ◌∙◌, ◌&&◌, not, List, true, Option, Some, None, refl, sym, ap, subst, length, All, []}
 use Rattle.std.specs.Prelude.{IfNone}
 use Rattle.std.proofs.lemmas.List.{length-map}
 use Rattle.std.proofs.lemmas.Option.{IfSome_then}
 use Rattle.vx_ports.specs.Packets.{PacketView, closes, last, fault}
 use Rattle.vx_exchange.specs.LaneView.{Way, LaneView}
 use Rattle.vx_exchange.specs.Lanes.{ways_of, ship_of, may_close, AreNumbered}
-use Rattle.vx_exchange.specs.Ship.{IsShipped, IsCutShort}
+use Rattle.vx_ends.specs.Ship.{IsShipped, IsCutShort}
 use Rattle.vx_exchange.specs.Sender.{takes_more, SenderAt}
-use Rattle.vx_exchange.specs.Tasks.{sends_by_ship}
+use Rattle.vx_ends.specs.Tasks.{sends_by_ship}
 use Rattle.vx_exchange.specs.declared.sender.Stage.{Stage}
-use Rattle.vx_exchange.specs.declared.sender.Stage.TheVariants.{Ending, Failing}
-use Rattle.vx_exchange.proofs.LaneLists.{ways-count, same-count, same-any, same-ship, numbered-same, served-same, few-same, all-idle, given-same, given-idle, gives-same, gives-idle, gives-unclosed, closed-ways, closed-idle, closes-somewhere}
+use Rattle.vx_exchange.proofs.LaneLists.{ways-count, same-count, same-any, same-ship, numbered-same, served-same, few-same, turn-same, columns-same, all-idle, given-same, given-idle, gives-same, gives-idle, gives-unclosed, closed-ways, closed-idle, closes-somewhere}
 use Rattle.vx_exchange.proofs.Senders.{closes-with, open-not_failing, ending-not_failing, gives-now, closes-now, sender-shipped, sender-cut}
 use Rattle.vx_exchange.proofs.sender.SenderSends.next.Goals as goal
 
@@ -30,6 +29,8 @@ invariant_of-self c =
       numbered = numbered-same s.deal s.deal old new refl same s.numbered;
       served = served-same s.deal old new count s.served;
       few = few-same old new 4294967296 count s.few;
+      turns = turn-same s.next old new count s.turns;
+      columns = columns-same s.deal s.deal old new refl same.ways s.columns;
       idle = given-idle s.stage old new c.next_packet.result (open-not_failing s.stage c.in-Open.is) s.idle e.some e.same;
     }
 
@@ -37,7 +38,7 @@ pub returns-in-Open-clause-some : goal.returns-in-Open-clause-some
 returns-in-Open-clause-some c =
     let s = c.args.self.now in
     IfSome_then c.next_packet.result c.next_packet.ensures.some (λ x p. λ goes a g h.
-    gives-now goes s.deal s.stage s.lanes.items c.next_packet.new.lanes.items a g x.0 x.1 (open-not_failing s.stage c.in-Open.is) p h)
+    gives-now goes s.deal s.stage s.next s.lanes.items c.next_packet.new.lanes.items a g x.0 x.1 (open-not_failing s.stage c.in-Open.is) p h)
 
 pub returns-in-Open-clause-open : goal.returns-in-Open-clause-open
 returns-in-Open-clause-open c =
@@ -73,13 +74,15 @@ invariant_of-self-in-Some-1 c =
       numbered = numbered-same s.deal s.deal old new refl same s.numbered;
       served = served-same s.deal old new count s.served;
       few = few-same old new 4294967296 count s.few;
+      turns = turn-same s.next old new count s.turns;
+      columns = columns-same s.deal s.deal old new refl same.ways s.columns;
       idle = gives-idle s.stage old new _ _ (ending-not_failing s.stage c.in-Ending.is) s.idle x;
     }
 
 pub returns-in-Some-clause-some : goal.returns-in-Some-clause-some
 returns-in-Some-clause-some c = λ goes a g h.
     let s = c.args.self.now in
-    gives-now goes s.deal s.stage s.lanes.items c.next_packet-in-Ending.new.lanes.items a g _ _ (ending-not_failing s.stage c.in-Ending.is) c.in-Some.ensures.some h
+    gives-now goes s.deal s.stage s.next s.lanes.items c.next_packet-in-Ending.new.lanes.items a g _ _ (ending-not_failing s.stage c.in-Ending.is) c.in-Some.ensures.some h
 
 pub returns-in-Some-clause-closing : goal.returns-in-Some-clause-closing
 returns-in-Some-clause-closing c =
@@ -110,6 +113,8 @@ invariant_of-self-in-Ending c =
       numbered = subst N (sym (w ∙ ap ways_of k)) s.numbered;
       served = served-same s.deal old new count s.served;
       few = few-same old new 4294967296 count s.few;
+      turns = turn-same s.next old new count s.turns;
+      columns = columns-same s.deal s.deal old new refl (w ∙ ap ways_of k) s.columns;
       idle = λ _. closed-idle last mid new c.close_next.result (subst I (sym k) c.in_default.ensures.none) e.some e.same;
     }
 
@@ -122,8 +127,8 @@ returns-in-Ending-clause-some c =
     let I : List LaneView → Type 0 = λ zs. All (λ o. o.ready ≡ []) zs in
     let C : Stage → Type 0 = λ st. closes-with st last in
     IfSome_then c.close_next.result c.close_next.ensures.some (λ x p. λ goes a g h.
-    let H : List LaneView → Type 0 = λ zs. SenderAt goes (ship_of s.deal (ways_of zs)) s.stage zs a g in
-    closes-now goes s.deal s.stage last mid c.close_next.new.lanes.items a g x.0 x.1 (subst N (sym k) s.numbered) (subst I (sym k) c.in_default.ensures.none) (subst C (sym c.in-Ending.is) refl) p
+    let H : List LaneView → Type 0 = λ zs. SenderAt goes (ship_of s.deal (ways_of zs)) s.stage s.next zs a g in
+    closes-now goes s.deal s.stage s.next last mid c.close_next.new.lanes.items a g x.0 x.1 (subst N (sym k) s.numbered) (subst I (sym k) c.in_default.ensures.none) (subst C (sym c.in-Ending.is) refl) p
     (subst H (sym k) h))
 
 pub returns-in-Ending-clause-drained : goal.returns-in-Ending-clause-drained
@@ -135,8 +140,8 @@ returns-in-Ending-clause-drained c =
     let I : List LaneView → Type 0 = λ zs. All (λ o. o.closed ≡ true) zs in
     both-none c.close_next.result e.none e.same (λ closed same. λ goes a g h _.
     let D : List LaneView → Type 0 = λ zs. IsShipped goes (ship_of s.deal (ways_of zs)) a.rows g in
-    let H : Stage → Type 0 = λ st. SenderAt goes (ship_of s.deal (ways_of old)) st old a g in
-    subst D (sym (same ∙ k)) (sender-shipped goes (ship_of s.deal (ways_of old)) old a g (length-map old (λ (z : LaneView). z.way)) (subst I k closed) c.in_default.ensures.none (subst H c.in-Ending.is h)))
+    let H : Stage → Type 0 = λ st. SenderAt goes (ship_of s.deal (ways_of old)) st s.next old a g in
+    subst D (sym (same ∙ k)) (sender-shipped goes (ship_of s.deal (ways_of old)) s.next old a g (length-map old (λ (z : LaneView). z.way)) (subst I k closed) c.in_default.ensures.none (subst H c.in-Ending.is h)))
 
 pub invariant_of-self-in-Failing : goal.invariant_of-self-in-Failing
 invariant_of-self-in-Failing c =
@@ -152,6 +157,8 @@ invariant_of-self-in-Failing c =
       numbered = subst N (sym w) s.numbered;
       served = served-same s.deal old new count s.served;
       few = few-same old new 4294967296 count s.few;
+      turns = turn-same s.next old new count s.turns;
+      columns = columns-same s.deal s.deal old new refl w s.columns;
       idle = λ _. closed-idle fault old new c.close_next-in-Failing.result (all-idle old (s.idle (subst M (sym c.in-Failing.is) refl))) e.some e.same;
     }
 
@@ -162,7 +169,7 @@ returns-in-Failing-clause-some c =
     let M : Stage → Type 0 = λ st. may_close st old ≡ true in
     let C : Stage → Type 0 = λ st. closes-with st fault in
     IfSome_then c.close_next-in-Failing.result c.close_next-in-Failing.ensures.some (λ x p. λ goes a g h.
-    closes-now goes s.deal s.stage fault old c.close_next-in-Failing.new.lanes.items a g x.0 x.1 s.numbered (all-idle old (s.idle (subst M (sym c.in-Failing.is) refl))) (subst C (sym c.in-Failing.is) refl) p h)
+    closes-now goes s.deal s.stage s.next fault old c.close_next-in-Failing.new.lanes.items a g x.0 x.1 s.numbered (all-idle old (s.idle (subst M (sym c.in-Failing.is) refl))) (subst C (sym c.in-Failing.is) refl) p h)
 
 pub returns-in-Failing-clause-cut : goal.returns-in-Failing-clause-cut
 returns-in-Failing-clause-cut c =
@@ -171,8 +178,8 @@ returns-in-Failing-clause-cut c =
     let e = c.close_next-in-Failing.ensures in
     both-none c.close_next-in-Failing.result e.none e.same (λ closed same. λ goes a g h f _.
     let D : List LaneView → Type 0 = λ zs. IsCutShort goes (ship_of s.deal (ways_of zs)) a.rows g in
-    let H : Stage → Type 0 = λ st. SenderAt goes (ship_of s.deal (ways_of old)) st old a g in
-    subst D (sym same) (sender-cut goes (ship_of s.deal (ways_of old)) old a g (length-map old (λ (z : LaneView). z.way)) closed (subst H c.in-Failing.is h)))
+    let H : Stage → Type 0 = λ st. SenderAt goes (ship_of s.deal (ways_of old)) st s.next old a g in
+    subst D (sym same) (sender-cut goes (ship_of s.deal (ways_of old)) s.next old a g (length-map old (λ (z : LaneView). z.way)) closed (subst H c.in-Failing.is h)))
 
 pub returns-in-Failing-clause-closing : goal.returns-in-Failing-clause-closing
 returns-in-Failing-clause-closing c =
@@ -185,3 +192,15 @@ returns-in-Failing-clause-post c =
     let s = c.args.self.now in
     let e = c.close_next-in-Failing.ensures in
     ap sends_by_ship (ap (ship_of s.deal) (closed-ways fault s.lanes.items c.close_next-in-Failing.new.lanes.items c.close_next-in-Failing.result e.some e.same))
+
+pub returns-in-Ending-clause-closing : goal.returns-in-Ending-clause-closing
+returns-in-Ending-clause-closing c =
+    let mid = c.next_packet-in-Ending.new.lanes.items in
+    IfSome_then c.close_next.result c.close_next.ensures.some (λ x p. closes-somewhere last mid c.close_next.new.lanes.items x.0 x.1 p ∙ sym (ap (λ (z : PacketView). closes z.content) p.packet))
+
+pub returns-in-Ending-clause-post : goal.returns-in-Ending-clause-post
+returns-in-Ending-clause-post c =
+    let s = c.args.self.now in
+    let mid = c.next_packet-in-Ending.new.lanes.items in
+    let e = c.close_next.ensures in
+    ap sends_by_ship (ap (ship_of s.deal) (closed-ways last mid c.close_next.new.lanes.items c.close_next.result e.some e.same ∙ ap ways_of c.in_default.ensures.same))

@@ -1,5 +1,5 @@
 use Rattle.std.proofs.Common.{◌≡◌, ap, refl, sym, ◌∙◌, subst, true, false, rules}
-use Rattle.vx_exchange.specs.Tasks.{BeganSending, IsAt}
+use Rattle.vx_ends.specs.Tasks.{BeganSending, IsAt}
 use Rattle.vx_ops.specs.declared.fault.Over.TheVariants as over
 use Rattle.vx_ops.specs.declared.turn.Polled.TheVariants as polled
 use Rattle.vx_worker.specs.Intake.{IntakeStands}

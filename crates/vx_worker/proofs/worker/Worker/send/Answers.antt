@@ -1,5 +1,5 @@
 use Rattle.std.proofs.Common.{refl, rules, sym, ◌∙◌, subst}
-use Rattle.vx_exchange.specs.Tasks.{IsAt, BeganSending}
+use Rattle.vx_ends.specs.Tasks.{IsAt, BeganSending}
 use Rattle.vx_worker.specs.Trace.{idle}
 use Rattle.vx_worker.specs.Answering.{is_full, by_fault}
 use Rattle.vx_worker.specs.Intake.{IntakeStands}

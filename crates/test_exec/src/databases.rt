@@ -1,0 +1,82 @@
+//! What the tests of operators share: databases of two relations, and plans over them in which words stand for scans.
+
+use std::alloc::{AllocError, Global};
+use std::test::Fail;
+use vx_bytes::MemoryIn;
+use vx_catalog::{Catalog, Database, Loader};
+use vx_check::{CheckedPlan, check};
+use vx_plan::{Plan, resolve};
+
+// The relations t(id, k, v), by its key and order id, and d(k, n), by its key k.
+const CATALOG: &str =
+    r#"{"relations":[{"name":"t","columns":[{"name":"id","type":"int"},{"name":"k","type":"text"},{"name":"v","type":"int"}],"keys":[["id"]],"order":["id"]},{"name":"d","columns":[{"name":"k","type":"text"},{"name":"n","type":"int"}],"keys":[["k"]]}]}"#;
+
+/// Rows of t.
+pub const ROWS_OF_T: &str = "0,a,5\n1,b,7\n2,a,-2\n3,c,7\n";
+
+/// Rows of d.
+pub const ROWS_OF_D: &str = "a,10\nb,20\n";
+
+// What stands in a plan for a word in capitals. Many workers share the rows of t, and of those of d each has all.
+const SCANS: [(&str, &str); 3] = [
+    (
+        "T_SHARED",
+        r#"{"op":"scan","relation":"t","mode":"shared","size":"many","claim":{"part":"any","order":["id"],"keys":[["id"]]}}"#,
+    ),
+    (
+        "D_EVERYWHERE",
+        r#"{"op":"scan","relation":"d","mode":"whole","size":"many","prefix":"d.","claim":{"part":"all","keys":[["d.k"]]}}"#,
+    ),
+    (
+        "D_WHOLE",
+        r#"{"op":"scan","relation":"d","mode":"whole","size":"one","prefix":"d.","claim":{"part":"one","keys":[["d.k"]]}}"#,
+    ),
+];
+
+// The text of a plan with these members, in which each word in capitals is replaced by a scan.
+fn with_scans(alloc: Global, members: &str) -> Result<String, AllocError> {
+    let mut text = format!(in alloc; "{{\"sizes\":[\"many\"],{members}}}")?;
+    for (word, scan) in SCANS {
+        text = text.replace(alloc, word, scan)?;
+    }
+    Ok(text)
+}
+
+/// A plan with these members, in which words in capitals stand for scans, as the checker accepts it.
+pub fn plan_of(alloc: Global, members: &str) -> Result<CheckedPlan, Fail> {
+    let catalog = Catalog::read(alloc, CATALOG.as_bytes())?;
+    let plan = Plan::read(alloc, with_scans(alloc, members)?.as_bytes())?;
+    match check(resolve(alloc, &plan, &catalog)?) {
+        Ok(plan) => Ok(plan),
+        Err(_) => Err(Fail::new("the plan is accepted")),
+    }
+}
+
+// Fills a relation with the rows of a text.
+fn fill(
+    alloc: Global,
+    catalog: &Catalog,
+    database: &mut Database,
+    relation: usize,
+    text: &str,
+) -> Result<(), Fail> {
+    if relation >= catalog.len() {
+        return Err(Fail::new("the catalog has the relation"));
+    }
+    let mut reader = MemoryIn::new(text.as_bytes(), None);
+    match database.put(Loader::load(alloc, catalog, relation, &mut reader)?) {
+        Ok(()) => Ok(()),
+        Err(_) => Err(Fail::new("the rows are of this catalog")),
+    }
+}
+
+/// A database of these rows.
+pub fn database_of(alloc: Global, rows_of_t: &str, rows_of_d: &str) -> Result<Database, Fail> {
+    let catalog = Catalog::read(alloc, CATALOG.as_bytes())?;
+    let mut database = Database::empty(alloc, &catalog)?;
+    let text = format!(in alloc; "id,k,v\n{rows_of_t}")?;
+    fill(alloc, &catalog, &mut database, 0, text.as_str())?;
+    let text = format!(in alloc; "k,n\n{rows_of_d}")?;
+    fill(alloc, &catalog, &mut database, 1, text.as_str())?;
+    Ok(database)
+}

@@ -1,5 +1,0 @@
-use Rattle.vx_exchange.proofs.Parts.{begun-without-last}
-use Rattle.vx_exchange.proofs.laws.begun_stays_without_last.Goals as goal
-
-pub returns : goal.returns
-returns c = begun-without-last

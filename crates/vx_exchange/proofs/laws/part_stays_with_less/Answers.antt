@@ -1,5 +1,0 @@
-use Rattle.vx_exchange.proofs.Parts.{part-shipped-less}
-use Rattle.vx_exchange.proofs.laws.part_stays_with_less.Goals as goal
-
-pub returns : goal.returns
-returns c = part-shipped-less

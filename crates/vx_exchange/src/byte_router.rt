@@ -1,0 +1,60 @@
+//! The program's hash router.
+
+ghost use Rattle.std.specs.Prelude.{◌≡◌, map, flat_map};
+ghost use Rattle.std.specs.List.{fold};
+ghost use Rattle.std.proofs.lemmas.Nat.{mod_below};
+ghost use Rattle.vx_values.specs.ValueView.{val_of};
+ghost use Rattle.vx_exchange.specs.ByteRouter.{hash_byte, value_bytes, key_hash, byte_route};
+
+use vx_plan_nodes::Router;
+use vx_rows::Value;
+
+/// Sends a key by a hash of the route's name and of the key, over their bytes.
+#[derive(Clone, Copy)]
+pub struct ByteRouter;
+
+fn hash_byte(hash: u32, byte: u8) -> u32
+    ensures { result ≡ hash_byte hash byte }
+{
+    ((hash as u64 * 31 + byte as u64) % (1 << 32)) as u32
+}
+
+fn hash_bytes(start: u32, bytes: &[u8]) -> u32
+    ensures { result ≡ fold hash_byte start bytes.now }
+{
+    let mut hash = start;
+    for byte in bytes {
+        hash = hash_byte(hash, *byte);
+    }
+    hash
+}
+
+fn hash_value(start: u32, value: &Value) -> u32
+    ensures { result ≡ fold hash_byte start (value_bytes (val_of value.now)) }
+{
+    match value {
+        Value::Int(n) => hash_bytes(hash_byte(start, 1), &n.cast_unsigned().to_be_bytes()),
+        Value::Text(text) => hash_byte(hash_bytes(hash_byte(start, 2), text.as_bytes()), 0),
+    }
+}
+
+fn hash_key(start: u32, key: &[Value]) -> u32
+    ensures { result ≡ fold hash_byte start (flat_map value_bytes (map val_of key.now)) }
+{
+    let mut hash = start;
+    for value in key {
+        hash = hash_value(hash, value);
+    }
+    hash
+}
+
+impl Router for ByteRouter {
+    ghost route_of = { λ _. byte_route };
+
+    ghost in_range = { λ r name key n some. mod_below (key_hash name key) n some };
+
+    fn route(&self, name: &str, key: &[Value], n: u32) -> u32 {
+        let start = hash_byte(hash_bytes(7, name.as_bytes()), 0);
+        hash_key(start, key) % n
+    }
+}

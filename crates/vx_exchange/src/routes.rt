@@ -1,0 +1,113 @@
+//! The consumers of rows by their values in some columns.
+
+ghost use Rattle.std.specs.Prelude.{◌≡◌, ◌<◌, ◌++◌, ◌∷◌, [], length, map, IfOk, OnOk};
+ghost use Rattle.std.specs.List.{All};
+ghost use Rattle.vx_values.specs.Values.{pick};
+ghost use Rattle.vx_values.specs.ValueView.{val_of};
+ghost use Rattle.vx_rows.specs.View.{row, AreColumns};
+ghost use Rattle.vx_exchange.specs.Routed.{key_columns, routed_to};
+
+use crate::ranges::Ranges;
+use std::alloc::{AllocError, Global};
+use vx_plan_nodes::Router;
+use vx_rows::Value;
+use vx_views::{Chunk, Rows};
+
+/// How the consumer of a row follows from its values in some columns.
+#[derive(Drop)]
+pub enum KeyRoute {
+    /// By the hash route of this name, from the values in these columns.
+    Hash(String, Vec<usize>),
+    /// By the declared range with this number, which has these bounds, from the value in this column.
+    Range(usize, Ranges, usize),
+}
+
+// Makes a key the values of a row in some columns.
+fn set_key(
+    alloc: Global,
+    key: &mut Vec<Value>,
+    chunk: &Chunk,
+    i: usize,
+    columns: &[usize],
+) -> Result<(), AllocError>
+    requires row { i < length chunk.now.rows }
+    requires columns { AreColumns (length chunk.now.types) columns.now }
+    ensures { OnOk result (map val_of key.new.items ≡ pick columns.now (row chunk.now i)) }
+{
+    key.clear();
+    for c in 0..columns.len() {
+        let value = chunk.cell(i, columns[c]).to_value(alloc)?;
+        key.push(value)?;
+    }
+    Ok(())
+}
+
+impl KeyRoute {
+    // The consumer of a row among n. The key is room for the values of a row, whatever stands there.
+    fn consumer_of<R: Router>(
+        &self,
+        alloc: Global,
+        router: &R,
+        chunk: &Chunk,
+        i: usize,
+        n: u32,
+        key: &mut Vec<Value>,
+    ) -> Result<u32, AllocError>
+        requires some { 0 < n }
+        requires row { i < length chunk.now.rows }
+        requires columns { AreColumns (length chunk.now.types) (key_columns self.now) }
+        ensures { IfOk result (λ k. k ≡ routed_to (R.route_of router.now) self.now n (row chunk.now i)) }
+    {
+        match self {
+            KeyRoute::Hash(name, columns) => {
+                set_key(alloc, key, chunk, i, columns.as_slice())?;
+                return Ok(router.route(name.as_str(), key.as_slice(), n));
+            }
+            KeyRoute::Range(_, ranges, column) => {
+                return Ok(ranges.consumer(chunk.cell(i, *column), n));
+            }
+        }
+    }
+
+    // Adds the consumers of the rows of a chunk.
+    fn push_consumers<R: Router>(
+        &self,
+        alloc: Global,
+        router: &R,
+        chunk: &Chunk,
+        n: u32,
+        key: &mut Vec<Value>,
+        found: &mut Vec<u32>,
+    ) -> Result<(), AllocError>
+        requires some { 0 < n }
+        requires columns { AreColumns (length chunk.now.types) (key_columns self.now) }
+        ensures { OnOk result (found.new.items ≡ found.old.items ++ map (routed_to (R.route_of router.now) self.now n) chunk.now.rows) }
+    {
+        for i in 0..chunk.len() {
+            let consumer = self.consumer_of(alloc, router, chunk, i, n, key)?;
+            found.push(consumer)?;
+        }
+        Ok(())
+    }
+}
+
+/// The consumer of each row among n.
+pub fn consumers_of<R: Router>(
+    alloc: Global,
+    route: &KeyRoute,
+    router: &R,
+    rows: &Rows,
+    n: u32,
+) -> Result<Vec<u32>, AllocError>
+    requires some { 0 < n }
+    requires columns { AreColumns (length rows.now.types) (key_columns route.now) }
+    ensures { IfOk result (λ v. v.items ≡ map (routed_to (R.route_of router.now) route.now n) rows.now.rows) }
+{
+    let mut found = Vec::with_capacity(alloc, rows.len())?;
+    let mut key = Vec::new(alloc);
+    let chunks = rows.chunks();
+    for i in 0..chunks.len() {
+        route.push_consumers(alloc, router, &chunks[i], n, &mut key, &mut found)?;
+    }
+    Ok(found)
+}

@@ -1,0 +1,2 @@
+pub mod Operator
+pub mod Destination

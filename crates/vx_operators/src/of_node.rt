@@ -1,0 +1,128 @@
+//! The operators of the nodes of a plan.
+
+ghost use Rattle.std.specs.Prelude.{◌≡◌, ◌≤◌, [], true, IfOk};
+ghost use Rattle.vx_plan_nodes.specs.Outline.{unary_of, binary_of, kind_of};
+ghost use Rattle.vx_plan_nodes.specs.Runs.{is_concat};
+ghost use Rattle.vx_plan_nodes.specs.Typed.{is_unary, is_binary};
+ghost use Rattle.vx_plan_nodes.specs.Types.{unary_types, binary_types};
+ghost use Rattle.vx_ops.specs.Ledger.{one_op, two_op, receive};
+ghost use Rattle.vx_ops.specs.Turn.{fresh_ledger};
+ghost use Rattle.vx_operators.specs.Operator.{OperatorStands, operator_op, operator_types};
+
+use crate::operator::Operator;
+use std::alloc::{AllocError, Global};
+use vx_algebra::kept_columns;
+use vx_exchange::Receiver;
+use vx_match::{FirstRows, HashJoining, KeyedGroups, MergeJoin};
+use vx_ops::{Project, Select, Sort, Union};
+use vx_plan_nodes::{Binary, ExchangeKind, Unary, copied_conditions};
+use vx_receivers::InOrderReceiver;
+use vx_rows::ColType;
+
+/// The operator over one input of rows of these types, at the node with this number, to which nothing came.
+pub fn unary_operator(
+    alloc: Global,
+    number: u32,
+    unary: &Unary,
+    input: &[ColType],
+) -> Result<Operator, AllocError>
+    requires { is_unary input.now (unary_of unary.now) ≡ true }
+    ensures op { IfOk result (λ o. operator_op o ≡ one_op number (unary_of unary.now)) }
+    ensures stands { IfOk result (λ o. OperatorStands o fresh_ledger) }
+    ensures reads { IfOk result (λ o. (operator_types o).left ≡ input.now) }
+    ensures returns { IfOk result (λ o. (operator_types o).out ≡ unary_types (unary_of unary.now) input.now) }
+{
+    match unary {
+        Unary::Select(conditions) => {
+            let copies = copied_conditions(alloc, conditions.as_slice())?;
+            let types = Vec::from_slice(alloc, input)?;
+            Ok(Operator::Select(Select::new(alloc, number, copies, types)))
+        }
+        Unary::Project(kept) => {
+            let columns = kept_columns(alloc, kept.as_slice())?;
+            let project = Project::new(alloc, number, columns, input)?;
+            Ok(Operator::Project(project))
+        }
+        Unary::Distinct(kept) => {
+            let columns = kept_columns(alloc, kept.as_slice())?;
+            let distinct = FirstRows::source(alloc, number, columns, input)?;
+            Ok(Operator::Distinct(distinct))
+        }
+        Unary::Sort(columns) => {
+            let columns = Vec::from_slice(alloc, columns.as_slice())?;
+            let sort = Sort::new(alloc, number, columns, input)?;
+            Ok(Operator::Sort(sort))
+        }
+        Unary::Group(phase, by, aggregates) => {
+            let by = by.as_slice();
+            let aggregates = aggregates.as_slice();
+            let group = KeyedGroups::source(alloc, number, *phase, by, aggregates, input)?;
+            Ok(Operator::Group(group))
+        }
+    }
+}
+
+/// The operator over two inputs of rows of these types, at the node with this number, to which nothing came.
+pub fn binary_operator(
+    alloc: Global,
+    number: u32,
+    binary: &Binary,
+    left: &[ColType],
+    right: &[ColType],
+) -> Result<Operator, AllocError>
+    requires { is_binary left.now right.now (binary_of binary.now) ≡ true }
+    ensures op { IfOk result (λ o. operator_op o ≡ two_op number (binary_of binary.now)) }
+    ensures stands { IfOk result (λ o. OperatorStands o fresh_ledger) }
+    ensures left { IfOk result (λ o. (operator_types o).left ≡ left.now) }
+    ensures right { IfOk result (λ o. (operator_types o).right ≡ right.now) }
+    ensures returns { IfOk result (λ o. (operator_types o).out ≡ binary_types (binary_of binary.now) left.now right.now) }
+{
+    match binary {
+        Binary::Union => {
+            let types = Vec::from_slice(alloc, left)?;
+            Ok(Operator::Union(Union::new(number, types)))
+        }
+        Binary::HashJoin(on) => {
+            let on = Vec::from_slice(alloc, on.as_slice())?;
+            let join = HashJoining::source(alloc, number, on, left, right)?;
+            Ok(Operator::HashJoin(join))
+        }
+        Binary::MergeJoin(on) => {
+            let join = MergeJoin::new(alloc, number, on.as_slice(), left, right)?;
+            Ok(Operator::MergeJoin(join))
+        }
+    }
+}
+
+// Whether an exchange takes its producers in the order of their numbers.
+fn is_concat(kind: &ExchangeKind) -> bool
+    ensures { result ≡ is_concat (kind_of kind.now) }
+{
+    matches!(kind, ExchangeKind::Concat)
+}
+
+/// The consumer end, at a place, of an exchange of this kind that does not merge, by its node number, for so many producers of rows of these
+/// types, to which nothing came.
+pub fn consumer_operator(
+    alloc: Global,
+    number: u32,
+    kind: &ExchangeKind,
+    place: u32,
+    producers: u32,
+    types: Vec<ColType>,
+) -> Result<Operator, AllocError>
+    requires some { 1 ≤ producers }
+    requires few { producers ≤ 64 }
+    ensures op { IfOk result (λ o. operator_op o
+        ≡ receive (record { exchange = number; place = place; producers = producers; types = types.items; merge = []; in_order = is_concat (kind_of kind.now) })) }
+    ensures stands { IfOk result (λ o. OperatorStands o fresh_ledger) }
+    ensures reads { IfOk result (λ o. (operator_types o).left ≡ types.items) }
+    ensures returns { IfOk result (λ o. (operator_types o).out ≡ types.items) }
+{
+    if is_concat(kind) {
+        let receiver = InOrderReceiver::new(number, place, producers, types);
+        return Ok(Operator::InOrder(receiver));
+    }
+    let receiver = Receiver::new(alloc, number, place, producers, types)?;
+    Ok(Operator::Receiver(receiver))
+}

@@ -1,0 +1,11 @@
+pub mod Ends
+pub mod InOrders
+pub mod Merging
+pub mod Orders
+pub mod HeadFacts
+pub mod Runs
+pub mod Rises
+pub mod Merges
+pub mod Places
+pub mod MergeCalls
+pub mod MergeEnds

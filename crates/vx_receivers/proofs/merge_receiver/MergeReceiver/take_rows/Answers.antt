@@ -1,0 +1,28 @@
+use Rattle.std.proofs.Common.{rules, refl}
+use Rattle.vx_receivers.proofs.MergeEnds.{came_rows, has_closed, merging-rows, merging-falls, merging-refused, merging-fails}
+use Rattle.vx_receivers.proofs.merge_receiver.MergeReceiver.take_rows.Goals as goal
+
+pub returns-in-Ok-true-clause-stands : goal.returns-in-Ok-true-clause-stands
+returns-in-Ok-true-clause-stands c =
+    let s = c.args.self.now in
+    let e = c.put.ensures in
+    rw c.requires.running (λ l packet f b h.
+    merging-rows s.port s.kernel l c.args.from packet f (h.runs refl).ours h.same _ e.shape.many e.shape.columns c.args.rows.rows b
+    (c.in-Ok-true.ensures.rises (search rules) (has_closed l) (came_rows l) l.gave.rows (h.runs refl).merged))
+
+pub returns-in-Ok-false-clause-stands : goal.returns-in-Ok-false-clause-stands
+returns-in-Ok-false-clause-stands c =
+    let s = c.args.self.now in
+    let e = c.put.ensures in
+    let k = c.fail_by.ensures in
+    rw (k.over, k.result, k.port, k.kernel, e.shape.many, e.shape.columns, c.requires.running) (λ l packet f b h.
+    merging-fails _ _ _ _ refl (merging-falls s.port s.kernel l c.args.from packet f (h.runs refl).ours h.same c.requires.few c.args.rows.rows b h.abides.before
+    (c.in-Ok-false.ensures.falls (search rules) (has_closed l) (came_rows l) l.gave.rows (h.runs refl).merged)))
+
+pub returns-in-Err-clause-stands : goal.returns-in-Err-clause-stands
+returns-in-Err-clause-stands c =
+    let s = c.args.self.now in
+    let e = c.put.ensures in
+    let k = c.fail_by-in-Err.ensures in
+    rw (k.over, k.result, k.port, k.kernel, e.shape.many, e.shape.columns, c.requires.running) (λ l packet f b h.
+    merging-fails _ _ _ _ refl (merging-refused s.port s.kernel l c.args.from packet f (h.runs refl).ours h.same h.abides.before))

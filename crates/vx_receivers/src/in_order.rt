@@ -1,0 +1,134 @@
+//! The consumer end of an exchange that gives its producers' rows one producer after the other.
+
+ghost use Rattle.std.specs.Prelude.{◌<◌};
+
+use crate::place::Place;
+use vx_ops::{Code, Fault, Got, Over, Polled, Source, Want};
+use vx_ports::{Body, Ending, Packet};
+use vx_rows::ColType;
+
+/// Calls: `new (wants turn)*`.
+///
+/// The consumer end of an exchange at one of its places: it returns all rows of producer 0, then those of producer 1, and so on.
+///
+/// It asks one producer until this has ended, and then the next. What the others send meanwhile waits at their ports.
+#[derive(Drop)]
+pub struct InOrderReceiver {
+    port: Place,
+    producers: u32,
+    next: u32,
+    over: Over,
+    ghost next_in_range: { next < producers },
+}
+
+impl InOrderReceiver {
+    ghost use Rattle.std.specs.Prelude.{◌≡◌, ◌≤◌, [], true, Some, IfOk};
+    ghost use Rattle.vx_ports.specs.Packets.{PacketView, last};
+    ghost use Rattle.vx_ops.specs.Ledger.{Ledger, receive, IsFor};
+    ghost use Rattle.vx_ops.specs.Turn.{after, fresh_ledger, GivesRows};
+    ghost use Rattle.vx_ops.specs.declared.fault.Over.TheVariants.{Running};
+    ghost use Rattle.vx_ops.specs.declared.turn.Got.TheVariants as got_of;
+    ghost use Rattle.vx_receivers.specs.InOrder.{InOrderStands, in_order_end, in_order_op, in_order_types, in_order_want};
+
+    /// A consumer end at a place of an exchange, by its node number, for this many producers of rows of these types: at least one. Nothing came yet.
+    pub fn new(exchange: u32, place: u32, producers: u32, types: Vec<ColType>) -> InOrderReceiver
+        requires some { 1 ≤ producers }
+        ensures stands { InOrderStands result fresh_ledger }
+        ensures op { in_order_op result ≡ receive (record { exchange = exchange; place = place; producers = producers; types = types.items; merge = []; in_order = true }) }
+        ensures types { in_order_types result ≡ record { left = types.items; right = types.items; out = types.items } }
+    {
+        InOrderReceiver {
+            port: Place {
+                exchange,
+                place,
+                types,
+            },
+            producers,
+            next: 0,
+            over: Over::Running,
+        }
+    }
+
+    // Fails.
+    fn fail(&mut self, fault: Fault) -> Polled
+        ensures over { self.new.over ≡ Over.Failed fault }
+        ensures result { result ≡ Polled.Fault fault }
+        ensures port { self.new.port ≡ self.old.port }
+        ensures producers { self.new.producers ≡ self.old.producers }
+        ensures next { self.new.next ≡ self.old.next }
+    {
+        self.over = Over::Failed(fault);
+        Polled::Fault(fault)
+    }
+
+    // Notes that the producer that is next has ended, and goes on to the next one, if there is one.
+    fn end_producer(&mut self) -> Polled
+        requires { self.old.over ≡ Running }
+        ensures stands { (l : Ledger) (packet : PacketView) → IsFor (in_order_end self.old) self.old.next packet → packet.content ≡ last → InOrderStands self.old l
+            → InOrderStands self.new (after l (in_order_want self.old) (got_of.Packet (Some packet)) result) }
+        ensures gives { GivesRows (in_order_types self.old).out result }
+        ensures op { in_order_op self.new ≡ in_order_op self.old }
+        ensures types { in_order_types self.new ≡ in_order_types self.old }
+    {
+        if self.next + 1 < self.producers {
+            self.next += 1;
+            return Polled::Waiting;
+        }
+        self.over = Over::Ended;
+        Polled::End
+    }
+
+    // Tests a packet from the producer that is next, and returns what it brings.
+    fn take_packet(&mut self, packet: Packet) -> Polled
+        requires { self.old.over ≡ Running }
+        ensures stands { (l : Ledger) → InOrderStands self.old l
+            → InOrderStands self.new (after l (in_order_want self.old) (got_of.Packet (Some packet)) result) }
+        ensures gives { GivesRows (in_order_types self.old).out result }
+        ensures op { in_order_op self.new ≡ in_order_op self.old }
+        ensures types { in_order_types self.new ≡ in_order_types self.old }
+    {
+        if !self.port.expects(self.next, &packet) {
+            return self.fail(Fault::Own {
+                code: Code::Stranger,
+                node: self.port.exchange,
+            });
+        }
+        match packet.into_body() {
+            Body::Rows(rows) => Polled::Gave(rows),
+            Body::End(Ending::Last) => self.end_producer(),
+            Body::End(Ending::Fault) => self.fail(Fault::Passed),
+        }
+    }
+}
+
+impl Source for InOrderReceiver {
+    ghost use Rattle.vx_receivers.specs.InOrder.{InOrderStands, in_order_op, in_order_types, in_order_want, in_order_abides};
+
+    ghost Stands = { InOrderStands };
+
+    ghost op = { in_order_op };
+
+    ghost types = { in_order_types };
+
+    ghost want = { in_order_want };
+
+    ghost abides = { in_order_abides };
+
+    fn wants(&self) -> Want {
+        match self.over {
+            Over::Running => Want::Packet(self.next),
+            _ => Want::Nothing,
+        }
+    }
+
+    fn turn(&mut self, got: Got) -> Polled {
+        match self.over {
+            Over::Ended => Polled::End,
+            Over::Failed(f) => Polled::Fault(f),
+            Over::Running => match got {
+                Got::Packet(Some(packet)) => self.take_packet(packet),
+                _ => Polled::Waiting,
+            },
+        }
+    }
+}
