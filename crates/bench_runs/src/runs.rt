@@ -12,7 +12,7 @@ use std::time::Instant;
 use vx_bytes::MemoryIn;
 use vx_catalog::{Catalog, Database, Loader};
 use vx_check::{CheckedPlan, check};
-use vx_exec::{Ran, Setup, can_run, run_rounds};
+use vx_exec::{Ran, Setup, run_rounds};
 use vx_plan::{Plan, Router, resolve};
 use vx_rows::{Table, Value};
 
@@ -83,9 +83,6 @@ fn ran<R: Clock>(
     workers: u32,
 ) -> Result<(Table, u64), Error> {
     let setup = setup_of(alloc, workers)?;
-    if !can_run(plan.plan()) {
-        bail!("workers cannot run the plan");
-    }
     let start = Instant::now(rt)?;
     match run_rounds(alloc, plan, database, &setup, &ToFirst, u64::MAX)? {
         Ran::Done(rows) => {

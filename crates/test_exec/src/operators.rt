@@ -9,7 +9,7 @@ use std::test::Fail;
 use test_tables::shown;
 use vx_catalog::Database;
 use vx_check::CheckedPlan;
-use vx_exec::{Ran, RunFault, can_run, run_rounds, run_scheduled};
+use vx_exec::{Ran, RunFault, run_rounds, run_scheduled};
 use vx_plan::erase;
 use vx_serial::eval;
 use vx_views::Rows;
@@ -119,9 +119,6 @@ fn told(alloc: Global, ran: Result<Ran, RunFault>) -> Result<String, AllocError>
 
 // What so many workers come to in rounds.
 fn by_rounds(alloc: Global, case: &Case, workers: u32) -> Result<String, Fail> {
-    if !can_run(case.plan.plan()) {
-        return Err(Fail::new("workers can run the plan"));
-    }
     let setup = of_workers(alloc, workers)?;
     let ran = run_rounds(alloc, &case.plan, &case.database, &setup, &ToFirst, ROUNDS);
     Ok(told(alloc, ran)?)
@@ -129,9 +126,6 @@ fn by_rounds(alloc: Global, case: &Case, workers: u32) -> Result<String, Fail> {
 
 // What so many workers below the root come to by a schedule.
 fn by_steps(alloc: Global, case: &Case, workers: u32, steps: &[u32]) -> Result<String, Fail> {
-    if !can_run(case.plan.plan()) {
-        return Err(Fail::new("workers can run the plan"));
-    }
     let setup = of_workers(alloc, workers)?;
     let ran = run_scheduled(alloc, &case.plan, &case.database, &setup, &ToFirst, steps);
     Ok(told(alloc, ran)?)

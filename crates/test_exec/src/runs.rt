@@ -3,7 +3,7 @@
 use crate::plans::{SELECTED, ToFirst, checked, filled, of_workers};
 use std::alloc::{AllocError, Global};
 use std::test::Fail;
-use vx_exec::{Ran, RunFault, can_run, run_rounds, run_scheduled};
+use vx_exec::{Ran, RunFault, run_rounds, run_scheduled};
 use vx_rows::Cell;
 use vx_views::Rows;
 
@@ -29,9 +29,6 @@ fn ids(alloc: Global, rows: &Rows) -> Result<Vec<i64>, AllocError> {
 fn in_rounds(alloc: Global, text: &str, limit: u64) -> Result<Ran, Fail> {
     let plan = checked(alloc, text)?;
     let database = filled(alloc)?;
-    if !can_run(plan.plan()) {
-        return Err(Fail::new("workers can run the plan"));
-    }
     Ok(run_rounds(
         alloc,
         &plan,
@@ -46,9 +43,6 @@ fn in_rounds(alloc: Global, text: &str, limit: u64) -> Result<Ran, Fail> {
 fn by_steps(alloc: Global, text: &str, steps: &[u32]) -> Result<Result<Ran, RunFault>, Fail> {
     let plan = checked(alloc, text)?;
     let database = filled(alloc)?;
-    if !can_run(plan.plan()) {
-        return Err(Fail::new("workers can run the plan"));
-    }
     Ok(run_scheduled(
         alloc,
         &plan,

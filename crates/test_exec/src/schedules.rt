@@ -4,7 +4,7 @@ use crate::draws::{Draws, SCHEDULES, in_turn};
 use crate::plans::{SELECTED, ToFirst, checked, filled, of_workers};
 use std::alloc::Global;
 use std::test::Fail;
-use vx_exec::{Ran, can_run, run_scheduled};
+use vx_exec::{Ran, run_scheduled};
 use vx_rows::Cell;
 use vx_views::Rows;
 
@@ -41,9 +41,6 @@ fn drawn_schedules_come_to_the_same_rows(rt: HostRuntime) -> Result<(), Fail> {
     let database = filled(alloc)?;
     let setup = of_workers(alloc, 3)?;
     let mut draws = Draws::new();
-    if !can_run(plan.plan()) {
-        return Err(Fail::new("workers can run the plan"));
-    }
     for _ in 0..SCHEDULES {
         let steps = draws.schedule(alloc, 4, 2000)?;
         match run_scheduled(alloc, &plan, &database, &setup, &ToFirst, steps.as_slice())? {
@@ -58,9 +55,6 @@ fn drawn_schedules_come_to_the_same_rows(rt: HostRuntime) -> Result<(), Fail> {
 fn by_schedule(alloc: Global, steps: &[u32]) -> Result<Ran, Fail> {
     let plan = checked(alloc, SELECTED)?;
     let database = filled(alloc)?;
-    if !can_run(plan.plan()) {
-        return Err(Fail::new("workers can run the plan"));
-    }
     Ok(run_scheduled(
         alloc,
         &plan,

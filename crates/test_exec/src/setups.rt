@@ -4,7 +4,7 @@ use crate::plans::{CATALOG, ToFirst, checked};
 use std::alloc::{AllocError, Global};
 use std::test::Fail;
 use vx_catalog::{Catalog, Database};
-use vx_exec::{RunFault, Setup, can_run, run_rounds};
+use vx_exec::{RunFault, Setup, run_rounds};
 
 // The same relations without a declared order.
 const OTHER_CATALOG: &str =
@@ -37,9 +37,6 @@ fn line(
     counts: [u32; 3],
 ) -> Result<String, Fail> {
     let plan = checked(alloc, plan)?;
-    if !can_run(plan.plan()) {
-        return Err(Fail::new("workers can run the plan"));
-    }
     let catalog = Catalog::read(alloc, database.as_bytes())?;
     let database = Database::empty(alloc, &catalog)?;
     match run_rounds(

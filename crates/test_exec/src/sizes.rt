@@ -3,7 +3,7 @@
 use crate::plans::{SELECTED, ToFirst, checked, filled_with};
 use std::alloc::{AllocError, Global};
 use std::test::Fail;
-use vx_exec::{Ran, Setup, can_run, run_rounds};
+use vx_exec::{Ran, Setup, run_rounds};
 use vx_rows::Cell;
 use vx_views::Rows;
 
@@ -90,9 +90,6 @@ fn sizes_change_no_row(rt: HostRuntime) -> Result<(), Fail> {
     let alloc = rt.alloc();
     let plan = checked(alloc, SELECTED)?;
     let database = filled_with(alloc, table(alloc)?.as_str())?;
-    if !can_run(plan.plan()) {
-        return Err(Fail::new("workers can run the plan"));
-    }
     for (workers, packet, morsel) in SIZES {
         let setup = sized(alloc, workers, packet, morsel)?;
         match run_rounds(alloc, &plan, &database, &setup, &ToFirst, 1_000_000)? {

@@ -286,9 +286,12 @@ fn standard_input_is_read_once(rt: HostRuntime) -> Result<(), Fail> {
 }
 
 #[test]
-fn support_is_tested_before_resolving(rt: HostRuntime) -> Result<(), Fail> {
+fn a_relation_has_to_be_in_the_catalog(rt: HostRuntime) -> Result<(), Fail> {
     let line = run_with(&rt, "merged.json", &["many=3"])?;
-    assert_eq!(rt; line.as_str(), "|volcano: P2 BadNode path=root\n|3");
+    assert_eq!(rt;
+        line.as_str(),
+        "|volcano: P4 UnknownRelation node=1 name=u\n|3"
+    );
     let line = judged(&rt, "check", "c.json", "merged.json", "")?;
     assert_eq!(rt;
         line.as_str(),

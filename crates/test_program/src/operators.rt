@@ -106,7 +106,7 @@ fn a_merge_join_needs_sorted_rows(rt: HostRuntime) -> Result<(), Fail> {
         (
             "run",
             JOIN_MERGED,
-            "|volcano: P2 BadNode path=root.left\n|3",
+            "id,k,v,d.k,d.n\n0,a,5,a,10\n2,a,-2,a,10\n1,b,7,b,20\n||0",
         ),
     ] {
         let got = printed(&rt, command, root, [ROWS_OF_T, ROWS_OF_D])?;

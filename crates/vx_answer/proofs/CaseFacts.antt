@@ -192,7 +192,7 @@ command_refuses b p e case (commands.for_serial runs h) three = absurd (serial_r
 
 -- the plan of a bundle over these relations
 abbrev plan_over_relations : Bundle → List Relation → Result TypedPlanView plan.Refusal
-plan_over_relations b relations = plan_from b.command relations (document_in b.plan)
+plan_over_relations b relations = plan_from relations (document_in b.plan)
 
 -- a bundle has one plan
 one_plan : (b : Bundle) (p q : TypedPlanView) → IsBundlePlan b p → IsBundlePlan b q → q ≡ p

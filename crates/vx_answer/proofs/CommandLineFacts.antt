@@ -18,7 +18,7 @@ use Rattle.vx_answer.specs.CommandLineView.{IsClapFault, IsAskFault, IsArgumentF
 
 -- what the command makes nothing of, the task has no answer to
 pub task_refused : {T : Type 0} (files : List ℕ → Stored) (reliable : List ℕ → Bool) (input : Option (List ℕ)) (failed : Bool) (t : FileCommand) (p : TypedPlanView) (r : Result T Refusal)
-    → IsFilesPlan t.command files input t.paths p
+    → IsFilesPlan files input t.paths p
     → IfErr r (λ e. CommandRefuses t.command p (holds_at files t.folder) (LacksAt files reliable t.folder) t.setting e) → IfErr r (λ e. TaskRefuses files reliable input failed t e)
 task_refused files reliable input failed t p (Ok x) planned h = tt
 task_refused files reliable input failed t p (Err e) planned h = for_plan_of p planned h

@@ -1,4 +1,3 @@
-pub mod RunnableFacts
 pub mod PlanFacts
 pub mod Refusing
 pub mod SerialFacts

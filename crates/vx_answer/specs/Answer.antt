@@ -16,13 +16,13 @@ use Rattle.vx_answer.specs.Commands.{IsResultOf, CommandRefuses}
 use Rattle.vx_answer.specs.Files.{IsUnread}
 use Rattle.vx_answer.specs.Planning.{exactly, IsPlanned, IsPlanRefusal}
 
--- the plan of a bundle for its command, over its catalog
+-- the plan of a bundle, over its catalog
 abbrev pub IsBundlePlan : Bundle → TypedPlanView → Type 0
-IsBundlePlan b p = IsPlanned b.command (exactly (catalog_of b.catalog)) (exactly (document_in b.plan)) p
+IsBundlePlan b p = IsPlanned (exactly (catalog_of b.catalog)) (exactly (document_in b.plan)) p
 
 -- the first reason why a bundle has no plan: its catalog, its plan
 abbrev pub IsBundlePlanRefusal : Bundle → Refusal → Type 0
-IsBundlePlanRefusal b e = IsPlanRefusal b.command (exactly (catalog_of b.catalog)) (exactly (document_in b.plan)) e
+IsBundlePlanRefusal b e = IsPlanRefusal (exactly (catalog_of b.catalog)) (exactly (document_in b.plan)) e
 
 -- what the program does so far: runs in rounds, serial evaluations, the checker's answer, and its text on a plan
 abbrev pub is_supported : Command → Mode → Bool

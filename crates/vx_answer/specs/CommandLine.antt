@@ -48,13 +48,13 @@ IsNoTask (run paths folder limits) = IsNoSetting limits
 
 -- the text answers a task: it is what its command asks for of its plan over the files of its folder
 abbrev pub AnswersTask : (List ℕ → Stored) → Option (List ℕ) → FileCommand → List ℕ → Type 0
-AnswersTask files input t text = (p : TypedPlanView) × IsFilesPlan t.command files input t.paths p × IsResultOf t.command p (holds_at files t.folder) t.setting text
+AnswersTask files input t text = (p : TypedPlanView) × IsFilesPlan files input t.paths p × IsResultOf t.command p (holds_at files t.folder) t.setting text
 
 -- the first reason why a task has no answer: its plan, or what the command makes of that; out of memory may come anywhere
 pub data TaskRefuses (files : List ℕ → Stored) (reliable : List ℕ → Bool) (input : Option (List ℕ)) (failed : Bool) (t : FileCommand) (e : Refusal) : Type 0 where
   task_memory : e ≡ refusal.NoMemory → TaskRefuses files reliable input failed t e
-  for_planning : IsFilesRefusal t.command files reliable input failed t.paths e → TaskRefuses files reliable input failed t e
-  for_plan_of : (p : TypedPlanView) → IsFilesPlan t.command files input t.paths p
+  for_planning : IsFilesRefusal files reliable input failed t.paths e → TaskRefuses files reliable input failed t e
+  for_plan_of : (p : TypedPlanView) → IsFilesPlan files input t.paths p
       → CommandRefuses t.command p (holds_at files t.folder) (LacksAt files reliable t.folder) t.setting e → TaskRefuses files reliable input failed t e
 
 -- the program's name, and then the arguments

@@ -10,7 +10,6 @@ use Rattle.vx_plan_json.specs.Fault as plan
 use Rattle.vx_plan_json.specs.Reading.{document_of_text}
 use Rattle.vx_plan_nodes.specs.Names.{TypedPlanView}
 use Rattle.vx_arguments.specs.Asked.{Paths}
-use Rattle.vx_bundle.specs.declared.command.Command.{Command}
 use Rattle.vx_bytes.specs.Ports.{IsOver}
 use Rattle.vx_bytes.specs.Stored.{Stored, stored_by, IfBytes, MayBeAbsent}
 use Rattle.vx_refusals.specs.declared.refusal.Refusal.{Refusal}
@@ -41,9 +40,9 @@ catalog_at files input paths = read_from (known_at files input paths.catalog) ca
 abbrev pub plan_at : (List ℕ → Stored) → Option (List ℕ) → Paths → Reading (Result Document plan.Refusal)
 plan_at files input paths = read_from (known_at files (input_after input paths.catalog) paths.plan) document_of_text
 
--- the plan of a command from these paths
-abbrev pub IsFilesPlan : Command → (List ℕ → Stored) → Option (List ℕ) → Paths → TypedPlanView → Type 0
-IsFilesPlan c files input paths p = IsPlanned c (catalog_at files input paths) (plan_at files input paths) p
+-- the plan from these paths
+abbrev pub IsFilesPlan : (List ℕ → Stored) → Option (List ℕ) → Paths → TypedPlanView → Type 0
+IsFilesPlan files input paths p = IsPlanned (catalog_at files input paths) (plan_at files input paths) p
 
 -- a reader failed, or had too many bytes, as far as its bytes are known
 abbrev pub IsUnread : Option (List ℕ) → Bool → Type 0
@@ -72,9 +71,9 @@ read_refusal_of false file reliable input failed path e = IsFileRefusal file rel
 abbrev pub IsReadRefusal : (List ℕ → Stored) → (List ℕ → Bool) → Option (List ℕ) → Bool → List ℕ → Refusal → Type 0
 IsReadRefusal files reliable input failed path e = read_refusal_of (is_input path) (files path) (reliable path) input failed path e
 
--- the first reason why there is no plan for a command: the catalog's bytes, the catalog, the plan's bytes, the plan
-pub data IsFilesRefusal (c : Command) (files : List ℕ → Stored) (reliable : List ℕ → Bool) (input : Option (List ℕ)) (failed : Bool) (paths : Paths) (e : Refusal) : Type 0 where
-  for_catalog_bytes : IsReadRefusal files reliable input failed paths.catalog e → IsFilesRefusal c files reliable input failed paths e
+-- the first reason why there is no plan: the catalog's bytes, the catalog, the plan's bytes, the plan
+pub data IsFilesRefusal (files : List ℕ → Stored) (reliable : List ℕ → Bool) (input : Option (List ℕ)) (failed : Bool) (paths : Paths) (e : Refusal) : Type 0 where
+  for_catalog_bytes : IsReadRefusal files reliable input failed paths.catalog e → IsFilesRefusal files reliable input failed paths e
   for_plan_bytes : (relations : List Relation) → catalog_at files input paths (λ r. r ≡ Ok relations) → IsReadRefusal files reliable (input_after input paths.catalog) failed paths.plan e
-      → IsFilesRefusal c files reliable input failed paths e
-  for_contents : IsPlanRefusal c (catalog_at files input paths) (plan_at files input paths) e → IsFilesRefusal c files reliable input failed paths e
+      → IsFilesRefusal files reliable input failed paths e
+  for_contents : IsPlanRefusal (catalog_at files input paths) (plan_at files input paths) e → IsFilesRefusal files reliable input failed paths e

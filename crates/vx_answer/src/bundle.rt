@@ -1,29 +1,25 @@
 //! The answer to a bundle, over values: no byte is read or written here.
 
-ghost use Rattle.std.specs.Prelude.{◌≡◌, true, IfOk, IfErr};
+ghost use Rattle.std.specs.Prelude.{◌≡◌, IfOk, IfErr};
 ghost use Rattle.vx_bundle.specs.BundleView.{bundle_form};
-ghost use Rattle.vx_plan_nodes.specs.Outline.{plan_in};
 ghost use Rattle.vx_plan_nodes.specs.TypedView.{resolved_of};
-ghost use Rattle.vx_setup.specs.Runnable.{can_run};
 ghost use Rattle.vx_answer.specs.Answer.{IsBundlePlan, IsBundlePlanRefusal, is_supported, IsOutput, Refuses, IsAnswer, IsRefused};
 
 use crate::command::execute;
-use crate::planning::plan_over;
 use std::alloc::Global;
 use vx_bundle::{Bundle, Command, Mode, bundle_in, value_of_text};
 use vx_catalog::Catalog;
-use vx_plan::{Plan, TypedPlan};
+use vx_plan::{Plan, TypedPlan, resolve};
 use vx_refusals::Refusal;
 
 // The plan of a bundle over the bundle's catalog.
 fn plan_from_bundle(alloc: Global, bundle: &Bundle<'_>) -> Result<TypedPlan, Refusal>
     ensures planned { IfOk result (λ p. IsBundlePlan (bundle_form bundle.now) (resolved_of p)) }
-    ensures runs { IfOk result (λ p. (bundle_form bundle.now).command ≡ Command.Run → can_run (plan_in (resolved_of p).root) ≡ true) }
     ensures refused { IfErr result (λ e. IsBundlePlanRefusal (bundle_form bundle.now) e) }
 {
     let catalog = Catalog::of_value(alloc, bundle.catalog())?;
     let plan = Plan::of_value(alloc, bundle.plan())?;
-    Ok(plan_over(alloc, bundle.command(), &plan, &catalog)?)
+    Ok(resolve(alloc, &plan, &catalog)?)
 }
 
 // Whether the program runs a command in this mode so far.

@@ -1,10 +1,8 @@
 //! What a command makes of a plan over tables.
 
-ghost use Rattle.std.specs.Prelude.{◌≡◌, true, IfOk, IfErr};
+ghost use Rattle.std.specs.Prelude.{◌≡◌, IfOk, IfErr};
 ghost use Rattle.vx_plan_nodes.specs.TypedView.{resolved_of};
-ghost use Rattle.vx_plan_nodes.specs.Outline.{plan_in};
 ghost use Rattle.vx_check_rules.specs.CheckedView.{typed_plan};
-ghost use Rattle.vx_setup.specs.Runnable.{can_run};
 ghost use Rattle.vx_answer.specs.Commands.{IsShown, IsNotShown, accepted_text, IsResultOf, CommandRefuses};
 
 use crate::run::run_plan;
@@ -42,7 +40,7 @@ fn accepted(plan: TypedPlan) -> Result<CheckedPlan, Refusal>
     }
 }
 
-/// The text that a command makes of a plan over tables. Workers have to be able to run a plan that is to be run.
+/// The text that a command makes of a plan over tables.
 pub fn execute<T: Tables>(
     alloc: Global,
     command: Command,
@@ -50,7 +48,6 @@ pub fn execute<T: Tables>(
     setting: &Setting,
     plan: TypedPlan,
 ) -> Result<Vec<u8>, Refusal>
-    requires runs { command ≡ Command.Run → can_run (plan_in (resolved_of plan).root) ≡ true }
     ensures text { IfOk result (λ text. IsResultOf command (resolved_of plan) (T.holds tables.now) setting.now text.items) }
     ensures refused { IfErr result (λ e. CommandRefuses command (resolved_of plan) (T.holds tables.now) (T.lacks tables.now) setting.now e) }
 {

@@ -131,7 +131,7 @@ fn answer_task<F: Store, I: ByteIn>(
     ensures text { IfOk result (λ text. AnswersTask (F.holds files.now) (I.remaining input.old) (task_is task.now) text.items) }
     ensures refused { IfErr result (λ e. TaskRefuses (F.holds files.now) (F.is_reliable files.now) (I.remaining input.old) (I.has_failed input.new) (task_is task.now) e) }
 {
-    let plan = plan_from_files(alloc, files, input, task.command, task.sources)?;
+    let plan = plan_from_files(alloc, files, input, task.sources)?;
     let folder = Folder {
         files,
         path: task.folder,

@@ -3,17 +3,13 @@
 ghost use Rattle.std.specs.Prelude.{◌≡◌, true, false, codes, IfOk, IfErr, IsErrOf};
 ghost use Rattle.vx_bytes.specs.Ports.{IsAll};
 ghost use Rattle.vx_plan_nodes.specs.TypedView.{resolved_of};
-ghost use Rattle.vx_plan_nodes.specs.Outline.{plan_in};
-ghost use Rattle.vx_setup.specs.Runnable.{can_run};
 ghost use Rattle.vx_arguments.specs.Asked.{paths_are};
 ghost use Rattle.vx_bytes.specs.Stored.{IfBytes};
 ghost use Rattle.vx_answer.specs.Files.{is_input, left_of, known_at, IsFileRefusal, IsInputRefusal, IsReadRefusal, IsFilesPlan, IsFilesRefusal};
 
-use crate::planning::plan_over;
 use crate::program::MAX_BYTES;
 use std::alloc::Global;
 use vx_arguments::Sources;
-use vx_bundle::Command;
 use vx_bytes::{ByteIn, ReadFault, Store, read_all};
 use vx_catalog::Catalog;
 use vx_plan::{Plan, TypedPlan};
@@ -82,22 +78,20 @@ fn bytes_at<F: Store, I: ByteIn>(
     input_bytes(alloc, input)
 }
 
-/// The plan at one path for a command, over the catalog at the other.
+/// The plan at one path, over the catalog at the other.
 pub fn plan_from_files<F: Store, I: ByteIn>(
     alloc: Global,
     files: &F,
     input: &mut I,
-    command: Command,
     sources: Sources<'_>,
 ) -> Result<TypedPlan, Refusal>
-    ensures planned { IfOk result (λ p. IsFilesPlan command (F.holds files.now) (I.remaining input.old) (paths_are sources.entry) (resolved_of p)) }
-    ensures runs { IfOk result (λ p. command ≡ Command.Run → can_run (plan_in (resolved_of p).root) ≡ true) }
-    ensures refused { IfErr result (IsFilesRefusal command (F.holds files.now) (F.is_reliable files.now) (I.remaining input.old) (I.has_failed input.new) (paths_are sources.entry)) }
+    ensures planned { IfOk result (λ p. IsFilesPlan (F.holds files.now) (I.remaining input.old) (paths_are sources.entry) (resolved_of p)) }
+    ensures refused { IfErr result (IsFilesRefusal (F.holds files.now) (F.is_reliable files.now) (I.remaining input.old) (I.has_failed input.new) (paths_are sources.entry)) }
 {
     let catalog_text = bytes_at(alloc, files, input, false, sources.catalog)?;
     let catalog = Catalog::read(alloc, catalog_text.as_slice())?;
     let was_read = is_input(sources.catalog);
     let plan_text = bytes_at(alloc, files, input, was_read, sources.plan)?;
     let plan = Plan::read(alloc, plan_text.as_slice())?;
-    Ok(plan_over(alloc, command, &plan, &catalog)?)
+    Ok(resolve(alloc, &plan, &catalog)?)
 }

@@ -7,7 +7,6 @@ mod command;
 mod command_line;
 mod files;
 mod laws;
-mod planning;
 mod program;
 mod run;
 mod serial;

@@ -1,11 +1,10 @@
 //! Runs of plans over tables.
 
-ghost use Rattle.std.specs.Prelude.{◌≡◌, true, map, IfOk, IfErr};
+ghost use Rattle.std.specs.Prelude.{◌≡◌, map, IfOk, IfErr};
 ghost use Rattle.vx_catalog.specs.Csv.{csv_text};
 ghost use Rattle.vx_plan_nodes.specs.Outline.{columns};
-ghost use Rattle.vx_plan_nodes.specs.TypedView.{plan as plan_of_typed, resolved_of};
+ghost use Rattle.vx_plan_nodes.specs.TypedView.{resolved_of};
 ghost use Rattle.vx_check_rules.specs.CheckedView.{typed_plan};
-ghost use Rattle.vx_setup.specs.Runnable.{can_run};
 ghost use Rattle.vx_bundle.specs.Setting.{size_form};
 ghost use Rattle.vx_answer.specs.Commands.{IsRunOver, RunRefuses, IsRun, PlanRefuses, setup_of};
 
@@ -57,7 +56,6 @@ fn run_over(
     plan: &CheckedPlan,
     database: &Database,
 ) -> Result<Vec<u8>, Refusal>
-    requires { can_run (plan_of_typed (typed_plan plan.now)) ≡ true }
     ensures text { IfOk result (λ text. IsRunOver (resolved_of (typed_plan plan.now)) database.now setting.now text.items) }
     ensures refused { IfErr result (λ e. RunRefuses (resolved_of (typed_plan plan.now)) database.now setting.now e) }
 {
@@ -75,7 +73,6 @@ pub fn run_plan<T: Tables>(
     setting: &Setting,
     plan: &CheckedPlan,
 ) -> Result<Vec<u8>, Refusal>
-    requires { can_run (plan_of_typed (typed_plan plan.now)) ≡ true }
     ensures text { IfOk result (λ text. IsRun (resolved_of (typed_plan plan.now)) (T.holds tables.now) setting.now text.items) }
     ensures refused { IfErr result (λ e. PlanRefuses (resolved_of (typed_plan plan.now)) (T.holds tables.now) (T.lacks tables.now) setting.now e) }
 {

@@ -1,12 +1,16 @@
 -- The tree of a fragment, by the node at its top.
-use Rattle.std.proofs.Common.{Box, Global, Result, Ok, Err, ◌≡◌, ℕ, suc, ◌+◌, ◌≤◌, ◌<◌, ◌==◌, ◌&&◌, true, false, Bool, List, [], ◌∷◌, refl, sym, ap, ◌∙◌, subst, arith, eqb-true, true≢false}
+use Rattle.std.proofs.Common.{Box, Global, Result, Ok, Err, ◌≡◌, ℕ, suc, ◌+◌, ◌≤◌, ◌<◌, ◌==◌, ◌&&◌, true, Bool, List, length, refl, sym, ap, ◌∙◌, arith, eqb-true}
 use Rattle.std.specs.Prelude.{IfOk}
 use Rattle.vx_values.specs.declared.value.ColType.{ColType}
+use Rattle.vx_rows.specs.View.{AreColumns}
+use Rattle.vx_relations.specs.Catalog.{relation_at, all_below, are_distinct}
 use Rattle.vx_plan_nodes.specs.Plan.{Plan, Claim, Size, Unary, Binary, ExchangeKind, scan, unary, binary, exchange, size}
 use Rattle.vx_plan_nodes.specs.Numbering.{is_numbered, nodes}
 use Rattle.vx_plan_nodes.specs.Runs.{is_concat}
 use Rattle.vx_plan_nodes.specs.Streams.{workers}
 use Rattle.vx_plan_nodes.specs.Types.{types_of}
+use Rattle.vx_plan_nodes.specs.Typed.{Scope, typed, is_kind, are_columns, may_merge, is_output}
+use Rattle.vx_algebra.proofs.ColumnFacts.{columns-below}
 use Rattle.vx_check_rules.specs.Checked.{relations}
 use Rattle.vx_laws.proofs.Bags.{and-left, and-right}
 use Rattle.vx_ops.specs.Ledger.{Op, one_op, two_op, receive}
@@ -20,7 +24,6 @@ use Rattle.vx_worker.specs.Wishes.{Numbered}
 use Rattle.vx_operators.specs.declared.operator.Operator.{Operator}
 use Rattle.vx_operators.specs.declared.operator.Operator.TheVariants as operator
 use Rattle.vx_worker.specs.declared.tree.Tree.{Tree, One, Two, Leaf, One', Two'}
-use Rattle.vx_setup.specs.Runnable.{can_run, can_merge}
 use Rattle.vx_exec.specs.Sizes.{group_at}
 use Rattle.vx_exec.specs.Crew.{IsOperatorOf, IsTreeOf}
 use Rattle.vx_exec.specs.Job.{model_of}
@@ -95,29 +98,29 @@ scan-operator j place n c r shared z s types stands shape e = record {
   gives = ap (λ (x : Shape). x.out) shape ∙ e;
 }
 
-no-columns : (columns : List ℕ) → can_merge columns ≡ true → columns ≡ []
-no-columns [] h = refl
-no-columns (x ∷ xs) h = absurd (true≢false (sym h))
-
--- an exchange that workers can run does not merge
-merges-not : (n : ℕ) (c : Claim) (kind : ExchangeKind) (merge : List ℕ) (p : Plan) → can_run (exchange n c kind merge p) ≡ true → [] ≡ merge
-merges-not n c kind merge p runs = sym (no-columns merge (and-left (can_merge merge) (can_run p) runs))
+-- the columns on which an exchange merges are columns of its rows
+pub exchange-columns : (s : Scope) (n : ℕ) (c : Claim) (kind : ExchangeKind) (merge : List ℕ) (p : Plan) → typed s (exchange n c kind merge p) ≡ true
+    → AreColumns (length (types_of (relation_at s.catalog) p)) merge
+exchange-columns s n c kind merge p h =
+    let w = length (types_of (relation_at s.catalog) p) in
+    let merges = and-right (is_kind s (types_of (relation_at s.catalog) p) kind) (are_columns w merge && (may_merge kind merge && is_output s (types_of (relation_at s.catalog) p) c))
+    (and-right (typed s p) (is_kind s (types_of (relation_at s.catalog) p) kind && (are_columns w merge && (may_merge kind merge && is_output s (types_of (relation_at s.catalog) p) c))) h) in
+    columns-below w merge (and-left (all_below w merge) (are_distinct merge) (and-left (are_columns w merge) (may_merge kind merge && is_output s (types_of (relation_at s.catalog) p) c) merges))
 
 -- the consumer end of an exchange
 abbrev consumes : (number place producers : ℕ) → List ColType → List ℕ → Bool → Op
 consumes number place producers types merge in_order = receive (record { exchange = number; place = place; producers = producers; types = types; merge = merge; in_order = in_order })
 
--- one that was made for an exchange that workers can run
+-- one that was made for an exchange
 pub consumer-made : {E : Type 0} (j : Job) (place n : ℕ) (c : Claim) (kind : ExchangeKind) (merge : List ℕ) (p : Plan) (types : List ColType) (producers : ℕ) (made : Result Operator E)
-    → can_run (exchange n c kind merge p) ≡ true → IfOk made (λ o. operator_op o ≡ consumes n place producers types [] (is_concat kind))
+    → IfOk made (λ o. operator_op o ≡ consumes n place producers types merge (is_concat kind))
     → IfOk made (λ o. OperatorStands o fresh_ledger) → IfOk made (λ o. (operator_types o).left ≡ types) → IfOk made (λ o. (operator_types o).out ≡ types)
     → producers ≡ workers (group_at j.groups.items) (size p) → types ≡ types_of (relations j.plan.now) p → IfOk made (IsOperatorOf j place (exchange n c kind merge p))
-consumer-made j place n c kind merge p types producers (Ok o) runs op stands reads returns many e = record {
+consumer-made j place n c kind merge p types producers (Ok o) op stands reads returns many e = record {
   op_is = λ hash.
-      op ∙ ap (λ z. consumes n place z types [] (is_concat kind)) many ∙ ap (λ z. consumes n place (workers (group_at j.groups.items) (size p)) z [] (is_concat kind)) e
-      ∙ ap (λ z. consumes n place (workers (group_at j.groups.items) (size p)) (types_of (relations j.plan.now) p) z (is_concat kind)) (merges-not n c kind merge p runs);
+      op ∙ ap (λ z. consumes n place z types merge (is_concat kind)) many ∙ ap (λ z. consumes n place (workers (group_at j.groups.items) (size p)) z merge (is_concat kind)) e;
   stands = stands;
   takes = reads ∙ e;
   gives = returns ∙ e;
 }
-consumer-made j place n c kind merge p types producers (Err x) runs op stands reads returns many e = tt
+consumer-made j place n c kind merge p types producers (Err x) op stands reads returns many e = tt

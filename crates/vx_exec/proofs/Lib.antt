@@ -1,4 +1,5 @@
 pub mod Leaves
+pub mod ScanFacts
 pub mod Parts
 pub mod Fragments
 pub mod Dealing

@@ -6,14 +6,12 @@ use Rattle.vx_plan_nodes.specs.Outputs.{HasOutputs}
 use Rattle.vx_plan_nodes.specs.Typed.{typed}
 use Rattle.vx_plan_nodes.specs.TypedView.{scope}
 use Rattle.vx_check_rules.specs.Checked.{relations}
-use Rattle.vx_setup.specs.Runnable.{can_run}
 use Rattle.vx_exec.specs.Job.{types_at}
 use Rattle.vx_exec.specs.LeafTypes.{LeavesFit}
 use Rattle.vx_exec.specs.declared.job.Job.{Job}
 
--- a node of a job's plan: workers can run it and all below it, and it has the types and the numbers that it has in the plan
+-- a node of a job's plan: it has the types and the numbers that it has in the plan
 pub record IsPartOf (j : Job) (node : Outline) : Type 0 where
-  pub runs : can_run (plan_in node) ≡ true
   pub nodes_typed : typed (scope j.plan.now) (plan_in node) ≡ true
   pub outputs : HasOutputs (relations j.plan.now) node
   pub numbered : (i : ℕ) × (is_numbered i (plan_in node) ≡ true)

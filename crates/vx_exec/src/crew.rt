@@ -20,7 +20,6 @@ ghost use Rattle.vx_steps.specs.Crews.{stations_of, producer_duty, root_duty};
 ghost use Rattle.vx_steps.specs.Queues.{AreEmpty};
 ghost use Rattle.vx_steps.specs.Ready.{Ready};
 ghost use Rattle.vx_exec.specs.Sizes.{group_at};
-ghost use Rattle.vx_setup.specs.Runnable.{can_run};
 ghost use Rattle.vx_exec.specs.Job.{model_of};
 ghost use Rattle.vx_exec.specs.Part.{IsPartOf};
 ghost use Rattle.vx_exec.specs.Crew.{duty, IsNew};
@@ -181,7 +180,6 @@ impl Crew {
 
     /// All workers of a job, none of which made a step.
     pub fn new(alloc: Global, job: &Job<'_>) -> Result<Crew, AllocError>
-        requires runs { can_run (plan job.now.plan.now) ≡ true }
         ensures ready { IfOk result (λ c. (hash : List ℕ → Row → ℕ → ℕ)
             → Ready OperatorStands operator_op DestinationStands task_of post_of bounds_of hash (scan_morsels (model_of hash job.now)) (model_of hash job.now) (plan job.now.plan.now) c.workers.items (board_of c)) }
         ensures new { IfOk result (λ c. All (IsNew job.now) c.workers.items) }

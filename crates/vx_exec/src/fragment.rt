@@ -39,7 +39,7 @@ fn operator_of(
         TypedNode::Exchange(head, exchange, input) => {
             let types = Vec::from_slice(alloc, output_types(node))?;
             let producers = job.workers(input.size());
-            consumer_operator(alloc, head.number, &exchange.kind, place, producers, types)
+            consumer_operator(alloc, head.number, exchange, place, producers, types)
         }
     }
 }

@@ -1,23 +1,21 @@
 //! What a run works on.
 
-ghost use Rattle.std.specs.Prelude.{◌≡◌, ℕ, ◌≤◌, ◌<◌, true, length, IfSome, IfOk};
+ghost use Rattle.std.specs.Prelude.{◌≡◌, ◌≤◌, ◌<◌, length, IfOk};
 ghost use Rattle.std.specs.List.{All};
-ghost use Rattle.vx_relations.specs.Relation.{Relation};
 ghost use Rattle.vx_catalog.specs.Database.{rows_at, MeetsAll};
 ghost use Rattle.vx_plan_nodes.specs.Numbering.{relation_in};
-ghost use Rattle.vx_plan_nodes.specs.Outline.{size_of, plan_of};
+ghost use Rattle.vx_plan_nodes.specs.Outline.{size_of};
 ghost use Rattle.vx_plan_nodes.specs.Streams.{workers};
-ghost use Rattle.vx_plan_nodes.specs.Typed.{Scope, typed};
 ghost use Rattle.vx_plan_nodes.specs.TypedView.{scope, plan as whole_plan};
 ghost use Rattle.vx_check_rules.specs.Checked.{relations};
 ghost use Rattle.vx_worker.specs.Morsels.{morsel_of, morsel_count};
 ghost use Rattle.vx_steps.specs.Roles.{crew_size};
 ghost use Rattle.vx_exec.specs.Sizes.{AreWithin, IsWithin, group_at};
-ghost use Rattle.vx_exec.specs.LeafTypes.{leaf_types};
+ghost use Rattle.vx_exec.specs.ScanRelations.{AreRelations};
 
 use std::alloc::{AllocError, Global};
 use vx_catalog::{Catalog, Database};
-use vx_plan_nodes::{Size, TypedNode, TypedPlan};
+use vx_plan_nodes::{Size, TypedPlan};
 use vx_rows::ColType;
 use vx_views::Rows;
 use vx_worker::Morsels;
@@ -30,12 +28,15 @@ pub struct Job<'j> {
     database: &'j Database,
     // The workers of each size name, by its number.
     groups: Vec<u32>,
+    // By node number: the relation that its scan reads, and of other nodes none.
+    relations: Vec<Option<usize>>,
     packet: usize,
     morsel: usize,
     ghost same_catalog: { database.now.catalog ≡ (scope plan.now).catalog },
     ghost named: { length groups.items ≡ (scope plan.now).sizes },
     ghost within: { AreWithin (record { groups = groups.items; packet = packet; morsel = morsel }) },
     ghost few_workers: { crew_size (group_at groups.items) (whole_plan plan.now) ≤ 256 },
+    ghost of_scans: { AreRelations plan.now relations.items },
 }
 
 /// How many workers a size has, where the groups of each size name have so many, by its number.
@@ -54,31 +55,6 @@ pub fn workers_of(groups: &[u32], size: Size) -> u32
     }
 }
 
-// The relation that the scan with a number reads; none where an exchange has the number.
-fn relation_of(node: &TypedNode, number: u32) -> Option<usize>
-    ensures relation { IfSome result (λ r. relation_in (plan_of node.now) number ≡ r) }
-    ensures types { (catalog : ℕ → Relation) → IfSome result (λ r. leaf_types catalog (plan_of node.now) number ≡ (catalog r).types) }
-    ensures there { (s : Scope) → typed s (plan_of node.now) ≡ true → IfSome result (λ r. r < length s.catalog) }
-{
-    match node {
-        TypedNode::Scan(_, scan) => Some(scan.relation),
-        TypedNode::Unary(_, _, input) => relation_of(input, number),
-        TypedNode::Binary(_, _, left, right) => {
-            if number < right.head().number {
-                relation_of(left, number)
-            } else {
-                relation_of(right, number)
-            }
-        }
-        TypedNode::Exchange(head, _, input) => {
-            if head.number == number {
-                return None;
-            }
-            relation_of(input, number)
-        }
-    }
-}
-
 impl<'j> Job<'j> {
     ghost use Rattle.vx_exec.specs.Job.{sizes_of};
 
@@ -88,6 +64,7 @@ impl<'j> Job<'j> {
         plan: &'j TypedPlan,
         database: &'j Database,
         groups: Vec<u32>,
+        relations: Vec<Option<usize>>,
         packet: usize,
         morsel: usize,
     ) -> Job<'j>
@@ -95,6 +72,7 @@ impl<'j> Job<'j> {
         requires named { length groups.items ≡ (scope plan.now).sizes }
         requires within { AreWithin (record { groups = groups.items; packet = packet; morsel = morsel }) }
         requires few { crew_size (group_at groups.items) (whole_plan plan.now) ≤ 256 }
+        requires of_scans { AreRelations plan.now relations.items }
         ensures plan { result.plan.now ≡ plan.now }
         ensures database { result.database.now ≡ database.now }
         ensures sizes { sizes_of result ≡ record { groups = groups.items; packet = packet; morsel = morsel } }
@@ -104,6 +82,7 @@ impl<'j> Job<'j> {
             plan,
             database,
             groups,
+            relations,
             packet,
             morsel,
         }
@@ -174,9 +153,9 @@ impl Morsels for Job<'_> {
 
     /// A morsel, lent. Only scans read morsels: a number of another leaf gets none.
     fn morsel(&self, scan: u32, number: u64) -> Result<Rows, AllocError> {
-        match relation_of(self.plan.root(), scan) {
-            Some(relation) => self.lend_morsel(relation, number),
-            None => Err(AllocError),
+        match self.relations.get(scan as usize) {
+            Some(Some(relation)) => self.lend_morsel(*relation, number),
+            _ => Err(AllocError),
         }
     }
 }

@@ -15,7 +15,6 @@ ghost use Rattle.vx_operators.specs.declared.operator.Operator.{Operator as AnOp
 ghost use Rattle.vx_operators.specs.declared.destination.Destination.{Destination as ADestination};
 ghost use Rattle.vx_steps.specs.Roles.{crew_size};
 ghost use Rattle.vx_exec.specs.Sizes.{group_at, run_model, Sizes};
-ghost use Rattle.vx_setup.specs.Runnable.{can_run};
 ghost use Rattle.vx_exec.specs.Job.{model_of};
 ghost use Rattle.vx_exec.specs.Runs.{fault_reported, ComesTo, IsRunOf, IfDone, IsTrueOf, IsFirstReported, IsSetUp, RunFails, IsBadStepOf, NamesFirst, ScheduleFails, Scheduled, InRounds};
 
@@ -80,7 +79,6 @@ fn answer_of(workers: Vec<Worker<Operator, Destination>>, verdict: Verdict) -> R
 
 // At most so many rounds of all workers of a job, and what they come to.
 fn run_job<R: Router>(alloc: Global, job: &Job<'_>, router: &R, limit: u64) -> Result<Ran, RunFault>
-    requires runs { can_run (whole_plan job.now.plan.now) ≡ true }
     requires allowed { is_allowed job.now.plan.now ≡ true }
     requires root { is_root_allowed job.now.plan.now ≡ true }
     ensures done { IfOk result (IfDone (IsRunOf (R.route_of router.now) (resolved_of job.now.plan.now) job.now.database.now job.now.groups.items)) }
@@ -102,7 +100,6 @@ fn schedule_job<R: Router>(
     router: &R,
     steps: &[u32],
 ) -> Result<Ran, RunFault>
-    requires runs { can_run (whole_plan job.now.plan.now) ≡ true }
     requires allowed { is_allowed job.now.plan.now ≡ true }
     requires root { is_root_allowed job.now.plan.now ≡ true }
     ensures done { IfOk result (IfDone (IsRunOf (R.route_of router.now) (resolved_of job.now.plan.now) job.now.database.now job.now.groups.items)) }
@@ -132,7 +129,6 @@ pub fn run_rounds<R: Router>(
     router: &R,
     limit: u64,
 ) -> Result<Ran, RunFault>
-    requires runs { can_run (whole_plan (typed_plan plan.now)) ≡ true }
     ensures done { IfOk result (IfDone (λ rows. (s : Sizes) × IsSetUp (resolved_of (typed_plan plan.now)) database.now setup.now s
         × IsRunOf (R.route_of router.now) (resolved_of (typed_plan plan.now)) database.now s.groups rows)) }
     ensures set { IfOk result (λ _. (s : Sizes) × IsSetUp (resolved_of (typed_plan plan.now)) database.now setup.now s) }
@@ -156,7 +152,6 @@ pub fn run_scheduled<R: Router>(
     router: &R,
     steps: &[u32],
 ) -> Result<Ran, RunFault>
-    requires runs { can_run (whole_plan (typed_plan plan.now)) ≡ true }
     ensures done { IfOk result (IfDone (λ rows. (s : Sizes) × IsSetUp (resolved_of (typed_plan plan.now)) database.now setup.now s
         × IsRunOf (R.route_of router.now) (resolved_of (typed_plan plan.now)) database.now s.groups rows)) }
     ensures set { IfOk result (λ _. (s : Sizes) × IsSetUp (resolved_of (typed_plan plan.now)) database.now setup.now s) }

@@ -14,6 +14,7 @@ ghost use Rattle.vx_exec.specs.Setup.{tested, no_name, few_workers, size_missing
 ghost use Rattle.vx_exec.specs.Runs.{IsSetUp, RunFails};
 
 use crate::job::{Job, workers_of};
+use crate::relations::relations_of;
 use std::alloc::{AllocError, Global};
 use vx_catalog::Database;
 use vx_plan_nodes::{TypedNode, TypedPlan};
@@ -125,9 +126,10 @@ fn job_in<'j>(
     fail_unless(is_within(MOST_SLACK, setup.slack()), RunFault::BadSlack)?;
     let groups = setup.groups(alloc, names)?;
     test_workers(groups.as_slice(), plan)?;
+    let relations = relations_of(alloc, plan)?;
     let packet = setup.packet() as usize;
     let morsel = setup.morsel() as usize;
-    Ok(Job::new(alloc, plan, database, groups, packet, morsel))
+    Ok(Job::new(alloc, plan, database, groups, relations, packet, morsel))
 }
 
 /// A plan over a database, set up to run. The first test that fails is the answer, in this order: the database has the

@@ -15,6 +15,7 @@ use Rattle.vx_ops.specs.declared.turn.Want.{Want}
 use Rattle.vx_exchange.specs.Receiver.{ReceiverStands, receiver_op, receiver_types, receiver_want, receiver_abides}
 use Rattle.vx_exchange.specs.declared.receiver.Receiver.{Receiver}
 use Rattle.vx_receivers.specs.InOrder.{in_order_meaning}
+use Rattle.vx_receivers.specs.MergeReceiver.{merge_receiver_meaning}
 use Rattle.vx_operators.specs.declared.operator.Operator.{Operator}
 use Rattle.vx_operators.specs.declared.operator.Operator.TheVariants as operator
 
@@ -34,6 +35,7 @@ operator_meaning (operator.HashJoin s) = hash_join_meaning s
 operator_meaning (operator.MergeJoin s) = merge_join_meaning s
 operator_meaning (operator.Receiver s) = receiver_meaning s
 operator_meaning (operator.InOrder s) = in_order_meaning s
+operator_meaning (operator.Merge s) = merge_receiver_meaning s
 
 abbrev pub OperatorStands : Operator → Ledger → Type 0
 OperatorStands s l = (operator_meaning s).stands l

@@ -1,9 +1,10 @@
 //! The operators of the nodes of a plan.
 
-ghost use Rattle.std.specs.Prelude.{◌≡◌, ◌≤◌, [], true, IfOk};
+ghost use Rattle.std.specs.Prelude.{◌≡◌, ◌≤◌, true, length, IfOk};
+ghost use Rattle.vx_rows.specs.View.{AreColumns};
 ghost use Rattle.vx_plan_nodes.specs.Outline.{unary_of, binary_of, kind_of};
 ghost use Rattle.vx_plan_nodes.specs.Runs.{is_concat};
-ghost use Rattle.vx_plan_nodes.specs.Typed.{is_unary, is_binary};
+ghost use Rattle.vx_plan_nodes.specs.Typed.{is_unary, is_binary, may_merge};
 ghost use Rattle.vx_plan_nodes.specs.Types.{unary_types, binary_types};
 ghost use Rattle.vx_ops.specs.Ledger.{one_op, two_op, receive};
 ghost use Rattle.vx_ops.specs.Turn.{fresh_ledger};
@@ -15,8 +16,8 @@ use vx_algebra::kept_columns;
 use vx_exchange::Receiver;
 use vx_match::{FirstRows, HashJoining, KeyedGroups, MergeJoin};
 use vx_ops::{Project, Select, Sort, Union};
-use vx_plan_nodes::{Binary, ExchangeKind, Unary, copied_conditions};
-use vx_receivers::InOrderReceiver;
+use vx_plan_nodes::{Binary, Exchange, ExchangeKind, Unary, copied_conditions};
+use vx_receivers::{InOrderReceiver, MergeReceiver};
 use vx_rows::ColType;
 
 /// The operator over one input of rows of these types, at the node with this number, to which nothing came.
@@ -101,28 +102,34 @@ fn is_concat(kind: &ExchangeKind) -> bool
     matches!(kind, ExchangeKind::Concat)
 }
 
-/// The consumer end, at a place, of an exchange of this kind that does not merge, by its node number, for so many producers of rows of these
-/// types, to which nothing came.
+/// The consumer end of an exchange at a place, by its node number, for so many producers of rows of these types, to which nothing came.
 pub fn consumer_operator(
     alloc: Global,
     number: u32,
-    kind: &ExchangeKind,
+    exchange: &Exchange,
     place: u32,
     producers: u32,
     types: Vec<ColType>,
 ) -> Result<Operator, AllocError>
     requires some { 1 ≤ producers }
     requires few { producers ≤ 64 }
+    requires columns { AreColumns (length types.items) exchange.now.merge.items }
+    requires merges { may_merge (kind_of exchange.now.kind) exchange.now.merge.items ≡ true }
     ensures op { IfOk result (λ o. operator_op o
-        ≡ receive (record { exchange = number; place = place; producers = producers; types = types.items; merge = []; in_order = is_concat (kind_of kind.now) })) }
+        ≡ receive (record { exchange = number; place = place; producers = producers; types = types.items; merge = exchange.now.merge.items; in_order = is_concat (kind_of exchange.now.kind) })) }
     ensures stands { IfOk result (λ o. OperatorStands o fresh_ledger) }
     ensures reads { IfOk result (λ o. (operator_types o).left ≡ types.items) }
     ensures returns { IfOk result (λ o. (operator_types o).out ≡ types.items) }
 {
-    if is_concat(kind) {
+    if is_concat(&exchange.kind) {
         let receiver = InOrderReceiver::new(number, place, producers, types);
         return Ok(Operator::InOrder(receiver));
     }
-    let receiver = Receiver::new(alloc, number, place, producers, types)?;
-    Ok(Operator::Receiver(receiver))
+    if exchange.merge.is_empty() {
+        let receiver = Receiver::new(alloc, number, place, producers, types)?;
+        return Ok(Operator::Receiver(receiver));
+    }
+    let merge = Vec::from_slice(alloc, exchange.merge.as_slice())?;
+    let receiver = MergeReceiver::new(alloc, number, place, producers, types, merge)?;
+    Ok(Operator::Merge(receiver))
 }

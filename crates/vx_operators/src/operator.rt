@@ -3,7 +3,7 @@
 use vx_exchange::Receiver;
 use vx_match::{Distinct, Group, HashJoin, MergeJoin};
 use vx_ops::{Got, Polled, Project, Scan, Select, Sort, Source, Union, Want};
-use vx_receivers::InOrderReceiver;
+use vx_receivers::{InOrderReceiver, MergeReceiver};
 
 /// One operator of a fragment: each kind is a source of its own crate.
 pub enum Operator {
@@ -18,6 +18,7 @@ pub enum Operator {
     MergeJoin(MergeJoin),
     Receiver(Receiver),
     InOrder(InOrderReceiver),
+    Merge(MergeReceiver),
 }
 
 // Written out and not derived: so it is proved here once, and what holds operators calls it. A derived one is proved again, with those of all
@@ -36,6 +37,7 @@ impl Drop for Operator {
             Operator::MergeJoin(join) => drop(join),
             Operator::Receiver(receiver) => drop(receiver),
             Operator::InOrder(receiver) => drop(receiver),
+            Operator::Merge(receiver) => drop(receiver),
         }
     }
 }
@@ -66,6 +68,7 @@ impl Source for Operator {
             Operator::MergeJoin(join) => join.wants(),
             Operator::Receiver(receiver) => receiver.wants(),
             Operator::InOrder(receiver) => receiver.wants(),
+            Operator::Merge(receiver) => receiver.wants(),
         }
     }
 
@@ -82,6 +85,7 @@ impl Source for Operator {
             Operator::MergeJoin(join) => join.turn(got),
             Operator::Receiver(receiver) => receiver.turn(got),
             Operator::InOrder(receiver) => receiver.turn(got),
+            Operator::Merge(receiver) => receiver.turn(got),
         }
     }
 }

@@ -7,7 +7,7 @@ use Rattle.vx_plan_json.specs.PlanView.{document_of}
 use Rattle.vx_plan_json.specs.Reading.{document_in}
 use Rattle.vx_plan_nodes.specs.TypedView.{resolved_of}
 use Rattle.vx_bundle.specs.BundleView.{bundle_form}
-use Rattle.vx_answer.specs.Planning.{exactly, plan_over, for_catalog}
+use Rattle.vx_answer.specs.Planning.{exactly, for_catalog}
 use Rattle.vx_answer.proofs.PlanFacts.{is_planned, reading_fails, planning_fails}
 use Rattle.vx_answer.proofs.bundle.plan_from_bundle.Goals as goal
 
@@ -24,17 +24,16 @@ returns-in_err-plan-clause-refused c =
     let p = err_from_is_err_and c.from_residual-in_err-plan.result c.from_residual-in_err-plan.ensures.1 in
     let declares : catalog_of b.catalog ≡ Ok c.in_ok-catalog.catalog = rw c.catalog.ensures at c.in_ok-catalog.ensures in
     let fails : plan.Fails c.in_err-plan.field-0.0 (document_in b.plan) = rw c.plan.ensures at c.in_err-plan.ensures in
-    rw (p.1, p.2) (reading_fails b.command (exactly (catalog_of b.catalog)) (exactly (document_in b.plan)) c.in_ok-catalog.catalog (document_in b.plan) c.in_err-plan.field-0.0 declares (λ P h. h) fails)
+    rw (p.1, p.2) (reading_fails (exactly (catalog_of b.catalog)) (exactly (document_in b.plan)) c.in_ok-catalog.catalog (document_in b.plan) c.in_err-plan.field-0.0 declares (λ P h. h) fails)
 
-pub returns-in_err-plan_over-clause-refused : goal.returns-in_err-plan_over-clause-refused
-returns-in_err-plan_over-clause-refused c =
+pub returns-in_err-resolve-clause-refused : goal.returns-in_err-resolve-clause-refused
+returns-in_err-resolve-clause-refused c =
     let b = bundle_form c.args.bundle.now in
     let d = document_of c.in_ok-plan.plan in
-    let p = err_from_is_err_and c.from_residual-in_err-plan_over.result c.from_residual-in_err-plan_over.ensures.1 in
+    let p = err_from_is_err_and c.from_residual-in_err-resolve.result c.from_residual-in_err-resolve.ensures.1 in
     let declares : catalog_of b.catalog ≡ Ok c.in_ok-catalog.catalog = rw c.catalog.ensures at c.in_ok-catalog.ensures in
     let reads : document_in b.plan ≡ Ok d = rw c.plan.ensures at c.in_ok-plan.ensures in
-    let fails : plan.Fails c.in_err-plan_over.field-0.0 (plan_over b.command c.in_ok-catalog.catalog d) = rw c.command.ensures at c.in_err-plan_over.ensures.plan in
-    rw (p.1, p.2) (planning_fails b.command (exactly (catalog_of b.catalog)) (exactly (document_in b.plan)) c.in_ok-catalog.catalog d (document_in b.plan) c.in_err-plan_over.field-0.0 declares (λ P h. h) reads fails)
+    rw (p.1, p.2) (planning_fails (exactly (catalog_of b.catalog)) (exactly (document_in b.plan)) c.in_ok-catalog.catalog d (document_in b.plan) c.in_err-resolve.field-0.0 declares (λ P h. h) reads c.in_err-resolve.ensures)
 
 pub returns-clause-planned : goal.returns-clause-planned
 returns-clause-planned c =
@@ -42,6 +41,5 @@ returns-clause-planned c =
     let d = document_of c.in_ok-plan.plan in
     let declares : catalog_of b.catalog ≡ Ok c.in_ok-catalog.catalog = rw c.catalog.ensures at c.in_ok-catalog.ensures in
     let reads : document_in b.plan ≡ Ok d = rw c.plan.ensures at c.in_ok-plan.ensures in
-    let planned : plan_over b.command c.in_ok-catalog.catalog d ≡ Ok (resolved_of c.in_ok-plan_over.field-0) = rw c.command.ensures at c.in_ok-plan_over.ensures.plan in
-    is_planned b.command (exactly (catalog_of b.catalog)) (exactly (document_in b.plan)) c.in_ok-catalog.catalog d (document_in b.plan) (resolved_of c.in_ok-plan_over.field-0) c.in_ok-plan_over.ensures.over declares
-    (λ P h. h) reads planned
+    is_planned (exactly (catalog_of b.catalog)) (exactly (document_in b.plan)) c.in_ok-catalog.catalog d (document_in b.plan) (resolved_of c.in_ok-resolve.field-0) declares
+    (λ P h. h) reads c.in_ok-resolve.ensures

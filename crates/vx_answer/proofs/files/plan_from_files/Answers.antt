@@ -57,30 +57,30 @@ returns-in_err-plan-clause-refused g c =
     let P : List ℕ → Type 0 = λ bytes. catalog_text bytes ≡ Ok c.in_ok-catalog.catalog in
     let declares : P c.in_ok-catalog_text.catalog_text.items = rw c.as_slice.ensures.value at c.in_ok-catalog.ensures in
     let fails : plan.Fails fault (document_of_text written) = rw c.as_slice-2.ensures.value at c.in_err-plan.ensures in
-    rw (p.1, p.2) (for_contents (reading_fails c.args.command (catalog_at files before paths) (plan_at files before paths) c.in_ok-catalog.catalog (document_of_text written) fault
+    rw (p.1, p.2) (for_contents (reading_fails (catalog_at files before paths) (plan_at files before paths) c.in_ok-catalog.catalog (document_of_text written) fault
     (known_all P (known_at files before first) c.in_ok-catalog_text.catalog_text.items c.in_ok-catalog_text.ensures.bytes declares)
     (λ Q h. known_next (λ bytes. Q (document_of_text bytes)) files before after first second c.is_input-was_read.result written c.is_input-was_read.ensures (λ other. ap (g.I.ByteIn.remaining) (c.in_ok-catalog_text.ensures.kept other)) c.in_ok-plan_text.ensures.bytes h)
     fails))
 
-pub returns-in_err-plan_over-clause-refused : goal.returns-in_err-plan_over-clause-refused
-returns-in_err-plan_over-clause-refused g c =
+pub returns-in_err-resolve-clause-refused : goal.returns-in_err-resolve-clause-refused
+returns-in_err-resolve-clause-refused g c =
     let files = g.F.Store.holds c.args.files.now in
     let before = g.I.ByteIn.remaining c.args.input.now in
     let after = g.I.ByteIn.remaining c.bytes_at.new.input in
     let first = c.args.sources.catalog.now in
     let second = c.args.sources.plan.now in
-    let fault = c.in_err-plan_over.field-0.0 in
+    let fault = c.in_err-resolve.field-0.0 in
     let written = c.in_ok-plan_text.plan_text.items in
     let paths = paths_are c.args.sources in
     let d = document_of c.in_ok-plan.plan in
-    let p = err_from_is_err_and c.from_residual-in_err-plan_over.result c.from_residual-in_err-plan_over.ensures.1 in
+    let p = err_from_is_err_and c.from_residual-in_err-resolve.result c.from_residual-in_err-resolve.ensures.1 in
     let P : List ℕ → Type 0 = λ bytes. catalog_text bytes ≡ Ok c.in_ok-catalog.catalog in
     let declares : P c.in_ok-catalog_text.catalog_text.items = rw c.as_slice.ensures.value at c.in_ok-catalog.ensures in
     let reads : document_of_text written ≡ Ok d = rw c.as_slice-2.ensures.value at c.in_ok-plan.ensures in
-    rw (p.1, p.2) (for_contents (planning_fails c.args.command (catalog_at files before paths) (plan_at files before paths) c.in_ok-catalog.catalog d (document_of_text written) fault
+    rw (p.1, p.2) (for_contents (planning_fails (catalog_at files before paths) (plan_at files before paths) c.in_ok-catalog.catalog d (document_of_text written) fault
     (known_all P (known_at files before first) c.in_ok-catalog_text.catalog_text.items c.in_ok-catalog_text.ensures.bytes declares)
     (λ Q h. known_next (λ bytes. Q (document_of_text bytes)) files before after first second c.is_input-was_read.result written c.is_input-was_read.ensures (λ other. ap (g.I.ByteIn.remaining) (c.in_ok-catalog_text.ensures.kept other)) c.in_ok-plan_text.ensures.bytes h)
-    reads c.in_err-plan_over.ensures.plan))
+    reads c.in_err-resolve.ensures))
 
 pub returns-clause-planned : goal.returns-clause-planned
 returns-clause-planned g c =
@@ -95,7 +95,7 @@ returns-clause-planned g c =
     let P : List ℕ → Type 0 = λ bytes. catalog_text bytes ≡ Ok c.in_ok-catalog.catalog in
     let declares : P c.in_ok-catalog_text.catalog_text.items = rw c.as_slice.ensures.value at c.in_ok-catalog.ensures in
     let reads : document_of_text written ≡ Ok d = rw c.as_slice-2.ensures.value at c.in_ok-plan.ensures in
-    is_planned c.args.command (catalog_at files before paths) (plan_at files before paths) c.in_ok-catalog.catalog d (document_of_text written) (resolved_of c.in_ok-plan_over.field-0) c.in_ok-plan_over.ensures.over
+    is_planned (catalog_at files before paths) (plan_at files before paths) c.in_ok-catalog.catalog d (document_of_text written) (resolved_of c.in_ok-resolve.field-0)
     (known_all P (known_at files before first) c.in_ok-catalog_text.catalog_text.items c.in_ok-catalog_text.ensures.bytes declares)
     (λ Q h. known_next (λ bytes. Q (document_of_text bytes)) files before after first second c.is_input-was_read.result written c.is_input-was_read.ensures (λ other. ap (g.I.ByteIn.remaining) (c.in_ok-catalog_text.ensures.kept other)) c.in_ok-plan_text.ensures.bytes h)
-    reads c.in_ok-plan_over.ensures.plan
+    reads c.in_ok-resolve.ensures

@@ -1,15 +1,17 @@
 use Rattle.std.specs.Prelude.{IfOk}
-use Rattle.std.proofs.Common.{◌≡◌, ap, subst, sym, ◌∙◌, true}
+use Rattle.std.proofs.Common.{◌≡◌, ap, subst, sym, ◌∙◌, true, length}
+use Rattle.vx_rows.specs.View.{AreColumns}
 use Rattle.vx_plan_nodes.specs.Outline.{plan_of, claim_of, kind_of, size_of}
 use Rattle.vx_plan_nodes.specs.Plan.{size}
 use Rattle.vx_plan_nodes.specs.Streams.{workers}
+use Rattle.vx_plan_nodes.specs.Typed.{typed}
+use Rattle.vx_plan_nodes.specs.TypedView.{scope}
 use Rattle.vx_plan_nodes.specs.Types.{types_of}
 use Rattle.vx_check_rules.specs.Checked.{relations}
 use Rattle.vx_operators.specs.declared.operator.Operator.TheVariants as operator
-use Rattle.vx_setup.specs.Runnable.{can_run}
 use Rattle.vx_exec.specs.Crew.{IsOperatorOf}
 use Rattle.vx_exec.specs.Sizes.{group_at}
-use Rattle.vx_exec.proofs.Fragments.{scan-operator, consumer-made}
+use Rattle.vx_exec.proofs.Fragments.{scan-operator, consumer-made, exchange-columns}
 use Rattle.vx_exec.proofs.fragment.operator_of.Goals as goal
 
 pub returns-in_ok-types-in-Scan : goal.returns-in_ok-types-in-Scan
@@ -33,6 +35,17 @@ returns-in_ok-types-in-Exchange c =
     let made = c.consumer_operator in
     subst (λ z. IfOk made.result (IsOperatorOf j c.args.place (plan_of z))) (sym c.in-Exchange.is)
     (consumer-made j c.args.place h.number (claim_of h.claim) (kind_of x.kind) x.merge.items (plan_of c.in-Exchange.input.value) types c.workers-producers.result made.result
-    (subst (λ z. can_run (plan_of z) ≡ true) c.in-Exchange.is c.requires.runs) made.ensures.op made.ensures.stands made.ensures.reads made.ensures.returns
+    made.ensures.op made.ensures.stands made.ensures.reads made.ensures.returns
     (c.workers-producers.ensures.value ∙ ap (λ z. workers (group_at j.groups.items) z) c.size.ensures ∙ ap (λ z. workers (group_at j.groups.items) (size (plan_of z))) c.deref-in-Exchange.ensures)
     (subst (λ z. types ≡ types_of (relations j.plan.now) (plan_of z)) c.in-Exchange.is given))
+
+pub consumer_operator-requires-clause-columns : goal.consumer_operator-requires-clause-columns
+consumer_operator-requires-clause-columns c =
+    let j = c.args.job.now in
+    let types = c.in_ok-types-in-Exchange.types.items in
+    let given : types ≡ types_of (relations j.plan.now) (plan_of c.args.node.now) = c.in_ok-types-in-Exchange.ensures.items ∙ c.output_types-in-Exchange.ensures (relations j.plan.now) c.requires.outputs in
+    let h = c.in-Exchange.head in
+    let x = c.in-Exchange.exchange in
+    subst (λ z. AreColumns (length z) x.merge.items) (sym (subst (λ z. types ≡ types_of (relations j.plan.now) (plan_of z)) c.in-Exchange.is given))
+    (exchange-columns (scope j.plan.now) h.number (claim_of h.claim) (kind_of x.kind) x.merge.items (plan_of c.in-Exchange.input.value)
+    (subst (λ z. typed (scope j.plan.now) (plan_of z) ≡ true) c.in-Exchange.is c.requires.nodes_typed))

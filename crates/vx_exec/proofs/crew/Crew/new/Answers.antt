@@ -12,10 +12,10 @@ use Rattle.vx_exec.proofs.Parts.{root-is-part}
 use Rattle.vx_exec.proofs.crew.Crew.new.Goals as goal
 
 pub at_root-requires : goal.at_root-requires
-at_root-requires c = root-is-part c.args.job.now c.plan.result.now c.root-root.result.now c.plan.ensures.same c.root-root.ensures.root c.requires.runs
+at_root-requires c = root-is-part c.args.job.now c.plan.result.now c.root-root.result.now c.plan.ensures.same c.root-root.ensures.root
 
 pub add_below-requires : goal.add_below-requires
-add_below-requires c = root-is-part c.args.job.now c.plan.result.now c.root-root.result.now c.plan.ensures.same c.root-root.ensures.root c.requires.runs
+add_below-requires c = root-is-part c.args.job.now c.plan.result.now c.root-root.result.now c.plan.ensures.same c.root-root.ensures.root
 
 pub returns-clause-ready : goal.returns-clause-ready
 returns-clause-ready c = λ hash.
