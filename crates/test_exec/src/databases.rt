@@ -1,11 +1,11 @@
-//! What the tests of operators share: databases of two relations, and plans over them in which words stand for scans.
+//! What the tests of plans share: databases of two relations, and plans over them in which words stand for scans.
 
+use crate::plans::accepted;
 use std::alloc::{AllocError, Global};
 use std::test::Fail;
 use vx_bytes::MemoryIn;
 use vx_catalog::{Catalog, Database, Loader};
-use vx_check::{CheckedPlan, check};
-use vx_plan::{Plan, resolve};
+use vx_check::CheckedPlan;
 
 // The relations t(id, k, v), by its key and order id, and d(k, n), by its key k.
 const CATALOG: &str =
@@ -14,14 +14,28 @@ const CATALOG: &str =
 /// Rows of t.
 pub const ROWS_OF_T: &str = "0,a,5\n1,b,7\n2,a,-2\n3,c,7\n";
 
+/// Rows of t whose sum by the key k leaves 64 bits before the third comes.
+pub const LARGE: &str = "0,a,9223372036854775807\n1,a,1\n2,a,-1\n";
+
+/// The first two of these rows.
+pub const TOO_LARGE: &str = "0,a,9223372036854775807\n1,a,1\n";
+
 /// Rows of d.
 pub const ROWS_OF_D: &str = "a,10\nb,20\n";
 
-// What stands in a plan for a word in capitals. Many workers share the rows of t, and of those of d each has all.
-const SCANS: [(&str, &str); 3] = [
+// What stands in a plan for a word in capitals. Many workers share the rows of a relation, or each of them has all, or one worker has.
+const SCANS: [(&str, &str); 5] = [
     (
         "T_SHARED",
         r#"{"op":"scan","relation":"t","mode":"shared","size":"many","claim":{"part":"any","order":["id"],"keys":[["id"]]}}"#,
+    ),
+    (
+        "T_PLAIN",
+        r#"{"op":"scan","relation":"t","mode":"shared","size":"many"}"#,
+    ),
+    (
+        "D_SHARED",
+        r#"{"op":"scan","relation":"d","mode":"shared","size":"many","prefix":"d.","claim":{"part":"any","keys":[["d.k"]]}}"#,
     ),
     (
         "D_EVERYWHERE",
@@ -33,27 +47,23 @@ const SCANS: [(&str, &str); 3] = [
     ),
 ];
 
-// The text of a plan with these members, in which each word in capitals is replaced by a scan.
-fn with_scans(alloc: Global, members: &str) -> Result<String, AllocError> {
-    let mut text = format!(in alloc; "{{\"sizes\":[\"many\"],{members}}}")?;
+// The text of a document in which each word in capitals is replaced by a scan.
+fn with_scans(alloc: Global, document: &str) -> Result<String, AllocError> {
+    let mut text = String::from_str(alloc, document)?;
     for (word, scan) in SCANS {
         text = text.replace(alloc, word, scan)?;
     }
     Ok(text)
 }
 
-/// A plan with these members, in which words in capitals stand for scans, as the checker accepts it.
-pub fn plan_of(alloc: Global, members: &str) -> Result<CheckedPlan, Fail> {
+/// The plan of a document, in which words in capitals stand for scans, as the checker accepts it.
+pub fn plan_of(alloc: Global, document: &str) -> Result<CheckedPlan, Fail> {
     let catalog = Catalog::read(alloc, CATALOG.as_bytes())?;
-    let plan = Plan::read(alloc, with_scans(alloc, members)?.as_bytes())?;
-    match check(resolve(alloc, &plan, &catalog)?) {
-        Ok(plan) => Ok(plan),
-        Err(_) => Err(Fail::new("the plan is accepted")),
-    }
+    accepted(alloc, &catalog, with_scans(alloc, document)?.as_str())
 }
 
-// Fills a relation with the rows of a text.
-fn fill(
+/// Fills a relation with the rows of a text.
+pub fn fill(
     alloc: Global,
     catalog: &Catalog,
     database: &mut Database,

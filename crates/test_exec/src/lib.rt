@@ -1,17 +1,25 @@
-//! What no clause says of runs: small plans of each operator deliver their rows by rounds and by schedules, and setups are
-//! refused with their lines.
+//! What no clause says of runs: small plans of each operator and of each exchange deliver their rows by rounds and by schedules, and
+//! setups are refused with their lines.
 //!
 //! The tests stand in a crate of their own, since a crate with tests is proved twice.
 #![tactic(auto)]
 
 #[cfg(test)]
+mod cases;
+#[cfg(test)]
+mod crowds;
+#[cfg(test)]
 mod databases;
 #[cfg(test)]
 mod draws;
 #[cfg(test)]
+mod exchanges;
+#[cfg(test)]
 mod operators;
 #[cfg(test)]
 mod plans;
+#[cfg(test)]
+mod queries;
 #[cfg(test)]
 mod runs;
 #[cfg(test)]
@@ -20,3 +28,5 @@ mod schedules;
 mod setups;
 #[cfg(test)]
 mod sizes;
+#[cfg(test)]
+mod worked;

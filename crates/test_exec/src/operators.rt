@@ -1,21 +1,12 @@
 //! What no clause says of operators: workers that run them come to the serial rows, whatever the number of workers and the
 //! schedule. A hash join reads its left input to the end, and a group overflows only then.
 
-use crate::databases::{ROWS_OF_D, ROWS_OF_T, database_of, plan_of};
-use crate::draws::{Draws, SCHEDULES, in_turn};
+use crate::cases::{Case, agrees, by_rounds, by_steps, case_of, serially, wrong_schedules};
+use crate::databases::{LARGE, ROWS_OF_D, ROWS_OF_T, TOO_LARGE};
+use crate::draws::{Draws, in_turn};
 use crate::plans::{ToFirst, of_workers};
 use std::alloc::{AllocError, Global};
 use std::test::Fail;
-use test_tables::shown;
-use vx_catalog::Database;
-use vx_check::CheckedPlan;
-use vx_exec::{Ran, RunFault, run_rounds, run_scheduled};
-use vx_plan::erase;
-use vx_serial::eval;
-use vx_views::Rows;
-
-// More rounds than a run of these plans has.
-const ROUNDS: u64 = 100_000;
 
 // Turns in which a run of three workers below the root ends, whatever was drawn before.
 const TURNS: u32 = 50;
@@ -83,77 +74,17 @@ const SUMS_IN_TWO_PHASES: &str =
 const JOINED_SUMS: &str =
     r#""root":{"op":"join","method":"hash","on":[["k","d.k"]],"left":{"op":"group","by":["k"],"aggregates":[{"fn":"sum","column":"v","as":"s"}],"input":{"op":"exchange","kind":"gather","input":T_SHARED}},"right":D_WHOLE}"#;
 
-// Rows whose sum leaves 64 bits before the third comes, and the first two of them.
-const LARGE: &str = "0,a,9223372036854775807\n1,a,1\n2,a,-1\n";
-
-const TOO_LARGE: &str = "0,a,9223372036854775807\n1,a,1\n";
-
-// A plan over a database.
-#[derive(Drop)]
-struct Case {
-    plan: CheckedPlan,
-    database: Database,
-}
-
 // A plan with these members over these rows.
-fn case_of(alloc: Global, members: &str, rows_of_t: &str, rows_of_d: &str) -> Result<Case, Fail> {
-    Ok(Case {
-        plan: plan_of(alloc, members)?,
-        database: database_of(alloc, rows_of_t, rows_of_d)?,
-    })
-}
-
-// The rows as one text.
-fn text_of(alloc: Global, rows: &Rows) -> Result<String, AllocError> {
-    shown(alloc, &rows.gathered(alloc)?)
-}
-
-// What a run comes to: its rows as one text, the line of its fault, or that some worker has not ended.
-fn told(alloc: Global, ran: Result<Ran, RunFault>) -> Result<String, AllocError> {
-    match ran {
-        Ok(Ran::Done(rows)) => text_of(alloc, &rows),
-        Ok(Ran::Unfinished) => String::from_str(alloc, "unfinished"),
-        Err(fault) => format!(in alloc; "{fault}"),
-    }
-}
-
-// What so many workers come to in rounds.
-fn by_rounds(alloc: Global, case: &Case, workers: u32) -> Result<String, Fail> {
-    let setup = of_workers(alloc, workers)?;
-    let ran = run_rounds(alloc, &case.plan, &case.database, &setup, &ToFirst, ROUNDS);
-    Ok(told(alloc, ran)?)
-}
-
-// What so many workers below the root come to by a schedule.
-fn by_steps(alloc: Global, case: &Case, workers: u32, steps: &[u32]) -> Result<String, Fail> {
-    let setup = of_workers(alloc, workers)?;
-    let ran = run_scheduled(alloc, &case.plan, &case.database, &setup, &ToFirst, steps);
-    Ok(told(alloc, ran)?)
-}
-
-// The rows of a text, sorted.
-fn sorted(alloc: Global, text: &str) -> Result<Vec<&str>, AllocError> {
-    let mut rows = Vec::new(alloc);
-    for row in text.split(';') {
-        rows.push(row)?;
-    }
-    rows.sort()?;
-    Ok(rows)
-}
-
-// Whether a text has the rows of another, in the same order if the plan is total.
-fn agrees(alloc: Global, case: &Case, text: &str, serial: &str) -> Result<bool, AllocError> {
-    if case.plan.is_total() {
-        return Ok(text == serial);
-    }
-    Ok(sorted(alloc, text)?.as_slice() == sorted(alloc, serial)?.as_slice())
+fn case_with(alloc: Global, members: &str, rows_of_t: &str, rows_of_d: &str) -> Result<Case, Fail> {
+    let document = format!(in alloc; "{{\"sizes\":[\"many\"],{members}}}")?;
+    case_of(alloc, document.as_str(), rows_of_t, rows_of_d)
 }
 
 // The numbers of workers with which rounds come to other rows.
-fn wrong_teams(alloc: Global, case: &Case, serial: &str) -> Result<Vec<u32>, Fail> {
+fn wrong_teams(alloc: Global, case: &Case, serial: &str) -> Result<Vec<u32>, AllocError> {
     let mut wrong = Vec::new(alloc);
     for workers in [1, 3, 64] {
-        let text = by_rounds(alloc, case, workers)?;
+        let text = by_rounds(alloc, case, &of_workers(alloc, workers)?, &ToFirst)?;
         if !agrees(alloc, case, text.as_str(), serial)? {
             wrong.push(workers)?;
         }
@@ -161,40 +92,32 @@ fn wrong_teams(alloc: Global, case: &Case, serial: &str) -> Result<Vec<u32>, Fai
     Ok(wrong)
 }
 
-// Whether the serial evaluation has these rows in this order.
-fn is_serial(alloc: Global, case: &Case, serial: &str) -> Result<bool, Fail> {
-    let rows = eval(alloc, &erase(alloc, case.plan.plan())?, &case.database)?;
-    Ok(text_of(alloc, &rows)?.as_str() == serial)
+// What three workers below the root come to by a schedule.
+fn by_three(alloc: Global, case: &Case, steps: &[u32]) -> Result<String, AllocError> {
+    by_steps(alloc, case, &of_workers(alloc, 3)?, &ToFirst, steps)
 }
 
 // How many of the schedules that are drawn for three workers below the root come to other rows.
-fn wrong_schedules(alloc: Global, case: &Case, serial: &str) -> Result<u32, Fail> {
-    let mut draws = Draws::new();
-    let mut wrong = 0u32;
-    for _ in 0..SCHEDULES {
-        let steps = draws.schedule(alloc, 4, TURNS)?;
-        let text = by_steps(alloc, case, 3, steps.as_slice())?;
-        if !agrees(alloc, case, text.as_str(), serial)? {
-            wrong = wrong.saturating_add(1);
-        }
-    }
-    Ok(wrong)
+fn wrong_of_three(alloc: Global, case: &Case, serial: &str) -> Result<u32, AllocError> {
+    let setup = of_workers(alloc, 3)?;
+    wrong_schedules(alloc, case, &setup, &ToFirst, 4, TURNS, serial)
 }
 
 // Whether a schedule that is drawn for 64 workers below the root comes to these rows.
-fn agrees_by_many(alloc: Global, case: &Case, serial: &str) -> Result<bool, Fail> {
+fn agrees_by_many(alloc: Global, case: &Case, serial: &str) -> Result<bool, AllocError> {
     let steps = Draws::new().schedule(alloc, 65, 1000)?;
-    let text = by_steps(alloc, case, 64, steps.as_slice())?;
-    Ok(agrees(alloc, case, text.as_str(), serial)?)
+    let setup = of_workers(alloc, 64)?;
+    let text = by_steps(alloc, case, &setup, &ToFirst, steps.as_slice())?;
+    agrees(alloc, case, text.as_str(), serial)
 }
 
 // The first of these plans that comes to other rows in some way.
 fn first_wrong(alloc: Global, plans: &[(&str, &str)]) -> Result<Option<usize>, Fail> {
     for (index, (members, serial)) in plans.iter().enumerate() {
-        let case = case_of(alloc, members, ROWS_OF_T, ROWS_OF_D)?;
-        if !is_serial(alloc, &case, serial)?
+        let case = case_with(alloc, members, ROWS_OF_T, ROWS_OF_D)?;
+        if serially(alloc, &case)?.as_str() != *serial
             || !wrong_teams(alloc, &case, serial)?.is_empty()
-            || wrong_schedules(alloc, &case, serial)? > 0
+            || wrong_of_three(alloc, &case, serial)? > 0
             || !agrees_by_many(alloc, &case, serial)?
         {
             return Ok(Some(index));
@@ -224,17 +147,17 @@ fn joins_come_to_the_serial_rows(rt: HostRuntime) -> Result<(), Fail> {
 #[test]
 fn the_order_of_its_rows_makes_no_sum_too_large(rt: HostRuntime) -> Result<(), Fail> {
     let alloc = rt.alloc();
-    let case = case_of(alloc, SUMS, LARGE, ROWS_OF_D)?;
+    let case = case_with(alloc, SUMS, LARGE, ROWS_OF_D)?;
     let serial = "'a' 9223372036854775807;";
     assert!(rt; wrong_teams(alloc, &case, serial)?.is_empty());
-    assert_eq!(rt; wrong_schedules(alloc, &case, serial)?, 0);
+    assert_eq!(rt; wrong_of_three(alloc, &case, serial)?, 0);
     Ok(())
 }
 
 #[test]
 fn a_group_overflows_only_after_its_input(rt: HostRuntime) -> Result<(), Fail> {
     let alloc = rt.alloc();
-    let case = case_of(alloc, SUMS, TOO_LARGE, ROWS_OF_D)?;
+    let case = case_with(alloc, SUMS, TOO_LARGE, ROWS_OF_D)?;
     // Worker 2 sends both rows, and worker 3 has not yet sent that it has none.
     for (workers, line) in [
         ([2, 1, 0, 0, 0], "unfinished"),
@@ -242,7 +165,7 @@ fn a_group_overflows_only_after_its_input(rt: HostRuntime) -> Result<(), Fail> {
         ([3, 2, 1, 0, 0], "X7 Overflow node=0"),
     ] {
         let steps = in_turn(alloc, workers.as_slice(), 1000)?;
-        assert_eq!(rt; by_steps(alloc, &case, 3, steps.as_slice())?.as_str(), line);
+        assert_eq!(rt; by_three(alloc, &case, steps.as_slice())?.as_str(), line);
     }
     Ok(())
 }
@@ -256,8 +179,8 @@ fn a_partial_group_overflows_by_itself(rt: HostRuntime) -> Result<(), Fail> {
         (LARGE, "'a' 9223372036854775807;"),
         (TOO_LARGE, "X7 Overflow node=2"),
     ] {
-        let case = case_of(alloc, SUMS_IN_TWO_PHASES, rows_of_t, ROWS_OF_D)?;
-        assert_eq!(rt; by_steps(alloc, &case, 3, steps.as_slice())?.as_str(), line);
+        let case = case_with(alloc, SUMS_IN_TWO_PHASES, rows_of_t, ROWS_OF_D)?;
+        assert_eq!(rt; by_three(alloc, &case, steps.as_slice())?.as_str(), line);
     }
     Ok(())
 }
@@ -271,13 +194,13 @@ fn a_hash_join_reads_its_left_input_to_the_end(rt: HostRuntime) -> Result<(), Fa
         (LARGE, ""),
         (TOO_LARGE, "X7 Overflow node=1"),
     ] {
-        let case = case_of(alloc, JOINED_SUMS, rows_of_t, "")?;
+        let case = case_with(alloc, JOINED_SUMS, rows_of_t, "")?;
         assert!(rt;
             wrong_teams(alloc, &case, serial)?.is_empty(),
             "{rows_of_t}"
         );
     }
-    let case = case_of(alloc, JOINED_SUMS, TOO_LARGE, "")?;
-    assert_eq!(rt; wrong_schedules(alloc, &case, "X7 Overflow node=1")?, 0);
+    let case = case_with(alloc, JOINED_SUMS, TOO_LARGE, "")?;
+    assert_eq!(rt; wrong_of_three(alloc, &case, "X7 Overflow node=1")?, 0);
     Ok(())
 }

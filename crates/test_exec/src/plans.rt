@@ -34,14 +34,18 @@ impl Router for ToFirst {
     }
 }
 
-/// A plan over the catalog, which the checker accepts.
-pub fn checked(alloc: Global, text: &str) -> Result<CheckedPlan, Fail> {
-    let catalog = Catalog::read(alloc, CATALOG.as_bytes())?;
+/// The plan of a text over a catalog, as the checker accepts it.
+pub fn accepted(alloc: Global, catalog: &Catalog, text: &str) -> Result<CheckedPlan, Fail> {
     let plan = Plan::read(alloc, text.as_bytes())?;
-    match check(resolve(alloc, &plan, &catalog)?) {
+    match check(resolve(alloc, &plan, catalog)?) {
         Ok(plan) => Ok(plan),
         Err(_) => Err(Fail::new("the plan is accepted")),
     }
+}
+
+/// A plan over the catalog, which the checker accepts.
+pub fn checked(alloc: Global, text: &str) -> Result<CheckedPlan, Fail> {
+    accepted(alloc, &Catalog::read(alloc, CATALOG.as_bytes())?, text)
 }
 
 /// The database of these rows.

@@ -270,6 +270,34 @@ fn a_range_counts_the_bounds_below(rt: HostRuntime) -> Result<(), Fail> {
     Ok(())
 }
 
+// Numbers, how many consumers there are, and the consumer of each by the bounds 2 and 10.
+const IN_RANGES: [(i64, u32, u32); 9] = [
+    (0, 2, 0),
+    (1, 2, 0),
+    (2, 2, 1),
+    (3, 2, 1),
+    (10, 2, 1),
+    (1, 3, 0),
+    (2, 3, 1),
+    (9, 3, 1),
+    (10, 3, 2),
+];
+
+#[test]
+fn a_bound_is_the_first_value_of_its_range(rt: HostRuntime) -> Result<(), Fail> {
+    let bounds = vec![in rt.alloc(); Value::Int(2), Value::Int(10)]?;
+    let ranges = Ranges::new(bounds);
+    for (number, consumers, consumer) in IN_RANGES {
+        assert!(rt; 1 <= consumers);
+        assert_eq!(rt;
+            ranges.consumer(Cell::Int(number), consumers),
+            consumer,
+            "{number}"
+        );
+    }
+    Ok(())
+}
+
 #[test]
 fn the_byte_router_sends_three_keys_apart(rt: HostRuntime) -> Result<(), Fail> {
     let alloc = rt.alloc();

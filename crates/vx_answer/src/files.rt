@@ -12,7 +12,7 @@ use std::alloc::Global;
 use vx_arguments::Sources;
 use vx_bytes::{ByteIn, ReadFault, Store, read_all};
 use vx_catalog::Catalog;
-use vx_plan::{Plan, TypedPlan};
+use vx_plan::{Plan, TypedPlan, resolve};
 use vx_refusals::Refusal;
 
 // The path of standard input.

@@ -1,0 +1,124 @@
+//! What the tests of plans share: a plan over a database, what its runs come to, and whether these are the rows that it has to come to.
+
+ghost use Rattle.std.specs.Prelude.{◌<◌};
+
+use crate::databases::{database_of, plan_of};
+use crate::draws::{Draws, SCHEDULES};
+use std::alloc::{AllocError, Global};
+use std::test::Fail;
+use test_tables::shown;
+use vx_catalog::Database;
+use vx_check::CheckedPlan;
+use vx_exec::{Ran, RunFault, Setup, run_rounds, run_scheduled};
+use vx_plan::{Router, erase};
+use vx_serial::eval;
+use vx_views::Rows;
+
+// More rounds than a run of these plans has.
+const ROUNDS: u64 = 100_000;
+
+/// A plan over a database.
+#[derive(Drop)]
+pub struct Case {
+    pub plan: CheckedPlan,
+    pub database: Database,
+}
+
+/// The plan of a document, in which words in capitals stand for scans, over these rows.
+pub fn case_of(
+    alloc: Global,
+    document: &str,
+    rows_of_t: &str,
+    rows_of_d: &str,
+) -> Result<Case, Fail> {
+    Ok(Case {
+        plan: plan_of(alloc, document)?,
+        database: database_of(alloc, rows_of_t, rows_of_d)?,
+    })
+}
+
+// The rows as one text.
+fn text_of(alloc: Global, rows: &Rows) -> Result<String, AllocError> {
+    shown(alloc, &rows.gathered(alloc)?)
+}
+
+// What a run comes to: its rows as one text, the line of its fault, or that some worker has not ended.
+fn told(alloc: Global, ran: Result<Ran, RunFault>) -> Result<String, AllocError> {
+    match ran {
+        Ok(Ran::Done(rows)) => text_of(alloc, &rows),
+        Ok(Ran::Unfinished) => String::from_str(alloc, "unfinished"),
+        Err(fault) => format!(in alloc; "{fault}"),
+    }
+}
+
+/// What a case comes to in rounds.
+pub fn by_rounds<R: Router>(
+    alloc: Global,
+    case: &Case,
+    setup: &Setup,
+    router: &R,
+) -> Result<String, AllocError> {
+    let ran = run_rounds(alloc, &case.plan, &case.database, setup, router, ROUNDS);
+    told(alloc, ran)
+}
+
+/// What a case comes to by a schedule.
+pub fn by_steps<R: Router>(
+    alloc: Global,
+    case: &Case,
+    setup: &Setup,
+    router: &R,
+    steps: &[u32],
+) -> Result<String, AllocError> {
+    let ran = run_scheduled(alloc, &case.plan, &case.database, setup, router, steps);
+    told(alloc, ran)
+}
+
+/// What a case comes to by serial evaluation, without its exchanges.
+pub fn serially(alloc: Global, case: &Case) -> Result<String, Fail> {
+    let rows = eval(alloc, &erase(alloc, case.plan.plan())?, &case.database)?;
+    Ok(text_of(alloc, &rows)?)
+}
+
+// The rows of a text, sorted.
+fn sorted(alloc: Global, text: &str) -> Result<Vec<&str>, AllocError> {
+    let mut rows = Vec::new(alloc);
+    for row in text.split(';') {
+        rows.push(row)?;
+    }
+    rows.sort()?;
+    Ok(rows)
+}
+
+/// Whether a text has these rows, in the same order if the plan is total.
+pub fn agrees(alloc: Global, case: &Case, text: &str, rows: &str) -> Result<bool, AllocError> {
+    if case.plan.is_total() {
+        return Ok(text == rows);
+    }
+    Ok(sorted(alloc, text)?.as_slice() == sorted(alloc, rows)?.as_slice())
+}
+
+/// How many of the schedules that are drawn for so many workers come to other rows. At the end of each schedule all workers make a step in
+/// turn, so many times.
+pub fn wrong_schedules<R: Router>(
+    alloc: Global,
+    case: &Case,
+    setup: &Setup,
+    router: &R,
+    workers: u32,
+    turns: u32,
+    rows: &str,
+) -> Result<u32, AllocError>
+    requires { 0 < workers }
+{
+    let mut draws = Draws::new();
+    let mut wrong = 0u32;
+    for _ in 0..SCHEDULES {
+        let steps = draws.schedule(alloc, workers, turns)?;
+        let text = by_steps(alloc, case, setup, router, steps.as_slice())?;
+        if !agrees(alloc, case, text.as_str(), rows)? {
+            wrong = wrong.saturating_add(1);
+        }
+    }
+    Ok(wrong)
+}
