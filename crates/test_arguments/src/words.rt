@@ -34,7 +34,7 @@ fn kind_of(alloc: Global, error: &Error) -> Result<String, AllocError> {
 }
 
 // Lines, and what each asks for.
-const ASKED: [(&str, &str); 6] = [
+const ASKED: [(&str, &str); 8] = [
     ("volcano", "Bundle"),
     (
         "volcano check --catalog c --plan=-",
@@ -56,6 +56,11 @@ const ASKED: [(&str, &str); 6] = [
         "volcano run --catalog c --plan p --data d --mode threads",
         r#"Run(Sources { catalog: "c", plan: "p" }, "d", Limits { packet: "256", morsel: "1024", slack: "8", mode: "threads", sizes: [] })"#,
     ),
+    ("volcano gen --rows 0", "Generate(0)"),
+    (
+        "volcano gen --rows=18446744073709551615",
+        "Generate(18446744073709551615)",
+    ),
 ];
 
 #[test]
@@ -67,7 +72,7 @@ fn commands_are_there(rt: HostRuntime) -> Result<(), Fail> {
 }
 
 // Lines that are refused, and the kind of each refusal.
-const REFUSED: [(&str, &str); 8] = [
+const REFUSED: [(&str, &str); 12] = [
     ("volcano check --catalog c", "MissingRequiredArgument"),
     (
         "volcano check --catalog c --plan p --data d",
@@ -85,6 +90,10 @@ const REFUSED: [(&str, &str); 8] = [
         "volcano run --catalog c --plan p --data d --slack 4294967296",
         "ValueValidation",
     ),
+    ("volcano gen", "MissingRequiredArgument"),
+    ("volcano gen --rows x", "ValueValidation"),
+    ("volcano gen --rows 18446744073709551616", "ValueValidation"),
+    ("volcano gen --rows 1 many=4", "UnknownArgument"),
     ("volcano fly", "InvalidSubcommand"),
     ("volcano --version", "DisplayVersion"),
     ("volcano run --help", "DisplayHelp"),

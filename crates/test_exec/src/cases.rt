@@ -1,4 +1,4 @@
-//! What the tests of plans share: a plan over a database, what its runs come to, and whether these are the rows that it has to come to.
+//! What the tests of plans share: a plan over a database, what its runs come to, and whether these are the right rows.
 
 ghost use Rattle.std.specs.Prelude.{◌<◌};
 
@@ -98,8 +98,8 @@ pub fn agrees(alloc: Global, case: &Case, text: &str, rows: &str) -> Result<bool
     Ok(sorted(alloc, text)?.as_slice() == sorted(alloc, rows)?.as_slice())
 }
 
-/// How many of the schedules that are drawn for so many workers come to other rows. At the end of each schedule all workers make a step in
-/// turn, so many times.
+/// How many of the schedules that are drawn for so many workers come to other rows. At the end of each schedule all
+/// workers make a step in turn, so many times.
 pub fn wrong_schedules<R: Router>(
     alloc: Global,
     case: &Case,

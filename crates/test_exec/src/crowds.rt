@@ -11,8 +11,8 @@ use vx_exec::Setup;
 const IN_A_ROW: &str =
     r#"{"sizes":["many","few"],"total":true,"root":{"op":"exchange","kind":"gather","merge":["id"],"claim":{"part":"one","order":["id"],"keys":[["id"]]},"input":{"op":"exchange","kind":"round","merge":["id"],"size":"many","claim":{"part":"any","order":["id"],"keys":[["id"]]},"input":{"op":"exchange","kind":"round","merge":["id"],"size":"many","claim":{"part":"any","order":["id"],"keys":[["id"]]},"input":{"op":"exchange","kind":"round","merge":["id"],"size":"many","claim":{"part":"any","order":["id"],"keys":[["id"]]},"input":{"op":"scan","relation":"t","mode":"shared","size":"few","claim":{"part":"any","order":["id"],"keys":[["id"]]}}}}}}}"#;
 
-// How many workers the exchanges have, and how many scan; the slack; and what comes of them. With the root these are three times the first,
-// and the second, and one.
+// How many workers each of the three exchanges has, how many scan, the slack, and what comes of them. With the root's
+// worker there are three times as many as the first, as many as the second, and one.
 const CROWDS: [(u32, u32, u32, &str); 6] = [
     (1, 1, 4, "0 'a' 5;1 'b' 7;2 'a' -2;3 'c' 7;"),
     (64, 62, 4, "0 'a' 5;1 'b' 7;2 'a' -2;3 'c' 7;"),

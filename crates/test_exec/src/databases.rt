@@ -23,7 +23,8 @@ pub const TOO_LARGE: &str = "0,a,9223372036854775807\n1,a,1\n";
 /// Rows of d.
 pub const ROWS_OF_D: &str = "a,10\nb,20\n";
 
-// What stands in a plan for a word in capitals. Many workers share the rows of a relation, or each of them has all, or one worker has.
+// What stands in a plan for a word in capitals. Many workers share the rows of a relation, or each of them has all, or
+// one worker has.
 const SCANS: [(&str, &str); 5] = [
     (
         "T_SHARED",

@@ -1,5 +1,5 @@
-//! What no clause says of exchanges: of whatever kind they are, and however many workers send and read, a run comes to just the rows that were
-//! sent, in their order where the plan is total.
+//! What no clause says of exchanges: of whatever kind they are, and however many workers send and read, a run comes to
+//! just the rows that were sent, in their order where the plan is total.
 
 use crate::cases::{agrees, by_rounds, case_of};
 use std::alloc::{AllocError, Global};
@@ -42,8 +42,8 @@ const MERGED: [&str; 5] = [
     r#"{"sizes":["many","readers"],"total":true,"root":{"op":"exchange","kind":"gather","merge":["id"],"claim":{"part":"one","order":["id"],"keys":[["id"]]},"input":T_SHARED}}"#,
 ];
 
-// Total plans that sort the rows by their last column, which falls where their number rises: in ranges that are joined one behind the other,
-// and in parts that are merged.
+// Total plans that sort the rows by their last column, which falls where their number rises: in ranges that are joined
+// one behind the other, and in parts that are merged.
 const SORTED: [&str; 3] = [
     r#"{"sizes":["many","readers"],"ranges":[{"name":"r","bounds":[-100,-40,-3,0]}],"total":true,"root":{"op":"exchange","kind":"concat","claim":{"part":"one","order":["v","id"],"keys":[["id"]]},"input":{"op":"sort","columns":["v","id"],"claim":{"part":{"range":"r","column":"v"},"order":["v","id"],"keys":[["id"]]},"input":{"op":"exchange","kind":"range","route":"r","column":"v","size":"readers","claim":{"part":{"range":"r","column":"v"},"keys":[["id"]]},"input":T_SHARED}}}}"#,
     r#"{"sizes":["many","readers"],"total":true,"root":{"op":"exchange","kind":"gather","merge":["v","id"],"claim":{"part":"one","order":["v","id"],"keys":[["id"]]},"input":{"op":"sort","columns":["v","id"],"claim":{"part":"any","order":["v","id"],"keys":[["id"]]},"input":T_SHARED}}}"#,
@@ -58,7 +58,8 @@ struct Numbered {
     falling: String,
 }
 
-// The text that is loaded, and the text that is shown, of the row with a number: one of seven letters, and the number below 0.
+// The text that is loaded and the text that is shown of the row with a number. Its key is one of seven, and its value
+// falls where the number rises.
 fn row_texts(alloc: Global, number: i64) -> Result<(String, String), AllocError> {
     let key = number % 7;
     let value = 0i64.wrapping_sub(number);
@@ -68,7 +69,7 @@ fn row_texts(alloc: Global, number: i64) -> Result<(String, String), AllocError>
 }
 
 // The rows with the numbers below a count.
-fn numbered(alloc: Global, count: i64) -> Result<Numbered, AllocError> {
+fn rows_below(alloc: Global, count: i64) -> Result<Numbered, AllocError> {
     let mut rows = Numbered {
         loaded: String::new(alloc),
         rising: String::new(alloc),
@@ -115,7 +116,7 @@ fn exchanges_that_send_keep_the_rows(rt: HostRuntime) -> Result<(), Fail> {
     let alloc = rt.alloc();
     for (many, readers, packet, count) in RUNS {
         let setup = setup_of(alloc, many, readers, packet)?;
-        let rows = numbered(alloc, count)?;
+        let rows = rows_below(alloc, count)?;
         let wrong = first_wrong(
             alloc,
             &SENT,
@@ -133,7 +134,7 @@ fn exchanges_that_merge_keep_the_order(rt: HostRuntime) -> Result<(), Fail> {
     let alloc = rt.alloc();
     for (many, readers, packet, count) in RUNS {
         let setup = setup_of(alloc, many, readers, packet)?;
-        let rows = numbered(alloc, count)?;
+        let rows = rows_below(alloc, count)?;
         let wrong = first_wrong(
             alloc,
             &MERGED,
@@ -151,7 +152,7 @@ fn sorted_streams_are_joined_and_merged_in_order(rt: HostRuntime) -> Result<(), 
     let alloc = rt.alloc();
     for (many, readers, packet, count) in RUNS {
         let setup = setup_of(alloc, many, readers, packet)?;
-        let rows = numbered(alloc, count)?;
+        let rows = rows_below(alloc, count)?;
         let wrong = first_wrong(
             alloc,
             &SORTED,

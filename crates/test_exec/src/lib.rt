@@ -1,5 +1,5 @@
-//! What no clause says of runs: small plans of each operator and of each exchange deliver their rows by rounds and by schedules, and
-//! setups are refused with their lines.
+//! What no clause says of runs: plans of each operator and of each exchange deliver their rows by rounds and by
+//! schedules, and setups are refused with their lines.
 //!
 //! The tests stand in a crate of their own, since a crate with tests is proved twice.
 #![tactic(auto)]

@@ -1,5 +1,5 @@
-//! What no clause says of the plans to measure on: in rounds, with four workers of each group, they come to the rows of their serial
-//! evaluation, and those that put rows together by hundreds to what was worked out by hand.
+//! What no clause says of the plans to measure on: in rounds, with four workers of each group, they come to the rows of
+//! their serial evaluation, and those that put rows together by hundreds to what was worked out by hand.
 
 ghost use Rattle.std.specs.Prelude.{◌≤◌};
 

@@ -1,5 +1,5 @@
-//! What no clause says of worked plans: by rounds of teams of any size and by schedules that are drawn, they come to the rows that were
-//! worked out by hand, or to the fault of the one group that overflows.
+//! What no clause says of worked plans: by rounds of teams of any size and by schedules that are drawn, they come to the
+//! rows that were worked out by hand, or to the fault of the one group that overflows.
 
 ghost use Rattle.std.specs.Prelude.{◌<◌};
 
@@ -11,7 +11,7 @@ use std::alloc::{AllocError, Global};
 use std::test::Fail;
 use vx_exchange::ByteRouter;
 
-// In how many turns all workers make a step at the end of a schedule: more than the runs of three workers of each name need.
+// In how many turns all workers make a step at the end of a schedule: more than runs of three workers of each name need.
 const TURNS: u32 = 100;
 
 // The same for runs of 64 workers of each name.
@@ -47,8 +47,8 @@ const WORKED: [(&str, u32, &str); 4] = [
     (SENT_TO_MEET, 10, JOINED_ROWS),
 ];
 
-// The same of plans near to those: rows that one worker reads, that are sent by a key and gathered, grouped or joined without an order,
-// a merge join of merged streams, groups in two phases, and ranges that are joined one behind the other.
+// The same of plans near to those: rows that one worker reads, that are sent by a key and gathered, grouped or joined
+// without an order, a merge join of merged streams, groups in two phases, and ranges, one behind the other.
 const VARIANTS: [(&str, u32, &str); 8] = [
     (
         r#"{"sizes":["many"],"root":{"op":"exchange","kind":"broadcast","size":"one","claim":{"part":"one"},"input":{"op":"select","where":[{"column":"v","op":"=","value":7}],"input":T_PLAIN}}}"#,

@@ -12,6 +12,10 @@ mod lines;
 #[cfg(test)]
 mod operators;
 #[cfg(test)]
+mod refused_memory;
+#[cfg(test)]
+mod relations;
+#[cfg(test)]
 mod roots;
 #[cfg(test)]
 mod serials;

@@ -1,20 +1,24 @@
 -- From the answer to what arguments ask for, or its refusal, to that of the arguments.
-use Rattle.std.proofs.Common.{ℕ, List, Vec, Global, Bool, Option, Result, Ok, Err, inl, inr}
+use Rattle.std.proofs.Common.{◌≡◌, ◌∙◌, ℕ, List, Bool, Option, Result, Ok, Err, inl, inr, sym, subst}
 use Rattle.std.specs.Prelude.{IfOk, IfErr}
 use Rattle.clap.specs.Values.{kind_of}
-use Rattle.clap.specs.Words.{HasKind}
+use Rattle.clap.specs.Words.{HasKind, IsAmong}
 use Rattle.clap.specs.declared.error.Error.{Error}
+use Rattle.clap.specs.declared.error.kind.ErrorKind.{ErrorKind}
+use Rattle.clap.specs.declared.error.kind.ErrorKind.TheVariants as kind
 use Rattle.vx_plan_nodes.specs.Names.{TypedPlanView}
 use Rattle.vx_arguments.specs.Asked.{Ask, faults_of}
 use Rattle.vx_refusals.specs.declared.refusal.Refusal.{Refusal}
+use Rattle.vx_answer.specs.declared.command_line.ArgumentAnswer.{ArgumentAnswer}
+use Rattle.vx_answer.specs.declared.command_line.ArgumentAnswer.TheVariants as answer
 use Rattle.vx_answer.specs.declared.command_line.ArgumentFault.{ArgumentFault}
 use Rattle.vx_answer.specs.declared.command_line.ArgumentFault.TheVariants as fault
 use Rattle.vx_answer.specs.Commands.{CommandRefuses}
 use Rattle.vx_bytes.specs.Stored.{Stored}
 use Rattle.vx_tables.specs.Folder.{holds_at, LacksAt}
 use Rattle.vx_answer.specs.Files.{IsFilesPlan}
-use Rattle.vx_answer.specs.CommandLine.{FileCommand, TaskRefuses, for_plan_of, AnswersAsk, with_program_name, AsksFor, AnswersArguments, for_what_is_asked, for_kind, for_no_task, arguments_memory, for_ask}
-use Rattle.vx_answer.specs.CommandLineView.{IsClapFault, IsAskFault, IsArgumentFault}
+use Rattle.vx_answer.specs.CommandLine.{FileCommand, TaskRefuses, for_plan_of, with_program_name, AsksFor, for_help, for_what_is_asked, for_kind, for_no_task, arguments_memory, for_ask}
+use Rattle.vx_answer.specs.CommandLineView.{IsAskAnswer, IsArgumentAnswer, IsHelp, IsClapFault, IsAskFault, IsArgumentFault}
 
 -- what the command makes nothing of, the task has no answer to
 pub task_refused : {T : Type 0} (files : List ℕ → Stored) (reliable : List ℕ → Bool) (input : Option (List ℕ)) (failed : Bool) (t : FileCommand) (p : TypedPlanView) (r : Result T Refusal)
@@ -24,10 +28,11 @@ task_refused files reliable input failed t p (Ok x) planned h = tt
 task_refused files reliable input failed t p (Err e) planned h = for_plan_of p planned h
 
 -- the answer to what arguments ask for answers the arguments
-pub arguments_text : (files : List ℕ → Stored) (input : Option (List ℕ)) (arguments : List (List ℕ)) (ask : Ask) (r : Result (Vec ℕ Global) ArgumentFault)
-    → AsksFor arguments ask → IfOk r (λ v. AnswersAsk files input ask v.items) → IfOk r (λ v. AnswersArguments files input arguments v.items)
-arguments_text files input arguments ask (Ok v) asked h = for_what_is_asked ask asked h
-arguments_text files input arguments ask (Err e) asked h = tt
+pub arguments_answer : (files : List ℕ → Stored) (input : Option (List ℕ)) (arguments : List (List ℕ)) (ask : Ask) (r : Result ArgumentAnswer ArgumentFault)
+    → AsksFor arguments ask → IfOk r (λ a. IsAskAnswer files input ask a) → IfOk r (λ a. IsArgumentAnswer files input arguments a)
+arguments_answer files input arguments ask (Ok (answer.Text text)) asked h = for_what_is_asked ask asked h
+arguments_answer files input arguments ask (Ok (answer.Relation rows)) asked h = let P : Ask → Type 0 = λ a. AsksFor arguments a in subst P h asked
+arguments_answer files input arguments ask (Err e) asked h = tt
 
 -- and so does its refusal
 pub arguments_refused : {T : Type 0} (files : List ℕ → Stored) (reliable : List ℕ → Bool) (input : Option (List ℕ)) (failed : Bool) (arguments : List (List ℕ)) (ask : Ask) (r : Result T ArgumentFault)
@@ -35,6 +40,18 @@ pub arguments_refused : {T : Type 0} (files : List ℕ → Stored) (reliable : L
 arguments_refused files reliable input failed arguments ask (Ok v) asked h = tt
 arguments_refused files reliable input failed arguments ask (Err (fault.Usage text)) asked h = for_no_task ask asked h
 arguments_refused files reliable input failed arguments ask (Err (fault.Refused e)) asked h = for_ask ask asked h
+
+-- what clap answers is help or the version
+pub clap_answer : (files : List ℕ → Stored) (input : Option (List ℕ)) (arguments : List (List ℕ)) (error : Error) (r : Result ArgumentAnswer ArgumentFault)
+    → HasKind (faults_of (with_program_name arguments)) error → IfOk r (IsHelp (kind_of error)) → IfOk r (λ a. IsArgumentAnswer files input arguments a)
+clap_answer files input arguments error (Ok (answer.Text text)) (inl memory) (inl help) = let no : kind.OutOfMemory ≡ kind.DisplayHelp = sym memory ∙ help in cc
+clap_answer files input arguments error (Ok (answer.Text text)) (inl memory) (inr version) = let no : kind.OutOfMemory ≡ kind.DisplayVersion = sym memory ∙ version in cc
+clap_answer files input arguments error (Ok (answer.Text text)) (inr among) (inl help) =
+    let P : ErrorKind → Type 0 = λ k. IsAmong k (faults_of (with_program_name arguments)) in for_help (inl (subst P help among))
+clap_answer files input arguments error (Ok (answer.Text text)) (inr among) (inr version) =
+    let P : ErrorKind → Type 0 = λ k. IsAmong k (faults_of (with_program_name arguments)) in for_help (inr (subst P version among))
+clap_answer files input arguments error (Ok (answer.Relation rows)) has h = absurd h
+clap_answer files input arguments error (Err e) has h = tt
 
 -- what clap refuses is refused as its kind says
 pub clap_refused : {T : Type 0} (files : List ℕ → Stored) (reliable : List ℕ → Bool) (input : Option (List ℕ)) (failed : Bool) (arguments : List (List ℕ)) (error : Error) (r : Result T ArgumentFault)

@@ -1,15 +1,16 @@
 -- What answers arguments, over files and standard input, and why arguments may have no answer. `files`, `reliable`, `input` and `failed` are as in `Files`.
-use Rattle.std.specs.Prelude.{◌≡◌, ◌≢◌, ℕ, ◌⊎◌, List, [], ◌∷◌, Bool, Option, Some, None, IfSome, codes}
+use Rattle.std.specs.Prelude.{◌≡◌, ◌≢◌, ℕ, ◌<◌, ◌≤◌, ◌⊎◌, List, [], ◌∷◌, Bool, Option, Some, None, IfSome, codes}
 use Rattle.clap.specs.Words.{IsAmong}
 use Rattle.clap.specs.declared.error.kind.ErrorKind.{ErrorKind}
 use Rattle.clap.specs.declared.error.kind.ErrorKind.TheVariants as kind
 use Rattle.vx_plan_nodes.specs.Names.{TypedPlanView}
-use Rattle.vx_arguments.specs.Asked.{Ask, Paths, bundle, check, explain, serial, run, asked_by, faults_of}
+use Rattle.vx_arguments.specs.Asked.{Ask, Paths, bundle, check, explain, serial, run, generate, asked_by, faults_of}
 use Rattle.vx_bundle.specs.declared.command.Command.{Command}
 use Rattle.vx_bundle.specs.declared.command.Command.TheVariants as command
 use Rattle.vx_bundle.specs.declared.setting.Mode.TheVariants as mode
 use Rattle.vx_bundle.specs.Setting.{Setting}
 use Rattle.vx_bytes.specs.Stored.{Stored}
+use Rattle.vx_catalog.specs.Csv.{csv_text}
 use Rattle.vx_refusals.specs.declared.refusal.Refusal.{Refusal}
 use Rattle.vx_refusals.specs.declared.refusal.Refusal.TheVariants as refusal
 use Rattle.vx_refusals.specs.Status.{status_of}
@@ -18,6 +19,7 @@ use Rattle.vx_answer.specs.Commands.{IsResultOf, CommandRefuses}
 use Rattle.vx_answer.specs.Answer.{IsAnswer, RefusedWith}
 use Rattle.vx_answer.specs.Arguments.{IsSetting, IsNoSetting}
 use Rattle.vx_answer.specs.Files.{IsFilesPlan, IsFilesRefusal}
+use Rattle.vx_wisconsin.specs.Wisconsin.{max_rows, wisconsin, column_names}
 
 -- a command over the catalog, the plan and the folder of tables that arguments name
 pub record FileCommand : Type 0 where
@@ -37,6 +39,7 @@ IsTask (check paths) t = t ≡ record { command = command.Check; paths = paths; 
 IsTask (explain paths) t = t ≡ record { command = command.Explain; paths = paths; folder = []; setting = default_setting }
 IsTask (serial paths folder) t = t ≡ record { command = command.Serial; paths = paths; folder = folder; setting = default_setting }
 IsTask (run paths folder limits) t = (s : Setting) × IsSetting limits s × (t ≡ record { command = command.Run; paths = paths; folder = folder; setting = s })
+IsTask (generate rows) t = ⊥
 
 -- arguments ask for a run, and set none up
 abbrev pub IsNoTask : Ask → Type 0
@@ -45,6 +48,7 @@ IsNoTask (check paths) = ⊥
 IsNoTask (explain paths) = ⊥
 IsNoTask (serial paths folder) = ⊥
 IsNoTask (run paths folder limits) = IsNoSetting limits
+IsNoTask (generate rows) = ⊥
 
 -- the text answers a task: it is what its command asks for of its plan over the files of its folder
 abbrev pub AnswersTask : (List ℕ → Stored) → Option (List ℕ) → FileCommand → List ℕ → Type 0
@@ -61,16 +65,18 @@ pub data TaskRefuses (files : List ℕ → Stored) (reliable : List ℕ → Bool
 abbrev pub with_program_name : List (List ℕ) → List (List ℕ)
 with_program_name arguments = codes "volcano" ∷ arguments
 
--- the text answers what arguments ask for: the bundle on standard input, or a task
+-- the text answers what arguments ask for: the bundle on standard input, a task, or a relation, which has 10,000,000 rows at most
 pub data AnswersAsk (files : List ℕ → Stored) (input : Option (List ℕ)) (ask : Ask) (text : List ℕ) : Type 0 where
   for_bundle : ask ≡ bundle → IfSome input (λ bytes. IsAnswer bytes text) → AnswersAsk files input ask text
   for_task : (t : FileCommand) → IsTask ask t → AnswersTask files input t text → AnswersAsk files input ask text
+  for_relation : (rows : ℕ) → ask ≡ generate rows → rows ≤ max_rows → text ≡ csv_text column_names (wisconsin rows) → AnswersAsk files input ask text
 
 -- what arguments ask for is refused with this refusal
 pub data AskRefuses (files : List ℕ → Stored) (reliable : List ℕ → Bool) (input : Option (List ℕ)) (failed : Bool) (ask : Ask) (e : Refusal) : Type 0 where
   ask_memory : e ≡ refusal.NoMemory → AskRefuses files reliable input failed ask e
   for_asked_bundle : ask ≡ bundle → RefusedWith input failed e → AskRefuses files reliable input failed ask e
   for_asked_task : (t : FileCommand) → IsTask ask t → TaskRefuses files reliable input failed t e → AskRefuses files reliable input failed ask e
+  for_asked_relation : (rows : ℕ) → ask ≡ generate rows → max_rows < rows → e ≡ refusal.TooLarge → AskRefuses files reliable input failed ask e
 
 -- arguments ask for help or for the version
 abbrev pub AskForHelp : List (List ℕ) → Type 0

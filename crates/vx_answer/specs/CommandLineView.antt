@@ -1,16 +1,42 @@
--- A task that is held, and why arguments have no answer.
-use Rattle.std.specs.Prelude.{◌≡◌, ℕ, List, Bool, Option, string_bytes}
-use Rattle.vx_arguments.specs.Asked.{paths_are, Ask}
+-- What arguments ask for, as it is held; what answers them, and why they have no answer.
+use Rattle.std.specs.Prelude.{◌≡◌, ℕ, ◌⊎◌, List, Bool, Option, string_bytes}
+use Rattle.vx_arguments.specs.Asked.{paths_are, Ask, bundle, generate}
 use Rattle.vx_answer.specs.declared.command_line.FileCommand as held
+use Rattle.vx_answer.specs.declared.command_line.Job.{Job}
+use Rattle.vx_answer.specs.declared.command_line.Job.TheVariants as job
+use Rattle.vx_answer.specs.declared.command_line.ArgumentAnswer.{ArgumentAnswer}
+use Rattle.vx_answer.specs.declared.command_line.ArgumentAnswer.TheVariants as answer
 use Rattle.vx_answer.specs.declared.command_line.ArgumentFault.{ArgumentFault}
 use Rattle.vx_answer.specs.declared.command_line.ArgumentFault.TheVariants as fault
 use Rattle.clap.specs.declared.error.kind.ErrorKind.{ErrorKind}
+use Rattle.clap.specs.declared.error.kind.ErrorKind.TheVariants as kind
 use Rattle.vx_refusals.specs.declared.refusal.Refusal.TheVariants as refusal
 use Rattle.vx_bytes.specs.Stored.{Stored}
-use Rattle.vx_answer.specs.CommandLine.{FileCommand, IsNoTask, IsUsageKind, AskRefuses, IsUsageError, ArgumentsRefuse}
+use Rattle.vx_answer.specs.CommandLine.{FileCommand, IsTask, IsNoTask, AnswersAsk, AsksFor, AnswersArguments, IsUsageKind, AskRefuses, IsUsageError, ArgumentsRefuse}
 
 abbrev pub task_is : held.FileCommand → FileCommand
 task_is t = record { command = t.command; paths = paths_are t.sources; folder = t.folder.now; setting = t.setting }
+
+-- a job does what arguments ask for
+abbrev pub IsJob : Ask → Job → Type 0
+IsJob ask job.Bundle = ask ≡ bundle
+IsJob ask (job.Command t) = IsTask ask (task_is t)
+IsJob ask (job.Relation rows) = ask ≡ generate rows
+
+-- what answers what arguments ask for: a finished text, or the number of rows of the relation that they ask for
+abbrev pub IsAskAnswer : (List ℕ → Stored) → Option (List ℕ) → Ask → ArgumentAnswer → Type 0
+IsAskAnswer files input ask (answer.Text text) = AnswersAsk files input ask text.items
+IsAskAnswer files input ask (answer.Relation rows) = ask ≡ generate rows
+
+-- what answers arguments
+abbrev pub IsArgumentAnswer : (List ℕ → Stored) → Option (List ℕ) → List (List ℕ) → ArgumentAnswer → Type 0
+IsArgumentAnswer files input arguments (answer.Text text) = AnswersArguments files input arguments text.items
+IsArgumentAnswer files input arguments (answer.Relation rows) = AsksFor arguments (generate rows)
+
+-- an answer by clap of this kind: the text of help or of the version
+abbrev pub IsHelp : ErrorKind → ArgumentAnswer → Type 0
+IsHelp k (answer.Text text) = (k ≡ kind.DisplayHelp) ⊎ (k ≡ kind.DisplayVersion)
+IsHelp k (answer.Relation rows) = ⊥
 
 -- arguments are wrong, with this text, or memory ran out
 abbrev pub HasUsageText : List ℕ → ArgumentFault → Type 0

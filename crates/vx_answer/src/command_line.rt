@@ -1,12 +1,11 @@
 //! What arguments ask for, answered from files and standard input.
 
-ghost use Rattle.std.specs.Prelude.{◌≡◌, ◌⊎◌, map, MatchOption, IfOk, IfErr};
+ghost use Rattle.std.specs.Prelude.{◌≡◌, map, MatchOption, IfOk, IfErr};
 ghost use Rattle.clap.specs.Values.{kind_of};
-ghost use Rattle.clap.specs.declared.error.kind.ErrorKind.TheVariants as kind;
-ghost use Rattle.vx_arguments.specs.Asked.{asked_is, paths_are, given_is, bundle, run};
+ghost use Rattle.vx_arguments.specs.Asked.{asked_is, paths_are, given_is, run};
 ghost use Rattle.vx_answer.specs.Arguments.{IsNoSetting};
-ghost use Rattle.vx_answer.specs.CommandLine.{default_setting, IsTask, IsNoTask, AnswersTask, TaskRefuses, with_program_name, AnswersAsk, AnswersArguments};
-ghost use Rattle.vx_answer.specs.CommandLineView.{task_is, HasUsageText, IsClapFault, IsAskFault, IsArgumentFault};
+ghost use Rattle.vx_answer.specs.CommandLine.{default_setting, IsTask, IsNoTask, AnswersTask, TaskRefuses, with_program_name};
+ghost use Rattle.vx_answer.specs.CommandLineView.{task_is, IsJob, IsAskAnswer, IsArgumentAnswer, IsHelp, HasUsageText, IsClapFault, IsAskFault, IsArgumentFault};
 
 use crate::arguments::setting_in;
 use crate::command::execute;
@@ -28,6 +27,25 @@ pub struct FileCommand<'a> {
     sources: Sources<'a>,
     folder: &'a str,
     setting: Setting,
+}
+
+/// What arguments ask for, with its values.
+#[derive(Drop)]
+enum Job<'a> {
+    /// The answer to a bundle on standard input.
+    Bundle,
+    Command(FileCommand<'a>),
+    /// The text of the relation with so many rows.
+    Relation(u64),
+}
+
+/// What answers arguments.
+#[derive(Drop)]
+pub enum ArgumentAnswer {
+    /// A finished text.
+    Text(Vec<u8>),
+    /// The text of the relation with so many rows, which is still to be made.
+    Relation(u64),
 }
 
 /// Why arguments have no answer.
@@ -106,18 +124,29 @@ fn run_task<'a>(
     }
 }
 
-// The task that is asked for: `None` if a bundle is, or if the arguments set no run up.
-fn task_in<'a>(alloc: Global, asked: &Asked<'a>) -> Result<Option<FileCommand<'a>>, AllocError>
-    ensures { IfOk result (λ o. MatchOption o ((asked_is asked.now ≡ bundle) ⊎ IsNoTask (asked_is asked.now)) (λ t. IsTask (asked_is asked.now) (task_is t))) }
+// The job that is asked for: `None` if the arguments set no run up.
+fn job_in<'a>(alloc: Global, asked: &Asked<'a>) -> Result<Option<Job<'a>>, AllocError>
+    ensures { IfOk result (λ o. MatchOption o (IsNoTask (asked_is asked.now)) (λ j. IsJob (asked_is asked.now) j)) }
 {
     match asked {
-        Asked::Bundle => Ok(None),
-        Asked::Check(sources) => Ok(Some(plain_task(alloc, Command::Check, *sources, ""))),
-        Asked::Explain(sources) => Ok(Some(plain_task(alloc, Command::Explain, *sources, ""))),
-        Asked::Serial(sources, folder) => {
-            Ok(Some(plain_task(alloc, Command::Serial, *sources, *folder)))
+        Asked::Bundle => Ok(Some(Job::Bundle)),
+        Asked::Check(sources) => {
+            let task = plain_task(alloc, Command::Check, *sources, "");
+            Ok(Some(Job::Command(task)))
         }
-        Asked::Run(sources, folder, limits) => run_task(alloc, *sources, *folder, limits),
+        Asked::Explain(sources) => {
+            let task = plain_task(alloc, Command::Explain, *sources, "");
+            Ok(Some(Job::Command(task)))
+        }
+        Asked::Serial(sources, folder) => {
+            let task = plain_task(alloc, Command::Serial, *sources, *folder);
+            Ok(Some(Job::Command(task)))
+        }
+        Asked::Run(sources, folder, limits) => match run_task(alloc, *sources, *folder, limits)? {
+            Some(task) => Ok(Some(Job::Command(task))),
+            None => Ok(None),
+        },
+        Asked::Generate(rows) => Ok(Some(Job::Relation(*rows))),
     }
 }
 
@@ -149,21 +178,23 @@ fn usage_error(alloc: Global, text: &str) -> ArgumentFault
     }
 }
 
-// The text that answers what arguments ask for.
+// What answers what arguments ask for.
 fn answer_asked<F: Store, I: ByteIn>(
     alloc: Global,
     files: &F,
     input: &mut I,
     asked: &Asked<'_>,
-) -> Result<Vec<u8>, ArgumentFault>
-    ensures text { IfOk result (λ text. AnswersAsk (F.holds files.now) (I.remaining input.old) (asked_is asked.now) text.items) }
+) -> Result<ArgumentAnswer, ArgumentFault>
+    ensures answer { IfOk result (λ a. IsAskAnswer (F.holds files.now) (I.remaining input.old) (asked_is asked.now) a) }
     ensures refused { IfErr result (IsAskFault (F.holds files.now) (F.is_reliable files.now) (I.remaining input.old) (I.has_failed input.new) (asked_is asked.now)) }
 {
-    if let Asked::Bundle = asked {
-        return Ok(outcome_of(alloc, input)?);
-    }
-    match task_in(alloc, asked)? {
-        Some(task) => Ok(answer_task(alloc, files, input, &task)?),
+    match job_in(alloc, asked)? {
+        Some(Job::Bundle) => Ok(ArgumentAnswer::Text(outcome_of(alloc, input)?)),
+        Some(Job::Command(task)) => {
+            let text = answer_task(alloc, files, input, &task)?;
+            Ok(ArgumentAnswer::Text(text))
+        }
+        Some(Job::Relation(rows)) => Ok(ArgumentAnswer::Relation(rows)),
         None => Err(usage_error(
             alloc,
             "volcano: a mode is `rounds`, and a size is NAME=N with a number of workers; see volcano run --help\n",
@@ -184,26 +215,28 @@ fn with_program_name<'a>(alloc: Global, arguments: &[&'a str]) -> Result<Vec<&'a
 }
 
 // What clap returns in place of matches: help, which is an answer, or a fault.
-fn help_or_fault(alloc: Global, error: &Error) -> Result<Vec<u8>, ArgumentFault>
-    ensures help { IfOk result (λ _. (kind_of error.now ≡ kind.DisplayHelp) ⊎ (kind_of error.now ≡ kind.DisplayVersion)) }
+fn help_or_fault(alloc: Global, error: &Error) -> Result<ArgumentAnswer, ArgumentFault>
+    ensures help { IfOk result (IsHelp (kind_of error.now)) }
     ensures fault { IfErr result (IsClapFault (kind_of error.now)) }
 {
     let text = format!(in alloc; "{error}")?;
     match error.kind() {
-        ErrorKind::DisplayHelp | ErrorKind::DisplayVersion => Ok(text.into_bytes()),
+        ErrorKind::DisplayHelp | ErrorKind::DisplayVersion => Ok(ArgumentAnswer::Text(
+            text.into_bytes(),
+        )),
         ErrorKind::OutOfMemory => Err(ArgumentFault::Refused(Refusal::NoMemory)),
         _ => Err(ArgumentFault::Usage(text)),
     }
 }
 
-/// The text that answers arguments.
+/// What answers arguments.
 pub fn answer_arguments<F: Store, I: ByteIn>(
     alloc: Global,
     files: &F,
     input: &mut I,
     arguments: &[&str],
-) -> Result<Vec<u8>, ArgumentFault>
-    ensures text { IfOk result (λ text. AnswersArguments (F.holds files.now) (I.remaining input.old) (map (λ a. a.now) arguments.now) text.items) }
+) -> Result<ArgumentAnswer, ArgumentFault>
+    ensures answer { IfOk result (λ a. IsArgumentAnswer (F.holds files.now) (I.remaining input.old) (map (λ a. a.now) arguments.now) a) }
     ensures refused { IfErr result (IsArgumentFault (F.holds files.now) (F.is_reliable files.now) (I.remaining input.old) (I.has_failed input.new) (map (λ a. a.now) arguments.now)) }
 {
     let arguments = with_program_name(alloc, arguments)?;

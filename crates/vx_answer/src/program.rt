@@ -1,19 +1,22 @@
 //! The whole program but its `main`: from all input to all output.
 
-ghost use Rattle.std.specs.Prelude.{◌≡◌, ◌≢◌, ◌⊎◌, ℕ, List, [], true, false, map, IfSome, IfOk, IfErr, IsErrOf};
+ghost use Rattle.std.specs.Prelude.{◌≡◌, ◌≢◌, ◌<◌, ◌≤◌, ◌⊎◌, ℕ, List, [], true, false, map, IfSome, IfOk, IfErr, IsErrOf};
 ghost use Rattle.std.specs.Io.KnownBytes.{Appends, Keeps};
 ghost use Rattle.vx_answer.specs.Answer.{IsAnswer, RefusedWith, IsRefusedBy};
+ghost use Rattle.vx_catalog.specs.Csv.{csv_text};
 ghost use Rattle.vx_refusals.specs.Status.{status_of};
 ghost use Rattle.vx_answer.specs.CommandLine.{AnswersArguments, IsUsageError, AreRefusedBy};
+ghost use Rattle.vx_wisconsin.specs.Wisconsin.{max_rows, wisconsin, column_names};
 
 use crate::bundle::answer_bytes;
-use crate::command_line::{ArgumentFault, answer_arguments};
+use crate::command_line::{ArgumentAnswer, ArgumentFault, answer_arguments};
 use crate::files::input_bytes;
 use std::alloc::Global;
 use std::sync::Wait;
 use std::thread::Threads;
 use vx_bytes::{ByteIn, ByteOut, Store, write_all};
 use vx_refusals::{Refusal, report, status};
+use vx_wisconsin::{GenerateFault, generate};
 
 /// The most bytes that an input may have.
 pub const MAX_BYTES: usize = 1 << 40;
@@ -87,6 +90,22 @@ pub fn reply<I: ByteIn, O: ByteOut, E: ByteOut>(
     deliver(outcome_of(alloc, input), out, err)
 }
 
+// Writes the text of the relation with so many rows on `out` as it is made, or reports on `err` why not. All memory is taken
+// before the first write.
+fn write_relation<O: ByteOut, E: ByteOut>(alloc: Global, rows: u64, out: &mut O, err: &mut E) -> u8
+    ensures done { result ≡ 0 → (rows ≤ max_rows) × Appends (O.contents out.old) (O.contents out.new) (csv_text column_names (wisconsin rows)) }
+    ensures kept { result ≢ 0 → O.has_failed out.new ≡ false → out.new ≡ out.old }
+    ensures statuses { (result ≡ 0) ⊎ (result ≡ 3) ⊎ (result ≡ 4) }
+    ensures large { (max_rows < rows → result ≡ 3) × (result ≡ 3 → (max_rows < rows) × (out.new ≡ out.old)) }
+{
+    match generate(alloc, rows, out) {
+        Ok(()) => 0,
+        Err(GenerateFault::TooLarge) => refuse(&Refusal::TooLarge, err),
+        Err(GenerateFault::WriteFailed) => refuse(&Refusal::WriteFailed, err),
+        Err(GenerateFault::NoMemory) => refuse(&Refusal::NoMemory, err),
+    }
+}
+
 // Answers arguments: writes the answer on `out`, or reports on `err` why there is none.
 fn reply_to_arguments<F: Store, I: ByteIn, O: ByteOut, E: ByteOut>(
     alloc: Global,
@@ -104,7 +123,8 @@ fn reply_to_arguments<F: Store, I: ByteIn, O: ByteOut, E: ByteOut>(
     ensures failed { result ≡ 4 → (O.has_failed out.new ≡ true) ⊎ AreRefusedBy 4 (F.holds files.now) (F.is_reliable files.now) (I.remaining input.old) (I.has_failed input.new) (map (λ a. a.now) arguments.now) }
 {
     match answer_arguments(alloc, files, input, arguments) {
-        Ok(text) => deliver(Ok(text), out, err),
+        Ok(ArgumentAnswer::Text(text)) => deliver(Ok(text), out, err),
+        Ok(ArgumentAnswer::Relation(rows)) => write_relation(alloc, rows, out, err),
         Err(ArgumentFault::Refused(refusal)) => deliver(Err(refusal), out, err),
         Err(ArgumentFault::Usage(text)) => {
             let _ = write_all(err, text.as_bytes());
@@ -117,8 +137,8 @@ fn reply_to_arguments<F: Store, I: ByteIn, O: ByteOut, E: ByteOut>(
 /// `input`.
 ///
 /// The status is 0 if `out` got the answer, 2 for wrong arguments, 3 for input that is refused, and 4 if the machine or
-/// the run failed. All work ends before the first byte goes to `out`. A refusal is one line on `err`, and a write of it
-/// that fails changes nothing else.
+/// the run failed. All work ends before the first byte goes to `out`; the text of a relation alone is written as it is made,
+/// once all memory for it is there. A refusal is one line on `err`, and a write of it that fails changes nothing else.
 pub fn answer<T: Threads + Wait + Sync, F: Store, I: ByteIn, O: ByteOut, E: ByteOut>(
     _rt: &T,
     alloc: Global,

@@ -1,9 +1,11 @@
 -- What the command-line arguments ask for: the commands and options that the program has, and what each comes to.
-use Rattle.std.specs.Prelude.{pos, List, [], ◌∷◌, Option, Some, None, map, option_map, option_and_then, bytes_eq, codes, true, if◌then◌else◌}
+use Rattle.std.specs.Prelude.{ℕ, pos, List, [], ◌∷◌, Option, Some, None, map, option_map, option_and_then, bytes_eq, codes, true, if◌then◌else◌}
 use Rattle.std.specs.Option.{option_map_or}
+use Rattle.std.specs.Str.Parse.{digits_value, without_leading_plus}
 use Rattle.clap.specs.Lexer.{usize_max}
 use Rattle.clap.specs.Words.{App, Kinds, Row, Rule, Text, all_of, fault_of, first_of, new_app, new_rule, subcommand_of, with_rule, with_subcommand}
 use Rattle.clap.specs.Simple.{on_top}
+use Rattle.clap.specs.ValueTests.{is_unsigned_in}
 use Rattle.clap.specs.declared.builder.value_parser.ValueParser.TheVariants as parser
 use Rattle.vx_arguments.specs.declared.asked.Sources.{Sources}
 use Rattle.vx_arguments.specs.declared.asked.Limits.{Limits}
@@ -18,6 +20,10 @@ path_rule name = record (new_rule name) { long = Some name; value_names = 1; req
 abbrev pub number_rule : Text → Text → Rule
 number_rule name default =
     record (new_rule name) { long = Some name; value_names = 1; defaults = default ∷ []; parser = Some (parser.Signed (pos 0) (pos 4294967295)) }
+
+-- the number of rows of a generated relation, a number of 64 bits, which has to be given
+abbrev pub rows_rule : Rule
+rows_rule = record (new_rule (codes "rows")) { long = Some (codes "rows"); value_names = 1; required = true; parser = Some (parser.Unsigned 0 18446744073709551615) }
 
 -- the mode of a run, which has a default
 abbrev pub mode_rule : Rule
@@ -39,6 +45,9 @@ run_app =
     with_rule (with_rule (with_rule (with_rule (with_rule (with_rule (judging_app (codes "run")) (path_rule (codes "data")))
     (number_rule (codes "packet") (codes "256"))) (number_rule (codes "morsel") (codes "1024"))) (number_rule (codes "slack") (codes "8"))) mode_rule) sizes_rule
 
+abbrev pub gen_app : App
+gen_app = with_rule (new_app (codes "gen")) rows_rule
+
 -- the program without its commands, which has a version
 abbrev pub program_app : App
 program_app = on_top (λ s. record s { has_version = true }) (new_app (codes "volcano"))
@@ -46,7 +55,8 @@ program_app = on_top (λ s. record s { has_version = true }) (new_app (codes "vo
 -- the program
 abbrev pub volcano_app : App
 volcano_app =
-    with_subcommand (with_subcommand (with_subcommand (with_subcommand program_app run_app.top) serial_app.top) (judging_app (codes "check")).top) (judging_app (codes "explain")).top
+    with_subcommand (with_subcommand (with_subcommand (with_subcommand (with_subcommand program_app run_app.top) serial_app.top) (judging_app (codes "check")).top)
+    (judging_app (codes "explain")).top) gen_app.top
 
 -- the paths of a catalog and of a plan
 pub record Paths : Type 0 where
@@ -67,6 +77,7 @@ pub data Ask : Type 0 where
   explain : Paths → Ask
   serial : Paths → Text → Ask
   run : Paths → Text → Given → Ask
+  generate : ℕ → Ask
 
 -- both options of a catalog and a plan
 abbrev pub paths_of : List Row → Option Paths
@@ -86,6 +97,13 @@ serial_of rows = option_and_then (λ p. option_map (serial p) (first_of (codes "
 abbrev pub run_of : List Row → Option Ask
 run_of rows = option_and_then (λ p. option_and_then (λ d. option_map (run p d) (given_of rows)) (first_of (codes "data") rows)) (paths_of rows)
 
+-- the number of 64 bits that a text of digits is, behind a plus or not, if it is one
+abbrev pub number_of : Text → Option ℕ
+number_of text = if is_unsigned_in 0 18446744073709551615 text then Some (digits_value 10 (without_leading_plus text)) else None
+
+abbrev pub generate_of : List Row → Option Ask
+generate_of rows = option_map generate (option_and_then number_of (first_of (codes "rows") rows))
+
 -- what a subcommand with these matches asks for; without one, a bundle
 abbrev pub ask_of : Option (Text × List Row) → Option Ask
 ask_of None = Some bundle
@@ -94,6 +112,7 @@ ask_of (Some p) =
     else if bytes_eq p.0 (codes "serial") then serial_of p.1
     else if bytes_eq p.0 (codes "check") then option_map check (paths_of p.1)
     else if bytes_eq p.0 (codes "explain") then option_map explain (paths_of p.1)
+    else if bytes_eq p.0 (codes "gen") then generate_of p.1
     else None
 
 -- what the arguments ask for, the program's name first
@@ -116,3 +135,4 @@ asked_is (asked.Check sources) = check (paths_are sources)
 asked_is (asked.Explain sources) = explain (paths_are sources)
 asked_is (asked.Serial sources folder) = serial (paths_are sources) folder.now
 asked_is (asked.Run sources folder limits) = run (paths_are sources) folder.now (given_is limits)
+asked_is (asked.Generate rows) = generate rows

@@ -1,8 +1,8 @@
 //! What the command-line arguments ask for.
 
-ghost use Rattle.std.specs.Prelude.{◌≡◌, IfOk, false, map, option_map};
+ghost use Rattle.std.specs.Prelude.{◌≡◌, IfOk, false, map, option_map, option_and_then, codes};
 ghost use Rattle.clap.specs.Words.{FailsBy, fault_of, rows_of, found_of, first_of, all_of, subcommand_of, subcommand_rows_of};
-ghost use Rattle.vx_arguments.specs.Asked.{volcano_app, paths_of, given_of, sizes_of, serial_of, run_of, ask_of, asked_by, faults_of, paths_are, given_is, asked_is};
+ghost use Rattle.vx_arguments.specs.Asked.{volcano_app, paths_of, given_of, sizes_of, serial_of, run_of, number_of, generate_of, ask_of, asked_by, faults_of, paths_are, given_is, asked_is};
 
 use crate::command_line::command;
 use clap::{ArgMatches, Error};
@@ -36,6 +36,8 @@ pub enum Asked<'a> {
     Serial(Sources<'a>, &'a str),
     /// With the folder of the tables.
     Run(Sources<'a>, &'a str, Limits<'a>),
+    /// The text of the relation with so many rows.
+    Generate(u64),
 }
 
 // The first value of an option.
@@ -117,6 +119,26 @@ fn run_asked<'a>(alloc: Global, found: &ArgMatches<'a>) -> Result<Option<Asked<'
     }
 }
 
+// The number of 64 bits that a text is.
+fn number_in(text: &str) -> Option<u64>
+    ensures { result ≡ number_of text.now }
+{
+    text.parse::<u64>().ok()
+}
+
+fn rows_in<'a>(found: &ArgMatches<'a>) -> Option<u64>
+    ensures { result ≡ option_and_then number_of (first_of (codes "rows") (rows_of (found_of found.now))) }
+{
+    number_in(value(found, "rows")?)
+}
+
+fn generate_asked<'a>(found: &ArgMatches<'a>) -> Option<Asked<'a>>
+    ensures { option_map asked_is result ≡ generate_of (rows_of (found_of found.now)) }
+{
+    let rows = rows_in(found)?;
+    Some(Asked::Generate(rows))
+}
+
 // What clap makes of the arguments.
 fn matches_in<'a>(alloc: Global, arguments: &'a [&'a str]) -> Result<ArgMatches<'a>, Error>
     ensures found { IfOk result (λ m. subcommand_rows_of m ≡ subcommand_of volcano_app (map (λ w. w.now) arguments.entry.now)) }
@@ -137,6 +159,7 @@ fn asked_in<'a>(alloc: Global, matches: &ArgMatches<'a>) -> Result<Option<Asked<
         "serial" => Ok(serial_asked(found)),
         "check" => Ok(sources_in(found).map(Asked::Check)),
         "explain" => Ok(sources_in(found).map(Asked::Explain)),
+        "gen" => Ok(generate_asked(found)),
         _ => Ok(None),
     }
 }

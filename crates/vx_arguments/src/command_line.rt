@@ -3,7 +3,7 @@
 ghost use Rattle.std.specs.Prelude.{◌≡◌, IfOk, false, codes};
 ghost use Rattle.clap.specs.Words.{app_of, rule_of};
 ghost use Rattle.clap.specs.declared.builder.command.Command.TheViews.{out-Command as fields_of};
-ghost use Rattle.vx_arguments.specs.Asked.{path_rule, number_rule, mode_rule, sizes_rule, judging_app, serial_app, run_app, program_app, volcano_app};
+ghost use Rattle.vx_arguments.specs.Asked.{path_rule, number_rule, rows_rule, mode_rule, sizes_rule, judging_app, serial_app, run_app, gen_app, program_app, volcano_app};
 
 use clap::{Arg, Command, value_parser};
 use std::alloc::{AllocError, Global};
@@ -31,6 +31,18 @@ fn number_option<'a>(alloc: Global, name: &'a str, default: &'a str, help: &'a s
         .help(help)
         .default_value(default)
         .value_parser(value_parser!(u32))
+}
+
+fn rows_option<'a>(alloc: Global) -> Arg<'a>
+    ensures rule { rule_of result ≡ rows_rule }
+    ensures own { result.global ≡ false }
+{
+    Arg::new(alloc, "rows")
+        .long("rows")
+        .value_name("N")
+        .help("How many rows the relation has, 0 to 10000000")
+        .required(true)
+        .value_parser(value_parser!(u64))
 }
 
 fn mode_option<'a>(alloc: Global) -> Arg<'a>
@@ -177,6 +189,18 @@ fn explain<'a>(alloc: Global) -> Result<Command<'a>, AllocError>
     )
 }
 
+fn generate<'a>(alloc: Global) -> Result<Command<'a>, AllocError>
+    ensures app { IfOk result (λ c. app_of c ≡ gen_app) }
+    ensures local { IfOk result (λ c. (fields_of c).has_globals ≡ false) }
+{
+    Command::new(alloc, "gen")
+        .about(
+            "Prints a relation to measure on, as CSV, of which each value is a formula on the row's number",
+        )
+        .after_help("Example: volcano gen --rows 10000")
+        .arg(rows_option(alloc))
+}
+
 // The program without its commands.
 fn program<'a>(alloc: Global) -> Command<'a>
     ensures { app_of result ≡ program_app }
@@ -199,5 +223,6 @@ pub fn command<'a>(alloc: Global) -> Result<Command<'a>, AllocError>
         .subcommand(run(alloc)?)?
         .subcommand(serial(alloc)?)?
         .subcommand(check(alloc)?)?
-        .subcommand(explain(alloc)?)
+        .subcommand(explain(alloc)?)?
+        .subcommand(generate(alloc)?)
 }

@@ -1,4 +1,3 @@
-use Rattle.std.proofs.Common.{sym, ◌∙◌}
 use Rattle.std.proofs.lemmas.Result.{err_from_is_err_and}
 use Rattle.vx_plan_nodes.specs.TypedView.{resolved_of}
 use Rattle.vx_bundle.specs.BundleView.{bundle_form}
@@ -21,6 +20,3 @@ pub returns-clause-refused : goal.returns-clause-refused
 returns-clause-refused c =
     let refused = rw (c.command-2.ensures, c.setting-2.ensures) at c.execute.ensures.refused in
     bundle_refused c.execute.result (bundle_form c.args.bundle.now) (resolved_of c.in_ok-plan.plan) c.in_ok-plan.ensures.planned refused
-
-pub execute-requires : goal.execute-requires
-execute-requires c = record { runs = λ run. c.in_ok-plan.ensures.runs (sym c.command-2.ensures ∙ run) }

@@ -1,21 +1,46 @@
-use Rattle.std.proofs.Common.{arith, ◌∙◌, refl, sym, inl, inr}
+use Rattle.std.proofs.Common.{arith, ◌∙◌, refl, sym, inl, inr, map}
+use Rattle.vx_catalog.specs.Csv.{csv_text}
+use Rattle.vx_wisconsin.specs.Wisconsin.{wisconsin, column_names}
+use Rattle.vx_arguments.specs.Asked.{generate}
+use Rattle.vx_refusals.specs.declared.refusal.Refusal.TheVariants as refusal
+use Rattle.vx_answer.specs.CommandLine.{AsksFor, for_what_is_asked, for_relation, for_ask, for_asked_relation, arguments_memory}
 use Rattle.vx_answer.proofs.program.reply_to_arguments.Goals as goal
 
-pub returns-in-Ok-clause-done : goal.returns-in-Ok-clause-done
-returns-in-Ok-clause-done g c zero = (c.in-Ok.text.items, c.in-Ok.ensures.text, c.deliver.ensures.done zero)
+pub returns-in-Ok-Text-clause-done : goal.returns-in-Ok-Text-clause-done
+returns-in-Ok-Text-clause-done g c zero =
+    let answers = rw c.in-Ok-Text.field-0-is at c.in-Ok-Text.ensures.answer in
+    (c.in-Ok-Text.text.items, answers, c.deliver.ensures.done zero)
+
+pub returns-in-Ok-Relation-clause-done : goal.returns-in-Ok-Relation-clause-done
+returns-in-Ok-Relation-clause-done g c zero =
+    let rows = c.in-Ok-Relation.rows in
+    let asked : AsksFor (map (λ a. a.now) c.args.arguments.now) (generate rows) = rw c.in-Ok-Relation.field-0-is at c.in-Ok-Relation.ensures.answer in
+    let written = c.write_relation.ensures.done zero in
+    (csv_text column_names (wisconsin rows), for_what_is_asked (generate rows) asked (for_relation rows refl written.0 refl), written.1)
+
+pub returns-in-Ok-Relation-clause-refused : goal.returns-in-Ok-Relation-clause-refused
+returns-in-Ok-Relation-clause-refused g c three =
+    let rows = c.in-Ok-Relation.rows in
+    let asked : AsksFor (map (λ a. a.now) c.args.arguments.now) (generate rows) = rw c.in-Ok-Relation.field-0-is at c.in-Ok-Relation.ensures.answer in
+    (refusal.TooLarge, refl, for_ask (generate rows) asked (for_asked_relation rows refl (c.write_relation.ensures.large.1 three).0 refl))
+
+pub returns-in-Ok-Relation-clause-failed : goal.returns-in-Ok-Relation-clause-failed
+returns-in-Ok-Relation-clause-failed g c four = inr (refusal.NoMemory, refl, arguments_memory refl)
 
 pub returns-in-Err-Refused-clause-refused : goal.returns-in-Err-Refused-clause-refused
 returns-in-Err-Refused-clause-refused g c three =
     let refused = rw c.in-Err-Refused.field-0-is at c.in-Err-Refused.ensures.refused in
-    (c.in-Err-Refused.refusal, sym c.deliver-in-Err-Refused.ensures.refused.0 ∙ three, refused)
+    let status = rw c.in-Err-Refused.field-0-is at c.deliver-in-Err-Refused.ensures.refused in
+    (c.in-Err-Refused.refusal, sym status.0 ∙ three, refused)
 
 pub returns-in-Err-Usage-clause-usage : goal.returns-in-Err-Usage-clause-usage
 returns-in-Err-Usage-clause-usage g c two = (rw c.in-Err-Usage.field-0-is at c.in-Err-Usage.ensures.refused, refl)
 
-pub returns-in-Ok-clause-failed : goal.returns-in-Ok-clause-failed
-returns-in-Ok-clause-failed g c four = inl (c.deliver.ensures.failed (λ z. absurd (omega (arith, z, four)))).1
+pub returns-in-Ok-Text-clause-failed : goal.returns-in-Ok-Text-clause-failed
+returns-in-Ok-Text-clause-failed g c four = inl (c.deliver.ensures.failed (λ z. absurd (omega (arith, z, four)))).1
 
 pub returns-in-Err-Refused-clause-failed : goal.returns-in-Err-Refused-clause-failed
 returns-in-Err-Refused-clause-failed g c four =
     let refused = rw c.in-Err-Refused.field-0-is at c.in-Err-Refused.ensures.refused in
-    inr (c.in-Err-Refused.refusal, sym c.deliver-in-Err-Refused.ensures.refused.0 ∙ four, refused)
+    let status = rw c.in-Err-Refused.field-0-is at c.deliver-in-Err-Refused.ensures.refused in
+    inr (c.in-Err-Refused.refusal, sym status.0 ∙ four, refused)

@@ -9,4 +9,5 @@ returns c =
     let run = c.in_ok-subcommand.ensures.shape c.in_ok-run.ensures.local ∙ ap₂ with_subcommand c.program.ensures (ap top c.in_ok-run.ensures.app) in
     let serial = c.in_ok-subcommand-2.ensures.shape c.in_ok-serial.ensures.local ∙ ap₂ with_subcommand run (ap top c.in_ok-serial.ensures.app) in
     let check = c.in_ok-subcommand-3.ensures.shape c.in_ok-check.ensures.local ∙ ap₂ with_subcommand serial (ap top c.in_ok-check.ensures.app) in
-    IfOk-weaker c.subcommand-4.result _ _ (λ r h. h.shape c.in_ok-explain.ensures.local ∙ ap₂ with_subcommand check (ap top c.in_ok-explain.ensures.app)) c.subcommand-4.ensures
+    let explain = c.in_ok-subcommand-4.ensures.shape c.in_ok-explain.ensures.local ∙ ap₂ with_subcommand check (ap top c.in_ok-explain.ensures.app) in
+    IfOk-weaker c.subcommand-5.result _ _ (λ r h. h.shape c.in_ok-generate.ensures.local ∙ ap₂ with_subcommand explain (ap top c.in_ok-generate.ensures.app)) c.subcommand-5.ensures

@@ -1,0 +1,75 @@
+//! Out of memory. Run with each allocation refused in turn, a relation is printed as usual, or nothing of it and the line says
+//! that memory ran out: `tools/refuse-allocations test_program refused_memory` does so. A test with `ample` in its name makes
+//! the same calls once, and passes only where none of its allocations is refused.
+
+use crate::bundles::NoFiles;
+use crate::relations::{HEADER, ROW};
+use std::alloc::Global;
+use std::process::Abort;
+use std::sync::Wait;
+use std::test::Fail;
+use std::thread::Threads;
+use vx_answer::answer;
+use vx_bytes::{MemoryIn, Real};
+
+// Whether these are the header and the one row.
+fn is_whole(text: &[u8]) -> bool {
+    text.starts_with(HEADER.as_bytes())
+        && text.ends_with(ROW.as_bytes())
+        && text.len() == HEADER.len() + ROW.len()
+}
+
+// The status for a relation of one row, which is written into memory that is there before.
+fn status_over<R: Threads + Wait + Sync + AllocGlobal>(
+    rt: &R,
+    out: &mut Vec<u8>,
+    err: &mut Vec<u8>,
+) -> u8 {
+    let mut input = MemoryIn::new(b"", None);
+    answer(
+        rt,
+        rt.alloc(),
+        &["gen", "--rows", "1"],
+        &NoFiles,
+        &mut input,
+        &mut Real::new(out),
+        &mut Real::new(err),
+    )
+}
+
+// Whether a relation of one row is printed. If not, memory ran out and nothing was printed.
+fn is_printed<R: Threads + Wait + Sync + AllocGlobal + Abort>(rt: &R, alloc: Global) -> bool {
+    let Ok(mut out) = Vec::<u8>::with_capacity(alloc, 1000) else {
+        return false;
+    };
+    let Ok(mut err) = Vec::<u8>::with_capacity(alloc, 100) else {
+        return false;
+    };
+    let status = status_over(rt, &mut out, &mut err);
+    if status == 0 {
+        assert!(rt; is_whole(out.as_slice()));
+        assert!(rt; err.is_empty());
+        return true;
+    }
+    assert_eq!(rt; status, 4);
+    assert!(rt; out.is_empty());
+    assert_eq!(rt; err.as_slice(), b"volcano: X8 NoMemory\n".as_slice());
+    false
+}
+
+#[test]
+fn ample_memory(rt: HostRuntime) -> Result<(), Fail> {
+    assert!(rt; is_printed(&rt, rt.alloc()));
+    Ok(())
+}
+
+#[test]
+fn refused_memory_is_told(rt: HostRuntime) -> Result<(), Fail> {
+    let first = is_printed(&rt, rt.alloc());
+    let second = is_printed(&rt, rt.alloc());
+    assert!(rt;
+        first || second,
+        "one call after the other ran out of memory"
+    );
+    Ok(())
+}
