@@ -1,6 +1,7 @@
 /* Stands before the C library's malloc and realloc: refuses the allocation with the number REFUSED, and tells at the end how many were made. */
 #include <stdio.h>
 #include <stdlib.h>
+#include <sys/syscall.h>
 #include <unistd.h>
 
 extern void *__libc_malloc(size_t);
@@ -24,5 +25,11 @@ void *realloc(void *old, size_t size) { return is_refused() ? NULL : __libc_real
 __attribute__((destructor)) static void tell(void) {
     char line[40];
     int length = snprintf(line, sizeof line, "allocations: %ld\n", made);
-    if (write(2, line, length) < 0) _exit(9);
+    if (write(2, line, length) < 0) syscall(SYS_exit_group, 9);
+}
+
+/* A program that may start threads ends by this call, which runs no destructors. */
+__attribute__((noreturn)) void _exit(int status) {
+    tell();
+    for (;;) syscall(SYS_exit_group, status);
 }

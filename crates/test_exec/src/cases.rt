@@ -3,7 +3,7 @@
 ghost use Rattle.std.specs.Prelude.{◌<◌};
 
 use crate::databases::{database_of, plan_of};
-use crate::draws::{Draws, SCHEDULES};
+use crate::draws::Draws;
 use std::alloc::{AllocError, Global};
 use std::test::Fail;
 use test_tables::shown;
@@ -98,23 +98,31 @@ pub fn agrees(alloc: Global, case: &Case, text: &str, rows: &str) -> Result<bool
     Ok(sorted(alloc, text)?.as_slice() == sorted(alloc, rows)?.as_slice())
 }
 
-/// How many of the schedules that are drawn for so many workers come to other rows. At the end of each schedule all
-/// workers make a step in turn, so many times.
+/// Schedules that are drawn for so many workers: how many, and from which number on. At the end of each all workers make
+/// a step in turn, so many times.
+#[derive(Clone, Copy)]
+pub struct Drawn {
+    pub workers: u32,
+    pub turns: u32,
+    pub schedules: u32,
+    pub first: u64,
+}
+
+/// How many of the schedules that are drawn come to other rows.
 pub fn wrong_schedules<R: Router>(
     alloc: Global,
     case: &Case,
     setup: &Setup,
     router: &R,
-    workers: u32,
-    turns: u32,
+    drawn: Drawn,
     rows: &str,
 ) -> Result<u32, AllocError>
-    requires { 0 < workers }
+    requires { 0 < drawn.workers }
 {
-    let mut draws = Draws::new();
+    let mut draws = Draws::from_number(drawn.first);
     let mut wrong = 0u32;
-    for _ in 0..SCHEDULES {
-        let steps = draws.schedule(alloc, workers, turns)?;
+    for _ in 0..drawn.schedules {
+        let steps = draws.schedule(alloc, drawn.workers, drawn.turns)?;
         let text = by_steps(alloc, case, setup, router, steps.as_slice())?;
         if !agrees(alloc, case, text.as_str(), rows)? {
             wrong = wrong.saturating_add(1);

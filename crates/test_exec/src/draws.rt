@@ -19,7 +19,12 @@ pub struct Draws {
 impl Draws {
     /// From the number 1 on.
     pub fn new() -> Draws {
-        Draws { state: 1 }
+        Draws::from_number(1)
+    }
+
+    /// From a number on.
+    pub fn from_number(state: u64) -> Draws {
+        Draws { state }
     }
 
     // The number of one of so many workers.

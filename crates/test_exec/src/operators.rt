@@ -1,9 +1,9 @@
 //! What no clause says of operators: workers that run them come to the serial rows, whatever the number of workers and the
 //! schedule. A hash join reads its left input to the end, and a group overflows only then.
 
-use crate::cases::{Case, agrees, by_rounds, by_steps, case_of, serially, wrong_schedules};
+use crate::cases::{Case, Drawn, agrees, by_rounds, by_steps, case_of, serially, wrong_schedules};
 use crate::databases::{LARGE, ROWS_OF_D, ROWS_OF_T, TOO_LARGE};
-use crate::draws::{Draws, in_turn};
+use crate::draws::{Draws, SCHEDULES, in_turn};
 use crate::plans::{ToFirst, of_workers};
 use std::alloc::{AllocError, Global};
 use std::test::Fail;
@@ -100,7 +100,13 @@ fn by_three(alloc: Global, case: &Case, steps: &[u32]) -> Result<String, AllocEr
 // How many of the schedules that are drawn for three workers below the root come to other rows.
 fn wrong_of_three(alloc: Global, case: &Case, serial: &str) -> Result<u32, AllocError> {
     let setup = of_workers(alloc, 3)?;
-    wrong_schedules(alloc, case, &setup, &ToFirst, 4, TURNS, serial)
+    let drawn = Drawn {
+        workers: 4,
+        turns: TURNS,
+        schedules: SCHEDULES,
+        first: 1,
+    };
+    wrong_schedules(alloc, case, &setup, &ToFirst, drawn, serial)
 }
 
 // Whether a schedule that is drawn for 64 workers below the root comes to these rows.

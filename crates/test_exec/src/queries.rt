@@ -10,6 +10,7 @@ use std::alloc::{AllocError, Global};
 use std::test::Fail;
 use vx_bytes::MemoryOut;
 use vx_catalog::{Catalog, Database};
+use vx_check::CheckedPlan;
 use vx_exchange::ByteRouter;
 use vx_exec::Setup;
 use vx_wisconsin::{catalog, generate, plan};
@@ -34,16 +35,21 @@ fn filled(alloc: Global, catalog: &Catalog) -> Result<Database, Fail> {
     Ok(database)
 }
 
+// The plan of a query, as the checker accepts it.
+fn plan_of_query(alloc: Global, query: u32) -> Result<CheckedPlan, Fail> {
+    match plan(query) {
+        Some(text) => accepted(alloc, &Catalog::read(alloc, catalog().as_bytes())?, text),
+        None => Err(Fail::new("the query has a plan")),
+    }
+}
+
 // The plan of a query over the relations.
 fn case_of_query(alloc: Global, query: u32) -> Result<Case, Fail> {
     let catalog = Catalog::read(alloc, catalog().as_bytes())?;
-    match plan(query) {
-        Some(text) => Ok(Case {
-            plan: accepted(alloc, &catalog, text)?,
-            database: filled(alloc, &catalog)?,
-        }),
-        None => Err(Fail::new("the query has a plan")),
-    }
+    Ok(Case {
+        plan: plan_of_query(alloc, query)?,
+        database: filled(alloc, &catalog)?,
+    })
 }
 
 // What four workers of each group come to in rounds.
@@ -56,8 +62,9 @@ fn by_four(alloc: Global, case: &Case) -> Result<String, AllocError> {
 #[test]
 fn queries_come_to_their_serial_rows(rt: HostRuntime) -> Result<(), Fail> {
     let alloc = rt.alloc();
+    let mut case = case_of_query(alloc, 1)?;
     for query in 1..14 {
-        let case = case_of_query(alloc, query)?;
+        case.plan = plan_of_query(alloc, query)?;
         let rows = serially(alloc, &case)?;
         let text = by_four(alloc, &case)?;
         assert!(rt;
@@ -85,14 +92,16 @@ fn by_percent(alloc: Global, factor: u64, more: u64) -> Result<String, AllocErro
 fn aggregates_come_to_what_was_worked_out_by_hand(rt: HostRuntime) -> Result<(), Fail> {
     let alloc = rt.alloc();
     let least = by_percent(alloc, 1, 0)?;
-    assert_eq!(rt;
-        by_four(alloc, &case_of_query(alloc, 10)?)?.as_str(),
-        least.as_str()
-    );
+    let mut case = case_of_query(alloc, 10)?;
+    assert_eq!(rt; by_four(alloc, &case)?.as_str(), least.as_str());
     let sums = by_percent(alloc, 100, 495_000)?;
     for query in [11, 12] {
-        let text = by_four(alloc, &case_of_query(alloc, query)?)?;
-        assert_eq!(rt; text.as_str(), sums.as_str(), "query {query}");
+        case.plan = plan_of_query(alloc, query)?;
+        assert_eq!(rt;
+            by_four(alloc, &case)?.as_str(),
+            sums.as_str(),
+            "query {query}"
+        );
     }
     Ok(())
 }

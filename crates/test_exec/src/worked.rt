@@ -3,9 +3,9 @@
 
 ghost use Rattle.std.specs.Prelude.{◌<◌};
 
-use crate::cases::{Case, agrees, by_rounds, by_steps, case_of, wrong_schedules};
+use crate::cases::{Case, Drawn, agrees, by_rounds, by_steps, case_of, wrong_schedules};
 use crate::databases::{LARGE, ROWS_OF_D, ROWS_OF_T, TOO_LARGE};
-use crate::draws::in_turn;
+use crate::draws::{SCHEDULES, in_turn};
 use crate::plans::{ToFirst, of_workers};
 use std::alloc::{AllocError, Global};
 use std::test::Fail;
@@ -111,7 +111,13 @@ fn wrong_of_three(alloc: Global, case: &Case, workers: u32, rows: &str) -> Resul
     requires { 0 < workers }
 {
     let setup = of_workers(alloc, 3)?;
-    wrong_schedules(alloc, case, &setup, &ByteRouter, workers, TURNS, rows)
+    let drawn = Drawn {
+        workers,
+        turns: TURNS,
+        schedules: SCHEDULES,
+        first: 1,
+    };
+    wrong_schedules(alloc, case, &setup, &ByteRouter, drawn, rows)
 }
 
 // The first of these plans that comes to other rows, in rounds or by a schedule.
@@ -143,21 +149,47 @@ fn plans_near_to_them_come_to_their_rows(rt: HostRuntime) -> Result<(), Fail> {
 #[test]
 fn of_64_workers_one_has_every_key(rt: HostRuntime) -> Result<(), Fail> {
     let alloc = rt.alloc();
-    // The root, 64 workers that group, and 64 that scan.
+    let case = case_of(alloc, GROUPED, ROWS_OF_T, ROWS_OF_D)?;
+    let text = by_rounds(alloc, &case, &of_workers(alloc, 64)?, &ToFirst)?;
+    assert_eq!(rt; text.as_str(), GROUPED_ROWS);
+    Ok(())
+}
+
+// How many of a quarter of the schedules, drawn from a number on, come to other rows. The root, 64 workers that group and
+// 64 that scan make 129. The quarters are tests of their own, since a test has a minute.
+fn wrong_of_many(alloc: Global, first: u64) -> Result<u32, Fail> {
     let case = case_of(alloc, GROUPED, ROWS_OF_T, ROWS_OF_D)?;
     let setup = of_workers(alloc, 64)?;
-    let text = by_rounds(alloc, &case, &setup, &ToFirst)?;
-    assert_eq!(rt; text.as_str(), GROUPED_ROWS);
-    let wrong = wrong_schedules(
-        alloc,
-        &case,
-        &setup,
-        &ToFirst,
-        129,
-        TURNS_OF_MANY,
-        GROUPED_ROWS,
-    )?;
-    assert_eq!(rt; wrong, 0);
+    let drawn = Drawn {
+        workers: 129,
+        turns: TURNS_OF_MANY,
+        schedules: SCHEDULES / 4,
+        first,
+    };
+    Ok(wrong_schedules(alloc, &case, &setup, &ToFirst, drawn, GROUPED_ROWS)?)
+}
+
+#[test]
+fn schedules_of_129_workers_come_to_the_same_rows_1(rt: HostRuntime) -> Result<(), Fail> {
+    assert_eq!(rt; wrong_of_many(rt.alloc(), 1)?, 0);
+    Ok(())
+}
+
+#[test]
+fn schedules_of_129_workers_come_to_the_same_rows_2(rt: HostRuntime) -> Result<(), Fail> {
+    assert_eq!(rt; wrong_of_many(rt.alloc(), 2)?, 0);
+    Ok(())
+}
+
+#[test]
+fn schedules_of_129_workers_come_to_the_same_rows_3(rt: HostRuntime) -> Result<(), Fail> {
+    assert_eq!(rt; wrong_of_many(rt.alloc(), 3)?, 0);
+    Ok(())
+}
+
+#[test]
+fn schedules_of_129_workers_come_to_the_same_rows_4(rt: HostRuntime) -> Result<(), Fail> {
+    assert_eq!(rt; wrong_of_many(rt.alloc(), 4)?, 0);
     Ok(())
 }
 

@@ -1,0 +1,93 @@
+//! Packets that go through a ring.
+
+use std::alloc::{AllocError, Global};
+use std::test::Fail;
+use vx_ports::{Ending, InPort, OutPort, Packet, Put};
+use vx_rings::{RingIn, RingOut, reunite, ring_pair};
+use vx_rows::{ColType, Table, Value};
+use vx_views::Rows;
+
+// What came of a put: nothing is left, or the packet of this producer was returned, or the port was closed before.
+#[derive(Clone, Copy, Debug, PartialEq, Eq)]
+enum Told {
+    Done,
+    Full(u32),
+    NoMemory(u32),
+    Closed,
+}
+
+// A packet of one row, of this producer.
+fn row(alloc: Global, from: u32) -> Result<Packet, AllocError> {
+    let mut table = Table::new(alloc, &[ColType::Int])?;
+    table.push(&[Value::Int(i64::from(from))])?;
+    let rows = Rows::of_table(alloc, table)?;
+    Ok(Packet::of_rows(0, from, 0, rows))
+}
+
+// The packet that closes the stream of this producer.
+fn last(alloc: Global, from: u32) -> Result<Packet, AllocError> {
+    let none = Rows::new(alloc, &[ColType::Int])?;
+    Ok(Packet::closing(0, from, 0, Ending::Last, none))
+}
+
+fn put(out: &mut RingOut, packet: Packet) -> Told {
+    if out.is_closed() {
+        return Told::Closed;
+    }
+    match out.put(packet) {
+        Put::Done => Told::Done,
+        Put::Full(packet) => Told::Full(packet.from()),
+        Put::NoMemory(packet) => Told::NoMemory(packet.from()),
+    }
+}
+
+// The producer of the next packet.
+fn take(input: &mut RingIn) -> Option<u32> {
+    match input.take() {
+        Some(packet) => Some(packet.from()),
+        None => None,
+    }
+}
+
+#[test]
+fn first_put_finds_room(rt: HostRuntime) -> Result<(), Fail> {
+    let (mut out, _input) = ring_pair(rt.alloc(), 1)?;
+    let first = row(rt.alloc(), 1)?;
+    assert_eq!(rt; put(&mut out, first), Told::Done);
+    Ok(())
+}
+
+#[test]
+fn ring_of_two_places(rt: HostRuntime) -> Result<(), Fail> {
+    let alloc = rt.alloc();
+    let (mut out, mut input) = ring_pair(alloc, 2)?;
+    assert_eq!(rt; put(&mut out, row(alloc, 1)?), Told::Done);
+    assert_eq!(rt; put(&mut out, row(alloc, 2)?), Told::Done);
+    assert_eq!(rt; put(&mut out, row(alloc, 3)?), Told::Full(3));
+    assert_eq!(rt; take(&mut input), Some(1));
+    assert_eq!(rt; put(&mut out, row(alloc, 3)?), Told::Done);
+    assert_eq!(rt; take(&mut input), Some(2));
+    assert_eq!(rt; take(&mut input), Some(3));
+    assert_eq!(rt; take(&mut input), None);
+    Ok(())
+}
+
+#[test]
+fn closing_packet_goes_as_a_packet(rt: HostRuntime) -> Result<(), Fail> {
+    let alloc = rt.alloc();
+    let (mut out, mut input) = ring_pair(alloc, 1)?;
+    assert_eq!(rt; put(&mut out, last(alloc, 7)?), Told::Done);
+    assert_eq!(rt; put(&mut out, row(alloc, 8)?), Told::Closed);
+    assert_eq!(rt; take(&mut input), Some(7));
+    Ok(())
+}
+
+#[test]
+fn ends_go_on_once_they_came_together(rt: HostRuntime) -> Result<(), Fail> {
+    let (mut out, mut input) = ring_pair(rt.alloc(), 1)?;
+    reunite(&mut out, &mut input);
+    let one = row(rt.alloc(), 1)?;
+    assert_eq!(rt; put(&mut out, one), Told::Done);
+    assert_eq!(rt; take(&mut input), Some(1));
+    Ok(())
+}
