@@ -1,0 +1,107 @@
+//! What is asked for, and the table of times.
+
+use anyhow::Error;
+use std::alloc::{AllocError, Global};
+use std::env;
+use std::rt::{Clock, Env};
+use std::time::Instant;
+
+/// How many rows the largest relations have, and whether times are shown.
+#[derive(Clone, Copy)]
+pub struct Bench {
+    pub alloc: Global,
+    pub rows: u64,
+    pub with_times: bool,
+}
+
+/// The times of a subject in nanoseconds, as far as they are there: serial, run by 1, 4 and 64 workers, and by hand.
+pub type Times = [Option<u64>; 5];
+
+/// The nanoseconds since a time.
+pub fn nanos_since<R: Clock>(rt: &R, start: Instant) -> Result<u64, Error> {
+    Ok(u64::try_from(start.elapsed(rt)?.as_nanos()).unwrap_or(u64::MAX))
+}
+
+/// The lesser of a time and those before it, if there were any.
+pub fn least(before: Option<u64>, nanos: u64) -> Option<u64> {
+    Some(before.map_or(nanos, |least| least.min(nanos)))
+}
+
+// A time for each row, in nanoseconds with a tenth.
+fn per_row(alloc: Global, nanos: Option<u64>, rows: u64) -> Result<String, AllocError> {
+    let Some(nanos) = nanos else {
+        return String::from_str(alloc, "-");
+    };
+    let tenths = nanos.saturating_mul(10) / rows.max(1);
+    format!(in alloc; "{}.{}", tenths / 10, tenths % 10)
+}
+
+// How many times as long one took as the other.
+fn ratio(alloc: Global, nanos: Option<u64>, other: Option<u64>) -> Result<String, AllocError> {
+    let (Some(nanos), Some(other)) = (nanos, other) else {
+        return String::from_str(alloc, "-");
+    };
+    let hundredths = nanos.saturating_mul(100) / other.max(1);
+    format!(in alloc; "{}.{:02}", hundredths / 100, hundredths % 100)
+}
+
+impl Bench {
+    /// What the arguments ask for: a number of rows, and `agree` for no times.
+    pub fn asked<R: Env + Alloc>(rt: &R, alloc: Global) -> Result<Bench, Error> {
+        let mut bench = Bench {
+            alloc,
+            rows: 1_000_000,
+            with_times: true,
+        };
+        for word in env::args(rt)?.skip(1) {
+            if word.as_str() == "agree" {
+                bench.with_times = false;
+            } else {
+                bench.rows = word.parse::<u64>()?;
+            }
+        }
+        Ok(bench)
+    }
+
+    /// How often each call is made: the least of its times is shown.
+    pub fn repeats(self) -> u64 {
+        if self.with_times { 3 } else { 1 }
+    }
+
+    /// Shows the head of the table.
+    pub fn show_head<R: Print>(self, rt: &R) -> Result<(), Error> {
+        if self.with_times {
+            println!(rt;
+                "subject                      rows   serial    run 1    run 4   run 64  by hand serial/hand  1/serial     64/1"
+            )?;
+        }
+        Ok(())
+    }
+
+    /// Shows a subject: its times for each of so many rows and their ratios, or what is the same in each run.
+    pub fn show<R: Print>(
+        self,
+        rt: &R,
+        name: &str,
+        rows: u64,
+        times: Times,
+        found: &str,
+    ) -> Result<(), Error> {
+        if !self.with_times {
+            println!(rt; "{name}: {found}")?;
+            return Ok(());
+        }
+        print!(rt; "{name:<24} {rows:>8}")?;
+        for nanos in times {
+            let cell = per_row(self.alloc, nanos, rows)?;
+            print!(rt; " {:>8}", cell.as_str())?;
+        }
+        let [serial, one, _, many, by_hand] = times;
+        for (nanos, other) in [(serial, by_hand), (one, serial), (many, one)] {
+            let cell = ratio(self.alloc, nanos, other)?;
+            print!(rt; " {:>11}", cell.as_str())?;
+        }
+        println!(rt; "")?;
+        Ok(())
+    }
+}

@@ -1,0 +1,31 @@
+//! Times over the relations of `vx_wisconsin`, as one table: generating and loading one, tests of its keys, queries by the
+//! serial evaluation, by 1, 4 and 64 workers in rounds and by hand over plain columns, and the checker.
+//!
+//! Its argument is the number of rows of the two largest relations, 1,000,000 where none is said. With the argument
+//! `agree` it shows no times, but what is the same in each run. It fails where two ways give different rows.
+#![tactic(auto)]
+
+mod bench;
+mod by_hand;
+mod checker;
+mod columns;
+mod digest;
+mod queries;
+mod relations;
+
+use crate::bench::Bench;
+use crate::columns::{Columns, table_of};
+use crate::relations::TENK1;
+use anyhow::Error;
+
+fn main(rt: HostRuntime) -> Result<(), Error> {
+    let bench = Bench::asked(&rt, rt.alloc())?;
+    bench.show_head(&rt)?;
+    let database = bench.measure_loading(&rt)?;
+    let tenk1 = table_of(&database, TENK1)?;
+    bench.measure_key(&rt, tenk1, "key unique1", 0)?;
+    bench.measure_key(&rt, tenk1, "key stringu1", 13)?;
+    let columns = Columns::of(bench.alloc, &database)?;
+    bench.measure_queries(&rt, &database, &columns)?;
+    bench.measure_checker(&rt)
+}

@@ -1,0 +1,234 @@
+//! Queries over the relations: serial, by workers in rounds, and by hand.
+
+use crate::bench::{Bench, Times, least, nanos_since};
+use crate::by_hand::Answer;
+use crate::columns::Columns;
+use crate::digest::Digest;
+use anyhow::{Error, bail};
+use std::alloc::{AllocError, Global};
+use std::rt::Clock;
+use std::time::Instant;
+use vx_catalog::Database;
+use vx_check::{CheckedPlan, check};
+use vx_exchange::ByteRouter;
+use vx_exec::{Ran, Setup, run_rounds};
+use vx_plan::{Plan, TypedPlan, erase, resolve};
+use vx_serial::eval;
+use vx_wisconsin::plan;
+
+// What is asked.
+#[derive(Clone, Copy)]
+enum Subject {
+    // A query of the benchmark.
+    Query(u32),
+    // The rows of tenk1 with unique2 below a number.
+    Below(u64),
+}
+
+// How a query is answered.
+#[derive(Clone, Copy)]
+enum Way {
+    Serial,
+    Workers(u32),
+    ByHand,
+}
+
+// What a way gave, and how many nanoseconds it took.
+type Outcome = (Digest, u64);
+
+// A query over the relations, ready to be answered each way.
+#[derive(Drop)]
+struct Query<'t> {
+    subject: Subject,
+    plan: CheckedPlan,
+    // The plan without its exchanges.
+    erased: TypedPlan,
+    database: &'t Database,
+    columns: &'t Columns<'t>,
+}
+
+impl Subject {
+    fn name(self, alloc: Global) -> Result<String, AllocError> {
+        match self {
+            Subject::Query(number) => format!(in alloc; "query {number}"),
+            Subject::Below(bound) => format!(in alloc; "unique2 < {bound}"),
+        }
+    }
+
+    // How many rows it reads, where the largest relations have so many.
+    fn rows_read(self, rows: u64) -> u64 {
+        match self {
+            Subject::Query(3) => rows.saturating_mul(2),
+            Subject::Query(4 | 6 | 13) => rows.saturating_add(rows / 10),
+            Subject::Query(5) => rows.saturating_mul(2).saturating_add(rows / 10),
+            _ => rows,
+        }
+    }
+
+    // How many workers the largest teams have. Query 5 with 64 would take 257 workers, and a run has 256 at most.
+    fn largest_team(self) -> u32 {
+        match self {
+            Subject::Query(5) => 63,
+            _ => 64,
+        }
+    }
+
+    // Its plan as JSON.
+    fn text(self, alloc: Global) -> Result<String, AllocError> {
+        match self {
+            Subject::Query(number) => String::from_str(alloc, plan(number).unwrap_or("")),
+            Subject::Below(bound) => format!(in alloc;
+                "{{\"sizes\":[\"many\"],\"root\":{{\"op\":\"exchange\",\"kind\":\"gather\",\"claim\":{{\"part\":\"one\"}},\"input\":{{\"op\":\"select\",\"where\":[{{\"column\":\"unique2\",\"op\":\"<\",\"value\":{bound}}}],\"claim\":{{\"part\":\"any\"}},\"input\":{{\"op\":\"scan\",\"relation\":\"tenk1\",\"mode\":\"shared\",\"size\":\"many\",\"claim\":{{\"part\":\"any\"}}}}}}}}}}"
+            ),
+        }
+    }
+
+    // Its rows by hand.
+    fn answer<'t>(self, columns: &Columns<'t>) -> Result<Answer<'t>, AllocError> {
+        match self {
+            Subject::Query(number) => columns.query(number),
+            Subject::Below(bound) => {
+                let bound = i64::try_from(bound).unwrap_or(i64::MAX);
+                columns.selected(i64::MIN, bound.saturating_sub(1))
+            }
+        }
+    }
+}
+
+// The plan of a subject, which the checker accepts.
+fn plan_of(alloc: Global, database: &Database, subject: Subject) -> Result<CheckedPlan, Error> {
+    let text = subject.text(alloc)?;
+    let plan = Plan::read(alloc, text.as_bytes())?;
+    match check(resolve(alloc, &plan, database.catalog())?) {
+        Ok(plan) => Ok(plan),
+        Err(refused) => bail!("the checker refuses a plan: {refused}"),
+    }
+}
+
+impl<'t> Query<'t> {
+    fn by_serial<R: Clock>(&self, rt: &R, alloc: Global) -> Result<Outcome, Error> {
+        let start = Instant::now(rt)?;
+        let rows = eval(alloc, &self.erased, self.database)?;
+        let nanos = nanos_since(rt, start)?;
+        Ok((Digest::of(&rows.gathered(alloc)?), nanos))
+    }
+
+    fn by_workers<R: Clock>(&self, rt: &R, alloc: Global, workers: u32) -> Result<Outcome, Error> {
+        // Packets, morsels and slack are as they are by default.
+        let sizes = vec![in alloc; (String::from_str(alloc, "many")?, workers)]?;
+        let setup = Setup::new(sizes, 256, 1024, 8);
+        let start = Instant::now(rt)?;
+        match run_rounds(
+            alloc,
+            &self.plan,
+            self.database,
+            &setup,
+            &ByteRouter,
+            u64::MAX,
+        )? {
+            Ran::Done(rows) => {
+                let nanos = nanos_since(rt, start)?;
+                Ok((Digest::of(&rows.gathered(alloc)?), nanos))
+            }
+            Ran::Unfinished => bail!("a run does not end"),
+        }
+    }
+
+    fn by_hand<R: Clock>(&self, rt: &R, alloc: Global) -> Result<Outcome, Error> {
+        let start = Instant::now(rt)?;
+        let answer = self.subject.answer(self.columns)?;
+        let nanos = nanos_since(rt, start)?;
+        Ok((answer.digest(self.database), nanos))
+    }
+
+    fn once<R: Clock>(&self, rt: &R, alloc: Global, way: Way) -> Result<Outcome, Error> {
+        match way {
+            Way::Serial => self.by_serial(rt, alloc),
+            Way::Workers(workers) => self.by_workers(rt, alloc, workers),
+            Way::ByHand => self.by_hand(rt, alloc),
+        }
+    }
+}
+
+impl Bench {
+    // The least time of a way to answer a query, which has to give these rows.
+    fn time<R: Clock>(
+        self,
+        rt: &R,
+        query: &Query<'_>,
+        way: Way,
+        wanted: Digest,
+    ) -> Result<Option<u64>, Error> {
+        let mut nanos = None;
+        for _ in 0..self.repeats() {
+            let (digest, took) = query.once(rt, self.alloc, way)?;
+            if !digest.agrees(wanted, query.plan.is_total()) {
+                let name = query.subject.name(self.alloc)?;
+                bail!("{name} has other rows than by the serial evaluation");
+            }
+            nanos = least(nanos, took);
+        }
+        Ok(nanos)
+    }
+
+    // The times of each way to answer a query, which has to give these rows.
+    fn times<R: Clock>(self, rt: &R, query: &Query<'_>, wanted: Digest) -> Result<Times, Error> {
+        let many = query.subject.largest_team();
+        Ok([
+            self.time(rt, query, Way::Serial, wanted)?,
+            self.time(rt, query, Way::Workers(1), wanted)?,
+            self.time(rt, query, Way::Workers(4), wanted)?,
+            self.time(rt, query, Way::Workers(many), wanted)?,
+            self.time(rt, query, Way::ByHand, wanted)?,
+        ])
+    }
+
+    // Answers a query each way, and shows what all gave.
+    fn measure_query<R: Print + Clock>(
+        self,
+        rt: &R,
+        database: &Database,
+        columns: &Columns<'_>,
+        subject: Subject,
+    ) -> Result<(), Error> {
+        let plan = plan_of(self.alloc, database, subject)?;
+        let query = Query {
+            subject,
+            erased: erase(self.alloc, plan.plan())?,
+            plan,
+            database,
+            columns,
+        };
+        let (wanted, _) = query.once(rt, self.alloc, Way::Serial)?;
+        let times = self.times(rt, &query, wanted)?;
+        let name = subject.name(self.alloc)?;
+        let found = format!(in self.alloc;
+            "{} rows by serial, by run with 1, 4 and {} workers, and by hand",
+            wanted.rows(),
+            subject.largest_team()
+        )?;
+        self.show(
+            rt,
+            name.as_str(),
+            subject.rows_read(self.rows),
+            times,
+            found.as_str(),
+        )
+    }
+
+    /// Selections of a hundredth and of all of tenk1, and the queries of the benchmark. It fails where one way gives other
+    /// rows.
+    pub fn measure_queries<R: Print + Clock>(
+        self,
+        rt: &R,
+        database: &Database,
+        columns: &Columns<'_>,
+    ) -> Result<(), Error> {
+        self.measure_query(rt, database, columns, Subject::Below(self.rows / 100))?;
+        self.measure_query(rt, database, columns, Subject::Below(self.rows))?;
+        for number in 1..14 {
+            self.measure_query(rt, database, columns, Subject::Query(number))?;
+        }
+        Ok(())
+    }
+}
