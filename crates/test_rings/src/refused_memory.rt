@@ -1,6 +1,6 @@
-//! Out of memory. Run with each allocation refused in turn, a ring and a deck are made as usual, or the answer is that memory ran out:
-//! `tools/refuse-allocations test_rings` does so. A test with `ample` in its name makes the same calls once, and passes only where
-//! none of its allocations is refused.
+//! Out of memory. Run with each allocation refused in turn, a ring and a deck are made as usual, or the answer is that
+//! memory ran out: `tools/refuse-allocations test_rings` does so. A test with `ample` in its name makes the same calls
+//! once, and passes only where none of its allocations is refused.
 
 use std::alloc::{AllocError, Global};
 use std::test::Fail;

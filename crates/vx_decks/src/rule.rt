@@ -1,4 +1,5 @@
-//! What a shared deck keeps between any two steps of its seats. No value of `Account` or `Drawn` is made: they are what proofs say of a seat.
+//! What a shared deck keeps between any two steps of its seats. No value of `Account` or `Drawn` is made: they are
+//! what proofs say of a seat.
 
 use atomic_table::{Join, Play, Split, TableRule};
 use std::collections::LinkedList;

@@ -7,7 +7,8 @@ use std::marker::Model;
 
 /// Calls: `new draw* close`, with `draw` from any threads at once.
 ///
-/// Deals out 0, 1, 2, and so on, below `morsels`, to the seats that were made with it. No lock is taken: a draw is one atomic addition.
+/// Deals out 0, 1, 2, and so on, below `morsels`, to the seats that were made with it. No lock is taken: a draw is one
+/// atomic addition.
 #[derive(Drop)]
 pub struct SharedDeck {
     table: Table<u8, Account, Size, DeckRule, Global>,

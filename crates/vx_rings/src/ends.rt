@@ -18,8 +18,9 @@ pub fn ring_pair(alloc: Global, slack: u32) -> Result<(RingOut, RingIn), AllocEr
     RingOut::pair(alloc, slack as usize)
 }
 
-/// Brings the two ends of one ring together, as after the join of their threads: what was taken is known to be a prefix of what was put, in order, and all of it
-/// once the closing packet was taken. Each end then sees all that the other did.
+/// Brings the two ends of one ring together, as after the join of their threads: what was taken is known to be a
+/// prefix of what was put, in order, and all of it once the closing packet was taken. Each end then sees all that the
+/// other did.
 pub fn reunite(out: &mut RingOut, input: &mut RingIn)
     requires { IsRing out.old input.old }
     ensures out { (put_to out.new ≡ put_to out.old) × SameOut out.old out.new }
