@@ -1,17 +1,20 @@
 //! Times over the relations of `vx_wisconsin`, as one table: generating and loading one, tests of its keys, queries by the
-//! serial evaluation, by 1, 4 and 64 workers in rounds and by hand over plain columns, and the checker.
+//! serial evaluation, by 1, 4 and 64 workers in rounds and by hand over plain columns, the checker, a ring and a deck.
 //!
 //! Its argument is the number of rows of the two largest relations, 1,000,000 where none is said. With the argument
-//! `agree` it shows no times, but what is the same in each run. It fails where two ways give different rows.
+//! `agree` it shows no times, but what is the same in each run. It fails where two ways give different rows, a
+//! ring other packets than were put, or a deck a number not once.
 #![tactic(auto)]
 
 mod bench;
 mod by_hand;
 mod checker;
 mod columns;
+mod decks;
 mod digest;
 mod queries;
 mod relations;
+mod rings;
 
 use crate::bench::Bench;
 use crate::columns::{Columns, table_of};
@@ -27,5 +30,7 @@ fn main(rt: HostRuntime) -> Result<(), Error> {
     bench.measure_key(&rt, tenk1, "key stringu1", 13)?;
     let columns = Columns::of(bench.alloc, &database)?;
     bench.measure_queries(&rt, &database, &columns)?;
-    bench.measure_checker(&rt)
+    bench.measure_checker(&rt)?;
+    bench.measure_ring(&rt)?;
+    bench.measure_deck(&rt)
 }
