@@ -1,0 +1,37 @@
+use Rattle.std.proofs.Common.{rules, refl, sym, subst, ◌∙◌, ◌≡◌, ◌<◌, Some, length, slice_get, arith, inl, inr}
+use Rattle.std.proofs.Math.ListN.{get_or}
+use Rattle.std.proofs.lemmas.Bool.{cases_lt}
+use Rattle.std.proofs.lemmas.Option.{slice_get-get_or}
+use Rattle.vx_worker.specs.Trace.{idle}
+use Rattle.vx_threads.specs.Carrying.{hold_of}
+use Rattle.vx_threads.proofs.Bearing.{carries-idle, carries-then}
+use Rattle.vx_threads.proofs.ends.Ends.gather.Goals as goal
+
+pub loop-place-init : goal.loop-place-init
+loop-place-init c = (carries-idle (hold_of c.args.self.now), refl, refl, λ k e l at. absurd (omega (arith, l)))
+
+pub returns-in_err-gather_at-clause-does : goal.returns-in_err-gather_at-clause-does
+returns-in_err-gather_at-clause-does c =
+    carries-then (hold_of c.args.self.now) (hold_of c.loop-place.self) (hold_of c.gather_at.new.self) idle c.loop-place.invariant.0 c.gather_at.ensures.does
+
+pub loop-place-preserved : goal.loop-place-preserved
+loop-place-preserved c = (
+  carries-then (hold_of c.args.self.now) (hold_of c.loop-place.self) (hold_of c.gather_at.new.self) idle c.loop-place.invariant.0 c.gather_at.ensures.does,
+  c.gather_at.ensures.draws ∙ c.loop-place.invariant.1,
+  c.gather_at.ensures.count ∙ c.loop-place.invariant.2,
+  λ k e l at. elim (cases_lt k c.loop-place.place) [
+    | inl b ↦ c.loop-place.invariant.3 k e b (sym (c.gather_at.ensures.others k (λ q. absurd (omega (arith, b, q)))) ∙ at)
+    | inr b ↦
+        let q : k ≡ c.loop-place.place = omega (arith, l, b) in
+        c.in_ok-gather_at.ensures.here e (subst (λ n. slice_get c.gather_at.new.self.ins.items n ≡ Some e) q at)
+  ],
+)
+
+pub returns-clause-gathered : goal.returns-clause-gathered
+returns-clause-gathered c = λ k d l.
+    let ins = c.loop-place.self.ins.items in
+    let count : c.len-place-end.result ≡ length c.args.self.now.ins.items = c.len-place-end.ensures ∙ sym (search rules) in
+    let past = c.loop-place-test.false in
+    let same = c.loop-place.invariant.2 in
+    let within : k < c.loop-place.place = omega (arith, l, count, past, same) in
+    c.loop-place.invariant.3 k (get_or ins k d) within (slice_get-get_or ins k d l)

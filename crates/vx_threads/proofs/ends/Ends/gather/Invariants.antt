@@ -1,0 +1,11 @@
+use Rattle.std.proofs.Common.{ℕ, ◌≡◌, ◌<◌, length, Some, slice_get}
+use Rattle.vx_worker.specs.Trace.{idle}
+use Rattle.vx_threads.specs.Carrying.{Does}
+use Rattle.vx_threads.specs.Inlets.{IsGathered}
+use Rattle.vx_threads.specs.declared.inlet.Inlet.{Inlet}
+use Rattle.vx_threads.proofs.ends.Ends.gather.Given as goal
+
+abbrev pub invariant-loop-place : goal.invariant-loop-place
+invariant-loop-place l =
+    Does l.fn.self idle l.self × (l.self.draws ≡ l.fn.self.draws) × (length l.self.ins.items ≡ length l.fn.self.ins.items)
+    × ((k : ℕ) (e : Inlet) → k < l.place → slice_get l.self.ins.items k ≡ Some e → IsGathered e)

@@ -1,0 +1,6 @@
+use Rattle.vx_threads.specs.Carrying.{hold_of}
+use Rattle.vx_threads.proofs.Bearing.{carries-idle}
+use Rattle.vx_threads.proofs.wires.ThreadWires.gather.Goals as goal
+
+pub returns-in-Refused-clause-does : goal.returns-in-Refused-clause-does
+returns-in-Refused-clause-does c = carries-idle (hold_of c.args.self.now.ends)

@@ -1,0 +1,141 @@
+//! The wires of a worker in a thread of its own.
+
+ghost use Rattle.std.specs.List.{All};
+ghost use Rattle.vx_threads.specs.Drawers.{Sits};
+
+use crate::ends::Ends;
+use std::alloc::AllocError;
+use vx_decks::SharedDeck;
+use vx_ports::{Packet, Put};
+use vx_worker::Wires;
+
+// Whether there was room for the worker's own queues.
+#[derive(Clone, Copy, Debug, PartialEq, Eq)]
+enum Room {
+    /// So far.
+    There,
+    /// Memory was refused, and the worker was not told yet.
+    Refused,
+    /// The worker was told, and fails: nothing is taken early any more, so that it is told once.
+    Told,
+}
+
+/// Calls: `new`, then steps of a worker over it, and `gather` and `noted` between them, then `into_ends`.
+///
+/// What one thread holds, and the decks of the run.
+#[derive(Drop)]
+pub struct ThreadWires<'d> {
+    ends: Ends,
+    decks: &'d Vec<SharedDeck>,
+    room: Room,
+    noted: Option<Option<u64>>,
+    pub ghost sits: { All (Sits decks.now.items) ends.draws.items },
+}
+
+impl<'d> ThreadWires<'d> {
+    ghost use Rattle.std.specs.Prelude.{◌≡◌, OnErr};
+    ghost use Rattle.vx_worker.specs.Trace.{idle};
+    ghost use Rattle.vx_threads.specs.declared.wires.Room.TheVariants as Room;
+    ghost use Rattle.vx_threads.specs.Inlets.{IsGathered};
+    ghost use Rattle.vx_threads.specs.Carrying.{Does};
+
+    /// Of a worker whose seats are of these decks.
+    pub fn new(ends: Ends, decks: &'d Vec<SharedDeck>) -> ThreadWires<'d>
+        requires { All (Sits decks.now.items) ends.draws.items }
+        ensures { result.ends ≡ ends }
+    {
+        ThreadWires {
+            ends,
+            decks,
+            room: Room::There,
+            noted: None,
+        }
+    }
+
+    /// Takes early what waits in the rings, until memory is refused: the next call of the worker is told of that.
+    pub fn gather(&mut self)
+        ensures does { Does self.old.ends idle self.new.ends }
+        ensures gathered { self.new.room ≡ Room.There → All IsGathered self.new.ends.ins.items }
+    {
+        match self.room {
+            Room::There => match self.ends.gather() {
+                Ok(()) => return,
+                Err(_) => {
+                    self.room = Room::Refused;
+                    return;
+                }
+            },
+            Room::Refused | Room::Told => return,
+        }
+    }
+
+    /// What was drawn of a shared scan since the last call, if anything was.
+    pub fn noted(&mut self) -> Option<Option<u64>>
+        ensures ends { self.new.ends ≡ self.old.ends }
+        ensures noted { result ≡ self.old.noted }
+    {
+        self.noted.take()
+    }
+
+    /// The ends, for whoever joins the thread.
+    pub fn into_ends(self) -> Ends
+        ensures { result ≡ self.entry.ends }
+    {
+        let ThreadWires { ends, .. } = self;
+        ends
+    }
+
+    // Tells once that memory was refused.
+    fn tell(&mut self) -> Result<(), AllocError>
+        ensures ends { self.new.ends ≡ self.old.ends }
+        ensures does { Does self.old.ends idle self.new.ends }
+        ensures told { OnErr result (self.old.room ≡ Room.Refused) }
+    {
+        match self.room {
+            Room::Refused => {
+                self.room = Room::Told;
+                return Err(AllocError);
+            }
+            Room::There | Room::Told => return Ok(()),
+        }
+    }
+}
+
+impl<'d> Wires for ThreadWires<'d> {
+    ghost use Rattle.std.specs.Prelude.{◌≡◌};
+    ghost use Rattle.vx_threads.specs.declared.wires.Room.TheVariants as Room;
+    ghost use Rattle.vx_threads.specs.Carrying.{Does, IsFullAt};
+    ghost use Rattle.vx_threads.specs.Idle.{stays};
+
+    ghost Does = { λ a e b. Does a.ends e b.ends };
+
+    ghost IsFull = { λ a to. IsFullAt a.ends to };
+
+    ghost LacksMemory = { λ a. a.room ≡ Room.Refused };
+
+    ghost idle = { stays };
+
+    fn draw(&mut self, scan: u32) -> Result<Option<u64>, AllocError> {
+        self.tell()?;
+        let drawn = self.ends.draw(scan, self.decks);
+        if self.ends.is_shared(scan) {
+            self.noted = Some(drawn);
+        }
+        Ok(drawn)
+    }
+
+    fn take(&mut self, exchange: u32, from: u32) -> Result<Option<Packet>, AllocError> {
+        self.tell()?;
+        Ok(self.ends.take(exchange, from))
+    }
+
+    fn put(&mut self, to: u32, packet: Packet) -> Put {
+        if packet.is_closing() {
+            return self.ends.put(to, packet);
+        }
+        match self.tell() {
+            Ok(()) => return self.ends.put(to, packet),
+            Err(_) => return Put::NoMemory(packet),
+        }
+    }
+}
