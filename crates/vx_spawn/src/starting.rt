@@ -1,0 +1,86 @@
+//! One worker in a thread of its own.
+
+ghost use Rattle.std.specs.Prelude.{◌≡◌, IfSome};
+ghost use Rattle.std.specs.List.{All};
+ghost use Rattle.vx_worker.specs.Worker.{IsReady};
+ghost use Rattle.vx_threads.specs.Drawers.{Sits};
+ghost use Rattle.vx_spawn.specs.Honest.{IsHonest};
+
+use crate::member::{CrewMember, Joined};
+use crate::promise::JoinPromise;
+use crate::start::Start;
+use std::snapshot::Snapshot;
+use std::sync::Wait;
+use std::thread::{PromisedHandle, Scope, Threads};
+use vx_decks::SharedDeck;
+use vx_ends::Sends;
+use vx_ops::Source;
+use vx_plan_nodes::Router;
+use vx_threads::{Gate, ThreadWires, run_to_end};
+use vx_worker::Morsels;
+
+/// What a worker's thread does: it waits for the start, and steps its worker to its end. None where the run was cancelled.
+pub fn work<O: Source + Drop, S: Sends + Drop, G: Morsels, R: Router, H: Gate, T: Wait>(
+    rt: &T,
+    morsels: &G,
+    router: &R,
+    gate: &H,
+    decks: &Vec<SharedDeck>,
+    start: &Start,
+    member: CrewMember<O, S>,
+) -> Option<Joined<O, S>>
+    requires ready { IsReady O.types S.post S.is_open S.has_closed (G.types_of morsels.now) member.worker }
+    requires sits { All (Sits decks.now.items) member.ends.draws.items }
+    ensures { IfSome result (λ j. IsHonest O.Stands O.op S.Stands S.task S.post S.bounds (R.route_of router.now) (G.morsel_of morsels.now) member j) }
+{
+    if !start.wait(rt) {
+        return None;
+    }
+    let CrewMember {
+        fragment,
+        place,
+        worker,
+        ends,
+    } = member;
+    let wires = ThreadWires::new(ends, decks);
+    let (worker, ends) = run_to_end(rt, morsels, router, gate, (fragment, place), worker, wires);
+    Some(Joined { worker, ends })
+}
+
+/// Starts the thread of one worker, in a scope. None where the system refused it: the worker is dropped then.
+pub fn begin<
+    's,
+    E: 's,
+    O: Source + Send + Drop + 's,
+    S: Sends + Send + Drop + 's,
+    G: Morsels + Sync + 's,
+    R: Router + Sync + 's,
+    H: Gate + Sync + 's,
+    T: Threads + Wait + Sync + 's,
+>(
+    scope: &'s Scope<'s, E>,
+    rt: &'s T,
+    morsels: &'s G,
+    router: &'s R,
+    gate: &'s H,
+    decks: &'s Vec<SharedDeck>,
+    start: &'s Start,
+    member: CrewMember<O, S>,
+) -> Option<PromisedHandle<Option<Joined<O, S>>, JoinPromise<'s, O, S, G, R>>>
+    requires ready { IsReady O.types S.post S.is_open S.has_closed (G.types_of morsels.now) member.worker }
+    requires sits { All (Sits decks.now.items) member.ends.draws.items }
+    ensures { IfSome result (λ h. (h.promise.member.value ≡ member) × (h.promise.router.now ≡ router.now) × (h.promise.morsels.now ≡ morsels.now)) }
+{
+    let promise = JoinPromise {
+        morsels,
+        router,
+        member: Snapshot::of(&member),
+    };
+    match scope.spawn_with(
+        promise,
+        move || work(rt, morsels, router, gate, decks, start, member),
+    ) {
+        Ok(child) => Some(child),
+        Err(_) => None,
+    }
+}
