@@ -79,7 +79,7 @@ pub fn join_all<'s, O: Source + Drop, S: Sends + Drop, G: Morsels, R: Router, T:
     Ok(all)
 }
 
-// Starts all threads, lets them go, and joins them. Where one is refused, those that were started are told to end, and
+// Starts all threads, lets them go, and joins them. Where one is refused, those that were started are cancelled, and
 // the scope waits for them.
 fn run_in_scope<
     's,

@@ -30,16 +30,16 @@ impl Start {
 
     /// Lets all threads go.
     pub fn go(&self) {
-        self.tell(Start::STARTED);
+        self.set(Start::STARTED);
     }
 
     /// Lets all threads end before their first step.
     pub fn cancel(&self) {
-        self.tell(Start::CANCELLED);
+        self.set(Start::CANCELLED);
     }
 
     // A thread that waits sleeps only while the word is that of a closed barrier, so none sleeps on after this.
-    fn tell(&self, word: u64) {
+    fn set(&self, word: u64) {
         self.word.store(word, Ordering::SeqCst);
         self.word.wake_all();
     }

@@ -19,7 +19,7 @@ use vx_plan_nodes::Router;
 use vx_threads::{Gate, ThreadWires, run_to_end};
 use vx_worker::Morsels;
 
-/// What a worker's thread does: it waits for the start, and steps its worker to its end. None where the run was cancelled.
+/// What a worker's thread does: it waits for the start, and steps its worker to its end. None if the run was cancelled.
 pub fn work<O: Source + Drop, S: Sends + Drop, G: Morsels, R: Router, H: Gate, T: Wait>(
     rt: &T,
     morsels: &G,

@@ -14,10 +14,10 @@ use vx_worker::Wires;
 enum Room {
     /// So far.
     There,
-    /// Memory was refused, and the worker was not told yet.
+    /// Memory was refused, and the worker does not know of it yet.
     Refused,
-    /// The worker was told, and fails: nothing is taken early any more, so that it is told once.
-    Told,
+    /// It was reported to the worker, which fails: nothing is taken early any more, so that it is reported once.
+    Reported,
 }
 
 /// Calls: `new`, then steps of a worker over it, and `gather` and `noted` between them, then `into_ends`.
@@ -52,7 +52,7 @@ impl<'d> ThreadWires<'d> {
         }
     }
 
-    /// Takes early what waits in the rings, until memory is refused: the next call of the worker is told of that.
+    /// Takes early what waits in the rings, until memory is refused: the next call of the worker reports that.
     pub fn gather(&mut self)
         ensures does { Does self.old.ends idle self.new.ends }
         ensures gathered { self.new.room ≡ Room.There → All IsGathered self.new.ends.ins.items }
@@ -65,7 +65,7 @@ impl<'d> ThreadWires<'d> {
                     return;
                 }
             },
-            Room::Refused | Room::Told => return,
+            Room::Refused | Room::Reported => return,
         }
     }
 
@@ -85,18 +85,18 @@ impl<'d> ThreadWires<'d> {
         ends
     }
 
-    // Tells once that memory was refused.
-    fn tell(&mut self) -> Result<(), AllocError>
+    // Reports once that memory was refused.
+    fn report(&mut self) -> Result<(), AllocError>
         ensures ends { self.new.ends ≡ self.old.ends }
         ensures does { Does self.old.ends idle self.new.ends }
-        ensures told { OnErr result (self.old.room ≡ Room.Refused) }
+        ensures reported { OnErr result (self.old.room ≡ Room.Refused) }
     {
         match self.room {
             Room::Refused => {
-                self.room = Room::Told;
+                self.room = Room::Reported;
                 return Err(AllocError);
             }
-            Room::There | Room::Told => return Ok(()),
+            Room::There | Room::Reported => return Ok(()),
         }
     }
 }
@@ -116,7 +116,7 @@ impl<'d> Wires for ThreadWires<'d> {
     ghost idle = { stays };
 
     fn draw(&mut self, scan: u32) -> Result<Option<u64>, AllocError> {
-        self.tell()?;
+        self.report()?;
         let drawn = self.ends.draw(scan, self.decks);
         if self.ends.is_shared(scan) {
             self.noted = Some(drawn);
@@ -125,7 +125,7 @@ impl<'d> Wires for ThreadWires<'d> {
     }
 
     fn take(&mut self, exchange: u32, from: u32) -> Result<Option<Packet>, AllocError> {
-        self.tell()?;
+        self.report()?;
         Ok(self.ends.take(exchange, from))
     }
 
@@ -133,7 +133,7 @@ impl<'d> Wires for ThreadWires<'d> {
         if packet.is_closing() {
             return self.ends.put(to, packet);
         }
-        match self.tell() {
+        match self.report() {
             Ok(()) => return self.ends.put(to, packet),
             Err(_) => return Put::NoMemory(packet),
         }

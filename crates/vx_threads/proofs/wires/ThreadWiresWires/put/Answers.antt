@@ -6,4 +6,4 @@ use Rattle.vx_threads.proofs.wires.ThreadWiresWires.put.Goals as goal
 
 pub returns-in-Ok : goal.returns-in-Ok
 returns-in-Ok c =
-    subst (λ (z : Ends). PutGives Does IsFullAt z c.put-in-Ok.new.self c.args.to c.args.packet c.put-in-Ok.result) c.tell.ensures.ends c.put-in-Ok.ensures.gives
+    subst (λ (z : Ends). PutGives Does IsFullAt z c.put-in-Ok.new.self c.args.to c.args.packet c.put-in-Ok.result) c.report.ensures.ends c.put-in-Ok.ensures.gives
