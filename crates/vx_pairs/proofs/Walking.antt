@@ -1,13 +1,20 @@
 -- One pair after another.
-use Rattle.std.proofs.Common.{Vec, Global, ℕ, zero, suc, ◌≡◌, ◌≢◌, List, [], ◌∷◌, Some, None}
+use Rattle.std.proofs.Common.{◌+◌, Vec, Global, ℕ, zero, suc, ◌≡◌, ◌≢◌, List, [], ◌∷◌, Some, None}
 use Rattle.std.proofs.Common.{refl, sym, ap, ◌∙◌, subst, inl, inr, slice_get}
 use Rattle.std.proofs.Math.ListN.{set}
 use Rattle.std.proofs.lemmas.Bool.{cases_eq}
 use Rattle.vx_ports.specs.Packets.{Flows}
 use Rattle.vx_rings.specs.Ends.{put_to, taken_from}
 use Rattle.vx_rings.specs.declared.ring.RingOut.{RingOut}
-use Rattle.vx_rings.specs.declared.ring.RingIn.{RingIn}
-use Rattle.vx_pairs.specs.Pairs.{RingAt, FlowAt, StillOut, StillIn, Still, Reunited}
+use Rattle.vx_plan_nodes.specs.Plan.{Plan, scan, unary, binary, exchange, size}
+use Rattle.vx_plan_nodes.specs.Streams.{workers}
+use Rattle.vx_laws.specs.Layout.{workers_below}
+use Rattle.vx_threads.specs.Idle.{same_inlet_self}
+use Rattle.vx_threads.specs.Joined.{FlowsThrough}
+use Rattle.vx_threads.specs.Paired.{IsRingOf}
+use Rattle.vx_threads.specs.declared.inlet.Inlet.{Inlet}
+use Rattle.vx_pairs.specs.Pairs.{StillOut, StillIn, Still, Reunited}
+use Rattle.vx_pairs.specs.Plans.{PairIn, AllPairs, AreApart}
 
 some-is : {A : Type 0} (x y : A) → Some x ≡ Some y → x ≡ y
 some-is x y e = cc
@@ -76,52 +83,89 @@ still-then R then xs ys zs p q = record {
 pub out-self : (o : RingOut) → StillOut o o
 out-self o = (refl, ((refl, refl, refl, refl), refl))
 
-pub in-self : (e : RingIn) → StillIn e e
-in-self e = (refl, ((refl, refl, refl, refl), refl))
+pub in-self : (e : Inlet) → StillIn e e
+in-self e = (refl, same_inlet_self e)
 
 pub out-then : (a b c : RingOut) → StillOut a b → StillOut b c → StillOut a c
 out-then a b c x y = (y.0 ∙ x.0, ((y.1.0.0 ∙ x.1.0.0, y.1.0.1 ∙ x.1.0.1, y.1.0.2 ∙ x.1.0.2, y.1.0.3 ∙ x.1.0.3), y.1.1 ∙ x.1.1))
 
-pub in-then : (a b c : RingIn) → StillIn a b → StillIn b c → StillIn a c
-in-then a b c x y = (y.0 ∙ x.0, ((y.1.0.0 ∙ x.1.0.0, y.1.0.1 ∙ x.1.0.1, y.1.0.2 ∙ x.1.0.2, y.1.0.3 ∙ x.1.0.3), y.1.1 ∙ x.1.1))
+pub in-then : (a b c : Inlet) → StillIn a b → StillIn b c → StillIn a c
+in-then a b c x y =
+    let u = x.1.ring in
+    let v = y.1.ring in (
+      y.0 ∙ x.0,
+      record {
+        exchange = y.1.exchange ∙ x.1.exchange;
+        from = y.1.from ∙ x.1.from;
+        ring = ((v.0.0 ∙ u.0.0, v.0.1 ∙ u.0.1, v.0.2 ∙ u.0.2, v.0.3 ∙ u.0.3), v.1 ∙ u.1);
+      },
+    )
 
-pub reunited-self : (os : List (Vec RingOut Global)) (is : List (Vec RingIn Global)) → Reunited os is os is
+pub reunited-self : (os : List (Vec RingOut Global)) (is : List (Vec Inlet Global)) → Reunited os is os is
 reunited-self os is = record { outs = still-self StillOut out-self os; ins = still-self StillIn in-self is }
 
-pub reunited-then : (os ps qs : List (Vec RingOut Global)) (is js ks : List (Vec RingIn Global))
+pub reunited-then : (os ps qs : List (Vec RingOut Global)) (is js ks : List (Vec Inlet Global))
     → Reunited os is ps js → Reunited ps js qs ks → Reunited os is qs ks
 reunited-then os ps qs is js ks x y = record {
   outs = still-then StillOut out-then os ps qs x.outs y.outs;
   ins = still-then StillIn in-then is js ks x.ins y.ins;
 }
 
--- what flows through ends that carry the same as before flowed through those
-pub flow-back : (os ps : List (Vec RingOut Global)) (is js : List (Vec RingIn Global)) (a j b k : ℕ)
-    → Reunited os is ps js → FlowAt ps js a j b k → FlowAt os is a j b k
-flow-back os ps is js a j b k r f =
-    let o = r.outs.back a j f.out f.at_out in
-    let e = r.ins.back b k f.inn f.at_in in
-    record {
-      out = o.0;
-      inn = e.0;
-      at_out = o.1;
-      at_in = e.1;
-      flows = subst (λ z. Flows z (taken_from e.0)) o.2.0 (subst (λ z. Flows (put_to f.out) z) e.2.0 f.flows);
-    }
+module _ (os ps : List (Vec RingOut Global)) (is js : List (Vec Inlet Global)) (r : Reunited os is ps js) where
+  -- a ring stays one
+  pub pair-on : (a j b n i : ℕ) → PairIn IsRingOf os is a j b n i → PairIn IsRingOf ps js a j b n i
+  pair-on a j b n i f =
+      let o = r.outs.on a j f.0 f.2 in
+      let e = r.ins.on b f.3 f.1 f.4 in
+      let x = o.2.1.0 in
+      let y = e.2.1.ring.0 in
+      let z = f.7 in (
+        o.0,
+        e.0,
+        o.1,
+        f.3,
+        e.1,
+        e.2.1.exchange ∙ f.5,
+        e.2.1.from ∙ f.6,
+        (y.0 ∙ z.0 ∙ sym x.0, y.1 ∙ z.1 ∙ sym x.1, y.2 ∙ z.2 ∙ sym x.2, y.3 ∙ z.3 ∙ sym x.3),
+      )
 
--- a ring stays one
-pub ring-on : (os ps : List (Vec RingOut Global)) (is js : List (Vec RingIn Global)) (a j b k : ℕ)
-    → Reunited os is ps js → RingAt os is a j b k → RingAt ps js a j b k
-ring-on os ps is js a j b k r f =
-    let o = r.outs.on a j f.out f.at_out in
-    let e = r.ins.on b k f.inn f.at_in in
-    let x = o.2.1.0 in
-    let y = e.2.1.0 in
-    let z = f.ring in
-    record {
-      out = o.0;
-      inn = e.0;
-      at_out = o.1;
-      at_in = e.1;
-      ring = (y.0 ∙ z.0 ∙ sym x.0, y.1 ∙ z.1 ∙ sym x.1, y.2 ∙ z.2 ∙ sym x.2, y.3 ∙ z.3 ∙ sym x.3);
-    }
+  -- what flows through ends that carry the same as before flowed through those
+  pub pair-back : (a j b n i : ℕ) → PairIn FlowsThrough ps js a j b n i → PairIn FlowsThrough os is a j b n i
+  pair-back a j b n i f =
+      let o = r.outs.back a j f.0 f.2 in
+      let e = r.ins.back b f.3 f.1 f.4 in (
+        o.0,
+        e.0,
+        o.1,
+        f.3,
+        e.1,
+        sym e.2.1.exchange ∙ f.5,
+        sym e.2.1.from ∙ f.6,
+        subst (λ z. Flows z (taken_from e.0.ring)) o.2.0 (subst (λ z. Flows (put_to f.0) z) e.2.0 f.7),
+      )
+
+  -- each producer still has one inlet at each worker
+  pub apart-on : AreApart is → AreApart js
+  apart-on apart b k l e f x y p q =
+      let u = r.ins.back b k e x in
+      let v = r.ins.back b l f y in
+      apart b k l u.0 v.0 u.1 v.1 (sym u.2.1.exchange ∙ p ∙ v.2.1.exchange) (sym u.2.1.from ∙ q ∙ v.2.1.from)
+
+  pub all-on : (sizes : ℕ → ℕ) (p : Plan) (top next : ℕ) → AllPairs IsRingOf sizes p top next os is → AllPairs IsRingOf sizes p top next ps js
+  all-on sizes (scan n c rel m z) top next h = tt
+  all-on sizes (unary n c op p) top next h = all-on sizes p top next h
+  all-on sizes (binary n c op p q) top next h = (all-on sizes p top next h.0, all-on sizes q top (next + workers_below sizes p) h.1)
+  all-on sizes (exchange n c k merge p) top next h = (
+    λ i j l m. pair-on (next + i) j (top + j) n i (h.0 i j l m),
+    all-on sizes p next (next + workers sizes (size p)) h.1,
+  )
+
+  pub all-back : (sizes : ℕ → ℕ) (p : Plan) (top next : ℕ) → AllPairs FlowsThrough sizes p top next ps js → AllPairs FlowsThrough sizes p top next os is
+  all-back sizes (scan n c rel m z) top next h = tt
+  all-back sizes (unary n c op p) top next h = all-back sizes p top next h
+  all-back sizes (binary n c op p q) top next h = (all-back sizes p top next h.0, all-back sizes q top (next + workers_below sizes p) h.1)
+  all-back sizes (exchange n c k merge p) top next h = (
+    λ i j l m. pair-back (next + i) j (top + j) n i (h.0 i j l m),
+    all-back sizes p next (next + workers sizes (size p)) h.1,
+  )

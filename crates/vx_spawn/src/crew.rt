@@ -178,6 +178,6 @@ pub fn run_in_threads<
     ensures honest { IfOk result (λ js. EachHonest O.Stands O.op S.Stands S.task S.post S.bounds (R.route_of router.now) (G.morsel_of morsels.now) members.items js.items) }
     ensures fault { IfErr result (λ e. (e ≡ NoMemory) ⊎ (e ≡ NoThread)) }
 {
-    let start = Start::new();
+    let start = Start::new(alloc, members.len())?;
     run_from(rt, alloc, morsels, router, gate, decks, &start, members)
 }

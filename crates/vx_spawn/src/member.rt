@@ -6,6 +6,8 @@ use vx_worker::Worker;
 /// A worker, its place in the plan, and what its thread holds of what the run shares.
 #[derive(Drop)]
 pub struct CrewMember<O, S> {
+    /// Its number among all workers of the run.
+    pub number: usize,
     /// The number of its fragment.
     pub fragment: u32,
     /// Its place among the workers of the fragment.

@@ -1,14 +1,18 @@
-//! The barrier at which all threads of a run wait until the last of them was started.
+//! What the threads of a run wait on: the barrier until the last of them was started, and then each for its partners.
 
+use std::alloc::{AllocError, Global};
 use std::sync::Wait;
 use std::sync::atomic::{AtomicU64, Ordering};
+use std::thread::Parker;
 
 /// Calls: `new`, then `wait` by each thread, and by the thread that starts them `go` or `cancel`, once.
 ///
-/// Whether the workers may take their first steps.
+/// Whether the workers may take their first steps; and what each of them sleeps on while it cannot move.
 #[derive(Drop)]
 pub struct Start {
     word: AtomicU64,
+    // By worker number.
+    parkers: Vec<Parker>,
 }
 
 impl Start {
@@ -21,11 +25,21 @@ impl Start {
     // Some thread could not be started.
     const CANCELLED: u64 = 2;
 
-    /// A barrier that is closed.
-    pub fn new() -> Start {
-        Start {
-            word: AtomicU64::new(Start::UNKNOWN),
+    /// A barrier that is closed, for so many workers.
+    pub fn new(alloc: Global, workers: usize) -> Result<Start, AllocError> {
+        let mut parkers = Vec::with_capacity(alloc, workers)?;
+        for _ in 0..workers {
+            parkers.push(Parker::new())?;
         }
+        Ok(Start {
+            word: AtomicU64::new(Start::UNKNOWN),
+            parkers,
+        })
+    }
+
+    /// What each worker sleeps on, by its number.
+    pub fn parkers(&self) -> &[Parker] {
+        self.parkers.as_slice()
     }
 
     /// Lets all threads go.

@@ -16,7 +16,7 @@ use vx_decks::SharedDeck;
 use vx_ends::Sends;
 use vx_ops::Source;
 use vx_plan_nodes::Router;
-use vx_threads::{Gate, ThreadWires, run_to_end};
+use vx_threads::{Gate, ThreadWires, WorkerPlace, run_to_end};
 use vx_worker::Morsels;
 
 /// What a worker's thread does: it waits for the start, and steps its worker to its end. None if the run was cancelled.
@@ -37,13 +37,19 @@ pub fn work<O: Source + Drop, S: Sends + Drop, G: Morsels, R: Router, H: Gate, T
         return None;
     }
     let CrewMember {
+        number,
         fragment,
         place,
         worker,
         ends,
     } = member;
-    let wires = ThreadWires::new(ends, decks);
-    let (worker, ends) = run_to_end(rt, morsels, router, gate, (fragment, place), worker, wires);
+    let wires = ThreadWires::new(ends, decks, start.parkers());
+    let at = WorkerPlace {
+        number,
+        fragment,
+        place,
+    };
+    let (worker, ends) = run_to_end(rt, morsels, router, gate, at, worker, wires);
     Some(Joined { worker, ends })
 }
 

@@ -2,7 +2,9 @@
 
 use crate::drawer::Drawer;
 use crate::inlet::Inlet;
+use crate::waking::wake;
 use std::alloc::AllocError;
+use std::thread::Parker;
 use vx_decks::SharedDeck;
 use vx_ports::{OutPort, Packet, Put};
 use vx_rings::RingOut;
@@ -11,7 +13,11 @@ use vx_rings::RingOut;
 #[derive(Drop)]
 pub struct Ends {
     outs: Vec<RingOut>,
+    // The number of the first consumer among all workers.
+    consumers: usize,
     ins: Vec<Inlet>,
+    // Where the inlets of the exchange begin that was last taken from: those of one exchange stand together, in order.
+    first: usize,
     draws: Vec<Drawer>,
 }
 
@@ -29,21 +35,54 @@ impl Ends {
     ghost use Rattle.vx_threads.specs.Holds.{IsApart};
     ghost use Rattle.vx_threads.specs.Carrying.{Does, IsFullAt, hold_of};
 
-    /// Of one worker.
-    pub fn new(outs: Vec<RingOut>, ins: Vec<Inlet>, draws: Vec<Drawer>) -> Ends
+    /// Of one worker. Its consumers are the workers from the one with number `consumers` on.
+    pub fn new(outs: Vec<RingOut>, consumers: usize, ins: Vec<Inlet>, draws: Vec<Drawer>) -> Ends
         ensures outs { result.outs.items ≡ outs.items }
         ensures ins { result.ins.items ≡ ins.items }
         ensures draws { result.draws.items ≡ draws.items }
     {
-        Ends { outs, ins, draws }
+        Ends {
+            outs,
+            consumers,
+            ins,
+            first: 0,
+            draws,
+        }
     }
 
-    // Where the inlet from a producer stands.
+    // Whether the inlet from a producer stands at this place.
+    fn is_at(&self, place: usize, exchange: u32, from: u32) -> bool
+        ensures { result ≡ true → (place < length self.now.ins.items)
+            × ((d : Inlet) → is_way (slice_index_or self.now.ins.items place d) exchange from ≡ true) }
+    {
+        place < self.ins.len() && self.ins[place].is_from(exchange, from)
+    }
+
+    /// The ends of the rings to each consumer and from each producer, and what gives the morsels of each scan.
+    pub fn into_lists(self) -> (Vec<RingOut>, Vec<Inlet>, Vec<Drawer>)
+        ensures outs { result.0 ≡ self.outs }
+        ensures ins { result.1 ≡ self.ins }
+        ensures draws { result.2 ≡ self.draws }
+    {
+        let Ends {
+            outs,
+            ins,
+            draws,
+            ..
+        } = self;
+        (outs, ins, draws)
+    }
+
+    // Where the inlet from a producer stands. It is looked for where the last one lets expect it, and then everywhere.
     fn inlet_of(&self, exchange: u32, from: u32) -> Option<usize>
         ensures some { IfSome result (λ k. (k < length self.now.ins.items)
             × ((d : Inlet) → is_way (slice_index_or self.now.ins.items k d) exchange from ≡ true)) }
         ensures none { IfNone result (All (λ (e : Inlet). is_way e exchange from ≡ false) self.now.ins.items) }
     {
+        let likely = self.first.saturating_add(from as usize);
+        if self.is_at(likely, exchange, from) {
+            return Some(likely);
+        }
         for k in 0..self.ins.len() {
             if self.ins[k].is_from(exchange, from) {
                 return Some(k);
@@ -66,19 +105,31 @@ impl Ends {
         None
     }
 
-    /// Takes the next packet of a producer, from the queue or the ring. It takes no memory.
-    pub fn take(&mut self, exchange: u32, from: u32) -> Option<Packet>
+    /// Takes the next packet of a producer, from the queue or the ring. It takes no memory. A producer from whose ring
+    /// it was taken is woken.
+    pub fn take(&mut self, exchange: u32, from: u32, parkers: &[Parker]) -> Option<Packet>
         ensures does { Does self.old (took_one exchange from result) self.new }
         ensures draws { self.new.draws ≡ self.old.draws }
     {
         match self.inlet_of(exchange, from) {
             None => return None,
-            Some(k) => return self.ins[k].take(),
+            Some(k) => {
+                self.first = k.saturating_sub(from as usize);
+                return self.ins[k].take(parkers);
+            }
         }
     }
 
-    /// Puts a packet to a consumer. Full comes where there is no such consumer, and after the port was closed, too.
-    pub fn put(&mut self, to: u32, packet: Packet) -> Put
+    // Wakes the consumer at a place, if a packet was put there.
+    fn wake_consumer(&self, place: usize, answer: &Put, parkers: &[Parker]) {
+        if matches!(answer, Put::Done) {
+            wake(parkers, self.consumers.saturating_add(place));
+        }
+    }
+
+    /// Puts a packet to a consumer, which is woken. Full comes where there is no such consumer, and after the port was
+    /// closed, too.
+    pub fn put(&mut self, to: u32, packet: Packet, parkers: &[Parker]) -> Put
         ensures gives { PutGives Does IsFullAt self.old self.new to packet result }
         ensures never_no_memory { IsNeverNoMemory result }
         ensures draws { self.new.draws ≡ self.old.draws }
@@ -87,7 +138,9 @@ impl Ends {
         if place >= self.outs.len() || self.outs[place].is_closed() {
             return Put::Full(packet);
         }
-        self.outs[place].put(packet)
+        let answer = self.outs[place].put(packet);
+        self.wake_consumer(place, &answer, parkers);
+        answer
     }
 
     /// Draws the next morsel of a scan.
@@ -102,6 +155,13 @@ impl Ends {
         }
     }
 
+    /// From how many producers it takes, of all its exchanges.
+    pub fn inlets(&self) -> usize
+        ensures { result ≡ length self.now.ins.items }
+    {
+        self.ins.len()
+    }
+
     /// Whether the workers of a scan share a deck.
     pub fn is_shared(&self, scan: u32) -> bool
         ensures { IsApart (hold_of self.now) → (k : ℕ) (x : Drawer) → slice_get self.now.draws.items k ≡ Some x
@@ -113,8 +173,8 @@ impl Ends {
         }
     }
 
-    // Moves what waits in one ring to its queue.
-    fn gather_at(&mut self, place: usize) -> Result<(), AllocError>
+    // Moves what waits in one ring to its queue, and returns whether anything did.
+    fn gather_at(&mut self, place: usize, parkers: &[Parker]) -> Result<bool, AllocError>
         ensures does { Does self.old idle self.new }
         ensures draws { self.new.draws ≡ self.old.draws }
         ensures count { length self.new.ins.items ≡ length self.old.ins.items }
@@ -122,21 +182,22 @@ impl Ends {
         ensures others { (k : ℕ) → k ≢ place → slice_get self.new.ins.items k ≡ slice_get self.old.ins.items k }
     {
         if place >= self.ins.len() {
-            return Ok(());
+            return Ok(false);
         }
-        self.ins[place].gather()
+        self.ins[place].gather(parkers)
     }
 
-    /// Moves what waits in the rings to the worker's own queues, in their order. Where memory for a queue is refused,
-    /// the rings behind it stay as they are.
-    pub fn gather(&mut self) -> Result<(), AllocError>
+    /// Moves what waits in the rings to the worker's own queues, in their order, and returns whether anything did. Where
+    /// memory for a queue is refused, the rings behind it stay as they are. The producers are woken.
+    pub fn gather(&mut self, parkers: &[Parker]) -> Result<bool, AllocError>
         ensures does { Does self.old idle self.new }
         ensures draws { self.new.draws ≡ self.old.draws }
         ensures gathered { IfOk result (λ _. All IsGathered self.new.ins.items) }
     {
+        let mut moved = false;
         for place in 0..self.ins.len() {
-            self.gather_at(place)?;
+            moved |= self.gather_at(place, parkers)?;
         }
-        Ok(())
+        Ok(moved)
     }
 }

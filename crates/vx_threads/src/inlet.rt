@@ -1,9 +1,11 @@
 //! Where a worker takes what one producer sends it.
 
+use crate::waking::wake;
 use std::alloc::{AllocError, Global};
 use std::collections::VecDeque;
+use std::thread::Parker;
 use vx_ports::{InPort, Packet};
-use vx_rings::RingIn;
+use vx_rings::{RingIn, RingOut, reunite};
 
 /// Calls: `(gather | take)*`.
 ///
@@ -12,20 +14,24 @@ use vx_rings::RingIn;
 pub struct Inlet {
     exchange: u32,
     from: u32,
+    // The producer's number among all workers.
+    producer: usize,
     ring: RingIn,
     queue: VecDeque<Packet>,
 }
 
 impl Inlet {
     ghost use Rattle.std.specs.Prelude.{◌≡◌, ◌+◌, true, false, [], length, IfOk, IfSome, IfNone};
-    ghost use Rattle.vx_threads.specs.Inlets.{FindsNoneIn, IsGathered, KeepsIn, TakesIn, is_way};
-    ghost use Rattle.vx_rings.specs.Ends.{seen_by};
+    ghost use Rattle.vx_threads.specs.Inlets.{FindsNoneIn, IsGathered, KeepsIn, SameInlet, TakesIn, is_way};
+    ghost use Rattle.vx_ports.specs.Packets.{Flows};
+    ghost use Rattle.vx_rings.specs.Ends.{IsRing, SameOut, put_to, taken_from, seen_by, TakesFromRing, FindsNone};
 
     // The most packets that one call of `gather` takes from the ring: as many as the largest ring has places.
     const MOST: usize = 1024;
 
-    /// An inlet with an empty queue, from the producer at place `from` of the exchange with this node number.
-    pub fn new(alloc: Global, exchange: u32, from: u32, ring: RingIn) -> Inlet
+    /// An inlet with an empty queue, from the producer at place `from` of the exchange with this node number, which is
+    /// the worker with number `producer` of the run.
+    pub fn new(alloc: Global, exchange: u32, from: u32, producer: usize, ring: RingIn) -> Inlet
         ensures way { (result.exchange ≡ exchange) × (result.from ≡ from) }
         ensures ring { result.ring ≡ ring }
         ensures empty { result.queue.items ≡ [] }
@@ -33,6 +39,7 @@ impl Inlet {
         Inlet {
             exchange,
             from,
+            producer,
             ring,
             queue: VecDeque::new(alloc),
         }
@@ -45,15 +52,27 @@ impl Inlet {
         self.exchange == exchange && self.from == from
     }
 
+    // Takes the next packet of the ring, and wakes its producer, which has room for one more.
+    fn pop(&mut self, parkers: &[Parker]) -> Option<Packet>
+        ensures some { IfSome result (λ p. TakesFromRing self.old.ring p self.new.ring) }
+        ensures none { IfNone result (FindsNone self.old.ring self.new.ring) }
+        ensures queue { self.new.queue ≡ self.old.queue }
+        ensures way { (self.new.exchange ≡ self.old.exchange) × (self.new.from ≡ self.old.from) }
+    {
+        let packet = self.ring.take()?;
+        wake(parkers, self.producer);
+        Some(packet)
+    }
+
     // Moves one packet from the ring to the queue, if one waits; returns whether one did. Where there is no room for it
     // in the queue, it stays in the ring.
-    fn look(&mut self) -> Result<bool, AllocError>
+    fn look(&mut self, parkers: &[Parker]) -> Result<bool, AllocError>
         ensures keeps { KeepsIn self.old self.new }
         ensures moved { IfOk result (λ b. b ≡ true → length self.new.queue.items ≡ length self.old.queue.items + 1) }
         ensures none { IfOk result (λ b. b ≡ false → seen_by self.new.ring ≡ []) }
     {
         self.queue.reserve(1)?;
-        match self.ring.take() {
+        match self.pop(parkers) {
             None => return Ok(false),
             Some(packet) => {
                 let Ok(()) = self.queue.push_back(packet) else {
@@ -64,28 +83,40 @@ impl Inlet {
         }
     }
 
-    /// Moves what waits in the ring to the queue. Where memory for the queue is refused, what is left stays in the
-    /// ring.
-    pub fn gather(&mut self) -> Result<(), AllocError>
+    /// Moves what waits in the ring to the queue, and returns whether anything did. Where memory for the queue is
+    /// refused, what is left stays in the ring. The producer is woken for each packet.
+    pub fn gather(&mut self, parkers: &[Parker]) -> Result<bool, AllocError>
         ensures keeps { KeepsIn self.old self.new }
         ensures gathered { IfOk result (λ _. IsGathered self.new) }
     {
-        for _moved in 0..Inlet::MOST {
-            if !self.look()? {
-                return Ok(());
+        for moved in 0..Inlet::MOST {
+            if !self.look(parkers)? {
+                return Ok(moved > 0);
             }
         }
-        Ok(())
+        Ok(true)
     }
 
-    /// The next packet: of the queue, and where that is empty of the ring. It takes no memory.
-    pub fn take(&mut self) -> Option<Packet>
+    /// The next packet: of the queue, and where that is empty of the ring, whose producer is woken then. It takes no
+    /// memory.
+    pub fn take(&mut self, parkers: &[Parker]) -> Option<Packet>
         ensures some { IfSome result (λ p. TakesIn self.old p self.new) }
         ensures none { IfNone result (FindsNoneIn self.old self.new) }
     {
         if let Some(packet) = self.queue.pop_front() {
             return Some(packet);
         }
-        self.ring.take()
+        self.pop(parkers)
+    }
+
+    /// Brings the ring's two ends together, once no thread holds either: then what was put flowed to what was taken.
+    pub fn reunite_with(&mut self, out: &mut RingOut)
+        requires { IsRing out.old self.old.ring }
+        ensures out { (put_to out.new ≡ put_to out.old) × SameOut out.old out.new }
+        ensures same { SameInlet self.old self.new }
+        ensures taken { taken_from self.new.ring ≡ taken_from self.old.ring }
+        ensures flows { Flows (put_to out.new) (taken_from self.new.ring) }
+    {
+        reunite(out, &mut self.ring);
     }
 }

@@ -1,6 +1,6 @@
 //! The loop of a worker in a thread of its own.
 
-ghost use Rattle.std.specs.Prelude.{◌≡◌, ℕ, IsSome, List};
+ghost use Rattle.std.specs.Prelude.{◌≡◌, ℕ, true, false, IsSome, List};
 ghost use Rattle.vx_values.specs.Values.{Row};
 ghost use Rattle.vx_worker.specs.Worker.{IsReady, outcome_of};
 ghost use Rattle.vx_worker.specs.declared.worker.Stepped.TheVariants as Stepped;
@@ -11,6 +11,7 @@ use crate::ends::Ends;
 use crate::wires::ThreadWires;
 use std::sync::Wait;
 use std::thread;
+use std::thread::Parker;
 use vx_ends::Sends;
 use vx_ops::Source;
 use vx_plan_nodes::Router;
@@ -22,6 +23,20 @@ pub trait Gate {
     fn after_draw(&self, fragment: u32, place: u32, drawn: Option<u64>);
 }
 
+/// Which worker a thread runs.
+#[derive(Clone, Copy, Debug, PartialEq, Eq)]
+pub struct WorkerPlace {
+    /// Its number among all workers of the run.
+    pub number: usize,
+    /// The number of its fragment.
+    pub fragment: u32,
+    /// Its place among the workers of the fragment.
+    pub place: u32,
+}
+
+// How many times a worker that cannot move leaves the processor to other threads before it sleeps.
+const YIELDS: usize = 16;
+
 /// Holds up no one.
 pub struct Free;
 
@@ -29,13 +44,52 @@ impl Gate for Free {
     fn after_draw(&self, _fragment: u32, _place: u32, _drawn: Option<u64>) {}
 }
 
-// One step of a worker. Then comes the gate, where a shared scan was drawn from; and where nothing moved, what waits in
-// the rings is taken early and the processor is left to other threads.
+// What a step comes to that moved nothing itself.
+fn moved_or_waiting(moved: bool) -> Stepped
+    ensures moved { moved ≡ true → result ≡ Stepped.Moved }
+    ensures waiting { moved ≡ false → result ≡ Stepped.Waiting }
+{
+    if moved {
+        return Stepped::Moved;
+    }
+    Stepped::Waiting
+}
+
+// Rests a worker after a step that did not move, as `waited` steps in a row before it did not, and returns how many these
+// are from now on. It leaves the processor to other threads at first. Then it takes one more step for each producer, since a step may look at one of
+// them only. If none of these moved, the worker can go on only after a partner has put a packet or made room, and sleeps
+// until then: whoever did that since the first of these steps has left a token, with which the worker does not sleep.
+fn rest<T: Wait>(
+    rt: &T,
+    stepped: Stepped,
+    parker: Option<&Parker>,
+    inlets: usize,
+    waited: usize,
+) -> usize {
+    if matches!(stepped, Stepped::Moved) {
+        return 0;
+    }
+    if waited < YIELDS {
+        thread::yield_now();
+        return waited.saturating_add(1);
+    }
+    if waited.saturating_sub(YIELDS) <= inlets {
+        return waited.saturating_add(1);
+    }
+    match parker {
+        Some(parker) => parker.park(rt),
+        None => thread::yield_now(),
+    }
+    0
+}
+
+// One step of a worker. Then comes the gate, where a shared scan was drawn from; and where the step moved nothing, what
+// waits in the rings is taken early. Waiting comes where that moved nothing either.
 fn step_in_thread<O: Source, S: Sends, G: Morsels, R: Router, H: Gate>(
     morsels: &G,
     router: &R,
     gate: &H,
-    at: (u32, u32),
+    at: WorkerPlace,
     worker: &mut Worker<O, S>,
     wires: &mut ThreadWires<'_>,
 ) -> Stepped
@@ -47,23 +101,22 @@ fn step_in_thread<O: Source, S: Sends, G: Morsels, R: Router, H: Gate>(
 {
     let stepped = worker.step(morsels, router, wires);
     if let Some(drawn) = wires.noted() {
-        gate.after_draw(at.0, at.1, drawn);
+        gate.after_draw(at.fragment, at.place, drawn);
     }
     if matches!(stepped, Stepped::Waiting) {
-        wires.gather();
-        thread::yield_now();
-        return Stepped::Waiting;
+        return moved_or_waiting(wires.gather());
     }
     stepped
 }
 
-/// Steps a worker until it has ended, and returns it with what its thread held. That it ends is not promised.
+/// Steps a worker until it has ended, and returns it with what its thread held. While it cannot move, it sleeps, and its
+/// partners wake it. That it ends is not promised.
 pub fn run_to_end<O: Source, S: Sends, G: Morsels, R: Router, H: Gate, T: Wait>(
     rt: &T,
     morsels: &G,
     router: &R,
     gate: &H,
-    at: (u32, u32),
+    at: WorkerPlace,
     mut worker: Worker<O, S>,
     mut wires: ThreadWires<'_>,
 ) -> (Worker<O, S>, Ends)
@@ -72,10 +125,14 @@ pub fn run_to_end<O: Source, S: Sends, G: Morsels, R: Router, H: Gate, T: Wait>(
     ensures ran { Ran O.Stands O.op S.Stands S.task S.post S.bounds (R.route_of router.now) (G.morsel_of morsels.now)
         worker (hold_of wires.entry.ends) result.0 (hold_of result.1) }
 {
+    let mut waited = 0;
     'steps: for _ in rt.forever() {
         match step_in_thread(morsels, router, gate, at, &mut worker, &mut wires) {
-            Stepped::Moved | Stepped::Waiting => {}
             Stepped::Ended => return (worker, wires.into_ends()),
+            stepped => {
+                let parker = wires.parker(at.number);
+                waited = rest(rt, stepped, parker, wires.inlets(), waited);
+            }
         }
     }
     unreachable!()

@@ -5,6 +5,7 @@ ghost use Rattle.vx_threads.specs.Drawers.{Sits};
 
 use crate::ends::Ends;
 use std::alloc::AllocError;
+use std::thread::Parker;
 use vx_decks::SharedDeck;
 use vx_ports::{Packet, Put};
 use vx_worker::Wires;
@@ -22,50 +23,53 @@ enum Room {
 
 /// Calls: `new`, then steps of a worker over it, and `gather` and `noted` between them, then `into_ends`.
 ///
-/// What one thread holds, and the decks of the run.
+/// What one thread holds, the decks of the run, and what each worker of the run sleeps on, by its number.
 #[derive(Drop)]
 pub struct ThreadWires<'d> {
     ends: Ends,
     decks: &'d Vec<SharedDeck>,
+    parkers: &'d [Parker],
     room: Room,
     noted: Option<Option<u64>>,
     pub ghost sits: { All (Sits decks.now.items) ends.draws.items },
 }
 
 impl<'d> ThreadWires<'d> {
-    ghost use Rattle.std.specs.Prelude.{◌≡◌, OnErr};
+    ghost use Rattle.std.specs.Prelude.{◌≡◌, length, OnErr};
     ghost use Rattle.vx_worker.specs.Trace.{idle};
     ghost use Rattle.vx_threads.specs.declared.wires.Room.TheVariants as Room;
     ghost use Rattle.vx_threads.specs.Inlets.{IsGathered};
     ghost use Rattle.vx_threads.specs.Carrying.{Does};
 
     /// Of a worker whose seats are of these decks.
-    pub fn new(ends: Ends, decks: &'d Vec<SharedDeck>) -> ThreadWires<'d>
+    pub fn new(ends: Ends, decks: &'d Vec<SharedDeck>, parkers: &'d [Parker]) -> ThreadWires<'d>
         requires { All (Sits decks.now.items) ends.draws.items }
         ensures { result.ends ≡ ends }
     {
         ThreadWires {
             ends,
             decks,
+            parkers,
             room: Room::There,
             noted: None,
         }
     }
 
-    /// Takes early what waits in the rings, until memory is refused: the next call of the worker reports that.
-    pub fn gather(&mut self)
+    /// Takes early what waits in the rings, until memory is refused: the next call of the worker reports that. Returns
+    /// whether a packet was taken, or memory refused just now: the worker's next step may move then.
+    pub fn gather(&mut self) -> bool
         ensures does { Does self.old.ends idle self.new.ends }
         ensures gathered { self.new.room ≡ Room.There → All IsGathered self.new.ends.ins.items }
     {
         match self.room {
-            Room::There => match self.ends.gather() {
-                Ok(()) => return,
+            Room::There => match self.ends.gather(self.parkers) {
+                Ok(moved) => return moved,
                 Err(_) => {
                     self.room = Room::Refused;
-                    return;
+                    return true;
                 }
             },
-            Room::Refused | Room::Reported => return,
+            Room::Refused | Room::Reported => return false,
         }
     }
 
@@ -75,6 +79,18 @@ impl<'d> ThreadWires<'d> {
         ensures noted { result ≡ self.old.noted }
     {
         self.noted.take()
+    }
+
+    /// From how many producers the worker takes.
+    pub fn inlets(&self) -> usize
+        ensures { result ≡ length self.now.ends.ins.items }
+    {
+        self.ends.inlets()
+    }
+
+    /// What the worker with this number sleeps on, if there is one.
+    pub fn parker(&self, worker: usize) -> Option<&'d Parker> {
+        self.parkers.get(worker)
     }
 
     /// The ends, for whoever joins the thread.
@@ -126,15 +142,15 @@ impl<'d> Wires for ThreadWires<'d> {
 
     fn take(&mut self, exchange: u32, from: u32) -> Result<Option<Packet>, AllocError> {
         self.report()?;
-        Ok(self.ends.take(exchange, from))
+        Ok(self.ends.take(exchange, from, self.parkers))
     }
 
     fn put(&mut self, to: u32, packet: Packet) -> Put {
         if packet.is_closing() {
-            return self.ends.put(to, packet);
+            return self.ends.put(to, packet, self.parkers);
         }
         match self.report() {
-            Ok(()) => return self.ends.put(to, packet),
+            Ok(()) => return self.ends.put(to, packet, self.parkers),
             Err(_) => return Put::NoMemory(packet),
         }
     }

@@ -1,68 +1,27 @@
-use Rattle.std.proofs.Common.{◌≡◌, Some, slice_get, refl, sym, ap, ◌∙◌, subst, Vec, Global}
+use Rattle.std.proofs.Common.{◌≡◌, Vec, Global, ap, ◌∙◌}
 use Rattle.std.proofs.lemmas.Option.{get_or_from_slice_get}
-use Rattle.std.specs.Vec.{with_item}
-use Rattle.vx_ports.specs.Packets.{Flows}
-use Rattle.vx_rings.specs.Ends.{put_to, taken_from}
-use Rattle.vx_rings.specs.declared.ring.RingOut.{RingOut}
-use Rattle.vx_rings.specs.declared.ring.RingIn.{RingIn}
-use Rattle.vx_pairs.specs.Pairs.{StillOut, StillIn}
-use Rattle.vx_pairs.proofs.Walking.{still-set, out-self, in-self}
+use Rattle.vx_threads.specs.declared.inlet.Inlet.{Inlet}
+use Rattle.vx_pairs.proofs.Finding.{found, found-ring, found-pair}
 use Rattle.vx_pairs.proofs.pairs.reunite_pair.Goals as goal
 
-pub returns-clause-reunited : goal.returns-clause-reunited
-returns-clause-reunited c =
+pub reunite_at-requires : goal.reunite_at-requires
+reunite_at-requires c =
     let os = c.args.outs.now.items in
     let is = c.args.ins.now.items in
-    let l = c.index_mut.result.now in
-    let o = c.index_mut-2.result.now in
-    let m = c.index_mut-3.result.now in
-    let e = c.index_mut-4.result.now in
-    let x = c.requires.at_out in
-    let y = c.requires.at_in in
-    let lz : l ≡ x.list = c.index_mut.ensures.value ∙ get_or_from_slice_get os c.args.putter x.list l x.outer in
-    let at : slice_get os c.args.putter ≡ Some l = x.outer ∙ ap Some (sym lz) in
-    let inn : slice_get l.items c.args.to ≡ Some c.requires.out =
-    subst (λ (v : Vec RingOut Global). slice_get v.items c.args.to ≡ Some c.requires.out) (sym lz) x.inner in
-    let here : slice_get l.items c.args.to ≡ Some o =
-    inn ∙ ap Some (sym (c.index_mut-2.ensures.value ∙ get_or_from_slice_get l.items c.args.to c.requires.out o inn)) in
-    let mz : m ≡ y.list = c.index_mut-3.ensures.value ∙ get_or_from_slice_get is c.args.taker y.list m y.outer in
-    let at' : slice_get is c.args.taker ≡ Some m = y.outer ∙ ap Some (sym mz) in
-    let inn' : slice_get m.items c.args.from ≡ Some c.requires.inn =
-    subst (λ (v : Vec RingIn Global). slice_get v.items c.args.from ≡ Some c.requires.inn) (sym mz) y.inner in
-    let here' : slice_get m.items c.args.from ≡ Some e =
-    inn' ∙ ap Some (sym (c.index_mut-4.ensures.value ∙ get_or_from_slice_get m.items c.args.from c.requires.inn e inn')) in
-    record {
-      outs = still-set StillOut out-self os c.args.putter c.args.to l (with_item l c.args.to c.reunite.new.out) o c.reunite.new.out
-          at here refl c.reunite.ensures.out;
-      ins = still-set StillIn in-self is c.args.taker c.args.from m (with_item m c.args.from c.reunite.new.input) e c.reunite.new.input
-          at' here' refl c.reunite.ensures.taken;
-    }
+    let f = c.requires.ring in
+    let here : c.index.result.now ≡ f.4.list = c.index.ensures ∙ get_or_from_slice_get is c.args.taker f.4.list c.index.result.now f.4.outer in
+    let some = c.in-Some.ensures.some in
+    let y = found is c.args.taker c.args.exchange c.args.from c.in-Some.place f.4.list c.as_slice.result.now f.4.outer
+    (c.as_slice.ensures.value ∙ ap (λ (v : Vec Inlet Global). v.items) here) some.0 some.1 in
+    found-ring os is c.args.putter c.args.to c.args.taker c.args.exchange c.args.from c.in-Some.place y f c.requires.apart
 
 pub returns-clause-flows : goal.returns-clause-flows
 returns-clause-flows c =
     let os = c.args.outs.now.items in
     let is = c.args.ins.now.items in
-    let l = c.index_mut.result.now in
-    let o = c.index_mut-2.result.now in
-    let m = c.index_mut-3.result.now in
-    let e = c.index_mut-4.result.now in
-    let x = c.requires.at_out in
-    let y = c.requires.at_in in
-    let lz : l ≡ x.list = c.index_mut.ensures.value ∙ get_or_from_slice_get os c.args.putter x.list l x.outer in
-    let inn : slice_get l.items c.args.to ≡ Some c.requires.out =
-    subst (λ (v : Vec RingOut Global). slice_get v.items c.args.to ≡ Some c.requires.out) (sym lz) x.inner in
-    let oz : o ≡ c.requires.out = c.index_mut-2.ensures.value ∙ get_or_from_slice_get l.items c.args.to c.requires.out o inn in
-    let mz : m ≡ y.list = c.index_mut-3.ensures.value ∙ get_or_from_slice_get is c.args.taker y.list m y.outer in
-    let inn' : slice_get m.items c.args.from ≡ Some c.requires.inn =
-    subst (λ (v : Vec RingIn Global). slice_get v.items c.args.from ≡ Some c.requires.inn) (sym mz) y.inner in
-    let ez : e ≡ c.requires.inn = c.index_mut-4.ensures.value ∙ get_or_from_slice_get m.items c.args.from c.requires.inn e inn' in
-    let f : Flows (put_to o) (taken_from e) =
-    subst (λ z. Flows z (taken_from e)) c.reunite.ensures.out.0
-    (subst (λ z. Flows (put_to c.reunite.new.out) z) c.reunite.ensures.taken.0 c.reunite.ensures.flows) in
-    record {
-      out = c.requires.out;
-      inn = c.requires.inn;
-      at_out = x;
-      at_in = y;
-      flows = subst (λ (z : RingOut). Flows (put_to z) (taken_from c.requires.inn)) oz (subst (λ (z : RingIn). Flows (put_to o) (taken_from z)) ez f);
-    }
+    let f = c.requires.ring in
+    let here : c.index.result.now ≡ f.4.list = c.index.ensures ∙ get_or_from_slice_get is c.args.taker f.4.list c.index.result.now f.4.outer in
+    let some = c.in-Some.ensures.some in
+    let y = found is c.args.taker c.args.exchange c.args.from c.in-Some.place f.4.list c.as_slice.result.now f.4.outer
+    (c.as_slice.ensures.value ∙ ap (λ (v : Vec Inlet Global). v.items) here) some.0 some.1 in
+    found-pair os is c.args.putter c.args.to c.args.taker c.args.exchange c.args.from c.in-Some.place y c.reunite_at.ensures.flows

@@ -1,8 +1,10 @@
 use Rattle.std.proofs.Common.{ℕ, ◌<◌, ◌+◌}
-use Rattle.vx_pairs.specs.Pairs.{FlowAt, Reunited}
+use Rattle.vx_threads.specs.Joined.{FlowsThrough}
+use Rattle.vx_pairs.specs.Pairs.{Reunited}
+use Rattle.vx_pairs.specs.Plans.{PairIn}
 use Rattle.vx_pairs.proofs.pairs.reunite_producer.Given as goal
 
 abbrev pub invariant-loop-place : goal.invariant-loop-place
 invariant-loop-place l =
     Reunited l.fn.outs.items l.fn.ins.items l.outs.items l.ins.items
-    × ((i : ℕ) → i < l.place → FlowAt l.fn.outs.items l.fn.ins.items l.putter i (l.above + i) l.from)
+    × ((i : ℕ) → i < l.place → PairIn FlowsThrough l.fn.outs.items l.fn.ins.items l.putter i (l.above + i) l.exchange l.from)

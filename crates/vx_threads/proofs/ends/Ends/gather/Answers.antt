@@ -10,8 +10,8 @@ use Rattle.vx_threads.proofs.ends.Ends.gather.Goals as goal
 pub loop-place-init : goal.loop-place-init
 loop-place-init c = (carries-idle (hold_of c.args.self.now), refl, refl, λ k e l at. absurd (omega (arith, l)))
 
-pub returns-in_err-gather_at-clause-does : goal.returns-in_err-gather_at-clause-does
-returns-in_err-gather_at-clause-does c =
+pub returns-in_err-moved-clause-does : goal.returns-in_err-moved-clause-does
+returns-in_err-moved-clause-does c =
     carries-then (hold_of c.args.self.now) (hold_of c.loop-place.self) (hold_of c.gather_at.new.self) idle c.loop-place.invariant.0 c.gather_at.ensures.does
 
 pub loop-place-preserved : goal.loop-place-preserved
@@ -23,7 +23,7 @@ loop-place-preserved c = (
     | inl b ↦ c.loop-place.invariant.3 k e b (sym (c.gather_at.ensures.others k (λ q. absurd (omega (arith, b, q)))) ∙ at)
     | inr b ↦
         let q : k ≡ c.loop-place.place = omega (arith, l, b) in
-        c.in_ok-gather_at.ensures.here e (subst (λ n. slice_get c.gather_at.new.self.ins.items n ≡ Some e) q at)
+        c.in_ok-moved.ensures.here e (subst (λ n. slice_get c.gather_at.new.self.ins.items n ≡ Some e) q at)
   ],
 )
 

@@ -1,0 +1,9 @@
+use Rattle.std.proofs.Common.{◌≤◌, ◌+◌, length}
+use Rattle.vx_wiring.specs.Making.{AddsProducers, made_of}
+use Rattle.vx_wiring.proofs.making.Making.add_producers.Given as goal
+
+abbrev pub invariant-loop-from : goal.invariant-loop-from
+invariant-loop-from l = record {
+  there : l.top + l.consumers ≤ length l.self.shares.items;
+  added : AddsProducers l.exchange l.from l.top l.consumers (made_of l.fn.self) (made_of l.self);
+}

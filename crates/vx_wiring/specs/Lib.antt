@@ -1,0 +1,3 @@
+pub mod Giving
+pub mod Making
+pub mod Sized
