@@ -33,12 +33,17 @@ pub fn table_of(database: &Database, relation: usize) -> Result<&Table, Error> {
 }
 
 fn numbers_of(alloc: Global, table: &Table, column: usize) -> Result<Vec<i64>, Error> {
-    if column < table.types().len() {
-        if let Some(numbers) = table.numbers(column) {
-            return Ok(Vec::from_slice(alloc, &numbers[..table.len()])?);
-        }
+    if column >= table.types().len() {
+        bail!("there is no column {column}");
     }
-    bail!("column {column} has no numbers")
+    let Some(numbers) = table.numbers(column) else {
+        bail!("column {column} has no numbers");
+    };
+    let mut list = Vec::with_capacity(alloc, table.len())?;
+    for i in 0..table.len() {
+        list.push(numbers.get(i))?;
+    }
+    Ok(list)
 }
 
 fn texts_of<'t>(alloc: Global, table: &'t Table, column: usize) -> Result<Vec<&'t str>, Error> {

@@ -151,10 +151,14 @@ fn number(chunk: &Chunk, k: usize) -> Option<i64> {
         return None;
     }
     let (numbers, seen) = chunk.numbers(0)?;
-    match seen {
-        PositionsRef::Range(from, _) => numbers.get(from.checked_add(k)?).copied(),
-        PositionsRef::Listed(positions) => numbers.get(*positions.get(k)?).copied(),
+    let position = match seen {
+        PositionsRef::Range(from, _) => from.checked_add(k)?,
+        PositionsRef::Listed(positions) => *positions.get(k)?,
+    };
+    if position >= numbers.len() {
+        return None;
     }
+    Some(numbers.get(position))
 }
 
 #[test]
@@ -163,5 +167,42 @@ fn numbers_are_read_where_they_lie(rt: HostRuntime) -> Result<(), Fail> {
     let all = whole(alloc, &five(alloc)?)?;
     assert_eq!(rt; number(&cut(alloc, &all, 2, 5)?, 1), Some(4));
     assert_eq!(rt; number(&picked(alloc, &all, &[4, 0])?, 1), Some(1));
+    Ok(())
+}
+
+// Rows whose numbers fit 32 bits up to the second, which does not.
+fn large(alloc: Global) -> Result<Arc<Table>, AllocError> {
+    let entries = [
+        (5, "p"),
+        (5_000_000_000, "q"),
+        (-3, "r"),
+        (-5_000_000_000, "s"),
+    ];
+    Ok(Arc::new(alloc, table(alloc, &entries)?)?)
+}
+
+#[test]
+fn numbers_past_32_bits_are_tested_and_read(rt: HostRuntime) -> Result<(), Fail> {
+    let alloc = rt.alloc();
+    let all = whole(alloc, &large(alloc)?)?;
+    let some = picked(alloc, &all, &[3, 1, 0])?;
+    assert_eq!(rt;
+        places(alloc, &all, 5, 6_000_000_000)?.as_slice(),
+        [0, 1].as_slice()
+    );
+    assert_eq!(rt;
+        places(alloc, &some, -6_000_000_000, 5)?.as_slice(),
+        [0, 2].as_slice()
+    );
+    assert_eq!(rt; number(&cut(alloc, &all, 1, 4)?, 2), Some(-5_000_000_000));
+    assert_eq!(rt; number(&some, 1), Some(5_000_000_000));
+    assert_eq!(rt;
+        copied(alloc, &all)?.as_str(),
+        "5 'p';5000000000 'q';-3 'r';-5000000000 's';"
+    );
+    assert_eq!(rt;
+        copied(alloc, &some)?.as_str(),
+        "-5000000000 's';5000000000 'q';5 'p';"
+    );
     Ok(())
 }

@@ -7,7 +7,7 @@ ghost use Rattle.vx_views.specs.Seen.{seen_positions};
 ghost use Rattle.vx_keys.specs.Columns.{number_key, text_key};
 
 use std::marker::Model;
-use vx_rows::Texts;
+use vx_rows::{Numbers, Texts};
 use vx_views::{Chunk, PositionsRef};
 
 // How many positions there are.
@@ -35,7 +35,7 @@ fn position(at: PositionsRef<'_>, k: usize) -> usize
 /// The keys of rows, where each is one number.
 #[derive(Drop)]
 pub(crate) struct IntColumn<'a> {
-    numbers: &'a [i64],
+    numbers: &'a Numbers,
     at: PositionsRef<'a>,
 }
 
@@ -76,11 +76,13 @@ impl<'a> IntColumn<'a> {
     }
 
     /// The number of row k.
-    pub fn get(&self, k: usize) -> &'a i64
+    pub fn get(&self, k: usize) -> i64
         requires { k < length self.now }
-        ensures { number_key result.now ≡ slice_index_or self.now k [] }
+        ensures { number_key result ≡ slice_index_or self.now k [] }
     {
-        &self.numbers[position(self.at, k)]
+        // no position is above this
+        let _count = self.numbers.len();
+        self.numbers.get(position(self.at, k))
     }
 }
 

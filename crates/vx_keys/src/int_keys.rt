@@ -57,11 +57,11 @@ impl IntKeys {
     }
 
     // The number of a key, which is added if it is new.
-    fn number(&mut self, key: &i64) -> Result<usize, AllocError>
-        ensures number { IfOk result (λ n. n ≡ position_or_len (row_eq (number_key key.now)) self.old) }
-        ensures keys { OnOk result (self.new ≡ insert_key row_eq self.old (number_key key.now)) }
+    fn number(&mut self, key: i64) -> Result<usize, AllocError>
+        ensures number { IfOk result (λ n. n ≡ position_or_len (row_eq (number_key key)) self.old) }
+        ensures keys { OnOk result (self.new ≡ insert_key row_eq self.old (number_key key)) }
     {
-        let (number, _) = self.set.insert_full(*key)?;
+        let (number, _) = self.set.insert_full(key)?;
         Ok(number)
     }
 
@@ -82,10 +82,10 @@ impl IntKeys {
     }
 
     // The number of a key, and for a key that is not here the number of the next new one.
-    fn number_or_next(&self, key: &i64) -> usize
-        ensures { result ≡ position_or_len (row_eq (number_key key.now)) self.now }
+    fn number_or_next(&self, key: i64) -> usize
+        ensures { result ≡ position_or_len (row_eq (number_key key)) self.now }
     {
-        let Some(number) = self.set.get_index_of(key) else {
+        let Some(number) = self.set.get_index_of(&key) else {
             return self.set.len();
         };
         number

@@ -16,12 +16,12 @@ column_type (column.Text t) = kind.Text
 
 -- how many it has
 abbrev pub size : Column → ℕ
-size (column.Int v) = length v.items
+size (column.Int v) = length v
 size (column.Text t) = length t
 
 -- value k; past the end the number 0 or the empty text
 abbrev pub entry : Column → ℕ → Val
-entry (column.Int v) k = num (slice_index_or v.items k (pos 0))
+entry (column.Int v) k = num (slice_index_or v k (pos 0))
 entry (column.Text t) k = text (slice_index_or t k [])
 
 -- row i of these columns

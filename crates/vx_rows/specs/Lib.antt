@@ -6,6 +6,7 @@ pub mod Keys
 pub mod Lists
 pub mod View
 pub mod Texts
+pub mod Numbers
 pub mod Columns
 pub mod Open
 pub mod Hashing

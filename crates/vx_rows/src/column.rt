@@ -9,6 +9,7 @@ ghost use Rattle.std.specs.Prelude.{IfSome, IfNone};
 ghost use Rattle.vx_values.specs.declared.value.ColType.TheVariants as kind;
 ghost use Rattle.vx_values.specs.Values.{num, text};
 
+use crate::numbers::Numbers;
 use crate::texts::Texts;
 use std::alloc::{AllocError, Global};
 use vx_values::{Cell, ColType};
@@ -16,7 +17,7 @@ use vx_values::{Cell, ColType};
 /// The values of a column, all of one type.
 #[derive(Debug, Drop)]
 pub enum Column {
-    Int(Vec<i64>),
+    Int(Numbers),
     Text(Texts),
 }
 
@@ -27,7 +28,7 @@ impl Column {
         ensures empty { IfOk result (λ c. size c ≡ 0) }
     {
         match kind {
-            ColType::Int => Ok(Column::Int(Vec::new(alloc))),
+            ColType::Int => Ok(Column::Int(Numbers::new(alloc))),
             ColType::Text => Ok(Column::Text(Texts::new(alloc)?)),
         }
     }
@@ -38,20 +39,20 @@ impl Column {
         ensures { cell_val result ≡ entry self.now i }
     {
         match self {
-            Column::Int(v) => Cell::Int(v[i]),
+            Column::Int(v) => Cell::Int(v.get(i)),
             Column::Text(t) => Cell::Text(t.get(i)),
         }
     }
 
     /// The values, where they are numbers.
-    pub fn numbers(&self) -> Option<&[i64]>
+    pub fn numbers(&self) -> Option<&Numbers>
         ensures some { IfSome result (λ _. column_type self.now ≡ kind.Int) }
         ensures none { IfNone result (column_type self.now ≡ kind.Text) }
         ensures long { IfSome result (λ v. length v.now ≡ size self.now) }
         ensures values { IfSome result (λ v. (k : ℕ) → entry self.now k ≡ num (slice_index_or v.now k (pos 0))) }
     {
         match self {
-            Column::Int(v) => Some(v.as_slice()),
+            Column::Int(v) => Some(v),
             Column::Text(_) => None,
         }
     }
@@ -81,8 +82,7 @@ impl Column {
         match (self, cell) {
             (Column::Int(v), Cell::Int(n)) => {
                 v.truncate(at);
-                v.push(n)?;
-                Ok(())
+                v.push(n)
             }
             (Column::Text(t), Cell::Text(s)) => t.put(at, s),
             _ => unreachable!(),
@@ -108,8 +108,7 @@ impl Column {
         match (self, other) {
             (Column::Int(v), Column::Int(w)) => {
                 v.truncate(at);
-                v.extend_from_slice(&w.as_slice()[from..to])?;
-                Ok(())
+                v.add_range(w, from, to)
             }
             (Column::Text(t), Column::Text(u)) => t.put_range(at, u, from, to),
             _ => unreachable!(),
@@ -133,7 +132,7 @@ impl Column {
         match (self, other) {
             (Column::Int(v), Column::Int(w)) => {
                 v.truncate(at);
-                add_numbers_at(v, w.as_slice(), positions)
+                v.add_at(w, positions)
             }
             (Column::Text(t), Column::Text(u)) => {
                 t.reserve(positions.len())?;
@@ -156,19 +155,4 @@ impl Column {
             Column::Text(t) => t.reserve(additional),
         }
     }
-}
-
-// Adds the numbers at some positions.
-fn add_numbers_at(v: &mut Vec<i64>, numbers: &[i64], positions: &[usize]) -> Result<(), AllocError>
-    requires { ArePositions (length numbers.now) positions.now }
-    ensures long { length v.old.items ≤ length v.new.items }
-    ensures kept { (k : ℕ) → k < length v.old.items → slice_index_or v.new.items k (pos 0) ≡ slice_index_or v.old.items k (pos 0) }
-    ensures ok { OnOk result ((k : ℕ) → k < length positions.now → slice_index_or v.new.items (length v.old.items + k) (pos 0) ≡ slice_index_or numbers.now (slice_index positions.now k) (pos 0)) }
-    ensures ok_long { OnOk result (length v.new.items ≡ length v.old.items + length positions.now) }
-{
-    v.reserve(positions.len())?;
-    for i in positions {
-        v.push(numbers[*i])?;
-    }
-    Ok(())
 }

@@ -3,6 +3,7 @@
 
 mod clash;
 mod column;
+mod numbers;
 mod open;
 mod row;
 mod sorting;
@@ -11,6 +12,7 @@ mod texts;
 mod writes;
 
 pub use clash::keys_are_tested;
+pub use numbers::{Numbers, NumbersRef};
 pub use open::OpenRows;
 pub use row::Row;
 pub use sorting::compare_on;

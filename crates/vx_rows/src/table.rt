@@ -9,6 +9,7 @@ ghost use Rattle.vx_values.specs.Types.{type_at, Fits};
 ghost use Rattle.vx_rows.specs.Columns.{entry, rows_of, AreRows};
 
 use crate::column::Column;
+use crate::numbers::Numbers;
 use crate::texts::Texts;
 use crate::writes::{
     empty_columns, put_cells, put_picked, put_row, put_rows, put_rows_at, put_values, reserve_rows,
@@ -359,7 +360,7 @@ impl Table {
     ghost use Rattle.vx_values.specs.Values.{num, text};
 
     /// The numbers of a column, that of row i at position i, where it has numbers. More may follow the last row's.
-    pub fn numbers(&self, column: usize) -> Option<&[i64]>
+    pub fn numbers(&self, column: usize) -> Option<&Numbers>
         requires { column < length self.now.types }
         ensures some { IfSome result (λ _. type_at self.now.types column ≡ kind.Int) }
         ensures none { IfNone result (type_at self.now.types column ≡ kind.Text) }

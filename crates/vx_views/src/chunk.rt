@@ -19,7 +19,7 @@ use crate::table_rows::TableRows;
 use std::alloc::{AllocError, Global};
 use std::marker::Model;
 use std::sync::Arc;
-use vx_rows::{Cell, ColType, Table, Texts};
+use vx_rows::{Cell, ColType, Numbers, Table, Texts};
 
 /// Where the values of a column lie: a part, and a column of it.
 #[derive(Clone, Copy, Debug)]
@@ -203,7 +203,7 @@ impl Chunk {
     }
 
     /// The numbers of a column where they lie, and the positions in them of the rows, where it has numbers.
-    pub fn numbers(&self, column: usize) -> Option<(&[i64], PositionsRef<'_>)>
+    pub fn numbers(&self, column: usize) -> Option<(&Numbers, PositionsRef<'_>)>
         requires { column < length self.now.types }
         ensures kind { IfSome result (λ _. type_at self.now.types column ≡ kind.Int) }
         ensures none { IfNone result (type_at self.now.types column ≡ kind.Text) }

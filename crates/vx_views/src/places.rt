@@ -4,9 +4,11 @@ ghost use Rattle.std.specs.Prelude.{◌≡◌, ℕ, ◌+◌, ◌<◌, ◌++◌, 
 ghost use Rattle.vx_values.specs.Values.{num};
 ghost use Rattle.vx_rows.specs.View.{ArePositions};
 ghost use Rattle.vx_rows.specs.Lists.{each_below};
+ghost use Rattle.vx_rows.specs.Numbers.{seen_numbers};
 ghost use Rattle.vx_views.specs.Selected.{of_number, places_of};
 
 use std::alloc::{AllocError, Global};
+use vx_rows::{Numbers, NumbersRef};
 
 /// A test of a number. What it says of a number depends on nothing else.
 pub trait NumberTest {
@@ -37,14 +39,17 @@ impl NumberTest for Between {
 }
 
 // The numbers at the positions from `from` on, so many.
-pub(crate) fn part_of(numbers: &[i64], from: usize, count: usize) -> &[i64]
+pub(crate) fn part_of(numbers: &Numbers, from: usize, count: usize) -> NumbersRef<'_>
     requires { (k : ℕ) → k < count → from + k < length numbers.now }
-    ensures { map num result.now ≡ map (λ q. num (slice_index_or numbers.now q (pos 0))) (each_below count (λ k. from + k)) }
+    ensures { map num (seen_numbers result) ≡ map (λ q. num (slice_index_or numbers.now q (pos 0))) (each_below count (λ k. from + k)) }
 {
     if count == 0 {
-        return &[];
+        return NumbersRef::Narrow(&[]);
     }
-    &numbers[from..from + count]
+    match numbers.view() {
+        NumbersRef::Narrow(narrow) => NumbersRef::Narrow(&narrow[from..from + count]),
+        NumbersRef::Wide(wide) => NumbersRef::Wide(&wide[from..from + count]),
+    }
 }
 
 // Adds a place, if it passes.
@@ -57,8 +62,25 @@ fn push_if(places: &mut Vec<usize>, place: usize, passes: bool) -> Result<(), Al
     Ok(())
 }
 
-// The places of numbers that pass.
-pub(crate) fn places_in<T: NumberTest>(
+// The places of numbers of 32 bits that pass.
+fn narrow_places_in<T: NumberTest>(
+    alloc: Global,
+    numbers: &[i32],
+    test: &T,
+) -> Result<Vec<usize>, AllocError>
+    ensures { IfOk result (λ v. v.items ≡ places_of (of_number (T.says test.now)) (map num numbers.now)) }
+{
+    let mut places = Vec::new(alloc);
+    for i in 0..numbers.len() {
+        let number = numbers[i] as i64;
+        let passes = test.passes(&number);
+        push_if(&mut places, i, passes)?;
+    }
+    Ok(places)
+}
+
+// The places of numbers of 64 bits that pass.
+fn wide_places_in<T: NumberTest>(
     alloc: Global,
     numbers: &[i64],
     test: &T,
@@ -73,8 +95,41 @@ pub(crate) fn places_in<T: NumberTest>(
     Ok(places)
 }
 
-// The places of positions whose numbers pass.
-pub(crate) fn places_at<T: NumberTest>(
+// The places of numbers that pass.
+pub(crate) fn places_in<T: NumberTest>(
+    alloc: Global,
+    numbers: NumbersRef<'_>,
+    test: &T,
+) -> Result<Vec<usize>, AllocError>
+    ensures { IfOk result (λ v. v.items ≡ places_of (of_number (T.says test.now)) (map num (seen_numbers numbers.entry))) }
+{
+    match numbers {
+        NumbersRef::Narrow(narrow) => narrow_places_in(alloc, narrow, test),
+        NumbersRef::Wide(wide) => wide_places_in(alloc, wide, test),
+    }
+}
+
+// The places of positions whose numbers of 32 bits pass.
+fn narrow_places_at<T: NumberTest>(
+    alloc: Global,
+    numbers: &[i32],
+    positions: &[usize],
+    test: &T,
+) -> Result<Vec<usize>, AllocError>
+    requires { ArePositions (length numbers.now) positions.now }
+    ensures { IfOk result (λ v. v.items ≡ places_of (of_number (T.says test.now)) (map (λ p. num (slice_index_or numbers.now p (pos 0))) positions.now)) }
+{
+    let mut places = Vec::new(alloc);
+    for i in 0..positions.len() {
+        let number = numbers[positions[i]] as i64;
+        let passes = test.passes(&number);
+        push_if(&mut places, i, passes)?;
+    }
+    Ok(places)
+}
+
+// The places of positions whose numbers of 64 bits pass.
+fn wide_places_at<T: NumberTest>(
     alloc: Global,
     numbers: &[i64],
     positions: &[usize],
@@ -89,4 +144,20 @@ pub(crate) fn places_at<T: NumberTest>(
         push_if(&mut places, i, passes)?;
     }
     Ok(places)
+}
+
+// The places of positions whose numbers pass.
+pub(crate) fn places_at<T: NumberTest>(
+    alloc: Global,
+    numbers: &Numbers,
+    positions: &[usize],
+    test: &T,
+) -> Result<Vec<usize>, AllocError>
+    requires { ArePositions (length numbers.now) positions.now }
+    ensures { IfOk result (λ v. v.items ≡ places_of (of_number (T.says test.now)) (map (λ p. num (slice_index_or numbers.now p (pos 0))) positions.now)) }
+{
+    match numbers.view() {
+        NumbersRef::Narrow(narrow) => narrow_places_at(alloc, narrow, positions, test),
+        NumbersRef::Wide(wide) => wide_places_at(alloc, wide, positions, test),
+    }
 }

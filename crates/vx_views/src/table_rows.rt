@@ -16,7 +16,7 @@ use crate::positions::{Positions, PositionsRef};
 use std::alloc::{AllocError, Global};
 use std::marker::Model;
 use std::sync::Arc;
-use vx_rows::{Cell, ColType, Table, Texts};
+use vx_rows::{Cell, ColType, Numbers, Table, Texts};
 
 /// Rows of one table that is shared, by their positions.
 #[derive(Drop)]
@@ -120,7 +120,7 @@ impl TableRows {
     }
 
     /// The numbers of a column of the table, and the positions in them of the rows, where it has numbers.
-    pub fn numbers(&self, column: usize) -> Option<(&[i64], PositionsRef<'_>)>
+    pub fn numbers(&self, column: usize) -> Option<(&Numbers, PositionsRef<'_>)>
         requires { column < length self.now.types }
         ensures kind { IfSome result (λ _. type_at self.now.types column ≡ kind.Int) }
         ensures none { IfNone result (type_at self.now.types column ≡ kind.Text) }

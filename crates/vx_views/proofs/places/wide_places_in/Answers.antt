@@ -3,7 +3,7 @@ use Rattle.std.specs.Prelude.{cond}
 use Rattle.vx_values.specs.Values.{num}
 use Rattle.vx_views.specs.Selected.{of_number, places_of}
 use Rattle.vx_views.proofs.Passing.{next-place}
-use Rattle.vx_views.proofs.places.places_in.Goals as goal
+use Rattle.vx_views.proofs.places.wide_places_in.Goals as goal
 
 pub loop-i-preserved : goal.loop-i-preserved
 loop-i-preserved g c =
