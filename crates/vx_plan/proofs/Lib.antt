@@ -1,5 +1,6 @@
 pub mod WalkFacts
 pub mod TestFacts
+pub mod SeenFacts
 pub mod BoundFacts
 pub mod Apart
 pub mod FoundFacts

@@ -9,7 +9,8 @@ ghost use Rattle.vx_plan_nodes.specs.Outline.{size_of};
 ghost use Rattle.vx_plan.specs.Lookup.{find_column, find_columns, find_keys, test_distinct, test_distinct_pairs, test_distinct_keys, test_match, test_width, pair_eq, find_size, find_range};
 ghost use Rattle.vx_plan.specs.Named.{names_of};
 
-use std::alloc::{AllocError, Global};
+use std::alloc::{AllocError, AllocFailed, Global};
+use std::collections::BTreeSet;
 use vx_plan_json::PlanFault;
 use vx_plan_nodes::Size;
 use vx_relations::{Catalog, find_name};
@@ -96,9 +97,11 @@ pub fn find_keys(
 pub fn test_distinct(alloc: Global, node: u32, names: &[String]) -> Result<(), PlanFault>
     ensures { Gives (λ _. tt) result (test_distinct node (map string_bytes names.now)) }
 {
+    let mut seen = BTreeSet::new(alloc);
     for i in 0..names.len() {
         let name = names[i].as_str();
-        if has_name(&names[..i], name) {
+        let is_new = seen.insert(name)?;
+        if !is_new {
             return Err(PlanFault::DuplicateColumn {
                 node,
                 name: String::from_str(alloc, name)?,

@@ -1,12 +1,11 @@
 //! A plan over a catalog: sizes, then ranges, then nodes in post-order.
 
-ghost use Rattle.std.specs.Prelude.{◌≡◌, map, string_bytes, IfOk, bytes_eq};
-ghost use Rattle.std.specs.List.{list_any};
+ghost use Rattle.std.specs.Prelude.{◌≡◌, map, string_bytes, IfOk};
 ghost use Rattle.vx_values.specs.ValueView.{val_of};
 ghost use Rattle.vx_plan_json.specs.Fault.{Gives};
 ghost use Rattle.vx_values.specs.Ranges.{range_form};
 ghost use Rattle.vx_plan_json.specs.PlanView.{document_of};
-ghost use Rattle.vx_plan.specs.Resolve.{is_bad_size, test_sizes, is_bad_range, test_ranges, resolved};
+ghost use Rattle.vx_plan.specs.Resolve.{is_bad_size, test_sizes, test_ranges, resolved};
 ghost use Rattle.vx_plan_nodes.specs.TypedView.{resolved_of};
 ghost use Rattle.vx_plan.specs.Exact.{PlanLaw};
 
@@ -14,7 +13,8 @@ use crate::columns::copied_names;
 use crate::fits::is_range;
 use crate::lookup::{Declared, has_name};
 use crate::nodes::typed_in;
-use std::alloc::{AllocError, Global};
+use std::alloc::{AllocError, AllocFailed, Global};
+use std::collections::BTreeSet;
 use vx_plan_json::{Plan, PlanFault};
 use vx_plan_nodes::TypedPlan;
 use vx_relations::Catalog;
@@ -42,32 +42,16 @@ fn test_sizes(alloc: Global, sizes: &[String]) -> Result<(), PlanFault>
     Ok(())
 }
 
-fn is_any_range(ranges: &[NamedRange], name: &str) -> bool
-    ensures { result ≡ list_any (λ r. bytes_eq name.now (string_bytes r.name)) ranges.now }
-{
-    ranges.iter().any(|r| name == r.name.as_str())
-}
-
-fn has_range(ranges: &[NamedRange], name: &str) -> bool
-    ensures { result ≡ list_any (λ r. bytes_eq name.now r.name) (map range_form ranges.now) }
-{
-    is_any_range(ranges, name)
-}
-
-fn is_bad_range(before: &[NamedRange], range: &NamedRange) -> bool
-    ensures { result ≡ is_bad_range (map range_form before.now) (range_form range.now) }
-{
-    has_range(before, range.name.as_str()) || !is_range(range.bounds.as_slice())
-}
-
 // No range stands twice or has bad bounds.
 #[tactic(auto, unfolding(crate::specs::Resolve::test_ranges), using(crate::proofs::TestFacts::test_steps))]
 fn test_ranges(alloc: Global, ranges: &[NamedRange]) -> Result<(), PlanFault>
     ensures { Gives (λ _. tt) result (test_ranges (map range_form ranges.now)) }
 {
+    let mut seen = BTreeSet::new(alloc);
     for i in 0..ranges.len() {
         let range = &ranges[i];
-        if is_bad_range(&ranges[..i], range) {
+        let is_new = seen.insert(range.name.as_str())?;
+        if !is_new || !is_range(range.bounds.as_slice()) {
             return Err(PlanFault::BadRange {
                 name: String::from_str(alloc, range.name.as_str())?,
             });
