@@ -72,6 +72,7 @@ impl Database {
     pub fn catalog(&self) -> &Catalog
         ensures catalog { result.now ≡ self.now.catalog }
         ensures meets { MeetsAll self.now }
+        ensures many { length self.now.rows ≡ length self.now.catalog }
     {
         &self.catalog
     }

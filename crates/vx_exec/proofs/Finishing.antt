@@ -38,7 +38,7 @@ use Rattle.vx_steps.specs.declared.verdict.Verdict.{Verdict}
 use Rattle.vx_steps.specs.declared.verdict.Verdict.TheVariants as verdict
 use Rattle.vx_steps.proofs.Build.{crew-count}
 use Rattle.vx_steps.proofs.RunSteps.{map-length}
-use Rattle.vx_exec.specs.Sizes.{IsWithin, group_at}
+use Rattle.vx_groups.specs.Groups.{IsWithin, group_at}
 use Rattle.vx_exec.specs.Job.{model_of}
 use Rattle.vx_exec.specs.Runs.{IfDone, ComesTo, IsRunOf, fault_reported, IsTrueOf, IsFirstReported}
 use Rattle.vx_exec.specs.Making.{board_of}
@@ -147,6 +147,15 @@ module _ (j : Job) (hash : List ℕ → Row → ℕ → ℕ) where
     pub answers : Answers task_of (model_of hash j) (resolved_of j.plan.now).total (plan j.plan.now) ws v
     pub first : ReportsFirst (model_of hash j) (plan j.plan.now) v
 
+  -- workers with the roles of those that were ready, and a verdict that is worth what it says
+  pub has-ended : (old new : List (Worker Operator Destination)) (w : LinksView) (v : Verdict) → IsReadyFor old w
+      → map (role_of operator_op post_of bounds_of) new ≡ map (role_of operator_op post_of bounds_of) old
+      → Answers task_of (model_of hash j) (resolved_of j.plan.now).total (plan j.plan.now) new v → ReportsFirst (model_of hash j) (plan j.plan.now) v → HasRun new v
+  has-ended old new w v begun roles answers first =
+      let W = model_of hash j in
+      let p : Plan = plan j.plan.now in
+      record { keeps = first-keeps W p new (duties_below W p) (ap (λ z. map duty_of z) roles ∙ begun.ready.crew.duties); answers = answers; first = first }
+
   -- after steps that keep the roles, with a verdict that is worth what it says wherever the workers were ready
   pub has-run : (old new : List (Worker Operator Destination)) (w : LinksView) (v : Verdict) → IsReadyFor old w
       → map (role_of operator_op post_of bounds_of) new ≡ map (role_of operator_op post_of bounds_of) old
@@ -157,11 +166,7 @@ module _ (j : Job) (hash : List ℕ → Row → ℕ → ℕ) where
       let W = model_of hash j in
       let p : Plan = plan j.plan.now in
       let is_total : Bool = (resolved_of j.plan.now).total in
-      record {
-        keeps = first-keeps W p new (duties_below W p) (ap (λ z. map duty_of z) roles ∙ begun.ready.crew.duties);
-        answers = answers W is_total p begun.accepted begun.ready;
-        first = first W is_total p begun.accepted begun.ready;
-      }
+      has-ended old new w v begun roles (answers W is_total p begun.accepted begun.ready) (first W is_total p begun.accepted begun.ready)
 
 module _ {j : Job} {hash : List ℕ → Row → ℕ → ℕ} {ws : List (Worker Operator Destination)} where
   -- the first worker keeps rows of the plan's types

@@ -24,7 +24,7 @@ use Rattle.vx_worker.specs.Wishes.{Numbered}
 use Rattle.vx_operators.specs.declared.operator.Operator.{Operator}
 use Rattle.vx_operators.specs.declared.operator.Operator.TheVariants as operator
 use Rattle.vx_worker.specs.declared.tree.Tree.{Tree, One, Two, Leaf, One', Two'}
-use Rattle.vx_exec.specs.Sizes.{group_at}
+use Rattle.vx_groups.specs.Groups.{group_at}
 use Rattle.vx_exec.specs.Crew.{IsOperatorOf, IsTreeOf}
 use Rattle.vx_exec.specs.Job.{model_of}
 use Rattle.vx_exec.specs.declared.job.Job.{Job}

@@ -10,3 +10,4 @@ pub mod Growing
 pub mod Outcomes
 pub mod Finishing
 pub mod GroupFacts
+pub mod Counts

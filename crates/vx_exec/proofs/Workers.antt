@@ -22,7 +22,7 @@ use Rattle.vx_operators.specs.declared.destination.Destination.{Destination}
 use Rattle.vx_worker.specs.declared.tree.Tree.{Tree}
 use Rattle.vx_worker.specs.declared.worker.Worker.{Worker}
 use Rattle.vx_steps.specs.Crews.{Duty, root_duty, producer_duty}
-use Rattle.vx_exec.specs.Sizes.{group_at}
+use Rattle.vx_groups.specs.Groups.{group_at}
 use Rattle.vx_exec.specs.Job.{model_of, types_at}
 use Rattle.vx_exec.specs.LeafTypes.{LeavesFit}
 use Rattle.vx_exec.specs.Crew.{IsTreeOf, IsNew}

@@ -1,6 +1,6 @@
 -- The sizes of a run, within their limits, and the setting that they make of a plan and a database.
-use Rattle.std.specs.Prelude.{ℕ, ◌≤◌, List}
-use Rattle.std.specs.List.{All, slice_index_or}
+use Rattle.std.specs.Prelude.{ℕ, List}
+use Rattle.std.specs.List.{All}
 use Rattle.vx_values.specs.Values.{Row}
 use Rattle.vx_catalog.specs.Database.{Database, rows_at}
 use Rattle.vx_plan_nodes.specs.Numbering.{relation_in}
@@ -9,20 +9,13 @@ use Rattle.vx_plan_nodes.specs.TypedView.{scope, plan}
 use Rattle.vx_plan_nodes.specs.declared.typed_plan.TypedPlan.{TypedPlan}
 use Rattle.vx_check_rules.specs.Checked.{relations}
 use Rattle.vx_worker.specs.Fragment.{RunModel}
+use Rattle.vx_groups.specs.Groups.{IsWithin, group_at}
 
 -- the workers of each size name by its number, the rows of a packet and those of a morsel
 pub record Sizes : Type 0 where
   pub groups : List ℕ
   pub packet : ℕ
   pub morsel : ℕ
-
--- the workers of the size name with this number; past the last name one
-abbrev pub group_at : List ℕ → ℕ → ℕ
-group_at groups k = slice_index_or groups k 1
-
--- a number within these limits
-abbrev pub IsWithin : (low high n : ℕ) → Type 0
-IsWithin low high n = (low ≤ n) × (n ≤ high)
 
 -- the limits of a run: 1 to 64 workers in a group, packets of 1 to 4,096 rows, morsels of 1 to 1,000,000 rows
 pub record AreWithin (s : Sizes) : Type 0 where

@@ -19,7 +19,7 @@ ghost use Rattle.vx_steps.specs.Additions.{AddsProducers, AddsBelow};
 ghost use Rattle.vx_steps.specs.Crews.{stations_of, producer_duty, root_duty};
 ghost use Rattle.vx_steps.specs.Queues.{AreEmpty};
 ghost use Rattle.vx_steps.specs.Ready.{Ready};
-ghost use Rattle.vx_exec.specs.Sizes.{group_at};
+ghost use Rattle.vx_groups.specs.Groups.{group_at};
 ghost use Rattle.vx_exec.specs.Job.{model_of};
 ghost use Rattle.vx_exec.specs.Part.{IsPartOf};
 ghost use Rattle.vx_exec.specs.Crew.{duty, IsNew};

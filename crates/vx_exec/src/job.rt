@@ -1,6 +1,6 @@
 //! What a run works on.
 
-ghost use Rattle.std.specs.Prelude.{◌≡◌, ◌≤◌, ◌<◌, length, IfOk};
+ghost use Rattle.std.specs.Prelude.{◌≡◌, ◌≤◌, ◌<◌, ℕ, length, slice_index_or, IfOk};
 ghost use Rattle.std.specs.List.{All};
 ghost use Rattle.vx_catalog.specs.Database.{rows_at, MeetsAll};
 ghost use Rattle.vx_plan_nodes.specs.Numbering.{relation_in};
@@ -10,11 +10,13 @@ ghost use Rattle.vx_plan_nodes.specs.TypedView.{scope, plan as whole_plan};
 ghost use Rattle.vx_check_rules.specs.Checked.{relations};
 ghost use Rattle.vx_worker.specs.Morsels.{morsel_of, morsel_count};
 ghost use Rattle.vx_steps.specs.Roles.{crew_size};
-ghost use Rattle.vx_exec.specs.Sizes.{AreWithin, IsWithin, group_at};
+ghost use Rattle.vx_groups.specs.Groups.{IsWithin, group_at};
+ghost use Rattle.vx_exec.specs.Sizes.{AreWithin};
 ghost use Rattle.vx_exec.specs.ScanRelations.{AreRelations};
 
 use std::alloc::{AllocError, Global};
 use vx_catalog::{Catalog, Database};
+use vx_groups::workers_of;
 use vx_plan_nodes::{Size, TypedPlan};
 use vx_rows::ColType;
 use vx_views::Rows;
@@ -32,27 +34,14 @@ pub struct Job<'j> {
     relations: Vec<Option<usize>>,
     packet: usize,
     morsel: usize,
+    // The packets by which a producer may run ahead, where workers are threads.
+    slack: u32,
     ghost same_catalog: { database.now.catalog ≡ (scope plan.now).catalog },
     ghost named: { length groups.items ≡ (scope plan.now).sizes },
     ghost within: { AreWithin (record { groups = groups.items; packet = packet; morsel = morsel }) },
+    ghost room: { IsWithin 1 1024 slack },
     ghost few_workers: { crew_size (group_at groups.items) (whole_plan plan.now) ≤ 256 },
     ghost of_scans: { AreRelations plan.now relations.items },
-}
-
-/// How many workers a size has, where the groups of each size name have so many, by its number.
-pub fn workers_of(groups: &[u32], size: Size) -> u32
-    requires { All (IsWithin 1 64) groups.now }
-    ensures count { result ≡ workers (group_at groups.now) (size_of size) }
-    ensures some { 1 ≤ result }
-    ensures few { result ≤ 64 }
-{
-    match size {
-        Size::One => 1,
-        Size::Group(k) => match groups.get(k) {
-            Some(workers) => *workers,
-            None => 1,
-        },
-    }
 }
 
 impl<'j> Job<'j> {
@@ -67,10 +56,12 @@ impl<'j> Job<'j> {
         relations: Vec<Option<usize>>,
         packet: usize,
         morsel: usize,
+        slack: u32,
     ) -> Job<'j>
         requires catalog { database.now.catalog ≡ (scope plan.now).catalog }
         requires named { length groups.items ≡ (scope plan.now).sizes }
         requires within { AreWithin (record { groups = groups.items; packet = packet; morsel = morsel }) }
+        requires room { IsWithin 1 1024 slack }
         requires few { crew_size (group_at groups.items) (whole_plan plan.now) ≤ 256 }
         requires of_scans { AreRelations plan.now relations.items }
         ensures plan { result.plan.now ≡ plan.now }
@@ -85,6 +76,7 @@ impl<'j> Job<'j> {
             relations,
             packet,
             morsel,
+            slack,
         }
     }
 
@@ -112,6 +104,22 @@ impl<'j> Job<'j> {
         let _catalog = self.database.catalog();
     }
 
+    /// The workers of each size name, by its number.
+    pub fn groups(&self) -> &[u32]
+        ensures value { result.now ≡ self.now.groups.items }
+        ensures within { All (IsWithin 1 64) result.now }
+    {
+        self.groups.as_slice()
+    }
+
+    /// The packets by which a producer may run ahead of a consumer, where workers are threads.
+    pub fn slack(&self) -> u32
+        ensures some { 1 ≤ result }
+        ensures few { result ≤ 1024 }
+    {
+        self.slack
+    }
+
     /// The rows of a packet.
     pub fn packet(&self) -> usize
         ensures value { result ≡ self.now.packet }
@@ -129,6 +137,19 @@ impl<'j> Job<'j> {
     {
         let rows = self.database.rows(relation).len();
         ((rows + (self.morsel - 1)) / self.morsel) as u64
+    }
+
+    /// How many morsels each relation of the catalog has, by its number.
+    pub fn morsel_counts(&self, alloc: Global) -> Result<Vec<u64>, AllocError>
+        ensures counts { IfOk result (λ v. (r : ℕ) → slice_index_or v.items r 0 ≡ morsel_count self.now.morsel (length (rows_at self.now.database.now r))) }
+        ensures few { IfOk result (λ v. All (λ n. n ≤ 100000000) v.items) }
+    {
+        let relations = self.database.catalog().len();
+        let mut counts = Vec::with_capacity(alloc, relations)?;
+        for relation in 0..relations {
+            counts.push(self.morsel_count(relation))?;
+        }
+        Ok(counts)
     }
 
     // A morsel of a relation: the rows from the morsel's first on, as many as there are. They are lent: none is copied.

@@ -14,7 +14,8 @@ ghost use Rattle.vx_worker.specs.declared.worker.Worker.{Worker as AWorker};
 ghost use Rattle.vx_operators.specs.declared.operator.Operator.{Operator as AnOperator};
 ghost use Rattle.vx_operators.specs.declared.destination.Destination.{Destination as ADestination};
 ghost use Rattle.vx_steps.specs.Roles.{crew_size};
-ghost use Rattle.vx_exec.specs.Sizes.{group_at, run_model, Sizes};
+ghost use Rattle.vx_groups.specs.Groups.{group_at};
+ghost use Rattle.vx_exec.specs.Sizes.{run_model, Sizes};
 ghost use Rattle.vx_exec.specs.Job.{model_of};
 ghost use Rattle.vx_exec.specs.Runs.{fault_reported, ComesTo, IsRunOf, IfDone, IsTrueOf, IsFirstReported, IsSetUp, RunFails, IsBadStepOf, NamesFirst, ScheduleFails, Scheduled, InRounds};
 
@@ -63,8 +64,11 @@ fn fault_of(fault: Fault) -> RunFault
     }
 }
 
-// The result of a run with such a verdict.
-fn answer_of(workers: Vec<Worker<Operator, Destination>>, verdict: Verdict) -> Result<Ran, RunFault>
+/// What workers of a run came to, with such a verdict.
+pub fn answer_of(
+    workers: Vec<Worker<Operator, Destination>>,
+    verdict: Verdict,
+) -> Result<Ran, RunFault>
     requires there { verdict ≡ Verdict.Done → 0 < length workers.items }
     requires keeps { verdict ≡ Verdict.Done → (d : AWorker AnOperator ADestination) → (types : List ColType) × (post_of (sender_of (slice_index_or workers.items 0 d)) ≡ keeps types) }
     requires own { verdict ≡ Verdict.Failed Passed → ⊥ }

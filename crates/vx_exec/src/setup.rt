@@ -7,16 +7,18 @@ ghost use Rattle.vx_plan_nodes.specs.Outline.{plan_of};
 ghost use Rattle.vx_plan_nodes.specs.TypedView.{names_in, scope, resolved_of, plan as plan_of_typed};
 ghost use Rattle.vx_laws.specs.Layout.{workers_below};
 ghost use Rattle.vx_steps.specs.Roles.{crew_size};
-ghost use Rattle.vx_exec.specs.Sizes.{IsWithin, Sizes, group_at};
+ghost use Rattle.vx_groups.specs.Groups.{IsWithin, group_at};
+ghost use Rattle.vx_exec.specs.Sizes.{Sizes};
 ghost use Rattle.vx_exec.specs.Job.{sizes_of};
 ghost use Rattle.vx_setup.specs.Setup.{first_missing, first_out_of_range};
 ghost use Rattle.vx_exec.specs.Setup.{tested, no_name, few_workers, size_missing, size_out_of_range, refusal_of, sizes_set, Gives};
 ghost use Rattle.vx_exec.specs.Runs.{IsSetUp, RunFails};
 
-use crate::job::{Job, workers_of};
+use crate::job::Job;
 use crate::relations::relations_of;
 use std::alloc::{AllocError, Global};
 use vx_catalog::Database;
+use vx_groups::workers_of;
 use vx_plan_nodes::{TypedNode, TypedPlan};
 use vx_setup::{RunFault, Setup, is_within};
 
@@ -129,13 +131,16 @@ fn job_in<'j>(
     let relations = relations_of(alloc, plan)?;
     let packet = setup.packet() as usize;
     let morsel = setup.morsel() as usize;
-    Ok(Job::new(alloc, plan, database, groups, relations, packet, morsel))
+    let slack = setup.slack();
+    Ok(Job::new(
+        alloc, plan, database, groups, relations, packet, morsel, slack,
+    ))
 }
 
 /// A plan over a database, set up to run. The first test that fails is the answer, in this order: the database has the
 /// plan's catalog; each declared size name has an entry; each declared size name has 1 to 64 workers; a packet has 1 to
 /// 4,096 rows; a morsel has 1 to 1,000,000 rows; the slack is 1 to 1,024 packets; the plan has at most 256 workers.
-pub(crate) fn job_of<'j>(
+pub fn job_of<'j>(
     alloc: Global,
     plan: &'j TypedPlan,
     database: &'j Database,

@@ -14,7 +14,7 @@ ghost use Rattle.vx_worker.specs.Intake.{source_of, IsFresh};
 ghost use Rattle.vx_worker.specs.Worker.{inputs_of as sources_of};
 ghost use Rattle.vx_steps.specs.Crews.{producer_duty, root_duty};
 ghost use Rattle.vx_check_rules.specs.Checked.{relations};
-ghost use Rattle.vx_exec.specs.Sizes.{group_at};
+ghost use Rattle.vx_groups.specs.Groups.{group_at};
 ghost use Rattle.vx_exec.specs.Job.{model_of};
 ghost use Rattle.vx_exec.specs.Part.{IsPartOf};
 ghost use Rattle.vx_exec.specs.Inputs.{inputs_of};

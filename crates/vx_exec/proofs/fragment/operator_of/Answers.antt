@@ -10,7 +10,7 @@ use Rattle.vx_plan_nodes.specs.Types.{types_of}
 use Rattle.vx_check_rules.specs.Checked.{relations}
 use Rattle.vx_operators.specs.declared.operator.Operator.TheVariants as operator
 use Rattle.vx_exec.specs.Crew.{IsOperatorOf}
-use Rattle.vx_exec.specs.Sizes.{group_at}
+use Rattle.vx_groups.specs.Groups.{group_at}
 use Rattle.vx_exec.proofs.Fragments.{scan-operator, consumer-made, exchange-columns}
 use Rattle.vx_exec.proofs.fragment.operator_of.Goals as goal
 

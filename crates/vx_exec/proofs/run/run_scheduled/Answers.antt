@@ -3,7 +3,8 @@ use Rattle.vx_plan_nodes.specs.TypedView.{resolved_of, plan as whole_plan}
 use Rattle.vx_check_rules.specs.CheckedView.{typed_plan}
 use Rattle.vx_steps.specs.Roles.{crew_size}
 use Rattle.vx_exec.specs.Job.{sizes_of}
-use Rattle.vx_exec.specs.Sizes.{Sizes, group_at, run_model}
+use Rattle.vx_groups.specs.Groups.{group_at}
+use Rattle.vx_exec.specs.Sizes.{Sizes, run_model}
 use Rattle.vx_exec.specs.Runs.{Scheduled, IsTrueOf, IsFirstReported, IsSetUp, IsBadStepOf, NamesFirst, RunFails, ScheduleFails, for_fault, for_run, for_step}
 use Rattle.vx_exec.proofs.Outcomes.{steps-nothing, failed-by, err-reported, names-nothing, of-job, ok-reported}
 use Rattle.vx_exec.proofs.run.run_scheduled.Goals as goal

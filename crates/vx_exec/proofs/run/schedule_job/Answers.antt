@@ -4,7 +4,7 @@ use Rattle.std.proofs.Common.{◌<◌, ℕ, inl, inr, subst}
 use Rattle.std.specs.List.{All}
 use Rattle.vx_steps.specs.Roles.{crew_size}
 use Rattle.vx_steps.specs.Schedules.{IsBadStep}
-use Rattle.vx_exec.specs.Sizes.{group_at}
+use Rattle.vx_groups.specs.Groups.{group_at}
 use Rattle.vx_exec.specs.Runs.{IsTrueOf, IsFirstReported, IsBadStepOf}
 use Rattle.vx_exec.specs.Job.{model_of}
 use Rattle.vx_setup.specs.declared.fault.RunFault.{RunFault}

@@ -1,5 +1,5 @@
 use Rattle.std.proofs.Common.{◌∙◌, sym, map, string_bytes, rules}
-use Rattle.vx_exec.specs.Setup.{size_out_of_range, bad_packet, bad_morsel, sizes_set}
+use Rattle.vx_exec.specs.Setup.{size_out_of_range, bad_packet, bad_morsel, bad_slack, sizes_set}
 use Rattle.vx_setup.specs.Setup.{first_out_of_range}
 use Rattle.vx_exec.proofs.GroupFacts.{none_found, passed, is_within-true, groups_within}
 use Rattle.vx_exec.proofs.setup.job_in.Goals as goal
@@ -22,3 +22,7 @@ new-requires-clause-within c =
       packet = rw (c.packet-packet.ensures ∙ sym c.packet.ensures) (is_within-true 4096 c.packet.result (sym c.is_within.ensures ∙ passed c.is_within.result bad_packet c.in_ok-fail_unless.ensures));
       morsel = rw (c.morsel-morsel.ensures ∙ sym c.morsel.ensures) (is_within-true 1000000 c.morsel.result (sym c.is_within-2.ensures ∙ passed c.is_within-2.result bad_morsel c.in_ok-fail_unless-2.ensures));
     }
+
+pub new-requires-clause-room : goal.new-requires-clause-room
+new-requires-clause-room c =
+    rw (c.slack-slack.ensures ∙ sym c.slack.ensures) (is_within-true 1024 c.slack.result (sym c.is_within-3.ensures ∙ passed c.is_within-3.result bad_slack c.in_ok-fail_unless-3.ensures))

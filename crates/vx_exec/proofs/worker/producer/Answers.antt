@@ -14,7 +14,7 @@ use Rattle.vx_operators.specs.Destination.{post_of, bounds_of}
 use Rattle.vx_worker.specs.Fragment.{goes}
 use Rattle.vx_worker.specs.Intake.{source_of}
 use Rattle.vx_operators.specs.declared.destination.Destination.TheVariants as destination
-use Rattle.vx_exec.specs.Sizes.{group_at}
+use Rattle.vx_groups.specs.Groups.{group_at}
 use Rattle.vx_exec.specs.Job.{model_of}
 use Rattle.vx_exec.proofs.Dealing.{deal-serves, deal-columns, deal-routes}
 use Rattle.vx_exec.proofs.Workers.{producer-does, made-new}

@@ -3,7 +3,7 @@ use Rattle.vx_plan_nodes.specs.Outline.{plan_of, kind_of}
 use Rattle.vx_plan_nodes.specs.Plan.{size}
 use Rattle.vx_plan_nodes.specs.Streams.{workers}
 use Rattle.vx_steps.specs.Additions.{AddsProducers}
-use Rattle.vx_exec.specs.Sizes.{group_at}
+use Rattle.vx_groups.specs.Groups.{group_at}
 use Rattle.vx_steps.proofs.Adding.{adds-none, adds-producer}
 use Rattle.vx_exec.specs.Job.{model_of}
 use Rattle.vx_exec.specs.Making.{made_of}
