@@ -1,5 +1,6 @@
 //! What gives a worker the morsels of a scan.
 
+use std::mem;
 use vx_decks::{DeckSeat, SharedDeck};
 use vx_morsel::{Draw, Hand};
 
@@ -34,7 +35,7 @@ impl Dealer {
     }
 }
 
-/// Calls: `draw*`.
+/// Calls: `draw* take_dealer`.
 ///
 /// The morsels of the scan with this node number.
 #[derive(Drop)]
@@ -75,5 +76,13 @@ impl Drawer {
         ensures { Dealt self.old result self.new }
     {
         self.dealer.draw(decks)
+    }
+
+    /// Takes out what gives the morsels; a hand without morsels is left in its place.
+    pub fn take_dealer(&mut self) -> Dealer
+        ensures taken { result ≡ self.old.dealer }
+        ensures scan { self.new.scan ≡ self.old.scan }
+    {
+        mem::replace(&mut self.dealer, Dealer::Hand(Hand::new(0, 1, 0)))
     }
 }

@@ -1,0 +1,42 @@
+-- The places of workers, fragment by fragment.
+use Rattle.std.proofs.Common.{ℕ, ◌≡◌, ◌+◌, ◌<◌, ◌≤◌, List, [], ◌∷◌, ◌++◌, length, map, get_or, drop, sym, ap, ◌∙◌, arith, append_assoc, append-nil, length-append}
+use Rattle.std.proofs.lemmas.List.{drop_all, map_push}
+use Rattle.vx_rows.specs.Lists.{each_below}
+use Rattle.vx_plan_nodes.specs.Plan.{Plan, scan, unary, binary, exchange}
+use Rattle.vx_plan_nodes.specs.Numbering.{nodes}
+use Rattle.vx_parallel.specs.Fragments.{fragments_below, places_from}
+use Rattle.vx_parallel.specs.Places.{place_in}
+use Rattle.vx_parallel.specs.declared.places.FragmentPlace.{FragmentPlace}
+use Rattle.vx_steps.proofs.Each.{more-each}
+use Rattle.vx_parallel.proofs.Lists.{next-at}
+
+-- a plan has less fragments below its top one than nodes
+pub few-fragments : (sizes : ℕ → ℕ) (p : Plan) → length (fragments_below sizes p) + 1 ≤ nodes p
+few-fragments sizes (scan n c r m z) = omega arith
+few-fragments sizes (unary n c op p) = let h = few-fragments sizes p in omega (arith, h)
+few-fragments sizes (binary n c op p q) =
+    let e = length-append (fragments_below sizes p) (fragments_below sizes q) in
+    let a = few-fragments sizes p in
+    let b = few-fragments sizes q in
+    omega (arith, e, a, b)
+few-fragments sizes (exchange n c k m p) = let h = few-fragments sizes p in omega (arith, h)
+
+-- one place more
+pub one-place : (f k : ℕ) (front : List (ℕ × ℕ)) (old new : List FragmentPlace) (at : FragmentPlace) → new ≡ old ++ at ∷ [] → place_in at ≡ (f, k)
+    → map place_in old ≡ front ++ each_below k (λ i. (f, i)) → map place_in new ≡ front ++ each_below (k + 1) (λ i. (f, i))
+one-place f k front old new at e is was =
+    let here : ℕ → ℕ × ℕ = λ i. (f, i) in
+    ap (λ z. map place_in z) e ∙ map_push place_in old at ∙ ap (λ z. z ++ place_in at ∷ []) was ∙ ap (λ z. (front ++ each_below k here) ++ z ∷ []) is
+    ∙ append_assoc front (each_below k here) ((f, k) ∷ []) ∙ ap (λ z. front ++ z) (sym (more-each k here))
+
+-- the workers of one fragment more
+pub one-fragment : (fragments : List ℕ) (f n : ℕ) (old new all : List (ℕ × ℕ)) → f < length fragments → n ≡ get_or fragments f n
+    → new ≡ old ++ each_below n (λ i. (f, i)) → old ++ places_from f (drop f fragments) ≡ all → new ++ places_from (f + 1) (drop (f + 1) fragments) ≡ all
+one-fragment fragments f n old new all lt is e was =
+    let rest = places_from (f + 1) (drop (f + 1) fragments) in
+    ap (λ z. z ++ rest) e ∙ append_assoc old (each_below n (λ i. (f, i))) rest ∙ ap (λ z. old ++ places_from f z) (sym (next-at fragments f n lt is)) ∙ was
+
+-- no fragment is left
+pub all-fragments : (fragments : List ℕ) (f : ℕ) (old all : List (ℕ × ℕ)) → length fragments ≤ f → old ++ places_from f (drop f fragments) ≡ all → old ≡ all
+all-fragments fragments f old all past was =
+    sym (append-nil old) ∙ ap (λ z. old ++ places_from f z) (sym (drop_all f fragments past)) ∙ was

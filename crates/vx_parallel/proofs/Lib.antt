@@ -1,0 +1,6 @@
+pub mod Lists
+pub mod Fragments
+pub mod Counting
+pub mod Crews
+pub mod Wirings
+pub mod Ends

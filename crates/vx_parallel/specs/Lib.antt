@@ -1,0 +1,5 @@
+pub mod Fragments
+pub mod Places
+pub mod Members
+pub mod Crew
+pub mod Parallel

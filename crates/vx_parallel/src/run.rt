@@ -1,0 +1,175 @@
+//! Runs whose workers are threads.
+
+ghost use Rattle.std.specs.Prelude.{◌≡◌, ◌⊎◌, true, map, IfOk, IfErr};
+ghost use Rattle.vx_plan_nodes.specs.TypedView.{plan as whole_plan, resolved_of};
+ghost use Rattle.vx_check_rules.specs.Checked.{is_allowed, is_root_allowed};
+ghost use Rattle.vx_check_rules.specs.CheckedView.{typed_plan};
+ghost use Rattle.vx_operators.specs.Operator.{operator_types};
+ghost use Rattle.vx_operators.specs.Destination.{post_of, is_open, has_closed};
+ghost use Rattle.vx_steps.specs.Roles.{crew_size};
+ghost use Rattle.vx_groups.specs.Groups.{group_at};
+ghost use Rattle.vx_spawn.specs.Each.{AllReady};
+ghost use Rattle.vx_setup.specs.declared.fault.RunFault.TheVariants.{NoMemory, NoThread};
+ghost use Rattle.vx_exec.specs.Sizes.{run_model, Sizes};
+ghost use Rattle.vx_exec.specs.Job.{model_of, types_at};
+ghost use Rattle.vx_exec.specs.Runs.{IsRunOf, IfDone, IsTrueOf, IsSetUp};
+ghost use Rattle.vx_parallel.specs.Crew.{IsWiringOf, AreNew, AreHonest, IsAcceptedJob, HaveRun};
+ghost use Rattle.vx_parallel.specs.Parallel.{ThreadsFail, IsReportedByThreads, IsWhole, NeedsFew};
+
+use crate::members::members_of;
+use crate::places::places_of;
+use std::alloc::{AllocError, Global};
+use std::sync::Wait;
+use std::thread::Threads;
+use vx_assembly::assemble;
+use vx_catalog::Database;
+use vx_check_rules::CheckedPlan;
+use vx_decks::SharedDeck;
+use vx_exec::{Crew, Job, Ran, answer_of, job_of};
+use vx_operators::{Destination, Operator};
+use vx_plan_nodes::Router;
+use vx_setup::{RunFault, Setup};
+use vx_spawn::{CrewMember, Joined, run_in_threads};
+use vx_steps::Verdict;
+use vx_threads::Gate;
+use vx_wiring::{Wiring, wiring_of};
+use vx_worker::Worker;
+
+// The most workers of a run.
+const MOST_WORKERS: u32 = 256;
+
+// What the threads of a job's workers hold before the first step.
+fn wiring_for(alloc: Global, job: &Job<'_>) -> Result<Wiring, AllocError>
+    requires allowed { is_allowed job.now.plan.now ≡ true }
+    requires root { is_root_allowed job.now.plan.now ≡ true }
+    ensures { IfOk result (IsWiringOf job.now) }
+{
+    let counts = job.morsel_counts(alloc)?;
+    let root = job.plan().root();
+    wiring_of(alloc, root, job.groups(), counts.as_slice(), job.slack())
+}
+
+// Runs all workers of a job, each in a thread of its own.
+fn start_members<R: Router + Sync, G: Gate + Sync, T: Threads + Wait + Sync>(
+    rt: &T,
+    alloc: Global,
+    job: &Job<'_>,
+    router: &R,
+    gate: &G,
+    decks: &Vec<SharedDeck>,
+    members: Vec<CrewMember<Operator, Destination>>,
+) -> Result<Vec<Joined<Operator, Destination>>, RunFault>
+    requires { AllReady operator_types post_of is_open has_closed (types_at job.now) decks.now.items members.items }
+    ensures honest { IfOk result (λ js. AreHonest (R.route_of router.now) job.now members.items js.items) }
+    ensures fault { IfErr result (λ e. (e ≡ NoMemory) ⊎ (e ≡ NoThread)) }
+{
+    run_in_threads(rt, alloc, job, router, gate, decks, members)
+}
+
+// Runs all workers of a job, each in a thread of its own, and puts together what they give back.
+fn run_crew<R: Router + Sync, G: Gate + Sync, T: Threads + Wait + Sync>(
+    rt: &T,
+    alloc: Global,
+    job: &Job<'_>,
+    router: &R,
+    gate: &G,
+    workers: Vec<Worker<Operator, Destination>>,
+    wiring: Wiring,
+) -> Result<(Vec<Worker<Operator, Destination>>, Verdict), RunFault>
+    requires new { AreNew job.now workers.items }
+    requires wired { IsWiringOf job.now wiring }
+    ensures run { IsAcceptedJob (R.route_of router.now) job.now → IfOk result (λ r. HaveRun (R.route_of router.now) job.now workers.items r.0.items r.1) }
+    ensures fault { IfErr result (λ e. (e ≡ NoMemory) ⊎ (e ≡ NoThread)) }
+{
+    let Wiring {
+        ends,
+        decks,
+        places,
+    } = wiring;
+    let root = job.plan().root();
+    let groups = job.groups();
+    let seats = places_of(alloc, root, groups)?;
+    let members = members_of(alloc, workers, ends, seats.as_slice())?;
+    let joined = start_members(rt, alloc, job, router, gate, &decks, members)?;
+    let ended = assemble(alloc, root, groups, decks, places.as_slice(), joined)?;
+    Ok(ended)
+}
+
+// All workers of a job as threads, and what they come to. None is started where they are more than `most`.
+fn run_job<R: Router + Sync, G: Gate + Sync, T: Threads + Wait + Sync>(
+    rt: &T,
+    alloc: Global,
+    job: &Job<'_>,
+    router: &R,
+    gate: &G,
+    most: u32,
+) -> Result<Ran, RunFault>
+    requires allowed { is_allowed job.now.plan.now ≡ true }
+    requires root { is_root_allowed job.now.plan.now ≡ true }
+    ensures done { IfOk result (IfDone (IsRunOf (R.route_of router.now) (resolved_of job.now.plan.now) job.now.database.now job.now.groups.items)) }
+    ensures whole { IfOk result IsWhole }
+    ensures failed { IfErr result (λ e. (e ≡ NoThread) ⊎ IsTrueOf (resolved_of job.now.plan.now) job.now.database.now e) }
+    ensures first { IfErr result (IsReportedByThreads (model_of (R.route_of router.now) job.now) (whole_plan job.now.plan.now)) }
+    ensures few { NeedsFew most (crew_size (group_at job.now.groups.items) (whole_plan job.now.plan.now)) result }
+{
+    job.meets();
+    let crew = Crew::new(alloc, job)?;
+    let (workers, _links) = crew.into_parts();
+    if workers.len() > most as usize {
+        return Err(RunFault::NoThread);
+    }
+    let wiring = wiring_for(alloc, job)?;
+    let ended = run_crew(rt, alloc, job, router, gate, workers, wiring)?;
+    let (workers, verdict) = ended;
+    answer_of(workers, verdict)
+}
+
+/// A run of a plan over a database, each worker in a thread of its own. They start together or not at all: where there
+/// are more than `most` workers, or the machine refuses a thread, none takes a step. Once all have ended and some
+/// failed, the fault is that of the lowest-numbered one that failed by itself. That the threads end is not promised.
+pub fn run_threads_within<R: Router + Sync, G: Gate + Sync, T: Threads + Wait + Sync>(
+    rt: &T,
+    alloc: Global,
+    plan: &CheckedPlan,
+    database: &Database,
+    setup: &Setup,
+    router: &R,
+    gate: &G,
+    most: u32,
+) -> Result<Ran, RunFault>
+    ensures done { IfOk result (IfDone (λ rows. (s : Sizes) × IsSetUp (resolved_of (typed_plan plan.now)) database.now setup.now s
+        × IsRunOf (R.route_of router.now) (resolved_of (typed_plan plan.now)) database.now s.groups rows)) }
+    ensures whole { IfOk result IsWhole }
+    ensures set { IfOk result (λ _. (s : Sizes) × IsSetUp (resolved_of (typed_plan plan.now)) database.now setup.now s) }
+    ensures refused { IfErr result (ThreadsFail (resolved_of (typed_plan plan.now)) database.now setup.now) }
+    ensures first { (s : Sizes) → IsSetUp (resolved_of (typed_plan plan.now)) database.now setup.now s
+        → IfErr result (IsReportedByThreads (run_model (R.route_of router.now) (typed_plan plan.now) database.now s) (whole_plan (typed_plan plan.now))) }
+    ensures few { (s : Sizes) → IsSetUp (resolved_of (typed_plan plan.now)) database.now setup.now s
+        → NeedsFew most (crew_size (group_at s.groups) (whole_plan (typed_plan plan.now))) result }
+{
+    let job = job_of(alloc, plan.plan(), database, setup)?;
+    run_job(rt, alloc, &job, router, gate, most)
+}
+
+/// A run of a plan over a database, each worker in a thread of its own, whatever their number. They start together or
+/// not at all. Once all have ended and some failed, the fault is that of the lowest-numbered one that failed by itself.
+/// That the threads end is not promised.
+pub fn run_threads<R: Router + Sync, G: Gate + Sync, T: Threads + Wait + Sync>(
+    rt: &T,
+    alloc: Global,
+    plan: &CheckedPlan,
+    database: &Database,
+    setup: &Setup,
+    router: &R,
+    gate: &G,
+) -> Result<Ran, RunFault>
+    ensures done { IfOk result (IfDone (λ rows. (s : Sizes) × IsSetUp (resolved_of (typed_plan plan.now)) database.now setup.now s
+        × IsRunOf (R.route_of router.now) (resolved_of (typed_plan plan.now)) database.now s.groups rows)) }
+    ensures whole { IfOk result IsWhole }
+    ensures set { IfOk result (λ _. (s : Sizes) × IsSetUp (resolved_of (typed_plan plan.now)) database.now setup.now s) }
+    ensures refused { IfErr result (ThreadsFail (resolved_of (typed_plan plan.now)) database.now setup.now) }
+    ensures first { (s : Sizes) → IsSetUp (resolved_of (typed_plan plan.now)) database.now setup.now s
+        → IfErr result (IsReportedByThreads (run_model (R.route_of router.now) (typed_plan plan.now) database.now s) (whole_plan (typed_plan plan.now))) }
+{
+    run_threads_within(rt, alloc, plan, database, setup, router, gate, MOST_WORKERS)
+}
