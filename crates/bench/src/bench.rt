@@ -14,8 +14,9 @@ pub struct Bench {
     pub with_times: bool,
 }
 
-/// The times of a subject in nanoseconds, as far as they are there: serial, run by 1, 4 and 64 workers, and by hand.
-pub type Times = [Option<u64>; 5];
+/// The times of a subject in nanoseconds, as far as they are there: serial; run by teams of 1, 4 and 64 workers in turns; by
+/// teams of 1 and 4 threads; and by hand.
+pub type Times = [Option<u64>; 7];
 
 /// The nanoseconds since a time.
 pub fn nanos_since<R: Clock>(rt: &R, start: Instant) -> Result<u64, Error> {
@@ -72,7 +73,7 @@ impl Bench {
     pub fn show_head<R: Print>(self, rt: &R) -> Result<(), Error> {
         if self.with_times {
             println!(rt;
-                "subject                      rows   serial    run 1    run 4   run 64  by hand serial/hand  1/serial     64/1"
+                "subject                      rows   serial    run 1    run 4   run 64 threads 1 threads 4  by hand serial/hand   1/serial        64/1 threads 4/1"
             )?;
         }
         Ok(())
@@ -96,8 +97,13 @@ impl Bench {
             let cell = per_row(self.alloc, nanos, rows)?;
             print!(rt; " {:>8}", cell.as_str())?;
         }
-        let [serial, one, _, many, by_hand] = times;
-        for (nanos, other) in [(serial, by_hand), (one, serial), (many, one)] {
+        let [serial, one, _, many, one_thread, four_threads, by_hand] = times;
+        for (nanos, other) in [
+            (serial, by_hand),
+            (one, serial),
+            (many, one),
+            (four_threads, one_thread),
+        ] {
             let cell = ratio(self.alloc, nanos, other)?;
             print!(rt; " {:>11}", cell.as_str())?;
         }

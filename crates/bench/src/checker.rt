@@ -98,7 +98,7 @@ impl Bench {
             rt,
             "check a plan, by node",
             NODES,
-            [nanos, None, None, None, None],
+            [nanos, None, None, None, None, None, None],
             found,
         )
     }

@@ -111,7 +111,7 @@ impl Bench {
         let found = format!(in self.alloc;
             "{numbers} numbers drawn once by one thread and by four"
         )?;
-        let times = [None, one, four, None, None];
+        let times = [None, None, None, None, one, four, None];
         self.show(rt, "deck, 1 and 4 threads", numbers, times, found.as_str())
     }
 }

@@ -1,5 +1,6 @@
 //! Times over the relations of `vx_wisconsin`, as one table: generating and loading one, tests of its keys, queries by the
-//! serial evaluation, by 1, 4 and 64 workers in rounds and by hand over plain columns, the checker, a ring and a deck.
+//! serial evaluation, by 1, 4 and 64 workers in rounds, by 1 and 4 in threads and by hand over plain columns, the checker, a
+//! ring and a deck.
 //!
 //! Its argument is the number of rows of the two largest relations, 1,000,000 where none is said. With the argument
 //! `agree` it shows no times, but what is the same in each run. It fails where two ways give different rows, a

@@ -1,4 +1,4 @@
-//! Queries over the relations: serial, by workers in rounds, and by hand.
+//! Queries over the relations: serial, by workers in rounds and in threads, and by hand.
 
 use crate::bench::{Bench, Times, least, nanos_since};
 use crate::by_hand::Answer;
@@ -7,11 +7,14 @@ use crate::digest::Digest;
 use anyhow::{Error, bail};
 use std::alloc::{AllocError, Global};
 use std::rt::Clock;
+use std::sync::Wait;
+use std::thread::Threads;
 use std::time::Instant;
 use vx_catalog::Database;
 use vx_check::{CheckedPlan, check};
 use vx_exchange::ByteRouter;
 use vx_exec::{Ran, Setup, run_rounds};
+use vx_parallel::{Free, run_threads};
 use vx_plan::{Plan, TypedPlan, erase, resolve};
 use vx_serial::eval;
 use vx_wisconsin::plan;
@@ -30,6 +33,7 @@ enum Subject {
 enum Way {
     Serial,
     Workers(u32),
+    Threads(u32),
     ByHand,
 }
 
@@ -95,6 +99,12 @@ impl Subject {
     }
 }
 
+// Teams of so many workers. Packets, morsels and slack are as they are by default.
+fn setup_of(alloc: Global, workers: u32) -> Result<Setup, AllocError> {
+    let sizes = vec![in alloc; (String::from_str(alloc, "many")?, workers)]?;
+    Ok(Setup::new(sizes, 256, 1024, 8))
+}
+
 // The plan of a subject, which the checker accepts.
 fn plan_of(alloc: Global, database: &Database, subject: Subject) -> Result<CheckedPlan, Error> {
     let text = subject.text(alloc)?;
@@ -114,9 +124,7 @@ impl<'t> Query<'t> {
     }
 
     fn by_workers<R: Clock>(&self, rt: &R, alloc: Global, workers: u32) -> Result<Outcome, Error> {
-        // Packets, morsels and slack are as they are by default.
-        let sizes = vec![in alloc; (String::from_str(alloc, "many")?, workers)]?;
-        let setup = Setup::new(sizes, 256, 1024, 8);
+        let setup = setup_of(alloc, workers)?;
         let start = Instant::now(rt)?;
         match run_rounds(
             alloc,
@@ -134,6 +142,31 @@ impl<'t> Query<'t> {
         }
     }
 
+    fn by_threads<R: Clock + Threads + Wait + Sync>(
+        &self,
+        rt: &R,
+        alloc: Global,
+        workers: u32,
+    ) -> Result<Outcome, Error> {
+        let setup = setup_of(alloc, workers)?;
+        let start = Instant::now(rt)?;
+        match run_threads(
+            rt,
+            alloc,
+            &self.plan,
+            self.database,
+            &setup,
+            &ByteRouter,
+            &Free,
+        )? {
+            Ran::Done(rows) => {
+                let nanos = nanos_since(rt, start)?;
+                Ok((Digest::of(&rows.gathered(alloc)?), nanos))
+            }
+            Ran::Unfinished => bail!("a run does not end"),
+        }
+    }
+
     fn by_hand<R: Clock>(&self, rt: &R, alloc: Global) -> Result<Outcome, Error> {
         let start = Instant::now(rt)?;
         let answer = self.subject.answer(self.columns)?;
@@ -141,10 +174,16 @@ impl<'t> Query<'t> {
         Ok((answer.digest(self.database), nanos))
     }
 
-    fn once<R: Clock>(&self, rt: &R, alloc: Global, way: Way) -> Result<Outcome, Error> {
+    fn once<R: Clock + Threads + Wait + Sync>(
+        &self,
+        rt: &R,
+        alloc: Global,
+        way: Way,
+    ) -> Result<Outcome, Error> {
         match way {
             Way::Serial => self.by_serial(rt, alloc),
             Way::Workers(workers) => self.by_workers(rt, alloc, workers),
+            Way::Threads(workers) => self.by_threads(rt, alloc, workers),
             Way::ByHand => self.by_hand(rt, alloc),
         }
     }
@@ -152,7 +191,7 @@ impl<'t> Query<'t> {
 
 impl Bench {
     // The least time of a way to answer a query, which has to give these rows.
-    fn time<R: Clock>(
+    fn time<R: Clock + Threads + Wait + Sync>(
         self,
         rt: &R,
         query: &Query<'_>,
@@ -172,19 +211,26 @@ impl Bench {
     }
 
     // The times of each way to answer a query, which has to give these rows.
-    fn times<R: Clock>(self, rt: &R, query: &Query<'_>, wanted: Digest) -> Result<Times, Error> {
+    fn times<R: Clock + Threads + Wait + Sync>(
+        self,
+        rt: &R,
+        query: &Query<'_>,
+        wanted: Digest,
+    ) -> Result<Times, Error> {
         let many = query.subject.largest_team();
         Ok([
             self.time(rt, query, Way::Serial, wanted)?,
             self.time(rt, query, Way::Workers(1), wanted)?,
             self.time(rt, query, Way::Workers(4), wanted)?,
             self.time(rt, query, Way::Workers(many), wanted)?,
+            self.time(rt, query, Way::Threads(1), wanted)?,
+            self.time(rt, query, Way::Threads(4), wanted)?,
             self.time(rt, query, Way::ByHand, wanted)?,
         ])
     }
 
     // Answers a query each way, and shows what all gave.
-    fn measure_query<R: Print + Clock>(
+    fn measure_query<R: Print + Clock + Threads + Wait + Sync>(
         self,
         rt: &R,
         database: &Database,
@@ -203,7 +249,7 @@ impl Bench {
         let times = self.times(rt, &query, wanted)?;
         let name = subject.name(self.alloc)?;
         let found = format!(in self.alloc;
-            "{} rows by serial, by run with 1, 4 and {} workers, and by hand",
+            "{} rows by serial, by run with 1, 4 and {} workers, by teams of 1 and 4 threads, and by hand",
             wanted.rows(),
             subject.largest_team()
         )?;
@@ -218,7 +264,7 @@ impl Bench {
 
     /// Selections of a hundredth and of all of tenk1, and the queries of the benchmark. It fails where one way gives other
     /// rows.
-    pub fn measure_queries<R: Print + Clock>(
+    pub fn measure_queries<R: Print + Clock + Threads + Wait + Sync>(
         self,
         rt: &R,
         database: &Database,

@@ -70,7 +70,8 @@ impl Bench {
     fn load_largest<R: Print + Clock>(self, rt: &R, database: &mut Database) -> Result<(), Error> {
         let start = Instant::now(rt)?;
         let text = text_of(self.alloc, self.rows)?;
-        let generating = [Some(nanos_since(rt, start)?), None, None, None, None];
+        let took = nanos_since(rt, start)?;
+        let generating = [Some(took), None, None, None, None, None, None];
         let found = format!(in self.alloc; "{} bytes", text.len())?;
         self.show(rt, "generate tenk1", self.rows, generating, found.as_str())?;
         let first = fill(rt, self.alloc, database, TENK1, text.as_slice())?;
@@ -79,7 +80,8 @@ impl Bench {
         let records = count_records(self.alloc, text.as_slice())?;
         let reading = nanos_since(rt, start)?;
         let found = format!(in self.alloc; "{records} records by csv alone")?;
-        let loading = [Some(first.min(second)), None, None, None, Some(reading)];
+        let least = first.min(second);
+        let loading = [Some(least), None, None, None, None, None, Some(reading)];
         self.show(rt, "load tenk1", self.rows, loading, found.as_str())
     }
 
@@ -113,7 +115,7 @@ impl Bench {
             }
             nanos = least(nanos, nanos_since(rt, start)?);
         }
-        let times = [nanos, None, None, None, None];
+        let times = [nanos, None, None, None, None, None, None];
         self.show(rt, name, self.rows, times, "holds")
     }
 }

@@ -213,7 +213,7 @@ impl Bench {
         let one = self.least_pass(rt, &base, count, Ends::InOneThread)?;
         let two = self.least_pass(rt, &base, count, Ends::InTwoThreads)?;
         let found = format!(in self.alloc; "{count} packets in order by one thread and by two")?;
-        let times = [one, two, None, None, None];
+        let times = [one, None, None, None, two, None, None];
         self.show(
             rt,
             "ring, 2 threads",

@@ -16,7 +16,7 @@ const CATALOG: &str =
 const PLAN: &str =
     r#"{"sizes":["many"],"root":{"op":"exchange","kind":"gather","claim":{"part":"one"},"input":{"op":"select","where":[{"column":"v","op":"=","value":7}],"input":{"op":"scan","relation":"t","mode":"shared","size":"many"}}}}"#;
 
-// A gather that merges, which workers do not run so far, of a relation that no catalog has.
+// A gather that merges, of a relation that no catalog has.
 const MERGED: &str =
     r#"{"sizes":["many"],"root":{"op":"exchange","kind":"gather","merge":["id"],"input":{"op":"scan","relation":"u","mode":"shared","size":"many"}}}"#;
 
@@ -254,7 +254,7 @@ fn sizes_are_names_with_numbers(rt: HostRuntime) -> Result<(), Fail> {
         let line = run_with(&rt, "p.json", &["a=1", argument])?;
         assert_eq!(rt;
             line.as_str(),
-            "|volcano: a mode is `rounds`, and a size is NAME=N with a number of workers; see volcano run --help\n|2",
+            "|volcano: a mode is `rounds` or `threads`, and a size is NAME=N with a number of workers; see volcano run --help\n|2",
             "{argument}"
         );
     }
@@ -264,13 +264,18 @@ fn sizes_are_names_with_numbers(rt: HostRuntime) -> Result<(), Fail> {
 }
 
 #[test]
-fn modes_are_rounds(rt: HostRuntime) -> Result<(), Fail> {
+fn modes_are_rounds_and_threads(rt: HostRuntime) -> Result<(), Fail> {
     let line = run_with(&rt, "p.json", &["--mode", "rounds", "many=3"])?;
     assert_eq!(rt; line.as_str(), "id,k,v\n1,b,7\n3,c,7\n||0");
-    for mode in ["threads", "Rounds"] {
+    let line = run_with(&rt, "p.json", &["--mode", "threads", "many=3"])?;
+    let first_is_lower = line.as_str() == "id,k,v\n1,b,7\n3,c,7\n||0";
+    let first_is_higher = line.as_str() == "id,k,v\n3,c,7\n1,b,7\n||0";
+    assert!(rt; first_is_lower || first_is_higher, "{line}");
+    for mode in ["turns", "Rounds"] {
         let line = run_with(&rt, "p.json", &["--mode", mode, "many=3"])?;
         assert!(rt;
-            line.as_str().starts_with("|volcano: a mode is `rounds`"),
+            line.as_str()
+                .starts_with("|volcano: a mode is `rounds` or `threads`"),
             "{line}"
         );
         assert!(rt; line.as_str().ends_with("|2"), "{line}");

@@ -74,12 +74,20 @@ fn other_forms_are_refused(rt: HostRuntime) -> Result<(), Fail> {
         (r#""many":3"#, r#""many":"3""#),
         (r#""tables":{"#, r#""tables":{"u":1,"#),
         (r#""sizes":{"many":3}"#, r#""sizes":[]"#),
-        (r#""mode":"rounds""#, r#""mode":"threads""#),
         ("{", "["),
     ] {
         let line = line_with(&rt, from, to)?;
         assert_eq!(rt; line.as_str(), "|volcano: V1 BadBundle\n|3", "at {from}");
     }
+    Ok(())
+}
+
+#[test]
+fn a_bundle_runs_by_threads(rt: HostRuntime) -> Result<(), Fail> {
+    let line = line_with(&rt, r#""mode":"rounds""#, r#""mode":"threads""#)?;
+    let first_is_lower = line.as_str() == "id,k,v\n1,b,7\n3,c,7\n||0";
+    let first_is_higher = line.as_str() == "id,k,v\n3,c,7\n1,b,7\n||0";
+    assert!(rt; first_is_lower || first_is_higher, "{line}");
     Ok(())
 }
 

@@ -39,7 +39,7 @@ const JOIN_GATHERED: Root = Root {
     is_total: true,
 };
 
-// The same with a gather that merges, which workers do not run so far.
+// The same with a gather that merges.
 const JOIN_MERGED: Root = Root {
     text: r#"{"op":"join","method":"merge","on":[["k","d.k"]],"claim":{"part":"one","order":["k","id"],"keys":[["id"]]},"left":{"op":"exchange","kind":"gather","merge":["k","id"],"claim":{"part":"one","order":["k","id"],"keys":[["id"]]},"input":{"op":"sort","columns":["k","id"],"claim":{"order":["k","id"],"keys":[["id"]]},"input":T_SHARED}},"right":{"op":"sort","columns":["d.k"],"claim":{"part":"one","order":["d.k"],"keys":[["d.k"]]},"input":D_WHOLE}}"#,
     is_total: true,

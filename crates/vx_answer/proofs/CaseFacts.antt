@@ -40,7 +40,7 @@ use Rattle.vx_refusals.specs.Status.{status_of}
 use Rattle.vx_tables.specs.Texts.{Missing, text_of, rows_from, holds_in, lacks_in, MissesBy, Misses, for_memory, for_no_text, for_bad_text}
 use Rattle.vx_answer.specs.Commands.{refusal_in, setup_of, RunRefuses, PlanRefuses, SerialRefuses, CommandRefuses, erased}
 use Rattle.vx_answer.specs.Commands as commands
-use Rattle.vx_answer.specs.Answer.{is_supported, IsBundlePlan, IsBundlePlanRefusal, Refuses}
+use Rattle.vx_answer.specs.Answer.{IsBundlePlan, IsBundlePlanRefusal, Refuses}
 use Rattle.vx_answer.specs.Planning.{plan_from}
 use Rattle.vx_answer.specs.Planning as planning
 use Rattle.vx_answer.specs.Answer as answer
@@ -55,9 +55,6 @@ none_some o x none some = cc
 
 ok_err : {A E : Type 0} (r : Result A E) (x : A) (e : E) → r ≡ Ok x → r ≡ Err e → ⊥
 ok_err r x e ok err = cc
-
-true_false : (b : Bool) → b ≡ true → b ≡ false → ⊥
-true_false b t f = cc
 
 -- a catalog that reads has no fault but that memory ran out
 catalog_reads : {Y : Type 0} (e : Refusal) (fault : CatalogFault) (read : Result Y catalog.Refusal) (y : Y) → read ≡ Ok y → e ≡ refusal.Catalog fault → catalog.Fails fault read → status_of e ≡ 3 → ⊥
@@ -152,7 +149,8 @@ run_fails p db s fault e same is (runs.for_setup c (inr err)) three = (fault, is
 run_fails p db s fault e same is (runs.for_fault sizes set h) three = absurd (run_ends p db fault e is h three)
 
 run_refuses : (b : Bundle) (p : TypedPlanView) (db : Database) (e : Refusal) → db.catalog ≡ p.names.catalog → RunRefuses p db b.setting e → status_of e ≡ 3 → IsOfSetup e
-run_refuses b p db e same (commands.for_rounds s set is) three = absurd (not_three e refusal.Unfinished is refl three)
+run_refuses b p db e same (commands.for_rounds in_rounds s set is) three = absurd (not_three e refusal.Unfinished is refl three)
+run_refuses b p db e same (commands.for_threads in_threads s set is) three = absurd (not_three e (refusal.Run run.NoThread) is refl three)
 run_refuses b p db e same (commands.run_memory is) three = absurd (not_three e refusal.NoMemory is refl three)
 run_refuses b p db e same (commands.for_fault fault is h) three = run_fails p db (setup_of b.setting) fault e same is h three
 
@@ -215,7 +213,6 @@ has_plan b p e x (planning.for_plan relations fault is declared h) three =
 
 pub case_is_refused_by_setup : (b : Bundle) (p : TypedPlanView) (e : Refusal) → IsCase b p → Refuses b e → status_of e ≡ 3 → IsOfSetup e
 case_is_refused_by_setup b p e case (answer.bundle_memory is) three = absurd (not_three e refusal.NoMemory is refl three)
-case_is_refused_by_setup b p e case (answer.for_command is unsupported) three = absurd (true_false (is_supported b.command b.setting.mode) case.supported unsupported)
 case_is_refused_by_setup b p e case (answer.for_planning h) three = absurd (has_plan b p e case.planned h three)
 case_is_refused_by_setup b p e case (answer.for_plan_of q planned h) three =
     let P : TypedPlanView → Type 0 = λ q. CommandRefuses b.command q (holds_in b.tables) (lacks_in b.tables) b.setting e in

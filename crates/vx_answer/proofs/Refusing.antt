@@ -1,15 +1,23 @@
 -- From one step's refusal to the refusal of the whole.
-use Rattle.std.proofs.Common.{arith, ◌≡◌, ◌≢◌, ◌⊎◌, inl, inr, ◌∙◌, ℕ, List, Bool, Option, Result, Ok, Err, refl, sym}
+use Rattle.std.proofs.Common.{arith, ◌≡◌, ◌≢◌, ◌⊎◌, inl, inr, ◌∙◌, ℕ, List, Bool, Option, Result, Ok, Err, refl, sym, ap, subst}
 use Rattle.std.specs.Prelude.{IfOk, IfErr}
 use Rattle.vx_catalog.specs.Database.{Database}
 use Rattle.vx_plan_nodes.specs.Names.{TypedPlanView}
 use Rattle.vx_bundle.specs.declared.command.Command.TheVariants as command
 use Rattle.vx_refusals.specs.declared.refusal.Refusal.{Refusal}
+use Rattle.vx_refusals.specs.declared.refusal.Refusal.TheVariants as refusal
+use Rattle.vx_setup.specs.declared.fault.RunFault.{RunFault}
+use Rattle.vx_bundle.specs.declared.setting.Mode.{Mode}
+use Rattle.vx_bundle.specs.declared.setting.Mode.TheVariants as mode
+use Rattle.vx_parallel.specs.Parallel.{ThreadsFail, IsWhole}
+use Rattle.vx_exec.specs.declared.ran.Ran.{Ran}
+use Rattle.vx_exec.specs.declared.ran.Ran.TheVariants as ran
+use Rattle.vx_parallel.specs.Parallel as fails
 use Rattle.vx_bundle.specs.Bundle.{Bundle}
 use Rattle.vx_bundle.specs.Setting.{Setting}
 use Rattle.vx_refusals.specs.Status.{status_of}
 use Rattle.vx_tables.specs.Texts.{holds_in, lacks_in}
-use Rattle.vx_answer.specs.Commands.{Holding, Lacking, IsShown, IsDatabaseFor, RunRefuses, PlanRefuses, for_run, SerialRefuses, CommandRefuses, for_rest, for_serial}
+use Rattle.vx_answer.specs.Commands.{Holding, Lacking, IsShown, IsDatabaseFor, RunRefuses, PlanRefuses, for_run, for_fault, for_threads, setup_of, SerialRefuses, CommandRefuses, for_rest, for_serial}
 use Rattle.vx_answer.specs.Answer.{IsBundlePlan, Refuses, for_plan_of, RefusedWith, IsRefusedBy}
 
 pub run_refused : {T : Type 0} (r : Result T Refusal) (p : TypedPlanView) (holds : Holding) (lacks : Lacking) (s : Setting) (db : Database)
@@ -47,3 +55,19 @@ pub failed_by : {T : Type 0} (X Y : Type 0) (known : Option (List ℕ)) (failed 
     → n ≡ 4 → X ⊎ IsRefusedBy 4 known failed
 failed_by X Y known failed (Ok x) n written refused h four = inl (written (λ z. absurd (omega (arith, z, four)))).1
 failed_by X Y known failed (Err e) n written refused h four = inr (e, sym refused.0 ∙ four, h)
+
+-- why a plan that ran by threads gives no rows
+pub threads_refused : (p : TypedPlanView) (db : Database) (s : Setting) (f : RunFault) → s.mode ≡ mode.Threads → ThreadsFail p db (setup_of s) f → RunRefuses p db s (refusal.Run f)
+threads_refused p db s f threads (fails.for_run h) = for_fault f refl h
+threads_refused p db s f threads (fails.for_thread sizes set is) = for_threads threads sizes set (ap refusal.Run is)
+
+-- what no run by threads comes to was come to in rounds
+pub in_rounds : (m : Mode) → (m ≡ mode.Threads → ⊥) → m ≡ mode.Rounds
+in_rounds mode.Rounds h = refl
+in_rounds mode.Threads h = absurd (h refl)
+
+-- a result that every worker has ended is not that one has not
+pub not_whole : (r : Result Ran Refusal) (x : Ran) → r ≡ Ok x → x ≡ ran.Unfinished → IfOk r IsWhole → ⊥
+not_whole r x e u h =
+    let whole : IsWhole x = subst (λ (z : Result Ran Refusal). IfOk z IsWhole) e h in
+    subst (λ (z : Ran). IsWhole z) u whole

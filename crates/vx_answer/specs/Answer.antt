@@ -4,10 +4,6 @@ use Rattle.vx_relations.specs.Naming.{catalog_of}
 use Rattle.vx_plan_nodes.specs.Names.{TypedPlanView}
 use Rattle.vx_plan_json.specs.Reading.{document_in}
 use Rattle.vx_bundle.specs.Bundle.{Bundle, bundle_of_text}
-use Rattle.vx_bundle.specs.declared.command.Command.{Command}
-use Rattle.vx_bundle.specs.declared.command.Command.TheVariants as command
-use Rattle.vx_bundle.specs.declared.setting.Mode.{Mode}
-use Rattle.vx_bundle.specs.declared.setting.Mode.TheVariants as mode
 use Rattle.vx_refusals.specs.declared.refusal.Refusal.{Refusal}
 use Rattle.vx_refusals.specs.declared.refusal.Refusal.TheVariants as refusal
 use Rattle.vx_refusals.specs.Status.{status_of}
@@ -24,22 +20,13 @@ IsBundlePlan b p = IsPlanned (exactly (catalog_of b.catalog)) (exactly (document
 abbrev pub IsBundlePlanRefusal : Bundle → Refusal → Type 0
 IsBundlePlanRefusal b e = IsPlanRefusal (exactly (catalog_of b.catalog)) (exactly (document_in b.plan)) e
 
--- what the program does so far: runs in rounds, serial evaluations, the checker's answer, and its text on a plan
-abbrev pub is_supported : Command → Mode → Bool
-is_supported command.Run mode.Rounds = true
-is_supported command.Run mode.Threads = false
-is_supported command.Serial m = true
-is_supported command.Check m = true
-is_supported command.Explain m = true
-
 -- the text answers this bundle: it is what its command asks for of its plan over its texts
 abbrev pub IsOutput : Bundle → List ℕ → Type 0
 IsOutput b text = (p : TypedPlanView) × IsBundlePlan b p × IsResultOf b.command p (holds_in b.tables) b.setting text
 
--- the first reason why this bundle has no answer: its command, its plan, or what the command makes of that; out of memory may come anywhere
+-- the first reason why this bundle has no answer: its plan, or what the command makes of that; out of memory may come anywhere
 pub data Refuses (b : Bundle) (e : Refusal) : Type 0 where
   bundle_memory : e ≡ refusal.NoMemory → Refuses b e
-  for_command : e ≡ refusal.BadBundle → is_supported b.command b.setting.mode ≡ false → Refuses b e
   for_planning : IsBundlePlanRefusal b e → Refuses b e
   for_plan_of : (p : TypedPlanView) → IsBundlePlan b p → CommandRefuses b.command p (holds_in b.tables) (lacks_in b.tables) b.setting e → Refuses b e
 

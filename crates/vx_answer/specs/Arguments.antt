@@ -35,9 +35,9 @@ AreSizes (argument ∷ arguments) (size ∷ sizes) = IsSize argument size × Are
 abbrev pub HasNoSize : List (List ℕ) → Type 0
 HasNoSize arguments = (i : ℕ) × (i < length arguments) × IsNoSize (slice_index_or arguments i [])
 
--- the mode that a text names, if workers run in it so far
+-- the mode that a text names, if it names one
 abbrev pub mode_named : List ℕ → Option Mode
-mode_named text = if bytes_eq text (codes "rounds") then Some mode.Rounds else None
+mode_named text = if bytes_eq text (codes "rounds") then Some mode.Rounds else if bytes_eq text (codes "threads") then Some mode.Threads else None
 
 -- what arguments say of a run
 pub record IsSetting (limits : Given) (s : Setting) : Type 0 where

@@ -1,4 +1,4 @@
--- A case: a bundle that the program does, whose catalog and plan read and resolve, whose plan the checker accepts, and whose tables load. And what status 3 says of one.
+-- A case: a bundle whose catalog and plan read and resolve, whose plan the checker accepts, and whose tables load. And what status 3 says of one.
 use Rattle.std.specs.Prelude.{◌≡◌, ℕ, ◌<◌, List, length, Bool, true, false}
 use Rattle.vx_values.specs.Values.{Row}
 use Rattle.vx_relations.specs.Catalog.{relation_at}
@@ -13,10 +13,9 @@ use Rattle.vx_tables.specs.Filled.{scans}
 use Rattle.vx_refusals.specs.Status.{status_of}
 use Rattle.vx_tables.specs.Texts.{holds_in}
 use Rattle.vx_answer.specs.Commands.{IsShown}
-use Rattle.vx_answer.specs.Answer.{is_supported, IsBundlePlan, Refuses}
+use Rattle.vx_answer.specs.Answer.{IsBundlePlan, Refuses}
 
 pub record IsCase (b : Bundle) (p : TypedPlanView) : Type 0 where
-  pub supported : is_supported b.command b.setting.mode ≡ true
   pub planned : IsBundlePlan b p
   pub shown : IsShown p
   pub loaded : (i : ℕ) → i < length p.names.catalog → scans (plan_in p.root) i ≡ true → (rows : List Row) × holds_in b.tables (relation_at p.names.catalog i) rows

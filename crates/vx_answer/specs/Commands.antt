@@ -19,6 +19,8 @@ use Rattle.vx_exec.specs.Runs.{IsRunOf, IsSetUp, RunFails}
 use Rattle.vx_setup.specs.declared.fault.RunFault.{RunFault}
 use Rattle.vx_serial.specs.Results.{IsSerialOf, EvalFails}
 use Rattle.vx_serial.specs.declared.fault.EvalFault.{EvalFault}
+use Rattle.vx_setup.specs.declared.fault.RunFault.TheVariants as run_fault
+use Rattle.vx_bundle.specs.declared.setting.Mode.TheVariants as mode
 use Rattle.vx_bundle.specs.declared.command.Command.{Command}
 use Rattle.vx_bundle.specs.declared.command.Command.TheVariants as command
 use Rattle.vx_refusals.specs.declared.refusal.Refusal.{Refusal}
@@ -48,9 +50,11 @@ abbrev pub IsRunOver : TypedPlanView → Database → Setting → List ℕ → T
 IsRunOver p db setting text =
     (rows : RowsView) × (s : Sizes) × IsSetUp p db (setup_of setting) s × IsRunOf byte_route p db s.groups rows × (text ≡ csv_text (columns p.root).names rows.rows)
 
--- why a run of this plan over this database gives no text: it was set up rightly and its rounds were over, memory ran out, or it failed
+-- why a run of this plan over this database gives no text: it was set up rightly and its rounds were over or its threads were not started, memory ran out,
+-- or it failed
 pub data RunRefuses (p : TypedPlanView) (db : Database) (setting : Setting) (e : Refusal) : Type 0 where
-  for_rounds : (s : Sizes) → IsSetUp p db (setup_of setting) s → e ≡ refusal.Unfinished → RunRefuses p db setting e
+  for_rounds : setting.mode ≡ mode.Rounds → (s : Sizes) → IsSetUp p db (setup_of setting) s → e ≡ refusal.Unfinished → RunRefuses p db setting e
+  for_threads : setting.mode ≡ mode.Threads → (s : Sizes) → IsSetUp p db (setup_of setting) s → e ≡ refusal.Run run_fault.NoThread → RunRefuses p db setting e
   run_memory : e ≡ refusal.NoMemory → RunRefuses p db setting e
   for_fault : (fault : RunFault) → e ≡ refusal.Run fault → RunFails p db (setup_of setting) fault → RunRefuses p db setting e
 

@@ -16,14 +16,14 @@ fn number_in(text: &str) -> Option<u32>
     text.parse::<u32>().ok()
 }
 
-// The mode of a name, if workers run in it so far.
+// The mode of a name, if it is one.
 fn mode_named(text: &str) -> Option<Mode>
     ensures { result ≡ mode_named text.now }
 {
-    if text == "rounds" {
-        Some(Mode::Rounds)
-    } else {
-        None
+    match text {
+        "rounds" => Some(Mode::Rounds),
+        "threads" => Some(Mode::Threads),
+        _ => None,
     }
 }
 

@@ -3,11 +3,13 @@
 ghost use Rattle.std.specs.Prelude.{◌≡◌, IfOk, IfErr};
 ghost use Rattle.vx_bundle.specs.BundleView.{bundle_form};
 ghost use Rattle.vx_plan_nodes.specs.TypedView.{resolved_of};
-ghost use Rattle.vx_answer.specs.Answer.{IsBundlePlan, IsBundlePlanRefusal, is_supported, IsOutput, Refuses, IsAnswer, IsRefused};
+ghost use Rattle.vx_answer.specs.Answer.{IsBundlePlan, IsBundlePlanRefusal, IsOutput, Refuses, IsAnswer, IsRefused};
 
 use crate::command::execute;
 use std::alloc::Global;
-use vx_bundle::{Bundle, Command, Mode, bundle_in, value_of_text};
+use std::sync::Wait;
+use std::thread::Threads;
+use vx_bundle::{Bundle, bundle_in, value_of_text};
 use vx_catalog::Catalog;
 use vx_plan::{Plan, TypedPlan, resolve};
 use vx_refusals::Refusal;
@@ -22,32 +24,25 @@ fn plan_from_bundle(alloc: Global, bundle: &Bundle<'_>) -> Result<TypedPlan, Ref
     Ok(resolve(alloc, &plan, &catalog)?)
 }
 
-// Whether the program runs a command in this mode so far.
-fn is_supported(command: Command, mode: Mode) -> bool
-    ensures { result ≡ is_supported command mode }
-{
-    match (command, mode) {
-        (Command::Run, Mode::Rounds) | (Command::Serial | Command::Check | Command::Explain, _) => {
-            true
-        }
-        (Command::Run, Mode::Threads) => false,
-    }
-}
-
 // The text that answers a bundle.
-fn answer_bundle(alloc: Global, bundle: &Bundle<'_>) -> Result<Vec<u8>, Refusal>
+fn answer_bundle<T: Threads + Wait + Sync>(
+    rt: &T,
+    alloc: Global,
+    bundle: &Bundle<'_>,
+) -> Result<Vec<u8>, Refusal>
     ensures text { IfOk result (λ text. IsOutput (bundle_form bundle.now) text.items) }
     ensures refused { IfErr result (λ e. Refuses (bundle_form bundle.now) e) }
 {
-    if !is_supported(bundle.command(), bundle.setting().mode()) {
-        return Err(Refusal::BadBundle);
-    }
     let plan = plan_from_bundle(alloc, bundle)?;
-    execute(alloc, bundle.command(), bundle, bundle.setting(), plan)
+    execute(rt, alloc, bundle.command(), bundle, bundle.setting(), plan)
 }
 
 /// The text that answers a bundle's bytes, before a byte of it is written.
-pub fn answer_bytes(alloc: Global, bytes: &[u8]) -> Result<Vec<u8>, Refusal>
+pub fn answer_bytes<T: Threads + Wait + Sync>(
+    rt: &T,
+    alloc: Global,
+    bytes: &[u8],
+) -> Result<Vec<u8>, Refusal>
     ensures text { IfOk result (λ text. IsAnswer bytes.now text.items) }
     ensures refused { IfErr result (λ e. IsRefused bytes.now e) }
 {
@@ -57,5 +52,5 @@ pub fn answer_bytes(alloc: Global, bytes: &[u8]) -> Result<Vec<u8>, Refusal>
     let Some(bundle) = bundle_in(alloc, &value)? else {
         return Err(Refusal::BadBundle);
     };
-    answer_bundle(alloc, &bundle)
+    answer_bundle(rt, alloc, &bundle)
 }

@@ -8,6 +8,8 @@ ghost use Rattle.vx_answer.specs.Commands.{IsShown, IsNotShown, accepted_text, I
 use crate::run::run_plan;
 use crate::serial::serial_plan;
 use std::alloc::{AllocError, Global};
+use std::sync::Wait;
+use std::thread::Threads;
 use vx_bundle::{Command, Setting};
 use vx_check::{CheckedPlan, check, explain};
 use vx_plan::TypedPlan;
@@ -41,7 +43,8 @@ fn accepted(plan: TypedPlan) -> Result<CheckedPlan, Refusal>
 }
 
 /// The text that a command makes of a plan over tables.
-pub fn execute<T: Tables>(
+pub fn execute<R: Threads + Wait + Sync, T: Tables>(
+    rt: &R,
     alloc: Global,
     command: Command,
     tables: &T,
@@ -52,7 +55,7 @@ pub fn execute<T: Tables>(
     ensures refused { IfErr result (λ e. CommandRefuses command (resolved_of plan) (T.holds tables.now) (T.lacks tables.now) setting.now e) }
 {
     match command {
-        Command::Run => run_plan(alloc, tables, setting, &accepted(plan)?),
+        Command::Run => run_plan(rt, alloc, tables, setting, &accepted(plan)?),
         Command::Serial => serial_plan(alloc, tables, &plan),
         Command::Check => Ok(accepted_text(alloc, accepted(plan)?.is_total())?),
         Command::Explain => Ok(explain(alloc, &accepted(plan)?)?.into_bytes()),

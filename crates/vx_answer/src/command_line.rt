@@ -14,6 +14,8 @@ use crate::program::outcome_of;
 use clap::Error;
 use clap::error::ErrorKind;
 use std::alloc::{AllocError, Global};
+use std::sync::Wait;
+use std::thread::Threads;
 use vx_arguments::{Asked, Limits, Sources, asked_for};
 use vx_bundle::{Command, MORSEL, Mode, PACKET, SLACK, Setting};
 use vx_bytes::{ByteIn, Store};
@@ -151,7 +153,8 @@ fn job_in<'a>(alloc: Global, asked: &Asked<'a>) -> Result<Option<Job<'a>>, Alloc
 }
 
 // The text that answers a task.
-fn answer_task<F: Store, I: ByteIn>(
+fn answer_task<T: Threads + Wait + Sync, F: Store, I: ByteIn>(
+    rt: &T,
     alloc: Global,
     files: &F,
     input: &mut I,
@@ -165,7 +168,7 @@ fn answer_task<F: Store, I: ByteIn>(
         files,
         path: task.folder,
     };
-    execute(alloc, task.command, &folder, &task.setting, plan)
+    execute(rt, alloc, task.command, &folder, &task.setting, plan)
 }
 
 // The fault of wrong arguments, with the text that says how they are wrong.
@@ -179,7 +182,8 @@ fn usage_error(alloc: Global, text: &str) -> ArgumentFault
 }
 
 // What answers what arguments ask for.
-fn answer_asked<F: Store, I: ByteIn>(
+fn answer_asked<T: Threads + Wait + Sync, F: Store, I: ByteIn>(
+    rt: &T,
     alloc: Global,
     files: &F,
     input: &mut I,
@@ -189,15 +193,15 @@ fn answer_asked<F: Store, I: ByteIn>(
     ensures refused { IfErr result (IsAskFault (F.holds files.now) (F.is_reliable files.now) (I.remaining input.old) (I.has_failed input.new) (asked_is asked.now)) }
 {
     match job_in(alloc, asked)? {
-        Some(Job::Bundle) => Ok(ArgumentAnswer::Text(outcome_of(alloc, input)?)),
+        Some(Job::Bundle) => Ok(ArgumentAnswer::Text(outcome_of(rt, alloc, input)?)),
         Some(Job::Command(task)) => {
-            let text = answer_task(alloc, files, input, &task)?;
+            let text = answer_task(rt, alloc, files, input, &task)?;
             Ok(ArgumentAnswer::Text(text))
         }
         Some(Job::Relation(rows)) => Ok(ArgumentAnswer::Relation(rows)),
         None => Err(usage_error(
             alloc,
-            "volcano: a mode is `rounds`, and a size is NAME=N with a number of workers; see volcano run --help\n",
+            "volcano: a mode is `rounds` or `threads`, and a size is NAME=N with a number of workers; see volcano run --help\n",
         )),
     }
 }
@@ -230,7 +234,8 @@ fn help_or_fault(alloc: Global, error: &Error) -> Result<ArgumentAnswer, Argumen
 }
 
 /// What answers arguments.
-pub fn answer_arguments<F: Store, I: ByteIn>(
+pub fn answer_arguments<T: Threads + Wait + Sync, F: Store, I: ByteIn>(
+    rt: &T,
     alloc: Global,
     files: &F,
     input: &mut I,
@@ -241,7 +246,7 @@ pub fn answer_arguments<F: Store, I: ByteIn>(
 {
     let arguments = with_program_name(alloc, arguments)?;
     match asked_for(alloc, arguments.as_slice()) {
-        Ok(Some(asked)) => answer_asked(alloc, files, input, &asked),
+        Ok(Some(asked)) => answer_asked(rt, alloc, files, input, &asked),
         Ok(None) => Err(usage_error(alloc, "volcano: these words ask for nothing\n")),
         Err(error) => help_or_fault(alloc, &error),
     }

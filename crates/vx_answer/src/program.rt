@@ -22,12 +22,16 @@ use vx_wisconsin::{GenerateFault, generate};
 pub const MAX_BYTES: usize = 1 << 40;
 
 /// The text that answers the bundle of which an input has the bytes that are left.
-pub fn outcome_of<I: ByteIn>(alloc: Global, input: &mut I) -> Result<Vec<u8>, Refusal>
+pub fn outcome_of<T: Threads + Wait + Sync, I: ByteIn>(
+    rt: &T,
+    alloc: Global,
+    input: &mut I,
+) -> Result<Vec<u8>, Refusal>
     ensures text { IfOk result (λ text. IfSome (I.remaining input.old) (λ bytes. IsAnswer bytes text.items)) }
     ensures refused { IfErr result (λ e. RefusedWith (I.remaining input.old) (I.has_failed input.new) e) }
     ensures broken { I.has_failed input.new ≡ true → IsErrOf result Refusal.InputUnreadable }
 {
-    answer_bytes(alloc, input_bytes(alloc, input)?.as_slice())
+    answer_bytes(rt, alloc, input_bytes(alloc, input)?.as_slice())
 }
 
 // Reports a refusal on `err`. The status is that of the refusal.
@@ -67,7 +71,8 @@ pub fn deliver<O: ByteOut, E: ByteOut>(
 }
 
 /// Answers the bundle on `input`: writes the answer on `out`, or reports on `err` why there is none.
-pub fn reply<I: ByteIn, O: ByteOut, E: ByteOut>(
+pub fn reply<T: Threads + Wait + Sync, I: ByteIn, O: ByteOut, E: ByteOut>(
+    rt: &T,
     alloc: Global,
     input: &mut I,
     out: &mut O,
@@ -87,7 +92,7 @@ pub fn reply<I: ByteIn, O: ByteOut, E: ByteOut>(
     // Status 4 comes only for a write that failed, or where the machine or the run failed.
     ensures failed { result ≡ 4 → (O.has_failed out.new ≡ true) ⊎ IsRefusedBy 4 (I.remaining input.old) (I.has_failed input.new) }
 {
-    deliver(outcome_of(alloc, input), out, err)
+    deliver(outcome_of(rt, alloc, input), out, err)
 }
 
 // Writes the text of the relation with so many rows on `out` as it is made, or reports on `err` why not. All memory is taken
@@ -107,7 +112,8 @@ fn write_relation<O: ByteOut, E: ByteOut>(alloc: Global, rows: u64, out: &mut O,
 }
 
 // Answers arguments: writes the answer on `out`, or reports on `err` why there is none.
-fn reply_to_arguments<F: Store, I: ByteIn, O: ByteOut, E: ByteOut>(
+fn reply_to_arguments<T: Threads + Wait + Sync, F: Store, I: ByteIn, O: ByteOut, E: ByteOut>(
+    rt: &T,
     alloc: Global,
     arguments: &[&str],
     files: &F,
@@ -122,7 +128,7 @@ fn reply_to_arguments<F: Store, I: ByteIn, O: ByteOut, E: ByteOut>(
     ensures refused { result ≡ 3 → AreRefusedBy 3 (F.holds files.now) (F.is_reliable files.now) (I.remaining input.old) (I.has_failed input.new) (map (λ a. a.now) arguments.now) }
     ensures failed { result ≡ 4 → (O.has_failed out.new ≡ true) ⊎ AreRefusedBy 4 (F.holds files.now) (F.is_reliable files.now) (I.remaining input.old) (I.has_failed input.new) (map (λ a. a.now) arguments.now) }
 {
-    match answer_arguments(alloc, files, input, arguments) {
+    match answer_arguments(rt, alloc, files, input, arguments) {
         Ok(ArgumentAnswer::Text(text)) => deliver(Ok(text), out, err),
         Ok(ArgumentAnswer::Relation(rows)) => write_relation(alloc, rows, out, err),
         Err(ArgumentFault::Refused(refusal)) => deliver(Err(refusal), out, err),
@@ -140,7 +146,7 @@ fn reply_to_arguments<F: Store, I: ByteIn, O: ByteOut, E: ByteOut>(
 /// the run failed. All work ends before the first byte goes to `out`; the text of a relation alone is written as it is made,
 /// once all memory for it is there. A refusal is one line on `err`, and a write of it that fails changes nothing else.
 pub fn answer<T: Threads + Wait + Sync, F: Store, I: ByteIn, O: ByteOut, E: ByteOut>(
-    _rt: &T,
+    rt: &T,
     alloc: Global,
     arguments: &[&str],
     files: &F,
@@ -174,7 +180,7 @@ pub fn answer<T: Threads + Wait + Sync, F: Store, I: ByteIn, O: ByteOut, E: Byte
     ensures untouched { result ≡ 2 → out.new ≡ out.old }
 {
     if arguments.is_empty() {
-        return reply(alloc, input, out, err);
+        return reply(rt, alloc, input, out, err);
     }
-    reply_to_arguments(alloc, arguments, files, input, out, err)
+    reply_to_arguments(rt, alloc, arguments, files, input, out, err)
 }

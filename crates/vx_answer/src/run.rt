@@ -1,6 +1,11 @@
 //! Runs of plans over tables.
 
 ghost use Rattle.std.specs.Prelude.{◌≡◌, map, IfOk, IfErr};
+ghost use Rattle.vx_bundle.specs.declared.setting.Mode.TheVariants as mode;
+ghost use Rattle.vx_exchange.specs.ByteRouter.{byte_route};
+ghost use Rattle.vx_exec.specs.Sizes.{Sizes};
+ghost use Rattle.vx_exec.specs.Runs.{IfDone, IsRunOf, IsSetUp};
+ghost use Rattle.vx_parallel.specs.Parallel.{IsWhole};
 ghost use Rattle.vx_catalog.specs.Csv.{csv_text};
 ghost use Rattle.vx_plan_nodes.specs.Outline.{columns};
 ghost use Rattle.vx_plan_nodes.specs.TypedView.{resolved_of};
@@ -9,11 +14,14 @@ ghost use Rattle.vx_bundle.specs.Setting.{size_form};
 ghost use Rattle.vx_answer.specs.Commands.{IsRunOver, RunRefuses, IsRun, PlanRefuses, setup_of};
 
 use std::alloc::{AllocError, Global};
-use vx_bundle::Setting;
+use std::sync::Wait;
+use std::thread::Threads;
+use vx_bundle::{Mode, Setting};
 use vx_catalog::{Database, format_rows};
 use vx_check::CheckedPlan;
 use vx_exchange::ByteRouter;
 use vx_exec::{Ran, Setup, run_rounds};
+use vx_parallel::{Free, run_threads};
 use vx_plan::TypedPlan;
 use vx_refusals::Refusal;
 use vx_tables::{Tables, load_tables};
@@ -49,8 +57,36 @@ pub fn text_of(alloc: Global, plan: &TypedPlan, rows: &Rows) -> Result<Vec<u8>, 
     format_rows(alloc, names, rows)
 }
 
-// The text of a run of a plan over a database in rounds.
-fn run_over(
+// What a run of a plan over a database comes to, in the mode that the setting says.
+fn ran_over<T: Threads + Wait + Sync>(
+    rt: &T,
+    alloc: Global,
+    setting: &Setting,
+    plan: &CheckedPlan,
+    database: &Database,
+) -> Result<Ran, Refusal>
+    ensures done { IfOk result (IfDone (λ rows. (s : Sizes) × IsSetUp (resolved_of (typed_plan plan.now)) database.now (setup_of setting.now) s
+        × IsRunOf byte_route (resolved_of (typed_plan plan.now)) database.now s.groups rows)) }
+    ensures set { IfOk result (λ _. (s : Sizes) × IsSetUp (resolved_of (typed_plan plan.now)) database.now (setup_of setting.now) s) }
+    ensures whole { setting.now.mode ≡ mode.Threads → IfOk result IsWhole }
+    ensures refused { IfErr result (λ e. RunRefuses (resolved_of (typed_plan plan.now)) database.now setting.now e) }
+{
+    let setup = setup_of(alloc, setting)?;
+    match setting.mode() {
+        Mode::Rounds => {
+            let ran = run_rounds(alloc, plan, database, &setup, &ByteRouter, MAX_ROUNDS)?;
+            Ok(ran)
+        }
+        Mode::Threads => {
+            let ran = run_threads(rt, alloc, plan, database, &setup, &ByteRouter, &Free)?;
+            Ok(ran)
+        }
+    }
+}
+
+// The text of a run of a plan over a database.
+fn run_over<T: Threads + Wait + Sync>(
+    rt: &T,
     alloc: Global,
     setting: &Setting,
     plan: &CheckedPlan,
@@ -59,15 +95,15 @@ fn run_over(
     ensures text { IfOk result (λ text. IsRunOver (resolved_of (typed_plan plan.now)) database.now setting.now text.items) }
     ensures refused { IfErr result (λ e. RunRefuses (resolved_of (typed_plan plan.now)) database.now setting.now e) }
 {
-    let setup = setup_of(alloc, setting)?;
-    match run_rounds(alloc, plan, database, &setup, &ByteRouter, MAX_ROUNDS)? {
+    match ran_over(rt, alloc, setting, plan, database)? {
         Ran::Done(rows) => Ok(text_of(alloc, plan.plan(), &rows)?),
         Ran::Unfinished => Err(Refusal::Unfinished),
     }
 }
 
 /// The text of a run of a plan over tables.
-pub fn run_plan<T: Tables>(
+pub fn run_plan<R: Threads + Wait + Sync, T: Tables>(
+    rt: &R,
     alloc: Global,
     tables: &T,
     setting: &Setting,
@@ -77,5 +113,5 @@ pub fn run_plan<T: Tables>(
     ensures refused { IfErr result (λ e. PlanRefuses (resolved_of (typed_plan plan.now)) (T.holds tables.now) (T.lacks tables.now) setting.now e) }
 {
     let database = load_tables(alloc, plan.plan(), tables)?;
-    run_over(alloc, setting, plan, &database)
+    run_over(rt, alloc, setting, plan, &database)
 }

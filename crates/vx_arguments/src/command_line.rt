@@ -52,7 +52,9 @@ fn mode_option<'a>(alloc: Global) -> Arg<'a>
     Arg::new(alloc, "mode")
         .long("mode")
         .value_name("MODE")
-        .help("How the workers take turns: `rounds`, all of them in turn")
+        .help(
+            "Where the workers run: `rounds`, in turns of one thread, or `threads`, each in a thread of its own",
+        )
         .default_value("rounds")
 }
 

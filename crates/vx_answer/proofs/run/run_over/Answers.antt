@@ -1,14 +1,10 @@
 use Rattle.std.proofs.Common.{refl}
-use Rattle.std.proofs.lemmas.Result.{err_from_is_err_and}
-use Rattle.vx_answer.specs.Commands.{for_rounds, for_fault}
+use Rattle.vx_answer.specs.Commands.{for_rounds}
+use Rattle.vx_answer.proofs.Refusing.{in_rounds, not_whole}
 use Rattle.vx_answer.proofs.run.run_over.Goals as goal
 
-pub returns-in_err-rows-clause-refused : goal.returns-in_err-rows-clause-refused
-returns-in_err-rows-clause-refused c =
-    let p = err_from_is_err_and c.from_residual-in_err-rows.result c.from_residual-in_err-rows.ensures.1 in
-    rw (p.1, p.2) (for_fault c.in_err-rows.field-0.0 refl (rw c.in_ok-setup.ensures at c.in_err-rows.ensures.refused))
-
-pub returns-clause-refused : goal.returns-clause-refused
-returns-clause-refused c =
-    let set = rw c.in_ok-setup.ensures at c.in_ok-rows.ensures.set in
-    for_rounds set.0 set.1 refl
+pub returns-in-Unfinished-clause-refused : goal.returns-in-Unfinished-clause-refused
+returns-in-Unfinished-clause-refused g c =
+    let set = c.in_ok-rows.ensures.set in
+    let rounds = in_rounds c.args.setting.now.mode (λ threads. not_whole c.ran_over.result c.in_ok-rows.field-0 c.in_ok-rows.was c.in-Unfinished.is (c.ran_over.ensures.whole threads)) in
+    for_rounds rounds set.0 set.1 refl
