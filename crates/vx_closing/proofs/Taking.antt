@@ -42,18 +42,12 @@ one-at xs a j x y h k =
     let e = some-is k.list h.list (sym k.outer ∙ h.outer) in
     some-is x y (sym h.inner ∙ subst (λ v. slice_get v.items j ≡ Some y) e k.inner)
 
-pub remains-self : (stays : (a k : ℕ) → Type 0) (xs : List (Vec Drawer Global)) → Remains stays xs xs
-remains-self stays xs = record { seats = λ a n k s st h. h; places = λ a j y h. (y, h, refl) }
-
 pub remains-then : (p q r : (a k : ℕ) → Type 0) (xs ys zs : List (Vec Drawer Global)) → ((a k : ℕ) → r a k → p a k × q a k)
     → Remains p xs ys → Remains q ys zs → Remains r xs zs
 remains-then p q r xs ys zs both f g = record {
   seats = λ a n k s st h. let b = both a k st in g.seats a n k s b.1 (f.seats a n k s b.0 h);
   places = λ a j y h. let u = g.places a j y h in let v = f.places a j u.0 u.1 in (v.0, v.1, u.2 ∙ v.2);
 }
-
-pub remains-less : (p r : (a k : ℕ) → Type 0) (xs ys : List (Vec Drawer Global)) → ((a k : ℕ) → r a k → p a k) → Remains p xs ys → Remains r xs ys
-remains-less p r xs ys less f = record { seats = λ a n k s st h. f.seats a n k s (less a k st) h; places = f.places }
 
 pub remains-apart : (p : (a k : ℕ) → Type 0) (xs ys : List (Vec Drawer Global)) → Remains p xs ys → AreApartDraws xs → AreApartDraws ys
 remains-apart p xs ys f apart b k l x y hx hy e =

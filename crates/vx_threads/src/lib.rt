@@ -14,6 +14,6 @@ pub use deck_place::DeckPlace;
 pub use drawer::{Dealer, Drawer};
 pub use ends::Ends;
 pub use inlet::Inlet;
-pub use laws::{joined_ends_are_paired, joined_run_is_linked, joined_run_settles};
+pub use laws::{joined_ends_are_paired, joined_run_is_linked};
 pub use run::{Free, Gate, WorkerPlace, run_to_end};
 pub use wires::ThreadWires;

@@ -56,9 +56,10 @@ fn moved_or_waiting(moved: bool) -> Stepped
 }
 
 // Rests a worker after a step that did not move, as `waited` steps in a row before it did not, and returns how many these
-// are from now on. It leaves the processor to other threads at first. Then it takes one more step for each producer, since a step may look at one of
-// them only. If none of these moved, the worker can go on only after a partner has put a packet or made room, and sleeps
-// until then: whoever did that since the first of these steps has left a token, with which the worker does not sleep.
+// are from now on. It leaves the processor to other threads at first. Then it takes one more step for each producer,
+// since a step may look at one of them only. If none of these moved, the worker can go on only after a partner has put a
+// packet or made room, and sleeps until then: whoever did that since the first of these steps has left a token, with
+// which the worker does not sleep.
 fn rest<T: Wait>(
     rt: &T,
     stepped: Stepped,
