@@ -1,12 +1,19 @@
 -- What operators over two inputs show, in the words of the rule table.
-use Rattle.std.specs.Prelude.{ℕ, Bool, false, List, []}
+use Rattle.std.specs.Prelude.{ℕ, Bool, false, ◌&&◌, ◌||◌, List, [], map}
 use Rattle.vx_plan_nodes.specs.Plan.{Part, Plan, Binary, union, join}
-use Rattle.vx_check_rules.specs.Rules.{is_prefix, join_keys, both_have, join_shows}
+use Rattle.vx_check_rules.specs.Rules.{is_prefix, covers, shifted, join_keys, both_have, join_shows}
 
 -- the orders over a left input that is sorted so
 abbrev pub binary_orders : Binary → List ℕ → List ℕ → Bool
 binary_orders union below order = is_prefix order []
 binary_orders (join m on) below order = is_prefix order below
+
+-- the keys that a join shows, where it is known whether the right input is joined on a key, and the left one
+abbrev pub held_keys : (right_held left_held : Bool) → ℕ → List (List ℕ) → List (List ℕ) → List ℕ → Bool
+held_keys right_held left_held w lefts rights x =
+    (covers lefts x && covers (map (shifted w) rights) x)
+    || (covers lefts x && right_held)
+    || (covers (map (shifted w) rights) x && left_held)
 
 -- the keys over inputs with these keys, the left one so wide
 abbrev pub binary_keys : Binary → ℕ → List (List ℕ) → List (List ℕ) → List ℕ → Bool

@@ -4,8 +4,8 @@ ghost use Rattle.std.specs.Prelude.{◌≡◌, map};
 ghost use Rattle.std.specs.List.{list_all};
 ghost use Rattle.vx_relations.specs.Catalog.{relation_at};
 ghost use Rattle.vx_plan_nodes.specs.Outline.{unary_of, binary_of, outline_of, plan_of};
-ghost use Rattle.vx_check_rules.specs.Rules.{covers, unary_keys, keys_shown};
-ghost use Rattle.vx_check_rules.specs.Joints.{binary_keys};
+ghost use Rattle.vx_check_rules.specs.Rules.{covers, unary_keys, join_keys, keys_shown};
+ghost use Rattle.vx_check_rules.specs.Joints.{held_keys, binary_keys};
 ghost use Rattle.vx_plan_nodes.specs.Outputs.{HasOutputs};
 
 use crate::columns::{has_first, is_covered, is_of_first, is_within};
@@ -63,29 +63,49 @@ fn shows_keys_over(operator: &Unary, below: &[Vec<usize>], keys: &[Vec<usize>]) 
         .all(|key| shows_key_over(operator, below, key.as_slice()))
 }
 
-// Whether an operator over inputs with these keys shows the key, `width` being the left input's number of columns.
-fn binary_shows_key(
-    operator: &Binary,
+// Whether a join over inputs with these keys shows the key, `width` being the left input's number of columns. The
+// flags say whether the join's pairs name all columns of a key of the right input, and of a key of the left one.
+fn join_shows_key(
+    is_right_held: bool,
+    is_left_held: bool,
     width: usize,
     lefts: &[Vec<usize>],
     rights: &[Vec<usize>],
     key: &[usize],
 ) -> bool
-    ensures { result ≡ binary_keys (binary_of operator.now) width (map (λ k. k.items) lefts.now) (map (λ k. k.items) rights.now) key.now }
+    ensures { result ≡ held_keys is_right_held is_left_held width (map (λ k. k.items) lefts.now) (map (λ k. k.items) rights.now) key.now }
 {
-    let on = match operator {
-        Binary::Union => return false,
-        Binary::HashJoin(on) => on.as_slice(),
-        Binary::MergeJoin(on) => on.as_slice(),
-    };
     let has_left = is_covered(lefts, key);
     let has_right = is_covered_behind(rights, width, key);
-    (has_left && has_right)
-        || (has_left && hold_key(Input::Right, on, rights))
-        || (has_right && hold_key(Input::Left, on, lefts))
+    (has_left && has_right) || (has_left && is_right_held) || (has_right && is_left_held)
 }
 
-// Whether an operator over inputs with these keys shows each of the keys.
+// Whether a join on these pairs shows each of the keys.
+fn join_shows_keys(
+    on: &[(usize, usize)],
+    width: usize,
+    lefts: &[Vec<usize>],
+    rights: &[Vec<usize>],
+    keys: &[Vec<usize>],
+) -> bool
+    ensures { result ≡ list_all (join_keys on.now width (map (λ k. k.items) lefts.now) (map (λ k. k.items) rights.now)) (map (λ k. k.items) keys.now) }
+{
+    let is_right_held = hold_key(Input::Right, on, rights);
+    let is_left_held = hold_key(Input::Left, on, lefts);
+    keys.iter().all(|key| {
+        join_shows_key(
+            is_right_held,
+            is_left_held,
+            width,
+            lefts,
+            rights,
+            key.as_slice(),
+        )
+    })
+}
+
+// Whether an operator over inputs with these keys shows each of the keys, `width` being the left input's number of
+// columns.
 fn binary_shows_keys(
     operator: &Binary,
     width: usize,
@@ -95,7 +115,16 @@ fn binary_shows_keys(
 ) -> bool
     ensures { result ≡ list_all (binary_keys (binary_of operator.now) width (map (λ k. k.items) lefts.now) (map (λ k. k.items) rights.now)) (map (λ k. k.items) keys.now) }
 {
-    keys.iter().all(|key| binary_shows_key(operator, width, lefts, rights, key.as_slice()))
+    match operator {
+        Binary::Union => keys.is_empty(),
+        Binary::HashJoin(on) | Binary::MergeJoin(on) => join_shows_keys(
+            on.as_slice(),
+            width,
+            lefts,
+            rights,
+            keys,
+        ),
+    }
 }
 
 // Whether each of the keys is a superset of one of these.
