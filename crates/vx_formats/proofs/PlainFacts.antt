@@ -133,6 +133,7 @@ exchange-plain s (exchange h k m t) ms q = put-plain 2 (codes "merge") _ _ (colu
 -- ---- the plan
 
 node-plain : (s : Names) (t : Outline) → IsPlain 3 (node_json s t)
+unfolding node_json
 node-plain s t =
     object-plain 2 _ (exchange-plain s t _ (output-plain (columns t) _ (claim-plain s (columns t).names (top t).claim _ (workers-plain s t _ (operator-plain s t _ (none-plain 2))))))
 

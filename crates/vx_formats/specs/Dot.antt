@@ -41,10 +41,17 @@ boxes s (unary h op renamed t) = box s (unary h op renamed t) ++ boxes s t
 boxes s (binary h op t u) = box s (binary h op t u) ++ (boxes s t ++ boxes s u)
 boxes s (exchange h k m t) = box s (exchange h k m t)
 
--- the frame of the fragment that has this node at its top, with the size of its group of workers
-abbrev pub frame : Names → Outline → List ℕ
-frame s t =
-    codes "  subgraph cluster_" ++ (decimal (top t).number ++ (codes " {\n    " ++ (label (size_text s (size (plan_in t))) ++ (codes ";\n" ++ (boxes s t ++ codes "  }\n")))))
+-- how the frame begins whose top node has this number
+unfoldable pub frame_head : ℕ → List ℕ
+frame_head n = codes "  subgraph cluster_" ++ (decimal n ++ codes " {\n")
+
+-- the size of the group of workers that runs the node
+unfoldable pub size_label : Names → Outline → List ℕ
+size_label s t = codes "    " ++ (label (size_text s (size (plan_in t))) ++ codes ";\n")
+
+-- the frame of the fragment that has this node at its top
+unfoldable pub frame : Names → Outline → List ℕ
+frame s t = frame_head (top t).number ++ (size_label s t ++ (boxes s t ++ codes "  }\n"))
 
 -- the frames of the fragments below this node's: below each exchange begins another
 abbrev pub frames : Names → Outline → List ℕ
@@ -74,13 +81,14 @@ arrows s (exchange h k m t) =
 -- ---- the graph
 
 -- the result, outside of every frame
+abbrev pub result_box : Bool → List ℕ
+result_box total = cond total (codes "  result [shape=plaintext, label=\"total\"];\n") (codes "  result [shape=plaintext, label=\"not total\"];\n")
+
 abbrev pub ending : Names → Bool → Outline → List ℕ
-ending s total t =
-    cond total (codes "  result [shape=plaintext, label=\"total\"];\n") (codes "  result [shape=plaintext, label=\"not total\"];\n")
-    ++ (arrow (top t).number (codes "result") (part_words s t) ++ codes "}\n")
+ending s total t = result_box total ++ (arrow (top t).number (codes "result") (part_words s t) ++ codes "}\n")
 
 abbrev pub outline_dot : Names → Bool → Outline → List ℕ
-outline_dot s total t = codes "digraph plan {\n  rankdir=BT;\n  node [shape=box];\n" ++ (frame s t ++ (frames s t ++ (arrows s t ++ ending s total t)))
+outline_dot s total t = codes "digraph plan {\n  rankdir=BT;\n  labeljust=l;\n  node [shape=box];\n" ++ (frame s t ++ (frames s t ++ (arrows s t ++ ending s total t)))
 
 abbrev pub plan_dot : TypedPlan → List ℕ
 plan_dot p = outline_dot (resolved_of p).names (resolved_of p).total (resolved_of p).root

@@ -127,7 +127,7 @@ with_exchange s (exchange h k m t) ms = put (codes "merge") (columns_json (colum
 
 -- ---- nodes
 
-abbrev pub node_json : Names → Outline → Data
+unfoldable pub node_json : Names → Outline → Data
 node_json s t = object (with_exchange s t (with_output (columns t) (with_claim s (columns t).names (top t).claim (with_workers s t (with_operator s t no_members)))))
 
 -- in preorder, as the lines of the text that explains the plan

@@ -6,7 +6,7 @@ ghost use Rattle.vx_plan_nodes.specs.Outline.{outline_of, plan_of, top};
 ghost use Rattle.vx_plan_nodes.specs.TypedView.{names_in, resolved_of};
 ghost use Rattle.vx_check.specs.Explain.{size_text};
 ghost use Rattle.vx_check_rules.specs.CheckedView.{typed_plan};
-ghost use Rattle.vx_formats.specs.Dot.{label, box_name, caption, look, box, boxes, frame, frames, part_words, arrow, arrows, ending, plan_dot};
+ghost use Rattle.vx_formats.specs.Dot.{label, box_name, caption, look, box, boxes, frame_head, size_label, frame, frames, part_words, arrow, arrows, result_box, ending, plan_dot};
 
 use crate::describe::{column_names, description};
 use crate::words::{push_part, push_size};
@@ -122,25 +122,42 @@ fn push_boxes(
     }
 }
 
-// Adds how a frame begins: its name, and its group's size.
-fn push_frame_head(
+// Adds how the frame begins whose top node has this number.
+#[tactic(auto, unfolding(crate::specs::Dot::frame_head))]
+fn push_frame_head(text: &mut String, number: u32) -> Result<(), AllocError>
+    ensures { OnOk result (string_bytes text.new ≡ string_bytes text.old ++ frame_head number) }
+{
+    text.push_str("  subgraph cluster_")?;
+    push_decimal(text, number)?;
+    text.push_str(" {\n")
+}
+
+// The name of the size of the group of workers that runs the node.
+fn size_name(alloc: Global, plan: &TypedPlan, node: &TypedNode) -> Result<String, AllocError>
+    ensures { IfOk result (λ s. string_bytes s ≡ size_text (names_in plan.now) (size (plan_of node.now))) }
+{
+    let mut name = String::new(alloc);
+    push_size(&mut name, plan, node.size())?;
+    Ok(name)
+}
+
+// Adds the size of the group of workers that runs the node.
+#[tactic(auto, unfolding(crate::specs::Dot::size_label))]
+fn push_size_label(
     alloc: Global,
     text: &mut String,
     plan: &TypedPlan,
     node: &TypedNode,
 ) -> Result<(), AllocError>
-    ensures { OnOk result (string_bytes text.new ≡ string_bytes text.old ++ (codes "  subgraph cluster_" ++ (decimal (top (outline_of node.now)).number ++ (codes " {\n    " ++ (label (size_text (names_in plan.now) (size (plan_of node.now))) ++ codes ";\n"))))) }
+    ensures { OnOk result (string_bytes text.new ≡ string_bytes text.old ++ size_label (names_in plan.now) (outline_of node.now)) }
 {
-    let mut size = String::new(alloc);
-    push_size(&mut size, plan, node.size())?;
-    text.push_str("  subgraph cluster_")?;
-    push_decimal(text, node.head().number)?;
-    text.push_str(" {\n    ")?;
-    push_label(alloc, text, size)?;
+    text.push_str("    ")?;
+    push_label(alloc, text, size_name(alloc, plan, node)?)?;
     text.push_str(";\n")
 }
 
 // Adds the frame of the fragment that has this node at its top.
+#[tactic(auto, unfolding(crate::specs::Dot::frame))]
 fn push_frame(
     alloc: Global,
     text: &mut String,
@@ -149,7 +166,8 @@ fn push_frame(
 ) -> Result<(), AllocError>
     ensures { OnOk result (string_bytes text.new ≡ string_bytes text.old ++ frame (names_in plan.now) (outline_of node.now)) }
 {
-    push_frame_head(alloc, text, plan, node)?;
+    push_frame_head(text, node.head().number)?;
+    push_size_label(alloc, text, plan, node)?;
     push_boxes(alloc, text, plan, node)?;
     text.push_str("  }\n")
 }
@@ -289,15 +307,21 @@ fn push_arrows(
     }
 }
 
-// Adds the result, and whether it is total.
+// Adds the result, outside of every frame.
+fn push_result_box(text: &mut String, is_total: bool) -> Result<(), AllocError>
+    ensures { OnOk result (string_bytes text.new ≡ string_bytes text.old ++ result_box is_total) }
+{
+    if is_total {
+        text.push_str("  result [shape=plaintext, label=\"total\"];\n")
+    } else {
+        text.push_str("  result [shape=plaintext, label=\"not total\"];\n")
+    }
+}
+
 fn push_ending(alloc: Global, text: &mut String, plan: &TypedPlan) -> Result<(), AllocError>
     ensures { OnOk result (string_bytes text.new ≡ string_bytes text.old ++ ending (names_in plan.now) (resolved_of plan.now).total (resolved_of plan.now).root) }
 {
-    text.push_str(if plan.is_total() {
-        "  result [shape=plaintext, label=\"total\"];\n"
-    } else {
-        "  result [shape=plaintext, label=\"not total\"];\n"
-    })?;
+    push_result_box(text, plan.is_total())?;
     push_part_arrow(alloc, text, plan, plan.root(), "result")?;
     text.push_str("}\n")
 }
@@ -310,7 +334,7 @@ pub fn explain_dot(alloc: Global, checked: &CheckedPlan) -> Result<String, Alloc
     let plan = checked.plan();
     let mut text = String::from_str(
         alloc,
-        "digraph plan {\n  rankdir=BT;\n  node [shape=box];\n",
+        "digraph plan {\n  rankdir=BT;\n  labeljust=l;\n  node [shape=box];\n",
     )?;
     push_frame(alloc, &mut text, plan, plan.root())?;
     push_frames(alloc, &mut text, plan, plan.root())?;

@@ -356,6 +356,7 @@ fn put_exchange(
     }
 }
 
+#[tactic(auto, unfolding(crate::specs::Json::node_json))]
 fn node_json(alloc: Global, plan: &TypedPlan, node: &TypedNode) -> Result<Json, AllocError>
     ensures { IfOk result (λ d. view d ≡ node_json (names_in plan.now) (outline_of node.now)) }
 {
@@ -374,6 +375,18 @@ fn node_json(alloc: Global, plan: &TypedPlan, node: &TypedNode) -> Result<Json, 
     Ok(Json::Object(members))
 }
 
+fn push_node(
+    list: &mut Vec<Json>,
+    alloc: Global,
+    plan: &TypedPlan,
+    node: &TypedNode,
+) -> Result<(), AllocError>
+    ensures { OnOk result (map view list.new.items ≡ map view list.old.items ++ (node_json (names_in plan.now) (outline_of node.now) ∷ [])) }
+{
+    list.push(node_json(alloc, plan, node)?)?;
+    Ok(())
+}
+
 // Adds the node, and then those below it.
 fn push_nodes(
     list: &mut Vec<Json>,
@@ -383,7 +396,7 @@ fn push_nodes(
 ) -> Result<(), AllocError>
     ensures { OnOk result (map view list.new.items ≡ map view list.old.items ++ nodes_json (names_in plan.now) (outline_of node.now)) }
 {
-    list.push(node_json(alloc, plan, node)?)?;
+    push_node(list, alloc, plan, node)?;
     match node {
         TypedNode::Scan(_, _) => Ok(()),
         TypedNode::Unary(_, _, input) => push_nodes(list, alloc, plan, input),
@@ -407,13 +420,21 @@ fn plan_json(alloc: Global, plan: &TypedPlan) -> Result<Json, AllocError>
     Ok(Json::Object(members))
 }
 
+// The plan as JSON.
+fn plan_text(alloc: Global, plan: &TypedPlan) -> Result<String, AllocError>
+    ensures text { IfOk result (λ s. string_bytes s ≡ compact_text (plan_json plan.now)) }
+    ensures reads { IfOk result (λ s. read (string_bytes s) ≡ Some (plan_json plan.now)) }
+{
+    plan_json(alloc, plan)?.to_string(alloc)
+}
+
 /// The plan as one line of JSON: an object for each node, in the order of the lines of the text that explains it, and
-/// whether the plan is total. The text reads as that value.
+/// whether the plan is total. The line reads as that value.
 pub fn explain_json(alloc: Global, checked: &CheckedPlan) -> Result<String, AllocError>
     ensures text { IfOk result (λ s. string_bytes s ≡ compact_text (plan_json (typed_plan checked.now)) ++ codes "\n") }
     ensures reads { IfOk result (λ s. read (compact_text (plan_json (typed_plan checked.now))) ≡ Some (plan_json (typed_plan checked.now))) }
 {
-    let mut text = plan_json(alloc, checked.plan())?.to_string(alloc)?;
+    let mut text = plan_text(alloc, checked.plan())?;
     text.push_str("\n")?;
     Ok(text)
 }
