@@ -84,11 +84,15 @@ arrows s (exchange h k m t) =
 abbrev pub result_box : Bool → List ℕ
 result_box total = cond total (codes "  result [shape=plaintext, label=\"total\"];\n") (codes "  result [shape=plaintext, label=\"not total\"];\n")
 
-abbrev pub ending : Names → Bool → Outline → List ℕ
+unfoldable pub ending : Names → Bool → Outline → List ℕ
 ending s total t = result_box total ++ (arrow (top t).number (codes "result") (part_words s t) ++ codes "}\n")
 
+-- all frames and arrows of the plan with this node at its top
+unfoldable pub drawing : Names → Outline → List ℕ
+drawing s t = frame s t ++ (frames s t ++ arrows s t)
+
 abbrev pub outline_dot : Names → Bool → Outline → List ℕ
-outline_dot s total t = codes "digraph plan {\n  rankdir=BT;\n  labeljust=l;\n  node [shape=box];\n" ++ (frame s t ++ (frames s t ++ (arrows s t ++ ending s total t)))
+outline_dot s total t = codes "digraph plan {\n  rankdir=BT;\n  labeljust=l;\n  node [shape=box];\n" ++ (drawing s t ++ ending s total t)
 
 abbrev pub plan_dot : TypedPlan → List ℕ
 plan_dot p = outline_dot (resolved_of p).names (resolved_of p).total (resolved_of p).root

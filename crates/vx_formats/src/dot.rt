@@ -6,7 +6,7 @@ ghost use Rattle.vx_plan_nodes.specs.Outline.{outline_of, plan_of, top};
 ghost use Rattle.vx_plan_nodes.specs.TypedView.{names_in, resolved_of};
 ghost use Rattle.vx_check.specs.Explain.{size_text};
 ghost use Rattle.vx_check_rules.specs.CheckedView.{typed_plan};
-ghost use Rattle.vx_formats.specs.Dot.{label, box_name, caption, look, box, boxes, frame_head, size_label, frame, frames, part_words, arrow, arrows, result_box, ending, plan_dot};
+ghost use Rattle.vx_formats.specs.Dot.{label, box_name, caption, look, box, boxes, frame_head, size_label, frame, frames, part_words, arrow, arrows, result_box, ending, drawing, plan_dot};
 
 use crate::describe::{column_names, description};
 use crate::words::{push_part, push_size};
@@ -318,6 +318,7 @@ fn push_result_box(text: &mut String, is_total: bool) -> Result<(), AllocError>
     }
 }
 
+#[tactic(auto, unfolding(crate::specs::Dot::ending))]
 fn push_ending(alloc: Global, text: &mut String, plan: &TypedPlan) -> Result<(), AllocError>
     ensures { OnOk result (string_bytes text.new ≡ string_bytes text.old ++ ending (names_in plan.now) (resolved_of plan.now).total (resolved_of plan.now).root) }
 {
@@ -326,19 +327,37 @@ fn push_ending(alloc: Global, text: &mut String, plan: &TypedPlan) -> Result<(),
     text.push_str("}\n")
 }
 
+// Adds all frames and arrows of the plan with this node at its top.
+#[tactic(auto, unfolding(crate::specs::Dot::drawing))]
+fn push_drawing(
+    alloc: Global,
+    text: &mut String,
+    plan: &TypedPlan,
+    root: &TypedNode,
+) -> Result<(), AllocError>
+    ensures { OnOk result (string_bytes text.new ≡ string_bytes text.old ++ drawing (names_in plan.now) (outline_of root.now)) }
+{
+    push_frame(alloc, text, plan, root)?;
+    push_frames(alloc, text, plan, root)?;
+    push_arrows(alloc, text, plan, root)
+}
+
+fn plan_dot(alloc: Global, plan: &TypedPlan) -> Result<String, AllocError>
+    ensures { IfOk result (λ s. string_bytes s ≡ plan_dot plan.now) }
+{
+    let mut text = String::from_str(
+        alloc,
+        "digraph plan {\n  rankdir=BT;\n  labeljust=l;\n  node [shape=box];\n",
+    )?;
+    push_drawing(alloc, &mut text, plan, plan.root())?;
+    push_ending(alloc, &mut text, plan)?;
+    Ok(text)
+}
+
 /// The plan as a graph that Graphviz draws: a frame for each fragment, which is what lies between exchanges, with its
 /// size; a box for each operator; and an arrow for each stream of rows, with its part and the exchange that it goes through.
 pub fn explain_dot(alloc: Global, checked: &CheckedPlan) -> Result<String, AllocError>
     ensures { IfOk result (λ s. string_bytes s ≡ plan_dot (typed_plan checked.now)) }
 {
-    let plan = checked.plan();
-    let mut text = String::from_str(
-        alloc,
-        "digraph plan {\n  rankdir=BT;\n  labeljust=l;\n  node [shape=box];\n",
-    )?;
-    push_frame(alloc, &mut text, plan, plan.root())?;
-    push_frames(alloc, &mut text, plan, plan.root())?;
-    push_arrows(alloc, &mut text, plan, plan.root())?;
-    push_ending(alloc, &mut text, plan)?;
-    Ok(text)
+    plan_dot(alloc, checked.plan())
 }
