@@ -1,5 +1,5 @@
 -- The JSON of a plan has no float, and does not nest deep.
-use Rattle.std.proofs.Common.{◌≡◌, ℕ, suc, ◌+◌, ◌≤◌, max, ◌++◌, List, [], ◌∷◌, map, Bool, true, false, codes, Ordering, Less, Equal, Greater, refl, arith}
+use Rattle.std.proofs.Common.{◌≡◌, ℕ, suc, ◌≤◌, ◌++◌, List, [], ◌∷◌, map, Bool, false, codes, Ordering, Less, Equal, Greater, refl, arith}
 use Rattle.std.proofs.lemmas.Bool.{or_from}
 use Rattle.std.proofs.Math.Nat.{max-le}
 use Rattle.std.specs.Ordering.{nat_cmp, match_ordering}
@@ -14,7 +14,7 @@ use Rattle.vx_plan_nodes.specs.Plan.{Size, one_worker, group_of, Route, Part, on
 use Rattle.vx_plan_nodes.specs.Names.{Names}
 use Rattle.vx_plan_nodes.specs.Outline.{Outline, scan, unary, binary, exchange, Columns, top, columns, plan_in}
 use Rattle.vx_check.specs.Explain.{name_at, description}
-use Rattle.vx_formats.specs.Json.{columns_json, keys_json, names_json, type_json, types_json, size_json, route_word, route_name, routed_json, part_json, with_claim, op_word, with_operator, inputs, with_workers, with_output, with_route, with_kind, with_exchange, node_json, nodes_json, outline_json}
+use Rattle.vx_formats.specs.Json.{columns_json, keys_json, type_json, size_json, route_word, route_name, routed_json, part_json, with_claim, op_word, with_operator, inputs, with_workers, with_output, with_kind, with_exchange, node_json, nodes_json, outline_json}
 
 -- no deeper than n, and without floats
 pub record IsPlain (n : ℕ) (d : Data) : Type 0 where

@@ -7,7 +7,7 @@ use Rattle.vx_values.specs.declared.value.ColType.TheVariants as type
 use Rattle.vx_values.specs.Values.{Name}
 use Rattle.vx_plan_nodes.specs.Plan.{Size, one_worker, group_of, Route, by_hash, by_range, Part, one, any, all, routed, Claim, Unary, select, project, distinct, sort, group, Phase, plain, partial, final, Binary, union, join, ExchangeKind, route_to, round, broadcast, gather, concat, size}
 use Rattle.vx_plan_nodes.specs.Names.{Names}
-use Rattle.vx_plan_nodes.specs.Outline.{Outline, scan, unary, binary, exchange, Top, Columns, top, columns, plan_in}
+use Rattle.vx_plan_nodes.specs.Outline.{Outline, scan, unary, binary, exchange, Columns, top, columns, plan_in}
 use Rattle.vx_plan_nodes.specs.declared.typed_plan.TypedPlan.{TypedPlan}
 use Rattle.vx_plan_nodes.specs.TypedView.{resolved_of}
 use Rattle.vx_check.specs.Explain.{name_at, description}
