@@ -1,0 +1,2 @@
+pub mod WordFacts
+pub mod PlainFacts

@@ -1,0 +1,420 @@
+//! What a node does, in the words of the text that explains a plan.
+
+ghost use Rattle.std.specs.Prelude.{◌≡◌, ◌++◌, ◌+◌, ◌<◌, ◌^◌, map, string_bytes, length, OnOk, IfOk, codes, false};
+ghost use Rattle.vx_values.specs.ValueView.{val_of};
+ghost use Rattle.vx_relations.specs.Catalog.{relation_at};
+ghost use Rattle.vx_plan_nodes.specs.Outline.{outline_of, columns, condition_of, aggregate_of, phase_of, unary_of, renamed_of, binary_of, kind_of};
+ghost use Rattle.vx_plan_nodes.specs.TypedView.{names_in};
+ghost use Rattle.vx_check.specs.Explain.{name_at, separated, value_text, condition_text, kept_text, kept_texts, function_text, aggregate_texts, aggregates_text, group_text, grouping_text, unary_text, pair_text, binary_text, kind_text, merge_text, scan_text, prefix_text, description};
+
+use crate::words::{name_at, push_between, push_list, push_routed};
+use itoa::Buffer;
+use std::alloc::{AllocError, Global};
+use vx_plan_nodes::{
+    Aggregate, Binary, Condition, Exchange, ExchangeKind, Phase, Projected, ScanNode, Side,
+    TypedNode, TypedPlan, Unary,
+};
+use vx_rows::Value;
+
+// Adds a number in plain decimal, or a text as `serde_json` writes it.
+fn push_value(alloc: Global, text: &mut String, value: &Value) -> Result<(), AllocError>
+    ensures { OnOk result (string_bytes text.new ≡ string_bytes text.old ++ value_text (val_of value.now)) }
+{
+    match value {
+        Value::Int(number) => {
+            let mut digits = Buffer::new();
+            text.push_str(digits.format(*number))
+        }
+        Value::Text(bytes) => {
+            let quoted = serde_json::Value::String(String::from_str(
+                alloc,
+                bytes.as_str(),
+            )?).to_string(alloc)?;
+            text.push_str(quoted.as_str())
+        }
+    }
+}
+
+fn push_condition(
+    alloc: Global,
+    text: &mut String,
+    names: &[String],
+    condition: &Condition,
+) -> Result<(), AllocError>
+    ensures { OnOk result (string_bytes text.new ≡ string_bytes text.old ++ condition_text (map string_bytes names.now) (condition_of condition.now)) }
+{
+    text.push_str(name_at(names, condition.left))?;
+    text.push_str(" ")?;
+    text.push_str(condition.test.text())?;
+    text.push_str(" ")?;
+    match &condition.right {
+        Side::Column(column) => text.push_str(name_at(names, *column)),
+        Side::Constant(value) => push_value(alloc, text, value),
+    }
+}
+
+fn push_conditions(
+    alloc: Global,
+    text: &mut String,
+    names: &[String],
+    conditions: &[Condition],
+) -> Result<(), AllocError>
+    ensures { OnOk result (string_bytes text.new ≡ string_bytes text.old ++ separated (codes " and ") false (map (condition_text (map string_bytes names.now)) (map condition_of conditions.now))) }
+{
+    for (i, condition) in conditions.iter().enumerate() {
+        push_between(text, " and ", i > 0)?;
+        push_condition(alloc, text, names, condition)?;
+    }
+    Ok(())
+}
+
+// Adds a kept column, with its new name where it has one.
+fn push_kept_column(
+    text: &mut String,
+    input: &str,
+    output: &str,
+    is_renamed: bool,
+) -> Result<(), AllocError>
+    ensures { OnOk result (string_bytes text.new ≡ string_bytes text.old ++ kept_text input.now output.now is_renamed) }
+{
+    text.push_str(input)?;
+    if is_renamed {
+        text.push_str(" as ")?;
+        text.push_str(output)?;
+    }
+    Ok(())
+}
+
+fn push_kept_columns(
+    text: &mut String,
+    inputs: &[String],
+    outputs: &[String],
+    kept: &[Projected],
+) -> Result<(), AllocError>
+    ensures { OnOk result (string_bytes text.new ≡ string_bytes text.old ++ separated (codes ",") false (kept_texts (map string_bytes inputs.now) (map string_bytes outputs.now) 0 (map (λ k. k.column) kept.now) (map (λ k. k.renamed) kept.now))) }
+{
+    for (i, column) in kept.iter().enumerate() {
+        push_between(text, ",", i > 0)?;
+        push_kept_column(
+            text,
+            name_at(inputs, column.column),
+            name_at(outputs, i),
+            column.renamed,
+        )?;
+    }
+    Ok(())
+}
+
+// Adds an operator's word and the columns that it keeps, in brackets.
+fn push_kept(
+    text: &mut String,
+    word: &str,
+    inputs: &[String],
+    outputs: &[String],
+    kept: &[Projected],
+) -> Result<(), AllocError>
+    ensures { OnOk result (string_bytes text.new ≡ string_bytes text.old ++ (word.now ++ (separated (codes ",") false (kept_texts (map string_bytes inputs.now) (map string_bytes outputs.now) 0 (map (λ k. k.column) kept.now) (map (λ k. k.renamed) kept.now)) ++ codes "]"))) }
+{
+    text.push_str(word)?;
+    push_kept_columns(text, inputs, outputs, kept)?;
+    text.push_str("]")
+}
+
+fn push_function(
+    text: &mut String,
+    names: &[String],
+    aggregate: Aggregate,
+) -> Result<(), AllocError>
+    ensures { OnOk result (string_bytes text.new ≡ string_bytes text.old ++ function_text (map string_bytes names.now) (aggregate_of aggregate)) }
+{
+    let (word, column) = match aggregate {
+        Aggregate::Least(column) => ("min(", column),
+        Aggregate::Greatest(column) => ("max(", column),
+        Aggregate::Sum(column) => ("sum(", column),
+        Aggregate::CountRows => return text.push_str("count()"),
+    };
+    text.push_str(word)?;
+    text.push_str(name_at(names, column))?;
+    text.push_str(")")
+}
+
+// Adds aggregates, the first of which has the number `first` in the output.
+fn push_aggregate_list(
+    text: &mut String,
+    inputs: &[String],
+    outputs: &[String],
+    first: usize,
+    aggregates: &[Aggregate],
+) -> Result<(), AllocError>
+    requires { first + length aggregates.now < 2 ^ 64 }
+    ensures { OnOk result (string_bytes text.new ≡ string_bytes text.old ++ separated (codes ", ") false (aggregate_texts (map string_bytes inputs.now) (map string_bytes outputs.now) first (map aggregate_of aggregates.now))) }
+{
+    for (i, aggregate) in aggregates.iter().enumerate() {
+        push_between(text, ", ", i > 0)?;
+        push_function(text, inputs, *aggregate)?;
+        text.push_str(" as ")?;
+        text.push_str(name_at(outputs, first + i))?;
+    }
+    Ok(())
+}
+
+// Adds aggregates behind a space, if there are any.
+fn push_aggregates(
+    text: &mut String,
+    inputs: &[String],
+    outputs: &[String],
+    first: usize,
+    aggregates: &[Aggregate],
+) -> Result<(), AllocError>
+    requires { first + length aggregates.now < 2 ^ 64 }
+    ensures { OnOk result (string_bytes text.new ≡ string_bytes text.old ++ aggregates_text (map string_bytes inputs.now) (map string_bytes outputs.now) first (map aggregate_of aggregates.now)) }
+{
+    if aggregates.is_empty() {
+        return Ok(());
+    }
+    text.push_str(" ")?;
+    push_aggregate_list(text, inputs, outputs, first, aggregates)
+}
+
+// Adds a grouping's word, its key columns and its aggregates.
+fn push_group(
+    text: &mut String,
+    word: &str,
+    inputs: &[String],
+    outputs: &[String],
+    by: &[usize],
+    aggregates: &[Aggregate],
+) -> Result<(), AllocError>
+    requires { length by.now + length aggregates.now < 2 ^ 64 }
+    ensures { OnOk result (string_bytes text.new ≡ string_bytes text.old ++ (word.now ++ group_text (map string_bytes inputs.now) (map string_bytes outputs.now) by.now (map aggregate_of aggregates.now))) }
+{
+    text.push_str(word)?;
+    push_list(text, inputs, by)?;
+    push_aggregates(text, inputs, outputs, by.len(), aggregates)
+}
+
+// Adds a grouping in one of its phases.
+fn push_grouping(
+    text: &mut String,
+    inputs: &[String],
+    outputs: &[String],
+    phase: Phase,
+    by: &[usize],
+    aggregates: &[Aggregate],
+) -> Result<(), AllocError>
+    requires { length by.now + length aggregates.now < 2 ^ 64 }
+    ensures { OnOk result (string_bytes text.new ≡ string_bytes text.old ++ grouping_text (map string_bytes inputs.now) (map string_bytes outputs.now) (phase_of phase) by.now (map aggregate_of aggregates.now)) }
+{
+    match phase {
+        Phase::Plain => push_group(text, "group ", inputs, outputs, by, aggregates),
+        Phase::Partial => push_group(text, "partial-group ", inputs, outputs, by, aggregates),
+        Phase::Final => text.push_str("final-group"),
+    }
+}
+
+// Adds an operator over one input; inputs and outputs are the names of the columns.
+fn push_unary(
+    alloc: Global,
+    text: &mut String,
+    inputs: &[String],
+    outputs: &[String],
+    operator: &Unary,
+) -> Result<(), AllocError>
+    ensures { OnOk result (string_bytes text.new ≡ string_bytes text.old ++ unary_text (map string_bytes inputs.now) (map string_bytes outputs.now) (renamed_of operator.now) (unary_of operator.now)) }
+{
+    match operator {
+        Unary::Select(conditions) => {
+            text.push_str("select ")?;
+            push_conditions(alloc, text, inputs, conditions.as_slice())
+        }
+        Unary::Project(kept) => push_kept(text, "project [", inputs, outputs, kept.as_slice()),
+        Unary::Distinct(kept) => push_kept(text, "distinct [", inputs, outputs, kept.as_slice()),
+        Unary::Sort(columns) => {
+            text.push_str("sort ")?;
+            push_list(text, inputs, columns.as_slice())
+        }
+        Unary::Group(phase, by, aggregates) => push_grouping(
+            text,
+            inputs,
+            outputs,
+            *phase,
+            by.as_slice(),
+            aggregates.as_slice(),
+        ),
+    }
+}
+
+fn push_pairs(
+    text: &mut String,
+    lefts: &[String],
+    rights: &[String],
+    on: &[(usize, usize)],
+) -> Result<(), AllocError>
+    ensures { OnOk result (string_bytes text.new ≡ string_bytes text.old ++ separated (codes ",") false (map (pair_text (map string_bytes lefts.now) (map string_bytes rights.now)) on.now)) }
+{
+    for (i, pair) in on.iter().enumerate() {
+        push_between(text, ",", i > 0)?;
+        text.push_str(name_at(lefts, pair.0))?;
+        text.push_str("=")?;
+        text.push_str(name_at(rights, pair.1))?;
+    }
+    Ok(())
+}
+
+// Adds a join's word and its pairs, in brackets.
+fn push_join(
+    text: &mut String,
+    word: &str,
+    lefts: &[String],
+    rights: &[String],
+    on: &[(usize, usize)],
+) -> Result<(), AllocError>
+    ensures { OnOk result (string_bytes text.new ≡ string_bytes text.old ++ (word.now ++ (separated (codes ",") false (map (pair_text (map string_bytes lefts.now) (map string_bytes rights.now)) on.now) ++ codes "]"))) }
+{
+    text.push_str(word)?;
+    push_pairs(text, lefts, rights, on)?;
+    text.push_str("]")
+}
+
+// Adds an operator over inputs whose columns have these names.
+fn push_binary(
+    text: &mut String,
+    lefts: &[String],
+    rights: &[String],
+    operator: &Binary,
+) -> Result<(), AllocError>
+    ensures { OnOk result (string_bytes text.new ≡ string_bytes text.old ++ binary_text (map string_bytes lefts.now) (map string_bytes rights.now) (binary_of operator.now)) }
+{
+    match operator {
+        Binary::Union => text.push_str("union"),
+        Binary::HashJoin(on) => push_join(text, "hash-join [", lefts, rights, on.as_slice()),
+        Binary::MergeJoin(on) => push_join(text, "merge-join [", lefts, rights, on.as_slice()),
+    }
+}
+
+fn push_kind(
+    text: &mut String,
+    plan: &TypedPlan,
+    inputs: &[String],
+    kind: &ExchangeKind,
+) -> Result<(), AllocError>
+    ensures { OnOk result (string_bytes text.new ≡ string_bytes text.old ++ kind_text (names_in plan.now) (map string_bytes inputs.now) (kind_of kind.now)) }
+{
+    match kind {
+        ExchangeKind::Route(_, route, columns) => push_routed(
+            text,
+            plan,
+            inputs,
+            route,
+            columns.as_slice(),
+        ),
+        ExchangeKind::Round(_) => text.push_str("round"),
+        ExchangeKind::Broadcast(_) => text.push_str("broadcast"),
+        ExchangeKind::Gather => text.push_str("gather"),
+        ExchangeKind::Concat => text.push_str("concat"),
+    }
+}
+
+// Adds the columns that an exchange merges on, if there are any.
+fn push_merge(text: &mut String, inputs: &[String], merge: &[usize]) -> Result<(), AllocError>
+    ensures { OnOk result (string_bytes text.new ≡ string_bytes text.old ++ merge_text (map string_bytes inputs.now) merge.now) }
+{
+    if merge.is_empty() {
+        return Ok(());
+    }
+    text.push_str(" merge ")?;
+    push_list(text, inputs, merge)
+}
+
+// Adds an exchange over an input whose columns have these names.
+fn push_exchange(
+    text: &mut String,
+    plan: &TypedPlan,
+    inputs: &[String],
+    exchange: &Exchange,
+) -> Result<(), AllocError>
+    ensures { OnOk result (string_bytes text.new ≡ string_bytes text.old ++ (codes "exchange " ++ (kind_text (names_in plan.now) (map string_bytes inputs.now) (kind_of exchange.now.kind) ++ merge_text (map string_bytes inputs.now) exchange.now.merge.items))) }
+{
+    text.push_str("exchange ")?;
+    push_kind(text, plan, inputs, &exchange.kind)?;
+    push_merge(text, inputs, exchange.merge.as_slice())
+}
+
+// Adds a scan's prefix, if there is one.
+fn push_prefix(text: &mut String, prefix: &str) -> Result<(), AllocError>
+    ensures { OnOk result (string_bytes text.new ≡ string_bytes text.old ++ prefix_text prefix.now) }
+{
+    if prefix.is_empty() {
+        return Ok(());
+    }
+    text.push_str(" prefix ")?;
+    text.push_str(prefix)
+}
+
+// Adds the name of a relation; past the end of the catalog there is none.
+fn push_relation(text: &mut String, plan: &TypedPlan, relation: usize) -> Result<(), AllocError>
+    ensures { OnOk result (string_bytes text.new ≡ string_bytes text.old ++ (relation_at (names_in plan.now).catalog relation).name) }
+{
+    if relation < plan.catalog().len() {
+        return text.push_str(plan.catalog().get(relation).name());
+    }
+    Ok(())
+}
+
+// Adds a scan.
+fn push_scan(text: &mut String, plan: &TypedPlan, scan: &ScanNode) -> Result<(), AllocError>
+    ensures { OnOk result (string_bytes text.new ≡ string_bytes text.old ++ scan_text (names_in plan.now) scan.now.relation scan.now.shared (string_bytes scan.now.prefix)) }
+{
+    text.push_str("scan ")?;
+    push_relation(text, plan, scan.relation)?;
+    text.push_str(if scan.shared { " shared" } else { " whole" })?;
+    push_prefix(text, scan.prefix.as_str())
+}
+
+/// The names of the columns of a node's output.
+pub fn column_names(node: &TypedNode) -> &[String]
+    ensures { map string_bytes result.now ≡ (columns (outline_of node.now)).names }
+{
+    node.head().columns.names.as_slice()
+}
+
+// Adds what a node does.
+fn push_description(
+    alloc: Global,
+    text: &mut String,
+    plan: &TypedPlan,
+    node: &TypedNode,
+) -> Result<(), AllocError>
+    ensures { OnOk result (string_bytes text.new ≡ string_bytes text.old ++ description (names_in plan.now) (outline_of node.now)) }
+{
+    match node {
+        TypedNode::Scan(_, scan) => push_scan(text, plan, scan),
+        TypedNode::Unary(head, operator, input) => {
+            push_unary(
+                alloc,
+                text,
+                column_names(input),
+                head.columns.names.as_slice(),
+                operator,
+            )
+        }
+        TypedNode::Binary(_, operator, left, right) => {
+            push_binary(text, column_names(left), column_names(right), operator)
+        }
+        TypedNode::Exchange(_, exchange, input) => push_exchange(
+            text,
+            plan,
+            column_names(input),
+            exchange,
+        ),
+    }
+}
+
+/// What a node does.
+pub fn description(alloc: Global, plan: &TypedPlan, node: &TypedNode) -> Result<String, AllocError>
+    ensures { IfOk result (λ s. string_bytes s ≡ description (names_in plan.now) (outline_of node.now)) }
+{
+    let mut text = String::new(alloc);
+    push_description(alloc, &mut text, plan, node)?;
+    Ok(text)
+}

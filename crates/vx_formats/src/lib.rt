@@ -1,0 +1,10 @@
+//! A checked plan for other tools: as JSON for programs, and as a graph that Graphviz draws for people.
+#![tactic(auto)]
+
+mod describe;
+mod dot;
+mod json;
+mod words;
+
+pub use dot::explain_dot;
+pub use json::explain_json;
