@@ -34,7 +34,7 @@ fn kind_of(alloc: Global, error: &Error) -> Result<String, AllocError> {
 }
 
 // Lines, and what each asks for.
-const ASKED: [(&str, &str); 8] = [
+const ASKED: [(&str, &str); 10] = [
     ("volcano", "Bundle"),
     (
         "volcano check --catalog c --plan=-",
@@ -42,8 +42,13 @@ const ASKED: [(&str, &str); 8] = [
     ),
     (
         "volcano explain --plan p --catalog c",
-        r#"Explain(Sources { catalog: "c", plan: "p" })"#,
+        r#"Explain(Sources { catalog: "c", plan: "p" }, "text")"#,
     ),
+    (
+        "volcano explain --plan p --catalog c --format dot",
+        r#"Explain(Sources { catalog: "c", plan: "p" }, "dot")"#,
+    ),
+    ("volcano why K4", r#"Why("K4")"#),
     (
         "volcano serial --catalog c --plan p --data d",
         r#"Serial(Sources { catalog: "c", plan: "p" }, "d")"#,
@@ -72,7 +77,7 @@ fn commands_are_there(rt: HostRuntime) -> Result<(), Fail> {
 }
 
 // Lines that are refused, and the kind of each refusal.
-const REFUSED: [(&str, &str); 12] = [
+const REFUSED: [(&str, &str); 15] = [
     ("volcano check --catalog c", "MissingRequiredArgument"),
     (
         "volcano check --catalog c --plan p --data d",
@@ -89,6 +94,12 @@ const REFUSED: [(&str, &str); 12] = [
     (
         "volcano run --catalog c --plan p --data d --slack 4294967296",
         "ValueValidation",
+    ),
+    ("volcano why", "MissingRequiredArgument"),
+    ("volcano why K4 K5", "UnknownArgument"),
+    (
+        "volcano check --catalog c --plan p --format json",
+        "UnknownArgument",
     ),
     ("volcano gen", "MissingRequiredArgument"),
     ("volcano gen --rows x", "ValueValidation"),

@@ -1,10 +1,10 @@
 -- What answers arguments, over files and standard input, and why arguments may have no answer. `files`, `reliable`, `input` and `failed` are as in `Files`.
-use Rattle.std.specs.Prelude.{◌≡◌, ◌≢◌, ℕ, ◌<◌, ◌≤◌, ◌⊎◌, List, [], ◌∷◌, Bool, Option, Some, None, IfSome, codes}
+use Rattle.std.specs.Prelude.{◌≡◌, ◌≢◌, ℕ, ◌+◌, ◌<◌, ◌≤◌, ◌⊎◌, ◌++◌, List, [], ◌∷◌, length, take, Bool, true, false, Option, Some, None, IfSome, bytes_eq, codes}
 use Rattle.clap.specs.Words.{IsAmong}
 use Rattle.clap.specs.declared.error.kind.ErrorKind.{ErrorKind}
 use Rattle.clap.specs.declared.error.kind.ErrorKind.TheVariants as kind
 use Rattle.vx_plan_nodes.specs.Names.{TypedPlanView}
-use Rattle.vx_arguments.specs.Asked.{Ask, Paths, bundle, check, explain, serial, run, generate, asked_by, faults_of}
+use Rattle.vx_arguments.specs.Asked.{Ask, Paths, bundle, check, explain, why, serial, run, generate, asked_by, faults_of}
 use Rattle.vx_bundle.specs.declared.command.Command.{Command}
 use Rattle.vx_bundle.specs.declared.command.Command.TheVariants as command
 use Rattle.vx_bundle.specs.declared.setting.Mode.TheVariants as mode
@@ -19,6 +19,9 @@ use Rattle.vx_answer.specs.Commands.{IsResultOf, CommandRefuses}
 use Rattle.vx_answer.specs.Answer.{IsAnswer, RefusedWith}
 use Rattle.vx_answer.specs.Arguments.{IsSetting, IsNoSetting}
 use Rattle.vx_answer.specs.Files.{IsFilesPlan, IsFilesRefusal}
+use Rattle.vx_answer.specs.Forms.{form_named, IsInForm, FormRefuses}
+use Rattle.vx_answer.specs.declared.forms.PlanForm.{PlanForm}
+use Rattle.vx_why.specs.Codes.{is_code}
 use Rattle.vx_wisconsin.specs.Wisconsin.{max_rows, wisconsin, column_names}
 
 -- a command over the catalog, the plan and the folder of tables that arguments name
@@ -36,16 +39,18 @@ default_setting = record { sizes = []; packet = 256; morsel = 1024; slack = 8; m
 abbrev pub IsTask : Ask → FileCommand → Type 0
 IsTask bundle t = ⊥
 IsTask (check paths) t = t ≡ record { command = command.Check; paths = paths; folder = []; setting = default_setting }
-IsTask (explain paths) t = t ≡ record { command = command.Explain; paths = paths; folder = []; setting = default_setting }
+IsTask (explain paths format) t = (bytes_eq format (codes "text") ≡ true) × (t ≡ record { command = command.Explain; paths = paths; folder = []; setting = default_setting })
+IsTask (why code) t = ⊥
 IsTask (serial paths folder) t = t ≡ record { command = command.Serial; paths = paths; folder = folder; setting = default_setting }
 IsTask (run paths folder limits) t = (s : Setting) × IsSetting limits s × (t ≡ record { command = command.Run; paths = paths; folder = folder; setting = s })
 IsTask (generate rows) t = ⊥
 
--- arguments ask for a run, and set none up
+-- arguments ask for a run and set none up, for a format that there is not, or for a code that is none
 abbrev pub IsNoTask : Ask → Type 0
 IsNoTask bundle = ⊥
 IsNoTask (check paths) = ⊥
-IsNoTask (explain paths) = ⊥
+IsNoTask (explain paths format) = (bytes_eq format (codes "text") ≡ false) × (form_named format ≡ None)
+IsNoTask (why code) = is_code code ≡ false
 IsNoTask (serial paths folder) = ⊥
 IsNoTask (run paths folder limits) = IsNoSetting limits
 IsNoTask (generate rows) = ⊥
@@ -61,14 +66,29 @@ pub data TaskRefuses (files : List ℕ → Stored) (reliable : List ℕ → Bool
   for_plan_of : (p : TypedPlanView) → IsFilesPlan files input t.paths p
       → CommandRefuses t.command p (holds_at files t.folder) (LacksAt files reliable t.folder) t.setting e → TaskRefuses files reliable input failed t e
 
+-- the text is that of the plan of these paths in a form
+abbrev pub AnswersForm : (List ℕ → Stored) → Option (List ℕ) → PlanForm → Paths → List ℕ → Type 0
+AnswersForm files input f paths text = (p : TypedPlanView) × IsFilesPlan files input paths p × IsInForm f p text
+
+-- the first reason why there is none: the plan, or a note that is not shown; out of memory may come anywhere
+pub data FormIsRefused (files : List ℕ → Stored) (reliable : List ℕ → Bool) (input : Option (List ℕ)) (failed : Bool) (paths : Paths) (e : Refusal) : Type 0 where
+  for_form_planning : IsFilesRefusal files reliable input failed paths e → FormIsRefused files reliable input failed paths e
+  for_form : (p : TypedPlanView) → IsFilesPlan files input paths p → FormRefuses p e → FormIsRefused files reliable input failed paths e
+
+-- the text begins with the code, and a space
+abbrev pub IsEntry : List ℕ → List ℕ → Type 0
+IsEntry code text = (is_code code ≡ true) × (take (length code + 1) text ≡ code ++ codes " ")
+
 -- the program's name, and then the arguments
 abbrev pub with_program_name : List (List ℕ) → List (List ℕ)
 with_program_name arguments = codes "volcano" ∷ arguments
 
--- the text answers what arguments ask for: the bundle on standard input, a task, or a relation, which has 10,000,000 rows at most
+-- the text answers what arguments ask for: the bundle on standard input, a task, a plan in a form, what a code means, or a relation, which has 10,000,000 rows at most
 pub data AnswersAsk (files : List ℕ → Stored) (input : Option (List ℕ)) (ask : Ask) (text : List ℕ) : Type 0 where
   for_bundle : ask ≡ bundle → IfSome input (λ bytes. IsAnswer bytes text) → AnswersAsk files input ask text
   for_task : (t : FileCommand) → IsTask ask t → AnswersTask files input t text → AnswersAsk files input ask text
+  for_plan_form : (f : PlanForm) (paths : Paths) (format : List ℕ) → ask ≡ explain paths format → form_named format ≡ Some f → AnswersForm files input f paths text → AnswersAsk files input ask text
+  for_code : (code : List ℕ) → ask ≡ why code → IsEntry code text → AnswersAsk files input ask text
   for_relation : (rows : ℕ) → ask ≡ generate rows → rows ≤ max_rows → text ≡ csv_text column_names (wisconsin rows) → AnswersAsk files input ask text
 
 -- what arguments ask for is refused with this refusal
@@ -76,6 +96,7 @@ pub data AskRefuses (files : List ℕ → Stored) (reliable : List ℕ → Bool)
   ask_memory : e ≡ refusal.NoMemory → AskRefuses files reliable input failed ask e
   for_asked_bundle : ask ≡ bundle → RefusedWith input failed e → AskRefuses files reliable input failed ask e
   for_asked_task : (t : FileCommand) → IsTask ask t → TaskRefuses files reliable input failed t e → AskRefuses files reliable input failed ask e
+  for_asked_form : (f : PlanForm) (paths : Paths) (format : List ℕ) → ask ≡ explain paths format → form_named format ≡ Some f → FormIsRefused files reliable input failed paths e → AskRefuses files reliable input failed ask e
   for_asked_relation : (rows : ℕ) → ask ≡ generate rows → max_rows < rows → e ≡ refusal.TooLarge → AskRefuses files reliable input failed ask e
 
 -- arguments ask for help or for the version
@@ -96,7 +117,7 @@ pub data AnswersArguments (files : List ℕ → Stored) (input : Option (List �
 abbrev pub IsUsageKind : ErrorKind → Type 0
 IsUsageKind k = (k ≢ kind.DisplayHelp) × (k ≢ kind.DisplayVersion) × (k ≢ kind.OutOfMemory)
 
--- wrong arguments: those that clap refuses, those that ask for nothing, and those that ask for a run and set none up
+-- wrong arguments: those that clap refuses, those that ask for nothing, and those that ask for what there is not
 pub data IsUsageError (arguments : List (List ℕ)) : Type 0 where
   for_kind : (k : ErrorKind) → IsAmong k (faults_of (with_program_name arguments)) → IsUsageKind k → IsUsageError arguments
   for_nothing : faults_of (with_program_name arguments) ≡ [] → asked_by (with_program_name arguments) ≡ None → IsUsageError arguments

@@ -1,6 +1,6 @@
 -- What arguments ask for, as it is held; what answers them, and why they have no answer.
-use Rattle.std.specs.Prelude.{◌≡◌, ℕ, ◌⊎◌, List, Bool, Option, string_bytes}
-use Rattle.vx_arguments.specs.Asked.{paths_are, Ask, bundle, generate}
+use Rattle.std.specs.Prelude.{◌≡◌, ℕ, ◌⊎◌, List, Bool, Option, Some, string_bytes}
+use Rattle.vx_arguments.specs.Asked.{paths_are, Ask, bundle, explain, why, generate}
 use Rattle.vx_answer.specs.declared.command_line.FileCommand as held
 use Rattle.vx_answer.specs.declared.command_line.Job.{Job}
 use Rattle.vx_answer.specs.declared.command_line.Job.TheVariants as job
@@ -12,7 +12,8 @@ use Rattle.clap.specs.declared.error.kind.ErrorKind.{ErrorKind}
 use Rattle.clap.specs.declared.error.kind.ErrorKind.TheVariants as kind
 use Rattle.vx_refusals.specs.declared.refusal.Refusal.TheVariants as refusal
 use Rattle.vx_bytes.specs.Stored.{Stored}
-use Rattle.vx_answer.specs.CommandLine.{FileCommand, IsTask, IsNoTask, AnswersAsk, AsksFor, AnswersArguments, IsUsageKind, AskRefuses, IsUsageError, ArgumentsRefuse}
+use Rattle.vx_answer.specs.Forms.{form_named}
+use Rattle.vx_answer.specs.CommandLine.{FileCommand, IsTask, IsNoTask, IsEntry, AnswersAsk, AsksFor, AnswersArguments, IsUsageKind, AskRefuses, IsUsageError, ArgumentsRefuse}
 
 abbrev pub task_is : held.FileCommand → FileCommand
 task_is t = record { command = t.command; paths = paths_are t.sources; folder = t.folder.now; setting = t.setting }
@@ -21,6 +22,8 @@ task_is t = record { command = t.command; paths = paths_are t.sources; folder = 
 abbrev pub IsJob : Ask → Job → Type 0
 IsJob ask job.Bundle = ask ≡ bundle
 IsJob ask (job.Command t) = IsTask ask (task_is t)
+IsJob ask (job.Form f sources) = (format : List ℕ) × (ask ≡ explain (paths_are sources) format) × (form_named format ≡ Some f)
+IsJob ask (job.Entry text) = (code : List ℕ) × (ask ≡ why code) × IsEntry code text.now
 IsJob ask (job.Relation rows) = ask ≡ generate rows
 
 -- what answers what arguments ask for: a finished text, or the number of rows of the relation that they ask for

@@ -3,6 +3,7 @@ pub mod Commands
 pub mod Answer
 pub mod Arguments
 pub mod Files
+pub mod Forms
 pub mod CommandLine
 pub mod CommandLineView
 pub mod Case

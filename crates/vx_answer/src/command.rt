@@ -27,8 +27,8 @@ fn accepted_text(alloc: Global, is_total: bool) -> Result<Vec<u8>, AllocError>
     }
 }
 
-// A plan, once the checker has accepted it.
-fn accepted(plan: TypedPlan) -> Result<CheckedPlan, Refusal>
+/// A plan, once the checker has accepted it.
+pub fn accepted(plan: TypedPlan) -> Result<CheckedPlan, Refusal>
     ensures plan { IfOk result (λ checked. typed_plan checked ≡ plan) }
     ensures shown { IfOk result (λ _. IsShown (resolved_of plan)) }
     ensures refused { IfErr result (λ e. IsNotShown (resolved_of plan) e) }

@@ -2,14 +2,15 @@
 
 ghost use Rattle.std.specs.Prelude.{◌≡◌, map, MatchOption, IfOk, IfErr};
 ghost use Rattle.clap.specs.Values.{kind_of};
-ghost use Rattle.vx_arguments.specs.Asked.{asked_is, paths_are, given_is, run};
+ghost use Rattle.vx_arguments.specs.Asked.{asked_is, paths_are, given_is, run, explain, why};
 ghost use Rattle.vx_answer.specs.Arguments.{IsNoSetting};
-ghost use Rattle.vx_answer.specs.CommandLine.{default_setting, IsTask, IsNoTask, AnswersTask, TaskRefuses, with_program_name};
+ghost use Rattle.vx_answer.specs.CommandLine.{default_setting, IsTask, IsNoTask, AnswersTask, TaskRefuses, AnswersForm, FormIsRefused, with_program_name};
 ghost use Rattle.vx_answer.specs.CommandLineView.{task_is, IsJob, IsAskAnswer, IsArgumentAnswer, IsHelp, HasUsageText, IsClapFault, IsAskFault, IsArgumentFault};
 
 use crate::arguments::setting_in;
 use crate::command::execute;
 use crate::files::plan_from_files;
+use crate::forms::{PlanForm, form_named, plan_in_form};
 use crate::program::outcome_of;
 use clap::Error;
 use clap::error::ErrorKind;
@@ -21,6 +22,7 @@ use vx_bundle::{Command, MORSEL, Mode, PACKET, SLACK, Setting};
 use vx_bytes::{ByteIn, Store};
 use vx_refusals::Refusal;
 use vx_tables::Folder;
+use vx_why::entry;
 
 /// A command over the catalog, the plan and the folder of tables that arguments name.
 #[derive(Drop)]
@@ -37,6 +39,10 @@ enum Job<'a> {
     /// The answer to a bundle on standard input.
     Bundle,
     Command(FileCommand<'a>),
+    /// A plan in a form, over the catalog and the plan that arguments name.
+    Form(PlanForm, Sources<'a>),
+    /// What a code means.
+    Entry(&'static str),
     /// The text of the relation with so many rows.
     Relation(u64),
 }
@@ -126,6 +132,30 @@ fn run_task<'a>(
     }
 }
 
+// What explaining a plan in the format of this name is.
+fn explain_job<'a>(alloc: Global, sources: Sources<'a>, format: &str) -> Option<Job<'a>>
+    ensures { MatchOption result (IsNoTask (explain (paths_are sources.entry) format.now)) (λ j. IsJob (explain (paths_are sources.entry) format.now) j) }
+{
+    if format == "text" {
+        let task = plain_task(alloc, Command::Explain, sources, "");
+        return Some(Job::Command(task));
+    }
+    match form_named(format) {
+        Some(form) => Some(Job::Form(form, sources)),
+        None => None,
+    }
+}
+
+// What telling the meaning of a code is.
+fn why_job<'a>(code: &str) -> Option<Job<'a>>
+    ensures { MatchOption result (IsNoTask (why code.now)) (λ j. IsJob (why code.now) j) }
+{
+    match entry(code) {
+        Some(text) => Some(Job::Entry(text)),
+        None => None,
+    }
+}
+
 // The job that is asked for: `None` if the arguments set no run up.
 fn job_in<'a>(alloc: Global, asked: &Asked<'a>) -> Result<Option<Job<'a>>, AllocError>
     ensures { IfOk result (λ o. MatchOption o (IsNoTask (asked_is asked.now)) (λ j. IsJob (asked_is asked.now) j)) }
@@ -136,10 +166,8 @@ fn job_in<'a>(alloc: Global, asked: &Asked<'a>) -> Result<Option<Job<'a>>, Alloc
             let task = plain_task(alloc, Command::Check, *sources, "");
             Ok(Some(Job::Command(task)))
         }
-        Asked::Explain(sources) => {
-            let task = plain_task(alloc, Command::Explain, *sources, "");
-            Ok(Some(Job::Command(task)))
-        }
+        Asked::Explain(sources, format) => Ok(explain_job(alloc, *sources, format)),
+        Asked::Why(code) => Ok(why_job(code)),
         Asked::Serial(sources, folder) => {
             let task = plain_task(alloc, Command::Serial, *sources, *folder);
             Ok(Some(Job::Command(task)))
@@ -171,6 +199,36 @@ fn answer_task<T: Threads + Wait + Sync, F: Store, I: ByteIn>(
     execute(rt, alloc, task.command, &folder, &task.setting, plan)
 }
 
+// The plan at one path over the catalog at the other, in a form.
+fn answer_form<F: Store, I: ByteIn>(
+    alloc: Global,
+    files: &F,
+    input: &mut I,
+    form: PlanForm,
+    sources: Sources<'_>,
+) -> Result<Vec<u8>, Refusal>
+    ensures text { IfOk result (λ text. AnswersForm (F.holds files.now) (I.remaining input.old) form (paths_are sources.entry) text.items) }
+    ensures refused { IfErr result (λ e. FormIsRefused (F.holds files.now) (F.is_reliable files.now) (I.remaining input.old) (I.has_failed input.new) (paths_are sources.entry) e) }
+{
+    let plan = plan_from_files(alloc, files, input, sources)?;
+    plan_in_form(alloc, form, plan)
+}
+
+// What is wrong with arguments that ask for what there is not.
+fn usage_text(asked: &Asked<'_>) -> &'static str {
+    match asked {
+        Asked::Explain(_, _) => {
+            "volcano: a format is `text`, `json` or `dot`; see volcano explain --help\n"
+        }
+        Asked::Why(_) => {
+            "volcano: a code is C1 to C12, P1 to P13, K1 to K9, X1 to X14 or V1 to V6; see volcano why --help\n"
+        }
+        _ => {
+            "volcano: a mode is `rounds` or `threads`, and a size is NAME=N with a number of workers; see volcano run --help\n"
+        }
+    }
+}
+
 // The fault of wrong arguments, with the text that says how they are wrong.
 fn usage_error(alloc: Global, text: &str) -> ArgumentFault
     ensures { HasUsageText text.now result }
@@ -198,11 +256,16 @@ fn answer_asked<T: Threads + Wait + Sync, F: Store, I: ByteIn>(
             let text = answer_task(rt, alloc, files, input, &task)?;
             Ok(ArgumentAnswer::Text(text))
         }
+        Some(Job::Form(form, sources)) => {
+            let text = answer_form(alloc, files, input, form, sources)?;
+            Ok(ArgumentAnswer::Text(text))
+        }
+        Some(Job::Entry(text)) => {
+            let text = Vec::from_slice(alloc, text.as_bytes())?;
+            Ok(ArgumentAnswer::Text(text))
+        }
         Some(Job::Relation(rows)) => Ok(ArgumentAnswer::Relation(rows)),
-        None => Err(usage_error(
-            alloc,
-            "volcano: a mode is `rounds` or `threads`, and a size is NAME=N with a number of workers; see volcano run --help\n",
-        )),
+        None => Err(usage_error(alloc, usage_text(asked))),
     }
 }
 

@@ -6,6 +6,7 @@ mod bundle;
 mod command;
 mod command_line;
 mod files;
+mod forms;
 mod laws;
 mod program;
 mod run;

@@ -25,15 +25,19 @@ number_rule name default =
 abbrev pub rows_rule : Rule
 rows_rule = record (new_rule (codes "rows")) { long = Some (codes "rows"); value_names = 1; required = true; parser = Some (parser.Unsigned 0 18446744073709551615) }
 
--- the mode of a run, which has a default
-abbrev pub mode_rule : Rule
-mode_rule = record (new_rule (codes "mode")) { long = Some (codes "mode"); value_names = 1; defaults = codes "rounds" ∷ [] }
+-- an option with a word, which has a default
+abbrev pub word_rule : Text → Text → Rule
+word_rule name default = record (new_rule name) { long = Some name; value_names = 1; defaults = default ∷ [] }
+
+-- the code of a refusal, an argument that has to be given
+abbrev pub code_rule : Rule
+code_rule = record (new_rule (codes "code")) { value_names = 1; required = true }
 
 -- the arguments behind all options: each a size name with its number of workers
 abbrev pub sizes_rule : Rule
 sizes_rule = record (new_rule (codes "sizes")) { value_names = 1; range = Some (record { start_inclusive = 0; end_inclusive = usize_max }) }
 
--- check and explain
+-- a command that reads a catalog and a plan alone
 abbrev pub judging_app : Text → App
 judging_app name = with_rule (with_rule (new_app name) (path_rule (codes "catalog"))) (path_rule (codes "plan"))
 
@@ -43,10 +47,16 @@ serial_app = with_rule (judging_app (codes "serial")) (path_rule (codes "data"))
 abbrev pub run_app : App
 run_app =
     with_rule (with_rule (with_rule (with_rule (with_rule (with_rule (judging_app (codes "run")) (path_rule (codes "data")))
-    (number_rule (codes "packet") (codes "256"))) (number_rule (codes "morsel") (codes "1024"))) (number_rule (codes "slack") (codes "8"))) mode_rule) sizes_rule
+    (number_rule (codes "packet") (codes "256"))) (number_rule (codes "morsel") (codes "1024"))) (number_rule (codes "slack") (codes "8"))) (word_rule (codes "mode") (codes "rounds"))) sizes_rule
 
 abbrev pub gen_app : App
 gen_app = with_rule (new_app (codes "gen")) rows_rule
+
+abbrev pub explain_app : App
+explain_app = with_rule (judging_app (codes "explain")) (word_rule (codes "format") (codes "text"))
+
+abbrev pub why_app : App
+why_app = with_rule (new_app (codes "why")) code_rule
 
 -- the program without its commands, which has a version
 abbrev pub program_app : App
@@ -55,8 +65,8 @@ program_app = on_top (λ s. record s { has_version = true }) (new_app (codes "vo
 -- the program
 abbrev pub volcano_app : App
 volcano_app =
-    with_subcommand (with_subcommand (with_subcommand (with_subcommand (with_subcommand program_app run_app.top) serial_app.top) (judging_app (codes "check")).top)
-    (judging_app (codes "explain")).top) gen_app.top
+    with_subcommand (with_subcommand (with_subcommand (with_subcommand (with_subcommand (with_subcommand program_app run_app.top) serial_app.top)
+    (judging_app (codes "check")).top) explain_app.top) why_app.top) gen_app.top
 
 -- the paths of a catalog and of a plan
 pub record Paths : Type 0 where
@@ -74,7 +84,8 @@ pub record Given : Type 0 where
 pub data Ask : Type 0 where
   bundle : Ask
   check : Paths → Ask
-  explain : Paths → Ask
+  explain : Paths → (format : Text) → Ask
+  why : (code : Text) → Ask
   serial : Paths → Text → Ask
   run : Paths → Text → Given → Ask
   generate : ℕ → Ask
@@ -97,6 +108,9 @@ serial_of rows = option_and_then (λ p. option_map (serial p) (first_of (codes "
 abbrev pub run_of : List Row → Option Ask
 run_of rows = option_and_then (λ p. option_and_then (λ d. option_map (run p d) (given_of rows)) (first_of (codes "data") rows)) (paths_of rows)
 
+abbrev pub explain_of : List Row → Option Ask
+explain_of rows = option_and_then (λ p. option_map (explain p) (first_of (codes "format") rows)) (paths_of rows)
+
 -- the number of 64 bits that a text of digits is, behind a plus or not, if it is one
 abbrev pub number_of : Text → Option ℕ
 number_of text = if is_unsigned_in 0 18446744073709551615 text then Some (digits_value 10 (without_leading_plus text)) else None
@@ -111,7 +125,8 @@ ask_of (Some p) =
     if bytes_eq p.0 (codes "run") then run_of p.1
     else if bytes_eq p.0 (codes "serial") then serial_of p.1
     else if bytes_eq p.0 (codes "check") then option_map check (paths_of p.1)
-    else if bytes_eq p.0 (codes "explain") then option_map explain (paths_of p.1)
+    else if bytes_eq p.0 (codes "explain") then explain_of p.1
+    else if bytes_eq p.0 (codes "why") then option_map why (first_of (codes "code") p.1)
     else if bytes_eq p.0 (codes "gen") then generate_of p.1
     else None
 
@@ -132,7 +147,8 @@ given_is l = record { packet = l.packet.now; morsel = l.morsel.now; slack = l.sl
 abbrev pub asked_is : Asked → Ask
 asked_is asked.Bundle = bundle
 asked_is (asked.Check sources) = check (paths_are sources)
-asked_is (asked.Explain sources) = explain (paths_are sources)
+asked_is (asked.Explain sources format) = explain (paths_are sources) format.now
+asked_is (asked.Why code) = why code.now
 asked_is (asked.Serial sources folder) = serial (paths_are sources) folder.now
 asked_is (asked.Run sources folder limits) = run (paths_are sources) folder.now (given_is limits)
 asked_is (asked.Generate rows) = generate rows

@@ -2,7 +2,7 @@
 
 ghost use Rattle.std.specs.Prelude.{◌≡◌, IfOk, false, map, option_map, option_and_then, codes};
 ghost use Rattle.clap.specs.Words.{FailsBy, fault_of, rows_of, found_of, first_of, all_of, subcommand_of, subcommand_rows_of};
-ghost use Rattle.vx_arguments.specs.Asked.{volcano_app, paths_of, given_of, sizes_of, serial_of, run_of, number_of, generate_of, ask_of, asked_by, faults_of, paths_are, given_is, asked_is};
+ghost use Rattle.vx_arguments.specs.Asked.{volcano_app, paths_of, given_of, sizes_of, serial_of, explain_of, run_of, number_of, generate_of, ask_of, asked_by, faults_of, paths_are, given_is, asked_is};
 
 use crate::command_line::command;
 use clap::{ArgMatches, Error};
@@ -31,7 +31,10 @@ pub enum Asked<'a> {
     /// No command: the answer to a bundle on standard input.
     Bundle,
     Check(Sources<'a>),
-    Explain(Sources<'a>),
+    /// With the name of the text's format.
+    Explain(Sources<'a>, &'a str),
+    /// With the code of a refusal.
+    Why(&'a str),
     /// With the folder of the tables.
     Serial(Sources<'a>, &'a str),
     /// With the folder of the tables.
@@ -96,6 +99,14 @@ fn limits_in<'a>(alloc: Global, found: &ArgMatches<'a>) -> Result<Option<Limits<
     }))
 }
 
+fn explain_asked<'a>(found: &ArgMatches<'a>) -> Option<Asked<'a>>
+    ensures { option_map asked_is result ≡ explain_of (rows_of (found_of found.now)) }
+{
+    let sources = sources_in(found)?;
+    let format = value(found, "format")?;
+    Some(Asked::Explain(sources, format))
+}
+
 fn serial_asked<'a>(found: &ArgMatches<'a>) -> Option<Asked<'a>>
     ensures { option_map asked_is result ≡ serial_of (rows_of (found_of found.now)) }
 {
@@ -158,7 +169,8 @@ fn asked_in<'a>(alloc: Global, matches: &ArgMatches<'a>) -> Result<Option<Asked<
         "run" => run_asked(alloc, found),
         "serial" => Ok(serial_asked(found)),
         "check" => Ok(sources_in(found).map(Asked::Check)),
-        "explain" => Ok(sources_in(found).map(Asked::Explain)),
+        "explain" => Ok(explain_asked(found)),
+        "why" => Ok(value(found, "code").map(Asked::Why)),
         "gen" => Ok(generate_asked(found)),
         _ => Ok(None),
     }

@@ -3,7 +3,7 @@
 ghost use Rattle.std.specs.Prelude.{◌≡◌, IfOk, false, codes};
 ghost use Rattle.clap.specs.Words.{app_of, rule_of};
 ghost use Rattle.clap.specs.declared.builder.command.Command.TheViews.{out-Command as fields_of};
-ghost use Rattle.vx_arguments.specs.Asked.{path_rule, number_rule, rows_rule, mode_rule, sizes_rule, judging_app, serial_app, run_app, gen_app, program_app, volcano_app};
+ghost use Rattle.vx_arguments.specs.Asked.{path_rule, number_rule, rows_rule, word_rule, code_rule, sizes_rule, judging_app, serial_app, run_app, explain_app, why_app, gen_app, program_app, volcano_app};
 
 use clap::{Arg, Command, value_parser};
 use std::alloc::{AllocError, Global};
@@ -45,17 +45,58 @@ fn rows_option<'a>(alloc: Global) -> Arg<'a>
         .value_parser(value_parser!(u64))
 }
 
-fn mode_option<'a>(alloc: Global) -> Arg<'a>
-    ensures rule { rule_of result ≡ mode_rule }
+// An option with a word, which has a default.
+fn word_option<'a>(
+    alloc: Global,
+    name: &'a str,
+    kind: &'a str,
+    default: &'a str,
+    help: &'a str,
+) -> Arg<'a>
+    ensures rule { rule_of result ≡ word_rule name.entry.now default.entry.now }
     ensures own { result.global ≡ false }
 {
-    Arg::new(alloc, "mode")
-        .long("mode")
-        .value_name("MODE")
-        .help(
-            "Where the workers run: `rounds`, in turns of one thread, or `threads`, each in a thread of its own",
-        )
-        .default_value("rounds")
+    Arg::new(alloc, name)
+        .long(name)
+        .value_name(kind)
+        .help(help)
+        .default_value(default)
+}
+
+fn mode_option<'a>(alloc: Global) -> Arg<'a>
+    ensures rule { rule_of result ≡ word_rule (codes "mode") (codes "rounds") }
+    ensures own { result.global ≡ false }
+{
+    word_option(
+        alloc,
+        "mode",
+        "MODE",
+        "rounds",
+        "Where the workers run: `rounds`, in turns of one thread, or `threads`, each in a thread of its own",
+    )
+}
+
+fn format_option<'a>(alloc: Global) -> Arg<'a>
+    ensures rule { rule_of result ≡ word_rule (codes "format") (codes "text") }
+    ensures own { result.global ≡ false }
+{
+    word_option(
+        alloc,
+        "format",
+        "FORMAT",
+        "text",
+        "What is printed: `text`, a line for each node; `json`, an object for each node; or `dot`, a picture for Graphviz",
+    )
+}
+
+fn code_argument<'a>(alloc: Global) -> Arg<'a>
+    ensures rule { rule_of result ≡ code_rule }
+    ensures own { result.global ≡ false }
+{
+    Arg::new(alloc, "code")
+        .value_name("CODE")
+        .help("The code that a refusal begins with, such as K4")
+        .required(true)
 }
 
 fn sizes_argument<'a>(alloc: Global) -> Arg<'a>
@@ -180,15 +221,26 @@ fn check<'a>(alloc: Global) -> Result<Command<'a>, AllocError>
 }
 
 fn explain<'a>(alloc: Global) -> Result<Command<'a>, AllocError>
-    ensures app { IfOk result (λ c. app_of c ≡ judging_app (codes "explain")) }
+    ensures app { IfOk result (λ c. app_of c ≡ explain_app) }
     ensures local { IfOk result (λ c. (fields_of c).has_globals ≡ false) }
 {
     judging(
         alloc,
         "explain",
-        "Prints a plan that the checker accepts as a text, a line for each node",
+        "Prints a plan that the checker accepts: as a text with a line for each node, as JSON, or as a picture for Graphviz",
         "Example: volcano explain --catalog catalog.json --plan plan.json",
-    )
+    )?
+    .arg(format_option(alloc))
+}
+
+fn why<'a>(alloc: Global) -> Result<Command<'a>, AllocError>
+    ensures app { IfOk result (λ c. app_of c ≡ why_app) }
+    ensures local { IfOk result (λ c. (fields_of c).has_globals ≡ false) }
+{
+    Command::new(alloc, "why")
+        .about("Says what a refusal of this code means, its usual causes and its cure")
+        .after_help("Example: volcano why K4")
+        .arg(code_argument(alloc))
 }
 
 fn generate<'a>(alloc: Global) -> Result<Command<'a>, AllocError>
@@ -226,5 +278,6 @@ pub fn command<'a>(alloc: Global) -> Result<Command<'a>, AllocError>
         .subcommand(serial(alloc)?)?
         .subcommand(check(alloc)?)?
         .subcommand(explain(alloc)?)?
+        .subcommand(why(alloc)?)?
         .subcommand(generate(alloc)?)
 }
