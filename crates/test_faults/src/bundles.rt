@@ -18,7 +18,8 @@ pub const MODES: [&str; 2] = ["rounds", "threads"];
 /// Three workers of each group, which send and draw row by row.
 pub const OF_THREE: &str = r#""sizes":{"many":3},"packet":1,"morsel":1,"slack":4"#;
 
-/// A plan in which words in capitals stand for scans, the rows of its two relations, and the members of a bundle that set its run up.
+/// A plan in which words in capitals stand for scans, the rows of its two relations, and the members of a bundle that
+/// set its run up.
 #[derive(Clone, Copy)]
 pub struct Case<'a> {
     pub plan: &'a str,
@@ -60,7 +61,8 @@ impl<'a> Case<'a> {
     }
 }
 
-/// What goes to an output with so much room, what goes to the errors, and the status, for a bundle that fails after so many bytes.
+/// What goes to an output with so much room, what goes to the errors, and the status, for a bundle that fails after so
+/// many bytes.
 pub fn written<R: Threads + Wait + Sync + Files<File = File> + AllocGlobal>(
     rt: &R,
     bundle: &str,
@@ -70,7 +72,15 @@ pub fn written<R: Threads + Wait + Sync + Files<File = File> + AllocGlobal>(
     let mut input = MemoryIn::new(bundle.as_bytes(), fails_after);
     let mut out = MemoryOut::new(rt.alloc(), 3, room);
     let mut err = MemoryOut::new(rt.alloc(), 10, ROOM);
-    let status = answer(rt, rt.alloc(), &[], &Disk::new(rt), &mut input, &mut out, &mut err);
+    let status = answer(
+        rt,
+        rt.alloc(),
+        &[],
+        &Disk::new(rt),
+        &mut input,
+        &mut out,
+        &mut err,
+    );
     let out = str::from_utf8(out.bytes())?;
     let err = str::from_utf8(err.bytes())?;
     Ok(format!(in rt.alloc(); "{out}|{err}|{status}")?)

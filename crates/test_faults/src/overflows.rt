@@ -1,4 +1,5 @@
-//! Sums that leave 64 bits: in each mode it is the whole sum that counts, and the node is that of the group, also where two workers fail at once.
+//! Sums that leave 64 bits: in each mode it is the whole sum that counts, and the node is that of the group, also
+//! where two workers fail at once.
 
 use crate::bundles::{Case, MODES, printed};
 use crate::plans::{BOTH_TOO_LARGE, GROUPED, JOINED_SUMS, LARGE, ROWS_OF_D, TOO_LARGE, TWO_PHASES};
@@ -17,12 +18,32 @@ const LARGEST: &str = "k,s\na,9223372036854775807\n||0";
 const SUMS: [(&str, &str, &str, &str); 7] = [
     (GROUPED, "", ROWS_OF_D, "k,s\n||0"),
     (GROUPED, LARGE, ROWS_OF_D, LARGEST),
-    (GROUPED, TOO_LARGE, ROWS_OF_D, "|volcano: X7 Overflow node=2\n|4"),
+    (
+        GROUPED,
+        TOO_LARGE,
+        ROWS_OF_D,
+        "|volcano: X7 Overflow node=2\n|4",
+    ),
     // Two workers overflow.
-    (GROUPED, BOTH_TOO_LARGE, ROWS_OF_D, "|volcano: X7 Overflow node=2\n|4"),
+    (
+        GROUPED,
+        BOTH_TOO_LARGE,
+        ROWS_OF_D,
+        "|volcano: X7 Overflow node=2\n|4",
+    ),
     (JOINED_SUMS, LARGE, "", "k,s,d.k,d.n\n||0"),
-    (JOINED_SUMS, TOO_LARGE, "", "|volcano: X7 Overflow node=1\n|4"),
-    (JOINED_SUMS, TOO_LARGE, ROWS_OF_D, "|volcano: X7 Overflow node=1\n|4"),
+    (
+        JOINED_SUMS,
+        TOO_LARGE,
+        "",
+        "|volcano: X7 Overflow node=1\n|4",
+    ),
+    (
+        JOINED_SUMS,
+        TOO_LARGE,
+        ROWS_OF_D,
+        "|volcano: X7 Overflow node=1\n|4",
+    ),
 ];
 
 // How many of these runs come to another line.

@@ -1,5 +1,5 @@
-//! Worked plans that are refused come to the same line in each mode, and where a case has several faults, to the first in the order of the
-//! catalog, the plan, the checker, the tables, the setup and the run.
+//! Worked plans that are refused come to the same line in each mode, and where a case has several faults, to the first
+//! in the order of the catalog, the plan, the checker, the tables, the setup and the run.
 
 use crate::bundles::{Case, MODES, OF_THREE, printed};
 use crate::plans::{GROUPED, MERGED, ROWS_OF_D, ROWS_OF_T};
@@ -45,9 +45,15 @@ const IN_A_ROW: &str =
 
 // Plans with their lines.
 const REFUSED_PLANS: [(&str, &str); 8] = [
-    (OF_NO_RELATION, "|volcano: P4 UnknownRelation node=1 name=u\n|3"),
+    (
+        OF_NO_RELATION,
+        "|volcano: P4 UnknownRelation node=1 name=u\n|3",
+    ),
     (OF_TWO_TYPES, "|volcano: P7 TypeMismatch node=1\n|3"),
-    (PARTIAL_AT_THE_ROOT, "|volcano: P13 PhaseMismatch node=0\n|3"),
+    (
+        PARTIAL_AT_THE_ROOT,
+        "|volcano: P13 PhaseMismatch node=0\n|3",
+    ),
     (UNROUTED, "|volcano: K4 InputsNotMatched node=1\n|3"),
     (REPLICATED, "|volcano: K5 ReplicatedInput node=0\n|3"),
     (GATHERED_IN_ORDER, "|volcano: K6 OrderNotShown node=0\n|3"),
@@ -57,24 +63,67 @@ const REFUSED_PLANS: [(&str, &str); 8] = [
 
 // Members of a bundle that set a run up, with their lines.
 const REFUSED_SETTINGS: [(&str, &str); 9] = [
-    (r#""sizes":{"few":3}"#, "|volcano: X1 SizeMissing name=many\n|3"),
-    (r#""sizes":{"many":0}"#, "|volcano: X2 SizeOutOfRange name=many\n|3"),
-    (r#""sizes":{"many":65}"#, "|volcano: X2 SizeOutOfRange name=many\n|3"),
-    (r#""sizes":{"many":3},"packet":0"#, "|volcano: X3 BadPacket\n|3"),
-    (r#""sizes":{"many":3},"packet":4097"#, "|volcano: X3 BadPacket\n|3"),
-    (r#""sizes":{"many":3},"morsel":0"#, "|volcano: X4 BadMorsel\n|3"),
-    (r#""sizes":{"many":3},"morsel":1000001"#, "|volcano: X4 BadMorsel\n|3"),
-    (r#""sizes":{"many":3},"slack":0"#, "|volcano: X14 BadSlack\n|3"),
-    (r#""sizes":{"many":3},"slack":1025"#, "|volcano: X14 BadSlack\n|3"),
+    (
+        r#""sizes":{"few":3}"#,
+        "|volcano: X1 SizeMissing name=many\n|3",
+    ),
+    (
+        r#""sizes":{"many":0}"#,
+        "|volcano: X2 SizeOutOfRange name=many\n|3",
+    ),
+    (
+        r#""sizes":{"many":65}"#,
+        "|volcano: X2 SizeOutOfRange name=many\n|3",
+    ),
+    (
+        r#""sizes":{"many":3},"packet":0"#,
+        "|volcano: X3 BadPacket\n|3",
+    ),
+    (
+        r#""sizes":{"many":3},"packet":4097"#,
+        "|volcano: X3 BadPacket\n|3",
+    ),
+    (
+        r#""sizes":{"many":3},"morsel":0"#,
+        "|volcano: X4 BadMorsel\n|3",
+    ),
+    (
+        r#""sizes":{"many":3},"morsel":1000001"#,
+        "|volcano: X4 BadMorsel\n|3",
+    ),
+    (
+        r#""sizes":{"many":3},"slack":0"#,
+        "|volcano: X14 BadSlack\n|3",
+    ),
+    (
+        r#""sizes":{"many":3},"slack":1025"#,
+        "|volcano: X14 BadSlack\n|3",
+    ),
 ];
 
 // Rows of t and of d, with their lines.
 const REFUSED_TABLES: [(&str, &str, &str); 6] = [
     ("0,a\n", ROWS_OF_D, "|volcano: C5 BadWidth row=0\n|3"),
-    ("0,a,5\n1,a,x\n", ROWS_OF_D, "|volcano: C6 BadInt row=1 col=2\n|3"),
-    ("0,a,5\n0,b,7\n", ROWS_OF_D, "|volcano: C8 KeyBroken key=0 first=0 second=1\n|3"),
-    ("1,a,5\n0,b,7\n", ROWS_OF_D, "|volcano: C9 OrderBroken row=1\n|3"),
-    (ROWS_OF_T, "a,1\na,2\n", "|volcano: C8 KeyBroken key=0 first=0 second=1\n|3"),
+    (
+        "0,a,5\n1,a,x\n",
+        ROWS_OF_D,
+        "|volcano: C6 BadInt row=1 col=2\n|3",
+    ),
+    (
+        "0,a,5\n0,b,7\n",
+        ROWS_OF_D,
+        "|volcano: C8 KeyBroken key=0 first=0 second=1\n|3",
+    ),
+    (
+        "1,a,5\n0,b,7\n",
+        ROWS_OF_D,
+        "|volcano: C9 OrderBroken row=1\n|3",
+    ),
+    (
+        ROWS_OF_T,
+        "a,1\na,2\n",
+        "|volcano: C8 KeyBroken key=0 first=0 second=1\n|3",
+    ),
     // The first table is refused before the second.
     ("0,a\n", "a,1\na,2\n", "|volcano: C5 BadWidth row=0\n|3"),
 ];
@@ -101,7 +150,11 @@ fn other_line<R: Threads + Wait + Sync + Files<File = File> + AllocGlobal>(
 #[test]
 fn plans_have_their_lines(rt: HostRuntime) -> Result<(), Fail> {
     for (plan, line) in REFUSED_PLANS {
-        assert_eq!(rt; other_line(&rt, &Case::set_up(plan, OF_THREE), line)?, None, "{line}");
+        assert_eq!(rt;
+            other_line(&rt, &Case::set_up(plan, OF_THREE), line)?,
+            None,
+            "{line}"
+        );
         // Neither the rows nor the setting is looked at before the plan is accepted.
         let case = Case {
             rows_of_t: "0,a\n",
@@ -116,7 +169,11 @@ fn plans_have_their_lines(rt: HostRuntime) -> Result<(), Fail> {
 fn settings_have_their_lines(rt: HostRuntime) -> Result<(), Fail> {
     for plan in [MERGED, GROUPED] {
         for (setting, line) in REFUSED_SETTINGS {
-            assert_eq!(rt; other_line(&rt, &Case::set_up(plan, setting), line)?, None, "{line}");
+            assert_eq!(rt;
+                other_line(&rt, &Case::set_up(plan, setting), line)?,
+                None,
+                "{line}"
+            );
         }
     }
     let case = Case::set_up(IN_A_ROW, r#""sizes":{"many":64}"#);

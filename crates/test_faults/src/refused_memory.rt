@@ -1,6 +1,7 @@
-//! Out of memory. Run with each allocation refused in turn, each command answers a bundle as usual, or writes nothing and the line says that
-//! memory ran out; the same call after that answers as usual. `tools/refuse-allocations test_faults` does so. A test with `ample` in its name
-//! makes the same calls once, and passes only where none of its allocations is refused.
+//! Out of memory. Run with each allocation refused in turn, each command answers a bundle as usual, or writes nothing
+//! and the line says that memory ran out; the same call after that answers as usual. `tools/refuse-allocations
+//! test_faults` does so. A test with `ample` in its name makes the same calls once, and passes only where none of its
+//! allocations is refused.
 
 use std::fs::{File, Files};
 use std::process::Abort;
@@ -13,8 +14,8 @@ use vx_bytes::{MemoryIn, Real};
 // More bytes than a bundle, its answer or a refusal of these tests has.
 const ROOM: usize = 10000;
 
-// Bundles, and what comes of them: a selection that is merged, by rounds and by threads; a plain evaluation of sums; a plan that is checked,
-// and one that is explained.
+// Bundles, and what comes of them: a selection that is merged, by rounds and by threads; a plain evaluation of sums; a
+// plan that is checked, and one that is explained.
 const BUNDLES: [(&str, &str); 5] = [
     (
         r#"{"command":"run","catalog":{"relations":[{"name":"t","columns":[{"name":"id","type":"int"},{"name":"k","type":"text"},{"name":"v","type":"int"}],"keys":[["id"]],"order":["id"]}]},"plan":{"sizes":["many"],"total":true,"root":{"op":"exchange","kind":"gather","merge":["id"],"claim":{"part":"one","order":["id"],"keys":[["id"]]},"input":{"op":"select","where":[{"column":"v","op":"=","value":7}],"claim":{"part":"any","order":["id"],"keys":[["id"]]},"input":{"op":"scan","relation":"t","mode":"shared","size":"many","claim":{"part":"any","order":["id"],"keys":[["id"]]}}}}},"tables":{"t":"id,k,v\n0,a,5\n1,b,7\n2,a,-2\n3,c,7\n"},"sizes":{"many":2},"packet":1,"morsel":1,"slack":1,"mode":"rounds"}"#,
@@ -46,7 +47,8 @@ fn is_refusal(line: &[u8]) -> bool {
         || line == b"volcano: X9 NoThread\n".as_slice()
 }
 
-// Whether a bundle is answered. If not, nothing was written, and memory ran out. What is written goes into memory that is there before.
+// Whether a bundle is answered. If not, nothing was written, and memory ran out. What is written goes into memory that
+// is there before.
 fn is_answered<R: Threads + Wait + Sync + Files<File = File> + AllocGlobal + Abort>(
     rt: &R,
     bundle: &str,
@@ -92,7 +94,10 @@ fn refused_memory_is_reported(rt: HostRuntime) -> Result<(), Fail> {
     for (bundle, rows) in BUNDLES {
         let first = is_answered(&rt, bundle, rows);
         let second = is_answered(&rt, bundle, rows);
-        assert!(rt; first || second, "one call after the other ran out of memory");
+        assert!(rt;
+            first || second,
+            "one call after the other ran out of memory"
+        );
     }
     Ok(())
 }

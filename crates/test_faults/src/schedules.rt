@@ -1,4 +1,5 @@
-//! The same sums by schedules that are drawn: no schedule makes a whole sum overflow, and of two workers that fail the node is the same.
+//! The same sums by schedules that are drawn: no schedule makes a whole sum overflow, and of two workers that fail the
+//! node is the same.
 
 ghost use Rattle.std.specs.Prelude.{◌<◌};
 
@@ -75,7 +76,14 @@ fn by_steps(
     setup: &Setup,
     steps: &[u32],
 ) -> Result<String, AllocError> {
-    match run_scheduled(alloc, &loaded.plan, &loaded.database, setup, &ByteRouter, steps) {
+    match run_scheduled(
+        alloc,
+        &loaded.plan,
+        &loaded.database,
+        setup,
+        &ByteRouter,
+        steps,
+    ) {
         Ok(Ran::Done(rows)) => shown(alloc, &rows.gathered(alloc)?),
         Ok(Ran::Unfinished) => String::from_str(alloc, "unfinished"),
         Err(fault) => format!(in alloc; "{fault}"),
@@ -110,7 +118,11 @@ fn a_whole_sum_overflows_by_each_schedule_or_by_none(rt: HostRuntime) -> Result<
         (BOTH_TOO_LARGE, "X7 Overflow node=2"),
     ] {
         let loaded = loaded(alloc, GROUPED, rows_of_t)?;
-        assert_eq!(rt; counted(alloc, &loaded, line, "")?, (SCHEDULES, 0), "{line}");
+        assert_eq!(rt;
+            counted(alloc, &loaded, line, "")?,
+            (SCHEDULES, 0),
+            "{line}"
+        );
     }
     Ok(())
 }
