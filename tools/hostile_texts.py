@@ -102,15 +102,15 @@ def long_prefix(count):
     return Texts(catalog=catalog, plan=json.dumps({"root": root}))
 
 
-def deepest(kind="select"):
-    """A plan of 64 nodes, one below the other: as deep as a plan may be."""
+def deepest(kind="select", mode="rounds"):
+    """A run of a plan of 64 nodes, one below the other: as deep as a plan may be."""
     root = json.loads(NUMBERS)
     for _ in range(63):
         if kind == "select":
             root = {"op": "select", "where": [{"column": "v", "op": "=", "value": 7}], "input": root}
         else:
             root = {"op": "exchange", "kind": "gather", "input": root}
-    return Texts(plan=json.dumps({"root": root}), tables={"u": "v\n7\n8\n"}, command="run")
+    return Texts(plan=json.dumps({"root": root}), tables={"u": "v\n7\n8\n"}, command="run", words=("--mode", mode))
 
 
 TEXTS = [

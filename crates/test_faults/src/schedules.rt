@@ -55,7 +55,7 @@ fn fill(
 }
 
 // The plan of a text, in which words in capitals stand for scans, over these rows of t.
-fn loaded(alloc: Global, text: &str, rows_of_t: &str) -> Result<Loaded, Fail> {
+fn load(alloc: Global, text: &str, rows_of_t: &str) -> Result<Loaded, Fail> {
     let catalog = Catalog::read(alloc, CATALOG.as_bytes())?;
     let plan = Plan::read(alloc, with_scans(alloc, text)?.as_bytes())?;
     let Ok(plan) = check(resolve(alloc, &plan, &catalog)?) else {
@@ -117,7 +117,7 @@ fn a_whole_sum_overflows_by_each_schedule_or_by_none(rt: HostRuntime) -> Result<
         (TOO_LARGE, "X7 Overflow node=2"),
         (BOTH_TOO_LARGE, "X7 Overflow node=2"),
     ] {
-        let loaded = loaded(alloc, GROUPED, rows_of_t)?;
+        let loaded = load(alloc, GROUPED, rows_of_t)?;
         assert_eq!(rt;
             counted(alloc, &loaded, line, "")?,
             (SCHEDULES, 0),
@@ -130,7 +130,7 @@ fn a_whole_sum_overflows_by_each_schedule_or_by_none(rt: HostRuntime) -> Result<
 #[test]
 fn a_part_of_a_sum_overflows_by_some_schedules(rt: HostRuntime) -> Result<(), Fail> {
     let alloc = rt.alloc();
-    let loaded = loaded(alloc, TWO_PHASES, LARGE)?;
+    let loaded = load(alloc, TWO_PHASES, LARGE)?;
     let (rows, overflows) = counted(alloc, &loaded, LARGEST, "X7 Overflow node=4")?;
     assert_eq!(rt; rows.saturating_add(overflows), SCHEDULES);
     assert!(rt; rows > 0 && overflows > 0, "{rows} and {overflows}");
