@@ -77,16 +77,17 @@ def relation(name, letter, count):
 
 
 def claimed_keys(count):
-    """A join of 992 pairs, and so many keys claimed above it and on its right input."""
-    catalog = json.dumps({"relations": [relation("l", "a", 32), relation("r", "b", 31)]})
-    parts = list(islice(combinations([f"b{it}" for it in range(1, 31)], 4), count))
-    right = [["b0", *it] for it in parts]
+    """A join of 992 pairs, and so many keys claimed above it and on its right input, of which only the last is joined whole."""
+    catalog = json.dumps({"relations": [relation("l", "a", 32), relation("r", "b", 32)]})
+    parts = list(islice(combinations([f"b{it}" for it in range(30, 0, -1)], 8), count))
+    right = [*(["b0", *it, "b31"] for it in parts), ["b0"]]
+    above = [["a0", *(it.replace("b", "a") for it in part)] for part in parts]
     scan = {"op": "scan", "mode": "whole", "size": "one"}
     join = {
         "op": "join",
         "method": "hash",
-        "on": [[f"a{left}", f"b{it}"] for left in range(32) for it in range(31)],
-        "claim": {"part": "one", "keys": right},
+        "on": [[f"a{left}", f"b{it}"] for it in range(31) for left in range(32)],
+        "claim": {"part": "one", "keys": above},
         "left": {**scan, "relation": "l", "claim": {"part": "one", "keys": [["a0"]]}},
         "right": {**scan, "relation": "r", "claim": {"part": "one", "keys": right}},
     }
@@ -144,10 +145,10 @@ TEXTS = [
     Kind("bounds of a range", lambda n: Texts(plan=planned(SCAN, f'"ranges":[{{"name":"r","bounds":{listed(map(str, range(n)))}}}],')), 500_000, "P9 BadRange name=r"),
     Kind("relations of a catalog", lambda n: Texts(catalog=f'{{"relations":{listed(json.dumps(relation(f"t{it}", "c", 1)) for it in range(n))}}}'), 50_000, "C12 TooLarge"),
     Kind("conditions of a selection", conditions, 50_000, "accepted"),
-    Kind("arguments that set sizes", lambda n: Texts(command="run", words=tuple(f"s{it}=3" for it in range(n))), 10_000, "k"),
-    Kind("ranges of a plan", declared_ranges, 10_000, "accepted", "time: each name is looked for among all before it"),
-    Kind("outputs of a project", project, 10_000, "P12 TooWide node=0", "time: each name is looked for among all before it"),
-    Kind("outputs of a group", group, 10_000, "P12 TooWide node=0", "time: each name is looked for among all before it"),
+    Kind("arguments that set sizes", lambda n: Texts(command="run", words=tuple(f"s{it}=3" for it in range(n))), 50_000, "k"),
+    Kind("ranges of a plan", declared_ranges, 50_000, "accepted"),
+    Kind("outputs of a project", project, 50_000, "P12 TooWide node=0"),
+    Kind("outputs of a group", group, 50_000, "P12 TooWide node=0"),
     Kind("keys that a join of 992 pairs claims", claimed_keys, 750, "accepted", "time: the keys of the inputs are looked at anew for each claimed key"),
     Kind("a prefix of 64 columns under 61 gathers", long_prefix, 50_000, "accepted", "memory: the names are copied at each node"),
 ]
