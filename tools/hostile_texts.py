@@ -71,6 +71,25 @@ def conditions(count):
     return Texts(plan=planned(f'{{"op":"select","where":{where},"input":{NUMBERS}}}'))
 
 
+def short_keys(count):
+    """Keys of one column each that a scan claims."""
+    keys = listed(['["v"]'] * count)
+    return Texts(plan=planned(f'{NUMBERS[:-1]},"claim":{{"part":"one","keys":{keys}}}}}'))
+
+
+def pairs(count):
+    """One pair of a join, again and again."""
+    on = listed(['["v","v"]'] * count)
+    root = f'{{"op":"join","method":"hash","on":{on},"left":{NUMBERS},"right":{NUMBERS}}}'
+    return Texts(plan=planned(root))
+
+
+def columns(count):
+    """One column of a distinct, again and again."""
+    names = listed(['"k"'] * count)
+    return Texts(plan=planned(f'{{"op":"distinct","columns":{names},"input":{SCAN}}}'))
+
+
 def relation(name, letter, count):
     columns = [{"name": f"{letter}{it}", "type": "int"} for it in range(count)]
     return {"name": name, "columns": columns, "keys": [[f"{letter}0"]]}
@@ -139,6 +158,7 @@ TEXTS = [
     Kind("a table of one row with many fields", lambda n: table("k\n" + "," * n + "\n"), 10_000_000, "C5 BadWidth row=0"),
     Kind("a header of many fields", lambda n: table("," * n + "\n"), 10_000_000, "C4 HeaderMismatch"),
     Kind("a table of short rows", lambda n: table("v\n" + "7\n" * n, "u"), 2_000_000, "v .*"),
+    Kind("a table of short texts", lambda n: table("k\n" + "a\n" * n), 2_000_000, "k a"),
     Kind("a text in a plan that never closes", lambda n: Texts(plan='{"root":"' + "a" * n), 20_000_000, "P1 NotJson"),
     Kind("a text in a plan, written by escapes", lambda n: Texts(plan=planned('"' + r"\u0041" * n + '"')), 2_000_000, "P2 BadNode path=root"),
     Kind("names of sizes", lambda n: Texts(plan=planned(SCAN, f'"sizes":{listed(json.dumps(f"s{it}") for it in range(n))},')), 200_000, "P10 .*"),
@@ -149,6 +169,9 @@ TEXTS = [
     Kind("ranges of a plan", declared_ranges, 50_000, "accepted"),
     Kind("outputs of a project", project, 50_000, "P12 TooWide node=0"),
     Kind("outputs of a group", group, 50_000, "P12 TooWide node=0"),
+    Kind("keys that a scan claims", short_keys, 200_000, "K8 KeyNotShown node=0"),
+    Kind("a pair of a join, repeated", pairs, 200_000, "P6 DuplicateColumn node=0 name=v"),
+    Kind("a column of a distinct, repeated", columns, 200_000, "P6 DuplicateColumn node=0 name=k"),
     Kind("keys that a join of 992 pairs claims", claimed_keys, 750, "accepted", "time: the keys of the inputs are looked at anew for each claimed key"),
     Kind("a prefix of 64 columns under 61 gathers", long_prefix, 50_000, "accepted", "memory: the names are copied at each node"),
 ]
