@@ -51,6 +51,11 @@ def table(text, relation="t"):
     return Texts(plan=planned(scan), tables={relation: text}, command="serial")
 
 
+def bundle(tables):
+    """A bundle that evaluates a scan of the numbers over these tables."""
+    return Texts(bundle=json.dumps({"command": "serial", "catalog": json.loads(CATALOG), "plan": {"root": json.loads(NUMBERS)}, "tables": tables}))
+
+
 def declared_ranges(count):
     ranges = listed(f'{{"name":"r{it}","bounds":[{it}]}}' for it in range(count))
     return Texts(plan=planned(SCAN, f'"ranges":{ranges},'))
@@ -159,6 +164,8 @@ TEXTS = [
     Kind("a header of many fields", lambda n: table("," * n + "\n"), 10_000_000, "C4 HeaderMismatch"),
     Kind("a table of short rows", lambda n: table("v\n" + "7\n" * n, "u"), 2_000_000, "v .*"),
     Kind("a table of short texts", lambda n: table("k\n" + "a\n" * n), 2_000_000, "k a"),
+    Kind("a bundle with a table of short rows", lambda n: bundle({"u": "v\n" + "7\n" * n}), 2_000_000, "v 7"),
+    Kind("tables of a bundle that are not needed", lambda n: bundle({"u": "v\n7\n", **{f"t{it}": "" for it in range(n)}}), 200_000, "v 7"),
     Kind("a text in a plan that never closes", lambda n: Texts(plan='{"root":"' + "a" * n), 20_000_000, "P1 NotJson"),
     Kind("a text in a plan, written by escapes", lambda n: Texts(plan=planned('"' + r"\u0041" * n + '"')), 2_000_000, "P2 BadNode path=root"),
     Kind("names of sizes", lambda n: Texts(plan=planned(SCAN, f'"sizes":{listed(json.dumps(f"s{it}") for it in range(n))},')), 200_000, "P10 .*"),
@@ -169,9 +176,9 @@ TEXTS = [
     Kind("ranges of a plan", declared_ranges, 50_000, "accepted"),
     Kind("outputs of a project", project, 50_000, "P12 TooWide node=0"),
     Kind("outputs of a group", group, 50_000, "P12 TooWide node=0"),
-    Kind("keys that a scan claims", short_keys, 200_000, "K8 KeyNotShown node=0"),
-    Kind("a pair of a join, repeated", pairs, 200_000, "P6 DuplicateColumn node=0 name=v"),
-    Kind("a column of a distinct, repeated", columns, 200_000, "P6 DuplicateColumn node=0 name=k"),
+    Kind("keys that a scan claims", short_keys, 500_000, "K8 KeyNotShown node=0"),
+    Kind("a pair of a join, repeated", pairs, 500_000, "P6 DuplicateColumn node=0 name=v"),
+    Kind("a column of a distinct, repeated", columns, 1_000_000, "P6 DuplicateColumn node=0 name=k"),
     Kind("keys that a join of 992 pairs claims", claimed_keys, 750, "accepted", "time: the keys of the inputs are looked at anew for each claimed key"),
     Kind("a prefix of 64 columns under 61 gathers", long_prefix, 50_000, "accepted", "memory: the names are copied at each node"),
 ]
