@@ -61,6 +61,16 @@ def declared_ranges(count):
     return Texts(plan=planned(SCAN, f'"ranges":{ranges},'))
 
 
+def bounds(count):
+    ranges = listed([f'{{"name":"r","bounds":{listed(map(str, range(count)))}}}'])
+    return Texts(plan=planned(SCAN, f'"ranges":{ranges},'))
+
+
+def sizes(count):
+    names = listed(json.dumps(f"s{it}") for it in range(count))
+    return Texts(plan=planned(SCAN, f'"sizes":{names},'))
+
+
 def project(count):
     columns = listed(f'{{"column":"v","as":"c{it}"}}' for it in range(count))
     return Texts(plan=planned(f'{{"op":"project","columns":{columns},"input":{NUMBERS}}}'))
@@ -98,6 +108,10 @@ def columns(count):
 def relation(name, letter, count):
     columns = [{"name": f"{letter}{it}", "type": "int"} for it in range(count)]
     return {"name": name, "columns": columns, "keys": [[f"{letter}0"]]}
+
+
+def relations(count):
+    return Texts(catalog=json.dumps({"relations": [relation(f"t{it}", "c", 1) for it in range(count)]}))
 
 
 def claimed_keys(count):
@@ -168,9 +182,9 @@ TEXTS = [
     Kind("tables of a bundle that are not needed", lambda n: bundle({"u": "v\n7\n", **{f"t{it}": "" for it in range(n)}}), 200_000, "v 7"),
     Kind("a text in a plan that never closes", lambda n: Texts(plan='{"root":"' + "a" * n), 20_000_000, "P1 NotJson"),
     Kind("a text in a plan, written by escapes", lambda n: Texts(plan=planned('"' + r"\u0041" * n + '"')), 2_000_000, "P2 BadNode path=root"),
-    Kind("names of sizes", lambda n: Texts(plan=planned(SCAN, f'"sizes":{listed(json.dumps(f"s{it}") for it in range(n))},')), 200_000, "P10 .*"),
-    Kind("bounds of a range", lambda n: Texts(plan=planned(SCAN, f'"ranges":[{{"name":"r","bounds":{listed(map(str, range(n)))}}}],')), 500_000, "P9 BadRange name=r"),
-    Kind("relations of a catalog", lambda n: Texts(catalog=f'{{"relations":{listed(json.dumps(relation(f"t{it}", "c", 1)) for it in range(n))}}}'), 50_000, "C12 TooLarge"),
+    Kind("names of sizes", sizes, 200_000, "P10 BadSize name=s16"),
+    Kind("bounds of a range", bounds, 500_000, "P9 BadRange name=r"),
+    Kind("relations of a catalog", relations, 50_000, "C12 TooLarge"),
     Kind("conditions of a selection", conditions, 50_000, "accepted"),
     Kind("arguments that set sizes", lambda n: Texts(command="run", words=tuple(f"s{it}=3" for it in range(n))), 50_000, "k"),
     Kind("ranges of a plan", declared_ranges, 50_000, "accepted"),
