@@ -1,0 +1,90 @@
+//! Sums that leave 64 bits: in each mode it is the whole sum that counts, and the node is that of the group, also
+//! where two workers fail at once.
+
+use crate::bundles::{Case, MODES, printed};
+use crate::plans::{BOTH_TOO_LARGE, GROUPED, JOINED_SUMS, LARGE, ROWS_OF_D, TOO_LARGE, TWO_PHASES};
+use std::fs::{File, Files};
+use std::sync::Wait;
+use std::test::Fail;
+use std::thread::Threads;
+
+// How often each case is run in each mode.
+const RUNS: u32 = 100;
+
+// A sum that is the largest number, by its key.
+const LARGEST: &str = "k,s\na,9223372036854775807\n||0";
+
+// Plans, rows of t and of d, and the line.
+const SUMS: [(&str, &str, &str, &str); 7] = [
+    (GROUPED, "", ROWS_OF_D, "k,s\n||0"),
+    (GROUPED, LARGE, ROWS_OF_D, LARGEST),
+    (
+        GROUPED,
+        TOO_LARGE,
+        ROWS_OF_D,
+        "|volcano: X7 Overflow node=2\n|4",
+    ),
+    // Two workers overflow.
+    (
+        GROUPED,
+        BOTH_TOO_LARGE,
+        ROWS_OF_D,
+        "|volcano: X7 Overflow node=2\n|4",
+    ),
+    (JOINED_SUMS, LARGE, "", "k,s,d.k,d.n\n||0"),
+    (
+        JOINED_SUMS,
+        TOO_LARGE,
+        "",
+        "|volcano: X7 Overflow node=1\n|4",
+    ),
+    (
+        JOINED_SUMS,
+        TOO_LARGE,
+        ROWS_OF_D,
+        "|volcano: X7 Overflow node=1\n|4",
+    ),
+];
+
+// How many of these runs come to another line.
+fn wrong_runs<R: Threads + Wait + Sync + Files<File = File> + AllocGlobal>(
+    rt: &R,
+    case: &Case<'_>,
+    mode: &str,
+    line: &str,
+) -> Result<u32, Fail> {
+    let mut wrong = 0u32;
+    for _ in 0..RUNS {
+        if printed(rt, case, mode)?.as_str() != line {
+            wrong = wrong.saturating_add(1);
+        }
+    }
+    Ok(wrong)
+}
+
+#[test]
+fn a_whole_sum_overflows_in_each_mode(rt: HostRuntime) -> Result<(), Fail> {
+    for (plan, rows_of_t, rows_of_d, line) in SUMS {
+        for mode in MODES {
+            let case = Case {
+                rows_of_d,
+                ..Case::of_three(plan, rows_of_t)
+            };
+            assert_eq!(rt; wrong_runs(&rt, &case, mode, line)?, 0, "{mode} {line}");
+        }
+    }
+    Ok(())
+}
+
+#[test]
+fn a_part_of_a_sum_overflows_only_in_two_phases(rt: HostRuntime) -> Result<(), Fail> {
+    for mode in MODES {
+        for _ in 0..RUNS {
+            let found = printed(&rt, &Case::of_three(TWO_PHASES, LARGE), mode)?;
+            // The partial group overflows where one worker has the first two rows alone.
+            let is_part = found.as_str() == "|volcano: X7 Overflow node=4\n|4";
+            assert!(rt; is_part || found.as_str() == LARGEST, "{mode} {found}");
+        }
+    }
+    Ok(())
+}

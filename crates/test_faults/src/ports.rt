@@ -1,0 +1,38 @@
+//! Outputs and inputs that fail after each number of bytes, in each mode.
+
+use crate::bundles::{Case, MODES, written};
+use crate::plans::{MERGED, ROWS_OF_T};
+use std::test::Fail;
+
+// What comes of the plan.
+const ROWS: &str = "id,k,v\n1,b,7\n3,c,7\n";
+
+#[test]
+fn an_output_that_fails_has_the_first_bytes(rt: HostRuntime) -> Result<(), Fail> {
+    for mode in MODES {
+        let bundle = Case::of_three(MERGED, ROWS_OF_T).bundle(rt.alloc(), mode)?;
+        for room in 0..ROWS.len() {
+            let (front, _) = ROWS.as_bytes().split_at(room);
+            let front = str::from_utf8(front)?;
+            let line = format!(in rt.alloc(); "{front}|volcano: V4 WriteFailed\n|4")?;
+            let found = written(&rt, bundle.as_str(), None, room)?;
+            assert_eq!(rt; found.as_str(), line.as_str(), "{mode} {room}");
+        }
+        let found = written(&rt, bundle.as_str(), None, ROWS.len())?;
+        assert_eq!(rt; found.as_str(), "id,k,v\n1,b,7\n3,c,7\n||0", "{mode}");
+    }
+    Ok(())
+}
+
+#[test]
+fn an_input_that_fails_is_refused(rt: HostRuntime) -> Result<(), Fail> {
+    for mode in MODES {
+        let bundle = Case::of_three(MERGED, ROWS_OF_T).bundle(rt.alloc(), mode)?;
+        for count in 0..bundle.len() {
+            let found = written(&rt, bundle.as_str(), Some(count), 1000)?;
+            let line = "|volcano: V3 FileUnreadable path=-\n|3";
+            assert_eq!(rt; found.as_str(), line, "{mode} {count}");
+        }
+    }
+    Ok(())
+}

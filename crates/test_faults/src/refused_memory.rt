@@ -1,0 +1,103 @@
+//! Out of memory. Run with each allocation refused in turn, each command answers a bundle as usual, or writes nothing
+//! and the line says that memory ran out; the same call after that answers as usual. `tools/refuse-allocations
+//! test_faults` does so. A test with `ample` in its name makes the same calls once, and passes only where none of its
+//! allocations is refused.
+
+use std::fs::{File, Files};
+use std::process::Abort;
+use std::sync::Wait;
+use std::test::Fail;
+use std::thread::Threads;
+use vx_answer::{Disk, answer};
+use vx_bytes::{MemoryIn, Real};
+
+// More bytes than a bundle, its answer or a refusal of these tests has.
+const ROOM: usize = 10000;
+
+// Bundles, and what comes of them: a selection that is merged, by rounds and by threads; a plain evaluation of sums; a
+// plan that is checked, and one that is explained.
+const BUNDLES: [(&str, &str); 5] = [
+    (
+        r#"{"command":"run","catalog":{"relations":[{"name":"t","columns":[{"name":"id","type":"int"},{"name":"k","type":"text"},{"name":"v","type":"int"}],"keys":[["id"]],"order":["id"]}]},"plan":{"sizes":["many"],"total":true,"root":{"op":"exchange","kind":"gather","merge":["id"],"claim":{"part":"one","order":["id"],"keys":[["id"]]},"input":{"op":"select","where":[{"column":"v","op":"=","value":7}],"claim":{"part":"any","order":["id"],"keys":[["id"]]},"input":{"op":"scan","relation":"t","mode":"shared","size":"many","claim":{"part":"any","order":["id"],"keys":[["id"]]}}}}},"tables":{"t":"id,k,v\n0,a,5\n1,b,7\n2,a,-2\n3,c,7\n"},"sizes":{"many":2},"packet":1,"morsel":1,"slack":1,"mode":"rounds"}"#,
+        "id,k,v\n1,b,7\n3,c,7\n",
+    ),
+    (
+        r#"{"command":"run","catalog":{"relations":[{"name":"t","columns":[{"name":"id","type":"int"},{"name":"k","type":"text"},{"name":"v","type":"int"}],"keys":[["id"]],"order":["id"]}]},"plan":{"sizes":["many"],"total":true,"root":{"op":"exchange","kind":"gather","merge":["id"],"claim":{"part":"one","order":["id"],"keys":[["id"]]},"input":{"op":"select","where":[{"column":"v","op":"=","value":7}],"claim":{"part":"any","order":["id"],"keys":[["id"]]},"input":{"op":"scan","relation":"t","mode":"shared","size":"many","claim":{"part":"any","order":["id"],"keys":[["id"]]}}}}},"tables":{"t":"id,k,v\n0,a,5\n1,b,7\n2,a,-2\n3,c,7\n"},"sizes":{"many":2},"packet":1,"morsel":1,"slack":1,"mode":"threads"}"#,
+        "id,k,v\n1,b,7\n3,c,7\n",
+    ),
+    (
+        r#"{"command":"serial","catalog":{"relations":[{"name":"t","columns":[{"name":"k","type":"text"},{"name":"v","type":"int"}]}]},"plan":{"root":{"op":"group","by":["k"],"aggregates":[{"fn":"sum","column":"v","as":"s"}],"input":{"op":"scan","relation":"t","mode":"whole","size":"one"}}},"tables":{"t":"k,v\na,5\nb,7\na,-2\n"}}"#,
+        "k,s\na,3\nb,7\n",
+    ),
+    (
+        r#"{"command":"check","catalog":{"relations":[{"name":"t","columns":[{"name":"id","type":"int"}],"keys":[["id"]],"order":["id"]}]},"plan":{"total":true,"root":{"op":"scan","relation":"t","mode":"whole","size":"one","claim":{"part":"one","order":["id"],"keys":[["id"]]}}}}"#,
+        "accepted total\n",
+    ),
+    (
+        r#"{"command":"explain","catalog":{"relations":[{"name":"t","columns":[{"name":"id","type":"int"}],"keys":[["id"]],"order":["id"]}]},"plan":{"root":{"op":"scan","relation":"t","mode":"whole","size":"one","claim":{"part":"one","order":["id"],"keys":[["id"]]}}}}"#,
+        "#0 scan t whole size=one part=one order=[id] keys=[id]\nnot total\n",
+    ),
+];
+
+// Whether a line says that memory ran out, or that a thread could not be started for want of it.
+fn is_refusal(line: &[u8]) -> bool {
+    line == b"volcano: C11 NoMemory\n".as_slice()
+        || line == b"volcano: P11 NoMemory\n".as_slice()
+        || line == b"volcano: X8 NoMemory\n".as_slice()
+        || line == b"volcano: X9 NoThread\n".as_slice()
+}
+
+// Whether a bundle is answered. If not, nothing was written, and memory ran out. What is written goes into memory that
+// is there before.
+fn is_answered<R: Threads + Wait + Sync + Files<File = File> + AllocGlobal + Abort>(
+    rt: &R,
+    bundle: &str,
+    rows: &str,
+) -> bool {
+    let Ok(mut out) = Vec::<u8>::with_capacity(rt.alloc(), ROOM) else {
+        return false;
+    };
+    let Ok(mut err) = Vec::<u8>::with_capacity(rt.alloc(), ROOM) else {
+        return false;
+    };
+    let mut input = MemoryIn::new(bundle.as_bytes(), None);
+    let status = answer(
+        rt,
+        rt.alloc(),
+        &[],
+        &Disk::new(rt),
+        &mut input,
+        &mut Real::new(&mut out),
+        &mut Real::new(&mut err),
+    );
+    if status == 0 {
+        assert!(rt; out.as_slice() == rows.as_bytes());
+        assert!(rt; err.is_empty());
+        return true;
+    }
+    assert_eq!(rt; status, 4);
+    assert!(rt; out.is_empty());
+    assert!(rt; is_refusal(err.as_slice()));
+    false
+}
+
+#[test]
+fn ample_memory(rt: HostRuntime) -> Result<(), Fail> {
+    for (bundle, rows) in BUNDLES {
+        assert!(rt; is_answered(&rt, bundle, rows), "{rows}");
+    }
+    Ok(())
+}
+
+#[test]
+fn refused_memory_is_reported(rt: HostRuntime) -> Result<(), Fail> {
+    for (bundle, rows) in BUNDLES {
+        let first = is_answered(&rt, bundle, rows);
+        let second = is_answered(&rt, bundle, rows);
+        assert!(rt;
+            first || second,
+            "one call after the other ran out of memory"
+        );
+    }
+    Ok(())
+}
