@@ -1,5 +1,5 @@
--- A plan as a graph in the language of Graphviz: a frame for each fragment, which is what lies between exchanges, a box for each operator, and an
--- arrow from each node to the one that takes its rows.
+-- A plan as a graph in the language of Graphviz: a frame for each fragment, which is what lies between exchanges, a box
+-- for each operator, and an arrow from each node to the one that takes its rows.
 use Rattle.std.specs.Prelude.{ℕ, ◌++◌, Bool, cond, List, [], codes, decimal}
 use Rattle.serde_json.specs.Data.{string}
 use Rattle.serde_json.specs.Written.{compact_text}

@@ -355,7 +355,8 @@ fn plan_dot(alloc: Global, plan: &TypedPlan) -> Result<String, AllocError>
 }
 
 /// The plan as a graph that Graphviz draws: a frame for each fragment, which is what lies between exchanges, with its
-/// size; a box for each operator; and an arrow for each stream of rows, with its part and the exchange that it goes through.
+/// size; a box for each operator; and an arrow for each stream of rows, with its part and the exchange that it goes
+/// through.
 pub fn explain_dot(alloc: Global, checked: &CheckedPlan) -> Result<String, AllocError>
     ensures { IfOk result (λ s. string_bytes s ≡ plan_dot (typed_plan checked.now)) }
 {

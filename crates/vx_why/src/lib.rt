@@ -17,9 +17,9 @@ use plans::plan_entry;
 use program::program_entry;
 use runs::run_entry;
 
-/// The entry of a code, as K4: a line as the program prints it, then what happened, the usual cause with its cure, and an example.
-/// It begins with the code and a space. `None` for what is no code. No clause reads the rest of the texts: docs/REFUSALS.md is made
-/// from them.
+/// The entry of a code, as K4: a line as the program prints it, then what happened, the usual cause with its cure, and
+/// an example. It begins with the code and a space. `None` for what is no code. No clause reads the rest of the texts:
+/// docs/REFUSALS.md is made from them.
 pub fn entry(code: &str) -> Option<&'static str>
     ensures listed { is_some result ≡ is_code code.now }
     ensures begins { IfSome result (λ t. take (length code.now + 1) t.now ≡ code.now ++ codes " ") }
