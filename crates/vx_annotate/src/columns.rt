@@ -14,7 +14,8 @@ pub fn kept_columns(alloc: Global, operator: &Unary) -> Result<Option<Vec<usize>
     }
 }
 
-fn projected_columns(alloc: Global, kept: &[Projected]) -> Result<Vec<usize>, AllocError> {
+/// The input columns that a projection or a distinct keeps.
+pub fn projected_columns(alloc: Global, kept: &[Projected]) -> Result<Vec<usize>, AllocError> {
     let mut columns = Vec::new(alloc);
     for output in kept {
         columns.push(output.column)?;

@@ -1,0 +1,108 @@
+//! A plan with the claims that the rule table shows.
+
+ghost use Rattle.std.specs.Prelude.{◌≡◌, ◌+◌, [], true, false, Ok, Some, None, option_map, IfOk, IfErr};
+ghost use Rattle.vx_plan_json.specs.Fault.{Fails};
+ghost use Rattle.vx_plan_json.specs.PlanView.{document_of};
+ghost use Rattle.vx_check_rules.specs.RuleView.{refusal_of};
+ghost use Rattle.vx_plan.specs.Resolve.{resolved};
+ghost use Rattle.vx_annotate.specs.Unclaimed.{unclaimed};
+ghost use Rattle.vx_annotate.specs.Verdict.{is_accepted, refused_at};
+ghost use Rattle.vx_annotate.specs.Telling.{tells};
+ghost use Rattle.vx_annotate.specs.Fault.{IsReason};
+
+use crate::choosing::{first_part, put_claims};
+use crate::fault::AnnotateFault;
+use crate::formed::FormedClaim;
+use crate::keys::{is_order_total, keys_of};
+use crate::naming::Naming;
+use crate::orders::order_of;
+use crate::parts::width_of;
+use crate::rewriting::claimed_plan;
+use crate::telling::tells;
+use crate::verdict::{is_accepted, refusal_in};
+use std::alloc::{AllocError, Global};
+use vx_check_rules::Rule;
+use vx_plan::resolve;
+use vx_plan_json::{Plan, PlanFault};
+use vx_plan_nodes::{TypedNode, TypedPlan};
+use vx_relations::Catalog;
+
+// The claims of all nodes, in preorder from the last one on.
+fn found_claims(
+    alloc: Global,
+    catalog: &Catalog,
+    typed: &TypedPlan,
+) -> Result<Vec<FormedClaim>, AllocError> {
+    let naming = Naming {
+        catalog,
+        ranges: typed.ranges(),
+    };
+    let mut claims = Vec::new(alloc);
+    let part = first_part(alloc, typed.root())?;
+    put_claims(alloc, &naming, &mut claims, typed.root(), part)?;
+    claims.reverse();
+    Ok(claims)
+}
+
+// Whether the longest order of the root is a total one.
+fn is_total(alloc: Global, catalog: &Catalog, root: &TypedNode) -> Result<bool, AllocError> {
+    let order = order_of(alloc, catalog, root)?;
+    let keys = keys_of(alloc, catalog, root)?;
+    is_order_total(alloc, order.as_slice(), keys.as_slice(), width_of(root))
+}
+
+// The plan with the claims that are found for it, by the plan without claims.
+fn annotated(
+    alloc: Global,
+    catalog: &Catalog,
+    typed: &TypedPlan,
+    plan: &Plan,
+) -> Result<Plan, AllocError>
+    ensures { IfOk result (λ p. unclaimed (document_of p) ≡ unclaimed (document_of plan.now)) }
+{
+    let claims = found_claims(alloc, catalog, typed)?;
+    let total = is_total(alloc, catalog, typed.root())?;
+    claimed_plan(alloc, claims, total, plan)
+}
+
+// What the rule table refuses of a plan. A plan that does not fit the catalog gives way to one that does.
+fn judged(
+    alloc: Global,
+    catalog: &Catalog,
+    plan: Plan,
+    other: Plan,
+) -> Result<(Plan, Option<(u32, Rule)>), PlanFault>
+{
+    match resolve(alloc, &plan, catalog) {
+        Ok(typed) => Ok((plan, refusal_in(typed))),
+        Err(PlanFault::NoMemory) => Err(PlanFault::NoMemory),
+        Err(_) => {
+            let typed = resolve(alloc, &other, catalog)?;
+            Ok((other, refusal_in(typed)))
+        }
+    }
+}
+
+/// The plan with its claims, and whether it is total, replaced by what the rule table shows: at each node a part that tells
+/// the most of those with which the operators above it fit, the longest order, and the minimal keys, the first 16; and total
+/// where the root's order is. The plan as it is where the checker accepts it and the claims that are found do not tell as
+/// much everywhere. The refusal is the first one of the plan without claims, or else of the rule table.
+pub fn annotate(alloc: Global, catalog: &Catalog, plan: Plan) -> Result<Plan, AnnotateFault>
+    ensures same { IfOk result (λ p. unclaimed (document_of p) ≡ unclaimed (document_of plan)) }
+    ensures accepted { IfOk result (λ p. is_accepted catalog.now (document_of p) ≡ true) }
+    ensures telling { is_accepted catalog.now (document_of plan) ≡ true → IfOk result (λ p. tells (document_of p) (document_of plan) ≡ true) }
+    ensures refused { IfErr result (λ e. IsReason catalog.now (document_of plan) e) }
+{
+    let bare = claimed_plan(alloc, Vec::new(alloc), false, &plan)?;
+    let typed = resolve(alloc, &bare, catalog)?;
+    let claimed = annotated(alloc, catalog, &typed, &plan)?;
+    let (found, refusal) = judged(alloc, catalog, claimed, bare)?;
+    let is_fine = is_accepted(alloc, catalog, &plan)?;
+    if is_fine && (refusal.is_some() || !tells(&found, &plan)) {
+        return Ok(plan);
+    }
+    match refusal {
+        None => Ok(found),
+        Some((node, rule)) => Err(AnnotateFault::Rule { node, rule }),
+    }
+}
