@@ -13,11 +13,11 @@ use Rattle.vx_annotate.specs.Verdict.{is_accepted, refused_at}
 -- the rule table refuses this document at a node
 abbrev pub IsRefusedAt : List Relation → Document → AnnotateFault → Type 0
 IsRefusedAt catalog d (fault.Plan f) = Fails f (resolved d catalog)
-IsRefusedAt catalog d (fault.Rule' node rule) = refused_at catalog d ≡ Some (node, rule_of rule)
+IsRefusedAt catalog d (fault.Rule node rule) = refused_at catalog d ≡ Some (node, rule_of rule)
 
 -- the document without its notes does not fit the catalog, for this first reason; or the rule table does not accept the document with the notes
 -- that it has, and refuses it with other notes at this node. Or memory ran out
 abbrev pub IsReason : List Relation → Document → AnnotateFault → Type 0
 IsReason catalog d (fault.Plan f) = Fails f (resolved (unclaimed d) catalog)
-IsReason catalog d (fault.Rule' node rule) =
+IsReason catalog d (fault.Rule node rule) =
     (is_accepted catalog d ≡ false) × ((e : Document) × (unclaimed e ≡ unclaimed d) × (refused_at catalog e ≡ Some (node, rule_of rule)))

@@ -4,6 +4,7 @@ ghost use Rattle.std.specs.Prelude.{◌≡◌, true, map, string_bytes};
 ghost use Rattle.std.specs.List.{list_all};
 ghost use Rattle.vx_values.specs.Lists.{is_some_list};
 ghost use Rattle.vx_plan_json.specs.Document.{part_form, claim_form};
+ghost use Rattle.vx_annotate.specs.Unclaimed.{no_claim};
 ghost use Rattle.vx_plan_json.specs.Formed.{are_names, are_some_names, is_part_form, is_claim_form};
 
 use std::alloc::Global;
@@ -75,23 +76,25 @@ fn is_formed(claim: &NamedClaim) -> bool
     is_part(&claim.part) && are_names(claim.order.as_slice()) && are_keys(claim.keys.as_slice())
 }
 
+/// A claim that says nothing.
+pub fn no_claim(alloc: Global) -> NamedClaim
+    ensures { claim_form result ≡ no_claim }
+{
+    NamedClaim {
+        part: NamedPart::Any,
+        order: Vec::new(alloc),
+        keys: Vec::new(alloc),
+    }
+}
+
 impl FormedClaim {
     /// The claim, or one that says nothing where no document can say it.
     pub fn new(alloc: Global, claim: NamedClaim) -> FormedClaim {
         if is_formed(&claim) {
             return FormedClaim { claim };
         }
-        FormedClaim::nothing(alloc)
-    }
-
-    /// A claim that says nothing.
-    pub fn nothing(alloc: Global) -> FormedClaim {
         FormedClaim {
-            claim: NamedClaim {
-                part: NamedPart::Any,
-                order: Vec::new(alloc),
-                keys: Vec::new(alloc),
-            },
+            claim: no_claim(alloc),
         }
     }
 

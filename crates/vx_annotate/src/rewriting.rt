@@ -1,6 +1,6 @@
 //! A plan with other claims.
 
-ghost use Rattle.std.specs.Prelude.{◌≡◌, [], true, IfOk};
+ghost use Rattle.std.specs.Prelude.{◌≡◌, [], true, false, IfOk};
 ghost use Rattle.vx_plan_json.specs.Document.{claim_form, tree_of};
 ghost use Rattle.vx_plan_json.specs.Formed.{is_claim_form, is_tree_form};
 ghost use Rattle.vx_plan_json.specs.PlanView.{document_of};
@@ -9,7 +9,7 @@ ghost use Rattle.vx_annotate.specs.Unclaimed.{no_claim, without_claims, unclaime
 use crate::copies::{
     copied_binary, copied_kind, copied_names, copied_ranges, copied_scan, copied_unary,
 };
-use crate::formed::FormedClaim;
+use crate::formed::{FormedClaim, no_claim};
 use std::alloc::{AllocError, Global};
 use vx_plan_json::{NamedClaim, Node, Plan};
 
@@ -21,7 +21,7 @@ fn next_claim(alloc: Global, claims: &mut Vec<FormedClaim>) -> NamedClaim
 {
     match claims.pop() {
         Some(claim) => claim.into_claim(),
-        None => FormedClaim::nothing(alloc).into_claim(),
+        None => no_claim(alloc),
     }
 }
 

@@ -1,0 +1,2 @@
+pub mod TreeFacts
+pub mod TellingFacts
