@@ -10,11 +10,6 @@ use Rattle.vx_annotate.specs.declared.fault.AnnotateFault.TheVariants as fault
 use Rattle.vx_annotate.specs.Unclaimed.{unclaimed}
 use Rattle.vx_annotate.specs.Verdict.{is_accepted, refused_at}
 
--- the rule table refuses this document at a node
-abbrev pub IsRefusedAt : List Relation → Document → AnnotateFault → Type 0
-IsRefusedAt catalog d (fault.Plan f) = Fails f (resolved d catalog)
-IsRefusedAt catalog d (fault.Rule node rule) = refused_at catalog d ≡ Some (node, rule_of rule)
-
 -- the document without its notes does not fit the catalog, for this first reason; or the rule table does not accept the document with the notes
 -- that it has, and refuses it with other notes at this node. Or memory ran out
 abbrev pub IsReason : List Relation → Document → AnnotateFault → Type 0

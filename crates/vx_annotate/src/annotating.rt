@@ -1,12 +1,12 @@
 //! A plan with the claims that the rule table shows.
 
-ghost use Rattle.std.specs.Prelude.{◌≡◌, ◌+◌, [], true, false, Ok, Some, None, option_map, IfOk, IfErr};
+ghost use Rattle.std.specs.Prelude.{◌≡◌, true, option_map, IfOk, IfErr};
 ghost use Rattle.vx_plan_json.specs.Fault.{Fails};
 ghost use Rattle.vx_plan_json.specs.PlanView.{document_of};
 ghost use Rattle.vx_check_rules.specs.RuleView.{refusal_of};
 ghost use Rattle.vx_plan.specs.Resolve.{resolved};
 ghost use Rattle.vx_annotate.specs.Unclaimed.{unclaimed};
-ghost use Rattle.vx_annotate.specs.Verdict.{is_accepted, refused_at};
+ghost use Rattle.vx_annotate.specs.Verdict.{is_accepted, IsVerdict};
 ghost use Rattle.vx_annotate.specs.Telling.{tells};
 ghost use Rattle.vx_annotate.specs.Fault.{IsReason};
 
@@ -65,13 +65,17 @@ fn annotated(
     claimed_plan(alloc, claims, total, plan)
 }
 
-// What the rule table refuses of a plan. A plan that does not fit the catalog gives way to one that does.
+// A plan, and what the rule table refuses of it. A plan that does not fit the catalog gives way to the other one.
 fn judged(
     alloc: Global,
     catalog: &Catalog,
     plan: Plan,
     other: Plan,
 ) -> Result<(Plan, Option<(u32, Rule)>), PlanFault>
+    requires { unclaimed (document_of other) ≡ unclaimed (document_of plan) }
+    ensures same { IfOk result (λ r. unclaimed (document_of r.0) ≡ unclaimed (document_of plan)) }
+    ensures verdict { IfOk result (λ r. IsVerdict catalog.now (document_of r.0) (option_map refusal_of r.1)) }
+    ensures fault { IfErr result (λ e. Fails e (resolved (document_of other) catalog.now)) }
 {
     match resolve(alloc, &plan, catalog) {
         Ok(typed) => Ok((plan, refusal_in(typed))),
@@ -83,26 +87,39 @@ fn judged(
     }
 }
 
+// The plan with the claims that are found for it, and what the rule table refuses of it.
+fn found(
+    alloc: Global,
+    catalog: &Catalog,
+    plan: &Plan,
+) -> Result<(Plan, Option<(u32, Rule)>), PlanFault>
+    ensures same { IfOk result (λ r. unclaimed (document_of r.0) ≡ unclaimed (document_of plan.now)) }
+    ensures verdict { IfOk result (λ r. IsVerdict catalog.now (document_of r.0) (option_map refusal_of r.1)) }
+    ensures fault { IfErr result (λ e. Fails e (resolved (unclaimed (document_of plan.now)) catalog.now)) }
+{
+    let bare = claimed_plan(alloc, Vec::new(alloc), false, plan)?;
+    let typed = resolve(alloc, &bare, catalog)?;
+    let claimed = annotated(alloc, catalog, &typed, plan)?;
+    judged(alloc, catalog, claimed, bare)
+}
+
 /// The plan with its claims, and whether it is total, replaced by what the rule table shows: at each node a part that tells
 /// the most of those with which the operators above it fit, the longest order, and the minimal keys, the first 16; and total
-/// where the root's order is. The plan as it is where the checker accepts it and the claims that are found do not tell as
-/// much everywhere. The refusal is the first one of the plan without claims, or else of the rule table.
+/// where the root's order is. The plan stays as it is where the checker accepts it and the claims that are found do not tell
+/// as much everywhere. The refusal is the first one of the plan without claims, or else of the rule table.
 pub fn annotate(alloc: Global, catalog: &Catalog, plan: Plan) -> Result<Plan, AnnotateFault>
     ensures same { IfOk result (λ p. unclaimed (document_of p) ≡ unclaimed (document_of plan)) }
     ensures accepted { IfOk result (λ p. is_accepted catalog.now (document_of p) ≡ true) }
     ensures telling { is_accepted catalog.now (document_of plan) ≡ true → IfOk result (λ p. tells (document_of p) (document_of plan) ≡ true) }
     ensures refused { IfErr result (λ e. IsReason catalog.now (document_of plan) e) }
 {
-    let bare = claimed_plan(alloc, Vec::new(alloc), false, &plan)?;
-    let typed = resolve(alloc, &bare, catalog)?;
-    let claimed = annotated(alloc, catalog, &typed, &plan)?;
-    let (found, refusal) = judged(alloc, catalog, claimed, bare)?;
+    let (claimed, refusal) = found(alloc, catalog, &plan)?;
     let is_fine = is_accepted(alloc, catalog, &plan)?;
-    if is_fine && (refusal.is_some() || !tells(&found, &plan)) {
+    if is_fine && (refusal.is_some() || !tells(&claimed, &plan)) {
         return Ok(plan);
     }
     match refusal {
-        None => Ok(found),
+        None => Ok(claimed),
         Some((node, rule)) => Err(AnnotateFault::Rule { node, rule }),
     }
 }

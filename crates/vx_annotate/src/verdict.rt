@@ -1,12 +1,10 @@
 //! What the checker answers of a plan.
 
-ghost use Rattle.std.specs.Prelude.{◌≡◌, ◌⊎◌, ℕ, Some, None, Ok, is_none, option_map, IfOk};
-ghost use Rattle.vx_plan_json.specs.Fault.{Fails};
+ghost use Rattle.std.specs.Prelude.{◌≡◌, option_map, IfOk};
 ghost use Rattle.vx_plan_json.specs.PlanView.{document_of};
 ghost use Rattle.vx_plan_nodes.specs.TypedView.{resolved_of};
 ghost use Rattle.vx_check_rules.specs.RuleView.{refusal_of};
-ghost use Rattle.vx_plan.specs.Resolve.{resolved};
-ghost use Rattle.vx_annotate.specs.Verdict.{refusal_in, is_accepted, refused_at};
+ghost use Rattle.vx_annotate.specs.Verdict.{refusal_in, is_accepted};
 
 use std::alloc::{AllocError, Global};
 use vx_check_rules::{Rule, check};
