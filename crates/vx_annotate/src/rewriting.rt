@@ -2,9 +2,9 @@
 
 ghost use Rattle.std.specs.Prelude.{◌≡◌, [], true, false, IfOk};
 ghost use Rattle.vx_plan_json.specs.Document.{claim_form, tree_of};
-ghost use Rattle.vx_plan_json.specs.Formed.{is_claim_form, is_tree_form};
+ghost use Rattle.vx_plan_json.specs.Formed.{is_claim_form};
 ghost use Rattle.vx_plan_json.specs.PlanView.{document_of};
-ghost use Rattle.vx_annotate.specs.Unclaimed.{no_claim, without_claims, unclaimed};
+ghost use Rattle.vx_annotate.specs.Unclaimed.{no_claim, without_claims, are_claims_formed, unclaimed};
 
 use crate::copies::{
     copied_binary, copied_kind, copied_names, copied_ranges, copied_scan, copied_unary,
@@ -31,11 +31,9 @@ fn claimed_node(
     claims: &mut Vec<FormedClaim>,
     node: &Node,
 ) -> Result<Node, AllocError>
-    requires { is_tree_form (tree_of node.now) ≡ true }
     ensures same { IfOk result (λ n. without_claims (tree_of n) ≡ without_claims (tree_of node.now)) }
-    ensures formed { IfOk result (λ n. is_tree_form (tree_of n) ≡ true) }
-    ensures none { claims.old.items ≡ [] → claims.new.items ≡ [] }
-    ensures bare { claims.old.items ≡ [] → IfOk result (λ n. tree_of n ≡ without_claims (tree_of node.now)) }
+    ensures formed { IfOk result (λ n. are_claims_formed (tree_of n) ≡ true) }
+    ensures bare { claims.old.items ≡ [] → IfOk result (λ n. (claims.new.items ≡ []) × (tree_of n ≡ without_claims (tree_of node.now))) }
 {
     let claim = next_claim(alloc, claims);
     match node {
