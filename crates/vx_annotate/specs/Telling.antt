@@ -1,4 +1,4 @@
--- When notes tell at least as much as others.
+-- When claims tell at least as much as others.
 use Rattle.std.specs.Prelude.{ℕ, List, [], ◌∷◌, Bool, true, false, not, ◌&&◌, ◌||◌, bytes_eq}
 use Rattle.std.specs.List.{list_all, list_any}
 use Rattle.vx_values.specs.Values.{Name}

@@ -17,7 +17,7 @@ abbrev pub accepts : Result TypedPlanView Refusal → Bool
 accepts (Ok p) = is_none (refusal_in p)
 accepts (Err e) = false
 
--- the document fits the catalog, and the rule table shows all of its notes
+-- the document fits the catalog, and the rule table shows all of its claims
 abbrev pub is_accepted : List Relation → Document → Bool
 is_accepted catalog d = accepts (resolved d catalog)
 
