@@ -1,6 +1,6 @@
 //! A plan with the claims that the rule table shows.
 
-ghost use Rattle.std.specs.Prelude.{◌≡◌, true, option_map, IfOk, IfErr};
+ghost use Rattle.std.specs.Prelude.{◌≡◌, ◌⊎◌, true, option_map, IfOk, IfErr};
 ghost use Rattle.vx_plan_json.specs.Fault.{Fails};
 ghost use Rattle.vx_plan_json.specs.PlanView.{document_of};
 ghost use Rattle.vx_check_rules.specs.RuleView.{refusal_of};
@@ -103,6 +103,18 @@ fn found(
     judged(alloc, catalog, claimed, bare)
 }
 
+// The first plan where its claims tell at least as much as the second one's, else the second.
+fn stronger(claimed: Plan, plan: Plan) -> Plan
+    ensures telling { tells (document_of result) (document_of plan) ≡ true }
+    ensures which { (document_of result ≡ document_of claimed) ⊎ (document_of result ≡ document_of plan) }
+{
+    if tells(&claimed, &plan) {
+        claimed
+    } else {
+        plan
+    }
+}
+
 /// The plan with its claims, and whether it is total, replaced by what the rule table shows: at each node a part that tells
 /// the most of those with which the operators above it fit, the longest order, and the minimal keys, the first 16; and total
 /// where the root's order is. The plan stays as it is where the checker accepts it and the claims that are found do not tell
@@ -115,11 +127,10 @@ pub fn annotate(alloc: Global, catalog: &Catalog, plan: Plan) -> Result<Plan, An
 {
     let (claimed, refusal) = found(alloc, catalog, &plan)?;
     let is_fine = is_accepted(alloc, catalog, &plan)?;
-    if is_fine && (refusal.is_some() || !tells(&claimed, &plan)) {
-        return Ok(plan);
-    }
     match refusal {
+        None if is_fine => Ok(stronger(claimed, plan)),
         None => Ok(claimed),
+        Some(_) if is_fine => Ok(plan),
         Some((node, rule)) => Err(AnnotateFault::Rule { node, rule }),
     }
 }

@@ -19,8 +19,9 @@ fn are_same(names: &[String], others: &[String]) -> bool
 {
     match (names, others) {
         ([], []) => true,
+        ([], [_, ..]) => false,
+        ([_, ..], []) => false,
         ([name, names @ ..], [other, others @ ..]) => is_same(name, other) && are_same(names, others),
-        _ => false,
     }
 }
 
@@ -30,8 +31,8 @@ fn begins(front: &[String], names: &[String]) -> bool
 {
     match (front, names) {
         ([], _) => true,
+        ([_, ..], []) => false,
         ([name, front @ ..], [other, names @ ..]) => is_same(name, other) && begins(front, names),
-        _ => false,
     }
 }
 
