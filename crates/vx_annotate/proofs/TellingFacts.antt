@@ -5,14 +5,10 @@ use Rattle.std.proofs.lemmas.Slice.Eq.{bytes_eq-Decides}
 use Rattle.vx_values.proofs.Booleans.{and-left, and-right, and-both}
 use Rattle.vx_values.specs.Values.{Name}
 use Rattle.vx_plan_json.specs.Document.{PartForm, one, any, all, hash_part, range_part, ClaimForm, Tree, scan, unary, binary, exchange, Document}
-use Rattle.vx_annotate.specs.Telling.{names_eq, begins, has_name, covers_name, part_tells, claim_tells, tree_tells, tells}
+use Rattle.vx_annotate.specs.Telling.{begins, has_name, covers_name, part_tells, claim_tells, tree_tells, tells}
 
 name_self : (n : Name) → bytes_eq n n ≡ true
 name_self n = (bytes_eq-Decides n n).1 refl
-
-names_self : (ns : List Name) → names_eq ns ns ≡ true
-names_self [] = refl
-names_self (n ∷ ns) = and-both (bytes_eq n n) (names_eq ns ns) (name_self n) (names_self ns)
 
 begins_self : (ns : List Name) → begins ns ns ≡ true
 begins_self [] = refl
@@ -53,7 +49,7 @@ part_self : (p : PartForm) → part_tells p p ≡ true
 part_self one = refl
 part_self any = refl
 part_self all = refl
-part_self (hash_part route cols) = and-both (bytes_eq route route) (names_eq cols cols) (name_self route) (names_self cols)
+part_self (hash_part route cols) = and-both (bytes_eq route route) (begins cols cols && begins cols cols) (name_self route) (and-both (begins cols cols) (begins cols cols) (begins_self cols) (begins_self cols))
 part_self (range_part name col) = and-both (bytes_eq name name) (bytes_eq col col) (name_self name) (name_self col)
 
 claim_self : (c : ClaimForm) → claim_tells c c ≡ true

@@ -4,13 +4,6 @@ use Rattle.std.specs.List.{list_all, list_any}
 use Rattle.vx_values.specs.Values.{Name}
 use Rattle.vx_plan_json.specs.Document.{PartForm, one, any, all, hash_part, range_part, ClaimForm, Tree, scan, unary, binary, exchange, Document}
 
--- the same names
-abbrev pub names_eq : List Name → List Name → Bool
-names_eq [] [] = true
-names_eq [] (y ∷ ys) = false
-names_eq (x ∷ xs) [] = false
-names_eq (x ∷ xs) (y ∷ ys) = bytes_eq x y && names_eq xs ys
-
 -- the second list begins with the first
 abbrev pub begins : List Name → List Name → Bool
 begins [] ys = true
@@ -24,13 +17,13 @@ has_name names x = list_any (bytes_eq x) names
 abbrev pub covers_name : List (List Name) → List Name → Bool
 covers_name keys names = list_any (λ k. list_all (has_name names) k) keys
 
--- all rows on one worker tell every part, a route tells that each row is somewhere, and each part tells itself
+-- all rows on one worker tell every part, a route tells that each row is somewhere, and each part tells itself (two lists that begin with each other are one)
 abbrev pub part_tells : PartForm → PartForm → Bool
 part_tells one p = true
 part_tells any any = true
 part_tells all all = true
 part_tells (hash_part route cols) any = true
-part_tells (hash_part route cols) (hash_part other others) = bytes_eq route other && names_eq cols others
+part_tells (hash_part route cols) (hash_part other others) = bytes_eq route other && (begins cols others && begins others cols)
 part_tells (range_part name col) any = true
 part_tells (range_part name col) (range_part other another) = bytes_eq name other && bytes_eq col another
 part_tells _ _ = false

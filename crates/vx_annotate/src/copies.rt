@@ -119,10 +119,7 @@ fn copied_side(alloc: Global, side: &NamedSide) -> Result<NamedSide, AllocError>
     }
 }
 
-fn copied_condition(
-    alloc: Global,
-    condition: &NamedCondition,
-) -> Result<NamedCondition, AllocError>
+fn copied_condition(alloc: Global, condition: &NamedCondition) -> Result<NamedCondition, AllocError>
     ensures { IfOk result (λ c. condition_form c ≡ condition_form condition.now) }
 {
     Ok(NamedCondition {
@@ -184,10 +181,7 @@ fn copied_function(alloc: Global, function: &NamedFunction) -> Result<NamedFunct
     }
 }
 
-fn copied_aggregate(
-    alloc: Global,
-    aggregate: &NamedAggregate,
-) -> Result<NamedAggregate, AllocError>
+fn copied_aggregate(alloc: Global, aggregate: &NamedAggregate) -> Result<NamedAggregate, AllocError>
     ensures { IfOk result (λ a. aggregate_form a ≡ aggregate_form aggregate.now) }
 {
     Ok(NamedAggregate {
@@ -219,10 +213,7 @@ pub fn copied_unary(alloc: Global, unary: &NamedUnary) -> Result<NamedUnary, All
             conditions.as_slice(),
         )?)),
         NamedUnary::Project(outputs) => {
-            Ok(NamedUnary::Project(copied_outputs(
-                alloc,
-                outputs.as_slice(),
-            )?))
+            Ok(NamedUnary::Project(copied_outputs(alloc, outputs.as_slice())?))
         }
         NamedUnary::Distinct(outputs) => Ok(NamedUnary::Distinct(copied_outputs(
             alloc,
@@ -272,10 +263,7 @@ pub fn copied_binary(alloc: Global, binary: &NamedBinary) -> Result<NamedBinary,
             Ok(NamedBinary::HashJoin(copied_pairs(alloc, on.as_slice())?))
         }
         NamedBinary::MergeJoin(on) => {
-            Ok(NamedBinary::MergeJoin(copied_pairs(
-                alloc,
-                on.as_slice(),
-            )?))
+            Ok(NamedBinary::MergeJoin(copied_pairs(alloc, on.as_slice())?))
         }
     }
 }

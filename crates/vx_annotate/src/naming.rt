@@ -20,11 +20,7 @@ fn name_at(alloc: Global, names: &[String], column: usize) -> Result<String, All
     }
 }
 
-fn names_at(
-    alloc: Global,
-    names: &[String],
-    columns: &[usize],
-) -> Result<Vec<String>, AllocError> {
+fn names_at(alloc: Global, names: &[String], columns: &[usize]) -> Result<Vec<String>, AllocError> {
     let mut found = Vec::new(alloc);
     for column in columns {
         found.push(name_at(alloc, names, *column)?)?;

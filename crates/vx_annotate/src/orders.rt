@@ -37,7 +37,8 @@ fn order_over(
 // on the order's first column put them there.
 fn rises_with_workers(part: &Part, order: &[usize]) -> bool {
     match (part, order) {
-        (Part::Routed(Route::Range(_), columns), [first, ..]) => columns.as_slice() == [*first].as_slice(),
+        (Part::Routed(Route::Range(_), columns), [first, ..]) => columns.as_slice()
+            == [*first].as_slice(),
         _ => false,
     }
 }

@@ -116,11 +116,7 @@ fn kept_part(alloc: Global, kept: &[usize], part: &Part) -> Result<Part, AllocEr
 }
 
 /// The part that an operator shows over an input with this part, if the operator fits it.
-pub fn part_over(
-    alloc: Global,
-    operator: &Unary,
-    part: &Part,
-) -> Result<Option<Part>, AllocError> {
+pub fn part_over(alloc: Global, operator: &Unary, part: &Part) -> Result<Option<Part>, AllocError> {
     let Some(kept) = kept_columns(alloc, operator)? else {
         return Ok(Some(copied_part(alloc, part)?));
     };
@@ -130,11 +126,7 @@ pub fn part_over(
     Ok(Some(kept_part(alloc, kept.as_slice(), part)?))
 }
 
-fn parts_over(
-    alloc: Global,
-    operator: &Unary,
-    parts: Vec<Part>,
-) -> Result<Vec<Part>, AllocError> {
+fn parts_over(alloc: Global, operator: &Unary, parts: Vec<Part>) -> Result<Vec<Part>, AllocError> {
     let mut shown = Vec::new(alloc);
     for part in parts {
         if let Some(part) = part_over(alloc, operator, &part)? {
@@ -288,7 +280,13 @@ pub fn parts_of(alloc: Global, node: &TypedNode) -> Result<Vec<Part>, AllocError
         TypedNode::Binary(_, operator, left, right) => {
             let lefts = parts_of(alloc, left)?;
             let rights = parts_of(alloc, right)?;
-            parts_of_both(alloc, operator, width_of(left), lefts.as_slice(), rights.as_slice())
+            parts_of_both(
+                alloc,
+                operator,
+                width_of(left),
+                lefts.as_slice(),
+                rights.as_slice(),
+            )
         }
         TypedNode::Exchange(_, exchange, _) => list_of(alloc, kind_part(alloc, &exchange.kind)?),
     }

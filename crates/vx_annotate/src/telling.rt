@@ -4,7 +4,7 @@ ghost use Rattle.std.specs.Prelude.{◌≡◌, map, bytes_eq, string_bytes};
 ghost use Rattle.std.specs.List.{list_all, list_any};
 ghost use Rattle.vx_plan_json.specs.Document.{part_form, claim_form, tree_of};
 ghost use Rattle.vx_plan_json.specs.PlanView.{document_of};
-ghost use Rattle.vx_annotate.specs.Telling.{names_eq, begins, has_name, covers_name, part_tells, claim_tells, tree_tells, tells};
+ghost use Rattle.vx_annotate.specs.Telling.{begins, has_name, covers_name, part_tells, claim_tells, tree_tells, tells};
 
 use vx_plan_json::{NamedClaim, NamedPart, Node, Plan};
 
@@ -14,25 +14,16 @@ fn is_same(name: &String, other: &String) -> bool
     name.as_str() == other.as_str()
 }
 
-fn are_same(names: &[String], others: &[String]) -> bool
-    ensures { result ≡ names_eq (map string_bytes names.now) (map string_bytes others.now) }
-{
-    match (names, others) {
-        ([], []) => true,
-        ([], [_, ..]) => false,
-        ([_, ..], []) => false,
-        ([name, names @ ..], [other, others @ ..]) => is_same(name, other) && are_same(names, others),
-    }
-}
-
 // Whether the second list begins with the first.
 fn begins(front: &[String], names: &[String]) -> bool
     ensures { result ≡ begins (map string_bytes front.now) (map string_bytes names.now) }
 {
-    match (front, names) {
-        ([], _) => true,
-        ([_, ..], []) => false,
-        ([name, front @ ..], [other, names @ ..]) => is_same(name, other) && begins(front, names),
+    match front {
+        [] => true,
+        [name, front @ ..] => match names {
+            [] => false,
+            [other, names @ ..] => is_same(name, other) && begins(front, names),
+        },
     }
 }
 
@@ -93,14 +84,19 @@ fn part_tells(part: &NamedPart, other: &NamedPart) -> bool
     match (part, other) {
         (NamedPart::One, _) => true,
         (NamedPart::Any, NamedPart::Any) | (NamedPart::All, NamedPart::All) => true,
-        (NamedPart::Hash { .. }, NamedPart::Any) | (NamedPart::Range { .. }, NamedPart::Any) => true,
+        (NamedPart::Hash { .. }, NamedPart::Any) | (NamedPart::Range { .. }, NamedPart::Any) =>
+            true,
         (
             NamedPart::Hash { route, columns },
             NamedPart::Hash {
                 route: other,
                 columns: others,
             },
-        ) => is_same(route, other) && are_same(columns.as_slice(), others.as_slice()),
+        ) => {
+            is_same(route, other)
+                && begins(columns.as_slice(), others.as_slice())
+                && begins(others.as_slice(), columns.as_slice())
+        }
         (
             NamedPart::Range { range, column },
             NamedPart::Range {

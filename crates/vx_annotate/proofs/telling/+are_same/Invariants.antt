@@ -1,5 +1,0 @@
-use Rattle.std.proofs.Common.{length}
-use Rattle.vx_annotate.proofs.telling.+are_same.Given as goal
-
-abbrev pub decreases-are_same : goal.decreases-are_same
-decreases-are_same l = length l.names.now
