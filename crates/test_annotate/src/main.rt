@@ -1,8 +1,8 @@
 //! Whether plans are annotated as files of cases say.
 //!
 //! The first word of the command line names a catalog, each further one a file of cases: a JSON value with what it is
-//! about and a list of cases and notes. A line is printed for each file, and before it one for each case that is answered
-//! otherwise.
+//! about and a list of cases and notes. A line is printed for each file, and before it one for each case that is
+//! answered otherwise.
 #![tactic(auto)]
 
 mod case;

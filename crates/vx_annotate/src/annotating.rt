@@ -115,10 +115,11 @@ fn stronger(claimed: Plan, plan: Plan) -> Plan
     }
 }
 
-/// The plan with its claims, and whether it is total, replaced by what the rule table shows: at each node a part that tells
-/// the most of those with which the operators above it fit, the longest order, and the minimal keys, the first 16; and total
-/// where the root's order is. The plan stays as it is where the checker accepts it and the claims that are found do not tell
-/// as much everywhere. The refusal is the first one of the plan without claims, or else of the rule table.
+/// The plan with its claims, and whether it is total, replaced by what the rule table shows: at each node a part that
+/// tells the most of those with which the operators above it fit, the longest order, and the minimal keys, the first
+/// 16; and total where the root's order is. The plan stays as it is where the checker accepts it and the claims that
+/// are found do not tell as much everywhere. The refusal is the first one of the plan without claims, or else of the
+/// rule table.
 pub fn annotate(alloc: Global, catalog: &Catalog, plan: Plan) -> Result<Plan, AnnotateFault>
     ensures same { IfOk result (λ p. unclaimed (document_of p) ≡ unclaimed (document_of plan)) }
     ensures accepted { IfOk result (λ p. is_accepted catalog.now (document_of p) ≡ true) }

@@ -1,5 +1,5 @@
-//! The claims of all nodes: from the top down each node gets one of the parts that it can show, so that what stands above
-//! it shows its own.
+//! The claims of all nodes: from the top down each node gets one of the parts that it can show, so that what stands
+//! above it shows its own.
 
 use crate::formed::FormedClaim;
 use crate::keys::keys_of;

@@ -145,8 +145,8 @@ fn paired_keys(
     Ok(pairs)
 }
 
-// The keys of a join over inputs with these keys, the left one `width` columns wide. Where the right input is joined on a
-// key, the left keys are keys, and the other way round; else a left and a right key together.
+// The keys of a join over inputs with these keys, the left one `width` columns wide. Where the right input is joined
+// on a key, the left keys are keys, and the other way round; else a left and a right key together.
 fn joined_keys(
     alloc: Global,
     on: &[(usize, usize)],

@@ -33,8 +33,8 @@ fn order_over(
     }
 }
 
-// Whether rows with this part rise with the number of their worker, where each worker's rows are in this order: a range
-// on the order's first column put them there.
+// Whether rows with this part rise with the number of their worker, where each worker's rows are in this order: a
+// range on the order's first column put them there.
 fn rises_with_workers(part: &Part, order: &[usize]) -> bool {
     match (part, order) {
         (Part::Routed(Route::Range(_), columns), [first, ..]) => columns.as_slice()
@@ -57,7 +57,8 @@ pub fn rising_part(
     Ok(None)
 }
 
-// Whether an exchange keeps the order of its input: that has one worker, or one producer's rows come after the other's.
+// Whether an exchange keeps the order of its input: that has one worker, or one producer's rows come after the
+// other's.
 fn keeps_order(
     alloc: Global,
     exchange: &Exchange,
@@ -84,8 +85,8 @@ fn exchange_order(
     Vec::from_slice(alloc, exchange.merge.as_slice())
 }
 
-/// The longest order that a node shows, by the longest ones of its inputs. Of a column that is kept twice the first copy
-/// stands in it.
+/// The longest order that a node shows, by the longest ones of its inputs. Of a column that is kept twice the first
+/// copy stands in it.
 pub fn order_of(
     alloc: Global,
     catalog: &Catalog,

@@ -265,7 +265,8 @@ fn list_of(alloc: Global, part: Part) -> Result<Vec<Part>, AllocError> {
     Ok(parts)
 }
 
-/// The parts that a node can show, by what its inputs can show; none where an operator at it or below it does not fit.
+/// The parts that a node can show, by what its inputs can show; none where an operator at it or below it does not
+/// fit.
 pub fn parts_of(alloc: Global, node: &TypedNode) -> Result<Vec<Part>, AllocError> {
     if has_one_worker(node) {
         return list_of(alloc, Part::One);

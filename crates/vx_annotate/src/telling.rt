@@ -134,8 +134,8 @@ fn node_tells(node: &Node, other: &Node) -> bool
     }
 }
 
-/// Whether the plan's claims tell at least as much as the other one's, node by node, and the plan is total where the other
-/// one is.
+/// Whether the plan's claims tell at least as much as the other one's, node by node, and the plan is total where the
+/// other one is.
 pub fn tells(plan: &Plan, other: &Plan) -> bool
     ensures { result ≡ tells (document_of plan.now) (document_of other.now) }
 {
