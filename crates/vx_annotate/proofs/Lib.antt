@@ -1,0 +1,3 @@
+pub mod TreeFacts
+pub mod TellingFacts
+pub mod VerdictFacts

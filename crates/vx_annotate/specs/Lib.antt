@@ -1,0 +1,4 @@
+pub mod Unclaimed
+pub mod Verdict
+pub mod Telling
+pub mod Fault

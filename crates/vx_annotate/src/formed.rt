@@ -1,0 +1,108 @@
+//! Claims of the form that a document has.
+
+ghost use Rattle.std.specs.Prelude.{◌≡◌, true, map, string_bytes};
+ghost use Rattle.std.specs.List.{list_all};
+ghost use Rattle.vx_values.specs.Lists.{is_some_list};
+ghost use Rattle.vx_plan_json.specs.Document.{part_form, claim_form};
+ghost use Rattle.vx_annotate.specs.Unclaimed.{no_claim};
+ghost use Rattle.vx_plan_json.specs.Formed.{are_names, are_some_names, is_part_form, is_claim_form};
+
+use std::alloc::Global;
+use vx_plan_json::{NamedClaim, NamedPart};
+
+/// A claim in which no name is empty, and no route is without columns.
+#[derive(Debug)]
+pub struct FormedClaim {
+    claim: NamedClaim,
+    ghost formed: { is_claim_form (claim_form claim) ≡ true },
+}
+
+// By hand, so that the drops of its parts are made and proved here once, and not in each function that drops one.
+impl Drop for FormedClaim {
+    fn drop(self) {
+        let FormedClaim { claim: _ } = self;
+    }
+}
+
+fn is_name(name: &String) -> bool
+    ensures { result ≡ is_some_list (string_bytes name.now) }
+{
+    !name.is_empty()
+}
+
+fn are_filled(names: &[String]) -> bool
+    ensures { result ≡ list_all (λ n. is_some_list (string_bytes n)) names.now }
+{
+    names.iter().all(|name| is_name(name))
+}
+
+fn are_names(names: &[String]) -> bool
+    ensures { result ≡ are_names (map string_bytes names.now) }
+{
+    are_filled(names)
+}
+
+fn are_lists(lists: &[Vec<String>]) -> bool
+    ensures { result ≡ list_all (λ k. are_names (map string_bytes k.items)) lists.now }
+{
+    lists.iter().all(|list| are_names(list.as_slice()))
+}
+
+fn are_keys(keys: &[Vec<String>]) -> bool
+    ensures { result ≡ list_all are_names (map (λ k. map string_bytes k.items) keys.now) }
+{
+    are_lists(keys)
+}
+
+fn are_some_names(names: &[String]) -> bool
+    ensures { result ≡ are_some_names (map string_bytes names.now) }
+{
+    !names.is_empty() && are_names(names)
+}
+
+fn is_part(part: &NamedPart) -> bool
+    ensures { result ≡ is_part_form (part_form part.now) }
+{
+    match part {
+        NamedPart::One | NamedPart::Any | NamedPart::All => true,
+        NamedPart::Hash { route, columns } => is_name(route) && are_some_names(columns.as_slice()),
+        NamedPart::Range { range, column } => is_name(range) && is_name(column),
+    }
+}
+
+fn is_formed(claim: &NamedClaim) -> bool
+    ensures { result ≡ is_claim_form (claim_form claim.now) }
+{
+    is_part(&claim.part) && are_names(claim.order.as_slice()) && are_keys(claim.keys.as_slice())
+}
+
+/// A claim that says nothing.
+pub fn no_claim(alloc: Global) -> NamedClaim
+    ensures { claim_form result ≡ no_claim }
+{
+    NamedClaim {
+        part: NamedPart::Any,
+        order: Vec::new(alloc),
+        keys: Vec::new(alloc),
+    }
+}
+
+impl FormedClaim {
+    /// The claim, or one that says nothing where no document can say it.
+    pub fn new(alloc: Global, claim: NamedClaim) -> FormedClaim {
+        if is_formed(&claim) {
+            return FormedClaim { claim };
+        }
+        FormedClaim {
+            claim: no_claim(alloc),
+        }
+    }
+
+    /// The claim.
+    pub fn into_claim(self) -> NamedClaim
+        ensures { is_claim_form (claim_form result) ≡ true }
+    {
+        let FormedClaim { claim } = self;
+        claim
+    }
+}
