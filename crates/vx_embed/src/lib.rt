@@ -1,0 +1,2 @@
+//! For C.
+#![tactic(auto)]

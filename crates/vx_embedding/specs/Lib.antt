@@ -1,0 +1,6 @@
+pub mod Session
+pub mod Texts
+pub mod Planning
+pub mod Serial
+pub mod Lines
+pub mod Replies
