@@ -4,3 +4,4 @@ pub mod Planning
 pub mod Serial
 pub mod Lines
 pub mod Replies
+pub mod Spans

@@ -62,7 +62,10 @@ pub fn words_in(line: &[u8]) -> Words
 {
     let code_at = MARK.min(line.len());
     let code_length = word_length(&line[code_at..]);
-    let name_at = code_at.saturating_add(code_length).saturating_add(1).min(line.len());
+    let name_at = code_at
+        .saturating_add(code_length)
+        .saturating_add(1)
+        .min(line.len());
     let name_length = word_length(&line[name_at..]);
     Words {
         code_at,

@@ -1,6 +1,6 @@
 //! A catalog that was read once, with texts of its tables, and what is asked of plans over it.
 
-ghost use Rattle.std.specs.Prelude.{◌≡◌, [], map, IfOk, IfErr, OnOk, OnErr, Ok};
+ghost use Rattle.std.specs.Prelude.{◌≡◌, [], map, IfOk, IfErr, Ok};
 ghost use Rattle.vx_relations.specs.Naming.{catalog_text};
 ghost use Rattle.vx_plan_nodes.specs.Names.{TypedPlanView};
 ghost use Rattle.vx_plan_nodes.specs.TypedView.{resolved_of};
@@ -8,11 +8,10 @@ ghost use Rattle.vx_check.specs.Explain.{explain_text};
 ghost use Rattle.vx_check_rules.specs.CheckedView.{typed_plan};
 ghost use Rattle.vx_embedding.specs.Planning.{plan_text, IsAccepted, NoCatalog, NoPlan, CheckRefuses};
 ghost use Rattle.vx_embedding.specs.Serial.{IsSerial, SerialRefuses};
-ghost use Rattle.vx_embedding.specs.Session.{with_table};
 ghost use Rattle.vx_embedding.specs.Texts.{table_form};
 
 use crate::tables::TableText;
-use std::alloc::{AllocError, Global};
+use std::alloc::Global;
 use std::marker::Model;
 use vx_catalog::{Catalog, format_rows};
 use vx_check::{CheckedPlan, check, explain};
@@ -21,7 +20,7 @@ use vx_refusals::Refusal;
 use vx_serial::eval;
 use vx_tables::load_tables;
 
-/// A catalog that was read once, with texts of its tables. Of two texts of one table the later one counts.
+/// A catalog that was read once, with texts of its tables. Of two texts of one table the first counts.
 #[derive(Debug, Drop)]
 pub struct Session {
     catalog: Catalog,
@@ -50,17 +49,13 @@ impl Session {
         Ok(Session { catalog, tables })
     }
 
-    /// Gives the table of this name a text, which is copied and not read yet.
-    pub fn put_table(&mut self, alloc: Global, name: &[u8], text: &[u8]) -> Result<(), AllocError>
-        ensures put { OnOk result (self.new ≡ with_table self.old name.now text.now) }
-        ensures kept { OnErr result (self.new ≡ self.old) }
+    /// The session with these tables. Of two texts of one table the first counts.
+    pub fn with_tables(self, tables: Vec<TableText>) -> Session
+        ensures catalog { result.catalog ≡ self.catalog }
+        ensures tables { result.tables ≡ map table_form tables.items }
     {
-        let name = Vec::from_slice(alloc, name)?;
-        let text = Vec::from_slice(alloc, text)?;
-        match self.tables.insert(0, TableText { name, text }) {
-            Ok(()) => Ok(()),
-            Err(_) => Err(AllocError),
-        }
+        let Session { catalog, tables: _ } = self;
+        Session { catalog, tables }
     }
 
     /// The catalog.
@@ -70,7 +65,7 @@ impl Session {
         &self.catalog
     }
 
-    /// The texts of the tables, the latest first.
+    /// The texts of the tables.
     pub fn tables(&self) -> &[TableText]
         ensures { map table_form result.now ≡ self.now.tables }
     {

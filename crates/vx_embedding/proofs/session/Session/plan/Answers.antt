@@ -1,4 +1,4 @@
-use Rattle.std.proofs.Common.{◌≡◌, List, Result, refl, sym, subst}
+use Rattle.std.proofs.Common.{Result, refl, sym, subst}
 use Rattle.std.proofs.lemmas.Result.{err_from_is_err_and}
 use Rattle.vx_plan_json.specs.Document.{Document}
 use Rattle.vx_plan_json.specs.Fault.{◌>>=◌}
