@@ -64,8 +64,10 @@ pub fn give(reply: Reply, answer: &mut Answer) -> u8
         *answer = nothing();
         return 4;
     }
+    let at = text.as_mut_ptr();
+    let _ = text.leak();
     *answer = Answer {
-        text: text.leak().as_mut_ptr(),
+        text: at,
         length,
         code_at: words.code_at,
         code_length: words.code_length,
