@@ -1,14 +1,13 @@
 /* The checker and the serial evaluation of volcano, for a program in C or C++: link with libvolcano.a.
  *
- * A session is a catalog that is read once, with the texts of tables, and answers any number of plans. There are no
- * threads and no globals. A session is used by one call at a time; two sessions may be used from two threads.
+ * There are no threads and no globals, so calls may run side by side. Bytes go in as a pointer and a length. The pointer
+ * is never null, not even for no bytes. The library reads the bytes while the call runs, and keeps none of them.
  *
- * Bytes go in as a pointer and a length. The pointer is never null, not even for no bytes. The library reads the bytes
- * while the call runs, and keeps none of them.
+ * Each call returns a status, the one with which the program volcano ends: 0 where it answers; 2 for wrong use; 3 where
+ * what it was given is refused; 4 where memory ran out or a sum is no number of 64 bits. `volcano_answer` has the text
+ * that answers, or says why there is none.
  *
- * Each call returns a status, the one with which the program volcano ends: 0 where it answers; 3 where what it was given
- * is refused; 4 where memory ran out or a sum is no number of 64 bits. `volcano_answer` holds what it answers or why not.
- * The library allocates by malloc and realloc and frees by free, which the program supplies.
+ * The library allocates by malloc and realloc and frees by free, of the program that it is linked into.
  */
 #ifndef VOLCANO_H
 #define VOLCANO_H
@@ -21,53 +20,50 @@
 extern "C" {
 #endif
 
-/* A catalog with texts of tables. A copy of this struct is the same session. */
-typedef struct volcano_session {
-    void *at;
-} volcano_session;
-
-/* What a call answers, or why it does not. Let it be all zero before the first call that writes it: `volcano_answer a = {0}`.
- * A call overwrites it and frees nothing that an earlier call put there. */
+/* What a call answers, or why it does not. Let it be all zero before the first call: `volcano_answer answer = {0}`. A call
+ * overwrites it, and does not free the text that an earlier call put there. */
 typedef struct volcano_answer {
-    /* After status 0 the text that answers, and else the line that the program prints: `volcano: K3 PartNotShown node=2`
-     * and a line feed. A zero byte follows it. The caller frees it by free(text). Null where memory ran out for it. */
+    /* After status 0 the text that answers. Else the line that the program prints, as `volcano: K3 PartNotShown node=2`
+     * and a line feed. A zero byte follows. The caller frees it by free(text). Null after status 2, and where memory
+     * ran out. */
     char *text;
     /* How many bytes the text has, without the zero byte. */
     size_t length;
-    /* Where the code (K3) and the name (PartNotShown) of the line stand in it, and how long they are. 0 after status 0. */
+    /* Where the code (K3) and the name (PartNotShown) stand in the line, and how long they are. After status 0 all are 0. */
     size_t code_at;
     size_t code_length;
     size_t name_at;
     size_t name_length;
-    /* The node that the line names, numbered in preorder from 0, and whether it names one. */
+    /* The node that the refusal names, numbered in preorder from 0, and whether it names one. */
     uint32_t node;
     bool has_node;
-    /* After volcano_check: whether the accepted plan says that its rows come in a total order. */
+    /* After volcano_check with status 0: whether the plan says that its rows come in a total order. */
     bool is_total;
 } volcano_answer;
 
-/* Reads a catalog, a JSON text. After status 0 `*at` is a session's address, and `volcano_session s = {at}` the session,
- * which stays until volcano_close. Else `*at` is as it was, and the answer says why. */
-uint8_t volcano_open(const uint8_t *catalog, size_t catalog_length, void **at, volcano_answer *answer);
+/* Where the name and the text of a table stand in a buffer: each from a start up to an end. */
+typedef struct volcano_table {
+    size_t name_start;
+    size_t name_end;
+    size_t text_start;
+    size_t text_end;
+} volcano_table;
 
-/* Gives the table of this name a text in CSV, which is copied, and is read by each volcano_evaluate that needs it. A later
- * text of the same name takes the place of an earlier one. Status 0, or 4 where memory ran out: then nothing changes. */
-uint8_t volcano_put_table(volcano_session session, const uint8_t *name, size_t name_length, const uint8_t *text,
-                          size_t text_length);
+/* Checks a plan over a catalog, both JSON texts. Status 0 exactly where the catalog is one and the checker accepts the
+ * plan: every claim in it is shown. The text is `accepted` or `accepted total`, and a line feed. */
+uint8_t volcano_check(const uint8_t *catalog, size_t catalog_length, const uint8_t *plan, size_t plan_length,
+                      volcano_answer *answer);
 
-/* Checks a plan, a JSON text, over the catalog. Status 0 exactly where the checker accepts it: each note of the plan is
- * shown. The text is `accepted` or `accepted total` and a line feed. */
-uint8_t volcano_check(volcano_session session, const uint8_t *plan, size_t plan_length, volcano_answer *answer);
+/* Explains a plan over a catalog that the checker accepts: the text of `volcano explain`. */
+uint8_t volcano_explain(const uint8_t *catalog, size_t catalog_length, const uint8_t *plan, size_t plan_length,
+                        volcano_answer *answer);
 
-/* Explains a plan that the checker accepts: the text of `volcano explain`. */
-uint8_t volcano_explain(volcano_session session, const uint8_t *plan, size_t plan_length, volcano_answer *answer);
-
-/* Evaluates a plan without its exchanges over the texts of the session's tables: the rows in CSV, as `volcano serial` prints
- * them. The checker is not asked. */
-uint8_t volcano_evaluate(volcano_session session, const uint8_t *plan, size_t plan_length, volcano_answer *answer);
-
-/* Frees a session. No copy of it is used after that. */
-void volcano_close(volcano_session session);
+/* Evaluates a plan without its exchanges over a catalog and tables: the rows as CSV, as `volcano serial` prints them. The
+ * tables' names and their CSV texts stand anywhere in `buffer`, and each entry of `tables` says where. Of two texts of one
+ * table the first counts. Status 2 for an entry that is not within the buffer. The checker is not asked. */
+uint8_t volcano_evaluate(const uint8_t *catalog, size_t catalog_length, const uint8_t *plan, size_t plan_length,
+                         const uint8_t *buffer, size_t buffer_length, const volcano_table *tables, size_t table_count,
+                         volcano_answer *answer);
 
 #ifdef __cplusplus
 }

@@ -20,28 +20,20 @@ static uint8_t *file_bytes(const char *path, size_t *length) {
 
 int main(int count, char **words) {
     int worst = 0;
-    size_t length = 0;
-    void *at = NULL;
-    volcano_answer answer = {0};
-    uint8_t *catalog = count > 1 ? file_bytes(words[1], &length) : NULL;
+    size_t catalog_length = 0;
+    uint8_t *catalog = count > 1 ? file_bytes(words[1], &catalog_length) : NULL;
     if (!catalog) return 2;
-    int status = volcano_open(catalog, length, &at, &answer);
-    free(catalog);
-    if (status != 0) {
-        printf("%s", answer.text ? answer.text : "no memory\n");
-        free(answer.text);
-        return status;
-    }
-    volcano_session session = {at};
     for (int i = 2; i < count; i++) {
+        size_t length = 0;
+        volcano_answer answer = {0};
         uint8_t *plan = file_bytes(words[i], &length);
         if (!plan) return 2;
-        status = volcano_check(session, plan, length, &answer);
+        int status = volcano_check(catalog, catalog_length, plan, length, &answer);
         printf("%s: %s", words[i], answer.text ? answer.text : "no memory\n");
         free(answer.text);
         free(plan);
         if (status > worst) worst = status;
     }
-    volcano_close(session);
+    free(catalog);
     return worst;
 }
