@@ -1,0 +1,15 @@
+//! The checker and the serial evaluation for a program that keeps a catalog and asks about many plans.
+#![tactic(auto)]
+
+mod lines;
+mod replies;
+mod session;
+mod spans;
+mod tables;
+
+pub use lines::{Words, line_of, node_of, words_in};
+pub use replies::{Reply, check_reply, evaluate_reply, explain_reply, refusal_reply};
+pub use session::Session;
+pub use spans::{SpanFault, TableSpan, tables_in};
+pub use tables::TableText;
+pub use vx_refusals::{Refusal, status};

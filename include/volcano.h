@@ -1,0 +1,72 @@
+/* The checker and the serial evaluation of volcano, for a program in C or C++: link with libvolcano.a.
+ *
+ * There are no threads and no globals, so calls may run side by side. Bytes go in as a pointer and a length. The pointer
+ * is never null, not even for no bytes. The library reads the bytes while the call runs, and keeps none of them.
+ *
+ * Each call returns a status, the one with which the program volcano ends: 0 where it answers; 2 for wrong use; 3 where
+ * what it was given is refused; 4 where memory ran out or a sum is no number of 64 bits. `volcano_answer` has the text
+ * that answers, or says why there is none.
+ *
+ * The library allocates by malloc and realloc and frees by free, of the program that it is linked into.
+ */
+#ifndef VOLCANO_H
+#define VOLCANO_H
+
+#include <stdbool.h>
+#include <stddef.h>
+#include <stdint.h>
+
+#ifdef __cplusplus
+extern "C" {
+#endif
+
+/* What a call answers, or why it does not. Let it be all zero before the first call: `volcano_answer answer = {0}`. A call
+ * overwrites it, and does not free the text that an earlier call put there. */
+typedef struct volcano_answer {
+    /* After status 0 the text that answers. Else the line that the program prints, as `volcano: K3 PartNotShown node=2`
+     * and a line feed. A zero byte follows. The caller frees it by free(text). Null after status 2, and where memory
+     * ran out. */
+    char *text;
+    /* How many bytes the text has, without the zero byte. */
+    size_t length;
+    /* Where the code (K3) and the name (PartNotShown) stand in the line, and how long they are. After status 0 all are 0. */
+    size_t code_at;
+    size_t code_length;
+    size_t name_at;
+    size_t name_length;
+    /* The node that the refusal names, numbered in preorder from 0, and whether it names one. */
+    uint32_t node;
+    bool has_node;
+    /* After volcano_check with status 0: whether the plan says that its rows come in a total order. */
+    bool is_total;
+} volcano_answer;
+
+/* Where the name and the text of a table stand in a buffer: each from a start up to an end. */
+typedef struct volcano_table {
+    size_t name_start;
+    size_t name_end;
+    size_t text_start;
+    size_t text_end;
+} volcano_table;
+
+/* Checks a plan over a catalog, both JSON texts. Status 0 exactly where the catalog is one and the checker accepts the
+ * plan: every claim in it is shown. The text is `accepted` or `accepted total`, and a line feed. */
+uint8_t volcano_check(const uint8_t *catalog, size_t catalog_length, const uint8_t *plan, size_t plan_length,
+                      volcano_answer *answer);
+
+/* Explains a plan over a catalog that the checker accepts: the text of `volcano explain`. */
+uint8_t volcano_explain(const uint8_t *catalog, size_t catalog_length, const uint8_t *plan, size_t plan_length,
+                        volcano_answer *answer);
+
+/* Evaluates a plan without its exchanges over a catalog and tables: the rows as CSV, as `volcano serial` prints them. The
+ * tables' names and their CSV texts stand anywhere in `buffer`, and each entry of `tables` says where. Of two texts of one
+ * table the first counts. Status 2 for an entry that is not within the buffer. The checker is not asked. */
+uint8_t volcano_evaluate(const uint8_t *catalog, size_t catalog_length, const uint8_t *plan, size_t plan_length,
+                         const uint8_t *buffer, size_t buffer_length, const volcano_table *tables, size_t table_count,
+                         volcano_answer *answer);
+
+#ifdef __cplusplus
+}
+#endif
+
+#endif
