@@ -49,8 +49,8 @@ typedef struct volcano_table {
     size_t text_end;
 } volcano_table;
 
-/* Checks a plan over a catalog, both JSON texts. Status 0 exactly where the catalog is one and the checker accepts the
- * plan: every claim in it is shown. The text is `accepted` or `accepted total`, and a line feed. */
+/* Checks a plan over a catalog, both JSON texts. Status 0 only where the catalog is one and the checker accepts the plan:
+ * every claim in it is shown. Of such a plan the status is 0, or 4 where memory ran out. The text is `accepted` or `accepted total`, and a line feed. */
 uint8_t volcano_check(const uint8_t *catalog, size_t catalog_length, const uint8_t *plan, size_t plan_length,
                       volcano_answer *answer);
 

@@ -32,7 +32,9 @@ impl Case {
     /// The case of an entry.
     pub fn read(alloc: Global, entry: &Json) -> Result<Case, Error> {
         let plan = entry.get("plan").context("it has no plan")?;
-        let gives = entry.get("gives").context("it says nothing of what is given")?;
+        let gives = entry
+            .get("gives")
+            .context("it says nothing of what is given")?;
         Ok(Case {
             plan: Plan::of_value(alloc, plan)?,
             gives: expected(alloc, gives)?,

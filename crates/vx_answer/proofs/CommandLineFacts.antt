@@ -7,7 +7,7 @@ use Rattle.clap.specs.declared.error.Error.{Error}
 use Rattle.clap.specs.declared.error.kind.ErrorKind.{ErrorKind}
 use Rattle.clap.specs.declared.error.kind.ErrorKind.TheVariants as kind
 use Rattle.vx_plan_nodes.specs.Names.{TypedPlanView}
-use Rattle.vx_arguments.specs.Asked.{Ask, faults_of}
+use Rattle.vx_arguments.specs.Asked.{Ask, Paths, faults_of}
 use Rattle.vx_refusals.specs.declared.refusal.Refusal.{Refusal}
 use Rattle.vx_answer.specs.declared.command_line.ArgumentAnswer.{ArgumentAnswer}
 use Rattle.vx_answer.specs.declared.command_line.ArgumentAnswer.TheVariants as answer
@@ -17,7 +17,8 @@ use Rattle.vx_answer.specs.Commands.{CommandRefuses}
 use Rattle.vx_bytes.specs.Stored.{Stored}
 use Rattle.vx_tables.specs.Folder.{holds_at, LacksAt}
 use Rattle.vx_answer.specs.Files.{IsFilesPlan}
-use Rattle.vx_answer.specs.CommandLine.{FileCommand, TaskRefuses, for_plan_of, with_program_name, AsksFor, for_help, for_what_is_asked, for_kind, for_no_task, arguments_memory, for_ask}
+use Rattle.vx_answer.specs.Forms.{FormRefuses}
+use Rattle.vx_answer.specs.CommandLine.{FileCommand, FormIsRefused, for_form, TaskRefuses, for_plan_of, with_program_name, AsksFor, for_help, for_what_is_asked, for_kind, for_no_task, arguments_memory, for_ask}
 use Rattle.vx_answer.specs.CommandLineView.{IsAskAnswer, IsArgumentAnswer, IsHelp, IsClapFault, IsAskFault, IsArgumentFault}
 
 -- what the command makes nothing of, the task has no answer to
@@ -26,6 +27,12 @@ pub task_refused : {T : Type 0} (files : List ℕ → Stored) (reliable : List �
     → IfErr r (λ e. CommandRefuses t.command p (holds_at files t.folder) (LacksAt files reliable t.folder) t.setting e) → IfErr r (λ e. TaskRefuses files reliable input failed t e)
 task_refused files reliable input failed t p (Ok x) planned h = tt
 task_refused files reliable input failed t p (Err e) planned h = for_plan_of p planned h
+
+-- what has no text in a form is refused for that
+pub form_refused : {T : Type 0} (files : List ℕ → Stored) (reliable : List ℕ → Bool) (input : Option (List ℕ)) (failed : Bool) (paths : Paths) (p : TypedPlanView) (r : Result T Refusal)
+    → IsFilesPlan files input paths p → IfErr r (λ e. FormRefuses p e) → IfErr r (λ e. FormIsRefused files reliable input failed paths e)
+form_refused files reliable input failed paths p (Ok x) planned h = tt
+form_refused files reliable input failed paths p (Err e) planned h = for_form p planned h
 
 -- the answer to what arguments ask for answers the arguments
 pub arguments_answer : (files : List ℕ → Stored) (input : Option (List ℕ)) (arguments : List (List ℕ)) (ask : Ask) (r : Result ArgumentAnswer ArgumentFault)
