@@ -193,6 +193,6 @@ TEXTS = [
     Kind("keys that a scan claims", short_keys, 500_000, "K8 KeyNotShown node=0"),
     Kind("a pair of a join, repeated", pairs, 500_000, "P6 DuplicateColumn node=0 name=v"),
     Kind("a column of a distinct, repeated", columns, 1_000_000, "P6 DuplicateColumn node=0 name=k"),
-    Kind("keys that a join of 992 pairs claims", claimed_keys, 750, "accepted", "time: the keys of the inputs are looked at anew for each claimed key"),
+    Kind("keys that a join of 992 pairs claims", claimed_keys, 3_000, "accepted", "time: each claimed key is held against each key of the inputs"),
     Kind("a prefix of 64 columns under 61 gathers", long_prefix, 50_000, "accepted", "memory: the names are copied at each node"),
 ]
