@@ -141,6 +141,51 @@ def long_prefix(count):
     return Texts(catalog=catalog, plan=json.dumps({"root": root}))
 
 
+def colliding_keys(count):
+    """A distinct of so many rows of two numbers that all have the same hash under the hasher's fixed seed: the second number is what the hasher
+    holds after the first, which makes 0 of it. The program draws a seed at random, under which they are as good as any others."""
+    word, multiplier = (1 << 64) - 1, 0x9E3779B97F4A7C15 ^ 16
+
+    def row(first):
+        product = (0x243F6A8885A308D3 ^ first) * multiplier
+        second = product & word ^ product >> 64
+        return f"{first},{second - (second >> 63 << 64)}\n"
+
+    names = [{"name": it, "type": "int"} for it in ("a", "b")]
+    catalog = json.dumps({"relations": [{"name": "t", "columns": names}]})
+    plan = planned(f'{{"op":"distinct","columns":["a","b"],"input":{SCAN}}}')
+    rows = "".join(map(row, range(count)))
+    return Texts(catalog=catalog, plan=plan, tables={"t": "a,b\n" + rows}, command="serial")
+
+
+def joined_prefix(count):
+    """A prefix of so many bytes before 32 columns, under 31 joins."""
+    catalog = json.dumps({"relations": [relation("t", "c", 32), relation("u", "v", 1)]})
+    scan = {"op": "scan", "mode": "whole", "size": "one"}
+    root = {**scan, "relation": "t", "prefix": "p" * count}
+    name = "p" * count + "c0"
+    for it in range(31):
+        right = {**scan, "relation": "u", "prefix": f"j{it}"}
+        root = {"op": "join", "method": "hash", "on": [[name, f"j{it}v0"]], "left": root, "right": right}
+        name = f"j{it}v0"
+    return Texts(catalog=catalog, plan=json.dumps({"root": root}))
+
+
+def united(nodes):
+    """A union of nodes, with half of them on each side."""
+    if len(nodes) == 1:
+        return nodes[0]
+    half = len(nodes) // 2
+    return {"op": "union", "left": united(nodes[:half]), "right": united(nodes[half:])}
+
+
+def scanned_name(count):
+    """A name of so many bytes in the catalog, in a relation that 500 scans read."""
+    catalog = json.dumps({"relations": [relation("t", "c" * count, 1)]})
+    scans = [{"op": "scan", "relation": "t", "mode": "whole", "size": "one"}] * 500
+    return Texts(catalog=catalog, plan=json.dumps({"root": united(scans)}))
+
+
 def deepest(kind="select", mode="rounds"):
     """A run of a plan of 64 nodes, one below the other: as deep as a plan may be."""
     root = json.loads(NUMBERS)
@@ -194,5 +239,8 @@ TEXTS = [
     Kind("a pair of a join, repeated", pairs, 500_000, "P6 DuplicateColumn node=0 name=v"),
     Kind("a column of a distinct, repeated", columns, 1_000_000, "P6 DuplicateColumn node=0 name=k"),
     Kind("keys that a join of 992 pairs claims", claimed_keys, 3_000, "accepted", "time: each claimed key is held against each key of the inputs"),
-    Kind("a prefix of 64 columns under 61 gathers", long_prefix, 50_000, "accepted", "memory: the names are copied at each node"),
+    Kind("rows that collide under the fixed seed", colliding_keys, 20_000, "a,b 0,.*"),
+    Kind("a prefix of 64 columns under 61 gathers", long_prefix, 50_000, "accepted"),
+    Kind("a prefix of 32 columns under 31 joins", joined_prefix, 50_000, "accepted", "memory: each join has copies of its inputs' names"),
+    Kind("a column's name, in a relation that 500 scans read", scanned_name, 50_000, "accepted", "memory: each scan makes the names of its output"),
 ]

@@ -34,7 +34,7 @@ fn kind_of(alloc: Global, error: &Error) -> Result<String, AllocError> {
 }
 
 // Lines, and what each asks for.
-const ASKED: [(&str, &str); 10] = [
+const ASKED: [(&str, &str); 13] = [
     ("volcano", "Bundle"),
     (
         "volcano check --catalog c --plan=-",
@@ -47,6 +47,18 @@ const ASKED: [(&str, &str); 10] = [
     (
         "volcano explain --plan p --catalog c --format dot",
         r#"Explain(Sources { catalog: "c", plan: "p" }, "dot")"#,
+    ),
+    (
+        "volcano check --all --catalog c --plan p",
+        r#"CheckAll(Sources { catalog: "c", plan: "p" })"#,
+    ),
+    (
+        "volcano check --catalog c --plan p --all",
+        r#"CheckAll(Sources { catalog: "c", plan: "p" })"#,
+    ),
+    (
+        "volcano annotate --catalog c --plan p",
+        r#"Annotate(Sources { catalog: "c", plan: "p" })"#,
     ),
     ("volcano why K4", r#"Why("K4")"#),
     (
@@ -77,7 +89,7 @@ fn commands_are_there(rt: HostRuntime) -> Result<(), Fail> {
 }
 
 // Lines that are refused, and the kind of each refusal.
-const REFUSED: [(&str, &str); 15] = [
+const REFUSED: [(&str, &str); 17] = [
     ("volcano check --catalog c", "MissingRequiredArgument"),
     (
         "volcano check --catalog c --plan p --data d",
@@ -94,6 +106,11 @@ const REFUSED: [(&str, &str); 15] = [
     (
         "volcano run --catalog c --plan p --data d --slack 4294967296",
         "ValueValidation",
+    ),
+    ("volcano annotate --catalog c", "MissingRequiredArgument"),
+    (
+        "volcano explain --catalog c --plan p --all",
+        "UnknownArgument",
     ),
     ("volcano why", "MissingRequiredArgument"),
     ("volcano why K4 K5", "UnknownArgument"),

@@ -7,6 +7,8 @@
 #[cfg(test)]
 mod catalogs;
 #[cfg(test)]
+mod keys;
+#[cfg(test)]
 mod loading;
 #[cfg(test)]
 mod open_rows;

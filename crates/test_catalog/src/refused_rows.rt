@@ -113,8 +113,10 @@ fn order<R: Abort>(rt: &R, alloc: Global, rows: &Table) -> Result<(), AllocError
     assert!(rt; positions.len() == 28);
     assert!(rt; positions.as_slice().starts_with(&[1usize, 3, 4, 8]));
     assert!(rt; positions.as_slice().ends_with(&[13usize, 20, 27]));
-    let clash = rows.first_key_clash(alloc, &[1])?;
-    assert!(rt; clash == Some((0, 2)));
+    for column in [0usize, 1] {
+        let clash = rows.first_key_clash(alloc, &[column])?;
+        assert!(rt; clash == Some((0, 2)));
+    }
     Ok(())
 }
 

@@ -8,6 +8,7 @@ use std::test::Fail;
 use std::thread::Threads;
 use vx_answer::{Disk, answer};
 use vx_bytes::{MemoryIn, MemoryOut};
+use vx_seeds::KeySeed;
 
 // More bytes than an answer or a refusal of these tests has.
 const ROOM: usize = 10000;
@@ -75,6 +76,7 @@ pub fn written<R: Threads + Wait + Sync + Files<File = File> + AllocGlobal>(
     let status = answer(
         rt,
         rt.alloc(),
+        KeySeed::fixed(),
         &[],
         &Disk::new(rt),
         &mut input,

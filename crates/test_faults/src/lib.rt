@@ -9,6 +9,8 @@ mod bundles;
 #[cfg(test)]
 mod draws;
 #[cfg(test)]
+mod hostile;
+#[cfg(test)]
 mod overflows;
 #[cfg(test)]
 mod plans;

@@ -10,6 +10,7 @@ use std::test::Fail;
 use std::thread::Threads;
 use vx_answer::{Disk, answer};
 use vx_bytes::{MemoryIn, Real};
+use vx_seeds::KeySeed;
 
 // More bytes than a bundle, its answer or a refusal of these tests has.
 const ROOM: usize = 10000;
@@ -64,6 +65,7 @@ fn is_answered<R: Threads + Wait + Sync + Files<File = File> + AllocGlobal + Abo
     let status = answer(
         rt,
         rt.alloc(),
+        KeySeed::fixed(),
         &[],
         &Disk::new(rt),
         &mut input,

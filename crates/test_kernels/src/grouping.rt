@@ -8,6 +8,7 @@ use std::test::Fail;
 use test_tables::{shown, table};
 use vx_keys::{GroupFault, grouped};
 use vx_plan::Aggregate;
+use vx_seeds::KeySeed;
 use vx_views::Rows;
 
 // The groups of a table, as text, or that a number of theirs does not fit.
@@ -20,7 +21,7 @@ fn groups_of(
     requires { AreColumns 2 by.now }
 {
     let rows = Rows::of_table(alloc, table(alloc, entries)?)?;
-    match grouped(alloc, &rows, by, aggregates) {
+    match grouped(alloc, KeySeed::fixed(), &rows, by, aggregates) {
         Ok(groups) => shown(alloc, &groups),
         Err(GroupFault::Overflow) => String::from_str(alloc, "overflow"),
         Err(GroupFault::TooMany) => String::from_str(alloc, "too many"),
@@ -57,7 +58,7 @@ const SUM: [Aggregate; 1] = [Aggregate::Sum(0)];
 fn no_rows_have_no_group(rt: HostRuntime) -> Result<(), Fail> {
     let alloc = rt.alloc();
     let rows = Rows::of_table(alloc, table(alloc, &[])?)?;
-    let none = grouped(alloc, &rows, &[], &EVERY)?;
+    let none = grouped(alloc, KeySeed::fixed(), &rows, &[], &EVERY)?;
     assert_eq!(rt; none.len(), 0);
     assert_eq!(rt; none.types().len(), 4);
     Ok(())

@@ -9,6 +9,7 @@ use std::test::Fail;
 use test_tables::{shown, table};
 use vx_algebra::sorted_chunks;
 use vx_keys::{Build, Seen, hash_join};
+use vx_seeds::KeySeed;
 use vx_views::Rows;
 
 // A kernel over one input and some of its columns.
@@ -33,7 +34,7 @@ fn made(
         Kernel::Projected => rows.project(alloc, columns)?,
         Kernel::Sorted => sorted_chunks(alloc, &rows, columns)?,
         Kernel::Distinct => {
-            let mut seen = Seen::new(alloc);
+            let mut seen = Seen::new(alloc, KeySeed::fixed());
             seen.keep_new(&rows, columns)?
         }
     };
@@ -126,7 +127,7 @@ fn news_of(
     requires columns { AreColumns 2 columns.now }
     requires later { AreColumns 2 later.now }
 {
-    let mut seen = Seen::new(alloc);
+    let mut seen = Seen::new(alloc, KeySeed::fixed());
     let early = new_in(alloc, &mut seen, first, columns)?;
     let late = new_in(alloc, &mut seen, second, later)?;
     Ok((early, late))
@@ -169,7 +170,14 @@ fn joined(
 {
     let left = Rows::of_table(alloc, table(alloc, left)?)?;
     let right = Rows::of_table(alloc, table(alloc, right)?)?;
-    let joined = hash_join(alloc, left, &[column], &right, vec![in alloc; column]?)?;
+    let joined = hash_join(
+        alloc,
+        KeySeed::fixed(),
+        left,
+        &[column],
+        &right,
+        vec![in alloc; column]?,
+    )?;
     shown(alloc, &joined.gathered(alloc)?)
 }
 
@@ -201,7 +209,7 @@ fn a_join_with_no_rows_is_empty(rt: HostRuntime) -> Result<(), Fail> {
 fn probed(alloc: Global, most: usize) -> Result<(usize, usize), AllocError> {
     let left = Rows::of_table(alloc, table(alloc, &LEFT)?)?;
     let right = Rows::of_table(alloc, table(alloc, &RIGHT)?)?;
-    let build = Build::of(alloc, &right, vec![in alloc; 1]?)?;
+    let build = Build::of(alloc, KeySeed::fixed(), &right, vec![in alloc; 1]?)?;
     let (joined, rest) = build.probe(left, &[1], most)?;
     Ok((joined.len(), rest.len()))
 }

@@ -11,4 +11,6 @@ mod kernels;
 #[cfg(test)]
 mod merging;
 #[cfg(test)]
+mod seeds;
+#[cfg(test)]
 mod serials;

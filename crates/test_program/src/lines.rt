@@ -5,6 +5,7 @@ use std::test::Fail;
 use std::thread::Threads;
 use vx_answer::{Store, answer};
 use vx_bytes::{MemoryIn, MemoryOut};
+use vx_seeds::KeySeed;
 
 /// What goes to the output, to the errors, and the status, for arguments over files and a standard input.
 pub fn line_of<R: Threads + Wait + Sync + AllocGlobal, F: Store>(
@@ -15,7 +16,16 @@ pub fn line_of<R: Threads + Wait + Sync + AllocGlobal, F: Store>(
 ) -> Result<String, Fail> {
     let mut out = MemoryOut::new(rt.alloc(), 10, 10000);
     let mut err = MemoryOut::new(rt.alloc(), 10, 10000);
-    let status = answer(rt, rt.alloc(), arguments, files, input, &mut out, &mut err);
+    let status = answer(
+        rt,
+        rt.alloc(),
+        KeySeed::fixed(),
+        arguments,
+        files,
+        input,
+        &mut out,
+        &mut err,
+    );
     let out = str::from_utf8(out.bytes())?;
     let err = str::from_utf8(err.bytes())?;
     Ok(format!(in rt.alloc(); "{out}|{err}|{status}")?)

@@ -11,6 +11,7 @@ use std::test::Fail;
 use std::thread::Threads;
 use vx_answer::answer;
 use vx_bytes::{MemoryIn, Real};
+use vx_seeds::KeySeed;
 
 // Whether these are the header and the one row.
 fn is_whole(text: &[u8]) -> bool {
@@ -29,6 +30,7 @@ fn status_over<R: Threads + Wait + Sync + AllocGlobal>(
     answer(
         rt,
         rt.alloc(),
+        KeySeed::fixed(),
         &["gen", "--rows", "1"],
         &NoFiles,
         &mut input,

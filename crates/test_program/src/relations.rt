@@ -7,6 +7,7 @@ use std::test::Fail;
 use std::thread::Threads;
 use vx_answer::answer;
 use vx_bytes::{MemoryIn, MemoryOut};
+use vx_seeds::KeySeed;
 
 /// The line of the columns' names.
 pub const HEADER: &str =
@@ -57,6 +58,7 @@ fn cut_off<R: Threads + Wait + Sync + AllocGlobal>(rt: &R, room: usize) -> Resul
     let status = answer(
         rt,
         rt.alloc(),
+        KeySeed::fixed(),
         &words,
         &NoFiles,
         &mut input,

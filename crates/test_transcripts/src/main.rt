@@ -14,6 +14,7 @@ use std::thread::Threads;
 use std::{env, fs};
 use vx_answer::{Disk, answer};
 use vx_bytes::{MemoryIn, MemoryOut};
+use vx_seeds::KeySeed;
 
 // What a command may write on its output, and what it may write on its errors, in bytes.
 const ROOM: usize = 1 << 20;
@@ -60,6 +61,7 @@ fn show<R: Threads + Wait + Sync + Files<File = File> + Print + AllocGlobal>(
     let status = answer(
         rt,
         rt.alloc(),
+        KeySeed::fixed(),
         command.arguments.as_slice(),
         &Disk::new(rt),
         &mut input,

@@ -1,13 +1,18 @@
 //! The program: from arguments or a bundle to rows.
 #![tactic(auto)]
 
+mod stack;
+
+use crate::stack::take_stack;
 use std::alloc::{AllocError, Global};
 use std::env::Env;
 use std::io::ErrorKind;
 use std::process::ExitCode;
+use std::random::RandomSource;
 use std::{env, io};
 use vx_answer::{Disk, Refusal, answer, report};
 use vx_bytes::{Real, write_all};
+use vx_seeds::KeySeed;
 
 // The arguments, without the program's name.
 fn arguments_of(rt: &(impl Env + AllocGlobal)) -> io::Result<Vec<String>> {
@@ -25,6 +30,18 @@ fn texts_of(alloc: Global, arguments: &[String]) -> Result<Vec<&str>, AllocError
         texts.push(argument.as_str())?;
     }
     Ok(texts)
+}
+
+// A number that nobody knows before the run.
+fn drawn_number(rt: &impl RandomSource) -> io::Result<u64> {
+    let mut bytes = [0; 8];
+    rt.fill_bytes(&mut bytes)?;
+    Ok(u64::from_le_bytes(bytes))
+}
+
+// A seed that nobody knows before the run.
+fn drawn_seed(rt: &impl RandomSource) -> io::Result<KeySeed> {
+    Ok(KeySeed::new(drawn_number(rt)?, drawn_number(rt)?))
 }
 
 fn main(rt: HostRuntime) -> ExitCode {
@@ -46,10 +63,20 @@ fn main(rt: HostRuntime) -> ExitCode {
         report(&Refusal::NoMemory, &mut err);
         return ExitCode::from(4);
     };
+    if take_stack(rt.alloc(), texts.len()).is_err() {
+        report(&Refusal::NoMemory, &mut err);
+        return ExitCode::from(4);
+    }
+    // Without random bytes the program answers the same, with the fixed seed.
+    let seed = match drawn_seed(&rt) {
+        Ok(seed) => seed,
+        Err(_) => KeySeed::fixed(),
+    };
     let files = Disk::new(&rt);
     ExitCode::from(answer(
         &rt,
         rt.alloc(),
+        seed,
         texts.as_slice(),
         &files,
         &mut input,

@@ -16,9 +16,12 @@ use Rattle.vx_answer.specs.declared.command_line.ArgumentFault.TheVariants as fa
 use Rattle.vx_answer.specs.Commands.{CommandRefuses}
 use Rattle.vx_bytes.specs.Stored.{Stored}
 use Rattle.vx_tables.specs.Folder.{holds_at, LacksAt}
-use Rattle.vx_answer.specs.Files.{IsFilesPlan}
+use Rattle.vx_relations.specs.Relation.{Relation}
+use Rattle.vx_plan_json.specs.Document.{Document}
+use Rattle.vx_answer.specs.Files.{AreRead, IsFilesPlan}
+use Rattle.vx_answer.specs.Annotated.{AnnotationRefuses}
 use Rattle.vx_answer.specs.Forms.{FormRefuses}
-use Rattle.vx_answer.specs.CommandLine.{FileCommand, FormIsRefused, for_form, TaskRefuses, for_plan_of, with_program_name, AsksFor, for_help, for_what_is_asked, for_kind, for_no_task, arguments_memory, for_ask}
+use Rattle.vx_answer.specs.CommandLine.{FileCommand, FormIsRefused, for_form, AnnotationIsRefused, for_annotation, TaskRefuses, for_plan_of, with_program_name, AsksFor, for_help, for_what_is_asked, for_kind, for_no_task, arguments_memory, for_ask}
 use Rattle.vx_answer.specs.CommandLineView.{IsAskAnswer, IsArgumentAnswer, IsHelp, IsClapFault, IsAskFault, IsArgumentFault}
 
 -- what the command makes nothing of, the task has no answer to
@@ -34,6 +37,12 @@ pub form_refused : {T : Type 0} (files : List ℕ → Stored) (reliable : List �
 form_refused files reliable input failed paths p (Ok x) planned h = tt
 form_refused files reliable input failed paths p (Err e) planned h = for_form p planned h
 
+-- a document that gets no claims is refused for that
+pub annotation_refused : {T : Type 0} (files : List ℕ → Stored) (reliable : List ℕ → Bool) (input : Option (List ℕ)) (failed : Bool) (paths : Paths) (relations : List Relation) (d : Document) (r : Result T Refusal)
+    → AreRead files input paths relations d → IfErr r (AnnotationRefuses relations d) → IfErr r (AnnotationIsRefused files reliable input failed paths)
+annotation_refused files reliable input failed paths relations d (Ok x) read h = tt
+annotation_refused files reliable input failed paths relations d (Err e) read h = for_annotation relations d read h
+
 -- the answer to what arguments ask for answers the arguments
 pub arguments_answer : (files : List ℕ → Stored) (input : Option (List ℕ)) (arguments : List (List ℕ)) (ask : Ask) (r : Result ArgumentAnswer ArgumentFault)
     → AsksFor arguments ask → IfOk r (λ a. IsAskAnswer files input ask a) → IfOk r (λ a. IsArgumentAnswer files input arguments a)
@@ -47,6 +56,7 @@ pub arguments_refused : {T : Type 0} (files : List ℕ → Stored) (reliable : L
 arguments_refused files reliable input failed arguments ask (Ok v) asked h = tt
 arguments_refused files reliable input failed arguments ask (Err (fault.Usage text)) asked h = for_no_task ask asked h
 arguments_refused files reliable input failed arguments ask (Err (fault.Refused e)) asked h = for_ask ask asked h
+arguments_refused files reliable input failed arguments ask (Err (fault.Failing lines)) asked h = let P : Ask → Type 0 = λ a. AsksFor arguments a in (h.0, subst P h.1 asked, h.2)
 
 -- what clap answers is help or the version
 pub clap_answer : (files : List ℕ → Stored) (input : Option (List ℕ)) (arguments : List (List ℕ)) (error : Error) (r : Result ArgumentAnswer ArgumentFault)
@@ -67,3 +77,4 @@ clap_refused files reliable input failed arguments error (Ok x) has h = tt
 clap_refused files reliable input failed arguments error (Err (fault.Usage text)) (inl memory) h = absurd (h.2 memory)
 clap_refused files reliable input failed arguments error (Err (fault.Usage text)) (inr among) h = for_kind (kind_of error) among h
 clap_refused files reliable input failed arguments error (Err (fault.Refused e)) has h = arguments_memory h
+clap_refused files reliable input failed arguments error (Err (fault.Failing lines)) has h = absurd h

@@ -4,11 +4,20 @@ use Rattle.std.specs.Prelude.{IfOk}
 use Rattle.vx_bytes.specs.Ports.{IsAll, IsOver, ExplainsAll}
 use Rattle.vx_bytes.specs.declared.bytes.ReadFault.TheVariants as fault
 use Rattle.vx_catalog.specs.Loading.{max_bytes}
+use Rattle.vx_relations.specs.Relation.{Relation}
+use Rattle.vx_plan_json.specs.Document.{Document}
+use Rattle.vx_plan_json.specs.Fault as plan
+use Rattle.vx_plan_json.specs.Reading.{document_of_text}
+use Rattle.vx_plan_json.specs.declared.fault.PlanFault.{PlanFault}
+use Rattle.vx_plan_json.proofs.NodeFacts.{fails_then}
+use Rattle.vx_plan.specs.Resolve.{resolved}
+use Rattle.vx_arguments.specs.Asked.{Paths}
 use Rattle.vx_refusals.specs.declared.refusal.Refusal.{Refusal}
 use Rattle.vx_bytes.specs.Stored.{Stored, silent, absent, present, stored_by, IfBytes, OpensAs}
 use Rattle.vx_tables.proofs.FolderFacts.{may_fail}
 use Rattle.vx_answer.specs.Answer.{RefusedWith}
-use Rattle.vx_answer.specs.Files.{is_input, known_at, left_of, input_after, IsUnreadable, IsInputRefusal, input_memory, for_input}
+use Rattle.vx_answer.specs.Planning.{plan_from, for_catalog, for_plan}
+use Rattle.vx_answer.specs.Files.{is_input, known_at, left_of, input_after, plan_at, IsUnreadable, IsInputRefusal, input_memory, for_input, AreNotRead, no_catalog_bytes, no_catalog, no_plan_bytes, no_plan, IsFilesRefusal, for_catalog_bytes, for_plan_bytes, for_contents}
 
 -- the bytes are all that there are, as far as is known
 abbrev pub AreAll : Stored → List ℕ → Type 0
@@ -43,6 +52,27 @@ pub known_next : (P : List ℕ → Type 0) (files : List ℕ → Stored) (before
 known_next P files before after first second was_read bytes is kept all h =
     let U : Option (List ℕ) → Type 0 = λ o. IfBytes (known_at files o second) P in
     subst U (same_left (is_input first) was_read before after is kept) (known_all P (known_at files (left_of was_read after) second) bytes all h)
+
+-- what follows of the bytes from what is known of them
+known_weaker : (known : Stored) (P Q : List ℕ → Type 0) → ((bytes : List ℕ) → P bytes → Q bytes) → IfBytes known P → IfBytes known Q
+known_weaker silent P Q f h = tt
+known_weaker absent P Q f h = h
+known_weaker (present xs) P Q f h = f xs h
+
+-- what holds of the document that was read
+pub known_as : (files : List ℕ → Stored) (input : Option (List ℕ)) (paths : Paths) (d : Document) (P : Result Document plan.Refusal → Type 0) → plan_at files input paths (λ r. r ≡ Ok d) → P (Ok d) → plan_at files input paths P
+known_as files input paths d P read h =
+    known_weaker (known_at files (input_after input paths.catalog) paths.plan) (λ bytes. document_of_text bytes ≡ Ok d) (λ bytes. P (document_of_text bytes)) (λ bytes e. subst P (sym e) h) read
+
+-- there is no plan where the catalog or the plan was not read
+pub not_read_refused : (files : List ℕ → Stored) (reliable : List ℕ → Bool) (input : Option (List ℕ)) (failed : Bool) (paths : Paths) (e : Refusal) → AreNotRead files reliable input failed paths e → IsFilesRefusal files reliable input failed paths e
+not_read_refused files reliable input failed paths e (no_catalog_bytes h) = for_catalog_bytes h
+not_read_refused files reliable input failed paths e (no_catalog fault is h) = for_contents (for_catalog fault is h)
+not_read_refused files reliable input failed paths e (no_plan_bytes relations declares h) = for_plan_bytes relations declares h
+not_read_refused files reliable input failed paths e (no_plan relations fault is declares h) =
+    for_contents (for_plan relations fault is declares
+    (known_weaker (known_at files (input_after input paths.catalog) paths.plan) (λ bytes. plan.Fails fault (document_of_text bytes)) (λ bytes. plan.Fails fault (plan_from relations (document_of_text bytes)))
+    (λ bytes k. fails_then fault (document_of_text bytes) (λ d. resolved d relations) k) h))
 
 -- a file that failed while it was read
 pub unreadable_broken : (reliable failed : Bool) (known : Option (List ℕ)) (file : Stored) → (reliable ≡ true → failed ≡ false) → ExplainsAll max_bytes known failed fault.Broken → IsUnreadable file reliable

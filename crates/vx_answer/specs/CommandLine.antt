@@ -4,7 +4,7 @@ use Rattle.clap.specs.Words.{IsAmong}
 use Rattle.clap.specs.declared.error.kind.ErrorKind.{ErrorKind}
 use Rattle.clap.specs.declared.error.kind.ErrorKind.TheVariants as kind
 use Rattle.vx_plan_nodes.specs.Names.{TypedPlanView}
-use Rattle.vx_arguments.specs.Asked.{Ask, Paths, bundle, check, explain, why, serial, run, generate, asked_by, faults_of}
+use Rattle.vx_arguments.specs.Asked.{Ask, Paths, bundle, check, check_all, explain, annotate, why, serial, run, generate, asked_by, faults_of}
 use Rattle.vx_bundle.specs.declared.command.Command.{Command}
 use Rattle.vx_bundle.specs.declared.command.Command.TheVariants as command
 use Rattle.vx_bundle.specs.declared.setting.Mode.TheVariants as mode
@@ -18,8 +18,12 @@ use Rattle.vx_tables.specs.Folder.{holds_at, LacksAt}
 use Rattle.vx_answer.specs.Commands.{IsResultOf, CommandRefuses}
 use Rattle.vx_answer.specs.Answer.{IsAnswer, RefusedWith}
 use Rattle.vx_answer.specs.Arguments.{IsSetting, IsNoSetting}
-use Rattle.vx_answer.specs.Files.{IsFilesPlan, IsFilesRefusal}
+use Rattle.vx_relations.specs.Relation.{Relation}
+use Rattle.vx_plan_json.specs.Document.{Document}
+use Rattle.vx_answer.specs.Files.{AreRead, AreNotRead, IsFilesPlan, IsFilesRefusal}
 use Rattle.vx_answer.specs.Forms.{form_named, IsInForm, FormRefuses}
+use Rattle.vx_answer.specs.Annotated.{IsAnnotated, AnnotationRefuses}
+use Rattle.vx_answer.specs.Verdict.{IsAllShown, AreFailures}
 use Rattle.vx_answer.specs.declared.forms.PlanForm.{PlanForm}
 use Rattle.vx_why.specs.Codes.{is_code}
 use Rattle.vx_wisconsin.specs.Wisconsin.{max_rows, wisconsin, column_names}
@@ -39,7 +43,9 @@ default_setting = record { sizes = []; packet = 256; morsel = 1024; slack = 8; m
 abbrev pub IsTask : Ask → FileCommand → Type 0
 IsTask bundle t = ⊥
 IsTask (check paths) t = t ≡ record { command = command.Check; paths = paths; folder = []; setting = default_setting }
+IsTask (check_all paths) t = ⊥
 IsTask (explain paths format) t = (bytes_eq format (codes "text") ≡ true) × (t ≡ record { command = command.Explain; paths = paths; folder = []; setting = default_setting })
+IsTask (annotate paths) t = ⊥
 IsTask (why code) t = ⊥
 IsTask (serial paths folder) t = t ≡ record { command = command.Serial; paths = paths; folder = folder; setting = default_setting }
 IsTask (run paths folder limits) t = (s : Setting) × IsSetting limits s × (t ≡ record { command = command.Run; paths = paths; folder = folder; setting = s })
@@ -49,7 +55,9 @@ IsTask (generate rows) t = ⊥
 abbrev pub IsNoTask : Ask → Type 0
 IsNoTask bundle = ⊥
 IsNoTask (check paths) = ⊥
+IsNoTask (check_all paths) = ⊥
 IsNoTask (explain paths format) = (bytes_eq format (codes "text") ≡ false) × (form_named format ≡ None)
+IsNoTask (annotate paths) = ⊥
 IsNoTask (why code) = is_code code ≡ false
 IsNoTask (serial paths folder) = ⊥
 IsNoTask (run paths folder limits) = IsNoSetting limits
@@ -75,6 +83,23 @@ pub data FormIsRefused (files : List ℕ → Stored) (reliable : List ℕ → Bo
   for_form_planning : IsFilesRefusal files reliable input failed paths e → FormIsRefused files reliable input failed paths e
   for_form : (p : TypedPlanView) → IsFilesPlan files input paths p → FormRefuses p e → FormIsRefused files reliable input failed paths e
 
+-- the text is that of the plan of these paths with the claims that the rule table shows
+abbrev pub AnswersAnnotation : (List ℕ → Stored) → Option (List ℕ) → Paths → List ℕ → Type 0
+AnswersAnnotation files input paths text = (relations : List Relation) × (d : Document) × AreRead files input paths relations d × IsAnnotated relations d text
+
+-- the first reason why there is none: the catalog or the plan was not read, or the plan gets no claims; out of memory may come anywhere
+pub data AnnotationIsRefused (files : List ℕ → Stored) (reliable : List ℕ → Bool) (input : Option (List ℕ)) (failed : Bool) (paths : Paths) (e : Refusal) : Type 0 where
+  for_annotation_reading : AreNotRead files reliable input failed paths e → AnnotationIsRefused files reliable input failed paths e
+  for_annotation : (relations : List Relation) (d : Document) → AreRead files input paths relations d → AnnotationRefuses relations d e → AnnotationIsRefused files reliable input failed paths e
+
+-- the text is what a check of all nodes says of the plan of these paths, where each note is shown
+abbrev pub AnswersAll : (List ℕ → Stored) → Option (List ℕ) → Paths → List ℕ → Type 0
+AnswersAll files input paths text = (p : TypedPlanView) × IsFilesPlan files input paths p × IsAllShown p text
+
+-- the lines of the nodes of the plan of these paths that fail
+abbrev pub FailsAtAll : (List ℕ → Stored) → Option (List ℕ) → Paths → List ℕ → Type 0
+FailsAtAll files input paths lines = (p : TypedPlanView) × IsFilesPlan files input paths p × AreFailures p lines
+
 -- the text begins with the code, and a space
 abbrev pub IsEntry : List ℕ → List ℕ → Type 0
 IsEntry code text = (is_code code ≡ true) × (take (length code + 1) text ≡ code ++ codes " ")
@@ -83,11 +108,13 @@ IsEntry code text = (is_code code ≡ true) × (take (length code + 1) text ≡ 
 abbrev pub with_program_name : List (List ℕ) → List (List ℕ)
 with_program_name arguments = codes "volcano" ∷ arguments
 
--- the text answers what arguments ask for: the bundle on standard input, a task, a plan in a form, what a code means, or a relation, which has 10,000,000 rows at most
+-- the text answers what arguments ask for: the bundle on standard input, a task, a check of all nodes, a plan in a form or with other claims, what a code means, or a relation, which has 10,000,000 rows at most
 pub data AnswersAsk (files : List ℕ → Stored) (input : Option (List ℕ)) (ask : Ask) (text : List ℕ) : Type 0 where
   for_bundle : ask ≡ bundle → IfSome input (λ bytes. IsAnswer bytes text) → AnswersAsk files input ask text
   for_task : (t : FileCommand) → IsTask ask t → AnswersTask files input t text → AnswersAsk files input ask text
   for_plan_form : (f : PlanForm) (paths : Paths) (format : List ℕ) → ask ≡ explain paths format → form_named format ≡ Some f → AnswersForm files input f paths text → AnswersAsk files input ask text
+  for_all_nodes : (paths : Paths) → ask ≡ check_all paths → AnswersAll files input paths text → AnswersAsk files input ask text
+  for_claims : (paths : Paths) → ask ≡ annotate paths → AnswersAnnotation files input paths text → AnswersAsk files input ask text
   for_code : (code : List ℕ) → ask ≡ why code → IsEntry code text → AnswersAsk files input ask text
   for_relation : (rows : ℕ) → ask ≡ generate rows → rows ≤ max_rows → text ≡ csv_text column_names (wisconsin rows) → AnswersAsk files input ask text
 
@@ -97,6 +124,8 @@ pub data AskRefuses (files : List ℕ → Stored) (reliable : List ℕ → Bool)
   for_asked_bundle : ask ≡ bundle → RefusedWith input failed e → AskRefuses files reliable input failed ask e
   for_asked_task : (t : FileCommand) → IsTask ask t → TaskRefuses files reliable input failed t e → AskRefuses files reliable input failed ask e
   for_asked_form : (f : PlanForm) (paths : Paths) (format : List ℕ) → ask ≡ explain paths format → form_named format ≡ Some f → FormIsRefused files reliable input failed paths e → AskRefuses files reliable input failed ask e
+  for_asked_all : (paths : Paths) → ask ≡ check_all paths → IsFilesRefusal files reliable input failed paths e → AskRefuses files reliable input failed ask e
+  for_asked_claims : (paths : Paths) → ask ≡ annotate paths → AnnotationIsRefused files reliable input failed paths e → AskRefuses files reliable input failed ask e
   for_asked_relation : (rows : ℕ) → ask ≡ generate rows → max_rows < rows → e ≡ refusal.TooLarge → AskRefuses files reliable input failed ask e
 
 -- arguments ask for help or for the version
@@ -127,6 +156,10 @@ pub data IsUsageError (arguments : List (List ℕ)) : Type 0 where
 pub data ArgumentsRefuse (files : List ℕ → Stored) (reliable : List ℕ → Bool) (input : Option (List ℕ)) (failed : Bool) (arguments : List (List ℕ)) (e : Refusal) : Type 0 where
   arguments_memory : e ≡ refusal.NoMemory → ArgumentsRefuse files reliable input failed arguments e
   for_ask : (ask : Ask) → AsksFor arguments ask → AskRefuses files reliable input failed ask e → ArgumentsRefuse files reliable input failed arguments e
+
+-- arguments ask for a check of all nodes of a plan of which some fail, with these lines
+abbrev pub AsksForFailing : (List ℕ → Stored) → Option (List ℕ) → List (List ℕ) → List ℕ → Type 0
+AsksForFailing files input arguments lines = (paths : Paths) × AsksFor arguments (check_all paths) × FailsAtAll files input paths lines
 
 -- arguments are refused by a refusal of this status
 abbrev pub AreRefusedBy : ℕ → (List ℕ → Stored) → (List ℕ → Bool) → Option (List ℕ) → Bool → List (List ℕ) → Type 0

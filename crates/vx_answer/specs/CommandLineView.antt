@@ -1,6 +1,6 @@
 -- What arguments ask for, as it is held; what answers them, and why they have no answer.
 use Rattle.std.specs.Prelude.{◌≡◌, ℕ, ◌⊎◌, List, Bool, Option, Some, string_bytes}
-use Rattle.vx_arguments.specs.Asked.{paths_are, Ask, bundle, explain, why, generate}
+use Rattle.vx_arguments.specs.Asked.{paths_are, Ask, Paths, bundle, check_all, explain, annotate, why, generate}
 use Rattle.vx_answer.specs.declared.command_line.FileCommand as held
 use Rattle.vx_answer.specs.declared.command_line.Job.{Job}
 use Rattle.vx_answer.specs.declared.command_line.Job.TheVariants as job
@@ -13,7 +13,7 @@ use Rattle.clap.specs.declared.error.kind.ErrorKind.TheVariants as kind
 use Rattle.vx_refusals.specs.declared.refusal.Refusal.TheVariants as refusal
 use Rattle.vx_bytes.specs.Stored.{Stored}
 use Rattle.vx_answer.specs.Forms.{form_named}
-use Rattle.vx_answer.specs.CommandLine.{FileCommand, IsTask, IsNoTask, IsEntry, AnswersAsk, AsksFor, AnswersArguments, IsUsageKind, AskRefuses, IsUsageError, ArgumentsRefuse}
+use Rattle.vx_answer.specs.CommandLine.{FileCommand, IsTask, IsNoTask, IsEntry, AnswersAsk, FailsAtAll, AsksFor, AsksForFailing, AnswersArguments, IsUsageKind, AskRefuses, IsUsageError, ArgumentsRefuse}
 
 abbrev pub task_is : held.FileCommand → FileCommand
 task_is t = record { command = t.command; paths = paths_are t.sources; folder = t.folder.now; setting = t.setting }
@@ -22,6 +22,8 @@ task_is t = record { command = t.command; paths = paths_are t.sources; folder = 
 abbrev pub IsJob : Ask → Job → Type 0
 IsJob ask job.Bundle = ask ≡ bundle
 IsJob ask (job.Command t) = IsTask ask (task_is t)
+IsJob ask (job.Verdict sources) = ask ≡ check_all (paths_are sources)
+IsJob ask (job.Annotation sources) = ask ≡ annotate (paths_are sources)
 IsJob ask (job.Form f sources) = (format : List ℕ) × (ask ≡ explain (paths_are sources) format) × (form_named format ≡ Some f)
 IsJob ask (job.Entry text) = (code : List ℕ) × (ask ≡ why code) × IsEntry code text.now
 IsJob ask (job.Relation rows) = ask ≡ generate rows
@@ -45,18 +47,22 @@ IsHelp k (answer.Relation rows) = ⊥
 abbrev pub HasUsageText : List ℕ → ArgumentFault → Type 0
 HasUsageText message (fault.Usage text) = string_bytes text ≡ message
 HasUsageText message (fault.Refused e) = e ≡ refusal.NoMemory
+HasUsageText message (fault.Failing lines) = ⊥
 
 -- a refusal by clap of this kind: arguments are wrong only by a kind that says so
 abbrev pub IsClapFault : ErrorKind → ArgumentFault → Type 0
 IsClapFault k (fault.Usage text) = IsUsageKind k
 IsClapFault k (fault.Refused e) = e ≡ refusal.NoMemory
+IsClapFault k (fault.Failing lines) = ⊥
 
 -- why what arguments ask for is not answered
 abbrev pub IsAskFault : (List ℕ → Stored) → (List ℕ → Bool) → Option (List ℕ) → Bool → Ask → ArgumentFault → Type 0
 IsAskFault files reliable input failed ask (fault.Usage text) = IsNoTask ask
 IsAskFault files reliable input failed ask (fault.Refused e) = AskRefuses files reliable input failed ask e
+IsAskFault files reliable input failed ask (fault.Failing lines) = (paths : Paths) × (ask ≡ check_all paths) × FailsAtAll files input paths (string_bytes lines)
 
 -- why arguments are not answered
 abbrev pub IsArgumentFault : (List ℕ → Stored) → (List ℕ → Bool) → Option (List ℕ) → Bool → List (List ℕ) → ArgumentFault → Type 0
 IsArgumentFault files reliable input failed arguments (fault.Usage text) = IsUsageError arguments
 IsArgumentFault files reliable input failed arguments (fault.Refused e) = ArgumentsRefuse files reliable input failed arguments e
+IsArgumentFault files reliable input failed arguments (fault.Failing lines) = AsksForFailing files input arguments (string_bytes lines)

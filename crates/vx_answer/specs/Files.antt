@@ -4,9 +4,11 @@ use Rattle.std.specs.declared.alloc.Global.{Global}
 use Rattle.vx_relations.specs.Relation.{Relation}
 use Rattle.vx_relations.specs.Naming.{catalog_text}
 use Rattle.vx_relations.specs.Naming as catalog
+use Rattle.vx_relations.specs.declared.fault.CatalogFault.{CatalogFault}
 use Rattle.vx_catalog.specs.Loading.{max_bytes}
 use Rattle.vx_plan_json.specs.Document.{Document}
 use Rattle.vx_plan_json.specs.Fault as plan
+use Rattle.vx_plan_json.specs.declared.fault.PlanFault.{PlanFault}
 use Rattle.vx_plan_json.specs.Reading.{document_of_text}
 use Rattle.vx_plan_nodes.specs.Names.{TypedPlanView}
 use Rattle.vx_arguments.specs.Asked.{Paths}
@@ -70,6 +72,20 @@ read_refusal_of false file reliable input failed path e = IsFileRefusal file rel
 -- why the bytes under a path were not read
 abbrev pub IsReadRefusal : (List ℕ → Stored) → (List ℕ → Bool) → Option (List ℕ) → Bool → List ℕ → Refusal → Type 0
 IsReadRefusal files reliable input failed path e = read_refusal_of (is_input path) (files path) (reliable path) input failed path e
+
+-- the catalog and the plan from these paths, as they were written
+pub record AreRead (files : List ℕ → Stored) (input : Option (List ℕ)) (paths : Paths) (relations : List Relation) (d : Document) : Type 0 where
+  pub catalog : catalog_at files input paths (λ r. r ≡ Ok relations)
+  pub plan : plan_at files input paths (λ r. r ≡ Ok d)
+
+-- the first reason why they were not read: the catalog's bytes, the catalog, the plan's bytes, the plan
+pub data AreNotRead (files : List ℕ → Stored) (reliable : List ℕ → Bool) (input : Option (List ℕ)) (failed : Bool) (paths : Paths) (e : Refusal) : Type 0 where
+  no_catalog_bytes : IsReadRefusal files reliable input failed paths.catalog e → AreNotRead files reliable input failed paths e
+  no_catalog : (fault : CatalogFault) → e ≡ refusal.Catalog fault → catalog_at files input paths (catalog.Fails fault) → AreNotRead files reliable input failed paths e
+  no_plan_bytes : (relations : List Relation) → catalog_at files input paths (λ r. r ≡ Ok relations) → IsReadRefusal files reliable (input_after input paths.catalog) failed paths.plan e
+      → AreNotRead files reliable input failed paths e
+  no_plan : (relations : List Relation) (fault : PlanFault) → e ≡ refusal.Plan fault → catalog_at files input paths (λ r. r ≡ Ok relations) → plan_at files input paths (plan.Fails fault)
+      → AreNotRead files reliable input failed paths e
 
 -- the first reason why there is no plan: the catalog's bytes, the catalog, the plan's bytes, the plan
 pub data IsFilesRefusal (files : List ℕ → Stored) (reliable : List ℕ → Bool) (input : Option (List ℕ)) (failed : Bool) (paths : Paths) (e : Refusal) : Type 0 where

@@ -4,6 +4,9 @@ pub mod Answer
 pub mod Arguments
 pub mod Files
 pub mod Forms
+pub mod Annotated
+pub mod Verdict
+pub mod VerdictView
 pub mod CommandLine
 pub mod CommandLineView
 pub mod Case

@@ -13,6 +13,7 @@ use vx_bundle::{Bundle, bundle_in, value_of_text};
 use vx_catalog::Catalog;
 use vx_plan::{Plan, TypedPlan, resolve};
 use vx_refusals::Refusal;
+use vx_seeds::KeySeed;
 
 // The plan of a bundle over the bundle's catalog.
 fn plan_from_bundle(alloc: Global, bundle: &Bundle<'_>) -> Result<TypedPlan, Refusal>
@@ -28,19 +29,29 @@ fn plan_from_bundle(alloc: Global, bundle: &Bundle<'_>) -> Result<TypedPlan, Ref
 fn answer_bundle<T: Threads + Wait + Sync>(
     rt: &T,
     alloc: Global,
+    seed: KeySeed,
     bundle: &Bundle<'_>,
 ) -> Result<Vec<u8>, Refusal>
     ensures text { IfOk result (λ text. IsOutput (bundle_form bundle.now) text.items) }
     ensures refused { IfErr result (λ e. Refuses (bundle_form bundle.now) e) }
 {
     let plan = plan_from_bundle(alloc, bundle)?;
-    execute(rt, alloc, bundle.command(), bundle, bundle.setting(), plan)
+    execute(
+        rt,
+        alloc,
+        seed,
+        bundle.command(),
+        bundle,
+        bundle.setting(),
+        plan,
+    )
 }
 
 /// The text that answers a bundle's bytes, before a byte of it is written.
 pub fn answer_bytes<T: Threads + Wait + Sync>(
     rt: &T,
     alloc: Global,
+    seed: KeySeed,
     bytes: &[u8],
 ) -> Result<Vec<u8>, Refusal>
     ensures text { IfOk result (λ text. IsAnswer bytes.now text.items) }
@@ -52,5 +63,5 @@ pub fn answer_bytes<T: Threads + Wait + Sync>(
     let Some(bundle) = bundle_in(alloc, &value)? else {
         return Err(Refusal::BadBundle);
     };
-    answer_bundle(rt, alloc, &bundle)
+    answer_bundle(rt, alloc, seed, &bundle)
 }

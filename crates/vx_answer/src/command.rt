@@ -14,10 +14,11 @@ use vx_bundle::{Command, Setting};
 use vx_check::{CheckedPlan, check, explain};
 use vx_plan::TypedPlan;
 use vx_refusals::Refusal;
+use vx_seeds::KeySeed;
 use vx_tables::Tables;
 
-// The text of the checker's answer.
-fn accepted_text(alloc: Global, is_total: bool) -> Result<Vec<u8>, AllocError>
+/// The text of the checker's answer.
+pub fn accepted_text(alloc: Global, is_total: bool) -> Result<Vec<u8>, AllocError>
     ensures { IfOk result (λ text. text.items ≡ accepted_text is_total) }
 {
     if is_total {
@@ -46,6 +47,7 @@ pub fn accepted(plan: TypedPlan) -> Result<CheckedPlan, Refusal>
 pub fn execute<R: Threads + Wait + Sync, T: Tables>(
     rt: &R,
     alloc: Global,
+    seed: KeySeed,
     command: Command,
     tables: &T,
     setting: &Setting,
@@ -55,8 +57,8 @@ pub fn execute<R: Threads + Wait + Sync, T: Tables>(
     ensures refused { IfErr result (λ e. CommandRefuses command (resolved_of plan) (T.holds tables.now) (T.lacks tables.now) setting.now e) }
 {
     match command {
-        Command::Run => run_plan(rt, alloc, tables, setting, &accepted(plan)?),
-        Command::Serial => serial_plan(alloc, tables, &plan),
+        Command::Run => run_plan(rt, alloc, seed, tables, setting, &accepted(plan)?),
+        Command::Serial => serial_plan(alloc, seed, tables, &plan),
         Command::Check => Ok(accepted_text(alloc, accepted(plan)?.is_total())?),
         Command::Explain => Ok(explain(alloc, &accepted(plan)?)?.into_bytes()),
     }

@@ -2,14 +2,16 @@
 
 ghost use Rattle.std.specs.Prelude.{◌≡◌, map, MatchOption, IfOk, IfErr};
 ghost use Rattle.clap.specs.Values.{kind_of};
-ghost use Rattle.vx_arguments.specs.Asked.{asked_is, paths_are, given_is, run, explain, why};
+ghost use Rattle.vx_arguments.specs.Asked.{asked_is, paths_are, given_is, run, check_all, explain, why};
 ghost use Rattle.vx_answer.specs.Arguments.{IsNoSetting};
-ghost use Rattle.vx_answer.specs.CommandLine.{default_setting, IsTask, IsNoTask, AnswersTask, TaskRefuses, AnswersForm, FormIsRefused, with_program_name};
+ghost use Rattle.vx_answer.specs.CommandLine.{default_setting, IsTask, IsNoTask, AnswersTask, TaskRefuses, AnswersForm, FormIsRefused, AnswersAnnotation, AnnotationIsRefused, with_program_name};
 ghost use Rattle.vx_answer.specs.CommandLineView.{task_is, IsJob, IsAskAnswer, IsArgumentAnswer, IsHelp, HasUsageText, IsClapFault, IsAskFault, IsArgumentFault};
 
+use crate::annotating::annotated_plan;
 use crate::arguments::setting_in;
 use crate::command::execute;
-use crate::files::plan_from_files;
+use crate::failing::{Verdict, verdict_on};
+use crate::files::{document_from_files, plan_from_files};
 use crate::forms::{PlanForm, form_named, plan_in_form};
 use crate::program::outcome_of;
 use clap::Error;
@@ -21,6 +23,7 @@ use vx_arguments::{Asked, Limits, Sources, asked_for};
 use vx_bundle::{Command, MORSEL, Mode, PACKET, SLACK, Setting};
 use vx_bytes::{ByteIn, Store};
 use vx_refusals::Refusal;
+use vx_seeds::KeySeed;
 use vx_tables::Folder;
 use vx_why::entry;
 
@@ -39,6 +42,10 @@ enum Job<'a> {
     /// The answer to a bundle on standard input.
     Bundle,
     Command(FileCommand<'a>),
+    /// A check of all nodes of the plan that arguments name, over the catalog that they name.
+    Verdict(Sources<'a>),
+    /// That plan with the claims that the rule table shows.
+    Annotation(Sources<'a>),
     /// A plan in a form, over the catalog and the plan that arguments name.
     Form(PlanForm, Sources<'a>),
     /// What a code means.
@@ -63,6 +70,8 @@ pub enum ArgumentFault {
     Usage(String),
     /// What they ask for is refused.
     Refused(Refusal),
+    /// They ask for a check of all nodes of a plan, and some fail: a line for each of them.
+    Failing(String),
 }
 
 impl From<Refusal> for ArgumentFault {
@@ -166,6 +175,8 @@ fn job_in<'a>(alloc: Global, asked: &Asked<'a>) -> Result<Option<Job<'a>>, Alloc
             let task = plain_task(alloc, Command::Check, *sources, "");
             Ok(Some(Job::Command(task)))
         }
+        Asked::CheckAll(sources) => Ok(Some(Job::Verdict(*sources))),
+        Asked::Annotate(sources) => Ok(Some(Job::Annotation(*sources))),
         Asked::Explain(sources, format) => Ok(explain_job(alloc, *sources, format)),
         Asked::Why(code) => Ok(why_job(code)),
         Asked::Serial(sources, folder) => {
@@ -184,6 +195,7 @@ fn job_in<'a>(alloc: Global, asked: &Asked<'a>) -> Result<Option<Job<'a>>, Alloc
 fn answer_task<T: Threads + Wait + Sync, F: Store, I: ByteIn>(
     rt: &T,
     alloc: Global,
+    seed: KeySeed,
     files: &F,
     input: &mut I,
     task: &FileCommand<'_>,
@@ -196,7 +208,7 @@ fn answer_task<T: Threads + Wait + Sync, F: Store, I: ByteIn>(
         files,
         path: task.folder,
     };
-    execute(rt, alloc, task.command, &folder, &task.setting, plan)
+    execute(rt, alloc, seed, task.command, &folder, &task.setting, plan)
 }
 
 // The plan at one path over the catalog at the other, in a form.
@@ -212,6 +224,37 @@ fn answer_form<F: Store, I: ByteIn>(
 {
     let plan = plan_from_files(alloc, files, input, sources)?;
     plan_in_form(alloc, form, plan)
+}
+
+// The plan at one path over the catalog at the other, with the claims that the rule table shows.
+fn answer_annotation<F: Store, I: ByteIn>(
+    alloc: Global,
+    files: &F,
+    input: &mut I,
+    sources: Sources<'_>,
+) -> Result<Vec<u8>, Refusal>
+    ensures text { IfOk result (λ text. AnswersAnnotation (F.holds files.now) (I.remaining input.old) (paths_are sources.entry) text.items) }
+    ensures refused { IfErr result (AnnotationIsRefused (F.holds files.now) (F.is_reliable files.now) (I.remaining input.old) (I.has_failed input.new) (paths_are sources.entry)) }
+{
+    let (catalog, plan) = document_from_files(alloc, files, input, sources)?;
+    annotated_plan(alloc, &catalog, plan)
+}
+
+// What the checker says of all nodes of the plan at one path, over the catalog at the other.
+fn answer_verdict<F: Store, I: ByteIn>(
+    alloc: Global,
+    files: &F,
+    input: &mut I,
+    sources: Sources<'_>,
+) -> Result<ArgumentAnswer, ArgumentFault>
+    ensures answer { IfOk result (λ a. IsAskAnswer (F.holds files.now) (I.remaining input.old) (check_all (paths_are sources.entry)) a) }
+    ensures refused { IfErr result (IsAskFault (F.holds files.now) (F.is_reliable files.now) (I.remaining input.old) (I.has_failed input.new) (check_all (paths_are sources.entry))) }
+{
+    let plan = plan_from_files(alloc, files, input, sources)?;
+    match verdict_on(alloc, &plan)? {
+        Verdict::Accepted(text) => Ok(ArgumentAnswer::Text(text)),
+        Verdict::Failing(lines) => Err(ArgumentFault::Failing(lines)),
+    }
 }
 
 // What is wrong with arguments that ask for what there is not.
@@ -243,6 +286,7 @@ fn usage_error(alloc: Global, text: &str) -> ArgumentFault
 fn answer_asked<T: Threads + Wait + Sync, F: Store, I: ByteIn>(
     rt: &T,
     alloc: Global,
+    seed: KeySeed,
     files: &F,
     input: &mut I,
     asked: &Asked<'_>,
@@ -251,9 +295,14 @@ fn answer_asked<T: Threads + Wait + Sync, F: Store, I: ByteIn>(
     ensures refused { IfErr result (IsAskFault (F.holds files.now) (F.is_reliable files.now) (I.remaining input.old) (I.has_failed input.new) (asked_is asked.now)) }
 {
     match job_in(alloc, asked)? {
-        Some(Job::Bundle) => Ok(ArgumentAnswer::Text(outcome_of(rt, alloc, input)?)),
+        Some(Job::Bundle) => Ok(ArgumentAnswer::Text(outcome_of(rt, alloc, seed, input)?)),
         Some(Job::Command(task)) => {
-            let text = answer_task(rt, alloc, files, input, &task)?;
+            let text = answer_task(rt, alloc, seed, files, input, &task)?;
+            Ok(ArgumentAnswer::Text(text))
+        }
+        Some(Job::Verdict(sources)) => answer_verdict(alloc, files, input, sources),
+        Some(Job::Annotation(sources)) => {
+            let text = answer_annotation(alloc, files, input, sources)?;
             Ok(ArgumentAnswer::Text(text))
         }
         Some(Job::Form(form, sources)) => {
@@ -300,6 +349,7 @@ fn help_or_fault(alloc: Global, error: &Error) -> Result<ArgumentAnswer, Argumen
 pub fn answer_arguments<T: Threads + Wait + Sync, F: Store, I: ByteIn>(
     rt: &T,
     alloc: Global,
+    seed: KeySeed,
     files: &F,
     input: &mut I,
     arguments: &[&str],
@@ -309,7 +359,7 @@ pub fn answer_arguments<T: Threads + Wait + Sync, F: Store, I: ByteIn>(
 {
     let arguments = with_program_name(alloc, arguments)?;
     match asked_for(alloc, arguments.as_slice()) {
-        Ok(Some(asked)) => answer_asked(rt, alloc, files, input, &asked),
+        Ok(Some(asked)) => answer_asked(rt, alloc, seed, files, input, &asked),
         Ok(None) => Err(usage_error(alloc, "volcano: these words ask for nothing\n")),
         Err(error) => help_or_fault(alloc, &error),
     }

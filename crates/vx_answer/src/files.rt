@@ -5,7 +5,8 @@ ghost use Rattle.vx_bytes.specs.Ports.{IsAll};
 ghost use Rattle.vx_plan_nodes.specs.TypedView.{resolved_of};
 ghost use Rattle.vx_arguments.specs.Asked.{paths_are};
 ghost use Rattle.vx_bytes.specs.Stored.{IfBytes};
-ghost use Rattle.vx_answer.specs.Files.{is_input, left_of, known_at, IsFileRefusal, IsInputRefusal, IsReadRefusal, IsFilesPlan, IsFilesRefusal};
+ghost use Rattle.vx_plan_json.specs.PlanView.{document_of};
+ghost use Rattle.vx_answer.specs.Files.{is_input, left_of, known_at, IsFileRefusal, IsInputRefusal, IsReadRefusal, AreRead, AreNotRead, IsFilesPlan, IsFilesRefusal};
 
 use crate::program::MAX_BYTES;
 use std::alloc::Global;
@@ -78,6 +79,24 @@ fn bytes_at<F: Store, I: ByteIn>(
     input_bytes(alloc, input)
 }
 
+/// The catalog at one path, and the plan at the other as it was written.
+pub fn document_from_files<F: Store, I: ByteIn>(
+    alloc: Global,
+    files: &F,
+    input: &mut I,
+    sources: Sources<'_>,
+) -> Result<(Catalog, Plan), Refusal>
+    ensures read { IfOk result (λ r. AreRead (F.holds files.now) (I.remaining input.old) (paths_are sources.entry) r.0 (document_of r.1)) }
+    ensures refused { IfErr result (AreNotRead (F.holds files.now) (F.is_reliable files.now) (I.remaining input.old) (I.has_failed input.new) (paths_are sources.entry)) }
+{
+    let catalog_text = bytes_at(alloc, files, input, false, sources.catalog)?;
+    let catalog = Catalog::read(alloc, catalog_text.as_slice())?;
+    let was_read = is_input(sources.catalog);
+    let plan_text = bytes_at(alloc, files, input, was_read, sources.plan)?;
+    let plan = Plan::read(alloc, plan_text.as_slice())?;
+    Ok((catalog, plan))
+}
+
 /// The plan at one path, over the catalog at the other.
 pub fn plan_from_files<F: Store, I: ByteIn>(
     alloc: Global,
@@ -88,10 +107,6 @@ pub fn plan_from_files<F: Store, I: ByteIn>(
     ensures planned { IfOk result (λ p. IsFilesPlan (F.holds files.now) (I.remaining input.old) (paths_are sources.entry) (resolved_of p)) }
     ensures refused { IfErr result (IsFilesRefusal (F.holds files.now) (F.is_reliable files.now) (I.remaining input.old) (I.has_failed input.new) (paths_are sources.entry)) }
 {
-    let catalog_text = bytes_at(alloc, files, input, false, sources.catalog)?;
-    let catalog = Catalog::read(alloc, catalog_text.as_slice())?;
-    let was_read = is_input(sources.catalog);
-    let plan_text = bytes_at(alloc, files, input, was_read, sources.plan)?;
-    let plan = Plan::read(alloc, plan_text.as_slice())?;
+    let (catalog, plan) = document_from_files(alloc, files, input, sources)?;
     Ok(resolve(alloc, &plan, &catalog)?)
 }

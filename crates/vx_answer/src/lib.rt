@@ -1,10 +1,12 @@
 //! The program as a library: from arguments, files and standard input to all output.
 #![tactic(auto)]
 
+mod annotating;
 mod arguments;
 mod bundle;
 mod command;
 mod command_line;
+mod failing;
 mod files;
 mod forms;
 mod laws;

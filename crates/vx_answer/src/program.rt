@@ -5,7 +5,7 @@ ghost use Rattle.std.specs.Io.KnownBytes.{Appends, Keeps};
 ghost use Rattle.vx_answer.specs.Answer.{IsAnswer, RefusedWith, IsRefusedBy};
 ghost use Rattle.vx_catalog.specs.Csv.{csv_text};
 ghost use Rattle.vx_refusals.specs.Status.{status_of};
-ghost use Rattle.vx_answer.specs.CommandLine.{AnswersArguments, IsUsageError, AreRefusedBy};
+ghost use Rattle.vx_answer.specs.CommandLine.{AnswersArguments, IsUsageError, AreRefusedBy, AsksForFailing};
 ghost use Rattle.vx_wisconsin.specs.Wisconsin.{max_rows, wisconsin, column_names};
 
 use crate::bundle::answer_bytes;
@@ -16,6 +16,7 @@ use std::sync::Wait;
 use std::thread::Threads;
 use vx_bytes::{ByteIn, ByteOut, Store, write_all};
 use vx_refusals::{Refusal, report, status};
+use vx_seeds::KeySeed;
 use vx_wisconsin::{GenerateFault, generate};
 
 /// The most bytes that an input may have.
@@ -25,13 +26,14 @@ pub const MAX_BYTES: usize = 1 << 40;
 pub fn outcome_of<T: Threads + Wait + Sync, I: ByteIn>(
     rt: &T,
     alloc: Global,
+    seed: KeySeed,
     input: &mut I,
 ) -> Result<Vec<u8>, Refusal>
     ensures text { IfOk result (λ text. IfSome (I.remaining input.old) (λ bytes. IsAnswer bytes text.items)) }
     ensures refused { IfErr result (λ e. RefusedWith (I.remaining input.old) (I.has_failed input.new) e) }
     ensures broken { I.has_failed input.new ≡ true → IsErrOf result Refusal.InputUnreadable }
 {
-    answer_bytes(rt, alloc, input_bytes(alloc, input)?.as_slice())
+    answer_bytes(rt, alloc, seed, input_bytes(alloc, input)?.as_slice())
 }
 
 // Reports a refusal on `err`. The status is that of the refusal.
@@ -74,6 +76,7 @@ pub fn deliver<O: ByteOut, E: ByteOut>(
 pub fn reply<T: Threads + Wait + Sync, I: ByteIn, O: ByteOut, E: ByteOut>(
     rt: &T,
     alloc: Global,
+    seed: KeySeed,
     input: &mut I,
     out: &mut O,
     err: &mut E,
@@ -92,7 +95,7 @@ pub fn reply<T: Threads + Wait + Sync, I: ByteIn, O: ByteOut, E: ByteOut>(
     // Status 4 comes only for a write that failed, or where the machine or the run failed.
     ensures failed { result ≡ 4 → (O.has_failed out.new ≡ true) ⊎ IsRefusedBy 4 (I.remaining input.old) (I.has_failed input.new) }
 {
-    deliver(outcome_of(rt, alloc, input), out, err)
+    deliver(outcome_of(rt, alloc, seed, input), out, err)
 }
 
 // Writes the text of the relation with so many rows on `out` as it is made, or reports on `err` why not. All memory is taken
@@ -111,10 +114,20 @@ fn write_relation<O: ByteOut, E: ByteOut>(alloc: Global, rows: u64, out: &mut O,
     }
 }
 
+// Writes the lines of nodes that fail on `err`. A write that fails changes nothing else.
+fn write_lines<E: ByteOut>(lines: &str, err: &mut E) -> u8
+    ensures status { result ≡ 3 }
+    ensures written { E.has_failed err.new ≡ false → Appends (E.contents err.old) (E.contents err.new) lines.now }
+{
+    let _ = write_all(err, lines.as_bytes());
+    3
+}
+
 // Answers arguments: writes the answer on `out`, or reports on `err` why there is none.
 fn reply_to_arguments<T: Threads + Wait + Sync, F: Store, I: ByteIn, O: ByteOut, E: ByteOut>(
     rt: &T,
     alloc: Global,
+    seed: KeySeed,
     arguments: &[&str],
     files: &F,
     input: &mut I,
@@ -125,13 +138,15 @@ fn reply_to_arguments<T: Threads + Wait + Sync, F: Store, I: ByteIn, O: ByteOut,
     ensures kept { result ≢ 0 → O.has_failed out.new ≡ false → out.new ≡ out.old }
     ensures statuses { (result ≡ 0) ⊎ (result ≡ 2) ⊎ (result ≡ 3) ⊎ (result ≡ 4) }
     ensures usage { result ≡ 2 → IsUsageError (map (λ a. a.now) arguments.now) × (out.new ≡ out.old) }
-    ensures refused { result ≡ 3 → AreRefusedBy 3 (F.holds files.now) (F.is_reliable files.now) (I.remaining input.old) (I.has_failed input.new) (map (λ a. a.now) arguments.now) }
+    ensures refused { result ≡ 3 → AreRefusedBy 3 (F.holds files.now) (F.is_reliable files.now) (I.remaining input.old) (I.has_failed input.new) (map (λ a. a.now) arguments.now)
+        ⊎ ((lines : List ℕ) × AsksForFailing (F.holds files.now) (I.remaining input.old) (map (λ a. a.now) arguments.now) lines × (E.has_failed err.new ≡ false → Appends (E.contents err.old) (E.contents err.new) lines)) }
     ensures failed { result ≡ 4 → (O.has_failed out.new ≡ true) ⊎ AreRefusedBy 4 (F.holds files.now) (F.is_reliable files.now) (I.remaining input.old) (I.has_failed input.new) (map (λ a. a.now) arguments.now) }
 {
-    match answer_arguments(rt, alloc, files, input, arguments) {
+    match answer_arguments(rt, alloc, seed, files, input, arguments) {
         Ok(ArgumentAnswer::Text(text)) => deliver(Ok(text), out, err),
         Ok(ArgumentAnswer::Relation(rows)) => write_relation(alloc, rows, out, err),
         Err(ArgumentFault::Refused(refusal)) => deliver(Err(refusal), out, err),
+        Err(ArgumentFault::Failing(lines)) => write_lines(lines.as_str(), err),
         Err(ArgumentFault::Usage(text)) => {
             let _ = write_all(err, text.as_bytes());
             2
@@ -145,9 +160,12 @@ fn reply_to_arguments<T: Threads + Wait + Sync, F: Store, I: ByteIn, O: ByteOut,
 /// The status is 0 if `out` got the answer, 2 for wrong arguments, 3 for input that is refused, and 4 if the machine or
 /// the run failed. All work ends before the first byte goes to `out`; the text of a relation alone is written as it is made,
 /// once all memory for it is there. A refusal is one line on `err`, and a write of it that fails changes nothing else.
+///
+/// Keys are hashed by the seed, on which nothing of this depends.
 pub fn answer<T: Threads + Wait + Sync, F: Store, I: ByteIn, O: ByteOut, E: ByteOut>(
     rt: &T,
     alloc: Global,
+    seed: KeySeed,
     arguments: &[&str],
     files: &F,
     input: &mut I,
@@ -169,10 +187,12 @@ pub fn answer<T: Threads + Wait + Sync, F: Store, I: ByteIn, O: ByteOut, E: Byte
     ensures arguments_done { arguments.now ≢ [] → result ≡ 0 → (text : List ℕ) × AnswersArguments (F.holds files.now) (I.remaining input.old) (map (λ a. a.now) arguments.now) text × Appends (O.contents out.old) (O.contents out.new) text }
     ensures arguments_statuses { arguments.now ≢ [] → (result ≡ 0) ⊎ (result ≡ 2) ⊎ (result ≡ 3) ⊎ (result ≡ 4) }
 
-    // Status 2 comes only for arguments that are wrong, status 3 only for what they ask for, refused, and status 4 only for a
-    // write that failed, or where the machine or the run failed.
+    // Status 2 comes only for arguments that are wrong. Status 3 comes only for what they ask for, refused, or for a check of
+    // all nodes of a plan of which some fail, and then `err` got a line for each of these and for no other, unless it failed.
+    // Status 4 comes only for a write that failed, or where the machine or the run failed.
     ensures usage { arguments.now ≢ [] → result ≡ 2 → IsUsageError (map (λ a. a.now) arguments.now) }
-    ensures arguments_refused { arguments.now ≢ [] → result ≡ 3 → AreRefusedBy 3 (F.holds files.now) (F.is_reliable files.now) (I.remaining input.old) (I.has_failed input.new) (map (λ a. a.now) arguments.now) }
+    ensures arguments_refused { arguments.now ≢ [] → result ≡ 3 → AreRefusedBy 3 (F.holds files.now) (F.is_reliable files.now) (I.remaining input.old) (I.has_failed input.new) (map (λ a. a.now) arguments.now)
+        ⊎ ((lines : List ℕ) × AsksForFailing (F.holds files.now) (I.remaining input.old) (map (λ a. a.now) arguments.now) lines × (E.has_failed err.new ≡ false → Appends (E.contents err.old) (E.contents err.new) lines)) }
     ensures arguments_failed { arguments.now ≢ [] → result ≡ 4 → (O.has_failed out.new ≡ true) ⊎ AreRefusedBy 4 (F.holds files.now) (F.is_reliable files.now) (I.remaining input.old) (I.has_failed input.new) (map (λ a. a.now) arguments.now) }
 
     // Any status but 0 leaves `out` as it was, unless `out` failed; status 2 in any case.
@@ -180,7 +200,7 @@ pub fn answer<T: Threads + Wait + Sync, F: Store, I: ByteIn, O: ByteOut, E: Byte
     ensures untouched { result ≡ 2 → out.new ≡ out.old }
 {
     if arguments.is_empty() {
-        return reply(rt, alloc, input, out, err);
+        return reply(rt, alloc, seed, input, out, err);
     }
-    reply_to_arguments(rt, alloc, arguments, files, input, out, err)
+    reply_to_arguments(rt, alloc, seed, arguments, files, input, out, err)
 }

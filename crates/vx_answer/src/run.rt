@@ -24,6 +24,7 @@ use vx_exec::{Ran, Setup, run_rounds};
 use vx_parallel::{Free, run_threads};
 use vx_plan::TypedPlan;
 use vx_refusals::Refusal;
+use vx_seeds::KeySeed;
 use vx_tables::{Tables, load_tables};
 use vx_views::Rows;
 
@@ -105,6 +106,7 @@ fn run_over<T: Threads + Wait + Sync>(
 pub fn run_plan<R: Threads + Wait + Sync, T: Tables>(
     rt: &R,
     alloc: Global,
+    seed: KeySeed,
     tables: &T,
     setting: &Setting,
     plan: &CheckedPlan,
@@ -112,6 +114,6 @@ pub fn run_plan<R: Threads + Wait + Sync, T: Tables>(
     ensures text { IfOk result (λ text. IsRun (resolved_of (typed_plan plan.now)) (T.holds tables.now) setting.now text.items) }
     ensures refused { IfErr result (λ e. PlanRefuses (resolved_of (typed_plan plan.now)) (T.holds tables.now) (T.lacks tables.now) setting.now e) }
 {
-    let database = load_tables(alloc, plan.plan(), tables)?;
+    let database = load_tables(alloc, seed, plan.plan(), tables)?;
     run_over(rt, alloc, setting, plan, &database)
 }

@@ -8,19 +8,21 @@ use crate::run::text_of;
 use std::alloc::Global;
 use vx_plan::{TypedPlan, erase};
 use vx_refusals::Refusal;
+use vx_seeds::KeySeed;
 use vx_serial::eval;
 use vx_tables::{Tables, load_tables};
 
 /// The text of the rows of a plan without its exchanges over tables, under the names of the plan.
 pub fn serial_plan<T: Tables>(
     alloc: Global,
+    seed: KeySeed,
     tables: &T,
     plan: &TypedPlan,
 ) -> Result<Vec<u8>, Refusal>
     ensures text { IfOk result (λ text. IsSerial (resolved_of plan.now) (T.holds tables.now) text.items) }
     ensures refused { IfErr result (λ e. SerialRefuses (resolved_of plan.now) (T.holds tables.now) (T.lacks tables.now) e) }
 {
-    let database = load_tables(alloc, plan, tables)?;
+    let database = load_tables(alloc, seed, plan, tables)?;
     let Ok(erased) = erase(alloc, plan) else {
         return Err(Refusal::NoMemory);
     };

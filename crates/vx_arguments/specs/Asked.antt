@@ -6,6 +6,7 @@ use Rattle.clap.specs.Lexer.{usize_max}
 use Rattle.clap.specs.Words.{App, Kinds, Row, Rule, Text, all_of, fault_of, first_of, new_app, new_rule, subcommand_of, with_rule, with_subcommand}
 use Rattle.clap.specs.Simple.{on_top}
 use Rattle.clap.specs.ValueTests.{is_unsigned_in}
+use Rattle.clap.specs.declared.builder.action.ArgAction.TheVariants.{SetTrue}
 use Rattle.clap.specs.declared.builder.value_parser.ValueParser.TheVariants as parser
 use Rattle.vx_arguments.specs.declared.asked.Sources.{Sources}
 use Rattle.vx_arguments.specs.declared.asked.Limits.{Limits}
@@ -28,6 +29,10 @@ rows_rule = record (new_rule (codes "rows")) { long = Some (codes "rows"); value
 -- an option with a word, which has a default
 abbrev pub word_rule : Text → Text → Rule
 word_rule name default = record (new_rule name) { long = Some name; value_names = 1; defaults = default ∷ [] }
+
+-- an option without a value
+abbrev pub flag_rule : Text → Rule
+flag_rule name = record (new_rule name) { long = Some name; action = Some SetTrue }
 
 -- the code of a refusal, an argument that has to be given
 abbrev pub code_rule : Rule
@@ -52,6 +57,9 @@ run_app =
 abbrev pub gen_app : App
 gen_app = with_rule (new_app (codes "gen")) rows_rule
 
+abbrev pub check_app : App
+check_app = with_rule (judging_app (codes "check")) (flag_rule (codes "all"))
+
 abbrev pub explain_app : App
 explain_app = with_rule (judging_app (codes "explain")) (word_rule (codes "format") (codes "text"))
 
@@ -65,8 +73,8 @@ program_app = on_top (λ s. record s { has_version = true }) (new_app (codes "vo
 -- the program
 abbrev pub volcano_app : App
 volcano_app =
-    with_subcommand (with_subcommand (with_subcommand (with_subcommand (with_subcommand (with_subcommand program_app run_app.top) serial_app.top)
-    (judging_app (codes "check")).top) explain_app.top) why_app.top) gen_app.top
+    with_subcommand (with_subcommand (with_subcommand (with_subcommand (with_subcommand (with_subcommand (with_subcommand program_app run_app.top) serial_app.top)
+    check_app.top) explain_app.top) (judging_app (codes "annotate")).top) why_app.top) gen_app.top
 
 -- the paths of a catalog and of a plan
 pub record Paths : Type 0 where
@@ -84,7 +92,9 @@ pub record Given : Type 0 where
 pub data Ask : Type 0 where
   bundle : Ask
   check : Paths → Ask
+  check_all : Paths → Ask
   explain : Paths → (format : Text) → Ask
+  annotate : Paths → Ask
   why : (code : Text) → Ask
   serial : Paths → Text → Ask
   run : Paths → Text → Given → Ask
@@ -108,6 +118,10 @@ serial_of rows = option_and_then (λ p. option_map (serial p) (first_of (codes "
 abbrev pub run_of : List Row → Option Ask
 run_of rows = option_and_then (λ p. option_and_then (λ d. option_map (run p d) (given_of rows)) (first_of (codes "data") rows)) (paths_of rows)
 
+-- a check of all nodes if the flag is given, else of the plan up to its first refusal
+abbrev pub check_of : List Row → Option Ask
+check_of rows = option_and_then (λ p. option_map (λ all. if bytes_eq all (codes "true") then check_all p else check p) (first_of (codes "all") rows)) (paths_of rows)
+
 abbrev pub explain_of : List Row → Option Ask
 explain_of rows = option_and_then (λ p. option_map (explain p) (first_of (codes "format") rows)) (paths_of rows)
 
@@ -124,8 +138,9 @@ ask_of None = Some bundle
 ask_of (Some p) =
     if bytes_eq p.0 (codes "run") then run_of p.1
     else if bytes_eq p.0 (codes "serial") then serial_of p.1
-    else if bytes_eq p.0 (codes "check") then option_map check (paths_of p.1)
+    else if bytes_eq p.0 (codes "check") then check_of p.1
     else if bytes_eq p.0 (codes "explain") then explain_of p.1
+    else if bytes_eq p.0 (codes "annotate") then option_map annotate (paths_of p.1)
     else if bytes_eq p.0 (codes "why") then option_map why (first_of (codes "code") p.1)
     else if bytes_eq p.0 (codes "gen") then generate_of p.1
     else None
@@ -147,7 +162,9 @@ given_is l = record { packet = l.packet.now; morsel = l.morsel.now; slack = l.sl
 abbrev pub asked_is : Asked → Ask
 asked_is asked.Bundle = bundle
 asked_is (asked.Check sources) = check (paths_are sources)
+asked_is (asked.CheckAll sources) = check_all (paths_are sources)
 asked_is (asked.Explain sources format) = explain (paths_are sources) format.now
+asked_is (asked.Annotate sources) = annotate (paths_are sources)
 asked_is (asked.Why code) = why code.now
 asked_is (asked.Serial sources folder) = serial (paths_are sources) folder.now
 asked_is (asked.Run sources folder limits) = run (paths_are sources) folder.now (given_is limits)

@@ -2,7 +2,7 @@
 
 ghost use Rattle.std.specs.Prelude.{◌≡◌, IfOk, false, map, option_map, option_and_then, codes};
 ghost use Rattle.clap.specs.Words.{FailsBy, fault_of, rows_of, found_of, first_of, all_of, subcommand_of, subcommand_rows_of};
-ghost use Rattle.vx_arguments.specs.Asked.{volcano_app, paths_of, given_of, sizes_of, serial_of, explain_of, run_of, number_of, generate_of, ask_of, asked_by, faults_of, paths_are, given_is, asked_is};
+ghost use Rattle.vx_arguments.specs.Asked.{volcano_app, paths_of, given_of, sizes_of, serial_of, check_of, explain_of, run_of, number_of, generate_of, ask_of, asked_by, faults_of, paths_are, given_is, asked_is};
 
 use crate::command_line::command;
 use clap::{ArgMatches, Error};
@@ -31,8 +31,12 @@ pub enum Asked<'a> {
     /// No command: the answer to a bundle on standard input.
     Bundle,
     Check(Sources<'a>),
+    /// A check that goes on behind the first refusal.
+    CheckAll(Sources<'a>),
     /// With the name of the text's format.
     Explain(Sources<'a>, &'a str),
+    /// The plan with the claims that the rule table shows.
+    Annotate(Sources<'a>),
     /// With the code of a refusal.
     Why(&'a str),
     /// With the folder of the tables.
@@ -97,6 +101,16 @@ fn limits_in<'a>(alloc: Global, found: &ArgMatches<'a>) -> Result<Option<Limits<
         mode,
         sizes,
     }))
+}
+
+fn check_asked<'a>(found: &ArgMatches<'a>) -> Option<Asked<'a>>
+    ensures { option_map asked_is result ≡ check_of (rows_of (found_of found.now)) }
+{
+    let sources = sources_in(found)?;
+    match value(found, "all")? {
+        "true" => Some(Asked::CheckAll(sources)),
+        _ => Some(Asked::Check(sources)),
+    }
 }
 
 fn explain_asked<'a>(found: &ArgMatches<'a>) -> Option<Asked<'a>>
@@ -168,8 +182,9 @@ fn asked_in<'a>(alloc: Global, matches: &ArgMatches<'a>) -> Result<Option<Asked<
     match name {
         "run" => run_asked(alloc, found),
         "serial" => Ok(serial_asked(found)),
-        "check" => Ok(sources_in(found).map(Asked::Check)),
+        "check" => Ok(check_asked(found)),
         "explain" => Ok(explain_asked(found)),
+        "annotate" => Ok(sources_in(found).map(Asked::Annotate)),
         "why" => Ok(value(found, "code").map(Asked::Why)),
         "gen" => Ok(generate_asked(found)),
         _ => Ok(None),

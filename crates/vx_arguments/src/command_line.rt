@@ -3,9 +3,9 @@
 ghost use Rattle.std.specs.Prelude.{◌≡◌, IfOk, false, codes};
 ghost use Rattle.clap.specs.Words.{app_of, rule_of};
 ghost use Rattle.clap.specs.declared.builder.command.Command.TheViews.{out-Command as fields_of};
-ghost use Rattle.vx_arguments.specs.Asked.{path_rule, number_rule, rows_rule, word_rule, code_rule, sizes_rule, judging_app, serial_app, run_app, explain_app, why_app, gen_app, program_app, volcano_app};
+ghost use Rattle.vx_arguments.specs.Asked.{path_rule, number_rule, rows_rule, word_rule, flag_rule, code_rule, sizes_rule, judging_app, serial_app, run_app, check_app, explain_app, why_app, gen_app, program_app, volcano_app};
 
-use clap::{Arg, Command, value_parser};
+use clap::{Arg, ArgAction, Command, value_parser};
 use std::alloc::{AllocError, Global};
 
 // A required option with a path.
@@ -87,6 +87,16 @@ fn format_option<'a>(alloc: Global) -> Arg<'a>
         "text",
         "What is printed: `text`, a line for each node; `json`, an object for each node; or `dot`, a picture for Graphviz",
     )
+}
+
+fn all_option<'a>(alloc: Global) -> Arg<'a>
+    ensures rule { rule_of result ≡ flag_rule (codes "all") }
+    ensures own { result.global ≡ false }
+{
+    Arg::new(alloc, "all")
+        .long("all")
+        .help("A line for each node of which a note does not follow, and what follows there")
+        .action(ArgAction::SetTrue)
 }
 
 fn code_argument<'a>(alloc: Global) -> Arg<'a>
@@ -209,7 +219,7 @@ fn run<'a>(alloc: Global) -> Result<Command<'a>, AllocError>
 }
 
 fn check<'a>(alloc: Global) -> Result<Command<'a>, AllocError>
-    ensures app { IfOk result (λ c. app_of c ≡ judging_app (codes "check")) }
+    ensures app { IfOk result (λ c. app_of c ≡ check_app) }
     ensures local { IfOk result (λ c. (fields_of c).has_globals ≡ false) }
 {
     judging(
@@ -217,7 +227,8 @@ fn check<'a>(alloc: Global) -> Result<Command<'a>, AllocError>
         "check",
         "Says whether every note of the plan follows: `accepted`, `accepted total`, or the first note that does not",
         "Example: volcano check --catalog catalog.json --plan plan.json",
-    )
+    )?
+    .arg(all_option(alloc))
 }
 
 fn explain<'a>(alloc: Global) -> Result<Command<'a>, AllocError>
@@ -231,6 +242,18 @@ fn explain<'a>(alloc: Global) -> Result<Command<'a>, AllocError>
         "Example: volcano explain --catalog catalog.json --plan plan.json",
     )?
     .arg(format_option(alloc))
+}
+
+fn annotate<'a>(alloc: Global) -> Result<Command<'a>, AllocError>
+    ensures app { IfOk result (λ c. app_of c ≡ judging_app (codes "annotate")) }
+    ensures local { IfOk result (λ c. (fields_of c).has_globals ≡ false) }
+{
+    judging(
+        alloc,
+        "annotate",
+        "Prints the plan, as JSON, with the notes that follow at each node in place of its own",
+        "Example: volcano annotate --catalog catalog.json --plan plan.json",
+    )
 }
 
 fn why<'a>(alloc: Global) -> Result<Command<'a>, AllocError>
@@ -278,6 +301,7 @@ pub fn command<'a>(alloc: Global) -> Result<Command<'a>, AllocError>
         .subcommand(serial(alloc)?)?
         .subcommand(check(alloc)?)?
         .subcommand(explain(alloc)?)?
+        .subcommand(annotate(alloc)?)?
         .subcommand(why(alloc)?)?
         .subcommand(generate(alloc)?)
 }

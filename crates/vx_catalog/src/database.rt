@@ -14,6 +14,7 @@ use std::marker::Model;
 use std::sync::Arc;
 use vx_relations::Catalog;
 use vx_rows::Table;
+use vx_seeds::KeySeed;
 
 // No rows for each relation of a catalog.
 fn empty_tables(alloc: Global, catalog: &Catalog) -> Result<Vec<SharedTable>, AllocError>
@@ -33,6 +34,7 @@ fn empty_tables(alloc: Global, catalog: &Catalog) -> Result<Vec<SharedTable>, Al
 pub struct Database {
     catalog: Catalog,
     tables: Vec<SharedTable>,
+    seed: KeySeed,
 }
 
 // By hand, so that the drops of its parts are made and proved here once, and not again in each crate that drops one.
@@ -41,6 +43,7 @@ impl Drop for Database {
         let Database {
             catalog: _,
             tables: _,
+            seed: _,
         } = self;
     }
 }
@@ -57,7 +60,7 @@ impl Model for Database {
 }
 
 impl Database {
-    /// A database of a catalog, with every relation empty.
+    /// A database of a catalog, with every relation empty, and with the fixed seed.
     pub fn empty(alloc: Global, catalog: &Catalog) -> Result<Database, AllocError>
         ensures catalog { IfOk result (λ d. d.catalog ≡ catalog.now) }
         ensures empty { IfOk result (λ d. d.rows ≡ map (λ _. []) catalog.now) }
@@ -65,7 +68,22 @@ impl Database {
         Ok(Database {
             catalog: catalog.share()?,
             tables: empty_tables(alloc, catalog)?,
+            seed: KeySeed::fixed(),
         })
+    }
+
+    /// The same database, with a seed by which whoever reads it hashes keys.
+    pub fn seeded(self, seed: KeySeed) -> Database
+        ensures { result ≡ self }
+    {
+        let mut database = self;
+        database.seed = seed;
+        database
+    }
+
+    /// The seed by which whoever reads the database hashes keys. No answer depends on it.
+    pub fn seed(&self) -> KeySeed {
+        self.seed
     }
 
     /// The catalog whose relations these are. The rows of each meet all that it declares.

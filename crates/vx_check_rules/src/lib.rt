@@ -18,5 +18,6 @@ mod shown;
 
 pub use checked::CheckedPlan;
 pub use checking::check;
+pub use refusal::{failure_at, root_failure};
 pub use refused::Refused;
 pub use rule::Rule;

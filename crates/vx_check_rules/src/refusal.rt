@@ -18,8 +18,8 @@ use crate::shown::is_part_shown;
 use vx_plan_nodes::TypedNode;
 use vx_relations::Catalog;
 
-// The first of a node's tests that fails.
-fn failure_at(catalog: &Catalog, node: &TypedNode) -> Option<Rule>
+/// The first of a node's tests that fails, where the node is judged by what it and its inputs claim.
+pub fn failure_at(catalog: &Catalog, node: &TypedNode) -> Option<Rule>
     requires { HasOutputs (relation_at catalog.now) (outline_of node.now) }
     ensures { option_map rule_of result ≡ first_failure (node_tests (relation_at catalog.now) (plan_of node.now)) }
 {
@@ -47,8 +47,8 @@ fn failure_at(catalog: &Catalog, node: &TypedNode) -> Option<Rule>
     None
 }
 
-// The first of the root's own tests that fails.
-fn root_failure(is_total: bool, root: &TypedNode) -> Option<Rule>
+/// The first of the root's own tests that fails.
+pub fn root_failure(is_total: bool, root: &TypedNode) -> Option<Rule>
     ensures { (catalog : ℕ → Relation) → HasOutputs catalog (outline_of root.now) → option_map rule_of result ≡ first_failure (root_tests catalog is_total (plan_of root.now)) }
 {
     if !has_one_worker(root) {

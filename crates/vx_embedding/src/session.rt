@@ -17,6 +17,7 @@ use vx_catalog::{Catalog, format_rows};
 use vx_check::{CheckedPlan, check, explain};
 use vx_plan::{Plan, TypedPlan, erase, resolve};
 use vx_refusals::Refusal;
+use vx_seeds::KeySeed;
 use vx_serial::eval;
 use vx_tables::load_tables;
 
@@ -121,7 +122,7 @@ impl Session {
         ensures refused { IfErr result (SerialRefuses self.now text.now) }
     {
         let plan = self.plan(alloc, text)?;
-        let database = load_tables(alloc, &plan, self)?;
+        let database = load_tables(alloc, KeySeed::fixed(), &plan, self)?;
         let Ok(erased) = erase(alloc, &plan) else {
             return Err(Refusal::NoMemory);
         };

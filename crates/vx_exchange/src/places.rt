@@ -28,13 +28,13 @@ pub fn turns(alloc: Global, next: u32, count: usize, n: u32) -> Result<Vec<u32>,
     Ok(found)
 }
 
-// No places for each of n consumers.
-fn no_places(alloc: Global, n: usize) -> Result<Vec<Vec<usize>>, AllocError>
+// No places for each of n consumers, with room for so many each.
+fn no_places(alloc: Global, n: usize, room: usize) -> Result<Vec<Vec<usize>>, AllocError>
     ensures { IfOk result (λ v. map (λ p. p.items) v.items ≡ each_below n (λ j. [])) }
 {
     let mut places = Vec::with_capacity(alloc, n)?;
     for _i in 0..n {
-        let none = Vec::new(alloc);
+        let none = Vec::with_capacity(alloc, room)?;
         places.push(none)?;
     }
     Ok(places)
@@ -58,7 +58,9 @@ pub fn places_of_each(
     requires { All (λ k. k < n) consumers.now }
     ensures { IfOk result (λ v. map (λ p. p.items) v.items ≡ each_below n (λ j. places_of (λ k. k == j) consumers.now)) }
 {
-    let mut places = no_places(alloc, n)?;
+    // most consumers get about as many rows as the others
+    let room = consumers.len() / n.max(1) + 8;
+    let mut places = no_places(alloc, n, room)?;
     for i in 0..consumers.len() {
         add_place(&mut places, consumers[i] as usize, i)?;
     }

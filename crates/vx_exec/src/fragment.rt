@@ -29,12 +29,14 @@ fn operator_of(
             Ok(Operator::Scan(Scan::new(types)))
         }
         TypedNode::Unary(head, unary, input) => {
-            unary_operator(alloc, head.number, unary, output_types(input))
+            let seed = job.seed();
+            unary_operator(alloc, seed, head.number, unary, output_types(input))
         }
         TypedNode::Binary(head, binary, left, right) => {
+            let seed = job.seed();
             let left = output_types(left);
             let right = output_types(right);
-            binary_operator(alloc, head.number, binary, left, right)
+            binary_operator(alloc, seed, head.number, binary, left, right)
         }
         TypedNode::Exchange(head, exchange, input) => {
             let types = Vec::from_slice(alloc, output_types(node))?;

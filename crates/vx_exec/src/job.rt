@@ -19,6 +19,7 @@ use vx_catalog::{Catalog, Database};
 use vx_groups::workers_of;
 use vx_plan_nodes::{Size, TypedPlan};
 use vx_rows::ColType;
+use vx_seeds::KeySeed;
 use vx_views::Rows;
 use vx_worker::Morsels;
 
@@ -118,6 +119,11 @@ impl<'j> Job<'j> {
         ensures few { result ≤ 1024 }
     {
         self.slack
+    }
+
+    /// The seed by which the operators hash keys: the database's.
+    pub fn seed(&self) -> KeySeed {
+        self.database.seed()
     }
 
     /// The rows of a packet.

@@ -1,5 +1,6 @@
 -- The build side of a join, one row at a time.
-use Rattle.std.proofs.Common.{◌≡◌, ℕ, ◌+◌, ◌<◌, ◌≤◌, false, true, List, [], ◌∷◌, ◌++◌, map, filter, take, length, get_or, set, refl, sym, ap, ◌∙◌, subst, arith}
+use Rattle.std.proofs.Common.{◌≡◌, ℕ, zero, suc, ◌+◌, ◌-◌, ◌<◌, ◌≤◌, false, true, List, [], ◌∷◌, ◌++◌, map, filter, take, drop, length, get_or, set, refl, sym, ap, ◌∙◌, subst, arith}
+use Rattle.std.specs.Prelude.{slice_range}
 use Rattle.std.specs.List.{IsDistinct, position_or_len}
 use Rattle.std.proofs.lemmas.List.{get_or-map, length-map, take_more, take-map, length-take-le}
 use Rattle.std.proofs.lemmas.List.Sums.{passes_at_first}
@@ -7,10 +8,12 @@ use Rattle.indexmap.specs.IndexSet.{insert_all}
 use Rattle.vx_values.specs.Values.{Row, row_eq, pick}
 use Rattle.vx_plan_nodes.specs.Serial.{firsts, group_keys}
 use Rattle.vx_rows.specs.Equality.{row_eq-same}
+use Rattle.vx_rows.specs.Lists.{each_below}
+use Rattle.vx_rows.proofs.Below.{each_below-none, each_below-next, length-each_below, get_or-each_below}
 use Rattle.vx_keys.specs.Build.{IsIndex, parts_of, places_of}
 use Rattle.vx_keys.specs.Numbers.{numbers_of}
 use Rattle.vx_keys.proofs.KeyFacts.{eq-swap, row_eq-refl, any-firsts, any-absent, keyed-present, keyed-own, keyed-new, keyed-none, firsts-distinct}
-use Rattle.vx_keys.proofs.NumberFacts.{number-at, firsts-all}
+use Rattle.vx_keys.proofs.NumberFacts.{number-at, firsts-all, numbers-long}
 use Rattle.vx_keys.proofs.PlaceFacts.{places-other, places-more, places-none, rows-at}
 
 other : (by : List ℕ) (xs : List Row) (y z : Row) → row_eq (pick by y) z ≡ false → places_of by z (xs ++ y ∷ []) ≡ places_of by z xs
@@ -86,3 +89,28 @@ behind l f (k ∷ ks) = ap (λ rows. (l ++ f k) ∷ rows) (behind l f ks)
 -- the right rows at the places of a key, each behind a left row
 pub joined-at : (l : Row) (by : List ℕ) (key : Row) (rs : List Row) → map (λ j. l ++ get_or rs j []) (places_of by key rs) ≡ map (λ r. l ++ r) (filter (λ r. row_eq key (pick by r)) rs)
 joined-at l by key rs = behind l (λ j. get_or rs j []) (places_of by key rs) ∙ ap (map (λ r. l ++ r)) (rows-at (λ r. row_eq key (pick by r)) rs [])
+
+pub length-numbers : (by : List ℕ) (rows : List Row) (ns : List ℕ) → ns ≡ numbers_of [] (map (pick by) rows) → length ns ≡ length rows
+length-numbers by rows ns is = ap length is ∙ (numbers-long [] (map (pick by) rows) ∙ length-map rows (pick by))
+
+-- where the numbers are 0, 1, and so on, each key has one row
+pub parts-single : (by : List ℕ) (rows : List Row) (ns : List ℕ) → ns ≡ numbers_of [] (map (pick by) rows) → ns ≡ each_below (length ns) (λ k. k)
+    → (m : ℕ) → m ≤ length rows → parts_of by (take m rows) ≡ each_below m (λ k. k ∷ [])
+parts-single by rows ns is counted zero l = sym (each_below-none (λ k. k ∷ []))
+parts-single by rows ns is counted (suc m) l =
+    let long = length-numbers by rows ns is in
+    let before = parts-single by rows ns is counted m (omega (arith, l)) in
+    let many : length (parts_of by (take m rows)) ≡ m = ap length before ∙ length-each_below m (λ k. k ∷ []) in
+    let own : get_or ns m 0 ≡ m = ap (λ xs. get_or xs m 0) counted ∙ get_or-each_below (length ns) (λ k. k) m 0 (omega (arith, l, long)) in
+    let next : suc m ≡ m + 1 = omega arith in
+    ap (λ k. parts_of by (take k rows)) next
+    ∙ (part-next by rows ns is m (omega (arith, l)) (omega (arith, many, own))
+    ∙ (ap (λ ps. ps ++ (m ∷ []) ∷ []) before ∙ (sym (each_below-next m (λ k. k ∷ [])) ∙ ap (λ k. each_below k (λ j. j ∷ [])) (sym next))))
+
+-- one element as a part
+pub range-one : (xs : List ℕ) (i : ℕ) → i < length xs → slice_range xs i (i + 1) ≡ get_or xs i 0 ∷ []
+range-one [] i l = absurd (omega (arith, l))
+range-one (x ∷ xs) zero l = refl
+range-one (x ∷ xs) (suc i) l =
+    let same : (suc i + 1) - suc i ≡ (i + 1) - i = omega arith in
+    ap (λ n. take n (drop i xs)) same ∙ range-one xs i (omega (arith, l))

@@ -6,3 +6,4 @@ pub mod Merged
 pub mod Numbers
 pub mod Columns
 pub mod Kinds
+pub mod Parts

@@ -21,6 +21,7 @@ use std::marker::Model;
 use vx_algebra::types_at;
 use vx_plan_nodes::Aggregate;
 use vx_rows::{Cell, ColType, Table};
+use vx_seeds::KeySeed;
 use vx_views::{Chunk, Rows};
 
 /// Calls: `new add* finish`, and no `finish` after an `Err`.
@@ -175,9 +176,10 @@ fn group_types(
 }
 
 impl Grouping {
-    /// A grouping of no rows, which are to have these types.
+    /// A grouping of no rows, which are to have these types, and whose keys are to be hashed by this seed.
     pub fn new(
         alloc: Global,
+        seed: KeySeed,
         types: &[ColType],
         by: &[usize],
         aggregates: &[Aggregate],
@@ -192,7 +194,7 @@ impl Grouping {
             types: Vec::from_slice(alloc, types)?,
             by: Vec::from_slice(alloc, by)?,
             aggregates: Vec::from_slice(alloc, aggregates)?,
-            keys: Keys::new(alloc),
+            keys: Keys::new(alloc, seed),
             groups: Vec::new(alloc),
             failed: None,
             alloc,
@@ -282,6 +284,7 @@ impl Grouping {
 /// The rows by key: for each key, in order of first occurrence, the key and the aggregates of its rows.
 pub fn grouped(
     alloc: Global,
+    seed: KeySeed,
     rows: &Rows,
     by: &[usize],
     aggregates: &[Aggregate],
@@ -291,7 +294,7 @@ pub fn grouped(
     ensures rows { IfOk result (λ r. group_rows by.now (map op_of aggregates.now) rows.now.rows ≡ Some r.rows) }
     ensures err { IfErr result (λ e. GroupBlame e by.now (map op_of aggregates.now) rows.now.rows) }
 {
-    let mut grouping = Grouping::new(alloc, rows.types(), by, aggregates)?;
+    let mut grouping = Grouping::new(alloc, seed, rows.types(), by, aggregates)?;
     grouping.add_rows(rows)?;
     grouping.finish()
 }

@@ -11,11 +11,12 @@ use crate::columns::IntColumn;
 use indexmap::IndexSet;
 use std::alloc::{AllocError, Global};
 use std::marker::Model;
+use vx_seeds::KeySeed;
 
 /// Keys of one number each, which are hashed as the numbers that they are.
 #[derive(Drop)]
 pub(crate) struct IntKeys {
-    set: IndexSet<i64>,
+    set: IndexSet<i64, KeySeed>,
     alloc: Global,
 }
 
@@ -30,12 +31,12 @@ impl Model for IntKeys {
 }
 
 impl IntKeys {
-    /// No keys.
-    pub fn new(alloc: Global) -> IntKeys
+    /// No keys, to be hashed by this seed.
+    pub fn new(alloc: Global, seed: KeySeed) -> IntKeys
         ensures { result ≡ [] }
     {
         IntKeys {
-            set: IndexSet::new(alloc),
+            set: IndexSet::with_hasher(alloc, seed),
             alloc,
         }
     }

@@ -8,11 +8,13 @@ ghost use Rattle.vx_plan_nodes.specs.Serial.{group_keys, join_rows};
 ghost use Rattle.vx_keys.specs.Build.{places_of, parts_of, matched, ArePairs};
 ghost use Rattle.vx_keys.specs.Numbers.{numbers_of};
 
+use crate::key_places::KeyPlaces;
 use crate::keys::Keys;
 use std::alloc::{AllocError, Global};
 use std::marker::Model;
 use std::sync::Arc;
 use vx_rows::{ColType, Table};
+use vx_seeds::KeySeed;
 use vx_views::{Chunk, Rows};
 
 // How many rows a probe looks up at once.
@@ -26,19 +28,19 @@ pub struct Build {
     rows: Chunk,
     columns: Vec<usize>,
     keys: Keys,
-    parts: Vec<Vec<usize>>,
+    parts: KeyPlaces,
     alloc: Global,
 }
 
 impl Model for Build {
-    ghost use Rattle.std.specs.Prelude.{map};
     ghost use Rattle.vx_keys.specs.Build.{Built, IsIndex};
+    ghost use Rattle.vx_keys.specs.Parts.{places_in};
 
     ghost Value = { Built };
 
     ghost view = { λ b. record { types = b.rows.types; rows = b.rows.rows; columns = b.columns.items } };
 
-    ghost invariant = { λ b. IsIndex b.columns.items b.rows.rows b.keys (map (λ v. v.items) b.parts.items) };
+    ghost invariant = { λ b. IsIndex b.columns.items b.rows.rows b.keys (places_in b.parts) };
 }
 
 // Places of left rows, and beside each that of a right row.
@@ -46,37 +48,6 @@ impl Model for Build {
 struct Pairs {
     lefts: Vec<usize>,
     rights: Vec<usize>,
-}
-
-// Adds a place to those of the key with this number, or behind all as the first place of a new key.
-fn push_place(
-    alloc: Global,
-    parts: &mut Vec<Vec<usize>>,
-    number: usize,
-    place: usize,
-) -> Result<(), AllocError>
-    ensures known { OnOk result (number < length parts.old.items → map (λ p. p.items) parts.new.items ≡ slice_set (map (λ p. p.items) parts.old.items) number (slice_index_or (map (λ p. p.items) parts.old.items) number [] ++ place ∷ [])) }
-    ensures new { OnOk result (length parts.old.items ≤ number → map (λ p. p.items) parts.new.items ≡ map (λ p. p.items) parts.old.items ++ (place ∷ []) ∷ []) }
-{
-    if number < parts.len() {
-        parts[number].push(place)?;
-        return Ok(());
-    }
-    let mut first = Vec::new(alloc);
-    first.push(place)?;
-    parts.push(first)?;
-    Ok(())
-}
-
-// The places of each key's rows, by the numbers of the rows' keys.
-fn places_by_number(alloc: Global, numbers: &[usize]) -> Result<Vec<Vec<usize>>, AllocError>
-    ensures { IfOk result (λ v. (by : List ℕ) (rows : List Row) → numbers.now ≡ numbers_of [] (map (pick by) rows) → map (λ p. p.items) v.items ≡ parts_of by rows) }
-{
-    let mut parts: Vec<Vec<usize>> = Vec::new(alloc);
-    for i in 0..numbers.len() {
-        push_place(alloc, &mut parts, numbers[i], i)?;
-    }
-    Ok(parts)
 }
 
 // Where a block ends that starts at a row, of so many rows.
@@ -104,8 +75,14 @@ fn push_pairs(pairs: &mut Pairs, left: usize, places: &[usize]) -> Result<(), Al
 }
 
 impl Build {
-    /// The build side of a join, with its columns of the join. The rows are copied once, into one table.
-    pub fn of(alloc: Global, rows: &Rows, columns: Vec<usize>) -> Result<Build, AllocError>
+    /// The build side of a join, with its columns of the join, whose keys are hashed by this seed. The rows are copied once,
+    /// into one table.
+    pub fn of(
+        alloc: Global,
+        seed: KeySeed,
+        rows: &Rows,
+        columns: Vec<usize>,
+    ) -> Result<Build, AllocError>
         requires { AreColumns (length rows.now.types) columns.items }
         ensures types { IfOk result (λ b. b.types ≡ rows.now.types) }
         ensures rows { IfOk result (λ b. b.rows ≡ rows.now.rows) }
@@ -115,9 +92,9 @@ impl Build {
         let count = table.len();
         let base = Arc::new(alloc, table)?;
         let whole = Rows::of(alloc, &base, 0, count)?;
-        let mut keys = Keys::new(alloc);
+        let mut keys = Keys::new(alloc, seed);
         let numbers = keys.number_all(&whole, columns.as_slice())?;
-        let parts = places_by_number(alloc, numbers.as_slice())?;
+        let parts = KeyPlaces::of(alloc, numbers.as_slice())?;
         Ok(Build {
             rows: Chunk::of(alloc, &base, 0, count)?,
             columns,
@@ -131,10 +108,7 @@ impl Build {
     fn matches(&self, number: usize) -> &[usize]
         ensures { (key : Row) → number ≡ position_or_len (row_eq key) (group_keys self.now.columns self.now.rows) → result.now ≡ places_of self.now.columns key self.now.rows }
     {
-        if number >= self.parts.len() {
-            return &[];
-        }
-        self.parts[number].as_slice()
+        self.parts.get(number)
     }
 
     // Adds the pairs of left rows from place `from` up to `to`, whose keys have these numbers, until there are `most`
@@ -270,6 +244,7 @@ impl Build {
 /// and for one left row in the order of the right rows. No cell of a left row is copied.
 pub fn hash_join(
     alloc: Global,
+    seed: KeySeed,
     left: Rows,
     left_columns: &[usize],
     right: &Rows,
@@ -280,7 +255,7 @@ pub fn hash_join(
     ensures types { IfOk result (λ r. r.types ≡ left.types ++ right.now.types) }
     ensures rows { IfOk result (λ r. (on : List (ℕ × ℕ)) → left_columns.now ≡ map (λ p. p.0) on → right_columns.items ≡ map (λ p. p.1) on → r.rows ≡ join_rows on left.rows right.now.rows) }
 {
-    let build = Build::of(alloc, right, right_columns)?;
+    let build = Build::of(alloc, seed, right, right_columns)?;
     let mut joined = build.none_joined(left.types())?;
     let mut rest = left;
     'probes: while !rest.is_empty() {

@@ -17,6 +17,7 @@ use crate::text_keys::TextKeys;
 use std::alloc::{AllocError, Global};
 use std::marker::Model;
 use vx_rows::{Cell, Row};
+use vx_seeds::KeySeed;
 use vx_views::{Chunk, Rows};
 
 // Keys of one number each, of one text each, or any others.
@@ -35,6 +36,7 @@ enum Kind {
 #[derive(Drop)]
 pub struct Keys {
     kind: Kind,
+    seed: KeySeed,
     alloc: Global,
 }
 
@@ -49,17 +51,17 @@ impl Model for Keys {
 }
 
 // No keys, of the kind that the rows of a chunk have in these columns.
-fn kind_of(alloc: Global, chunk: &Chunk, columns: &[usize]) -> Kind
+fn kind_of(alloc: Global, seed: KeySeed, chunk: &Chunk, columns: &[usize]) -> Kind
     requires { AreColumns (length chunk.now.types) columns.now }
     ensures { kind_keys result ≡ [] }
 {
     if IntColumn::of(chunk, columns).is_some() {
-        return Kind::Ints(IntKeys::new(alloc));
+        return Kind::Ints(IntKeys::new(alloc, seed));
     }
     if TextColumn::of(chunk, columns).is_some() {
-        return Kind::Texts(TextKeys::new(alloc));
+        return Kind::Texts(TextKeys::new(alloc, seed));
     }
-    Kind::Rows(RowKeys::new(alloc))
+    Kind::Rows(RowKeys::new(alloc, seed))
 }
 
 // One value as a list.
@@ -84,12 +86,13 @@ fn row_cells(alloc: Global, row: &Row) -> Result<Vec<Cell<'_>>, AllocError>
 }
 
 impl Keys {
-    /// No keys.
-    pub fn new(alloc: Global) -> Keys
+    /// No keys, to be hashed by this seed.
+    pub fn new(alloc: Global, seed: KeySeed) -> Keys
         ensures { result ≡ [] }
     {
         Keys {
-            kind: Kind::Rows(RowKeys::new(alloc)),
+            kind: Kind::Rows(RowKeys::new(alloc, seed)),
+            seed,
             alloc,
         }
     }
@@ -122,7 +125,7 @@ impl Keys {
     fn as_rows(&self) -> Result<RowKeys, AllocError>
         ensures { IfOk result (λ k. k ≡ self.now) }
     {
-        let mut rows = RowKeys::new(self.alloc);
+        let mut rows = RowKeys::new(self.alloc, self.seed);
         for number in 0..self.len() {
             let cells = self.cells(number)?;
             rows.add(cells.as_slice())?;
@@ -173,7 +176,7 @@ impl Keys {
         ensures keys { OnOk result (self.new ≡ insert_all row_eq self.old (map (pick columns.now) chunk.now.rows)) }
     {
         if self.len() == 0 {
-            self.kind = kind_of(self.alloc, chunk, columns);
+            self.kind = kind_of(self.alloc, self.seed, chunk, columns);
         }
         if self.number_kind(chunk, columns, numbers)? {
             return Ok(());

@@ -6,6 +6,7 @@ mod columns;
 mod grouping;
 mod int_keys;
 mod join;
+mod key_places;
 mod key_run;
 mod keys;
 mod merging;

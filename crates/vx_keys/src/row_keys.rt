@@ -13,12 +13,13 @@ use indexmap::IndexSet;
 use std::alloc::{AllocError, Global};
 use std::marker::Model;
 use vx_rows::{Cell, Row, Table};
+use vx_seeds::KeySeed;
 use vx_views::Chunk;
 
 /// Keys that are hashed value by value.
 #[derive(Drop)]
 pub(crate) struct RowKeys {
-    set: IndexSet<Row>,
+    set: IndexSet<Row, KeySeed>,
     alloc: Global,
 }
 
@@ -32,12 +33,12 @@ impl Model for RowKeys {
 }
 
 impl RowKeys {
-    /// No keys.
-    pub fn new(alloc: Global) -> RowKeys
+    /// No keys, to be hashed by this seed.
+    pub fn new(alloc: Global, seed: KeySeed) -> RowKeys
         ensures { result ≡ [] }
     {
         RowKeys {
-            set: IndexSet::new(alloc),
+            set: IndexSet::with_hasher(alloc, seed),
             alloc,
         }
     }
@@ -85,10 +86,23 @@ impl RowKeys {
         ensures numbers { OnOk result (numbers.new.items ≡ numbers.old.items ++ numbers_of self.old keys.now.rows) }
         ensures keys { OnOk result (self.new ≡ insert_all row_eq self.old keys.now.rows) }
     {
-        let columns = columns_below(self.alloc, keys.types().len())?;
+        let columns = numbers_below(self.alloc, keys.types().len())?;
         let mut key = Row::new(self.alloc);
         for i in 0..keys.len() {
             key.read(keys, i, columns.as_slice())?;
+            let number = self.number(&key)?;
+            numbers.push(number)?;
+        }
+        Ok(())
+    }
+
+    // Adds the numbers of as many keys without values as a chunk has rows. That key is added, if it is new.
+    fn number_empty(&mut self, chunk: &Chunk, numbers: &mut Vec<usize>) -> Result<(), AllocError>
+        ensures numbers { OnOk result (numbers.new.items ≡ numbers.old.items ++ numbers_of self.old (map (pick []) chunk.now.rows)) }
+        ensures keys { OnOk result (self.new ≡ insert_all row_eq self.old (map (pick []) chunk.now.rows)) }
+    {
+        let key = Row::new(self.alloc);
+        for _i in 0..chunk.len() {
             let number = self.number(&key)?;
             numbers.push(number)?;
         }
@@ -106,6 +120,11 @@ impl RowKeys {
         ensures numbers { OnOk result (numbers.new.items ≡ numbers.old.items ++ numbers_of self.old (map (pick columns.now) chunk.now.rows)) }
         ensures keys { OnOk result (self.new ≡ insert_all row_eq self.old (map (pick columns.now) chunk.now.rows)) }
     {
+        // a group of all rows has no column
+        if columns.is_empty() {
+            self.number_empty(chunk, numbers)?;
+            return Ok(());
+        }
         let keys = keys_of(self.alloc, chunk, columns)?;
         self.number_rows(&keys, numbers)?;
         Ok(())
@@ -125,7 +144,7 @@ impl RowKeys {
     fn find_rows(&self, keys: &Table) -> Result<Vec<usize>, AllocError>
         ensures { IfOk result (λ v. v.items ≡ map (λ k. position_or_len (row_eq k) self.now) keys.now.rows) }
     {
-        let columns = columns_below(self.alloc, keys.types().len())?;
+        let columns = numbers_below(self.alloc, keys.types().len())?;
         let mut key = Row::new(self.alloc);
         let mut numbers = Vec::with_capacity(self.alloc, keys.len())?;
         for i in 0..keys.len() {
@@ -170,13 +189,13 @@ fn keys_of(alloc: Global, chunk: &Chunk, columns: &[usize]) -> Result<Table, All
     Ok(table)
 }
 
-// The columns 0, 1, and so on, so many.
-fn columns_below(alloc: Global, count: usize) -> Result<Vec<usize>, AllocError>
-    ensures { IfOk result (λ v. v.items ≡ each_below count (λ c. c)) }
+/// 0, 1, and so on, so many.
+pub(crate) fn numbers_below(alloc: Global, count: usize) -> Result<Vec<usize>, AllocError>
+    ensures { IfOk result (λ v. v.items ≡ each_below count (λ k. k)) }
 {
-    let mut columns = Vec::with_capacity(alloc, count)?;
-    for column in 0..count {
-        columns.push(column)?;
+    let mut numbers = Vec::with_capacity(alloc, count)?;
+    for number in 0..count {
+        numbers.push(number)?;
     }
-    Ok(columns)
+    Ok(numbers)
 }

@@ -11,6 +11,7 @@ ghost use Rattle.vx_keys.specs.Numbers.{numbers_of};
 use crate::keys::Keys;
 use std::alloc::{AllocError, Global};
 use std::marker::Model;
+use vx_seeds::KeySeed;
 use vx_views::Rows;
 
 /// Calls: `new keep_new*`, and no `keep_new` after an `Err`.
@@ -66,12 +67,12 @@ fn first_places(alloc: Global, known: usize, numbers: &[usize]) -> Result<Vec<us
 }
 
 impl Seen {
-    /// No row was seen.
-    pub fn new(alloc: Global) -> Seen
+    /// No row was seen. They are to be hashed by this seed.
+    pub fn new(alloc: Global, seed: KeySeed) -> Seen
         ensures { result ≡ [] }
     {
         Seen {
-            keys: Keys::new(alloc),
+            keys: Keys::new(alloc, seed),
             alloc,
         }
     }

@@ -11,11 +11,12 @@ use crate::columns::TextColumn;
 use indexmap::IndexSet;
 use std::alloc::{AllocError, Global};
 use std::marker::Model;
+use vx_seeds::KeySeed;
 
 /// Keys of one text each, which are hashed as the bytes that they are. A text is copied only where it is a new key.
 #[derive(Drop)]
 pub(crate) struct TextKeys {
-    set: IndexSet<String>,
+    set: IndexSet<String, KeySeed>,
     alloc: Global,
 }
 
@@ -30,12 +31,12 @@ impl Model for TextKeys {
 }
 
 impl TextKeys {
-    /// No keys.
-    pub fn new(alloc: Global) -> TextKeys
+    /// No keys, to be hashed by this seed.
+    pub fn new(alloc: Global, seed: KeySeed) -> TextKeys
         ensures { result ≡ [] }
     {
         TextKeys {
-            set: IndexSet::new(alloc),
+            set: IndexSet::with_hasher(alloc, seed),
             alloc,
         }
     }

@@ -5,6 +5,7 @@ use std::marker::Model;
 use vx_keys::Seen;
 use vx_ops::{StepKernel, Stepping};
 use vx_rows::ColType;
+use vx_seeds::KeySeed;
 use vx_views::Rows;
 
 /// Calls: `FirstRows::source (wants turn)*`.
@@ -44,8 +45,10 @@ impl FirstRows {
     ghost use Rattle.vx_match.specs.Distinct.{DistinctStands, distinct_op, distinct_types};
 
     /// A distinct on these columns of rows of these types, in this order, at the node with this number, to which nothing came.
+    /// Keys are hashed by the seed.
     pub fn source(
         alloc: Global,
+        seed: KeySeed,
         node: u32,
         columns: Vec<usize>,
         types: &[ColType],
@@ -59,7 +62,7 @@ impl FirstRows {
         let kernel = FirstRows {
             columns,
             types,
-            seen: Seen::new(alloc),
+            seen: Seen::new(alloc, seed),
         };
         Ok(Stepping::with_kernel(node, kernel))
     }

@@ -6,6 +6,7 @@ use vx_keys::{GroupFault, Grouping};
 use vx_ops::{Collecting, CollectingKernel, FinishFault};
 use vx_plan_nodes::{Aggregate, Phase};
 use vx_rows::ColType;
+use vx_seeds::KeySeed;
 use vx_views::Rows;
 
 /// Calls: `KeyedGroups::source (wants turn)*`.
@@ -47,8 +48,10 @@ impl KeyedGroups {
     ghost use Rattle.vx_match.specs.Group.{GroupStands, group_op, group_types};
 
     /// The group by these columns with these aggregates over rows of these types, at the node with this number, to which nothing came.
+    /// Keys are hashed by the seed.
     pub fn source(
         alloc: Global,
+        seed: KeySeed,
         node: u32,
         phase: Phase,
         by: &[usize],
@@ -60,7 +63,7 @@ impl KeyedGroups {
         ensures op { IfOk result (λ s. group_op s ≡ one_op node (group (phase_of phase) by.now (map aggregate_of aggregates.now))) }
         ensures types { IfOk result (λ s. group_types s ≡ record { left = types.now; right = types.now; out = unary_types (group (phase_of phase) by.now (map aggregate_of aggregates.now)) types.now }) }
     {
-        let grouping = Grouping::new(alloc, types, by, aggregates)?;
+        let grouping = Grouping::new(alloc, seed, types, by, aggregates)?;
         let kernel = KeyedGroups {
             alloc,
             phase,

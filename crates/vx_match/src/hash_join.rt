@@ -8,6 +8,7 @@ use vx_algebra::{left_columns, right_columns};
 use vx_keys::Build;
 use vx_ops::{ProbeKernel, Probing};
 use vx_rows::ColType;
+use vx_seeds::KeySeed;
 use vx_views::Rows;
 
 // As many joined rows make a batch.
@@ -24,6 +25,7 @@ pub type HashJoin = Probing<HashJoining>;
 #[derive(Drop)]
 pub struct HashJoining {
     alloc: Global,
+    seed: KeySeed,
     on: Vec<(usize, usize)>,
     left_columns: Vec<usize>,
     left: Vec<ColType>,
@@ -50,9 +52,10 @@ impl HashJoining {
     ghost use Rattle.vx_match.specs.HashJoin.{HashJoinStands, hash_join_op, hash_join_types};
 
     /// A hash join on these pairs of a left and a right column, of rows of these types, at the node with this number, to
-    /// which nothing came.
+    /// which nothing came. Keys are hashed by the seed.
     pub fn source(
         alloc: Global,
+        seed: KeySeed,
         node: u32,
         on: Vec<(usize, usize)>,
         left: &[ColType],
@@ -68,9 +71,10 @@ impl HashJoining {
         let right_columns = right_columns(alloc, on.as_slice())?;
         let left = Vec::from_slice(alloc, left)?;
         let read = Rows::new(alloc, right)?;
-        let build = Build::of(alloc, &read, right_columns)?;
+        let build = Build::of(alloc, seed, &read, right_columns)?;
         let kernel = HashJoining {
             alloc,
+            seed,
             on,
             left_columns,
             left,
@@ -105,7 +109,7 @@ impl ProbeKernel for HashJoining {
 
     fn finish_build(&mut self) -> Result<(), AllocError> {
         let columns = right_columns(self.alloc, self.on.as_slice())?;
-        self.build = Build::of(self.alloc, &self.read, columns)?;
+        self.build = Build::of(self.alloc, self.seed, &self.read, columns)?;
         self.read.clear();
         Ok(())
     }

@@ -19,10 +19,13 @@ use vx_ops::{Project, Select, Sort, Union};
 use vx_plan_nodes::{Binary, Exchange, ExchangeKind, Unary, copied_conditions};
 use vx_receivers::{InOrderReceiver, MergeReceiver};
 use vx_rows::ColType;
+use vx_seeds::KeySeed;
 
-/// The operator over one input of rows of these types, at the node with this number, to which nothing came.
+/// The operator over one input of rows of these types, at the node with this number, to which nothing came. Keys are hashed by
+/// the seed.
 pub fn unary_operator(
     alloc: Global,
+    seed: KeySeed,
     number: u32,
     unary: &Unary,
     input: &[ColType],
@@ -46,7 +49,7 @@ pub fn unary_operator(
         }
         Unary::Distinct(kept) => {
             let columns = kept_columns(alloc, kept.as_slice())?;
-            let distinct = FirstRows::source(alloc, number, columns, input)?;
+            let distinct = FirstRows::source(alloc, seed, number, columns, input)?;
             Ok(Operator::Distinct(distinct))
         }
         Unary::Sort(columns) => {
@@ -57,15 +60,17 @@ pub fn unary_operator(
         Unary::Group(phase, by, aggregates) => {
             let by = by.as_slice();
             let aggregates = aggregates.as_slice();
-            let group = KeyedGroups::source(alloc, number, *phase, by, aggregates, input)?;
+            let group = KeyedGroups::source(alloc, seed, number, *phase, by, aggregates, input)?;
             Ok(Operator::Group(group))
         }
     }
 }
 
-/// The operator over two inputs of rows of these types, at the node with this number, to which nothing came.
+/// The operator over two inputs of rows of these types, at the node with this number, to which nothing came. Keys are hashed by
+/// the seed.
 pub fn binary_operator(
     alloc: Global,
+    seed: KeySeed,
     number: u32,
     binary: &Binary,
     left: &[ColType],
@@ -85,7 +90,7 @@ pub fn binary_operator(
         }
         Binary::HashJoin(on) => {
             let on = Vec::from_slice(alloc, on.as_slice())?;
-            let join = HashJoining::source(alloc, number, on, left, right)?;
+            let join = HashJoining::source(alloc, seed, number, on, left, right)?;
             Ok(Operator::HashJoin(join))
         }
         Binary::MergeJoin(on) => {

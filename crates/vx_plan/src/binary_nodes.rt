@@ -1,16 +1,18 @@
 //! Operators over two inputs, by the columns of those inputs.
 
 ghost use Rattle.std.specs.Prelude.{◌≡◌, map, string_bytes, IfOk};
+ghost use Rattle.std.specs.Arc.{arc_value};
 ghost use Rattle.vx_plan_json.specs.Fault.{Gives};
 ghost use Rattle.vx_plan_json.specs.Document.{pair_form, binary_form};
 ghost use Rattle.vx_plan_nodes.specs.Outline.{columns_of};
 ghost use Rattle.vx_plan.specs.Resolve.{find_pair, find_pairs, both_columns, test_join, join_pairs, binary_shape};
 ghost use Rattle.vx_plan.specs.Shaped.{joint_of};
 
-use crate::columns::{copied, side_by_side};
+use crate::columns::side_by_side;
 use crate::fits::{are_pairs, are_same_types};
 use crate::lookup::{find_column, test_distinct, test_distinct_pairs, test_match, test_width};
 use std::alloc::Global;
+use std::sync::Arc;
 use vx_plan_json::{NamedBinary, PlanFault};
 use vx_plan_nodes::{Binary, Columns};
 
@@ -18,7 +20,7 @@ use vx_plan_nodes::{Binary, Columns};
 #[derive(Debug, Drop)]
 pub struct Joint {
     pub binary: Binary,
-    pub columns: Columns,
+    pub columns: Arc<Columns>,
 }
 
 #[tactic(auto, unfolding(crate::specs::Resolve::find_pair))]
@@ -107,9 +109,9 @@ fn joined(
     left: &Columns,
     right: &Columns,
     on: &[(String, String)],
-) -> Result<(Vec<(usize, usize)>, Columns), PlanFault>
+) -> Result<(Vec<(usize, usize)>, Arc<Columns>), PlanFault>
     ensures pairs { Gives (λ r. r.0.items) result (join_pairs node (columns_of left.now) (columns_of right.now) (map pair_form on.now)) }
-    ensures columns { IfOk result (λ r. columns_of r.1 ≡ both_columns (columns_of left.now) (columns_of right.now)) }
+    ensures columns { IfOk result (λ r. columns_of (arc_value r.1) ≡ both_columns (columns_of left.now) (columns_of right.now)) }
 {
     let columns = side_by_side(alloc, left, right)?;
     let pairs = join_pairs(alloc, node, left, right, &columns, on)?;
@@ -121,11 +123,11 @@ fn joined(
 pub fn binary_shape(
     alloc: Global,
     node: u32,
-    left: &Columns,
+    left: &Arc<Columns>,
     right: &Columns,
     binary: &NamedBinary,
 ) -> Result<Joint, PlanFault>
-    ensures { Gives joint_of result (binary_shape node (columns_of left.now) (columns_of right.now) (binary_form binary.now)) }
+    ensures { Gives joint_of result (binary_shape node (columns_of (arc_value left.now)) (columns_of right.now) (binary_form binary.now)) }
 {
     match binary {
         NamedBinary::Union => {
@@ -133,7 +135,7 @@ pub fn binary_shape(
                 node,
                 are_same_types(left.types.as_slice(), right.types.as_slice()),
             )?;
-            let columns = copied(alloc, left)?;
+            let columns = Arc::try_clone(left)?;
             Ok(Joint {
                 binary: Binary::Union,
                 columns,

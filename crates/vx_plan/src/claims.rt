@@ -1,6 +1,7 @@
 //! Claims over the columns of an output.
 
 ghost use Rattle.std.specs.Prelude.{◌≡◌, [], ◌∷◌, map, string_bytes, IfOk};
+ghost use Rattle.std.specs.Arc.{arc_value};
 ghost use Rattle.vx_plan_json.specs.Fault.{Gives};
 ghost use Rattle.vx_plan_json.specs.Document.{part_form, claim_form};
 ghost use Rattle.vx_plan_nodes.specs.Outline.{part_of, claim_of, columns_of, top_of};
@@ -14,6 +15,7 @@ use crate::lookup::{
     test_match,
 };
 use std::alloc::{AllocError, Global};
+use std::sync::Arc;
 use vx_plan_json::{NamedClaim, NamedPart, PlanFault};
 use vx_plan_nodes::{Claim, Columns, Head, Part, Route};
 use vx_rows::ColType;
@@ -129,10 +131,10 @@ pub fn with_claim(
     alloc: Global,
     declared: &Declared<'_>,
     node: u32,
-    columns: Columns,
+    columns: Arc<Columns>,
     claim: &NamedClaim,
 ) -> Result<Head, PlanFault>
-    ensures { Gives top_of result (with_claim (names_of declared.now) node (columns_of columns) (claim_form claim.now)) }
+    ensures { Gives top_of result (with_claim (names_of declared.now) node (columns_of (arc_value columns)) (claim_form claim.now)) }
 {
     let found = find_claim(alloc, declared, node, &columns, claim)?;
     Ok(Head {

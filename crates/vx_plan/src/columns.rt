@@ -1,6 +1,7 @@
-//! The columns of outputs: copied, kept, put side by side.
+//! The columns of outputs: kept, put side by side, with a prefix.
 
 ghost use Rattle.std.specs.Prelude.{◌≡◌, ◌++◌, map, string_bytes, IfOk, OnOk};
+ghost use Rattle.std.specs.Arc.{arc_value};
 ghost use Rattle.vx_values.specs.Types.{type_at};
 ghost use Rattle.vx_plan_json.specs.Document.{aggregate_form, output_form};
 ghost use Rattle.vx_plan_nodes.specs.Outline.{columns_of, columns, aggregate_of, outline_of};
@@ -9,14 +10,15 @@ ghost use Rattle.vx_plan.specs.Resolve.{both_columns, output_name, scan_columns}
 
 use crate::fits::type_at;
 use std::alloc::{AllocError, Global};
+use std::sync::Arc;
 use vx_plan_json::{NamedAggregate, NamedOutput};
 use vx_plan_nodes::{Aggregate, Columns, Projected, TypedNode};
 use vx_relations::Relation;
 use vx_values::ColType;
 
-/// The columns of a node's output.
-pub fn columns(node: &TypedNode) -> &Columns
-    ensures { columns_of result.now ≡ columns (outline_of node.now) }
+/// The columns of a node's output, to be read or shared.
+pub fn columns(node: &TypedNode) -> &Arc<Columns>
+    ensures { columns_of (arc_value result.now) ≡ columns (outline_of node.now) }
 {
     &node.head().columns
 }
@@ -40,26 +42,20 @@ pub fn copied_names(alloc: Global, names: &[String]) -> Result<Vec<String>, Allo
     Ok(copies)
 }
 
-/// A copy of an output's columns.
-pub fn copied(alloc: Global, columns: &Columns) -> Result<Columns, AllocError>
-    ensures { IfOk result (λ c. columns_of c ≡ columns_of columns.now) }
-{
-    let mut names = Vec::new(alloc);
-    put_names(alloc, &mut names, columns.names.as_slice())?;
-    let types = Vec::from_slice(alloc, columns.types.as_slice())?;
-    Ok(Columns { names, types })
-}
-
 /// The left columns, then the right ones.
-pub fn side_by_side(alloc: Global, left: &Columns, right: &Columns) -> Result<Columns, AllocError>
-    ensures { IfOk result (λ c. columns_of c ≡ both_columns (columns_of left.now) (columns_of right.now)) }
+pub fn side_by_side(
+    alloc: Global,
+    left: &Columns,
+    right: &Columns,
+) -> Result<Arc<Columns>, AllocError>
+    ensures { IfOk result (λ c. columns_of (arc_value c) ≡ both_columns (columns_of left.now) (columns_of right.now)) }
 {
     let mut names = Vec::new(alloc);
     put_names(alloc, &mut names, left.names.as_slice())?;
     put_names(alloc, &mut names, right.names.as_slice())?;
     let mut types = Vec::from_slice(alloc, left.types.as_slice())?;
     types.extend_from_slice(right.types.as_slice())?;
-    Ok(Columns { names, types })
+    Ok(Arc::new(alloc, Columns { names, types })?)
 }
 
 fn output_name(alloc: Global, output: &NamedOutput) -> Result<String, AllocError>
@@ -183,13 +179,13 @@ fn prefixed(alloc: Global, prefix: &str, name: &str) -> Result<String, AllocErro
 }
 
 /// The columns of a relation, with a prefix before each name.
-pub fn scanned(alloc: Global, relation: &Relation, prefix: &str) -> Result<Columns, AllocError>
-    ensures { IfOk result (λ c. columns_of c ≡ scan_columns relation.now prefix.now) }
+pub fn scanned(alloc: Global, relation: &Relation, prefix: &str) -> Result<Arc<Columns>, AllocError>
+    ensures { IfOk result (λ c. columns_of (arc_value c) ≡ scan_columns relation.now prefix.now) }
 {
     let mut names = Vec::new(alloc);
     for i in 0..relation.width() {
         names.push(prefixed(alloc, prefix, relation.column_name(i))?)?;
     }
     let types = Vec::from_slice(alloc, relation.types())?;
-    Ok(Columns { names, types })
+    Ok(Arc::new(alloc, Columns { names, types })?)
 }

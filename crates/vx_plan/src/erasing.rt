@@ -8,9 +8,10 @@ ghost use Rattle.vx_plan_nodes.specs.Erased.{erased_top, erased_from};
 ghost use Rattle.vx_plan_nodes.specs.Outline.{top_of, unary_of, renamed_of, binary_of, outline_of, plan_of};
 ghost use Rattle.vx_plan_nodes.specs.TypedView.{names_in, plan, resolved_of};
 
-use crate::columns::{copied, copied_names};
+use crate::columns::copied_names;
 use crate::resolving::copied_ranges;
 use std::alloc::{AllocError, Global};
+use std::sync::Arc;
 use vx_plan_json::PlanFault;
 use vx_plan_nodes::{
     Binary, Claim, Head, Part, Phase, ScanNode, Size, TypedNode, TypedPlan, Unary,
@@ -65,7 +66,7 @@ fn erased_head(alloc: Global, number: u32, head: &Head) -> Result<Head, AllocErr
             order: Vec::new(alloc),
             keys: Vec::new(alloc),
         },
-        columns: copied(alloc, &head.columns)?,
+        columns: Arc::try_clone(&head.columns)?,
     })
 }
 

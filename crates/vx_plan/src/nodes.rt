@@ -9,11 +9,12 @@ ghost use Rattle.vx_plan.specs.Named.{names_of};
 
 use crate::binary_nodes::{Joint, binary_shape};
 use crate::claims::with_claim;
-use crate::columns::{columns, copied, scanned};
+use crate::columns::{columns, scanned};
 use crate::exchange_nodes::{exchange_shape, find_relation};
 use crate::lookup::{Declared, find_size};
 use crate::unary_nodes::{Shape, unary_shape};
 use std::alloc::Global;
+use std::sync::Arc;
 use vx_plan_json::{NamedBinary, NamedClaim, NamedKind, NamedScan, NamedUnary, Node, PlanFault};
 use vx_plan_nodes::{ScanNode, TypedNode};
 
@@ -97,7 +98,7 @@ fn exchange_typed(
     ensures { Gives outline_of result (exchange_typed (names_of declared.now) node (claim_form claim.now) (kind_form kind.now) (map string_bytes merge.now) (outline_of input)) }
 {
     let exchange = exchange_shape(alloc, declared, node, columns(&input), kind, merge)?;
-    let output = copied(alloc, columns(&input))?;
+    let output = Arc::try_clone(columns(&input))?;
     let head = with_claim(alloc, declared, node, output, claim)?;
     Ok(TypedNode::Exchange(head, exchange, Box::new(alloc, input)?))
 }

@@ -1,17 +1,19 @@
 //! Operators over one input, by the columns of that input.
 
 ghost use Rattle.std.specs.Prelude.{◌≡◌, map, string_bytes, IfOk};
+ghost use Rattle.std.specs.Arc.{arc_value};
 ghost use Rattle.vx_plan_json.specs.Fault.{Gives};
 ghost use Rattle.vx_plan_json.specs.Document.{side_form, condition_form, output_form, function_form, aggregate_form, unary_form};
 ghost use Rattle.vx_plan_nodes.specs.Outline.{side_of, condition_of, aggregate_of, phase_of, columns_of, columns, outline_of};
 ghost use Rattle.vx_plan.specs.Resolve.{find_side, find_condition, find_conditions, select_shape, output_name, find_kept, find_all_kept, kept_shape, project_shape, distinct_shape, sort_shape, find_function, find_aggregates, find_group, test_group, group_shape, partial_shape, parts_of, final_shape, unary_shape};
 ghost use Rattle.vx_plan.specs.Shaped.{shape_of};
 
-use crate::columns::{columns, copied, group_names, group_types, kept_types, output_names};
+use crate::columns::{columns, group_names, group_types, kept_types, output_names};
 use crate::fits::{are_aggregates, are_conditions};
 use crate::lookup::{find_column, find_columns, test_distinct, test_match, test_width};
 use crate::phases::{first_columns, merged, parts_of, test_phase};
 use std::alloc::Global;
+use std::sync::Arc;
 use vx_plan_json::{
     NamedAggregate, NamedCondition, NamedFunction, NamedOutput, NamedSide, NamedUnary, PlanFault,
 };
@@ -22,7 +24,7 @@ use vx_rows::ColType;
 #[derive(Debug, Drop)]
 pub struct Shape {
     pub unary: Unary,
-    pub columns: Columns,
+    pub columns: Arc<Columns>,
 }
 
 #[tactic(auto, unfolding(crate::specs::Resolve::find_side))]
@@ -82,17 +84,17 @@ fn find_conditions(
 fn select_shape(
     alloc: Global,
     node: u32,
-    input: &Columns,
+    input: &Arc<Columns>,
     conditions: &[NamedCondition],
 ) -> Result<Shape, PlanFault>
-    ensures { Gives shape_of result (select_shape node (columns_of input.now) (map condition_form conditions.now)) }
+    ensures { Gives shape_of result (select_shape node (columns_of (arc_value input.now)) (map condition_form conditions.now)) }
 {
     let found = find_conditions(alloc, node, input.names.as_slice(), conditions)?;
     test_match(
         node,
         are_conditions(input.types.as_slice(), found.as_slice()),
     )?;
-    let columns = copied(alloc, input)?;
+    let columns = Arc::try_clone(input)?;
     Ok(Shape {
         unary: Unary::Select(found),
         columns,
@@ -163,7 +165,7 @@ fn project_shape(
     let types = kept_types(alloc, input.types.as_slice(), kept.as_slice())?;
     Ok(Shape {
         unary: Unary::Project(kept),
-        columns: Columns { names, types },
+        columns: Arc::new(alloc, Columns { names, types })?,
     })
 }
 
@@ -180,7 +182,7 @@ fn distinct_shape(
     let types = kept_types(alloc, input.types.as_slice(), kept.as_slice())?;
     Ok(Shape {
         unary: Unary::Distinct(kept),
-        columns: Columns { names, types },
+        columns: Arc::new(alloc, Columns { names, types })?,
     })
 }
 
@@ -188,14 +190,14 @@ fn distinct_shape(
 fn sort_shape(
     alloc: Global,
     node: u32,
-    input: &Columns,
+    input: &Arc<Columns>,
     names: &[String],
 ) -> Result<Shape, PlanFault>
-    ensures { Gives shape_of result (sort_shape node (columns_of input.now) (map string_bytes names.now)) }
+    ensures { Gives shape_of result (sort_shape node (columns_of (arc_value input.now)) (map string_bytes names.now)) }
 {
     let found = find_columns(alloc, node, input.names.as_slice(), names)?;
     test_distinct(alloc, node, names)?;
-    let columns = copied(alloc, input)?;
+    let columns = Arc::try_clone(input)?;
     Ok(Shape {
         unary: Unary::Sort(found),
         columns,
@@ -303,7 +305,7 @@ fn group_shape(
     )?;
     Ok(Shape {
         unary: Unary::Group(phase, keys, found),
-        columns: Columns { names, types },
+        columns: Arc::new(alloc, Columns { names, types })?,
     })
 }
 
@@ -332,7 +334,7 @@ fn final_shape(alloc: Global, node: u32, input: &TypedNode) -> Result<Shape, Pla
     };
     let keys = first_columns(alloc, by.len())?;
     let found = merged(alloc, by.len(), aggregates)?;
-    let columns = copied(alloc, columns(input))?;
+    let columns = Arc::try_clone(columns(input))?;
     Ok(Shape {
         unary: Unary::Group(Phase::Final, keys, found),
         columns,

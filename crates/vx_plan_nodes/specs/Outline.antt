@@ -1,5 +1,6 @@
 -- Typed plans with the names that they keep, and the plan of the definitions that each stands for.
 use Rattle.std.specs.Prelude.{ℕ, List, [], map, Bool, true, false, string_bytes}
+use Rattle.std.specs.Arc.{arc_value}
 use Rattle.vx_values.specs.declared.value.ColType.{ColType}
 use Rattle.vx_values.specs.ValueView.{val_of, test_of}
 use Rattle.vx_plan_nodes.specs.Plan.{Size, one_worker, group_of, Route, by_hash, by_range, Part, one, any, all, routed, Claim, Side, column, constant, Condition, Aggregate, least, greatest, sum, count_rows, Unary, select, project, distinct, sort, group, Phase, plain, partial, final, Binary, union, join, ExchangeKind, route_to, round, broadcast, gather, concat, Plan}
@@ -101,7 +102,7 @@ abbrev pub columns_of : rust_columns.Columns → Columns
 columns_of c = record { names = map string_bytes c.names.items; types = c.types.items }
 
 abbrev pub top_of : rust_head.Head → Top
-top_of h = record { number = h.number; claim = claim_of h.claim; columns = columns_of h.columns }
+top_of h = record { number = h.number; claim = claim_of h.claim; columns = columns_of (arc_value h.columns) }
 
 abbrev pub phase_of : rust_phase.Phase → Phase
 phase_of phase.Plain = plain

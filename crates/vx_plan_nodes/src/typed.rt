@@ -4,6 +4,7 @@ ghost use Rattle.std.specs.Prelude.{◌≡◌};
 ghost use Rattle.vx_plan_nodes.specs.Outline.{outline_of, plan_of, top_of, claim_of, kind_of, size_of, top};
 ghost use Rattle.vx_plan_nodes.specs.Plan.{claim, number, size, target};
 
+use std::sync::Arc;
 use vx_values::{ColType, Test, Value};
 
 /// How many workers: one, or as many as a declared size name is bound to, by the name's number.
@@ -107,12 +108,12 @@ impl Drop for Columns {
     }
 }
 
-/// What every node has: its number in preorder, its claim and its output.
+/// What every node has: its number in preorder, its claim and its output. Nodes with the same columns share them.
 #[derive(Debug)]
 pub struct Head {
     pub number: u32,
     pub claim: Claim,
-    pub columns: Columns,
+    pub columns: Arc<Columns>,
 }
 
 // By hand, so that the drops of its parts are made and proved here once, and not in each function that drops one.

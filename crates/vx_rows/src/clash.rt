@@ -1,12 +1,15 @@
 //! The first clash of rows on the columns of a key.
 
-ghost use Rattle.std.specs.Prelude.{◌≡◌, ◌<◌, length, None, true, IfOk, IsOk, IsTrue, if◌then◌else◌};
+ghost use Rattle.std.specs.Prelude.{◌≡◌, ◌<◌, length, None, true, IfOk, IfSome, IsOk, IsTrue, if◌then◌else◌};
 ghost use Rattle.vx_rows.specs.Order.{agree, sorted};
 ghost use Rattle.vx_rows.specs.Keys.{first_clash, earlier_clash, KeyLaw};
+ghost use Rattle.vx_rows.specs.Numbers.{AreKeyNumbers};
 ghost use Rattle.vx_rows.specs.Sorting.{order_on};
 ghost use Rattle.vx_rows.specs.View.{row, AreColumns};
 
+use crate::numbers::Numbers;
 use crate::sorting::compare_on;
+use crate::spans::{first_equal, span_of};
 use crate::table::Table;
 use std::alloc::{AllocError, Global};
 
@@ -74,6 +77,48 @@ impl Table {
         best
     }
 
+    // The numbers of a key of one column, where it has numbers.
+    fn key_numbers(&self, cols: &[usize]) -> Option<&Numbers>
+        requires { AreColumns (length self.now.types) cols.now }
+        ensures { IfSome result (λ v. AreKeyNumbers cols.now self.now.rows v.now) }
+    {
+        match cols {
+            [column] => self.numbers(*column),
+            _ => None,
+        }
+    }
+
+    // The first clash, by a sort.
+    fn sorted_clash(
+        &self,
+        alloc: Global,
+        cols: &[usize],
+    ) -> Result<Option<(usize, usize)>, AllocError>
+        requires { AreColumns (length self.now.types) cols.now }
+        ensures { IfOk result (λ o. o ≡ first_clash cols.now self.now.rows) }
+    {
+        let positions = self.sorted_positions(alloc, cols)?;
+        Ok(self.least_clash(cols, positions.as_slice()))
+    }
+
+    // The first clash, where rows agree exactly if their numbers do.
+    fn numbers_clash(
+        &self,
+        alloc: Global,
+        cols: &[usize],
+        numbers: &Numbers,
+    ) -> Result<Option<(usize, usize)>, AllocError>
+        requires columns { AreColumns (length self.now.types) cols.now }
+        requires numbers { AreKeyNumbers cols.now self.now.rows numbers.now }
+        ensures { IfOk result (λ o. o ≡ first_clash cols.now self.now.rows) }
+    {
+        let count = self.len();
+        match span_of(numbers, count) {
+            Some(span) => first_equal(alloc, numbers, count, span),
+            None => self.sorted_clash(alloc, cols),
+        }
+    }
+
     /// The first two rows that agree on these columns, as (earlier, second): the least second position that agrees
     /// with an earlier one, and the least such earlier one. It needs no memory if the rows rise strictly.
     pub fn first_key_clash(
@@ -88,8 +133,10 @@ impl Table {
         if self.rises(cols) {
             return Ok(None);
         }
-        let positions = self.sorted_positions(alloc, cols)?;
-        Ok(self.least_clash(cols, positions.as_slice()))
+        match self.key_numbers(cols) {
+            Some(numbers) => self.numbers_clash(alloc, cols, numbers),
+            None => self.sorted_clash(alloc, cols),
+        }
     }
 }
 

@@ -7,6 +7,7 @@ mod numbers;
 mod open;
 mod row;
 mod sorting;
+mod spans;
 mod table;
 mod texts;
 mod writes;

@@ -33,12 +33,13 @@ fn eval_node(alloc: Global, database: &Database, node: &TypedNode) -> Result<Row
         }
         TypedNode::Unary(head, unary, input) => {
             let rows = eval_node(alloc, database, input)?;
-            unary_rows(alloc, head.number, unary, &rows)
+            unary_rows(alloc, database.seed(), head.number, unary, &rows)
         }
         TypedNode::Binary(_, binary, left, right) => {
             let first = eval_node(alloc, database, left)?;
             let second = eval_node(alloc, database, right)?;
-            Ok(binary_rows(alloc, binary, first, second)?)
+            let seed = database.seed();
+            Ok(binary_rows(alloc, seed, binary, first, second)?)
         }
         TypedNode::Exchange(_, _, input) => eval_node(alloc, database, input),
     }

@@ -18,24 +18,31 @@ use std::alloc::{AllocError, Global};
 use vx_algebra::{chosen, kept_columns, left_columns, right_columns, sorted_chunks};
 use vx_keys::{GroupFault, Seen, grouped, hash_join};
 use vx_plan_nodes::{Aggregate, Binary, Unary};
+use vx_seeds::KeySeed;
 use vx_views::Rows;
 
 // The most rows of one grouping.
 const MAX_GROUPED: usize = 1 << 62;
 
 // The rows with these columns alone, each once, in order of first occurrence.
-fn distinct(alloc: Global, rows: &Rows, columns: &[usize]) -> Result<Rows, AllocError>
+fn distinct(
+    alloc: Global,
+    seed: KeySeed,
+    rows: &Rows,
+    columns: &[usize],
+) -> Result<Rows, AllocError>
     requires { AreColumns (length rows.now.types) columns.now }
     ensures types { IfOk result (λ r. r.types ≡ map (type_at rows.now.types) columns.now) }
     ensures rows { IfOk result (λ r. r.rows ≡ firsts (map (pick columns.now) rows.now.rows)) }
 {
-    let mut seen = Seen::new(alloc);
+    let mut seen = Seen::new(alloc, seed);
     seen.keep_new(rows, columns)
 }
 
 // The groups of rows, at the node with this number.
 fn groups_of(
     alloc: Global,
+    seed: KeySeed,
     number: u32,
     rows: &Rows,
     by: &[usize],
@@ -49,7 +56,7 @@ fn groups_of(
     if rows.len() > MAX_GROUPED {
         return Err(EvalFault::Overflow { node: number });
     }
-    match grouped(alloc, rows, by, aggregates) {
+    match grouped(alloc, seed, rows, by, aggregates) {
         Ok(groups) => Ok(Rows::of_table(alloc, groups)?),
         Err(GroupFault::Overflow | GroupFault::TooMany) => {
             Err(EvalFault::Overflow { node: number })
@@ -58,8 +65,14 @@ fn groups_of(
     }
 }
 
-/// What the operator with this number makes of its input's rows.
-pub fn unary_rows(alloc: Global, number: u32, unary: &Unary, rows: &Rows) -> Result<Rows, EvalFault>
+/// What the operator with this number makes of its input's rows. Keys are hashed by the seed.
+pub fn unary_rows(
+    alloc: Global,
+    seed: KeySeed,
+    number: u32,
+    unary: &Unary,
+    rows: &Rows,
+) -> Result<Rows, EvalFault>
     requires { is_unary rows.now.types (unary_of unary.now) ≡ true }
     ensures types { IfOk result (λ t. t.types ≡ unary_types (unary_of unary.now) rows.now.types) }
     ensures rows { IfOk result (λ t. evaluated_rows (unary_of unary.now) rows.now.rows ≡ Some t.rows) }
@@ -73,11 +86,12 @@ pub fn unary_rows(alloc: Global, number: u32, unary: &Unary, rows: &Rows) -> Res
         }
         Unary::Distinct(kept) => {
             let columns = kept_columns(alloc, kept.as_slice())?;
-            Ok(distinct(alloc, rows, columns.as_slice())?)
+            Ok(distinct(alloc, seed, rows, columns.as_slice())?)
         }
         Unary::Sort(columns) => Ok(sorted_chunks(alloc, rows, columns.as_slice())?),
         Unary::Group(_, by, aggregates) => {
-            groups_of(alloc, number, rows, by.as_slice(), aggregates.as_slice())
+            let by = by.as_slice();
+            groups_of(alloc, seed, number, rows, by, aggregates.as_slice())
         }
     }
 }
@@ -85,6 +99,7 @@ pub fn unary_rows(alloc: Global, number: u32, unary: &Unary, rows: &Rows) -> Res
 // The left rows joined with the right rows that agree with them on these pairs of columns.
 fn joined(
     alloc: Global,
+    seed: KeySeed,
     left: Rows,
     right: &Rows,
     on: &[(usize, usize)],
@@ -95,7 +110,7 @@ fn joined(
 {
     let left_keys = left_columns(alloc, on)?;
     let right_keys = right_columns(alloc, on)?;
-    hash_join(alloc, left, left_keys.as_slice(), right, right_keys)
+    hash_join(alloc, seed, left, left_keys.as_slice(), right, right_keys)
 }
 
 // The left rows, then the right rows.
@@ -110,8 +125,10 @@ fn united(left: Rows, right: Rows) -> Result<Rows, AllocError>
 }
 
 /// What an operator makes of the rows of its left and its right input. A merge join gives the list of a hash join.
+/// Keys are hashed by the seed.
 pub fn binary_rows(
     alloc: Global,
+    seed: KeySeed,
     binary: &Binary,
     left: Rows,
     right: Rows,
@@ -122,7 +139,7 @@ pub fn binary_rows(
 {
     match binary {
         Binary::Union => united(left, right),
-        Binary::HashJoin(on) => joined(alloc, left, &right, on.as_slice()),
-        Binary::MergeJoin(on) => joined(alloc, left, &right, on.as_slice()),
+        Binary::HashJoin(on) => joined(alloc, seed, left, &right, on.as_slice()),
+        Binary::MergeJoin(on) => joined(alloc, seed, left, &right, on.as_slice()),
     }
 }

@@ -12,6 +12,7 @@ use std::alloc::Global;
 use vx_catalog::{Catalog, Database, Loaded};
 use vx_plan_nodes::{TypedNode, TypedPlan};
 use vx_refusals::Refusal;
+use vx_seeds::KeySeed;
 
 /// What has the rows of relations: the texts of a bundle, or the files of a folder.
 pub trait Tables {
@@ -64,9 +65,11 @@ fn scans(node: &TypedNode, relation: usize) -> bool
     }
 }
 
-/// A database of the relations that a plan scans, filled in the catalog's order. The others stay empty.
+/// A database of the relations that a plan scans, filled in the catalog's order. The others stay empty. Whoever reads it hashes
+/// keys by the seed.
 pub fn load_tables<T: Tables>(
     alloc: Global,
+    seed: KeySeed,
     plan: &TypedPlan,
     tables: &T,
 ) -> Result<Database, Refusal>
@@ -74,7 +77,8 @@ pub fn load_tables<T: Tables>(
     ensures filled { IfOk result (λ d. IsFilled (plan_of_typed plan.now) (T.holds tables.now) d) }
     ensures refused { IfErr result (λ e. IsFirstMissing (plan_of_typed plan.now) (T.holds tables.now) (T.lacks tables.now) (scope plan.now).catalog e) }
 {
-    let mut database = Database::empty(alloc, plan.catalog())?;
+    let empty = Database::empty(alloc, plan.catalog())?;
+    let mut database = empty.seeded(seed);
     for relation in 0..plan.catalog().len() {
         if scans(plan.root(), relation) {
             fill(alloc, &mut database, relation, tables)?;

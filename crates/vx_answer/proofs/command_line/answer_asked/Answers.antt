@@ -1,9 +1,10 @@
 use Rattle.std.proofs.Common.{◌≡◌, ◌∙◌, ℕ, List, sym, subst}
+use Rattle.std.specs.Prelude.{IfOk, IfErr}
 use Rattle.std.proofs.lemmas.Result.{err_from_is_err_and}
-use Rattle.vx_arguments.specs.Asked.{asked_is, paths_are}
+use Rattle.vx_arguments.specs.Asked.{Ask, asked_is, paths_are}
 use Rattle.vx_answer.specs.declared.command_line.Job.TheVariants as job
-use Rattle.vx_answer.specs.CommandLine.{IsTask, IsEntry, for_task, for_plan_form, for_code, for_asked_task, for_asked_form}
-use Rattle.vx_answer.specs.CommandLineView.{task_is, IsJob}
+use Rattle.vx_answer.specs.CommandLine.{IsTask, IsEntry, for_task, for_plan_form, for_claims, for_code, for_asked_task, for_asked_form, for_asked_claims}
+use Rattle.vx_answer.specs.CommandLineView.{task_is, IsJob, IsAskAnswer, IsAskFault}
 use Rattle.vx_answer.proofs.command_line.answer_asked.Goals as goal
 
 pub returns-in_err-text-in-Some-Command : goal.returns-in_err-text-in-Some-Command
@@ -34,3 +35,23 @@ returns-in_ok-text-in-Some-Entry-clause-answer g c =
     let same : c.in_ok-text-in-Some-Entry.text.items ≡ c.in-Some-Entry.text.now = c.in_ok-text-in-Some-Entry.ensures.items ∙ c.as_bytes.ensures.value in
     let P : List ℕ → Type 0 = λ t. IsEntry is.0 t in
     for_code is.0 is.1 (subst P (sym same) is.2)
+
+pub returns-in-Some-Verdict : goal.returns-in-Some-Verdict
+returns-in-Some-Verdict g c =
+    let is : IsJob (asked_is c.args.asked.now) (job.Verdict c.in-Some-Verdict.sources) = rw (c.in-Some-Verdict.is, c.in-Some-Verdict.field-0-is) at c.in_ok-job_in.ensures in
+    let files = g.F.Store.holds c.args.files.now in
+    let input = g.I.ByteIn.remaining c.args.input.now in
+    let Answers : Ask → Type 0 = λ ask. IfOk c.answer_verdict.result (λ a. IsAskAnswer files input ask a) in
+    let Refuses : Ask → Type 0 = λ ask. IfErr c.answer_verdict.result (IsAskFault files (g.F.Store.is_reliable c.args.files.now) input (g.I.ByteIn.has_failed c.answer_verdict.new.input) ask) in
+    record { answer = subst Answers (sym is) c.answer_verdict.ensures.answer; refused = subst Refuses (sym is) c.answer_verdict.ensures.refused }
+
+pub returns-in_err-text-in-Some-Annotation : goal.returns-in_err-text-in-Some-Annotation
+returns-in_err-text-in-Some-Annotation g c =
+    let is : IsJob (asked_is c.args.asked.now) (job.Annotation c.in-Some-Annotation.sources) = rw (c.in-Some-Annotation.is, c.in-Some-Annotation.field-0-is) at c.in_ok-job_in.ensures in
+    let p = err_from_is_err_and c.from_residual-in_err-text-in-Some-Annotation.result c.from_residual-in_err-text-in-Some-Annotation.ensures.1 in
+    rw (p.1, p.2) (record { answer = tt; refused = for_asked_claims (paths_are c.in-Some-Annotation.sources) is c.in_err-text-in-Some-Annotation.ensures.refused })
+
+pub returns-in_ok-text-in-Some-Annotation : goal.returns-in_ok-text-in-Some-Annotation
+returns-in_ok-text-in-Some-Annotation g c =
+    let is : IsJob (asked_is c.args.asked.now) (job.Annotation c.in-Some-Annotation.sources) = rw (c.in-Some-Annotation.is, c.in-Some-Annotation.field-0-is) at c.in_ok-job_in.ensures in
+    record { answer = for_claims (paths_are c.in-Some-Annotation.sources) is c.in_ok-text-in-Some-Annotation.ensures.text; refused = tt }

@@ -1,4 +1,4 @@
-use Rattle.std.proofs.Common.{arith, ◌∙◌, refl, sym, inl, inr, map}
+use Rattle.std.proofs.Common.{arith, ◌∙◌, refl, sym, inl, inr, map, string_bytes}
 use Rattle.vx_catalog.specs.Csv.{csv_text}
 use Rattle.vx_wisconsin.specs.Wisconsin.{wisconsin, column_names}
 use Rattle.vx_arguments.specs.Asked.{generate}
@@ -22,7 +22,7 @@ pub returns-in-Ok-Relation-clause-refused : goal.returns-in-Ok-Relation-clause-r
 returns-in-Ok-Relation-clause-refused g c three =
     let rows = c.in-Ok-Relation.rows in
     let asked : AsksFor (map (λ a. a.now) c.args.arguments.now) (generate rows) = rw c.in-Ok-Relation.field-0-is at c.in-Ok-Relation.ensures.answer in
-    (refusal.TooLarge, refl, for_ask (generate rows) asked (for_asked_relation rows refl (c.write_relation.ensures.large.1 three).0 refl))
+    inl (refusal.TooLarge, refl, for_ask (generate rows) asked (for_asked_relation rows refl (c.write_relation.ensures.large.1 three).0 refl))
 
 pub returns-in-Ok-Relation-clause-failed : goal.returns-in-Ok-Relation-clause-failed
 returns-in-Ok-Relation-clause-failed g c four = inr (refusal.NoMemory, refl, arguments_memory refl)
@@ -31,7 +31,12 @@ pub returns-in-Err-Refused-clause-refused : goal.returns-in-Err-Refused-clause-r
 returns-in-Err-Refused-clause-refused g c three =
     let refused = rw c.in-Err-Refused.field-0-is at c.in-Err-Refused.ensures.refused in
     let status = rw c.in-Err-Refused.field-0-is at c.deliver-in-Err-Refused.ensures.refused in
-    (c.in-Err-Refused.refusal, sym status.0 ∙ three, refused)
+    inl (c.in-Err-Refused.refusal, sym status.0 ∙ three, refused)
+
+pub returns-in-Err-Failing-clause-refused : goal.returns-in-Err-Failing-clause-refused
+returns-in-Err-Failing-clause-refused g c three =
+    let failing = rw c.in-Err-Failing.field-0-is at c.in-Err-Failing.ensures.refused in
+    inr (string_bytes c.in-Err-Failing.lines, failing, rw c.as_str.ensures.value at c.write_lines.ensures.written)
 
 pub returns-in-Err-Usage-clause-usage : goal.returns-in-Err-Usage-clause-usage
 returns-in-Err-Usage-clause-usage g c two = (rw c.in-Err-Usage.field-0-is at c.in-Err-Usage.ensures.refused, refl)

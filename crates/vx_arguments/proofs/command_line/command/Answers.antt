@@ -10,5 +10,6 @@ returns c =
     let serial = c.in_ok-subcommand-2.ensures.shape c.in_ok-serial.ensures.local ∙ ap₂ with_subcommand run (ap top c.in_ok-serial.ensures.app) in
     let check = c.in_ok-subcommand-3.ensures.shape c.in_ok-check.ensures.local ∙ ap₂ with_subcommand serial (ap top c.in_ok-check.ensures.app) in
     let explain = c.in_ok-subcommand-4.ensures.shape c.in_ok-explain.ensures.local ∙ ap₂ with_subcommand check (ap top c.in_ok-explain.ensures.app) in
-    let why = c.in_ok-subcommand-5.ensures.shape c.in_ok-why.ensures.local ∙ ap₂ with_subcommand explain (ap top c.in_ok-why.ensures.app) in
-    IfOk-weaker c.subcommand-6.result _ _ (λ r h. h.shape c.in_ok-generate.ensures.local ∙ ap₂ with_subcommand why (ap top c.in_ok-generate.ensures.app)) c.subcommand-6.ensures
+    let annotate = c.in_ok-subcommand-5.ensures.shape c.in_ok-annotate.ensures.local ∙ ap₂ with_subcommand explain (ap top c.in_ok-annotate.ensures.app) in
+    let why = c.in_ok-subcommand-6.ensures.shape c.in_ok-why.ensures.local ∙ ap₂ with_subcommand annotate (ap top c.in_ok-why.ensures.app) in
+    IfOk-weaker c.subcommand-7.result _ _ (λ r h. h.shape c.in_ok-generate.ensures.local ∙ ap₂ with_subcommand why (ap top c.in_ok-generate.ensures.app)) c.subcommand-7.ensures

@@ -13,5 +13,5 @@ loop-i-preserved c =
     let f : ℕ → List ℕ = λ j. [] in
     let i = c.loop-i._i in
     ap lists c.in_ok-push.ensures.items
-    ∙ (map-append (λ (v : Vec ℕ Global). v.items) c.loop-i.places.items (c.new-none.result ∷ [])
-    ∙ (ap (λ xs. xs ++ c.new-none.result.items ∷ []) c.loop-i.invariant ∙ (ap (λ x. each_below i f ++ x ∷ []) c.new-none.ensures.items ∙ sym (each_below-next i f))))
+    ∙ (map-append (λ (v : Vec ℕ Global). v.items) c.loop-i.places.items (c.in_ok-none.none ∷ [])
+    ∙ (ap (λ xs. xs ++ c.in_ok-none.none.items ∷ []) c.loop-i.invariant ∙ (ap (λ x. each_below i f ++ x ∷ []) c.in_ok-none.ensures.items ∙ sym (each_below-next i f))))

@@ -8,8 +8,8 @@ use Rattle.vx_tables.proofs.tables.load_tables.Goals as goal
 pub loop-relation-init : goal.loop-relation-init
 loop-relation-init g c =
     let plan = c.args.plan.now in
-    let empty = rw c.catalog.ensures at c.in_ok-database.ensures.empty in
-    filled_none (plan_of_typed plan) (g.T.Tables.holds c.args.tables.now) (scope plan).catalog c.in_ok-database.database (c.in_ok-database.ensures.catalog ∙ c.catalog.ensures) empty
+    let empty = rw c.catalog.ensures at c.in_ok-empty.ensures.empty in
+    filled_none (plan_of_typed plan) (g.T.Tables.holds c.args.tables.now) (scope plan).catalog c.seeded-database.result (ap (λ d. d.catalog) c.seeded-database.ensures ∙ (c.in_ok-empty.ensures.catalog ∙ c.catalog.ensures)) (ap (λ d. d.rows) c.seeded-database.ensures ∙ empty)
 
 pub returns-in_err-fill-clause-refused : goal.returns-in_err-fill-clause-refused
 returns-in_err-fill-clause-refused g c =

@@ -1,0 +1,29 @@
+//! Checks of all nodes of a plan.
+
+ghost use Rattle.std.specs.Prelude.{◌≡◌, IfOk};
+ghost use Rattle.vx_plan_nodes.specs.TypedView.{resolved_of};
+ghost use Rattle.vx_answer.specs.VerdictView.{IsVerdict};
+
+use crate::command::accepted_text;
+use std::alloc::{AllocError, Global};
+use vx_failures::report;
+use vx_plan::TypedPlan;
+
+/// What the checker says of all nodes of a plan.
+#[derive(Drop)]
+pub enum Verdict {
+    /// Each note follows. With the text that says so.
+    Accepted(Vec<u8>),
+    /// A line for each node of which a note does not follow.
+    Failing(String),
+}
+
+/// What the checker says of all nodes of a plan.
+pub fn verdict_on(alloc: Global, plan: &TypedPlan) -> Result<Verdict, AllocError>
+    ensures { IfOk result (IsVerdict (resolved_of plan.now)) }
+{
+    match report(alloc, plan)? {
+        None => Ok(Verdict::Accepted(accepted_text(alloc, plan.is_total())?)),
+        Some(lines) => Ok(Verdict::Failing(lines)),
+    }
+}

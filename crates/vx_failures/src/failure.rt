@@ -1,0 +1,10 @@
+//! What does not follow at a node.
+
+use vx_check_rules::Rule;
+
+/// A node with the first of its tests that fails.
+#[derive(Clone, Copy, Debug, PartialEq, Eq)]
+pub struct Failure {
+    pub node: u32,
+    pub rule: Rule,
+}

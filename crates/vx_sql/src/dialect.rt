@@ -1,0 +1,9 @@
+//! The database systems for which statements are written.
+
+/// Whose SQL a statement is.
+#[derive(Clone, Copy, Debug, PartialEq, Eq)]
+pub enum Dialect {
+    Sqlite,
+    Postgres,
+    ClickHouse,
+}

@@ -1,0 +1,11 @@
+//! A plan as one statement of SQL: its operators without its exchanges, in the words of SQLite, PostgreSQL or ClickHouse.
+#![tactic(auto)]
+
+mod columns;
+mod dialect;
+mod operators;
+mod statement;
+mod words;
+
+pub use dialect::Dialect;
+pub use statement::plan_sql;

@@ -1,0 +1,52 @@
+# Completion of volcano for bash. Made by tools/make-manual of the texts in crates/vx_arguments/src/command_line.rt: change them there.
+_volcano() {
+    local word=${COMP_WORDS[COMP_CWORD]} before=${COMP_WORDS[COMP_CWORD - 1]} options='' words='' option
+    # `--mode=rounds` comes as three words.
+    if [[ $word == = ]]; then
+        word=''
+    elif [[ $before == = ]]; then
+        before=${COMP_WORDS[COMP_CWORD - 2]}
+    fi
+    COMPREPLY=()
+    if ((COMP_CWORD == 1)); then
+        mapfile -t COMPREPLY < <(compgen -W "run serial check explain annotate why gen help --help --version" -- "$word")
+        return
+    fi
+    case ${COMP_WORDS[1]} in
+        run) options='--catalog --plan --data --packet --morsel --slack --mode --help' ;;
+        serial) options='--catalog --plan --data --help' ;;
+        check) options='--catalog --plan --all --help' ;;
+        explain) options='--catalog --plan --format --help' ;;
+        annotate) options='--catalog --plan --help' ;;
+        why) options='--help' words='C1 C2 C3 C4 C5 C6 C7 C8 C9 C10 C11 C12 K1 K2 K3 K4 K5 K6 K7 K8 K9 P1 P2 P3 P4 P5 P6 P7 P8 P9 P10 P11 P12 P13 V1 V2 V3 V4 V5 V6 X1 X2 X3 X4 X5 X6 X7 X8 X9 X10 X11 X12 X13 X14' ;;
+        gen) options='--rows --help' ;;
+        help) words='run serial check explain annotate why gen' ;;
+    esac
+    case $before in
+        --catalog | --plan)
+            compopt -o filenames && mapfile -t COMPREPLY < <(compgen -f -- "$word")
+            return
+            ;;
+        --data)
+            compopt -o filenames && mapfile -t COMPREPLY < <(compgen -d -- "$word")
+            return
+            ;;
+        --packet | --morsel | --slack | --rows)
+            return
+            ;;
+        --mode)
+            mapfile -t COMPREPLY < <(compgen -W 'rounds threads' -- "$word")
+            return
+            ;;
+        --format)
+            mapfile -t COMPREPLY < <(compgen -W 'text json dot' -- "$word")
+            return
+            ;;
+    esac
+    # An option that may be given once is not offered again.
+    for option in $options; do
+        [[ " ${COMP_WORDS[*]:0:COMP_CWORD} " == *" $option "* ]] || words+=" $option"
+    done
+    mapfile -t COMPREPLY < <(compgen -W "$words" -- "$word")
+}
+complete -F _volcano volcano
