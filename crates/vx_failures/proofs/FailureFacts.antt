@@ -1,10 +1,10 @@
 -- The first failure is what the checker refuses.
-use Rattle.std.proofs.Common.{◌≡◌, ◌∙◌, ℕ, ◌++◌, Bool, List, [], ◌∷◌, Option, Some, None, slice_get, append_assoc, refl, sym, ap, ap₂, Result, Ok, Err}
+use Rattle.std.proofs.Common.{◌≡◌, ◌≢◌, ◌∙◌, ℕ, ◌++◌, Bool, false, nat_eq, length, map, List, [], ◌∷◌, Option, Some, None, slice_get, append_assoc, refl, sym, ap, ap₂, Result, Ok, Err}
 use Rattle.std.specs.Prelude.{OnOk}
 use Rattle.vx_relations.specs.Relation.{Relation}
-use Rattle.vx_plan_nodes.specs.Plan.{Plan, scan, unary, binary, exchange, number}
-use Rattle.vx_check_rules.specs.Refusal.{Rule, node_tests, root_tests, or_else, refused_at, first_refused, refusal}
-use Rattle.vx_failures.specs.Failures.{listed, failures_at, failures_in, failures_below, failures}
+use Rattle.vx_plan_nodes.specs.Plan.{Plan, scan, unary, binary, exchange}
+use Rattle.vx_check_rules.specs.Refusal.{node_tests, root_tests, or_else, refused_at, first_refused, refusal}
+use Rattle.vx_failures.specs.Failures.{listed, failures_in, failures}
 
 first_listed : {X : Type 0} (o : Option X) → slice_get (listed o) 0 ≡ o
 first_listed None = refl
@@ -61,3 +61,12 @@ pub put_both : {T E X : Type 0} (r : Result T E) (new mid low old left right her
     → OnOk r (new ≡ old ++ (left ++ (right ++ here)))
 put_both r new mid low old left right here h e k =
     put_then r new low old left (right ++ here) (put_then r new mid low right here h e) k
+
+-- what is put behind these
+pub put_behind : {X : Type 0} (new mid old here : List X) → new ≡ mid ++ here → mid ≡ old → new ≡ old ++ here
+put_behind new mid old here h e = h ∙ ap (λ xs. xs ++ here) e
+
+-- a list that is not empty has a first member
+pub has_first : {X Y : Type 0} (f : X → Y) (xs : List X) → nat_eq (length xs) 0 ≡ false → slice_get (map f xs) 0 ≢ None
+has_first f [] h = cc
+has_first f (x ∷ xs) h = λ e. cc

@@ -1,0 +1,15 @@
+use Rattle.std.proofs.Common.{◌∙◌, slice_get, ap}
+use Rattle.vx_check_rules.specs.Checked.{relations}
+use Rattle.vx_plan_nodes.specs.TypedView.{plan, resolved_of}
+use Rattle.vx_failures.proofs.FailureFacts.{first_failure_refused, put_behind}
+use Rattle.vx_failures.proofs.failing.failures.Goals as goal
+
+pub returns-clause-all : goal.returns-clause-all
+returns-clause-all c =
+    let here = rw (c.failed_at_root.ensures, c.catalog-catalog.ensures, c.root-root.ensures.plan, c.is_total.ensures) at c.in_ok-put.ensures in
+    let below = rw (c.new-failures.ensures.items, c.catalog-catalog.ensures, c.root-root.ensures.plan) at c.in_ok-put_failures_below.ensures in
+    put_behind _ _ _ _ here below
+
+pub returns-clause-first : goal.returns-clause-first
+returns-clause-first c =
+    ap (λ fs. slice_get fs 0) (returns-clause-all c) ∙ first_failure_refused (relations c.args.plan.now) (resolved_of c.args.plan.now).total (plan c.args.plan.now)
