@@ -1,1 +1,4 @@
 pub mod FailureFacts
+pub mod FindingFacts
+pub mod NamingFacts
+pub mod ShownFacts

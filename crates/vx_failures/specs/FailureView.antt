@@ -7,7 +7,8 @@ use Rattle.vx_check_rules.specs.Refusal.{Rule}
 use Rattle.vx_check_rules.specs.RuleView.{rule_of}
 use Rattle.vx_check_rules.specs.Checked.{relations, refusal_of_plan}
 use Rattle.vx_failures.specs.declared.failure.Failure.{Failure}
-use Rattle.vx_failures.specs.Failures.{failures, lines_of}
+use Rattle.vx_failures.specs.Failures.{failures}
+use Rattle.vx_failures.specs.Lines.{failure_lines}
 
 -- a node and the rule that fails there
 abbrev pub failure_is : Failure → ℕ × Rule
@@ -20,4 +21,4 @@ failures_of_plan p = failures (relations p) (resolved_of p).total (plan p)
 -- nothing where the checker accepts the plan; else a line for each node that fails
 abbrev pub IsReport : TypedPlan → Option (String Global) → Type 0
 IsReport p None = refusal_of_plan p ≡ None
-IsReport p (Some text) = (refusal_of_plan p ≢ None) × (string_bytes text ≡ lines_of (failures_of_plan p))
+IsReport p (Some text) = (refusal_of_plan p ≢ None) × (string_bytes text ≡ failure_lines (resolved_of p))

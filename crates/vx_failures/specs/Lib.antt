@@ -1,2 +1,5 @@
 pub mod Failures
+pub mod Shown
+pub mod ShownView
+pub mod Lines
 pub mod FailureView

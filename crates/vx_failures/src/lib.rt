@@ -1,11 +1,19 @@
-//! All nodes of a plan at which a note does not follow, where the checker says the first one.
+//! All nodes of a plan at which a note does not follow, where the checker says the first one, and what follows there.
 #![tactic(auto)]
 
 mod failing;
 mod failure;
+mod finding;
+mod keys;
 mod lines;
+mod naming;
+mod orders;
+mod parts;
+mod places;
 mod reporting;
+mod shown;
 
 pub use failing::failures;
 pub use failure::Failure;
 pub use reporting::report;
+pub use shown::shown_claim;

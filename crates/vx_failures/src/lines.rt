@@ -1,14 +1,22 @@
 //! A line for each failure.
 
-ghost use Rattle.std.specs.Prelude.{◌≡◌, ◌++◌, map, string_bytes, OnOk, IfOk};
+ghost use Rattle.std.specs.Prelude.{◌≡◌, ◌++◌, map, option_map, string_bytes, OnOk, IfOk, IfSome};
+ghost use Rattle.vx_relations.specs.Catalog.{relation_at};
+ghost use Rattle.vx_plan_nodes.specs.Outline.{columns, claim_of, outline_of};
+ghost use Rattle.vx_plan_nodes.specs.Outputs.{HasOutputs};
+ghost use Rattle.vx_plan_nodes.specs.TypedView.{names_in, resolved_of};
 ghost use Rattle.vx_check_rules.specs.RuleView.{rule_of};
-ghost use Rattle.vx_failures.specs.Failures.{rule_text, line_of, lines_of};
+ghost use Rattle.vx_failures.specs.Lines.{rule_text, claim_text, shown_text, line_of, lines_of};
 ghost use Rattle.vx_failures.specs.FailureView.{failure_is};
 
 use crate::failure::Failure;
+use crate::finding::node_numbered;
+use crate::naming::claim_text;
+use crate::shown::shown_claim;
 use itoa::Buffer;
 use std::alloc::{AllocError, Global};
 use vx_check_rules::Rule;
+use vx_plan_nodes::{Claim, TypedNode, TypedPlan};
 
 // The code and the name of a rule.
 fn rule_text(rule: Rule) -> &'static str
@@ -27,25 +35,73 @@ fn rule_text(rule: Rule) -> &'static str
     }
 }
 
+// Adds a claim over columns with these names, if there is one.
+fn push_claim(
+    alloc: Global,
+    text: &mut String,
+    plan: &TypedPlan,
+    names: &[String],
+    claim: Option<Claim>,
+) -> Result<(), AllocError>
+    ensures { OnOk result (string_bytes text.new ≡ string_bytes text.old ++ claim_text (names_in plan.now) (map string_bytes names.now) (option_map claim_of claim)) }
+{
+    let Some(claim) = claim else {
+        return Ok(());
+    };
+    text.push_str(" shown=")?;
+    text.push_str(claim_text(alloc, plan, names, &claim)?.as_str())
+}
+
+// The names of the columns of a node's output.
+fn column_names(node: &TypedNode) -> &[String]
+    ensures { map string_bytes result.now ≡ (columns (outline_of node.now)).names }
+{
+    node.head().columns.names.as_slice()
+}
+
+// Adds the claim that is shown at a node, if there are both.
+fn push_shown(
+    alloc: Global,
+    text: &mut String,
+    plan: &TypedPlan,
+    node: Option<&TypedNode>,
+) -> Result<(), AllocError>
+    requires { IfSome node (λ n. HasOutputs (relation_at (names_in plan.now).catalog) (outline_of n.now)) }
+    ensures { OnOk result (string_bytes text.new ≡ string_bytes text.old ++ shown_text (names_in plan.now) (option_map (λ n. outline_of n.now) node.entry)) }
+{
+    let Some(node) = node else {
+        return Ok(());
+    };
+    let claim = shown_claim(alloc, plan.catalog(), node)?;
+    push_claim(alloc, text, plan, column_names(node), claim)
+}
+
 // Adds the line of a failure.
-fn push_line(text: &mut String, failure: Failure) -> Result<(), AllocError>
-    ensures { OnOk result (string_bytes text.new ≡ string_bytes text.old ++ line_of (failure_is failure)) }
+fn push_line(
+    alloc: Global,
+    text: &mut String,
+    plan: &TypedPlan,
+    failure: Failure,
+) -> Result<(), AllocError>
+    ensures { OnOk result (string_bytes text.new ≡ string_bytes text.old ++ line_of (resolved_of plan.now) (failure_is failure)) }
 {
     let mut digits = Buffer::new();
     text.push_str("volcano: ")?;
     text.push_str(rule_text(failure.rule))?;
     text.push_str(" node=")?;
     text.push_str(digits.format(failure.node))?;
+    push_shown(alloc, text, plan, node_numbered(plan.root(), failure.node))?;
     text.push_str("\n")
 }
 
-/// A line for each of the failures, in their order, as the program reports a plan that is refused.
-pub fn lines_of(alloc: Global, failures: &[Failure]) -> Result<String, AllocError>
-    ensures { IfOk result (λ s. string_bytes s ≡ lines_of (map failure_is failures.now)) }
+/// A line for each of the failures, in their order, as the program reports a plan that is refused; behind each the claim
+/// that the rule table shows there.
+pub fn lines_of(alloc: Global, plan: &TypedPlan, failures: &[Failure]) -> Result<String, AllocError>
+    ensures { IfOk result (λ s. string_bytes s ≡ lines_of (resolved_of plan.now) (map failure_is failures.now)) }
 {
     let mut text = String::new(alloc);
     for failure in failures {
-        push_line(&mut text, *failure)?;
+        push_line(alloc, &mut text, plan, *failure)?;
     }
     Ok(text)
 }

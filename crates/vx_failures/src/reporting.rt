@@ -8,7 +8,8 @@ use crate::lines::lines_of;
 use std::alloc::{AllocError, Global};
 use vx_plan_nodes::TypedPlan;
 
-/// A line for each node that fails, as the program reports a plan that is refused; nothing where none fails.
+/// A line for each node that fails, as the program reports a plan that is refused, with the claim that the rule table
+/// shows there in place of the node's own; nothing where none fails.
 pub fn report(alloc: Global, plan: &TypedPlan) -> Result<Option<String>, AllocError>
     ensures { IfOk result (IsReport plan.now) }
 {
@@ -16,5 +17,5 @@ pub fn report(alloc: Global, plan: &TypedPlan) -> Result<Option<String>, AllocEr
     if failures.is_empty() {
         return Ok(None);
     }
-    Ok(Some(lines_of(alloc, failures.as_slice())?))
+    Ok(Some(lines_of(alloc, plan, failures.as_slice())?))
 }
