@@ -4,7 +4,7 @@ use Rattle.clap.specs.Words.{IsAmong}
 use Rattle.clap.specs.declared.error.kind.ErrorKind.{ErrorKind}
 use Rattle.clap.specs.declared.error.kind.ErrorKind.TheVariants as kind
 use Rattle.vx_plan_nodes.specs.Names.{TypedPlanView}
-use Rattle.vx_arguments.specs.Asked.{Ask, Paths, bundle, check, check_all, explain, annotate, why, serial, run, generate, asked_by, faults_of}
+use Rattle.vx_arguments.specs.Asked.{Ask, Paths, bundle, check, check_all, explain, annotate, sql, why, serial, run, generate, asked_by, faults_of}
 use Rattle.vx_bundle.specs.declared.command.Command.{Command}
 use Rattle.vx_bundle.specs.declared.command.Command.TheVariants as command
 use Rattle.vx_bundle.specs.declared.setting.Mode.TheVariants as mode
@@ -22,6 +22,8 @@ use Rattle.vx_relations.specs.Relation.{Relation}
 use Rattle.vx_plan_json.specs.Document.{Document}
 use Rattle.vx_answer.specs.Files.{AreRead, AreNotRead, IsFilesPlan, IsFilesRefusal}
 use Rattle.vx_answer.specs.Forms.{form_named, IsInForm, FormRefuses}
+use Rattle.vx_answer.specs.Statements.{dialect_named, IsStatement}
+use Rattle.vx_sql.specs.declared.dialect.Dialect.{Dialect}
 use Rattle.vx_answer.specs.Annotated.{IsAnnotated, AnnotationRefuses}
 use Rattle.vx_answer.specs.Verdict.{IsAllShown, AreFailures}
 use Rattle.vx_answer.specs.declared.forms.PlanForm.{PlanForm}
@@ -46,18 +48,20 @@ IsTask (check paths) t = t ≡ record { command = command.Check; paths = paths; 
 IsTask (check_all paths) t = ⊥
 IsTask (explain paths format) t = (bytes_eq format (codes "text") ≡ true) × (t ≡ record { command = command.Explain; paths = paths; folder = []; setting = default_setting })
 IsTask (annotate paths) t = ⊥
+IsTask (sql paths dialect) t = ⊥
 IsTask (why code) t = ⊥
 IsTask (serial paths folder) t = t ≡ record { command = command.Serial; paths = paths; folder = folder; setting = default_setting }
 IsTask (run paths folder limits) t = (s : Setting) × IsSetting limits s × (t ≡ record { command = command.Run; paths = paths; folder = folder; setting = s })
 IsTask (generate rows) t = ⊥
 
--- arguments ask for a run and set none up, for a format that there is not, or for a code that is none
+-- arguments ask for a run and set none up, for a format or a dialect that there is not, or for a code that is none
 abbrev pub IsNoTask : Ask → Type 0
 IsNoTask bundle = ⊥
 IsNoTask (check paths) = ⊥
 IsNoTask (check_all paths) = ⊥
 IsNoTask (explain paths format) = (bytes_eq format (codes "text") ≡ false) × (form_named format ≡ None)
 IsNoTask (annotate paths) = ⊥
+IsNoTask (sql paths dialect) = dialect_named dialect ≡ None
 IsNoTask (why code) = is_code code ≡ false
 IsNoTask (serial paths folder) = ⊥
 IsNoTask (run paths folder limits) = IsNoSetting limits
@@ -82,6 +86,15 @@ AnswersForm files input f paths text = (p : TypedPlanView) × IsFilesPlan files 
 pub data FormIsRefused (files : List ℕ → Stored) (reliable : List ℕ → Bool) (input : Option (List ℕ)) (failed : Bool) (paths : Paths) (e : Refusal) : Type 0 where
   for_form_planning : IsFilesRefusal files reliable input failed paths e → FormIsRefused files reliable input failed paths e
   for_form : (p : TypedPlanView) → IsFilesPlan files input paths p → FormRefuses p e → FormIsRefused files reliable input failed paths e
+
+-- the text is the plan of these paths in the SQL of a dialect
+abbrev pub AnswersStatement : (List ℕ → Stored) → Option (List ℕ) → Dialect → Paths → List ℕ → Type 0
+AnswersStatement files input d paths text = (p : TypedPlanView) × IsFilesPlan files input paths p × IsStatement d p text
+
+-- the first reason why there is none: there is no such plan; out of memory may come anywhere
+pub data StatementIsRefused (files : List ℕ → Stored) (reliable : List ℕ → Bool) (input : Option (List ℕ)) (failed : Bool) (paths : Paths) (e : Refusal) : Type 0 where
+  statement_memory : e ≡ refusal.NoMemory → StatementIsRefused files reliable input failed paths e
+  for_statement_planning : IsFilesRefusal files reliable input failed paths e → StatementIsRefused files reliable input failed paths e
 
 -- the text is that of the plan of these paths with the claims that the rule table shows
 abbrev pub AnswersAnnotation : (List ℕ → Stored) → Option (List ℕ) → Paths → List ℕ → Type 0
@@ -108,11 +121,12 @@ IsEntry code text = (is_code code ≡ true) × (take (length code + 1) text ≡ 
 abbrev pub with_program_name : List (List ℕ) → List (List ℕ)
 with_program_name arguments = codes "volcano" ∷ arguments
 
--- the text answers what arguments ask for: the bundle on standard input, a task, a check of all nodes, a plan in a form or with other claims, what a code means, or a relation, which has 10,000,000 rows at most
+-- the text answers what arguments ask for: the bundle on standard input, a task, a check of all nodes, a plan in a form, as SQL or with other claims, what a code means, or a relation, which has 10,000,000 rows at most
 pub data AnswersAsk (files : List ℕ → Stored) (input : Option (List ℕ)) (ask : Ask) (text : List ℕ) : Type 0 where
   for_bundle : ask ≡ bundle → IfSome input (λ bytes. IsAnswer bytes text) → AnswersAsk files input ask text
   for_task : (t : FileCommand) → IsTask ask t → AnswersTask files input t text → AnswersAsk files input ask text
   for_plan_form : (f : PlanForm) (paths : Paths) (format : List ℕ) → ask ≡ explain paths format → form_named format ≡ Some f → AnswersForm files input f paths text → AnswersAsk files input ask text
+  for_sql : (d : Dialect) (paths : Paths) (name : List ℕ) → ask ≡ sql paths name → dialect_named name ≡ Some d → AnswersStatement files input d paths text → AnswersAsk files input ask text
   for_all_nodes : (paths : Paths) → ask ≡ check_all paths → AnswersAll files input paths text → AnswersAsk files input ask text
   for_claims : (paths : Paths) → ask ≡ annotate paths → AnswersAnnotation files input paths text → AnswersAsk files input ask text
   for_code : (code : List ℕ) → ask ≡ why code → IsEntry code text → AnswersAsk files input ask text
@@ -124,6 +138,7 @@ pub data AskRefuses (files : List ℕ → Stored) (reliable : List ℕ → Bool)
   for_asked_bundle : ask ≡ bundle → RefusedWith input failed e → AskRefuses files reliable input failed ask e
   for_asked_task : (t : FileCommand) → IsTask ask t → TaskRefuses files reliable input failed t e → AskRefuses files reliable input failed ask e
   for_asked_form : (f : PlanForm) (paths : Paths) (format : List ℕ) → ask ≡ explain paths format → form_named format ≡ Some f → FormIsRefused files reliable input failed paths e → AskRefuses files reliable input failed ask e
+  for_asked_sql : (d : Dialect) (paths : Paths) (name : List ℕ) → ask ≡ sql paths name → dialect_named name ≡ Some d → StatementIsRefused files reliable input failed paths e → AskRefuses files reliable input failed ask e
   for_asked_all : (paths : Paths) → ask ≡ check_all paths → IsFilesRefusal files reliable input failed paths e → AskRefuses files reliable input failed ask e
   for_asked_claims : (paths : Paths) → ask ≡ annotate paths → AnnotationIsRefused files reliable input failed paths e → AskRefuses files reliable input failed ask e
   for_asked_relation : (rows : ℕ) → ask ≡ generate rows → max_rows < rows → e ≡ refusal.TooLarge → AskRefuses files reliable input failed ask e

@@ -1,6 +1,6 @@
 -- What arguments ask for, as it is held; what answers them, and why they have no answer.
 use Rattle.std.specs.Prelude.{◌≡◌, ℕ, ◌⊎◌, List, Bool, Option, Some, string_bytes}
-use Rattle.vx_arguments.specs.Asked.{paths_are, Ask, Paths, bundle, check_all, explain, annotate, why, generate}
+use Rattle.vx_arguments.specs.Asked.{paths_are, Ask, Paths, bundle, check_all, explain, annotate, sql, why, generate}
 use Rattle.vx_answer.specs.declared.command_line.FileCommand as held
 use Rattle.vx_answer.specs.declared.command_line.Job.{Job}
 use Rattle.vx_answer.specs.declared.command_line.Job.TheVariants as job
@@ -13,6 +13,7 @@ use Rattle.clap.specs.declared.error.kind.ErrorKind.TheVariants as kind
 use Rattle.vx_refusals.specs.declared.refusal.Refusal.TheVariants as refusal
 use Rattle.vx_bytes.specs.Stored.{Stored}
 use Rattle.vx_answer.specs.Forms.{form_named}
+use Rattle.vx_answer.specs.Statements.{dialect_named}
 use Rattle.vx_answer.specs.CommandLine.{FileCommand, IsTask, IsNoTask, IsEntry, AnswersAsk, FailsAtAll, AsksFor, AsksForFailing, AnswersArguments, IsUsageKind, AskRefuses, IsUsageError, ArgumentsRefuse}
 
 abbrev pub task_is : held.FileCommand → FileCommand
@@ -25,6 +26,7 @@ IsJob ask (job.Command t) = IsTask ask (task_is t)
 IsJob ask (job.Verdict sources) = ask ≡ check_all (paths_are sources)
 IsJob ask (job.Annotation sources) = ask ≡ annotate (paths_are sources)
 IsJob ask (job.Form f sources) = (format : List ℕ) × (ask ≡ explain (paths_are sources) format) × (form_named format ≡ Some f)
+IsJob ask (job.Statement d sources) = (name : List ℕ) × (ask ≡ sql (paths_are sources) name) × (dialect_named name ≡ Some d)
 IsJob ask (job.Entry text) = (code : List ℕ) × (ask ≡ why code) × IsEntry code text.now
 IsJob ask (job.Relation rows) = ask ≡ generate rows
 

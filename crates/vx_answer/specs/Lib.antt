@@ -4,6 +4,7 @@ pub mod Answer
 pub mod Arguments
 pub mod Files
 pub mod Forms
+pub mod Statements
 pub mod Annotated
 pub mod Verdict
 pub mod VerdictView

@@ -2,9 +2,9 @@
 
 ghost use Rattle.std.specs.Prelude.{◌≡◌, map, MatchOption, IfOk, IfErr};
 ghost use Rattle.clap.specs.Values.{kind_of};
-ghost use Rattle.vx_arguments.specs.Asked.{asked_is, paths_are, given_is, run, check_all, explain, why};
+ghost use Rattle.vx_arguments.specs.Asked.{asked_is, paths_are, given_is, run, check_all, explain, sql, why};
 ghost use Rattle.vx_answer.specs.Arguments.{IsNoSetting};
-ghost use Rattle.vx_answer.specs.CommandLine.{default_setting, IsTask, IsNoTask, AnswersTask, TaskRefuses, AnswersForm, FormIsRefused, AnswersAnnotation, AnnotationIsRefused, with_program_name};
+ghost use Rattle.vx_answer.specs.CommandLine.{default_setting, IsTask, IsNoTask, AnswersTask, TaskRefuses, AnswersForm, FormIsRefused, AnswersStatement, StatementIsRefused, AnswersAnnotation, AnnotationIsRefused, with_program_name};
 ghost use Rattle.vx_answer.specs.CommandLineView.{task_is, IsJob, IsAskAnswer, IsArgumentAnswer, IsHelp, HasUsageText, IsClapFault, IsAskFault, IsArgumentFault};
 
 use crate::annotating::annotated_plan;
@@ -14,6 +14,7 @@ use crate::failing::{Verdict, verdict_on};
 use crate::files::{document_from_files, plan_from_files};
 use crate::forms::{PlanForm, form_named, plan_in_form};
 use crate::program::outcome_of;
+use crate::statement::{dialect_named, statement};
 use clap::Error;
 use clap::error::ErrorKind;
 use std::alloc::{AllocError, Global};
@@ -24,6 +25,7 @@ use vx_bundle::{Command, MORSEL, Mode, PACKET, SLACK, Setting};
 use vx_bytes::{ByteIn, Store};
 use vx_refusals::Refusal;
 use vx_seeds::KeySeed;
+use vx_sql::Dialect;
 use vx_tables::Folder;
 use vx_why::entry;
 
@@ -48,6 +50,8 @@ enum Job<'a> {
     Annotation(Sources<'a>),
     /// A plan in a form, over the catalog and the plan that arguments name.
     Form(PlanForm, Sources<'a>),
+    /// A plan as a statement of SQL, over the catalog and the plan that arguments name.
+    Statement(Dialect, Sources<'a>),
     /// What a code means.
     Entry(&'static str),
     /// The text of the relation with so many rows.
@@ -155,6 +159,16 @@ fn explain_job<'a>(alloc: Global, sources: Sources<'a>, format: &str) -> Option<
     }
 }
 
+// What printing a plan in the SQL of the dialect of this name is.
+fn sql_job<'a>(sources: Sources<'a>, dialect: &str) -> Option<Job<'a>>
+    ensures { MatchOption result (IsNoTask (sql (paths_are sources.entry) dialect.now)) (λ j. IsJob (sql (paths_are sources.entry) dialect.now) j) }
+{
+    match dialect_named(dialect) {
+        Some(dialect) => Some(Job::Statement(dialect, sources)),
+        None => None,
+    }
+}
+
 // What telling the meaning of a code is.
 fn why_job<'a>(code: &str) -> Option<Job<'a>>
     ensures { MatchOption result (IsNoTask (why code.now)) (λ j. IsJob (why code.now) j) }
@@ -178,6 +192,7 @@ fn job_in<'a>(alloc: Global, asked: &Asked<'a>) -> Result<Option<Job<'a>>, Alloc
         Asked::CheckAll(sources) => Ok(Some(Job::Verdict(*sources))),
         Asked::Annotate(sources) => Ok(Some(Job::Annotation(*sources))),
         Asked::Explain(sources, format) => Ok(explain_job(alloc, *sources, format)),
+        Asked::Sql(sources, dialect) => Ok(sql_job(*sources, dialect)),
         Asked::Why(code) => Ok(why_job(code)),
         Asked::Serial(sources, folder) => {
             let task = plain_task(alloc, Command::Serial, *sources, *folder);
@@ -226,6 +241,22 @@ fn answer_form<F: Store, I: ByteIn>(
     plan_in_form(alloc, form, plan)
 }
 
+// The plan at one path over the catalog at the other, as a statement of SQL.
+fn answer_statement<F: Store, I: ByteIn>(
+    alloc: Global,
+    files: &F,
+    input: &mut I,
+    dialect: Dialect,
+    sources: Sources<'_>,
+) -> Result<Vec<u8>, Refusal>
+    ensures text { IfOk result (λ text. AnswersStatement (F.holds files.now) (I.remaining input.old) dialect (paths_are sources.entry) text.items) }
+    ensures refused { IfErr result (λ e. StatementIsRefused (F.holds files.now) (F.is_reliable files.now) (I.remaining input.old) (I.has_failed input.new) (paths_are sources.entry) e) }
+{
+    let plan = plan_from_files(alloc, files, input, sources)?;
+    let text = statement(alloc, dialect, &plan)?;
+    Ok(text)
+}
+
 // The plan at one path over the catalog at the other, with the claims that the rule table shows.
 fn answer_annotation<F: Store, I: ByteIn>(
     alloc: Global,
@@ -262,6 +293,9 @@ fn usage_text(asked: &Asked<'_>) -> &'static str {
     match asked {
         Asked::Explain(_, _) => {
             "volcano: a format is `text`, `json` or `dot`; see volcano explain --help\n"
+        }
+        Asked::Sql(_, _) => {
+            "volcano: a dialect is `sqlite`, `postgres` or `clickhouse`; see volcano sql --help\n"
         }
         Asked::Why(_) => {
             "volcano: a code is C1 to C12, P1 to P13, K1 to K9, X1 to X14 or V1 to V6; see volcano why --help\n"
@@ -307,6 +341,10 @@ fn answer_asked<T: Threads + Wait + Sync, F: Store, I: ByteIn>(
         }
         Some(Job::Form(form, sources)) => {
             let text = answer_form(alloc, files, input, form, sources)?;
+            Ok(ArgumentAnswer::Text(text))
+        }
+        Some(Job::Statement(dialect, sources)) => {
+            let text = answer_statement(alloc, files, input, dialect, sources)?;
             Ok(ArgumentAnswer::Text(text))
         }
         Some(Job::Entry(text)) => {

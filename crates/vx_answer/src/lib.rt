@@ -13,6 +13,7 @@ mod laws;
 mod program;
 mod run;
 mod serial;
+mod statement;
 
 pub use laws::case_is_refused_by_setup;
 pub use program::{answer, deliver};

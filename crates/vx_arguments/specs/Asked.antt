@@ -63,6 +63,9 @@ check_app = with_rule (judging_app (codes "check")) (flag_rule (codes "all"))
 abbrev pub explain_app : App
 explain_app = with_rule (judging_app (codes "explain")) (word_rule (codes "format") (codes "text"))
 
+abbrev pub sql_app : App
+sql_app = with_rule (judging_app (codes "sql")) (word_rule (codes "dialect") (codes "sqlite"))
+
 abbrev pub why_app : App
 why_app = with_rule (new_app (codes "why")) code_rule
 
@@ -73,8 +76,8 @@ program_app = on_top (λ s. record s { has_version = true }) (new_app (codes "vo
 -- the program
 abbrev pub volcano_app : App
 volcano_app =
-    with_subcommand (with_subcommand (with_subcommand (with_subcommand (with_subcommand (with_subcommand (with_subcommand program_app run_app.top) serial_app.top)
-    check_app.top) explain_app.top) (judging_app (codes "annotate")).top) why_app.top) gen_app.top
+    with_subcommand (with_subcommand (with_subcommand (with_subcommand (with_subcommand (with_subcommand (with_subcommand (with_subcommand program_app run_app.top)
+    serial_app.top) check_app.top) explain_app.top) (judging_app (codes "annotate")).top) sql_app.top) why_app.top) gen_app.top
 
 -- the paths of a catalog and of a plan
 pub record Paths : Type 0 where
@@ -95,6 +98,7 @@ pub data Ask : Type 0 where
   check_all : Paths → Ask
   explain : Paths → (format : Text) → Ask
   annotate : Paths → Ask
+  sql : Paths → (dialect : Text) → Ask
   why : (code : Text) → Ask
   serial : Paths → Text → Ask
   run : Paths → Text → Given → Ask
@@ -125,6 +129,9 @@ check_of rows = option_and_then (λ p. option_map (λ all. if bytes_eq all (code
 abbrev pub explain_of : List Row → Option Ask
 explain_of rows = option_and_then (λ p. option_map (explain p) (first_of (codes "format") rows)) (paths_of rows)
 
+abbrev pub sql_of : List Row → Option Ask
+sql_of rows = option_and_then (λ p. option_map (sql p) (first_of (codes "dialect") rows)) (paths_of rows)
+
 -- the number of 64 bits that a text of digits is, behind a plus or not, if it is one
 abbrev pub number_of : Text → Option ℕ
 number_of text = if is_unsigned_in 0 18446744073709551615 text then Some (digits_value 10 (without_leading_plus text)) else None
@@ -141,6 +148,7 @@ ask_of (Some p) =
     else if bytes_eq p.0 (codes "check") then check_of p.1
     else if bytes_eq p.0 (codes "explain") then explain_of p.1
     else if bytes_eq p.0 (codes "annotate") then option_map annotate (paths_of p.1)
+    else if bytes_eq p.0 (codes "sql") then sql_of p.1
     else if bytes_eq p.0 (codes "why") then option_map why (first_of (codes "code") p.1)
     else if bytes_eq p.0 (codes "gen") then generate_of p.1
     else None
@@ -165,6 +173,7 @@ asked_is (asked.Check sources) = check (paths_are sources)
 asked_is (asked.CheckAll sources) = check_all (paths_are sources)
 asked_is (asked.Explain sources format) = explain (paths_are sources) format.now
 asked_is (asked.Annotate sources) = annotate (paths_are sources)
+asked_is (asked.Sql sources dialect) = sql (paths_are sources) dialect.now
 asked_is (asked.Why code) = why code.now
 asked_is (asked.Serial sources folder) = serial (paths_are sources) folder.now
 asked_is (asked.Run sources folder limits) = run (paths_are sources) folder.now (given_is limits)

@@ -2,7 +2,7 @@
 
 ghost use Rattle.std.specs.Prelude.{◌≡◌, IfOk, false, map, option_map, option_and_then, codes};
 ghost use Rattle.clap.specs.Words.{FailsBy, fault_of, rows_of, found_of, first_of, all_of, subcommand_of, subcommand_rows_of};
-ghost use Rattle.vx_arguments.specs.Asked.{volcano_app, paths_of, given_of, sizes_of, serial_of, check_of, explain_of, run_of, number_of, generate_of, ask_of, asked_by, faults_of, paths_are, given_is, asked_is};
+ghost use Rattle.vx_arguments.specs.Asked.{volcano_app, paths_of, given_of, sizes_of, serial_of, check_of, explain_of, sql_of, run_of, number_of, generate_of, ask_of, asked_by, faults_of, paths_are, given_is, asked_is};
 
 use crate::command_line::command;
 use clap::{ArgMatches, Error};
@@ -37,6 +37,8 @@ pub enum Asked<'a> {
     Explain(Sources<'a>, &'a str),
     /// The plan with the claims that the rule table shows.
     Annotate(Sources<'a>),
+    /// The plan as a statement of SQL, with the name of the dialect.
+    Sql(Sources<'a>, &'a str),
     /// With the code of a refusal.
     Why(&'a str),
     /// With the folder of the tables.
@@ -121,6 +123,14 @@ fn explain_asked<'a>(found: &ArgMatches<'a>) -> Option<Asked<'a>>
     Some(Asked::Explain(sources, format))
 }
 
+fn sql_asked<'a>(found: &ArgMatches<'a>) -> Option<Asked<'a>>
+    ensures { option_map asked_is result ≡ sql_of (rows_of (found_of found.now)) }
+{
+    let sources = sources_in(found)?;
+    let dialect = value(found, "dialect")?;
+    Some(Asked::Sql(sources, dialect))
+}
+
 fn serial_asked<'a>(found: &ArgMatches<'a>) -> Option<Asked<'a>>
     ensures { option_map asked_is result ≡ serial_of (rows_of (found_of found.now)) }
 {
@@ -185,6 +195,7 @@ fn asked_in<'a>(alloc: Global, matches: &ArgMatches<'a>) -> Result<Option<Asked<
         "check" => Ok(check_asked(found)),
         "explain" => Ok(explain_asked(found)),
         "annotate" => Ok(sources_in(found).map(Asked::Annotate)),
+        "sql" => Ok(sql_asked(found)),
         "why" => Ok(value(found, "code").map(Asked::Why)),
         "gen" => Ok(generate_asked(found)),
         _ => Ok(None),

@@ -3,7 +3,7 @@
 ghost use Rattle.std.specs.Prelude.{◌≡◌, IfOk, false, codes};
 ghost use Rattle.clap.specs.Words.{app_of, rule_of};
 ghost use Rattle.clap.specs.declared.builder.command.Command.TheViews.{out-Command as fields_of};
-ghost use Rattle.vx_arguments.specs.Asked.{path_rule, number_rule, rows_rule, word_rule, flag_rule, code_rule, sizes_rule, judging_app, serial_app, run_app, check_app, explain_app, why_app, gen_app, program_app, volcano_app};
+ghost use Rattle.vx_arguments.specs.Asked.{path_rule, number_rule, rows_rule, word_rule, flag_rule, code_rule, sizes_rule, judging_app, serial_app, run_app, check_app, explain_app, sql_app, why_app, gen_app, program_app, volcano_app};
 
 use clap::{Arg, ArgAction, Command, value_parser};
 use std::alloc::{AllocError, Global};
@@ -86,6 +86,19 @@ fn format_option<'a>(alloc: Global) -> Arg<'a>
         "FORMAT",
         "text",
         "What is printed: `text`, a line for each node; `json`, an object for each node; or `dot`, a picture for Graphviz",
+    )
+}
+
+fn dialect_option<'a>(alloc: Global) -> Arg<'a>
+    ensures rule { rule_of result ≡ word_rule (codes "dialect") (codes "sqlite") }
+    ensures own { result.global ≡ false }
+{
+    word_option(
+        alloc,
+        "dialect",
+        "DIALECT",
+        "sqlite",
+        "Whose SQL the statement is: `sqlite`, `postgres` or `clickhouse`",
     )
 }
 
@@ -256,6 +269,19 @@ fn annotate<'a>(alloc: Global) -> Result<Command<'a>, AllocError>
     )
 }
 
+fn sql<'a>(alloc: Global) -> Result<Command<'a>, AllocError>
+    ensures app { IfOk result (λ c. app_of c ≡ sql_app) }
+    ensures local { IfOk result (λ c. (fields_of c).has_globals ≡ false) }
+{
+    judging(
+        alloc,
+        "sql",
+        "Prints the plan without its exchanges as one statement of SQL; the notes of the plan are not checked",
+        "Example: volcano sql --catalog catalog.json --plan plan.json --dialect postgres",
+    )?
+    .arg(dialect_option(alloc))
+}
+
 fn why<'a>(alloc: Global) -> Result<Command<'a>, AllocError>
     ensures app { IfOk result (λ c. app_of c ≡ why_app) }
     ensures local { IfOk result (λ c. (fields_of c).has_globals ≡ false) }
@@ -302,6 +328,7 @@ pub fn command<'a>(alloc: Global) -> Result<Command<'a>, AllocError>
         .subcommand(check(alloc)?)?
         .subcommand(explain(alloc)?)?
         .subcommand(annotate(alloc)?)?
+        .subcommand(sql(alloc)?)?
         .subcommand(why(alloc)?)?
         .subcommand(generate(alloc)?)
 }

@@ -3,7 +3,7 @@ use Rattle.std.specs.Prelude.{IfOk, IfErr}
 use Rattle.std.proofs.lemmas.Result.{err_from_is_err_and}
 use Rattle.vx_arguments.specs.Asked.{Ask, asked_is, paths_are}
 use Rattle.vx_answer.specs.declared.command_line.Job.TheVariants as job
-use Rattle.vx_answer.specs.CommandLine.{IsTask, IsEntry, for_task, for_plan_form, for_claims, for_code, for_asked_task, for_asked_form, for_asked_claims}
+use Rattle.vx_answer.specs.CommandLine.{IsTask, IsEntry, for_task, for_plan_form, for_sql, for_claims, for_code, for_asked_task, for_asked_form, for_asked_sql, for_asked_claims}
 use Rattle.vx_answer.specs.CommandLineView.{task_is, IsJob, IsAskAnswer, IsAskFault}
 use Rattle.vx_answer.proofs.command_line.answer_asked.Goals as goal
 
@@ -28,6 +28,17 @@ pub returns-in_ok-text-in-Some-Form : goal.returns-in_ok-text-in-Some-Form
 returns-in_ok-text-in-Some-Form g c =
     let is : IsJob (asked_is c.args.asked.now) (job.Form c.in-Some-Form.form c.in-Some-Form.sources) = rw (c.in-Some-Form.is, c.in-Some-Form.field-0-is) at c.in_ok-job_in.ensures in
     record { answer = for_plan_form c.in-Some-Form.form (paths_are c.in-Some-Form.sources) is.0 is.1 is.2 c.in_ok-text-in-Some-Form.ensures.text; refused = tt }
+
+pub returns-in_err-text-in-Some-Statement : goal.returns-in_err-text-in-Some-Statement
+returns-in_err-text-in-Some-Statement g c =
+    let is : IsJob (asked_is c.args.asked.now) (job.Statement c.in-Some-Statement.dialect c.in-Some-Statement.sources) = rw (c.in-Some-Statement.is, c.in-Some-Statement.field-0-is) at c.in_ok-job_in.ensures in
+    let p = err_from_is_err_and c.from_residual-in_err-text-in-Some-Statement.result c.from_residual-in_err-text-in-Some-Statement.ensures.1 in
+    rw (p.1, p.2) (record { answer = tt; refused = for_asked_sql c.in-Some-Statement.dialect (paths_are c.in-Some-Statement.sources) is.0 is.1 is.2 c.in_err-text-in-Some-Statement.ensures.refused })
+
+pub returns-in_ok-text-in-Some-Statement : goal.returns-in_ok-text-in-Some-Statement
+returns-in_ok-text-in-Some-Statement g c =
+    let is : IsJob (asked_is c.args.asked.now) (job.Statement c.in-Some-Statement.dialect c.in-Some-Statement.sources) = rw (c.in-Some-Statement.is, c.in-Some-Statement.field-0-is) at c.in_ok-job_in.ensures in
+    record { answer = for_sql c.in-Some-Statement.dialect (paths_are c.in-Some-Statement.sources) is.0 is.1 is.2 c.in_ok-text-in-Some-Statement.ensures.text; refused = tt }
 
 pub returns-in_ok-text-in-Some-Entry-clause-answer : goal.returns-in_ok-text-in-Some-Entry-clause-answer
 returns-in_ok-text-in-Some-Entry-clause-answer g c =
