@@ -11,6 +11,9 @@ use std::time::Instant;
 pub struct Bench {
     pub alloc: Global,
     pub rows: u64,
+    /// The rows of a packet, and of a morsel.
+    pub packet: u32,
+    pub morsel: u32,
     pub with_times: bool,
 }
 
@@ -47,18 +50,32 @@ fn ratio(alloc: Global, nanos: Option<u64>, other: Option<u64>) -> Result<String
 }
 
 impl Bench {
-    /// What the arguments ask for: a number of rows, and `agree` for no times.
+    // Takes the number at this place of the arguments: of rows, of the rows of a packet, of those of a morsel.
+    fn set(&mut self, place: usize, word: &str) -> Result<(), Error> {
+        match place {
+            0 => self.rows = word.parse::<u64>()?,
+            1 => self.packet = word.parse::<u32>()?,
+            _ => self.morsel = word.parse::<u32>()?,
+        }
+        Ok(())
+    }
+
+    /// What the arguments ask for: a number of rows, of the rows of a packet and of a morsel, and `agree` for no times.
     pub fn asked<R: Env + Alloc>(rt: &R, alloc: Global) -> Result<Bench, Error> {
         let mut bench = Bench {
             alloc,
             rows: 1_000_000,
+            packet: 256,
+            morsel: 1024,
             with_times: true,
         };
+        let mut place = 0usize;
         for word in env::args(rt)?.skip(1) {
             if word.as_str() == "agree" {
                 bench.with_times = false;
             } else {
-                bench.rows = word.parse::<u64>()?;
+                bench.set(place, word.as_str())?;
+                place = place.saturating_add(1);
             }
         }
         Ok(bench)

@@ -47,6 +47,9 @@ struct Query<'t> {
     plan: CheckedPlan,
     // The plan without its exchanges.
     erased: TypedPlan,
+    // The rows of a packet, and of a morsel.
+    packet: u32,
+    morsel: u32,
     database: &'t Database,
     columns: &'t Columns<'t>,
 }
@@ -99,12 +102,6 @@ impl Subject {
     }
 }
 
-// Teams of so many workers. Packets, morsels and slack are as they are by default.
-fn setup_of(alloc: Global, workers: u32) -> Result<Setup, AllocError> {
-    let sizes = vec![in alloc; (String::from_str(alloc, "many")?, workers)]?;
-    Ok(Setup::new(sizes, 256, 1024, 8))
-}
-
 // The plan of a subject, which the checker accepts.
 fn plan_of(alloc: Global, database: &Database, subject: Subject) -> Result<CheckedPlan, Error> {
     let text = subject.text(alloc)?;
@@ -116,6 +113,12 @@ fn plan_of(alloc: Global, database: &Database, subject: Subject) -> Result<Check
 }
 
 impl<'t> Query<'t> {
+    // Teams of so many workers. Slack is as it is by default.
+    fn setup(&self, alloc: Global, workers: u32) -> Result<Setup, AllocError> {
+        let sizes = vec![in alloc; (String::from_str(alloc, "many")?, workers)]?;
+        Ok(Setup::new(sizes, self.packet, self.morsel, 8))
+    }
+
     fn by_serial<R: Clock>(&self, rt: &R, alloc: Global) -> Result<Outcome, Error> {
         let start = Instant::now(rt)?;
         let rows = eval(alloc, &self.erased, self.database)?;
@@ -124,7 +127,7 @@ impl<'t> Query<'t> {
     }
 
     fn by_workers<R: Clock>(&self, rt: &R, alloc: Global, workers: u32) -> Result<Outcome, Error> {
-        let setup = setup_of(alloc, workers)?;
+        let setup = self.setup(alloc, workers)?;
         let start = Instant::now(rt)?;
         match run_rounds(
             alloc,
@@ -148,7 +151,7 @@ impl<'t> Query<'t> {
         alloc: Global,
         workers: u32,
     ) -> Result<Outcome, Error> {
-        let setup = setup_of(alloc, workers)?;
+        let setup = self.setup(alloc, workers)?;
         let start = Instant::now(rt)?;
         match run_threads(
             rt,
@@ -242,6 +245,8 @@ impl Bench {
             subject,
             erased: erase(self.alloc, plan.plan())?,
             plan,
+            packet: self.packet,
+            morsel: self.morsel,
             database,
             columns,
         };
