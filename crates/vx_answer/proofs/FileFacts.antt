@@ -4,11 +4,9 @@ use Rattle.std.specs.Prelude.{IfOk}
 use Rattle.vx_bytes.specs.Ports.{IsAll, IsOver, ExplainsAll}
 use Rattle.vx_bytes.specs.declared.bytes.ReadFault.TheVariants as fault
 use Rattle.vx_catalog.specs.Loading.{max_bytes}
-use Rattle.vx_relations.specs.Relation.{Relation}
 use Rattle.vx_plan_json.specs.Document.{Document}
 use Rattle.vx_plan_json.specs.Fault as plan
 use Rattle.vx_plan_json.specs.Reading.{document_of_text}
-use Rattle.vx_plan_json.specs.declared.fault.PlanFault.{PlanFault}
 use Rattle.vx_plan_json.proofs.NodeFacts.{fails_then}
 use Rattle.vx_plan.specs.Resolve.{resolved}
 use Rattle.vx_arguments.specs.Asked.{Paths}

@@ -1,5 +1,5 @@
 -- What answers a bundle's text, and why it may have no answer.
-use Rattle.std.specs.Prelude.{◌≡◌, ℕ, ◌⊎◌, List, Bool, true, false, Option, Some, None, IfSome}
+use Rattle.std.specs.Prelude.{◌≡◌, ℕ, ◌⊎◌, List, Bool, Option, Some, None, IfSome}
 use Rattle.vx_relations.specs.Naming.{catalog_of}
 use Rattle.vx_plan_nodes.specs.Names.{TypedPlanView}
 use Rattle.vx_plan_json.specs.Reading.{document_in}

@@ -1,4 +1,4 @@
-use Rattle.std.proofs.Common.{◌≡◌, Ok, refl}
+use Rattle.std.proofs.Common.{Ok, refl}
 use Rattle.std.proofs.lemmas.Result.{err_from_is_err_and}
 use Rattle.vx_plan_json.specs.PlanView.{document_of}
 use Rattle.vx_plan_nodes.specs.TypedView.{resolved_of}
