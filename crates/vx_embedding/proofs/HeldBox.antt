@@ -1,6 +1,9 @@
 -- A session that is held, and its parts, own what a box of the session owns.
 use Rattle.std.specs.Prelude.{◌≡◌, Option, Some, None, is_some, true}
-use Rattle.std.proofs.Common.{refl, sym, subst}
+use Rattle.std.proofs.Common.{◌∙◌, ℕ, List, refl, sym, ap, subst}
+use Rattle.vx_relations.specs.Relation.{Relation}
+use Rattle.vx_embedding.specs.Session as specs
+use Rattle.vx_embedding.specs.Opened.{session_of}
 use mathlib.Core.List.{[]}
 use lib.Dec.{T}
 use mir.Syntax.{impl, tnil, dnil}
@@ -28,3 +31,7 @@ FromHeld = plain (λ _. Held.the_row)
 pub some_of : {A : Type 0} (o : Option A) → is_some o ≡ true → (s : A) × (o ≡ Some s)
 some_of (Some s) e = (s, refl)
 some_of None e = absurd (subst T (sym e) tt)
+
+-- a session is one over its relations, with its tables
+pub is_session : (s : specs.Session) (relations : List Relation) (tables : List (List ℕ × List ℕ)) → s.catalog ≡ relations → s.tables ≡ tables → s ≡ session_of relations tables
+is_session s relations tables e f = ap (λ (r : List Relation). session_of r s.tables) e ∙ ap (λ (t : List (List ℕ × List ℕ)). session_of relations t) f
