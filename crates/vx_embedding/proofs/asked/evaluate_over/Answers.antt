@@ -1,9 +1,7 @@
-use Rattle.std.proofs.Common.{rules, ◌≡◌, ℕ, List, sym, subst, map}
-use Rattle.vx_relations.specs.Relation.{Relation}
+use Rattle.std.proofs.Common.{rules, ◌≡◌, sym, subst, map}
 use Rattle.vx_embedding.specs.Session.{Session}
 use Rattle.vx_embedding.specs.Texts.{table_form}
 use Rattle.vx_embedding.specs.Replies.{EvaluatesTo}
-use Rattle.vx_embedding.specs.Opened.{session_of}
 use Rattle.vx_embedding.proofs.HeldBox.{is_session}
 use Rattle.vx_embedding.proofs.asked.evaluate_over.Goals as goal
 
