@@ -3,9 +3,18 @@
  * There are no threads and no globals, so calls may run side by side. Bytes go in as a pointer and a length. The pointer
  * is never null, not even for no bytes. The library reads the bytes while the call runs, and keeps none of them.
  *
- * Each call returns a status, the one with which the program volcano ends: 0 where it answers; 2 for wrong use; 3 where
- * what it was given is refused; 4 where memory ran out or a sum is no number of 64 bits. `volcano_answer` has the text
- * that answers, or says why there is none.
+ * Each call but volcano_catalog_close returns a status, the one with which the program volcano ends: 0 where it answers; 2
+ * for wrong use; 3 where what it was given is refused; 4 where memory ran out or a sum is no number of 64 bits.
+ * `volcano_answer` has the text that answers, or says why there is none.
+ *
+ * Whoever asks about more than one plan over a catalog reads it once:
+ *
+ *     volcano_catalog catalog = {0};
+ *     volcano_answer answer = {0};
+ *     int status = volcano_catalog_open(text, text_length, &catalog, &answer);
+ *     if (status == 0) status = volcano_catalog_check(&catalog, plan, plan_length, &answer);
+ *     free(answer.text);
+ *     volcano_catalog_close(&catalog);
  *
  * The library allocates by malloc and realloc and frees by free, of the program that it is linked into.
  */
@@ -23,9 +32,9 @@ extern "C" {
 /* What a call answers, or why it does not. Let it be all zero before the first call: `volcano_answer answer = {0}`. A call
  * overwrites it, and does not free the text that an earlier call put there. */
 typedef struct volcano_answer {
-    /* After status 0 the text that answers. Else the line that the program prints, as `volcano: K3 PartNotShown node=2`
-     * and a line feed. A zero byte follows. The caller frees it by free(text). Null after status 2, and where memory
-     * ran out. */
+    /* After status 0 the text that answers, and null from volcano_catalog_open. Else the line that the program prints, as
+     * `volcano: K3 PartNotShown node=2` and a line feed. A zero byte follows. The caller frees it by free(text). Null after
+     * status 2, and null or empty where memory ran out. */
     char *text;
     /* How many bytes the text has, without the zero byte. */
     size_t length;
@@ -37,7 +46,7 @@ typedef struct volcano_answer {
     /* The node that the refusal names, numbered in preorder from 0, and whether it names one. */
     uint32_t node;
     bool has_node;
-    /* After volcano_check with status 0: whether the plan says that its rows come in a total order. */
+    /* After volcano_check and volcano_catalog_check with status 0: whether the plan says that its rows come in a total order. */
     bool is_total;
 } volcano_answer;
 
@@ -49,8 +58,40 @@ typedef struct volcano_table {
     size_t text_end;
 } volcano_table;
 
+/* A catalog that was read. Let it be all zero before the first call: `volcano_catalog catalog = {0}`. Only the calls below
+ * change what is in it, and no copy of it is used. It is closed before it is opened and after volcano_catalog_close. Give it to
+ * one call at a time; from one call to the next it may go to another thread. */
+typedef struct volcano_catalog {
+    void *session;
+    bool is_open;
+} volcano_catalog;
+
+/* Reads the catalog that a JSON text is. After status 0 it is open, and holds what the text says; else it is closed. What an
+ * open one held before is let go. The answer has no text after status 0. */
+uint8_t volcano_catalog_open(const uint8_t *text, size_t text_length, volcano_catalog *catalog, volcano_answer *answer);
+
+/* Checks a plan over the catalog that was read: answers as volcano_check does over the text that was read, for every plan and
+ * however many were checked before. Status 2 for a closed one. The catalog stays as it is. */
+uint8_t volcano_catalog_check(volcano_catalog *catalog, const uint8_t *plan, size_t plan_length, volcano_answer *answer);
+
+/* Explains a plan over the catalog that was read, as volcano_explain does over the text. Status 2 for a closed one. The
+ * catalog stays as it is. */
+uint8_t volcano_catalog_explain(volcano_catalog *catalog, const uint8_t *plan, size_t plan_length, volcano_answer *answer);
+
+/* Evaluates a plan without its exchanges over the catalog that was read and tables, as volcano_evaluate does over the text.
+ * Status 2 for a closed one. The catalog stays as it is, and keeps no table. */
+uint8_t volcano_catalog_evaluate(volcano_catalog *catalog, const uint8_t *plan, size_t plan_length, const uint8_t *buffer,
+                                 size_t buffer_length, const volcano_table *tables, size_t table_count,
+                                 volcano_answer *answer);
+
+/* Lets go of the catalog, and of its memory. It is closed afterwards. On a closed one it does nothing. */
+void volcano_catalog_close(volcano_catalog *catalog);
+
+/* The three calls below read the catalog's text anew each time. */
+
 /* Checks a plan over a catalog, both JSON texts. Status 0 only where the catalog is one and the checker accepts the plan:
- * every claim in it is shown. Of such a plan the status is 0, or 4 where memory ran out. The text is `accepted` or `accepted total`, and a line feed. */
+ * every claim in it is shown. Of such a plan the status is 0, or 4 where memory ran out. The text is `accepted` or `accepted
+ * total`, and a line feed. */
 uint8_t volcano_check(const uint8_t *catalog, size_t catalog_length, const uint8_t *plan, size_t plan_length,
                       volcano_answer *answer);
 

@@ -8,7 +8,7 @@ use Rattle.vx_embedding.specs.declared.spans.TableSpan.{TableSpan}
 use Rattle.vx_embedding.specs.declared.spans.SpanFault.{SpanFault}
 use Rattle.vx_embedding.specs.declared.spans.SpanFault.TheVariants as fault
 use Rattle.vx_embedding.specs.Planning.{NoCatalog}
-use Rattle.vx_embedding.specs.Session.{Session}
+use Rattle.vx_embedding.specs.Opened.{session_of}
 use Rattle.vx_embedding.specs.Spans.{cut_table, SpansFail}
 use Rattle.vx_embedding.specs.Replies.{IsRefusalReply, ChecksTo, ExplainsTo, EvaluatesTo}
 use Rattle.vx_embed.specs.declared.answer.Answer.{Answer}
@@ -37,10 +37,6 @@ IsRefusal e status a = (r : Reply) × IsRefusalReply e r × IsGiven r status a
 abbrev pub IsSpanStatus : SpanFault → ℕ → Type 0
 IsSpanStatus fault.Outside status = status ≡ 2
 IsSpanStatus fault.NoMemory status = status ≡ 4
-
--- a session over these relations, with these tables
-abbrev pub session_of : List Relation → List (List ℕ × List ℕ) → Session
-session_of relations tables = record { catalog = relations; tables = tables }
 
 -- the plan was checked over the catalog, or the catalog is none
 pub data ChecksAs (catalog plan : List ℕ) (status : ℕ) (a : Answer) : Type 0 where

@@ -87,13 +87,22 @@ pub fn give_refusal(alloc: Global, refusal: &Refusal, answer: &mut Answer) -> u8
     give(refusal_reply(alloc, refusal), answer)
 }
 
+/// Writes that there is no text, and returns this status.
+pub fn give_none(status: u8, answer: &mut Answer) -> u8
+    ensures status { result ≡ status }
+    ensures length { answer.new.length ≡ 0 }
+    ensures node { answer.new.has_node ≡ false }
+{
+    *answer = nothing();
+    status
+}
+
 /// Writes that there are no tables: status 2 for a span that is not within the bytes, and 4 where memory ran out.
 pub fn give_span(fault: &SpanFault, answer: &mut Answer) -> u8
     ensures { IsSpanStatus fault.now result }
 {
-    *answer = nothing();
     match fault {
-        SpanFault::Outside => 2,
-        SpanFault::NoMemory => 4,
+        SpanFault::Outside => give_none(2, answer),
+        SpanFault::NoMemory => give_none(4, answer),
     }
 }

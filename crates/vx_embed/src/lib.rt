@@ -2,11 +2,16 @@
 #![tactic(auto)]
 
 mod answer;
+mod catalog;
 
 ghost use Rattle.vx_embed.specs.Given.{ChecksAs, ExplainsAs, EvaluatesAs};
 
 pub use answer::Answer;
 use answer::{give, give_refusal, give_span};
+pub use catalog::{
+    volcano_catalog_check, volcano_catalog_close, volcano_catalog_evaluate,
+    volcano_catalog_explain, volcano_catalog_open,
+};
 use std::alloc::Global;
 use vx_embedding::{Session, TableSpan, check_reply, evaluate_reply, explain_reply, tables_in};
 

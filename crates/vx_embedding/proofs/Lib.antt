@@ -1,1 +1,2 @@
 pub mod SerialFacts
+pub mod HeldBox

@@ -5,3 +5,6 @@ pub mod Serial
 pub mod Lines
 pub mod Replies
 pub mod Spans
+pub mod Held
+pub mod Opened
+pub mod Handle

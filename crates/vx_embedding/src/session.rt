@@ -59,6 +59,14 @@ impl Session {
         Session { catalog, tables }
     }
 
+    /// Puts these tables in place of those that there are. Of two texts of one table the first counts.
+    pub fn set_tables(&mut self, tables: Vec<TableText>)
+        ensures catalog { self.new.catalog ≡ self.old.catalog }
+        ensures tables { self.new.tables ≡ map table_form tables.items }
+    {
+        self.tables = tables;
+    }
+
     /// The catalog.
     pub fn catalog(&self) -> &Catalog
         ensures { result.now ≡ self.now.catalog }

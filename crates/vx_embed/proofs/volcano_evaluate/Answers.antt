@@ -1,6 +1,7 @@
 use Rattle.std.proofs.Common.{◌∙◌, ℕ, List, Ok, ap, sym, subst}
 use Rattle.vx_embedding.specs.Replies.{EvaluatesTo}
-use Rattle.vx_embed.specs.Given.{session_of, evaluates, evaluates_none, no_tables}
+use Rattle.vx_embedding.specs.Opened.{session_of}
+use Rattle.vx_embed.specs.Given.{evaluates, evaluates_none, no_tables}
 use Rattle.vx_embed.proofs.volcano_evaluate.Goals as goal
 
 pub returns-in-Err : goal.returns-in-Err

@@ -19,21 +19,24 @@ static uint8_t *file_bytes(const char *path, size_t *length) {
 }
 
 int main(int count, char **words) {
-    int worst = 0;
-    size_t catalog_length = 0;
-    uint8_t *catalog = count > 1 ? file_bytes(words[1], &catalog_length) : NULL;
-    if (!catalog) return 2;
-    for (int i = 2; i < count; i++) {
-        size_t length = 0;
-        volcano_answer answer = {0};
-        uint8_t *plan = file_bytes(words[i], &length);
-        if (!plan) return 2;
-        int status = volcano_check(catalog, catalog_length, plan, length, &answer);
+    size_t length = 0;
+    volcano_catalog catalog = {0};
+    volcano_answer answer = {0};
+    uint8_t *bytes = count > 1 ? file_bytes(words[1], &length) : NULL;
+    if (!bytes) return 2;
+    int worst = volcano_catalog_open(bytes, length, &catalog, &answer);
+    if (worst) fprintf(stderr, "%s", answer.text ? answer.text : "no memory\n");
+    free(answer.text);
+    free(bytes);
+    for (int i = 2; i < count && catalog.is_open; i++) {
+        bytes = file_bytes(words[i], &length);
+        if (!bytes) return 2;
+        int status = volcano_catalog_check(&catalog, bytes, length, &answer);
         printf("%s: %s", words[i], answer.text ? answer.text : "no memory\n");
         free(answer.text);
-        free(plan);
+        free(bytes);
         if (status > worst) worst = status;
     }
-    free(catalog);
+    volcano_catalog_close(&catalog);
     return worst;
 }
