@@ -34,7 +34,7 @@ fn kind_of(alloc: Global, error: &Error) -> Result<String, AllocError> {
 }
 
 // Lines, and what each asks for.
-const ASKED: [(&str, &str); 13] = [
+const ASKED: [(&str, &str); 15] = [
     ("volcano", "Bundle"),
     (
         "volcano check --catalog c --plan=-",
@@ -59,6 +59,14 @@ const ASKED: [(&str, &str); 13] = [
     (
         "volcano annotate --catalog c --plan p",
         r#"Annotate(Sources { catalog: "c", plan: "p" })"#,
+    ),
+    (
+        "volcano sql --catalog c --plan p",
+        r#"Sql(Sources { catalog: "c", plan: "p" }, "sqlite")"#,
+    ),
+    (
+        "volcano sql --dialect=postgres --plan p --catalog -",
+        r#"Sql(Sources { catalog: "-", plan: "p" }, "postgres")"#,
     ),
     ("volcano why K4", r#"Why("K4")"#),
     (
@@ -89,7 +97,7 @@ fn commands_are_there(rt: HostRuntime) -> Result<(), Fail> {
 }
 
 // Lines that are refused, and the kind of each refusal.
-const REFUSED: [(&str, &str); 17] = [
+const REFUSED: [(&str, &str); 19] = [
     ("volcano check --catalog c", "MissingRequiredArgument"),
     (
         "volcano check --catalog c --plan p --data d",
@@ -108,6 +116,11 @@ const REFUSED: [(&str, &str); 17] = [
         "ValueValidation",
     ),
     ("volcano annotate --catalog c", "MissingRequiredArgument"),
+    ("volcano sql --plan p", "MissingRequiredArgument"),
+    (
+        "volcano check --catalog c --plan p --dialect sqlite",
+        "UnknownArgument",
+    ),
     (
         "volcano explain --catalog c --plan p --all",
         "UnknownArgument",
