@@ -1,0 +1,49 @@
+//! The queries of the Wisconsin benchmark over small relations.
+
+use crate::cases::{compare_all, fill};
+use std::alloc::Global;
+use std::test::Fail;
+use vx_bytes::MemoryOut;
+use vx_catalog::{Catalog, Database};
+use vx_wisconsin::{catalog, generate, plan};
+
+// The rows of each relation.
+const ROWS: [u64; 4] = [200, 200, 100, 100];
+
+// The text of so many rows.
+fn text_of(alloc: Global, rows: u64) -> Result<String, Fail> {
+    let mut out = MemoryOut::new(alloc, 1_000_000, 1_000_000_000);
+    generate(alloc, rows, &mut out)?;
+    Ok(String::from_utf8(Vec::from_slice(alloc, out.bytes())?)?)
+}
+
+// The relations with their rows.
+fn filled(alloc: Global) -> Result<Database, Fail> {
+    let catalog = Catalog::read(alloc, catalog().as_bytes())?;
+    let mut database = Database::empty(alloc, &catalog)?;
+    for (relation, rows) in ROWS.iter().enumerate() {
+        let text = text_of(alloc, *rows)?;
+        fill(alloc, &mut database, relation, text.as_str())?;
+    }
+    Ok(database)
+}
+
+// The plans of all queries.
+fn plans(alloc: Global) -> Result<Vec<&'static str>, Fail> {
+    let mut plans = Vec::new(alloc);
+    for query in 1..14 {
+        if let Some(text) = plan(query) {
+            plans.push(text)?;
+        }
+    }
+    Ok(plans)
+}
+
+#[test]
+fn queries_have_their_rows(rt: HostRuntime) -> Result<(), Fail> {
+    let alloc = rt.alloc();
+    let database = filled(alloc)?;
+    let plans = plans(alloc)?;
+    assert_eq!(rt; plans.len(), 13);
+    compare_all(&rt, alloc, &database, plans.as_slice())
+}
