@@ -1,5 +1,5 @@
 -- What each entry point returns and writes for its caller.
-use Rattle.std.specs.Prelude.{◌≡◌, ◌⊎◌, ℕ, List, map, length, Bool, true, false, Option, Some, None, Result, Ok}
+use Rattle.std.specs.Prelude.{◌≡◌, ◌⊎◌, ℕ, List, map, length, Bool, true, false, Option, Some, None, Ok}
 use Rattle.vx_relations.specs.Relation.{Relation}
 use Rattle.vx_relations.specs.Naming.{catalog_text}
 use Rattle.vx_refusals.specs.declared.refusal.Refusal.{Refusal}
