@@ -7,8 +7,8 @@ use Rattle.csv.specs.Records.{field_at}
 use Rattle.vx_values.specs.Types.{type_of}
 use Rattle.vx_catalog.specs.Number.{number_of}
 use Rattle.vx_relations.proofs.Accepted.{ok_bind}
-use Rattle.std.specs.Str.{is_utf8}
-use Rattle.std.proofs.lemmas.Str.{is_utf8-from_IsUtf8, IsUtf8-from_is_utf8}
+use Rattle.std.specs.Str.{is_utf8, IsAscii}
+use Rattle.std.proofs.lemmas.Str.{is_utf8-from_IsUtf8, IsUtf8-from_is_utf8, IsUtf8-from_ascii}
 use Rattle.vx_values.specs.Values.{Row, Val, num, text}
 use Rattle.vx_values.specs.declared.value.ColType.{ColType}
 use Rattle.vx_values.specs.declared.value.ColType.TheVariants as kind
@@ -18,6 +18,9 @@ use Rattle.vx_catalog.specs.declared.fault.LoadFault.TheVariants as fault
 use Rattle.vx_catalog.specs.Records.{Begins}
 use Rattle.vx_catalog.proofs.RowsTold.{RowsSoFar}
 use Rattle.vx_catalog.specs.Loading.{Fails, some_number, value_of, some_value, next_value, row_of, max_rows, row_added, rows_onto}
+
+pub ascii_is_utf8 : (bytes : List ℕ) → IsAscii bytes → IsUtf8 bytes
+ascii_is_utf8 bytes h = IsUtf8-from_ascii bytes h
 
 pub text_read : (row col : ℕ) (field bytes : List ℕ) → IsUtf8 field → bytes ≡ field → value_of row col kind.Text field ≡ Ok (text bytes)
 unfolding value_of

@@ -1,6 +1,6 @@
 //! Rows from records.
 
-ghost use Rattle.std.specs.Prelude.{◌≡◌, ◌≢◌, ◌⊎◌, ◌≤◌, [], map, length, IfOk, OnOk, IfErr, IfSome, IsOkUnless, Err, string_bytes};
+ghost use Rattle.std.specs.Prelude.{◌≡◌, ◌≢◌, ◌⊎◌, ◌≤◌, [], map, length, IfOk, OnOk, IfErr, IfSome, IsUtf8, MatchResult, IsOkUnless, Err, string_bytes};
 ghost use Rattle.std.specs.Option.{option_copied};
 ghost use Rattle.csv.specs.Reading.{source_of, strip_bom};
 ghost use Rattle.csv.specs.Records.{fields_of, field_at};
@@ -18,10 +18,23 @@ use csv::{ByteRecord, Reader};
 use std::alloc::Global;
 use std::io::Read;
 use std::str;
+use std::str::Utf8Error;
 use vx_rows::{Cell, ColType, OpenRows, Table};
 
 // The most rows that a relation may have.
 const MAX_ROWS: usize = 100_000_000;
+
+// A field as a text, if it is UTF-8. Most texts are ASCII, which is tested faster.
+#[tactic(auto, using(crate::proofs::RowFacts::ascii_is_utf8))]
+fn text_of(field: &[u8]) -> Result<&str, Utf8Error>
+    ensures same { IfOk result (λ text. text.now ≡ field.now) }
+    ensures cases { MatchResult result (λ _. IsUtf8 field.now) (λ _. ¬ (IsUtf8 field.now)) }
+{
+    if field.is_ascii() {
+        return Ok(unsafe { str::from_utf8_unchecked(field) });
+    }
+    str::from_utf8(field)
+}
 
 // The value of a field, in a column of this type.
 #[tactic(auto, unfolding(crate::specs::Loading::value_of))]
@@ -38,7 +51,7 @@ fn value_of<'r>(
             Some(n) => Ok(Cell::Int(n)),
             None => Err(LoadFault::BadInt { row, col }),
         },
-        ColType::Text => match str::from_utf8(field) {
+        ColType::Text => match text_of(field) {
             Ok(text) => Ok(Cell::Text(text)),
             Err(_) => Err(LoadFault::NotUtf8 { row }),
         },
