@@ -1,9 +1,11 @@
 -- What is read of a field byte by byte is `number_of` of it.
-use Rattle.std.proofs.Common.{◌≡◌, ◌≢◌, ℕ, zero, suc, ◌+◌, ◌*◌, ◌-◌, ◌<◌, ◌≤◌, List, [], ◌∷◌, Option, Some, None, Bool, true, false, cond, refl, length, get_or, take, drop, arith, not, ◌&&◌, ◌==◌, w64, rules}
+use Rattle.std.proofs.Common.{◌≡◌, ◌≢◌, ℕ, zero, suc, ◌+◌, ◌*◌, ◌-◌, ◌<◌, ◌≤◌, List, [], ◌∷◌, Option, Some, None, Bool, true, false, cond, refl, length, get_or, take, drop, arith, not, ◌&&◌, ◌==◌, w64, to_z, rules}
 use Rattle.std.proofs.lemmas.Bool.{and_parts, and_from}
 use Rattle.std.proofs.lemmas.Grind.{common_steps}
-use Rattle.std.proofs.lemmas.Str.Parse.{numerals_by_value, tells_all_ascii_digits, IsNumeralModel, digit_at, digits_value-take-le, without_leading_plus_none}
+use Rattle.std.proofs.lemmas.Str.Parse.{numerals_by_value, tells_all_ascii_digits, IsNumeralModel, digit_at, digits_value_short, digits_value-take-le, without_leading_plus_none}
 use Rattle.std.proofs.lemmas.Int.Digits.{digits_more, digits_value_more}
+use Rattle.std.proofs.lemmas.Int.{to_z_pos}
+use Rattle.std.proofs.lemmas.List.{length-take-le, take_all}
 use Rattle.std.specs.Prelude.{ℤ, pos, negsuc, neg_ℤ, FitsSigned, SomeIff}
 use Rattle.std.specs.Borrow.{Bor}
 use Rattle.std.specs.Option.{option_copied}
@@ -68,7 +70,7 @@ minus_fits (suc n) h = search rules
 behind_minus : (ds : List ℕ) (r : Option ℤ) → SomeIff r (IsNumeral 10 ds × (digits_value 10 ds ≤ 9223372036854775808)) (neg_ℤ (pos (digits_value 10 ds))) → r ≡ number_of (45 ∷ ds)
 behind_minus ds r h = number_is (45 ∷ ds) r (same_tests r _ (λ p. (p.0, fits_minus _ p.1)) (λ p. (p.0, minus_fits _ p.1)) h)
 
-fits_plus : (n : ℕ) → n < 9223372036854775808 → FitsSigned w64 (pos n)
+pub fits_plus : (n : ℕ) → n < 9223372036854775808 → FitsSigned w64 (pos n)
 fits_plus n h = search rules
 
 plus_fits : (n : ℕ) → FitsSigned w64 (pos n) → n < 9223372036854775808
@@ -130,3 +132,33 @@ too_large bs i value h e f s =
     let more = digits_value_more 10 bs i h in
     let all = digits_value-take-le 10 bs (i + 1) (omega arith) in
     omega arith
+
+-- ---- few digits, which 63 bits hold
+
+digit_is_no_sign : (c : ℕ) → IsInRange 48 57 c → (c ≢ 45) × (c ≢ 43)
+digit_is_no_sign c r = (λ e. let low = r.0 in omega (arith, low, e), λ e. let low = r.0 in omega (arith, low, e))
+
+pub few_before : (bs : List ℕ) (i : ℕ) → i < length bs → length bs ≤ 18 → AllDigits 10 (take i bs) → digits_value 10 (take i bs) < 100000000000000000
+few_before bs i h l a =
+    let long = length-take-le i bs (omega arith) in
+    digits_value_short model (take i bs) 17 (model.from (take i bs) a) (omega (arith, long))
+
+pub few_below : (bs : List ℕ) → length bs ≤ 18 → AllDigits 10 bs → digits_value 10 bs < 9223372036854775808
+few_below bs l a =
+    let few : digits_value 10 bs < 1000000000000000000 = digits_value_short model bs 18 (model.from bs a) l in
+    omega (arith, few)
+
+pub few_done : (bs : List ℕ) (i value : ℕ) → 0 < length bs → length bs ≤ 18 → length bs ≤ i → AllDigits 10 (take i bs) → value ≡ digits_value 10 (take i bs)
+    → IsNumeral 10 bs × (to_z w64 value ≡ pos (digits_value 10 bs)) × (value < 9223372036854775808)
+few_done bs i value some l end a v =
+    let whole : take i bs ≡ bs = take_all i bs end in
+    let digits = rw whole at a in
+    let is = rw whole at v in
+    let below = few_below bs l digits in
+    ((some, digits), rw is (to_z_pos w64 (digits_value 10 bs) below), rw is below)
+
+-- digits alone, few enough for 63 bits
+pub few_digits : (bs : List ℕ) (x : ℤ) → length bs ≤ 18 → IsNumeral 10 bs → x ≡ pos (digits_value 10 bs) → Some x ≡ number_of bs
+few_digits bs x l n e =
+    let no = digit_is_no_sign (get_or bs 0 0) (digit_at bs 0 n.1 n.0) in
+    with_none bs (Some x) no.0 no.1 ((n, few_below bs l n.1), e)

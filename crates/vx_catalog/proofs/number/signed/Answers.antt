@@ -2,7 +2,7 @@ use Rattle.std.proofs.Common.{◌∙◌, arith, refl}
 use Rattle.std.proofs.lemmas.List.{take_rest}
 use Rattle.vx_catalog.specs.Number.{number_of}
 use Rattle.vx_catalog.proofs.NumberFacts.{with_minus, with_plus, with_none, first_is, first_is_none}
-use Rattle.vx_catalog.proofs.number.number_of.Goals as goal
+use Rattle.vx_catalog.proofs.number.signed.Goals as goal
 
 pub returns-in_err-sign : goal.returns-in_err-sign
 unfolding number_of
