@@ -9,4 +9,5 @@ pub mod Texts
 pub mod Numbers
 pub mod Columns
 pub mod Open
+pub mod Parts
 pub mod Hashing

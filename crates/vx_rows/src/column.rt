@@ -44,6 +44,28 @@ impl Column {
         }
     }
 
+    /// How many values there are.
+    pub fn len(&self) -> usize
+        ensures { result ≡ size self.now }
+    {
+        match self {
+            Column::Int(v) => v.len(),
+            Column::Text(t) => t.len(),
+        }
+    }
+
+    /// Keeps the first `at` values.
+    pub fn truncate(&mut self, at: usize)
+        requires { at ≤ size self.old }
+        ensures front { KeepsFront at self.old self.new }
+        ensures long { size self.new ≡ at }
+    {
+        match self {
+            Column::Int(v) => v.truncate(at),
+            Column::Text(t) => t.truncate(at),
+        }
+    }
+
     /// The values, where they are numbers.
     pub fn numbers(&self) -> Option<&Numbers>
         ensures some { IfSome result (λ _. column_type self.now ≡ kind.Int) }

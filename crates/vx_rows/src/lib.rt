@@ -5,6 +5,7 @@ mod clash;
 mod column;
 mod numbers;
 mod open;
+mod parts;
 mod row;
 mod sorting;
 mod spans;

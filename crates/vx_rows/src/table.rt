@@ -1,12 +1,12 @@
 //! Rows that fit one list of types, kept by columns.
 
-ghost use Rattle.std.specs.Prelude.{◌≡◌, ◌↔◌, ◌+◌, ◌-◌, ◌<◌, ◌≤◌, ◌++◌, ◌∷◌, [], length, max, map, take, zip, slice_range, OnOk, OnErr, IfOk, IsTrue};
+ghost use Rattle.std.specs.Prelude.{◌≡◌, ◌↔◌, ℕ, ◌+◌, ◌-◌, ◌<◌, ◌≤◌, ◌++◌, ◌∷◌, [], length, max, map, take, zip, slice_range, OnOk, OnErr, IfOk, IsTrue};
 ghost use Rattle.std.specs.List.{AllByRecursion};
 ghost use Rattle.vx_values.specs.Values.{pick, value_at};
 ghost use Rattle.vx_values.specs.ValueView.{val_of, cell_val};
 ghost use Rattle.vx_rows.specs.View.{HasTypes, row, AreColumns, ArePositions};
 ghost use Rattle.vx_values.specs.Types.{type_at, Fits};
-ghost use Rattle.vx_rows.specs.Columns.{entry, rows_of, AreRows};
+ghost use Rattle.vx_rows.specs.Columns.{column_type, size, entry, rows_of, AreRows};
 
 use crate::column::Column;
 use crate::numbers::Numbers;
@@ -42,7 +42,7 @@ fn put_key(alloc: Global, key: &mut Vec<Value>, j: usize, cell: Cell<'_>) -> Res
 #[derive(Debug)]
 pub struct Table {
     types: Vec<ColType>,
-    columns: Vec<Column>,
+    pub(crate) columns: Vec<Column>,
     pub(crate) count: usize,
 }
 
@@ -108,6 +108,24 @@ impl Table {
         ensures fit { AllByRecursion (Fits self.now.types) self.now.rows }
     {
         self.types.as_slice()
+    }
+
+    /// How many rows there are, all of which fit the types: `len` does not say so much.
+    pub(crate) fn count_fitting(&self) -> usize
+        ensures count { result ≡ length self.now.rows }
+        ensures fit { AllByRecursion (Fits self.now.types) self.now.rows }
+    {
+        self.count
+    }
+
+    /// The values of a column, that of row i at position i. More may follow the last row's.
+    pub(crate) fn column(&self, j: usize) -> &Column
+        requires { j < length self.now.types }
+        ensures kind { column_type result.now ≡ type_at self.now.types j }
+        ensures long { length self.now.rows ≤ size result.now }
+        ensures values { (k : ℕ) → k < length self.now.rows → entry result.now k ≡ value_at (row self.now k) j }
+    {
+        &self.columns[j]
     }
 
     /// Whether a row of these values fits the types.

@@ -93,6 +93,19 @@ fn put_text(
     Ok(())
 }
 
+// Leaves the first `at` texts.
+fn cut_back(bytes: &mut Vec<u8>, cuts: &mut Vec<usize>, at: usize)
+    requires old { AreCuts bytes.old.items cuts.old.items }
+    requires near { at < length cuts.old.items }
+    ensures cuts { AreCuts bytes.new.items cuts.new.items }
+    ensures kept { (k : ℕ) → k < at → piece bytes.new.items cuts.new.items k ≡ piece bytes.old.items cuts.old.items k }
+    ensures long { length cuts.new.items ≡ at + 1 }
+{
+    let start = cuts[at];
+    bytes.truncate(start);
+    cuts.truncate(at + 1);
+}
+
 /// Texts in UTF-8 that lie one after another in one list of bytes.
 #[derive(Debug, Drop)]
 pub struct Texts {
@@ -201,6 +214,15 @@ impl Texts {
             )?;
         }
         Ok(())
+    }
+
+    /// Keeps the first `at` texts.
+    pub(crate) fn truncate(&mut self, at: usize)
+        requires { at ≤ length self.old }
+        ensures kept { (k : ℕ) → k < at → slice_index_or self.new k [] ≡ slice_index_or self.old k [] }
+        ensures long { length self.new ≡ at }
+    {
+        cut_back(&mut self.bytes, &mut self.cuts, at);
     }
 
     /// Makes room for so many more texts, but for none of their bytes.
