@@ -1,3 +1,4 @@
+pub mod HalfFacts
 pub mod PhaseEqual
 pub mod ErasedFacts
 pub mod OutputFacts
