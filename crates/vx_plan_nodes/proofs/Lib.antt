@@ -1,3 +1,4 @@
+pub mod NameFacts
 pub mod HalfFacts
 pub mod PhaseEqual
 pub mod ErasedFacts
