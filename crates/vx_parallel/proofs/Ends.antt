@@ -24,12 +24,13 @@ use Rattle.vx_exec.specs.Crew.{IsNew}
 use Rattle.vx_exec.specs.Job.{model_of}
 use Rattle.vx_exec.specs.Making.{board_of}
 use Rattle.vx_exec.specs.Runs.{ComesTo, IsTrueOf}
+use Rattle.vx_exec.specs.declared.counts.WorkerCounts.{WorkerCounts}
 use Rattle.vx_exec.specs.declared.crew.Crew.{Crew}
 use Rattle.vx_exec.specs.declared.job.Job.{Job}
 use Rattle.vx_exec.specs.declared.ran.Ran.{Ran}
 use Rattle.vx_exec.specs.declared.ran.Ran.TheVariants as ran
 use Rattle.vx_parallel.specs.Crew.{AreNew}
-use Rattle.vx_parallel.specs.Parallel.{IsReportedByThreads, IsWhole, NeedsFew}
+use Rattle.vx_parallel.specs.Parallel.{IsReportedByThreads, IsWhole, NeedsFew, IsCountedCrew, CountedByThreads}
 
 -- the workers of a crew are new
 pub new-parts : (j : Job) (crew : Crew) (ws : Vec (Worker Operator Destination) Global) (w : LinksView) → ws ≡ crew.workers → w ≡ board_of crew
@@ -88,3 +89,16 @@ refusal-few (Err y) e most n h k = λ lt. elim k [
   | inl m ↦ inr (ap (λ z. Err z) (h ∙ m))
   | inr t ↦ inl (ap (λ z. Err z) (h ∙ t))
 ]
+
+pub refusal-counted : (r : Result Ran RunFault) (e : RunFault) (W : RunModel) (p : Plan) (counts : List WorkerCounts) → IsErrAnd r (λ y. y ≡ e) → IsRefusal e
+    → CountedByThreads W p r counts
+refusal-counted (Ok x) e W p counts h k = absurd h
+refusal-counted (Err y) e W p counts h k = elim k [
+  | inl m ↦ inl (h ∙ m)
+  | inr t ↦ inr (inl (h ∙ t))
+]
+
+-- the workers came to this, whatever it is
+pub counted-reported : (r : Result Ran RunFault) (W : RunModel) (p : Plan) (counts : List WorkerCounts) → IsCountedCrew W p r counts → CountedByThreads W p r counts
+counted-reported (Ok x) W p counts h = h
+counted-reported (Err e) W p counts h = inr (inr h)
