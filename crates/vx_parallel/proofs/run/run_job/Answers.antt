@@ -10,7 +10,7 @@ use Rattle.vx_exec.specs.Runs.{IsTrueOf, IsFirstReported}
 use Rattle.vx_exec.proofs.Outcomes.{failed-by}
 use Rattle.vx_exec.proofs.Finishing.{job-accepted, ready-parts, ready-count, has-ended, first-types, not-passed, comes-done, comes-failed, comes-first}
 use Rattle.vx_parallel.specs.Parallel.{IsReportedByThreads}
-use Rattle.vx_parallel.proofs.Ends.{new-parts, comes-whole, refusal-failed, refusal-first, refusal-few, refusal-counted, counted-reported}
+use Rattle.vx_parallel.proofs.Ends.{new-parts, comes-whole, refusal-failed, refusal-first, refusal-few, refusal-counted, counted-reported, same-count}
 use Rattle.vx_setup.specs.declared.fault.RunFault.TheVariants as fault
 use Rattle.vx_parallel.proofs.run.run_job.Goals as goal
 
