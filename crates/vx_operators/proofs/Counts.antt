@@ -1,5 +1,6 @@
 -- The counts of an operator stay those of its ledger.
-use Rattle.std.proofs.Common.{ℕ, zero, suc, ◌≡◌, ◌+◌, ◌-◌, ◌^◌, ◌≤◌, ◌<◌, ◌==◌, min, List, [], ◌∷◌, ◌++◌, length, Some, None, cond, refl, sym, ap, ◌∙◌, arith}
+use Rattle.std.proofs.Common.{ℕ, zero, suc, ◌≡◌, ◌+◌, ◌-◌, ◌^◌, ◌≤◌, ◌<◌, ◌==◌, min, List, [], ◌∷◌, ◌++◌, length, Some, None, cond, inl, inr, refl, sym, ap, ◌∙◌, arith}
+use Rattle.std.proofs.lemmas.Bool.{cases_lt}
 use Rattle.std.proofs.lemmas.Bool.Decides.{nat_tests}
 use Rattle.std.proofs.lemmas.List.{length-append}
 use Rattle.vx_values.specs.Values.{Row}
@@ -40,12 +41,12 @@ sum-same (suc n) f g same =
 -- where one number below the bound grows by 1, so does the sum
 sum-one-more : (n i : ℕ) (f g : ℕ → ℕ) → i < n → g i ≡ f i + 1 → ((j : ℕ) → (j ≡ i → ⊥) → g j ≡ f j) → sum_below n g ≡ sum_below n f + 1
 sum-one-more zero i f g lt one same = absurd (omega arith)
-sum-one-more (suc n) i f g lt one same = elim (Rattle.std.proofs.Common.lt_or_ge i n) [
-  | Rattle.std.proofs.Common.inl less ↦
+sum-one-more (suc n) i f g lt one same = elim (cases_lt i n) [
+  | inl less ↦
       let below : sum_below n g ≡ sum_below n f + 1 = sum-one-more n i f g less one same in
       let here : g n ≡ f n = same n (λ e. omega arith) in
       omega arith
-  | Rattle.std.proofs.Common.inr ge ↦
+  | inr ge ↦
       let is : i ≡ n = omega arith in
       let below : sum_below n g ≡ sum_below n f = sum-same n f g (λ j less. same j (λ e. omega arith)) in
       let here : g n ≡ f n + 1 = ap (λ k. g k) (sym is) ∙ one ∙ ap (λ k. f k + 1) is in
@@ -64,9 +65,9 @@ module _ (came : ℕ → List PacketView) (i : ℕ) (p : PacketView) where
 
   -- the place of the packet is below any place from which on no producer sent one
   place-below : (n : ℕ) → ((j : ℕ) → n ≤ j → with_packet came i (Some p) j ≡ []) → i < n
-  place-below n none = elim (Rattle.std.proofs.Common.lt_or_ge i n) [
-    | Rattle.std.proofs.Common.inl less ↦ less
-    | Rattle.std.proofs.Common.inr ge ↦
+  place-below n none = elim (cases_lt i n) [
+    | inl less ↦ less
+    | inr ge ↦
         let empty : length (with_packet came i (Some p) i) ≡ 0 = ap length (none i ge) in
         let some = length-same in
         absurd (omega arith)

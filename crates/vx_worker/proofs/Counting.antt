@@ -1,5 +1,5 @@
 -- What is said of a worker does not depend on what it counted.
-use Rattle.std.proofs.Common.{ℕ, List}
+use Rattle.std.proofs.Common.{ℕ, ◌≡◌, List, Bool, refl}
 use Rattle.vx_values.specs.Values.{Row}
 use Rattle.vx_values.specs.declared.value.ColType.{ColType}
 use Rattle.vx_plan_nodes.specs.Routes.{Routing}
@@ -8,10 +8,11 @@ use Rattle.vx_ops.specs.Ledger.{Stream, Ledger, Op}
 use Rattle.vx_ops.specs.Turn.{Shape}
 use Rattle.vx_ops.specs.declared.turn.Want.{Want}
 use Rattle.vx_ends.specs.Tasks.{Task, Post}
-use Rattle.std.proofs.Common.{Bool}
-use Rattle.vx_worker.specs.Trace.{Event, Trace}
+use Rattle.vx_worker.specs.Trace.{Event, idle, drew_one, took_one, put_one, Trace}
 use Rattle.vx_worker.specs.Answering.{Waits, none_came, none_drains, is_full, no_memory}
-use Rattle.vx_worker.specs.Worker.{IsReady, IsReadyIn, IsGoing, IsClosing, IsRunning, StandsIn, WorkerStands}
+use Rattle.vx_worker.specs.Counts.{with_event}
+use Rattle.vx_worker.specs.Intake.{IsRead, IsTake}
+use Rattle.vx_worker.specs.Worker.{IsReady, IsReadyIn, StandsIn, WorkerStands}
 use Rattle.vx_worker.specs.declared.counts.StepCounts.{StepCounts}
 use Rattle.vx_worker.specs.declared.intake.Intake.{Intake}
 use Rattle.vx_worker.specs.declared.tree.Tree.{Tree}
@@ -59,3 +60,16 @@ module _ {O S : Type 0} (w : Worker O S) (n : StepCounts) where
 
     pub stands-counted : WorkerStands OS op SS task goes m w t → WorkerStands OS op SS task goes m (record w { counts = n }) t
     stands-counted h = (h.0, stands-in w.phase h.1)
+
+-- a draw or a take is not counted as a put
+pub read-counted : (k : Intake) (c : StepCounts) (e : Event) → IsRead k e → c ≡ with_event c e
+read-counted k c idle h = refl
+read-counted k c (drew_one n d) h = refl
+read-counted k c (took_one x i o) h = refl
+read-counted k c (put_one j p) h = absurd h
+
+pub take-counted : (c : StepCounts) (e : Event) → IsTake e → c ≡ with_event c e
+take-counted c idle h = refl
+take-counted c (drew_one n d) h = refl
+take-counted c (took_one x i o) h = refl
+take-counted c (put_one j p) h = absurd h
