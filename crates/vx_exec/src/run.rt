@@ -154,15 +154,7 @@ pub fn run_rounds<R: Router>(
         → InRounds (R.route_of router.now) (run_model (R.route_of router.now) (typed_plan plan.now) database.now s) (whole_plan (typed_plan plan.now)) limit result }
 {
     let mut unread = RunCounts::unread(alloc);
-    run_rounds_counted(
-        alloc,
-        plan,
-        database,
-        setup,
-        router,
-        limit,
-        &mut unread,
-    )
+    run_rounds_counted(alloc, plan, database, setup, router, limit, &mut unread)
 }
 
 /// A run of a plan over a database: at most so many rounds, in each of which every worker makes one step, in number order. Once all

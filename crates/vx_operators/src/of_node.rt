@@ -41,7 +41,8 @@ pub fn unary_operator(
         Unary::Select(conditions) => {
             let copies = copied_conditions(alloc, conditions.as_slice())?;
             let types = Vec::from_slice(alloc, input)?;
-            Ok(Operator::of(number, OperatorKind::Select(Select::new(alloc, number, copies, types))))
+            let select = Select::new(alloc, number, copies, types);
+            Ok(Operator::of(number, OperatorKind::Select(select)))
         }
         Unary::Project(kept) => {
             let columns = kept_columns(alloc, kept.as_slice())?;
@@ -87,7 +88,8 @@ pub fn binary_operator(
     match binary {
         Binary::Union => {
             let types = Vec::from_slice(alloc, left)?;
-            Ok(Operator::of(number, OperatorKind::Union(Union::new(number, types))))
+            let union = Union::new(number, types);
+            Ok(Operator::of(number, OperatorKind::Union(union)))
         }
         Binary::HashJoin(on) => {
             let on = Vec::from_slice(alloc, on.as_slice())?;

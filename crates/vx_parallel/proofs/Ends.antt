@@ -1,6 +1,5 @@
 -- What a run in threads comes to, from what its workers came to.
 use Rattle.std.proofs.Common.{Vec, Global, ◌≡◌, ◌⊎◌, ℕ, List, Ok, Err, Result, IfOk, IfErr, refl, sym, ap, ◌∙◌, subst, inl, inr, map, length, vec_len, arith}
-
 use Rattle.std.specs.List.{All}
 use Rattle.std.specs.Result.{IsErrAnd}
 use Rattle.vx_values.specs.Values.{Row}
