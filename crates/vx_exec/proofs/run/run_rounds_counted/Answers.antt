@@ -3,9 +3,10 @@ use Rattle.vx_plan_nodes.specs.TypedView.{resolved_of, plan as whole_plan}
 use Rattle.vx_check_rules.specs.CheckedView.{typed_plan}
 use Rattle.vx_exec.specs.Job.{sizes_of}
 use Rattle.vx_exec.specs.Sizes.{Sizes, run_model}
-use Rattle.vx_exec.specs.Runs.{InRounds, IsTrueOf, IsFirstReported, IsSetUp, RunFails, for_fault}
-use Rattle.vx_exec.proofs.Outcomes.{rounds-nothing, failed-by, err-reported, of-job, ok-reported}
-use Rattle.vx_exec.proofs.run.run_rounds.Goals as goal
+use Rattle.vx_exec.specs.Counts.{counts_in}
+use Rattle.vx_exec.specs.Runs.{InRounds, CountedInRounds, IsTrueOf, IsFirstReported, IsSetUp, RunFails, for_fault}
+use Rattle.vx_exec.proofs.Outcomes.{rounds-nothing, counted-nothing, failed-by, err-reported, of-job, ok-reported}
+use Rattle.vx_exec.proofs.run.run_rounds_counted.Goals as goal
 
 pub returns-clause-refused : goal.returns-clause-refused
 returns-clause-refused g c =
@@ -51,4 +52,19 @@ returns-in_err-job-clause-rounds g c = λ s set.
     let p = typed_plan c.args.plan.now in
     let hash = g.R.Router.route_of c.args.router.now in
     rounds-nothing hash (run_model hash p c.args.database.now s) (whole_plan p) c.from_residual.result c.in_err-job.field-0.0 c.args.limit c.from_residual.ensures.1
+    (c.in_err-job.ensures.memory s (subst (λ z. IsSetUp (resolved_of z) c.args.database.now c.args.setup.now s) (sym c.plan.ensures.same) set))
+
+pub returns-clause-counted : goal.returns-clause-counted
+returns-clause-counted g c = λ wanted s set.
+    let j = c.in_ok-job.job in
+    let hash = g.R.Router.route_of c.args.router.now in
+    let mine = subst (λ z. IsSetUp (resolved_of z) c.args.database.now c.args.setup.now (sizes_of j)) c.plan.ensures.same c.in_ok-job.ensures.set in
+    of-job (λ p db z. CountedInRounds hash (run_model hash p db z) (whole_plan p) c.args.limit c.run_job.result (counts_in c.run_job.new.counts))
+    j (typed_plan c.args.plan.now) c.args.database.now c.args.setup.now s (c.in_ok-job.ensures.plan ∙ c.plan.ensures.same) c.in_ok-job.ensures.database mine set (c.run_job.ensures.counted wanted)
+
+pub returns-in_err-job-clause-counted : goal.returns-in_err-job-clause-counted
+returns-in_err-job-clause-counted g c = λ wanted s set.
+    let p = typed_plan c.args.plan.now in
+    let hash = g.R.Router.route_of c.args.router.now in
+    counted-nothing hash (run_model hash p c.args.database.now s) (whole_plan p) c.from_residual.result c.in_err-job.field-0.0 c.args.limit (counts_in c.args.counts.now) c.from_residual.ensures.1
     (c.in_err-job.ensures.memory s (subst (λ z. IsSetUp (resolved_of z) c.args.database.now c.args.setup.now s) (sym c.plan.ensures.same) set))
