@@ -10,8 +10,10 @@ mod failing;
 mod files;
 mod forms;
 mod laws;
+mod plans;
 mod program;
 mod run;
+mod runs;
 mod serial;
 mod statement;
 

@@ -85,8 +85,8 @@ fn ran_over<T: Threads + Wait + Sync>(
     }
 }
 
-// The text of a run of a plan over a database.
-fn run_over<T: Threads + Wait + Sync>(
+/// The text of a run of a plan over a database.
+pub fn run_over<T: Threads + Wait + Sync>(
     rt: &T,
     alloc: Global,
     setting: &Setting,

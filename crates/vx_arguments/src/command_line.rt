@@ -3,7 +3,7 @@
 ghost use Rattle.std.specs.Prelude.{◌≡◌, IfOk, false, codes};
 ghost use Rattle.clap.specs.Words.{app_of, rule_of};
 ghost use Rattle.clap.specs.declared.builder.command.Command.TheViews.{out-Command as fields_of};
-ghost use Rattle.vx_arguments.specs.Asked.{path_rule, number_rule, rows_rule, word_rule, flag_rule, code_rule, sizes_rule, judging_app, serial_app, run_app, check_app, explain_app, sql_app, why_app, gen_app, program_app, volcano_app};
+ghost use Rattle.vx_arguments.specs.Asked.{path_rule, plans_rule, number_rule, rows_rule, word_rule, flag_rule, code_rule, sizes_rule, verbose_rule, reading_app, judging_app, serial_app, run_app, check_app, explain_app, annotate_app, sql_app, why_app, gen_app, program_app, volcano_app};
 
 use clap::{Arg, ArgAction, Command, value_parser};
 use std::alloc::{AllocError, Global};
@@ -112,6 +112,16 @@ fn all_option<'a>(alloc: Global) -> Arg<'a>
         .action(ArgAction::SetTrue)
 }
 
+fn verbose_option<'a>(alloc: Global) -> Arg<'a>
+    ensures rule { rule_of result ≡ verbose_rule }
+    ensures own { result.global ≡ false }
+{
+    Arg::new(alloc, "verbose-errors")
+        .long("verbose-errors")
+        .help("Behind a refusal, a line that says where in the files it was found")
+        .action(ArgAction::SetTrue)
+}
+
 fn code_argument<'a>(alloc: Global) -> Arg<'a>
     ensures rule { rule_of result ≡ code_rule }
     ensures own { result.global ≡ false }
@@ -156,6 +166,19 @@ fn plan_option<'a>(alloc: Global) -> Arg<'a>
     )
 }
 
+fn plans_option<'a>(alloc: Global) -> Arg<'a>
+    ensures rule { rule_of result ≡ plans_rule }
+    ensures own { result.global ≡ false }
+{
+    path_option(
+        alloc,
+        "plan",
+        "FILE",
+        "The plan, as JSON; of several, each is run over the same tables, which are loaded once",
+    )
+    .action(ArgAction::Append)
+}
+
 fn data_option<'a>(alloc: Global) -> Arg<'a>
     ensures rule { rule_of result ≡ path_rule (codes "data") }
     ensures own { result.global ≡ false }
@@ -168,6 +191,25 @@ fn data_option<'a>(alloc: Global) -> Arg<'a>
     )
 }
 
+// A command that reads a catalog, and plans by this option.
+fn reading<'a>(
+    alloc: Global,
+    name: &'a str,
+    about: &'a str,
+    example: &'a str,
+    plan: Arg<'a>,
+) -> Result<Command<'a>, AllocError>
+    requires own { plan.global ≡ false }
+    ensures app { IfOk result (λ c. app_of c ≡ reading_app name.entry.now (rule_of plan.entry)) }
+    ensures local { IfOk result (λ c. (fields_of c).has_globals ≡ false) }
+{
+    Command::new(alloc, name)
+        .about(about)
+        .after_help(example)
+        .arg(catalog_option(alloc))?
+        .arg(plan)
+}
+
 // A command that reads a catalog and a plan alone.
 fn judging<'a>(
     alloc: Global,
@@ -178,11 +220,7 @@ fn judging<'a>(
     ensures app { IfOk result (λ c. app_of c ≡ judging_app name.entry.now) }
     ensures local { IfOk result (λ c. (fields_of c).has_globals ≡ false) }
 {
-    Command::new(alloc, name)
-        .about(about)
-        .after_help(example)
-        .arg(catalog_option(alloc))?
-        .arg(plan_option(alloc))
+    reading(alloc, name, about, example, plan_option(alloc))
 }
 
 fn serial<'a>(alloc: Global) -> Result<Command<'a>, AllocError>
@@ -195,18 +233,20 @@ fn serial<'a>(alloc: Global) -> Result<Command<'a>, AllocError>
         "Evaluates the plan without its exchanges and prints the rows as CSV; the notes of the plan are not checked",
         "Example: volcano serial --catalog catalog.json --plan plan.json --data tables",
     )?
-    .arg(data_option(alloc))
+    .arg(data_option(alloc))?
+    .arg(verbose_option(alloc))
 }
 
 fn run<'a>(alloc: Global) -> Result<Command<'a>, AllocError>
     ensures app { IfOk result (λ c. app_of c ≡ run_app) }
     ensures local { IfOk result (λ c. (fields_of c).has_globals ≡ false) }
 {
-    judging(
+    reading(
         alloc,
         "run",
         "Runs a plan that the checker accepts, with many workers, and prints the rows as CSV",
         "Example: volcano run --catalog catalog.json --plan plan.json --data tables many=4",
+        plans_option(alloc),
     )?
     .arg(data_option(alloc))?
     .arg(number_option(
@@ -228,6 +268,7 @@ fn run<'a>(alloc: Global) -> Result<Command<'a>, AllocError>
         "The most packets that wait between two workers, 1 to 1024",
     ))?
     .arg(mode_option(alloc))?
+    .arg(verbose_option(alloc))?
     .arg(sizes_argument(alloc))
 }
 
@@ -241,7 +282,8 @@ fn check<'a>(alloc: Global) -> Result<Command<'a>, AllocError>
         "Says whether every note of the plan follows: `accepted`, `accepted total`, or the first note that does not",
         "Example: volcano check --catalog catalog.json --plan plan.json",
     )?
-    .arg(all_option(alloc))
+    .arg(all_option(alloc))?
+    .arg(verbose_option(alloc))
 }
 
 fn explain<'a>(alloc: Global) -> Result<Command<'a>, AllocError>
@@ -254,11 +296,12 @@ fn explain<'a>(alloc: Global) -> Result<Command<'a>, AllocError>
         "Prints a plan that the checker accepts: as a text with a line for each node, as JSON, or as a picture for Graphviz",
         "Example: volcano explain --catalog catalog.json --plan plan.json",
     )?
-    .arg(format_option(alloc))
+    .arg(format_option(alloc))?
+    .arg(verbose_option(alloc))
 }
 
 fn annotate<'a>(alloc: Global) -> Result<Command<'a>, AllocError>
-    ensures app { IfOk result (λ c. app_of c ≡ judging_app (codes "annotate")) }
+    ensures app { IfOk result (λ c. app_of c ≡ annotate_app) }
     ensures local { IfOk result (λ c. (fields_of c).has_globals ≡ false) }
 {
     judging(
@@ -266,7 +309,8 @@ fn annotate<'a>(alloc: Global) -> Result<Command<'a>, AllocError>
         "annotate",
         "Prints the plan, as JSON, with the notes that follow at each node in place of its own",
         "Example: volcano annotate --catalog catalog.json --plan plan.json",
-    )
+    )?
+    .arg(verbose_option(alloc))
 }
 
 fn sql<'a>(alloc: Global) -> Result<Command<'a>, AllocError>
@@ -279,7 +323,8 @@ fn sql<'a>(alloc: Global) -> Result<Command<'a>, AllocError>
         "Prints the plan without its exchanges as one statement of SQL; the notes of the plan are not checked",
         "Example: volcano sql --catalog catalog.json --plan plan.json --dialect postgres",
     )?
-    .arg(dialect_option(alloc))
+    .arg(dialect_option(alloc))?
+    .arg(verbose_option(alloc))
 }
 
 fn why<'a>(alloc: Global) -> Result<Command<'a>, AllocError>
