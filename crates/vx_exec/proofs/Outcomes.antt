@@ -16,7 +16,7 @@ use Rattle.vx_exec.specs.Runs.{NamesFirst, IsSetUp, IsScheduled, IsInRounds, Sch
 use Rattle.vx_setup.specs.declared.fault.RunFault.{RunFault}
 use Rattle.vx_setup.specs.declared.fault.RunFault.TheVariants as fault
 use Rattle.vx_exec.specs.declared.job.Job.{Job}
-use Rattle.vx_exec.specs.declared.counts.WorkerCounts.{WorkerCounts}
+use Rattle.vx_exec.specs.declared.counted.WorkerCounts.{WorkerCounts}
 use Rattle.vx_exec.specs.declared.ran.Ran.{Ran}
 
 ok-is : (s t : Sizes) → ◌≡◌ {A = Result Sizes SetupRefusal} (Ok s) (Ok t) → s ≡ t

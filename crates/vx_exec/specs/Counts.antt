@@ -6,9 +6,9 @@ use Rattle.vx_operators.specs.declared.destination.Destination.{Destination}
 use Rattle.vx_worker.specs.Worker.{tree_of, counts_of as step_counts}
 use Rattle.vx_worker.specs.declared.tree.Tree.{Tree, Leaf, One', Two'}
 use Rattle.vx_worker.specs.declared.worker.Worker.{Worker}
-use Rattle.vx_exec.specs.declared.counts.NodeCounts.{NodeCounts}
-use Rattle.vx_exec.specs.declared.counts.WorkerCounts.{WorkerCounts}
-use Rattle.vx_exec.specs.declared.counts.RunCounts.{RunCounts}
+use Rattle.vx_exec.specs.declared.counted.NodeCounts.{NodeCounts}
+use Rattle.vx_exec.specs.declared.counted.WorkerCounts.{WorkerCounts}
+use Rattle.vx_exec.specs.declared.counted.RunCounts.{RunCounts}
 
 -- the counts of an operator, under its node's number
 abbrev pub line_of : Operator → NodeCounts

@@ -42,7 +42,7 @@ use Rattle.vx_exec.specs.Setup.{sizes_set, Fails}
 use Rattle.vx_setup.specs.Setup.{SetupView}
 use Rattle.vx_setup.specs.declared.fault.RunFault.{RunFault}
 use Rattle.vx_setup.specs.declared.fault.RunFault.TheVariants as fault
-use Rattle.vx_exec.specs.declared.counts.WorkerCounts.{WorkerCounts}
+use Rattle.vx_exec.specs.declared.counted.WorkerCounts.{WorkerCounts}
 use Rattle.vx_exec.specs.declared.ran.Ran.{Ran}
 use Rattle.vx_exec.specs.declared.ran.Ran.TheVariants as ran
 

@@ -20,7 +20,7 @@ ghost use Rattle.vx_exec.specs.Job.{model_of};
 ghost use Rattle.vx_exec.specs.Counts.{is_wanted, counts_in};
 ghost use Rattle.vx_exec.specs.Runs.{CountedInRounds, fault_reported, ComesTo, IsRunOf, IfDone, IsTrueOf, IsFirstReported, IsSetUp, RunFails, IsBadStepOf, NamesFirst, ScheduleFails, Scheduled, InRounds};
 
-use crate::counts::RunCounts;
+use crate::counted::RunCounts;
 use crate::crew::Crew;
 use crate::job::Job;
 use crate::ran::Ran;

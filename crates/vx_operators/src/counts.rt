@@ -1,5 +1,8 @@
 //! What an operator counts of its own turns.
 
+ghost use Rattle.std.specs.Prelude.{◌≡◌};
+ghost use Rattle.vx_operators.specs.Counts.{rows_in};
+
 use vx_ops::{Got, Polled, Want};
 
 /// What an operator counted of its own turns. A count that reaches the largest `u64` stays there.
@@ -30,8 +33,7 @@ fn row_count(polled: &Polled) -> u64
 }
 
 impl OperatorCounts {
-    ghost use Rattle.std.specs.Prelude.{◌≡◌};
-    ghost use Rattle.vx_operators.specs.Counts.{no_turns, with_got, with_given};
+    ghost use Rattle.vx_operators.specs.Counts.{no_turns, with_morsel, with_got, with_given};
 
     /// Of an operator that took no turn.
     pub fn new() -> OperatorCounts

@@ -26,7 +26,7 @@ use Rattle.vx_exec.specs.Crew.{IsNew}
 use Rattle.vx_exec.specs.Job.{model_of}
 use Rattle.vx_exec.specs.Making.{board_of}
 use Rattle.vx_exec.specs.Runs.{ComesTo, IsTrueOf}
-use Rattle.vx_exec.specs.declared.counts.WorkerCounts.{WorkerCounts}
+use Rattle.vx_exec.specs.declared.counted.WorkerCounts.{WorkerCounts}
 use Rattle.vx_exec.specs.declared.crew.Crew.{Crew}
 use Rattle.vx_exec.specs.declared.job.Job.{Job}
 use Rattle.vx_exec.specs.declared.ran.Ran.{Ran}

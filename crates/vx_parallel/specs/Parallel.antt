@@ -15,7 +15,7 @@ use Rattle.vx_setup.specs.declared.fault.RunFault.TheVariants as fault
 use Rattle.vx_exec.specs.Sizes.{Sizes}
 use Rattle.vx_exec.specs.Counts.{AreCountsOf}
 use Rattle.vx_exec.specs.Runs.{IsSetUp, RunFails, IsFirstReported, ComesTo}
-use Rattle.vx_exec.specs.declared.counts.WorkerCounts.{WorkerCounts}
+use Rattle.vx_exec.specs.declared.counted.WorkerCounts.{WorkerCounts}
 use Rattle.vx_exec.specs.declared.ran.Ran.{Ran}
 use Rattle.vx_exec.specs.declared.ran.Ran.TheVariants as ran
 

@@ -2,7 +2,7 @@ use Rattle.std.proofs.Common.{◌≡◌, sym, ap, ◌∙◌, subst}
 use Rattle.vx_ops.specs.Turn.{after}
 use Rattle.vx_operators.specs.Counts.{with_got, with_given, AreCounts}
 use Rattle.vx_operators.specs.Kind.{kind_want}
-use Rattle.vx_operators.proofs.Counts.{turn-counted}
+use Rattle.vx_operators.proofs.Counting.{turn-counted}
 use Rattle.vx_operators.proofs.operator.OperatorSource.turn.Goals as goal
 
 pub returns-clause-stands : goal.returns-clause-stands
