@@ -59,14 +59,18 @@ judging_app name = reading_app name (path_rule (codes "plan"))
 abbrev pub verbose_rule : Rule
 verbose_rule = flag_rule (codes "verbose-errors")
 
+-- how many threads load each table
+abbrev pub threads_rule : Rule
+threads_rule = number_rule (codes "threads") (codes "0")
+
 abbrev pub serial_app : App
-serial_app = with_rule (with_rule (judging_app (codes "serial")) (path_rule (codes "data"))) verbose_rule
+serial_app = with_rule (with_rule (with_rule (judging_app (codes "serial")) (path_rule (codes "data"))) threads_rule) verbose_rule
 
 abbrev pub run_app : App
 run_app =
-    with_rule (with_rule (with_rule (with_rule (with_rule (with_rule (with_rule (reading_app (codes "run") plans_rule) (path_rule (codes "data")))
+    with_rule (with_rule (with_rule (with_rule (with_rule (with_rule (with_rule (with_rule (reading_app (codes "run") plans_rule) (path_rule (codes "data")))
     (number_rule (codes "packet") (codes "256"))) (number_rule (codes "morsel") (codes "1024"))) (number_rule (codes "slack") (codes "8"))) (word_rule (codes "mode") (codes "rounds")))
-    verbose_rule) sizes_rule
+    threads_rule) verbose_rule) sizes_rule
 
 abbrev pub gen_app : App
 gen_app = with_rule (new_app (codes "gen")) rows_rule
@@ -187,6 +191,11 @@ abbrev pub verbose_of : Option (Text × List Row) → Bool
 verbose_of None = false
 verbose_of (Some p) = option_map_or (λ v. bytes_eq v (codes "true")) (first_of (codes "verbose-errors") p.1) false
 
+-- how many threads a subcommand with these matches is to load with, where it loads
+abbrev pub threads_of : Option (Text × List Row) → Option ℕ
+threads_of None = None
+threads_of (Some p) = option_and_then number_of (first_of (codes "threads") p.1)
+
 -- what the arguments ask for, the program's name first
 unfoldable pub asked_by : List Text → Option Ask
 asked_by arguments = ask_of (subcommand_of volcano_app arguments)
@@ -194,6 +203,10 @@ asked_by arguments = ask_of (subcommand_of volcano_app arguments)
 -- whether they ask where what is refused was found
 unfoldable pub verbose_by : List Text → Bool
 verbose_by arguments = verbose_of (subcommand_of volcano_app arguments)
+
+-- how many threads they ask to load with
+unfoldable pub threads_by : List Text → Option ℕ
+threads_by arguments = threads_of (subcommand_of volcano_app arguments)
 
 -- the kinds that a refusal of the arguments may have; none if they are accepted
 unfoldable pub faults_of : List Text → Kinds

@@ -122,6 +122,18 @@ fn verbose_option<'a>(alloc: Global) -> Arg<'a>
         .action(ArgAction::SetTrue)
 }
 
+fn threads_option<'a>(alloc: Global) -> Arg<'a>
+    ensures rule { rule_of result ≡ number_rule (codes "threads") (codes "0") }
+    ensures own { result.global ≡ false }
+{
+    number_option(
+        alloc,
+        "threads",
+        "0",
+        "How many threads load each table; 0 is one for each processor",
+    )
+}
+
 fn code_argument<'a>(alloc: Global) -> Arg<'a>
     ensures rule { rule_of result ≡ code_rule }
     ensures own { result.global ≡ false }
@@ -234,6 +246,7 @@ fn serial<'a>(alloc: Global) -> Result<Command<'a>, AllocError>
         "Example: volcano serial --catalog catalog.json --plan plan.json --data tables",
     )?
     .arg(data_option(alloc))?
+    .arg(threads_option(alloc))?
     .arg(verbose_option(alloc))
 }
 
@@ -268,6 +281,7 @@ fn run<'a>(alloc: Global) -> Result<Command<'a>, AllocError>
         "The most packets that wait between two workers, 1 to 1024",
     ))?
     .arg(mode_option(alloc))?
+    .arg(threads_option(alloc))?
     .arg(verbose_option(alloc))?
     .arg(sizes_argument(alloc))
 }
