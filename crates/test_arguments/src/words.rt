@@ -29,7 +29,10 @@ fn described(alloc: Global, request: &Request<'_>) -> Result<String, AllocError>
     if request.is_verbose {
         return format!(in alloc; "{asked:?}, verbose");
     }
-    format!(in alloc; "{asked:?}")
+    match request.threads {
+        None | Some(0) => format!(in alloc; "{asked:?}"),
+        Some(threads) => format!(in alloc; "{asked:?}, {threads} threads"),
+    }
 }
 
 fn kind_of(alloc: Global, error: &Error) -> Result<String, AllocError> {
@@ -38,7 +41,7 @@ fn kind_of(alloc: Global, error: &Error) -> Result<String, AllocError> {
 }
 
 // Lines, and what each asks for.
-const ASKED: [(&str, &str); 20] = [
+const ASKED: [(&str, &str); 22] = [
     ("volcano", "Bundle"),
     (
         "volcano check --catalog c --plan=-",
@@ -104,6 +107,14 @@ const ASKED: [(&str, &str); 20] = [
     (
         "volcano serial --catalog c --plan p --data d --verbose-errors",
         r#"Serial(Sources { catalog: "c", plan: "p" }, "d"), verbose"#,
+    ),
+    (
+        "volcano serial --catalog c --plan p --data d --threads=1",
+        r#"Serial(Sources { catalog: "c", plan: "p" }, "d"), 1 threads"#,
+    ),
+    (
+        "volcano run --threads 4 --catalog c --plan p --data d",
+        r#"Run(Sources { catalog: "c", plan: "p" }, "d", Limits { packet: "256", morsel: "1024", slack: "8", mode: "rounds", sizes: [] }), 4 threads"#,
     ),
     ("volcano gen --rows 0", "Generate(0)"),
     (
