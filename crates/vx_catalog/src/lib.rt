@@ -10,9 +10,11 @@ mod record;
 mod shared_table;
 mod writing;
 
+pub use counted::{Counted, Lent, Origin};
 pub use database::Database;
 pub use fault::{LoadFault, WriteFault};
-pub use loader::{Loaded, Loader, texts_are_loaded_exactly};
+pub use loader::{Loaded, Loader, read_text, test_rows, texts_are_loaded_exactly};
+pub use record::{is_header, next_record, read_rows};
 pub use shared_table::SharedTable;
 pub use vx_relations::{Catalog, CatalogFault, Relation, catalogs_are_read_exactly, find_name};
 pub use writing::{format_rows, write_rows};

@@ -20,15 +20,15 @@ use crate::fault::LoadFault;
 use crate::record::{is_header, next_record, read_rows};
 use crate::shared_table::SharedTable;
 use csv::{ByteRecord, Reader, ReaderBuilder};
-use std::alloc::Global;
+use std::alloc::{AllocError, Global};
 use std::io::Read;
 use std::marker::{Brand, Model};
 use vx_bytes::ByteIn;
 use vx_relations::{Catalog, Relation};
 use vx_rows::{Table, compare_on};
 
-// The rows under a text's header. It also fails with NoMemory if the source underneath failed.
-fn read_text<S: Read>(
+/// The rows under a text's header. It also fails with NoMemory if the source underneath failed.
+pub fn read_text<S: Read>(
     alloc: Global,
     relation: &Relation,
     reader: &mut Reader<S>,
@@ -92,8 +92,8 @@ fn test_keys(alloc: Global, rows: &Table, relation: &Relation) -> Result<(), Loa
     Ok(())
 }
 
-// The rows of a relation, if they meet its keys and then its order.
-fn test_rows(alloc: Global, relation: &Relation, rows: Table) -> Result<Table, LoadFault>
+/// The rows of a relation, if they meet its keys and then its order.
+pub fn test_rows(alloc: Global, relation: &Relation, rows: Table) -> Result<Table, LoadFault>
     requires relation { IsRelation relation.now }
     requires types { rows.types ≡ relation.now.types }
     requires fit { AllByRecursion (Fits rows.types) rows.rows }
@@ -163,6 +163,28 @@ impl Model for Loaded {
 }
 
 impl Loaded {
+    /// Rows of a relation of a catalog, which meet it. Whoever read them has tested that, as `test_rows` does.
+    pub fn new(
+        alloc: Global,
+        catalog: &Catalog,
+        relation: usize,
+        rows: Table,
+    ) -> Result<Loaded, AllocError>
+        requires there { relation < length catalog.now }
+        requires types { rows.types ≡ (relation_at catalog.now relation).types }
+        requires meets { Meets (relation_at catalog.now relation) rows.rows }
+        requires few { length rows.rows ≤ max_rows }
+        ensures catalog { IfOk result (λ l. l.catalog ≡ catalog.now) }
+        ensures relation { IfOk result (λ l. l.relation ≡ relation) }
+        ensures rows { IfOk result (λ l. l.rows ≡ rows.rows) }
+    {
+        Ok(Loaded {
+            catalog: catalog.share()?,
+            relation,
+            table: SharedTable::new(alloc, rows)?,
+        })
+    }
+
     /// The catalog of the relation.
     pub fn catalog(&self) -> &Catalog
         ensures { result.now ≡ self.now.catalog }
@@ -232,12 +254,7 @@ impl Loader {
         if lent.port.failed() {
             return Err(LoadFault::ReadFailed);
         }
-        let table = SharedTable::new(alloc, read?)?;
-        Ok(Loaded {
-            catalog: catalog.share()?,
-            relation,
-            table,
-        })
+        Ok(Loaded::new(alloc, catalog, relation, read?)?)
     }
 }
 
