@@ -1,4 +1,4 @@
-use Rattle.std.proofs.Common.{◌≡◌, ◌∙◌, ap, sym, refl, inr, not, ◌<◌, length, arith, List, [], ℕ, Err, map, take}
+use Rattle.std.proofs.Common.{◌∙◌, ap, sym, refl, inr, not, ◌<◌, length, arith, List, [], ℕ, Err, map, take}
 use Rattle.vx_plan_json.specs.Fault.{duplicate_column}
 use Rattle.vx_plan.specs.Lookup.{test_distinct, tested_onto, is_among}
 use Rattle.vx_plan.proofs.TestFacts.{test_bad, test_next, test_done, each-same}
