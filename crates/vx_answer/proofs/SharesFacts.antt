@@ -157,9 +157,11 @@ pub have_shares : (relations : List Relation) (whole : List NamedPlan) (holds : 
     → (files : List ℕ → Stored) (input : Option (List ℕ)) (ns : List NamedPlan) → AreAccepted files input relations ns → ((i : ℕ) → any_scans ns i ≡ true → any_scans whole i ≡ true) → HaveShares holds all ns
 have_shares relations whole holds all loaded files input [] h covers = tt
 have_shares relations whole holds all loaded files input (n ∷ ns) h covers =
-    let over = is_over relations n.plan h.0.declares in
-    (loaded.same ∙ sym over, share relations whole holds all n.plan loaded (λ i is. covers i (at_left (scans (plan_in n.plan.root) i) (any_scans ns i) is)) over,
-     have_shares relations whole holds all loaded files (input_after input n.path) ns h.2 (λ i is. covers i (at_right (scans (plan_in n.plan.root) i) (any_scans ns i) is)))
+    let over = is_over relations n.plan h.0.declares in (
+      loaded.same ∙ sym over,
+      share relations whole holds all n.plan loaded (λ i is. covers i (at_left (scans (plan_in n.plan.root) i) (any_scans ns i) is)) over,
+      have_shares relations whole holds all loaded files (input_after input n.path) ns h.2 (λ i is. covers i (at_right (scans (plan_in n.plan.root) i) (any_scans ns i) is)),
+    )
 
 -- answers over the database are answers over the shares
 pub answers_in : (holds : Holding) (all : Database) (s : Setting) (ns : List NamedPlan) (text : List ℕ) → HaveShares holds all ns → AreAnswers (λ p own. IsRunOver p all s own) ns text

@@ -17,8 +17,8 @@ use serde_json::{Map, Value as Json, put};
 use std::alloc::{AllocError, Global};
 use vx_check_rules::CheckedPlan;
 use vx_plan_nodes::{
-    Binary, Claim, Columns, Exchange, ExchangeKind, Name, Part, Phase, Route, Size, TypedNode, TypedPlan,
-    Unary,
+    Binary, Claim, Columns, Exchange, ExchangeKind, Name, Part, Phase, Route, Size, TypedNode,
+    TypedPlan, Unary,
 };
 use vx_rows::ColType;
 
