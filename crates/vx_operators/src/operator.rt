@@ -5,12 +5,22 @@ use crate::kind::OperatorKind;
 use vx_ops::{Got, Polled, Source, Want};
 
 /// One operator of a fragment, and what it counted of its turns.
-#[derive(Drop)]
 pub struct Operator {
     // The number of its node.
     node: u32,
     kind: OperatorKind,
     counts: OperatorCounts,
+}
+
+// By hand, as that of the kinds is.
+impl Drop for Operator {
+    fn drop(self) {
+        let Operator {
+            node: _,
+            kind: _,
+            counts: _,
+        } = self;
+    }
 }
 
 impl Operator {
