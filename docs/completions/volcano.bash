@@ -13,8 +13,8 @@ _volcano() {
         return
     fi
     case ${COMP_WORDS[1]} in
-        run) options='--catalog --data --packet --morsel --slack --mode --verbose-errors --help' words='--plan' ;;
-        serial) options='--catalog --plan --data --verbose-errors --help' ;;
+        run) options='--catalog --data --packet --morsel --slack --mode --threads --verbose-errors --help' words='--plan' ;;
+        serial) options='--catalog --plan --data --threads --verbose-errors --help' ;;
         check) options='--catalog --plan --all --verbose-errors --help' ;;
         explain) options='--catalog --plan --format --verbose-errors --help' ;;
         annotate) options='--catalog --plan --verbose-errors --help' ;;
@@ -32,7 +32,7 @@ _volcano() {
             compopt -o filenames && mapfile -t COMPREPLY < <(compgen -d -- "$word")
             return
             ;;
-        --packet | --morsel | --slack | --rows)
+        --packet | --morsel | --slack | --threads | --rows)
             return
             ;;
         --mode)
