@@ -66,7 +66,7 @@ fn threads_count_each_row_once(rt: HostRuntime) -> Result<(), Fail> {
     assert_eq!(rt; workers.len(), 3);
     assert_eq!(rt; rows_given(workers), Some(rows as u64));
     // Four rows are scanned. Each that is selected comes in a packet of its own, and each of the two producers sends Last.
-    let packets = rows as u64 + 2;
+    let packets = (rows as u64).saturating_add(2);
     assert_eq!(rt; totals(workers), (4, packets, packets));
     Ok(())
 }
