@@ -11,7 +11,12 @@ use vx_plan_nodes::TypedPlan;
 type Members = Map<String, Json>;
 
 fn put_text(members: &mut Members, alloc: Global, key: &str, text: &str) -> Result<(), AllocError> {
-    put(members, alloc, key, Json::String(String::from_str(alloc, text)?))
+    put(
+        members,
+        alloc,
+        key,
+        Json::String(String::from_str(alloc, text)?),
+    )
 }
 
 fn put_number(members: &mut Members, alloc: Global, key: &str, n: u64) -> Result<(), AllocError> {
@@ -78,7 +83,12 @@ pub fn stats_json(
     let lines = lines_of(alloc, workers)?;
     let mut members = Map::new(alloc);
     put(&mut members, alloc, "phases", laps_json(alloc, plan, laps)?)?;
-    put(&mut members, alloc, "nodes", lines_json(alloc, plan, lines.as_slice())?)?;
+    put(
+        &mut members,
+        alloc,
+        "nodes",
+        lines_json(alloc, plan, lines.as_slice())?,
+    )?;
     let mut text = Json::Object(members).to_string(alloc)?;
     text.push_str("\n")?;
     Ok(text)

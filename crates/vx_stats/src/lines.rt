@@ -70,7 +70,11 @@ pub fn lines_of(alloc: Global, workers: &[WorkerCounts]) -> Result<Vec<Line>, Al
     let mut place = 0usize;
     for (number, worker) in workers.iter().enumerate() {
         let next = top_of(worker);
-        place = if next == top { place.saturating_add(1) } else { 0 };
+        place = if next == top {
+            place.saturating_add(1)
+        } else {
+            0
+        };
         top = next;
         let seat = Seat {
             worker: number,

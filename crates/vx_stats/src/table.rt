@@ -29,10 +29,19 @@ fn push_line(
     line: &Line,
 ) -> Result<(), AllocError> {
     let operator = operator_word(plan.root(), line.node);
-    let head = format!(in alloc; "{:>5} {operator:<14} {:>6} {:>5}", line.node, line.worker, line.place)?;
+    let head = format!(in alloc;
+        "{:>5} {operator:<14} {:>6} {:>5}",
+        line.node, line.worker, line.place
+    )?;
     let counts = &line.counts;
-    let rows = format!(in alloc; " {:>12} {:>12} {:>12}", counts.left, counts.right, counts.gave)?;
-    let rest = format!(in alloc; " {:>8} {:>8} {:>8} {:>8}\n", counts.morsels, counts.packets, line.puts, line.waits)?;
+    let rows = format!(in alloc;
+        " {:>12} {:>12} {:>12}",
+        counts.left, counts.right, counts.gave
+    )?;
+    let rest = format!(in alloc;
+        " {:>8} {:>8} {:>8} {:>8}\n",
+        counts.morsels, counts.packets, line.puts, line.waits
+    )?;
     text.push_str(head.as_str())?;
     text.push_str(rows.as_str())?;
     text.push_str(rest.as_str())
@@ -52,7 +61,9 @@ pub fn stats_table(
     for lap in laps {
         push_lap(&mut text, alloc, plan, lap)?;
     }
-    text.push_str(" node operator       worker place         left        right         gave  morsels    taken      put    waits\n")?;
+    text.push_str(
+        " node operator       worker place         left        right         gave  morsels    taken      put    waits\n",
+    )?;
     for line in lines_of(alloc, workers)?.as_slice() {
         push_line(&mut text, alloc, plan, line)?;
     }
