@@ -116,11 +116,7 @@ fn push_kept(
     text.push_str("]")
 }
 
-fn push_function(
-    text: &mut String,
-    names: &[Name],
-    aggregate: Aggregate,
-) -> Result<(), AllocError>
+fn push_function(text: &mut String, names: &[Name], aggregate: Aggregate) -> Result<(), AllocError>
     ensures { OnOk result (string_bytes text.new ≡ string_bytes text.old ++ function_text names.now (aggregate_of aggregate)) }
 {
     let (word, column) = match aggregate {
