@@ -76,7 +76,7 @@ returns-in_err-text-in-Some-Plans g c =
     rw (p.1, p.2) (record {
       answer = tt;
       refused = plans_fault (g.F.Store.holds c.args.files.now) (g.F.Store.is_reliable c.args.files.now) (g.I.ByteIn.remaining c.args.input.now) (g.I.ByteIn.has_failed c.answer_plans.new.input)
-      (asked_is c.args.asked.now) (many_are t.sources) t.folder.now is.0 t.setting c.in_err-text-in-Some-Plans.field-0.0 is.1 is.2 c.in_err-text-in-Some-Plans.ensures.refused;
+          (asked_is c.args.asked.now) (many_are t.sources) t.folder.now is.0 t.setting c.in_err-text-in-Some-Plans.field-0.0 is.1 is.2 c.in_err-text-in-Some-Plans.ensures.refused;
     })
 
 pub returns-in_ok-text-in-Some-Plans : goal.returns-in_ok-text-in-Some-Plans

@@ -1,9 +1,10 @@
 use Rattle.std.proofs.Common.{◌≡◌, ◌∙◌, ℕ, List, Option, map, sym, ap, subst}
 use Rattle.std.proofs.lemmas.Result.{err_from_is_err_and}
 use Rattle.vx_arguments.specs.Asked.{many_are}
+use Rattle.vx_tables.specs.Folder.{holds_at}
 use Rattle.vx_answer.specs.Commands.{IsRunOver, RunRefuses}
 use Rattle.vx_answer.specs.Files.{is_input, left_of, input_after}
-use Rattle.vx_answer.specs.Plans.{ArePlansAt, AreAccepted, AreNotAccepted, NamedPlan, AreAnswers, StopsAt, for_reading, for_plans, for_loading}
+use Rattle.vx_answer.specs.Plans.{ArePlansAt, AreAccepted, AreNotAccepted, NamedPlan, IsLoadedFor, AreAnswers, StopsAt, for_reading, for_plans, for_loading}
 use Rattle.vx_answer.specs.PlansView.{named_is, plans_are}
 use Rattle.vx_answer.proofs.FileFacts.{same_left}
 use Rattle.vx_answer.proofs.SharesFacts.{have_shares, answers_in, stops_in}
@@ -63,7 +64,7 @@ returns-in_err-text-clause-refused g c =
       named = c.in_ok-plans.ensures.named ∙ ap (map (λ p. p.now)) c.as_slice-paths.ensures.value;
       accepted = subst P left c.in_ok-plans.ensures.accepted;
     } in
-    let loaded = record { same = c.in_ok-database.ensures.catalog; filled = c.in_ok-database.ensures.filled } in
+    let loaded : IsLoadedFor relations ns (holds_at files c.args.task.now.folder.now) c.in_ok-database.database = record { same = c.in_ok-database.ensures.catalog; filled = c.in_ok-database.ensures.filled } in
     let shares = have_shares relations ns _ c.in_ok-database.database loaded files (input_after before paths.catalog) ns planned.accepted (λ i is. is) in
     let setting = c.args.task.now.setting in
     let same : map named_is c.as_slice.result.now ≡ ns = ap (map named_is) c.as_slice.ensures.value in
@@ -72,8 +73,8 @@ returns-in_err-text-clause-refused g c =
     let P : List NamedPlan → Type 0 = λ ms. StopsAt (λ p own. IsRunOver p c.in_ok-database.database setting own) (λ p e. RunRefuses p c.in_ok-database.database setting e) ms stopped.text.items stopped.refusal in
     rw (p.1, p.2) (relations, ns, c.in_ok-database.database, planned, loaded, stops_in _ c.in_ok-database.database setting ns stopped.text.items stopped.refusal shares (subst P same c.in_err-text.ensures.stopped))
 
-pub returns-in_ok-text-clause-text : goal.returns-in_ok-text-clause-text
-returns-in_ok-text-clause-text g c =
+pub returns-clause-text : goal.returns-clause-text
+returns-clause-text g c =
     let files = g.F.Store.holds c.args.files.now in
     let before = g.I.ByteIn.remaining c.args.input.now in
     let after = g.I.ByteIn.remaining c.catalog_under.new.input in
@@ -88,7 +89,7 @@ returns-in_ok-text-clause-text g c =
       named = c.in_ok-plans.ensures.named ∙ ap (map (λ p. p.now)) c.as_slice-paths.ensures.value;
       accepted = subst P left c.in_ok-plans.ensures.accepted;
     } in
-    let loaded = record { same = c.in_ok-database.ensures.catalog; filled = c.in_ok-database.ensures.filled } in
+    let loaded : IsLoadedFor relations ns (holds_at files c.args.task.now.folder.now) c.in_ok-database.database = record { same = c.in_ok-database.ensures.catalog; filled = c.in_ok-database.ensures.filled } in
     let shares = have_shares relations ns _ c.in_ok-database.database loaded files (input_after before paths.catalog) ns planned.accepted (λ i is. is) in
     let setting = c.args.task.now.setting in
     let same : map named_is c.as_slice.result.now ≡ ns = ap (map named_is) c.as_slice.ensures.value in

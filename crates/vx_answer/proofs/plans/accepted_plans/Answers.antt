@@ -31,8 +31,9 @@ loop-path-preserved g c =
     let ns = map named_is l.plans.items in
     let n : NamedPlan = record { path = (get_or c.args.paths.now l.path-index _).now; plan = resolved_of (typed_plan c.in_ok-plan.plan) } in
     let grown : map named_is c.push.new.self.items ≡ ns ++ n ∷ [] = ap (map named_is) c.in_ok-push.ensures.items ∙ map-append named_is l.plans.items (_ ∷ []) in
-    let P : List NamedPlan → Type 0 = λ ms. AreAccepted files input relations ms in
-    (ap paths_of grown ∙ named_grow (λ q. q.now) c.args.paths.now l.path-index _ ns n there l.invariant.0 refl,
-     subst P (sym grown) (accepted_grow (λ q. q.now) files input left relations c.args.paths.now l.path-index ns n l.invariant.0 l.invariant.1 l.invariant.2 c.in_ok-plan.ensures.planned c.in_ok-plan.ensures.shown),
-     left_grow (λ q. q.now) input c.args.paths.now l.path-index _ l.was_read _ (g.I.ByteIn.remaining l.input) (g.I.ByteIn.remaining c.plan_under.new.input) n.path there refl l.invariant.2
-     (λ other. ap (g.I.ByteIn.remaining) (c.in_ok-plan.ensures.kept other)) c.is_read-was_read.ensures)
+    let P : List NamedPlan → Type 0 = λ ms. AreAccepted files input relations ms in (
+      ap paths_of grown ∙ named_grow (λ q. q.now) c.args.paths.now l.path-index _ ns n there l.invariant.0 refl,
+      subst P (sym grown) (accepted_grow (λ q. q.now) files input left relations c.args.paths.now l.path-index ns n l.invariant.0 l.invariant.1 l.invariant.2 c.in_ok-plan.ensures.planned c.in_ok-plan.ensures.shown),
+      left_grow (λ q. q.now) input c.args.paths.now l.path-index _ l.was_read _ (g.I.ByteIn.remaining l.input) (g.I.ByteIn.remaining c.plan_under.new.input) n.path there refl l.invariant.2
+          (λ other. ap (g.I.ByteIn.remaining) (c.in_ok-plan.ensures.kept other)) c.is_read-was_read.ensures,
+    )

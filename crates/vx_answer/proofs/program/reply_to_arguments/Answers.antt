@@ -56,7 +56,7 @@ pub returns-in-Err-Stopped-clause-kept : goal.returns-in-Err-Stopped-clause-kept
 returns-in-Err-Stopped-clause-kept g c some whole =
     let stopped = c.in-Err-Stopped.stopped in
     let asks = rw c.in-Err-Stopped.field-0-is at c.in-Err-Stopped.ensures.refused in
-    let written = c.write_stopped.ensures.written whole in
+    let written = rw c.in-Err-Stopped.field-0-is at c.write_stopped.ensures.written whole in
     inr (stopped.text.items, stopped.refusal, asks, written.0, written.1)
 
 pub returns-in-Err-Stopped-clause-refused : goal.returns-in-Err-Stopped-clause-refused
@@ -65,7 +65,8 @@ returns-in-Err-Stopped-clause-refused g c three =
     let asks = rw c.in-Err-Stopped.field-0-is at c.in-Err-Stopped.ensures.refused in
     let refuses = stopped_refuses (g.F.Store.holds c.args.files.now) (g.F.Store.is_reliable c.args.files.now) (g.I.ByteIn.remaining c.args.input.now) (g.I.ByteIn.has_failed c.answer_arguments.new.input)
     (map (λ a. a.now) c.args.arguments.now) stopped.text.items stopped.refusal asks in
-    inl (stopped.refusal, three_stopped _ c.write_stopped.result (status_of stopped.refusal) c.write_stopped.ensures.status three, refuses)
+    let status = rw c.in-Err-Stopped.field-0-is at c.write_stopped.ensures.status in
+    inl (stopped.refusal, three_stopped _ c.write_stopped.result (status_of stopped.refusal) status three, refuses)
 
 pub returns-in-Err-Stopped-clause-failed : goal.returns-in-Err-Stopped-clause-failed
 returns-in-Err-Stopped-clause-failed g c four =
@@ -73,4 +74,5 @@ returns-in-Err-Stopped-clause-failed g c four =
     let asks = rw c.in-Err-Stopped.field-0-is at c.in-Err-Stopped.ensures.refused in
     let refuses = stopped_refuses (g.F.Store.holds c.args.files.now) (g.F.Store.is_reliable c.args.files.now) (g.I.ByteIn.remaining c.args.input.now) (g.I.ByteIn.has_failed c.answer_arguments.new.input)
     (map (λ a. a.now) c.args.arguments.now) stopped.text.items stopped.refusal asks in
-    four_stopped _ _ c.write_stopped.result (status_of stopped.refusal) (λ status. (stopped.refusal, status, refuses)) c.write_stopped.ensures.status four
+    let status = rw c.in-Err-Stopped.field-0-is at c.write_stopped.ensures.status in
+    four_stopped _ _ c.write_stopped.result (status_of stopped.refusal) (λ is. (stopped.refusal, is, refuses)) status four
