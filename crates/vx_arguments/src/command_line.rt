@@ -287,7 +287,7 @@ fn explain<'a>(alloc: Global) -> Result<Command<'a>, AllocError>
 }
 
 fn annotate<'a>(alloc: Global) -> Result<Command<'a>, AllocError>
-    ensures app { IfOk result (λ c. app_of c ≡ annotate_app) }
+    ensures app { IfOk result (λ c. app_of c ≡ judging_app (codes "annotate")) }
     ensures local { IfOk result (λ c. (fields_of c).has_globals ≡ false) }
 {
     judging(
