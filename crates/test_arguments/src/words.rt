@@ -26,9 +26,6 @@ fn shown(alloc: Global, line: &str) -> Result<String, Fail> {
 
 fn described(alloc: Global, request: &Request<'_>) -> Result<String, AllocError> {
     let asked = &request.asked;
-    if request.is_verbose {
-        return format!(in alloc; "{asked:?}, verbose");
-    }
     match request.threads {
         None | Some(0) => format!(in alloc; "{asked:?}"),
         Some(threads) => format!(in alloc; "{asked:?}, {threads} threads"),
@@ -41,7 +38,7 @@ fn kind_of(alloc: Global, error: &Error) -> Result<String, AllocError> {
 }
 
 // Lines, and what each asks for.
-const ASKED: [(&str, &str); 22] = [
+const ASKED: [(&str, &str); 18] = [
     ("volcano", "Bundle"),
     (
         "volcano check --catalog c --plan=-",
@@ -93,22 +90,6 @@ const ASKED: [(&str, &str); 22] = [
         r#"RunPlans(ManySources { catalog: "c", plans: ["p", "-", "p"] }, "d", Limits { packet: "256", morsel: "1024", slack: "8", mode: "rounds", sizes: ["many=4"] })"#,
     ),
     (
-        "volcano check --catalog c --plan p --verbose-errors",
-        r#"Check(Sources { catalog: "c", plan: "p" }), verbose"#,
-    ),
-    (
-        "volcano annotate --verbose-errors --catalog c --plan p",
-        r#"Annotate(Sources { catalog: "c", plan: "p" }), verbose"#,
-    ),
-    (
-        "volcano sql --catalog c --verbose-errors --plan p",
-        r#"Sql(Sources { catalog: "c", plan: "p" }, "sqlite"), verbose"#,
-    ),
-    (
-        "volcano serial --catalog c --plan p --data d --verbose-errors",
-        r#"Serial(Sources { catalog: "c", plan: "p" }, "d"), verbose"#,
-    ),
-    (
         "volcano serial --catalog c --plan p --data d --threads=1",
         r#"Serial(Sources { catalog: "c", plan: "p" }, "d"), 1 threads"#,
     ),
@@ -132,7 +113,7 @@ fn commands_are_there(rt: HostRuntime) -> Result<(), Fail> {
 }
 
 // Lines that are refused, and the kind of each refusal.
-const REFUSED: [(&str, &str); 22] = [
+const REFUSED: [(&str, &str); 21] = [
     ("volcano check --catalog c", "MissingRequiredArgument"),
     (
         "volcano check --catalog c --plan p --data d",
@@ -159,7 +140,6 @@ const REFUSED: [(&str, &str); 22] = [
         "volcano run --catalog c --data d many=4",
         "MissingRequiredArgument",
     ),
-    ("volcano why K4 --verbose-errors", "UnknownArgument"),
     ("volcano sql --plan p", "MissingRequiredArgument"),
     (
         "volcano check --catalog c --plan p --dialect sqlite",

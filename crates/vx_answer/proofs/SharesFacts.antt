@@ -4,6 +4,7 @@ use Rattle.std.proofs.lemmas.List.{get_or_past}
 use Rattle.std.specs.Prelude.{◌||◌, ◌⊎◌, IfOk, IfErr}
 use Rattle.vx_values.specs.Values.{Row}
 use Rattle.vx_relations.specs.Relation.{Relation}
+use Rattle.vx_relations.specs.Naming as catalog
 use Rattle.vx_relations.specs.Catalog.{relation_at}
 use Rattle.vx_catalog.specs.Database.{Database, rows_at}
 use Rattle.vx_plan_nodes.specs.Names.{TypedPlanView, scope_of}
@@ -35,11 +36,11 @@ use Rattle.vx_answer.specs.Plans.{NamedPlan, plan_under, AreAccepted, any_scans,
 use Rattle.vx_answer.proofs.SeenFacts.{SameSeen, serial_seen, too_long_seen, large_part_seen, runs_seen}
 
 -- rows of which the numbers are kept, counted from i; none of the others
-only_from : (ℕ → Bool) → ℕ → List (List Row) → List (List Row)
+abbrev pub only_from : (ℕ → Bool) → ℕ → List (List Row) → List (List Row)
 only_from f i [] = []
 only_from f i (xs ∷ xss) = cond (f i) xs [] ∷ only_from f (i + 1) xss
 
-only : (ℕ → Bool) → Database → Database
+abbrev pub only : (ℕ → Bool) → Database → Database
 only f db = record { catalog = db.catalog; rows = only_from f 0 db.rows }
 
 only_length : (f : ℕ → Bool) (i : ℕ) (xss : List (List Row)) → length (only_from f i xss) ≡ length xss
@@ -62,7 +63,7 @@ kept f db i is = let e : 0 + i ≡ i = omega arith in only_at f 0 i db.rows ∙ 
 left_out : (f : ℕ → Bool) (db : Database) (i : ℕ) → f i ≡ false → rows_at (only f db) i ≡ []
 left_out f db i is = let e : 0 + i ≡ i = omega arith in only_at f 0 i db.rows ∙ ap (λ k. cond (f k) (rows_at db i) []) e ∙ ap (λ b. cond b (rows_at db i) []) is
 
-share_of : TypedPlanView → Database → Database
+abbrev pub share_of : TypedPlanView → Database → Database
 share_of p all = only (scans (plan_in p.root)) all
 
 -- a plan that is among those for which a database was loaded has a share of it
@@ -142,8 +143,8 @@ abbrev pub HaveShares : Holding → Database → List NamedPlan → Type 0
 HaveShares holds all [] = Unit {0}
 HaveShares holds all (n ∷ ns) = (all.catalog ≡ n.plan.names.catalog) × IsShareFor n.plan holds all (share_of n.plan all) × HaveShares holds all ns
 
-is_over : (relations : List Relation) (p : TypedPlanView) {E : Type 0} → Ok {E = E} relations ≡ Ok p.names.catalog → p.names.catalog ≡ relations
-is_over relations p {E} h = let P : Result (List Relation) E → Type 0 = λ r. IfOk r (λ c. c ≡ relations) in subst P h refl
+is_over : (relations : List Relation) (p : TypedPlanView) → exactly {A = Result (List Relation) catalog.Refusal} (Ok relations) (λ r. r ≡ Ok p.names.catalog) → p.names.catalog ≡ relations
+is_over relations p h = let P : Result (List Relation) catalog.Refusal → Type 0 = λ r. IfOk r (λ c. c ≡ relations) in subst P h refl
 
 at_left : (a b : Bool) → a ≡ true → (a || b) ≡ true
 at_left true b h = refl

@@ -282,7 +282,7 @@ fn answer_task<T: Threads + Wait + Sync, F: Store, I: ByteIn>(
     execute(rt, alloc, seed, task.command, &folder, &task.setting, plan)
 }
 
-// The texts of runs of several plans, over tables that are loaded once, by so many threads.
+// The texts of runs of several plans, over tables that are loaded once.
 fn answer_plans<T: Threads + Wait + Sync, F: Store, I: ByteIn>(
     rt: &T,
     alloc: Global,

@@ -1,6 +1,6 @@
 //! Several plans over one catalog, from files and standard input.
 
-ghost use Rattle.std.specs.Prelude.{◌≡◌, false, map, Ok, IfOk, IfErr};
+ghost use Rattle.std.specs.Prelude.{◌≡◌, ◌||◌, false, map, Ok, IfOk, IfErr};
 ghost use Rattle.vx_relations.specs.Naming.{catalog_text};
 ghost use Rattle.vx_plan_nodes.specs.TypedView.{resolved_of};
 ghost use Rattle.vx_check_rules.specs.CheckedView.{typed_plan};
@@ -90,6 +90,13 @@ fn plan_under<F: Store, I: ByteIn>(
     accepted(resolve(alloc, &plan, catalog)?)
 }
 
+// Whether standard input was read, once the bytes under a path were.
+fn is_read(was_read: bool, path: &str) -> bool
+    ensures { result ≡ (was_read || is_input path.now) }
+{
+    was_read || is_input(path)
+}
+
 /// The plans under these paths, in order, once the checker has accepted each. Standard input is read once.
 pub fn accepted_plans<'a, F: Store, I: ByteIn>(
     alloc: Global,
@@ -108,7 +115,7 @@ pub fn accepted_plans<'a, F: Store, I: ByteIn>(
     for path in paths {
         let plan = plan_under(alloc, files, input, was_read, catalog, path)?;
         plans.push(AcceptedPlan { path, plan })?;
-        was_read = was_read || is_input(path);
+        was_read = is_read(was_read, path);
     }
     Ok(AcceptedPlans { plans })
 }

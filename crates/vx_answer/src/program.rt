@@ -125,9 +125,9 @@ fn write_lines<E: ByteOut>(lines: &str, err: &mut E) -> u8
 }
 
 // Writes the answers of the plans before the one that stopped on `out`, and then reports on `err` why that one did.
-fn write_stopped<O: ByteOut, E: ByteOut>(stopped: &Stopped, out: &mut O, err: &mut E) -> u8
-    ensures written { O.has_failed out.new ≡ false → (result ≡ status_of stopped.now.refusal) × Appends (O.contents out.old) (O.contents out.new) stopped.now.text.items }
-    ensures status { (result ≡ status_of stopped.now.refusal) ⊎ ((result ≡ 4) × (O.has_failed out.new ≡ true)) }
+fn write_stopped<O: ByteOut, E: ByteOut>(stopped: Stopped, out: &mut O, err: &mut E) -> u8
+    ensures written { O.has_failed out.new ≡ false → (result ≡ status_of stopped.refusal) × Appends (O.contents out.old) (O.contents out.new) stopped.text.items }
+    ensures status { (result ≡ status_of stopped.refusal) ⊎ ((result ≡ 4) × (O.has_failed out.new ≡ true)) }
 {
     match write_text(stopped.text.as_slice(), out, err) {
         0 => refuse(&stopped.refusal, err),
@@ -160,7 +160,7 @@ fn reply_to_arguments<T: Threads + Wait + Sync, F: Store, I: ByteIn, O: ByteOut,
         Ok(ArgumentAnswer::Relation(rows)) => write_relation(alloc, rows, out, err),
         Err(ArgumentFault::Refused(refusal)) => deliver(Err(refusal), out, err),
         Err(ArgumentFault::Failing(lines)) => write_lines(lines.as_str(), err),
-        Err(ArgumentFault::Stopped(stopped)) => write_stopped(&stopped, out, err),
+        Err(ArgumentFault::Stopped(stopped)) => write_stopped(stopped, out, err),
         Err(ArgumentFault::Usage(text)) => {
             let _ = write_all(err, text.as_bytes());
             2
@@ -173,7 +173,8 @@ fn reply_to_arguments<T: Threads + Wait + Sync, F: Store, I: ByteIn, O: ByteOut,
 ///
 /// The status is 0 if `out` got the answer, 2 for wrong arguments, 3 for input that is refused, and 4 if the machine or
 /// the run failed. All work ends before the first byte goes to `out`; the text of a relation alone is written as it is made,
-/// once all memory for it is there. Of several plans, `out` gets the answers before the first that is refused. A refusal is one line on `err`, and a write of it that fails changes nothing else.
+/// once all memory for it is there. Of several plans, `out` gets the answers before the first that is refused. A refusal is
+/// one line on `err`, and a write of it that fails changes nothing else.
 ///
 /// Keys are hashed by the seed, on which nothing of this depends.
 pub fn answer<T: Threads + Wait + Sync, F: Store, I: ByteIn, O: ByteOut, E: ByteOut>(

@@ -2,7 +2,7 @@
 
 ghost use Rattle.std.specs.Prelude.{◌≡◌, IfOk, IfSome, false, map, option_map, option_and_then, codes};
 ghost use Rattle.clap.specs.Words.{FailsBy, fault_of, rows_of, found_of, first_of, all_of, subcommand_of, subcommand_rows_of};
-ghost use Rattle.vx_arguments.specs.Asked.{volcano_app, paths_of, given_of, sizes_of, serial_of, check_of, explain_of, sql_of, run_for, run_of, number_of, generate_of, ask_of, asked_by, verbose_of, verbose_by, threads_of, threads_by, faults_of, paths_are, given_is, asked_is};
+ghost use Rattle.vx_arguments.specs.Asked.{volcano_app, paths_of, given_of, sizes_of, serial_of, check_of, explain_of, sql_of, run_for, run_of, number_of, generate_of, ask_of, asked_by, threads_of, threads_by, faults_of, paths_are, given_is, asked_is};
 
 use crate::command_line::command;
 use clap::{ArgMatches, Error};
@@ -58,12 +58,10 @@ pub enum Asked<'a> {
     Generate(u64),
 }
 
-/// What the arguments ask for, and how they want refusals reported.
+/// What the arguments ask for, and how tables are loaded for it.
 #[derive(Debug, Drop)]
 pub struct Request<'a> {
     pub asked: Asked<'a>,
-    /// Whether a refusal is followed by a line that says where it was found.
-    pub is_verbose: bool,
     /// How many threads load each table, where the command loads any; 0 is one for each processor.
     pub threads: Option<u64>,
 }
@@ -241,16 +239,6 @@ fn asked_in<'a>(alloc: Global, matches: &ArgMatches<'a>) -> Result<Option<Asked<
     }
 }
 
-// Whether matches ask where what is refused was found.
-fn is_verbose(matches: &ArgMatches<'_>) -> bool
-    ensures { result ≡ verbose_of (subcommand_rows_of matches.now) }
-{
-    match matches.subcommand() {
-        Some((_, found)) => matches!(value(found, "verbose-errors"), Some("true")),
-        None => false,
-    }
-}
-
 // How many threads matches ask for.
 fn threads_in(matches: &ArgMatches<'_>) -> Option<u64>
     ensures { result ≡ threads_of (subcommand_rows_of matches.now) }
@@ -260,22 +248,16 @@ fn threads_in(matches: &ArgMatches<'_>) -> Option<u64>
 }
 
 /// What the arguments ask for, the program's name first. An `Err` is running out of memory, a usage error, or help.
-#[tactic(auto, unfolding(crate::specs::Asked::asked_by, crate::specs::Asked::verbose_by, crate::specs::Asked::threads_by, crate::specs::Asked::faults_of))]
+#[tactic(auto, unfolding(crate::specs::Asked::asked_by, crate::specs::Asked::threads_by, crate::specs::Asked::faults_of))]
 pub fn asked_for<'a>(alloc: Global, arguments: &'a [&'a str]) -> Result<Option<Request<'a>>, Error>
     ensures asked { IfOk result (λ o. option_map (λ r. asked_is r.asked) o ≡ asked_by (map (λ w. w.now) arguments.entry.now)) }
-    ensures verbose { IfOk result (λ o. IfSome o (λ r. r.is_verbose ≡ verbose_by (map (λ w. w.now) arguments.entry.now))) }
     ensures threads { IfOk result (λ o. IfSome o (λ r. r.threads ≡ threads_by (map (λ w. w.now) arguments.entry.now))) }
     ensures faults { FailsBy (faults_of (map (λ w. w.now) arguments.entry.now)) result }
 {
     let matches = matches_in(alloc, arguments)?;
-    let is_verbose = is_verbose(&matches);
     let threads = threads_in(&matches);
     match asked_in(alloc, &matches)? {
-        Some(asked) => Ok(Some(Request {
-            asked,
-            is_verbose,
-            threads,
-        })),
+        Some(asked) => Ok(Some(Request { asked, threads })),
         None => Ok(None),
     }
 }

@@ -3,7 +3,7 @@
 ghost use Rattle.std.specs.Prelude.{◌≡◌, IfOk, false, codes};
 ghost use Rattle.clap.specs.Words.{app_of, rule_of};
 ghost use Rattle.clap.specs.declared.builder.command.Command.TheViews.{out-Command as fields_of};
-ghost use Rattle.vx_arguments.specs.Asked.{path_rule, plans_rule, number_rule, rows_rule, word_rule, flag_rule, code_rule, sizes_rule, verbose_rule, reading_app, judging_app, serial_app, run_app, check_app, explain_app, annotate_app, sql_app, why_app, gen_app, program_app, volcano_app};
+ghost use Rattle.vx_arguments.specs.Asked.{path_rule, plans_rule, number_rule, threads_rule, rows_rule, word_rule, flag_rule, code_rule, sizes_rule, reading_app, judging_app, serial_app, run_app, check_app, explain_app, sql_app, why_app, gen_app, program_app, volcano_app};
 
 use clap::{Arg, ArgAction, Command, value_parser};
 use std::alloc::{AllocError, Global};
@@ -112,18 +112,8 @@ fn all_option<'a>(alloc: Global) -> Arg<'a>
         .action(ArgAction::SetTrue)
 }
 
-fn verbose_option<'a>(alloc: Global) -> Arg<'a>
-    ensures rule { rule_of result ≡ verbose_rule }
-    ensures own { result.global ≡ false }
-{
-    Arg::new(alloc, "verbose-errors")
-        .long("verbose-errors")
-        .help("Behind a refusal, a line that says where in the files it was found")
-        .action(ArgAction::SetTrue)
-}
-
 fn threads_option<'a>(alloc: Global) -> Arg<'a>
-    ensures rule { rule_of result ≡ number_rule (codes "threads") (codes "0") }
+    ensures rule { rule_of result ≡ threads_rule }
     ensures own { result.global ≡ false }
 {
     number_option(
@@ -246,8 +236,7 @@ fn serial<'a>(alloc: Global) -> Result<Command<'a>, AllocError>
         "Example: volcano serial --catalog catalog.json --plan plan.json --data tables",
     )?
     .arg(data_option(alloc))?
-    .arg(threads_option(alloc))?
-    .arg(verbose_option(alloc))
+    .arg(threads_option(alloc))
 }
 
 fn run<'a>(alloc: Global) -> Result<Command<'a>, AllocError>
@@ -282,7 +271,6 @@ fn run<'a>(alloc: Global) -> Result<Command<'a>, AllocError>
     ))?
     .arg(mode_option(alloc))?
     .arg(threads_option(alloc))?
-    .arg(verbose_option(alloc))?
     .arg(sizes_argument(alloc))
 }
 
@@ -296,8 +284,7 @@ fn check<'a>(alloc: Global) -> Result<Command<'a>, AllocError>
         "Says whether every note of the plan follows: `accepted`, `accepted total`, or the first note that does not",
         "Example: volcano check --catalog catalog.json --plan plan.json",
     )?
-    .arg(all_option(alloc))?
-    .arg(verbose_option(alloc))
+    .arg(all_option(alloc))
 }
 
 fn explain<'a>(alloc: Global) -> Result<Command<'a>, AllocError>
@@ -310,12 +297,11 @@ fn explain<'a>(alloc: Global) -> Result<Command<'a>, AllocError>
         "Prints a plan that the checker accepts: as a text with a line for each node, as JSON, or as a picture for Graphviz",
         "Example: volcano explain --catalog catalog.json --plan plan.json",
     )?
-    .arg(format_option(alloc))?
-    .arg(verbose_option(alloc))
+    .arg(format_option(alloc))
 }
 
 fn annotate<'a>(alloc: Global) -> Result<Command<'a>, AllocError>
-    ensures app { IfOk result (λ c. app_of c ≡ annotate_app) }
+    ensures app { IfOk result (λ c. app_of c ≡ judging_app (codes "annotate")) }
     ensures local { IfOk result (λ c. (fields_of c).has_globals ≡ false) }
 {
     judging(
@@ -323,8 +309,7 @@ fn annotate<'a>(alloc: Global) -> Result<Command<'a>, AllocError>
         "annotate",
         "Prints the plan, as JSON, with the notes that follow at each node in place of its own",
         "Example: volcano annotate --catalog catalog.json --plan plan.json",
-    )?
-    .arg(verbose_option(alloc))
+    )
 }
 
 fn sql<'a>(alloc: Global) -> Result<Command<'a>, AllocError>
@@ -337,8 +322,7 @@ fn sql<'a>(alloc: Global) -> Result<Command<'a>, AllocError>
         "Prints the plan without its exchanges as one statement of SQL; the notes of the plan are not checked",
         "Example: volcano sql --catalog catalog.json --plan plan.json --dialect postgres",
     )?
-    .arg(dialect_option(alloc))?
-    .arg(verbose_option(alloc))
+    .arg(dialect_option(alloc))
 }
 
 fn why<'a>(alloc: Global) -> Result<Command<'a>, AllocError>
