@@ -1,0 +1,10 @@
+//! Relations loaded by several threads: a text is cut at line feeds, and its pieces are read side by side.
+#![tactic(auto)]
+
+mod cuts;
+mod first_line;
+mod load;
+mod pieces;
+mod text;
+
+pub use load::{load_in_pieces, load_in_threads};
