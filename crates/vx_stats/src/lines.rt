@@ -1,5 +1,8 @@
 //! The lines of a run's counts: one for each node in each worker.
 
+ghost use Rattle.std.specs.Prelude.{◌≡◌, ◌++◌, map, IfOk, OnOk};
+ghost use Rattle.vx_stats.specs.Lines.{counted_at, worker_counted, each_counted};
+
 use std::alloc::{AllocError, Global};
 use vx_exec::WorkerCounts;
 use vx_operators::OperatorCounts;
@@ -34,6 +37,14 @@ fn top_of(worker: &WorkerCounts) -> Option<u32> {
     Some(top.node)
 }
 
+// The place of a worker, behind one with this top node at this place.
+fn next_place(before: Option<u32>, top: Option<u32>, place: usize) -> usize {
+    if top == before {
+        return place.saturating_add(1);
+    }
+    0
+}
+
 // The steps of a worker that waited for anything but a packet that one of its nodes wanted.
 fn other_waits(worker: &WorkerCounts) -> u64 {
     let mut waits = worker.steps.waits;
@@ -44,10 +55,14 @@ fn other_waits(worker: &WorkerCounts) -> u64 {
 }
 
 // Adds the lines of a worker: its top node has what the worker itself counted.
-fn add_lines(lines: &mut Vec<Line>, seat: Seat, worker: &WorkerCounts) -> Result<(), AllocError> {
+fn add_lines(lines: &mut Vec<Line>, seat: Seat, worker: &WorkerCounts) -> Result<(), AllocError>
+    ensures { OnOk result (map counted_at lines.new.items ≡ map counted_at lines.old.items ++ worker_counted seat.worker worker.now) }
+{
     let mut puts = worker.steps.puts;
     let mut waits = other_waits(worker);
-    for node in worker.nodes.as_slice() {
+    let nodes = worker.nodes.as_slice();
+    for place in 0..nodes.len() {
+        let node = nodes[place];
         lines.push(Line {
             node: node.node,
             worker: seat.worker,
@@ -64,17 +79,16 @@ fn add_lines(lines: &mut Vec<Line>, seat: Seat, worker: &WorkerCounts) -> Result
 
 /// A line for each node in each worker, the workers in the order of their numbers and the nodes of each in preorder. Workers of one
 /// fragment follow one another: they have the same top node.
-pub fn lines_of(alloc: Global, workers: &[WorkerCounts]) -> Result<Vec<Line>, AllocError> {
+pub fn lines_of(alloc: Global, workers: &[WorkerCounts]) -> Result<Vec<Line>, AllocError>
+    ensures { IfOk result (λ v. map counted_at v.items ≡ each_counted 0 workers.now) }
+{
     let mut lines = Vec::new(alloc);
     let mut top = None;
     let mut place = 0usize;
-    for (number, worker) in workers.iter().enumerate() {
+    for number in 0..workers.len() {
+        let worker = &workers[number];
         let next = top_of(worker);
-        place = if next == top {
-            place.saturating_add(1)
-        } else {
-            0
-        };
+        place = next_place(top, next, place);
         top = next;
         let seat = Seat {
             worker: number,
