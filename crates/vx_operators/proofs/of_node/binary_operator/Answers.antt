@@ -19,14 +19,14 @@ source-requires-clause-right c =
     (join-right-columns c.args.left.now c.args.right.now false c.in-HashJoin.on.items
     (subst (λ z. is_binary c.args.left.now c.args.right.now (binary_of z) ≡ true) c.in-HashJoin.is c.requires))
 
-pub new-requires-in-MergeJoin-clause-left : goal.new-requires-in-MergeJoin-clause-left
-new-requires-in-MergeJoin-clause-left c =
+pub new-requires-clause-left : goal.new-requires-clause-left
+new-requires-clause-left c =
     subst (λ (on : List (ℕ × ℕ)). AreColumns (length c.args.left.now) (map (λ (p : ℕ × ℕ). p.0) on)) (sym c.as_slice-in-MergeJoin.ensures.value)
     (join-left-columns c.args.left.now c.args.right.now true c.in-MergeJoin.on.items
     (subst (λ z. is_binary c.args.left.now c.args.right.now (binary_of z) ≡ true) c.in-MergeJoin.is c.requires))
 
-pub new-requires-in-MergeJoin-clause-right : goal.new-requires-in-MergeJoin-clause-right
-new-requires-in-MergeJoin-clause-right c =
+pub new-requires-clause-right : goal.new-requires-clause-right
+new-requires-clause-right c =
     subst (λ (on : List (ℕ × ℕ)). AreColumns (length c.args.right.now) (map (λ (p : ℕ × ℕ). p.1) on)) (sym c.as_slice-in-MergeJoin.ensures.value)
     (join-right-columns c.args.left.now c.args.right.now true c.in-MergeJoin.on.items
     (subst (λ z. is_binary c.args.left.now c.args.right.now (binary_of z) ≡ true) c.in-MergeJoin.is c.requires))
