@@ -1,8 +1,8 @@
 -- What a plan means over rows depends on the relations that it scans alone.
-use Rattle.std.proofs.Common.{◌≡◌, ◌∙◌, ℕ, ◌+◌, ◌<◌, List, Bool, true, false, cond, refl, sym, ap, subst, inl, inr, arith}
-use Rattle.std.specs.Prelude.{◌==◌, ◌||◌, ◌⊎◌}
+use Rattle.std.proofs.Common.{◌≡◌, ◌∙◌, ℕ, ◌+◌, List, Bool, true, false, cond, refl, ap, subst, inl, inr, arith}
+use Rattle.std.specs.Prelude.{◌==◌, ◌||◌}
 use Rattle.vx_values.specs.Values.{Row}
-use Rattle.vx_plan_nodes.specs.Plan.{Plan, scan, unary, binary, exchange, Unary, Binary, size}
+use Rattle.vx_plan_nodes.specs.Plan.{Plan, scan, unary, binary, exchange, Unary, Binary}
 use Rattle.vx_plan_nodes.specs.Runs.{Runs}
 use Rattle.vx_plan_nodes.specs.Routes.{Routing}
 use Rattle.vx_plan_nodes.specs.Streams.{workers, Streams, Dealt}

@@ -1,7 +1,7 @@
 -- A run of a plan over rows of more relations than it scans is one over its share.
-use Rattle.std.proofs.Common.{◌≡◌, ◌≢◌, ◌∙◌, ℕ, zero, suc, ◌+◌, ◌<◌, List, [], ◌∷◌, ◌++◌, map, length, Bool, true, false, cond, Option, Result, Ok, Err, refl, sym, ap, subst, arith, slice_index_or, inl, inr}
+use Rattle.std.proofs.Common.{◌≡◌, ◌∙◌, ℕ, zero, suc, ◌+◌, List, [], ◌∷◌, ◌++◌, length, Bool, true, false, cond, Option, Result, Ok, refl, sym, ap, subst, arith, slice_index_or, inl, inr}
 use Rattle.std.proofs.lemmas.List.{get_or_past}
-use Rattle.std.specs.Prelude.{◌||◌, ◌⊎◌, IfOk, IfErr}
+use Rattle.std.specs.Prelude.{◌||◌, IfOk}
 use Rattle.vx_values.specs.Values.{Row}
 use Rattle.vx_relations.specs.Relation.{Relation}
 use Rattle.vx_relations.specs.Naming as catalog
@@ -12,8 +12,7 @@ use Rattle.vx_plan_nodes.specs.Outline.{plan_in}
 use Rattle.vx_plan_nodes.specs.Plan.{Plan}
 use Rattle.vx_plan_nodes.specs.Routes.{sends_by}
 use Rattle.vx_plan_nodes.specs.Typed.{bounds_at}
-use Rattle.vx_plan_nodes.specs.Serial.{SerialResult, IsOverflow, rows}
-use Rattle.vx_plan_nodes.specs.Erase.{erase}
+use Rattle.vx_plan_nodes.specs.Serial.{SerialResult, IsOverflow}
 use Rattle.vx_check_rules.specs.Claims.{Delivers}
 use Rattle.vx_laws.specs.Faults.{IsReal}
 use Rattle.vx_groups.specs.Groups.{group_at}
@@ -21,18 +20,17 @@ use Rattle.vx_exec.specs.Runs.{IsRunOf, IsSetUp, IsTrueOf}
 use Rattle.vx_exec.specs.Runs as fails
 use Rattle.vx_exec.specs.Sizes.{Sizes}
 use Rattle.vx_rows.specs.View.{RowsView}
-use Rattle.vx_setup.specs.Setup.{SetupView}
 use Rattle.vx_setup.specs.declared.fault.RunFault.{RunFault}
 use Rattle.vx_setup.specs.declared.fault.RunFault.TheVariants as run
 use Rattle.vx_bundle.specs.Setting.{Setting}
 use Rattle.vx_bytes.specs.Stored.{Stored}
 use Rattle.vx_exchange.specs.ByteRouter.{byte_route}
 use Rattle.vx_refusals.specs.declared.refusal.Refusal.{Refusal}
-use Rattle.vx_tables.specs.Filled.{scans, IsFilledBy}
-use Rattle.vx_answer.specs.Commands.{Holding, setup_of, IsDatabaseFor, IsRunOver, RunRefuses, for_rounds, for_threads, run_memory, for_fault}
-use Rattle.vx_answer.specs.Planning.{exactly, IsPlanned}
+use Rattle.vx_tables.specs.Filled.{scans}
+use Rattle.vx_answer.specs.Commands.{Holding, setup_of, IsRunOver, RunRefuses, for_rounds, for_threads, run_memory, for_fault}
+use Rattle.vx_answer.specs.Planning.{exactly}
 use Rattle.vx_answer.specs.Files.{input_after}
-use Rattle.vx_answer.specs.Plans.{NamedPlan, plan_under, AreAccepted, any_scans, IsLoadedFor, IsShareFor, IsRunIn, RunRefusesIn, title, AreAnswers, StopsAt}
+use Rattle.vx_answer.specs.Plans.{NamedPlan, AreAccepted, any_scans, IsLoadedFor, IsShareFor, IsRunIn, RunRefusesIn, AreAnswers, StopsAt}
 use Rattle.vx_answer.proofs.SeenFacts.{SameSeen, serial_seen, too_long_seen, large_part_seen, runs_seen}
 
 -- rows of which the numbers are kept, counted from i; none of the others

@@ -1,11 +1,7 @@
 -- Several plans, as they are held.
-use Rattle.std.specs.Prelude.{◌≡◌, ℕ, List, map, Result, Ok, Err}
-use Rattle.std.specs.declared.alloc.Global.{Global}
-use Rattle.std.specs.Prelude.{Vec}
+use Rattle.std.specs.Prelude.{List, map}
 use Rattle.vx_plan_nodes.specs.TypedView.{resolved_of}
-use Rattle.vx_plan_nodes.specs.Names.{TypedPlanView}
 use Rattle.vx_check_rules.specs.CheckedView.{typed_plan}
-use Rattle.vx_refusals.specs.declared.refusal.Refusal.{Refusal}
 use Rattle.vx_answer.specs.declared.plans.AcceptedPlan.{AcceptedPlan}
 use Rattle.vx_answer.specs.declared.plans.AcceptedPlans.{AcceptedPlans}
 use Rattle.vx_answer.specs.Plans.{NamedPlan}

@@ -1,4 +1,4 @@
-use Rattle.std.proofs.Common.{◌≡◌, ℕ, List, Ok, refl, sym, subst}
+use Rattle.std.proofs.Common.{◌≡◌, Ok, refl, sym, subst}
 use Rattle.std.proofs.lemmas.Result.{err_from_is_err_and, IfOk-weaker, IfErr-weaker}
 use Rattle.vx_plan_json.specs.Fault as plan
 use Rattle.vx_plan_json.specs.PlanView.{document_of}

@@ -1,4 +1,4 @@
-use Rattle.std.proofs.Common.{rules, ◌≡◌, ◌<◌, ◌∙◌, ◌++◌, length, refl, subst}
+use Rattle.std.proofs.Common.{rules, ◌≡◌, ◌<◌, ◌++◌, length, refl, subst}
 use Rattle.vx_answer.specs.Commands.{IsRunOver, RunRefuses, run_memory}
 use Rattle.vx_answer.specs.Plans.{title}
 use Rattle.vx_answer.specs.PlansView.{named_is}
