@@ -241,6 +241,6 @@ TEXTS = [
     Kind("keys that a join of 992 pairs claims", claimed_keys, 3_000, "accepted", "time: each claimed key is held against each key of the inputs"),
     Kind("rows that collide under the fixed seed", colliding_keys, 20_000, "a,b 0,.*"),
     Kind("a prefix of 64 columns under 61 gathers", long_prefix, 50_000, "accepted"),
-    Kind("a prefix of 32 columns under 31 joins", joined_prefix, 50_000, "accepted", "memory: each join has copies of its inputs' names"),
-    Kind("a column's name, in a relation that 500 scans read", scanned_name, 50_000, "accepted", "memory: each scan makes the names of its output"),
+    Kind("a prefix of 32 columns under 31 joins", joined_prefix, 50_000, "accepted"),
+    Kind("a column's name, in a relation that 500 scans read", scanned_name, 50_000, "accepted"),
 ]

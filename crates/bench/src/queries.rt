@@ -80,10 +80,10 @@ impl Subject {
         }
     }
 
-    // Its plan as JSON.
-    fn text(self, alloc: Global) -> Result<String, AllocError> {
+    // Its plan as JSON, where the largest relations have so many rows.
+    fn text(self, alloc: Global, rows: u64) -> Result<String, AllocError> {
         match self {
-            Subject::Query(number) => String::from_str(alloc, plan(number).unwrap_or("")),
+            Subject::Query(number) => quartered(alloc, plan(number).unwrap_or(""), rows),
             Subject::Below(bound) => format!(in alloc;
                 "{{\"sizes\":[\"many\"],\"root\":{{\"op\":\"exchange\",\"kind\":\"gather\",\"claim\":{{\"part\":\"one\"}},\"input\":{{\"op\":\"select\",\"where\":[{{\"column\":\"unique2\",\"op\":\"<\",\"value\":{bound}}}],\"claim\":{{\"part\":\"any\"}},\"input\":{{\"op\":\"scan\",\"relation\":\"tenk1\",\"mode\":\"shared\",\"size\":\"many\",\"claim\":{{\"part\":\"any\"}}}}}}}}}}"
             ),
@@ -102,9 +102,20 @@ impl Subject {
     }
 }
 
-// The plan of a subject, which the checker accepts.
-fn plan_of(alloc: Global, database: &Database, subject: Subject) -> Result<CheckedPlan, Error> {
-    let text = subject.text(alloc)?;
+// A plan whose range is made for 10,000 rows, with the range that gives each of four workers a quarter of so many rows.
+fn quartered(alloc: Global, plan: &str, rows: u64) -> Result<String, AllocError> {
+    let quarters = format!(in alloc; "[{}, {}, {}]", rows / 4, rows / 2, rows / 4 * 3)?;
+    plan.replace(alloc, "[2500, 5000, 7500]", quarters.as_str())
+}
+
+// The plan of a subject, which the checker accepts, where the largest relations have so many rows.
+fn plan_of(
+    alloc: Global,
+    database: &Database,
+    subject: Subject,
+    rows: u64,
+) -> Result<CheckedPlan, Error> {
+    let text = subject.text(alloc, rows)?;
     let plan = Plan::read(alloc, text.as_bytes())?;
     match check(resolve(alloc, &plan, database.catalog())?) {
         Ok(plan) => Ok(plan),
@@ -240,7 +251,7 @@ impl Bench {
         columns: &Columns<'_>,
         subject: Subject,
     ) -> Result<(), Error> {
-        let plan = plan_of(self.alloc, database, subject)?;
+        let plan = plan_of(self.alloc, database, subject, self.rows)?;
         let query = Query {
             subject,
             erased: erase(self.alloc, plan.plan())?,

@@ -7,6 +7,8 @@
 #[cfg(test)]
 mod cases;
 #[cfg(test)]
+mod counts;
+#[cfg(test)]
 mod crowds;
 #[cfg(test)]
 mod databases;

@@ -58,7 +58,7 @@ pub fn columns(alloc: Global, plan: &TypedPlan) -> Result<String, AllocError> {
     let columns = &plan.root().head().columns;
     let mut text = String::new(alloc);
     for (name, kind) in columns.names.iter().zip(columns.types.iter()) {
-        text.push_str(name.as_str())?;
+        name.push_to(&mut text)?;
         text.push_str(" ")?;
         text.push_str(type_name(*kind))?;
         text.push_str("; ")?;

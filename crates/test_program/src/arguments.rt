@@ -241,6 +241,34 @@ fn plans_are_run_over_folders(rt: HostRuntime) -> Result<(), Fail> {
     Ok(())
 }
 
+// Arguments after the paths of a run of `p.json` that have a second plan, and what comes of both.
+const SECOND_PLANS: [(&[&str], &str); 4] = [
+    (
+        &["--plan", "p.json", "many=3"],
+        "# p.json\nid,k,v\n1,b,7\n3,c,7\n# p.json\nid,k,v\n1,b,7\n3,c,7\n||0",
+    ),
+    (
+        &["--plan", "odd.json", "many=3"],
+        "|volcano: P2 BadNode path=document\n|3",
+    ),
+    (
+        &["--plan", "no", "many=3"],
+        "|volcano: V3 FileUnreadable path=no\n|3",
+    ),
+    (
+        &["--plan", "p.json"],
+        "|volcano: X1 SizeMissing name=many\n|3",
+    ),
+];
+
+#[test]
+fn several_plans_are_run_in_order(rt: HostRuntime) -> Result<(), Fail> {
+    for (more, line) in SECOND_PLANS {
+        assert_eq!(rt; run_with(&rt, "p.json", more)?.as_str(), line);
+    }
+    Ok(())
+}
+
 #[test]
 fn sizes_are_names_with_numbers(rt: HostRuntime) -> Result<(), Fail> {
     let line = run_with(&rt, "cut.json", &["a=b=4294967295"])?;

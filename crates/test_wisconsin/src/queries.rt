@@ -9,7 +9,7 @@ use std::test::Fail;
 use vx_bytes::MemoryIn;
 use vx_catalog::{Catalog, Database, Loader, format_rows};
 use vx_check::{CheckedPlan, check};
-use vx_plan::{Plan, erase, resolve};
+use vx_plan::{Plan, erase, name_texts, resolve};
 use vx_serial::eval;
 use vx_wisconsin::{catalog, plan};
 
@@ -60,8 +60,8 @@ fn result_of(alloc: Global, database: &Database, query: u32) -> Result<String, F
     let plan = checked(alloc, database.catalog(), query)?;
     let plan = plan.plan();
     let rows = eval(alloc, &erase(alloc, plan)?, database)?;
-    let names = plan.root().head().columns.names.as_slice();
-    Ok(String::from_utf8(format_rows(alloc, names, &rows)?)?)
+    let names = name_texts(alloc, plan.root().head().columns.names.as_slice())?;
+    Ok(String::from_utf8(format_rows(alloc, names.as_slice(), &rows)?)?)
 }
 
 #[test]

@@ -3,7 +3,7 @@
 use crate::formed::FormedClaim;
 use std::alloc::{AllocError, Global};
 use vx_plan_json::{NamedClaim, NamedPart, NamedRange};
-use vx_plan_nodes::{Claim, Columns, Part, Route};
+use vx_plan_nodes::{Claim, Columns, Name, Part, Route};
 use vx_relations::Catalog;
 
 /// What names the columns and the routes of claims.
@@ -13,14 +13,14 @@ pub struct Naming<'a> {
     pub ranges: &'a [NamedRange],
 }
 
-fn name_at(alloc: Global, names: &[String], column: usize) -> Result<String, AllocError> {
+fn name_at(alloc: Global, names: &[Name], column: usize) -> Result<String, AllocError> {
     match names.get(column) {
-        Some(name) => String::from_str(alloc, name.as_str()),
+        Some(name) => name.to_text(alloc),
         None => Ok(String::new(alloc)),
     }
 }
 
-fn names_at(alloc: Global, names: &[String], columns: &[usize]) -> Result<Vec<String>, AllocError> {
+fn names_at(alloc: Global, names: &[Name], columns: &[usize]) -> Result<Vec<String>, AllocError> {
     let mut found = Vec::new(alloc);
     for column in columns {
         found.push(name_at(alloc, names, *column)?)?;
@@ -30,7 +30,7 @@ fn names_at(alloc: Global, names: &[String], columns: &[usize]) -> Result<Vec<St
 
 fn keys_at(
     alloc: Global,
-    names: &[String],
+    names: &[Name],
     keys: &[Vec<usize>],
 ) -> Result<Vec<Vec<String>>, AllocError> {
     let mut found = Vec::new(alloc);
@@ -47,7 +47,7 @@ fn range_name(alloc: Global, ranges: &[NamedRange], range: usize) -> Result<Stri
     }
 }
 
-fn first_name(alloc: Global, names: &[String], columns: &[usize]) -> Result<String, AllocError> {
+fn first_name(alloc: Global, names: &[Name], columns: &[usize]) -> Result<String, AllocError> {
     match columns {
         [first, ..] => name_at(alloc, names, *first),
         [] => Ok(String::new(alloc)),
@@ -58,7 +58,7 @@ impl Naming<'_> {
     fn named_part(
         &self,
         alloc: Global,
-        names: &[String],
+        names: &[Name],
         part: &Part,
     ) -> Result<NamedPart, AllocError> {
         match part {

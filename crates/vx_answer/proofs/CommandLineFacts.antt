@@ -1,5 +1,5 @@
 -- From the answer to what arguments ask for, or its refusal, to that of the arguments.
-use Rattle.std.proofs.Common.{◌≡◌, ◌∙◌, ℕ, List, Bool, Option, Result, Ok, Err, inl, inr, sym, subst}
+use Rattle.std.proofs.Common.{arith, ◌≡◌, ◌⊎◌, ◌∙◌, ℕ, List, Bool, Option, Result, Ok, Err, inl, inr, sym, subst}
 use Rattle.std.specs.Prelude.{IfOk, IfErr}
 use Rattle.clap.specs.Values.{kind_of}
 use Rattle.clap.specs.Words.{HasKind, IsAmong}
@@ -7,12 +7,14 @@ use Rattle.clap.specs.declared.error.Error.{Error}
 use Rattle.clap.specs.declared.error.kind.ErrorKind.{ErrorKind}
 use Rattle.clap.specs.declared.error.kind.ErrorKind.TheVariants as kind
 use Rattle.vx_plan_nodes.specs.Names.{TypedPlanView}
-use Rattle.vx_arguments.specs.Asked.{Ask, Paths, faults_of}
+use Rattle.vx_arguments.specs.Asked.{Ask, Paths, ManyPaths, Given, run_plans, faults_of}
 use Rattle.vx_refusals.specs.declared.refusal.Refusal.{Refusal}
 use Rattle.vx_answer.specs.declared.command_line.ArgumentAnswer.{ArgumentAnswer}
 use Rattle.vx_answer.specs.declared.command_line.ArgumentAnswer.TheVariants as answer
 use Rattle.vx_answer.specs.declared.command_line.ArgumentFault.{ArgumentFault}
 use Rattle.vx_answer.specs.declared.command_line.ArgumentFault.TheVariants as fault
+use Rattle.vx_bundle.specs.Setting.{Setting}
+use Rattle.vx_answer.specs.Arguments.{IsSetting}
 use Rattle.vx_answer.specs.Commands.{CommandRefuses}
 use Rattle.vx_bytes.specs.Stored.{Stored}
 use Rattle.vx_tables.specs.Folder.{holds_at, LacksAt}
@@ -21,8 +23,8 @@ use Rattle.vx_plan_json.specs.Document.{Document}
 use Rattle.vx_answer.specs.Files.{AreRead, IsFilesPlan}
 use Rattle.vx_answer.specs.Annotated.{AnnotationRefuses}
 use Rattle.vx_answer.specs.Forms.{FormRefuses}
-use Rattle.vx_answer.specs.CommandLine.{FileCommand, FormIsRefused, for_form, AnnotationIsRefused, for_annotation, TaskRefuses, for_plan_of, with_program_name, AsksFor, for_help, for_what_is_asked, for_kind, for_no_task, arguments_memory, for_ask}
-use Rattle.vx_answer.specs.CommandLineView.{IsAskAnswer, IsArgumentAnswer, IsHelp, IsClapFault, IsAskFault, IsArgumentFault}
+use Rattle.vx_answer.specs.CommandLine.{FileCommand, FormIsRefused, for_form, AnnotationIsRefused, for_annotation, TaskRefuses, for_plan_of, with_program_name, AsksFor, for_help, for_what_is_asked, for_kind, for_no_task, arguments_memory, for_ask, for_asked_runs, for_stopped, ArgumentsRefuse, AsksForStopped}
+use Rattle.vx_answer.specs.CommandLineView.{IsAskAnswer, IsArgumentAnswer, IsHelp, IsClapFault, IsAskFault, IsPlansFault, IsArgumentFault}
 
 -- what the command makes nothing of, the task has no answer to
 pub task_refused : {T : Type 0} (files : List ℕ → Stored) (reliable : List ℕ → Bool) (input : Option (List ℕ)) (failed : Bool) (t : FileCommand) (p : TypedPlanView) (r : Result T Refusal)
@@ -57,6 +59,7 @@ arguments_refused files reliable input failed arguments ask (Ok v) asked h = tt
 arguments_refused files reliable input failed arguments ask (Err (fault.Usage text)) asked h = for_no_task ask asked h
 arguments_refused files reliable input failed arguments ask (Err (fault.Refused e)) asked h = for_ask ask asked h
 arguments_refused files reliable input failed arguments ask (Err (fault.Failing lines)) asked h = let P : Ask → Type 0 = λ a. AsksFor arguments a in (h.0, subst P h.1 asked, h.2)
+arguments_refused files reliable input failed arguments ask (Err (fault.Stopped s)) asked h = (ask, asked, h)
 
 -- what clap answers is help or the version
 pub clap_answer : (files : List ℕ → Stored) (input : Option (List ℕ)) (arguments : List (List ℕ)) (error : Error) (r : Result ArgumentAnswer ArgumentFault)
@@ -78,3 +81,26 @@ clap_refused files reliable input failed arguments error (Err (fault.Usage text)
 clap_refused files reliable input failed arguments error (Err (fault.Usage text)) (inr among) h = for_kind (kind_of error) among h
 clap_refused files reliable input failed arguments error (Err (fault.Refused e)) has h = arguments_memory h
 clap_refused files reliable input failed arguments error (Err (fault.Failing lines)) has h = absurd h
+clap_refused files reliable input failed arguments error (Err (fault.Stopped s)) has h = absurd h
+
+-- why runs of several plans have no answer is why what arguments ask for has none
+pub plans_fault : (files : List ℕ → Stored) (reliable : List ℕ → Bool) (input : Option (List ℕ)) (failed : Bool) (ask : Ask) (paths : ManyPaths) (folder : List ℕ) (limits : Given) (setting : Setting) (e : ArgumentFault)
+    → ask ≡ run_plans paths folder limits → IsSetting limits setting → IsPlansFault files reliable input failed paths folder setting e → IsAskFault files reliable input failed ask e
+plans_fault files reliable input failed ask paths folder limits setting (fault.Usage text) is set h = absurd h
+plans_fault files reliable input failed ask paths folder limits setting (fault.Refused e) is set h = for_asked_runs paths folder limits setting is set h
+plans_fault files reliable input failed ask paths folder limits setting (fault.Failing lines) is set h = absurd h
+plans_fault files reliable input failed ask paths folder limits setting (fault.Stopped s) is set h = (paths, folder, limits, setting, is, set, h)
+
+-- runs that stop at a plan are refused for that
+pub stopped_refuses : (files : List ℕ → Stored) (reliable : List ℕ → Bool) (input : Option (List ℕ)) (failed : Bool) (arguments : List (List ℕ)) (text : List ℕ) (e : Refusal) → AsksForStopped files input arguments text e
+    → ArgumentsRefuse files reliable input failed arguments e
+stopped_refuses files reliable input failed arguments text e h = for_ask h.0 h.1 (for_stopped text h.2)
+
+-- and end with its status, or with 4 where the output failed
+pub three_stopped : (X : Type 0) (n status : ℕ) → (n ≡ status) ⊎ ((n ≡ 4) × X) → n ≡ 3 → status ≡ 3
+three_stopped X n status (inl is) three = sym is ∙ three
+three_stopped X n status (inr h) three = let four = h.0 in absurd (omega (arith, four, three))
+
+pub four_stopped : (X R : Type 0) (n status : ℕ) → (status ≡ 4 → R) → (n ≡ status) ⊎ ((n ≡ 4) × X) → n ≡ 4 → X ⊎ R
+four_stopped X R n status refused (inl is) four = inr (refused (sym is ∙ four))
+four_stopped X R n status refused (inr h) four = inl h.1

@@ -6,3 +6,6 @@ pub mod FileFacts
 pub mod CommandLineFacts
 pub mod ArgumentFacts
 pub mod CaseFacts
+pub mod SeenFacts
+pub mod PlansFacts
+pub mod SharesFacts

@@ -4,7 +4,7 @@ use Rattle.clap.specs.Words.{IsAmong}
 use Rattle.clap.specs.declared.error.kind.ErrorKind.{ErrorKind}
 use Rattle.clap.specs.declared.error.kind.ErrorKind.TheVariants as kind
 use Rattle.vx_plan_nodes.specs.Names.{TypedPlanView}
-use Rattle.vx_arguments.specs.Asked.{Ask, Paths, bundle, check, check_all, explain, annotate, sql, why, serial, run, generate, asked_by, faults_of}
+use Rattle.vx_arguments.specs.Asked.{Ask, Paths, ManyPaths, Given, bundle, check, check_all, explain, annotate, sql, why, serial, run, run_plans, generate, asked_by, faults_of}
 use Rattle.vx_bundle.specs.declared.command.Command.{Command}
 use Rattle.vx_bundle.specs.declared.command.Command.TheVariants as command
 use Rattle.vx_bundle.specs.declared.setting.Mode.TheVariants as mode
@@ -26,6 +26,7 @@ use Rattle.vx_answer.specs.Statements.{dialect_named, IsStatement}
 use Rattle.vx_sql.specs.declared.dialect.Dialect.{Dialect}
 use Rattle.vx_answer.specs.Annotated.{IsAnnotated, AnnotationRefuses}
 use Rattle.vx_answer.specs.Verdict.{IsAllShown, AreFailures}
+use Rattle.vx_answer.specs.Plans.{AnswersPlans, PlansStop, PlansRefuse}
 use Rattle.vx_answer.specs.declared.forms.PlanForm.{PlanForm}
 use Rattle.vx_why.specs.Codes.{is_code}
 use Rattle.vx_wisconsin.specs.Wisconsin.{max_rows, wisconsin, column_names}
@@ -52,6 +53,7 @@ IsTask (sql paths dialect) t = ⊥
 IsTask (why code) t = ⊥
 IsTask (serial paths folder) t = t ≡ record { command = command.Serial; paths = paths; folder = folder; setting = default_setting }
 IsTask (run paths folder limits) t = (s : Setting) × IsSetting limits s × (t ≡ record { command = command.Run; paths = paths; folder = folder; setting = s })
+IsTask (run_plans paths folder limits) t = ⊥
 IsTask (generate rows) t = ⊥
 
 -- arguments ask for a run and set none up, for a format or a dialect that there is not, or for a code that is none
@@ -65,6 +67,7 @@ IsNoTask (sql paths dialect) = dialect_named dialect ≡ None
 IsNoTask (why code) = is_code code ≡ false
 IsNoTask (serial paths folder) = ⊥
 IsNoTask (run paths folder limits) = IsNoSetting limits
+IsNoTask (run_plans paths folder limits) = IsNoSetting limits
 IsNoTask (generate rows) = ⊥
 
 -- the text answers a task: it is what its command asks for of its plan over the files of its folder
@@ -121,7 +124,7 @@ IsEntry code text = (is_code code ≡ true) × (take (length code + 1) text ≡ 
 abbrev pub with_program_name : List (List ℕ) → List (List ℕ)
 with_program_name arguments = codes "volcano" ∷ arguments
 
--- the text answers what arguments ask for: the bundle on standard input, a task, a check of all nodes, a plan in a form, as SQL or with other claims, what a code means, or a relation, which has 10,000,000 rows at most
+-- the text answers what arguments ask for: the bundle on standard input, a task, a check of all nodes, a plan in a form, as SQL or with other claims, runs of several plans, what a code means, or a relation, which has 10,000,000 rows at most
 pub data AnswersAsk (files : List ℕ → Stored) (input : Option (List ℕ)) (ask : Ask) (text : List ℕ) : Type 0 where
   for_bundle : ask ≡ bundle → IfSome input (λ bytes. IsAnswer bytes text) → AnswersAsk files input ask text
   for_task : (t : FileCommand) → IsTask ask t → AnswersTask files input t text → AnswersAsk files input ask text
@@ -130,7 +133,14 @@ pub data AnswersAsk (files : List ℕ → Stored) (input : Option (List ℕ)) (a
   for_all_nodes : (paths : Paths) → ask ≡ check_all paths → AnswersAll files input paths text → AnswersAsk files input ask text
   for_claims : (paths : Paths) → ask ≡ annotate paths → AnswersAnnotation files input paths text → AnswersAsk files input ask text
   for_code : (code : List ℕ) → ask ≡ why code → IsEntry code text → AnswersAsk files input ask text
+  for_runs : (paths : ManyPaths) (folder : List ℕ) (limits : Given) (s : Setting) → ask ≡ run_plans paths folder limits → IsSetting limits s → AnswersPlans files input paths folder s text
+      → AnswersAsk files input ask text
   for_relation : (rows : ℕ) → ask ≡ generate rows → rows ≤ max_rows → text ≡ csv_text column_names (wisconsin rows) → AnswersAsk files input ask text
+
+-- arguments ask for runs of several plans, of which one gives no text for this reason; the text is that of the runs before it
+abbrev pub AskStops : (List ℕ → Stored) → Option (List ℕ) → Ask → List ℕ → Refusal → Type 0
+AskStops files input ask text e =
+    (paths : ManyPaths) × (folder : List ℕ) × (limits : Given) × (s : Setting) × (ask ≡ run_plans paths folder limits) × IsSetting limits s × PlansStop files input paths folder s text e
 
 -- what arguments ask for is refused with this refusal
 pub data AskRefuses (files : List ℕ → Stored) (reliable : List ℕ → Bool) (input : Option (List ℕ)) (failed : Bool) (ask : Ask) (e : Refusal) : Type 0 where
@@ -141,6 +151,9 @@ pub data AskRefuses (files : List ℕ → Stored) (reliable : List ℕ → Bool)
   for_asked_sql : (d : Dialect) (paths : Paths) (name : List ℕ) → ask ≡ sql paths name → dialect_named name ≡ Some d → StatementIsRefused files reliable input failed paths e → AskRefuses files reliable input failed ask e
   for_asked_all : (paths : Paths) → ask ≡ check_all paths → IsFilesRefusal files reliable input failed paths e → AskRefuses files reliable input failed ask e
   for_asked_claims : (paths : Paths) → ask ≡ annotate paths → AnnotationIsRefused files reliable input failed paths e → AskRefuses files reliable input failed ask e
+  for_asked_runs : (paths : ManyPaths) (folder : List ℕ) (limits : Given) (s : Setting) → ask ≡ run_plans paths folder limits → IsSetting limits s
+      → PlansRefuse files reliable input failed paths folder e → AskRefuses files reliable input failed ask e
+  for_stopped : (text : List ℕ) → AskStops files input ask text e → AskRefuses files reliable input failed ask e
   for_asked_relation : (rows : ℕ) → ask ≡ generate rows → max_rows < rows → e ≡ refusal.TooLarge → AskRefuses files reliable input failed ask e
 
 -- arguments ask for help or for the version
@@ -175,6 +188,10 @@ pub data ArgumentsRefuse (files : List ℕ → Stored) (reliable : List ℕ → 
 -- arguments ask for a check of all nodes of a plan of which some fail, with these lines
 abbrev pub AsksForFailing : (List ℕ → Stored) → Option (List ℕ) → List (List ℕ) → List ℕ → Type 0
 AsksForFailing files input arguments lines = (paths : Paths) × AsksFor arguments (check_all paths) × FailsAtAll files input paths lines
+
+-- arguments ask for runs of several plans that stop at one of them, for this reason and with this text of the runs before it
+abbrev pub AsksForStopped : (List ℕ → Stored) → Option (List ℕ) → List (List ℕ) → List ℕ → Refusal → Type 0
+AsksForStopped files input arguments text e = (ask : Ask) × AsksFor arguments ask × AskStops files input ask text e
 
 -- arguments are refused by a refusal of this status
 abbrev pub AreRefusedBy : ℕ → (List ℕ → Stored) → (List ℕ → Bool) → Option (List ℕ) → Bool → List (List ℕ) → Type 0

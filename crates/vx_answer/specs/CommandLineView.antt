@@ -1,6 +1,6 @@
 -- What arguments ask for, as it is held; what answers them, and why they have no answer.
 use Rattle.std.specs.Prelude.{◌≡◌, ℕ, ◌⊎◌, List, Bool, Option, Some, string_bytes}
-use Rattle.vx_arguments.specs.Asked.{paths_are, Ask, Paths, bundle, check_all, explain, annotate, sql, why, generate}
+use Rattle.vx_arguments.specs.Asked.{paths_are, many_are, Ask, Paths, ManyPaths, Given, bundle, check_all, explain, annotate, sql, why, run_plans, generate}
 use Rattle.vx_answer.specs.declared.command_line.FileCommand as held
 use Rattle.vx_answer.specs.declared.command_line.Job.{Job}
 use Rattle.vx_answer.specs.declared.command_line.Job.TheVariants as job
@@ -14,10 +14,18 @@ use Rattle.vx_refusals.specs.declared.refusal.Refusal.TheVariants as refusal
 use Rattle.vx_bytes.specs.Stored.{Stored}
 use Rattle.vx_answer.specs.Forms.{form_named}
 use Rattle.vx_answer.specs.Statements.{dialect_named}
-use Rattle.vx_answer.specs.CommandLine.{FileCommand, IsTask, IsNoTask, IsEntry, AnswersAsk, FailsAtAll, AsksFor, AsksForFailing, AnswersArguments, IsUsageKind, AskRefuses, IsUsageError, ArgumentsRefuse}
+use Rattle.vx_bundle.specs.Setting.{Setting}
+use Rattle.vx_answer.specs.declared.command_line.FilePlans.{FilePlans}
+use Rattle.vx_answer.specs.Arguments.{IsSetting}
+use Rattle.vx_answer.specs.Plans.{PlansStop, PlansRefuse}
+use Rattle.vx_answer.specs.CommandLine.{FileCommand, IsTask, IsNoTask, IsEntry, AnswersAsk, AskStops, FailsAtAll, AsksFor, AsksForFailing, AsksForStopped, AnswersArguments, IsUsageKind, AskRefuses, IsUsageError, ArgumentsRefuse}
 
 abbrev pub task_is : held.FileCommand → FileCommand
 task_is t = record { command = t.command; paths = paths_are t.sources; folder = t.folder.now; setting = t.setting }
+
+-- runs of several plans are what arguments ask for
+abbrev pub IsPlansTask : Ask → FilePlans → Type 0
+IsPlansTask ask t = (limits : Given) × (ask ≡ run_plans (many_are t.sources) t.folder.now limits) × IsSetting limits t.setting
 
 -- a job does what arguments ask for
 abbrev pub IsJob : Ask → Job → Type 0
@@ -27,6 +35,7 @@ IsJob ask (job.Verdict sources) = ask ≡ check_all (paths_are sources)
 IsJob ask (job.Annotation sources) = ask ≡ annotate (paths_are sources)
 IsJob ask (job.Form f sources) = (format : List ℕ) × (ask ≡ explain (paths_are sources) format) × (form_named format ≡ Some f)
 IsJob ask (job.Statement d sources) = (name : List ℕ) × (ask ≡ sql (paths_are sources) name) × (dialect_named name ≡ Some d)
+IsJob ask (job.Plans t) = IsPlansTask ask t
 IsJob ask (job.Entry text) = (code : List ℕ) × (ask ≡ why code) × IsEntry code text.now
 IsJob ask (job.Relation rows) = ask ≡ generate rows
 
@@ -50,21 +59,32 @@ abbrev pub HasUsageText : List ℕ → ArgumentFault → Type 0
 HasUsageText message (fault.Usage text) = string_bytes text ≡ message
 HasUsageText message (fault.Refused e) = e ≡ refusal.NoMemory
 HasUsageText message (fault.Failing lines) = ⊥
+HasUsageText message (fault.Stopped s) = ⊥
 
 -- a refusal by clap of this kind: arguments are wrong only by a kind that says so
 abbrev pub IsClapFault : ErrorKind → ArgumentFault → Type 0
 IsClapFault k (fault.Usage text) = IsUsageKind k
 IsClapFault k (fault.Refused e) = e ≡ refusal.NoMemory
 IsClapFault k (fault.Failing lines) = ⊥
+IsClapFault k (fault.Stopped s) = ⊥
+
+-- why runs of several plans have no answer, or no whole one
+abbrev pub IsPlansFault : (List ℕ → Stored) → (List ℕ → Bool) → Option (List ℕ) → Bool → ManyPaths → List ℕ → Setting → ArgumentFault → Type 0
+IsPlansFault files reliable input failed paths folder setting (fault.Usage text) = ⊥
+IsPlansFault files reliable input failed paths folder setting (fault.Refused e) = PlansRefuse files reliable input failed paths folder e
+IsPlansFault files reliable input failed paths folder setting (fault.Failing lines) = ⊥
+IsPlansFault files reliable input failed paths folder setting (fault.Stopped s) = PlansStop files input paths folder setting s.text.items s.refusal
 
 -- why what arguments ask for is not answered
 abbrev pub IsAskFault : (List ℕ → Stored) → (List ℕ → Bool) → Option (List ℕ) → Bool → Ask → ArgumentFault → Type 0
 IsAskFault files reliable input failed ask (fault.Usage text) = IsNoTask ask
 IsAskFault files reliable input failed ask (fault.Refused e) = AskRefuses files reliable input failed ask e
 IsAskFault files reliable input failed ask (fault.Failing lines) = (paths : Paths) × (ask ≡ check_all paths) × FailsAtAll files input paths (string_bytes lines)
+IsAskFault files reliable input failed ask (fault.Stopped s) = AskStops files input ask s.text.items s.refusal
 
 -- why arguments are not answered
 abbrev pub IsArgumentFault : (List ℕ → Stored) → (List ℕ → Bool) → Option (List ℕ) → Bool → List (List ℕ) → ArgumentFault → Type 0
 IsArgumentFault files reliable input failed arguments (fault.Usage text) = IsUsageError arguments
 IsArgumentFault files reliable input failed arguments (fault.Refused e) = ArgumentsRefuse files reliable input failed arguments e
 IsArgumentFault files reliable input failed arguments (fault.Failing lines) = AsksForFailing files input arguments (string_bytes lines)
+IsArgumentFault files reliable input failed arguments (fault.Stopped s) = AsksForStopped files input arguments s.text.items s.refusal

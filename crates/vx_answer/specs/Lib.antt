@@ -11,3 +11,5 @@ pub mod VerdictView
 pub mod CommandLine
 pub mod CommandLineView
 pub mod Case
+pub mod Plans
+pub mod PlansView

@@ -2,31 +2,35 @@
 
 ghost use Rattle.std.specs.Prelude.{◌≡◌, map, MatchOption, IfOk, IfErr};
 ghost use Rattle.clap.specs.Values.{kind_of};
-ghost use Rattle.vx_arguments.specs.Asked.{asked_is, paths_are, given_is, run, check_all, explain, sql, why};
-ghost use Rattle.vx_answer.specs.Arguments.{IsNoSetting};
+ghost use Rattle.vx_arguments.specs.Asked.{asked_is, paths_are, many_are, given_is, run, run_plans, check_all, explain, sql, why};
+ghost use Rattle.vx_answer.specs.Arguments.{IsSetting, IsNoSetting};
+ghost use Rattle.vx_answer.specs.Plans.{AnswersPlans};
 ghost use Rattle.vx_answer.specs.CommandLine.{default_setting, IsTask, IsNoTask, AnswersTask, TaskRefuses, AnswersForm, FormIsRefused, AnswersStatement, StatementIsRefused, AnswersAnnotation, AnnotationIsRefused, with_program_name};
-ghost use Rattle.vx_answer.specs.CommandLineView.{task_is, IsJob, IsAskAnswer, IsArgumentAnswer, IsHelp, HasUsageText, IsClapFault, IsAskFault, IsArgumentFault};
+ghost use Rattle.vx_answer.specs.CommandLineView.{task_is, IsPlansTask, IsJob, IsAskAnswer, IsArgumentAnswer, IsHelp, HasUsageText, IsClapFault, IsPlansFault, IsAskFault, IsArgumentFault};
 
 use crate::annotating::annotated_plan;
 use crate::arguments::setting_in;
 use crate::command::execute;
 use crate::failing::{Verdict, verdict_on};
-use crate::files::{document_from_files, plan_from_files};
+use crate::files::{document_from_files, is_input, plan_from_files};
 use crate::forms::{PlanForm, form_named, plan_in_form};
+use crate::loading::loading_threads;
+use crate::plans::{accepted_plans, catalog_under};
 use crate::program::outcome_of;
+use crate::runs::{Stopped, run_each};
 use crate::statement::{dialect_named, statement};
 use clap::Error;
 use clap::error::ErrorKind;
 use std::alloc::{AllocError, Global};
 use std::sync::Wait;
 use std::thread::Threads;
-use vx_arguments::{Asked, Limits, Sources, asked_for};
+use vx_arguments::{Asked, Limits, ManySources, Sources, asked_for};
 use vx_bundle::{Command, MORSEL, Mode, PACKET, SLACK, Setting};
 use vx_bytes::{ByteIn, Store};
 use vx_refusals::Refusal;
 use vx_seeds::KeySeed;
 use vx_sql::Dialect;
-use vx_tables::Folder;
+use vx_tables::{Folder, load_scanned};
 use vx_why::entry;
 
 /// A command over the catalog, the plan and the folder of tables that arguments name.
@@ -34,6 +38,14 @@ use vx_why::entry;
 pub struct FileCommand<'a> {
     command: Command,
     sources: Sources<'a>,
+    folder: &'a str,
+    setting: Setting,
+}
+
+/// Runs of the plans that arguments name, over the catalog and the folder of tables that they name.
+#[derive(Drop)]
+pub struct FilePlans<'a> {
+    sources: ManySources<'a>,
     folder: &'a str,
     setting: Setting,
 }
@@ -52,6 +64,7 @@ enum Job<'a> {
     Form(PlanForm, Sources<'a>),
     /// A plan as a statement of SQL, over the catalog and the plan that arguments name.
     Statement(Dialect, Sources<'a>),
+    Plans(FilePlans<'a>),
     /// What a code means.
     Entry(&'static str),
     /// The text of the relation with so many rows.
@@ -76,6 +89,19 @@ pub enum ArgumentFault {
     Refused(Refusal),
     /// They ask for a check of all nodes of a plan, and some fail: a line for each of them.
     Failing(String),
+    /// They ask for runs of several plans, and one gives no text: the answers before it, and why.
+    Stopped(Stopped),
+}
+
+impl From<Stopped> for ArgumentFault {
+    ghost use Rattle.std.specs.Prelude.{◌≡◌};
+    ghost use Rattle.vx_answer.specs.declared.command_line.ArgumentFault.TheVariants as fault;
+
+    ghost from_gives = { λ stopped e. e ≡ fault.Stopped stopped };
+
+    fn from(stopped: Stopped) -> ArgumentFault {
+        ArgumentFault::Stopped(stopped)
+    }
 }
 
 impl From<Refusal> for ArgumentFault {
@@ -145,6 +171,27 @@ fn run_task<'a>(
     }
 }
 
+// Runs of several plans, if the arguments set them up.
+fn plans_task<'a>(
+    alloc: Global,
+    sources: &ManySources<'a>,
+    folder: &'a str,
+    limits: &Limits<'a>,
+) -> Result<Option<FilePlans<'a>>, AllocError>
+    ensures { IfOk result (λ o. MatchOption o (IsNoSetting (given_is limits.now)) (λ t. IsPlansTask (run_plans (many_are sources.now) folder.entry.now (given_is limits.now)) t)) }
+{
+    let Some(setting) = setting_in(alloc, limits)? else {
+        return Ok(None);
+    };
+    let plans = Vec::from_slice(alloc, sources.plans.as_slice())?;
+    let catalog = sources.catalog;
+    Ok(Some(FilePlans {
+        sources: ManySources { catalog, plans },
+        folder,
+        setting,
+    }))
+}
+
 // What explaining a plan in the format of this name is.
 fn explain_job<'a>(alloc: Global, sources: Sources<'a>, format: &str) -> Option<Job<'a>>
     ensures { MatchOption result (IsNoTask (explain (paths_are sources.entry) format.now)) (λ j. IsJob (explain (paths_are sources.entry) format.now) j) }
@@ -202,11 +249,17 @@ fn job_in<'a>(alloc: Global, asked: &Asked<'a>) -> Result<Option<Job<'a>>, Alloc
             Some(task) => Ok(Some(Job::Command(task))),
             None => Ok(None),
         },
+        Asked::RunPlans(sources, folder, limits) => {
+            match plans_task(alloc, sources, *folder, limits)? {
+                Some(task) => Ok(Some(Job::Plans(task))),
+                None => Ok(None),
+            }
+        }
         Asked::Generate(rows) => Ok(Some(Job::Relation(*rows))),
     }
 }
 
-// The text that answers a task.
+// The text that answers a task, whose tables so many threads load.
 fn answer_task<T: Threads + Wait + Sync, F: Store, I: ByteIn>(
     rt: &T,
     alloc: Global,
@@ -214,16 +267,47 @@ fn answer_task<T: Threads + Wait + Sync, F: Store, I: ByteIn>(
     files: &F,
     input: &mut I,
     task: &FileCommand<'_>,
+    threads: usize,
 ) -> Result<Vec<u8>, Refusal>
     ensures text { IfOk result (λ text. AnswersTask (F.holds files.now) (I.remaining input.old) (task_is task.now) text.items) }
     ensures refused { IfErr result (λ e. TaskRefuses (F.holds files.now) (F.is_reliable files.now) (I.remaining input.old) (I.has_failed input.new) (task_is task.now) e) }
 {
     let plan = plan_from_files(alloc, files, input, task.sources)?;
     let folder = Folder {
+        rt,
         files,
         path: task.folder,
+        threads,
     };
     execute(rt, alloc, seed, task.command, &folder, &task.setting, plan)
+}
+
+// The texts of runs of several plans, over tables that are loaded once.
+fn answer_plans<T: Threads + Wait + Sync, F: Store, I: ByteIn>(
+    rt: &T,
+    alloc: Global,
+    seed: KeySeed,
+    files: &F,
+    input: &mut I,
+    task: &FilePlans<'_>,
+    threads: usize,
+) -> Result<Vec<u8>, ArgumentFault>
+    ensures text { IfOk result (λ text. AnswersPlans (F.holds files.now) (I.remaining input.old) (many_are task.now.sources) task.now.folder.now task.now.setting text.items) }
+    ensures refused { IfErr result (IsPlansFault (F.holds files.now) (F.is_reliable files.now) (I.remaining input.old) (I.has_failed input.new) (many_are task.now.sources) task.now.folder.now task.now.setting) }
+{
+    let catalog = catalog_under(alloc, files, input, task.sources.catalog)?;
+    let was_read = is_input(task.sources.catalog);
+    let paths = task.sources.plans.as_slice();
+    let plans = accepted_plans(alloc, files, input, was_read, &catalog, paths)?;
+    let folder = Folder {
+        rt,
+        files,
+        path: task.folder,
+        threads,
+    };
+    let database = load_scanned(alloc, seed, &catalog, &plans, &folder)?;
+    let text = run_each(rt, alloc, &task.setting, plans.plans.as_slice(), &database)?;
+    Ok(text)
 }
 
 // The plan at one path over the catalog at the other, in a form.
@@ -316,7 +400,7 @@ fn usage_error(alloc: Global, text: &str) -> ArgumentFault
     }
 }
 
-// What answers what arguments ask for.
+// What answers what arguments ask for, where so many threads load a table.
 fn answer_asked<T: Threads + Wait + Sync, F: Store, I: ByteIn>(
     rt: &T,
     alloc: Global,
@@ -324,6 +408,7 @@ fn answer_asked<T: Threads + Wait + Sync, F: Store, I: ByteIn>(
     files: &F,
     input: &mut I,
     asked: &Asked<'_>,
+    threads: usize,
 ) -> Result<ArgumentAnswer, ArgumentFault>
     ensures answer { IfOk result (λ a. IsAskAnswer (F.holds files.now) (I.remaining input.old) (asked_is asked.now) a) }
     ensures refused { IfErr result (IsAskFault (F.holds files.now) (F.is_reliable files.now) (I.remaining input.old) (I.has_failed input.new) (asked_is asked.now)) }
@@ -331,7 +416,7 @@ fn answer_asked<T: Threads + Wait + Sync, F: Store, I: ByteIn>(
     match job_in(alloc, asked)? {
         Some(Job::Bundle) => Ok(ArgumentAnswer::Text(outcome_of(rt, alloc, seed, input)?)),
         Some(Job::Command(task)) => {
-            let text = answer_task(rt, alloc, seed, files, input, &task)?;
+            let text = answer_task(rt, alloc, seed, files, input, &task, threads)?;
             Ok(ArgumentAnswer::Text(text))
         }
         Some(Job::Verdict(sources)) => answer_verdict(alloc, files, input, sources),
@@ -345,6 +430,10 @@ fn answer_asked<T: Threads + Wait + Sync, F: Store, I: ByteIn>(
         }
         Some(Job::Statement(dialect, sources)) => {
             let text = answer_statement(alloc, files, input, dialect, sources)?;
+            Ok(ArgumentAnswer::Text(text))
+        }
+        Some(Job::Plans(task)) => {
+            let text = answer_plans(rt, alloc, seed, files, input, &task, threads)?;
             Ok(ArgumentAnswer::Text(text))
         }
         Some(Job::Entry(text)) => {
@@ -397,7 +486,10 @@ pub fn answer_arguments<T: Threads + Wait + Sync, F: Store, I: ByteIn>(
 {
     let arguments = with_program_name(alloc, arguments)?;
     match asked_for(alloc, arguments.as_slice()) {
-        Ok(Some(asked)) => answer_asked(rt, alloc, seed, files, input, &asked),
+        Ok(Some(request)) => {
+            let threads = loading_threads(rt, request.threads);
+            answer_asked(rt, alloc, seed, files, input, &request.asked, threads)
+        }
         Ok(None) => Err(usage_error(alloc, "volcano: these words ask for nothing\n")),
         Err(error) => help_or_fault(alloc, &error),
     }

@@ -19,8 +19,8 @@ use vx_refusals::Refusal;
 // The path of standard input.
 const INPUT: &str = "-";
 
-// Whether a path is that of standard input.
-fn is_input(path: &str) -> bool
+/// Whether a path is that of standard input.
+pub fn is_input(path: &str) -> bool
     ensures { result ≡ is_input path.now }
 {
     path == INPUT
@@ -57,9 +57,9 @@ pub fn input_bytes<I: ByteIn>(alloc: Global, input: &mut I) -> Result<Vec<u8>, R
     }
 }
 
-// All bytes under a path. Standard input is read once: where it was read before, it has nothing left.
+/// All bytes under a path. Standard input is read once: where it was read before, it has nothing left.
 #[tactic(auto, using(crate::proofs::FileFacts::input_all))]
-fn bytes_at<F: Store, I: ByteIn>(
+pub fn bytes_at<F: Store, I: ByteIn>(
     alloc: Global,
     files: &F,
     input: &mut I,

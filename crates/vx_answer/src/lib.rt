@@ -10,8 +10,11 @@ mod failing;
 mod files;
 mod forms;
 mod laws;
+mod loading;
+mod plans;
 mod program;
 mod run;
+mod runs;
 mod serial;
 mod statement;
 

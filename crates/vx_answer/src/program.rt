@@ -5,12 +5,13 @@ ghost use Rattle.std.specs.Io.KnownBytes.{Appends, Keeps};
 ghost use Rattle.vx_answer.specs.Answer.{IsAnswer, RefusedWith, IsRefusedBy};
 ghost use Rattle.vx_catalog.specs.Csv.{csv_text};
 ghost use Rattle.vx_refusals.specs.Status.{status_of};
-ghost use Rattle.vx_answer.specs.CommandLine.{AnswersArguments, IsUsageError, AreRefusedBy, AsksForFailing};
+ghost use Rattle.vx_answer.specs.CommandLine.{AnswersArguments, IsUsageError, AreRefusedBy, AsksForFailing, AsksForStopped};
 ghost use Rattle.vx_wisconsin.specs.Wisconsin.{max_rows, wisconsin, column_names};
 
 use crate::bundle::answer_bytes;
 use crate::command_line::{ArgumentAnswer, ArgumentFault, answer_arguments};
 use crate::files::input_bytes;
+use crate::runs::Stopped;
 use std::alloc::Global;
 use std::sync::Wait;
 use std::thread::Threads;
@@ -123,6 +124,17 @@ fn write_lines<E: ByteOut>(lines: &str, err: &mut E) -> u8
     3
 }
 
+// Writes the answers of the plans before the one that stopped on `out`, and then reports on `err` why that one did.
+fn write_stopped<O: ByteOut, E: ByteOut>(stopped: Stopped, out: &mut O, err: &mut E) -> u8
+    ensures written { O.has_failed out.new ≡ false → (result ≡ status_of stopped.refusal) × Appends (O.contents out.old) (O.contents out.new) stopped.text.items }
+    ensures status { (result ≡ status_of stopped.refusal) ⊎ ((result ≡ 4) × (O.has_failed out.new ≡ true)) }
+{
+    match write_text(stopped.text.as_slice(), out, err) {
+        0 => refuse(&stopped.refusal, err),
+        failed => failed,
+    }
+}
+
 // Answers arguments: writes the answer on `out`, or reports on `err` why there is none.
 fn reply_to_arguments<T: Threads + Wait + Sync, F: Store, I: ByteIn, O: ByteOut, E: ByteOut>(
     rt: &T,
@@ -135,7 +147,8 @@ fn reply_to_arguments<T: Threads + Wait + Sync, F: Store, I: ByteIn, O: ByteOut,
     err: &mut E,
 ) -> u8
     ensures done { result ≡ 0 → (text : List ℕ) × AnswersArguments (F.holds files.now) (I.remaining input.old) (map (λ a. a.now) arguments.now) text × Appends (O.contents out.old) (O.contents out.new) text }
-    ensures kept { result ≢ 0 → O.has_failed out.new ≡ false → out.new ≡ out.old }
+    ensures kept { result ≢ 0 → O.has_failed out.new ≡ false → (out.new ≡ out.old)
+        ⊎ ((text : List ℕ) × (e : Refusal) × AsksForStopped (F.holds files.now) (I.remaining input.old) (map (λ a. a.now) arguments.now) text e × (result ≡ status_of e) × Appends (O.contents out.old) (O.contents out.new) text) }
     ensures statuses { (result ≡ 0) ⊎ (result ≡ 2) ⊎ (result ≡ 3) ⊎ (result ≡ 4) }
     ensures usage { result ≡ 2 → IsUsageError (map (λ a. a.now) arguments.now) × (out.new ≡ out.old) }
     ensures refused { result ≡ 3 → AreRefusedBy 3 (F.holds files.now) (F.is_reliable files.now) (I.remaining input.old) (I.has_failed input.new) (map (λ a. a.now) arguments.now)
@@ -147,6 +160,7 @@ fn reply_to_arguments<T: Threads + Wait + Sync, F: Store, I: ByteIn, O: ByteOut,
         Ok(ArgumentAnswer::Relation(rows)) => write_relation(alloc, rows, out, err),
         Err(ArgumentFault::Refused(refusal)) => deliver(Err(refusal), out, err),
         Err(ArgumentFault::Failing(lines)) => write_lines(lines.as_str(), err),
+        Err(ArgumentFault::Stopped(stopped)) => write_stopped(stopped, out, err),
         Err(ArgumentFault::Usage(text)) => {
             let _ = write_all(err, text.as_bytes());
             2
@@ -159,7 +173,8 @@ fn reply_to_arguments<T: Threads + Wait + Sync, F: Store, I: ByteIn, O: ByteOut,
 ///
 /// The status is 0 if `out` got the answer, 2 for wrong arguments, 3 for input that is refused, and 4 if the machine or
 /// the run failed. All work ends before the first byte goes to `out`; the text of a relation alone is written as it is made,
-/// once all memory for it is there. A refusal is one line on `err`, and a write of it that fails changes nothing else.
+/// once all memory for it is there. Of several plans, `out` gets the answers before the first that is refused. A refusal is
+/// one line on `err`, and a write of it that fails changes nothing else.
 ///
 /// Keys are hashed by the seed, on which nothing of this depends.
 pub fn answer<T: Threads + Wait + Sync, F: Store, I: ByteIn, O: ByteOut, E: ByteOut>(
@@ -195,8 +210,11 @@ pub fn answer<T: Threads + Wait + Sync, F: Store, I: ByteIn, O: ByteOut, E: Byte
         ⊎ ((lines : List ℕ) × AsksForFailing (F.holds files.now) (I.remaining input.old) (map (λ a. a.now) arguments.now) lines × (E.has_failed err.new ≡ false → Appends (E.contents err.old) (E.contents err.new) lines)) }
     ensures arguments_failed { arguments.now ≢ [] → result ≡ 4 → (O.has_failed out.new ≡ true) ⊎ AreRefusedBy 4 (F.holds files.now) (F.is_reliable files.now) (I.remaining input.old) (I.has_failed input.new) (map (λ a. a.now) arguments.now) }
 
-    // Any status but 0 leaves `out` as it was, unless `out` failed; status 2 in any case.
-    ensures kept { result ≢ 0 → O.has_failed out.new ≡ false → out.new ≡ out.old }
+    // Any status but 0 leaves `out` as it was, unless `out` failed; status 2 in any case. Runs of several plans alone may leave
+    // there the answers of the plans before the one that is refused.
+    ensures kept { arguments.now ≡ [] → result ≢ 0 → O.has_failed out.new ≡ false → out.new ≡ out.old }
+    ensures arguments_kept { arguments.now ≢ [] → result ≢ 0 → O.has_failed out.new ≡ false → (out.new ≡ out.old)
+        ⊎ ((text : List ℕ) × (e : Refusal) × AsksForStopped (F.holds files.now) (I.remaining input.old) (map (λ a. a.now) arguments.now) text e × (result ≡ status_of e) × Appends (O.contents out.old) (O.contents out.new) text) }
     ensures untouched { result ≡ 2 → out.new ≡ out.old }
 {
     if arguments.is_empty() {

@@ -22,7 +22,7 @@ use vx_check::CheckedPlan;
 use vx_exchange::ByteRouter;
 use vx_exec::{Ran, Setup, run_rounds};
 use vx_parallel::{Free, run_threads};
-use vx_plan::TypedPlan;
+use vx_plan::{TypedPlan, name_texts};
 use vx_refusals::Refusal;
 use vx_seeds::KeySeed;
 use vx_tables::{Tables, load_tables};
@@ -54,8 +54,8 @@ fn setup_of(alloc: Global, setting: &Setting) -> Result<Setup, AllocError>
 pub fn text_of(alloc: Global, plan: &TypedPlan, rows: &Rows) -> Result<Vec<u8>, AllocError>
     ensures { IfOk result (λ v. v.items ≡ csv_text (columns (resolved_of plan.now).root).names rows.now.rows) }
 {
-    let names = plan.root().head().columns.names.as_slice();
-    format_rows(alloc, names, rows)
+    let names = name_texts(alloc, plan.root().head().columns.names.as_slice())?;
+    format_rows(alloc, names.as_slice(), rows)
 }
 
 // What a run of a plan over a database comes to, in the mode that the setting says.
@@ -85,8 +85,8 @@ fn ran_over<T: Threads + Wait + Sync>(
     }
 }
 
-// The text of a run of a plan over a database.
-fn run_over<T: Threads + Wait + Sync>(
+/// The text of a run of a plan over a database.
+pub fn run_over<T: Threads + Wait + Sync>(
     rt: &T,
     alloc: Global,
     setting: &Setting,

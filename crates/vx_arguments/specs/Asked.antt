@@ -6,9 +6,10 @@ use Rattle.clap.specs.Lexer.{usize_max}
 use Rattle.clap.specs.Words.{App, Kinds, Row, Rule, Text, all_of, fault_of, first_of, new_app, new_rule, subcommand_of, with_rule, with_subcommand}
 use Rattle.clap.specs.Simple.{on_top}
 use Rattle.clap.specs.ValueTests.{is_unsigned_in}
-use Rattle.clap.specs.declared.builder.action.ArgAction.TheVariants.{SetTrue}
+use Rattle.clap.specs.declared.builder.action.ArgAction.TheVariants.{Append, SetTrue}
 use Rattle.clap.specs.declared.builder.value_parser.ValueParser.TheVariants as parser
 use Rattle.vx_arguments.specs.declared.asked.Sources.{Sources}
+use Rattle.vx_arguments.specs.declared.asked.ManySources.{ManySources}
 use Rattle.vx_arguments.specs.declared.asked.Limits.{Limits}
 use Rattle.vx_arguments.specs.declared.asked.Asked.{Asked}
 use Rattle.vx_arguments.specs.declared.asked.Asked.TheVariants as asked
@@ -16,6 +17,10 @@ use Rattle.vx_arguments.specs.declared.asked.Asked.TheVariants as asked
 -- an option with a path, which has to be given
 abbrev pub path_rule : Text → Rule
 path_rule name = record (new_rule name) { long = Some name; value_names = 1; required = true }
+
+-- the option of a plan where several may be given, one at least
+abbrev pub plans_rule : Rule
+plans_rule = record (path_rule (codes "plan")) { action = Some Append }
 
 -- an option with a number of 32 bits, which has a default
 abbrev pub number_rule : Text → Text → Rule
@@ -42,17 +47,26 @@ code_rule = record (new_rule (codes "code")) { value_names = 1; required = true 
 abbrev pub sizes_rule : Rule
 sizes_rule = record (new_rule (codes "sizes")) { value_names = 1; range = Some (record { start_inclusive = 0; end_inclusive = usize_max }) }
 
+-- a command that reads a catalog, and what this rule says of plans
+abbrev pub reading_app : Text → Rule → App
+reading_app name plan = with_rule (with_rule (new_app name) (path_rule (codes "catalog"))) plan
+
 -- a command that reads a catalog and a plan alone
 abbrev pub judging_app : Text → App
-judging_app name = with_rule (with_rule (new_app name) (path_rule (codes "catalog"))) (path_rule (codes "plan"))
+judging_app name = reading_app name (path_rule (codes "plan"))
+
+-- how many threads load each table
+abbrev pub threads_rule : Rule
+threads_rule = number_rule (codes "threads") (codes "0")
 
 abbrev pub serial_app : App
-serial_app = with_rule (judging_app (codes "serial")) (path_rule (codes "data"))
+serial_app = with_rule (with_rule (judging_app (codes "serial")) (path_rule (codes "data"))) threads_rule
 
 abbrev pub run_app : App
 run_app =
-    with_rule (with_rule (with_rule (with_rule (with_rule (with_rule (judging_app (codes "run")) (path_rule (codes "data")))
-    (number_rule (codes "packet") (codes "256"))) (number_rule (codes "morsel") (codes "1024"))) (number_rule (codes "slack") (codes "8"))) (word_rule (codes "mode") (codes "rounds"))) sizes_rule
+    with_rule (with_rule (with_rule (with_rule (with_rule (with_rule (with_rule (reading_app (codes "run") plans_rule) (path_rule (codes "data")))
+    (number_rule (codes "packet") (codes "256"))) (number_rule (codes "morsel") (codes "1024"))) (number_rule (codes "slack") (codes "8"))) (word_rule (codes "mode") (codes "rounds")))
+    threads_rule) sizes_rule
 
 abbrev pub gen_app : App
 gen_app = with_rule (new_app (codes "gen")) rows_rule
@@ -84,6 +98,11 @@ pub record Paths : Type 0 where
   pub catalog : Text
   pub plan : Text
 
+-- the paths of a catalog and of several plans
+pub record ManyPaths : Type 0 where
+  pub catalog : Text
+  pub plans : List Text
+
 -- the texts of a run's numbers and of its mode, and its arguments NAME=N
 pub record Given : Type 0 where
   pub packet : Text
@@ -102,6 +121,7 @@ pub data Ask : Type 0 where
   why : (code : Text) → Ask
   serial : Paths → Text → Ask
   run : Paths → Text → Given → Ask
+  run_plans : ManyPaths → Text → Given → Ask
   generate : ℕ → Ask
 
 -- both options of a catalog and a plan
@@ -119,8 +139,14 @@ given_of rows = option_and_then (λ p. option_and_then (λ m. option_and_then (�
 abbrev pub serial_of : List Row → Option Ask
 serial_of rows = option_and_then (λ p. option_map (serial p) (first_of (codes "data") rows)) (paths_of rows)
 
+-- a run of one plan, or of several
+abbrev pub run_for : Text → List Text → Text → Given → Ask
+run_for catalog (plan ∷ []) folder limits = run (record { catalog = catalog; plan = plan }) folder limits
+run_for catalog [] folder limits = run_plans (record { catalog = catalog; plans = [] }) folder limits
+run_for catalog (plan ∷ next ∷ plans) folder limits = run_plans (record { catalog = catalog; plans = plan ∷ next ∷ plans }) folder limits
+
 abbrev pub run_of : List Row → Option Ask
-run_of rows = option_and_then (λ p. option_and_then (λ d. option_map (run p d) (given_of rows)) (first_of (codes "data") rows)) (paths_of rows)
+run_of rows = option_and_then (λ c. option_and_then (λ ps. option_and_then (λ d. option_map (run_for c ps d) (given_of rows)) (first_of (codes "data") rows)) (all_of (codes "plan") rows)) (first_of (codes "catalog") rows)
 
 -- a check of all nodes if the flag is given, else of the plan up to its first refusal
 abbrev pub check_of : List Row → Option Ask
@@ -153,9 +179,18 @@ ask_of (Some p) =
     else if bytes_eq p.0 (codes "gen") then generate_of p.1
     else None
 
+-- how many threads a subcommand with these matches is to load with, where it loads
+abbrev pub threads_of : Option (Text × List Row) → Option ℕ
+threads_of None = None
+threads_of (Some p) = option_and_then number_of (first_of (codes "threads") p.1)
+
 -- what the arguments ask for, the program's name first
 unfoldable pub asked_by : List Text → Option Ask
 asked_by arguments = ask_of (subcommand_of volcano_app arguments)
+
+-- how many threads they ask to load with
+unfoldable pub threads_by : List Text → Option ℕ
+threads_by arguments = threads_of (subcommand_of volcano_app arguments)
 
 -- the kinds that a refusal of the arguments may have; none if they are accepted
 unfoldable pub faults_of : List Text → Kinds
@@ -163,6 +198,9 @@ faults_of arguments = fault_of volcano_app arguments
 
 abbrev pub paths_are : Sources → Paths
 paths_are s = record { catalog = s.catalog.now; plan = s.plan.now }
+
+abbrev pub many_are : ManySources → ManyPaths
+many_are s = record { catalog = s.catalog.now; plans = map (λ p. p.now) s.plans.items }
 
 abbrev pub given_is : Limits → Given
 given_is l = record { packet = l.packet.now; morsel = l.morsel.now; slack = l.slack.now; mode = l.mode.now; sizes = map (λ t. t.now) l.sizes.items }
@@ -177,4 +215,5 @@ asked_is (asked.Sql sources dialect) = sql (paths_are sources) dialect.now
 asked_is (asked.Why code) = why code.now
 asked_is (asked.Serial sources folder) = serial (paths_are sources) folder.now
 asked_is (asked.Run sources folder limits) = run (paths_are sources) folder.now (given_is limits)
+asked_is (asked.RunPlans sources folder limits) = run_plans (many_are sources) folder.now (given_is limits)
 asked_is (asked.Generate rows) = generate rows

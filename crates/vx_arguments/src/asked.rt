@@ -1,8 +1,8 @@
 //! What the command-line arguments ask for.
 
-ghost use Rattle.std.specs.Prelude.{◌≡◌, IfOk, false, map, option_map, option_and_then, codes};
+ghost use Rattle.std.specs.Prelude.{◌≡◌, IfOk, IfSome, false, map, option_map, option_and_then, codes};
 ghost use Rattle.clap.specs.Words.{FailsBy, fault_of, rows_of, found_of, first_of, all_of, subcommand_of, subcommand_rows_of};
-ghost use Rattle.vx_arguments.specs.Asked.{volcano_app, paths_of, given_of, sizes_of, serial_of, check_of, explain_of, sql_of, run_of, number_of, generate_of, ask_of, asked_by, faults_of, paths_are, given_is, asked_is};
+ghost use Rattle.vx_arguments.specs.Asked.{volcano_app, paths_of, given_of, sizes_of, serial_of, check_of, explain_of, sql_of, run_for, run_of, number_of, generate_of, ask_of, asked_by, threads_of, threads_by, faults_of, paths_are, given_is, asked_is};
 
 use crate::command_line::command;
 use clap::{ArgMatches, Error};
@@ -13,6 +13,13 @@ use std::alloc::{AllocError, Global};
 pub struct Sources<'a> {
     pub catalog: &'a str,
     pub plan: &'a str,
+}
+
+/// The paths of a catalog and of several plans; `-` is standard input.
+#[derive(Debug, Drop)]
+pub struct ManySources<'a> {
+    pub catalog: &'a str,
+    pub plans: Vec<&'a str>,
 }
 
 /// The numbers and the mode of a run as they were written or are by default, and its arguments `NAME=N`.
@@ -45,8 +52,18 @@ pub enum Asked<'a> {
     Serial(Sources<'a>, &'a str),
     /// With the folder of the tables.
     Run(Sources<'a>, &'a str, Limits<'a>),
+    /// Runs of several plans, with the folder of the tables.
+    RunPlans(ManySources<'a>, &'a str, Limits<'a>),
     /// The text of the relation with so many rows.
     Generate(u64),
+}
+
+/// What the arguments ask for, and how tables are loaded for it.
+#[derive(Debug, Drop)]
+pub struct Request<'a> {
+    pub asked: Asked<'a>,
+    /// How many threads load each table, where the command loads any; 0 is one for each processor.
+    pub threads: Option<u64>,
 }
 
 // The first value of an option.
@@ -64,7 +81,7 @@ fn sources_in<'a>(found: &ArgMatches<'a>) -> Option<Sources<'a>>
     Some(Sources { catalog, plan })
 }
 
-// The values of the arguments behind the options.
+// All values of an option, or of the arguments behind the options.
 fn values<'f, 'a>(found: &'f ArgMatches<'a>, id: &str) -> Option<&'f [&'a str]>
     ensures { option_map (λ s. map (λ v. v.now) s.now) result ≡ all_of id.now (rows_of (found_of found.now)) }
 {
@@ -139,17 +156,37 @@ fn serial_asked<'a>(found: &ArgMatches<'a>) -> Option<Asked<'a>>
     Some(Asked::Serial(sources, data))
 }
 
+// A run of one plan, or of several.
+fn run_for<'a>(
+    alloc: Global,
+    catalog: &'a str,
+    plans: &[&'a str],
+    folder: &'a str,
+    limits: Limits<'a>,
+) -> Result<Asked<'a>, AllocError>
+    ensures { IfOk result (λ a. asked_is a ≡ run_for catalog.entry.now (map (λ p. p.now) plans.entry.now) folder.entry.now (given_is limits.entry)) }
+{
+    if let [plan] = plans {
+        return Ok(Asked::Run(Sources { catalog, plan }, folder, limits));
+    }
+    let plans = Vec::from_slice(alloc, plans)?;
+    Ok(Asked::RunPlans(ManySources { catalog, plans }, folder, limits))
+}
+
 fn run_asked<'a>(alloc: Global, found: &ArgMatches<'a>) -> Result<Option<Asked<'a>>, AllocError>
     ensures { IfOk result (λ o. option_map asked_is o ≡ run_of (rows_of (found_of found.now))) }
 {
-    let Some(sources) = sources_in(found) else {
+    let Some(catalog) = value(found, "catalog") else {
+        return Ok(None);
+    };
+    let Some(plans) = values(found, "plan") else {
         return Ok(None);
     };
     let Some(data) = value(found, "data") else {
         return Ok(None);
     };
     match limits_in(alloc, found)? {
-        Some(limits) => Ok(Some(Asked::Run(sources, data, limits))),
+        Some(limits) => Ok(Some(run_for(alloc, catalog, plans, data, limits)?)),
         None => Ok(None),
     }
 }
@@ -202,12 +239,25 @@ fn asked_in<'a>(alloc: Global, matches: &ArgMatches<'a>) -> Result<Option<Asked<
     }
 }
 
+// How many threads matches ask for.
+fn threads_in(matches: &ArgMatches<'_>) -> Option<u64>
+    ensures { result ≡ threads_of (subcommand_rows_of matches.now) }
+{
+    let (_, found) = matches.subcommand()?;
+    number_in(value(found, "threads")?)
+}
+
 /// What the arguments ask for, the program's name first. An `Err` is running out of memory, a usage error, or help.
-#[tactic(auto, unfolding(crate::specs::Asked::asked_by, crate::specs::Asked::faults_of))]
-pub fn asked_for<'a>(alloc: Global, arguments: &'a [&'a str]) -> Result<Option<Asked<'a>>, Error>
-    ensures asked { IfOk result (λ o. option_map asked_is o ≡ asked_by (map (λ w. w.now) arguments.entry.now)) }
+#[tactic(auto, unfolding(crate::specs::Asked::asked_by, crate::specs::Asked::threads_by, crate::specs::Asked::faults_of))]
+pub fn asked_for<'a>(alloc: Global, arguments: &'a [&'a str]) -> Result<Option<Request<'a>>, Error>
+    ensures asked { IfOk result (λ o. option_map (λ r. asked_is r.asked) o ≡ asked_by (map (λ w. w.now) arguments.entry.now)) }
+    ensures threads { IfOk result (λ o. IfSome o (λ r. r.threads ≡ threads_by (map (λ w. w.now) arguments.entry.now))) }
     ensures faults { FailsBy (faults_of (map (λ w. w.now) arguments.entry.now)) result }
 {
     let matches = matches_in(alloc, arguments)?;
-    Ok(asked_in(alloc, &matches)?)
+    let threads = threads_in(&matches);
+    match asked_in(alloc, &matches)? {
+        Some(asked) => Ok(Some(Request { asked, threads })),
+        None => Ok(None),
+    }
 }

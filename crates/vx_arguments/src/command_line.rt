@@ -3,7 +3,7 @@
 ghost use Rattle.std.specs.Prelude.{◌≡◌, IfOk, false, codes};
 ghost use Rattle.clap.specs.Words.{app_of, rule_of};
 ghost use Rattle.clap.specs.declared.builder.command.Command.TheViews.{out-Command as fields_of};
-ghost use Rattle.vx_arguments.specs.Asked.{path_rule, number_rule, rows_rule, word_rule, flag_rule, code_rule, sizes_rule, judging_app, serial_app, run_app, check_app, explain_app, sql_app, why_app, gen_app, program_app, volcano_app};
+ghost use Rattle.vx_arguments.specs.Asked.{path_rule, plans_rule, number_rule, threads_rule, rows_rule, word_rule, flag_rule, code_rule, sizes_rule, reading_app, judging_app, serial_app, run_app, check_app, explain_app, sql_app, why_app, gen_app, program_app, volcano_app};
 
 use clap::{Arg, ArgAction, Command, value_parser};
 use std::alloc::{AllocError, Global};
@@ -112,6 +112,18 @@ fn all_option<'a>(alloc: Global) -> Arg<'a>
         .action(ArgAction::SetTrue)
 }
 
+fn threads_option<'a>(alloc: Global) -> Arg<'a>
+    ensures rule { rule_of result ≡ threads_rule }
+    ensures own { result.global ≡ false }
+{
+    number_option(
+        alloc,
+        "threads",
+        "0",
+        "How many threads load each table; 0 is one for each processor",
+    )
+}
+
 fn code_argument<'a>(alloc: Global) -> Arg<'a>
     ensures rule { rule_of result ≡ code_rule }
     ensures own { result.global ≡ false }
@@ -156,6 +168,19 @@ fn plan_option<'a>(alloc: Global) -> Arg<'a>
     )
 }
 
+fn plans_option<'a>(alloc: Global) -> Arg<'a>
+    ensures rule { rule_of result ≡ plans_rule }
+    ensures own { result.global ≡ false }
+{
+    path_option(
+        alloc,
+        "plan",
+        "FILE",
+        "The plan, as JSON; of several, each is run over the same tables, which are loaded once",
+    )
+    .action(ArgAction::Append)
+}
+
 fn data_option<'a>(alloc: Global) -> Arg<'a>
     ensures rule { rule_of result ≡ path_rule (codes "data") }
     ensures own { result.global ≡ false }
@@ -168,6 +193,25 @@ fn data_option<'a>(alloc: Global) -> Arg<'a>
     )
 }
 
+// A command that reads a catalog, and plans by this option.
+fn reading<'a>(
+    alloc: Global,
+    name: &'a str,
+    about: &'a str,
+    example: &'a str,
+    plan: Arg<'a>,
+) -> Result<Command<'a>, AllocError>
+    requires own { plan.global ≡ false }
+    ensures app { IfOk result (λ c. app_of c ≡ reading_app name.entry.now (rule_of plan.entry)) }
+    ensures local { IfOk result (λ c. (fields_of c).has_globals ≡ false) }
+{
+    Command::new(alloc, name)
+        .about(about)
+        .after_help(example)
+        .arg(catalog_option(alloc))?
+        .arg(plan)
+}
+
 // A command that reads a catalog and a plan alone.
 fn judging<'a>(
     alloc: Global,
@@ -178,11 +222,7 @@ fn judging<'a>(
     ensures app { IfOk result (λ c. app_of c ≡ judging_app name.entry.now) }
     ensures local { IfOk result (λ c. (fields_of c).has_globals ≡ false) }
 {
-    Command::new(alloc, name)
-        .about(about)
-        .after_help(example)
-        .arg(catalog_option(alloc))?
-        .arg(plan_option(alloc))
+    reading(alloc, name, about, example, plan_option(alloc))
 }
 
 fn serial<'a>(alloc: Global) -> Result<Command<'a>, AllocError>
@@ -195,18 +235,20 @@ fn serial<'a>(alloc: Global) -> Result<Command<'a>, AllocError>
         "Evaluates the plan without its exchanges and prints the rows as CSV; the notes of the plan are not checked",
         "Example: volcano serial --catalog catalog.json --plan plan.json --data tables",
     )?
-    .arg(data_option(alloc))
+    .arg(data_option(alloc))?
+    .arg(threads_option(alloc))
 }
 
 fn run<'a>(alloc: Global) -> Result<Command<'a>, AllocError>
     ensures app { IfOk result (λ c. app_of c ≡ run_app) }
     ensures local { IfOk result (λ c. (fields_of c).has_globals ≡ false) }
 {
-    judging(
+    reading(
         alloc,
         "run",
         "Runs a plan that the checker accepts, with many workers, and prints the rows as CSV",
         "Example: volcano run --catalog catalog.json --plan plan.json --data tables many=4",
+        plans_option(alloc),
     )?
     .arg(data_option(alloc))?
     .arg(number_option(
@@ -228,6 +270,7 @@ fn run<'a>(alloc: Global) -> Result<Command<'a>, AllocError>
         "The most packets that wait between two workers, 1 to 1024",
     ))?
     .arg(mode_option(alloc))?
+    .arg(threads_option(alloc))?
     .arg(sizes_argument(alloc))
 }
 

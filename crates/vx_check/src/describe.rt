@@ -7,11 +7,11 @@ ghost use Rattle.vx_plan_nodes.specs.Outline.{condition_of, aggregate_of, phase_
 ghost use Rattle.vx_plan_nodes.specs.TypedView.{names_in};
 ghost use Rattle.vx_check.specs.Explain.{name_at, separated, value_text, condition_text, kept_text, kept_texts, function_text, aggregate_texts, aggregates_text, group_text, grouping_text, unary_text, pair_text, binary_text, kind_text, merge_text, scan_text, prefix_text};
 
-use crate::words::{name_at, push_between, push_list, push_routed};
+use crate::words::{push_between, push_list, push_name, push_routed};
 use itoa::Buffer;
 use std::alloc::{AllocError, Global};
 use vx_plan_nodes::{
-    Aggregate, Binary, Condition, Exchange, ExchangeKind, Phase, Projected, ScanNode, Side,
+    Aggregate, Binary, Condition, Exchange, ExchangeKind, Name, Phase, Projected, ScanNode, Side,
     TypedPlan, Unary,
 };
 use vx_rows::Value;
@@ -38,17 +38,17 @@ fn push_value(alloc: Global, text: &mut String, value: &Value) -> Result<(), All
 fn push_condition(
     alloc: Global,
     text: &mut String,
-    names: &[String],
+    names: &[Name],
     condition: &Condition,
 ) -> Result<(), AllocError>
-    ensures { OnOk result (string_bytes text.new ≡ string_bytes text.old ++ condition_text (map string_bytes names.now) (condition_of condition.now)) }
+    ensures { OnOk result (string_bytes text.new ≡ string_bytes text.old ++ condition_text names.now (condition_of condition.now)) }
 {
-    text.push_str(name_at(names, condition.left))?;
+    push_name(text, names, condition.left)?;
     text.push_str(" ")?;
     text.push_str(condition.test.text())?;
     text.push_str(" ")?;
     match &condition.right {
-        Side::Column(column) => text.push_str(name_at(names, *column)),
+        Side::Column(column) => push_name(text, names, *column),
         Side::Constant(value) => push_value(alloc, text, value),
     }
 }
@@ -56,10 +56,10 @@ fn push_condition(
 fn push_conditions(
     alloc: Global,
     text: &mut String,
-    names: &[String],
+    names: &[Name],
     conditions: &[Condition],
 ) -> Result<(), AllocError>
-    ensures { OnOk result (string_bytes text.new ≡ string_bytes text.old ++ separated (codes " and ") false (map (condition_text (map string_bytes names.now)) (map condition_of conditions.now))) }
+    ensures { OnOk result (string_bytes text.new ≡ string_bytes text.old ++ separated (codes " and ") false (map (condition_text names.now) (map condition_of conditions.now))) }
 {
     for (i, condition) in conditions.iter().enumerate() {
         push_between(text, " and ", i > 0)?;
@@ -68,39 +68,35 @@ fn push_conditions(
     Ok(())
 }
 
-// Adds a kept column, with its new name where it has one.
+// Adds the kept column with this number, with its new name where it has one.
 fn push_kept_column(
     text: &mut String,
-    input: &str,
-    output: &str,
-    is_renamed: bool,
+    inputs: &[Name],
+    outputs: &[Name],
+    number: usize,
+    kept: Projected,
 ) -> Result<(), AllocError>
-    ensures { OnOk result (string_bytes text.new ≡ string_bytes text.old ++ kept_text input.now output.now is_renamed) }
+    ensures { OnOk result (string_bytes text.new ≡ string_bytes text.old ++ kept_text (name_at inputs.now kept.column) (name_at outputs.now number) kept.renamed) }
 {
-    text.push_str(input)?;
-    if is_renamed {
+    push_name(text, inputs, kept.column)?;
+    if kept.renamed {
         text.push_str(" as ")?;
-        text.push_str(output)?;
+        push_name(text, outputs, number)?;
     }
     Ok(())
 }
 
 fn push_kept_columns(
     text: &mut String,
-    inputs: &[String],
-    outputs: &[String],
+    inputs: &[Name],
+    outputs: &[Name],
     kept: &[Projected],
 ) -> Result<(), AllocError>
-    ensures { OnOk result (string_bytes text.new ≡ string_bytes text.old ++ separated (codes ",") false (kept_texts (map string_bytes inputs.now) (map string_bytes outputs.now) 0 (map (λ k. k.column) kept.now) (map (λ k. k.renamed) kept.now))) }
+    ensures { OnOk result (string_bytes text.new ≡ string_bytes text.old ++ separated (codes ",") false (kept_texts inputs.now outputs.now 0 (map (λ k. k.column) kept.now) (map (λ k. k.renamed) kept.now))) }
 {
     for (i, column) in kept.iter().enumerate() {
         push_between(text, ",", i > 0)?;
-        push_kept_column(
-            text,
-            name_at(inputs, column.column),
-            name_at(outputs, i),
-            column.renamed,
-        )?;
+        push_kept_column(text, inputs, outputs, i, *column)?;
     }
     Ok(())
 }
@@ -109,23 +105,19 @@ fn push_kept_columns(
 fn push_kept(
     text: &mut String,
     word: &str,
-    inputs: &[String],
-    outputs: &[String],
+    inputs: &[Name],
+    outputs: &[Name],
     kept: &[Projected],
 ) -> Result<(), AllocError>
-    ensures { OnOk result (string_bytes text.new ≡ string_bytes text.old ++ (word.now ++ (separated (codes ",") false (kept_texts (map string_bytes inputs.now) (map string_bytes outputs.now) 0 (map (λ k. k.column) kept.now) (map (λ k. k.renamed) kept.now)) ++ codes "]"))) }
+    ensures { OnOk result (string_bytes text.new ≡ string_bytes text.old ++ (word.now ++ (separated (codes ",") false (kept_texts inputs.now outputs.now 0 (map (λ k. k.column) kept.now) (map (λ k. k.renamed) kept.now)) ++ codes "]"))) }
 {
     text.push_str(word)?;
     push_kept_columns(text, inputs, outputs, kept)?;
     text.push_str("]")
 }
 
-fn push_function(
-    text: &mut String,
-    names: &[String],
-    aggregate: Aggregate,
-) -> Result<(), AllocError>
-    ensures { OnOk result (string_bytes text.new ≡ string_bytes text.old ++ function_text (map string_bytes names.now) (aggregate_of aggregate)) }
+fn push_function(text: &mut String, names: &[Name], aggregate: Aggregate) -> Result<(), AllocError>
+    ensures { OnOk result (string_bytes text.new ≡ string_bytes text.old ++ function_text names.now (aggregate_of aggregate)) }
 {
     let (word, column) = match aggregate {
         Aggregate::Least(column) => ("min(", column),
@@ -134,26 +126,26 @@ fn push_function(
         Aggregate::CountRows => return text.push_str("count()"),
     };
     text.push_str(word)?;
-    text.push_str(name_at(names, column))?;
+    push_name(text, names, column)?;
     text.push_str(")")
 }
 
 // Adds aggregates, the first of which has the number `first` in the output.
 fn push_aggregate_list(
     text: &mut String,
-    inputs: &[String],
-    outputs: &[String],
+    inputs: &[Name],
+    outputs: &[Name],
     first: usize,
     aggregates: &[Aggregate],
 ) -> Result<(), AllocError>
     requires { first + length aggregates.now < 2 ^ 64 }
-    ensures { OnOk result (string_bytes text.new ≡ string_bytes text.old ++ separated (codes ", ") false (aggregate_texts (map string_bytes inputs.now) (map string_bytes outputs.now) first (map aggregate_of aggregates.now))) }
+    ensures { OnOk result (string_bytes text.new ≡ string_bytes text.old ++ separated (codes ", ") false (aggregate_texts inputs.now outputs.now first (map aggregate_of aggregates.now))) }
 {
     for (i, aggregate) in aggregates.iter().enumerate() {
         push_between(text, ", ", i > 0)?;
         push_function(text, inputs, *aggregate)?;
         text.push_str(" as ")?;
-        text.push_str(name_at(outputs, first + i))?;
+        push_name(text, outputs, first + i)?;
     }
     Ok(())
 }
@@ -161,13 +153,13 @@ fn push_aggregate_list(
 // Adds aggregates behind a space, if there are any.
 fn push_aggregates(
     text: &mut String,
-    inputs: &[String],
-    outputs: &[String],
+    inputs: &[Name],
+    outputs: &[Name],
     first: usize,
     aggregates: &[Aggregate],
 ) -> Result<(), AllocError>
     requires { first + length aggregates.now < 2 ^ 64 }
-    ensures { OnOk result (string_bytes text.new ≡ string_bytes text.old ++ aggregates_text (map string_bytes inputs.now) (map string_bytes outputs.now) first (map aggregate_of aggregates.now)) }
+    ensures { OnOk result (string_bytes text.new ≡ string_bytes text.old ++ aggregates_text inputs.now outputs.now first (map aggregate_of aggregates.now)) }
 {
     if aggregates.is_empty() {
         return Ok(());
@@ -180,13 +172,13 @@ fn push_aggregates(
 fn push_group(
     text: &mut String,
     word: &str,
-    inputs: &[String],
-    outputs: &[String],
+    inputs: &[Name],
+    outputs: &[Name],
     by: &[usize],
     aggregates: &[Aggregate],
 ) -> Result<(), AllocError>
     requires { length by.now + length aggregates.now < 2 ^ 64 }
-    ensures { OnOk result (string_bytes text.new ≡ string_bytes text.old ++ (word.now ++ group_text (map string_bytes inputs.now) (map string_bytes outputs.now) by.now (map aggregate_of aggregates.now))) }
+    ensures { OnOk result (string_bytes text.new ≡ string_bytes text.old ++ (word.now ++ group_text inputs.now outputs.now by.now (map aggregate_of aggregates.now))) }
 {
     text.push_str(word)?;
     push_list(text, inputs, by)?;
@@ -196,14 +188,14 @@ fn push_group(
 // Adds a grouping in one of its phases.
 fn push_grouping(
     text: &mut String,
-    inputs: &[String],
-    outputs: &[String],
+    inputs: &[Name],
+    outputs: &[Name],
     phase: Phase,
     by: &[usize],
     aggregates: &[Aggregate],
 ) -> Result<(), AllocError>
     requires { length by.now + length aggregates.now < 2 ^ 64 }
-    ensures { OnOk result (string_bytes text.new ≡ string_bytes text.old ++ grouping_text (map string_bytes inputs.now) (map string_bytes outputs.now) (phase_of phase) by.now (map aggregate_of aggregates.now)) }
+    ensures { OnOk result (string_bytes text.new ≡ string_bytes text.old ++ grouping_text inputs.now outputs.now (phase_of phase) by.now (map aggregate_of aggregates.now)) }
 {
     match phase {
         Phase::Plain => push_group(text, "group ", inputs, outputs, by, aggregates),
@@ -216,11 +208,11 @@ fn push_grouping(
 pub fn push_unary(
     alloc: Global,
     text: &mut String,
-    inputs: &[String],
-    outputs: &[String],
+    inputs: &[Name],
+    outputs: &[Name],
     operator: &Unary,
 ) -> Result<(), AllocError>
-    ensures { OnOk result (string_bytes text.new ≡ string_bytes text.old ++ unary_text (map string_bytes inputs.now) (map string_bytes outputs.now) (renamed_of operator.now) (unary_of operator.now)) }
+    ensures { OnOk result (string_bytes text.new ≡ string_bytes text.old ++ unary_text inputs.now outputs.now (renamed_of operator.now) (unary_of operator.now)) }
 {
     match operator {
         Unary::Select(conditions) => {
@@ -246,17 +238,17 @@ pub fn push_unary(
 
 fn push_pairs(
     text: &mut String,
-    lefts: &[String],
-    rights: &[String],
+    lefts: &[Name],
+    rights: &[Name],
     on: &[(usize, usize)],
 ) -> Result<(), AllocError>
-    ensures { OnOk result (string_bytes text.new ≡ string_bytes text.old ++ separated (codes ",") false (map (pair_text (map string_bytes lefts.now) (map string_bytes rights.now)) on.now)) }
+    ensures { OnOk result (string_bytes text.new ≡ string_bytes text.old ++ separated (codes ",") false (map (pair_text lefts.now rights.now) on.now)) }
 {
     for (i, pair) in on.iter().enumerate() {
         push_between(text, ",", i > 0)?;
-        text.push_str(name_at(lefts, pair.0))?;
+        push_name(text, lefts, pair.0)?;
         text.push_str("=")?;
-        text.push_str(name_at(rights, pair.1))?;
+        push_name(text, rights, pair.1)?;
     }
     Ok(())
 }
@@ -265,11 +257,11 @@ fn push_pairs(
 fn push_join(
     text: &mut String,
     word: &str,
-    lefts: &[String],
-    rights: &[String],
+    lefts: &[Name],
+    rights: &[Name],
     on: &[(usize, usize)],
 ) -> Result<(), AllocError>
-    ensures { OnOk result (string_bytes text.new ≡ string_bytes text.old ++ (word.now ++ (separated (codes ",") false (map (pair_text (map string_bytes lefts.now) (map string_bytes rights.now)) on.now) ++ codes "]"))) }
+    ensures { OnOk result (string_bytes text.new ≡ string_bytes text.old ++ (word.now ++ (separated (codes ",") false (map (pair_text lefts.now rights.now) on.now) ++ codes "]"))) }
 {
     text.push_str(word)?;
     push_pairs(text, lefts, rights, on)?;
@@ -279,11 +271,11 @@ fn push_join(
 /// Adds an operator over inputs whose columns have these names.
 pub fn push_binary(
     text: &mut String,
-    lefts: &[String],
-    rights: &[String],
+    lefts: &[Name],
+    rights: &[Name],
     operator: &Binary,
 ) -> Result<(), AllocError>
-    ensures { OnOk result (string_bytes text.new ≡ string_bytes text.old ++ binary_text (map string_bytes lefts.now) (map string_bytes rights.now) (binary_of operator.now)) }
+    ensures { OnOk result (string_bytes text.new ≡ string_bytes text.old ++ binary_text lefts.now rights.now (binary_of operator.now)) }
 {
     match operator {
         Binary::Union => text.push_str("union"),
@@ -295,10 +287,10 @@ pub fn push_binary(
 fn push_kind(
     text: &mut String,
     plan: &TypedPlan,
-    inputs: &[String],
+    inputs: &[Name],
     kind: &ExchangeKind,
 ) -> Result<(), AllocError>
-    ensures { OnOk result (string_bytes text.new ≡ string_bytes text.old ++ kind_text (names_in plan.now) (map string_bytes inputs.now) (kind_of kind.now)) }
+    ensures { OnOk result (string_bytes text.new ≡ string_bytes text.old ++ kind_text (names_in plan.now) inputs.now (kind_of kind.now)) }
 {
     match kind {
         ExchangeKind::Route(_, route, columns) => push_routed(
@@ -316,8 +308,8 @@ fn push_kind(
 }
 
 // Adds the columns that an exchange merges on, if there are any.
-fn push_merge(text: &mut String, inputs: &[String], merge: &[usize]) -> Result<(), AllocError>
-    ensures { OnOk result (string_bytes text.new ≡ string_bytes text.old ++ merge_text (map string_bytes inputs.now) merge.now) }
+fn push_merge(text: &mut String, inputs: &[Name], merge: &[usize]) -> Result<(), AllocError>
+    ensures { OnOk result (string_bytes text.new ≡ string_bytes text.old ++ merge_text inputs.now merge.now) }
 {
     if merge.is_empty() {
         return Ok(());
@@ -330,10 +322,10 @@ fn push_merge(text: &mut String, inputs: &[String], merge: &[usize]) -> Result<(
 pub fn push_exchange(
     text: &mut String,
     plan: &TypedPlan,
-    inputs: &[String],
+    inputs: &[Name],
     exchange: &Exchange,
 ) -> Result<(), AllocError>
-    ensures { OnOk result (string_bytes text.new ≡ string_bytes text.old ++ (codes "exchange " ++ (kind_text (names_in plan.now) (map string_bytes inputs.now) (kind_of exchange.now.kind) ++ merge_text (map string_bytes inputs.now) exchange.now.merge.items))) }
+    ensures { OnOk result (string_bytes text.new ≡ string_bytes text.old ++ (codes "exchange " ++ (kind_text (names_in plan.now) inputs.now (kind_of exchange.now.kind) ++ merge_text inputs.now exchange.now.merge.items))) }
 {
     text.push_str("exchange ")?;
     push_kind(text, plan, inputs, &exchange.kind)?;

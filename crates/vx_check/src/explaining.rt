@@ -1,6 +1,6 @@
 //! The text that explains a plan.
 
-ghost use Rattle.std.specs.Prelude.{◌≡◌, ◌++◌, map, string_bytes, codes, decimal, OnOk, IfOk};
+ghost use Rattle.std.specs.Prelude.{◌≡◌, ◌++◌, string_bytes, codes, decimal, OnOk, IfOk};
 ghost use Rattle.vx_plan_nodes.specs.Plan.{size};
 ghost use Rattle.vx_plan_nodes.specs.Outline.{outline_of, plan_of, columns, top};
 ghost use Rattle.vx_plan_nodes.specs.TypedView.{names_in};
@@ -13,11 +13,11 @@ use crate::words::{push_claim, push_size};
 use itoa::Buffer;
 use std::alloc::{AllocError, Global};
 use vx_check_rules::CheckedPlan;
-use vx_plan_nodes::{TypedNode, TypedPlan};
+use vx_plan_nodes::{Name, TypedNode, TypedPlan};
 
 // The names of the node's output columns.
-fn column_names(node: &TypedNode) -> &[String]
-    ensures { map string_bytes result.now ≡ (columns (outline_of node.now)).names }
+fn column_names(node: &TypedNode) -> &[Name]
+    ensures { result.now ≡ (columns (outline_of node.now)).names }
 {
     node.head().columns.names.as_slice()
 }

@@ -6,7 +6,7 @@ ghost use Rattle.vx_plan_nodes.specs.TypedView.{names_in};
 ghost use Rattle.vx_check.specs.Explain.{name_at, separated, list_text, size_text, route_text, part_text, keys_text, claim_text};
 
 use std::alloc::AllocError;
-use vx_plan_nodes::{Claim, Part, Route, Size, TypedPlan};
+use vx_plan_nodes::{Claim, Name, Part, Route, Size, TypedPlan};
 
 /// The name with this number; past the end the empty one.
 pub fn name_at(names: &[String], number: usize) -> &str
@@ -15,6 +15,16 @@ pub fn name_at(names: &[String], number: usize) -> &str
     match names.get(number) {
         Some(name) => name.as_str(),
         None => "",
+    }
+}
+
+/// Adds the name with this number; past the end nothing.
+pub fn push_name(text: &mut String, names: &[Name], number: usize) -> Result<(), AllocError>
+    ensures { OnOk result (string_bytes text.new ≡ string_bytes text.old ++ name_at names.now number) }
+{
+    match names.get(number) {
+        Some(name) => name.push_to(text),
+        None => Ok(()),
     }
 }
 
@@ -30,19 +40,19 @@ pub fn push_between(text: &mut String, between: &str, is_later: bool) -> Result<
 }
 
 // Adds columns by their names.
-fn push_names(text: &mut String, names: &[String], columns: &[usize]) -> Result<(), AllocError>
-    ensures { OnOk result (string_bytes text.new ≡ string_bytes text.old ++ separated (codes ",") false (map (name_at (map string_bytes names.now)) columns.now)) }
+fn push_names(text: &mut String, names: &[Name], columns: &[usize]) -> Result<(), AllocError>
+    ensures { OnOk result (string_bytes text.new ≡ string_bytes text.old ++ separated (codes ",") false (map (name_at names.now) columns.now)) }
 {
     for (i, column) in columns.iter().enumerate() {
         push_between(text, ",", i > 0)?;
-        text.push_str(name_at(names, *column))?;
+        push_name(text, names, *column)?;
     }
     Ok(())
 }
 
 /// Adds columns by their names, in brackets.
-pub fn push_list(text: &mut String, names: &[String], columns: &[usize]) -> Result<(), AllocError>
-    ensures { OnOk result (string_bytes text.new ≡ string_bytes text.old ++ list_text (map string_bytes names.now) columns.now) }
+pub fn push_list(text: &mut String, names: &[Name], columns: &[usize]) -> Result<(), AllocError>
+    ensures { OnOk result (string_bytes text.new ≡ string_bytes text.old ++ list_text names.now columns.now) }
 {
     text.push_str("[")?;
     push_names(text, names, columns)?;
@@ -89,11 +99,11 @@ pub fn push_route(text: &mut String, plan: &TypedPlan, route: &Route) -> Result<
 pub fn push_routed(
     text: &mut String,
     plan: &TypedPlan,
-    names: &[String],
+    names: &[Name],
     route: &Route,
     columns: &[usize],
 ) -> Result<(), AllocError>
-    ensures { OnOk result (string_bytes text.new ≡ string_bytes text.old ++ (route_text (names_in plan.now) (route_of route.now) ++ list_text (map string_bytes names.now) columns.now)) }
+    ensures { OnOk result (string_bytes text.new ≡ string_bytes text.old ++ (route_text (names_in plan.now) (route_of route.now) ++ list_text names.now columns.now)) }
 {
     push_route(text, plan, route)?;
     push_list(text, names, columns)
@@ -103,10 +113,10 @@ pub fn push_routed(
 fn push_part(
     text: &mut String,
     plan: &TypedPlan,
-    names: &[String],
+    names: &[Name],
     part: &Part,
 ) -> Result<(), AllocError>
-    ensures { OnOk result (string_bytes text.new ≡ string_bytes text.old ++ part_text (names_in plan.now) (map string_bytes names.now) (part_of part.now)) }
+    ensures { OnOk result (string_bytes text.new ≡ string_bytes text.old ++ part_text (names_in plan.now) names.now (part_of part.now)) }
 {
     match part {
         Part::One => text.push_str("one"),
@@ -117,8 +127,8 @@ fn push_part(
 }
 
 // Adds lists of columns.
-fn push_lists(text: &mut String, names: &[String], keys: &[Vec<usize>]) -> Result<(), AllocError>
-    ensures { OnOk result (string_bytes text.new ≡ string_bytes text.old ++ separated (codes ";") false (map (list_text (map string_bytes names.now)) (map (λ k. k.items) keys.now))) }
+fn push_lists(text: &mut String, names: &[Name], keys: &[Vec<usize>]) -> Result<(), AllocError>
+    ensures { OnOk result (string_bytes text.new ≡ string_bytes text.old ++ separated (codes ";") false (map (list_text names.now) (map (λ k. k.items) keys.now))) }
 {
     for (i, key) in keys.iter().enumerate() {
         push_between(text, ";", i > 0)?;
@@ -128,8 +138,8 @@ fn push_lists(text: &mut String, names: &[String], keys: &[Vec<usize>]) -> Resul
 }
 
 // Adds keys, or a dash where there is none.
-fn push_keys(text: &mut String, names: &[String], keys: &[Vec<usize>]) -> Result<(), AllocError>
-    ensures { OnOk result (string_bytes text.new ≡ string_bytes text.old ++ keys_text (map string_bytes names.now) (map (λ k. k.items) keys.now)) }
+fn push_keys(text: &mut String, names: &[Name], keys: &[Vec<usize>]) -> Result<(), AllocError>
+    ensures { OnOk result (string_bytes text.new ≡ string_bytes text.old ++ keys_text names.now (map (λ k. k.items) keys.now)) }
 {
     if keys.is_empty() {
         text.push_str("-")
@@ -142,10 +152,10 @@ fn push_keys(text: &mut String, names: &[String], keys: &[Vec<usize>]) -> Result
 pub fn push_claim(
     text: &mut String,
     plan: &TypedPlan,
-    names: &[String],
+    names: &[Name],
     claim: &Claim,
 ) -> Result<(), AllocError>
-    ensures { OnOk result (string_bytes text.new ≡ string_bytes text.old ++ claim_text (names_in plan.now) (map string_bytes names.now) (claim_of claim.now)) }
+    ensures { OnOk result (string_bytes text.new ≡ string_bytes text.old ++ claim_text (names_in plan.now) names.now (claim_of claim.now)) }
 {
     text.push_str(" part=")?;
     push_part(text, plan, names, &claim.part)?;

@@ -1,5 +1,5 @@
 -- Keys among copied columns.
-use Rattle.std.proofs.Common.{◌≡◌, ℕ, ◌+◌, ◌-◌, Bool, true, false, cond, List, [], ◌∷◌, map, nat_eq, nat_le, ◌==◌, ◌||◌, Option, Some, None, refl, sym, ◌∙◌, arith}
+use Rattle.std.proofs.Common.{◌≡◌, ℕ, ◌+◌, ◌-◌, Bool, true, false, cond, List, [], ◌∷◌, map, nat_eq, nat_le, ◌==◌, ◌||◌, Option, Some, None, refl, sym, ap, ◌∙◌, arith}
 use Rattle.std.specs.List.{list_any}
 use Rattle.std.specs.Option.{option_eq}
 use Rattle.std.proofs.lemmas.Bool.Decides.{nat_tests}
@@ -41,3 +41,12 @@ pub covers-behind : (w : ℕ) (cols : List ℕ) (keys : List (List ℕ)) → has
 covers-behind w cols keys =
     list_any-ext _ _ keys (λ k. list_all-ext _ _ k (λ c. list_any-ext _ _ cols (λ x. behind w c x)) ∙ sym (list_all-map (contains cols) (λ c. w + c) k))
     ∙ sym (list_any-map (λ k. within k cols) (shifted w) keys)
+
+-- keys behind no column
+unshifted-key : (key : List ℕ) → shifted 0 key ≡ key
+unshifted-key [] = refl
+unshifted-key (c ∷ cs) = let here : 0 + c ≡ c = omega arith in ap (λ x. x ∷ map (λ x. 0 + x) cs) here ∙ ap (λ xs. c ∷ xs) (unshifted-key cs)
+
+pub unshifted : (keys : List (List ℕ)) → map (shifted 0) keys ≡ keys
+unshifted [] = refl
+unshifted (k ∷ ks) = ap (λ x. x ∷ map (shifted 0) ks) (unshifted-key k) ∙ ap (λ xs. k ∷ xs) (unshifted ks)

@@ -1,3 +1,4 @@
+pub mod BitFacts
 pub mod ColumnFacts
 pub mod CopyFacts
 pub mod KeyFacts

@@ -1,5 +1,6 @@
 -- How the columns of an output stand for those of an input, as the program holds it.
-use Rattle.std.specs.Prelude.{ℕ, ◌-◌, nat_eq, nat_lt, nat_le, Bool, cond, List, map, Option, Some, None, slice_get}
+use Rattle.std.specs.Prelude.{ℕ, ◌≡◌, ◌<◌, ◌==◌, ◌-◌, nat_eq, nat_lt, nat_le, Bool, cond, List, map, Option, Some, None, slice_get}
+use Rattle.std.specs.Int.{bit_at}
 use Rattle.std.specs.List.{list_all, list_any}
 use Rattle.std.specs.Option.{option_eq}
 use Rattle.vx_check_rules.specs.declared.copies.Copies.{Copies}
@@ -27,3 +28,7 @@ has_copy p cols c = list_any (λ x. option_eq nat_eq (input_of p x) (Some c)) co
 -- these output columns contain copies of all columns of one of these keys
 abbrev pub has_key : Copies → List ℕ → List (List ℕ) → Bool
 has_key p cols keys = list_any (λ k. list_all (has_copy p cols) k) keys
+
+-- of the first 64 columns, these bits are set for those that pass the test
+abbrev pub LowCopies : (ℕ → Bool) → ℕ → Type 0
+LowCopies test bits = (c : ℕ) → c < 64 → (bit_at bits c == 1) ≡ test c

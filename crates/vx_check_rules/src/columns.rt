@@ -1,7 +1,7 @@
 //! Lists of columns: equality, membership, fronts and keys.
 
-ghost use Rattle.std.specs.Prelude.{◌≡◌, map};
-ghost use Rattle.vx_check_rules.specs.Rules.{numbers_eq, contains, within, is_prefix, covers, numbers_below};
+ghost use Rattle.std.specs.Prelude.{◌≡◌};
+ghost use Rattle.vx_check_rules.specs.Rules.{numbers_eq, contains, within, is_prefix, numbers_below};
 
 /// The same columns in the same order.
 pub fn are_same(xs: &[usize], ys: &[usize]) -> bool
@@ -29,13 +29,6 @@ pub fn is_prefix(xs: &[usize], ys: &[usize]) -> bool
     ensures { result ≡ is_prefix xs.now ys.now }
 {
     ys.starts_with(xs)
-}
-
-/// Whether the columns are a superset of one of the keys.
-pub fn is_covered(keys: &[Vec<usize>], columns: &[usize]) -> bool
-    ensures { result ≡ covers (map (λ k. k.items) keys.now) columns.now }
-{
-    keys.iter().any(|key| is_within(key.as_slice(), columns))
 }
 
 /// Whether the columns contain the first `width` ones.

@@ -4,6 +4,7 @@ ghost use Rattle.std.specs.Prelude.{◌≡◌, ◌&&◌, map, true};
 ghost use Rattle.std.specs.List.{list_all};
 ghost use Rattle.vx_check_rules.specs.Rules.{numbers_eq, is_prefix, covers, if_some, shifted};
 
+use crate::copied::CopiedColumns;
 use vx_plan_nodes::Projected;
 
 /// How the columns of an output stand for those of an input.
@@ -62,8 +63,8 @@ impl Copies<'_> {
     {
         columns.len() <= inputs.len() && self.stand_for(columns, &inputs[..columns.len()])
     }
-    // Whether one of the output columns is a copy of this input column.
-    fn is_copied(self, columns: &[usize], input: usize) -> bool
+    /// Whether one of the output columns is a copy of this input column.
+    pub fn is_copied(self, columns: &[usize], input: usize) -> bool
         ensures { result ≡ has_copy self.entry columns.now input }
     {
         columns
@@ -71,19 +72,12 @@ impl Copies<'_> {
             .any(|column| self.input(*column) == Some(input))
     }
 
-    // Whether each of the input columns has a copy among these output columns.
-    fn are_copied(self, columns: &[usize], inputs: &[usize]) -> bool
-        ensures { result ≡ list_all (has_copy self.entry columns.now) inputs.now }
-    {
-        inputs.iter().all(|input| self.is_copied(columns, *input))
-    }
-
     /// Whether the output columns contain copies of all columns of one of the keys.
     pub fn copy_key(self, columns: &[usize], keys: &[Vec<usize>]) -> bool
         ensures { result ≡ has_key self.entry columns.now (map (λ k. k.items) keys.now) }
     {
-        keys.iter()
-            .any(|key| self.are_copied(columns, key.as_slice()))
+        let copied = CopiedColumns::of(self, columns);
+        keys.iter().any(|key| copied.has_all(key.as_slice()))
     }
 
     /// Whether the output columns are copies of a superset of one of the keys.
@@ -100,4 +94,11 @@ pub fn is_covered_behind(keys: &[Vec<usize>], width: usize, columns: &[usize]) -
     ensures { result ≡ covers (map (shifted width) (map (λ k. k.items) keys.now)) columns.now }
 {
     Copies::Right(width).copy_key(columns, keys)
+}
+
+/// Whether the columns are a superset of one of the keys.
+pub fn is_covered(keys: &[Vec<usize>], columns: &[usize]) -> bool
+    ensures { result ≡ covers (map (λ k. k.items) keys.now) columns.now }
+{
+    is_covered_behind(keys, 0, columns)
 }

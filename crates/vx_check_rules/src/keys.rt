@@ -8,8 +8,8 @@ ghost use Rattle.vx_check_rules.specs.Rules.{covers, unary_keys, join_keys, keys
 ghost use Rattle.vx_check_rules.specs.Joints.{held_keys, binary_keys};
 ghost use Rattle.vx_plan_nodes.specs.Outputs.{HasOutputs};
 
-use crate::columns::{has_first, is_covered, is_of_first, is_within};
-use crate::copies::{Copies, is_covered_behind};
+use crate::columns::{has_first, is_of_first, is_within};
+use crate::copies::{Copies, is_covered, is_covered_behind};
 use crate::nodes::{claimed_keys, width_of};
 use crate::pairs::{Input, hold_key};
 use vx_plan_nodes::{Binary, Phase, TypedNode, Unary};

@@ -4,6 +4,7 @@
 mod checked;
 mod checking;
 mod columns;
+mod copied;
 mod copies;
 mod inputs;
 mod keys;

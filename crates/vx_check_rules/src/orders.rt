@@ -9,8 +9,8 @@ ghost use Rattle.vx_check_rules.specs.Rules.{is_prefix, rises_by, goes_on, unary
 ghost use Rattle.vx_plan_nodes.specs.Outputs.{HasOutputs};
 ghost use Rattle.vx_check_rules.specs.Joints.{binary_orders};
 
-use crate::columns::{has_first, is_covered, is_prefix};
-use crate::copies::Copies;
+use crate::columns::{has_first, is_prefix};
+use crate::copies::{Copies, is_covered};
 use crate::nodes::{claimed_keys, claimed_order, claimed_part, has_one_worker, width_of};
 use crate::pairs::{Input, are_prefix};
 use vx_plan_nodes::{Binary, Exchange, ExchangeKind, Part, Route, TypedNode, Unary};

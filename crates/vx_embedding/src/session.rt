@@ -2,7 +2,9 @@
 
 ghost use Rattle.std.specs.Prelude.{◌≡◌, [], map, IfOk, IfErr, Ok};
 ghost use Rattle.vx_relations.specs.Naming.{catalog_text};
+ghost use Rattle.vx_catalog.specs.Csv.{csv_text};
 ghost use Rattle.vx_plan_nodes.specs.Names.{TypedPlanView};
+ghost use Rattle.vx_plan_nodes.specs.Outline.{columns};
 ghost use Rattle.vx_plan_nodes.specs.TypedView.{resolved_of};
 ghost use Rattle.vx_check.specs.Explain.{explain_text};
 ghost use Rattle.vx_check_rules.specs.CheckedView.{typed_plan};
@@ -11,15 +13,24 @@ ghost use Rattle.vx_embedding.specs.Serial.{IsSerial, SerialRefuses};
 ghost use Rattle.vx_embedding.specs.Texts.{table_form};
 
 use crate::tables::TableText;
-use std::alloc::Global;
+use std::alloc::{AllocError, Global};
 use std::marker::Model;
 use vx_catalog::{Catalog, format_rows};
 use vx_check::{CheckedPlan, check, explain};
-use vx_plan::{Plan, TypedPlan, erase, resolve};
+use vx_plan::{Plan, TypedPlan, erase, name_texts, resolve};
 use vx_refusals::Refusal;
 use vx_seeds::KeySeed;
 use vx_serial::eval;
 use vx_tables::load_tables;
+use vx_views::Rows;
+
+// The text of rows under the names of a plan's output.
+fn text_of(alloc: Global, plan: &TypedPlan, rows: &Rows) -> Result<Vec<u8>, AllocError>
+    ensures { IfOk result (λ v. v.items ≡ csv_text (columns (resolved_of plan.now).root).names rows.now.rows) }
+{
+    let names = name_texts(alloc, plan.root().head().columns.names.as_slice())?;
+    format_rows(alloc, names.as_slice(), rows)
+}
 
 /// A catalog that was read once, with texts of its tables. Of two texts of one table the first counts.
 #[derive(Debug, Drop)]
@@ -135,7 +146,6 @@ impl Session {
             return Err(Refusal::NoMemory);
         };
         let rows = eval(alloc, &erased, &database)?;
-        let names = plan.root().head().columns.names.as_slice();
-        Ok(format_rows(alloc, names, &rows)?)
+        Ok(text_of(alloc, &plan, &rows)?)
     }
 }

@@ -22,7 +22,8 @@ use Rattle.vx_operators.specs.Operator.{OperatorStands, operator_op, operator_ty
 use Rattle.vx_worker.specs.Trees.{shape as tree_shape}
 use Rattle.vx_worker.specs.Wishes.{Numbered}
 use Rattle.vx_operators.specs.declared.operator.Operator.{Operator}
-use Rattle.vx_operators.specs.declared.operator.Operator.TheVariants as operator
+use Rattle.vx_operators.specs.Kind.{kind_op, kind_types}
+use Rattle.vx_operators.specs.declared.kind.OperatorKind.TheVariants as of_kind
 use Rattle.vx_worker.specs.declared.tree.Tree.{Tree, One, Two, Leaf, One', Two'}
 use Rattle.vx_groups.specs.Groups.{group_at}
 use Rattle.vx_exec.specs.Crew.{IsOperatorOf, IsTreeOf}
@@ -88,14 +89,14 @@ binary-tree j place n c op p q o a b h left right = record {
   typed = λ leaves fit. (h.takes.0 ∙ sym left.gives, h.takes.1 ∙ sym right.gives, left.typed leaves fit.0, right.typed leaves fit.1);
 }
 
-pub scan-operator : (j : Job) (place n : ℕ) (c : Claim) (r : ℕ) (shared : Bool) (z : Size) (s : Scan) (types : List ColType)
-    → ScanStands s fresh_ledger → scan_types s ≡ record { left = types; right = types; out = types }
-    → types ≡ types_of (relations j.plan.now) (scan n c r shared z) → IsOperatorOf j place (scan n c r shared z) (operator.Scan s)
-scan-operator j place n c r shared z s types stands shape e = record {
-  op_is = λ hash. refl;
+pub scan-operator : (j : Job) (place n : ℕ) (c : Claim) (r : ℕ) (shared : Bool) (z : Size) (s : Scan) (o : Operator) (types : List ColType)
+    → o.kind ≡ of_kind.Scan s → OperatorStands o fresh_ledger → scan_types s ≡ record { left = types; right = types; out = types }
+    → types ≡ types_of (relations j.plan.now) (scan n c r shared z) → IsOperatorOf j place (scan n c r shared z) o
+scan-operator j place n c r shared z s o types is stands shape e = record {
+  op_is = λ hash. ap kind_op is;
   stands = stands;
-  takes = ap (λ (x : Shape). x.left) shape ∙ e;
-  gives = ap (λ (x : Shape). x.out) shape ∙ e;
+  takes = ap (λ k. (kind_types k).left) is ∙ ap (λ (x : Shape). x.left) shape ∙ e;
+  gives = ap (λ k. (kind_types k).out) is ∙ ap (λ (x : Shape). x.out) shape ∙ e;
 }
 
 -- the columns on which an exchange merges are columns of its rows

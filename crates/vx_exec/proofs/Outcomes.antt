@@ -12,10 +12,11 @@ use Rattle.vx_exec.specs.Sizes.{Sizes}
 use Rattle.vx_exec.specs.Setup.{SetupRefusal}
 use Rattle.vx_setup.specs.Setup.{SetupView}
 use Rattle.vx_exec.specs.Job.{sizes_of}
-use Rattle.vx_exec.specs.Runs.{NamesFirst, IsSetUp, IsScheduled, IsInRounds, Scheduled, InRounds}
+use Rattle.vx_exec.specs.Runs.{NamesFirst, IsSetUp, IsScheduled, IsInRounds, Scheduled, InRounds, IsCountedInRounds, CountedInRounds}
 use Rattle.vx_setup.specs.declared.fault.RunFault.{RunFault}
 use Rattle.vx_setup.specs.declared.fault.RunFault.TheVariants as fault
 use Rattle.vx_exec.specs.declared.job.Job.{Job}
+use Rattle.vx_exec.specs.declared.counted.WorkerCounts.{WorkerCounts}
 use Rattle.vx_exec.specs.declared.ran.Ran.{Ran}
 
 ok-is : (s t : Sizes) → ◌≡◌ {A = Result Sizes SetupRefusal} (Ok s) (Ok t) → s ≡ t
@@ -74,3 +75,13 @@ module _ (hash : List ℕ → Row → ℕ → ℕ) (W : RunModel) (p : Plan) whe
   pub rounds-nothing : (r : Result Ran RunFault) (e : RunFault) (limit : ℕ) → IsErrAnd r (λ y. y ≡ e) → e ≡ fault.NoMemory → InRounds hash W p limit r
   rounds-nothing (Ok x) e limit h k = absurd h
   rounds-nothing (Err y) e limit h k = inl (h ∙ k)
+
+  -- the same of rounds that were counted
+  pub counted-reported : (r : Result Ran RunFault) (limit : ℕ) (counts : List WorkerCounts) → IsCountedInRounds hash W p limit r counts → CountedInRounds hash W p limit r counts
+  counted-reported (Ok x) limit counts h = h
+  counted-reported (Err e) limit counts h = inr h
+
+  pub counted-nothing : (r : Result Ran RunFault) (e : RunFault) (limit : ℕ) (counts : List WorkerCounts) → IsErrAnd r (λ y. y ≡ e) → e ≡ fault.NoMemory
+      → CountedInRounds hash W p limit r counts
+  counted-nothing (Ok x) e limit counts h k = absurd h
+  counted-nothing (Err y) e limit counts h k = inl (h ∙ k)

@@ -8,4 +8,5 @@ pub mod Bounds
 pub mod Inputs
 pub mod Crew
 pub mod Making
+pub mod Counts
 pub mod Runs

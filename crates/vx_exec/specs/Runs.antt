@@ -36,11 +36,13 @@ use Rattle.vx_steps.specs.Schedules.{IsBadStep}
 use Rattle.vx_steps.specs.declared.verdict.Verdict.{Verdict}
 use Rattle.vx_steps.specs.declared.verdict.Verdict.TheVariants as verdict
 use Rattle.vx_groups.specs.Groups.{group_at}
+use Rattle.vx_exec.specs.Counts.{AreCountsOf}
 use Rattle.vx_exec.specs.Sizes.{Sizes}
 use Rattle.vx_exec.specs.Setup.{sizes_set, Fails}
 use Rattle.vx_setup.specs.Setup.{SetupView}
 use Rattle.vx_setup.specs.declared.fault.RunFault.{RunFault}
 use Rattle.vx_setup.specs.declared.fault.RunFault.TheVariants as fault
+use Rattle.vx_exec.specs.declared.counted.WorkerCounts.{WorkerCounts}
 use Rattle.vx_exec.specs.declared.ran.Ran.{Ran}
 use Rattle.vx_exec.specs.declared.ran.Ran.TheVariants as ran
 
@@ -124,6 +126,16 @@ module _ (hash : List ℕ → Row → ℕ → ℕ) (W : RunModel) (p : Plan) whe
   abbrev pub InRounds : (limit : ℕ) → Result Ran RunFault → Type 0
   InRounds limit (Ok r) = IsInRounds limit (Ok r)
   InRounds limit (Err e) = (e ≡ fault.NoMemory) ⊎ IsInRounds limit (Err e)
+
+  -- rounds of all workers, whose counts these are in the end
+  pub record IsCountedInRounds (limit : ℕ) (result : Result Ran RunFault) (counts : List WorkerCounts) : Type 0 where
+    pub run : IsInRounds limit result
+    pub counted : AreCountsOf run.ended counts
+
+  -- memory was refused, or rounds were made, and these are the counts of their workers in the end
+  abbrev pub CountedInRounds : (limit : ℕ) → Result Ran RunFault → List WorkerCounts → Type 0
+  CountedInRounds limit (Ok r) counts = IsCountedInRounds limit (Ok r) counts
+  CountedInRounds limit (Err e) counts = (e ≡ fault.NoMemory) ⊎ IsCountedInRounds limit (Err e) counts
 
 -- the database is one of the plan's catalog, and the setup comes to these sizes
 pub record IsSetUp (p : TypedPlanView) (db : Database) (setup : SetupView) (s : Sizes) : Type 0 where

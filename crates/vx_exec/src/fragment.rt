@@ -8,7 +8,7 @@ ghost use Rattle.vx_exec.specs.declared.job.Job.{Job};
 
 use crate::job::Job;
 use std::alloc::{AllocError, Global};
-use vx_operators::{Operator, binary_operator, consumer_operator, unary_operator};
+use vx_operators::{Operator, OperatorKind, binary_operator, consumer_operator, unary_operator};
 use vx_ops::Scan;
 use vx_plan_nodes::{TypedNode, output_types};
 use vx_worker::Tree;
@@ -24,9 +24,10 @@ fn operator_of(
     ensures { IfOk result (IsOperatorOf job.now place (plan_of node.now)) }
 {
     match node {
-        TypedNode::Scan(_, _) => {
+        TypedNode::Scan(head, _) => {
             let types = Vec::from_slice(alloc, output_types(node))?;
-            Ok(Operator::Scan(Scan::new(types)))
+            let scan = Scan::new(types);
+            Ok(Operator::of(head.number, OperatorKind::Scan(scan)))
         }
         TypedNode::Unary(head, unary, input) => {
             let seed = job.seed();

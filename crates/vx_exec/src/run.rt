@@ -17,8 +17,10 @@ ghost use Rattle.vx_steps.specs.Roles.{crew_size};
 ghost use Rattle.vx_groups.specs.Groups.{group_at};
 ghost use Rattle.vx_exec.specs.Sizes.{run_model, Sizes};
 ghost use Rattle.vx_exec.specs.Job.{model_of};
-ghost use Rattle.vx_exec.specs.Runs.{fault_reported, ComesTo, IsRunOf, IfDone, IsTrueOf, IsFirstReported, IsSetUp, RunFails, IsBadStepOf, NamesFirst, ScheduleFails, Scheduled, InRounds};
+ghost use Rattle.vx_exec.specs.Counts.{is_wanted, counts_in};
+ghost use Rattle.vx_exec.specs.Runs.{CountedInRounds, fault_reported, ComesTo, IsRunOf, IfDone, IsTrueOf, IsFirstReported, IsSetUp, RunFails, IsBadStepOf, NamesFirst, ScheduleFails, Scheduled, InRounds};
 
+use crate::counted::RunCounts;
 use crate::crew::Crew;
 use crate::job::Job;
 use crate::ran::Ran;
@@ -81,19 +83,28 @@ pub fn answer_of(
     }
 }
 
-// At most so many rounds of all workers of a job, and what they come to.
-fn run_job<R: Router>(alloc: Global, job: &Job<'_>, router: &R, limit: u64) -> Result<Ran, RunFault>
+// At most so many rounds of all workers of a job, and what they come to. What they counted is kept, if that is wanted.
+fn run_job<R: Router>(
+    alloc: Global,
+    job: &Job<'_>,
+    router: &R,
+    limit: u64,
+    counts: &mut RunCounts,
+) -> Result<Ran, RunFault>
     requires allowed { is_allowed job.now.plan.now ≡ true }
     requires root { is_root_allowed job.now.plan.now ≡ true }
     ensures done { IfOk result (IfDone (IsRunOf (R.route_of router.now) (resolved_of job.now.plan.now) job.now.database.now job.now.groups.items)) }
     ensures failed { IfErr result (IsTrueOf (resolved_of job.now.plan.now) job.now.database.now) }
     ensures first { IfErr result (IsFirstReported (model_of (R.route_of router.now) job.now) (whole_plan job.now.plan.now)) }
     ensures rounds { InRounds (R.route_of router.now) (model_of (R.route_of router.now) job.now) (whole_plan job.now.plan.now) limit result }
+    ensures counted { is_wanted counts.old ≡ true
+        → CountedInRounds (R.route_of router.now) (model_of (R.route_of router.now) job.now) (whole_plan job.now.plan.now) limit result (counts_in counts.new) }
 {
     job.meets();
     let crew = Crew::new(alloc, job)?;
     let (mut workers, mut links) = crew.into_parts();
     let verdict = judge_rounds(&mut workers, job, router, &mut links, limit);
+    counts.note(alloc, workers.as_slice())?;
     answer_of(workers, verdict)
 }
 
@@ -142,8 +153,35 @@ pub fn run_rounds<R: Router>(
     ensures rounds { (s : Sizes) → IsSetUp (resolved_of (typed_plan plan.now)) database.now setup.now s
         → InRounds (R.route_of router.now) (run_model (R.route_of router.now) (typed_plan plan.now) database.now s) (whole_plan (typed_plan plan.now)) limit result }
 {
+    let mut unread = RunCounts::unread(alloc);
+    run_rounds_counted(alloc, plan, database, setup, router, limit, &mut unread)
+}
+
+/// A run of a plan over a database: at most so many rounds, in each of which every worker makes one step, in number order. Once all
+/// workers have ended and some failed, the fault is that of the lowest-numbered one that failed by itself. That rounds suffice is not promised.
+/// What each worker counted is in `counts` afterwards, also where some failed; memory for it is refused only where it is wanted.
+pub fn run_rounds_counted<R: Router>(
+    alloc: Global,
+    plan: &CheckedPlan,
+    database: &Database,
+    setup: &Setup,
+    router: &R,
+    limit: u64,
+    counts: &mut RunCounts,
+) -> Result<Ran, RunFault>
+    ensures done { IfOk result (IfDone (λ rows. (s : Sizes) × IsSetUp (resolved_of (typed_plan plan.now)) database.now setup.now s
+        × IsRunOf (R.route_of router.now) (resolved_of (typed_plan plan.now)) database.now s.groups rows)) }
+    ensures set { IfOk result (λ _. (s : Sizes) × IsSetUp (resolved_of (typed_plan plan.now)) database.now setup.now s) }
+    ensures refused { IfErr result (RunFails (resolved_of (typed_plan plan.now)) database.now setup.now) }
+    ensures first { (s : Sizes) → IsSetUp (resolved_of (typed_plan plan.now)) database.now setup.now s
+        → IfErr result (IsFirstReported (run_model (R.route_of router.now) (typed_plan plan.now) database.now s) (whole_plan (typed_plan plan.now))) }
+    ensures rounds { (s : Sizes) → IsSetUp (resolved_of (typed_plan plan.now)) database.now setup.now s
+        → InRounds (R.route_of router.now) (run_model (R.route_of router.now) (typed_plan plan.now) database.now s) (whole_plan (typed_plan plan.now)) limit result }
+    ensures counted { is_wanted counts.old ≡ true → (s : Sizes) → IsSetUp (resolved_of (typed_plan plan.now)) database.now setup.now s
+        → CountedInRounds (R.route_of router.now) (run_model (R.route_of router.now) (typed_plan plan.now) database.now s) (whole_plan (typed_plan plan.now)) limit result (counts_in counts.new) }
+{
     let job = job_of(alloc, plan.plan(), database, setup)?;
-    run_job(alloc, &job, router, limit)
+    run_job(alloc, &job, router, limit, counts)
 }
 
 /// A run of a plan over a database by a schedule: one step of the worker with each of these numbers, in this order.

@@ -16,7 +16,7 @@ use crate::shown::shown_claim;
 use itoa::Buffer;
 use std::alloc::{AllocError, Global};
 use vx_check_rules::Rule;
-use vx_plan_nodes::{Claim, TypedNode, TypedPlan};
+use vx_plan_nodes::{Claim, Name, TypedNode, TypedPlan};
 
 // The code and the name of a rule.
 fn rule_text(rule: Rule) -> &'static str
@@ -40,10 +40,10 @@ fn push_claim(
     alloc: Global,
     text: &mut String,
     plan: &TypedPlan,
-    names: &[String],
+    names: &[Name],
     claim: Option<Claim>,
 ) -> Result<(), AllocError>
-    ensures { OnOk result (string_bytes text.new ≡ string_bytes text.old ++ claim_text (names_in plan.now) (map string_bytes names.now) (option_map claim_of claim)) }
+    ensures { OnOk result (string_bytes text.new ≡ string_bytes text.old ++ claim_text (names_in plan.now) names.now (option_map claim_of claim)) }
 {
     let Some(claim) = claim else {
         return Ok(());
@@ -53,8 +53,8 @@ fn push_claim(
 }
 
 // The names of the columns of a node's output.
-fn column_names(node: &TypedNode) -> &[String]
-    ensures { map string_bytes result.now ≡ (columns (outline_of node.now)).names }
+fn column_names(node: &TypedNode) -> &[Name]
+    ensures { result.now ≡ (columns (outline_of node.now)).names }
 {
     node.head().columns.names.as_slice()
 }

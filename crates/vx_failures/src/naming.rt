@@ -13,17 +13,17 @@ ghost use Rattle.vx_plan.specs.ByName.{names_at, first_name, range_name, route_b
 
 use serde_json::{Map, Value as Json, put};
 use std::alloc::{AllocError, Global};
-use vx_plan_nodes::{Claim, Part, Route, TypedPlan};
+use vx_plan_nodes::{Claim, Name, Part, Route, TypedPlan};
 
 type Members = Map<String, Json>;
 
 // The name with this number; past the end the empty one.
-fn name_at(names: &[String], number: usize) -> &str
-    ensures { result.now ≡ name_at (map string_bytes names.now) number }
+fn name_at(alloc: Global, names: &[Name], number: usize) -> Result<String, AllocError>
+    ensures { IfOk result (λ s. string_bytes s ≡ name_at names.now number) }
 {
     match names.get(number) {
-        Some(name) => name.as_str(),
-        None => "",
+        Some(name) => name.to_text(alloc),
+        None => Ok(String::new(alloc)),
     }
 }
 
@@ -38,12 +38,12 @@ fn range_name<'a>(plan: &'a TypedPlan, range: usize) -> &'a str
 }
 
 // The name of the first of the columns.
-fn first_name<'a>(names: &'a [String], columns: &[usize]) -> &'a str
-    ensures { result.now ≡ first_name (map string_bytes names.now) columns.now }
+fn first_name(alloc: Global, names: &[Name], columns: &[usize]) -> Result<String, AllocError>
+    ensures { IfOk result (λ s. string_bytes s ≡ first_name names.now columns.now) }
 {
     match columns {
-        [first, ..] => name_at(names, *first),
-        [] => "",
+        [first, ..] => name_at(alloc, names, *first),
+        [] => Ok(String::new(alloc)),
     }
 }
 
@@ -60,18 +60,18 @@ fn put_text(members: &mut Members, alloc: Global, key: &str, text: &str) -> Resu
 }
 
 // Columns by their names.
-fn names_json(alloc: Global, names: &[String], columns: &[usize]) -> Result<Json, AllocError>
-    ensures { IfOk result (λ d. view d ≡ names_json (names_at (map string_bytes names.now) columns.now)) }
+fn names_json(alloc: Global, names: &[Name], columns: &[usize]) -> Result<Json, AllocError>
+    ensures { IfOk result (λ d. view d ≡ names_json (names_at names.now columns.now)) }
 {
     let mut list = Vec::new(alloc);
     for column in columns {
-        list.push(text_json(alloc, name_at(names, *column))?)?;
+        list.push(Json::String(name_at(alloc, names, *column)?))?;
     }
     Ok(Json::Array(list))
 }
 
-fn keys_json(alloc: Global, names: &[String], keys: &[Vec<usize>]) -> Result<Json, AllocError>
-    ensures { IfOk result (λ d. view d ≡ list_json names_json (map (names_at (map string_bytes names.now)) (map (λ k. k.items) keys.now))) }
+fn keys_json(alloc: Global, names: &[Name], keys: &[Vec<usize>]) -> Result<Json, AllocError>
+    ensures { IfOk result (λ d. view d ≡ list_json names_json (map (names_at names.now) (map (λ k. k.items) keys.now))) }
 {
     let mut list = Vec::new(alloc);
     for key in keys {
@@ -83,11 +83,11 @@ fn keys_json(alloc: Global, names: &[String], keys: &[Vec<usize>]) -> Result<Jso
 // A hash and the columns by which it sends.
 fn hash_json(
     alloc: Global,
-    names: &[String],
+    names: &[Name],
     route: &str,
     columns: &[usize],
 ) -> Result<Json, AllocError>
-    ensures { IfOk result (λ d. view d ≡ part_json (hash_part route.now (names_at (map string_bytes names.now) columns.now))) }
+    ensures { IfOk result (λ d. view d ≡ part_json (hash_part route.now (names_at names.now columns.now))) }
 {
     let mut members = Map::new(alloc);
     put_text(&mut members, alloc, "hash", route)?;
@@ -114,29 +114,28 @@ fn range_json(alloc: Global, range: &str, column: &str) -> Result<Json, AllocErr
 fn route_json(
     alloc: Global,
     plan: &TypedPlan,
-    names: &[String],
+    names: &[Name],
     route: &Route,
     columns: &[usize],
 ) -> Result<Json, AllocError>
-    ensures { IfOk result (λ d. view d ≡ part_json (route_by_name (names_in plan.now) (map string_bytes names.now) (route_of route.now) columns.now)) }
+    ensures { IfOk result (λ d. view d ≡ part_json (route_by_name (names_in plan.now) names.now (route_of route.now) columns.now)) }
 {
     match route {
         Route::Hash(name) => hash_json(alloc, names, name.as_str(), columns),
-        Route::Range(range) => range_json(
-            alloc,
-            range_name(plan, *range),
-            first_name(names, columns),
-        ),
+        Route::Range(range) => {
+            let column = first_name(alloc, names, columns)?;
+            range_json(alloc, range_name(plan, *range), column.as_str())
+        }
     }
 }
 
 fn part_json(
     alloc: Global,
     plan: &TypedPlan,
-    names: &[String],
+    names: &[Name],
     part: &Part,
 ) -> Result<Json, AllocError>
-    ensures { IfOk result (λ d. view d ≡ part_json (part_by_name (names_in plan.now) (map string_bytes names.now) (part_of part.now))) }
+    ensures { IfOk result (λ d. view d ≡ part_json (part_by_name (names_in plan.now) names.now (part_of part.now))) }
 {
     match part {
         Part::One => text_json(alloc, "one"),
@@ -153,10 +152,10 @@ fn put_part(
     members: &mut Members,
     alloc: Global,
     plan: &TypedPlan,
-    names: &[String],
+    names: &[Name],
     part: &Part,
 ) -> Result<(), AllocError>
-    ensures { OnOk result (members_view members.new.entries ≡ with_part (part_by_name (names_in plan.now) (map string_bytes names.now) (part_of part.now)) (members_view members.old.entries)) }
+    ensures { OnOk result (members_view members.new.entries ≡ with_part (part_by_name (names_in plan.now) names.now (part_of part.now)) (members_view members.old.entries)) }
 {
     if matches!(part, Part::Any) {
         return Ok(());
@@ -168,10 +167,10 @@ fn put_part(
 fn put_order(
     members: &mut Members,
     alloc: Global,
-    names: &[String],
+    names: &[Name],
     order: &[usize],
 ) -> Result<(), AllocError>
-    ensures { OnOk result (members_view members.new.entries ≡ with_some (codes "order") string (names_at (map string_bytes names.now) order.now) (members_view members.old.entries)) }
+    ensures { OnOk result (members_view members.new.entries ≡ with_some (codes "order") string (names_at names.now order.now) (members_view members.old.entries)) }
 {
     if order.is_empty() {
         return Ok(());
@@ -183,10 +182,10 @@ fn put_order(
 fn put_keys(
     members: &mut Members,
     alloc: Global,
-    names: &[String],
+    names: &[Name],
     keys: &[Vec<usize>],
 ) -> Result<(), AllocError>
-    ensures { OnOk result (members_view members.new.entries ≡ with_some (codes "keys") names_json (map (names_at (map string_bytes names.now)) (map (λ k. k.items) keys.now)) (members_view members.old.entries)) }
+    ensures { OnOk result (members_view members.new.entries ≡ with_some (codes "keys") names_json (map (names_at names.now) (map (λ k. k.items) keys.now)) (members_view members.old.entries)) }
 {
     if keys.is_empty() {
         return Ok(());
@@ -198,10 +197,10 @@ fn put_keys(
 fn claim_json(
     alloc: Global,
     plan: &TypedPlan,
-    names: &[String],
+    names: &[Name],
     claim: &Claim,
 ) -> Result<Json, AllocError>
-    ensures { IfOk result (λ d. view d ≡ object (claim_members (claim_by_name (names_in plan.now) (map string_bytes names.now) (claim_of claim.now)))) }
+    ensures { IfOk result (λ d. view d ≡ object (claim_members (claim_by_name (names_in plan.now) names.now (claim_of claim.now)))) }
 {
     let mut members = Map::new(alloc);
     put_part(&mut members, alloc, plan, names, &claim.part)?;
@@ -214,10 +213,10 @@ fn claim_json(
 pub fn claim_text(
     alloc: Global,
     plan: &TypedPlan,
-    names: &[String],
+    names: &[Name],
     claim: &Claim,
 ) -> Result<String, AllocError>
-    ensures { IfOk result (λ s. string_bytes s ≡ compact_text (object (claim_members (claim_by_name (names_in plan.now) (map string_bytes names.now) (claim_of claim.now))))) }
+    ensures { IfOk result (λ s. string_bytes s ≡ compact_text (object (claim_members (claim_by_name (names_in plan.now) names.now (claim_of claim.now))))) }
 {
     claim_json(alloc, plan, names, claim)?.to_string(alloc)
 }

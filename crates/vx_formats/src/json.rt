@@ -8,16 +8,17 @@ ghost use Rattle.serde_json.specs.Written.{compact_text};
 ghost use Rattle.vx_plan_nodes.specs.Outline.{outline_of, top, size_of, part_of, claim_of, kind_of, route_of, unary_of, binary_of, phase_of, columns_of};
 ghost use Rattle.vx_plan_nodes.specs.TypedView.{names_in};
 ghost use Rattle.vx_check_rules.specs.CheckedView.{typed_plan};
+ghost use Rattle.vx_check.specs.Explain.{name_at};
 ghost use Rattle.vx_formats.specs.Json.{columns_json, keys_json, names_json, type_json, types_json, size_json, routed_json, part_json, with_claim, phase_word, unary_word, binary_word, op_word, with_operator, inputs, with_workers, with_output, with_route, with_kind, with_exchange, node_json, nodes_json, plan_json};
 
 use crate::describe::{column_names, description};
-use crate::words::{name_at, route_name, route_word};
+use crate::words::{name_at, push_name, route_name, route_word};
 use serde_json::{Map, Value as Json, put};
 use std::alloc::{AllocError, Global};
 use vx_check_rules::CheckedPlan;
 use vx_plan_nodes::{
-    Binary, Claim, Columns, Exchange, ExchangeKind, Part, Phase, Route, Size, TypedNode, TypedPlan,
-    Unary,
+    Binary, Claim, Columns, Exchange, ExchangeKind, Name, Part, Phase, Route, Size, TypedNode,
+    TypedPlan, Unary,
 };
 use vx_rows::ColType;
 
@@ -35,19 +36,28 @@ fn put_text(members: &mut Members, alloc: Global, key: &str, text: &str) -> Resu
     put(members, alloc, key, text_json(alloc, text)?)
 }
 
+// The name with this number; past the end the empty one.
+fn name_json(alloc: Global, names: &[Name], number: usize) -> Result<Json, AllocError>
+    ensures { IfOk result (λ d. view d ≡ string (name_at names.now number)) }
+{
+    let mut text = String::new(alloc);
+    push_name(&mut text, names, number)?;
+    Ok(Json::String(text))
+}
+
 // Columns by their names.
-fn columns_json(alloc: Global, names: &[String], columns: &[usize]) -> Result<Json, AllocError>
-    ensures { IfOk result (λ d. view d ≡ columns_json (map string_bytes names.now) columns.now) }
+fn columns_json(alloc: Global, names: &[Name], columns: &[usize]) -> Result<Json, AllocError>
+    ensures { IfOk result (λ d. view d ≡ columns_json names.now columns.now) }
 {
     let mut list = Vec::new(alloc);
     for column in columns {
-        list.push(text_json(alloc, name_at(names, *column))?)?;
+        list.push(name_json(alloc, names, *column)?)?;
     }
     Ok(Json::Array(list))
 }
 
-fn keys_json(alloc: Global, names: &[String], keys: &[Vec<usize>]) -> Result<Json, AllocError>
-    ensures { IfOk result (λ d. view d ≡ keys_json (map string_bytes names.now) (map (λ k. k.items) keys.now)) }
+fn keys_json(alloc: Global, names: &[Name], keys: &[Vec<usize>]) -> Result<Json, AllocError>
+    ensures { IfOk result (λ d. view d ≡ keys_json names.now (map (λ k. k.items) keys.now)) }
 {
     let mut list = Vec::new(alloc);
     for key in keys {
@@ -56,12 +66,12 @@ fn keys_json(alloc: Global, names: &[String], keys: &[Vec<usize>]) -> Result<Jso
     Ok(Json::Array(list))
 }
 
-fn names_json(alloc: Global, names: &[String]) -> Result<Json, AllocError>
-    ensures { IfOk result (λ d. view d ≡ names_json (map string_bytes names.now)) }
+fn names_json(alloc: Global, names: &[Name]) -> Result<Json, AllocError>
+    ensures { IfOk result (λ d. view d ≡ names_json names.now) }
 {
     let mut list = Vec::new(alloc);
     for name in names {
-        list.push(text_json(alloc, name.as_str())?)?;
+        list.push(Json::String(name.to_text(alloc)?))?;
     }
     Ok(Json::Array(list))
 }
@@ -98,11 +108,11 @@ fn size_json(alloc: Global, plan: &TypedPlan, size: Size) -> Result<Json, AllocE
 fn routed_json(
     alloc: Global,
     plan: &TypedPlan,
-    names: &[String],
+    names: &[Name],
     route: &Route,
     columns: &[usize],
 ) -> Result<Json, AllocError>
-    ensures { IfOk result (λ d. view d ≡ routed_json (names_in plan.now) (map string_bytes names.now) (route_of route.now) columns.now) }
+    ensures { IfOk result (λ d. view d ≡ routed_json (names_in plan.now) names.now (route_of route.now) columns.now) }
 {
     let mut members = Map::new(alloc);
     put_text(
@@ -123,10 +133,10 @@ fn routed_json(
 fn part_json(
     alloc: Global,
     plan: &TypedPlan,
-    names: &[String],
+    names: &[Name],
     part: &Part,
 ) -> Result<Json, AllocError>
-    ensures { IfOk result (λ d. view d ≡ part_json (names_in plan.now) (map string_bytes names.now) (part_of part.now)) }
+    ensures { IfOk result (λ d. view d ≡ part_json (names_in plan.now) names.now (part_of part.now)) }
 {
     match part {
         Part::One => text_json(alloc, "one"),
@@ -141,10 +151,10 @@ fn put_claim(
     members: &mut Members,
     alloc: Global,
     plan: &TypedPlan,
-    names: &[String],
+    names: &[Name],
     claim: &Claim,
 ) -> Result<(), AllocError>
-    ensures { OnOk result (members_view members.new.entries ≡ with_claim (names_in plan.now) (map string_bytes names.now) (claim_of claim.now) (members_view members.old.entries)) }
+    ensures { OnOk result (members_view members.new.entries ≡ with_claim (names_in plan.now) names.now (claim_of claim.now) (members_view members.old.entries)) }
 {
     put(
         members,
@@ -294,11 +304,11 @@ fn put_route(
     members: &mut Members,
     alloc: Global,
     plan: &TypedPlan,
-    inputs: &[String],
+    inputs: &[Name],
     route: &Route,
     columns: &[usize],
 ) -> Result<(), AllocError>
-    ensures { OnOk result (members_view members.new.entries ≡ with_route (names_in plan.now) (map string_bytes inputs.now) (route_of route.now) columns.now (members_view members.old.entries)) }
+    ensures { OnOk result (members_view members.new.entries ≡ with_route (names_in plan.now) inputs.now (route_of route.now) columns.now (members_view members.old.entries)) }
 {
     put_text(members, alloc, "kind", route_word(route))?;
     put_text(members, alloc, "route", route_name(plan, route))?;
@@ -314,10 +324,10 @@ fn put_kind(
     members: &mut Members,
     alloc: Global,
     plan: &TypedPlan,
-    inputs: &[String],
+    inputs: &[Name],
     kind: &ExchangeKind,
 ) -> Result<(), AllocError>
-    ensures { OnOk result (members_view members.new.entries ≡ with_kind (names_in plan.now) (map string_bytes inputs.now) (kind_of kind.now) (members_view members.old.entries)) }
+    ensures { OnOk result (members_view members.new.entries ≡ with_kind (names_in plan.now) inputs.now (kind_of kind.now) (members_view members.old.entries)) }
 {
     match kind {
         ExchangeKind::Route(_, route, columns) => {

@@ -1,2 +1,4 @@
+pub mod Counts
+pub mod Kind
 pub mod Operator
 pub mod Destination

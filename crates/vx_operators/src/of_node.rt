@@ -10,6 +10,7 @@ ghost use Rattle.vx_ops.specs.Ledger.{one_op, two_op, receive};
 ghost use Rattle.vx_ops.specs.Turn.{fresh_ledger};
 ghost use Rattle.vx_operators.specs.Operator.{OperatorStands, operator_op, operator_types};
 
+use crate::kind::OperatorKind;
 use crate::operator::Operator;
 use std::alloc::{AllocError, Global};
 use vx_algebra::kept_columns;
@@ -40,28 +41,29 @@ pub fn unary_operator(
         Unary::Select(conditions) => {
             let copies = copied_conditions(alloc, conditions.as_slice())?;
             let types = Vec::from_slice(alloc, input)?;
-            Ok(Operator::Select(Select::new(alloc, number, copies, types)))
+            let select = Select::new(alloc, number, copies, types);
+            Ok(Operator::of(number, OperatorKind::Select(select)))
         }
         Unary::Project(kept) => {
             let columns = kept_columns(alloc, kept.as_slice())?;
             let project = Project::new(alloc, number, columns, input)?;
-            Ok(Operator::Project(project))
+            Ok(Operator::of(number, OperatorKind::Project(project)))
         }
         Unary::Distinct(kept) => {
             let columns = kept_columns(alloc, kept.as_slice())?;
             let distinct = FirstRows::source(alloc, seed, number, columns, input)?;
-            Ok(Operator::Distinct(distinct))
+            Ok(Operator::of(number, OperatorKind::Distinct(distinct)))
         }
         Unary::Sort(columns) => {
             let columns = Vec::from_slice(alloc, columns.as_slice())?;
             let sort = Sort::new(alloc, number, columns, input)?;
-            Ok(Operator::Sort(sort))
+            Ok(Operator::of(number, OperatorKind::Sort(sort)))
         }
         Unary::Group(phase, by, aggregates) => {
             let by = by.as_slice();
             let aggregates = aggregates.as_slice();
             let group = KeyedGroups::source(alloc, seed, number, *phase, by, aggregates, input)?;
-            Ok(Operator::Group(group))
+            Ok(Operator::of(number, OperatorKind::Group(group)))
         }
     }
 }
@@ -86,16 +88,17 @@ pub fn binary_operator(
     match binary {
         Binary::Union => {
             let types = Vec::from_slice(alloc, left)?;
-            Ok(Operator::Union(Union::new(number, types)))
+            let union = Union::new(number, types);
+            Ok(Operator::of(number, OperatorKind::Union(union)))
         }
         Binary::HashJoin(on) => {
             let on = Vec::from_slice(alloc, on.as_slice())?;
             let join = HashJoining::source(alloc, seed, number, on, left, right)?;
-            Ok(Operator::HashJoin(join))
+            Ok(Operator::of(number, OperatorKind::HashJoin(join)))
         }
         Binary::MergeJoin(on) => {
             let join = MergeJoin::new(alloc, number, on.as_slice(), left, right)?;
-            Ok(Operator::MergeJoin(join))
+            Ok(Operator::of(number, OperatorKind::MergeJoin(join)))
         }
     }
 }
@@ -128,13 +131,13 @@ pub fn consumer_operator(
 {
     if is_concat(&exchange.kind) {
         let receiver = InOrderReceiver::new(number, place, producers, types);
-        return Ok(Operator::InOrder(receiver));
+        return Ok(Operator::of(number, OperatorKind::InOrder(receiver)));
     }
     if exchange.merge.is_empty() {
         let receiver = Receiver::new(alloc, number, place, producers, types)?;
-        return Ok(Operator::Receiver(receiver));
+        return Ok(Operator::of(number, OperatorKind::Receiver(receiver)));
     }
     let merge = Vec::from_slice(alloc, exchange.merge.as_slice())?;
     let receiver = MergeReceiver::new(alloc, number, place, producers, types, merge)?;
-    Ok(Operator::Merge(receiver))
+    Ok(Operator::of(number, OperatorKind::Merge(receiver)))
 }

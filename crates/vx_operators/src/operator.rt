@@ -1,44 +1,62 @@
 //! The operators of a fragment.
 
-use vx_exchange::Receiver;
-use vx_match::{Distinct, Group, HashJoin, MergeJoin};
-use vx_ops::{Got, Polled, Project, Scan, Select, Sort, Source, Union, Want};
-use vx_receivers::{InOrderReceiver, MergeReceiver};
+use crate::counts::OperatorCounts;
+use crate::kind::OperatorKind;
+use vx_ops::{Got, Polled, Source, Want};
 
-/// One operator of a fragment: each kind is a source of its own crate.
-pub enum Operator {
-    Scan(Scan),
-    Select(Select),
-    Project(Project),
-    Distinct(Distinct),
-    Sort(Sort),
-    Group(Group),
-    Union(Union),
-    HashJoin(HashJoin),
-    MergeJoin(MergeJoin),
-    Receiver(Receiver),
-    InOrder(InOrderReceiver),
-    Merge(MergeReceiver),
+/// One operator of a fragment, and what it counted of its turns.
+pub struct Operator {
+    // The number of its node.
+    node: u32,
+    kind: OperatorKind,
+    counts: OperatorCounts,
 }
 
-// Written out and not derived: so it is proved here once, and what holds operators calls it. A derived one is proved again, with those of all
-// that the operators hold, by each crate that lets an operator go.
+// By hand, as that of the kinds is.
 impl Drop for Operator {
     fn drop(self) {
-        match self {
-            Operator::Scan(scan) => drop(scan),
-            Operator::Select(select) => drop(select),
-            Operator::Project(project) => drop(project),
-            Operator::Distinct(distinct) => drop(distinct),
-            Operator::Sort(sort) => drop(sort),
-            Operator::Group(group) => drop(group),
-            Operator::Union(union) => drop(union),
-            Operator::HashJoin(join) => drop(join),
-            Operator::MergeJoin(join) => drop(join),
-            Operator::Receiver(receiver) => drop(receiver),
-            Operator::InOrder(receiver) => drop(receiver),
-            Operator::Merge(receiver) => drop(receiver),
+        let Operator {
+            node: _,
+            kind: _,
+            counts: _,
+        } = self;
+    }
+}
+
+impl Operator {
+    ghost use Rattle.std.specs.Prelude.{◌≡◌};
+    ghost use Rattle.vx_ops.specs.Turn.{fresh_ledger};
+    ghost use Rattle.vx_operators.specs.Kind.{KindStands};
+    ghost use Rattle.vx_operators.specs.Operator.{OperatorStands, node_in, counts_in};
+    ghost use Rattle.vx_operators.specs.Counts.{no_turns};
+
+    /// The operator at the node with this number, to which nothing came.
+    pub fn of(node: u32, kind: OperatorKind) -> Operator
+        requires { KindStands kind fresh_ledger }
+        ensures node { node_in result ≡ node }
+        ensures kind { result.kind ≡ kind }
+        ensures counts { counts_in result ≡ no_turns }
+        ensures stands { OperatorStands result fresh_ledger }
+    {
+        Operator {
+            node,
+            kind,
+            counts: OperatorCounts::new(),
         }
+    }
+
+    /// The number of its node.
+    pub fn node(&self) -> u32
+        ensures { result ≡ node_in self.now }
+    {
+        self.node
+    }
+
+    /// What it counted so far.
+    pub fn counts(&self) -> OperatorCounts
+        ensures { result ≡ counts_in self.now }
+    {
+        self.counts
     }
 }
 
@@ -56,36 +74,14 @@ impl Source for Operator {
     ghost abides = { operator_abides };
 
     fn wants(&self) -> Want {
-        match self {
-            Operator::Scan(scan) => scan.wants(),
-            Operator::Select(select) => select.wants(),
-            Operator::Project(project) => project.wants(),
-            Operator::Distinct(distinct) => distinct.wants(),
-            Operator::Sort(sort) => sort.wants(),
-            Operator::Group(group) => group.wants(),
-            Operator::Union(union) => union.wants(),
-            Operator::HashJoin(join) => join.wants(),
-            Operator::MergeJoin(join) => join.wants(),
-            Operator::Receiver(receiver) => receiver.wants(),
-            Operator::InOrder(receiver) => receiver.wants(),
-            Operator::Merge(receiver) => receiver.wants(),
-        }
+        self.kind.wants()
     }
 
     fn turn(&mut self, got: Got) -> Polled {
-        match self {
-            Operator::Scan(scan) => scan.turn(got),
-            Operator::Select(select) => select.turn(got),
-            Operator::Project(project) => project.turn(got),
-            Operator::Distinct(distinct) => distinct.turn(got),
-            Operator::Sort(sort) => sort.turn(got),
-            Operator::Group(group) => group.turn(got),
-            Operator::Union(union) => union.turn(got),
-            Operator::HashJoin(join) => join.turn(got),
-            Operator::MergeJoin(join) => join.turn(got),
-            Operator::Receiver(receiver) => receiver.turn(got),
-            Operator::InOrder(receiver) => receiver.turn(got),
-            Operator::Merge(receiver) => receiver.turn(got),
-        }
+        let want = self.kind.wants();
+        self.counts.add_got(want, &got);
+        let polled = self.kind.turn(got);
+        self.counts.add_given(&polled);
+        polled
     }
 }

@@ -1,5 +1,5 @@
 -- What a run in threads comes to, from what its workers came to.
-use Rattle.std.proofs.Common.{Vec, Global, ◌≡◌, ◌⊎◌, ℕ, List, Ok, Err, Result, IfOk, IfErr, refl, sym, ap, ◌∙◌, subst, inl, inr}
+use Rattle.std.proofs.Common.{Vec, Global, ◌≡◌, ◌⊎◌, ℕ, List, Ok, Err, Result, IfOk, IfErr, refl, sym, ap, ◌∙◌, subst, inl, inr, map, length, vec_len, arith}
 use Rattle.std.specs.List.{All}
 use Rattle.std.specs.Result.{IsErrAnd}
 use Rattle.vx_values.specs.Values.{Row}
@@ -9,11 +9,13 @@ use Rattle.vx_plan_nodes.specs.Plan.{Plan}
 use Rattle.vx_plan_nodes.specs.TypedView.{plan}
 use Rattle.vx_worker.specs.Fragment.{RunModel}
 use Rattle.vx_worker.specs.Trace.{scan_morsels}
+use Rattle.vx_worker.specs.Worker.{role_of}
 use Rattle.vx_worker.specs.declared.worker.Worker.{Worker}
 use Rattle.vx_operators.specs.Operator.{OperatorStands, operator_op}
 use Rattle.vx_operators.specs.Destination.{DestinationStands, task_of, post_of, bounds_of}
 use Rattle.vx_operators.specs.declared.operator.Operator.{Operator}
 use Rattle.vx_operators.specs.declared.destination.Destination.{Destination}
+use Rattle.vx_steps.proofs.RunSteps.{map-length}
 use Rattle.vx_steps.specs.LinksView.{LinksView}
 use Rattle.vx_steps.specs.Ready.{Ready}
 use Rattle.vx_steps.specs.declared.verdict.Verdict.{Verdict}
@@ -24,12 +26,13 @@ use Rattle.vx_exec.specs.Crew.{IsNew}
 use Rattle.vx_exec.specs.Job.{model_of}
 use Rattle.vx_exec.specs.Making.{board_of}
 use Rattle.vx_exec.specs.Runs.{ComesTo, IsTrueOf}
+use Rattle.vx_exec.specs.declared.counted.WorkerCounts.{WorkerCounts}
 use Rattle.vx_exec.specs.declared.crew.Crew.{Crew}
 use Rattle.vx_exec.specs.declared.job.Job.{Job}
 use Rattle.vx_exec.specs.declared.ran.Ran.{Ran}
 use Rattle.vx_exec.specs.declared.ran.Ran.TheVariants as ran
 use Rattle.vx_parallel.specs.Crew.{AreNew}
-use Rattle.vx_parallel.specs.Parallel.{IsReportedByThreads, IsWhole, NeedsFew}
+use Rattle.vx_parallel.specs.Parallel.{IsReportedByThreads, IsWhole, NeedsFew, IsCountedCrew, CountedByThreads}
 
 -- the workers of a crew are new
 pub new-parts : (j : Job) (crew : Crew) (ws : Vec (Worker Operator Destination) Global) (w : LinksView) → ws ≡ crew.workers → w ≡ board_of crew
@@ -88,3 +91,26 @@ refusal-few (Err y) e most n h k = λ lt. elim k [
   | inl m ↦ inr (ap (λ z. Err z) (h ∙ m))
   | inr t ↦ inl (ap (λ z. Err z) (h ∙ t))
 ]
+
+pub refusal-counted : (r : Result Ran RunFault) (e : RunFault) (W : RunModel) (p : Plan) (counts : List WorkerCounts) → IsErrAnd r (λ y. y ≡ e) → IsRefusal e
+    → CountedByThreads W p r counts
+refusal-counted (Ok x) e W p counts h k = absurd h
+refusal-counted (Err y) e W p counts h k = elim k [
+  | inl m ↦ inl (h ∙ m)
+  | inr t ↦ inr (inl (h ∙ t))
+]
+
+-- the workers came to this, whatever it is
+pub counted-reported : (r : Result Ran RunFault) (W : RunModel) (p : Plan) (counts : List WorkerCounts) → IsCountedCrew W p r counts → CountedByThreads W p r counts
+counted-reported (Ok x) W p counts h = h
+counted-reported (Err e) W p counts h = inr (inr h)
+
+-- workers with the same roles are as many
+pub same-count : (old : Vec (Worker Operator Destination) Global) (new : List (Worker Operator Destination))
+    → map (role_of operator_op post_of bounds_of) new ≡ map (role_of operator_op post_of bounds_of) old.items → length new ≡ vec_len old
+same-count old new e =
+    let a = map-length (role_of operator_op post_of bounds_of) new in
+    let b = map-length (role_of operator_op post_of bounds_of) old.items in
+    let k = ap length e in
+    let ok = old.ok in
+    omega (arith, a, b, k, ok)

@@ -5,5 +5,5 @@ mod members;
 mod places;
 mod run;
 
-pub use run::{run_threads, run_threads_within};
+pub use run::{run_threads, run_threads_counted, run_threads_within};
 pub use vx_threads::{Free, Gate};

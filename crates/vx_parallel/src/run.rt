@@ -11,10 +11,11 @@ ghost use Rattle.vx_groups.specs.Groups.{group_at};
 ghost use Rattle.vx_spawn.specs.Each.{AllReady};
 ghost use Rattle.vx_setup.specs.declared.fault.RunFault.TheVariants.{NoMemory, NoThread};
 ghost use Rattle.vx_exec.specs.Sizes.{run_model, Sizes};
+ghost use Rattle.vx_exec.specs.Counts.{is_wanted, counts_in};
 ghost use Rattle.vx_exec.specs.Job.{model_of, types_at};
 ghost use Rattle.vx_exec.specs.Runs.{IsRunOf, IfDone, IsTrueOf, IsSetUp};
 ghost use Rattle.vx_parallel.specs.Crew.{IsWiringOf, AreNew, AreHonest, IsAcceptedJob, HaveRun};
-ghost use Rattle.vx_parallel.specs.Parallel.{ThreadsFail, IsReportedByThreads, IsWhole, NeedsFew};
+ghost use Rattle.vx_parallel.specs.Parallel.{ThreadsFail, IsReportedByThreads, IsWhole, NeedsFew, CountedByThreads};
 
 use crate::members::members_of;
 use crate::places::places_of;
@@ -25,7 +26,7 @@ use vx_assembly::assemble;
 use vx_catalog::Database;
 use vx_check_rules::CheckedPlan;
 use vx_decks::SharedDeck;
-use vx_exec::{Crew, Job, Ran, answer_of, job_of};
+use vx_exec::{Crew, Job, Ran, RunCounts, answer_of, job_of};
 use vx_operators::{Destination, Operator};
 use vx_plan_nodes::Router;
 use vx_setup::{RunFault, Setup};
@@ -95,7 +96,8 @@ fn run_crew<R: Router + Sync, G: Gate + Sync, T: Threads + Wait + Sync>(
     Ok(ended)
 }
 
-// All workers of a job as threads, and what they come to. None is started where they are more than `most`.
+// All workers of a job as threads, and what they come to. None is started where they are more than `most`. What they counted is
+// kept, if that is wanted.
 fn run_job<R: Router + Sync, G: Gate + Sync, T: Threads + Wait + Sync>(
     rt: &T,
     alloc: Global,
@@ -103,6 +105,7 @@ fn run_job<R: Router + Sync, G: Gate + Sync, T: Threads + Wait + Sync>(
     router: &R,
     gate: &G,
     most: u32,
+    counts: &mut RunCounts,
 ) -> Result<Ran, RunFault>
     requires allowed { is_allowed job.now.plan.now ≡ true }
     requires root { is_root_allowed job.now.plan.now ≡ true }
@@ -111,6 +114,8 @@ fn run_job<R: Router + Sync, G: Gate + Sync, T: Threads + Wait + Sync>(
     ensures failed { IfErr result (λ e. (e ≡ NoThread) ⊎ IsTrueOf (resolved_of job.now.plan.now) job.now.database.now e) }
     ensures first { IfErr result (IsReportedByThreads (model_of (R.route_of router.now) job.now) (whole_plan job.now.plan.now)) }
     ensures few { NeedsFew most (crew_size (group_at job.now.groups.items) (whole_plan job.now.plan.now)) result }
+    ensures counted { is_wanted counts.old ≡ true
+        → CountedByThreads (model_of (R.route_of router.now) job.now) (whole_plan job.now.plan.now) result (counts_in counts.new) }
 {
     job.meets();
     let crew = Crew::new(alloc, job)?;
@@ -121,7 +126,36 @@ fn run_job<R: Router + Sync, G: Gate + Sync, T: Threads + Wait + Sync>(
     let wiring = wiring_for(alloc, job)?;
     let ended = run_crew(rt, alloc, job, router, gate, workers, wiring)?;
     let (workers, verdict) = ended;
+    counts.note(alloc, workers.as_slice())?;
     answer_of(workers, verdict)
+}
+
+// A run whose workers are at most so many threads, and what they counted, if that is wanted.
+fn run_counted<R: Router + Sync, G: Gate + Sync, T: Threads + Wait + Sync>(
+    rt: &T,
+    alloc: Global,
+    plan: &CheckedPlan,
+    database: &Database,
+    setup: &Setup,
+    router: &R,
+    gate: &G,
+    most: u32,
+    counts: &mut RunCounts,
+) -> Result<Ran, RunFault>
+    ensures done { IfOk result (IfDone (λ rows. (s : Sizes) × IsSetUp (resolved_of (typed_plan plan.now)) database.now setup.now s
+        × IsRunOf (R.route_of router.now) (resolved_of (typed_plan plan.now)) database.now s.groups rows)) }
+    ensures whole { IfOk result IsWhole }
+    ensures set { IfOk result (λ _. (s : Sizes) × IsSetUp (resolved_of (typed_plan plan.now)) database.now setup.now s) }
+    ensures refused { IfErr result (ThreadsFail (resolved_of (typed_plan plan.now)) database.now setup.now) }
+    ensures first { (s : Sizes) → IsSetUp (resolved_of (typed_plan plan.now)) database.now setup.now s
+        → IfErr result (IsReportedByThreads (run_model (R.route_of router.now) (typed_plan plan.now) database.now s) (whole_plan (typed_plan plan.now))) }
+    ensures few { (s : Sizes) → IsSetUp (resolved_of (typed_plan plan.now)) database.now setup.now s
+        → NeedsFew most (crew_size (group_at s.groups) (whole_plan (typed_plan plan.now))) result }
+    ensures counted { is_wanted counts.old ≡ true → (s : Sizes) → IsSetUp (resolved_of (typed_plan plan.now)) database.now setup.now s
+        → CountedByThreads (run_model (R.route_of router.now) (typed_plan plan.now) database.now s) (whole_plan (typed_plan plan.now)) result (counts_in counts.new) }
+{
+    let job = job_of(alloc, plan.plan(), database, setup)?;
+    run_job(rt, alloc, &job, router, gate, most, counts)
 }
 
 /// A run of a plan over a database, each worker in a thread of its own. They start together or not at all: where there
@@ -147,8 +181,18 @@ pub fn run_threads_within<R: Router + Sync, G: Gate + Sync, T: Threads + Wait + 
     ensures few { (s : Sizes) → IsSetUp (resolved_of (typed_plan plan.now)) database.now setup.now s
         → NeedsFew most (crew_size (group_at s.groups) (whole_plan (typed_plan plan.now))) result }
 {
-    let job = job_of(alloc, plan.plan(), database, setup)?;
-    run_job(rt, alloc, &job, router, gate, most)
+    let mut unread = RunCounts::unread(alloc);
+    run_counted(
+        rt,
+        alloc,
+        plan,
+        database,
+        setup,
+        router,
+        gate,
+        most,
+        &mut unread,
+    )
 }
 
 /// A run of a plan over a database, each worker in a thread of its own, whatever their number. They start together or
@@ -172,4 +216,41 @@ pub fn run_threads<R: Router + Sync, G: Gate + Sync, T: Threads + Wait + Sync>(
         → IfErr result (IsReportedByThreads (run_model (R.route_of router.now) (typed_plan plan.now) database.now s) (whole_plan (typed_plan plan.now))) }
 {
     run_threads_within(rt, alloc, plan, database, setup, router, gate, MOST_WORKERS)
+}
+
+/// A run of a plan over a database, each worker in a thread of its own, whatever their number. They start together or
+/// not at all. Once all have ended and some failed, the fault is that of the lowest-numbered one that failed by itself.
+/// That the threads end is not promised.
+/// What each worker counted is in `counts` afterwards, also where some failed; memory for it is refused only where it is wanted.
+pub fn run_threads_counted<R: Router + Sync, G: Gate + Sync, T: Threads + Wait + Sync>(
+    rt: &T,
+    alloc: Global,
+    plan: &CheckedPlan,
+    database: &Database,
+    setup: &Setup,
+    router: &R,
+    gate: &G,
+    counts: &mut RunCounts,
+) -> Result<Ran, RunFault>
+    ensures done { IfOk result (IfDone (λ rows. (s : Sizes) × IsSetUp (resolved_of (typed_plan plan.now)) database.now setup.now s
+        × IsRunOf (R.route_of router.now) (resolved_of (typed_plan plan.now)) database.now s.groups rows)) }
+    ensures whole { IfOk result IsWhole }
+    ensures set { IfOk result (λ _. (s : Sizes) × IsSetUp (resolved_of (typed_plan plan.now)) database.now setup.now s) }
+    ensures refused { IfErr result (ThreadsFail (resolved_of (typed_plan plan.now)) database.now setup.now) }
+    ensures first { (s : Sizes) → IsSetUp (resolved_of (typed_plan plan.now)) database.now setup.now s
+        → IfErr result (IsReportedByThreads (run_model (R.route_of router.now) (typed_plan plan.now) database.now s) (whole_plan (typed_plan plan.now))) }
+    ensures counted { is_wanted counts.old ≡ true → (s : Sizes) → IsSetUp (resolved_of (typed_plan plan.now)) database.now setup.now s
+        → CountedByThreads (run_model (R.route_of router.now) (typed_plan plan.now) database.now s) (whole_plan (typed_plan plan.now)) result (counts_in counts.new) }
+{
+    run_counted(
+        rt,
+        alloc,
+        plan,
+        database,
+        setup,
+        router,
+        gate,
+        MOST_WORKERS,
+        counts,
+    )
 }

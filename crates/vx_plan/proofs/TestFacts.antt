@@ -30,3 +30,8 @@ test_done is_bad refusal look before xs k h = let none : drop k xs ≡ [] = drop
 
 -- the steps of a loop that tests each element
 pub ruleset test_steps = (test_next, test_bad, test_done)
+
+-- elements that are looked at as they are
+pub each-same : {A : Type 0} (xs : List A) → map (λ (x : A). x) xs ≡ xs
+each-same [] = refl
+each-same (x ∷ xs) = ap (λ (r : List _). x ∷ r) (each-same xs)

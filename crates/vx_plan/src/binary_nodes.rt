@@ -1,6 +1,6 @@
 //! Operators over two inputs, by the columns of those inputs.
 
-ghost use Rattle.std.specs.Prelude.{◌≡◌, map, string_bytes, IfOk};
+ghost use Rattle.std.specs.Prelude.{◌≡◌, map, IfOk};
 ghost use Rattle.std.specs.Arc.{arc_value};
 ghost use Rattle.vx_plan_json.specs.Fault.{Gives};
 ghost use Rattle.vx_plan_json.specs.Document.{pair_form, binary_form};
@@ -10,11 +10,13 @@ ghost use Rattle.vx_plan.specs.Shaped.{joint_of};
 
 use crate::columns::side_by_side;
 use crate::fits::{are_pairs, are_same_types};
-use crate::lookup::{find_column, test_distinct, test_distinct_pairs, test_match, test_width};
+use crate::lookup::{
+    find_column, test_distinct_names, test_distinct_pairs, test_match, test_width,
+};
 use std::alloc::Global;
 use std::sync::Arc;
 use vx_plan_json::{NamedBinary, PlanFault};
-use vx_plan_nodes::{Binary, Columns};
+use vx_plan_nodes::{Binary, Columns, Name};
 
 /// An operator over two inputs, and its output.
 #[derive(Debug, Drop)]
@@ -27,11 +29,11 @@ pub struct Joint {
 fn find_pair(
     alloc: Global,
     node: u32,
-    left: &[String],
-    right: &[String],
+    left: &[Name],
+    right: &[Name],
     pair: &(String, String),
 ) -> Result<(usize, usize), PlanFault>
-    ensures { Gives (λ p. p) result (find_pair node (map string_bytes left.now) (map string_bytes right.now) (pair_form pair.now)) }
+    ensures { Gives (λ p. p) result (find_pair node left.now right.now (pair_form pair.now)) }
 {
     let first = find_column(alloc, node, left, pair.0.as_str())?;
     let second = find_column(alloc, node, right, pair.1.as_str())?;
@@ -42,11 +44,11 @@ fn find_pair(
 fn find_pairs(
     alloc: Global,
     node: u32,
-    left: &[String],
-    right: &[String],
+    left: &[Name],
+    right: &[Name],
     on: &[(String, String)],
 ) -> Result<Vec<(usize, usize)>, PlanFault>
-    ensures { Gives (λ v. v.items) result (find_pairs node (map string_bytes left.now) (map string_bytes right.now) (map pair_form on.now)) }
+    ensures { Gives (λ v. v.items) result (find_pairs node left.now right.now (map pair_form on.now)) }
 {
     let mut found = Vec::new(alloc);
     for pair in on {
@@ -61,12 +63,12 @@ fn find_pairs(
 fn test_join(
     alloc: Global,
     node: u32,
-    names: &[String],
+    names: &[Name],
     on: &[(String, String)],
 ) -> Result<(), PlanFault>
-    ensures { Gives (λ _. tt) result (test_join node (map string_bytes names.now) (map pair_form on.now)) }
+    ensures { Gives (λ _. tt) result (test_join node names.now (map pair_form on.now)) }
 {
-    test_distinct(alloc, node, names)?;
+    test_distinct_names(alloc, node, names)?;
     test_distinct_pairs(alloc, node, on)?;
     test_width(node, names.len())
 }

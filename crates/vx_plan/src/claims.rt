@@ -1,6 +1,6 @@
 //! Claims over the columns of an output.
 
-ghost use Rattle.std.specs.Prelude.{◌≡◌, [], ◌∷◌, map, string_bytes, IfOk};
+ghost use Rattle.std.specs.Prelude.{◌≡◌, [], ◌∷◌, IfOk};
 ghost use Rattle.std.specs.Arc.{arc_value};
 ghost use Rattle.vx_plan_json.specs.Fault.{Gives};
 ghost use Rattle.vx_plan_json.specs.Document.{part_form, claim_form};
@@ -17,7 +17,7 @@ use crate::lookup::{
 use std::alloc::{AllocError, Global};
 use std::sync::Arc;
 use vx_plan_json::{NamedClaim, NamedPart, PlanFault};
-use vx_plan_nodes::{Claim, Columns, Head, Part, Route};
+use vx_plan_nodes::{Claim, Columns, Head, Name, Part, Route};
 use vx_rows::ColType;
 
 /// A list of one column.
@@ -35,10 +35,10 @@ fn find_part(
     alloc: Global,
     declared: &Declared<'_>,
     node: u32,
-    names: &[String],
+    names: &[Name],
     part: &NamedPart,
 ) -> Result<Part, PlanFault>
-    ensures { Gives part_of result (find_part (names_of declared.now) node (map string_bytes names.now) (part_form part.now)) }
+    ensures { Gives part_of result (find_part (names_of declared.now) node names.now (part_form part.now)) }
 {
     match part {
         NamedPart::One => Ok(Part::One),
@@ -73,10 +73,10 @@ fn claim_columns(
     alloc: Global,
     declared: &Declared<'_>,
     node: u32,
-    names: &[String],
+    names: &[Name],
     claim: &NamedClaim,
 ) -> Result<Claim, PlanFault>
-    ensures { Gives claim_of result (claim_columns (names_of declared.now) node (map string_bytes names.now) (claim_form claim.now)) }
+    ensures { Gives claim_of result (claim_columns (names_of declared.now) node names.now (claim_form claim.now)) }
 {
     let part = find_part(alloc, declared, node, names, &claim.part)?;
     let order = find_columns(alloc, node, names, claim.order.as_slice())?;

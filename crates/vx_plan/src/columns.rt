@@ -12,7 +12,7 @@ use crate::fits::type_at;
 use std::alloc::{AllocError, Global};
 use std::sync::Arc;
 use vx_plan_json::{NamedAggregate, NamedOutput};
-use vx_plan_nodes::{Aggregate, Columns, Projected, TypedNode};
+use vx_plan_nodes::{Aggregate, Columns, Name, Projected, TypedNode, share_names};
 use vx_relations::Relation;
 use vx_values::ColType;
 
@@ -42,7 +42,7 @@ pub fn copied_names(alloc: Global, names: &[String]) -> Result<Vec<String>, Allo
     Ok(copies)
 }
 
-/// The left columns, then the right ones.
+/// The left columns, then the right ones, with the names of both shared.
 pub fn side_by_side(
     alloc: Global,
     left: &Columns,
@@ -51,10 +51,22 @@ pub fn side_by_side(
     ensures { IfOk result (λ c. columns_of (arc_value c) ≡ both_columns (columns_of left.now) (columns_of right.now)) }
 {
     let mut names = Vec::new(alloc);
-    put_names(alloc, &mut names, left.names.as_slice())?;
-    put_names(alloc, &mut names, right.names.as_slice())?;
+    share_names(&mut names, left.names.as_slice())?;
+    share_names(&mut names, right.names.as_slice())?;
     let mut types = Vec::from_slice(alloc, left.types.as_slice())?;
     types.extend_from_slice(right.types.as_slice())?;
+    Ok(Arc::new(alloc, Columns { names, types })?)
+}
+
+/// Columns with names of their own.
+pub fn own_columns(
+    alloc: Global,
+    names: Vec<String>,
+    types: Vec<ColType>,
+) -> Result<Arc<Columns>, AllocError>
+    ensures { IfOk result (λ c. columns_of (arc_value c) ≡ record { names = map string_bytes names.items; types = types.items }) }
+{
+    let names = Name::without_prefix(alloc, names)?;
     Ok(Arc::new(alloc, Columns { names, types })?)
 }
 
@@ -170,22 +182,12 @@ pub fn group_types(
     Ok(found)
 }
 
-fn prefixed(alloc: Global, prefix: &str, name: &str) -> Result<String, AllocError>
-    ensures { IfOk result (λ s. string_bytes s ≡ prefix.now ++ name.now) }
-{
-    let mut text = String::from_str(alloc, prefix)?;
-    text.push_str(name)?;
-    Ok(text)
-}
-
 /// The columns of a relation, with a prefix before each name.
 pub fn scanned(alloc: Global, relation: &Relation, prefix: &str) -> Result<Arc<Columns>, AllocError>
     ensures { IfOk result (λ c. columns_of (arc_value c) ≡ scan_columns relation.now prefix.now) }
 {
-    let mut names = Vec::new(alloc);
-    for i in 0..relation.width() {
-        names.push(prefixed(alloc, prefix, relation.column_name(i))?)?;
-    }
+    let prefix = Arc::new(alloc, String::from_str(alloc, prefix)?)?;
+    let names = Name::with_prefix(alloc, &prefix, relation.shared_names())?;
     let types = Vec::from_slice(alloc, relation.types())?;
     Ok(Arc::new(alloc, Columns { names, types })?)
 }

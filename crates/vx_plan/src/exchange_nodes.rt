@@ -15,7 +15,7 @@ use crate::lookup::{
 };
 use std::alloc::Global;
 use vx_plan_json::{NamedKind, PlanFault};
-use vx_plan_nodes::{Columns, Exchange, ExchangeKind, Route};
+use vx_plan_nodes::{Columns, Exchange, ExchangeKind, Name, Route};
 use vx_rows::ColType;
 
 // How an exchange sends: a size comes before a range, and that before columns.
@@ -24,10 +24,10 @@ fn find_kind(
     alloc: Global,
     declared: &Declared<'_>,
     node: u32,
-    names: &[String],
+    names: &[Name],
     kind: &NamedKind,
 ) -> Result<ExchangeKind, PlanFault>
-    ensures { Gives kind_of result (find_kind (names_of declared.now) node (map string_bytes names.now) (kind_form kind.now)) }
+    ensures { Gives kind_of result (find_kind (names_of declared.now) node names.now (kind_form kind.now)) }
 {
     match kind {
         NamedKind::Hash {
@@ -102,11 +102,11 @@ fn exchange_columns(
     alloc: Global,
     declared: &Declared<'_>,
     node: u32,
-    names: &[String],
+    names: &[Name],
     kind: &NamedKind,
     merge: &[String],
 ) -> Result<Exchange, PlanFault>
-    ensures { Gives (λ e. (kind_of e.kind, e.merge.items)) result (exchange_columns (names_of declared.now) node (map string_bytes names.now) (kind_form kind.now) (map string_bytes merge.now)) }
+    ensures { Gives (λ e. (kind_of e.kind, e.merge.items)) result (exchange_columns (names_of declared.now) node names.now (kind_form kind.now) (map string_bytes merge.now)) }
 {
     let kind = find_kind(alloc, declared, node, names, kind)?;
     let merge = find_columns(alloc, node, names, merge)?;

@@ -17,6 +17,7 @@ pub use erasing::erase;
 pub use resolving::{plans_are_resolved_exactly, resolve};
 pub use vx_plan_json::{Plan, PlanFault, Test, to_json};
 pub use vx_plan_nodes::{
-    Aggregate, Binary, Claim, Columns, Condition, Exchange, ExchangeKind, Head, Part, Phase,
+    Aggregate, Binary, Claim, Columns, Condition, Exchange, ExchangeKind, Head, Name, Part, Phase,
     Projected, Route, Router, ScanNode, Side, Size, TypedNode, TypedPlan, Unary, copied_conditions,
+    name_texts,
 };

@@ -12,7 +12,7 @@ ghost use Rattle.vx_plan.specs.Named.{names_of};
 use std::alloc::{AllocError, AllocFailed, Global};
 use std::collections::BTreeSet;
 use vx_plan_json::PlanFault;
-use vx_plan_nodes::Size;
+use vx_plan_nodes::{Name, Size, find_output_name};
 use vx_relations::{Catalog, find_name};
 use vx_values::NamedRange;
 
@@ -39,15 +39,10 @@ pub fn has_name(names: &[String], name: &str) -> bool
 
 /// The position of the column with this name.
 #[tactic(auto, unfolding(crate::specs::Lookup::find_column))]
-pub fn find_column(
-    alloc: Global,
-    node: u32,
-    names: &[String],
-    name: &str,
-) -> Result<usize, PlanFault>
-    ensures { Gives (λ c. c) result (find_column node (map string_bytes names.now) name.now) }
+pub fn find_column(alloc: Global, node: u32, names: &[Name], name: &str) -> Result<usize, PlanFault>
+    ensures { Gives (λ c. c) result (find_column node names.now name.now) }
 {
-    match find_name(names, name) {
+    match find_output_name(names, name) {
         Some(column) => Ok(column),
         None => Err(PlanFault::UnknownColumn {
             node,
@@ -61,10 +56,10 @@ pub fn find_column(
 pub fn find_columns(
     alloc: Global,
     node: u32,
-    names: &[String],
+    names: &[Name],
     list: &[String],
 ) -> Result<Vec<usize>, PlanFault>
-    ensures { Gives (λ v. v.items) result (find_columns node (map string_bytes names.now) (map string_bytes list.now)) }
+    ensures { Gives (λ v. v.items) result (find_columns node names.now (map string_bytes list.now)) }
 {
     let mut found = Vec::new(alloc);
     for name in list {
@@ -79,10 +74,10 @@ pub fn find_columns(
 pub fn find_keys(
     alloc: Global,
     node: u32,
-    names: &[String],
+    names: &[Name],
     keys: &[Vec<String>],
 ) -> Result<Vec<Vec<usize>>, PlanFault>
-    ensures { Gives (λ v. map (λ k. k.items) v.items) result (find_keys node (map string_bytes names.now) (map (λ k. map string_bytes k.items) keys.now)) }
+    ensures { Gives (λ v. map (λ k. k.items) v.items) result (find_keys node names.now (map (λ k. map string_bytes k.items) keys.now)) }
 {
     let mut found = Vec::new(alloc);
     for key in keys {
@@ -105,6 +100,25 @@ pub fn test_distinct(alloc: Global, node: u32, names: &[String]) -> Result<(), P
             return Err(PlanFault::DuplicateColumn {
                 node,
                 name: String::from_str(alloc, name)?,
+            });
+        }
+    }
+    Ok(())
+}
+
+/// The same of output names.
+#[tactic(auto, unfolding(crate::specs::Lookup::test_distinct), using(crate::proofs::TestFacts::test_steps))]
+pub fn test_distinct_names(alloc: Global, node: u32, names: &[Name]) -> Result<(), PlanFault>
+    ensures { Gives (λ _. tt) result (test_distinct node names.now) }
+{
+    let mut seen = BTreeSet::new(alloc);
+    for i in 0..names.len() {
+        let name = &names[i];
+        let is_new = seen.insert(name)?;
+        if !is_new {
+            return Err(PlanFault::DuplicateColumn {
+                node,
+                name: name.to_text(alloc)?,
             });
         }
     }

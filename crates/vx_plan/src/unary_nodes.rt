@@ -8,7 +8,7 @@ ghost use Rattle.vx_plan_nodes.specs.Outline.{side_of, condition_of, aggregate_o
 ghost use Rattle.vx_plan.specs.Resolve.{find_side, find_condition, find_conditions, select_shape, output_name, find_kept, find_all_kept, kept_shape, project_shape, distinct_shape, sort_shape, find_function, find_aggregates, find_group, test_group, group_shape, partial_shape, parts_of, final_shape, unary_shape};
 ghost use Rattle.vx_plan.specs.Shaped.{shape_of};
 
-use crate::columns::{columns, group_names, group_types, kept_types, output_names};
+use crate::columns::{columns, group_names, group_types, kept_types, output_names, own_columns};
 use crate::fits::{are_aggregates, are_conditions};
 use crate::lookup::{find_column, find_columns, test_distinct, test_match, test_width};
 use crate::phases::{first_columns, merged, parts_of, test_phase};
@@ -17,7 +17,9 @@ use std::sync::Arc;
 use vx_plan_json::{
     NamedAggregate, NamedCondition, NamedFunction, NamedOutput, NamedSide, NamedUnary, PlanFault,
 };
-use vx_plan_nodes::{Aggregate, Columns, Condition, Phase, Projected, Side, TypedNode, Unary};
+use vx_plan_nodes::{
+    Aggregate, Columns, Condition, Name, Phase, Projected, Side, TypedNode, Unary,
+};
 use vx_rows::ColType;
 
 /// An operator over one input, and its output.
@@ -28,13 +30,8 @@ pub struct Shape {
 }
 
 #[tactic(auto, unfolding(crate::specs::Resolve::find_side))]
-fn find_side(
-    alloc: Global,
-    node: u32,
-    names: &[String],
-    side: &NamedSide,
-) -> Result<Side, PlanFault>
-    ensures { Gives side_of result (find_side node (map string_bytes names.now) (side_form side.now)) }
+fn find_side(alloc: Global, node: u32, names: &[Name], side: &NamedSide) -> Result<Side, PlanFault>
+    ensures { Gives side_of result (find_side node names.now (side_form side.now)) }
 {
     match side {
         NamedSide::Column(name) => {
@@ -49,10 +46,10 @@ fn find_side(
 fn find_condition(
     alloc: Global,
     node: u32,
-    names: &[String],
+    names: &[Name],
     condition: &NamedCondition,
 ) -> Result<Condition, PlanFault>
-    ensures { Gives condition_of result (find_condition node (map string_bytes names.now) (condition_form condition.now)) }
+    ensures { Gives condition_of result (find_condition node names.now (condition_form condition.now)) }
 {
     let left = find_column(alloc, node, names, condition.left.as_str())?;
     let right = find_side(alloc, node, names, &condition.right)?;
@@ -67,10 +64,10 @@ fn find_condition(
 fn find_conditions(
     alloc: Global,
     node: u32,
-    names: &[String],
+    names: &[Name],
     conditions: &[NamedCondition],
 ) -> Result<Vec<Condition>, PlanFault>
-    ensures { Gives (λ v. map condition_of v.items) result (find_conditions node (map string_bytes names.now) (map condition_form conditions.now)) }
+    ensures { Gives (λ v. map condition_of v.items) result (find_conditions node names.now (map condition_form conditions.now)) }
 {
     let mut found = Vec::new(alloc);
     for condition in conditions {
@@ -105,10 +102,10 @@ fn select_shape(
 fn find_kept(
     alloc: Global,
     node: u32,
-    names: &[String],
+    names: &[Name],
     output: &NamedOutput,
 ) -> Result<Projected, PlanFault>
-    ensures { Gives (λ k. k) result (find_kept node (map string_bytes names.now) (output_form output.now)) }
+    ensures { Gives (λ k. k) result (find_kept node names.now (output_form output.now)) }
 {
     let column = find_column(alloc, node, names, output.column.as_str())?;
     Ok(Projected {
@@ -121,10 +118,10 @@ fn find_kept(
 fn find_all_kept(
     alloc: Global,
     node: u32,
-    names: &[String],
+    names: &[Name],
     outputs: &[NamedOutput],
 ) -> Result<Vec<Projected>, PlanFault>
-    ensures { Gives (λ v. v.items) result (find_all_kept node (map string_bytes names.now) (map output_form outputs.now)) }
+    ensures { Gives (λ v. v.items) result (find_all_kept node names.now (map output_form outputs.now)) }
 {
     let mut found = Vec::new(alloc);
     for output in outputs {
@@ -165,7 +162,7 @@ fn project_shape(
     let types = kept_types(alloc, input.types.as_slice(), kept.as_slice())?;
     Ok(Shape {
         unary: Unary::Project(kept),
-        columns: Arc::new(alloc, Columns { names, types })?,
+        columns: own_columns(alloc, names, types)?,
     })
 }
 
@@ -182,7 +179,7 @@ fn distinct_shape(
     let types = kept_types(alloc, input.types.as_slice(), kept.as_slice())?;
     Ok(Shape {
         unary: Unary::Distinct(kept),
-        columns: Arc::new(alloc, Columns { names, types })?,
+        columns: own_columns(alloc, names, types)?,
     })
 }
 
@@ -208,10 +205,10 @@ fn sort_shape(
 fn find_function(
     alloc: Global,
     node: u32,
-    names: &[String],
+    names: &[Name],
     function: &NamedFunction,
 ) -> Result<Aggregate, PlanFault>
-    ensures { Gives aggregate_of result (find_function node (map string_bytes names.now) (function_form function.now)) }
+    ensures { Gives aggregate_of result (find_function node names.now (function_form function.now)) }
 {
     match function {
         NamedFunction::Least(name) => {
@@ -234,10 +231,10 @@ fn find_function(
 fn find_aggregates(
     alloc: Global,
     node: u32,
-    names: &[String],
+    names: &[Name],
     aggregates: &[NamedAggregate],
 ) -> Result<Vec<Aggregate>, PlanFault>
-    ensures { Gives (λ v. map aggregate_of v.items) result (find_aggregates node (map string_bytes names.now) (map aggregate_form aggregates.now)) }
+    ensures { Gives (λ v. map aggregate_of v.items) result (find_aggregates node names.now (map aggregate_form aggregates.now)) }
 {
     let mut found = Vec::new(alloc);
     for aggregate in aggregates {
@@ -251,11 +248,11 @@ fn find_aggregates(
 fn find_group(
     alloc: Global,
     node: u32,
-    names: &[String],
+    names: &[Name],
     by: &[String],
     aggregates: &[NamedAggregate],
 ) -> Result<(Vec<usize>, Vec<Aggregate>), PlanFault>
-    ensures { Gives (λ r. (r.0.items, map aggregate_of r.1.items)) result (find_group node (map string_bytes names.now) (map string_bytes by.now) (map aggregate_form aggregates.now)) }
+    ensures { Gives (λ r. (r.0.items, map aggregate_of r.1.items)) result (find_group node names.now (map string_bytes by.now) (map aggregate_form aggregates.now)) }
 {
     let keys = find_columns(alloc, node, names, by)?;
     let found = find_aggregates(alloc, node, names, aggregates)?;
@@ -305,7 +302,7 @@ fn group_shape(
     )?;
     Ok(Shape {
         unary: Unary::Group(phase, keys, found),
-        columns: Arc::new(alloc, Columns { names, types })?,
+        columns: own_columns(alloc, names, types)?,
     })
 }
 

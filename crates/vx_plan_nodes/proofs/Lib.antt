@@ -1,3 +1,5 @@
+pub mod NameFacts
+pub mod HalfFacts
 pub mod PhaseEqual
 pub mod ErasedFacts
 pub mod OutputFacts

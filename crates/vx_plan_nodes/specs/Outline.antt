@@ -99,7 +99,7 @@ aggregate_of (aggregate.Sum c) = sum c
 aggregate_of aggregate.CountRows = count_rows
 
 abbrev pub columns_of : rust_columns.Columns → Columns
-columns_of c = record { names = map string_bytes c.names.items; types = c.types.items }
+columns_of c = record { names = c.names.items; types = c.types.items }
 
 abbrev pub top_of : rust_head.Head → Top
 top_of h = record { number = h.number; claim = claim_of h.claim; columns = columns_of (arc_value h.columns) }

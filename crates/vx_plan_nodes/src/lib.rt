@@ -2,12 +2,15 @@
 #![tactic(auto)]
 
 mod conditions;
+mod halves;
+mod name;
 mod outputs;
 mod router;
 mod typed;
 mod typed_plan;
 
 pub use conditions::copied_conditions;
+pub use name::{Name, find_output_name, name_texts, share_names};
 pub use outputs::output_types;
 pub use router::Router;
 pub use typed::{

@@ -4,6 +4,7 @@ ghost use Rattle.std.specs.Prelude.{◌≡◌};
 ghost use Rattle.vx_plan_nodes.specs.Outline.{outline_of, plan_of, top_of, claim_of, kind_of, size_of, top};
 ghost use Rattle.vx_plan_nodes.specs.Plan.{claim, number, size, target};
 
+use crate::name::Name;
 use std::sync::Arc;
 use vx_values::{ColType, Test, Value};
 
@@ -97,7 +98,7 @@ pub struct Projected {
 /// The columns of an output: as many names as types.
 #[derive(Debug)]
 pub struct Columns {
-    pub names: Vec<String>,
+    pub names: Vec<Name>,
     pub types: Vec<ColType>,
 }
 

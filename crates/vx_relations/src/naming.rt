@@ -10,6 +10,7 @@ use crate::form::{ColumnText, RelationText};
 use crate::names::{find_name, has_name};
 use crate::relation::Relation;
 use std::alloc::{AllocError, Global};
+use std::sync::Arc;
 use vx_rows::ColType;
 
 // A copy of a name that no earlier one is.
@@ -108,7 +109,8 @@ fn relation_of(alloc: Global, text: &RelationText) -> Result<Relation, CatalogFa
     let order = columns_of(alloc, names.as_slice(), text.order.as_slice())?;
     let types = types_of(alloc, text.columns.as_slice())?;
     let name = String::from_str(alloc, text.name.as_str())?;
-    Ok(Relation::new(name, names, types, keys, order))
+    let shared = Arc::new(alloc, names)?;
+    Ok(Relation::new(name, shared, types, keys, order))
 }
 
 fn is_used(prior: &[Relation], name: &str) -> bool

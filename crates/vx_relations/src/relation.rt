@@ -1,10 +1,12 @@
 //! What a catalog declares of one relation.
 
 ghost use Rattle.std.specs.Prelude.{◌≡◌, ◌↔◌, ◌<◌, [], map, length, position, bytes_eq, string_bytes, slice_index_or, IsTrue};
+ghost use Rattle.std.specs.Arc.{arc_value};
 ghost use Rattle.vx_values.specs.Types.{type_at};
 
 use crate::names::find_name;
 use std::marker::Model;
+use std::sync::Arc;
 use vx_rows::ColType;
 
 // Whether these are the same names in the same order.
@@ -33,7 +35,7 @@ fn are_same_types(types: &[ColType], others: &[ColType]) -> bool
 #[derive(Debug, Drop)]
 pub struct Relation {
     name: String,
-    names: Vec<String>,
+    names: Arc<Vec<String>>,
     types: Vec<ColType>,
     keys: Vec<Vec<usize>>,
     order: Vec<usize>,
@@ -41,22 +43,23 @@ pub struct Relation {
 
 impl Model for Relation {
     ghost use Rattle.std.specs.Prelude.{map, string_bytes};
+    ghost use Rattle.std.specs.Arc.{arc_value};
     ghost use Rattle.vx_relations.specs.Relation.{Relation};
 
     ghost Value = { Relation };
 
-    ghost view = { λ r. record { name = string_bytes r.name; names = map string_bytes r.names.items; types = r.types.items; keys = map (λ k. k.items) r.keys.items; order = r.order.items } };
+    ghost view = { λ r. record { name = string_bytes r.name; names = map string_bytes (arc_value r.names).items; types = r.types.items; keys = map (λ k. k.items) r.keys.items; order = r.order.items } };
 }
 
 impl Relation {
     pub(crate) fn new(
         name: String,
-        names: Vec<String>,
+        names: Arc<Vec<String>>,
         types: Vec<ColType>,
         keys: Vec<Vec<usize>>,
         order: Vec<usize>,
     ) -> Relation
-        ensures { result ≡ record { name = string_bytes name; names = map string_bytes names.items; types = types.items; keys = map (λ k. k.items) keys.items; order = order.items } }
+        ensures { result ≡ record { name = string_bytes name; names = map string_bytes (arc_value names).items; types = types.items; keys = map (λ k. k.items) keys.items; order = order.items } }
     {
         Relation {
             name,
@@ -94,6 +97,13 @@ impl Relation {
         ensures { map string_bytes result.now ≡ self.now.names }
     {
         self.names.as_slice()
+    }
+
+    /// The names of the columns, to be shared by whatever has columns with these names.
+    pub fn shared_names(&self) -> &Arc<Vec<String>>
+        ensures { map string_bytes (arc_value result.now).items ≡ self.now.names }
+    {
+        &self.names
     }
 
     /// The number of the column of this name.

@@ -9,8 +9,8 @@ ghost use Rattle.vx_sql.specs.Statement.{result_columns};
 
 use crate::dialect::Dialect;
 use crate::words::{push_between, push_column_name, push_identifier};
-use std::alloc::AllocError;
-use vx_plan_nodes::{Aggregate, Projected, TypedNode};
+use std::alloc::{AllocError, Global};
+use vx_plan_nodes::{Aggregate, Name, Projected, TypedNode};
 use vx_relations::Relation;
 use vx_rows::ColType;
 
@@ -22,8 +22,8 @@ pub fn column_types(node: &TypedNode) -> &[ColType]
 }
 
 /// The names of the columns of a node's output.
-pub fn column_names(node: &TypedNode) -> &[String]
-    ensures { map string_bytes result.now ≡ (columns (outline_of node.now)).names }
+pub fn column_names(node: &TypedNode) -> &[Name]
+    ensures { result.now ≡ (columns (outline_of node.now)).names }
 {
     node.head().columns.names.as_slice()
 }
@@ -301,18 +301,19 @@ pub fn push_join_columns(
 
 /// Adds the columns of the result, by the names that the plan gives them.
 pub fn push_result_columns(
+    alloc: Global,
     text: &mut String,
     dialect: Dialect,
     from: u32,
-    names: &[String],
+    names: &[Name],
 ) -> Result<(), AllocError>
-    ensures { OnOk result (string_bytes text.new ≡ string_bytes text.old ++ separated (codes ", ") false (result_columns dialect from 0 (map string_bytes names.now))) }
+    ensures { OnOk result (string_bytes text.new ≡ string_bytes text.old ++ separated (codes ", ") false (result_columns dialect from 0 names.now)) }
 {
     for (i, name) in names.iter().enumerate() {
         push_between(text, ", ", i > 0)?;
         push_column_name(text, from, i)?;
         text.push_str(" AS ")?;
-        push_identifier(text, dialect, name.as_str())?;
+        push_identifier(text, dialect, name.to_text(alloc)?.as_str())?;
     }
     Ok(())
 }

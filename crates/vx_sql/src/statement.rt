@@ -316,11 +316,16 @@ fn push_order(text: &mut String, node: u32, order: &[usize]) -> Result<(), Alloc
 }
 
 // Adds what the statement gives, as far as its rows.
-fn push_result_head(text: &mut String, dialect: Dialect, root: &TypedNode) -> Result<(), AllocError>
+fn push_result_head(
+    alloc: Global,
+    text: &mut String,
+    dialect: Dialect,
+    root: &TypedNode,
+) -> Result<(), AllocError>
     ensures { OnOk result (string_bytes text.new ≡ string_bytes text.old ++ (codes "SELECT " ++ (separated (codes ", ") false (result_columns dialect (maker (outline_of root.now)) 0 (columns (outline_of root.now)).names) ++ codes " FROM "))) }
 {
     text.push_str("SELECT ")?;
-    push_result_columns(text, dialect, maker(root), column_names(root))?;
+    push_result_columns(alloc, text, dialect, maker(root), column_names(root))?;
     text.push_str(" FROM ")
 }
 
@@ -335,6 +340,7 @@ fn push_result_end(text: &mut String, root: &TypedNode) -> Result<(), AllocError
 // Adds a table for each node, and then the rows of the root.
 #[tactic(auto, unfolding(crate::specs::Statement::result_sql))]
 fn push_with_tables(
+    alloc: Global,
     text: &mut String,
     dialect: Dialect,
     plan: &TypedPlan,
@@ -345,7 +351,7 @@ fn push_with_tables(
     text.push_str("WITH ")?;
     push_tables(text, dialect, plan, root)?;
     text.push_str("\n")?;
-    push_result_head(text, dialect, root)?;
+    push_result_head(alloc, text, dialect, root)?;
     push_node_name(text, maker(root))?;
     push_result_end(text, root)
 }
@@ -353,6 +359,7 @@ fn push_with_tables(
 // Adds the rows of the root, with those of all nodes within them.
 #[tactic(auto, unfolding(crate::specs::Statement::result_sql))]
 fn push_all_nested(
+    alloc: Global,
     text: &mut String,
     dialect: Dialect,
     plan: &TypedPlan,
@@ -360,7 +367,7 @@ fn push_all_nested(
 ) -> Result<(), AllocError>
     ensures { OnOk result (string_bytes text.new ≡ string_bytes text.old ++ result_sql dialect (outline_of root.now) (within (maker (outline_of root.now)) (nested dialect (names_in plan.now) (outline_of root.now)))) }
 {
-    push_result_head(text, dialect, root)?;
+    push_result_head(alloc, text, dialect, root)?;
     text.push_str("(")?;
     push_nested(text, dialect, plan, root)?;
     push_end(text, maker(root))?;
@@ -374,9 +381,9 @@ pub fn plan_sql(alloc: Global, dialect: Dialect, plan: &TypedPlan) -> Result<Str
     let mut text = String::new(alloc);
     match dialect {
         Dialect::Sqlite | Dialect::Postgres => {
-            push_with_tables(&mut text, dialect, plan, plan.root())?
+            push_with_tables(alloc, &mut text, dialect, plan, plan.root())?
         }
-        Dialect::ClickHouse => push_all_nested(&mut text, dialect, plan, plan.root())?,
+        Dialect::ClickHouse => push_all_nested(alloc, &mut text, dialect, plan, plan.root())?,
     }
     Ok(text)
 }

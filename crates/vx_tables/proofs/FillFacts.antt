@@ -6,25 +6,24 @@ use Rattle.vx_values.specs.Values.{Row}
 use Rattle.vx_relations.specs.Relation.{Relation}
 use Rattle.vx_relations.specs.Catalog.{relation_at}
 use Rattle.vx_catalog.specs.Database.{Database, rows_at, with_rows}
-use Rattle.vx_plan_nodes.specs.Plan.{Plan}
 use Rattle.vx_refusals.specs.declared.refusal.Refusal.{Refusal}
-use Rattle.vx_tables.specs.Filled.{scans, IsFilled, IsFirstMissing, first_missing}
+use Rattle.vx_tables.specs.Filled.{IsFilledBy, IsFirstMissingOf, first_missing}
 
 -- the scanned relations before this number are filled, and the others are empty
-pub record IsFilledTo (plan : Plan) (holds : Relation → List Row → Type 0) (catalog : List Relation) (db : Database) (i : ℕ) : Type 0 where
+pub record IsFilledTo (scanned : ℕ → Bool) (holds : Relation → List Row → Type 0) (catalog : List Relation) (db : Database) (i : ℕ) : Type 0 where
   pub same : db.catalog ≡ catalog
   pub many : length db.rows ≡ length catalog
-  pub done : (j : ℕ) → j < i → scans plan j ≡ true → holds (relation_at catalog j) (rows_at db j)
-  pub left : (j : ℕ) → scans plan j ≡ false → rows_at db j ≡ []
+  pub done : (j : ℕ) → j < i → scanned j ≡ true → holds (relation_at catalog j) (rows_at db j)
+  pub left : (j : ℕ) → scanned j ≡ false → rows_at db j ≡ []
 
 no_rows_at : (catalog : List Relation) (j : ℕ) → slice_index_or (map (λ _. let none : List Row = [] in none) catalog) j [] ≡ []
 no_rows_at [] j = get_or_past [] j [] (omega arith)
 no_rows_at (r ∷ rs) zero = refl
 no_rows_at (r ∷ rs) (suc j) = no_rows_at rs j
 
-pub filled_none : (plan : Plan) (holds : Relation → List Row → Type 0) (catalog : List Relation) (db : Database) → db.catalog ≡ catalog → db.rows ≡ map (λ _. []) catalog
-    → IsFilledTo plan holds catalog db 0
-filled_none plan holds catalog db same empty =
+pub filled_none : (scanned : ℕ → Bool) (holds : Relation → List Row → Type 0) (catalog : List Relation) (db : Database) → db.catalog ≡ catalog → db.rows ≡ map (λ _. []) catalog
+    → IsFilledTo scanned holds catalog db 0
+filled_none scanned holds catalog db same empty =
     record {
       same = same;
       many = ap length empty ∙ length-map catalog (λ (r : Relation). let none : List Row = [] in none);
@@ -37,15 +36,15 @@ not_both true t f = cc
 not_both false t f = cc
 
 -- a relation that is not scanned
-pub filled_more : (plan : Plan) (holds : Relation → List Row → Type 0) (catalog : List Relation) (db : Database) (i : ℕ) → scans plan i ≡ false
-    → IsFilledTo plan holds catalog db i → IsFilledTo plan holds catalog db (i + 1)
-filled_more plan holds catalog db i out so_far =
+pub filled_more : (scanned : ℕ → Bool) (holds : Relation → List Row → Type 0) (catalog : List Relation) (db : Database) (i : ℕ) → scanned i ≡ false
+    → IsFilledTo scanned holds catalog db i → IsFilledTo scanned holds catalog db (i + 1)
+filled_more scanned holds catalog db i out so_far =
     record {
       same = so_far.same;
       many = so_far.many;
       done = λ j h scan. elim (cases_lt j i) [
         | inl l ↦ so_far.done j l scan
-        | inr k ↦ let e : j ≡ i = omega arith in absurd (not_both (scans plan j) scan (ap (scans plan) e ∙ out))
+        | inr k ↦ let e : j ≡ i = omega arith in absurd (not_both (scanned j) scan (ap (scanned) e ∙ out))
       ];
       left = so_far.left;
     }
@@ -66,9 +65,9 @@ other_holds holds catalog db i j rows before h =
     subst P (sym (get_or-set_other db.rows i j rows [] (omega arith))) h
 
 -- a relation that is scanned
-pub filled_next : (plan : Plan) (holds : Relation → List Row → Type 0) (catalog : List Relation) (db : Database) (i : ℕ) (rows : List Row) → i < length catalog → scans plan i ≡ true
-    → holds (relation_at catalog i) rows → IsFilledTo plan holds catalog db i → IsFilledTo plan holds catalog (with_rows db i rows) (i + 1)
-filled_next plan holds catalog db i rows there scan read so_far =
+pub filled_next : (scanned : ℕ → Bool) (holds : Relation → List Row → Type 0) (catalog : List Relation) (db : Database) (i : ℕ) (rows : List Row) → i < length catalog → scanned i ≡ true
+    → holds (relation_at catalog i) rows → IsFilledTo scanned holds catalog db i → IsFilledTo scanned holds catalog (with_rows db i rows) (i + 1)
+filled_next scanned holds catalog db i rows there scan read so_far =
     record {
       same = so_far.same;
       many = length-set db.rows i rows ∙ so_far.many;
@@ -76,13 +75,13 @@ filled_next plan holds catalog db i rows there scan read so_far =
         | inl l ↦ other_holds holds catalog db i j rows l (so_far.done j l scan_j)
         | inr k ↦ let e : j ≡ i = omega arith in let long = so_far.many in put_holds holds catalog db i j rows (omega arith) e read
       ];
-      left = λ j out. get_or-set_other db.rows i j rows [] (λ e. not_both (scans plan i) scan (sym (ap (scans plan) e) ∙ out)) ∙ so_far.left j out;
+      left = λ j out. get_or-set_other db.rows i j rows [] (λ e. not_both (scanned i) scan (sym (ap (scanned) e) ∙ out)) ∙ so_far.left j out;
     }
 
 -- all relations
-pub filled_all : (plan : Plan) (holds : Relation → List Row → Type 0) (catalog : List Relation) (db : Database) (i : ℕ) → length catalog ≤ i
-    → IsFilledTo plan holds catalog db i → IsFilled plan holds db
-filled_all plan holds catalog db i all so_far =
+pub filled_all : (scanned : ℕ → Bool) (holds : Relation → List Row → Type 0) (catalog : List Relation) (db : Database) (i : ℕ) → length catalog ≤ i
+    → IsFilledTo scanned holds catalog db i → IsFilledBy scanned holds db
+filled_all scanned holds catalog db i all so_far =
     record {
       many = so_far.many ∙ ap length (sym so_far.same);
       scanned = λ j h scan. let same = so_far.same in let e : length db.catalog ≡ length catalog = ap length same in rw same (so_far.done j (omega arith) scan);
@@ -90,7 +89,7 @@ filled_all plan holds catalog db i all so_far =
     }
 
 -- the first relation that is at fault
-pub stops_at : (plan : Plan) (holds : Relation → List Row → Type 0) (lacks : Relation → Refusal → Type 0) (catalog : List Relation) (db : Database) (i : ℕ) (e : Refusal)
-    → i < length catalog → scans plan i ≡ true → lacks (relation_at catalog i) e → IsFilledTo plan holds catalog db i → IsFirstMissing plan holds lacks catalog e
-stops_at plan holds lacks catalog db i e there scan misses so_far =
+pub stops_at : (scanned : ℕ → Bool) (holds : Relation → List Row → Type 0) (lacks : Relation → Refusal → Type 0) (catalog : List Relation) (db : Database) (i : ℕ) (e : Refusal)
+    → i < length catalog → scanned i ≡ true → lacks (relation_at catalog i) e → IsFilledTo scanned holds catalog db i → IsFirstMissingOf scanned holds lacks catalog e
+stops_at scanned holds lacks catalog db i e there scan misses so_far =
     first_missing i there scan (λ j h scan_j. (rows_at db j, so_far.done j h scan_j)) misses

@@ -1,4 +1,4 @@
--- The rows of the relations that a plan scans, from tables. `holds` says which rows the tables have of a relation, and `lacks` how they refuse one.
+-- The rows of the relations that a plan scans, or that several plans scan, from tables. `holds` says which rows the tables have of a relation, and `lacks` how they refuse one.
 use Rattle.std.specs.Prelude.{◌≡◌, ℕ, ◌<◌, ◌==◌, ◌||◌, List, [], length, Bool, true, false}
 use Rattle.vx_values.specs.Values.{Row}
 use Rattle.vx_relations.specs.Relation.{Relation}
@@ -15,15 +15,23 @@ scans (unary n c op p) i = scans p i
 scans (binary n c op p q) i = scans p i || scans q i
 scans (exchange n c k m p) i = scans p i
 
--- a database with the rows of every relation that a plan scans, the others empty
-pub record IsFilled (plan : Plan) (holds : Relation → List Row → Type 0) (db : Database) : Type 0 where
+-- a database with the rows of every relation of which the number is scanned, the others empty
+pub record IsFilledBy (is_scanned : ℕ → Bool) (holds : Relation → List Row → Type 0) (db : Database) : Type 0 where
   pub many : length db.rows ≡ length db.catalog
-  pub scanned : (i : ℕ) → i < length db.catalog → scans plan i ≡ true → holds (relation_at db.catalog i) (rows_at db i)
-  pub others : (i : ℕ) → scans plan i ≡ false → rows_at db i ≡ []
+  pub scanned : (i : ℕ) → i < length db.catalog → is_scanned i ≡ true → holds (relation_at db.catalog i) (rows_at db i)
+  pub others : (i : ℕ) → is_scanned i ≡ false → rows_at db i ≡ []
 
 -- a refusal for the first scanned relation whose rows are not there, or out of memory
-pub data IsFirstMissing (plan : Plan) (holds : Relation → List Row → Type 0) (lacks : Relation → Refusal → Type 0) (catalog : List Relation) (e : Refusal) : Type 0 where
-  missing_memory : e ≡ refusal.NoMemory → IsFirstMissing plan holds lacks catalog e
-  first_missing : (i : ℕ) → i < length catalog → scans plan i ≡ true
-      → ((j : ℕ) → j < i → scans plan j ≡ true → (rows : List Row) × holds (relation_at catalog j) rows)
-      → lacks (relation_at catalog i) e → IsFirstMissing plan holds lacks catalog e
+pub data IsFirstMissingOf (is_scanned : ℕ → Bool) (holds : Relation → List Row → Type 0) (lacks : Relation → Refusal → Type 0) (catalog : List Relation) (e : Refusal) : Type 0 where
+  missing_memory : e ≡ refusal.NoMemory → IsFirstMissingOf is_scanned holds lacks catalog e
+  first_missing : (i : ℕ) → i < length catalog → is_scanned i ≡ true
+      → ((j : ℕ) → j < i → is_scanned j ≡ true → (rows : List Row) × holds (relation_at catalog j) rows)
+      → lacks (relation_at catalog i) e → IsFirstMissingOf is_scanned holds lacks catalog e
+
+-- a database with the rows of every relation that a plan scans, the others empty
+abbrev pub IsFilled : Plan → (Relation → List Row → Type 0) → Database → Type 0
+IsFilled plan = IsFilledBy (scans plan)
+
+-- a refusal for the first relation that a plan scans whose rows are not there, or out of memory
+abbrev pub IsFirstMissing : Plan → (Relation → List Row → Type 0) → (Relation → Refusal → Type 0) → List Relation → Refusal → Type 0
+IsFirstMissing plan = IsFirstMissingOf (scans plan)

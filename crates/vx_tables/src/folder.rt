@@ -5,15 +5,19 @@ ghost use Rattle.vx_tables.specs.Folder.{path_in};
 
 use crate::tables::Tables;
 use std::alloc::{AllocError, Global};
+use std::thread::Threads;
 use vx_bytes::Store;
-use vx_catalog::{Catalog, Loaded, Loader};
+use vx_catalog::{Catalog, Loaded};
+use vx_loading::load_in_threads;
 use vx_refusals::Refusal;
 
-/// A folder with a text NAME.csv for each relation NAME.
+/// A folder with a text NAME.csv for each relation NAME. Each text is loaded by so many threads, one after the other.
 #[derive(Clone, Copy)]
-pub struct Folder<'f, F> {
+pub struct Folder<'f, P, F> {
+    pub rt: &'f P,
     pub files: &'f F,
     pub path: &'f str,
+    pub threads: usize,
 }
 
 // Where the text of a relation is.
@@ -27,7 +31,7 @@ fn path_in(alloc: Global, folder: &str, name: &str) -> Result<String, AllocError
     Ok(path)
 }
 
-impl<F: Store> Tables for Folder<'_, F> {
+impl<P: Threads + Sync, F: Store> Tables for Folder<'_, P, F> {
     ghost use Rattle.vx_tables.specs.Folder.{holds_at, LacksAt};
 
     ghost holds = { λ f. holds_at (F.holds f.files.now) f.path.now };
@@ -40,6 +44,14 @@ impl<F: Store> Tables for Folder<'_, F> {
             Some(file) => file,
             None => return Err(Refusal::FileUnreadable { path }),
         };
-        Ok(Loader::load(alloc, catalog, relation, &mut file)?)
+        let loaded = load_in_threads(
+            self.rt,
+            alloc,
+            catalog,
+            relation,
+            self.threads,
+            &mut file,
+        )?;
+        Ok(loaded)
     }
 }

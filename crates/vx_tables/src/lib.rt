@@ -6,4 +6,4 @@ mod tables;
 mod texts;
 
 pub use folder::Folder;
-pub use tables::{Tables, load_tables};
+pub use tables::{Scanning, Tables, load_scanned, load_tables};

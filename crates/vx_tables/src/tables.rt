@@ -6,7 +6,7 @@ ghost use Rattle.vx_relations.specs.Catalog.{relation_at};
 ghost use Rattle.vx_catalog.specs.Database.{with_rows};
 ghost use Rattle.vx_plan_nodes.specs.Outline.{plan_of};
 ghost use Rattle.vx_plan_nodes.specs.TypedView.{scope, plan as plan_of_typed};
-ghost use Rattle.vx_tables.specs.Filled.{scans, IsFilled, IsFirstMissing};
+ghost use Rattle.vx_tables.specs.Filled.{scans, IsFilledBy, IsFirstMissingOf, IsFilled, IsFirstMissing};
 
 use std::alloc::Global;
 use vx_catalog::{Catalog, Database, Loaded};
@@ -65,6 +65,52 @@ fn scans(node: &TypedNode, relation: usize) -> bool
     }
 }
 
+/// What says which relations of a catalog it scans: a plan, or several.
+pub trait Scanning {
+    ghost use Rattle.std.specs.Prelude.{◌≡◌, ℕ, Bool};
+
+    // Whether it scans the relation with this number.
+    ghost scanned: { Self → ℕ → Bool };
+
+    /// Whether it scans the relation with this number in its catalog.
+    fn scans(&self, relation: usize) -> bool
+        ensures { result ≡ scanned self.now relation };
+}
+
+impl Scanning for TypedPlan {
+    ghost use Rattle.vx_plan_nodes.specs.TypedView.{plan};
+    ghost use Rattle.vx_tables.specs.Filled.{scans};
+
+    ghost scanned = { λ p. scans (plan p) };
+
+    fn scans(&self, relation: usize) -> bool {
+        scans(self.root(), relation)
+    }
+}
+
+/// A database of the relations of a catalog that are scanned, filled in the catalog's order, each from its tables once. The
+/// others stay empty. Whoever reads it hashes keys by the seed.
+pub fn load_scanned<S: Scanning, T: Tables>(
+    alloc: Global,
+    seed: KeySeed,
+    catalog: &Catalog,
+    scanning: &S,
+    tables: &T,
+) -> Result<Database, Refusal>
+    ensures catalog { IfOk result (λ d. d.catalog ≡ catalog.now) }
+    ensures filled { IfOk result (λ d. IsFilledBy (S.scanned scanning.now) (T.holds tables.now) d) }
+    ensures refused { IfErr result (λ e. IsFirstMissingOf (S.scanned scanning.now) (T.holds tables.now) (T.lacks tables.now) catalog.now e) }
+{
+    let empty = Database::empty(alloc, catalog)?;
+    let mut database = empty.seeded(seed);
+    for relation in 0..catalog.len() {
+        if scanning.scans(relation) {
+            fill(alloc, &mut database, relation, tables)?;
+        }
+    }
+    Ok(database)
+}
+
 /// A database of the relations that a plan scans, filled in the catalog's order. The others stay empty. Whoever reads it hashes
 /// keys by the seed.
 pub fn load_tables<T: Tables>(
@@ -77,12 +123,5 @@ pub fn load_tables<T: Tables>(
     ensures filled { IfOk result (λ d. IsFilled (plan_of_typed plan.now) (T.holds tables.now) d) }
     ensures refused { IfErr result (λ e. IsFirstMissing (plan_of_typed plan.now) (T.holds tables.now) (T.lacks tables.now) (scope plan.now).catalog e) }
 {
-    let empty = Database::empty(alloc, plan.catalog())?;
-    let mut database = empty.seeded(seed);
-    for relation in 0..plan.catalog().len() {
-        if scans(plan.root(), relation) {
-            fill(alloc, &mut database, relation, tables)?;
-        }
-    }
-    Ok(database)
+    load_scanned(alloc, seed, plan.catalog(), plan, tables)
 }

@@ -1,5 +1,5 @@
 -- What a step answers, by the event that happened in it.
-use Rattle.std.proofs.Common.{ℕ, ◌≡◌, ◌⊎◌, ◌∙◌, inl, inr, refl, sym, subst, true, false, List, Option, Some, None}
+use Rattle.std.proofs.Common.{ℕ, ◌≡◌, ◌⊎◌, ◌∙◌, inl, inr, refl, sym, subst, false, List, Some, None}
 use Rattle.vx_values.specs.Values.{Row}
 use Rattle.vx_ops.specs.Ledger.{Ledger}
 use Rattle.vx_ops.specs.declared.fault.Fault.{Fault}
@@ -7,11 +7,10 @@ use Rattle.vx_ops.specs.declared.turn.Want.{Want}
 use Rattle.vx_ops.specs.declared.turn.Got.{Got}
 use Rattle.vx_ops.specs.declared.turn.Got.TheVariants as got
 use Rattle.vx_ops.specs.declared.turn.Polled.TheVariants as polled
-use Rattle.vx_worker.specs.Trace.{Event, idle, drew_one, took_one, put_one}
+use Rattle.vx_worker.specs.Trace.{Event, idle, drew_one, took_one}
 use Rattle.vx_worker.specs.Wishes.{tree_want}
 use Rattle.vx_worker.specs.Intake.{Answers}
 use Rattle.vx_worker.specs.Answering.{IsMove, NeedsNothing, DrainFinds, Waits, none_came, none_drains, no_memory, Moves, by_event, by_turn}
-use Rattle.vx_worker.specs.declared.tree.Tree.{Tree}
 use Rattle.vx_worker.specs.declared.wish.Wish.{Wish}
 use Rattle.vx_worker.specs.declared.wish.Wish.TheVariants as wish
 use Rattle.vx_worker.specs.declared.intake.Intake.{Intake}

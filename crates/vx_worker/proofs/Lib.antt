@@ -6,3 +6,4 @@ pub mod Reading
 pub mod Stopping
 pub mod WorkerSteps
 pub mod Answering
+pub mod Counting

@@ -1,5 +1,5 @@
 -- What the answer of a step says of what happened in it.
-use Rattle.std.specs.Prelude.{ℕ, ◌≡◌, ◌<◌, ◌⊎◌, length, true, false, Some, None, IsSome}
+use Rattle.std.specs.Prelude.{ℕ, ◌≡◌, ◌<◌, length, true, false, Some, None, IsSome}
 use Rattle.std.specs.List.{slice_index_or}
 use Rattle.vx_ports.specs.Packets.{PacketView}
 use Rattle.vx_ops.specs.Ledger.{Stream, Ledger}

@@ -1,3 +1,4 @@
+pub mod Counts
 pub mod Fragment
 pub mod Intake
 pub mod Morsels

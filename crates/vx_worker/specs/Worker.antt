@@ -16,6 +16,8 @@ use Rattle.vx_worker.specs.Trace.{Trace, ReadsAreOf, IsWellBy, HasFailedBy, Hone
 use Rattle.vx_worker.specs.Trees.{shape, TreeStands}
 use Rattle.vx_worker.specs.Wishes.{Numbered, TreeTyped, tree_types}
 use Rattle.vx_worker.specs.Intake.{sources_of, has_met_end, IntakeStands, IsDrained}
+use Rattle.vx_worker.specs.declared.counts.StepCounts.{StepCounts}
+use Rattle.vx_worker.specs.declared.tree.Tree.{Tree}
 use Rattle.vx_worker.specs.declared.worker.Worker.{Worker}
 use Rattle.vx_worker.specs.declared.worker.Phase.{Phase}
 use Rattle.vx_worker.specs.declared.worker.Phase.TheVariants.{Running, Failing, Draining, Well, Failed}
@@ -62,6 +64,14 @@ pub record IsClosing {O S : Type 0} (w : Worker O S) : Type 0 where
 -- its sending end
 abbrev pub sender_of : {O S : Type 0} → Worker O S → S
 sender_of w = w.sender
+
+-- its operators
+abbrev pub tree_of : {O S : Type 0} → Worker O S → Tree O
+tree_of w = w.tree
+
+-- what it counted of its steps
+abbrev pub counts_of : {O S : Type 0} → Worker O S → StepCounts
+counts_of w = w.counts
 
 -- the producers from which it takes
 abbrev pub inputs_of : {O S : Type 0} → Worker O S → List (ℕ × ℕ)

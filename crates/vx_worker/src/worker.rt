@@ -1,5 +1,6 @@
 //! Workers: the operators of a fragment at one place, step by step.
 
+use crate::counts::StepCounts;
 use crate::intake::{Drained, ExchangeInput, Intake};
 use crate::tree::Tree;
 use crate::wires::{Morsels, Wires};
@@ -44,7 +45,7 @@ pub enum Stepped {
     Ended,
 }
 
-/// Calls: `new (step | outcome)* into_sender`.
+/// Calls: `new (step | outcome | tree | counts)* into_sender`.
 ///
 /// A worker: the tree of its fragment, and what accepts the rows that the tree's top returns.
 #[derive(Drop)]
@@ -59,6 +60,7 @@ pub struct Worker<O, S> {
     // Fault for each consumer, the last of which goes first.
     closing: Vec<Packet>,
     node: u32,
+    counts: StepCounts,
 }
 
 impl<O: Source, S: Sends> Worker<O, S> {
@@ -76,7 +78,8 @@ impl<O: Source, S: Sends> Worker<O, S> {
     ghost use Rattle.vx_worker.specs.Wishes.{Numbered, TreeTyped, tree_types, fresh_reads};
     ghost use Rattle.vx_worker.specs.Answering.{Answered};
     ghost use Rattle.vx_worker.specs.Intake.{source_of, IsFresh};
-    ghost use Rattle.vx_worker.specs.Worker.{closing_of, with_pending, with_all, outcome_of, sender_of, inputs_of, role_of, IsReady, IsReadyIn, IsGoing, IsClosing, WorkerStands, EndsAs};
+    ghost use Rattle.vx_worker.specs.Counts.{no_steps, with_event, with_answer};
+    ghost use Rattle.vx_worker.specs.Worker.{closing_of, with_pending, with_all, outcome_of, sender_of, counts_of, inputs_of, role_of, IsReady, IsReadyIn, IsGoing, IsClosing, WorkerStands, EndsAs};
 
     /// A worker that made no step. `node` is the number of its tree's top; `closing` is a Fault for each consumer, by rising place; `inputs` are the
     /// producers from which its tree takes, all of which it drains if it fails.
@@ -99,6 +102,7 @@ impl<O: Source, S: Sends> Worker<O, S> {
             ≡ record { frag = shape O.op tree; post = S.post sender; bounds = S.bounds sender; inputs = map source_of inputs.items } }
         ensures stands { (goes : Routing) (m : ℕ → ℕ → List Row) → S.Stands sender goes fresh (λ _. [])
             → WorkerStands O.Stands O.op S.Stands S.task goes m result empty_trace }
+        ensures counts { counts_of result ≡ no_steps }
     {
         Worker {
             tree,
@@ -109,6 +113,7 @@ impl<O: Source, S: Sends> Worker<O, S> {
             intake: Intake::new(alloc, inputs),
             closing,
             node,
+            counts: StepCounts::new(),
         }
     }
 
@@ -147,6 +152,38 @@ impl<O: Source, S: Sends> Worker<O, S> {
             → WorkerStands O.Stands O.op S.Stands S.task goes (G.morsel_of morsels.now) self.new t
             → EndsAs O.op S.task goes (G.morsel_of morsels.now) o self.new t) }
         ensures still { IsSome (outcome_of self.old) → self.new ≡ self.old }
+        ensures counted { (e : Event) × W.Does wires.old e wires.new × (counts_of self.new ≡ with_answer (with_event (counts_of self.old) e) result) }
+    {
+        match self.advance(morsels, router, wires) {
+            Stepped::Waiting => {
+                self.counts.add_wait();
+                return Stepped::Waiting;
+            }
+            stepped => return stepped,
+        }
+    }
+
+    // One step, by where the worker stands. It is not counted yet whether it waited.
+    fn advance<G: Morsels, R: Router, W: Wires>(
+        &mut self,
+        morsels: &G,
+        router: &R,
+        wires: &mut W,
+    ) -> Stepped
+        requires { IsReady O.types S.post S.is_open S.has_closed (G.types_of morsels.now) self.old }
+        ensures ready { IsReady O.types S.post S.is_open S.has_closed (G.types_of morsels.now) self.new }
+        ensures role { role_of O.op S.post S.bounds self.new ≡ role_of O.op S.post S.bounds self.old }
+        ensures stands { (e : Event) × W.Does wires.old e wires.new × ((goes : Routing)
+            → RoutesAs (S.post (sender_of self.old)) (S.bounds (sender_of self.old)) (R.route_of router.now) goes
+            → (t : Trace) → WorkerStands O.Stands O.op S.Stands S.task goes (G.morsel_of morsels.now) self.old t
+            → WorkerStands O.Stands O.op S.Stands S.task goes (G.morsel_of morsels.now) self.new (added t e))
+            × Answered O.Stands O.want (W.IsFull wires.old) (W.LacksMemory wires.old) self.old self.new e result }
+        ensures ended { (result ≡ Stepped.Ended) ↔ IsSome (outcome_of self.new) }
+        ensures honest { IfSome (outcome_of self.new) (λ o. (goes : Routing) (t : Trace)
+            → WorkerStands O.Stands O.op S.Stands S.task goes (G.morsel_of morsels.now) self.new t
+            → EndsAs O.op S.task goes (G.morsel_of morsels.now) o self.new t) }
+        ensures still { IsSome (outcome_of self.old) → self.new ≡ self.old }
+        ensures counted { (e : Event) × W.Does wires.old e wires.new × (counts_of self.new ≡ with_event (counts_of self.old) e) }
     {
         match self.phase {
             Phase::Well => Stepped::Ended,
@@ -173,6 +210,7 @@ impl<O: Source, S: Sends> Worker<O, S> {
             → (t : Trace) → WorkerStands O.Stands O.op S.Stands S.task goes (G.morsel_of morsels.now) self.old t
             → WorkerStands O.Stands O.op S.Stands S.task goes (G.morsel_of morsels.now) self.new (added t e))
             × Answered O.Stands O.want (W.IsFull wires.old) (W.LacksMemory wires.old) self.old self.new e result }
+        ensures counted { (e : Event) × W.Does wires.old e wires.new × (counts_of self.new ≡ with_event (counts_of self.old) e) }
         ensures ended { (result ≡ Stepped.Ended) ↔ IsSome (outcome_of self.new) }
     {
         if self.pending.is_some() {
@@ -206,12 +244,16 @@ impl<O: Source, S: Sends> Worker<O, S> {
             → WorkerStands O.Stands O.op S.Stands S.task goes m self.old t
             → WorkerStands O.Stands O.op S.Stands S.task goes m self.new (added t e))
             × Answered O.Stands O.want (W.IsFull wires.old) (W.LacksMemory wires.old) self.old self.new e result }
+        ensures counted { (e : Event) × W.Does wires.old e wires.new × (counts_of self.new ≡ with_event (counts_of self.old) e) }
         ensures goes_on { (outcome_of self.new ≡ None) × (result ≡ Stepped.Ended → ⊥) }
     {
         match self.pending.take() {
             None => unreachable!("a packet is held"),
             Some((to, packet)) => match wires.put(to, packet) {
-                Put::Done => return Stepped::Moved,
+                Put::Done => {
+                    self.counts.add_put();
+                    return Stepped::Moved;
+                }
                 Put::Full(packet) => {
                     self.pending = Some((to, packet));
                     return Stepped::Waiting;
@@ -239,6 +281,7 @@ impl<O: Source, S: Sends> Worker<O, S> {
             → (t : Trace) → WorkerStands O.Stands O.op S.Stands S.task goes (G.morsel_of morsels.now) self.old t
             → WorkerStands O.Stands O.op S.Stands S.task goes (G.morsel_of morsels.now) self.new (added t e))
             × Answered O.Stands O.want (W.IsFull wires.old) (W.LacksMemory wires.old) self.old self.new e result }
+        ensures counted { (e : Event) × W.Does wires.old e wires.new × (counts_of self.new ≡ with_event (counts_of self.old) e) }
         ensures goes_on { (outcome_of self.new ≡ None) × (result ≡ Stepped.Ended → ⊥) }
     {
         let wish = self.tree.wants();
@@ -284,6 +327,7 @@ impl<O: Source, S: Sends> Worker<O, S> {
         ensures sender { self.new.sender ≡ self.old.sender }
         ensures intake { self.new.intake ≡ self.old.intake }
         ensures closing { self.new.closing.items ≡ self.old.closing.items }
+        ensures counts { counts_of self.new ≡ counts_of self.old }
         ensures moved { result ≡ Stepped.Moved }
     {
         self.phase = Phase::Failing(fault);
@@ -303,6 +347,7 @@ impl<O: Source, S: Sends> Worker<O, S> {
             → WorkerStands O.Stands O.op S.Stands S.task goes m self.old t
             → WorkerStands O.Stands O.op S.Stands S.task goes m self.new (added t e))
             × Answered O.Stands O.want (W.IsFull wires.old) (W.LacksMemory wires.old) self.old self.new e result }
+        ensures counted { (e : Event) × W.Does wires.old e wires.new × (counts_of self.new ≡ with_event (counts_of self.old) e) }
         ensures goes_on { (outcome_of self.new ≡ None) × (result ≡ Stepped.Ended → ⊥) }
     {
         match self.next_closing() {
@@ -311,7 +356,10 @@ impl<O: Source, S: Sends> Worker<O, S> {
                 return Stepped::Moved;
             }
             Some((to, packet)) => match wires.put(to, packet) {
-                Put::Done => return Stepped::Moved,
+                Put::Done => {
+                    self.counts.add_put();
+                    return Stepped::Moved;
+                }
                 Put::Full(refused) => {
                     self.pending = Some((to, refused));
                     return Stepped::Waiting;
@@ -333,6 +381,7 @@ impl<O: Source, S: Sends> Worker<O, S> {
         ensures tree { self.new.tree ≡ self.old.tree }
         ensures sender { self.new.sender ≡ self.old.sender }
         ensures intake { self.new.intake ≡ self.old.intake }
+        ensures counts { counts_of self.new ≡ counts_of self.old }
         ensures phase { self.new.phase ≡ self.old.phase }
     {
         match self.pending.take() {
@@ -355,6 +404,7 @@ impl<O: Source, S: Sends> Worker<O, S> {
             → WorkerStands O.Stands O.op S.Stands S.task goes m self.old t
             → WorkerStands O.Stands O.op S.Stands S.task goes m self.new (added t e))
             × Answered O.Stands O.want (W.IsFull wires.old) (W.LacksMemory wires.old) self.old self.new e result }
+        ensures counted { (e : Event) × W.Does wires.old e wires.new × (counts_of self.new ≡ with_event (counts_of self.old) e) }
         ensures ended { (result ≡ Stepped.Ended) ↔ IsSome (outcome_of self.new) }
     {
         match self.intake.drain(wires) {
@@ -365,6 +415,25 @@ impl<O: Source, S: Sends> Worker<O, S> {
                 return Stepped::Ended;
             }
         }
+    }
+}
+
+impl<O, S> Worker<O, S> {
+    ghost use Rattle.std.specs.Prelude.{◌≡◌};
+    ghost use Rattle.vx_worker.specs.Worker.{tree_of, counts_of};
+
+    /// Its operators.
+    pub fn tree(&self) -> &Tree<O>
+        ensures { result.now ≡ tree_of self.now }
+    {
+        &self.tree
+    }
+
+    /// What it counted of its steps so far.
+    pub fn counts(&self) -> StepCounts
+        ensures { result ≡ counts_of self.now }
+    {
+        self.counts
     }
 }
 

@@ -1,10 +1,11 @@
 use Rattle.std.proofs.Common.{◌≡◌, ◌∙◌, ℕ, List, sym, subst}
 use Rattle.std.specs.Prelude.{IfOk, IfErr}
 use Rattle.std.proofs.lemmas.Result.{err_from_is_err_and}
-use Rattle.vx_arguments.specs.Asked.{Ask, asked_is, paths_are}
+use Rattle.vx_arguments.specs.Asked.{Ask, asked_is, paths_are, many_are}
 use Rattle.vx_answer.specs.declared.command_line.Job.TheVariants as job
-use Rattle.vx_answer.specs.CommandLine.{IsTask, IsEntry, for_task, for_plan_form, for_sql, for_claims, for_code, for_asked_task, for_asked_form, for_asked_sql, for_asked_claims}
-use Rattle.vx_answer.specs.CommandLineView.{task_is, IsJob, IsAskAnswer, IsAskFault}
+use Rattle.vx_answer.specs.CommandLine.{IsTask, IsEntry, for_task, for_plan_form, for_sql, for_claims, for_runs, for_code, for_asked_task, for_asked_form, for_asked_sql, for_asked_claims}
+use Rattle.vx_answer.specs.CommandLineView.{task_is, IsPlansTask, IsJob, IsAskAnswer, IsAskFault}
+use Rattle.vx_answer.proofs.CommandLineFacts.{plans_fault}
 use Rattle.vx_answer.proofs.command_line.answer_asked.Goals as goal
 
 pub returns-in_err-text-in-Some-Command : goal.returns-in_err-text-in-Some-Command
@@ -66,3 +67,20 @@ pub returns-in_ok-text-in-Some-Annotation : goal.returns-in_ok-text-in-Some-Anno
 returns-in_ok-text-in-Some-Annotation g c =
     let is : IsJob (asked_is c.args.asked.now) (job.Annotation c.in-Some-Annotation.sources) = rw (c.in-Some-Annotation.is, c.in-Some-Annotation.field-0-is) at c.in_ok-job_in.ensures in
     record { answer = for_claims (paths_are c.in-Some-Annotation.sources) is c.in_ok-text-in-Some-Annotation.ensures.text; refused = tt }
+
+pub returns-in_err-text-in-Some-Plans : goal.returns-in_err-text-in-Some-Plans
+returns-in_err-text-in-Some-Plans g c =
+    let t = c.in-Some-Plans.task in
+    let is : IsPlansTask (asked_is c.args.asked.now) t = rw (c.in-Some-Plans.is, c.in-Some-Plans.field-0-is) at c.in_ok-job_in.ensures in
+    let p = err_from_is_err_and c.from_residual-in_err-text-in-Some-Plans.result c.from_residual-in_err-text-in-Some-Plans.ensures.1 in
+    rw (p.1, p.2) (record {
+      answer = tt;
+      refused = plans_fault (g.F.Store.holds c.args.files.now) (g.F.Store.is_reliable c.args.files.now) (g.I.ByteIn.remaining c.args.input.now) (g.I.ByteIn.has_failed c.answer_plans.new.input)
+          (asked_is c.args.asked.now) (many_are t.sources) t.folder.now is.0 t.setting c.in_err-text-in-Some-Plans.field-0.0 is.1 is.2 c.in_err-text-in-Some-Plans.ensures.refused;
+    })
+
+pub returns-in_ok-text-in-Some-Plans : goal.returns-in_ok-text-in-Some-Plans
+returns-in_ok-text-in-Some-Plans g c =
+    let t = c.in-Some-Plans.task in
+    let is : IsPlansTask (asked_is c.args.asked.now) t = rw (c.in-Some-Plans.is, c.in-Some-Plans.field-0-is) at c.in_ok-job_in.ensures in
+    record { answer = for_runs (many_are t.sources) t.folder.now is.0 t.setting is.1 is.2 c.in_ok-text-in-Some-Plans.ensures.text; refused = tt }

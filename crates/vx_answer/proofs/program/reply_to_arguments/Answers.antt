@@ -4,6 +4,8 @@ use Rattle.vx_wisconsin.specs.Wisconsin.{wisconsin, column_names}
 use Rattle.vx_arguments.specs.Asked.{generate}
 use Rattle.vx_refusals.specs.declared.refusal.Refusal.TheVariants as refusal
 use Rattle.vx_answer.specs.CommandLine.{AsksFor, for_what_is_asked, for_relation, for_ask, for_asked_relation, arguments_memory}
+use Rattle.vx_refusals.specs.Status.{status_of}
+use Rattle.vx_answer.proofs.CommandLineFacts.{stopped_refuses, three_stopped, four_stopped}
 use Rattle.vx_answer.proofs.program.reply_to_arguments.Goals as goal
 
 pub returns-in-Ok-Text-clause-done : goal.returns-in-Ok-Text-clause-done
@@ -49,3 +51,28 @@ returns-in-Err-Refused-clause-failed g c four =
     let refused = rw c.in-Err-Refused.field-0-is at c.in-Err-Refused.ensures.refused in
     let status = rw c.in-Err-Refused.field-0-is at c.deliver-in-Err-Refused.ensures.refused in
     inr (c.in-Err-Refused.refusal, sym status.0 ∙ four, refused)
+
+pub returns-in-Err-Stopped-clause-kept : goal.returns-in-Err-Stopped-clause-kept
+returns-in-Err-Stopped-clause-kept g c some whole =
+    let stopped = c.in-Err-Stopped.stopped in
+    let asks = rw c.in-Err-Stopped.field-0-is at c.in-Err-Stopped.ensures.refused in
+    let written = rw c.in-Err-Stopped.field-0-is at c.write_stopped.ensures.written whole in
+    inr (stopped.text.items, stopped.refusal, asks, written.0, written.1)
+
+pub returns-in-Err-Stopped-clause-refused : goal.returns-in-Err-Stopped-clause-refused
+returns-in-Err-Stopped-clause-refused g c three =
+    let stopped = c.in-Err-Stopped.stopped in
+    let asks = rw c.in-Err-Stopped.field-0-is at c.in-Err-Stopped.ensures.refused in
+    let refuses = stopped_refuses (g.F.Store.holds c.args.files.now) (g.F.Store.is_reliable c.args.files.now) (g.I.ByteIn.remaining c.args.input.now) (g.I.ByteIn.has_failed c.answer_arguments.new.input)
+    (map (λ a. a.now) c.args.arguments.now) stopped.text.items stopped.refusal asks in
+    let status = rw c.in-Err-Stopped.field-0-is at c.write_stopped.ensures.status in
+    inl (stopped.refusal, three_stopped _ c.write_stopped.result (status_of stopped.refusal) status three, refuses)
+
+pub returns-in-Err-Stopped-clause-failed : goal.returns-in-Err-Stopped-clause-failed
+returns-in-Err-Stopped-clause-failed g c four =
+    let stopped = c.in-Err-Stopped.stopped in
+    let asks = rw c.in-Err-Stopped.field-0-is at c.in-Err-Stopped.ensures.refused in
+    let refuses = stopped_refuses (g.F.Store.holds c.args.files.now) (g.F.Store.is_reliable c.args.files.now) (g.I.ByteIn.remaining c.args.input.now) (g.I.ByteIn.has_failed c.answer_arguments.new.input)
+    (map (λ a. a.now) c.args.arguments.now) stopped.text.items stopped.refusal asks in
+    let status = rw c.in-Err-Stopped.field-0-is at c.write_stopped.ensures.status in
+    four_stopped _ _ c.write_stopped.result (status_of stopped.refusal) (λ is. (stopped.refusal, is, refuses)) status four

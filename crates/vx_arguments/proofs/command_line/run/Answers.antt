@@ -1,24 +1,28 @@
-use Rattle.std.proofs.Common.{◌≡◌, ◌∙◌, ◌||◌, ap₂, Bool, false}
+use Rattle.std.proofs.Common.{◌≡◌, ◌∙◌, ◌||◌, ap, ap₂, Bool, false, codes}
 use Rattle.std.proofs.lemmas.Result.{IfOk-weaker}
 use Rattle.clap.specs.Words.{with_rule}
 use Rattle.clap.specs.declared.builder.command.Command.TheViews.{out-Command}
+use Rattle.vx_arguments.specs.Asked.{reading_app}
 use Rattle.vx_arguments.proofs.command_line.run.Goals as goal
 
 pub returns-clause-app : goal.returns-clause-app
 returns-clause-app c =
-    let data_added = c.in_ok-arg.ensures.shape c.data_option.ensures.own ∙ ap₂ with_rule c.in_ok-judging.ensures.app c.data_option.ensures.rule in
+    let read = c.in_ok-reading.ensures.app ∙ ap (reading_app (codes "run")) c.plans_option.ensures.rule in
+    let data_added = c.in_ok-arg.ensures.shape c.data_option.ensures.own ∙ ap₂ with_rule read c.data_option.ensures.rule in
     let packet = c.in_ok-arg-2.ensures.shape c.number_option.ensures.own ∙ ap₂ with_rule data_added c.number_option.ensures.rule in
     let morsel = c.in_ok-arg-3.ensures.shape c.number_option-2.ensures.own ∙ ap₂ with_rule packet c.number_option-2.ensures.rule in
     let slack = c.in_ok-arg-4.ensures.shape c.number_option-3.ensures.own ∙ ap₂ with_rule morsel c.number_option-3.ensures.rule in
     let mode = c.in_ok-arg-5.ensures.shape c.mode_option.ensures.own ∙ ap₂ with_rule slack c.mode_option.ensures.rule in
-    IfOk-weaker c.arg-6.result _ _ (λ r h. h.shape c.sizes_argument.ensures.own ∙ ap₂ with_rule mode c.sizes_argument.ensures.rule) c.arg-6.ensures
+    let threads = c.in_ok-arg-6.ensures.shape c.threads_option.ensures.own ∙ ap₂ with_rule mode c.threads_option.ensures.rule in
+    IfOk-weaker c.arg-7.result _ _ (λ r h. h.shape c.sizes_argument.ensures.own ∙ ap₂ with_rule threads c.sizes_argument.ensures.rule) c.arg-7.ensures
 
 pub returns-clause-local : goal.returns-clause-local
 returns-clause-local c =
     let or = λ (x y : Bool). x || y in
-    let data_added : (out-Command c.in_ok-arg.field-0).has_globals ≡ false = c.in_ok-arg.ensures.globals ∙ ap₂ or c.in_ok-judging.ensures.local c.data_option.ensures.own in
+    let data_added : (out-Command c.in_ok-arg.field-0).has_globals ≡ false = c.in_ok-arg.ensures.globals ∙ ap₂ or c.in_ok-reading.ensures.local c.data_option.ensures.own in
     let packet : (out-Command c.in_ok-arg-2.field-0).has_globals ≡ false = c.in_ok-arg-2.ensures.globals ∙ ap₂ or data_added c.number_option.ensures.own in
     let morsel : (out-Command c.in_ok-arg-3.field-0).has_globals ≡ false = c.in_ok-arg-3.ensures.globals ∙ ap₂ or packet c.number_option-2.ensures.own in
     let slack : (out-Command c.in_ok-arg-4.field-0).has_globals ≡ false = c.in_ok-arg-4.ensures.globals ∙ ap₂ or morsel c.number_option-3.ensures.own in
     let mode : (out-Command c.in_ok-arg-5.field-0).has_globals ≡ false = c.in_ok-arg-5.ensures.globals ∙ ap₂ or slack c.mode_option.ensures.own in
-    IfOk-weaker c.arg-6.result _ _ (λ r h. h.globals ∙ ap₂ or mode c.sizes_argument.ensures.own) c.arg-6.ensures
+    let threads : (out-Command c.in_ok-arg-6.field-0).has_globals ≡ false = c.in_ok-arg-6.ensures.globals ∙ ap₂ or mode c.threads_option.ensures.own in
+    IfOk-weaker c.arg-7.result _ _ (λ r h. h.globals ∙ ap₂ or threads c.sizes_argument.ensures.own) c.arg-7.ensures

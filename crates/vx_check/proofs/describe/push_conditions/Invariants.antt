@@ -5,5 +5,5 @@ use Rattle.vx_check.proofs.describe.push_conditions.Given as goal
 
 abbrev pub invariant-loop-i : goal.invariant-loop-i
 invariant-loop-i l =
-    string_bytes l.text ++ separated (codes " and ") (nat_lt 0 l.i) (map (condition_text (map string_bytes l.names)) (map condition_of (drop l.i l.conditions)))
-    ≡ string_bytes l.initial.text ++ separated (codes " and ") false (map (condition_text (map string_bytes l.names)) (map condition_of l.conditions))
+    string_bytes l.text ++ separated (codes " and ") (nat_lt 0 l.i) (map (condition_text l.names) (map condition_of (drop l.i l.conditions)))
+    ≡ string_bytes l.initial.text ++ separated (codes " and ") false (map (condition_text l.names) (map condition_of l.conditions))

@@ -4,5 +4,5 @@ use Rattle.vx_check.proofs.words.push_lists.Given as goal
 
 abbrev pub invariant-loop-i : goal.invariant-loop-i
 invariant-loop-i l =
-    string_bytes l.text ++ separated (codes ";") (nat_lt 0 l.i) (map (list_text (map string_bytes l.names)) (map (λ k. k.items) (drop l.i l.keys)))
-    ≡ string_bytes l.initial.text ++ separated (codes ";") false (map (list_text (map string_bytes l.names)) (map (λ k. k.items) l.keys))
+    string_bytes l.text ++ separated (codes ";") (nat_lt 0 l.i) (map (list_text l.names) (map (λ k. k.items) (drop l.i l.keys)))
+    ≡ string_bytes l.initial.text ++ separated (codes ";") false (map (list_text l.names) (map (λ k. k.items) l.keys))

@@ -4,5 +4,5 @@ use Rattle.vx_check.proofs.words.push_names.Given as goal
 
 abbrev pub invariant-loop-i : goal.invariant-loop-i
 invariant-loop-i l =
-    string_bytes l.text ++ separated (codes ",") (nat_lt 0 l.i) (map (name_at (map string_bytes l.names)) (drop l.i l.columns))
-    ≡ string_bytes l.initial.text ++ separated (codes ",") false (map (name_at (map string_bytes l.names)) l.columns)
+    string_bytes l.text ++ separated (codes ",") (nat_lt 0 l.i) (map (name_at l.names) (drop l.i l.columns))
+    ≡ string_bytes l.initial.text ++ separated (codes ",") false (map (name_at l.names) l.columns)

@@ -8,7 +8,6 @@ use Rattle.vx_plan_nodes.specs.Typed.{typed}
 use Rattle.vx_plan_nodes.specs.TypedView.{scope}
 use Rattle.vx_plan_nodes.specs.Types.{types_of}
 use Rattle.vx_check_rules.specs.Checked.{relations}
-use Rattle.vx_operators.specs.declared.operator.Operator.TheVariants as operator
 use Rattle.vx_exec.specs.Crew.{IsOperatorOf}
 use Rattle.vx_groups.specs.Groups.{group_at}
 use Rattle.vx_exec.proofs.Fragments.{scan-operator, consumer-made, exchange-columns}
@@ -19,10 +18,11 @@ returns-in_ok-types-in-Scan c =
     let j = c.args.job.now in
     let types = c.in_ok-types-in-Scan.types.items in
     let given : types ≡ types_of (relations j.plan.now) (plan_of c.args.node.now) = c.in_ok-types-in-Scan.ensures.items ∙ c.output_types.ensures (relations j.plan.now) c.requires.outputs in
-    let h = c.in-Scan.field-0 in
+    let h = c.in-Scan.head in
     let s = c.in-Scan.field-1 in
-    subst (λ z. IsOperatorOf j c.args.place (plan_of z) (operator.Scan c.new.result)) (sym c.in-Scan.is)
-    (scan-operator j c.args.place h.number (claim_of h.claim) s.relation s.shared (size_of s.size) c.new.result types c.new.ensures.stands c.new.ensures.types
+    subst (λ z. IsOperatorOf j c.args.place (plan_of z) c.of.result) (sym c.in-Scan.is)
+    (scan-operator j c.args.place h.number (claim_of h.claim) s.relation s.shared (size_of s.size) c.new-scan.result c.of.result types c.of.ensures.kind c.of.ensures.stands
+    c.new-scan.ensures.types
     (subst (λ z. types ≡ types_of (relations j.plan.now) (plan_of z)) c.in-Scan.is given))
 
 pub returns-in_ok-types-in-Exchange : goal.returns-in_ok-types-in-Exchange

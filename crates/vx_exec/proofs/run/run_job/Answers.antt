@@ -1,8 +1,11 @@
+use Rattle.std.proofs.Common.{subst}
 use Rattle.vx_plan_nodes.specs.TypedView.{plan as whole_plan}
 use Rattle.vx_plan_nodes.specs.Types.{types_of}
 use Rattle.vx_check_rules.specs.Checked.{relations}
+use Rattle.vx_exec.specs.Counts.{AreCountsOf, counts_in}
 use Rattle.vx_exec.specs.Job.{model_of}
-use Rattle.vx_exec.proofs.Outcomes.{rounds-reported}
+use Rattle.vx_exec.specs.Runs.{IsInRounds}
+use Rattle.vx_exec.proofs.Outcomes.{rounds-reported, counted-reported}
 use Rattle.vx_exec.proofs.Finishing.{job-accepted, ready-parts, has-run, first-types, not-passed, comes-done, comes-failed, comes-first}
 use Rattle.vx_exec.proofs.run.run_job.Goals as goal
 
@@ -30,19 +33,23 @@ returns g c =
     let begun = ready-parts j hash ok c.in_ok-crew.crew parts.result.0 parts.result.1 parts.ensures.workers parts.ensures.links (c.in_ok-crew.ensures.ready hash) in
     let end = c.judge_rounds-verdict in
     let run = has-run j hash parts.result.0.items end.new.workers.items parts.result.1 end.result begun end.ensures.roles end.ensures.answers end.ensures.first in
+    let rounds : IsInRounds hash (model_of hash j) (whole_plan j.plan.now) c.args.limit c.answer_of.result = record {
+      begun = parts.result.0.items;
+      links = parts.result.1;
+      ready = begun.ready;
+      ended = end.new.workers.items;
+      links_after = end.new.links;
+      follows = end.ensures.follows;
+      verdict = end.result;
+      judged = end.ensures.judged;
+      comes = c.answer_of.ensures;
+    } in
     record {
       done = comes-done end.result c.answer_of.result run c.answer_of.ensures;
       failed = comes-failed end.result c.answer_of.result run c.answer_of.ensures;
       first = comes-first end.result c.answer_of.result run c.answer_of.ensures;
-      rounds = rounds-reported hash (model_of hash j) (whole_plan j.plan.now) c.answer_of.result c.args.limit (record {
-        begun = parts.result.0.items;
-        links = parts.result.1;
-        ready = begun.ready;
-        ended = end.new.workers.items;
-        links_after = end.new.links;
-        follows = end.ensures.follows;
-        verdict = end.result;
-        judged = end.ensures.judged;
-        comes = c.answer_of.ensures;
-      });
+      rounds = rounds-reported hash (model_of hash j) (whole_plan j.plan.now) c.answer_of.result c.args.limit rounds;
+      counted = λ wanted.
+          counted-reported hash (model_of hash j) (whole_plan j.plan.now) c.answer_of.result c.args.limit (counts_in c.note.new.self)
+          (record { run = rounds; counted = subst (λ ws. AreCountsOf ws (counts_in c.note.new.self)) c.as_slice.ensures.value (c.in_ok-note.ensures.counts wanted) });
     }

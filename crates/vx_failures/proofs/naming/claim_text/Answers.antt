@@ -13,7 +13,7 @@ use Rattle.vx_failures.proofs.naming.claim_text.Goals as goal
 
 pub returns : goal.returns
 returns c =
-    let form : ClaimForm = claim_by_name (names_in c.args.plan.now) (map string_bytes c.args.names.now) (claim_of c.args.claim.now) in
+    let form : ClaimForm = claim_by_name (names_in c.args.plan.now) c.args.names.now (claim_of c.args.claim.now) in
     let d : Data = view c.in_ok-claim_json.field-0 in
     let json : d ≡ object (claim_members form) = c.in_ok-claim_json.ensures in
     let exact : has_float d ≡ false = ap has_float json ∙ claim-exact form in

@@ -4,5 +4,5 @@ use Rattle.vx_formats.proofs.describe.push_pairs.Given as goal
 
 abbrev pub invariant-loop-i : goal.invariant-loop-i
 invariant-loop-i l =
-    string_bytes l.text ++ separated (codes ",") (nat_lt 0 l.i) (map (pair_text (map string_bytes l.lefts) (map string_bytes l.rights)) (drop l.i l.on))
-    ≡ string_bytes l.initial.text ++ separated (codes ",") false (map (pair_text (map string_bytes l.lefts) (map string_bytes l.rights)) l.on)
+    string_bytes l.text ++ separated (codes ",") (nat_lt 0 l.i) (map (pair_text l.lefts l.rights) (drop l.i l.on))
+    ≡ string_bytes l.initial.text ++ separated (codes ",") false (map (pair_text l.lefts l.rights) l.on)

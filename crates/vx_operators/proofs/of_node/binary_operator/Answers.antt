@@ -4,6 +4,7 @@ use Rattle.vx_plan_nodes.specs.Outline.{binary_of}
 use Rattle.vx_plan_nodes.specs.Typed.{is_binary}
 use Rattle.vx_algebra.proofs.ColumnFacts.{join-left-columns, join-right-columns, union-types}
 use Rattle.vx_ops.specs.Turn.{Shape}
+use Rattle.vx_operators.specs.Kind.{kind_types}
 use Rattle.vx_operators.proofs.of_node.binary_operator.Goals as goal
 
 pub source-requires-clause-left : goal.source-requires-clause-left
@@ -32,5 +33,5 @@ new-requires-in-MergeJoin-clause-right c =
 
 pub returns-in_ok-types-in-Union-clause-right : goal.returns-in_ok-types-in-Union-clause-right
 returns-in_ok-types-in-Union-clause-right c =
-    ap (λ (x : Shape). x.right) c.new.ensures.types ∙ c.in_ok-types-in-Union.ensures.items
+    ap (λ k. (kind_types k).right) c.of.ensures.kind ∙ ap (λ (x : Shape). x.right) c.new-union.ensures.types ∙ c.in_ok-types-in-Union.ensures.items
     ∙ sym (union-types c.args.left.now c.args.right.now (subst (λ z. is_binary c.args.left.now c.args.right.now (binary_of z) ≡ true) c.in-Union.is c.requires))

@@ -1,15 +1,16 @@
-use Rattle.std.proofs.Common.{◌≡◌, ◌⊎◌, inr, arith}
+use Rattle.std.proofs.Common.{◌≡◌, ◌⊎◌, ◌∙◌, inr, arith, subst}
 use Rattle.vx_plan_nodes.specs.TypedView.{plan as whole_plan, resolved_of}
 use Rattle.vx_plan_nodes.specs.Types.{types_of}
 use Rattle.vx_check_rules.specs.Checked.{relations}
 use Rattle.vx_steps.specs.Roles.{crew_size}
 use Rattle.vx_groups.specs.Groups.{group_at}
+use Rattle.vx_exec.specs.Counts.{AreCountsOf, counts_in}
 use Rattle.vx_exec.specs.Job.{model_of}
 use Rattle.vx_exec.specs.Runs.{IsTrueOf, IsFirstReported}
 use Rattle.vx_exec.proofs.Outcomes.{failed-by}
 use Rattle.vx_exec.proofs.Finishing.{job-accepted, ready-parts, ready-count, has-ended, first-types, not-passed, comes-done, comes-failed, comes-first}
 use Rattle.vx_parallel.specs.Parallel.{IsReportedByThreads}
-use Rattle.vx_parallel.proofs.Ends.{new-parts, comes-whole, refusal-failed, refusal-first, refusal-few}
+use Rattle.vx_parallel.proofs.Ends.{new-parts, comes-whole, refusal-failed, refusal-first, refusal-few, refusal-counted, counted-reported, same-count}
 use Rattle.vx_setup.specs.declared.fault.RunFault.TheVariants as fault
 use Rattle.vx_parallel.proofs.run.run_job.Goals as goal
 
@@ -57,6 +58,14 @@ returns g c =
           (comes-failed x.1 r run c.answer_of.ensures);
       first = failed-by r (IsFirstReported W p) (IsReportedByThreads W p) (λ e h. inr h) (comes-first x.1 r run c.answer_of.ensures);
       few = λ lt. absurd (omega (arith, lt, count));
+      counted = λ wanted.
+          counted-reported r W p (counts_in c.note.new.self) (record {
+            ended = x.0.items;
+            as_many = same-count parts.result.0 x.0.items ran.roles ∙ count;
+            verdict = x.1;
+            comes = c.answer_of.ensures;
+            counted = subst (λ ws. AreCountsOf ws (counts_in c.note.new.self)) c.as_slice.ensures.value (c.in_ok-note.ensures.counts wanted);
+          });
     }
 
 pub returns-in_err-ended-clause-failed : goal.returns-in_err-ended-clause-failed
@@ -75,3 +84,9 @@ returns-in_err-ended-clause-few g c =
     let j = c.args.job.now in
     refusal-few c.from_residual-in_err-ended.result c.in_err-ended.field-0.0 c.args.most (crew_size (group_at j.groups.items) (whole_plan j.plan.now))
     c.from_residual-in_err-ended.ensures.1 c.in_err-ended.ensures.fault
+
+pub returns-in_err-ended-clause-counted : goal.returns-in_err-ended-clause-counted
+returns-in_err-ended-clause-counted g c = λ wanted.
+    let j = c.args.job.now in
+    refusal-counted c.from_residual-in_err-ended.result c.in_err-ended.field-0.0 (model_of (g.R.Router.route_of c.args.router.now) j) (whole_plan j.plan.now)
+    (counts_in c.args.counts.now) c.from_residual-in_err-ended.ensures.1 c.in_err-ended.ensures.fault

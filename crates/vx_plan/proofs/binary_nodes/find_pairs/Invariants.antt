@@ -1,4 +1,4 @@
-use Rattle.std.proofs.Common.{◌≡◌, [], map, drop, string_bytes}
+use Rattle.std.proofs.Common.{◌≡◌, [], map, drop}
 use Rattle.vx_plan.specs.Lookup.{walk_onto}
 use Rattle.vx_plan_json.specs.Document.{pair_form}
 use Rattle.vx_plan.specs.Resolve.{find_pair}
@@ -6,5 +6,5 @@ use Rattle.vx_plan.proofs.binary_nodes.find_pairs.Given as goal
 
 abbrev pub invariant-loop-pair : goal.invariant-loop-pair
 invariant-loop-pair l =
-    walk_onto (find_pair l.node (map string_bytes l.left) (map string_bytes l.right)) l.found.items (map pair_form (drop l.pair-index l.on))
-    ≡ walk_onto (find_pair l.node (map string_bytes l.left) (map string_bytes l.right)) [] (map pair_form l.on)
+    walk_onto (find_pair l.node l.left l.right) l.found.items (map pair_form (drop l.pair-index l.on))
+    ≡ walk_onto (find_pair l.node l.left l.right) [] (map pair_form l.on)

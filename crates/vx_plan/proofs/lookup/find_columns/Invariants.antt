@@ -4,5 +4,5 @@ use Rattle.vx_plan.proofs.lookup.find_columns.Given as goal
 
 abbrev pub invariant-loop-name : goal.invariant-loop-name
 invariant-loop-name l =
-    walk_onto (find_column l.node (map string_bytes l.names)) l.found.items (map string_bytes (drop l.name-index l.list))
-    ≡ walk_onto (find_column l.node (map string_bytes l.names)) [] (map string_bytes l.list)
+    walk_onto (find_column l.node l.names) l.found.items (map string_bytes (drop l.name-index l.list))
+    ≡ walk_onto (find_column l.node l.names) [] (map string_bytes l.list)

@@ -4,5 +4,5 @@ use Rattle.vx_plan.proofs.lookup.find_keys.Given as goal
 
 abbrev pub invariant-loop-key : goal.invariant-loop-key
 invariant-loop-key l =
-    walk_onto (find_columns l.node (map string_bytes l.names)) (map (λ k. k.items) l.found.items) (map (λ k. map string_bytes k.items) (drop l.key-index l.keys))
-    ≡ walk_onto (find_columns l.node (map string_bytes l.names)) [] (map (λ k. map string_bytes k.items) l.keys)
+    walk_onto (find_columns l.node l.names) (map (λ k. k.items) l.found.items) (map (λ k. map string_bytes k.items) (drop l.key-index l.keys))
+    ≡ walk_onto (find_columns l.node l.names) [] (map (λ k. map string_bytes k.items) l.keys)

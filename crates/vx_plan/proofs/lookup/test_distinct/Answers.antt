@@ -1,4 +1,4 @@
-use Rattle.std.proofs.Common.{◌≡◌, ◌∙◌, ap, sym, inr, not, ◌<◌, length, string_bytes, arith, List, ℕ, Err, Result}
+use Rattle.std.proofs.Common.{◌∙◌, ap, sym, inr, not, ◌<◌, length, string_bytes, arith, List, ℕ, Err}
 use Rattle.vx_plan_json.specs.Fault.{duplicate_column}
 use Rattle.vx_plan.specs.Lookup.{test_distinct, is_among}
 use Rattle.vx_plan.proofs.TestFacts.{test_bad, test_next}

@@ -1,4 +1,4 @@
-use Rattle.std.proofs.Common.{◌≡◌, ◌∙◌, ap, sym, inr, not, ◌||◌, true, false, ◌<◌, length, map, take, string_bytes, arith, List, ℕ, Err}
+use Rattle.std.proofs.Common.{◌≡◌, ◌∙◌, ap, sym, inr, not, ◌||◌, true, false, ◌<◌, length, map, take, arith, List, ℕ, Err}
 use Rattle.vx_values.specs.ValueView.{val_of}
 use Rattle.vx_values.specs.Ranges.{RangeForm, range_form}
 use Rattle.vx_plan_nodes.specs.Typed.{is_range}

@@ -1,4 +1,4 @@
-use Rattle.std.proofs.Common.{◌≡◌, ℕ, List, [], map, drop, take, string_bytes, bytes_eq}
+use Rattle.std.proofs.Common.{◌≡◌, ℕ, List, [], map, drop, take, bytes_eq}
 use Rattle.std.specs.List.{list_any}
 use Rattle.vx_values.specs.Ranges.{RangeForm, range_form}
 use Rattle.vx_plan_json.specs.Fault.{bad_range}

@@ -1,4 +1,4 @@
-use Rattle.std.proofs.Common.{◌≡◌, [], map, drop, string_bytes}
+use Rattle.std.proofs.Common.{◌≡◌, [], map, drop}
 use Rattle.vx_plan.specs.Lookup.{walk_onto}
 use Rattle.vx_plan_json.specs.Document.{aggregate_form}
 use Rattle.vx_plan_nodes.specs.Outline.{aggregate_of}
@@ -7,4 +7,4 @@ use Rattle.vx_plan.proofs.unary_nodes.find_aggregates.Given as goal
 
 abbrev pub invariant-loop-aggregate : goal.invariant-loop-aggregate
 invariant-loop-aggregate l =
-    walk_onto (λ a. find_function l.node (map string_bytes l.names) a.function) (map aggregate_of l.found.items) (map aggregate_form (drop l.aggregate-index l.aggregates)) ≡ walk_onto (λ a. find_function l.node (map string_bytes l.names) a.function) [] (map aggregate_form l.aggregates)
+    walk_onto (λ a. find_function l.node l.names a.function) (map aggregate_of l.found.items) (map aggregate_form (drop l.aggregate-index l.aggregates)) ≡ walk_onto (λ a. find_function l.node l.names a.function) [] (map aggregate_form l.aggregates)

@@ -25,4 +25,4 @@ returns c =
     let order = rw (c.as_slice-4.ensures.value, c.as_slice-5.ensures.value) at c.in_ok-order.ensures in
     let types = rw c.as_slice-6.ensures.value at c.in_ok-types.ensures in
     let name = c.in_ok-name.ensures.ok ∙ c.as_str.ensures.value in
-    rw (c.new.ensures, types, name, ← c.text.view_is) (relation_made _ _ _ _ names keys order)
+    rw (c.new-2.ensures, c.in_ok-shared.ensures.ok, types, name, ← c.text.view_is) (relation_made _ _ _ _ names keys order)

@@ -2,6 +2,7 @@ use Rattle.std.proofs.Common.{refl, subst}
 use Rattle.vx_worker.specs.Answering.{DrainFinds}
 use Rattle.vx_worker.specs.declared.worker.Phase.TheVariants.{Draining}
 use Rattle.vx_worker.proofs.Answering.{drains-none, drains-one}
+use Rattle.vx_worker.proofs.Counting.{take-counted}
 use Rattle.vx_worker.proofs.WorkerSteps.{failed-later}
 use Rattle.vx_worker.proofs.worker.Worker.drain.Goals as goal
 
@@ -36,3 +37,18 @@ returns-in-All-clause-stands g c =
       λ goes m t h. (x.2.stands t h.0, (failed-later m goes _ _ c.args.fault t x.0 x.2.is_take h.1, c.drain.ensures.all c.in-All.is _ (x.2.stands t h.0))),
       refl,
     )
+
+pub returns-in-Dropped-clause-counted : goal.returns-in-Dropped-clause-counted
+returns-in-Dropped-clause-counted g c =
+    let x = c.drain.ensures.drains in
+    (x.0, x.1, take-counted c.args.self.now.counts x.0 x.2.is_take)
+
+pub returns-in-Nothing-clause-counted : goal.returns-in-Nothing-clause-counted
+returns-in-Nothing-clause-counted g c =
+    let x = c.drain.ensures.drains in
+    (x.0, x.1, take-counted c.args.self.now.counts x.0 x.2.is_take)
+
+pub returns-in-All-clause-counted : goal.returns-in-All-clause-counted
+returns-in-All-clause-counted g c =
+    let x = c.drain.ensures.drains in
+    (x.0, x.1, take-counted c.args.self.now.counts x.0 x.2.is_take)

@@ -14,5 +14,6 @@ returns-clause-stands g c = λ goes m s. begins g.O.Source.Stands g.O.Source.op 
       intake = c.new.result;
       closing = c.args.closing;
       node = c.args.node;
+      counts = c.new-2.result;
     })
     c.requires.numbered.0 c.requires.numbered.1 refl refl refl (c.new.ensures.stands empty_trace) c.requires.numbered.2 c.requires.tree s

@@ -5,6 +5,7 @@ use Rattle.vx_ops.specs.declared.turn.Polled.TheVariants as polled
 use Rattle.vx_worker.specs.Intake.{IntakeStands}
 use Rattle.vx_worker.specs.Answering.{by_rows, by_fault}
 use Rattle.vx_worker.proofs.Answering.{waits, moves}
+use Rattle.vx_worker.proofs.Counting.{read-counted}
 use Rattle.vx_worker.proofs.WorkerSteps.{going-of, ready-fails, ready-runs, loses, gives-fault, turns, running}
 use Rattle.vx_worker.proofs.worker.Worker.pull.Goals as goal
 
@@ -196,3 +197,43 @@ returns-in-Err-accept-2-clause-stands g c =
           (running g.O.Source.Stands g.O.Source.op g.S.Sends.Stands g.S.Sends.task goes (g.G.Morsels.morsel_of c.args.morsels.now) w t c.requires.running h),
       rw c.fail-in-Err-accept-2.ensures.moved (by_fault c.no_memory-in-Err-accept-2.result c.requires.running c.fail-in-Err-accept-2.ensures.phase),
     )
+
+pub returns-in-Err-clause-counted : goal.returns-in-Err-clause-counted
+returns-in-Err-clause-counted g c =
+    let x = c.in-Err.ensures.fetches in
+    (x.0, x.1, c.fail.ensures.counts ∙ read-counted c.args.self.now.intake c.args.self.now.counts x.0 x.2.is_read)
+
+pub returns-in-Waiting-clause-counted : goal.returns-in-Waiting-clause-counted
+returns-in-Waiting-clause-counted g c =
+    let x = c.in-Ok.ensures.fetches in
+    (x.0, x.1, read-counted c.args.self.now.intake c.args.self.now.counts x.0 x.2.is_read)
+
+pub returns-in-Waiting-2-clause-counted : goal.returns-in-Waiting-2-clause-counted
+returns-in-Waiting-2-clause-counted g c =
+    let x = c.in-Ok.ensures.fetches in
+    (x.0, x.1, read-counted c.args.self.now.intake c.args.self.now.counts x.0 x.2.is_read)
+
+pub returns-in-Fault-clause-counted : goal.returns-in-Fault-clause-counted
+returns-in-Fault-clause-counted g c =
+    let x = c.in-Ok.ensures.fetches in
+    (x.0, x.1, c.fail-in-Fault.ensures.counts ∙ read-counted c.args.self.now.intake c.args.self.now.counts x.0 x.2.is_read)
+
+pub returns-in-Ok-accept-clause-counted : goal.returns-in-Ok-accept-clause-counted
+returns-in-Ok-accept-clause-counted g c =
+    let x = c.in-Ok.ensures.fetches in
+    (x.0, x.1, read-counted c.args.self.now.intake c.args.self.now.counts x.0 x.2.is_read)
+
+pub returns-in-Ok-accept-2-clause-counted : goal.returns-in-Ok-accept-2-clause-counted
+returns-in-Ok-accept-2-clause-counted g c =
+    let x = c.in-Ok.ensures.fetches in
+    (x.0, x.1, read-counted c.args.self.now.intake c.args.self.now.counts x.0 x.2.is_read)
+
+pub returns-in-Err-accept-clause-counted : goal.returns-in-Err-accept-clause-counted
+returns-in-Err-accept-clause-counted g c =
+    let x = c.in-Ok.ensures.fetches in
+    (x.0, x.1, c.fail-in-Err-accept.ensures.counts ∙ read-counted c.args.self.now.intake c.args.self.now.counts x.0 x.2.is_read)
+
+pub returns-in-Err-accept-2-clause-counted : goal.returns-in-Err-accept-2-clause-counted
+returns-in-Err-accept-2-clause-counted g c =
+    let x = c.in-Ok.ensures.fetches in
+    (x.0, x.1, c.fail-in-Err-accept-2.ensures.counts ∙ read-counted c.args.self.now.intake c.args.self.now.counts x.0 x.2.is_read)

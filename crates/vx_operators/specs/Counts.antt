@@ -1,0 +1,57 @@
+-- What an operator counts of its turns, and what its counts say of its ledger. A count stays at the largest number of 64 bits.
+use Rattle.std.specs.Prelude.{ℕ, zero, suc, ◌≡◌, ◌+◌, ◌-◌, ◌^◌, ◌≤◌, min, List, [], length, Some, None}
+use Rattle.vx_ports.specs.Packets.{PacketView}
+use Rattle.vx_ops.specs.Ledger.{Ledger}
+use Rattle.vx_ops.specs.declared.turn.Want.{Want}
+use Rattle.vx_ops.specs.declared.turn.Want.TheVariants as want
+use Rattle.vx_ops.specs.declared.turn.Got.{Got}
+use Rattle.vx_ops.specs.declared.turn.Got.TheVariants as got
+use Rattle.vx_ops.specs.declared.turn.Polled.{Polled}
+use Rattle.vx_ops.specs.declared.turn.Polled.TheVariants as polled
+use Rattle.vx_operators.specs.declared.counts.OperatorCounts.{OperatorCounts}
+
+-- as much of a number as a count holds
+abbrev pub capped : ℕ → ℕ
+capped n = min n (2 ^ 64 - 1)
+
+-- the rows that come
+abbrev pub rows_in : Polled → ℕ
+rows_in (polled.Gave t) = length t.rows
+rows_in polled.Waiting = 0
+rows_in polled.End = 0
+rows_in (polled.Fault f) = 0
+
+-- of an operator that took no turn
+abbrev pub no_turns : OperatorCounts
+no_turns = record { left = 0; right = 0; gave = 0; morsels = 0; packets = 0; waits = 0 }
+
+-- with a morsel, if one came
+abbrev pub with_morsel : OperatorCounts → Polled → OperatorCounts
+with_morsel c (polled.Gave t) = record c { left = capped (c.left + length t.rows); morsels = capped (c.morsels + 1) }
+with_morsel c _ = c
+
+-- with what it got for a turn
+abbrev pub with_got : OperatorCounts → Want → Got → OperatorCounts
+with_got c want.Morsel (got.Input p) = with_morsel c p
+with_got c want.Left (got.Input p) = record c { left = capped (c.left + rows_in p) }
+with_got c want.Right (got.Input p) = record c { right = capped (c.right + rows_in p) }
+with_got c (want.Packet i) (got.Packet (Some p)) = record c { packets = capped (c.packets + 1) }
+with_got c (want.Packet i) (got.Packet None) = record c { waits = capped (c.waits + 1) }
+with_got c _ _ = c
+
+-- with what it gave for a turn
+abbrev pub with_given : OperatorCounts → Polled → OperatorCounts
+with_given c p = record c { gave = capped (c.gave + rows_in p) }
+
+-- the sum of f 0, f 1, and so on, n of them
+abbrev pub sum_below : ℕ → (ℕ → ℕ) → ℕ
+sum_below zero f = 0
+sum_below (suc n) f = sum_below n f + f n
+
+-- the counts are those of the ledger: the rows that came from the left and from the right, the rows that were returned, and the packets of all
+-- producers below any place from which on none sent one
+pub record AreCounts (c : OperatorCounts) (l : Ledger) : Type 0 where
+  pub left : c.left ≡ capped (length l.left.rows)
+  pub right : c.right ≡ capped (length l.right.rows)
+  pub gave : c.gave ≡ capped (length l.gave.rows)
+  pub packets : (n : ℕ) → ((i : ℕ) → n ≤ i → l.came i ≡ []) → c.packets ≡ capped (sum_below n (λ i. length (l.came i)))
