@@ -27,7 +27,7 @@ fn shown(alloc: Global, line: &str) -> Result<String, Fail> {
 fn described(alloc: Global, request: &Request<'_>) -> Result<String, AllocError> {
     let asked = &request.asked;
     match request.threads {
-        None | Some(0) => format!(in alloc; "{asked:?}"),
+        None | Some(1) => format!(in alloc; "{asked:?}"),
         Some(threads) => format!(in alloc; "{asked:?}, {threads} threads"),
     }
 }
@@ -90,8 +90,8 @@ const ASKED: [(&str, &str); 18] = [
         r#"RunPlans(ManySources { catalog: "c", plans: ["p", "-", "p"] }, "d", Limits { packet: "256", morsel: "1024", slack: "8", mode: "rounds", sizes: ["many=4"] })"#,
     ),
     (
-        "volcano serial --catalog c --plan p --data d --threads=1",
-        r#"Serial(Sources { catalog: "c", plan: "p" }, "d"), 1 threads"#,
+        "volcano serial --catalog c --plan p --data d --threads=2",
+        r#"Serial(Sources { catalog: "c", plan: "p" }, "d"), 2 threads"#,
     ),
     (
         "volcano run --threads 4 --catalog c --plan p --data d",

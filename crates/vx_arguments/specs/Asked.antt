@@ -57,7 +57,7 @@ judging_app name = reading_app name (path_rule (codes "plan"))
 
 -- how many threads load each table
 abbrev pub threads_rule : Rule
-threads_rule = number_rule (codes "threads") (codes "0")
+threads_rule = number_rule (codes "threads") (codes "1")
 
 abbrev pub serial_app : App
 serial_app = with_rule (with_rule (judging_app (codes "serial")) (path_rule (codes "data"))) threads_rule

@@ -119,7 +119,7 @@ fn threads_option<'a>(alloc: Global) -> Arg<'a>
     number_option(
         alloc,
         "threads",
-        "0",
+        "1",
         "How many threads load each table; 0 is one for each processor",
     )
 }

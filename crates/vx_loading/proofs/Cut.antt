@@ -1,5 +1,5 @@
 -- A text is cut before a line feed, behind bytes without a quote: what is read of its parts is what is read of it.
-use Rattle.std.proofs.Common.{◌≡◌, ◌≢◌, ℕ, ◌+◌, ◌-◌, ◌≤◌, ◌==◌, List, [], ◌∷◌, ◌++◌, Bool, true, false, cond, not, Result, Ok, Err, refl, sym, ap, subst, ◌∙◌, arith, length, le-ltb}
+use Rattle.std.proofs.Common.{◌≡◌, ◌≢◌, ℕ, ◌≤◌, ◌==◌, List, [], ◌∷◌, ◌++◌, Bool, true, false, cond, not, Result, Ok, Err, refl, sym, ap, subst, ◌∙◌, arith, length}
 use Rattle.std.specs.Prelude.{◌||◌, ◌&&◌}
 use Rattle.std.specs.List.{list_any}
 use Rattle.csv.specs.Machine.{next_record}
@@ -9,11 +9,9 @@ use Rattle.std.proofs.lemmas.Bool.{eqb-true}
 use Rattle.vx_values.specs.Values.{Row}
 use Rattle.vx_values.specs.declared.value.ColType.{ColType}
 use Rattle.vx_relations.specs.Walk.{◌>>=◌}
-use Rattle.vx_relations.proofs.Accepted.{ok_bind}
 use Rattle.vx_catalog.specs.declared.fault.LoadFault.{LoadFault}
 use Rattle.vx_catalog.specs.declared.fault.LoadFault.TheVariants as fault
 use Rattle.vx_catalog.specs.Loading.{records_of, is_header, row_added, rows_onto, under_header, max_rows}
-use Rattle.vx_catalog.proofs.RowFacts.{row_added_few}
 use Rattle.vx_split.specs.Split.{is_unquoted}
 use Rattle.vx_split.proofs.SplitFacts.{split_law}
 use Rattle.vx_loading.specs.Pieces.{behind, may_cut_before, rows_of_text}

@@ -1,13 +1,12 @@
 -- The tables of pieces, one behind the other.
-use Rattle.std.proofs.Common.{inl, inr, ◌≡◌, ℕ, ◌+◌, ◌-◌, ◌<◌, ◌≤◌, List, [], ◌∷◌, ◌++◌, Option, Some, None, Bool, true, false, cond, Result, Ok, Err, refl, sym, ap, subst, ◌∙◌, arith, length, zero, suc, drop, add-one, flat_map, get_or, nat_lt, lt-ltb, le-ltb, append_assoc}
-use Rattle.std.specs.Prelude.{All, IfOk, slice_index_or}
+use Rattle.std.proofs.Common.{inl, inr, ◌≡◌, ℕ, ◌+◌, ◌<◌, ◌≤◌, List, [], ◌∷◌, ◌++◌, Option, Some, Bool, true, false, cond, Result, Ok, Err, refl, sym, ap, subst, ◌∙◌, arith, length, zero, suc, drop, get_or, nat_lt, lt-ltb, le-ltb, append_assoc}
 use Rattle.std.proofs.lemmas.List.{append-nil, length-append, length_push, get_or_append_left, get_or_push}
 use Rattle.std.proofs.lemmas.Grind.{flat_map-append}
 use Rattle.std.proofs.lemmas.Bool.{cases_lt}
 use Rattle.vx_values.specs.Values.{Row}
 use Rattle.vx_values.specs.declared.value.ColType.{ColType}
 use Rattle.vx_rows.specs.View.{RowsView}
-use Rattle.vx_rows.specs.Parts.{rows_of_all, HaveTypes}
+use Rattle.vx_rows.specs.Parts.{rows_of_all}
 use Rattle.vx_relations.specs.Walk.{◌>>=◌}
 use Rattle.vx_catalog.specs.declared.fault.LoadFault.{LoadFault}
 use Rattle.vx_catalog.specs.declared.fault.LoadFault.TheVariants as fault

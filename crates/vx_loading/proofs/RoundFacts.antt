@@ -1,8 +1,7 @@
 -- A round: the pieces of a text between its cuts, and what is left before each of them.
-use Rattle.std.proofs.Common.{◌≡◌, ℕ, ◌+◌, ◌-◌, ◌<◌, ◌≤◌, List, [], ◌∷◌, ◌++◌, Option, Some, true, Result, refl, sym, ap, subst, ◌∙◌, arith, length, take, drop, get_or, append_assoc}
+use Rattle.std.proofs.Common.{◌≡◌, ℕ, ◌+◌, ◌-◌, ◌<◌, ◌≤◌, List, ◌++◌, Option, true, Result, sym, ap, ◌∙◌, arith, length, drop, get_or, append_assoc}
 use Rattle.std.specs.Prelude.{slice_range}
 use Rattle.std.proofs.lemmas.List.{take-append-drop, drop-drop}
-use Rattle.vx_values.specs.Values.{Row}
 use Rattle.vx_values.specs.declared.value.ColType.{ColType}
 use Rattle.vx_rows.specs.View.{RowsView}
 use Rattle.vx_catalog.specs.declared.fault.LoadFault.{LoadFault}

@@ -7,4 +7,5 @@ mod load;
 mod pieces;
 mod text;
 
-pub use load::{load_in_pieces, load_in_threads};
+pub use load::{load_in_shares, load_in_threads};
+pub use text::Shares;

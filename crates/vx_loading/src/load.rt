@@ -5,7 +5,7 @@ ghost use Rattle.vx_relations.specs.Relation.{Meets};
 ghost use Rattle.vx_relations.specs.Catalog.{relation_at, IsRelation};
 ghost use Rattle.vx_catalog.specs.Loading.{Gives, tested, load_of, max_rows};
 
-use crate::text::read_in_threads;
+use crate::text::{Shares, read_in_threads};
 use std::alloc::Global;
 use std::marker::Brand;
 use std::thread::Threads;
@@ -15,6 +15,9 @@ use vx_rows::Table;
 
 // More threads than this are never started.
 const MOST_THREADS: usize = 64;
+
+// A text of fewer bytes is read by one thread, since starting threads costs more than they save.
+const LEAST: usize = 256 << 10;
 
 // Tests rows that a table has. That they fit its types, the table says itself.
 fn test_table(alloc: Global, relation: &Relation, rows: Table) -> Result<Table, LoadFault>
@@ -35,11 +38,11 @@ fn load_text<'p, P: Threads + Sync, R: ByteIn, T: Origin>(
     rt: &P,
     alloc: Global,
     relation: &Relation,
-    threads: usize,
+    shares: Shares,
     port: &'p mut R,
     loaded: &mut Result<Table, LoadFault>,
 ) -> Lent<'p, R>
-    requires threads { 0 < threads }
+    requires threads { 0 < shares.threads }
     requires text { R.remaining port.now ≡ T.text }
     requires whole { T.is_reliable ≡ true → (R.is_reliable port.now ≡ true) × (R.has_failed port.now ≡ false) }
     requires same { port.ghost_name ≡ T.name }
@@ -53,7 +56,7 @@ fn load_text<'p, P: Threads + Sync, R: ByteIn, T: Origin>(
     ensures reliable { T.is_reliable ≡ true → R.has_failed result.port.now ≡ false }
 {
     let mut source = Counted::<R, T>::new(port);
-    let read = read_in_threads(rt, alloc, relation, threads, &mut source);
+    let read = read_in_threads(rt, alloc, relation, shares, &mut source);
     let tested = match source.settle(read) {
         Ok(rows) => test_table(alloc, relation, rows),
         Err(fault) => Err(fault),
@@ -62,17 +65,17 @@ fn load_text<'p, P: Threads + Sync, R: ByteIn, T: Origin>(
     source.into_lent()
 }
 
-/// `load_in_threads`, with as many threads as are given, for a short text too.
-pub fn load_in_pieces<P: Threads + Sync, R: ByteIn>(
+/// `load_in_threads`, where the caller says how the text is shared out.
+pub fn load_in_shares<P: Threads + Sync, R: ByteIn>(
     rt: &P,
     alloc: Global,
     catalog: &Catalog,
     relation: usize,
-    threads: usize,
+    shares: Shares,
     reader: &mut R,
 ) -> Result<Loaded, LoadFault>
     requires there { relation < length catalog.now }
-    requires threads { 0 < threads }
+    requires threads { 0 < shares.threads }
     ensures known { R.has_failed reader.new ≡ false → IfSome (R.remaining reader.old) (λ bytes. Gives (λ l. l.rows) result (load_of (relation_at catalog.now relation) bytes)) }
     ensures catalog { IfOk result (λ l. l.catalog ≡ catalog.now) }
     ensures relation { IfOk result (λ l. l.relation ≡ relation) }
@@ -85,7 +88,7 @@ pub fn load_in_pieces<P: Threads + Sync, R: ByteIn>(
         rt,
         alloc,
         catalog.get(relation),
-        threads,
+        shares,
         reader,
         &mut read,
     );
@@ -126,12 +129,9 @@ pub fn load_in_threads<P: Threads + Sync, R: ByteIn>(
     if threads < 2 {
         return Loader::load(alloc, catalog, relation, reader);
     }
-    load_in_pieces(
-        rt,
-        alloc,
-        catalog,
-        relation,
-        threads.min(MOST_THREADS),
-        reader,
-    )
+    let shares = Shares {
+        threads: threads.min(MOST_THREADS),
+        least: LEAST,
+    };
+    load_in_shares(rt, alloc, catalog, relation, shares, reader)
 }

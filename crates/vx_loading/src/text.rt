@@ -16,6 +16,13 @@ use std::thread::Threads;
 use vx_catalog::{LoadFault, Relation, read_text};
 use vx_rows::Table;
 
+/// How a text is shared out: how many threads read it, at least one, and how many bytes it has at least, if it is.
+#[derive(Clone, Copy, Debug)]
+pub struct Shares {
+    pub threads: usize,
+    pub least: usize,
+}
+
 // Rows behind others, if there are not too many.
 #[tactic(auto, unfolding(crate::specs::Pieces::behind))]
 fn join(front: Table, rest: Table) -> Result<Table, LoadFault>
@@ -78,25 +85,28 @@ fn read_alone(alloc: Global, relation: &Relation, text: &[u8]) -> Result<Table, 
     read_text(alloc, relation, &mut reader)
 }
 
-// The rows under the header of a text. One reader reads it, if its first line has a quote or no record.
+// The rows under the header of a text. One reader reads it, if it is short, or its first line has a quote or no record.
 fn read_under<P: Threads + Sync>(
     rt: &P,
     alloc: Global,
     relation: &Relation,
-    threads: usize,
+    shares: Shares,
     text: &[u8],
 ) -> Result<Table, LoadFault>
-    requires { 0 < threads }
+    requires { 0 < shares.threads }
     ensures types { IfOk result (λ r. r.types ≡ relation.now.types) }
     ensures few { IfOk result (λ r. length r.rows ≤ max_rows) }
     ensures rows { Gives (λ r. r.rows) result (rows_under relation.now text.now) }
 {
+    if text.len() < shares.least {
+        return read_alone(alloc, relation, text);
+    }
     let end = first_cut(text);
     if !is_unquoted(&text[..end]) {
         return read_alone(alloc, relation, text);
     }
     match read_first_line(alloc, relation, &text[..end])? {
-        Some(rows) => read_behind(rt, alloc, threads, rows, &text[end..]),
+        Some(rows) => read_behind(rt, alloc, shares.threads, rows, &text[end..]),
         None => read_alone(alloc, relation, text),
     }
 }
@@ -106,10 +116,10 @@ pub fn read_in_threads<P: Threads + Sync, S: Read>(
     rt: &P,
     alloc: Global,
     relation: &Relation,
-    threads: usize,
+    shares: Shares,
     source: &mut S,
 ) -> Result<Table, LoadFault>
-    requires { 0 < threads }
+    requires { 0 < shares.threads }
     ensures types { IfOk result (λ r. r.types ≡ relation.now.types) }
     ensures few { IfOk result (λ r. length r.rows ≤ max_rows) }
     ensures rows { IfSome (S.remaining source.old) (λ text. Gives (λ r. r.rows) result (rows_under relation.now text)) }
@@ -120,5 +130,5 @@ pub fn read_in_threads<P: Threads + Sync, S: Read>(
     if source.read_to_end(&mut text).is_err() {
         return Err(LoadFault::NoMemory);
     }
-    read_under(rt, alloc, relation, threads, text.as_slice())
+    read_under(rt, alloc, relation, shares, text.as_slice())
 }

@@ -44,14 +44,7 @@ impl<P: Threads + Sync, F: Store> Tables for Folder<'_, P, F> {
             Some(file) => file,
             None => return Err(Refusal::FileUnreadable { path }),
         };
-        let loaded = load_in_threads(
-            self.rt,
-            alloc,
-            catalog,
-            relation,
-            self.threads,
-            &mut file,
-        )?;
+        let loaded = load_in_threads(self.rt, alloc, catalog, relation, self.threads, &mut file)?;
         Ok(loaded)
     }
 }

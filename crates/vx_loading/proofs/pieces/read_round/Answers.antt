@@ -1,4 +1,4 @@
-use Rattle.std.proofs.Common.{◌≡◌, ◌≤◌, ◌<◌, ◌-◌, ◌++◌, [], arith, length, sym, ◌∙◌, ap, subst, refl, drop, get_or}
+use Rattle.std.proofs.Common.{◌≡◌, ◌<◌, ◌++◌, [], arith, length, sym, ◌∙◌, ap, subst, refl, drop, get_or}
 use Rattle.std.proofs.lemmas.Result.{err_from_is_err_and}
 use Rattle.std.proofs.lemmas.List.{get_or_read}
 use Rattle.vx_rows.specs.Parts.{rows_of_all, HaveTypes}

@@ -2,7 +2,7 @@ use Rattle.std.proofs.Common.{rules, ◌≡◌, ◌<◌, ◌≤◌, ◌+◌, ◌
 use Rattle.std.specs.Vec.Iter.{into_iter_items}
 use Rattle.std.proofs.lemmas.List.{length_push}
 use Rattle.vx_catalog.specs.Loading.{Fails, max_rows}
-use Rattle.vx_loading.specs.Pieces.{rows_of_text, Joined}
+use Rattle.vx_loading.specs.Pieces.{rows_of_text}
 use Rattle.vx_loading.proofs.JoinFacts.{next_is, joined_more, joined_over, joined_stop, count_pushed}
 use Rattle.vx_loading.proofs.pieces.tables_of.Goals as goal
 

@@ -1,4 +1,4 @@
-use Rattle.std.proofs.Common.{[], ◌≡◌, ◌++◌, ◌∙◌, ap, subst, sym, refl, drop}
+use Rattle.std.proofs.Common.{[], ◌∙◌, ap, subst, sym, refl, drop}
 use Rattle.std.proofs.lemmas.List.{append-nil}
 use Rattle.std.proofs.lemmas.Result.{err_from_is_err_and}
 use Rattle.vx_catalog.specs.Loading.{Fails, Gives}

@@ -1,6 +1,5 @@
-use Rattle.std.proofs.Common.{[], ◌∙◌, subst, sym, length}
-use Rattle.vx_catalog.specs.Loading.{Fails, Gives}
-use Rattle.vx_loading.specs.Pieces.{fault_behind, rows_of_text}
+use Rattle.std.proofs.Common.{subst}
+use Rattle.vx_catalog.specs.Loading.{Gives}
 use Rattle.vx_loading.proofs.JoinFacts.{fails_behind, ok_behind}
 use Rattle.vx_loading.proofs.text.read_rest.Goals as goal
 

@@ -1,5 +1,5 @@
 use Rattle.std.proofs.Common.{◌&&◌, not}
-use Rattle.vx_loading.proofs.load.load_in_pieces.Given as goal
+use Rattle.vx_loading.proofs.load.load_in_shares.Given as goal
 
 abbrev pub ghosts-load_text : goal.ghosts-load_text
 ghosts-load_text g a = record {
