@@ -13,8 +13,8 @@ _volcano() {
         return
     fi
     case ${COMP_WORDS[1]} in
-        run) options='--catalog --data --packet --morsel --slack --mode --threads --help' words='--plan' ;;
-        serial) options='--catalog --plan --data --threads --help' ;;
+        run) options='--catalog --data --packet --morsel --slack --mode --help' words='--plan' ;;
+        serial) options='--catalog --plan --data --help' ;;
         check) options='--catalog --plan --all --help' ;;
         explain) options='--catalog --plan --format --help' ;;
         annotate) options='--catalog --plan --help' ;;
@@ -32,7 +32,7 @@ _volcano() {
             compopt -o filenames && mapfile -t COMPREPLY < <(compgen -d -- "$word")
             return
             ;;
-        --packet | --morsel | --slack | --threads | --rows)
+        --packet | --morsel | --slack | --rows)
             return
             ;;
         --mode)

@@ -3,7 +3,7 @@
 use clap::Error;
 use std::alloc::{AllocError, Global};
 use std::test::Fail;
-use vx_arguments::{Request, asked_for};
+use vx_arguments::{Asked, asked_for};
 
 // The words of a line.
 fn words_of<'a>(alloc: Global, line: &'a str) -> Result<Vec<&'a str>, AllocError> {
@@ -18,18 +18,14 @@ fn words_of<'a>(alloc: Global, line: &'a str) -> Result<Vec<&'a str>, AllocError
 fn shown(alloc: Global, line: &str) -> Result<String, Fail> {
     let words = words_of(alloc, line)?;
     match asked_for(alloc, words.as_slice()) {
-        Ok(Some(request)) => Ok(described(alloc, &request)?),
+        Ok(Some(asked)) => Ok(described(alloc, &asked)?),
         Ok(None) => Ok(String::from_str(alloc, "nothing")?),
         Err(error) => Ok(kind_of(alloc, &error)?),
     }
 }
 
-fn described(alloc: Global, request: &Request<'_>) -> Result<String, AllocError> {
-    let asked = &request.asked;
-    match request.threads {
-        None | Some(1) => format!(in alloc; "{asked:?}"),
-        Some(threads) => format!(in alloc; "{asked:?}, {threads} threads"),
-    }
+fn described(alloc: Global, asked: &Asked<'_>) -> Result<String, AllocError> {
+    format!(in alloc; "{asked:?}")
 }
 
 fn kind_of(alloc: Global, error: &Error) -> Result<String, AllocError> {
@@ -38,7 +34,7 @@ fn kind_of(alloc: Global, error: &Error) -> Result<String, AllocError> {
 }
 
 // Lines, and what each asks for.
-const ASKED: [(&str, &str); 18] = [
+const ASKED: [(&str, &str); 16] = [
     ("volcano", "Bundle"),
     (
         "volcano check --catalog c --plan=-",
@@ -88,14 +84,6 @@ const ASKED: [(&str, &str); 18] = [
     (
         "volcano run --catalog c --plan p --plan - --plan p --data d many=4",
         r#"RunPlans(ManySources { catalog: "c", plans: ["p", "-", "p"] }, "d", Limits { packet: "256", morsel: "1024", slack: "8", mode: "rounds", sizes: ["many=4"] })"#,
-    ),
-    (
-        "volcano serial --catalog c --plan p --data d --threads=2",
-        r#"Serial(Sources { catalog: "c", plan: "p" }, "d"), 2 threads"#,
-    ),
-    (
-        "volcano run --threads 4 --catalog c --plan p --data d",
-        r#"Run(Sources { catalog: "c", plan: "p" }, "d", Limits { packet: "256", morsel: "1024", slack: "8", mode: "rounds", sizes: [] }), 4 threads"#,
     ),
     ("volcano gen --rows 0", "Generate(0)"),
     (

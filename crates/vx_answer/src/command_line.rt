@@ -14,7 +14,6 @@ use crate::command::execute;
 use crate::failing::{Verdict, verdict_on};
 use crate::files::{document_from_files, is_input, plan_from_files};
 use crate::forms::{PlanForm, form_named, plan_in_form};
-use crate::loading::loading_threads;
 use crate::plans::{accepted_plans, catalog_under};
 use crate::program::outcome_of;
 use crate::runs::{Stopped, run_each};
@@ -259,7 +258,7 @@ fn job_in<'a>(alloc: Global, asked: &Asked<'a>) -> Result<Option<Job<'a>>, Alloc
     }
 }
 
-// The text that answers a task, whose tables so many threads load.
+// The text that answers a task.
 fn answer_task<T: Threads + Wait + Sync, F: Store, I: ByteIn>(
     rt: &T,
     alloc: Global,
@@ -267,17 +266,14 @@ fn answer_task<T: Threads + Wait + Sync, F: Store, I: ByteIn>(
     files: &F,
     input: &mut I,
     task: &FileCommand<'_>,
-    threads: usize,
 ) -> Result<Vec<u8>, Refusal>
     ensures text { IfOk result (λ text. AnswersTask (F.holds files.now) (I.remaining input.old) (task_is task.now) text.items) }
     ensures refused { IfErr result (λ e. TaskRefuses (F.holds files.now) (F.is_reliable files.now) (I.remaining input.old) (I.has_failed input.new) (task_is task.now) e) }
 {
     let plan = plan_from_files(alloc, files, input, task.sources)?;
     let folder = Folder {
-        rt,
         files,
         path: task.folder,
-        threads,
     };
     execute(rt, alloc, seed, task.command, &folder, &task.setting, plan)
 }
@@ -290,7 +286,6 @@ fn answer_plans<T: Threads + Wait + Sync, F: Store, I: ByteIn>(
     files: &F,
     input: &mut I,
     task: &FilePlans<'_>,
-    threads: usize,
 ) -> Result<Vec<u8>, ArgumentFault>
     ensures text { IfOk result (λ text. AnswersPlans (F.holds files.now) (I.remaining input.old) (many_are task.now.sources) task.now.folder.now task.now.setting text.items) }
     ensures refused { IfErr result (IsPlansFault (F.holds files.now) (F.is_reliable files.now) (I.remaining input.old) (I.has_failed input.new) (many_are task.now.sources) task.now.folder.now task.now.setting) }
@@ -300,10 +295,8 @@ fn answer_plans<T: Threads + Wait + Sync, F: Store, I: ByteIn>(
     let paths = task.sources.plans.as_slice();
     let plans = accepted_plans(alloc, files, input, was_read, &catalog, paths)?;
     let folder = Folder {
-        rt,
         files,
         path: task.folder,
-        threads,
     };
     let database = load_scanned(alloc, seed, &catalog, &plans, &folder)?;
     let text = run_each(rt, alloc, &task.setting, plans.plans.as_slice(), &database)?;
@@ -400,7 +393,7 @@ fn usage_error(alloc: Global, text: &str) -> ArgumentFault
     }
 }
 
-// What answers what arguments ask for, where so many threads load a table.
+// What answers what arguments ask for.
 fn answer_asked<T: Threads + Wait + Sync, F: Store, I: ByteIn>(
     rt: &T,
     alloc: Global,
@@ -408,7 +401,6 @@ fn answer_asked<T: Threads + Wait + Sync, F: Store, I: ByteIn>(
     files: &F,
     input: &mut I,
     asked: &Asked<'_>,
-    threads: usize,
 ) -> Result<ArgumentAnswer, ArgumentFault>
     ensures answer { IfOk result (λ a. IsAskAnswer (F.holds files.now) (I.remaining input.old) (asked_is asked.now) a) }
     ensures refused { IfErr result (IsAskFault (F.holds files.now) (F.is_reliable files.now) (I.remaining input.old) (I.has_failed input.new) (asked_is asked.now)) }
@@ -416,7 +408,7 @@ fn answer_asked<T: Threads + Wait + Sync, F: Store, I: ByteIn>(
     match job_in(alloc, asked)? {
         Some(Job::Bundle) => Ok(ArgumentAnswer::Text(outcome_of(rt, alloc, seed, input)?)),
         Some(Job::Command(task)) => {
-            let text = answer_task(rt, alloc, seed, files, input, &task, threads)?;
+            let text = answer_task(rt, alloc, seed, files, input, &task)?;
             Ok(ArgumentAnswer::Text(text))
         }
         Some(Job::Verdict(sources)) => answer_verdict(alloc, files, input, sources),
@@ -433,7 +425,7 @@ fn answer_asked<T: Threads + Wait + Sync, F: Store, I: ByteIn>(
             Ok(ArgumentAnswer::Text(text))
         }
         Some(Job::Plans(task)) => {
-            let text = answer_plans(rt, alloc, seed, files, input, &task, threads)?;
+            let text = answer_plans(rt, alloc, seed, files, input, &task)?;
             Ok(ArgumentAnswer::Text(text))
         }
         Some(Job::Entry(text)) => {
@@ -486,10 +478,7 @@ pub fn answer_arguments<T: Threads + Wait + Sync, F: Store, I: ByteIn>(
 {
     let arguments = with_program_name(alloc, arguments)?;
     match asked_for(alloc, arguments.as_slice()) {
-        Ok(Some(request)) => {
-            let threads = loading_threads(rt, request.threads);
-            answer_asked(rt, alloc, seed, files, input, &request.asked, threads)
-        }
+        Ok(Some(asked)) => answer_asked(rt, alloc, seed, files, input, &asked),
         Ok(None) => Err(usage_error(alloc, "volcano: these words ask for nothing\n")),
         Err(error) => help_or_fault(alloc, &error),
     }

@@ -10,7 +10,6 @@ mod failing;
 mod files;
 mod forms;
 mod laws;
-mod loading;
 mod plans;
 mod program;
 mod run;

@@ -55,18 +55,13 @@ reading_app name plan = with_rule (with_rule (new_app name) (path_rule (codes "c
 abbrev pub judging_app : Text → App
 judging_app name = reading_app name (path_rule (codes "plan"))
 
--- how many threads load each table
-abbrev pub threads_rule : Rule
-threads_rule = number_rule (codes "threads") (codes "1")
-
 abbrev pub serial_app : App
-serial_app = with_rule (with_rule (judging_app (codes "serial")) (path_rule (codes "data"))) threads_rule
+serial_app = with_rule (judging_app (codes "serial")) (path_rule (codes "data"))
 
 abbrev pub run_app : App
 run_app =
-    with_rule (with_rule (with_rule (with_rule (with_rule (with_rule (with_rule (reading_app (codes "run") plans_rule) (path_rule (codes "data")))
-    (number_rule (codes "packet") (codes "256"))) (number_rule (codes "morsel") (codes "1024"))) (number_rule (codes "slack") (codes "8"))) (word_rule (codes "mode") (codes "rounds")))
-    threads_rule) sizes_rule
+    with_rule (with_rule (with_rule (with_rule (with_rule (with_rule (reading_app (codes "run") plans_rule) (path_rule (codes "data")))
+    (number_rule (codes "packet") (codes "256"))) (number_rule (codes "morsel") (codes "1024"))) (number_rule (codes "slack") (codes "8"))) (word_rule (codes "mode") (codes "rounds"))) sizes_rule
 
 abbrev pub gen_app : App
 gen_app = with_rule (new_app (codes "gen")) rows_rule
@@ -179,18 +174,9 @@ ask_of (Some p) =
     else if bytes_eq p.0 (codes "gen") then generate_of p.1
     else None
 
--- how many threads a subcommand with these matches is to load with, where it loads
-abbrev pub threads_of : Option (Text × List Row) → Option ℕ
-threads_of None = None
-threads_of (Some p) = option_and_then number_of (first_of (codes "threads") p.1)
-
 -- what the arguments ask for, the program's name first
 unfoldable pub asked_by : List Text → Option Ask
 asked_by arguments = ask_of (subcommand_of volcano_app arguments)
-
--- how many threads they ask to load with
-unfoldable pub threads_by : List Text → Option ℕ
-threads_by arguments = threads_of (subcommand_of volcano_app arguments)
 
 -- the kinds that a refusal of the arguments may have; none if they are accepted
 unfoldable pub faults_of : List Text → Kinds

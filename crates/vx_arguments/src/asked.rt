@@ -1,8 +1,8 @@
 //! What the command-line arguments ask for.
 
-ghost use Rattle.std.specs.Prelude.{◌≡◌, IfOk, IfSome, false, map, option_map, option_and_then, codes};
+ghost use Rattle.std.specs.Prelude.{◌≡◌, IfOk, false, map, option_map, option_and_then, codes};
 ghost use Rattle.clap.specs.Words.{FailsBy, fault_of, rows_of, found_of, first_of, all_of, subcommand_of, subcommand_rows_of};
-ghost use Rattle.vx_arguments.specs.Asked.{volcano_app, paths_of, given_of, sizes_of, serial_of, check_of, explain_of, sql_of, run_for, run_of, number_of, generate_of, ask_of, asked_by, threads_of, threads_by, faults_of, paths_are, given_is, asked_is};
+ghost use Rattle.vx_arguments.specs.Asked.{volcano_app, paths_of, given_of, sizes_of, serial_of, check_of, explain_of, sql_of, run_for, run_of, number_of, generate_of, ask_of, asked_by, faults_of, paths_are, given_is, asked_is};
 
 use crate::command_line::command;
 use clap::{ArgMatches, Error};
@@ -56,14 +56,6 @@ pub enum Asked<'a> {
     RunPlans(ManySources<'a>, &'a str, Limits<'a>),
     /// The text of the relation with so many rows.
     Generate(u64),
-}
-
-/// What the arguments ask for, and how tables are loaded for it.
-#[derive(Debug, Drop)]
-pub struct Request<'a> {
-    pub asked: Asked<'a>,
-    /// How many threads load each table, where the command loads any; 0 is one for each processor.
-    pub threads: Option<u64>,
 }
 
 // The first value of an option.
@@ -239,25 +231,12 @@ fn asked_in<'a>(alloc: Global, matches: &ArgMatches<'a>) -> Result<Option<Asked<
     }
 }
 
-// How many threads matches ask for.
-fn threads_in(matches: &ArgMatches<'_>) -> Option<u64>
-    ensures { result ≡ threads_of (subcommand_rows_of matches.now) }
-{
-    let (_, found) = matches.subcommand()?;
-    number_in(value(found, "threads")?)
-}
-
 /// What the arguments ask for, the program's name first. An `Err` is running out of memory, a usage error, or help.
-#[tactic(auto, unfolding(crate::specs::Asked::asked_by, crate::specs::Asked::threads_by, crate::specs::Asked::faults_of))]
-pub fn asked_for<'a>(alloc: Global, arguments: &'a [&'a str]) -> Result<Option<Request<'a>>, Error>
-    ensures asked { IfOk result (λ o. option_map (λ r. asked_is r.asked) o ≡ asked_by (map (λ w. w.now) arguments.entry.now)) }
-    ensures threads { IfOk result (λ o. IfSome o (λ r. r.threads ≡ threads_by (map (λ w. w.now) arguments.entry.now))) }
+#[tactic(auto, unfolding(crate::specs::Asked::asked_by, crate::specs::Asked::faults_of))]
+pub fn asked_for<'a>(alloc: Global, arguments: &'a [&'a str]) -> Result<Option<Asked<'a>>, Error>
+    ensures asked { IfOk result (λ o. option_map asked_is o ≡ asked_by (map (λ w. w.now) arguments.entry.now)) }
     ensures faults { FailsBy (faults_of (map (λ w. w.now) arguments.entry.now)) result }
 {
     let matches = matches_in(alloc, arguments)?;
-    let threads = threads_in(&matches);
-    match asked_in(alloc, &matches)? {
-        Some(asked) => Ok(Some(Request { asked, threads })),
-        None => Ok(None),
-    }
+    Ok(asked_in(alloc, &matches)?)
 }

@@ -3,7 +3,7 @@
 ghost use Rattle.std.specs.Prelude.{◌≡◌, IfOk, false, codes};
 ghost use Rattle.clap.specs.Words.{app_of, rule_of};
 ghost use Rattle.clap.specs.declared.builder.command.Command.TheViews.{out-Command as fields_of};
-ghost use Rattle.vx_arguments.specs.Asked.{path_rule, plans_rule, number_rule, threads_rule, rows_rule, word_rule, flag_rule, code_rule, sizes_rule, reading_app, judging_app, serial_app, run_app, check_app, explain_app, sql_app, why_app, gen_app, program_app, volcano_app};
+ghost use Rattle.vx_arguments.specs.Asked.{path_rule, plans_rule, number_rule, rows_rule, word_rule, flag_rule, code_rule, sizes_rule, reading_app, judging_app, serial_app, run_app, check_app, explain_app, sql_app, why_app, gen_app, program_app, volcano_app};
 
 use clap::{Arg, ArgAction, Command, value_parser};
 use std::alloc::{AllocError, Global};
@@ -110,18 +110,6 @@ fn all_option<'a>(alloc: Global) -> Arg<'a>
         .long("all")
         .help("A line for each node of which a note does not follow, and what follows there")
         .action(ArgAction::SetTrue)
-}
-
-fn threads_option<'a>(alloc: Global) -> Arg<'a>
-    ensures rule { rule_of result ≡ threads_rule }
-    ensures own { result.global ≡ false }
-{
-    number_option(
-        alloc,
-        "threads",
-        "1",
-        "How many threads load each table; 0 is one for each processor",
-    )
 }
 
 fn code_argument<'a>(alloc: Global) -> Arg<'a>
@@ -235,8 +223,7 @@ fn serial<'a>(alloc: Global) -> Result<Command<'a>, AllocError>
         "Evaluates the plan without its exchanges and prints the rows as CSV; the notes of the plan are not checked",
         "Example: volcano serial --catalog catalog.json --plan plan.json --data tables",
     )?
-    .arg(data_option(alloc))?
-    .arg(threads_option(alloc))
+    .arg(data_option(alloc))
 }
 
 fn run<'a>(alloc: Global) -> Result<Command<'a>, AllocError>
@@ -270,7 +257,6 @@ fn run<'a>(alloc: Global) -> Result<Command<'a>, AllocError>
         "The most packets that wait between two workers, 1 to 1024",
     ))?
     .arg(mode_option(alloc))?
-    .arg(threads_option(alloc))?
     .arg(sizes_argument(alloc))
 }
 

@@ -5,19 +5,15 @@ ghost use Rattle.vx_tables.specs.Folder.{path_in};
 
 use crate::tables::Tables;
 use std::alloc::{AllocError, Global};
-use std::thread::Threads;
 use vx_bytes::Store;
-use vx_catalog::{Catalog, Loaded};
-use vx_loading::load_in_threads;
+use vx_catalog::{Catalog, Loaded, Loader};
 use vx_refusals::Refusal;
 
-/// A folder with a text NAME.csv for each relation NAME. Each text is loaded by so many threads, one after the other.
+/// A folder with a text NAME.csv for each relation NAME.
 #[derive(Clone, Copy)]
-pub struct Folder<'f, P, F> {
-    pub rt: &'f P,
+pub struct Folder<'f, F> {
     pub files: &'f F,
     pub path: &'f str,
-    pub threads: usize,
 }
 
 // Where the text of a relation is.
@@ -31,7 +27,7 @@ fn path_in(alloc: Global, folder: &str, name: &str) -> Result<String, AllocError
     Ok(path)
 }
 
-impl<P: Threads + Sync, F: Store> Tables for Folder<'_, P, F> {
+impl<F: Store> Tables for Folder<'_, F> {
     ghost use Rattle.vx_tables.specs.Folder.{holds_at, LacksAt};
 
     ghost holds = { λ f. holds_at (F.holds f.files.now) f.path.now };
@@ -44,7 +40,6 @@ impl<P: Threads + Sync, F: Store> Tables for Folder<'_, P, F> {
             Some(file) => file,
             None => return Err(Refusal::FileUnreadable { path }),
         };
-        let loaded = load_in_threads(self.rt, alloc, catalog, relation, self.threads, &mut file)?;
-        Ok(loaded)
+        Ok(Loader::load(alloc, catalog, relation, &mut file)?)
     }
 }
