@@ -13,8 +13,8 @@ _volcano() {
         return
     fi
     case ${COMP_WORDS[1]} in
-        run) options='--catalog --data --packet --morsel --slack --mode --threads --stats --verbose-errors --help' words='--plan' ;;
-        serial) options='--catalog --plan --data --threads --verbose-errors --help' ;;
+        run) options='--catalog --data --packet --morsel --slack --mode --threads --quiet --stats --verbose-errors --help' words='--plan' ;;
+        serial) options='--catalog --plan --data --threads --quiet --verbose-errors --help' ;;
         check) options='--catalog --plan --all --verbose-errors --help' ;;
         explain) options='--catalog --plan --format --verbose-errors --help' ;;
         annotate) options='--catalog --plan --verbose-errors --help' ;;

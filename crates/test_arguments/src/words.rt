@@ -109,7 +109,7 @@ const ASKED: [(&str, &str); 24] = [
         r#"Sql(Sources { catalog: "c", plan: "p" }, "sqlite"), verbose"#,
     ),
     (
-        "volcano serial --catalog c --plan p --data d --verbose-errors",
+        "volcano serial --catalog c --quiet --plan p --data d --verbose-errors",
         r#"Serial(Sources { catalog: "c", plan: "p" }, "d"), verbose"#,
     ),
     (

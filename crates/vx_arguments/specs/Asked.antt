@@ -64,13 +64,13 @@ abbrev pub threads_rule : Rule
 threads_rule = number_rule (codes "threads") (codes "0")
 
 abbrev pub serial_app : App
-serial_app = with_rule (with_rule (with_rule (judging_app (codes "serial")) (path_rule (codes "data"))) threads_rule) verbose_rule
+serial_app = with_rule (with_rule (with_rule (with_rule (judging_app (codes "serial")) (path_rule (codes "data"))) threads_rule) (flag_rule (codes "quiet"))) verbose_rule
 
 abbrev pub run_app : App
 run_app =
-    with_rule (with_rule (with_rule (with_rule (with_rule (with_rule (with_rule (with_rule (with_rule (reading_app (codes "run") plans_rule) (path_rule (codes "data")))
+    with_rule (with_rule (with_rule (with_rule (with_rule (with_rule (with_rule (with_rule (with_rule (with_rule (reading_app (codes "run") plans_rule) (path_rule (codes "data")))
     (number_rule (codes "packet") (codes "256"))) (number_rule (codes "morsel") (codes "1024"))) (number_rule (codes "slack") (codes "8"))) (word_rule (codes "mode") (codes "rounds")))
-    threads_rule) (word_rule (codes "stats") (codes "none"))) verbose_rule) sizes_rule
+    threads_rule) (flag_rule (codes "quiet"))) (word_rule (codes "stats") (codes "none"))) verbose_rule) sizes_rule
 
 abbrev pub gen_app : App
 gen_app = with_rule (new_app (codes "gen")) rows_rule

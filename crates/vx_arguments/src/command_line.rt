@@ -135,6 +135,16 @@ fn stats_option<'a>(alloc: Global) -> Arg<'a>
     )
 }
 
+fn quiet_option<'a>(alloc: Global) -> Arg<'a>
+    ensures rule { rule_of result ≡ flag_rule (codes "quiet") }
+    ensures own { result.global ≡ false }
+{
+    Arg::new(alloc, "quiet")
+        .long("quiet")
+        .help("No line on a terminal that says how far a long load is")
+        .action(ArgAction::SetTrue)
+}
+
 fn threads_option<'a>(alloc: Global) -> Arg<'a>
     ensures rule { rule_of result ≡ number_rule (codes "threads") (codes "0") }
     ensures own { result.global ≡ false }
@@ -260,6 +270,7 @@ fn serial<'a>(alloc: Global) -> Result<Command<'a>, AllocError>
     )?
     .arg(data_option(alloc))?
     .arg(threads_option(alloc))?
+    .arg(quiet_option(alloc))?
     .arg(verbose_option(alloc))
 }
 
@@ -295,6 +306,7 @@ fn run<'a>(alloc: Global) -> Result<Command<'a>, AllocError>
     ))?
     .arg(mode_option(alloc))?
     .arg(threads_option(alloc))?
+    .arg(quiet_option(alloc))?
     .arg(stats_option(alloc))?
     .arg(verbose_option(alloc))?
     .arg(sizes_argument(alloc))
