@@ -499,7 +499,7 @@ pub fn answer_arguments<T: Threads + Wait + Sync, F: Store, I: ByteIn>(
 {
     let arguments = with_program_name(alloc, arguments)?;
     match asked_for(alloc, arguments.as_slice()) {
-        Ok(Some(asked)) => answer_asked(rt, alloc, seed, files, input, &asked),
+        Ok(Some(request)) => answer_asked(rt, alloc, seed, files, input, &request.asked),
         Ok(None) => Err(usage_error(alloc, "volcano: these words ask for nothing\n")),
         Err(error) => help_or_fault(alloc, &error),
     }
