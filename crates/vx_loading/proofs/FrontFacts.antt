@@ -1,7 +1,7 @@
 -- The front of a text that was read, and what is held and left of it.
 use Rattle.std.proofs.Common.{◌≡◌, ℕ, List, [], ◌++◌, Option, Some, None, IsSome, Bool, true, false, Result, refl, sym, subst, ◌∙◌}
 use Rattle.std.specs.Prelude.{IfSome, option_map, if◌then◌else◌}
-use Rattle.core.specs.Fmt.{option_append}
+use Rattle.std.specs.Fmt.{option_append}
 use Rattle.std.specs.Io.KnownBytes.{prepend_known}
 use Rattle.std.specs.Io.Chain.{chain_remaining, chain_second}
 use Rattle.std.specs.declared.io.traits.Chain.{Chain}

@@ -33,9 +33,9 @@ pub fn last_cut(text: &[u8]) -> usize
     ensures within { result ≤ length text.now }
     ensures cut { 0 < result → (result < length text.now) × (may_cut_before (drop result text.now) ≡ true) }
 {
-    for i in (1..text.len()).rev() {
-        if text[i] == b'\n' {
-            return i;
+    for place in (1..text.len()).rev() {
+        if text[place] == b'\n' {
+            return place;
         }
     }
     0

@@ -1,6 +1,6 @@
 //! The rows of a whole text, by several threads.
 
-ghost use Rattle.std.specs.Prelude.{◌≡◌, ◌≢◌, ◌⊎◌, ℕ, ◌<◌, ◌≤◌, ◌++◌, List, Option, length, Ok, Err, IfErr, IfOk, IfSome, option_map};
+ghost use Rattle.std.specs.Prelude.{◌≡◌, ◌≢◌, ◌⊎◌, ℕ, ◌<◌, ◌≤◌, ◌++◌, [], List, Option, length, Ok, Err, IfErr, IfOk, IfSome, option_map};
 ghost use Rattle.csv.specs.Reading.{source_of};
 ghost use Rattle.vx_catalog.specs.Counting.{StaysKnown};
 ghost use Rattle.vx_catalog.specs.Records.{IsPlain, rest_of};
