@@ -278,7 +278,16 @@ fn answer_task<T: Threads + Wait + Sync, F: Store, I: ByteIn>(
         path: task.folder,
     };
     let setting = &task.setting;
-    execute(rt, alloc, threads, seed, task.command, &folder, setting, plan)
+    execute(
+        rt,
+        alloc,
+        threads,
+        seed,
+        task.command,
+        &folder,
+        setting,
+        plan,
+    )
 }
 
 // The texts of runs of several plans, over tables that are loaded once, each by up to so many threads.
@@ -302,8 +311,7 @@ fn answer_plans<T: Threads + Wait + Sync, F: Store, I: ByteIn>(
         files,
         path: task.folder,
     };
-    let database =
-        load_scanned_in_threads(rt, alloc, threads, seed, &catalog, &plans, &folder)?;
+    let database = load_scanned_in_threads(rt, alloc, threads, seed, &catalog, &plans, &folder)?;
     let text = run_each(rt, alloc, &task.setting, plans.plans.as_slice(), &database)?;
     Ok(text)
 }

@@ -1,5 +1,5 @@
 -- The front of a text that was read, and what is held and left of it.
-use Rattle.std.proofs.Common.{◌≡◌, ◌≢◌, ◌⊎◌, inl, inr, ℕ, List, ◌++◌, Option, Some, None, IsSome, Bool, true, false, Result, Err, sym, subst, ◌∙◌}
+use Rattle.std.proofs.Common.{◌≡◌, ◌≢◌, ◌⊎◌, inl, inr, ℕ, List, ◌++◌, Option, Some, None, IsSome, Bool, true, false, Result, Err, refl, sym, subst, ◌∙◌}
 use Rattle.std.specs.Prelude.{IfSome, option_map, if◌then◌else◌}
 use Rattle.std.specs.Fmt.{option_append}
 use Rattle.std.specs.Io.KnownBytes.{prepend_known}
@@ -53,16 +53,16 @@ rounds_fail relation e held now front (Some l) (Some m) h k = subst (Fails e) (s
 -- where the bytes of both readers of a chain are known, those of the second are
 second_known : (done : Bool) (one two : Option (List ℕ)) → IsSome (if done then two else option_append one two) → IsSome two
 second_known true one two h = h
-second_known false None two h = absurd h
-second_known false (Some one) None h = absurd h
-second_known false (Some one) (Some two) h = tt
+second_known false None two h = cc
+second_known false (Some one) None h = cc
+second_known false (Some one) (Some two) h = refl
 
 reader_known : (failed fresh : Bool) (bytes : List ℕ) (known : Option (List ℕ)) → IsSome (if failed then None else (if fresh then option_map strip_bom known else prepend_known bytes known)) → IsSome known
-reader_known true fresh bytes known h = absurd h
-reader_known false true bytes None h = absurd h
-reader_known false true bytes (Some known) h = tt
-reader_known false false bytes None h = absurd h
-reader_known false false bytes (Some known) h = tt
+reader_known true fresh bytes known h = cc
+reader_known false true bytes None h = cc
+reader_known false true bytes (Some known) h = refl
+reader_known false false bytes None h = cc
+reader_known false false bytes (Some known) h = refl
 
 module _ {A S : Type 0} (one : A → Option (List ℕ)) (two : S → Option (List ℕ)) where
   chain_known : (reader : Reader (Chain A S)) → IsSome (source_of (chain_remaining one two) reader) → IsSome (two (chain_second (reader_source reader)))
