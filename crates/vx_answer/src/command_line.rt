@@ -14,6 +14,7 @@ use crate::command::execute;
 use crate::failing::{Verdict, verdict_on};
 use crate::files::{document_from_files, is_input, plan_from_files};
 use crate::forms::{PlanForm, form_named, plan_in_form};
+use crate::loading::loading_threads;
 use crate::plans::{accepted_plans, catalog_under};
 use crate::program::outcome_of;
 use crate::runs::{Stopped, run_each};
@@ -29,7 +30,7 @@ use vx_bytes::{ByteIn, Store};
 use vx_refusals::Refusal;
 use vx_seeds::KeySeed;
 use vx_sql::Dialect;
-use vx_tables::{Folder, load_scanned};
+use vx_tables::{Folder, load_scanned_in_threads};
 use vx_why::entry;
 
 /// A command over the catalog, the plan and the folder of tables that arguments name.
@@ -258,10 +259,11 @@ fn job_in<'a>(alloc: Global, asked: &Asked<'a>) -> Result<Option<Job<'a>>, Alloc
     }
 }
 
-// The text that answers a task.
+// The text that answers a task, each table of which up to so many threads load.
 fn answer_task<T: Threads + Wait + Sync, F: Store, I: ByteIn>(
     rt: &T,
     alloc: Global,
+    threads: usize,
     seed: KeySeed,
     files: &F,
     input: &mut I,
@@ -275,13 +277,24 @@ fn answer_task<T: Threads + Wait + Sync, F: Store, I: ByteIn>(
         files,
         path: task.folder,
     };
-    execute(rt, alloc, seed, task.command, &folder, &task.setting, plan)
+    let setting = &task.setting;
+    execute(
+        rt,
+        alloc,
+        threads,
+        seed,
+        task.command,
+        &folder,
+        setting,
+        plan,
+    )
 }
 
-// The texts of runs of several plans, over tables that are loaded once.
+// The texts of runs of several plans, over tables that are loaded once, each by up to so many threads.
 fn answer_plans<T: Threads + Wait + Sync, F: Store, I: ByteIn>(
     rt: &T,
     alloc: Global,
+    threads: usize,
     seed: KeySeed,
     files: &F,
     input: &mut I,
@@ -298,7 +311,7 @@ fn answer_plans<T: Threads + Wait + Sync, F: Store, I: ByteIn>(
         files,
         path: task.folder,
     };
-    let database = load_scanned(alloc, seed, &catalog, &plans, &folder)?;
+    let database = load_scanned_in_threads(rt, alloc, threads, seed, &catalog, &plans, &folder)?;
     let text = run_each(rt, alloc, &task.setting, plans.plans.as_slice(), &database)?;
     Ok(text)
 }
@@ -393,10 +406,11 @@ fn usage_error(alloc: Global, text: &str) -> ArgumentFault
     }
 }
 
-// What answers what arguments ask for.
+// What answers what arguments ask for, where up to so many threads load a table.
 fn answer_asked<T: Threads + Wait + Sync, F: Store, I: ByteIn>(
     rt: &T,
     alloc: Global,
+    threads: usize,
     seed: KeySeed,
     files: &F,
     input: &mut I,
@@ -408,7 +422,7 @@ fn answer_asked<T: Threads + Wait + Sync, F: Store, I: ByteIn>(
     match job_in(alloc, asked)? {
         Some(Job::Bundle) => Ok(ArgumentAnswer::Text(outcome_of(rt, alloc, seed, input)?)),
         Some(Job::Command(task)) => {
-            let text = answer_task(rt, alloc, seed, files, input, &task)?;
+            let text = answer_task(rt, alloc, threads, seed, files, input, &task)?;
             Ok(ArgumentAnswer::Text(text))
         }
         Some(Job::Verdict(sources)) => answer_verdict(alloc, files, input, sources),
@@ -425,7 +439,7 @@ fn answer_asked<T: Threads + Wait + Sync, F: Store, I: ByteIn>(
             Ok(ArgumentAnswer::Text(text))
         }
         Some(Job::Plans(task)) => {
-            let text = answer_plans(rt, alloc, seed, files, input, &task)?;
+            let text = answer_plans(rt, alloc, threads, seed, files, input, &task)?;
             Ok(ArgumentAnswer::Text(text))
         }
         Some(Job::Entry(text)) => {
@@ -499,7 +513,10 @@ pub fn answer_arguments<T: Threads + Wait + Sync, F: Store, I: ByteIn>(
 {
     let arguments = with_program_name(alloc, arguments)?;
     match asked_for(alloc, arguments.as_slice()) {
-        Ok(Some(request)) => answer_asked(rt, alloc, seed, files, input, &request.asked),
+        Ok(Some(request)) => {
+            let threads = loading_threads(rt, request.threads);
+            answer_asked(rt, alloc, threads, seed, files, input, &request.asked)
+        }
         Ok(None) => Err(usage_error(alloc, "volcano: these words ask for nothing\n")),
         Err(error) => help_or_fault(alloc, &error),
     }
