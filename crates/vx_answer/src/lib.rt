@@ -10,6 +10,7 @@ mod failing;
 mod files;
 mod forms;
 mod laws;
+mod places;
 mod plans;
 mod program;
 mod run;
