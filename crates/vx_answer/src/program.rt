@@ -174,7 +174,9 @@ fn reply_to_arguments<T: Threads + Wait + Sync, F: Store, I: ByteIn, O: ByteOut,
     match answer_arguments(rt, alloc, seed, files, input, arguments) {
         Ok(ArgumentAnswer::Text(text)) => deliver(Ok(text), out, err),
         Ok(ArgumentAnswer::Relation(rows)) => write_relation(alloc, rows, out, err),
-        Err(ArgumentFault::Refused(refusal)) => refuse_in_place(alloc, files, arguments, &refusal, err),
+        Err(ArgumentFault::Refused(refusal)) => refuse_in_place(
+            alloc, files, arguments, &refusal, err,
+        ),
         Err(ArgumentFault::Failing(lines)) => write_lines(lines.as_str(), err),
         Err(ArgumentFault::Stopped(stopped)) => write_stopped(stopped, out, err),
         Err(ArgumentFault::Usage(text)) => {
