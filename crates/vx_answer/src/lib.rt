@@ -11,6 +11,7 @@ mod files;
 mod forms;
 mod laws;
 mod loading;
+mod places;
 mod plans;
 mod program;
 mod run;
