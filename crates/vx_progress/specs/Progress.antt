@@ -1,6 +1,6 @@
 -- What is counted of a relation's text, and which line is due.
 use Rattle.std.specs.Prelude.{◌≡◌, ℕ, ◌+◌, ◌-◌, ◌^◌, ◌<◌, ◌≤◌, ◌==◌, Bool, min, max, List, [], ◌++◌, if◌then◌else◌, length, count_by}
-use Rattle.vx_progress.specs.Text.{start, erased}
+use Rattle.vx_progress.specs.Text.{start, erased, shown_text}
 use Rattle.vx_progress.specs.declared.progress.Progress.{Progress}
 
 -- the sum, or the greatest number that is counted
@@ -20,13 +20,11 @@ abbrev pub is_feed : ℕ → Bool
 is_feed b = b == 10
 
 -- the bytes were counted, and the lines that end within them
-pub record Counts (old new : Progress) (chunk : List ℕ) : Type 0 where
+pub record IsCounted (old new : Progress) (chunk : List ℕ) : Type 0 where
   pub bytes : new.bytes ≡ counted old.bytes (length chunk)
   pub lines : new.lines ≡ counted old.lines (count_by is_feed chunk)
   pub name : new.name ≡ old.name
   pub size : new.size ≡ old.size
-  pub due : new.due ≡ old.due
-  pub shown : new.is_shown ≡ old.is_shown
 
 -- nothing else was counted
 pub record IsSameCount (old new : Progress) : Type 0 where
@@ -34,6 +32,10 @@ pub record IsSameCount (old new : Progress) : Type 0 where
   pub lines : new.lines ≡ old.lines
   pub name : new.name ≡ old.name
   pub size : new.size ≡ old.size
+
+-- what is written of what has been read
+abbrev pub progress_text : Progress → List ℕ
+progress_text p = shown_text p.name.items p.size p.bytes p.lines
 
 -- what is written so that no line is shown, where one is or is not
 abbrev pub ending_text : Bool → List ℕ

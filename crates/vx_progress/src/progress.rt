@@ -1,7 +1,6 @@
 //! How much of a relation's text has been read, and when the line that says so is due.
 
 ghost use Rattle.std.specs.Prelude.{◌≡◌, ◌≤◌, ◌<◌, IfOk, OnOk, IsOk, IsSomeAnd, None, true, false};
-ghost use Rattle.vx_progress.specs.Text.{shown_text};
 
 use crate::text::{ENDING, shown_text};
 use std::alloc::{AllocError, Global};
@@ -24,7 +23,7 @@ pub struct Progress {
 }
 
 impl Progress {
-    ghost use Rattle.vx_progress.specs.Progress.{first_due, next_due, Counts, IsSameCount, ending_text};
+    ghost use Rattle.vx_progress.specs.Progress.{first_due, next_due, IsCounted, IsSameCount, progress_text, ending_text};
 
     /// Nothing of the text of a relation, whose size may be known. The command began and the text was opened at these
     /// times, in milliseconds.
@@ -50,7 +49,9 @@ impl Progress {
 
     /// Counts bytes that were read.
     pub fn count(&mut self, chunk: &[u8])
-        ensures { Counts self.old self.new chunk.now }
+        ensures counted { IsCounted self.old self.new chunk.now }
+        ensures due { self.new.due ≡ self.old.due }
+        ensures shown { self.new.is_shown ≡ self.old.is_shown }
     {
         self.bytes = self.bytes.saturating_add(chunk.len() as u64);
         let feeds = chunk.iter().filter(|b| **b == b'\n').count();
@@ -60,7 +61,7 @@ impl Progress {
     /// What is to be written at a time, in milliseconds: the line, if it is due.
     pub fn take_due(&mut self, alloc: Global, now: u64) -> Result<Option<Vec<u8>>, AllocError>
         ensures early { now < self.old.due → (result ≡ Ok None) × (self.new ≡ self.old) }
-        ensures text { self.old.due ≤ now → IfOk result (λ due. IsSomeAnd due (λ text. text.items ≡ shown_text self.old.name.items self.old.size self.old.bytes self.old.lines)) }
+        ensures text { self.old.due ≤ now → IfOk result (λ due. IsSomeAnd due (λ text. text.items ≡ progress_text self.old)) }
         ensures next { self.old.due ≤ now → OnOk result (self.new.due ≡ next_due now) }
         ensures shown { self.old.due ≤ now → OnOk result (self.new.is_shown ≡ true) }
         ensures same { IsSameCount self.old self.new }

@@ -7,6 +7,7 @@ use itoa::Buffer;
 use std::alloc::{AllocError, Global};
 
 const KILOBYTE: u64 = 1_000;
+
 const MEGABYTE: u64 = 1_000_000;
 
 // To the first column of the line.
@@ -52,7 +53,11 @@ fn push_number(text: &mut Vec<u8>, number: u64) -> Result<(), AllocError>
 fn units(size: u64, bytes: u64) -> u64
     ensures { result ≡ units size bytes }
 {
-    if size < MEGABYTE { bytes / KILOBYTE } else { bytes / MEGABYTE }
+    if size < MEGABYTE {
+        bytes / KILOBYTE
+    } else {
+        bytes / MEGABYTE
+    }
 }
 
 // The name of that unit.

@@ -1,9 +1,8 @@
 //! A store whose tables show how much of them has been read.
 
-ghost use Rattle.std.specs.Prelude.{◌≡◌, ◌⊎◌, None, Some, true, false, is_none, IfSome, OnOk};
-ghost use Rattle.std.specs.Io.KnownBytes.{Appends, Keeps};
-ghost use Rattle.vx_bytes.specs.Stored.{MayBeAbsent, OpensAs};
-ghost use Rattle.vx_progress.specs.Text.{shown_text};
+ghost use Rattle.std.specs.Prelude.{◌≡◌, ◌<◌, ◌⊎◌, false};
+ghost use Rattle.std.specs.Io.KnownBytes.{Appends};
+ghost use Rattle.vx_progress.specs.Progress.{IsCounted, IsSameCount, progress_text, ending_text};
 
 use crate::name::{relation_at, shown_name};
 use crate::progress::Progress;
@@ -19,22 +18,46 @@ struct Display<'s, C: Screen> {
     progress: Progress,
 }
 
+// Erases the line, if one is shown.
+fn erase<O: ByteOut>(progress: &mut Progress, out: &mut O)
+    ensures hidden { progress.new.is_shown ≡ false }
+    ensures same { IsSameCount progress.old progress.new }
+    ensures erased { O.has_failed out.new ≡ false → Appends (O.contents out.old) (O.contents out.new) (ending_text progress.old.is_shown) }
+{
+    let text = progress.take_end();
+    let _ = write_all(out, text);
+}
+
 impl<'s, C: Screen> Display<'s, C> {
-    // Counts bytes that were read, and writes the line if it is due. Where memory runs out or the writer fails, the line
-    // is not written.
-    fn note(&mut self, chunk: &[u8]) {
+    // Writes the line, if it is due. Where memory runs out or the writer fails, it is not written.
+    fn show(&mut self, now: u64)
+        ensures early { now < self.old.progress.due → self.new.out ≡ self.old.out }
+        ensures same { IsSameCount self.old.progress self.new.progress }
+        ensures written { C.Out.has_failed self.new.out ≡ false → (self.new.out ≡ self.old.out) ⊎ Appends (C.Out.contents self.old.out) (C.Out.contents self.new.out) (progress_text self.old.progress) }
+    {
+        if let Ok(Some(text)) = self.progress.take_due(self.alloc, now) {
+            let _ = write_all(&mut self.out, text.as_slice());
+        }
+    }
+
+    // Counts bytes that were read, and writes the line if it is due.
+    fn note(&mut self, chunk: &[u8])
+        ensures counted { IsCounted self.old.progress self.new.progress chunk.now }
+        ensures written { C.Out.has_failed self.new.out ≡ false → (self.new.out ≡ self.old.out) ⊎ Appends (C.Out.contents self.old.out) (C.Out.contents self.new.out) (progress_text self.new.progress) }
+    {
         self.progress.count(chunk);
         if let Some(now) = self.screen.now() {
-            if let Ok(Some(text)) = self.progress.take_due(self.alloc, now) {
-                let _ = write_all(&mut self.out, text.as_slice());
-            }
+            self.show(now);
         }
     }
 
     // Erases the line, if one is shown.
-    fn end(&mut self) {
-        let text = self.progress.take_end();
-        let _ = write_all(&mut self.out, text);
+    fn end(&mut self)
+        ensures hidden { self.new.progress.is_shown ≡ false }
+        ensures same { IsSameCount self.old.progress self.new.progress }
+        ensures erased { C.Out.has_failed self.new.out ≡ false → Appends (C.Out.contents self.old.out) (C.Out.contents self.new.out) (ending_text self.old.progress.is_shown) }
+    {
+        erase(&mut self.progress, &mut self.out)
     }
 }
 
@@ -46,7 +69,7 @@ impl<C: Screen> Drop for Display<'_, C> {
             mut out,
             mut progress,
         } = self;
-        let _ = write_all(&mut out, progress.take_end());
+        erase(&mut progress, &mut out);
     }
 }
 
