@@ -13,7 +13,7 @@ _volcano() {
         return
     fi
     case ${COMP_WORDS[1]} in
-        run) options='--catalog --data --packet --morsel --slack --mode --threads --quiet --stats --verbose-errors --help' words='--plan' ;;
+        run) options='--catalog --data --packet --morsel --slack --mode --threads --quiet --verbose-errors --help' words='--plan' ;;
         serial) options='--catalog --plan --data --threads --quiet --verbose-errors --help' ;;
         check) options='--catalog --plan --all --verbose-errors --help' ;;
         explain) options='--catalog --plan --format --verbose-errors --help' ;;
@@ -37,10 +37,6 @@ _volcano() {
             ;;
         --mode)
             mapfile -t COMPREPLY < <(compgen -W 'rounds threads' -- "$word")
-            return
-            ;;
-        --stats)
-            mapfile -t COMPREPLY < <(compgen -W 'table json none --stats' -- "$word")
             return
             ;;
         --format)

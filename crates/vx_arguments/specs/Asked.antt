@@ -68,9 +68,9 @@ serial_app = with_rule (with_rule (with_rule (with_rule (judging_app (codes "ser
 
 abbrev pub run_app : App
 run_app =
-    with_rule (with_rule (with_rule (with_rule (with_rule (with_rule (with_rule (with_rule (with_rule (with_rule (reading_app (codes "run") plans_rule) (path_rule (codes "data")))
+    with_rule (with_rule (with_rule (with_rule (with_rule (with_rule (with_rule (with_rule (with_rule (reading_app (codes "run") plans_rule) (path_rule (codes "data")))
     (number_rule (codes "packet") (codes "256"))) (number_rule (codes "morsel") (codes "1024"))) (number_rule (codes "slack") (codes "8"))) (word_rule (codes "mode") (codes "rounds")))
-    threads_rule) (flag_rule (codes "quiet"))) (word_rule (codes "stats") (codes "none"))) verbose_rule) sizes_rule
+    threads_rule) (flag_rule (codes "quiet"))) verbose_rule) sizes_rule
 
 abbrev pub gen_app : App
 gen_app = with_rule (new_app (codes "gen")) rows_rule
@@ -196,11 +196,6 @@ abbrev pub threads_of : Option (Text × List Row) → Option ℕ
 threads_of None = None
 threads_of (Some p) = option_and_then number_of (first_of (codes "threads") p.1)
 
--- the format of statistics in these matches of a subcommand, where it has any
-abbrev pub stats_of : Option (Text × List Row) → Option Text
-stats_of None = None
-stats_of (Some p) = first_of (codes "stats") p.1
-
 -- what the arguments ask for, the program's name first
 unfoldable pub asked_by : List Text → Option Ask
 asked_by arguments = ask_of (subcommand_of volcano_app arguments)
@@ -212,10 +207,6 @@ verbose_by arguments = verbose_of (subcommand_of volcano_app arguments)
 -- how many threads they ask to load with
 unfoldable pub threads_by : List Text → Option ℕ
 threads_by arguments = threads_of (subcommand_of volcano_app arguments)
-
--- the format of statistics that they ask for, where they ask for a run
-unfoldable pub stats_by : List Text → Option Text
-stats_by arguments = stats_of (subcommand_of volcano_app arguments)
 
 -- the kinds that a refusal of the arguments may have; none if they are accepted
 unfoldable pub faults_of : List Text → Kinds

@@ -122,19 +122,6 @@ fn verbose_option<'a>(alloc: Global) -> Arg<'a>
         .action(ArgAction::SetTrue)
 }
 
-fn stats_option<'a>(alloc: Global) -> Arg<'a>
-    ensures rule { rule_of result ≡ word_rule (codes "stats") (codes "none") }
-    ensures own { result.global ≡ false }
-{
-    word_option(
-        alloc,
-        "stats",
-        "FORMAT",
-        "none",
-        "What each worker did and how long each phase took, on standard error: `table`, `json` or `none`; `--stats` alone is `table`",
-    )
-}
-
 fn quiet_option<'a>(alloc: Global) -> Arg<'a>
     ensures rule { rule_of result ≡ flag_rule (codes "quiet") }
     ensures own { result.global ≡ false }
@@ -307,7 +294,6 @@ fn run<'a>(alloc: Global) -> Result<Command<'a>, AllocError>
     .arg(mode_option(alloc))?
     .arg(threads_option(alloc))?
     .arg(quiet_option(alloc))?
-    .arg(stats_option(alloc))?
     .arg(verbose_option(alloc))?
     .arg(sizes_argument(alloc))
 }
