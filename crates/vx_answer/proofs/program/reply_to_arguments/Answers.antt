@@ -37,7 +37,7 @@ returns-in-Err-Refused-clause-refused g c three =
 pub returns-in-Err-Failing-clause-refused : goal.returns-in-Err-Failing-clause-refused
 returns-in-Err-Failing-clause-refused g c three =
     let failing = rw c.in-Err-Failing.field-0-is at c.in-Err-Failing.ensures.refused in
-    inr (string_bytes c.in-Err-Failing.lines, failing, c.write_lines.ensures.written)
+    inr (string_bytes c.in-Err-Failing.lines, failing, rw c.as_str.ensures.value at c.write_lines.ensures.written)
 
 pub returns-in-Err-Usage-clause-usage : goal.returns-in-Err-Usage-clause-usage
 returns-in-Err-Usage-clause-usage g c two = (rw c.in-Err-Usage.field-0-is at c.in-Err-Usage.ensures.refused, refl)
