@@ -1,0 +1,6 @@
+pub mod Lines
+pub mod Columns
+pub mod Words
+pub mod Table
+pub mod Json
+pub mod Text
