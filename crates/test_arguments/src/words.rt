@@ -3,7 +3,7 @@
 use clap::Error;
 use std::alloc::{AllocError, Global};
 use std::test::Fail;
-use vx_arguments::{Asked, asked_for};
+use vx_arguments::{Request, asked_for};
 
 // The words of a line.
 fn words_of<'a>(alloc: Global, line: &'a str) -> Result<Vec<&'a str>, AllocError> {
@@ -18,14 +18,25 @@ fn words_of<'a>(alloc: Global, line: &'a str) -> Result<Vec<&'a str>, AllocError
 fn shown(alloc: Global, line: &str) -> Result<String, Fail> {
     let words = words_of(alloc, line)?;
     match asked_for(alloc, words.as_slice()) {
-        Ok(Some(asked)) => Ok(described(alloc, &asked)?),
+        Ok(Some(request)) => Ok(described(alloc, &request)?),
         Ok(None) => Ok(String::from_str(alloc, "nothing")?),
         Err(error) => Ok(kind_of(alloc, &error)?),
     }
 }
 
-fn described(alloc: Global, asked: &Asked<'_>) -> Result<String, AllocError> {
-    format!(in alloc; "{asked:?}")
+fn described(alloc: Global, request: &Request<'_>) -> Result<String, AllocError> {
+    let asked = &request.asked;
+    if request.is_verbose {
+        return format!(in alloc; "{asked:?}, verbose");
+    }
+    match request.stats {
+        None | Some("none") => {}
+        Some(format) => return format!(in alloc; "{asked:?}, statistics: {format}"),
+    }
+    match request.threads {
+        None | Some(0) => format!(in alloc; "{asked:?}"),
+        Some(threads) => format!(in alloc; "{asked:?}, {threads} threads"),
+    }
 }
 
 fn kind_of(alloc: Global, error: &Error) -> Result<String, AllocError> {
@@ -34,7 +45,7 @@ fn kind_of(alloc: Global, error: &Error) -> Result<String, AllocError> {
 }
 
 // Lines, and what each asks for.
-const ASKED: [(&str, &str); 16] = [
+const ASKED: [(&str, &str); 24] = [
     ("volcano", "Bundle"),
     (
         "volcano check --catalog c --plan=-",
@@ -85,6 +96,38 @@ const ASKED: [(&str, &str); 16] = [
         "volcano run --catalog c --plan p --plan - --plan p --data d many=4",
         r#"RunPlans(ManySources { catalog: "c", plans: ["p", "-", "p"] }, "d", Limits { packet: "256", morsel: "1024", slack: "8", mode: "rounds", sizes: ["many=4"] })"#,
     ),
+    (
+        "volcano check --catalog c --plan p --verbose-errors",
+        r#"Check(Sources { catalog: "c", plan: "p" }), verbose"#,
+    ),
+    (
+        "volcano annotate --verbose-errors --catalog c --plan p",
+        r#"Annotate(Sources { catalog: "c", plan: "p" }), verbose"#,
+    ),
+    (
+        "volcano sql --catalog c --verbose-errors --plan p",
+        r#"Sql(Sources { catalog: "c", plan: "p" }, "sqlite"), verbose"#,
+    ),
+    (
+        "volcano serial --catalog c --quiet --plan p --data d --verbose-errors",
+        r#"Serial(Sources { catalog: "c", plan: "p" }, "d"), verbose"#,
+    ),
+    (
+        "volcano serial --catalog c --plan p --data d --threads=1",
+        r#"Serial(Sources { catalog: "c", plan: "p" }, "d"), 1 threads"#,
+    ),
+    (
+        "volcano run --threads 4 --catalog c --plan p --data d",
+        r#"Run(Sources { catalog: "c", plan: "p" }, "d", Limits { packet: "256", morsel: "1024", slack: "8", mode: "rounds", sizes: [] }), 4 threads"#,
+    ),
+    (
+        "volcano run --catalog c --plan p --data d --stats json many=4",
+        r#"Run(Sources { catalog: "c", plan: "p" }, "d", Limits { packet: "256", morsel: "1024", slack: "8", mode: "rounds", sizes: ["many=4"] }), statistics: json"#,
+    ),
+    (
+        "volcano run --stats=table --catalog c --plan p --data d",
+        r#"Run(Sources { catalog: "c", plan: "p" }, "d", Limits { packet: "256", morsel: "1024", slack: "8", mode: "rounds", sizes: [] }), statistics: table"#,
+    ),
     ("volcano gen --rows 0", "Generate(0)"),
     (
         "volcano gen --rows=18446744073709551615",
@@ -101,7 +144,7 @@ fn commands_are_there(rt: HostRuntime) -> Result<(), Fail> {
 }
 
 // Lines that are refused, and the kind of each refusal.
-const REFUSED: [(&str, &str); 21] = [
+const REFUSED: [(&str, &str); 23] = [
     ("volcano check --catalog c", "MissingRequiredArgument"),
     (
         "volcano check --catalog c --plan p --data d",
@@ -127,6 +170,11 @@ const REFUSED: [(&str, &str); 21] = [
     (
         "volcano run --catalog c --data d many=4",
         "MissingRequiredArgument",
+    ),
+    ("volcano why K4 --verbose-errors", "UnknownArgument"),
+    (
+        "volcano serial --catalog c --plan p --data d --stats table",
+        "UnknownArgument",
     ),
     ("volcano sql --plan p", "MissingRequiredArgument"),
     (

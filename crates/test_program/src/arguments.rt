@@ -356,7 +356,10 @@ fn wrong_arguments_are_reported(rt: HostRuntime) -> Result<(), Fail> {
 const HELP: [(&[&str], &str); 3] = [
     (&["--help"], "Runs query plans in parallel"),
     (&["check", "--help"], "Says whether every note"),
-    (&["--version"], "volcano 0.1.0\n"),
+    (
+        &["--version"],
+        "volcano 0.1.0 (built here; tools/install notes the commit here)\n",
+    ),
 ];
 
 #[test]

@@ -1,5 +1,5 @@
 -- What answers arguments, over files and standard input, and why arguments may have no answer. `files`, `reliable`, `input` and `failed` are as in `Files`.
-use Rattle.std.specs.Prelude.{◌≡◌, ◌≢◌, ℕ, ◌+◌, ◌<◌, ◌≤◌, ◌⊎◌, ◌++◌, List, [], ◌∷◌, length, take, Bool, true, false, Option, Some, None, IfSome, bytes_eq, codes}
+use Rattle.std.specs.Prelude.{◌≡◌, ◌≢◌, ℕ, ◌+◌, ◌<◌, ◌≤◌, ◌⊎◌, ◌++◌, List, [], ◌∷◌, length, map, slice_index_or, take, Bool, true, false, Option, Some, None, IfSome, bytes_eq, codes, if◌then◌else◌}
 use Rattle.clap.specs.Words.{IsAmong}
 use Rattle.clap.specs.declared.error.kind.ErrorKind.{ErrorKind}
 use Rattle.clap.specs.declared.error.kind.ErrorKind.TheVariants as kind
@@ -120,9 +120,17 @@ FailsAtAll files input paths lines = (p : TypedPlanView) × IsFilesPlan files in
 abbrev pub IsEntry : List ℕ → List ℕ → Type 0
 IsEntry code text = (is_code code ≡ true) × (take (length code + 1) text ≡ code ++ codes " ")
 
--- the program's name, and then the arguments
+-- the command that arguments begin with, empty where there are none
+abbrev pub command_in : List (List ℕ) → List ℕ
+command_in arguments = slice_index_or arguments 0 []
+
+-- an argument of a command, of which `--stats` alone asks a run for a table
+abbrev pub spelled_out : List ℕ → List ℕ → List ℕ
+spelled_out command argument = if bytes_eq command (codes "run") then (if bytes_eq argument (codes "--stats") then codes "--stats=table" else argument) else argument
+
+-- the program's name, and then the arguments, spelled out
 abbrev pub with_program_name : List (List ℕ) → List (List ℕ)
-with_program_name arguments = codes "volcano" ∷ arguments
+with_program_name arguments = codes "volcano" ∷ map (spelled_out (command_in arguments)) arguments
 
 -- the text answers what arguments ask for: the bundle on standard input, a task, a check of all nodes, a plan in a form, as SQL or with other claims, runs of several plans, what a code means, or a relation, which has 10,000,000 rows at most
 pub data AnswersAsk (files : List ℕ → Stored) (input : Option (List ℕ)) (ask : Ask) (text : List ℕ) : Type 0 where

@@ -5,7 +5,7 @@ ghost use Rattle.clap.specs.Values.{kind_of};
 ghost use Rattle.vx_arguments.specs.Asked.{asked_is, paths_are, many_are, given_is, run, run_plans, check_all, explain, sql, why};
 ghost use Rattle.vx_answer.specs.Arguments.{IsSetting, IsNoSetting};
 ghost use Rattle.vx_answer.specs.Plans.{AnswersPlans};
-ghost use Rattle.vx_answer.specs.CommandLine.{default_setting, IsTask, IsNoTask, AnswersTask, TaskRefuses, AnswersForm, FormIsRefused, AnswersStatement, StatementIsRefused, AnswersAnnotation, AnnotationIsRefused, with_program_name};
+ghost use Rattle.vx_answer.specs.CommandLine.{default_setting, IsTask, IsNoTask, AnswersTask, TaskRefuses, AnswersForm, FormIsRefused, AnswersStatement, StatementIsRefused, AnswersAnnotation, AnnotationIsRefused, command_in, spelled_out, with_program_name};
 ghost use Rattle.vx_answer.specs.CommandLineView.{task_is, IsPlansTask, IsJob, IsAskAnswer, IsArgumentAnswer, IsHelp, HasUsageText, IsClapFault, IsPlansFault, IsAskFault, IsArgumentFault};
 
 use crate::annotating::annotated_plan;
@@ -437,14 +437,35 @@ fn answer_asked<T: Threads + Wait + Sync, F: Store, I: ByteIn>(
     }
 }
 
-// The program's name, and then the arguments.
+// The command that arguments begin with, empty where there are none.
+fn command_in<'a>(arguments: &[&'a str]) -> &'a str
+    ensures { result.now ≡ command_in (map (λ a. a.now) arguments.now) }
+{
+    match arguments.first() {
+        Some(command) => *command,
+        None => "",
+    }
+}
+
+// An argument of a command, of which `--stats` alone asks a run for a table.
+fn spelled_out<'a>(command: &str, argument: &'a str) -> &'a str
+    ensures { result.now ≡ spelled_out command.now argument.now }
+{
+    match (command, argument) {
+        ("run", "--stats") => "--stats=table",
+        _ => argument,
+    }
+}
+
+// The program's name, and then the arguments, spelled out.
 fn with_program_name<'a>(alloc: Global, arguments: &[&'a str]) -> Result<Vec<&'a str>, AllocError>
     ensures { IfOk result (λ v. map (λ a. a.now) v.items ≡ with_program_name (map (λ a. a.now) arguments.now)) }
 {
+    let command = command_in(arguments);
     let mut all = Vec::new(alloc);
     all.push("volcano")?;
     for argument in arguments {
-        all.push(*argument)?;
+        all.push(spelled_out(command, argument))?;
     }
     Ok(all)
 }
@@ -478,7 +499,7 @@ pub fn answer_arguments<T: Threads + Wait + Sync, F: Store, I: ByteIn>(
 {
     let arguments = with_program_name(alloc, arguments)?;
     match asked_for(alloc, arguments.as_slice()) {
-        Ok(Some(asked)) => answer_asked(rt, alloc, seed, files, input, &asked),
+        Ok(Some(request)) => answer_asked(rt, alloc, seed, files, input, &request.asked),
         Ok(None) => Err(usage_error(alloc, "volcano: these words ask for nothing\n")),
         Err(error) => help_or_fault(alloc, &error),
     }

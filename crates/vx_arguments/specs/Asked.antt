@@ -1,5 +1,5 @@
 -- What the command-line arguments ask for: the commands and options that the program has, and what each comes to.
-use Rattle.std.specs.Prelude.{ℕ, pos, List, [], ◌∷◌, Option, Some, None, map, option_map, option_and_then, bytes_eq, codes, true, if◌then◌else◌}
+use Rattle.std.specs.Prelude.{ℕ, pos, List, [], ◌∷◌, Option, Some, None, map, option_map, option_and_then, bytes_eq, codes, Bool, true, false, if◌then◌else◌}
 use Rattle.std.specs.Option.{option_map_or}
 use Rattle.std.specs.Str.Parse.{digits_value, without_leading_plus}
 use Rattle.clap.specs.Lexer.{usize_max}
@@ -55,25 +55,37 @@ reading_app name plan = with_rule (with_rule (new_app name) (path_rule (codes "c
 abbrev pub judging_app : Text → App
 judging_app name = reading_app name (path_rule (codes "plan"))
 
+-- a refusal is followed by a line that says where it was found
+abbrev pub verbose_rule : Rule
+verbose_rule = flag_rule (codes "verbose-errors")
+
+-- how many threads load each table
+abbrev pub threads_rule : Rule
+threads_rule = number_rule (codes "threads") (codes "0")
+
 abbrev pub serial_app : App
-serial_app = with_rule (judging_app (codes "serial")) (path_rule (codes "data"))
+serial_app = with_rule (with_rule (with_rule (with_rule (judging_app (codes "serial")) (path_rule (codes "data"))) threads_rule) (flag_rule (codes "quiet"))) verbose_rule
 
 abbrev pub run_app : App
 run_app =
-    with_rule (with_rule (with_rule (with_rule (with_rule (with_rule (reading_app (codes "run") plans_rule) (path_rule (codes "data")))
-    (number_rule (codes "packet") (codes "256"))) (number_rule (codes "morsel") (codes "1024"))) (number_rule (codes "slack") (codes "8"))) (word_rule (codes "mode") (codes "rounds"))) sizes_rule
+    with_rule (with_rule (with_rule (with_rule (with_rule (with_rule (with_rule (with_rule (with_rule (with_rule (reading_app (codes "run") plans_rule) (path_rule (codes "data")))
+    (number_rule (codes "packet") (codes "256"))) (number_rule (codes "morsel") (codes "1024"))) (number_rule (codes "slack") (codes "8"))) (word_rule (codes "mode") (codes "rounds")))
+    threads_rule) (flag_rule (codes "quiet"))) (word_rule (codes "stats") (codes "none"))) verbose_rule) sizes_rule
 
 abbrev pub gen_app : App
 gen_app = with_rule (new_app (codes "gen")) rows_rule
 
 abbrev pub check_app : App
-check_app = with_rule (judging_app (codes "check")) (flag_rule (codes "all"))
+check_app = with_rule (with_rule (judging_app (codes "check")) (flag_rule (codes "all"))) verbose_rule
 
 abbrev pub explain_app : App
-explain_app = with_rule (judging_app (codes "explain")) (word_rule (codes "format") (codes "text"))
+explain_app = with_rule (with_rule (judging_app (codes "explain")) (word_rule (codes "format") (codes "text"))) verbose_rule
+
+abbrev pub annotate_app : App
+annotate_app = with_rule (judging_app (codes "annotate")) verbose_rule
 
 abbrev pub sql_app : App
-sql_app = with_rule (judging_app (codes "sql")) (word_rule (codes "dialect") (codes "sqlite"))
+sql_app = with_rule (with_rule (judging_app (codes "sql")) (word_rule (codes "dialect") (codes "sqlite"))) verbose_rule
 
 abbrev pub why_app : App
 why_app = with_rule (new_app (codes "why")) code_rule
@@ -86,7 +98,7 @@ program_app = on_top (λ s. record s { has_version = true }) (new_app (codes "vo
 abbrev pub volcano_app : App
 volcano_app =
     with_subcommand (with_subcommand (with_subcommand (with_subcommand (with_subcommand (with_subcommand (with_subcommand (with_subcommand program_app run_app.top)
-    serial_app.top) check_app.top) explain_app.top) (judging_app (codes "annotate")).top) sql_app.top) why_app.top) gen_app.top
+    serial_app.top) check_app.top) explain_app.top) annotate_app.top) sql_app.top) why_app.top) gen_app.top
 
 -- the paths of a catalog and of a plan
 pub record Paths : Type 0 where
@@ -174,9 +186,36 @@ ask_of (Some p) =
     else if bytes_eq p.0 (codes "gen") then generate_of p.1
     else None
 
+-- whether a subcommand with these matches is to say where what it refuses was found
+abbrev pub verbose_of : Option (Text × List Row) → Bool
+verbose_of None = false
+verbose_of (Some p) = option_map_or (λ v. bytes_eq v (codes "true")) (first_of (codes "verbose-errors") p.1) false
+
+-- how many threads a subcommand with these matches is to load with, where it loads
+abbrev pub threads_of : Option (Text × List Row) → Option ℕ
+threads_of None = None
+threads_of (Some p) = option_and_then number_of (first_of (codes "threads") p.1)
+
+-- the format of statistics in these matches of a subcommand, where it has any
+abbrev pub stats_of : Option (Text × List Row) → Option Text
+stats_of None = None
+stats_of (Some p) = first_of (codes "stats") p.1
+
 -- what the arguments ask for, the program's name first
 unfoldable pub asked_by : List Text → Option Ask
 asked_by arguments = ask_of (subcommand_of volcano_app arguments)
+
+-- whether they ask where what is refused was found
+unfoldable pub verbose_by : List Text → Bool
+verbose_by arguments = verbose_of (subcommand_of volcano_app arguments)
+
+-- how many threads they ask to load with
+unfoldable pub threads_by : List Text → Option ℕ
+threads_by arguments = threads_of (subcommand_of volcano_app arguments)
+
+-- the format of statistics that they ask for, where they ask for a run
+unfoldable pub stats_by : List Text → Option Text
+stats_by arguments = stats_of (subcommand_of volcano_app arguments)
 
 -- the kinds that a refusal of the arguments may have; none if they are accepted
 unfoldable pub faults_of : List Text → Kinds

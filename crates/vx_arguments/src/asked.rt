@@ -1,8 +1,8 @@
 //! What the command-line arguments ask for.
 
-ghost use Rattle.std.specs.Prelude.{◌≡◌, IfOk, false, map, option_map, option_and_then, codes};
+ghost use Rattle.std.specs.Prelude.{◌≡◌, IfOk, IfSome, false, map, option_map, option_and_then, codes};
 ghost use Rattle.clap.specs.Words.{FailsBy, fault_of, rows_of, found_of, first_of, all_of, subcommand_of, subcommand_rows_of};
-ghost use Rattle.vx_arguments.specs.Asked.{volcano_app, paths_of, given_of, sizes_of, serial_of, check_of, explain_of, sql_of, run_for, run_of, number_of, generate_of, ask_of, asked_by, faults_of, paths_are, given_is, asked_is};
+ghost use Rattle.vx_arguments.specs.Asked.{volcano_app, paths_of, given_of, sizes_of, serial_of, check_of, explain_of, sql_of, run_for, run_of, number_of, generate_of, ask_of, asked_by, verbose_of, verbose_by, threads_of, threads_by, stats_of, stats_by, faults_of, paths_are, given_is, asked_is};
 
 use crate::command_line::command;
 use clap::{ArgMatches, Error};
@@ -56,6 +56,18 @@ pub enum Asked<'a> {
     RunPlans(ManySources<'a>, &'a str, Limits<'a>),
     /// The text of the relation with so many rows.
     Generate(u64),
+}
+
+/// What the arguments ask for, and what they say of loading and of reports.
+#[derive(Debug, Drop)]
+pub struct Request<'a> {
+    pub asked: Asked<'a>,
+    /// Whether a refusal is followed by a line that says where it was found.
+    pub is_verbose: bool,
+    /// How many threads load each table, where the command loads any; 0 is one for each processor.
+    pub threads: Option<u64>,
+    /// The format of a run's statistics: `none`, `table` or `json`, if it is one of them.
+    pub stats: Option<&'a str>,
 }
 
 // The first value of an option.
@@ -231,12 +243,52 @@ fn asked_in<'a>(alloc: Global, matches: &ArgMatches<'a>) -> Result<Option<Asked<
     }
 }
 
+// Whether matches ask where what is refused was found.
+fn is_verbose(matches: &ArgMatches<'_>) -> bool
+    ensures { result ≡ verbose_of (subcommand_rows_of matches.now) }
+{
+    match matches.subcommand() {
+        Some((_, found)) => matches!(value(found, "verbose-errors"), Some("true")),
+        None => false,
+    }
+}
+
+// How many threads matches ask for.
+fn threads_in(matches: &ArgMatches<'_>) -> Option<u64>
+    ensures { result ≡ threads_of (subcommand_rows_of matches.now) }
+{
+    let (_, found) = matches.subcommand()?;
+    number_in(value(found, "threads")?)
+}
+
+// The format of statistics in matches.
+fn stats_in<'a>(matches: &ArgMatches<'a>) -> Option<&'a str>
+    ensures { option_map (λ s. s.now) result ≡ stats_of (subcommand_rows_of matches.now) }
+{
+    let (_, found) = matches.subcommand()?;
+    value(found, "stats")
+}
+
 /// What the arguments ask for, the program's name first. An `Err` is running out of memory, a usage error, or help.
-#[tactic(auto, unfolding(crate::specs::Asked::asked_by, crate::specs::Asked::faults_of))]
-pub fn asked_for<'a>(alloc: Global, arguments: &'a [&'a str]) -> Result<Option<Asked<'a>>, Error>
-    ensures asked { IfOk result (λ o. option_map asked_is o ≡ asked_by (map (λ w. w.now) arguments.entry.now)) }
+#[tactic(auto, unfolding(crate::specs::Asked::asked_by, crate::specs::Asked::verbose_by, crate::specs::Asked::threads_by, crate::specs::Asked::stats_by, crate::specs::Asked::faults_of))]
+pub fn asked_for<'a>(alloc: Global, arguments: &'a [&'a str]) -> Result<Option<Request<'a>>, Error>
+    ensures asked { IfOk result (λ o. option_map (λ r. asked_is r.asked) o ≡ asked_by (map (λ w. w.now) arguments.entry.now)) }
+    ensures verbose { IfOk result (λ o. IfSome o (λ r. r.is_verbose ≡ verbose_by (map (λ w. w.now) arguments.entry.now))) }
+    ensures threads { IfOk result (λ o. IfSome o (λ r. r.threads ≡ threads_by (map (λ w. w.now) arguments.entry.now))) }
+    ensures stats { IfOk result (λ o. IfSome o (λ r. option_map (λ s. s.now) r.stats ≡ stats_by (map (λ w. w.now) arguments.entry.now))) }
     ensures faults { FailsBy (faults_of (map (λ w. w.now) arguments.entry.now)) result }
 {
     let matches = matches_in(alloc, arguments)?;
-    Ok(asked_in(alloc, &matches)?)
+    let is_verbose = is_verbose(&matches);
+    let threads = threads_in(&matches);
+    let stats = stats_in(&matches);
+    match asked_in(alloc, &matches)? {
+        Some(asked) => Ok(Some(Request {
+            asked,
+            is_verbose,
+            threads,
+            stats,
+        })),
+        None => Ok(None),
+    }
 }

@@ -3,7 +3,7 @@
 ghost use Rattle.std.specs.Prelude.{◌≡◌, IfOk, false, codes};
 ghost use Rattle.clap.specs.Words.{app_of, rule_of};
 ghost use Rattle.clap.specs.declared.builder.command.Command.TheViews.{out-Command as fields_of};
-ghost use Rattle.vx_arguments.specs.Asked.{path_rule, plans_rule, number_rule, rows_rule, word_rule, flag_rule, code_rule, sizes_rule, reading_app, judging_app, serial_app, run_app, check_app, explain_app, sql_app, why_app, gen_app, program_app, volcano_app};
+ghost use Rattle.vx_arguments.specs.Asked.{path_rule, plans_rule, number_rule, rows_rule, word_rule, flag_rule, code_rule, sizes_rule, verbose_rule, reading_app, judging_app, serial_app, run_app, check_app, explain_app, annotate_app, sql_app, why_app, gen_app, program_app, volcano_app};
 
 use clap::{Arg, ArgAction, Command, value_parser};
 use std::alloc::{AllocError, Global};
@@ -110,6 +110,51 @@ fn all_option<'a>(alloc: Global) -> Arg<'a>
         .long("all")
         .help("A line for each node of which a note does not follow, and what follows there")
         .action(ArgAction::SetTrue)
+}
+
+fn verbose_option<'a>(alloc: Global) -> Arg<'a>
+    ensures rule { rule_of result ≡ verbose_rule }
+    ensures own { result.global ≡ false }
+{
+    Arg::new(alloc, "verbose-errors")
+        .long("verbose-errors")
+        .help("Behind a refusal, a line that says where in the files it was found")
+        .action(ArgAction::SetTrue)
+}
+
+fn stats_option<'a>(alloc: Global) -> Arg<'a>
+    ensures rule { rule_of result ≡ word_rule (codes "stats") (codes "none") }
+    ensures own { result.global ≡ false }
+{
+    word_option(
+        alloc,
+        "stats",
+        "FORMAT",
+        "none",
+        "What each worker did and how long each phase took, on standard error: `table`, `json` or `none`; `--stats` alone is `table`",
+    )
+}
+
+fn quiet_option<'a>(alloc: Global) -> Arg<'a>
+    ensures rule { rule_of result ≡ flag_rule (codes "quiet") }
+    ensures own { result.global ≡ false }
+{
+    Arg::new(alloc, "quiet")
+        .long("quiet")
+        .help("No line on a terminal that says how far a long load is")
+        .action(ArgAction::SetTrue)
+}
+
+fn threads_option<'a>(alloc: Global) -> Arg<'a>
+    ensures rule { rule_of result ≡ number_rule (codes "threads") (codes "0") }
+    ensures own { result.global ≡ false }
+{
+    number_option(
+        alloc,
+        "threads",
+        "0",
+        "How many threads load each table; 0 is one for each processor",
+    )
 }
 
 fn code_argument<'a>(alloc: Global) -> Arg<'a>
@@ -223,7 +268,10 @@ fn serial<'a>(alloc: Global) -> Result<Command<'a>, AllocError>
         "Evaluates the plan without its exchanges and prints the rows as CSV; the notes of the plan are not checked",
         "Example: volcano serial --catalog catalog.json --plan plan.json --data tables",
     )?
-    .arg(data_option(alloc))
+    .arg(data_option(alloc))?
+    .arg(threads_option(alloc))?
+    .arg(quiet_option(alloc))?
+    .arg(verbose_option(alloc))
 }
 
 fn run<'a>(alloc: Global) -> Result<Command<'a>, AllocError>
@@ -257,6 +305,10 @@ fn run<'a>(alloc: Global) -> Result<Command<'a>, AllocError>
         "The most packets that wait between two workers, 1 to 1024",
     ))?
     .arg(mode_option(alloc))?
+    .arg(threads_option(alloc))?
+    .arg(quiet_option(alloc))?
+    .arg(stats_option(alloc))?
+    .arg(verbose_option(alloc))?
     .arg(sizes_argument(alloc))
 }
 
@@ -270,7 +322,8 @@ fn check<'a>(alloc: Global) -> Result<Command<'a>, AllocError>
         "Says whether every note of the plan follows: `accepted`, `accepted total`, or the first note that does not",
         "Example: volcano check --catalog catalog.json --plan plan.json",
     )?
-    .arg(all_option(alloc))
+    .arg(all_option(alloc))?
+    .arg(verbose_option(alloc))
 }
 
 fn explain<'a>(alloc: Global) -> Result<Command<'a>, AllocError>
@@ -283,11 +336,12 @@ fn explain<'a>(alloc: Global) -> Result<Command<'a>, AllocError>
         "Prints a plan that the checker accepts: as a text with a line for each node, as JSON, or as a picture for Graphviz",
         "Example: volcano explain --catalog catalog.json --plan plan.json",
     )?
-    .arg(format_option(alloc))
+    .arg(format_option(alloc))?
+    .arg(verbose_option(alloc))
 }
 
 fn annotate<'a>(alloc: Global) -> Result<Command<'a>, AllocError>
-    ensures app { IfOk result (λ c. app_of c ≡ judging_app (codes "annotate")) }
+    ensures app { IfOk result (λ c. app_of c ≡ annotate_app) }
     ensures local { IfOk result (λ c. (fields_of c).has_globals ≡ false) }
 {
     judging(
@@ -295,7 +349,8 @@ fn annotate<'a>(alloc: Global) -> Result<Command<'a>, AllocError>
         "annotate",
         "Prints the plan, as JSON, with the notes that follow at each node in place of its own",
         "Example: volcano annotate --catalog catalog.json --plan plan.json",
-    )
+    )?
+    .arg(verbose_option(alloc))
 }
 
 fn sql<'a>(alloc: Global) -> Result<Command<'a>, AllocError>
@@ -308,7 +363,8 @@ fn sql<'a>(alloc: Global) -> Result<Command<'a>, AllocError>
         "Prints the plan without its exchanges as one statement of SQL; the notes of the plan are not checked",
         "Example: volcano sql --catalog catalog.json --plan plan.json --dialect postgres",
     )?
-    .arg(dialect_option(alloc))
+    .arg(dialect_option(alloc))?
+    .arg(verbose_option(alloc))
 }
 
 fn why<'a>(alloc: Global) -> Result<Command<'a>, AllocError>
@@ -333,12 +389,12 @@ fn generate<'a>(alloc: Global) -> Result<Command<'a>, AllocError>
         .arg(rows_option(alloc))
 }
 
-// The program without its commands.
+// The program without its commands. `tools/install` writes the commit over the words in brackets of its version, in as many bytes.
 fn program<'a>(alloc: Global) -> Command<'a>
     ensures { app_of result ≡ program_app }
 {
     Command::new(alloc, "volcano")
-        .version("0.1.0")
+        .version("0.1.0 (built here; tools/install notes the commit here)")
         .about(
             "Runs query plans in parallel, after a check that every note on them follows. Without a command it reads one request, as JSON, from standard input",
         )

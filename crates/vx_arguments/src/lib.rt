@@ -4,4 +4,4 @@
 mod asked;
 mod command_line;
 
-pub use asked::{Asked, Limits, ManySources, Sources, asked_for};
+pub use asked::{Asked, Limits, ManySources, Request, Sources, asked_for};

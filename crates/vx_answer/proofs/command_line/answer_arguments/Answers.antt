@@ -8,21 +8,21 @@ pub returns-in-Ok-Some-clause-answer : goal.returns-in-Ok-Some-clause-answer
 returns-in-Ok-Some-clause-answer g c =
     let arguments = map (λ a. a.now) c.args.arguments.now in
     let all : map (λ a. a.now) c.as_slice.result.now ≡ with_program_name arguments = ap (map (λ a. a.now)) c.as_slice.ensures.value ∙ c.in_ok-arguments.ensures in
-    let asked : AsksFor arguments (asked_is c.in-Ok-Some.asked) = record {
+    let asked : AsksFor arguments (asked_is c.in-Ok-Some.request.asked) = record {
       unrefused = rw all at c.in-Ok-Some.ensures.faults;
       asked = sym (rw (c.in-Ok-Some.field-0-is, all) at c.in-Ok-Some.ensures.asked);
     } in
-    arguments_answer (g.F.Store.holds c.args.files.now) (g.I.ByteIn.remaining c.args.input.now) arguments (asked_is c.in-Ok-Some.asked) c.answer_asked.result asked c.answer_asked.ensures.answer
+    arguments_answer (g.F.Store.holds c.args.files.now) (g.I.ByteIn.remaining c.args.input.now) arguments (asked_is c.in-Ok-Some.request.asked) c.answer_asked.result asked c.answer_asked.ensures.answer
 
 pub returns-in-Ok-Some-clause-refused : goal.returns-in-Ok-Some-clause-refused
 returns-in-Ok-Some-clause-refused g c =
     let arguments = map (λ a. a.now) c.args.arguments.now in
     let all : map (λ a. a.now) c.as_slice.result.now ≡ with_program_name arguments = ap (map (λ a. a.now)) c.as_slice.ensures.value ∙ c.in_ok-arguments.ensures in
-    let asked : AsksFor arguments (asked_is c.in-Ok-Some.asked) = record {
+    let asked : AsksFor arguments (asked_is c.in-Ok-Some.request.asked) = record {
       unrefused = rw all at c.in-Ok-Some.ensures.faults;
       asked = sym (rw (c.in-Ok-Some.field-0-is, all) at c.in-Ok-Some.ensures.asked);
     } in
-    arguments_refused (g.F.Store.holds c.args.files.now) (g.F.Store.is_reliable c.args.files.now) (g.I.ByteIn.remaining c.args.input.now) (g.I.ByteIn.has_failed c.answer_asked.new.input) arguments (asked_is c.in-Ok-Some.asked)
+    arguments_refused (g.F.Store.holds c.args.files.now) (g.F.Store.is_reliable c.args.files.now) (g.I.ByteIn.remaining c.args.input.now) (g.I.ByteIn.has_failed c.answer_asked.new.input) arguments (asked_is c.in-Ok-Some.request.asked)
     c.answer_asked.result asked c.answer_asked.ensures.refused
 
 pub returns-clause-answer : goal.returns-clause-answer
