@@ -11,7 +11,7 @@ abbrev pub member : List ℕ → ℕ → List ℕ
 member name n = codes ",\"" ++ (name ++ (codes "\":" ++ decimal n))
 
 abbrev pub rows_members : Line → List ℕ
-rows_members l = member (codes "left") l.counts.left ++ (member (codes "right") l.counts.right ++ member (codes "out") l.counts.gave)
+rows_members l = member (codes "left") l.counts.left ++ (member (codes "right") l.counts.right ++ member (codes "gave") l.counts.gave)
 
 abbrev pub moves_members : Line → List ℕ
 moves_members l =
@@ -21,7 +21,7 @@ moves_members l =
 -- one line of the counts as an object, with the word of its node among these
 abbrev pub line_json : List (List ℕ) → Line → List ℕ
 line_json words l =
-    codes "{\"node\":" ++ (decimal l.node ++ (codes ",\"operator\":\"" ++ (word_at words l.node ++ (codes "\"" ++ (member (codes "worker") l.worker
+    codes "{\"node\":" ++ (decimal l.node ++ (codes ",\"op\":\"" ++ (word_at words l.node ++ (codes "\"" ++ (member (codes "worker") l.worker
     ++ (rows_members l ++ (moves_members l ++ codes "}")))))))
 
 abbrev pub lines_json : List (List ℕ) → List Line → List ℕ

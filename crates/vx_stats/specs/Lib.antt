@@ -1,5 +1,6 @@
 pub mod Lines
 pub mod Columns
+pub mod Phases
 pub mod Words
 pub mod Table
 pub mod Json

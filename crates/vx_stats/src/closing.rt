@@ -1,6 +1,6 @@
 //! The end of the statistics, which is known last: how long the write of the rows took.
 
-ghost use Rattle.std.specs.Prelude.{◌≡◌, ◌||◌, ◌++◌, is_err, codes, decimal, OnOk, Some};
+ghost use Rattle.std.specs.Prelude.{◌≡◌, ◌||◌, ◌++◌, ◌-◌, is_err, codes, decimal, replicate, OnOk, Some};
 ghost use Rattle.std.specs.Io.KnownBytes.{Appends};
 ghost use Rattle.vx_stats.specs.Columns.{milliseconds};
 ghost use Rattle.vx_stats.specs.Text.{write_end};
@@ -10,6 +10,14 @@ use crate::text::StatsForm;
 use itoa::Buffer;
 use vx_bytes::{Broken, ByteOut, write_all};
 
+// The spaces before a number of so many digits in ten places.
+fn padding(spaces: &[u8; 10], digits: usize) -> &[u8]
+    requires { spaces.now ≡ replicate 10 32 }
+    ensures { result.now ≡ replicate (10 - digits) 32 }
+{
+    &spaces[digits.min(10)..]
+}
+
 // Writes so many microseconds in milliseconds, and the end of the line. No memory is asked for.
 fn write_milliseconds<W: ByteOut>(out: &mut W, time: u64) -> Result<(), Broken>
     ensures ok { OnOk result (Appends (W.contents out.old) (W.contents out.new) (milliseconds (Some time) ++ codes "\n")) }
@@ -18,7 +26,7 @@ fn write_milliseconds<W: ByteOut>(out: &mut W, time: u64) -> Result<(), Broken>
     let spaces = [b' '; 10];
     let mut digits = Buffer::new();
     let whole = digits.format(time / 1000).as_bytes();
-    write_all(out, &spaces[whole.len().min(10)..])?;
+    write_all(out, padding(&spaces, whole.len()))?;
     write_all(out, whole)?;
     write_all(out, &thousandths(time % 1000))?;
     write_all(out, b"\n")

@@ -18,7 +18,7 @@ pub fn push_number(text: &mut String, number: u64) -> Result<(), AllocError>
 fn push_spaces(text: &mut String, count: usize) -> Result<(), AllocError>
     ensures { OnOk result (string_bytes text.new ≡ string_bytes text.old ++ replicate count 32) }
 {
-    for _ in 0..count {
+    for _i in 0..count {
         text.push_str(" ")?;
     }
     Ok(())

@@ -35,7 +35,7 @@ fn push_rows(text: &mut String, line: &Line) -> Result<(), AllocError>
 {
     push_member(text, "left", line.counts.left)?;
     push_member(text, "right", line.counts.right)?;
-    push_member(text, "out", line.counts.gave)
+    push_member(text, "gave", line.counts.gave)
 }
 
 // Adds the morsels, the packets and the waits.
@@ -55,7 +55,7 @@ fn push_line(text: &mut String, words: &[&'static str], line: &Line) -> Result<(
 {
     text.push_str("{\"node\":")?;
     push_number(text, line.node as u64)?;
-    text.push_str(",\"operator\":\"")?;
+    text.push_str(",\"op\":\"")?;
     text.push_str(word_at(words, line.node))?;
     text.push_str("\"")?;
     push_member(text, "worker", line.worker as u64)?;

@@ -12,5 +12,5 @@ mod words;
 
 pub use closing::write_end;
 pub use lines::{Line, lines_of};
-pub use phases::{Phase, PhaseTime, Stopwatch};
+pub use phases::{NoClock, Phase, PhaseTime, Stopwatch, Timer};
 pub use text::{StatsForm, push_lone_plan, push_plan, push_shared};
