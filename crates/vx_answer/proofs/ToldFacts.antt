@@ -39,7 +39,7 @@ one_ask arguments a b h k = let e : ◌≡◌ {A = Option Ask} (Some a) (Some b)
 pub help_untold : (kinds : Kinds) (error : Error) (r : Result ArgumentAnswer ArgumentFault) (f : StatsForm) → kinds ≡ [] → HasKind kinds error → IfOk r (IsHelp (kind_of error)) → IfOk r (IsCountedAs f)
 help_untold kinds error (Ok (answer.Text text)) f none (inl memory) (inl help) = let no : kind.OutOfMemory ≡ kind.DisplayHelp = sym memory ∙ help in cc
 help_untold kinds error (Ok (answer.Text text)) f none (inl memory) (inr version) = let no : kind.OutOfMemory ≡ kind.DisplayVersion = sym memory ∙ version in cc
-help_untold kinds error (Ok (answer.Text text)) f none (inr among) h = let P : Kinds → Type 0 = λ ks. IsAmong (kind_of error) ks in absurd (none_among (kind_of error) (subst P none among))
+help_untold kinds error (Ok (answer.Text text)) f none (inr among) h = let P : Kinds → Type 0 = λ ks. IsAmong (kind_of error) ks in absurd (subst P none among)
 help_untold kinds error (Ok (answer.Relation rows)) f none has h = absurd h
 help_untold kinds error (Ok (answer.Counted k)) f none has h = absurd h
 help_untold kinds error (Err e) f none has h = tt

@@ -99,7 +99,15 @@ fn counted_plans<T: Threads + Wait + Sync, C: Clock, F: Store, I: ByteIn>(
     };
     let database = load_scanned(alloc, seed, &catalog, &plans, &tables)?;
     timer.end(clock, Phase::Load)?;
-    let mut counted = count_each(rt, clock, alloc, form, setting, plans.plans.as_slice(), &database)?;
+    let mut counted = count_each(
+        rt,
+        clock,
+        alloc,
+        form,
+        setting,
+        plans.plans.as_slice(),
+        &database,
+    )?;
     counted.opening.push_str("# all plans\n")?;
     push_shared(&mut counted.opening, form, timer.times())?;
     Ok(counted)

@@ -175,7 +175,14 @@ fn write_counted<C: Clock, O: ByteOut, E: ByteOut>(
 }
 
 // Answers arguments: writes the answer on `out`, or reports on `err` why there is none.
-fn reply_to_arguments<T: Threads + Wait + Sync, C: Clock, F: Store, I: ByteIn, O: ByteOut, E: ByteOut>(
+fn reply_to_arguments<
+    T: Threads + Wait + Sync,
+    C: Clock,
+    F: Store,
+    I: ByteIn,
+    O: ByteOut,
+    E: ByteOut,
+>(
     rt: &T,
     clock: &C,
     alloc: Global,

@@ -131,7 +131,9 @@ fn counted_run<R: Threads + Wait + Sync, C: Clock, T: Tables>(
 {
     let checked = accepted(plan)?;
     timer.end(clock, Phase::Check)?;
-    counted_plan(rt, clock, alloc, seed, tables, setting, &checked, form, timer)
+    counted_plan(
+        rt, clock, alloc, seed, tables, setting, &checked, form, timer,
+    )
 }
 
 /// The text of a run of the plan at one path over the catalog at the other and the tables of a folder, with its statistics.
@@ -159,7 +161,9 @@ pub fn counted_task<T: Threads + Wait + Sync, C: Clock, F: Store, I: ByteIn>(
         files,
         path: folder,
     };
-    counted_run(rt, clock, alloc, seed, &tables, setting, plan, form, &mut timer)
+    counted_run(
+        rt, clock, alloc, seed, &tables, setting, plan, form, &mut timer,
+    )
 }
 
 // Adds the line with the path of a plan.

@@ -43,11 +43,7 @@ fn write_microseconds<W: ByteOut>(out: &mut W, time: u64) -> Result<(), Broken>
 }
 
 /// Writes the time of the write and the end of the statistics. No memory is asked for.
-pub fn write_end<W: ByteOut>(
-    out: &mut W,
-    form: StatsForm,
-    time: Option<u64>,
-) -> Result<(), Broken>
+pub fn write_end<W: ByteOut>(out: &mut W, form: StatsForm, time: Option<u64>) -> Result<(), Broken>
     ensures ok { OnOk result (Appends (W.contents out.old) (W.contents out.new) (write_end form time)) }
     ensures fails { W.has_failed out.new ≡ (W.has_failed out.old || is_err result) }
 {

@@ -47,11 +47,7 @@ fn other_waits(waits: u64, nodes: &[NodeCounts]) -> u64
 }
 
 // Adds the lines of the worker with this number. That of its top node has what the worker counted of its own steps.
-fn add_lines(
-    lines: &mut Vec<Line>,
-    number: usize,
-    worker: &WorkerCounts,
-) -> Result<(), AllocError>
+fn add_lines(lines: &mut Vec<Line>, number: usize, worker: &WorkerCounts) -> Result<(), AllocError>
     ensures { OnOk result (lines.new.items ≡ lines.old.items ++ worker_lines number worker.now) }
 {
     let nodes = worker.nodes.as_slice();

@@ -4,11 +4,10 @@ ghost use Rattle.std.specs.Prelude.{◌≡◌, ◌++◌, map, string_bytes, OnOk
 ghost use Rattle.vx_stats.specs.Text.{counts_text, plan_counts, times_opening, times_text, times_end, write_opening, plan_text, lone_text, shared_text};
 
 use crate::columns::push_left;
-use crate::json;
 use crate::lines::{Line, lines_of};
 use crate::phases::PhaseTime;
-use crate::table;
 use crate::words::operator_words;
+use crate::{json, table};
 use std::alloc::{AllocError, Global};
 use vx_exec::WorkerCounts;
 use vx_plan_nodes::TypedPlan;
