@@ -1,5 +1,5 @@
 -- Counted runs: what they answer, and why they have no answer.
-use Rattle.std.proofs.Common.{◌≡◌, ◌⊎◌, ◌∙◌, ℕ, ◌+◌, ◌<◌, List, [], ◌∷◌, ◌++◌, map, take, length, get_or, Option, Some, Result, Ok, Err, refl, sym, ap, subst, inl, inr, append_assoc}
+use Rattle.std.proofs.Common.{◌≡◌, ◌⊎◌, ◌∙◌, ℕ, ◌+◌, ◌<◌, List, [], ◌∷◌, ◌++◌, map, take, length, get_or, Option, Some, Result, Ok, Err, refl, sym, ap, subst, inl, inr, append_assoc, string_bytes}
 use Rattle.std.proofs.lemmas.List.{append-nil, take_more}
 use Rattle.std.specs.Prelude.{IfOk, IfErr}
 use Rattle.vx_arguments.specs.Asked.{Paths}
@@ -12,7 +12,9 @@ use Rattle.vx_plan_nodes.specs.Names.{TypedPlanView}
 use Rattle.vx_plan_nodes.specs.TypedView.{resolved_of}
 use Rattle.vx_refusals.specs.declared.refusal.Refusal.{Refusal}
 use Rattle.vx_refusals.specs.declared.refusal.Refusal.TheVariants as refusal
+use Rattle.vx_plan_nodes.specs.declared.typed_plan.TypedPlan.{TypedPlan}
 use Rattle.vx_stats.specs.Text.{plan_text}
+use Rattle.vx_stats.specs.declared.phases.Phase.TheVariants as phase
 use Rattle.vx_stats.specs.declared.text.StatsForm.{StatsForm}
 use Rattle.vx_tables.specs.Folder.{holds_at, LacksAt}
 use Rattle.vx_answer.specs.CommandLine.{FileCommand, AnswersTask, TaskRefuses, task_memory, for_planning, for_plan_of}
@@ -22,6 +24,7 @@ use Rattle.vx_answer.specs.Plans.{NamedPlan, AreAnswers, title}
 use Rattle.vx_answer.specs.PlansView.{named_is}
 use Rattle.vx_answer.specs.Stats.{IsCountedRun, IsCountedPlan, TellsTask, IsRunMore, AreCountedRuns}
 use Rattle.vx_answer.specs.declared.plans.AcceptedPlan.{AcceptedPlan}
+use Rattle.vx_answer.specs.declared.stats.Counted.{Counted}
 
 -- memory ran out, or the run of a plan over its database is refused
 pub run_refused_or : {T : Type 0} (r : Result T Refusal) (p : TypedPlanView) (holds : Holding) (lacks : Lacking) (s : Setting) (db : Database) → IsDatabaseFor p holds db
@@ -94,3 +97,11 @@ counted_grow f db s ns i d n text stats grown told there at h more =
     let taken : take (i + 1) ns ≡ take i ns ++ n ∷ [] = take_more ns i d there ∙ ap (λ x. take i ns ++ x ∷ []) (sym at) in
     subst (λ ms. AreCountedRuns f db s ms grown told) (sym taken)
     (subst (λ t. AreCountedRuns f db s (take i ns ++ n ∷ []) t told) (sym more.text_is) (subst (λ t. AreCountedRuns f db s (take i ns ++ n ∷ []) (text ++ own) t) (sym more.stats_are) all))
+
+-- what is told of a run of this plan is told of the task
+pub task_told : (files : List ℕ → Stored) (input : Option (List ℕ)) (f : StatsForm) (t : FileCommand) (p : TypedPlan) (r : Result Counted Refusal) → IsFilesPlan files input t.paths (resolved_of p)
+    → IfOk r (λ k. IsShown (resolved_of p))
+    → IfOk r (λ k. IsCountedPlan f p (holds_at files t.folder) t.setting (phase.Read ∷ phase.Plan ∷ phase.Check ∷ []) k.text.items (string_bytes k.opening))
+    → IfOk r (λ k. TellsTask files input f t k.text.items (string_bytes k.opening))
+task_told files input f t p (Ok k) planned shown told = record { plan = p; planned = planned; shown = shown; counted = told }
+task_told files input f t p (Err e) planned shown told = tt

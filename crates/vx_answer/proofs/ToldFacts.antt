@@ -1,25 +1,27 @@
 -- Answers with statistics: what they answer, and when there are none.
-use Rattle.std.proofs.Common.{◌≡◌, ◌∙◌, ℕ, List, map, Option, Some, Result, Ok, Err, [], inl, inr, sym, subst}
-use Rattle.std.specs.Prelude.{IfOk}
+use Rattle.std.proofs.Common.{◌≡◌, ◌⊎◌, ◌∙◌, ℕ, List, map, Bool, Option, Some, Result, Ok, Err, [], inl, inr, sym, subst}
+use Rattle.std.specs.Prelude.{IfOk, IfErr}
 use Rattle.clap.specs.Values.{kind_of}
 use Rattle.clap.specs.Words.{HasKind, IsAmong, Kinds}
 use Rattle.clap.specs.declared.error.Error.{Error}
 use Rattle.clap.specs.declared.error.kind.ErrorKind.{ErrorKind}
 use Rattle.clap.specs.declared.error.kind.ErrorKind.TheVariants as kind
-use Rattle.vx_arguments.specs.Asked.{Ask, ManyPaths}
+use Rattle.vx_arguments.specs.Asked.{Ask, ManyPaths, stats_by, faults_of}
 use Rattle.vx_bundle.specs.Setting.{Setting}
 use Rattle.vx_bytes.specs.Stored.{Stored}
 use Rattle.vx_stats.specs.declared.text.StatsForm.{StatsForm}
-use Rattle.vx_answer.specs.CommandLine.{AsksFor}
-use Rattle.vx_answer.specs.CommandLineView.{IsHelp}
+use Rattle.vx_answer.specs.CommandLine.{with_program_name, AsksFor, for_no_stats, arguments_memory}
+use Rattle.vx_answer.specs.CommandLineView.{IsHelp, IsAskFault, IsArgumentFault}
 use Rattle.vx_answer.specs.Files.{input_after}
 use Rattle.vx_answer.specs.Plans.{AnswersPlans}
 use Rattle.vx_answer.specs.PlansView.{named_is}
 use Rattle.vx_answer.specs.Stats.{TellsPlans}
-use Rattle.vx_answer.specs.StatsView.{IsCountedAs, IsUncounted}
+use Rattle.vx_answer.specs.StatsView.{IsCountedAs, IsUncounted, IsStatsFault}
 use Rattle.vx_answer.specs.declared.command_line.ArgumentAnswer.{ArgumentAnswer}
 use Rattle.vx_answer.specs.declared.command_line.ArgumentAnswer.TheVariants as answer
 use Rattle.vx_answer.specs.declared.command_line.ArgumentFault.{ArgumentFault}
+use Rattle.vx_answer.specs.declared.command_line.ArgumentFault.TheVariants as fault
+use Rattle.vx_answer.proofs.CommandLineFacts.{arguments_refused}
 use Rattle.vx_answer.proofs.SharesFacts.{have_shares, answers_in}
 use Rattle.vx_answer.proofs.StatsFacts.{counted_answers}
 
@@ -49,3 +51,21 @@ help_uncounted k (Ok (answer.Text text)) h = tt
 help_uncounted k (Ok (answer.Relation rows)) h = tt
 help_uncounted k (Ok (answer.Counted counted)) h = h
 help_uncounted k (Err e) h = tt
+
+-- a word that is no form of statistics is a wrong argument
+stats_refused : (files : List ℕ → Stored) (reliable : List ℕ → Bool) (input : Option (List ℕ)) (failed : Bool) (arguments : List (List ℕ)) (word : Option (List ℕ)) (e : ArgumentFault)
+    → faults_of (with_program_name arguments) ≡ [] → word ≡ stats_by (with_program_name arguments) → IsStatsFault word e → IsArgumentFault files reliable input failed arguments e
+stats_refused files reliable input failed arguments word (fault.Usage text) none is h = for_no_stats h.0 none (sym is ∙ h.1) h.2
+stats_refused files reliable input failed arguments word (fault.Refused e) none is h = arguments_memory h
+stats_refused files reliable input failed arguments word (fault.Failing lines) none is h = absurd h
+stats_refused files reliable input failed arguments word (fault.Stopped s) none is h = absurd h
+
+-- why a request is not answered is why the arguments are not
+pub request_refused : {T : Type 0} (files : List ℕ → Stored) (reliable : List ℕ → Bool) (input : Option (List ℕ)) (failed : Bool) (arguments : List (List ℕ)) (ask : Ask) (word : Option (List ℕ))
+    (r : Result T ArgumentFault) → AsksFor arguments ask → word ≡ stats_by (with_program_name arguments)
+    → IfErr r (λ e. IsAskFault files reliable input failed ask e ⊎ IsStatsFault word e) → IfErr r (IsArgumentFault files reliable input failed arguments)
+request_refused files reliable input failed arguments ask word (Ok v) asked is h = tt
+request_refused files reliable input failed arguments ask word (Err e) asked is h = elim h [
+  | inl k ↦ arguments_refused files reliable input failed arguments ask (Err e) asked k
+  | inr k ↦ stats_refused files reliable input failed arguments word e asked.unrefused is k
+]

@@ -364,6 +364,7 @@ fn answer_verdict<F: Store, I: ByteIn>(
     sources: Sources<'_>,
 ) -> Result<ArgumentAnswer, ArgumentFault>
     ensures answer { IfOk result (λ a. IsAskAnswer (F.holds files.now) (I.remaining input.old) (check_all (paths_are sources.entry)) a) }
+    ensures untold { IfOk result IsUncounted }
     ensures refused { IfErr result (IsAskFault (F.holds files.now) (F.is_reliable files.now) (I.remaining input.old) (I.has_failed input.new) (check_all (paths_are sources.entry))) }
 {
     let plan = plan_from_files(alloc, files, input, sources)?;

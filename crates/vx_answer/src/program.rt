@@ -56,6 +56,7 @@ fn refuse<E: ByteOut>(refusal: &Refusal, err: &mut E) -> u8
 fn write_text<O: ByteOut, E: ByteOut>(text: &[u8], out: &mut O, err: &mut E) -> u8
     ensures done { result ≡ 0 → Appends (O.contents out.old) (O.contents out.new) text.now }
     ensures failed { result ≢ 0 → (result ≡ 4) × (O.has_failed out.new ≡ true) }
+    ensures quiet { result ≡ 0 → err.new ≡ err.old }
 {
     match write_all(out, text) {
         Ok(()) => 0,
@@ -73,6 +74,7 @@ pub fn deliver<O: ByteOut, E: ByteOut>(
     ensures done { IfOk outcome (λ text. result ≡ 0 → Appends (O.contents out.old) (O.contents out.new) text.items) }
     ensures failed { IfOk outcome (λ _. result ≢ 0 → (result ≡ 4) × (O.has_failed out.new ≡ true)) }
     ensures refused { IfErr outcome (λ e. (result ≡ status_of e) × (out.new ≡ out.old)) }
+    ensures quiet { result ≡ 0 → err.new ≡ err.old }
 {
     match outcome {
         Ok(text) => write_text(text.as_slice(), out, err),
@@ -112,6 +114,7 @@ fn write_relation<O: ByteOut, E: ByteOut>(alloc: Global, rows: u64, out: &mut O,
     ensures done { result ≡ 0 → (rows ≤ max_rows) × Appends (O.contents out.old) (O.contents out.new) (csv_text column_names (wisconsin rows)) }
     ensures kept { result ≢ 0 → O.has_failed out.new ≡ false → out.new ≡ out.old }
     ensures statuses { (result ≡ 0) ⊎ (result ≡ 3) ⊎ (result ≡ 4) }
+    ensures quiet { result ≡ 0 → err.new ≡ err.old }
     ensures large { (max_rows < rows → result ≡ 3) × (result ≡ 3 → (max_rows < rows) × (out.new ≡ out.old)) }
 {
     match generate(alloc, rows, out) {
