@@ -134,7 +134,7 @@ pub fn answer_counted<T: Threads + Wait + Sync, C: Clock, F: Store, I: ByteIn>(
                 return Err(usage_error(alloc, usage_text(asked)));
             };
             let counted = counted_task(
-                rt, clock, alloc, seed, files, input, form, *sources, folder, &setting,
+                rt, clock, alloc, seed, files, input, form, *sources, *folder, &setting,
             )?;
             Ok(ArgumentAnswer::Counted(counted))
         }
@@ -143,7 +143,7 @@ pub fn answer_counted<T: Threads + Wait + Sync, C: Clock, F: Store, I: ByteIn>(
                 return Err(usage_error(alloc, usage_text(asked)));
             };
             let counted = counted_plans(
-                rt, clock, alloc, seed, files, input, form, sources, folder, &setting,
+                rt, clock, alloc, seed, files, input, form, sources, *folder, &setting,
             )?;
             Ok(ArgumentAnswer::Counted(counted))
         }
