@@ -75,6 +75,7 @@ fn main(rt: HostRuntime) -> ExitCode {
     let files = Disk::new(&rt);
     ExitCode::from(answer(
         &rt,
+        &rt,
         rt.alloc(),
         seed,
         texts.as_slice(),

@@ -4,7 +4,7 @@ use Rattle.clap.specs.Words.{IsAmong}
 use Rattle.clap.specs.declared.error.kind.ErrorKind.{ErrorKind}
 use Rattle.clap.specs.declared.error.kind.ErrorKind.TheVariants as kind
 use Rattle.vx_plan_nodes.specs.Names.{TypedPlanView}
-use Rattle.vx_arguments.specs.Asked.{Ask, Paths, ManyPaths, Given, bundle, check, check_all, explain, annotate, sql, why, serial, run, run_plans, generate, asked_by, faults_of}
+use Rattle.vx_arguments.specs.Asked.{Ask, Paths, ManyPaths, Given, bundle, check, check_all, explain, annotate, sql, why, serial, run, run_plans, generate, asked_by, stats_by, faults_of}
 use Rattle.vx_bundle.specs.declared.command.Command.{Command}
 use Rattle.vx_bundle.specs.declared.command.Command.TheVariants as command
 use Rattle.vx_bundle.specs.declared.setting.Mode.TheVariants as mode
@@ -25,6 +25,7 @@ use Rattle.vx_answer.specs.Forms.{form_named, IsInForm, FormRefuses}
 use Rattle.vx_answer.specs.Statements.{dialect_named, IsStatement}
 use Rattle.vx_sql.specs.declared.dialect.Dialect.{Dialect}
 use Rattle.vx_answer.specs.Annotated.{IsAnnotated, AnnotationRefuses}
+use Rattle.vx_answer.specs.StatsNames.{stats_named}
 use Rattle.vx_answer.specs.Verdict.{IsAllShown, AreFailures}
 use Rattle.vx_answer.specs.Plans.{AnswersPlans, PlansStop, PlansRefuse}
 use Rattle.vx_answer.specs.declared.forms.PlanForm.{PlanForm}
@@ -187,6 +188,7 @@ pub data IsUsageError (arguments : List (List ℕ)) : Type 0 where
   for_kind : (k : ErrorKind) → IsAmong k (faults_of (with_program_name arguments)) → IsUsageKind k → IsUsageError arguments
   for_nothing : faults_of (with_program_name arguments) ≡ [] → asked_by (with_program_name arguments) ≡ None → IsUsageError arguments
   for_no_task : (ask : Ask) → AsksFor arguments ask → IsNoTask ask → IsUsageError arguments
+  for_no_stats : (word : List ℕ) → faults_of (with_program_name arguments) ≡ [] → stats_by (with_program_name arguments) ≡ Some word → stats_named word ≡ None → IsUsageError arguments
 
 -- what arguments ask for is refused with this refusal, or memory ran out
 pub data ArgumentsRefuse (files : List ℕ → Stored) (reliable : List ℕ → Bool) (input : Option (List ℕ)) (failed : Bool) (arguments : List (List ℕ)) (e : Refusal) : Type 0 where

@@ -1,16 +1,20 @@
 //! What arguments ask for, answered from files and standard input.
 
-ghost use Rattle.std.specs.Prelude.{◌≡◌, map, MatchOption, IfOk, IfErr};
+ghost use Rattle.std.specs.Prelude.{◌≡◌, ◌⊎◌, true, map, option_map, Some, None, MatchOption, IfOk, IfErr};
 ghost use Rattle.clap.specs.Values.{kind_of};
-ghost use Rattle.vx_arguments.specs.Asked.{asked_is, paths_are, many_are, given_is, run, run_plans, check_all, explain, sql, why};
+ghost use Rattle.vx_arguments.specs.Asked.{asked_is, paths_are, many_are, given_is, run, run_plans, check_all, explain, sql, why, Ask};
+ghost use Rattle.vx_stats.specs.declared.text.StatsForm.{StatsForm};
 ghost use Rattle.vx_answer.specs.Arguments.{IsSetting, IsNoSetting};
 ghost use Rattle.vx_answer.specs.Plans.{AnswersPlans};
-ghost use Rattle.vx_answer.specs.CommandLine.{default_setting, IsTask, IsNoTask, AnswersTask, TaskRefuses, AnswersForm, FormIsRefused, AnswersStatement, StatementIsRefused, AnswersAnnotation, AnnotationIsRefused, command_in, spelled_out, with_program_name};
+ghost use Rattle.vx_answer.specs.CommandLine.{default_setting, IsTask, IsNoTask, AnswersTask, TaskRefuses, AnswersForm, FormIsRefused, AnswersStatement, StatementIsRefused, AnswersAnnotation, AnnotationIsRefused, command_in, spelled_out, with_program_name, AsksFor};
+ghost use Rattle.vx_answer.specs.Stats.{stats_of_word, stats_asked, is_run};
+ghost use Rattle.vx_answer.specs.StatsView.{IsCountedAs, IsUncounted, IsStatsFault};
 ghost use Rattle.vx_answer.specs.CommandLineView.{task_is, IsPlansTask, IsJob, IsAskAnswer, IsArgumentAnswer, IsHelp, HasUsageText, IsClapFault, IsPlansFault, IsAskFault, IsArgumentFault};
 
 use crate::annotating::annotated_plan;
 use crate::arguments::setting_in;
 use crate::command::execute;
+use crate::counting::answer_counted;
 use crate::failing::{Verdict, verdict_on};
 use crate::files::{document_from_files, is_input, plan_from_files};
 use crate::forms::{PlanForm, form_named, plan_in_form};
@@ -18,12 +22,14 @@ use crate::plans::{accepted_plans, catalog_under};
 use crate::program::outcome_of;
 use crate::runs::{Stopped, run_each};
 use crate::statement::{dialect_named, statement};
+use crate::stats::{Counted, stats_named};
 use clap::Error;
 use clap::error::ErrorKind;
 use std::alloc::{AllocError, Global};
 use std::sync::Wait;
 use std::thread::Threads;
-use vx_arguments::{Asked, Limits, ManySources, Sources, asked_for};
+use std::time::Clock;
+use vx_arguments::{Asked, Limits, ManySources, Request, Sources, asked_for};
 use vx_bundle::{Command, MORSEL, Mode, PACKET, SLACK, Setting};
 use vx_bytes::{ByteIn, Store};
 use vx_refusals::Refusal;
@@ -77,6 +83,8 @@ pub enum ArgumentAnswer {
     Text(Vec<u8>),
     /// The text of the relation with so many rows, which is still to be made.
     Relation(u64),
+    /// A finished text, and statistics that follow it.
+    Counted(Counted),
 }
 
 /// Why arguments have no answer.
@@ -356,6 +364,7 @@ fn answer_verdict<F: Store, I: ByteIn>(
     sources: Sources<'_>,
 ) -> Result<ArgumentAnswer, ArgumentFault>
     ensures answer { IfOk result (λ a. IsAskAnswer (F.holds files.now) (I.remaining input.old) (check_all (paths_are sources.entry)) a) }
+    ensures untold { IfOk result IsUncounted }
     ensures refused { IfErr result (IsAskFault (F.holds files.now) (F.is_reliable files.now) (I.remaining input.old) (I.has_failed input.new) (check_all (paths_are sources.entry))) }
 {
     let plan = plan_from_files(alloc, files, input, sources)?;
@@ -365,8 +374,8 @@ fn answer_verdict<F: Store, I: ByteIn>(
     }
 }
 
-// What is wrong with arguments that ask for what there is not.
-fn usage_text(asked: &Asked<'_>) -> &'static str {
+/// What is wrong with arguments that ask for what there is not.
+pub fn usage_text(asked: &Asked<'_>) -> &'static str {
     match asked {
         Asked::Explain(_, _) => {
             "volcano: a format is `text`, `json` or `dot`; see volcano explain --help\n"
@@ -383,8 +392,8 @@ fn usage_text(asked: &Asked<'_>) -> &'static str {
     }
 }
 
-// The fault of wrong arguments, with the text that says how they are wrong.
-fn usage_error(alloc: Global, text: &str) -> ArgumentFault
+/// The fault of wrong arguments, with the text that says how they are wrong.
+pub fn usage_error(alloc: Global, text: &str) -> ArgumentFault
     ensures { HasUsageText text.now result }
 {
     match String::from_str(alloc, text) {
@@ -393,8 +402,8 @@ fn usage_error(alloc: Global, text: &str) -> ArgumentFault
     }
 }
 
-// What answers what arguments ask for.
-fn answer_asked<T: Threads + Wait + Sync, F: Store, I: ByteIn>(
+/// What answers what arguments ask for, without statistics.
+pub fn answer_asked<T: Threads + Wait + Sync, F: Store, I: ByteIn>(
     rt: &T,
     alloc: Global,
     seed: KeySeed,
@@ -403,6 +412,7 @@ fn answer_asked<T: Threads + Wait + Sync, F: Store, I: ByteIn>(
     asked: &Asked<'_>,
 ) -> Result<ArgumentAnswer, ArgumentFault>
     ensures answer { IfOk result (λ a. IsAskAnswer (F.holds files.now) (I.remaining input.old) (asked_is asked.now) a) }
+    ensures untold { IfOk result IsUncounted }
     ensures refused { IfErr result (IsAskFault (F.holds files.now) (F.is_reliable files.now) (I.remaining input.old) (I.has_failed input.new) (asked_is asked.now)) }
 {
     match job_in(alloc, asked)? {
@@ -470,6 +480,38 @@ fn with_program_name<'a>(alloc: Global, arguments: &[&'a str]) -> Result<Vec<&'a
     Ok(all)
 }
 
+// What is wrong with a word for statistics.
+const NO_STATS: &str =
+    "volcano: statistics are `none`, `table` or `json`; see volcano run --help\n";
+
+// What answers a request.
+fn answer_request<T: Threads + Wait + Sync, C: Clock, F: Store, I: ByteIn>(
+    rt: &T,
+    clock: &C,
+    alloc: Global,
+    seed: KeySeed,
+    files: &F,
+    input: &mut I,
+    request: &Request<'_>,
+) -> Result<ArgumentAnswer, ArgumentFault>
+    ensures answer { IfOk result (λ a. IsAskAnswer (F.holds files.now) (I.remaining input.old) (asked_is request.now.asked) a) }
+    ensures told { (f : StatsForm) → is_run (asked_is request.now.asked) ≡ true → stats_of_word (option_map (λ s. s.now) request.now.stats) ≡ Some f → IfOk result (IsCountedAs f) }
+    ensures untold { stats_of_word (option_map (λ s. s.now) request.now.stats) ≡ None → IfOk result IsUncounted }
+    ensures refused { IfErr result (λ e. IsAskFault (F.holds files.now) (F.is_reliable files.now) (I.remaining input.old) (I.has_failed input.new) (asked_is request.now.asked) e
+        ⊎ IsStatsFault (option_map (λ s. s.now) request.now.stats) e) }
+{
+    match request.stats {
+        None => answer_asked(rt, alloc, seed, files, input, &request.asked),
+        Some(word) => match stats_named(word) {
+            None => Err(usage_error(alloc, NO_STATS)),
+            Some(None) => answer_asked(rt, alloc, seed, files, input, &request.asked),
+            Some(Some(form)) => {
+                answer_counted(rt, clock, alloc, seed, files, input, form, &request.asked)
+            }
+        },
+    }
+}
+
 // What clap returns in place of matches: help, which is an answer, or a fault.
 fn help_or_fault(alloc: Global, error: &Error) -> Result<ArgumentAnswer, ArgumentFault>
     ensures help { IfOk result (IsHelp (kind_of error.now)) }
@@ -486,8 +528,9 @@ fn help_or_fault(alloc: Global, error: &Error) -> Result<ArgumentAnswer, Argumen
 }
 
 /// What answers arguments.
-pub fn answer_arguments<T: Threads + Wait + Sync, F: Store, I: ByteIn>(
+pub fn answer_arguments<T: Threads + Wait + Sync, C: Clock, F: Store, I: ByteIn>(
     rt: &T,
+    clock: &C,
     alloc: Global,
     seed: KeySeed,
     files: &F,
@@ -495,11 +538,13 @@ pub fn answer_arguments<T: Threads + Wait + Sync, F: Store, I: ByteIn>(
     arguments: &[&str],
 ) -> Result<ArgumentAnswer, ArgumentFault>
     ensures answer { IfOk result (λ a. IsArgumentAnswer (F.holds files.now) (I.remaining input.old) (map (λ a. a.now) arguments.now) a) }
+    ensures told { (f : StatsForm) (ask : Ask) → AsksFor (map (λ a. a.now) arguments.now) ask → is_run ask ≡ true → stats_asked (map (λ a. a.now) arguments.now) ≡ Some f → IfOk result (IsCountedAs f) }
+    ensures untold { stats_asked (map (λ a. a.now) arguments.now) ≡ None → IfOk result IsUncounted }
     ensures refused { IfErr result (IsArgumentFault (F.holds files.now) (F.is_reliable files.now) (I.remaining input.old) (I.has_failed input.new) (map (λ a. a.now) arguments.now)) }
 {
     let arguments = with_program_name(alloc, arguments)?;
     match asked_for(alloc, arguments.as_slice()) {
-        Ok(Some(request)) => answer_asked(rt, alloc, seed, files, input, &request.asked),
+        Ok(Some(request)) => answer_request(rt, clock, alloc, seed, files, input, &request),
         Ok(None) => Err(usage_error(alloc, "volcano: these words ask for nothing\n")),
         Err(error) => help_or_fault(alloc, &error),
     }

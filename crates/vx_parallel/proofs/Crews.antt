@@ -16,6 +16,7 @@ use Rattle.vx_operators.specs.declared.destination.Destination.{Destination}
 use Rattle.vx_steps.specs.Crews.{IsCrew}
 use Rattle.vx_steps.specs.Endings.{ReportsFirst}
 use Rattle.vx_steps.specs.Headline.{Answers}
+use Rattle.vx_steps.specs.Ready.{Settled}
 use Rattle.vx_steps.specs.Roles.{crew_size}
 use Rattle.vx_steps.proofs.Build.{crew-count, crew-root, crew-below}
 use Rattle.vx_steps.proofs.RunSteps.{map-length}
@@ -40,6 +41,7 @@ use Rattle.vx_parallel.specs.declared.places.FragmentPlace.{FragmentPlace}
 use Rattle.vx_parallel.specs.Crew.{IsWiringOf, AreNew, AreHonest, HaveRun}
 use Rattle.vx_parallel.specs.Fragments.{fragments_below, places_from}
 use Rattle.vx_parallel.specs.Members.{worker_of, ends_of}
+use Rattle.vx_parallel.specs.Parallel.{WereJoined}
 use Rattle.vx_parallel.specs.Places.{place_in}
 use Rattle.vx_parallel.proofs.Counting.{places-count}
 
@@ -136,6 +138,19 @@ module _ (j : Job) (hash : List ℕ → Row → ℕ → ℕ) where
         below = crew-below W q (map role (map worker_of cs)) ready.0 crew;
       } in
       subst (λ z. WereRun z w.decks.items places js) (sym ep) (subst (λ z. WereRun q w.decks.items z js) (sym eq) was)
+
+  -- they are the workers that were joined, of the plan as the job has it
+  pub were-joined : (p : Plan) (decks : List DeckView) (places : List DeckPlace) (js : List (Joined Operator Destination)) (ended : List (Worker Operator Destination)) (v : Verdict)
+      → p ≡ plan j.plan.now → WereRun p decks places js → ended ≡ map joined_worker js → Settled task_of (model_of hash j) p ended v
+      → WereJoined hash (model_of hash j) (plan j.plan.now) ended v
+  were-joined p decks places js ended v ep was are settled = record {
+    decks = decks;
+    places = places;
+    joined = js;
+    run = subst (λ z. WereRun z decks places js) ep was;
+    workers = are;
+    settled = subst (λ z. Settled task_of (model_of hash j) z ended v) ep settled;
+  }
 
   -- those that came back have the roles of those that went
   same-roles : (cs : List (CrewMember Operator Destination)) (js : List (Joined Operator Destination)) → AreHonest hash j cs js

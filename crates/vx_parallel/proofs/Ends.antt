@@ -92,18 +92,18 @@ refusal-few (Err y) e most n h k = λ lt. elim k [
   | inr t ↦ inl (ap (λ z. Err z) (h ∙ t))
 ]
 
-pub refusal-counted : (r : Result Ran RunFault) (e : RunFault) (W : RunModel) (p : Plan) (counts : List WorkerCounts) → IsErrAnd r (λ y. y ≡ e) → IsRefusal e
-    → CountedByThreads W p r counts
-refusal-counted (Ok x) e W p counts h k = absurd h
-refusal-counted (Err y) e W p counts h k = elim k [
-  | inl m ↦ inl (h ∙ m)
-  | inr t ↦ inr (inl (h ∙ t))
-]
+module _ (hash : List ℕ → Row → ℕ → ℕ) (W : RunModel) (p : Plan) where
+  pub refusal-counted : (r : Result Ran RunFault) (e : RunFault) (counts : List WorkerCounts) → IsErrAnd r (λ y. y ≡ e) → IsRefusal e → CountedByThreads hash W p r counts
+  refusal-counted (Ok x) e counts h k = absurd h
+  refusal-counted (Err y) e counts h k = elim k [
+    | inl m ↦ inl (h ∙ m)
+    | inr t ↦ inr (inl (h ∙ t))
+  ]
 
--- the workers came to this, whatever it is
-pub counted-reported : (r : Result Ran RunFault) (W : RunModel) (p : Plan) (counts : List WorkerCounts) → IsCountedCrew W p r counts → CountedByThreads W p r counts
-counted-reported (Ok x) W p counts h = h
-counted-reported (Err e) W p counts h = inr (inr h)
+  -- the workers came to this, whatever it is
+  pub counted-reported : (r : Result Ran RunFault) (counts : List WorkerCounts) → IsCountedCrew hash W p r counts → CountedByThreads hash W p r counts
+  counted-reported (Ok x) counts h = h
+  counted-reported (Err e) counts h = inr (inr h)
 
 -- workers with the same roles are as many
 pub same-count : (old : Vec (Worker Operator Destination) Global) (new : List (Worker Operator Destination))

@@ -1,14 +1,24 @@
 -- What a run whose workers are threads comes to.
-use Rattle.std.specs.Prelude.{ℕ, ◌≡◌, ◌<◌, ◌⊎◌, Result, Ok, Err, List, length}
+use Rattle.std.specs.Prelude.{ℕ, ◌≡◌, ◌<◌, ◌⊎◌, Result, Ok, Err, List, length, map}
+use Rattle.vx_values.specs.Values.{Row}
 use Rattle.vx_catalog.specs.Database.{Database}
 use Rattle.vx_plan_nodes.specs.Names.{TypedPlanView}
 use Rattle.vx_plan_nodes.specs.Plan.{Plan}
 use Rattle.vx_worker.specs.Fragment.{RunModel}
+use Rattle.vx_worker.specs.Trace.{scan_morsels}
 use Rattle.vx_worker.specs.declared.worker.Worker.{Worker}
+use Rattle.vx_operators.specs.Operator.{OperatorStands, operator_op}
+use Rattle.vx_operators.specs.Destination.{DestinationStands, task_of, post_of, bounds_of}
 use Rattle.vx_operators.specs.declared.operator.Operator.{Operator}
 use Rattle.vx_operators.specs.declared.destination.Destination.{Destination}
+use Rattle.vx_steps.specs.Ready.{Settled}
 use Rattle.vx_steps.specs.Roles.{crew_size}
 use Rattle.vx_steps.specs.declared.verdict.Verdict.{Verdict}
+use Rattle.vx_decks.specs.Seats.{DeckView}
+use Rattle.vx_threads.specs.declared.deck_place.DeckPlace.{DeckPlace}
+use Rattle.vx_spawn.specs.declared.member.Joined.{Joined}
+use Rattle.vx_assembly.specs.Assembly.{WasRun}
+use Rattle.vx_assembly.specs.Parts.{worker_in}
 use Rattle.vx_setup.specs.Setup.{SetupView}
 use Rattle.vx_setup.specs.declared.fault.RunFault.{RunFault}
 use Rattle.vx_setup.specs.declared.fault.RunFault.TheVariants as fault
@@ -37,15 +47,27 @@ IsWhole ran.Unfinished = ⊥
 abbrev pub NeedsFew : (most workers : ℕ) → Result Ran RunFault → Type 0
 NeedsFew most workers result = most < workers → (result ≡ Err fault.NoThread) ⊎ (result ≡ Err fault.NoMemory)
 
--- as many workers as a plan has came to this result, and these are their counts in the end
-pub record IsCountedCrew (W : RunModel) (p : Plan) (result : Result Ran RunFault) (counts : List WorkerCounts) : Type 0 where
-  pub ended : List (Worker Operator Destination)
-  pub as_many : length ended ≡ crew_size W.sizes p
-  pub verdict : Verdict
-  pub comes : ComesTo ended verdict result
-  pub counted : AreCountsOf ended counts
+module _ (hash : List ℕ → Row → ℕ → ℕ) (W : RunModel) (p : Plan) where
+  -- the workers that were joined, in the order of their numbers: one for each place of the plan, which was given to a thread before its first step, wired as the
+  -- plan says, and which that thread gave back once it had ended (`WasRun`). Their traces are those of a run that comes to this verdict (`Settled`)
+  pub record WereJoined (ended : List (Worker Operator Destination)) (verdict : Verdict) : Type 0 where
+    pub decks : List DeckView
+    pub places : List DeckPlace
+    pub joined : List (Joined Operator Destination)
+    pub run : WasRun OperatorStands operator_op DestinationStands task_of post_of bounds_of hash (scan_morsels W) W p decks places joined
+    pub workers : ended ≡ map worker_in joined
+    pub settled : Settled task_of W p ended verdict
 
--- memory or a thread was refused, or workers were run to their end and counted this
-abbrev pub CountedByThreads : RunModel → Plan → Result Ran RunFault → List WorkerCounts → Type 0
-CountedByThreads W p (Ok r) counts = IsCountedCrew W p (Ok r) counts
-CountedByThreads W p (Err e) counts = (e ≡ fault.NoMemory) ⊎ (e ≡ fault.NoThread) ⊎ IsCountedCrew W p (Err e) counts
+  -- the workers that were joined came to this result, and these are their counts in the end, of each its own
+  pub record IsCountedCrew (result : Result Ran RunFault) (counts : List WorkerCounts) : Type 0 where
+    pub ended : List (Worker Operator Destination)
+    pub as_many : length ended ≡ crew_size W.sizes p
+    pub verdict : Verdict
+    pub joined : WereJoined ended verdict
+    pub comes : ComesTo ended verdict result
+    pub counted : AreCountsOf ended counts
+
+  -- memory or a thread was refused, or threads ran workers to their end, and these counted this
+  abbrev pub CountedByThreads : Result Ran RunFault → List WorkerCounts → Type 0
+  CountedByThreads (Ok r) counts = IsCountedCrew (Ok r) counts
+  CountedByThreads (Err e) counts = (e ≡ fault.NoMemory) ⊎ (e ≡ fault.NoThread) ⊎ IsCountedCrew (Err e) counts

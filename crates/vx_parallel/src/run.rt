@@ -15,7 +15,7 @@ ghost use Rattle.vx_exec.specs.Counts.{is_wanted, counts_in};
 ghost use Rattle.vx_exec.specs.Job.{model_of, types_at};
 ghost use Rattle.vx_exec.specs.Runs.{IsRunOf, IfDone, IsTrueOf, IsSetUp};
 ghost use Rattle.vx_parallel.specs.Crew.{IsWiringOf, AreNew, AreHonest, IsAcceptedJob, HaveRun};
-ghost use Rattle.vx_parallel.specs.Parallel.{ThreadsFail, IsReportedByThreads, IsWhole, NeedsFew, CountedByThreads};
+ghost use Rattle.vx_parallel.specs.Parallel.{ThreadsFail, IsReportedByThreads, IsWhole, NeedsFew, WereJoined, CountedByThreads};
 
 use crate::members::members_of;
 use crate::places::places_of;
@@ -80,6 +80,7 @@ fn run_crew<R: Router + Sync, G: Gate + Sync, T: Threads + Wait + Sync>(
     requires new { AreNew job.now workers.items }
     requires wired { IsWiringOf job.now wiring }
     ensures run { IsAcceptedJob (R.route_of router.now) job.now → IfOk result (λ r. HaveRun (R.route_of router.now) job.now workers.items r.0.items r.1) }
+    ensures joined { IfOk result (λ r. WereJoined (R.route_of router.now) (model_of (R.route_of router.now) job.now) (whole_plan job.now.plan.now) r.0.items r.1) }
     ensures fault { IfErr result (λ e. (e ≡ NoMemory) ⊎ (e ≡ NoThread)) }
 {
     let Wiring {
@@ -115,7 +116,7 @@ fn run_job<R: Router + Sync, G: Gate + Sync, T: Threads + Wait + Sync>(
     ensures first { IfErr result (IsReportedByThreads (model_of (R.route_of router.now) job.now) (whole_plan job.now.plan.now)) }
     ensures few { NeedsFew most (crew_size (group_at job.now.groups.items) (whole_plan job.now.plan.now)) result }
     ensures counted { is_wanted counts.old ≡ true
-        → CountedByThreads (model_of (R.route_of router.now) job.now) (whole_plan job.now.plan.now) result (counts_in counts.new) }
+        → CountedByThreads (R.route_of router.now) (model_of (R.route_of router.now) job.now) (whole_plan job.now.plan.now) result (counts_in counts.new) }
 {
     job.meets();
     let crew = Crew::new(alloc, job)?;
@@ -152,7 +153,7 @@ fn run_counted<R: Router + Sync, G: Gate + Sync, T: Threads + Wait + Sync>(
     ensures few { (s : Sizes) → IsSetUp (resolved_of (typed_plan plan.now)) database.now setup.now s
         → NeedsFew most (crew_size (group_at s.groups) (whole_plan (typed_plan plan.now))) result }
     ensures counted { is_wanted counts.old ≡ true → (s : Sizes) → IsSetUp (resolved_of (typed_plan plan.now)) database.now setup.now s
-        → CountedByThreads (run_model (R.route_of router.now) (typed_plan plan.now) database.now s) (whole_plan (typed_plan plan.now)) result (counts_in counts.new) }
+        → CountedByThreads (R.route_of router.now) (run_model (R.route_of router.now) (typed_plan plan.now) database.now s) (whole_plan (typed_plan plan.now)) result (counts_in counts.new) }
 {
     let job = job_of(alloc, plan.plan(), database, setup)?;
     run_job(rt, alloc, &job, router, gate, most, counts)
@@ -240,7 +241,7 @@ pub fn run_threads_counted<R: Router + Sync, G: Gate + Sync, T: Threads + Wait +
     ensures first { (s : Sizes) → IsSetUp (resolved_of (typed_plan plan.now)) database.now setup.now s
         → IfErr result (IsReportedByThreads (run_model (R.route_of router.now) (typed_plan plan.now) database.now s) (whole_plan (typed_plan plan.now))) }
     ensures counted { is_wanted counts.old ≡ true → (s : Sizes) → IsSetUp (resolved_of (typed_plan plan.now)) database.now setup.now s
-        → CountedByThreads (run_model (R.route_of router.now) (typed_plan plan.now) database.now s) (whole_plan (typed_plan plan.now)) result (counts_in counts.new) }
+        → CountedByThreads (R.route_of router.now) (run_model (R.route_of router.now) (typed_plan plan.now) database.now s) (whole_plan (typed_plan plan.now)) result (counts_in counts.new) }
 {
     run_counted(
         rt,

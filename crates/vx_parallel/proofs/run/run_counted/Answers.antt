@@ -72,12 +72,14 @@ pub returns-clause-counted : goal.returns-clause-counted
 returns-clause-counted g c = λ wanted s set.
     let j = c.in_ok-job.job in
     let mine = subst (λ z. IsSetUp (resolved_of z) c.args.database.now c.args.setup.now (sizes_of j)) c.plan.ensures.same c.in_ok-job.ensures.set in
-    of-job (λ p db z. CountedByThreads (run_model (g.R.Router.route_of c.args.router.now) p db z) (whole_plan p) c.run_job.result (counts_in c.run_job.new.counts))
+    let hash = g.R.Router.route_of c.args.router.now in
+    of-job (λ p db z. CountedByThreads hash (run_model hash p db z) (whole_plan p) c.run_job.result (counts_in c.run_job.new.counts))
     j (typed_plan c.args.plan.now) c.args.database.now c.args.setup.now s (c.in_ok-job.ensures.plan ∙ c.plan.ensures.same) c.in_ok-job.ensures.database mine set (c.run_job.ensures.counted wanted)
 
 pub returns-in_err-job-clause-counted : goal.returns-in_err-job-clause-counted
 returns-in_err-job-clause-counted g c = λ wanted s set.
     let p = typed_plan c.args.plan.now in
-    refusal-counted c.from_residual.result c.in_err-job.field-0.0 (run_model (g.R.Router.route_of c.args.router.now) p c.args.database.now s) (whole_plan p)
-    (counts_in c.args.counts.now) c.from_residual.ensures.1
+    let hash = g.R.Router.route_of c.args.router.now in
+    refusal-counted hash (run_model hash p c.args.database.now s) (whole_plan p) c.from_residual.result c.in_err-job.field-0.0 (counts_in c.args.counts.now)
+    c.from_residual.ensures.1
     (inl (c.in_err-job.ensures.memory s (subst (λ z. IsSetUp (resolved_of z) c.args.database.now c.args.setup.now s) (sym c.plan.ensures.same) set)))

@@ -7,7 +7,7 @@ use Rattle.vx_steps.specs.Headline.{IsAccepted}
 use Rattle.vx_steps.specs.Roles.{crew_size}
 use Rattle.vx_groups.specs.Groups.{group_at}
 use Rattle.vx_exec.specs.Job.{model_of}
-use Rattle.vx_parallel.proofs.Crews.{few-members, as-many-ends, as-many-places, members-ready, were-run, have-run}
+use Rattle.vx_parallel.proofs.Crews.{few-members, as-many-ends, as-many-places, members-ready, were-run, were-joined, have-run}
 use Rattle.vx_parallel.proofs.run.run_crew.Goals as goal
 
 pub members_of-requires : goal.members_of-requires
@@ -72,3 +72,18 @@ returns-clause-run g c = λ ok.
     have-run j hash ws x.0.items cs js p x.1 c.in_ok-members.ensures.workers e c.in_ok-ended.ensures.workers c.in_ok-joined.ensures.honest
     (c.in_ok-ended.ensures.answers hash m W total sizes was accepted) (c.in_ok-ended.ensures.first hash m W total sizes was accepted)
     (c.in_ok-ended.ensures.whole hash m W sizes was)
+
+pub returns-clause-joined : goal.returns-clause-joined
+returns-clause-joined g c =
+    let j = c.args.job.now in
+    let hash = g.R.Router.route_of c.args.router.now in
+    let W = model_of hash j in
+    let m = scan_morsels W in
+    let p : Plan = plan_of c.root-root.result.now in
+    let e : p ≡ whole_plan j.plan.now = c.root-root.ensures.plan ∙ ap whole_plan c.plan.ensures.same in
+    let sizes = ap group_at (sym c.groups-groups.ensures.value) in
+    let js = c.in_ok-joined.joined.items in
+    let x = c.in_ok-ended.ended in
+    let was = were-run j hash c.args.workers.items c.args.wiring c.in_ok-members.members.items js p c.as_slice-2.result.now c.requires.new c.requires.wired
+    c.in_ok-members.ensures.workers c.in_ok-members.ensures.ends e c.as_slice-2.ensures.value c.in_ok-joined.ensures.honest in
+    were-joined j hash p c.args.wiring.decks.items c.as_slice-2.result.now js x.0.items x.1 e was c.in_ok-ended.ensures.workers (c.in_ok-ended.ensures.settled hash m W sizes was)

@@ -59,10 +59,11 @@ returns g c =
       first = failed-by r (IsFirstReported W p) (IsReportedByThreads W p) (λ e h. inr h) (comes-first x.1 r run c.answer_of.ensures);
       few = λ lt. absurd (omega (arith, lt, count));
       counted = λ wanted.
-          counted-reported r W p (counts_in c.note.new.self) (record {
+          counted-reported hash W p r (counts_in c.note.new.self) (record {
             ended = x.0.items;
             as_many = same-count parts.result.0 x.0.items ran.roles ∙ count;
             verdict = x.1;
+            joined = c.in_ok-ended.ensures.joined;
             comes = c.answer_of.ensures;
             counted = subst (λ ws. AreCountsOf ws (counts_in c.note.new.self)) c.as_slice.ensures.value (c.in_ok-note.ensures.counts wanted);
           });
@@ -88,5 +89,6 @@ returns-in_err-ended-clause-few g c =
 pub returns-in_err-ended-clause-counted : goal.returns-in_err-ended-clause-counted
 returns-in_err-ended-clause-counted g c = λ wanted.
     let j = c.args.job.now in
-    refusal-counted c.from_residual-in_err-ended.result c.in_err-ended.field-0.0 (model_of (g.R.Router.route_of c.args.router.now) j) (whole_plan j.plan.now)
-    (counts_in c.args.counts.now) c.from_residual-in_err-ended.ensures.1 c.in_err-ended.ensures.fault
+    let hash = g.R.Router.route_of c.args.router.now in
+    refusal-counted hash (model_of hash j) (whole_plan j.plan.now) c.from_residual-in_err-ended.result c.in_err-ended.field-0.0 (counts_in c.args.counts.now)
+    c.from_residual-in_err-ended.ensures.1 c.in_err-ended.ensures.fault
