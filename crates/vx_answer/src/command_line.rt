@@ -18,6 +18,7 @@ use crate::counting::answer_counted;
 use crate::failing::{Verdict, verdict_on};
 use crate::files::{document_from_files, is_input, plan_from_files};
 use crate::forms::{PlanForm, form_named, plan_in_form};
+use crate::loading::loading_threads;
 use crate::plans::{accepted_plans, catalog_under};
 use crate::program::outcome_of;
 use crate::runs::{Stopped, run_each};
@@ -35,7 +36,7 @@ use vx_bytes::{ByteIn, Store};
 use vx_refusals::Refusal;
 use vx_seeds::KeySeed;
 use vx_sql::Dialect;
-use vx_tables::{Folder, load_scanned};
+use vx_tables::{Folder, load_scanned_in_threads};
 use vx_why::entry;
 
 /// A command over the catalog, the plan and the folder of tables that arguments name.
@@ -266,10 +267,11 @@ fn job_in<'a>(alloc: Global, asked: &Asked<'a>) -> Result<Option<Job<'a>>, Alloc
     }
 }
 
-// The text that answers a task.
+// The text that answers a task, each table of which up to so many threads load.
 fn answer_task<T: Threads + Wait + Sync, F: Store, I: ByteIn>(
     rt: &T,
     alloc: Global,
+    threads: usize,
     seed: KeySeed,
     files: &F,
     input: &mut I,
@@ -283,13 +285,24 @@ fn answer_task<T: Threads + Wait + Sync, F: Store, I: ByteIn>(
         files,
         path: task.folder,
     };
-    execute(rt, alloc, seed, task.command, &folder, &task.setting, plan)
+    let setting = &task.setting;
+    execute(
+        rt,
+        alloc,
+        threads,
+        seed,
+        task.command,
+        &folder,
+        setting,
+        plan,
+    )
 }
 
-// The texts of runs of several plans, over tables that are loaded once.
+// The texts of runs of several plans, over tables that are loaded once, each by up to so many threads.
 fn answer_plans<T: Threads + Wait + Sync, F: Store, I: ByteIn>(
     rt: &T,
     alloc: Global,
+    threads: usize,
     seed: KeySeed,
     files: &F,
     input: &mut I,
@@ -306,7 +319,7 @@ fn answer_plans<T: Threads + Wait + Sync, F: Store, I: ByteIn>(
         files,
         path: task.folder,
     };
-    let database = load_scanned(alloc, seed, &catalog, &plans, &folder)?;
+    let database = load_scanned_in_threads(rt, alloc, threads, seed, &catalog, &plans, &folder)?;
     let text = run_each(rt, alloc, &task.setting, plans.plans.as_slice(), &database)?;
     Ok(text)
 }
@@ -402,10 +415,11 @@ pub fn usage_error(alloc: Global, text: &str) -> ArgumentFault
     }
 }
 
-/// What answers what arguments ask for, without statistics.
+/// What answers what arguments ask for, without statistics. Up to so many threads load a table.
 pub fn answer_asked<T: Threads + Wait + Sync, F: Store, I: ByteIn>(
     rt: &T,
     alloc: Global,
+    threads: usize,
     seed: KeySeed,
     files: &F,
     input: &mut I,
@@ -418,7 +432,7 @@ pub fn answer_asked<T: Threads + Wait + Sync, F: Store, I: ByteIn>(
     match job_in(alloc, asked)? {
         Some(Job::Bundle) => Ok(ArgumentAnswer::Text(outcome_of(rt, alloc, seed, input)?)),
         Some(Job::Command(task)) => {
-            let text = answer_task(rt, alloc, seed, files, input, &task)?;
+            let text = answer_task(rt, alloc, threads, seed, files, input, &task)?;
             Ok(ArgumentAnswer::Text(text))
         }
         Some(Job::Verdict(sources)) => answer_verdict(alloc, files, input, sources),
@@ -435,7 +449,7 @@ pub fn answer_asked<T: Threads + Wait + Sync, F: Store, I: ByteIn>(
             Ok(ArgumentAnswer::Text(text))
         }
         Some(Job::Plans(task)) => {
-            let text = answer_plans(rt, alloc, seed, files, input, &task)?;
+            let text = answer_plans(rt, alloc, threads, seed, files, input, &task)?;
             Ok(ArgumentAnswer::Text(text))
         }
         Some(Job::Entry(text)) => {
@@ -500,13 +514,24 @@ fn answer_request<T: Threads + Wait + Sync, C: Clock, F: Store, I: ByteIn>(
     ensures refused { IfErr result (λ e. IsAskFault (F.holds files.now) (F.is_reliable files.now) (I.remaining input.old) (I.has_failed input.new) (asked_is request.now.asked) e
         ⊎ IsStatsFault (option_map (λ s. s.now) request.now.stats) e) }
 {
+    let threads = loading_threads(rt, request.threads);
     match request.stats {
-        None => answer_asked(rt, alloc, seed, files, input, &request.asked),
+        None => answer_asked(rt, alloc, threads, seed, files, input, &request.asked),
         Some(word) => match stats_named(word) {
             None => Err(usage_error(alloc, NO_STATS)),
-            Some(None) => answer_asked(rt, alloc, seed, files, input, &request.asked),
+            Some(None) => answer_asked(rt, alloc, threads, seed, files, input, &request.asked),
             Some(Some(form)) => {
-                answer_counted(rt, clock, alloc, seed, files, input, form, &request.asked)
+                answer_counted(
+                    rt,
+                    clock,
+                    alloc,
+                    threads,
+                    seed,
+                    files,
+                    input,
+                    form,
+                    &request.asked,
+                )
             }
         },
     }

@@ -11,6 +11,7 @@ mod failing;
 mod files;
 mod forms;
 mod laws;
+mod loading;
 mod plans;
 mod program;
 mod run;

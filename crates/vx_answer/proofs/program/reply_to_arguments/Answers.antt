@@ -105,8 +105,8 @@ returns-in-Ok-Counted-clause-told g c = λ zero whole f ask asked run stats.
     let form = rw c.in-Ok-Counted.field-0-is at (c.in-Ok-Counted.ensures.told f ask asked run stats) in
     let told = c.write_counted.ensures.told zero whole in
     let P : StatsForm → Type 0 = λ f. (text : List ℕ) × (stats : List ℕ) × ToldOf files input f arguments text stats
-        × Appends (g.O.ByteOut.contents c.args.out.now) (g.O.ByteOut.contents c.write_counted.new.out) text
-        × Appends (g.E.ByteOut.contents c.args.err.now) (g.E.ByteOut.contents c.write_counted.new.err) stats in
+    × Appends (g.O.ByteOut.contents c.args.out.now) (g.O.ByteOut.contents c.write_counted.new.out) text
+    × Appends (g.E.ByteOut.contents c.args.err.now) (g.E.ByteOut.contents c.write_counted.new.err) stats in
     subst P form (
       k.text.items,
       string_bytes k.opening ++ write_end k.form told.0,
