@@ -1,0 +1,3 @@
+pub mod SourceFacts
+pub mod TurnFacts
+pub mod WalkFacts
