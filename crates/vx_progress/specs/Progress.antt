@@ -1,5 +1,5 @@
 -- What is counted of a relation's text, and which line is due.
-use Rattle.std.specs.Prelude.{◌≡◌, ℕ, ◌+◌, ◌-◌, ◌^◌, ◌<◌, ◌≤◌, ◌==◌, Bool, min, max, List, [], ◌++◌, if◌then◌else◌, length, count_by}
+use Rattle.std.specs.Prelude.{◌≡◌, ℕ, ◌+◌, ◌-◌, ◌^◌, ◌<◌, ◌≤◌, ◌==◌, Bool, false, min, max, List, [], ◌++◌, if◌then◌else◌, length, count_by}
 use Rattle.vx_progress.specs.Text.{start, erased, shown_text}
 use Rattle.vx_progress.specs.declared.progress.Progress.{Progress}
 
@@ -25,6 +25,12 @@ pub record IsCounted (old new : Progress) (chunk : List ℕ) : Type 0 where
   pub lines : new.lines ≡ counted old.lines (count_by is_feed chunk)
   pub name : new.name ≡ old.name
   pub size : new.size ≡ old.size
+
+-- nothing was counted, and no line is shown
+pub record IsUnread (p : Progress) : Type 0 where
+  pub bytes : p.bytes ≡ 0
+  pub lines : p.lines ≡ 0
+  pub hidden : p.is_shown ≡ false
 
 -- nothing else was counted
 pub record IsSameCount (old new : Progress) : Type 0 where

@@ -6,9 +6,10 @@ mod progress;
 mod screen;
 mod text;
 mod watched;
+mod words;
 
 pub use name::{relation_at, shown_name};
-pub use progress::Progress;
 pub use screen::{Screen, Terminal};
 pub use text::shown_text;
 pub use watched::{Watched, WatchedFile};
+pub use words::is_quiet;

@@ -1,8 +1,10 @@
 //! A store whose tables show how much of them has been read.
 
-ghost use Rattle.std.specs.Prelude.{◌≡◌, ◌<◌, ◌⊎◌, false};
-ghost use Rattle.std.specs.Io.KnownBytes.{Appends};
-ghost use Rattle.vx_progress.specs.Progress.{IsCounted, IsSameCount, progress_text, ending_text};
+ghost use Rattle.std.specs.Prelude.{◌≡◌, ◌<◌, ◌≤◌, ◌⊎◌, ◌||◌, true, false, length, take, is_err, Ok, None, IfOk, IsOk, IsErr, IfSome, IsSomeAnd, IsNone};
+ghost use Rattle.std.specs.Io.KnownBytes.{Appends, ReadConsumes};
+ghost use Rattle.vx_bytes.specs.Stored.{MayBeAbsent, OpensAs};
+ghost use Rattle.vx_progress.specs.Name.{IsTable};
+ghost use Rattle.vx_progress.specs.Progress.{IsCounted, IsSameCount, IsUnread, progress_text, ending_text};
 
 use crate::name::{relation_at, shown_name};
 use crate::progress::Progress;
@@ -87,7 +89,16 @@ impl<I: ByteIn, C: Screen> ByteIn for WatchedFile<'_, I, C> {
 
     ghost is_reliable = { λ f. I.is_reliable f.inner };
 
-    fn read(&mut self, buf: &mut [u8]) -> Result<usize, Broken> {
+    fn read(&mut self, buf: &mut [u8]) -> Result<usize, Broken>
+        ensures bound { IfOk result (λ n. n ≤ length buf.new) }
+        ensures bytes { ReadConsumes (I.remaining self.old.inner) (I.remaining self.new.inner) result buf.new }
+        ensures fails { I.has_failed self.new.inner ≡ (I.has_failed self.old.inner || is_err result) }
+        ensures stays { I.has_failed self.old.inner ≡ true → IsErr result }
+        ensures reliable { I.is_reliable self.old.inner ≡ true → (I.is_reliable self.new.inner ≡ true) × IsOk result }
+        ensures quiet { IsNone self.old.display → IsNone self.new.display }
+        ensures counted { IfOk result (λ n. IfSome self.old.display (λ before. IsSomeAnd self.new.display (λ after. 0 < n → IsCounted before.progress after.progress (take n buf.new)))) }
+        ensures hidden { IsErr result ⊎ (result ≡ Ok 0) → IfSome self.new.display (λ display. display.progress.is_shown ≡ false) }
+    {
         let result = self.inner.read(buf);
         if let Some(display) = &mut self.display {
             match &result {
@@ -105,6 +116,7 @@ impl<I: ByteIn, C: Screen> ByteIn for WatchedFile<'_, I, C> {
 
 /// A store whose tables show on a screen how much of them has been read, where there is a screen. Files with other
 /// endings are no tables.
+#[derive(Drop)]
 pub struct Watched<'s, S, C> {
     alloc: Global,
     files: S,
@@ -128,7 +140,12 @@ impl<'s, S: Store, C: Screen> Watched<'s, S, C> {
     }
 
     // What is shown of the file at a path: nothing of a file that is no table. Where memory runs out, nothing either.
-    fn display(&self, path: &str) -> Option<Display<'s, C>> {
+    fn display(&self, path: &str) -> Option<Display<'s, C>>
+        ensures quiet { IsNone self.now.screen → IsNone result }
+        ensures other { ¬ (IsTable path.now) → IsNone result }
+        ensures nothing { IfSome result (λ display. IsUnread display.progress) }
+        ensures whole { IfSome result (λ display. C.Out.has_failed display.out ≡ false) }
+    {
         let screen = self.screen?;
         let name = relation_at(path.as_bytes())?;
         let (began, opened) = (self.began?, screen.now()?);
@@ -151,7 +168,14 @@ impl<'s, S: Store, C: Screen> Store for Watched<'s, S, C> {
 
     ghost is_reliable = { λ w path. S.is_reliable w.files path };
 
-    fn open(&self, path: &str) -> Option<WatchedFile<'s, S::In, C>> {
+    fn open(&self, path: &str) -> Option<WatchedFile<'s, S::In, C>>
+        ensures bytes { IfSome result (λ file. OpensAs (S.holds self.now.files path.now) (S.In.remaining file.inner)) }
+        ensures lacking { result ≡ None → MayBeAbsent (S.holds self.now.files path.now) }
+        ensures whole { IfSome result (λ file. S.In.has_failed file.inner ≡ false) }
+        ensures reliable { IfSome result (λ file. S.is_reliable self.now.files path.now ≡ true → S.In.is_reliable file.inner ≡ true) }
+        ensures quiet { IsNone self.now.screen → IfSome result (λ file. IsNone file.display) }
+        ensures other { ¬ (IsTable path.now) → IfSome result (λ file. IsNone file.display) }
+    {
         Some(WatchedFile {
             inner: self.files.open(path)?,
             display: self.display(path),
