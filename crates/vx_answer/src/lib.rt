@@ -12,6 +12,7 @@ mod files;
 mod forms;
 mod laws;
 mod loading;
+mod places;
 mod plans;
 mod program;
 mod run;

@@ -1,5 +1,5 @@
 -- A record as it is read byte by byte, where the bytes are known.
-use Rattle.std.proofs.Common.{◌≡◌, ℕ, zero, suc, ◌+◌, List, [], ◌∷◌, ◌++◌, append_assoc, Option, Some, None, Bool, true, false, cond, refl, sym, ap, ◌∙◌, arith, drop}
+use Rattle.std.proofs.Common.{◌≡◌, ℕ, zero, suc, ◌+◌, List, [], ◌∷◌, ◌++◌, append_assoc, Option, Some, None, Bool, true, false, cond, refl, sym, ap, subst, ◌∙◌, arith, drop}
 use Rattle.std.specs.Prelude.{count_by, if◌then◌else◌, IfSome, option_map}
 use Rattle.std.specs.Io.KnownBytes.{Keeps}
 use Rattle.std.proofs.lemmas.List.Sums.{sum_by-append}
@@ -7,6 +7,7 @@ use Rattle.csv.specs.Machine.{Read, next_record, step, is_end, ends_at_end, fiel
 use Rattle.csv.specs.Reading.{default_config, strip_bom, records}
 use Rattle.csv.specs.declared.parser.State.{State}
 use Rattle.csv.specs.declared.parser.State.TheVariants as st
+use Rattle.csv.specs.declared.parser.Action.{Action}
 use Rattle.csv.specs.declared.parser.Action.TheVariants as act
 use Rattle.vx_split.proofs.TurnFacts.{left_from, one_more, same_next}
 use Rattle.vx_places.specs.declared.stage.Stage.{Stage}
@@ -31,7 +32,7 @@ pub record Walked (start now : State) (fields : List (List ℕ)) (field : List �
   pub cut : xs ≡ front ++ ys
   pub lines : line ≡ first + count_by is_feed front
 
-counted : (line c n : ℕ) → line_after line (Some c) + n ≡ line + (cond (is_feed c) 1 0 + n)
+pub counted : (line c n : ℕ) → line_after line (Some c) + n ≡ line + (cond (is_feed c) 1 0 + n)
 counted line c n = by_test (is_feed c) refl
   where
     by_test : (b : Bool) → is_feed c ≡ b → line_after line (Some c) + n ≡ line + (cond (is_feed c) 1 0 + n)
@@ -119,16 +120,19 @@ pub walked_turn : (all old new : Option (List ℕ)) (start : State) (g : Stage) 
     → found ≡ (if is_between (state_of turn.stage) then next else begin) → IfBoth all new (Walked start (state_of turn.stage) later open_field first next found)
 walked_turn all old new start g fields field first line begin c turn later open_field next found is w k h e f l b =
     let go : is_end (step default_config (state_of g) c).1 ≡ false = rw (sym is) h in
-    let all_on = rw (sym is) at walked_on start g fields field first line begin c all old new w k go in
-    rw (b, e, f, l) all_on
+    let F : State × Action → Type 0 = λ r.
+        IfBoth all new (Walked start r.0 (fields_after r.1 fields field) (field_after r.1 c field) first (line_after line (Some c)) (if is_between r.0 then line_after line (Some c) else begin)) in
+    let on : F (turn_of turn) = subst F (sym is) (walked_on start g fields field first line begin c all old new w k go) in
+    rw (b, e, f, l) on
 
 pub done_turn : (all old new : Option (List ℕ)) (start : State) (g : Stage) (fields : List (List ℕ)) (field : List ℕ) (first line begin c : ℕ) (turn : Turn) (later : List (List ℕ)) (next : ℕ)
     → turn_of turn ≡ step default_config (state_of g) c → IfBoth all old (Walked start (state_of g) fields field first line begin) → Gives old new (Some c) → is_end (action_of turn.action) ≡ true
     → later ≡ fields_after (action_of turn.action) fields field → next ≡ line_after line (Some c) → IfBoth all new (Done start later (state_of turn.stage) first next begin)
 done_turn all old new start g fields field first line begin c turn later next is w k h e l =
     let go : is_end (step default_config (state_of g) c).1 ≡ true = rw (sym is) h in
-    let all_on = rw (sym is) at done_on start g fields field first line begin c all old new w k go in
-    rw (e, l) all_on
+    let F : State × Action → Type 0 = λ r. IfBoth all new (Done start (fields_after r.1 fields field) r.0 first (line_after line (Some c)) begin) in
+    let on : F (turn_of turn) = subst F (sym is) (done_on start g fields field first line begin c all old new w k go) in
+    rw (e, l) on
 
 ended_next : (s : State) (fields : List (List ℕ)) (field : List ℕ) → ends_at_end s ≡ true → next_record default_config s fields field [] ≡ Some (fields ++ field ∷ [], st.StartRecord, [])
 unfolding next_record

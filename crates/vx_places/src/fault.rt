@@ -1,6 +1,6 @@
 //! Why a place is not found again.
 
-use std::alloc::AllocError;
+use std::alloc::{AllocError, AllocFailed};
 use thiserror::Error;
 use vx_bytes::Broken;
 
@@ -22,6 +22,17 @@ impl From<AllocError> for PlaceFault {
     ghost from_gives = { λ _ e. e ≡ NoMemory };
 
     fn from(_e: AllocError) -> PlaceFault {
+        PlaceFault::NoMemory
+    }
+}
+
+impl<T: Drop> From<AllocFailed<T>> for PlaceFault {
+    ghost use Rattle.std.specs.Prelude.{◌≡◌};
+    ghost use Rattle.vx_places.specs.declared.fault.PlaceFault.TheVariants.{NoMemory};
+
+    ghost from_gives = { λ _ e. e ≡ NoMemory };
+
+    fn from(_e: AllocFailed<T>) -> PlaceFault {
         PlaceFault::NoMemory
     }
 }

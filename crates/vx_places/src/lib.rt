@@ -1,11 +1,18 @@
-//! Where in a file something is, in the words that a person looks for it by.
+//! Where what was refused is: in which file, and where in it, in the words that a person looks for it by.
 #![tactic(auto)]
 
 mod fault;
+mod files;
+mod lines;
+mod paths;
+mod plans;
 mod record;
+mod shown;
 mod source;
+mod spots;
 mod stage;
+mod tables;
 
 pub use fault::PlaceFault;
-pub use record::{Record, record_at};
-pub use source::Source;
+pub use plans::plan_place;
+pub use tables::load_place;
