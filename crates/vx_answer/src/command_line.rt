@@ -2,7 +2,7 @@
 
 ghost use Rattle.std.specs.Prelude.{◌≡◌, ◌⊎◌, true, map, option_map, Some, None, MatchOption, IfOk, IfErr};
 ghost use Rattle.clap.specs.Values.{kind_of};
-ghost use Rattle.vx_arguments.specs.Asked.{asked_is, paths_are, many_are, given_is, run, run_plans, check_all, explain, sql, why, Ask};
+ghost use Rattle.vx_arguments.specs.Asked.{asked_is, paths_are, many_are, given_is, run, run_plans, check_all, explain, draw, sql, why, Ask};
 ghost use Rattle.vx_stats.specs.declared.text.StatsForm.{StatsForm};
 ghost use Rattle.vx_answer.specs.Arguments.{IsSetting, IsNoSetting};
 ghost use Rattle.vx_answer.specs.Plans.{AnswersPlans};
@@ -16,8 +16,8 @@ use crate::arguments::setting_in;
 use crate::command::execute;
 use crate::counting::answer_counted;
 use crate::failing::{Verdict, verdict_on};
-use crate::files::{document_from_files, is_input, plan_from_files};
-use crate::forms::{PlanForm, form_named, plan_in_form};
+use crate::files::{bytes_at, document_from_files, is_input, plan_from_files};
+use crate::forms::{PlanForm, form_named, node_count, plan_in_form};
 use crate::loading::loading_threads;
 use crate::plans::{accepted_plans, catalog_under};
 use crate::program::outcome_of;
@@ -33,6 +33,7 @@ use std::time::Clock;
 use vx_arguments::{Asked, Limits, ManySources, Request, Sources, asked_for};
 use vx_bundle::{Command, MORSEL, Mode, PACKET, SLACK, Setting};
 use vx_bytes::{ByteIn, Store};
+use vx_drawing::{DrawFault, draw};
 use vx_refusals::Refusal;
 use vx_seeds::KeySeed;
 use vx_sql::Dialect;
@@ -68,6 +69,8 @@ enum Job<'a> {
     Annotation(Sources<'a>),
     /// A plan in a form, over the catalog and the plan that arguments name.
     Form(PlanForm, Sources<'a>),
+    /// A plan's picture with the statistics of the file at a path, over the catalog and the plan that arguments name.
+    Drawing(Sources<'a>, &'a str),
     /// A plan as a statement of SQL, over the catalog and the plan that arguments name.
     Statement(Dialect, Sources<'a>),
     Plans(FilePlans<'a>),
@@ -247,6 +250,7 @@ fn job_in<'a>(alloc: Global, asked: &Asked<'a>) -> Result<Option<Job<'a>>, Alloc
         Asked::CheckAll(sources) => Ok(Some(Job::Verdict(*sources))),
         Asked::Annotate(sources) => Ok(Some(Job::Annotation(*sources))),
         Asked::Explain(sources, format) => Ok(explain_job(alloc, *sources, format)),
+        Asked::Draw(sources, stats) => Ok(Some(Job::Drawing(*sources, *stats))),
         Asked::Sql(sources, dialect) => Ok(sql_job(*sources, dialect)),
         Asked::Why(code) => Ok(why_job(code)),
         Asked::Serial(sources, folder) => {
@@ -355,6 +359,33 @@ fn answer_statement<F: Store, I: ByteIn>(
     Ok(text)
 }
 
+// What is wrong with a file of statistics.
+const NO_COUNTS: &str =
+    "volcano: a file of statistics is what `run --stats=json` wrote of this plan; see volcano explain --help\n";
+
+// The picture of the plan at one path over the catalog at the other, with the statistics of the file at a third.
+fn answer_drawing<F: Store, I: ByteIn>(
+    alloc: Global,
+    files: &F,
+    input: &mut I,
+    sources: Sources<'_>,
+    stats: &str,
+) -> Result<ArgumentAnswer, ArgumentFault>
+    ensures answer { IfOk result (λ a. IsAskAnswer (F.holds files.now) (I.remaining input.old) (draw (paths_are sources.entry) stats.now) a) }
+    ensures untold { IfOk result IsUncounted }
+    ensures refused { IfErr result (IsAskFault (F.holds files.now) (F.is_reliable files.now) (I.remaining input.old) (I.has_failed input.new) (draw (paths_are sources.entry) stats.now)) }
+{
+    let plan = plan_from_files(alloc, files, input, sources)?;
+    let nodes = node_count(plan.root());
+    let picture = plan_in_form(alloc, PlanForm::Dot, plan)?;
+    let counted = bytes_at(alloc, files, input, true, stats)?;
+    match draw(alloc, nodes, picture.as_slice(), counted.as_slice()) {
+        Ok(drawing) => Ok(ArgumentAnswer::Text(drawing)),
+        Err(DrawFault::NoMemory) => Err(ArgumentFault::Refused(Refusal::NoMemory)),
+        Err(DrawFault::BadStats) => Err(usage_error(alloc, NO_COUNTS)),
+    }
+}
+
 // The plan at one path over the catalog at the other, with the claims that the rule table shows.
 fn answer_annotation<F: Store, I: ByteIn>(
     alloc: Global,
@@ -444,6 +475,7 @@ pub fn answer_asked<T: Threads + Wait + Sync, F: Store, I: ByteIn>(
             let text = answer_form(alloc, files, input, form, sources)?;
             Ok(ArgumentAnswer::Text(text))
         }
+        Some(Job::Drawing(sources, stats)) => answer_drawing(alloc, files, input, sources, stats),
         Some(Job::Statement(dialect, sources)) => {
             let text = answer_statement(alloc, files, input, dialect, sources)?;
             Ok(ArgumentAnswer::Text(text))
@@ -570,7 +602,10 @@ pub fn answer_arguments<T: Threads + Wait + Sync, C: Clock, F: Store, I: ByteIn>
     let arguments = with_program_name(alloc, arguments)?;
     match asked_for(alloc, arguments.as_slice()) {
         Ok(Some(request)) => answer_request(rt, clock, alloc, seed, files, input, &request),
-        Ok(None) => Err(usage_error(alloc, "volcano: these words ask for nothing\n")),
+        Ok(None) => Err(usage_error(
+            alloc,
+            "volcano: statistics are drawn with --format dot alone; see volcano explain --help\n",
+        )),
         Err(error) => help_or_fault(alloc, &error),
     }
 }

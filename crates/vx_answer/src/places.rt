@@ -38,7 +38,9 @@ fn inputs_of<'a>(alloc: Global, asked: &Asked<'a>) -> Result<Option<Inputs<'a>>,
         Asked::Check(sources) | Asked::CheckAll(sources) | Asked::Annotate(sources) => {
             with_one_plan(alloc, *sources, "")
         }
-        Asked::Explain(sources, _) | Asked::Sql(sources, _) => with_one_plan(alloc, *sources, ""),
+        Asked::Explain(sources, _) | Asked::Draw(sources, _) | Asked::Sql(sources, _) => {
+            with_one_plan(alloc, *sources, "")
+        }
         Asked::Serial(sources, folder) => with_one_plan(alloc, *sources, *folder),
         Asked::Run(sources, folder, _) => with_one_plan(alloc, *sources, *folder),
         Asked::RunPlans(sources, folder, _) => Ok(Some(Inputs {
