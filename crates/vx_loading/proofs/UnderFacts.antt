@@ -1,5 +1,5 @@
 -- A text by its first line and what follows it.
-use Rattle.std.proofs.Common.{◌≡◌, ◌≢◌, ℕ, ◌-◌, ◌<◌, List, [], ◌∷◌, ◌++◌, Option, Some, None, true, Result, Ok, sym, ap, subst, ◌∙◌, arith, length, take, drop, append_assoc}
+use Rattle.std.proofs.Common.{◌≡◌, ◌≢◌, ℕ, ◌<◌, List, [], ◌∷◌, ◌++◌, Option, Some, None, true, Result, Ok, sym, ap, subst, ◌∙◌, arith, length, take, drop, append_assoc}
 use Rattle.std.proofs.lemmas.List.{take-append-drop, length-drop}
 use Rattle.vx_values.specs.Values.{Row}
 use Rattle.vx_relations.specs.Relation.{Relation}

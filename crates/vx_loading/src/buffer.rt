@@ -30,11 +30,7 @@ fn read_once<S: Read>(
 
 /// Reads bytes of a source behind those of a buffer until this has so many bytes, and returns whether the source came to its end
 /// before. It fails with NoMemory if the source does: whoever owns the source asks it why.
-pub fn fill<S: Read>(
-    source: &mut S,
-    buffer: &mut Vec<u8>,
-    size: usize,
-) -> Result<bool, LoadFault>
+pub fn fill<S: Read>(source: &mut S, buffer: &mut Vec<u8>, size: usize) -> Result<bool, LoadFault>
     ensures bytes { OnOk result (Moves buffer.old.items (S.remaining source.old) buffer.new.items (S.remaining source.new)) }
     ensures end { IfOk result (λ is_at_end. is_at_end ≡ true → IsAtEnd (S.remaining source.new)) }
     ensures full { IfOk result (λ is_at_end. is_at_end ≡ false → size ≤ vec_len buffer.new) }
