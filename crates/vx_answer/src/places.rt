@@ -6,7 +6,7 @@ ghost use Rattle.vx_answer.specs.CommandLine.{with_program_name};
 
 use crate::command_line::with_program_name;
 use std::alloc::{AllocError, Global};
-use vx_arguments::{Asked, Sources, asked_for};
+use vx_arguments::{Asked, Request, Sources, asked_for};
 use vx_bytes::{ByteOut, Store, write_all};
 use vx_places::{PlaceFault, load_place, plan_place};
 use vx_refusals::Refusal;
@@ -68,6 +68,24 @@ fn place_in<F: Store>(
     }
 }
 
+// The line, if it is asked for and the place is found again.
+fn place_asked<F: Store>(
+    alloc: Global,
+    files: &F,
+    request: &Request<'_>,
+    refusal: &Refusal,
+) -> Result<Option<Vec<u8>>, PlaceFault>
+    ensures { request.now.is_verbose ≡ false → IfOk result (λ o. o ≡ None) }
+{
+    if !request.is_verbose {
+        return Ok(None);
+    }
+    match inputs_of(alloc, &request.asked)? {
+        Some(inputs) => place_in(alloc, files, &inputs, refusal),
+        None => Ok(None),
+    }
+}
+
 // The line, if the arguments want one and the place is found again.
 fn place_of<F: Store>(
     alloc: Global,
@@ -78,15 +96,9 @@ fn place_of<F: Store>(
     ensures { verbose_by (with_program_name (map (λ a. a.now) arguments.now)) ≡ false → IfOk result (λ o. o ≡ None) }
 {
     let arguments = with_program_name(alloc, arguments)?;
-    let Ok(Some(request)) = asked_for(alloc, arguments.as_slice()) else {
-        return Ok(None);
-    };
-    if !request.is_verbose {
-        return Ok(None);
-    }
-    match inputs_of(alloc, &request.asked)? {
-        Some(inputs) => place_in(alloc, files, &inputs, refusal),
-        None => Ok(None),
+    match asked_for(alloc, arguments.as_slice()) {
+        Ok(Some(request)) => place_asked(alloc, files, &request, refusal),
+        _ => Ok(None),
     }
 }
 

@@ -64,7 +64,7 @@ next_ends s fields field c ys h = rw h refl
 walked_byte : (start : State) (g : Stage) (fields : List (List ℕ)) (field : List ℕ) (first line begin c : ℕ) (xs ys : List ℕ) → Walked start (state_of g) fields field first line begin xs (c ∷ ys)
     → is_end (step default_config (state_of g) c).1 ≡ false
     → Walked start (step default_config (state_of g) c).0 (fields_after (step default_config (state_of g) c).1 fields field) (field_after (step default_config (state_of g) c).1 c field) first (line_after line (Some c))
-      (if is_between (step default_config (state_of g) c).0 then line_after line (Some c) else begin) xs ys
+    (if is_between (step default_config (state_of g) c).0 then line_after line (Some c) else begin) xs ys
 walked_byte start g fields field first line begin c xs ys w h = record {
   same = w.same ∙ next_goes (state_of g) fields field c ys h;
   begins = begins_next g c first line begin xs ys w.begins h;
@@ -76,7 +76,7 @@ walked_byte start g fields field first line begin c xs ys w h = record {
 walked_on : (start : State) (g : Stage) (fields : List (List ℕ)) (field : List ℕ) (first line begin c : ℕ) (all old new : Option (List ℕ))
     → IfBoth all old (Walked start (state_of g) fields field first line begin) → Gives old new (Some c) → is_end (step default_config (state_of g) c).1 ≡ false
     → IfBoth all new (Walked start (step default_config (state_of g) c).0 (fields_after (step default_config (state_of g) c).1 fields field) (field_after (step default_config (state_of g) c).1 c field) first
-      (line_after line (Some c)) (if is_between (step default_config (state_of g) c).0 then line_after line (Some c) else begin))
+    (line_after line (Some c)) (if is_between (step default_config (state_of g) c).0 then line_after line (Some c) else begin))
 walked_on start g fields field first line begin c None old new w k h = tt
 walked_on start g fields field first line begin c (Some xs) None new w k h = absurd w
 walked_on start g fields field first line begin c (Some xs) (Some zs) None w k h = absurd k
@@ -121,7 +121,7 @@ pub walked_turn : (all old new : Option (List ℕ)) (start : State) (g : Stage) 
 walked_turn all old new start g fields field first line begin c turn later open_field next found is w k h e f l b =
     let go : is_end (step default_config (state_of g) c).1 ≡ false = rw (sym is) h in
     let F : State × Action → Type 0 = λ r.
-        IfBoth all new (Walked start r.0 (fields_after r.1 fields field) (field_after r.1 c field) first (line_after line (Some c)) (if is_between r.0 then line_after line (Some c) else begin)) in
+    IfBoth all new (Walked start r.0 (fields_after r.1 fields field) (field_after r.1 c field) first (line_after line (Some c)) (if is_between r.0 then line_after line (Some c) else begin)) in
     let on : F (turn_of turn) = subst F (sym is) (walked_on start g fields field first line begin c all old new w k go) in
     rw (b, e, f, l) on
 

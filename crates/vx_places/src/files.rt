@@ -21,11 +21,7 @@ pub fn is_input(path: &str) -> bool {
 }
 
 // All bytes of the file at a path, if there is one.
-fn bytes_at<F: Store>(
-    alloc: Global,
-    files: &F,
-    path: &str,
-) -> Result<Option<Vec<u8>>, PlaceFault>
+fn bytes_at<F: Store>(alloc: Global, files: &F, path: &str) -> Result<Option<Vec<u8>>, PlaceFault>
     ensures { IfOk result (λ o. IfSome o (λ v. IfBytes (F.holds files.now path.now) (λ bytes. bytes ≡ v.items))) }
 {
     if is_input(path) {
@@ -58,11 +54,7 @@ pub fn catalog_at<F: Store>(
 }
 
 /// The plan at a path, if there is one.
-pub fn plan_at<F: Store>(
-    alloc: Global,
-    files: &F,
-    path: &str,
-) -> Result<Option<Plan>, PlaceFault> {
+pub fn plan_at<F: Store>(alloc: Global, files: &F, path: &str) -> Result<Option<Plan>, PlaceFault> {
     let Some(bytes) = bytes_at(alloc, files, path)? else {
         return Ok(None);
     };

@@ -78,11 +78,7 @@ pub fn spot_line(
 }
 
 /// The line that says where in a plan's file something is: behind a path of members, if there is one.
-pub fn path_line(
-    alloc: Global,
-    file: &str,
-    path: Option<&str>,
-) -> Result<Vec<u8>, AllocError> {
+pub fn path_line(alloc: Global, file: &str, path: Option<&str>) -> Result<Vec<u8>, AllocError> {
     let mut text = begin_line(alloc, file)?;
     if let Some(path) = path {
         push_shown(&mut text, b", ")?;

@@ -40,9 +40,8 @@ fn number_of(fault: LoadFault) -> Option<usize>
 {
     match fault {
         LoadFault::HeaderMismatch => Some(0),
-        LoadFault::BadWidth { row }
-        | LoadFault::NotUtf8 { row }
-        | LoadFault::OrderBroken { row } => row.checked_add(1),
+        LoadFault::BadWidth { row } | LoadFault::NotUtf8 { row } | LoadFault::OrderBroken { row } =>
+            row.checked_add(1),
         LoadFault::BadInt { row, .. } => row.checked_add(1),
         LoadFault::KeyBroken { second, .. } => second.checked_add(1),
         LoadFault::ReadFailed | LoadFault::NoMemory | LoadFault::TooLarge => None,
@@ -155,11 +154,7 @@ fn value_spot(
 }
 
 // A row of which a field of a column of texts is not UTF-8.
-fn text_spot(
-    alloc: Global,
-    relation: &Relation,
-    found: &Record,
-) -> Result<Option<Spot>, PlaceFault>
+fn text_spot(alloc: Global, relation: &Relation, found: &Record) -> Result<Option<Spot>, PlaceFault>
     ensures { IfOk result (λ o. IfSome o (λ s. s.line ≡ Some found.now.line)) }
 {
     for column in 0..relation.types().len() {
@@ -219,11 +214,7 @@ fn key_spot(
 }
 
 // The first column of an order on which a row is smaller than the one before it, where it is equal on those before.
-fn falling_column(
-    relation: &Relation,
-    before: &ByteRecord,
-    fields: &ByteRecord,
-) -> Option<usize> {
+fn falling_column(relation: &Relation, before: &ByteRecord, fields: &ByteRecord) -> Option<usize> {
     for column in relation.order() {
         match compare_at(relation, *column, before, fields)? {
             Ordering::Equal => {}

@@ -59,9 +59,9 @@ loop-preserved g c =
     let next = rw c.in-Some.is at c.in_ok-byte.ensures.line in
     let goes : is_end (action_of c.step-turn.result.action) ≡ false = sym c.is_last.ensures ∙ c.if-is_last.false in
     let turn = λ (later : ℕ) (found : later ≡ (if is_between (state_of c.step-turn.result.stage) then c.next.new.self.line else c.loop.current.line)).
-        walked_turn (left_in g.R.ByteIn.remaining c.args.source.now) (left_in g.R.ByteIn.remaining c.loop.source) (left_in g.R.ByteIn.remaining c.next.new.self) (state_of c.args.stage) c.loop.stage
-        (fields_of c.loop.current.fields) c.loop.current.field.items c.args.source.now.line c.loop.source.line c.loop.current.line c.in-Some.byte c.step-turn.result (fields_of c.take.new.self.fields) c.take.new.self.field.items c.next.new.self.line later
-        c.step-turn.ensures c.loop.invariant.walked gives goes c.in_ok-take.ensures.fields c.in_ok-take.ensures.field next found in
+    walked_turn (left_in g.R.ByteIn.remaining c.args.source.now) (left_in g.R.ByteIn.remaining c.loop.source) (left_in g.R.ByteIn.remaining c.next.new.self) (state_of c.args.stage) c.loop.stage
+    (fields_of c.loop.current.fields) c.loop.current.field.items c.args.source.now.line c.loop.source.line c.loop.current.line c.in-Some.byte c.step-turn.result (fields_of c.take.new.self.fields) c.take.new.self.field.items c.next.new.self.line later
+    c.step-turn.ensures c.loop.invariant.walked gives goes c.in_ok-take.ensures.fields c.in_ok-take.ensures.field next found in
     elim c.if-is_between.branch [
       | then-is_between w ↦
           let between : is_between (state_of c.step-turn.result.stage) ≡ true = search rules in
