@@ -45,7 +45,7 @@ fn kind_of(alloc: Global, error: &Error) -> Result<String, AllocError> {
 }
 
 // Lines, and what each asks for.
-const ASKED: [(&str, &str); 24] = [
+const ASKED: [(&str, &str); 26] = [
     ("volcano", "Bundle"),
     (
         "volcano check --catalog c --plan=-",
@@ -127,6 +127,14 @@ const ASKED: [(&str, &str); 24] = [
     (
         "volcano run --stats=table --catalog c --plan p --data d",
         r#"Run(Sources { catalog: "c", plan: "p" }, "d", Limits { packet: "256", morsel: "1024", slack: "8", mode: "rounds", sizes: [] }), statistics: table"#,
+    ),
+    (
+        "volcano explain --plan p --catalog c --format dot --stats s.json",
+        r#"Draw(Sources { catalog: "c", plan: "p" }, "s.json")"#,
+    ),
+    (
+        "volcano explain --stats=s.json --plan p --catalog c --format json",
+        "nothing",
     ),
     ("volcano gen --rows 0", "Generate(0)"),
     (

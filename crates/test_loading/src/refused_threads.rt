@@ -1,4 +1,4 @@
-//! Run with each allocation refused in turn, a text is loaded by threads as usual, or the answer is that memory ran out:
+//! Run with each allocation refused in turn, a text is loaded by threads in several rounds as usual, or the answer is that memory ran out:
 //! `tools/refuse-allocations test_loading refused_memory` does so. A test with `ample` in its name makes the same call once,
 //! and passes only where none of its allocations is refused.
 
@@ -31,7 +31,8 @@ fn count<P: Threads + Sync>(
     }
     let shares = Shares {
         threads: 3,
-        least: 0,
+        block: 3,
+        least: 8,
     };
     match load_in_shares(
         rt,

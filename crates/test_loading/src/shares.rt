@@ -37,6 +37,30 @@ fn told(
     Ok(String::from_utf8(text)?)
 }
 
+// Ways to share a text out, each for some numbers of threads: how many bytes a thread gets in a round, and how many bytes the first
+// line lies within. So short texts take many rounds, and lines are longer than a round.
+const SIZES: [(usize, usize); 6] = [(1, 8), (2, 8), (3, 16), (5, 16), (8, 11), (1000, 16)];
+
+// Compares what relation 0 of a catalog answers to a text that is shared out in one way with what it answers otherwise.
+fn compare_shared<R: Abort + Threads + Sync>(
+    rt: &R,
+    alloc: Global,
+    catalog: &Catalog,
+    text: &[u8],
+    fails_after: Option<usize>,
+    shares: Shares,
+    wanted: &str,
+) -> Result<(), Fail> {
+    if catalog.is_empty() || shares.threads == 0 {
+        return Err(Fail::new("no relation, or no thread"));
+    }
+    let mut reader = MemoryIn::new(text, fails_after);
+    let got = load_in_shares(rt, alloc, catalog, 0, shares, &mut reader);
+    let got = told(alloc, catalog, got)?;
+    assert_eq!(rt; got.as_str(), wanted, "{shares:?}");
+    Ok(())
+}
+
 // Compares what relation 0 of a catalog answers to a text that is shared out in each way with what one thread answers.
 fn compare<R: Abort + Threads + Sync>(
     rt: &R,
@@ -52,11 +76,15 @@ fn compare<R: Abort + Threads + Sync>(
     let one = Loader::load(alloc, &catalog, 0, &mut MemoryIn::new(text, fails_after));
     let wanted = told(alloc, &catalog, one)?;
     for threads in [1usize, 2, 3, 7, 16] {
-        let shares = Shares { threads, least: 0 };
-        let mut reader = MemoryIn::new(text, fails_after);
-        let got = load_in_shares(rt, alloc, &catalog, 0, shares, &mut reader);
-        let got = told(alloc, &catalog, got)?;
-        assert_eq!(rt; got.as_str(), wanted.as_str(), "{threads} threads");
+        for (block, least) in SIZES {
+            let shares = Shares {
+                threads,
+                block,
+                least,
+            };
+            let wanted = wanted.as_str();
+            compare_shared(rt, alloc, &catalog, text, fails_after, shares, wanted)?;
+        }
     }
     Ok(())
 }
@@ -128,6 +156,7 @@ fn many(alloc: Global, count: usize) -> Result<String, Fail> {
     Ok(text)
 }
 
+// A text that a round of two threads does not hold: it is read in several.
 #[test]
 fn a_long_text_is_read_by_threads(rt: HostRuntime) -> Result<(), Fail> {
     let alloc = rt.alloc();
@@ -135,9 +164,9 @@ fn a_long_text_is_read_by_threads(rt: HostRuntime) -> Result<(), Fail> {
     if catalog.is_empty() {
         return Err(Fail::new("the catalog has no relations"));
     }
-    let text = many(alloc, 20000)?;
+    let text = many(alloc, 200_000)?;
     let mut reader = MemoryIn::new(text.as_bytes(), None);
-    let got = load_in_threads(&rt, alloc, &catalog, 0, 4, &mut reader);
+    let got = load_in_threads(&rt, alloc, &catalog, 0, 2, &mut reader);
     let got = told(alloc, &catalog, got)?;
     assert_eq!(&rt; got.as_str(), text.as_str());
     Ok(())

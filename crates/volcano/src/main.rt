@@ -6,12 +6,13 @@ mod stack;
 use crate::stack::take_stack;
 use std::alloc::{AllocError, Global};
 use std::env::Env;
-use std::io::ErrorKind;
+use std::io::{ErrorKind, IsTerminal};
 use std::process::ExitCode;
 use std::random::RandomSource;
 use std::{env, io};
 use vx_answer::{Disk, Refusal, answer, report};
 use vx_bytes::{Real, write_all};
+use vx_progress::{Terminal, Watched, is_quiet};
 use vx_seeds::KeySeed;
 
 // The arguments, without the program's name.
@@ -39,9 +40,17 @@ fn drawn_number(rt: &impl RandomSource) -> io::Result<u64> {
     Ok(u64::from_le_bytes(bytes))
 }
 
-// A seed that nobody knows before the run.
+// A seed of drawn numbers.
 fn drawn_seed(rt: &impl RandomSource) -> io::Result<KeySeed> {
     Ok(KeySeed::new(drawn_number(rt)?, drawn_number(rt)?))
+}
+
+// A seed that nobody knows before the run. Without random bytes the program answers the same, with the fixed seed.
+fn seed_of(rt: &impl RandomSource) -> KeySeed {
+    match drawn_seed(rt) {
+        Ok(seed) => seed,
+        Err(_) => KeySeed::fixed(),
+    }
 }
 
 fn main(rt: HostRuntime) -> ExitCode {
@@ -67,17 +76,15 @@ fn main(rt: HostRuntime) -> ExitCode {
         report(&Refusal::NoMemory, &mut err);
         return ExitCode::from(4);
     }
-    // Without random bytes the program answers the same, with the fixed seed.
-    let seed = match drawn_seed(&rt) {
-        Ok(seed) => seed,
-        Err(_) => KeySeed::fixed(),
-    };
-    let files = Disk::new(&rt);
+    // Only a terminal shows how much of a table has been read.
+    let terminal = Terminal::new(&rt, rt.stderr());
+    let is_shown = rt.stderr().is_terminal() && !is_quiet(texts.as_slice());
+    let files = Watched::new(rt.alloc(), Disk::new(&rt), is_shown.then_some(&terminal));
     ExitCode::from(answer(
         &rt,
         &rt,
         rt.alloc(),
-        seed,
+        seed_of(&rt),
         texts.as_slice(),
         &files,
         &mut input,

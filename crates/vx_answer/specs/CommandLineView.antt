@@ -1,6 +1,6 @@
 -- What arguments ask for, as it is held; what answers them, and why they have no answer.
 use Rattle.std.specs.Prelude.{◌≡◌, ℕ, ◌⊎◌, List, Bool, Option, Some, string_bytes}
-use Rattle.vx_arguments.specs.Asked.{paths_are, many_are, Ask, Paths, ManyPaths, Given, bundle, check_all, explain, annotate, sql, why, run_plans, generate}
+use Rattle.vx_arguments.specs.Asked.{paths_are, many_are, Ask, Paths, ManyPaths, Given, bundle, check_all, explain, draw, annotate, sql, why, run_plans, generate}
 use Rattle.vx_answer.specs.declared.command_line.FileCommand as held
 use Rattle.vx_answer.specs.declared.command_line.Job.{Job}
 use Rattle.vx_answer.specs.declared.command_line.Job.TheVariants as job
@@ -35,6 +35,7 @@ IsJob ask (job.Command t) = IsTask ask (task_is t)
 IsJob ask (job.Verdict sources) = ask ≡ check_all (paths_are sources)
 IsJob ask (job.Annotation sources) = ask ≡ annotate (paths_are sources)
 IsJob ask (job.Form f sources) = (format : List ℕ) × (ask ≡ explain (paths_are sources) format) × (form_named format ≡ Some f)
+IsJob ask (job.Drawing sources stats) = ask ≡ draw (paths_are sources) stats.now
 IsJob ask (job.Statement d sources) = (name : List ℕ) × (ask ≡ sql (paths_are sources) name) × (dialect_named name ≡ Some d)
 IsJob ask (job.Plans t) = IsPlansTask ask t
 IsJob ask (job.Entry text) = (code : List ℕ) × (ask ≡ why code) × IsEntry code text.now

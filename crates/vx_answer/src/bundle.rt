@@ -25,7 +25,7 @@ fn plan_from_bundle(alloc: Global, bundle: &Bundle<'_>) -> Result<TypedPlan, Ref
     Ok(resolve(alloc, &plan, &catalog)?)
 }
 
-// The text that answers a bundle.
+// The text that answers a bundle. One thread loads its tables, whose texts are in memory.
 fn answer_bundle<T: Threads + Wait + Sync>(
     rt: &T,
     alloc: Global,
@@ -39,6 +39,7 @@ fn answer_bundle<T: Threads + Wait + Sync>(
     execute(
         rt,
         alloc,
+        1,
         seed,
         bundle.command(),
         bundle,

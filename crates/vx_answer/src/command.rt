@@ -43,10 +43,11 @@ pub fn accepted(plan: TypedPlan) -> Result<CheckedPlan, Refusal>
     }
 }
 
-/// The text that a command makes of a plan over tables.
+/// The text that a command makes of a plan over tables, each of which up to so many threads load.
 pub fn execute<R: Threads + Wait + Sync, T: Tables>(
     rt: &R,
     alloc: Global,
+    threads: usize,
     seed: KeySeed,
     command: Command,
     tables: &T,
@@ -57,8 +58,8 @@ pub fn execute<R: Threads + Wait + Sync, T: Tables>(
     ensures refused { IfErr result (λ e. CommandRefuses command (resolved_of plan) (T.holds tables.now) (T.lacks tables.now) setting.now e) }
 {
     match command {
-        Command::Run => run_plan(rt, alloc, seed, tables, setting, &accepted(plan)?),
-        Command::Serial => serial_plan(alloc, seed, tables, &plan),
+        Command::Run => run_plan(rt, alloc, threads, seed, tables, setting, &accepted(plan)?),
+        Command::Serial => serial_plan(rt, alloc, threads, seed, tables, &plan),
         Command::Check => Ok(accepted_text(alloc, accepted(plan)?.is_total())?),
         Command::Explain => Ok(explain(alloc, &accepted(plan)?)?.into_bytes()),
     }

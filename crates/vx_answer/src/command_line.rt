@@ -2,7 +2,7 @@
 
 ghost use Rattle.std.specs.Prelude.{◌≡◌, ◌⊎◌, true, map, option_map, Some, None, MatchOption, IfOk, IfErr};
 ghost use Rattle.clap.specs.Values.{kind_of};
-ghost use Rattle.vx_arguments.specs.Asked.{asked_is, paths_are, many_are, given_is, run, run_plans, check_all, explain, sql, why, Ask};
+ghost use Rattle.vx_arguments.specs.Asked.{asked_is, paths_are, many_are, given_is, run, run_plans, check_all, explain, draw, sql, why, Ask};
 ghost use Rattle.vx_stats.specs.declared.text.StatsForm.{StatsForm};
 ghost use Rattle.vx_answer.specs.Arguments.{IsSetting, IsNoSetting};
 ghost use Rattle.vx_answer.specs.Plans.{AnswersPlans};
@@ -16,8 +16,9 @@ use crate::arguments::setting_in;
 use crate::command::execute;
 use crate::counting::answer_counted;
 use crate::failing::{Verdict, verdict_on};
-use crate::files::{document_from_files, is_input, plan_from_files};
-use crate::forms::{PlanForm, form_named, plan_in_form};
+use crate::files::{bytes_at, document_from_files, is_input, plan_from_files};
+use crate::forms::{PlanForm, form_named, node_count, plan_in_form};
+use crate::loading::loading_threads;
 use crate::plans::{accepted_plans, catalog_under};
 use crate::program::outcome_of;
 use crate::runs::{Stopped, run_each};
@@ -32,10 +33,11 @@ use std::time::Clock;
 use vx_arguments::{Asked, Limits, ManySources, Request, Sources, asked_for};
 use vx_bundle::{Command, MORSEL, Mode, PACKET, SLACK, Setting};
 use vx_bytes::{ByteIn, Store};
+use vx_drawing::{DrawFault, draw};
 use vx_refusals::Refusal;
 use vx_seeds::KeySeed;
 use vx_sql::Dialect;
-use vx_tables::{Folder, load_scanned};
+use vx_tables::{Folder, load_scanned_in_threads};
 use vx_why::entry;
 
 /// A command over the catalog, the plan and the folder of tables that arguments name.
@@ -67,6 +69,8 @@ enum Job<'a> {
     Annotation(Sources<'a>),
     /// A plan in a form, over the catalog and the plan that arguments name.
     Form(PlanForm, Sources<'a>),
+    /// A plan's picture with the statistics of the file at a path, over the catalog and the plan that arguments name.
+    Drawing(Sources<'a>, &'a str),
     /// A plan as a statement of SQL, over the catalog and the plan that arguments name.
     Statement(Dialect, Sources<'a>),
     Plans(FilePlans<'a>),
@@ -246,6 +250,7 @@ fn job_in<'a>(alloc: Global, asked: &Asked<'a>) -> Result<Option<Job<'a>>, Alloc
         Asked::CheckAll(sources) => Ok(Some(Job::Verdict(*sources))),
         Asked::Annotate(sources) => Ok(Some(Job::Annotation(*sources))),
         Asked::Explain(sources, format) => Ok(explain_job(alloc, *sources, format)),
+        Asked::Draw(sources, stats) => Ok(Some(Job::Drawing(*sources, *stats))),
         Asked::Sql(sources, dialect) => Ok(sql_job(*sources, dialect)),
         Asked::Why(code) => Ok(why_job(code)),
         Asked::Serial(sources, folder) => {
@@ -266,10 +271,11 @@ fn job_in<'a>(alloc: Global, asked: &Asked<'a>) -> Result<Option<Job<'a>>, Alloc
     }
 }
 
-// The text that answers a task.
+// The text that answers a task, each table of which up to so many threads load.
 fn answer_task<T: Threads + Wait + Sync, F: Store, I: ByteIn>(
     rt: &T,
     alloc: Global,
+    threads: usize,
     seed: KeySeed,
     files: &F,
     input: &mut I,
@@ -283,13 +289,24 @@ fn answer_task<T: Threads + Wait + Sync, F: Store, I: ByteIn>(
         files,
         path: task.folder,
     };
-    execute(rt, alloc, seed, task.command, &folder, &task.setting, plan)
+    let setting = &task.setting;
+    execute(
+        rt,
+        alloc,
+        threads,
+        seed,
+        task.command,
+        &folder,
+        setting,
+        plan,
+    )
 }
 
-// The texts of runs of several plans, over tables that are loaded once.
+// The texts of runs of several plans, over tables that are loaded once, each by up to so many threads.
 fn answer_plans<T: Threads + Wait + Sync, F: Store, I: ByteIn>(
     rt: &T,
     alloc: Global,
+    threads: usize,
     seed: KeySeed,
     files: &F,
     input: &mut I,
@@ -306,7 +323,7 @@ fn answer_plans<T: Threads + Wait + Sync, F: Store, I: ByteIn>(
         files,
         path: task.folder,
     };
-    let database = load_scanned(alloc, seed, &catalog, &plans, &folder)?;
+    let database = load_scanned_in_threads(rt, alloc, threads, seed, &catalog, &plans, &folder)?;
     let text = run_each(rt, alloc, &task.setting, plans.plans.as_slice(), &database)?;
     Ok(text)
 }
@@ -340,6 +357,33 @@ fn answer_statement<F: Store, I: ByteIn>(
     let plan = plan_from_files(alloc, files, input, sources)?;
     let text = statement(alloc, dialect, &plan)?;
     Ok(text)
+}
+
+// What is wrong with a file of statistics.
+const NO_COUNTS: &str =
+    "volcano: a file of statistics is what `run --stats=json` wrote of this plan; see volcano explain --help\n";
+
+// The picture of the plan at one path over the catalog at the other, with the statistics of the file at a third.
+fn answer_drawing<F: Store, I: ByteIn>(
+    alloc: Global,
+    files: &F,
+    input: &mut I,
+    sources: Sources<'_>,
+    stats: &str,
+) -> Result<ArgumentAnswer, ArgumentFault>
+    ensures answer { IfOk result (λ a. IsAskAnswer (F.holds files.now) (I.remaining input.old) (draw (paths_are sources.entry) stats.now) a) }
+    ensures untold { IfOk result IsUncounted }
+    ensures refused { IfErr result (IsAskFault (F.holds files.now) (F.is_reliable files.now) (I.remaining input.old) (I.has_failed input.new) (draw (paths_are sources.entry) stats.now)) }
+{
+    let plan = plan_from_files(alloc, files, input, sources)?;
+    let nodes = node_count(plan.root());
+    let picture = plan_in_form(alloc, PlanForm::Dot, plan)?;
+    let counted = bytes_at(alloc, files, input, true, stats)?;
+    match draw(alloc, nodes, picture.as_slice(), counted.as_slice()) {
+        Ok(drawing) => Ok(ArgumentAnswer::Text(drawing)),
+        Err(DrawFault::NoMemory) => Err(ArgumentFault::Refused(Refusal::NoMemory)),
+        Err(DrawFault::BadStats) => Err(usage_error(alloc, NO_COUNTS)),
+    }
 }
 
 // The plan at one path over the catalog at the other, with the claims that the rule table shows.
@@ -402,10 +446,11 @@ pub fn usage_error(alloc: Global, text: &str) -> ArgumentFault
     }
 }
 
-/// What answers what arguments ask for, without statistics.
+/// What answers what arguments ask for, without statistics. Up to so many threads load a table.
 pub fn answer_asked<T: Threads + Wait + Sync, F: Store, I: ByteIn>(
     rt: &T,
     alloc: Global,
+    threads: usize,
     seed: KeySeed,
     files: &F,
     input: &mut I,
@@ -418,7 +463,7 @@ pub fn answer_asked<T: Threads + Wait + Sync, F: Store, I: ByteIn>(
     match job_in(alloc, asked)? {
         Some(Job::Bundle) => Ok(ArgumentAnswer::Text(outcome_of(rt, alloc, seed, input)?)),
         Some(Job::Command(task)) => {
-            let text = answer_task(rt, alloc, seed, files, input, &task)?;
+            let text = answer_task(rt, alloc, threads, seed, files, input, &task)?;
             Ok(ArgumentAnswer::Text(text))
         }
         Some(Job::Verdict(sources)) => answer_verdict(alloc, files, input, sources),
@@ -430,12 +475,13 @@ pub fn answer_asked<T: Threads + Wait + Sync, F: Store, I: ByteIn>(
             let text = answer_form(alloc, files, input, form, sources)?;
             Ok(ArgumentAnswer::Text(text))
         }
+        Some(Job::Drawing(sources, stats)) => answer_drawing(alloc, files, input, sources, stats),
         Some(Job::Statement(dialect, sources)) => {
             let text = answer_statement(alloc, files, input, dialect, sources)?;
             Ok(ArgumentAnswer::Text(text))
         }
         Some(Job::Plans(task)) => {
-            let text = answer_plans(rt, alloc, seed, files, input, &task)?;
+            let text = answer_plans(rt, alloc, threads, seed, files, input, &task)?;
             Ok(ArgumentAnswer::Text(text))
         }
         Some(Job::Entry(text)) => {
@@ -467,8 +513,8 @@ fn spelled_out<'a>(command: &str, argument: &'a str) -> &'a str
     }
 }
 
-// The program's name, and then the arguments, spelled out.
-fn with_program_name<'a>(alloc: Global, arguments: &[&'a str]) -> Result<Vec<&'a str>, AllocError>
+/// The program's name, and then the arguments, spelled out.
+pub fn with_program_name<'a>(alloc: Global, arguments: &[&'a str]) -> Result<Vec<&'a str>, AllocError>
     ensures { IfOk result (λ v. map (λ a. a.now) v.items ≡ with_program_name (map (λ a. a.now) arguments.now)) }
 {
     let command = command_in(arguments);
@@ -500,13 +546,24 @@ fn answer_request<T: Threads + Wait + Sync, C: Clock, F: Store, I: ByteIn>(
     ensures refused { IfErr result (λ e. IsAskFault (F.holds files.now) (F.is_reliable files.now) (I.remaining input.old) (I.has_failed input.new) (asked_is request.now.asked) e
         ⊎ IsStatsFault (option_map (λ s. s.now) request.now.stats) e) }
 {
+    let threads = loading_threads(rt, request.threads);
     match request.stats {
-        None => answer_asked(rt, alloc, seed, files, input, &request.asked),
+        None => answer_asked(rt, alloc, threads, seed, files, input, &request.asked),
         Some(word) => match stats_named(word) {
             None => Err(usage_error(alloc, NO_STATS)),
-            Some(None) => answer_asked(rt, alloc, seed, files, input, &request.asked),
+            Some(None) => answer_asked(rt, alloc, threads, seed, files, input, &request.asked),
             Some(Some(form)) => {
-                answer_counted(rt, clock, alloc, seed, files, input, form, &request.asked)
+                answer_counted(
+                    rt,
+                    clock,
+                    alloc,
+                    threads,
+                    seed,
+                    files,
+                    input,
+                    form,
+                    &request.asked,
+                )
             }
         },
     }
@@ -545,7 +602,10 @@ pub fn answer_arguments<T: Threads + Wait + Sync, C: Clock, F: Store, I: ByteIn>
     let arguments = with_program_name(alloc, arguments)?;
     match asked_for(alloc, arguments.as_slice()) {
         Ok(Some(request)) => answer_request(rt, clock, alloc, seed, files, input, &request),
-        Ok(None) => Err(usage_error(alloc, "volcano: these words ask for nothing\n")),
+        Ok(None) => Err(usage_error(
+            alloc,
+            "volcano: statistics are drawn with --format dot alone; see volcano explain --help\n",
+        )),
         Err(error) => help_or_fault(alloc, &error),
     }
 }

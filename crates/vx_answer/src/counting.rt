@@ -27,7 +27,7 @@ use vx_bytes::{ByteIn, Store};
 use vx_catalog::Database;
 use vx_seeds::KeySeed;
 use vx_stats::{Phase, StatsForm, Timer, push_shared};
-use vx_tables::{Folder, load_scanned};
+use vx_tables::{Folder, load_scanned_in_threads};
 
 // The texts of runs of plans over one database, each behind a line with the path of its plan, and their statistics. The first plan
 // of which the run gives no text ends it.
@@ -74,6 +74,7 @@ fn counted_plans<T: Threads + Wait + Sync, C: Clock, F: Store, I: ByteIn>(
     rt: &T,
     clock: &C,
     alloc: Global,
+    threads: usize,
     seed: KeySeed,
     files: &F,
     input: &mut I,
@@ -97,7 +98,7 @@ fn counted_plans<T: Threads + Wait + Sync, C: Clock, F: Store, I: ByteIn>(
         files,
         path: folder,
     };
-    let database = load_scanned(alloc, seed, &catalog, &plans, &tables)?;
+    let database = load_scanned_in_threads(rt, alloc, threads, seed, &catalog, &plans, &tables)?;
     timer.end(clock, Phase::Load)?;
     let mut counted = count_each(
         rt,
@@ -118,6 +119,7 @@ pub fn answer_counted<T: Threads + Wait + Sync, C: Clock, F: Store, I: ByteIn>(
     rt: &T,
     clock: &C,
     alloc: Global,
+    threads: usize,
     seed: KeySeed,
     files: &F,
     input: &mut I,
@@ -134,7 +136,7 @@ pub fn answer_counted<T: Threads + Wait + Sync, C: Clock, F: Store, I: ByteIn>(
                 return Err(usage_error(alloc, usage_text(asked)));
             };
             let counted = counted_task(
-                rt, clock, alloc, seed, files, input, form, *sources, *folder, &setting,
+                rt, clock, alloc, threads, seed, files, input, form, *sources, *folder, &setting,
             )?;
             Ok(ArgumentAnswer::Counted(counted))
         }
@@ -143,10 +145,10 @@ pub fn answer_counted<T: Threads + Wait + Sync, C: Clock, F: Store, I: ByteIn>(
                 return Err(usage_error(alloc, usage_text(asked)));
             };
             let counted = counted_plans(
-                rt, clock, alloc, seed, files, input, form, sources, *folder, &setting,
+                rt, clock, alloc, threads, seed, files, input, form, sources, *folder, &setting,
             )?;
             Ok(ArgumentAnswer::Counted(counted))
         }
-        _ => answer_asked(rt, alloc, seed, files, input, asked),
+        _ => answer_asked(rt, alloc, threads, seed, files, input, asked),
     }
 }

@@ -11,6 +11,8 @@ mod failing;
 mod files;
 mod forms;
 mod laws;
+mod loading;
+mod places;
 mod plans;
 mod program;
 mod run;

@@ -15,6 +15,7 @@ ghost use Rattle.vx_wisconsin.specs.Wisconsin.{max_rows, wisconsin, column_names
 use crate::bundle::answer_bytes;
 use crate::command_line::{ArgumentAnswer, ArgumentFault, answer_arguments};
 use crate::files::input_bytes;
+use crate::places::write_place;
 use crate::runs::Stopped;
 use crate::stats::Counted;
 use std::alloc::Global;
@@ -50,6 +51,21 @@ fn refuse<E: ByteOut>(refusal: &Refusal, err: &mut E) -> u8
 {
     report(refusal, err);
     status(refusal)
+}
+
+// Reports a refusal of what arguments ask for on `err`, and below it where it was found, if they want that.
+fn refuse_in_place<F: Store, E: ByteOut>(
+    alloc: Global,
+    files: &F,
+    arguments: &[&str],
+    refusal: &Refusal,
+    err: &mut E,
+) -> u8
+    ensures { result ≡ status_of refusal.now }
+{
+    let status = refuse(refusal, err);
+    write_place(alloc, files, arguments, refusal, err);
+    status
 }
 
 // Writes a text on `out`, or reports on `err` that this failed.
@@ -213,7 +229,9 @@ fn reply_to_arguments<
         Ok(ArgumentAnswer::Text(text)) => deliver(Ok(text), out, err),
         Ok(ArgumentAnswer::Relation(rows)) => write_relation(alloc, rows, out, err),
         Ok(ArgumentAnswer::Counted(counted)) => write_counted(clock, &counted, out, err),
-        Err(ArgumentFault::Refused(refusal)) => deliver(Err(refusal), out, err),
+        Err(ArgumentFault::Refused(refusal)) => refuse_in_place(
+            alloc, files, arguments, &refusal, err,
+        ),
         Err(ArgumentFault::Failing(lines)) => write_lines(lines.as_str(), err),
         Err(ArgumentFault::Stopped(stopped)) => write_stopped(stopped, out, err),
         Err(ArgumentFault::Usage(text)) => {
@@ -229,7 +247,8 @@ fn reply_to_arguments<
 /// The status is 0 if `out` got the answer, 2 for wrong arguments, 3 for input that is refused, and 4 if the machine or
 /// the run failed. All work ends before the first byte goes to `out`; the text of a relation alone is written as it is made,
 /// once all memory for it is there. Of several plans, `out` gets the answers before the first that is refused. A refusal is
-/// one line on `err`, and a write of it that fails changes nothing else.
+/// one line on `err`, below which another says where it was found, if the arguments want that. A write of them that fails changes
+/// nothing else.
 ///
 /// Keys are hashed by the seed, on which nothing of this depends. The clock is asked where the arguments ask for statistics.
 pub fn answer<T: Threads + Wait + Sync, C: Clock, F: Store, I: ByteIn, O: ByteOut, E: ByteOut>(

@@ -27,7 +27,7 @@ use vx_parallel::{Free, run_threads_counted};
 use vx_plan::{TypedPlan, name_texts};
 use vx_refusals::Refusal;
 use vx_seeds::KeySeed;
-use vx_tables::{Tables, load_tables};
+use vx_tables::{Tables, load_tables_in_threads};
 use vx_views::Rows;
 
 // The most rounds of a run.
@@ -127,10 +127,11 @@ pub fn run_over<T: Threads + Wait + Sync>(
     }
 }
 
-/// The text of a run of a plan over tables.
+/// The text of a run of a plan over tables, each of which up to so many threads load.
 pub fn run_plan<R: Threads + Wait + Sync, T: Tables>(
     rt: &R,
     alloc: Global,
+    threads: usize,
     seed: KeySeed,
     tables: &T,
     setting: &Setting,
@@ -139,7 +140,7 @@ pub fn run_plan<R: Threads + Wait + Sync, T: Tables>(
     ensures text { IfOk result (λ text. IsRun (resolved_of (typed_plan plan.now)) (T.holds tables.now) setting.now text.items) }
     ensures refused { IfErr result (λ e. PlanRefuses (resolved_of (typed_plan plan.now)) (T.holds tables.now) (T.lacks tables.now) setting.now e) }
 {
-    let database = load_tables(alloc, seed, plan.plan(), tables)?;
+    let database = load_tables_in_threads(rt, alloc, threads, seed, plan.plan(), tables)?;
     let mut unread = RunCounts::unread(alloc);
     run_over(rt, alloc, setting, plan, &database, &mut unread)
 }

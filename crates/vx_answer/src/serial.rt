@@ -6,15 +6,19 @@ ghost use Rattle.vx_answer.specs.Commands.{IsSerial, SerialRefuses};
 
 use crate::run::text_of;
 use std::alloc::Global;
+use std::thread::Threads;
 use vx_plan::{TypedPlan, erase};
 use vx_refusals::Refusal;
 use vx_seeds::KeySeed;
 use vx_serial::eval;
-use vx_tables::{Tables, load_tables};
+use vx_tables::{Tables, load_tables_in_threads};
 
-/// The text of the rows of a plan without its exchanges over tables, under the names of the plan.
-pub fn serial_plan<T: Tables>(
+/// The text of the rows of a plan without its exchanges over tables, under the names of the plan. Up to so many threads load a
+/// table; one evaluates the plan.
+pub fn serial_plan<R: Threads + Sync, T: Tables>(
+    rt: &R,
     alloc: Global,
+    threads: usize,
     seed: KeySeed,
     tables: &T,
     plan: &TypedPlan,
@@ -22,7 +26,7 @@ pub fn serial_plan<T: Tables>(
     ensures text { IfOk result (λ text. IsSerial (resolved_of plan.now) (T.holds tables.now) text.items) }
     ensures refused { IfErr result (λ e. SerialRefuses (resolved_of plan.now) (T.holds tables.now) (T.lacks tables.now) e) }
 {
-    let database = load_tables(alloc, seed, plan, tables)?;
+    let database = load_tables_in_threads(rt, alloc, threads, seed, plan, tables)?;
     let Ok(erased) = erase(alloc, plan) else {
         return Err(Refusal::NoMemory);
     };

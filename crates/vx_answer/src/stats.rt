@@ -33,7 +33,7 @@ use vx_plan::{TypedPlan, resolve};
 use vx_refusals::Refusal;
 use vx_seeds::KeySeed;
 use vx_stats::{Phase, StatsForm, Stopwatch, Timer, push_lone_plan, push_plan};
-use vx_tables::{Folder, Tables, load_tables};
+use vx_tables::{Folder, Tables, load_tables_in_threads};
 
 /// A finished text, and the statistics of its runs up to the time that its write takes.
 #[derive(Drop)]
@@ -80,6 +80,7 @@ fn counted_plan<R: Threads + Wait + Sync, C: Clock, T: Tables>(
     rt: &R,
     clock: &C,
     alloc: Global,
+    threads: usize,
     seed: KeySeed,
     tables: &T,
     setting: &Setting,
@@ -91,7 +92,7 @@ fn counted_plan<R: Threads + Wait + Sync, C: Clock, T: Tables>(
     ensures told { IfOk result (λ k. IsCountedPlan form (typed_plan plan.now) (T.holds tables.now) setting.now (phases_of (times_in timer.old)) k.text.items (string_bytes k.opening)) }
     ensures refused { IfErr result (λ e. (e ≡ Refusal.NoMemory) ⊎ PlanRefuses (resolved_of (typed_plan plan.now)) (T.holds tables.now) (T.lacks tables.now) setting.now e) }
 {
-    let database = load_tables(alloc, seed, plan.plan(), tables)?;
+    let database = load_tables_in_threads(rt, alloc, threads, seed, plan.plan(), tables)?;
     timer.end(clock, Phase::Load)?;
     let mut counts = RunCounts::new(alloc);
     let text = run_over(rt, alloc, setting, plan, &database, &mut counts)?;
@@ -117,6 +118,7 @@ fn counted_run<R: Threads + Wait + Sync, C: Clock, T: Tables>(
     rt: &R,
     clock: &C,
     alloc: Global,
+    threads: usize,
     seed: KeySeed,
     tables: &T,
     setting: &Setting,
@@ -132,7 +134,7 @@ fn counted_run<R: Threads + Wait + Sync, C: Clock, T: Tables>(
     let checked = accepted(plan)?;
     timer.end(clock, Phase::Check)?;
     counted_plan(
-        rt, clock, alloc, seed, tables, setting, &checked, form, timer,
+        rt, clock, alloc, threads, seed, tables, setting, &checked, form, timer,
     )
 }
 
@@ -141,6 +143,7 @@ pub fn counted_task<T: Threads + Wait + Sync, C: Clock, F: Store, I: ByteIn>(
     rt: &T,
     clock: &C,
     alloc: Global,
+    threads: usize,
     seed: KeySeed,
     files: &F,
     input: &mut I,
@@ -162,7 +165,7 @@ pub fn counted_task<T: Threads + Wait + Sync, C: Clock, F: Store, I: ByteIn>(
         path: folder,
     };
     counted_run(
-        rt, clock, alloc, seed, &tables, setting, plan, form, &mut timer,
+        rt, clock, alloc, threads, seed, &tables, setting, plan, form, &mut timer,
     )
 }
 

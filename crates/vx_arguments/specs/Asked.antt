@@ -63,6 +63,10 @@ verbose_rule = flag_rule (codes "verbose-errors")
 abbrev pub threads_rule : Rule
 threads_rule = number_rule (codes "threads") (codes "0")
 
+-- the file of statistics that the picture of a plan shows, which need not be given
+abbrev pub drawn_rule : Rule
+drawn_rule = record (new_rule (codes "drawn")) { long = Some (codes "stats"); value_names = 1 }
+
 abbrev pub serial_app : App
 serial_app = with_rule (with_rule (with_rule (with_rule (judging_app (codes "serial")) (path_rule (codes "data"))) threads_rule) (flag_rule (codes "quiet"))) verbose_rule
 
@@ -79,7 +83,7 @@ abbrev pub check_app : App
 check_app = with_rule (with_rule (judging_app (codes "check")) (flag_rule (codes "all"))) verbose_rule
 
 abbrev pub explain_app : App
-explain_app = with_rule (with_rule (judging_app (codes "explain")) (word_rule (codes "format") (codes "text"))) verbose_rule
+explain_app = with_rule (with_rule (with_rule (judging_app (codes "explain")) (word_rule (codes "format") (codes "text"))) drawn_rule) verbose_rule
 
 abbrev pub annotate_app : App
 annotate_app = with_rule (judging_app (codes "annotate")) verbose_rule
@@ -123,6 +127,7 @@ pub data Ask : Type 0 where
   check : Paths → Ask
   check_all : Paths → Ask
   explain : Paths → (format : Text) → Ask
+  draw : Paths → (stats : Text) → Ask
   annotate : Paths → Ask
   sql : Paths → (dialect : Text) → Ask
   why : (code : Text) → Ask
@@ -159,8 +164,13 @@ run_of rows = option_and_then (λ c. option_and_then (λ ps. option_and_then (λ
 abbrev pub check_of : List Row → Option Ask
 check_of rows = option_and_then (λ p. option_map (λ all. if bytes_eq all (codes "true") then check_all p else check p) (first_of (codes "all") rows)) (paths_of rows)
 
+-- a plan in this format, with the statistics of this file where one is given: they are drawn into a picture alone
+abbrev pub explain_in : Paths → Text → Option Text → Option Ask
+explain_in paths format None = Some (explain paths format)
+explain_in paths format (Some stats) = if bytes_eq format (codes "dot") then Some (draw paths stats) else None
+
 abbrev pub explain_of : List Row → Option Ask
-explain_of rows = option_and_then (λ p. option_map (explain p) (first_of (codes "format") rows)) (paths_of rows)
+explain_of rows = option_and_then (λ p. option_and_then (λ f. explain_in p f (first_of (codes "drawn") rows)) (first_of (codes "format") rows)) (paths_of rows)
 
 abbrev pub sql_of : List Row → Option Ask
 sql_of rows = option_and_then (λ p. option_map (sql p) (first_of (codes "dialect") rows)) (paths_of rows)
@@ -235,6 +245,7 @@ asked_is asked.Bundle = bundle
 asked_is (asked.Check sources) = check (paths_are sources)
 asked_is (asked.CheckAll sources) = check_all (paths_are sources)
 asked_is (asked.Explain sources format) = explain (paths_are sources) format.now
+asked_is (asked.Draw sources stats) = draw (paths_are sources) stats.now
 asked_is (asked.Annotate sources) = annotate (paths_are sources)
 asked_is (asked.Sql sources dialect) = sql (paths_are sources) dialect.now
 asked_is (asked.Why code) = why code.now

@@ -42,6 +42,8 @@ pub enum Asked<'a> {
     CheckAll(Sources<'a>),
     /// With the name of the text's format.
     Explain(Sources<'a>, &'a str),
+    /// The plan's picture, with the file of a run's statistics.
+    Draw(Sources<'a>, &'a str),
     /// The plan with the claims that the rule table shows.
     Annotate(Sources<'a>),
     /// The plan as a statement of SQL, with the name of the dialect.
@@ -141,7 +143,13 @@ fn explain_asked<'a>(found: &ArgMatches<'a>) -> Option<Asked<'a>>
 {
     let sources = sources_in(found)?;
     let format = value(found, "format")?;
-    Some(Asked::Explain(sources, format))
+    let Some(stats) = value(found, "drawn") else {
+        return Some(Asked::Explain(sources, format));
+    };
+    match format {
+        "dot" => Some(Asked::Draw(sources, stats)),
+        _ => None,
+    }
 }
 
 fn sql_asked<'a>(found: &ArgMatches<'a>) -> Option<Asked<'a>>

@@ -1,18 +1,18 @@
 //! What the text that explains a plan says of a node's operator.
 
-ghost use Rattle.std.specs.Prelude.{◌≡◌, ◌++◌, ◌+◌, ◌<◌, ◌^◌, map, string_bytes, length, OnOk, codes, false};
+ghost use Rattle.std.specs.Prelude.{◌≡◌, ◌++◌, ◌+◌, ◌<◌, ◌^◌, map, string_bytes, length, OnOk, IfOk, codes, false};
 ghost use Rattle.vx_values.specs.ValueView.{val_of};
 ghost use Rattle.vx_relations.specs.Catalog.{relation_at};
-ghost use Rattle.vx_plan_nodes.specs.Outline.{condition_of, aggregate_of, phase_of, unary_of, renamed_of, binary_of, kind_of};
+ghost use Rattle.vx_plan_nodes.specs.Outline.{outline_of, columns, condition_of, aggregate_of, phase_of, unary_of, renamed_of, binary_of, kind_of};
 ghost use Rattle.vx_plan_nodes.specs.TypedView.{names_in};
-ghost use Rattle.vx_check.specs.Explain.{name_at, separated, value_text, condition_text, kept_text, kept_texts, function_text, aggregate_texts, aggregates_text, group_text, grouping_text, unary_text, pair_text, binary_text, kind_text, merge_text, scan_text, prefix_text};
+ghost use Rattle.vx_check.specs.Explain.{name_at, separated, value_text, condition_text, kept_text, kept_texts, function_text, aggregate_texts, aggregates_text, group_text, grouping_text, unary_text, pair_text, binary_text, kind_text, merge_text, scan_text, prefix_text, description};
 
 use crate::words::{push_between, push_list, push_name, push_routed};
 use itoa::Buffer;
 use std::alloc::{AllocError, Global};
 use vx_plan_nodes::{
     Aggregate, Binary, Condition, Exchange, ExchangeKind, Name, Phase, Projected, ScanNode, Side,
-    TypedPlan, Unary,
+    TypedNode, TypedPlan, Unary,
 };
 use vx_rows::Value;
 
@@ -204,8 +204,8 @@ fn push_grouping(
     }
 }
 
-/// Adds an operator over one input; inputs and outputs are the names of the columns.
-pub fn push_unary(
+// Adds an operator over one input; inputs and outputs are the names of the columns.
+fn push_unary(
     alloc: Global,
     text: &mut String,
     inputs: &[Name],
@@ -268,8 +268,8 @@ fn push_join(
     text.push_str("]")
 }
 
-/// Adds an operator over inputs whose columns have these names.
-pub fn push_binary(
+// Adds an operator over inputs whose columns have these names.
+fn push_binary(
     text: &mut String,
     lefts: &[Name],
     rights: &[Name],
@@ -318,8 +318,8 @@ fn push_merge(text: &mut String, inputs: &[Name], merge: &[usize]) -> Result<(),
     push_list(text, inputs, merge)
 }
 
-/// Adds an exchange over an input whose columns have these names.
-pub fn push_exchange(
+// Adds an exchange over an input whose columns have these names.
+fn push_exchange(
     text: &mut String,
     plan: &TypedPlan,
     inputs: &[Name],
@@ -353,12 +353,60 @@ fn push_relation(text: &mut String, plan: &TypedPlan, relation: usize) -> Result
     Ok(())
 }
 
-/// Adds a scan.
-pub fn push_scan(text: &mut String, plan: &TypedPlan, scan: &ScanNode) -> Result<(), AllocError>
+// Adds a scan.
+fn push_scan(text: &mut String, plan: &TypedPlan, scan: &ScanNode) -> Result<(), AllocError>
     ensures { OnOk result (string_bytes text.new ≡ string_bytes text.old ++ scan_text (names_in plan.now) scan.now.relation scan.now.shared (string_bytes scan.now.prefix)) }
 {
     text.push_str("scan ")?;
     push_relation(text, plan, scan.relation)?;
     text.push_str(if scan.shared { " shared" } else { " whole" })?;
     push_prefix(text, scan.prefix.as_str())
+}
+
+/// The names of the columns of a node's output.
+pub fn column_names(node: &TypedNode) -> &[Name]
+    ensures { result.now ≡ (columns (outline_of node.now)).names }
+{
+    node.head().columns.names.as_slice()
+}
+
+/// Adds what a node does.
+pub fn push_description(
+    alloc: Global,
+    text: &mut String,
+    plan: &TypedPlan,
+    node: &TypedNode,
+) -> Result<(), AllocError>
+    ensures { OnOk result (string_bytes text.new ≡ string_bytes text.old ++ description (names_in plan.now) (outline_of node.now)) }
+{
+    match node {
+        TypedNode::Scan(_, scan) => push_scan(text, plan, scan),
+        TypedNode::Unary(head, operator, input) => {
+            push_unary(
+                alloc,
+                text,
+                column_names(input),
+                head.columns.names.as_slice(),
+                operator,
+            )
+        }
+        TypedNode::Binary(_, operator, left, right) => {
+            push_binary(text, column_names(left), column_names(right), operator)
+        }
+        TypedNode::Exchange(_, exchange, input) => push_exchange(
+            text,
+            plan,
+            column_names(input),
+            exchange,
+        ),
+    }
+}
+
+/// What a node does.
+pub fn description(alloc: Global, plan: &TypedPlan, node: &TypedNode) -> Result<String, AllocError>
+    ensures { IfOk result (λ s. string_bytes s ≡ description (names_in plan.now) (outline_of node.now)) }
+{
+    let mut text = String::new(alloc);
+    push_description(alloc, &mut text, plan, node)?;
+    Ok(text)
 }

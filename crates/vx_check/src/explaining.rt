@@ -4,55 +4,16 @@ ghost use Rattle.std.specs.Prelude.{◌≡◌, ◌++◌, string_bytes, codes, de
 ghost use Rattle.vx_plan_nodes.specs.Plan.{size};
 ghost use Rattle.vx_plan_nodes.specs.Outline.{outline_of, plan_of, columns, top};
 ghost use Rattle.vx_plan_nodes.specs.TypedView.{names_in};
-ghost use Rattle.vx_check.specs.Explain.{size_text, claim_text, description, line_text, lines};
+ghost use Rattle.vx_check.specs.Explain.{size_text, claim_text, line_text, lines};
 ghost use Rattle.vx_check_rules.specs.CheckedView.{typed_plan};
 ghost use Rattle.vx_check.specs.PlanText.{plan_text};
 
-use crate::describe::{push_binary, push_exchange, push_scan, push_unary};
+use crate::describe::{column_names, push_description};
 use crate::words::{push_claim, push_size};
 use itoa::Buffer;
 use std::alloc::{AllocError, Global};
 use vx_check_rules::CheckedPlan;
-use vx_plan_nodes::{Name, TypedNode, TypedPlan};
-
-// The names of the node's output columns.
-fn column_names(node: &TypedNode) -> &[Name]
-    ensures { result.now ≡ (columns (outline_of node.now)).names }
-{
-    node.head().columns.names.as_slice()
-}
-
-// Adds what the node does.
-fn push_description(
-    alloc: Global,
-    text: &mut String,
-    plan: &TypedPlan,
-    node: &TypedNode,
-) -> Result<(), AllocError>
-    ensures { OnOk result (string_bytes text.new ≡ string_bytes text.old ++ description (names_in plan.now) (outline_of node.now)) }
-{
-    match node {
-        TypedNode::Scan(_, scan) => push_scan(text, plan, scan),
-        TypedNode::Unary(head, operator, input) => {
-            push_unary(
-                alloc,
-                text,
-                column_names(input),
-                head.columns.names.as_slice(),
-                operator,
-            )
-        }
-        TypedNode::Binary(_, operator, left, right) => {
-            push_binary(text, column_names(left), column_names(right), operator)
-        }
-        TypedNode::Exchange(_, exchange, input) => push_exchange(
-            text,
-            plan,
-            column_names(input),
-            exchange,
-        ),
-    }
-}
+use vx_plan_nodes::{TypedNode, TypedPlan};
 
 // Adds the margin and the number that a line begins with.
 fn push_number(text: &mut String, margin: &str, number: u32) -> Result<(), AllocError>

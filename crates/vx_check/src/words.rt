@@ -69,8 +69,8 @@ pub fn push_size(text: &mut String, plan: &TypedPlan, size: Size) -> Result<(), 
     }
 }
 
-// The name of a declared range; past the end the empty one.
-fn range_name<'a>(plan: &'a TypedPlan, range: usize) -> &'a str
+/// The name of a declared range; past the end the empty one.
+pub fn range_name<'a>(plan: &'a TypedPlan, range: usize) -> &'a str
     ensures { result.now ≡ name_at (map (λ r. r.name) (names_in plan.now).ranges) range }
 {
     match plan.ranges().get(range) {
@@ -109,8 +109,8 @@ pub fn push_routed(
     push_list(text, names, columns)
 }
 
-// Adds a part, whose columns have these names.
-fn push_part(
+/// Adds a part, whose columns have these names.
+pub fn push_part(
     text: &mut String,
     plan: &TypedPlan,
     names: &[Name],

@@ -2,7 +2,7 @@
 
 ghost use Rattle.std.specs.Prelude.{◌≡◌, ◌++◌, ◌-◌, ◌≤◌, ℕ, List, length, take, codes, IfOk, OnOk, string_bytes};
 
-use crate::node_counts::NodeCounts;
+use crate::node_counts::{DrawFault, NodeCounts, counts_by_node};
 use std::alloc::{AllocError, Global};
 
 // How the text of a picture ends.
@@ -42,9 +42,8 @@ fn push_all_counts(
     Ok(())
 }
 
-/// The picture of a plan in the language of Graphviz, with the counts of each node beside its box. Of the picture all is kept but
-/// its last two bytes, the closing bracket, which follows the counts.
-pub fn draw(alloc: Global, picture: &[u8], counts: &[NodeCounts]) -> Result<Vec<u8>, AllocError>
+// The picture with the counts of each node beside its box.
+fn with_counts(alloc: Global, picture: &[u8], counts: &[NodeCounts]) -> Result<Vec<u8>, AllocError>
     ensures { IfOk result (λ v. (more : List ℕ) × (v.items ≡ take (length picture.now - 2) picture.now ++ more ++ codes "}\n")) }
 {
     let kept = picture.len().saturating_sub(ENDING.len());
@@ -52,4 +51,13 @@ pub fn draw(alloc: Global, picture: &[u8], counts: &[NodeCounts]) -> Result<Vec<
     push_all_counts(alloc, &mut text, counts)?;
     text.extend_from_slice(ENDING)?;
     Ok(text)
+}
+
+/// The picture of a plan with so many nodes, in the language of Graphviz, with what `run --stats=json` wrote of each node beside its
+/// box. Of the picture all is kept but its last two bytes, the closing bracket, which follows the counts.
+pub fn draw(alloc: Global, nodes: usize, picture: &[u8], stats: &[u8]) -> Result<Vec<u8>, DrawFault>
+    ensures { IfOk result (λ v. (more : List ℕ) × (v.items ≡ take (length picture.now - 2) picture.now ++ more ++ codes "}\n")) }
+{
+    let counts = counts_by_node(alloc, nodes, stats)?;
+    Ok(with_counts(alloc, picture, counts.as_slice())?)
 }

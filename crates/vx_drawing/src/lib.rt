@@ -5,4 +5,4 @@ mod drawing;
 mod node_counts;
 
 pub use drawing::draw;
-pub use node_counts::{DrawFault, NodeCounts, counts_by_node};
+pub use node_counts::DrawFault;

@@ -1,2 +1,1 @@
-pub mod WordFacts
 pub mod PlainFacts

@@ -8,11 +8,10 @@ ghost use Rattle.vx_check.specs.Explain.{size_text};
 ghost use Rattle.vx_check_rules.specs.CheckedView.{typed_plan};
 ghost use Rattle.vx_formats.specs.Dot.{label, box_name, caption, look, box, boxes, frame_head, size_label, frame, frames, part_words, arrow, arrows, result_box, ending, drawing, plan_dot};
 
-use crate::describe::{column_names, description};
-use crate::words::{push_part, push_size};
 use itoa::Buffer;
 use serde_json::Value as Json;
 use std::alloc::{AllocError, Global};
+use vx_check::{column_names, description, push_part, push_size};
 use vx_check_rules::CheckedPlan;
 use vx_plan_nodes::{TypedNode, TypedPlan};
 

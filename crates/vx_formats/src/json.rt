@@ -11,10 +11,10 @@ ghost use Rattle.vx_check_rules.specs.CheckedView.{typed_plan};
 ghost use Rattle.vx_check.specs.Explain.{name_at};
 ghost use Rattle.vx_formats.specs.Json.{columns_json, keys_json, names_json, type_json, types_json, size_json, routed_json, part_json, with_claim, phase_word, unary_word, binary_word, op_word, with_operator, inputs, with_workers, with_output, with_route, with_kind, with_exchange, node_json, nodes_json, plan_json};
 
-use crate::describe::{column_names, description};
-use crate::words::{name_at, push_name, route_name, route_word};
+use crate::words::{route_name, route_word};
 use serde_json::{Map, Value as Json, put};
 use std::alloc::{AllocError, Global};
+use vx_check::{column_names, description, name_at, push_name};
 use vx_check_rules::CheckedPlan;
 use vx_plan_nodes::{
     Binary, Claim, Columns, Exchange, ExchangeKind, Name, Part, Phase, Route, Size, TypedNode,

@@ -1,7 +1,6 @@
 //! A checked plan for other tools: as JSON for programs, and as a graph that Graphviz draws for people.
 #![tactic(auto)]
 
-mod describe;
 mod dot;
 mod json;
 mod words;

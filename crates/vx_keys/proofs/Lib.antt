@@ -17,3 +17,5 @@ pub mod MergeCalls
 pub mod BesideFacts
 pub mod MadeFacts
 pub mod ColumnFacts
+pub mod HashedFacts
+pub mod RestFacts

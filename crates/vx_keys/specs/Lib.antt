@@ -7,3 +7,5 @@ pub mod Numbers
 pub mod Columns
 pub mod Kinds
 pub mod Parts
+pub mod Hashed
+pub mod Kept

@@ -11,12 +11,13 @@ ghost use Rattle.vx_keys.specs.Kinds.{kind_keys};
 ghost use Rattle.vx_keys.specs.Numbers.{numbers_of};
 
 use crate::columns::{IntColumn, TextColumn};
+use crate::composite_keys::CompositeKeys;
 use crate::int_keys::IntKeys;
 use crate::row_keys::RowKeys;
 use crate::text_keys::TextKeys;
 use std::alloc::{AllocError, Global};
 use std::marker::Model;
-use vx_rows::{Cell, Row};
+use vx_rows::Cell;
 use vx_seeds::KeySeed;
 use vx_views::{Chunk, Rows};
 
@@ -25,11 +26,11 @@ use vx_views::{Chunk, Rows};
 enum Kind {
     Ints(IntKeys),
     Texts(TextKeys),
-    Rows(RowKeys),
+    Rows(CompositeKeys),
 }
 
 /// Keys, each once, numbered from 0 in order of first occurrence. They are found by hashing: a key of one value as the
-/// number or the text that it is, and any other value by value.
+/// number or the text that it is, and any other by its values where they lie.
 ///
 /// The first rows that are numbered decide which of these it is. Where later ones have keys of another type, all keys are
 /// copied and are hashed value by value from then on.
@@ -61,7 +62,7 @@ fn kind_of(alloc: Global, seed: KeySeed, chunk: &Chunk, columns: &[usize]) -> Ki
     if TextColumn::of(chunk, columns).is_some() {
         return Kind::Texts(TextKeys::new(alloc, seed));
     }
-    Kind::Rows(RowKeys::new(alloc, seed))
+    Kind::Rows(CompositeKeys::new(alloc, seed))
 }
 
 // One value as a list.
@@ -73,25 +74,13 @@ fn one_cell(alloc: Global, cell: Cell<'_>) -> Result<Vec<Cell<'_>>, AllocError>
     Ok(cells)
 }
 
-// The values of a row.
-fn row_cells(alloc: Global, row: &Row) -> Result<Vec<Cell<'_>>, AllocError>
-    ensures { IfOk result (λ v. map cell_val v.items ≡ row.now) }
-{
-    let values = row.values();
-    let mut cells = Vec::with_capacity(alloc, values.len())?;
-    for value in values {
-        cells.push(value.cell())?;
-    }
-    Ok(cells)
-}
-
 impl Keys {
     /// No keys, to be hashed by this seed.
     pub fn new(alloc: Global, seed: KeySeed) -> Keys
         ensures { result ≡ [] }
     {
         Keys {
-            kind: Kind::Rows(RowKeys::new(alloc, seed)),
+            kind: Kind::Rows(CompositeKeys::new(alloc, seed)),
             seed,
             alloc,
         }
@@ -117,7 +106,7 @@ impl Keys {
         match &self.kind {
             Kind::Ints(keys) => one_cell(self.alloc, Cell::Int(keys.get(number))),
             Kind::Texts(keys) => one_cell(self.alloc, Cell::Text(keys.get(number))),
-            Kind::Rows(keys) => row_cells(self.alloc, keys.get(number)),
+            Kind::Rows(keys) => keys.cells(number),
         }
     }
 
@@ -183,7 +172,7 @@ impl Keys {
         }
         let mut rows = self.as_rows()?;
         rows.number_all(chunk, columns, numbers)?;
-        self.kind = Kind::Rows(rows);
+        self.kind = Kind::Rows(CompositeKeys::of(self.alloc, self.seed, rows));
         Ok(())
     }
 

@@ -2,7 +2,9 @@
 #![tactic(auto)]
 
 mod accumulator;
+mod column_keys;
 mod columns;
+mod composite_keys;
 mod grouping;
 mod int_keys;
 mod join;

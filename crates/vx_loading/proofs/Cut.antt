@@ -36,10 +36,10 @@ rows_append types (fields ∷ one) two front =
     bind_same (row_added types front fields) (λ (rows : List Row). rows_onto types rows (one ++ two)) (λ (rows : List Row). (rows_onto types rows one >>= λ all. rows_onto types all two)) (λ rows e. rows_append types one two rows)
     ∙ sym (bind_assoc (row_added types front fields) (λ (rows : List Row). rows_onto types rows one) (λ (all : List Row). rows_onto types all two))
 
--- a piece's rows behind others are those of its records
-pub piece_behind : (types : List ColType) (front : List Row) (piece : List ℕ) → length front ≤ max_rows → behind front (rows_of_text types [] piece) ≡ rows_of_text types front piece
-piece_behind types front piece h =
-    sym (onto_behind types (records_of piece) front [] (omega (arith, h))) ∙ ap (λ (l : List Row). rows_onto types l (records_of piece)) (append-nil front)
+-- the rows of records behind others
+pub records_behind : (types : List ColType) (front : List Row) (records : List (List (List ℕ))) → length front ≤ max_rows → behind front (rows_onto types [] records) ≡ rows_onto types front records
+records_behind types front records h =
+    sym (onto_behind types records front [] (omega (arith, h))) ∙ ap (λ (l : List Row). rows_onto types l records) (append-nil front)
 
 no_records : (types : List ColType) (rows : List Row) → rows_of_text types rows [] ≡ Ok rows
 unfolding rows_onto records_from strip_bom next_record
@@ -61,7 +61,7 @@ rows_cut types front piece (c ∷ rest) u m =
 pub piece_cut : (types : List ColType) (front : List Row) (piece rest : List ℕ) → length front ≤ max_rows → is_unquoted piece ≡ true → may_cut_before rest ≡ true
     → rows_of_text types front (piece ++ rest) ≡ (behind front (rows_of_text types [] piece) >>= λ rows. rows_of_text types rows rest)
 piece_cut types front piece rest few u m =
-    rows_cut types front piece rest u m ∙ ap (λ (r : Result (List Row) LoadFault). (r >>= λ rows. rows_of_text types rows rest)) (sym (piece_behind types front piece few))
+    rows_cut types front piece rest u m ∙ ap (λ (r : Result (List Row) LoadFault). (r >>= λ rows. rows_of_text types rows rest)) (sym (records_behind types front (records_of piece) few))
 
 under_append : (names : List (List ℕ)) (types : List ColType) (one two : List (List (List ℕ))) → one ≢ [] → under_header names types (one ++ two) ≡ (under_header names types one >>= λ rows. rows_onto types rows two)
 under_append names types [] two h = absurd (h refl)

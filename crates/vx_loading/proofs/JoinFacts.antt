@@ -1,5 +1,6 @@
 -- The tables of pieces, one behind the other.
-use Rattle.std.proofs.Common.{inl, inr, ◌≡◌, ℕ, ◌+◌, ◌<◌, ◌≤◌, List, [], ◌∷◌, ◌++◌, Option, Some, Bool, true, false, cond, Result, Ok, Err, refl, sym, ap, subst, ◌∙◌, arith, length, zero, suc, drop, get_or, nat_lt, lt-ltb, le-ltb, append_assoc}
+use Rattle.std.proofs.Common.{inl, inr, ◌≡◌, ℕ, ◌+◌, ◌<◌, ◌≤◌, List, [], ◌∷◌, ◌++◌, Option, Some, None, Bool, true, false, cond, Result, Ok, Err, refl, sym, ap, subst, ◌∙◌, arith, length, zero, suc, drop, get_or, nat_lt, lt-ltb, le-ltb, append_assoc}
+use Rattle.std.specs.Prelude.{IfSome}
 use Rattle.std.proofs.lemmas.List.{append-nil, length-append, length_push, get_or_append_left, get_or_push}
 use Rattle.std.proofs.lemmas.Grind.{flat_map-append}
 use Rattle.std.proofs.lemmas.Bool.{cases_lt}
@@ -10,9 +11,9 @@ use Rattle.vx_rows.specs.Parts.{rows_of_all}
 use Rattle.vx_relations.specs.Walk.{◌>>=◌}
 use Rattle.vx_catalog.specs.declared.fault.LoadFault.{LoadFault}
 use Rattle.vx_catalog.specs.declared.fault.LoadFault.TheVariants as fault
-use Rattle.vx_catalog.specs.Loading.{Fails, max_rows}
+use Rattle.vx_catalog.specs.Loading.{Fails, Gives, rows_onto, max_rows}
 use Rattle.vx_loading.specs.Pieces.{fault_behind, behind, rows_of_text, IsPieceRead, ArePieces, Joined}
-use Rattle.vx_loading.proofs.Cut.{bind_ok, piece_behind, piece_cut}
+use Rattle.vx_loading.proofs.Cut.{bind_ok, records_behind, piece_cut}
 
 row_told : (b : Bool) (moved : LoadFault) (whole : Result (List Row) LoadFault) → ((whole ≡ Err moved) → Fails moved whole) → whole ≡ Err (cond b moved fault.TooLarge) → Fails (cond b moved fault.TooLarge) whole
 row_told true moved whole f e = f e
@@ -120,12 +121,17 @@ next_is (suc n) (y ∷ xs) rest x d e = let p = next_is n xs rest x d e in let l
     further : (n : ℕ) → suc (n + 1) ≡ suc n + 1
     further n = omega arith
 
--- an error in a text that is read by itself, behind rows
-pub fails_behind : (types : List ColType) (front : List Row) (text : List ℕ) (e : LoadFault) → length front ≤ max_rows → Fails e (rows_of_text types [] text) → Fails (fault_behind (length front) e) (rows_of_text types front text)
-fails_behind types front text e few bad =
-    stops front e (rows_of_text types [] text) (rows_of_text types front text) (λ rows. Ok rows) bad
-    (sym (bind_ok (behind front (rows_of_text types [] text)) ∙ piece_behind types front text few))
+-- an error in records that are read by themselves, behind rows
+pub rest_fails : (types : List ColType) (front : List Row) (records : Option (List (List (List ℕ)))) (e : LoadFault) → length front ≤ max_rows
+    → IfSome records (λ rs. Fails e (rows_onto types [] rs)) → IfSome records (λ rs. Fails (fault_behind (length front) e) (rows_onto types front rs))
+rest_fails types front None e few bad = tt
+rest_fails types front (Some rs) e few bad =
+    stops front e (rows_onto types [] rs) (rows_onto types front rs) (λ rows. Ok rows) bad
+    (sym (bind_ok (behind front (rows_onto types [] rs)) ∙ records_behind types front rs few))
 
 -- rows that are read by themselves, behind others
-pub ok_behind : (types : List ColType) (front rows : List Row) (text : List ℕ) → length front ≤ max_rows → rows_of_text types [] text ≡ Ok rows → behind front (Ok rows) ≡ rows_of_text types front text
-ok_behind types front rows text few read = ap (behind front) (sym read) ∙ piece_behind types front text few
+pub rest_joined : {X : Type 0} (look : X → List Row) (result : Result X LoadFault) (types : List ColType) (front rows : List Row) (records : Option (List (List (List ℕ)))) → length front ≤ max_rows
+    → IfSome records (λ rs. rows_onto types [] rs ≡ Ok rows) → Gives look result (behind front (Ok rows)) → IfSome records (λ rs. Gives look result (rows_onto types front rs))
+rest_joined look result types front rows None few read joined = tt
+rest_joined look result types front rows (Some rs) few read joined =
+    subst (λ (r : Result (List Row) LoadFault). Gives look result r) (ap (behind front) (sym read) ∙ records_behind types front rs few) joined

@@ -5,4 +5,5 @@ pub mod CutsFacts
 pub mod JoinFacts
 pub mod RoundFacts
 pub mod UnderFacts
+pub mod FrontFacts
 pub mod LoadTold

@@ -28,6 +28,19 @@ pub fn first_cut(text: &[u8]) -> usize
     next_cut(text, text.len().min(1))
 }
 
+/// The last line feed of a text that is not its first byte, or 0 if there is none.
+pub fn last_cut(text: &[u8]) -> usize
+    ensures within { result ≤ length text.now }
+    ensures cut { 0 < result → (result < length text.now) × (may_cut_before (drop result text.now) ≡ true) }
+{
+    for place in (1..text.len()).rev() {
+        if text[place] == b'\n' {
+            return place;
+        }
+    }
+    0
+}
+
 /// The beginnings of so many pieces of a text, and its end. The pieces are about as long as each other, but for lines that are
 /// longer; some may be empty.
 pub fn cuts_of(alloc: Global, text: &[u8], count: usize) -> Result<Vec<usize>, AllocError>

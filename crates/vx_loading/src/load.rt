@@ -5,7 +5,8 @@ ghost use Rattle.vx_relations.specs.Relation.{Meets};
 ghost use Rattle.vx_relations.specs.Catalog.{relation_at, IsRelation};
 ghost use Rattle.vx_catalog.specs.Loading.{Gives, tested, load_of, max_rows};
 
-use crate::text::{Shares, read_in_threads};
+use crate::rounds::Shares;
+use crate::text::{Finished, read_in_threads};
 use std::alloc::Global;
 use std::marker::Brand;
 use std::thread::Threads;
@@ -15,6 +16,9 @@ use vx_rows::Table;
 
 // More threads than this are never started.
 const MOST_THREADS: usize = 64;
+
+// How many bytes each thread gets in a round.
+const BLOCK: usize = 1 << 20;
 
 // A text of fewer bytes is read by one thread, since starting threads costs more than they save.
 const LEAST: usize = 256 << 10;
@@ -55,8 +59,8 @@ fn load_text<'p, P: Threads + Sync, R: ByteIn, T: Origin>(
     ensures same { result.port.ghost_name ≡ port.entry.ghost_name }
     ensures reliable { T.is_reliable ≡ true → R.has_failed result.port.now ≡ false }
 {
-    let mut source = Counted::<R, T>::new(port);
-    let read = read_in_threads(rt, alloc, relation, shares, &mut source);
+    let counted = Counted::<R, T>::new(port);
+    let Finished { read, mut source } = read_in_threads(rt, alloc, relation, shares, counted);
     let tested = match source.settle(read) {
         Ok(rows) => test_table(alloc, relation, rows),
         Err(fault) => Err(fault),
@@ -101,9 +105,9 @@ pub fn load_in_shares<P: Threads + Sync, R: ByteIn>(
 /// The rows of a relation of a catalog, from all bytes of a reader, read by so many threads: what `Loader::load` returns, which
 /// one thread calls.
 ///
-/// All bytes are read first. Then each thread reads a part of the lines, and their rows are put one behind the other, each column
-/// by a thread of its own. From the first part with a quote on one thread reads the rest, since a line feed within quotes ends no
-/// row.
+/// The text is read by rounds over one buffer of some megabytes, in which the longest line has room. In a round each thread reads a
+/// part of its lines, and their rows are put behind those so far, each column by a thread of its own. From the first part with a
+/// quote on one thread reads the rest, since a line feed within quotes ends no row.
 pub fn load_in_threads<P: Threads + Sync, R: ByteIn>(
     rt: &P,
     alloc: Global,
@@ -131,6 +135,7 @@ pub fn load_in_threads<P: Threads + Sync, R: ByteIn>(
     }
     let shares = Shares {
         threads: threads.min(MOST_THREADS),
+        block: BLOCK,
         least: LEAST,
     };
     load_in_shares(rt, alloc, catalog, relation, shares, reader)

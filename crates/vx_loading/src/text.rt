@@ -1,26 +1,76 @@
 //! The rows of a whole text, by several threads.
 
-ghost use Rattle.std.specs.Prelude.{◌≡◌, ◌≢◌, ◌⊎◌, ◌<◌, ◌≤◌, [], length, Ok, Err, IfErr, IfOk, IfSome};
+ghost use Rattle.std.specs.Prelude.{◌≡◌, ◌≢◌, ◌⊎◌, ℕ, ◌<◌, ◌≤◌, ◌++◌, [], List, Option, length, Ok, Err, IfErr, IfOk, IfSome, option_map};
+ghost use Rattle.csv.specs.Reading.{source_of};
 ghost use Rattle.vx_catalog.specs.Counting.{StaysKnown};
-ghost use Rattle.vx_catalog.specs.Loading.{Fails, Gives, max_rows};
-ghost use Rattle.vx_loading.specs.Pieces.{behind, rows_of_text};
-ghost use Rattle.vx_loading.specs.Reading.{rows_under};
+ghost use Rattle.vx_catalog.specs.Records.{IsPlain, rest_of};
+ghost use Rattle.vx_catalog.specs.Loading.{Fails, Gives, rows_onto, max_rows};
+ghost use Rattle.vx_loading.specs.Pieces.{behind};
+ghost use Rattle.vx_loading.specs.Reading.{rows_under, BeginsFrom};
 
+use crate::buffer::{drop_front, fill};
 use crate::cuts::first_cut;
 use crate::first_line::read_first_line;
-use crate::pieces::{MAX_ROWS, fault_of, is_unquoted, read_piece, read_round};
-use csv::ReaderBuilder;
+use crate::pieces::{MAX_ROWS, fault_of, is_unquoted};
+use crate::rounds::{Shares, read_rounds};
+use csv::{Reader, ReaderBuilder};
 use std::alloc::Global;
 use std::io::Read;
 use std::thread::Threads;
-use vx_catalog::{LoadFault, Relation, read_text};
+use vx_catalog::{LoadFault, Relation, read_rows, read_text};
 use vx_rows::Table;
 
-/// How a text is shared out: how many threads read it, at least one, and how many bytes it has at least, if it is.
-#[derive(Clone, Copy, Debug)]
-pub struct Shares {
-    pub threads: usize,
-    pub least: usize,
+// Takes the first line of a text out of a buffer, and returns its rows. None, if threads may not read what follows it, since it
+// does not end here, or has a quote or no record: then nothing is taken.
+fn take_first_line(
+    alloc: Global,
+    relation: &Relation,
+    buffer: &mut Vec<u8>,
+) -> Result<Option<Table>, LoadFault>
+    ensures types { IfOk result (λ first. IfSome first (λ t. t.types ≡ relation.now.types)) }
+    ensures few { IfOk result (λ first. IfSome first (λ t. length t.rows ≤ max_rows)) }
+
+    // Whatever follows the buffer.
+    ensures rows { IfOk result (λ first. (left : Option (List ℕ)) → BeginsFrom relation.now buffer.old.items left (option_map (λ t. t.rows) first) buffer.new.items left) }
+    ensures err { IfErr result (λ e. (left : List ℕ) → Fails e (rows_under relation.now (buffer.old.items ++ left))) }
+{
+    let end = first_cut(buffer.as_slice());
+    if end == buffer.len() || !is_unquoted(&buffer[..end]) {
+        return Ok(None);
+    }
+    let Some(rows) = read_first_line(alloc, relation, &buffer[..end])? else {
+        return Ok(None);
+    };
+    drop_front(buffer, end);
+    Ok(Some(rows))
+}
+
+// Reads a text up to what one reader is to read: what the buffer holds then, and what the source has left. That is all of the
+// text, if no rows are returned.
+fn read_front<P: Threads + Sync, S: Read>(
+    rt: &P,
+    alloc: Global,
+    relation: &Relation,
+    shares: Shares,
+    source: &mut S,
+    buffer: &mut Vec<u8>,
+) -> Result<Option<Table>, LoadFault>
+    requires { 0 < shares.threads }
+    ensures types { IfOk result (λ front. IfSome front (λ t. t.types ≡ relation.now.types)) }
+    ensures few { IfOk result (λ front. IfSome front (λ t. length t.rows ≤ max_rows)) }
+    ensures rows { IfOk result (λ front. BeginsFrom relation.now buffer.old.items (S.remaining source.old) (option_map (λ t. t.rows) front) buffer.new.items (S.remaining source.new)) }
+    ensures err { IfErr result (λ e. IfSome (S.remaining source.old) (λ left. Fails e (rows_under relation.now (buffer.old.items ++ left)))) }
+    ensures known { (result ≡ Err LoadFault.NoMemory) ⊎ StaysKnown (S.remaining source.old) (S.remaining source.new) }
+    ensures own { IfErr result (λ e. e ≢ LoadFault.ReadFailed) }
+{
+    if fill(source, buffer, shares.least)? {
+        return Ok(None);
+    }
+    let Some(mut rows) = take_first_line(alloc, relation, buffer)? else {
+        return Ok(None);
+    };
+    read_rounds(rt, alloc, shares, source, buffer, &mut rows)?;
+    Ok(Some(rows))
 }
 
 // Rows behind others, if there are not too many.
@@ -28,10 +78,14 @@ pub struct Shares {
 fn join(front: Table, rest: Table) -> Result<Table, LoadFault>
     requires types { rest.types ≡ front.types }
     requires few { length front.rows ≤ max_rows }
+    requires rest { length rest.rows ≤ max_rows }
     ensures types { IfOk result (λ r. r.types ≡ front.types) }
     ensures few { IfOk result (λ r. length r.rows ≤ max_rows) }
     ensures rows { Gives (λ r. r.rows) result (behind front.rows (Ok rest.rows)) }
 {
+    if front.len() == 0 {
+        return Ok(rest);
+    }
     if rest.len() > MAX_ROWS - front.len() {
         return Err(LoadFault::TooLarge);
     }
@@ -40,95 +94,84 @@ fn join(front: Table, rest: Table) -> Result<Table, LoadFault>
     Ok(all)
 }
 
-// The rows of a text behind others, by one reader.
-fn read_rest(alloc: Global, front: Table, text: &[u8]) -> Result<Table, LoadFault>
-    requires { length front.rows ≤ max_rows }
+// The rows of the records that a reader has left, behind others.
+fn read_rest<S: Read>(
+    alloc: Global,
+    front: Table,
+    reader: &mut Reader<S>,
+) -> Result<Table, LoadFault>
+    requires plain { IsPlain reader.old }
+    requires few { length front.rows ≤ max_rows }
     ensures types { IfOk result (λ r. r.types ≡ front.types) }
     ensures few { IfOk result (λ r. length r.rows ≤ max_rows) }
-    ensures rows { Gives (λ r. r.rows) result (rows_of_text front.types front.rows text.now) }
+    ensures rows { IfSome (rest_of S.remaining reader.old) (λ records. Gives (λ r. r.rows) result (rows_onto front.types front.rows records)) }
+    ensures known { (result ≡ Err LoadFault.NoMemory) ⊎ StaysKnown (source_of S.remaining reader.old) (source_of S.remaining reader.new) }
+    ensures own { IfErr result (λ e. e ≢ LoadFault.ReadFailed) }
 {
-    match read_piece(alloc, front.types(), text) {
+    match read_rows(alloc, front.types(), reader) {
         Ok(rest) => join(front, rest),
         Err(fault) => Err(fault_of(front.len(), fault)),
     }
 }
 
-// The rows of a text behind others, by threads up to the first piece with a quote.
-fn read_behind<P: Threads + Sync>(
-    rt: &P,
-    alloc: Global,
-    threads: usize,
-    front: Table,
-    text: &[u8],
-) -> Result<Table, LoadFault>
-    requires threads { 0 < threads }
-    requires few { length front.rows ≤ max_rows }
-    ensures types { IfOk result (λ r. r.types ≡ front.types) }
-    ensures few { IfOk result (λ r. length r.rows ≤ max_rows) }
-    ensures rows { Gives (λ r. r.rows) result (rows_of_text front.types front.rows text.now) }
-{
-    let mut rows = front;
-    let read = read_round(rt, alloc, threads, text, &mut rows)?;
-    read_rest(alloc, rows, &text[read..])
+/// What was read of a source, and the source.
+#[derive(Drop)]
+pub struct Finished<S> {
+    pub read: Result<Table, LoadFault>,
+    pub source: S,
 }
 
-// The rows under the header of a text, by one reader.
-fn read_alone(alloc: Global, relation: &Relation, text: &[u8]) -> Result<Table, LoadFault>
-    ensures types { IfOk result (λ r. r.types ≡ relation.now.types) }
-    ensures few { IfOk result (λ r. length r.rows ≤ max_rows) }
-    ensures rows { Gives (λ r. r.rows) result (rows_under relation.now text.now) }
+// One reader reads the bytes that are held and what the source has left, behind the rows so far: if there are none, with the header.
+fn finish<S: Read + Drop>(
+    alloc: Global,
+    relation: &Relation,
+    front: Option<Table>,
+    held: &[u8],
+    source: S,
+) -> Finished<S>
+    requires types { IfSome front (λ t. t.types ≡ relation.now.types) }
+    requires few { IfSome front (λ t. length t.rows ≤ max_rows) }
+    ensures types { IfOk result.read (λ r. r.types ≡ relation.now.types) }
+    ensures few { IfOk result.read (λ r. length r.rows ≤ max_rows) }
+    ensures rows { (left : Option (List ℕ)) → BeginsFrom relation.now [] left (option_map (λ t. t.rows) front) held.now (S.remaining source)
+        → IfSome left (λ text. Gives (λ r. r.rows) result.read (rows_under relation.now text)) }
+    ensures known { (result.read ≡ Err LoadFault.NoMemory) ⊎ StaysKnown (S.remaining source) (S.remaining result.source) }
+    ensures own { IfErr result.read (λ e. e ≢ LoadFault.ReadFailed) }
 {
     let mut reader = ReaderBuilder::new()
         .has_headers(false)
         .flexible(true)
-        .from_reader(alloc, text);
-    read_text(alloc, relation, &mut reader)
-}
-
-// The rows under the header of a text. One reader reads it, if it is short, or its first line has a quote or no record.
-fn read_under<P: Threads + Sync>(
-    rt: &P,
-    alloc: Global,
-    relation: &Relation,
-    shares: Shares,
-    text: &[u8],
-) -> Result<Table, LoadFault>
-    requires { 0 < shares.threads }
-    ensures types { IfOk result (λ r. r.types ≡ relation.now.types) }
-    ensures few { IfOk result (λ r. length r.rows ≤ max_rows) }
-    ensures rows { Gives (λ r. r.rows) result (rows_under relation.now text.now) }
-{
-    if text.len() < shares.least {
-        return read_alone(alloc, relation, text);
-    }
-    let end = first_cut(text);
-    if !is_unquoted(&text[..end]) {
-        return read_alone(alloc, relation, text);
-    }
-    match read_first_line(alloc, relation, &text[..end])? {
-        Some(rows) => read_behind(rt, alloc, shares.threads, rows, &text[end..]),
-        None => read_alone(alloc, relation, text),
-    }
+        .from_reader(alloc, held.chain(source));
+    let read = match front {
+        Some(rows) => read_rest(alloc, rows, &mut reader),
+        None => read_text(alloc, relation, &mut reader),
+    };
+    let (_, source) = reader.into_inner().into_inner();
+    Finished { read, source }
 }
 
 /// The rows under the header of the text that a source has left, by threads. It also fails with NoMemory if the source failed.
-pub fn read_in_threads<P: Threads + Sync, S: Read>(
+pub fn read_in_threads<P: Threads + Sync, S: Read + Drop>(
     rt: &P,
     alloc: Global,
     relation: &Relation,
     shares: Shares,
-    source: &mut S,
-) -> Result<Table, LoadFault>
+    source: S,
+) -> Finished<S>
     requires { 0 < shares.threads }
-    ensures types { IfOk result (λ r. r.types ≡ relation.now.types) }
-    ensures few { IfOk result (λ r. length r.rows ≤ max_rows) }
-    ensures rows { IfSome (S.remaining source.old) (λ text. Gives (λ r. r.rows) result (rows_under relation.now text)) }
-    ensures known { (result ≡ Err LoadFault.NoMemory) ⊎ StaysKnown (S.remaining source.old) (S.remaining source.new) }
-    ensures own { IfErr result (λ e. e ≢ LoadFault.ReadFailed) }
+    ensures types { IfOk result.read (λ r. r.types ≡ relation.now.types) }
+    ensures few { IfOk result.read (λ r. length r.rows ≤ max_rows) }
+    ensures rows { IfSome (S.remaining source) (λ text. Gives (λ r. r.rows) result.read (rows_under relation.now text)) }
+    ensures known { (result.read ≡ Err LoadFault.NoMemory) ⊎ StaysKnown (S.remaining source) (S.remaining result.source) }
+    ensures own { IfErr result.read (λ e. e ≢ LoadFault.ReadFailed) }
 {
-    let mut text = Vec::new(alloc);
-    if source.read_to_end(&mut text).is_err() {
-        return Err(LoadFault::NoMemory);
+    let mut left = source;
+    let mut buffer = Vec::new(alloc);
+    match read_front(rt, alloc, relation, shares, &mut left, &mut buffer) {
+        Ok(front) => finish(alloc, relation, front, buffer.as_slice(), left),
+        Err(fault) => Finished {
+            read: Err(fault),
+            source: left,
+        },
     }
-    read_under(rt, alloc, relation, shares, text.as_slice())
 }

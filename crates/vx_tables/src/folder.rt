@@ -1,12 +1,16 @@
 //! The files of a folder, which have the rows of relations.
 
-ghost use Rattle.std.specs.Prelude.{◌≡◌, IfOk, string_bytes};
-ghost use Rattle.vx_tables.specs.Folder.{path_in};
+ghost use Rattle.std.specs.Prelude.{◌≡◌, ◌<◌, length, true, false, IfOk, IfErr, string_bytes};
+ghost use Rattle.vx_relations.specs.Catalog.{relation_at};
+ghost use Rattle.vx_bytes.specs.Stored.{OpensAs};
+ghost use Rattle.vx_tables.specs.Folder.{path_in, LacksAt};
 
 use crate::tables::Tables;
 use std::alloc::{AllocError, Global};
+use std::thread::Threads;
 use vx_bytes::Store;
 use vx_catalog::{Catalog, Loaded, Loader};
+use vx_loading::load_in_threads;
 use vx_refusals::Refusal;
 
 /// A folder with a text NAME.csv for each relation NAME.
@@ -27,6 +31,26 @@ fn path_in(alloc: Global, folder: &str, name: &str) -> Result<String, AllocError
     Ok(path)
 }
 
+// Opens the file that has the text of a relation.
+fn open_table<F: Store>(
+    alloc: Global,
+    folder: &Folder<'_, F>,
+    catalog: &Catalog,
+    relation: usize,
+) -> Result<F::In, Refusal>
+    requires { relation < length catalog.now }
+    ensures bytes { IfOk result (λ file. OpensAs (F.holds folder.now.files.now (path_in folder.now.path.now (relation_at catalog.now relation).name)) (F.In.remaining file)) }
+    ensures whole { IfOk result (λ file. F.In.has_failed file ≡ false) }
+    ensures reliable { IfOk result (λ file. F.is_reliable folder.now.files.now (path_in folder.now.path.now (relation_at catalog.now relation).name) ≡ true → F.In.is_reliable file ≡ true) }
+    ensures refused { IfErr result (LacksAt (F.holds folder.now.files.now) (F.is_reliable folder.now.files.now) folder.now.path.now (relation_at catalog.now relation)) }
+{
+    let path = path_in(alloc, folder.path, catalog.get(relation).name())?;
+    match folder.files.open(path.as_str()) {
+        Some(file) => Ok(file),
+        None => Err(Refusal::FileUnreadable { path }),
+    }
+}
+
 impl<F: Store> Tables for Folder<'_, F> {
     ghost use Rattle.vx_tables.specs.Folder.{holds_at, LacksAt};
 
@@ -35,11 +59,19 @@ impl<F: Store> Tables for Folder<'_, F> {
     ghost lacks = { λ f. LacksAt (F.holds f.files.now) (F.is_reliable f.files.now) f.path.now };
 
     fn load(&self, alloc: Global, catalog: &Catalog, relation: usize) -> Result<Loaded, Refusal> {
-        let path = path_in(alloc, self.path, catalog.get(relation).name())?;
-        let mut file = match self.files.open(path.as_str()) {
-            Some(file) => file,
-            None => return Err(Refusal::FileUnreadable { path }),
-        };
+        let mut file = open_table(alloc, self, catalog, relation)?;
         Ok(Loader::load(alloc, catalog, relation, &mut file)?)
+    }
+
+    fn load_in_threads<P: Threads + Sync>(
+        &self,
+        rt: &P,
+        alloc: Global,
+        threads: usize,
+        catalog: &Catalog,
+        relation: usize,
+    ) -> Result<Loaded, Refusal> {
+        let mut text = open_table(alloc, self, catalog, relation)?;
+        Ok(load_in_threads(rt, alloc, catalog, relation, threads, &mut text)?)
     }
 }

@@ -4,6 +4,8 @@
 mod folder;
 mod tables;
 mod texts;
+mod threads;
 
 pub use folder::Folder;
-pub use tables::{Scanning, Tables, load_scanned, load_tables};
+pub use tables::{Scanning, Tables, load_tables};
+pub use threads::{load_scanned_in_threads, load_tables_in_threads};

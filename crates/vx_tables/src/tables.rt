@@ -9,6 +9,7 @@ ghost use Rattle.vx_plan_nodes.specs.TypedView.{scope, plan as plan_of_typed};
 ghost use Rattle.vx_tables.specs.Filled.{scans, IsFilledBy, IsFirstMissingOf, IsFilled, IsFirstMissing};
 
 use std::alloc::Global;
+use std::thread::Threads;
 use vx_catalog::{Catalog, Database, Loaded};
 use vx_plan_nodes::{TypedNode, TypedPlan};
 use vx_refusals::Refusal;
@@ -35,6 +36,24 @@ pub trait Tables {
         ensures catalog { IfOk result (λ l. l.catalog ≡ catalog.now) }
         ensures relation { IfOk result (λ l. l.relation ≡ relation) }
         ensures refused { IfErr result (λ e. lacks self.now (relation_at catalog.now relation) e) };
+
+    /// The same rows, read by up to so many threads. One reads a text that is in memory.
+    fn load_in_threads<P: Threads + Sync>(
+        &self,
+        _rt: &P,
+        alloc: Global,
+        _threads: usize,
+        catalog: &Catalog,
+        relation: usize,
+    ) -> Result<Loaded, Refusal>
+        requires { relation < length catalog.now }
+        ensures rows { IfOk result (λ l. holds self.now (relation_at catalog.now relation) l.rows) }
+        ensures catalog { IfOk result (λ l. l.catalog ≡ catalog.now) }
+        ensures relation { IfOk result (λ l. l.relation ≡ relation) }
+        ensures refused { IfErr result (λ e. lacks self.now (relation_at catalog.now relation) e) }
+    {
+        self.load(alloc, catalog, relation)
+    }
 }
 
 // Gives a relation of a database its rows.
@@ -88,9 +107,9 @@ impl Scanning for TypedPlan {
     }
 }
 
-/// A database of the relations of a catalog that are scanned, filled in the catalog's order, each from its tables once. The
-/// others stay empty. Whoever reads it hashes keys by the seed.
-pub fn load_scanned<S: Scanning, T: Tables>(
+// A database of the relations of a catalog that are scanned, filled in the catalog's order, each from its tables once. The others
+// stay empty. Whoever reads it hashes keys by the seed.
+fn load_scanned<S: Scanning, T: Tables>(
     alloc: Global,
     seed: KeySeed,
     catalog: &Catalog,
@@ -111,8 +130,8 @@ pub fn load_scanned<S: Scanning, T: Tables>(
     Ok(database)
 }
 
-/// A database of the relations that a plan scans, filled in the catalog's order. The others stay empty. Whoever reads it hashes
-/// keys by the seed.
+/// A database of the relations that a plan scans, filled in the catalog's order by one thread. The others stay empty. Whoever
+/// reads it hashes keys by the seed.
 pub fn load_tables<T: Tables>(
     alloc: Global,
     seed: KeySeed,

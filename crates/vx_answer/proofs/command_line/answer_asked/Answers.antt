@@ -85,3 +85,12 @@ returns-in_ok-text-in-Some-Plans g c =
     let t = c.in-Some-Plans.task in
     let is : IsPlansTask (asked_is c.args.asked.now) t = rw (c.in-Some-Plans.is, c.in-Some-Plans.field-0-is) at c.in_ok-job_in.ensures in
     record { answer = for_runs (many_are t.sources) t.folder.now is.0 t.setting is.1 is.2 c.in_ok-text-in-Some-Plans.ensures.text; untold = tt; refused = tt }
+
+pub returns-in-Some-Drawing : goal.returns-in-Some-Drawing
+returns-in-Some-Drawing g c =
+    let is : IsJob (asked_is c.args.asked.now) (job.Drawing c.in-Some-Drawing.sources c.in-Some-Drawing.stats) = rw (c.in-Some-Drawing.is, c.in-Some-Drawing.field-0-is) at c.in_ok-job_in.ensures in
+    let files = g.F.Store.holds c.args.files.now in
+    let input = g.I.ByteIn.remaining c.args.input.now in
+    let Answers : Ask → Type 0 = λ ask. IfOk c.answer_drawing.result (λ a. IsAskAnswer files input ask a) in
+    let Refuses : Ask → Type 0 = λ ask. IfErr c.answer_drawing.result (IsAskFault files (g.F.Store.is_reliable c.args.files.now) input (g.I.ByteIn.has_failed c.answer_drawing.new.input) ask) in
+    record { answer = subst Answers (sym is) c.answer_drawing.ensures.answer; untold = c.answer_drawing.ensures.untold; refused = subst Refuses (sym is) c.answer_drawing.ensures.refused }

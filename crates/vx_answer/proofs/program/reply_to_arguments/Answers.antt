@@ -36,8 +36,7 @@ returns-in-Ok-Relation-clause-failed g c four = inr (refusal.NoMemory, refl, arg
 pub returns-in-Err-Refused-clause-refused : goal.returns-in-Err-Refused-clause-refused
 returns-in-Err-Refused-clause-refused g c three =
     let refused = rw c.in-Err-Refused.field-0-is at c.in-Err-Refused.ensures.refused in
-    let status = rw c.in-Err-Refused.field-0-is at c.deliver-in-Err-Refused.ensures.refused in
-    inl (c.in-Err-Refused.refusal, sym status.0 ∙ three, refused)
+    inl (c.in-Err-Refused.refusal, sym c.refuse_in_place.ensures ∙ three, refused)
 
 pub returns-in-Err-Failing-clause-refused : goal.returns-in-Err-Failing-clause-refused
 returns-in-Err-Failing-clause-refused g c three =
@@ -53,8 +52,7 @@ returns-in-Ok-Text-clause-failed g c four = inl (c.deliver.ensures.failed (λ z.
 pub returns-in-Err-Refused-clause-failed : goal.returns-in-Err-Refused-clause-failed
 returns-in-Err-Refused-clause-failed g c four =
     let refused = rw c.in-Err-Refused.field-0-is at c.in-Err-Refused.ensures.refused in
-    let status = rw c.in-Err-Refused.field-0-is at c.deliver-in-Err-Refused.ensures.refused in
-    inr (c.in-Err-Refused.refusal, sym status.0 ∙ four, refused)
+    inr (c.in-Err-Refused.refusal, sym c.refuse_in_place.ensures ∙ four, refused)
 
 pub returns-in-Err-Stopped-clause-kept : goal.returns-in-Err-Stopped-clause-kept
 returns-in-Err-Stopped-clause-kept g c some whole =

@@ -1,9 +1,0 @@
-use Rattle.std.proofs.Common.{◌≡◌, ◌++◌, map, string_bytes, codes, false, drop, nat_lt}
-use Rattle.vx_plan_nodes.specs.Outline.{condition_of}
-use Rattle.vx_check.specs.Explain.{separated, condition_text}
-use Rattle.vx_formats.proofs.describe.push_conditions.Given as goal
-
-abbrev pub invariant-loop-i : goal.invariant-loop-i
-invariant-loop-i l =
-    string_bytes l.text ++ separated (codes " and ") (nat_lt 0 l.i) (map (condition_text l.names) (map condition_of (drop l.i l.conditions)))
-    ≡ string_bytes l.initial.text ++ separated (codes " and ") false (map (condition_text l.names) (map condition_of l.conditions))

@@ -1,0 +1,12 @@
+use Rattle.std.proofs.Common.{◌≡◌, ◌≤◌, length}
+use Rattle.vx_catalog.specs.Loading.{max_rows}
+use Rattle.vx_loading.specs.Reading.{ComesFrom}
+use Rattle.vx_loading.proofs.rounds.read_rounds.Given as goal
+
+abbrev pub invariant-loop : goal.invariant-loop
+invariant-loop g l = record {
+  types : l.rows.types ≡ l.initial.rows.types;
+  few : length l.rows.rows ≤ max_rows;
+  rows : ComesFrom l.initial.rows.types l.initial.rows.rows l.initial.buffer.items (g.S.Read.remaining l.initial.source)
+      l.rows.rows l.buffer.items (g.S.Read.remaining l.source);
+}

@@ -1,0 +1,4 @@
+pub mod Name
+pub mod Progress
+pub mod Text
+pub mod Words

@@ -1,0 +1,76 @@
+//! The rows of the relations that plans scan, each relation's read by several threads.
+
+ghost use Rattle.std.specs.Prelude.{◌≡◌, ◌<◌, length, IfOk, IfErr, OnOk, List};
+ghost use Rattle.vx_values.specs.Values.{Row};
+ghost use Rattle.vx_relations.specs.Catalog.{relation_at};
+ghost use Rattle.vx_catalog.specs.Database.{with_rows};
+ghost use Rattle.vx_plan_nodes.specs.TypedView.{scope, plan as plan_of_typed};
+ghost use Rattle.vx_tables.specs.Filled.{IsFilledBy, IsFirstMissingOf, IsFilled, IsFirstMissing};
+
+use crate::tables::{Scanning, Tables};
+use std::alloc::Global;
+use std::thread::Threads;
+use vx_catalog::{Catalog, Database};
+use vx_plan_nodes::TypedPlan;
+use vx_refusals::Refusal;
+use vx_seeds::KeySeed;
+
+// Gives a relation of a database its rows.
+fn fill_in_threads<P: Threads + Sync, T: Tables>(
+    rt: &P,
+    alloc: Global,
+    threads: usize,
+    database: &mut Database,
+    relation: usize,
+    tables: &T,
+) -> Result<(), Refusal>
+    requires { relation < length database.old.catalog }
+    ensures filled { OnOk result ((rows : List Row) × T.holds tables.now (relation_at database.old.catalog relation) rows × (database.new ≡ with_rows database.old relation rows)) }
+    ensures refused { IfErr result (λ e. T.lacks tables.now (relation_at database.old.catalog relation) e) }
+{
+    let loaded = tables.load_in_threads(rt, alloc, threads, database.catalog(), relation)?;
+    database.replace(loaded);
+    Ok(())
+}
+
+/// A database of the relations of a catalog that are scanned, filled in the catalog's order, each from its tables once, by up to
+/// so many threads. The others stay empty. Whoever reads it hashes keys by the seed.
+pub fn load_scanned_in_threads<P: Threads + Sync, S: Scanning, T: Tables>(
+    rt: &P,
+    alloc: Global,
+    threads: usize,
+    seed: KeySeed,
+    catalog: &Catalog,
+    scanning: &S,
+    tables: &T,
+) -> Result<Database, Refusal>
+    ensures catalog { IfOk result (λ d. d.catalog ≡ catalog.now) }
+    ensures filled { IfOk result (λ d. IsFilledBy (S.scanned scanning.now) (T.holds tables.now) d) }
+    ensures refused { IfErr result (λ e. IsFirstMissingOf (S.scanned scanning.now) (T.holds tables.now) (T.lacks tables.now) catalog.now e) }
+{
+    let empty = Database::empty(alloc, catalog)?;
+    let mut database = empty.seeded(seed);
+    for relation in 0..catalog.len() {
+        if scanning.scans(relation) {
+            fill_in_threads(rt, alloc, threads, &mut database, relation, tables)?;
+        }
+    }
+    Ok(database)
+}
+
+/// A database of the relations that a plan scans, filled in the catalog's order, each by up to so many threads. The others stay
+/// empty. Whoever reads it hashes keys by the seed.
+pub fn load_tables_in_threads<P: Threads + Sync, T: Tables>(
+    rt: &P,
+    alloc: Global,
+    threads: usize,
+    seed: KeySeed,
+    plan: &TypedPlan,
+    tables: &T,
+) -> Result<Database, Refusal>
+    ensures catalog { IfOk result (λ d. d.catalog ≡ (scope plan.now).catalog) }
+    ensures filled { IfOk result (λ d. IsFilled (plan_of_typed plan.now) (T.holds tables.now) d) }
+    ensures refused { IfErr result (λ e. IsFirstMissing (plan_of_typed plan.now) (T.holds tables.now) (T.lacks tables.now) (scope plan.now).catalog e) }
+{
+    load_scanned_in_threads(rt, alloc, threads, seed, plan.catalog(), plan, tables)
+}
