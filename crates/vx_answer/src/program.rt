@@ -250,6 +250,9 @@ fn reply_to_arguments<
 /// one line on `err`, below which another says where it was found, if the arguments want that. A write of them that fails changes
 /// nothing else.
 ///
+/// Where the arguments ask for the statistics of runs, `err` gets those of the runs whose rows `out` got; where they ask for none,
+/// status 0 leaves `err` as it was.
+///
 /// Keys are hashed by the seed, on which nothing of this depends. The clock is asked where the arguments ask for statistics.
 pub fn answer<T: Threads + Wait + Sync, C: Clock, F: Store, I: ByteIn, O: ByteOut, E: ByteOut>(
     rt: &T,
@@ -275,9 +278,6 @@ pub fn answer<T: Threads + Wait + Sync, C: Clock, F: Store, I: ByteIn, O: ByteOu
 
     // With arguments, status 0 comes only for what they ask for, answered, and then `out` got exactly that.
     ensures arguments_done { arguments.now ≢ [] → result ≡ 0 → (text : List ℕ) × AnswersArguments (F.holds files.now) (I.remaining input.old) (map (λ a. a.now) arguments.now) text × Appends (O.contents out.old) (O.contents out.new) text }
-
-    // Where they ask for the statistics of runs, status 0 comes only once `err` got those of the runs whose rows `out` got, unless
-    // `err` failed. Where they ask for none, status 0 leaves `err` as it was.
     ensures arguments_told { arguments.now ≢ [] → result ≡ 0 → E.has_failed err.new ≡ false → (f : StatsForm) (ask : Ask) → AsksFor (map (λ a. a.now) arguments.now) ask → is_run ask ≡ true
         → stats_asked (map (λ a. a.now) arguments.now) ≡ Some f → (text : List ℕ) × (stats : List ℕ) × ToldOf (F.holds files.now) (I.remaining input.old) f (map (λ a. a.now) arguments.now) text stats
         × Appends (O.contents out.old) (O.contents out.new) text × Appends (E.contents err.old) (E.contents err.new) stats }
