@@ -10,7 +10,7 @@ abbrev pub at_right : ℕ → List ℕ → List ℕ
 at_right width word = replicate (width - length word) 32 ++ word
 
 -- a number at the right of a column, behind a space
-abbrev pub column : ℕ → ℕ → List ℕ
+unfoldable pub column : ℕ → ℕ → List ℕ
 column width n = codes " " ++ at_right width (decimal n)
 
 -- a point and three digits

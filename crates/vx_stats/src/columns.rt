@@ -49,6 +49,7 @@ pub fn push_aligned(text: &mut String, width: usize, number: u64) -> Result<(), 
 }
 
 /// Adds a number at the right of a column, behind a space.
+#[tactic(auto, unfolding(crate::specs::Columns::column))]
 pub fn push_column(text: &mut String, width: usize, number: u64) -> Result<(), AllocError>
     ensures { OnOk result (string_bytes text.new ≡ string_bytes text.old ++ column width number) }
 {

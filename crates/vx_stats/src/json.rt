@@ -1,7 +1,7 @@
 //! Statistics for tools, as JSON.
 
 ghost use Rattle.std.specs.Prelude.{◌≡◌, ◌++◌, map, string_bytes, cond, codes, [], OnOk};
-ghost use Rattle.vx_stats.specs.Json.{member, rows_members, moves_members, line_json, lines_json, time_opening, time_json, times_json};
+ghost use Rattle.vx_stats.specs.Json.{member, rows_members, moves_members, node_members, line_json, lines_json, time_opening, time_json, times_json};
 
 use crate::columns::{push_microseconds, push_number};
 use crate::lines::Line;
@@ -20,6 +20,7 @@ fn push_comma(text: &mut String, is_later: bool) -> Result<(), AllocError>
 }
 
 // Adds a member behind others: its name and a number.
+#[tactic(auto, unfolding(crate::specs::Json::member))]
 fn push_member(text: &mut String, name: &str, number: u64) -> Result<(), AllocError>
     ensures { OnOk result (string_bytes text.new ≡ string_bytes text.old ++ member name.now number) }
 {
@@ -30,6 +31,7 @@ fn push_member(text: &mut String, name: &str, number: u64) -> Result<(), AllocEr
 }
 
 // Adds the rows that came and those that were given.
+#[tactic(auto, unfolding(crate::specs::Json::rows_members))]
 fn push_rows(text: &mut String, line: &Line) -> Result<(), AllocError>
     ensures { OnOk result (string_bytes text.new ≡ string_bytes text.old ++ rows_members line.now) }
 {
@@ -39,6 +41,7 @@ fn push_rows(text: &mut String, line: &Line) -> Result<(), AllocError>
 }
 
 // Adds the morsels, the packets and the waits.
+#[tactic(auto, unfolding(crate::specs::Json::moves_members))]
 fn push_moves(text: &mut String, line: &Line) -> Result<(), AllocError>
     ensures { OnOk result (string_bytes text.new ≡ string_bytes text.old ++ moves_members line.now) }
 {
@@ -49,15 +52,24 @@ fn push_moves(text: &mut String, line: &Line) -> Result<(), AllocError>
     push_member(text, "full", line.full)
 }
 
-// Adds one line of the counts as an object.
-fn push_line(text: &mut String, words: &[&'static str], line: &Line) -> Result<(), AllocError>
-    ensures { OnOk result (string_bytes text.new ≡ string_bytes text.old ++ line_json (map (λ w. w.now) words.now) line.now) }
+// Adds the node with its word.
+#[tactic(auto, unfolding(crate::specs::Json::node_members))]
+fn push_node(text: &mut String, words: &[&str], node: u32) -> Result<(), AllocError>
+    ensures { OnOk result (string_bytes text.new ≡ string_bytes text.old ++ node_members (map (λ w. w.now) words.now) node) }
 {
     text.push_str("{\"node\":")?;
-    push_number(text, line.node as u64)?;
+    push_number(text, node as u64)?;
     text.push_str(",\"op\":\"")?;
-    text.push_str(word_at(words, line.node))?;
-    text.push_str("\"")?;
+    text.push_str(word_at(words, node))?;
+    text.push_str("\"")
+}
+
+// Adds one line of the counts as an object.
+#[tactic(auto, unfolding(crate::specs::Json::line_json))]
+fn push_line(text: &mut String, words: &[&str], line: &Line) -> Result<(), AllocError>
+    ensures { OnOk result (string_bytes text.new ≡ string_bytes text.old ++ line_json (map (λ w. w.now) words.now) line.now) }
+{
+    push_node(text, words, line.node)?;
     push_member(text, "worker", line.worker as u64)?;
     push_rows(text, line)?;
     push_moves(text, line)?;
@@ -65,11 +77,7 @@ fn push_line(text: &mut String, words: &[&'static str], line: &Line) -> Result<(
 }
 
 /// Adds an object for each node in each worker, with commas between them.
-pub fn push_lines(
-    text: &mut String,
-    words: &[&'static str],
-    lines: &[Line],
-) -> Result<(), AllocError>
+pub fn push_lines(text: &mut String, words: &[&str], lines: &[Line]) -> Result<(), AllocError>
     ensures { OnOk result (string_bytes text.new ≡ string_bytes text.old ++ lines_json (map (λ w. w.now) words.now) lines.now) }
 {
     for (i, line) in lines.iter().enumerate() {
@@ -80,6 +88,7 @@ pub fn push_lines(
 }
 
 /// Adds what a phase's object begins with.
+#[tactic(auto, unfolding(crate::specs::Json::time_opening))]
 pub fn push_time_opening(text: &mut String, word: &str) -> Result<(), AllocError>
     ensures { OnOk result (string_bytes text.new ≡ string_bytes text.old ++ time_opening word.now) }
 {
@@ -89,6 +98,7 @@ pub fn push_time_opening(text: &mut String, word: &str) -> Result<(), AllocError
 }
 
 // Adds a phase and its time as an object.
+#[tactic(auto, unfolding(crate::specs::Json::time_json))]
 fn push_time(text: &mut String, time: &PhaseTime) -> Result<(), AllocError>
     ensures { OnOk result (string_bytes text.new ≡ string_bytes text.old ++ time_json time.now) }
 {

@@ -25,7 +25,7 @@ pub enum StatsForm {
 fn push_counts(
     text: &mut String,
     form: StatsForm,
-    words: &[&'static str],
+    words: &[&str],
     lines: &[Line],
 ) -> Result<(), AllocError>
     ensures { OnOk result (string_bytes text.new ≡ string_bytes text.old ++ counts_text form (map (λ w. w.now) words.now) lines.now) }

@@ -11,7 +11,7 @@ use vx_formats::op_word;
 use vx_plan_nodes::{TypedNode, TypedPlan};
 
 // Adds the word of the node, and then those of the nodes below it.
-fn add_words(words: &mut Vec<&'static str>, node: &TypedNode) -> Result<(), AllocError>
+fn add_words<'w>(words: &mut Vec<&'w str>, node: &TypedNode) -> Result<(), AllocError>
     ensures { OnOk result (map (λ w. w.now) words.new.items ≡ map (λ w. w.now) words.old.items ++ op_words (outline_of node.now)) }
 {
     words.push(op_word(node))?;
@@ -27,7 +27,7 @@ fn add_words(words: &mut Vec<&'static str>, node: &TypedNode) -> Result<(), Allo
 }
 
 /// Of each node of a plan its operator in a word, by the numbers of the nodes.
-pub fn operator_words(alloc: Global, plan: &TypedPlan) -> Result<Vec<&'static str>, AllocError>
+pub fn operator_words<'w>(alloc: Global, plan: &TypedPlan) -> Result<Vec<&'w str>, AllocError>
     ensures { IfOk result (λ v. map (λ w. w.now) v.items ≡ op_words (resolved_of plan.now).root) }
 {
     let mut words = Vec::new(alloc);
@@ -36,7 +36,7 @@ pub fn operator_words(alloc: Global, plan: &TypedPlan) -> Result<Vec<&'static st
 }
 
 /// The word of the node with this number; past the end the empty one.
-pub fn word_at<'w>(words: &'w [&'static str], node: u32) -> &'w str
+pub fn word_at<'w>(words: &[&'w str], node: u32) -> &'w str
     ensures { result.now ≡ word_at (map (λ w. w.now) words.now) node }
 {
     match words.get(node as usize) {
