@@ -131,6 +131,6 @@ fn statistics_that_cannot_be_written_change_nothing(rt: HostRuntime) -> Result<(
         &mut err,
     );
     assert_eq!(rt; status, 0);
-    assert_eq!(rt; out.bytes(), b"id,k,v\n1,b,7\n3,c,7\n");
+    assert_eq!(rt; str::from_utf8(out.bytes())?, "id,k,v\n1,b,7\n3,c,7\n");
     Ok(())
 }

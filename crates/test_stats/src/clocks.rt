@@ -6,6 +6,7 @@ use std::io::ErrorKind;
 use std::time::{Clock, Duration};
 
 /// A clock that goes on by so many nanoseconds each time that it is asked.
+#[derive(Drop)]
 pub struct Ticking {
     now: Cell<u64>,
     step: u64,

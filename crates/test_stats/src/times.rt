@@ -20,13 +20,11 @@ fn each_phase_lasts_from_the_end_of_the_one_before(rt: HostRuntime) -> Result<()
     let mut timer = Timer::start(alloc, &clock);
     timer.end(&clock, Phase::Read)?;
     timer.end(&clock, Phase::Run)?;
-    assert!(rt;
-        timer.times()
-            == [
-                timed(Phase::Read, Some(2500)),
-                timed(Phase::Run, Some(2500))
-            ]
-    );
+    let times = [
+        timed(Phase::Read, Some(2500)),
+        timed(Phase::Run, Some(2500)),
+    ];
+    assert_eq!(rt; timer.times(), times.as_slice());
     Ok(())
 }
 
@@ -35,7 +33,7 @@ fn part_of_a_microsecond_is_left_out(rt: HostRuntime) -> Result<(), Fail> {
     let clock = Ticking::new(1999);
     let mut timer = Timer::start(rt.alloc(), &clock);
     timer.end(&clock, Phase::Load)?;
-    assert!(rt; timer.times() == [timed(Phase::Load, Some(1))]);
+    assert_eq!(rt; timer.times(), [timed(Phase::Load, Some(1))].as_slice());
     Ok(())
 }
 
@@ -43,6 +41,6 @@ fn part_of_a_microsecond_is_left_out(rt: HostRuntime) -> Result<(), Fail> {
 fn without_a_clock_no_time_is_known(rt: HostRuntime) -> Result<(), Fail> {
     let mut timer = Timer::start(rt.alloc(), &NoClock);
     timer.end(&NoClock, Phase::Load)?;
-    assert!(rt; timer.times() == [timed(Phase::Load, None)]);
+    assert_eq!(rt; timer.times(), [timed(Phase::Load, None)].as_slice());
     Ok(())
 }
