@@ -514,7 +514,10 @@ fn spelled_out<'a>(command: &str, argument: &'a str) -> &'a str
 }
 
 /// The program's name, and then the arguments, spelled out.
-pub fn with_program_name<'a>(alloc: Global, arguments: &[&'a str]) -> Result<Vec<&'a str>, AllocError>
+pub fn with_program_name<'a>(
+    alloc: Global,
+    arguments: &[&'a str],
+) -> Result<Vec<&'a str>, AllocError>
     ensures { IfOk result (λ v. map (λ a. a.now) v.items ≡ with_program_name (map (λ a. a.now) arguments.now)) }
 {
     let command = command_in(arguments);

@@ -1,8 +1,8 @@
-use Rattle.std.proofs.Common.{◌≡◌, Some, sym, refl, arith, option_map}
+use Rattle.std.proofs.Common.{◌≡◌, sym, refl, arith, option_map}
 use Rattle.csv.specs.Reading.{strip_bom}
 use Rattle.csv.specs.Records.{fields_of}
 use Rattle.vx_places.specs.Lines.{left_in}
-use Rattle.vx_places.specs.Stages.{state_of, is_between}
+use Rattle.vx_places.specs.Stages.{state_of}
 use Rattle.vx_places.proofs.StandFacts.{stands_first, stands_next, found_there, of_text}
 use Rattle.vx_places.proofs.record.record_at.Goals as goal
 
