@@ -55,57 +55,22 @@ fn union(alloc: Global, part: &str, left: &str, right: &str) -> Result<String, A
     format!(in alloc; "{{\"op\":\"union\",\"claim\":{{{part}}},\"left\":{left},\"right\":{right}}}")
 }
 
-// The claim of a route of all columns.
-fn part(alloc: Global) -> Result<String, AllocError> {
-    let names = names(alloc)?;
-    format!(in alloc; "\"part\":{{\"hash\":\"h\",\"columns\":{names}}}")
-}
-
-// The claims of an order and a key of all columns.
-fn listed(alloc: Global) -> Result<String, AllocError> {
-    let names = names(alloc)?;
-    format!(in alloc; "\"order\":{names},\"keys\":[{names}]")
-}
-
-// All three claims.
-fn claim(alloc: Global) -> Result<String, AllocError> {
-    let part = part(alloc)?;
-    let listed = listed(alloc)?;
-    format!(in alloc; "{{{part},{listed}}}")
-}
-
-// A scan whose rows are sent by the route.
-fn sent(alloc: Global) -> Result<String, AllocError> {
-    let names = names(alloc)?;
-    let listed = listed(alloc)?;
-    let claim = claim(alloc)?;
-    format!(in alloc;
-        "{{\"op\":\"exchange\",\"kind\":\"hash\",\"size\":\"many\",\"route\":\"h\",\"columns\":{names},\"merge\":{names},\"claim\":{claim},\"input\":{{\"op\":\"scan\",\"relation\":\"wide\",\"mode\":\"shared\",\"size\":\"many\",\"claim\":{{{listed}}}}}}}"
-    )
-}
-
-// So many selections above what is sent.
-fn chain(alloc: Global, count: u32) -> Result<String, AllocError> {
-    let sent = sent(alloc)?;
-    let claim = claim(alloc)?;
-    selections(alloc, sent.as_str(), claim.as_str(), count)
-}
-
-// 32 chains of 30 nodes and one of 6, under 32 unions.
-fn unions(alloc: Global) -> Result<String, AllocError> {
-    let part = part(alloc)?;
-    let mut tree = chain(alloc, 28)?;
-    for _ in 0..5 {
-        tree = union(alloc, part.as_str(), tree.as_str(), tree.as_str())?;
-    }
-    let chain = chain(alloc, 4)?;
-    union(alloc, part.as_str(), tree.as_str(), chain.as_str())
-}
-
 // A gather over unions over chains of selections, each of which claims a route, an order and a key of all columns: 32
 // chains of 30 nodes and one of 6, 32 unions, and the gather.
 fn plan(alloc: Global) -> Result<String, AllocError> {
-    let whole = unions(alloc)?;
+    let names = names(alloc)?;
+    let part = format!(in alloc; "\"part\":{{\"hash\":\"h\",\"columns\":{names}}}")?;
+    let listed = format!(in alloc; "\"order\":{names},\"keys\":[{names}]")?;
+    let sent = format!(in alloc;
+        "{{\"op\":\"exchange\",\"kind\":\"hash\",\"size\":\"many\",\"route\":\"h\",\"columns\":{names},\"merge\":{names},\"claim\":{{{part},{listed}}},\"input\":{{\"op\":\"scan\",\"relation\":\"wide\",\"mode\":\"shared\",\"size\":\"many\",\"claim\":{{{listed}}}}}}}"
+    )?;
+    let claim = format!(in alloc; "{{{part},{listed}}}")?;
+    let mut tree = selections(alloc, sent.as_str(), claim.as_str(), 28)?;
+    for _ in 0..5 {
+        tree = union(alloc, part.as_str(), tree.as_str(), tree.as_str())?;
+    }
+    let chain = selections(alloc, sent.as_str(), claim.as_str(), 4)?;
+    let whole = union(alloc, part.as_str(), tree.as_str(), chain.as_str())?;
     format!(in alloc;
         "{{\"sizes\":[\"many\"],\"root\":{{\"op\":\"exchange\",\"kind\":\"gather\",\"claim\":{{\"part\":\"one\"}},\"input\":{whole}}}}}"
     )

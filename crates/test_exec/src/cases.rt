@@ -51,18 +51,6 @@ fn told(alloc: Global, ran: Result<Ran, RunFault>) -> Result<String, AllocError>
     }
 }
 
-/// What a case comes to in at most so many rounds.
-pub fn by_few_rounds<R: Router>(
-    alloc: Global,
-    case: &Case,
-    setup: &Setup,
-    router: &R,
-    limit: u64,
-) -> Result<String, AllocError> {
-    let ran = run_rounds(alloc, &case.plan, &case.database, setup, router, limit);
-    told(alloc, ran)
-}
-
 /// What a case comes to in rounds.
 pub fn by_rounds<R: Router>(
     alloc: Global,
@@ -70,7 +58,8 @@ pub fn by_rounds<R: Router>(
     setup: &Setup,
     router: &R,
 ) -> Result<String, AllocError> {
-    by_few_rounds(alloc, case, setup, router, ROUNDS)
+    let ran = run_rounds(alloc, &case.plan, &case.database, setup, router, ROUNDS);
+    told(alloc, ran)
 }
 
 /// What a case comes to by a schedule.

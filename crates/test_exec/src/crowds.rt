@@ -1,9 +1,8 @@
 //! What no clause says of the number of workers: 256 run and end, and one more is refused with its number.
 
-use crate::cases::{Case, by_rounds, case_of};
+use crate::cases::{by_rounds, case_of};
 use crate::databases::{ROWS_OF_D, ROWS_OF_T};
 use std::alloc::{AllocError, Global};
-use std::process::Abort;
 use std::test::Fail;
 use vx_exchange::ByteRouter;
 use vx_exec::Setup;
@@ -32,26 +31,14 @@ fn setup_of(alloc: Global, many: u32, few: u32, slack: u32) -> Result<Setup, All
     Ok(Setup::new(sizes, 1, 1, slack))
 }
 
-// Compares what comes of a case with so many workers.
-fn compare(
-    rt: &impl Abort,
-    alloc: Global,
-    case: &Case,
-    crowd: (u32, u32, u32),
-    line: &str,
-) -> Result<(), AllocError> {
-    let (many, few, slack) = crowd;
-    let setup = setup_of(alloc, many, few, slack)?;
-    let text = by_rounds(alloc, case, &setup, &ByteRouter)?;
-    assert_eq!(rt; text.as_str(), line, "{many} and {few}");
-    Ok(())
-}
-
 #[test]
 fn at_most_256_workers_run(rt: HostRuntime) -> Result<(), Fail> {
-    let case = case_of(rt.alloc(), IN_A_ROW, ROWS_OF_T, ROWS_OF_D)?;
+    let alloc = rt.alloc();
+    let case = case_of(alloc, IN_A_ROW, ROWS_OF_T, ROWS_OF_D)?;
     for (many, few, slack, line) in CROWDS {
-        compare(&rt, rt.alloc(), &case, (many, few, slack), line)?;
+        let setup = setup_of(alloc, many, few, slack)?;
+        let text = by_rounds(alloc, &case, &setup, &ByteRouter)?;
+        assert_eq!(rt; text.as_str(), line, "{many} and {few}");
     }
     Ok(())
 }

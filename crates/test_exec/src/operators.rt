@@ -6,7 +6,6 @@ use crate::databases::{LARGE, ROWS_OF_D, ROWS_OF_T, TOO_LARGE};
 use crate::draws::{Draws, SCHEDULES, in_turn};
 use crate::plans::{ToFirst, of_workers};
 use std::alloc::{AllocError, Global};
-use std::process::Abort;
 use std::test::Fail;
 
 // Turns in which a run of three workers below the root ends, whatever was drawn before.
@@ -81,15 +80,21 @@ fn case_with(alloc: Global, members: &str, rows_of_t: &str, rows_of_d: &str) -> 
     case_of(alloc, document.as_str(), rows_of_t, rows_of_d)
 }
 
-// Whether rounds of teams of any size come to these rows.
-fn teams_agree(alloc: Global, case: &Case, serial: &str) -> Result<bool, AllocError> {
+// The numbers of workers with which rounds come to other rows.
+fn wrong_teams(alloc: Global, case: &Case, serial: &str) -> Result<Vec<u32>, AllocError> {
+    let mut wrong = Vec::new(alloc);
     for workers in [1, 3, 64] {
         let text = by_rounds(alloc, case, &of_workers(alloc, workers)?, &ToFirst)?;
         if !agrees(alloc, case, text.as_str(), serial)? {
-            return Ok(false);
+            wrong.push(workers)?;
         }
     }
-    Ok(true)
+    Ok(wrong)
+}
+
+// What three workers below the root come to by a schedule.
+fn by_three(alloc: Global, case: &Case, steps: &[u32]) -> Result<String, AllocError> {
+    by_steps(alloc, case, &of_workers(alloc, 3)?, &ToFirst, steps)
 }
 
 // How many of the schedules that are drawn for three workers below the root come to other rows.
@@ -112,26 +117,15 @@ fn agrees_by_many(alloc: Global, case: &Case, serial: &str) -> Result<bool, Allo
     agrees(alloc, case, text.as_str(), serial)
 }
 
-// Whether a case comes to these rows by serial evaluation.
-fn is_serial(alloc: Global, case: &Case, serial: &str) -> Result<bool, Fail> {
-    let text = serially(alloc, case)?;
-    Ok(text.as_str() == serial)
-}
-
-// Whether a case comes to these rows by rounds and by all schedules.
-fn comes_to(alloc: Global, case: &Case, serial: &str) -> Result<bool, AllocError> {
-    Ok(
-        teams_agree(alloc, case, serial)?
-            && wrong_of_three(alloc, case, serial)? == 0
-            && agrees_by_many(alloc, case, serial)?,
-    )
-}
-
 // The first of these plans that comes to other rows in some way.
 fn first_wrong(alloc: Global, plans: &[(&str, &str)]) -> Result<Option<usize>, Fail> {
     for (index, (members, serial)) in plans.iter().enumerate() {
         let case = case_with(alloc, members, ROWS_OF_T, ROWS_OF_D)?;
-        if !is_serial(alloc, &case, serial)? || !comes_to(alloc, &case, serial)? {
+        if serially(alloc, &case)?.as_str() != *serial
+            || !wrong_teams(alloc, &case, serial)?.is_empty()
+            || wrong_of_three(alloc, &case, serial)? > 0
+            || !agrees_by_many(alloc, &case, serial)?
+        {
             return Ok(Some(index));
         }
     }
@@ -156,90 +150,63 @@ fn joins_come_to_the_serial_rows(rt: HostRuntime) -> Result<(), Fail> {
     Ok(())
 }
 
-// Compares what rounds of teams of any size come to, and how many of the schedules that are drawn come to other rows.
-fn compare(
-    rt: &impl Abort,
-    alloc: Global,
-    members: &str,
-    rows_of_t: &str,
-    rows_of_d: &str,
-    serial: &str,
-) -> Result<(), Fail> {
-    let case = case_with(alloc, members, rows_of_t, rows_of_d)?;
-    assert!(rt; teams_agree(alloc, &case, serial)?, "{rows_of_t}");
-    assert_eq!(rt; wrong_of_three(alloc, &case, serial)?, 0, "{rows_of_t}");
-    Ok(())
-}
-
 #[test]
 fn the_order_of_its_rows_makes_no_sum_too_large(rt: HostRuntime) -> Result<(), Fail> {
+    let alloc = rt.alloc();
+    let case = case_with(alloc, SUMS, LARGE, ROWS_OF_D)?;
     let serial = "'a' 9223372036854775807;";
-    compare(&rt, rt.alloc(), SUMS, LARGE, ROWS_OF_D, serial)
-}
-
-// Members of a plan, rows of t, workers that make a thousand steps each, one after the other, and what comes of it.
-type InTurn<'a> = (&'a str, &'a str, &'a [u32], &'a str);
-
-// Compares what three workers below the root come to.
-fn compare_turns(rt: &impl Abort, alloc: Global, turns: InTurn<'_>) -> Result<(), Fail> {
-    let (members, rows_of_t, workers, line) = turns;
-    let case = case_with(alloc, members, rows_of_t, ROWS_OF_D)?;
-    let steps = in_turn(alloc, workers, 1000)?;
-    let text = by_three(alloc, &case, steps.as_slice())?;
-    assert_eq!(rt; text.as_str(), line);
+    assert!(rt; wrong_teams(alloc, &case, serial)?.is_empty());
+    assert_eq!(rt; wrong_of_three(alloc, &case, serial)?, 0);
     Ok(())
 }
-
-// Worker 2 sends both rows, and worker 3 has not yet sent that it has none.
-const OVERFLOWING: [InTurn<'_>; 3] = [
-    (SUMS, TOO_LARGE, &[2, 1, 0, 0, 0], "unfinished"),
-    (SUMS, TOO_LARGE, &[2, 1, 0, 3, 0], "X7 Overflow node=0"),
-    (SUMS, TOO_LARGE, &[3, 2, 1, 0, 0], "X7 Overflow node=0"),
-];
 
 #[test]
 fn a_group_overflows_only_after_its_input(rt: HostRuntime) -> Result<(), Fail> {
-    for turns in OVERFLOWING {
-        compare_turns(&rt, rt.alloc(), turns)?;
+    let alloc = rt.alloc();
+    let case = case_with(alloc, SUMS, TOO_LARGE, ROWS_OF_D)?;
+    // Worker 2 sends both rows, and worker 3 has not yet sent that it has none.
+    for (workers, line) in [
+        ([2, 1, 0, 0, 0], "unfinished"),
+        ([2, 1, 0, 3, 0], "X7 Overflow node=0"),
+        ([3, 2, 1, 0, 0], "X7 Overflow node=0"),
+    ] {
+        let steps = in_turn(alloc, workers.as_slice(), 1000)?;
+        assert_eq!(rt; by_three(alloc, &case, steps.as_slice())?.as_str(), line);
     }
     Ok(())
 }
-
-// Worker 2 draws every morsel before another worker makes a step, so it has all rows.
-const IN_TWO_PHASES: [InTurn<'_>; 2] = [
-    (
-        SUMS_IN_TWO_PHASES,
-        LARGE,
-        &[2, 1, 3, 0],
-        "'a' 9223372036854775807;",
-    ),
-    (
-        SUMS_IN_TWO_PHASES,
-        TOO_LARGE,
-        &[2, 1, 3, 0],
-        "X7 Overflow node=2",
-    ),
-];
 
 #[test]
 fn a_partial_group_overflows_by_itself(rt: HostRuntime) -> Result<(), Fail> {
-    for turns in IN_TWO_PHASES {
-        compare_turns(&rt, rt.alloc(), turns)?;
+    let alloc = rt.alloc();
+    // Worker 2 draws every morsel before another worker makes a step, so it has all rows.
+    let steps = in_turn(alloc, &[2, 1, 3, 0], 1000)?;
+    for (rows_of_t, line) in [
+        (LARGE, "'a' 9223372036854775807;"),
+        (TOO_LARGE, "X7 Overflow node=2"),
+    ] {
+        let case = case_with(alloc, SUMS_IN_TWO_PHASES, rows_of_t, ROWS_OF_D)?;
+        assert_eq!(rt; by_three(alloc, &case, steps.as_slice())?.as_str(), line);
     }
     Ok(())
 }
 
-// Rows of t, and what comes of a join with no rows. No row could come of it.
-const WITH_NO_ROWS: [(&str, &str); 3] = [
-    (ROWS_OF_T, ""),
-    (LARGE, ""),
-    (TOO_LARGE, "X7 Overflow node=1"),
-];
-
 #[test]
 fn a_hash_join_reads_its_left_input_to_the_end(rt: HostRuntime) -> Result<(), Fail> {
-    for (rows_of_t, serial) in WITH_NO_ROWS {
-        compare(&rt, rt.alloc(), JOINED_SUMS, rows_of_t, "", serial)?;
+    let alloc = rt.alloc();
+    // No row could come of these joins, since the other relation has none.
+    for (rows_of_t, serial) in [
+        (ROWS_OF_T, ""),
+        (LARGE, ""),
+        (TOO_LARGE, "X7 Overflow node=1"),
+    ] {
+        let case = case_with(alloc, JOINED_SUMS, rows_of_t, "")?;
+        assert!(rt;
+            wrong_teams(alloc, &case, serial)?.is_empty(),
+            "{rows_of_t}"
+        );
     }
+    let case = case_with(alloc, JOINED_SUMS, TOO_LARGE, "")?;
+    assert_eq!(rt; wrong_of_three(alloc, &case, "X7 Overflow node=1")?, 0);
     Ok(())
 }

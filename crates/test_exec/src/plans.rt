@@ -20,9 +20,6 @@ const TABLE: &str = "id,k,v\n0,a,5\n1,b,7\n2,a,-2\n3,c,7\n";
 pub const SELECTED: &str =
     r#"{"sizes":["many"],"root":{"op":"exchange","kind":"gather","claim":{"part":"one"},"input":{"op":"select","where":[{"column":"v","op":"=","value":7}],"claim":{"part":"any"},"input":{"op":"scan","relation":"t","mode":"shared","size":"many","claim":{"part":"any"}}}}}"#;
 
-/// The rows of that plan, in the order of the relation.
-pub const SELECTED_ROWS: &str = "1 'b' 7;3 'c' 7;";
-
 /// Sends every key to consumer 0.
 #[derive(Drop)]
 pub struct ToFirst;

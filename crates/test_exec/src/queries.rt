@@ -1,11 +1,12 @@
 //! What no clause says of the plans to measure on: in rounds, with four workers of each group, they come to the rows of
 //! their serial evaluation, and those that put rows together by hundreds to what was worked out by hand.
 
+ghost use Rattle.std.specs.Prelude.{◌≤◌};
+
 use crate::cases::{Case, agrees, by_rounds, serially};
 use crate::databases::fill;
 use crate::plans::accepted;
 use std::alloc::{AllocError, Global};
-use std::process::Abort;
 use std::test::Fail;
 use vx_bytes::MemoryOut;
 use vx_catalog::{Catalog, Database};
@@ -58,58 +59,49 @@ fn by_four(alloc: Global, case: &Case) -> Result<String, AllocError> {
     by_rounds(alloc, case, &Setup::new(sizes, 256, 1024, 8), &ByteRouter)
 }
 
-// Compares what a case comes to with its serial rows.
-fn compare_serial(rt: &impl Abort, alloc: Global, case: &Case, query: u32) -> Result<(), Fail> {
-    let rows = serially(alloc, case)?;
-    let text = by_four(alloc, case)?;
-    let is_right = agrees(alloc, case, text.as_str(), rows.as_str())?;
-    assert!(rt; is_right, "query {query}");
-    Ok(())
-}
-
 #[test]
 fn queries_come_to_their_serial_rows(rt: HostRuntime) -> Result<(), Fail> {
-    let mut case = case_of_query(rt.alloc(), 1)?;
+    let alloc = rt.alloc();
+    let mut case = case_of_query(alloc, 1)?;
     for query in 1..14 {
-        case.plan = plan_of_query(rt.alloc(), query)?;
-        compare_serial(&rt, rt.alloc(), &case, query)?;
+        case.plan = plan_of_query(alloc, query)?;
+        let rows = serially(alloc, &case)?;
+        let text = by_four(alloc, &case)?;
+        assert!(rt;
+            agrees(alloc, &case, text.as_str(), rows.as_str())?,
+            "query {query}"
+        );
     }
     Ok(())
 }
 
-// Queries whose rows were worked out by hand: for each p from 0 to 99 a row of p, and a factor times p and some more.
-const BY_PERCENT: [(u32, u64, u64); 3] = [(10, 1, 0), (11, 100, 495_000), (12, 100, 495_000)];
-
-// The rows of p, and `factor` times p and `more`.
-fn by_percent(alloc: Global, factor: u64, more: u64) -> Result<String, AllocError> {
+// For each p from 0 to 99 a row: p, and `factor` times p and `more`.
+fn by_percent(alloc: Global, factor: u64, more: u64) -> Result<String, AllocError>
+    requires { (factor ≤ 1000) × (more ≤ 1000000) }
+{
     let mut text = String::new(alloc);
     for p in 0..100u64 {
-        let value = factor.saturating_mul(p).saturating_add(more);
-        write!(text, "{p} {value};")?;
+        let value = factor * p + more;
+        let row = format!(in alloc; "{p} {value};")?;
+        text.push_str(row.as_str())?;
     }
     Ok(text)
 }
 
-// Compares what a case comes to with rows in their order.
-fn compare(
-    rt: &impl Abort,
-    alloc: Global,
-    case: &Case,
-    query: u32,
-    rows: &str,
-) -> Result<(), AllocError> {
-    let text = by_four(alloc, case)?;
-    assert_eq!(rt; text.as_str(), rows, "query {query}");
-    Ok(())
-}
-
 #[test]
 fn aggregates_come_to_what_was_worked_out_by_hand(rt: HostRuntime) -> Result<(), Fail> {
-    let mut case = case_of_query(rt.alloc(), 10)?;
-    for (query, factor, more) in BY_PERCENT {
-        case.plan = plan_of_query(rt.alloc(), query)?;
-        let rows = by_percent(rt.alloc(), factor, more)?;
-        compare(&rt, rt.alloc(), &case, query, rows.as_str())?;
+    let alloc = rt.alloc();
+    let least = by_percent(alloc, 1, 0)?;
+    let mut case = case_of_query(alloc, 10)?;
+    assert_eq!(rt; by_four(alloc, &case)?.as_str(), least.as_str());
+    let sums = by_percent(alloc, 100, 495_000)?;
+    for query in [11, 12] {
+        case.plan = plan_of_query(alloc, query)?;
+        assert_eq!(rt;
+            by_four(alloc, &case)?.as_str(),
+            sums.as_str(),
+            "query {query}"
+        );
     }
     Ok(())
 }

@@ -1,9 +1,7 @@
 //! What no clause says of setups: a setup that is right is taken, and the lines of those that are not.
 
-use crate::cases::Case;
 use crate::plans::{CATALOG, ToFirst, checked};
 use std::alloc::{AllocError, Global};
-use std::process::Abort;
 use std::test::Fail;
 use vx_catalog::{Catalog, Database};
 use vx_exec::{RunFault, Setup, run_rounds};
@@ -30,38 +28,28 @@ fn setup(alloc: Global, sizes: &[(&str, u32)], counts: [u32; 3]) -> Result<Setup
     Ok(Setup::new(entries, packet, morsel, slack))
 }
 
-// A plan over an empty database of a catalog.
-fn empty_case(alloc: Global, plan: &str, catalog: &str) -> Result<Case, Fail> {
-    let catalog = Catalog::read(alloc, catalog.as_bytes())?;
-    Ok(Case {
-        plan: checked(alloc, plan)?,
-        database: Database::empty(alloc, &catalog)?,
-    })
-}
-
-// What a setup of a case is answered with: `ok`, or the line of its refusal.
-fn line(alloc: Global, case: &Case, setup: &Setup) -> Result<String, AllocError> {
-    match run_rounds(alloc, &case.plan, &case.database, setup, &ToFirst, 1000) {
-        Ok(_) => String::from_str(alloc, "ok"),
-        Err(fault) => format!(in alloc; "{fault}"),
-    }
-}
-
-// Compares what a setup of a plan over an empty database of a catalog is answered with.
-fn compare(
-    rt: &impl Abort,
+// What a setup of a plan over an empty database of a catalog is answered with: `ok`, or the line of its refusal.
+fn line(
     alloc: Global,
     plan: &str,
-    catalog: &str,
+    database: &str,
     sizes: &[(&str, u32)],
     counts: [u32; 3],
-    want: &str,
-) -> Result<(), Fail> {
-    let case = empty_case(alloc, plan, catalog)?;
-    let setup = setup(alloc, sizes, counts)?;
-    let said = line(alloc, &case, &setup)?;
-    assert_eq!(rt; said.as_str(), want);
-    Ok(())
+) -> Result<String, Fail> {
+    let plan = checked(alloc, plan)?;
+    let catalog = Catalog::read(alloc, database.as_bytes())?;
+    let database = Database::empty(alloc, &catalog)?;
+    match run_rounds(
+        alloc,
+        &plan,
+        &database,
+        &setup(alloc, sizes, counts)?,
+        &ToFirst,
+        1000,
+    ) {
+        Ok(_) => Ok(String::from_str(alloc, "ok")?),
+        Err(fault) => Ok(format!(in alloc; "{fault}")?),
+    }
 }
 
 // Numbers for size names, and what comes of them.
@@ -86,7 +74,8 @@ const SIZES: [(&[(&str, u32)], &str); 9] = [
 #[test]
 fn size_names_have_numbers(rt: HostRuntime) -> Result<(), Fail> {
     for (sizes, want) in SIZES {
-        compare(&rt, rt.alloc(), TWO_NAMES, CATALOG, sizes, [1, 1, 1], want)?;
+        let said = line(rt.alloc(), TWO_NAMES, CATALOG, sizes, [1, 1, 1])?;
+        assert_eq!(rt; said.as_str(), want);
     }
     Ok(())
 }
@@ -113,48 +102,50 @@ const LIMITS: [(u32, u32, u32, u32, &str); 14] = [
 #[test]
 fn numbers_have_limits(rt: HostRuntime) -> Result<(), Fail> {
     for (many, packet, morsel, slack, want) in LIMITS {
-        let sizes = [("many", many)];
         let counts = [packet, morsel, slack];
-        compare(&rt, rt.alloc(), GATHERED, CATALOG, &sizes, counts, want)?;
+        let said = line(rt.alloc(), GATHERED, CATALOG, &[("many", many)], counts)?;
+        assert_eq!(rt; said.as_str(), want);
     }
     Ok(())
 }
-
-// Catalogs of the database, size names, packet, morsel and slack, and what comes of them.
-const CATALOGS: [(&str, &[(&str, u32)], [u32; 3], &str); 3] = [
-    (CATALOG, &[("many", 1)], [1, 1, 1], "ok"),
-    (OTHER_CATALOG, &[("many", 1)], [1, 1, 1], "X6 OtherCatalog"),
-    (OTHER_CATALOG, &[], [0, 0, 0], "X6 OtherCatalog"),
-];
 
 #[test]
 fn other_catalogs_are_refused(rt: HostRuntime) -> Result<(), Fail> {
-    for (catalog, sizes, counts, want) in CATALOGS {
-        compare(&rt, rt.alloc(), GATHERED, catalog, sizes, counts, want)?;
-    }
-    Ok(())
-}
-
-// Compares the line of a fault.
-fn compare_line(rt: &impl Abort, alloc: Global, fault: RunFault, want: &str) -> Result<(), Fail> {
-    let said = format!(in alloc; "{fault}")?;
-    assert_eq!(rt; said.as_str(), want);
+    let said = line(rt.alloc(), GATHERED, CATALOG, &[("many", 1)], [1, 1, 1])?;
+    assert_eq!(rt; said.as_str(), "ok");
+    let said = line(
+        rt.alloc(),
+        GATHERED,
+        OTHER_CATALOG,
+        &[("many", 1)],
+        [1, 1, 1],
+    )?;
+    assert_eq!(rt; said.as_str(), "X6 OtherCatalog");
+    let said = line(rt.alloc(), GATHERED, OTHER_CATALOG, &[], [0, 0, 0])?;
+    assert_eq!(rt; said.as_str(), "X6 OtherCatalog");
     Ok(())
 }
 
 #[test]
 fn faults_have_their_lines(rt: HostRuntime) -> Result<(), Fail> {
-    let alloc = rt.alloc();
-    let step = RunFault::BadStep { index: 3 };
-    compare_line(&rt, alloc, step, "X5 BadStep index=3")?;
-    let overflow = RunFault::Overflow { node: 2 };
-    compare_line(&rt, alloc, overflow, "X7 Overflow node=2")?;
-    compare_line(&rt, alloc, RunFault::NoMemory, "X8 NoMemory")?;
-    compare_line(&rt, alloc, RunFault::NoThread, "X9 NoThread")?;
-    let unsorted = RunFault::Unsorted { node: 1 };
-    compare_line(&rt, alloc, unsorted, "X10 Unsorted node=1")?;
-    let stranger = RunFault::Stranger { exchange: 4 };
-    compare_line(&rt, alloc, stranger, "X11 Stranger exchange=4")?;
-    let many = RunFault::TooManyWorkers { number: 257 };
-    compare_line(&rt, alloc, many, "X12 TooManyWorkers number=257")
+    let cases = [
+        (RunFault::BadStep { index: 3 }, "X5 BadStep index=3"),
+        (RunFault::Overflow { node: 2 }, "X7 Overflow node=2"),
+        (RunFault::NoMemory, "X8 NoMemory"),
+        (RunFault::NoThread, "X9 NoThread"),
+        (RunFault::Unsorted { node: 1 }, "X10 Unsorted node=1"),
+        (
+            RunFault::Stranger { exchange: 4 },
+            "X11 Stranger exchange=4",
+        ),
+        (
+            RunFault::TooManyWorkers { number: 257 },
+            "X12 TooManyWorkers number=257",
+        ),
+    ];
+    for (fault, want) in cases {
+        let said = format!(in rt.alloc(); "{fault}")?;
+        assert_eq!(rt; said.as_str(), want);
+    }
+    Ok(())
 }

@@ -1,11 +1,11 @@
 //! What no clause says of sizes: with packets, morsels and groups of any size a run ends, with each cell of its rows.
 
-use crate::cases::{Case, agrees, by_few_rounds};
 use crate::plans::{SELECTED, ToFirst, checked, filled_with};
 use std::alloc::{AllocError, Global};
-use std::process::Abort;
 use std::test::Fail;
-use vx_exec::Setup;
+use vx_exec::{Ran, Setup, run_rounds};
+use vx_rows::Cell;
+use vx_views::Rows;
 
 // Rows of the table, every second of which has the number 7.
 const ROWS: i64 = 5000;
@@ -31,28 +31,10 @@ fn table(alloc: Global) -> Result<String, AllocError> {
     let mut text = String::from_str(alloc, "id,k,v\n")?;
     for id in 0..ROWS {
         let v = if id % 2 == 1 { 7 } else { 5 };
-        write!(text, "{id},k{id},{v}\n")?;
+        let line = format!(in alloc; "{id},k{id},{v}\n")?;
+        text.push_str(line.as_str())?;
     }
     Ok(text)
-}
-
-// The rows with the number 7: each second one.
-fn selected_rows(alloc: Global) -> Result<String, AllocError> {
-    let mut text = String::new(alloc);
-    for half in 0..ROWS / 2 {
-        let id = half * 2 + 1;
-        write!(text, "{id} 'k{id}' 7;")?;
-    }
-    Ok(text)
-}
-
-// The plan of the selected rows over the table.
-fn selected(alloc: Global) -> Result<Case, Fail> {
-    let text = table(alloc)?;
-    Ok(Case {
-        plan: checked(alloc, SELECTED)?,
-        database: filled_with(alloc, text.as_str())?,
-    })
 }
 
 fn sized(alloc: Global, workers: u32, packet: u32, morsel: u32) -> Result<Setup, AllocError> {
@@ -61,28 +43,65 @@ fn sized(alloc: Global, workers: u32, packet: u32, morsel: u32) -> Result<Setup,
     Ok(Setup::new(sizes, packet, morsel, 8))
 }
 
-// Compares what comes of a case with rows.
-fn compare(
-    rt: &impl Abort,
-    alloc: Global,
-    case: &Case,
-    sizes: (u32, u32, u32),
-    rows: &str,
-) -> Result<(), AllocError> {
-    let (workers, packet, morsel) = sizes;
-    let setup = sized(alloc, workers, packet, morsel)?;
-    let text = by_few_rounds(alloc, case, &setup, &ToFirst, 1_000_000)?;
-    let is_right = agrees(alloc, case, text.as_str(), rows)?;
-    assert!(rt; is_right, "{workers} {packet} {morsel}");
-    Ok(())
+// The number of a row, if its other cells belong to it.
+fn number_of(alloc: Global, rows: &Rows, i: usize) -> Result<Option<i64>, AllocError> {
+    if rows.types().len() != 3 || i >= rows.len() {
+        return Ok(None);
+    }
+    match (rows.cell(i, 0), rows.cell(i, 1), rows.cell(i, 2)) {
+        (Cell::Int(id), Cell::Text(key), Cell::Int(7)) => {
+            let expected = format!(in alloc; "k{id}")?;
+            Ok(if key == expected.as_str() {
+                Some(id)
+            } else {
+                None
+            })
+        }
+        _ => Ok(None),
+    }
+}
+
+// The numbers of rows, in rising order.
+fn numbers_of(alloc: Global, rows: &Rows) -> Result<Vec<i64>, AllocError> {
+    let mut numbers = Vec::new(alloc);
+    for i in 0..rows.len() {
+        if let Some(id) = number_of(alloc, rows, i)? {
+            numbers.push(id)?;
+        }
+    }
+    numbers.sort()?;
+    Ok(numbers)
+}
+
+// Whether these are the odd numbers below the number of rows.
+fn are_odd(numbers: &[i64]) -> bool {
+    let mut expected = 1i64;
+    for number in numbers {
+        if *number != expected {
+            return false;
+        }
+        expected = expected.wrapping_add(2);
+    }
+    expected == ROWS + 1
 }
 
 #[test]
 fn sizes_change_no_row(rt: HostRuntime) -> Result<(), Fail> {
-    let case = selected(rt.alloc())?;
-    let rows = selected_rows(rt.alloc())?;
-    for sizes in SIZES {
-        compare(&rt, rt.alloc(), &case, sizes, rows.as_str())?;
+    let alloc = rt.alloc();
+    let plan = checked(alloc, SELECTED)?;
+    let database = filled_with(alloc, table(alloc)?.as_str())?;
+    for (workers, packet, morsel) in SIZES {
+        let setup = sized(alloc, workers, packet, morsel)?;
+        match run_rounds(alloc, &plan, &database, &setup, &ToFirst, 1_000_000)? {
+            Ran::Done(rows) => {
+                assert!(rt;
+                    are_odd(numbers_of(alloc, &rows)?.as_slice()),
+                    "{workers} {packet} {morsel}"
+                );
+                assert_eq!(rt; rows.len(), 2500);
+            }
+            Ran::Unfinished => assert!(rt; false, "the workers ended"),
+        }
     }
     Ok(())
 }

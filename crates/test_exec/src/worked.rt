@@ -8,7 +8,6 @@ use crate::databases::{LARGE, ROWS_OF_D, ROWS_OF_T, TOO_LARGE};
 use crate::draws::{SCHEDULES, in_turn};
 use crate::plans::{ToFirst, of_workers};
 use std::alloc::{AllocError, Global};
-use std::process::Abort;
 use std::test::Fail;
 use vx_exchange::ByteRouter;
 
@@ -194,21 +193,16 @@ fn schedules_of_129_workers_come_to_the_same_rows_4(rt: HostRuntime) -> Result<(
     Ok(())
 }
 
-// Compares what three workers come to that make a thousand steps each, one after the other, and then the root's.
-fn compare_turns(rt: &impl Abort, alloc: Global, workers: &[u32]) -> Result<(), Fail> {
-    let case = case_of(alloc, MERGED, ROWS_OF_T, ROWS_OF_D)?;
-    let setup = of_workers(alloc, 3)?;
-    let steps = in_turn(alloc, workers, 1000)?;
-    let text = by_steps(alloc, &case, &setup, &ByteRouter, steps.as_slice())?;
-    assert_eq!(rt; text.as_str(), MERGED_ROWS);
-    Ok(())
-}
-
 #[test]
 fn one_worker_takes_all_and_merges_with_none(rt: HostRuntime) -> Result<(), Fail> {
+    let alloc = rt.alloc();
+    let case = case_of(alloc, MERGED, ROWS_OF_T, ROWS_OF_D)?;
+    let setup = of_workers(alloc, 3)?;
     // One worker draws every morsel before another makes a step, so the others send that they have none.
     for workers in [[1, 2, 3, 0], [2, 1, 3, 0], [3, 2, 1, 0]] {
-        compare_turns(&rt, rt.alloc(), &workers)?;
+        let steps = in_turn(alloc, &workers, 1000)?;
+        let text = by_steps(alloc, &case, &setup, &ByteRouter, steps.as_slice())?;
+        assert_eq!(rt; text.as_str(), MERGED_ROWS);
     }
     Ok(())
 }

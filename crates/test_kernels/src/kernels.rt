@@ -1,7 +1,6 @@
 //! What no clause says: that calls succeed with ample memory, and small examples.
 
-ghost use Rattle.std.specs.Prelude.{◌≡◌, ◌<◌, [], ◌∷◌, length, IfOk};
-ghost use Rattle.vx_values.specs.declared.value.ColType.TheVariants as kind;
+ghost use Rattle.std.specs.Prelude.{◌<◌};
 ghost use Rattle.vx_rows.specs.View.{AreColumns};
 
 use std::alloc::{AllocError, Global};
@@ -21,32 +20,6 @@ enum Kernel {
     Distinct,
 }
 
-// A batch of rows.
-fn batch(alloc: Global, pairs: &[(i64, &str)]) -> Result<Rows, AllocError>
-    ensures { IfOk result (λ r. r.types ≡ kind.Int ∷ kind.Text ∷ []) }
-{
-    Rows::of_table(alloc, table(alloc, pairs)?)
-}
-
-// The first of the rows that are equal in these columns, with these columns.
-fn distinct(alloc: Global, rows: &Rows, columns: &[usize]) -> Result<Rows, AllocError>
-    requires { AreColumns (length rows.now.types) columns.now }
-{
-    let mut seen = Seen::new(alloc, KeySeed::fixed());
-    seen.keep_new(rows, columns)
-}
-
-// What a kernel makes of rows.
-fn applied(alloc: Global, kernel: Kernel, rows: Rows, columns: &[usize]) -> Result<Rows, AllocError>
-    requires { AreColumns (length rows.types) columns.now }
-{
-    match kernel {
-        Kernel::Projected => rows.project(alloc, columns),
-        Kernel::Sorted => sorted_chunks(alloc, &rows, columns),
-        Kernel::Distinct => distinct(alloc, &rows, columns),
-    }
-}
-
 // What a kernel makes of a table, as text.
 fn made(
     alloc: Global,
@@ -56,7 +29,15 @@ fn made(
 ) -> Result<String, AllocError>
     requires { AreColumns 2 columns.now }
 {
-    let made = applied(alloc, kernel, batch(alloc, entries)?, columns)?;
+    let rows = Rows::of_table(alloc, table(alloc, entries)?)?;
+    let made = match kernel {
+        Kernel::Projected => rows.project(alloc, columns)?,
+        Kernel::Sorted => sorted_chunks(alloc, &rows, columns)?,
+        Kernel::Distinct => {
+            let mut seen = Seen::new(alloc, KeySeed::fixed());
+            seen.keep_new(&rows, columns)?
+        }
+    };
     shown(alloc, &made.gathered(alloc)?)
 }
 
@@ -135,56 +116,46 @@ fn new_in(
     shown(alloc, &new)
 }
 
-// Compares what is new in a batch, by some of its columns, with a text.
-fn compare_new(
-    rt: &impl Abort,
+// What is new in each of two batches, by columns of each, as text.
+fn news_of(
     alloc: Global,
-    seen: &mut Seen,
-    pairs: &[(i64, &str)],
+    first: &[(i64, &str)],
     columns: &[usize],
-    text: &str,
-) -> Result<(), AllocError>
-    requires { AreColumns 2 columns.now }
-{
-    let got = new_in(alloc, seen, pairs, columns)?;
-    assert_eq!(rt; got.as_str(), text);
-    Ok(())
-}
-
-const AGAIN: [(i64, &str); 4] = [(2, "a"), (4, "b"), (3, "b"), (4, "b")];
-
-// Compares what is new in each of two batches, by columns of each, with two texts.
-fn compare_news(
-    rt: &impl Abort,
-    alloc: Global,
-    columns: &[usize],
-    text: &str,
+    second: &[(i64, &str)],
     later: &[usize],
-    later_text: &str,
-) -> Result<(), AllocError>
+) -> Result<(String, String), AllocError>
     requires columns { AreColumns 2 columns.now }
     requires later { AreColumns 2 later.now }
 {
     let mut seen = Seen::new(alloc, KeySeed::fixed());
-    compare_new(rt, alloc, &mut seen, &REPEATED, columns, text)?;
-    compare_new(rt, alloc, &mut seen, &AGAIN, later, later_text)
+    let early = new_in(alloc, &mut seen, first, columns)?;
+    let late = new_in(alloc, &mut seen, second, later)?;
+    Ok((early, late))
 }
+
+const AGAIN: [(i64, &str); 4] = [(2, "a"), (4, "b"), (3, "b"), (4, "b")];
 
 #[test]
 fn rows_of_an_earlier_batch_are_not_new(rt: HostRuntime) -> Result<(), Fail> {
     let alloc = rt.alloc();
-    let all = "3 'b';1 'a';2 'a';";
-    compare_news(&rt, alloc, &[0, 1], all, &[0, 1], "4 'b';")?;
-    compare_news(&rt, alloc, &[0], "3;1;2;", &[0], "4;")?;
-    compare_news(&rt, alloc, &[1], "'b';'a';", &[1], "")?;
+    let news = news_of(alloc, &REPEATED, &[0, 1], &AGAIN, &[0, 1])?;
+    assert_eq!(rt; news.0.as_str(), "3 'b';1 'a';2 'a';");
+    assert_eq!(rt; news.1.as_str(), "4 'b';");
+    let numbers = news_of(alloc, &REPEATED, &[0], &AGAIN, &[0])?;
+    assert_eq!(rt; numbers.1.as_str(), "4;");
+    let texts = news_of(alloc, &REPEATED, &[1], &AGAIN, &[1])?;
+    assert_eq!(rt; texts.1.as_str(), "");
     Ok(())
 }
 
 #[test]
 fn keys_of_another_type_are_new(rt: HostRuntime) -> Result<(), Fail> {
     let alloc = rt.alloc();
-    compare_news(&rt, alloc, &[0], "3;1;2;", &[1], "'a';'b';")?;
-    compare_news(&rt, alloc, &[1], "'b';'a';", &[0], "2;4;3;")?;
+    let texts = news_of(alloc, &REPEATED, &[0], &AGAIN, &[1])?;
+    assert_eq!(rt; texts.0.as_str(), "3;1;2;");
+    assert_eq!(rt; texts.1.as_str(), "'a';'b';");
+    let numbers = news_of(alloc, &REPEATED, &[1], &AGAIN, &[0])?;
+    assert_eq!(rt; numbers.1.as_str(), "2;4;3;");
     Ok(())
 }
 
@@ -197,27 +168,17 @@ fn joined(
 ) -> Result<String, AllocError>
     requires { column < 2 }
 {
-    let columns = vec![in alloc; column]?;
-    let right = batch(alloc, right)?;
-    let left = batch(alloc, left)?;
-    let joined = hash_join(alloc, KeySeed::fixed(), left, &[column], &right, columns)?;
+    let left = Rows::of_table(alloc, table(alloc, left)?)?;
+    let right = Rows::of_table(alloc, table(alloc, right)?)?;
+    let joined = hash_join(
+        alloc,
+        KeySeed::fixed(),
+        left,
+        &[column],
+        &right,
+        vec![in alloc; column]?,
+    )?;
     shown(alloc, &joined.gathered(alloc)?)
-}
-
-// Compares the hash join of two tables on the same column of both with a text.
-fn compare_joined(
-    rt: &impl Abort,
-    alloc: Global,
-    left: &[(i64, &str)],
-    right: &[(i64, &str)],
-    column: usize,
-    text: &str,
-) -> Result<(), AllocError>
-    requires { column < 2 }
-{
-    let got = joined(alloc, left, right, column)?;
-    assert_eq!(rt; got.as_str(), text);
-    Ok(())
 }
 
 const LEFT: [(i64, &str); 3] = [(1, "key"), (2, "ke"), (3, "key")];
@@ -229,38 +190,36 @@ const PAIRS: &str =
 
 #[test]
 fn equal_keys_are_joined_with_each_other(rt: HostRuntime) -> Result<(), Fail> {
-    Ok(compare_joined(&rt, rt.alloc(), &LEFT, &RIGHT, 1, PAIRS)?)
+    let pairs = joined(rt.alloc(), &LEFT, &RIGHT, 1)?;
+    assert_eq!(rt; pairs.as_str(), PAIRS);
+    Ok(())
 }
 
 #[test]
 fn a_join_with_no_rows_is_empty(rt: HostRuntime) -> Result<(), Fail> {
     let alloc = rt.alloc();
-    compare_joined(&rt, alloc, &[], &[(1, "a")], 0, "")?;
-    Ok(compare_joined(&rt, alloc, &[(1, "a")], &[], 0, "")?)
-}
-
-// The build side of a join on the texts of the right rows.
-fn build_side(alloc: Global) -> Result<Build, AllocError> {
-    let columns = vec![in alloc; 1]?;
-    let right = batch(alloc, &RIGHT)?;
-    Build::of(alloc, KeySeed::fixed(), &right, columns)
+    let left = joined(alloc, &[], &[(1, "a")], 0)?;
+    assert_eq!(rt; left.as_str(), "");
+    let right = joined(alloc, &[(1, "a")], &[], 0)?;
+    assert_eq!(rt; right.as_str(), "");
+    Ok(())
 }
 
 // How many rows the first probe of a join joins, and how many left rows it leaves.
 fn probed(alloc: Global, most: usize) -> Result<(usize, usize), AllocError> {
-    let left = batch(alloc, &LEFT)?;
-    let build = build_side(alloc)?;
+    let left = Rows::of_table(alloc, table(alloc, &LEFT)?)?;
+    let right = Rows::of_table(alloc, table(alloc, &RIGHT)?)?;
+    let build = Build::of(alloc, KeySeed::fixed(), &right, vec![in alloc; 1]?)?;
     let (joined, rest) = build.probe(left, &[1], most)?;
     Ok((joined.len(), rest.len()))
 }
 
-// At most how many rows a probe is to join; how many it joins, and how many left rows it leaves.
-const PROBES: [(usize, usize, usize); 4] = [(0, 2, 2), (2, 2, 2), (3, 4, 0), (5, 4, 0)];
-
 #[test]
 fn a_probe_ends_at_most_rows(rt: HostRuntime) -> Result<(), Fail> {
-    for (most, joined, left) in PROBES {
-        assert_eq!(rt; probed(rt.alloc(), most)?, (joined, left), "{most}");
-    }
+    let alloc = rt.alloc();
+    assert_eq!(rt; probed(alloc, 0)?, (2, 2));
+    assert_eq!(rt; probed(alloc, 2)?, (2, 2));
+    assert_eq!(rt; probed(alloc, 3)?, (4, 0));
+    assert_eq!(rt; probed(alloc, 5)?, (4, 0));
     Ok(())
 }

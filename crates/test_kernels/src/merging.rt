@@ -150,46 +150,20 @@ fn joined(alloc: Global, merge: &mut Merge) -> Result<String, AllocError>
     }
 }
 
-// A merge on the numbers of both inputs, with one left row.
-fn begun(alloc: Global) -> Result<Merge, AllocError>
-    ensures { IfOk result (λ m. m.right.types ≡ kind.Int ∷ kind.Text ∷ []) }
-{
+#[test]
+fn a_run_goes_on_in_rows_that_come_later(rt: HostRuntime) -> Result<(), Fail> {
+    let alloc = rt.alloc();
     let columns = vec![in alloc; 0]?;
     let mut merge = Merge::new(alloc, vec![in alloc; 0]?, &TYPES, columns, &TYPES)?;
     succeeded(merge.take_left(batch(alloc, &[(1, "l")])?))?;
-    Ok(merge)
-}
-
-// Gives right rows to a merge, and compares the rows that it joins then, and what it needs next.
-fn compare_turn(
-    rt: &impl Abort,
-    alloc: Global,
-    merge: &mut Merge,
-    right: Pairs<'_>,
-    text: &str,
-    need: MergeNeed,
-) -> Result<(), AllocError>
-    requires { merge.old.right.types ≡ kind.Int ∷ kind.Text ∷ [] }
-    ensures { merge.new.right.types ≡ kind.Int ∷ kind.Text ∷ [] }
-{
-    succeeded(merge.take_right(batch(alloc, right)?))?;
-    let got = joined(alloc, merge)?;
-    assert_eq!(rt; got.as_str(), text);
-    assert_eq!(rt; merge.needs(), need);
+    succeeded(merge.take_right(batch(alloc, &[(0, "a"), (1, "b")])?))?;
+    assert_eq!(&rt; joined(alloc, &mut merge)?.as_str(), "");
+    assert_eq!(&rt; merge.needs(), MergeNeed::Right);
+    succeeded(merge.take_right(batch(alloc, &[(1, "c"), (2, "d")])?))?;
+    assert_eq!(&rt;
+        joined(alloc, &mut merge)?.as_str(),
+        "1 'l' 1 'b';1 'l' 1 'c';"
+    );
+    assert_eq!(&rt; merge.needs(), MergeNeed::Left);
     Ok(())
-}
-
-// Rows that come after one another. Only the last of the first two, and the first of the last two, have the key of the left row.
-fn compare_turns(rt: &impl Abort, alloc: Global) -> Result<(), AllocError> {
-    let mut merge = begun(alloc)?;
-    let early = [(0, "a"), (1, "b")];
-    compare_turn(rt, alloc, &mut merge, &early, "", MergeNeed::Right)?;
-    let late = [(1, "c"), (2, "d")];
-    let text = "1 'l' 1 'b';1 'l' 1 'c';";
-    compare_turn(rt, alloc, &mut merge, &late, text, MergeNeed::Left)
-}
-
-#[test]
-fn a_run_goes_on_in_rows_that_come_later(rt: HostRuntime) -> Result<(), Fail> {
-    Ok(compare_turns(&rt, rt.alloc())?)
 }

@@ -1,12 +1,9 @@
 //! What no clause says of the number of threads: 256 run and end, and one more is refused with its number.
 
-use crate::cases::{Case, by_threads, case_of};
+use crate::cases::{by_threads, case_of};
 use crate::databases::{ROWS_OF_D, ROWS_OF_T};
 use std::alloc::{AllocError, Global};
-use std::process::Abort;
-use std::sync::Wait;
 use std::test::Fail;
-use std::thread::Threads;
 use vx_exchange::ByteRouter;
 use vx_exec::Setup;
 
@@ -31,26 +28,14 @@ fn setup_of(alloc: Global, many: u32, few: u32, slack: u32) -> Result<Setup, All
     Ok(Setup::new(sizes, 1, 1, slack))
 }
 
-// Compares what comes of a case with so many workers.
-fn compare<T: Threads + Wait + Sync + Abort>(
-    rt: &T,
-    alloc: Global,
-    case: &Case,
-    crowd: (u32, u32, u32),
-    line: &str,
-) -> Result<(), AllocError> {
-    let (many, few, slack) = crowd;
-    let setup = setup_of(alloc, many, few, slack)?;
-    let text = by_threads(rt, alloc, case, &setup, &ByteRouter)?;
-    assert_eq!(rt; text.as_str(), line, "{many} and {few}");
-    Ok(())
-}
-
 #[test]
 fn at_most_256_threads_run(rt: HostRuntime) -> Result<(), Fail> {
-    let case = case_of(rt.alloc(), IN_A_ROW, ROWS_OF_T, ROWS_OF_D)?;
+    let alloc = rt.alloc();
+    let case = case_of(alloc, IN_A_ROW, ROWS_OF_T, ROWS_OF_D)?;
     for (many, few, slack, line) in CROWDS {
-        compare(&rt, rt.alloc(), &case, (many, few, slack), line)?;
+        let setup = setup_of(alloc, many, few, slack)?;
+        let text = by_threads(&rt, alloc, &case, &setup, &ByteRouter)?;
+        assert_eq!(rt; text.as_str(), line, "{many} and {few}");
     }
     Ok(())
 }

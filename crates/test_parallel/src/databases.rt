@@ -123,24 +123,13 @@ pub fn fill(
     }
 }
 
-// Fills a relation with the rows of a text that stand below a header.
-fn fill_below(
-    alloc: Global,
-    catalog: &Catalog,
-    database: &mut Database,
-    relation: usize,
-    header: &str,
-    rows: &str,
-) -> Result<(), Fail> {
-    let text = format!(in alloc; "{header}\n{rows}")?;
-    fill(alloc, catalog, database, relation, text.as_str())
-}
-
 /// A database of these rows.
 pub fn database_of(alloc: Global, rows_of_t: &str, rows_of_d: &str) -> Result<Database, Fail> {
     let catalog = Catalog::read(alloc, CATALOG.as_bytes())?;
     let mut database = Database::empty(alloc, &catalog)?;
-    fill_below(alloc, &catalog, &mut database, 0, "id,k,v", rows_of_t)?;
-    fill_below(alloc, &catalog, &mut database, 1, "k,n", rows_of_d)?;
+    let text = format!(in alloc; "id,k,v\n{rows_of_t}")?;
+    fill(alloc, &catalog, &mut database, 0, text.as_str())?;
+    let text = format!(in alloc; "k,n\n{rows_of_d}")?;
+    fill(alloc, &catalog, &mut database, 1, text.as_str())?;
     Ok(database)
 }

@@ -3,7 +3,6 @@
 
 use crate::cases::{case_of, wrong_runs};
 use std::alloc::{AllocError, Global};
-use std::process::Abort;
 use std::sync::Wait;
 use std::test::Fail;
 use std::thread::Threads;
@@ -52,36 +51,39 @@ const SORTED: [&str; 3] = [
     r#"{"sizes":["many","readers"],"total":true,"root":{"op":"exchange","kind":"gather","merge":["v","id"],"claim":{"part":"one","order":["v","id"],"keys":[["id"]]},"input":{"op":"exchange","kind":"hash","route":"h","columns":["k"],"merge":["v","id"],"size":"readers","claim":{"part":{"hash":"h","columns":["k"]},"order":["v","id"],"keys":[["id"]]},"input":{"op":"sort","columns":["v","id"],"claim":{"part":"any","order":["v","id"],"keys":[["id"]]},"input":T_SHARED}}}}"#,
 ];
 
-// The order of the rows by their numbers.
-#[derive(Clone, Copy)]
-enum Order {
-    Rising,
-    Falling,
+// Numbered rows: as they are loaded, and as they are shown, with their numbers rising and with their numbers falling.
+#[derive(Drop)]
+struct Numbered {
+    loaded: String,
+    rising: String,
+    falling: String,
 }
 
-// The rows with the numbers below a count, as they are loaded. The key of each is one of seven, and its value falls where its
-// number rises.
-fn loaded(alloc: Global, count: i64) -> Result<String, AllocError> {
-    let mut text = String::new(alloc);
+// The text that is loaded and the text that is shown of the row with a number. Its key is one of seven, and its value
+// falls where the number rises.
+fn row_texts(alloc: Global, number: i64) -> Result<(String, String), AllocError> {
+    let key = number % 7;
+    let value = 0i64.wrapping_sub(number);
+    let loaded = format!(in alloc; "{number},k{key},{value}\n")?;
+    let shown = format!(in alloc; "{number} 'k{key}' {value};")?;
+    Ok((loaded, shown))
+}
+
+// The rows with the numbers below a count.
+fn rows_below(alloc: Global, count: i64) -> Result<Numbered, AllocError> {
+    let mut rows = Numbered {
+        loaded: String::new(alloc),
+        rising: String::new(alloc),
+        falling: String::new(alloc),
+    };
     for number in 0..count {
-        let key = number % 7;
-        write!(text, "{number},k{key},{}\n", 0i64.wrapping_sub(number))?;
+        let (loaded, shown) = row_texts(alloc, number)?;
+        rows.loaded.push_str(loaded.as_str())?;
+        rows.rising.push_str(shown.as_str())?;
+        let falling = format!(in alloc; "{shown}{}", rows.falling)?;
+        rows.falling = falling;
     }
-    Ok(text)
-}
-
-// The same rows as they are shown, with their numbers rising or falling.
-fn shown(alloc: Global, count: i64, order: Order) -> Result<String, AllocError> {
-    let mut text = String::new(alloc);
-    for place in 0..count {
-        let number = match order {
-            Order::Rising => place,
-            Order::Falling => count - 1 - place,
-        };
-        let key = number % 7;
-        write!(text, "{number} 'k{key}' {};", 0i64.wrapping_sub(number))?;
-    }
-    Ok(text)
+    Ok(rows)
 }
 
 // So many workers scan, so many read, packets have so many rows, and rings room for so many packets.
@@ -116,47 +118,59 @@ fn first_wrong<T: Threads + Wait + Sync>(
     Ok(None)
 }
 
-// Compares what the plans come to with one setup with the rows that were sent, in an order of their numbers.
-fn compare_setup<T: Threads + Wait + Sync + Abort>(
-    rt: &T,
-    alloc: Global,
-    documents: &[&str],
-    sizes: (u32, u32, u32, u32, i64),
-    order: Order,
-) -> Result<(), Fail> {
-    let (many, readers, packet, slack, count) = sizes;
-    let setup = setup_of(alloc, many, readers, packet, slack)?;
-    let loaded = loaded(alloc, count)?;
-    let rows = shown(alloc, count, order)?;
-    let wrong = first_wrong(rt, alloc, documents, &setup, loaded.as_str(), rows.as_str())?;
-    assert_eq!(rt; wrong, None, "{many} {readers} {packet} {slack} {count}");
-    Ok(())
-}
-
-// Compares what the plans come to with all setups.
-fn compare<T: Threads + Wait + Sync + Abort>(
-    rt: &T,
-    alloc: Global,
-    documents: &[&str],
-    order: Order,
-) -> Result<(), Fail> {
-    for sizes in SETUPS {
-        compare_setup(rt, alloc, documents, sizes, order)?;
+#[test]
+fn exchanges_that_send_keep_the_rows(rt: HostRuntime) -> Result<(), Fail> {
+    let alloc = rt.alloc();
+    for (many, readers, packet, slack, count) in SETUPS {
+        let setup = setup_of(alloc, many, readers, packet, slack)?;
+        let rows = rows_below(alloc, count)?;
+        let wrong = first_wrong(
+            &rt,
+            alloc,
+            &SENT,
+            &setup,
+            rows.loaded.as_str(),
+            rows.rising.as_str(),
+        )?;
+        assert_eq!(rt; wrong, None, "{many} {readers} {packet} {slack} {count}");
     }
     Ok(())
 }
 
 #[test]
-fn exchanges_that_send_keep_the_rows(rt: HostRuntime) -> Result<(), Fail> {
-    compare(&rt, rt.alloc(), &SENT, Order::Rising)
-}
-
-#[test]
 fn exchanges_that_merge_keep_the_order(rt: HostRuntime) -> Result<(), Fail> {
-    compare(&rt, rt.alloc(), &MERGED, Order::Rising)
+    let alloc = rt.alloc();
+    for (many, readers, packet, slack, count) in SETUPS {
+        let setup = setup_of(alloc, many, readers, packet, slack)?;
+        let rows = rows_below(alloc, count)?;
+        let wrong = first_wrong(
+            &rt,
+            alloc,
+            &MERGED,
+            &setup,
+            rows.loaded.as_str(),
+            rows.rising.as_str(),
+        )?;
+        assert_eq!(rt; wrong, None, "{many} {readers} {packet} {slack} {count}");
+    }
+    Ok(())
 }
 
 #[test]
 fn sorted_streams_are_joined_and_merged_in_order(rt: HostRuntime) -> Result<(), Fail> {
-    compare(&rt, rt.alloc(), &SORTED, Order::Falling)
+    let alloc = rt.alloc();
+    for (many, readers, packet, slack, count) in SETUPS {
+        let setup = setup_of(alloc, many, readers, packet, slack)?;
+        let rows = rows_below(alloc, count)?;
+        let wrong = first_wrong(
+            &rt,
+            alloc,
+            &SORTED,
+            &setup,
+            rows.loaded.as_str(),
+            rows.falling.as_str(),
+        )?;
+        assert_eq!(rt; wrong, None, "{many} {readers} {packet} {slack} {count}");
+    }
+    Ok(())
 }

@@ -1,13 +1,10 @@
 //! What no clause says of workers that fail in threads: whatever fragment they are of, the run ends with their fault while
 //! the other workers still send, and none waits for ever.
 
-use crate::cases::{Case, case_of, wrong_runs};
+use crate::cases::{case_of, wrong_runs};
 use crate::databases::setup_of;
 use std::alloc::{AllocError, Global};
-use std::process::Abort;
-use std::sync::Wait;
 use std::test::Fail;
-use std::thread::Threads;
 use vx_exchange::ByteRouter;
 
 // How often each plan is run with each setup.
@@ -52,7 +49,8 @@ const TEAMS: [(u32, u32); 4] = [(1, 1), (2, 1), (3, 2), (8, 1)];
 fn rows_of_t(alloc: Global) -> Result<String, AllocError> {
     let mut text = String::from_str(alloc, "0,a,9223372036854775807\n1,a,1\n")?;
     for number in 0..OTHERS {
-        write!(text, "{},k{number},7\n", number.saturating_add(2))?;
+        let row = format!(in alloc; "{},k{number},7\n", number.saturating_add(2))?;
+        text.push_str(row.as_str())?;
     }
     Ok(text)
 }
@@ -61,39 +59,23 @@ fn rows_of_t(alloc: Global) -> Result<String, AllocError> {
 fn rows_of_d(alloc: Global) -> Result<String, AllocError> {
     let mut text = String::new(alloc);
     for number in 0..OTHERS {
-        write!(text, "k{number},{number}\n")?;
+        let row = format!(in alloc; "k{number},{number}\n")?;
+        text.push_str(row.as_str())?;
     }
     Ok(text)
 }
 
-// The plan of a document over these rows.
-fn failing(alloc: Global, document: &str) -> Result<Case, Fail> {
-    let rows_of_t = rows_of_t(alloc)?;
-    let rows_of_d = rows_of_d(alloc)?;
-    case_of(alloc, document, rows_of_t.as_str(), rows_of_d.as_str())
-}
-
-// Compares what runs of a case with a team come to.
-fn compare<T: Threads + Wait + Sync + Abort>(
-    rt: &T,
-    alloc: Global,
-    case: &Case,
-    team: (u32, u32),
-    line: &str,
-) -> Result<(), AllocError> {
-    let (many, slack) = team;
-    let setup = setup_of(alloc, many, 1, 2, slack)?;
-    let wrong = wrong_runs(rt, alloc, case, &setup, &ByteRouter, line, RUNS)?;
-    assert_eq!(rt; wrong, 0, "{line} {many} {slack}");
-    Ok(())
-}
-
 #[test]
 fn no_worker_waits_for_one_that_failed(rt: HostRuntime) -> Result<(), Fail> {
+    let alloc = rt.alloc();
+    let rows_of_t = rows_of_t(alloc)?;
+    let rows_of_d = rows_of_d(alloc)?;
     for (document, line) in FAILING {
-        let case = failing(rt.alloc(), document)?;
-        for team in TEAMS {
-            compare(&rt, rt.alloc(), &case, team, line)?;
+        let case = case_of(alloc, document, rows_of_t.as_str(), rows_of_d.as_str())?;
+        for (many, slack) in TEAMS {
+            let setup = setup_of(alloc, many, 1, 2, slack)?;
+            let wrong = wrong_runs(&rt, alloc, &case, &setup, &ByteRouter, line, RUNS)?;
+            assert_eq!(rt; wrong, 0, "{line} {many} {slack}");
         }
     }
     Ok(())

@@ -1,11 +1,12 @@
 //! What no clause says of the plans to measure on: in threads they come to the rows of their serial evaluation, those that
 //! put rows together by hundreds to what was worked out by hand, and one of them with sizes of all kinds.
 
+ghost use Rattle.std.specs.Prelude.{◌≤◌};
+
 use crate::cases::{Case, agrees, by_threads, serially, wrong_runs};
 use crate::databases::{accepted, fill, setup_of};
 use crate::draws::Draws;
 use std::alloc::{AllocError, Global};
-use std::process::Abort;
 use std::sync::Wait;
 use std::test::Fail;
 use std::thread::Threads;
@@ -46,80 +47,55 @@ fn plan_of_query(alloc: Global, query: u32) -> Result<CheckedPlan, Fail> {
     }
 }
 
-// The plan of a query over the relations.
-fn only_case_of_query(alloc: Global, query: u32) -> Result<Case, Fail> {
-    let catalog = Catalog::read(alloc, catalog().as_bytes())?;
-    Ok(Case {
-        plan: plan_of_query(alloc, query)?,
-        database: filled(alloc, &catalog)?,
-    })
-}
-
 /// The plan of a query over the relations, and its rows by serial evaluation.
 pub fn case_of_query(alloc: Global, query: u32) -> Result<(Case, String), Fail> {
-    let case = only_case_of_query(alloc, query)?;
+    let catalog = Catalog::read(alloc, catalog().as_bytes())?;
+    let case = Case {
+        plan: plan_of_query(alloc, query)?,
+        database: filled(alloc, &catalog)?,
+    };
     let rows = serially(alloc, &case)?;
     Ok((case, rows))
 }
 
-// Compares what three runs of a case come to with its serial rows.
-fn compare_serial<T: Threads + Wait + Sync + Abort>(
-    rt: &T,
-    alloc: Global,
-    case: &Case,
-    query: u32,
-) -> Result<(), Fail> {
-    let rows = serially(alloc, case)?;
-    let setup = setup_of(alloc, 4, 256, 1024, 8)?;
-    let wrong = wrong_runs(rt, alloc, case, &setup, &ByteRouter, rows.as_str(), 3)?;
-    assert_eq!(rt; wrong, 0, "query {query}");
-    Ok(())
-}
-
-#[test]
-fn queries_come_to_their_serial_rows(rt: HostRuntime) -> Result<(), Fail> {
-    let mut case = only_case_of_query(rt.alloc(), 1)?;
-    for query in 1..14 {
-        case.plan = plan_of_query(rt.alloc(), query)?;
-        compare_serial(&rt, rt.alloc(), &case, query)?;
-    }
-    Ok(())
-}
-
-// Queries whose rows were worked out by hand: for each p from 0 to 99 a row of p, and a factor times p and some more.
-const BY_PERCENT: [(u32, u64, u64); 3] = [(10, 1, 0), (11, 100, 495_000), (12, 100, 495_000)];
-
-// The rows of p, and `factor` times p and `more`.
-fn by_percent(alloc: Global, factor: u64, more: u64) -> Result<String, AllocError> {
+// For each p from 0 to 99 a row: p, and `factor` times p and `more`.
+fn by_percent(alloc: Global, factor: u64, more: u64) -> Result<String, AllocError>
+    requires { (factor ≤ 1000) × (more ≤ 1000000) }
+{
     let mut text = String::new(alloc);
     for p in 0..100u64 {
-        let value = factor.saturating_mul(p).saturating_add(more);
-        write!(text, "{p} {value};")?;
+        let value = factor * p + more;
+        let row = format!(in alloc; "{p} {value};")?;
+        text.push_str(row.as_str())?;
     }
     Ok(text)
 }
 
-// Compares what a case comes to with rows in their order.
-fn compare<T: Threads + Wait + Sync + Abort>(
-    rt: &T,
-    alloc: Global,
-    case: &Case,
-    query: u32,
-    rows: &str,
-) -> Result<(), AllocError> {
+#[test]
+fn queries_come_to_their_serial_rows(rt: HostRuntime) -> Result<(), Fail> {
+    let alloc = rt.alloc();
+    let (mut case, _) = case_of_query(alloc, 1)?;
     let setup = setup_of(alloc, 4, 256, 1024, 8)?;
-    let text = by_threads(rt, alloc, case, &setup, &ByteRouter)?;
-    assert_eq!(rt; text.as_str(), rows, "query {query}");
+    for query in 1..14 {
+        case.plan = plan_of_query(alloc, query)?;
+        let rows = serially(alloc, &case)?;
+        let wrong = wrong_runs(&rt, alloc, &case, &setup, &ByteRouter, rows.as_str(), 3)?;
+        assert_eq!(rt; wrong, 0, "query {query}");
+    }
     Ok(())
 }
 
 #[test]
 fn aggregates_come_to_what_was_worked_out_by_hand(rt: HostRuntime) -> Result<(), Fail> {
-    let mut case = only_case_of_query(rt.alloc(), 10)?;
-    for (query, factor, more) in BY_PERCENT {
-        case.plan = plan_of_query(rt.alloc(), query)?;
-        let rows = by_percent(rt.alloc(), factor, more)?;
-        compare(&rt, rt.alloc(), &case, query, rows.as_str())?;
+    let alloc = rt.alloc();
+    let (mut case, _) = case_of_query(alloc, 10)?;
+    let setup = setup_of(alloc, 4, 256, 1024, 8)?;
+    let least = by_percent(alloc, 1, 0)?;
+    let sums = by_percent(alloc, 100, 495_000)?;
+    for (query, rows) in [(10, &least), (11, &sums), (12, &sums)] {
+        case.plan = plan_of_query(alloc, query)?;
+        let text = by_threads(&rt, alloc, &case, &setup, &ByteRouter)?;
+        assert_eq!(rt; text.as_str(), rows.as_str(), "query {query}");
     }
     Ok(())
 }
@@ -150,8 +126,11 @@ fn wrong_of_drawn<T: Threads + Wait + Sync>(
 
 #[test]
 fn drawn_sizes_change_no_row(rt: HostRuntime) -> Result<(), Fail> {
-    let (case, rows) = case_of_query(rt.alloc(), 10)?;
-    let wrong = wrong_of_drawn(&rt, rt.alloc(), &case, rows.as_str(), DRAWN_RUNS)?;
-    assert_eq!(rt; wrong, 0);
+    let alloc = rt.alloc();
+    let (case, rows) = case_of_query(alloc, 10)?;
+    assert_eq!(rt;
+        wrong_of_drawn(&rt, alloc, &case, rows.as_str(), DRAWN_RUNS)?,
+        0
+    );
     Ok(())
 }

@@ -1,15 +1,14 @@
 //! What no clause says of worked plans in threads: with teams, packets and rings of any size they come to the rows that
 //! were worked out by hand, or to the fault of the group that overflows.
 
-use crate::cases::{Case, agrees, by_threads, by_threads_within, case_of, wrong_runs};
+use crate::cases::{agrees, by_threads, by_threads_within, case_of, wrong_runs};
 use crate::databases::{LARGE, ROWS_OF_D, ROWS_OF_T, TOO_LARGE, ToFirst, setup_of};
 use crate::gates::DrawCount;
 use crate::plans::{
     COUNTED, COUNTED_BY_ONE, GROUPED, GROUPED_ROWS, JOINED, JOINED_ROWS, JOINED_SUMS, MERGED,
     SELECTED, SELECTED_ROWS, SENT_TO_MEET,
 };
-use std::alloc::{AllocError, Global};
-use std::process::Abort;
+use std::alloc::Global;
 use std::sync::Wait;
 use std::test::Fail;
 use std::thread::Threads;
@@ -78,54 +77,15 @@ fn worked_plans_come_to_their_rows(rt: HostRuntime) -> Result<(), Fail> {
     Ok(())
 }
 
-// The sums by the key over the rows of both relations.
-fn grouped(alloc: Global) -> Result<Case, Fail> {
-    case_of(alloc, GROUPED, ROWS_OF_T, ROWS_OF_D)
-}
-
-// Compares what 64 workers of each group come to where one of them has every key.
-fn compare_many<T: Threads + Wait + Sync + Abort>(
-    rt: &T,
-    alloc: Global,
-    case: &Case,
-    slack: u32,
-) -> Result<(), AllocError> {
-    let setup = setup_of(alloc, 64, 1, 1, slack)?;
-    let text = by_threads(rt, alloc, case, &setup, &ToFirst)?;
-    assert_eq!(rt; text.as_str(), GROUPED_ROWS);
-    Ok(())
-}
-
 #[test]
 fn of_64_workers_one_has_every_key(rt: HostRuntime) -> Result<(), Fail> {
-    let case = grouped(rt.alloc())?;
+    let alloc = rt.alloc();
+    let case = case_of(alloc, GROUPED, ROWS_OF_T, ROWS_OF_D)?;
     for slack in [1, 4] {
-        compare_many(&rt, rt.alloc(), &case, slack)?;
+        let setup = setup_of(alloc, 64, 1, 1, slack)?;
+        let text = by_threads(&rt, alloc, &case, &setup, &ToFirst)?;
+        assert_eq!(rt; text.as_str(), GROUPED_ROWS);
     }
-    Ok(())
-}
-
-// Workers of each group, the rows of a packet and of a morsel, and the slack.
-type Sizes = (u32, u32, u32, u32);
-
-// Compares what a case comes to in at most so many threads, and how many numbers its workers drew, and how often nothing was
-// left.
-fn compare_within<T: Threads + Wait + Sync + Abort>(
-    rt: &T,
-    alloc: Global,
-    case: &Case,
-    sizes: Sizes,
-    most: u32,
-    line: &str,
-    draws: (u64, u64),
-) -> Result<(), AllocError> {
-    let (many, packet, morsel, slack) = sizes;
-    let setup = setup_of(alloc, many, packet, morsel, slack)?;
-    let gate = DrawCount::new();
-    let text = by_threads_within(rt, alloc, case, &setup, &ByteRouter, &gate, most)?;
-    let is_right = agrees(alloc, case, text.as_str(), line)?;
-    assert!(rt; is_right, "{text} in {most}");
-    assert_eq!(rt; gate.draws(), draws, "{most}");
     Ok(())
 }
 
@@ -134,29 +94,38 @@ fn no_worker_draws_where_fewer_threads_are_allowed_than_it_takes(
     rt: HostRuntime,
 ) -> Result<(), Fail> {
     let alloc = rt.alloc();
-    let case = grouped(alloc)?;
-    let sizes = (3, 1, 1, 4);
+    let case = case_of(alloc, GROUPED, ROWS_OF_T, ROWS_OF_D)?;
+    let setup = setup_of(alloc, 3, 1, 1, 4)?;
     // Three workers group, three scan, and one is at the root.
     for most in 0..7 {
-        compare_within(&rt, alloc, &case, sizes, most, "X9 NoThread", (0, 0))?;
+        let gate = DrawCount::new();
+        let text = by_threads_within(&rt, alloc, &case, &setup, &ByteRouter, &gate, most)?;
+        assert_eq!(rt; text.as_str(), "X9 NoThread", "{most}");
+        assert_eq!(rt; gate.draws(), (0, 0), "{most}");
     }
-    compare_within(&rt, alloc, &case, sizes, 7, GROUPED_ROWS, (4, 3))?;
+    let gate = DrawCount::new();
+    let text = by_threads_within(&rt, alloc, &case, &setup, &ByteRouter, &gate, 7)?;
+    assert!(rt; agrees(alloc, &case, text.as_str(), GROUPED_ROWS)?);
+    assert_eq!(rt; gate.draws(), (4, 3));
     Ok(())
 }
 
-// Setups that are refused, and the line of each refusal.
-const REFUSED: [(Sizes, &str); 4] = [
-    ((65, 1, 1, 4), "X2 SizeOutOfRange name=many"),
-    ((3, 0, 1, 4), "X3 BadPacket"),
-    ((3, 1, 0, 4), "X4 BadMorsel"),
-    ((3, 1, 1, 0), "X14 BadSlack"),
-];
-
 #[test]
 fn a_setup_is_tested_before_the_threads_are_counted(rt: HostRuntime) -> Result<(), Fail> {
-    let case = grouped(rt.alloc())?;
-    for (sizes, line) in REFUSED {
-        compare_within(&rt, rt.alloc(), &case, sizes, 0, line, (0, 0))?;
+    let alloc = rt.alloc();
+    let case = case_of(alloc, GROUPED, ROWS_OF_T, ROWS_OF_D)?;
+    let gate = DrawCount::new();
+    for (sizes, line) in [
+        ((65, 1, 1, 4), "X2 SizeOutOfRange name=many"),
+        ((3, 0, 1, 4), "X3 BadPacket"),
+        ((3, 1, 0, 4), "X4 BadMorsel"),
+        ((3, 1, 1, 0), "X14 BadSlack"),
+    ] {
+        let (many, packet, morsel, slack) = sizes;
+        let setup = setup_of(alloc, many, packet, morsel, slack)?;
+        let text = by_threads_within(&rt, alloc, &case, &setup, &ByteRouter, &gate, 0)?;
+        assert_eq!(rt; text.as_str(), line);
     }
+    assert_eq!(rt; gate.draws(), (0, 0));
     Ok(())
 }

@@ -4,8 +4,7 @@
 ghost use Rattle.std.specs.Prelude.{◌≤◌};
 
 use crate::texts::{HEADER, text_of};
-use std::alloc::{AllocError, Global};
-use std::process::Abort;
+use std::alloc::Global;
 use std::test::Fail;
 use vx_bytes::MemoryIn;
 use vx_catalog::{Catalog, Database, Loader, format_rows};
@@ -33,16 +32,14 @@ fn fill(
     }
 }
 
-// How many rows each relation has.
-const ROWS: [u64; 4] = [10_000, 10_000, 1000, 1000];
-
 // The relations with the numbers of rows that the results are for.
 fn filled(alloc: Global) -> Result<Database, Fail> {
     let catalog = Catalog::read(alloc, catalog().as_bytes())?;
     let mut database = Database::empty(alloc, &catalog)?;
-    for (relation, rows) in ROWS.iter().enumerate() {
-        fill(alloc, &mut database, &catalog, relation, *rows)?;
-    }
+    fill(alloc, &mut database, &catalog, 0, 10_000)?;
+    fill(alloc, &mut database, &catalog, 1, 10_000)?;
+    fill(alloc, &mut database, &catalog, 2, 1000)?;
+    fill(alloc, &mut database, &catalog, 3, 1000)?;
     Ok(database)
 }
 
@@ -67,32 +64,16 @@ fn result_of(alloc: Global, database: &Database, query: u32) -> Result<String, F
     Ok(String::from_utf8(format_rows(alloc, names.as_slice(), &rows)?)?)
 }
 
-// The plans that need not be total.
-const NOT_TOTAL: [u32; 4] = [3, 5, 7, 8];
-
 #[test]
 fn plans_are_total_where_they_are_to_be(rt: HostRuntime) -> Result<(), Fail> {
     let alloc = rt.alloc();
     let catalog = Catalog::read(alloc, catalog().as_bytes())?;
     for query in 1..14 {
         let plan = checked(alloc, &catalog, query)?;
-        assert_eq!(rt; plan.plan().is_total(), !NOT_TOTAL.contains(&query));
+        assert_eq!(rt; plan.plan().is_total(), ![3, 5, 7, 8].contains(&query));
     }
     assert!(rt; plan(0).is_none());
     assert!(rt; plan(14).is_none());
-    Ok(())
-}
-
-// Compares the text of the rows of a query with a text.
-fn compare(
-    rt: &impl Abort,
-    alloc: Global,
-    database: &Database,
-    query: u32,
-    text: &str,
-) -> Result<(), Fail> {
-    let got = result_of(alloc, database, query)?;
-    assert_eq!(rt; got.as_str(), text, "query {query}");
     Ok(())
 }
 
@@ -102,61 +83,34 @@ fn cut(alloc: Global, from: usize, to: usize) -> Result<String, Fail> {
     let mut cut = format!(in alloc; "{HEADER}\n")?;
     for (i, line) in text.lines().enumerate() {
         if from < i && i <= to {
-            write!(cut, "{line}\n")?;
+            cut.push_str(line)?;
+            cut.push('\n')?;
         }
     }
     Ok(cut)
-}
-
-// Compares the rows of a query with those from `from` to `to`, without `to`, of 10,000.
-fn compare_cut(
-    rt: &impl Abort,
-    alloc: Global,
-    database: &Database,
-    query: u32,
-    from: usize,
-    to: usize,
-) -> Result<(), Fail> {
-    let text = cut(alloc, from, to)?;
-    compare(rt, alloc, database, query, text.as_str())
 }
 
 #[test]
 fn selections_are_cut_out(rt: HostRuntime) -> Result<(), Fail> {
     let alloc = rt.alloc();
     let database = filled(alloc)?;
-    compare_cut(&rt, alloc, &database, 1, 0, 100)?;
-    compare_cut(&rt, alloc, &database, 2, 792, 1792)
+    let hundred = result_of(alloc, &database, 1)?;
+    assert_eq!(rt; hundred.as_str(), cut(alloc, 0, 100)?.as_str());
+    let thousand = result_of(alloc, &database, 2)?;
+    assert_eq!(rt; thousand.as_str(), cut(alloc, 792, 1792)?.as_str());
+    Ok(())
 }
 
 // The lines of two texts side by side, as far as both go.
-fn beside(alloc: Global, left: &str, right: &str) -> Result<String, AllocError> {
+fn beside(alloc: Global, left: &str, right: &str) -> Result<String, Fail> {
     let mut text = String::new(alloc);
     for (a, b) in left.lines().zip(right.lines()) {
-        write!(text, "{a},{b}\n")?;
+        text.push_str(a)?;
+        text.push(',')?;
+        text.push_str(b)?;
+        text.push('\n')?;
     }
     Ok(text)
-}
-
-// The first thousand rows of 10,000, each beside itself.
-fn twice(alloc: Global) -> Result<String, Fail> {
-    let thousand = cut(alloc, 0, 1000)?;
-    Ok(beside(alloc, thousand.as_str(), thousand.as_str())?)
-}
-
-// The lines of a text beside those of a relation of a thousand rows.
-fn with_small(alloc: Global, left: String) -> Result<String, Fail> {
-    let small = text_of(alloc, 1000)?;
-    Ok(beside(alloc, left.as_str(), small.as_str())?)
-}
-
-// The rows of each query that joins, below a header.
-fn joined(alloc: Global, query: u32) -> Result<String, Fail> {
-    match query {
-        3 => twice(alloc),
-        4 => with_small(alloc, cut(alloc, 0, 1000)?),
-        _ => with_small(alloc, twice(alloc)?),
-    }
 }
 
 // What stands below the header.
@@ -167,29 +121,24 @@ fn below_header(text: &str) -> &str {
     }
 }
 
-// Compares the rows of a query that joins with those that are laid side by side.
-fn compare_joined(
-    rt: &impl Abort,
-    alloc: Global,
-    database: &Database,
-    query: u32,
-) -> Result<(), Fail> {
-    let rows = joined(alloc, query)?;
-    let got = result_of(alloc, database, query)?;
-    assert_eq!(rt;
-        below_header(got.as_str()),
-        below_header(rows.as_str()),
-        "query {query}"
-    );
-    Ok(())
-}
-
 #[test]
 fn joins_lay_equal_rows_side_by_side(rt: HostRuntime) -> Result<(), Fail> {
-    let database = filled(rt.alloc())?;
-    for query in 3..6 {
-        compare_joined(&rt, rt.alloc(), &database, query)?;
-    }
+    let alloc = rt.alloc();
+    let database = filled(alloc)?;
+    let thousand = cut(alloc, 0, 1000)?;
+    let small = text_of(alloc, 1000)?;
+    let twice = beside(alloc, thousand.as_str(), thousand.as_str())?;
+    let both = beside(alloc, thousand.as_str(), small.as_str())?;
+    let three = beside(alloc, twice.as_str(), small.as_str())?;
+    let routed = result_of(alloc, &database, 3)?;
+    assert_eq!(rt; below_header(routed.as_str()), below_header(twice.as_str()));
+    let matched = result_of(alloc, &database, 4)?;
+    assert_eq!(rt; below_header(matched.as_str()), below_header(both.as_str()));
+    let matched_twice = result_of(alloc, &database, 5)?;
+    assert_eq!(rt;
+        below_header(matched_twice.as_str()),
+        below_header(three.as_str())
+    );
     Ok(())
 }
 
@@ -198,57 +147,44 @@ fn merged_joins_have_the_list_of_the_hashed(rt: HostRuntime) -> Result<(), Fail>
     let alloc = rt.alloc();
     let database = filled(alloc)?;
     let matched = result_of(alloc, &database, 4)?;
-    compare(&rt, alloc, &database, 6, matched.as_str())?;
-    compare(&rt, alloc, &database, 13, matched.as_str())
+    assert_eq!(rt; result_of(alloc, &database, 6)?.as_str(), matched.as_str());
+    assert_eq!(rt; result_of(alloc, &database, 13)?.as_str(), matched.as_str());
+    Ok(())
 }
-
-// Queries for distinct rows, and how many lines their texts have.
-const LINES: [(u32, usize); 2] = [(7, 201), (8, 10_001)];
 
 #[test]
 fn distinct_pairs_are_counted(rt: HostRuntime) -> Result<(), Fail> {
-    let database = filled(rt.alloc())?;
-    for (query, lines) in LINES {
-        let text = result_of(rt.alloc(), &database, query)?;
-        assert_eq!(rt; text.lines().count(), lines);
-    }
+    let alloc = rt.alloc();
+    let database = filled(alloc)?;
+    let pairs = result_of(alloc, &database, 7)?;
+    assert_eq!(rt; pairs.lines().count(), 201);
+    let unique = result_of(alloc, &database, 8)?;
+    assert_eq!(rt; unique.lines().count(), 10_001);
     Ok(())
 }
 
 // A header and a line for each p from 0 to 99: p, and `factor` times p and `more`.
-fn by_percent(alloc: Global, header: &str, factor: u64, more: u64) -> Result<String, AllocError>
+fn by_percent(alloc: Global, header: &str, factor: u64, more: u64) -> Result<String, Fail>
     requires { (factor ≤ 1000) × (more ≤ 1000000) }
 {
     let mut text = format!(in alloc; "{header}\n")?;
     for p in 0..100u64 {
         let value = factor * p + more;
-        write!(text, "{p},{value}\n")?;
+        let line = format!(in alloc; "{p},{value}\n")?;
+        text.push_str(line.as_str())?;
     }
     Ok(text)
-}
-
-// Compares the text of the rows of a query with such a header and such lines.
-fn compare_by_percent(
-    rt: &impl Abort,
-    alloc: Global,
-    database: &Database,
-    query: u32,
-    header: &str,
-    factor: u64,
-    more: u64,
-) -> Result<(), Fail>
-    requires { (factor ≤ 1000) × (more ≤ 1000000) }
-{
-    let text = by_percent(alloc, header, factor, more)?;
-    compare(rt, alloc, database, query, text.as_str())
 }
 
 #[test]
 fn aggregates_are_as_worked_out_by_hand(rt: HostRuntime) -> Result<(), Fail> {
     let alloc = rt.alloc();
     let database = filled(alloc)?;
-    compare(&rt, alloc, &database, 9, "m\n0\n")?;
-    compare_by_percent(&rt, alloc, &database, 10, "onePercent,m", 1, 0)?;
-    compare_by_percent(&rt, alloc, &database, 11, "onePercent,s", 100, 495_000)?;
-    compare_by_percent(&rt, alloc, &database, 12, "onePercent,s", 100, 495_000)
+    assert_eq!(rt; result_of(alloc, &database, 9)?.as_str(), "m\n0\n");
+    let least = by_percent(alloc, "onePercent,m", 1, 0)?;
+    assert_eq!(rt; result_of(alloc, &database, 10)?.as_str(), least.as_str());
+    let sums = by_percent(alloc, "onePercent,s", 100, 495_000)?;
+    assert_eq!(rt; result_of(alloc, &database, 11)?.as_str(), sums.as_str());
+    assert_eq!(rt; result_of(alloc, &database, 12)?.as_str(), sums.as_str());
+    Ok(())
 }

@@ -1,7 +1,6 @@
 //! What no clause says of the texts: values that were worked out by hand, and the refusals.
 
 use std::alloc::Global;
-use std::process::Abort;
 use std::test::Fail;
 use vx_bytes::MemoryOut;
 use vx_wisconsin::{GenerateFault, generate};
@@ -26,17 +25,12 @@ fn lines_of(alloc: Global, text: &str) -> Result<Vec<&str>, Fail> {
     Ok(lines)
 }
 
-// Compares the text of so many rows with the header and what stands below it.
-fn compare(rt: &impl Abort, alloc: Global, rows: u64, below: &str) -> Result<(), Fail> {
-    let text = format!(in alloc; "{HEADER}\n{below}")?;
-    let got = text_of(alloc, rows)?;
-    assert_eq!(rt; got.as_str(), text.as_str());
-    Ok(())
-}
-
 #[test]
 fn no_rows_are_the_header_alone(rt: HostRuntime) -> Result<(), Fail> {
-    compare(&rt, rt.alloc(), 0, "")
+    let alloc = rt.alloc();
+    let text = text_of(alloc, 0)?;
+    assert_eq!(rt; text.as_str(), format!(in alloc; "{HEADER}\n")?.as_str());
+    Ok(())
 }
 
 // What lines of texts with so many rows begin with, or end in.
@@ -77,7 +71,13 @@ pub const SMALL: &str =
 
 #[test]
 fn four_rows_are_whole(rt: HostRuntime) -> Result<(), Fail> {
-    compare(&rt, rt.alloc(), 4, SMALL)
+    let alloc = rt.alloc();
+    let text = text_of(alloc, 4)?;
+    assert_eq!(rt;
+        text.as_str(),
+        format!(in alloc; "{HEADER}\n{SMALL}")?.as_str()
+    );
+    Ok(())
 }
 
 #[test]
