@@ -5,7 +5,7 @@ use std::process::Abort;
 use std::sync::Arc;
 use std::test::Fail;
 use vx_bytes::{MemoryIn, MemoryOut};
-use vx_catalog::{Catalog, Database, Loaded, Loader, format_rows, write_rows};
+use vx_catalog::{Catalog, Database, Loader, format_rows, write_rows};
 use vx_rows::Table;
 use vx_views::Rows;
 
@@ -21,30 +21,6 @@ const TWO_KEYS: &str =
 // Rows of that relation.
 const TEXT: &[u8] = b"id,k,v\n0,a,5\n1,b,7\n2,a,-2\n3,c,7\n";
 
-// A database of rows that were loaded.
-fn filled(alloc: Global, catalog: &Catalog, loaded: Loaded) -> Result<Database, Fail> {
-    let mut database = Database::empty(alloc, catalog)?;
-    match database.put(loaded) {
-        Ok(()) => Ok(database),
-        Err(_) => Err(Fail::new("the rows are of this catalog")),
-    }
-}
-
-// The rows of relation 0 as they are written again, or the refusal. The writer has room for so many bytes.
-fn written(alloc: Global, database: &Database, room: usize) -> Result<String, Fail> {
-    let catalog = database.catalog();
-    if catalog.is_empty() {
-        return Err(Fail::new("the catalog has no relations"));
-    }
-    let count = database.rows(0).len();
-    let rows = Rows::of(alloc, database.table(0), 0, count)?;
-    let mut writer = MemoryOut::new(alloc, 10, room);
-    match write_rows(alloc, catalog.get(0).names(), &rows, &mut writer) {
-        Ok(()) => Ok(String::from_utf8(Vec::from_slice(alloc, writer.bytes())?)?),
-        Err(fault) => Ok(format!(in alloc; "{fault}")?),
-    }
-}
-
 // What relation 0 of a catalog answers to a text: its rows as they are written again, or the refusal. The reader fails
 // after so many bytes, and the writer has room for so many.
 fn answer(
@@ -58,8 +34,20 @@ fn answer(
     if catalog.is_empty() {
         return Err(Fail::new("the catalog has no relations"));
     }
-    match Loader::load(alloc, &catalog, 0, &mut MemoryIn::new(text, fails_after)) {
-        Ok(loaded) => written(alloc, &filled(alloc, &catalog, loaded)?, room),
+    let mut reader = MemoryIn::new(text, fails_after);
+    let loaded = match Loader::load(alloc, &catalog, 0, &mut reader) {
+        Ok(loaded) => loaded,
+        Err(fault) => return Ok(format!(in alloc; "{fault}")?),
+    };
+    let mut database = Database::empty(alloc, &catalog)?;
+    if database.put(loaded).is_err() {
+        return Err(Fail::new("the rows are of this catalog"));
+    }
+    let count = database.rows(0).len();
+    let rows = Rows::of(alloc, database.table(0), 0, count)?;
+    let mut writer = MemoryOut::new(alloc, 10, room);
+    match write_rows(alloc, catalog.get(0).names(), &rows, &mut writer) {
+        Ok(()) => Ok(String::from_utf8(Vec::from_slice(alloc, writer.bytes())?)?),
         Err(fault) => Ok(format!(in alloc; "{fault}")?),
     }
 }
@@ -215,22 +203,17 @@ fn shared_rows(alloc: Global, catalog: &Catalog) -> Result<Arc<Table>, Fail> {
     Ok(Arc::try_clone(database.table(0))?)
 }
 
-// The text of the relation's rows.
-fn formatted(alloc: Global, rows: &Arc<Table>) -> Result<Vec<u8>, Fail> {
-    let names = Catalog::read(alloc, KEYED.as_bytes())?;
-    if names.is_empty() {
-        return Err(Fail::new("the catalog has no relations"));
-    }
-    let seen = Rows::of(alloc, rows, 0, rows.len())?;
-    Ok(format_rows(alloc, names.get(0).names(), &seen)?)
-}
-
 #[test]
 fn shared_rows_outlive_their_database(rt: HostRuntime) -> Result<(), Fail> {
     let alloc = rt.alloc();
     let catalog = Catalog::read(alloc, KEYED.as_bytes())?;
     let rows = shared_rows(alloc, &catalog.share()?)?;
-    let text = formatted(alloc, &rows)?;
+    let names = Catalog::read(alloc, KEYED.as_bytes())?;
+    if names.is_empty() {
+        return Err(Fail::new("the catalog has no relations"));
+    }
+    let seen = Rows::of(alloc, &rows, 0, rows.len())?;
+    let text = format_rows(alloc, names.get(0).names(), &seen)?;
     assert_eq!(rt; text.as_slice(), TEXT);
     Ok(())
 }

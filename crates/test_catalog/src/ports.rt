@@ -1,49 +1,30 @@
 //! Ports for bytes, over memory that fails at a byte and over readers and writers of std.
 
-use std::alloc::Global;
-use std::process::Abort;
 use std::test::Fail;
 use vx_bytes::{
     Broken, ByteIn, ByteOut, MemoryIn, MemoryOut, ReadFault, Real, read_all, write_all,
 };
 
-const SIX: &[u8] = b"abcdef";
-
-// The most bytes that are to be read of six, after how many the reader fails, and what is read.
-const READS: [(usize, Option<usize>, Result<&[u8], ReadFault>); 3] = [
-    (6, None, Ok(SIX)),
-    (5, None, Err(ReadFault::TooLarge)),
-    (6, Some(3), Err(ReadFault::Broken)),
-];
-
-// Compares what is read of a reader.
-fn compare_read<I: ByteIn>(
-    rt: &impl Abort,
-    alloc: Global,
-    reader: &mut I,
-    most: usize,
-    read: Result<&[u8], ReadFault>,
-) {
-    match (read_all(alloc, reader, most), read) {
-        (Ok(got), Ok(bytes)) => assert_eq!(rt; got.as_slice(), bytes),
-        (Err(got), Err(fault)) => assert_eq!(rt; got, fault),
-        _ => assert!(rt;
-            false,
-            "bytes are read where they are to be refused, or the other way round"
-        ),
-    }
-}
-
 #[test]
 fn bytes_are_read_whole_or_refused(rt: HostRuntime) -> Result<(), Fail> {
-    for (most, fails_after, read) in READS {
-        let mut reader = MemoryIn::new(SIX, fails_after);
-        compare_read(&rt, rt.alloc(), &mut reader, most, read);
-        if fails_after.is_some() {
-            assert!(rt; reader.failed());
-            assert_eq!(rt; reader.read(&mut [0]), Err(Broken));
-        }
-    }
+    let alloc = rt.alloc();
+    let mut whole = MemoryIn::new(b"abcdef", None);
+    assert_eq!(rt;
+        read_all(alloc, &mut whole, 6)?.as_slice(),
+        b"abcdef".as_slice()
+    );
+    let mut large = MemoryIn::new(b"abcdef", None);
+    assert_eq!(rt;
+        read_all(alloc, &mut large, 5).err(),
+        Some(ReadFault::TooLarge)
+    );
+    let mut failing = MemoryIn::new(b"abcdef", Some(3));
+    assert_eq!(rt;
+        read_all(alloc, &mut failing, 6).err(),
+        Some(ReadFault::Broken)
+    );
+    assert!(rt; failing.failed());
+    assert_eq!(rt; failing.read(&mut [0]), Err(Broken));
     Ok(())
 }
 
@@ -60,8 +41,11 @@ fn bytes_are_written_up_to_the_room(rt: HostRuntime) -> Result<(), Fail> {
 #[test]
 fn readers_and_writers_of_std_are_ports(rt: HostRuntime) -> Result<(), Fail> {
     let alloc = rt.alloc();
-    let mut real_in = Real::new(SIX);
-    compare_read(&rt, alloc, &mut real_in, 6, Ok(SIX));
+    let mut real_in = Real::new(b"abcdef".as_slice());
+    assert_eq!(rt;
+        read_all(alloc, &mut real_in, 6)?.as_slice(),
+        b"abcdef".as_slice()
+    );
     let mut real_out = Real::new(Vec::new(alloc));
     assert_eq!(rt; write_all(&mut real_out, b"abc"), Ok(()));
     assert!(rt; !real_out.failed());

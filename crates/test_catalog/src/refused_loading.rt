@@ -64,38 +64,23 @@ impl From<WriteFault> for Stopped {
     }
 }
 
-// A database of the rows of a text.
-fn database_of(alloc: Global, text: &[u8]) -> Result<Database, Stopped> {
+// The rows of a text, loaded, put into a database and written again, into memory that is there before.
+fn again(alloc: Global, text: &[u8]) -> Result<Vec<u8>, Stopped> {
+    let mut written = Vec::with_capacity(alloc, 100)?;
     let catalog = Catalog::read(alloc, SMALL.as_bytes())?;
     if catalog.is_empty() {
         return Err(Stopped::Other);
     }
     let loaded = Loader::load(alloc, &catalog, 0, &mut MemoryIn::new(text, None))?;
     let mut database = Database::empty(alloc, &catalog)?;
-    match database.put(loaded) {
-        Ok(()) => Ok(database),
-        Err(_) => Err(Stopped::Other),
-    }
-}
-
-// Writes the rows of a database behind what was written.
-fn write(alloc: Global, database: &Database, mut written: Vec<u8>) -> Result<Vec<u8>, Stopped> {
-    let catalog = database.catalog();
-    if catalog.is_empty() {
+    if database.put(loaded).is_err() {
         return Err(Stopped::Other);
     }
+    let mut writer = Real::new(&mut written);
     let count = database.rows(0).len();
     let rows = Rows::of(alloc, database.table(0), 0, count)?;
-    let mut writer = Real::new(&mut written);
     write_rows(alloc, catalog.get(0).names(), &rows, &mut writer)?;
     Ok(written)
-}
-
-// The rows of a text, loaded, put into a database and written again, into memory that is there before.
-fn again(alloc: Global, text: &[u8]) -> Result<Vec<u8>, Stopped> {
-    let written = Vec::with_capacity(alloc, 100)?;
-    let database = database_of(alloc, text)?;
-    write(alloc, &database, written)
 }
 
 // Whether an answer is the usual one. It is that, or want of memory.

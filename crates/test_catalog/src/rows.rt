@@ -65,24 +65,17 @@ fn take_all<R: Abort>(rt: &R, alloc: Global, rows: &mut Table) -> Result<(), Fai
     Ok(())
 }
 
-// Lets a copy of rows grow.
-fn compare_grown<R: Abort>(rt: &R, alloc: Global, rows: &Table) -> Result<(), Fail>
-    requires { rows.now.types ≡ kind.Int ∷ kind.Text ∷ [] }
-{
-    assert_eq!(rt; rows.len(), 4);
-    let mut more = rows.copy(alloc)?;
-    push(rt, alloc, &mut more)?;
-    grow(&mut more, rows)?;
-    compare(rt, alloc, &more, GROWN)?;
-    take_all(rt, alloc, &mut more)
-}
-
 #[test]
 fn rows_grow(rt: HostRuntime) -> Result<(), Fail> {
     let alloc = rt.alloc();
     let rows = sample(alloc)?;
     compare(&rt, alloc, &rows, SAMPLE)?;
-    compare_grown(&rt, alloc, &rows)
+    let mut more = rows.copy(alloc)?;
+    push(&rt, alloc, &mut more)?;
+    assert_eq!(rt; rows.len(), 4);
+    grow(&mut more, &rows)?;
+    compare(&rt, alloc, &more, GROWN)?;
+    take_all(&rt, alloc, &mut more)
 }
 
 #[test]
@@ -135,28 +128,14 @@ fn rows_are_sorted(rt: HostRuntime) -> Result<(), Fail> {
     compare_order(&rt, alloc, &rows, &[1], &[0, 1, 3, 2])
 }
 
-// Compares the first clash of a key of these columns.
-fn compare_clash<R: Abort>(
-    rt: &R,
-    alloc: Global,
-    rows: &Table,
-    columns: &[usize],
-    clash: Option<(usize, usize)>,
-) -> Result<(), Fail>
-    requires { AreColumns (length rows.now.types) columns.now }
-{
-    let found = rows.first_key_clash(alloc, columns)?;
-    assert_eq!(rt; found, clash);
-    Ok(())
-}
-
 #[test]
 fn keys_clash(rt: HostRuntime) -> Result<(), Fail> {
     let alloc = rt.alloc();
     let rows = sample(alloc)?;
-    compare_clash(&rt, alloc, &rows, &[0], None)?;
-    compare_clash(&rt, alloc, &rows, &[1], Some((1, 3)))?;
-    compare_clash(&rt, alloc, &rows, &[], Some((0, 1)))
+    assert_eq!(rt; rows.first_key_clash(alloc, &[0])?, None);
+    assert_eq!(rt; rows.first_key_clash(alloc, &[1])?, Some((1, 3)));
+    assert_eq!(rt; rows.first_key_clash(alloc, &[])?, Some((0, 1)));
+    Ok(())
 }
 
 // Notes the first row of each text, and leaves the last text as the key.

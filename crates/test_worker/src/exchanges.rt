@@ -1,10 +1,10 @@
 //! The ends of exchanges: what is sent, what is taken, and who is a stranger.
 
-ghost use Rattle.std.specs.Prelude.{◌≡◌, [], ◌∷◌, true, IfOk};
+ghost use Rattle.std.specs.Prelude.{◌≡◌, ◌<◌, [], ◌∷◌, length, IfOk};
 ghost use Rattle.vx_values.specs.declared.value.ColType.{ColType as ExchangeKind};
 ghost use Rattle.vx_exchange.specs.Sender.{sender_is_open};
 
-use crate::routers::{ToFirst, give};
+use crate::routers::ToFirst;
 use std::alloc::{AllocError, Global};
 use std::process::Abort;
 use std::test::Fail;
@@ -23,31 +23,6 @@ fn numbers(alloc: Global, n: i64) -> Result<Rows, AllocError>
         rows.push(&[Value::Int(i + 1)])?;
     }
     Ok(Rows::of_table(alloc, rows)?)
-}
-
-// A receiver of exchange 3, at a place among the consumers, from so many producers.
-fn receiver_of(alloc: Global, to: u32, producers: u32) -> Result<Receiver, AllocError> {
-    let types = [ColType::Int].to_vec(alloc)?;
-    Receiver::new(alloc, 3, to, producers, types)
-}
-
-// A packet of two rows.
-fn rows_packet(
-    rt: &impl Abort,
-    alloc: Global,
-    exchange: u32,
-    from: u32,
-    to: u32,
-) -> Result<Packet, AllocError> {
-    let rows = numbers(alloc, 2)?;
-    assert_eq!(rt; rows.len(), 2);
-    Ok(Packet::of_rows(exchange, from, to, rows))
-}
-
-// The packet after the last row.
-fn last_packet(alloc: Global, exchange: u32, from: u32, to: u32) -> Result<Packet, AllocError> {
-    let none = Rows::new(alloc, &[ColType::Int])?;
-    Ok(Packet::closing(exchange, from, to, Ending::Last, none))
 }
 
 // A receiver's turn with a packet, or with none.
@@ -77,53 +52,36 @@ fn is_stranger(polled: Polled, exchange: u32) -> bool {
 
 #[test]
 fn names_its_own_exchange_for_a_stranger(rt: HostRuntime) -> Result<(), Fail> {
-    let mut receiver = receiver_of(rt.alloc(), 0, 1)?;
-    let stranger = rows_packet(&rt, rt.alloc(), 5, 0, 0)?;
+    let alloc = rt.alloc();
+    let types = [ColType::Int].to_vec(alloc)?;
+    let mut receiver = Receiver::new(alloc, 3, 0, 1, types)?;
+    let rows = numbers(alloc, 2)?;
+    assert_eq!(rt; rows.len(), 2);
+    let stranger = Packet::of_rows(5, 0, 0, rows);
     assert!(rt; is_stranger(turn(&rt, &mut receiver, Some(stranger)), 3));
     assert_eq!(rt; receiver.wants(), Want::Nothing);
     assert!(rt; is_stranger(turn(&rt, &mut receiver, None), 3));
     Ok(())
 }
 
-// What a turn is to answer.
-#[derive(Clone, Copy)]
-enum Answer {
-    Rows,
-    Waiting,
-    End,
-}
-
-// Whether this is the answer.
-fn is_answer(polled: Polled, answer: Answer) -> bool {
-    match (polled, answer) {
-        (Polled::Gave(_), Answer::Rows) => true,
-        (Polled::Waiting, Answer::Waiting) => true,
-        (Polled::End, Answer::End) => true,
-        _ => false,
-    }
-}
-
-// Compares the answer of a receiver to a packet, or to none.
-fn compare(rt: &impl Abort, receiver: &mut Receiver, packet: Option<Packet>, answer: Answer) {
-    let polled = turn(rt, receiver, packet);
-    assert!(rt; is_answer(polled, answer));
-}
-
 #[test]
 fn ends_after_both_producers(rt: HostRuntime) -> Result<(), Fail> {
     let alloc = rt.alloc();
-    let mut receiver = receiver_of(alloc, 4, 2)?;
+    let types = [ColType::Int].to_vec(alloc)?;
+    let mut receiver = Receiver::new(alloc, 3, 4, 2, types)?;
+    let rows = numbers(alloc, 2)?;
+    assert_eq!(rt; rows.len(), 2);
     assert_eq!(rt; receiver.wants(), Want::Packet(0));
-    let rows = rows_packet(&rt, alloc, 3, 0, 4)?;
-    compare(&rt, &mut receiver, Some(rows), Answer::Rows);
+    let first = turn(&rt, &mut receiver, Some(Packet::of_rows(3, 0, 4, rows)));
+    assert!(rt; matches!(first, Polled::Gave(_)));
     assert_eq!(rt; receiver.wants(), Want::Packet(1));
-    let last = last_packet(alloc, 3, 1, 4)?;
-    compare(&rt, &mut receiver, Some(last), Answer::Waiting);
+    let last = Packet::closing(3, 1, 4, Ending::Last, Rows::new(alloc, &[ColType::Int])?);
+    assert!(rt; matches!(turn(&rt, &mut receiver, Some(last)), Polled::Waiting));
     assert_eq!(rt; receiver.wants(), Want::Packet(0));
-    compare(&rt, &mut receiver, None, Answer::Waiting);
-    let last = last_packet(alloc, 3, 0, 4)?;
-    compare(&rt, &mut receiver, Some(last), Answer::End);
-    compare(&rt, &mut receiver, None, Answer::End);
+    assert!(rt; matches!(turn(&rt, &mut receiver, None), Polled::Waiting));
+    let last = Packet::closing(3, 0, 4, Ending::Last, Rows::new(alloc, &[ColType::Int])?);
+    assert!(rt; matches!(turn(&rt, &mut receiver, Some(last)), Polled::End));
+    assert!(rt; matches!(turn(&rt, &mut receiver, None), Polled::End));
     Ok(())
 }
 
@@ -141,18 +99,13 @@ fn next_size(sender: &mut Sender) -> i64
     }
 }
 
-// A gather of packets of two rows that has accepted five rows.
-fn gather_of_five(alloc: Global) -> Result<Sender, AllocError>
-    ensures { IfOk result (λ s. sender_is_open s ≡ true) }
-{
-    let mut sender = Sender::new(alloc, 3, 0, 1, 2, &[ColType::Int], Deal::Gather)?;
-    give(&mut sender, &ToFirst, numbers(alloc, 5)?)?;
-    Ok(sender)
-}
-
 #[test]
 fn cuts_rows_into_packets(rt: HostRuntime) -> Result<(), Fail> {
-    let mut sender = gather_of_five(rt.alloc())?;
+    let alloc = rt.alloc();
+    let mut sender = Sender::new(alloc, 3, 0, 1, 2, &[ColType::Int], Deal::Gather)?;
+    let rows = numbers(alloc, 5)?;
+    assert_eq!(rt; rows.len(), 5);
+    sender.accept(&ToFirst, Polled::Gave(rows))?;
     sender.accept(&ToFirst, Polled::End)?;
     for size in [2, 2, 1, 0, -2] {
         assert_eq!(rt; next_size(&mut sender), size);
@@ -162,7 +115,11 @@ fn cuts_rows_into_packets(rt: HostRuntime) -> Result<(), Fail> {
 
 #[test]
 fn gives_fault_in_place_of_last(rt: HostRuntime) -> Result<(), Fail> {
-    let mut sender = gather_of_five(rt.alloc())?;
+    let alloc = rt.alloc();
+    let mut sender = Sender::new(alloc, 3, 0, 1, 2, &[ColType::Int], Deal::Gather)?;
+    let rows = numbers(alloc, 5)?;
+    assert_eq!(rt; rows.len(), 5);
+    sender.accept(&ToFirst, Polled::Gave(rows))?;
     assert_eq!(rt; next_size(&mut sender), 2);
     sender.accept(&ToFirst, Polled::Fault(Fault::Passed))?;
     assert_eq!(rt; next_size(&mut sender), -1);
@@ -170,18 +127,17 @@ fn gives_fault_in_place_of_last(rt: HostRuntime) -> Result<(), Fail> {
     Ok(())
 }
 
-// A collector that has accepted five rows, two rows, and their end.
-fn collected(alloc: Global) -> Result<Collector, AllocError> {
-    let mut collector = Collector::new(alloc, &[ColType::Int])?;
-    give(&mut collector, &ToFirst, numbers(alloc, 5)?)?;
-    give(&mut collector, &ToFirst, numbers(alloc, 2)?)?;
-    collector.accept(&ToFirst, Polled::End)?;
-    Ok(collector)
-}
-
 #[test]
 fn keeps_all_rows(rt: HostRuntime) -> Result<(), Fail> {
-    let mut collector = collected(rt.alloc())?;
+    let alloc = rt.alloc();
+    let mut collector = Collector::new(alloc, &[ColType::Int])?;
+    let rows = numbers(alloc, 5)?;
+    assert_eq!(rt; rows.len(), 5);
+    collector.accept(&ToFirst, Polled::Gave(rows))?;
+    let rows = numbers(alloc, 2)?;
+    assert_eq!(rt; rows.len(), 2);
+    collector.accept(&ToFirst, Polled::Gave(rows))?;
+    collector.accept(&ToFirst, Polled::End)?;
     assert!(rt; collector.next().is_none());
     assert_eq!(rt; collector.into_rows().len(), 7);
     Ok(())

@@ -5,7 +5,6 @@ ghost use Rattle.vx_values.specs.declared.value.ColType.{ColType as rust_type};
 ghost use Rattle.vx_rows.specs.View.{AreColumns};
 ghost use Rattle.vx_exchange.specs.Lanes.{serves, columns_of};
 
-use crate::routers::give;
 use std::alloc::{AllocError, Global};
 use std::process::Abort;
 use std::test::Fail;
@@ -76,38 +75,6 @@ fn numbers(alloc: Global, count: u32) -> Result<Rows, AllocError>
     Ok(Rows::of_table(alloc, rows)?)
 }
 
-// The numbers 0, 1, and so on in two parts.
-fn halves(alloc: Global, count: u32) -> Result<(Rows, Rows), AllocError>
-    ensures first { IfOk result (λ h. h.0.types ≡ rust_type.Int ∷ []) }
-    ensures rest { IfOk result (λ h. h.1.types ≡ rust_type.Int ∷ []) }
-{
-    let rows = numbers(alloc, count)?;
-    let half = rows.len() / 2;
-    let first = rows.slice(alloc, 0, half)?;
-    Ok((first, rows.slice(alloc, half, rows.len())?))
-}
-
-// A sending end that has accepted the numbers 0, 1, and so on in two parts, and their end.
-fn filled(
-    alloc: Global,
-    deal: Deal,
-    consumers: u32,
-    size: usize,
-    count: u32,
-) -> Result<Sender, AllocError>
-    requires served { serves deal consumers ≡ true }
-    requires columns { AreColumns 1 (columns_of deal) }
-    requires some { 1 ≤ size }
-    requires few { size ≤ 4096 }
-{
-    let (first, rest) = halves(alloc, count)?;
-    let mut sender = Sender::new(alloc, 3, 0, consumers, size, &[ColType::Int], deal)?;
-    give(&mut sender, &ByteRouter, first)?;
-    give(&mut sender, &ByteRouter, rest)?;
-    sender.accept(&ByteRouter, Polled::End)?;
-    Ok(sender)
-}
-
 // What comes of the numbers 0, 1, and so on, which are accepted in two parts.
 fn run_sender(
     rt: &impl Abort,
@@ -122,7 +89,18 @@ fn run_sender(
     requires some { 1 ≤ size }
     requires few { size ≤ 4096 }
 {
-    let mut sender = filled(alloc, deal, consumers, size, count)?;
+    let mut sender = Sender::new(alloc, 3, 0, consumers, size, &[ColType::Int], deal)?;
+    let rows = numbers(alloc, count)?;
+    let half = rows.len() / 2;
+    let first = rows.slice(alloc, 0, half)?;
+    let rest = rows.slice(alloc, half, rows.len())?;
+    if !first.is_empty() {
+        sender.accept(&ByteRouter, Polled::Gave(first))?;
+    }
+    if !rest.is_empty() {
+        sender.accept(&ByteRouter, Polled::Gave(rest))?;
+    }
+    sender.accept(&ByteRouter, Polled::End)?;
     let mut found = Sent {
         rows: Vec::new(alloc),
         largest: 0,
@@ -233,31 +211,16 @@ fn a_broadcast_sends_all_rows_to_each(rt: HostRuntime) -> Result<(), Fail> {
     Ok(())
 }
 
-// Compares what a gather or a concat sends with all rows.
-fn compare_to_one(
-    rt: &impl Abort,
-    alloc: Global,
-    deal: Deal,
-    size: usize,
-    count: u32,
-) -> Result<(), Fail>
-    requires served { serves deal 1 ≡ true }
-    requires columns { AreColumns 1 (columns_of deal) }
-    requires some { 1 ≤ size }
-    requires few { size ≤ 4096 }
-{
-    let found = run_sender(rt, alloc, deal, 1, size, count)?;
-    assert_eq!(rt; found.rows.len(), count as usize);
-    assert!(rt; are_at_each(found.rows.as_slice(), count));
-    Ok(())
-}
-
 #[test]
 fn a_gather_and_a_concat_send_all_rows_to_one(rt: HostRuntime) -> Result<(), Fail> {
     for (_consumers, size, count) in CASES {
         assert!(rt; 1 <= size && size <= 4096);
-        compare_to_one(&rt, rt.alloc(), Deal::Gather, size, count)?;
-        compare_to_one(&rt, rt.alloc(), Deal::Concat, size, count)?;
+        let gathered = run_sender(&rt, rt.alloc(), Deal::Gather, 1, size, count)?;
+        assert_eq!(rt; gathered.rows.len(), count as usize);
+        assert!(rt; are_at_each(gathered.rows.as_slice(), count));
+        let joined = run_sender(&rt, rt.alloc(), Deal::Concat, 1, size, count)?;
+        assert_eq!(rt; joined.rows.len(), count as usize);
+        assert!(rt; are_at_each(joined.rows.as_slice(), count));
     }
     Ok(())
 }
@@ -335,16 +298,14 @@ fn a_bound_is_the_first_value_of_its_range(rt: HostRuntime) -> Result<(), Fail> 
     Ok(())
 }
 
-// The consumer of three that the byte router names for a text.
-fn routed(alloc: Global, text: &str) -> Result<u32, AllocError> {
-    let key = [Value::Text(String::from_str(alloc, text)?)];
-    Ok(ByteRouter.route("h", &key, 3))
-}
-
 #[test]
 fn the_byte_router_sends_three_keys_apart(rt: HostRuntime) -> Result<(), Fail> {
-    for (text, consumer) in [("a", 0), ("b", 1), ("c", 2)] {
-        assert_eq!(rt; routed(rt.alloc(), text)?, consumer, "{text}");
-    }
+    let alloc = rt.alloc();
+    let a = [Value::Text(String::from_str(alloc, "a")?)];
+    let b = [Value::Text(String::from_str(alloc, "b")?)];
+    let c = [Value::Text(String::from_str(alloc, "c")?)];
+    assert_eq!(rt; ByteRouter.route("h", &a, 3), 0);
+    assert_eq!(rt; ByteRouter.route("h", &b, 3), 1);
+    assert_eq!(rt; ByteRouter.route("h", &c, 3), 2);
     Ok(())
 }

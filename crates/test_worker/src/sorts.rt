@@ -62,41 +62,22 @@ fn turn(rt: &impl Abort, sort: &mut Sort, input: Polled) -> Polled
     }
 }
 
-// Gives rows to a sort, which waits for more.
-fn compare_waiting(
-    rt: &impl Abort,
-    alloc: Global,
-    sort: &mut Sort,
-    numbers: &[i64],
-) -> Result<(), AllocError>
-    requires { (sort_types sort.old).left ≡ ExchangeKind.Int ∷ [] }
-    ensures { sort_types sort.new ≡ sort_types sort.old }
-{
-    let rows = rows_of(alloc, numbers)?;
-    assert_eq!(rt; rows.len(), 2);
-    let polled = turn(rt, sort, Polled::Gave(rows));
-    assert!(rt; matches!(polled, Polled::Waiting));
-    Ok(())
-}
-
-// Compares the answer of a sort after its end: nothing, again and again.
-fn compare_ended(rt: &impl Abort, sort: &mut Sort) {
-    for _ in 0..2 {
-        assert_eq!(rt; sort.wants(), Want::Nothing);
-        let polled = sort.turn(Got::Nothing);
-        assert!(rt; matches!(polled, Polled::End));
-    }
-}
-
 #[test]
 fn returns_rows_in_order_after_the_end(rt: HostRuntime) -> Result<(), Fail> {
     let alloc = rt.alloc();
     let mut sort = int_sort(alloc)?;
-    compare_waiting(&rt, alloc, &mut sort, &[3, 1])?;
+    let rows = rows_of(alloc, &[3, 1])?;
+    assert_eq!(rt; rows.len(), 2);
+    assert!(rt; matches!(turn(&rt, &mut sort, Polled::Gave(rows)), Polled::Waiting));
     assert!(rt; matches!(turn(&rt, &mut sort, Polled::Waiting), Polled::Waiting));
-    compare_waiting(&rt, alloc, &mut sort, &[2, 1])?;
+    let rows = rows_of(alloc, &[2, 1])?;
+    assert_eq!(rt; rows.len(), 2);
+    assert!(rt; matches!(turn(&rt, &mut sort, Polled::Gave(rows)), Polled::Waiting));
     assert!(rt; is_rows(turn(&rt, &mut sort, Polled::End), &[1, 1, 2, 3]));
-    compare_ended(&rt, &mut sort);
+    assert_eq!(rt; sort.wants(), Want::Nothing);
+    assert!(rt; matches!(sort.turn(Got::Nothing), Polled::End));
+    assert_eq!(rt; sort.wants(), Want::Nothing);
+    assert!(rt; matches!(sort.turn(Got::Nothing), Polled::End));
     Ok(())
 }
 
@@ -113,7 +94,9 @@ fn ends_at_once_where_no_rows_came(rt: HostRuntime) -> Result<(), Fail> {
 fn passes_a_fault_on_and_no_rows(rt: HostRuntime) -> Result<(), Fail> {
     let alloc = rt.alloc();
     let mut sort = int_sort(alloc)?;
-    compare_waiting(&rt, alloc, &mut sort, &[3, 1])?;
+    let rows = rows_of(alloc, &[3, 1])?;
+    assert_eq!(rt; rows.len(), 2);
+    assert!(rt; matches!(turn(&rt, &mut sort, Polled::Gave(rows)), Polled::Waiting));
     let fault = turn(&rt, &mut sort, Polled::Fault(Fault::Passed));
     assert!(rt; matches!(fault, Polled::Fault(Fault::Passed)));
     assert_eq!(rt; sort.wants(), Want::Nothing);

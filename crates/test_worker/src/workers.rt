@@ -8,7 +8,6 @@ ghost use Rattle.vx_worker.specs.Worker.{IsReady};
 
 use crate::routers::ToFirst;
 use std::alloc::{AllocError, Global};
-use std::process::Abort;
 use std::test::Fail;
 use vx_exchange::Collector;
 use vx_ops::{Code, Fault, Scan};
@@ -110,22 +109,13 @@ fn scanner(alloc: Global) -> Result<Worker<Scan, Collector>, AllocError>
     Ok(Worker::new(alloc, tree, sender, 7, Vec::new(alloc), Vec::new(alloc)))
 }
 
-// A worker that has ended over four morsels, of which one may be refused, and how many it drew.
-fn ended(
-    rt: &impl Abort,
-    alloc: Global,
-    refused: u64,
-) -> Result<(Worker<Scan, Collector>, u64), AllocError> {
-    let pages = three_rows(alloc, refused)?;
+#[test]
+fn scans_to_the_end(rt: HostRuntime) -> Result<(), Fail> {
+    let alloc = rt.alloc();
+    let pages = three_rows(alloc, 9)?;
     let mut worker = scanner(alloc)?;
     let mut wires = Numbers { next: 0, end: 4 };
     assert_eq!(rt; finish(&mut worker, &pages, &mut wires), Stepped::Ended);
-    Ok((worker, wires.next))
-}
-
-#[test]
-fn scans_to_the_end(rt: HostRuntime) -> Result<(), Fail> {
-    let (worker, _) = ended(&rt, rt.alloc(), 9)?;
     assert!(rt; matches!(worker.outcome(), Some(Outcome::Well)));
     assert_eq!(rt; worker.into_sender().into_rows().len(), 12);
     Ok(())
@@ -133,7 +123,11 @@ fn scans_to_the_end(rt: HostRuntime) -> Result<(), Fail> {
 
 #[test]
 fn fails_where_memory_is_refused(rt: HostRuntime) -> Result<(), Fail> {
-    let (worker, drawn) = ended(&rt, rt.alloc(), 2)?;
+    let alloc = rt.alloc();
+    let pages = three_rows(alloc, 2)?;
+    let mut worker = scanner(alloc)?;
+    let mut wires = Numbers { next: 0, end: 4 };
+    assert_eq!(rt; finish(&mut worker, &pages, &mut wires), Stepped::Ended);
     match worker.outcome() {
         Some(
             Outcome::Failed(
@@ -145,6 +139,6 @@ fn fails_where_memory_is_refused(rt: HostRuntime) -> Result<(), Fail> {
         ) => assert_eq!(rt; node, 7),
         _ => assert!(rt; false, "it failed"),
     }
-    assert_eq!(rt; drawn, 3);
+    assert_eq!(rt; wires.next, 3);
     Ok(())
 }
