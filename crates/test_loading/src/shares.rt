@@ -39,7 +39,7 @@ fn told(
 
 // Ways to share a text out, each for some numbers of threads: how many bytes a thread gets in a round, and how many bytes the first
 // line lies within. So short texts take many rounds, and lines are longer than a round.
-const SIZES: [(usize, usize); 6] = [(1, 8), (2, 8), (3, 16), (5, 16), (8, 11), (1000, 16)];
+const SIZES: [(usize, usize); 4] = [(1, 8), (3, 16), (8, 11), (1000, 16)];
 
 // Compares what relation 0 of a catalog answers to a text that is shared out in one way with what it answers otherwise.
 fn compare_shared<R: Abort + Threads + Sync>(
@@ -75,7 +75,7 @@ fn compare<R: Abort + Threads + Sync>(
     }
     let one = Loader::load(alloc, &catalog, 0, &mut MemoryIn::new(text, fails_after));
     let wanted = told(alloc, &catalog, one)?;
-    for threads in [1usize, 2, 3, 7, 16] {
+    for threads in [1usize, 2, 7] {
         for (block, least) in SIZES {
             let shares = Shares {
                 threads,
@@ -156,7 +156,6 @@ fn many(alloc: Global, count: usize) -> Result<String, Fail> {
     Ok(text)
 }
 
-// A text that a round of two threads does not hold: it is read in several.
 #[test]
 fn a_long_text_is_read_by_threads(rt: HostRuntime) -> Result<(), Fail> {
     let alloc = rt.alloc();
@@ -164,10 +163,32 @@ fn a_long_text_is_read_by_threads(rt: HostRuntime) -> Result<(), Fail> {
     if catalog.is_empty() {
         return Err(Fail::new("the catalog has no relations"));
     }
-    let text = many(alloc, 200_000)?;
+    let text = many(alloc, 20000)?;
     let mut reader = MemoryIn::new(text.as_bytes(), None);
-    let got = load_in_threads(&rt, alloc, &catalog, 0, 2, &mut reader);
+    let got = load_in_threads(&rt, alloc, &catalog, 0, 4, &mut reader);
     let got = told(alloc, &catalog, got)?;
     assert_eq!(&rt; got.as_str(), text.as_str());
     Ok(())
+}
+
+// Six rounds or so, each of which leaves a part of a line.
+#[test]
+fn a_long_text_is_read_in_several_rounds(rt: HostRuntime) -> Result<(), Fail> {
+    let alloc = rt.alloc();
+    let catalog = Catalog::read(alloc, KEYED.as_bytes())?;
+    let text = many(alloc, 20000)?;
+    let shares = Shares {
+        threads: 2,
+        block: 32 << 10,
+        least: 4 << 10,
+    };
+    compare_shared(
+        &rt,
+        alloc,
+        &catalog,
+        text.as_bytes(),
+        None,
+        shares,
+        text.as_str(),
+    )
 }

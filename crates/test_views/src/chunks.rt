@@ -1,38 +1,25 @@
 //! Chunks: cuts, places, projections and joins.
 
-use crate::cuts::{all_below, cells, copied, cut, five, picked, whole};
+use crate::cuts::{FIVE, Pairs, all_below, cells, copied, cut, of, picked};
 use std::alloc::{AllocError, Global};
-use std::sync::Arc;
+use std::process::Abort;
 use std::test::Fail;
-use test_tables::table;
-use vx_rows::{ColType, Table};
+use vx_rows::ColType;
 use vx_views::{Between, Chunk, PositionsRef};
 
-#[test]
-fn a_cut_shows_its_rows(rt: HostRuntime) -> Result<(), Fail> {
-    let alloc = rt.alloc();
-    let all = whole(alloc, &five(alloc)?)?;
-    let part = cut(alloc, &all, 1, 4)?;
-    assert_eq!(rt; cells(alloc, &part)?.as_str(), "2 'b';3 'c';4 'd';");
-    assert_eq!(rt; copied(alloc, &part)?.as_str(), "2 'b';3 'c';4 'd';");
-    let inner = cut(alloc, &part, 1, 2)?;
-    assert_eq!(rt; cells(alloc, &inner)?.as_str(), "3 'c';");
-    Ok(())
-}
-
-#[test]
-fn places_of_a_cut_count_from_its_first_row(rt: HostRuntime) -> Result<(), Fail> {
-    let alloc = rt.alloc();
-    let all = whole(alloc, &five(alloc)?)?;
-    let part = cut(alloc, &all, 1, 4)?;
-    let some = picked(alloc, &part, &[2, 0, 0])?;
-    assert_eq!(rt; cells(alloc, &some)?.as_str(), "4 'd';2 'b';2 'b';");
-    assert_eq!(rt; copied(alloc, &some)?.as_str(), "4 'd';2 'b';2 'b';");
-    let fewer = picked(alloc, &some, &[1])?;
-    assert_eq!(rt; cells(alloc, &fewer)?.as_str(), "2 'b';");
-    let last = cut(alloc, &some, 2, 3)?;
-    assert_eq!(rt; cells(alloc, &last)?.as_str(), "2 'b';");
-    Ok(())
+// What is made of the rows so far.
+#[derive(Clone, Copy)]
+enum Step<'a> {
+    // The rows from one place up to another.
+    Cut(usize, usize),
+    // The rows at these places.
+    Places(&'a [usize]),
+    // These columns.
+    Columns(&'a [usize]),
+    // The rows at the first places, with the rows of another table at the second places to their right.
+    Beside(&'a [usize], Pairs<'a>, &'a [usize]),
+    // The same, with the rows of the first table.
+    BesideFirst(&'a [usize], &'a [usize]),
 }
 
 // These columns, or all where one is too great.
@@ -41,18 +28,6 @@ fn projected(alloc: Global, chunk: Chunk, cols: &[usize]) -> Result<Chunk, Alloc
         return Ok(chunk.project(alloc, cols)?);
     }
     Ok(chunk)
-}
-
-#[test]
-fn a_projection_may_repeat_a_column(rt: HostRuntime) -> Result<(), Fail> {
-    let alloc = rt.alloc();
-    let all = whole(alloc, &five(alloc)?)?;
-    let part = picked(alloc, &all, &[4, 1])?;
-    let columns = projected(alloc, part, &[1, 0, 1])?;
-    assert_eq!(rt; columns.types().len(), 3);
-    assert_eq!(rt; cells(alloc, &columns)?.as_str(), "'e' 5 'e';'b' 2 'b';");
-    assert_eq!(rt; copied(alloc, &columns)?.as_str(), "'e' 5 'e';'b' 2 'b';");
-    Ok(())
 }
 
 // Rows side by side, or the left ones where a place is too great.
@@ -70,56 +45,172 @@ fn side_by_side(
     Ok(Chunk::joined(alloc, left, left_places, right, right_places)?)
 }
 
-#[test]
-fn a_join_lays_pairs_side_by_side(rt: HostRuntime) -> Result<(), Fail> {
-    let alloc = rt.alloc();
-    let left = whole(alloc, &five(alloc)?)?;
-    let other = Arc::new(alloc, table(alloc, &[(10, "x"), (20, "y")])?)?;
-    let right = whole(alloc, &other)?;
-    let pairs = side_by_side(alloc, &left, &[0, 2, 2], &right, &[1, 1, 0])?;
-    let text = "1 'a' 20 'y';3 'c' 20 'y';3 'c' 10 'x';";
-    assert_eq!(rt; cells(alloc, &pairs)?.as_str(), text);
-    assert_eq!(rt; copied(alloc, &pairs)?.as_str(), text);
-    let again = side_by_side(alloc, &pairs, &[2], &left, &[4])?;
-    assert_eq!(rt; cells(alloc, &again)?.as_str(), "3 'c' 10 'x' 5 'e';");
-    let columns = projected(alloc, again, &[5, 2])?;
-    assert_eq!(rt; cells(alloc, &columns)?.as_str(), "'e' 10;");
+// What a step makes of the rows so far, where `first` are those of the first table.
+fn followed(
+    alloc: Global,
+    first: &Chunk,
+    chunk: Chunk,
+    step: Step<'_>,
+) -> Result<Chunk, AllocError> {
+    match step {
+        Step::Cut(from, to) => cut(alloc, &chunk, from, to),
+        Step::Places(places) => picked(alloc, &chunk, places),
+        Step::Columns(columns) => projected(alloc, chunk, columns),
+        Step::Beside(places, pairs, others) => {
+            side_by_side(alloc, &chunk, places, &of(alloc, pairs)?, others)
+        }
+        Step::BesideFirst(places, others) => side_by_side(alloc, &chunk, places, first, others),
+    }
+}
+
+// What the steps make of the rows of a table, one after the other.
+fn made(alloc: Global, pairs: Pairs<'_>, steps: &[Step<'_>]) -> Result<Chunk, AllocError> {
+    let first = of(alloc, pairs)?;
+    let mut chunk = first.share(alloc)?;
+    for step in steps {
+        chunk = followed(alloc, &first, chunk, *step)?;
+    }
+    Ok(chunk)
+}
+
+// A table, steps, and how many columns and which rows come of them.
+type Case<'a> = (Pairs<'a>, &'a [Step<'a>], usize, &'a str);
+
+// Compares the rows of a chunk with a text: read cell by cell, and copied.
+fn compare_rows(
+    rt: &impl Abort,
+    alloc: Global,
+    chunk: &Chunk,
+    text: &str,
+) -> Result<(), AllocError> {
+    assert_eq!(rt; chunk.is_empty(), text.is_empty());
+    assert_eq!(rt; cells(alloc, chunk)?.as_str(), text);
+    assert_eq!(rt; copied(alloc, chunk)?.as_str(), text);
     Ok(())
 }
 
+// Compares what comes of each case with its columns and rows.
+fn compare(rt: &impl Abort, alloc: Global, cases: &[Case<'_>]) -> Result<(), AllocError> {
+    for (pairs, steps, columns, text) in cases {
+        let chunk = made(alloc, pairs, steps)?;
+        assert_eq!(rt; chunk.types().len(), *columns);
+        compare_rows(rt, alloc, &chunk, text)?;
+    }
+    Ok(())
+}
+
+const CUTS: [Case<'_>; 2] = [
+    (&FIVE, &[Step::Cut(1, 4)], 2, "2 'b';3 'c';4 'd';"),
+    (&FIVE, &[Step::Cut(1, 4), Step::Cut(1, 2)], 2, "3 'c';"),
+];
+
+#[test]
+fn a_cut_shows_its_rows(rt: HostRuntime) -> Result<(), Fail> {
+    Ok(compare(&rt, rt.alloc(), &CUTS)?)
+}
+
+const PLACED: [Case<'_>; 3] = [
+    (
+        &FIVE,
+        &[Step::Cut(1, 4), Step::Places(&[2, 0, 0])],
+        2,
+        "4 'd';2 'b';2 'b';",
+    ),
+    (
+        &FIVE,
+        &[
+            Step::Cut(1, 4),
+            Step::Places(&[2, 0, 0]),
+            Step::Places(&[1]),
+        ],
+        2,
+        "2 'b';",
+    ),
+    (
+        &FIVE,
+        &[Step::Cut(1, 4), Step::Places(&[2, 0, 0]), Step::Cut(2, 3)],
+        2,
+        "2 'b';",
+    ),
+];
+
+#[test]
+fn places_of_a_cut_count_from_its_first_row(rt: HostRuntime) -> Result<(), Fail> {
+    Ok(compare(&rt, rt.alloc(), &PLACED)?)
+}
+
+const PROJECTED: [Case<'_>; 1] = [(
+    &FIVE,
+    &[Step::Places(&[4, 1]), Step::Columns(&[1, 0, 1])],
+    3,
+    "'e' 5 'e';'b' 2 'b';",
+)];
+
+#[test]
+fn a_projection_may_repeat_a_column(rt: HostRuntime) -> Result<(), Fail> {
+    Ok(compare(&rt, rt.alloc(), &PROJECTED)?)
+}
+
+const TWO: [(i64, &str); 2] = [(10, "x"), (20, "y")];
+
+// Each of the five rows at 0, 2 and 2, with one of two others.
+const PAIRS: Step<'_> = Step::Beside(&[0, 2, 2], &TWO, &[1, 1, 0]);
+
+const JOINED: [Case<'_>; 3] = [
+    (
+        &FIVE,
+        &[PAIRS],
+        4,
+        "1 'a' 20 'y';3 'c' 20 'y';3 'c' 10 'x';",
+    ),
+    (
+        &FIVE,
+        &[PAIRS, Step::BesideFirst(&[2], &[4])],
+        6,
+        "3 'c' 10 'x' 5 'e';",
+    ),
+    (
+        &FIVE,
+        &[PAIRS, Step::BesideFirst(&[2], &[4]), Step::Columns(&[5, 2])],
+        2,
+        "'e' 10;",
+    ),
+];
+
+#[test]
+fn a_join_lays_pairs_side_by_side(rt: HostRuntime) -> Result<(), Fail> {
+    Ok(compare(&rt, rt.alloc(), &JOINED)?)
+}
+
+const NO_ROWS: [Case<'_>; 4] = [
+    (&[], &[], 2, ""),
+    (&FIVE, &[Step::Cut(5, 5)], 2, ""),
+    (&[], &[Step::Beside(&[], &FIVE, &[])], 4, ""),
+    (&FIVE, &[Step::Places(&[])], 2, ""),
+];
+
 #[test]
 fn no_rows_stay_none(rt: HostRuntime) -> Result<(), Fail> {
-    let alloc = rt.alloc();
-    let none = Arc::new(alloc, table(alloc, &[])?)?;
-    let empty = whole(alloc, &none)?;
-    assert!(rt; empty.is_empty());
-    let all = whole(alloc, &five(alloc)?)?;
-    let end = cut(alloc, &all, 5, 5)?;
-    assert!(rt; end.is_empty());
-    let joined = side_by_side(alloc, &empty, &[], &all, &[])?;
-    assert_eq!(rt; joined.types().len(), 4);
-    assert_eq!(rt; cells(alloc, &joined)?.as_str(), "");
-    assert_eq!(rt; copied(alloc, &end)?.as_str(), "");
-    assert_eq!(rt; copied(alloc, &picked(alloc, &all, &[])?)?.as_str(), "");
-    Ok(())
+    Ok(compare(&rt, rt.alloc(), &NO_ROWS)?)
+}
+
+// All rows, and the first, of a table that is let go, as are the rows that both were made of.
+fn outliving(alloc: Global) -> Result<(Chunk, Chunk), AllocError> {
+    let all = of(alloc, &FIVE)?;
+    Ok((all.share(alloc)?, cut(alloc, &all, 0, 1)?))
+}
+
+// Compares all rows, lets them go, and compares the first row.
+fn compare_outliving(rt: &impl Abort, alloc: Global) -> Result<(), AllocError> {
+    let (same, first) = outliving(alloc)?;
+    compare_rows(rt, alloc, &same, "1 'a';2 'b';3 'c';4 'd';5 'e';")?;
+    drop(same);
+    compare_rows(rt, alloc, &first, "1 'a';")
 }
 
 #[test]
 fn rows_outlive_the_handle_that_they_came_by(rt: HostRuntime) -> Result<(), Fail> {
-    let alloc = rt.alloc();
-    let base = five(alloc)?;
-    let all = whole(alloc, &base)?;
-    let first = cut(alloc, &all, 0, 1)?;
-    let same = all.share(alloc)?;
-    drop(all);
-    drop(base);
-    assert_eq!(rt;
-        cells(alloc, &same)?.as_str(),
-        "1 'a';2 'b';3 'c';4 'd';5 'e';"
-    );
-    drop(same);
-    assert_eq!(rt; cells(alloc, &first)?.as_str(), "1 'a';");
-    Ok(())
+    Ok(compare_outliving(&rt, rt.alloc())?)
 }
 
 // The places of the numbers from `least` to `most` of the first column, where it has numbers.
@@ -130,19 +221,30 @@ fn places(alloc: Global, chunk: &Chunk, least: i64, most: i64) -> Result<Vec<usi
     Ok(Vec::new(alloc))
 }
 
+// A table, steps, the least and the greatest number that are looked for in what comes of them, and the places.
+type Search<'a> = (Pairs<'a>, &'a [Step<'a>], i64, i64, &'a [usize]);
+
+// Compares the places that are found in each case.
+fn compare_places(rt: &impl Abort, alloc: Global, cases: &[Search<'_>]) -> Result<(), AllocError> {
+    for (pairs, steps, least, most, found) in cases {
+        let chunk = made(alloc, pairs, steps)?;
+        assert_eq!(rt; places(alloc, &chunk, *least, *most)?.as_slice(), *found);
+    }
+    Ok(())
+}
+
+const MIXED: [(i64, &str); 5] = [(5, "p"), (-3, "q"), (7, "r"), (0, "s"), (6, "t")];
+
+const IN_MIXED: [Search<'_>; 4] = [
+    (&MIXED, &[], 0, 6, &[0, 3, 4]),
+    (&MIXED, &[Step::Places(&[3, 2, 0])], 0, 6, &[0, 2]),
+    (&MIXED, &[Step::Places(&[3, 2, 0])], 6, 0, &[]),
+    (&MIXED, &[Step::Cut(5, 5)], -9, 9, &[]),
+];
+
 #[test]
 fn a_test_finds_places(rt: HostRuntime) -> Result<(), Fail> {
-    let alloc = rt.alloc();
-    let entries = [(5, "p"), (-3, "q"), (7, "r"), (0, "s"), (6, "t")];
-    let base = Arc::new(alloc, table(alloc, &entries)?)?;
-    let all = whole(alloc, &base)?;
-    assert_eq!(rt; places(alloc, &all, 0, 6)?.as_slice(), [0, 3, 4].as_slice());
-    let some = picked(alloc, &all, &[3, 2, 0])?;
-    assert_eq!(rt; places(alloc, &some, 0, 6)?.as_slice(), [0, 2].as_slice());
-    assert_eq!(rt; places(alloc, &some, 6, 0)?.len(), 0);
-    let end = cut(alloc, &all, 5, 5)?;
-    assert_eq!(rt; places(alloc, &end, -9, 9)?.len(), 0);
-    Ok(())
+    Ok(compare_places(&rt, rt.alloc(), &IN_MIXED)?)
 }
 
 // The number of row k of the first column, read where it lies.
@@ -161,48 +263,70 @@ fn number(chunk: &Chunk, k: usize) -> Option<i64> {
     Some(numbers.get(position))
 }
 
+// A table, steps, a row of what comes of them, and its number.
+type Read<'a> = (Pairs<'a>, &'a [Step<'a>], usize, i64);
+
+// Compares the number that is read in each case.
+fn compare_numbers(rt: &impl Abort, alloc: Global, cases: &[Read<'_>]) -> Result<(), AllocError> {
+    for (pairs, steps, row, read) in cases {
+        let chunk = made(alloc, pairs, steps)?;
+        assert_eq!(rt; number(&chunk, *row), Some(*read));
+    }
+    Ok(())
+}
+
+const OF_FIVE: [Read<'_>; 2] = [
+    (&FIVE, &[Step::Cut(2, 5)], 1, 4),
+    (&FIVE, &[Step::Places(&[4, 0])], 1, 1),
+];
+
 #[test]
 fn numbers_are_read_where_they_lie(rt: HostRuntime) -> Result<(), Fail> {
-    let alloc = rt.alloc();
-    let all = whole(alloc, &five(alloc)?)?;
-    assert_eq!(rt; number(&cut(alloc, &all, 2, 5)?, 1), Some(4));
-    assert_eq!(rt; number(&picked(alloc, &all, &[4, 0])?, 1), Some(1));
-    Ok(())
+    Ok(compare_numbers(&rt, rt.alloc(), &OF_FIVE)?)
 }
 
 // Rows whose numbers fit 32 bits up to the second, which does not.
-fn large(alloc: Global) -> Result<Arc<Table>, AllocError> {
-    let entries = [
-        (5, "p"),
-        (5_000_000_000, "q"),
-        (-3, "r"),
-        (-5_000_000_000, "s"),
-    ];
-    Ok(Arc::new(alloc, table(alloc, &entries)?)?)
-}
+const LARGE: [(i64, &str); 4] = [
+    (5, "p"),
+    (5_000_000_000, "q"),
+    (-3, "r"),
+    (-5_000_000_000, "s"),
+];
+
+const IN_LARGE: [Search<'_>; 2] = [
+    (&LARGE, &[], 5, 6_000_000_000, &[0, 1]),
+    (
+        &LARGE,
+        &[Step::Places(&[3, 1, 0])],
+        -6_000_000_000,
+        5,
+        &[0, 2],
+    ),
+];
+
+const OF_LARGE: [Read<'_>; 2] = [
+    (&LARGE, &[Step::Cut(1, 4)], 2, -5_000_000_000),
+    (&LARGE, &[Step::Places(&[3, 1, 0])], 1, 5_000_000_000),
+];
+
+const ALL_OF_LARGE: [Case<'_>; 2] = [
+    (
+        &LARGE,
+        &[],
+        2,
+        "5 'p';5000000000 'q';-3 'r';-5000000000 's';",
+    ),
+    (
+        &LARGE,
+        &[Step::Places(&[3, 1, 0])],
+        2,
+        "-5000000000 's';5000000000 'q';5 'p';",
+    ),
+];
 
 #[test]
 fn numbers_past_32_bits_are_tested_and_read(rt: HostRuntime) -> Result<(), Fail> {
-    let alloc = rt.alloc();
-    let all = whole(alloc, &large(alloc)?)?;
-    let some = picked(alloc, &all, &[3, 1, 0])?;
-    assert_eq!(rt;
-        places(alloc, &all, 5, 6_000_000_000)?.as_slice(),
-        [0, 1].as_slice()
-    );
-    assert_eq!(rt;
-        places(alloc, &some, -6_000_000_000, 5)?.as_slice(),
-        [0, 2].as_slice()
-    );
-    assert_eq!(rt; number(&cut(alloc, &all, 1, 4)?, 2), Some(-5_000_000_000));
-    assert_eq!(rt; number(&some, 1), Some(5_000_000_000));
-    assert_eq!(rt;
-        copied(alloc, &all)?.as_str(),
-        "5 'p';5000000000 'q';-3 'r';-5000000000 's';"
-    );
-    assert_eq!(rt;
-        copied(alloc, &some)?.as_str(),
-        "-5000000000 's';5000000000 'q';5 'p';"
-    );
-    Ok(())
+    compare_places(&rt, rt.alloc(), &IN_LARGE)?;
+    compare_numbers(&rt, rt.alloc(), &OF_LARGE)?;
+    Ok(compare(&rt, rt.alloc(), &ALL_OF_LARGE)?)
 }

@@ -2,7 +2,6 @@
 
 ghost use Rattle.std.specs.Prelude.{◌≡◌, ◌<◌, [], ◌∷◌, length, IfOk, IsTrue};
 ghost use Rattle.vx_values.specs.declared.value.ColType.TheVariants as kind;
-ghost use Rattle.std.specs.Arc.{arc_value};
 ghost use Rattle.vx_rows.specs.View.{ArePositions};
 
 use std::alloc::{AllocError, Global};
@@ -11,21 +10,19 @@ use test_tables::{shown, table};
 use vx_rows::{Cell, Table};
 use vx_views::Chunk;
 
-/// A table of five rows, shared.
-pub fn five(alloc: Global) -> Result<Arc<Table>, AllocError>
-    ensures { IfOk result (λ a. (arc_value a).types ≡ kind.Int ∷ kind.Text ∷ []) }
-{
-    let entries = [(1, "a"), (2, "b"), (3, "c"), (4, "d"), (5, "e")];
-    let rows = table(alloc, &entries)?;
-    Ok(Arc::new(alloc, rows)?)
-}
+/// The rows of a table: a number and a text each.
+pub type Pairs<'a> = &'a [(i64, &'a str)];
+
+/// Five rows.
+pub const FIVE: [(i64, &str); 5] = [(1, "a"), (2, "b"), (3, "c"), (4, "d"), (5, "e")];
 
 /// All rows of a table.
-pub fn whole(alloc: Global, base: &Arc<Table>) -> Result<Chunk, AllocError>
-    ensures { IfOk result (λ c. c.types ≡ (arc_value base.now).types) }
+pub fn of(alloc: Global, pairs: Pairs<'_>) -> Result<Chunk, AllocError>
+    ensures { IfOk result (λ c. c.types ≡ kind.Int ∷ kind.Text ∷ []) }
 {
+    let base = Arc::new(alloc, table(alloc, pairs)?)?;
     let count = base.len();
-    Ok(Chunk::of(alloc, base, 0, count)?)
+    Ok(Chunk::of(alloc, &base, 0, count)?)
 }
 
 /// The rows from `from` up to `to`, as far as there are such.

@@ -50,7 +50,7 @@ pub arguments_answer : (files : List ℕ → Stored) (input : Option (List ℕ))
     → AsksFor arguments ask → IfOk r (λ a. IsAskAnswer files input ask a) → IfOk r (λ a. IsArgumentAnswer files input arguments a)
 arguments_answer files input arguments ask (Ok (answer.Text text)) asked h = for_what_is_asked ask asked h
 arguments_answer files input arguments ask (Ok (answer.Relation rows)) asked h = let P : Ask → Type 0 = λ a. AsksFor arguments a in subst P h asked
-arguments_answer files input arguments ask (Ok (answer.Counted k)) asked h = (for_what_is_asked ask asked h.0, record { ask = ask; asked = asked; told = h.1 })
+arguments_answer files input arguments ask (Ok (answer.Counted k)) asked h = (for_what_is_asked ask asked h.0, record { ask = ask; asked = asked; reported = h.1 })
 arguments_answer files input arguments ask (Err e) asked h = tt
 
 -- and so does its refusal

@@ -10,4 +10,4 @@ pub mod SeenFacts
 pub mod PlansFacts
 pub mod SharesFacts
 pub mod StatsFacts
-pub mod ToldFacts
+pub mod StatsTextFacts

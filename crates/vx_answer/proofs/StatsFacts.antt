@@ -22,7 +22,7 @@ use Rattle.vx_answer.specs.Commands.{Holding, Lacking, IsShown, IsDatabaseFor, I
 use Rattle.vx_answer.specs.Files.{IsFilesPlan, IsFilesRefusal}
 use Rattle.vx_answer.specs.Plans.{NamedPlan, AreAnswers, title}
 use Rattle.vx_answer.specs.PlansView.{named_is}
-use Rattle.vx_answer.specs.Stats.{IsCountedRun, IsCountedPlan, TellsTask, IsRunMore, AreCountedRuns}
+use Rattle.vx_answer.specs.Stats.{IsCountedRun, IsCountedPlan, AreTaskStats, IsRunMore, AreCountedRuns}
 use Rattle.vx_answer.specs.declared.plans.AcceptedPlan.{AcceptedPlan}
 use Rattle.vx_answer.specs.declared.stats.Counted.{Counted}
 
@@ -53,11 +53,11 @@ planning_refused_or files reliable input failed t e h = elim h [
 pub is_run_over : (n : AcceptedPlan) (db : Database) (s : Setting) (text : List ℕ) (ws : List _) → IsCountedRun (typed_plan n.plan) db s text ws → IsRunOver (named_is n).plan db s text
 is_run_over n db s text ws h = (h.rows, h.sizes, h.set, h.run, h.is)
 
--- what is told of a task answers it
-pub tells_answers : (files : List ℕ → Stored) (input : Option (List ℕ)) (f : StatsForm) (paths : Paths) (folder : List ℕ) (s : Setting) (text opening : List ℕ)
-    → TellsTask files input f (record { command = command.Run; paths = paths; folder = folder; setting = s }) text opening
+-- what is reported of a task answers it
+pub stats_answer : (files : List ℕ → Stored) (input : Option (List ℕ)) (f : StatsForm) (paths : Paths) (folder : List ℕ) (s : Setting) (text opening : List ℕ)
+    → AreTaskStats files input f (record { command = command.Run; paths = paths; folder = folder; setting = s }) text opening
     → AnswersTask files input (record { command = command.Run; paths = paths; folder = folder; setting = s }) text
-tells_answers files input f paths folder s text opening h =
+stats_answer files input f paths folder s text opening h =
     let run = h.counted.run in
     (resolved_of h.plan, h.planned, h.shown, h.counted.db, h.counted.loaded, run.rows, run.sizes, run.set, run.run, run.is)
 
@@ -71,17 +71,17 @@ counted_answers f db s (n ∷ ns) text stats h =
     (first.own, h.2, is_run_over n db s first.own first.counts first.run, counted_answers f db s ns h.2 h.3 h.5, is)
 
 -- one counted run more
-counted_more : (f : StatsForm) (db : Database) (s : Setting) (ns : List AcceptedPlan) (n : AcceptedPlan) (text stats own told : List ℕ) → AreCountedRuns f db s ns text stats
-    → IsRunMore f db s n [] [] own told → AreCountedRuns f db s (ns ++ n ∷ []) (text ++ own) (stats ++ told)
-counted_more f db s [] n text stats own told h more =
-    (own, told, [], [], more, (refl, refl), ap (λ t. t ++ own) h.0 ∙ sym (append-nil own), ap (λ t. t ++ told) h.1 ∙ sym (append-nil told))
-counted_more f db s (m ∷ ms) n text stats own told h more =
-    (h.0, h.1, h.2 ++ own, h.3 ++ told, h.4, counted_more f db s ms n h.2 h.3 own told h.5 more, ap (λ t. t ++ own) h.6 ∙ append_assoc h.0 h.2 own, ap (λ t. t ++ told) h.7 ∙ append_assoc h.1 h.3 told)
+counted_more : (f : StatsForm) (db : Database) (s : Setting) (ns : List AcceptedPlan) (n : AcceptedPlan) (text stats own reported : List ℕ) → AreCountedRuns f db s ns text stats
+    → IsRunMore f db s n [] [] own reported → AreCountedRuns f db s (ns ++ n ∷ []) (text ++ own) (stats ++ reported)
+counted_more f db s [] n text stats own reported h more =
+    (own, reported, [], [], more, (refl, refl), ap (λ t. t ++ own) h.0 ∙ sym (append-nil own), ap (λ t. t ++ reported) h.1 ∙ sym (append-nil reported))
+counted_more f db s (m ∷ ms) n text stats own reported h more =
+    (h.0, h.1, h.2 ++ own, h.3 ++ reported, h.4, counted_more f db s ms n h.2 h.3 own reported h.5 more, ap (λ t. t ++ own) h.6 ∙ append_assoc h.0 h.2 own, ap (λ t. t ++ reported) h.7 ∙ append_assoc h.1 h.3 reported)
 
 -- the first plans, and one more
-pub counted_grow : (f : StatsForm) (db : Database) (s : Setting) (ns : List AcceptedPlan) (i : ℕ) (d n : AcceptedPlan) (text stats grown told : List ℕ) → i < length ns → n ≡ get_or ns i d
-    → AreCountedRuns f db s (take i ns) text stats → IsRunMore f db s n text stats grown told → AreCountedRuns f db s (take (i + 1) ns) grown told
-counted_grow f db s ns i d n text stats grown told there at h more =
+pub counted_grow : (f : StatsForm) (db : Database) (s : Setting) (ns : List AcceptedPlan) (i : ℕ) (d n : AcceptedPlan) (text stats grown reported : List ℕ) → i < length ns → n ≡ get_or ns i d
+    → AreCountedRuns f db s (take i ns) text stats → IsRunMore f db s n text stats grown reported → AreCountedRuns f db s (take (i + 1) ns) grown reported
+counted_grow f db s ns i d n text stats grown reported there at h more =
     let own = title n.path.now ++ more.own in
     let tale = title n.path.now ++ plan_text f (typed_plan n.plan) more.counts more.time in
     let alone : IsRunMore f db s n [] [] own tale = record {
@@ -95,13 +95,13 @@ counted_grow f db s ns i d n text stats grown told there at h more =
     } in
     let all = counted_more f db s (take i ns) n text stats own tale h alone in
     let taken : take (i + 1) ns ≡ take i ns ++ n ∷ [] = take_more ns i d there ∙ ap (λ x. take i ns ++ x ∷ []) (sym at) in
-    subst (λ ms. AreCountedRuns f db s ms grown told) (sym taken)
-    (subst (λ t. AreCountedRuns f db s (take i ns ++ n ∷ []) t told) (sym more.text_is) (subst (λ t. AreCountedRuns f db s (take i ns ++ n ∷ []) (text ++ own) t) (sym more.stats_are) all))
+    subst (λ ms. AreCountedRuns f db s ms grown reported) (sym taken)
+    (subst (λ t. AreCountedRuns f db s (take i ns ++ n ∷ []) t reported) (sym more.text_is) (subst (λ t. AreCountedRuns f db s (take i ns ++ n ∷ []) (text ++ own) t) (sym more.stats_are) all))
 
--- what is told of a run of this plan is told of the task
-pub task_told : (files : List ℕ → Stored) (input : Option (List ℕ)) (f : StatsForm) (t : FileCommand) (p : TypedPlan) (r : Result Counted Refusal) → IsFilesPlan files input t.paths (resolved_of p)
+-- what is reported of a run of this plan is reported of the task
+pub task_stats : (files : List ℕ → Stored) (input : Option (List ℕ)) (f : StatsForm) (t : FileCommand) (p : TypedPlan) (r : Result Counted Refusal) → IsFilesPlan files input t.paths (resolved_of p)
     → IfOk r (λ k. IsShown (resolved_of p))
     → IfOk r (λ k. IsCountedPlan f p (holds_at files t.folder) t.setting (phase.Read ∷ phase.Plan ∷ phase.Check ∷ []) k.text.items (string_bytes k.opening))
-    → IfOk r (λ k. TellsTask files input f t k.text.items (string_bytes k.opening))
-task_told files input f t p (Ok k) planned shown told = record { plan = p; planned = planned; shown = shown; counted = told }
-task_told files input f t p (Err e) planned shown told = tt
+    → IfOk r (λ k. AreTaskStats files input f t k.text.items (string_bytes k.opening))
+task_stats files input f t p (Ok k) planned shown reported = record { plan = p; planned = planned; shown = shown; counted = reported }
+task_stats files input f t p (Err e) planned shown reported = tt

@@ -18,7 +18,7 @@ use Rattle.vx_bundle.specs.Setting.{Setting}
 use Rattle.vx_answer.specs.declared.command_line.FilePlans.{FilePlans}
 use Rattle.vx_answer.specs.Arguments.{IsSetting}
 use Rattle.vx_answer.specs.Plans.{PlansStop, PlansRefuse}
-use Rattle.vx_answer.specs.Stats.{TellsAsk, TellsArguments}
+use Rattle.vx_answer.specs.Stats.{AreAskStats, AreArgumentStats}
 use Rattle.vx_answer.specs.CommandLine.{FileCommand, IsTask, IsNoTask, IsEntry, AnswersAsk, AskStops, FailsAtAll, AsksFor, AsksForFailing, AsksForStopped, AnswersArguments, IsUsageKind, AskRefuses, IsUsageError, ArgumentsRefuse}
 
 abbrev pub task_is : held.FileCommand → FileCommand
@@ -45,13 +45,13 @@ IsJob ask (job.Relation rows) = ask ≡ generate rows
 abbrev pub IsAskAnswer : (List ℕ → Stored) → Option (List ℕ) → Ask → ArgumentAnswer → Type 0
 IsAskAnswer files input ask (answer.Text text) = AnswersAsk files input ask text.items
 IsAskAnswer files input ask (answer.Relation rows) = ask ≡ generate rows
-IsAskAnswer files input ask (answer.Counted k) = AnswersAsk files input ask k.text.items × TellsAsk files input k.form ask k.text.items (string_bytes k.opening)
+IsAskAnswer files input ask (answer.Counted k) = AnswersAsk files input ask k.text.items × AreAskStats files input k.form ask k.text.items (string_bytes k.opening)
 
 -- what answers arguments
 abbrev pub IsArgumentAnswer : (List ℕ → Stored) → Option (List ℕ) → List (List ℕ) → ArgumentAnswer → Type 0
 IsArgumentAnswer files input arguments (answer.Text text) = AnswersArguments files input arguments text.items
 IsArgumentAnswer files input arguments (answer.Relation rows) = AsksFor arguments (generate rows)
-IsArgumentAnswer files input arguments (answer.Counted k) = AnswersArguments files input arguments k.text.items × TellsArguments files input k.form arguments k.text.items (string_bytes k.opening)
+IsArgumentAnswer files input arguments (answer.Counted k) = AnswersArguments files input arguments k.text.items × AreArgumentStats files input k.form arguments k.text.items (string_bytes k.opening)
 
 -- an answer by clap of this kind: the text of help or of the version
 abbrev pub IsHelp : ErrorKind → ArgumentAnswer → Type 0

@@ -85,31 +85,31 @@ pub record IsCountedPlan (f : StatsForm) (p : TypedPlan) (holds : Holding) (sett
   pub is : opening ≡ lone_text f p counts times
 
 -- the same of a run that arguments ask for: the phases are read, plan, check, load and run
-pub record TellsTask (files : List ℕ → Stored) (input : Option (List ℕ)) (f : StatsForm) (t : FileCommand) (text opening : List ℕ) : Type 0 where
+pub record AreTaskStats (files : List ℕ → Stored) (input : Option (List ℕ)) (f : StatsForm) (t : FileCommand) (text opening : List ℕ) : Type 0 where
   pub plan : TypedPlan
   pub planned : IsFilesPlan files input t.paths (resolved_of plan)
   pub shown : IsShown (resolved_of plan)
   pub counted : IsCountedPlan f plan (holds_at files t.folder) t.setting (phase.Read ∷ phase.Plan ∷ phase.Check ∷ []) text opening
 
 -- to a text and to statistics came those of one more counted run, each behind the line with its path
-pub record IsRunMore (f : StatsForm) (db : Database) (setting : Setting) (n : AcceptedPlan) (text stats grown told : List ℕ) : Type 0 where
+pub record IsRunMore (f : StatsForm) (db : Database) (setting : Setting) (n : AcceptedPlan) (text stats grown reported : List ℕ) : Type 0 where
   pub own : List ℕ
   pub counts : List WorkerCounts
   pub time : PhaseTime
   pub run : IsCountedRun (typed_plan n.plan) db setting own counts
   pub timed : time.phase ≡ phase.Run
   pub text_is : grown ≡ text ++ (title n.path.now ++ own)
-  pub stats_are : told ≡ stats ++ (title n.path.now ++ plan_text f (typed_plan n.plan) counts time)
+  pub stats_are : reported ≡ stats ++ (title n.path.now ++ plan_text f (typed_plan n.plan) counts time)
 
 -- the text is that of counted runs of these plans over a database, each behind the line with its path, and so are the statistics
 abbrev pub AreCountedRuns : StatsForm → Database → Setting → List AcceptedPlan → List ℕ → List ℕ → Type 0
 AreCountedRuns f db setting [] text stats = (text ≡ []) × (stats ≡ [])
 AreCountedRuns f db setting (n ∷ ns) text stats =
-    (first : List ℕ) × (told : List ℕ) × (rest : List ℕ) × (more : List ℕ) × IsRunMore f db setting n [] [] first told × AreCountedRuns f db setting ns rest more
-    × (text ≡ first ++ rest) × (stats ≡ told ++ more)
+    (first : List ℕ) × (reported : List ℕ) × (rest : List ℕ) × (more : List ℕ) × IsRunMore f db setting n [] [] first reported × AreCountedRuns f db setting ns rest more
+    × (text ≡ first ++ rest) × (stats ≡ reported ++ more)
 
 -- statistics, up to the time of the write, of counted runs of all plans of these paths over one database, with this text
-pub record TellsPlans (files : List ℕ → Stored) (input : Option (List ℕ)) (f : StatsForm) (paths : ManyPaths) (folder : List ℕ) (setting : Setting) (text opening : List ℕ) : Type 0 where
+pub record ArePlansStats (files : List ℕ → Stored) (input : Option (List ℕ)) (f : StatsForm) (paths : ManyPaths) (folder : List ℕ) (setting : Setting) (text opening : List ℕ) : Type 0 where
   pub relations : List Relation
   pub plans : List AcceptedPlan
   pub all : Database
@@ -122,20 +122,20 @@ pub record TellsPlans (files : List ℕ → Stored) (input : Option (List ℕ)) 
   pub is : opening ≡ stats ++ (codes "# all plans\n" ++ shared_text f times)
 
 -- statistics, up to the time of the write, of the runs that are asked for, with this text
-pub data TellsAsk (files : List ℕ → Stored) (input : Option (List ℕ)) (f : StatsForm) (ask : Ask) (text opening : List ℕ) : Type 0 where
-  for_one : (t : FileCommand) → IsTask ask t → t.command ≡ command.Run → TellsTask files input f t text opening → TellsAsk files input f ask text opening
-  for_several : (paths : ManyPaths) (folder : List ℕ) (limits : Given) (s : Setting) → ask ≡ run_plans paths folder limits → IsSetting limits s → TellsPlans files input f paths folder s text opening
-      → TellsAsk files input f ask text opening
+pub data AreAskStats (files : List ℕ → Stored) (input : Option (List ℕ)) (f : StatsForm) (ask : Ask) (text opening : List ℕ) : Type 0 where
+  for_one : (t : FileCommand) → IsTask ask t → t.command ≡ command.Run → AreTaskStats files input f t text opening → AreAskStats files input f ask text opening
+  for_several : (paths : ManyPaths) (folder : List ℕ) (limits : Given) (s : Setting) → ask ≡ run_plans paths folder limits → IsSetting limits s → ArePlansStats files input f paths folder s text opening
+      → AreAskStats files input f ask text opening
 
 -- the same of what arguments ask for
-pub record TellsArguments (files : List ℕ → Stored) (input : Option (List ℕ)) (f : StatsForm) (arguments : List (List ℕ)) (text opening : List ℕ) : Type 0 where
+pub record AreArgumentStats (files : List ℕ → Stored) (input : Option (List ℕ)) (f : StatsForm) (arguments : List (List ℕ)) (text opening : List ℕ) : Type 0 where
   pub ask : Ask
   pub asked : AsksFor arguments ask
-  pub told : TellsAsk files input f ask text opening
+  pub reported : AreAskStats files input f ask text opening
 
 -- and all of the statistics, with the time of the write
-pub record ToldOf (files : List ℕ → Stored) (input : Option (List ℕ)) (f : StatsForm) (arguments : List (List ℕ)) (text stats : List ℕ) : Type 0 where
+pub record AreStatsOf (files : List ℕ → Stored) (input : Option (List ℕ)) (f : StatsForm) (arguments : List (List ℕ)) (text stats : List ℕ) : Type 0 where
   pub opening : List ℕ
-  pub tells : TellsArguments files input f arguments text opening
+  pub stats : AreArgumentStats files input f arguments text opening
   pub time : Option ℕ
   pub is : stats ≡ opening ++ write_end f time

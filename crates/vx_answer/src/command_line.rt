@@ -227,7 +227,7 @@ fn sql_job<'a>(sources: Sources<'a>, dialect: &str) -> Option<Job<'a>>
     }
 }
 
-// What telling the meaning of a code is.
+// What printing the meaning of a code is.
 fn why_job<'a>(code: &str) -> Option<Job<'a>>
     ensures { MatchOption result (IsNoTask (why code.now)) (λ j. IsJob (why code.now) j) }
 {
@@ -372,7 +372,7 @@ fn answer_drawing<F: Store, I: ByteIn>(
     stats: &str,
 ) -> Result<ArgumentAnswer, ArgumentFault>
     ensures answer { IfOk result (λ a. IsAskAnswer (F.holds files.now) (I.remaining input.old) (draw (paths_are sources.entry) stats.now) a) }
-    ensures untold { IfOk result IsUncounted }
+    ensures no_stats { IfOk result IsUncounted }
     ensures refused { IfErr result (IsAskFault (F.holds files.now) (F.is_reliable files.now) (I.remaining input.old) (I.has_failed input.new) (draw (paths_are sources.entry) stats.now)) }
 {
     let plan = plan_from_files(alloc, files, input, sources)?;
@@ -408,7 +408,7 @@ fn answer_verdict<F: Store, I: ByteIn>(
     sources: Sources<'_>,
 ) -> Result<ArgumentAnswer, ArgumentFault>
     ensures answer { IfOk result (λ a. IsAskAnswer (F.holds files.now) (I.remaining input.old) (check_all (paths_are sources.entry)) a) }
-    ensures untold { IfOk result IsUncounted }
+    ensures no_stats { IfOk result IsUncounted }
     ensures refused { IfErr result (IsAskFault (F.holds files.now) (F.is_reliable files.now) (I.remaining input.old) (I.has_failed input.new) (check_all (paths_are sources.entry))) }
 {
     let plan = plan_from_files(alloc, files, input, sources)?;
@@ -457,7 +457,7 @@ pub fn answer_asked<T: Threads + Wait + Sync, F: Store, I: ByteIn>(
     asked: &Asked<'_>,
 ) -> Result<ArgumentAnswer, ArgumentFault>
     ensures answer { IfOk result (λ a. IsAskAnswer (F.holds files.now) (I.remaining input.old) (asked_is asked.now) a) }
-    ensures untold { IfOk result IsUncounted }
+    ensures no_stats { IfOk result IsUncounted }
     ensures refused { IfErr result (IsAskFault (F.holds files.now) (F.is_reliable files.now) (I.remaining input.old) (I.has_failed input.new) (asked_is asked.now)) }
 {
     match job_in(alloc, asked)? {
@@ -544,8 +544,8 @@ fn answer_request<T: Threads + Wait + Sync, C: Clock, F: Store, I: ByteIn>(
     request: &Request<'_>,
 ) -> Result<ArgumentAnswer, ArgumentFault>
     ensures answer { IfOk result (λ a. IsAskAnswer (F.holds files.now) (I.remaining input.old) (asked_is request.now.asked) a) }
-    ensures told { (f : StatsForm) → is_run (asked_is request.now.asked) ≡ true → stats_of_word (option_map (λ s. s.now) request.now.stats) ≡ Some f → IfOk result (IsCountedAs f) }
-    ensures untold { stats_of_word (option_map (λ s. s.now) request.now.stats) ≡ None → IfOk result IsUncounted }
+    ensures stats { (f : StatsForm) → is_run (asked_is request.now.asked) ≡ true → stats_of_word (option_map (λ s. s.now) request.now.stats) ≡ Some f → IfOk result (IsCountedAs f) }
+    ensures no_stats { stats_of_word (option_map (λ s. s.now) request.now.stats) ≡ None → IfOk result IsUncounted }
     ensures refused { IfErr result (λ e. IsAskFault (F.holds files.now) (F.is_reliable files.now) (I.remaining input.old) (I.has_failed input.new) (asked_is request.now.asked) e
         ⊎ IsStatsFault (option_map (λ s. s.now) request.now.stats) e) }
 {
@@ -598,8 +598,8 @@ pub fn answer_arguments<T: Threads + Wait + Sync, C: Clock, F: Store, I: ByteIn>
     arguments: &[&str],
 ) -> Result<ArgumentAnswer, ArgumentFault>
     ensures answer { IfOk result (λ a. IsArgumentAnswer (F.holds files.now) (I.remaining input.old) (map (λ a. a.now) arguments.now) a) }
-    ensures told { (f : StatsForm) (ask : Ask) → AsksFor (map (λ a. a.now) arguments.now) ask → is_run ask ≡ true → stats_asked (map (λ a. a.now) arguments.now) ≡ Some f → IfOk result (IsCountedAs f) }
-    ensures untold { stats_asked (map (λ a. a.now) arguments.now) ≡ None → IfOk result IsUncounted }
+    ensures stats { (f : StatsForm) (ask : Ask) → AsksFor (map (λ a. a.now) arguments.now) ask → is_run ask ≡ true → stats_asked (map (λ a. a.now) arguments.now) ≡ Some f → IfOk result (IsCountedAs f) }
+    ensures no_stats { stats_asked (map (λ a. a.now) arguments.now) ≡ None → IfOk result IsUncounted }
     ensures refused { IfErr result (IsArgumentFault (F.holds files.now) (F.is_reliable files.now) (I.remaining input.old) (I.has_failed input.new) (map (λ a. a.now) arguments.now)) }
 {
     let arguments = with_program_name(alloc, arguments)?;

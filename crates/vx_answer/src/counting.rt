@@ -8,7 +8,7 @@ ghost use Rattle.vx_answer.specs.Commands.{IsRunOver, RunRefuses};
 ghost use Rattle.vx_answer.specs.CommandLineView.{IsAskAnswer, IsAskFault, IsPlansFault};
 ghost use Rattle.vx_answer.specs.Plans.{AnswersPlans, StopsAt};
 ghost use Rattle.vx_answer.specs.PlansView.{named_is};
-ghost use Rattle.vx_answer.specs.Stats.{is_run, AreCountedRuns, TellsPlans};
+ghost use Rattle.vx_answer.specs.Stats.{is_run, AreCountedRuns, ArePlansStats};
 ghost use Rattle.vx_answer.specs.StatsView.{IsCountedAs};
 
 use crate::arguments::setting_in;
@@ -41,7 +41,7 @@ fn count_each<T: Threads + Wait + Sync, C: Clock>(
     database: &Database,
 ) -> Result<Counted, Stopped>
     ensures form { IfOk result (λ k. k.form ≡ form) }
-    ensures told { IfOk result (λ k. AreCountedRuns form database.now setting.now plans.now k.text.items (string_bytes k.opening)) }
+    ensures stats { IfOk result (λ k. AreCountedRuns form database.now setting.now plans.now k.text.items (string_bytes k.opening)) }
     ensures stopped { IfErr result (λ s. StopsAt (λ p own. IsRunOver p database.now setting.now own) (λ p e. RunRefuses p database.now setting.now e) (map named_is plans.now) s.text.items s.refusal) }
 {
     let mut text = Vec::new(alloc);
@@ -84,7 +84,7 @@ fn counted_plans<T: Threads + Wait + Sync, C: Clock, F: Store, I: ByteIn>(
     setting: &Setting,
 ) -> Result<Counted, ArgumentFault>
     ensures form { IfOk result (λ k. k.form ≡ form) }
-    ensures told { IfOk result (λ k. TellsPlans (F.holds files.now) (I.remaining input.old) form (many_are sources.now) folder.now setting.now k.text.items (string_bytes k.opening)) }
+    ensures stats { IfOk result (λ k. ArePlansStats (F.holds files.now) (I.remaining input.old) form (many_are sources.now) folder.now setting.now k.text.items (string_bytes k.opening)) }
     ensures refused { IfErr result (IsPlansFault (F.holds files.now) (F.is_reliable files.now) (I.remaining input.old) (I.has_failed input.new) (many_are sources.now) folder.now setting.now) }
 {
     let mut timer = Timer::start(alloc, clock);
@@ -127,7 +127,7 @@ pub fn answer_counted<T: Threads + Wait + Sync, C: Clock, F: Store, I: ByteIn>(
     asked: &Asked<'_>,
 ) -> Result<ArgumentAnswer, ArgumentFault>
     ensures answer { IfOk result (λ a. IsAskAnswer (F.holds files.now) (I.remaining input.old) (asked_is asked.now) a) }
-    ensures told { is_run (asked_is asked.now) ≡ true → IfOk result (IsCountedAs form) }
+    ensures stats { is_run (asked_is asked.now) ≡ true → IfOk result (IsCountedAs form) }
     ensures refused { IfErr result (IsAskFault (F.holds files.now) (F.is_reliable files.now) (I.remaining input.old) (I.has_failed input.new) (asked_is asked.now)) }
 {
     match asked {

@@ -86,7 +86,7 @@ fn place_asked<F: Store>(
     }
 }
 
-// The line, if the arguments want one and the place is found again.
+// The line, if the arguments ask for one and the place is found again.
 fn place_of<F: Store>(
     alloc: Global,
     files: &F,

@@ -8,7 +8,7 @@ ghost use Rattle.vx_refusals.specs.Status.{status_of};
 ghost use Rattle.vx_arguments.specs.Asked.{Ask};
 ghost use Rattle.vx_stats.specs.Text.{write_end};
 ghost use Rattle.vx_stats.specs.declared.text.StatsForm.{StatsForm};
-ghost use Rattle.vx_answer.specs.Stats.{is_run, stats_asked, ToldOf};
+ghost use Rattle.vx_answer.specs.Stats.{is_run, stats_asked, AreStatsOf};
 ghost use Rattle.vx_answer.specs.CommandLine.{AnswersArguments, AsksFor, IsUsageError, AreRefusedBy, AsksForFailing, AsksForStopped};
 ghost use Rattle.vx_wisconsin.specs.Wisconsin.{max_rows, wisconsin, column_names};
 
@@ -162,7 +162,7 @@ fn write_stopped<O: ByteOut, E: ByteOut>(stopped: Stopped, out: &mut O, err: &mu
 }
 
 // Writes the statistics of runs on `err`, the time that the write of their rows took too.
-fn tell<E: ByteOut>(counted: &Counted, time: Option<u64>, err: &mut E) -> Result<(), Broken>
+fn write_stats<E: ByteOut>(counted: &Counted, time: Option<u64>, err: &mut E) -> Result<(), Broken>
     ensures ok { OnOk result (Appends (E.contents err.old) (E.contents err.new) (string_bytes counted.now.opening ++ write_end counted.now.form time)) }
     ensures fails { E.has_failed err.new ≡ (E.has_failed err.old || is_err result) }
 {
@@ -180,13 +180,13 @@ fn write_counted<C: Clock, O: ByteOut, E: ByteOut>(
 ) -> u8
     ensures done { result ≡ 0 → Appends (O.contents out.old) (O.contents out.new) counted.now.text.items }
     ensures failed { result ≢ 0 → (result ≡ 4) × (O.has_failed out.new ≡ true) }
-    ensures told { result ≡ 0 → E.has_failed err.new ≡ false
+    ensures stats { result ≡ 0 → E.has_failed err.new ≡ false
         → (time : Option ℕ) × Appends (E.contents err.old) (E.contents err.new) (string_bytes counted.now.opening ++ write_end counted.now.form time) }
 {
     let mut watch = Stopwatch::start(clock);
     match write_text(counted.text.as_slice(), out, err) {
         0 => {
-            let _ = tell(counted, watch.lap(clock), err);
+            let _ = write_stats(counted, watch.lap(clock), err);
             0
         }
         failed => failed,
@@ -213,10 +213,10 @@ fn reply_to_arguments<
     err: &mut E,
 ) -> u8
     ensures done { result ≡ 0 → (text : List ℕ) × AnswersArguments (F.holds files.now) (I.remaining input.old) (map (λ a. a.now) arguments.now) text × Appends (O.contents out.old) (O.contents out.new) text }
-    ensures told { result ≡ 0 → E.has_failed err.new ≡ false → (f : StatsForm) (ask : Ask) → AsksFor (map (λ a. a.now) arguments.now) ask → is_run ask ≡ true → stats_asked (map (λ a. a.now) arguments.now) ≡ Some f
-        → (text : List ℕ) × (stats : List ℕ) × ToldOf (F.holds files.now) (I.remaining input.old) f (map (λ a. a.now) arguments.now) text stats
+    ensures stats { result ≡ 0 → E.has_failed err.new ≡ false → (f : StatsForm) (ask : Ask) → AsksFor (map (λ a. a.now) arguments.now) ask → is_run ask ≡ true → stats_asked (map (λ a. a.now) arguments.now) ≡ Some f
+        → (text : List ℕ) × (stats : List ℕ) × AreStatsOf (F.holds files.now) (I.remaining input.old) f (map (λ a. a.now) arguments.now) text stats
         × Appends (O.contents out.old) (O.contents out.new) text × Appends (E.contents err.old) (E.contents err.new) stats }
-    ensures untold { result ≡ 0 → stats_asked (map (λ a. a.now) arguments.now) ≡ None → err.new ≡ err.old }
+    ensures no_stats { result ≡ 0 → stats_asked (map (λ a. a.now) arguments.now) ≡ None → err.new ≡ err.old }
     ensures kept { result ≢ 0 → O.has_failed out.new ≡ false → (out.new ≡ out.old)
         ⊎ ((text : List ℕ) × (e : Refusal) × AsksForStopped (F.holds files.now) (I.remaining input.old) (map (λ a. a.now) arguments.now) text e × (result ≡ status_of e) × Appends (O.contents out.old) (O.contents out.new) text) }
     ensures statuses { (result ≡ 0) ⊎ (result ≡ 2) ⊎ (result ≡ 3) ⊎ (result ≡ 4) }
@@ -247,7 +247,7 @@ fn reply_to_arguments<
 /// The status is 0 if `out` got the answer, 2 for wrong arguments, 3 for input that is refused, and 4 if the machine or
 /// the run failed. All work ends before the first byte goes to `out`; the text of a relation alone is written as it is made,
 /// once all memory for it is there. Of several plans, `out` gets the answers before the first that is refused. A refusal is
-/// one line on `err`, below which another says where it was found, if the arguments want that. A write of them that fails changes
+/// one line on `err`, below which another says where it was found, if the arguments ask for it. A write of them that fails changes
 /// nothing else.
 ///
 /// Where the arguments ask for the statistics of runs, `err` gets those of the runs whose rows `out` got; where they ask for none,
@@ -278,10 +278,10 @@ pub fn answer<T: Threads + Wait + Sync, C: Clock, F: Store, I: ByteIn, O: ByteOu
 
     // With arguments, status 0 comes only for what they ask for, answered, and then `out` got exactly that.
     ensures arguments_done { arguments.now ≢ [] → result ≡ 0 → (text : List ℕ) × AnswersArguments (F.holds files.now) (I.remaining input.old) (map (λ a. a.now) arguments.now) text × Appends (O.contents out.old) (O.contents out.new) text }
-    ensures arguments_told { arguments.now ≢ [] → result ≡ 0 → E.has_failed err.new ≡ false → (f : StatsForm) (ask : Ask) → AsksFor (map (λ a. a.now) arguments.now) ask → is_run ask ≡ true
-        → stats_asked (map (λ a. a.now) arguments.now) ≡ Some f → (text : List ℕ) × (stats : List ℕ) × ToldOf (F.holds files.now) (I.remaining input.old) f (map (λ a. a.now) arguments.now) text stats
+    ensures arguments_stats { arguments.now ≢ [] → result ≡ 0 → E.has_failed err.new ≡ false → (f : StatsForm) (ask : Ask) → AsksFor (map (λ a. a.now) arguments.now) ask → is_run ask ≡ true
+        → stats_asked (map (λ a. a.now) arguments.now) ≡ Some f → (text : List ℕ) × (stats : List ℕ) × AreStatsOf (F.holds files.now) (I.remaining input.old) f (map (λ a. a.now) arguments.now) text stats
         × Appends (O.contents out.old) (O.contents out.new) text × Appends (E.contents err.old) (E.contents err.new) stats }
-    ensures arguments_untold { arguments.now ≢ [] → result ≡ 0 → stats_asked (map (λ a. a.now) arguments.now) ≡ None → err.new ≡ err.old }
+    ensures arguments_no_stats { arguments.now ≢ [] → result ≡ 0 → stats_asked (map (λ a. a.now) arguments.now) ≡ None → err.new ≡ err.old }
     ensures arguments_statuses { arguments.now ≢ [] → (result ≡ 0) ⊎ (result ≡ 2) ⊎ (result ≡ 3) ⊎ (result ≡ 4) }
 
     // Status 2 comes only for arguments that are wrong. Status 3 comes only for what they ask for, refused, or for a check of

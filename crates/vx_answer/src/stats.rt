@@ -11,7 +11,7 @@ ghost use Rattle.vx_answer.specs.CommandLine.{TaskRefuses};
 ghost use Rattle.vx_answer.specs.Commands.{IsShown, PlanRefuses, CommandRefuses, RunRefuses};
 ghost use Rattle.vx_answer.specs.Files.{IsFilesPlan, IsFilesRefusal};
 ghost use Rattle.vx_answer.specs.Plans.{title};
-ghost use Rattle.vx_answer.specs.Stats.{IsCountedPlan, TellsTask, IsRunMore};
+ghost use Rattle.vx_answer.specs.Stats.{IsCountedPlan, AreTaskStats, IsRunMore};
 ghost use Rattle.vx_answer.specs.StatsNames.{stats_named};
 
 use crate::command::accepted;
@@ -89,7 +89,7 @@ fn counted_plan<R: Threads + Wait + Sync, C: Clock, T: Tables>(
     timer: &mut Timer,
 ) -> Result<Counted, Refusal>
     ensures form { IfOk result (λ k. k.form ≡ form) }
-    ensures told { IfOk result (λ k. IsCountedPlan form (typed_plan plan.now) (T.holds tables.now) setting.now (phases_of (times_in timer.old)) k.text.items (string_bytes k.opening)) }
+    ensures stats { IfOk result (λ k. IsCountedPlan form (typed_plan plan.now) (T.holds tables.now) setting.now (phases_of (times_in timer.old)) k.text.items (string_bytes k.opening)) }
     ensures refused { IfErr result (λ e. (e ≡ Refusal.NoMemory) ⊎ PlanRefuses (resolved_of (typed_plan plan.now)) (T.holds tables.now) (T.lacks tables.now) setting.now e) }
 {
     let database = load_tables_in_threads(rt, alloc, threads, seed, plan.plan(), tables)?;
@@ -128,7 +128,7 @@ fn counted_run<R: Threads + Wait + Sync, C: Clock, T: Tables>(
 ) -> Result<Counted, Refusal>
     ensures form { IfOk result (λ k. k.form ≡ form) }
     ensures shown { IfOk result (λ _. IsShown (resolved_of plan)) }
-    ensures told { IfOk result (λ k. IsCountedPlan form plan (T.holds tables.now) setting.now (phases_of (times_in timer.old) ++ (phase.Check ∷ [])) k.text.items (string_bytes k.opening)) }
+    ensures stats { IfOk result (λ k. IsCountedPlan form plan (T.holds tables.now) setting.now (phases_of (times_in timer.old) ++ (phase.Check ∷ [])) k.text.items (string_bytes k.opening)) }
     ensures refused { IfErr result (λ e. CommandRefuses command.Run (resolved_of plan) (T.holds tables.now) (T.lacks tables.now) setting.now e) }
 {
     let checked = accepted(plan)?;
@@ -153,7 +153,7 @@ pub fn counted_task<T: Threads + Wait + Sync, C: Clock, F: Store, I: ByteIn>(
     setting: &Setting,
 ) -> Result<Counted, Refusal>
     ensures form { IfOk result (λ k. k.form ≡ form) }
-    ensures told { IfOk result (λ k. TellsTask (F.holds files.now) (I.remaining input.old) form
+    ensures stats { IfOk result (λ k. AreTaskStats (F.holds files.now) (I.remaining input.old) form
         (record { command = command.Run; paths = paths_are sources.entry; folder = folder.now; setting = setting.now }) k.text.items (string_bytes k.opening)) }
     ensures refused { IfErr result (λ e. TaskRefuses (F.holds files.now) (F.is_reliable files.now) (I.remaining input.old) (I.has_failed input.new)
         (record { command = command.Run; paths = paths_are sources.entry; folder = folder.now; setting = setting.now }) e) }

@@ -79,13 +79,20 @@ line_there : (line : ℕ) (xs : List ℕ) → begins_on line xs ≡ line + count
 unfolding ends_of begins_on
 line_there line [] = omega arith
 line_there line (c ∷ rest) =
-    by_bool (ends_line c)
-    (λ h. rw h (line_there (line_after line (Some c)) rest ∙ counted line c (count_by is_feed (ends_of rest))))
-    (λ h. rw h (omega arith))
+    let more = count_both (c ∷ []) (ends_of rest) in
+    let one : count_by is_feed (c ∷ []) ≡ cond (is_feed c) 1 0 = omega arith in
+    let later = line_there (line_after line (Some c)) rest in
+    let next = counted line c (count_by is_feed (ends_of rest)) in
+    let cons : count_by is_feed (c ∷ ends_of rest) ≡ cond (is_feed c) 1 0 + count_by is_feed (ends_of rest) = more ∙ ap (λ (n : ℕ). n + count_by is_feed (ends_of rest)) one in
+    by_bool (ends_line c) (λ h. rw h (later ∙ (next ∙ ap (λ (n : ℕ). line + n) (sym cons)))) (λ h. rw h (omega arith))
+
+or_left : (x y : Bool) → (x || y) ≡ true → y ≡ false → x ≡ true
+or_left true y h e = refl
+or_left false y h e = cc
 
 skipped : (state : State) (c : ℕ) → is_between state ≡ true → ends_line c ≡ true → step default_config state c ≡ (st.StartRecord, act.Skip)
 skipped st.StartRecord c b h = rw h refl
-skipped st.AfterCr c b h = by_bool (c == 10) (λ f. rw f refl) (λ f. rw (f, h) refl)
+skipped st.AfterCr c b h = by_bool (c == 10) (λ f. rw f refl) (λ f. let k : (c == 13) ≡ true = or_left (c == 13) (c == 10) h f in rw (f, k) refl)
 skipped st.StartField c b h = cc
 skipped st.InField c b h = cc
 skipped st.InQuoted c b h = cc

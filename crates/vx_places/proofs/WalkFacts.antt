@@ -1,19 +1,15 @@
 -- A record as it is read byte by byte, where the bytes are known.
-use Rattle.std.proofs.Common.{◌≡◌, ℕ, zero, suc, ◌+◌, List, [], ◌∷◌, ◌++◌, append_assoc, Option, Some, None, Bool, true, false, cond, refl, sym, ap, subst, ◌∙◌, arith, drop}
-use Rattle.std.specs.Prelude.{count_by, if◌then◌else◌, IfSome, option_map}
-use Rattle.std.specs.Io.KnownBytes.{Keeps}
+use Rattle.std.proofs.Common.{◌≡◌, ℕ, ◌+◌, List, [], ◌∷◌, ◌++◌, append_assoc, Option, Some, None, Bool, true, false, cond, refl, sym, subst, ◌∙◌, arith}
+use Rattle.std.specs.Prelude.{count_by, if◌then◌else◌, IfSome}
 use Rattle.std.proofs.lemmas.List.Sums.{sum_by-append}
-use Rattle.csv.specs.Machine.{Read, next_record, step, is_end, ends_at_end, fields_after, field_after}
-use Rattle.csv.specs.Reading.{default_config, strip_bom, records}
+use Rattle.csv.specs.Machine.{next_record, step, is_end, ends_at_end, fields_after, field_after}
+use Rattle.csv.specs.Reading.{default_config}
 use Rattle.csv.specs.declared.parser.State.{State}
 use Rattle.csv.specs.declared.parser.State.TheVariants as st
 use Rattle.csv.specs.declared.parser.Action.{Action}
-use Rattle.csv.specs.declared.parser.Action.TheVariants as act
-use Rattle.vx_split.proofs.TurnFacts.{left_from, one_more, same_next}
 use Rattle.vx_places.specs.declared.stage.Stage.{Stage}
-use Rattle.vx_places.specs.declared.stage.Stage.TheVariants as stage
-use Rattle.vx_places.specs.Lines.{is_feed, ends_line, begins_on, line_after, Gives, Passes}
-use Rattle.vx_places.specs.Records.{ReadsOne, StartsRecord, IsRecordAt}
+use Rattle.vx_places.specs.Lines.{is_feed, begins_on, line_after, Gives, Passes}
+use Rattle.vx_places.specs.Records.{ReadsOne}
 use Rattle.vx_places.specs.declared.stage.Turn.{Turn}
 use Rattle.vx_places.specs.Stages.{state_of, action_of, turn_of, is_between}
 use Rattle.vx_places.proofs.TurnFacts.{BeginsBy, begins_next, not_ended}

@@ -1,5 +1,5 @@
 -- The lines of a text, and where its records begin. The records are those that `csv` reads.
-use Rattle.std.specs.Prelude.{◌≡◌, ℕ, ◌+◌, ◌==◌, ◌||◌, List, [], ◌∷◌, ◌++◌, drop, count_by, Option, Some, None, Bool, true, false, if◌then◌else◌}
+use Rattle.std.specs.Prelude.{◌≡◌, ℕ, ◌+◌, ◌==◌, ◌||◌, List, [], ◌∷◌, ◌++◌, drop, count_by, Option, Some, None, Bool, false, if◌then◌else◌}
 use Rattle.std.specs.Io.KnownBytes.{Consumes, IsAtEnd, Keeps, prepend_known}
 use Rattle.csv.specs.Reading.{is_bom}
 use Rattle.vx_places.specs.declared.source.Source.{Source}

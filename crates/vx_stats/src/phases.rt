@@ -26,20 +26,20 @@ pub enum Phase {
     Write,
 }
 
-/// A phase, and how long it took if the clock told it.
+/// A phase, and how long it took, if that is known.
 #[derive(Clone, Copy, Debug, PartialEq, Eq)]
 pub struct PhaseTime {
     pub phase: Phase,
     pub microseconds: Option<u64>,
 }
 
-/// The time at which a phase began, if the clock told it.
+/// The time at which a phase began, if that is known.
 #[derive(Clone, Copy)]
 pub struct Stopwatch {
     began: Option<Instant>,
 }
 
-/// A clock that tells no time: no phase has a known one.
+/// A clock that returns no time: no phase has a known one.
 #[derive(Clone, Copy, Debug)]
 pub struct NoClock;
 
@@ -53,7 +53,7 @@ impl Clock for NoClock {
     }
 }
 
-// The time on a clock, if it tells one.
+// The time on a clock, if it returns one.
 fn time_on<C: Clock>(clock: &C) -> Option<Instant> {
     Instant::now(clock).ok()
 }

@@ -17,6 +17,7 @@ use vx_seeds::KeySeed;
 
 /// What has the rows of relations: the texts of a bundle, or the files of a folder.
 pub trait Tables {
+    ghost use Rattle.std.specs.Thread.{IsSync};
     ghost use Rattle.std.specs.Prelude.{◌≡◌, ◌<◌, List, length, IfOk, IfErr};
     ghost use Rattle.vx_values.specs.Values.{Row};
     ghost use Rattle.vx_relations.specs.Relation.{Relation};
@@ -46,7 +47,9 @@ pub trait Tables {
         catalog: &Catalog,
         relation: usize,
     ) -> Result<Loaded, Refusal>
-        requires { relation < length catalog.now }
+        // That the handle may be shared: its bound says it to callers, and not to the methods of an `impl`.
+        requires shared { IsSync P.row }
+        requires there { relation < length catalog.now }
         ensures rows { IfOk result (λ l. holds self.now (relation_at catalog.now relation) l.rows) }
         ensures catalog { IfOk result (λ l. l.catalog ≡ catalog.now) }
         ensures relation { IfOk result (λ l. l.relation ≡ relation) }

@@ -3,7 +3,7 @@ use Rattle.clap.specs.Values.{kind_of}
 use Rattle.vx_arguments.specs.Asked.{Ask, asked_is, stats_by, faults_of}
 use Rattle.vx_answer.specs.CommandLine.{with_program_name, AsksFor}
 use Rattle.vx_answer.proofs.CommandLineFacts.{arguments_answer, clap_answer, clap_refused}
-use Rattle.vx_answer.proofs.ToldFacts.{one_ask, help_untold, help_uncounted, request_refused}
+use Rattle.vx_answer.proofs.StatsTextFacts.{one_ask, help_no_stats, help_uncounted, request_refused}
 use Rattle.vx_answer.specs.Stats.{is_run, stats_of_word}
 use Rattle.vx_answer.proofs.command_line.answer_arguments.Goals as goal
 
@@ -43,8 +43,8 @@ returns-clause-refused g c =
     clap_refused (g.F.Store.holds c.args.files.now) (g.F.Store.is_reliable c.args.files.now) (g.I.ByteIn.remaining c.args.input.now) (g.I.ByteIn.has_failed c.args.input.now) arguments c.in-Err.error c.help_or_fault.result
     (rw all at c.in-Err.ensures.faults) c.help_or_fault.ensures.fault
 
-pub returns-in-Ok-Some-clause-told : goal.returns-in-Ok-Some-clause-told
-returns-in-Ok-Some-clause-told g c = λ f ask asks run stats.
+pub returns-in-Ok-Some-clause-stats : goal.returns-in-Ok-Some-clause-stats
+returns-in-Ok-Some-clause-stats g c = λ f ask asks run stats.
     let arguments = map (λ a. a.now) c.args.arguments.now in
     let all : map (λ a. a.now) c.as_slice.result.now ≡ with_program_name arguments = ap (map (λ a. a.now)) c.as_slice.ensures.value ∙ c.in_ok-arguments.ensures in
     let asked : AsksFor arguments (asked_is c.in-Ok-Some.request.asked) = record {
@@ -53,20 +53,20 @@ returns-in-Ok-Some-clause-told g c = λ f ask asks run stats.
     } in
     let word : option_map (λ s. s.now) c.in-Ok-Some.request.stats ≡ stats_by (with_program_name arguments) = rw (c.in-Ok-Some.field-0-is, all) at c.in-Ok-Some.ensures.stats in
     let same = one_ask arguments ask (asked_is c.in-Ok-Some.request.asked) asks asked in
-    c.answer_request.ensures.told f (subst (λ (a : Ask). is_run a ≡ true) same run) (subst (λ w. stats_of_word w ≡ Some f) (sym word) stats)
+    c.answer_request.ensures.stats f (subst (λ (a : Ask). is_run a ≡ true) same run) (subst (λ w. stats_of_word w ≡ Some f) (sym word) stats)
 
-pub returns-in-Ok-Some-clause-untold : goal.returns-in-Ok-Some-clause-untold
-returns-in-Ok-Some-clause-untold g c = λ none.
+pub returns-in-Ok-Some-clause-no_stats : goal.returns-in-Ok-Some-clause-no_stats
+returns-in-Ok-Some-clause-no_stats g c = λ none.
     let arguments = map (λ a. a.now) c.args.arguments.now in
     let all : map (λ a. a.now) c.as_slice.result.now ≡ with_program_name arguments = ap (map (λ a. a.now)) c.as_slice.ensures.value ∙ c.in_ok-arguments.ensures in
     let word : option_map (λ s. s.now) c.in-Ok-Some.request.stats ≡ stats_by (with_program_name arguments) = rw (c.in-Ok-Some.field-0-is, all) at c.in-Ok-Some.ensures.stats in
-    c.answer_request.ensures.untold (subst (λ w. stats_of_word w ≡ None) (sym word) none)
+    c.answer_request.ensures.no_stats (subst (λ w. stats_of_word w ≡ None) (sym word) none)
 
-pub returns-clause-told : goal.returns-clause-told
-returns-clause-told g c = λ f ask asks run stats.
+pub returns-clause-stats : goal.returns-clause-stats
+returns-clause-stats g c = λ f ask asks run stats.
     let arguments = map (λ a. a.now) c.args.arguments.now in
     let all : map (λ a. a.now) c.as_slice.result.now ≡ with_program_name arguments = ap (map (λ a. a.now)) c.as_slice.ensures.value ∙ c.in_ok-arguments.ensures in
-    help_untold (faults_of (with_program_name arguments)) c.in-Err.error c.help_or_fault.result f asks.unrefused (rw all at c.in-Err.ensures.faults) c.help_or_fault.ensures.help
+    help_no_stats (faults_of (with_program_name arguments)) c.in-Err.error c.help_or_fault.result f asks.unrefused (rw all at c.in-Err.ensures.faults) c.help_or_fault.ensures.help
 
-pub returns-clause-untold : goal.returns-clause-untold
-returns-clause-untold g c = λ none. help_uncounted (kind_of c.in-Err.error) c.help_or_fault.result c.help_or_fault.ensures.help
+pub returns-clause-no_stats : goal.returns-clause-no_stats
+returns-clause-no_stats g c = λ none. help_uncounted (kind_of c.in-Err.error) c.help_or_fault.result c.help_or_fault.ensures.help

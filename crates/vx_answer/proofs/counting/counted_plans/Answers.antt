@@ -73,8 +73,8 @@ returns-in_err-counted-clause-refused g c =
     let P : List NamedPlan → Type 0 = λ ms. StopsAt (λ p own. IsRunOver p c.in_ok-database.database setting own) (λ p e. RunRefuses p c.in_ok-database.database setting e) ms stopped.text.items stopped.refusal in
     rw (p.1, p.2) (relations, ns, c.in_ok-database.database, planned, loaded, stops_in _ c.in_ok-database.database setting ns stopped.text.items stopped.refusal shares (subst P same c.in_err-counted.ensures.stopped))
 
-pub returns-clause-told : goal.returns-clause-told
-returns-clause-told g c =
+pub returns-clause-stats : goal.returns-clause-stats
+returns-clause-stats g c =
     let files = g.F.Store.holds c.args.files.now in
     let before = g.I.ByteIn.remaining c.args.input.now in
     let after = g.I.ByteIn.remaining c.catalog_under.new.input in
@@ -98,7 +98,7 @@ returns-clause-told g c =
       planned = planned;
       loaded = loaded;
       stats = string_bytes c.in_ok-counted.counted.opening;
-      runs = rw c.as_slice.ensures.value at c.in_ok-counted.ensures.told;
+      runs = rw c.as_slice.ensures.value at c.in_ok-counted.ensures.stats;
       times = times_in c.timer;
       phases = search rules;
       is = search rules;

@@ -6,7 +6,7 @@ use Rattle.vx_arguments.specs.Asked.{generate}
 use Rattle.vx_refusals.specs.declared.refusal.Refusal.TheVariants as refusal
 use Rattle.vx_stats.specs.Text.{write_end}
 use Rattle.vx_stats.specs.declared.text.StatsForm.{StatsForm}
-use Rattle.vx_answer.specs.Stats.{ToldOf}
+use Rattle.vx_answer.specs.Stats.{AreStatsOf}
 use Rattle.vx_answer.specs.CommandLine.{AsksFor, for_what_is_asked, for_relation, for_ask, for_asked_relation, arguments_memory}
 use Rattle.vx_refusals.specs.Status.{status_of}
 use Rattle.vx_answer.proofs.CommandLineFacts.{stopped_refuses, three_stopped, four_stopped}
@@ -79,11 +79,11 @@ returns-in-Err-Stopped-clause-failed g c four =
     let status = rw c.in-Err-Stopped.field-0-is at c.write_stopped.ensures.status in
     four_stopped _ _ c.write_stopped.result (status_of stopped.refusal) (λ is. (stopped.refusal, is, refuses)) status four
 
-pub returns-in-Ok-Text-clause-told : goal.returns-in-Ok-Text-clause-told
-returns-in-Ok-Text-clause-told g c = λ zero whole f ask asked run stats. absurd (rw c.in-Ok-Text.field-0-is at (c.in-Ok-Text.ensures.told f ask asked run stats))
+pub returns-in-Ok-Text-clause-stats : goal.returns-in-Ok-Text-clause-stats
+returns-in-Ok-Text-clause-stats g c = λ zero whole f ask asked run stats. absurd (rw c.in-Ok-Text.field-0-is at (c.in-Ok-Text.ensures.stats f ask asked run stats))
 
-pub returns-in-Ok-Relation-clause-told : goal.returns-in-Ok-Relation-clause-told
-returns-in-Ok-Relation-clause-told g c = λ zero whole f ask asked run stats. absurd (rw c.in-Ok-Relation.field-0-is at (c.in-Ok-Relation.ensures.told f ask asked run stats))
+pub returns-in-Ok-Relation-clause-stats : goal.returns-in-Ok-Relation-clause-stats
+returns-in-Ok-Relation-clause-stats g c = λ zero whole f ask asked run stats. absurd (rw c.in-Ok-Relation.field-0-is at (c.in-Ok-Relation.ensures.stats f ask asked run stats))
 
 pub returns-in-Ok-Counted-clause-done : goal.returns-in-Ok-Counted-clause-done
 returns-in-Ok-Counted-clause-done g c zero =
@@ -93,25 +93,25 @@ returns-in-Ok-Counted-clause-done g c zero =
 pub returns-in-Ok-Counted-clause-failed : goal.returns-in-Ok-Counted-clause-failed
 returns-in-Ok-Counted-clause-failed g c four = inl (c.write_counted.ensures.failed (λ z. absurd (omega (arith, z, four)))).1
 
-pub returns-in-Ok-Counted-clause-told : goal.returns-in-Ok-Counted-clause-told
-returns-in-Ok-Counted-clause-told g c = λ zero whole f ask asked run stats.
+pub returns-in-Ok-Counted-clause-stats : goal.returns-in-Ok-Counted-clause-stats
+returns-in-Ok-Counted-clause-stats g c = λ zero whole f ask asked run stats.
     let k = c.in-Ok-Counted.counted in
     let files = g.F.Store.holds c.args.files.now in
     let input = g.I.ByteIn.remaining c.args.input.now in
     let arguments = map (λ a. a.now) c.args.arguments.now in
     let answers = rw c.in-Ok-Counted.field-0-is at c.in-Ok-Counted.ensures.answer in
-    let form = rw c.in-Ok-Counted.field-0-is at (c.in-Ok-Counted.ensures.told f ask asked run stats) in
-    let told = c.write_counted.ensures.told zero whole in
-    let P : StatsForm → Type 0 = λ f. (text : List ℕ) × (stats : List ℕ) × ToldOf files input f arguments text stats
+    let form = rw c.in-Ok-Counted.field-0-is at (c.in-Ok-Counted.ensures.stats f ask asked run stats) in
+    let reported = c.write_counted.ensures.stats zero whole in
+    let P : StatsForm → Type 0 = λ f. (text : List ℕ) × (stats : List ℕ) × AreStatsOf files input f arguments text stats
     × Appends (g.O.ByteOut.contents c.args.out.now) (g.O.ByteOut.contents c.write_counted.new.out) text
     × Appends (g.E.ByteOut.contents c.args.err.now) (g.E.ByteOut.contents c.write_counted.new.err) stats in
     subst P form (
       k.text.items,
-      string_bytes k.opening ++ write_end k.form told.0,
-      record { opening = string_bytes k.opening; tells = answers.1; time = told.0; is = refl },
+      string_bytes k.opening ++ write_end k.form reported.0,
+      record { opening = string_bytes k.opening; stats = answers.1; time = reported.0; is = refl },
       c.write_counted.ensures.done zero,
-      told.1,
+      reported.1,
     )
 
-pub returns-in-Ok-Counted-clause-untold : goal.returns-in-Ok-Counted-clause-untold
-returns-in-Ok-Counted-clause-untold g c = λ zero none. absurd (rw c.in-Ok-Counted.field-0-is at (c.in-Ok-Counted.ensures.untold none))
+pub returns-in-Ok-Counted-clause-no_stats : goal.returns-in-Ok-Counted-clause-no_stats
+returns-in-Ok-Counted-clause-no_stats g c = λ zero none. absurd (rw c.in-Ok-Counted.field-0-is at (c.in-Ok-Counted.ensures.no_stats none))

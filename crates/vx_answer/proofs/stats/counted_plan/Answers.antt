@@ -16,8 +16,8 @@ returns-in_err-text-clause-refused g c =
     rw (p.1, p.2) (inr (for_run c.in_ok-database.database
     (record { same = rw c.plan.ensures.same at c.in_ok-database.ensures.catalog; filled = rw c.plan.ensures.same at c.in_ok-database.ensures.filled }) c.in_err-text.ensures.refused))
 
-pub returns-clause-told : goal.returns-clause-told
-returns-clause-told g c = record {
+pub returns-clause-stats : goal.returns-clause-stats
+returns-clause-stats g c = record {
   db = c.in_ok-database.database;
   counts = counts_in c.run_over.new.counts;
   times = times_in c.end-2.new.self;

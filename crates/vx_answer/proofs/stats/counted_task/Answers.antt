@@ -3,7 +3,7 @@ use Rattle.vx_plan_nodes.specs.TypedView.{resolved_of}
 use Rattle.vx_arguments.specs.Asked.{paths_are}
 use Rattle.vx_bundle.specs.declared.command.Command.TheVariants as command
 use Rattle.vx_answer.proofs.CommandLineFacts.{task_refused}
-use Rattle.vx_answer.proofs.StatsFacts.{planning_refused_or, task_told}
+use Rattle.vx_answer.proofs.StatsFacts.{planning_refused_or, task_stats}
 use Rattle.vx_answer.proofs.stats.counted_task.Goals as goal
 
 pub returns-in_err-plan-clause-refused : goal.returns-in_err-plan-clause-refused
@@ -18,8 +18,8 @@ returns-clause-refused g c =
     (record { command = command.Run; paths = paths_are c.args.sources; folder = c.args.folder.now; setting = c.args.setting.now })
     (resolved_of c.in_ok-plan.plan) c.counted_run.result c.in_ok-plan.ensures.planned c.counted_run.ensures.refused
 
-pub returns-clause-told : goal.returns-clause-told
-returns-clause-told g c =
-    task_told (g.F.Store.holds c.args.files.now) (g.I.ByteIn.remaining c.args.input.now) c.args.form
+pub returns-clause-stats : goal.returns-clause-stats
+returns-clause-stats g c =
+    task_stats (g.F.Store.holds c.args.files.now) (g.I.ByteIn.remaining c.args.input.now) c.args.form
     (record { command = command.Run; paths = paths_are c.args.sources; folder = c.args.folder.now; setting = c.args.setting.now })
-    c.in_ok-plan.plan c.counted_run.result c.in_ok-plan.ensures.planned c.counted_run.ensures.shown (rw c.in_ok-plan.ensures.phases at c.counted_run.ensures.told)
+    c.in_ok-plan.plan c.counted_run.result c.in_ok-plan.ensures.planned c.counted_run.ensures.shown (rw c.in_ok-plan.ensures.phases at c.counted_run.ensures.stats)

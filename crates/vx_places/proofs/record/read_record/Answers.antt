@@ -1,8 +1,8 @@
-use Rattle.std.proofs.Common.{◌≡◌, ◌∙◌, ap, ◌++◌, ◌∷◌, [], List, ℕ, Option, Some, None, true, false, rules, refl, sym}
+use Rattle.std.proofs.Common.{◌≡◌, ◌∙◌, ℕ, None, true, false, rules, sym}
 use Rattle.std.specs.Prelude.{if◌then◌else◌}
 use Rattle.csv.specs.Machine.{is_end, ends_at_end}
 use Rattle.csv.specs.Records.{fields_of}
-use Rattle.vx_places.specs.Lines.{left_in, line_after, Gives}
+use Rattle.vx_places.specs.Lines.{left_in}
 use Rattle.vx_places.specs.Stages.{state_of, action_of, is_between}
 use Rattle.vx_places.proofs.WalkFacts.{walked_turn, done_turn, done_end, none_end, done_reads, done_passes}
 use Rattle.vx_places.proofs.record.read_record.Goals as goal

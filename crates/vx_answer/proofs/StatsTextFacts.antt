@@ -15,7 +15,7 @@ use Rattle.vx_answer.specs.CommandLineView.{IsHelp, IsAskFault, IsArgumentFault}
 use Rattle.vx_answer.specs.Files.{input_after}
 use Rattle.vx_answer.specs.Plans.{AnswersPlans}
 use Rattle.vx_answer.specs.PlansView.{named_is}
-use Rattle.vx_answer.specs.Stats.{TellsPlans}
+use Rattle.vx_answer.specs.Stats.{ArePlansStats}
 use Rattle.vx_answer.specs.StatsView.{IsCountedAs, IsUncounted, IsStatsFault}
 use Rattle.vx_answer.specs.declared.command_line.ArgumentAnswer.{ArgumentAnswer}
 use Rattle.vx_answer.specs.declared.command_line.ArgumentAnswer.TheVariants as answer
@@ -25,10 +25,10 @@ use Rattle.vx_answer.proofs.CommandLineFacts.{arguments_refused}
 use Rattle.vx_answer.proofs.SharesFacts.{have_shares, answers_in}
 use Rattle.vx_answer.proofs.StatsFacts.{counted_answers}
 
--- what is told of several plans answers them
-pub tells_plans : (files : List ℕ → Stored) (input : Option (List ℕ)) (f : StatsForm) (paths : ManyPaths) (folder : List ℕ) (s : Setting) (text opening : List ℕ)
-    → TellsPlans files input f paths folder s text opening → AnswersPlans files input paths folder s text
-tells_plans files input f paths folder s text opening h =
+-- what is reported of several plans answers them
+pub plans_stats : (files : List ℕ → Stored) (input : Option (List ℕ)) (f : StatsForm) (paths : ManyPaths) (folder : List ℕ) (s : Setting) (text opening : List ℕ)
+    → ArePlansStats files input f paths folder s text opening → AnswersPlans files input paths folder s text
+plans_stats files input f paths folder s text opening h =
     let ns = map named_is h.plans in
     let shares = have_shares h.relations ns _ h.all h.loaded files (input_after input paths.catalog) ns h.planned.accepted (λ i is. is) in
     (h.relations, ns, h.all, h.planned, h.loaded, answers_in _ h.all s ns text shares (counted_answers f h.all s h.plans text h.stats h.runs))
@@ -38,13 +38,13 @@ pub one_ask : (arguments : List (List ℕ)) (a b : Ask) → AsksFor arguments a 
 one_ask arguments a b h k = let e : ◌≡◌ {A = Option Ask} (Some a) (Some b) = sym h.asked ∙ k.asked in cc
 
 -- help is an answer only where clap refuses something
-pub help_untold : (kinds : Kinds) (error : Error) (r : Result ArgumentAnswer ArgumentFault) (f : StatsForm) → kinds ≡ [] → HasKind kinds error → IfOk r (IsHelp (kind_of error)) → IfOk r (IsCountedAs f)
-help_untold kinds error (Ok (answer.Text text)) f none (inl memory) (inl help) = let no : kind.OutOfMemory ≡ kind.DisplayHelp = sym memory ∙ help in cc
-help_untold kinds error (Ok (answer.Text text)) f none (inl memory) (inr version) = let no : kind.OutOfMemory ≡ kind.DisplayVersion = sym memory ∙ version in cc
-help_untold kinds error (Ok (answer.Text text)) f none (inr among) h = let P : Kinds → Type 0 = λ ks. IsAmong (kind_of error) ks in absurd (subst P none among)
-help_untold kinds error (Ok (answer.Relation rows)) f none has h = absurd h
-help_untold kinds error (Ok (answer.Counted k)) f none has h = absurd h
-help_untold kinds error (Err e) f none has h = tt
+pub help_no_stats : (kinds : Kinds) (error : Error) (r : Result ArgumentAnswer ArgumentFault) (f : StatsForm) → kinds ≡ [] → HasKind kinds error → IfOk r (IsHelp (kind_of error)) → IfOk r (IsCountedAs f)
+help_no_stats kinds error (Ok (answer.Text text)) f none (inl memory) (inl help) = let no : kind.OutOfMemory ≡ kind.DisplayHelp = sym memory ∙ help in cc
+help_no_stats kinds error (Ok (answer.Text text)) f none (inl memory) (inr version) = let no : kind.OutOfMemory ≡ kind.DisplayVersion = sym memory ∙ version in cc
+help_no_stats kinds error (Ok (answer.Text text)) f none (inr among) h = let P : Kinds → Type 0 = λ ks. IsAmong (kind_of error) ks in absurd (subst P none among)
+help_no_stats kinds error (Ok (answer.Relation rows)) f none has h = absurd h
+help_no_stats kinds error (Ok (answer.Counted k)) f none has h = absurd h
+help_no_stats kinds error (Err e) f none has h = tt
 
 pub help_uncounted : (k : ErrorKind) (r : Result ArgumentAnswer ArgumentFault) → IfOk r (IsHelp k) → IfOk r IsUncounted
 help_uncounted k (Ok (answer.Text text)) h = tt
