@@ -136,6 +136,6 @@ pub record AreArgumentStats (files : List ℕ → Stored) (input : Option (List 
 -- and all of the statistics, with the time of the write
 pub record AreStatsOf (files : List ℕ → Stored) (input : Option (List ℕ)) (f : StatsForm) (arguments : List (List ℕ)) (text stats : List ℕ) : Type 0 where
   pub opening : List ℕ
-  pub stats : AreArgumentStats files input f arguments text opening
+  pub reports : AreArgumentStats files input f arguments text opening
   pub time : Option ℕ
   pub is : stats ≡ opening ++ write_end f time

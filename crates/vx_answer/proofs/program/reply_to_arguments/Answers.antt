@@ -108,7 +108,7 @@ returns-in-Ok-Counted-clause-stats g c = λ zero whole f ask asked run stats.
     subst P form (
       k.text.items,
       string_bytes k.opening ++ write_end k.form reported.0,
-      record { opening = string_bytes k.opening; stats = answers.1; time = reported.0; is = refl },
+      record { opening = string_bytes k.opening; reports = answers.1; time = reported.0; is = refl },
       c.write_counted.ensures.done zero,
       reported.1,
     )
