@@ -40,7 +40,7 @@ class Argument:
 
     def words(self):
         """The words that the option takes where it has a default that its help names in backquotes: help names all of them so."""
-        named = re.findall(r"`([\w-]+)`", self.help)
+        named = re.findall(r"`(\w[\w-]*)`", self.help)
         return list(dict.fromkeys(named)) if self.default_value in named else []
 
 

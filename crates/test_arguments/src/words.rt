@@ -29,6 +29,10 @@ fn described(alloc: Global, request: &Request<'_>) -> Result<String, AllocError>
     if request.is_verbose {
         return format!(in alloc; "{asked:?}, verbose");
     }
+    match request.stats {
+        None | Some("none") => {}
+        Some(format) => return format!(in alloc; "{asked:?}, statistics: {format}"),
+    }
     match request.threads {
         None | Some(0) => format!(in alloc; "{asked:?}"),
         Some(threads) => format!(in alloc; "{asked:?}, {threads} threads"),
@@ -41,7 +45,7 @@ fn kind_of(alloc: Global, error: &Error) -> Result<String, AllocError> {
 }
 
 // Lines, and what each asks for.
-const ASKED: [(&str, &str); 22] = [
+const ASKED: [(&str, &str); 26] = [
     ("volcano", "Bundle"),
     (
         "volcano check --catalog c --plan=-",
@@ -116,6 +120,22 @@ const ASKED: [(&str, &str); 22] = [
         "volcano run --threads 4 --catalog c --plan p --data d",
         r#"Run(Sources { catalog: "c", plan: "p" }, "d", Limits { packet: "256", morsel: "1024", slack: "8", mode: "rounds", sizes: [] }), 4 threads"#,
     ),
+    (
+        "volcano run --catalog c --plan p --data d --stats json many=4",
+        r#"Run(Sources { catalog: "c", plan: "p" }, "d", Limits { packet: "256", morsel: "1024", slack: "8", mode: "rounds", sizes: ["many=4"] }), statistics: json"#,
+    ),
+    (
+        "volcano run --stats=table --catalog c --plan p --data d",
+        r#"Run(Sources { catalog: "c", plan: "p" }, "d", Limits { packet: "256", morsel: "1024", slack: "8", mode: "rounds", sizes: [] }), statistics: table"#,
+    ),
+    (
+        "volcano explain --plan p --catalog c --format dot --stats s.json",
+        r#"Draw(Sources { catalog: "c", plan: "p" }, "s.json")"#,
+    ),
+    (
+        "volcano explain --stats=s.json --plan p --catalog c --format json",
+        "nothing",
+    ),
     ("volcano gen --rows 0", "Generate(0)"),
     (
         "volcano gen --rows=18446744073709551615",
@@ -132,7 +152,7 @@ fn commands_are_there(rt: HostRuntime) -> Result<(), Fail> {
 }
 
 // Lines that are refused, and the kind of each refusal.
-const REFUSED: [(&str, &str); 22] = [
+const REFUSED: [(&str, &str); 23] = [
     ("volcano check --catalog c", "MissingRequiredArgument"),
     (
         "volcano check --catalog c --plan p --data d",
@@ -160,6 +180,10 @@ const REFUSED: [(&str, &str); 22] = [
         "MissingRequiredArgument",
     ),
     ("volcano why K4 --verbose-errors", "UnknownArgument"),
+    (
+        "volcano serial --catalog c --plan p --data d --stats table",
+        "UnknownArgument",
+    ),
     ("volcano sql --plan p", "MissingRequiredArgument"),
     (
         "volcano check --catalog c --plan p --dialect sqlite",

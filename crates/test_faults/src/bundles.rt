@@ -6,7 +6,7 @@ use std::fs::{File, Files};
 use std::sync::Wait;
 use std::test::Fail;
 use std::thread::Threads;
-use vx_answer::{Disk, answer};
+use vx_answer::{Disk, NoClock, answer};
 use vx_bytes::{MemoryIn, MemoryOut};
 use vx_seeds::KeySeed;
 
@@ -75,6 +75,7 @@ pub fn written<R: Threads + Wait + Sync + Files<File = File> + AllocGlobal>(
     let mut err = MemoryOut::new(rt.alloc(), 10, ROOM);
     let status = answer(
         rt,
+        &NoClock,
         rt.alloc(),
         KeySeed::fixed(),
         &[],

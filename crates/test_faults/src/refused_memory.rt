@@ -8,7 +8,7 @@ use std::process::Abort;
 use std::sync::Wait;
 use std::test::Fail;
 use std::thread::Threads;
-use vx_answer::{Disk, answer};
+use vx_answer::{Disk, NoClock, answer};
 use vx_bytes::{MemoryIn, Real};
 use vx_seeds::KeySeed;
 
@@ -64,6 +64,7 @@ fn is_answered<R: Threads + Wait + Sync + Files<File = File> + AllocGlobal + Abo
     let mut input = MemoryIn::new(bundle.as_bytes(), None);
     let status = answer(
         rt,
+        &NoClock,
         rt.alloc(),
         KeySeed::fixed(),
         &[],

@@ -10,7 +10,8 @@ use std::thread::Threads;
 use vx_answer::Store;
 use vx_bytes::MemoryIn;
 
-const CATALOG: &str =
+/// The relation t(id, k, v), by its key and order id.
+pub const CATALOG: &str =
     r#"{"relations":[{"name":"t","columns":[{"name":"id","type":"int"},{"name":"k","type":"text"},{"name":"v","type":"int"}],"keys":[["id"]],"order":["id"]}]}"#;
 
 const PLAN: &str =
@@ -20,20 +21,21 @@ const PLAN: &str =
 const MERGED: &str =
     r#"{"sizes":["many"],"root":{"op":"exchange","kind":"gather","merge":["id"],"input":{"op":"scan","relation":"u","mode":"shared","size":"many"}}}"#;
 
-const ROWS: &str = "id,k,v\n0,a,5\n1,b,7\n2,a,-2\n3,c,7\n";
+/// Its rows.
+pub const ROWS: &str = "id,k,v\n0,a,5\n1,b,7\n2,a,-2\n3,c,7\n";
 
-// A file with its path, and how many bytes it gives before it fails.
+/// A file with its path, and how many bytes it gives before it fails.
 #[derive(Clone, Copy)]
-struct Leaf<'a> {
-    path: &'a str,
-    text: &'a str,
-    fails_after: Option<usize>,
+pub struct Leaf<'a> {
+    pub path: &'a str,
+    pub text: &'a str,
+    pub fails_after: Option<usize>,
 }
 
-// Files in memory.
+/// Files in memory.
 #[derive(Clone, Copy)]
-struct Shelf<'a> {
-    leaves: &'a [Leaf<'a>],
+pub struct Shelf<'a> {
+    pub leaves: &'a [Leaf<'a>],
 }
 
 // The first file of a path.

@@ -19,3 +19,5 @@ mod relations;
 mod roots;
 #[cfg(test)]
 mod serials;
+#[cfg(test)]
+mod stats;

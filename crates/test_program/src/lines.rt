@@ -3,7 +3,7 @@
 use std::sync::Wait;
 use std::test::Fail;
 use std::thread::Threads;
-use vx_answer::{Store, answer};
+use vx_answer::{NoClock, Store, answer};
 use vx_bytes::{MemoryIn, MemoryOut};
 use vx_seeds::KeySeed;
 
@@ -18,6 +18,7 @@ pub fn line_of<R: Threads + Wait + Sync + AllocGlobal, F: Store>(
     let mut err = MemoryOut::new(rt.alloc(), 10, 10000);
     let status = answer(
         rt,
+        &NoClock,
         rt.alloc(),
         KeySeed::fixed(),
         arguments,

@@ -9,7 +9,7 @@ use std::process::Abort;
 use std::sync::Wait;
 use std::test::Fail;
 use std::thread::Threads;
-use vx_answer::answer;
+use vx_answer::{NoClock, answer};
 use vx_bytes::{MemoryIn, Real};
 use vx_seeds::KeySeed;
 
@@ -29,6 +29,7 @@ fn status_over<R: Threads + Wait + Sync + AllocGlobal>(
     let mut input = MemoryIn::new(b"", None);
     answer(
         rt,
+        &NoClock,
         rt.alloc(),
         KeySeed::fixed(),
         &["gen", "--rows", "1"],

@@ -5,7 +5,7 @@ use crate::lines::line_of;
 use std::sync::Wait;
 use std::test::Fail;
 use std::thread::Threads;
-use vx_answer::answer;
+use vx_answer::{NoClock, answer};
 use vx_bytes::{MemoryIn, MemoryOut};
 use vx_seeds::KeySeed;
 
@@ -57,6 +57,7 @@ fn cut_off<R: Threads + Wait + Sync + AllocGlobal>(rt: &R, room: usize) -> Resul
     let words = ["gen", "--rows", "10000000"];
     let status = answer(
         rt,
+        &NoClock,
         rt.alloc(),
         KeySeed::fixed(),
         &words,

@@ -12,7 +12,7 @@ use std::fs::{File, Files};
 use std::sync::Wait;
 use std::thread::Threads;
 use std::{env, fs};
-use vx_answer::{Disk, answer};
+use vx_answer::{Disk, NoClock, answer};
 use vx_bytes::{MemoryIn, MemoryOut};
 use vx_seeds::KeySeed;
 
@@ -60,6 +60,7 @@ fn show<R: Threads + Wait + Sync + Files<File = File> + Print + AllocGlobal>(
     let mut err = MemoryOut::new(rt.alloc(), 4096, ROOM);
     let status = answer(
         rt,
+        &NoClock,
         rt.alloc(),
         KeySeed::fixed(),
         command.arguments.as_slice(),

@@ -82,6 +82,7 @@ fn main(rt: HostRuntime) -> ExitCode {
     let files = Watched::new(rt.alloc(), Disk::new(&rt), is_shown.then_some(&terminal));
     ExitCode::from(answer(
         &rt,
+        &rt,
         rt.alloc(),
         seed_of(&rt),
         texts.as_slice(),

@@ -50,6 +50,7 @@ pub arguments_answer : (files : List ℕ → Stored) (input : Option (List ℕ))
     → AsksFor arguments ask → IfOk r (λ a. IsAskAnswer files input ask a) → IfOk r (λ a. IsArgumentAnswer files input arguments a)
 arguments_answer files input arguments ask (Ok (answer.Text text)) asked h = for_what_is_asked ask asked h
 arguments_answer files input arguments ask (Ok (answer.Relation rows)) asked h = let P : Ask → Type 0 = λ a. AsksFor arguments a in subst P h asked
+arguments_answer files input arguments ask (Ok (answer.Counted k)) asked h = (for_what_is_asked ask asked h.0, record { ask = ask; asked = asked; reported = h.1 })
 arguments_answer files input arguments ask (Err e) asked h = tt
 
 -- and so does its refusal
@@ -71,6 +72,7 @@ clap_answer files input arguments error (Ok (answer.Text text)) (inr among) (inl
 clap_answer files input arguments error (Ok (answer.Text text)) (inr among) (inr version) =
     let P : ErrorKind → Type 0 = λ k. IsAmong k (faults_of (with_program_name arguments)) in for_help (inr (subst P version among))
 clap_answer files input arguments error (Ok (answer.Relation rows)) has h = absurd h
+clap_answer files input arguments error (Ok (answer.Counted k)) has h = absurd h
 clap_answer files input arguments error (Err e) has h = tt
 
 -- what clap refuses is refused as its kind says

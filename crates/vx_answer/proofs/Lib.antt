@@ -9,3 +9,5 @@ pub mod CaseFacts
 pub mod SeenFacts
 pub mod PlansFacts
 pub mod SharesFacts
+pub mod StatsFacts
+pub mod StatsTextFacts

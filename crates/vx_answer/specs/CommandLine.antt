@@ -1,10 +1,10 @@
 -- What answers arguments, over files and standard input, and why arguments may have no answer. `files`, `reliable`, `input` and `failed` are as in `Files`.
-use Rattle.std.specs.Prelude.{◌≡◌, ◌≢◌, ℕ, ◌+◌, ◌<◌, ◌≤◌, ◌⊎◌, ◌++◌, List, [], ◌∷◌, length, take, Bool, true, false, Option, Some, None, IfSome, bytes_eq, codes}
+use Rattle.std.specs.Prelude.{◌≡◌, ◌≢◌, ℕ, ◌+◌, ◌-◌, ◌<◌, ◌≤◌, ◌⊎◌, ◌++◌, List, [], ◌∷◌, length, map, slice_index_or, take, Bool, true, false, Option, Some, None, IfSome, bytes_eq, codes, if◌then◌else◌}
 use Rattle.clap.specs.Words.{IsAmong}
 use Rattle.clap.specs.declared.error.kind.ErrorKind.{ErrorKind}
 use Rattle.clap.specs.declared.error.kind.ErrorKind.TheVariants as kind
 use Rattle.vx_plan_nodes.specs.Names.{TypedPlanView}
-use Rattle.vx_arguments.specs.Asked.{Ask, Paths, ManyPaths, Given, bundle, check, check_all, explain, annotate, sql, why, serial, run, run_plans, generate, asked_by, faults_of}
+use Rattle.vx_arguments.specs.Asked.{Ask, Paths, ManyPaths, Given, bundle, check, check_all, explain, draw, annotate, sql, why, serial, run, run_plans, generate, asked_by, stats_by, faults_of}
 use Rattle.vx_bundle.specs.declared.command.Command.{Command}
 use Rattle.vx_bundle.specs.declared.command.Command.TheVariants as command
 use Rattle.vx_bundle.specs.declared.setting.Mode.TheVariants as mode
@@ -20,14 +20,16 @@ use Rattle.vx_answer.specs.Answer.{IsAnswer, RefusedWith}
 use Rattle.vx_answer.specs.Arguments.{IsSetting, IsNoSetting}
 use Rattle.vx_relations.specs.Relation.{Relation}
 use Rattle.vx_plan_json.specs.Document.{Document}
-use Rattle.vx_answer.specs.Files.{AreRead, AreNotRead, IsFilesPlan, IsFilesRefusal}
+use Rattle.vx_answer.specs.Files.{AreRead, AreNotRead, IsReadRefusal, IsFilesPlan, IsFilesRefusal}
 use Rattle.vx_answer.specs.Forms.{form_named, IsInForm, FormRefuses}
 use Rattle.vx_answer.specs.Statements.{dialect_named, IsStatement}
 use Rattle.vx_sql.specs.declared.dialect.Dialect.{Dialect}
 use Rattle.vx_answer.specs.Annotated.{IsAnnotated, AnnotationRefuses}
+use Rattle.vx_answer.specs.StatsNames.{stats_named}
 use Rattle.vx_answer.specs.Verdict.{IsAllShown, AreFailures}
 use Rattle.vx_answer.specs.Plans.{AnswersPlans, PlansStop, PlansRefuse}
 use Rattle.vx_answer.specs.declared.forms.PlanForm.{PlanForm}
+use Rattle.vx_answer.specs.declared.forms.PlanForm.TheVariants as form
 use Rattle.vx_why.specs.Codes.{is_code}
 use Rattle.vx_wisconsin.specs.Wisconsin.{max_rows, wisconsin, column_names}
 
@@ -48,6 +50,7 @@ IsTask bundle t = ⊥
 IsTask (check paths) t = t ≡ record { command = command.Check; paths = paths; folder = []; setting = default_setting }
 IsTask (check_all paths) t = ⊥
 IsTask (explain paths format) t = (bytes_eq format (codes "text") ≡ true) × (t ≡ record { command = command.Explain; paths = paths; folder = []; setting = default_setting })
+IsTask (draw paths stats) t = ⊥
 IsTask (annotate paths) t = ⊥
 IsTask (sql paths dialect) t = ⊥
 IsTask (why code) t = ⊥
@@ -56,12 +59,13 @@ IsTask (run paths folder limits) t = (s : Setting) × IsSetting limits s × (t �
 IsTask (run_plans paths folder limits) t = ⊥
 IsTask (generate rows) t = ⊥
 
--- arguments ask for a run and set none up, for a format or a dialect that there is not, or for a code that is none
+-- arguments ask for a run and set none up, for a format or a dialect that there is not, or for a code that is none; a file of statistics may be none of this plan
 abbrev pub IsNoTask : Ask → Type 0
 IsNoTask bundle = ⊥
 IsNoTask (check paths) = ⊥
 IsNoTask (check_all paths) = ⊥
 IsNoTask (explain paths format) = (bytes_eq format (codes "text") ≡ false) × (form_named format ≡ None)
+IsNoTask (draw paths stats) = Unit {0}
 IsNoTask (annotate paths) = ⊥
 IsNoTask (sql paths dialect) = dialect_named dialect ≡ None
 IsNoTask (why code) = is_code code ≡ false
@@ -89,6 +93,17 @@ AnswersForm files input f paths text = (p : TypedPlanView) × IsFilesPlan files 
 pub data FormIsRefused (files : List ℕ → Stored) (reliable : List ℕ → Bool) (input : Option (List ℕ)) (failed : Bool) (paths : Paths) (e : Refusal) : Type 0 where
   for_form_planning : IsFilesRefusal files reliable input failed paths e → FormIsRefused files reliable input failed paths e
   for_form : (p : TypedPlanView) → IsFilesPlan files input paths p → FormRefuses p e → FormIsRefused files reliable input failed paths e
+
+-- the text is that of the picture of the plan of these paths, with more statements before its closing bracket
+abbrev pub AnswersDrawing : (List ℕ → Stored) → Option (List ℕ) → Paths → List ℕ → Type 0
+AnswersDrawing files input paths text =
+    (picture : List ℕ) × (more : List ℕ) × AnswersForm files input form.Dot paths picture × (text ≡ take (length picture - 2) picture ++ more ++ codes "}\n")
+
+-- the first reason why there is none: there is no picture, or the file of statistics has no bytes; out of memory may come anywhere
+pub data DrawingIsRefused (files : List ℕ → Stored) (reliable : List ℕ → Bool) (input : Option (List ℕ)) (failed : Bool) (paths : Paths) (stats : List ℕ) (e : Refusal) : Type 0 where
+  drawing_memory : e ≡ refusal.NoMemory → DrawingIsRefused files reliable input failed paths stats e
+  for_picture : FormIsRefused files reliable input failed paths e → DrawingIsRefused files reliable input failed paths stats e
+  for_statistics : IsReadRefusal files reliable (Some []) failed stats e → DrawingIsRefused files reliable input failed paths stats e
 
 -- the text is the plan of these paths in the SQL of a dialect
 abbrev pub AnswersStatement : (List ℕ → Stored) → Option (List ℕ) → Dialect → Paths → List ℕ → Type 0
@@ -120,15 +135,24 @@ FailsAtAll files input paths lines = (p : TypedPlanView) × IsFilesPlan files in
 abbrev pub IsEntry : List ℕ → List ℕ → Type 0
 IsEntry code text = (is_code code ≡ true) × (take (length code + 1) text ≡ code ++ codes " ")
 
--- the program's name, and then the arguments
-abbrev pub with_program_name : List (List ℕ) → List (List ℕ)
-with_program_name arguments = codes "volcano" ∷ arguments
+-- the command that arguments begin with, empty where there are none
+abbrev pub command_in : List (List ℕ) → List ℕ
+command_in arguments = slice_index_or arguments 0 []
 
--- the text answers what arguments ask for: the bundle on standard input, a task, a check of all nodes, a plan in a form, as SQL or with other claims, runs of several plans, what a code means, or a relation, which has 10,000,000 rows at most
+-- an argument of a command, of which `--stats` alone asks a run for a table
+abbrev pub spelled_out : List ℕ → List ℕ → List ℕ
+spelled_out command argument = if bytes_eq command (codes "run") then (if bytes_eq argument (codes "--stats") then codes "--stats=table" else argument) else argument
+
+-- the program's name, and then the arguments, spelled out
+abbrev pub with_program_name : List (List ℕ) → List (List ℕ)
+with_program_name arguments = codes "volcano" ∷ map (spelled_out (command_in arguments)) arguments
+
+-- the text answers what arguments ask for: the bundle on standard input, a task, a check of all nodes, a plan in a form, as a picture with statistics, as SQL or with other claims, runs of several plans, what a code means, or a relation, which has 10,000,000 rows at most
 pub data AnswersAsk (files : List ℕ → Stored) (input : Option (List ℕ)) (ask : Ask) (text : List ℕ) : Type 0 where
   for_bundle : ask ≡ bundle → IfSome input (λ bytes. IsAnswer bytes text) → AnswersAsk files input ask text
   for_task : (t : FileCommand) → IsTask ask t → AnswersTask files input t text → AnswersAsk files input ask text
   for_plan_form : (f : PlanForm) (paths : Paths) (format : List ℕ) → ask ≡ explain paths format → form_named format ≡ Some f → AnswersForm files input f paths text → AnswersAsk files input ask text
+  for_drawing : (paths : Paths) (stats : List ℕ) → ask ≡ draw paths stats → AnswersDrawing files input paths text → AnswersAsk files input ask text
   for_sql : (d : Dialect) (paths : Paths) (name : List ℕ) → ask ≡ sql paths name → dialect_named name ≡ Some d → AnswersStatement files input d paths text → AnswersAsk files input ask text
   for_all_nodes : (paths : Paths) → ask ≡ check_all paths → AnswersAll files input paths text → AnswersAsk files input ask text
   for_claims : (paths : Paths) → ask ≡ annotate paths → AnswersAnnotation files input paths text → AnswersAsk files input ask text
@@ -148,6 +172,7 @@ pub data AskRefuses (files : List ℕ → Stored) (reliable : List ℕ → Bool)
   for_asked_bundle : ask ≡ bundle → RefusedWith input failed e → AskRefuses files reliable input failed ask e
   for_asked_task : (t : FileCommand) → IsTask ask t → TaskRefuses files reliable input failed t e → AskRefuses files reliable input failed ask e
   for_asked_form : (f : PlanForm) (paths : Paths) (format : List ℕ) → ask ≡ explain paths format → form_named format ≡ Some f → FormIsRefused files reliable input failed paths e → AskRefuses files reliable input failed ask e
+  for_asked_drawing : (paths : Paths) (stats : List ℕ) → ask ≡ draw paths stats → DrawingIsRefused files reliable input failed paths stats e → AskRefuses files reliable input failed ask e
   for_asked_sql : (d : Dialect) (paths : Paths) (name : List ℕ) → ask ≡ sql paths name → dialect_named name ≡ Some d → StatementIsRefused files reliable input failed paths e → AskRefuses files reliable input failed ask e
   for_asked_all : (paths : Paths) → ask ≡ check_all paths → IsFilesRefusal files reliable input failed paths e → AskRefuses files reliable input failed ask e
   for_asked_claims : (paths : Paths) → ask ≡ annotate paths → AnnotationIsRefused files reliable input failed paths e → AskRefuses files reliable input failed ask e
@@ -179,6 +204,7 @@ pub data IsUsageError (arguments : List (List ℕ)) : Type 0 where
   for_kind : (k : ErrorKind) → IsAmong k (faults_of (with_program_name arguments)) → IsUsageKind k → IsUsageError arguments
   for_nothing : faults_of (with_program_name arguments) ≡ [] → asked_by (with_program_name arguments) ≡ None → IsUsageError arguments
   for_no_task : (ask : Ask) → AsksFor arguments ask → IsNoTask ask → IsUsageError arguments
+  for_no_stats : (word : List ℕ) → faults_of (with_program_name arguments) ≡ [] → stats_by (with_program_name arguments) ≡ Some word → stats_named word ≡ None → IsUsageError arguments
 
 -- what arguments ask for is refused with this refusal, or memory ran out
 pub data ArgumentsRefuse (files : List ℕ → Stored) (reliable : List ℕ → Bool) (input : Option (List ℕ)) (failed : Bool) (arguments : List (List ℕ)) (e : Refusal) : Type 0 where

@@ -1,6 +1,6 @@
 -- What arguments ask for, as it is held; what answers them, and why they have no answer.
 use Rattle.std.specs.Prelude.{◌≡◌, ℕ, ◌⊎◌, List, Bool, Option, Some, string_bytes}
-use Rattle.vx_arguments.specs.Asked.{paths_are, many_are, Ask, Paths, ManyPaths, Given, bundle, check_all, explain, annotate, sql, why, run_plans, generate}
+use Rattle.vx_arguments.specs.Asked.{paths_are, many_are, Ask, Paths, ManyPaths, Given, bundle, check_all, explain, draw, annotate, sql, why, run_plans, generate}
 use Rattle.vx_answer.specs.declared.command_line.FileCommand as held
 use Rattle.vx_answer.specs.declared.command_line.Job.{Job}
 use Rattle.vx_answer.specs.declared.command_line.Job.TheVariants as job
@@ -18,6 +18,7 @@ use Rattle.vx_bundle.specs.Setting.{Setting}
 use Rattle.vx_answer.specs.declared.command_line.FilePlans.{FilePlans}
 use Rattle.vx_answer.specs.Arguments.{IsSetting}
 use Rattle.vx_answer.specs.Plans.{PlansStop, PlansRefuse}
+use Rattle.vx_answer.specs.Stats.{AreAskStats, AreArgumentStats}
 use Rattle.vx_answer.specs.CommandLine.{FileCommand, IsTask, IsNoTask, IsEntry, AnswersAsk, AskStops, FailsAtAll, AsksFor, AsksForFailing, AsksForStopped, AnswersArguments, IsUsageKind, AskRefuses, IsUsageError, ArgumentsRefuse}
 
 abbrev pub task_is : held.FileCommand → FileCommand
@@ -34,6 +35,7 @@ IsJob ask (job.Command t) = IsTask ask (task_is t)
 IsJob ask (job.Verdict sources) = ask ≡ check_all (paths_are sources)
 IsJob ask (job.Annotation sources) = ask ≡ annotate (paths_are sources)
 IsJob ask (job.Form f sources) = (format : List ℕ) × (ask ≡ explain (paths_are sources) format) × (form_named format ≡ Some f)
+IsJob ask (job.Drawing sources stats) = ask ≡ draw (paths_are sources) stats.now
 IsJob ask (job.Statement d sources) = (name : List ℕ) × (ask ≡ sql (paths_are sources) name) × (dialect_named name ≡ Some d)
 IsJob ask (job.Plans t) = IsPlansTask ask t
 IsJob ask (job.Entry text) = (code : List ℕ) × (ask ≡ why code) × IsEntry code text.now
@@ -43,16 +45,19 @@ IsJob ask (job.Relation rows) = ask ≡ generate rows
 abbrev pub IsAskAnswer : (List ℕ → Stored) → Option (List ℕ) → Ask → ArgumentAnswer → Type 0
 IsAskAnswer files input ask (answer.Text text) = AnswersAsk files input ask text.items
 IsAskAnswer files input ask (answer.Relation rows) = ask ≡ generate rows
+IsAskAnswer files input ask (answer.Counted k) = AnswersAsk files input ask k.text.items × AreAskStats files input k.form ask k.text.items (string_bytes k.opening)
 
 -- what answers arguments
 abbrev pub IsArgumentAnswer : (List ℕ → Stored) → Option (List ℕ) → List (List ℕ) → ArgumentAnswer → Type 0
 IsArgumentAnswer files input arguments (answer.Text text) = AnswersArguments files input arguments text.items
 IsArgumentAnswer files input arguments (answer.Relation rows) = AsksFor arguments (generate rows)
+IsArgumentAnswer files input arguments (answer.Counted k) = AnswersArguments files input arguments k.text.items × AreArgumentStats files input k.form arguments k.text.items (string_bytes k.opening)
 
 -- an answer by clap of this kind: the text of help or of the version
 abbrev pub IsHelp : ErrorKind → ArgumentAnswer → Type 0
 IsHelp k (answer.Text text) = (k ≡ kind.DisplayHelp) ⊎ (k ≡ kind.DisplayVersion)
 IsHelp k (answer.Relation rows) = ⊥
+IsHelp k (answer.Counted counted) = ⊥
 
 -- arguments are wrong, with this text, or memory ran out
 abbrev pub HasUsageText : List ℕ → ArgumentFault → Type 0

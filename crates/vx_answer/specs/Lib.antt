@@ -2,6 +2,7 @@ pub mod Planning
 pub mod Commands
 pub mod Answer
 pub mod Arguments
+pub mod StatsNames
 pub mod Files
 pub mod Forms
 pub mod Statements
@@ -13,3 +14,5 @@ pub mod CommandLineView
 pub mod Case
 pub mod Plans
 pub mod PlansView
+pub mod Stats
+pub mod StatsView

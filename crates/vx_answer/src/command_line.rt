@@ -1,32 +1,39 @@
 //! What arguments ask for, answered from files and standard input.
 
-ghost use Rattle.std.specs.Prelude.{◌≡◌, map, MatchOption, IfOk, IfErr};
+ghost use Rattle.std.specs.Prelude.{◌≡◌, ◌⊎◌, true, map, option_map, Some, None, MatchOption, IfOk, IfErr};
 ghost use Rattle.clap.specs.Values.{kind_of};
-ghost use Rattle.vx_arguments.specs.Asked.{asked_is, paths_are, many_are, given_is, run, run_plans, check_all, explain, sql, why};
+ghost use Rattle.vx_arguments.specs.Asked.{asked_is, paths_are, many_are, given_is, run, run_plans, check_all, explain, draw, sql, why, Ask};
+ghost use Rattle.vx_stats.specs.declared.text.StatsForm.{StatsForm};
 ghost use Rattle.vx_answer.specs.Arguments.{IsSetting, IsNoSetting};
 ghost use Rattle.vx_answer.specs.Plans.{AnswersPlans};
-ghost use Rattle.vx_answer.specs.CommandLine.{default_setting, IsTask, IsNoTask, AnswersTask, TaskRefuses, AnswersForm, FormIsRefused, AnswersStatement, StatementIsRefused, AnswersAnnotation, AnnotationIsRefused, with_program_name};
+ghost use Rattle.vx_answer.specs.CommandLine.{default_setting, IsTask, IsNoTask, AnswersTask, TaskRefuses, AnswersForm, FormIsRefused, AnswersStatement, StatementIsRefused, AnswersAnnotation, AnnotationIsRefused, command_in, spelled_out, with_program_name, AsksFor};
+ghost use Rattle.vx_answer.specs.Stats.{stats_of_word, stats_asked, is_run};
+ghost use Rattle.vx_answer.specs.StatsView.{IsCountedAs, IsUncounted, IsStatsFault};
 ghost use Rattle.vx_answer.specs.CommandLineView.{task_is, IsPlansTask, IsJob, IsAskAnswer, IsArgumentAnswer, IsHelp, HasUsageText, IsClapFault, IsPlansFault, IsAskFault, IsArgumentFault};
 
 use crate::annotating::annotated_plan;
 use crate::arguments::setting_in;
 use crate::command::execute;
+use crate::counting::answer_counted;
 use crate::failing::{Verdict, verdict_on};
-use crate::files::{document_from_files, is_input, plan_from_files};
-use crate::forms::{PlanForm, form_named, plan_in_form};
+use crate::files::{bytes_at, document_from_files, is_input, plan_from_files};
+use crate::forms::{PlanForm, form_named, node_count, plan_in_form};
 use crate::loading::loading_threads;
 use crate::plans::{accepted_plans, catalog_under};
 use crate::program::outcome_of;
 use crate::runs::{Stopped, run_each};
 use crate::statement::{dialect_named, statement};
+use crate::stats::{Counted, stats_named};
 use clap::Error;
 use clap::error::ErrorKind;
 use std::alloc::{AllocError, Global};
 use std::sync::Wait;
 use std::thread::Threads;
-use vx_arguments::{Asked, Limits, ManySources, Sources, asked_for};
+use std::time::Clock;
+use vx_arguments::{Asked, Limits, ManySources, Request, Sources, asked_for};
 use vx_bundle::{Command, MORSEL, Mode, PACKET, SLACK, Setting};
 use vx_bytes::{ByteIn, Store};
+use vx_drawing::{DrawFault, draw};
 use vx_refusals::Refusal;
 use vx_seeds::KeySeed;
 use vx_sql::Dialect;
@@ -62,6 +69,8 @@ enum Job<'a> {
     Annotation(Sources<'a>),
     /// A plan in a form, over the catalog and the plan that arguments name.
     Form(PlanForm, Sources<'a>),
+    /// A plan's picture with the statistics of the file at a path, over the catalog and the plan that arguments name.
+    Drawing(Sources<'a>, &'a str),
     /// A plan as a statement of SQL, over the catalog and the plan that arguments name.
     Statement(Dialect, Sources<'a>),
     Plans(FilePlans<'a>),
@@ -78,6 +87,8 @@ pub enum ArgumentAnswer {
     Text(Vec<u8>),
     /// The text of the relation with so many rows, which is still to be made.
     Relation(u64),
+    /// A finished text, and statistics that follow it.
+    Counted(Counted),
 }
 
 /// Why arguments have no answer.
@@ -216,7 +227,7 @@ fn sql_job<'a>(sources: Sources<'a>, dialect: &str) -> Option<Job<'a>>
     }
 }
 
-// What telling the meaning of a code is.
+// What printing the meaning of a code is.
 fn why_job<'a>(code: &str) -> Option<Job<'a>>
     ensures { MatchOption result (IsNoTask (why code.now)) (λ j. IsJob (why code.now) j) }
 {
@@ -239,6 +250,7 @@ fn job_in<'a>(alloc: Global, asked: &Asked<'a>) -> Result<Option<Job<'a>>, Alloc
         Asked::CheckAll(sources) => Ok(Some(Job::Verdict(*sources))),
         Asked::Annotate(sources) => Ok(Some(Job::Annotation(*sources))),
         Asked::Explain(sources, format) => Ok(explain_job(alloc, *sources, format)),
+        Asked::Draw(sources, stats) => Ok(Some(Job::Drawing(*sources, *stats))),
         Asked::Sql(sources, dialect) => Ok(sql_job(*sources, dialect)),
         Asked::Why(code) => Ok(why_job(code)),
         Asked::Serial(sources, folder) => {
@@ -347,6 +359,33 @@ fn answer_statement<F: Store, I: ByteIn>(
     Ok(text)
 }
 
+// What is wrong with a file of statistics.
+const NO_COUNTS: &str =
+    "volcano: a file of statistics is what `run --stats=json` wrote of this plan; see volcano explain --help\n";
+
+// The picture of the plan at one path over the catalog at the other, with the statistics of the file at a third.
+fn answer_drawing<F: Store, I: ByteIn>(
+    alloc: Global,
+    files: &F,
+    input: &mut I,
+    sources: Sources<'_>,
+    stats: &str,
+) -> Result<ArgumentAnswer, ArgumentFault>
+    ensures answer { IfOk result (λ a. IsAskAnswer (F.holds files.now) (I.remaining input.old) (draw (paths_are sources.entry) stats.now) a) }
+    ensures no_stats { IfOk result IsUncounted }
+    ensures refused { IfErr result (IsAskFault (F.holds files.now) (F.is_reliable files.now) (I.remaining input.old) (I.has_failed input.new) (draw (paths_are sources.entry) stats.now)) }
+{
+    let plan = plan_from_files(alloc, files, input, sources)?;
+    let nodes = node_count(plan.root());
+    let picture = plan_in_form(alloc, PlanForm::Dot, plan)?;
+    let counted = bytes_at(alloc, files, input, true, stats)?;
+    match draw(alloc, nodes, picture.as_slice(), counted.as_slice()) {
+        Ok(drawing) => Ok(ArgumentAnswer::Text(drawing)),
+        Err(DrawFault::NoMemory) => Err(ArgumentFault::Refused(Refusal::NoMemory)),
+        Err(DrawFault::BadStats) => Err(usage_error(alloc, NO_COUNTS)),
+    }
+}
+
 // The plan at one path over the catalog at the other, with the claims that the rule table shows.
 fn answer_annotation<F: Store, I: ByteIn>(
     alloc: Global,
@@ -369,6 +408,7 @@ fn answer_verdict<F: Store, I: ByteIn>(
     sources: Sources<'_>,
 ) -> Result<ArgumentAnswer, ArgumentFault>
     ensures answer { IfOk result (λ a. IsAskAnswer (F.holds files.now) (I.remaining input.old) (check_all (paths_are sources.entry)) a) }
+    ensures no_stats { IfOk result IsUncounted }
     ensures refused { IfErr result (IsAskFault (F.holds files.now) (F.is_reliable files.now) (I.remaining input.old) (I.has_failed input.new) (check_all (paths_are sources.entry))) }
 {
     let plan = plan_from_files(alloc, files, input, sources)?;
@@ -378,8 +418,8 @@ fn answer_verdict<F: Store, I: ByteIn>(
     }
 }
 
-// What is wrong with arguments that ask for what there is not.
-fn usage_text(asked: &Asked<'_>) -> &'static str {
+/// What is wrong with arguments that ask for what there is not.
+pub fn usage_text(asked: &Asked<'_>) -> &'static str {
     match asked {
         Asked::Explain(_, _) => {
             "volcano: a format is `text`, `json` or `dot`; see volcano explain --help\n"
@@ -396,8 +436,8 @@ fn usage_text(asked: &Asked<'_>) -> &'static str {
     }
 }
 
-// The fault of wrong arguments, with the text that says how they are wrong.
-fn usage_error(alloc: Global, text: &str) -> ArgumentFault
+/// The fault of wrong arguments, with the text that says how they are wrong.
+pub fn usage_error(alloc: Global, text: &str) -> ArgumentFault
     ensures { HasUsageText text.now result }
 {
     match String::from_str(alloc, text) {
@@ -406,8 +446,8 @@ fn usage_error(alloc: Global, text: &str) -> ArgumentFault
     }
 }
 
-// What answers what arguments ask for, where up to so many threads load a table.
-fn answer_asked<T: Threads + Wait + Sync, F: Store, I: ByteIn>(
+/// What answers what arguments ask for, without statistics. Up to so many threads load a table.
+pub fn answer_asked<T: Threads + Wait + Sync, F: Store, I: ByteIn>(
     rt: &T,
     alloc: Global,
     threads: usize,
@@ -417,6 +457,7 @@ fn answer_asked<T: Threads + Wait + Sync, F: Store, I: ByteIn>(
     asked: &Asked<'_>,
 ) -> Result<ArgumentAnswer, ArgumentFault>
     ensures answer { IfOk result (λ a. IsAskAnswer (F.holds files.now) (I.remaining input.old) (asked_is asked.now) a) }
+    ensures no_stats { IfOk result IsUncounted }
     ensures refused { IfErr result (IsAskFault (F.holds files.now) (F.is_reliable files.now) (I.remaining input.old) (I.has_failed input.new) (asked_is asked.now)) }
 {
     match job_in(alloc, asked)? {
@@ -434,6 +475,7 @@ fn answer_asked<T: Threads + Wait + Sync, F: Store, I: ByteIn>(
             let text = answer_form(alloc, files, input, form, sources)?;
             Ok(ArgumentAnswer::Text(text))
         }
+        Some(Job::Drawing(sources, stats)) => answer_drawing(alloc, files, input, sources, stats),
         Some(Job::Statement(dialect, sources)) => {
             let text = answer_statement(alloc, files, input, dialect, sources)?;
             Ok(ArgumentAnswer::Text(text))
@@ -451,19 +493,83 @@ fn answer_asked<T: Threads + Wait + Sync, F: Store, I: ByteIn>(
     }
 }
 
-// The program's name, and then the arguments.
+// The command that arguments begin with, empty where there are none.
+fn command_in<'a>(arguments: &[&'a str]) -> &'a str
+    ensures { result.now ≡ command_in (map (λ a. a.now) arguments.now) }
+{
+    match arguments.first() {
+        Some(command) => *command,
+        None => "",
+    }
+}
+
+// An argument of a command, of which `--stats` alone asks a run for a table.
+fn spelled_out<'a>(command: &str, argument: &'a str) -> &'a str
+    ensures { result.now ≡ spelled_out command.now argument.now }
+{
+    match (command, argument) {
+        ("run", "--stats") => "--stats=table",
+        _ => argument,
+    }
+}
+
+/// The program's name, and then the arguments, spelled out.
 pub fn with_program_name<'a>(
     alloc: Global,
     arguments: &[&'a str],
 ) -> Result<Vec<&'a str>, AllocError>
     ensures { IfOk result (λ v. map (λ a. a.now) v.items ≡ with_program_name (map (λ a. a.now) arguments.now)) }
 {
+    let command = command_in(arguments);
     let mut all = Vec::new(alloc);
     all.push("volcano")?;
     for argument in arguments {
-        all.push(*argument)?;
+        all.push(spelled_out(command, argument))?;
     }
     Ok(all)
+}
+
+// What is wrong with a word for statistics.
+const NO_STATS: &str =
+    "volcano: statistics are `none`, `table` or `json`; see volcano run --help\n";
+
+// What answers a request.
+fn answer_request<T: Threads + Wait + Sync, C: Clock, F: Store, I: ByteIn>(
+    rt: &T,
+    clock: &C,
+    alloc: Global,
+    seed: KeySeed,
+    files: &F,
+    input: &mut I,
+    request: &Request<'_>,
+) -> Result<ArgumentAnswer, ArgumentFault>
+    ensures answer { IfOk result (λ a. IsAskAnswer (F.holds files.now) (I.remaining input.old) (asked_is request.now.asked) a) }
+    ensures stats { (f : StatsForm) → is_run (asked_is request.now.asked) ≡ true → stats_of_word (option_map (λ s. s.now) request.now.stats) ≡ Some f → IfOk result (IsCountedAs f) }
+    ensures no_stats { stats_of_word (option_map (λ s. s.now) request.now.stats) ≡ None → IfOk result IsUncounted }
+    ensures refused { IfErr result (λ e. IsAskFault (F.holds files.now) (F.is_reliable files.now) (I.remaining input.old) (I.has_failed input.new) (asked_is request.now.asked) e
+        ⊎ IsStatsFault (option_map (λ s. s.now) request.now.stats) e) }
+{
+    let threads = loading_threads(rt, request.threads);
+    match request.stats {
+        None => answer_asked(rt, alloc, threads, seed, files, input, &request.asked),
+        Some(word) => match stats_named(word) {
+            None => Err(usage_error(alloc, NO_STATS)),
+            Some(None) => answer_asked(rt, alloc, threads, seed, files, input, &request.asked),
+            Some(Some(form)) => {
+                answer_counted(
+                    rt,
+                    clock,
+                    alloc,
+                    threads,
+                    seed,
+                    files,
+                    input,
+                    form,
+                    &request.asked,
+                )
+            }
+        },
+    }
 }
 
 // What clap returns in place of matches: help, which is an answer, or a fault.
@@ -482,8 +588,9 @@ fn help_or_fault(alloc: Global, error: &Error) -> Result<ArgumentAnswer, Argumen
 }
 
 /// What answers arguments.
-pub fn answer_arguments<T: Threads + Wait + Sync, F: Store, I: ByteIn>(
+pub fn answer_arguments<T: Threads + Wait + Sync, C: Clock, F: Store, I: ByteIn>(
     rt: &T,
+    clock: &C,
     alloc: Global,
     seed: KeySeed,
     files: &F,
@@ -491,15 +598,17 @@ pub fn answer_arguments<T: Threads + Wait + Sync, F: Store, I: ByteIn>(
     arguments: &[&str],
 ) -> Result<ArgumentAnswer, ArgumentFault>
     ensures answer { IfOk result (λ a. IsArgumentAnswer (F.holds files.now) (I.remaining input.old) (map (λ a. a.now) arguments.now) a) }
+    ensures stats { (f : StatsForm) (ask : Ask) → AsksFor (map (λ a. a.now) arguments.now) ask → is_run ask ≡ true → stats_asked (map (λ a. a.now) arguments.now) ≡ Some f → IfOk result (IsCountedAs f) }
+    ensures no_stats { stats_asked (map (λ a. a.now) arguments.now) ≡ None → IfOk result IsUncounted }
     ensures refused { IfErr result (IsArgumentFault (F.holds files.now) (F.is_reliable files.now) (I.remaining input.old) (I.has_failed input.new) (map (λ a. a.now) arguments.now)) }
 {
     let arguments = with_program_name(alloc, arguments)?;
     match asked_for(alloc, arguments.as_slice()) {
-        Ok(Some(request)) => {
-            let threads = loading_threads(rt, request.threads);
-            answer_asked(rt, alloc, threads, seed, files, input, &request.asked)
-        }
-        Ok(None) => Err(usage_error(alloc, "volcano: the arguments ask for nothing\n")),
+        Ok(Some(request)) => answer_request(rt, clock, alloc, seed, files, input, &request),
+        Ok(None) => Err(usage_error(
+            alloc,
+            "volcano: statistics are drawn with --format dot alone; see volcano explain --help\n",
+        )),
         Err(error) => help_or_fault(alloc, &error),
     }
 }

@@ -6,6 +6,7 @@ mod arguments;
 mod bundle;
 mod command;
 mod command_line;
+mod counting;
 mod failing;
 mod files;
 mod forms;
@@ -18,8 +19,10 @@ mod run;
 mod runs;
 mod serial;
 mod statement;
+mod stats;
 
 pub use laws::case_is_refused_by_setup;
 pub use program::{answer, deliver};
 pub use vx_bytes::{Disk, Store};
 pub use vx_refusals::{Refusal, report};
+pub use vx_stats::NoClock;

@@ -38,7 +38,9 @@ fn inputs_of<'a>(alloc: Global, asked: &Asked<'a>) -> Result<Option<Inputs<'a>>,
         Asked::Check(sources) | Asked::CheckAll(sources) | Asked::Annotate(sources) => {
             with_one_plan(alloc, *sources, "")
         }
-        Asked::Explain(sources, _) | Asked::Sql(sources, _) => with_one_plan(alloc, *sources, ""),
+        Asked::Explain(sources, _) | Asked::Draw(sources, _) | Asked::Sql(sources, _) => {
+            with_one_plan(alloc, *sources, "")
+        }
         Asked::Serial(sources, folder) => with_one_plan(alloc, *sources, *folder),
         Asked::Run(sources, folder, _) => with_one_plan(alloc, *sources, *folder),
         Asked::RunPlans(sources, folder, _) => Ok(Some(Inputs {
@@ -84,7 +86,7 @@ fn place_asked<F: Store>(
     }
 }
 
-// The line, if the arguments want one and the place is found again.
+// The line, if the arguments ask for one and the place is found again.
 fn place_of<F: Store>(
     alloc: Global,
     files: &F,

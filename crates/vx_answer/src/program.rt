@@ -1,11 +1,15 @@
 //! The whole program but its `main`: from all input to all output.
 
-ghost use Rattle.std.specs.Prelude.{◌≡◌, ◌≢◌, ◌<◌, ◌≤◌, ◌⊎◌, ℕ, List, [], true, false, map, IfSome, IfOk, IfErr, IsErrOf};
+ghost use Rattle.std.specs.Prelude.{◌≡◌, ◌≢◌, ◌<◌, ◌≤◌, ◌⊎◌, ◌||◌, ◌++◌, ℕ, List, [], Option, Some, None, true, false, map, string_bytes, is_err, IfSome, IfOk, IfErr, OnOk, IsErrOf};
 ghost use Rattle.std.specs.Io.KnownBytes.{Appends, Keeps};
 ghost use Rattle.vx_answer.specs.Answer.{IsAnswer, RefusedWith, IsRefusedBy};
 ghost use Rattle.vx_catalog.specs.Csv.{csv_text};
 ghost use Rattle.vx_refusals.specs.Status.{status_of};
-ghost use Rattle.vx_answer.specs.CommandLine.{AnswersArguments, IsUsageError, AreRefusedBy, AsksForFailing, AsksForStopped};
+ghost use Rattle.vx_arguments.specs.Asked.{Ask};
+ghost use Rattle.vx_stats.specs.Text.{write_end};
+ghost use Rattle.vx_stats.specs.declared.text.StatsForm.{StatsForm};
+ghost use Rattle.vx_answer.specs.Stats.{is_run, stats_asked, AreStatsOf};
+ghost use Rattle.vx_answer.specs.CommandLine.{AnswersArguments, AsksFor, IsUsageError, AreRefusedBy, AsksForFailing, AsksForStopped};
 ghost use Rattle.vx_wisconsin.specs.Wisconsin.{max_rows, wisconsin, column_names};
 
 use crate::bundle::answer_bytes;
@@ -13,12 +17,15 @@ use crate::command_line::{ArgumentAnswer, ArgumentFault, answer_arguments};
 use crate::files::input_bytes;
 use crate::places::write_place;
 use crate::runs::Stopped;
+use crate::stats::Counted;
 use std::alloc::Global;
 use std::sync::Wait;
 use std::thread::Threads;
-use vx_bytes::{ByteIn, ByteOut, Store, write_all};
+use std::time::Clock;
+use vx_bytes::{Broken, ByteIn, ByteOut, Store, write_all};
 use vx_refusals::{Refusal, report, status};
 use vx_seeds::KeySeed;
+use vx_stats::{Stopwatch, write_end};
 use vx_wisconsin::{GenerateFault, generate};
 
 /// The most bytes that an input may have.
@@ -65,6 +72,7 @@ fn refuse_in_place<F: Store, E: ByteOut>(
 fn write_text<O: ByteOut, E: ByteOut>(text: &[u8], out: &mut O, err: &mut E) -> u8
     ensures done { result ≡ 0 → Appends (O.contents out.old) (O.contents out.new) text.now }
     ensures failed { result ≢ 0 → (result ≡ 4) × (O.has_failed out.new ≡ true) }
+    ensures quiet { result ≡ 0 → err.new ≡ err.old }
 {
     match write_all(out, text) {
         Ok(()) => 0,
@@ -82,6 +90,7 @@ pub fn deliver<O: ByteOut, E: ByteOut>(
     ensures done { IfOk outcome (λ text. result ≡ 0 → Appends (O.contents out.old) (O.contents out.new) text.items) }
     ensures failed { IfOk outcome (λ _. result ≢ 0 → (result ≡ 4) × (O.has_failed out.new ≡ true)) }
     ensures refused { IfErr outcome (λ e. (result ≡ status_of e) × (out.new ≡ out.old)) }
+    ensures quiet { result ≡ 0 → err.new ≡ err.old }
 {
     match outcome {
         Ok(text) => write_text(text.as_slice(), out, err),
@@ -121,6 +130,7 @@ fn write_relation<O: ByteOut, E: ByteOut>(alloc: Global, rows: u64, out: &mut O,
     ensures done { result ≡ 0 → (rows ≤ max_rows) × Appends (O.contents out.old) (O.contents out.new) (csv_text column_names (wisconsin rows)) }
     ensures kept { result ≢ 0 → O.has_failed out.new ≡ false → out.new ≡ out.old }
     ensures statuses { (result ≡ 0) ⊎ (result ≡ 3) ⊎ (result ≡ 4) }
+    ensures quiet { result ≡ 0 → err.new ≡ err.old }
     ensures large { (max_rows < rows → result ≡ 3) × (result ≡ 3 → (max_rows < rows) × (out.new ≡ out.old)) }
 {
     match generate(alloc, rows, out) {
@@ -151,9 +161,49 @@ fn write_stopped<O: ByteOut, E: ByteOut>(stopped: Stopped, out: &mut O, err: &mu
     }
 }
 
+// Writes the statistics of runs on `err`, the time that the write of their rows took too.
+fn write_stats<E: ByteOut>(counted: &Counted, time: Option<u64>, err: &mut E) -> Result<(), Broken>
+    ensures ok { OnOk result (Appends (E.contents err.old) (E.contents err.new) (string_bytes counted.now.opening ++ write_end counted.now.form time)) }
+    ensures fails { E.has_failed err.new ≡ (E.has_failed err.old || is_err result) }
+{
+    write_all(err, counted.opening.as_bytes())?;
+    write_end(err, counted.form, time)
+}
+
+// Writes the rows of runs on `out`, or reports on `err` that this failed. The statistics of the runs follow on `err`; a write of
+// them that fails changes nothing else.
+fn write_counted<C: Clock, O: ByteOut, E: ByteOut>(
+    clock: &C,
+    counted: &Counted,
+    out: &mut O,
+    err: &mut E,
+) -> u8
+    ensures done { result ≡ 0 → Appends (O.contents out.old) (O.contents out.new) counted.now.text.items }
+    ensures failed { result ≢ 0 → (result ≡ 4) × (O.has_failed out.new ≡ true) }
+    ensures stats { result ≡ 0 → E.has_failed err.new ≡ false
+        → (time : Option ℕ) × Appends (E.contents err.old) (E.contents err.new) (string_bytes counted.now.opening ++ write_end counted.now.form time) }
+{
+    let mut watch = Stopwatch::start(clock);
+    match write_text(counted.text.as_slice(), out, err) {
+        0 => {
+            let _ = write_stats(counted, watch.lap(clock), err);
+            0
+        }
+        failed => failed,
+    }
+}
+
 // Answers arguments: writes the answer on `out`, or reports on `err` why there is none.
-fn reply_to_arguments<T: Threads + Wait + Sync, F: Store, I: ByteIn, O: ByteOut, E: ByteOut>(
+fn reply_to_arguments<
+    T: Threads + Wait + Sync,
+    C: Clock,
+    F: Store,
+    I: ByteIn,
+    O: ByteOut,
+    E: ByteOut,
+>(
     rt: &T,
+    clock: &C,
     alloc: Global,
     seed: KeySeed,
     arguments: &[&str],
@@ -163,6 +213,10 @@ fn reply_to_arguments<T: Threads + Wait + Sync, F: Store, I: ByteIn, O: ByteOut,
     err: &mut E,
 ) -> u8
     ensures done { result ≡ 0 → (text : List ℕ) × AnswersArguments (F.holds files.now) (I.remaining input.old) (map (λ a. a.now) arguments.now) text × Appends (O.contents out.old) (O.contents out.new) text }
+    ensures stats { result ≡ 0 → E.has_failed err.new ≡ false → (f : StatsForm) (ask : Ask) → AsksFor (map (λ a. a.now) arguments.now) ask → is_run ask ≡ true → stats_asked (map (λ a. a.now) arguments.now) ≡ Some f
+        → (text : List ℕ) × (stats : List ℕ) × AreStatsOf (F.holds files.now) (I.remaining input.old) f (map (λ a. a.now) arguments.now) text stats
+        × Appends (O.contents out.old) (O.contents out.new) text × Appends (E.contents err.old) (E.contents err.new) stats }
+    ensures no_stats { result ≡ 0 → stats_asked (map (λ a. a.now) arguments.now) ≡ None → err.new ≡ err.old }
     ensures kept { result ≢ 0 → O.has_failed out.new ≡ false → (out.new ≡ out.old)
         ⊎ ((text : List ℕ) × (e : Refusal) × AsksForStopped (F.holds files.now) (I.remaining input.old) (map (λ a. a.now) arguments.now) text e × (result ≡ status_of e) × Appends (O.contents out.old) (O.contents out.new) text) }
     ensures statuses { (result ≡ 0) ⊎ (result ≡ 2) ⊎ (result ≡ 3) ⊎ (result ≡ 4) }
@@ -171,9 +225,10 @@ fn reply_to_arguments<T: Threads + Wait + Sync, F: Store, I: ByteIn, O: ByteOut,
         ⊎ ((lines : List ℕ) × AsksForFailing (F.holds files.now) (I.remaining input.old) (map (λ a. a.now) arguments.now) lines × (E.has_failed err.new ≡ false → Appends (E.contents err.old) (E.contents err.new) lines)) }
     ensures failed { result ≡ 4 → (O.has_failed out.new ≡ true) ⊎ AreRefusedBy 4 (F.holds files.now) (F.is_reliable files.now) (I.remaining input.old) (I.has_failed input.new) (map (λ a. a.now) arguments.now) }
 {
-    match answer_arguments(rt, alloc, seed, files, input, arguments) {
+    match answer_arguments(rt, clock, alloc, seed, files, input, arguments) {
         Ok(ArgumentAnswer::Text(text)) => deliver(Ok(text), out, err),
         Ok(ArgumentAnswer::Relation(rows)) => write_relation(alloc, rows, out, err),
+        Ok(ArgumentAnswer::Counted(counted)) => write_counted(clock, &counted, out, err),
         Err(ArgumentFault::Refused(refusal)) => refuse_in_place(
             alloc, files, arguments, &refusal, err,
         ),
@@ -192,12 +247,16 @@ fn reply_to_arguments<T: Threads + Wait + Sync, F: Store, I: ByteIn, O: ByteOut,
 /// The status is 0 if `out` got the answer, 2 for wrong arguments, 3 for input that is refused, and 4 if the machine or
 /// the run failed. All work ends before the first byte goes to `out`; the text of a relation alone is written as it is made,
 /// once all memory for it is there. Of several plans, `out` gets the answers before the first that is refused. A refusal is
-/// one line on `err`, below which another says where it was found, if the arguments want that. A write of them that fails changes
+/// one line on `err`, below which another says where it was found, if the arguments ask for it. A write of them that fails changes
 /// nothing else.
 ///
-/// Keys are hashed by the seed, on which nothing of this depends.
-pub fn answer<T: Threads + Wait + Sync, F: Store, I: ByteIn, O: ByteOut, E: ByteOut>(
+/// Where the arguments ask for the statistics of runs, `err` gets those of the runs whose rows `out` got; where they ask for none,
+/// status 0 leaves `err` as it was.
+///
+/// Keys are hashed by the seed, on which nothing of this depends. The clock is asked where the arguments ask for statistics.
+pub fn answer<T: Threads + Wait + Sync, C: Clock, F: Store, I: ByteIn, O: ByteOut, E: ByteOut>(
     rt: &T,
+    clock: &C,
     alloc: Global,
     seed: KeySeed,
     arguments: &[&str],
@@ -219,6 +278,10 @@ pub fn answer<T: Threads + Wait + Sync, F: Store, I: ByteIn, O: ByteOut, E: Byte
 
     // With arguments, status 0 comes only for what they ask for, answered, and then `out` got exactly that.
     ensures arguments_done { arguments.now ≢ [] → result ≡ 0 → (text : List ℕ) × AnswersArguments (F.holds files.now) (I.remaining input.old) (map (λ a. a.now) arguments.now) text × Appends (O.contents out.old) (O.contents out.new) text }
+    ensures arguments_stats { arguments.now ≢ [] → result ≡ 0 → E.has_failed err.new ≡ false → (f : StatsForm) (ask : Ask) → AsksFor (map (λ a. a.now) arguments.now) ask → is_run ask ≡ true
+        → stats_asked (map (λ a. a.now) arguments.now) ≡ Some f → (text : List ℕ) × (stats : List ℕ) × AreStatsOf (F.holds files.now) (I.remaining input.old) f (map (λ a. a.now) arguments.now) text stats
+        × Appends (O.contents out.old) (O.contents out.new) text × Appends (E.contents err.old) (E.contents err.new) stats }
+    ensures arguments_no_stats { arguments.now ≢ [] → result ≡ 0 → stats_asked (map (λ a. a.now) arguments.now) ≡ None → err.new ≡ err.old }
     ensures arguments_statuses { arguments.now ≢ [] → (result ≡ 0) ⊎ (result ≡ 2) ⊎ (result ≡ 3) ⊎ (result ≡ 4) }
 
     // Status 2 comes only for arguments that are wrong. Status 3 comes only for what they ask for, refused, or for a check of
@@ -239,5 +302,5 @@ pub fn answer<T: Threads + Wait + Sync, F: Store, I: ByteIn, O: ByteOut, E: Byte
     if arguments.is_empty() {
         return reply(rt, alloc, seed, input, out, err);
     }
-    reply_to_arguments(rt, alloc, seed, arguments, files, input, out, err)
+    reply_to_arguments(rt, clock, alloc, seed, arguments, files, input, out, err)
 }

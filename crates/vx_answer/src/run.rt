@@ -1,8 +1,9 @@
 //! Runs of plans over tables.
 
-ghost use Rattle.std.specs.Prelude.{◌≡◌, map, IfOk, IfErr};
+ghost use Rattle.std.specs.Prelude.{◌≡◌, true, map, IfOk, IfErr};
 ghost use Rattle.vx_bundle.specs.declared.setting.Mode.TheVariants as mode;
 ghost use Rattle.vx_exchange.specs.ByteRouter.{byte_route};
+ghost use Rattle.vx_exec.specs.Counts.{is_wanted, counts_in};
 ghost use Rattle.vx_exec.specs.Sizes.{Sizes};
 ghost use Rattle.vx_exec.specs.Runs.{IfDone, IsRunOf, IsSetUp};
 ghost use Rattle.vx_parallel.specs.Parallel.{IsWhole};
@@ -12,6 +13,7 @@ ghost use Rattle.vx_plan_nodes.specs.TypedView.{resolved_of};
 ghost use Rattle.vx_check_rules.specs.CheckedView.{typed_plan};
 ghost use Rattle.vx_bundle.specs.Setting.{size_form};
 ghost use Rattle.vx_answer.specs.Commands.{IsRunOver, RunRefuses, IsRun, PlanRefuses, setup_of};
+ghost use Rattle.vx_answer.specs.Stats.{CountedIn, IsCountedRun};
 
 use std::alloc::{AllocError, Global};
 use std::sync::Wait;
@@ -20,8 +22,8 @@ use vx_bundle::{Mode, Setting};
 use vx_catalog::{Database, format_rows};
 use vx_check::CheckedPlan;
 use vx_exchange::ByteRouter;
-use vx_exec::{Ran, Setup, run_rounds};
-use vx_parallel::{Free, run_threads};
+use vx_exec::{Ran, RunCounts, Setup, run_rounds_counted};
+use vx_parallel::{Free, run_threads_counted};
 use vx_plan::{TypedPlan, name_texts};
 use vx_refusals::Refusal;
 use vx_seeds::KeySeed;
@@ -58,45 +60,68 @@ pub fn text_of(alloc: Global, plan: &TypedPlan, rows: &Rows) -> Result<Vec<u8>, 
     format_rows(alloc, names.as_slice(), rows)
 }
 
-// What a run of a plan over a database comes to, in the mode that the setting says.
+// What a run of a plan over a database comes to, in the mode that the setting says. What its workers counted is kept, if that is
+// wanted.
 fn ran_over<T: Threads + Wait + Sync>(
     rt: &T,
     alloc: Global,
     setting: &Setting,
     plan: &CheckedPlan,
     database: &Database,
+    counts: &mut RunCounts,
 ) -> Result<Ran, Refusal>
     ensures done { IfOk result (IfDone (λ rows. (s : Sizes) × IsSetUp (resolved_of (typed_plan plan.now)) database.now (setup_of setting.now) s
         × IsRunOf byte_route (resolved_of (typed_plan plan.now)) database.now s.groups rows)) }
     ensures set { IfOk result (λ _. (s : Sizes) × IsSetUp (resolved_of (typed_plan plan.now)) database.now (setup_of setting.now) s) }
     ensures whole { setting.now.mode ≡ mode.Threads → IfOk result IsWhole }
     ensures refused { IfErr result (λ e. RunRefuses (resolved_of (typed_plan plan.now)) database.now setting.now e) }
+    ensures counted { is_wanted counts.old ≡ true → IfOk result (λ r. (s : Sizes) → IsSetUp (resolved_of (typed_plan plan.now)) database.now (setup_of setting.now) s
+        → CountedIn setting.now.mode (typed_plan plan.now) database.now s r (counts_in counts.new)) }
 {
     let setup = setup_of(alloc, setting)?;
     match setting.mode() {
         Mode::Rounds => {
-            let ran = run_rounds(alloc, plan, database, &setup, &ByteRouter, MAX_ROUNDS)?;
+            let ran = run_rounds_counted(
+                alloc,
+                plan,
+                database,
+                &setup,
+                &ByteRouter,
+                MAX_ROUNDS,
+                counts,
+            )?;
             Ok(ran)
         }
         Mode::Threads => {
-            let ran = run_threads(rt, alloc, plan, database, &setup, &ByteRouter, &Free)?;
+            let ran = run_threads_counted(
+                rt,
+                alloc,
+                plan,
+                database,
+                &setup,
+                &ByteRouter,
+                &Free,
+                counts,
+            )?;
             Ok(ran)
         }
     }
 }
 
-/// The text of a run of a plan over a database.
+/// The text of a run of a plan over a database. What its workers counted is kept, if that is wanted.
 pub fn run_over<T: Threads + Wait + Sync>(
     rt: &T,
     alloc: Global,
     setting: &Setting,
     plan: &CheckedPlan,
     database: &Database,
+    counts: &mut RunCounts,
 ) -> Result<Vec<u8>, Refusal>
     ensures text { IfOk result (λ text. IsRunOver (resolved_of (typed_plan plan.now)) database.now setting.now text.items) }
     ensures refused { IfErr result (λ e. RunRefuses (resolved_of (typed_plan plan.now)) database.now setting.now e) }
+    ensures counted { is_wanted counts.old ≡ true → IfOk result (λ text. IsCountedRun (typed_plan plan.now) database.now setting.now text.items (counts_in counts.new)) }
 {
-    match ran_over(rt, alloc, setting, plan, database)? {
+    match ran_over(rt, alloc, setting, plan, database, counts)? {
         Ran::Done(rows) => Ok(text_of(alloc, plan.plan(), &rows)?),
         Ran::Unfinished => Err(Refusal::Unfinished),
     }
@@ -116,5 +141,6 @@ pub fn run_plan<R: Threads + Wait + Sync, T: Tables>(
     ensures refused { IfErr result (λ e. PlanRefuses (resolved_of (typed_plan plan.now)) (T.holds tables.now) (T.lacks tables.now) setting.now e) }
 {
     let database = load_tables_in_threads(rt, alloc, threads, seed, plan.plan(), tables)?;
-    run_over(rt, alloc, setting, plan, &database)
+    let mut unread = RunCounts::unread(alloc);
+    run_over(rt, alloc, setting, plan, &database, &mut unread)
 }

@@ -14,6 +14,7 @@ use std::sync::Wait;
 use std::thread::Threads;
 use vx_bundle::Setting;
 use vx_catalog::Database;
+use vx_exec::RunCounts;
 use vx_refusals::Refusal;
 
 /// The answers before the first plan of which the run gives no text, and why it gives none.
@@ -23,8 +24,8 @@ pub struct Stopped {
     pub refusal: Refusal,
 }
 
-// A text behind the line with the path of its plan.
-fn titled(alloc: Global, path: &str, text: &[u8]) -> Result<Vec<u8>, AllocError>
+/// A text behind the line with the path of its plan.
+pub fn titled(alloc: Global, path: &str, text: &[u8]) -> Result<Vec<u8>, AllocError>
     ensures { IfOk result (λ t. t.items ≡ title path.now ++ text.now) }
 {
     let mut titled = Vec::from_slice(alloc, b"# ")?;
@@ -45,7 +46,8 @@ fn titled_run<T: Threads + Wait + Sync>(
     ensures text { IfOk result (λ t. (own : List ℕ) × IsRunOver (resolved_of (typed_plan accepted.now.plan)) database.now setting.now own × (t.items ≡ title accepted.now.path.now ++ own)) }
     ensures refused { IfErr result (RunRefuses (resolved_of (typed_plan accepted.now.plan)) database.now setting.now) }
 {
-    let text = run_over(rt, alloc, setting, &accepted.plan, database)?;
+    let mut unread = RunCounts::unread(alloc);
+    let text = run_over(rt, alloc, setting, &accepted.plan, database, &mut unread)?;
     Ok(titled(alloc, accepted.path, text.as_slice())?)
 }
 

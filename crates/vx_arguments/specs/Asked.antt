@@ -63,14 +63,18 @@ verbose_rule = flag_rule (codes "verbose-errors")
 abbrev pub threads_rule : Rule
 threads_rule = number_rule (codes "threads") (codes "0")
 
+-- the file of statistics that the picture of a plan shows, which need not be given
+abbrev pub drawn_rule : Rule
+drawn_rule = record (new_rule (codes "drawn")) { long = Some (codes "stats"); value_names = 1 }
+
 abbrev pub serial_app : App
 serial_app = with_rule (with_rule (with_rule (with_rule (judging_app (codes "serial")) (path_rule (codes "data"))) threads_rule) (flag_rule (codes "quiet"))) verbose_rule
 
 abbrev pub run_app : App
 run_app =
-    with_rule (with_rule (with_rule (with_rule (with_rule (with_rule (with_rule (with_rule (with_rule (reading_app (codes "run") plans_rule) (path_rule (codes "data")))
+    with_rule (with_rule (with_rule (with_rule (with_rule (with_rule (with_rule (with_rule (with_rule (with_rule (reading_app (codes "run") plans_rule) (path_rule (codes "data")))
     (number_rule (codes "packet") (codes "256"))) (number_rule (codes "morsel") (codes "1024"))) (number_rule (codes "slack") (codes "8"))) (word_rule (codes "mode") (codes "rounds")))
-    threads_rule) (flag_rule (codes "quiet"))) verbose_rule) sizes_rule
+    threads_rule) (flag_rule (codes "quiet"))) (word_rule (codes "stats") (codes "none"))) verbose_rule) sizes_rule
 
 abbrev pub gen_app : App
 gen_app = with_rule (new_app (codes "gen")) rows_rule
@@ -79,7 +83,7 @@ abbrev pub check_app : App
 check_app = with_rule (with_rule (judging_app (codes "check")) (flag_rule (codes "all"))) verbose_rule
 
 abbrev pub explain_app : App
-explain_app = with_rule (with_rule (judging_app (codes "explain")) (word_rule (codes "format") (codes "text"))) verbose_rule
+explain_app = with_rule (with_rule (with_rule (judging_app (codes "explain")) (word_rule (codes "format") (codes "text"))) drawn_rule) verbose_rule
 
 abbrev pub annotate_app : App
 annotate_app = with_rule (judging_app (codes "annotate")) verbose_rule
@@ -123,6 +127,7 @@ pub data Ask : Type 0 where
   check : Paths → Ask
   check_all : Paths → Ask
   explain : Paths → (format : Text) → Ask
+  draw : Paths → (stats : Text) → Ask
   annotate : Paths → Ask
   sql : Paths → (dialect : Text) → Ask
   why : (code : Text) → Ask
@@ -159,8 +164,13 @@ run_of rows = option_and_then (λ c. option_and_then (λ ps. option_and_then (λ
 abbrev pub check_of : List Row → Option Ask
 check_of rows = option_and_then (λ p. option_map (λ all. if bytes_eq all (codes "true") then check_all p else check p) (first_of (codes "all") rows)) (paths_of rows)
 
+-- a plan in this format, with the statistics of this file where one is given: they are drawn into a picture alone
+abbrev pub explain_in : Paths → Text → Option Text → Option Ask
+explain_in paths format None = Some (explain paths format)
+explain_in paths format (Some stats) = if bytes_eq format (codes "dot") then Some (draw paths stats) else None
+
 abbrev pub explain_of : List Row → Option Ask
-explain_of rows = option_and_then (λ p. option_map (explain p) (first_of (codes "format") rows)) (paths_of rows)
+explain_of rows = option_and_then (λ p. option_and_then (λ f. explain_in p f (first_of (codes "drawn") rows)) (first_of (codes "format") rows)) (paths_of rows)
 
 abbrev pub sql_of : List Row → Option Ask
 sql_of rows = option_and_then (λ p. option_map (sql p) (first_of (codes "dialect") rows)) (paths_of rows)
@@ -196,6 +206,11 @@ abbrev pub threads_of : Option (Text × List Row) → Option ℕ
 threads_of None = None
 threads_of (Some p) = option_and_then number_of (first_of (codes "threads") p.1)
 
+-- the format of statistics in these matches of a subcommand, where it has any
+abbrev pub stats_of : Option (Text × List Row) → Option Text
+stats_of None = None
+stats_of (Some p) = first_of (codes "stats") p.1
+
 -- what the arguments ask for, the program's name first
 unfoldable pub asked_by : List Text → Option Ask
 asked_by arguments = ask_of (subcommand_of volcano_app arguments)
@@ -207,6 +222,10 @@ verbose_by arguments = verbose_of (subcommand_of volcano_app arguments)
 -- how many threads they ask to load with
 unfoldable pub threads_by : List Text → Option ℕ
 threads_by arguments = threads_of (subcommand_of volcano_app arguments)
+
+-- the format of statistics that they ask for, where they ask for a run
+unfoldable pub stats_by : List Text → Option Text
+stats_by arguments = stats_of (subcommand_of volcano_app arguments)
 
 -- the kinds that a refusal of the arguments may have; none if they are accepted
 unfoldable pub faults_of : List Text → Kinds
@@ -226,6 +245,7 @@ asked_is asked.Bundle = bundle
 asked_is (asked.Check sources) = check (paths_are sources)
 asked_is (asked.CheckAll sources) = check_all (paths_are sources)
 asked_is (asked.Explain sources format) = explain (paths_are sources) format.now
+asked_is (asked.Draw sources stats) = draw (paths_are sources) stats.now
 asked_is (asked.Annotate sources) = annotate (paths_are sources)
 asked_is (asked.Sql sources dialect) = sql (paths_are sources) dialect.now
 asked_is (asked.Why code) = why code.now

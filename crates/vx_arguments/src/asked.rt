@@ -2,7 +2,7 @@
 
 ghost use Rattle.std.specs.Prelude.{◌≡◌, IfOk, IfSome, false, map, option_map, option_and_then, codes};
 ghost use Rattle.clap.specs.Words.{FailsBy, fault_of, rows_of, found_of, first_of, all_of, subcommand_of, subcommand_rows_of};
-ghost use Rattle.vx_arguments.specs.Asked.{volcano_app, paths_of, given_of, sizes_of, serial_of, check_of, explain_of, sql_of, run_for, run_of, number_of, generate_of, ask_of, asked_by, verbose_of, verbose_by, threads_of, threads_by, faults_of, paths_are, given_is, asked_is};
+ghost use Rattle.vx_arguments.specs.Asked.{volcano_app, paths_of, given_of, sizes_of, serial_of, check_of, explain_of, sql_of, run_for, run_of, number_of, generate_of, ask_of, asked_by, verbose_of, verbose_by, threads_of, threads_by, stats_of, stats_by, faults_of, paths_are, given_is, asked_is};
 
 use crate::command_line::command;
 use clap::{ArgMatches, Error};
@@ -42,6 +42,8 @@ pub enum Asked<'a> {
     CheckAll(Sources<'a>),
     /// With the name of the text's format.
     Explain(Sources<'a>, &'a str),
+    /// The plan's picture, with the file of a run's statistics.
+    Draw(Sources<'a>, &'a str),
     /// The plan with the claims that the rule table shows.
     Annotate(Sources<'a>),
     /// The plan as a statement of SQL, with the name of the dialect.
@@ -66,6 +68,8 @@ pub struct Request<'a> {
     pub is_verbose: bool,
     /// How many threads load each table, where the command loads any; 0 is one for each processor.
     pub threads: Option<u64>,
+    /// The format of a run's statistics: `none`, `table` or `json`, if it is one of them.
+    pub stats: Option<&'a str>,
 }
 
 // The first value of an option.
@@ -139,7 +143,13 @@ fn explain_asked<'a>(found: &ArgMatches<'a>) -> Option<Asked<'a>>
 {
     let sources = sources_in(found)?;
     let format = value(found, "format")?;
-    Some(Asked::Explain(sources, format))
+    let Some(stats) = value(found, "drawn") else {
+        return Some(Asked::Explain(sources, format));
+    };
+    match format {
+        "dot" => Some(Asked::Draw(sources, stats)),
+        _ => None,
+    }
 }
 
 fn sql_asked<'a>(found: &ArgMatches<'a>) -> Option<Asked<'a>>
@@ -259,22 +269,33 @@ fn threads_in(matches: &ArgMatches<'_>) -> Option<u64>
     number_in(value(found, "threads")?)
 }
 
+// The format of statistics in matches.
+fn stats_in<'a>(matches: &ArgMatches<'a>) -> Option<&'a str>
+    ensures { option_map (λ s. s.now) result ≡ stats_of (subcommand_rows_of matches.now) }
+{
+    let (_, found) = matches.subcommand()?;
+    value(found, "stats")
+}
+
 /// What the arguments ask for, the program's name first. An `Err` is running out of memory, a usage error, or help.
-#[tactic(auto, unfolding(crate::specs::Asked::asked_by, crate::specs::Asked::verbose_by, crate::specs::Asked::threads_by, crate::specs::Asked::faults_of))]
+#[tactic(auto, unfolding(crate::specs::Asked::asked_by, crate::specs::Asked::verbose_by, crate::specs::Asked::threads_by, crate::specs::Asked::stats_by, crate::specs::Asked::faults_of))]
 pub fn asked_for<'a>(alloc: Global, arguments: &'a [&'a str]) -> Result<Option<Request<'a>>, Error>
     ensures asked { IfOk result (λ o. option_map (λ r. asked_is r.asked) o ≡ asked_by (map (λ w. w.now) arguments.entry.now)) }
     ensures verbose { IfOk result (λ o. IfSome o (λ r. r.is_verbose ≡ verbose_by (map (λ w. w.now) arguments.entry.now))) }
     ensures threads { IfOk result (λ o. IfSome o (λ r. r.threads ≡ threads_by (map (λ w. w.now) arguments.entry.now))) }
+    ensures stats { IfOk result (λ o. IfSome o (λ r. option_map (λ s. s.now) r.stats ≡ stats_by (map (λ w. w.now) arguments.entry.now))) }
     ensures faults { FailsBy (faults_of (map (λ w. w.now) arguments.entry.now)) result }
 {
     let matches = matches_in(alloc, arguments)?;
     let is_verbose = is_verbose(&matches);
     let threads = threads_in(&matches);
+    let stats = stats_in(&matches);
     match asked_in(alloc, &matches)? {
         Some(asked) => Ok(Some(Request {
             asked,
             is_verbose,
             threads,
+            stats,
         })),
         None => Ok(None),
     }

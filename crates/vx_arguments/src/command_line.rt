@@ -3,7 +3,7 @@
 ghost use Rattle.std.specs.Prelude.{◌≡◌, IfOk, false, codes};
 ghost use Rattle.clap.specs.Words.{app_of, rule_of};
 ghost use Rattle.clap.specs.declared.builder.command.Command.TheViews.{out-Command as fields_of};
-ghost use Rattle.vx_arguments.specs.Asked.{path_rule, plans_rule, number_rule, rows_rule, word_rule, flag_rule, code_rule, sizes_rule, verbose_rule, reading_app, judging_app, serial_app, run_app, check_app, explain_app, annotate_app, sql_app, why_app, gen_app, program_app, volcano_app};
+ghost use Rattle.vx_arguments.specs.Asked.{path_rule, plans_rule, number_rule, rows_rule, word_rule, flag_rule, code_rule, sizes_rule, verbose_rule, drawn_rule, reading_app, judging_app, serial_app, run_app, check_app, explain_app, annotate_app, sql_app, why_app, gen_app, program_app, volcano_app};
 
 use clap::{Arg, ArgAction, Command, value_parser};
 use std::alloc::{AllocError, Global};
@@ -120,6 +120,31 @@ fn verbose_option<'a>(alloc: Global) -> Arg<'a>
         .long("verbose-errors")
         .help("Behind a refusal, a line that says where in the files it was found")
         .action(ArgAction::SetTrue)
+}
+
+fn stats_option<'a>(alloc: Global) -> Arg<'a>
+    ensures rule { rule_of result ≡ word_rule (codes "stats") (codes "none") }
+    ensures own { result.global ≡ false }
+{
+    word_option(
+        alloc,
+        "stats",
+        "FORMAT",
+        "none",
+        "What each worker did and how long each phase took, on standard error: `table`, `json` or `none`; `--stats` alone is `table`",
+    )
+}
+
+fn drawn_option<'a>(alloc: Global) -> Arg<'a>
+    ensures rule { rule_of result ≡ drawn_rule }
+    ensures own { result.global ≡ false }
+{
+    Arg::new(alloc, "drawn")
+        .long("stats")
+        .value_name("FILE")
+        .help(
+            "What `run --stats=json` wrote of this plan, drawn into the picture: with `--format dot` alone",
+        )
 }
 
 fn quiet_option<'a>(alloc: Global) -> Arg<'a>
@@ -294,6 +319,7 @@ fn run<'a>(alloc: Global) -> Result<Command<'a>, AllocError>
     .arg(mode_option(alloc))?
     .arg(threads_option(alloc))?
     .arg(quiet_option(alloc))?
+    .arg(stats_option(alloc))?
     .arg(verbose_option(alloc))?
     .arg(sizes_argument(alloc))
 }
@@ -323,6 +349,7 @@ fn explain<'a>(alloc: Global) -> Result<Command<'a>, AllocError>
         "Example: volcano explain --catalog catalog.json --plan plan.json",
     )?
     .arg(format_option(alloc))?
+    .arg(drawn_option(alloc))?
     .arg(verbose_option(alloc))
 }
 

@@ -208,8 +208,8 @@ fn binary_word(operator: &Binary) -> &'static str
     }
 }
 
-// The node's operator in a word.
-fn op_word(node: &TypedNode) -> &'static str
+/// The node's operator in a word.
+pub fn op_word(node: &TypedNode) -> &'static str
     ensures { result.now ≡ op_word (outline_of node.now) }
 {
     match node {

@@ -6,4 +6,4 @@ mod json;
 mod words;
 
 pub use dot::explain_dot;
-pub use json::explain_json;
+pub use json::{explain_json, op_word};

@@ -1,5 +1,13 @@
-use Rattle.std.proofs.Common.{refl}
-use Rattle.vx_answer.specs.Commands.{for_rounds}
+use Rattle.std.proofs.Common.{refl, rules, subst, ◌≡◌}
+use Rattle.vx_exec.specs.Runs.{IfDone, IsRunOf, IsSetUp}
+use Rattle.vx_exec.specs.Sizes.{Sizes}
+use Rattle.vx_exec.specs.Counts.{counts_in}
+use Rattle.vx_exec.specs.declared.ran.Ran.{Ran}
+use Rattle.vx_exchange.specs.ByteRouter.{byte_route}
+use Rattle.vx_plan_nodes.specs.TypedView.{resolved_of}
+use Rattle.vx_check_rules.specs.CheckedView.{typed_plan}
+use Rattle.vx_answer.specs.Stats.{CountedIn}
+use Rattle.vx_answer.specs.Commands.{for_rounds, setup_of}
 use Rattle.vx_answer.proofs.Refusing.{in_rounds, not_whole}
 use Rattle.vx_answer.proofs.run.run_over.Goals as goal
 
@@ -8,3 +16,18 @@ returns-in-Unfinished-clause-refused g c =
     let set = c.in_ok-rows.ensures.set in
     let rounds = in_rounds c.args.setting.now.mode (λ threads. not_whole c.ran_over.result c.in_ok-rows.field-0 c.in_ok-rows.was c.in-Unfinished.is (c.ran_over.ensures.whole threads)) in
     for_rounds rounds set.0 set.1 refl
+
+pub returns-in_ok-text_of-clause-counted : goal.returns-in_ok-text_of-clause-counted
+returns-in_ok-text_of-clause-counted g c = λ wanted.
+    let p = typed_plan c.args.plan.now in
+    let db = c.args.database.now in
+    let setting = c.args.setting.now in
+    let done = subst (λ (r : Ran). IfDone (λ rows. (s : Sizes) × IsSetUp (resolved_of p) db (setup_of setting) s × IsRunOf byte_route (resolved_of p) db s.groups rows) r) c.in-Done.is c.in_ok-rows.ensures.done in
+    record {
+      rows = c.in-Done.rows;
+      sizes = done.0;
+      set = done.1;
+      run = done.2;
+      is = search rules;
+      counted = subst (λ (r : Ran). CountedIn setting.mode p db done.0 r (counts_in c.ran_over.new.counts)) c.in-Done.is (c.in_ok-rows.ensures.counted wanted done.0 done.1);
+    }

@@ -15,8 +15,9 @@ returns-clause-app c =
     let mode = c.in_ok-arg-5.ensures.shape c.mode_option.ensures.own ∙ ap₂ with_rule slack c.mode_option.ensures.rule in
     let threads = c.in_ok-arg-6.ensures.shape c.threads_option.ensures.own ∙ ap₂ with_rule mode c.threads_option.ensures.rule in
     let quiet = c.in_ok-arg-7.ensures.shape c.quiet_option.ensures.own ∙ ap₂ with_rule threads c.quiet_option.ensures.rule in
-    let verbose = c.in_ok-arg-8.ensures.shape c.verbose_option.ensures.own ∙ ap₂ with_rule quiet c.verbose_option.ensures.rule in
-    IfOk-weaker c.arg-9.result _ _ (λ r h. h.shape c.sizes_argument.ensures.own ∙ ap₂ with_rule verbose c.sizes_argument.ensures.rule) c.arg-9.ensures
+    let stats = c.in_ok-arg-8.ensures.shape c.stats_option.ensures.own ∙ ap₂ with_rule quiet c.stats_option.ensures.rule in
+    let verbose = c.in_ok-arg-9.ensures.shape c.verbose_option.ensures.own ∙ ap₂ with_rule stats c.verbose_option.ensures.rule in
+    IfOk-weaker c.arg-10.result _ _ (λ r h. h.shape c.sizes_argument.ensures.own ∙ ap₂ with_rule verbose c.sizes_argument.ensures.rule) c.arg-10.ensures
 
 pub returns-clause-local : goal.returns-clause-local
 returns-clause-local c =
@@ -28,5 +29,6 @@ returns-clause-local c =
     let mode : (out-Command c.in_ok-arg-5.field-0).has_globals ≡ false = c.in_ok-arg-5.ensures.globals ∙ ap₂ or slack c.mode_option.ensures.own in
     let threads : (out-Command c.in_ok-arg-6.field-0).has_globals ≡ false = c.in_ok-arg-6.ensures.globals ∙ ap₂ or mode c.threads_option.ensures.own in
     let quiet : (out-Command c.in_ok-arg-7.field-0).has_globals ≡ false = c.in_ok-arg-7.ensures.globals ∙ ap₂ or threads c.quiet_option.ensures.own in
-    let verbose : (out-Command c.in_ok-arg-8.field-0).has_globals ≡ false = c.in_ok-arg-8.ensures.globals ∙ ap₂ or quiet c.verbose_option.ensures.own in
-    IfOk-weaker c.arg-9.result _ _ (λ r h. h.globals ∙ ap₂ or verbose c.sizes_argument.ensures.own) c.arg-9.ensures
+    let stats : (out-Command c.in_ok-arg-8.field-0).has_globals ≡ false = c.in_ok-arg-8.ensures.globals ∙ ap₂ or quiet c.stats_option.ensures.own in
+    let verbose : (out-Command c.in_ok-arg-9.field-0).has_globals ≡ false = c.in_ok-arg-9.ensures.globals ∙ ap₂ or stats c.verbose_option.ensures.own in
+    IfOk-weaker c.arg-10.result _ _ (λ r h. h.globals ∙ ap₂ or verbose c.sizes_argument.ensures.own) c.arg-10.ensures

@@ -1,0 +1,35 @@
+//! Clocks for tests.
+
+use std::cell::Cell;
+use std::io;
+use std::io::ErrorKind;
+use std::time::{Clock, Duration};
+
+/// A clock that goes on by so many nanoseconds each time that it is asked.
+#[derive(Drop)]
+pub struct Ticking {
+    now: Cell<u64>,
+    step: u64,
+}
+
+impl Ticking {
+    /// It begins at 0.
+    pub fn new(step: u64) -> Ticking {
+        Ticking {
+            now: Cell::new(0),
+            step,
+        }
+    }
+}
+
+impl Clock for Ticking {
+    fn monotonic(&self) -> io::Result<Duration> {
+        let now = self.now.get();
+        self.now.set(now.wrapping_add(self.step));
+        Ok(Duration::from_nanos(now))
+    }
+
+    fn since_1970(&self) -> io::Result<Duration> {
+        Err(ErrorKind::Unsupported.into())
+    }
+}

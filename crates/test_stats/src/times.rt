@@ -1,0 +1,46 @@
+//! What a clock comes to.
+
+use crate::clocks::Ticking;
+use std::alloc::Global;
+use std::test::Fail;
+use vx_stats::{NoClock, Phase, PhaseTime, Timer};
+
+// A phase with its microseconds.
+fn timed(phase: Phase, microseconds: Option<u64>) -> PhaseTime {
+    PhaseTime {
+        phase,
+        microseconds,
+    }
+}
+
+#[test]
+fn each_phase_lasts_from_the_end_of_the_one_before(rt: HostRuntime) -> Result<(), Fail> {
+    let alloc = rt.alloc();
+    let clock = Ticking::new(2_500_000);
+    let mut timer = Timer::start(alloc, &clock);
+    timer.end(&clock, Phase::Read)?;
+    timer.end(&clock, Phase::Run)?;
+    let times = [
+        timed(Phase::Read, Some(2500)),
+        timed(Phase::Run, Some(2500)),
+    ];
+    assert_eq!(rt; timer.times(), times.as_slice());
+    Ok(())
+}
+
+#[test]
+fn part_of_a_microsecond_is_left_out(rt: HostRuntime) -> Result<(), Fail> {
+    let clock = Ticking::new(1999);
+    let mut timer = Timer::start(rt.alloc(), &clock);
+    timer.end(&clock, Phase::Load)?;
+    assert_eq!(rt; timer.times(), [timed(Phase::Load, Some(1))].as_slice());
+    Ok(())
+}
+
+#[test]
+fn without_a_clock_no_time_is_known(rt: HostRuntime) -> Result<(), Fail> {
+    let mut timer = Timer::start(rt.alloc(), &NoClock);
+    timer.end(&NoClock, Phase::Load)?;
+    assert_eq!(rt; timer.times(), [timed(Phase::Load, None)].as_slice());
+    Ok(())
+}

@@ -1,0 +1,71 @@
+-- Answers with statistics: what they answer, and when there are none.
+use Rattle.std.proofs.Common.{◌≡◌, ◌⊎◌, ◌∙◌, ℕ, List, map, Bool, Option, Some, Result, Ok, Err, [], inl, inr, sym, subst}
+use Rattle.std.specs.Prelude.{IfOk, IfErr}
+use Rattle.clap.specs.Values.{kind_of}
+use Rattle.clap.specs.Words.{HasKind, IsAmong, Kinds}
+use Rattle.clap.specs.declared.error.Error.{Error}
+use Rattle.clap.specs.declared.error.kind.ErrorKind.{ErrorKind}
+use Rattle.clap.specs.declared.error.kind.ErrorKind.TheVariants as kind
+use Rattle.vx_arguments.specs.Asked.{Ask, ManyPaths, stats_by, faults_of}
+use Rattle.vx_bundle.specs.Setting.{Setting}
+use Rattle.vx_bytes.specs.Stored.{Stored}
+use Rattle.vx_stats.specs.declared.text.StatsForm.{StatsForm}
+use Rattle.vx_answer.specs.CommandLine.{with_program_name, AsksFor, for_no_stats, arguments_memory}
+use Rattle.vx_answer.specs.CommandLineView.{IsHelp, IsAskFault, IsArgumentFault}
+use Rattle.vx_answer.specs.Files.{input_after}
+use Rattle.vx_answer.specs.Plans.{AnswersPlans}
+use Rattle.vx_answer.specs.PlansView.{named_is}
+use Rattle.vx_answer.specs.Stats.{ArePlansStats}
+use Rattle.vx_answer.specs.StatsView.{IsCountedAs, IsUncounted, IsStatsFault}
+use Rattle.vx_answer.specs.declared.command_line.ArgumentAnswer.{ArgumentAnswer}
+use Rattle.vx_answer.specs.declared.command_line.ArgumentAnswer.TheVariants as answer
+use Rattle.vx_answer.specs.declared.command_line.ArgumentFault.{ArgumentFault}
+use Rattle.vx_answer.specs.declared.command_line.ArgumentFault.TheVariants as fault
+use Rattle.vx_answer.proofs.CommandLineFacts.{arguments_refused}
+use Rattle.vx_answer.proofs.SharesFacts.{have_shares, answers_in}
+use Rattle.vx_answer.proofs.StatsFacts.{counted_answers}
+
+-- what is reported of several plans answers them
+pub plans_stats : (files : List ℕ → Stored) (input : Option (List ℕ)) (f : StatsForm) (paths : ManyPaths) (folder : List ℕ) (s : Setting) (text opening : List ℕ)
+    → ArePlansStats files input f paths folder s text opening → AnswersPlans files input paths folder s text
+plans_stats files input f paths folder s text opening h =
+    let ns = map named_is h.plans in
+    let shares = have_shares h.relations ns _ h.all h.loaded files (input_after input paths.catalog) ns h.planned.accepted (λ i is. is) in
+    (h.relations, ns, h.all, h.planned, h.loaded, answers_in _ h.all s ns text shares (counted_answers f h.all s h.plans text h.stats h.runs))
+
+-- arguments ask for one thing
+pub one_ask : (arguments : List (List ℕ)) (a b : Ask) → AsksFor arguments a → AsksFor arguments b → a ≡ b
+one_ask arguments a b h k = let e : ◌≡◌ {A = Option Ask} (Some a) (Some b) = sym h.asked ∙ k.asked in cc
+
+-- help is an answer only where clap refuses something
+pub help_no_stats : (kinds : Kinds) (error : Error) (r : Result ArgumentAnswer ArgumentFault) (f : StatsForm) → kinds ≡ [] → HasKind kinds error → IfOk r (IsHelp (kind_of error)) → IfOk r (IsCountedAs f)
+help_no_stats kinds error (Ok (answer.Text text)) f none (inl memory) (inl help) = let no : kind.OutOfMemory ≡ kind.DisplayHelp = sym memory ∙ help in cc
+help_no_stats kinds error (Ok (answer.Text text)) f none (inl memory) (inr version) = let no : kind.OutOfMemory ≡ kind.DisplayVersion = sym memory ∙ version in cc
+help_no_stats kinds error (Ok (answer.Text text)) f none (inr among) h = let P : Kinds → Type 0 = λ ks. IsAmong (kind_of error) ks in absurd (subst P none among)
+help_no_stats kinds error (Ok (answer.Relation rows)) f none has h = absurd h
+help_no_stats kinds error (Ok (answer.Counted k)) f none has h = absurd h
+help_no_stats kinds error (Err e) f none has h = tt
+
+pub help_uncounted : (k : ErrorKind) (r : Result ArgumentAnswer ArgumentFault) → IfOk r (IsHelp k) → IfOk r IsUncounted
+help_uncounted k (Ok (answer.Text text)) h = tt
+help_uncounted k (Ok (answer.Relation rows)) h = tt
+help_uncounted k (Ok (answer.Counted counted)) h = h
+help_uncounted k (Err e) h = tt
+
+-- a word that is no form of statistics is a wrong argument
+stats_refused : (files : List ℕ → Stored) (reliable : List ℕ → Bool) (input : Option (List ℕ)) (failed : Bool) (arguments : List (List ℕ)) (word : Option (List ℕ)) (e : ArgumentFault)
+    → faults_of (with_program_name arguments) ≡ [] → word ≡ stats_by (with_program_name arguments) → IsStatsFault word e → IsArgumentFault files reliable input failed arguments e
+stats_refused files reliable input failed arguments word (fault.Usage text) none is h = for_no_stats h.0 none (sym is ∙ h.1) h.2
+stats_refused files reliable input failed arguments word (fault.Refused e) none is h = arguments_memory h
+stats_refused files reliable input failed arguments word (fault.Failing lines) none is h = absurd h
+stats_refused files reliable input failed arguments word (fault.Stopped s) none is h = absurd h
+
+-- why a request is not answered is why the arguments are not
+pub request_refused : {T : Type 0} (files : List ℕ → Stored) (reliable : List ℕ → Bool) (input : Option (List ℕ)) (failed : Bool) (arguments : List (List ℕ)) (ask : Ask) (word : Option (List ℕ))
+    (r : Result T ArgumentFault) → AsksFor arguments ask → word ≡ stats_by (with_program_name arguments)
+    → IfErr r (λ e. IsAskFault files reliable input failed ask e ⊎ IsStatsFault word e) → IfErr r (IsArgumentFault files reliable input failed arguments)
+request_refused files reliable input failed arguments ask word (Ok v) asked is h = tt
+request_refused files reliable input failed arguments ask word (Err e) asked is h = elim h [
+  | inl k ↦ arguments_refused files reliable input failed arguments ask (Err e) asked k
+  | inr k ↦ stats_refused files reliable input failed arguments word e asked.unrefused is k
+]

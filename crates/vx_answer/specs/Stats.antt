@@ -1,0 +1,141 @@
+-- Statistics of runs: which arguments ask for them, and what standard error gets behind the rows. `files` and `input` are as in `Files`.
+use Rattle.std.specs.Prelude.{◌≡◌, ℕ, ◌++◌, List, [], ◌∷◌, map, Bool, true, false, Option, Some, None, option_and_then, Ok, bytes_eq, codes, if◌then◌else◌}
+use Rattle.vx_arguments.specs.Asked.{Ask, ManyPaths, Given, bundle, check, check_all, explain, annotate, sql, why, serial, run, run_plans, generate, stats_by}
+use Rattle.vx_bundle.specs.declared.command.Command.TheVariants as command
+use Rattle.vx_bundle.specs.declared.setting.Mode.{Mode}
+use Rattle.vx_bundle.specs.declared.setting.Mode.TheVariants as mode
+use Rattle.vx_bundle.specs.Setting.{Setting}
+use Rattle.vx_bytes.specs.Stored.{Stored}
+use Rattle.vx_catalog.specs.Csv.{csv_text}
+use Rattle.vx_catalog.specs.Database.{Database}
+use Rattle.vx_check_rules.specs.CheckedView.{typed_plan}
+use Rattle.vx_exchange.specs.ByteRouter.{byte_route}
+use Rattle.vx_exec.specs.Runs.{IsRunOf, IsSetUp, CountedInRounds}
+use Rattle.vx_exec.specs.Sizes.{run_model, Sizes}
+use Rattle.vx_exec.specs.declared.counted.WorkerCounts.{WorkerCounts}
+use Rattle.vx_exec.specs.declared.ran.Ran.{Ran}
+use Rattle.vx_exec.specs.declared.ran.Ran.TheVariants as ran
+use Rattle.vx_parallel.specs.Parallel.{CountedByThreads}
+use Rattle.vx_plan_nodes.specs.Outline.{columns}
+use Rattle.vx_plan_nodes.specs.TypedView.{plan as whole_plan, resolved_of}
+use Rattle.vx_plan_nodes.specs.declared.typed_plan.TypedPlan.{TypedPlan}
+use Rattle.vx_relations.specs.Relation.{Relation}
+use Rattle.vx_rows.specs.View.{RowsView}
+use Rattle.vx_stats.specs.Phases.{phases_of}
+use Rattle.vx_stats.specs.Text.{plan_text, lone_text, shared_text, write_end}
+use Rattle.vx_stats.specs.declared.phases.Phase.{Phase}
+use Rattle.vx_stats.specs.declared.phases.Phase.TheVariants as phase
+use Rattle.vx_stats.specs.declared.phases.PhaseTime.{PhaseTime}
+use Rattle.vx_stats.specs.declared.text.StatsForm.{StatsForm}
+use Rattle.vx_stats.specs.declared.text.StatsForm.TheVariants as form
+use Rattle.vx_tables.specs.Folder.{holds_at}
+use Rattle.vx_answer.specs.Arguments.{IsSetting}
+use Rattle.vx_answer.specs.CommandLine.{FileCommand, IsTask, with_program_name, AsksFor}
+use Rattle.vx_answer.specs.Commands.{Holding, setup_of, IsShown, IsDatabaseFor}
+use Rattle.vx_answer.specs.Files.{IsFilesPlan}
+use Rattle.vx_answer.specs.Plans.{ArePlansAt, IsLoadedFor, title}
+use Rattle.vx_answer.specs.PlansView.{named_is}
+use Rattle.vx_answer.specs.StatsNames.{stats_named}
+use Rattle.vx_answer.specs.declared.plans.AcceptedPlan.{AcceptedPlan}
+
+-- the form of statistics that a word asks for, if there is one; none where it asks for none, or for what there is not
+abbrev pub stats_of_word : Option (List ℕ) → Option StatsForm
+stats_of_word word = option_and_then (λ w. option_and_then (λ f. f) (stats_named w)) word
+
+-- the form of statistics that arguments ask for
+abbrev pub stats_asked : List (List ℕ) → Option StatsForm
+stats_asked arguments = stats_of_word (stats_by (with_program_name arguments))
+
+-- what is asked for is a run, or several
+abbrev pub is_run : Ask → Bool
+is_run (run paths folder limits) = true
+is_run (run_plans paths folder limits) = true
+is_run _ = false
+
+-- at most so many rounds
+abbrev pub most_rounds : ℕ
+most_rounds = 1000000000
+
+-- the workers of a run in this mode, which came to this, counted this in the end
+abbrev pub CountedIn : Mode → TypedPlan → Database → Sizes → Ran → List WorkerCounts → Type 0
+CountedIn mode.Rounds p db s r ws = CountedInRounds byte_route (run_model byte_route p db s) (whole_plan p) most_rounds (Ok r) ws
+CountedIn mode.Threads p db s r ws = CountedByThreads byte_route (run_model byte_route p db s) (whole_plan p) (Ok r) ws
+
+-- the text is that of the rows of a run of this plan over this database, as in `IsRunOver`, and the workers of that run counted this
+pub record IsCountedRun (p : TypedPlan) (db : Database) (setting : Setting) (text : List ℕ) (ws : List WorkerCounts) : Type 0 where
+  pub rows : RowsView
+  pub sizes : Sizes
+  pub set : IsSetUp (resolved_of p) db (setup_of setting) sizes
+  pub run : IsRunOf byte_route (resolved_of p) db sizes.groups rows
+  pub is : text ≡ csv_text (columns (resolved_of p).root).names rows.rows
+  pub counted : CountedIn setting.mode p db sizes (ran.Done rows) ws
+
+-- the phases of what several plans have in common, before the write
+abbrev pub shared_phases : List Phase
+shared_phases = phase.Catalog ∷ phase.Plans ∷ phase.Load ∷ []
+
+-- statistics, up to the time of the write, of a counted run of this plan over the tables, with this text; these phases came before
+pub record IsCountedPlan (f : StatsForm) (p : TypedPlan) (holds : Holding) (setting : Setting) (before : List Phase) (text opening : List ℕ) : Type 0 where
+  pub db : Database
+  pub counts : List WorkerCounts
+  pub times : List PhaseTime
+  pub loaded : IsDatabaseFor (resolved_of p) holds db
+  pub run : IsCountedRun p db setting text counts
+  pub phases : phases_of times ≡ before ++ (phase.Load ∷ phase.Run ∷ [])
+  pub is : opening ≡ lone_text f p counts times
+
+-- the same of a run that arguments ask for: the phases are read, plan, check, load and run
+pub record AreTaskStats (files : List ℕ → Stored) (input : Option (List ℕ)) (f : StatsForm) (t : FileCommand) (text opening : List ℕ) : Type 0 where
+  pub plan : TypedPlan
+  pub planned : IsFilesPlan files input t.paths (resolved_of plan)
+  pub shown : IsShown (resolved_of plan)
+  pub counted : IsCountedPlan f plan (holds_at files t.folder) t.setting (phase.Read ∷ phase.Plan ∷ phase.Check ∷ []) text opening
+
+-- to a text and to statistics came those of one more counted run, each behind the line with its path
+pub record IsRunMore (f : StatsForm) (db : Database) (setting : Setting) (n : AcceptedPlan) (text stats grown reported : List ℕ) : Type 0 where
+  pub own : List ℕ
+  pub counts : List WorkerCounts
+  pub time : PhaseTime
+  pub run : IsCountedRun (typed_plan n.plan) db setting own counts
+  pub timed : time.phase ≡ phase.Run
+  pub text_is : grown ≡ text ++ (title n.path.now ++ own)
+  pub stats_are : reported ≡ stats ++ (title n.path.now ++ plan_text f (typed_plan n.plan) counts time)
+
+-- the text is that of counted runs of these plans over a database, each behind the line with its path, and so are the statistics
+abbrev pub AreCountedRuns : StatsForm → Database → Setting → List AcceptedPlan → List ℕ → List ℕ → Type 0
+AreCountedRuns f db setting [] text stats = (text ≡ []) × (stats ≡ [])
+AreCountedRuns f db setting (n ∷ ns) text stats =
+    (first : List ℕ) × (reported : List ℕ) × (rest : List ℕ) × (more : List ℕ) × IsRunMore f db setting n [] [] first reported × AreCountedRuns f db setting ns rest more
+    × (text ≡ first ++ rest) × (stats ≡ reported ++ more)
+
+-- statistics, up to the time of the write, of counted runs of all plans of these paths over one database, with this text
+pub record ArePlansStats (files : List ℕ → Stored) (input : Option (List ℕ)) (f : StatsForm) (paths : ManyPaths) (folder : List ℕ) (setting : Setting) (text opening : List ℕ) : Type 0 where
+  pub relations : List Relation
+  pub plans : List AcceptedPlan
+  pub all : Database
+  pub planned : ArePlansAt files input paths relations (map named_is plans)
+  pub loaded : IsLoadedFor relations (map named_is plans) (holds_at files folder) all
+  pub stats : List ℕ
+  pub runs : AreCountedRuns f all setting plans text stats
+  pub times : List PhaseTime
+  pub phases : phases_of times ≡ shared_phases
+  pub is : opening ≡ stats ++ (codes "# all plans\n" ++ shared_text f times)
+
+-- statistics, up to the time of the write, of the runs that are asked for, with this text
+pub data AreAskStats (files : List ℕ → Stored) (input : Option (List ℕ)) (f : StatsForm) (ask : Ask) (text opening : List ℕ) : Type 0 where
+  for_one : (t : FileCommand) → IsTask ask t → t.command ≡ command.Run → AreTaskStats files input f t text opening → AreAskStats files input f ask text opening
+  for_several : (paths : ManyPaths) (folder : List ℕ) (limits : Given) (s : Setting) → ask ≡ run_plans paths folder limits → IsSetting limits s → ArePlansStats files input f paths folder s text opening
+      → AreAskStats files input f ask text opening
+
+-- the same of what arguments ask for
+pub record AreArgumentStats (files : List ℕ → Stored) (input : Option (List ℕ)) (f : StatsForm) (arguments : List (List ℕ)) (text opening : List ℕ) : Type 0 where
+  pub ask : Ask
+  pub asked : AsksFor arguments ask
+  pub reported : AreAskStats files input f ask text opening
+
+-- and all of the statistics, with the time of the write
+pub record AreStatsOf (files : List ℕ → Stored) (input : Option (List ℕ)) (f : StatsForm) (arguments : List (List ℕ)) (text stats : List ℕ) : Type 0 where
+  pub opening : List ℕ
+  pub reports : AreArgumentStats files input f arguments text opening
+  pub time : Option ℕ
+  pub is : stats ≡ opening ++ write_end f time

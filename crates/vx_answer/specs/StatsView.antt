@@ -1,0 +1,28 @@
+-- Answers with statistics, as they are held.
+use Rattle.std.specs.Prelude.{◌≡◌, ℕ, List, Option, Some, None}
+use Rattle.vx_stats.specs.declared.text.StatsForm.{StatsForm}
+use Rattle.vx_answer.specs.declared.command_line.ArgumentAnswer.{ArgumentAnswer}
+use Rattle.vx_answer.specs.declared.command_line.ArgumentAnswer.TheVariants as answer
+use Rattle.vx_answer.specs.declared.command_line.ArgumentFault.{ArgumentFault}
+use Rattle.vx_answer.specs.declared.command_line.ArgumentFault.TheVariants as fault
+use Rattle.vx_refusals.specs.declared.refusal.Refusal.TheVariants as refusal
+use Rattle.vx_answer.specs.StatsNames.{stats_named}
+
+-- an answer with statistics in this form
+abbrev pub IsCountedAs : StatsForm → ArgumentAnswer → Type 0
+IsCountedAs f (answer.Text text) = ⊥
+IsCountedAs f (answer.Relation rows) = ⊥
+IsCountedAs f (answer.Counted k) = k.form ≡ f
+
+-- an answer without statistics
+abbrev pub IsUncounted : ArgumentAnswer → Type 0
+IsUncounted (answer.Text text) = Unit {0}
+IsUncounted (answer.Relation rows) = Unit {0}
+IsUncounted (answer.Counted k) = ⊥
+
+-- a word that is no form of statistics is a wrong argument, or memory ran out
+abbrev pub IsStatsFault : Option (List ℕ) → ArgumentFault → Type 0
+IsStatsFault word (fault.Usage text) = (w : List ℕ) × (word ≡ Some w) × (stats_named w ≡ None)
+IsStatsFault word (fault.Refused e) = e ≡ refusal.NoMemory
+IsStatsFault word (fault.Failing lines) = ⊥
+IsStatsFault word (fault.Stopped s) = ⊥

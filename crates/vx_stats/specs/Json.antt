@@ -1,0 +1,40 @@
+-- Statistics for tools, as JSON.
+use Rattle.std.specs.Prelude.{ℕ, List, [], ◌∷◌, ◌++◌, map, codes, decimal, false}
+use Rattle.vx_check.specs.Explain.{separated}
+use Rattle.vx_stats.specs.Columns.{microseconds}
+use Rattle.vx_stats.specs.Words.{word_at, phase_word}
+use Rattle.vx_stats.specs.declared.lines.Line.{Line}
+use Rattle.vx_stats.specs.declared.phases.PhaseTime.{PhaseTime}
+
+-- a member behind others: its name and a number
+unfoldable pub member : List ℕ → ℕ → List ℕ
+member name n = codes ",\"" ++ (name ++ (codes "\":" ++ decimal n))
+
+unfoldable pub rows_members : Line → List ℕ
+rows_members l = member (codes "left") l.counts.left ++ (member (codes "right") l.counts.right ++ member (codes "gave") l.counts.gave)
+
+unfoldable pub moves_members : Line → List ℕ
+moves_members l =
+    member (codes "morsels") l.counts.morsels ++ (member (codes "taken") l.counts.packets ++ (member (codes "put") l.puts
+    ++ (member (codes "waits") l.counts.waits ++ member (codes "full") l.full)))
+
+-- the node, and its word among these
+unfoldable pub node_members : List (List ℕ) → ℕ → List ℕ
+node_members words node = codes "{\"node\":" ++ (decimal node ++ (codes ",\"op\":\"" ++ (word_at words node ++ codes "\"")))
+
+-- one line of the counts as an object
+unfoldable pub line_json : List (List ℕ) → Line → List ℕ
+line_json words l = node_members words l.node ++ (member (codes "worker") l.worker ++ (rows_members l ++ (moves_members l ++ codes "}")))
+
+abbrev pub lines_json : List (List ℕ) → List Line → List ℕ
+lines_json words ls = separated (codes ",") false (map (line_json words) ls)
+
+-- what a phase's object begins with
+unfoldable pub time_opening : List ℕ → List ℕ
+time_opening word = codes "{\"phase\":\"" ++ (word ++ codes "\",\"microseconds\":")
+
+unfoldable pub time_json : PhaseTime → List ℕ
+time_json t = time_opening (phase_word t.phase) ++ (microseconds t.microseconds ++ codes "}")
+
+abbrev pub times_json : List PhaseTime → List ℕ
+times_json ts = separated (codes ",") false (map time_json ts)

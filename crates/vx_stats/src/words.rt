@@ -1,0 +1,62 @@
+//! Words for nodes and phases.
+
+ghost use Rattle.std.specs.Prelude.{◌≡◌, ◌++◌, map, IfOk, OnOk};
+ghost use Rattle.vx_plan_nodes.specs.Outline.{outline_of};
+ghost use Rattle.vx_plan_nodes.specs.TypedView.{resolved_of};
+ghost use Rattle.vx_stats.specs.Words.{op_words, word_at, phase_word};
+
+use crate::phases::Phase;
+use std::alloc::{AllocError, Global};
+use vx_formats::op_word;
+use vx_plan_nodes::{TypedNode, TypedPlan};
+
+// Adds the word of the node, and then those of the nodes below it.
+fn add_words<'w>(words: &mut Vec<&'w str>, node: &TypedNode) -> Result<(), AllocError>
+    ensures { OnOk result (map (λ w. w.now) words.new.items ≡ map (λ w. w.now) words.old.items ++ op_words (outline_of node.now)) }
+{
+    words.push(op_word(node))?;
+    match node {
+        TypedNode::Scan(_, _) => Ok(()),
+        TypedNode::Unary(_, _, input) => add_words(words, input),
+        TypedNode::Binary(_, _, left, right) => {
+            add_words(words, left)?;
+            add_words(words, right)
+        }
+        TypedNode::Exchange(_, _, input) => add_words(words, input),
+    }
+}
+
+/// Of each node of a plan its operator in a word, by the numbers of the nodes.
+pub fn operator_words<'w>(alloc: Global, plan: &TypedPlan) -> Result<Vec<&'w str>, AllocError>
+    ensures { IfOk result (λ v. map (λ w. w.now) v.items ≡ op_words (resolved_of plan.now).root) }
+{
+    let mut words = Vec::new(alloc);
+    add_words(&mut words, plan.root())?;
+    Ok(words)
+}
+
+/// The word of the node with this number; past the end the empty one.
+pub fn word_at<'w>(words: &[&'w str], node: u32) -> &'w str
+    ensures { result.now ≡ word_at (map (λ w. w.now) words.now) node }
+{
+    match words.get(node as usize) {
+        Some(word) => word,
+        None => "",
+    }
+}
+
+/// A phase in a word.
+pub fn phase_word(phase: Phase) -> &'static str
+    ensures { result.now ≡ phase_word phase }
+{
+    match phase {
+        Phase::Read => "read",
+        Phase::Catalog => "catalog",
+        Phase::Plan => "plan",
+        Phase::Plans => "plans",
+        Phase::Check => "check",
+        Phase::Load => "load",
+        Phase::Run => "run",
+        Phase::Write => "write",
+    }
+}
