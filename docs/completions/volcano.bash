@@ -13,37 +13,41 @@ _volcano() {
         return
     fi
     case ${COMP_WORDS[1]} in
-        run) options='--catalog --data --packet --morsel --slack --mode --threads --quiet --verbose-errors --help' words='--plan' ;;
+        run) options='--catalog --data --packet --morsel --slack --mode --threads --quiet --stats --verbose-errors --help' words='--plan' ;;
         serial) options='--catalog --plan --data --threads --quiet --verbose-errors --help' ;;
         check) options='--catalog --plan --all --verbose-errors --help' ;;
-        explain) options='--catalog --plan --format --verbose-errors --help' ;;
+        explain) options='--catalog --plan --format --stats --verbose-errors --help' ;;
         annotate) options='--catalog --plan --verbose-errors --help' ;;
         sql) options='--catalog --plan --dialect --verbose-errors --help' ;;
         why) options='--help' words='C1 C2 C3 C4 C5 C6 C7 C8 C9 C10 C11 C12 K1 K2 K3 K4 K5 K6 K7 K8 K9 P1 P2 P3 P4 P5 P6 P7 P8 P9 P10 P11 P12 P13 V1 V2 V3 V4 V5 V6 X1 X2 X3 X4 X5 X6 X7 X8 X9 X10 X11 X12 X13 X14' ;;
         gen) options='--rows --help' ;;
         help) words='run serial check explain annotate sql why gen' ;;
     esac
-    case $before in
-        --catalog | --plan)
+    case "${COMP_WORDS[1]} $before" in
+        *' --catalog' | *' --plan' | 'explain --stats')
             compopt -o filenames && mapfile -t COMPREPLY < <(compgen -f -- "$word")
             return
             ;;
-        --data)
+        *' --data')
             compopt -o filenames && mapfile -t COMPREPLY < <(compgen -d -- "$word")
             return
             ;;
-        --packet | --morsel | --slack | --threads | --rows)
+        *' --packet' | *' --morsel' | *' --slack' | *' --threads' | *' --rows')
             return
             ;;
-        --mode)
+        *' --mode')
             mapfile -t COMPREPLY < <(compgen -W 'rounds threads' -- "$word")
             return
             ;;
-        --format)
+        'run --stats')
+            mapfile -t COMPREPLY < <(compgen -W 'table json none' -- "$word")
+            return
+            ;;
+        *' --format')
             mapfile -t COMPREPLY < <(compgen -W 'text json dot' -- "$word")
             return
             ;;
-        --dialect)
+        *' --dialect')
             mapfile -t COMPREPLY < <(compgen -W 'sqlite postgres clickhouse' -- "$word")
             return
             ;;

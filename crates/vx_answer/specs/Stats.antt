@@ -1,5 +1,5 @@
 -- Statistics of runs: which arguments ask for them, and what standard error gets behind the rows. `files` and `input` are as in `Files`.
-use Rattle.std.specs.Prelude.{◌≡◌, ℕ, ◌++◌, List, [], ◌∷◌, map, Bool, true, false, Option, Some, None, option_and_then, Ok, bytes_eq, codes, if◌then◌else◌}
+use Rattle.std.specs.Prelude.{◌≡◌, ℕ, ◌++◌, List, [], ◌∷◌, map, Bool, true, false, Option, Some, None, option_and_then, Ok, length, bytes_eq, codes, if◌then◌else◌}
 use Rattle.vx_arguments.specs.Asked.{Ask, ManyPaths, Given, bundle, check, check_all, explain, annotate, sql, why, serial, run, run_plans, generate, stats_by}
 use Rattle.vx_bundle.specs.declared.command.Command.TheVariants as command
 use Rattle.vx_bundle.specs.declared.setting.Mode.{Mode}
@@ -17,23 +17,25 @@ use Rattle.vx_exec.specs.declared.ran.Ran.{Ran}
 use Rattle.vx_exec.specs.declared.ran.Ran.TheVariants as ran
 use Rattle.vx_parallel.specs.Parallel.{CountedByThreads}
 use Rattle.vx_plan_nodes.specs.Outline.{columns}
-use Rattle.vx_plan_nodes.specs.TypedView.{plan as whole_plan, resolved_of}
+use Rattle.vx_plan_nodes.specs.TypedView.{scope, plan as whole_plan, resolved_of}
 use Rattle.vx_plan_nodes.specs.declared.typed_plan.TypedPlan.{TypedPlan}
 use Rattle.vx_relations.specs.Relation.{Relation}
 use Rattle.vx_rows.specs.View.{RowsView}
-use Rattle.vx_stats.specs.Phases.{phases_of}
+use Rattle.vx_stats.specs.Phases.{phases_of, relations_of}
+use Rattle.vx_stats.specs.declared.loads.LoadTime.{LoadTime}
 use Rattle.vx_stats.specs.Text.{plan_text, lone_text, shared_text, write_end}
 use Rattle.vx_stats.specs.declared.phases.Phase.{Phase}
 use Rattle.vx_stats.specs.declared.phases.Phase.TheVariants as phase
 use Rattle.vx_stats.specs.declared.phases.PhaseTime.{PhaseTime}
 use Rattle.vx_stats.specs.declared.text.StatsForm.{StatsForm}
 use Rattle.vx_stats.specs.declared.text.StatsForm.TheVariants as form
+use Rattle.vx_tables.specs.Filled.{scans, scanned_below}
 use Rattle.vx_tables.specs.Folder.{holds_at}
 use Rattle.vx_answer.specs.Arguments.{IsSetting}
 use Rattle.vx_answer.specs.CommandLine.{FileCommand, IsTask, with_program_name, AsksFor}
 use Rattle.vx_answer.specs.Commands.{Holding, setup_of, IsShown, IsDatabaseFor}
 use Rattle.vx_answer.specs.Files.{IsFilesPlan}
-use Rattle.vx_answer.specs.Plans.{ArePlansAt, IsLoadedFor, title}
+use Rattle.vx_answer.specs.Plans.{ArePlansAt, IsLoadedFor, any_scans, title}
 use Rattle.vx_answer.specs.PlansView.{named_is}
 use Rattle.vx_answer.specs.StatsNames.{stats_named}
 use Rattle.vx_answer.specs.declared.plans.AcceptedPlan.{AcceptedPlan}
@@ -74,15 +76,17 @@ pub record IsCountedRun (p : TypedPlan) (db : Database) (setting : Setting) (tex
 abbrev pub shared_phases : List Phase
 shared_phases = phase.Catalog ∷ phase.Plans ∷ phase.Load ∷ []
 
--- statistics, up to the time of the write, of a counted run of this plan over the tables, with this text; these phases came before
+-- statistics, up to the time of the write, of a counted run of this plan over the tables, with this text; these phases came before, and each relation that the plan scans was loaded
 pub record IsCountedPlan (f : StatsForm) (p : TypedPlan) (holds : Holding) (setting : Setting) (before : List Phase) (text opening : List ℕ) : Type 0 where
   pub db : Database
   pub counts : List WorkerCounts
+  pub loads : List LoadTime
   pub times : List PhaseTime
   pub loaded : IsDatabaseFor (resolved_of p) holds db
+  pub each : relations_of loads ≡ scanned_below (scans (whole_plan p)) (length (scope p).catalog)
   pub run : IsCountedRun p db setting text counts
   pub phases : phases_of times ≡ before ++ (phase.Load ∷ phase.Run ∷ [])
-  pub is : opening ≡ lone_text f p counts times
+  pub is : opening ≡ lone_text f p counts loads times
 
 -- the same of a run that arguments ask for: the phases are read, plan, check, load and run
 pub record AreTaskStats (files : List ℕ → Stored) (input : Option (List ℕ)) (f : StatsForm) (t : FileCommand) (text opening : List ℕ) : Type 0 where
@@ -117,9 +121,11 @@ pub record ArePlansStats (files : List ℕ → Stored) (input : Option (List ℕ
   pub loaded : IsLoadedFor relations (map named_is plans) (holds_at files folder) all
   pub stats : List ℕ
   pub runs : AreCountedRuns f all setting plans text stats
+  pub loads : List LoadTime
+  pub each : relations_of loads ≡ scanned_below (any_scans (map named_is plans)) (length relations)
   pub times : List PhaseTime
   pub phases : phases_of times ≡ shared_phases
-  pub is : opening ≡ stats ++ (codes "# all plans\n" ++ shared_text f times)
+  pub is : opening ≡ stats ++ (codes "# all plans\n" ++ shared_text f relations loads times)
 
 -- statistics, up to the time of the write, of the runs that are asked for, with this text
 pub data AreAskStats (files : List ℕ → Stored) (input : Option (List ℕ)) (f : StatsForm) (ask : Ask) (text opening : List ℕ) : Type 0 where

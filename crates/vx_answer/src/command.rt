@@ -43,7 +43,7 @@ pub fn accepted(plan: TypedPlan) -> Result<CheckedPlan, Refusal>
     }
 }
 
-/// The text that a command makes of a plan over tables, each of which up to so many threads load.
+/// The text that a command makes of a plan over tables. Up to so many threads load each table, and make the text of rows.
 pub fn execute<R: Threads + Wait + Sync, T: Tables>(
     rt: &R,
     alloc: Global,

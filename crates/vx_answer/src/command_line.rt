@@ -37,7 +37,7 @@ use vx_drawing::{DrawFault, draw};
 use vx_refusals::Refusal;
 use vx_seeds::KeySeed;
 use vx_sql::Dialect;
-use vx_tables::{Folder, load_scanned_in_threads};
+use vx_tables::{Folder, Unobserved, load_scanned_in_threads};
 use vx_why::entry;
 
 /// A command over the catalog, the plan and the folder of tables that arguments name.
@@ -323,8 +323,24 @@ fn answer_plans<T: Threads + Wait + Sync, F: Store, I: ByteIn>(
         files,
         path: task.folder,
     };
-    let database = load_scanned_in_threads(rt, alloc, threads, seed, &catalog, &plans, &folder)?;
-    let text = run_each(rt, alloc, &task.setting, plans.plans.as_slice(), &database)?;
+    let database = load_scanned_in_threads(
+        rt,
+        alloc,
+        threads,
+        seed,
+        &catalog,
+        &plans,
+        &folder,
+        &mut Unobserved,
+    )?;
+    let text = run_each(
+        rt,
+        alloc,
+        threads,
+        &task.setting,
+        plans.plans.as_slice(),
+        &database,
+    )?;
     Ok(text)
 }
 

@@ -26,7 +26,7 @@ use vx_bundle::Setting;
 use vx_bytes::{ByteIn, Store};
 use vx_catalog::Database;
 use vx_seeds::KeySeed;
-use vx_stats::{Phase, StatsForm, Timer, push_shared};
+use vx_stats::{LoadTimer, Phase, StatsForm, Timer, push_shared};
 use vx_tables::{Folder, load_scanned_in_threads};
 
 // The texts of runs of plans over one database, each behind a line with the path of its plan, and their statistics. The first plan
@@ -35,6 +35,7 @@ fn count_each<T: Threads + Wait + Sync, C: Clock>(
     rt: &T,
     clock: &C,
     alloc: Global,
+    threads: usize,
     form: StatsForm,
     setting: &Setting,
     plans: &[AcceptedPlan<'_>],
@@ -51,6 +52,7 @@ fn count_each<T: Threads + Wait + Sync, C: Clock>(
             rt,
             clock,
             alloc,
+            threads,
             form,
             setting,
             accepted,
@@ -98,19 +100,29 @@ fn counted_plans<T: Threads + Wait + Sync, C: Clock, F: Store, I: ByteIn>(
         files,
         path: folder,
     };
-    let database = load_scanned_in_threads(rt, alloc, threads, seed, &catalog, &plans, &tables)?;
+    let mut loads = LoadTimer::start(alloc, clock);
+    let database = load_scanned_in_threads(
+        rt, alloc, threads, seed, &catalog, &plans, &tables, &mut loads,
+    )?;
     timer.end(clock, Phase::Load)?;
     let mut counted = count_each(
         rt,
         clock,
         alloc,
+        threads,
         form,
         setting,
         plans.plans.as_slice(),
         &database,
     )?;
     counted.opening.push_str("# all plans\n")?;
-    push_shared(&mut counted.opening, form, timer.times())?;
+    push_shared(
+        &mut counted.opening,
+        form,
+        &catalog,
+        loads.times(),
+        timer.times(),
+    )?;
     Ok(counted)
 }
 

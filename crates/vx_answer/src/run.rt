@@ -19,7 +19,7 @@ use std::alloc::{AllocError, Global};
 use std::sync::Wait;
 use std::thread::Threads;
 use vx_bundle::{Mode, Setting};
-use vx_catalog::{Database, format_rows};
+use vx_catalog::Database;
 use vx_check::CheckedPlan;
 use vx_exchange::ByteRouter;
 use vx_exec::{Ran, RunCounts, Setup, run_rounds_counted};
@@ -27,8 +27,9 @@ use vx_parallel::{Free, run_threads_counted};
 use vx_plan::{TypedPlan, name_texts};
 use vx_refusals::Refusal;
 use vx_seeds::KeySeed;
-use vx_tables::{Tables, load_tables_in_threads};
+use vx_tables::{Tables, Unobserved, load_tables_in_threads};
 use vx_views::Rows;
+use vx_writing::format_in_threads;
 
 // The most rounds of a run.
 const MAX_ROUNDS: u64 = 1_000_000_000;
@@ -52,12 +53,18 @@ fn setup_of(alloc: Global, setting: &Setting) -> Result<Setup, AllocError>
     Ok(Setup::new(sizes, setting.packet(), setting.morsel(), setting.slack()))
 }
 
-/// The text of rows under the names of a plan's output.
-pub fn text_of(alloc: Global, plan: &TypedPlan, rows: &Rows) -> Result<Vec<u8>, AllocError>
+/// The text of rows under the names of a plan's output, made by up to so many threads.
+pub fn text_of<P: Threads + Sync>(
+    rt: &P,
+    alloc: Global,
+    threads: usize,
+    plan: &TypedPlan,
+    rows: &Rows,
+) -> Result<Vec<u8>, AllocError>
     ensures { IfOk result (λ v. v.items ≡ csv_text (columns (resolved_of plan.now).root).names rows.now.rows) }
 {
     let names = name_texts(alloc, plan.root().head().columns.names.as_slice())?;
-    format_rows(alloc, names.as_slice(), rows)
+    format_in_threads(rt, alloc, threads, names.as_slice(), rows)
 }
 
 // What a run of a plan over a database comes to, in the mode that the setting says. What its workers counted is kept, if that is
@@ -108,10 +115,12 @@ fn ran_over<T: Threads + Wait + Sync>(
     }
 }
 
-/// The text of a run of a plan over a database. What its workers counted is kept, if that is wanted.
+/// The text of a run of a plan over a database, made by up to so many threads. What its workers counted is kept, if that is
+/// wanted.
 pub fn run_over<T: Threads + Wait + Sync>(
     rt: &T,
     alloc: Global,
+    threads: usize,
     setting: &Setting,
     plan: &CheckedPlan,
     database: &Database,
@@ -122,12 +131,12 @@ pub fn run_over<T: Threads + Wait + Sync>(
     ensures counted { is_wanted counts.old ≡ true → IfOk result (λ text. IsCountedRun (typed_plan plan.now) database.now setting.now text.items (counts_in counts.new)) }
 {
     match ran_over(rt, alloc, setting, plan, database, counts)? {
-        Ran::Done(rows) => Ok(text_of(alloc, plan.plan(), &rows)?),
+        Ran::Done(rows) => Ok(text_of(rt, alloc, threads, plan.plan(), &rows)?),
         Ran::Unfinished => Err(Refusal::Unfinished),
     }
 }
 
-/// The text of a run of a plan over tables, each of which up to so many threads load.
+/// The text of a run of a plan over tables. Up to so many threads load each table, and make the text.
 pub fn run_plan<R: Threads + Wait + Sync, T: Tables>(
     rt: &R,
     alloc: Global,
@@ -140,7 +149,8 @@ pub fn run_plan<R: Threads + Wait + Sync, T: Tables>(
     ensures text { IfOk result (λ text. IsRun (resolved_of (typed_plan plan.now)) (T.holds tables.now) setting.now text.items) }
     ensures refused { IfErr result (λ e. PlanRefuses (resolved_of (typed_plan plan.now)) (T.holds tables.now) (T.lacks tables.now) setting.now e) }
 {
-    let database = load_tables_in_threads(rt, alloc, threads, seed, plan.plan(), tables)?;
+    let database =
+        load_tables_in_threads(rt, alloc, threads, seed, plan.plan(), tables, &mut Unobserved)?;
     let mut unread = RunCounts::unread(alloc);
-    run_over(rt, alloc, setting, plan, &database, &mut unread)
+    run_over(rt, alloc, threads, setting, plan, &database, &mut unread)
 }

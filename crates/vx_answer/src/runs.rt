@@ -39,6 +39,7 @@ pub fn titled(alloc: Global, path: &str, text: &[u8]) -> Result<Vec<u8>, AllocEr
 fn titled_run<T: Threads + Wait + Sync>(
     rt: &T,
     alloc: Global,
+    threads: usize,
     setting: &Setting,
     accepted: &AcceptedPlan<'_>,
     database: &Database,
@@ -47,15 +48,16 @@ fn titled_run<T: Threads + Wait + Sync>(
     ensures refused { IfErr result (RunRefuses (resolved_of (typed_plan accepted.now.plan)) database.now setting.now) }
 {
     let mut unread = RunCounts::unread(alloc);
-    let text = run_over(rt, alloc, setting, &accepted.plan, database, &mut unread)?;
+    let text = run_over(rt, alloc, threads, setting, &accepted.plan, database, &mut unread)?;
     Ok(titled(alloc, accepted.path, text.as_slice())?)
 }
 
 /// The texts of runs of plans over one database, in order, each behind a line with the path of its plan. The first plan of
-/// which the run gives no text ends it.
+/// which the run gives no text ends it. Up to so many threads make a text.
 pub fn run_each<T: Threads + Wait + Sync>(
     rt: &T,
     alloc: Global,
+    threads: usize,
     setting: &Setting,
     plans: &[AcceptedPlan<'_>],
     database: &Database,
@@ -65,7 +67,7 @@ pub fn run_each<T: Threads + Wait + Sync>(
 {
     let mut text = Vec::new(alloc);
     for accepted in plans {
-        let own = match titled_run(rt, alloc, setting, accepted, database) {
+        let own = match titled_run(rt, alloc, threads, setting, accepted, database) {
             Ok(own) => own,
             Err(refusal) => return Err(Stopped { text, refusal }),
         };

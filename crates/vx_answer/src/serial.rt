@@ -11,10 +11,10 @@ use vx_plan::{TypedPlan, erase};
 use vx_refusals::Refusal;
 use vx_seeds::KeySeed;
 use vx_serial::eval;
-use vx_tables::{Tables, load_tables_in_threads};
+use vx_tables::{Tables, Unobserved, load_tables_in_threads};
 
 /// The text of the rows of a plan without its exchanges over tables, under the names of the plan. Up to so many threads load a
-/// table; one evaluates the plan.
+/// table, and make the text; one evaluates the plan.
 pub fn serial_plan<R: Threads + Sync, T: Tables>(
     rt: &R,
     alloc: Global,
@@ -26,10 +26,11 @@ pub fn serial_plan<R: Threads + Sync, T: Tables>(
     ensures text { IfOk result (λ text. IsSerial (resolved_of plan.now) (T.holds tables.now) text.items) }
     ensures refused { IfErr result (λ e. SerialRefuses (resolved_of plan.now) (T.holds tables.now) (T.lacks tables.now) e) }
 {
-    let database = load_tables_in_threads(rt, alloc, threads, seed, plan, tables)?;
+    let database =
+        load_tables_in_threads(rt, alloc, threads, seed, plan, tables, &mut Unobserved)?;
     let Ok(erased) = erase(alloc, plan) else {
         return Err(Refusal::NoMemory);
     };
     let rows = eval(alloc, &erased, &database)?;
-    Ok(text_of(alloc, plan, &rows)?)
+    Ok(text_of(rt, alloc, threads, plan, &rows)?)
 }

@@ -32,7 +32,7 @@ use vx_exec::RunCounts;
 use vx_plan::{TypedPlan, resolve};
 use vx_refusals::Refusal;
 use vx_seeds::KeySeed;
-use vx_stats::{Phase, StatsForm, Stopwatch, Timer, push_lone_plan, push_plan};
+use vx_stats::{LoadTimer, Phase, StatsForm, Stopwatch, Timer, push_lone_plan, push_plan};
 use vx_tables::{Folder, Tables, load_tables_in_threads};
 
 /// A finished text, and the statistics of its runs up to the time that its write takes.
@@ -92,10 +92,12 @@ fn counted_plan<R: Threads + Wait + Sync, C: Clock, T: Tables>(
     ensures stats { IfOk result (λ k. IsCountedPlan form (typed_plan plan.now) (T.holds tables.now) setting.now (phases_of (times_in timer.old)) k.text.items (string_bytes k.opening)) }
     ensures refused { IfErr result (λ e. (e ≡ Refusal.NoMemory) ⊎ PlanRefuses (resolved_of (typed_plan plan.now)) (T.holds tables.now) (T.lacks tables.now) setting.now e) }
 {
-    let database = load_tables_in_threads(rt, alloc, threads, seed, plan.plan(), tables)?;
+    let mut loads = LoadTimer::start(alloc, clock);
+    let database =
+        load_tables_in_threads(rt, alloc, threads, seed, plan.plan(), tables, &mut loads)?;
     timer.end(clock, Phase::Load)?;
     let mut counts = RunCounts::new(alloc);
-    let text = run_over(rt, alloc, setting, plan, &database, &mut counts)?;
+    let text = run_over(rt, alloc, threads, setting, plan, &database, &mut counts)?;
     timer.end(clock, Phase::Run)?;
     let mut opening = String::new(alloc);
     push_lone_plan(
@@ -104,6 +106,7 @@ fn counted_plan<R: Threads + Wait + Sync, C: Clock, T: Tables>(
         form,
         plan.plan(),
         counts.workers(),
+        loads.times(),
         timer.times(),
     )?;
     Ok(Counted {
@@ -183,6 +186,7 @@ pub fn add_counted_run<T: Threads + Wait + Sync, C: Clock>(
     rt: &T,
     clock: &C,
     alloc: Global,
+    threads: usize,
     form: StatsForm,
     setting: &Setting,
     accepted: &AcceptedPlan<'_>,
@@ -196,7 +200,7 @@ pub fn add_counted_run<T: Threads + Wait + Sync, C: Clock>(
 {
     let mut counts = RunCounts::new(alloc);
     let mut watch = Stopwatch::start(clock);
-    let own = run_over(rt, alloc, setting, &accepted.plan, database, &mut counts)?;
+    let own = run_over(rt, alloc, threads, setting, &accepted.plan, database, &mut counts)?;
     let time = watch.end(clock, Phase::Run);
     push_title(stats, accepted.path)?;
     push_plan(

@@ -165,7 +165,7 @@ fn threads_option<'a>(alloc: Global) -> Arg<'a>
         alloc,
         "threads",
         "0",
-        "How many threads load each table; 0 is one for each processor",
+        "How many threads load each table and make the text of the rows; 0 is one for each processor",
     )
 }
 

@@ -41,7 +41,7 @@ returns-in-Err-Refused-clause-refused g c three =
 pub returns-in-Err-Failing-clause-refused : goal.returns-in-Err-Failing-clause-refused
 returns-in-Err-Failing-clause-refused g c three =
     let failing = rw c.in-Err-Failing.field-0-is at c.in-Err-Failing.ensures.refused in
-    inr (string_bytes c.in-Err-Failing.lines, failing, rw (c.as_str.ensures.value, c.in-Err-Failing.field-0-is) at c.write_lines.ensures.written)
+    inr (string_bytes c.in-Err-Failing.lines, failing, rw c.as_str.ensures.value at c.write_lines.ensures.written)
 
 pub returns-in-Err-Usage-clause-usage : goal.returns-in-Err-Usage-clause-usage
 returns-in-Err-Usage-clause-usage g c two = (rw c.in-Err-Usage.field-0-is at c.in-Err-Usage.ensures.refused, refl)
@@ -58,7 +58,7 @@ pub returns-in-Err-Stopped-clause-kept : goal.returns-in-Err-Stopped-clause-kept
 returns-in-Err-Stopped-clause-kept g c some whole =
     let stopped = c.in-Err-Stopped.stopped in
     let asks = rw c.in-Err-Stopped.field-0-is at c.in-Err-Stopped.ensures.refused in
-    let written = rw c.in-Err-Stopped.field-0-is at c.write_stopped.ensures.written whole in
+    let written = c.write_stopped.ensures.written whole in
     inr (stopped.text.items, stopped.refusal, asks, written.0, written.1)
 
 pub returns-in-Err-Stopped-clause-refused : goal.returns-in-Err-Stopped-clause-refused
@@ -67,7 +67,7 @@ returns-in-Err-Stopped-clause-refused g c three =
     let asks = rw c.in-Err-Stopped.field-0-is at c.in-Err-Stopped.ensures.refused in
     let refuses = stopped_refuses (g.F.Store.holds c.args.files.now) (g.F.Store.is_reliable c.args.files.now) (g.I.ByteIn.remaining c.args.input.now) (g.I.ByteIn.has_failed c.answer_arguments.new.input)
     (map (λ a. a.now) c.args.arguments.now) stopped.text.items stopped.refusal asks in
-    let status = rw c.in-Err-Stopped.field-0-is at c.write_stopped.ensures.status in
+    let status = c.write_stopped.ensures.status in
     inl (stopped.refusal, three_stopped _ c.write_stopped.result (status_of stopped.refusal) status three, refuses)
 
 pub returns-in-Err-Stopped-clause-failed : goal.returns-in-Err-Stopped-clause-failed
@@ -76,7 +76,7 @@ returns-in-Err-Stopped-clause-failed g c four =
     let asks = rw c.in-Err-Stopped.field-0-is at c.in-Err-Stopped.ensures.refused in
     let refuses = stopped_refuses (g.F.Store.holds c.args.files.now) (g.F.Store.is_reliable c.args.files.now) (g.I.ByteIn.remaining c.args.input.now) (g.I.ByteIn.has_failed c.answer_arguments.new.input)
     (map (λ a. a.now) c.args.arguments.now) stopped.text.items stopped.refusal asks in
-    let status = rw c.in-Err-Stopped.field-0-is at c.write_stopped.ensures.status in
+    let status = c.write_stopped.ensures.status in
     four_stopped _ _ c.write_stopped.result (status_of stopped.refusal) (λ is. (stopped.refusal, is, refuses)) status four
 
 pub returns-in-Ok-Text-clause-stats : goal.returns-in-Ok-Text-clause-stats
