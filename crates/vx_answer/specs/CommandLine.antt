@@ -9,7 +9,7 @@ use Rattle.vx_bundle.specs.declared.command.Command.{Command}
 use Rattle.vx_bundle.specs.declared.command.Command.TheVariants as command
 use Rattle.vx_bundle.specs.declared.setting.Mode.TheVariants as mode
 use Rattle.vx_bundle.specs.Setting.{Setting}
-use Rattle.vx_bytes.specs.Stored.{Stored}
+use Rattle.vx_bytes.specs.Stored.{Stored, IfBytes}
 use Rattle.vx_catalog.specs.Csv.{csv_text}
 use Rattle.vx_refusals.specs.declared.refusal.Refusal.{Refusal}
 use Rattle.vx_refusals.specs.declared.refusal.Refusal.TheVariants as refusal
@@ -20,7 +20,9 @@ use Rattle.vx_answer.specs.Answer.{IsAnswer, RefusedWith}
 use Rattle.vx_answer.specs.Arguments.{IsSetting, IsNoSetting}
 use Rattle.vx_relations.specs.Relation.{Relation}
 use Rattle.vx_plan_json.specs.Document.{Document}
-use Rattle.vx_answer.specs.Files.{AreRead, AreNotRead, IsReadRefusal, IsFilesPlan, IsFilesRefusal}
+use Rattle.vx_drawing.specs.Drawing.{IsDrawn}
+use Rattle.vx_stats.specs.Words.{op_words}
+use Rattle.vx_answer.specs.Files.{known_at, AreRead, AreNotRead, IsReadRefusal, IsFilesPlan, IsFilesRefusal}
 use Rattle.vx_answer.specs.Forms.{form_named, IsInForm, FormRefuses}
 use Rattle.vx_answer.specs.Statements.{dialect_named, IsStatement}
 use Rattle.vx_sql.specs.declared.dialect.Dialect.{Dialect}
@@ -94,10 +96,11 @@ pub data FormIsRefused (files : List ℕ → Stored) (reliable : List ℕ → Bo
   for_form_planning : IsFilesRefusal files reliable input failed paths e → FormIsRefused files reliable input failed paths e
   for_form : (p : TypedPlanView) → IsFilesPlan files input paths p → FormRefuses p e → FormIsRefused files reliable input failed paths e
 
--- the text is that of the picture of the plan of these paths, with more statements before its closing bracket
-abbrev pub AnswersDrawing : (List ℕ → Stored) → Option (List ℕ) → Paths → List ℕ → Type 0
-AnswersDrawing files input paths text =
-    (picture : List ℕ) × (more : List ℕ) × AnswersForm files input form.Dot paths picture × (text ≡ take (length picture - 2) picture ++ more ++ codes "}\n")
+-- the text is the picture of the plan of these paths, which the checker accepts, with what the file of statistics has of each of its nodes
+abbrev pub AnswersDrawing : (List ℕ → Stored) → Option (List ℕ) → Paths → List ℕ → List ℕ → Type 0
+AnswersDrawing files input paths stats text =
+    (p : TypedPlanView) × (picture : List ℕ) × (counts : List ℕ) × IsFilesPlan files input paths p × IsInForm form.Dot p picture
+    × IfBytes (known_at files (Some []) stats) (λ bytes. bytes ≡ counts) × IsDrawn (length (op_words p.root)) picture counts text
 
 -- the first reason why there is none: there is no picture, or the file of statistics has no bytes; out of memory may come anywhere
 pub data DrawingIsRefused (files : List ℕ → Stored) (reliable : List ℕ → Bool) (input : Option (List ℕ)) (failed : Bool) (paths : Paths) (stats : List ℕ) (e : Refusal) : Type 0 where
@@ -152,7 +155,7 @@ pub data AnswersAsk (files : List ℕ → Stored) (input : Option (List ℕ)) (a
   for_bundle : ask ≡ bundle → IfSome input (λ bytes. IsAnswer bytes text) → AnswersAsk files input ask text
   for_task : (t : FileCommand) → IsTask ask t → AnswersTask files input t text → AnswersAsk files input ask text
   for_plan_form : (f : PlanForm) (paths : Paths) (format : List ℕ) → ask ≡ explain paths format → form_named format ≡ Some f → AnswersForm files input f paths text → AnswersAsk files input ask text
-  for_drawing : (paths : Paths) (stats : List ℕ) → ask ≡ draw paths stats → AnswersDrawing files input paths text → AnswersAsk files input ask text
+  for_drawing : (paths : Paths) (stats : List ℕ) → ask ≡ draw paths stats → AnswersDrawing files input paths stats text → AnswersAsk files input ask text
   for_sql : (d : Dialect) (paths : Paths) (name : List ℕ) → ask ≡ sql paths name → dialect_named name ≡ Some d → AnswersStatement files input d paths text → AnswersAsk files input ask text
   for_all_nodes : (paths : Paths) → ask ≡ check_all paths → AnswersAll files input paths text → AnswersAsk files input ask text
   for_claims : (paths : Paths) → ask ≡ annotate paths → AnswersAnnotation files input paths text → AnswersAsk files input ask text

@@ -17,7 +17,7 @@ use crate::command::execute;
 use crate::counting::answer_counted;
 use crate::failing::{Verdict, verdict_on};
 use crate::files::{bytes_at, document_from_files, is_input, plan_from_files};
-use crate::forms::{PlanForm, form_named, node_count, plan_in_form};
+use crate::forms::{PlanForm, form_named, plan_in_form};
 use crate::loading::loading_threads;
 use crate::plans::{accepted_plans, catalog_under};
 use crate::program::outcome_of;
@@ -37,6 +37,7 @@ use vx_drawing::{DrawFault, draw};
 use vx_refusals::Refusal;
 use vx_seeds::KeySeed;
 use vx_sql::Dialect;
+use vx_stats::operator_words;
 use vx_tables::{Folder, Unobserved, load_scanned_in_threads};
 use vx_why::entry;
 
@@ -392,7 +393,7 @@ fn answer_drawing<F: Store, I: ByteIn>(
     ensures refused { IfErr result (IsAskFault (F.holds files.now) (F.is_reliable files.now) (I.remaining input.old) (I.has_failed input.new) (draw (paths_are sources.entry) stats.now)) }
 {
     let plan = plan_from_files(alloc, files, input, sources)?;
-    let nodes = node_count(plan.root());
+    let nodes = operator_words(alloc, &plan)?.len();
     let picture = plan_in_form(alloc, PlanForm::Dot, plan)?;
     let counted = bytes_at(alloc, files, input, true, stats)?;
     match draw(alloc, nodes, picture.as_slice(), counted.as_slice()) {

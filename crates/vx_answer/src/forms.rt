@@ -7,7 +7,7 @@ ghost use Rattle.vx_answer.specs.Forms.{form_named, IsInForm, FormRefuses};
 use crate::command::accepted;
 use std::alloc::Global;
 use vx_formats::{explain_dot, explain_json};
-use vx_plan::{TypedNode, TypedPlan};
+use vx_plan::TypedPlan;
 use vx_refusals::Refusal;
 
 /// A form in which a plan is explained, other than its text.
@@ -39,18 +39,5 @@ pub fn plan_in_form(alloc: Global, form: PlanForm, plan: TypedPlan) -> Result<Ve
     match form {
         PlanForm::Json => Ok(explain_json(alloc, &checked)?.into_bytes()),
         PlanForm::Dot => Ok(explain_dot(alloc, &checked)?.into_bytes()),
-    }
-}
-
-/// How many nodes there are from this one down.
-pub fn node_count(node: &TypedNode) -> usize {
-    match node {
-        TypedNode::Scan(_, _) => 1,
-        TypedNode::Unary(_, _, input) => node_count(input).saturating_add(1),
-        TypedNode::Binary(_, _, left, right) => {
-            let below = node_count(left).saturating_add(node_count(right));
-            below.saturating_add(1)
-        }
-        TypedNode::Exchange(_, _, input) => node_count(input).saturating_add(1),
     }
 }
