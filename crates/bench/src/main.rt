@@ -1,4 +1,4 @@
-//! Times over the relations of `vx_wisconsin`, as one table: generating and loading one, tests of its keys, queries by the
+//! Times over the relations of `vx_wisconsin`, as one table: generating, loading and writing one, tests of its keys, queries by the
 //! serial evaluation, by 1, 4 and 64 workers in rounds, by 1 and 4 in threads and by hand over plain columns, the checker, a
 //! ring and a deck.
 //!
@@ -30,6 +30,7 @@ fn main(rt: HostRuntime) -> Result<(), Error> {
     let tenk1 = table_of(&database, TENK1)?;
     bench.measure_key(&rt, tenk1, "key unique1", 0)?;
     bench.measure_key(&rt, tenk1, "key stringu1", 13)?;
+    bench.measure_writing(&rt, &database)?;
     let columns = Columns::of(bench.alloc, &database)?;
     bench.measure_queries(&rt, &database, &columns)?;
     bench.measure_checker(&rt)?;

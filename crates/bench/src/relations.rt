@@ -1,15 +1,19 @@
-//! The relations, and how long it takes to generate, to load and to test one.
+//! The relations, and how long it takes to generate, to load, to test and to write one.
 
 use crate::bench::{Bench, least, nanos_since};
 use anyhow::{Error, bail};
 use csv::{ByteRecord, ReaderBuilder};
 use std::alloc::Global;
 use std::rt::Clock;
+use std::thread::Threads;
 use std::time::Instant;
 use vx_bytes::{MemoryIn, Real};
-use vx_catalog::{Catalog, Database, Loader};
+use vx_catalog::{Catalog, Database, Loader, format_rows};
+use vx_loading::load_in_threads;
 use vx_rows::Table;
+use vx_views::Rows;
 use vx_wisconsin::{catalog, generate};
+use vx_writing::format_in_threads;
 
 /// The relations, by their numbers in the catalog.
 pub const TENK1: usize = 0;
@@ -19,6 +23,9 @@ pub const TENK2: usize = 1;
 pub const ONEK: usize = 2;
 
 pub const BPRIME: usize = 3;
+
+// How many threads load and write.
+const THREADS: usize = 4;
 
 // The text of a relation with so many rows.
 fn text_of(alloc: Global, rows: u64) -> Result<Vec<u8>, Error> {
@@ -65,9 +72,29 @@ fn fill<R: Clock>(
     Ok(nanos)
 }
 
+// How many nanoseconds it takes to load the largest relation from a text by threads.
+fn time_by_threads<R: Clock + Threads + Sync>(
+    rt: &R,
+    alloc: Global,
+    catalog: &Catalog,
+    text: &[u8],
+) -> Result<u64, Error> {
+    if TENK1 >= catalog.len() {
+        bail!("the catalog has no relation {TENK1}");
+    }
+    let mut input = MemoryIn::new(text, None);
+    let start = Instant::now(rt)?;
+    let _loaded = load_in_threads(rt, alloc, catalog, TENK1, THREADS, &mut input)?;
+    nanos_since(rt, start)
+}
+
 impl Bench {
     // Generates the text of the two largest relations and loads them, and beside this reads its records with `csv` alone.
-    fn load_largest<R: Print + Clock>(self, rt: &R, database: &mut Database) -> Result<(), Error> {
+    fn load_largest<R: Print + Clock + Threads + Sync>(
+        self,
+        rt: &R,
+        database: &mut Database,
+    ) -> Result<(), Error> {
         let start = Instant::now(rt)?;
         let text = text_of(self.alloc, self.rows)?;
         let took = nanos_since(rt, start)?;
@@ -76,17 +103,22 @@ impl Bench {
         self.show(rt, "generate tenk1", self.rows, generating, found.as_str())?;
         let first = fill(rt, self.alloc, database, TENK1, text.as_slice())?;
         let second = fill(rt, self.alloc, database, TENK2, text.as_slice())?;
+        let by_threads = time_by_threads(rt, self.alloc, database.catalog(), text.as_slice())?;
         let start = Instant::now(rt)?;
         let records = count_records(self.alloc, text.as_slice())?;
         let reading = nanos_since(rt, start)?;
         let found = format!(in self.alloc; "{records} records by csv alone")?;
         let least = first.min(second);
-        let loading = [Some(least), None, None, None, None, None, Some(reading)];
+        let threads = Some(by_threads);
+        let loading = [Some(least), None, None, None, None, threads, Some(reading)];
         self.show(rt, "load tenk1", self.rows, loading, found.as_str())
     }
 
     /// The relations, two of so many rows and two of a tenth of them, with the times to generate and to load one.
-    pub fn measure_loading<R: Print + Clock>(self, rt: &R) -> Result<Database, Error> {
+    pub fn measure_loading<R: Print + Clock + Threads + Sync>(
+        self,
+        rt: &R,
+    ) -> Result<Database, Error> {
         let catalog = Catalog::read(self.alloc, catalog().as_bytes())?;
         let mut database = Database::empty(self.alloc, &catalog)?;
         self.load_largest(rt, &mut database)?;
@@ -94,6 +126,32 @@ impl Bench {
         fill(rt, self.alloc, &mut database, ONEK, tenth.as_slice())?;
         fill(rt, self.alloc, &mut database, BPRIME, tenth.as_slice())?;
         Ok(database)
+    }
+
+    /// Makes the text of the largest relation, by one thread and by four.
+    pub fn measure_writing<R: Print + Clock + Threads + Sync>(
+        self,
+        rt: &R,
+        database: &Database,
+    ) -> Result<(), Error> {
+        if TENK1 >= database.catalog().len() {
+            bail!("the catalog has no relation {TENK1}");
+        }
+        let table = database.table(TENK1);
+        let rows = Rows::of(self.alloc, table, 0, table.len())?;
+        let names = database.catalog().get(TENK1).names();
+        let start = Instant::now(rt)?;
+        let text = format_rows(self.alloc, names, &rows)?;
+        let one = nanos_since(rt, start)?;
+        let start = Instant::now(rt)?;
+        let same = format_in_threads(rt, self.alloc, THREADS, names, &rows)?;
+        let four = nanos_since(rt, start)?;
+        if same.as_slice() != text.as_slice() {
+            bail!("threads make another text");
+        }
+        let times = [Some(one), None, None, None, None, Some(four), None];
+        let found = format!(in self.alloc; "{} bytes", text.len())?;
+        self.show(rt, "write tenk1", self.rows, times, found.as_str())
     }
 
     /// Tests whether a column of a table is a key, as loading does.
