@@ -64,7 +64,7 @@ fn main(rt: HostRuntime) -> ExitCode {
             return ExitCode::from(4);
         }
         Err(_) => {
-            let _ = write_all(&mut err, b"volcano: a word is no text in UTF-8\n");
+            let _ = write_all(&mut err, b"volcano: an argument is not valid UTF-8\n");
             return ExitCode::from(2);
         }
     };

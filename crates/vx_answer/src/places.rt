@@ -102,7 +102,7 @@ fn place_of<F: Store>(
     }
 }
 
-/// Writes the line that says where a refusal was found on `err`, if the arguments want it and it is found again. A write that
+/// Writes the line that says where a refusal was found on `err`, if the arguments ask for it and it is found again. A write that
 /// fails changes nothing else.
 pub fn write_place<F: Store, E: ByteOut>(
     alloc: Global,

@@ -53,7 +53,7 @@ fn refuse<E: ByteOut>(refusal: &Refusal, err: &mut E) -> u8
     status(refusal)
 }
 
-// Reports a refusal of what arguments ask for on `err`, and below it where it was found, if they want that.
+// Reports a refusal of what arguments ask for on `err`, and below it where it was found, if they ask for that.
 fn refuse_in_place<F: Store, E: ByteOut>(
     alloc: Global,
     files: &F,
