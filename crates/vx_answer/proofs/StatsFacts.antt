@@ -1,5 +1,5 @@
 -- Counted runs: what they answer, and why they have no answer.
-use Rattle.std.proofs.Common.{◌≡◌, ◌⊎◌, ◌∙◌, ℕ, ◌+◌, ◌<◌, List, [], ◌∷◌, ◌++◌, map, take, length, get_or, Option, Some, Result, Ok, Err, refl, sym, ap, subst, inl, inr, append_assoc, string_bytes}
+use Rattle.std.proofs.Common.{◌≡◌, ◌⊎◌, ◌∙◌, ℕ, ◌+◌, ◌<◌, List, [], ◌∷◌, ◌++◌, map, take, length, get_or, Option, Some, option_map, Result, Ok, Err, refl, sym, ap, subst, inl, inr, append_assoc, string_bytes}
 use Rattle.std.proofs.lemmas.List.{append-nil, take_more}
 use Rattle.std.specs.Prelude.{IfOk, IfErr}
 use Rattle.vx_arguments.specs.Asked.{Paths}
@@ -105,3 +105,10 @@ pub task_stats : (files : List ℕ → Stored) (input : Option (List ℕ)) (f : 
     → IfOk r (λ k. AreTaskStats files input f t k.text.items (string_bytes k.opening))
 task_stats files input f t p (Ok k) planned shown reported = record { plan = p; planned = planned; shown = shown; counted = reported }
 task_stats files input f t p (Err e) planned shown reported = tt
+
+-- all that was seen since nothing had been
+pub seen_all : (before after more : List ℕ) → before ≡ [] → Some after ≡ option_map (λ rs. rs ++ more) (Some before) → after ≡ more
+seen_all before after more none is =
+    let P : List ℕ → Type 0 = λ b. ◌≡◌ {A = Option (List ℕ)} (Some after) (Some (b ++ more)) in
+    let e : ◌≡◌ {A = Option (List ℕ)} (Some after) (Some more) = subst P none is in
+    cc
