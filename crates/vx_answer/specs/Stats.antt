@@ -21,7 +21,8 @@ use Rattle.vx_plan_nodes.specs.TypedView.{scope, plan as whole_plan, resolved_of
 use Rattle.vx_plan_nodes.specs.declared.typed_plan.TypedPlan.{TypedPlan}
 use Rattle.vx_relations.specs.Relation.{Relation}
 use Rattle.vx_rows.specs.View.{RowsView}
-use Rattle.vx_stats.specs.Phases.{phases_of, relations_of}
+use Rattle.vx_stats.specs.Phases.{phases_of}
+use Rattle.vx_stats.specs.Loads.{relations_of}
 use Rattle.vx_stats.specs.declared.loads.LoadTime.{LoadTime}
 use Rattle.vx_stats.specs.Text.{plan_text, lone_text, shared_text, write_end}
 use Rattle.vx_stats.specs.declared.phases.Phase.{Phase}
