@@ -6,6 +6,8 @@
 #[cfg(test)]
 mod clocks;
 #[cfg(test)]
+mod loads;
+#[cfg(test)]
 mod runs;
 #[cfg(test)]
 mod texts;

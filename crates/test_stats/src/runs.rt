@@ -8,17 +8,22 @@ use vx_operators::OperatorCounts;
 use vx_plan::{Plan, TypedPlan, resolve};
 use vx_worker::StepCounts;
 
-// The relation t(id, k, v).
+// The relations d "2"(n), whose name has quotes, and t(id, k, v).
 const CATALOG: &str =
-    r#"{"relations":[{"name":"t","columns":[{"name":"id","type":"int"},{"name":"k","type":"text"},{"name":"v","type":"int"}]}]}"#;
+    r#"{"relations":[{"name":"d \"2\"","columns":[{"name":"n","type":"int"}]},{"name":"t","columns":[{"name":"id","type":"int"},{"name":"k","type":"text"},{"name":"v","type":"int"}]}]}"#;
 
 // Workers scan and select, and the root's worker gathers.
 const PLAN: &str =
     r#"{"sizes":["many"],"root":{"op":"exchange","kind":"gather","input":{"op":"select","where":[{"column":"v","op":"=","value":7}],"input":{"op":"scan","relation":"t","mode":"shared","size":"many"}}}}"#;
 
+/// The catalog.
+pub fn catalog(alloc: Global) -> Result<Catalog, Fail> {
+    Ok(Catalog::read(alloc, CATALOG.as_bytes())?)
+}
+
 /// The plan.
 pub fn plan(alloc: Global) -> Result<TypedPlan, Fail> {
-    let catalog = Catalog::read(alloc, CATALOG.as_bytes())?;
+    let catalog = catalog(alloc)?;
     let plan = Plan::read(alloc, PLAN.as_bytes())?;
     Ok(resolve(alloc, &plan, &catalog)?)
 }

@@ -118,6 +118,7 @@ fn counted_plans<T: Threads + Wait + Sync, C: Clock, F: Store, I: ByteIn>(
     counted.opening.push_str("# all plans\n")?;
     push_shared(
         &mut counted.opening,
+        alloc,
         form,
         &catalog,
         loads.times(),

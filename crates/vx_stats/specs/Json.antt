@@ -1,10 +1,17 @@
 -- Statistics for tools, as JSON.
 use Rattle.std.specs.Prelude.{ℕ, List, [], ◌∷◌, ◌++◌, map, codes, decimal, false}
+use Rattle.serde_json.specs.Data.{string}
+use Rattle.serde_json.specs.Written.{compact_text}
+use Rattle.vx_relations.specs.Relation.{Relation}
+use Rattle.vx_relations.specs.Catalog.{relation_at}
 use Rattle.vx_check.specs.Explain.{separated}
 use Rattle.vx_stats.specs.Columns.{microseconds}
 use Rattle.vx_stats.specs.Words.{word_at, phase_word}
 use Rattle.vx_stats.specs.declared.lines.Line.{Line}
+use Rattle.vx_stats.specs.declared.phases.Phase.{Phase}
+use Rattle.vx_stats.specs.declared.phases.Phase.TheVariants as phase
 use Rattle.vx_stats.specs.declared.phases.PhaseTime.{PhaseTime}
+use Rattle.vx_stats.specs.declared.loads.LoadTime.{LoadTime}
 
 -- a member behind others: its name and a number
 unfoldable pub member : List ℕ → ℕ → List ℕ
@@ -33,8 +40,29 @@ lines_json words ls = separated (codes ",") false (map (line_json words) ls)
 unfoldable pub time_opening : List ℕ → List ℕ
 time_opening word = codes "{\"phase\":\"" ++ (word ++ codes "\",\"microseconds\":")
 
+-- a phase alone
 unfoldable pub time_json : PhaseTime → List ℕ
 time_json t = time_opening (phase_word t.phase) ++ (microseconds t.microseconds ++ codes "}")
 
-abbrev pub times_json : List PhaseTime → List ℕ
-times_json ts = separated (codes ",") false (map time_json ts)
+-- the load of a relation of this catalog, whose name is written as `serde_json` writes a text
+unfoldable pub load_json : List Relation → LoadTime → List ℕ
+load_json catalog l = codes "{\"relation\":" ++ (compact_text (string (relation_at catalog l.relation).name) ++ (codes ",\"microseconds\":" ++ (microseconds l.microseconds ++ codes "}")))
+
+unfoldable pub loads_json : List Relation → List LoadTime → List ℕ
+loads_json catalog ls = separated (codes ",") false (map (load_json catalog) ls)
+
+-- a member behind others: these loads
+unfoldable pub relations_member : List Relation → List LoadTime → List ℕ
+relations_member catalog loads = codes ",\"relations\":[" ++ (loads_json catalog loads ++ codes "]")
+
+-- the member of a phase behind its time: these loads, of that of the load
+abbrev pub loads_member : List Relation → List LoadTime → Phase → List ℕ
+loads_member catalog loads phase.Load = relations_member catalog loads
+loads_member catalog loads _ = []
+
+-- a phase among others
+unfoldable pub phase_json : List Relation → List LoadTime → PhaseTime → List ℕ
+phase_json catalog loads t = time_opening (phase_word t.phase) ++ (microseconds t.microseconds ++ (loads_member catalog loads t.phase ++ codes "}"))
+
+abbrev pub times_json : List Relation → List LoadTime → List PhaseTime → List ℕ
+times_json catalog loads ts = separated (codes ",") false (map (phase_json catalog loads) ts)

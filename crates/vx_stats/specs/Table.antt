@@ -1,10 +1,14 @@
 -- Statistics for people: a table of the counts, and one of the times.
 use Rattle.std.specs.Prelude.{ℕ, List, [], ◌∷◌, ◌++◌, codes, decimal}
+use Rattle.vx_relations.specs.Relation.{Relation}
+use Rattle.vx_relations.specs.Catalog.{relation_at}
 use Rattle.vx_stats.specs.Columns.{at_left, at_right, column, milliseconds}
 use Rattle.vx_stats.specs.Words.{word_at, phase_word}
 use Rattle.vx_stats.specs.declared.lines.Line.{Line}
 use Rattle.vx_stats.specs.declared.phases.Phase.{Phase}
+use Rattle.vx_stats.specs.declared.phases.Phase.TheVariants as phase
 use Rattle.vx_stats.specs.declared.phases.PhaseTime.{PhaseTime}
+use Rattle.vx_stats.specs.declared.loads.LoadTime.{LoadTime}
 
 -- the heads of the columns
 unfoldable pub count_heads : List ℕ
@@ -36,6 +40,19 @@ time_heads = codes "phase               ms\n"
 unfoldable pub time_row : PhaseTime → List ℕ
 time_row t = at_left 8 (phase_word t.phase) ++ (milliseconds t.microseconds ++ codes "\n")
 
-abbrev pub time_rows : List PhaseTime → List ℕ
-time_rows [] = []
-time_rows (t ∷ ts) = time_row t ++ time_rows ts
+-- the load of a relation of this catalog
+unfoldable pub load_row : List Relation → LoadTime → List ℕ
+load_row catalog l = at_left 8 [] ++ (milliseconds l.microseconds ++ (codes "  " ++ ((relation_at catalog l.relation).name ++ codes "\n")))
+
+abbrev pub load_rows : List Relation → List LoadTime → List ℕ
+load_rows catalog [] = []
+load_rows catalog (l ∷ ls) = load_row catalog l ++ load_rows catalog ls
+
+-- what stands below a phase: these loads, below that of the load
+abbrev pub rows_below : List Relation → List LoadTime → Phase → List ℕ
+rows_below catalog loads phase.Load = load_rows catalog loads
+rows_below catalog loads _ = []
+
+abbrev pub time_rows : List Relation → List LoadTime → List PhaseTime → List ℕ
+time_rows catalog loads [] = []
+time_rows catalog loads (t ∷ ts) = time_row t ++ (rows_below catalog loads t.phase ++ time_rows catalog loads ts)

@@ -1,15 +1,17 @@
 -- The statistics of runs in either form. What follows the rows: all that is known before they are written, and then how long that took.
 use Rattle.std.specs.Prelude.{ℕ, List, [], ◌∷◌, ◌++◌, codes, Option}
-use Rattle.vx_plan_nodes.specs.TypedView.{resolved_of}
+use Rattle.vx_relations.specs.Relation.{Relation}
+use Rattle.vx_plan_nodes.specs.TypedView.{scope, resolved_of}
 use Rattle.vx_plan_nodes.specs.declared.typed_plan.TypedPlan.{TypedPlan}
 use Rattle.vx_exec.specs.declared.counted.WorkerCounts.{WorkerCounts}
 use Rattle.vx_stats.specs.Columns.{at_left, milliseconds, microseconds}
 use Rattle.vx_stats.specs.Lines.{lines_of}
 use Rattle.vx_stats.specs.Words.{op_words}
-use Rattle.vx_stats.specs.Table.{count_heads, count_rows, time_heads, time_rows}
-use Rattle.vx_stats.specs.Json.{lines_json, time_opening, times_json}
+use Rattle.vx_stats.specs.Table.{count_heads, count_rows, time_heads, time_row, time_rows}
+use Rattle.vx_stats.specs.Json.{lines_json, time_opening, time_json, times_json}
 use Rattle.vx_stats.specs.declared.lines.Line.{Line}
 use Rattle.vx_stats.specs.declared.phases.PhaseTime.{PhaseTime}
+use Rattle.vx_stats.specs.declared.loads.LoadTime.{LoadTime}
 use Rattle.vx_stats.specs.declared.text.StatsForm.{StatsForm}
 use Rattle.vx_stats.specs.declared.text.StatsForm.TheVariants as form
 
@@ -27,9 +29,15 @@ abbrev pub times_opening : StatsForm → List ℕ
 times_opening form.Table = time_heads
 times_opening form.Json = codes "{\"phases\":["
 
-abbrev pub times_text : StatsForm → List PhaseTime → List ℕ
-times_text form.Table ts = time_rows ts
-times_text form.Json ts = times_json ts
+-- a time alone
+abbrev pub time_text : StatsForm → PhaseTime → List ℕ
+time_text form.Table t = time_row t
+time_text form.Json t = time_json t
+
+-- times, that of the load with these loads of relations of a catalog
+abbrev pub times_text : StatsForm → List Relation → List LoadTime → List PhaseTime → List ℕ
+times_text form.Table catalog loads ts = time_rows catalog loads ts
+times_text form.Json catalog loads ts = times_json catalog loads ts
 
 -- behind the last time
 abbrev pub times_end : StatsForm → List ℕ
@@ -48,12 +56,12 @@ write_end form.Json time = microseconds time ++ codes "}]}\n"
 
 -- one of several plans, with the time of its run
 abbrev pub plan_text : StatsForm → TypedPlan → List WorkerCounts → PhaseTime → List ℕ
-plan_text f p ws run = plan_counts f p ws ++ (times_text f (run ∷ []) ++ times_end f)
+plan_text f p ws run = plan_counts f p ws ++ (time_text f run ++ times_end f)
 
 -- a plan that runs alone, up to the time of the write
-abbrev pub lone_text : StatsForm → TypedPlan → List WorkerCounts → List PhaseTime → List ℕ
-lone_text f p ws ts = plan_counts f p ws ++ (times_text f ts ++ write_opening f)
+abbrev pub lone_text : StatsForm → TypedPlan → List WorkerCounts → List LoadTime → List PhaseTime → List ℕ
+lone_text f p ws loads ts = plan_counts f p ws ++ (times_text f (scope p).catalog loads ts ++ write_opening f)
 
 -- what several plans have in common, up to the time of the write
-abbrev pub shared_text : StatsForm → List PhaseTime → List ℕ
-shared_text f ts = times_opening f ++ (times_text f ts ++ write_opening f)
+abbrev pub shared_text : StatsForm → List Relation → List LoadTime → List PhaseTime → List ℕ
+shared_text f catalog loads ts = times_opening f ++ (times_text f catalog loads ts ++ write_opening f)

@@ -1,13 +1,19 @@
 //! Statistics for tools, as JSON.
 
 ghost use Rattle.std.specs.Prelude.{◌≡◌, ◌++◌, map, string_bytes, cond, codes, [], OnOk};
-ghost use Rattle.vx_stats.specs.Json.{member, rows_members, moves_members, node_members, line_json, lines_json, time_opening, time_json, times_json};
+ghost use Rattle.serde_json.specs.Data.{string};
+ghost use Rattle.serde_json.specs.Written.{compact_text};
+ghost use Rattle.vx_relations.specs.Catalog.{relation_at};
+ghost use Rattle.vx_stats.specs.Json.{member, rows_members, moves_members, node_members, line_json, lines_json, time_opening, time_json, load_json, loads_json, relations_member, loads_member, phase_json, times_json};
 
 use crate::columns::{push_microseconds, push_number};
 use crate::lines::Line;
-use crate::phases::PhaseTime;
-use crate::words::{phase_word, word_at};
-use std::alloc::AllocError;
+use crate::loads::LoadTime;
+use crate::phases::{Phase, PhaseTime};
+use crate::words::{phase_word, relation_name, word_at};
+use serde_json::Value as Json;
+use std::alloc::{AllocError, Global};
+use vx_relations::Catalog;
 
 // Adds a comma, unless nothing was added before.
 fn push_comma(text: &mut String, is_later: bool) -> Result<(), AllocError>
@@ -97,9 +103,9 @@ pub fn push_time_opening(text: &mut String, word: &str) -> Result<(), AllocError
     text.push_str("\",\"microseconds\":")
 }
 
-// Adds a phase and its time as an object.
+/// Adds a phase and its time as an object.
 #[tactic(auto, unfolding(crate::specs::Json::time_json))]
-fn push_time(text: &mut String, time: &PhaseTime) -> Result<(), AllocError>
+pub fn push_time(text: &mut String, time: &PhaseTime) -> Result<(), AllocError>
     ensures { OnOk result (string_bytes text.new ≡ string_bytes text.old ++ time_json time.now) }
 {
     push_time_opening(text, phase_word(time.phase))?;
@@ -107,13 +113,121 @@ fn push_time(text: &mut String, time: &PhaseTime) -> Result<(), AllocError>
     text.push_str("}")
 }
 
-/// Adds an object for each phase with its time, with commas between them.
-pub fn push_times(text: &mut String, times: &[PhaseTime]) -> Result<(), AllocError>
-    ensures { OnOk result (string_bytes text.new ≡ string_bytes text.old ++ times_json times.now) }
+// Adds a relation's name in double quotes.
+fn push_relation(
+    text: &mut String,
+    alloc: Global,
+    catalog: &Catalog,
+    relation: usize,
+) -> Result<(), AllocError>
+    ensures { OnOk result (string_bytes text.new ≡ string_bytes text.old ++ compact_text (string (relation_at catalog.now relation).name)) }
+{
+    let name = String::from_str(alloc, relation_name(catalog, relation))?;
+    let quoted = Json::String(name).to_string(alloc)?;
+    text.push_str(quoted.as_str())
+}
+
+// Adds a relation and the time of its load as an object.
+#[tactic(auto, unfolding(crate::specs::Json::load_json))]
+fn push_load(
+    text: &mut String,
+    alloc: Global,
+    catalog: &Catalog,
+    load: &LoadTime,
+) -> Result<(), AllocError>
+    ensures { OnOk result (string_bytes text.new ≡ string_bytes text.old ++ load_json catalog.now load.now) }
+{
+    text.push_str("{\"relation\":")?;
+    push_relation(text, alloc, catalog, load.relation)?;
+    text.push_str(",\"microseconds\":")?;
+    push_microseconds(text, load.microseconds)?;
+    text.push_str("}")
+}
+
+// Adds an object for each load with its time, with commas between them.
+#[tactic(auto, unfolding(crate::specs::Json::loads_json))]
+fn push_loads(
+    text: &mut String,
+    alloc: Global,
+    catalog: &Catalog,
+    loads: &[LoadTime],
+) -> Result<(), AllocError>
+    ensures { OnOk result (string_bytes text.new ≡ string_bytes text.old ++ loads_json catalog.now loads.now) }
+{
+    for (i, load) in loads.iter().enumerate() {
+        push_comma(text, i > 0)?;
+        push_load(text, alloc, catalog, load)?;
+    }
+    Ok(())
+}
+
+// Adds the loads as a member behind others.
+#[tactic(auto, unfolding(crate::specs::Json::relations_member))]
+fn push_relations(
+    text: &mut String,
+    alloc: Global,
+    catalog: &Catalog,
+    loads: &[LoadTime],
+) -> Result<(), AllocError>
+    ensures { OnOk result (string_bytes text.new ≡ string_bytes text.old ++ relations_member catalog.now loads.now) }
+{
+    text.push_str(",\"relations\":[")?;
+    push_loads(text, alloc, catalog, loads)?;
+    text.push_str("]")
+}
+
+// Adds the loads behind the time of a phase, if it is the load.
+fn push_loads_member(
+    text: &mut String,
+    alloc: Global,
+    catalog: &Catalog,
+    loads: &[LoadTime],
+    phase: Phase,
+) -> Result<(), AllocError>
+    ensures { OnOk result (string_bytes text.new ≡ string_bytes text.old ++ loads_member catalog.now loads.now phase) }
+{
+    match phase {
+        Phase::Load => push_relations(text, alloc, catalog, loads),
+        Phase::Read
+        | Phase::Catalog
+        | Phase::Plan
+        | Phase::Plans
+        | Phase::Check
+        | Phase::Run
+        | Phase::Write => Ok(()),
+    }
+}
+
+// Adds a phase and its time as an object, which has the loads if it is the load.
+#[tactic(auto, unfolding(crate::specs::Json::phase_json))]
+fn push_phase(
+    text: &mut String,
+    alloc: Global,
+    catalog: &Catalog,
+    loads: &[LoadTime],
+    time: &PhaseTime,
+) -> Result<(), AllocError>
+    ensures { OnOk result (string_bytes text.new ≡ string_bytes text.old ++ phase_json catalog.now loads.now time.now) }
+{
+    push_time_opening(text, phase_word(time.phase))?;
+    push_microseconds(text, time.microseconds)?;
+    push_loads_member(text, alloc, catalog, loads, time.phase)?;
+    text.push_str("}")
+}
+
+/// Adds an object for each phase with its time, with commas between them; that of the load has the loads.
+pub fn push_times(
+    text: &mut String,
+    alloc: Global,
+    catalog: &Catalog,
+    loads: &[LoadTime],
+    times: &[PhaseTime],
+) -> Result<(), AllocError>
+    ensures { OnOk result (string_bytes text.new ≡ string_bytes text.old ++ times_json catalog.now loads.now times.now) }
 {
     for (i, time) in times.iter().enumerate() {
         push_comma(text, i > 0)?;
-        push_time(text, time)?;
+        push_phase(text, alloc, catalog, loads, time)?;
     }
     Ok(())
 }

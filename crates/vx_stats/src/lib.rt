@@ -5,6 +5,7 @@ mod closing;
 mod columns;
 mod json;
 mod lines;
+mod loads;
 mod phases;
 mod table;
 mod text;
@@ -12,5 +13,7 @@ mod words;
 
 pub use closing::write_end;
 pub use lines::{Line, lines_of};
+pub use loads::{LoadTime, LoadTimer};
 pub use phases::{NoClock, Phase, PhaseTime, Stopwatch, Timer};
 pub use text::{StatsForm, push_lone_plan, push_plan, push_shared};
+pub use words::operator_words;

@@ -1,13 +1,15 @@
 //! Statistics for people: a table of the counts, and one of the times.
 
 ghost use Rattle.std.specs.Prelude.{◌≡◌, ◌++◌, map, string_bytes, OnOk};
-ghost use Rattle.vx_stats.specs.Table.{count_heads, rows_row, moves_row, node_row, count_row, count_rows, time_heads, time_row, time_rows};
+ghost use Rattle.vx_stats.specs.Table.{count_heads, rows_row, moves_row, node_row, count_row, count_rows, time_heads, time_row, load_row, load_rows, rows_below, time_rows};
 
 use crate::columns::{push_aligned, push_column, push_left, push_milliseconds};
 use crate::lines::Line;
-use crate::phases::PhaseTime;
-use crate::words::{phase_word, word_at};
+use crate::loads::LoadTime;
+use crate::phases::{Phase, PhaseTime};
+use crate::words::{phase_word, relation_name, word_at};
 use std::alloc::AllocError;
+use vx_relations::Catalog;
 
 /// Adds the heads of the columns.
 #[tactic(auto, unfolding(crate::specs::Table::count_heads))]
@@ -81,9 +83,9 @@ pub fn push_time_heads(text: &mut String) -> Result<(), AllocError>
     text.push_str("phase               ms\n")
 }
 
-// Adds a phase and its time.
+/// Adds a phase and its time.
 #[tactic(auto, unfolding(crate::specs::Table::time_row))]
-fn push_time_row(text: &mut String, time: &PhaseTime) -> Result<(), AllocError>
+pub fn push_time_row(text: &mut String, time: &PhaseTime) -> Result<(), AllocError>
     ensures { OnOk result (string_bytes text.new ≡ string_bytes text.old ++ time_row time.now) }
 {
     push_left(text, 8, phase_word(time.phase))?;
@@ -91,12 +93,65 @@ fn push_time_row(text: &mut String, time: &PhaseTime) -> Result<(), AllocError>
     text.push_str("\n")
 }
 
-/// Adds phases and their times, a line each.
-pub fn push_time_rows(text: &mut String, times: &[PhaseTime]) -> Result<(), AllocError>
-    ensures { OnOk result (string_bytes text.new ≡ string_bytes text.old ++ time_rows times.now) }
+// Adds a relation and the time of its load.
+#[tactic(auto, unfolding(crate::specs::Table::load_row))]
+fn push_load_row(text: &mut String, catalog: &Catalog, load: &LoadTime) -> Result<(), AllocError>
+    ensures { OnOk result (string_bytes text.new ≡ string_bytes text.old ++ load_row catalog.now load.now) }
+{
+    push_left(text, 8, "")?;
+    push_milliseconds(text, load.microseconds)?;
+    text.push_str("  ")?;
+    text.push_str(relation_name(catalog, load.relation))?;
+    text.push_str("\n")
+}
+
+// Adds relations and the times of their loads, a line each.
+fn push_load_rows(
+    text: &mut String,
+    catalog: &Catalog,
+    loads: &[LoadTime],
+) -> Result<(), AllocError>
+    ensures { OnOk result (string_bytes text.new ≡ string_bytes text.old ++ load_rows catalog.now loads.now) }
+{
+    for load in loads {
+        push_load_row(text, catalog, load)?;
+    }
+    Ok(())
+}
+
+// Adds what stands below a phase.
+fn push_rows_below(
+    text: &mut String,
+    catalog: &Catalog,
+    loads: &[LoadTime],
+    phase: Phase,
+) -> Result<(), AllocError>
+    ensures { OnOk result (string_bytes text.new ≡ string_bytes text.old ++ rows_below catalog.now loads.now phase) }
+{
+    match phase {
+        Phase::Load => push_load_rows(text, catalog, loads),
+        Phase::Read
+        | Phase::Catalog
+        | Phase::Plan
+        | Phase::Plans
+        | Phase::Check
+        | Phase::Run
+        | Phase::Write => Ok(()),
+    }
+}
+
+/// Adds phases and their times, a line each, and below that of the load the loads.
+pub fn push_time_rows(
+    text: &mut String,
+    catalog: &Catalog,
+    loads: &[LoadTime],
+    times: &[PhaseTime],
+) -> Result<(), AllocError>
+    ensures { OnOk result (string_bytes text.new ≡ string_bytes text.old ++ time_rows catalog.now loads.now times.now) }
 {
     for time in times {
         push_time_row(text, time)?;
+        push_rows_below(text, catalog, loads, time.phase)?;
     }
     Ok(())
 }

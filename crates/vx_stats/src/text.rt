@@ -1,16 +1,18 @@
 //! The statistics of runs in either form.
 
 ghost use Rattle.std.specs.Prelude.{◌≡◌, ◌++◌, map, string_bytes, OnOk};
-ghost use Rattle.vx_stats.specs.Text.{counts_text, plan_counts, times_opening, times_text, times_end, write_opening, plan_text, lone_text, shared_text};
+ghost use Rattle.vx_stats.specs.Text.{counts_text, plan_counts, times_opening, time_text, times_text, times_end, write_opening, plan_text, lone_text, shared_text};
 
 use crate::columns::push_left;
 use crate::lines::{Line, lines_of};
+use crate::loads::LoadTime;
 use crate::phases::PhaseTime;
 use crate::words::operator_words;
 use crate::{json, table};
 use std::alloc::{AllocError, Global};
 use vx_exec::WorkerCounts;
 use vx_plan_nodes::TypedPlan;
+use vx_relations::Catalog;
 
 /// How statistics are written.
 #[derive(Clone, Copy, Debug, PartialEq, Eq)]
@@ -69,13 +71,30 @@ fn push_times_opening(text: &mut String, form: StatsForm) -> Result<(), AllocErr
     }
 }
 
-// Adds times.
-fn push_times(text: &mut String, form: StatsForm, times: &[PhaseTime]) -> Result<(), AllocError>
-    ensures { OnOk result (string_bytes text.new ≡ string_bytes text.old ++ times_text form times.now) }
+// Adds a time alone.
+fn push_time(text: &mut String, form: StatsForm, time: &PhaseTime) -> Result<(), AllocError>
+    ensures { OnOk result (string_bytes text.new ≡ string_bytes text.old ++ time_text form time.now) }
 {
     match form {
-        StatsForm::Table => table::push_time_rows(text, times),
-        StatsForm::Json => json::push_times(text, times),
+        StatsForm::Table => table::push_time_row(text, time),
+        StatsForm::Json => json::push_time(text, time),
+    }
+}
+
+// Adds times, that of the load with the loads.
+fn push_times(
+    text: &mut String,
+    alloc: Global,
+    form: StatsForm,
+    catalog: &Catalog,
+    loads: &[LoadTime],
+    times: &[PhaseTime],
+) -> Result<(), AllocError>
+    ensures { OnOk result (string_bytes text.new ≡ string_bytes text.old ++ times_text form catalog.now loads.now times.now) }
+{
+    match form {
+        StatsForm::Table => table::push_time_rows(text, catalog, loads, times),
+        StatsForm::Json => json::push_times(text, alloc, catalog, loads, times),
     }
 }
 
@@ -114,35 +133,41 @@ pub fn push_plan(
     ensures { OnOk result (string_bytes text.new ≡ string_bytes text.old ++ plan_text form plan.now workers.now run) }
 {
     push_plan_counts(text, alloc, form, plan, workers)?;
-    push_times(text, form, &[run])?;
+    push_time(text, form, &run)?;
     push_times_end(text, form)
 }
 
-/// Adds the statistics of a plan that runs alone, up to the time of the write. There is one time at least.
+/// Adds the statistics of a plan that runs alone, up to the time of the write, with the loads below the time of the load. There is one
+/// time at least.
 pub fn push_lone_plan(
     text: &mut String,
     alloc: Global,
     form: StatsForm,
     plan: &TypedPlan,
     workers: &[WorkerCounts],
+    loads: &[LoadTime],
     times: &[PhaseTime],
 ) -> Result<(), AllocError>
-    ensures { OnOk result (string_bytes text.new ≡ string_bytes text.old ++ lone_text form plan.now workers.now times.now) }
+    ensures { OnOk result (string_bytes text.new ≡ string_bytes text.old ++ lone_text form plan.now workers.now loads.now times.now) }
 {
     push_plan_counts(text, alloc, form, plan, workers)?;
-    push_times(text, form, times)?;
+    push_times(text, alloc, form, plan.catalog(), loads, times)?;
     push_write_opening(text, form)
 }
 
-/// Adds what several plans have in common, up to the time of the write. There is one time at least.
+/// Adds what several plans over a catalog have in common, up to the time of the write, with the loads below the time of the load. There
+/// is one time at least.
 pub fn push_shared(
     text: &mut String,
+    alloc: Global,
     form: StatsForm,
+    catalog: &Catalog,
+    loads: &[LoadTime],
     times: &[PhaseTime],
 ) -> Result<(), AllocError>
-    ensures { OnOk result (string_bytes text.new ≡ string_bytes text.old ++ shared_text form times.now) }
+    ensures { OnOk result (string_bytes text.new ≡ string_bytes text.old ++ shared_text form catalog.now loads.now times.now) }
 {
     push_times_opening(text, form)?;
-    push_times(text, form, times)?;
+    push_times(text, alloc, form, catalog, loads, times)?;
     push_write_opening(text, form)
 }

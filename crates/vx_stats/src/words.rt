@@ -1,6 +1,7 @@
-//! Words for nodes and phases.
+//! Words for nodes and phases, and the names of relations.
 
 ghost use Rattle.std.specs.Prelude.{◌≡◌, ◌++◌, map, IfOk, OnOk};
+ghost use Rattle.vx_relations.specs.Catalog.{relation_at};
 ghost use Rattle.vx_plan_nodes.specs.Outline.{outline_of};
 ghost use Rattle.vx_plan_nodes.specs.TypedView.{resolved_of};
 ghost use Rattle.vx_stats.specs.Words.{op_words, word_at, phase_word};
@@ -9,6 +10,7 @@ use crate::phases::Phase;
 use std::alloc::{AllocError, Global};
 use vx_formats::op_word;
 use vx_plan_nodes::{TypedNode, TypedPlan};
+use vx_relations::Catalog;
 
 // Adds the word of the node, and then those of the nodes below it.
 fn add_words<'w>(words: &mut Vec<&'w str>, node: &TypedNode) -> Result<(), AllocError>
@@ -43,6 +45,16 @@ pub fn word_at<'w>(words: &[&'w str], node: u32) -> &'w str
         Some(word) => word,
         None => "",
     }
+}
+
+/// The name of the relation with this number; past the end the empty one.
+pub fn relation_name(catalog: &Catalog, relation: usize) -> &str
+    ensures { result.now ≡ (relation_at catalog.now relation).name }
+{
+    if relation < catalog.len() {
+        return catalog.get(relation).name();
+    }
+    ""
 }
 
 /// A phase in a word.

@@ -1,3 +1,4 @@
 pub mod MissingFacts
 pub mod FillFacts
 pub mod FolderFacts
+pub mod SeenFacts

@@ -1,5 +1,5 @@
 -- The rows of the relations that a plan scans, or that several plans scan, from tables. `holds` says which rows the tables have of a relation, and `lacks` how they refuse one.
-use Rattle.std.specs.Prelude.{◌≡◌, ℕ, ◌<◌, ◌==◌, ◌||◌, List, [], length, Bool, true, false}
+use Rattle.std.specs.Prelude.{◌≡◌, ℕ, zero, suc, ◌<◌, ◌==◌, ◌||◌, List, [], ◌∷◌, ◌++◌, length, Bool, true, false, cond}
 use Rattle.vx_values.specs.Values.{Row}
 use Rattle.vx_relations.specs.Relation.{Relation}
 use Rattle.vx_relations.specs.Catalog.{relation_at}
@@ -14,6 +14,11 @@ scans (scan n c r m z) i = r == i
 scans (unary n c op p) i = scans p i
 scans (binary n c op p q) i = scans p i || scans q i
 scans (exchange n c k m p) i = scans p i
+
+-- the numbers below this one that are scanned, in order
+abbrev pub scanned_below : (ℕ → Bool) → ℕ → List ℕ
+scanned_below is_scanned zero = []
+scanned_below is_scanned (suc n) = scanned_below is_scanned n ++ cond (is_scanned n) (n ∷ []) []
 
 -- a database with the rows of every relation of which the number is scanned, the others empty
 pub record IsFilledBy (is_scanned : ℕ → Bool) (holds : Relation → List Row → Type 0) (db : Database) : Type 0 where

@@ -2,10 +2,12 @@
 #![tactic(auto)]
 
 mod folder;
+mod observer;
 mod tables;
 mod texts;
 mod threads;
 
 pub use folder::Folder;
+pub use observer::{Observer, Unobserved};
 pub use tables::{Scanning, Tables, load_tables};
 pub use threads::{load_scanned_in_threads, load_tables_in_threads};

@@ -1,12 +1,13 @@
 //! The rows of the relations that plans scan, each relation's read by several threads.
 
-ghost use Rattle.std.specs.Prelude.{◌≡◌, ◌<◌, length, IfOk, IfErr, OnOk, List};
+ghost use Rattle.std.specs.Prelude.{◌≡◌, ◌++◌, ◌<◌, length, option_map, IfOk, IfErr, OnOk, List};
 ghost use Rattle.vx_values.specs.Values.{Row};
 ghost use Rattle.vx_relations.specs.Catalog.{relation_at};
 ghost use Rattle.vx_catalog.specs.Database.{with_rows};
 ghost use Rattle.vx_plan_nodes.specs.TypedView.{scope, plan as plan_of_typed};
-ghost use Rattle.vx_tables.specs.Filled.{IsFilledBy, IsFirstMissingOf, IsFilled, IsFirstMissing};
+ghost use Rattle.vx_tables.specs.Filled.{scans, scanned_below, IsFilledBy, IsFirstMissingOf, IsFilled, IsFirstMissing};
 
+use crate::observer::Observer;
 use crate::tables::{Scanning, Tables};
 use std::alloc::Global;
 use std::thread::Threads;
@@ -34,8 +35,9 @@ fn fill_in_threads<P: Threads + Sync, T: Tables>(
 }
 
 /// A database of the relations of a catalog that are scanned, filled in the catalog's order, each from its tables once, by up to
-/// so many threads. The others stay empty. Whoever reads it hashes keys by the seed.
-pub fn load_scanned_in_threads<P: Threads + Sync, S: Scanning, T: Tables>(
+/// so many threads. The others stay empty. The observer hears of each behind its load. Whoever reads the database hashes keys by the
+/// seed.
+pub fn load_scanned_in_threads<P: Threads + Sync, S: Scanning, T: Tables, O: Observer>(
     rt: &P,
     alloc: Global,
     threads: usize,
@@ -43,34 +45,40 @@ pub fn load_scanned_in_threads<P: Threads + Sync, S: Scanning, T: Tables>(
     catalog: &Catalog,
     scanning: &S,
     tables: &T,
+    observer: &mut O,
 ) -> Result<Database, Refusal>
     ensures catalog { IfOk result (λ d. d.catalog ≡ catalog.now) }
     ensures filled { IfOk result (λ d. IsFilledBy (S.scanned scanning.now) (T.holds tables.now) d) }
     ensures refused { IfErr result (λ e. IsFirstMissingOf (S.scanned scanning.now) (T.holds tables.now) (T.lacks tables.now) catalog.now e) }
+    ensures seen { IfOk result (λ _. O.seen observer.new ≡ option_map (λ rs. rs ++ scanned_below (S.scanned scanning.now) (length catalog.now)) (O.seen observer.old)) }
 {
     let empty = Database::empty(alloc, catalog)?;
     let mut database = empty.seeded(seed);
     for relation in 0..catalog.len() {
         if scanning.scans(relation) {
             fill_in_threads(rt, alloc, threads, &mut database, relation, tables)?;
+            observer.loaded(relation)?;
         }
     }
     Ok(database)
 }
 
 /// A database of the relations that a plan scans, filled in the catalog's order, each by up to so many threads. The others stay
-/// empty. Whoever reads it hashes keys by the seed.
-pub fn load_tables_in_threads<P: Threads + Sync, T: Tables>(
+/// empty. The observer hears of each behind its load. Whoever reads the database hashes keys by the seed.
+pub fn load_tables_in_threads<P: Threads + Sync, T: Tables, O: Observer>(
     rt: &P,
     alloc: Global,
     threads: usize,
     seed: KeySeed,
     plan: &TypedPlan,
     tables: &T,
+    observer: &mut O,
 ) -> Result<Database, Refusal>
     ensures catalog { IfOk result (λ d. d.catalog ≡ (scope plan.now).catalog) }
     ensures filled { IfOk result (λ d. IsFilled (plan_of_typed plan.now) (T.holds tables.now) d) }
     ensures refused { IfErr result (λ e. IsFirstMissing (plan_of_typed plan.now) (T.holds tables.now) (T.lacks tables.now) (scope plan.now).catalog e) }
+    ensures seen { IfOk result (λ _. O.seen observer.new ≡ option_map (λ rs. rs ++ scanned_below (scans (plan_of_typed plan.now)) (length (scope plan.now).catalog)) (O.seen observer.old)) }
 {
-    load_scanned_in_threads(rt, alloc, threads, seed, plan.catalog(), plan, tables)
+    let catalog = plan.catalog();
+    load_scanned_in_threads(rt, alloc, threads, seed, catalog, plan, tables, observer)
 }
