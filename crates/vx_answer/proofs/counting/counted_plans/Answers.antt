@@ -7,6 +7,8 @@ use Rattle.vx_answer.specs.Files.{is_input, left_of, input_after}
 use Rattle.vx_answer.specs.Plans.{ArePlansAt, AreAccepted, AreNotAccepted, NamedPlan, IsLoadedFor, AreAnswers, StopsAt, for_reading, for_plans, for_loading}
 use Rattle.vx_answer.specs.PlansView.{named_is, plans_are}
 use Rattle.vx_answer.proofs.FileFacts.{same_left}
+use Rattle.vx_stats.specs.Loads.{loads_in, relations_of}
+use Rattle.vx_answer.proofs.StatsFacts.{seen_all}
 use Rattle.vx_answer.proofs.SharesFacts.{have_shares, answers_in, stops_in}
 use Rattle.vx_answer.proofs.counting.counted_plans.Goals as goal
 
@@ -99,6 +101,8 @@ returns-clause-stats g c =
       loaded = loaded;
       stats = string_bytes c.in_ok-counted.counted.opening;
       runs = rw c.as_slice.ensures.value at c.in_ok-counted.ensures.stats;
+      loads = loads_in c.load_scanned_in_threads.new.observer;
+      each = seen_all (relations_of (loads_in c.start-loads.result)) (relations_of (loads_in c.load_scanned_in_threads.new.observer)) _ (ap relations_of c.start-loads.ensures) c.in_ok-database.ensures.seen;
       times = times_in c.timer;
       phases = search rules;
       is = search rules;

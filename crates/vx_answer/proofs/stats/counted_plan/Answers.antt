@@ -1,7 +1,9 @@
-use Rattle.std.proofs.Common.{inr, rules}
+use Rattle.std.proofs.Common.{inr, rules, ap}
 use Rattle.std.proofs.lemmas.Result.{err_from_is_err_and}
 use Rattle.vx_exec.specs.Counts.{counts_in}
 use Rattle.vx_stats.specs.Phases.{times_in}
+use Rattle.vx_stats.specs.Loads.{loads_in, relations_of}
+use Rattle.vx_answer.proofs.StatsFacts.{seen_all}
 use Rattle.vx_answer.specs.Commands.{for_tables, for_run}
 use Rattle.vx_answer.proofs.stats.counted_plan.Goals as goal
 
@@ -20,8 +22,10 @@ pub returns-clause-stats : goal.returns-clause-stats
 returns-clause-stats g c = record {
   db = c.in_ok-database.database;
   counts = counts_in c.run_over.new.counts;
+  loads = loads_in c.load_tables_in_threads.new.observer;
   times = times_in c.end-2.new.self;
   loaded = record { same = rw c.plan.ensures.same at c.in_ok-database.ensures.catalog; filled = rw c.plan.ensures.same at c.in_ok-database.ensures.filled };
+  each = seen_all (relations_of (loads_in c.start-loads.result)) (relations_of (loads_in c.load_tables_in_threads.new.observer)) _ (ap relations_of c.start-loads.ensures) (rw c.plan.ensures.same at c.in_ok-database.ensures.seen);
   run = c.in_ok-text.ensures.counted c.new-counts.ensures.wanted;
   phases = search rules;
   is = search rules;
