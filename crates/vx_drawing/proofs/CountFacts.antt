@@ -1,6 +1,6 @@
 -- Counts with those of one more entry, as a loop adds them.
-use Rattle.std.proofs.Common.{◌≡◌, ◌≢◌, ◌⊎◌, inl, inr, ℕ, ◌^◌, ◌+◌, ◌-◌, ◌<◌, List, [], ◌∷◌, ◌++◌, Bool, true, false, cond, Some, min, length, get_or, set, map, replicate, nat_eq, nat_lt, refl, sym, ap, subst, ◌∙◌, arith}
-use Rattle.std.specs.List.{filter, sum_by, list_all}
+use Rattle.std.proofs.Common.{◌≡◌, ◌≢◌, ◌⊎◌, inl, inr, ℕ, ◌^◌, ◌+◌, ◌-◌, ◌<◌, List, [], ◌∷◌, ◌++◌, Bool, true, false, cond, Some, min, length, get_or, set, replicate, nat_eq, nat_lt, refl, sym, ap, subst, ◌∙◌, arith}
+use Rattle.std.specs.List.{sum_by, list_all}
 use Rattle.std.proofs.lemmas.Bool.{lt-ltb}
 use Rattle.std.proofs.lemmas.Bool.Decides.{eqb_tells}
 use Rattle.std.proofs.lemmas.List.{append-nil, get_or-replicate, length-replicate, length-set, get_or-set_same, get_or-set_other}
@@ -8,7 +8,7 @@ use Rattle.std.proofs.lemmas.List.Elements.{filter-append}
 use Rattle.std.proofs.lemmas.List.Folds.{list_all-append}
 use Rattle.std.proofs.lemmas.List.FromFn.{fill_by_all}
 use Rattle.std.proofs.lemmas.List.Sums.{sum_by-append}
-use Rattle.vx_drawing.specs.Counts.{entries_of, total, totals, nothing, with_entry, counts_of, counts_by_node}
+use Rattle.vx_drawing.specs.Counts.{entries_of, total, totals, nothing, with_entry, counts_of, added_up}
 use Rattle.vx_drawing.specs.declared.node_counts.Entry.{Entry}
 use Rattle.vx_drawing.specs.declared.node_counts.NodeCounts.{NodeCounts}
 
@@ -69,5 +69,5 @@ counts_next nodes es cs e c d are h is =
       each = λ k z l. more_at nodes es cs e c d k z are h is l (eqb_tells e.node k);
     }
 
-pub counts_all : (nodes : ℕ) (es : List Entry) (cs : List NodeCounts) → AreCounts nodes es cs → counts_by_node nodes es ≡ Some cs
+pub counts_all : (nodes : ℕ) (es : List Entry) (cs : List NodeCounts) → AreCounts nodes es cs → added_up nodes es ≡ Some cs
 counts_all nodes es cs are = rw are.known (ap (λ l. Some l) (sym (fill_by_all (counts_of es) cs nodes nothing are.long (λ k l. are.each k nothing l))))

@@ -1,5 +1,5 @@
 -- What `run --stats=json` wrote, added up for each node.
-use Rattle.std.specs.Prelude.{ℕ, ◌+◌, ◌^◌, ◌-◌, ◌==◌, List, [], ◌∷◌, map, min, nat_lt, codes, Option, Some, None, option_map, option_and_then, if◌then◌else◌}
+use Rattle.std.specs.Prelude.{ℕ, ◌+◌, ◌^◌, ◌-◌, ◌==◌, List, map, min, nat_lt, codes, Option, Some, None, option_map, option_and_then, if◌then◌else◌}
 use Rattle.std.specs.List.{filter, list_all, sum_by, range_with_len}
 use Rattle.serde_json.specs.Data.{Data}
 use Rattle.serde_json.specs.Find.{get, as_number, as_u64}
@@ -42,16 +42,16 @@ unfoldable pub counts_of : List Entry → ℕ → NodeCounts
 counts_of es node = totals (entries_of node es)
 
 -- the counts of each node of a plan with so many nodes; none where an entry is of a node that the plan does not have
-abbrev pub counts_by_node : ℕ → List Entry → Option (List NodeCounts)
-counts_by_node nodes es =
+abbrev pub added_up : ℕ → List Entry → Option (List NodeCounts)
+added_up nodes es =
     if list_all (λ e. nat_lt e.node nodes) es
     then Some (map (counts_of es) (range_with_len 0 nodes))
     else None
 
 -- the same by a JSON value, whose member `nodes` lists the entries
 unfoldable pub counts_in : ℕ → Data → Option (List NodeCounts)
-counts_in nodes d = option_and_then (counts_by_node nodes) (option_and_then (each_in entry_in) (get (codes "nodes") d))
+counts_in nodes d = option_and_then (added_up nodes) (option_and_then (each_in entry_in) (get (codes "nodes") d))
 
 -- and by its text
-abbrev pub counts_of_text : ℕ → List ℕ → Option (List NodeCounts)
-counts_of_text nodes text = option_and_then (counts_in nodes) (value_of_text text)
+abbrev pub counts_by_node : ℕ → List ℕ → Option (List NodeCounts)
+counts_by_node nodes text = option_and_then (counts_in nodes) (value_of_text text)

@@ -1,7 +1,7 @@
 -- Counts beside the boxes of a picture, in the language of Graphviz.
-use Rattle.std.specs.Prelude.{◌≡◌, ℕ, ◌+◌, ◌-◌, List, [], ◌∷◌, ◌++◌, length, take, decimal, codes, Option, Some, None}
+use Rattle.std.specs.Prelude.{◌≡◌, ℕ, ◌+◌, ◌-◌, List, [], ◌∷◌, ◌++◌, length, take, decimal, codes, Some, None}
 use Rattle.vx_drawing.specs.declared.node_counts.NodeCounts.{NodeCounts}
-use Rattle.vx_drawing.specs.Counts.{counts_of_text}
+use Rattle.vx_drawing.specs.Counts.{counts_by_node}
 
 -- what is written beside a box; what parts its two lines is a backslash and an n
 unfoldable pub label : NodeCounts → List ℕ
@@ -25,8 +25,8 @@ drawing picture cs = take (length picture - 2) picture ++ (statements cs ++ code
 
 -- the text of the statistics has counts for so many nodes, and this is the picture with them
 abbrev pub IsDrawn : ℕ → List ℕ → List ℕ → List ℕ → Type 0
-IsDrawn nodes picture stats drawn = (cs : List NodeCounts) × (counts_of_text nodes stats ≡ Some cs) × (drawn ≡ drawing picture cs)
+IsDrawn nodes picture stats drawn = (cs : List NodeCounts) × (counts_by_node nodes stats ≡ Some cs) × (drawn ≡ drawing picture cs)
 
 -- the text is not JSON, or does not have counts for so many nodes
 abbrev pub HasNoCounts : ℕ → List ℕ → Type 0
-HasNoCounts nodes stats = counts_of_text nodes stats ≡ None
+HasNoCounts nodes stats = counts_by_node nodes stats ≡ None

@@ -1,8 +1,7 @@
 //! Counts beside the boxes of a picture.
 
-ghost use Rattle.std.specs.Prelude.{◌≡◌, ◌++◌, decimal, IfOk, IfErr, OnOk};
+ghost use Rattle.std.specs.Prelude.{◌≡◌, ◌++◌, decimal, IfOk, OnOk, IsErrOf};
 ghost use Rattle.vx_drawing.specs.Drawing.{label, statement, statements, drawing, IsDrawn, HasNoCounts};
-ghost use Rattle.vx_drawing.specs.declared.node_counts.DrawFault.TheVariants as fault;
 
 use crate::node_counts::{DrawFault, NodeCounts, counts_by_node};
 use itoa::Buffer;
@@ -69,7 +68,7 @@ fn with_counts(alloc: Global, picture: &[u8], counts: &[NodeCounts]) -> Result<V
 /// box. Of the picture all is kept but its last two bytes, the closing bracket, which follows the counts.
 pub fn draw(alloc: Global, nodes: usize, picture: &[u8], stats: &[u8]) -> Result<Vec<u8>, DrawFault>
     ensures drawn { IfOk result (λ v. IsDrawn nodes picture.now stats.now v.items) }
-    ensures refused { IfErr result (λ e. e ≡ fault.BadStats → HasNoCounts nodes stats.now) }
+    ensures refused { IsErrOf result DrawFault.BadStats → HasNoCounts nodes stats.now }
 {
     let counts = counts_by_node(alloc, nodes, stats)?;
     Ok(with_counts(alloc, picture, counts.as_slice())?)

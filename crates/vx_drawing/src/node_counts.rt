@@ -3,7 +3,7 @@
 ghost use Rattle.std.specs.Prelude.{◌≡◌, replicate, IfOk};
 ghost use Rattle.serde_json.specs.View.{view};
 ghost use Rattle.vx_json.specs.Look.{Finds, Parses};
-ghost use Rattle.vx_drawing.specs.Counts.{number_at, entry_in, nothing, with_entry, counts_by_node, counts_in, counts_of_text};
+ghost use Rattle.vx_drawing.specs.Counts.{number_at, entry_in, nothing, with_entry, added_up, counts_in, counts_by_node};
 
 use serde_json::Value as Json;
 use std::alloc::{AllocError, Global};
@@ -125,7 +125,7 @@ fn with_entry(counts: NodeCounts, entry: Entry) -> NodeCounts
 }
 
 // Nothing counted, for so many nodes.
-fn no_counts(alloc: Global, nodes: usize) -> Result<Vec<NodeCounts>, AllocError>
+fn nothing_counted(alloc: Global, nodes: usize) -> Result<Vec<NodeCounts>, AllocError>
     ensures { IfOk result (λ v. v.items ≡ replicate nodes nothing) }
 {
     let none = NodeCounts {
@@ -142,9 +142,9 @@ fn no_counts(alloc: Global, nodes: usize) -> Result<Vec<NodeCounts>, AllocError>
 
 // The counts of each node of a plan with so many nodes, by what each worker counted.
 fn add_up(alloc: Global, nodes: usize, entries: &[Entry]) -> Result<Vec<NodeCounts>, Misread>
-    ensures { Parses (λ v. v.items) result (counts_by_node nodes entries.now) }
+    ensures { Parses (λ v. v.items) result (added_up nodes entries.now) }
 {
-    let mut counts = no_counts(alloc, nodes)?;
+    let mut counts = nothing_counted(alloc, nodes)?;
     for entry in entries {
         if entry.node >= nodes as u64 {
             return Err(Misread::NotOfForm);
@@ -164,12 +164,8 @@ fn read_counts(alloc: Global, nodes: usize, stats: &Json) -> Result<Vec<NodeCoun
 }
 
 /// What all workers together counted at each node of a plan with so many nodes, by what `run --stats=json` wrote.
-pub fn counts_by_node(
-    alloc: Global,
-    nodes: usize,
-    text: &[u8],
-) -> Result<Vec<NodeCounts>, Misread>
-    ensures { Parses (λ v. v.items) result (counts_of_text nodes text.now) }
+pub fn counts_by_node(alloc: Global, nodes: usize, text: &[u8]) -> Result<Vec<NodeCounts>, Misread>
+    ensures { Parses (λ v. v.items) result (counts_by_node nodes text.now) }
 {
     match value_of_text(alloc, text)? {
         Some(stats) => read_counts(alloc, nodes, &stats),
