@@ -1,9 +1,14 @@
 //! What `run --stats=json` wrote, added up for each node.
 
-ghost use Rattle.std.specs.Prelude.{◌≡◌, length, IfOk};
+ghost use Rattle.std.specs.Prelude.{◌≡◌, replicate, IfOk};
+ghost use Rattle.serde_json.specs.View.{view};
+ghost use Rattle.vx_json.specs.Look.{Finds, Parses};
+ghost use Rattle.vx_drawing.specs.Counts.{number_at, entry_in, nothing, with_entry, added_up, counts_in, counts_by_node};
 
 use serde_json::Value as Json;
 use std::alloc::{AllocError, Global};
+use vx_bundle::value_of_text;
+use vx_json::{Misread, Reader, get_member, read_list};
 
 /// Why statistics are not drawn.
 #[derive(Clone, Copy, Debug, PartialEq, Eq)]
@@ -25,6 +30,20 @@ impl From<AllocError> for DrawFault {
     }
 }
 
+impl From<Misread> for DrawFault {
+    ghost use Rattle.std.specs.Prelude.{◌≡◌};
+    ghost use Rattle.vx_drawing.specs.Fault.{fault_of};
+
+    ghost from_gives = { λ m e. e ≡ fault_of m };
+
+    fn from(misread: Misread) -> DrawFault {
+        match misread {
+            Misread::NotOfForm => DrawFault::BadStats,
+            Misread::NoMemory => DrawFault::NoMemory,
+        }
+    }
+}
+
 /// What all workers together counted at a node.
 #[derive(Clone, Copy, Debug, PartialEq, Eq)]
 pub struct NodeCounts {
@@ -36,42 +55,78 @@ pub struct NodeCounts {
     pub waits: u64,
 }
 
-// A number among the members of an object.
-fn number_of(node: &Json, key: &str) -> Result<u64, DrawFault> {
-    let Some(value) = node.get(key) else {
-        return Err(DrawFault::BadStats);
-    };
-    match value.as_u64() {
-        Some(number) => Ok(number),
-        None => Err(DrawFault::BadStats),
-    }
+// What one worker counted at a node.
+#[derive(Clone, Copy)]
+struct Entry {
+    // The node's number.
+    node: u64,
+    // The rows that the node's operator returned.
+    gave: u64,
+    // The packets that the worker sent.
+    put: u64,
+    // How often the worker waited.
+    waits: u64,
 }
 
-// The counts of a node in one worker, added to those before.
-fn added(counts: NodeCounts, node: &Json) -> Result<NodeCounts, DrawFault> {
-    Ok(NodeCounts {
-        rows: counts.rows.saturating_add(number_of(node, "gave")?),
-        packets: counts.packets.saturating_add(number_of(node, "put")?),
-        waits: counts.waits.saturating_add(number_of(node, "waits")?),
+// A number among the members of an object.
+#[tactic(auto, unfolding(crate::specs::Counts::number_at))]
+fn number_at(object: &Json, key: &str) -> Result<u64, Misread>
+    ensures { Finds (λ n. n) result (number_at key.now (view object.now)) }
+{
+    let value = get_member(object, key)?;
+    value.as_u64().ok_or(Misread::NotOfForm)
+}
+
+#[tactic(auto, unfolding(crate::specs::Counts::entry_in))]
+fn read_entry(object: &Json) -> Result<Entry, Misread>
+    ensures { Finds (λ e. e) result (entry_in (view object.now)) }
+{
+    let node = number_at(object, "node")?;
+    let gave = number_at(object, "gave")?;
+    let put = number_at(object, "put")?;
+    let waits = number_at(object, "waits")?;
+    Ok(Entry {
+        node,
+        gave,
+        put,
+        waits,
     })
 }
 
-// Adds a node in one worker to the counts of its node.
-fn add_node(counts: &mut Vec<NodeCounts>, node: &Json) -> Result<(), DrawFault>
-    ensures { length counts.new.items ≡ length counts.old.items }
-{
-    let number = number_of(node, "node")?;
-    if number >= counts.len() as u64 {
-        return Err(DrawFault::BadStats);
+// Reads nodes in workers.
+struct EntryReader;
+
+impl Reader for EntryReader {
+    ghost use Rattle.vx_drawing.specs.Counts.{entry_in};
+    ghost use Rattle.vx_drawing.specs.declared.node_counts.Entry as the_entry;
+
+    type Item = Entry;
+
+    ghost Form = { the_entry.Entry };
+
+    ghost look = { λ e. e };
+
+    ghost form = { entry_in };
+
+    fn read(_alloc: Global, value: &Json) -> Result<Entry, Misread> {
+        read_entry(value)
     }
-    let at = number as usize;
-    counts[at] = added(counts[at], node)?;
-    Ok(())
+}
+
+// The counts with those of one more worker.
+fn with_entry(counts: NodeCounts, entry: Entry) -> NodeCounts
+    ensures { result ≡ with_entry counts entry }
+{
+    NodeCounts {
+        rows: counts.rows.saturating_add(entry.gave),
+        packets: counts.packets.saturating_add(entry.put),
+        waits: counts.waits.saturating_add(entry.waits),
+    }
 }
 
 // Nothing counted, for so many nodes.
-fn no_counts(alloc: Global, nodes: usize) -> Result<Vec<NodeCounts>, AllocError>
-    ensures { IfOk result (λ v. length v.items ≡ nodes) }
+fn nothing_counted(alloc: Global, nodes: usize) -> Result<Vec<NodeCounts>, AllocError>
+    ensures { IfOk result (λ v. v.items ≡ replicate nodes nothing) }
 {
     let none = NodeCounts {
         rows: 0,
@@ -85,42 +140,35 @@ fn no_counts(alloc: Global, nodes: usize) -> Result<Vec<NodeCounts>, AllocError>
     Ok(counts)
 }
 
-// The nodes in workers that a text of statistics lists.
-fn listed(stats: &Json) -> Result<&[Json], DrawFault> {
-    let Some(nodes) = stats.get("nodes") else {
-        return Err(DrawFault::BadStats);
-    };
-    match nodes.as_array() {
-        Some(nodes) => Ok(nodes.as_slice()),
-        None => Err(DrawFault::BadStats),
+// The counts of each node of a plan with so many nodes, by what each worker counted.
+fn add_up(alloc: Global, nodes: usize, entries: &[Entry]) -> Result<Vec<NodeCounts>, Misread>
+    ensures { Parses (λ v. v.items) result (added_up nodes entries.now) }
+{
+    let mut counts = nothing_counted(alloc, nodes)?;
+    for entry in entries {
+        if entry.node >= nodes as u64 {
+            return Err(Misread::NotOfForm);
+        }
+        let at = entry.node as usize;
+        counts[at] = with_entry(counts[at], *entry);
     }
+    Ok(counts)
 }
 
-// A text as JSON.
-fn parsed(alloc: Global, text: &[u8]) -> Result<Json, DrawFault> {
-    match Json::from_slice(alloc, text) {
-        Ok(json) => Ok(json),
-        Err(error) => {
-            if error.is_memory() {
-                return Err(DrawFault::NoMemory);
-            }
-            Err(DrawFault::BadStats)
-        }
-    }
+#[tactic(auto, unfolding(crate::specs::Counts::counts_in))]
+fn read_counts(alloc: Global, nodes: usize, stats: &Json) -> Result<Vec<NodeCounts>, Misread>
+    ensures { Parses (λ v. v.items) result (counts_in nodes (view stats.now)) }
+{
+    let entries = read_list::<EntryReader>(alloc, get_member(stats, "nodes")?)?;
+    add_up(alloc, nodes, entries.as_slice())
 }
 
 /// What all workers together counted at each node of a plan with so many nodes, by what `run --stats=json` wrote.
-pub fn counts_by_node(
-    alloc: Global,
-    nodes: usize,
-    text: &[u8],
-) -> Result<Vec<NodeCounts>, DrawFault>
-    ensures { IfOk result (λ v. length v.items ≡ nodes) }
+pub fn counts_by_node(alloc: Global, nodes: usize, text: &[u8]) -> Result<Vec<NodeCounts>, Misread>
+    ensures { Parses (λ v. v.items) result (counts_by_node nodes text.now) }
 {
-    let stats = parsed(alloc, text)?;
-    let mut counts = no_counts(alloc, nodes)?;
-    for node in listed(&stats)? {
-        add_node(&mut counts, node)?;
+    match value_of_text(alloc, text)? {
+        Some(stats) => read_counts(alloc, nodes, &stats),
+        None => Err(Misread::NotOfForm),
     }
-    Ok(counts)
 }
