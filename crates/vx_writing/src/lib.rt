@@ -1,0 +1,8 @@
+//! The text of rows, made by several threads: each makes the lines of rows that follow one another.
+#![tactic(auto)]
+
+mod blocks;
+mod lines;
+mod write;
+
+pub use write::{Shares, format_in_shares, format_in_threads};
