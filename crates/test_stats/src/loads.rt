@@ -53,8 +53,15 @@ fn loaded<P: Threads + Sync>(rt: &P, alloc: Global, step: u64) -> Result<Vec<Loa
     let clock = Ticking::new(step);
     let mut timer = LoadTimer::start(alloc, &clock);
     let plan = plan(alloc)?;
-    let database =
-        load_tables_in_threads(rt, alloc, 2, KeySeed::fixed(), &plan, &bundle, &mut timer);
+    let database = load_tables_in_threads(
+        rt,
+        alloc,
+        2,
+        KeySeed::fixed(),
+        &plan,
+        &bundle,
+        &mut timer,
+    );
     if database.is_err() {
         return Err(Fail::new("the bundle has the rows of the plan's relation"));
     }

@@ -81,7 +81,15 @@ fn a_plan_that_runs_alone_has_all_times(rt: HostRuntime) -> Result<(), Fail> {
     let workers = workers(alloc)?;
     for (form, text) in [(StatsForm::Table, TABLE), (StatsForm::Json, JSON)] {
         let mut opening = String::new(alloc);
-        push_lone_plan(&mut opening, alloc, form, &plan, workers.as_slice(), &LOADS, &TIMES)?;
+        push_lone_plan(
+            &mut opening,
+            alloc,
+            form,
+            &plan,
+            workers.as_slice(),
+            &LOADS,
+            &TIMES,
+        )?;
         assert_eq!(rt;
             finished(alloc, opening.as_str(), form, Some(30))?.as_str(),
             text

@@ -1,5 +1,5 @@
 -- Statistics for tools, as JSON.
-use Rattle.std.specs.Prelude.{ℕ, List, [], ◌∷◌, ◌++◌, map, codes, decimal, false}
+use Rattle.std.specs.Prelude.{ℕ, List, [], ◌++◌, map, codes, decimal, false}
 use Rattle.serde_json.specs.Data.{string}
 use Rattle.serde_json.specs.Written.{compact_text}
 use Rattle.vx_relations.specs.Relation.{Relation}

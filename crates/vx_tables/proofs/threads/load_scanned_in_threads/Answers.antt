@@ -7,9 +7,10 @@ use Rattle.vx_tables.proofs.threads.load_scanned_in_threads.Goals as goal
 use Rattle.vx_tables.proofs.threads.load_scanned_in_threads.Goals.{then-scans+in_ok-fill_in_threads+in_ok-loaded, else-scans}
 
 pub loop-relation-init : goal.loop-relation-init
-loop-relation-init g c =
-    (filled_none (g.S.Scanning.scanned c.args.scanning.now) (g.T.Tables.holds c.args.tables.now) c.args.catalog.now c.seeded-database.result (ap (λ d. d.catalog) c.seeded-database.ensures ∙ c.in_ok-empty.ensures.catalog) (ap (λ d. d.rows) c.seeded-database.ensures ∙ c.in_ok-empty.ensures.empty),
-    seen_none (g.S.Scanning.scanned c.args.scanning.now) (g.O.Observer.seen c.args.observer.now))
+loop-relation-init g c = (
+  filled_none (g.S.Scanning.scanned c.args.scanning.now) (g.T.Tables.holds c.args.tables.now) c.args.catalog.now c.seeded-database.result (ap (λ d. d.catalog) c.seeded-database.ensures ∙ c.in_ok-empty.ensures.catalog) (ap (λ d. d.rows) c.seeded-database.ensures ∙ c.in_ok-empty.ensures.empty),
+  seen_none (g.S.Scanning.scanned c.args.scanning.now) (g.O.Observer.seen c.args.observer.now),
+)
 
 pub loop-relation-preserved : goal.loop-relation-preserved
 loop-relation-preserved g c =
@@ -25,13 +26,15 @@ loop-relation-preserved g c =
       | then-scans+in_ok-fill_in_threads+in_ok-loaded w ↦
           let scan : scanned l.relation ≡ true = sym c.scans.ensures ∙ w.if-scans.true in
           let filled = w.in_ok-fill_in_threads.ensures.filled in
-          let read = rw l.invariant.0.same at filled.1 in
-          (subst P (sym (w.database-is ∙ filled.2)) (filled_next scanned holds catalog l.database l.relation filled.0 there scan read l.invariant.0),
-          ap (g.O.Observer.seen) w.observer-is ∙ seen_next scanned l.relation before now (g.O.Observer.seen w.loaded.new.self) scan l.invariant.1 w.in_ok-loaded.ensures)
+          let read = rw l.invariant.0.same at filled.1 in (
+            subst P (sym (w.database-is ∙ filled.2)) (filled_next scanned holds catalog l.database l.relation filled.0 there scan read l.invariant.0),
+            ap (g.O.Observer.seen) w.observer-is ∙ seen_next scanned l.relation before now (g.O.Observer.seen w.loaded.new.self) scan l.invariant.1 w.in_ok-loaded.ensures,
+          )
       | else-scans w ↦
-          let out : scanned l.relation ≡ false = sym c.scans.ensures ∙ w.if-scans.false in
-          (subst P (sym w.database-is) (filled_more scanned holds catalog l.database l.relation out l.invariant.0),
-          ap (g.O.Observer.seen) w.observer-is ∙ seen_more scanned l.relation before now out l.invariant.1)
+          let out : scanned l.relation ≡ false = sym c.scans.ensures ∙ w.if-scans.false in (
+            subst P (sym w.database-is) (filled_more scanned holds catalog l.database l.relation out l.invariant.0),
+            ap (g.O.Observer.seen) w.observer-is ∙ seen_more scanned l.relation before now out l.invariant.1,
+          )
     ]
 
 pub returns-in_err-fill_in_threads-clause-refused : goal.returns-in_err-fill_in_threads-clause-refused
