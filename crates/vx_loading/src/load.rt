@@ -18,7 +18,7 @@ use vx_rows::Table;
 const MOST_THREADS: usize = 64;
 
 // How many bytes each thread gets in a round.
-const BLOCK: usize = 1 << 20;
+const BLOCK: usize = 4 << 20;
 
 // A text of fewer bytes is read by one thread, since starting threads costs more than they save.
 const LEAST: usize = 256 << 10;
