@@ -86,7 +86,7 @@ start_up : (rows : List Row) (from size i : ℕ) → block_start rows from size 
 start_up rows from size i = let p : i * size ≤ (i + 1) * size = mul-le-mul_right size (omega arith) in omega (arith, p)
 
 -- the lines of all blocks of a round
-pub blocks_join : (rows : List Row) (from size : ℕ) (parts : List (Result (List ℕ) AllocError)) → from ≤ length rows → AreLines rows from size parts → All IsOk parts
+blocks_join : (rows : List Row) (from size : ℕ) (parts : List (Result (List ℕ) AllocError)) → from ≤ length rows → AreLines rows from size parts → All IsOk parts
     → flat_map lines_in parts ≡ lines_text (slice_range rows from (block_start rows from size (length parts)))
 blocks_join rows from size parts there each made =
     let z : 0 * size ≡ 0 = zero-mul size in
@@ -94,9 +94,22 @@ blocks_join rows from size parts there each made =
     parts_join rows (block_start rows from size) parts (start_up rows from size) (λ i. omega arith) each made
     ∙ ap (λ n. lines_text (slice_range rows n (block_start rows from size (length parts)))) e
 
--- more lines behind a text
-pub text_more : (names : List (List ℕ)) (rows : List Row) (from to : ℕ) → from ≤ to → to ≤ length rows → csv_text names (take from rows) ++ lines_text (slice_range rows from to) ≡ csv_text names (take to rows)
-text_more names rows from to order there =
+-- they stand behind a text, where so many blocks were shared out
+pub round_lines : (rows : List Row) (from size count end : ℕ) (before now : List ℕ) (parts : List (Result (List ℕ) AllocError)) → from ≤ length rows → AreLines rows from size parts → All IsOk parts
+    → length parts ≡ count → end ≡ block_start rows from size count
+    → now ≡ before ++ flat_map lines_in parts → now ≡ before ++ lines_text (slice_range rows from end)
+round_lines rows from size count end before now parts there each made many last is =
+    let to : block_start rows from size (length parts) ≡ end = ap (block_start rows from size) many ∙ sym last in
+    let all = blocks_join rows from size parts there each made ∙ ap (λ n. lines_text (slice_range rows from n)) to in
+    is ∙ ap (λ l. before ++ l) all
+
+-- the text up to a row, and the lines of the rows behind it
+pub text_more : (names : List (List ℕ)) (rows : List Row) (from to : ℕ) (before now : List ℕ) → from ≤ to → to ≤ length rows
+    → before ≡ csv_text names (take from rows) → now ≡ before ++ lines_text (slice_range rows from to) → now ≡ csv_text names (take to rows)
+text_more names rows from to before now order there so_far is =
     let header = row_text default_writer names in
-    append_assoc header (lines_text (take from rows)) (lines_text (slice_range rows from to))
-    ∙ ap (λ l. header ++ l) (sym (flat_map-append line_text (take from rows) (slice_range rows from to)) ∙ ap lines_text (sym (take-range rows from to order there)))
+    let front = lines_text (take from rows) in
+    let more = lines_text (slice_range rows from to) in
+    let both : front ++ more ≡ lines_text (take to rows) =
+    sym (flat_map-append line_text (take from rows) (slice_range rows from to)) ∙ ap lines_text (sym (take-range rows from to order there)) in
+    is ∙ (ap (λ l. l ++ more) so_far ∙ (append_assoc header front more ∙ ap (λ l. header ++ l) both))

@@ -1,17 +1,12 @@
-use Rattle.std.proofs.Common.{◌++◌, arith, ap, ◌∙◌, map, string_bytes}
-use Rattle.std.specs.Prelude.{slice_range}
-use Rattle.vx_writing.specs.Blocks.{lines_text}
+use Rattle.std.proofs.Common.{arith, map, string_bytes}
 use Rattle.vx_writing.proofs.BlockFacts.{text_more}
 use Rattle.vx_writing.proofs.write.format_in_shares.Goals as goal
 
 pub rounds-preserved : goal.rounds-preserved
 rounds-preserved g c =
-    let rows = c.args.rows.now.rows in
-    let from = c.rounds.from in
-    let to = c.in_ok-from.from in
+    let round = c.in_ok-from.ensures in
     record {
-      there = c.in_ok-from.ensures.end;
-      lines = c.in_ok-from.ensures.lines
-          ∙ (ap (λ l. l ++ lines_text (slice_range rows from to)) c.rounds.invariant.lines
-          ∙ text_more (map string_bytes c.args.names.now) rows from to (omega (arith, c.in_ok-from.ensures.more)) c.in_ok-from.ensures.end);
+      there = round.end;
+      lines = text_more (map string_bytes c.args.names.now) c.args.rows.now.rows c.rounds.from c.in_ok-from.from c.rounds.text.items c.add_round.new.text.items
+          (omega (arith, round.more)) round.end c.rounds.invariant.lines round.lines;
     }
