@@ -1,4 +1,4 @@
-use Rattle.std.proofs.Common.{◌≡◌, ◌∙◌, ℕ, List, Option, map, ap, subst}
+use Rattle.std.proofs.Common.{◌≡◌, ◌∙◌, ℕ, List, Option, map, ap, subst, rules, string_bytes}
 use Rattle.std.proofs.lemmas.Result.{err_from_is_err_and}
 use Rattle.vx_arguments.specs.Asked.{many_are}
 use Rattle.vx_tables.specs.Folder.{holds_at}
@@ -8,6 +8,7 @@ use Rattle.vx_answer.specs.Plans.{ArePlansAt, AreAccepted, AreNotAccepted, Named
 use Rattle.vx_answer.specs.PlansView.{named_is, plans_are}
 use Rattle.vx_answer.proofs.FileFacts.{same_left}
 use Rattle.vx_stats.specs.Loads.{loads_in, relations_of}
+use Rattle.vx_stats.specs.Phases.{times_in}
 use Rattle.vx_answer.proofs.StatsFacts.{seen_all}
 use Rattle.vx_answer.proofs.SharesFacts.{have_shares, answers_in, stops_in}
 use Rattle.vx_answer.proofs.counting.counted_plans.Goals as goal
