@@ -114,7 +114,7 @@ pub fn push_time(text: &mut String, time: &PhaseTime) -> Result<(), AllocError>
 }
 
 // Adds a relation's name in double quotes.
-fn push_relation(
+fn push_relation_name(
     text: &mut String,
     alloc: Global,
     catalog: &Catalog,
@@ -138,7 +138,7 @@ fn push_load(
     ensures { OnOk result (string_bytes text.new ≡ string_bytes text.old ++ load_json catalog.now load.now) }
 {
     text.push_str("{\"relation\":")?;
-    push_relation(text, alloc, catalog, load.relation)?;
+    push_relation_name(text, alloc, catalog, load.relation)?;
     text.push_str(",\"microseconds\":")?;
     push_microseconds(text, load.microseconds)?;
     text.push_str("}")
