@@ -1,5 +1,5 @@
 -- Counted runs: what they answer, and why they have no answer.
-use Rattle.std.proofs.Common.{◌≡◌, ◌⊎◌, ◌∙◌, ℕ, ◌+◌, ◌<◌, List, [], ◌∷◌, ◌++◌, map, take, length, get_or, Option, Some, option_map, Result, Ok, Err, refl, sym, ap, subst, inl, inr, append_assoc, string_bytes}
+use Rattle.std.proofs.Common.{◌≡◌, ◌⊎◌, ◌∙◌, ℕ, ◌+◌, ◌<◌, List, [], ◌∷◌, ◌++◌, map, take, length, get_or, Bool, Option, Some, option_map, Result, Ok, Err, refl, sym, ap, subst, inl, inr, append_assoc, string_bytes}
 use Rattle.std.proofs.lemmas.List.{append-nil, take_more}
 use Rattle.std.specs.Prelude.{IfOk, IfErr}
 use Rattle.vx_arguments.specs.Asked.{Paths}
@@ -14,6 +14,7 @@ use Rattle.vx_refusals.specs.declared.refusal.Refusal.{Refusal}
 use Rattle.vx_refusals.specs.declared.refusal.Refusal.TheVariants as refusal
 use Rattle.vx_plan_nodes.specs.declared.typed_plan.TypedPlan.{TypedPlan}
 use Rattle.vx_stats.specs.Text.{plan_text}
+use Rattle.vx_stats.specs.declared.phases.Phase.{Phase}
 use Rattle.vx_stats.specs.declared.phases.Phase.TheVariants as phase
 use Rattle.vx_stats.specs.declared.text.StatsForm.{StatsForm}
 use Rattle.vx_tables.specs.Folder.{holds_at, LacksAt}
@@ -59,7 +60,7 @@ pub stats_answer : (files : List ℕ → Stored) (input : Option (List ℕ)) (f 
     → AnswersTask files input (record { command = command.Run; paths = paths; folder = folder; setting = s }) text
 stats_answer files input f paths folder s text opening h =
     let run = h.counted.run in
-    (resolved_of h.plan, h.planned, h.shown, h.counted.db, h.counted.loaded, run.rows, run.sizes, run.set, run.run, run.is)
+    (resolved_of h.plan, h.planned, (h.shown, (h.counted.db, h.counted.loaded, (run.rows, run.sizes, run.set, run.run, run.is))))
 
 -- the texts of counted runs are answers
 pub counted_answers : (f : StatsForm) (db : Database) (s : Setting) (ns : List AcceptedPlan) (text stats : List ℕ) → AreCountedRuns f db s ns text stats
@@ -112,3 +113,12 @@ seen_all before after more none is =
     let P : List ℕ → Type 0 = λ b. ◌≡◌ {A = Option (List ℕ)} (Some after) (Some (b ++ more)) in
     let e : ◌≡◌ {A = Option (List ℕ)} (Some after) (Some more) = subst P none is in
     cc
+
+-- what was added first, and then behind it
+pub added_twice : {A : Type 0} (start once twice first second : List A) → once ≡ start ++ first → twice ≡ once ++ second → twice ≡ start ++ (first ++ second)
+added_twice start once twice first second one two = two ∙ ap (λ x. x ++ second) one ∙ append_assoc start first second
+
+-- three phases, one after the other
+pub three_phases : (none one two three : List Phase) (p q r : Phase) → none ≡ [] → one ≡ none ++ p ∷ [] → two ≡ one ++ q ∷ [] → three ≡ two ++ r ∷ [] → three ≡ p ∷ q ∷ r ∷ []
+three_phases none one two three p q r begins first second third =
+    third ∙ ap (λ x. x ++ r ∷ []) (second ∙ ap (λ x. x ++ q ∷ []) (first ∙ ap (λ x. x ++ p ∷ []) begins))

@@ -1,29 +1,33 @@
 -- Answers with statistics: what they answer, and when there are none.
-use Rattle.std.proofs.Common.{◌≡◌, ◌⊎◌, ◌∙◌, ℕ, List, map, Bool, Option, Some, Result, Ok, Err, [], inl, inr, sym, subst}
+use Rattle.std.proofs.Common.{◌≡◌, ◌⊎◌, ◌∙◌, ℕ, List, map, Bool, Option, Some, Result, Ok, Err, [], inl, inr, refl, sym, subst, string_bytes}
 use Rattle.std.specs.Prelude.{IfOk, IfErr}
 use Rattle.clap.specs.Values.{kind_of}
 use Rattle.clap.specs.Words.{HasKind, IsAmong, Kinds}
 use Rattle.clap.specs.declared.error.Error.{Error}
 use Rattle.clap.specs.declared.error.kind.ErrorKind.{ErrorKind}
 use Rattle.clap.specs.declared.error.kind.ErrorKind.TheVariants as kind
-use Rattle.vx_arguments.specs.Asked.{Ask, ManyPaths, stats_by, faults_of}
+use Rattle.vx_arguments.specs.Asked.{Ask, Paths, ManyPaths, Given, run, run_plans, stats_by, faults_of}
+use Rattle.vx_bundle.specs.declared.command.Command.TheVariants as command
+use Rattle.vx_refusals.specs.declared.refusal.Refusal.{Refusal}
 use Rattle.vx_bundle.specs.Setting.{Setting}
 use Rattle.vx_bytes.specs.Stored.{Stored}
 use Rattle.vx_stats.specs.declared.text.StatsForm.{StatsForm}
-use Rattle.vx_answer.specs.CommandLine.{with_program_name, AsksFor, for_no_stats, arguments_memory}
-use Rattle.vx_answer.specs.CommandLineView.{IsHelp, IsAskFault, IsArgumentFault}
+use Rattle.vx_answer.specs.Arguments.{IsSetting}
+use Rattle.vx_answer.specs.CommandLine.{FileCommand, IsTask, TaskRefuses, AskRefuses, with_program_name, AsksFor, for_no_stats, for_task, for_runs, for_asked_task, arguments_memory}
+use Rattle.vx_answer.specs.CommandLineView.{IsHelp, IsAskAnswer, IsAskFault, IsArgumentFault}
 use Rattle.vx_answer.specs.Files.{input_after}
 use Rattle.vx_answer.specs.Plans.{AnswersPlans}
 use Rattle.vx_answer.specs.PlansView.{named_is}
-use Rattle.vx_answer.specs.Stats.{ArePlansStats}
+use Rattle.vx_answer.specs.Stats.{AreTaskStats, ArePlansStats, for_one, for_several}
 use Rattle.vx_answer.specs.StatsView.{IsCountedAs, IsUncounted, IsStatsFault}
 use Rattle.vx_answer.specs.declared.command_line.ArgumentAnswer.{ArgumentAnswer}
 use Rattle.vx_answer.specs.declared.command_line.ArgumentAnswer.TheVariants as answer
 use Rattle.vx_answer.specs.declared.command_line.ArgumentFault.{ArgumentFault}
+use Rattle.vx_answer.specs.declared.stats.Counted.{Counted}
 use Rattle.vx_answer.specs.declared.command_line.ArgumentFault.TheVariants as fault
 use Rattle.vx_answer.proofs.CommandLineFacts.{arguments_refused}
 use Rattle.vx_answer.proofs.SharesFacts.{have_shares, answers_in}
-use Rattle.vx_answer.proofs.StatsFacts.{counted_answers}
+use Rattle.vx_answer.proofs.StatsFacts.{counted_answers, stats_answer}
 
 -- what is reported of several plans answers them
 pub plans_stats : (files : List ℕ → Stored) (input : Option (List ℕ)) (f : StatsForm) (paths : ManyPaths) (folder : List ℕ) (s : Setting) (text opening : List ℕ)
@@ -66,6 +70,34 @@ pub request_refused : {T : Type 0} (files : List ℕ → Stored) (reliable : Lis
     → IfErr r (λ e. IsAskFault files reliable input failed ask e ⊎ IsStatsFault word e) → IfErr r (IsArgumentFault files reliable input failed arguments)
 request_refused files reliable input failed arguments ask word (Ok v) asked is h = tt
 request_refused files reliable input failed arguments ask word (Err e) asked is h = elim h [
-  | inl k ↦ arguments_refused files reliable input failed arguments ask (Err e) asked k
+  | inl k ↦ arguments_refused {T = ArgumentFault} files reliable input failed arguments ask (Err e) asked k
   | inr k ↦ stats_refused files reliable input failed arguments word e asked.unrefused is k
 ]
+
+-- a counted run answers what is asked for
+pub one_counted : (files : List ℕ → Stored) (input : Option (List ℕ)) (f : StatsForm) (ask : Ask) (paths : Paths) (folder : List ℕ) (limits : Given) (s : Setting) (k : Counted) → ask ≡ run paths folder limits
+    → IsSetting limits s → k.form ≡ f → AreTaskStats files input f (record { command = command.Run; paths = paths; folder = folder; setting = s }) k.text.items (string_bytes k.opening)
+    → IsAskAnswer files input ask (answer.Counted k)
+one_counted files input f ask paths folder limits s k same set form h =
+    let t : FileCommand = record { command = command.Run; paths = paths; folder = folder; setting = s } in
+    let P : Ask → Type 0 = λ a. IsAskAnswer files input a (answer.Counted k) in
+    let is : IsTask (run paths folder limits) t = (s, set, refl) in
+    let reported = subst (λ g. AreTaskStats files input g t k.text.items (string_bytes k.opening)) (sym form) h in
+    subst P (sym same) (for_task t is (stats_answer files input f paths folder s k.text.items (string_bytes k.opening) h), for_one t is refl reported)
+
+-- and so do several
+pub several_counted : (files : List ℕ → Stored) (input : Option (List ℕ)) (f : StatsForm) (ask : Ask) (paths : ManyPaths) (folder : List ℕ) (limits : Given) (s : Setting) (k : Counted)
+    → ask ≡ run_plans paths folder limits → IsSetting limits s → k.form ≡ f → ArePlansStats files input f paths folder s k.text.items (string_bytes k.opening) → IsAskAnswer files input ask (answer.Counted k)
+several_counted files input f ask paths folder limits s k same set form h =
+    let reported = subst (λ g. ArePlansStats files input g paths folder s k.text.items (string_bytes k.opening)) (sym form) h in
+    (for_runs paths folder limits s same set (plans_stats files input f paths folder s k.text.items (string_bytes k.opening) h), for_several paths folder limits s same set reported)
+
+-- why a task that is a run is refused
+pub run_refused : (files : List ℕ → Stored) (reliable : List ℕ → Bool) (input : Option (List ℕ)) (failed : Bool) (ask : Ask) (paths : Paths) (folder : List ℕ) (limits : Given) (s : Setting) (e : Refusal)
+    → ask ≡ run paths folder limits → IsSetting limits s → TaskRefuses files reliable input failed (record { command = command.Run; paths = paths; folder = folder; setting = s }) e
+    → AskRefuses files reliable input failed ask e
+run_refused files reliable input failed ask paths folder limits s e same set h =
+    let t : FileCommand = record { command = command.Run; paths = paths; folder = folder; setting = s } in
+    let P : Ask → Type 0 = λ a. AskRefuses files reliable input failed a e in
+    let is : IsTask (run paths folder limits) t = (s, set, refl) in
+    subst P (sym same) (for_asked_task t is h)

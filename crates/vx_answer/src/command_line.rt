@@ -393,7 +393,8 @@ fn answer_drawing<F: Store, I: ByteIn>(
     ensures refused { IfErr result (IsAskFault (F.holds files.now) (F.is_reliable files.now) (I.remaining input.old) (I.has_failed input.new) (draw (paths_are sources.entry) stats.now)) }
 {
     let plan = plan_from_files(alloc, files, input, sources)?;
-    let nodes = operator_words(alloc, &plan)?.len();
+    let words = operator_words(alloc, &plan)?;
+    let nodes = words.len();
     let picture = plan_in_form(alloc, PlanForm::Dot, plan)?;
     let counted = bytes_at(alloc, files, input, true, stats)?;
     match draw(alloc, nodes, picture.as_slice(), counted.as_slice()) {

@@ -149,8 +149,15 @@ pub fn run_plan<R: Threads + Wait + Sync, T: Tables>(
     ensures text { IfOk result (λ text. IsRun (resolved_of (typed_plan plan.now)) (T.holds tables.now) setting.now text.items) }
     ensures refused { IfErr result (λ e. PlanRefuses (resolved_of (typed_plan plan.now)) (T.holds tables.now) (T.lacks tables.now) setting.now e) }
 {
-    let database =
-        load_tables_in_threads(rt, alloc, threads, seed, plan.plan(), tables, &mut Unobserved)?;
+    let database = load_tables_in_threads(
+        rt,
+        alloc,
+        threads,
+        seed,
+        plan.plan(),
+        tables,
+        &mut Unobserved,
+    )?;
     let mut unread = RunCounts::unread(alloc);
     run_over(rt, alloc, threads, setting, plan, &database, &mut unread)
 }

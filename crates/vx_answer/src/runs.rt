@@ -48,7 +48,15 @@ fn titled_run<T: Threads + Wait + Sync>(
     ensures refused { IfErr result (RunRefuses (resolved_of (typed_plan accepted.now.plan)) database.now setting.now) }
 {
     let mut unread = RunCounts::unread(alloc);
-    let text = run_over(rt, alloc, threads, setting, &accepted.plan, database, &mut unread)?;
+    let text = run_over(
+        rt,
+        alloc,
+        threads,
+        setting,
+        &accepted.plan,
+        database,
+        &mut unread,
+    )?;
     Ok(titled(alloc, accepted.path, text.as_slice())?)
 }
 

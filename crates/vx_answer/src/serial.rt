@@ -26,8 +26,7 @@ pub fn serial_plan<R: Threads + Sync, T: Tables>(
     ensures text { IfOk result (λ text. IsSerial (resolved_of plan.now) (T.holds tables.now) text.items) }
     ensures refused { IfErr result (λ e. SerialRefuses (resolved_of plan.now) (T.holds tables.now) (T.lacks tables.now) e) }
 {
-    let database =
-        load_tables_in_threads(rt, alloc, threads, seed, plan, tables, &mut Unobserved)?;
+    let database = load_tables_in_threads(rt, alloc, threads, seed, plan, tables, &mut Unobserved)?;
     let Ok(erased) = erase(alloc, plan) else {
         return Err(Refusal::NoMemory);
     };

@@ -93,8 +93,15 @@ fn counted_plan<R: Threads + Wait + Sync, C: Clock, T: Tables>(
     ensures refused { IfErr result (λ e. (e ≡ Refusal.NoMemory) ⊎ PlanRefuses (resolved_of (typed_plan plan.now)) (T.holds tables.now) (T.lacks tables.now) setting.now e) }
 {
     let mut loads = LoadTimer::start(alloc, clock);
-    let database =
-        load_tables_in_threads(rt, alloc, threads, seed, plan.plan(), tables, &mut loads)?;
+    let database = load_tables_in_threads(
+        rt,
+        alloc,
+        threads,
+        seed,
+        plan.plan(),
+        tables,
+        &mut loads,
+    )?;
     timer.end(clock, Phase::Load)?;
     let mut counts = RunCounts::new(alloc);
     let text = run_over(rt, alloc, threads, setting, plan, &database, &mut counts)?;
@@ -200,7 +207,15 @@ pub fn add_counted_run<T: Threads + Wait + Sync, C: Clock>(
 {
     let mut counts = RunCounts::new(alloc);
     let mut watch = Stopwatch::start(clock);
-    let own = run_over(rt, alloc, threads, setting, &accepted.plan, database, &mut counts)?;
+    let own = run_over(
+        rt,
+        alloc,
+        threads,
+        setting,
+        &accepted.plan,
+        database,
+        &mut counts,
+    )?;
     let time = watch.end(clock, Phase::Run);
     push_title(stats, accepted.path)?;
     push_plan(

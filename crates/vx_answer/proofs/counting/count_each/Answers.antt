@@ -20,6 +20,5 @@ pub loop-accepted-preserved : goal.loop-accepted-preserved
 loop-accepted-preserved g c =
     let l = c.loop-accepted in
     let there : l.accepted-index < length c.args.plans.now = search rules in
-    let n : AcceptedPlan = c.accepted-item.item.now in
-    counted_grow c.args.form c.args.database.now c.args.setting.now c.args.plans.now l.accepted-index c.accepted-item.result n l.text.items (string_bytes l.opening)
+    counted_grow c.args.form c.args.database.now c.args.setting.now c.args.plans.now l.accepted-index c.accepted-item.result _ l.text.items (string_bytes l.opening)
     c.add_counted_run.new.text.items (string_bytes c.add_counted_run.new.stats) there c.accepted-item.is l.invariant c.in-Ok.ensures.more

@@ -1,4 +1,4 @@
-use Rattle.std.proofs.Common.{◌≡◌, ◌∙◌, ℕ, List, Option, map, ap, subst, rules, string_bytes}
+use Rattle.std.proofs.Common.{◌≡◌, ◌∙◌, ℕ, List, Option, map, ap, subst, string_bytes, codes}
 use Rattle.std.proofs.lemmas.Result.{err_from_is_err_and}
 use Rattle.vx_arguments.specs.Asked.{many_are}
 use Rattle.vx_tables.specs.Folder.{holds_at}
@@ -8,8 +8,9 @@ use Rattle.vx_answer.specs.Plans.{ArePlansAt, AreAccepted, AreNotAccepted, Named
 use Rattle.vx_answer.specs.PlansView.{named_is, plans_are}
 use Rattle.vx_answer.proofs.FileFacts.{same_left}
 use Rattle.vx_stats.specs.Loads.{loads_in, relations_of}
-use Rattle.vx_stats.specs.Phases.{times_in}
-use Rattle.vx_answer.proofs.StatsFacts.{seen_all}
+use Rattle.vx_stats.specs.Phases.{phases_of, times_in}
+use Rattle.vx_stats.specs.Text.{shared_text}
+use Rattle.vx_answer.proofs.StatsFacts.{seen_all, added_twice, three_phases}
 use Rattle.vx_answer.proofs.SharesFacts.{have_shares, answers_in, stops_in}
 use Rattle.vx_answer.proofs.counting.counted_plans.Goals as goal
 
@@ -104,7 +105,8 @@ returns-clause-stats g c =
       runs = rw c.as_slice.ensures.value at c.in_ok-counted.ensures.stats;
       loads = loads_in c.load_scanned_in_threads.new.observer;
       each = seen_all (relations_of (loads_in c.start-loads.result)) (relations_of (loads_in c.load_scanned_in_threads.new.observer)) _ (ap relations_of c.start-loads.ensures) c.in_ok-database.ensures.seen;
-      times = times_in c.timer;
-      phases = search rules;
-      is = search rules;
+      times = times_in c.end-3.new.self;
+      phases = three_phases _ _ _ _ _ _ _ (ap phases_of c.start-timer.ensures) c.in_ok-end.ensures c.in_ok-end-2.ensures c.in_ok-end-3.ensures;
+      is = added_twice (string_bytes c.in_ok-counted.counted.opening) (string_bytes c.push_str.new.self) (string_bytes c.push_shared.new.text) (codes "# all plans\n")
+          (shared_text c.args.form c.in_ok-catalog.catalog (loads_in c.load_scanned_in_threads.new.observer) (times_in c.end-3.new.self)) c.in_ok-push_str.ensures.bytes (rw (c.times.ensures, c.times-2.ensures) at c.in_ok-push_shared.ensures);
     }

@@ -22,16 +22,16 @@ returns-in_err-ran-in-Threads-clause-refused g c =
     rw (p.1, p.2) (threads_refused (resolved_of (typed_plan c.args.plan.now)) c.args.database.now c.args.setting.now c.in_err-ran-in-Threads.field-0.0 threads
     (rw c.in_ok-setup.ensures at c.in_err-ran-in-Threads.ensures.refused))
 
-pub returns-in_ok-ran-in-Rounds-clause-counted : goal.returns-in_ok-ran-in-Rounds-clause-counted
-returns-in_ok-ran-in-Rounds-clause-counted g c = λ wanted s set.
+pub returns-in-Rounds-clause-counted : goal.returns-in-Rounds-clause-counted
+returns-in-Rounds-clause-counted g c = λ wanted s set.
     let p = typed_plan c.args.plan.now in
     let db = c.args.database.now in
     let mode : c.args.setting.now.mode ≡ mode.Rounds = search rules in
     let mine = subst (λ z. IsSetUp (resolved_of p) db z s) (sym c.in_ok-setup.ensures) set in
     subst (λ m. CountedIn m p db s c.in_ok-ran-in-Rounds.ran (counts_in c.run_rounds_counted.new.counts)) (sym mode) (c.in_ok-ran-in-Rounds.ensures.counted wanted s mine)
 
-pub returns-in_ok-ran-in-Threads-clause-counted : goal.returns-in_ok-ran-in-Threads-clause-counted
-returns-in_ok-ran-in-Threads-clause-counted g c = λ wanted s set.
+pub returns-clause-counted : goal.returns-clause-counted
+returns-clause-counted g c = λ wanted s set.
     let p = typed_plan c.args.plan.now in
     let db = c.args.database.now in
     let mode : c.args.setting.now.mode ≡ mode.Threads = search rules in

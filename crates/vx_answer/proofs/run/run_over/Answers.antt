@@ -1,4 +1,4 @@
-use Rattle.std.proofs.Common.{refl, rules, subst, ◌≡◌}
+use Rattle.std.proofs.Common.{refl, rules, subst}
 use Rattle.vx_exec.specs.Runs.{IfDone, IsRunOf, IsSetUp}
 use Rattle.vx_exec.specs.Sizes.{Sizes}
 use Rattle.vx_exec.specs.Counts.{counts_in}
@@ -17,8 +17,8 @@ returns-in-Unfinished-clause-refused g c =
     let rounds = in_rounds c.args.setting.now.mode (λ threads. not_whole c.ran_over.result c.in_ok-rows.field-0 c.in_ok-rows.was c.in-Unfinished.is (c.ran_over.ensures.whole threads)) in
     for_rounds rounds set.0 set.1 refl
 
-pub returns-in_ok-text_of-clause-counted : goal.returns-in_ok-text_of-clause-counted
-returns-in_ok-text_of-clause-counted g c = λ wanted.
+pub returns-in_ok-text_of-in-Done-clause-counted : goal.returns-in_ok-text_of-in-Done-clause-counted
+returns-in_ok-text_of-in-Done-clause-counted g c = λ wanted.
     let p = typed_plan c.args.plan.now in
     let db = c.args.database.now in
     let setting = c.args.setting.now in

@@ -3,7 +3,7 @@ use Rattle.std.proofs.lemmas.Result.{err_from_is_err_and}
 use Rattle.vx_exec.specs.Counts.{counts_in}
 use Rattle.vx_stats.specs.Phases.{times_in}
 use Rattle.vx_stats.specs.Loads.{loads_in, relations_of}
-use Rattle.vx_answer.proofs.StatsFacts.{seen_all}
+use Rattle.vx_answer.proofs.StatsFacts.{seen_all, added_twice}
 use Rattle.vx_answer.specs.Commands.{for_tables, for_run}
 use Rattle.vx_answer.proofs.stats.counted_plan.Goals as goal
 
@@ -27,6 +27,6 @@ returns-clause-stats g c = record {
   loaded = record { same = rw c.plan.ensures.same at c.in_ok-database.ensures.catalog; filled = rw c.plan.ensures.same at c.in_ok-database.ensures.filled };
   each = seen_all (relations_of (loads_in c.start-loads.result)) (relations_of (loads_in c.load_tables_in_threads.new.observer)) _ (ap relations_of c.start-loads.ensures) (rw c.plan.ensures.same at c.in_ok-database.ensures.seen);
   run = c.in_ok-text.ensures.counted c.new-counts.ensures.wanted;
-  phases = search rules;
+  phases = added_twice _ _ _ _ _ c.in_ok-end.ensures c.in_ok-end-2.ensures;
   is = search rules;
 }

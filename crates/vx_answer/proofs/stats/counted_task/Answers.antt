@@ -22,4 +22,4 @@ pub returns-clause-stats : goal.returns-clause-stats
 returns-clause-stats g c =
     task_stats (g.F.Store.holds c.args.files.now) (g.I.ByteIn.remaining c.args.input.now) c.args.form
     (record { command = command.Run; paths = paths_are c.args.sources; folder = c.args.folder.now; setting = c.args.setting.now })
-    c.in_ok-plan.plan c.counted_run.result c.in_ok-plan.ensures.planned c.counted_run.ensures.shown (rw c.in_ok-plan.ensures.phases at c.counted_run.ensures.stats)
+    c.in_ok-plan.plan c.counted_run.result c.in_ok-plan.ensures.planned c.counted_run.ensures.shown (rw (c.in_ok-plan.ensures.phases, c.start-timer.ensures) at c.counted_run.ensures.stats)
