@@ -56,7 +56,10 @@ const RUN: [&str; 7] = [
 ];
 
 // A run by no clock, with more arguments after its paths.
-fn run_with<R: Threads + Wait + Sync + AllocGlobal>(rt: &R, more: &[&str]) -> Result<String, Fail> {
+fn run_with<R: Threads + Wait + Sync + AllocGlobal>(
+    rt: &R,
+    more: &[&'static str],
+) -> Result<String, Fail> {
     let mut arguments = Vec::from_slice(rt.alloc(), &RUN)?;
     arguments.extend_from_slice(more)?;
     let files = Shelf { leaves: &LEAVES };
