@@ -86,6 +86,10 @@ fn statistics_follow_the_rows(rt: HostRuntime) -> Result<(), Fail> {
             run_with(&rt, &["--mode", mode, "--stats=json"])?.as_str(),
             JSON
         );
+        assert_eq!(rt;
+            run_with(&rt, &["--stats", "json", "--mode", mode])?.as_str(),
+            JSON
+        );
     }
     Ok(())
 }

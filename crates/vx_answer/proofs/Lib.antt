@@ -11,3 +11,4 @@ pub mod PlansFacts
 pub mod SharesFacts
 pub mod StatsFacts
 pub mod StatsTextFacts
+pub mod SpellingFacts

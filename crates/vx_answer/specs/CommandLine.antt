@@ -27,6 +27,7 @@ use Rattle.vx_answer.specs.Forms.{form_named, IsInForm, FormRefuses}
 use Rattle.vx_answer.specs.Statements.{dialect_named, IsStatement}
 use Rattle.vx_sql.specs.declared.dialect.Dialect.{Dialect}
 use Rattle.vx_answer.specs.Annotated.{IsAnnotated, AnnotationRefuses}
+use Rattle.vx_stats.specs.declared.text.StatsForm.{StatsForm}
 use Rattle.vx_answer.specs.StatsNames.{stats_named}
 use Rattle.vx_answer.specs.Verdict.{IsAllShown, AreFailures}
 use Rattle.vx_answer.specs.Plans.{AnswersPlans, PlansStop, PlansRefuse}
@@ -142,13 +143,23 @@ IsEntry code text = (is_code code ≡ true) × (take (length code + 1) text ≡ 
 abbrev pub command_in : List (List ℕ) → List ℕ
 command_in arguments = slice_index_or arguments 0 []
 
--- an argument of a command, of which `--stats` alone asks a run for a table
-abbrev pub spelled_out : List ℕ → List ℕ → List ℕ
-spelled_out command argument = if bytes_eq command (codes "run") then (if bytes_eq argument (codes "--stats") then codes "--stats=table" else argument) else argument
+-- an argument, or a table of statistics where no form of statistics follows
+abbrev pub or_table : List ℕ → Option (Option StatsForm) → List ℕ
+or_table argument None = codes "--stats=table"
+or_table argument (Some form) = argument
+
+-- an argument of a command before another: `--stats` asks a run for a table where no form of statistics follows it
+abbrev pub spelled_out : (command argument next : List ℕ) → List ℕ
+spelled_out command argument next = if bytes_eq command (codes "run") then (if bytes_eq argument (codes "--stats") then or_table argument (stats_named next) else argument) else argument
+
+-- the arguments of a command, spelled out; behind the last one stands the empty word
+abbrev pub spelled : List ℕ → List (List ℕ) → List (List ℕ)
+spelled command [] = []
+spelled command (w ∷ ws) = spelled_out command w (slice_index_or ws 0 []) ∷ spelled command ws
 
 -- the program's name, and then the arguments, spelled out
 abbrev pub with_program_name : List (List ℕ) → List (List ℕ)
-with_program_name arguments = codes "volcano" ∷ map (spelled_out (command_in arguments)) arguments
+with_program_name arguments = codes "volcano" ∷ spelled (command_in arguments) arguments
 
 -- the text answers what arguments ask for: the bundle on standard input, a task, a check of all nodes, a plan in a form, as a picture with statistics, as SQL or with other claims, runs of several plans, what a code means, or a relation, which has 10,000,000 rows at most
 pub data AnswersAsk (files : List ℕ → Stored) (input : Option (List ℕ)) (ask : Ask) (text : List ℕ) : Type 0 where

@@ -1,12 +1,12 @@
 //! What arguments ask for, answered from files and standard input.
 
-ghost use Rattle.std.specs.Prelude.{◌≡◌, ◌⊎◌, true, map, option_map, Some, None, MatchOption, IfOk, IfErr};
+ghost use Rattle.std.specs.Prelude.{◌≡◌, ◌⊎◌, [], slice_index_or, true, map, option_map, Some, None, MatchOption, IfOk, IfErr};
 ghost use Rattle.clap.specs.Values.{kind_of};
 ghost use Rattle.vx_arguments.specs.Asked.{asked_is, paths_are, many_are, given_is, run, run_plans, check_all, explain, draw, sql, why, Ask};
 ghost use Rattle.vx_stats.specs.declared.text.StatsForm.{StatsForm};
 ghost use Rattle.vx_answer.specs.Arguments.{IsSetting, IsNoSetting};
 ghost use Rattle.vx_answer.specs.Plans.{AnswersPlans};
-ghost use Rattle.vx_answer.specs.CommandLine.{default_setting, IsTask, IsNoTask, AnswersTask, TaskRefuses, AnswersForm, FormIsRefused, AnswersStatement, StatementIsRefused, AnswersAnnotation, AnnotationIsRefused, command_in, spelled_out, with_program_name, AsksFor};
+ghost use Rattle.vx_answer.specs.CommandLine.{default_setting, IsTask, IsNoTask, AnswersTask, TaskRefuses, AnswersForm, FormIsRefused, AnswersStatement, StatementIsRefused, AnswersAnnotation, AnnotationIsRefused, spelled_out, with_program_name, AsksFor};
 ghost use Rattle.vx_answer.specs.Stats.{stats_of_word, stats_asked, is_run};
 ghost use Rattle.vx_answer.specs.StatsView.{IsCountedAs, IsUncounted, IsStatsFault};
 ghost use Rattle.vx_answer.specs.CommandLineView.{task_is, IsPlansTask, IsJob, IsAskAnswer, IsArgumentAnswer, IsHelp, HasUsageText, IsClapFault, IsPlansFault, IsAskFault, IsArgumentFault};
@@ -511,22 +511,25 @@ pub fn answer_asked<T: Threads + Wait + Sync, F: Store, I: ByteIn>(
     }
 }
 
-// The command that arguments begin with, empty where there are none.
-fn command_in<'a>(arguments: &[&'a str]) -> &'a str
-    ensures { result.now ≡ command_in (map (λ a. a.now) arguments.now) }
+// The argument at a place, the empty word where there is none.
+fn argument_at<'a>(arguments: &[&'a str], place: usize) -> &'a str
+    ensures { result.now ≡ slice_index_or (map (λ a. a.now) arguments.now) place [] }
 {
-    match arguments.first() {
-        Some(command) => *command,
+    match arguments.get(place) {
+        Some(argument) => argument,
         None => "",
     }
 }
 
-// An argument of a command, of which `--stats` alone asks a run for a table.
-fn spelled_out<'a>(command: &str, argument: &'a str) -> &'a str
-    ensures { result.now ≡ spelled_out command.now argument.now }
+// An argument of a command before another: `--stats` asks a run for a table where no form of statistics follows it.
+fn spelled_out<'a>(command: &str, argument: &'a str, next: &str) -> &'a str
+    ensures { result.now ≡ spelled_out command.now argument.now next.now }
 {
     match (command, argument) {
-        ("run", "--stats") => "--stats=table",
+        ("run", "--stats") => match stats_named(next) {
+            Some(_) => argument,
+            None => "--stats=table",
+        },
         _ => argument,
     }
 }
@@ -538,11 +541,12 @@ pub fn with_program_name<'a>(
 ) -> Result<Vec<&'a str>, AllocError>
     ensures { IfOk result (λ v. map (λ a. a.now) v.items ≡ with_program_name (map (λ a. a.now) arguments.now)) }
 {
-    let command = command_in(arguments);
+    let command = argument_at(arguments, 0);
     let mut all = Vec::new(alloc);
     all.push("volcano")?;
-    for argument in arguments {
-        all.push(spelled_out(command, argument))?;
+    for place in 0..arguments.len() {
+        let next = argument_at(arguments, place + 1);
+        all.push(spelled_out(command, argument_at(arguments, place), next))?;
     }
     Ok(all)
 }
