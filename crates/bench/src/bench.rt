@@ -11,9 +11,10 @@ use std::time::Instant;
 pub struct Bench {
     pub alloc: Global,
     pub rows: u64,
-    /// The rows of a packet, and of a morsel.
+    /// The rows of a packet, and of a morsel, and how many packets a producer may run ahead.
     pub packet: u32,
     pub morsel: u32,
+    pub slack: u32,
     pub with_times: bool,
 }
 
@@ -50,23 +51,27 @@ fn ratio(alloc: Global, nanos: Option<u64>, other: Option<u64>) -> Result<String
 }
 
 impl Bench {
-    // Takes the number at this place of the arguments: of rows, of the rows of a packet, of those of a morsel.
+    // Takes the number at this place of the arguments: of rows, of the rows of a packet, of those of a morsel, of packets
+    // that a producer may run ahead.
     fn set(&mut self, place: usize, word: &str) -> Result<(), Error> {
         match place {
             0 => self.rows = word.parse::<u64>()?,
             1 => self.packet = word.parse::<u32>()?,
-            _ => self.morsel = word.parse::<u32>()?,
+            2 => self.morsel = word.parse::<u32>()?,
+            _ => self.slack = word.parse::<u32>()?,
         }
         Ok(())
     }
 
-    /// What the arguments ask for: a number of rows, of the rows of a packet and of a morsel, and `agree` for no times.
+    /// What the arguments ask for: a number of rows, of the rows of a packet and of a morsel, of packets that a producer may
+    /// run ahead, and `agree` for no times.
     pub fn asked<R: Env + Alloc>(rt: &R, alloc: Global) -> Result<Bench, Error> {
         let mut bench = Bench {
             alloc,
             rows: 1_000_000,
             packet: 256,
             morsel: 1024,
+            slack: 8,
             with_times: true,
         };
         let mut place = 0usize;

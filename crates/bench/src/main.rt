@@ -2,8 +2,8 @@
 //! serial evaluation, by 1, 4 and 64 workers in rounds, by 1 and 4 in threads and by hand over plain columns, the checker, a
 //! ring and a deck.
 //!
-//! Its arguments are the number of rows of the two largest relations, 1,000,000 where none is said, and those of a packet
-//! and of a morsel, 256 and 1,024 by default. With the argument
+//! Its arguments are the number of rows of the two largest relations, 1,000,000 where none is said, those of a packet and of
+//! a morsel, 256 and 1,024 by default, and how many packets a producer may run ahead, 8 by default. With the argument
 //! `agree` it shows no times, but what is the same in each run. It fails where two ways give different rows, a
 //! ring other packets than were put, or a deck a number not once.
 #![tactic(auto)]

@@ -47,9 +47,10 @@ struct Query<'t> {
     plan: CheckedPlan,
     // The plan without its exchanges.
     erased: TypedPlan,
-    // The rows of a packet, and of a morsel.
+    // The rows of a packet, and of a morsel, and how many packets a producer may run ahead.
     packet: u32,
     morsel: u32,
+    slack: u32,
     database: &'t Database,
     columns: &'t Columns<'t>,
 }
@@ -124,10 +125,10 @@ fn plan_of(
 }
 
 impl<'t> Query<'t> {
-    // Teams of so many workers. Slack is as it is by default.
+    // Teams of so many workers.
     fn setup(&self, alloc: Global, workers: u32) -> Result<Setup, AllocError> {
         let sizes = vec![in alloc; (String::from_str(alloc, "many")?, workers)]?;
-        Ok(Setup::new(sizes, self.packet, self.morsel, 8))
+        Ok(Setup::new(sizes, self.packet, self.morsel, self.slack))
     }
 
     fn by_serial<R: Clock>(&self, rt: &R, alloc: Global) -> Result<Outcome, Error> {
@@ -258,6 +259,7 @@ impl Bench {
             plan,
             packet: self.packet,
             morsel: self.morsel,
+            slack: self.slack,
             database,
             columns,
         };

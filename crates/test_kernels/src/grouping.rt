@@ -6,7 +6,7 @@ use std::alloc::{AllocError, Global};
 use std::process::Abort;
 use std::test::Fail;
 use test_tables::{shown, table};
-use vx_keys::{GroupFault, grouped};
+use vx_grouping::{GroupFault, grouped};
 use vx_plan::Aggregate;
 use vx_seeds::KeySeed;
 use vx_views::Rows;

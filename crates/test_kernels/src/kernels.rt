@@ -8,7 +8,8 @@ use std::process::Abort;
 use std::test::Fail;
 use test_tables::{shown, table};
 use vx_algebra::sorted_chunks;
-use vx_keys::{Build, Seen, hash_join};
+use vx_join::{Build, hash_join};
+use vx_keys::Seen;
 use vx_seeds::KeySeed;
 use vx_views::Rows;
 

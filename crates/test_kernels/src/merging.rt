@@ -3,13 +3,13 @@
 ghost use Rattle.std.specs.Prelude.{◌≡◌, [], ◌∷◌, IfOk};
 ghost use Rattle.vx_values.specs.declared.value.ColType.TheVariants as kind;
 ghost use Rattle.vx_rows.specs.View.{AreColumns};
-ghost use Rattle.vx_keys.specs.Merged.{HasSameInputs};
+ghost use Rattle.vx_merging.specs.Merged.{HasSameInputs};
 
 use std::alloc::{AllocError, Global};
 use std::process::Abort;
 use std::test::Fail;
 use test_tables::{TYPES, shown, table};
-use vx_keys::{Merge, MergeFault, MergeNeed, merge_join};
+use vx_merging::{Merge, MergeFault, MergeNeed, merge_join};
 use vx_views::Rows;
 
 // The rows of a table.

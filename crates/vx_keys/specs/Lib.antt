@@ -1,11 +1,6 @@
-pub mod Build
-pub mod Groups
-pub mod Shown
-pub mod GroupFaults
-pub mod Merged
+pub mod Matched
 pub mod Numbers
 pub mod Columns
 pub mod Kinds
-pub mod Parts
 pub mod Hashed
 pub mod Kept

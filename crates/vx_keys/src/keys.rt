@@ -153,8 +153,8 @@ impl Keys {
         Ok(true)
     }
 
-    // Adds the numbers of the keys that the rows of a chunk have in these columns. Keys that are new are added.
-    pub(crate) fn number_chunk(
+    /// Adds the numbers of the keys that the rows of a chunk have in these columns. A key that is new is copied and added.
+    pub fn number_chunk(
         &mut self,
         chunk: &Chunk,
         columns: &[usize],

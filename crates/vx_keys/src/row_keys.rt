@@ -190,7 +190,7 @@ fn keys_of(alloc: Global, chunk: &Chunk, columns: &[usize]) -> Result<Table, All
 }
 
 /// 0, 1, and so on, so many.
-pub(crate) fn numbers_below(alloc: Global, count: usize) -> Result<Vec<usize>, AllocError>
+pub fn numbers_below(alloc: Global, count: usize) -> Result<Vec<usize>, AllocError>
     ensures { IfOk result (λ v. v.items ≡ each_below count (λ k. k)) }
 {
     let mut numbers = Vec::with_capacity(alloc, count)?;

@@ -6,12 +6,12 @@ use Rattle.vx_rows.specs.Lists.{IsBeginning}
 use Rattle.vx_ports.specs.Packets.{rows_of}
 use Rattle.vx_plan_nodes.specs.Plan.{join}
 use Rattle.vx_plan_nodes.specs.Serial.{join_rows}
-use Rattle.vx_keys.specs.Build.{matched}
-use Rattle.vx_keys.specs.Merged.{MergeView, HasJoined, HasSameShape, HasSameInputs, MergeBlame, joined_rows, merge_need}
-use Rattle.vx_keys.specs.declared.merging.MergeFault.{MergeFault}
-use Rattle.vx_keys.specs.declared.merging.MergeFault.TheVariants.{Falls, NoMemory as Refused}
-use Rattle.vx_keys.specs.declared.merging.MergeNeed.TheVariants as need
-use Rattle.vx_keys.proofs.MergeTurns.{joined-some, joined-front, joined-all, need-end}
+use Rattle.vx_keys.specs.Matched.{matched}
+use Rattle.vx_merging.specs.Merged.{MergeView, HasJoined, HasSameShape, HasSameInputs, MergeBlame, joined_rows, merge_need}
+use Rattle.vx_merging.specs.declared.merging.MergeFault.{MergeFault}
+use Rattle.vx_merging.specs.declared.merging.MergeFault.TheVariants.{Falls, NoMemory as Refused}
+use Rattle.vx_merging.specs.declared.merging.MergeNeed.TheVariants as need
+use Rattle.vx_merging.proofs.MergeTurns.{joined-some, joined-front, joined-all, need-end}
 use Rattle.vx_ops.specs.Ledger.{Ledger, two_op, Begun, OwnBlame}
 use Rattle.vx_ops.specs.Begun.{all_of, begun_whole}
 use Rattle.vx_ops.specs.Turn.{fresh_ledger}

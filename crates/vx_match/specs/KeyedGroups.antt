@@ -3,7 +3,7 @@ use Rattle.std.specs.Prelude.{◌≡◌, ◌<◌, List, length, Option, Some, No
 use Rattle.vx_values.specs.Values.{Row}
 use Rattle.vx_plan_nodes.specs.Plan.{Unary, Phase, group}
 use Rattle.vx_plan_nodes.specs.Types.{unary_types}
-use Rattle.vx_keys.specs.Groups.{Groups, HasTaken}
+use Rattle.vx_grouping.specs.Groups.{Groups, HasTaken}
 use Rattle.vx_ops.specs.Turn.{Shape}
 use Rattle.vx_ops.specs.declared.collecting_kernel.FinishFault.{FinishFault}
 use Rattle.vx_ops.specs.declared.collecting_kernel.FinishFault.TheVariants.{Overflow, NoMemory}

@@ -1,11 +1,11 @@
 -- When a merge join may have received and returned what a ledger says.
 use Rattle.std.specs.Prelude.{◌≡◌, ℕ, Bool, true, false, List, ◌++◌, map}
 use Rattle.vx_plan_nodes.specs.Plan.{join}
-use Rattle.vx_keys.specs.Merged.{MergeView, HasJoined, merge_need}
-use Rattle.vx_keys.specs.declared.merging.MergeFault.{MergeFault}
-use Rattle.vx_keys.specs.declared.merging.MergeFault.TheVariants as stops
-use Rattle.vx_keys.specs.declared.merging.MergeNeed.{MergeNeed}
-use Rattle.vx_keys.specs.declared.merging.MergeNeed.TheVariants as need
+use Rattle.vx_merging.specs.Merged.{MergeView, HasJoined, merge_need}
+use Rattle.vx_merging.specs.declared.merging.MergeFault.{MergeFault}
+use Rattle.vx_merging.specs.declared.merging.MergeFault.TheVariants as stops
+use Rattle.vx_merging.specs.declared.merging.MergeNeed.{MergeNeed}
+use Rattle.vx_merging.specs.declared.merging.MergeNeed.TheVariants as need
 use Rattle.vx_ops.specs.Ledger.{Ledger, Op, two_op, Abides}
 use Rattle.vx_ops.specs.Turn.{Shape}
 use Rattle.vx_ops.specs.Meaning.{Meaning}

@@ -2,7 +2,7 @@
 
 use std::alloc::{AllocError, Global};
 use std::marker::Model;
-use vx_keys::{GroupFault, Grouping};
+use vx_grouping::{GroupFault, Grouping};
 use vx_ops::{Collecting, CollectingKernel, FinishFault};
 use vx_plan_nodes::{Aggregate, Phase};
 use vx_rows::ColType;
@@ -27,7 +27,7 @@ pub struct KeyedGroups {
 impl Model for KeyedGroups {
     ghost use Rattle.std.specs.Prelude.{◌≡◌, None};
     ghost use Rattle.vx_plan_nodes.specs.Outline.{phase_of};
-    ghost use Rattle.vx_keys.specs.Groups.{HasTakenSome};
+    ghost use Rattle.vx_grouping.specs.Groups.{HasTakenSome};
     ghost use Rattle.vx_match.specs.KeyedGroups.{KeyedGroupsView};
 
     ghost Value = { KeyedGroupsView };

@@ -5,7 +5,7 @@ ghost use Rattle.std.specs.Prelude.{◌≡◌, ℕ, List, length, map, IfOk};
 use std::alloc::{AllocError, Global};
 use std::marker::Model;
 use vx_algebra::{left_columns, right_columns};
-use vx_keys::Build;
+use vx_join::Build;
 use vx_ops::{ProbeKernel, Probing};
 use vx_rows::ColType;
 use vx_seeds::KeySeed;
@@ -21,7 +21,7 @@ const BATCH: usize = 65_536;
 /// `HashJoining::source` makes it.
 pub type HashJoin = Probing<HashJoining>;
 
-/// The kernel of a hash join. The right rows are copied once, into a table; of the joined rows no cell is copied.
+/// The kernel of a hash join. Its right rows stay where they are; those that left rows match are copied as `Build` says.
 #[derive(Drop)]
 pub struct HashJoining {
     alloc: Global,

@@ -5,7 +5,7 @@ ghost use Rattle.vx_match.specs.MergeJoin.{fault_of};
 
 use std::alloc::{AllocError, Global};
 use vx_algebra::{left_columns, right_columns};
-use vx_keys::{Merge, MergeFault, MergeNeed};
+use vx_merging::{Merge, MergeFault, MergeNeed};
 use vx_ops::{Code, Fault, Got, Over, Polled, Source, Want};
 use vx_rows::ColType;
 use vx_views::Rows;
@@ -32,8 +32,8 @@ impl MergeJoin {
     ghost use Rattle.std.specs.Prelude.{◌≡◌, ◌++◌, length, map, true, IfOk};
     ghost use Rattle.vx_rows.specs.View.{AreColumns};
     ghost use Rattle.vx_plan_nodes.specs.Plan.{join};
-    ghost use Rattle.vx_keys.specs.Merged.{merge_need};
-    ghost use Rattle.vx_keys.specs.declared.merging.MergeNeed.TheVariants as need;
+    ghost use Rattle.vx_merging.specs.Merged.{merge_need};
+    ghost use Rattle.vx_merging.specs.declared.merging.MergeNeed.TheVariants as need;
     ghost use Rattle.vx_ops.specs.Ledger.{Ledger, two_op};
     ghost use Rattle.vx_ops.specs.Turn.{fresh_ledger, after, gives, GivesRows, GotTyped, Fits};
     ghost use Rattle.vx_ops.specs.declared.fault.Over.TheVariants.{Running};

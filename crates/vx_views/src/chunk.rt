@@ -184,7 +184,36 @@ impl Chunk {
     {
         let left = left.at(alloc, left_places)?;
         let right = right.at(alloc, right_places)?;
-        Ok(beside(alloc, left, right)?)
+        Ok(Chunk::beside(left, right)?)
+    }
+
+    /// Rows of two chunks side by side: the first of both, then the second, and so on. No cell is copied.
+    pub fn beside(left: Chunk, right: Chunk) -> Result<Chunk, AllocError>
+        requires { length left.rows ≡ length right.rows }
+        ensures types { IfOk result (λ c. c.types ≡ left.types ++ right.types) }
+        ensures rows { IfOk result (λ c. c.rows ≡ map (λ p. p.0 ++ p.1) (zip left.rows right.rows)) }
+    {
+        let Chunk {
+            mut types,
+            mut parts,
+            mut fields,
+            count,
+        } = left;
+        let Chunk {
+            types: right_types,
+            parts: mut right_parts,
+            fields: right_fields,
+            count: _,
+        } = right;
+        types.extend_from_slice(right_types.as_slice())?;
+        push_shifted(&mut fields, right_fields.as_slice(), parts.len())?;
+        parts.append(&mut right_parts)?;
+        Ok(Chunk {
+            types,
+            parts,
+            fields,
+            count,
+        })
     }
 
     /// The places of the rows whose number in a column passes a test.
@@ -237,35 +266,6 @@ impl Chunk {
         }
         None
     }
-}
-
-// Two chunks of equally many rows, side by side.
-fn beside(alloc: Global, left: Chunk, right: Chunk) -> Result<Chunk, AllocError>
-    requires { length left.rows ≡ length right.rows }
-    ensures types { IfOk result (λ c. c.types ≡ left.types ++ right.types) }
-    ensures rows { IfOk result (λ c. c.rows ≡ map (λ p. p.0 ++ p.1) (zip left.rows right.rows)) }
-{
-    let Chunk {
-        mut types,
-        mut parts,
-        mut fields,
-        count,
-    } = left;
-    let Chunk {
-        types: right_types,
-        parts: mut right_parts,
-        fields: right_fields,
-        count: _,
-    } = right;
-    types.extend_from_slice(right_types.as_slice())?;
-    push_shifted(&mut fields, right_fields.as_slice(), parts.len())?;
-    parts.append(&mut right_parts)?;
-    Ok(Chunk {
-        types,
-        parts,
-        fields,
-        count,
-    })
 }
 
 // Adds the fields of others, before whose parts so many stand.

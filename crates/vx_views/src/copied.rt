@@ -22,29 +22,29 @@ impl Chunk {
         rows.append_range(&copied, 0, copied.len())
     }
 
+    /// Adds a copy of row i to rows that are filled cell by cell.
+    pub fn push_row(&self, filling: &mut OpenRows, i: usize) -> Result<(), AllocError>
+        requires types { filling.old.types ≡ self.now.types }
+        requires front { filling.old.front ≡ [] }
+        requires there { i < length self.now.rows }
+        ensures types { filling.new.types ≡ filling.old.types }
+        ensures rows { OnOk result (filling.new.rows ≡ filling.old.rows ++ row self.now i ∷ []) }
+        ensures front { OnOk result (filling.new.front ≡ []) }
+    {
+        for column in 0..self.types().len() {
+            filling.push_cell(self.cell(i, column))?;
+        }
+        filling.end_row()
+    }
+
     // The rows as a table, cell by cell.
     fn copied(&self, alloc: Global) -> Result<Table, AllocError>
         ensures { IfOk result (λ r. r ≡ self.now) }
     {
         let mut filling = OpenRows::new(alloc, self.types())?;
         for i in 0..self.len() {
-            push_row(&mut filling, self, i)?;
+            self.push_row(&mut filling, i)?;
         }
         Ok(filling.into_rows())
     }
-}
-
-// Adds row i of a chunk.
-fn push_row(filling: &mut OpenRows, chunk: &Chunk, i: usize) -> Result<(), AllocError>
-    requires types { filling.old.types ≡ chunk.now.types }
-    requires front { filling.old.front ≡ [] }
-    requires there { i < length chunk.now.rows }
-    ensures types { filling.new.types ≡ filling.old.types }
-    ensures rows { OnOk result (filling.new.rows ≡ filling.old.rows ++ row chunk.now i ∷ []) }
-    ensures front { OnOk result (filling.new.front ≡ []) }
-{
-    for column in 0..chunk.types().len() {
-        filling.push_cell(chunk.cell(i, column))?;
-    }
-    filling.end_row()
 }

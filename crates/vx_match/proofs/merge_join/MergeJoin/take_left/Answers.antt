@@ -1,4 +1,4 @@
-use Rattle.vx_keys.proofs.MergeTurns.{need-left}
+use Rattle.vx_merging.proofs.MergeTurns.{need-left}
 use Rattle.vx_match.proofs.MergeJoins.{left-came, with_left}
 use Rattle.vx_match.proofs.merge_join.MergeJoin.take_left.Goals as goal
 

@@ -1,4 +1,4 @@
-use Rattle.vx_keys.proofs.MergeTurns.{need-right}
+use Rattle.vx_merging.proofs.MergeTurns.{need-right}
 use Rattle.vx_match.proofs.MergeJoins.{right-came, with_right}
 use Rattle.vx_match.proofs.merge_join.MergeJoin.take_right.Goals as goal
 

@@ -1,0 +1,3 @@
+pub mod Groups
+pub mod Shown
+pub mod GroupFaults

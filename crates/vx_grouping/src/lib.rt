@@ -1,0 +1,10 @@
+//! Groups and their aggregates. The serial evaluator and the workers have their rows from them.
+#![tactic(auto)]
+
+mod accumulator;
+mod grouping;
+mod sum;
+
+pub use accumulator::{Accumulator, GroupFault};
+pub use grouping::{Grouping, grouped};
+pub use sum::{SumIsFull, WideSum};

@@ -1,0 +1,4 @@
+pub mod PlaceFacts
+pub mod BuildFacts
+pub mod PairFacts
+pub mod SpotFacts

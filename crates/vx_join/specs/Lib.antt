@@ -1,0 +1,4 @@
+pub mod Build
+pub mod Parts
+pub mod Spots
+pub mod Sides

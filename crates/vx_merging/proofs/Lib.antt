@@ -1,0 +1,5 @@
+pub mod RiseFacts
+pub mod MergeFacts
+pub mod MergeTurns
+pub mod MergeCalls
+pub mod BesideFacts

@@ -1,0 +1,27 @@
+use Rattle.std.proofs.Common.{◌≡◌, ◌<◌, ◌++◌, List, length, false, subst, sym}
+use Rattle.vx_values.specs.Values.{Row}
+use Rattle.vx_rows.specs.Order.{sorted}
+use Rattle.vx_merging.specs.declared.merging.MergeFault.{MergeFault}
+use Rattle.vx_merging.specs.Merged.{HasJoined, MergeBlame}
+use Rattle.vx_keys.proofs.ErrorFacts.{told}
+use Rattle.vx_merging.proofs.MergeCalls.{call-left, call-left-falls, not-empty}
+use Rattle.vx_merging.proofs.merging.Merge.take_left.Goals as goal
+
+pub returns-in_err-self-inside-clause-err : goal.returns-in_err-self-inside-clause-err
+returns-in_err-self-inside-clause-err c =
+    let now = c.args.self.now in
+    let xs = c.args.batch.rows in
+    let e = c.in_err-self-inside.field-0.0 in
+    told c.from_residual.result e
+    (λ (x : MergeFault). now.left_ended ≡ false → (ls rs ys : List Row) → HasJoined now ls rs ys → MergeBlame x (sorted now.lefts (ls ++ xs)))
+    c.from_residual.ensures.1
+    (λ runs ls rs ys h.
+    let some : 0 < length xs = not-empty xs c.is_empty.result c.is_empty.ensures c.if-is_empty.false in
+    subst (λ (x : MergeFault). MergeBlame x (sorted now.lefts (ls ++ xs))) (sym c.in_err-self-inside.ensures.err.0)
+    (call-left-falls _ _ c.self.view_is ls rs ys h c.requires.joined c.self.invariant.2 runs c.args.batch some c.order_of_next-order.result c.order_of_next-order.ensures c.in_err-self-inside.ensures.err.1))
+
+pub returns-clause-joined : goal.returns-clause-joined
+returns-clause-joined c = λ runs ls rs ys h.
+    let some : 0 < length c.args.batch.rows = not-empty c.args.batch.rows c.is_empty.result c.is_empty.ensures c.if-is_empty.false in
+    call-left _ _ c.self.view_is ls rs ys h c.requires.joined c.self.invariant.2 runs c.args.batch some
+    c.order_of_next-order.result c.order_of_next-order.ensures c.in_ok-self-inside.ensures.rises c.in_ok-self-inside.field-0 c.in_ok-self-inside.ensures.ok

@@ -1,0 +1,9 @@
+//! The merge join: two inputs that rise on their columns. The serial evaluator and the workers have their rows from it.
+#![tactic(auto)]
+
+mod key_run;
+mod merging;
+mod side_by_side;
+
+pub use key_run::rise_from;
+pub use merging::{Merge, MergeFault, MergeNeed, merge_join};
