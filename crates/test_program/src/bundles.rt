@@ -1,4 +1,5 @@
-//! What no clause says: worked bundles with their lines, and inputs and outputs that fail.
+//! Bundles that are cut short, inputs and outputs that fail, and single calls: the consumer of a key, the members of a bundle, the
+//! lines of refusals.
 
 ghost use Rattle.std.specs.Prelude.{true};
 ghost use Rattle.vx_bytes.specs.Stored.{absent};
@@ -38,213 +39,29 @@ impl Store for NoFiles {
     }
 }
 
-/// What goes to the output, to the errors, and the status, for arguments and an input that fails after so many bytes.
-pub fn line_for<R: Threads + Wait + Sync + AllocGlobal>(
+// What goes to the output, to the errors, and the status, for an input that fails after so many bytes.
+fn line_for<R: Threads + Wait + Sync + AllocGlobal>(
     rt: &R,
-    arguments: &[&str],
     bytes: &[u8],
     fails_after: Option<usize>,
 ) -> Result<String, Fail> {
     let mut input = MemoryIn::new(bytes, fails_after);
-    line_of(rt, arguments, &NoFiles, &mut input)
-}
-
-// The line of the first bundle with one text in the place of another.
-fn line_with<R: Threads + Wait + Sync + AllocGlobal>(
-    rt: &R,
-    from: &str,
-    to: &str,
-) -> Result<String, Fail> {
-    let text = FIRST.replace(rt.alloc(), from, to)?;
-    line_for(rt, &[], text.as_bytes(), None)
-}
-
-#[test]
-fn other_forms_are_refused(rt: HostRuntime) -> Result<(), Fail> {
-    for (from, to) in [
-        (r#""command":"run","#, ""),
-        (r#""catalog":"#, r#""tables":"#),
-        (r#""plan":"#, r#""sizes":"#),
-        (r#""mode":"#, r#""more":1,"mode":"#),
-        (r#""command":"run""#, r#""command":"walk""#),
-        (r#""mode":"rounds""#, r#""mode":"turns""#),
-        (r#""packet":1"#, r#""packet":4294967296"#),
-        (r#""morsel":1"#, r#""morsel":-1"#),
-        (r#""slack":4"#, r#""slack":4.5"#),
-        (r#""many":3"#, r#""many":"3""#),
-        (r#""tables":{"#, r#""tables":{"u":1,"#),
-        (r#""sizes":{"many":3}"#, r#""sizes":[]"#),
-        ("{", "["),
-    ] {
-        let line = line_with(&rt, from, to)?;
-        assert_eq!(rt; line.as_str(), "|volcano: V1 BadBundle\n|3", "at {from}");
-    }
-    Ok(())
-}
-
-#[test]
-fn a_bundle_runs_by_threads(rt: HostRuntime) -> Result<(), Fail> {
-    let line = line_with(&rt, r#""mode":"rounds""#, r#""mode":"threads""#)?;
-    let first_is_lower = line.as_str() == "id,k,v\n1,b,7\n3,c,7\n||0";
-    let first_is_higher = line.as_str() == "id,k,v\n3,c,7\n1,b,7\n||0";
-    assert!(rt; first_is_lower || first_is_higher, "{line}");
-    Ok(())
+    line_of(rt, &[], &NoFiles, &mut input)
 }
 
 #[test]
 fn prefixes_and_broken_inputs_are_refused(rt: HostRuntime) -> Result<(), Fail> {
     for n in 0..FIRST.len() {
         let (prefix, _) = FIRST.as_bytes().split_at(n);
-        let line = line_for(&rt, &[], prefix, None)?;
+        let line = line_for(&rt, prefix, None)?;
         assert_eq!(rt; line.as_str(), "|volcano: V1 BadBundle\n|3", "{n} bytes");
-        let line = line_for(&rt, &[], FIRST.as_bytes(), Some(n))?;
+        let line = line_for(&rt, FIRST.as_bytes(), Some(n))?;
         assert_eq!(rt;
             line.as_str(),
             "|volcano: V3 FileUnreadable path=-\n|3",
             "after {n}"
         );
     }
-    Ok(())
-}
-
-#[test]
-fn catalogs_that_are_refused_have_their_lines(rt: HostRuntime) -> Result<(), Fail> {
-    for (from, to, line) in [
-        (
-            r#""relations":"#,
-            r#""tables":"#,
-            "|volcano: C1 BadCatalog\n|3",
-        ),
-        (
-            r#""name":"k""#,
-            r#""name":"id""#,
-            "|volcano: C2 DuplicateName name=id\n|3",
-        ),
-        (
-            r#""order":["id"]"#,
-            r#""order":["z"]"#,
-            "|volcano: C3 UnknownColumn name=z\n|3",
-        ),
-    ] {
-        assert_eq!(rt; line_with(&rt, from, to)?.as_str(), line);
-    }
-    Ok(())
-}
-
-#[test]
-fn plans_that_are_refused_have_their_lines(rt: HostRuntime) -> Result<(), Fail> {
-    for (from, to, line) in [
-        (
-            r#""root":"#,
-            r#""top":"#,
-            "|volcano: P2 BadNode path=document\n|3",
-        ),
-        (
-            r#""mode":"shared","#,
-            "",
-            "|volcano: P2 BadNode path=root.input.input\n|3",
-        ),
-        (
-            r#""relation":"t""#,
-            r#""relation":"u""#,
-            "|volcano: P4 UnknownRelation node=2 name=u\n|3",
-        ),
-        (
-            r#""value":7"#,
-            r#""value":"7""#,
-            "|volcano: P7 TypeMismatch node=1\n|3",
-        ),
-        (
-            r#"{"part":"one"}"#,
-            r#"{"part":"one","order":["id"]}"#,
-            "|volcano: K6 OrderNotShown node=0\n|3",
-        ),
-    ] {
-        assert_eq!(rt; line_with(&rt, from, to)?.as_str(), line);
-    }
-    Ok(())
-}
-
-#[test]
-fn tables_that_are_refused_have_their_lines(rt: HostRuntime) -> Result<(), Fail> {
-    for (from, to, line) in [
-        (
-            r#""tables":{"t""#,
-            r#""tables":{"u""#,
-            "|volcano: V2 NoTable name=t\n|3",
-        ),
-        (r#"0,a,5"#, r#"0,a"#, "|volcano: C5 BadWidth row=0\n|3"),
-        (
-            r#"3,c,7"#,
-            r#"0,c,7"#,
-            "|volcano: C8 KeyBroken key=0 first=0 second=3\n|3",
-        ),
-    ] {
-        assert_eq!(rt; line_with(&rt, from, to)?.as_str(), line);
-    }
-    Ok(())
-}
-
-#[test]
-fn arguments_without_paths_are_wrong(rt: HostRuntime) -> Result<(), Fail> {
-    let line = line_for(&rt, &["run"], FIRST.as_bytes(), None)?;
-    assert!(rt; line.as_str().ends_with("\n|2"));
-    Ok(())
-}
-
-#[test]
-fn runs_that_are_set_up_wrongly_have_their_lines(rt: HostRuntime) -> Result<(), Fail> {
-    for (from, to, line) in [
-        (
-            r#""many":3"#,
-            r#""few":3"#,
-            "|volcano: X1 SizeMissing name=many\n|3",
-        ),
-        (
-            r#""many":3"#,
-            r#""many":0"#,
-            "|volcano: X2 SizeOutOfRange name=many\n|3",
-        ),
-        (
-            r#""many":3"#,
-            r#""many":65"#,
-            "|volcano: X2 SizeOutOfRange name=many\n|3",
-        ),
-        (
-            r#""packet":1"#,
-            r#""packet":4097"#,
-            "|volcano: X3 BadPacket\n|3",
-        ),
-        (
-            r#""morsel":1"#,
-            r#""morsel":0"#,
-            "|volcano: X4 BadMorsel\n|3",
-        ),
-        (
-            r#""slack":4"#,
-            r#""slack":1025"#,
-            "|volcano: X14 BadSlack\n|3",
-        ),
-    ] {
-        assert_eq!(rt; line_with(&rt, from, to)?.as_str(), line);
-    }
-    Ok(())
-}
-
-#[test]
-fn exchanges_that_merge_run(rt: HostRuntime) -> Result<(), Fail> {
-    let text = FIRST.replace(
-        rt.alloc(),
-        r#""op":"scan","#,
-        r#""op":"exchange","kind":"round","merge":["id"],"size":"many","input":{"op":"scan","claim":{"order":["id"]},"#,
-    )?;
-    let text = text.replace(rt.alloc(), r#""size":"many"}"#, r#""size":"many"}}"#)?;
-    let line = line_for(&rt, &[], text.as_bytes(), None)?;
-    let found = line.as_str();
-    assert!(rt;
-        found == "id,k,v\n1,b,7\n3,c,7\n||0" || found == "id,k,v\n3,c,7\n1,b,7\n||0",
-        "{found}"
-    );
     Ok(())
 }
 

@@ -1,4 +1,6 @@
-//! What no clause says of the program: worked bundles and arguments with their lines, and inputs, outputs and files that fail.
+//! What neither a clause nor a transcript says of the program: inputs, outputs and files that fail, memory that runs out, how
+//! help begins, and single calls of the crates below. What the program prints is in the transcripts of `crates/test_transcripts`,
+//! where a case more is no function more to prove.
 //!
 //! The tests stand in a crate of their own, since a crate with tests is proved twice.
 #![tactic(auto)]
@@ -10,14 +12,6 @@ mod bundles;
 #[cfg(test)]
 mod lines;
 #[cfg(test)]
-mod operators;
-#[cfg(test)]
 mod refused_memory;
 #[cfg(test)]
 mod relations;
-#[cfg(test)]
-mod roots;
-#[cfg(test)]
-mod serials;
-#[cfg(test)]
-mod stats;

@@ -3,7 +3,6 @@
 //! the same calls once, and passes only where none of its allocations is refused.
 
 use crate::bundles::NoFiles;
-use crate::relations::{HEADER, ROW};
 use std::alloc::Global;
 use std::process::Abort;
 use std::sync::Wait;
@@ -12,6 +11,14 @@ use std::thread::Threads;
 use vx_answer::{NoClock, answer};
 use vx_bytes::{MemoryIn, Real};
 use vx_seeds::KeySeed;
+
+// The line of the columns' names.
+const HEADER: &str =
+    "unique1,unique2,two,four,ten,twenty,onePercent,tenPercent,twentyPercent,fiftyPercent,unique3,evenOnePercent,oddOnePercent,stringu1,stringu2,string4\n";
+
+// The one row of one.
+const ROW: &str =
+    "0,0,0,0,0,0,0,0,0,0,0,0,1,AAAAAAAxxxxxxxxxxxxxxxxxxxxxxxxxxxxxxxxxxxxxxxxxxxxx,AAAAAAAxxxxxxxxxxxxxxxxxxxxxxxxxxxxxxxxxxxxxxxxxxxxx,AAAAxxxxxxxxxxxxxxxxxxxxxxxxxxxxxxxxxxxxxxxxxxxxxxxx\n";
 
 // Whether these are the header and the one row.
 fn is_whole(text: &[u8]) -> bool {
