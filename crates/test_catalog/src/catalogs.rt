@@ -1,8 +1,8 @@
 //! What no clause says of catalogs: worked texts with their refusals.
 
+use crate::cases::parts;
 use crate::loading::KEYED;
 use std::alloc::Global;
-use std::process::Abort;
 use std::test::Fail;
 use vx_catalog::{Catalog, CatalogFault};
 
@@ -15,75 +15,32 @@ fn told(alloc: Global, text: &str) -> Result<String, Fail> {
     }
 }
 
-// Compares what is told of each text with the line beside it.
-fn compare<R: Abort>(rt: &R, alloc: Global, cases: &[(&str, &str)]) -> Result<(), Fail> {
-    for case in cases {
-        let got = told(alloc, case.0)?;
-        assert_eq!(rt; got.as_str(), case.1);
-    }
-    Ok(())
-}
+// Texts, and what is told of each.
+const CASES: &str = r#"a catalog may have no relations | {"relations":[]} | no relations
+a text that is cut off | {"relations":[] | C1 BadCatalog
+a member that is not known | {"relations":[],"x":1} | C1 BadCatalog
+no columns | {"relations":[{"name":"t","columns":[]}]} | C1 BadCatalog
+an empty name | {"relations":[{"name":"","columns":[{"name":"a","type":"int"}]}]} | C1 BadCatalog
+a type that is not known | {"relations":[{"name":"t","columns":[{"name":"a","type":"real"}]}]} | C1 BadCatalog
+a key of no columns | {"relations":[{"name":"t","columns":[{"name":"a","type":"int"}],"keys":[[]]}]} | C1 BadCatalog
+an order that is null | {"relations":[{"name":"t","columns":[{"name":"a","type":"int"}],"order":null}]} | C1 BadCatalog
+two columns of one name | {"relations":[{"name":"t","columns":[{"name":"a","type":"int"},{"name":"a","type":"text"}]}]} | C2 DuplicateName name=a
+a column twice in one key | {"relations":[{"name":"t","columns":[{"name":"a","type":"int"}],"keys":[["a"],["a","a"]]}]} | C2 DuplicateName name=a
+that a column of an order is not there comes before that it stands twice | {"relations":[{"name":"t","columns":[{"name":"a","type":"int"}],"order":["b","b"]}]} | C3 UnknownColumn name=b
+that a column of a key is not there comes before that a relation stands twice | {"relations":[{"name":"t","columns":[{"name":"a","type":"int"}],"keys":[["z"]]},{"name":"t","columns":[{"name":"a","type":"int"}]}]} | C3 UnknownColumn name=z
+two relations of one name | {"relations":[{"name":"t","columns":[{"name":"a","type":"int"}]},{"name":"t","columns":[{"name":"a","type":"int"}]}]} | C2 DuplicateName name=t
+that there are too many keys comes before their names | {"relations":[{"name":"t","columns":[{"name":"a","type":"int"}],"keys":[["z"],["a"],["a"],["a"],["a"],["a"],["a"],["a"],["a"],["a"],["a"],["a"],["a"],["a"],["a"],["a"],["a"]]}]} | C12 TooLarge"#;
 
 #[test]
-fn a_catalog_may_have_no_relations(rt: HostRuntime) -> Result<(), Fail> {
-    compare(&rt, rt.alloc(), &[(r#"{"relations":[]}"#, "no relations")])
-}
-
-// Texts that are no catalogs by their form.
-const MISFORMED: [&str; 7] = [
-    r#"{"relations":[]"#,
-    r#"{"relations":[],"x":1}"#,
-    r#"{"relations":[{"name":"t","columns":[]}]}"#,
-    r#"{"relations":[{"name":"","columns":[{"name":"a","type":"int"}]}]}"#,
-    r#"{"relations":[{"name":"t","columns":[{"name":"a","type":"real"}]}]}"#,
-    r#"{"relations":[{"name":"t","columns":[{"name":"a","type":"int"}],"keys":[[]]}]}"#,
-    r#"{"relations":[{"name":"t","columns":[{"name":"a","type":"int"}],"order":null}]}"#,
-];
-
-#[test]
-fn texts_of_another_form_are_refused(rt: HostRuntime) -> Result<(), Fail> {
-    for text in MISFORMED {
+fn texts_are_catalogs_or_refused(rt: HostRuntime) -> Result<(), Fail> {
+    for line in CASES.lines() {
+        let Some((name, text, wanted)) = parts(line) else {
+            return Err(Fail::new("a line is no case"));
+        };
         let got = told(rt.alloc(), text)?;
-        assert_eq!(rt; got.as_str(), "C1 BadCatalog");
+        assert_eq!(rt; got.as_str(), wanted, "{name}");
     }
     Ok(())
-}
-
-// Catalogs with a name that stands twice or nowhere, and what is told of each.
-const NAMED: [(&str, &str); 5] = [
-    (
-        r#"{"relations":[{"name":"t","columns":[{"name":"a","type":"int"},{"name":"a","type":"text"}]}]}"#,
-        "C2 DuplicateName name=a",
-    ),
-    (
-        r#"{"relations":[{"name":"t","columns":[{"name":"a","type":"int"}],"keys":[["a"],["a","a"]]}]}"#,
-        "C2 DuplicateName name=a",
-    ),
-    (
-        r#"{"relations":[{"name":"t","columns":[{"name":"a","type":"int"}],"order":["b","b"]}]}"#,
-        "C3 UnknownColumn name=b",
-    ),
-    (
-        r#"{"relations":[{"name":"t","columns":[{"name":"a","type":"int"}],"keys":[["z"]]},{"name":"t","columns":[{"name":"a","type":"int"}]}]}"#,
-        "C3 UnknownColumn name=z",
-    ),
-    (
-        r#"{"relations":[{"name":"t","columns":[{"name":"a","type":"int"}]},{"name":"t","columns":[{"name":"a","type":"int"}]}]}"#,
-        "C2 DuplicateName name=t",
-    ),
-];
-
-#[test]
-fn names_are_told_that_stand_twice_or_nowhere(rt: HostRuntime) -> Result<(), Fail> {
-    compare(&rt, rt.alloc(), &NAMED)
-}
-
-const WITH_17_KEYS: &str =
-    r#"{"relations":[{"name":"t","columns":[{"name":"a","type":"int"}],"keys":[["z"],["a"],["a"],["a"],["a"],["a"],["a"],["a"],["a"],["a"],["a"],["a"],["a"],["a"],["a"],["a"],["a"]]}]}"#;
-
-#[test]
-fn too_many_keys_are_told_before_their_names(rt: HostRuntime) -> Result<(), Fail> {
-    compare(&rt, rt.alloc(), &[(WITH_17_KEYS, "C12 TooLarge")])
 }
 
 #[test]

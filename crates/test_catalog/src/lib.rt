@@ -5,9 +5,9 @@
 #![tactic(auto)]
 
 #[cfg(test)]
-mod catalogs;
+mod cases;
 #[cfg(test)]
-mod keys;
+mod catalogs;
 #[cfg(test)]
 mod loading;
 #[cfg(test)]

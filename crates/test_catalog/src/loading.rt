@@ -1,5 +1,6 @@
 //! What no clause says of loading and writing rows: worked texts with their refusals, and readers and writers that fail.
 
+use crate::cases::parts;
 use std::alloc::Global;
 use std::process::Abort;
 use std::sync::Arc;
@@ -18,7 +19,10 @@ const ONE_TEXT: &str = r#"{"relations":[{"name":"u","columns":[{"name":"s","type
 const TWO_KEYS: &str =
     r#"{"relations":[{"name":"w","columns":[{"name":"a","type":"int"},{"name":"b","type":"int"}],"keys":[["a"],["b"]]}]}"#;
 
-// Rows of that relation.
+const ONE_KEY: &str =
+    r#"{"relations":[{"name":"n","columns":[{"name":"a","type":"int"}],"keys":[["a"]]}]}"#;
+
+// Rows of the first of these relations.
 const TEXT: &[u8] = b"id,k,v\n0,a,5\n1,b,7\n2,a,-2\n3,c,7\n";
 
 // What relation 0 of a catalog answers to a text: its rows as they are written again, or the refusal. The reader fails
@@ -57,139 +61,146 @@ fn again(alloc: Global, catalog: &str, text: &[u8]) -> Result<String, Fail> {
     answer(alloc, catalog, text, None, 1000)
 }
 
-// How many bytes of the text are rows themselves.
-const LOADED_FRONTS: [usize; 10] = [6, 7, 12, 13, 18, 19, 25, 26, 31, 32];
-
-// How many bytes of it end in what is no number, and the line of that.
-const BAD_NUMBERS: [(usize, &str); 5] = [
-    (11, "C6 BadInt row=0 col=2"),
-    (17, "C6 BadInt row=1 col=2"),
-    (23, "C6 BadInt row=2 col=2"),
-    (24, "C6 BadInt row=2 col=2"),
-    (30, "C6 BadInt row=3 col=2"),
-];
-
-// Whether this is what is answered to so many bytes of the text.
-fn answers_front(got: &str, n: usize) -> bool {
-    if n <= 5 {
-        return got == "C4 HeaderMismatch";
-    }
-    if LOADED_FRONTS.contains(&n) {
-        return got.starts_with("id,k,v");
-    }
-    match BAD_NUMBERS.iter().find(|bad| bad.0 == n) {
-        Some(bad) => got == bad.1,
-        None => got.starts_with("C5 BadWidth row="),
-    }
-}
+// What the answer to the first bytes of the text begins with: to none of them, to one, and so on.
+const FRONTS: &str = "C4 HeaderMismatch
+C4 HeaderMismatch
+C4 HeaderMismatch
+C4 HeaderMismatch
+C4 HeaderMismatch
+C4 HeaderMismatch
+id,k,v
+id,k,v
+C5 BadWidth row=0
+C5 BadWidth row=0
+C5 BadWidth row=0
+C6 BadInt row=0 col=2
+id,k,v
+id,k,v
+C5 BadWidth row=1
+C5 BadWidth row=1
+C5 BadWidth row=1
+C6 BadInt row=1 col=2
+id,k,v
+id,k,v
+C5 BadWidth row=2
+C5 BadWidth row=2
+C5 BadWidth row=2
+C6 BadInt row=2 col=2
+C6 BadInt row=2 col=2
+id,k,v
+id,k,v
+C5 BadWidth row=3
+C5 BadWidth row=3
+C5 BadWidth row=3
+C6 BadInt row=3 col=2
+id,k,v
+id,k,v";
 
 #[test]
 fn fronts_of_a_text(rt: HostRuntime) -> Result<(), Fail> {
+    let mut fronts = FRONTS.lines();
     for n in 0..33 {
+        let Some(wanted) = fronts.next() else {
+            return Err(Fail::new("a front has no answer"));
+        };
         let got = again(rt.alloc(), KEYED, &TEXT[..n])?;
-        assert!(rt; answers_front(got.as_str(), n), "at {n}");
+        assert!(rt; got.as_str().starts_with(wanted), "at {n}");
     }
     Ok(())
 }
 
 #[test]
-fn a_reader_that_fails_is_told_after_any_byte(rt: HostRuntime) -> Result<(), Fail> {
+fn a_reader_or_a_writer_that_fails_is_told(rt: HostRuntime) -> Result<(), Fail> {
     for n in 0..33 {
         let failed = answer(rt.alloc(), KEYED, TEXT, Some(n), 1000)?;
         assert_eq!(rt; failed.as_str(), "C10 ReadFailed", "after {n}");
     }
-    Ok(())
-}
-
-#[test]
-fn a_writer_that_is_full_is_told(rt: HostRuntime) -> Result<(), Fail> {
     let full = answer(rt.alloc(), KEYED, TEXT, None, 25)?;
     assert_eq!(rt; full.as_str(), "WriteFailed");
     Ok(())
 }
 
-// Texts, and what is written of their rows.
-const LOADED: [(&[u8], &str); 6] = [
-    (TEXT, "id,k,v\n0,a,5\n1,b,7\n2,a,-2\n3,c,7\n"),
-    (b"id,k,v\n", "id,k,v\n"),
-    (b"\xEF\xBB\xBFid,k,v\n0,a,1", "id,k,v\n0,a,1\n"),
-    (b"id,k,v\n0,\"a,b\",+5\n", "id,k,v\n0,\"a,b\",5\n"),
-    (
-        b"id,k,v\r\n0,\"a\nb\",007\r1,\"say \"\"x\"\"\",-0\n\n\r\n2,,9\n",
-        "id,k,v\n0,\"a\nb\",7\n1,\"say \"\"x\"\"\",0\n2,,9\n",
-    ),
-    (
-        b"id,k,v\n-9223372036854775808,a,9223372036854775807\n",
-        "id,k,v\n-9223372036854775808,a,9223372036854775807\n",
-    ),
-];
+// Texts of the first relation, with `/` for the end of a line, and what is written of their rows, or why they are refused.
+const OF_KEYED: &str =
+    "rows are written as they were read | id,k,v/0,a,5/1,b,7/2,a,-2/3,c,7/ | id,k,v/0,a,5/1,b,7/2,a,-2/3,c,7/
+no rows | id,k,v/ | id,k,v/
+a mark of the byte order before the header, and no end of the last line | \u{FEFF}id,k,v/0,a,1 | id,k,v/0,a,1/
+a comma in quotes, and a number with a plus | id,k,v/0,\"a,b\",+5/ | id,k,v/0,\"a,b\",5/
+ends of lines of each kind, empty lines, a line in quotes, quotes in quotes, and zeros in front | id,k,v\r/0,\"a/b\",007\r1,\"say \"\"x\"\"\",-0//\r/2,,9/ | id,k,v/0,\"a/b\",7/1,\"say \"\"x\"\"\",0/2,,9/
+the least and the greatest number | id,k,v/-9223372036854775808,a,9223372036854775807/ | id,k,v/-9223372036854775808,a,9223372036854775807/
+no header |  | C4 HeaderMismatch
+a header that is too short | id,k/ | C4 HeaderMismatch
+a header in another order | id,v,k/ | C4 HeaderMismatch
+one more than the greatest number | id,k,v/0,a,9223372036854775808/ | C6 BadInt row=0 col=2
+one less than the least number | id,k,v/0,a,1/1,a,-9223372036854775809/ | C6 BadInt row=1 col=2
+a space before a number | id,k,v/ 0,a,1/ | C6 BadInt row=0 col=0
+a field too many | id,k,v/0,a,1,2/ | C5 BadWidth row=0
+two rows of one key | id,k,v/0,a,5/1,b,7/2,a,-2/3,c,7/0,z,1/ | C8 KeyBroken key=0 first=0 second=4
+a row that is smaller than the one before it | id,k,v/1,b,7/0,a,5/ | C9 OrderBroken row=1";
 
-// Compares what relation 0 of a catalog answers to each text with the text beside it.
-fn compare<R: Abort>(
-    rt: &R,
-    alloc: Global,
-    catalog: &str,
-    cases: &[(&[u8], &str)],
-) -> Result<(), Fail> {
-    for case in cases {
-        let got = again(alloc, catalog, case.0)?;
-        assert_eq!(rt; got.as_str(), case.1);
+// Texts of a relation of one text.
+const OF_ONE_TEXT: &str =
+    "an empty line is no row where an empty text in quotes is one | s/\"\"//x/ | s/\"\"/x/";
+
+// Texts of a relation with two keys.
+const OF_TWO_KEYS: &str =
+    "the first of two keys that are broken | a,b/1,1/2,1/1,3/ | C8 KeyBroken key=0 first=0 second=2
+the second key | a,b/1,1/2,1/3,1/ | C8 KeyBroken key=1 first=0 second=1
+both keys are met | a,b/2,1/1,2/ | a,b/2,1/1,2/";
+
+// Texts of a relation whose one number is its key: how its first clash is found depends on how far apart the numbers are, and on
+// whether they rise.
+const OF_ONE_KEY: &str = "no number | a/ | a/
+one number | a/-9223372036854775808/ | a/-9223372036854775808/
+two that are equal | a/-7/-7/ | C8 KeyBroken key=0 first=0 second=1
+two that fall | a/7/-7/ | a/7/-7/
+near numbers that differ | a/-1/-3/2/-2/ | a/-1/-3/2/-2/
+near numbers, the first two equal | a/-3/-3/1/2/ | C8 KeyBroken key=0 first=0 second=1
+near numbers, of two clashes the one whose second row comes first | a/3/-2/1/-2/3/ | C8 KeyBroken key=0 first=1 second=3
+near numbers, the first and the last equal | a/2/9/4/1/2/ | C8 KeyBroken key=0 first=0 second=4
+near numbers, the last two equal | a/2/9/4/1/1/ | C8 KeyBroken key=0 first=3 second=4
+three that are equal | a/4/4/4/ | C8 KeyBroken key=0 first=0 second=1
+far numbers that differ | a/900/-900/0/400/ | a/900/-900/0/400/
+far numbers, the first two equal | a/900/900/-900/5/ | C8 KeyBroken key=0 first=0 second=1
+far numbers, of two clashes the one whose second row comes first | a/900/5/7/5/900/ | C8 KeyBroken key=0 first=1 second=3
+far numbers, the first and the last equal | a/900/5/7/-6/900/ | C8 KeyBroken key=0 first=0 second=4
+far numbers, the last two equal | a/900/5/7/-6/-6/ | C8 KeyBroken key=0 first=3 second=4
+three that are 24 apart still count as near, and differ | a/24/0/12/ | a/24/0/12/
+three that are 24 apart, two equal | a/24/0/24/ | C8 KeyBroken key=0 first=0 second=2
+three that are 25 apart count as far, and differ | a/25/0/12/ | a/25/0/12/
+three that are 25 apart, two equal | a/25/0/25/ | C8 KeyBroken key=0 first=0 second=2
+the greatest, the least and zero | a/9223372036854775807/-9223372036854775808/0/ | a/9223372036854775807/-9223372036854775808/0/
+the greatest twice, and the least | a/9223372036854775807/-9223372036854775808/9223372036854775807/ | C8 KeyBroken key=0 first=0 second=2
+the greatest twice, and one less | a/9223372036854775807/9223372036854775806/9223372036854775807/ | C8 KeyBroken key=0 first=0 second=2
+the least twice, and one more | a/-9223372036854775807/-9223372036854775808/-9223372036854775808/ | C8 KeyBroken key=0 first=1 second=2
+rising numbers that differ | a/-9223372036854775808/-1/3/9223372036854775807/ | a/-9223372036854775808/-1/3/9223372036854775807/
+rising numbers, the first two equal | a/1/1/2/3/ | C8 KeyBroken key=0 first=0 second=1
+rising numbers, two in the middle equal | a/1/2/2/3/ | C8 KeyBroken key=0 first=1 second=2
+rising numbers, the last two equal | a/1/2/900/900/ | C8 KeyBroken key=0 first=2 second=3";
+
+// Compares what relation 0 of a catalog answers to the text of each case with what has to come of it.
+fn compare<R: Abort>(rt: &R, alloc: Global, catalog: &str, cases: &str) -> Result<(), Fail> {
+    for line in cases.lines() {
+        let Some((name, text, wanted)) = parts(line) else {
+            return Err(Fail::new("a line is no case"));
+        };
+        let text = text.replace(alloc, "/", "\n")?;
+        let got = again(alloc, catalog, text.as_bytes())?.replace(alloc, "\n", "/")?;
+        assert_eq!(rt; got.as_str(), wanted, "{name}");
     }
     Ok(())
 }
 
 #[test]
-fn texts_are_loaded_and_written(rt: HostRuntime) -> Result<(), Fail> {
-    compare(&rt, rt.alloc(), KEYED, &LOADED)
-}
-
-// Texts that are refused, and the line of each refusal.
-const REFUSED: [(&[u8], &str); 10] = [
-    (b"", "C4 HeaderMismatch"),
-    (b"id,k\n", "C4 HeaderMismatch"),
-    (b"id,v,k\n", "C4 HeaderMismatch"),
-    (
-        b"id,k,v\n0,a,9223372036854775808\n",
-        "C6 BadInt row=0 col=2",
-    ),
-    (
-        b"id,k,v\n0,a,1\n1,a,-9223372036854775809\n",
-        "C6 BadInt row=1 col=2",
-    ),
-    (b"id,k,v\n0,a,1\n1,\xFF,x\n", "C7 NotUtf8 row=1"),
-    (b"id,k,v\n 0,a,1\n", "C6 BadInt row=0 col=0"),
-    (b"id,k,v\n0,a,1,2\n", "C5 BadWidth row=0"),
-    (
-        b"id,k,v\n0,a,5\n1,b,7\n2,a,-2\n3,c,7\n0,z,1\n",
-        "C8 KeyBroken key=0 first=0 second=4",
-    ),
-    (b"id,k,v\n1,b,7\n0,a,5\n", "C9 OrderBroken row=1"),
-];
-
-#[test]
-fn texts_are_refused(rt: HostRuntime) -> Result<(), Fail> {
-    compare(&rt, rt.alloc(), KEYED, &REFUSED)
-}
-
-// Texts of other relations, and what comes of each.
-const OF_ONE_TEXT: [(&[u8], &str); 1] = [(b"s\n\"\"\n\nx\n", "s\n\"\"\nx\n")];
-
-const OF_TWO_KEYS: [(&[u8], &str); 3] = [
-    (
-        b"a,b\n1,1\n2,1\n1,3\n",
-        "C8 KeyBroken key=0 first=0 second=2",
-    ),
-    (
-        b"a,b\n1,1\n2,1\n3,1\n",
-        "C8 KeyBroken key=1 first=0 second=1",
-    ),
-    (b"a,b\n2,1\n1,2\n", "a,b\n2,1\n1,2\n"),
-];
-
-#[test]
-fn other_relations(rt: HostRuntime) -> Result<(), Fail> {
-    compare(&rt, rt.alloc(), ONE_TEXT, &OF_ONE_TEXT)?;
-    compare(&rt, rt.alloc(), TWO_KEYS, &OF_TWO_KEYS)
+fn texts_are_loaded_or_refused(rt: HostRuntime) -> Result<(), Fail> {
+    let alloc = rt.alloc();
+    compare(&rt, alloc, KEYED, OF_KEYED)?;
+    compare(&rt, alloc, ONE_TEXT, OF_ONE_TEXT)?;
+    compare(&rt, alloc, TWO_KEYS, OF_TWO_KEYS)?;
+    compare(&rt, alloc, ONE_KEY, OF_ONE_KEY)?;
+    let no_text = again(alloc, KEYED, b"id,k,v\n0,a,1\n1,\xFF,x\n")?;
+    assert_eq!(rt; no_text.as_str(), "C7 NotUtf8 row=1");
+    Ok(())
 }
 
 // The rows of the text, shared: nothing else is left of their database.

@@ -11,24 +11,20 @@ use std::test::Fail;
 use test_tables::TYPES;
 use vx_rows::{Cell, Table};
 
-// What stands in the rows after each growth.
-const GROWN: [(i64, &str); 7] = [
-    (7, "b"),
-    (-5, ""),
-    (7, "b"),
-    (-5, ""),
-    (-5, ""),
-    (7, "b"),
-    (9, "b"),
-];
+// The rows after each growth.
+const GROWN: &str = "7 b\n-5 \n7 b\n-5 \n-5 \n7 b\n9 b";
 
-// Whether a row has these values.
-fn has(rows: &Table, i: usize, values: (i64, &str)) -> bool
+// Whether a row has the number and the text of a line.
+fn has(rows: &Table, i: usize, line: &str) -> bool
     requires row { i < length rows.now.rows }
     requires types { rows.now.types ≡ kind.Int ∷ kind.Text ∷ [] }
 {
+    let Some((wanted, text)) = line.split_once(' ') else {
+        return false;
+    };
     match (rows.cell(i, 0), rows.cell(i, 1)) {
-        (Cell::Int(number), Cell::Text(text)) => number == values.0 && text == values.1,
+        (Cell::Int(number), Cell::Text(seen)) => wanted.parse::<i64>() == Ok(number)
+            && seen == text,
         _ => false,
     }
 }
@@ -37,11 +33,12 @@ fn has(rows: &Table, i: usize, values: (i64, &str)) -> bool
 fn are_front(rows: &Table) -> bool
     requires { rows.now.types ≡ kind.Int ∷ kind.Text ∷ [] }
 {
-    if rows.len() > GROWN.len() {
-        return false;
-    }
+    let mut lines = GROWN.lines();
     for i in 0..rows.len() {
-        if !has(rows, i, GROWN[i]) {
+        let Some(line) = lines.next() else {
+            return false;
+        };
+        if !has(rows, i, line) {
             return false;
         }
     }
@@ -86,7 +83,7 @@ fn grown<R: Abort>(rt: &R, alloc: Global) -> Result<Table, AllocError>
         "a growth that was refused changed the rows"
     );
     answer?;
-    assert!(rt; rows.len() == GROWN.len());
+    assert!(rt; rows.len() == 7);
     Ok(rows)
 }
 

@@ -2,48 +2,13 @@
 
 ghost use Rattle.vx_rows.specs.View.{AreColumns};
 
-use std::alloc::{AllocError, Global};
-use std::process::Abort;
+use crate::cases::{columns_of, parts, rows_of};
+use std::alloc::Global;
 use std::test::Fail;
-use test_tables::{shown, table};
+use test_tables::shown;
 use vx_grouping::{GroupFault, grouped};
 use vx_plan::Aggregate;
 use vx_seeds::KeySeed;
-use vx_views::Rows;
-
-// The groups of a table, as text, or that a number of theirs does not fit.
-fn groups_of(
-    alloc: Global,
-    entries: &[(i64, &str)],
-    by: &[usize],
-    aggregates: &[Aggregate],
-) -> Result<String, AllocError>
-    requires { AreColumns 2 by.now }
-{
-    let rows = Rows::of_table(alloc, table(alloc, entries)?)?;
-    match grouped(alloc, KeySeed::fixed(), &rows, by, aggregates) {
-        Ok(groups) => shown(alloc, &groups),
-        Err(GroupFault::Overflow) => String::from_str(alloc, "overflow"),
-        Err(GroupFault::TooMany) => String::from_str(alloc, "too many"),
-        Err(GroupFault::NoMemory) => Err(AllocError),
-    }
-}
-
-// Compares the groups of a table with a text.
-fn compare<R: Abort>(
-    rt: &R,
-    alloc: Global,
-    entries: &[(i64, &str)],
-    by: &[usize],
-    aggregates: &[Aggregate],
-    text: &str,
-) -> Result<(), Fail>
-    requires { AreColumns 2 by.now }
-{
-    let got = groups_of(alloc, entries, by, aggregates)?;
-    assert_eq!(rt; got.as_str(), text);
-    Ok(())
-}
 
 const EVERY: [Aggregate; 4] = [
     Aggregate::Least(0),
@@ -52,122 +17,69 @@ const EVERY: [Aggregate; 4] = [
     Aggregate::CountRows,
 ];
 
-const SUM: [Aggregate; 1] = [Aggregate::Sum(0)];
+// The aggregates with these names, of the numbers where no texts are named. Any other name names none.
+fn aggregates_of(names: &str) -> &'static [Aggregate] {
+    match names {
+        "least, greatest, sum, count" => &EVERY,
+        "count, sum" => &[Aggregate::CountRows, Aggregate::Sum(0)],
+        "sum" => &[Aggregate::Sum(0)],
+        "least" => &[Aggregate::Least(0)],
+        "greatest text, least text" => &[Aggregate::Greatest(1), Aggregate::Least(1)],
+        _ => &[],
+    }
+}
+
+// The groups of a table, as text, or that a number of theirs does not fit.
+fn groups_of(
+    alloc: Global,
+    rows: &str,
+    by: &[usize],
+    aggregates: &[Aggregate],
+) -> Result<String, Fail>
+    requires { AreColumns 2 by.now }
+{
+    let rows = rows_of(alloc, rows)?;
+    match grouped(alloc, KeySeed::fixed(), &rows, by, aggregates) {
+        Ok(groups) => Ok(shown(alloc, &groups)?),
+        Err(GroupFault::Overflow) => Ok(String::from_str(alloc, "overflow")?),
+        Err(_) => Err(Fail::new("memory ran out, or there are too many rows")),
+    }
+}
+
+// Of each case: what it shows, the aggregates, the columns to group by, the rows, nothing, and the groups.
+const CASES: &str =
+    "a group by nothing has no key | least, greatest, sum, count | nothing | 4 b;3 a;6 b; |  | 3 6 13 3;
+a group of nothing has its key alone |  | text | 4 b;3 a;6 b; |  | 'b';'a';
+groups stand in the order of their first rows | count, sum | text | 1 b;2 a;4 b;8 c;16 a;32 b; |  | 'b' 3 37;'a' 2 18;'c' 1 8;
+groups by texts and numbers stand in the order of their first rows |  | text number | 1 b;2 a;4 b;8 c;16 a;32 b; |  | 'b' 1;'a' 2;'b' 4;'c' 8;'a' 16;'b' 32;
+negative and extreme numbers | least, greatest, sum, count | text | -1 x;-9223372036854775808 x;-5 y;9223372036854775807 x;-7 y; |  | 'x' -9223372036854775808 9223372036854775807 -2 3;'y' -7 -5 -12 2;
+a sum may pass the greatest number on its way | sum | text | 9223372036854775807 x;9223372036854775807 x;-9223372036854775808 x;-9223372036854775808 x; |  | 'x' -2;
+a sum may pass the least number on its way | sum | text | -9223372036854775808 x;-1 x;1 x; |  | 'x' -9223372036854775808;
+one sum above the greatest number is an overflow | sum | text | 5 x;9223372036854775807 y;1 y; |  | overflow
+one sum below the least number is an overflow | sum | text | -9223372036854775808 y;-1 y;5 x; |  | overflow
+numbers that are not summed with each other do not pass the greatest number | sum | number | 5 x;9223372036854775807 y;1 y; |  | 5 5;9223372036854775807 9223372036854775807;1 1;
+numbers that are not summed with each other do not pass the least number | sum | number | -9223372036854775808 y;-1 y;5 x; |  | -9223372036854775808 -9223372036854775808;-1 -1;5 5;
+least numbers do not pass the greatest number | least | text | 5 x;9223372036854775807 y;1 y; |  | 'x' 5;'y' 1;
+least numbers do not pass the least number | least | text | -9223372036854775808 y;-1 y;5 x; |  | 'y' -9223372036854775808;'x' 5;
+texts are ordered by their bytes | greatest text, least text | number | 1 key;2 é;1 ke;2 z;1 keys;2 ; |  | 1 'keys' 'ke';2 'é' '';";
 
 #[test]
-fn no_rows_have_no_group(rt: HostRuntime) -> Result<(), Fail> {
-    let alloc = rt.alloc();
-    let rows = Rows::of_table(alloc, table(alloc, &[])?)?;
-    let none = grouped(alloc, KeySeed::fixed(), &rows, &[], &EVERY)?;
-    assert_eq!(rt; none.len(), 0);
-    assert_eq!(rt; none.types().len(), 4);
+fn tables_have_their_groups(rt: HostRuntime) -> Result<(), Fail> {
+    for line in CASES.lines() {
+        let Some((name, aggregates, by, rows, _, wanted)) = parts(line) else {
+            return Err(Fail::new("a line is no case"));
+        };
+        let got = groups_of(rt.alloc(), rows, columns_of(by), aggregates_of(aggregates))?;
+        assert_eq!(rt; got.as_str(), wanted, "{name}");
+    }
     Ok(())
 }
 
-const THREE: [(i64, &str); 3] = [(4, "b"), (3, "a"), (6, "b")];
-
 #[test]
-fn a_group_by_nothing_has_no_key_or_one(rt: HostRuntime) -> Result<(), Fail> {
-    let alloc = rt.alloc();
-    compare(&rt, alloc, &THREE, &[], &EVERY, "3 6 13 3;")?;
-    compare(&rt, alloc, &THREE, &[1], &[], "'b';'a';")
-}
-
-const SIX: [(i64, &str); 6] = [(1, "b"), (2, "a"), (4, "b"), (8, "c"), (16, "a"), (32, "b")];
-
-const COUNT_AND_SUM: [Aggregate; 2] = [Aggregate::CountRows, Aggregate::Sum(0)];
-
-const BY_BOTH: &str = "'b' 1;'a' 2;'b' 4;'c' 8;'a' 16;'b' 32;";
-
-#[test]
-fn groups_stand_in_the_order_of_their_first_rows(rt: HostRuntime) -> Result<(), Fail> {
-    let alloc = rt.alloc();
-    let by_text = "'b' 3 37;'a' 2 18;'c' 1 8;";
-    compare(&rt, alloc, &SIX, &[1], &COUNT_AND_SUM, by_text)?;
-    compare(&rt, alloc, &SIX, &[1, 0], &[], BY_BOTH)
-}
-
-const EXTREME: [(i64, &str); 5] = [
-    (-1, "x"),
-    (i64::MIN, "x"),
-    (-5, "y"),
-    (i64::MAX, "x"),
-    (-7, "y"),
-];
-
-#[test]
-fn aggregates_take_negative_and_extreme_numbers(rt: HostRuntime) -> Result<(), Fail> {
-    compare(
-        &rt,
-        rt.alloc(),
-        &EXTREME,
-        &[1],
-        &EVERY,
-        "'x' -9223372036854775808 9223372036854775807 -2 3;'y' -7 -5 -12 2;",
-    )
-}
-
-const THERE_AND_BACK: [(i64, &str); 4] = [
-    (i64::MAX, "x"),
-    (i64::MAX, "x"),
-    (i64::MIN, "x"),
-    (i64::MIN, "x"),
-];
-
-const LEAST: [(i64, &str); 3] = [(i64::MIN, "x"), (-1, "x"), (1, "x")];
-
-#[test]
-fn a_sum_may_pass_64_bits_on_its_way(rt: HostRuntime) -> Result<(), Fail> {
-    let alloc = rt.alloc();
-    compare(&rt, alloc, &THERE_AND_BACK, &[1], &SUM, "'x' -2;")?;
-    compare(&rt, alloc, &LEAST, &[1], &SUM, "'x' -9223372036854775808;")
-}
-
-// Tables of which the sum of the rows with a `y` does not fit.
-const ABOVE: [(i64, &str); 3] = [(5, "x"), (i64::MAX, "y"), (1, "y")];
-
-const BELOW: [(i64, &str); 3] = [(i64::MIN, "y"), (-1, "y"), (5, "x")];
-
-const ABOVE_APART: &str = "5 5;9223372036854775807 9223372036854775807;1 1;";
-
-const BELOW_APART: &str = "-9223372036854775808 -9223372036854775808;-1 -1;5 5;";
-
-#[test]
-fn one_sum_that_does_not_fit_is_an_overflow(rt: HostRuntime) -> Result<(), Fail> {
-    let alloc = rt.alloc();
-    compare(&rt, alloc, &ABOVE, &[1], &SUM, "overflow")?;
-    compare(&rt, alloc, &BELOW, &[1], &SUM, "overflow")
-}
-
-#[test]
-fn what_is_not_summed_does_not_overflow(rt: HostRuntime) -> Result<(), Fail> {
-    let alloc = rt.alloc();
-    let least = [Aggregate::Least(0)];
-    compare(&rt, alloc, &ABOVE, &[0], &SUM, ABOVE_APART)?;
-    compare(&rt, alloc, &BELOW, &[0], &SUM, BELOW_APART)?;
-    compare(&rt, alloc, &ABOVE, &[1], &least, "'x' 5;'y' 1;")?;
-    compare(
-        &rt,
-        alloc,
-        &BELOW,
-        &[1],
-        &least,
-        "'y' -9223372036854775808;'x' 5;",
-    )
-}
-
-const TEXTS: [(i64, &str); 6] = [
-    (1, "key"),
-    (2, "é"),
-    (1, "ke"),
-    (2, "z"),
-    (1, "keys"),
-    (2, ""),
-];
-
-#[test]
-fn texts_are_ordered_by_their_bytes(rt: HostRuntime) -> Result<(), Fail> {
-    let ends = [Aggregate::Greatest(1), Aggregate::Least(1)];
-    let groups = "1 'keys' 'ke';2 'é' '';";
-    compare(&rt, rt.alloc(), &TEXTS, &[0], &ends, groups)
+fn no_rows_have_no_group(rt: HostRuntime) -> Result<(), Fail> {
+    let rows = rows_of(rt.alloc(), "")?;
+    let none = grouped(rt.alloc(), KeySeed::fixed(), &rows, &[], &EVERY)?;
+    assert_eq!(rt; none.len(), 0);
+    assert_eq!(rt; none.types().len(), 4);
+    Ok(())
 }

@@ -1,226 +1,159 @@
 //! What no clause says: that calls succeed with ample memory, and small examples.
 
-ghost use Rattle.std.specs.Prelude.{◌<◌};
+ghost use Rattle.std.specs.Prelude.{length};
 ghost use Rattle.vx_rows.specs.View.{AreColumns};
 
+use crate::cases::{columns_of, parts, rows_of};
 use std::alloc::{AllocError, Global};
-use std::process::Abort;
 use std::test::Fail;
-use test_tables::{shown, table};
+use test_tables::shown;
 use vx_algebra::sorted_chunks;
 use vx_join::{Build, hash_join};
 use vx_keys::Seen;
+use vx_merging::{MergeFault, merge_join};
 use vx_seeds::KeySeed;
 use vx_views::Rows;
 
-// A kernel over one input and some of its columns.
-#[derive(Clone, Copy)]
-enum Kernel {
-    Projected,
-    Sorted,
-    Distinct,
+// What a kernel over one input makes of rows. There is none with any other name.
+fn of_one(alloc: Global, kernel: &str, columns: &[usize], rows: &Rows) -> Result<Rows, AllocError>
+    requires { AreColumns (length rows.now.types) columns.now }
+{
+    match kernel {
+        "project" => rows.project(alloc, columns),
+        "sort" => sorted_chunks(alloc, rows, columns),
+        "distinct" => Seen::new(alloc, KeySeed::fixed()).keep_new(rows, columns),
+        _ => Err(AllocError),
+    }
 }
 
-// What a kernel makes of a table, as text.
+// The merge join of rows on the same columns of both, as text, or that one input falls.
+fn merged(alloc: Global, columns: &[usize], left: &Rows, right: &Rows) -> Result<String, AllocError>
+    requires left { AreColumns (length left.now.types) columns.now }
+    requires right { AreColumns (length right.now.types) columns.now }
+{
+    match merge_join(alloc, left, columns, right, columns) {
+        Ok(joined) => shown(alloc, &joined.gathered(alloc)?),
+        Err(MergeFault::Falls) => String::from_str(alloc, "falls"),
+        Err(MergeFault::NoMemory) => Err(AllocError),
+    }
+}
+
+// What a kernel makes of rows by some of their columns, as text.
 fn made(
     alloc: Global,
-    kernel: Kernel,
-    entries: &[(i64, &str)],
+    kernel: &str,
     columns: &[usize],
-) -> Result<String, AllocError>
+    left: &str,
+    right: &str,
+) -> Result<String, Fail>
     requires { AreColumns 2 columns.now }
 {
-    let rows = Rows::of_table(alloc, table(alloc, entries)?)?;
-    let made = match kernel {
-        Kernel::Projected => rows.project(alloc, columns)?,
-        Kernel::Sorted => sorted_chunks(alloc, &rows, columns)?,
-        Kernel::Distinct => {
-            let mut seen = Seen::new(alloc, KeySeed::fixed());
-            seen.keep_new(&rows, columns)?
-        }
+    let left = rows_of(alloc, left)?;
+    let right = rows_of(alloc, right)?;
+    if kernel == "merge join" {
+        return Ok(merged(alloc, columns, &left, &right)?);
+    }
+    let made = if kernel == "hash join" {
+        let columns_right = Vec::from_slice(alloc, columns)?;
+        hash_join(
+            alloc,
+            KeySeed::fixed(),
+            left,
+            columns,
+            &right,
+            columns_right,
+        )?
+    } else {
+        of_one(alloc, kernel, columns, &left)?
     };
-    shown(alloc, &made.gathered(alloc)?)
+    Ok(shown(alloc, &made.gathered(alloc)?)?)
 }
 
-// Compares what a kernel makes of a table, by these columns, with a text.
-fn compare<R: Abort>(
-    rt: &R,
-    alloc: Global,
-    kernel: Kernel,
-    entries: &[(i64, &str)],
-    columns: &[usize],
-    text: &str,
-) -> Result<(), Fail>
-    requires { AreColumns 2 columns.now }
-{
-    let got = made(alloc, kernel, entries, columns)?;
-    assert_eq!(rt; got.as_str(), text);
+// Of each case: what it shows, the kernel, its columns, its left or only input, its right input, and what the kernel makes of them.
+const CASES: &str =
+    "columns are kept in the order given, and more than once | project | text number text | 1 a;-2 ; |  | 'a' 1 'a';'' -2 '';
+a column of no rows | project | text |  |  |
+rows of equal numbers stay in their order | sort | number | 2 b;-1 c;2 a;-1 b;-9223372036854775808 z; |  | -9223372036854775808 'z';-1 'c';-1 'b';2 'b';2 'a';
+rows are sorted by texts and then by numbers | sort | text number | 2 b;-1 c;2 a;-1 b;-9223372036854775808 z; |  | 2 'a';-1 'b';2 'b';-1 'c';-9223372036854775808 'z';
+no rows are sorted | sort | number |  |  |
+the first of equal rows is kept | distinct | number text | 3 b;1 a;3 b;2 a;1 a; |  | 3 'b';1 'a';2 'a';
+the first of equal texts is kept | distinct | text | 3 b;1 a;3 b;2 a;1 a; |  | 'b';'a';
+equal keys are joined with each other | hash join | text | 1 key;2 ke;3 key; | 9223372036854775807 key;5 keys;-9223372036854775808 key;6 ; | 1 'key' 9223372036854775807 'key';1 'key' -9223372036854775808 'key';3 'key' 9223372036854775807 'key';3 'key' -9223372036854775808 'key';
+a join with no rows on the left is empty | hash join | number |  | 1 a; |
+a join with no rows on the right is empty | hash join | number | 1 a; |  |
+each of equal numbers is merged with each | merge join | number | -9223372036854775808 a;-1 b;-1 c;0 d;9223372036854775807 e; | -9223372036854775808 u;-2 v;-1 w;-1 x;1 y;9223372036854775807 z; | -9223372036854775808 'a' -9223372036854775808 'u';-1 'b' -1 'w';-1 'b' -1 'x';-1 'c' -1 'w';-1 'c' -1 'x';9223372036854775807 'e' 9223372036854775807 'z';
+texts are merged | merge join | text | 1 ;2 ke;1 key;2 key; | 5 k;1 key;1 key;3 key;2 keys; | 1 'key' 1 'key';1 'key' 1 'key';1 'key' 3 'key';2 'key' 1 'key';2 'key' 1 'key';2 'key' 3 'key';
+pairs of columns are merged | merge join | text number | 1 ;2 ke;1 key;2 key; | 5 k;1 key;1 key;3 key;2 keys; | 1 'key' 1 'key';1 'key' 1 'key';
+a merge with no rows on the left is empty | merge join | number |  | 1 a;2 b; |
+a merge with no rows on the right is empty | merge join | number | 1 a;2 b; |  |
+a merge of no rows is empty | merge join | number |  |  |
+a left input that falls | merge join | number | 3 c;4 d;1 e; | 1 a;2 b; | falls
+a right input that falls | merge join | number | 1 a;2 b; | 3 c;4 d;1 e; | falls
+a right input that falls beside no rows | merge join | number |  | 3 c;4 d;1 e; | falls
+a left input that falls beside no rows | merge join | number | 3 c;4 d;1 e; |  | falls
+a right input that falls behind all that is joined | merge join | number | 1 a;2 b; | 2 y;1 x; | falls";
+
+#[test]
+fn kernels_make_what_is_worked_out(rt: HostRuntime) -> Result<(), Fail> {
+    for line in CASES.lines() {
+        let Some((name, kernel, columns, left, right, wanted)) = parts(line) else {
+            return Err(Fail::new("a line is no case"));
+        };
+        let got = made(rt.alloc(), kernel, columns_of(columns), left, right)?;
+        assert_eq!(rt; got.as_str(), wanted, "{name}");
+    }
     Ok(())
-}
-
-#[test]
-fn columns_are_kept_in_the_order_given(rt: HostRuntime) -> Result<(), Fail> {
-    let alloc = rt.alloc();
-    let two = [(1, "a"), (-2, "")];
-    compare(
-        &rt,
-        alloc,
-        Kernel::Projected,
-        &two,
-        &[1, 0, 1],
-        "'a' 1 'a';'' -2 '';",
-    )?;
-    compare(&rt, alloc, Kernel::Projected, &[], &[1], "")
-}
-
-const UNSORTED: [(i64, &str); 5] = [(2, "b"), (-1, "c"), (2, "a"), (-1, "b"), (i64::MIN, "z")];
-
-const BY_NUMBER: &str = "-9223372036854775808 'z';-1 'c';-1 'b';2 'b';2 'a';";
-
-const BY_BOTH: &str = "2 'a';-1 'b';2 'b';-1 'c';-9223372036854775808 'z';";
-
-#[test]
-fn equal_rows_stay_in_their_order(rt: HostRuntime) -> Result<(), Fail> {
-    let alloc = rt.alloc();
-    compare(&rt, alloc, Kernel::Sorted, &UNSORTED, &[0], BY_NUMBER)?;
-    compare(&rt, alloc, Kernel::Sorted, &UNSORTED, &[1, 0], BY_BOTH)?;
-    compare(&rt, alloc, Kernel::Sorted, &[], &[0], "")
-}
-
-const REPEATED: [(i64, &str); 5] = [(3, "b"), (1, "a"), (3, "b"), (2, "a"), (1, "a")];
-
-#[test]
-fn the_first_of_equal_rows_is_kept(rt: HostRuntime) -> Result<(), Fail> {
-    let alloc = rt.alloc();
-    compare(
-        &rt,
-        alloc,
-        Kernel::Distinct,
-        &REPEATED,
-        &[0, 1],
-        "3 'b';1 'a';2 'a';",
-    )?;
-    compare(&rt, alloc, Kernel::Distinct, &REPEATED, &[1], "'b';'a';")
 }
 
 // What is new in a batch, by some of its columns, as text.
-fn new_in(
-    alloc: Global,
-    seen: &mut Seen,
-    pairs: &[(i64, &str)],
-    columns: &[usize],
-) -> Result<String, AllocError>
+fn new_in(alloc: Global, seen: &mut Seen, batch: &str, columns: &[usize]) -> Result<String, Fail>
     requires { AreColumns 2 columns.now }
 {
-    let batch = Rows::of_table(alloc, table(alloc, pairs)?)?;
+    let batch = rows_of(alloc, batch)?;
     let new = seen.keep_new(&batch, columns)?.gathered(alloc)?;
-    shown(alloc, &new)
+    Ok(shown(alloc, &new)?)
 }
 
-// What is new in each of two batches, by columns of each, as text.
-fn news_of(
-    alloc: Global,
-    first: &[(i64, &str)],
-    columns: &[usize],
-    second: &[(i64, &str)],
-    later: &[usize],
-) -> Result<(String, String), AllocError>
-    requires columns { AreColumns 2 columns.now }
-    requires later { AreColumns 2 later.now }
-{
-    let mut seen = Seen::new(alloc, KeySeed::fixed());
-    let early = new_in(alloc, &mut seen, first, columns)?;
-    let late = new_in(alloc, &mut seen, second, later)?;
-    Ok((early, late))
-}
-
-const AGAIN: [(i64, &str); 4] = [(2, "a"), (4, "b"), (3, "b"), (4, "b")];
+// Of each case: what it shows, the columns of a first batch and of a second one, the batches, and what is new in each, with a `/` between them.
+const BATCHES: &str =
+    "rows of an earlier batch are not new | number text | number text | 3 b;1 a;3 b;2 a;1 a; | 2 a;4 b;3 b;4 b; | 3 'b';1 'a';2 'a';/4 'b';
+numbers of an earlier batch are not new | number | number | 3 b;1 a;3 b;2 a;1 a; | 2 a;4 b;3 b;4 b; | 3;1;2;/4;
+texts of an earlier batch are not new | text | text | 3 b;1 a;3 b;2 a;1 a; | 2 a;4 b;3 b;4 b; | 'b';'a';/
+texts behind numbers are new | number | text | 3 b;1 a;3 b;2 a;1 a; | 2 a;4 b;3 b;4 b; | 3;1;2;/'a';'b';
+numbers behind texts are new | text | number | 3 b;1 a;3 b;2 a;1 a; | 2 a;4 b;3 b;4 b; | 'b';'a';/2;4;3;";
 
 #[test]
-fn rows_of_an_earlier_batch_are_not_new(rt: HostRuntime) -> Result<(), Fail> {
+fn what_was_seen_in_an_earlier_batch_is_not_new(rt: HostRuntime) -> Result<(), Fail> {
     let alloc = rt.alloc();
-    let news = news_of(alloc, &REPEATED, &[0, 1], &AGAIN, &[0, 1])?;
-    assert_eq!(rt; news.0.as_str(), "3 'b';1 'a';2 'a';");
-    assert_eq!(rt; news.1.as_str(), "4 'b';");
-    let numbers = news_of(alloc, &REPEATED, &[0], &AGAIN, &[0])?;
-    assert_eq!(rt; numbers.1.as_str(), "4;");
-    let texts = news_of(alloc, &REPEATED, &[1], &AGAIN, &[1])?;
-    assert_eq!(rt; texts.1.as_str(), "");
-    Ok(())
-}
-
-#[test]
-fn keys_of_another_type_are_new(rt: HostRuntime) -> Result<(), Fail> {
-    let alloc = rt.alloc();
-    let texts = news_of(alloc, &REPEATED, &[0], &AGAIN, &[1])?;
-    assert_eq!(rt; texts.0.as_str(), "3;1;2;");
-    assert_eq!(rt; texts.1.as_str(), "'a';'b';");
-    let numbers = news_of(alloc, &REPEATED, &[1], &AGAIN, &[0])?;
-    assert_eq!(rt; numbers.1.as_str(), "2;4;3;");
-    Ok(())
-}
-
-// The hash join of two tables on the same column of both, as text.
-fn joined(
-    alloc: Global,
-    left: &[(i64, &str)],
-    right: &[(i64, &str)],
-    column: usize,
-) -> Result<String, AllocError>
-    requires { column < 2 }
-{
-    let left = Rows::of_table(alloc, table(alloc, left)?)?;
-    let right = Rows::of_table(alloc, table(alloc, right)?)?;
-    let joined = hash_join(
-        alloc,
-        KeySeed::fixed(),
-        left,
-        &[column],
-        &right,
-        vec![in alloc; column]?,
-    )?;
-    shown(alloc, &joined.gathered(alloc)?)
-}
-
-const LEFT: [(i64, &str); 3] = [(1, "key"), (2, "ke"), (3, "key")];
-
-const RIGHT: [(i64, &str); 4] = [(i64::MAX, "key"), (5, "keys"), (i64::MIN, "key"), (6, "")];
-
-const PAIRS: &str =
-    "1 'key' 9223372036854775807 'key';1 'key' -9223372036854775808 'key';3 'key' 9223372036854775807 'key';3 'key' -9223372036854775808 'key';";
-
-#[test]
-fn equal_keys_are_joined_with_each_other(rt: HostRuntime) -> Result<(), Fail> {
-    let pairs = joined(rt.alloc(), &LEFT, &RIGHT, 1)?;
-    assert_eq!(rt; pairs.as_str(), PAIRS);
-    Ok(())
-}
-
-#[test]
-fn a_join_with_no_rows_is_empty(rt: HostRuntime) -> Result<(), Fail> {
-    let alloc = rt.alloc();
-    let left = joined(alloc, &[], &[(1, "a")], 0)?;
-    assert_eq!(rt; left.as_str(), "");
-    let right = joined(alloc, &[(1, "a")], &[], 0)?;
-    assert_eq!(rt; right.as_str(), "");
+    for line in BATCHES.lines() {
+        let Some((name, columns, later, first, second, wanted)) = parts(line) else {
+            return Err(Fail::new("a line is no case"));
+        };
+        let mut seen = Seen::new(alloc, KeySeed::fixed());
+        let early = new_in(alloc, &mut seen, first, columns_of(columns))?;
+        let late = new_in(alloc, &mut seen, second, columns_of(later))?;
+        let got = format!(in alloc; "{early}/{late}")?;
+        assert_eq!(rt; got.as_str(), wanted, "{name}");
+    }
     Ok(())
 }
 
 // How many rows the first probe of a join joins, and how many left rows it leaves.
-fn probed(alloc: Global, most: usize) -> Result<(usize, usize), AllocError> {
-    let left = Rows::of_table(alloc, table(alloc, &LEFT)?)?;
-    let right = Rows::of_table(alloc, table(alloc, &RIGHT)?)?;
-    let build = Build::of(alloc, KeySeed::fixed(), &right, vec![in alloc; 1]?)?;
+fn probed(alloc: Global, most: usize) -> Result<(usize, usize), Fail> {
+    let left = rows_of(alloc, "1 key;2 ke;3 key;")?;
+    let right = rows_of(
+        alloc,
+        "9223372036854775807 key;5 keys;-9223372036854775808 key;6 ;",
+    )?;
+    let mut build = Build::of(alloc, KeySeed::fixed(), &right, vec![in alloc; 1]?)?;
     let (joined, rest) = build.probe(left, &[1], most)?;
     Ok((joined.len(), rest.len()))
 }
 
 #[test]
 fn a_probe_ends_at_most_rows(rt: HostRuntime) -> Result<(), Fail> {
-    let alloc = rt.alloc();
-    assert_eq!(rt; probed(alloc, 0)?, (2, 2));
-    assert_eq!(rt; probed(alloc, 2)?, (2, 2));
-    assert_eq!(rt; probed(alloc, 3)?, (4, 0));
-    assert_eq!(rt; probed(alloc, 5)?, (4, 0));
+    for (most, joined, rest) in [(0, 2, 2), (2, 2, 2), (3, 4, 0), (5, 4, 0)] {
+        assert_eq!(rt; probed(rt.alloc(), most)?, (joined, rest), "{most}");
+    }
     Ok(())
 }

@@ -63,55 +63,33 @@ fn comes_to(alloc: Global, root: &str) -> Result<String, Fail> {
     Ok(told(alloc, &plan, &database)?)
 }
 
-// Roots of plans, and the rows that each comes to.
-const PLANS: [(&str, &str); 8] = [
-    ("T", "0 'b' 5;1 'b' 7;2 'a' -2;3 'c' 7;"),
-    (
-        r#"{"op":"select","where":[{"column":"v","op":"=","value":7}],"input":T}"#,
-        "1 'b' 7;3 'c' 7;",
-    ),
-    (
-        r#"{"op":"project","columns":["v",{"column":"id","as":"n"}],"input":T}"#,
-        "5 0;7 1;-2 2;7 3;",
-    ),
-    (
-        r#"{"op":"distinct","columns":["k"],"input":T}"#,
-        "'b';'a';'c';",
-    ),
-    (
-        r#"{"op":"sort","columns":["k"],"input":T}"#,
-        "2 'a' -2;0 'b' 5;1 'b' 7;3 'c' 7;",
-    ),
-    (
-        r#"{"op":"union","left":T,"right":T}"#,
-        "0 'b' 5;1 'b' 7;2 'a' -2;3 'c' 7;0 'b' 5;1 'b' 7;2 'a' -2;3 'c' 7;",
-    ),
-    (
-        r#"{"op":"join","method":"hash","on":[["k","u.k"]],"left":T,"right":U}"#,
-        "0 'b' 5 0 'b' 5;0 'b' 5 1 'b' 7;1 'b' 7 0 'b' 5;1 'b' 7 1 'b' 7;2 'a' -2 2 'a' -2;3 'c' 7 3 'c' 7;",
-    ),
-    (
-        r#"{"op":"join","method":"merge","on":[["v","u.v"]],"left":T,"right":U}"#,
-        "0 'b' 5 0 'b' 5;1 'b' 7 1 'b' 7;1 'b' 7 3 'c' 7;2 'a' -2 2 'a' -2;3 'c' 7 1 'b' 7;3 'c' 7 3 'c' 7;",
-    ),
-];
+// Of each case: what it shows, the root of a plan, and the rows that it comes to or why it is refused.
+const CASES: &str = r#"a scan | T | 0 'b' 5;1 'b' 7;2 'a' -2;3 'c' 7;
+a selection | {"op":"select","where":[{"column":"v","op":"=","value":7}],"input":T} | 1 'b' 7;3 'c' 7;
+a projection | {"op":"project","columns":["v",{"column":"id","as":"n"}],"input":T} | 5 0;7 1;-2 2;7 3;
+distinct rows | {"op":"distinct","columns":["k"],"input":T} | 'b';'a';'c';
+a sort | {"op":"sort","columns":["k"],"input":T} | 2 'a' -2;0 'b' 5;1 'b' 7;3 'c' 7;
+a union | {"op":"union","left":T,"right":T} | 0 'b' 5;1 'b' 7;2 'a' -2;3 'c' 7;0 'b' 5;1 'b' 7;2 'a' -2;3 'c' 7;
+a hash join | {"op":"join","method":"hash","on":[["k","u.k"]],"left":T,"right":U} | 0 'b' 5 0 'b' 5;0 'b' 5 1 'b' 7;1 'b' 7 0 'b' 5;1 'b' 7 1 'b' 7;2 'a' -2 2 'a' -2;3 'c' 7 3 'c' 7;
+a merge join, whose inputs fall | {"op":"join","method":"merge","on":[["v","u.v"]],"left":T,"right":U} | 0 'b' 5 0 'b' 5;1 'b' 7 1 'b' 7;1 'b' 7 3 'c' 7;2 'a' -2 2 'a' -2;3 'c' 7 1 'b' 7;3 'c' 7 3 'c' 7;
+the first exchange is refused | {"op":"union","left":T,"right":{"op":"exchange","kind":"gather","input":{"op":"exchange","kind":"gather","input":T}}} | X13 HasExchange node=2"#;
 
-#[test]
-fn plans_have_their_rows(rt: HostRuntime) -> Result<(), Fail> {
-    for (root, rows) in PLANS {
-        let got = comes_to(rt.alloc(), root)?;
-        assert_eq!(rt; got.as_str(), rows);
-    }
-    Ok(())
+// The parts of a line.
+fn parts(line: &str) -> Option<(&str, &str, &str)> {
+    let (name, rest) = line.split_once(" | ")?;
+    let (root, wanted) = rest.split_once(" | ")?;
+    Some((name, root, wanted))
 }
 
-const WITH_EXCHANGES: &str =
-    r#"{"op":"union","left":T,"right":{"op":"exchange","kind":"gather","input":{"op":"exchange","kind":"gather","input":T}}}"#;
-
 #[test]
-fn the_first_exchange_is_refused(rt: HostRuntime) -> Result<(), Fail> {
-    let line = comes_to(rt.alloc(), WITH_EXCHANGES)?;
-    assert_eq!(rt; line.as_str(), "X13 HasExchange node=2");
+fn plans_have_their_rows_or_are_refused(rt: HostRuntime) -> Result<(), Fail> {
+    for line in CASES.lines() {
+        let Some((name, root, wanted)) = parts(line) else {
+            return Err(Fail::new("a line is no case"));
+        };
+        let got = comes_to(rt.alloc(), root)?;
+        assert_eq!(rt; got.as_str(), wanted, "{name}");
+    }
     Ok(())
 }
 

@@ -1,29 +1,17 @@
 //! The ends of exchanges: what is sent, what is taken, and who is a stranger.
 
-ghost use Rattle.std.specs.Prelude.{◌≡◌, ◌<◌, [], ◌∷◌, length, IfOk};
-ghost use Rattle.vx_values.specs.declared.value.ColType.{ColType as ExchangeKind};
+ghost use Rattle.std.specs.Prelude.{◌≡◌};
 ghost use Rattle.vx_exchange.specs.Sender.{sender_is_open};
 
+use crate::batches::numbers;
 use crate::routers::ToFirst;
-use std::alloc::{AllocError, Global};
 use std::process::Abort;
 use std::test::Fail;
 use vx_exchange::{Collector, Deal, Receiver, Sender, Sends};
 use vx_ops::{Code, Fault, Got, Polled, Source, Want};
 use vx_ports::{Body, Ending, Packet};
-use vx_rows::{ColType, Table, Value};
+use vx_rows::ColType;
 use vx_views::Rows;
-
-// Rows of one number each: 1, 2, and so on.
-fn numbers(alloc: Global, n: i64) -> Result<Rows, AllocError>
-    ensures { IfOk result (λ rows. rows.types ≡ ExchangeKind.Int ∷ []) }
-{
-    let mut rows = Table::new(alloc, &[ColType::Int])?;
-    for i in 0..n {
-        rows.push(&[Value::Int(i + 1)])?;
-    }
-    Ok(Rows::of_table(alloc, rows)?)
-}
 
 // A receiver's turn with a packet, or with none.
 fn turn(rt: &impl Abort, receiver: &mut Receiver, packet: Option<Packet>) -> Polled {

@@ -1,10 +1,10 @@
 //! What the sending end of each kind of exchange sends, by the definitions of the kinds.
 
-ghost use Rattle.std.specs.Prelude.{◌≡◌, ◌≤◌, ◌∷◌, ℕ, [], true, IfOk};
-ghost use Rattle.vx_values.specs.declared.value.ColType.{ColType as rust_type};
+ghost use Rattle.std.specs.Prelude.{◌≡◌, ◌≤◌, ℕ, true, IfOk};
 ghost use Rattle.vx_rows.specs.View.{AreColumns};
 ghost use Rattle.vx_exchange.specs.Lanes.{serves, columns_of};
 
+use crate::batches::numbers;
 use std::alloc::{AllocError, Global};
 use std::process::Abort;
 use std::test::Fail;
@@ -12,20 +12,27 @@ use vx_exchange::{ByteRouter, Deal, KeyRoute, Ranges, Router, Sender, Sends};
 use vx_ops::Polled;
 use vx_plan_nodes::Size;
 use vx_ports::{Body, Ending};
-use vx_rows::{Cell, ColType, Table, Value};
+use vx_rows::{Cell, ColType, Value};
 use vx_views::Rows;
 
-// How many consumers, how large packets are, and how many rows come.
-const CASES: [(u32, usize, u32); 8] = [
-    (1, 1, 0),
-    (1, 4096, 5),
-    (2, 1, 1),
-    (2, 4096, 130),
-    (5, 1, 130),
-    (5, 4096, 0),
-    (64, 1, 130),
-    (64, 4096, 1),
-];
+// How many consumers there are, how large packets are, and how many rows come, a case on each line.
+const CASES: &str = "1 1 0
+1 4096 5
+2 1 1
+2 4096 130
+5 1 130
+5 4096 0
+64 1 130
+64 4096 1";
+
+// The three numbers of a line.
+fn three_numbers(line: &str) -> Option<(u32, u32, u32)> {
+    let mut words = line.split_whitespace();
+    let first = words.next()?.parse::<u32>().ok()?;
+    let second = words.next()?.parse::<u32>().ok()?;
+    let third = words.next()?.parse::<u32>().ok()?;
+    Some((first, second, third))
+}
 
 // What came of a sending end: numbers with their consumers, the largest packet of rows, and how many consumers were sent Last.
 #[derive(Drop)]
@@ -62,17 +69,6 @@ impl Sent {
         }
         Ok(())
     }
-}
-
-// Rows of one number each: 0, 1, and so on.
-fn numbers(alloc: Global, count: u32) -> Result<Rows, AllocError>
-    ensures { IfOk result (λ rows. rows.types ≡ rust_type.Int ∷ []) }
-{
-    let mut rows = Table::new(alloc, &[ColType::Int])?;
-    for i in 0..i64::from(count) {
-        rows.push(&[Value::Int(i)])?;
-    }
-    Ok(Rows::of_table(alloc, rows)?)
 }
 
 // What comes of the numbers 0, 1, and so on, which are accepted in two parts.
@@ -112,116 +108,84 @@ fn run_sender(
     Ok(found)
 }
 
-// Whether the numbers of each consumer rise, one consumer behind the other.
-fn rise(rows: &[(u32, i64)]) -> bool {
-    for i in 1..rows.len() {
-        if rows[i - 1] >= rows[i] {
-            return false;
-        }
-    }
-    true
+// What rows are sent by.
+#[derive(Clone, Copy)]
+enum Way {
+    // Round robin: the consumers take turns.
+    Turns,
+    // Broadcast: each consumer is sent all rows.
+    Each,
+    // Gather or concat: the one consumer is sent all rows.
+    One,
+    // The route `h`, of which the router is asked.
+    Hash,
+    // The bounds 10, 20 and 30: as many of them as are not above a number, but no more than the last consumer.
+    Range,
 }
 
-// Whether each number came at the consumer that is its remainder.
-fn are_in_turn(rows: &[(u32, i64)], consumers: u32) -> bool
+// Whether a number of so many came at the right one of so many consumers.
+fn is_right(way: Way, number: i64, count: u32, consumer: u32, consumers: u32) -> bool
     requires { 1 ≤ consumers }
 {
-    for (consumer, number) in rows {
-        if number.rem_euclid(i64::from(consumers)) != i64::from(*consumer) {
-            return false;
-        }
+    if number < 0 || number >= i64::from(count) || consumer >= consumers {
+        return false;
     }
-    true
+    let last = i64::from(consumers - 1);
+    match way {
+        Way::Turns => number.rem_euclid(i64::from(consumers)) == i64::from(consumer),
+        Way::Each => true,
+        Way::One => consumer == 0,
+        Way::Hash => {
+            let key = [Value::Int(number)];
+            ByteRouter.route("h", &key, consumers) == consumer
+        }
+        Way::Range => (number / 10).min(3).min(last) == i64::from(consumer),
+    }
 }
 
-// Whether all numbers below a count came at each consumer.
-fn are_at_each(rows: &[(u32, i64)], count: u32) -> bool {
-    if count == 0 {
-        return rows.is_empty();
-    }
+// Whether each number came at the right consumer, once, those of each consumer rising, one consumer behind the other.
+fn are_right(way: Way, rows: &[(u32, i64)], count: u32, consumers: u32) -> bool
+    requires { 1 ≤ consumers }
+{
     for i in 0..rows.len() {
+        if i > 0 && rows[i - 1] >= rows[i] {
+            return false;
+        }
         let (consumer, number) = rows[i];
-        if consumer as usize != i / count as usize || number != (i % count as usize) as i64 {
+        if !is_right(way, number, count, consumer, consumers) {
             return false;
         }
     }
     true
 }
 
-// Whether each number came at the consumer that the router names for the route `h`.
-fn are_hashed(alloc: Global, rows: &[(u32, i64)], consumers: u32) -> Result<bool, AllocError>
-    requires { 1 ≤ consumers }
+// Compares what is sent in one way with what its definition says: no number that is not right, and as many as there should be.
+fn compare(
+    rt: &impl Abort,
+    alloc: Global,
+    way: Way,
+    deal: Deal,
+    consumers: u32,
+    size: usize,
+    count: u32,
+) -> Result<(), Fail>
+    requires served { serves deal consumers ≡ true }
+    requires columns { AreColumns 1 (columns_of deal) }
+    requires consumers { 1 ≤ consumers }
+    requires some { 1 ≤ size }
+    requires few { size ≤ 4096 }
 {
-    for (consumer, number) in rows {
-        let key = [Value::Int(*number)];
-        if ByteRouter.route("h", &key, consumers) != *consumer {
-            return Ok(false);
-        }
-    }
-    Ok(true)
-}
-
-// Whether each number came at the consumer that is how many of 10, 20 and 30 are not above it, or else at the last one.
-fn are_in_ranges(rows: &[(u32, i64)], consumers: u32) -> bool
-    requires { 1 ≤ consumers }
-{
-    for (consumer, number) in rows {
-        let not_above = (*number / 10).min(3);
-        if i64::from(*consumer) != not_above.min(i64::from(consumers - 1)) {
-            return false;
-        }
-    }
-    true
-}
-
-#[test]
-fn a_round_robin_takes_turns(rt: HostRuntime) -> Result<(), Fail> {
-    for (consumers, size, count) in CASES {
-        assert!(rt; 1 <= consumers && 1 <= size && size <= 4096);
-        let found = run_sender(
-            &rt,
-            rt.alloc(),
-            Deal::Round(Size::One),
-            consumers,
-            size,
-            count,
-        )?;
-        assert_eq!(rt; found.rows.len(), count as usize);
-        assert!(rt; rise(found.rows.as_slice()));
-        assert!(rt; are_in_turn(found.rows.as_slice(), consumers));
-    }
-    Ok(())
-}
-
-#[test]
-fn a_broadcast_sends_all_rows_to_each(rt: HostRuntime) -> Result<(), Fail> {
-    for (consumers, size, count) in CASES {
-        assert!(rt; 1 <= consumers && 1 <= size && size <= 4096);
-        let found = run_sender(
-            &rt,
-            rt.alloc(),
-            Deal::Broadcast(Size::One),
-            consumers,
-            size,
-            count,
-        )?;
-        assert_eq!(rt; found.rows.len() / consumers as usize, count as usize);
-        assert!(rt; are_at_each(found.rows.as_slice(), count));
-    }
-    Ok(())
-}
-
-#[test]
-fn a_gather_and_a_concat_send_all_rows_to_one(rt: HostRuntime) -> Result<(), Fail> {
-    for (_consumers, size, count) in CASES {
-        assert!(rt; 1 <= size && size <= 4096);
-        let gathered = run_sender(&rt, rt.alloc(), Deal::Gather, 1, size, count)?;
-        assert_eq!(rt; gathered.rows.len(), count as usize);
-        assert!(rt; are_at_each(gathered.rows.as_slice(), count));
-        let joined = run_sender(&rt, rt.alloc(), Deal::Concat, 1, size, count)?;
-        assert_eq!(rt; joined.rows.len(), count as usize);
-        assert!(rt; are_at_each(joined.rows.as_slice(), count));
-    }
+    let found = run_sender(rt, alloc, deal, consumers, size, count)?;
+    let times = if matches!(way, Way::Each) {
+        consumers
+    } else {
+        1
+    };
+    assert_eq!(rt;
+        found.rows.len().checked_div(times as usize),
+        Some(count as usize)
+    );
+    assert!(rt; are_right(way, found.rows.as_slice(), count, consumers));
     Ok(())
 }
 
@@ -235,19 +199,6 @@ fn by_hash(alloc: Global) -> Result<Deal, AllocError>
     Ok(Deal::Route(Size::One, KeyRoute::Hash(name, columns)))
 }
 
-#[test]
-fn a_hash_asks_the_router(rt: HostRuntime) -> Result<(), Fail> {
-    for (consumers, size, count) in CASES {
-        assert!(rt; 1 <= consumers && 1 <= size && size <= 4096);
-        let deal = by_hash(rt.alloc())?;
-        let found = run_sender(&rt, rt.alloc(), deal, consumers, size, count)?;
-        assert_eq!(rt; found.rows.len(), count as usize);
-        assert!(rt; rise(found.rows.as_slice()));
-        assert!(rt; are_hashed(rt.alloc(), found.rows.as_slice(), consumers)?);
-    }
-    Ok(())
-}
-
 // The deal by the bounds 10, 20 and 30 on the one column.
 fn by_range(alloc: Global) -> Result<Deal, AllocError>
     ensures served { IfOk result (λ d. (n : ℕ) → 1 ≤ n → serves d n ≡ true) }
@@ -257,55 +208,73 @@ fn by_range(alloc: Global) -> Result<Deal, AllocError>
     Ok(Deal::Route(Size::One, KeyRoute::Range(0, Ranges::new(bounds), 0)))
 }
 
+// Compares each kind of exchange at one number of consumers, one size of packets and one number of rows.
+fn compare_kinds(
+    rt: &impl Abort,
+    alloc: Global,
+    consumers: u32,
+    size: usize,
+    count: u32,
+) -> Result<(), Fail>
+    requires consumers { 1 ≤ consumers }
+    requires some { 1 ≤ size }
+    requires few { size ≤ 4096 }
+{
+    let turns = Deal::Round(Size::One);
+    compare(rt, alloc, Way::Turns, turns, consumers, size, count)?;
+    let each = Deal::Broadcast(Size::One);
+    compare(rt, alloc, Way::Each, each, consumers, size, count)?;
+    compare(rt, alloc, Way::One, Deal::Gather, 1, size, count)?;
+    compare(rt, alloc, Way::One, Deal::Concat, 1, size, count)?;
+    let hash = by_hash(alloc)?;
+    compare(rt, alloc, Way::Hash, hash, consumers, size, count)?;
+    let range = by_range(alloc)?;
+    compare(rt, alloc, Way::Range, range, consumers, size, count)
+}
+
 #[test]
-fn a_range_counts_the_bounds_below(rt: HostRuntime) -> Result<(), Fail> {
-    for (consumers, size, count) in CASES {
+fn each_kind_sends_each_row_where_it_says(rt: HostRuntime) -> Result<(), Fail> {
+    for line in CASES.lines() {
+        let Some((consumers, size, count)) = three_numbers(line) else {
+            return Err(Fail::new("a line is no case"));
+        };
         assert!(rt; 1 <= consumers && 1 <= size && size <= 4096);
-        let deal = by_range(rt.alloc())?;
-        let found = run_sender(&rt, rt.alloc(), deal, consumers, size, count)?;
-        assert_eq!(rt; found.rows.len(), count as usize);
-        assert!(rt; rise(found.rows.as_slice()));
-        assert!(rt; are_in_ranges(found.rows.as_slice(), consumers));
+        compare_kinds(&rt, rt.alloc(), consumers, size as usize, count)?;
     }
     Ok(())
 }
 
-// Numbers, how many consumers there are, and the consumer of each by the bounds 2 and 10.
-const IN_RANGES: [(i64, u32, u32); 9] = [
-    (0, 2, 0),
-    (1, 2, 0),
-    (2, 2, 1),
-    (3, 2, 1),
-    (10, 2, 1),
-    (1, 3, 0),
-    (2, 3, 1),
-    (9, 3, 1),
-    (10, 3, 2),
-];
+// Numbers, how many consumers there are, and the consumer of each by the bounds 2 and 10: a case on each line.
+const IN_RANGES: &str = "0 2 0
+1 2 0
+2 2 1
+3 2 1
+10 2 1
+1 3 0
+2 3 1
+9 3 1
+10 3 2";
 
 #[test]
 fn a_bound_is_the_first_value_of_its_range(rt: HostRuntime) -> Result<(), Fail> {
     let bounds = vec![in rt.alloc(); Value::Int(2), Value::Int(10)]?;
     let ranges = Ranges::new(bounds);
-    for (number, consumers, consumer) in IN_RANGES {
+    for line in IN_RANGES.lines() {
+        let Some((number, consumers, wanted)) = three_numbers(line) else {
+            return Err(Fail::new("a line is no case"));
+        };
         assert!(rt; 1 <= consumers);
-        assert_eq!(rt;
-            ranges.consumer(Cell::Int(number), consumers),
-            consumer,
-            "{number}"
-        );
+        let consumer = ranges.consumer(Cell::Int(i64::from(number)), consumers);
+        assert_eq!(rt; consumer, wanted, "{line}");
     }
     Ok(())
 }
 
 #[test]
 fn the_byte_router_sends_three_keys_apart(rt: HostRuntime) -> Result<(), Fail> {
-    let alloc = rt.alloc();
-    let a = [Value::Text(String::from_str(alloc, "a")?)];
-    let b = [Value::Text(String::from_str(alloc, "b")?)];
-    let c = [Value::Text(String::from_str(alloc, "c")?)];
-    assert_eq!(rt; ByteRouter.route("h", &a, 3), 0);
-    assert_eq!(rt; ByteRouter.route("h", &b, 3), 1);
-    assert_eq!(rt; ByteRouter.route("h", &c, 3), 2);
+    for (consumer, text) in [(0, "a"), (1, "b"), (2, "c")] {
+        let key = [Value::Text(String::from_str(rt.alloc(), text)?)];
+        assert_eq!(rt; ByteRouter.route("h", &key, 3), consumer, "{text}");
+    }
     Ok(())
 }
