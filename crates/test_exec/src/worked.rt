@@ -4,8 +4,9 @@
 use std::alloc::{AllocError, Global};
 use std::test::Fail;
 use test_runs::{
-    Case, Draws, GROUPED, GROUPED_ROWS, OPERATOR_PLANS, ROWS_OF_D, ROWS_OF_T, SUM_PLANS, ToFirst,
-    WORKED_PLANS, WorkedPlan, agrees, by_rounds, by_steps, case_of, serially, setup_of,
+    Case, Draws, GROUPED, GROUPED_ROWS, JOIN_PLANS, OPERATOR_JOINS, OPERATOR_PLANS, ROWS_OF_D,
+    ROWS_OF_T, SUM_PLANS, ToFirst, WORKED_PLANS, WorkedPlan, agrees, by_rounds, by_steps, case_of,
+    serially, setup_of,
 };
 use vx_exchange::ByteRouter;
 use vx_exec::Setup;
@@ -70,7 +71,7 @@ fn wrong_by_schedules(
     Ok(wrong)
 }
 
-// The first of these plans that comes to other rows in some way.
+// The first of these plans that comes to other rows in some way. The tables are tests of their own, since a test has a minute.
 fn first_wrong(alloc: Global, plans: &[WorkedPlan]) -> Result<Option<&'static str>, Fail> {
     for (name, document, rows_of_t, rows_of_d, groups, rows) in plans {
         let case = case_of(alloc, document, rows_of_t, rows_of_d)?;
@@ -90,6 +91,12 @@ fn worked_plans_come_to_their_rows(rt: HostRuntime) -> Result<(), Fail> {
 }
 
 #[test]
+fn joins_come_to_their_rows(rt: HostRuntime) -> Result<(), Fail> {
+    assert_eq!(rt; first_wrong(rt.alloc(), &JOIN_PLANS)?, None);
+    Ok(())
+}
+
+#[test]
 fn sums_come_to_their_rows_or_overflow(rt: HostRuntime) -> Result<(), Fail> {
     assert_eq!(rt; first_wrong(rt.alloc(), &SUM_PLANS)?, None);
     Ok(())
@@ -98,6 +105,12 @@ fn sums_come_to_their_rows_or_overflow(rt: HostRuntime) -> Result<(), Fail> {
 #[test]
 fn operators_come_to_their_serial_rows(rt: HostRuntime) -> Result<(), Fail> {
     assert_eq!(rt; first_wrong(rt.alloc(), &OPERATOR_PLANS)?, None);
+    Ok(())
+}
+
+#[test]
+fn operators_that_join_come_to_their_serial_rows(rt: HostRuntime) -> Result<(), Fail> {
+    assert_eq!(rt; first_wrong(rt.alloc(), &OPERATOR_JOINS)?, None);
     Ok(())
 }
 

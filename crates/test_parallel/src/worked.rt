@@ -8,8 +8,8 @@ use std::sync::Wait;
 use std::test::Fail;
 use std::thread::Threads;
 use test_runs::{
-    GROUPED, GROUPED_ROWS, OPERATOR_PLANS, ROWS_OF_D, ROWS_OF_T, SUM_PLANS, ToFirst, WORKED_PLANS,
-    WorkedPlan, case_of, setup_of,
+    GROUPED, GROUPED_ROWS, JOIN_PLANS, OPERATOR_JOINS, OPERATOR_PLANS, ROWS_OF_D, ROWS_OF_T,
+    SUM_PLANS, ToFirst, WORKED_PLANS, WorkedPlan, case_of, setup_of,
 };
 use vx_exchange::ByteRouter;
 use vx_exec::Setup;
@@ -28,7 +28,13 @@ const SETUPS: [(u32, u32, u32, u32); 6] = [
 ];
 
 // The plans that are run.
-const PLANS: [&[WorkedPlan]; 3] = [&WORKED_PLANS, &SUM_PLANS, &OPERATOR_PLANS];
+const PLANS: [&[WorkedPlan]; 5] = [
+    &WORKED_PLANS,
+    &JOIN_PLANS,
+    &SUM_PLANS,
+    &OPERATOR_PLANS,
+    &OPERATOR_JOINS,
+];
 
 // The first of these plans that comes to other rows in some run with a setup.
 fn first_wrong<T: Threads + Wait + Sync>(

@@ -58,8 +58,8 @@ pub type WorkedPlan = (
     &'static str,
 );
 
-/// Plans that select, merge and join.
-pub const WORKED_PLANS: [WorkedPlan; 15] = [
+/// Plans that select, merge and count.
+pub const WORKED_PLANS: [WorkedPlan; 11] = [
     (
         "a scan by one worker",
         r#"{"root":T_WHOLE,"total":true}"#,
@@ -102,6 +102,42 @@ pub const WORKED_PLANS: [WorkedPlan; 15] = [
         SELECTED_ROWS,
     ),
     ("no rows that are merged", MERGED, "", ROWS_OF_D, 1, ""),
+    (
+        "a count by one worker of what others send",
+        COUNTED,
+        ROWS_OF_T,
+        ROWS_OF_D,
+        1,
+        "4;",
+    ),
+    (
+        "a count of nothing that others send",
+        COUNTED,
+        "",
+        ROWS_OF_D,
+        1,
+        "",
+    ),
+    (
+        "a count by one worker",
+        COUNTED_BY_ONE,
+        ROWS_OF_T,
+        ROWS_OF_D,
+        0,
+        "4;",
+    ),
+    (
+        "a count of nothing by one worker",
+        COUNTED_BY_ONE,
+        "",
+        ROWS_OF_D,
+        0,
+        "",
+    ),
+];
+
+/// Plans that join, and one whose streams stand one behind the other.
+pub const JOIN_PLANS: [WorkedPlan; 8] = [
     (
         "a join with rows that each worker has",
         JOINED,
@@ -161,8 +197,8 @@ pub const WORKED_PLANS: [WorkedPlan; 15] = [
     ),
 ];
 
-/// Plans that sum and count.
-pub const SUM_PLANS: [WorkedPlan; 12] = [
+/// Plans that send rows by a key and group them.
+pub const SUM_PLANS: [WorkedPlan; 8] = [
     (
         "sums by a key",
         GROUPED,
@@ -219,37 +255,5 @@ pub const SUM_PLANS: [WorkedPlan; 12] = [
         ROWS_OF_D,
         2,
         "'a' 2;'b' 1;'c' 1;",
-    ),
-    (
-        "a count by one worker of what others send",
-        COUNTED,
-        ROWS_OF_T,
-        ROWS_OF_D,
-        1,
-        "4;",
-    ),
-    (
-        "a count of nothing that others send",
-        COUNTED,
-        "",
-        ROWS_OF_D,
-        1,
-        "",
-    ),
-    (
-        "a count by one worker",
-        COUNTED_BY_ONE,
-        ROWS_OF_T,
-        ROWS_OF_D,
-        0,
-        "4;",
-    ),
-    (
-        "a count of nothing by one worker",
-        COUNTED_BY_ONE,
-        "",
-        ROWS_OF_D,
-        0,
-        "",
     ),
 ];
