@@ -1,43 +1,28 @@
 //! What no clause says of counts: each row, morsel and packet of a run is counted once, under the node and the worker that it
 //! passed.
 
-use crate::plans::{SELECTED, ToFirst, checked, filled, of_workers};
 use std::alloc::Global;
 use std::test::Fail;
+use test_runs::{Case, ROWS_OF_D, ROWS_OF_T, SELECTED, case_of, setup_of};
+use vx_exchange::ByteRouter;
 use vx_exec::{Ran, RunCounts, WorkerCounts, run_rounds_counted};
 
-// What the workers of a run counted at a node, together: rows in, rows out, morsels, packets taken; and how many workers have the
-// node.
-#[derive(Clone, Copy, Debug, PartialEq, Eq)]
-struct Total {
-    left: u64,
-    gave: u64,
-    morsels: u64,
-    packets: u64,
-    workers: u64,
-}
-
-// The total of a node.
-fn total_at(workers: &[WorkerCounts], node: u32) -> Total {
-    let mut total = Total {
-        left: 0,
-        gave: 0,
-        morsels: 0,
-        packets: 0,
-        workers: 0,
-    };
+// What the workers of a run counted at a node, together: rows that came from the left, rows given, morsels, packets taken; and
+// how many workers have the node.
+fn totals_at(workers: &[WorkerCounts], node: u32) -> [u64; 5] {
+    let [mut left, mut gave, mut morsels, mut packets, mut count] = [0u64; 5];
     for worker in workers {
         for line in worker.nodes.as_slice() {
             if line.node == node {
-                total.left = total.left.saturating_add(line.counts.left);
-                total.gave = total.gave.saturating_add(line.counts.gave);
-                total.morsels = total.morsels.saturating_add(line.counts.morsels);
-                total.packets = total.packets.saturating_add(line.counts.packets);
-                total.workers = total.workers.saturating_add(1);
+                left = left.saturating_add(line.counts.left);
+                gave = gave.saturating_add(line.counts.gave);
+                morsels = morsels.saturating_add(line.counts.morsels);
+                packets = packets.saturating_add(line.counts.packets);
+                count = count.saturating_add(1);
             }
         }
     }
-    total
+    [left, gave, morsels, packets, count]
 }
 
 // The packets that all workers put, and the steps in which some worker waited.
@@ -51,103 +36,46 @@ fn steps_of(workers: &[WorkerCounts]) -> (u64, u64) {
     (puts, waits)
 }
 
-// The counts of a run of the plan with so many workers that scan, row by row, in so many rounds; and whether it has rows.
-fn counted(alloc: Global, workers: u32, limit: u64) -> Result<(RunCounts, bool), Fail> {
-    let plan = checked(alloc, SELECTED)?;
-    let database = filled(alloc)?;
-    let setup = of_workers(alloc, workers)?;
+// The counts of a run with three workers that scan, row by row, in so many rounds; and whether it has rows.
+fn counted(alloc: Global, case: &Case, limit: u64) -> Result<(RunCounts, bool), Fail> {
+    let setup = setup_of(alloc, 3, 1, 1, 4)?;
     let mut counts = RunCounts::new(alloc);
     let ran = run_rounds_counted(
         alloc,
-        &plan,
-        &database,
+        &case.plan,
+        &case.database,
         &setup,
-        &ToFirst,
+        &ByteRouter,
         limit,
         &mut counts,
     )?;
     Ok((counts, matches!(ran, Ran::Done(_))))
 }
 
-#[test]
-fn each_row_is_counted_once(rt: HostRuntime) -> Result<(), Fail> {
-    let (counts, is_done) = counted(rt.alloc(), 3, 1000)?;
-    assert!(rt; is_done);
-    let workers = counts.workers();
-    assert_eq!(rt; workers.len(), 4);
-    // Four rows in morsels of one row, of which two are selected. Each comes in a packet of its own, and each producer sends Last.
-    assert_eq!(rt;
-        total_at(workers, 2),
-        Total {
-            left: 4,
-            gave: 4,
-            morsels: 4,
-            packets: 0,
-            workers: 3
-        }
-    );
-    assert_eq!(rt;
-        total_at(workers, 1),
-        Total {
-            left: 4,
-            gave: 2,
-            morsels: 0,
-            packets: 0,
-            workers: 3
-        }
-    );
-    assert_eq!(rt;
-        total_at(workers, 0),
-        Total {
-            left: 0,
-            gave: 2,
-            morsels: 0,
-            packets: 5,
-            workers: 1
-        }
-    );
-    assert_eq!(rt;
-        total_at(workers, 3),
-        Total {
-            left: 0,
-            gave: 0,
-            morsels: 0,
-            packets: 0,
-            workers: 0
-        }
-    );
-    let (puts, waits) = steps_of(workers);
-    assert_eq!(rt; puts, 5);
-    assert!(rt; waits > 0);
-    Ok(())
-}
+// How many rounds there may be, whether the run has rows then, a node, and what all workers counted there.
+const EXPECTED: [(u64, bool, u32, [u64; 5]); 6] = [
+    // Four rows in morsels of one row, of which two are selected. Each comes in a packet of its own, and each producer sends
+    // Last.
+    (1000, true, 2, [4, 4, 4, 0, 3]),
+    (1000, true, 1, [4, 2, 0, 0, 3]),
+    (1000, true, 0, [0, 2, 0, 5, 1]),
+    (1000, true, 3, [0, 0, 0, 0, 0]),
+    // In the first round each producer drew a morsel, and the root's worker found no packet.
+    (1, false, 2, [3, 3, 3, 0, 3]),
+    (1, false, 0, [0, 0, 0, 0, 1]),
+];
 
 #[test]
-fn an_unfinished_run_is_counted(rt: HostRuntime) -> Result<(), Fail> {
-    let (counts, is_done) = counted(rt.alloc(), 3, 1)?;
-    assert!(rt; !is_done);
-    let workers = counts.workers();
-    // In the first round each producer drew a morsel, and the root's worker found no packet.
-    assert_eq!(rt;
-        total_at(workers, 2),
-        Total {
-            left: 3,
-            gave: 3,
-            morsels: 3,
-            packets: 0,
-            workers: 3
-        }
-    );
-    assert_eq!(rt;
-        total_at(workers, 0),
-        Total {
-            left: 0,
-            gave: 0,
-            morsels: 0,
-            packets: 0,
-            workers: 1
-        }
-    );
-    assert_eq!(rt; steps_of(workers), (0, 1));
+fn each_row_is_counted_once(rt: HostRuntime) -> Result<(), Fail> {
+    let case = case_of(rt.alloc(), SELECTED, ROWS_OF_T, ROWS_OF_D)?;
+    for (limit, has_rows, node, totals) in EXPECTED {
+        let (counts, is_done) = counted(rt.alloc(), &case, limit)?;
+        assert_eq!(rt; is_done, has_rows, "{limit}");
+        assert_eq!(rt; counts.workers().len(), 4);
+        assert_eq!(rt; totals_at(counts.workers(), node), totals, "{limit} {node}");
+        let (puts, waits) = steps_of(counts.workers());
+        assert_eq!(rt; puts, if has_rows { 5 } else { 0 });
+        assert!(rt; waits == 1 || has_rows && waits > 0, "{waits}");
+    }
     Ok(())
 }

@@ -1,128 +1,190 @@
 //! What no clause says of setups: a setup that is right is taken, and the lines of those that are not.
 
-use crate::plans::{CATALOG, ToFirst, checked};
-use std::alloc::{AllocError, Global};
+use std::alloc::Global;
 use std::test::Fail;
+use test_runs::{CATALOG, plan_of, setup_with};
 use vx_catalog::{Catalog, Database};
-use vx_exec::{RunFault, Setup, run_rounds};
+use vx_exchange::ByteRouter;
+use vx_exec::{RunFault, run_rounds};
 
 // The same relations without a declared order.
-const OTHER_CATALOG: &str =
-    r#"{"relations":[{"name":"t","columns":[{"name":"id","type":"int"},{"name":"k","type":"text"},{"name":"v","type":"int"}],"keys":[["id"]]}]}"#;
+const OTHER: &str =
+    r#"{"relations":[{"name":"t","columns":[{"name":"id","type":"int"},{"name":"k","type":"text"},{"name":"v","type":"int"}],"keys":[["id"]]},{"name":"d","columns":[{"name":"k","type":"text"},{"name":"n","type":"int"}],"keys":[["k"]]}]}"#;
 
 // One group below the root.
 const GATHERED: &str =
-    r#"{"sizes":["many"],"root":{"op":"exchange","kind":"gather","claim":{"part":"one"},"input":{"op":"scan","relation":"t","mode":"shared","size":"many"}}}"#;
+    r#"{"sizes":["many"],"root":{"op":"exchange","kind":"gather","claim":{"part":"one"},"input":T_PLAIN}}"#;
 
 // Two size names, of which the plan uses one.
 const TWO_NAMES: &str =
-    r#"{"sizes":["few","many"],"root":{"op":"exchange","kind":"gather","claim":{"part":"one"},"input":{"op":"scan","relation":"t","mode":"shared","size":"many"}}}"#;
+    r#"{"sizes":["few","many"],"root":{"op":"exchange","kind":"gather","claim":{"part":"one"},"input":T_PLAIN}}"#;
 
-// A setup of these size names, and of the rows of a packet, those of a morsel and the slack.
-fn setup(alloc: Global, sizes: &[(&str, u32)], counts: [u32; 3]) -> Result<Setup, AllocError> {
-    let mut entries = Vec::new(alloc);
-    for (name, workers) in sizes {
-        entries.push((String::from_str(alloc, name)?, *workers))?;
-    }
-    let [packet, morsel, slack] = counts;
-    Ok(Setup::new(entries, packet, morsel, slack))
-}
+// Plans, catalogs of an empty database, numbers for size names, the rows of a packet, those of a morsel and the slack, and what
+// comes of them: `ok`, or the line of a refusal.
+const SETUPS: [(&str, &str, &[(&str, u32)], [u32; 3], &str); 25] = [
+    (
+        TWO_NAMES,
+        CATALOG,
+        &[],
+        [1, 1, 1],
+        "X1 SizeMissing name=few",
+    ),
+    (
+        TWO_NAMES,
+        CATALOG,
+        &[("many", 1)],
+        [1, 1, 1],
+        "X1 SizeMissing name=few",
+    ),
+    (
+        TWO_NAMES,
+        CATALOG,
+        &[("few", 1)],
+        [1, 1, 1],
+        "X1 SizeMissing name=many",
+    ),
+    // A name without a number comes before an earlier one whose number is wrong.
+    (
+        TWO_NAMES,
+        CATALOG,
+        &[("few", 0)],
+        [1, 1, 1],
+        "X1 SizeMissing name=many",
+    ),
+    (
+        TWO_NAMES,
+        CATALOG,
+        &[("many", 0), ("few", 65)],
+        [1, 1, 1],
+        "X2 SizeOutOfRange name=few",
+    ),
+    // The first entry of a name counts.
+    (
+        TWO_NAMES,
+        CATALOG,
+        &[("few", 1), ("many", 0), ("many", 1)],
+        [1, 1, 1],
+        "X2 SizeOutOfRange name=many",
+    ),
+    (
+        TWO_NAMES,
+        CATALOG,
+        &[("few", 1), ("many", 1), ("many", 0)],
+        [1, 1, 1],
+        "ok",
+    ),
+    (
+        TWO_NAMES,
+        CATALOG,
+        &[("many", 64), ("few", 1)],
+        [1, 1, 1],
+        "ok",
+    ),
+    // Names that the plan does not declare are ignored.
+    (
+        TWO_NAMES,
+        CATALOG,
+        &[("none", 0), ("few", 64), ("many", 1)],
+        [1, 1, 1],
+        "ok",
+    ),
+    // Numbers have limits.
+    (GATHERED, CATALOG, &[("many", 1)], [1, 1, 1], "ok"),
+    (
+        GATHERED,
+        CATALOG,
+        &[("many", 64)],
+        [4096, 1_000_000, 1024],
+        "ok",
+    ),
+    (
+        GATHERED,
+        CATALOG,
+        &[("many", 0)],
+        [1, 1, 1],
+        "X2 SizeOutOfRange name=many",
+    ),
+    (
+        GATHERED,
+        CATALOG,
+        &[("many", 65)],
+        [1, 1, 1],
+        "X2 SizeOutOfRange name=many",
+    ),
+    (GATHERED, CATALOG, &[("many", 1)], [0, 1, 1], "X3 BadPacket"),
+    (
+        GATHERED,
+        CATALOG,
+        &[("many", 1)],
+        [4097, 1, 1],
+        "X3 BadPacket",
+    ),
+    (GATHERED, CATALOG, &[("many", 1)], [1, 0, 1], "X4 BadMorsel"),
+    (
+        GATHERED,
+        CATALOG,
+        &[("many", 1)],
+        [1, 1_000_001, 1],
+        "X4 BadMorsel",
+    ),
+    (GATHERED, CATALOG, &[("many", 1)], [1, 1, 0], "X14 BadSlack"),
+    (
+        GATHERED,
+        CATALOG,
+        &[("many", 1)],
+        [1, 1, 1025],
+        "X14 BadSlack",
+    ),
+    // Where several are wrong, the first in this order is answered.
+    (
+        GATHERED,
+        OTHER,
+        &[("many", 1)],
+        [1, 1, 1],
+        "X6 OtherCatalog",
+    ),
+    (GATHERED, OTHER, &[], [0, 0, 0], "X6 OtherCatalog"),
+    (
+        GATHERED,
+        CATALOG,
+        &[("many", 0)],
+        [0, 0, 0],
+        "X2 SizeOutOfRange name=many",
+    ),
+    (GATHERED, CATALOG, &[("many", 1)], [0, 0, 0], "X3 BadPacket"),
+    (GATHERED, CATALOG, &[("many", 1)], [1, 0, 0], "X4 BadMorsel"),
+    (
+        GATHERED,
+        CATALOG,
+        &[("many", 65)],
+        [1, 1, 0],
+        "X2 SizeOutOfRange name=many",
+    ),
+];
 
-// What a setup of a plan over an empty database of a catalog is answered with: `ok`, or the line of its refusal.
+// What a setup of a plan over an empty database of a catalog is answered with.
 fn line(
     alloc: Global,
     plan: &str,
-    database: &str,
+    catalog: &str,
     sizes: &[(&str, u32)],
-    counts: [u32; 3],
+    [packet, morsel, slack]: [u32; 3],
 ) -> Result<String, Fail> {
-    let plan = checked(alloc, plan)?;
-    let catalog = Catalog::read(alloc, database.as_bytes())?;
-    let database = Database::empty(alloc, &catalog)?;
-    match run_rounds(
-        alloc,
-        &plan,
-        &database,
-        &setup(alloc, sizes, counts)?,
-        &ToFirst,
-        1000,
-    ) {
+    let plan = plan_of(alloc, plan)?;
+    let database = Database::empty(alloc, &Catalog::read(alloc, catalog.as_bytes())?)?;
+    let setup = setup_with(alloc, sizes, packet, morsel, slack)?;
+    match run_rounds(alloc, &plan, &database, &setup, &ByteRouter, 1000) {
         Ok(_) => Ok(String::from_str(alloc, "ok")?),
         Err(fault) => Ok(format!(in alloc; "{fault}")?),
     }
 }
 
-// Numbers for size names, and what comes of them.
-const SIZES: [(&[(&str, u32)], &str); 9] = [
-    (&[], "X1 SizeMissing name=few"),
-    (&[("many", 1)], "X1 SizeMissing name=few"),
-    (&[("few", 1)], "X1 SizeMissing name=many"),
-    // A name without a number comes before an earlier one whose number is wrong.
-    (&[("few", 0)], "X1 SizeMissing name=many"),
-    (&[("many", 0), ("few", 65)], "X2 SizeOutOfRange name=few"),
-    // The first entry of a name counts.
-    (
-        &[("few", 1), ("many", 0), ("many", 1)],
-        "X2 SizeOutOfRange name=many",
-    ),
-    (&[("few", 1), ("many", 1), ("many", 0)], "ok"),
-    (&[("many", 64), ("few", 1)], "ok"),
-    // Names that the plan does not declare are ignored.
-    (&[("none", 0), ("few", 64), ("many", 1)], "ok"),
-];
-
 #[test]
-fn size_names_have_numbers(rt: HostRuntime) -> Result<(), Fail> {
-    for (sizes, want) in SIZES {
-        let said = line(rt.alloc(), TWO_NAMES, CATALOG, sizes, [1, 1, 1])?;
+fn setups_have_their_lines(rt: HostRuntime) -> Result<(), Fail> {
+    for (plan, catalog, sizes, counts, want) in SETUPS {
+        let said = line(rt.alloc(), plan, catalog, sizes, counts)?;
         assert_eq!(rt; said.as_str(), want);
     }
-    Ok(())
-}
-
-// Workers, packet, morsel and slack, and what comes of them.
-const LIMITS: [(u32, u32, u32, u32, &str); 14] = [
-    (1, 1, 1, 1, "ok"),
-    (64, 4096, 1_000_000, 1024, "ok"),
-    (0, 1, 1, 1, "X2 SizeOutOfRange name=many"),
-    (65, 1, 1, 1, "X2 SizeOutOfRange name=many"),
-    (1, 0, 1, 1, "X3 BadPacket"),
-    (1, 4097, 1, 1, "X3 BadPacket"),
-    (1, 1, 0, 1, "X4 BadMorsel"),
-    (1, 1, 1_000_001, 1, "X4 BadMorsel"),
-    (1, 1, 1, 0, "X14 BadSlack"),
-    (1, 1, 1, 1025, "X14 BadSlack"),
-    // Where several are wrong, the first in this order is answered.
-    (0, 0, 0, 0, "X2 SizeOutOfRange name=many"),
-    (1, 0, 0, 0, "X3 BadPacket"),
-    (1, 1, 0, 0, "X4 BadMorsel"),
-    (65, 1, 1, 0, "X2 SizeOutOfRange name=many"),
-];
-
-#[test]
-fn numbers_have_limits(rt: HostRuntime) -> Result<(), Fail> {
-    for (many, packet, morsel, slack, want) in LIMITS {
-        let counts = [packet, morsel, slack];
-        let said = line(rt.alloc(), GATHERED, CATALOG, &[("many", many)], counts)?;
-        assert_eq!(rt; said.as_str(), want);
-    }
-    Ok(())
-}
-
-#[test]
-fn other_catalogs_are_refused(rt: HostRuntime) -> Result<(), Fail> {
-    let said = line(rt.alloc(), GATHERED, CATALOG, &[("many", 1)], [1, 1, 1])?;
-    assert_eq!(rt; said.as_str(), "ok");
-    let said = line(
-        rt.alloc(),
-        GATHERED,
-        OTHER_CATALOG,
-        &[("many", 1)],
-        [1, 1, 1],
-    )?;
-    assert_eq!(rt; said.as_str(), "X6 OtherCatalog");
-    let said = line(rt.alloc(), GATHERED, OTHER_CATALOG, &[], [0, 0, 0])?;
-    assert_eq!(rt; said.as_str(), "X6 OtherCatalog");
     Ok(())
 }
 

@@ -7,18 +7,12 @@
 #[cfg(test)]
 mod bundles;
 #[cfg(test)]
-mod draws;
-#[cfg(test)]
 mod hostile;
 #[cfg(test)]
 mod overflows;
-#[cfg(test)]
-mod plans;
 #[cfg(test)]
 mod ports;
 #[cfg(test)]
 mod refusals;
 #[cfg(test)]
 mod refused_memory;
-#[cfg(test)]
-mod schedules;

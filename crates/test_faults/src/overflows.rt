@@ -1,12 +1,11 @@
 //! Sums that leave 64 bits: in each mode it is the whole sum that counts, and the node is that of the group, also
 //! where two workers fail at once.
 
-use crate::bundles::{Case, MODES, printed};
-use crate::plans::{BOTH_TOO_LARGE, GROUPED, JOINED_SUMS, LARGE, ROWS_OF_D, TOO_LARGE, TWO_PHASES};
-use std::fs::{File, Files};
-use std::sync::Wait;
+use crate::bundles::{MODES, OF_THREE, bundle_of, other_line, written};
 use std::test::Fail;
-use std::thread::Threads;
+use test_runs::{
+    BOTH_TOO_LARGE, GROUPED, JOINED_SUMS, LARGE, ROWS_OF_D, SUMS_IN_TWO_PHASES, TOO_LARGE,
+};
 
 // How often each case is run in each mode.
 const RUNS: u32 = 100;
@@ -46,32 +45,11 @@ const SUMS: [(&str, &str, &str, &str); 7] = [
     ),
 ];
 
-// How many of these runs come to another line.
-fn wrong_runs<R: Threads + Wait + Sync + Files<File = File> + AllocGlobal>(
-    rt: &R,
-    case: &Case<'_>,
-    mode: &str,
-    line: &str,
-) -> Result<u32, Fail> {
-    let mut wrong = 0u32;
-    for _ in 0..RUNS {
-        if printed(rt, case, mode)?.as_str() != line {
-            wrong = wrong.saturating_add(1);
-        }
-    }
-    Ok(wrong)
-}
-
 #[test]
 fn a_whole_sum_overflows_in_each_mode(rt: HostRuntime) -> Result<(), Fail> {
     for (plan, rows_of_t, rows_of_d, line) in SUMS {
-        for mode in MODES {
-            let case = Case {
-                rows_of_d,
-                ..Case::of_three(plan, rows_of_t)
-            };
-            assert_eq!(rt; wrong_runs(&rt, &case, mode, line)?, 0, "{mode} {line}");
-        }
+        let other = other_line(&rt, plan, (rows_of_t, rows_of_d), OF_THREE, RUNS, line)?;
+        assert_eq!(rt; other, None, "{line}");
     }
     Ok(())
 }
@@ -79,8 +57,10 @@ fn a_whole_sum_overflows_in_each_mode(rt: HostRuntime) -> Result<(), Fail> {
 #[test]
 fn a_part_of_a_sum_overflows_only_in_two_phases(rt: HostRuntime) -> Result<(), Fail> {
     for mode in MODES {
+        let tables = (LARGE, ROWS_OF_D);
+        let bundle = bundle_of(rt.alloc(), SUMS_IN_TWO_PHASES, tables, OF_THREE, mode)?;
         for _ in 0..RUNS {
-            let found = printed(&rt, &Case::of_three(TWO_PHASES, LARGE), mode)?;
+            let found = written(&rt, bundle.as_str(), None, 1000)?;
             // The partial group overflows where one worker has the first two rows alone.
             let is_part = found.as_str() == "|volcano: X7 Overflow node=4\n|4";
             assert!(rt; is_part || found.as_str() == LARGEST, "{mode} {found}");

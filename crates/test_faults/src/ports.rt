@@ -1,8 +1,8 @@
 //! Outputs and inputs that fail after each number of bytes, in each mode.
 
-use crate::bundles::{Case, MODES, written};
-use crate::plans::{MERGED, ROWS_OF_T};
+use crate::bundles::{MODES, OF_THREE, bundle_of, written};
 use std::test::Fail;
+use test_runs::{MERGED, ROWS_OF_D, ROWS_OF_T};
 
 // What comes of the plan.
 const ROWS: &str = "id,k,v\n1,b,7\n3,c,7\n";
@@ -10,7 +10,7 @@ const ROWS: &str = "id,k,v\n1,b,7\n3,c,7\n";
 #[test]
 fn an_output_that_fails_has_the_first_bytes(rt: HostRuntime) -> Result<(), Fail> {
     for mode in MODES {
-        let bundle = Case::of_three(MERGED, ROWS_OF_T).bundle(rt.alloc(), mode)?;
+        let bundle = bundle_of(rt.alloc(), MERGED, (ROWS_OF_T, ROWS_OF_D), OF_THREE, mode)?;
         for room in 0..ROWS.len() {
             let (front, _) = ROWS.as_bytes().split_at(room);
             let front = str::from_utf8(front)?;
@@ -27,7 +27,7 @@ fn an_output_that_fails_has_the_first_bytes(rt: HostRuntime) -> Result<(), Fail>
 #[test]
 fn an_input_that_fails_is_refused(rt: HostRuntime) -> Result<(), Fail> {
     for mode in MODES {
-        let bundle = Case::of_three(MERGED, ROWS_OF_T).bundle(rt.alloc(), mode)?;
+        let bundle = bundle_of(rt.alloc(), MERGED, (ROWS_OF_T, ROWS_OF_D), OF_THREE, mode)?;
         for count in 0..bundle.len() {
             let found = written(&rt, bundle.as_str(), Some(count), 1000)?;
             let line = "|volcano: V3 FileUnreadable path=-\n|3";

@@ -1,12 +1,7 @@
 //! What no clause says of counts: by threads each row, morsel and packet of a run is counted once, whoever came first.
 
-use crate::cases::{Case, case_of};
-use crate::databases::{ROWS_OF_D, ROWS_OF_T, setup_of};
-use crate::plans::SELECTED;
-use std::alloc::Global;
-use std::sync::Wait;
 use std::test::Fail;
-use std::thread::Threads;
+use test_runs::{ROWS_OF_D, ROWS_OF_T, SELECTED, case_of, setup_of};
 use vx_exchange::ByteRouter;
 use vx_exec::{Ran, RunCounts, WorkerCounts};
 use vx_parallel::{Free, run_threads_counted};
@@ -33,16 +28,14 @@ fn rows_given(workers: &[WorkerCounts]) -> Option<u64> {
     Some(top.counts.gave)
 }
 
-// The counts of a case by threads, two of each group, row by row; and how many rows it comes to.
-fn counted<T: Threads + Wait + Sync>(
-    rt: &T,
-    alloc: Global,
-    case: &Case,
-) -> Result<(RunCounts, usize), Fail> {
+#[test]
+fn threads_count_each_row_once(rt: HostRuntime) -> Result<(), Fail> {
+    let alloc = rt.alloc();
+    let case = case_of(alloc, SELECTED, ROWS_OF_T, ROWS_OF_D)?;
     let setup = setup_of(alloc, 2, 1, 1, 4)?;
     let mut counts = RunCounts::new(alloc);
     let ran = run_threads_counted(
-        rt,
+        &rt,
         alloc,
         &case.plan,
         &case.database,
@@ -51,22 +44,12 @@ fn counted<T: Threads + Wait + Sync>(
         &Free,
         &mut counts,
     )?;
-    match ran {
-        Ran::Done(rows) => Ok((counts, rows.len())),
-        Ran::Unfinished => Err(Fail::new("the run has rows")),
-    }
-}
-
-#[test]
-fn threads_count_each_row_once(rt: HostRuntime) -> Result<(), Fail> {
-    let alloc = rt.alloc();
-    let case = case_of(alloc, SELECTED, ROWS_OF_T, ROWS_OF_D)?;
-    let (counts, rows) = counted(&rt, alloc, &case)?;
+    assert!(rt; matches!(ran, Ran::Done(_)));
     let workers = counts.workers();
     assert_eq!(rt; workers.len(), 3);
-    assert_eq!(rt; rows_given(workers), Some(rows as u64));
-    // Four rows are scanned. Each that is selected comes in a packet of its own, and each of the two producers sends Last.
-    let packets = (rows as u64).saturating_add(2);
-    assert_eq!(rt; totals(workers), (4, packets, packets));
+    assert_eq!(rt; rows_given(workers), Some(2));
+    // Four rows are scanned. Each of the two that are selected comes in a packet of its own, and each of the two producers sends
+    // Last.
+    assert_eq!(rt; totals(workers), (4, 4, 4));
     Ok(())
 }

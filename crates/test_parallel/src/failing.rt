@@ -1,10 +1,10 @@
 //! What no clause says of workers that fail in threads: whatever fragment they are of, the run ends with their fault while
 //! the other workers still send, and none waits for ever.
 
-use crate::cases::{case_of, wrong_runs};
-use crate::databases::setup_of;
+use crate::threads::wrong_runs;
 use std::alloc::{AllocError, Global};
 use std::test::Fail;
+use test_runs::{case_of, setup_of};
 use vx_exchange::ByteRouter;
 
 // How often each plan is run with each setup.
@@ -45,31 +45,21 @@ const FAILING: [(&str, &str); 5] = [
 // Workers of each group, and the slack.
 const TEAMS: [(u32, u32); 4] = [(1, 1), (2, 1), (3, 2), (8, 1)];
 
-// Rows of t: two whose sum is too large come first.
-fn rows_of_t(alloc: Global) -> Result<String, AllocError> {
-    let mut text = String::from_str(alloc, "0,a,9223372036854775807\n1,a,1\n")?;
+// Rows of t, of which two whose sum is too large come first, and rows of d.
+fn rows_of_both(alloc: Global) -> Result<(String, String), AllocError> {
+    let mut rows_of_t = String::from_str(alloc, "0,a,9223372036854775807\n1,a,1\n")?;
+    let mut rows_of_d = String::new(alloc);
     for number in 0..OTHERS {
-        let row = format!(in alloc; "{},k{number},7\n", number.saturating_add(2))?;
-        text.push_str(row.as_str())?;
+        write!(rows_of_t, "{},k{number},7\n", number.saturating_add(2))?;
+        write!(rows_of_d, "k{number},{number}\n")?;
     }
-    Ok(text)
-}
-
-// Rows of d.
-fn rows_of_d(alloc: Global) -> Result<String, AllocError> {
-    let mut text = String::new(alloc);
-    for number in 0..OTHERS {
-        let row = format!(in alloc; "k{number},{number}\n")?;
-        text.push_str(row.as_str())?;
-    }
-    Ok(text)
+    Ok((rows_of_t, rows_of_d))
 }
 
 #[test]
 fn no_worker_waits_for_one_that_failed(rt: HostRuntime) -> Result<(), Fail> {
     let alloc = rt.alloc();
-    let rows_of_t = rows_of_t(alloc)?;
-    let rows_of_d = rows_of_d(alloc)?;
+    let (rows_of_t, rows_of_d) = rows_of_both(alloc)?;
     for (document, line) in FAILING {
         let case = case_of(alloc, document, rows_of_t.as_str(), rows_of_d.as_str())?;
         for (many, slack) in TEAMS {

@@ -1,15 +1,16 @@
 //! What no clause says of threads: workers are at work at the same time, also those of different fragments, they share
 //! the morsels of a scan, and the gate is called after each draw of a shared scan and after no other.
 
-use crate::cases::{Case, agrees, by_threads_within, case_of};
-use crate::databases::{ROWS_OF_D, ROWS_OF_T, setup_of};
 use crate::gates::{DrawCount, Meeting, UntilNothingIsLeft};
-use crate::plans::{JOINED_ROWS, MERGED, SELECTED, SELECTED_ROWS, SENT_TO_MEET};
-use crate::queries::case_of_query;
+use crate::threads::by_threads_within;
 use std::alloc::Global;
 use std::sync::Wait;
 use std::test::Fail;
 use std::thread::Threads;
+use test_runs::{
+    Case, JOINED_ROWS, MERGED, ROWS_OF_D, ROWS_OF_T, SELECTED, SELECTED_ROWS, SENT_TO_MEET, agrees,
+    case_of, case_of_query, setup_of,
+};
 use vx_exchange::ByteRouter;
 use vx_exec::Setup;
 

@@ -1,41 +1,21 @@
 //! What no clause says of worked plans in threads: with teams, packets and rings of any size they come to the rows that
 //! were worked out by hand, or to the fault of the group that overflows.
 
-use crate::cases::{agrees, by_threads, by_threads_within, case_of, wrong_runs};
-use crate::databases::{LARGE, ROWS_OF_D, ROWS_OF_T, TOO_LARGE, ToFirst, setup_of};
 use crate::gates::DrawCount;
-use crate::plans::{
-    COUNTED, COUNTED_BY_ONE, GROUPED, GROUPED_ROWS, JOINED, JOINED_ROWS, JOINED_SUMS, MERGED,
-    SELECTED, SELECTED_ROWS, SENT_TO_MEET,
-};
+use crate::threads::{by_threads, by_threads_within, wrong_runs};
 use std::alloc::Global;
 use std::sync::Wait;
 use std::test::Fail;
 use std::thread::Threads;
+use test_runs::{
+    GROUPED, GROUPED_ROWS, JOIN_PLANS, OPERATOR_JOINS, OPERATOR_PLANS, ROWS_OF_D, ROWS_OF_T,
+    SUM_PLANS, ToFirst, WORKED_PLANS, WorkedPlan, case_of, setup_of,
+};
 use vx_exchange::ByteRouter;
+use vx_exec::Setup;
 
 // How often each plan is run with each setup.
 const RUNS: u32 = 5;
-
-// Documents, the rows of the two relations, and what comes of them.
-const WORKED: [(&str, &str, &str, &str); 16] = [
-    (SELECTED, ROWS_OF_T, ROWS_OF_D, SELECTED_ROWS),
-    (SELECTED, "", ROWS_OF_D, ""),
-    (MERGED, ROWS_OF_T, ROWS_OF_D, SELECTED_ROWS),
-    (MERGED, "", ROWS_OF_D, ""),
-    (GROUPED, ROWS_OF_T, ROWS_OF_D, GROUPED_ROWS),
-    (GROUPED, LARGE, ROWS_OF_D, "'a' 9223372036854775807;"),
-    (GROUPED, TOO_LARGE, ROWS_OF_D, "X7 Overflow node=2"),
-    (JOINED, ROWS_OF_T, ROWS_OF_D, JOINED_ROWS),
-    (JOINED, ROWS_OF_T, "", ""),
-    (SENT_TO_MEET, ROWS_OF_T, ROWS_OF_D, JOINED_ROWS),
-    (JOINED_SUMS, TOO_LARGE, "", "X7 Overflow node=1"),
-    (JOINED_SUMS, LARGE, "", ""),
-    (COUNTED, "", ROWS_OF_D, ""),
-    (COUNTED, ROWS_OF_T, ROWS_OF_D, "4;"),
-    (COUNTED_BY_ONE, "", ROWS_OF_D, ""),
-    (COUNTED_BY_ONE, ROWS_OF_T, ROWS_OF_D, "4;"),
-];
 
 // Workers of each group, the rows of a packet and of a morsel, and the slack.
 const SETUPS: [(u32, u32, u32, u32); 6] = [
@@ -47,18 +27,26 @@ const SETUPS: [(u32, u32, u32, u32); 6] = [
     (8, 1, 1, 1024),
 ];
 
-// The first of the worked plans that comes to other rows in some run with a setup.
+// The plans that are run.
+const PLANS: [&[WorkedPlan]; 5] = [
+    &WORKED_PLANS,
+    &JOIN_PLANS,
+    &SUM_PLANS,
+    &OPERATOR_PLANS,
+    &OPERATOR_JOINS,
+];
+
+// The first of these plans that comes to other rows in some run with a setup.
 fn first_wrong<T: Threads + Wait + Sync>(
     rt: &T,
     alloc: Global,
-    sizes: (u32, u32, u32, u32),
-) -> Result<Option<usize>, Fail> {
-    let (many, packet, morsel, slack) = sizes;
-    let setup = setup_of(alloc, many, packet, morsel, slack)?;
-    for (index, (document, rows_of_t, rows_of_d, rows)) in WORKED.iter().enumerate() {
+    setup: &Setup,
+    plans: &[WorkedPlan],
+) -> Result<Option<&'static str>, Fail> {
+    for (name, document, rows_of_t, rows_of_d, _, rows) in plans {
         let case = case_of(alloc, document, rows_of_t, rows_of_d)?;
-        if wrong_runs(rt, alloc, &case, &setup, &ByteRouter, rows, RUNS)? > 0 {
-            return Ok(Some(index));
+        if wrong_runs(rt, alloc, &case, setup, &ByteRouter, rows, RUNS)? > 0 {
+            return Ok(Some(*name));
         }
     }
     Ok(None)
@@ -66,13 +54,13 @@ fn first_wrong<T: Threads + Wait + Sync>(
 
 #[test]
 fn worked_plans_come_to_their_rows(rt: HostRuntime) -> Result<(), Fail> {
-    for sizes in SETUPS {
-        assert_eq!(rt;
-            first_wrong(&rt, rt.alloc(), sizes)?,
-            None,
-            "{} workers",
-            sizes.0
-        );
+    let alloc = rt.alloc();
+    for (many, packet, morsel, slack) in SETUPS {
+        let setup = setup_of(alloc, many, packet, morsel, slack)?;
+        for plans in PLANS {
+            let wrong = first_wrong(&rt, alloc, &setup, plans)?;
+            assert_eq!(rt; wrong, None, "{many} {packet} {morsel} {slack}");
+        }
     }
     Ok(())
 }
@@ -89,43 +77,37 @@ fn of_64_workers_one_has_every_key(rt: HostRuntime) -> Result<(), Fail> {
     Ok(())
 }
 
+// Workers of each group, the rows of a packet and of a morsel, and the slack; how many threads are allowed; and what comes of it,
+// with how many numbers were drawn and how often nothing was left. Three workers of each group are seven: three that group,
+// three that scan, and the one at the root.
+const FEW_THREADS: [(u32, u32, u32, u32, u32, &str, (u64, u64)); 12] = [
+    // A setup is tested before the threads are counted.
+    (65, 1, 1, 4, 0, "X2 SizeOutOfRange name=many", (0, 0)),
+    (3, 0, 1, 4, 0, "X3 BadPacket", (0, 0)),
+    (3, 1, 0, 4, 0, "X4 BadMorsel", (0, 0)),
+    (3, 1, 1, 0, 0, "X14 BadSlack", (0, 0)),
+    (3, 1, 1, 4, 0, "X9 NoThread", (0, 0)),
+    (3, 1, 1, 4, 1, "X9 NoThread", (0, 0)),
+    (3, 1, 1, 4, 2, "X9 NoThread", (0, 0)),
+    (3, 1, 1, 4, 3, "X9 NoThread", (0, 0)),
+    (3, 1, 1, 4, 4, "X9 NoThread", (0, 0)),
+    (3, 1, 1, 4, 5, "X9 NoThread", (0, 0)),
+    (3, 1, 1, 4, 6, "X9 NoThread", (0, 0)),
+    (3, 1, 1, 4, 7, GROUPED_ROWS, (4, 3)),
+];
+
 #[test]
 fn no_worker_draws_where_fewer_threads_are_allowed_than_it_takes(
     rt: HostRuntime,
 ) -> Result<(), Fail> {
     let alloc = rt.alloc();
     let case = case_of(alloc, GROUPED, ROWS_OF_T, ROWS_OF_D)?;
-    let setup = setup_of(alloc, 3, 1, 1, 4)?;
-    // Three workers group, three scan, and one is at the root.
-    for most in 0..7 {
+    for (many, packet, morsel, slack, most, line, draws) in FEW_THREADS {
+        let setup = setup_of(alloc, many, packet, morsel, slack)?;
         let gate = DrawCount::new();
         let text = by_threads_within(&rt, alloc, &case, &setup, &ByteRouter, &gate, most)?;
-        assert_eq!(rt; text.as_str(), "X9 NoThread", "{most}");
-        assert_eq!(rt; gate.draws(), (0, 0), "{most}");
+        assert_eq!(rt; text.as_str(), line, "{most}");
+        assert_eq!(rt; gate.draws(), draws, "{most}");
     }
-    let gate = DrawCount::new();
-    let text = by_threads_within(&rt, alloc, &case, &setup, &ByteRouter, &gate, 7)?;
-    assert!(rt; agrees(alloc, &case, text.as_str(), GROUPED_ROWS)?);
-    assert_eq!(rt; gate.draws(), (4, 3));
-    Ok(())
-}
-
-#[test]
-fn a_setup_is_tested_before_the_threads_are_counted(rt: HostRuntime) -> Result<(), Fail> {
-    let alloc = rt.alloc();
-    let case = case_of(alloc, GROUPED, ROWS_OF_T, ROWS_OF_D)?;
-    let gate = DrawCount::new();
-    for (sizes, line) in [
-        ((65, 1, 1, 4), "X2 SizeOutOfRange name=many"),
-        ((3, 0, 1, 4), "X3 BadPacket"),
-        ((3, 1, 0, 4), "X4 BadMorsel"),
-        ((3, 1, 1, 0), "X14 BadSlack"),
-    ] {
-        let (many, packet, morsel, slack) = sizes;
-        let setup = setup_of(alloc, many, packet, morsel, slack)?;
-        let text = by_threads_within(&rt, alloc, &case, &setup, &ByteRouter, &gate, 0)?;
-        assert_eq!(rt; text.as_str(), line);
-    }
-    assert_eq!(rt; gate.draws(), (0, 0));
     Ok(())
 }

@@ -1,16 +1,14 @@
-//! What the tests of plans share: databases of two relations, and plans over them in which words stand for scans.
+//! Two small relations, rows of them, and plans over them in which words in capitals stand for scans.
 
 use std::alloc::{AllocError, Global};
 use std::test::Fail;
 use vx_bytes::MemoryIn;
 use vx_catalog::{Catalog, Database, Loader};
 use vx_check::{CheckedPlan, check};
-use vx_exec::Setup;
-use vx_plan::{Plan, Router, resolve};
-use vx_rows::Value;
+use vx_plan::{Plan, resolve};
 
-// The relations t(id, k, v), by its key and order id, and d(k, n), by its key k.
-const CATALOG: &str =
+/// The relations t(id, k, v), by its key and order id, and d(k, n), by its key k.
+pub const CATALOG: &str =
     r#"{"relations":[{"name":"t","columns":[{"name":"id","type":"int"},{"name":"k","type":"text"},{"name":"v","type":"int"}],"keys":[["id"]],"order":["id"]},{"name":"d","columns":[{"name":"k","type":"text"},{"name":"n","type":"int"}],"keys":[["k"]]}]}"#;
 
 /// Rows of t.
@@ -22,12 +20,15 @@ pub const LARGE: &str = "0,a,9223372036854775807\n1,a,1\n2,a,-1\n";
 /// The first two of these rows.
 pub const TOO_LARGE: &str = "0,a,9223372036854775807\n1,a,1\n";
 
+/// Rows of t of two keys, whose sums both leave 64 bits. Of three workers, one has the key a and another the key b.
+pub const BOTH_TOO_LARGE: &str = "0,a,9223372036854775807\n1,a,1\n2,b,9223372036854775807\n3,b,1\n";
+
 /// Rows of d.
 pub const ROWS_OF_D: &str = "a,10\nb,20\n";
 
 // What stands in a plan for a word in capitals. Many workers share the rows of a relation, or each of them has all, or
 // one worker has.
-const SCANS: [(&str, &str); 6] = [
+const SCANS: [(&str, &str); 7] = [
     (
         "T_SHARED",
         r#"{"op":"scan","relation":"t","mode":"shared","size":"many","claim":{"part":"any","order":["id"],"keys":[["id"]]}}"#,
@@ -35,6 +36,10 @@ const SCANS: [(&str, &str); 6] = [
     (
         "T_PLAIN",
         r#"{"op":"scan","relation":"t","mode":"shared","size":"many"}"#,
+    ),
+    (
+        "T_EVERYWHERE",
+        r#"{"op":"scan","relation":"t","mode":"whole","size":"many","claim":{"part":"all","order":["id"],"keys":[["id"]]}}"#,
     ),
     (
         "T_WHOLE",
@@ -54,27 +59,13 @@ const SCANS: [(&str, &str); 6] = [
     ),
 ];
 
-// The text of a document in which each word in capitals is replaced by a scan.
-fn with_scans(alloc: Global, document: &str) -> Result<String, AllocError> {
+/// The text of a plan in which each word in capitals is replaced by a scan.
+pub fn with_scans(alloc: Global, document: &str) -> Result<String, AllocError> {
     let mut text = String::from_str(alloc, document)?;
     for (word, scan) in SCANS {
         text = text.replace(alloc, word, scan)?;
     }
     Ok(text)
-}
-
-/// Sends every key to consumer 0.
-#[derive(Drop)]
-pub struct ToFirst;
-
-impl Router for ToFirst {
-    ghost route_of = { λ _ _ _ _. 0 };
-
-    ghost in_range = { λ r name key n some. some };
-
-    fn route(&self, _name: &str, _key: &[Value], _n: u32) -> u32 {
-        0
-    }
 }
 
 /// The plan of a text over a catalog, as the checker accepts it.
@@ -84,19 +75,6 @@ pub fn accepted(alloc: Global, catalog: &Catalog, text: &str) -> Result<CheckedP
         Ok(plan) => Ok(plan),
         Err(_) => Err(Fail::new("the plan is accepted")),
     }
-}
-
-/// So many workers of each group, and the rows of a packet, those of a morsel, and the slack.
-pub fn setup_of(
-    alloc: Global,
-    workers: u32,
-    packet: u32,
-    morsel: u32,
-    slack: u32,
-) -> Result<Setup, AllocError> {
-    let mut sizes = Vec::new(alloc);
-    sizes.push((String::from_str(alloc, "many")?, workers))?;
-    Ok(Setup::new(sizes, packet, morsel, slack))
 }
 
 /// The plan of a document, in which words in capitals stand for scans, as the checker accepts it.

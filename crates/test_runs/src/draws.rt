@@ -1,11 +1,8 @@
-//! Schedules: drawn at random, or one worker after the other.
+//! Numbers that are drawn at random; and schedules: drawn, or one worker after the other.
 
 ghost use Rattle.std.specs.Prelude.{◌<◌};
 
 use std::alloc::{AllocError, Global};
-
-/// How many schedules are drawn.
-pub const SCHEDULES: u32 = 1000;
 
 // How many steps of a schedule are drawn.
 const DRAWN: u32 = 500;
@@ -17,26 +14,29 @@ pub struct Draws {
 }
 
 impl Draws {
-    /// From the number 1 on.
-    pub fn new() -> Draws {
-        Draws::from_number(1)
-    }
-
     /// From a number on.
     pub fn from_number(state: u64) -> Draws {
         Draws { state }
     }
 
-    // The number of one of so many workers.
-    fn worker(&mut self, workers: u32) -> u32
-        requires { 0 < workers }
+    // The next number below this one.
+    fn below(&mut self, bound: u32) -> u32
+        requires { 0 < bound }
+        ensures { result < bound }
     {
         let next = self.state.wrapping_mul(1_103_515_245).wrapping_add(12_345) % 2_147_483_648;
         self.state = next;
-        (next / 65_536) as u32 % workers
+        (next / 65_536) as u32 % bound
     }
 
-    /// Steps of 500 workers that are drawn, and then of each of the workers in turn, this many times.
+    /// A number from 1 to this one. How many bits it has at most is drawn first, so that small ones come as often as large
+    /// ones.
+    pub fn up_to(&mut self, most: u32) -> u32 {
+        let bound = (most >> self.below(16)).max(1);
+        self.below(bound).saturating_add(1)
+    }
+
+    /// 500 steps of these workers that are drawn, and then a step of each of them in turn, this many times.
     pub fn schedule(
         &mut self,
         alloc: Global,
@@ -48,7 +48,7 @@ impl Draws {
         let mut steps = Vec::new(alloc);
         for step in 0..workers.saturating_mul(turns).saturating_add(DRAWN) {
             let worker = if step < DRAWN {
-                self.worker(workers)
+                self.below(workers)
             } else {
                 (step - DRAWN) % workers
             };

@@ -1,9 +1,6 @@
-//! What the tests of plans share: a plan over a database, what its runs come to, and whether these are the right rows.
+//! A plan over a database, what its runs come to, and whether these are the right rows.
 
-ghost use Rattle.std.specs.Prelude.{◌<◌};
-
-use crate::databases::{database_of, plan_of};
-use crate::draws::Draws;
+use crate::relations::{database_of, plan_of};
 use std::alloc::{AllocError, Global};
 use std::test::Fail;
 use test_tables::shown;
@@ -11,11 +8,26 @@ use vx_catalog::Database;
 use vx_check::CheckedPlan;
 use vx_exec::{Ran, RunFault, Setup, run_rounds, run_scheduled};
 use vx_plan::{Router, erase};
+use vx_rows::Value;
 use vx_serial::eval;
 use vx_views::Rows;
 
 // More rounds than a run of these plans has.
-const ROUNDS: u64 = 100_000;
+const ROUNDS: u64 = 1_000_000;
+
+/// Sends every key to consumer 0.
+#[derive(Drop)]
+pub struct ToFirst;
+
+impl Router for ToFirst {
+    ghost route_of = { λ _ _ _ _. 0 };
+
+    ghost in_range = { λ r name key n some. some };
+
+    fn route(&self, _name: &str, _key: &[Value], _n: u32) -> u32 {
+        0
+    }
+}
 
 /// A plan over a database.
 #[derive(Drop)]
@@ -42,8 +54,8 @@ fn text_of(alloc: Global, rows: &Rows) -> Result<String, AllocError> {
     shown(alloc, &rows.gathered(alloc)?)
 }
 
-// What a run comes to: its rows as one text, the line of its fault, or that some worker has not ended.
-fn told(alloc: Global, ran: Result<Ran, RunFault>) -> Result<String, AllocError> {
+/// What a run comes to: its rows as one text, the line of its fault, or that some worker has not ended.
+pub fn told(alloc: Global, ran: Result<Ran, RunFault>) -> Result<String, AllocError> {
     match ran {
         Ok(Ran::Done(rows)) => text_of(alloc, &rows),
         Ok(Ran::Unfinished) => String::from_str(alloc, "unfinished"),
@@ -96,37 +108,4 @@ pub fn agrees(alloc: Global, case: &Case, text: &str, rows: &str) -> Result<bool
         return Ok(text == rows);
     }
     Ok(sorted(alloc, text)?.as_slice() == sorted(alloc, rows)?.as_slice())
-}
-
-/// Schedules that are drawn for so many workers: how many, and from which number on. At the end of each all workers make
-/// a step in turn, so many times.
-#[derive(Clone, Copy)]
-pub struct Drawn {
-    pub workers: u32,
-    pub turns: u32,
-    pub schedules: u32,
-    pub first: u64,
-}
-
-/// How many of the schedules that are drawn come to other rows.
-pub fn wrong_schedules<R: Router>(
-    alloc: Global,
-    case: &Case,
-    setup: &Setup,
-    router: &R,
-    drawn: Drawn,
-    rows: &str,
-) -> Result<u32, AllocError>
-    requires { 0 < drawn.workers }
-{
-    let mut draws = Draws::from_number(drawn.first);
-    let mut wrong = 0u32;
-    for _ in 0..drawn.schedules {
-        let steps = draws.schedule(alloc, drawn.workers, drawn.turns)?;
-        let text = by_steps(alloc, case, setup, router, steps.as_slice())?;
-        if !agrees(alloc, case, text.as_str(), rows)? {
-            wrong = wrong.saturating_add(1);
-        }
-    }
-    Ok(wrong)
 }

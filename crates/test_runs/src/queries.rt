@@ -1,0 +1,64 @@
+//! The plans to measure on, over relations of 10,000 and of 1000 rows.
+
+ghost use Rattle.std.specs.Prelude.{◌≤◌};
+
+use crate::cases::{Case, serially};
+use crate::relations::{accepted, fill};
+use std::alloc::{AllocError, Global};
+use std::test::Fail;
+use vx_bytes::MemoryOut;
+use vx_catalog::{Catalog, Database};
+use vx_check::CheckedPlan;
+use vx_wisconsin::{catalog, generate, plan};
+
+// How many rows each relation has.
+const ROWS: [u64; 4] = [10_000, 10_000, 1000, 1000];
+
+// The text of so many rows.
+fn generated(alloc: Global, rows: u64) -> Result<String, Fail> {
+    let mut out = MemoryOut::new(alloc, 1_000_000, 1_000_000_000);
+    generate(alloc, rows, &mut out)?;
+    Ok(String::from_utf8(Vec::from_slice(alloc, out.bytes())?)?)
+}
+
+// The relations with their rows.
+fn filled(alloc: Global, catalog: &Catalog) -> Result<Database, Fail> {
+    let mut database = Database::empty(alloc, catalog)?;
+    for (relation, rows) in ROWS.iter().enumerate() {
+        let text = generated(alloc, *rows)?;
+        fill(alloc, catalog, &mut database, relation, text.as_str())?;
+    }
+    Ok(database)
+}
+
+/// The plan of a query, as the checker accepts it.
+pub fn plan_of_query(alloc: Global, query: u32) -> Result<CheckedPlan, Fail> {
+    match plan(query) {
+        Some(text) => accepted(alloc, &Catalog::read(alloc, catalog().as_bytes())?, text),
+        None => Err(Fail::new("the query has a plan")),
+    }
+}
+
+/// The plan of a query over the relations, and its rows by serial evaluation.
+pub fn case_of_query(alloc: Global, query: u32) -> Result<(Case, String), Fail> {
+    let catalog = Catalog::read(alloc, catalog().as_bytes())?;
+    let case = Case {
+        plan: plan_of_query(alloc, query)?,
+        database: filled(alloc, &catalog)?,
+    };
+    let rows = serially(alloc, &case)?;
+    Ok((case, rows))
+}
+
+/// For each p from 0 to 99 a row: p, and `factor` times p and `more`.
+pub fn by_percent(alloc: Global, factor: u64, more: u64) -> Result<String, AllocError>
+    requires { (factor ≤ 1000) × (more ≤ 1000000) }
+{
+    let mut text = String::new(alloc);
+    for p in 0..100u64 {
+        let value = factor * p + more;
+        let row = format!(in alloc; "{p} {value};")?;
+        text.push_str(row.as_str())?;
+    }
+    Ok(text)
+}

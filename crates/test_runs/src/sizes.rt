@@ -1,0 +1,30 @@
+//! Setups of runs.
+
+use std::alloc::{AllocError, Global};
+use vx_exec::Setup;
+
+/// So many workers for each of these names, and the rows of a packet, those of a morsel, and the slack.
+pub fn setup_with(
+    alloc: Global,
+    sizes: &[(&str, u32)],
+    packet: u32,
+    morsel: u32,
+    slack: u32,
+) -> Result<Setup, AllocError> {
+    let mut entries = Vec::new(alloc);
+    for (name, workers) in sizes {
+        entries.push((String::from_str(alloc, name)?, *workers))?;
+    }
+    Ok(Setup::new(entries, packet, morsel, slack))
+}
+
+/// So many workers of each group, and the rows of a packet, those of a morsel, and the slack.
+pub fn setup_of(
+    alloc: Global,
+    workers: u32,
+    packet: u32,
+    morsel: u32,
+    slack: u32,
+) -> Result<Setup, AllocError> {
+    setup_with(alloc, &[("many", workers)], packet, morsel, slack)
+}
