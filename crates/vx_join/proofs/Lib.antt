@@ -1,4 +1,3 @@
 pub mod PlaceFacts
 pub mod BuildFacts
 pub mod PairFacts
-pub mod SpotFacts

@@ -1,4 +1,3 @@
 pub mod Build
 pub mod Parts
-pub mod Spots
 pub mod Sides

@@ -77,7 +77,8 @@ fn push_pairs(pairs: &mut Pairs, left: usize, places: &[usize]) -> Result<(), Al
 }
 
 impl Build {
-    /// The build side of a join, with its columns of the join, whose keys are hashed by this seed. No cell is copied yet.
+    /// The build side of a join, with its columns of the join, whose keys are hashed by this seed. No cell is copied
+    /// yet; all right rows are, once, when those that are joined one behind the other lie far apart.
     pub fn of(
         alloc: Global,
         seed: KeySeed,
@@ -189,8 +190,8 @@ impl Build {
         }
         let lefts = pairs.lefts.as_slice();
         let rights = pairs.rights.as_slice();
-        let found = self.rows.beside(self.alloc, chunk, lefts, rights)?;
-        joined.push(found)?;
+        self.rows
+            .push_joined(self.alloc, joined, chunk, lefts, rights)?;
         Ok(taken)
     }
 

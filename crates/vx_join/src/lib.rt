@@ -4,6 +4,5 @@
 mod build_rows;
 mod join;
 mod key_places;
-mod spots;
 
 pub use join::{Build, hash_join};

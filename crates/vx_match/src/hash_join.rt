@@ -21,7 +21,7 @@ const BATCH: usize = 65_536;
 /// `HashJoining::source` makes it.
 pub type HashJoin = Probing<HashJoining>;
 
-/// The kernel of a hash join. Its right rows stay where they are; those that left rows match are copied as `Build` says.
+/// The kernel of a hash join. Its right rows stay where they are, or are copied once, as `Build` says.
 #[derive(Drop)]
 pub struct HashJoining {
     alloc: Global,

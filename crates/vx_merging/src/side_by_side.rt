@@ -77,8 +77,9 @@ fn side_by_side(alloc: Global, left: &Rows, right: &Rows) -> Result<Rows, AllocE
     Ok(joined)
 }
 
-// Adds the rows of a chunk, each with the right row beside it.
-fn push_beside(
+/// Adds the rows of a chunk, each with the right row beside it: the first of both, then the second, and so on. No cell is
+/// copied.
+pub fn push_beside(
     alloc: Global,
     joined: &mut Rows,
     left: &Chunk,
