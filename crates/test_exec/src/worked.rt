@@ -118,11 +118,11 @@ fn operators_that_join_come_to_their_serial_rows(rt: HostRuntime) -> Result<(), 
 fn of_129_workers_one_has_every_key(rt: HostRuntime) -> Result<(), Fail> {
     let alloc = rt.alloc();
     let case = case_of(alloc, GROUPED, ROWS_OF_T, ROWS_OF_D)?;
-    // The root's worker, 64 that group and 64 that scan. A thousand schedules would take longer than the minute that a test has.
+    // The root's worker, 64 that group and 64 that scan.
     let setup = setup_of(alloc, 64, 1, 1, 4)?;
     let text = by_rounds(alloc, &case, &setup, &ToFirst)?;
     assert_eq!(rt; text.as_str(), GROUPED_ROWS);
-    let drawn = (129, 250, 300);
+    let drawn = (129, 1000, 300);
     let wrong = wrong_schedules(alloc, &case, &setup, &ToFirst, drawn, GROUPED_ROWS)?;
     assert_eq!(rt; wrong, 0);
     Ok(())

@@ -38,6 +38,16 @@ fn merged(alloc: Global, columns: &[usize], left: &Rows, right: &Rows) -> Result
     }
 }
 
+// The hash join of rows on the same columns of both, as text.
+fn hashed(alloc: Global, columns: &[usize], left: Rows, right: &Rows) -> Result<String, AllocError>
+    requires left { AreColumns (length left.types) columns.now }
+    requires right { AreColumns (length right.now.types) columns.now }
+{
+    let on = Vec::from_slice(alloc, columns)?;
+    let joined = hash_join(alloc, KeySeed::fixed(), left, columns, right, on)?;
+    shown(alloc, &joined.gathered(alloc)?)
+}
+
 // What a kernel makes of rows by some of their columns, as text.
 fn made(
     alloc: Global,
@@ -53,19 +63,10 @@ fn made(
     if kernel == "merge join" {
         return Ok(merged(alloc, columns, &left, &right)?);
     }
-    let made = if kernel == "hash join" {
-        let columns_right = Vec::from_slice(alloc, columns)?;
-        hash_join(
-            alloc,
-            KeySeed::fixed(),
-            left,
-            columns,
-            &right,
-            columns_right,
-        )?
-    } else {
-        of_one(alloc, kernel, columns, &left)?
-    };
+    if kernel == "hash join" {
+        return Ok(hashed(alloc, columns, left, &right)?);
+    }
+    let made = of_one(alloc, kernel, columns, &left)?;
     Ok(shown(alloc, &made.gathered(alloc)?)?)
 }
 

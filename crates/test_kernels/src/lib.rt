@@ -11,8 +11,6 @@ mod grouping;
 #[cfg(test)]
 mod kernels;
 #[cfg(test)]
-mod merging;
-#[cfg(test)]
 mod seeds;
 #[cfg(test)]
 mod serials;
