@@ -2,7 +2,10 @@
 //! in the order of the catalog, the plan, the checker, the tables, the setup and the run.
 
 use crate::bundles::{OF_THREE, other_line};
+use std::fs::{File, Files};
+use std::sync::Wait;
 use std::test::Fail;
+use std::thread::Threads;
 use test_runs::{GROUPED, MERGED, ROWS_OF_D, ROWS_OF_T};
 
 // A selection names a relation that the catalog lacks.
@@ -213,17 +216,47 @@ const REFUSALS: [Refusal; 24] = [
     ),
 ];
 
+// Another answer than this line, if a plan over some of the tables has one with some of the settings.
+fn other_over_tables<R: Threads + Wait + Sync + Files<File = File> + AllocGlobal>(
+    rt: &R,
+    plan: &str,
+    tables: &[(&str, &str)],
+    settings: &[&str],
+    line: &str,
+) -> Result<Option<String>, Fail> {
+    for rows in tables {
+        for setting in settings {
+            let other = other_line(rt, plan, *rows, setting, 1, line)?;
+            if other.is_some() {
+                return Ok(other);
+            }
+        }
+    }
+    Ok(None)
+}
+
+// The same for some of the plans.
+fn other_of_plans<R: Threads + Wait + Sync + Files<File = File> + AllocGlobal>(
+    rt: &R,
+    plans: &[&str],
+    tables: &[(&str, &str)],
+    settings: &[&str],
+    line: &str,
+) -> Result<Option<String>, Fail> {
+    for plan in plans {
+        let other = other_over_tables(rt, plan, tables, settings, line)?;
+        if other.is_some() {
+            return Ok(other);
+        }
+    }
+    Ok(None)
+}
+
 #[test]
 fn refusals_have_their_lines(rt: HostRuntime) -> Result<(), Fail> {
     for (plans, tables, settings, line) in REFUSALS {
-        for plan in plans {
-            for rows in tables {
-                for setting in settings {
-                    let other = other_line(&rt, plan, *rows, setting, 1, line)?;
-                    assert_eq!(rt; other, None, "{line}");
-                }
-            }
-        }
+        let other = other_of_plans(&rt, plans, tables, settings, line)?;
+        assert_eq!(rt; other, None, "{line}");
     }
     Ok(())
 }
