@@ -7,7 +7,7 @@ use std::test::Fail;
 use vx_catalog::{Catalog, CatalogFault};
 
 // What is read from a text: that the catalog has no relations or some, or the refusal.
-fn told(alloc: Global, text: &str) -> Result<String, Fail> {
+fn outcome(alloc: Global, text: &str) -> Result<String, Fail> {
     match Catalog::read(alloc, text.as_bytes()) {
         Ok(catalog) if catalog.is_empty() => Ok(String::from_str(alloc, "no relations")?),
         Ok(_) => Ok(String::from_str(alloc, "relations")?),
@@ -15,7 +15,7 @@ fn told(alloc: Global, text: &str) -> Result<String, Fail> {
     }
 }
 
-// Texts, and what is told of each.
+// Texts, and what is said of each.
 const CASES: &str = r#"a catalog may have no relations | {"relations":[]} | no relations
 a text that is cut off | {"relations":[] | C1 BadCatalog
 a member that is not known | {"relations":[],"x":1} | C1 BadCatalog
@@ -37,7 +37,7 @@ fn texts_are_catalogs_or_refused(rt: HostRuntime) -> Result<(), Fail> {
         let Some((name, text, wanted)) = parts(line) else {
             return Err(Fail::new("a line is no case"));
         };
-        let got = told(rt.alloc(), text)?;
+        let got = outcome(rt.alloc(), text)?;
         assert_eq!(rt; got.as_str(), wanted, "{name}");
     }
     Ok(())

@@ -110,7 +110,7 @@ fn fronts_of_a_text(rt: HostRuntime) -> Result<(), Fail> {
 }
 
 #[test]
-fn a_reader_or_a_writer_that_fails_is_told(rt: HostRuntime) -> Result<(), Fail> {
+fn a_reader_or_a_writer_that_fails_is_reported(rt: HostRuntime) -> Result<(), Fail> {
     for n in 0..33 {
         let failed = answer(rt.alloc(), KEYED, TEXT, Some(n), 1000)?;
         assert_eq!(rt; failed.as_str(), "C10 ReadFailed", "after {n}");

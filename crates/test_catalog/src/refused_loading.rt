@@ -110,7 +110,7 @@ fn ample_memory(rt: HostRuntime) -> Result<(), Fail> {
 }
 
 #[test]
-fn refused_memory_is_told(rt: HostRuntime) -> Result<(), Fail> {
+fn refused_memory_is_reported(rt: HostRuntime) -> Result<(), Fail> {
     let first = is_usual(&rt, again(rt.alloc(), FINE), Ok(FINE));
     let second = is_usual(&rt, again(rt.alloc(), FINE), Ok(FINE));
     assert!(rt; first || second, "one call after the other wanted memory");

@@ -131,7 +131,7 @@ fn ample_memory(rt: HostRuntime) -> Result<(), Fail> {
 }
 
 #[test]
-fn refused_memory_is_told(rt: HostRuntime) -> Result<(), Fail> {
+fn refused_memory_is_reported(rt: HostRuntime) -> Result<(), Fail> {
     let first = all(&rt, rt.alloc()).is_ok();
     let second = all(&rt, rt.alloc()).is_ok();
     assert!(rt; first || second, "one call after the other wanted memory");

@@ -48,7 +48,7 @@ fn with_scans(alloc: Global, root: &str) -> Result<String, AllocError> {
 }
 
 // What a plan comes to over a database: its rows as text, or the line of a refusal.
-fn told(alloc: Global, plan: &TypedPlan, database: &Database) -> Result<String, AllocError> {
+fn outcome(alloc: Global, plan: &TypedPlan, database: &Database) -> Result<String, AllocError> {
     match eval(alloc, plan, database) {
         Ok(rows) => shown(alloc, &rows.gathered(alloc)?),
         Err(fault) => format!(in alloc; "{fault}"),
@@ -60,7 +60,7 @@ fn comes_to(alloc: Global, root: &str) -> Result<String, Fail> {
     let root = with_scans(alloc, root)?;
     let plan = plan_of(alloc, root.as_str())?;
     let database = database_of(alloc, CATALOG)?;
-    Ok(told(alloc, &plan, &database)?)
+    Ok(outcome(alloc, &plan, &database)?)
 }
 
 // Of each case: what it shows, the root of a plan, and the rows that it comes to or why it is refused.
@@ -101,7 +101,7 @@ fn another_catalog_comes_first(rt: HostRuntime) -> Result<(), Fail> {
     let alloc = rt.alloc();
     let plan = plan_of(alloc, GATHER)?;
     let database = database_of(alloc, r#"{"relations":[]}"#)?;
-    let line = told(alloc, &plan, &database)?;
+    let line = outcome(alloc, &plan, &database)?;
     assert_eq!(rt; line.as_str(), "X6 OtherCatalog");
     Ok(())
 }

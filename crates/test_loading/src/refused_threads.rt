@@ -81,7 +81,7 @@ fn ample_memory(rt: HostRuntime) -> Result<(), Fail> {
 }
 
 #[test]
-fn refused_memory_is_told(rt: HostRuntime) -> Result<(), Fail> {
+fn refused_memory_is_reported(rt: HostRuntime) -> Result<(), Fail> {
     is_usual(&rt, rt.alloc(), FINE, Ok(5))
 }
 

@@ -18,7 +18,7 @@ pub const KEYED: &str =
 const ONE_TEXT: &str = r#"{"relations":[{"name":"u","columns":[{"name":"s","type":"text"}]}]}"#;
 
 // What a load answers: the rows as they are written again, or the error.
-fn told(
+fn outcome(
     alloc: Global,
     catalog: &Catalog,
     loaded: Result<Loaded, LoadFault>,
@@ -56,7 +56,7 @@ fn compare_shared<R: Abort + Threads + Sync>(
     }
     let mut reader = MemoryIn::new(text, fails_after);
     let got = load_in_shares(rt, alloc, catalog, 0, shares, &mut reader);
-    let got = told(alloc, catalog, got)?;
+    let got = outcome(alloc, catalog, got)?;
     assert_eq!(rt; got.as_str(), wanted, "{shares:?}");
     Ok(())
 }
@@ -74,7 +74,7 @@ fn compare<R: Abort + Threads + Sync>(
         return Err(Fail::new("the catalog has no relations"));
     }
     let one = Loader::load(alloc, &catalog, 0, &mut MemoryIn::new(text, fails_after));
-    let wanted = told(alloc, &catalog, one)?;
+    let wanted = outcome(alloc, &catalog, one)?;
     for threads in [1usize, 2, 7] {
         for (block, least) in SIZES {
             let shares = Shares {
@@ -139,7 +139,7 @@ fn byte_order_marks_behind_a_cut_are_kept(rt: HostRuntime) -> Result<(), Fail> {
 }
 
 #[test]
-fn a_reader_that_fails_is_told_after_any_byte(rt: HostRuntime) -> Result<(), Fail> {
+fn a_reader_that_fails_is_reported_after_any_byte(rt: HostRuntime) -> Result<(), Fail> {
     for n in 0..33 {
         compare(&rt, rt.alloc(), KEYED, TEXTS[6], Some(n))?;
     }
@@ -166,7 +166,7 @@ fn a_long_text_is_read_by_threads(rt: HostRuntime) -> Result<(), Fail> {
     let text = many(alloc, 20000)?;
     let mut reader = MemoryIn::new(text.as_bytes(), None);
     let got = load_in_threads(&rt, alloc, &catalog, 0, 4, &mut reader);
-    let got = told(alloc, &catalog, got)?;
+    let got = outcome(alloc, &catalog, got)?;
     assert_eq!(&rt; got.as_str(), text.as_str());
     Ok(())
 }

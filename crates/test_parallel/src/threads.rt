@@ -3,7 +3,7 @@
 use std::alloc::{AllocError, Global};
 use std::sync::Wait;
 use std::thread::Threads;
-use test_runs::{Case, agrees, told};
+use test_runs::{Case, agrees, outcome};
 use vx_exec::Setup;
 use vx_parallel::{Free, Gate, run_threads, run_threads_within};
 use vx_plan::Router;
@@ -17,7 +17,7 @@ pub fn by_threads<T: Threads + Wait + Sync, R: Router + Sync>(
     router: &R,
 ) -> Result<String, AllocError> {
     let ran = run_threads(rt, alloc, &case.plan, &case.database, setup, router, &Free);
-    told(alloc, ran)
+    outcome(alloc, ran)
 }
 
 /// What a case comes to in at most so many threads, with a gate.
@@ -40,7 +40,7 @@ pub fn by_threads_within<T: Threads + Wait + Sync, R: Router + Sync, G: Gate + S
         gate,
         most,
     );
-    told(alloc, ran)
+    outcome(alloc, ran)
 }
 
 /// How many of so many runs in threads come to other rows.

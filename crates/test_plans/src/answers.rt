@@ -5,6 +5,7 @@ use crate::case::Case;
 use crate::outline::{columns, is_claimed, outline};
 use serde_json::{Error, Value as Json};
 use std::alloc::{AllocError, Global};
+use vx_annotate::annotate;
 use vx_check::{CheckedPlan, Refused, check, explain};
 use vx_plan::{Plan, PlanFault, TypedPlan, erase, resolve, to_json};
 use vx_relations::Catalog;
@@ -147,6 +148,13 @@ fn explained(alloc: Global, catalog: &Catalog, bytes: &[u8]) -> Answer {
     }
 }
 
+fn annotated(alloc: Global, catalog: &Catalog, bytes: &[u8]) -> Answer {
+    match annotate(alloc, catalog, Plan::read(alloc, bytes)?) {
+        Ok(plan) => Ok(to_json(alloc, &plan)?),
+        Err(fault) => Ok(format!(in alloc; "{fault}")?),
+    }
+}
+
 /// What the call of a case answers. A refusal is its line.
 pub fn answer(alloc: Global, catalog: &Catalog, case: &Case) -> Result<String, AllocError> {
     let plan = case.plan.as_slice();
@@ -164,6 +172,7 @@ pub fn answer(alloc: Global, catalog: &Catalog, case: &Case) -> Result<String, A
         Call::Renumbered => renumbered(alloc, catalog, plan),
         Call::Check => checked(alloc, catalog, plan),
         Call::Explain => explained(alloc, catalog, plan),
+        Call::Annotate => annotated(alloc, catalog, plan),
         Call::NoMemory => Err(PlanFault::NoMemory),
     };
     match answer {

@@ -27,6 +27,8 @@ pub enum Call {
     Check,
     /// It is checked and explained.
     Explain,
+    /// It is annotated.
+    Annotate,
     /// Nothing: it is said that memory for it was refused.
     NoMemory,
 }
@@ -47,6 +49,7 @@ impl Call {
             "renumbered" => Some(Call::Renumbered),
             "check" => Some(Call::Check),
             "explain" => Some(Call::Explain),
+            "annotate" => Some(Call::Annotate),
             "no_memory" => Some(Call::NoMemory),
             _ => None,
         }

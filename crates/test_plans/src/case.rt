@@ -6,6 +6,7 @@ use crate::member::text_at;
 use anyhow::{Context, Error, bail};
 use serde_json::Value as Json;
 use std::alloc::{AllocError, Global};
+use vx_plan::{Plan, to_json};
 
 /// A call over a plan, and what it has to give.
 #[derive(Drop)]
@@ -65,6 +66,18 @@ fn other_in(alloc: Global, entry: &Json) -> Result<Vec<u8>, AllocError> {
     Vec::from_slice(alloc, text.as_bytes())
 }
 
+// What has to come: a text, or a plan as it is written.
+fn gives_in(alloc: Global, entry: &Json) -> Result<String, Error> {
+    let gives = entry
+        .get("gives")
+        .context("it says nothing of what is given")?;
+    if let Some(text) = gives.as_str() {
+        return Ok(String::from_str(alloc, text)?);
+    }
+    let plan = Plan::of_value(alloc, gives)?;
+    Ok(to_json(alloc, &plan)?)
+}
+
 impl Case {
     /// The case of an entry.
     pub fn read(alloc: Global, entry: &Json) -> Result<Case, Error> {
@@ -73,7 +86,7 @@ impl Case {
             call,
             plan: plan_in(alloc, entry)?,
             other: other_in(alloc, entry)?,
-            gives: String::from_str(alloc, text_at(entry, "gives")?)?,
+            gives: gives_in(alloc, entry)?,
         })
     }
 }

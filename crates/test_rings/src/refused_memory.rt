@@ -32,7 +32,7 @@ fn ample_memory(rt: HostRuntime) -> Result<(), Fail> {
 }
 
 #[test]
-fn refused_memory_is_told(rt: HostRuntime) -> Result<(), Fail> {
+fn refused_memory_is_reported(rt: HostRuntime) -> Result<(), Fail> {
     let first = are_made(rt.alloc());
     let second = are_made(rt.alloc());
     assert!(rt;

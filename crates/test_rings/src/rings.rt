@@ -9,7 +9,7 @@ use vx_views::Rows;
 
 // What came of a put: nothing is left, or the packet of this producer was returned, or the port was closed before.
 #[derive(Clone, Copy, Debug, PartialEq, Eq)]
-enum Told {
+enum Outcome {
     Done,
     Full(u32),
     NoMemory(u32),
@@ -30,14 +30,14 @@ fn last(alloc: Global, from: u32) -> Result<Packet, AllocError> {
     Ok(Packet::closing(0, from, 0, Ending::Last, none))
 }
 
-fn put(out: &mut RingOut, packet: Packet) -> Told {
+fn put(out: &mut RingOut, packet: Packet) -> Outcome {
     if out.is_closed() {
-        return Told::Closed;
+        return Outcome::Closed;
     }
     match out.put(packet) {
-        Put::Done => Told::Done,
-        Put::Full(packet) => Told::Full(packet.from()),
-        Put::NoMemory(packet) => Told::NoMemory(packet.from()),
+        Put::Done => Outcome::Done,
+        Put::Full(packet) => Outcome::Full(packet.from()),
+        Put::NoMemory(packet) => Outcome::NoMemory(packet.from()),
     }
 }
 
@@ -53,7 +53,7 @@ fn take(input: &mut RingIn) -> Option<u32> {
 fn first_put_finds_room(rt: HostRuntime) -> Result<(), Fail> {
     let (mut out, _input) = ring_pair(rt.alloc(), 1)?;
     let first = row(rt.alloc(), 1)?;
-    assert_eq!(rt; put(&mut out, first), Told::Done);
+    assert_eq!(rt; put(&mut out, first), Outcome::Done);
     Ok(())
 }
 
@@ -61,11 +61,11 @@ fn first_put_finds_room(rt: HostRuntime) -> Result<(), Fail> {
 fn ring_of_two_places(rt: HostRuntime) -> Result<(), Fail> {
     let alloc = rt.alloc();
     let (mut out, mut input) = ring_pair(alloc, 2)?;
-    assert_eq!(rt; put(&mut out, row(alloc, 1)?), Told::Done);
-    assert_eq!(rt; put(&mut out, row(alloc, 2)?), Told::Done);
-    assert_eq!(rt; put(&mut out, row(alloc, 3)?), Told::Full(3));
+    assert_eq!(rt; put(&mut out, row(alloc, 1)?), Outcome::Done);
+    assert_eq!(rt; put(&mut out, row(alloc, 2)?), Outcome::Done);
+    assert_eq!(rt; put(&mut out, row(alloc, 3)?), Outcome::Full(3));
     assert_eq!(rt; take(&mut input), Some(1));
-    assert_eq!(rt; put(&mut out, row(alloc, 3)?), Told::Done);
+    assert_eq!(rt; put(&mut out, row(alloc, 3)?), Outcome::Done);
     assert_eq!(rt; take(&mut input), Some(2));
     assert_eq!(rt; take(&mut input), Some(3));
     assert_eq!(rt; take(&mut input), None);
@@ -76,8 +76,8 @@ fn ring_of_two_places(rt: HostRuntime) -> Result<(), Fail> {
 fn closing_packet_goes_as_a_packet(rt: HostRuntime) -> Result<(), Fail> {
     let alloc = rt.alloc();
     let (mut out, mut input) = ring_pair(alloc, 1)?;
-    assert_eq!(rt; put(&mut out, last(alloc, 7)?), Told::Done);
-    assert_eq!(rt; put(&mut out, row(alloc, 8)?), Told::Closed);
+    assert_eq!(rt; put(&mut out, last(alloc, 7)?), Outcome::Done);
+    assert_eq!(rt; put(&mut out, row(alloc, 8)?), Outcome::Closed);
     assert_eq!(rt; take(&mut input), Some(7));
     Ok(())
 }
@@ -87,7 +87,7 @@ fn ends_go_on_once_they_came_together(rt: HostRuntime) -> Result<(), Fail> {
     let (mut out, mut input) = ring_pair(rt.alloc(), 1)?;
     reunite(&mut out, &mut input);
     let one = row(rt.alloc(), 1)?;
-    assert_eq!(rt; put(&mut out, one), Told::Done);
+    assert_eq!(rt; put(&mut out, one), Outcome::Done);
     assert_eq!(rt; take(&mut input), Some(1));
     Ok(())
 }

@@ -55,7 +55,7 @@ fn text_of(alloc: Global, rows: &Rows) -> Result<String, AllocError> {
 }
 
 /// What a run comes to: its rows as one text, the line of its fault, or that some worker has not ended.
-pub fn told(alloc: Global, ran: Result<Ran, RunFault>) -> Result<String, AllocError> {
+pub fn outcome(alloc: Global, ran: Result<Ran, RunFault>) -> Result<String, AllocError> {
     match ran {
         Ok(Ran::Done(rows)) => text_of(alloc, &rows),
         Ok(Ran::Unfinished) => String::from_str(alloc, "unfinished"),
@@ -71,7 +71,7 @@ pub fn by_rounds<R: Router>(
     router: &R,
 ) -> Result<String, AllocError> {
     let ran = run_rounds(alloc, &case.plan, &case.database, setup, router, ROUNDS);
-    told(alloc, ran)
+    outcome(alloc, ran)
 }
 
 /// What a case comes to by a schedule.
@@ -83,7 +83,7 @@ pub fn by_steps<R: Router>(
     steps: &[u32],
 ) -> Result<String, AllocError> {
     let ran = run_scheduled(alloc, &case.plan, &case.database, setup, router, steps);
-    told(alloc, ran)
+    outcome(alloc, ran)
 }
 
 /// What a case comes to by serial evaluation, without its exchanges.

@@ -41,7 +41,7 @@ fn ample_memory(rt: HostRuntime) -> Result<(), Fail> {
 }
 
 #[test]
-fn refused_memory_is_told(rt: HostRuntime) -> Result<(), Fail> {
+fn refused_memory_is_reported(rt: HostRuntime) -> Result<(), Fail> {
     let first = is_written(&rt, rt.alloc());
     let second = is_written(&rt, rt.alloc());
     assert!(rt;

@@ -50,7 +50,7 @@ fn both_are_usual<R: Abort + Threads + Sync>(rt: &R, alloc: Global) {
 }
 
 #[test]
-fn refused_memory_is_told(rt: HostRuntime) -> Result<(), Fail> {
+fn refused_memory_is_reported(rt: HostRuntime) -> Result<(), Fail> {
     both_are_usual(&rt, rt.alloc());
     Ok(())
 }

@@ -28,7 +28,7 @@ const ENTRIES: [(i64, &str); 7] = [
 pub const TEXT: &str =
     "n,\"a,b\"\n1,plain\n-2,\"with,comma\"\n3,\"say \"\"x\"\"\"\n0,\n-9223372036854775808,\"two\nlines\"\n9223372036854775807, aä€😀 \n7,\"n,\"\"a,b\"\"\n\"\n";
 
-// The text of their second column alone: a row of one empty text is told from an empty line.
+// The text of their second column alone: a row of one empty text is outcome from an empty line.
 const ONE_COLUMN: &str =
     "\"a,b\"\nplain\n\"with,comma\"\n\"say \"\"x\"\"\"\n\"\"\n\"two\nlines\"\n aä€😀 \n\"n,\"\"a,b\"\"\n\"\n";
 

@@ -1,7 +1,7 @@
 -- All conditions hold, one by one.
-use Rattle.std.proofs.Common.{◌≡◌, ℕ, ◌+◌, ◌<◌, ◌≤◌, ◌&&◌, Bool, true, false, cond, List, [], ◌∷◌, length, take, filter, get_or, sym, ◌∙◌, ap, refl, take_all}
+use Rattle.std.proofs.Common.{◌≡◌, ℕ, ◌+◌, ◌<◌, ◌&&◌, Bool, true, false, cond, List, [], ◌∷◌, length, take, filter, get_or, sym, ◌∙◌, ap, refl}
 use Rattle.std.specs.List.{list_all}
-use Rattle.std.proofs.lemmas.List.Folds.{list_all-map, list_all_at, list_all_more}
+use Rattle.std.proofs.lemmas.List.Folds.{list_all-map, list_all_more}
 use Rattle.vx_values.specs.Values.{Row}
 use Rattle.vx_plan_nodes.specs.Serial.{passes}
 use Rattle.vx_plan_nodes.specs.Conditions.{conditions_of}

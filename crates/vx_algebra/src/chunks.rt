@@ -4,7 +4,7 @@ ghost use Rattle.std.specs.Prelude.{◌≡◌, ◌<◌, ◌++◌, ◌∷◌, [],
 ghost use Rattle.std.specs.List.{All};
 ghost use Rattle.vx_values.specs.declared.value.ColType.TheVariants as kind;
 ghost use Rattle.vx_values.specs.Types.{type_at};
-ghost use Rattle.vx_values.specs.Values.{num, value_at};
+ghost use Rattle.vx_values.specs.Values.{num};
 ghost use Rattle.vx_values.specs.ValueView.{cell_val, test_of};
 ghost use Rattle.vx_rows.specs.Order.{sort_on};
 ghost use Rattle.vx_rows.specs.View.{row, AreColumns};

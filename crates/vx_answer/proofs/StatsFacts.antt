@@ -17,11 +17,11 @@ use Rattle.vx_stats.specs.Text.{plan_text}
 use Rattle.vx_stats.specs.declared.phases.Phase.{Phase}
 use Rattle.vx_stats.specs.declared.phases.Phase.TheVariants as phase
 use Rattle.vx_stats.specs.declared.text.StatsForm.{StatsForm}
-use Rattle.vx_tables.specs.Folder.{holds_at, LacksAt}
-use Rattle.vx_answer.specs.CommandLine.{FileCommand, AnswersTask, TaskRefuses, task_memory, for_planning, for_plan_of}
+use Rattle.vx_tables.specs.Folder.{holds_at}
+use Rattle.vx_answer.specs.CommandLine.{FileCommand, AnswersTask, TaskRefuses, task_memory, for_planning}
 use Rattle.vx_answer.specs.Commands.{Holding, Lacking, IsShown, IsDatabaseFor, IsRunOver, RunRefuses, PlanRefuses, CommandRefuses, for_run, for_rest, command_memory}
 use Rattle.vx_answer.specs.Files.{IsFilesPlan, IsFilesRefusal}
-use Rattle.vx_answer.specs.Plans.{NamedPlan, AreAnswers, title}
+use Rattle.vx_answer.specs.Plans.{AreAnswers, title}
 use Rattle.vx_answer.specs.PlansView.{named_is}
 use Rattle.vx_answer.specs.Stats.{IsCountedRun, IsCountedPlan, AreTaskStats, IsRunMore, AreCountedRuns}
 use Rattle.vx_answer.specs.declared.plans.AcceptedPlan.{AcceptedPlan}

@@ -1,6 +1,6 @@
 -- Statistics of runs: which arguments ask for them, and what standard error gets behind the rows. `files` and `input` are as in `Files`.
-use Rattle.std.specs.Prelude.{◌≡◌, ℕ, ◌++◌, List, [], ◌∷◌, map, Bool, true, false, Option, Some, None, option_and_then, Ok, length, bytes_eq, codes, if◌then◌else◌}
-use Rattle.vx_arguments.specs.Asked.{Ask, ManyPaths, Given, bundle, check, check_all, explain, annotate, sql, why, serial, run, run_plans, generate, stats_by}
+use Rattle.std.specs.Prelude.{◌≡◌, ℕ, ◌++◌, List, [], ◌∷◌, map, Bool, true, false, Option, option_and_then, Ok, length, codes}
+use Rattle.vx_arguments.specs.Asked.{Ask, ManyPaths, Given, run, run_plans, stats_by}
 use Rattle.vx_bundle.specs.declared.command.Command.TheVariants as command
 use Rattle.vx_bundle.specs.declared.setting.Mode.{Mode}
 use Rattle.vx_bundle.specs.declared.setting.Mode.TheVariants as mode

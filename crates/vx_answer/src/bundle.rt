@@ -1,6 +1,6 @@
 //! The answer to a bundle, over values: no byte is read or written here.
 
-ghost use Rattle.std.specs.Prelude.{◌≡◌, IfOk, IfErr};
+ghost use Rattle.std.specs.Prelude.{IfOk, IfErr};
 ghost use Rattle.vx_bundle.specs.BundleView.{bundle_form};
 ghost use Rattle.vx_plan_nodes.specs.TypedView.{resolved_of};
 ghost use Rattle.vx_answer.specs.Answer.{IsBundlePlan, IsBundlePlanRefusal, IsOutput, Refuses, IsAnswer, IsRefused};

@@ -4,7 +4,7 @@ ghost use Rattle.std.specs.Prelude.{◌≡◌, ◌⊎◌, [], slice_index_or, tr
 ghost use Rattle.clap.specs.Values.{kind_of};
 ghost use Rattle.vx_arguments.specs.Asked.{asked_is, paths_are, many_are, given_is, run, run_plans, check_all, explain, draw, sql, why, Ask};
 ghost use Rattle.vx_stats.specs.declared.text.StatsForm.{StatsForm};
-ghost use Rattle.vx_answer.specs.Arguments.{IsSetting, IsNoSetting};
+ghost use Rattle.vx_answer.specs.Arguments.{IsNoSetting};
 ghost use Rattle.vx_answer.specs.Plans.{AnswersPlans};
 ghost use Rattle.vx_answer.specs.CommandLine.{default_setting, IsTask, IsNoTask, AnswersTask, TaskRefuses, AnswersForm, FormIsRefused, AnswersStatement, StatementIsRefused, AnswersAnnotation, AnnotationIsRefused, spelled_out, with_program_name, AsksFor};
 ghost use Rattle.vx_answer.specs.Stats.{stats_of_word, stats_asked, is_run};

@@ -1,12 +1,10 @@
 //! Runs that arguments ask for with statistics.
 
 ghost use Rattle.std.specs.Prelude.{◌≡◌, true, map, string_bytes, IfOk, IfErr};
-ghost use Rattle.vx_plan_nodes.specs.TypedView.{resolved_of};
-ghost use Rattle.vx_check_rules.specs.CheckedView.{typed_plan};
 ghost use Rattle.vx_arguments.specs.Asked.{asked_is, many_are};
 ghost use Rattle.vx_answer.specs.Commands.{IsRunOver, RunRefuses};
 ghost use Rattle.vx_answer.specs.CommandLineView.{IsAskAnswer, IsAskFault, IsPlansFault};
-ghost use Rattle.vx_answer.specs.Plans.{AnswersPlans, StopsAt};
+ghost use Rattle.vx_answer.specs.Plans.{StopsAt};
 ghost use Rattle.vx_answer.specs.PlansView.{named_is};
 ghost use Rattle.vx_answer.specs.Stats.{is_run, AreCountedRuns, ArePlansStats};
 ghost use Rattle.vx_answer.specs.StatsView.{IsCountedAs};

@@ -1,6 +1,6 @@
 //! Checks of all nodes of a plan.
 
-ghost use Rattle.std.specs.Prelude.{◌≡◌, IfOk};
+ghost use Rattle.std.specs.Prelude.{IfOk};
 ghost use Rattle.vx_plan_nodes.specs.TypedView.{resolved_of};
 ghost use Rattle.vx_answer.specs.VerdictView.{IsVerdict};
 

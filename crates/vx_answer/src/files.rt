@@ -1,6 +1,6 @@
 //! A catalog and a plan from files and standard input.
 
-ghost use Rattle.std.specs.Prelude.{◌≡◌, true, false, codes, IfOk, IfErr, IsErrOf};
+ghost use Rattle.std.specs.Prelude.{◌≡◌, true, false, IfOk, IfErr, IsErrOf};
 ghost use Rattle.vx_bytes.specs.Ports.{IsAll};
 ghost use Rattle.vx_plan_nodes.specs.TypedView.{resolved_of};
 ghost use Rattle.vx_arguments.specs.Asked.{paths_are};

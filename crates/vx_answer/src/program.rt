@@ -1,7 +1,7 @@
 //! The whole program but its `main`: from all input to all output.
 
 ghost use Rattle.std.specs.Prelude.{◌≡◌, ◌≢◌, ◌<◌, ◌≤◌, ◌⊎◌, ◌||◌, ◌++◌, ℕ, List, [], Option, Some, None, true, false, map, string_bytes, is_err, IfSome, IfOk, IfErr, OnOk, IsErrOf};
-ghost use Rattle.std.specs.Io.KnownBytes.{Appends, Keeps};
+ghost use Rattle.std.specs.Io.KnownBytes.{Appends};
 ghost use Rattle.vx_answer.specs.Answer.{IsAnswer, RefusedWith, IsRefusedBy};
 ghost use Rattle.vx_catalog.specs.Csv.{csv_text};
 ghost use Rattle.vx_refusals.specs.Status.{status_of};

@@ -47,13 +47,13 @@ code_rule = record (new_rule (codes "code")) { value_names = 1; required = true 
 abbrev pub sizes_rule : Rule
 sizes_rule = record (new_rule (codes "sizes")) { value_names = 1; range = Some (record { start_inclusive = 0; end_inclusive = usize_max }) }
 
--- a command that reads a catalog, and what this rule says of plans
-abbrev pub reading_app : Text → Rule → App
-reading_app name plan = with_rule (with_rule (new_app name) (path_rule (codes "catalog"))) plan
+-- a command that reads a catalog
+abbrev pub reading_app : Text → App
+reading_app name = with_rule (new_app name) (path_rule (codes "catalog"))
 
 -- a command that reads a catalog and a plan alone
 abbrev pub judging_app : Text → App
-judging_app name = reading_app name (path_rule (codes "plan"))
+judging_app name = with_rule (reading_app name) (path_rule (codes "plan"))
 
 -- a refusal is followed by a line that says where it was found
 abbrev pub verbose_rule : Rule
@@ -72,7 +72,7 @@ serial_app = with_rule (with_rule (with_rule (with_rule (judging_app (codes "ser
 
 abbrev pub run_app : App
 run_app =
-    with_rule (with_rule (with_rule (with_rule (with_rule (with_rule (with_rule (with_rule (with_rule (with_rule (reading_app (codes "run") plans_rule) (path_rule (codes "data")))
+    with_rule (with_rule (with_rule (with_rule (with_rule (with_rule (with_rule (with_rule (with_rule (with_rule (with_rule (reading_app (codes "run")) plans_rule) (path_rule (codes "data")))
     (number_rule (codes "packet") (codes "256"))) (number_rule (codes "morsel") (codes "1024"))) (number_rule (codes "slack") (codes "8"))) (word_rule (codes "mode") (codes "rounds")))
     threads_rule) (flag_rule (codes "quiet"))) (word_rule (codes "stats") (codes "none"))) verbose_rule) sizes_rule
 

@@ -1,7 +1,8 @@
 //! The commands of the program and their options, with the help that they show.
 
 ghost use Rattle.std.specs.Prelude.{◌≡◌, IfOk, false, codes};
-ghost use Rattle.clap.specs.Words.{app_of, rule_of};
+ghost use Rattle.std.specs.Result.{IsOkAnd};
+ghost use Rattle.clap.specs.Words.{app_of, rule_of, with_subcommand};
 ghost use Rattle.clap.specs.declared.builder.command.Command.TheViews.{out-Command as fields_of};
 ghost use Rattle.vx_arguments.specs.Asked.{path_rule, plans_rule, number_rule, rows_rule, word_rule, flag_rule, code_rule, sizes_rule, verbose_rule, drawn_rule, reading_app, judging_app, serial_app, run_app, check_app, explain_app, annotate_app, sql_app, why_app, gen_app, program_app, volcano_app};
 
@@ -238,23 +239,20 @@ fn data_option<'a>(alloc: Global) -> Arg<'a>
     )
 }
 
-// A command that reads a catalog, and plans by this option.
+// A command that reads a catalog.
 fn reading<'a>(
     alloc: Global,
     name: &'a str,
     about: &'a str,
     example: &'a str,
-    plan: Arg<'a>,
 ) -> Result<Command<'a>, AllocError>
-    requires own { plan.global ≡ false }
-    ensures app { IfOk result (λ c. app_of c ≡ reading_app name.entry.now (rule_of plan.entry)) }
+    ensures app { IfOk result (λ c. app_of c ≡ reading_app name.entry.now) }
     ensures local { IfOk result (λ c. (fields_of c).has_globals ≡ false) }
 {
     Command::new(alloc, name)
         .about(about)
         .after_help(example)
-        .arg(catalog_option(alloc))?
-        .arg(plan)
+        .arg(catalog_option(alloc))
 }
 
 // A command that reads a catalog and a plan alone.
@@ -267,7 +265,7 @@ fn judging<'a>(
     ensures app { IfOk result (λ c. app_of c ≡ judging_app name.entry.now) }
     ensures local { IfOk result (λ c. (fields_of c).has_globals ≡ false) }
 {
-    reading(alloc, name, about, example, plan_option(alloc))
+    reading(alloc, name, about, example)?.arg(plan_option(alloc))
 }
 
 fn serial<'a>(alloc: Global) -> Result<Command<'a>, AllocError>
@@ -295,8 +293,8 @@ fn run<'a>(alloc: Global) -> Result<Command<'a>, AllocError>
         "run",
         "Runs a plan that the checker accepts, with many workers, and prints the rows as CSV",
         "Example: volcano run --catalog catalog.json --plan plan.json --data tables many=4",
-        plans_option(alloc),
     )?
+    .arg(plans_option(alloc))?
     .arg(data_option(alloc))?
     .arg(number_option(
         alloc,
@@ -416,17 +414,27 @@ fn program<'a>(alloc: Global) -> Command<'a>
         )
 }
 
+// The program with one command more, where there was memory for that command.
+fn with_command<'a>(
+    program: Command<'a>,
+    added: Result<Command<'a>, AllocError>,
+) -> Result<Command<'a>, AllocError>
+    requires local { IfOk added (λ c. (fields_of c).has_globals ≡ false) }
+    ensures { IfOk result (λ r. IsOkAnd added.entry (λ c. app_of r ≡ with_subcommand (app_of program.entry) (app_of c).top)) }
+{
+    program.subcommand(added?)
+}
+
 /// The command line of the program.
 pub fn command<'a>(alloc: Global) -> Result<Command<'a>, AllocError>
     ensures { IfOk result (λ c. app_of c ≡ volcano_app) }
 {
-    program(alloc)
-        .subcommand(run(alloc)?)?
-        .subcommand(serial(alloc)?)?
-        .subcommand(check(alloc)?)?
-        .subcommand(explain(alloc)?)?
-        .subcommand(annotate(alloc)?)?
-        .subcommand(sql(alloc)?)?
-        .subcommand(why(alloc)?)?
-        .subcommand(generate(alloc)?)
+    let with_run = with_command(program(alloc), run(alloc))?;
+    let with_serial = with_command(with_run, serial(alloc))?;
+    let with_check = with_command(with_serial, check(alloc))?;
+    let with_explain = with_command(with_check, explain(alloc))?;
+    let with_annotate = with_command(with_explain, annotate(alloc))?;
+    let with_sql = with_command(with_annotate, sql(alloc))?;
+    let with_why = with_command(with_sql, why(alloc))?;
+    with_command(with_why, generate(alloc))
 }

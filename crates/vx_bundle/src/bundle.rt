@@ -1,6 +1,6 @@
 //! A bundle: what one run of the program is asked to do, as JSON.
 
-ghost use Rattle.std.specs.Prelude.{◌≡◌, [], map, string_bytes, codes, option_map, bytes_eq};
+ghost use Rattle.std.specs.Prelude.{◌≡◌, [], map, codes, option_map, bytes_eq, IfOk};
 ghost use Rattle.std.specs.List.{find};
 ghost use Rattle.serde_json.specs.Find.{get, as_str};
 ghost use Rattle.serde_json.specs.View.{view, members_view};
@@ -121,6 +121,15 @@ fn read_setting(alloc: Global, value: &Value) -> Result<Setting, Misread>
     Ok(Setting::new(sizes, packet, morsel, slack, mode))
 }
 
+// A member's name with its text.
+fn read_table<'v>(name: &'v str, value: &'v Value) -> Result<TableText<'v>, Misread>
+    ensures name { IfOk result (λ t. t.name.now ≡ name.now) }
+    ensures text { Finds (λ t. t.text.now) result (as_str (view value.now)) }
+{
+    let text = get_text(value)?;
+    Ok(TableText { name, text })
+}
+
 // Each member's name with its text.
 fn read_each_table<'v>(
     alloc: Global,
@@ -130,9 +139,8 @@ fn read_each_table<'v>(
 {
     let mut tables = Vec::new(alloc);
     for (name, value) in members.iter() {
-        let text = get_text(value)?;
-        let name = name.as_str();
-        tables.push(TableText { name, text })?;
+        let table = read_table(name.as_str(), value)?;
+        tables.push(table)?;
     }
     Ok(tables)
 }

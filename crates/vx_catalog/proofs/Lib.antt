@@ -1,6 +1,6 @@
 pub mod NumberFacts
 pub mod HeaderFacts
-pub mod RowsTold
+pub mod RowsReported
 pub mod RowFacts
 pub mod RecordFacts
 pub mod OrderFacts

@@ -16,12 +16,12 @@ use Rattle.vx_catalog.specs.Loading.{max_bytes, Fails, Gives, is_header, rows_on
 use Rattle.vx_catalog.proofs.RowFacts.{fails_along}
 
 -- the rows under a header are those of the records behind it
-pub under_told : {X : Type 0} (look : X → List Row) (result : Result X LoadFault) (names : List (List ℕ)) (types : List ColType) (fields : List (List ℕ)) (all left : Option (List (List (List ℕ))))
+pub under_reported : {X : Type 0} (look : X → List Row) (result : Result X LoadFault) (names : List (List ℕ)) (types : List ColType) (fields : List (List ℕ)) (all left : Option (List (List (List ℕ))))
     → Begins fields all left → is_header names fields ≡ true → IfSome left (λ records. Gives look result (rows_onto types [] records))
     → IfSome all (λ records. Gives look result (under_header names types records))
-under_told look result names types fields None left b is h = tt
-under_told look result names types fields (Some all) None b is h = absurd b
-under_told look result names types fields (Some all) (Some left) b is h = rw (b, is) h
+under_reported look result names types fields None left b is h = tt
+under_reported look result names types fields (Some all) None b is h = absurd b
+under_reported look result names types fields (Some all) (Some left) b is h = rw (b, is) h
 
 -- what is read of all records of a text is read under its header
 of_text : {X : Type 0} (look : X → List Row) (read : Result X LoadFault) (names : List (List ℕ)) (types : List ColType) (bytes : List ℕ) (rest : Option (List (List (List ℕ))))
@@ -42,23 +42,23 @@ start_rest : (state : State) (source known text : Option (List ℕ)) → state �
 start_rest state source known text e f h = rw (e, f, h) refl
 
 -- a refusal of a text is that of its loading
-pub refused_told : {X : Type 0} (look : X → List Row) (text : Option (List ℕ)) (relation : Relation) (read : Result X LoadFault) (e : LoadFault) (state : State) (source known : Option (List ℕ))
+pub refused_reported : {X : Type 0} (look : X → List Row) (text : Option (List ℕ)) (relation : Relation) (read : Result X LoadFault) (e : LoadFault) (state : State) (source known : Option (List ℕ))
     → state ≡ st.StartRecord → source ≡ option_map strip_bom known → known ≡ text → IfSome (option_map (records_left state) source) (λ records. Gives look read (under_header relation.names relation.types records))
     → Settles text read (Err e) → IfSome text (λ bytes. Fails e (load_of relation bytes))
-refused_told look None relation read e state source known at_start all same told s = tt
-refused_told look (Some bytes) relation read e state source known at_start all same told (inl h) = let k : e ≡ fault.NoMemory = cc in rw k tt
-refused_told look (Some bytes) relation read e state source known at_start all same told (inr (inl h)) = let g = h.0 in let k : e ≡ fault.TooLarge = cc in rw k (large_load relation bytes h.1)
-refused_told look (Some bytes) relation read e state source known at_start all same told (inr (inr h)) =
-    let bad = of_text look (Err e) relation.names relation.types bytes (option_map (records_left state) source) (start_rest state source known (Some bytes) at_start all same) (rw (sym h.0) at told) in
+refused_reported look None relation read e state source known at_start all same reported s = tt
+refused_reported look (Some bytes) relation read e state source known at_start all same reported (inl h) = let k : e ≡ fault.NoMemory = cc in rw k tt
+refused_reported look (Some bytes) relation read e state source known at_start all same reported (inr (inl h)) = let g = h.0 in let k : e ≡ fault.TooLarge = cc in rw k (large_load relation bytes h.1)
+refused_reported look (Some bytes) relation read e state source known at_start all same reported (inr (inr h)) =
+    let bad = of_text look (Err e) relation.names relation.types bytes (option_map (records_left state) source) (start_rest state source known (Some bytes) at_start all same) (rw (sym h.0) at reported) in
     fails_along e (under_header relation.names relation.types (records_of bytes)) (load_of relation bytes) (λ f g. small_load relation bytes h.1 ∙ rw g refl) bad
 
 -- what is answered of the rows of a text is what its loading gives
-pub tested_told : {X : Type 0} (look : X → List Row) (text : Option (List ℕ)) (relation : Relation) (read result : Result X LoadFault) (rows : X) (state : State) (source known : Option (List ℕ))
+pub tested_reported : {X : Type 0} (look : X → List Row) (text : Option (List ℕ)) (relation : Relation) (read result : Result X LoadFault) (rows : X) (state : State) (source known : Option (List ℕ))
     → state ≡ st.StartRecord → source ≡ option_map strip_bom known → known ≡ text → IfSome (option_map (records_left state) source) (λ records. Gives look read (under_header relation.names relation.types records))
     → Settles text read (Ok rows) → Gives look result (tested relation (look rows)) → IfSome text (λ bytes. Gives look result (load_of relation bytes))
-tested_told look None relation read result rows state source known at_start all same told s h = tt
-tested_told look (Some bytes) relation read result rows state source known at_start all same told (inl s) h = cc
-tested_told look (Some bytes) relation read result rows state source known at_start all same told (inr (inl s)) h = let bad = s.0 in cc
-tested_told look (Some bytes) relation read result rows state source known at_start all same told (inr (inr s)) h =
-    let whole : under_header relation.names relation.types (records_of bytes) ≡ Ok (look rows) = of_text look (Ok rows) relation.names relation.types bytes (option_map (records_left state) source) (start_rest state source known (Some bytes) at_start all same) (rw (sym s.0) at told) in
+tested_reported look None relation read result rows state source known at_start all same reported s h = tt
+tested_reported look (Some bytes) relation read result rows state source known at_start all same reported (inl s) h = cc
+tested_reported look (Some bytes) relation read result rows state source known at_start all same reported (inr (inl s)) h = let bad = s.0 in cc
+tested_reported look (Some bytes) relation read result rows state source known at_start all same reported (inr (inr s)) h =
+    let whole : under_header relation.names relation.types (records_of bytes) ≡ Ok (look rows) = of_text look (Ok rows) relation.names relation.types bytes (option_map (records_left state) source) (start_rest state source known (Some bytes) at_start all same) (rw (sym s.0) at reported) in
     rw (small_load relation bytes s.1, whole) h

@@ -16,7 +16,7 @@ use Rattle.vx_relations.specs.Walk.{◌>>=◌}
 use Rattle.vx_catalog.specs.declared.fault.LoadFault.{LoadFault}
 use Rattle.vx_catalog.specs.declared.fault.LoadFault.TheVariants as fault
 use Rattle.vx_catalog.specs.Records.{Begins}
-use Rattle.vx_catalog.proofs.RowsTold.{RowsSoFar}
+use Rattle.vx_catalog.proofs.RowsReported.{RowsSoFar}
 use Rattle.vx_catalog.specs.Loading.{Fails, some_number, value_of, some_value, next_value, row_of, max_rows, row_added, rows_onto}
 
 pub ascii_is_utf8 : (bytes : List ℕ) → IsAscii bytes → IsUtf8 bytes
@@ -95,26 +95,26 @@ row_added_few types front fields next h =
 
 -- ---- the rows of records that may be unknown
 
-pub rows_told_more : (types : List ColType) (front next : List Row) (fields : List (List ℕ)) (all now left : Option (List (List (List ℕ)))) → RowsSoFar types front all now → Begins fields now left
+pub rows_reported_more : (types : List ColType) (front next : List Row) (fields : List (List ℕ)) (all now left : Option (List (List (List ℕ)))) → RowsSoFar types front all now → Begins fields now left
     → row_added types front fields ≡ Ok next → RowsSoFar types next all left
-rows_told_more types front next fields None now left so_far begins added = tt
-rows_told_more types front next fields (Some all) None left so_far begins added = absurd so_far
-rows_told_more types front next fields (Some all) (Some now) None so_far begins added = absurd begins
-rows_told_more types front next fields (Some all) (Some now) (Some left) so_far begins added = rows_more types front fields left now next _ begins added so_far
+rows_reported_more types front next fields None now left so_far begins added = tt
+rows_reported_more types front next fields (Some all) None left so_far begins added = absurd so_far
+rows_reported_more types front next fields (Some all) (Some now) None so_far begins added = absurd begins
+rows_reported_more types front next fields (Some all) (Some now) (Some left) so_far begins added = rows_more types front fields left now next _ begins added so_far
 
-pub rows_told_stop : (types : List ColType) (front : List Row) (fields : List (List ℕ)) (all now left : Option (List (List (List ℕ)))) (e : LoadFault) → RowsSoFar types front all now → Begins fields now left
+pub rows_reported_stop : (types : List ColType) (front : List Row) (fields : List (List ℕ)) (all now left : Option (List (List (List ℕ)))) (e : LoadFault) → RowsSoFar types front all now → Begins fields now left
     → Fails e (row_added types front fields) → IfSome all (λ records. Fails e (rows_onto types [] records))
-rows_told_stop types front fields None now left e so_far begins bad = tt
-rows_told_stop types front fields (Some all) None left e so_far begins bad = absurd so_far
-rows_told_stop types front fields (Some all) (Some now) None e so_far begins bad = absurd begins
-rows_told_stop types front fields (Some all) (Some now) (Some left) e so_far begins bad =
+rows_reported_stop types front fields None now left e so_far begins bad = tt
+rows_reported_stop types front fields (Some all) None left e so_far begins bad = absurd so_far
+rows_reported_stop types front fields (Some all) (Some now) None e so_far begins bad = absurd begins
+rows_reported_stop types front fields (Some all) (Some now) (Some left) e so_far begins bad =
     fails_along e (row_added types front fields) _ (rows_stop types front fields left now _ begins so_far) bad
 
-pub rows_told_done : (types : List ColType) (front : List Row) (all now : Option (List (List (List ℕ)))) → RowsSoFar types front all now → IfSome now (λ records. records ≡ [])
+pub rows_reported_done : (types : List ColType) (front : List Row) (all now : Option (List (List (List ℕ)))) → RowsSoFar types front all now → IfSome now (λ records. records ≡ [])
     → IfSome all (λ records. rows_onto types [] records ≡ Ok front)
-rows_told_done types front None now so_far none = tt
-rows_told_done types front (Some all) None so_far none = absurd so_far
-rows_told_done types front (Some all) (Some now) so_far none = rows_done types front now _ none so_far
+rows_reported_done types front None now so_far none = tt
+rows_reported_done types front (Some all) None so_far none = absurd so_far
+rows_reported_done types front (Some all) (Some now) so_far none = rows_done types front now _ none so_far
 
 -- what a call refuses of what is known is no failure of its source
 pub fails_own : {Y : Type 0} (e : LoadFault) (read : Result Y LoadFault) → Fails e read → e ≢ fault.ReadFailed

@@ -1,7 +1,6 @@
 //! Output columns that are copies of input columns.
 
 ghost use Rattle.std.specs.Prelude.{◌≡◌, ◌&&◌, map, true};
-ghost use Rattle.std.specs.List.{list_all};
 ghost use Rattle.vx_check_rules.specs.Rules.{numbers_eq, is_prefix, covers, if_some, shifted};
 
 use crate::copied::CopiedColumns;

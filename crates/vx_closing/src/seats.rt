@@ -5,7 +5,6 @@ ghost use Rattle.std.specs.List.{All};
 ghost use Rattle.vx_decks.specs.Seats.{SeatView};
 ghost use Rattle.vx_threads.specs.declared.drawer.Drawer.{Drawer as ADrawer};
 ghost use Rattle.vx_threads.specs.declared.drawer.Dealer.TheVariants as dealer;
-ghost use Rattle.vx_pairs.specs.Pairs.{At};
 ghost use Rattle.vx_closing.specs.Closing.{DrawIn, AreApartDraws};
 ghost use Rattle.vx_closing.specs.Taking.{SeatAt, AreHeld, HeldIn, Remains};
 

@@ -1,6 +1,6 @@
 //! What a call writes for its caller.
 
-ghost use Rattle.std.specs.Prelude.{◌≡◌, ◌⊎◌, false};
+ghost use Rattle.std.specs.Prelude.{◌≡◌, false};
 ghost use Rattle.vx_embed.specs.Given.{IsGiven, IsRefusal, IsSpanStatus};
 
 use std::alloc::Global;

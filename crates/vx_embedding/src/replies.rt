@@ -1,7 +1,6 @@
 //! What each call comes to: a status, and a text that answers or the printed line of a refusal.
 
-ghost use Rattle.std.specs.Prelude.{◌≡◌, ◌⊎◌, [], None, false, IfOk};
-ghost use Rattle.vx_relations.specs.Naming.{catalog_text};
+ghost use Rattle.std.specs.Prelude.{◌≡◌, [], None, false, IfOk};
 ghost use Rattle.vx_embedding.specs.Replies.{accepted_text, IsRefusalReply, ChecksTo, ExplainsTo, EvaluatesTo};
 
 use crate::lines::{line_of, node_of};

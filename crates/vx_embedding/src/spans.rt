@@ -1,6 +1,6 @@
 //! Names and texts of tables in one slice of bytes.
 
-ghost use Rattle.std.specs.Prelude.{◌≡◌, ◌≢◌, None, length, map, position, IfOk, IfErr};
+ghost use Rattle.std.specs.Prelude.{◌≡◌, None, length, map, position, IfOk, IfErr};
 ghost use Rattle.vx_embedding.specs.Texts.{table_form};
 ghost use Rattle.vx_embedding.specs.Spans.{is_outside, cut, cut_table, SpansFail};
 

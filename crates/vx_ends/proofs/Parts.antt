@@ -1,5 +1,5 @@
 -- What was given in part: more rows, fewer packets, and Fault.
-use Rattle.std.proofs.Common.{◌≡◌, ℕ, ◌<◌, ◌==◌, Bool, true, false, Some, cond, List, [], ◌∷◌, ◌++◌, length, take, refl, sym, ◌∙◌, append-nil}
+use Rattle.std.proofs.Common.{◌≡◌, ℕ, ◌==◌, Bool, true, false, Some, cond, List, [], ◌∷◌, ◌++◌, length, take, refl, sym, ◌∙◌, append-nil}
 use Rattle.vx_values.specs.Values.{Row}
 use Rattle.vx_rows.specs.Lists.{IsBeginning}
 use Rattle.vx_plan_nodes.specs.Routes.{Routing}

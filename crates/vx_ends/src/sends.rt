@@ -8,7 +8,7 @@ use vx_ports::Packet;
 /// What accepts the rows that the top of a fragment returns: the sending end of an exchange, which returns packets for the consumers, or the root's rows.
 pub trait Sends {
     ghost use Rattle.std.specs.Prelude.{◌≡◌, ℕ, Bool, true, false, List, OnOk, OnErr, IfSome, IfNone, Some};
-    ghost use Rattle.vx_values.specs.Values.{Val, Row};
+    ghost use Rattle.vx_values.specs.Values.{Val};
     ghost use Rattle.vx_plan_nodes.specs.Routes.{Routing};
     ghost use Rattle.vx_ports.specs.Packets.{PacketView, closes};
     ghost use Rattle.vx_ops.specs.Ledger.{Stream};

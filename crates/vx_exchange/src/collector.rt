@@ -16,7 +16,7 @@ pub struct Collector {
 }
 
 impl Collector {
-    ghost use Rattle.std.specs.Prelude.{◌≡◌, ℕ, List, [], IfOk, true};
+    ghost use Rattle.std.specs.Prelude.{◌≡◌, [], IfOk, true};
     ghost use Rattle.vx_plan_nodes.specs.Routes.{Routing};
     ghost use Rattle.vx_ops.specs.Ledger.{fresh};
     ghost use Rattle.vx_ends.specs.Tasks.{keep, keeps};

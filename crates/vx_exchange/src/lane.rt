@@ -11,7 +11,6 @@ use vx_views::{Chunk, Rows};
 ///
 /// The rows for one consumer, cut into packets: fewer rows than one packet holds, and the packets that wait.
 /// It has the empty rows of its closing packet from the beginning, so that closing needs no memory.
-#[derive(Drop)]
 pub struct Lane {
     alloc: Global,
     exchange: u32,
@@ -21,6 +20,22 @@ pub struct Lane {
     current: Rows,
     ready: VecDeque<Packet>,
     closing: Option<Rows>,
+}
+
+// By hand, so that the drops of its parts are made and proved here once, and not in each function that drops one.
+impl Drop for Lane {
+    fn drop(self) {
+        let Lane {
+            alloc: _,
+            exchange: _,
+            place: _,
+            consumer: _,
+            size: _,
+            current: _,
+            ready: _,
+            closing: _,
+        } = self;
+    }
 }
 
 impl Model for Lane {

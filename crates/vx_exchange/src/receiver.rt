@@ -1,6 +1,6 @@
 //! Consumer ends of exchanges.
 
-ghost use Rattle.std.specs.Prelude.{◌≡◌, ◌≤◌, ◌<◌, ◌+◌, ℕ, length, slice_get, Some, IfNone, IfSome, IfOk, true, false, vec_len, IsTrue, ◌↔◌};
+ghost use Rattle.std.specs.Prelude.{◌≡◌, ◌≤◌, ◌<◌, ◌+◌, Some, IfOk, true, false, vec_len, IsTrue, ◌↔◌};
 ghost use Rattle.vx_ends.specs.InTurn.{IsInTurn};
 
 use std::alloc::{AllocError, Global};
@@ -14,7 +14,6 @@ use vx_rows::ColType;
 /// The consumer end of an exchange at one of its places: it returns the rows of its producers' packets as they come.
 ///
 /// It asks the producers that have not ended in turn, for one packet each time.
-#[derive(Drop)]
 pub struct Receiver {
     exchange: u32,
     place: u32,
@@ -24,6 +23,20 @@ pub struct Receiver {
     over: Over,
     ghost next_in_range: { next < vec_len ended },
     ghost few: { vec_len ended ≤ 64 },
+}
+
+// By hand, so that the drops of its parts are made and proved here once, and not in each function that drops one.
+impl Drop for Receiver {
+    fn drop(self) {
+        let Receiver {
+            exchange: _,
+            place: _,
+            types: _,
+            ended: _,
+            next: _,
+            over: _,
+        } = self;
+    }
 }
 
 impl Receiver {

@@ -1,7 +1,6 @@
 //! The consumers of rows by their values in some columns.
 
-ghost use Rattle.std.specs.Prelude.{◌≡◌, ◌<◌, ◌++◌, ◌∷◌, [], length, map, IfOk, OnOk};
-ghost use Rattle.std.specs.List.{All};
+ghost use Rattle.std.specs.Prelude.{◌≡◌, ◌<◌, ◌++◌, length, map, IfOk, OnOk};
 ghost use Rattle.vx_values.specs.Values.{pick};
 ghost use Rattle.vx_values.specs.ValueView.{val_of};
 ghost use Rattle.vx_rows.specs.View.{row, AreColumns};

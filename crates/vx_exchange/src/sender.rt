@@ -31,7 +31,6 @@ pub enum Stage {
 /// The sending end of an exchange at one of its producers (Graefe's exchange, its producer half). It deals the rows that come to its lanes,
 /// one for each consumer, and returns their packets; then Last for each consumer, or Fault. The rows of a round robin are counted from its
 /// first one on, over all calls: `next` is the consumer whose turn it is.
-#[derive(Drop)]
 pub struct Sender {
     alloc: Global,
     lanes: Vec<Lane>,
@@ -44,6 +43,19 @@ pub struct Sender {
     ghost turns: { next < length lanes.items },
     ghost columns: { AreColumns (length (ship_of deal (ways_of lanes.items)).types) (columns_of deal) },
     ghost idle: { may_close stage lanes.items ≡ true → are_idle lanes.items ≡ true },
+}
+
+// By hand, so that the drops of its parts are made and proved here once, and not in each function that drops one.
+impl Drop for Sender {
+    fn drop(self) {
+        let Sender {
+            alloc: _,
+            lanes: _,
+            deal: _,
+            next: _,
+            stage: _,
+        } = self;
+    }
 }
 
 impl Sender {

@@ -1,5 +1,5 @@
 -- How rows are dealt at an exchange of a typed plan.
-use Rattle.std.proofs.Common.{◌≡◌, ◌<◌, ◌≤◌, ℕ, ◌&&◌, nat_lt, nat_le, Bool, true, false, List, [], ◌∷◌, length, map, get_or, subst, refl, sym, ap, ◌∙◌, eq-eqb, string_bytes}
+use Rattle.std.proofs.Common.{◌≡◌, ◌<◌, ◌≤◌, ℕ, ◌&&◌, nat_lt, nat_le, Bool, true, List, [], ◌∷◌, length, map, get_or, subst, refl, sym, ap, ◌∙◌, eq-eqb, string_bytes}
 use Rattle.std.proofs.lemmas.Bool.{lt-ltb}
 use Rattle.std.proofs.lemmas.Bool.Decides.{Decides-ltb}
 use Rattle.std.proofs.lemmas.List.{get_or-map, length-map}

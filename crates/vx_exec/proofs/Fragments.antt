@@ -15,7 +15,7 @@ use Rattle.vx_check_rules.specs.Checked.{relations}
 use Rattle.vx_laws.proofs.Bags.{and-left, and-right}
 use Rattle.vx_ops.specs.Ledger.{Op, one_op, two_op, receive}
 use Rattle.vx_ops.specs.Turn.{Shape, fresh_ledger}
-use Rattle.vx_ops.specs.Scan.{ScanStands, scan_types}
+use Rattle.vx_ops.specs.Scan.{scan_types}
 use Rattle.vx_ops.specs.declared.scan.Scan.{Scan}
 use Rattle.vx_worker.specs.Fragment.{alone, above, both, fragment}
 use Rattle.vx_operators.specs.Operator.{OperatorStands, operator_op, operator_types}

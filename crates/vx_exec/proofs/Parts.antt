@@ -1,5 +1,5 @@
 -- The root of a job's plan is a node of it.
-use Rattle.std.proofs.Common.{◌≡◌, true, sym, ap, ◌∙◌, subst}
+use Rattle.std.proofs.Common.{◌≡◌, sym, ap, ◌∙◌, subst}
 use Rattle.vx_plan_nodes.specs.Outline.{outline_of}
 use Rattle.vx_plan_nodes.specs.TypedView.{plan, resolved_of}
 use Rattle.vx_plan_nodes.specs.declared.typed.TypedNode.{TypedNode}

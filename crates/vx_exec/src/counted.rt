@@ -17,7 +17,6 @@ pub struct NodeCounts {
 }
 
 /// One worker of a run.
-#[derive(Drop)]
 pub struct WorkerCounts {
     /// What it counted of its steps.
     pub steps: StepCounts,
@@ -25,13 +24,29 @@ pub struct WorkerCounts {
     pub nodes: Vec<NodeCounts>,
 }
 
+// By hand, so that the drops of its parts are made and proved here once, and not in each function that drops one.
+impl Drop for WorkerCounts {
+    fn drop(self) {
+        let WorkerCounts { steps: _, nodes: _ } = self;
+    }
+}
+
 /// Calls: `new | unread`, then a run, then `workers`.
 ///
 /// What a run counted, if anybody asks.
-#[derive(Drop)]
 pub struct RunCounts {
     is_wanted: bool,
     workers: Vec<WorkerCounts>,
+}
+
+// By hand, so that the drops of its parts are made and proved here once, and not in each function that drops one.
+impl Drop for RunCounts {
+    fn drop(self) {
+        let RunCounts {
+            is_wanted: _,
+            workers: _,
+        } = self;
+    }
 }
 
 // What an operator counted, under its node's number.

@@ -11,10 +11,9 @@ ghost use Rattle.vx_plan_nodes.specs.TypedView.{scope, plan};
 ghost use Rattle.vx_plan_nodes.specs.Types.{types_of};
 ghost use Rattle.vx_check_rules.specs.Checked.{relations};
 ghost use Rattle.vx_ports.specs.LinkView.{LinkView};
-ghost use Rattle.vx_operators.specs.Operator.{OperatorStands, operator_op, operator_types};
-ghost use Rattle.vx_operators.specs.Destination.{DestinationStands, task_of, post_of, bounds_of, is_open, has_closed};
+ghost use Rattle.vx_operators.specs.Operator.{OperatorStands, operator_op};
+ghost use Rattle.vx_operators.specs.Destination.{DestinationStands, task_of, post_of, bounds_of};
 ghost use Rattle.vx_worker.specs.Trace.{scan_morsels};
-ghost use Rattle.vx_worker.specs.Worker.{IsReady};
 ghost use Rattle.vx_steps.specs.Additions.{AddsProducers, AddsBelow};
 ghost use Rattle.vx_steps.specs.Crews.{stations_of, producer_duty, root_duty};
 ghost use Rattle.vx_steps.specs.Queues.{AreEmpty};
@@ -33,7 +32,6 @@ use vx_steps::{Links, Ports, SharedScan, Station, WholeScan};
 use vx_worker::Worker;
 
 /// The workers of a job in number order, the root's first, and what connects them.
-#[derive(Drop)]
 pub struct Crew {
     workers: Vec<Worker<Operator, Destination>>,
     // By worker: the exchange that it sends to, and its queues.
@@ -41,6 +39,18 @@ pub struct Crew {
     ports: Vec<Ports>,
     // By node number.
     stations: Vec<Station>,
+}
+
+// By hand, so that the drops of its parts are made and proved here once, and not in each function that drops one.
+impl Drop for Crew {
+    fn drop(self) {
+        let Crew {
+            workers: _,
+            sends: _,
+            ports: _,
+            stations: _,
+        } = self;
+    }
 }
 
 // What the workers of a scan share, the first of which has this number.

@@ -1,7 +1,6 @@
 //! The keys that the rule table shows at a node, over those that its inputs claim.
 
-ghost use Rattle.std.specs.Prelude.{◌≡◌, ◌++◌, ◌∷◌, [], ℕ, map, length, IfOk};
-ghost use Rattle.std.specs.List.{list_any, list_all};
+ghost use Rattle.std.specs.Prelude.{◌≡◌, ◌++◌, ◌∷◌, [], map, length, IfOk};
 ghost use Rattle.vx_relations.specs.Relation.{Relation};
 ghost use Rattle.vx_relations.specs.Catalog.{relation_at};
 ghost use Rattle.vx_plan_nodes.specs.Outline.{unary_of, binary_of, outline_of, plan_of};

@@ -1,6 +1,6 @@
 //! A checked plan as a graph in the language of Graphviz.
 
-ghost use Rattle.std.specs.Prelude.{◌≡◌, ◌++◌, string_bytes, codes, decimal, cond, OnOk, IfOk};
+ghost use Rattle.std.specs.Prelude.{◌≡◌, ◌++◌, string_bytes, codes, decimal, OnOk, IfOk};
 ghost use Rattle.vx_plan_nodes.specs.Plan.{size};
 ghost use Rattle.vx_plan_nodes.specs.Outline.{outline_of, plan_of, top};
 ghost use Rattle.vx_plan_nodes.specs.TypedView.{names_in, resolved_of};

@@ -1,6 +1,6 @@
 //! A checked plan as JSON.
 
-ghost use Rattle.std.specs.Prelude.{◌≡◌, ◌++◌, ◌∷◌, [], ℕ, map, string_bytes, codes, OnOk, IfOk, Some};
+ghost use Rattle.std.specs.Prelude.{◌≡◌, ◌++◌, ◌∷◌, [], map, string_bytes, codes, OnOk, IfOk, Some};
 ghost use Rattle.serde_json.specs.Data.{string, put, number, unsigned};
 ghost use Rattle.serde_json.specs.Read.{read};
 ghost use Rattle.serde_json.specs.View.{view, members_view};

@@ -1,7 +1,6 @@
 -- Why a grouping stops, from why its parts do.
-use Rattle.std.proofs.Common.{◌≡◌, ℕ, suc, ◌<◌, ◌≤◌, Bool, true, false, cond, List, [], ◌∷◌, ◌++◌, filter, take, drop, length, get_or, sym, ap, ◌∙◌, subst, arith, Result, Ok, Err, IfOk, IfErr}
+use Rattle.std.proofs.Common.{◌≡◌, ℕ, suc, ◌<◌, ◌≤◌, Bool, true, false, cond, List, [], ◌∷◌, ◌++◌, filter, take, drop, length, get_or, sym, ap, ◌∙◌, subst, arith}
 use Rattle.std.specs.List.{AllByRecursion}
-use Rattle.std.specs.Result.{IsErrAnd}
 use Rattle.std.proofs.lemmas.Grind.{flat_map-append}
 use Rattle.std.proofs.lemmas.List.{take-append-drop, get_or-map, get_or_past, length-map, length-take, length-append}
 use Rattle.vx_values.specs.Values.{Row, row_eq, pick}
@@ -13,7 +12,6 @@ use Rattle.vx_grouping.specs.declared.accumulator.GroupFault.{GroupFault}
 use Rattle.vx_grouping.specs.declared.accumulator.GroupFault.TheVariants.{Overflow, TooMany, NoMemory}
 use Rattle.vx_grouping.specs.Groups.{Held, all_held, counted, part_of, Groups, HasTaken}
 use Rattle.vx_grouping.specs.GroupFaults.{GroupBlame, TakeBlame, EndBlame, StepBlame, StepsBlame, CellsBlame}
-use Rattle.vx_keys.proofs.ErrorFacts.{told, if-ok, if-err}
 use Rattle.vx_grouping.proofs.AggregateFacts.{counted-most}
 use Rattle.vx_grouping.proofs.GroupFacts.{by-order}
 use Rattle.vx_grouping.proofs.EndFacts.{finished-none}

@@ -1,6 +1,6 @@
 //! One aggregate of a group's rows, to which one row is added at a time.
 
-ghost use Rattle.std.specs.Prelude.{◌≡◌, ◌<◌, ◌≤◌, [], ◌∷◌, length, OnOk, IfOk, IfErr, IfSome, IfNone, true, false};
+ghost use Rattle.std.specs.Prelude.{◌≡◌, ◌<◌, [], ◌∷◌, length, OnOk, IfOk, IfErr, IfSome, IfNone, true, false};
 ghost use Rattle.vx_values.specs.Values.{value_at};
 ghost use Rattle.vx_values.specs.ValueView.{val_of, cell_val};
 ghost use Rattle.vx_rows.specs.View.{row};
@@ -51,7 +51,6 @@ impl<T: Drop> From<AllocFailed<T>> for GroupFault {
 }
 
 /// An aggregate of the rows so far, of which there is one or more. It carries its column.
-#[derive(Drop)]
 pub enum Accumulator {
     /// The least value.
     Least(usize, Value),
@@ -61,6 +60,18 @@ pub enum Accumulator {
     Sum(usize, WideSum),
     /// How many rows.
     CountRows(u64),
+}
+
+// By hand, so that the drops of its parts are made and proved here once, and not in each function that drops one.
+impl Drop for Accumulator {
+    fn drop(self) {
+        match self {
+            Accumulator::Least(_, _) => {}
+            Accumulator::Greatest(_, _) => {}
+            Accumulator::Sum(_, _) => {}
+            Accumulator::CountRows(_) => {}
+        }
+    }
 }
 
 // The number of a cell, and of a text 0, as the definitions have it.

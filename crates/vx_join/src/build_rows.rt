@@ -16,12 +16,23 @@ const RUN: usize = 16;
 
 /// Rows in several chunks, with the number of the chunk of each row; and how many rows were joined to them so far, in how
 /// many runs that lie in one chunk each.
-#[derive(Drop)]
 pub(crate) struct Parts {
     rows: Rows,
     homes: Vec<usize>,
     joined: usize,
     runs: usize,
+}
+
+// By hand, so that the drops of its parts are made and proved here once, and not in each function that drops one.
+impl Drop for Parts {
+    fn drop(self) {
+        let Parts {
+            rows: _,
+            homes: _,
+            joined: _,
+            runs: _,
+        } = self;
+    }
 }
 
 impl Model for Parts {
@@ -59,10 +70,19 @@ impl Parts {
 
 /// The rows of a build side. Those of one chunk stay where they are, and so do those of several chunks, as long as the rows
 /// that are joined to them lie in runs: each run is a chunk. Where they do not, all rows are copied, once, into one table.
-#[derive(Drop)]
 pub(crate) enum BuildRows {
     One(Chunk),
     Several(Parts),
+}
+
+// By hand, so that the drops of its parts are made and proved here once, and not in each function that drops one.
+impl Drop for BuildRows {
+    fn drop(self) {
+        match self {
+            BuildRows::One(_) => {}
+            BuildRows::Several(_) => {}
+        }
+    }
 }
 
 impl BuildRows {

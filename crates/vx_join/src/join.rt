@@ -1,13 +1,12 @@
 //! The hash join: the right rows are indexed by key, and left rows probe them (DeWitt and others, 1984).
 
-ghost use Rattle.std.specs.Prelude.{◌≡◌, ◌<◌, ◌≤◌, ◌+◌, ◌++◌, ◌∷◌, [], ℕ, List, length, map, flat_map, take, slice_range, slice_set, slice_index_or, OnOk, IfOk};
+ghost use Rattle.std.specs.Prelude.{◌≡◌, ◌<◌, ◌≤◌, ◌+◌, ◌++◌, [], ℕ, List, length, map, flat_map, take, slice_range, OnOk, IfOk};
 ghost use Rattle.std.specs.List.{position_or_len};
 ghost use Rattle.vx_values.specs.Values.{Row, row_eq, pick};
 ghost use Rattle.vx_rows.specs.View.{AreColumns};
 ghost use Rattle.vx_plan_nodes.specs.Serial.{group_keys, join_rows};
-ghost use Rattle.vx_join.specs.Build.{places_of, parts_of, ArePairs};
+ghost use Rattle.vx_join.specs.Build.{places_of, ArePairs};
 ghost use Rattle.vx_keys.specs.Matched.{matched};
-ghost use Rattle.vx_keys.specs.Numbers.{numbers_of};
 
 use crate::build_rows::BuildRows;
 use crate::key_places::KeyPlaces;
@@ -24,13 +23,25 @@ const BLOCK: usize = 4_096;
 /// Calls: `of probe*`.
 ///
 /// The build side of a join: the right rows, their keys, and the places of the rows of each key.
-#[derive(Drop)]
 pub struct Build {
     rows: BuildRows,
     columns: Vec<usize>,
     keys: Keys,
     parts: KeyPlaces,
     alloc: Global,
+}
+
+// By hand, so that the drops of its parts are made and proved here once, and not in each function that drops one.
+impl Drop for Build {
+    fn drop(self) {
+        let Build {
+            rows: _,
+            columns: _,
+            keys: _,
+            parts: _,
+            alloc: _,
+        } = self;
+    }
 }
 
 impl Model for Build {
@@ -90,7 +101,7 @@ impl Build {
         ensures rows { IfOk result (λ b. b.rows ≡ rows.now.rows) }
         ensures columns { IfOk result (λ b. b.columns ≡ columns.items) }
     {
-        let mut keys = Keys::new(alloc, seed);
+        let mut keys = Keys::with_room(alloc, seed, rows.len());
         let numbers = keys.number_all(rows, columns.as_slice())?;
         let parts = KeyPlaces::of(alloc, numbers.as_slice())?;
         Ok(Build {

@@ -11,12 +11,21 @@ use std::alloc::{AllocError, Global};
 use vx_keys::numbers_below;
 
 /// For each key the places of its rows.
-#[derive(Drop)]
 pub(crate) enum KeyPlaces {
     /// Each key has one row: key k that at place k. These are all places, so that one of them can be lent.
     Single(Vec<usize>),
     /// A list for each key.
     Lists(Vec<Vec<usize>>),
+}
+
+// By hand, so that the drops of its parts are made and proved here once, and not in each function that drops one.
+impl Drop for KeyPlaces {
+    fn drop(self) {
+        match self {
+            KeyPlaces::Single(_) => {}
+            KeyPlaces::Lists(_) => {}
+        }
+    }
 }
 
 // Adds a place to those of the key with this number, or behind all as the first place of a new key.

@@ -22,12 +22,23 @@ use vx_views::Chunk;
 
 /// Keys of one list of types, kept by columns, and beside them the hash of each. No two have the same hash: where a new key
 /// has that of another one, it is refused.
-#[derive(Drop)]
 pub(crate) struct ColumnKeys {
     keys: Table,
     hashes: IndexSet<u64, KeySeed>,
     seed: KeySeed,
     alloc: Global,
+}
+
+// By hand, so that the drops of its parts are made and proved here once, and not in each function that drops one.
+impl Drop for ColumnKeys {
+    fn drop(self) {
+        let ColumnKeys {
+            keys: _,
+            hashes: _,
+            seed: _,
+            alloc: _,
+        } = self;
+    }
 }
 
 impl Model for ColumnKeys {

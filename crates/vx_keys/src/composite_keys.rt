@@ -18,20 +18,39 @@ use vx_seeds::KeySeed;
 use vx_views::Chunk;
 
 // Keys by columns, or each as a row of its own.
-#[derive(Drop)]
 enum Kept {
     Columns(ColumnKeys),
     Rows(RowKeys),
 }
 
+// By hand, so that the drops of its parts are made and proved here once, and not in each function that drops one.
+impl Drop for Kept {
+    fn drop(self) {
+        match self {
+            Kept::Columns(_) => {}
+            Kept::Rows(_) => {}
+        }
+    }
+}
+
 /// Keys of any number of values. The first rows that are numbered decide of what types they are, and while all are of these,
 /// they are kept by columns. Where later rows have keys of other types, or two keys have one hash of 64 bits, each key is
 /// copied into a row of its own, and they stay so from then on.
-#[derive(Drop)]
 pub(crate) struct CompositeKeys {
     kept: Kept,
     seed: KeySeed,
     alloc: Global,
+}
+
+// By hand, so that the drops of its parts are made and proved here once, and not in each function that drops one.
+impl Drop for CompositeKeys {
+    fn drop(self) {
+        let CompositeKeys {
+            kept: _,
+            seed: _,
+            alloc: _,
+        } = self;
+    }
 }
 
 impl Model for CompositeKeys {

@@ -14,10 +14,16 @@ use std::marker::Model;
 use vx_seeds::KeySeed;
 
 /// Keys of one number each, which are hashed as the numbers that they are.
-#[derive(Drop)]
 pub(crate) struct IntKeys {
     set: IndexSet<i64, KeySeed>,
     alloc: Global,
+}
+
+// By hand, so that the drops of its parts are made and proved here once, and not in each function that drops one.
+impl Drop for IntKeys {
+    fn drop(self) {
+        let IntKeys { set: _, alloc: _ } = self;
+    }
 }
 
 impl Model for IntKeys {
@@ -31,14 +37,14 @@ impl Model for IntKeys {
 }
 
 impl IntKeys {
-    /// No keys, to be hashed by this seed.
-    pub fn new(alloc: Global, seed: KeySeed) -> IntKeys
-        ensures { result ≡ [] }
+    /// No keys, to be hashed by this seed, with room for so many.
+    pub fn with_room(alloc: Global, seed: KeySeed, room: usize) -> Result<IntKeys, AllocError>
+        ensures { IfOk result (λ k. k ≡ []) }
     {
-        IntKeys {
-            set: IndexSet::with_hasher(alloc, seed),
+        Ok(IntKeys {
+            set: IndexSet::with_capacity_and_hasher(alloc, room, seed)?,
             alloc,
-        }
+        })
     }
 
     /// How many keys there are.

@@ -22,11 +22,21 @@ use vx_seeds::KeySeed;
 use vx_views::{Chunk, Rows};
 
 // Keys of one number each, of one text each, or any others.
-#[derive(Drop)]
 enum Kind {
     Ints(IntKeys),
     Texts(TextKeys),
     Rows(CompositeKeys),
+}
+
+// By hand, so that the drops of its parts are made and proved here once, and not in each function that drops one.
+impl Drop for Kind {
+    fn drop(self) {
+        match self {
+            Kind::Ints(_) => {}
+            Kind::Texts(_) => {}
+            Kind::Rows(_) => {}
+        }
+    }
 }
 
 /// Keys, each once, numbered from 0 in order of first occurrence. They are found by hashing: a key of one value as the
@@ -34,11 +44,23 @@ enum Kind {
 ///
 /// The first rows that are numbered decide which of these it is. Where later ones have keys of another type, all keys are
 /// copied and are hashed value by value from then on.
-#[derive(Drop)]
 pub struct Keys {
     kind: Kind,
+    room: usize,
     seed: KeySeed,
     alloc: Global,
+}
+
+// By hand, so that the drops of its parts are made and proved here once, and not in each function that drops one.
+impl Drop for Keys {
+    fn drop(self) {
+        let Keys {
+            kind: _,
+            room: _,
+            seed: _,
+            alloc: _,
+        } = self;
+    }
 }
 
 impl Model for Keys {
@@ -51,18 +73,24 @@ impl Model for Keys {
     ghost view = { λ k. kind_keys k.kind };
 }
 
-// No keys, of the kind that the rows of a chunk have in these columns.
-fn kind_of(alloc: Global, seed: KeySeed, chunk: &Chunk, columns: &[usize]) -> Kind
+// No keys, of the kind that the rows of a chunk have in these columns, with room for so many if they are of one value each.
+fn kind_of(
+    alloc: Global,
+    seed: KeySeed,
+    room: usize,
+    chunk: &Chunk,
+    columns: &[usize],
+) -> Result<Kind, AllocError>
     requires { AreColumns (length chunk.now.types) columns.now }
-    ensures { kind_keys result ≡ [] }
+    ensures { IfOk result (λ k. kind_keys k ≡ []) }
 {
     if IntColumn::of(chunk, columns).is_some() {
-        return Kind::Ints(IntKeys::new(alloc, seed));
+        return Ok(Kind::Ints(IntKeys::with_room(alloc, seed, room)?));
     }
     if TextColumn::of(chunk, columns).is_some() {
-        return Kind::Texts(TextKeys::new(alloc, seed));
+        return Ok(Kind::Texts(TextKeys::with_room(alloc, seed, room)?));
     }
-    Kind::Rows(CompositeKeys::new(alloc, seed))
+    Ok(Kind::Rows(CompositeKeys::new(alloc, seed)))
 }
 
 // One value as a list.
@@ -79,8 +107,17 @@ impl Keys {
     pub fn new(alloc: Global, seed: KeySeed) -> Keys
         ensures { result ≡ [] }
     {
+        Keys::with_room(alloc, seed, 0)
+    }
+
+    /// No keys, to be hashed by this seed. Once the first rows are numbered there is room for `room` keys at once, if these
+    /// are of one value each: for a caller that knows how many may come. It bounds nothing.
+    pub fn with_room(alloc: Global, seed: KeySeed, room: usize) -> Keys
+        ensures { result ≡ [] }
+    {
         Keys {
             kind: Kind::Rows(CompositeKeys::new(alloc, seed)),
+            room,
             seed,
             alloc,
         }
@@ -165,7 +202,7 @@ impl Keys {
         ensures keys { OnOk result (self.new ≡ insert_all row_eq self.old (map (pick columns.now) chunk.now.rows)) }
     {
         if self.len() == 0 {
-            self.kind = kind_of(self.alloc, self.seed, chunk, columns);
+            self.kind = kind_of(self.alloc, self.seed, self.room, chunk, columns)?;
         }
         if self.number_kind(chunk, columns, numbers)? {
             return Ok(());

@@ -17,10 +17,16 @@ use vx_seeds::KeySeed;
 use vx_views::Chunk;
 
 /// Keys that are hashed value by value.
-#[derive(Drop)]
 pub(crate) struct RowKeys {
     set: IndexSet<Row, KeySeed>,
     alloc: Global,
+}
+
+// By hand, so that the drops of its parts are made and proved here once, and not in each function that drops one.
+impl Drop for RowKeys {
+    fn drop(self) {
+        let RowKeys { set: _, alloc: _ } = self;
+    }
 }
 
 impl Model for RowKeys {

@@ -17,10 +17,16 @@ use vx_views::Rows;
 /// Calls: `new keep_new*`, and no `keep_new` after an `Err`.
 ///
 /// The rows that were seen so far, each once, in order of first occurrence.
-#[derive(Drop)]
 pub struct Seen {
     keys: Keys,
     alloc: Global,
+}
+
+// By hand, so that the drops of its parts are made and proved here once, and not in each function that drops one.
+impl Drop for Seen {
+    fn drop(self) {
+        let Seen { keys: _, alloc: _ } = self;
+    }
 }
 
 impl Model for Seen {

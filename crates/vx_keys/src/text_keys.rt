@@ -14,10 +14,16 @@ use std::marker::Model;
 use vx_seeds::KeySeed;
 
 /// Keys of one text each, which are hashed as the bytes that they are. A text is copied only where it is a new key.
-#[derive(Drop)]
 pub(crate) struct TextKeys {
     set: IndexSet<String, KeySeed>,
     alloc: Global,
+}
+
+// By hand, so that the drops of its parts are made and proved here once, and not in each function that drops one.
+impl Drop for TextKeys {
+    fn drop(self) {
+        let TextKeys { set: _, alloc: _ } = self;
+    }
 }
 
 impl Model for TextKeys {
@@ -31,14 +37,14 @@ impl Model for TextKeys {
 }
 
 impl TextKeys {
-    /// No keys, to be hashed by this seed.
-    pub fn new(alloc: Global, seed: KeySeed) -> TextKeys
-        ensures { result ≡ [] }
+    /// No keys, to be hashed by this seed, with room for so many.
+    pub fn with_room(alloc: Global, seed: KeySeed, room: usize) -> Result<TextKeys, AllocError>
+        ensures { IfOk result (λ k. k ≡ []) }
     {
-        TextKeys {
-            set: IndexSet::with_hasher(alloc, seed),
+        Ok(TextKeys {
+            set: IndexSet::with_capacity_and_hasher(alloc, room, seed)?,
             alloc,
-        }
+        })
     }
 
     /// How many keys there are.

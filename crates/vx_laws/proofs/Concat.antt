@@ -1,11 +1,11 @@
 -- Lists one after the other are sorted where a range routed their rows.
-use Rattle.std.proofs.Common.{◌≡◌, ℕ, zero, suc, ◌+◌, ◌<◌, ◌≤◌, ◌==◌, nat_lt, Bool, true, false, cond, ◌&&◌, List, [], ◌∷◌, ◌++◌, map, refl, sym, ap, ap₂, ◌∙◌, subst, arith, true≢false, eqb-true, eq-eqb, ne_eqb, ltb-true, lt-ltb, is_le, Ordering, Less, Equal, Greater}
+use Rattle.std.proofs.Common.{◌≡◌, ℕ, zero, suc, ◌+◌, ◌<◌, ◌≤◌, ◌==◌, nat_lt, Bool, true, List, [], ◌∷◌, ◌++◌, refl, ap, ◌∙◌, arith, eqb-true, ltb-true, lt-ltb, is_le, Ordering, Less, Equal, Greater}
 use Rattle.std.specs.List.{list_all}
 use Rattle.std.specs.Ordering.{ordering_then, ordering_reverse}
 use Rattle.vx_values.specs.Values.{Row, val_cmp, value_at, pick}
 use Rattle.vx_rows.specs.Order.{compare_on, sorted}
 use Rattle.vx_plan_nodes.specs.Plan.{by_range}
-use Rattle.vx_plan_nodes.specs.Streams.{Streams, joined, bearing, Dealt}
+use Rattle.vx_plan_nodes.specs.Streams.{Streams, joined}
 use Rattle.vx_plan_nodes.specs.Routes.{Routing}
 use Rattle.vx_rows.proofs.Compare.{val_cmp_total}
 use Rattle.vx_laws.proofs.Bags.{and-left, and-right, and-both}

@@ -1,40 +1,36 @@
 -- The induction on the plan.
-use Rattle.std.proofs.Common.{Option, IsSome, ◌≡◌, ℕ, ◌+◌, ◌<◌, ◌==◌, Bool, true, false, cond, ◌&&◌, ◌||◌, ⊎_elim, List, [], ◌∷◌, ◌++◌, map, filter, length, refl, sym, ap, ◌∙◌, subst, arith, true≢false, Some, None, ◌⊎◌, inl, inr, eq-eqb, zero, suc, ◌≤◌, eqb-true, ap₂}
+use Rattle.std.proofs.Common.{Option, IsSome, ◌≡◌, ℕ, ◌+◌, ◌<◌, ◌==◌, Bool, true, false, cond, ◌&&◌, ◌||◌, ⊎_elim, List, [], ◌∷◌, ◌++◌, filter, length, refl, sym, ap, ◌∙◌, subst, arith, true≢false, Some, None, ◌⊎◌, inl, inr, eq-eqb, ◌≤◌}
 use Rattle.std.specs.List.{list_all, list_any}
 use Rattle.vx_values.specs.Values.{Row, pick, row_eq}
-use Rattle.vx_rows.specs.Order.{agree, sorted, sort_on}
+use Rattle.vx_rows.specs.Order.{sorted}
 use Rattle.vx_rows.specs.Bags.{SameRows, total}
 use Rattle.vx_plan_nodes.specs.Types.{well_formed, names_columns, part_columns, width}
 use Rattle.vx_relations.specs.Catalog.{all_below}
-use Rattle.vx_plan_nodes.specs.Plan.{Size, Route, Part, one, any, all, routed, Claim, Plan, scan, unary, binary, exchange, claim, size, Unary, select, project, distinct, sort, group, Binary, union, join, ExchangeKind, route_to, round, broadcast, gather, target, is_one, size_eq, plain, partial, final, Aggregate, least, greatest, sum, count_rows, by_range, concat}
+use Rattle.vx_plan_nodes.specs.Plan.{Size, Part, one, any, all, routed, Claim, Plan, scan, unary, binary, exchange, claim, size, Unary, select, project, distinct, sort, group, Binary, union, join, is_one, size_eq, plain, partial, final, Aggregate, least, greatest, sum, count_rows}
 use Rattle.vx_relations.specs.Relation.{Relation}
-use Rattle.vx_plan_nodes.specs.Serial.{passes, firsts, group_keys, group_fits, unary_rows, binary_rows, join_rows, rows, or_overflow, after, serial, group_row, aggregate_of, group_rows, SerialResult, overflow, IsTooLong, HasLargeInput, LargePart, is_sum_of, fits, sum_of, count_of, of_key}
+use Rattle.vx_plan_nodes.specs.Serial.{group_keys, group_fits, unary_rows, binary_rows, join_rows, rows, or_overflow, after, serial, group_rows, SerialResult, overflow, IsTooLong, HasLargeInput, LargePart, is_sum_of, fits, sum_of, count_of, of_key}
 use Rattle.vx_plan_nodes.specs.Streams.{Streams, joined, workers}
 use Rattle.vx_plan_nodes.specs.Routes.{Routing}
-use Rattle.vx_plan_nodes.specs.Runs.{Exchanges, Runs}
-use Rattle.vx_check_rules.specs.Rules.{part_gives, has, through, copied, covers, is_prefix, if_some, within, numbers_below, routed_within, allowed, allowed_here, sizes_match, not_replicated, inputs_match, order_given, part_shown, order_shown, keys_shown, keeps_apart, unary_shows, unary_orders, unary_keys, both_have, routed_alike, alike_shows, left_columns, right_columns, join_shows, join_keys, kind_shows, goes_on, rises_by}
-use Rattle.vx_check_rules.specs.Claims.{PartHolds, InItsStream, ClaimHolds, Given, PartOf, ClaimOf}
+use Rattle.vx_plan_nodes.specs.Runs.{Runs}
+use Rattle.vx_check_rules.specs.Rules.{has, through, is_prefix, routed_within, allowed, allowed_here, keeps_apart, both_have, routed_alike, alike_shows, left_columns, right_columns, join_shows, join_keys}
+use Rattle.vx_check_rules.specs.Claims.{PartHolds, InItsStream, Given}
 use Rattle.vx_laws.specs.Sound.{SoundThroughout, Sound, NoOverflow}
 use Rattle.vx_laws.proofs.Erased.{erased-rows}
-use Rattle.vx_laws.proofs.Bags.{SameRows-sym, and-left, and-right, SameRows-refl, SameRows-trans, total-joined, across-least}
-use Rattle.vx_laws.proofs.Parts.{InRange, single, from_single, weaker, has-holds, one-worker, some-workers, or-cases, size_eq-is, list_all-weaken, single-of, weaker-of, has-holds-of, part-map}
-use Rattle.vx_laws.proofs.Orders.{sorted-front, sorted-filter, Dealt-sorted, sorted-none, list_all-filter}
-use Rattle.vx_laws.proofs.Keys.{count-filter, covers-key, keys-from}
-use Rattle.vx_laws.proofs.Linear.{Linear, Linear-filter, Linear-map, Linear-sort, sort-total, linear-same, linear-joined}
-use Rattle.vx_laws.proofs.Copies.{if_some-is, copied-alone, copied-cons}
-use Rattle.vx_laws.proofs.Unary.{some-is, through-holds, linear-part, through-order, sort-all, sort-sorted, map-all, project-sorted, project-key, through-of}
-use Rattle.vx_laws.proofs.Widths.{serial-wide, some-of, firsts-all, picks-wide}
-use Rattle.vx_laws.proofs.Apart.{firsts-same, picks-same, firsts-joined, firsts-sorted, distinct-key}
-use Rattle.vx_laws.proofs.Groups.{groups, groups-same, groups-joined, fits-joined, fits-split, fits-same-rows, firsts-in-stream, groups-in-stream, groups-sorted, groups-key, apart-ways, extended-sorted, copied-below}
+use Rattle.vx_laws.proofs.Bags.{SameRows-sym, and-left, and-right, SameRows-refl}
+use Rattle.vx_laws.proofs.Parts.{or-cases, size_eq-is}
+use Rattle.vx_laws.proofs.Orders.{sorted-front, sorted-none}
+use Rattle.vx_laws.proofs.Keys.{keys-from}
+use Rattle.vx_laws.proofs.Unary.{through-holds}
+use Rattle.vx_laws.proofs.Widths.{serial-wide, some-of}
+use Rattle.vx_laws.proofs.Groups.{groups, fits-split, fits-same-rows}
 use Rattle.vx_laws.proofs.JoinOrder.{wide, join-sorted, join-key}
 use Rattle.vx_laws.proofs.Join.{join-left, join-right, join-same}
 use Rattle.vx_laws.proofs.Binary.{streams-all, union-any, union-part, stream-left, stream-right, left_columns-is, join-alike-part, front-below}
-use Rattle.vx_laws.proofs.Exchange.{Dealt-same, exchange-any, broadcast-all, routed-in-stream, single-sorted, filter-all}
+use Rattle.vx_laws.proofs.Exchange.{filter-all}
 use Rattle.vx_values.specs.Types.{fits_64}
-use Rattle.vx_plan_nodes.specs.Phases.{first_columns, merged, is_partial, is_final, is_open, opens, phase_fits, both_closed, Parts, spoken, Gives, listed}
-use Rattle.vx_laws.proofs.Opened.{closed-spoken, closed-gives, gives-closed, closed-listed, opened, Gives-order, final-serial}
-use Rattle.vx_laws.proofs.Pieces.{Parts-base, Parts-joined, Parts-groups, final-groups, final-fits, fits-final}
-use Rattle.vx_laws.proofs.Concat.{joined-sorted}
+use Rattle.vx_plan_nodes.specs.Phases.{first_columns, merged, is_partial, is_final, is_open, opens, phase_fits, both_closed, spoken}
+use Rattle.vx_laws.proofs.Opened.{opened}
+use Rattle.vx_laws.proofs.Pieces.{final-fits}
 use Rattle.vx_laws.proofs.OneInput.{tests, Holding, HoldingAt, Held, stream-total, either-part, had, had-one, routed-any, or-left, apart-else, scan-holds, unary-holds, close, widen, exchange-holds, partial-holds, final-else, final-holds}
 
 module _ (catalog : ℕ → Relation) (db : ℕ → List Row) (sizes : ℕ → ℕ) (goes : Routing) (given : Given catalog db sizes goes) where

@@ -1,10 +1,10 @@
 -- Open nodes, by what stands below their exchanges, and closed ones.
-use Rattle.std.proofs.Common.{◌≡◌, ℕ, ◌==◌, Bool, true, false, cond, List, [], ◌∷◌, length, refl, sym, ap, ◌∙◌, subst, true≢false, eqb-true, Some, None}
+use Rattle.std.proofs.Common.{◌≡◌, ℕ, Bool, true, false, cond, List, length, refl, sym, ◌∙◌, subst, true≢false, Some, None}
 use Rattle.std.specs.List.{list_all}
 use Rattle.vx_values.specs.Values.{Row}
 use Rattle.vx_rows.specs.Bags.{SameRows}
-use Rattle.vx_plan_nodes.specs.Plan.{plain, partial, final, Aggregate, least, greatest, sum, count_rows, select, project, distinct, sort, group, Plan, scan, unary, binary, exchange}
-use Rattle.vx_plan_nodes.specs.Phases.{first_columns, merged, aggregate_eq, aggregates_eq, columns_eq, is_open, opens, Parts, spoken, Gives, listed}
+use Rattle.vx_plan_nodes.specs.Plan.{plain, partial, final, Aggregate, select, project, distinct, sort, group, Plan, scan, unary, binary, exchange}
+use Rattle.vx_plan_nodes.specs.Phases.{first_columns, merged, aggregates_eq, columns_eq, is_open, opens, Parts, spoken, Gives, listed}
 use Rattle.vx_plan_nodes.specs.Serial.{group_keys, group_rows, group_fits, SerialResult, rows, overflow, or_overflow, after, serial}
 use Rattle.vx_plan_nodes.proofs.PhaseEqual.{aggregates_eq-is, columns_eq-is}
 use Rattle.vx_laws.proofs.Bags.{and-left, and-right, SameRows-trans, SameRows-sym}

@@ -1,13 +1,13 @@
 -- From the traces of all workers to a run of the plan relation.
 use Rattle.vx_worker.specs.Fragment.{goes, IsSet, RunModel, Reads, fragment, FragAbides, FragMakes}
-use Rattle.std.proofs.Common.{◌≡◌, ℕ, ◌<◌, ◌==◌, ◌&&◌, Bool, true, false, List, [], sym, ap, ◌∙◌, subst, arith, eqb-true, Some, ap₂, zero, suc, refl, ◌++◌}
+use Rattle.std.proofs.Common.{◌≡◌, ℕ, ◌<◌, ◌==◌, ◌&&◌, Bool, true, false, List, [], sym, ap, ◌∙◌, subst, arith, eqb-true, Some}
 use Rattle.vx_values.specs.Values.{Row}
 use Rattle.vx_plan_nodes.specs.Plan.{Size, ExchangeKind, target, Claim, Plan, scan, unary, binary, exchange, size, is_one, size_eq}
 use Rattle.vx_plan_nodes.specs.Serial.{unary_rows, binary_rows}
 use Rattle.vx_plan_nodes.specs.Streams.{Streams, workers, Dealt, joined}
 use Rattle.vx_plan_nodes.specs.Routes.{Sends}
 use Rattle.vx_plan_nodes.specs.Runs.{Runs, is_concat}
-use Rattle.vx_ports.specs.Packets.{PacketView, rows_of, Flows}
+use Rattle.vx_ports.specs.Packets.{PacketView, rows_of}
 use Rattle.vx_worker.specs.Morsels.{morsel_of, morsels}
 use Rattle.vx_ops.specs.Ledger.{Stream, scan_op, one_op, two_op, receive, Makes}
 use Rattle.vx_ends.specs.Ship.{IsPort}

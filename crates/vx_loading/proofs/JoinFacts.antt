@@ -15,9 +15,9 @@ use Rattle.vx_catalog.specs.Loading.{Fails, Gives, rows_onto, max_rows}
 use Rattle.vx_loading.specs.Pieces.{fault_behind, behind, rows_of_text, IsPieceRead, ArePieces, Joined}
 use Rattle.vx_loading.proofs.Cut.{bind_ok, records_behind, piece_cut}
 
-row_told : (b : Bool) (moved : LoadFault) (whole : Result (List Row) LoadFault) → ((whole ≡ Err moved) → Fails moved whole) → whole ≡ Err (cond b moved fault.TooLarge) → Fails (cond b moved fault.TooLarge) whole
-row_told true moved whole f e = f e
-row_told false moved whole f e = e
+row_reported : (b : Bool) (moved : LoadFault) (whole : Result (List Row) LoadFault) → ((whole ≡ Err moved) → Fails moved whole) → whole ≡ Err (cond b moved fault.TooLarge) → Fails (cond b moved fault.TooLarge) whole
+row_reported true moved whole f e = f e
+row_reported false moved whole f e = e
 
 -- a piece that is refused
 stops : (front : List Row) (e : LoadFault) (read whole : Result (List Row) LoadFault) (next : List Row → Result (List Row) LoadFault) → Fails e read → whole ≡ (behind front read >>= next) → Fails (fault_behind (length front) e) whole
@@ -25,9 +25,9 @@ unfolding behind
 stops front fault.NoMemory read whole next bad is = tt
 stops front fault.ReadFailed read whole next bad is = absurd bad
 stops front fault.HeaderMismatch read whole next bad is = rw bad at is
-stops front (fault.BadWidth row) read whole next bad is = row_told (nat_lt (length front + row) max_rows) (fault.BadWidth (length front + row)) whole (λ e. e) (rw bad at is)
-stops front (fault.BadInt row col) read whole next bad is = row_told (nat_lt (length front + row) max_rows) (fault.BadInt (length front + row) col) whole (λ e. e) (rw bad at is)
-stops front (fault.NotUtf8 row) read whole next bad is = row_told (nat_lt (length front + row) max_rows) (fault.NotUtf8 (length front + row)) whole (λ e. e) (rw bad at is)
+stops front (fault.BadWidth row) read whole next bad is = row_reported (nat_lt (length front + row) max_rows) (fault.BadWidth (length front + row)) whole (λ e. e) (rw bad at is)
+stops front (fault.BadInt row col) read whole next bad is = row_reported (nat_lt (length front + row) max_rows) (fault.BadInt (length front + row) col) whole (λ e. e) (rw bad at is)
+stops front (fault.NotUtf8 row) read whole next bad is = row_reported (nat_lt (length front + row) max_rows) (fault.NotUtf8 (length front + row)) whole (λ e. e) (rw bad at is)
 stops front (fault.KeyBroken key first second) read whole next bad is = rw bad at is
 stops front (fault.OrderBroken row) read whole next bad is = rw bad at is
 stops front fault.TooLarge read whole next bad is = rw bad at is

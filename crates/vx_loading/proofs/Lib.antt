@@ -6,4 +6,4 @@ pub mod JoinFacts
 pub mod RoundFacts
 pub mod UnderFacts
 pub mod FrontFacts
-pub mod LoadTold
+pub mod LoadReported

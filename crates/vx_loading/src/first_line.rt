@@ -1,7 +1,7 @@
 //! The first line of a text, which has the header.
 
-ghost use Rattle.std.specs.Prelude.{◌≡◌, ◌≢◌, ◌≤◌, [], length, IfErr, IfOk};
-ghost use Rattle.vx_catalog.specs.Loading.{Fails, records_of, max_rows};
+ghost use Rattle.std.specs.Prelude.{◌≢◌, [], IfErr, IfOk};
+ghost use Rattle.vx_catalog.specs.Loading.{Fails, records_of};
 ghost use Rattle.vx_loading.specs.Reading.{rows_under, IsFirstLine};
 
 use csv::{ByteRecord, ReaderBuilder};

@@ -1,8 +1,7 @@
 //! The rows of the pieces of a text, each read by a thread of its own, behind the rows so far.
 
 ghost use Rattle.std.specs.Prelude.{◌≡◌, ℕ, ◌+◌, ◌-◌, ◌<◌, ◌≤◌, ◌++◌, [], drop, length, true, List, Result, Option, IfErr, IfOk, OnOk, slice_index, slice_index_or, vec_len};
-ghost use Rattle.vx_rows.specs.View.{RowsView};
-ghost use Rattle.vx_rows.specs.Parts.{rows_of_all, HaveTypes};
+ghost use Rattle.vx_rows.specs.Parts.{rows_of_all};
 ghost use Rattle.vx_values.specs.Values.{Row};
 ghost use Rattle.vx_values.specs.declared.value.ColType.{ColType as Kind};
 ghost use Rattle.vx_split.specs.Split.{is_unquoted};

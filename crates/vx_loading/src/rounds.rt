@@ -1,6 +1,6 @@
 //! Rounds: a buffer is filled from a source, and the lines that it has are read by threads.
 
-ghost use Rattle.std.specs.Prelude.{◌≡◌, ◌≢◌, ◌⊎◌, ◌<◌, ◌≤◌, ◌++◌, ◌^◌, length, drop, true, false, Err, IfErr, IfOk, IfSome, OnOk};
+ghost use Rattle.std.specs.Prelude.{◌≡◌, ◌≢◌, ◌⊎◌, ◌<◌, ◌≤◌, ◌++◌, ◌^◌, length, drop, true, false, Err, IfErr, IfSome, OnOk};
 ghost use Rattle.vx_catalog.specs.Counting.{StaysKnown};
 ghost use Rattle.vx_catalog.specs.Loading.{Fails, max_rows};
 ghost use Rattle.vx_loading.specs.Pieces.{may_cut_before, rows_of_text};

@@ -1,5 +1,5 @@
 -- What a caller sees of the kernel of a group, and what it has read.
-use Rattle.std.specs.Prelude.{◌≡◌, ◌<◌, List, length, Option, Some, None}
+use Rattle.std.specs.Prelude.{◌<◌, List, length, Option, Some, None}
 use Rattle.vx_values.specs.Values.{Row}
 use Rattle.vx_plan_nodes.specs.Plan.{Unary, Phase, group}
 use Rattle.vx_plan_nodes.specs.Types.{unary_types}

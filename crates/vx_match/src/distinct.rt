@@ -16,11 +16,21 @@ use vx_views::Rows;
 pub type Distinct = Stepping<FirstRows>;
 
 /// The kernel of a distinct. The cells of the rows that it returns are copied once, to know them again.
-#[derive(Drop)]
 pub struct FirstRows {
     columns: Vec<usize>,
     types: Vec<ColType>,
     seen: Seen,
+}
+
+// By hand, so that the drops of its parts are made and proved here once, and not in each function that drops one.
+impl Drop for FirstRows {
+    fn drop(self) {
+        let FirstRows {
+            columns: _,
+            types: _,
+            seen: _,
+        } = self;
+    }
 }
 
 impl Model for FirstRows {

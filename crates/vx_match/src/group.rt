@@ -16,12 +16,23 @@ use vx_views::Rows;
 pub type Group = Collecting<KeyedGroups>;
 
 /// The kernel of a group: the aggregates by key.
-#[derive(Drop)]
 pub struct KeyedGroups {
     alloc: Global,
     phase: Phase,
     grouping: Grouping,
     failed: Option<FinishFault>,
+}
+
+// By hand, so that the drops of its parts are made and proved here once, and not in each function that drops one.
+impl Drop for KeyedGroups {
+    fn drop(self) {
+        let KeyedGroups {
+            alloc: _,
+            phase: _,
+            grouping: _,
+            failed: _,
+        } = self;
+    }
 }
 
 impl Model for KeyedGroups {

@@ -1,6 +1,6 @@
 //! Hash joins, a batch at a time.
 
-ghost use Rattle.std.specs.Prelude.{◌≡◌, ℕ, List, length, map, IfOk};
+ghost use Rattle.std.specs.Prelude.{◌≡◌, ℕ, length, map, IfOk};
 
 use std::alloc::{AllocError, Global};
 use std::marker::Model;
@@ -22,7 +22,6 @@ const BATCH: usize = 65_536;
 pub type HashJoin = Probing<HashJoining>;
 
 /// The kernel of a hash join. Its right rows stay where they are, or are copied once, as `Build` says.
-#[derive(Drop)]
 pub struct HashJoining {
     alloc: Global,
     seed: KeySeed,
@@ -31,6 +30,21 @@ pub struct HashJoining {
     left: Vec<ColType>,
     read: Rows,
     build: Build,
+}
+
+// By hand, so that the drops of its parts are made and proved here once, and not in each function that drops one.
+impl Drop for HashJoining {
+    fn drop(self) {
+        let HashJoining {
+            alloc: _,
+            seed: _,
+            on: _,
+            left_columns: _,
+            left: _,
+            read: _,
+            build: _,
+        } = self;
+    }
 }
 
 impl Model for HashJoining {

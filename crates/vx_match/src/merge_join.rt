@@ -20,12 +20,23 @@ const MOST: usize = 65_536;
 ///
 /// It never hashes. It keeps the batch at hand of each input, and of the right rows before that only those with the key of
 /// the left row at hand.
-#[derive(Drop)]
 pub struct MergeJoin {
     node: u32,
     on: Vec<(usize, usize)>,
     kernel: Merge,
     over: Over,
+}
+
+// By hand, so that the drops of its parts are made and proved here once, and not in each function that drops one.
+impl Drop for MergeJoin {
+    fn drop(self) {
+        let MergeJoin {
+            node: _,
+            on: _,
+            kernel: _,
+            over: _,
+        } = self;
+    }
 }
 
 impl MergeJoin {

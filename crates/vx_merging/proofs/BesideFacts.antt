@@ -1,12 +1,10 @@
 -- Rows side by side, and rows at pairs of places.
-use Rattle.std.proofs.Common.{◌≡◌, ℕ, ◌+◌, ◌-◌, ◌<◌, ◌≤◌, List, [], ◌∷◌, ◌++◌, length, take, drop, map, get_or, slice_range, refl, sym, ap, ◌∙◌, subst, arith, append_assoc}
+use Rattle.std.proofs.Common.{◌≡◌, ℕ, ◌+◌, ◌-◌, ◌<◌, ◌≤◌, List, [], ◌∷◌, ◌++◌, length, take, drop, map, get_or, slice_range, refl, sym, ap, ◌∙◌, arith, append_assoc}
 use Rattle.std.specs.Prelude.{zip}
-use Rattle.std.proofs.lemmas.List.{map-append, length-append, take-append-drop, take_all, length-take-le}
+use Rattle.std.proofs.lemmas.List.{map-append, length-append, take-append-drop, length-take-le}
 use Rattle.std.proofs.lemmas.List.Concat.{flat_map-append}
 use Rattle.vx_values.specs.Values.{Row}
-use Rattle.vx_rows.specs.View.{RowsView, row, ArePositions}
-use Rattle.vx_rows.specs.Lists.{each_below}
-use Rattle.vx_rows.proofs.Below.{map-each_below, each_below-is, slice_range-each_below, length-each_below, get_or-each_below}
+use Rattle.vx_rows.specs.View.{RowsView, row}
 use Rattle.vx_views.specs.Chunks.{all_rows}
 use Rattle.vx_views.proofs.Whole.{next-rows, take-range}
 use Rattle.vx_views.proofs.Joined.{zip-read}
@@ -24,33 +22,6 @@ beside-join xs us ys vs e = ap (map (λ p. p.0 ++ p.1)) (zip-join xs us ys vs e)
 -- one pair more
 pub one-pair : (a b : RowsView) (ls rs : List ℕ) (i j : ℕ) → length ls ≡ length rs → rows_at a b (ls ++ i ∷ []) (rs ++ j ∷ []) ≡ rows_at a b ls rs ++ (row a i ++ row b j) ∷ []
 one-pair a b ls rs i j e = ap (map (λ p. row a p.0 ++ row b p.1)) (zip-join ls (i ∷ []) rs (j ∷ []) e) ∙ map-append (λ p. row a p.0 ++ row b p.1) (zip ls rs) ((i, j) ∷ [])
-
--- rows of a run of places
-pub rows-counted : (t : RowsView) (from to : ℕ) → from ≤ to → to ≤ length t.rows → map (row t) (each_below (to - from) (λ k. from + k)) ≡ slice_range t.rows from to
-rows-counted t from to order there =
-    map-each_below (row t) (to - from) (λ k. from + k)
-    ∙ (sym (slice_range-each_below (length t.rows) from to (row t) order there) ∙ ap (λ xs. slice_range xs from to) (each_below-is t.rows []))
-
--- the places of a run are among the rows
-pub counted-within : (from to n : ℕ) (ls : List ℕ) → ls ≡ each_below (to - from) (λ k. from + k) → to ≤ n → ArePositions n ls
-counted-within from to n ls e there =
-    subst (ArePositions n) (sym e) (λ k d l.
-    let long = length-each_below (to - from) (λ k. from + k) in
-    let few : k < to - from = omega (arith, l, long) in
-    let at : get_or (each_below (to - from) (λ k. from + k)) k d ≡ from + k = get_or-each_below (to - from) (λ k. from + k) k d few in
-    omega (arith, at, few, there))
-
-pub counted-long : (from to : ℕ) (ls : List ℕ) → ls ≡ each_below (to - from) (λ k. from + k) → length ls ≡ to - from
-counted-long from to ls e = ap length e ∙ length-each_below (to - from) (λ k. from + k)
-
--- rows of a chunk beside all rows of another
-pub chunk-rows : (a b : RowsView) (from to m : ℕ) (ls rs : List ℕ) → from ≤ to → to ≤ length a.rows → m ≡ length b.rows
-    → ls ≡ each_below (to - from) (λ k. from + k) → rs ≡ each_below (m - 0) (λ k. 0 + k) → rows_at a b ls rs ≡ beside (slice_range a.rows from to) b.rows
-chunk-rows a b from to m ls rs order there long e f =
-    let left : map (row a) ls ≡ slice_range a.rows from to = ap (map (row a)) e ∙ rows-counted a from to order there in
-    let all : slice_range b.rows 0 m ≡ b.rows = (let z : m - 0 ≡ m = omega arith in ap (λ n. take n b.rows) z) ∙ take_all m b.rows (omega (arith, long)) in
-    let right : map (row b) rs ≡ b.rows = ap (map (row b)) f ∙ (rows-counted b 0 m (omega arith) (omega (arith, long)) ∙ all) in
-    sym (zip-read (row a) (row b) ls rs) ∙ (λ i. beside (left i) (right i))
 
 pub read-rows : (a b : RowsView) (xs ys : List Row) (ls rs : List ℕ) → xs ≡ map (row a) ls → ys ≡ map (row b) rs → beside xs ys ≡ rows_at a b ls rs
 read-rows a b xs ys ls rs e f = (λ i. beside (e i) (f i)) ∙ zip-read (row a) (row b) ls rs

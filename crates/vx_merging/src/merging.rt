@@ -54,7 +54,6 @@ pub enum MergeNeed {
 ///
 /// A merge of two inputs that come in batches. It keeps the batch at hand of each, and of the right rows before that only
 /// those with the key of the left row at hand.
-#[derive(Drop)]
 pub struct Merge {
     alloc: Global,
     left_columns: Vec<usize>,
@@ -66,6 +65,24 @@ pub struct Merge {
     end: usize,
     left_ended: bool,
     right_ended: bool,
+}
+
+// By hand, so that the drops of its parts are made and proved here once, and not in each function that drops one.
+impl Drop for Merge {
+    fn drop(self) {
+        let Merge {
+            alloc: _,
+            left_columns: _,
+            right_columns: _,
+            left: _,
+            next: _,
+            right: _,
+            start: _,
+            end: _,
+            left_ended: _,
+            right_ended: _,
+        } = self;
+    }
 }
 
 impl Model for Merge {

@@ -2,7 +2,6 @@
 
 ghost use Rattle.std.specs.Prelude.{◌≡◌, ◌<◌, ◌≤◌, ◌+◌, ◌-◌, ◌++◌, ℕ, length, map, slice_range, OnOk, IfOk};
 ghost use Rattle.vx_rows.specs.View.{RowsView, row, ArePositions};
-ghost use Rattle.vx_rows.specs.Lists.{each_below};
 ghost use Rattle.vx_merging.specs.Merged.{beside, rows_at};
 
 use std::alloc::{AllocError, Global};
@@ -116,25 +115,7 @@ fn chunks_beside(
     ensures types { IfOk result (λ c. c.types ≡ left.now.types ++ right.now.types) }
     ensures rows { IfOk result (λ c. c.rows ≡ beside (slice_range left.now.rows from to) right.now.rows) }
 {
-    let left_places = counted(alloc, from, to)?;
-    let right_places = counted(alloc, 0, right.len())?;
-    Chunk::joined(
-        alloc,
-        left,
-        left_places.as_slice(),
-        right,
-        right_places.as_slice(),
-    )
-}
-
-// The numbers from `from` up to `to`.
-fn counted(alloc: Global, from: usize, to: usize) -> Result<Vec<usize>, AllocError>
-    requires { from ≤ to }
-    ensures { IfOk result (λ v. v.items ≡ each_below (to - from) (λ k. from + k)) }
-{
-    let mut numbers = Vec::new(alloc);
-    for k in from..to {
-        numbers.push(k)?;
-    }
-    Ok(numbers)
+    let left = left.slice(alloc, from, to)?;
+    let right = right.share(alloc)?;
+    Chunk::beside(left, right)
 }

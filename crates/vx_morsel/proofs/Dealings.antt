@@ -1,7 +1,7 @@
 -- What seats draw from a deck is dealt out.
-use Rattle.std.proofs.Common.{◌≡◌, ℕ, ◌+◌, ◌<◌, ◌≤◌, ◌==◌, nat_lt, Bool, true, false, cond, ◌||◌, Option, Some, None, List, [], ◌∷◌, length, zero, suc, refl, sym, ap, ◌∙◌, subst, arith, true≢false}
+use Rattle.std.proofs.Common.{◌≡◌, ℕ, ◌+◌, ◌<◌, ◌≤◌, ◌==◌, true, false, cond, ◌||◌, Option, Some, None, List, [], ◌∷◌, length, zero, suc, refl, sym, ap, ◌∙◌, subst, arith, true≢false}
 use Rattle.std.proofs.lemmas.Bool.Decides.{nat_tests}
-use Rattle.vx_morsel.specs.Draws.{Draws, times, once_below, AllAbove, Rises, AllRise, any_ended, drawn_times, DealtOut}
+use Rattle.vx_morsel.specs.Draws.{Draws, times, once_below, AllAbove, AllRise, any_ended, drawn_times}
 use Rattle.vx_morsel.specs.Hands.{DeckState, DeckDraws}
 use Rattle.vx_morsel.specs.Dealing.{Drawn, new_deck, Deals, AreSeated, idle_seats, drew_first, drawn_by_seats, DeckDealsOut}
 

@@ -1,5 +1,5 @@
 -- The life of a deck: which seat drew what, in the order of the draws.
-use Rattle.std.specs.Prelude.{◌≡◌, ℕ, ◌≤◌, ◌<◌, Option, Some, None, List, [], ◌∷◌, zero, suc, true, false}
+use Rattle.std.specs.Prelude.{◌≡◌, ℕ, ◌<◌, Option, Some, None, List, [], ◌∷◌, zero, suc, true, false}
 use Rattle.vx_morsel.specs.Draws.{Draws, DealtOut}
 use Rattle.vx_morsel.specs.Hands.{DeckState, DeckDraws}
 

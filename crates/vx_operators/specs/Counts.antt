@@ -1,6 +1,5 @@
 -- What an operator counts of its turns, and what its counts say of its ledger. A count stays at the largest number of 64 bits.
-use Rattle.std.specs.Prelude.{ℕ, zero, suc, ◌≡◌, ◌+◌, ◌-◌, ◌^◌, ◌≤◌, min, List, [], length, Some, None}
-use Rattle.vx_ports.specs.Packets.{PacketView}
+use Rattle.std.specs.Prelude.{ℕ, zero, suc, ◌≡◌, ◌+◌, ◌-◌, ◌^◌, ◌≤◌, min, [], length, Some, None}
 use Rattle.vx_ops.specs.Ledger.{Ledger}
 use Rattle.vx_ops.specs.declared.turn.Want.{Want}
 use Rattle.vx_ops.specs.declared.turn.Want.TheVariants as want

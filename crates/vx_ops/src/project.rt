@@ -13,11 +13,21 @@ use vx_views::Rows;
 pub type Project = Stepping<Projection>;
 
 /// The kernel of a projection. No cell is copied.
-#[derive(Drop)]
 pub struct Projection {
     alloc: Global,
     columns: Vec<usize>,
     types: Vec<ColType>,
+}
+
+// By hand, so that the drops of its parts are made and proved here once, and not in each function that drops one.
+impl Drop for Projection {
+    fn drop(self) {
+        let Projection {
+            alloc: _,
+            columns: _,
+            types: _,
+        } = self;
+    }
 }
 
 impl Model for Projection {

@@ -10,15 +10,21 @@ use vx_rows::ColType;
 /// Returns the rows of the morsels that it gets.
 ///
 /// It shares no machine with the operators over an input: it computes nothing, so nothing of its own can fail, and it has no node number.
-#[derive(Drop)]
 pub struct Scan {
     types: Vec<ColType>,
     over: Over,
 }
 
+// By hand, so that the drops of its parts are made and proved here once, and not in each function that drops one.
+impl Drop for Scan {
+    fn drop(self) {
+        let Scan { types: _, over: _ } = self;
+    }
+}
+
 impl Scan {
     ghost use Rattle.std.specs.Prelude.{◌≡◌};
-    ghost use Rattle.vx_ops.specs.Turn.{Shape, fresh_ledger};
+    ghost use Rattle.vx_ops.specs.Turn.{fresh_ledger};
     ghost use Rattle.vx_ops.specs.Scan.{ScanStands, scan_types};
 
     /// A scan of a relation with these types, to which nothing came.

@@ -14,11 +14,21 @@ use vx_views::Rows;
 pub type Select = Stepping<Selection>;
 
 /// The kernel of a selection.
-#[derive(Drop)]
 pub struct Selection {
     alloc: Global,
     conditions: Vec<Condition>,
     types: Vec<ColType>,
+}
+
+// By hand, so that the drops of its parts are made and proved here once, and not in each function that drops one.
+impl Drop for Selection {
+    fn drop(self) {
+        let Selection {
+            alloc: _,
+            conditions: _,
+            types: _,
+        } = self;
+    }
 }
 
 impl Stepping<Selection> {

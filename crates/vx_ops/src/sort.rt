@@ -14,11 +14,21 @@ use vx_views::Rows;
 pub type Sort = Collecting<Sorting>;
 
 /// The kernel of a sort.
-#[derive(Drop)]
 pub struct Sorting {
     alloc: Global,
     columns: Vec<usize>,
     read: Rows,
+}
+
+// By hand, so that the drops of its parts are made and proved here once, and not in each function that drops one.
+impl Drop for Sorting {
+    fn drop(self) {
+        let Sorting {
+            alloc: _,
+            columns: _,
+            read: _,
+        } = self;
+    }
 }
 
 impl Model for Sorting {

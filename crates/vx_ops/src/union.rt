@@ -10,12 +10,23 @@ use vx_rows::ColType;
 /// Returns the rows of its left input and, once that has ended, those of its right one.
 ///
 /// It hands batches on as they come, so nothing of its own can fail.
-#[derive(Drop)]
 pub struct Union {
     node: u32,
     types: Vec<ColType>,
     left_ended: bool,
     over: Over,
+}
+
+// By hand, so that the drops of its parts are made and proved here once, and not in each function that drops one.
+impl Drop for Union {
+    fn drop(self) {
+        let Union {
+            node: _,
+            types: _,
+            left_ended: _,
+            over: _,
+        } = self;
+    }
 }
 
 impl Union {

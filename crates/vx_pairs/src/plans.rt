@@ -1,6 +1,6 @@
 //! The rings of a whole plan.
 
-ghost use Rattle.std.specs.Prelude.{◌≡◌, ◌≤◌, OnOk};
+ghost use Rattle.std.specs.Prelude.{◌≤◌, OnOk};
 ghost use Rattle.std.specs.List.{All};
 ghost use Rattle.vx_plan_nodes.specs.Outline.{plan_of};
 ghost use Rattle.vx_groups.specs.Groups.{IsWithin, group_at};

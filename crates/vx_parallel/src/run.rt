@@ -1,6 +1,6 @@
 //! Runs whose workers are threads.
 
-ghost use Rattle.std.specs.Prelude.{◌≡◌, ◌⊎◌, true, map, IfOk, IfErr};
+ghost use Rattle.std.specs.Prelude.{◌≡◌, ◌⊎◌, true, IfOk, IfErr};
 ghost use Rattle.vx_plan_nodes.specs.TypedView.{plan as whole_plan, resolved_of};
 ghost use Rattle.vx_check_rules.specs.Checked.{is_allowed, is_root_allowed};
 ghost use Rattle.vx_check_rules.specs.CheckedView.{typed_plan};

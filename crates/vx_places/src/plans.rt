@@ -1,7 +1,5 @@
 //! Which plan is at fault, and where in its document.
 
-ghost use Rattle.std.specs.Prelude.{◌≡◌};
-
 use crate::fault::PlaceFault;
 use crate::files::{catalog_at, is_input, is_resolved, plan_at};
 use crate::lines::path_line;

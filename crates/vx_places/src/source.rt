@@ -1,7 +1,7 @@
 //! The bytes of a port one after another, with the line of the next one.
 
-ghost use Rattle.std.specs.Prelude.{◌≡◌, ◌≤◌, ◌<◌, ◌⊎◌, ◌+◌, ◌++◌, length, drop, option_map, IfOk, OnOk, true, false};
-ghost use Rattle.std.specs.Io.KnownBytes.{Consumes, IsAtEnd, Keeps, prepend_known};
+ghost use Rattle.std.specs.Prelude.{◌≡◌, ◌≤◌, ◌<◌, ◌⊎◌, ◌+◌, length, option_map, IfOk, OnOk, true, false};
+ghost use Rattle.std.specs.Io.KnownBytes.{IsAtEnd, Keeps, prepend_known};
 ghost use Rattle.csv.specs.Reading.{strip_bom};
 ghost use Rattle.vx_places.specs.Lines.{line_after, left_in, Gives, has_mark};
 

@@ -9,7 +9,7 @@ use Rattle.vx_values.specs.Lists.{is_some_list}
 use Rattle.vx_values.specs.Ranges.{RangeForm}
 use Rattle.vx_values.proofs.Booleans.{and-left, and-right}
 use Rattle.vx_relations.specs.Catalog.{all_below, are_distinct}
-use Rattle.vx_plan_nodes.specs.Plan.{Route, by_hash, by_range, Part, routed, Claim}
+use Rattle.vx_plan_nodes.specs.Plan.{by_hash, by_range, Part, routed, Claim}
 use Rattle.vx_plan_nodes.specs.Plan as plan
 use Rattle.vx_plan_nodes.specs.Typed.{are_columns, is_routed, is_part, is_claim, range_type, bounds_at, type_eq}
 use Rattle.vx_plan_nodes.specs.Outline.{Columns, Top}

@@ -6,7 +6,7 @@ use Rattle.vx_values.specs.Values.{Name}
 use Rattle.vx_values.proofs.Booleans.{and-left, and-right}
 use Rattle.vx_relations.specs.Relation.{Relation}
 use Rattle.vx_relations.specs.Catalog.{relation_at, are_distinct_names}
-use Rattle.vx_plan_nodes.specs.Plan.{Claim, Unary, Binary, ExchangeKind, Plan}
+use Rattle.vx_plan_nodes.specs.Plan.{Unary, Binary, ExchangeKind, Plan}
 use Rattle.vx_plan_nodes.specs.Plan as plan
 use Rattle.vx_plan_nodes.specs.Types.{types_of, unary_types, binary_types}
 use Rattle.vx_plan_nodes.specs.Numbering.{nodes, is_numbered}

@@ -9,7 +9,7 @@ use Rattle.vx_values.proofs.Booleans.{and-both}
 use Rattle.vx_relations.specs.Catalog.{are_distinct_names}
 use Rattle.vx_relations.specs.Naming.{name_at}
 use Rattle.vx_plan_nodes.specs.declared.typed.Projected.{Projected}
-use Rattle.vx_plan_nodes.specs.Plan.{Side, Condition, Aggregate, Phase, Unary}
+use Rattle.vx_plan_nodes.specs.Plan.{Side, Condition, Aggregate, Phase}
 use Rattle.vx_plan_nodes.specs.Plan as plan
 use Rattle.vx_plan_nodes.specs.Phases.{first_columns, merged}
 use Rattle.vx_plan_nodes.specs.Typed.{is_condition}

@@ -1,5 +1,5 @@
 -- Names without a prefix.
-use Rattle.std.proofs.Common.{◌≡◌, ℕ, List, [], ◌∷◌, ◌++◌, refl, sym, ap, ◌∙◌, map}
+use Rattle.std.proofs.Common.{◌≡◌, ℕ, List, [], ◌∷◌, ◌++◌, refl, ap, ◌∙◌, map}
 
 same-names : (ns : List (List ℕ)) → map (λ (n : List ℕ). [] ++ n) ns ≡ ns
 same-names [] = refl

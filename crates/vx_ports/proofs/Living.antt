@@ -1,6 +1,6 @@
 -- What lives on a link flows.
 use Rattle.std.proofs.Common.{◌≡◌, Bool, true, false, not, ◌||◌, ◌&&◌, List, [], ◌∷◌, ◌++◌, refl, sym, ap, ◌∙◌, subst, append_assoc, append-nil, true≢false}
-use Rattle.vx_ports.specs.Packets.{Content, PacketView, closes, is_closed, is_empty, is_stream, Flows}
+use Rattle.vx_ports.specs.Packets.{PacketView, closes, is_closed, is_empty, is_stream}
 use Rattle.vx_ports.specs.LinkView.{LinkView, PutsOnLine, TakesFromLine}
 use Rattle.vx_ports.specs.Lives.{Move, put_on, taken_off, puts_of, takes_of, new_line, Lives, LinkFlows}
 use Rattle.vx_ports.specs.Flowing.{flow_is}

@@ -10,10 +10,19 @@ use std::marker::Model;
 ///
 /// A queue of packets between a producer and a consumer that take turns in one thread. It is never full: what waits in it is bounded by memory alone. It keeps room
 /// for the packet that closes it, so that a stream can always be ended.
-#[derive(Drop)]
 pub struct Link {
     queue: VecDeque<Packet>,
     closed: bool,
+}
+
+// By hand, so that the drops of its parts are made and proved here once, and not in each function that drops one.
+impl Drop for Link {
+    fn drop(self) {
+        let Link {
+            queue: _,
+            closed: _,
+        } = self;
+    }
 }
 
 impl Model for Link {
@@ -78,7 +87,7 @@ impl OutPort for Link {
 }
 
 impl InPort for Link {
-    ghost use Rattle.std.specs.Prelude.{◌≡◌, ◌∷◌, []};
+    ghost use Rattle.std.specs.Prelude.{◌≡◌, []};
     ghost use Rattle.vx_ports.specs.LinkView.{TakesFromLine};
 
     ghost Takes = { TakesFromLine };

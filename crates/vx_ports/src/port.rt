@@ -44,7 +44,7 @@ pub trait OutPort {
 ///
 /// The end of a consumer: packets come out in the order in which they went in.
 pub trait InPort {
-    ghost use Rattle.std.specs.Prelude.{List, IfSome, OnSome, IfNone};
+    ghost use Rattle.std.specs.Prelude.{IfSome, IfNone};
     ghost use Rattle.vx_ports.specs.Packets.{PacketView};
 
     // What a take of this packet does to the port.

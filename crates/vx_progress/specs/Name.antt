@@ -1,5 +1,5 @@
 -- Which relation's text is at a path, and how its name is shown on one line of a terminal.
-use Rattle.std.specs.Prelude.{◌≡◌, ℕ, ◌+◌, ◌-◌, ◌<◌, ◌≤◌, ◌==◌, ◌||◌, ◌&&◌, Bool, true, false, List, [], ◌∷◌, length, take, codes, nat_lt, nat_eq, if◌then◌else◌, slice_index}
+use Rattle.std.specs.Prelude.{◌≡◌, ℕ, ◌-◌, ◌<◌, ◌≤◌, ◌==◌, ◌||◌, ◌&&◌, Bool, true, false, List, [], ◌∷◌, length, take, codes, nat_lt, nat_eq, if◌then◌else◌, slice_index}
 use Rattle.std.specs.List.{ends_with, list_any}
 
 -- the file has the text of a relation

@@ -1,5 +1,5 @@
 -- What is counted of a relation's text, and which line is due.
-use Rattle.std.specs.Prelude.{◌≡◌, ℕ, ◌+◌, ◌-◌, ◌^◌, ◌<◌, ◌≤◌, ◌==◌, Bool, false, min, max, List, [], ◌++◌, if◌then◌else◌, length, count_by}
+use Rattle.std.specs.Prelude.{◌≡◌, ℕ, ◌+◌, ◌-◌, ◌^◌, ◌==◌, Bool, false, min, max, List, [], ◌++◌, if◌then◌else◌, length, count_by}
 use Rattle.vx_progress.specs.Text.{start, erased, shown_text}
 use Rattle.vx_progress.specs.declared.progress.Progress.{Progress}
 

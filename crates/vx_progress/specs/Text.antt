@@ -1,5 +1,5 @@
 -- The line that says how much of a relation's text has been read.
-use Rattle.std.specs.Prelude.{◌≡◌, ℕ, ◌*◌, ◌/◌, ◌%◌, ◌<◌, ◌≤◌, ◌==◌, ◌&&◌, Bool, List, [], ◌∷◌, ◌++◌, Option, Some, None, length, codes, decimal, nat_lt, nat_le, if◌then◌else◌}
+use Rattle.std.specs.Prelude.{ℕ, ◌*◌, ◌/◌, ◌%◌, ◌==◌, ◌&&◌, Bool, List, [], ◌∷◌, ◌++◌, Option, Some, None, length, codes, decimal, nat_lt, nat_le, if◌then◌else◌}
 
 -- so many digits are whole groups of three
 abbrev pub are_groups : ℕ → Bool

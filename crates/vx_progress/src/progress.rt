@@ -1,6 +1,6 @@
 //! How much of a relation's text has been read, and when the line that says so is due.
 
-ghost use Rattle.std.specs.Prelude.{◌≡◌, ◌≤◌, ◌<◌, IfOk, OnOk, IsOk, IsSomeAnd, None, true, false};
+ghost use Rattle.std.specs.Prelude.{◌≡◌, ◌≤◌, ◌<◌, IfOk, OnOk, IsSomeAnd, None, true, false};
 
 use crate::text::{ENDING, shown_text};
 use std::alloc::{AllocError, Global};

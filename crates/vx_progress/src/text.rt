@@ -1,7 +1,7 @@
 //! The text of the line.
 
-ghost use Rattle.std.specs.Prelude.{◌≡◌, ◌++◌, ◌≤◌, ◌<◌, ◌*◌, ◌/◌, ◌%◌, ◌==◌, length, decimal, codes, OnOk, IfOk, Option};
-ghost use Rattle.vx_progress.specs.Text.{are_groups, grouped, number_text, units, unit_name, bytes_text, part_text, is_part, amount_text, line_text, shown_text};
+ghost use Rattle.std.specs.Prelude.{◌≡◌, ◌++◌, ◌≤◌, ◌<◌, ◌*◌, ◌/◌, ◌%◌, ◌==◌, OnOk, IfOk, Option};
+ghost use Rattle.vx_progress.specs.Text.{are_groups, grouped, number_text, units, unit_name, bytes_text, part_text, amount_text, line_text, shown_text};
 
 use itoa::Buffer;
 use std::alloc::{AllocError, Global};

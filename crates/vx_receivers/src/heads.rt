@@ -1,12 +1,12 @@
 //! What is at hand of each producer's stream, and which row of it goes first.
 
-ghost use Rattle.std.specs.Prelude.{◌≡◌, ◌≢◌, ◌≤◌, ◌<◌, ◌++◌, ◌↔◌, ℕ, [], All, length, get_or, drop, Some, true, false, OnOk, IfOk, IfNone, IfSome, IsTrue};
+ghost use Rattle.std.specs.Prelude.{◌≡◌, ◌≢◌, ◌≤◌, ◌<◌, ◌++◌, ◌↔◌, ℕ, [], All, length, get_or, drop, Some, true, false, IfOk, IsTrue};
 ghost use Rattle.std.specs.List.{AllWithin, Contains};
 ghost use Rattle.std.specs.Vec.{vec_len, vec_capacity};
 ghost use Rattle.std.specs.Ordering.{is_le};
 ghost use Rattle.vx_rows.specs.Order.{compare_on, sorted};
 ghost use Rattle.vx_rows.specs.View.{row, AreColumns};
-ghost use Rattle.vx_receivers.specs.Heads.{HasRow, Lacks, HasRowAt, LacksAt, held_at, next_at, position_at, last_of, GoesBefore, Precedes, IsOrder, IsRun, AreAlike, IsFresh, IsMissing};
+ghost use Rattle.vx_receivers.specs.Heads.{HasRow, Lacks, HasRowAt, held_at, next_at, position_at, last_of, GoesBefore, Precedes, IsOrder, IsRun, AreAlike, IsFresh, IsMissing};
 
 use std::alloc::{AllocError, Global};
 use std::cmp::Ordering;
@@ -15,11 +15,21 @@ use vx_views::Rows;
 
 // What is at hand of a producer's stream: the rows from a position on, and whether it has ended. Of the rows before, the
 // last one is kept until others come: these must not be less.
-#[derive(Drop)]
 pub(crate) struct Head {
     pub rows: Rows,
     pub at: usize,
     pub ended: bool,
+}
+
+// By hand, so that the drops of its parts are made and proved here once, and not in each function that drops one.
+impl Drop for Head {
+    fn drop(self) {
+        let Head {
+            rows: _,
+            at: _,
+            ended: _,
+        } = self;
+    }
 }
 
 impl Head {

@@ -12,7 +12,6 @@ use vx_rows::ColType;
 /// The consumer end of an exchange at one of its places: it returns all rows of producer 0, then those of producer 1, and so on.
 ///
 /// It asks one producer until this has ended, and then the next. What the others send meanwhile waits at their ports.
-#[derive(Drop)]
 pub struct InOrderReceiver {
     port: Place,
     producers: u32,
@@ -21,8 +20,20 @@ pub struct InOrderReceiver {
     ghost next_in_range: { next < producers },
 }
 
+// By hand, so that the drops of its parts are made and proved here once, and not in each function that drops one.
+impl Drop for InOrderReceiver {
+    fn drop(self) {
+        let InOrderReceiver {
+            port: _,
+            producers: _,
+            next: _,
+            over: _,
+        } = self;
+    }
+}
+
 impl InOrderReceiver {
-    ghost use Rattle.std.specs.Prelude.{◌≡◌, ◌≤◌, [], true, Some, IfOk};
+    ghost use Rattle.std.specs.Prelude.{◌≡◌, ◌≤◌, [], true, Some};
     ghost use Rattle.vx_ports.specs.Packets.{PacketView, last};
     ghost use Rattle.vx_ops.specs.Ledger.{Ledger, receive, IsFor};
     ghost use Rattle.vx_ops.specs.Turn.{after, fresh_ledger, GivesRows};

@@ -1,6 +1,6 @@
 //! The merge of sorted streams that still grow: the least row at hand goes first, once each stream that has not ended has one.
 
-ghost use Rattle.std.specs.Prelude.{◌≡◌, ◌<◌, ◌≤◌, ◌++◌, [], ℕ, Bool, List, length, Some, None, true, false, OnOk, IfOk, IfSome};
+ghost use Rattle.std.specs.Prelude.{◌≡◌, ◌<◌, ◌++◌, [], ℕ, Bool, List, length, Some, None, true, false, OnOk, IfOk, IfSome};
 ghost use Rattle.vx_values.specs.Values.{Row as Cells};
 ghost use Rattle.vx_rows.specs.Order.{sorted};
 ghost use Rattle.vx_rows.specs.View.{AreColumns};
@@ -23,7 +23,6 @@ const MOST: usize = 4096;
 // in which their next rows go. The first of them gives the rows that go before all others, which takes one comparison a row;
 // then it is put in its place again, which is found by halving. The order is a plain list of at most 64 numbers: to shift
 // these costs less than a comparison of rows, and a tree of losers would compare as often.
-#[derive(Drop)]
 pub(crate) struct Merge {
     alloc: Global,
     columns: Vec<usize>,
@@ -31,6 +30,20 @@ pub(crate) struct Merge {
     heads: Vec<Head>,
     order: Vec<usize>,
     missing: Option<usize>,
+}
+
+// By hand, so that the drops of its parts are made and proved here once, and not in each function that drops one.
+impl Drop for Merge {
+    fn drop(self) {
+        let Merge {
+            alloc: _,
+            columns: _,
+            types: _,
+            heads: _,
+            order: _,
+            missing: _,
+        } = self;
+    }
 }
 
 impl Model for Merge {

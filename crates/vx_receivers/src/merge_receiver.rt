@@ -17,7 +17,6 @@ use vx_views::Rows;
 ///
 /// It asks a producer that has not ended and of which no row is at hand, until there is none, and then returns the least rows
 /// a batch at a time.
-#[derive(Drop)]
 pub struct MergeReceiver {
     port: Place,
     kernel: Merge,
@@ -26,8 +25,19 @@ pub struct MergeReceiver {
     ghost few: { length kernel.heads ≤ 64 },
 }
 
+// By hand, so that the drops of its parts are made and proved here once, and not in each function that drops one.
+impl Drop for MergeReceiver {
+    fn drop(self) {
+        let MergeReceiver {
+            port: _,
+            kernel: _,
+            over: _,
+        } = self;
+    }
+}
+
 impl MergeReceiver {
-    ghost use Rattle.std.specs.Prelude.{◌≡◌, ◌≤◌, ◌<◌, ℕ, length, false, Some, None, IfOk};
+    ghost use Rattle.std.specs.Prelude.{◌≡◌, ◌≤◌, ◌<◌, length, false, Some, None, IfOk};
     ghost use Rattle.vx_rows.specs.View.{AreColumns};
     ghost use Rattle.vx_ports.specs.Packets.{PacketView, brings};
     ghost use Rattle.vx_ops.specs.Ledger.{Ledger, receive, IsFor};

@@ -1,6 +1,6 @@
 //! The place of an exchange at which a consumer end takes packets.
 
-ghost use Rattle.std.specs.Prelude.{◌≡◌, ◌↔◌, ℕ, List, Bool, IsTrue};
+ghost use Rattle.std.specs.Prelude.{◌↔◌, ℕ, List, Bool, IsTrue};
 ghost use Rattle.vx_ports.specs.Packets.{FitsContent};
 ghost use Rattle.vx_ops.specs.Ledger.{IsFor};
 ghost use Rattle.vx_receivers.specs.Ends.{end_at};
@@ -9,11 +9,21 @@ use vx_ports::Packet;
 use vx_rows::ColType;
 
 // A place of an exchange, by its node number, and the types of the rows that come there.
-#[derive(Drop)]
 pub(crate) struct Place {
     pub exchange: u32,
     pub place: u32,
     pub types: Vec<ColType>,
+}
+
+// By hand, so that the drops of its parts are made and proved here once, and not in each function that drops one.
+impl Drop for Place {
+    fn drop(self) {
+        let Place {
+            exchange: _,
+            place: _,
+            types: _,
+        } = self;
+    }
 }
 
 impl Place {

@@ -1,6 +1,6 @@
 //! The status with which the program ends after a refusal: 3 for input that is refused, 4 where the machine or the run failed.
 
-ghost use Rattle.std.specs.Prelude.{◌≡◌, ◌⊎◌};
+ghost use Rattle.std.specs.Prelude.{◌≡◌};
 ghost use Rattle.vx_refusals.specs.Status.{catalog_status, load_status, plan_status, rule_status, run_status, eval_status, status_of};
 
 use crate::refusal::Refusal;

@@ -1,6 +1,6 @@
 //! The form of a catalog in JSON.
 
-ghost use Rattle.std.specs.Prelude.{◌≡◌, ℕ, List, map, string_bytes};
+ghost use Rattle.std.specs.Prelude.{ℕ, List, map, string_bytes};
 ghost use Rattle.serde_json.specs.View.{view};
 ghost use Rattle.vx_json.specs.Look.{Finds, Parses};
 ghost use Rattle.vx_relations.specs.Form.{kind_in, column_in, key_in, relation_in, catalog_in};

@@ -1,12 +1,11 @@
 -- Tables that are put one behind the other, column by column.
 use Rattle.std.proofs.Common.{◌≡◌, ℕ, true, zero, suc, ◌+◌, ◌-◌, ◌<◌, ◌≤◌, List, [], ◌∷◌, ◌++◌, refl, sym, ap, subst, ◌∙◌, length, get_or, take, drop, map, flat_map, arith, inl, inr, pos}
-use Rattle.std.specs.Prelude.{All}
 use Rattle.std.specs.List.{list_all, AllByRecursion}
 use Rattle.std.proofs.lemmas.List.{same_lists, length-map, drop_all, take_more, take_all, length-append, get_or_append_left, get_or-append_right, append-nil, get_or_default}
 use Rattle.std.proofs.lemmas.Grind.{flat_map-append}
 use Rattle.std.proofs.lemmas.Bool.{cases_lt}
 use Rattle.vx_values.specs.declared.value.ColType.{ColType}
-use Rattle.vx_values.specs.Values.{Val, Row, num, value_at}
+use Rattle.vx_values.specs.Values.{Row, num, value_at}
 use Rattle.vx_values.specs.Types.{type_of, is_held, Fits}
 use Rattle.vx_rows.specs.declared.column.Column.{Column}
 use Rattle.vx_rows.specs.Columns.{column_type, size, entry, row_of, rows_of, LongTo, AreLong, KeepsFront, KeepRows, Fills}

@@ -1,10 +1,10 @@
 //! Lists of the columns that a SELECT gives.
 
-ghost use Rattle.std.specs.Prelude.{◌≡◌, ◌++◌, ◌<◌, ◌+◌, ◌^◌, [], map, length, string_bytes, codes, OnOk, false};
+ghost use Rattle.std.specs.Prelude.{◌≡◌, ◌++◌, ◌<◌, ◌+◌, ◌^◌, map, length, string_bytes, codes, OnOk, false};
 ghost use Rattle.vx_plan_nodes.specs.Outline.{aggregate_of, outline_of, columns};
 ghost use Rattle.vx_check.specs.Explain.{separated};
-ghost use Rattle.vx_sql.specs.Words.{column_name, identifier};
-ghost use Rattle.vx_sql.specs.Operators.{outputs, columns_from, all_columns, kept_columns, collation, relation_column, relation_columns, sum_before, sum_after, count_sql, aggregate_sql, group_columns, equal_left, left_or_right, right_columns, join_columns};
+ghost use Rattle.vx_sql.specs.Words.{column_name};
+ghost use Rattle.vx_sql.specs.Operators.{outputs, all_columns, kept_columns, collation, relation_column, relation_columns, sum_before, sum_after, count_sql, aggregate_sql, group_columns, equal_left, left_or_right, right_columns, join_columns};
 ghost use Rattle.vx_sql.specs.Statement.{result_columns};
 
 use crate::dialect::Dialect;

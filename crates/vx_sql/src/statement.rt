@@ -1,13 +1,13 @@
 //! A plan as one statement.
 
-ghost use Rattle.std.specs.Prelude.{◌≡◌, ◌++◌, ◌+◌, ◌<◌, ◌^◌, length, map, string_bytes, codes, OnOk, IfOk, false};
+ghost use Rattle.std.specs.Prelude.{◌≡◌, ◌++◌, ◌+◌, ◌<◌, map, string_bytes, codes, OnOk, IfOk, false};
 ghost use Rattle.vx_relations.specs.Catalog.{relation_at};
 ghost use Rattle.vx_plan_nodes.specs.Outline.{outline_of, columns, top, unary_of, binary_of};
 ghost use Rattle.vx_plan_nodes.specs.TypedView.{names_in};
 ghost use Rattle.vx_sql.specs.Words.{node_name, column_of};
 ghost use Rattle.vx_check.specs.Explain.{separated};
 ghost use Rattle.vx_sql.specs.Operators.{scan_sql, unary_columns, unary_sql, binary_columns, binary_word, binary_clause, binary_sql};
-ghost use Rattle.vx_sql.specs.Statement.{maker, table_as, tables, within, nested, result_columns, order_sql, result_sql, with_tables, outline_sql, plan_sql};
+ghost use Rattle.vx_sql.specs.Statement.{maker, table_as, tables, within, nested, result_columns, order_sql, result_sql, with_tables, plan_sql};
 
 use crate::columns::{column_names, column_types, push_result_columns};
 use crate::dialect::Dialect;

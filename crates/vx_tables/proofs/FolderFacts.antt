@@ -36,13 +36,13 @@ is_fault fault h = ap Err h
 lacks_by : {T : Type 0} (failed : Bool) (known : Option (List ℕ)) (files : List ℕ → Stored) (reliable : List ℕ → Bool) (folder : List ℕ) (relation : Relation) (fault : LoadFault)
     → OpensAs (files (path_in folder relation.name)) known → (failed ≡ true → reliable (path_in folder relation.name) ≡ false) → (failed ≡ false → IfSome known (λ bytes. Fails fault (load_of relation bytes)))
     → (IsErrOf {T = T} (Err fault) load.ReadFailed → failed ≡ true) → (failed ≡ true → IsErrOf {T = T} (Err fault) load.ReadFailed) → LacksAt files reliable folder relation (refusal.Load fault)
-lacks_by true known files reliable folder relation fault there may told read broken = for_reading (ap refusal.Load (fault_is fault (broken refl))) (may refl) (opened_may (files (path_in folder relation.name)) known there)
-lacks_by false known files reliable folder relation fault there may told read broken =
+lacks_by true known files reliable folder relation fault there may reported read broken = for_reading (ap refusal.Load (fault_is fault (broken refl))) (may refl) (opened_may (files (path_in folder relation.name)) known there)
+lacks_by false known files reliable folder relation fault there may reported read broken =
     let P : List ℕ → Type 0 = λ bytes. Fails fault (load_of relation bytes) in
-    for_text fault refl (λ h. let bad = read (is_fault fault h) in cc) (opened_bytes (files (path_in folder relation.name)) known P there (told refl))
+    for_text fault refl (λ h. let bad = read (is_fault fault h) in cc) (opened_bytes (files (path_in folder relation.name)) known P there (reported refl))
 
 pub lacks_read : {T : Type 0} (failed : Bool) (known : Option (List ℕ)) (files : List ℕ → Stored) (reliable : List ℕ → Bool) (folder : List ℕ) (relation : Relation) (fault : LoadFault)
     → OpensAs (files (path_in folder relation.name)) known → (reliable (path_in folder relation.name) ≡ true → failed ≡ false) → (failed ≡ false → IfSome known (λ bytes. Fails fault (load_of relation bytes)))
     → (IsErrOf {T = T} (Err fault) load.ReadFailed → failed ≡ true) → (failed ≡ true → IsErrOf {T = T} (Err fault) load.ReadFailed) → LacksAt files reliable folder relation (refusal.Load fault)
-lacks_read failed known files reliable folder relation fault there never told read broken =
-    lacks_by failed known files reliable folder relation fault there (may_fail (reliable (path_in folder relation.name)) failed never) told read broken
+lacks_read failed known files reliable folder relation fault there never reported read broken =
+    lacks_by failed known files reliable folder relation fault there (may_fail (reliable (path_in folder relation.name)) failed never) reported read broken

@@ -53,8 +53,8 @@ seat-there (s ∷ ss) zero l = (s, refl, refl)
 seat-there (s ∷ ss) (suc w) l = seat-there ss w (omega (arith, l))
 
 module _ (S : RunModel) (ts : ℕ → Trace) (hs : List Hold) (bear : AllBear hs ts) where
-  told-at : (a n : ℕ) (d : Dealer) → DrawAt hs a n d → DealsAs d ((ts a).drew n)
-  told-at a n d s =
+  reported-at : (a n : ℕ) (d : Dealer) → DrawAt hs a n d → DealsAs d ((ts a).drew n)
+  reported-at a n d s =
       let h = (bear a s.hold s.worker).draws s.k s.x s.place in
       subst (λ z. DealsAs d ((ts a).drew z)) s.scan (subst (λ z. DealsAs z ((ts a).drew s.x.scan)) s.dealer h)
 
@@ -65,12 +65,12 @@ module _ (S : RunModel) (ts : ℕ → Trace) (hs : List Hold) (bear : AllBear hs
       dispatched-same count m (seat_at all) (λ w. (ts (top + w)).drew n)
       (λ w l.
       let x = seat-there h.seats w (subst (λ z. w < z) (sym h.count_is) l) in
-      x.2 ∙ sym (told-at (top + w) n (dealer.Seat h.deck x.0) (h.held w x.0 x.1)))
+      x.2 ∙ sym (reported-at (top + w) n (dealer.Seat h.deck x.0) (h.held w x.0 x.1)))
       (subst (λ z. Dispatched z m (seat_at all)) len (hands-dispatched m h.t all h.dealt))
 
   whole : (n a m : ℕ) (h : HandState) → DrawAt hs a n (dealer.Hand h) → h.morsels ≡ m → Dispatched 1 m (λ w. (ts a).drew n)
   whole n a m h at e =
-      let d = told-at a n (dealer.Hand h) at in
+      let d = reported-at a n (dealer.Hand h) at in
       subst (λ z. Dispatched 1 z (λ w. (ts a).drew n)) e (dispatched 1 h.morsels h.next (λ w. (ts a).drew n) d.drew)
 
   flowed : (a j b n i : ℕ) (o : RingOut) (e : Inlet) → OutAt hs a j o → InAt hs b n i e → FlowsThrough o e → Flows ((ts a).sent j) ((ts b).came n i)

@@ -133,9 +133,9 @@ module _ {O S : Type 0} (OS : O → Ledger → Type 0) (op : O → Op) (SS : S �
   settled at W p vs [] hs e back (verdict.Failed f) h = absurd (none-fails W p vs hs at back f (sym e) h)
   settled at W p vs (d ∷ rest) hs e back (verdict.Failed f) h = (ts W p vs hs at back, settled-failed W p vs hs at back d f h, settled-own W p vs hs at back d f h)
 
-  pub told : ((s : S) → IsAt (post s) (task s)) → (W : RunModel) (p : Plan) (vs xs : List (Worker O S)) (hs : List Hold) → vs ≡ xs → CameBack OS op SS task post bounds hash m W p vs hs
+  pub reported : ((s : S) → IsAt (post s) (task s)) → (W : RunModel) (p : Plan) (vs xs : List (Worker O S)) (hs : List Hold) → vs ≡ xs → CameBack OS op SS task post bounds hash m W p vs hs
       → is_fit W.relation_of p ≡ true → 0 < workers W.sizes (size p) → (x : Verdict) → Judged vs x → ReportsFirst W p x
-  told at W p vs xs hs e back fit some verdict.Done h = tt
-  told at W p vs xs hs e back fit some verdict.Unfinished h = tt
-  told at W p vs [] hs e back fit some (verdict.Failed f) h = absurd (none-fails W p vs hs at back f (sym e) h)
-  told at W p vs (d ∷ rest) hs e back fit some (verdict.Failed f) h = settled-first W p vs hs at back d f h fit some
+  reported at W p vs xs hs e back fit some verdict.Done h = tt
+  reported at W p vs xs hs e back fit some verdict.Unfinished h = tt
+  reported at W p vs [] hs e back fit some (verdict.Failed f) h = absurd (none-fails W p vs hs at back f (sym e) h)
+  reported at W p vs (d ∷ rest) hs e back fit some (verdict.Failed f) h = settled-first W p vs hs at back d f h fit some

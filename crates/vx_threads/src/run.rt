@@ -1,7 +1,6 @@
 //! The loop of a worker in a thread of its own.
 
-ghost use Rattle.std.specs.Prelude.{◌≡◌, ℕ, true, false, IsSome, List};
-ghost use Rattle.vx_values.specs.Values.{Row};
+ghost use Rattle.std.specs.Prelude.{◌≡◌, true, false, IsSome};
 ghost use Rattle.vx_worker.specs.Worker.{IsReady, outcome_of};
 ghost use Rattle.vx_worker.specs.declared.worker.Stepped.TheVariants as Stepped;
 ghost use Rattle.vx_threads.specs.Carrying.{hold_of};

@@ -29,12 +29,23 @@ pub struct Field {
 }
 
 /// Rows whose values lie in several shared tables side by side. Columns of one table share one list of positions.
-#[derive(Drop)]
 pub struct Chunk {
     types: Vec<ColType>,
     parts: Vec<TableRows>,
     fields: Vec<Field>,
     count: usize,
+}
+
+// By hand, so that the drops of its parts are made and proved here once, and not in each function that drops one.
+impl Drop for Chunk {
+    fn drop(self) {
+        let Chunk {
+            types: _,
+            parts: _,
+            fields: _,
+            count: _,
+        } = self;
+    }
 }
 
 impl Model for Chunk {

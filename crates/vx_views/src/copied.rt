@@ -22,8 +22,8 @@ impl Chunk {
         rows.append_range(&copied, 0, copied.len())
     }
 
-    /// Adds a copy of row i to rows that are filled cell by cell.
-    pub fn push_row(&self, filling: &mut OpenRows, i: usize) -> Result<(), AllocError>
+    // Adds a copy of row i to rows that are filled cell by cell.
+    fn push_row(&self, filling: &mut OpenRows, i: usize) -> Result<(), AllocError>
         requires types { filling.old.types ≡ self.now.types }
         requires front { filling.old.front ≡ [] }
         requires there { i < length self.now.rows }

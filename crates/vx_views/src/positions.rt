@@ -9,9 +9,15 @@ use std::marker::Model;
 use std::sync::Arc;
 
 /// A list of positions, which several `Positions` may share.
-#[derive(Drop)]
 pub struct PositionList {
     items: Vec<usize>,
+}
+
+// By hand, so that the drops of its parts are made and proved here once, and not in each function that drops one.
+impl Drop for PositionList {
+    fn drop(self) {
+        let PositionList { items: _ } = self;
+    }
 }
 
 impl Model for PositionList {
@@ -42,11 +48,21 @@ impl PositionList {
 }
 
 /// Positions: a range, or a part of a list that others may share.
-#[derive(Drop)]
 pub struct Positions {
     listed: Option<Arc<PositionList>>,
     from: usize,
     count: usize,
+}
+
+// By hand, so that the drops of its parts are made and proved here once, and not in each function that drops one.
+impl Drop for Positions {
+    fn drop(self) {
+        let Positions {
+            listed: _,
+            from: _,
+            count: _,
+        } = self;
+    }
 }
 
 impl Model for Positions {

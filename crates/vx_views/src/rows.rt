@@ -17,11 +17,21 @@ use std::sync::Arc;
 use vx_rows::{Cell, ColType, Table};
 
 /// Rows in chunks, one behind the other. To add rows copies none.
-#[derive(Drop)]
 pub struct Rows {
     types: Vec<ColType>,
     chunks: Vec<Chunk>,
     count: usize,
+}
+
+// By hand, so that the drops of its parts are made and proved here once, and not in each function that drops one.
+impl Drop for Rows {
+    fn drop(self) {
+        let Rows {
+            types: _,
+            chunks: _,
+            count: _,
+        } = self;
+    }
 }
 
 impl Model for Rows {

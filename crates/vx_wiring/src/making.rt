@@ -1,12 +1,11 @@
 //! All workers of a plan, one fragment after the other.
 
-ghost use Rattle.std.specs.Prelude.{◌≡◌, ◌≤◌, ◌+◌, [], ◌∷◌, ◌++◌, length, map, IfOk, OnOk};
+ghost use Rattle.std.specs.Prelude.{◌≡◌, ◌≤◌, ◌+◌, [], ◌∷◌, length, IfOk, OnOk};
 ghost use Rattle.vx_plan_nodes.specs.Outline.{plan_of, size_of, kind_of};
 ghost use Rattle.vx_plan_nodes.specs.Plan.{size, target, scan as scan_at, Claim};
 ghost use Rattle.vx_plan_nodes.specs.Streams.{workers};
 ghost use Rattle.vx_groups.specs.Groups.{group_at};
 ghost use Rattle.vx_worker.specs.Fragment.{RunModel};
-ghost use Rattle.vx_wiring.specs.Giving.{holds_of};
 ghost use Rattle.vx_wiring.specs.Sized.{IsSized};
 
 use crate::rings::rings_of;

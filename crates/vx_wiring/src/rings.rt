@@ -1,6 +1,6 @@
 //! The rings of one producer.
 
-ghost use Rattle.std.specs.Prelude.{◌≡◌, ◌≤◌, ◌+◌, length, IfOk};
+ghost use Rattle.std.specs.Prelude.{◌≤◌, ◌+◌, length, IfOk};
 ghost use Rattle.vx_wiring.specs.Giving.{MakesRings, holds_of};
 
 use crate::share::{Share, give_inlet};

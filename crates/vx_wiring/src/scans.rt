@@ -1,6 +1,6 @@
 //! Seats and hands for the workers of one scan.
 
-ghost use Rattle.std.specs.Prelude.{◌≡◌, ◌≤◌, ◌+◌, length, OnOk};
+ghost use Rattle.std.specs.Prelude.{◌≤◌, ◌+◌, length, OnOk};
 ghost use Rattle.std.specs.List.{All};
 ghost use Rattle.vx_decks.specs.Seats.{DeckView, IsNewSeat};
 ghost use Rattle.vx_wiring.specs.Giving.{GainsHand, GainsSeat, GivesEach, holds_of};

@@ -1,6 +1,6 @@
 //! What one worker is given.
 
-ghost use Rattle.std.specs.Prelude.{◌≡◌, ◌<◌, length, OnOk};
+ghost use Rattle.std.specs.Prelude.{◌<◌, length, OnOk};
 ghost use Rattle.vx_wiring.specs.Giving.{GainsDrawer, GainsInlet, GivesAt, holds_of};
 
 use std::alloc::AllocError;

@@ -2,7 +2,6 @@
 //! that no part's length is asked for first.
 
 ghost use Rattle.std.specs.Prelude.{◌≡◌, ◌+◌, ◌*◌, ◌<◌, ◌≤◌, ◌∷◌, ◌++◌, length, drop, flat_map};
-ghost use Rattle.std.specs.Fmt.{decimal};
 ghost use Rattle.vx_catalog.specs.Csv.{line_text};
 ghost use Rattle.vx_wisconsin.specs.Wisconsin.{max_rows, unique1, numbers, letter, seven_letters, text_of, string4, row_of};
 ghost use Rattle.vx_wisconsin.specs.Line.{number_text};

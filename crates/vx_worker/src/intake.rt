@@ -68,7 +68,7 @@ impl Intake {
     ghost use Rattle.vx_worker.specs.declared.intake.ExchangeInput.{ExchangeInput};
     ghost use Rattle.vx_worker.specs.Answering.{DrainFinds};
     ghost use Rattle.vx_worker.specs.Wishes.{WishFits, WishTyped};
-    ghost use Rattle.vx_worker.specs.Intake.{source_of, sources_of, IsFresh, has_met_end, MarksStand, IntakeStands, IsDrained, Fetches, Drains};
+    ghost use Rattle.vx_worker.specs.Intake.{source_of, sources_of, IsFresh, MarksStand, IntakeStands, IsDrained, Fetches, Drains};
 
     /// Nothing was read yet.
     pub fn new(alloc: Global, inputs: Vec<ExchangeInput>) -> Intake

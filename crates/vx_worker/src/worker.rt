@@ -48,7 +48,6 @@ pub enum Stepped {
 /// Calls: `new (step | outcome | tree | counts)* into_sender`.
 ///
 /// A worker: the tree of its fragment, and what accepts the rows that the tree's top returns.
-#[derive(Drop)]
 pub struct Worker<O, S> {
     tree: Tree<O>,
     sender: S,
@@ -61,6 +60,23 @@ pub struct Worker<O, S> {
     closing: Vec<Packet>,
     node: u32,
     counts: StepCounts,
+}
+
+// By hand, so that the drops of its parts are made and proved here once, and not in each function that drops one.
+impl<O: Drop, S: Drop> Drop for Worker<O, S> {
+    fn drop(self) {
+        let Worker {
+            tree: _,
+            sender: _,
+            pending: _,
+            is_over: _,
+            phase: _,
+            intake: _,
+            closing: _,
+            node: _,
+            counts: _,
+        } = self;
+    }
 }
 
 impl<O: Source, S: Sends> Worker<O, S> {
@@ -445,7 +461,17 @@ impl<O: Drop, S> Worker<O, S> {
     pub fn into_sender(self) -> S
         ensures { result ≡ sender_of self }
     {
-        let Worker { sender, .. } = self;
+        let Worker {
+            tree: _,
+            sender,
+            pending: _,
+            is_over: _,
+            phase: _,
+            intake: _,
+            closing: _,
+            node: _,
+            counts: _,
+        } = self;
         sender
     }
 }

@@ -1,6 +1,6 @@
 //! Blocks of rows, the lines of each of which are made by a thread of its own.
 
-ghost use Rattle.std.specs.Prelude.{◌≡◌, ◌+◌, ◌*◌, ◌<◌, ◌≤◌, min, length, IfOk, vec_len};
+ghost use Rattle.std.specs.Prelude.{◌≡◌, ◌+◌, ◌*◌, ◌<◌, min, IfOk, vec_len};
 ghost use Rattle.vx_writing.specs.Blocks.{block_start, block_at, lines_text, AreLines};
 
 use crate::lines::Lines;

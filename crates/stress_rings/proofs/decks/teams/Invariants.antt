@@ -1,4 +1,4 @@
-use Rattle.std.proofs.Common.{◌≡◌, All}
+use Rattle.std.proofs.Common.{All}
 use Rattle.std.specs.Vec.Iter.{into_iter_items}
 use Rattle.vx_decks.specs.Seats.{IsSeatOf}
 use Rattle.stress_rings.proofs.decks.teams.Given as goal

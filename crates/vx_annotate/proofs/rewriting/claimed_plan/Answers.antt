@@ -1,4 +1,3 @@
-use Rattle.std.proofs.Common.{arith, ◌≤◌}
 use Rattle.vx_annotate.proofs.TreeFacts.{same_nodes, same_levels, same_form}
 use Rattle.vx_annotate.proofs.rewriting.claimed_plan.Goals as goal
 

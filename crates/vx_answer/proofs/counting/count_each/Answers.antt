@@ -1,7 +1,6 @@
 use Rattle.std.proofs.Common.{rules, ◌≡◌, ◌<◌, length, take, subst, string_bytes}
 use Rattle.vx_answer.specs.Commands.{RunRefuses}
 use Rattle.vx_answer.specs.PlansView.{named_is}
-use Rattle.vx_answer.specs.Stats.{IsRunMore}
 use Rattle.vx_answer.specs.declared.plans.AcceptedPlan.{AcceptedPlan}
 use Rattle.vx_answer.proofs.PlansFacts.{stops_here}
 use Rattle.vx_answer.proofs.StatsFacts.{counted_answers, counted_grow}

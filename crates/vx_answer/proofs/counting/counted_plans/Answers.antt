@@ -4,14 +4,14 @@ use Rattle.vx_arguments.specs.Asked.{many_are}
 use Rattle.vx_tables.specs.Folder.{holds_at}
 use Rattle.vx_answer.specs.Commands.{IsRunOver, RunRefuses}
 use Rattle.vx_answer.specs.Files.{is_input, left_of, input_after}
-use Rattle.vx_answer.specs.Plans.{ArePlansAt, AreAccepted, AreNotAccepted, NamedPlan, IsLoadedFor, AreAnswers, StopsAt, for_reading, for_plans, for_loading}
+use Rattle.vx_answer.specs.Plans.{ArePlansAt, AreAccepted, AreNotAccepted, NamedPlan, IsLoadedFor, StopsAt, for_reading, for_plans, for_loading}
 use Rattle.vx_answer.specs.PlansView.{named_is, plans_are}
 use Rattle.vx_answer.proofs.FileFacts.{same_left}
 use Rattle.vx_stats.specs.Loads.{loads_in, relations_of}
 use Rattle.vx_stats.specs.Phases.{phases_of, times_in}
 use Rattle.vx_stats.specs.Text.{shared_text}
 use Rattle.vx_answer.proofs.StatsFacts.{seen_all, added_twice, three_phases}
-use Rattle.vx_answer.proofs.SharesFacts.{have_shares, answers_in, stops_in}
+use Rattle.vx_answer.proofs.SharesFacts.{have_shares, stops_in}
 use Rattle.vx_answer.proofs.counting.counted_plans.Goals as goal
 
 pub returns-in_err-catalog-clause-refused : goal.returns-in_err-catalog-clause-refused

@@ -1,4 +1,3 @@
-use Rattle.std.proofs.Common.{◌≡◌}
 use Rattle.vx_plan_nodes.specs.TypedView.{resolved_of}
 use Rattle.vx_answer.proofs.StatsFacts.{rest_refused_or}
 use Rattle.vx_answer.proofs.stats.counted_run.Goals as goal

@@ -1,16 +1,23 @@
-use Rattle.std.proofs.Common.{◌∙◌, ap, ap₂}
+use Rattle.std.proofs.Common.{◌≡◌, ◌∙◌, ap, ap₂, Result, Ok, Err}
+use Rattle.std.specs.Result.{IfOk, IsOkAnd}
 use Rattle.std.proofs.lemmas.Result.{IfOk-weaker}
-use Rattle.clap.specs.Words.{App, with_subcommand}
+use Rattle.clap.specs.Words.{App, app_of, with_subcommand}
+use Rattle.clap.specs.declared.builder.command.Command.TheBlock.{the_data as Command}
 use Rattle.vx_arguments.proofs.command_line.command.Goals as goal
+
+-- a program that is as planned has one command more, and that is as planned
+more : {E : Type 0} (added : Result Command E) (command before planned after : App) → IfOk added (λ a. app_of a ≡ command) → before ≡ planned
+    → IsOkAnd added (λ a. after ≡ with_subcommand before (app_of a).top) → after ≡ with_subcommand planned command.top
+more (Ok a) command before planned after is so_far step = step ∙ ap₂ with_subcommand so_far (ap (λ (x : App). x.top) is)
+more (Err e) command before planned after is so_far step = absurd step
 
 pub returns : goal.returns
 returns c =
-    let top = λ (a : App). a.top in
-    let run = c.in_ok-subcommand.ensures.shape c.in_ok-run.ensures.local ∙ ap₂ with_subcommand c.program.ensures (ap top c.in_ok-run.ensures.app) in
-    let serial = c.in_ok-subcommand-2.ensures.shape c.in_ok-serial.ensures.local ∙ ap₂ with_subcommand run (ap top c.in_ok-serial.ensures.app) in
-    let check = c.in_ok-subcommand-3.ensures.shape c.in_ok-check.ensures.local ∙ ap₂ with_subcommand serial (ap top c.in_ok-check.ensures.app) in
-    let explain = c.in_ok-subcommand-4.ensures.shape c.in_ok-explain.ensures.local ∙ ap₂ with_subcommand check (ap top c.in_ok-explain.ensures.app) in
-    let annotate = c.in_ok-subcommand-5.ensures.shape c.in_ok-annotate.ensures.local ∙ ap₂ with_subcommand explain (ap top c.in_ok-annotate.ensures.app) in
-    let sql = c.in_ok-subcommand-6.ensures.shape c.in_ok-sql.ensures.local ∙ ap₂ with_subcommand annotate (ap top c.in_ok-sql.ensures.app) in
-    let why = c.in_ok-subcommand-7.ensures.shape c.in_ok-why.ensures.local ∙ ap₂ with_subcommand sql (ap top c.in_ok-why.ensures.app) in
-    IfOk-weaker c.subcommand-8.result _ _ (λ r h. h.shape c.in_ok-generate.ensures.local ∙ ap₂ with_subcommand why (ap top c.in_ok-generate.ensures.app)) c.subcommand-8.ensures
+    let run = more c.run.result _ _ _ _ c.run.ensures.app c.program.ensures c.in_ok-with_run.ensures in
+    let serial = more c.serial.result _ _ _ _ c.serial.ensures.app run c.in_ok-with_serial.ensures in
+    let check = more c.check.result _ _ _ _ c.check.ensures.app serial c.in_ok-with_check.ensures in
+    let explain = more c.explain.result _ _ _ _ c.explain.ensures.app check c.in_ok-with_explain.ensures in
+    let annotate = more c.annotate.result _ _ _ _ c.annotate.ensures.app explain c.in_ok-with_annotate.ensures in
+    let sql = more c.sql.result _ _ _ _ c.sql.ensures.app annotate c.in_ok-with_sql.ensures in
+    let why = more c.why.result _ _ _ _ c.why.ensures.app sql c.in_ok-with_why.ensures in
+    IfOk-weaker c.with_command-8.result _ _ (λ r h. more c.generate.result _ _ _ _ c.generate.ensures.app why h) c.with_command-8.ensures

@@ -6,7 +6,7 @@ use Rattle.vx_steps.specs.Headline.{Answers}
 use Rattle.vx_steps.specs.Verdicts.{GoesOn, Judged}
 use Rattle.vx_steps.specs.declared.verdict.Verdict.TheVariants as verdict
 use Rattle.vx_steps.proofs.Answered.{answered, some-workers}
-use Rattle.vx_threads.proofs.Settling.{settled, told}
+use Rattle.vx_threads.proofs.Settling.{settled, reported}
 use Rattle.vx_assembly.specs.Parts.{worker_in, held_in}
 use Rattle.vx_assembly.proofs.Each.{none-goes-on}
 use Rattle.vx_assembly.proofs.Came.{paired, inlets-apart, seated, draws-apart, came-back}
@@ -103,7 +103,7 @@ returns-clause-first g c = λ hash m W is_total sized run ok.
     let js = c.args.joined.items in
     let p = plan_of c.args.root.now in
     let ws = c.as_slice.result.now in
-    told g.O.Source.Stands g.O.Source.op g.S.Sends.Stands g.S.Sends.task g.S.Sends.post g.S.Sends.bounds hash m g.met.S.Sends.at_post W p ws ws
+    reported g.O.Source.Stands g.O.Source.op g.S.Sends.Stands g.S.Sends.task g.S.Sends.post g.S.Sends.bounds hash m g.met.S.Sends.at_post W p ws ws
     (map held_in js) refl
     (came-back g.O.Source.Stands g.O.Source.op g.S.Sends.Stands g.S.Sends.task g.S.Sends.post g.S.Sends.bounds hash m W p
     c.args.decks.items c.args.places.now js run (group_at c.args.groups.now) sized parts.outs.items parts.ins.items parts.draws.items

@@ -4,13 +4,13 @@ use Rattle.csv.specs.Reading.{source_of}
 use Rattle.csv.specs.Records.{fields_of}
 use Rattle.vx_catalog.specs.Records.{rest_of}
 use Rattle.vx_catalog.proofs.RecordFacts.{still_known}
-use Rattle.vx_catalog.proofs.RowFacts.{rows_told_more, rows_told_stop, rows_told_done, row_added_few, fails_own}
+use Rattle.vx_catalog.proofs.RowFacts.{rows_reported_more, rows_reported_stop, rows_reported_done, row_added_few, fails_own}
 use Rattle.vx_catalog.proofs.record.read_rows.Goals as goal
 
 pub returns-then-not-branch-clause-rows : goal.returns-then-not-branch-clause-rows
 returns-then-not-branch-clause-rows g c =
     let none = rw c.if-not-branch.true at c.in_ok-next_record.ensures.read in
-    rw c.into_rows.ensures.rows (rows_told_done c.args.types.now c.loop.rows.rows (rest_of g.S.Read.remaining c.args.reader.now) (rest_of g.S.Read.remaining c.loop.reader) c.loop.invariant.so_far none)
+    rw c.into_rows.ensures.rows (rows_reported_done c.args.types.now c.loop.rows.rows (rest_of g.S.Read.remaining c.args.reader.now) (rest_of g.S.Read.remaining c.loop.reader) c.loop.invariant.so_far none)
 
 pub returns-then-not-branch-clause-known : goal.returns-then-not-branch-clause-known
 returns-then-not-branch-clause-known g c =
@@ -23,7 +23,7 @@ returns-in_err-push_record-clause-rows g c =
     let taken = rw c.if-not-branch.false at c.in_ok-next_record.ensures.read in
     let bad = rw c.loop.invariant.types at c.in_err-push_record.ensures.rows in
     let rem = g.S.Read.remaining in
-    rw (p.1, p.2) (rows_told_stop c.args.types.now c.loop.rows.rows (fields_of c.next_record.new.line) (rest_of rem c.args.reader.now) (rest_of rem c.loop.reader) (rest_of rem c.next_record.new.reader) _ c.loop.invariant.so_far taken.1 bad)
+    rw (p.1, p.2) (rows_reported_stop c.args.types.now c.loop.rows.rows (fields_of c.next_record.new.line) (rest_of rem c.args.reader.now) (rest_of rem c.loop.reader) (rest_of rem c.next_record.new.reader) _ c.loop.invariant.so_far taken.1 bad)
 
 pub returns-in_err-push_record-clause-known : goal.returns-in_err-push_record-clause-known
 returns-in_err-push_record-clause-known g c =
@@ -44,7 +44,7 @@ loop-preserved g c =
     let rem = g.S.Read.remaining in
     record {
       plain = taken.0;
-      so_far = rows_told_more c.args.types.now c.loop.rows.rows c.push_record.new.rows.rows (fields_of c.next_record.new.line) (rest_of rem c.args.reader.now) (rest_of rem c.loop.reader) (rest_of rem c.next_record.new.reader) c.loop.invariant.so_far taken.1 added;
+      so_far = rows_reported_more c.args.types.now c.loop.rows.rows c.push_record.new.rows.rows (fields_of c.next_record.new.line) (rest_of rem c.args.reader.now) (rest_of rem c.loop.reader) (rest_of rem c.next_record.new.reader) c.loop.invariant.so_far taken.1 added;
       known = still_known (source_of rem c.args.reader.now) (source_of rem c.loop.reader) (source_of rem c.next_record.new.reader) c.loop.invariant.known c.in_ok-next_record.ensures.known;
       types = c.in_ok-push_record.ensures.types ∙ c.loop.invariant.types;
       front = c.in_ok-push_record.ensures.front;

@@ -3,7 +3,7 @@ use Rattle.csv.specs.Reading.{source_of}
 use Rattle.vx_catalog.specs.Counting.{StaysKnown}
 use Rattle.vx_catalog.specs.Records.{IsPlain, rest_of}
 use Rattle.vx_catalog.specs.Loading.{max_rows}
-use Rattle.vx_catalog.proofs.RowsTold.{RowsSoFar}
+use Rattle.vx_catalog.proofs.RowsReported.{RowsSoFar}
 use Rattle.vx_catalog.proofs.record.read_rows.Given as goal
 
 abbrev pub invariant-loop : goal.invariant-loop

@@ -1,4 +1,4 @@
-use Rattle.std.proofs.Common.{◌≡◌, ◌∙◌, ◌==◌, ◌||◌, ap, sym, eqb, Some}
+use Rattle.std.proofs.Common.{◌∙◌, ◌==◌, ◌||◌, ap, sym, eqb, Some}
 use Rattle.std.specs.Int.{bit_at}
 use Rattle.std.specs.Option.{option_eq}
 use Rattle.vx_check_rules.proofs.BitFacts.{set-bit}

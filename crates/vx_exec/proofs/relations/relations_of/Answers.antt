@@ -1,4 +1,4 @@
-use Rattle.std.proofs.Common.{ℕ, ◌+◌, ◌∷◌, [], ◌≡◌, ◌∙◌, ap, sym, subst, ◌++◌, length, arith}
+use Rattle.std.proofs.Common.{◌+◌, ◌≡◌, ◌∙◌, ap, sym, subst, length, arith}
 use Rattle.std.proofs.lemmas.List.{length_push}
 use Rattle.vx_plan_nodes.specs.Outline.{plan_of}
 use Rattle.vx_exec.specs.ScanRelations.{AreRelations}

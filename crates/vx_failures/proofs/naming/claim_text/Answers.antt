@@ -1,4 +1,4 @@
-use Rattle.std.proofs.Common.{◌≡◌, ◌∙◌, false, map, string_bytes, ap}
+use Rattle.std.proofs.Common.{◌≡◌, ◌∙◌, false, string_bytes, ap}
 use Rattle.std.proofs.lemmas.Result.{IfOk-weaker}
 use Rattle.serde_json.specs.Data.{Data, object}
 use Rattle.serde_json.specs.Written.{has_float, compact_text}

@@ -8,7 +8,7 @@ use Rattle.vx_grouping.specs.Shown.{all_shown}
 use Rattle.vx_grouping.specs.GroupFaults.{TakeBlame}
 use Rattle.vx_grouping.proofs.GroupFacts.{behind-none, behind-next, one-more}
 use Rattle.vx_grouping.proofs.TypeFacts.{all-at}
-use Rattle.vx_keys.proofs.ErrorFacts.{told}
+use Rattle.vx_keys.proofs.ErrorFacts.{reported}
 use Rattle.vx_grouping.proofs.BlameFacts.{next-blame, more-blame}
 use Rattle.vx_grouping.proofs.grouping.add_numbered.Goals as goal
 
@@ -48,7 +48,7 @@ returns-in_err-add_row-clause-err c =
     let old = c.loop-i.groups.items in
     let e = c.in_err-add_row.field-0.0 in
     let near : i < length rows = omega (arith, test, c.len-i-end.ensures) in
-    told c.from_residual.result e
+    reported c.from_residual.result e
     (λ x. (g : Groups) (xs : List Row) → Comes g (all_shown c.args.groups.now.items) (map op_of c.args.aggregates.now) c.args.chunk.now c.args.numbers.now → HasTaken g xs → TakeBlame x (xs ++ rows))
     c.from_residual.ensures.1
     (λ g xs comes taken. more-blame e xs rows (i + 1)

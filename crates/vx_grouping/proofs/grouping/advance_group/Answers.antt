@@ -6,7 +6,7 @@ use Rattle.vx_grouping.specs.Groups.{advance}
 use Rattle.vx_grouping.specs.Shown.{held}
 use Rattle.vx_grouping.specs.GroupFaults.{StepBlame, StepsBlame}
 use Rattle.vx_grouping.proofs.FrontFacts.{front-step, rest-same}
-use Rattle.vx_keys.proofs.ErrorFacts.{told}
+use Rattle.vx_keys.proofs.ErrorFacts.{reported}
 use Rattle.vx_grouping.proofs.BlameFacts.{steps-blame}
 use Rattle.vx_grouping.proofs.grouping.advance_group.Goals as goal
 
@@ -31,5 +31,5 @@ returns-in_err-add-clause-err c =
     let far : n < length old = omega (arith, test, c.len-place-end.ensures) in
     let many : length (map held old) ≡ length old = length-map old held in
     let was : held a ≡ get_or (map held old) n (held a) = ap held (c.index_mut.ensures.value ∙ rest-same c.loop-place.group.items old n a inside far inv.1) ∙ sym (get_or-map held old n a (held a) far) in
-    told c.from_residual.result e (λ x. StepsBlame x (map held old)) c.from_residual.ensures.1
+    reported c.from_residual.result e (λ x. StepsBlame x (map held old)) c.from_residual.ensures.1
     (steps-blame e (map held old) n (held a) (omega (arith, far, many)) (subst (λ h. StepBlame e h.taken) was c.in_err-add.ensures.err))

@@ -8,7 +8,7 @@ use Rattle.vx_plan_nodes.specs.Outline.{aggregate_of as op_of}
 use Rattle.vx_grouping.specs.declared.accumulator.GroupFault.{GroupFault}
 use Rattle.vx_grouping.specs.Groups.{HasTaken}
 use Rattle.vx_grouping.specs.GroupFaults.{GroupBlame, EndBlame}
-use Rattle.vx_keys.proofs.ErrorFacts.{told, if-ok, if-err}
+use Rattle.vx_keys.proofs.ErrorFacts.{reported, if-ok, if-err}
 use Rattle.vx_grouping.proofs.BlameFacts.{added-blame, finish-blame}
 use Rattle.vx_grouping.proofs.grouping.grouped.Goals as goal
 
@@ -17,7 +17,7 @@ returns-in_err-add_rows-clause-err c =
     let xs = c.args.rows.now.rows in
     let e = c.in_err-add_rows.field-0.0 in
     let ops = map op_of c.args.aggregates.now in
-    told c.from_residual-in_err-add_rows.result e (λ x. GroupBlame x c.args.by.now ops xs) c.from_residual-in_err-add_rows.ensures.1
+    reported c.from_residual-in_err-add_rows.result e (λ x. GroupBlame x c.args.by.now ops xs) c.from_residual-in_err-add_rows.ensures.1
     (added-blame e c.args.by.now ops xs (c.in_err-add_rows.ensures.err [] c.in_ok-grouping.ensures.nothing))
 
 pub finish-requires : goal.finish-requires

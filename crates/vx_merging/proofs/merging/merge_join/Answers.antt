@@ -4,7 +4,7 @@ use Rattle.vx_values.proofs.Booleans.{and-both}
 use Rattle.vx_merging.specs.declared.merging.MergeFault.{MergeFault}
 use Rattle.vx_keys.specs.Matched.{matched}
 use Rattle.vx_merging.specs.Merged.{MergeBlame}
-use Rattle.vx_keys.proofs.ErrorFacts.{told}
+use Rattle.vx_keys.proofs.ErrorFacts.{reported}
 use Rattle.vx_merging.proofs.MergeTurns.{joined-all, left-rises, right-rises, need-left}
 use Rattle.vx_merging.proofs.MergeCalls.{whole-range, blame-left, blame-right}
 use Rattle.vx_merging.proofs.merging.merge_join.Goals as goal
@@ -19,7 +19,7 @@ returns-in_err-take_left-clause-err c =
     let by = c.in_ok-merge.ensures.lefts ∙ c.in_ok-lefts.ensures.items in
     let all = c.in_ok-slice.ensures.rows ∙ whole-range ls c.len.result c.len.ensures in
     let blame = c.in_err-take_left.ensures.err c.in_ok-merge.ensures.left_ended [] [] [] c.in_ok-merge.ensures.nothing in
-    told c.from_residual-in_err-take_left.result e (λ (x : MergeFault). MergeBlame x (sorted lefts ls && sorted rights rs)) c.from_residual-in_err-take_left.ensures.1
+    reported c.from_residual-in_err-take_left.result e (λ (x : MergeFault). MergeBlame x (sorted lefts ls && sorted rights rs)) c.from_residual-in_err-take_left.ensures.1
     (blame-left e (sorted lefts ls) (sorted rights rs) (subst (MergeBlame e) (λ i. sorted (by i) (all i)) blame))
 
 pub returns-in_err-take_right-clause-err : goal.returns-in_err-take_right-clause-err
@@ -33,7 +33,7 @@ returns-in_err-take_right-clause-err c =
     let one = c.in_ok-take_left.ensures.joined c.in_ok-merge.ensures.left_ended [] [] [] c.in_ok-merge.ensures.nothing in
     let by = c.in_ok-take_left.ensures.shape.rights ∙ (c.in_ok-merge.ensures.rights ∙ c.in_ok-rights.ensures.items) in
     let all = c.in_ok-slice-2.ensures.rows ∙ whole-range rs c.len-2.result c.len-2.ensures in
-    told c.from_residual-in_err-take_right.result e (λ (x : MergeFault). MergeBlame x (sorted lefts ls && sorted rights rs)) c.from_residual-in_err-take_right.ensures.1
+    reported c.from_residual-in_err-take_right.result e (λ (x : MergeFault). MergeBlame x (sorted lefts ls && sorted rights rs)) c.from_residual-in_err-take_right.ensures.1
     (blame-right e (sorted lefts ls) (sorted rights rs) (subst (MergeBlame e) (λ i. sorted (by i) (all i)) (c.in_err-take_right.ensures.err xs [] [] one)))
 
 pub returns-in_err-joined-clause-err : goal.returns-in_err-joined-clause-err
@@ -51,7 +51,7 @@ returns-in_err-joined-clause-err c =
     let three = c.end_right.ensures.joined xs zs [] two in
     let by = c.end_right.ensures.shape.lefts ∙ (c.in_ok-take_right.ensures.shape.lefts ∙ (c.in_ok-take_left.ensures.shape.lefts ∙ (c.in_ok-merge.ensures.lefts ∙ c.in_ok-lefts.ensures.items))) in
     let all = c.in_ok-slice.ensures.rows ∙ whole-range ls c.len.result c.len.ensures in
-    told c.from_residual-in_err-joined.result e (λ (x : MergeFault). MergeBlame x (sorted lefts ls && sorted rights rs)) c.from_residual-in_err-joined.ensures.1
+    reported c.from_residual-in_err-joined.result e (λ (x : MergeFault). MergeBlame x (sorted lefts ls && sorted rights rs)) c.from_residual-in_err-joined.ensures.1
     (blame-left e (sorted lefts ls) (sorted rights rs) (subst (MergeBlame e) (λ i. sorted (by i) (all i)) (c.in_err-joined.ensures.err xs zs [] three)))
 
 pub returns-in-Left-clause-rows : goal.returns-in-Left-clause-rows

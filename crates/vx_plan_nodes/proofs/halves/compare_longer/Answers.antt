@@ -1,4 +1,4 @@
-use Rattle.std.proofs.Common.{◌∙◌, sym, ap, ◌++◌}
+use Rattle.std.proofs.Common.{◌∙◌, sym, ap}
 use Rattle.std.specs.Ordering.{ordering_reverse}
 use Rattle.vx_plan_nodes.proofs.HalfFacts.{longer-fronts, longer-backs}
 use Rattle.vx_plan_nodes.proofs.halves.compare_longer.Goals as goal

@@ -1,11 +1,9 @@
-use Rattle.std.proofs.Common.{◌≡◌, ◌+◌, ◌<◌, ◌≤◌, arith, ap, ◌∙◌, subst, length, map, slice_index_or}
+use Rattle.std.proofs.Common.{◌≡◌, arith, ap, ◌∙◌, length, map}
 use Rattle.std.proofs.lemmas.List.{length-map}
 use Rattle.vx_values.specs.declared.value.ColType.TheVariants as kind
 use Rattle.vx_values.specs.Types.{type_at}
-use Rattle.vx_rows.specs.Columns.{column_type, size, KeepsFront}
-use Rattle.vx_rows.specs.Parts.{HasParts}
+use Rattle.vx_rows.specs.Columns.{column_type, size}
 use Rattle.vx_rows.proofs.Fill.{map_at}
-use Rattle.vx_rows.proofs.PartFacts.{keep_each, size_at}
 use Rattle.vx_rows.proofs.parts.grow_all.Goals as goal
 
 pub for_each_mut-requires-clause-accepts : goal.for_each_mut-requires-clause-accepts

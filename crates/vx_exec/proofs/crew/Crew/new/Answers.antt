@@ -1,4 +1,4 @@
-use Rattle.std.proofs.Common.{◌≡◌, true, sym, subst, ap, ◌∙◌, map, [], ◌∷◌}
+use Rattle.std.proofs.Common.{◌≡◌, true, subst, ap, ◌∙◌, map, [], ◌∷◌}
 use Rattle.vx_plan_nodes.specs.Outline.{plan_of}
 use Rattle.vx_plan_nodes.specs.Numbering.{is_numbered}
 use Rattle.vx_plan_nodes.specs.TypedView.{plan as whole_plan}

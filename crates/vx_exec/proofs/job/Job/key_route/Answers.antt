@@ -1,9 +1,8 @@
 use Rattle.std.proofs.Common.{◌≡◌, true, List, map, ap, subst, sym, ◌∙◌}
 use Rattle.vx_values.specs.Values.{Val}
 use Rattle.vx_values.specs.ValueView.{val_of}
-use Rattle.vx_values.specs.Ranges.{RangeForm}
 use Rattle.vx_plan_nodes.specs.Outline.{route_of}
-use Rattle.vx_plan_nodes.specs.Typed.{is_routed, rises, bounds_at}
+use Rattle.vx_plan_nodes.specs.Typed.{is_routed, rises}
 use Rattle.vx_plan_nodes.specs.TypedView.{scope, names_in}
 use Rattle.vx_exec.specs.Bounds.{route_bounds}
 use Rattle.vx_exec.proofs.Dealing.{range-there, declared-bounds, declared-rise}

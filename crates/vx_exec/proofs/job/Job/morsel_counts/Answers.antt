@@ -1,4 +1,4 @@
-use Rattle.std.proofs.Common.{◌≡◌, length, ap, arith}
+use Rattle.std.proofs.Common.{length, ap, arith}
 use Rattle.vx_exec.proofs.Counts.{counts-none, counts-push, counts-all}
 use Rattle.vx_exec.proofs.job.Job.morsel_counts.Goals as goal
 

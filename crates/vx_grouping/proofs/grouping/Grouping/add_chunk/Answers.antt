@@ -8,7 +8,7 @@ use Rattle.vx_grouping.specs.Groups.{Groups, HasTaken, Comes}
 use Rattle.vx_grouping.specs.Shown.{all_shown}
 use Rattle.vx_grouping.specs.GroupFaults.{TakeBlame}
 use Rattle.vx_keys.proofs.NumberFacts.{numbers-long}
-use Rattle.vx_keys.proofs.ErrorFacts.{told}
+use Rattle.vx_keys.proofs.ErrorFacts.{reported}
 use Rattle.vx_grouping.proofs.grouping.Grouping.add_chunk.Goals as goal
 
 pub add_numbered-requires : goal.add_numbered-requires
@@ -52,5 +52,5 @@ returns-in_err-add_numbered-clause-err c =
       numbers_are = numbers-are ∙ ap (λ (b : List ℕ). numbers_of own.keys (map (pick b) rows)) c.deref.ensures.value;
     } in
     let e = c.in_err-add_numbered.field-0.0 in
-    told c.from_residual-in_err-add_numbered.result e (λ x. (xs : List Row) → HasTaken c.args.self.now xs → TakeBlame x (xs ++ rows)) c.from_residual-in_err-add_numbered.ensures.1
+    reported c.from_residual-in_err-add_numbered.result e (λ x. (xs : List Row) → HasTaken c.args.self.now xs → TakeBlame x (xs ++ rows)) c.from_residual-in_err-add_numbered.ensures.1
     (λ xs taken. c.in_err-add_numbered.ensures.err view xs comes (subst (λ (g : Groups). HasTaken g xs) (sym c.self.view_is) taken))

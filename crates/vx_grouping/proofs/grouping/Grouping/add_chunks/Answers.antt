@@ -4,7 +4,7 @@ use Rattle.vx_views.specs.Chunks.{all_rows}
 use Rattle.vx_views.proofs.Whole.{next-rows}
 use Rattle.vx_grouping.specs.Groups.{HasTaken}
 use Rattle.vx_grouping.specs.GroupFaults.{TakeBlame}
-use Rattle.vx_keys.proofs.ErrorFacts.{told}
+use Rattle.vx_keys.proofs.ErrorFacts.{reported}
 use Rattle.vx_grouping.proofs.BlameFacts.{chunks-blame}
 use Rattle.vx_grouping.proofs.grouping.Grouping.add_chunks.Goals as goal
 
@@ -32,7 +32,7 @@ returns-in_err-add_chunk-clause-err c =
     let i = c.loop-i.i in
     let t = c.index-chunks-i.result in
     let e = c.in_err-add_chunk.field-0.0 in
-    told c.from_residual.result e (λ x. (xs : List Row) → HasTaken c.args.self.now xs → TakeBlame x (xs ++ all_rows ts)) c.from_residual.ensures.1
+    reported c.from_residual.result e (λ x. (xs : List Row) → HasTaken c.args.self.now xs → TakeBlame x (xs ++ all_rows ts)) c.from_residual.ensures.1
     (λ xs old.
     let more : xs ++ all_rows (take (i + 1) ts) ≡ (xs ++ all_rows (take i ts)) ++ t.rows =
     ap (λ l. xs ++ l) (next-rows ts i t c.loop-i-test.true c.index-chunks-i.is) ∙ sym (append_assoc xs (all_rows (take i ts)) t.rows) in

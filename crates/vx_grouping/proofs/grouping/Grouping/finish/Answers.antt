@@ -14,7 +14,7 @@ use Rattle.vx_grouping.specs.GroupFaults.{CellsBlame, EndBlame}
 use Rattle.vx_grouping.proofs.EndFacts.{key_row, key_rows, all_fit, level, finished-rows, rows-more}
 use Rattle.vx_grouping.proofs.TypeFacts.{shown-typed}
 use Rattle.vx_grouping.proofs.ShownFacts.{shown-long, shown-group, shown-key}
-use Rattle.vx_keys.proofs.ErrorFacts.{told}
+use Rattle.vx_keys.proofs.ErrorFacts.{reported}
 use Rattle.vx_grouping.proofs.BlameFacts.{end-blame}
 use Rattle.vx_grouping.proofs.grouping.Grouping.finish.Goals as goal
 
@@ -38,7 +38,7 @@ returns-in_err-cells-clause-err c =
     let long = shown-long c.self.inside.groups.items g.groups groups-are in
     let group-is : map held c.deref-in-loop-number.result.now ≡ get_or g.groups n [] =
     ap (map held) c.deref-in-loop-number.ensures.value ∙ shown-group c.self.inside.groups.items g.groups n c.index.result.now within c.index.ensures groups-are in
-    told c.from_residual-in_err-cells.result e (λ x. (xs : List Row) → HasTaken g xs → EndBlame x g.by g.aggregates xs) c.from_residual-in_err-cells.ensures.1
+    reported c.from_residual-in_err-cells.result e (λ x. (xs : List Row) → HasTaken g xs → EndBlame x g.by g.aggregates xs) c.from_residual-in_err-cells.ensures.1
     (λ xs taken. end-blame e g xs n taken (omega (arith, within, long)) (subst (CellsBlame e) group-is c.in_err-cells.ensures.err))
 
 pub cells-requires : goal.cells-requires

@@ -3,7 +3,7 @@ use Rattle.vx_values.specs.Values.{Row}
 use Rattle.vx_rows.specs.Order.{sorted}
 use Rattle.vx_merging.specs.declared.merging.MergeFault.{MergeFault}
 use Rattle.vx_merging.specs.Merged.{IsMerged, MergeBlame}
-use Rattle.vx_keys.proofs.ErrorFacts.{told}
+use Rattle.vx_keys.proofs.ErrorFacts.{reported}
 use Rattle.vx_merging.proofs.MergeCalls.{call-advanced-end, call-advanced, call-falls}
 use Rattle.vx_merging.proofs.merging.Merge.advance.Goals as goal
 
@@ -17,7 +17,7 @@ pub returns-in_err-self-inside-clause-err : goal.returns-in_err-self-inside-clau
 returns-in_err-self-inside-clause-err c =
     let now = c.args.self.now in
     let e = c.in_err-self-inside.field-0.0 in
-    told c.from_residual.result e
+    reported c.from_residual.result e
     (λ (x : MergeFault). (earlier passed ys : List Row) → IsMerged now earlier passed ys → MergeBlame x (sorted now.lefts (earlier ++ now.left.rows)))
     c.from_residual.ensures.1
     (λ earlier passed ys h.

@@ -3,7 +3,7 @@ use Rattle.vx_values.specs.Values.{Row}
 use Rattle.vx_rows.specs.Order.{sorted}
 use Rattle.vx_merging.specs.declared.merging.MergeFault.{MergeFault}
 use Rattle.vx_merging.specs.Merged.{IsMerged, MergeBlame, rows_at}
-use Rattle.vx_keys.proofs.ErrorFacts.{told}
+use Rattle.vx_keys.proofs.ErrorFacts.{reported}
 use Rattle.vx_merging.proofs.MergeCalls.{paired, same-blame}
 use Rattle.vx_merging.proofs.merging.Merge.join_next.Goals as goal
 
@@ -14,7 +14,7 @@ pub returns-in_err-advance-clause-err : goal.returns-in_err-advance-clause-err
 returns-in_err-advance-clause-err c =
     let now = c.args.self.now in
     let e = c.in_err-advance.field-0.0 in
-    told c.from_residual-in_err-advance.result e
+    reported c.from_residual-in_err-advance.result e
     (λ (x : MergeFault). (earlier passed ys : List Row) → IsMerged now earlier passed ys → MergeBlame x (sorted now.lefts (earlier ++ now.left.rows)))
     c.from_residual-in_err-advance.ensures.1
     (λ earlier passed ys h. same-blame e now c.close_run.new.self c.if-not-close_run.ensures.inputs earlier (c.in_err-advance.ensures.err earlier passed ys (c.if-not-close_run.ensures.kept earlier passed ys h)))

@@ -4,7 +4,7 @@ use Rattle.vx_rows.specs.Order.{sorted}
 use Rattle.vx_rows.specs.View.{ArePositions}
 use Rattle.vx_merging.specs.declared.merging.MergeFault.{MergeFault}
 use Rattle.vx_merging.specs.Merged.{MergeView, IsMerged, HasJoined, MergeBlame, rows_at}
-use Rattle.vx_keys.proofs.ErrorFacts.{told}
+use Rattle.vx_keys.proofs.ErrorFacts.{reported}
 use Rattle.vx_merging.proofs.MergeCalls.{same-inputs, same-blame, joined-behind}
 use Rattle.vx_merging.proofs.merging.Merge.join_some.Goals as goal
 
@@ -13,7 +13,7 @@ returns-in_err-join_next-clause-err c =
     let now = c.args.self.now in
     let inv = c.loop-pairs.invariant in
     let e = c.in_err-join_next.field-0.0 in
-    told c.from_residual.result e (λ (x : MergeFault). (ls rs ys : List Row) → HasJoined now ls rs ys → MergeBlame x (sorted now.lefts ls)) c.from_residual.ensures.1
+    reported c.from_residual.result e (λ (x : MergeFault). (ls rs ys : List Row) → HasJoined now ls rs ys → MergeBlame x (sorted now.lefts ls)) c.from_residual.ensures.1
     (λ ls rs ys h.
     subst (λ (xs : List Row). MergeBlame e (sorted now.lefts xs)) h.left_is
     (same-blame e now c.loop-pairs.self inv.inputs h.earlier (c.in_err-join_next.ensures.err h.earlier h.passed _ (inv.joined h.earlier h.passed ys h.is))))

@@ -3,7 +3,7 @@ use Rattle.vx_values.specs.Values.{Row}
 use Rattle.vx_rows.specs.Order.{sorted}
 use Rattle.vx_merging.specs.declared.merging.MergeFault.{MergeFault}
 use Rattle.vx_merging.specs.Merged.{HasJoined, MergeBlame}
-use Rattle.vx_keys.proofs.ErrorFacts.{told}
+use Rattle.vx_keys.proofs.ErrorFacts.{reported}
 use Rattle.vx_merging.proofs.MergeCalls.{call-left, call-left-falls, not-empty}
 use Rattle.vx_merging.proofs.merging.Merge.take_left.Goals as goal
 
@@ -12,7 +12,7 @@ returns-in_err-self-inside-clause-err c =
     let now = c.args.self.now in
     let xs = c.args.batch.rows in
     let e = c.in_err-self-inside.field-0.0 in
-    told c.from_residual.result e
+    reported c.from_residual.result e
     (λ (x : MergeFault). now.left_ended ≡ false → (ls rs ys : List Row) → HasJoined now ls rs ys → MergeBlame x (sorted now.lefts (ls ++ xs)))
     c.from_residual.ensures.1
     (λ runs ls rs ys h.

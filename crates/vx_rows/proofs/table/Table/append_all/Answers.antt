@@ -1,8 +1,8 @@
-use Rattle.std.proofs.Common.{◌≡◌, ◌++◌, arith, length, subst, take, drop}
+use Rattle.std.proofs.Common.{arith, subst}
 use Rattle.vx_rows.specs.Columns.{AreLong}
 use Rattle.vx_rows.proofs.Fill.{still_rows}
-use Rattle.vx_rows.proofs.Grown.{seen, still_seen, Grown}
-use Rattle.vx_rows.proofs.PartFacts.{Lent, lent_back, grown_by_parts, grown_rows}
+use Rattle.vx_rows.proofs.Grown.{seen, still_seen}
+use Rattle.vx_rows.proofs.PartFacts.{lent_back, grown_by_parts, grown_rows}
 use Rattle.vx_rows.proofs.table.Table.append_all.Goals as goal
 
 pub invariant_of-self : goal.invariant_of-self

@@ -1,4 +1,4 @@
-use Rattle.std.proofs.Common.{◌<◌, arith, refl, length}
+use Rattle.std.proofs.Common.{arith, refl}
 use Rattle.vx_rows.proofs.Splice.{count_of, kept_texts}
 use Rattle.vx_rows.proofs.texts.Texts.truncate.Goals as goal
 

@@ -22,26 +22,26 @@ large_load relation bytes large = rw (lt-ltb max_bytes (length bytes) large) ref
 module _ {X : Type 0} (look : X → List Row) (relation : Relation) (read : Result X LoadFault) where
   -- an error in a text is that of its loading
   refused : (bytes : List ℕ) (e : LoadFault) → Gives look read (rows_under relation bytes) → Settles (Some bytes) read (Err e) → Fails e (load_of relation bytes)
-  refused bytes e told (inl h) = let k : e ≡ fault.NoMemory = cc in rw k tt
-  refused bytes e told (inr (inl h)) = let g = h.0 in let k : e ≡ fault.TooLarge = cc in rw k (large_load relation bytes h.1)
-  refused bytes e told (inr (inr h)) =
-      let bad : Gives look (Err e) (rows_under relation bytes) = rw (sym h.0) at told in
+  refused bytes e reported (inl h) = let k : e ≡ fault.NoMemory = cc in rw k tt
+  refused bytes e reported (inr (inl h)) = let g = h.0 in let k : e ≡ fault.TooLarge = cc in rw k (large_load relation bytes h.1)
+  refused bytes e reported (inr (inr h)) =
+      let bad : Gives look (Err e) (rows_under relation bytes) = rw (sym h.0) at reported in
       fails_along e (rows_under relation bytes) (load_of relation bytes) (λ f g. small_load relation bytes h.1 ∙ rw g refl) bad
 
   -- what is answered of the rows of a text is what its loading gives
   answered : (bytes : List ℕ) (result : Result X LoadFault) (rows : X) → Gives look read (rows_under relation bytes) → Settles (Some bytes) read (Ok rows) → Gives look result (tested relation (look rows)) → Gives look result (load_of relation bytes)
-  answered bytes result rows told (inl s) h = cc
-  answered bytes result rows told (inr (inl s)) h = let bad = s.0 in cc
-  answered bytes result rows told (inr (inr s)) h =
-      let whole : rows_under relation bytes ≡ Ok (look rows) = rw (sym s.0) at told in
+  answered bytes result rows reported (inl s) h = cc
+  answered bytes result rows reported (inr (inl s)) h = let bad = s.0 in cc
+  answered bytes result rows reported (inr (inr s)) h =
+      let whole : rows_under relation bytes ≡ Ok (look rows) = rw (sym s.0) at reported in
       rw (small_load relation bytes s.1, whole) h
 
-  pub refused_told : (text known : Option (List ℕ)) (e : LoadFault) → known ≡ text → IfSome known (λ bytes. Gives look read (rows_under relation bytes))
+  pub refused_reported : (text known : Option (List ℕ)) (e : LoadFault) → known ≡ text → IfSome known (λ bytes. Gives look read (rows_under relation bytes))
       → Settles text read (Err e) → IfSome text (λ bytes. Fails e (load_of relation bytes))
-  refused_told None known e is told s = tt
-  refused_told (Some bytes) known e is told s = refused bytes e (rw is at told) s
+  refused_reported None known e is reported s = tt
+  refused_reported (Some bytes) known e is reported s = refused bytes e (rw is at reported) s
 
-  pub answered_told : (text known : Option (List ℕ)) (result : Result X LoadFault) (rows : X) → known ≡ text → IfSome known (λ bytes. Gives look read (rows_under relation bytes))
+  pub answered_reported : (text known : Option (List ℕ)) (result : Result X LoadFault) (rows : X) → known ≡ text → IfSome known (λ bytes. Gives look read (rows_under relation bytes))
       → Settles text read (Ok rows) → Gives look result (tested relation (look rows)) → IfSome text (λ bytes. Gives look result (load_of relation bytes))
-  answered_told None known result rows is told s h = tt
-  answered_told (Some bytes) known result rows is told s h = answered bytes result rows (rw is at told) s h
+  answered_reported None known result rows is reported s h = tt
+  answered_reported (Some bytes) known result rows is reported s h = answered bytes result rows (rw is at reported) s h
