@@ -5,3 +5,4 @@ pub mod TypeFacts
 pub mod FrontFacts
 pub mod BlameFacts
 pub mod ShownFacts
+pub mod OperandFacts

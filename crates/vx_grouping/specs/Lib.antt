@@ -1,3 +1,4 @@
 pub mod Groups
 pub mod Shown
 pub mod GroupFaults
+pub mod Found

@@ -1,7 +1,8 @@
 //! One aggregate of a group's rows, to which one row is added at a time.
 
 ghost use Rattle.std.specs.Prelude.{◌≡◌, ◌<◌, [], ◌∷◌, length, OnOk, IfOk, IfErr, IfSome, IfNone, true, false};
-ghost use Rattle.vx_values.specs.Values.{value_at};
+ghost use Rattle.std.specs.Ordering.{is_gt, is_lt};
+ghost use Rattle.vx_values.specs.Values.{val_cmp};
 ghost use Rattle.vx_values.specs.ValueView.{val_of, cell_val};
 ghost use Rattle.vx_rows.specs.View.{row};
 ghost use Rattle.vx_plan_nodes.specs.Outline.{aggregate_of as op_of};
@@ -10,12 +11,11 @@ ghost use Rattle.vx_grouping.specs.Groups.{number_of, held_of, held_fits, advanc
 ghost use Rattle.vx_grouping.specs.Shown.{held};
 ghost use Rattle.vx_grouping.specs.GroupFaults.{StepBlame};
 
+use crate::operands::Operands;
 use crate::sum::WideSum;
 use std::alloc::{AllocError, AllocFailed, Global};
-use vx_algebra::cell_or_zero;
 use vx_plan_nodes::Aggregate;
 use vx_rows::{Cell, Value, compare_cells};
-use vx_views::Chunk;
 
 /// Why a grouping stops.
 #[derive(Clone, Copy, Debug, PartialEq, Eq)]
@@ -51,7 +51,7 @@ impl<T: Drop> From<AllocFailed<T>> for GroupFault {
 }
 
 /// An aggregate of the rows so far, of which there is one or more. It carries its column.
-pub enum Accumulator {
+pub(crate) enum Accumulator {
     /// The least value.
     Least(usize, Value),
     /// The greatest value.
@@ -74,66 +74,72 @@ impl Drop for Accumulator {
     }
 }
 
-// The number of a cell, and of a text 0, as the definitions have it.
-fn number_at(chunk: &Chunk, i: usize, column: usize) -> i64
-    requires { i < length chunk.now.rows }
-    ensures { result ≡ number_of (value_at (row chunk.now i) column) }
+// Whether a value is above a cell.
+fn is_above(value: &Value, cell: Cell<'_>) -> bool
+    ensures { result ≡ is_gt (val_cmp (val_of value.now) (cell_val cell.entry)) }
 {
-    match cell_or_zero(chunk, i, column) {
-        Cell::Int(n) => n,
-        Cell::Text(_) => 0,
+    match (value, cell) {
+        (Value::Int(held), Cell::Int(n)) => *held > n,
+        _ => compare_cells(value.cell(), cell).is_gt(),
     }
 }
 
-// The value of a cell, with a text of its own.
-fn value_at(alloc: Global, chunk: &Chunk, i: usize, column: usize) -> Result<Value, AllocError>
-    requires { i < length chunk.now.rows }
-    ensures { IfOk result (λ v. val_of v ≡ value_at (row chunk.now i) column) }
+// Whether a value is below a cell.
+fn is_below(value: &Value, cell: Cell<'_>) -> bool
+    ensures { result ≡ is_lt (val_cmp (val_of value.now) (cell_val cell.entry)) }
 {
-    cell_or_zero(chunk, i, column).to_value(alloc)
+    match (value, cell) {
+        (Value::Int(held), Cell::Int(n)) => *held < n,
+        _ => compare_cells(value.cell(), cell).is_lt(),
+    }
 }
 
 impl Accumulator {
-    /// Of row i of a chunk alone.
+    /// Of row i alone.
     pub fn of(
         alloc: Global,
         aggregate: Aggregate,
-        chunk: &Chunk,
+        operands: &Operands<'_>,
         i: usize,
     ) -> Result<Accumulator, AllocError>
-        requires { i < length chunk.now.rows }
-        ensures { IfOk result (λ a. held a ≡ held_of (op_of aggregate) (row chunk.now i ∷ [])) }
+        requires { i < length operands.now.rows }
+        ensures { IfOk result (λ a. held a ≡ held_of (op_of aggregate) (row operands.now i ∷ [])) }
     {
         match aggregate {
-            Aggregate::Least(c) => Ok(Accumulator::Least(c, value_at(alloc, chunk, i, c)?)),
-            Aggregate::Greatest(c) => Ok(Accumulator::Greatest(c, value_at(alloc, chunk, i, c)?)),
-            Aggregate::Sum(c) => Ok(Accumulator::Sum(c, WideSum::of(number_at(chunk, i, c)))),
+            Aggregate::Least(c) => Ok(Accumulator::Least(c, operands.value(alloc, i, c)?)),
+            Aggregate::Greatest(c) => Ok(Accumulator::Greatest(c, operands.value(alloc, i, c)?)),
+            Aggregate::Sum(c) => Ok(Accumulator::Sum(c, WideSum::of(operands.number(i, c)))),
             Aggregate::CountRows => Ok(Accumulator::CountRows(1)),
         }
     }
 
-    /// Adds row i of a chunk behind those that were added. After an `Err` the value is arbitrary.
+    /// Adds row i behind those that were added. After an `Err` the value is arbitrary.
     #[tactic(auto, using(crate::proofs::AggregateFacts::smaller_first, crate::proofs::AggregateFacts::smaller_second, crate::proofs::AggregateFacts::larger_first, crate::proofs::AggregateFacts::larger_second))]
-    pub fn add(&mut self, alloc: Global, chunk: &Chunk, i: usize) -> Result<(), GroupFault>
-        requires { i < length chunk.now.rows }
-        ensures ok { OnOk result (held self.new ≡ advance (row chunk.now i) (held self.old)) }
+    pub fn add(
+        &mut self,
+        alloc: Global,
+        operands: &Operands<'_>,
+        i: usize,
+    ) -> Result<(), GroupFault>
+        requires { i < length operands.now.rows }
+        ensures ok { OnOk result (held self.new ≡ advance (row operands.now i) (held self.old)) }
         ensures err { IfErr result (λ e. StepBlame e (held self.old).taken) }
     {
         match self {
             Accumulator::Least(c, value) => {
-                let cell = cell_or_zero(chunk, i, *c);
-                if compare_cells(value.cell(), cell).is_gt() {
+                let cell = operands.cell(i, *c);
+                if is_above(value, cell) {
                     value.set(alloc, cell)?;
                 }
             }
             Accumulator::Greatest(c, value) => {
-                let cell = cell_or_zero(chunk, i, *c);
-                if compare_cells(value.cell(), cell).is_lt() {
+                let cell = operands.cell(i, *c);
+                if is_below(value, cell) {
                     value.set(alloc, cell)?;
                 }
             }
             Accumulator::Sum(c, sum) => {
-                if sum.add(number_at(chunk, i, *c)).is_err() {
+                if sum.add(operands.number(i, *c)).is_err() {
                     return Err(GroupFault::TooMany);
                 }
             }

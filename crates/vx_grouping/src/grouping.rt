@@ -15,6 +15,7 @@ ghost use Rattle.vx_grouping.specs.Shown.{held, all_shown};
 ghost use Rattle.vx_grouping.specs.GroupFaults.{GroupBlame, TakeBlame, EndBlame, StepsBlame, CellsBlame};
 
 use crate::accumulator::{Accumulator, GroupFault};
+use crate::operands::Operands;
 use std::alloc::{AllocError, Global};
 use std::marker::Model;
 use vx_algebra::types_at;
@@ -66,59 +67,59 @@ impl Model for Grouping {
     ghost invariant = { λ g. AreColumns (length g.types.items) g.by.items };
 }
 
-// The aggregates of row i of a chunk alone.
+// The aggregates of row i alone.
 fn start_group(
     alloc: Global,
     aggregates: &[Aggregate],
-    chunk: &Chunk,
+    operands: &Operands<'_>,
     i: usize,
 ) -> Result<Vec<Accumulator>, AllocError>
-    requires { i < length chunk.now.rows }
-    ensures { IfOk result (λ v. map held v.items ≡ all_held (map op_of aggregates.now) (row chunk.now i ∷ [])) }
+    requires { i < length operands.now.rows }
+    ensures { IfOk result (λ v. map held v.items ≡ all_held (map op_of aggregates.now) (row operands.now i ∷ [])) }
 {
     let mut group = Vec::with_capacity(alloc, aggregates.len())?;
     for aggregate in aggregates {
-        group.push(Accumulator::of(alloc, *aggregate, chunk, i)?)?;
+        group.push(Accumulator::of(alloc, *aggregate, operands, i)?)?;
     }
     Ok(group)
 }
 
-// The aggregates with row i of a chunk too. After an `Err` they are arbitrary.
+// The aggregates with row i too. After an `Err` they are arbitrary.
 fn advance_group(
     alloc: Global,
     group: &mut Vec<Accumulator>,
-    chunk: &Chunk,
+    operands: &Operands<'_>,
     i: usize,
 ) -> Result<(), GroupFault>
-    requires { i < length chunk.now.rows }
-    ensures ok { OnOk result (map held group.new.items ≡ map (advance (row chunk.now i)) (map held group.old.items)) }
+    requires { i < length operands.now.rows }
+    ensures ok { OnOk result (map held group.new.items ≡ map (advance (row operands.now i)) (map held group.old.items)) }
     ensures err { IfErr result (λ e. StepsBlame e (map held group.old.items)) }
 {
     for place in 0..group.len() {
-        group[place].add(alloc, chunk, i)?;
+        group[place].add(alloc, operands, i)?;
     }
     Ok(())
 }
 
-// Adds row i of a chunk to the group of this number, or starts the next one with it.
+// Adds row i to the group of this number, or starts the next one with it.
 fn add_row(
     alloc: Global,
     groups: &mut Vec<Vec<Accumulator>>,
     aggregates: &[Aggregate],
-    chunk: &Chunk,
+    operands: &Operands<'_>,
     i: usize,
     number: usize,
 ) -> Result<(), GroupFault>
-    requires { i < length chunk.now.rows }
-    ensures known { OnOk result (number < length groups.old.items → all_shown groups.new.items ≡ set (all_shown groups.old.items) number (map (advance (row chunk.now i)) (slice_index_or (all_shown groups.old.items) number []))) }
-    ensures new { OnOk result (length groups.old.items ≤ number → all_shown groups.new.items ≡ all_shown groups.old.items ++ all_held (map op_of aggregates.now) (row chunk.now i ∷ []) ∷ []) }
+    requires { i < length operands.now.rows }
+    ensures known { OnOk result (number < length groups.old.items → all_shown groups.new.items ≡ set (all_shown groups.old.items) number (map (advance (row operands.now i)) (slice_index_or (all_shown groups.old.items) number []))) }
+    ensures new { OnOk result (length groups.old.items ≤ number → all_shown groups.new.items ≡ all_shown groups.old.items ++ all_held (map op_of aggregates.now) (row operands.now i ∷ []) ∷ []) }
     ensures err { IfErr result (λ e. StepsBlame e (slice_index_or (all_shown groups.old.items) number [])) }
 {
     if number < groups.len() {
-        advance_group(alloc, &mut groups[number], chunk, i)?;
+        advance_group(alloc, &mut groups[number], operands, i)?;
         return Ok(());
     }
-    let group = start_group(alloc, aggregates, chunk, i)?;
+    let group = start_group(alloc, aggregates, operands, i)?;
     groups.push(group)?;
     Ok(())
 }
@@ -137,8 +138,9 @@ fn add_numbered(
 {
     // each row fits the types
     let _types = chunk.types();
+    let operands = Operands::of(alloc, chunk)?;
     for i in 0..chunk.len() {
-        add_row(alloc, groups, aggregates, chunk, i, numbers[i])?;
+        add_row(alloc, groups, aggregates, &operands, i, numbers[i])?;
     }
     Ok(())
 }

@@ -3,8 +3,9 @@
 
 mod accumulator;
 mod grouping;
+mod operands;
 mod sum;
 
-pub use accumulator::{Accumulator, GroupFault};
+pub use accumulator::GroupFault;
 pub use grouping::{Grouping, grouped};
 pub use sum::{SumIsFull, WideSum};

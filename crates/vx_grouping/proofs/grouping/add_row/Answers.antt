@@ -11,7 +11,7 @@ returns-then-number-len-clause-known c = λ below.
     let shown = λ (v : Vec Accumulator Global). map held v.items in
     let vs = c.args.groups.now.items in
     let n = c.args.number in
-    let y = row c.args.chunk.now c.args.i in
+    let y = row c.args.operands.now c.args.i in
     map-set shown vs n c.advance_group.new.group
     ∙ ap (λ (h : List Held). set (all_shown vs) n h)
     (c.in_ok-advance_group.ensures.ok ∙ ap (map (advance y)) (ap shown c.index_mut.ensures.value ∙ sym (get_or-map shown vs n c.index_mut.result.now [] below)))

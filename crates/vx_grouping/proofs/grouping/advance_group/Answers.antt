@@ -15,8 +15,8 @@ loop-place-preserved c =
     let inv = c.loop-place.invariant in
     let test = c.loop-place-test.true in
     let inside : c.loop-place.place < length c.loop-place.group.items = omega (arith, test, c.len-place-end.ensures, inv.2) in
-    let step = front-step held (advance (row c.args.chunk.now c.args.i)) c.loop-place.group.items c.args.group.now.items c.loop-place.place c.add.new.self c.index_mut.result.now inside inv.0 inv.1
-    (c.in_ok-add.ensures.ok ∙ ap (λ (a : Accumulator). advance (row c.args.chunk.now c.args.i) (held a)) c.index_mut.ensures.value) in
+    let step = front-step held (advance (row c.args.operands.now c.args.i)) c.loop-place.group.items c.args.group.now.items c.loop-place.place c.add.new.self c.index_mut.result.now inside inv.0 inv.1
+    (c.in_ok-add.ensures.ok ∙ ap (λ (a : Accumulator). advance (row c.args.operands.now c.args.i) (held a)) c.index_mut.ensures.value) in
     (step.0, step.1, length-set c.loop-place.group.items c.loop-place.place c.add.new.self ∙ inv.2)
 
 pub returns-in_err-add-clause-err : goal.returns-in_err-add-clause-err

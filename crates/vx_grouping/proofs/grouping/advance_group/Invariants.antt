@@ -7,5 +7,5 @@ use Rattle.vx_grouping.proofs.grouping.advance_group.Given as goal
 -- the front is advanced, the rest is as it was
 abbrev pub invariant-loop-place : goal.invariant-loop-place
 invariant-loop-place l =
-    (map held (take l.place l.group.items) ≡ map (advance (row l.chunk l.i)) (map held (take l.place l.initial.group.items)))
+    (map held (take l.place l.group.items) ≡ map (advance (row l.operands l.i)) (map held (take l.place l.initial.group.items)))
     × (drop l.place l.group.items ≡ drop l.place l.initial.group.items) × (length l.group.items ≡ length l.initial.group.items)

@@ -6,4 +6,4 @@ use Rattle.vx_grouping.specs.Shown.{held}
 use Rattle.vx_grouping.proofs.grouping.start_group.Given as goal
 
 abbrev pub invariant-loop-aggregate : goal.invariant-loop-aggregate
-invariant-loop-aggregate l = map held l.group.items ≡ all_held (map op_of (take l.aggregate-index l.aggregates)) (row l.chunk l.i ∷ [])
+invariant-loop-aggregate l = map held l.group.items ≡ all_held (map op_of (take l.aggregate-index l.aggregates)) (row l.operands l.i ∷ [])

@@ -1,0 +1,134 @@
+//! The values that aggregates take from the rows of a chunk, read where they lie.
+
+ghost use Rattle.std.specs.Prelude.{◌≡◌, ◌^◌, ◌<◌, pos, length, slice_index, slice_index_or, IfOk, IfSome, IfNone};
+ghost use Rattle.vx_values.specs.declared.value.ColType.TheVariants as kind;
+ghost use Rattle.vx_values.specs.Values.{value_at};
+ghost use Rattle.vx_values.specs.ValueView.{val_of, cell_val};
+ghost use Rattle.vx_values.specs.Types.{type_at};
+ghost use Rattle.vx_rows.specs.View.{row};
+ghost use Rattle.vx_views.specs.Seen.{seen_positions};
+ghost use Rattle.vx_grouping.specs.Groups.{number_of};
+ghost use Rattle.vx_grouping.specs.Found.{HasColumn};
+
+use std::alloc::{AllocError, Global};
+use std::marker::Model;
+use vx_algebra::cell_or_zero;
+use vx_rows::{Cell, Numbers, Value};
+use vx_views::{Chunk, PositionsRef};
+
+// Position k.
+fn position(at: PositionsRef<'_>, k: usize) -> usize
+    requires there { k < length (seen_positions at) }
+    requires fits { slice_index (seen_positions at) k < 2 ^ 64 }
+    ensures { result ≡ slice_index (seen_positions at.entry) k }
+{
+    match at {
+        PositionsRef::Range(from, _) => from + k,
+        PositionsRef::Listed(positions) => positions[k],
+    }
+}
+
+// A column of numbers: the numbers where they lie, and the position of each row's.
+#[derive(Clone, Copy)]
+struct NumberColumn<'a> {
+    numbers: &'a Numbers,
+    at: PositionsRef<'a>,
+}
+
+impl<'a> NumberColumn<'a> {
+    // A column of a chunk, where it has numbers.
+    fn of(chunk: &'a Chunk, column: usize) -> Option<NumberColumn<'a>>
+        requires { column < length chunk.now.types }
+        ensures values { IfSome result (λ n. HasColumn n column chunk.now.rows) }
+        ensures none { IfNone result (type_at chunk.now.types column ≡ kind.Text) }
+    {
+        match chunk.numbers(column) {
+            None => None,
+            Some((numbers, at)) => Some(NumberColumn { numbers, at }),
+        }
+    }
+
+    // The number of row k.
+    fn get(&self, k: usize) -> i64
+        requires row { k < length (seen_positions self.now.at) }
+        requires near { slice_index (seen_positions self.now.at) k < length self.now.numbers.now }
+        ensures { result ≡ slice_index_or self.now.numbers.now (slice_index (seen_positions self.now.at) k) (pos 0) }
+    {
+        // no position is above this
+        let _count = self.numbers.len();
+        self.numbers.get(position(self.at, k))
+    }
+}
+
+/// A chunk whose columns of numbers were found once, so that to read a number of a row is to read it where it lies.
+pub(crate) struct Operands<'a> {
+    chunk: &'a Chunk,
+    columns: Vec<Option<NumberColumn<'a>>>,
+}
+
+// By hand, so that the drop of the columns is made and proved here once.
+impl Drop for Operands<'_> {
+    fn drop(self) {
+        let Operands {
+            chunk: _,
+            columns: _,
+        } = self;
+    }
+}
+
+impl<'a> Model for Operands<'a> {
+    ghost use Rattle.vx_rows.specs.View.{RowsView};
+    ghost use Rattle.vx_grouping.specs.Found.{AreFound};
+
+    ghost Value = { RowsView };
+
+    ghost view = { λ o. o.chunk.now };
+
+    ghost invariant = { λ o. AreFound o.columns.items o.chunk.now.rows };
+}
+
+impl<'a> Operands<'a> {
+    /// Those of a chunk.
+    pub fn of(alloc: Global, chunk: &'a Chunk) -> Result<Operands<'a>, AllocError>
+        ensures { IfOk result (λ o. o ≡ chunk.now) }
+    {
+        let width = chunk.types().len();
+        let mut columns = Vec::with_capacity(alloc, width)?;
+        for column in 0..width {
+            columns.push(NumberColumn::of(chunk, column))?;
+        }
+        Ok(Operands { chunk, columns })
+    }
+
+    /// The value of row i at a column, and the number 0 where there is no such column, as the definitions have it.
+    pub fn cell(&self, i: usize, column: usize) -> Cell<'_>
+        requires { i < length self.now.rows }
+        ensures { cell_val result ≡ value_at (row self.now i) column }
+    {
+        if column < self.columns.len() {
+            if let Some(found) = &self.columns[column] {
+                return Cell::Int(found.get(i));
+            }
+        }
+        cell_or_zero(self.chunk, i, column)
+    }
+
+    /// That value, with a text of its own.
+    pub fn value(&self, alloc: Global, i: usize, column: usize) -> Result<Value, AllocError>
+        requires { i < length self.now.rows }
+        ensures { IfOk result (λ v. val_of v ≡ value_at (row self.now i) column) }
+    {
+        self.cell(i, column).to_value(alloc)
+    }
+
+    /// The number of that value, and of a text 0, as the definitions have it.
+    pub fn number(&self, i: usize, column: usize) -> i64
+        requires { i < length self.now.rows }
+        ensures { result ≡ number_of (value_at (row self.now i) column) }
+    {
+        match self.cell(i, column) {
+            Cell::Int(n) => n,
+            Cell::Text(_) => 0,
+        }
+    }
+}
