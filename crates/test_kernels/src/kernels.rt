@@ -79,6 +79,8 @@ rows are sorted by texts and then by numbers | sort | text number | 2 b;-1 c;2 a
 no rows are sorted | sort | number |  |  |
 the first of equal rows is kept | distinct | number text | 3 b;1 a;3 b;2 a;1 a; |  | 3 'b';1 'a';2 'a';
 the first of equal texts is kept | distinct | text | 3 b;1 a;3 b;2 a;1 a; |  | 'b';'a';
+the first of equal numbers is kept, small ones and others | distinct | number | 0 a;4095 b;0 c;-1 d;5000000000 e;4095 f;-1 g;0 h;5000000000 i; |  | 0;4095;-1;5000000000;
+equal numbers are joined with each other, small ones and others | hash join | number | 1 a;-1 b;7000000000 c;0 d;2 e; | 0 u;1 v;1 w;-1 x;7000000000 y; | 1 'a' 1 'v';1 'a' 1 'w';-1 'b' -1 'x';7000000000 'c' 7000000000 'y';0 'd' 0 'u';
 equal keys are joined with each other | hash join | text | 1 key;2 ke;3 key; | 9223372036854775807 key;5 keys;-9223372036854775808 key;6 ; | 1 'key' 9223372036854775807 'key';1 'key' -9223372036854775808 'key';3 'key' 9223372036854775807 'key';3 'key' -9223372036854775808 'key';
 a join with no rows on the left is empty | hash join | number |  | 1 a; |
 a join with no rows on the right is empty | hash join | number | 1 a; |  |
