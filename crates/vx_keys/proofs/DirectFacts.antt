@@ -1,14 +1,14 @@
 -- Keys that are numbers from 0 on, found by a table.
-use Rattle.std.proofs.Common.{◌≡◌, ◌≢◌, ℕ, ℤ, pos, suc, zero, ◌+◌, ◌<◌, ◌≤◌, Bool, true, false, List, [], ◌∷◌, ◌++◌, map, length, get_or, set, refl, sym, ap, ◌∙◌, subst, arith, inl, inr, Some, None}
+use Rattle.std.proofs.Common.{◌≡◌, ◌≢◌, ℕ, ℤ, pos, suc, zero, ◌+◌, ◌<◌, Bool, true, false, List, [], ◌∷◌, ◌++◌, map, length, get_or, set, refl, sym, ap, ◌∙◌, subst, arith, inl, inr, Some, None}
 use Rattle.std.specs.Prelude.{position}
-use Rattle.std.specs.List.{IsDistinct, position_or_len}
+use Rattle.std.specs.List.{IsDistinct}
 use Rattle.std.specs.Ordering.{int_eq}
 use Rattle.std.proofs.lemmas.Bool.{cases_eq, cases_lt}
 use Rattle.std.proofs.lemmas.Bool.Decides.{Decides-int_eq}
 use Rattle.std.proofs.lemmas.List.{length-map, get_or-map, get_or_past, get_or_append_left, get_or-set_same, get_or-set_other, length_push}
 use Rattle.std.proofs.Math.Seq.{get_or-append_seam}
 use Rattle.std.proofs.lemmas.Map.Keys.{IsDistinct-from_apart}
-use Rattle.vx_values.specs.Values.{Row, row_eq}
+use Rattle.vx_values.specs.Values.{row_eq}
 use Rattle.vx_rows.proofs.ClashFacts.{position-none, position-is}
 use Rattle.vx_keys.specs.Columns.{number_key}
 use Rattle.vx_keys.specs.Direct.{direct_key, IsTable}

@@ -1,4 +1,4 @@
-use Rattle.std.proofs.Common.{◌≡◌, ◌<◌, ◌+◌, ◌++◌, ◌∷◌, [], arith, rules, sym, ap, ◌∙◌, subst, get_or, set, length, map, pos, w64, List, ℕ}
+use Rattle.std.proofs.Common.{◌≡◌, ◌<◌, ◌+◌, arith, rules, sym, ap, ◌∙◌, subst, get_or, set, length, map, pos, w64, List, ℕ}
 use Rattle.std.specs.Prelude.{position, None}
 use Rattle.std.proofs.lemmas.Int.{to_z-of_z}
 use Rattle.vx_values.specs.Values.{row_eq}

@@ -1,9 +1,7 @@
-use Rattle.std.proofs.Common.{◌≡◌, ◌≤◌, ◌<◌, ◌++◌, ◌∷◌, [], ℕ, List, arith, rules, sym, ap, ◌∙◌, subst, length, w64}
+use Rattle.std.proofs.Common.{◌≡◌, ◌<◌, ◌++◌, ◌∷◌, [], ℕ, List, arith, rules, sym, ap, ◌∙◌, subst, length, w64}
 use Rattle.std.specs.Prelude.{position, IfOk, IfSome}
-use Rattle.std.specs.List.{position_or_len}
 use Rattle.std.proofs.lemmas.Int.{to_z-of_z}
 use Rattle.std.proofs.lemmas.List.Quantifiers.{position-Some}
-use Rattle.indexmap.specs.IndexSet.{insert_key}
 use Rattle.vx_values.specs.Values.{Row, row_eq}
 use Rattle.vx_keys.specs.Columns.{number_key}
 use Rattle.vx_keys.proofs.NumberFacts.{found-number, missing-number, key-known, key-new}

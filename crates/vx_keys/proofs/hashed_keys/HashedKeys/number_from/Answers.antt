@@ -1,6 +1,6 @@
-use Rattle.std.proofs.Common.{◌≡◌, ◌≤◌, ◌<◌, ◌++◌, ◌∷◌, [], arith, rules, sym, ap, ◌∙◌, append_assoc, length, take, drop, get_or, w64}
+use Rattle.std.proofs.Common.{◌≡◌, ◌<◌, ◌++◌, ◌∷◌, [], arith, rules, sym, ap, ◌∙◌, append_assoc, length, take, drop, get_or, w64}
 use Rattle.std.proofs.lemmas.Int.{to_z-of_z}
-use Rattle.std.proofs.lemmas.List.{get_or-drop, length-drop, take_all}
+use Rattle.std.proofs.lemmas.List.{get_or-drop, length-drop}
 use Rattle.std.specs.List.{position_or_len}
 use Rattle.indexmap.specs.IndexSet.{insert_key, insert_all}
 use Rattle.vx_values.specs.Values.{row_eq}

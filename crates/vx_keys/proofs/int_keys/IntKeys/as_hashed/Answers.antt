@@ -1,4 +1,4 @@
-use Rattle.std.proofs.Common.{◌≡◌, ◌<◌, [], arith, rules, sym, ap, ◌∙◌, length, get_or, w64}
+use Rattle.std.proofs.Common.{◌<◌, [], arith, rules, sym, ap, ◌∙◌, length, w64}
 use Rattle.std.proofs.lemmas.Int.{to_z-of_z}
 use Rattle.std.proofs.lemmas.List.{take_all}
 use Rattle.std.proofs.lemmas.Option.{get_or_from_slice_get}
