@@ -11,21 +11,23 @@ use crate::columns::IntColumn;
 use std::alloc::{AllocError, Global};
 use std::marker::Model;
 
-// Keys below this are always looked up in the table: it is small then.
-const SMALL: usize = 4096;
+// A key below this is never too large: the table has half a MiB at most then.
+const SMALL: usize = 65_536;
 
-// How many places the table may have for each key that there is, or is expected.
-const SPREAD: usize = 4;
+// How many places the table may have for each key that is there or expected. It is above the number of workers that often
+// share the keys of one relation, since each of them has keys of the whole range.
+const SPREAD: usize = 8;
 
 // The table holds numbers of 32 bits.
 const MOST: usize = 0xffff_ffff;
 
-/// Keys of one number each that are found by direct addressing, as in joins and groups by a perfect hash: a table says at
-/// place v which number the key v has, so that to find a key costs one read. At v it has one more than that number, and 0
-/// where v is no key.
+/// Keys of one number each that are found by direct addressing, as in joins and groups by a perfect hash: the key itself is
+/// its place in a table, and one read there finds it. At the place of a key the table has one more than the number of the
+/// key, and 0 at all others.
 ///
-/// A key is refused where the table would have to be long beside the keys that are there or expected: it is for small
-/// numbers from 0 on, as those that count something or name the entries of a dictionary.
+/// It is for keys that lie close together from 0 on, as the numbers of rows, of categories or of the entries of a dictionary.
+/// A key that is new is refused if it is negative, or if the table would have to be long beside the keys that are there or
+/// expected. The table grows as keys come, at least to twice its length.
 pub(crate) struct DirectKeys {
     keys: Vec<u32>,
     table: Vec<u32>,
@@ -57,9 +59,9 @@ impl Model for DirectKeys {
     ghost invariant = { λ k. IsTable k.keys.items k.table.items };
 }
 
-// Below which number a new key has to be, where so many are expected and so many are there.
+// Below which number a new key has to be, where `room` keys are expected and `known` are there.
 fn window(room: usize, known: usize) -> usize
-    ensures { result ≡ min (max (4 * max room known) 4096) (2 ^ 32 - 1) }
+    ensures { result ≡ min (max (8 * max room known) 65536) (2 ^ 32 - 1) }
 {
     room.max(known).saturating_mul(SPREAD).max(SMALL).min(MOST)
 }
@@ -77,8 +79,7 @@ fn place_within(key: i64, count: usize) -> Option<usize>
     if place < count { Some(place) } else { None }
 }
 
-// Makes a table reach past a place, and no shorter than twice what it was where it has to grow. It says the same as before,
-// since what it grows by are zeros.
+// Makes a table reach past a place. It grows by zeros, so that it says of each number what it said before.
 fn reach(table: &mut Vec<u32>, place: usize) -> Result<(), AllocError>
     requires { place < 2 ^ 32 }
     ensures same { (v : ℕ) → slice_index table.new.items v ≡ slice_index table.old.items v }
