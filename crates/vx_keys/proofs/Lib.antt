@@ -5,3 +5,4 @@ pub mod ColumnFacts
 pub mod HashedFacts
 pub mod RestFacts
 pub mod ErrorFacts
+pub mod DirectFacts

@@ -4,3 +4,5 @@ pub mod Columns
 pub mod Kinds
 pub mod Hashed
 pub mod Kept
+pub mod Direct
+pub mod Found

@@ -1,48 +1,75 @@
 //! Keys that are one number each.
 
-ghost use Rattle.std.specs.Prelude.{◌≡◌, ◌<◌, ◌++◌, [], length, map, OnOk, IfOk, slice_get, Some};
+ghost use Rattle.std.specs.Prelude.{◌≡◌, ◌<◌, ◌≤◌, ◌++◌, [], length, map, take, drop, OnOk, IfOk, slice_get, Some};
 ghost use Rattle.std.specs.List.{position_or_len, IsDistinct};
 ghost use Rattle.vx_values.specs.Values.{row_eq};
-ghost use Rattle.indexmap.specs.IndexSet.{insert_key, insert_all};
+ghost use Rattle.indexmap.specs.IndexSet.{insert_all};
 ghost use Rattle.vx_keys.specs.Columns.{number_key};
 ghost use Rattle.vx_keys.specs.Numbers.{numbers_of};
 
 use crate::columns::IntColumn;
-use indexmap::IndexSet;
+use crate::direct_keys::DirectKeys;
+use crate::hashed_keys::HashedKeys;
 use std::alloc::{AllocError, Global};
 use std::marker::Model;
 use vx_seeds::KeySeed;
 
-/// Keys of one number each, which are hashed as the numbers that they are.
+// Keys found by a table, or by hashing.
+enum Found {
+    Direct(DirectKeys),
+    Hashed(HashedKeys),
+}
+
+// By hand, so that the drops of its parts are made and proved here once, and not in each function that drops one.
+impl Drop for Found {
+    fn drop(self) {
+        match self {
+            Found::Direct(_) => {}
+            Found::Hashed(_) => {}
+        }
+    }
+}
+
+/// Keys of one number each. While they are small numbers from 0 on, they are found by a table, with no hashing. Once a key
+/// comes that the table refuses, all are put into a hash set, and they stay so from then on.
 pub(crate) struct IntKeys {
-    set: IndexSet<i64, KeySeed>,
+    found: Found,
+    room: usize,
+    seed: KeySeed,
     alloc: Global,
 }
 
 // By hand, so that the drops of its parts are made and proved here once, and not in each function that drops one.
 impl Drop for IntKeys {
     fn drop(self) {
-        let IntKeys { set: _, alloc: _ } = self;
+        let IntKeys {
+            found: _,
+            room: _,
+            seed: _,
+            alloc: _,
+        } = self;
     }
 }
 
 impl Model for IntKeys {
-    ghost use Rattle.std.specs.Prelude.{List, map};
+    ghost use Rattle.std.specs.Prelude.{List};
     ghost use Rattle.vx_values.specs.Values.{Row};
-    ghost use Rattle.vx_keys.specs.Columns.{number_key};
+    ghost use Rattle.vx_keys.specs.Found.{found_keys};
 
     ghost Value = { List Row };
 
-    ghost view = { λ k. map number_key k.set.keys };
+    ghost view = { λ k. found_keys k.found };
 }
 
 impl IntKeys {
-    /// No keys, to be hashed by this seed, with room for so many.
+    /// No keys, to be hashed by this seed where they have to be, of which so many are expected.
     pub fn with_room(alloc: Global, seed: KeySeed, room: usize) -> Result<IntKeys, AllocError>
         ensures { IfOk result (λ k. k ≡ []) }
     {
         Ok(IntKeys {
-            set: IndexSet::with_capacity_and_hasher(alloc, room, seed)?,
+            found: Found::Direct(DirectKeys::new(alloc, room)),
+            room,
+            seed,
             alloc,
         })
     }
@@ -52,7 +79,10 @@ impl IntKeys {
         ensures len { result ≡ length self.now }
         ensures unique { IsDistinct row_eq self.now }
     {
-        self.set.len()
+        match &self.found {
+            Found::Direct(keys) => keys.len(),
+            Found::Hashed(keys) => keys.len(),
+        }
     }
 
     /// The key of a number.
@@ -60,16 +90,57 @@ impl IntKeys {
         requires { number < length self.now }
         ensures { slice_get self.now number ≡ Some (number_key result) }
     {
-        self.set.as_slice()[number]
+        match &self.found {
+            Found::Direct(keys) => keys.get(number),
+            Found::Hashed(keys) => keys.get(number),
+        }
     }
 
-    // The number of a key, which is added if it is new.
-    fn number(&mut self, key: i64) -> Result<usize, AllocError>
-        ensures number { IfOk result (λ n. n ≡ position_or_len (row_eq (number_key key)) self.old) }
-        ensures keys { OnOk result (self.new ≡ insert_key row_eq self.old (number_key key)) }
+    // The same keys, to be found by hashing, with room for those that are expected.
+    fn as_hashed(&self) -> Result<HashedKeys, AllocError>
+        ensures { IfOk result (λ k. k ≡ self.now) }
     {
-        let (number, _) = self.set.insert_full(key)?;
-        Ok(number)
+        let count = self.len();
+        let mut hashed = HashedKeys::with_room(self.alloc, self.seed, self.room.max(count))?;
+        for number in 0..count {
+            hashed.number(self.get(number))?;
+        }
+        Ok(hashed)
+    }
+
+    // Does what `number_all` does with the first of these keys, and returns how many: all of them, or those before the
+    // first that cannot be found in the way of those that are here.
+    fn number_first(
+        &mut self,
+        column: &IntColumn<'_>,
+        numbers: &mut Vec<usize>,
+    ) -> Result<usize, AllocError>
+        ensures within { IfOk result (λ n. n ≤ length column.now) }
+        ensures numbers { IfOk result (λ n. numbers.new.items ≡ numbers.old.items ++ numbers_of self.old (take n column.now)) }
+        ensures keys { IfOk result (λ n. self.new ≡ insert_all row_eq self.old (take n column.now)) }
+    {
+        match &mut self.found {
+            Found::Direct(keys) => return keys.number_all(column, numbers),
+            Found::Hashed(keys) => keys.number_from(column, 0, numbers)?,
+        }
+        Ok(column.len())
+    }
+
+    // Does what `number_all` does with the keys behind so many, and with all keys hashed from then on.
+    fn number_rest(
+        &mut self,
+        column: &IntColumn<'_>,
+        from: usize,
+        numbers: &mut Vec<usize>,
+    ) -> Result<(), AllocError>
+        requires { from ≤ length column.now }
+        ensures numbers { OnOk result (numbers.new.items ≡ numbers.old.items ++ numbers_of self.old (drop from column.now)) }
+        ensures keys { OnOk result (self.new ≡ insert_all row_eq self.old (drop from column.now)) }
+    {
+        let mut hashed = self.as_hashed()?;
+        hashed.number_from(column, from, numbers)?;
+        self.found = Found::Hashed(hashed);
+        Ok(())
     }
 
     /// Adds the numbers of these keys. Keys that are new are added.
@@ -81,32 +152,21 @@ impl IntKeys {
         ensures numbers { OnOk result (numbers.new.items ≡ numbers.old.items ++ numbers_of self.old column.now) }
         ensures keys { OnOk result (self.new ≡ insert_all row_eq self.old column.now) }
     {
-        for i in 0..column.len() {
-            let number = self.number(column.get(i))?;
-            numbers.push(number)?;
+        let taken = self.number_first(column, numbers)?;
+        if taken == column.len() {
+            return Ok(());
         }
+        self.number_rest(column, taken, numbers)?;
         Ok(())
-    }
-
-    // The number of a key, and for a key that is not here the number of the next new one.
-    fn number_or_next(&self, key: i64) -> usize
-        ensures { result ≡ position_or_len (row_eq (number_key key)) self.now }
-    {
-        let Some(number) = self.set.get_index_of(&key) else {
-            return self.set.len();
-        };
-        number
     }
 
     /// The numbers of these keys, and for a key that is not here the number of the next new one.
     pub fn find_all(&self, column: &IntColumn<'_>) -> Result<Vec<usize>, AllocError>
         ensures { IfOk result (λ v. v.items ≡ map (λ k. position_or_len (row_eq k) self.now) column.now) }
     {
-        let mut numbers = Vec::with_capacity(self.alloc, column.len())?;
-        for i in 0..column.len() {
-            let number = self.number_or_next(column.get(i));
-            numbers.push(number)?;
+        match &self.found {
+            Found::Direct(keys) => keys.find_all(column),
+            Found::Hashed(keys) => keys.find_all(column),
         }
-        Ok(numbers)
     }
 }

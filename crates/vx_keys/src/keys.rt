@@ -40,7 +40,8 @@ impl Drop for Kind {
 }
 
 /// Keys, each once, numbered from 0 in order of first occurrence. They are found by hashing: a key of one value as the
-/// number or the text that it is, and any other by its values where they lie.
+/// number or the text that it is, and any other by its values where they lie. Only keys that are numbers close together
+/// from 0 on are found by a table, with no hashing.
 ///
 /// The first rows that are numbered decide which of these it is. Where later ones have keys of another type, all keys are
 /// copied and are hashed value by value from then on.
@@ -73,7 +74,7 @@ impl Model for Keys {
     ghost view = { λ k. kind_keys k.kind };
 }
 
-// No keys, of the kind that the rows of a chunk have in these columns, with room for so many if they are of one value each.
+// No keys, of the kind that the rows of a chunk have in these columns. So many are expected, if they are of one value each.
 fn kind_of(
     alloc: Global,
     seed: KeySeed,
@@ -110,8 +111,9 @@ impl Keys {
         Keys::with_room(alloc, seed, 0)
     }
 
-    /// No keys, to be hashed by this seed. Once the first rows are numbered there is room for `room` keys at once, if these
-    /// are of one value each: for a caller that knows how many may come. It bounds nothing.
+    /// No keys, to be hashed by this seed, for a caller that knows how many may come: `room`. Once the first rows are numbered
+    /// there is room for so many texts at once. For numbers it says how long the table may be that finds them, and once they
+    /// are hashed there is room for so many. It bounds nothing.
     pub fn with_room(alloc: Global, seed: KeySeed, room: usize) -> Keys
         ensures { result ≡ [] }
     {

@@ -5,6 +5,8 @@
 mod column_keys;
 mod columns;
 mod composite_keys;
+mod direct_keys;
+mod hashed_keys;
 mod int_keys;
 mod keys;
 mod row_keys;

@@ -1,4 +1,4 @@
-use Rattle.std.proofs.Common.{◌≡◌, ◌∙◌, [], arith, sym, ap, true, false, map, length, get_or}
+use Rattle.std.proofs.Common.{◌≡◌, ◌∙◌, [], arith, sym, ap, map, length, get_or}
 use Rattle.std.proofs.lemmas.List.{length-map}
 use Rattle.vx_rows.specs.View.{RowsView}
 use Rattle.vx_values.specs.Values.{value_at}

@@ -1,29 +1,23 @@
-use Rattle.std.proofs.Common.{◌≡◌, ◌<◌, ◌++◌, ◌∷◌, [], arith, rules, sym, ap, ◌∙◌, append_assoc, length, take, get_or, w64}
-use Rattle.std.proofs.lemmas.Int.{to_z-of_z}
-use Rattle.std.specs.List.{position_or_len}
-use Rattle.indexmap.specs.IndexSet.{insert_key, insert_all}
+use Rattle.std.proofs.Common.{◌++◌, ◌∙◌, ap, append_assoc, take, drop}
+use Rattle.indexmap.specs.IndexSet.{insert_all}
 use Rattle.vx_values.specs.Values.{row_eq}
-use Rattle.vx_keys.specs.Columns.{number_key}
 use Rattle.vx_keys.specs.Numbers.{numbers_of}
-use Rattle.vx_keys.proofs.NumberFacts.{all-next, numbers-next}
+use Rattle.vx_keys.proofs.RestFacts.{numbers-split, all-split}
 use Rattle.vx_keys.proofs.int_keys.IntKeys.number_all.Goals as goal
 
-pub loop-i-preserved : goal.loop-i-preserved
-loop-i-preserved c =
-    let inv = c.loop-i.invariant in
-    let keys = c.args.column.now in
+pub returns-clause-numbers : goal.returns-clause-numbers
+returns-clause-numbers c =
+    let n = c.in_ok-taken.taken in
+    let xs = c.args.column.now in
     let known = c.args.self.now in
     let first = c.args.numbers.now.items in
-    let i = c.loop-i.i in
-    let x = get_or keys i [] in
-    let near : i < length keys = omega (arith, c.loop-i-test.true, c.len-i-end.ensures) in
-    let key-is = ap number_key (to_z-of_z w64 c.get.result (search rules)) ∙ c.get.ensures in
-    let number-is : c.in_ok-number.number ≡ position_or_len (row_eq x) (insert_all row_eq known (take i keys)) =
-    c.in_ok-number.ensures.number ∙ (λ j. position_or_len (row_eq (key-is j)) (inv.keys j)) in
-    record {
-      numbers = c.in_ok-push.ensures.items
-          ∙ ((λ j. inv.numbers j ++ number-is j ∷ [])
-          ∙ (append_assoc first (numbers_of known (take i keys)) (position_or_len (row_eq x) (insert_all row_eq known (take i keys)) ∷ [])
-          ∙ ap (λ ns. first ++ ns) (sym (numbers-next known keys i near))));
-      keys = c.in_ok-number.ensures.keys ∙ ((λ j. insert_key row_eq (inv.keys j) (key-is j)) ∙ sym (all-next known keys i near));
-    }
+    c.in_ok-number_rest.ensures.numbers
+    ∙ ((λ j. c.in_ok-taken.ensures.numbers j ++ numbers_of (c.in_ok-taken.ensures.keys j) (drop n xs))
+    ∙ (append_assoc first (numbers_of known (take n xs)) (numbers_of (insert_all row_eq known (take n xs)) (drop n xs)) ∙ ap (λ ns. first ++ ns) (numbers-split known xs n)))
+
+pub returns-clause-keys : goal.returns-clause-keys
+returns-clause-keys c =
+    let n = c.in_ok-taken.taken in
+    let xs = c.args.column.now in
+    let known = c.args.self.now in
+    c.in_ok-number_rest.ensures.keys ∙ ((λ j. insert_all row_eq (c.in_ok-taken.ensures.keys j) (drop n xs)) ∙ all-split known xs n)

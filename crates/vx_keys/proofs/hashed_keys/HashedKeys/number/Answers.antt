@@ -6,7 +6,7 @@ use Rattle.indexmap.specs.IndexSet.{insert_key}
 use Rattle.vx_values.specs.Values.{row_eq}
 use Rattle.vx_keys.specs.Columns.{number_key}
 use Rattle.vx_keys.proofs.MadeFacts.{number-of, insert-made, numbers-same}
-use Rattle.vx_keys.proofs.int_keys.IntKeys.number.Goals as goal
+use Rattle.vx_keys.proofs.hashed_keys.HashedKeys.number.Goals as goal
 
 pub returns-clause-number : goal.returns-clause-number
 returns-clause-number c =

@@ -4,7 +4,7 @@ use Rattle.std.specs.List.{position_or_len}
 use Rattle.std.proofs.lemmas.List.{map_more}
 use Rattle.vx_values.specs.Values.{Row, row_eq}
 use Rattle.vx_keys.specs.Columns.{number_key}
-use Rattle.vx_keys.proofs.int_keys.IntKeys.find_all.Goals as goal
+use Rattle.vx_keys.proofs.hashed_keys.HashedKeys.find_all.Goals as goal
 
 pub loop-i-preserved : goal.loop-i-preserved
 loop-i-preserved c =

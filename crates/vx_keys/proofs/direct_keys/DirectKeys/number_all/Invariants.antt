@@ -2,7 +2,7 @@ use Rattle.std.proofs.Common.{◌≡◌, ◌++◌, take}
 use Rattle.vx_values.specs.Values.{row_eq}
 use Rattle.indexmap.specs.IndexSet.{insert_all}
 use Rattle.vx_keys.specs.Numbers.{numbers_of}
-use Rattle.vx_keys.proofs.int_keys.IntKeys.number_all.Given as goal
+use Rattle.vx_keys.proofs.direct_keys.DirectKeys.number_all.Given as goal
 
 abbrev pub invariant-loop-i : goal.invariant-loop-i
 invariant-loop-i l = record {

@@ -5,7 +5,7 @@ use Rattle.std.proofs.lemmas.List.{length-map}
 use Rattle.vx_values.specs.Values.{row_eq}
 use Rattle.vx_keys.specs.Columns.{number_key}
 use Rattle.vx_keys.proofs.MadeFacts.{distinct-made, numbers-same}
-use Rattle.vx_keys.proofs.int_keys.IntKeys.len.Goals as goal
+use Rattle.vx_keys.proofs.hashed_keys.HashedKeys.len.Goals as goal
 
 pub returns-clause-len : goal.returns-clause-len
 returns-clause-len c = c.len.ensures.len ∙ (sym (length-map c.self.inside.set.keys number_key) ∙ ap length c.self.view_is)

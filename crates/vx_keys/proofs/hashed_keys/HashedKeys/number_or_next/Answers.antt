@@ -4,7 +4,7 @@ use Rattle.std.specs.Ordering.{int_eq}
 use Rattle.std.proofs.lemmas.Int.{to_z-of_z}
 use Rattle.vx_keys.proofs.NumberFacts.{found-number, missing-number}
 use Rattle.vx_keys.proofs.MadeFacts.{number-of}
-use Rattle.vx_keys.proofs.int_keys.IntKeys.number_or_next.Goals as goal
+use Rattle.vx_keys.proofs.hashed_keys.HashedKeys.number_or_next.Goals as goal
 
 pub returns-in_default : goal.returns-in_default
 returns-in_default c =

@@ -1,0 +1,211 @@
+//! Keys that are one number each, found with no hashing.
+
+ghost use Rattle.std.specs.Prelude.{◌≡◌, ◌≢◌, ◌+◌, ◌*◌, ◌-◌, ◌^◌, ◌<◌, ◌≤◌, ◌++◌, ◌∷◌, [], ℕ, pos, min, max, length, map, take, OnOk, IfOk, IfSome, IfNone, slice_get, slice_index, vec_len, position, Some, None};
+ghost use Rattle.std.specs.List.{position_or_len, IsDistinct};
+ghost use Rattle.vx_values.specs.Values.{row_eq};
+ghost use Rattle.indexmap.specs.IndexSet.{insert_key, insert_all};
+ghost use Rattle.vx_keys.specs.Columns.{number_key};
+ghost use Rattle.vx_keys.specs.Numbers.{numbers_of};
+
+use crate::columns::IntColumn;
+use std::alloc::{AllocError, Global};
+use std::marker::Model;
+
+// A key below this is never too large: the table has half a MiB at most then.
+const SMALL: usize = 65_536;
+
+// How many places the table may have for each key that is there or expected. It is above the number of workers that often
+// share the keys of one relation, since each of them has keys of the whole range.
+const SPREAD: usize = 8;
+
+// The table holds numbers of 32 bits.
+const MOST: usize = 0xffff_ffff;
+
+/// Keys of one number each that are found by direct addressing, as in joins and groups by a perfect hash: the key itself is
+/// its place in a table, and one read there finds it. At the place of a key the table has one more than the number of the
+/// key, and 0 at all others.
+///
+/// It is for keys that lie close together from 0 on, as the numbers of rows, of categories or of the entries of a dictionary.
+/// A key that is new is refused if it is negative, or if the table would have to be long beside the keys that are there or
+/// expected. The table grows as keys come, at least to twice its length.
+pub(crate) struct DirectKeys {
+    keys: Vec<u32>,
+    table: Vec<u32>,
+    room: usize,
+    alloc: Global,
+}
+
+// By hand, so that the drops of its parts are made and proved here once, and not in each function that drops one.
+impl Drop for DirectKeys {
+    fn drop(self) {
+        let DirectKeys {
+            keys: _,
+            table: _,
+            room: _,
+            alloc: _,
+        } = self;
+    }
+}
+
+impl Model for DirectKeys {
+    ghost use Rattle.std.specs.Prelude.{List, map};
+    ghost use Rattle.vx_values.specs.Values.{Row};
+    ghost use Rattle.vx_keys.specs.Direct.{direct_key, IsTable};
+
+    ghost Value = { List Row };
+
+    ghost view = { λ k. map direct_key k.keys.items };
+
+    ghost invariant = { λ k. IsTable k.keys.items k.table.items };
+}
+
+// Below which number a new key has to be, where `room` keys are expected and `known` are there.
+fn window(room: usize, known: usize) -> usize
+    ensures { result ≡ min (max (8 * max room known) 65536) (2 ^ 32 - 1) }
+{
+    room.max(known).saturating_mul(SPREAD).max(SMALL).min(MOST)
+}
+
+// The place of a key among so many, if it has one there.
+fn place_within(key: i64, count: usize) -> Option<usize>
+    ensures there { IfSome result (λ place. key ≡ pos place) }
+    ensures within { IfSome result (λ place. place < count) }
+    ensures none { IfNone result ((place : ℕ) → place < count → key ≢ pos place) }
+{
+    if key < 0 {
+        return None;
+    }
+    let place = key as usize;
+    if place < count { Some(place) } else { None }
+}
+
+// Makes a table reach past a place. It grows by zeros, so that it says of each number what it said before.
+fn reach(table: &mut Vec<u32>, place: usize) -> Result<(), AllocError>
+    requires { place < 2 ^ 32 }
+    ensures same { (v : ℕ) → slice_index table.new.items v ≡ slice_index table.old.items v }
+    ensures there { OnOk result (place < vec_len table.new) }
+{
+    let count = table.len();
+    if place < count {
+        return Ok(());
+    }
+    table.resize(count.saturating_mul(2).max(place + 1), 0)?;
+    Ok(())
+}
+
+impl DirectKeys {
+    /// No keys, of which so many are expected.
+    pub fn new(alloc: Global, room: usize) -> DirectKeys
+        ensures { result ≡ [] }
+    {
+        DirectKeys {
+            keys: Vec::new(alloc),
+            table: Vec::new(alloc),
+            room,
+            alloc,
+        }
+    }
+
+    /// How many keys there are.
+    pub fn len(&self) -> usize
+        ensures len { result ≡ length self.now }
+        ensures unique { IsDistinct row_eq self.now }
+    {
+        self.keys.len()
+    }
+
+    /// The key of a number.
+    pub fn get(&self, number: usize) -> i64
+        requires { number < length self.now }
+        ensures { slice_get self.now number ≡ Some (number_key result) }
+    {
+        i64::from(self.keys[number])
+    }
+
+    // The number of a key, if it is here.
+    fn find(&self, key: i64) -> Option<usize>
+        ensures { result ≡ position (row_eq (number_key key)) self.now }
+    {
+        let place = place_within(key, self.table.len())?;
+        let mark = self.table[place] as usize;
+        if mark == 0 {
+            return None;
+        }
+        Some(mark - 1)
+    }
+
+    // Adds a key that is not here, and returns its number. If it is refused, nothing changes.
+    fn add(&mut self, key: i64) -> Result<Option<usize>, AllocError>
+        requires { position (row_eq (number_key key)) self.old ≡ None }
+        ensures number { IfOk result (λ o. IfSome o (λ n. n ≡ length self.old)) }
+        ensures keys { IfOk result (λ o. IfSome o (λ _. self.new ≡ self.old ++ number_key key ∷ [])) }
+        ensures refused { IfOk result (λ o. IfNone o (self.new ≡ self.old)) }
+    {
+        let number = self.keys.len();
+        let Some(place) = place_within(key, window(self.room, number)) else {
+            return Ok(None);
+        };
+        if number >= MOST {
+            return Ok(None);
+        }
+        reach(&mut self.table, place)?;
+        self.keys.push(place as u32)?;
+        self.table[place] = number as u32 + 1;
+        Ok(Some(number))
+    }
+
+    // The number of a key, which is added if it is new. A new one that is refused changes nothing.
+    fn number(&mut self, key: i64) -> Result<Option<usize>, AllocError>
+        ensures number { IfOk result (λ o. IfSome o (λ n. n ≡ position_or_len (row_eq (number_key key)) self.old)) }
+        ensures keys { IfOk result (λ o. IfSome o (λ _. self.new ≡ insert_key row_eq self.old (number_key key))) }
+        ensures refused { IfOk result (λ o. IfNone o (self.new ≡ self.old)) }
+    {
+        if let Some(number) = self.find(key) {
+            return Ok(Some(number));
+        }
+        self.add(key)
+    }
+
+    /// Adds the numbers of these keys, up to the first that is refused. Keys that are new are added. It returns how many it
+    /// took: all, or those before the first that is refused.
+    pub fn number_all(
+        &mut self,
+        column: &IntColumn<'_>,
+        numbers: &mut Vec<usize>,
+    ) -> Result<usize, AllocError>
+        ensures within { IfOk result (λ n. n ≤ length column.now) }
+        ensures numbers { IfOk result (λ n. numbers.new.items ≡ numbers.old.items ++ numbers_of self.old (take n column.now)) }
+        ensures keys { IfOk result (λ n. self.new ≡ insert_all row_eq self.old (take n column.now)) }
+    {
+        let count = column.len();
+        for i in 0..count {
+            let Some(number) = self.number(column.get(i))? else {
+                return Ok(i);
+            };
+            numbers.push(number)?;
+        }
+        Ok(count)
+    }
+
+    // The number of a key, and for a key that is not here the number of the next new one.
+    fn number_or_next(&self, key: i64) -> usize
+        ensures { result ≡ position_or_len (row_eq (number_key key)) self.now }
+    {
+        let Some(number) = self.find(key) else {
+            return self.len();
+        };
+        number
+    }
+
+    /// The numbers of these keys, and for a key that is not here the number of the next new one.
+    pub fn find_all(&self, column: &IntColumn<'_>) -> Result<Vec<usize>, AllocError>
+        ensures { IfOk result (λ v. v.items ≡ map (λ k. position_or_len (row_eq k) self.now) column.now) }
+    {
+        let mut numbers = Vec::with_capacity(self.alloc, column.len())?;
+        for i in 0..column.len() {
+            let number = self.number_or_next(column.get(i));
+            numbers.push(number)?;
+        }
+        Ok(numbers)
+    }
+}
