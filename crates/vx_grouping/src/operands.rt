@@ -16,6 +16,9 @@ use vx_algebra::cell_or_zero;
 use vx_rows::{Cell, Numbers, Value};
 use vx_views::{Chunk, PositionsRef};
 
+// To find a column pays for itself from about so many rows on.
+const ROWS_FOR_A_COLUMN: usize = 8;
+
 // Position k.
 fn position(at: PositionsRef<'_>, k: usize) -> usize
     requires there { k < length (seen_positions at) }
@@ -88,19 +91,26 @@ impl<'a> Model for Operands<'a> {
 }
 
 impl<'a> Operands<'a> {
-    /// Those of a chunk.
+    /// Those of a chunk. Where it has few rows for its columns none is found, since that would take longer than it saves.
     pub fn of(alloc: Global, chunk: &'a Chunk) -> Result<Operands<'a>, AllocError>
         ensures { IfOk result (λ o. o ≡ chunk.now) }
     {
         let width = chunk.types().len();
-        let mut columns = Vec::with_capacity(alloc, width)?;
-        for column in 0..width {
+        let found = if chunk.len() / ROWS_FOR_A_COLUMN < width {
+            0
+        } else {
+            width
+        };
+        let mut columns = Vec::with_capacity(alloc, found)?;
+        for column in 0..found {
             columns.push(NumberColumn::of(chunk, column))?;
         }
         Ok(Operands { chunk, columns })
     }
 
     /// The value of row i at a column, and the number 0 where there is no such column, as the definitions have it.
+    // Always in line: a call for each row would hand the value over in memory.
+    #[inline(always)]
     pub fn cell(&self, i: usize, column: usize) -> Cell<'_>
         requires { i < length self.now.rows }
         ensures { cell_val result ≡ value_at (row self.now i) column }

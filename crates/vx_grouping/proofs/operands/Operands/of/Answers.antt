@@ -12,7 +12,7 @@ loop-column-preserved c =
     let items = c.in_ok-push.ensures.items in
     let long = length-append c.loop-column.columns.items (c.of.result ∷ []) in
     let one : length (c.of.result ∷ []) ≡ 1 = omega arith in (
-      subst (λ (os : List (Option NumberColumn)). AreFound os rows) (sym items)
+      subst (λ (os : List (Option NumberColumn)). AreFound os rows) (sym {A = List (Option NumberColumn)} items)
           (found-push (λ k n. HasColumn n k rows) c.loop-column.columns.items c.of.result inv.0
           (λ n e. subst (λ k. HasColumn n k rows) (sym inv.1) (subst (λ o. IfSome o (λ m. HasColumn m c.loop-column.column rows)) e c.of.ensures.values))),
       ap length items ∙ omega (arith, long, one, inv.1),
