@@ -26,7 +26,7 @@ other-key z k ne = numbers-same z (pos k) ∙ by (int_eq z (pos k)) refl
     by false e = e
 
 -- no key is this number
-pub absent-number : (keys : List ℕ) (z : ℤ) → ((k : ℕ) → k < length keys → z ≢ pos (get_or keys k 0)) → position (row_eq (number_key z)) (map direct_key keys) ≡ None
+absent-number : (keys : List ℕ) (z : ℤ) → ((k : ℕ) → k < length keys → z ≢ pos (get_or keys k 0)) → position (row_eq (number_key z)) (map direct_key keys) ≡ None
 absent-number keys z none =
     position-none (row_eq (number_key z)) (map direct_key keys) [] (λ k near.
     let here : k < length keys = subst (λ n. k < n) (length-map keys direct_key) near in
@@ -46,8 +46,8 @@ module _ (keys table : List ℕ) (is : IsTable keys table) where
       ]
 
   -- it is past the table's end
-  pub past-number : (z : ℤ) → ((v : ℕ) → v < length table → z ≢ pos v) → position (row_eq (number_key z)) (map direct_key keys) ≡ None
-  past-number z none = absent-number keys z (λ k near. none (get_or keys k 0) (within k near))
+  pub beyond-number : (z : ℤ) → ((v : ℕ) → v < length table → z ≢ pos v) → position (row_eq (number_key z)) (map direct_key keys) ≡ None
+  beyond-number z none = absent-number keys z (λ k near. none (get_or keys k 0) (within k near))
 
   -- it has 0 there
   pub zero-number : (z : ℤ) (v : ℕ) → z ≡ pos v → get_or table v 0 ≡ 0 → position (row_eq (number_key z)) (map direct_key keys) ≡ None

@@ -4,7 +4,7 @@ use Rattle.std.proofs.lemmas.Int.{to_z-of_z}
 use Rattle.std.proofs.lemmas.List.{get_or_read}
 use Rattle.vx_values.specs.Values.{row_eq}
 use Rattle.vx_keys.specs.Columns.{number_key}
-use Rattle.vx_keys.proofs.DirectFacts.{past-number, zero-number, marked-number}
+use Rattle.vx_keys.proofs.DirectFacts.{beyond-number, zero-number, marked-number}
 use Rattle.vx_keys.proofs.direct_keys.DirectKeys.find.Goals as goal
 
 pub returns-in_err-place : goal.returns-in_err-place
@@ -13,7 +13,7 @@ returns-in_err-place c =
     let t = c.self.inside in
     let same = to_z-of_z w64 key (search rules) in
     c.from_residual.ensures
-    ∙ (sym (past-number t.keys.items t.table.items c.self.invariant key (λ v near e. c.in_err-place.ensures.none v (omega (arith, near, c.len.ensures, t.table.ok.0)) (same ∙ e)))
+    ∙ (sym (beyond-number t.keys.items t.table.items c.self.invariant key (λ v near e. c.in_err-place.ensures.none v (omega (arith, near, c.len.ensures, t.table.ok.0)) (same ∙ e)))
     ∙ ap (position (row_eq (number_key key))) c.self.view_is)
 
 pub returns-then-mark-eq0 : goal.returns-then-mark-eq0
