@@ -1,6 +1,6 @@
 //! Keys that are one number each, found with no hashing.
 
-ghost use Rattle.std.specs.Prelude.{◌≡◌, ◌≢◌, ◌+◌, ◌*◌, ◌-◌, ◌^◌, ◌<◌, ◌≤◌, ◌++◌, ◌∷◌, [], ℕ, pos, min, max, length, map, take, OnOk, IfOk, IfSome, IfNone, slice_get, slice_index, vec_len, position, Some, None};
+ghost use Rattle.std.specs.Prelude.{◌≡◌, ◌≢◌, ◌+◌, ◌*◌, ◌-◌, ◌^◌, ◌<◌, ◌≤◌, ◌++◌, ◌∷◌, [], ℕ, pos, min, max, length, map, take, OnOk, IfOk, IfSome, IfNone, slice_get, slice_index, slice_index_or, vec_len, position, Some, None};
 ghost use Rattle.std.specs.List.{position_or_len, IsDistinct};
 ghost use Rattle.vx_values.specs.Values.{row_eq};
 ghost use Rattle.indexmap.specs.IndexSet.{insert_key, insert_all};
@@ -140,6 +140,8 @@ impl DirectKeys {
         ensures number { IfOk result (λ o. IfSome o (λ n. n ≡ length self.old)) }
         ensures keys { IfOk result (λ o. IfSome o (λ _. self.new ≡ self.old ++ number_key key ∷ [])) }
         ensures refused { IfOk result (λ o. IfNone o (self.new ≡ self.old)) }
+        // a small key is refused only where there are as many keys as have numbers
+        ensures small { IfOk result (λ o. IfNone o ((v : ℕ) → v < 65536 → key ≡ pos v → 2 ^ 32 - 1 ≤ length self.old)) }
     {
         let number = self.keys.len();
         let Some(place) = place_within(key, window(self.room, number)) else {
@@ -159,6 +161,8 @@ impl DirectKeys {
         ensures number { IfOk result (λ o. IfSome o (λ n. n ≡ position_or_len (row_eq (number_key key)) self.old)) }
         ensures keys { IfOk result (λ o. IfSome o (λ _. self.new ≡ insert_key row_eq self.old (number_key key))) }
         ensures refused { IfOk result (λ o. IfNone o (self.new ≡ self.old)) }
+        // a small key is refused only where there are as many keys as have numbers
+        ensures small { IfOk result (λ o. IfNone o ((v : ℕ) → v < 65536 → key ≡ pos v → 2 ^ 32 - 1 ≤ length self.old)) }
     {
         if let Some(number) = self.find(key) {
             return Ok(Some(number));
@@ -176,6 +180,8 @@ impl DirectKeys {
         ensures within { IfOk result (λ n. n ≤ length column.now) }
         ensures numbers { IfOk result (λ n. numbers.new.items ≡ numbers.old.items ++ numbers_of self.old (take n column.now)) }
         ensures keys { IfOk result (λ n. self.new ≡ insert_all row_eq self.old (take n column.now)) }
+        // a small key is refused only where there are as many keys as have numbers
+        ensures small { IfOk result (λ n. n < length column.now → (v : ℕ) → v < 65536 → slice_index_or column.now n [] ≡ number_key (pos v) → 2 ^ 32 - 1 ≤ length self.new) }
     {
         let count = column.len();
         for i in 0..count {

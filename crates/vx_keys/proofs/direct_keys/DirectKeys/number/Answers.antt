@@ -1,5 +1,5 @@
-use Rattle.std.proofs.Common.{◌≡◌, ◌<◌, ◌++◌, ◌∷◌, [], ℕ, List, arith, rules, sym, ap, ◌∙◌, subst, length, w64}
-use Rattle.std.specs.Prelude.{position, IfOk, IfSome}
+use Rattle.std.proofs.Common.{◌≡◌, ◌<◌, ◌++◌, ◌∷◌, [], ℕ, List, arith, rules, sym, ap, ◌∙◌, subst, length, w64, ℤ, pos, ◌≤◌, ◌-◌, ◌^◌}
+use Rattle.std.specs.Prelude.{position, IfOk, IfSome, IfNone}
 use Rattle.std.proofs.lemmas.Int.{to_z-of_z}
 use Rattle.std.proofs.lemmas.List.Quantifiers.{position-Some}
 use Rattle.vx_values.specs.Values.{Row, row_eq}
@@ -38,3 +38,7 @@ returns-clause-keys c =
     let none = missing-number (row_eq key) keys (same ∙ sym c.in_default.ensures) in
     let is = ap (λ z. keys ++ number_key z ∷ []) (to_z-of_z w64 c.args.key (search rules)) ∙ sym (key-new keys key (omega (arith, none))) in
     subst (λ (ks : List Row). IfOk c.add.result (λ o. IfSome o (λ _. c.add.new.self ≡ ks))) is c.add.ensures.keys
+
+pub returns-clause-small : goal.returns-clause-small
+returns-clause-small c =
+    subst (λ (z : ℤ). IfOk c.add.result (λ o. IfNone o ((v : ℕ) → v < 65536 → z ≡ pos v → 2 ^ 32 - 1 ≤ length c.args.self.now))) (to_z-of_z w64 c.args.key (search rules)) c.add.ensures.small
