@@ -1,4 +1,5 @@
 pub mod KeyFacts
+pub mod EmptyKeys
 pub mod NumberFacts
 pub mod MadeFacts
 pub mod ColumnFacts

@@ -72,12 +72,6 @@ number-most p ks = prefix_len-le-length (λ x. not (p x)) ks
 pub pick-all : (r : Row) (n : ℕ) → length r ≡ n → pick (each_below n (λ c. c)) r ≡ r
 pick-all r n e = map-each_below (λ c. value_at r c) n (λ c. c) ∙ (ap (λ m. each_below m (λ c. value_at r c)) (sym e) ∙ each_below-is r _)
 
--- a key of no columns has no values
-pub no-key : (rows : List Row) (i : ℕ) → get_or (map (pick []) rows) i [] ≡ []
-no-key [] i = refl
-no-key (r ∷ rows) zero = refl
-no-key (r ∷ rows) (suc i) = no-key rows i
-
 -- the key of a row of keys is the row
 pub whole-key : (types : List ColType) (rows : List Row) (i n : ℕ) (cols : List ℕ) (key : Row) → AllByRecursion (Fits types) rows → i < length rows → n ≡ length types → cols ≡ each_below n (λ c. c)
     → key ≡ pick cols (get_or rows i []) → key ≡ get_or rows i []

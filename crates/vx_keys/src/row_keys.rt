@@ -102,16 +102,18 @@ impl RowKeys {
         Ok(())
     }
 
-    // Adds the numbers of as many keys without values as a chunk has rows. That key is added, if it is new.
+    // Adds the numbers of as many keys without values as a chunk has rows. That key is added, if it is new. It is looked for
+    // once, and not for each row.
     fn number_empty(&mut self, chunk: &Chunk, numbers: &mut Vec<usize>) -> Result<(), AllocError>
         ensures numbers { OnOk result (numbers.new.items ≡ numbers.old.items ++ numbers_of self.old (map (pick []) chunk.now.rows)) }
         ensures keys { OnOk result (self.new ≡ insert_all row_eq self.old (map (pick []) chunk.now.rows)) }
     {
-        let key = Row::new(self.alloc);
-        for _i in 0..chunk.len() {
-            let number = self.number(&key)?;
-            numbers.push(number)?;
+        if chunk.len() == 0 {
+            return Ok(());
         }
+        let key = Row::new(self.alloc);
+        let number = self.number(&key)?;
+        push_for_each(numbers, number, chunk)?;
         Ok(())
     }
 
@@ -171,6 +173,16 @@ impl RowKeys {
         let numbers = self.find_rows(&keys)?;
         Ok(numbers)
     }
+}
+
+// Adds a number once for each row of a chunk.
+fn push_for_each(numbers: &mut Vec<usize>, number: usize, chunk: &Chunk) -> Result<(), AllocError>
+    ensures { OnOk result (numbers.new.items ≡ numbers.old.items ++ map (λ _. number) chunk.now.rows) }
+{
+    for _i in 0..chunk.len() {
+        numbers.push(number)?;
+    }
+    Ok(())
 }
 
 // A row of these values.
