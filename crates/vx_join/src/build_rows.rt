@@ -14,11 +14,11 @@ use vx_views::{Chunk, Rows};
 // So many rows in a run, and it is worth a chunk of its own.
 const RUN: usize = 16;
 
-/// Rows in several chunks, with the number of the chunk of each row; and how many rows were joined to them so far, in how
-/// many runs that lie in one chunk each.
+/// Rows in several chunks, with the place behind the last row of each chunk; and how many rows were joined to them so far, in
+/// how many runs that lie in one chunk each.
 pub(crate) struct Parts {
     rows: Rows,
-    homes: Vec<usize>,
+    ends: Vec<usize>,
     joined: usize,
     runs: usize,
 }
@@ -28,7 +28,7 @@ impl Drop for Parts {
     fn drop(self) {
         let Parts {
             rows: _,
-            homes: _,
+            ends: _,
             joined: _,
             runs: _,
         } = self;
@@ -48,10 +48,10 @@ impl Parts {
     fn of(alloc: Global, rows: &Rows) -> Result<Parts, AllocError>
         ensures { IfOk result (λ p. p ≡ rows.now) }
     {
-        let homes = homes_of(alloc, rows.chunks())?;
+        let ends = ends_of(alloc, rows.chunks())?;
         Ok(Parts {
             rows: rows.slice(alloc, 0, rows.len())?,
-            homes,
+            ends,
             joined: 0,
             runs: 0,
         })
@@ -61,10 +61,10 @@ impl Parts {
     fn are_near(&mut self, places: &[usize]) -> bool
         ensures { self.new ≡ self.old }
     {
-        let runs = runs_in(self.homes.as_slice(), places);
+        let runs = runs_in(self.ends.as_slice(), places);
         self.runs = self.runs.saturating_add(runs);
         self.joined = self.joined.saturating_add(places.len());
-        self.runs <= self.joined.saturating_add(self.homes.len()) / RUN
+        self.runs <= self.joined.saturating_add(self.rows.len()) / RUN
     }
 }
 
@@ -156,29 +156,43 @@ impl BuildRows {
     }
 }
 
-// For each row of chunks the number of its chunk.
-fn homes_of(alloc: Global, chunks: &[Chunk]) -> Result<Vec<usize>, AllocError> {
-    let mut homes = Vec::new(alloc);
-    for home in 0..chunks.len() {
-        for _row in 0..chunks[home].len() {
-            homes.push(home)?;
-        }
+// The place behind the last row of each chunk.
+fn ends_of(alloc: Global, chunks: &[Chunk]) -> Result<Vec<usize>, AllocError> {
+    let mut ends = Vec::with_capacity(alloc, chunks.len())?;
+    let mut end = 0usize;
+    for chunk in chunks {
+        end = end.saturating_add(chunk.len());
+        ends.push(end)?;
     }
-    Ok(homes)
+    Ok(ends)
+}
+
+// From which place and up to which one the chunk reaches in which a place lies.
+fn chunk_around(ends: &[usize], place: usize) -> (usize, usize) {
+    let number = ends.partition_point(|end| *end <= place);
+    let from = match number.checked_sub(1) {
+        Some(before) => end_at(ends, before),
+        None => 0,
+    };
+    (from, end_at(ends, number))
+}
+
+// Where the chunk with this number ends. Behind the last one no place is in a chunk.
+fn end_at(ends: &[usize], number: usize) -> usize {
+    match ends.get(number) {
+        Some(end) => *end,
+        None => usize::MAX,
+    }
 }
 
 // How many runs there are of places one behind the other that lie in the same chunk.
-fn runs_in(homes: &[usize], places: &[usize]) -> usize {
+fn runs_in(ends: &[usize], places: &[usize]) -> usize {
     let mut runs = 0usize;
-    let mut last = usize::MAX;
+    let mut chunk = (0, 0);
     for place in places {
-        let home = match homes.get(*place) {
-            Some(home) => *home,
-            None => usize::MAX,
-        };
-        if home != last {
+        if *place < chunk.0 || *place >= chunk.1 {
             runs = runs.saturating_add(1);
-            last = home;
+            chunk = chunk_around(ends, *place);
         }
     }
     runs
