@@ -17,6 +17,9 @@ use vx_views::Rows;
 // Rows are given until there are so many.
 const MOST: usize = 4096;
 
+// So many rows in a run, and it is worth a chunk of its own.
+const RUN: usize = 16;
+
 // Calls: `new (put | end | give)*`, and none after an `Err` or after a `put` that returns false.
 //
 // A merge of sorted streams that still grow. It keeps what is at hand of each, and the producers that have rows in the order
@@ -54,6 +57,17 @@ impl Model for Merge {
     ghost view = { λ m. record { columns = m.columns.items; types = m.types.items; heads = m.heads.items; order = m.order.items; missing = m.missing } };
 
     ghost invariant = { λ m. MergeFits (record { columns = m.columns.items; types = m.types.items; heads = m.heads.items; order = m.order.items; missing = m.missing }) };
+}
+
+// The same rows. Where they lie in runs of a few rows each, as those of streams that take turns do, they are copied into one
+// table: a chunk for each row would take more memory than the row, and whoever looks for a row goes over the chunks.
+fn with_few_chunks(alloc: Global, rows: Rows) -> Result<Rows, AllocError>
+    ensures { IfOk result (λ r. r ≡ rows) }
+{
+    if rows.chunks().len() <= rows.len() / RUN + 1 {
+        return Ok(rows);
+    }
+    Rows::of_table(alloc, rows.gathered(alloc)?)
 }
 
 impl Merge {
@@ -122,6 +136,18 @@ impl Merge {
 
     // Gives the least rows at hand, until a producer lacks one or enough were given. None are given once all are.
     pub(crate) fn give(&mut self) -> Result<Rows, AllocError>
+        requires { self.old.missing ≡ None }
+        ensures shape { HasSameShape self.old self.new }
+        ensures types { IfOk result (λ r. r.types ≡ self.old.types) }
+        ensures merged { IfOk result (λ r. (closed : ℕ → Bool) (came : Streams) (given : List Cells) → HasMerged self.old closed came given → HasMerged self.new closed came (given ++ r.rows)) }
+        ensures all { IfOk result (λ r. r.rows ≡ [] → AllGiven self.new) }
+    {
+        let least = self.give_runs()?;
+        with_few_chunks(self.alloc, least)
+    }
+
+    // The same rows as runs of the producers' rows, each a chunk or more.
+    fn give_runs(&mut self) -> Result<Rows, AllocError>
         requires { self.old.missing ≡ None }
         ensures shape { HasSameShape self.old self.new }
         ensures types { IfOk result (λ r. r.types ≡ self.old.types) }

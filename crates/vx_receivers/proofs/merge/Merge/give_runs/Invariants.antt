@@ -2,7 +2,7 @@ use Rattle.std.proofs.Common.{◌≡◌, ◌-◌, ◌++◌, ℕ, Bool, List, [],
 use Rattle.vx_values.specs.Values.{Row}
 use Rattle.vx_plan_nodes.specs.Streams.{Streams}
 use Rattle.vx_receivers.specs.Merge.{HasMerged, HasSameShape}
-use Rattle.vx_receivers.proofs.merge.Merge.give.Given as goal
+use Rattle.vx_receivers.proofs.merge.Merge.give_runs.Given as goal
 
 abbrev pub invariant-runs : goal.invariant-runs
 invariant-runs l = record {

@@ -2,8 +2,8 @@ use Rattle.std.proofs.Common.{rules, arith, refl, sym, subst, ap, ◌∙◌, ◌
 use Rattle.std.proofs.lemmas.List.{nil_from_length}
 use Rattle.vx_receivers.specs.Merge.{MergeView, MergeFits, HasMerged}
 use Rattle.vx_receivers.proofs.MergeCalls.{all-given}
-use Rattle.vx_receivers.proofs.merge.Merge.give.Goals.{then-runs-test+then-is_none+else-not-is_empty, then-runs-test+else-is_none, else-runs-test}
-use Rattle.vx_receivers.proofs.merge.Merge.give.Goals as goal
+use Rattle.vx_receivers.proofs.merge.Merge.give_runs.Goals.{then-runs-test+then-is_none+else-not-is_empty, then-runs-test+else-is_none, else-runs-test}
+use Rattle.vx_receivers.proofs.merge.Merge.give_runs.Goals as goal
 
 pub runs-init : goal.runs-init
 runs-init c = record {
