@@ -170,7 +170,7 @@ fn wrong_arguments_are_reported(rt: HostRuntime) -> Result<(), Fail> {
 // Arguments that ask for help or the version, and how the answer begins.
 const HELP: [(&[&str], &str); 3] = [
     (&["--help"], "Runs query plans in parallel"),
-    (&["check", "--help"], "Says whether every note"),
+    (&["check", "--help"], "Says whether every claim"),
     (
         &["--version"],
         "volcano 0.1.0 (built here; tools/install notes the commit here)\n",

@@ -92,7 +92,7 @@ pub data TaskRefuses (files : List ℕ → Stored) (reliable : List ℕ → Bool
 abbrev pub AnswersForm : (List ℕ → Stored) → Option (List ℕ) → PlanForm → Paths → List ℕ → Type 0
 AnswersForm files input f paths text = (p : TypedPlanView) × IsFilesPlan files input paths p × IsInForm f p text
 
--- the first reason why there is none: the plan, or a note that is not shown; out of memory may come anywhere
+-- the first reason why there is none: the plan, or a claim that is not shown; out of memory may come anywhere
 pub data FormIsRefused (files : List ℕ → Stored) (reliable : List ℕ → Bool) (input : Option (List ℕ)) (failed : Bool) (paths : Paths) (e : Refusal) : Type 0 where
   for_form_planning : IsFilesRefusal files reliable input failed paths e → FormIsRefused files reliable input failed paths e
   for_form : (p : TypedPlanView) → IsFilesPlan files input paths p → FormRefuses p e → FormIsRefused files reliable input failed paths e

@@ -99,7 +99,7 @@ IsShown p = refusal_in p ≡ None
 abbrev pub IsNotShown : TypedPlanView → Refusal → Type 0
 IsNotShown p e = (rule : rust_rule.Rule) × (node : ℕ) × (e ≡ refusal.Check rule node) × (refusal_in p ≡ Some (node, rule_of rule))
 
--- the text is what a command asks for of a plan over tables; a serial evaluation asks nothing of the notes, the other commands ask the checker first
+-- the text is what a command asks for of a plan over tables; a serial evaluation asks nothing of the claims, the other commands ask the checker first
 abbrev pub IsResultOf : Command → TypedPlanView → Holding → Setting → List ℕ → Type 0
 IsResultOf command.Run p holds setting text = IsShown p × IsRun p holds setting text
 IsResultOf command.Serial p holds setting text = IsSerial p holds text
@@ -113,7 +113,7 @@ is_checked command.Serial = false
 is_checked command.Check = true
 is_checked command.Explain = true
 
--- the first reason why a command gives nothing for a plan: a note that is not shown, then the run or the evaluation; out of memory may come anywhere
+-- the first reason why a command gives nothing for a plan: a claim that is not shown, then the run or the evaluation; out of memory may come anywhere
 pub data CommandRefuses (c : Command) (p : TypedPlanView) (holds : Holding) (lacks : Lacking) (setting : Setting) (e : Refusal) : Type 0 where
   command_memory : e ≡ refusal.NoMemory → CommandRefuses c p holds lacks setting e
   for_rule : is_checked c ≡ true → IsNotShown p e → CommandRefuses c p holds lacks setting e

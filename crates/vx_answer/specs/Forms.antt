@@ -23,7 +23,7 @@ text_in_form form.Dot p = outline_dot p.names p.total p.root
 abbrev pub IsInForm : PlanForm → TypedPlanView → List ℕ → Type 0
 IsInForm f p text = IsShown p × (text ≡ text_in_form f p)
 
--- why a plan has no text in a form: memory ran out, or a note is not shown
+-- why a plan has no text in a form: memory ran out, or a claim is not shown
 pub data FormRefuses (p : TypedPlanView) (e : Refusal) : Type 0 where
   form_memory : e ≡ refusal.NoMemory → FormRefuses p e
   for_note : IsNotShown p e → FormRefuses p e

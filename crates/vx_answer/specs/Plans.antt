@@ -50,7 +50,7 @@ abbrev pub input_after_all : Option (List ℕ) → List (List ℕ) → Option (L
 input_after_all input [] = input
 input_after_all input (path ∷ paths) = input_after_all (input_after input path) paths
 
--- why the plan under a path is not run: its bytes, the plan, or a note that is not shown
+-- why the plan under a path is not run: its bytes, the plan, or a claim that is not shown
 pub data IsNotAccepted (files : List ℕ → Stored) (reliable : List ℕ → Bool) (input : Option (List ℕ)) (failed : Bool) (relations : List Relation) (path : List ℕ) (e : Refusal) : Type 0 where
   for_bytes : IsReadRefusal files reliable input failed path e → IsNotAccepted files reliable input failed relations path e
   for_plan_under : IsPlanRefusal (exactly (Ok relations)) (plan_under files input path) e → IsNotAccepted files reliable input failed relations path e

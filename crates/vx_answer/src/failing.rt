@@ -14,7 +14,7 @@ use vx_plan::TypedPlan;
 pub enum Verdict {
     /// Each note follows. With the text that says so.
     Accepted(Vec<u8>),
-    /// A line for each node of which a note does not follow.
+    /// A line for each node of which a claim does not follow.
     Failing(String),
 }
 

@@ -109,7 +109,7 @@ fn all_option<'a>(alloc: Global) -> Arg<'a>
 {
     Arg::new(alloc, "all")
         .long("all")
-        .help("A line for each node of which a note does not follow, and what follows there")
+        .help("A line for each node of which a claim does not follow, and what follows there")
         .action(ArgAction::SetTrue)
 }
 
@@ -210,7 +210,7 @@ fn plan_option<'a>(alloc: Global) -> Arg<'a>
         alloc,
         "plan",
         "FILE",
-        "The plan, as JSON: a tree of operators with the notes of the optimizer",
+        "The plan, as JSON: a tree of operators with the claims of the optimizer",
     )
 }
 
@@ -275,7 +275,7 @@ fn serial<'a>(alloc: Global) -> Result<Command<'a>, AllocError>
     judging(
         alloc,
         "serial",
-        "Evaluates the plan without its exchanges and prints the rows as CSV; the notes of the plan are not checked",
+        "Evaluates the plan without its exchanges and prints the rows as CSV; the claims of the plan are not checked",
         "Example: volcano serial --catalog catalog.json --plan plan.json --data tables",
     )?
     .arg(data_option(alloc))?
@@ -329,7 +329,7 @@ fn check<'a>(alloc: Global) -> Result<Command<'a>, AllocError>
     judging(
         alloc,
         "check",
-        "Says whether every note of the plan follows: `accepted`, `accepted total`, or the first note that does not",
+        "Says whether every claim of the plan follows: `accepted`, `accepted total`, or the first claim that does not",
         "Example: volcano check --catalog catalog.json --plan plan.json",
     )?
     .arg(all_option(alloc))?
@@ -358,7 +358,7 @@ fn annotate<'a>(alloc: Global) -> Result<Command<'a>, AllocError>
     judging(
         alloc,
         "annotate",
-        "Prints the plan, as JSON, with the notes that follow at each node in place of its own",
+        "Prints the plan, as JSON, with the claims that follow at each node in place of its own",
         "Example: volcano annotate --catalog catalog.json --plan plan.json",
     )?
     .arg(verbose_option(alloc))
@@ -371,7 +371,7 @@ fn sql<'a>(alloc: Global) -> Result<Command<'a>, AllocError>
     judging(
         alloc,
         "sql",
-        "Prints the plan without its exchanges as one statement of SQL; the notes of the plan are not checked",
+        "Prints the plan without its exchanges as one statement of SQL; the claims of the plan are not checked",
         "Example: volcano sql --catalog catalog.json --plan plan.json --dialect postgres",
     )?
     .arg(dialect_option(alloc))?
@@ -407,7 +407,7 @@ fn program<'a>(alloc: Global) -> Command<'a>
     Command::new(alloc, "volcano")
         .version("0.1.0 (built here; tools/install notes the commit here)")
         .about(
-            "Runs query plans in parallel, after a check that every note on them follows. Without a command it reads one request, as JSON, from standard input",
+            "Runs query plans in parallel, after a check that every claim on them follows. Without a command it reads one request, as JSON, from standard input",
         )
         .after_help(
             "A file - is standard input. Exit status: 0 with the whole answer; 2 for a usage error; 3 if a file, the catalog, the plan or its data is refused; 4 if the machine or the run failed",

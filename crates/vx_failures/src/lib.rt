@@ -1,4 +1,4 @@
-//! All nodes of a plan at which a note does not follow, where the checker says the first one, and what follows there.
+//! All nodes of a plan at which a claim does not follow, where the checker says the first one, and what follows there.
 #![tactic(auto)]
 
 mod failing;

@@ -42,9 +42,10 @@ Example: tables that were loaded before a key was added to the catalog.
 
 const X7: &str = r#"X7 Overflow node=2
 What happened: a sum or a count of the data is outside 64 signed bits.
-Usual cause, and cure: it is a property of the data: the plan without its exchanges overflows too. With
-`serial` it is the first such node, each after its inputs, and numbered as in the plan without its exchanges;
-a group node over more than 2^62 rows is reported so too.
+Usual cause, and cure: it is a property of the data: the plan without its exchanges overflows too, or a partial
+group added up rows of one key that do not fit by themselves: put numbers of both signs into one worker, or group
+in one phase. With `serial` it is the first such node, each after its inputs, and numbered as in the plan without
+its exchanges; a group node over more than 2^62 rows is reported so too.
 Example: a sum over two rows that both have 9223372036854775807.
 "#;
 
