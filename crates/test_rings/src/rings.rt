@@ -73,6 +73,20 @@ fn ring_of_two_places(rt: HostRuntime) -> Result<(), Fail> {
 }
 
 #[test]
+fn ring_is_half_free_once_half_was_taken(rt: HostRuntime) -> Result<(), Fail> {
+    let alloc = rt.alloc();
+    let (mut out, mut input) = ring_pair(alloc, 4)?;
+    for from in 1..5 {
+        assert_eq!(rt; put(&mut out, row(alloc, from)?), Outcome::Done);
+    }
+    assert_eq!(rt; take(&mut input), Some(1));
+    assert_eq!(rt; input.is_half_free(), false);
+    assert_eq!(rt; take(&mut input), Some(2));
+    assert_eq!(rt; input.is_half_free(), true);
+    Ok(())
+}
+
+#[test]
 fn closing_packet_goes_as_a_packet(rt: HostRuntime) -> Result<(), Fail> {
     let alloc = rt.alloc();
     let (mut out, mut input) = ring_pair(alloc, 1)?;

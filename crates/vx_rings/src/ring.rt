@@ -62,6 +62,19 @@ impl RingOut {
     }
 }
 
+impl RingIn {
+    ghost use Rattle.std.specs.Prelude.{◌≤◌, ◌*◌, ◌↔◌, IsTrue, length};
+    ghost use Rattle.vx_rings.specs.Ends.{seen_by, places_of};
+
+    /// Whether at most half of the ring's places are taken, by the packets that this end has seen wait. There may be more by
+    /// now.
+    pub fn is_half_free(&self) -> bool
+        ensures { IsTrue result ↔ (2 * length (seen_by self.now) ≤ places_of self.now) }
+    {
+        self.consumer.cached_slots() <= self.consumer.capacity() / 2
+    }
+}
+
 impl OutPort for RingOut {
     ghost use Rattle.std.specs.Prelude.{◌≡◌, ◌<◌, false};
     ghost use Rattle.vx_ports.specs.Packets.{is_closed};

@@ -2,7 +2,7 @@
 
 use crate::drawer::Drawer;
 use crate::inlet::Inlet;
-use crate::waking::wake;
+use crate::waking::Unwoken;
 use std::alloc::AllocError;
 use std::thread::Parker;
 use vx_decks::SharedDeck;
@@ -15,6 +15,8 @@ pub struct Ends {
     outs: Vec<RingOut>,
     // The number of the first consumer among all workers.
     consumers: usize,
+    // Those that have packets and sleep, for all that this thread knows.
+    unwoken: Unwoken,
     ins: Vec<Inlet>,
     // Where the inlets of the exchange begin that was last taken from: those of one exchange stand together, in order.
     first: usize,
@@ -44,6 +46,7 @@ impl Ends {
         Ends {
             outs,
             consumers,
+            unwoken: Unwoken::new(),
             ins,
             first: 0,
             draws,
@@ -105,8 +108,8 @@ impl Ends {
         None
     }
 
-    /// Takes the next packet of a producer, from the queue or the ring. It takes no memory. A producer from whose ring
-    /// it was taken is woken.
+    /// Takes the next packet of a producer, from the queue or the ring. It takes no memory. A producer half of whose ring is
+    /// free now is woken.
     pub fn take(&mut self, exchange: u32, from: u32, parkers: &[Parker]) -> Option<Packet>
         ensures does { Does self.old (took_one exchange from result) self.new }
         ensures draws { self.new.draws ≡ self.old.draws }
@@ -120,14 +123,7 @@ impl Ends {
         }
     }
 
-    // Wakes the consumer at a place, if a packet was put there.
-    fn wake_consumer(&self, place: usize, answer: &Put, parkers: &[Parker]) {
-        if matches!(answer, Put::Done) {
-            wake(parkers, self.consumers.saturating_add(place));
-        }
-    }
-
-    /// Puts a packet to a consumer, which is woken. Full comes where there is no such consumer, and after the port was
+    /// Puts a packet to a consumer, which is woken now or later. Full comes where there is no such consumer, and after the port was
     /// closed, too.
     pub fn put(&mut self, to: u32, packet: Packet, parkers: &[Parker]) -> Put
         ensures gives { PutGives Does IsFullAt self.old self.new to packet result }
@@ -138,9 +134,19 @@ impl Ends {
         if place >= self.outs.len() || self.outs[place].is_closed() {
             return Put::Full(packet);
         }
+        let closes = packet.is_closing();
         let answer = self.outs[place].put(packet);
-        self.wake_consumer(place, &answer, parkers);
+        self.unwoken
+            .note(place, &answer, closes, parkers, self.consumers);
         answer
+    }
+
+    /// Wakes the consumers that have packets which they were not woken for, as before this worker waits.
+    pub fn wake_consumers(&mut self, parkers: &[Parker])
+        ensures does { Does self.old idle self.new }
+        ensures draws { self.new.draws ≡ self.old.draws }
+    {
+        self.unwoken.wake_all(parkers, self.consumers);
     }
 
     /// Draws the next morsel of a scan.
@@ -188,7 +194,7 @@ impl Ends {
     }
 
     /// Moves what waits in the rings to the worker's own queues, in their order, and returns whether anything did. Where
-    /// memory for a queue is refused, the rings behind it stay as they are. The producers are woken.
+    /// memory for a queue is refused, the rings behind it stay as they are. The producers are woken whose rings were full.
     pub fn gather(&mut self, parkers: &[Parker]) -> Result<bool, AllocError>
         ensures does { Does self.old idle self.new }
         ensures draws { self.new.draws ≡ self.old.draws }

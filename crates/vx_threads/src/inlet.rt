@@ -52,7 +52,15 @@ impl Inlet {
         self.exchange == exchange && self.from == from
     }
 
-    // Takes the next packet of the ring, and wakes its producer, which has room for one more.
+    // Wakes the producer once half of the ring is free. One that found no place free put more packets than that before it slept,
+    // and sleeps only until half of them were taken.
+    fn wake_producer(&self, parkers: &[Parker]) {
+        if self.ring.is_half_free() {
+            wake(parkers, self.producer);
+        }
+    }
+
+    // Takes the next packet of the ring. Its producer is woken, if half of the ring is free now.
     fn pop(&mut self, parkers: &[Parker]) -> Option<Packet>
         ensures some { IfSome result (λ p. TakesFromRing self.old.ring p self.new.ring) }
         ensures none { IfNone result (FindsNone self.old.ring self.new.ring) }
@@ -60,7 +68,7 @@ impl Inlet {
         ensures way { (self.new.exchange ≡ self.old.exchange) × (self.new.from ≡ self.old.from) }
     {
         let packet = self.ring.take()?;
-        wake(parkers, self.producer);
+        self.wake_producer(parkers);
         Some(packet)
     }
 
@@ -84,7 +92,7 @@ impl Inlet {
     }
 
     /// Moves what waits in the ring to the queue, and returns whether anything did. Where memory for the queue is
-    /// refused, what is left stays in the ring. The producer is woken for each packet.
+    /// refused, what is left stays in the ring. The producer is woken, if half of the ring is free now.
     pub fn gather(&mut self, parkers: &[Parker]) -> Result<bool, AllocError>
         ensures keeps { KeepsIn self.old self.new }
         ensures gathered { IfOk result (λ _. IsGathered self.new) }
@@ -97,8 +105,7 @@ impl Inlet {
         Ok(true)
     }
 
-    /// The next packet: of the queue, and where that is empty of the ring, whose producer is woken then. It takes no
-    /// memory.
+    /// The next packet: of the queue, and where that is empty of the ring. It takes no memory.
     pub fn take(&mut self, parkers: &[Parker]) -> Option<Packet>
         ensures some { IfSome result (λ p. TakesIn self.old p self.new) }
         ensures none { IfNone result (FindsNoneIn self.old self.new) }

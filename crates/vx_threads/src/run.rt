@@ -57,8 +57,8 @@ fn moved_or_waiting(moved: bool) -> Stepped
 // Rests a worker after a step that did not move, as `waited` steps in a row before it did not, and returns how many these
 // are from now on. It leaves the processor to other threads at first. Then it takes one more step for each producer,
 // since a step may look at one of them only. If none of these moved, the worker can go on only after a partner has put a
-// packet or made room, and sleeps until then: whoever did that since the first of these steps has left a token, with
-// which the worker does not sleep.
+// packet or made room, and sleeps until then: a partner that did so since the first of these steps has left a token, with
+// which the worker does not sleep, or will wake it after some more packets, at the latest before it waits or ends.
 fn rest<T: Wait>(
     rt: &T,
     stepped: Stepped,

@@ -55,12 +55,14 @@ impl<'d> ThreadWires<'d> {
         }
     }
 
-    /// Takes early what waits in the rings, until memory is refused: the next call of the worker reports that. Returns
-    /// whether a packet was taken, or memory refused just now: the worker's next step may move then.
+    /// Does what is to be done before the worker waits: it wakes the consumers that have packets, and takes early what waits in the rings,
+    /// until memory is refused: the next call of the worker reports that. Returns whether a packet was taken, or memory refused just now: the
+    /// worker's next step may move then.
     pub fn gather(&mut self) -> bool
         ensures does { Does self.old.ends idle self.new.ends }
         ensures gathered { self.new.room ≡ Room.There → All IsGathered self.new.ends.ins.items }
     {
+        self.ends.wake_consumers(self.parkers);
         match self.room {
             Room::There => match self.ends.gather(self.parkers) {
                 Ok(moved) => return moved,

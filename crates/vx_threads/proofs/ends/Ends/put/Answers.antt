@@ -25,5 +25,5 @@ returns-clause-gives c =
     let o = c.index_mut.result.now in
     let outs = c.args.self.now.outs in
     let at : slice_get outs.items c.args.to ≡ Some o = slice_get_read outs.items outs.len c.args.to o (search rules) (search rules) c.index_mut.ensures.value in
-    put-gives c.args.self.now (record c.args.self.now { outs = with_item outs c.args.to c.put-answer.new.self })
+    put-gives c.args.self.now (record c.args.self.now { outs = with_item outs c.args.to c.put-answer.new.self; unwoken = c.note.new.self })
     c.args.to c.args.packet o c.put-answer.new.self c.put-answer.result at refl c.put-answer.ensures.outcome c.put-answer.ensures.never_no_memory c.put-answer.ensures.has_room
