@@ -3,12 +3,12 @@
 ghost use Rattle.std.specs.Prelude.{◌≡◌, map, option_map, string_bytes, IfOk};
 ghost use Rattle.vx_values.specs.ValueView.{val_of};
 ghost use Rattle.vx_values.specs.Ranges.{range_form};
-ghost use Rattle.vx_plan_json.specs.Document.{part_form, claim_form, side_form, condition_form, output_form, function_form, aggregate_form, scan_form, unary_form, pair_form, binary_form, kind_form};
+ghost use Rattle.vx_plan_json.specs.Document.{side_form, condition_form, output_form, function_form, aggregate_form, scan_form, unary_form, pair_form, binary_form, kind_form};
 
 use std::alloc::{AllocError, Global};
 use vx_plan_json::{
-    NamedAggregate, NamedBinary, NamedClaim, NamedCondition, NamedFunction, NamedKind, NamedOutput,
-    NamedPart, NamedRange, NamedScan, NamedSide, NamedUnary,
+    NamedAggregate, NamedBinary, NamedCondition, NamedFunction, NamedKind, NamedOutput, NamedRange,
+    NamedScan, NamedSide, NamedUnary,
 };
 use vx_values::Value;
 
@@ -25,16 +25,6 @@ pub fn copied_names(alloc: Global, names: &[String]) -> Result<Vec<String>, Allo
     let mut copies = Vec::new(alloc);
     for name in names {
         copies.push(copied_name(alloc, name)?)?;
-    }
-    Ok(copies)
-}
-
-fn copied_lists(alloc: Global, lists: &[Vec<String>]) -> Result<Vec<Vec<String>>, AllocError>
-    ensures { IfOk result (λ v. map (λ k. map string_bytes k.items) v.items ≡ map (λ k. map string_bytes k.items) lists.now) }
-{
-    let mut copies = Vec::new(alloc);
-    for list in lists {
-        copies.push(copied_names(alloc, list.as_slice())?)?;
     }
     Ok(copies)
 }
@@ -67,35 +57,6 @@ pub fn copied_ranges(alloc: Global, ranges: &[NamedRange]) -> Result<Vec<NamedRa
         copies.push(copied_range(alloc, range)?)?;
     }
     Ok(copies)
-}
-
-fn copied_part(alloc: Global, part: &NamedPart) -> Result<NamedPart, AllocError>
-    ensures { IfOk result (λ p. part_form p ≡ part_form part.now) }
-{
-    match part {
-        NamedPart::One => Ok(NamedPart::One),
-        NamedPart::Any => Ok(NamedPart::Any),
-        NamedPart::All => Ok(NamedPart::All),
-        NamedPart::Hash { route, columns } => Ok(NamedPart::Hash {
-            route: copied_name(alloc, route)?,
-            columns: copied_names(alloc, columns.as_slice())?,
-        }),
-        NamedPart::Range { range, column } => Ok(NamedPart::Range {
-            range: copied_name(alloc, range)?,
-            column: copied_name(alloc, column)?,
-        }),
-    }
-}
-
-/// A copy of a claim.
-pub fn copied_claim(alloc: Global, claim: &NamedClaim) -> Result<NamedClaim, AllocError>
-    ensures { IfOk result (λ c. claim_form c ≡ claim_form claim.now) }
-{
-    Ok(NamedClaim {
-        part: copied_part(alloc, &claim.part)?,
-        order: copied_names(alloc, claim.order.as_slice())?,
-        keys: copied_lists(alloc, claim.keys.as_slice())?,
-    })
 }
 
 /// A copy of a scan.

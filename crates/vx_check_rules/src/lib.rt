@@ -1,4 +1,4 @@
-//! The rule table: the notes of a plan are shown, or the first that is not is refused.
+//! The rule table: the claims of a plan follow, or the first that does not is refused.
 #![tactic(auto)]
 
 mod checked;

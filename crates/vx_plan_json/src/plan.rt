@@ -2,7 +2,7 @@
 
 use vx_values::{Test, Value};
 
-/// How rows lie on workers, as a note claims it.
+/// How rows lie on workers, as a claim says it.
 #[derive(Debug, Drop)]
 pub enum NamedPart {
     /// All rows at one worker.

@@ -26,7 +26,7 @@ pub enum Route {
     Range(usize),
 }
 
-/// How rows lie on workers, as a note claims it.
+/// How rows lie on workers, as a claim says it.
 #[derive(Debug, Drop)]
 pub enum Part {
     /// All rows at one worker.

@@ -84,14 +84,6 @@ impl Relation {
         self.names.len()
     }
 
-    /// The name of a column, counted from 0.
-    pub fn column_name(&self, column: usize) -> &str
-        requires { column < length self.now.names }
-        ensures { result.now ≡ slice_index_or self.now.names column [] }
-    {
-        self.names[column].as_str()
-    }
-
     /// The names of the columns.
     pub fn names(&self) -> &[String]
         ensures { map string_bytes result.now ≡ self.now.names }
