@@ -64,8 +64,8 @@ fn grow(rows: &mut Table, two: &Table) -> Result<(), AllocError>
 {
     rows.append_range(two, 0, 2)?;
     rows.append_rows_at(two, &[0, 1])?;
-    rows.append_row(two, 1)?;
-    rows.append_projected(two, 0, &[0, 1])?;
+    rows.append_range(two, 1, 2)?;
+    rows.append_rows_at(two, &[0])?;
     rows.reserve(4)?;
     rows.push_cells(&[Cell::Int(9), Cell::Text("b")])
 }

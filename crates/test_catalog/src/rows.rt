@@ -9,7 +9,7 @@ use std::collections::HashMap;
 use std::process::Abort;
 use std::test::Fail;
 use test_tables::{shown, table};
-use vx_rows::{Cell, ColType, Row, Table};
+use vx_rows::{Cell, Row, Table};
 
 // Four rows, two of them with one text of more than one byte a character.
 const FOUR: [(i64, &str); 4] = [(i64::MIN, ""), (i64::MAX, "aä€😀"), (0, "b"), (7, "aä€😀")];
@@ -53,7 +53,7 @@ fn grow(rows: &mut Table, others: &Table) -> Result<(), AllocError>
     rows.reserve(8)?;
     rows.truncate(1);
     rows.append_range(others, 2, 4)?;
-    rows.append_row(others, 0)?;
+    rows.append_range(others, 0, 1)?;
     rows.append_rows_at(others, &[3, 3, 1])
 }
 
@@ -76,31 +76,6 @@ fn rows_grow(rt: HostRuntime) -> Result<(), Fail> {
     grow(&mut more, &rows)?;
     compare(&rt, alloc, &more, GROWN)?;
     take_all(&rt, alloc, &mut more)
-}
-
-#[test]
-fn columns_are_projected(rt: HostRuntime) -> Result<(), Fail> {
-    let alloc = rt.alloc();
-    let rows = sample(alloc)?;
-    assert_eq!(rt; rows.len(), 4);
-    let mut texts = Table::new(alloc, &[ColType::Text, ColType::Int, ColType::Text])?;
-    texts.append_projected(&rows, 1, &[1, 0, 1])?;
-    compare(&rt, alloc, &texts, "'aä€😀' 9223372036854775807 'aä€😀';")
-}
-
-const JOINED: &str =
-    "-9223372036854775808 '' 0 'b';0 'b' 7 'aä€😀';7 'aä€😀' -9223372036854775808 '';";
-
-#[test]
-fn rows_are_joined(rt: HostRuntime) -> Result<(), Fail> {
-    let alloc = rt.alloc();
-    let rows = sample(alloc)?;
-    assert_eq!(rt; rows.len(), 4);
-    let both = [ColType::Int, ColType::Text, ColType::Int, ColType::Text];
-    let mut joined = Table::new(alloc, &both)?;
-    joined.append_joined(&rows, 0, &rows, 2)?;
-    joined.append_joined_at(&rows, &[2, 3], &rows, &[3, 0])?;
-    compare(&rt, alloc, &joined, JOINED)
 }
 
 // Sorts rows by columns, and compares the positions.

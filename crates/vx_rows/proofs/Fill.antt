@@ -1,12 +1,12 @@
 -- Columns that are written one after another.
 use Rattle.std.proofs.Common.{◌≡◌, ℕ, true, zero, suc, ◌+◌, ◌-◌, ◌<◌, ◌≤◌, List, [], ◌∷◌, ◌++◌, refl, sym, ap, ◌∙◌, subst, length, get_or, take, map, arith, inl, inr, append_assoc}
-use Rattle.std.specs.Prelude.{zip, Result, Ok, Err, OnErr}
+use Rattle.std.specs.Prelude.{Result, Ok, Err, OnErr}
 use Rattle.std.specs.List.{list_all, AllByRecursion}
 use Rattle.std.specs.Prelude.{All}
 use Rattle.std.proofs.lemmas.List.{same_lists, get_or_default}
 use Rattle.std.proofs.lemmas.List.Folds.{list_all-append, list_all_more}
 use Rattle.std.proofs.lemmas.Bool.{cases_lt}
-use Rattle.vx_values.proofs.Booleans.{and-left, and-right, and-both}
+use Rattle.vx_values.proofs.Booleans.{and-both}
 use Rattle.std.proofs.lemmas.List.{map-set, length-set, length-map, get_or-set_same, get_or-set_other, take_more, take_more_set, take_all}
 use Rattle.std.proofs.Math.ListN.{set}
 use Rattle.std.proofs.Common.{◌≢◌}
@@ -14,7 +14,7 @@ use Rattle.std.proofs.lemmas.Bool.{cases_eq}
 use Rattle.vx_values.specs.declared.value.ColType.{ColType}
 use Rattle.vx_rows.specs.declared.column.Column.{Column}
 use Rattle.vx_rows.specs.declared.column.Column.TheVariants as column
-use Rattle.vx_values.specs.Values.{Val, Row, value_at, pick}
+use Rattle.vx_values.specs.Values.{Val, Row}
 use Rattle.vx_rows.specs.Lists.{each_below}
 use Rattle.vx_values.specs.Types.{type_of, is_held, Fits}
 use Rattle.vx_rows.specs.Columns.{column_type, size, entry, row_of, rows_of, AreLong, KeepsFront, KeepRows, Fills, AreRows, AreHeld}
@@ -169,15 +169,6 @@ now_rows types at m n count xs ys f a p e q held c = record {
 pub held_append : (xs ys : List Val) → list_all is_held xs ≡ true → list_all is_held ys ≡ true → list_all is_held (xs ++ ys) ≡ true
 held_append xs ys h k = list_all-append is_held xs ys ∙ and-both _ _ h k
 
-held_at : (row : Row) (c : ℕ) → list_all is_held row ≡ true → is_held (value_at row c) ≡ true
-held_at [] c h = refl
-held_at (v ∷ row) zero h = and-left _ _ h
-held_at (v ∷ row) (suc c) h = held_at row c (and-right _ _ h)
-
-pub held_pick : (cols : List ℕ) (row : Row) → list_all is_held row ≡ true → list_all is_held (pick cols row) ≡ true
-held_pick [] row h = refl
-held_pick (c ∷ cols) row h = and-both _ _ (held_at row c h) (held_pick cols row h)
-
 -- one more value is held
 pub held_more : (row : Row) (j : ℕ) (v : Val) → j < length row → v ≡ get_or row j v → list_all is_held (take j row) ≡ true → is_held v ≡ true → list_all is_held (take (j + 1) row) ≡ true
 held_more row j v near e h k = list_all_more is_held row j v near ∙ and-both _ _ h (ap is_held (sym e) ∙ k)
@@ -213,27 +204,3 @@ each_at f g positions n all h =
 pub no_rows : (xs : List Column) → rows_of 0 xs ≡ []
 unfolding each_below
 no_rows xs = refl
-
-zip_long : {X Y : Type 0} (xs : List X) (ys : List Y) → length xs ≡ length ys → length (zip xs ys) ≡ length xs
-zip_long [] ys e = refl
-zip_long (x ∷ xs) [] e = absurd (omega arith)
-zip_long (x ∷ xs) (y ∷ ys) e = let r = zip_long xs ys (omega arith) in omega (arith, r)
-
-zip_at : {X Y Z : Type 0} (g : X × Y → Z) (xs : List X) (ys : List Y) (k : ℕ) (d : X) (e : Y) (z : Z) → k < length xs → k < length ys → get_or (map g (zip xs ys)) k z ≡ g (get_or xs k d, get_or ys k e)
-zip_at g [] ys k d e z h l = absurd (omega arith)
-zip_at g (x ∷ xs) [] k d e z h l = absurd (omega arith)
-zip_at g (x ∷ xs) (y ∷ ys) zero d e z h l = refl
-zip_at g (x ∷ xs) (y ∷ ys) (suc k) d e z h l = zip_at g xs ys k d e z (omega arith) (omega arith)
-
--- rows of two others side by side
-pub each_zip : {Z : Type 0} (f : ℕ → Z) (g : ℕ × ℕ → Z) (xs ys : List ℕ) → length xs ≡ length ys → ((k : ℕ) → k < length xs → f k ≡ g (get_or xs k 0, get_or ys k 0)) → each_below (length xs) f ≡ map g (zip xs ys)
-each_zip f g xs ys e h =
-    let l = length-each_below (length xs) f in
-    let m : length (map g (zip xs ys)) ≡ length xs = length-map (zip xs ys) g ∙ zip_long xs ys e in
-    same_lists _ _ (l ∙ sym m) (λ k d near.
-    let small : k < length xs = omega (arith, l, near) in
-    get_or-each_below (length xs) f k d small ∙ (h k small ∙ sym (zip_at g xs ys k 0 0 d small (omega (arith, e)))))
-
--- as many rows, under another name
-pub fills_many : (at m n first last : ℕ) (xs ys : List Column) (f : ℕ → List Val) → m ≡ n → Fills at m first last xs ys f → Fills at n first last xs ys f
-fills_many at m n first last xs ys f e p = subst (λ i. Fills at i first last xs ys f) e p

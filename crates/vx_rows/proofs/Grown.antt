@@ -1,8 +1,8 @@
 -- Rows as a caller sees them, and what is seen of them after a write.
-use Rattle.std.proofs.Common.{◌≡◌, ℕ, true, ◌+◌, ◌-◌, ◌<◌, ◌≤◌, List, [], ◌∷◌, ◌++◌, refl, sym, ap, ◌∙◌, subst, length, get_or, map, arith}
+use Rattle.std.proofs.Common.{◌≡◌, ℕ, true, ◌+◌, ◌-◌, ◌<◌, ◌≤◌, List, [], ◌∷◌, ◌++◌, sym, ap, ◌∙◌, subst, length, get_or, map, arith}
 use Rattle.std.specs.Prelude.{slice_range}
 use Rattle.std.specs.List.{list_all, AllByRecursion}
-use Rattle.std.proofs.lemmas.List.{length-map, length-append}
+use Rattle.std.proofs.lemmas.List.{length-map}
 use Rattle.vx_values.specs.declared.value.ColType.{ColType}
 use Rattle.vx_rows.specs.declared.column.Column.{Column}
 use Rattle.vx_values.specs.Values.{Val, Row}
@@ -11,7 +11,7 @@ use Rattle.vx_values.specs.Types.{type_of, is_held, Fits}
 use Rattle.vx_rows.specs.Columns.{size, row_of, rows_of, KeepRows, Fills, AreRows}
 use Rattle.vx_rows.specs.View.{RowsView, row, ArePositions}
 use Rattle.vx_rows.proofs.Below.{each_below-one, slice_range-each_below}
-use Rattle.vx_rows.proofs.Fill.{viewed, all_fit, rows_are, types_are, width_is, count_is, row_is, same_rows, more_rows, now_rows, fill_as, fill_more, each_at}
+use Rattle.vx_rows.proofs.Fill.{viewed, all_fit, rows_are, types_are, width_is, count_is, row_is, same_rows, more_rows, now_rows, each_at}
 
 -- the first n rows of these columns are those of a table
 pub record Seen (t : RowsView) (types : List ColType) (n : ℕ) (xs : List Column) : Type 0 where
@@ -83,18 +83,3 @@ grown_at {t} {r} {types} {kinds} {count} {many} {ys} {others} positions g o ther
 -- one value of each type
 pub width_of : {X : Type 0} (f : X → Val) (xs : List X) (types : List ColType) → map type_of (map f xs) ≡ types → length xs ≡ length types
 width_of f xs types e = sym (length-map xs f) ∙ (sym (length-map (map f xs) type_of) ∙ ap length e)
-
--- the columns of two others, side by side
-pub width_both : {l r : RowsView} {ls rs : List ColType} {n m : ℕ} {xs ys : List Column} → Seen l ls n xs → Seen r rs m ys → (width : ℕ) (types : List ColType)
-    → width ≡ length xs → types ≡ l.types ++ r.types → width + length ys ≡ length types
-width_both {l} {r} s o width types w e =
-    let a = width_seen s in
-    let b = width_seen o in
-    let c = ap length e ∙ length-append l.types r.types in
-    omega (arith, a, b, c, w)
-
-pub fill_both : (at m width mid last : ℕ) (xs ys zs : List Column) (f g : ℕ → Row) → mid ≡ width → Fills at m 0 (0 + width) xs ys f → Fills at m mid last ys zs g
-    → Fills at m 0 last xs zs (λ k. f k ++ g k)
-fill_both at m width mid last xs ys zs f g e p q =
-    fill_more at m 0 mid last xs ys zs f g (λ k. f k ++ g k)
-    (fill_as at m 0 (0 + width) mid xs ys f f (omega (arith, e)) (λ k h. refl) p) q (λ k h. refl)

@@ -1,5 +1,5 @@
 -- Tables that are put one behind the other, column by column.
-use Rattle.std.proofs.Common.{◌≡◌, ℕ, true, zero, suc, ◌+◌, ◌-◌, ◌<◌, ◌≤◌, List, [], ◌∷◌, ◌++◌, refl, sym, ap, subst, ◌∙◌, length, get_or, take, drop, map, flat_map, arith, inl, inr, pos}
+use Rattle.std.proofs.Common.{◌≡◌, ℕ, true, zero, suc, ◌+◌, ◌-◌, ◌<◌, ◌≤◌, List, [], ◌∷◌, ◌++◌, refl, sym, ap, subst, ◌∙◌, length, get_or, take, drop, map, arith, inl, inr, pos}
 use Rattle.std.specs.List.{list_all, AllByRecursion}
 use Rattle.std.proofs.lemmas.List.{same_lists, length-map, drop_all, take_more, take_all, length-append, get_or_append_left, get_or-append_right, append-nil, get_or_default}
 use Rattle.std.proofs.lemmas.Grind.{flat_map-append}
@@ -20,17 +20,6 @@ pub record HasFirst (at j i end : ℕ) (parts : List RowsView) (column : Column)
   pub end_is : end ≡ at + length (rows_of_all (take i parts))
   pub long : end ≤ size column
   pub values : (k : ℕ) → k < length (rows_of_all (take i parts)) → entry column (at + k) ≡ value_at (get_or (rows_of_all (take i parts)) k []) j
-
-pub has_none : (at j : ℕ) (parts : List RowsView) (column : Column) → at ≤ size column → HasFirst at j 0 at parts column
-has_none at j parts column h = record {
-  end_is = omega arith;
-  long = h;
-  values = λ k l. absurd (omega arith);
-}
-
-all_append : {A : Type 0} (P : A → Type 0) (xs ys : List A) → AllByRecursion P xs → AllByRecursion P ys → AllByRecursion P (xs ++ ys)
-all_append P [] ys h k = k
-all_append P (x ∷ xs) ys h k = (h.0, all_append P xs ys h.1 k)
 
 rows_next : (parts : List RowsView) (i : ℕ) (part : RowsView) → i < length parts → part ≡ get_or parts i part → rows_of_all (take (i + 1) parts) ≡ rows_of_all (take i parts) ++ part.rows
 rows_next parts i part h e =
@@ -71,18 +60,6 @@ kept_on at end first old new h p q = record {
   kept = λ k l. q.kept k (omega (arith, h, l)) ∙ p.kept k l;
 }
 
--- all tables stand in it
-pub has_all : (at j i end : ℕ) (parts : List RowsView) (column : Column) → length parts ≤ i → HasFirst at j i end parts column → HasParts at j parts column
-has_all at j i end parts column h has =
-    let all : rows_of_all (take i parts) ≡ rows_of_all parts = ap rows_of_all (take_all i parts h) in
-    let many = ap length all in
-    let end_is = has.end_is in
-    let long = has.long in
-    record {
-      long = omega (arith, many, end_is, long);
-      values = λ k l. has.values k (omega (arith, many, l)) ∙ ap (λ rows. value_at (get_or rows k []) j) all;
-    }
-
 -- what holds of each column holds of all
 pub keep_each : (at : ℕ) (xs ys : List Column) → length ys ≡ length xs → ((i : ℕ) (d : Column) → i < length xs → KeepsFront at (get_or xs i d) (get_or ys i d)) → KeepRows at xs ys
 keep_each at [] [] e h = record { kinds = refl; long = λ a k l. absurd (omega arith); kept = λ k l. refl }
@@ -112,30 +89,6 @@ size_at n xs i d long near =
 pub record CountsFirst (at i count : ℕ) (parts : List RowsView) : Type 0 where
   pub is : count ≡ at + length (rows_of_all (take i parts))
   pub fit : (types : List ColType) → HaveTypes types parts → AllByRecursion (Fits types) (rows_of_all (take i parts))
-
-pub counts_none : (at : ℕ) (parts : List RowsView) → CountsFirst at 0 at parts
-counts_none at parts = record { is = omega arith; fit = λ types e. tt }
-
-pub counts_next : (at i count more : ℕ) (parts : List RowsView) (part : RowsView) → CountsFirst at i count parts → i < length parts → part ≡ get_or parts i part
-    → more ≡ length part.rows → AllByRecursion (Fits part.types) part.rows → CountsFirst at (i + 1) (count + more) parts
-counts_next at i count more parts part c near here long fit =
-    let done = rows_of_all (take i parts) in
-    let next = rows_next parts i part near here in
-    let many = length-append done part.rows in
-    let all = ap length next in
-    let is = c.is in
-    record {
-      is = omega (arith, is, many, all, long);
-      fit = λ types e.
-          let same : part.types ≡ types = ap (λ (t : RowsView). t.types) here ∙ e i part near in
-          subst (AllByRecursion (Fits types)) (sym next) (all_append (Fits types) done part.rows (c.fit types e) (subst (λ ts. AllByRecursion (Fits ts) part.rows) same fit));
-    }
-
-pub counts_all : (at i count : ℕ) (parts : List RowsView) → length parts ≤ i → CountsFirst at i count parts
-    → (count ≡ at + length (rows_of_all parts)) × ((types : List ColType) → HaveTypes types parts → AllByRecursion (Fits types) (rows_of_all parts))
-counts_all at i count parts h c =
-    let all : rows_of_all (take i parts) ≡ rows_of_all parts = ap rows_of_all (take_all i parts h) in
-    (c.is ∙ ap (λ rows. at + length rows) all, λ types e. subst (AllByRecursion (Fits types)) all (c.fit types e))
 
 pub long_next : (n i : ℕ) (xs : List Column) (x : Column) → i < length xs → x ≡ get_or xs i x → n ≤ size x → LongTo n i xs → LongTo n (i + 1) xs
 long_next n i xs x near here long before k h = elim (cases_lt k i) [

@@ -1,7 +1,7 @@
 -- Which numbers of a range were seen, and what that says of equal numbers and of the first clash.
-use Rattle.std.proofs.Common.{◌≡◌, ◌≢◌, ℕ, ℤ, pos, ◌+ℤ◌, ◌+◌, ◌<◌, Bool, true, false, List, [], length, get_or, set, replicate, Option, Some, None, refl, sym, ap, ◌∙◌, arith, true≢false, inl, inr, zero-le}
+use Rattle.std.proofs.Common.{◌≡◌, ◌≢◌, ℕ, ℤ, pos, ◌+ℤ◌, ◌+◌, ◌<◌, Bool, true, false, List, [], length, get_or, set, Option, Some, None, refl, sym, ap, ◌∙◌, arith, true≢false, inl, inr, zero-le}
 use Rattle.std.proofs.lemmas.Bool.{cases_lt, cases_eq}
-use Rattle.std.proofs.lemmas.List.{get_or-set_same, get_or-set_other, get_or-replicate, get_or_past, length-replicate}
+use Rattle.std.proofs.lemmas.List.{get_or-set_same, get_or-set_other}
 use Rattle.std.proofs.lemmas.Int.{ints}
 use Rattle.vx_values.specs.Values.{Row}
 use Rattle.vx_rows.specs.Keys.{first_clash}
@@ -13,19 +13,6 @@ pub record Marks (numbers : List ℤ) (low : ℤ) (n : ℕ) (seen : List Bool) :
   pub marked : (k t : ℕ) → k < n → number_at numbers k ≡ low +ℤ pos t → get_or seen t false ≡ true
   pub only : (t : ℕ) → get_or seen t false ≡ true → (k : ℕ) × (k < n) × (number_at numbers k ≡ low +ℤ pos t)
   pub differ : Differ numbers n
-
-unmarked : (width t : ℕ) → get_or (replicate width false) t false ≡ false
-unmarked width t = elim (cases_lt t width) [
-  | inl l ↦ get_or-replicate width t false false l
-  | inr g ↦ get_or_past (replicate width false) t false (omega (arith, length-replicate width false))
-]
-
-pub marks-none : (numbers : List ℤ) (low : ℤ) (width : ℕ) → Marks numbers low 0 (replicate width false)
-marks-none numbers low width = record {
-  marked = λ k t h e. absurd (omega arith);
-  only = λ t e. absurd (true≢false (sym e ∙ unmarked width t));
-  differ = λ i j h l e. absurd (omega arith);
-}
 
 one-place : (low : ℤ) (t u : ℕ) → low +ℤ pos t ≡ low +ℤ pos u → t ≡ u
 one-place low t u e = omega (arith, ints)

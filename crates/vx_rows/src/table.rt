@@ -1,6 +1,6 @@
 //! Rows that fit one list of types, kept by columns.
 
-ghost use Rattle.std.specs.Prelude.{◌≡◌, ◌↔◌, ℕ, ◌+◌, ◌-◌, ◌<◌, ◌≤◌, ◌++◌, ◌∷◌, [], length, max, map, take, zip, slice_range, OnOk, OnErr, IfOk, IsTrue};
+ghost use Rattle.std.specs.Prelude.{◌≡◌, ◌↔◌, ℕ, ◌+◌, ◌-◌, ◌<◌, ◌≤◌, ◌++◌, ◌∷◌, [], length, max, map, take, slice_range, OnOk, OnErr, IfOk, IsTrue};
 ghost use Rattle.std.specs.List.{AllByRecursion};
 ghost use Rattle.vx_values.specs.Values.{pick, value_at};
 ghost use Rattle.vx_values.specs.ValueView.{val_of, cell_val};
@@ -11,9 +11,7 @@ ghost use Rattle.vx_rows.specs.Columns.{column_type, size, entry, rows_of, AreRo
 use crate::column::Column;
 use crate::numbers::Numbers;
 use crate::texts::Texts;
-use crate::writes::{
-    empty_columns, put_cells, put_picked, put_row, put_rows, put_rows_at, put_values, reserve_rows,
-};
+use crate::writes::{empty_columns, put_cells, put_rows, put_rows_at, put_values, reserve_rows};
 use std::alloc::{AllocError, Global};
 use std::marker::Model;
 use std::mem;
@@ -183,22 +181,6 @@ impl Table {
         }
     }
 
-    /// Adds row i of others.
-    pub fn append_row(&mut self, other: &Table, i: usize) -> Result<(), AllocError>
-        requires same_types { other.now.types ≡ self.old.types }
-        requires there { i < length other.now.rows }
-        ensures types { self.new.types ≡ self.old.types }
-        ensures ok { OnOk result (self.new.rows ≡ self.old.rows ++ row other.now i ∷ []) }
-        ensures err { OnErr result (self.new.rows ≡ self.old.rows) }
-    {
-        let Some(count) = self.count.checked_add(1) else {
-            return Err(AllocError);
-        };
-        put_row(&mut self.columns, 0, self.count, &other.columns, i)?;
-        self.count = count;
-        Ok(())
-    }
-
     /// Adds the rows of others from `from` up to `to`.
     pub fn append_range(&mut self, other: &Table, from: usize, to: usize) -> Result<(), AllocError>
         requires same_types { other.now.types ≡ self.old.types }
@@ -212,54 +194,6 @@ impl Table {
             return Err(AllocError);
         };
         put_rows(&mut self.columns, self.count, &other.columns, from, to)?;
-        self.count = count;
-        Ok(())
-    }
-
-    /// Adds these columns of row i of others.
-    pub fn append_projected(
-        &mut self,
-        other: &Table,
-        i: usize,
-        cols: &[usize],
-    ) -> Result<(), AllocError>
-        requires there { i < length other.now.rows }
-        requires columns { AreColumns (length other.now.types) cols.now }
-        requires types { self.old.types ≡ map (type_at other.now.types) cols.now }
-        ensures types { self.new.types ≡ self.old.types }
-        ensures ok { OnOk result (self.new.rows ≡ self.old.rows ++ pick cols.now (row other.now i) ∷ []) }
-        ensures err { OnErr result (self.new.rows ≡ self.old.rows) }
-    {
-        let Some(count) = self.count.checked_add(1) else {
-            return Err(AllocError);
-        };
-        put_picked(&mut self.columns, self.count, &other.columns, i, cols)?;
-        self.count = count;
-        Ok(())
-    }
-
-    /// Adds row i of one and row j of the other, side by side.
-    pub fn append_joined(
-        &mut self,
-        left: &Table,
-        i: usize,
-        right: &Table,
-        j: usize,
-    ) -> Result<(), AllocError>
-        requires left { i < length left.now.rows }
-        requires right { j < length right.now.rows }
-        requires types { self.old.types ≡ left.now.types ++ right.now.types }
-        ensures types { self.new.types ≡ self.old.types }
-        ensures ok { OnOk result (self.new.rows ≡ self.old.rows ++ (row left.now i ++ row right.now j) ∷ []) }
-        ensures err { OnErr result (self.new.rows ≡ self.old.rows) }
-    {
-        let Some(count) = self.count.checked_add(1) else {
-            return Err(AllocError);
-        };
-        let at = self.count;
-        let width = left.columns.len();
-        put_row(&mut self.columns, 0, at, &left.columns, i)?;
-        put_row(&mut self.columns, width, at, &right.columns, j)?;
         self.count = count;
         Ok(())
     }
@@ -306,39 +240,6 @@ impl Table {
             return Err(AllocError);
         };
         put_rows_at(&mut self.columns, 0, self.count, &other.columns, positions)?;
-        self.count = count;
-        Ok(())
-    }
-
-    /// Adds rows of two others side by side: the first positions together, then the second, and so on.
-    pub fn append_joined_at(
-        &mut self,
-        left: &Table,
-        left_positions: &[usize],
-        right: &Table,
-        right_positions: &[usize],
-    ) -> Result<(), AllocError>
-        requires left { ArePositions (length left.now.rows) left_positions.now }
-        requires right { ArePositions (length right.now.rows) right_positions.now }
-        requires many { length left_positions.now ≡ length right_positions.now }
-        requires types { self.old.types ≡ left.now.types ++ right.now.types }
-        ensures types { self.new.types ≡ self.old.types }
-        ensures ok { OnOk result (self.new.rows ≡ self.old.rows ++ map (λ p. row left.now p.0 ++ row right.now p.1) (zip left_positions.now right_positions.now)) }
-        ensures err { OnErr result (self.new.rows ≡ self.old.rows) }
-    {
-        let Some(count) = self.count.checked_add(left_positions.len()) else {
-            return Err(AllocError);
-        };
-        let at = self.count;
-        let width = left.columns.len();
-        put_rows_at(&mut self.columns, 0, at, &left.columns, left_positions)?;
-        put_rows_at(
-            &mut self.columns,
-            width,
-            at,
-            &right.columns,
-            right_positions,
-        )?;
         self.count = count;
         Ok(())
     }

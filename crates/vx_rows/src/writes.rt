@@ -3,9 +3,8 @@
 
 ghost use Rattle.std.specs.Prelude.{◌≡◌, ℕ, ◌+◌, ◌-◌, ◌<◌, ◌≤◌, ◌∷◌, [], length, map, take, true, slice_index, OnOk, IfOk};
 ghost use Rattle.std.specs.List.{list_all};
-ghost use Rattle.vx_values.specs.Values.{pick};
 ghost use Rattle.vx_values.specs.ValueView.{val_of, cell_val};
-ghost use Rattle.vx_rows.specs.View.{AreColumns, ArePositions};
+ghost use Rattle.vx_rows.specs.View.{ArePositions};
 ghost use Rattle.vx_values.specs.Types.{type_of, type_at, is_held};
 ghost use Rattle.vx_rows.specs.Columns.{column_type, size, entry, row_of, AreLong, KeepRows, Fills};
 
@@ -53,28 +52,6 @@ pub fn put_part(
     column.put_range(at, other, from, to)
 }
 
-/// Puts a row of other columns into those from `first` on.
-pub fn put_row(
-    columns: &mut Vec<Column>,
-    first: usize,
-    at: usize,
-    others: &Vec<Column>,
-    i: usize,
-) -> Result<(), AllocError>
-    requires room { first + length others.now.items ≤ length columns.old.items }
-    requires long { AreLong at columns.old.items }
-    requires there { AreLong (i + 1) others.now.items }
-    requires kinds { (k : ℕ) → k < length others.now.items
-        → type_at (map column_type columns.old.items) (first + k) ≡ type_at (map column_type others.now.items) k }
-    ensures rows { KeepRows at columns.old.items columns.new.items }
-    ensures ok { OnOk result (Fills at 1 first (first + length others.now.items) columns.old.items columns.new.items (λ _. row_of others.now.items i)) }
-{
-    for j in 0..others.len() {
-        put_cell(columns, first + j, at, others[j].get(i))?;
-    }
-    Ok(())
-}
-
 /// Puts rows of other columns into these.
 pub fn put_rows(
     columns: &mut Vec<Column>,
@@ -94,29 +71,6 @@ pub fn put_rows(
 {
     for j in 0..others.len() {
         put_part(columns, j, at, &others[j], from, to)?;
-    }
-    Ok(())
-}
-
-/// Puts some values of a row of other columns into these.
-pub fn put_picked(
-    columns: &mut Vec<Column>,
-    at: usize,
-    others: &Vec<Column>,
-    i: usize,
-    cols: &[usize],
-) -> Result<(), AllocError>
-    requires room { length cols.now ≤ length columns.old.items }
-    requires long { AreLong at columns.old.items }
-    requires there { AreLong (i + 1) others.now.items }
-    requires columns { AreColumns (length others.now.items) cols.now }
-    requires kinds { (k : ℕ) → k < length cols.now
-        → type_at (map column_type columns.old.items) k ≡ type_at (map column_type others.now.items) (slice_index cols.now k) }
-    ensures rows { KeepRows at columns.old.items columns.new.items }
-    ensures ok { OnOk result (Fills at 1 0 (length cols.now) columns.old.items columns.new.items (λ _. pick cols.now (row_of others.now.items i))) }
-{
-    for j in 0..cols.len() {
-        put_cell(columns, j, at, others[cols[j]].get(i))?;
     }
     Ok(())
 }
