@@ -19,11 +19,6 @@ pub all-append : {X : Type 0} (P : X → Type 0) (xs ys : List X) → AllByRecur
 all-append P [] ys h k = k
 all-append P (x ∷ xs) ys h k = (h.0, all-append P xs ys h.1 k)
 
--- too few rows for a packet
-pub cuts-none : (way : Way) (current : List Row) (ready : List PacketView) (more current' : List Row) (ready' : List PacketView) → current' ≡ current ++ more → ready' ≡ ready
-    → Cuts way current ready more current' ready'
-cuts-none way current ready more current' ready' e f = record { full = []; all_full = tt; rows_are = e; ready_are = append-nil ready ∙ sym f }
-
 -- just as many as make one
 pub cuts-one : (way : Way) (current : List Row) (ready : List PacketView) (more current' : List Row) (ready' : List PacketView)
     → length (current ++ more) ≡ way.size → current' ≡ [] → ready' ≡ ready ++ parcel_at way (current ++ more) ∷ []
@@ -54,10 +49,6 @@ cuts-both way current ready xs current' ready' ys current'' ready'' a b = record
   ready_are = ap (λ zs. ready ++ zs) (map-append (parcel_at way) a.full b.full) ∙ sym (append_assoc ready (map (parcel_at way) a.full) (map (parcel_at way) b.full))
       ∙ ap (λ zs. zs ++ map (parcel_at way) b.full) a.ready_are ∙ b.ready_are;
 }
-
--- nothing is left
-pub rest-none : (way : Way) (current : List Row) (ready ready' : List PacketView) → current ≡ [] → ready' ≡ ready → CutsRest way current ready ready'
-rest-none way current ready ready' e f = record { rest = []; at_most_one = omega arith; shorter = tt; rows_are = sym e; ready_are = append-nil ready ∙ sym f }
 
 -- some rows are left
 pub rest-one : (way : Way) (current : List Row) (ready ready' : List PacketView) → 0 < length current → length current < way.size → ready' ≡ ready ++ parcel_at way current ∷ [] → CutsRest way current ready ready'

@@ -101,11 +101,6 @@ same-count old new s = ways-count old new s.ways
 pub lane-before : (old new : List LaneView) → SameLanes old new → (j : ℕ) (o' : LaneView) → IsLane new j o' → (o : LaneView) × IsLane old j o
 lane-before old new s j o' e = let P : ℕ → Type 0 = λ n. j < n in element_at old j (subst P (same-count old new s) (slice_get_within new j o' e))
 
-pub same-way : (old new : List LaneView) → SameLanes old new → (j : ℕ) (o o' : LaneView) → IsLane old j o → IsLane new j o' → o'.way ≡ o.way
-same-way old new s j o o' e e' =
-    let f : LaneView → Way = λ z. z.way in
-    same_Some (o'.way) (o.way) (sym (read-map f new j o' e') ∙ ap (λ ws. slice_get ws j) s.ways ∙ read-map f old j o e)
-
 pub same-ship : (deal deal' : Deal) (old new : List LaneView) → deal' ≡ deal → SameLanes old new → ship_of deal' (ways_of new) ≡ ship_of deal (ways_of old)
 same-ship deal deal' old new d s = ap (λ z. ship_of z (ways_of new)) d ∙ ap (ship_of deal) s.ways
 

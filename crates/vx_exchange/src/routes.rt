@@ -8,6 +8,7 @@ ghost use Rattle.vx_exchange.specs.Routed.{key_columns, routed_to};
 
 use crate::ranges::Ranges;
 use std::alloc::{AllocError, Global};
+use vx_keys::IntColumn;
 use vx_plan_nodes::Router;
 use vx_rows::Value;
 use vx_views::{Chunk, Rows};
@@ -37,6 +38,24 @@ fn set_key(
     for c in 0..columns.len() {
         let value = chunk.cell(i, columns[c]).to_value(alloc)?;
         key.push(value)?;
+    }
+    Ok(())
+}
+
+// Adds the consumers of rows by the hash route of this name, where the key of each row is one number.
+fn push_of_numbers<R: Router>(
+    router: &R,
+    name: &str,
+    keys: &IntColumn<'_>,
+    n: u32,
+    found: &mut Vec<u32>,
+) -> Result<(), AllocError>
+    requires some { 0 < n }
+    ensures { OnOk result (found.new.items ≡ found.old.items ++ map (λ key. R.route_of router.now name.now key n) keys.now) }
+{
+    for i in 0..keys.len() {
+        let key = [Value::Int(keys.get(i))];
+        found.push(router.route(name, &key, n))?;
     }
     Ok(())
 }
@@ -82,6 +101,11 @@ impl KeyRoute {
         requires columns { AreColumns (length chunk.now.types) (key_columns self.now) }
         ensures { OnOk result (found.new.items ≡ found.old.items ++ map (routed_to (R.route_of router.now) self.now n) chunk.now.rows) }
     {
+        if let KeyRoute::Hash(name, columns) = self {
+            if let Some(keys) = IntColumn::of(chunk, columns.as_slice()) {
+                return push_of_numbers(router, name.as_str(), &keys, n, found);
+            }
+        }
         for i in 0..chunk.len() {
             let consumer = self.consumer_of(alloc, router, chunk, i, n, key)?;
             found.push(consumer)?;

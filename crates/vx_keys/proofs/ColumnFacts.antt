@@ -1,8 +1,6 @@
 -- Columns that are keys by themselves.
-use Rattle.std.proofs.Common.{◌≡◌, ℕ, ℤ, pos, suc, zero, ◌+◌, ◌<◌, List, [], ◌∷◌, map, length, get_or, refl, sym, ap, ◌∙◌, subst, arith}
-use Rattle.std.proofs.lemmas.List.{get_or_default}
+use Rattle.std.proofs.Common.{◌≡◌, ℕ, ℤ, pos, suc, zero, ◌+◌, ◌<◌, List, [], ◌∷◌, map, length, get_or, refl, sym, ap, ◌∙◌, arith}
 use Rattle.vx_values.specs.Values.{Row, pick, value_at}
-use Rattle.vx_rows.specs.View.{ArePositions}
 use Rattle.vx_rows.specs.Lists.{each_below}
 use Rattle.vx_rows.proofs.Below.{length-each_below, get_or-each_below}
 use Rattle.vx_views.specs.declared.positions.PositionsRef.{PositionsRef}
@@ -41,13 +39,6 @@ pub texts-are : (cols : List ℕ) (c : ℕ) (texts : List (List ℕ)) (positions
 texts-are cols c texts positions rows one is are =
     made-alike (λ q. text_key (get_or texts q [])) (pick cols) positions rows are.long
     (λ k l. ap (λ v. v ∷ []) (sym (are.values k l)) ∙ picks-one cols c (get_or rows k []) one is)
-
--- the positions are those of what they name
-pub numbers-near : (c : ℕ) (numbers : List ℤ) (positions : List ℕ) (rows : List Row) → AreNumbers numbers positions c rows → ArePositions (length numbers) positions
-numbers-near c numbers positions rows are = λ k d l. subst (λ q. q < length numbers) (get_or_default positions k 0 d l) (are.near k (subst (λ n. k < n) are.long l))
-
-pub texts-near : (c : ℕ) (texts : List (List ℕ)) (positions : List ℕ) (rows : List Row) → AreTexts texts positions c rows → ArePositions (length texts) positions
-texts-near c texts positions rows are = λ k d l. subst (λ q. q < length texts) (get_or_default positions k 0 d l) (are.near k (subst (λ n. k < n) are.long l))
 
 -- position k of a range
 pub range-at : (at : PositionsRef) (from count k : ℕ) → at ≡ Range from count → k < length (seen_positions at) → get_or (seen_positions at) k 0 ≡ from + k

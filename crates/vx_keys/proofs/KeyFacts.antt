@@ -1,10 +1,10 @@
 -- Keys in order of first occurrence, one row at a time.
-use Rattle.std.proofs.Common.{◌≡◌, ℕ, suc, zero, ◌+◌, ◌<◌, ◌≤◌, Bool, true, false, cond, not, ◌||◌, List, [], ◌∷◌, ◌++◌, map, take, filter, length, get_or, set, refl, sym, ap, ◌∙◌, subst, arith, true≢false, if◌then◌else◌}
+use Rattle.std.proofs.Common.{◌≡◌, ℕ, suc, zero, ◌+◌, ◌<◌, ◌≤◌, Bool, true, false, cond, not, ◌||◌, List, [], ◌∷◌, ◌++◌, map, filter, length, get_or, set, refl, sym, ap, ◌∙◌, subst, arith, true≢false, if◌then◌else◌}
 use Rattle.std.specs.List.{list_any, AllByRecursion, IsDistinct, position_or_len}
 use Rattle.std.proofs.lemmas.List.Folds.{list_any_none, list_any_at}
 use Rattle.std.proofs.lemmas.List.Sums.{fails_before_first, passes_at_first}
 use Rattle.std.proofs.lemmas.List.Elements.{filter-append}
-use Rattle.std.proofs.lemmas.List.{map-append, append-nil, map_more, get_or-map}
+use Rattle.std.proofs.lemmas.List.{map-append, append-nil, get_or-map}
 use Rattle.std.proofs.lemmas.Map.Keys.{IsDistinct-cons, IsDistinct-head, IsDistinct-tail, apart_from_distinct}
 use Rattle.std.proofs.lemmas.Map.Made.{IsDistinct-from_count}
 use Rattle.indexmap.specs.IndexSet.{insert_key}
@@ -71,11 +71,6 @@ firsts-push (x ∷ xs) k = ap (λ ys. x ∷ others x ys) (firsts-push xs k) ∙ 
 
 pub keys-push : (by : List ℕ) (xs : List Row) (y : Row) → group_keys by (xs ++ y ∷ []) ≡ insert_key row_eq (group_keys by xs) (pick by y)
 keys-push by xs y = ap firsts (map-append (pick by) xs (y ∷ [])) ∙ firsts-push (map (pick by) xs) (pick by y)
-
--- the first occurrences in one row more
-pub firsts-more : (cols : List ℕ) (xs : List Row) (i : ℕ) → i < length xs
-    → firsts (map (pick cols) (take (i + 1) xs)) ≡ insert_key row_eq (firsts (map (pick cols) (take i xs))) (pick cols (get_or xs i []))
-firsts-more cols xs i l = ap firsts (map_more (pick cols) xs i [] l) ∙ firsts-push (map (pick cols) (take i xs)) (pick cols (get_or xs i []))
 
 pub any-firsts : (k : Row) (ys : List Row) → list_any (row_eq k) (firsts ys) ≡ list_any (row_eq k) ys
 any-firsts k [] = refl

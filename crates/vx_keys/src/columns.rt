@@ -34,7 +34,7 @@ fn position(at: PositionsRef<'_>, k: usize) -> usize
 
 /// The keys of rows, where each is one number.
 #[derive(Drop)]
-pub(crate) struct IntColumn<'a> {
+pub struct IntColumn<'a> {
     numbers: &'a Numbers,
     at: PositionsRef<'a>,
 }

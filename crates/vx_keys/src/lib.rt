@@ -13,6 +13,7 @@ mod row_keys;
 mod seen;
 mod text_keys;
 
+pub use columns::IntColumn;
 pub use keys::Keys;
 pub use row_keys::numbers_below;
 pub use seen::Seen;
