@@ -22,8 +22,8 @@ Usual cause, and cure: read from a file that is there, of at most 2^40 bytes.
 Example: `./volcano < DIR`, where DIR is a folder.
 
 V3 FileUnreadable path=d/t.csv
-What happened: the file does not open; or it is the file of a catalog or a plan and fails while it is read, or
-has over 2^40 bytes (for a table's file these are `C10` and `C12`).
+What happened: the file does not open; or it is the file of a catalog, a plan or the statistics of a run and fails
+while it is read, or has over 2^40 bytes (for a table's file these are `C10` and `C12`).
 Usual cause, and cure: a wrong path, a folder without the table of a scanned relation, or no right to read it.
 Example: `--data d`, and the folder d has no file `t.csv`.
 "#;
