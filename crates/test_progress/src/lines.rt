@@ -27,45 +27,47 @@ fn line_of(alloc: Global, case: &Case<'_>) -> Result<Vec<u8>, Fail> {
     Ok(shown_text(alloc, b"tenk1", case.size, case.bytes, case.lines)?)
 }
 
+// Sizes, bytes and lines read so far, and the line for them.
+const LINES: [Case<'static>; 9] = [
+    line_case(
+        Some(204_000_000),
+        104_500_000,
+        510_000,
+        "tenk1: 104 of 204 MB (51%), 510,000 lines",
+    ),
+    line_case(
+        Some(204_999_999),
+        204_999_998,
+        999,
+        "tenk1: 204 of 204 MB (99%), 999 lines",
+    ),
+    line_case(
+        Some(1_000_000),
+        1_000_000,
+        1_000,
+        "tenk1: 1 of 1 MB (100%), 1,000 lines",
+    ),
+    line_case(
+        Some(999_999),
+        9_999,
+        12,
+        "tenk1: 9 of 999 kB (0%), 12 lines",
+    ),
+    line_case(None, 12_345_678, 1_234_567, "tenk1: 12 MB, 1,234,567 lines"),
+    line_case(None, 999_999, 0, "tenk1: 999 kB, 0 lines"),
+    line_case(Some(10), 2_000_000, 10, "tenk1: 2 MB, 10 lines"),
+    line_case(Some(0), 0, 0, "tenk1: 0 kB, 0 lines"),
+    line_case(
+        Some(18_446_744_073_709_551_615),
+        18_446_744_073_709_551_615,
+        18_446_744_073_709_551_615,
+        "tenk1: 18,446,744,073,709 of 18,446,744,073,709 MB (100%), 18,446,744,073,709,551,615 lines",
+    ),
+];
+
 #[test]
 fn lines_say_amounts(rt: HostRuntime) -> Result<(), Fail> {
-    let cases = [
-        line_case(
-            Some(204_000_000),
-            104_500_000,
-            510_000,
-            "tenk1: 104 of 204 MB (51%), 510,000 lines",
-        ),
-        line_case(
-            Some(204_999_999),
-            204_999_998,
-            999,
-            "tenk1: 204 of 204 MB (99%), 999 lines",
-        ),
-        line_case(
-            Some(1_000_000),
-            1_000_000,
-            1_000,
-            "tenk1: 1 of 1 MB (100%), 1,000 lines",
-        ),
-        line_case(
-            Some(999_999),
-            9_999,
-            12,
-            "tenk1: 9 of 999 kB (0%), 12 lines",
-        ),
-        line_case(None, 12_345_678, 1_234_567, "tenk1: 12 MB, 1,234,567 lines"),
-        line_case(None, 999_999, 0, "tenk1: 999 kB, 0 lines"),
-        line_case(Some(10), 2_000_000, 10, "tenk1: 2 MB, 10 lines"),
-        line_case(Some(0), 0, 0, "tenk1: 0 kB, 0 lines"),
-        line_case(
-            Some(18_446_744_073_709_551_615),
-            18_446_744_073_709_551_615,
-            18_446_744_073_709_551_615,
-            "tenk1: 18,446,744,073,709 of 18,446,744,073,709 MB (100%), 18,446,744,073,709,551,615 lines",
-        ),
-    ];
-    for case in &cases {
+    for case in &LINES {
         let text = line_of(rt.alloc(), case)?;
         let line = case.line;
         let wanted = format!(in rt.alloc(); "\r{line}\x1b[K")?;

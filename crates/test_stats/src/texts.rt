@@ -123,6 +123,30 @@ fn one_of_several_plans_has_the_time_of_its_run(rt: HostRuntime) -> Result<(), F
     Ok(())
 }
 
+// What several plans share: of each form, with the time of the write and without it.
+const SHARED: [(StatsForm, Option<u64>, &str); 4] = [
+    (
+        StatsForm::Table,
+        Some(1001),
+        "phase               ms\nload             0.999\n                 0.998  t\nwrite            1.001\n",
+    ),
+    (
+        StatsForm::Table,
+        None,
+        "phase               ms\nload             0.999\n                 0.998  t\nwrite                -\n",
+    ),
+    (
+        StatsForm::Json,
+        Some(1001),
+        "{\"phases\":[{\"phase\":\"load\",\"microseconds\":999,\"relations\":[{\"relation\":\"t\",\"microseconds\":998}]},{\"phase\":\"write\",\"microseconds\":1001}]}\n",
+    ),
+    (
+        StatsForm::Json,
+        None,
+        "{\"phases\":[{\"phase\":\"load\",\"microseconds\":999,\"relations\":[{\"relation\":\"t\",\"microseconds\":998}]},{\"phase\":\"write\",\"microseconds\":null}]}\n",
+    ),
+];
+
 #[test]
 fn several_plans_share_times(rt: HostRuntime) -> Result<(), Fail> {
     let alloc = rt.alloc();
@@ -135,28 +159,7 @@ fn several_plans_share_times(rt: HostRuntime) -> Result<(), Fail> {
         relation: 1,
         microseconds: Some(998),
     };
-    for (form, time, text) in [
-        (
-            StatsForm::Table,
-            Some(1001),
-            "phase               ms\nload             0.999\n                 0.998  t\nwrite            1.001\n",
-        ),
-        (
-            StatsForm::Table,
-            None,
-            "phase               ms\nload             0.999\n                 0.998  t\nwrite                -\n",
-        ),
-        (
-            StatsForm::Json,
-            Some(1001),
-            "{\"phases\":[{\"phase\":\"load\",\"microseconds\":999,\"relations\":[{\"relation\":\"t\",\"microseconds\":998}]},{\"phase\":\"write\",\"microseconds\":1001}]}\n",
-        ),
-        (
-            StatsForm::Json,
-            None,
-            "{\"phases\":[{\"phase\":\"load\",\"microseconds\":999,\"relations\":[{\"relation\":\"t\",\"microseconds\":998}]},{\"phase\":\"write\",\"microseconds\":null}]}\n",
-        ),
-    ] {
+    for (form, time, text) in SHARED {
         let mut shared = String::new(alloc);
         push_shared(&mut shared, alloc, form, &catalog, &[load], &[loaded])?;
         assert_eq!(rt;
