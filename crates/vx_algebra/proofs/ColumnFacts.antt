@@ -1,5 +1,5 @@
 -- What an operator's type says of its columns: they are there, and of equal types where it asks that.
-use Rattle.std.proofs.Common.{◌≡◌, ℕ, nat_lt, Bool, true, ◌&&◌, ◌||◌, List, [], ◌∷◌, map, length, get_or, refl}
+use Rattle.std.proofs.Common.{◌≡◌, ℕ, nat_lt, Bool, true, ◌&&◌, List, [], ◌∷◌, map, length, get_or, refl}
 use Rattle.std.specs.List.{list_all}
 use Rattle.std.proofs.lemmas.Bool.Decides.{Decides-ltb}
 use Rattle.std.proofs.lemmas.List.Sums.{AllPass-from_list_all}
@@ -9,27 +9,12 @@ use Rattle.vx_values.specs.declared.value.ColType.TheVariants.{Int, Text}
 use Rattle.vx_values.specs.Types.{type_at}
 use Rattle.vx_values.proofs.Booleans.{and-left, and-right, and-both}
 use Rattle.vx_rows.specs.View.{AreColumns}
-use Rattle.vx_relations.specs.Catalog.{all_below, are_distinct}
-use Rattle.vx_plan_nodes.specs.Plan.{Aggregate, Phase, project, distinct, sort, group, union, join}
-use Rattle.vx_plan_nodes.specs.Typed.{type_eq, types_eq, are_columns, is_aggregate, is_unary, is_pair, are_distinct_pairs, is_binary}
+use Rattle.vx_relations.specs.Catalog.{all_below}
+use Rattle.vx_plan_nodes.specs.Plan.{union, join}
+use Rattle.vx_plan_nodes.specs.Typed.{type_eq, types_eq, is_pair, are_distinct_pairs, is_binary}
 
 pub columns-below : (w : ℕ) (cols : List ℕ) → all_below w cols ≡ true → AreColumns w cols
 columns-below w cols h k d l = (Decides-ltb (get_or cols k d) w).0 (AllPass-from_list_all (λ c. nat_lt c w) cols h k d l)
-
-pub project-columns : (types : List ColType) (cols : List ℕ) → is_unary types (project cols) ≡ true → AreColumns (length types) cols
-project-columns types cols h = columns-below (length types) cols (and-right (is_some_list cols) (all_below (length types) cols) h)
-
-pub distinct-columns : (types : List ColType) (cols : List ℕ) → is_unary types (distinct cols) ≡ true → AreColumns (length types) cols
-distinct-columns types cols h = columns-below (length types) cols (and-right (is_some_list cols) (all_below (length types) cols) h)
-
-pub sort-columns : (types : List ColType) (cols : List ℕ) → is_unary types (sort cols) ≡ true → AreColumns (length types) cols
-sort-columns types cols h =
-    columns-below (length types) cols (and-left (all_below (length types) cols) (are_distinct cols) (and-right (is_some_list cols) (are_columns (length types) cols) h))
-
-pub group-columns : (types : List ColType) (phase : Phase) (by : List ℕ) (aggregates : List Aggregate) → is_unary types (group phase by aggregates) ≡ true → AreColumns (length types) by
-group-columns types phase by aggregates h =
-    let rest = and-right (is_some_list by || is_some_list aggregates) (are_columns (length types) by && list_all (is_aggregate types) aggregates) h in
-    columns-below (length types) by (and-left (all_below (length types) by) (are_distinct by) (and-left (are_columns (length types) by) (list_all (is_aggregate types) aggregates) rest))
 
 -- ---- pairs of columns
 

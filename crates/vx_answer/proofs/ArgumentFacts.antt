@@ -1,19 +1,12 @@
 -- Numbers and arguments NAME=N as they are read.
-use Rattle.std.proofs.Common.{◌≡◌, ◌∙◌, ℕ, ◌+◌, List, [], ◌∷◌, ◌++◌, Result, Ok, Err, map, take, drop, length, codes, append_assoc, get_or, String, Global, ◌<◌, arith, sym, ap, subst}
+use Rattle.std.proofs.Common.{◌≡◌, ◌∙◌, ℕ, ◌+◌, List, [], ◌∷◌, ◌++◌, map, take, drop, length, codes, append_assoc, get_or, String, Global, ◌<◌, arith, sym, ap, subst}
 use Rattle.std.proofs.lemmas.List.{take-append-drop, length-map, get_or-map, map-append, map_more}
 use Rattle.std.proofs.lemmas.Str.{encode_ascii}
 use Rattle.std.specs.Prelude.{◌==◌}
-use Rattle.std.specs.Result.{result_ok}
-use Rattle.std.specs.Str.Parse.{ParsesUnsigned}
 use Rattle.std.specs.Str.{NoCharPasses}
 use Rattle.std.specs.Str.Pattern.{RFindsChar, SplitsAroundMatch}
 use Rattle.vx_bundle.specs.Setting.{Named, size_form}
 use Rattle.vx_answer.specs.Arguments.{Numbers, IsCut, IsSize, IsNoSize, AreSizes, HasNoSize}
-
--- what `parse` answers
-pub numbers_ok : {E : Type 0} (text : List ℕ) (r : Result ℕ E) → ParsesUnsigned 32 10 text r → Numbers text (result_ok r)
-numbers_ok text (Ok n) h = h
-numbers_ok text (Err e) h = h
 
 -- one argument more
 pub sizes_more : (words : List (List ℕ)) (sizes : Named ℕ) (word : List ℕ) (size : List ℕ × ℕ) → AreSizes words sizes → IsSize word size

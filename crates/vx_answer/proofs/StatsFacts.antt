@@ -19,19 +19,13 @@ use Rattle.vx_stats.specs.declared.phases.Phase.TheVariants as phase
 use Rattle.vx_stats.specs.declared.text.StatsForm.{StatsForm}
 use Rattle.vx_tables.specs.Folder.{holds_at}
 use Rattle.vx_answer.specs.CommandLine.{FileCommand, AnswersTask, TaskRefuses, task_memory, for_planning}
-use Rattle.vx_answer.specs.Commands.{Holding, Lacking, IsShown, IsDatabaseFor, IsRunOver, RunRefuses, PlanRefuses, CommandRefuses, for_run, for_rest, command_memory}
+use Rattle.vx_answer.specs.Commands.{Holding, Lacking, IsShown, IsRunOver, PlanRefuses, CommandRefuses, for_rest, command_memory}
 use Rattle.vx_answer.specs.Files.{IsFilesPlan, IsFilesRefusal}
 use Rattle.vx_answer.specs.Plans.{AreAnswers, title}
 use Rattle.vx_answer.specs.PlansView.{named_is}
 use Rattle.vx_answer.specs.Stats.{IsCountedRun, IsCountedPlan, AreTaskStats, IsRunMore, AreCountedRuns}
 use Rattle.vx_answer.specs.declared.plans.AcceptedPlan.{AcceptedPlan}
 use Rattle.vx_answer.specs.declared.stats.Counted.{Counted}
-
--- memory ran out, or the run of a plan over its database is refused
-pub run_refused_or : {T : Type 0} (r : Result T Refusal) (p : TypedPlanView) (holds : Holding) (lacks : Lacking) (s : Setting) (db : Database) → IsDatabaseFor p holds db
-    → IfErr r (λ e. RunRefuses p db s e) → IfErr r (λ e. (e ≡ refusal.NoMemory) ⊎ PlanRefuses p holds lacks s e)
-run_refused_or (Ok x) p holds lacks s db there h = tt
-run_refused_or (Err e) p holds lacks s db there h = inr (for_run db there h)
 
 -- and so the command is
 pub rest_refused_or : {T : Type 0} (r : Result T Refusal) (p : TypedPlanView) (holds : Holding) (lacks : Lacking) (s : Setting) → IsShown p

@@ -1,5 +1,5 @@
 -- What threads held, as one list of all and as lists of its parts (our own).
-use Rattle.std.proofs.Common.{ℕ, zero, suc, ◌≡◌, List, [], ◌∷◌, ◌++◌, length, map, Vec, Global, Some, None, refl, sym, ap, ◌∙◌, subst, slice_get, arith, append_assoc, append-nil}
+use Rattle.std.proofs.Common.{ℕ, zero, suc, ◌≡◌, List, [], ◌∷◌, ◌++◌, map, Vec, Global, Some, None, refl, sym, ap, ◌∙◌, subst, slice_get, append_assoc}
 use Rattle.vx_rings.specs.declared.ring.RingOut.{RingOut}
 use Rattle.vx_threads.specs.declared.inlet.Inlet.{Inlet}
 use Rattle.vx_threads.specs.declared.drawer.Dealer.{Dealer}
@@ -107,8 +107,3 @@ pub moves : {A B : Type 0} (f : A → B) (xs more : List B) (x : A) (y : B) (lef
 moves f xs more x y left rest all pushed is next was =
     ap (λ z. z ++ map f rest) pushed ∙ append_assoc xs (y ∷ []) (map f rest) ∙ ap (λ z. xs ++ z ∷ map f rest) is
     ∙ ap (λ z. xs ++ map f z) (sym next) ∙ was
-
--- none is left
-pub finishes : {A B : Type 0} (f : A → B) (xs : List B) (left : List A) (all : List B) → length left ≡ 0 → xs ++ map f left ≡ all → xs ≡ all
-finishes f xs [] all none was = sym (append-nil xs) ∙ was
-finishes f xs (x ∷ left) all none was = absurd (omega (arith, none))

@@ -1,18 +1,14 @@
 -- Keys and order of rows, one after another, and what is shown when none is broken.
-use Rattle.std.proofs.Common.{◌≡◌, ℕ, zero, suc, ◌+◌, ◌<◌, ◌≤◌, List, [], ◌∷◌, Bool, true, false, cond, Option, Some, None, Result, Ok, Err, refl, sym, ap, ◌∙◌, length, get_or, drop, arith, add-one, drop-cons, nat_lt, is_lt}
+use Rattle.std.proofs.Common.{◌≡◌, ℕ, zero, suc, ◌+◌, ◌<◌, ◌≤◌, List, [], ◌∷◌, Bool, true, false, cond, Option, Some, None, Result, Ok, Err, refl, sym, ap, ◌∙◌, length, get_or, drop, arith, add-one, drop-cons, is_lt}
 use Rattle.std.specs.List.{AllByRecursion}
 use Rattle.vx_values.specs.Types.{Fits}
 use Rattle.std.proofs.lemmas.List.{drop_all}
-use Rattle.std.proofs.lemmas.Bool.Decides.{Decides-ltb}
-use Rattle.std.proofs.lemmas.List.Sums.{AllPass-from_list_all}
 use Rattle.vx_values.specs.Values.{Row}
 use Rattle.vx_rows.specs.Order.{compare_on, sorted}
 use Rattle.vx_rows.specs.Keys.{first_clash, HasKey}
-use Rattle.vx_rows.specs.View.{AreColumns}
 use Rattle.vx_rows.proofs.KeyFacts.{key-law}
 use Rattle.vx_rows.proofs.Order.{NoFall, sorted_from}
 use Rattle.vx_relations.specs.Relation.{Relation, KeysHold, Meets}
-use Rattle.vx_relations.specs.Catalog.{all_below}
 use Rattle.vx_catalog.specs.declared.fault.LoadFault.{LoadFault}
 use Rattle.vx_catalog.specs.declared.fault.LoadFault.TheVariants as fault
 use Rattle.vx_catalog.specs.Loading.{no_clash, keys_kept, fall_from, first_fall, no_fall, order_kept}
@@ -90,9 +86,6 @@ keys_kept_is (cols ∷ keys) k rows out h = by_clash (first_clash cols rows) ref
     by_clash (Some c) e r more = cc
 
 -- ---- columns that are there
-
-pub columns_below : (w : ℕ) (cols : List ℕ) → all_below w cols ≡ true → AreColumns w cols
-columns_below w cols h k d l = (Decides-ltb (get_or cols k d) w).0 (AllPass-from_list_all (λ c. nat_lt c w) cols h k d l)
 
 -- ---- what is accepted meets the relation
 

@@ -1,12 +1,9 @@
 -- Columns as bits of a number.
-use Rattle.std.proofs.Common.{◌≡◌, ℕ, ◌+◌, ◌*◌, ◌%◌, ◌^◌, ◌<◌, Bool, true, false, ◌==◌, ◌||◌, List, [], ◌∷◌, length, take, get_or, ap, sym, subst, ◌∙◌, w64, eqb, bit_or}
+use Rattle.std.proofs.Common.{◌≡◌, ℕ, ◌*◌, ◌%◌, ◌^◌, ◌<◌, ◌==◌, ◌||◌, ap, sym, subst, ◌∙◌, w64, eqb, bit_or}
 use Rattle.std.specs.Int.{bit_at}
-use Rattle.std.specs.List.{list_any}
 use Rattle.std.proofs.Math.Bool.{or-true, or-false}
 use Rattle.std.proofs.Math.Logic.{⊎_elim}
 use Rattle.std.proofs.lemmas.Bool.Decides.{eqb_tells}
-use Rattle.std.proofs.lemmas.List.{take_more}
-use Rattle.std.proofs.lemmas.List.Folds.{list_any-append}
 use Rattle.std.proofs.lemmas.Nat.Bits.{bit_at_set_same, bit_at_set_other}
 
 -- setting bit k answers yes for k, and for the others what was there
@@ -16,8 +13,3 @@ set-bit low k c small = ⊎_elim
     (ap (λ b. b == 1) (bit_at_set_same w64 low k small) ∙ sym (ap (λ t. (bit_at low k == 1) || t) h.0 ∙ or-true (bit_at low k == 1))))
     (λ h. ap (λ b. b == 1) (bit_at_set_other w64 low k small c (λ e. h.1 (sym e))) ∙ sym (ap (λ t. (bit_at low c == 1) || t) h.0 ∙ or-false (bit_at low c == 1)))
     (eqb_tells k c)
-
--- the test of one more element
-pub any-next : {X : Type 0} (test : X → Bool) (xs : List X) (i : ℕ) (d : X) → i < length xs → (list_any test (take i xs) || test (get_or xs i d)) ≡ list_any test (take (i + 1) xs)
-any-next test xs i d there =
-    sym (ap (list_any test) (take_more xs i d there) ∙ list_any-append test (take i xs) (get_or xs i d ∷ []) ∙ ap (λ b. list_any test (take i xs) || b) (or-false (test (get_or xs i d))))

@@ -1,19 +1,14 @@
 -- Lists of seats: one is taken in, one is dealt out.
-use Rattle.std.proofs.Common.{◌≡◌, ℕ, suc, List, [], ◌∷◌, ◌++◌, replicate, length, refl, sym, ap, subst, ◌∙◌, arith, append_assoc}
+use Rattle.std.proofs.Common.{◌≡◌, ℕ, suc, List, [], ◌∷◌, ◌++◌, replicate, length, refl, ap, subst, ◌∙◌, arith}
 use Rattle.std.specs.List.{All, AllByRecursion}
 use Rattle.std.proofs.lemmas.List.Elements.{All-same, All-push}
 use Rattle.atomic_table.specs.Seated.{TableId}
-use Rattle.vx_morsel.specs.Draws.{Draws}
 use Rattle.vx_decks.specs.Rule.{no_draws, left_of, right_of, one_seat}
 use Rattle.vx_decks.specs.Seats.{DeckView, SeatView, IsSeatOf, IsNewSeat, draws_in}
 use Rattle.vx_decks.specs.declared.rule.Account.{Account}
 
 pub seats-rest : (d : DeckView) (ss rest : List SeatView) (s : SeatView) → ss ≡ s ∷ rest → AllByRecursion (IsSeatOf d) ss → IsSeatOf d s × AllByRecursion (IsSeatOf d) rest
 seats-rest d ss rest s is all = let P : List SeatView → Type 0 = AllByRecursion (IsSeatOf d) in subst P is all
-
-pub takes-in : (hs gs : List Draws) (ss rest : List SeatView) (s : SeatView) (all : List Draws) → ss ≡ s ∷ rest → gs ≡ s.drew ∷ [] → hs ++ draws_in ss ≡ all → (hs ++ gs) ++ draws_in rest ≡ all
-takes-in hs gs ss rest s all is one was =
-    append_assoc hs gs (draws_in rest) ∙ ap (λ g. hs ++ (g ++ draws_in rest)) one ∙ ap (λ q. hs ++ draws_in q) (sym is) ∙ was
 
 pub draws-length : (ss : List SeatView) → length (draws_in ss) ≡ length ss
 draws-length [] = refl

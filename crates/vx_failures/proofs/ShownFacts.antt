@@ -20,10 +20,6 @@ use Rattle.vx_failures.specs.Shown.{Shows, kept_place, left_place, right_place, 
 same : (x : ℕ) → (x == x) ≡ true
 same x = grind (arith, nat_tests)
 
-or-true : (b : Bool) → (b || true) ≡ true
-or-true true = refl
-or-true false = refl
-
 or-right : (b c : Bool) → c ≡ true → (b || c) ≡ true
 or-right true c h = refl
 or-right false c h = h
@@ -215,9 +211,6 @@ both-several : (a b : Size) → size_eq a b ≡ true → is_one a ≡ false → 
 both-several one_worker b h k = cc
 both-several (group_of i) one_worker h k = cc
 both-several (group_of i) (group_of j) h k = refl
-
-has-claimed : (p : Plan) (x : Part) → is_one (size p) ≡ false → has p x ≡ part_gives (claim p).part x
-has-claimed p x h = rw h refl
 
 -- a union over parts that fit
 union-fits : (p q : Plan) (a b : Part) → (claim p).part ≡ a → (claim q).part ≡ b

@@ -5,13 +5,13 @@ use Rattle.vx_values.specs.Values.{Row, pick}
 use Rattle.vx_rows.specs.Order.{agree, sorted, sort_on}
 use Rattle.vx_rows.specs.Bags.{SameRows, total}
 use Rattle.vx_relations.specs.Catalog.{all_below}
-use Rattle.vx_plan_nodes.specs.Plan.{Size, Route, Part, one, any, all, routed, Claim, Plan, scan, unary, exchange, claim, size, Unary, select, project, distinct, sort, group, ExchangeKind, route_to, round, broadcast, gather, target, is_one, plain, partial, final, Aggregate, least, by_range, concat}
+use Rattle.vx_plan_nodes.specs.Plan.{Size, Route, Part, one, any, all, routed, Claim, Plan, scan, unary, exchange, claim, size, Unary, select, project, distinct, sort, group, ExchangeKind, route_to, round, broadcast, gather, target, is_one, plain, partial, final, Aggregate, by_range, concat}
 use Rattle.vx_relations.specs.Relation.{Relation}
-use Rattle.vx_plan_nodes.specs.Serial.{passes, firsts, group_keys, group_fits, unary_rows, rows, or_overflow, after, serial, group_row, aggregate_of, group_rows, fits, of_key}
+use Rattle.vx_plan_nodes.specs.Serial.{passes, firsts, group_keys, group_fits, unary_rows, rows, or_overflow, after, serial, group_row, aggregate_of, group_rows, of_key}
 use Rattle.vx_plan_nodes.specs.Streams.{Streams, joined, workers}
 use Rattle.vx_plan_nodes.specs.Routes.{Routing}
 use Rattle.vx_plan_nodes.specs.Runs.{Exchanges, Runs}
-use Rattle.vx_check_rules.specs.Rules.{part_gives, has, through, copied, covers, is_prefix, if_some, within, numbers_below, routed_within, allowed_here, sizes_match, not_replicated, inputs_match, order_given, part_shown, order_shown, keys_shown, keeps_apart, unary_shows, unary_orders, unary_keys, kind_shows, goes_on, rises_by}
+use Rattle.vx_check_rules.specs.Rules.{part_gives, has, copied, covers, is_prefix, if_some, within, numbers_below, routed_within, allowed_here, sizes_match, not_replicated, inputs_match, order_given, part_shown, order_shown, keys_shown, keeps_apart, unary_shows, unary_orders, unary_keys, kind_shows, goes_on, rises_by}
 use Rattle.vx_check_rules.specs.Claims.{PartHolds, InItsStream, ClaimHolds, Given, PartOf, ClaimOf}
 use Rattle.vx_laws.proofs.Bags.{SameRows-sym, and-left, and-right, SameRows-refl, SameRows-trans, total-joined, across-least}
 use Rattle.vx_laws.proofs.Parts.{InRange, single, from_single, weaker, has-holds, one-worker, some-workers, or-cases, list_all-weaken, single-of, weaker-of, has-holds-of, part-map}
@@ -23,7 +23,6 @@ use Rattle.vx_laws.proofs.Unary.{some-is, through-holds, linear-part, through-or
 use Rattle.vx_laws.proofs.Widths.{some-of, firsts-all, picks-wide}
 use Rattle.vx_laws.proofs.Apart.{firsts-same, picks-same, firsts-joined, firsts-sorted, distinct-key}
 use Rattle.vx_laws.proofs.Groups.{groups, groups-same, groups-joined, fits-joined, fits-same-rows, firsts-in-stream, groups-in-stream, groups-sorted, groups-key, apart-ways, extended-sorted, copied-below}
-use Rattle.vx_laws.proofs.JoinOrder.{wide}
 use Rattle.vx_laws.proofs.Exchange.{Dealt-same, exchange-any, broadcast-all, routed-in-stream, single-sorted}
 use Rattle.vx_plan_nodes.specs.Phases.{first_columns, merged, is_partial, is_final, is_open, opens, Parts, spoken, Gives, listed}
 use Rattle.vx_laws.proofs.Opened.{closed-spoken, closed-gives, gives-closed, closed-listed, opened, Gives-order, final-serial}

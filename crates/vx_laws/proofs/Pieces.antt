@@ -312,10 +312,6 @@ pieces-all q (t ∷ ts) h = and-both (list_all q t.1) _ (front q t.1 (all-in ts)
     back q [] ys h = h
     back q (x ∷ xs) ys h = back q xs ys (and-right (q x) (list_all q (xs ++ ys)) h)
 
-all-pieces : (q : Row → Bool) (ts : List Piece) → list_all (λ (t : Piece). list_all q t.1) ts ≡ true → list_all q (all-in ts) ≡ true
-all-pieces q [] h = refl
-all-pieces q (t ∷ ts) h = list_all-append q t.1 (all-in ts) (and-left (list_all q t.1) (list_all (λ (t : Piece). list_all q t.1) ts) h) (all-pieces q ts (and-right (list_all q t.1) (list_all (λ (t : Piece). list_all q t.1) ts) h))
-
 both-all : {X : Type 0} (p q : X → Bool) (xs : List X) → list_all p xs ≡ true → list_all q xs ≡ true → list_all (λ x. p x && q x) xs ≡ true
 both-all p q [] h k = refl
 both-all p q (x ∷ xs) h k =

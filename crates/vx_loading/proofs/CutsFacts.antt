@@ -1,18 +1,8 @@
 -- One more place at which a text is cut.
-use Rattle.std.proofs.Common.{◌≡◌, ℕ, ◌+◌, ◌-◌, ◌<◌, ◌≤◌, List, [], ◌∷◌, ◌++◌, true, refl, sym, ap, subst, ◌∙◌, arith, length, drop, get_or, inl, inr}
+use Rattle.std.proofs.Common.{◌≡◌, ℕ, ◌+◌, ◌-◌, ◌<◌, ◌≤◌, List, [], ◌∷◌, ◌++◌, true, sym, ap, subst, ◌∙◌, arith, length, drop, get_or, inl, inr}
 use Rattle.std.proofs.lemmas.List.{length_push, get_or_append_left, get_or_push, drop_all}
 use Rattle.std.proofs.lemmas.Bool.{cases_lt}
 use Rattle.vx_loading.specs.Pieces.{may_cut_before, AreCuts}
-
-pub first_cuts : (text : List ℕ) → AreCuts text (0 ∷ []) 0
-first_cuts text = record {
-  some = omega arith;
-  start = refl;
-  rise = λ i h. absurd (omega arith);
-  within = λ i h. let e : i ≡ 0 = omega arith in subst (λ k. get_or (0 ∷ []) k 0 ≤ length text) (sym e) (omega arith);
-  cut = λ i h l. absurd (omega arith);
-  last = refl;
-}
 
 module _ (text cuts : List ℕ) (last next : ℕ) where
   before : (i : ℕ) → i < length cuts → get_or (cuts ++ next ∷ []) i 0 ≡ get_or cuts i 0

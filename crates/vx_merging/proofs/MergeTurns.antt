@@ -221,25 +221,6 @@ module _ (s : MergeView) (earlier passed ys : List Row) (h : IsMerged s earlier 
           (subst (λ (n : ℕ). HasMerged (record { lefts = s.lefts; rights = s.rights; key = key; start = c; end = n }) ls rs) f
           (subst (λ (n : ℕ). HasMerged (record { lefts = s.lefts; rights = s.rights; key = key; start = n; end = b }) ls rs) e m))
 
--- inputs that ended
-pub left-ended : (s : MergeView) (ls rs ys : List Row) → HasJoined s ls rs ys → HasJoined (record s { left_ended = true }) ls rs ys
-left-ended s ls rs ys h = record {
-  earlier = h.earlier;
-  passed = h.passed;
-  left_is = h.left_is;
-  right_is = h.right_is;
-  is = record { left_edge = h.is.left_edge; right_edge = h.is.right_edge; rises = h.is.rises; merged = λ n. h.is.merged (λ _. n refl); holds = h.is.holds };
-}
-
-pub right-ended : (s : MergeView) (ls rs ys : List Row) → HasJoined s ls rs ys → HasJoined (record s { right_ended = true }) ls rs ys
-right-ended s ls rs ys h = record {
-  earlier = h.earlier;
-  passed = h.passed;
-  left_is = h.left_is;
-  right_is = h.right_is;
-  is = record { left_edge = h.is.left_edge; right_edge = h.is.right_edge; rises = h.is.rises; merged = h.is.merged; holds = λ more e up. h.is.holds more (λ _. e refl) up };
-}
-
 module _ (s : MergeView) (ls rs ys : List Row) (h : HasJoined s ls rs ys) where
   all-right : (h.passed ++ s.right.rows) ++ [] ≡ rs
   all-right = append-nil (h.passed ++ s.right.rows) ∙ h.right_is

@@ -1,6 +1,6 @@
 -- The places of workers, fragment by fragment.
-use Rattle.std.proofs.Common.{ℕ, ◌≡◌, ◌+◌, ◌<◌, ◌≤◌, List, [], ◌∷◌, ◌++◌, length, map, get_or, drop, sym, ap, ◌∙◌, arith, append_assoc, append-nil, length-append}
-use Rattle.std.proofs.lemmas.List.{drop_all, map_push}
+use Rattle.std.proofs.Common.{ℕ, ◌≡◌, ◌+◌, ◌<◌, ◌≤◌, List, [], ◌∷◌, ◌++◌, length, map, get_or, drop, sym, ap, ◌∙◌, arith, append_assoc, length-append}
+use Rattle.std.proofs.lemmas.List.{map_push}
 use Rattle.vx_rows.specs.Lists.{each_below}
 use Rattle.vx_plan_nodes.specs.Plan.{Plan, scan, unary, binary, exchange}
 use Rattle.vx_plan_nodes.specs.Numbering.{nodes}
@@ -35,8 +35,3 @@ pub one-fragment : (fragments : List ℕ) (f n : ℕ) (old new all : List (ℕ �
 one-fragment fragments f n old new all lt is e was =
     let rest = places_from (f + 1) (drop (f + 1) fragments) in
     ap (λ z. z ++ rest) e ∙ append_assoc old (each_below n (λ i. (f, i))) rest ∙ ap (λ z. old ++ places_from f z) (sym (next-at fragments f n lt is)) ∙ was
-
--- no fragment is left
-pub all-fragments : (fragments : List ℕ) (f : ℕ) (old all : List (ℕ × ℕ)) → length fragments ≤ f → old ++ places_from f (drop f fragments) ≡ all → old ≡ all
-all-fragments fragments f old all past was =
-    sym (append-nil old) ∙ ap (λ z. old ++ places_from f z) (sym (drop_all f fragments past)) ∙ was

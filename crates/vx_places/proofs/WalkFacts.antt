@@ -1,6 +1,6 @@
 -- A record as it is read byte by byte, where the bytes are known.
 use Rattle.std.proofs.Common.{◌≡◌, ℕ, ◌+◌, List, [], ◌∷◌, ◌++◌, append_assoc, Option, Some, None, Bool, true, false, cond, refl, sym, subst, ◌∙◌, arith}
-use Rattle.std.specs.Prelude.{count_by, if◌then◌else◌, IfSome}
+use Rattle.std.specs.Prelude.{count_by, if◌then◌else◌}
 use Rattle.std.proofs.lemmas.List.Sums.{sum_by-append}
 use Rattle.csv.specs.Machine.{next_record, step, is_end, ends_at_end, fields_after, field_after}
 use Rattle.csv.specs.Reading.{default_config}
@@ -40,11 +40,6 @@ line_more line first c front h =
     let more = sum_by-append (λ x. cond (is_feed x) 1 0) front (c ∷ []) in
     let one = counted line c 0 in
     rw more (omega (arith, h, one))
-
--- before the first byte
-pub walked_none : (start : State) (line : ℕ) (known : Option (List ℕ)) → is_between start ≡ true → IfBoth known known (Walked start start [] [] line line line)
-walked_none start line None b = tt
-walked_none start line (Some xs) b = record { same = refl; begins = rw b (refl, refl); front = []; cut = refl; lines = omega arith }
 
 next_goes : (s : State) (fields : List (List ℕ)) (field : List ℕ) (c : ℕ) (ys : List ℕ) → is_end (step default_config s c).1 ≡ false
     → next_record default_config s fields field (c ∷ ys) ≡ next_record default_config (step default_config s c).0 (fields_after (step default_config s c).1 fields field) (field_after (step default_config s c).1 c field) ys
@@ -172,8 +167,3 @@ pub done_passes : (all new : Option (List ℕ)) (start s : State) (fields : List
 done_passes None new start s fields first next begin d = tt
 done_passes (Some xs) None start s fields first next begin d = absurd d
 done_passes (Some xs) (Some ys) start s fields first next begin d = d.passes
-
-pub done_begins : (all new : Option (List ℕ)) (start s : State) (fields : List (List ℕ)) (first next begin : ℕ) → IfBoth all new (Done start fields s first next begin) → IfSome all (λ xs. begin ≡ begins_on first xs)
-done_begins None new start s fields first next begin d = tt
-done_begins (Some xs) None start s fields first next begin d = absurd d
-done_begins (Some xs) (Some ys) start s fields first next begin d = d.begins

@@ -57,15 +57,6 @@ halves-eq [] r (y ∷ f) b e = absurd (omega (arith, e))
 halves-eq (x ∷ s) r [] b e = absurd (omega (arith, e))
 halves-eq (x ∷ s) r (y ∷ f) b e = ap (λ (z : Bool). nat_eq x y && z) (halves-eq s r f b (omega (arith, e))) ∙ both-eq (nat_eq x y) (bytes_eq s f) (bytes_eq r b)
 
-pub short-eq : (t f b : List ℕ) → length t < length f → bytes_eq t (f ++ b) ≡ false
-short-eq t [] b h = absurd (omega (arith, h))
-short-eq [] (y ∷ f) b h = refl
-short-eq (x ∷ t) (y ∷ f) b h = ap (λ (z : Bool). nat_eq x y && z) (short-eq t f b (omega (arith, h))) ∙ never (nat_eq x y)
-  where
-    never : (p : Bool) → (p && false) ≡ false
-    never true = refl
-    never false = refl
-
 pub backs-equal : (t s r f b : List ℕ) (q : Bool) → t ≡ s ++ r → length s ≡ length f → true ≡ bytes_eq s f → q ≡ bytes_eq r b → q ≡ bytes_eq t (f ++ b)
 backs-equal t s r f b q cut long same e =
     e ∙ sym (ap (λ (u : List ℕ). bytes_eq u (f ++ b)) cut ∙ (halves-eq s r f b long ∙ ap (λ (z : Bool). z && bytes_eq r b) (sym same)))

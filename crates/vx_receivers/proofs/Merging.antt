@@ -1,7 +1,7 @@
 -- A merge, step by step.
-use Rattle.std.proofs.Common.{ℕ, ◌≡◌, ◌<◌, ◌==◌, inl, inr, refl, sym, ap, ap₂, ◌∙◌, arith, subst, List, [], ◌∷◌, ◌++◌, Bool, true, false, map, append-nil, append_assoc, true≢false}
+use Rattle.std.proofs.Common.{ℕ, ◌≡◌, ◌<◌, ◌==◌, inl, inr, refl, sym, ap, ap₂, ◌∙◌, subst, List, [], ◌∷◌, ◌++◌, Bool, true, false, map, append-nil, append_assoc, true≢false}
 use Rattle.std.specs.List.{list_all}
-use Rattle.std.proofs.lemmas.Bool.Decides.{nat_tests, eqb_tells}
+use Rattle.std.proofs.lemmas.Bool.Decides.{eqb_tells}
 use Rattle.std.specs.Ordering.{is_le}
 use Rattle.vx_values.specs.Values.{Row}
 use Rattle.vx_values.proofs.Booleans.{and-left, and-right, and-both}
@@ -50,9 +50,6 @@ between cols (g ∷ gs) x y zs h k l =
     and-both (list_all (le cols g) (gs ++ x ∷ y ∷ zs)) (sorted cols (gs ++ x ∷ y ∷ zs))
     (all-append (le cols g) gs (x ∷ y ∷ zs) (all-left (le cols g) gs (x ∷ []) below) (and-both (le cols g x) (list_all (le cols g) (y ∷ zs)) here (all-right (le cols g) gs (y ∷ zs) above)))
     (between cols gs x y zs (and-right (list_all (le cols g) (gs ++ x ∷ [])) (sorted cols (gs ++ x ∷ [])) h) (and-right (list_all (le cols g) (gs ++ y ∷ zs)) (sorted cols (gs ++ y ∷ zs)) k) l)
-
-eqb-same : (i : ℕ) → (i == i) ≡ true
-eqb-same i = grind (arith, nat_tests)
 
 -- a shuffle goes on with rows of one stream
 pub deal-more : (n p : ℕ) (s : Streams) (out xs : List Row) → p < n → Dealt n out s → Dealt n (out ++ xs) (with_more s p xs)

@@ -1,5 +1,5 @@
 -- Lists in which each element stands in a relation to all later ones: one more element, and which elements they have.
-use Rattle.std.proofs.Common.{ℕ, zero, suc, ◌≡◌, ◌≤◌, ◌⊎◌, inl, inr, refl, arith, List, [], ◌∷◌, length, All}
+use Rattle.std.proofs.Common.{ℕ, zero, suc, ◌≡◌, ◌≤◌, ◌⊎◌, inl, inr, arith, List, [], ◌∷◌, length, All}
 use Rattle.std.specs.List.{AllWithin, AllPairs, Contains, insert}
 use Rattle.std.proofs.lemmas.List.Elements.{All-cons}
 use Rattle.std.proofs.lemmas.List.Kept.{AllPairs-cons}
@@ -35,12 +35,6 @@ has-tail y ys x h = let l = h.1 in (suc h.0, omega (arith, l), h.2)
 pub has-either : {X : Type 0} (y : X) (ys : List X) (x : X) → Contains (y ∷ ys) x → (y ≡ x) ⊎ Contains ys x
 has-either y ys x (zero, l, e) = inl e
 has-either y ys x (suc k, l, e) = inr (k, omega (arith, l), e)
-
-pub has-inserted : {X : Type 0} (xs : List X) (k : ℕ) (x : X) → Contains (insert xs k x) x
-has-inserted [] zero x = (zero, omega arith, refl)
-has-inserted [] (suc k) x = (zero, omega arith, refl)
-has-inserted (y ∷ ys) zero x = (zero, omega arith, refl)
-has-inserted (y ∷ ys) (suc k) x = has-tail y (insert ys k x) x (has-inserted ys k x)
 
 pub has-kept : {X : Type 0} (xs : List X) (k : ℕ) (x y : X) → Contains xs y → Contains (insert xs k x) y
 has-kept [] k x y (n, l, e) = absurd (omega (arith, l))

@@ -44,19 +44,6 @@ added-order cols hs order p place o r l a b = record {
   rises = pairs-insert (Precedes cols hs) order place p o.rises a b l;
 }
 
--- one more row of producer p goes before
-pub run-more : (cols : List ℕ) (hs : List Head) (p q i : ℕ) → ((k : ℕ) → position_at hs p ≤ k → k < i → is_le (compare_on cols (get_or (held_at hs p) k []) (next_at hs q)) ≡ true)
-    → GoesBefore cols (get_or (held_at hs p) i []) p (next_at hs q) q → (k : ℕ) → position_at hs p ≤ k → k < i + 1 → is_le (compare_on cols (get_or (held_at hs p) k []) (next_at hs q)) ≡ true
-run-more cols hs p q i h g k a b =
-    by-order k i (h k a) (λ le. let e : i ≡ k = omega (arith, le, b) in subst (λ n. is_le (compare_on cols (get_or (held_at hs p) n []) (next_at hs q)) ≡ true) e g.le)
-
-pub run-starts : (cols : List ℕ) (hs : List Head) (p q : ℕ) (h : Head) → slice_get hs p ≡ Some h → Precedes cols hs p q → (k : ℕ) → position_at hs p ≤ k → k < h.at + 1
-    → is_le (compare_on cols (get_or (held_at hs p) k []) (next_at hs q)) ≡ true
-run-starts cols hs p q h e g k a b =
-    let at : h.at ≤ k = rw e at a in
-    let i : h.at ≡ k = omega (arith, at, b) in
-    subst (λ n. is_le (compare_on cols (get_or (held_at hs p) n []) (next_at hs q)) ≡ true) i (subst (λ x. is_le (compare_on cols x (next_at hs q)) ≡ true) (sym (next-is hs p h e)) g.le)
-
 -- what goes before the second of an order goes before all that follow
 pub run-all : (cols : List ℕ) (hs : List Head) (p q : ℕ) (rest : List ℕ) (to : ℕ) → AllPairs (Precedes cols hs) (q ∷ rest) → position_at hs p < to → to ≤ length (held_at hs p)
     → ((k : ℕ) → position_at hs p ≤ k → k < to → is_le (compare_on cols (get_or (held_at hs p) k []) (next_at hs q)) ≡ true) → IsRun cols hs (q ∷ rest) p to
@@ -69,9 +56,6 @@ run-all cols hs p q rest to rises more within least = record {
     go : (k : ℕ) → position_at hs p ≤ k → k < to → (n d : ℕ) → n < length (q ∷ rest) → is_le (compare_on cols (get_or (held_at hs p) k []) (next_at hs (get_or (q ∷ rest) n d))) ≡ true
     go k a b zero d l = least k a b
     go k a b (suc n) d l = le-trans cols (get_or (held_at hs p) k []) (next_at hs q) (next_at hs (get_or rest n d)) (least k a b) (pairs-head (Precedes cols hs) q rest rises n d (omega (arith, l))).le
-
-pub run-alone : (cols : List ℕ) (hs : List Head) (p to : ℕ) → position_at hs p < to → to ≤ length (held_at hs p) → IsRun cols hs [] p to
-run-alone cols hs p to more within = record { more = more; within = within; least = λ k a b n d l. absurd (omega (arith, l)) }
 
 -- the first of an order is not among the others
 pub first-once : (cols : List ℕ) (hs : List Head) (p : ℕ) (rest : List ℕ) → IsOrder cols hs (p ∷ rest) → Contains rest p → ⊥

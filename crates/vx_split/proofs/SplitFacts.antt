@@ -13,10 +13,6 @@ use Rattle.vx_split.proofs.TurnFacts.{left_from, shorter, one_more, none_more, s
 abbrev NoQuote : ℕ → Type 0
 NoQuote d = (d == 34) ≡ false
 
-bool_or : (b : Bool) → (b ≡ true) ⊎ (b ≡ false)
-bool_or true = inl refl
-bool_or false = inr refl
-
 both : (b c : Bool) → not b && c ≡ true → (b ≡ false) × (c ≡ true)
 both true c h = cc
 both false c h = (refl, h)

@@ -1,5 +1,5 @@
 -- Filling a database relation by relation.
-use Rattle.std.proofs.Common.{◌≡◌, ℕ, zero, suc, ◌+◌, ◌<◌, ◌≤◌, List, [], ◌∷◌, Bool, true, false, refl, sym, ap, ◌∙◌, map, length, length-set, arith, slice_index_or, inl, inr, subst}
+use Rattle.std.proofs.Common.{◌≡◌, ℕ, zero, suc, ◌+◌, ◌<◌, List, [], ◌∷◌, Bool, true, false, refl, sym, ap, ◌∙◌, map, length, length-set, arith, slice_index_or, inl, inr, subst}
 use Rattle.std.proofs.lemmas.List.{get_or-set_same, get_or-set_other, get_or_past, length-map}
 use Rattle.std.proofs.lemmas.Bool.{cases_lt}
 use Rattle.vx_values.specs.Values.{Row}
@@ -7,7 +7,7 @@ use Rattle.vx_relations.specs.Relation.{Relation}
 use Rattle.vx_relations.specs.Catalog.{relation_at}
 use Rattle.vx_catalog.specs.Database.{Database, rows_at, with_rows}
 use Rattle.vx_refusals.specs.declared.refusal.Refusal.{Refusal}
-use Rattle.vx_tables.specs.Filled.{IsFilledBy, IsFirstMissingOf, first_missing}
+use Rattle.vx_tables.specs.Filled.{IsFirstMissingOf, first_missing}
 
 -- the scanned relations before this number are filled, and the others are empty
 pub record IsFilledTo (scanned : ℕ → Bool) (holds : Relation → List Row → Type 0) (catalog : List Relation) (db : Database) (i : ℕ) : Type 0 where
@@ -76,16 +76,6 @@ filled_next scanned holds catalog db i rows there scan read so_far =
         | inr k ↦ let e : j ≡ i = omega arith in let long = so_far.many in put_holds holds catalog db i j rows (omega arith) e read
       ];
       left = λ j out. get_or-set_other db.rows i j rows [] (λ e. not_both (scanned i) scan (sym (ap (scanned) e) ∙ out)) ∙ so_far.left j out;
-    }
-
--- all relations
-pub filled_all : (scanned : ℕ → Bool) (holds : Relation → List Row → Type 0) (catalog : List Relation) (db : Database) (i : ℕ) → length catalog ≤ i
-    → IsFilledTo scanned holds catalog db i → IsFilledBy scanned holds db
-filled_all scanned holds catalog db i all so_far =
-    record {
-      many = so_far.many ∙ ap length (sym so_far.same);
-      scanned = λ j h scan. let same = so_far.same in let e : length db.catalog ≡ length catalog = ap length same in rw same (so_far.done j (omega arith) scan);
-      others = so_far.left;
     }
 
 -- the first relation that is at fault

@@ -1,6 +1,6 @@
 -- Each event keeps what a thread's ends carried.
 use Rattle.std.proofs.Common.{ℕ, zero, suc, ◌≡◌, ◌≢◌, ◌<◌, ◌≤◌, ◌⊎◌, true, false, ◌==◌, ◌&&◌, Bool, List, [], ◌∷◌, ◌++◌, length, Option, Some, None, IfSome, IfNone, refl, sym, ap, ◌∙◌, subst, arith, inl, inr, slice_get, eqb-true, true≢false}
-use Rattle.std.proofs.Math.ListN.{get_or, set}
+use Rattle.std.proofs.Math.ListN.{set}
 use Rattle.std.proofs.lemmas.Bool.Decides.{eqb_tells}
 use Rattle.std.proofs.lemmas.Bool.{cases_eq, cases_lt}
 use Rattle.std.proofs.lemmas.Option.{slice_get_within, get_or_from_slice_get}
@@ -25,8 +25,6 @@ use Rattle.vx_ports.specs.declared.port.Put.TheVariants as put
 use Rattle.vx_worker.specs.Trace.{Event}
 use Rattle.vx_worker.specs.Wiring.{PutGives}
 use Rattle.vx_rings.specs.Never.{IsNeverNoMemory}
-use Rattle.vx_decks.specs.Seats.{DeckView}
-use Rattle.vx_threads.specs.Drawers.{SitsAt}
 use Rattle.vx_threads.specs.Carrying.{hold_of, Does, IsFullAt}
 use Rattle.vx_threads.specs.declared.ends.Ends.{Ends}
 use Rattle.vx_threads.proofs.Keeping.{same-self, same-then}
@@ -357,16 +355,6 @@ put-gives old new j p o x (put.Full q) at is h n room = (
   subst (λ z. Carries (hold_of old) idle z) (sym is) (carries-full (hold_of old) j o x at h.1.2 h.1.0),
 )
 put-gives old new j p o x (put.NoMemory q) at is h n room = absurd n
-
--- a seat of a deck stays one
-pub sits-still : (decks : List DeckView) (a b : Dealer) → SameDealer a b → SitsAt decks a → SitsAt decks b
-sits-still decks (dealer.Seat k s) b e h = λ l t is.
-    let same : SameDealer (dealer.Seat k s) (dealer.Seat l t) = subst (λ z. SameDealer (dealer.Seat k s) z) is e in
-    let x = h k s refl in (
-      subst (λ n. n < length decks) (sym same.0) x.0,
-      λ d. (same.1 ∙ (x.1 d).0 ∙ ap (λ n. (get_or decks n d).name) (sym same.0), same.2 ∙ (x.1 d).1 ∙ ap (λ n. (get_or decks n d).morsels) (sym same.0)),
-    )
-sits-still decks (dealer.Hand a) b e h = λ l t is. absurd (subst (λ z. SameDealer (dealer.Hand a) z) is e)
 
 -- no scan has this number
 pub carries-no-scan : (a : Hold) (n : ℕ) → All (λ (x : Drawer). x.scan ≡ n → ⊥) a.draws → Carries a (drew_one n None) a

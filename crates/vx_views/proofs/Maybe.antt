@@ -1,6 +1,6 @@
 -- What holds of a value that may be there.
 use Rattle.std.proofs.Common.{Option, Some, None}
-use Rattle.std.specs.Prelude.{Result, Ok, Err, IfSome, IfNone, IfOk, OnOk, OnErr}
+use Rattle.std.specs.Prelude.{Result, Ok, Err, IfSome, IfNone, OnOk}
 
 pub some_map : {X : Type 0} (P Q : X → Type 0) (o : Option X) → ((x : X) → P x → Q x) → IfSome o P → IfSome o Q
 some_map P Q None f h = tt
@@ -10,14 +10,6 @@ pub none_map : {X : Type 0} (o : Option X) {P Q : Type 0} → (P → Q) → IfNo
 none_map None f h = f h
 none_map (Some x) f h = tt
 
-pub ok_map : {X E : Type 0} (P Q : X → Type 0) (r : Result X E) → ((x : X) → P x → Q x) → IfOk r P → IfOk r Q
-ok_map P Q (Ok x) f h = f x h
-ok_map P Q (Err e) f h = tt
-
 pub on_ok_map : {X E : Type 0} (r : Result X E) {P Q : Type 0} → (P → Q) → OnOk r P → OnOk r Q
 on_ok_map (Ok x) f h = f h
 on_ok_map (Err e) f h = tt
-
-pub on_err_any : {X E : Type 0} (r : Result X E) {P : Type 0} → P → OnErr r P
-on_err_any (Ok x) p = tt
-on_err_any (Err e) p = p

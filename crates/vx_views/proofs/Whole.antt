@@ -1,7 +1,6 @@
 -- Rows of several tables, one behind the other.
-use Rattle.std.proofs.Common.{◌≡◌, ℕ, zero, suc, ◌+◌, ◌-◌, ◌<◌, ◌≤◌, List, [], ◌∷◌, ◌++◌, refl, sym, ap, ◌∙◌, subst, length, get_or, take, drop, map, arith, inl, inr}
+use Rattle.std.proofs.Common.{◌≡◌, ℕ, zero, suc, ◌+◌, ◌-◌, ◌<◌, ◌≤◌, List, [], ◌∷◌, ◌++◌, refl, sym, ap, ◌∙◌, length, get_or, take, drop, map, arith, inl, inr}
 use Rattle.std.specs.Prelude.{slice_range, min, All}
-use Rattle.std.specs.List.{AllByRecursion}
 use Rattle.std.proofs.lemmas.Bool.{cases_lt}
 use Rattle.std.proofs.lemmas.Grind.{flat_map-append}
 use Rattle.std.proofs.lemmas.List.{take_more, append-nil, length-append, length-drop, length-take, same_lists, get_or_append_left, get_or-append_right, get_or-take, get_or-drop, get_or_default, get_or-map, length-map, take-append-drop}
@@ -18,20 +17,6 @@ next-rows ts i t h e =
     ap all_rows (take_more ts i t h)
     ∙ (flat_map-append (λ u. u.rows) (take i ts) (get_or ts i t ∷ [])
     ∙ (ap (λ rs. all_rows (take i ts) ++ rs) (append-nil (get_or ts i t).rows) ∙ ap (λ u. all_rows (take i ts) ++ u.rows) (sym e)))
-
-pub push-rows : (ts : List RowsView) (t : RowsView) → all_rows (ts ++ t ∷ []) ≡ all_rows ts ++ t.rows
-push-rows ts t = flat_map-append (λ u. u.rows) ts (t ∷ []) ∙ ap (λ rs. all_rows ts ++ rs) (append-nil t.rows)
-
-all-both : {X : Type 0} (P : X → Type 0) (xs ys : List X) → AllByRecursion P xs → AllByRecursion P ys → AllByRecursion P (xs ++ ys)
-all-both P [] ys h k = k
-all-both P (x ∷ xs) ys h k = (h.0, all-both P xs ys h.1 k)
-
--- what holds of the rows of tables, and of those of more tables
-pub all-rows-append : (P : Row → Type 0) (ts us : List RowsView) → AllByRecursion P (all_rows ts) → AllByRecursion P (all_rows us) → AllByRecursion P (all_rows (ts ++ us))
-all-rows-append P ts us h k = subst (λ (rs : List Row). AllByRecursion P rs) (sym (flat_map-append (λ (u : RowsView). u.rows) ts us)) (all-both P (all_rows ts) (all_rows us) h k)
-
-pub all-rows-push : (P : Row → Type 0) (ts : List RowsView) (t : RowsView) → AllByRecursion P (all_rows ts) → AllByRecursion P t.rows → AllByRecursion P (all_rows (ts ++ t ∷ []))
-all-rows-push P ts t h k = subst (λ (rs : List Row). AllByRecursion P rs) (sym (push-rows ts t)) (all-both P (all_rows ts) t.rows h k)
 
 -- what lies where a table's rows begin
 pub spot-row : (ts : List RowsView) (i k p : ℕ) (t : RowsView) → k < length ts → t ≡ get_or ts k t → p < length t.rows → i ≡ length (all_rows (take k ts)) + p → get_or (all_rows ts) i [] ≡ get_or t.rows p []

@@ -1,7 +1,6 @@
 -- What is marked as ended stays so while more is drawn and taken.
 use Rattle.std.proofs.Common.{ℕ, ◌≡◌, ◌==◌, inl, inr, refl, sym, ap, ◌∙◌, subst, Bool, true, false, true≢false, ◌||◌, List, [], ◌∷◌, ◌++◌, Option, Some, None, map}
 use Rattle.std.proofs.lemmas.Bool.Decides.{eqb_tells}
-use Rattle.std.proofs.lemmas.List.Folds.{list_any-append}
 use Rattle.std.proofs.lemmas.List.Elements.{All-map}
 use Rattle.std.specs.List.{All, list_any}
 use Rattle.vx_ports.specs.Packets.{PacketView, closes, is_closed}
@@ -18,10 +17,6 @@ or-true false = refl
 or-right : (a b c : Bool) → (b ≡ true → c ≡ true) → (a || b) ≡ true → (a || c) ≡ true
 or-right true b c f e = refl
 or-right false b c f e = f e
-
-or-left : (a c : Bool) → c ≡ false → (a || (c || false)) ≡ true → a ≡ true
-or-left true c e h = refl
-or-left false c e h = absurd (true≢false (sym h ∙ ap (λ b. b || false) e))
 
 -- a closed list stays closed
 closed-append : (ps qs : List PacketView) → is_closed ps ≡ true → is_closed (ps ++ qs) ≡ true
@@ -85,27 +80,6 @@ pub intake-kept : (old new : Intake) (t : Trace) (e : Event) → new.inputs.item
 intake-kept old new t e a b h = record {
   scans = λ n m. met-kept t e n (h.scans n (ap (λ xs. list_any (λ y. y == n) xs) (sym b) ∙ m));
   inputs = subst (λ xs. MarksStand xs (added t e)) (sym a) (marks-added old.inputs.items t e h.inputs);
-}
-
--- the other scans are marked as before
-was-met : (old new : Intake) (k n : ℕ) → new.finished.items ≡ old.finished.items ++ k ∷ [] → ((n ≡ k) → ⊥) → has_met_end new n ≡ true → has_met_end old n ≡ true
-was-met old new k n b ne m = elim (eqb_tells k n) [
-  | inl d ↦ absurd (ne (sym d.1))
-  | inr d ↦
-      let s : (list_any (λ y. y == n) old.finished.items || (k == n || false)) ≡ true =
-      sym (list_any-append (λ y. y == n) old.finished.items (k ∷ [])) ∙ ap (λ xs. list_any (λ y. y == n) xs) (sym b) ∙ m in
-      or-left (list_any (λ y. y == n) old.finished.items) (k == n) d.0 s
-]
-
--- a scan whose end was met is marked
-pub intake-met : (old new : Intake) (t : Trace) (k : ℕ) → new.inputs.items ≡ old.inputs.items → new.finished.items ≡ old.finished.items ++ k ∷ [] → IntakeStands old t
-    → IntakeStands new (added t (drew_one k None))
-intake-met old new t k a b h = record {
-  scans = λ n m. elim (eqb_tells n k) [
-    | inl d ↦ rw d.0 refl
-    | inr d ↦ rw d.0 (h.scans n (was-met old new k n b d.1 m))
-  ];
-  inputs = subst (λ xs. MarksStand xs (added t (drew_one k None))) (sym a) (marks-added old.inputs.items t (drew_one k None) h.inputs);
 }
 
 -- a producer that closed is marked

@@ -55,18 +55,6 @@ failed-later m goes f task x t e is h = record {
   stopped = subst (λ put. Rattle.vx_ends.specs.Tasks.Stopped goes task h.out.rows put) (sym (take-same t e is)) h.stopped;
 }
 
--- only the packets put are seen from another trace with the same draws and takes
-pub failed-same : (m : ℕ → ℕ → List Row) (goes : Routing) (f : Frag) (task : Task) (x : Fault) (t : Trace) (put : ℕ → List PacketView) → t.sent ≡ put → HasFailedBy m goes f task x t
-    → HasFailedBy m goes f task x (record t { sent = put })
-failed-same m goes f task x t put e h = record {
-  reads = h.reads;
-  reads_begin = record { scanned = h.reads_begin.scanned; came = h.reads_begin.came };
-  out = h.out;
-  abides = h.abides;
-  why = h.why;
-  stopped = subst (λ sent. Rattle.vx_ends.specs.Tasks.Stopped goes task h.out.rows sent) e h.stopped;
-}
-
 -- it holds packets that close, and nothing else
 pub closing-fails : {O S : Type 0} (w : Worker O S) (p : Post) → w.pending ≡ None → w.closing.items ≡ closing_of p → IsClosing w
 closing-fails w p pending closing = record {
