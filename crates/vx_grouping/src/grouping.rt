@@ -15,6 +15,7 @@ ghost use Rattle.vx_grouping.specs.Shown.{held, all_shown};
 ghost use Rattle.vx_grouping.specs.GroupFaults.{GroupBlame, TakeBlame, EndBlame, StepsBlame, CellsBlame};
 
 use crate::accumulator::{Accumulator, GroupFault};
+use crate::group::Group;
 use crate::operands::Operands;
 use std::alloc::{AllocError, Global};
 use std::marker::Model;
@@ -33,7 +34,7 @@ pub struct Grouping {
     by: Vec<usize>,
     aggregates: Vec<Aggregate>,
     keys: Keys,
-    groups: Vec<Vec<Accumulator>>,
+    groups: Vec<Group>,
     failed: Option<GroupFault>,
     alloc: Global,
 }
@@ -67,44 +68,10 @@ impl Model for Grouping {
     ghost invariant = { λ g. AreColumns (length g.types.items) g.by.items };
 }
 
-// The aggregates of row i alone.
-fn start_group(
-    alloc: Global,
-    aggregates: &[Aggregate],
-    operands: &Operands<'_>,
-    i: usize,
-) -> Result<Vec<Accumulator>, AllocError>
-    requires { i < length operands.now.rows }
-    ensures { IfOk result (λ v. map held v.items ≡ all_held (map op_of aggregates.now) (row operands.now i ∷ [])) }
-{
-    let mut group = Vec::with_capacity(alloc, aggregates.len())?;
-    for aggregate in aggregates {
-        group.push(Accumulator::of(alloc, *aggregate, operands, i)?)?;
-    }
-    Ok(group)
-}
-
-// The aggregates with row i too. After an `Err` they are arbitrary.
-fn advance_group(
-    alloc: Global,
-    group: &mut Vec<Accumulator>,
-    operands: &Operands<'_>,
-    i: usize,
-) -> Result<(), GroupFault>
-    requires { i < length operands.now.rows }
-    ensures ok { OnOk result (map held group.new.items ≡ map (advance (row operands.now i)) (map held group.old.items)) }
-    ensures err { IfErr result (λ e. StepsBlame e (map held group.old.items)) }
-{
-    for place in 0..group.len() {
-        group[place].add(alloc, operands, i)?;
-    }
-    Ok(())
-}
-
 // Adds row i to the group of this number, or starts the next one with it.
 fn add_row(
     alloc: Global,
-    groups: &mut Vec<Vec<Accumulator>>,
+    groups: &mut Vec<Group>,
     aggregates: &[Aggregate],
     operands: &Operands<'_>,
     i: usize,
@@ -116,10 +83,10 @@ fn add_row(
     ensures err { IfErr result (λ e. StepsBlame e (slice_index_or (all_shown groups.old.items) number [])) }
 {
     if number < groups.len() {
-        advance_group(alloc, &mut groups[number], operands, i)?;
+        groups[number].add(alloc, operands, i)?;
         return Ok(());
     }
-    let group = start_group(alloc, aggregates, operands, i)?;
+    let group = Group::of(alloc, aggregates, operands, i)?;
     groups.push(group)?;
     Ok(())
 }
@@ -127,7 +94,7 @@ fn add_row(
 // Adds the rows of a chunk, each to the group of its key's number. After an `Err` some aggregates may have some of them.
 fn add_numbered(
     alloc: Global,
-    groups: &mut Vec<Vec<Accumulator>>,
+    groups: &mut Vec<Group>,
     aggregates: &[Aggregate],
     chunk: &Chunk,
     numbers: &[usize],
@@ -290,7 +257,7 @@ impl Grouping {
         let mut found = Table::new(self.alloc, types.as_slice())?;
         for number in 0..self.groups.len() {
             let key = self.keys.cells(number)?;
-            let cells = cells_of(key, &self.groups[number])?;
+            let cells = cells_of(key, self.groups[number].accumulators())?;
             found.push_cells(cells.as_slice())?;
         }
         Ok(found)

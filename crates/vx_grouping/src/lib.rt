@@ -2,6 +2,7 @@
 #![tactic(auto)]
 
 mod accumulator;
+mod group;
 mod grouping;
 mod operands;
 mod sum;

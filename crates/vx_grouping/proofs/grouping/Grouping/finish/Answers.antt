@@ -36,8 +36,8 @@ returns-in_err-cells-clause-err c =
     let test = c.loop-number-test.true in
     let within : n < length c.self.inside.groups.items = omega (arith, test, c.len-number-end.ensures) in
     let long = shown-long c.self.inside.groups.items g.groups groups-are in
-    let group-is : map held c.deref-in-loop-number.result.now ≡ get_or g.groups n [] =
-    ap (map held) c.deref-in-loop-number.ensures.value ∙ shown-group c.self.inside.groups.items g.groups n c.index.result.now within c.index.ensures groups-are in
+    let group-is : map held c.accumulators.result.now ≡ get_or g.groups n [] =
+    c.accumulators.ensures ∙ shown-group c.self.inside.groups.items g.groups n c.index.result.now within c.index.ensures groups-are in
     reported c.from_residual-in_err-cells.result e (λ x. (xs : List Row) → HasTaken g xs → EndBlame x g.by g.aggregates xs) c.from_residual-in_err-cells.ensures.1
     (λ xs taken. end-blame e g xs n taken (omega (arith, within, long)) (subst (CellsBlame e) group-is c.in_err-cells.ensures.err))
 
@@ -61,8 +61,8 @@ push_cells-requires c =
     let within : n < length c.self.inside.groups.items = omega (arith, test, c.len-number-end.ensures) in
     let long = shown-long c.self.inside.groups.items g.groups groups-are in
     let even = level g c.requires.rows c.requires.taken in
-    let group-is : map held c.deref-in-loop-number.result.now ≡ get_or g.groups n [] =
-    ap (map held) c.deref-in-loop-number.ensures.value ∙ shown-group c.self.inside.groups.items g.groups n c.index.result.now within c.index.ensures groups-are in
+    let group-is : map held c.accumulators.result.now ≡ get_or g.groups n [] =
+    c.accumulators.ensures ∙ shown-group c.self.inside.groups.items g.groups n c.index.result.now within c.index.ensures groups-are in
     let key-is : map cell_val c.in_ok-key.key.items ≡ get_or g.keys n [] = shown-key c.self.inside.keys g.keys n (map cell_val c.in_ok-key.key.items) c.in_ok-key.ensures keys-are in
     let cells-are : map cell_val c.as_slice-in-loop-number.result.now ≡ key_row (get_or g.keys n []) (get_or g.groups n []) =
     ap (map cell_val) c.as_slice-in-loop-number.ensures.value ∙ (c.in_ok-cells.ensures.cells ∙ (λ i. key_row (key-is i) (group-is i))) in
@@ -80,8 +80,8 @@ loop-number-preserved c =
     let even = level g c.requires.rows c.requires.taken in
     let long = shown-long c.self.inside.groups.items g.groups groups-are in
     let inside : n < length g.groups = omega (arith, within, long) in
-    let group-is : map held c.deref-in-loop-number.result.now ≡ get_or g.groups n [] =
-    ap (map held) c.deref-in-loop-number.ensures.value ∙ shown-group c.self.inside.groups.items g.groups n c.index.result.now within c.index.ensures groups-are in
+    let group-is : map held c.accumulators.result.now ≡ get_or g.groups n [] =
+    c.accumulators.ensures ∙ shown-group c.self.inside.groups.items g.groups n c.index.result.now within c.index.ensures groups-are in
     let key-is : map cell_val c.in_ok-key.key.items ≡ get_or g.keys n [] = shown-key c.self.inside.keys g.keys n (map cell_val c.in_ok-key.key.items) c.in_ok-key.ensures keys-are in
     let cells-are : map cell_val c.as_slice-in-loop-number.result.now ≡ key_row (get_or g.keys n []) (get_or g.groups n []) =
     ap (map cell_val) c.as_slice-in-loop-number.ensures.value ∙ (c.in_ok-cells.ensures.cells ∙ (λ i. key_row (key-is i) (group-is i))) in

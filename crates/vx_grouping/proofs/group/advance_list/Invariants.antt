@@ -2,7 +2,7 @@ use Rattle.std.proofs.Common.{◌≡◌, map, take, drop, length}
 use Rattle.vx_rows.specs.View.{row}
 use Rattle.vx_grouping.specs.Groups.{advance}
 use Rattle.vx_grouping.specs.Shown.{held}
-use Rattle.vx_grouping.proofs.grouping.advance_group.Given as goal
+use Rattle.vx_grouping.proofs.group.advance_list.Given as goal
 
 -- the front is advanced, the rest is as it was
 abbrev pub invariant-loop-place : goal.invariant-loop-place

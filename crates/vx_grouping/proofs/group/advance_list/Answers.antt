@@ -8,7 +8,7 @@ use Rattle.vx_grouping.specs.GroupFaults.{StepBlame, StepsBlame}
 use Rattle.vx_grouping.proofs.FrontFacts.{front-step, rest-same}
 use Rattle.vx_keys.proofs.ErrorFacts.{reported}
 use Rattle.vx_grouping.proofs.BlameFacts.{steps-blame}
-use Rattle.vx_grouping.proofs.grouping.advance_group.Goals as goal
+use Rattle.vx_grouping.proofs.group.advance_list.Goals as goal
 
 pub loop-place-preserved : goal.loop-place-preserved
 loop-place-preserved c =
