@@ -103,7 +103,7 @@ impl Build {
     {
         let mut keys = Keys::with_room(alloc, seed, rows.len());
         let numbers = keys.number_all(rows, columns.as_slice())?;
-        let parts = KeyPlaces::of(alloc, numbers.as_slice())?;
+        let parts = KeyPlaces::of(alloc, numbers)?;
         Ok(Build {
             rows: BuildRows::of(alloc, rows)?,
             columns,

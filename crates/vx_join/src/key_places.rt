@@ -8,7 +8,6 @@ ghost use Rattle.vx_keys.specs.Numbers.{numbers_of};
 ghost use Rattle.vx_join.specs.Parts.{places_in};
 
 use std::alloc::{AllocError, Global};
-use vx_keys::numbers_below;
 
 /// For each key the places of its rows.
 pub(crate) enum KeyPlaces {
@@ -92,15 +91,15 @@ fn listed(lists: &[Vec<usize>], number: usize) -> &[usize]
 }
 
 impl KeyPlaces {
-    /// The places of each key's rows, where these are the numbers of the rows' keys.
-    pub fn of(alloc: Global, numbers: &[usize]) -> Result<KeyPlaces, AllocError>
-        ensures { IfOk result (λ v. (by : List ℕ) (rows : List Row) → numbers.now ≡ numbers_of [] (map (pick by) rows) → places_in v ≡ parts_of by rows) }
+    /// The places of each key's rows, where these are the numbers of the rows' keys. Where these are 0, 1, and so on, they are
+    /// the places too, and no list is made.
+    pub fn of(alloc: Global, numbers: Vec<usize>) -> Result<KeyPlaces, AllocError>
+        ensures { IfOk result (λ v. (by : List ℕ) (rows : List Row) → numbers.items ≡ numbers_of [] (map (pick by) rows) → places_in v ≡ parts_of by rows) }
     {
-        if are_counted(numbers) {
-            let places = numbers_below(alloc, numbers.len())?;
-            return Ok(KeyPlaces::Single(places));
+        if are_counted(numbers.as_slice()) {
+            return Ok(KeyPlaces::Single(numbers));
         }
-        let lists = places_by_number(alloc, numbers)?;
+        let lists = places_by_number(alloc, numbers.as_slice())?;
         Ok(KeyPlaces::Lists(lists))
     }
 

@@ -15,5 +15,4 @@ mod text_keys;
 
 pub use columns::IntColumn;
 pub use keys::Keys;
-pub use row_keys::numbers_below;
 pub use seen::Seen;

@@ -207,8 +207,8 @@ fn keys_of(alloc: Global, chunk: &Chunk, columns: &[usize]) -> Result<Table, All
     Ok(table)
 }
 
-/// 0, 1, and so on, so many.
-pub fn numbers_below(alloc: Global, count: usize) -> Result<Vec<usize>, AllocError>
+// 0, 1, and so on, so many.
+fn numbers_below(alloc: Global, count: usize) -> Result<Vec<usize>, AllocError>
     ensures { IfOk result (λ v. v.items ≡ each_below count (λ k. k)) }
 {
     let mut numbers = Vec::with_capacity(alloc, count)?;
