@@ -1,63 +1,39 @@
 //! The texts of lines and names, worked by hand.
 
-use std::alloc::Global;
 use std::test::Fail;
 use vx_progress::{is_quiet, relation_at, shown_name, shown_text};
 
-// What was read of a file, and its line without what moves the cursor.
-#[derive(Clone, Copy)]
-struct Case<'a> {
-    size: Option<u64>,
-    bytes: u64,
-    lines: u64,
-    line: &'a str,
-}
-
-const fn line_case(size: Option<u64>, bytes: u64, lines: u64, line: &str) -> Case<'_> {
-    Case {
-        size,
-        bytes,
-        lines,
-        line,
-    }
-}
-
-// The line for a case, of a relation tenk1.
-fn line_of(alloc: Global, case: &Case<'_>) -> Result<Vec<u8>, Fail> {
-    Ok(shown_text(alloc, b"tenk1", case.size, case.bytes, case.lines)?)
-}
-
-// Sizes, bytes and lines read so far, and the line for them.
-const LINES: [Case<'static>; 9] = [
-    line_case(
+// The size of a file, the bytes and the lines of it read so far, and the line for them without what moves the cursor.
+const LINES: [(Option<u64>, u64, u64, &str); 9] = [
+    (
         Some(204_000_000),
         104_500_000,
         510_000,
         "tenk1: 104 of 204 MB (51%), 510,000 lines",
     ),
-    line_case(
+    (
         Some(204_999_999),
         204_999_998,
         999,
         "tenk1: 204 of 204 MB (99%), 999 lines",
     ),
-    line_case(
+    (
         Some(1_000_000),
         1_000_000,
         1_000,
         "tenk1: 1 of 1 MB (100%), 1,000 lines",
     ),
-    line_case(
+    (
         Some(999_999),
         9_999,
         12,
         "tenk1: 9 of 999 kB (0%), 12 lines",
     ),
-    line_case(None, 12_345_678, 1_234_567, "tenk1: 12 MB, 1,234,567 lines"),
-    line_case(None, 999_999, 0, "tenk1: 999 kB, 0 lines"),
-    line_case(Some(10), 2_000_000, 10, "tenk1: 2 MB, 10 lines"),
-    line_case(Some(0), 0, 0, "tenk1: 0 kB, 0 lines"),
-    line_case(
+    (None, 12_345_678, 1_234_567, "tenk1: 12 MB, 1,234,567 lines"),
+    (None, 999_999, 0, "tenk1: 999 kB, 0 lines"),
+    (Some(10), 2_000_000, 10, "tenk1: 2 MB, 10 lines"),
+    (Some(0), 0, 0, "tenk1: 0 kB, 0 lines"),
+    (
         Some(18_446_744_073_709_551_615),
         18_446_744_073_709_551_615,
         18_446_744_073_709_551_615,
@@ -67,9 +43,8 @@ const LINES: [Case<'static>; 9] = [
 
 #[test]
 fn lines_say_amounts(rt: HostRuntime) -> Result<(), Fail> {
-    for case in &LINES {
-        let text = line_of(rt.alloc(), case)?;
-        let line = case.line;
+    for (size, bytes, lines, line) in LINES {
+        let text = shown_text(rt.alloc(), b"tenk1", size, bytes, lines)?;
         let wanted = format!(in rt.alloc(); "\r{line}\x1b[K")?;
         assert_eq!(rt; text.as_slice(), wanted.as_bytes());
     }
