@@ -14,9 +14,13 @@ use Rattle.vx_arguments.specs.declared.asked.Limits.{Limits}
 use Rattle.vx_arguments.specs.declared.asked.Asked.{Asked}
 use Rattle.vx_arguments.specs.declared.asked.Asked.TheVariants as asked
 
+-- an option with a value
+abbrev pub named_rule : Text → Rule
+named_rule name = record (new_rule name) { long = Some name; value_names = 1 }
+
 -- an option with a path, which has to be given
 abbrev pub path_rule : Text → Rule
-path_rule name = record (new_rule name) { long = Some name; value_names = 1; required = true }
+path_rule name = record (named_rule name) { required = true }
 
 -- the option of a plan where several may be given, one at least
 abbrev pub plans_rule : Rule
@@ -25,15 +29,15 @@ plans_rule = record (path_rule (codes "plan")) { action = Some Append }
 -- an option with a number of 32 bits, which has a default
 abbrev pub number_rule : Text → Text → Rule
 number_rule name default =
-    record (new_rule name) { long = Some name; value_names = 1; defaults = default ∷ []; parser = Some (parser.Signed (pos 0) (pos 4294967295)) }
+    record (named_rule name) { defaults = default ∷ []; parser = Some (parser.Signed (pos 0) (pos 4294967295)) }
 
 -- the number of rows of a generated relation, a number of 64 bits, which has to be given
 abbrev pub rows_rule : Rule
-rows_rule = record (new_rule (codes "rows")) { long = Some (codes "rows"); value_names = 1; required = true; parser = Some (parser.Unsigned 0 18446744073709551615) }
+rows_rule = record (named_rule (codes "rows")) { required = true; parser = Some (parser.Unsigned 0 18446744073709551615) }
 
 -- an option with a word, which has a default
 abbrev pub word_rule : Text → Text → Rule
-word_rule name default = record (new_rule name) { long = Some name; value_names = 1; defaults = default ∷ [] }
+word_rule name default = record (named_rule name) { defaults = default ∷ [] }
 
 -- an option without a value
 abbrev pub flag_rule : Text → Rule

@@ -1,24 +1,28 @@
 //! The commands of the program and their options, with the help that they show.
 
 ghost use Rattle.std.specs.Prelude.{◌≡◌, IfOk, false, codes};
-ghost use Rattle.std.specs.Result.{IsOkAnd};
-ghost use Rattle.clap.specs.Words.{app_of, rule_of, with_subcommand};
+ghost use Rattle.clap.specs.Words.{App, Rule, app_of, rule_of, new_app, with_rule, with_subcommand};
 ghost use Rattle.clap.specs.declared.builder.command.Command.TheViews.{out-Command as fields_of};
-ghost use Rattle.vx_arguments.specs.Asked.{path_rule, plans_rule, number_rule, rows_rule, word_rule, flag_rule, code_rule, sizes_rule, verbose_rule, drawn_rule, reading_app, judging_app, serial_app, run_app, check_app, explain_app, annotate_app, sql_app, why_app, gen_app, program_app, volcano_app};
+ghost use Rattle.vx_arguments.specs.Asked.{named_rule, path_rule, plans_rule, number_rule, rows_rule, word_rule, flag_rule, code_rule, sizes_rule, verbose_rule, drawn_rule, reading_app, judging_app, serial_app, run_app, check_app, explain_app, annotate_app, sql_app, why_app, gen_app, program_app, volcano_app};
+ghost use Rattle.vx_arguments.specs.Planned.{IsOption, IsCommand};
 
 use clap::{Arg, ArgAction, Command, value_parser};
 use std::alloc::{AllocError, Global};
+
+// An option with a value of this kind.
+fn named_option<'a>(alloc: Global, name: &'a str, kind: &'a str, help: &'a str) -> Arg<'a>
+    ensures rule { rule_of result ≡ named_rule name.entry.now }
+    ensures own { result.global ≡ false }
+{
+    Arg::new(alloc, name).long(name).value_name(kind).help(help)
+}
 
 // A required option with a path.
 fn path_option<'a>(alloc: Global, name: &'a str, kind: &'a str, help: &'a str) -> Arg<'a>
     ensures rule { rule_of result ≡ path_rule name.entry.now }
     ensures own { result.global ≡ false }
 {
-    Arg::new(alloc, name)
-        .long(name)
-        .value_name(kind)
-        .help(help)
-        .required(true)
+    named_option(alloc, name, kind, help).required(true)
 }
 
 // An option with a number, which has a default.
@@ -26,10 +30,7 @@ fn number_option<'a>(alloc: Global, name: &'a str, default: &'a str, help: &'a s
     ensures rule { rule_of result ≡ number_rule name.entry.now default.entry.now }
     ensures own { result.global ≡ false }
 {
-    Arg::new(alloc, name)
-        .long(name)
-        .value_name("N")
-        .help(help)
+    named_option(alloc, name, "N", help)
         .default_value(default)
         .value_parser(value_parser!(u32))
 }
@@ -38,12 +39,14 @@ fn rows_option<'a>(alloc: Global) -> Arg<'a>
     ensures rule { rule_of result ≡ rows_rule }
     ensures own { result.global ≡ false }
 {
-    Arg::new(alloc, "rows")
-        .long("rows")
-        .value_name("N")
-        .help("How many rows the relation has, 0 to 10000000")
-        .required(true)
-        .value_parser(value_parser!(u64))
+    named_option(
+        alloc,
+        "rows",
+        "N",
+        "How many rows the relation has, 0 to 10000000",
+    )
+    .required(true)
+    .value_parser(value_parser!(u64))
 }
 
 // An option with a word, which has a default.
@@ -57,11 +60,7 @@ fn word_option<'a>(
     ensures rule { rule_of result ≡ word_rule name.entry.now default.entry.now }
     ensures own { result.global ≡ false }
 {
-    Arg::new(alloc, name)
-        .long(name)
-        .value_name(kind)
-        .help(help)
-        .default_value(default)
+    named_option(alloc, name, kind, help).default_value(default)
 }
 
 fn mode_option<'a>(alloc: Global) -> Arg<'a>
@@ -103,24 +102,37 @@ fn dialect_option<'a>(alloc: Global) -> Arg<'a>
     )
 }
 
+// An option without a value.
+fn flag_option<'a>(alloc: Global, name: &'a str, help: &'a str) -> Arg<'a>
+    ensures rule { rule_of result ≡ flag_rule name.entry.now }
+    ensures own { result.global ≡ false }
+{
+    Arg::new(alloc, name)
+        .long(name)
+        .help(help)
+        .action(ArgAction::SetTrue)
+}
+
 fn all_option<'a>(alloc: Global) -> Arg<'a>
     ensures rule { rule_of result ≡ flag_rule (codes "all") }
     ensures own { result.global ≡ false }
 {
-    Arg::new(alloc, "all")
-        .long("all")
-        .help("A line for each node of which a claim does not follow, and what follows there")
-        .action(ArgAction::SetTrue)
+    flag_option(
+        alloc,
+        "all",
+        "A line for each node of which a claim does not follow, and what follows there",
+    )
 }
 
 fn verbose_option<'a>(alloc: Global) -> Arg<'a>
     ensures rule { rule_of result ≡ verbose_rule }
     ensures own { result.global ≡ false }
 {
-    Arg::new(alloc, "verbose-errors")
-        .long("verbose-errors")
-        .help("Behind a refusal, a line that says where in the files it was found")
-        .action(ArgAction::SetTrue)
+    flag_option(
+        alloc,
+        "verbose-errors",
+        "Behind a refusal, a line that says where in the files it was found",
+    )
 }
 
 fn stats_option<'a>(alloc: Global) -> Arg<'a>
@@ -152,10 +164,11 @@ fn quiet_option<'a>(alloc: Global) -> Arg<'a>
     ensures rule { rule_of result ≡ flag_rule (codes "quiet") }
     ensures own { result.global ≡ false }
 {
-    Arg::new(alloc, "quiet")
-        .long("quiet")
-        .help("No line on a terminal that says how far a long load is")
-        .action(ArgAction::SetTrue)
+    flag_option(
+        alloc,
+        "quiet",
+        "No line on a terminal that says how far a long load is",
+    )
 }
 
 fn threads_option<'a>(alloc: Global) -> Arg<'a>
@@ -239,6 +252,24 @@ fn data_option<'a>(alloc: Global) -> Arg<'a>
     )
 }
 
+// The command with one option more, where there was memory for the command.
+fn with_option<'a>(
+    command: Result<Command<'a>, AllocError>,
+    option: Arg<'a>,
+) -> Result<Command<'a>, AllocError>
+    ensures { (app : App) (rule : Rule) → IsCommand app command.entry → IsOption rule option.entry → IsCommand (with_rule app rule) result }
+{
+    command?.arg(option)
+}
+
+// A command without options.
+fn bare<'a>(alloc: Global, name: &'a str, about: &'a str, example: &'a str) -> Command<'a>
+    ensures app { app_of result ≡ new_app name.entry.now }
+    ensures local { (fields_of result).has_globals ≡ false }
+{
+    Command::new(alloc, name).about(about).after_help(example)
+}
+
 // A command that reads a catalog.
 fn reading<'a>(
     alloc: Global,
@@ -246,13 +277,10 @@ fn reading<'a>(
     about: &'a str,
     example: &'a str,
 ) -> Result<Command<'a>, AllocError>
-    ensures app { IfOk result (λ c. app_of c ≡ reading_app name.entry.now) }
-    ensures local { IfOk result (λ c. (fields_of c).has_globals ≡ false) }
+    ensures { IsCommand (reading_app name.entry.now) result }
 {
-    Command::new(alloc, name)
-        .about(about)
-        .after_help(example)
-        .arg(catalog_option(alloc))
+    let command = bare(alloc, name, about, example);
+    with_option(Ok(command), catalog_option(alloc))
 }
 
 // A command that reads a catalog and a plan alone.
@@ -262,147 +290,165 @@ fn judging<'a>(
     about: &'a str,
     example: &'a str,
 ) -> Result<Command<'a>, AllocError>
-    ensures app { IfOk result (λ c. app_of c ≡ judging_app name.entry.now) }
-    ensures local { IfOk result (λ c. (fields_of c).has_globals ≡ false) }
+    ensures { IsCommand (judging_app name.entry.now) result }
 {
-    reading(alloc, name, about, example)?.arg(plan_option(alloc))
+    let command = reading(alloc, name, about, example);
+    with_option(command, plan_option(alloc))
 }
 
 fn serial<'a>(alloc: Global) -> Result<Command<'a>, AllocError>
-    ensures app { IfOk result (λ c. app_of c ≡ serial_app) }
-    ensures local { IfOk result (λ c. (fields_of c).has_globals ≡ false) }
+    ensures { IsCommand serial_app result }
 {
-    judging(
+    let command = judging(
         alloc,
         "serial",
         "Evaluates the plan without its exchanges and prints the rows as CSV; the claims of the plan are not checked",
         "Example: volcano serial --catalog catalog.json --plan plan.json --data tables",
-    )?
-    .arg(data_option(alloc))?
-    .arg(threads_option(alloc))?
-    .arg(quiet_option(alloc))?
-    .arg(verbose_option(alloc))
+    );
+    let command = with_option(command, data_option(alloc));
+    let command = with_option(command, threads_option(alloc));
+    let command = with_option(command, quiet_option(alloc));
+    with_option(command, verbose_option(alloc))
 }
 
-fn run<'a>(alloc: Global) -> Result<Command<'a>, AllocError>
-    ensures app { IfOk result (λ c. app_of c ≡ run_app) }
-    ensures local { IfOk result (λ c. (fields_of c).has_globals ≡ false) }
+fn packet_option<'a>(alloc: Global) -> Arg<'a>
+    ensures rule { rule_of result ≡ number_rule (codes "packet") (codes "256") }
+    ensures own { result.global ≡ false }
 {
-    reading(
-        alloc,
-        "run",
-        "Runs a plan that the checker accepts, with many workers, and prints the rows as CSV",
-        "Example: volcano run --catalog catalog.json --plan plan.json --data tables many=4",
-    )?
-    .arg(plans_option(alloc))?
-    .arg(data_option(alloc))?
-    .arg(number_option(
+    number_option(
         alloc,
         "packet",
         "256",
         "The most rows in a packet, 1 to 4096",
-    ))?
-    .arg(number_option(
+    )
+}
+
+fn morsel_option<'a>(alloc: Global) -> Arg<'a>
+    ensures rule { rule_of result ≡ number_rule (codes "morsel") (codes "1024") }
+    ensures own { result.global ≡ false }
+{
+    number_option(
         alloc,
         "morsel",
         "1024",
         "The rows of a morsel of a scan, 1 to 1000000",
-    ))?
-    .arg(number_option(
+    )
+}
+
+fn slack_option<'a>(alloc: Global) -> Arg<'a>
+    ensures rule { rule_of result ≡ number_rule (codes "slack") (codes "8") }
+    ensures own { result.global ≡ false }
+{
+    number_option(
         alloc,
         "slack",
         "8",
         "The most packets that wait between two workers, 1 to 1024",
-    ))?
-    .arg(mode_option(alloc))?
-    .arg(threads_option(alloc))?
-    .arg(quiet_option(alloc))?
-    .arg(stats_option(alloc))?
-    .arg(verbose_option(alloc))?
-    .arg(sizes_argument(alloc))
+    )
+}
+
+fn run<'a>(alloc: Global) -> Result<Command<'a>, AllocError>
+    ensures { IsCommand run_app result }
+{
+    let command = reading(
+        alloc,
+        "run",
+        "Runs a plan that the checker accepts, with many workers, and prints the rows as CSV",
+        "Example: volcano run --catalog catalog.json --plan plan.json --data tables many=4",
+    );
+    let command = with_option(command, plans_option(alloc));
+    let command = with_option(command, data_option(alloc));
+    let command = with_option(command, packet_option(alloc));
+    let command = with_option(command, morsel_option(alloc));
+    let command = with_option(command, slack_option(alloc));
+    let command = with_option(command, mode_option(alloc));
+    let command = with_option(command, threads_option(alloc));
+    let command = with_option(command, quiet_option(alloc));
+    let command = with_option(command, stats_option(alloc));
+    let command = with_option(command, verbose_option(alloc));
+    with_option(command, sizes_argument(alloc))
 }
 
 fn check<'a>(alloc: Global) -> Result<Command<'a>, AllocError>
-    ensures app { IfOk result (λ c. app_of c ≡ check_app) }
-    ensures local { IfOk result (λ c. (fields_of c).has_globals ≡ false) }
+    ensures { IsCommand check_app result }
 {
-    judging(
+    let command = judging(
         alloc,
         "check",
         "Says whether every claim of the plan follows: `accepted`, `accepted total`, or the first claim that does not",
         "Example: volcano check --catalog catalog.json --plan plan.json",
-    )?
-    .arg(all_option(alloc))?
-    .arg(verbose_option(alloc))
+    );
+    let command = with_option(command, all_option(alloc));
+    with_option(command, verbose_option(alloc))
 }
 
 fn explain<'a>(alloc: Global) -> Result<Command<'a>, AllocError>
-    ensures app { IfOk result (λ c. app_of c ≡ explain_app) }
-    ensures local { IfOk result (λ c. (fields_of c).has_globals ≡ false) }
+    ensures { IsCommand explain_app result }
 {
-    judging(
+    let command = judging(
         alloc,
         "explain",
         "Prints a plan that the checker accepts: as a text with a line for each node, as JSON, or as a picture for Graphviz",
         "Example: volcano explain --catalog catalog.json --plan plan.json",
-    )?
-    .arg(format_option(alloc))?
-    .arg(drawn_option(alloc))?
-    .arg(verbose_option(alloc))
+    );
+    let command = with_option(command, format_option(alloc));
+    let command = with_option(command, drawn_option(alloc));
+    with_option(command, verbose_option(alloc))
 }
 
 fn annotate<'a>(alloc: Global) -> Result<Command<'a>, AllocError>
-    ensures app { IfOk result (λ c. app_of c ≡ annotate_app) }
-    ensures local { IfOk result (λ c. (fields_of c).has_globals ≡ false) }
+    ensures { IsCommand annotate_app result }
 {
-    judging(
+    let command = judging(
         alloc,
         "annotate",
         "Prints the plan, as JSON, with the claims that follow at each node in place of its own",
         "Example: volcano annotate --catalog catalog.json --plan plan.json",
-    )?
-    .arg(verbose_option(alloc))
+    );
+    with_option(command, verbose_option(alloc))
 }
 
 fn sql<'a>(alloc: Global) -> Result<Command<'a>, AllocError>
-    ensures app { IfOk result (λ c. app_of c ≡ sql_app) }
-    ensures local { IfOk result (λ c. (fields_of c).has_globals ≡ false) }
+    ensures { IsCommand sql_app result }
 {
-    judging(
+    let command = judging(
         alloc,
         "sql",
         "Prints the plan without its exchanges as one statement of SQL; the claims of the plan are not checked",
         "Example: volcano sql --catalog catalog.json --plan plan.json --dialect postgres",
-    )?
-    .arg(dialect_option(alloc))?
-    .arg(verbose_option(alloc))
+    );
+    let command = with_option(command, dialect_option(alloc));
+    with_option(command, verbose_option(alloc))
 }
 
 fn why<'a>(alloc: Global) -> Result<Command<'a>, AllocError>
-    ensures app { IfOk result (λ c. app_of c ≡ why_app) }
-    ensures local { IfOk result (λ c. (fields_of c).has_globals ≡ false) }
+    ensures { IsCommand why_app result }
 {
-    Command::new(alloc, "why")
-        .about("Says what a refusal of this code means, its usual causes and its cure")
-        .after_help("Example: volcano why K4")
-        .arg(code_argument(alloc))
+    let command = bare(
+        alloc,
+        "why",
+        "Says what a refusal of this code means, its usual causes and its cure",
+        "Example: volcano why K4",
+    );
+    with_option(Ok(command), code_argument(alloc))
 }
 
 fn generate<'a>(alloc: Global) -> Result<Command<'a>, AllocError>
-    ensures app { IfOk result (λ c. app_of c ≡ gen_app) }
-    ensures local { IfOk result (λ c. (fields_of c).has_globals ≡ false) }
+    ensures { IsCommand gen_app result }
 {
-    Command::new(alloc, "gen")
-        .about(
-            "Prints a relation to measure on, as CSV, of which each value is a formula on the row's number",
-        )
-        .after_help("Example: volcano gen --rows 10000")
-        .arg(rows_option(alloc))
+    let command = bare(
+        alloc,
+        "gen",
+        "Prints a relation to measure on, as CSV, of which each value is a formula on the row's number",
+        "Example: volcano gen --rows 10000",
+    );
+    with_option(Ok(command), rows_option(alloc))
 }
 
 // The program without its commands. `tools/install` writes the commit over the words in brackets of its version, in as many bytes.
 fn program<'a>(alloc: Global) -> Command<'a>
-    ensures { app_of result ≡ program_app }
+    ensures app { app_of result ≡ program_app }
+    ensures local { (fields_of result).has_globals ≡ false }
 {
     Command::new(alloc, "volcano")
         .version("0.1.0 (built here; tools/install notes the commit here)")
@@ -414,27 +460,27 @@ fn program<'a>(alloc: Global) -> Command<'a>
         )
 }
 
-// The program with one command more, where there was memory for that command.
+// The program with one command more, where there was memory for both.
 fn with_command<'a>(
-    program: Command<'a>,
+    program: Result<Command<'a>, AllocError>,
     added: Result<Command<'a>, AllocError>,
 ) -> Result<Command<'a>, AllocError>
-    requires local { IfOk added (λ c. (fields_of c).has_globals ≡ false) }
-    ensures { IfOk result (λ r. IsOkAnd added.entry (λ c. app_of r ≡ with_subcommand (app_of program.entry) (app_of c).top)) }
+    ensures { (app : App) (sub : App) → IsCommand app program.entry → IsCommand sub added.entry → IsCommand (with_subcommand app sub.top) result }
 {
-    program.subcommand(added?)
+    let added = added?;
+    program?.subcommand(added)
 }
 
 /// The command line of the program.
 pub fn command<'a>(alloc: Global) -> Result<Command<'a>, AllocError>
     ensures { IfOk result (λ c. app_of c ≡ volcano_app) }
 {
-    let with_run = with_command(program(alloc), run(alloc))?;
-    let with_serial = with_command(with_run, serial(alloc))?;
-    let with_check = with_command(with_serial, check(alloc))?;
-    let with_explain = with_command(with_check, explain(alloc))?;
-    let with_annotate = with_command(with_explain, annotate(alloc))?;
-    let with_sql = with_command(with_annotate, sql(alloc))?;
-    let with_why = with_command(with_sql, why(alloc))?;
-    with_command(with_why, generate(alloc))
+    let program = with_command(Ok(program(alloc)), run(alloc));
+    let program = with_command(program, serial(alloc));
+    let program = with_command(program, check(alloc));
+    let program = with_command(program, explain(alloc));
+    let program = with_command(program, annotate(alloc));
+    let program = with_command(program, sql(alloc));
+    let program = with_command(program, why(alloc));
+    with_command(program, generate(alloc))
 }

@@ -1,16 +1,6 @@
-use Rattle.std.proofs.Common.{◌≡◌, ◌∙◌, ◌||◌, ap₂, Bool, false}
-use Rattle.std.proofs.lemmas.Result.{IfOk-weaker}
-use Rattle.clap.specs.Words.{with_rule}
-use Rattle.clap.specs.declared.builder.command.Command.TheViews.{out-Command}
 use Rattle.vx_arguments.proofs.command_line.check.Goals as goal
 
-pub returns-clause-app : goal.returns-clause-app
-returns-clause-app c =
-    let own = c.in_ok-arg.ensures.shape c.all_option.ensures.own ∙ ap₂ with_rule c.in_ok-judging.ensures.app c.all_option.ensures.rule in
-    IfOk-weaker c.arg-2.result _ _ (λ r h. h.shape c.verbose_option.ensures.own ∙ ap₂ with_rule own c.verbose_option.ensures.rule) c.arg-2.ensures
-
-pub returns-clause-local : goal.returns-clause-local
-returns-clause-local c =
-    let or = λ (x y : Bool). x || y in
-    let own : (out-Command c.in_ok-arg.field-0).has_globals ≡ false = c.in_ok-arg.ensures.globals ∙ ap₂ or c.in_ok-judging.ensures.local c.all_option.ensures.own in
-    IfOk-weaker c.arg-2.result _ _ (λ r h. h.globals ∙ ap₂ or own c.verbose_option.ensures.own) c.arg-2.ensures
+pub returns : goal.returns
+returns c =
+    let all = c.with_option-command.ensures _ _ c.judging-command.ensures (c.all_option.ensures.rule, c.all_option.ensures.own) in
+    c.with_option.ensures _ _ all (c.verbose_option.ensures.rule, c.verbose_option.ensures.own)

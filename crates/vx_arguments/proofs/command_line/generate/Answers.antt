@@ -1,17 +1,5 @@
--- About and example are no part of what a command reads of its arguments.
-use Rattle.std.proofs.Common.{◌≡◌, ◌∙◌, ◌||◌, ap, ap₂, Bool, false, codes}
-use Rattle.std.proofs.lemmas.Result.{IfOk-weaker}
-use Rattle.clap.specs.Words.{app_of, new_app, with_rule}
-use Rattle.clap.specs.Simple.{app_of_fields}
-use Rattle.clap.specs.declared.builder.command.Command.TheViews.{out-Command}
 use Rattle.vx_arguments.proofs.command_line.generate.Goals as goal
 
-pub returns-clause-app : goal.returns-clause-app
-returns-clause-app c =
-    let start : app_of c.after_help.result ≡ new_app (codes "gen") = ap app_of_fields c.after_help.ensures ∙ (ap app_of_fields c.about.ensures ∙ c.new.ensures.app) in
-    IfOk-weaker c.arg.result _ _ (λ r h. h.shape c.rows_option.ensures.own ∙ ap₂ with_rule start c.rows_option.ensures.rule) c.arg.ensures
-
-pub returns-clause-local : goal.returns-clause-local
-returns-clause-local c =
-    let start : (out-Command c.after_help.result).has_globals ≡ false = ap (λ f. f.has_globals) c.after_help.ensures ∙ (ap (λ f. f.has_globals) c.about.ensures ∙ c.new.ensures.local) in
-    IfOk-weaker c.arg.result _ _ (λ r h. h.globals ∙ ap₂ (λ (x y : Bool). x || y) start c.rows_option.ensures.own) c.arg.ensures
+pub returns : goal.returns
+returns c =
+    c.with_option.ensures _ _ (c.bare-command.ensures.app, c.bare-command.ensures.local) (c.rows_option.ensures.rule, c.rows_option.ensures.own)

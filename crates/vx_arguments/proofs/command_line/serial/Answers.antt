@@ -1,20 +1,8 @@
-use Rattle.std.proofs.Common.{◌≡◌, ◌∙◌, ◌||◌, ap₂, Bool, false}
-use Rattle.std.proofs.lemmas.Result.{IfOk-weaker}
-use Rattle.clap.specs.Words.{with_rule}
-use Rattle.clap.specs.declared.builder.command.Command.TheViews.{out-Command}
 use Rattle.vx_arguments.proofs.command_line.serial.Goals as goal
 
-pub returns-clause-app : goal.returns-clause-app
-returns-clause-app c =
-    let own = c.in_ok-arg.ensures.shape c.data_option.ensures.own ∙ ap₂ with_rule c.in_ok-judging.ensures.app c.data_option.ensures.rule in
-    let threads = c.in_ok-arg-2.ensures.shape c.threads_option.ensures.own ∙ ap₂ with_rule own c.threads_option.ensures.rule in
-    let quiet = c.in_ok-arg-3.ensures.shape c.quiet_option.ensures.own ∙ ap₂ with_rule threads c.quiet_option.ensures.rule in
-    IfOk-weaker c.arg-4.result _ _ (λ r h. h.shape c.verbose_option.ensures.own ∙ ap₂ with_rule quiet c.verbose_option.ensures.rule) c.arg-4.ensures
-
-pub returns-clause-local : goal.returns-clause-local
-returns-clause-local c =
-    let or = λ (x y : Bool). x || y in
-    let own : (out-Command c.in_ok-arg.field-0).has_globals ≡ false = c.in_ok-arg.ensures.globals ∙ ap₂ or c.in_ok-judging.ensures.local c.data_option.ensures.own in
-    let threads : (out-Command c.in_ok-arg-2.field-0).has_globals ≡ false = c.in_ok-arg-2.ensures.globals ∙ ap₂ or own c.threads_option.ensures.own in
-    let quiet : (out-Command c.in_ok-arg-3.field-0).has_globals ≡ false = c.in_ok-arg-3.ensures.globals ∙ ap₂ or threads c.quiet_option.ensures.own in
-    IfOk-weaker c.arg-4.result _ _ (λ r h. h.globals ∙ ap₂ or quiet c.verbose_option.ensures.own) c.arg-4.ensures
+pub returns : goal.returns
+returns c =
+    let data_added = c.with_option-command.ensures _ _ c.judging-command.ensures (c.data_option.ensures.rule, c.data_option.ensures.own) in
+    let threads = c.with_option-command-2.ensures _ _ data_added (c.threads_option.ensures.rule, c.threads_option.ensures.own) in
+    let quiet = c.with_option-command-3.ensures _ _ threads (c.quiet_option.ensures.rule, c.quiet_option.ensures.own) in
+    c.with_option.ensures _ _ quiet (c.verbose_option.ensures.rule, c.verbose_option.ensures.own)

@@ -1,10 +1,11 @@
-use Rattle.std.proofs.Common.{◌≡◌, false}
+use Rattle.std.proofs.Common.{◌∙◌, ◌||◌, ap, ap₂, Bool}
 use Rattle.std.proofs.lemmas.Result.{IfOk-at_ok, IfOk-weaker}
-use Rattle.clap.specs.declared.builder.command.Command.TheBlock.{the_data as Command}
-use Rattle.clap.specs.declared.builder.command.Command.TheViews.{out-Command}
+use Rattle.clap.specs.Words.{App, with_subcommand}
 use Rattle.vx_arguments.proofs.command_line.with_command.Goals as goal
 
 pub returns : goal.returns
-returns c =
-    let local = IfOk-at_ok (λ (a : Command). (out-Command a).has_globals ≡ false) c.in_ok-added.was c.requires.local in
-    rw c.in_ok-added.was (IfOk-weaker c.subcommand.result _ _ (λ r h. h.shape local) c.subcommand.ensures)
+returns c = λ app sub program_is added_is.
+    let so_far = IfOk-at_ok _ c.in_ok-program.was program_is in
+    let more = IfOk-at_ok _ c.in_ok-added.was added_is in
+    IfOk-weaker c.subcommand.result _ _
+    (λ r h. (h.shape more.1 ∙ ap₂ with_subcommand so_far.0 (ap (λ (a : App). a.top) more.0), h.globals ∙ ap₂ (λ (x y : Bool). x || y) so_far.1 more.1)) c.subcommand.ensures
