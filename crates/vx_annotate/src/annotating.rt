@@ -39,7 +39,7 @@ fn found_claims(
     };
     let mut claims = Vec::new(alloc);
     let part = first_part(alloc, typed.root())?;
-    put_claims(alloc, &naming, &mut claims, typed.root(), part)?;
+    put_claims(alloc, &naming, &mut claims, typed.root(), &part)?;
     claims.reverse();
     Ok(claims)
 }

@@ -117,35 +117,44 @@ fn sent_part(
     first_part(alloc, input)
 }
 
+// The claim of a node with this part.
+fn claim_with(
+    alloc: Global,
+    naming: &Naming<'_>,
+    node: &TypedNode,
+    part: &Part,
+) -> Result<FormedClaim, AllocError> {
+    let claim = Claim {
+        part: copied_part(alloc, part)?,
+        order: order_of(alloc, naming.catalog, node)?,
+        keys: keys_of(alloc, naming.catalog, node)?,
+    };
+    naming.named(alloc, &node.head().columns, &claim)
+}
+
 /// Puts the claims of a node and of those below it behind others, in preorder. The node's part is this one.
 pub fn put_claims(
     alloc: Global,
     naming: &Naming<'_>,
     claims: &mut Vec<FormedClaim>,
     node: &TypedNode,
-    part: Part,
+    part: &Part,
 ) -> Result<(), AllocError> {
-    let catalog = naming.catalog;
-    let claim = Claim {
-        part: copied_part(alloc, &part)?,
-        order: order_of(alloc, catalog, node)?,
-        keys: keys_of(alloc, catalog, node)?,
-    };
-    claims.push(naming.named(alloc, &node.head().columns, &claim)?)?;
+    claims.push(claim_with(alloc, naming, node, part)?)?;
     match node {
         TypedNode::Scan(_, _) => Ok(()),
         TypedNode::Unary(_, operator, input) => {
-            let below = input_part(alloc, operator, input, &part)?;
-            put_claims(alloc, naming, claims, input, below)
+            let below = input_part(alloc, operator, input, part)?;
+            put_claims(alloc, naming, claims, input, &below)
         }
         TypedNode::Binary(_, operator, left, right) => {
-            let (first, second) = input_parts(alloc, operator, left, right, &part)?;
-            put_claims(alloc, naming, claims, left, first)?;
-            put_claims(alloc, naming, claims, right, second)
+            let (first, second) = input_parts(alloc, operator, left, right, part)?;
+            put_claims(alloc, naming, claims, left, &first)?;
+            put_claims(alloc, naming, claims, right, &second)
         }
         TypedNode::Exchange(_, exchange, input) => {
-            let below = sent_part(alloc, catalog, exchange, input)?;
-            put_claims(alloc, naming, claims, input, below)
+            let below = sent_part(alloc, naming.catalog, exchange, input)?;
+            put_claims(alloc, naming, claims, input, &below)
         }
     }
 }
