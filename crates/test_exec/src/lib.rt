@@ -20,4 +20,6 @@ mod setups;
 #[cfg(test)]
 mod sizes;
 #[cfg(test)]
+mod texts;
+#[cfg(test)]
 mod worked;
