@@ -1,7 +1,7 @@
 //! Sums that leave 64 bits: in each mode it is the whole sum that counts, and the node is that of the group, also
 //! where two workers fail at once.
 
-use crate::bundles::{MODES, OF_THREE, bundle_of, other_line, written};
+use crate::bundles::{MODES, OF_THREE, bundle_of, compare, written};
 use std::test::Fail;
 use test_runs::{
     BOTH_TOO_LARGE, GROUPED, JOINED_SUMS, LARGE, ROWS_OF_D, SUMS_IN_TWO_PHASES, TOO_LARGE,
@@ -48,8 +48,7 @@ const SUMS: [(&str, &str, &str, &str); 7] = [
 #[test]
 fn a_whole_sum_overflows_in_each_mode(rt: HostRuntime) -> Result<(), Fail> {
     for (plan, rows_of_t, rows_of_d, line) in SUMS {
-        let other = other_line(&rt, plan, (rows_of_t, rows_of_d), OF_THREE, RUNS, line)?;
-        assert_eq!(rt; other, None, "{line}");
+        compare(&rt, plan, (rows_of_t, rows_of_d), OF_THREE, RUNS, line)?;
     }
     Ok(())
 }

@@ -3,14 +3,13 @@
 //! test_faults` does so. A test with `ample` in its name makes the same calls once, and passes only where none of its
 //! allocations is refused.
 
+use crate::bundles::status_of;
 use std::fs::{File, Files};
 use std::process::Abort;
 use std::sync::Wait;
 use std::test::Fail;
 use std::thread::Threads;
-use vx_answer::{Disk, NoClock, answer};
-use vx_bytes::{MemoryIn, Real};
-use vx_seeds::KeySeed;
+use vx_bytes::Real;
 
 // More bytes than a bundle, its answer or a refusal of these tests has.
 const ROOM: usize = 10000;
@@ -61,15 +60,10 @@ fn is_answered<R: Threads + Wait + Sync + Files<File = File> + AllocGlobal + Abo
     let Ok(mut err) = Vec::<u8>::with_capacity(rt.alloc(), ROOM) else {
         return false;
     };
-    let mut input = MemoryIn::new(bundle.as_bytes(), None);
-    let status = answer(
+    let status = status_of(
         rt,
-        &NoClock,
-        rt.alloc(),
-        KeySeed::fixed(),
-        &[],
-        &Disk::new(rt),
-        &mut input,
+        bundle,
+        None,
         &mut Real::new(&mut out),
         &mut Real::new(&mut err),
     );
