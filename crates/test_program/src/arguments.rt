@@ -4,13 +4,13 @@
 ghost use Rattle.std.specs.Prelude.{◌≡◌, option_map, bytes_eq};
 ghost use Rattle.std.specs.List.{find};
 
-use crate::lines::line_of;
+use crate::lines::{line_of, status_of};
+use std::alloc::{AllocError, Global};
 use std::sync::Wait;
 use std::test::Fail;
 use std::thread::Threads;
-use vx_answer::{NoClock, Store, answer};
+use vx_answer::Store;
 use vx_bytes::{MemoryIn, MemoryOut};
-use vx_seeds::KeySeed;
 
 // The relation t(id, k, v), with the key id, and in the order of id.
 const CATALOG: &str =
@@ -96,70 +96,51 @@ const LEAVES: [Leaf<'static>; 5] = [
 // What goes to the output, to the errors, and the status, for arguments over these files and an empty standard input.
 fn line_for<R: Threads + Wait + Sync + AllocGlobal>(
     rt: &R,
-    arguments: &[&str],
+    arguments: &str,
 ) -> Result<String, Fail> {
+    let words = words_of(rt.alloc(), arguments)?;
     let files = Shelf { leaves: &LEAVES };
-    let mut input = MemoryIn::new(b"", None);
-    line_of(rt, arguments, &files, &mut input)
+    line_of(rt, words.as_slice(), &files, &mut MemoryIn::new(b"", None))
 }
 
-// Arguments whose catalog, plan or table fails as it is read, and the line of each refusal.
-const FAILING: [(&[&str], &str); 3] = [
-    (
-        &["check", "--catalog", "cut.json", "--plan", "no"],
-        "|volcano: V3 FileUnreadable path=cut.json\n|3",
-    ),
-    (
-        &["check", "--catalog", "c.json", "--plan", "cut.json"],
-        "|volcano: V3 FileUnreadable path=cut.json\n|3",
-    ),
-    (
-        &[
-            "serial",
-            "--catalog",
-            "c.json",
-            "--plan",
-            "p.json",
-            "--data",
-            "cut",
-        ],
-        "|volcano: C10 ReadFailed\n|3",
-    ),
-];
+// The words of a text.
+fn words_of(alloc: Global, text: &str) -> Result<Vec<&str>, AllocError> {
+    let mut words = Vec::new(alloc);
+    for word in text.split_whitespace() {
+        words.push(word)?;
+    }
+    Ok(words)
+}
+
+// Arguments whose catalog, plan or table fails as it is read, and the line of each refusal, where `\n` stands for the end of a
+// line.
+const FAILING: &str =
+    r"check --catalog cut.json --plan no | |volcano: V3 FileUnreadable path=cut.json\n|3
+check --catalog c.json --plan cut.json | |volcano: V3 FileUnreadable path=cut.json\n|3
+serial --catalog c.json --plan p.json --data cut | |volcano: C10 ReadFailed\n|3";
 
 #[test]
 fn files_that_fail_are_reported(rt: HostRuntime) -> Result<(), Fail> {
-    for (arguments, line) in FAILING {
-        assert_eq!(rt; line_for(&rt, arguments)?.as_str(), line);
+    for case in FAILING.lines() {
+        let (arguments, line) = case.split_once(" | ").unwrap_or((case, ""));
+        let line = line.replace(rt.alloc(), r"\n", "\n")?;
+        assert_eq!(rt; line_for(&rt, arguments)?.as_str(), line.as_str());
     }
     Ok(())
 }
 
 // Arguments that are wrong.
-const WRONG: [&[&str]; 7] = [
-    &["walk"],
-    &["run"],
-    &["check"],
-    &["check", "--catalog", "c.json"],
-    &["serial", "--catalog", "c.json", "--plan", "p.json"],
-    &["check", "--catalog", "c.json", "--plan", "p.json", "more"],
-    &[
-        "run",
-        "--catalog",
-        "c.json",
-        "--data",
-        "d",
-        "--plan",
-        "p.json",
-        "--packet",
-        "4294967296",
-        "many=3",
-    ],
-];
+const WRONG: &str = "walk
+run
+check
+check --catalog c.json
+serial --catalog c.json --plan p.json
+check --catalog c.json --plan p.json more
+run --catalog c.json --data d --plan p.json --packet 4294967296 many=3";
 
 #[test]
 fn wrong_arguments_are_reported(rt: HostRuntime) -> Result<(), Fail> {
-    for arguments in WRONG {
+    for arguments in WRONG.lines() {
         let line = line_for(&rt, arguments)?;
         assert!(rt; line.as_str().starts_with("|error: "), "{line}");
         assert!(rt; line.as_str().ends_with("\n|2"), "{line}");
@@ -168,11 +149,11 @@ fn wrong_arguments_are_reported(rt: HostRuntime) -> Result<(), Fail> {
 }
 
 // Arguments that ask for help or the version, and how the answer begins.
-const HELP: [(&[&str], &str); 3] = [
-    (&["--help"], "Runs query plans in parallel"),
-    (&["check", "--help"], "Says whether every claim"),
+const HELP: [(&str, &str); 3] = [
+    ("--help", "Runs query plans in parallel"),
+    ("check --help", "Says whether every claim"),
     (
-        &["--version"],
+        "--version",
         "volcano 0.1.0 (built here; tools/install notes the commit here)\n",
     ),
 ];
@@ -201,14 +182,10 @@ const COUNTED: [&str; 8] = [
 
 #[test]
 fn statistics_that_cannot_be_written_change_nothing(rt: HostRuntime) -> Result<(), Fail> {
-    let alloc = rt.alloc();
-    let mut out = MemoryOut::new(alloc, 10, 10000);
-    let mut err = MemoryOut::new(alloc, 10, 20);
-    let status = answer(
+    let mut out = MemoryOut::new(rt.alloc(), 10, 10000);
+    let mut err = MemoryOut::new(rt.alloc(), 10, 20);
+    let status = status_of(
         &rt,
-        &NoClock,
-        alloc,
-        KeySeed::fixed(),
         &COUNTED,
         &Shelf { leaves: &LEAVES },
         &mut MemoryIn::new(b"", None),
@@ -216,6 +193,6 @@ fn statistics_that_cannot_be_written_change_nothing(rt: HostRuntime) -> Result<(
         &mut err,
     );
     assert_eq!(rt; status, 0);
-    assert_eq!(rt; str::from_utf8(out.bytes())?, "id,k,v\n1,b,7\n3,c,7\n");
+    assert_eq!(rt; out.bytes(), b"id,k,v\n1,b,7\n3,c,7\n".as_slice());
     Ok(())
 }

@@ -4,14 +4,15 @@
 ghost use Rattle.std.specs.Prelude.{true};
 ghost use Rattle.vx_bytes.specs.Stored.{absent};
 
-use crate::lines::line_of;
+use crate::lines::{line_of, shown};
 use serde_json::Value as Json;
 use std::alloc::Global;
+use std::process::Abort;
 use std::sync::Wait;
 use std::test::Fail;
 use std::thread::Threads;
 use vx_answer::{Refusal, Store, deliver, report};
-use vx_bundle::{Command, Mode, bundle_in};
+use vx_bundle::{Bundle, Command, Mode, bundle_in};
 use vx_bytes::{MemoryIn, MemoryOut};
 use vx_catalog::LoadFault;
 use vx_check::Rule;
@@ -79,12 +80,8 @@ fn keys_are_sent_by_their_bytes(rt: HostRuntime) -> Result<(), Fail> {
     Ok(())
 }
 
-#[test]
-fn members_left_out_have_defaults(rt: HostRuntime) -> Result<(), Fail> {
-    let text =
-        r#"{"command":"explain","catalog":0,"plan":[],"tables":{"a":"x"},"sizes":{"n":4294967295}}"#;
-    let value = Json::from_str(rt.alloc(), text)?;
-    let bundle = bundle_in(rt.alloc(), &value)?.ok_or("a bundle")?;
+// Compares the members of a bundle, of which all that may be left out are.
+fn compare_members(rt: &impl Abort, bundle: &Bundle<'_>) -> Result<(), Fail> {
     let setting = bundle.setting();
     assert_eq!(rt; bundle.command(), Command::Explain);
     assert_eq!(rt; setting.mode(), Mode::Rounds);
@@ -100,14 +97,24 @@ fn members_left_out_have_defaults(rt: HostRuntime) -> Result<(), Fail> {
     Ok(())
 }
 
+#[test]
+fn members_left_out_have_defaults(rt: HostRuntime) -> Result<(), Fail> {
+    let text =
+        r#"{"command":"explain","catalog":0,"plan":[],"tables":{"a":"x"},"sizes":{"n":4294967295}}"#;
+    let value = Json::from_str(rt.alloc(), text)?;
+    let Some(bundle) = bundle_in(rt.alloc(), &value)? else {
+        return Err(Fail::new("a bundle"));
+    };
+    compare_members(&rt, &bundle)
+}
+
 // The status and the line of an answer for outputs with so much room.
 fn delivered(alloc: Global, text: &[u8], room: usize, err_room: usize) -> Result<String, Fail> {
+    let text = Vec::from_slice(alloc, text)?;
     let mut out = MemoryOut::new(alloc, 2, room);
     let mut err = MemoryOut::new(alloc, 10, err_room);
-    let status = deliver(Ok(Vec::from_slice(alloc, text)?), &mut out, &mut err);
-    let out = str::from_utf8(out.bytes())?;
-    let err = str::from_utf8(err.bytes())?;
-    Ok(format!(in alloc; "{out}|{err}|{status}")?)
+    let status = deliver(Ok(text), &mut out, &mut err);
+    shown(alloc, out.bytes(), err.bytes(), status)
 }
 
 #[test]
@@ -131,43 +138,49 @@ fn outputs_that_fail_are_reported(rt: HostRuntime) -> Result<(), Fail> {
     Ok(())
 }
 
-fn reported(alloc: Global, refusal: &Refusal) -> Result<String, Fail> {
+// What is written of a refusal.
+fn reported(alloc: Global, refusal: Refusal) -> MemoryOut {
     let mut err = MemoryOut::new(alloc, 10, 100);
-    report(refusal, &mut err);
-    Ok(String::from_str(alloc, str::from_utf8(err.bytes())?)?)
+    report(&refusal, &mut err);
+    err
+}
+
+// Compares the line of a refusal with a line.
+fn compare(rt: &(impl AllocGlobal + Abort), refusal: Refusal, line: &str) -> Result<(), Fail> {
+    let err = reported(rt.alloc(), refusal);
+    assert_eq!(rt; str::from_utf8(err.bytes())?, line);
+    Ok(())
 }
 
 #[test]
 fn refusals_have_their_lines(rt: HostRuntime) -> Result<(), Fail> {
+    let bad_int = Refusal::Load(LoadFault::BadInt { row: 0, col: 2 });
+    compare(&rt, bad_int, "volcano: C6 BadInt row=0 col=2\n")?;
+    let unmatched = Refusal::Check {
+        rule: Rule::InputsNotMatched,
+        node: 2,
+    };
+    compare(&rt, unmatched, "volcano: K4 InputsNotMatched node=2\n")?;
+    compare(&rt, Refusal::Unfinished, "volcano: V5 Unfinished\n")?;
+    compare(&rt, Refusal::TooLarge, "volcano: V6 TooLarge\n")?;
+    compare(&rt, Refusal::NoMemory, "volcano: X8 NoMemory\n")
+}
+
+#[test]
+fn refusals_have_their_names(rt: HostRuntime) -> Result<(), Fail> {
+    let name = String::from_str(rt.alloc(), "many")?;
+    let missing = Refusal::Run(RunFault::SizeMissing { name });
+    compare(&rt, missing, "volcano: X1 SizeMissing name=many\n")?;
     let name = String::from_str(rt.alloc(), "t")?;
+    compare(
+        &rt,
+        Refusal::NoTable { name },
+        "volcano: V2 NoTable name=t\n",
+    )?;
     let path = String::from_str(rt.alloc(), "a/t.csv")?;
-    let missing = String::from_str(rt.alloc(), "many")?;
-    for (refusal, line) in [
-        (
-            Refusal::Load(LoadFault::BadInt { row: 0, col: 2 }),
-            "volcano: C6 BadInt row=0 col=2\n",
-        ),
-        (
-            Refusal::Check {
-                rule: Rule::InputsNotMatched,
-                node: 2,
-            },
-            "volcano: K4 InputsNotMatched node=2\n",
-        ),
-        (
-            Refusal::Run(RunFault::SizeMissing { name: missing }),
-            "volcano: X1 SizeMissing name=many\n",
-        ),
-        (Refusal::NoTable { name }, "volcano: V2 NoTable name=t\n"),
-        (
-            Refusal::FileUnreadable { path },
-            "volcano: V3 FileUnreadable path=a/t.csv\n",
-        ),
-        (Refusal::Unfinished, "volcano: V5 Unfinished\n"),
-        (Refusal::TooLarge, "volcano: V6 TooLarge\n"),
-        (Refusal::NoMemory, "volcano: X8 NoMemory\n"),
-    ] {
-        assert_eq!(rt; reported(rt.alloc(), &refusal)?.as_str(), line);
-    }
-    Ok(())
+    compare(
+        &rt,
+        Refusal::FileUnreadable { path },
+        "volcano: V3 FileUnreadable path=a/t.csv\n",
+    )
 }

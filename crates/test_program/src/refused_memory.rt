@@ -3,14 +3,13 @@
 //! the same calls once, and passes only where none of its allocations is refused.
 
 use crate::bundles::NoFiles;
+use crate::lines::status_of;
 use std::alloc::Global;
 use std::process::Abort;
 use std::sync::Wait;
 use std::test::Fail;
 use std::thread::Threads;
-use vx_answer::{NoClock, answer};
 use vx_bytes::{MemoryIn, Real};
-use vx_seeds::KeySeed;
 
 // The line of the columns' names.
 const HEADER: &str =
@@ -27,26 +26,6 @@ fn is_whole(text: &[u8]) -> bool {
         && text.len() == HEADER.len() + ROW.len()
 }
 
-// The status for a relation of one row, which is written into memory that is there before.
-fn status_over<R: Threads + Wait + Sync + AllocGlobal>(
-    rt: &R,
-    out: &mut Vec<u8>,
-    err: &mut Vec<u8>,
-) -> u8 {
-    let mut input = MemoryIn::new(b"", None);
-    answer(
-        rt,
-        &NoClock,
-        rt.alloc(),
-        KeySeed::fixed(),
-        &["gen", "--rows", "1"],
-        &NoFiles,
-        &mut input,
-        &mut Real::new(out),
-        &mut Real::new(err),
-    )
-}
-
 // Whether a relation of one row is printed. If not, memory ran out and nothing was printed.
 fn is_printed<R: Threads + Wait + Sync + AllocGlobal + Abort>(rt: &R, alloc: Global) -> bool {
     let Ok(mut out) = Vec::<u8>::with_capacity(alloc, 1000) else {
@@ -55,7 +34,14 @@ fn is_printed<R: Threads + Wait + Sync + AllocGlobal + Abort>(rt: &R, alloc: Glo
     let Ok(mut err) = Vec::<u8>::with_capacity(alloc, 100) else {
         return false;
     };
-    let status = status_over(rt, &mut out, &mut err);
+    let status = status_of(
+        rt,
+        &["gen", "--rows", "1"],
+        &NoFiles,
+        &mut MemoryIn::new(b"", None),
+        &mut Real::new(&mut out),
+        &mut Real::new(&mut err),
+    );
     if status == 0 {
         assert!(rt; is_whole(out.as_slice()));
         assert!(rt; err.is_empty());

@@ -1,33 +1,34 @@
 //! A generated relation into an output that is full before its end.
 
 use crate::bundles::NoFiles;
+use crate::lines::status_of;
+use std::alloc::Global;
 use std::sync::Wait;
 use std::test::Fail;
 use std::thread::Threads;
-use vx_answer::{NoClock, answer};
 use vx_bytes::{MemoryIn, MemoryOut};
-use vx_seeds::KeySeed;
 
-// The errors and the status for as many rows as there may be, into an output with room for so many bytes, all of which it got.
+// How many bytes were written, the errors and the status, as one text.
+fn counted(alloc: Global, out: &[u8], err: &[u8], status: u8) -> Result<String, Fail> {
+    let written = out.len();
+    let err = str::from_utf8(err)?;
+    Ok(format!(in alloc; "{written}|{err}|{status}")?)
+}
+
+// How many bytes are written, the errors and the status for as many rows as there may be, into an output with room for so
+// many bytes.
 fn cut_off<R: Threads + Wait + Sync + AllocGlobal>(rt: &R, room: usize) -> Result<String, Fail> {
-    let mut input = MemoryIn::new(b"", None);
     let mut out = MemoryOut::new(rt.alloc(), 1000, room);
     let mut err = MemoryOut::new(rt.alloc(), 10, 100);
-    let words = ["gen", "--rows", "10000000"];
-    let status = answer(
+    let status = status_of(
         rt,
-        &NoClock,
-        rt.alloc(),
-        KeySeed::fixed(),
-        &words,
+        &["gen", "--rows", "10000000"],
         &NoFiles,
-        &mut input,
+        &mut MemoryIn::new(b"", None),
         &mut out,
         &mut err,
     );
-    let written = out.bytes().len();
-    let err = str::from_utf8(err.bytes())?;
-    Ok(format!(in rt.alloc(); "{written}|{err}|{status}")?)
+    counted(rt.alloc(), out.bytes(), err.bytes(), status)
 }
 
 #[test]
