@@ -1,7 +1,7 @@
 """The commands and options of the program, read from crates/vx_arguments/src/command_line.rt, whose texts `--help` shows.
 
-Each function of that file is one expression, a chain of calls as clap has them. `read_program` evaluates `command` by evaluating these
-expressions; a call that is not known here ends it with a `ValueError` that names it, so that nothing is left out unseen.
+Each function of that file is some `let`s and an expression, all of them chains of calls as clap has them. `read_program` evaluates `command`
+by evaluating these; a call that is not known here ends it with a `ValueError` that names it, so that nothing is left out unseen.
 """
 import os
 import re
