@@ -1,72 +1,26 @@
 //! The values that aggregates take from the rows of a chunk, read where they lie.
 
-ghost use Rattle.std.specs.Prelude.{◌≡◌, ◌^◌, ◌<◌, pos, length, slice_index, slice_index_or, IfOk, IfSome, IfNone};
-ghost use Rattle.vx_values.specs.declared.value.ColType.TheVariants as kind;
+ghost use Rattle.std.specs.Prelude.{◌≡◌, ◌<◌, length, IfOk};
 ghost use Rattle.vx_values.specs.Values.{value_at};
 ghost use Rattle.vx_values.specs.ValueView.{val_of, cell_val};
-ghost use Rattle.vx_values.specs.Types.{type_at};
 ghost use Rattle.vx_rows.specs.View.{row};
-ghost use Rattle.vx_views.specs.Seen.{seen_positions};
 ghost use Rattle.vx_grouping.specs.Groups.{number_of};
-ghost use Rattle.vx_grouping.specs.Found.{HasColumn};
 
 use std::alloc::{AllocError, Global};
 use std::marker::Model;
 use vx_algebra::cell_or_zero;
-use vx_rows::{Cell, Numbers, Value};
-use vx_views::{Chunk, PositionsRef};
+use vx_keys::IntColumn;
+use vx_rows::{Cell, Value};
+use vx_views::Chunk;
 
 // To find a column pays for itself from about so many rows on.
 const ROWS_FOR_A_COLUMN: usize = 8;
 
-// Position k.
-fn position(at: PositionsRef<'_>, k: usize) -> usize
-    requires there { k < length (seen_positions at) }
-    requires fits { slice_index (seen_positions at) k < 2 ^ 64 }
-    ensures { result ≡ slice_index (seen_positions at.entry) k }
-{
-    match at {
-        PositionsRef::Range(from, _) => from + k,
-        PositionsRef::Listed(positions) => positions[k],
-    }
-}
-
-// A column of numbers: the numbers where they lie, and the position of each row's.
-#[derive(Clone, Copy)]
-struct NumberColumn<'a> {
-    numbers: &'a Numbers,
-    at: PositionsRef<'a>,
-}
-
-impl<'a> NumberColumn<'a> {
-    // A column of a chunk, where it has numbers.
-    fn of(chunk: &'a Chunk, column: usize) -> Option<NumberColumn<'a>>
-        requires { column < length chunk.now.types }
-        ensures values { IfSome result (λ n. HasColumn n column chunk.now.rows) }
-        ensures none { IfNone result (type_at chunk.now.types column ≡ kind.Text) }
-    {
-        match chunk.numbers(column) {
-            None => None,
-            Some((numbers, at)) => Some(NumberColumn { numbers, at }),
-        }
-    }
-
-    // The number of row k.
-    fn get(&self, k: usize) -> i64
-        requires row { k < length (seen_positions self.now.at) }
-        requires near { slice_index (seen_positions self.now.at) k < length self.now.numbers.now }
-        ensures { result ≡ slice_index_or self.now.numbers.now (slice_index (seen_positions self.now.at) k) (pos 0) }
-    {
-        // no position is above this
-        let _count = self.numbers.len();
-        self.numbers.get(position(self.at, k))
-    }
-}
-
 /// A chunk whose columns of numbers were found once, so that to read a number of a row is to read it where it lies.
 pub(crate) struct Operands<'a> {
     chunk: &'a Chunk,
-    columns: Vec<Option<NumberColumn<'a>>>,
+    // By number, each as the keys of the rows by this column alone.
+    columns: Vec<Option<IntColumn<'a>>>,
 }
 
 // By hand, so that the drop of the columns is made and proved here once.
@@ -103,7 +57,7 @@ impl<'a> Operands<'a> {
         };
         let mut columns = Vec::with_capacity(alloc, found)?;
         for column in 0..found {
-            columns.push(NumberColumn::of(chunk, column))?;
+            columns.push(IntColumn::of(chunk, &[column]))?;
         }
         Ok(Operands { chunk, columns })
     }

@@ -4,7 +4,7 @@ ghost use Rattle.std.specs.Prelude.{◌≡◌, ◌≤◌, ◌*◌, ◌+◌, ◌^
 ghost use Rattle.vx_values.specs.Types.{fits_64};
 
 /// A sum has its 2^62 numbers.
-#[derive(Clone, Copy, Debug, PartialEq, Eq)]
+#[derive(Clone, Copy, PartialEq, Eq)]
 pub struct SumIsFull;
 
 /// The exact sum of one number or more, up to 2^62.
