@@ -4,7 +4,7 @@
 ghost use Rattle.std.specs.Prelude.{◌≡◌, option_map, bytes_eq};
 ghost use Rattle.std.specs.List.{find};
 
-use crate::lines::{line_of, status_of};
+use crate::lines::{ROOM, line_of, status_of};
 use std::alloc::{AllocError, Global};
 use std::sync::Wait;
 use std::test::Fail;
@@ -100,7 +100,8 @@ fn line_for<R: Threads + Wait + Sync + AllocGlobal>(
 ) -> Result<String, Fail> {
     let words = words_of(rt.alloc(), arguments)?;
     let files = Shelf { leaves: &LEAVES };
-    line_of(rt, words.as_slice(), &files, &mut MemoryIn::new(b"", None))
+    let mut input = MemoryIn::new(b"", None);
+    line_of(rt, words.as_slice(), &files, &mut input, ROOM)
 }
 
 // The words of a text.

@@ -1,19 +1,14 @@
 //! Bundles that are cut short, inputs and outputs that fail, and single calls: the consumer of a key, the members of a bundle, the
 //! lines of refusals.
 
-ghost use Rattle.std.specs.Prelude.{true};
-ghost use Rattle.vx_bytes.specs.Stored.{absent};
-
-use crate::lines::{line_of, shown};
+use crate::lines::{ROOM, line_for, shown};
 use serde_json::Value as Json;
 use std::alloc::Global;
 use std::process::Abort;
-use std::sync::Wait;
 use std::test::Fail;
-use std::thread::Threads;
-use vx_answer::{Refusal, Store, deliver, report};
+use vx_answer::{Refusal, deliver, report};
 use vx_bundle::{Bundle, Command, Mode, bundle_in};
-use vx_bytes::{MemoryIn, MemoryOut};
+use vx_bytes::MemoryOut;
 use vx_catalog::LoadFault;
 use vx_check::Rule;
 use vx_exchange::ByteRouter;
@@ -24,39 +19,13 @@ use vx_rows::Value;
 const FIRST: &str =
     r#"{"command":"run","catalog":{"relations":[{"name":"t","columns":[{"name":"id","type":"int"},{"name":"k","type":"text"},{"name":"v","type":"int"}],"keys":[["id"]],"order":["id"]}]},"plan":{"sizes":["many"],"root":{"op":"exchange","kind":"gather","claim":{"part":"one"},"input":{"op":"select","where":[{"column":"v","op":"=","value":7}],"input":{"op":"scan","relation":"t","mode":"shared","size":"many"}}}},"tables":{"t":"id,k,v\n0,a,5\n1,b,7\n2,a,-2\n3,c,7\n"},"sizes":{"many":3},"packet":1,"morsel":1,"slack":4,"mode":"rounds"}"#;
 
-/// A store without files.
-#[derive(Clone, Copy)]
-pub struct NoFiles;
-
-impl Store for NoFiles {
-    type In = MemoryIn<'static>;
-
-    ghost holds = { λ _ _. absent };
-
-    ghost is_reliable = { λ _ _. true };
-
-    fn open(&self, _path: &str) -> Option<MemoryIn<'static>> {
-        None
-    }
-}
-
-// What goes to the output, to the errors, and the status, for an input that fails after so many bytes.
-fn line_for<R: Threads + Wait + Sync + AllocGlobal>(
-    rt: &R,
-    bytes: &[u8],
-    fails_after: Option<usize>,
-) -> Result<String, Fail> {
-    let mut input = MemoryIn::new(bytes, fails_after);
-    line_of(rt, &[], &NoFiles, &mut input)
-}
-
 #[test]
 fn prefixes_and_broken_inputs_are_refused(rt: HostRuntime) -> Result<(), Fail> {
     for n in 0..FIRST.len() {
         let (prefix, _) = FIRST.as_bytes().split_at(n);
-        let line = line_for(&rt, prefix, None)?;
+        let line = line_for(&rt, prefix, None, ROOM)?;
         assert_eq!(rt; line.as_str(), "|volcano: V1 BadBundle\n|3", "{n} bytes");
-        let line = line_for(&rt, FIRST.as_bytes(), Some(n))?;
+        let line = line_for(&rt, FIRST.as_bytes(), Some(n), ROOM)?;
         assert_eq!(rt;
             line.as_str(),
             "|volcano: V3 FileUnreadable path=-\n|3",
@@ -83,8 +52,8 @@ fn keys_are_sent_by_their_bytes(rt: HostRuntime) -> Result<(), Fail> {
 // Compares the members of a bundle, of which all that may be left out are.
 fn compare_members(rt: &impl Abort, bundle: &Bundle<'_>) -> Result<(), Fail> {
     let setting = bundle.setting();
-    assert_eq!(rt; bundle.command(), Command::Explain);
-    assert_eq!(rt; setting.mode(), Mode::Rounds);
+    assert!(rt; bundle.command() == Command::Explain);
+    assert!(rt; setting.mode() == Mode::Rounds);
     assert_eq!(rt;
         [setting.packet(), setting.morsel(), setting.slack()],
         [256, 1024, 8]

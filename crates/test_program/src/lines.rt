@@ -1,4 +1,7 @@
-//! What an answer writes, with its status, as one text.
+//! What an answer writes, with its status, as one text; cases as lines of text; and a store without files.
+
+ghost use Rattle.std.specs.Prelude.{true};
+ghost use Rattle.vx_bytes.specs.Stored.{absent};
 
 use std::alloc::Global;
 use std::sync::Wait;
@@ -7,6 +10,25 @@ use std::thread::Threads;
 use vx_answer::{NoClock, Store, answer};
 use vx_bytes::{ByteOut, MemoryIn, MemoryOut};
 use vx_seeds::KeySeed;
+
+/// More bytes than an answer or a refusal of these tests has.
+pub const ROOM: usize = 10000;
+
+/// A store without files.
+#[derive(Clone, Copy)]
+pub struct NoFiles;
+
+impl Store for NoFiles {
+    type In = MemoryIn<'static>;
+
+    ghost holds = { λ _ _. absent };
+
+    ghost is_reliable = { λ _ _. true };
+
+    fn open(&self, _path: &str) -> Option<MemoryIn<'static>> {
+        None
+    }
+}
 
 /// The status of the answer to arguments over files and a standard input. What it writes goes to these outputs.
 ///
@@ -39,15 +61,37 @@ pub fn shown(alloc: Global, out: &[u8], err: &[u8], status: u8) -> Result<String
     Ok(format!(in alloc; "{out}|{err}|{status}")?)
 }
 
-/// What goes to the output, to the errors, and the status, for arguments over files and a standard input.
+/// What goes to an output with so much room, what goes to the errors, and the status, for arguments over files and a standard
+/// input.
 pub fn line_of<R: Threads + Wait + Sync + AllocGlobal, F: Store>(
     rt: &R,
     arguments: &[&str],
     files: &F,
     input: &mut MemoryIn<'_>,
+    room: usize,
 ) -> Result<String, Fail> {
-    let mut out = MemoryOut::new(rt.alloc(), 10, 10000);
-    let mut err = MemoryOut::new(rt.alloc(), 10, 10000);
+    let mut out = MemoryOut::new(rt.alloc(), 3, room);
+    let mut err = MemoryOut::new(rt.alloc(), 10, ROOM);
     let status = status_of(rt, arguments, files, input, &mut out, &mut err);
     shown(rt.alloc(), out.bytes(), err.bytes(), status)
+}
+
+/// What goes to an output with so much room, what goes to the errors, and the status, for a bundle that fails after so
+/// many bytes.
+pub fn line_for<R: Threads + Wait + Sync + AllocGlobal>(
+    rt: &R,
+    bundle: &[u8],
+    fails_after: Option<usize>,
+    room: usize,
+) -> Result<String, Fail> {
+    let mut input = MemoryIn::new(bundle, fails_after);
+    line_of(rt, &[], &NoFiles, &mut input, room)
+}
+
+/// The parts of a case, a line with ` | ` between them: what the case shows, what is given, and what has to come of it, where
+/// `\n` stands for the end of a line. An array of as many cases would take far longer to prove.
+pub fn parts(case: &str) -> Option<(&str, &str, &str)> {
+    let (name, rest) = case.split_once(" | ")?;
+    let (given, wanted) = rest.split_once(" | ")?;
+    Some((name, given, wanted))
 }

@@ -1,7 +1,6 @@
 //! A generated relation into an output that is full before its end.
 
-use crate::bundles::NoFiles;
-use crate::lines::status_of;
+use crate::lines::{NoFiles, status_of};
 use std::alloc::Global;
 use std::sync::Wait;
 use std::test::Fail;

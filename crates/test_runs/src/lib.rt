@@ -1,13 +1,14 @@
 //! Worked plans over small relations, and what their runs come to, for the tests of runs by rounds, by schedules and by
-//! threads.
+//! threads (`crates/test_execution`), and for those of the whole program (`crates/test_program`).
 //!
-//! It stands in a crate of its own, with no test in it, so that it is proved once for all the crates of tests above it.
+//! It stands in a crate of its own, with no test in it, so that it is proved once for both.
 #![tactic(auto)]
 
 mod cases;
 mod crowds;
 mod draws;
 mod exchanges;
+mod lines;
 mod operators;
 mod queries;
 mod relations;
@@ -18,6 +19,7 @@ pub use cases::{Case, ToFirst, agrees, by_rounds, by_steps, case_of, outcome, se
 pub use crowds::{CROWDS, IN_A_ROW};
 pub use draws::{Draws, in_turn};
 pub use exchanges::{EXCHANGE_PLANS, Numbered, rows_below};
+pub use lines::{WorkedPlan, first_part, three_numbers, worked_plan};
 pub use operators::{GATHERED_SUMS, GATHERED_SUMS_IN_TWO_PHASES, OPERATOR_JOINS, OPERATOR_PLANS};
 pub use queries::{by_percent, case_of_query, plan_of_query};
 pub use relations::{
@@ -26,5 +28,5 @@ pub use relations::{
 pub use sizes::{setup_of, setup_with};
 pub use worked::{
     GROUPED, GROUPED_ROWS, JOIN_PLANS, JOINED_ROWS, JOINED_SUMS, MERGED, SELECTED, SELECTED_ROWS,
-    SENT_TO_MEET, SUM_PLANS, SUMS_IN_TWO_PHASES, WORKED_PLANS, WorkedPlan,
+    SENT_TO_MEET, SUM_PLANS, SUMS_IN_TWO_PHASES, WORKED_PLANS,
 };

@@ -1,8 +1,5 @@
 //! A plan of each operator over what a group of workers scans, and what comes of it.
 
-use crate::relations::{LARGE, ROWS_OF_D, ROWS_OF_T, TOO_LARGE};
-use crate::worked::WorkedPlan;
-
 /// Sums of what others send, at the root.
 pub const GATHERED_SUMS: &str =
     r#"{"sizes":["many"],"root":{"op":"group","by":["k"],"aggregates":[{"fn":"sum","column":"v","as":"s"}],"input":{"op":"exchange","kind":"gather","input":T_SHARED}}}"#;
@@ -11,120 +8,26 @@ pub const GATHERED_SUMS: &str =
 pub const GATHERED_SUMS_IN_TWO_PHASES: &str =
     r#"{"sizes":["many"],"root":{"op":"group","phase":"final","input":{"op":"exchange","kind":"gather","input":{"op":"group","phase":"partial","by":["k"],"aggregates":[{"fn":"sum","column":"v","as":"s"}],"input":T_SHARED}}}}"#;
 
-// One worker joins sums of what others send with what the other relation has for the key.
-const JOINED_SUMS: &str =
+/// One worker joins sums of what others send with what the other relation has for the key.
+pub const JOINED_GATHERED_SUMS: &str =
     r#"{"sizes":["many"],"root":{"op":"join","method":"hash","on":[["k","d.k"]],"left":{"op":"group","by":["k"],"aggregates":[{"fn":"sum","column":"v","as":"s"}],"input":{"op":"exchange","kind":"gather","input":T_SHARED}},"right":D_WHOLE}}"#;
 
 /// Plans of each operator but joins, with one group of workers beside the one at the root. What comes of them is in the order of
 /// their serial evaluation.
-pub const OPERATOR_PLANS: [WorkedPlan; 7] = [
-    (
-        "columns in another order",
-        r#"{"sizes":["many"],"root":{"op":"exchange","kind":"gather","input":{"op":"project","columns":["v",{"column":"id","as":"n"}],"input":T_SHARED}}}"#,
-        ROWS_OF_T,
-        ROWS_OF_D,
-        1,
-        "5 0;7 1;-2 2;7 3;",
-    ),
-    (
-        "a sort by each worker and by the root",
-        r#"{"sizes":["many"],"total":true,"root":{"op":"sort","columns":["v","id"],"claim":{"part":"one","order":["v","id"],"keys":[["id"]]},"input":{"op":"exchange","kind":"gather","claim":{"part":"one","keys":[["id"]]},"input":{"op":"sort","columns":["k"],"claim":{"order":["k"],"keys":[["id"]]},"input":T_SHARED}}}}"#,
-        ROWS_OF_T,
-        ROWS_OF_D,
-        1,
-        "2 'a' -2;0 'a' 5;1 'b' 7;3 'c' 7;",
-    ),
-    (
-        "a union that has rows twice",
-        r#"{"sizes":["many"],"root":{"op":"exchange","kind":"gather","input":{"op":"union","left":{"op":"select","where":[{"column":"v","op":"=","value":7}],"input":T_SHARED},"right":T_SHARED}}}"#,
-        ROWS_OF_T,
-        ROWS_OF_D,
-        1,
-        "1 'b' 7;3 'c' 7;0 'a' 5;1 'b' 7;2 'a' -2;3 'c' 7;",
-    ),
-    (
-        "distinct keys",
-        r#"{"sizes":["many"],"root":{"op":"distinct","columns":["k"],"input":{"op":"exchange","kind":"gather","input":T_SHARED}}}"#,
-        ROWS_OF_T,
-        ROWS_OF_D,
-        1,
-        "'a';'b';'c';",
-    ),
-    (
-        "groups with each aggregate",
-        r#"{"sizes":["many"],"root":{"op":"group","by":["k"],"aggregates":[{"fn":"sum","column":"v","as":"s"},{"fn":"min","column":"v","as":"least"},{"fn":"max","column":"id","as":"last"},{"fn":"count","as":"c"}],"input":{"op":"exchange","kind":"gather","input":T_SHARED}}}"#,
-        ROWS_OF_T,
-        ROWS_OF_D,
-        1,
-        "'a' 3 -2 2 2;'b' 7 7 1 1;'c' 7 7 3 1;",
-    ),
-    (
-        "groups with each aggregate in two phases",
-        r#"{"sizes":["many"],"root":{"op":"group","phase":"final","input":{"op":"exchange","kind":"gather","input":{"op":"group","phase":"partial","by":["k"],"aggregates":[{"fn":"sum","column":"v","as":"s"},{"fn":"min","column":"v","as":"least"},{"fn":"max","column":"id","as":"last"},{"fn":"count","as":"c"}],"input":T_SHARED}}}}"#,
-        ROWS_OF_T,
-        ROWS_OF_D,
-        1,
-        "'a' 3 -2 2 2;'b' 7 7 1 1;'c' 7 7 3 1;",
-    ),
-    (
-        "the order of its rows makes no sum too large",
-        GATHERED_SUMS,
-        LARGE,
-        ROWS_OF_D,
-        1,
-        "'a' 9223372036854775807;",
-    ),
-];
+pub const OPERATOR_PLANS: &str =
+    r#"columns in another order | {"sizes":["many"],"root":{"op":"exchange","kind":"gather","input":{"op":"project","columns":["v",{"column":"id","as":"n"}],"input":T_SHARED}}} | T | D | 1 | 5 0;7 1;-2 2;7 3;
+a sort by each worker and by the root | {"sizes":["many"],"total":true,"root":{"op":"sort","columns":["v","id"],"claim":{"part":"one","order":["v","id"],"keys":[["id"]]},"input":{"op":"exchange","kind":"gather","claim":{"part":"one","keys":[["id"]]},"input":{"op":"sort","columns":["k"],"claim":{"order":["k"],"keys":[["id"]]},"input":T_SHARED}}}} | T | D | 1 | 2 'a' -2;0 'a' 5;1 'b' 7;3 'c' 7;
+a union that has rows twice | {"sizes":["many"],"root":{"op":"exchange","kind":"gather","input":{"op":"union","left":{"op":"select","where":[{"column":"v","op":"=","value":7}],"input":T_SHARED},"right":T_SHARED}}} | T | D | 1 | 1 'b' 7;3 'c' 7;0 'a' 5;1 'b' 7;2 'a' -2;3 'c' 7;
+distinct keys | {"sizes":["many"],"root":{"op":"distinct","columns":["k"],"input":{"op":"exchange","kind":"gather","input":T_SHARED}}} | T | D | 1 | 'a';'b';'c';
+groups with each aggregate | {"sizes":["many"],"root":{"op":"group","by":["k"],"aggregates":[{"fn":"sum","column":"v","as":"s"},{"fn":"min","column":"v","as":"least"},{"fn":"max","column":"id","as":"last"},{"fn":"count","as":"c"}],"input":{"op":"exchange","kind":"gather","input":T_SHARED}}} | T | D | 1 | 'a' 3 -2 2 2;'b' 7 7 1 1;'c' 7 7 3 1;
+groups with each aggregate in two phases | {"sizes":["many"],"root":{"op":"group","phase":"final","input":{"op":"exchange","kind":"gather","input":{"op":"group","phase":"partial","by":["k"],"aggregates":[{"fn":"sum","column":"v","as":"s"},{"fn":"min","column":"v","as":"least"},{"fn":"max","column":"id","as":"last"},{"fn":"count","as":"c"}],"input":T_SHARED}}}} | T | D | 1 | 'a' 3 -2 2 2;'b' 7 7 1 1;'c' 7 7 3 1;
+the order of its rows makes no sum too large | GATHERED_SUMS | LARGE | D | 1 | 'a' 9223372036854775807;"#;
 
-/// The same of joins.
-pub const OPERATOR_JOINS: [WorkedPlan; 6] = [
-    (
-        "a hash join",
-        r#"{"sizes":["many"],"root":{"op":"exchange","kind":"gather","input":{"op":"join","method":"hash","on":[["k","d.k"]],"left":T_SHARED,"right":D_EVERYWHERE}}}"#,
-        ROWS_OF_T,
-        ROWS_OF_D,
-        1,
-        "0 'a' 5 'a' 10;1 'b' 7 'b' 20;2 'a' -2 'a' 10;",
-    ),
-    (
-        "a merge join by each worker",
-        r#"{"sizes":["many"],"root":{"op":"exchange","kind":"gather","input":{"op":"join","method":"merge","on":[["k","d.k"]],"left":{"op":"sort","columns":["k"],"claim":{"order":["k"]},"input":T_SHARED},"right":{"op":"sort","columns":["d.k"],"claim":{"part":"all","order":["d.k"]},"input":D_EVERYWHERE}}}}"#,
-        ROWS_OF_T,
-        ROWS_OF_D,
-        1,
-        "0 'a' 5 'a' 10;2 'a' -2 'a' 10;1 'b' 7 'b' 20;",
-    ),
-    (
-        "a merge join by one worker",
-        r#"{"sizes":["many"],"total":true,"root":{"op":"join","method":"merge","on":[["k","d.k"]],"claim":{"part":"one","order":["k","id"],"keys":[["id"]]},"left":{"op":"sort","columns":["k","id"],"claim":{"part":"one","order":["k","id"],"keys":[["id"]]},"input":{"op":"exchange","kind":"gather","claim":{"part":"one","keys":[["id"]]},"input":T_SHARED}},"right":{"op":"sort","columns":["d.k"],"claim":{"part":"one","order":["d.k"],"keys":[["d.k"]]},"input":D_WHOLE}}}"#,
-        ROWS_OF_T,
-        ROWS_OF_D,
-        1,
-        "0 'a' 5 'a' 10;2 'a' -2 'a' 10;1 'b' 7 'b' 20;",
-    ),
-    (
-        "a hash join of rows with none",
-        JOINED_SUMS,
-        ROWS_OF_T,
-        "",
-        1,
-        "",
-    ),
-    (
-        "a hash join of a sum that is too large on its way with none",
-        JOINED_SUMS,
-        LARGE,
-        "",
-        1,
-        "",
-    ),
-    // No row could come of this join, since the other relation has none.
-    (
-        "a hash join reads its left input to the end",
-        JOINED_SUMS,
-        TOO_LARGE,
-        "",
-        1,
-        "X7 Overflow node=1",
-    ),
-];
+/// The same of joins. No row could come of the last, since the other relation has none.
+pub const OPERATOR_JOINS: &str =
+    r#"a hash join | {"sizes":["many"],"root":{"op":"exchange","kind":"gather","input":{"op":"join","method":"hash","on":[["k","d.k"]],"left":T_SHARED,"right":D_EVERYWHERE}}} | T | D | 1 | 0 'a' 5 'a' 10;1 'b' 7 'b' 20;2 'a' -2 'a' 10;
+a merge join by each worker | {"sizes":["many"],"root":{"op":"exchange","kind":"gather","input":{"op":"join","method":"merge","on":[["k","d.k"]],"left":{"op":"sort","columns":["k"],"claim":{"order":["k"]},"input":T_SHARED},"right":{"op":"sort","columns":["d.k"],"claim":{"part":"all","order":["d.k"]},"input":D_EVERYWHERE}}}} | T | D | 1 | 0 'a' 5 'a' 10;2 'a' -2 'a' 10;1 'b' 7 'b' 20;
+a merge join by one worker | {"sizes":["many"],"total":true,"root":{"op":"join","method":"merge","on":[["k","d.k"]],"claim":{"part":"one","order":["k","id"],"keys":[["id"]]},"left":{"op":"sort","columns":["k","id"],"claim":{"part":"one","order":["k","id"],"keys":[["id"]]},"input":{"op":"exchange","kind":"gather","claim":{"part":"one","keys":[["id"]]},"input":T_SHARED}},"right":{"op":"sort","columns":["d.k"],"claim":{"part":"one","order":["d.k"],"keys":[["d.k"]]},"input":D_WHOLE}}} | T | D | 1 | 0 'a' 5 'a' 10;2 'a' -2 'a' 10;1 'b' 7 'b' 20;
+a hash join of rows with none | JOINED_GATHERED_SUMS | T | - | 1 |
+a hash join of a sum that is too large on its way with none | JOINED_GATHERED_SUMS | LARGE | - | 1 |
+a hash join reads its left input to the end | JOINED_GATHERED_SUMS | TOO_LARGE | - | 1 | X7 Overflow node=1"#;

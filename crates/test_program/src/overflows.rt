@@ -1,7 +1,8 @@
 //! Sums that leave 64 bits: in each mode it is the whole sum that counts, and the node is that of the group, also
 //! where two workers fail at once.
 
-use crate::bundles::{MODES, OF_THREE, bundle_of, compare, written};
+use crate::lines::{ROOM, line_for};
+use crate::runs::{MODES, OF_THREE, bundle_of, compare};
 use std::test::Fail;
 use test_runs::{
     BOTH_TOO_LARGE, GROUPED, JOINED_SUMS, LARGE, ROWS_OF_D, SUMS_IN_TWO_PHASES, TOO_LARGE,
@@ -59,7 +60,7 @@ fn a_part_of_a_sum_overflows_only_in_two_phases(rt: HostRuntime) -> Result<(), F
         let tables = (LARGE, ROWS_OF_D);
         let bundle = bundle_of(rt.alloc(), SUMS_IN_TWO_PHASES, tables, OF_THREE, mode)?;
         for _ in 0..RUNS {
-            let found = written(&rt, bundle.as_str(), None, 1000)?;
+            let found = line_for(&rt, bundle.as_bytes(), None, ROOM)?;
             // The partial group overflows where one worker has the first two rows alone.
             let is_part = found.as_str() == "|volcano: X7 Overflow node=4\n|4";
             assert!(rt; is_part || found.as_str() == LARGEST, "{mode} {found}");

@@ -1,9 +1,8 @@
 //! Texts that are made to cost much: one of each kind, of some 100,000 bytes. Each has its line, as any other text has.
 //! How much time and memory larger ones take is measured outside of the tests (`tools/try-hostile`).
 
-use crate::bundles::{parts, written};
+use crate::lines::{ROOM, line_for, parts};
 use std::alloc::{AllocError, Global};
-use std::fs::{File, Files};
 use std::process::Abort;
 use std::sync::Wait;
 use std::test::Fail;
@@ -12,9 +11,6 @@ use test_runs::{CATALOG, with_scans};
 
 // How often the part of a text that is repeated stands there.
 const TIMES: usize = 20000;
-
-// More bytes than an answer of these tests has.
-const ROOM: usize = 1000;
 
 // Bundles: what each is, its text, in which the part between angle brackets is repeated, and what the program writes for it.
 // Brackets and members open, a member is repeated, texts never close or are written by escapes.
@@ -80,18 +76,18 @@ fn bundle_of(alloc: Global, (front, back): (&str, &str), text: &str) -> Result<S
 }
 
 // What the program writes for the bundle with this text.
-fn comes_to<R: Threads + Wait + Sync + Files<File = File> + AllocGlobal>(
+fn comes_to<R: Threads + Wait + Sync + AllocGlobal>(
     rt: &R,
     around: (&str, &str),
     text: &str,
 ) -> Result<String, Fail> {
     let text = repeated(rt.alloc(), text)?;
     let bundle = bundle_of(rt.alloc(), around, text.as_str())?;
-    written(rt, bundle.as_str(), None, ROOM)
+    line_for(rt, bundle.as_bytes(), None, ROOM)
 }
 
 // Compares what the program writes for each of these cases with what has to come of it.
-fn compare<R: Threads + Wait + Sync + Files<File = File> + AllocGlobal + Abort>(
+fn compare<R: Threads + Wait + Sync + AllocGlobal + Abort>(
     rt: &R,
     around: (&str, &str),
     cases: &str,

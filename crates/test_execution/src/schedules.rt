@@ -1,13 +1,12 @@
 //! What no clause says of schedules: one worker can do all the work, a group overflows only after its input, and a part of a
 //! sum overflows where one worker has it.
 
-use crate::texts::first_part;
 use std::alloc::{AllocError, Global};
 use std::process::Abort;
 use std::test::Fail;
 use test_runs::{
     Case, Draws, GATHERED_SUMS, GATHERED_SUMS_IN_TWO_PHASES, LARGE, MERGED, ROWS_OF_D, ROWS_OF_T,
-    SELECTED, SUMS_IN_TWO_PHASES, TOO_LARGE, by_steps, case_of, in_turn, setup_of,
+    SELECTED, SUMS_IN_TWO_PHASES, TOO_LARGE, by_steps, case_of, first_part, in_turn, setup_of,
 };
 use vx_exchange::ByteRouter;
 use vx_exec::Setup;

@@ -1,14 +1,9 @@
-//! Cases as lines of text, and what their parts stand for. An array of as many cases would take far longer to prove.
+//! Setups as texts.
 
 use std::alloc::Global;
 use std::test::Fail;
+use test_runs::three_numbers;
 use vx_exec::Setup;
-
-/// What stands before the first `|` of a line, and what stands behind it.
-pub fn first_part(line: &str) -> (&str, &str) {
-    let (part, rest) = line.split_once('|').unwrap_or((line, ""));
-    (part.trim(), rest.trim())
-}
 
 // A name and its number, as `many=4`.
 fn named_number(text: &str) -> Option<(&str, u32)> {
@@ -26,15 +21,6 @@ fn named_numbers(alloc: Global, text: &str) -> Result<Vec<(String, u32)>, Fail> 
         entries.push((String::from_str(alloc, name)?, number))?;
     }
     Ok(entries)
-}
-
-// Three numbers, as `256 1024 8`.
-fn three_numbers(text: &str) -> Option<(u32, u32, u32)> {
-    let mut words = text.split_whitespace();
-    let first = words.next()?.parse::<u32>().ok()?;
-    let second = words.next()?.parse::<u32>().ok()?;
-    let third = words.next()?.parse::<u32>().ok()?;
-    Some((first, second, third))
 }
 
 /// The workers of names, as `many=4 few=2`; and the rows of a packet, those of a morsel, and the slack, as `256 1024 8`.

@@ -1,8 +1,8 @@
 //! Worked plans that are refused come to the same line in each mode, and where a case has several faults, to the first
 //! in the order of the catalog, the plan, the checker, the tables, the setup and the run.
 
-use crate::bundles::{OF_THREE, compare, parts};
-use std::fs::{File, Files};
+use crate::lines::parts;
+use crate::runs::{OF_THREE, compare};
 use std::process::Abort;
 use std::sync::Wait;
 use std::test::Fail;
@@ -19,7 +19,7 @@ const NOT_LOADED: (&str, &str) = ("0,a\n", ROWS_OF_D);
 const SET_UP_OR_NOT: [&str; 3] = [OF_THREE, r#""sizes":{}"#, r#""packet":0"#];
 
 // Compares what a plan over some rows comes to, set up or not, with a line.
-fn compare_settings<R: Threads + Wait + Sync + Files<File = File> + AllocGlobal + Abort>(
+fn compare_settings<R: Threads + Wait + Sync + AllocGlobal + Abort>(
     rt: &R,
     plan: &str,
     tables: (&str, &str),

@@ -1,10 +1,10 @@
 //! What no clause says of setups: a setup that is right is taken, and the lines of those that are not.
 
-use crate::texts::{first_part, setup_from};
+use crate::texts::setup_from;
 use std::alloc::{AllocError, Global};
 use std::process::Abort;
 use std::test::Fail;
-use test_runs::{CATALOG, Case, plan_of};
+use test_runs::{CATALOG, Case, first_part, plan_of};
 use vx_catalog::{Catalog, Database};
 use vx_exchange::ByteRouter;
 use vx_exec::{Ran, RunFault, run_rounds};
