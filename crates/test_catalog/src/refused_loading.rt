@@ -24,7 +24,7 @@ const CLASH: LoadFault = LoadFault::KeyBroken {
 };
 
 // Why rows were not loaded and written again.
-#[derive(Clone, Copy, Debug, PartialEq, Eq)]
+#[derive(Clone, Copy, PartialEq, Eq)]
 enum Stopped {
     NoMemory,
     Load(LoadFault),

@@ -11,7 +11,6 @@ use std::alloc::Global;
 use vx_plan_json::{NamedClaim, NamedPart};
 
 /// A claim in which no name is empty, and no route is without columns.
-#[derive(Debug)]
 pub struct FormedClaim {
     claim: NamedClaim,
     ghost formed: { is_claim_form (claim_form claim) ≡ true },

@@ -7,7 +7,7 @@ use vx_plan_nodes::{Claim, Columns, Name, Part, Route};
 use vx_relations::Catalog;
 
 /// What names the columns and the routes of claims.
-#[derive(Clone, Copy, Debug)]
+#[derive(Clone, Copy)]
 pub struct Naming<'a> {
     pub catalog: &'a Catalog,
     pub ranges: &'a [NamedRange],

@@ -11,7 +11,7 @@ use vx_plan::TypedPlan;
 use vx_refusals::Refusal;
 
 /// A form in which a plan is explained, other than its text.
-#[derive(Clone, Copy, Debug)]
+#[derive(Clone, Copy)]
 pub enum PlanForm {
     /// An object for each node.
     Json,

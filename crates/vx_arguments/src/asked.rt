@@ -61,7 +61,7 @@ pub enum Asked<'a> {
 }
 
 /// What the arguments ask for, and what they say of loading and of reports.
-#[derive(Debug, Drop)]
+#[derive(Drop)]
 pub struct Request<'a> {
     pub asked: Asked<'a>,
     /// Whether a refusal is followed by a line that says where it was found.

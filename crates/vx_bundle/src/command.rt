@@ -1,7 +1,7 @@
 //! The commands of the program.
 
 /// What to do with a plan.
-#[derive(Clone, Copy, Debug, PartialEq, Eq)]
+#[derive(Clone, Copy, PartialEq, Eq)]
 pub enum Command {
     /// Run it by its exchanges.
     Run,

@@ -15,7 +15,7 @@ pub const MORSEL: u32 = 1024;
 pub const SLACK: u32 = 8;
 
 /// How a plan's workers are run.
-#[derive(Clone, Copy, Debug, PartialEq, Eq)]
+#[derive(Clone, Copy, PartialEq, Eq)]
 pub enum Mode {
     /// All in turn, in one thread.
     Rounds,

@@ -30,7 +30,6 @@ fn empty_tables(alloc: Global, catalog: &Catalog) -> Result<Vec<SharedTable>, Al
 }
 
 /// Rows for each relation of a catalog, 100,000,000 at most for each, which meet all that it declares. They are shared: runs read them in place.
-#[derive(Debug)]
 pub struct Database {
     catalog: Catalog,
     tables: Vec<SharedTable>,

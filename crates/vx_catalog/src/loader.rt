@@ -142,7 +142,7 @@ fn load_text<'p, R: ByteIn, T: Origin>(
 }
 
 /// Rows of a relation of a catalog, 100,000,000 at most, which meet all that it declares of the relation.
-#[derive(Debug, Drop)]
+#[derive(Drop)]
 pub struct Loaded {
     catalog: Catalog,
     relation: usize,
@@ -220,7 +220,7 @@ impl Loaded {
 }
 
 /// Loads relations from texts in CSV.
-#[derive(Clone, Copy, Debug)]
+#[derive(Clone, Copy)]
 pub struct Loader;
 
 impl Loader {

@@ -9,7 +9,7 @@ use std::sync::Arc;
 use vx_rows::Table;
 
 /// Rows that are shared: to hand them to a worker copies none of them.
-#[derive(Debug, Drop)]
+#[derive(Drop)]
 pub struct SharedTable {
     rows: Arc<Table>,
 }

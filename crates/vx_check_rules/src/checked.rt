@@ -6,7 +6,7 @@ ghost use Rattle.vx_check_rules.specs.Checked.{is_allowed, is_root_allowed, refu
 use vx_plan_nodes::TypedPlan;
 
 /// A plan whose notes are shown: the rule table allows every node, and the root.
-#[derive(Debug, Drop)]
+#[derive(Drop)]
 pub struct CheckedPlan {
     plan: TypedPlan,
     ghost every_node: { is_allowed plan ≡ true },

@@ -7,7 +7,7 @@ use crate::copied::CopiedColumns;
 use vx_plan_nodes::Projected;
 
 /// How the columns of an output stand for those of an input.
-#[derive(Clone, Copy, Debug)]
+#[derive(Clone, Copy)]
 pub enum Copies<'a> {
     /// The columns that a projection or a distinct keeps.
     Outputs(&'a [Projected]),

@@ -5,7 +5,7 @@ ghost use Rattle.vx_check_rules.specs.Rules.{contains, within, is_prefix, covers
 ghost use Rattle.vx_check_rules.specs.Pairs.{column_of};
 
 /// One of a join's inputs.
-#[derive(Clone, Copy, Debug)]
+#[derive(Clone, Copy)]
 pub enum Input {
     Left,
     Right,

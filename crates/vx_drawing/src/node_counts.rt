@@ -11,7 +11,7 @@ use vx_bundle::value_of_text;
 use vx_json::{Misread, Reader, get_member, read_list};
 
 /// Why statistics are not drawn.
-#[derive(Clone, Copy, Debug, PartialEq, Eq)]
+#[derive(Clone, Copy, PartialEq, Eq)]
 pub enum DrawFault {
     /// An allocation failed.
     NoMemory,
@@ -45,7 +45,7 @@ impl From<Misread> for DrawFault {
 }
 
 /// What all workers together counted at a node.
-#[derive(Clone, Copy, Debug, PartialEq, Eq)]
+#[derive(Clone, Copy, PartialEq, Eq)]
 pub struct NodeCounts {
     /// The rows that the node's operator returned.
     pub rows: u64,

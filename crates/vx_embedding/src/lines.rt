@@ -14,7 +14,7 @@ use vx_setup::RunFault;
 const MARK: usize = "volcano: ".len();
 
 /// Where the code and the name stand in a printed line.
-#[derive(Clone, Copy, Debug)]
+#[derive(Clone, Copy)]
 pub struct Words {
     pub code_at: usize,
     pub code_length: usize,

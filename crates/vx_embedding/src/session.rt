@@ -33,7 +33,7 @@ fn text_of(alloc: Global, plan: &TypedPlan, rows: &Rows) -> Result<Vec<u8>, Allo
 }
 
 /// A catalog that was read once, with texts of its tables. Of two texts of one table the first counts.
-#[derive(Debug, Drop)]
+#[derive(Drop)]
 pub struct Session {
     catalog: Catalog,
     tables: Vec<TableText>,

@@ -9,7 +9,7 @@ use std::alloc::{AllocError, AllocFailed, Global};
 
 /// Where the name and the text of a table stand in a slice of bytes: each from a start up to an end.
 #[repr(C)]
-#[derive(Clone, Copy, Debug)]
+#[derive(Clone, Copy)]
 pub struct TableSpan {
     pub name_start: usize,
     pub name_end: usize,
@@ -18,7 +18,7 @@ pub struct TableSpan {
 }
 
 /// Why there are no tables.
-#[derive(Debug, Drop)]
+#[derive(Drop)]
 pub enum SpanFault {
     /// A name or a text is not within the bytes.
     Outside,

@@ -15,7 +15,7 @@ use vx_refusals::Refusal;
 use vx_tables::Tables;
 
 /// The text of a table.
-#[derive(Debug, Drop)]
+#[derive(Drop)]
 pub struct TableText {
     pub name: Vec<u8>,
     pub text: Vec<u8>,

@@ -8,7 +8,7 @@ use vx_operators::{Destination, Operator, OperatorCounts};
 use vx_worker::{StepCounts, Tree, Worker};
 
 /// One node of a plan in one worker.
-#[derive(Clone, Copy, Debug, PartialEq, Eq)]
+#[derive(Clone, Copy, PartialEq, Eq)]
 pub struct NodeCounts {
     /// The number of the node.
     pub node: u32,

@@ -11,7 +11,7 @@ use vx_values::ColType;
 const MAX_COLUMNS: usize = 64;
 
 /// Where the columns of an input stand in an output.
-#[derive(Clone, Copy, Debug)]
+#[derive(Clone, Copy)]
 pub enum Places<'a> {
     /// Where a projection or a distinct first keeps them.
     Outputs(&'a [Projected]),

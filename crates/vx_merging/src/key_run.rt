@@ -12,7 +12,7 @@ use vx_rows::compare_cells;
 use vx_views::Rows;
 
 /// Where the right rows of one key start and end.
-#[derive(Clone, Copy, Debug)]
+#[derive(Clone, Copy)]
 pub(crate) struct KeyRun {
     pub start: usize,
     pub end: usize,

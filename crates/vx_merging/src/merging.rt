@@ -18,7 +18,7 @@ use vx_rows::ColType;
 use vx_views::Rows;
 
 /// Why a merge stops.
-#[derive(Clone, Copy, Debug, PartialEq, Eq)]
+#[derive(Clone, Copy, PartialEq, Eq)]
 pub enum MergeFault {
     /// A row is smaller than an earlier one of its input.
     Falls,
@@ -38,7 +38,7 @@ impl From<AllocError> for MergeFault {
 }
 
 /// What a merge needs before it can go on.
-#[derive(Clone, Copy, Debug, PartialEq, Eq)]
+#[derive(Clone, Copy, PartialEq, Eq)]
 pub enum MergeNeed {
     /// Nothing: it can join rows that are at hand.
     Nothing,

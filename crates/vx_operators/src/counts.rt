@@ -6,7 +6,7 @@ ghost use Rattle.vx_operators.specs.Counts.{rows_in};
 use vx_ops::{Got, Polled, Want};
 
 /// What an operator counted of its own turns. A count that reaches the largest `u64` stays there.
-#[derive(Clone, Copy, Debug, PartialEq, Eq)]
+#[derive(Clone, Copy, PartialEq, Eq)]
 pub struct OperatorCounts {
     /// The rows that its left, or only, input gave it; at a scan those of its morsels.
     pub left: u64,

@@ -12,7 +12,7 @@ use vx_groups::workers_of;
 use vx_plan_nodes::TypedNode;
 
 /// An exchange, and the workers at its two sides.
-#[derive(Clone, Copy, Debug, PartialEq, Eq)]
+#[derive(Clone, Copy, PartialEq, Eq)]
 pub struct Span {
     /// The node number of the exchange.
     pub exchange: u32,

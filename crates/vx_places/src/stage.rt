@@ -6,7 +6,7 @@ ghost use Rattle.csv.specs.Reading.{default_config};
 ghost use Rattle.vx_places.specs.Stages.{state_of, action_of, turn_of, is_between};
 
 /// Where in a record the next byte is.
-#[derive(Clone, Copy, Debug)]
+#[derive(Clone, Copy)]
 pub enum Stage {
     StartRecord,
     StartField,
@@ -17,7 +17,7 @@ pub enum Stage {
 }
 
 /// What a byte does.
-#[derive(Clone, Copy, Debug)]
+#[derive(Clone, Copy)]
 pub enum Action {
     Skip,
     Copy,
@@ -26,7 +26,7 @@ pub enum Action {
 }
 
 /// What a byte does, and where the next one is.
-#[derive(Clone, Copy, Debug)]
+#[derive(Clone, Copy)]
 pub struct Turn {
     pub stage: Stage,
     pub action: Action,

@@ -19,7 +19,7 @@ use vx_plan_json::{NamedBinary, PlanFault};
 use vx_plan_nodes::{Binary, Columns, Name};
 
 /// An operator over two inputs, and its output.
-#[derive(Debug, Drop)]
+#[derive(Drop)]
 pub struct Joint {
     pub binary: Binary,
     pub columns: Arc<Columns>,

@@ -17,7 +17,7 @@ use vx_relations::{Catalog, find_name};
 use vx_values::NamedRange;
 
 /// What the nodes of a plan may name.
-#[derive(Clone, Copy, Debug)]
+#[derive(Clone, Copy)]
 pub struct Declared<'a> {
     pub catalog: &'a Catalog,
     pub ranges: &'a [NamedRange],

@@ -23,7 +23,7 @@ use vx_plan_nodes::{
 use vx_rows::ColType;
 
 /// An operator over one input, and its output.
-#[derive(Debug, Drop)]
+#[derive(Drop)]
 pub struct Shape {
     pub unary: Unary,
     pub columns: Arc<Columns>,

@@ -14,7 +14,6 @@ use vx_values::NamedRange;
 
 /// A plan that was read, with names in place of positions. It has at most 1,000 nodes, 64 below one another, and no name in
 /// it is empty.
-#[derive(Debug)]
 pub struct Plan {
     sizes: Vec<String>,
     ranges: Vec<NamedRange>,

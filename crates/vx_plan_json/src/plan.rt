@@ -3,7 +3,7 @@
 use vx_values::{Test, Value};
 
 /// How rows lie on workers, as a claim says it.
-#[derive(Debug, Drop)]
+#[derive(Drop)]
 pub enum NamedPart {
     /// All rows at one worker.
     One,
@@ -16,7 +16,6 @@ pub enum NamedPart {
 }
 
 /// An optimizer's note on a node. Nothing is assumed of it.
-#[derive(Debug)]
 pub struct NamedClaim {
     pub part: NamedPart,
     /// The columns on which each stream is sorted, the first before the second.
@@ -37,14 +36,14 @@ impl Drop for NamedClaim {
 }
 
 /// The right side of a condition.
-#[derive(Debug, Drop)]
+#[derive(Drop)]
 pub enum NamedSide {
     Column(String),
     Constant(Value),
 }
 
 /// A column compared with a constant or another column.
-#[derive(Debug, Drop)]
+#[derive(Drop)]
 pub struct NamedCondition {
     pub left: String,
     pub test: Test,
@@ -52,14 +51,14 @@ pub struct NamedCondition {
 }
 
 /// A column that is kept, with its new name, if it has one.
-#[derive(Debug, Drop)]
+#[derive(Drop)]
 pub struct NamedOutput {
     pub column: String,
     pub renamed: Option<String>,
 }
 
 /// What is computed of the rows of a group.
-#[derive(Debug, Drop)]
+#[derive(Drop)]
 pub enum NamedFunction {
     Least(String),
     Greatest(String),
@@ -68,14 +67,13 @@ pub enum NamedFunction {
 }
 
 /// An aggregate and the name of its column.
-#[derive(Debug, Drop)]
+#[derive(Drop)]
 pub struct NamedAggregate {
     pub function: NamedFunction,
     pub name: String,
 }
 
 /// A scan. An empty prefix is none.
-#[derive(Debug)]
 pub struct NamedScan {
     pub relation: String,
     /// The workers share the rows, or else each has all of them.
@@ -98,7 +96,6 @@ impl Drop for NamedScan {
 
 /// An operator over one input. A group in two phases is a partial group, exchanges, and a final group that has the columns
 /// and the aggregates of the partial one.
-#[derive(Debug)]
 pub enum NamedUnary {
     Select(Vec<NamedCondition>),
     Project(Vec<NamedOutput>),
@@ -125,7 +122,6 @@ impl Drop for NamedUnary {
 }
 
 /// An operator over two inputs. A join has pairs (left column, right column).
-#[derive(Debug)]
 pub enum NamedBinary {
     Union,
     HashJoin(Vec<(String, String)>),
@@ -144,7 +140,6 @@ impl Drop for NamedBinary {
 }
 
 /// How an exchange sends, and to a group of which size.
-#[derive(Debug)]
 pub enum NamedKind {
     Hash {
         size: String,
@@ -186,7 +181,6 @@ impl Drop for NamedKind {
 }
 
 /// A tree of operators. An exchange merges on its list of columns, if that is not empty.
-#[derive(Debug)]
 pub enum Node {
     Scan(NamedClaim, NamedScan),
     Unary(NamedClaim, NamedUnary, Box<Node>),

@@ -17,7 +17,6 @@ use std::sync::Arc;
 ///
 /// It has no text of its own. The names of a scan share the scan's prefix and the names of its relation, and those of a join share the texts of
 /// its inputs' names, so a long name is held once, however many nodes have it.
-#[derive(Debug)]
 pub struct Name {
     prefix: Arc<String>,
     names: Arc<Vec<String>>,

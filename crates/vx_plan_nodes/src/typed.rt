@@ -9,7 +9,7 @@ use std::sync::Arc;
 use vx_values::{ColType, Test, Value};
 
 /// How many workers: one, or as many as a declared size name is bound to, by the name's number.
-#[derive(Clone, Copy, Debug, PartialEq, Eq)]
+#[derive(Clone, Copy, PartialEq, Eq)]
 pub enum Size {
     /// One worker.
     One,
@@ -18,7 +18,7 @@ pub enum Size {
 }
 
 /// Where a key is sent: by a hash of this name, or by the declared range with this number.
-#[derive(Debug, Drop)]
+#[derive(Drop)]
 pub enum Route {
     /// To the worker that the router names for this route and these values.
     Hash(String),
@@ -27,7 +27,7 @@ pub enum Route {
 }
 
 /// How rows lie on workers, as a claim says it.
-#[derive(Debug, Drop)]
+#[derive(Drop)]
 pub enum Part {
     /// All rows at one worker.
     One,
@@ -40,7 +40,6 @@ pub enum Part {
 }
 
 /// An optimizer's note, over the columns of the node's output.
-#[derive(Debug)]
 pub struct Claim {
     pub part: Part,
     /// The columns on which each stream is sorted, the first before the second.
@@ -61,14 +60,14 @@ impl Drop for Claim {
 }
 
 /// The right side of a condition.
-#[derive(Debug, Drop)]
+#[derive(Drop)]
 pub enum Side {
     Column(usize),
     Constant(Value),
 }
 
 /// A column compared with a constant or another column of its type.
-#[derive(Debug, Drop)]
+#[derive(Drop)]
 pub struct Condition {
     pub left: usize,
     pub test: Test,
@@ -76,7 +75,7 @@ pub struct Condition {
 }
 
 /// What is computed of the rows of a group.
-#[derive(Clone, Copy, Debug, PartialEq, Eq)]
+#[derive(Clone, Copy, PartialEq, Eq)]
 pub enum Aggregate {
     /// The least value of a column.
     Least(usize),
@@ -89,14 +88,13 @@ pub enum Aggregate {
 }
 
 /// A column of the input that is kept, and whether the plan gives it a new name.
-#[derive(Clone, Copy, Debug, PartialEq, Eq)]
+#[derive(Clone, Copy, PartialEq, Eq)]
 pub struct Projected {
     pub column: usize,
     pub renamed: bool,
 }
 
 /// The columns of an output: as many names as types.
-#[derive(Debug)]
 pub struct Columns {
     pub names: Vec<Name>,
     pub types: Vec<ColType>,
@@ -110,7 +108,6 @@ impl Drop for Columns {
 }
 
 /// What every node has: its number in preorder, its claim and its output. Nodes with the same columns share them.
-#[derive(Debug)]
 pub struct Head {
     pub number: u32,
     pub claim: Claim,
@@ -129,7 +126,6 @@ impl Drop for Head {
 }
 
 /// A scan of the relation with this number. An empty prefix is none.
-#[derive(Debug)]
 pub struct ScanNode {
     pub relation: usize,
     /// The workers share the rows, or else each has all of them.
@@ -151,7 +147,7 @@ impl Drop for ScanNode {
 }
 
 /// In how many steps a grouping is made, and which step this one is.
-#[derive(Clone, Copy, Debug, PartialEq, Eq)]
+#[derive(Clone, Copy, PartialEq, Eq)]
 pub enum Phase {
     /// In one step, of all rows.
     Plain,
@@ -162,7 +158,6 @@ pub enum Phase {
 }
 
 /// An operator over one input, by the columns of that input.
-#[derive(Debug)]
 pub enum Unary {
     /// The rows of which all conditions hold.
     Select(Vec<Condition>),
@@ -190,7 +185,6 @@ impl Drop for Unary {
 }
 
 /// An operator over two inputs. A join has pairs (left column, right column).
-#[derive(Debug)]
 pub enum Binary {
     Union,
     HashJoin(Vec<(usize, usize)>),
@@ -209,7 +203,7 @@ impl Drop for Binary {
 }
 
 /// How an exchange sends, and to a group of which size.
-#[derive(Debug, Drop)]
+#[derive(Drop)]
 pub enum ExchangeKind {
     /// Each row to the worker of its values in these columns.
     Route(Size, Route, Vec<usize>),
@@ -238,7 +232,6 @@ impl ExchangeKind {
 }
 
 /// An exchange. It merges on these columns, if there are any.
-#[derive(Debug)]
 pub struct Exchange {
     pub kind: ExchangeKind,
     pub merge: Vec<usize>,
@@ -252,7 +245,6 @@ impl Drop for Exchange {
 }
 
 /// A tree of operators over a catalog.
-#[derive(Debug)]
 pub enum TypedNode {
     Scan(Head, ScanNode),
     Unary(Head, Unary, Box<TypedNode>),

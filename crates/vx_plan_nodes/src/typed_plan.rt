@@ -18,7 +18,6 @@ use vx_values::NamedRange;
 
 /// A plan with its catalog. Every node names what there is, has the types that it needs, says which types its output
 /// has, and is numbered in preorder from 0. Each grouping in two steps has both of them. There are at most 1,000 nodes.
-#[derive(Debug)]
 pub struct TypedPlan {
     catalog: Catalog,
     sizes: Vec<String>,

@@ -5,7 +5,7 @@ use vx_rows::ColType;
 use vx_views::Rows;
 
 /// What a packet is: rows, or one of the two ends of a stream.
-#[derive(Clone, Copy, Debug, PartialEq, Eq)]
+#[derive(Clone, Copy, PartialEq, Eq)]
 pub enum PacketKind {
     Rows,
     Last,
@@ -13,7 +13,7 @@ pub enum PacketKind {
 }
 
 /// The two ends of a producer's stream.
-#[derive(Clone, Copy, Debug, PartialEq, Eq)]
+#[derive(Clone, Copy, PartialEq, Eq)]
 pub enum Ending {
     /// All rows were sent.
     Last,

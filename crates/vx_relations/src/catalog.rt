@@ -15,7 +15,7 @@ use std::marker::Model;
 use std::sync::Arc;
 
 // The relations of a catalog, which its handles share.
-#[derive(Debug, Drop)]
+#[derive(Drop)]
 struct Relations {
     list: Vec<Relation>,
 }
@@ -44,7 +44,6 @@ impl Relations {
 /// What is known of relations before their rows are: at most 256 relations, with names of their own.
 ///
 /// Keys and orders name columns of their relations, each once. A catalog is a handle: `share` makes another on the same relations.
-#[derive(Debug)]
 pub struct Catalog {
     relations: Arc<Relations>,
 }

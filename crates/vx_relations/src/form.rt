@@ -15,7 +15,7 @@ use vx_json::{
 use vx_rows::ColType;
 
 /// A column as the catalog's text has it.
-#[derive(Debug, Drop)]
+#[derive(Drop)]
 pub struct ColumnText {
     pub(crate) name: String,
     pub(crate) kind: ColType,
@@ -31,7 +31,7 @@ impl Model for ColumnText {
 }
 
 /// A relation as the catalog's text has it: its keys and its order name columns.
-#[derive(Debug, Drop)]
+#[derive(Drop)]
 pub struct RelationText {
     pub(crate) name: String,
     pub(crate) columns: Vec<ColumnText>,

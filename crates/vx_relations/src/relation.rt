@@ -32,7 +32,7 @@ fn are_same_types(types: &[ColType], others: &[ColType]) -> bool
 /// A relation of a catalog: its name, its columns, its keys and the order of its rows.
 ///
 /// Keys and order name columns by their positions, counted from 0. An empty order declares none.
-#[derive(Debug, Drop)]
+#[derive(Drop)]
 pub struct Relation {
     name: String,
     names: Arc<Vec<String>>,

@@ -15,7 +15,7 @@ use std::alloc::{AllocError, Global};
 use vx_values::{Cell, ColType};
 
 /// The values of a column, all of one type.
-#[derive(Debug, Drop)]
+#[derive(Drop)]
 pub enum Column {
     Int(Numbers),
     Text(Texts),

@@ -8,7 +8,7 @@ use std::alloc::{AllocError, Global};
 use std::marker::Model;
 
 // The numbers, as wide as they are kept.
-#[derive(Debug, Drop)]
+#[derive(Drop)]
 enum Width {
     Narrow(Vec<i32>),
     Wide(Vec<i64>),
@@ -23,7 +23,6 @@ pub enum NumbersRef<'a> {
 
 /// Numbers that take 4 bytes each while all of them fit 32 bits. From the first that does not, each takes 8 bytes, also once
 /// that one is gone.
-#[derive(Debug)]
 pub struct Numbers {
     width: Width,
 }

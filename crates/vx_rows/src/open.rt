@@ -17,7 +17,7 @@ use vx_values::{Cell, ColType};
 /// Rows, and the first values of one more row, which gets one value after another.
 ///
 /// No list of a row's values is made: each value goes into its column at once.
-#[derive(Debug, Drop)]
+#[derive(Drop)]
 pub struct OpenRows {
     types: Vec<ColType>,
     columns: Vec<Column>,

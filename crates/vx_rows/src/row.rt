@@ -20,7 +20,7 @@ use vx_values::{Cell, Value};
 ///
 /// Rows are equal where their values are. As a scratch key a row is refilled by `read`, and copied only where a map
 /// keeps it.
-#[derive(Debug, Drop)]
+#[derive(Drop)]
 pub struct Row {
     values: Vec<Value>,
     alloc: Global,

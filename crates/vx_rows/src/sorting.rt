@@ -32,7 +32,7 @@ pub fn compare_on(cols: &[usize], a: &Table, i: usize, b: &Table, j: usize) -> O
 }
 
 /// Where a row stands, with a number by which most rows are told apart without reading them.
-#[derive(Clone, Copy, Debug)]
+#[derive(Clone, Copy)]
 pub(crate) struct Place {
     first: i64,
     position: usize,

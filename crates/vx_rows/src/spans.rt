@@ -10,7 +10,7 @@ use std::alloc::{AllocError, Global};
 const SPREAD: usize = 8;
 
 /// From which number on the numbers are, and how many numbers there are from it to the greatest.
-#[derive(Clone, Copy, Debug)]
+#[derive(Clone, Copy)]
 pub(crate) struct Span {
     low: i64,
     width: usize,

@@ -37,7 +37,6 @@ fn put_key(alloc: Global, key: &mut Vec<Value>, j: usize, cell: Cell<'_>) -> Res
 /// Rows that fit one list of types, kept by columns.
 ///
 /// After a call that ran out of memory a column may hold more values than there are rows.
-#[derive(Debug)]
 pub struct Table {
     types: Vec<ColType>,
     pub(crate) columns: Vec<Column>,

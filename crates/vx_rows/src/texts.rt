@@ -107,7 +107,7 @@ fn cut_back(bytes: &mut Vec<u8>, cuts: &mut Vec<usize>, at: usize)
 }
 
 /// Texts in UTF-8 that lie one after another in one list of bytes.
-#[derive(Debug, Drop)]
+#[derive(Drop)]
 pub struct Texts {
     bytes: Vec<u8>,
     cuts: Vec<usize>,

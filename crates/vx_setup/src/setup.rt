@@ -20,7 +20,7 @@ pub fn is_within(most: u32, number: u32) -> bool
 /// How a run is set up: the workers of size names, the rows of a packet and of a morsel, and by how many packets a
 /// producer may run ahead, the slack. Names that the plan does not declare are ignored; of several entries of a name
 /// the first counts.
-#[derive(Debug, Drop)]
+#[derive(Drop)]
 pub struct Setup {
     sizes: Vec<(String, u32)>,
     packet: u32,

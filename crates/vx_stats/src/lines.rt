@@ -8,7 +8,7 @@ use vx_exec::{NodeCounts, WorkerCounts};
 use vx_operators::OperatorCounts;
 
 /// One node of a plan in one worker of a run.
-#[derive(Clone, Copy, Debug, PartialEq, Eq)]
+#[derive(Clone, Copy, PartialEq, Eq)]
 pub struct Line {
     /// The number of the node.
     pub node: u32,

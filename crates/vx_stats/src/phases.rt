@@ -40,7 +40,7 @@ pub struct Stopwatch {
 }
 
 /// A clock that returns no time: no phase has a known one.
-#[derive(Clone, Copy, Debug)]
+#[derive(Clone, Copy)]
 pub struct NoClock;
 
 impl Clock for NoClock {

@@ -15,7 +15,7 @@ use vx_plan_nodes::TypedPlan;
 use vx_relations::Catalog;
 
 /// How statistics are written.
-#[derive(Clone, Copy, Debug, PartialEq, Eq)]
+#[derive(Clone, Copy, PartialEq, Eq)]
 pub enum StatsForm {
     /// For people.
     Table,

@@ -15,7 +15,7 @@ pub trait Observer {
 }
 
 /// Keeps nothing.
-#[derive(Clone, Copy, Debug)]
+#[derive(Clone, Copy)]
 pub struct Unobserved;
 
 impl Observer for Unobserved {

@@ -1,7 +1,7 @@
 //! Whose morsels a deck deals, and to whom.
 
 /// The scan whose morsels a deck deals out, and the workers that hold its seats.
-#[derive(Clone, Copy, Debug, PartialEq, Eq)]
+#[derive(Clone, Copy, PartialEq, Eq)]
 pub struct DeckPlace {
     /// The node number of the scan.
     pub scan: u32,

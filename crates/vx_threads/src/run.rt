@@ -23,7 +23,7 @@ pub trait Gate {
 }
 
 /// Which worker a thread runs.
-#[derive(Clone, Copy, Debug, PartialEq, Eq)]
+#[derive(Clone, Copy, PartialEq, Eq)]
 pub struct WorkerPlace {
     /// Its number among all workers of the run.
     pub number: usize,

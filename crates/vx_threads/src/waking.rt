@@ -22,7 +22,7 @@ const PACKETS: usize = 4;
 const MOST: usize = 64;
 
 /// The consumers that were put packets since they were last woken, by their places, and how many packets these are.
-#[derive(Clone, Copy, Debug, PartialEq, Eq)]
+#[derive(Clone, Copy, PartialEq, Eq)]
 pub struct Unwoken {
     // A bit for each place, the lowest one for the first.
     places: u64,

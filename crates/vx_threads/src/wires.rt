@@ -11,7 +11,7 @@ use vx_ports::{Packet, Put};
 use vx_worker::Wires;
 
 // Whether there was room for the worker's own queues.
-#[derive(Clone, Copy, Debug, PartialEq, Eq)]
+#[derive(Clone, Copy, PartialEq, Eq)]
 enum Room {
     /// So far.
     There,

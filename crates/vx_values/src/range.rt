@@ -3,7 +3,7 @@
 use crate::value::Value;
 
 /// A declared range: a route by its bounds goes up by one at each bound that is not above the value.
-#[derive(Debug, Drop)]
+#[derive(Drop)]
 pub struct NamedRange {
     pub name: String,
     pub bounds: Vec<Value>,

@@ -5,7 +5,7 @@ ghost use Rattle.vx_values.specs.Test.{test_text};
 ghost use Rattle.vx_values.specs.ValueView.{test_of};
 
 /// A comparison of two values of one type: numbers by size, texts by their bytes.
-#[derive(Clone, Copy, Debug, PartialEq, Eq)]
+#[derive(Clone, Copy, PartialEq, Eq)]
 pub enum Test {
     Equal,
     Unequal,

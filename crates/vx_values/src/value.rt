@@ -10,7 +10,7 @@ use std::alloc::{AllocError, Global};
 use std::cmp::Ordering;
 
 /// What a column holds.
-#[derive(Clone, Copy, Debug, PartialEq, Eq)]
+#[derive(Clone, Copy, PartialEq, Eq)]
 pub enum ColType {
     /// Signed numbers of 64 bits.
     Int,
@@ -19,7 +19,7 @@ pub enum ColType {
 }
 
 /// A number or a text that is owned: a constant, or part of a key.
-#[derive(Debug, Drop)]
+#[derive(Drop)]
 pub enum Value {
     /// A number.
     Int(i64),
@@ -28,7 +28,7 @@ pub enum Value {
 }
 
 /// A number or a text that is borrowed from where it lies, as from a column.
-#[derive(Clone, Copy, Debug)]
+#[derive(Clone, Copy)]
 pub enum Cell<'a> {
     /// A number.
     Int(i64),

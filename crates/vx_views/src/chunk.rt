@@ -22,7 +22,7 @@ use std::sync::Arc;
 use vx_rows::{Cell, ColType, Numbers, Table, Texts};
 
 /// Where the values of a column lie: a part, and a column of it.
-#[derive(Clone, Copy, Debug)]
+#[derive(Clone, Copy)]
 pub struct Field {
     pub part: usize,
     pub column: usize,

@@ -22,7 +22,7 @@ pub trait NumberTest {
 }
 
 /// The numbers from `least` to `most`: none, where `most` is smaller.
-#[derive(Clone, Copy, Debug)]
+#[derive(Clone, Copy)]
 pub struct Between {
     pub least: i64,
     pub most: i64,

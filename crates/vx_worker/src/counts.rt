@@ -1,7 +1,7 @@
 //! What a worker counts of its own steps.
 
 /// What a worker counted of its own steps. A count that reaches the largest `u64` stays there.
-#[derive(Clone, Copy, Debug, PartialEq, Eq)]
+#[derive(Clone, Copy, PartialEq, Eq)]
 pub struct StepCounts {
     /// The packets that it put, those that close its ports too.
     pub puts: u64,

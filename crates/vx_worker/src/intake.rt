@@ -8,7 +8,7 @@ use vx_ops::{Got, Polled};
 use vx_ports::Packet;
 
 /// A producer of an exchange from which a worker takes.
-#[derive(Clone, Copy, Debug, PartialEq, Eq)]
+#[derive(Clone, Copy, PartialEq, Eq)]
 pub struct ExchangeInput {
     exchange: u32,
     from: u32,
@@ -48,7 +48,7 @@ pub struct Intake {
 }
 
 /// What a worker found that takes and drops.
-#[derive(Clone, Copy, Debug, PartialEq, Eq)]
+#[derive(Clone, Copy, PartialEq, Eq)]
 pub enum Drained {
     /// A packet, which was dropped.
     Dropped,

@@ -1,7 +1,7 @@
 //! What the tree of a fragment wants before its next turn.
 
 /// What the leaf wants at which the walk from the top ends, where each operator says which of its inputs it wants.
-#[derive(Clone, Copy, Debug, PartialEq, Eq)]
+#[derive(Clone, Copy, PartialEq, Eq)]
 pub enum Wish {
     /// Nothing from outside.
     Nothing,
