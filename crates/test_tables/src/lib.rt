@@ -5,4 +5,4 @@
 
 mod tables;
 
-pub use tables::{TYPES, shown, table};
+pub use tables::{TYPES, show_cell, shown, table};

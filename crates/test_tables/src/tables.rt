@@ -9,8 +9,8 @@ use vx_rows::{Cell, ColType, Table, Value};
 /// A number and a text.
 pub const TYPES: [ColType; 2] = [ColType::Int, ColType::Text];
 
-// Adds a number as it is, or a text in quotes.
-fn show_cell(text: &mut String, cell: Cell<'_>) -> Result<(), AllocError> {
+/// Adds a number as it is, or a text in quotes.
+pub fn show_cell(text: &mut String, cell: Cell<'_>) -> Result<(), AllocError> {
     match cell {
         Cell::Int(n) => write!(text, "{n}"),
         Cell::Text(s) => write!(text, "'{s}'"),

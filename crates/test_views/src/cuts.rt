@@ -6,8 +6,8 @@ ghost use Rattle.vx_rows.specs.View.{ArePositions};
 
 use std::alloc::{AllocError, Global};
 use std::sync::Arc;
-use test_tables::{shown, table};
-use vx_rows::{Cell, Table};
+use test_tables::{show_cell, shown, table};
+use vx_rows::Table;
 use vx_views::Chunk;
 
 /// The rows of a table: a number and a text each.
@@ -49,14 +49,6 @@ pub fn picked(alloc: Global, chunk: &Chunk, places: &[usize]) -> Result<Chunk, A
         return Ok(chunk.at(alloc, places)?);
     }
     Ok(chunk.share(alloc)?)
-}
-
-// Adds a number as it is, or a text in quotes.
-fn show_cell(text: &mut String, cell: Cell<'_>) -> Result<(), AllocError> {
-    match cell {
-        Cell::Int(n) => write!(text, "{n}"),
-        Cell::Text(s) => write!(text, "'{s}'"),
-    }
 }
 
 // Adds the values of a row with a space between them, and a semicolon.
