@@ -2,6 +2,7 @@
 
 use crate::columns::{is_within, kept_columns, kept_places, shifted};
 use std::alloc::{AllocError, Global};
+use vx_check_rules::{are_routed_alike, is_same_route};
 use vx_plan_nodes::{Binary, ExchangeKind, Part, Phase, Route, Size, TypedNode, Unary};
 
 // So many parts of a node are tried at most.
@@ -40,14 +41,6 @@ pub fn copied_part(alloc: Global, part: &Part) -> Result<Part, AllocError> {
             route,
             Vec::from_slice(alloc, columns.as_slice())?,
         ),
-    }
-}
-
-fn is_same_route(route: &Route, other: &Route) -> bool {
-    match (route, other) {
-        (Route::Hash(name), Route::Hash(other)) => name.as_str() == other.as_str(),
-        (Route::Range(range), Route::Range(other)) => *range == *other,
-        _ => false,
     }
 }
 
@@ -134,25 +127,6 @@ fn parts_over(alloc: Global, operator: &Unary, parts: Vec<Part>) -> Result<Vec<P
         }
     }
     most_telling(alloc, shown)
-}
-
-// Whether the lists are equally long and each column is paired with the one at its place.
-fn are_pairs(on: &[(usize, usize)], lefts: &[usize], rights: &[usize]) -> bool {
-    lefts.len() == rights.len()
-        && lefts
-            .iter()
-            .zip(rights.iter())
-            .all(|(left, right)| on.contains(&(*left, *right)))
-}
-
-// Whether both parts are routed by one route, on columns that the pairs name.
-fn are_routed_alike(on: &[(usize, usize)], left: &Part, right: &Part) -> bool {
-    match (left, right) {
-        (Part::Routed(route, lefts), Part::Routed(other, rights)) => {
-            is_same_route(route, other) && are_pairs(on, lefts.as_slice(), rights.as_slice())
-        }
-        _ => false,
-    }
 }
 
 // The part of a join's right input, at the columns of the output.

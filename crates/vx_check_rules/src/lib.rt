@@ -19,6 +19,7 @@ mod shown;
 
 pub use checked::CheckedPlan;
 pub use checking::check;
+pub use parts::{are_routed_alike, gives, is_same_route};
 pub use refusal::{failure_at, root_failure};
 pub use refused::Refused;
 pub use rule::Rule;

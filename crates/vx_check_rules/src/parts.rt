@@ -12,8 +12,8 @@ use crate::nodes::{claimed_part, has_one_worker};
 use crate::pairs::are_pairs;
 use vx_plan_nodes::{Part, Projected, Route, TypedNode};
 
-// The same kind and name.
-fn is_same_route(route: &Route, other: &Route) -> bool
+/// Whether two routes are one: of the same kind, with the same name.
+pub fn is_same_route(route: &Route, other: &Route) -> bool
     ensures { result ≡ route_eq (route_of route.now) (route_of other.now) }
 {
     match (route, other) {

@@ -5,55 +5,15 @@ ghost use Rattle.vx_relations.specs.Relation.{Relation};
 ghost use Rattle.vx_plan_nodes.specs.Plan.{any, routed};
 ghost use Rattle.vx_plan_nodes.specs.Outline.{route_of, part_of, unary_of, binary_of, kind_of, outline_of, plan_of};
 ghost use Rattle.vx_plan_nodes.specs.Outputs.{HasOutputs};
-ghost use Rattle.vx_check_rules.specs.Rules.{numbers_eq, route_eq, part_gives};
+ghost use Rattle.vx_check_rules.specs.Rules.{part_gives};
 ghost use Rattle.vx_failures.specs.Shown.{routed_at, kept_part, unary_part, join_part, binary_part, kind_part, several_part, node_part};
 ghost use Rattle.vx_failures.specs.ShownView.{place_at};
 
 use crate::places::Places;
 use std::alloc::{AllocError, Global};
+use vx_check_rules::gives;
 use vx_plan_nodes::{Binary, ExchangeKind, Part, Route, Size, TypedNode, Unary, output_types};
 use vx_values::ColType;
-
-// The same kind and name.
-fn is_same_route(route: &Route, other: &Route) -> bool
-    ensures { result ≡ route_eq (route_of route.now) (route_of other.now) }
-{
-    match (route, other) {
-        (Route::Hash(name), Route::Hash(other)) => name.as_str() == other.as_str(),
-        (Route::Range(range), Route::Range(other)) => *range == *other,
-        _ => false,
-    }
-}
-
-// The same columns in the same order.
-fn are_same(columns: &[usize], others: &[usize]) -> bool
-    ensures { result ≡ numbers_eq columns.now others.now }
-{
-    columns == others
-}
-
-// Whether a part that is routed by this route on these columns gives the wanted one.
-fn route_gives(route: &Route, columns: &[usize], wanted: &Part) -> bool
-    ensures { result ≡ part_gives (routed (route_of route.now) columns.now) (part_of wanted.now) }
-{
-    match wanted {
-        Part::One | Part::All => false,
-        Part::Any => true,
-        Part::Routed(other, others) => is_same_route(route, other)
-            && are_same(columns, others.as_slice()),
-    }
-}
-
-// Whether the wanted part is the claimed one, or any where that is routed.
-fn gives(claimed: &Part, wanted: &Part) -> bool
-    ensures { result ≡ part_gives (part_of claimed.now) (part_of wanted.now) }
-{
-    match (claimed, wanted) {
-        (Part::One, Part::One) | (Part::Any, Part::Any) | (Part::All, Part::All) => true,
-        (Part::Routed(route, columns), _) => route_gives(route, columns.as_slice(), wanted),
-        _ => false,
-    }
-}
 
 fn copied_route(alloc: Global, route: &Route) -> Result<Route, AllocError>
     ensures { IfOk result (λ r. route_of r ≡ route_of route.now) }
