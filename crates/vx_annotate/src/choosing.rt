@@ -5,9 +5,9 @@ use crate::formed::FormedClaim;
 use crate::keys::keys_of;
 use crate::naming::Naming;
 use crate::orders::{order_of, rising_part};
-use crate::parts::{copied_part, is_same_part, part_over, parts_of, parts_over_both, width_of};
+use crate::parts::{is_same_part, part_over, parts_of, parts_over_both, width_of};
 use std::alloc::{AllocError, Global};
-use vx_plan_nodes::{Binary, Claim, Exchange, ExchangeKind, Part, TypedNode, Unary};
+use vx_plan_nodes::{Binary, Claim, Exchange, ExchangeKind, Part, TypedNode, Unary, copied_part};
 use vx_relations::Catalog;
 
 // The first of the parts; where there is none, each row is somewhere.

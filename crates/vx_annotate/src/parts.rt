@@ -3,7 +3,9 @@
 use crate::columns::{is_within, kept_columns, kept_places, shifted};
 use std::alloc::{AllocError, Global};
 use vx_check_rules::{are_routed_alike, is_same_route};
-use vx_plan_nodes::{Binary, ExchangeKind, Part, Phase, Route, Size, TypedNode, Unary};
+use vx_plan_nodes::{
+    Binary, Part, Phase, Size, TypedNode, Unary, copied_part, kind_part, routed_part,
+};
 
 // So many parts of a node are tried at most.
 const MAX_PARTS: usize = 16;
@@ -16,32 +18,6 @@ pub fn width_of(node: &TypedNode) -> usize {
 /// Whether a node has one worker, whatever its sizes are.
 pub fn has_one_worker(node: &TypedNode) -> bool {
     matches!(node.size(), Size::One)
-}
-
-fn copied_route(alloc: Global, route: &Route) -> Result<Route, AllocError> {
-    match route {
-        Route::Hash(name) => Ok(Route::Hash(String::from_str(alloc, name.as_str())?)),
-        Route::Range(range) => Ok(Route::Range(*range)),
-    }
-}
-
-// A part that is routed so, on these columns.
-fn routed(alloc: Global, route: &Route, columns: Vec<usize>) -> Result<Part, AllocError> {
-    Ok(Part::Routed(copied_route(alloc, route)?, columns))
-}
-
-/// A copy of a part.
-pub fn copied_part(alloc: Global, part: &Part) -> Result<Part, AllocError> {
-    match part {
-        Part::One => Ok(Part::One),
-        Part::Any => Ok(Part::Any),
-        Part::All => Ok(Part::All),
-        Part::Routed(route, columns) => routed(
-            alloc,
-            route,
-            Vec::from_slice(alloc, columns.as_slice())?,
-        ),
-    }
 }
 
 /// Whether two parts are one.
@@ -103,7 +79,7 @@ fn kept_part(alloc: Global, kept: &[usize], part: &Part) -> Result<Part, AllocEr
         return copied_part(alloc, part);
     };
     match kept_places(alloc, kept, columns.as_slice())? {
-        Some(places) => routed(alloc, route, places),
+        Some(places) => routed_part(alloc, route, places),
         None => Ok(Part::Any),
     }
 }
@@ -132,7 +108,7 @@ fn parts_over(alloc: Global, operator: &Unary, parts: Vec<Part>) -> Result<Vec<P
 // The part of a join's right input, at the columns of the output.
 fn shifted_part(alloc: Global, width: usize, part: &Part) -> Result<Part, AllocError> {
     match part {
-        Part::Routed(route, columns) => routed(
+        Part::Routed(route, columns) => routed_part(
             alloc,
             route,
             shifted(alloc, width, columns.as_slice())?,
@@ -217,20 +193,6 @@ fn parts_of_both(
         add_parts_over(alloc, &mut shown, operator, width, left, rights)?;
     }
     most_telling(alloc, shown)
-}
-
-// The part that an exchange of this kind shows.
-fn kind_part(alloc: Global, kind: &ExchangeKind) -> Result<Part, AllocError> {
-    match kind {
-        ExchangeKind::Route(_, route, columns) => routed(
-            alloc,
-            route,
-            Vec::from_slice(alloc, columns.as_slice())?,
-        ),
-        ExchangeKind::Round(_) => Ok(Part::Any),
-        ExchangeKind::Broadcast(_) => Ok(Part::All),
-        ExchangeKind::Gather | ExchangeKind::Concat => Ok(Part::One),
-    }
 }
 
 fn list_of(alloc: Global, part: Part) -> Result<Vec<Part>, AllocError> {

@@ -7,13 +7,14 @@ use Rattle.std.proofs.lemmas.Bool.{eqb-true}
 use Rattle.std.proofs.lemmas.List.Folds.{list_all-append, list_any-append, list_all-map}
 use Rattle.vx_relations.specs.Relation.{Relation}
 use Rattle.vx_plan_nodes.specs.Plan.{Route, by_hash, by_range, Part, one, any, all, routed, Claim, Unary, select, project, distinct, sort, group, plain, partial, final, union, join, ExchangeKind, route_to, round, broadcast, gather, concat, Plan, scan, unary, binary, exchange, claim, size, size_eq, is_one, Size, one_worker, group_of}
+use Rattle.vx_plan_nodes.specs.Parts.{kind_part}
 use Rattle.vx_plan_nodes.specs.Outline.{claim_of}
 use Rattle.vx_plan_nodes.specs.declared.typed.Claim as rust_claim
 use Rattle.vx_plan_nodes.specs.Types.{width}
 use Rattle.vx_check_rules.specs.Rules.{numbers_eq, route_eq, part_gives, has, not_replicated, contains, within, is_prefix, cons_both, copied, if_some, left_columns, right_columns, routed_alike, through, sizes_match, order_given, binary_inputs_match, inputs_match, unary_shows, alike_shows, join_shows, both_have, kind_shows, shows, goes_on, orders, covers, numbers_below, unary_keys, shifted, keys_of}
 use Rattle.vx_check_rules.specs.Joints.{held_keys}
 use Rattle.vx_check_rules.specs.Refusal.{Rule, size_mismatch, replicated_input, inputs_not_matched, order_needed, part_not_shown, order_not_shown, key_not_shown, first_failure, node_tests}
-use Rattle.vx_failures.specs.Shown.{Shows, kept_place, left_place, right_place, places, place_then, front_places, kept_keys, first_numbers, routed_at, kept_part, unary_part, join_part, kind_part, several_part, node_part, node_order, unary_shown_keys, first_pair, held_shown_keys, node_keys, is_of_claim, claim_with, shown_claim}
+use Rattle.vx_failures.specs.Shown.{Shows, kept_place, left_place, right_place, places, place_then, front_places, kept_keys, first_numbers, routed_at, kept_part, unary_part, join_part, several_part, node_part, node_order, unary_shown_keys, first_pair, held_shown_keys, node_keys, is_of_claim, claim_with, shown_claim}
 
 -- ---- lists of columns
 

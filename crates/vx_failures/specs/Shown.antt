@@ -1,7 +1,8 @@
 -- What the rule table shows at a node in place of its claim, over the claims that the node's inputs make.
 use Rattle.std.specs.Prelude.{◌≡◌, ℕ, zero, suc, ◌+◌, ◌==◌, nat_lt, Bool, true, false, cond, ◌||◌, List, [], ◌∷◌, ◌++◌, map, length, position, filter_map, Option, Some, None, option_map}
 use Rattle.vx_relations.specs.Relation.{Relation}
-use Rattle.vx_plan_nodes.specs.Plan.{Route, Part, one, any, all, routed, Claim, Unary, select, project, distinct, sort, group, plain, partial, final, Binary, union, join, ExchangeKind, route_to, round, broadcast, gather, concat, Plan, scan, unary, binary, exchange, claim, size, is_one}
+use Rattle.vx_plan_nodes.specs.Plan.{Route, Part, one, any, all, routed, Claim, Unary, select, project, distinct, sort, group, plain, partial, final, Binary, union, join, Plan, scan, unary, binary, exchange, claim, size, is_one}
+use Rattle.vx_plan_nodes.specs.Parts.{kind_part}
 use Rattle.vx_plan_nodes.specs.Types.{width}
 use Rattle.vx_check_rules.specs.Rules.{part_gives, cons_both, covers, goes_on}
 use Rattle.vx_check_rules.specs.Refusal.{Rule, part_not_shown, order_not_shown, key_not_shown, first_failure, node_tests}
@@ -80,13 +81,6 @@ join_part w p q = Some p
 abbrev pub binary_part : Binary → ℕ → Part → Part → Option Part
 binary_part union w p q = Some (cond (part_gives q p) p any)
 binary_part (join m on) w p q = join_part w p q
-
-abbrev pub kind_part : ExchangeKind → Part
-kind_part (route_to z r cols) = routed r cols
-kind_part (round z) = any
-kind_part (broadcast z) = all
-kind_part gather = one
-kind_part concat = one
 
 abbrev pub several_part : (ℕ → Relation) → Plan → Option Part
 several_part catalog (scan n c r shared z) = Some (cond shared any all)

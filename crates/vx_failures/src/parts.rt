@@ -2,56 +2,27 @@
 
 ghost use Rattle.std.specs.Prelude.{◌≡◌, ℕ, cond, length, option_map, IfOk};
 ghost use Rattle.vx_relations.specs.Relation.{Relation};
-ghost use Rattle.vx_plan_nodes.specs.Plan.{any, routed};
-ghost use Rattle.vx_plan_nodes.specs.Outline.{route_of, part_of, unary_of, binary_of, kind_of, outline_of, plan_of};
+ghost use Rattle.vx_plan_nodes.specs.Plan.{any};
+ghost use Rattle.vx_plan_nodes.specs.Outline.{route_of, part_of, unary_of, binary_of, outline_of, plan_of};
 ghost use Rattle.vx_plan_nodes.specs.Outputs.{HasOutputs};
 ghost use Rattle.vx_check_rules.specs.Rules.{part_gives};
-ghost use Rattle.vx_failures.specs.Shown.{routed_at, kept_part, unary_part, join_part, binary_part, kind_part, several_part, node_part};
+ghost use Rattle.vx_failures.specs.Shown.{routed_at, kept_part, unary_part, join_part, binary_part, several_part, node_part};
 ghost use Rattle.vx_failures.specs.ShownView.{place_at};
 
 use crate::places::Places;
 use std::alloc::{AllocError, Global};
 use vx_check_rules::gives;
-use vx_plan_nodes::{Binary, ExchangeKind, Part, Route, Size, TypedNode, Unary, output_types};
+use vx_plan_nodes::{
+    Binary, Part, Route, Size, TypedNode, Unary, copied_part, kind_part, output_types, routed_part,
+};
 use vx_values::ColType;
-
-fn copied_route(alloc: Global, route: &Route) -> Result<Route, AllocError>
-    ensures { IfOk result (λ r. route_of r ≡ route_of route.now) }
-{
-    match route {
-        Route::Hash(name) => Ok(Route::Hash(String::from_str(alloc, name.as_str())?)),
-        Route::Range(range) => Ok(Route::Range(*range)),
-    }
-}
-
-// A part that is routed so, on these columns.
-fn routed(alloc: Global, route: &Route, columns: Vec<usize>) -> Result<Part, AllocError>
-    ensures { IfOk result (λ p. part_of p ≡ routed (route_of route.now) columns.items) }
-{
-    Ok(Part::Routed(copied_route(alloc, route)?, columns))
-}
-
-fn copied_part(alloc: Global, part: &Part) -> Result<Part, AllocError>
-    ensures { IfOk result (λ p. part_of p ≡ part_of part.now) }
-{
-    match part {
-        Part::One => Ok(Part::One),
-        Part::Any => Ok(Part::Any),
-        Part::All => Ok(Part::All),
-        Part::Routed(route, columns) => routed(
-            alloc,
-            route,
-            Vec::from_slice(alloc, columns.as_slice())?,
-        ),
-    }
-}
 
 // A part that is routed on these columns, if there are any; else each row is somewhere.
 fn routed_at(alloc: Global, route: &Route, columns: Option<Vec<usize>>) -> Result<Part, AllocError>
     ensures { IfOk result (λ p. part_of p ≡ routed_at (route_of route.now) (option_map (λ v. v.items) columns)) }
 {
     match columns {
-        Some(columns) => routed(alloc, route, columns),
+        Some(columns) => routed_part(alloc, route, columns),
         None => Ok(Part::Any),
     }
 }
@@ -124,22 +95,6 @@ fn binary_part(
     match operator {
         Binary::Union => Ok(Some(union_part(alloc, left, right)?)),
         Binary::HashJoin(_) | Binary::MergeJoin(_) => join_part(alloc, types, left, right),
-    }
-}
-
-// The part of an exchange of this kind.
-fn kind_part(alloc: Global, kind: &ExchangeKind) -> Result<Part, AllocError>
-    ensures { IfOk result (λ p. part_of p ≡ kind_part (kind_of kind.now)) }
-{
-    match kind {
-        ExchangeKind::Route(_, route, columns) => routed(
-            alloc,
-            route,
-            Vec::from_slice(alloc, columns.as_slice())?,
-        ),
-        ExchangeKind::Round(_) => Ok(Part::Any),
-        ExchangeKind::Broadcast(_) => Ok(Part::All),
-        ExchangeKind::Gather | ExchangeKind::Concat => Ok(Part::One),
     }
 }
 

@@ -1,4 +1,5 @@
 pub mod Plan
+pub mod Parts
 pub mod Types
 pub mod Numbering
 pub mod Serial

@@ -5,6 +5,7 @@ mod conditions;
 mod halves;
 mod name;
 mod outputs;
+mod parts;
 mod router;
 mod typed;
 mod typed_plan;
@@ -12,6 +13,7 @@ mod typed_plan;
 pub use conditions::copied_conditions;
 pub use name::{Name, find_output_name, name_texts, share_names};
 pub use outputs::output_types;
+pub use parts::{copied_part, kind_part, routed_part};
 pub use router::Router;
 pub use typed::{
     Aggregate, Binary, Claim, Columns, Condition, Exchange, ExchangeKind, Head, Part, Phase,
