@@ -1,4 +1,3 @@
 pub mod FailureFacts
 pub mod FindingFacts
-pub mod NamingFacts
 pub mod ShownFacts

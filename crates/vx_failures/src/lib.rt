@@ -6,7 +6,6 @@ mod failure;
 mod finding;
 mod keys;
 mod lines;
-mod naming;
 mod orders;
 mod parts;
 mod places;

@@ -11,11 +11,12 @@ ghost use Rattle.vx_failures.specs.FailureView.{failure_is};
 
 use crate::failure::Failure;
 use crate::finding::node_numbered;
-use crate::naming::claim_text;
 use crate::shown::shown_claim;
 use itoa::Buffer;
 use std::alloc::{AllocError, Global};
 use vx_check_rules::Rule;
+use vx_plan::named_claim;
+use vx_plan_json::claim_text;
 use vx_plan_nodes::{Claim, Name, TypedNode, TypedPlan};
 
 // The code and the name of a rule.
@@ -48,8 +49,9 @@ fn push_claim(
     let Some(claim) = claim else {
         return Ok(());
     };
+    let named = named_claim(alloc, plan.ranges(), names, &claim)?;
     text.push_str(" shown=")?;
-    text.push_str(claim_text(alloc, plan, names, &claim)?.as_str())
+    text.push_str(claim_text(alloc, &named)?.as_str())
 }
 
 // The names of the columns of a node's output.

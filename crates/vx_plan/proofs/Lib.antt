@@ -3,6 +3,7 @@ pub mod TestFacts
 pub mod SeenFacts
 pub mod BoundFacts
 pub mod Apart
+pub mod NamingFacts
 pub mod FoundFacts
 pub mod ClaimFacts
 pub mod PhaseFacts

@@ -8,12 +8,14 @@ mod erasing;
 mod exchange_nodes;
 mod fits;
 mod lookup;
+mod naming;
 mod nodes;
 mod phases;
 mod resolving;
 mod unary_nodes;
 
 pub use erasing::erase;
+pub use naming::named_claim;
 pub use resolving::{plans_are_resolved_exactly, resolve};
 pub use vx_plan_json::{Plan, PlanFault, Test, to_json};
 pub use vx_plan_nodes::{

@@ -106,6 +106,9 @@ claim_members-plain : (c : ClaimForm) → ArePlain 2 (claim_members c)
 claim_members-plain c =
     with_some-plain 1 (codes "keys") names_json (names-plain 0) c.keys _ (with_some-plain 1 (codes "order") string (text-plain 1) c.order _ (with_part-plain c.part no_members (none-plain _)))
 
+pub claim-plain : (c : ClaimForm) → IsPlain 3 (object (claim_members c))
+claim-plain c = object-plain 2 (claim_members c) (claim_members-plain c)
+
 with_object-plain : (n : ℕ) (key : List ℕ) (own ms : Members) → ArePlain n own → ArePlain (suc n) ms → ArePlain (suc n) (with_object key own ms)
 with_object-plain n key no_members ms p q = q
 with_object-plain n key (member k d own) ms p q = put-plain (suc n) key (object (member k d own)) ms (object-plain n (member k d own) p) q

@@ -1,7 +1,7 @@
 //! A plan as JSON.
 
 ghost use Rattle.std.specs.Prelude.{◌≡◌, ℕ, List, map, string_bytes, codes, Ok, IfOk, OnOk};
-ghost use Rattle.serde_json.specs.Data.{string, put};
+ghost use Rattle.serde_json.specs.Data.{object, string, put};
 ghost use Rattle.serde_json.specs.View.{view, members_view};
 ghost use Rattle.serde_json.specs.Written.{compact_text};
 ghost use Rattle.vx_values.specs.Values.{Name, Val};
@@ -554,6 +554,19 @@ fn plan_json(alloc: Global, plan: &Plan) -> Result<Json, AllocError>
     put_total(&mut members, alloc, plan.is_total())?;
     put(&mut members, alloc, "root", node_json(alloc, plan.root())?)?;
     Ok(Json::Object(members))
+}
+
+fn claim_json(alloc: Global, claim: &NamedClaim) -> Result<Json, AllocError>
+    ensures { IfOk result (λ d. view d ≡ object (claim_members (claim_form claim.now))) }
+{
+    Ok(Json::Object(claim_members(alloc, claim)?))
+}
+
+/// A claim as a plan document writes it.
+pub fn claim_text(alloc: Global, claim: &NamedClaim) -> Result<String, AllocError>
+    ensures { IfOk result (λ s. string_bytes s ≡ compact_text (object (claim_members (claim_form claim.now)))) }
+{
+    claim_json(alloc, claim)?.to_string(alloc)
 }
 
 /// The plan as a JSON text, without the members that have their defaults. It reads as the same plan.

@@ -12,7 +12,7 @@ mod reading;
 
 pub use document::Plan;
 pub use fault::PlanFault;
-pub use json::to_json;
+pub use json::{claim_text, to_json};
 pub use plan::{
     NamedAggregate, NamedBinary, NamedClaim, NamedCondition, NamedFunction, NamedKind, NamedOutput,
     NamedPart, NamedScan, NamedSide, NamedUnary, Node,
