@@ -63,15 +63,6 @@ pub fn shifted(alloc: Global, width: usize, columns: &[usize]) -> Result<Vec<usi
     Ok(places)
 }
 
-/// The first columns, so many.
-pub fn first_columns(alloc: Global, count: usize) -> Result<Vec<usize>, AllocError> {
-    let mut columns = Vec::new(alloc);
-    for column in 0..count {
-        columns.push(column)?;
-    }
-    Ok(columns)
-}
-
 /// Whether each column of the first list is in the second.
 pub fn is_within(columns: &[usize], others: &[usize]) -> bool {
     columns.iter().all(|column| others.contains(column))

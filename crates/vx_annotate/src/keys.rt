@@ -1,10 +1,9 @@
 //! The minimal keys that a node shows.
 
-use crate::columns::{
-    are_covered, first_columns, is_within, kept_places, projected_columns, shifted,
-};
+use crate::columns::{are_covered, is_within, kept_places, projected_columns, shifted};
 use crate::parts::width_of;
 use std::alloc::{AllocError, Global};
+use vx_plan::first_columns;
 use vx_plan_nodes::{Binary, Phase, TypedNode, Unary};
 use vx_relations::Catalog;
 

@@ -8,13 +8,15 @@ use Rattle.std.proofs.lemmas.List.Folds.{list_all-append, list_any-append, list_
 use Rattle.vx_relations.specs.Relation.{Relation}
 use Rattle.vx_plan_nodes.specs.Plan.{Route, by_hash, by_range, Part, one, any, all, routed, Claim, Unary, select, project, distinct, sort, group, plain, partial, final, union, join, ExchangeKind, route_to, round, broadcast, gather, concat, Plan, scan, unary, binary, exchange, claim, size, size_eq, is_one, Size, one_worker, group_of}
 use Rattle.vx_plan_nodes.specs.Parts.{kind_part}
+use Rattle.vx_plan_nodes.specs.Phases.{first_columns}
 use Rattle.vx_plan_nodes.specs.Outline.{claim_of}
 use Rattle.vx_plan_nodes.specs.declared.typed.Claim as rust_claim
 use Rattle.vx_plan_nodes.specs.Types.{width}
+use Rattle.vx_plan.proofs.PhaseFacts.{first_push}
 use Rattle.vx_check_rules.specs.Rules.{numbers_eq, route_eq, part_gives, has, not_replicated, contains, within, is_prefix, cons_both, copied, if_some, left_columns, right_columns, routed_alike, through, sizes_match, order_given, binary_inputs_match, inputs_match, unary_shows, alike_shows, join_shows, both_have, kind_shows, shows, goes_on, orders, covers, numbers_below, unary_keys, shifted, keys_of}
 use Rattle.vx_check_rules.specs.Joints.{held_keys}
 use Rattle.vx_check_rules.specs.Refusal.{Rule, size_mismatch, replicated_input, inputs_not_matched, order_needed, part_not_shown, order_not_shown, key_not_shown, first_failure, node_tests}
-use Rattle.vx_failures.specs.Shown.{Shows, kept_place, left_place, right_place, places, place_then, front_places, kept_keys, first_numbers, routed_at, kept_part, unary_part, join_part, several_part, node_part, node_order, unary_shown_keys, first_pair, held_shown_keys, node_keys, is_of_claim, claim_with, shown_claim}
+use Rattle.vx_failures.specs.Shown.{Shows, kept_place, left_place, right_place, places, place_then, front_places, kept_keys, routed_at, kept_part, unary_part, join_part, several_part, node_part, node_order, unary_shown_keys, first_pair, held_shown_keys, node_keys, is_of_claim, claim_with, shown_claim}
 
 -- ---- lists of columns
 
@@ -332,9 +334,12 @@ order-shown catalog (exchange n c k merge p) = by-kept (is_one (size p) || goes_
 
 -- ---- keys
 
-any-all-first : (p : ℕ → Bool) (n : ℕ) → list_all p (first_numbers n) ≡ list_all p (numbers_below n)
+first-next : (n : ℕ) → first_columns (suc n) ≡ first_columns n ++ n ∷ []
+first-next n = let e : suc n ≡ n + 1 = omega arith in ap first_columns e ∙ first_push n
+
+any-all-first : (p : ℕ → Bool) (n : ℕ) → list_all p (first_columns n) ≡ list_all p (numbers_below n)
 any-all-first p zero = refl
-any-all-first p (suc n) = list_all-append p (first_numbers n) (n ∷ []) ∙ swap (list_all p (first_numbers n)) (list_all p (numbers_below n)) (p n) (any-all-first p n)
+any-all-first p (suc n) = ap (list_all p) (first-next n) ∙ list_all-append p (first_columns n) (n ∷ []) ∙ swap (list_all p (first_columns n)) (list_all p (numbers_below n)) (p n) (any-all-first p n)
   where
     swap : (a b c : Bool) → a ≡ b → (a && (c && true)) ≡ (c && b)
     swap true true true h = refl
@@ -344,9 +349,9 @@ any-all-first p (suc n) = list_all-append p (first_numbers n) (n ∷ []) ∙ swa
     swap true false c h = cc
     swap false true c h = cc
 
-contains-first : (n c : ℕ) → contains (first_numbers n) c ≡ contains (numbers_below n) c
+contains-first : (n c : ℕ) → contains (first_columns n) c ≡ contains (numbers_below n) c
 contains-first zero c = refl
-contains-first (suc n) c = list_any-append (λ y. c == y) (first_numbers n) (n ∷ []) ∙ swap (contains (first_numbers n) c) (contains (numbers_below n) c) (c == n) (contains-first n c)
+contains-first (suc n) c = ap (λ ns. contains ns c) (first-next n) ∙ list_any-append (λ y. c == y) (first_columns n) (n ∷ []) ∙ swap (contains (first_columns n) c) (contains (numbers_below n) c) (c == n) (contains-first n c)
   where
     swap : (a b d : Bool) → a ≡ b → (a || (d || false)) ≡ (d || b)
     swap true true true h = refl
@@ -356,11 +361,11 @@ contains-first (suc n) c = list_any-append (λ y. c == y) (first_numbers n) (n �
     swap true false d h = cc
     swap false true d h = cc
 
--- the first numbers are those below n, in both directions
-below-within : (n : ℕ) → within (numbers_below n) (first_numbers n) ≡ true
-below-within n = all-more (contains (numbers_below n)) (contains (first_numbers n)) (numbers_below n) (λ x h. contains-first n x ∙ h) (within-same (numbers_below n))
+-- the first columns are those below n, in both directions
+below-within : (n : ℕ) → within (numbers_below n) (first_columns n) ≡ true
+below-within n = all-more (contains (numbers_below n)) (contains (first_columns n)) (numbers_below n) (λ x h. contains-first n x ∙ h) (within-same (numbers_below n))
 
-first-within : (n : ℕ) → within (first_numbers n) (numbers_below n) ≡ true
+first-within : (n : ℕ) → within (first_columns n) (numbers_below n) ≡ true
 first-within n = any-all-first (contains (numbers_below n)) n ∙ within-same (numbers_below n)
 
 -- keys that pass a test, and pass another one at their places

@@ -1,8 +1,9 @@
 -- What the rule table shows at a node in place of its claim, over the claims that the node's inputs make.
-use Rattle.std.specs.Prelude.{◌≡◌, ℕ, zero, suc, ◌+◌, ◌==◌, nat_lt, Bool, true, false, cond, ◌||◌, List, [], ◌∷◌, ◌++◌, map, length, position, filter_map, Option, Some, None, option_map}
+use Rattle.std.specs.Prelude.{◌≡◌, ℕ, ◌+◌, ◌==◌, nat_lt, Bool, true, false, cond, ◌||◌, List, [], ◌∷◌, ◌++◌, map, length, position, filter_map, Option, Some, None, option_map}
 use Rattle.vx_relations.specs.Relation.{Relation}
 use Rattle.vx_plan_nodes.specs.Plan.{Route, Part, one, any, all, routed, Claim, Unary, select, project, distinct, sort, group, plain, partial, final, Binary, union, join, Plan, scan, unary, binary, exchange, claim, size, is_one}
 use Rattle.vx_plan_nodes.specs.Parts.{kind_part}
+use Rattle.vx_plan_nodes.specs.Phases.{first_columns}
 use Rattle.vx_plan_nodes.specs.Types.{width}
 use Rattle.vx_check_rules.specs.Rules.{part_gives, cons_both, covers, goes_on}
 use Rattle.vx_check_rules.specs.Refusal.{Rule, part_not_shown, order_not_shown, key_not_shown, first_failure, node_tests}
@@ -44,11 +45,6 @@ place_then (Some c) cs = c ∷ cs
 abbrev pub front_places : (ℕ → Option ℕ) → List ℕ → List ℕ
 front_places at [] = []
 front_places at (c ∷ cs) = place_then (at c) (front_places at cs)
-
--- the numbers below n, the least first
-abbrev pub first_numbers : ℕ → List ℕ
-first_numbers zero = []
-first_numbers (suc n) = first_numbers n ++ (n ∷ [])
 
 -- ---- parts
 
@@ -121,10 +117,10 @@ abbrev pub unary_shown_keys : Unary → List (List ℕ) → List (List ℕ)
 unary_shown_keys (select cs) keys = keys
 unary_shown_keys (sort cols) keys = keys
 unary_shown_keys (project cols) keys = kept_keys (kept_place cols) keys
-unary_shown_keys (distinct cols) keys = first_numbers (length cols) ∷ []
-unary_shown_keys (group plain by aggregates) keys = first_numbers (length by) ∷ []
+unary_shown_keys (distinct cols) keys = first_columns (length cols) ∷ []
+unary_shown_keys (group plain by aggregates) keys = first_columns (length by) ∷ []
 unary_shown_keys (group partial by aggregates) keys = []
-unary_shown_keys (group final by aggregates) keys = first_numbers (length by) ∷ []
+unary_shown_keys (group final by aggregates) keys = first_columns (length by) ∷ []
 
 -- the first key of each input together
 abbrev pub first_pair : List (List ℕ) → List (List ℕ) → List (List ℕ)

@@ -5,11 +5,13 @@ ghost use Rattle.vx_relations.specs.Relation.{Relation};
 ghost use Rattle.vx_relations.specs.Catalog.{relation_at};
 ghost use Rattle.vx_plan_nodes.specs.Outline.{unary_of, binary_of, outline_of, plan_of};
 ghost use Rattle.vx_plan_nodes.specs.Outputs.{HasOutputs};
+ghost use Rattle.vx_plan_nodes.specs.Phases.{first_columns};
 ghost use Rattle.vx_check_rules.specs.Rules.{contains, within, covers};
-ghost use Rattle.vx_failures.specs.Shown.{first_numbers, left_place, right_place, kept_keys, unary_shown_keys, first_pair, held_shown_keys, binary_shown_keys, node_keys};
+ghost use Rattle.vx_failures.specs.Shown.{left_place, right_place, kept_keys, unary_shown_keys, first_pair, held_shown_keys, binary_shown_keys, node_keys};
 
 use crate::places::Places;
 use std::alloc::{AllocError, Global};
+use vx_plan::first_columns;
 use vx_plan_nodes::{Binary, Phase, TypedNode, Unary, output_types};
 use vx_relations::{Catalog, Relation};
 use vx_values::ColType;
@@ -48,17 +50,6 @@ fn declared_keys(alloc: Global, catalog: &Catalog, relation: usize) -> Result<Ke
     }
 }
 
-// The first columns, so many.
-fn first_columns(alloc: Global, count: usize) -> Result<Vec<usize>, AllocError>
-    ensures { IfOk result (λ v. v.items ≡ first_numbers count) }
-{
-    let mut columns = Vec::new(alloc);
-    for column in 0..count {
-        columns.push(column)?;
-    }
-    Ok(columns)
-}
-
 // A key alone.
 fn only_key(alloc: Global, key: Vec<usize>) -> Result<Keys, AllocError>
     ensures { IfOk result (λ v. map (λ k. k.items) v.items ≡ key.items ∷ []) }
@@ -70,7 +61,7 @@ fn only_key(alloc: Global, key: Vec<usize>) -> Result<Keys, AllocError>
 
 // The key of the first columns, so many.
 fn key_of_first(alloc: Global, count: usize) -> Result<Keys, AllocError>
-    ensures { IfOk result (λ v. map (λ k. k.items) v.items ≡ first_numbers count ∷ []) }
+    ensures { IfOk result (λ v. map (λ k. k.items) v.items ≡ first_columns count ∷ []) }
 {
     only_key(alloc, first_columns(alloc, count)?)
 }

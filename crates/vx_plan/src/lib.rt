@@ -16,6 +16,7 @@ mod unary_nodes;
 
 pub use erasing::erase;
 pub use naming::named_claim;
+pub use phases::first_columns;
 pub use resolving::{plans_are_resolved_exactly, resolve};
 pub use vx_plan_json::{Plan, PlanFault, Test, to_json};
 pub use vx_plan_nodes::{
