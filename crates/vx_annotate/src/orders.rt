@@ -6,18 +6,6 @@ use std::alloc::{AllocError, Global};
 use vx_plan_nodes::{Binary, Exchange, ExchangeKind, Part, Route, TypedNode, Unary};
 use vx_relations::Catalog;
 
-fn declared_order(
-    alloc: Global,
-    catalog: &Catalog,
-    relation: usize,
-) -> Result<Vec<usize>, AllocError> {
-    if relation < catalog.len() {
-        Vec::from_slice(alloc, catalog.get(relation).order())
-    } else {
-        Ok(Vec::new(alloc))
-    }
-}
-
 // The order of an operator over an input in the order `below`.
 fn order_over(
     alloc: Global,
@@ -93,7 +81,7 @@ pub fn order_of(
     node: &TypedNode,
 ) -> Result<Vec<usize>, AllocError> {
     match node {
-        TypedNode::Scan(_, scan) => declared_order(alloc, catalog, scan.relation),
+        TypedNode::Scan(_, scan) => Vec::from_slice(alloc, catalog.order_of(scan.relation)),
         TypedNode::Unary(_, operator, input) => {
             let below = order_of(alloc, catalog, input)?;
             order_over(alloc, operator, below)

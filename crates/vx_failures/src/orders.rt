@@ -12,21 +12,6 @@ use std::alloc::{AllocError, Global};
 use vx_plan_nodes::{Binary, Exchange, ExchangeKind, Part, Route, Size, TypedNode, Unary};
 use vx_relations::Catalog;
 
-// The order that the relation declares.
-fn declared_order(
-    alloc: Global,
-    catalog: &Catalog,
-    relation: usize,
-) -> Result<Vec<usize>, AllocError>
-    ensures { IfOk result (λ v. v.items ≡ (relation_at catalog.now relation).order) }
-{
-    if relation < catalog.len() {
-        Vec::from_slice(alloc, catalog.get(relation).order())
-    } else {
-        Ok(Vec::new(alloc))
-    }
-}
-
 // The order of an operator over an input in the order `below`.
 fn unary_order(alloc: Global, operator: &Unary, below: &[usize]) -> Result<Vec<usize>, AllocError>
     ensures { IfOk result (λ v. v.items ≡ unary_order (unary_of operator.now) below.now) }
@@ -113,7 +98,7 @@ pub fn node_order(
     ensures { IfOk result (λ v. v.items ≡ node_order (relation_at catalog.now) (plan_of node.now)) }
 {
     match node {
-        TypedNode::Scan(_, scan) => declared_order(alloc, catalog, scan.relation),
+        TypedNode::Scan(_, scan) => Vec::from_slice(alloc, catalog.order_of(scan.relation)),
         TypedNode::Unary(_, operator, input) => {
             unary_order(alloc, operator, input.head().claim.order.as_slice())
         }

@@ -151,6 +151,17 @@ impl Catalog {
         &self.as_slice()[relation]
     }
 
+    /// The declared order of the relation with this number; past the end the empty one.
+    pub fn order_of(&self, relation: usize) -> &[usize]
+        ensures { result.now ≡ (relation_at self.now relation).order }
+    {
+        if relation < self.len() {
+            self.get(relation).order()
+        } else {
+            &[]
+        }
+    }
+
     /// The number of the relation of this name.
     pub fn find(&self, name: &str) -> Option<usize>
         ensures { result ≡ position (λ r. bytes_eq name.now r.name) self.now }
