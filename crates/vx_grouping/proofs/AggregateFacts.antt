@@ -1,5 +1,5 @@
 -- The aggregates of rows when one more row comes at the end.
-use Rattle.std.proofs.Common.{◌≡◌, ℕ, ◌+◌, ◌≤◌, pos, negsuc, ◌+ℤ◌, ◌-ℤ◌, Bool, true, false, cond, List, [], ◌∷◌, ◌++◌, map, length, refl, sym, ap, ◌∙◌, arith, true≢false, is_le, is_lt, is_gt, Ordering, Less, Equal, Greater}
+use Rattle.std.proofs.Common.{◌≡◌, ℕ, ◌+◌, ◌≤◌, pos, negsuc, ◌+ℤ◌, ◌-ℤ◌, Bool, true, false, cond, List, [], ◌∷◌, ◌++◌, length, refl, sym, ap, ◌∙◌, arith, true≢false, is_le, is_lt, is_gt, Ordering, Less, Equal, Greater}
 use Rattle.std.proofs.lemmas.List.{length-append}
 use Rattle.std.proofs.lemmas.Int.{ints}
 use Rattle.vx_values.specs.Values.{Val, num, text, Row, val_cmp, value_at}
@@ -8,7 +8,7 @@ use Rattle.vx_plan_nodes.specs.Plan.{Aggregate, least, greatest, sum, count_rows
 use Rattle.vx_plan_nodes.specs.Serial.{smaller, larger, least_of, greatest_of, sum_of, count_of, above_zero, below_zero, aggregate_of}
 use Rattle.std.proofs.lemmas.Cmp.{upto}
 use Rattle.vx_rows.proofs.Compare.{val_cmp_total, val_cmp-same, not_gt-le, le-not_gt, le-reverse}
-use Rattle.vx_grouping.specs.Groups.{number_of, next_value, advance, counted, all_held}
+use Rattle.vx_grouping.specs.Groups.{number_of, next_value, advance, counted, held_of}
 
 val-trans : (a b c : Val) → is_le (val_cmp a b) ≡ true → is_le (val_cmp b c) ≡ true → is_le (val_cmp a c) ≡ true
 val-trans a b c h k = le-not_gt _ (upto val_cmp_total a b c (not_gt-le _ h) (not_gt-le _ k))
@@ -97,10 +97,8 @@ counted-most (greatest c) n = omega arith
 counted-most (sum c) n = omega arith
 counted-most count_rows n = omega arith
 
-pub held-push : (as' : List Aggregate) (x : Row) (xs : List Row) (y : Row) → all_held as' ((x ∷ xs) ++ y ∷ []) ≡ map (advance y) (all_held as' (x ∷ xs))
-held-push [] x xs y = refl
-held-push (a ∷ as') x xs y =
-    λ i. record { aggregate = a; value = aggregate-push a x xs y i; taken = counted-push a (x ∷ xs) y i } ∷ held-push as' x xs y i
+pub held-push : (a : Aggregate) (x : Row) (xs : List Row) (y : Row) → held_of a ((x ∷ xs) ++ y ∷ []) ≡ advance y (held_of a (x ∷ xs))
+held-push a x xs y = λ i. record { aggregate = a; value = aggregate-push a x xs y i; taken = counted-push a (x ∷ xs) y i }
 
 -- the smaller of two values is the second where the first is above it, and else the first
 pub smaller_second : (v w : Val) → is_gt (val_cmp v w) ≡ true → smaller v w ≡ w

@@ -1,24 +1,17 @@
 -- What a grouping shows at its end is the definition's rows, or an overflow.
-use Rattle.std.proofs.Common.{◌≡◌, ℕ, suc, zero, ◌+◌, ◌<◌, Bool, true, false, cond, ◌&&◌, List, [], ◌∷◌, ◌++◌, map, take, length, get_or, Some, None, refl, sym, ap, ◌∙◌, arith}
+use Rattle.std.proofs.Common.{◌≡◌, ℕ, ◌+◌, ◌<◌, ◌≤◌, true, false, cond, ◌&&◌, List, [], ◌∷◌, ◌++◌, map, take, length, get_or, take_all, Some, None, refl, sym, ap, ◌∙◌, subst}
 use Rattle.std.specs.List.{list_all}
-use Rattle.std.proofs.lemmas.List.{length-map}
-use Rattle.std.proofs.lemmas.List.Folds.{list_all_at}
+use Rattle.std.proofs.lemmas.List.{get_or-map, map_more}
+use Rattle.std.proofs.lemmas.List.Folds.{list_all_at, list_all_more}
 use Rattle.vx_values.specs.Values.{Row}
 use Rattle.vx_plan_nodes.specs.Plan.{Aggregate, least, greatest, sum, count_rows}
 use Rattle.vx_plan_nodes.specs.Serial.{group_keys, of_key, fits, aggregate_of, group_row, group_fits, group_rows}
-use Rattle.vx_grouping.specs.Groups.{Held, held_of, all_held, held_fits, part_of, Groups, HasTaken}
+use Rattle.vx_grouping.specs.Groups.{Held, held_of, no_held, all_held, held_fits, part_of, column_of, held_at, Groups, HasTaken}
+use Rattle.vx_grouping.proofs.GroupFacts.{of_rows}
 
--- each key with the values of its aggregates
+-- a key with the values of its aggregates
 abbrev pub key_row : Row → List Held → Row
 key_row key hs = key ++ map (λ h. h.value) hs
-
-abbrev pub key_rows : List Row → List (List Held) → List Row
-key_rows [] hs = []
-key_rows (k ∷ ks) [] = []
-key_rows (k ∷ ks) (h ∷ hs) = key_row k h ∷ key_rows ks hs
-
-abbrev pub all_fit : List (List Held) → Bool
-all_fit groups = list_all (λ hs. list_all held_fits hs) groups
 
 fits-held : (a : Aggregate) (xs : List Row) → held_fits (held_of a xs) ≡ fits a xs
 fits-held (least c) xs = refl
@@ -34,41 +27,51 @@ values-are : (as' : List Aggregate) (xs : List Row) → map (λ h. h.value) (all
 values-are [] xs = refl
 values-are (a ∷ as') xs = λ i. aggregate_of a xs ∷ values-are as' xs i
 
-groups-fit : (by : List ℕ) (as' : List Aggregate) (xs ks : List Row) → all_fit (map (part_of by as' xs) ks) ≡ list_all (group_fits by as' xs) ks
-groups-fit by as' xs [] = refl
-groups-fit by as' xs (k ∷ ks) = λ i. part-fits as' (of_key by k xs) i && groups-fit by as' xs ks i
-
 pub row-is : (by : List ℕ) (as' : List Aggregate) (xs : List Row) (k : Row) → key_row k (part_of by as' xs k) ≡ group_row by as' xs k
 row-is by as' xs k = ap (λ vs. k ++ vs) (values-are as' (of_key by k xs))
 
-groups-rows : (by : List ℕ) (as' : List Aggregate) (xs ks : List Row) → key_rows ks (map (part_of by as' xs) ks) ≡ map (group_row by as' xs) ks
-groups-rows by as' xs [] = refl
-groups-rows by as' xs (k ∷ ks) = λ i. row-is by as' xs k i ∷ groups-rows by as' xs ks i
+-- the aggregates of a number are those of the rows of its key
+pub held-is : (g : Groups) (xs : List Row) (n : ℕ) → HasTaken g xs → n < length (group_keys g.by xs) → held_at n g.columns ≡ part_of g.by g.aggregates xs (get_or (group_keys g.by xs) n [])
+held-is g xs n t l = ap (held_at n) t.columns_are ∙ all g.aggregates
+  where
+    all : (as' : List Aggregate) → held_at n (map (column_of g.by xs) as') ≡ part_of g.by as' xs (get_or (group_keys g.by xs) n [])
+    all [] = refl
+    all (a ∷ as') = λ i. get_or-map (of_rows g.by a xs) (group_keys g.by xs) n [] no_held l i ∷ all as' i
 
--- there are as many groups as keys
-pub level : (g : Groups) (xs : List Row) → HasTaken g xs → length g.groups ≡ length g.keys
-level g xs t = ap length t.groups_are ∙ (length-map (group_keys g.by xs) (part_of g.by g.aggregates xs) ∙ sym (ap length t.keys_are))
+-- the rows and the fits of the keys so far, with one key more
+pub rows-next : (g : Groups) (xs : List Row) (n : ℕ) (found next : List Row) (key : Row) → HasTaken g xs → n < length g.keys → key ≡ get_or g.keys n []
+    → found ≡ map (group_row g.by g.aggregates xs) (take n (group_keys g.by xs)) → next ≡ found ++ key_row key (held_at n g.columns) ∷ []
+    → next ≡ map (group_row g.by g.aggregates xs) (take (n + 1) (group_keys g.by xs))
+rows-next g xs n found next key t l at was is =
+    let ks = group_keys g.by xs in
+    let near : n < length ks = subst (λ keys. n < length keys) t.keys_are l in
+    let key-is : key ≡ get_or ks n [] = at ∙ ap (λ keys. get_or keys n []) t.keys_are in
+    is ∙ ((λ i. was i ++ (ap (λ k. key_row k (held_at n g.columns)) key-is ∙ (ap (key_row (get_or ks n [])) (held-is g xs n t near) ∙ row-is g.by g.aggregates xs (get_or ks n []))) i ∷ [])
+    ∙ sym (map_more (group_row g.by g.aggregates xs) ks n [] near))
 
-finished : (g : Groups) (xs : List Row) → HasTaken g xs → cond (all_fit g.groups) (Some (key_rows g.keys g.groups)) None ≡ group_rows g.by g.aggregates xs
-finished g xs t =
-    (λ i. cond (all_fit (t.groups_are i)) (Some (key_rows (t.keys_are i) (t.groups_are i))) None)
-    ∙ (λ i. cond (groups-fit g.by g.aggregates xs (group_keys g.by xs) i) (Some (groups-rows g.by g.aggregates xs (group_keys g.by xs) i)) None)
+pub fits-next : (g : Groups) (xs : List Row) (n : ℕ) → HasTaken g xs → n < length g.keys → list_all (group_fits g.by g.aggregates xs) (take n (group_keys g.by xs)) ≡ true
+    → list_all held_fits (held_at n g.columns) ≡ true → list_all (group_fits g.by g.aggregates xs) (take (n + 1) (group_keys g.by xs)) ≡ true
+fits-next g xs n t l was fit =
+    let ks = group_keys g.by xs in
+    let near : n < length ks = subst (λ keys. n < length keys) t.keys_are l in
+    let own : group_fits g.by g.aggregates xs (get_or ks n []) ≡ true =
+    sym (part-fits g.aggregates (of_key g.by (get_or ks n []) xs)) ∙ (ap (list_all held_fits) (sym (held-is g xs n t near)) ∙ fit) in
+    list_all_more (group_fits g.by g.aggregates xs) ks n [] near ∙ rw (was, own) refl
 
--- all fit: the rows are these
-pub finished-rows : (g : Groups) (xs : List Row) → HasTaken g xs → all_fit g.groups ≡ true → group_rows g.by g.aggregates xs ≡ Some (key_rows g.keys g.groups)
-finished-rows g xs t h = sym (finished g xs t) ∙ ap (λ b. cond b (Some (key_rows g.keys g.groups)) None) h
+-- all keys came
+pub finished-rows : (g : Groups) (xs : List Row) (n : ℕ) (found : List Row) → HasTaken g xs → length g.keys ≤ n → found ≡ map (group_row g.by g.aggregates xs) (take n (group_keys g.by xs))
+    → list_all (group_fits g.by g.aggregates xs) (take n (group_keys g.by xs)) ≡ true → group_rows g.by g.aggregates xs ≡ Some found
+finished-rows g xs n found t past are fit =
+    let ks = group_keys g.by xs in
+    let whole : take n ks ≡ ks = take_all n ks (subst (λ keys. length keys ≤ n) t.keys_are past) in
+    ap (λ b. cond b (Some (map (group_row g.by g.aggregates xs) ks)) None) (ap (list_all (group_fits g.by g.aggregates xs)) (sym whole) ∙ fit)
+    ∙ ap Some (ap (map (group_row g.by g.aggregates xs)) (sym whole) ∙ sym are)
 
--- one does not
-pub finished-none : (g : Groups) (xs : List Row) (i : ℕ) → HasTaken g xs → i < length g.groups → list_all held_fits (get_or g.groups i []) ≡ false → group_rows g.by g.aggregates xs ≡ None
-finished-none g xs i t l h =
-    sym (finished g xs t) ∙ ap (λ b. cond b (Some (key_rows g.keys g.groups)) None) (list_all_at (λ hs. list_all held_fits hs) g.groups i [] l h)
-
--- one key more
-pub rows-more : (ks : List Row) (hs : List (List Held)) (i : ℕ) → i < length ks → i < length hs
-    → key_rows (take (i + 1) ks) (take (i + 1) hs) ≡ key_rows (take i ks) (take i hs) ++ key_row (get_or ks i []) (get_or hs i []) ∷ []
-rows-more [] hs i l m = absurd (omega (arith, l))
-rows-more (k ∷ ks) [] i l m = absurd (omega (arith, m))
-rows-more (k ∷ ks) (h ∷ hs) zero l m = refl
-rows-more (k ∷ ks) (h ∷ hs) (suc i) l m =
-    let up : suc i + 1 ≡ suc (i + 1) = omega arith in
-    ap (λ n. key_rows (take n (k ∷ ks)) (take n (h ∷ hs))) up ∙ ap (λ rows. key_row k h ∷ rows) (rows-more ks hs i (omega (arith, l)) (omega (arith, m)))
+-- one does not fit
+pub finished-none : (g : Groups) (xs : List Row) (n : ℕ) → HasTaken g xs → n < length g.keys → list_all held_fits (held_at n g.columns) ≡ false → group_rows g.by g.aggregates xs ≡ None
+finished-none g xs n t l h =
+    let ks = group_keys g.by xs in
+    let near : n < length ks = subst (λ keys. n < length keys) t.keys_are l in
+    let own : group_fits g.by g.aggregates xs (get_or ks n []) ≡ false =
+    sym (part-fits g.aggregates (of_key g.by (get_or ks n []) xs)) ∙ (ap (list_all held_fits) (sym (held-is g xs n t near)) ∙ h) in
+    ap (λ b. cond b (Some (map (group_row g.by g.aggregates xs) ks)) None) (list_all_at (group_fits g.by g.aggregates xs) ks n [] near own)

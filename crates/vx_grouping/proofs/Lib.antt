@@ -4,5 +4,5 @@ pub mod EndFacts
 pub mod TypeFacts
 pub mod FrontFacts
 pub mod BlameFacts
-pub mod ShownFacts
-pub mod OperandFacts
+pub mod ColumnFacts
+pub mod BeyondFacts

@@ -1,7 +1,7 @@
 -- The types of a group's rows.
 use Rattle.std.proofs.Common.{◌≡◌, ℕ, suc, zero, ◌<◌, Bool, true, false, cond, not, List, [], ◌∷◌, ◌++◌, map, filter, length, get_or, refl, sym, ap, ◌∙◌, subst, arith}
 use Rattle.std.specs.List.{AllByRecursion, list_any}
-use Rattle.std.proofs.lemmas.List.{map-append, get_or-map}
+use Rattle.std.proofs.lemmas.List.{map-append}
 use Rattle.std.proofs.lemmas.List.Folds.{list_any_at}
 use Rattle.vx_values.specs.declared.value.ColType.{ColType}
 use Rattle.vx_values.specs.Values.{Val, Row, val_cmp, value_at, row_eq, pick}
@@ -10,9 +10,9 @@ use Rattle.vx_plan_nodes.specs.Plan.{Aggregate, least, greatest, sum, count_rows
 use Rattle.vx_plan_nodes.specs.Types.{aggregate_type, unary_types}
 use Rattle.vx_plan_nodes.specs.Serial.{least_of, greatest_of, aggregate_of, firsts, group_keys, of_key, group_row}
 use Rattle.std.specs.Ordering.{is_le}
-use Rattle.vx_grouping.specs.Groups.{Groups, HasTaken, part_of}
+use Rattle.vx_grouping.specs.Groups.{Groups, HasTaken, held_at}
 use Rattle.vx_keys.proofs.KeyFacts.{row_eq-refl, any-firsts, of_key-some}
-use Rattle.vx_grouping.proofs.EndFacts.{key_row, row-is}
+use Rattle.vx_grouping.proofs.EndFacts.{key_row, row-is, held-is}
 
 value-typed : (row : Row) (c : ℕ) → type_of (value_at row c) ≡ type_at (map type_of row) c
 value-typed [] c = refl
@@ -90,14 +90,13 @@ any-at : (ks : List Row) (i : ℕ) → i < length ks → list_any (row_eq (get_o
 any-at ks i l = list_any_at (row_eq (get_or ks i [])) ks i [] l (row_eq-refl (get_or ks i []))
 
 -- the row that a grouping shows at a place
-pub shown-typed : (g : Groups) (xs : List Row) (i : ℕ) → HasTaken g xs → i < length g.keys → map type_of (key_row (get_or g.keys i []) (get_or g.groups i [])) ≡ unary_types (group plain g.by g.aggregates) g.types
+pub shown-typed : (g : Groups) (xs : List Row) (i : ℕ) → HasTaken g xs → i < length g.keys → map type_of (key_row (get_or g.keys i []) (held_at i g.columns)) ≡ unary_types (group plain g.by g.aggregates) g.types
 shown-typed g xs i t l =
     let ks = group_keys g.by xs in
     let inside : i < length ks = subst (λ keys. i < length keys) t.keys_are l in
     let k = get_or ks i [] in
     let key-is : get_or g.keys i [] ≡ k = ap (λ keys. get_or keys i []) t.keys_are in
-    let group-is : get_or g.groups i [] ≡ part_of g.by g.aggregates xs k = ap (λ gs. get_or gs i []) t.groups_are ∙ get_or-map (part_of g.by g.aggregates xs) ks i [] [] inside in
     let any : list_any (row_eq k) (map (pick g.by) xs) ≡ true = sym (any-firsts k (map (pick g.by) xs)) ∙ any-at ks i inside in
-    (λ j. map type_of (key_row (key-is j) (group-is j)))
+    (λ j. map type_of (key_row (key-is j) (held-is g xs i t inside j)))
     ∙ (ap (map type_of) (row-is g.by g.aggregates xs k)
     ∙ row-typed g.types g.by g.aggregates xs k t.fit (all-at (λ z. map type_of z ≡ map (type_at g.types) g.by) ks i [] (keys-typed g.types g.by xs t.fit) inside) any)

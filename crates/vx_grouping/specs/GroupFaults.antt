@@ -1,12 +1,12 @@
 -- Why a grouping stops.
 use Rattle.std.specs.Prelude.{◌≡◌, ℕ, ◌<◌, ◌≤◌, false, List, length, None}
-use Rattle.std.specs.List.{AllByRecursion, list_all}
+use Rattle.std.specs.List.{list_all}
 use Rattle.vx_values.specs.Values.{Row}
 use Rattle.vx_plan_nodes.specs.Plan.{Aggregate}
 use Rattle.vx_plan_nodes.specs.Serial.{group_rows}
 use Rattle.vx_grouping.specs.Groups.{Held, held_fits}
-use Rattle.vx_grouping.specs.declared.accumulator.GroupFault.{GroupFault}
-use Rattle.vx_grouping.specs.declared.accumulator.GroupFault.TheVariants.{Overflow, TooMany, NoMemory}
+use Rattle.vx_grouping.specs.declared.fault.GroupFault.{GroupFault}
+use Rattle.vx_grouping.specs.declared.fault.GroupFault.TheVariants.{Overflow, TooMany, NoMemory}
 
 -- a grouping of these rows: a sum or a count does not fit 64 bits, or there are more than 2^62 rows, or memory ran out
 abbrev pub GroupBlame : GroupFault → List ℕ → List Aggregate → List Row → Type 0
@@ -31,12 +31,6 @@ abbrev pub StepBlame : GroupFault → ℕ → Type 0
 StepBlame Overflow n = ⊥
 StepBlame TooMany n = 4611686018427387904 ≤ n
 StepBlame NoMemory n = Unit {0}
-
--- one more row for these: one of them counted 2^62 or more, so 2^62 is not above any bound of their counts
-abbrev pub StepsBlame : GroupFault → List Held → Type 0
-StepsBlame Overflow hs = ⊥
-StepsBlame TooMany hs = (n : ℕ) → AllByRecursion (λ h. h.taken ≤ n) hs → 4611686018427387904 ≤ n
-StepsBlame NoMemory hs = Unit {0}
 
 -- the values of these: one does not fit 64 bits, or memory ran out
 abbrev pub CellsBlame : GroupFault → List Held → Type 0

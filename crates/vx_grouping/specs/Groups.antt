@@ -1,14 +1,11 @@
 -- Rows by key: the aggregates of each key's rows, and how they change when one more row comes.
-use Rattle.std.specs.Prelude.{◌≡◌, ℕ, ℤ, pos, ◌+◌, ◌+ℤ◌, Bool, true, List, Option, None, map, length}
+use Rattle.std.specs.Prelude.{◌≡◌, ℕ, ℤ, pos, ◌+◌, ◌+ℤ◌, Bool, true, List, [], Option, None, map, length, slice_index_or}
 use Rattle.std.specs.List.{AllByRecursion}
 use Rattle.vx_values.specs.declared.value.ColType.{ColType}
-use Rattle.indexmap.specs.IndexSet.{insert_all}
-use Rattle.vx_values.specs.Values.{Val, num, text, Row, row_eq, pick, value_at}
+use Rattle.vx_values.specs.Values.{Val, num, text, Row, value_at}
 use Rattle.vx_values.specs.Types.{Fits, fits_64}
-use Rattle.vx_rows.specs.View.{RowsView}
-use Rattle.vx_keys.specs.Numbers.{numbers_of}
 use Rattle.vx_plan_nodes.specs.Plan.{Aggregate, least, greatest, sum, count_rows}
-use Rattle.vx_grouping.specs.declared.accumulator.GroupFault.{GroupFault}
+use Rattle.vx_grouping.specs.declared.fault.GroupFault.{GroupFault}
 use Rattle.vx_plan_nodes.specs.Serial.{smaller, larger, aggregate_of, of_key, group_keys}
 
 -- a value as a number, a text as 0
@@ -61,35 +58,36 @@ held_fits h = value_fits h.aggregate h.value
 abbrev pub part_of : List ℕ → List Aggregate → List Row → Row → List Held
 part_of by aggregates xs key = all_held aggregates (of_key by key xs)
 
+-- an aggregate of the rows of each key
+abbrev pub column_of : List ℕ → List Row → Aggregate → List Held
+column_of by xs a = map (λ k. held_of a (of_key by k xs)) (group_keys by xs)
+
+-- what stands past the end
+abbrev pub no_held : Held
+no_held = held_of count_rows []
+
+-- the aggregates of the group with this number
+abbrev pub held_at : ℕ → List (List Held) → List Held
+held_at number columns = map (λ column. slice_index_or column number no_held) columns
+
 -- what a grouping shows: the types of its rows' columns, the columns of the key and the aggregates, each key in order of
--- first occurrence, and beside it the aggregates of its rows; and the fault with which it failed, if it did
+-- first occurrence, and for each aggregate what it is of the rows of each key; and the fault with which it failed, if it did
 pub record Groups : Type 0 where
   pub types : List ColType
   pub by : List ℕ
   pub aggregates : List Aggregate
   pub keys : List Row
-  pub groups : List (List Held)
+  pub columns : List (List Held)
   pub failed : Option GroupFault
 
 -- these rows were added, and no others, and it has not failed
 pub record HasTaken (g : Groups) (xs : List Row) : Type 0 where
   pub runs : g.failed ≡ None
   pub keys_are : g.keys ≡ group_keys g.by xs
-  pub groups_are : g.groups ≡ map (part_of g.by g.aggregates xs) (group_keys g.by xs)
+  pub columns_are : g.columns ≡ map (column_of g.by xs) g.aggregates
   pub fit : AllByRecursion (Fits g.types) xs
 
 -- some rows were added, and no others
 pub record HasTakenSome (g : Groups) : Type 0 where
   pub rows : List Row
   pub taken : HasTaken g rows
-
--- rows that come next, with the numbers of their keys: a grouping with these groups and aggregates takes them
-pub record Comes (g : Groups) (groups : List (List Held)) (aggregates : List Aggregate) (rows : RowsView) (numbers : List ℕ) : Type 0 where
-  pub types_are : rows.types ≡ g.types
-  pub groups_are : g.groups ≡ groups
-  pub aggregates_are : g.aggregates ≡ aggregates
-  pub numbers_are : numbers ≡ numbers_of g.keys (map (pick g.by) rows.rows)
-
--- the same with these groups and with the keys of more rows
-abbrev pub behind : Groups → List Row → List (List Held) → Groups
-behind g rows groups = record { types = g.types; by = g.by; aggregates = g.aggregates; keys = insert_all row_eq g.keys (map (pick g.by) rows); groups = groups; failed = g.failed }

@@ -1,4 +1,4 @@
 pub mod Groups
-pub mod Shown
 pub mod GroupFaults
-pub mod Found
+pub mod Takes
+pub mod Shown

@@ -1,22 +1,22 @@
 //! Grouping: rows by key, each key with the aggregates of its rows.
 
-ghost use Rattle.std.specs.Prelude.{◌≡◌, ◌<◌, ◌≤◌, ◌++◌, ◌∷◌, [], List, All, length, map, set, slice_index_or, OnOk, IfOk, IfErr, IfSome, Some, Err, true};
+ghost use Rattle.std.specs.Prelude.{◌≡◌, ◌<◌, ◌++◌, [], ℕ, List, All, length, map, OnOk, IfOk, IfErr, IfSome, Some, Err, true};
 ghost use Rattle.std.specs.List.{list_all};
-ghost use Rattle.vx_values.specs.Values.{Row as Cells};
+ghost use Rattle.vx_values.specs.Values.{Row as Cells, pick};
 ghost use Rattle.vx_values.specs.ValueView.{cell_val};
-ghost use Rattle.vx_rows.specs.View.{row, AreColumns};
+ghost use Rattle.vx_rows.specs.View.{AreColumns};
 ghost use Rattle.vx_views.specs.Chunks.{all_rows};
+ghost use Rattle.vx_keys.specs.Numbers.{numbers_of};
 ghost use Rattle.vx_plan_nodes.specs.Plan.{group, plain};
 ghost use Rattle.vx_plan_nodes.specs.Types.{unary_types, aggregate_type};
-ghost use Rattle.vx_plan_nodes.specs.Serial.{group_rows};
+ghost use Rattle.vx_plan_nodes.specs.Serial.{group_keys, group_rows};
 ghost use Rattle.vx_plan_nodes.specs.Outline.{aggregate_of as op_of};
-ghost use Rattle.vx_grouping.specs.Groups.{Groups, HasTaken, HasTakenSome, Comes, behind, all_held, advance, held_fits};
-ghost use Rattle.vx_grouping.specs.Shown.{held, all_shown};
-ghost use Rattle.vx_grouping.specs.GroupFaults.{GroupBlame, TakeBlame, EndBlame, StepsBlame, CellsBlame};
+ghost use Rattle.vx_grouping.specs.Groups.{HasTaken, HasTakenSome, column_of, held_at, held_fits};
+ghost use Rattle.vx_grouping.specs.Shown.{column_held, aggregate_in};
+ghost use Rattle.vx_grouping.specs.GroupFaults.{GroupBlame, TakeBlame, EndBlame, CellsBlame};
 
-use crate::accumulator::{Accumulator, GroupFault};
-use crate::group::Group;
-use crate::operands::Operands;
+use crate::column::AggregateColumn;
+use crate::fault::GroupFault;
 use std::alloc::{AllocError, Global};
 use std::marker::Model;
 use vx_algebra::types_at;
@@ -32,9 +32,8 @@ use vx_views::{Chunk, Rows};
 pub struct Grouping {
     types: Vec<ColType>,
     by: Vec<usize>,
-    aggregates: Vec<Aggregate>,
     keys: Keys,
-    groups: Vec<Group>,
+    columns: Vec<AggregateColumn>,
     failed: Option<GroupFault>,
     alloc: Global,
 }
@@ -45,9 +44,8 @@ impl Drop for Grouping {
         let Grouping {
             types: _,
             by: _,
-            aggregates: _,
             keys: _,
-            groups: _,
+            columns: _,
             failed: _,
             alloc: _,
         } = self;
@@ -57,75 +55,68 @@ impl Drop for Grouping {
 impl Model for Grouping {
     ghost use Rattle.std.specs.Prelude.{length, map};
     ghost use Rattle.vx_rows.specs.View.{AreColumns};
-    ghost use Rattle.vx_plan_nodes.specs.Outline.{aggregate_of as op_of};
     ghost use Rattle.vx_grouping.specs.Groups.{Groups};
-    ghost use Rattle.vx_grouping.specs.Shown.{all_shown};
+    ghost use Rattle.vx_grouping.specs.Shown.{column_held, aggregate_in};
 
     ghost Value = { Groups };
 
-    ghost view = { λ g. record { types = g.types.items; by = g.by.items; aggregates = map op_of g.aggregates.items; keys = g.keys; groups = all_shown g.groups.items; failed = g.failed } };
+    ghost view = { λ g. record { types = g.types.items; by = g.by.items; aggregates = map aggregate_in g.columns.items; keys = g.keys; columns = map column_held g.columns.items; failed = g.failed } };
 
     ghost invariant = { λ g. AreColumns (length g.types.items) g.by.items };
 }
 
-// Adds row i to the group of this number, or starts the next one with it.
-fn add_row(
+// Adds the rows of a chunk to each aggregate, whose groups have these numbers. After an `Err` some groups may have some of them.
+fn add_columns(
     alloc: Global,
-    groups: &mut Vec<Group>,
-    aggregates: &[Aggregate],
-    operands: &Operands<'_>,
-    i: usize,
-    number: usize,
-) -> Result<(), GroupFault>
-    requires { i < length operands.now.rows }
-    ensures known { OnOk result (number < length groups.old.items → all_shown groups.new.items ≡ set (all_shown groups.old.items) number (map (advance (row operands.now i)) (slice_index_or (all_shown groups.old.items) number []))) }
-    ensures new { OnOk result (length groups.old.items ≤ number → all_shown groups.new.items ≡ all_shown groups.old.items ++ all_held (map op_of aggregates.now) (row operands.now i ∷ []) ∷ []) }
-    ensures err { IfErr result (λ e. StepsBlame e (slice_index_or (all_shown groups.old.items) number [])) }
-{
-    if number < groups.len() {
-        groups[number].add(alloc, operands, i)?;
-        return Ok(());
-    }
-    let group = Group::of(alloc, aggregates, operands, i)?;
-    groups.push(group)?;
-    Ok(())
-}
-
-// Adds the rows of a chunk, each to the group of its key's number. After an `Err` some aggregates may have some of them.
-fn add_numbered(
-    alloc: Global,
-    groups: &mut Vec<Group>,
-    aggregates: &[Aggregate],
+    columns: &mut Vec<AggregateColumn>,
     chunk: &Chunk,
     numbers: &[usize],
 ) -> Result<(), GroupFault>
     requires { length numbers.now ≡ length chunk.now.rows }
-    ensures taken { OnOk result ((g : Groups) (xs : List Cells) → Comes g (all_shown groups.old.items) (map op_of aggregates.now) chunk.now numbers.now → HasTaken g xs → HasTaken (behind g chunk.now.rows (all_shown groups.new.items)) (xs ++ chunk.now.rows)) }
-    ensures err { IfErr result (λ e. (g : Groups) (xs : List Cells) → Comes g (all_shown groups.old.items) (map op_of aggregates.now) chunk.now numbers.now → HasTaken g xs → TakeBlame e (xs ++ chunk.now.rows)) }
+    ensures aggregates { map aggregate_in columns.new.items ≡ map aggregate_in columns.old.items }
+    ensures taken { OnOk result ((by : List ℕ) (xs : List Cells) → numbers.now ≡ numbers_of (group_keys by xs) (map (pick by) chunk.now.rows) → map column_held columns.old.items ≡ map (column_of by xs) (map aggregate_in columns.old.items) → map column_held columns.new.items ≡ map (column_of by (xs ++ chunk.now.rows)) (map aggregate_in columns.old.items)) }
+    ensures err { IfErr result (λ e. (by : List ℕ) (xs : List Cells) → numbers.now ≡ numbers_of (group_keys by xs) (map (pick by) chunk.now.rows) → map column_held columns.old.items ≡ map (column_of by xs) (map aggregate_in columns.old.items) → TakeBlame e (xs ++ chunk.now.rows)) }
 {
-    // each row fits the types
-    let _types = chunk.types();
-    let operands = Operands::of(alloc, chunk)?;
-    for i in 0..chunk.len() {
-        add_row(alloc, groups, aggregates, &operands, i, numbers[i])?;
+    for place in 0..columns.len() {
+        columns[place].add(alloc, chunk, numbers)?;
     }
     Ok(())
 }
 
-// The values of a key, and behind them those of its aggregates.
-fn cells_of<'a>(key: Vec<Cell<'a>>, group: &'a [Accumulator]) -> Result<Vec<Cell<'a>>, GroupFault>
-    ensures cells { IfOk result (λ v. map cell_val v.items ≡ map cell_val key.entry.items ++ map (λ h. h.value) (map held group.now)) }
-    ensures fit { OnOk result (list_all held_fits (map held group.now) ≡ true) }
-    ensures err { IfErr result (λ e. CellsBlame e (map held group.now)) }
+// The values of a key, and behind them those of the aggregates of the group with its number.
+fn cells_of<'a>(
+    key: Vec<Cell<'a>>,
+    columns: &'a [AggregateColumn],
+    number: usize,
+) -> Result<Vec<Cell<'a>>, GroupFault>
+    requires { All (λ c. number < length (column_held c)) columns.now }
+    ensures cells { IfOk result (λ v. map cell_val v.items ≡ map cell_val key.entry.items ++ map (λ h. h.value) (held_at number (map column_held columns.now))) }
+    ensures fit { OnOk result (list_all held_fits (held_at number (map column_held columns.now)) ≡ true) }
+    ensures err { IfErr result (λ e. CellsBlame e (held_at number (map column_held columns.now))) }
 {
     let mut cells = key;
-    for accumulator in group {
-        let Some(cell) = accumulator.cell() else {
+    for column in columns {
+        let Some(cell) = column.cell(number) else {
             return Err(GroupFault::Overflow);
         };
         cells.push(cell)?;
     }
     Ok(cells)
+}
+
+// No groups, for each aggregate.
+fn empty_columns(
+    alloc: Global,
+    aggregates: &[Aggregate],
+) -> Result<Vec<AggregateColumn>, AllocError>
+    ensures aggregates { IfOk result (λ v. map aggregate_in v.items ≡ map op_of aggregates.now) }
+    ensures none { IfOk result (λ v. map column_held v.items ≡ map (column_of [] []) (map op_of aggregates.now)) }
+{
+    let mut columns = Vec::with_capacity(alloc, aggregates.len())?;
+    for aggregate in aggregates {
+        columns.push(AggregateColumn::new(alloc, *aggregate))?;
+    }
+    Ok(columns)
 }
 
 // The types of these aggregates: a least and a greatest value have the column's type, a sum and a count are numbers.
@@ -146,14 +137,14 @@ fn group_types(
     alloc: Global,
     types: &[ColType],
     by: &[usize],
-    aggregates: &[Aggregate],
+    columns: &[AggregateColumn],
 ) -> Result<Vec<ColType>, AllocError>
     requires { AreColumns (length types.now) by.now }
-    ensures { IfOk result (λ v. v.items ≡ unary_types (group plain by.now (map op_of aggregates.now)) types.now) }
+    ensures { IfOk result (λ v. v.items ≡ unary_types (group plain by.now (map aggregate_in columns.now)) types.now) }
 {
     let mut found = types_at(alloc, types, by)?;
-    for aggregate in aggregates {
-        found.push(aggregate_type(types, *aggregate))?;
+    for column in columns {
+        found.push(aggregate_type(types, column.aggregate()))?;
     }
     Ok(found)
 }
@@ -176,9 +167,8 @@ impl Grouping {
         Ok(Grouping {
             types: Vec::from_slice(alloc, types)?,
             by: Vec::from_slice(alloc, by)?,
-            aggregates: Vec::from_slice(alloc, aggregates)?,
             keys: Keys::new(alloc, seed),
-            groups: Vec::new(alloc),
+            columns: empty_columns(alloc, aggregates)?,
             failed: None,
             alloc,
         })
@@ -194,16 +184,11 @@ impl Grouping {
         ensures taken { OnOk result ((xs : List Cells) → HasTaken self.old xs → HasTaken self.new (xs ++ chunk.now.rows)) }
         ensures err { IfErr result (λ e. (xs : List Cells) → HasTaken self.old xs → TakeBlame e (xs ++ chunk.now.rows)) }
     {
+        // each row fits the types
+        let _types = chunk.types();
         let mut numbers = Vec::with_capacity(self.alloc, chunk.len())?;
         self.keys.number_chunk(chunk, &self.by, &mut numbers)?;
-        add_numbered(
-            self.alloc,
-            &mut self.groups,
-            &self.aggregates,
-            chunk,
-            numbers.as_slice(),
-        )?;
-        Ok(())
+        add_columns(self.alloc, &mut self.columns, chunk, numbers.as_slice())
     }
 
     // Adds the rows of chunks behind those that were added. After an `Err` some aggregates may have some of them.
@@ -253,11 +238,11 @@ impl Grouping {
         ensures rows { IfOk result (λ r. (xs : List Cells) → HasTaken self.now xs → group_rows self.now.by self.now.aggregates xs ≡ Some r.rows) }
         ensures err { IfErr result (λ e. (xs : List Cells) → HasTaken self.now xs → EndBlame e self.now.by self.now.aggregates xs) }
     {
-        let types = group_types(self.alloc, &self.types, &self.by, &self.aggregates)?;
+        let types = group_types(self.alloc, &self.types, &self.by, &self.columns)?;
         let mut found = Table::new(self.alloc, types.as_slice())?;
-        for number in 0..self.groups.len() {
+        for number in 0..self.keys.len() {
             let key = self.keys.cells(number)?;
-            let cells = cells_of(key, self.groups[number].accumulators())?;
+            let cells = cells_of(key, &self.columns, number)?;
             found.push_cells(cells.as_slice())?;
         }
         Ok(found)

@@ -1,13 +1,14 @@
 //! Columns whose values are keys by themselves, read where they lie.
 
-ghost use Rattle.std.specs.Prelude.{◌≡◌, ◌^◌, ◌<◌, [], length, map, slice_index, slice_index_or, IfSome};
+ghost use Rattle.std.specs.Prelude.{◌≡◌, ◌^◌, ◌<◌, [], pos, length, map, slice_index, slice_index_or, IfSome};
 ghost use Rattle.vx_values.specs.Values.{pick};
 ghost use Rattle.vx_rows.specs.View.{AreColumns};
+ghost use Rattle.vx_rows.specs.Numbers.{seen_numbers};
 ghost use Rattle.vx_views.specs.Seen.{seen_positions};
 ghost use Rattle.vx_keys.specs.Columns.{number_key, text_key};
 
 use std::marker::Model;
-use vx_rows::{Numbers, Texts};
+use vx_rows::{NumbersRef, Texts};
 use vx_views::{Chunk, PositionsRef};
 
 // How many positions there are.
@@ -32,10 +33,31 @@ fn position(at: PositionsRef<'_>, k: usize) -> usize
     }
 }
 
+// How many numbers there are.
+fn number_count(numbers: NumbersRef<'_>) -> usize
+    ensures { result ≡ length (seen_numbers numbers.entry) }
+{
+    match numbers {
+        NumbersRef::Narrow(narrow) => narrow.len(),
+        NumbersRef::Wide(wide) => wide.len(),
+    }
+}
+
+// The number at a position.
+fn number_at(numbers: NumbersRef<'_>, position: usize) -> i64
+    requires { position < length (seen_numbers numbers) }
+    ensures { result ≡ slice_index_or (seen_numbers numbers.entry) position (pos 0) }
+{
+    match numbers {
+        NumbersRef::Narrow(narrow) => i64::from(narrow[position]),
+        NumbersRef::Wide(wide) => wide[position],
+    }
+}
+
 /// The keys of rows, where each is one number.
 #[derive(Drop)]
 pub struct IntColumn<'a> {
-    numbers: &'a Numbers,
+    numbers: NumbersRef<'a>,
     at: PositionsRef<'a>,
 }
 
@@ -43,14 +65,15 @@ impl<'a> Model for IntColumn<'a> {
     ghost use Rattle.std.specs.Prelude.{List, length};
     ghost use Rattle.vx_values.specs.Values.{Row};
     ghost use Rattle.vx_rows.specs.View.{ArePositions};
+    ghost use Rattle.vx_rows.specs.Numbers.{seen_numbers};
     ghost use Rattle.vx_views.specs.Seen.{seen_positions};
     ghost use Rattle.vx_keys.specs.Columns.{number_keys};
 
     ghost Value = { List Row };
 
-    ghost view = { λ c. number_keys c.numbers.now (seen_positions c.at) };
+    ghost view = { λ c. number_keys (seen_numbers c.numbers) (seen_positions c.at) };
 
-    ghost invariant = { λ c. ArePositions (length c.numbers.now) (seen_positions c.at) };
+    ghost invariant = { λ c. ArePositions (length (seen_numbers c.numbers)) (seen_positions c.at) };
 }
 
 impl<'a> IntColumn<'a> {
@@ -64,7 +87,10 @@ impl<'a> IntColumn<'a> {
         }
         match chunk.numbers(columns[0]) {
             None => None,
-            Some((numbers, at)) => Some(IntColumn { numbers, at }),
+            Some((numbers, at)) => Some(IntColumn {
+                numbers: numbers.view(),
+                at,
+            }),
         }
     }
 
@@ -81,8 +107,8 @@ impl<'a> IntColumn<'a> {
         ensures { number_key result ≡ slice_index_or self.now k [] }
     {
         // no position is above this
-        let _count = self.numbers.len();
-        self.numbers.get(position(self.at, k))
+        let _count = number_count(self.numbers);
+        number_at(self.numbers, position(self.at, k))
     }
 }
 

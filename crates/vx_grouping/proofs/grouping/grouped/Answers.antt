@@ -5,7 +5,7 @@ use Rattle.vx_plan_nodes.specs.Plan.{Aggregate, group, plain}
 use Rattle.vx_plan_nodes.specs.Types.{unary_types}
 use Rattle.vx_plan_nodes.specs.Serial.{group_rows}
 use Rattle.vx_plan_nodes.specs.Outline.{aggregate_of as op_of}
-use Rattle.vx_grouping.specs.declared.accumulator.GroupFault.{GroupFault}
+use Rattle.vx_grouping.specs.declared.fault.GroupFault.{GroupFault}
 use Rattle.vx_grouping.specs.Groups.{HasTaken}
 use Rattle.vx_grouping.specs.GroupFaults.{GroupBlame, EndBlame}
 use Rattle.vx_keys.proofs.ErrorFacts.{reported, if-ok, if-err}
