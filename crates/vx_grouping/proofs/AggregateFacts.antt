@@ -100,15 +100,7 @@ counted-most count_rows n = omega arith
 pub held-push : (a : Aggregate) (x : Row) (xs : List Row) (y : Row) → held_of a ((x ∷ xs) ++ y ∷ []) ≡ advance y (held_of a (x ∷ xs))
 held-push a x xs y = λ i. record { aggregate = a; value = aggregate-push a x xs y i; taken = counted-push a (x ∷ xs) y i }
 
--- the smaller of two values is the second where the first is above it, and else the first
-pub smaller_second : (v w : Val) → is_gt (val_cmp v w) ≡ true → smaller v w ≡ w
-smaller_second v w h = by (val_cmp v w) h
-  where
-    by : (o : Ordering) → is_gt o ≡ true → cond (is_le o) v w ≡ w
-    by Less h = absurd (true≢false (sym h))
-    by Equal h = absurd (true≢false (sym h))
-    by Greater h = refl
-
+-- the smaller of two values is the first where that is not above the second
 pub smaller_first : (v w : Val) → is_gt (val_cmp v w) ≡ false → smaller v w ≡ v
 smaller_first v w h = by (val_cmp v w) h
   where
@@ -117,15 +109,7 @@ smaller_first v w h = by (val_cmp v w) h
     by Equal h = refl
     by Greater h = absurd (true≢false h)
 
--- the larger of two values is the second where that is above the first, and else the first
-pub larger_second : (v w : Val) → is_lt (val_cmp v w) ≡ true → larger v w ≡ w
-larger_second v w h = by (val_cmp v w) h
-  where
-    by : (o : Ordering) → is_lt o ≡ true → cond (is_le o) w v ≡ w
-    by Less h = refl
-    by Equal h = refl
-    by Greater h = absurd (true≢false (sym h))
-
+-- the larger of two values is the first where that is not below the second
 pub larger_first : (v w : Val) → is_lt (val_cmp v w) ≡ false → larger v w ≡ v
 larger_first v w h = by (val_cmp v w) refl h
   where
