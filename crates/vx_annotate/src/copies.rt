@@ -1,16 +1,13 @@
 //! Copies of what a document says of its nodes.
 
 ghost use Rattle.std.specs.Prelude.{◌≡◌, map, option_map, string_bytes, IfOk};
-ghost use Rattle.vx_values.specs.ValueView.{val_of};
-ghost use Rattle.vx_values.specs.Ranges.{range_form};
 ghost use Rattle.vx_plan_json.specs.Document.{side_form, condition_form, output_form, function_form, aggregate_form, scan_form, unary_form, pair_form, binary_form, kind_form};
 
 use std::alloc::{AllocError, Global};
 use vx_plan_json::{
-    NamedAggregate, NamedBinary, NamedCondition, NamedFunction, NamedKind, NamedOutput, NamedRange,
-    NamedScan, NamedSide, NamedUnary,
+    NamedAggregate, NamedBinary, NamedCondition, NamedFunction, NamedKind, NamedOutput, NamedScan,
+    NamedSide, NamedUnary,
 };
-use vx_values::Value;
 
 fn copied_name(alloc: Global, name: &String) -> Result<String, AllocError>
     ensures { IfOk result (λ s. string_bytes s ≡ string_bytes name.now) }
@@ -25,36 +22,6 @@ pub fn copied_names(alloc: Global, names: &[String]) -> Result<Vec<String>, Allo
     let mut copies = Vec::new(alloc);
     for name in names {
         copies.push(copied_name(alloc, name)?)?;
-    }
-    Ok(copies)
-}
-
-fn copied_values(alloc: Global, values: &[Value]) -> Result<Vec<Value>, AllocError>
-    ensures { IfOk result (λ v. map val_of v.items ≡ map val_of values.now) }
-{
-    let mut copies = Vec::new(alloc);
-    for value in values {
-        copies.push(value.copy(alloc)?)?;
-    }
-    Ok(copies)
-}
-
-fn copied_range(alloc: Global, range: &NamedRange) -> Result<NamedRange, AllocError>
-    ensures { IfOk result (λ r. range_form r ≡ range_form range.now) }
-{
-    Ok(NamedRange {
-        name: copied_name(alloc, &range.name)?,
-        bounds: copied_values(alloc, range.bounds.as_slice())?,
-    })
-}
-
-/// Copies of the declared ranges, in their order.
-pub fn copied_ranges(alloc: Global, ranges: &[NamedRange]) -> Result<Vec<NamedRange>, AllocError>
-    ensures { IfOk result (λ v. map range_form v.items ≡ map range_form ranges.now) }
-{
-    let mut copies = Vec::new(alloc);
-    for range in ranges {
-        copies.push(copied_range(alloc, range)?)?;
     }
     Ok(copies)
 }

@@ -6,12 +6,11 @@ ghost use Rattle.vx_plan_json.specs.Formed.{is_claim_form};
 ghost use Rattle.vx_plan_json.specs.PlanView.{document_of};
 ghost use Rattle.vx_annotate.specs.Unclaimed.{no_claim, without_claims, are_claims_formed, unclaimed};
 
-use crate::copies::{
-    copied_binary, copied_kind, copied_names, copied_ranges, copied_scan, copied_unary,
-};
+use crate::copies::{copied_binary, copied_kind, copied_names, copied_scan, copied_unary};
 use crate::formed::{FormedClaim, no_claim};
 use std::alloc::{AllocError, Global};
 use vx_plan_json::{NamedClaim, Node, Plan};
+use vx_values::copied_ranges;
 
 // The last of the claims, which is taken from them, or one that says nothing.
 fn next_claim(alloc: Global, claims: &mut Vec<FormedClaim>) -> NamedClaim

@@ -1,7 +1,6 @@
 //! How the exchanges of each kind deal their rows.
 
-ghost use Rattle.std.specs.Prelude.{◌≡◌, true, map, IfOk};
-ghost use Rattle.vx_values.specs.ValueView.{val_of};
+ghost use Rattle.std.specs.Prelude.{◌≡◌, true, IfOk};
 ghost use Rattle.vx_plan_nodes.specs.Outline.{kind_of, route_of};
 ghost use Rattle.vx_plan_nodes.specs.Typed.{is_kind, is_routed};
 ghost use Rattle.vx_plan_nodes.specs.TypedView.{scope};
@@ -13,18 +12,8 @@ use crate::job::Job;
 use std::alloc::{AllocError, Global};
 use vx_exchange::{Deal, KeyRoute, Ranges};
 use vx_plan_nodes::{ExchangeKind, Route};
-use vx_rows::{ColType, Value};
-
-// Copies of values.
-fn copied_values(alloc: Global, values: &[Value]) -> Result<Vec<Value>, AllocError>
-    ensures { IfOk result (λ v. map val_of v.items ≡ map val_of values.now) }
-{
-    let mut copies = Vec::new(alloc);
-    for value in values {
-        copies.push(value.copy(alloc)?)?;
-    }
-    Ok(copies)
-}
+use vx_rows::ColType;
+use vx_values::copied_values;
 
 impl Job<'_> {
     // The route of rows of these types by their values in some columns.

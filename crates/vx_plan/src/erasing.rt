@@ -9,7 +9,6 @@ ghost use Rattle.vx_plan_nodes.specs.Outline.{top_of, unary_of, renamed_of, bina
 ghost use Rattle.vx_plan_nodes.specs.TypedView.{names_in, plan, resolved_of};
 
 use crate::columns::copied_names;
-use crate::resolving::copied_ranges;
 use std::alloc::{AllocError, Global};
 use std::sync::Arc;
 use vx_plan_json::PlanFault;
@@ -17,6 +16,7 @@ use vx_plan_nodes::{
     Binary, Claim, Head, Part, Phase, ScanNode, Size, TypedNode, TypedPlan, Unary,
     copied_conditions,
 };
+use vx_values::copied_ranges;
 
 fn is_final(unary: &Unary) -> bool
     ensures { result ≡ is_final (unary_of unary.now) }

@@ -1,7 +1,6 @@
 //! A plan over a catalog: sizes, then ranges, then nodes in post-order.
 
-ghost use Rattle.std.specs.Prelude.{◌≡◌, map, string_bytes, IfOk};
-ghost use Rattle.vx_values.specs.ValueView.{val_of};
+ghost use Rattle.std.specs.Prelude.{◌≡◌, map, string_bytes};
 ghost use Rattle.vx_plan_json.specs.Fault.{Gives};
 ghost use Rattle.vx_values.specs.Ranges.{range_form};
 ghost use Rattle.vx_plan_json.specs.PlanView.{document_of};
@@ -13,12 +12,12 @@ use crate::columns::copied_names;
 use crate::fits::is_range;
 use crate::lookup::{Declared, has_name};
 use crate::nodes::typed_in;
-use std::alloc::{AllocError, AllocFailed, Global};
+use std::alloc::{AllocFailed, Global};
 use std::collections::BTreeSet;
 use vx_plan_json::{Plan, PlanFault};
 use vx_plan_nodes::TypedPlan;
 use vx_relations::Catalog;
-use vx_values::{NamedRange, Value};
+use vx_values::{NamedRange, copied_ranges};
 
 fn is_bad_size(before: &[String], name: &str) -> bool
     ensures { result ≡ is_bad_size (map string_bytes before.now) name.now }
@@ -58,36 +57,6 @@ fn test_ranges(alloc: Global, ranges: &[NamedRange]) -> Result<(), PlanFault>
         }
     }
     Ok(())
-}
-
-fn copied_values(alloc: Global, values: &[Value]) -> Result<Vec<Value>, AllocError>
-    ensures { IfOk result (λ v. map val_of v.items ≡ map val_of values.now) }
-{
-    let mut copies = Vec::new(alloc);
-    for value in values {
-        copies.push(value.copy(alloc)?)?;
-    }
-    Ok(copies)
-}
-
-fn copied_range(alloc: Global, range: &NamedRange) -> Result<NamedRange, AllocError>
-    ensures { IfOk result (λ r. range_form r ≡ range_form range.now) }
-{
-    Ok(NamedRange {
-        name: String::from_str(alloc, range.name.as_str())?,
-        bounds: copied_values(alloc, range.bounds.as_slice())?,
-    })
-}
-
-/// Copies of the declared ranges, in their order.
-pub fn copied_ranges(alloc: Global, ranges: &[NamedRange]) -> Result<Vec<NamedRange>, AllocError>
-    ensures { IfOk result (λ v. map range_form v.items ≡ map range_form ranges.now) }
-{
-    let mut copies = Vec::new(alloc);
-    for range in ranges {
-        copies.push(copied_range(alloc, range)?)?;
-    }
-    Ok(copies)
 }
 
 /// The typed plan of a plan over a catalog: column positions, types, and preorder numbers of nodes, the left input

@@ -5,6 +5,6 @@ mod range;
 mod test;
 mod value;
 
-pub use range::NamedRange;
+pub use range::{NamedRange, copied_ranges};
 pub use test::Test;
-pub use value::{Cell, ColType, Value, compare_cells};
+pub use value::{Cell, ColType, Value, compare_cells, copied_values};

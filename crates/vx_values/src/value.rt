@@ -1,6 +1,6 @@
 //! One value of a row.
 
-ghost use Rattle.std.specs.Prelude.{◌≡◌, ◌↔◌, true, IfOk, OnOk, IsTrue};
+ghost use Rattle.std.specs.Prelude.{◌≡◌, ◌↔◌, true, map, IfOk, OnOk, IsTrue};
 ghost use Rattle.std.specs.Str.{is_utf8};
 ghost use Rattle.vx_values.specs.Values.{val_cmp, text as text_val};
 ghost use Rattle.vx_values.specs.ValueView.{val_of, cell_val};
@@ -66,6 +66,17 @@ impl Value {
         *self = cell.to_value(alloc)?;
         Ok(())
     }
+}
+
+/// Copies of values, in their order.
+pub fn copied_values(alloc: Global, values: &[Value]) -> Result<Vec<Value>, AllocError>
+    ensures { IfOk result (λ v. map val_of v.items ≡ map val_of values.now) }
+{
+    let mut copies = Vec::new(alloc);
+    for value in values {
+        copies.push(value.copy(alloc)?)?;
+    }
+    Ok(copies)
 }
 
 // A text of its own, as a value.
