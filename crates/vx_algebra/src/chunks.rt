@@ -1,6 +1,6 @@
 //! Selection and sorting of rows in chunks. Rows are picked by their places: a selection copies no cell, a sort each one once.
 
-ghost use Rattle.std.specs.Prelude.{◌≡◌, ◌<◌, ◌++◌, ◌∷◌, [], cond, filter, length, IfOk, IfSome, OnOk};
+ghost use Rattle.std.specs.Prelude.{◌≡◌, ◌<◌, ◌++◌, filter, length, IfOk, IfSome, OnOk};
 ghost use Rattle.std.specs.List.{All};
 ghost use Rattle.vx_values.specs.declared.value.ColType.TheVariants as kind;
 ghost use Rattle.vx_values.specs.Types.{type_at};
@@ -22,7 +22,7 @@ use std::cmp::Ordering;
 use vx_plan_nodes::{Condition, Side};
 use vx_rows::{Cell, ColType, Value, compare_cells};
 use vx_values::Test;
-use vx_views::{Chunk, NumberTest, Rows, places_are_a_filter};
+use vx_views::{Chunk, NumberTest, Rows, places_are_a_filter, push_place_if};
 
 // What a test says of a comparison.
 fn answer(test: Test, order: Ordering) -> bool
@@ -97,16 +97,6 @@ fn holds(condition: &Condition, chunk: &Chunk, i: usize) -> bool
     answer(condition.test, order)
 }
 
-// Adds a place, if it passes.
-fn push_if(places: &mut Vec<usize>, place: usize, passes: bool) -> Result<(), AllocError>
-    ensures { OnOk result (places.new.items ≡ places.old.items ++ cond passes (place ∷ []) []) }
-{
-    if passes {
-        places.push(place)?;
-    }
-    Ok(())
-}
-
 // The places of the rows of a chunk of which a condition holds, row by row.
 fn places_by_rows(
     alloc: Global,
@@ -117,7 +107,7 @@ fn places_by_rows(
 {
     let mut places = Vec::new(alloc);
     for i in 0..chunk.len() {
-        push_if(&mut places, i, holds(condition, chunk, i))?;
+        push_place_if(&mut places, i, holds(condition, chunk, i))?;
     }
     Ok(places)
 }

@@ -1,6 +1,6 @@
 //! Distinct rows: the first occurrence of each.
 
-ghost use Rattle.std.specs.Prelude.{List, ◌≡◌, ◌≢◌, ◌+◌, ◌++◌, ◌∷◌, [], cond, true, false, length, map, slice_index_or, OnOk, IfOk};
+ghost use Rattle.std.specs.Prelude.{List, ◌≡◌, ◌≢◌, ◌+◌, ◌++◌, [], true, false, length, map, slice_index_or, OnOk, IfOk};
 ghost use Rattle.vx_values.specs.Types.{type_at};
 ghost use Rattle.vx_values.specs.Values.{Row, row_eq, pick};
 ghost use Rattle.vx_rows.specs.View.{AreColumns, ArePositions};
@@ -12,7 +12,7 @@ use crate::keys::Keys;
 use std::alloc::{AllocError, Global};
 use std::marker::Model;
 use vx_seeds::KeySeed;
-use vx_views::Rows;
+use vx_views::{Rows, push_place_if};
 
 /// Calls: `new keep_new*`, and no `keep_new` after an `Err`.
 ///
@@ -49,16 +49,6 @@ fn is_next(number: usize, known: usize, new: usize) -> bool
     number - known == new
 }
 
-// Adds a place, if its key is new.
-fn push_if(places: &mut Vec<usize>, place: usize, new: bool) -> Result<(), AllocError>
-    ensures { OnOk result (places.new.items ≡ places.old.items ++ cond new (place ∷ []) []) }
-{
-    if new {
-        places.push(place)?;
-    }
-    Ok(())
-}
-
 // The places of keys that are new, by the numbers of all: where so many are known, the next new one has that number.
 fn first_places(alloc: Global, known: usize, numbers: &[usize]) -> Result<Vec<usize>, AllocError>
     ensures new { IfOk result (λ v. (ks xs : List Row) → length ks ≡ known → numbers.now ≡ numbers_of ks xs → insert_all row_eq ks xs ≡ ks ++ map (λ i. slice_index_or xs i []) v.items) }
@@ -67,7 +57,7 @@ fn first_places(alloc: Global, known: usize, numbers: &[usize]) -> Result<Vec<us
     let mut places = Vec::new(alloc);
     for i in 0..numbers.len() {
         let new = is_next(numbers[i], known, places.len());
-        push_if(&mut places, i, new)?;
+        push_place_if(&mut places, i, new)?;
     }
     Ok(places)
 }

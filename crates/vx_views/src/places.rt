@@ -52,8 +52,8 @@ pub(crate) fn part_of(numbers: &Numbers, from: usize, count: usize) -> NumbersRe
     }
 }
 
-// Adds a place, if it passes.
-fn push_if(places: &mut Vec<usize>, place: usize, passes: bool) -> Result<(), AllocError>
+/// Adds a place, if it passes.
+pub fn push_place_if(places: &mut Vec<usize>, place: usize, passes: bool) -> Result<(), AllocError>
     ensures { OnOk result (places.new.items ≡ places.old.items ++ cond passes (place ∷ []) []) }
 {
     if passes {
@@ -74,7 +74,7 @@ fn narrow_places_in<T: NumberTest>(
     for i in 0..numbers.len() {
         let number = numbers[i] as i64;
         let passes = test.passes(&number);
-        push_if(&mut places, i, passes)?;
+        push_place_if(&mut places, i, passes)?;
     }
     Ok(places)
 }
@@ -90,7 +90,7 @@ fn wide_places_in<T: NumberTest>(
     let mut places = Vec::new(alloc);
     for i in 0..numbers.len() {
         let passes = test.passes(&numbers[i]);
-        push_if(&mut places, i, passes)?;
+        push_place_if(&mut places, i, passes)?;
     }
     Ok(places)
 }
@@ -123,7 +123,7 @@ fn narrow_places_at<T: NumberTest>(
     for i in 0..positions.len() {
         let number = numbers[positions[i]] as i64;
         let passes = test.passes(&number);
-        push_if(&mut places, i, passes)?;
+        push_place_if(&mut places, i, passes)?;
     }
     Ok(places)
 }
@@ -141,7 +141,7 @@ fn wide_places_at<T: NumberTest>(
     let mut places = Vec::new(alloc);
     for i in 0..positions.len() {
         let passes = test.passes(&numbers[positions[i]]);
-        push_if(&mut places, i, passes)?;
+        push_place_if(&mut places, i, passes)?;
     }
     Ok(places)
 }

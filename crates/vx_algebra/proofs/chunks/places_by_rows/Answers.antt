@@ -11,6 +11,6 @@ loop-i-preserved c =
     let rows = c.args.chunk.now.rows in
     let i = c.loop-i.i in
     let near : i < length rows = omega (arith, c.loop-i-test.true, c.len-i-end.ensures) in
-    c.in_ok-push_if.ensures
+    c.in_ok-push_place_if.ensures
     ∙ (ap (λ xs. xs ++ cond c.holds.result (i ∷ []) []) c.loop-i.invariant
     ∙ (ap (λ b. places_of test (take i rows) ++ cond b (i ∷ []) []) c.holds.ensures ∙ sym (next-place-here test rows i [] near)))

@@ -12,7 +12,7 @@ loop-i-preserved c =
     let ps = c.loop-i.places.items in
     let b = c.is_next-new.result in
     record {
-      there = subst (ArePositions (i + 1)) (sym c.in_ok-push_if.ensures) (positions-step i ps b inv.there);
+      there = subst (ArePositions (i + 1)) (sym c.in_ok-push_place_if.ensures) (positions-step i ps b inv.there);
       new = λ ks xs known is.
           let long = ap length is ∙ numbers-long ks xs in
           let near : i < length xs = omega (arith, c.loop-i-test.true, long) in
@@ -21,7 +21,7 @@ loop-i-preserved c =
           (λ e. let y = c.is_next-new.ensures.yes e in omega (arith, y, known, c.len.ensures))
           (λ e n. c.is_next-new.ensures.no e (omega (arith, n, known, c.len.ensures)))
           (inv.new ks xs known is)
-          ∙ ap (λ qs. ks ++ map (λ j. get_or xs j []) qs) (sym c.in_ok-push_if.ensures);
+          ∙ ap (λ qs. ks ++ map (λ j. get_or xs j []) qs) (sym c.in_ok-push_place_if.ensures);
     }
 
 pub returns-clause-new : goal.returns-clause-new

@@ -15,7 +15,7 @@ loop-i-preserved g c =
     let z = get_or c.args.numbers.now (get_or c.args.positions.now i 0) (pos 0) in
     let fits : SFits w32 z = search rules in
     let same : to_z w64 (of_z w64 (to_z w32 (of_z w32 z))) ≡ z = omega (arith, ints) in
-    c.in_ok-push_if.ensures
+    c.in_ok-push_place_if.ensures
     ∙ (ap (λ xs. xs ++ cond c.passes-passes.result (i ∷ []) []) c.loop-i.invariant
     ∙ (ap (λ b. places_of test (map (λ p. num (get_or c.args.numbers.now p (pos 0))) (take i c.args.positions.now)) ++ cond b (i ∷ []) []) (c.passes-passes.ensures ∙ ap says same)
     ∙ sym (next-place test (λ p. num (get_or c.args.numbers.now p (pos 0))) c.args.positions.now i 0 c.loop-i-test.true)))

@@ -9,6 +9,6 @@ pub loop-i-preserved : goal.loop-i-preserved
 loop-i-preserved g c =
     let test = of_number (g.T.NumberTest.says c.args.test.now) in
     let i = c.loop-i.i in
-    c.in_ok-push_if.ensures
+    c.in_ok-push_place_if.ensures
     ∙ (ap (λ xs. xs ++ cond c.passes-passes.result (i ∷ []) []) c.loop-i.invariant
     ∙ (ap (λ b. places_of test (map (λ p. num (get_or c.args.numbers.now p (pos 0))) (take i c.args.positions.now)) ++ cond b (i ∷ []) []) c.passes-passes.ensures ∙ sym (next-place test (λ p. num (get_or c.args.numbers.now p (pos 0))) c.args.positions.now i 0 c.loop-i-test.true)))
