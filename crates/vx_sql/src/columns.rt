@@ -8,8 +8,9 @@ ghost use Rattle.vx_sql.specs.Operators.{outputs, all_columns, kept_columns, col
 ghost use Rattle.vx_sql.specs.Statement.{result_columns};
 
 use crate::dialect::Dialect;
-use crate::words::{push_between, push_column_name, push_identifier};
+use crate::words::{push_column_name, push_identifier};
 use std::alloc::{AllocError, Global};
+use vx_check::push_between;
 use vx_plan_nodes::{Aggregate, Name, Projected, TypedNode};
 use vx_relations::Relation;
 use vx_rows::ColType;

@@ -10,8 +10,9 @@ use crate::columns::{
     push_all, push_group_columns, push_join_columns, push_projected, push_relation_columns,
 };
 use crate::dialect::Dialect;
-use crate::words::{push_between, push_column_name, push_column_of, push_identifier, push_value};
+use crate::words::{push_column_name, push_column_of, push_identifier, push_value};
 use std::alloc::AllocError;
+use vx_check::push_between;
 use vx_plan_nodes::{Binary, Condition, Side, Unary};
 use vx_relations::Relation;
 use vx_rows::ColType;

@@ -15,8 +15,9 @@ use crate::operators::{
     push_binary_clause, push_binary_columns, push_binary_word, push_scan, push_unary_clause,
     push_unary_columns,
 };
-use crate::words::{push_between, push_column_of, push_identifier, push_node_name};
+use crate::words::{push_column_of, push_identifier, push_node_name};
 use std::alloc::{AllocError, Global};
+use vx_check::push_between;
 use vx_plan_nodes::{Binary, TypedNode, TypedPlan, Unary};
 
 // The number of the node whose rows these are: an exchange gives those of the node below it.

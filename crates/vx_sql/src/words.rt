@@ -1,6 +1,6 @@
 //! Words of a statement: numbers, quoted names and texts, and the names of nodes and columns.
 
-ghost use Rattle.std.specs.Prelude.{◌≡◌, ◌++◌, [], string_bytes, OnOk, cond, decimal};
+ghost use Rattle.std.specs.Prelude.{◌≡◌, ◌++◌, string_bytes, OnOk, decimal};
 ghost use Rattle.vx_values.specs.ValueView.{val_of};
 ghost use Rattle.vx_sql.specs.Words.{escape_of, inside, insides, quoted, identifier, value_sql, node_name, column_name, column_of};
 
@@ -8,17 +8,6 @@ use crate::dialect::Dialect;
 use itoa::Buffer;
 use std::alloc::AllocError;
 use vx_rows::Value;
-
-/// Adds the separator, unless nothing was added before.
-pub fn push_between(text: &mut String, between: &str, is_later: bool) -> Result<(), AllocError>
-    ensures { OnOk result (string_bytes text.new ≡ string_bytes text.old ++ cond is_later between.now []) }
-{
-    if is_later {
-        text.push_str(between)
-    } else {
-        Ok(())
-    }
-}
 
 fn push_number(text: &mut String, number: usize) -> Result<(), AllocError>
     ensures { OnOk result (string_bytes text.new ≡ string_bytes text.old ++ decimal number) }
