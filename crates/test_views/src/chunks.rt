@@ -5,7 +5,7 @@ use std::alloc::{AllocError, Global};
 use std::process::Abort;
 use std::test::Fail;
 use vx_rows::ColType;
-use vx_views::{Between, Chunk, PositionsRef};
+use vx_views::{Chunk, NumberTest, PositionsRef};
 
 // What is made of the rows so far.
 #[derive(Clone, Copy)]
@@ -211,6 +211,23 @@ fn compare_outliving(rt: &impl Abort, alloc: Global) -> Result<(), AllocError> {
 #[test]
 fn rows_outlive_the_handle_that_they_came_by(rt: HostRuntime) -> Result<(), Fail> {
     Ok(compare_outliving(&rt, rt.alloc())?)
+}
+
+// The numbers from `least` to `most`: none, where `most` is smaller.
+#[derive(Clone, Copy)]
+struct Between {
+    least: i64,
+    most: i64,
+}
+
+impl NumberTest for Between {
+    ghost use Rattle.std.specs.Prelude.{int_le, ◌&&◌};
+
+    ghost says = { λ b z. int_le b.least z && int_le z b.most };
+
+    fn passes(&self, number: &i64) -> bool {
+        self.least <= *number && *number <= self.most
+    }
 }
 
 // The places of the numbers from `least` to `most` of the first column, where it has numbers.

@@ -1,10 +1,6 @@
 -- Elements that pass a test, by their places, and columns by the positions of their rows.
-use Rattle.std.specs.Prelude.{◌≡◌, ℕ, ◌<◌, ◌+◌, ℤ, pos, int_le, Bool, false, cond, ◌&&◌, List, [], ◌∷◌, length, slice_index, slice_index_or}
+use Rattle.std.specs.Prelude.{◌≡◌, ℕ, ◌<◌, ◌+◌, ℤ, pos, Bool, false, cond, List, [], ◌∷◌, length, slice_index, slice_index_or}
 use Rattle.vx_values.specs.Values.{Val, num, text, Row, value_at}
-
--- the number lies between two numbers
-abbrev pub is_between : ℤ → ℤ → ℤ → Bool
-is_between least most z = int_le least z && int_le z most
 
 -- a test of numbers, as one of values: no text passes
 abbrev pub of_number : (ℤ → Bool) → Val → Bool

@@ -21,23 +21,6 @@ pub trait NumberTest {
         ensures { result ≡ says self.now number.now };
 }
 
-/// The numbers from `least` to `most`: none, where `most` is smaller.
-#[derive(Clone, Copy)]
-pub struct Between {
-    pub least: i64,
-    pub most: i64,
-}
-
-impl NumberTest for Between {
-    ghost use Rattle.vx_views.specs.Selected.{is_between};
-
-    ghost says = { λ b z. is_between b.least b.most z };
-
-    fn passes(&self, number: &i64) -> bool {
-        self.least <= *number && *number <= self.most
-    }
-}
-
 // The numbers at the positions from `from` on, so many.
 pub(crate) fn part_of(numbers: &Numbers, from: usize, count: usize) -> NumbersRef<'_>
     requires { (k : ℕ) → k < count → from + k < length numbers.now }
