@@ -1,5 +1,5 @@
 -- What a command makes of a plan over tables, and why it makes nothing of it. `holds` says what the tables have of a relation, and `lacks` how they refuse one.
-use Rattle.std.specs.Prelude.{◌≡◌, ℕ, List, Bool, true, false, cond, Option, Some, None, codes}
+use Rattle.std.specs.Prelude.{◌≡◌, ℕ, List, Bool, true, false, Option, Some, None}
 use Rattle.vx_values.specs.Values.{Row}
 use Rattle.vx_rows.specs.View.{RowsView}
 use Rattle.vx_relations.specs.Relation.{Relation}
@@ -11,6 +11,7 @@ use Rattle.vx_plan_nodes.specs.Outline.{columns, plan_in}
 use Rattle.vx_plan_nodes.specs.Names.{TypedPlanView}
 use Rattle.vx_check_rules.specs.Refusal.{Rule, refusal}
 use Rattle.vx_check_rules.specs.RuleView.{rule_of}
+use Rattle.vx_check.specs.Accepted.{accepted_text}
 use Rattle.vx_check.specs.Explain.{explain_text}
 use Rattle.vx_check_rules.specs.declared.rule.Rule as rust_rule
 use Rattle.vx_setup.specs.Setup.{SetupView}
@@ -86,10 +87,6 @@ pub data SerialRefuses (p : TypedPlanView) (holds : Holding) (lacks : Lacking) (
   serial_memory : e ≡ refusal.NoMemory → SerialRefuses p holds lacks e
   for_texts : IsFirstMissing (plan_in p.root) holds lacks p.names.catalog e → SerialRefuses p holds lacks e
   for_evaluation : (db : Database) (fault : EvalFault) → IsDatabaseFor p holds db → e ≡ refusal.Eval fault → EvalFails (erased p) db fault → SerialRefuses p holds lacks e
-
--- the text of the checker's answer
-abbrev pub accepted_text : Bool → List ℕ
-accepted_text total = cond total (codes "accepted total\n") (codes "accepted\n")
 
 -- each note of the plan is shown: the checker accepts it
 abbrev pub IsShown : TypedPlanView → Type 0

@@ -2,7 +2,8 @@
 use Rattle.std.specs.Prelude.{◌≡◌, ◌≢◌, ℕ, List, None}
 use Rattle.vx_plan_nodes.specs.Names.{TypedPlanView}
 use Rattle.vx_failures.specs.Lines.{failure_lines}
-use Rattle.vx_answer.specs.Commands.{refusal_in, IsShown, accepted_text}
+use Rattle.vx_check.specs.Accepted.{accepted_text}
+use Rattle.vx_answer.specs.Commands.{refusal_in, IsShown}
 
 -- each note is shown, and this is the text that says so
 abbrev pub IsAllShown : TypedPlanView → List ℕ → Type 0

@@ -3,30 +3,19 @@
 ghost use Rattle.std.specs.Prelude.{◌≡◌, IfOk, IfErr};
 ghost use Rattle.vx_plan_nodes.specs.TypedView.{resolved_of};
 ghost use Rattle.vx_check_rules.specs.CheckedView.{typed_plan};
-ghost use Rattle.vx_answer.specs.Commands.{IsShown, IsNotShown, accepted_text, IsResultOf, CommandRefuses};
+ghost use Rattle.vx_answer.specs.Commands.{IsShown, IsNotShown, IsResultOf, CommandRefuses};
 
 use crate::run::run_plan;
 use crate::serial::serial_plan;
-use std::alloc::{AllocError, Global};
+use std::alloc::Global;
 use std::sync::Wait;
 use std::thread::Threads;
 use vx_bundle::{Command, Setting};
-use vx_check::{CheckedPlan, check, explain};
+use vx_check::{CheckedPlan, accepted_text, check, explain};
 use vx_plan::TypedPlan;
 use vx_refusals::Refusal;
 use vx_seeds::KeySeed;
 use vx_tables::Tables;
-
-/// The text of the checker's answer.
-pub fn accepted_text(alloc: Global, is_total: bool) -> Result<Vec<u8>, AllocError>
-    ensures { IfOk result (λ text. text.items ≡ accepted_text is_total) }
-{
-    if is_total {
-        Vec::from_slice(alloc, b"accepted total\n")
-    } else {
-        Vec::from_slice(alloc, b"accepted\n")
-    }
-}
 
 /// A plan, once the checker has accepted it.
 pub fn accepted(plan: TypedPlan) -> Result<CheckedPlan, Refusal>

@@ -4,8 +4,8 @@ ghost use Rattle.std.specs.Prelude.{IfOk};
 ghost use Rattle.vx_plan_nodes.specs.TypedView.{resolved_of};
 ghost use Rattle.vx_answer.specs.VerdictView.{IsVerdict};
 
-use crate::command::accepted_text;
 use std::alloc::{AllocError, Global};
+use vx_check::accepted_text;
 use vx_failures::report;
 use vx_plan::TypedPlan;
 

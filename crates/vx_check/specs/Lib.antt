@@ -1,2 +1,3 @@
 pub mod Explain
 pub mod PlanText
+pub mod Accepted

@@ -1,6 +1,7 @@
 -- What the calls come to: a status of 0 with what answers, or the status and the node of a refusal.
-use Rattle.std.specs.Prelude.{◌≡◌, ◌⊎◌, ℕ, List, Bool, None, cond, codes}
+use Rattle.std.specs.Prelude.{◌≡◌, ◌⊎◌, ℕ, List, None}
 use Rattle.vx_plan_nodes.specs.Names.{TypedPlanView}
+use Rattle.vx_check.specs.Accepted.{accepted_text}
 use Rattle.vx_check.specs.Explain.{explain_text}
 use Rattle.vx_refusals.specs.declared.refusal.Refusal.{Refusal}
 use Rattle.vx_refusals.specs.Status.{status_of}
@@ -9,10 +10,6 @@ use Rattle.vx_embedding.specs.Planning.{IsAccepted, CheckRefuses}
 use Rattle.vx_embedding.specs.Serial.{IsSerial, SerialRefuses}
 use Rattle.vx_embedding.specs.Lines.{node_of}
 use Rattle.vx_embedding.specs.declared.replies.Reply.{Reply}
-
--- the text of the checker's answer
-abbrev pub accepted_text : Bool → List ℕ
-accepted_text total = cond total (codes "accepted total\n") (codes "accepted\n")
 
 -- memory ran out
 abbrev pub IsMemoryReply : Reply → Type 0

@@ -1,11 +1,12 @@
 //! What each call comes to: a status, and a text that answers or the printed line of a refusal.
 
-ghost use Rattle.std.specs.Prelude.{◌≡◌, [], None, false, IfOk};
-ghost use Rattle.vx_embedding.specs.Replies.{accepted_text, IsRefusalReply, ChecksTo, ExplainsTo, EvaluatesTo};
+ghost use Rattle.std.specs.Prelude.{◌≡◌, [], None, false};
+ghost use Rattle.vx_embedding.specs.Replies.{IsRefusalReply, ChecksTo, ExplainsTo, EvaluatesTo};
 
 use crate::lines::{line_of, node_of};
 use crate::session::Session;
-use std::alloc::{AllocError, Global};
+use std::alloc::Global;
+use vx_check::accepted_text;
 use vx_refusals::{Refusal, status};
 
 /// What a call comes to. The status is 0 where the text answers, and else that with which the program ends: 3 for
@@ -59,17 +60,6 @@ fn text_reply(text: Vec<u8>, is_total: bool) -> Reply
         is_total,
         node: None,
         text,
-    }
-}
-
-// The text of the checker's answer.
-fn accepted_text(alloc: Global, is_total: bool) -> Result<Vec<u8>, AllocError>
-    ensures { IfOk result (λ text. text.items ≡ accepted_text is_total) }
-{
-    if is_total {
-        Vec::from_slice(alloc, b"accepted total\n")
-    } else {
-        Vec::from_slice(alloc, b"accepted\n")
     }
 }
 

@@ -1,5 +1,6 @@
 use Rattle.std.proofs.Common.{◌∙◌, ap}
-use Rattle.vx_embedding.specs.Replies.{accepted_text, checked, not_checked}
+use Rattle.vx_check.specs.Accepted.{accepted_text}
+use Rattle.vx_embedding.specs.Replies.{checked, not_checked}
 use Rattle.vx_embedding.proofs.replies.check_reply.Goals as goal
 
 pub returns-in-Ok-accepted_text : goal.returns-in-Ok-accepted_text
