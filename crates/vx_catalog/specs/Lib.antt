@@ -6,3 +6,4 @@ pub mod Records
 pub mod Database
 pub mod Text
 pub mod Meaning
+pub mod Folder

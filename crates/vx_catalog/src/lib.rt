@@ -4,6 +4,7 @@
 mod counted;
 mod database;
 mod fault;
+mod folder;
 mod loader;
 mod number;
 mod record;
@@ -13,6 +14,7 @@ mod writing;
 pub use counted::{Counted, Lent, Origin};
 pub use database::Database;
 pub use fault::{LoadFault, WriteFault};
+pub use folder::path_in;
 pub use loader::{Loaded, Loader, read_text, test_rows, texts_are_loaded_exactly};
 pub use record::{is_header, next_record, read_rows};
 pub use shared_table::SharedTable;

@@ -8,9 +8,9 @@ use crate::fault::PlaceFault;
 use crate::files::{catalog_at, plan_at};
 use crate::lines::spot_line;
 use crate::spots::{Spot, spot_of};
-use std::alloc::{AllocError, Global};
+use std::alloc::Global;
 use vx_bytes::Store;
-use vx_catalog::{Catalog, LoadFault};
+use vx_catalog::{Catalog, LoadFault, path_in};
 use vx_plan::Plan;
 use vx_plan_json::Node;
 
@@ -57,15 +57,6 @@ fn plans_at<F: Store>(
     Ok(Some(plans))
 }
 
-// The file of a relation in a folder.
-fn table_path(alloc: Global, folder: &str, name: &str) -> Result<String, AllocError> {
-    let mut path = String::from_str(alloc, folder)?;
-    path.push_str("/")?;
-    path.push_str(name)?;
-    path.push_str(".csv")?;
-    Ok(path)
-}
-
 // Where the table of the relation with this number is at fault, if it is.
 fn table_spot<F: Store>(
     alloc: Global,
@@ -79,7 +70,7 @@ fn table_spot<F: Store>(
     ensures number { IfOk result (λ o. IfSome o (λ t. t.relation ≡ relation)) }
     ensures line { IfOk result (λ o. IfSome o (λ t. IfSome t.spot.line (λ line. IfBytes (F.holds files.now (string_bytes t.path)) (λ bytes. IsOnLine bytes (number_of fault) line)))) }
 {
-    let path = table_path(alloc, folder, catalog.get(relation).name())?;
+    let path = path_in(alloc, folder, catalog.get(relation).name())?;
     match spot_of(alloc, files, path.as_str(), catalog.get(relation), fault)? {
         Some(spot) => Ok(Some(TableSpot {
             relation,

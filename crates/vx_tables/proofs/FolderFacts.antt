@@ -7,7 +7,8 @@ use Rattle.vx_catalog.specs.declared.fault.LoadFault.{LoadFault}
 use Rattle.vx_catalog.specs.declared.fault.LoadFault.TheVariants as load
 use Rattle.vx_refusals.specs.declared.refusal.Refusal.TheVariants as refusal
 use Rattle.vx_bytes.specs.Stored.{Stored, silent, absent, present, IfBytes, MayBePresent, OpensAs}
-use Rattle.vx_tables.specs.Folder.{path_in, LacksAt, for_reading, for_text}
+use Rattle.vx_catalog.specs.Folder.{path_in}
+use Rattle.vx_tables.specs.Folder.{LacksAt, for_reading, for_text}
 
 -- what failed was not reliable
 pub may_fail : (reliable failed : Bool) → (reliable ≡ true → failed ≡ false) → failed ≡ true → reliable ≡ false

@@ -1,18 +1,15 @@
 -- The rows of relations, from the files of a folder: the text of a relation NAME is in FOLDER/NAME.csv.
-use Rattle.std.specs.Prelude.{◌≡◌, ◌≢◌, ℕ, List, ◌++◌, Bool, false, Ok, String, string_bytes, codes}
+use Rattle.std.specs.Prelude.{◌≡◌, ◌≢◌, ℕ, List, Bool, false, Ok, String, string_bytes}
 use Rattle.std.specs.declared.alloc.Global.{Global}
 use Rattle.vx_values.specs.Values.{Row}
 use Rattle.vx_relations.specs.Relation.{Relation}
+use Rattle.vx_catalog.specs.Folder.{path_in}
 use Rattle.vx_catalog.specs.Loading.{load_of, Fails}
 use Rattle.vx_catalog.specs.declared.fault.LoadFault.{LoadFault}
 use Rattle.vx_catalog.specs.declared.fault.LoadFault.TheVariants as load
 use Rattle.vx_refusals.specs.declared.refusal.Refusal.{Refusal}
 use Rattle.vx_refusals.specs.declared.refusal.Refusal.TheVariants as refusal
 use Rattle.vx_bytes.specs.Stored.{Stored, IfBytes, MayBeAbsent, MayBePresent}
-
--- where the text of a relation is
-abbrev pub path_in : List ℕ → List ℕ → List ℕ
-path_in folder name = folder ++ codes "/" ++ name ++ codes ".csv"
 
 -- the files have these rows of a relation, as far as their store says: not where it has no such file
 abbrev pub holds_at : (List ℕ → Stored) → List ℕ → Relation → List Row → Type 0

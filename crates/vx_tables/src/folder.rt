@@ -1,15 +1,16 @@
 //! The files of a folder, which have the rows of relations.
 
-ghost use Rattle.std.specs.Prelude.{◌≡◌, ◌<◌, length, true, false, IfOk, IfErr, string_bytes};
+ghost use Rattle.std.specs.Prelude.{◌≡◌, ◌<◌, length, true, false, IfOk, IfErr};
 ghost use Rattle.vx_relations.specs.Catalog.{relation_at};
 ghost use Rattle.vx_bytes.specs.Stored.{OpensAs};
-ghost use Rattle.vx_tables.specs.Folder.{path_in, LacksAt};
+ghost use Rattle.vx_catalog.specs.Folder.{path_in};
+ghost use Rattle.vx_tables.specs.Folder.{LacksAt};
 
 use crate::tables::Tables;
-use std::alloc::{AllocError, Global};
+use std::alloc::Global;
 use std::thread::Threads;
 use vx_bytes::Store;
-use vx_catalog::{Catalog, Loaded, Loader};
+use vx_catalog::{Catalog, Loaded, Loader, path_in};
 use vx_loading::load_in_threads;
 use vx_refusals::Refusal;
 
@@ -18,17 +19,6 @@ use vx_refusals::Refusal;
 pub struct Folder<'f, F> {
     pub files: &'f F,
     pub path: &'f str,
-}
-
-// Where the text of a relation is.
-fn path_in(alloc: Global, folder: &str, name: &str) -> Result<String, AllocError>
-    ensures { IfOk result (λ s. string_bytes s ≡ path_in folder.now name.now) }
-{
-    let mut path = String::from_str(alloc, folder)?;
-    path.push_str("/")?;
-    path.push_str(name)?;
-    path.push_str(".csv")?;
-    Ok(path)
 }
 
 // Opens the file that has the text of a relation.

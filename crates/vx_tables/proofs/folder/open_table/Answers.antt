@@ -1,7 +1,8 @@
 use Rattle.std.proofs.Common.{rules, ◌≡◌, ◌∙◌, ℕ, List, refl, subst, string_bytes}
 use Rattle.vx_relations.specs.Catalog.{relation_at}
 use Rattle.vx_bytes.specs.Stored.{MayBeAbsent}
-use Rattle.vx_tables.specs.Folder.{path_in, for_path}
+use Rattle.vx_catalog.specs.Folder.{path_in}
+use Rattle.vx_tables.specs.Folder.{for_path}
 use Rattle.vx_tables.proofs.folder.open_table.Goals as goal
 
 pub returns-in-None-clause-refused : goal.returns-in-None-clause-refused
