@@ -4,6 +4,7 @@ use Rattle.std.specs.List.{zip}
 use Rattle.vx_values.specs.declared.value.ColType.{ColType}
 use Rattle.vx_values.specs.Values.{Row, row_eq, pick}
 use Rattle.vx_rows.specs.View.{ArePositions}
+use Rattle.vx_keys.specs.Numbers.{numbers_of}
 use Rattle.vx_plan_nodes.specs.Serial.{group_keys}
 
 -- where the elements stand that pass a test, counted from 0
@@ -18,6 +19,11 @@ places_of by key rows = places (λ r. row_eq key (pick by r)) rows
 -- the places of each key's rows
 abbrev pub parts_of : List ℕ → List Row → List (List ℕ)
 parts_of by rows = map (λ k. places_of by k rows) (group_keys by rows)
+
+-- the places of each key's rows, that were the first, are the second when rows came too, from this place on, whose keys have these numbers
+abbrev pub AddsRows : ℕ → List ℕ → List (List ℕ) → List (List ℕ) → Type 0
+AddsRows first numbers old new =
+    (by : List ℕ) (xs rows : List Row) → length xs ≡ first → numbers ≡ numbers_of (group_keys by xs) (map (pick by) rows) → old ≡ parts_of by xs → new ≡ parts_of by (xs ++ rows)
 
 -- what the build side of a join shows: its rows with their types, and its columns of the join
 pub record Built : Type 0 where

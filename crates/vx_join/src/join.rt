@@ -1,15 +1,16 @@
 //! The hash join: the right rows are indexed by key, and left rows probe them (DeWitt and others, 1984).
 
-ghost use Rattle.std.specs.Prelude.{◌≡◌, ◌<◌, ◌≤◌, ◌+◌, ◌++◌, [], ℕ, List, length, map, flat_map, take, slice_range, OnOk, IfOk};
+ghost use Rattle.std.specs.Prelude.{◌≡◌, ◌<◌, ◌≤◌, ◌+◌, ◌^◌, ◌++◌, ◌∷◌, [], ℕ, List, length, map, flat_map, take, slice_range, OnOk, IfOk};
 ghost use Rattle.std.specs.List.{position_or_len};
 ghost use Rattle.vx_values.specs.Values.{Row, row_eq, pick};
 ghost use Rattle.vx_rows.specs.View.{AreColumns};
 ghost use Rattle.vx_plan_nodes.specs.Serial.{group_keys, join_rows};
-ghost use Rattle.vx_join.specs.Build.{places_of, ArePairs};
+ghost use Rattle.vx_join.specs.Build.{places_of, IsIndex, ArePairs};
+ghost use Rattle.vx_join.specs.Parts.{places_in, listed_places};
 ghost use Rattle.vx_keys.specs.Matched.{matched};
 
 use crate::build_rows::BuildRows;
-use crate::key_places::KeyPlaces;
+use crate::key_places::{KeyPlaces, Places};
 use std::alloc::{AllocError, Global};
 use std::marker::Model;
 use vx_keys::Keys;
@@ -75,16 +76,79 @@ fn block_end(from: usize, count: usize) -> usize
     from + BLOCK
 }
 
-// Adds the place of a left row, beside each of some places of right rows.
-fn push_pairs(pairs: &mut Pairs, left: usize, places: &[usize]) -> Result<(), AllocError>
+// Adds the place of a left row, and beside it that of a right row.
+fn push_pair(pairs: &mut Pairs, left: usize, right: usize) -> Result<(), AllocError>
+    ensures lefts { OnOk result (pairs.new.lefts.items ≡ pairs.old.lefts.items ++ left ∷ []) }
+    ensures rights { OnOk result (pairs.new.rights.items ≡ pairs.old.rights.items ++ right ∷ []) }
+{
+    pairs.lefts.push(left)?;
+    pairs.rights.push(right)?;
+    Ok(())
+}
+
+// Adds the place of a left row, beside each of the places of a list.
+fn push_listed(pairs: &mut Pairs, left: usize, places: &[usize]) -> Result<(), AllocError>
     ensures lefts { OnOk result (pairs.new.lefts.items ≡ pairs.old.lefts.items ++ map (λ _. left) places.now) }
     ensures rights { OnOk result (pairs.new.rights.items ≡ pairs.old.rights.items ++ places.now) }
 {
     for place in places {
-        pairs.lefts.push(left)?;
-        pairs.rights.push(*place)?;
+        push_pair(pairs, left, *place)?;
     }
     Ok(())
+}
+
+// Adds the place of a left row, beside each of the places of the right rows of a key.
+fn push_pairs(pairs: &mut Pairs, left: usize, places: Places<'_>) -> Result<(), AllocError>
+    ensures lefts { OnOk result (pairs.new.lefts.items ≡ pairs.old.lefts.items ++ map (λ _. left) (listed_places places.entry)) }
+    ensures rights { OnOk result (pairs.new.rights.items ≡ pairs.old.rights.items ++ listed_places places.entry) }
+{
+    match places {
+        Places::None => Ok(()),
+        Places::One(place) => push_pair(pairs, left, place),
+        Places::Listed(places) => push_listed(pairs, left, places),
+    }
+}
+
+// Adds the rows of a chunk behind so many that were added: their keys, and the places of the rows of each.
+fn index_chunk(
+    alloc: Global,
+    keys: &mut Keys,
+    parts: &mut KeyPlaces,
+    first: usize,
+    chunk: &Chunk,
+    columns: &[usize],
+) -> Result<(), AllocError>
+    requires columns { AreColumns (length chunk.now.types) columns.now }
+    requires room { first + length chunk.now.rows < 2 ^ 64 }
+    ensures { OnOk result ((xs : List Row) → length xs ≡ first → IsIndex columns.now xs keys.old (places_in parts.old) → IsIndex columns.now (xs ++ chunk.now.rows) keys.new (places_in parts.new)) }
+{
+    let mut numbers = Vec::with_capacity(alloc, chunk.len())?;
+    keys.number_chunk(chunk, columns, &mut numbers)?;
+    parts.add(alloc, first, numbers.as_slice())?;
+    Ok(())
+}
+
+// The keys of the rows of a batch, and the places of the rows of each.
+fn index_rows(
+    alloc: Global,
+    seed: KeySeed,
+    rows: &Rows,
+    columns: &[usize],
+) -> Result<(Keys, KeyPlaces), AllocError>
+    requires { AreColumns (length rows.now.types) columns.now }
+    ensures { IfOk result (λ p. IsIndex columns.now rows.now.rows p.0 (places_in p.1)) }
+{
+    let count = rows.len();
+    let mut keys = Keys::with_room(alloc, seed, count);
+    let mut parts = KeyPlaces::none();
+    let chunks = rows.chunks();
+    let mut first = 0;
+    for i in 0..chunks.len() {
+        let chunk = &chunks[i];
+        index_chunk(alloc, &mut keys, &mut parts, first, chunk, columns)?;
+        first += chunk.len();
+    }
+    Ok((keys, parts))
 }
 
 impl Build {
@@ -101,9 +165,7 @@ impl Build {
         ensures rows { IfOk result (λ b. b.rows ≡ rows.now.rows) }
         ensures columns { IfOk result (λ b. b.columns ≡ columns.items) }
     {
-        let mut keys = Keys::with_room(alloc, seed, rows.len());
-        let numbers = keys.number_all(rows, columns.as_slice())?;
-        let parts = KeyPlaces::of(alloc, numbers)?;
+        let (keys, parts) = index_rows(alloc, seed, rows, columns.as_slice())?;
         Ok(Build {
             rows: BuildRows::of(alloc, rows)?,
             columns,
@@ -114,8 +176,8 @@ impl Build {
     }
 
     // The places of the rows whose key has this number, or of no rows where no key has it.
-    fn matches(&self, number: usize) -> &[usize]
-        ensures { (key : Row) → number ≡ position_or_len (row_eq key) (group_keys self.now.columns self.now.rows) → result.now ≡ places_of self.now.columns key self.now.rows }
+    fn matches(&self, number: usize) -> Places<'_>
+        ensures { (key : Row) → number ≡ position_or_len (row_eq key) (group_keys self.now.columns self.now.rows) → listed_places result ≡ places_of self.now.columns key self.now.rows }
     {
         self.parts.get(number)
     }

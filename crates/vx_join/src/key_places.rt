@@ -1,18 +1,16 @@
 //! The places of the rows of each key, by the keys' numbers.
 
-ghost use Rattle.std.specs.Prelude.{◌≡◌, ◌<◌, ◌≤◌, List, ℕ, ◌++◌, ◌∷◌, [], length, map, slice_set, slice_index_or, IfOk, OnOk, IsTrue};
-ghost use Rattle.vx_values.specs.Values.{Row, pick};
+ghost use Rattle.std.specs.Prelude.{◌≡◌, ◌<◌, ◌≤◌, ◌+◌, ◌^◌, ◌++◌, ◌∷◌, [], length, map, slice_set, slice_index_or, IfOk, OnOk, IsTrue};
 ghost use Rattle.vx_rows.specs.Lists.{each_below};
-ghost use Rattle.vx_join.specs.Build.{parts_of};
-ghost use Rattle.vx_keys.specs.Numbers.{numbers_of};
-ghost use Rattle.vx_join.specs.Parts.{places_in};
+ghost use Rattle.vx_join.specs.Build.{AddsRows};
+ghost use Rattle.vx_join.specs.Parts.{places_in, listed_places};
 
 use std::alloc::{AllocError, Global};
 
 /// For each key the places of its rows.
 pub(crate) enum KeyPlaces {
-    /// Each key has one row: key k that at place k. These are all places, so that one of them can be lent.
-    Single(Vec<usize>),
+    /// So many keys, each of which has one row: key k that at place k.
+    Single(usize),
     /// A list for each key.
     Lists(Vec<Vec<usize>>),
 }
@@ -25,6 +23,34 @@ impl Drop for KeyPlaces {
             KeyPlaces::Lists(_) => {}
         }
     }
+}
+
+/// The places of the rows of one key: no place, one, or those of a list.
+#[derive(Clone, Copy)]
+pub(crate) enum Places<'a> {
+    None,
+    One(usize),
+    Listed(&'a [usize]),
+}
+
+// A list of one place.
+fn list_of_one(alloc: Global, place: usize) -> Result<Vec<usize>, AllocError>
+    ensures { IfOk result (λ v. v.items ≡ place ∷ []) }
+{
+    let mut list = Vec::new(alloc);
+    list.push(place)?;
+    Ok(list)
+}
+
+// A list for each of so many keys: that of key k has place k.
+fn lists_of_count(alloc: Global, count: usize) -> Result<Vec<Vec<usize>>, AllocError>
+    ensures { IfOk result (λ v. map (λ p. p.items) v.items ≡ each_below count (λ k. k ∷ [])) }
+{
+    let mut lists = Vec::with_capacity(alloc, count)?;
+    for place in 0..count {
+        lists.push(list_of_one(alloc, place)?)?;
+    }
+    Ok(lists)
 }
 
 // Adds a place to those of the key with this number, or behind all as the first place of a new key.
@@ -41,43 +67,36 @@ fn push_place(
         parts[number].push(place)?;
         return Ok(());
     }
-    let mut first = Vec::new(alloc);
-    first.push(place)?;
-    parts.push(first)?;
+    parts.push(list_of_one(alloc, place)?)?;
     Ok(())
 }
 
-// The places of each key's rows, by the numbers of the rows' keys.
-fn places_by_number(alloc: Global, numbers: &[usize]) -> Result<Vec<Vec<usize>>, AllocError>
-    ensures { IfOk result (λ v. (by : List ℕ) (rows : List Row) → numbers.now ≡ numbers_of [] (map (pick by) rows) → map (λ p. p.items) v.items ≡ parts_of by rows) }
+// Adds the rows at places `first`, `first + 1`, and so on, whose keys have these numbers.
+fn push_places(
+    alloc: Global,
+    parts: &mut Vec<Vec<usize>>,
+    first: usize,
+    numbers: &[usize],
+) -> Result<(), AllocError>
+    requires { first + length numbers.now < 2 ^ 64 }
+    ensures { OnOk result (AddsRows first numbers.now (map (λ p. p.items) parts.old.items) (map (λ p. p.items) parts.new.items)) }
 {
-    let mut parts: Vec<Vec<usize>> = Vec::new(alloc);
     for i in 0..numbers.len() {
-        push_place(alloc, &mut parts, numbers[i], i)?;
+        push_place(alloc, parts, numbers[i], first + i)?;
     }
-    Ok(parts)
+    Ok(())
 }
 
-// Whether these are 0, 1, and so on.
-fn are_counted(numbers: &[usize]) -> bool
-    ensures { IsTrue result → numbers.now ≡ each_below (length numbers.now) (λ k. k) }
+// Whether these are `first`, `first + 1`, and so on.
+fn are_counted_from(first: usize, numbers: &[usize]) -> bool
+    ensures { IsTrue result → numbers.now ≡ each_below (length numbers.now) (λ k. first + k) }
 {
     for i in 0..numbers.len() {
-        if numbers[i] != i {
+        if numbers[i] < first || numbers[i] - first != i {
             return false;
         }
     }
     true
-}
-
-// The place with this number as a list, or no place where there is none.
-fn single(places: &[usize], number: usize) -> &[usize]
-    ensures { result.now ≡ slice_index_or (map (λ i. i ∷ []) places.now) number [] }
-{
-    if number >= places.len() {
-        return &[];
-    }
-    &places[number..number + 1]
 }
 
 // The list with this number, or no place where there is none.
@@ -90,26 +109,53 @@ fn listed(lists: &[Vec<usize>], number: usize) -> &[usize]
     lists[number].as_slice()
 }
 
+// The one place of a key, of so many keys, or no place where there is no key with this number.
+fn single<'a>(count: usize, number: usize) -> Places<'a>
+    ensures { listed_places result ≡ slice_index_or (each_below count (λ k. k ∷ [])) number [] }
+{
+    if number >= count {
+        return Places::None;
+    }
+    Places::One(number)
+}
+
 impl KeyPlaces {
-    /// The places of each key's rows, where these are the numbers of the rows' keys. Where these are 0, 1, and so on, they are
-    /// the places too, and no list is made.
-    pub fn of(alloc: Global, numbers: Vec<usize>) -> Result<KeyPlaces, AllocError>
-        ensures { IfOk result (λ v. (by : List ℕ) (rows : List Row) → numbers.items ≡ numbers_of [] (map (pick by) rows) → places_in v ≡ parts_of by rows) }
+    /// Of no keys.
+    pub fn none() -> KeyPlaces
+        ensures { places_in result ≡ [] }
     {
-        if are_counted(numbers.as_slice()) {
-            return Ok(KeyPlaces::Single(numbers));
+        KeyPlaces::Single(0)
+    }
+
+    /// Adds the rows at places `first`, `first + 1`, and so on, whose keys have these numbers. As long as each row has a key of
+    /// its own no list is made. After an `Err` some rows may have been added.
+    pub fn add(&mut self, alloc: Global, first: usize, numbers: &[usize]) -> Result<(), AllocError>
+        requires { first + length numbers.now < 2 ^ 64 }
+        ensures { OnOk result (AddsRows first numbers.now (places_in self.old) (places_in self.new)) }
+    {
+        match self {
+            KeyPlaces::Lists(lists) => push_places(alloc, lists, first, numbers),
+            KeyPlaces::Single(count) => {
+                let count = *count;
+                if count == first && are_counted_from(first, numbers) {
+                    *self = KeyPlaces::Single(first + numbers.len());
+                    return Ok(());
+                }
+                let mut lists = lists_of_count(alloc, count)?;
+                push_places(alloc, &mut lists, first, numbers)?;
+                *self = KeyPlaces::Lists(lists);
+                Ok(())
+            }
         }
-        let lists = places_by_number(alloc, numbers.as_slice())?;
-        Ok(KeyPlaces::Lists(lists))
     }
 
     /// The places of the rows of the key with this number, or none where there is no such key.
-    pub fn get(&self, number: usize) -> &[usize]
-        ensures { result.now ≡ slice_index_or (places_in self.now) number [] }
+    pub fn get(&self, number: usize) -> Places<'_>
+        ensures { listed_places result ≡ slice_index_or (places_in self.now) number [] }
     {
         match self {
-            KeyPlaces::Single(places) => single(places.as_slice(), number),
-            KeyPlaces::Lists(lists) => listed(lists.as_slice(), number),
+            KeyPlaces::Single(count) => single(*count, number),
+            KeyPlaces::Lists(lists) => Places::Listed(listed(lists.as_slice(), number)),
         }
     }
 }

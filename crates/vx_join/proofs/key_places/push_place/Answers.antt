@@ -23,5 +23,5 @@ returns-clause-known c = λ below. let test = c.if-number-len.false in absurd (o
 pub returns-clause-new : goal.returns-clause-new
 returns-clause-new c = λ past.
     let parts = c.args.parts.now.items in
-    ap parts_at c.in_ok-push-3.ensures.items ∙ (map-append (λ (v : Vec ℕ Global). v.items) parts (c.push-2.new.self ∷ [])
-    ∙ ap (λ (l : List ℕ). parts_at parts ++ l ∷ []) (c.in_ok-push-2.ensures.items ∙ ap (λ (l : List ℕ). l ++ c.args.place ∷ []) c.new-first.ensures.items))
+    ap parts_at c.in_ok-push-2.ensures.items ∙ (map-append (λ (v : Vec ℕ Global). v.items) parts (c.in_ok-list_of_one.field-0 ∷ [])
+    ∙ ap (λ (l : List ℕ). parts_at parts ++ l ∷ []) c.in_ok-list_of_one.ensures)

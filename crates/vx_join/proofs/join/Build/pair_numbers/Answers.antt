@@ -2,6 +2,7 @@ use Rattle.std.proofs.Common.{arith, ◌≡◌, ◌+◌, ◌++◌, ◌<◌, [], 
 use Rattle.vx_values.specs.Values.{pick}
 use Rattle.vx_plan_nodes.specs.Serial.{group_keys}
 use Rattle.vx_join.specs.Build.{ArePairs}
+use Rattle.vx_join.specs.Parts.{listed_places}
 use Rattle.vx_keys.specs.Matched.{matched}
 use Rattle.vx_join.proofs.PairFacts.{pairs-more, number-in}
 use Rattle.vx_join.proofs.join.Build.pair_numbers.Goals as goal
@@ -16,7 +17,7 @@ loop-i-preserved c = record {
       let at = c.args.from + i in
       let lefts = c.loop-i.pairs.lefts.items in
       let rights = c.loop-i.pairs.rights.items in
-      let ps = c.matches.result.now in
+      let ps = listed_places c.matches.result in
       let few : i < length ns = omega (arith, c.loop-i-test.true) in
       let near : at < length ls = omega (arith, few, within, c.requires) in
       let found = c.matches.ensures (pick columns (get_or ls at [])) (number-in columns (group_keys b.columns b.rows) ls ns c.args.from c.args.to i c.requires within few is) in
