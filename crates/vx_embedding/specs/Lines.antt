@@ -1,7 +1,6 @@
 -- The node that a refusal names, and where the code and the name of a printed line stand.
 use Rattle.std.specs.Prelude.{ℕ, ◌+◌, ◌==◌, ◌||◌, min, List, length, drop, position, Bool, Option, Some, None}
-use Rattle.vx_plan_json.specs.declared.fault.PlanFault.{PlanFault}
-use Rattle.vx_plan_json.specs.declared.fault.PlanFault.TheVariants as plan
+use Rattle.vx_plan_json.specs.Fault as plan
 use Rattle.vx_setup.specs.declared.fault.RunFault.{RunFault}
 use Rattle.vx_setup.specs.declared.fault.RunFault.TheVariants as run
 use Rattle.vx_serial.specs.declared.fault.EvalFault.{EvalFault}
@@ -9,21 +8,6 @@ use Rattle.vx_serial.specs.declared.fault.EvalFault.TheVariants as eval
 use Rattle.vx_refusals.specs.declared.refusal.Refusal.{Refusal}
 use Rattle.vx_refusals.specs.declared.refusal.Refusal.TheVariants as refusal
 use Rattle.vx_embedding.specs.declared.lines.Words.{Words}
-
-abbrev pub plan_node : PlanFault → Option ℕ
-plan_node plan.NotJson = None
-plan_node (plan.BadNode path) = None
-plan_node plan.TooDeep = None
-plan_node (plan.UnknownRelation node name) = Some node
-plan_node (plan.UnknownColumn node name) = Some node
-plan_node (plan.DuplicateColumn node name) = Some node
-plan_node (plan.TypeMismatch node) = Some node
-plan_node (plan.UnknownRange node name) = Some node
-plan_node (plan.BadRange name) = None
-plan_node (plan.BadSize name) = None
-plan_node plan.NoMemory = None
-plan_node (plan.TooWide node) = Some node
-plan_node (plan.PhaseMismatch node) = Some node
 
 abbrev pub run_node : RunFault → Option ℕ
 run_node (run.Overflow node) = Some node
@@ -39,7 +23,7 @@ eval_node eval.NoMemory = None
 -- the node that a refusal names
 abbrev pub node_of : Refusal → Option ℕ
 node_of (refusal.Check rule node) = Some node
-node_of (refusal.Plan fault) = plan_node fault
+node_of (refusal.Plan fault) = plan.node_of fault
 node_of (refusal.Run fault) = run_node fault
 node_of (refusal.Eval fault) = eval_node fault
 node_of other = None

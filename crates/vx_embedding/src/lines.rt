@@ -1,11 +1,10 @@
 //! The printed line of a refusal, and what stands in it.
 
 ghost use Rattle.std.specs.Prelude.{◌≡◌, position};
-ghost use Rattle.vx_embedding.specs.Lines.{node_of, plan_node, run_node, eval_node, is_end, word_length, words_in};
+ghost use Rattle.vx_embedding.specs.Lines.{node_of, run_node, eval_node, is_end, word_length, words_in};
 
 use std::alloc::{AllocError, Global};
 use vx_bytes::{ByteOut, MemoryOut};
-use vx_plan_json::PlanFault;
 use vx_refusals::{Refusal, report};
 use vx_serial::EvalFault;
 use vx_setup::RunFault;
@@ -75,26 +74,6 @@ pub fn words_in(line: &[u8]) -> Words
     }
 }
 
-fn plan_node(fault: &PlanFault) -> Option<u32>
-    ensures { result ≡ plan_node fault.now }
-{
-    match fault {
-        PlanFault::UnknownRelation { node, .. }
-        | PlanFault::UnknownColumn { node, .. }
-        | PlanFault::DuplicateColumn { node, .. }
-        | PlanFault::TypeMismatch { node }
-        | PlanFault::UnknownRange { node, .. }
-        | PlanFault::TooWide { node }
-        | PlanFault::PhaseMismatch { node } => Some(*node),
-        PlanFault::NotJson
-        | PlanFault::BadNode { .. }
-        | PlanFault::TooDeep
-        | PlanFault::BadRange { .. }
-        | PlanFault::BadSize { .. }
-        | PlanFault::NoMemory => None,
-    }
-}
-
 fn run_node(fault: &RunFault) -> Option<u32>
     ensures { result ≡ run_node fault.now }
 {
@@ -119,7 +98,7 @@ pub fn node_of(refusal: &Refusal) -> Option<u32>
 {
     match refusal {
         Refusal::Check { node, .. } => Some(*node),
-        Refusal::Plan(fault) => plan_node(fault),
+        Refusal::Plan(fault) => fault.node(),
         Refusal::Run(fault) => run_node(fault),
         Refusal::Eval(fault) => eval_node(fault),
         _ => None,

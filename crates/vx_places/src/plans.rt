@@ -42,25 +42,6 @@ fn refused_plan<'a, F: Store>(
     }
 }
 
-// The number of the node at which a plan is refused, if the refusal has one.
-fn node_of(fault: &PlanFault) -> Option<u32> {
-    match fault {
-        PlanFault::UnknownRelation { node, .. }
-        | PlanFault::UnknownColumn { node, .. }
-        | PlanFault::DuplicateColumn { node, .. }
-        | PlanFault::UnknownRange { node, .. } => Some(*node),
-        PlanFault::TypeMismatch { node }
-        | PlanFault::TooWide { node }
-        | PlanFault::PhaseMismatch { node } => Some(*node),
-        PlanFault::NotJson
-        | PlanFault::BadNode { .. }
-        | PlanFault::TooDeep
-        | PlanFault::BadRange { .. }
-        | PlanFault::BadSize { .. }
-        | PlanFault::NoMemory => None,
-    }
-}
-
 // The path to where the plan of a file is refused, if it is known.
 fn fault_path<F: Store>(
     alloc: Global,
@@ -81,7 +62,7 @@ fn fault_path<F: Store>(
     if let PlanFault::BadSize { name } = fault {
         return Ok(size_path(alloc, &plan, name.as_str())?);
     }
-    match node_of(fault) {
+    match fault.node() {
         Some(node) => Ok(node_path(alloc, &plan, node)?),
         None => Ok(None),
     }

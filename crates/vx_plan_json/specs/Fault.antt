@@ -1,5 +1,5 @@
 -- Refusals of plans, and what it is that a call gives what a pure function gives.
-use Rattle.std.specs.Prelude.{◌≡◌, ℕ, List, Result, Ok, Err, string_bytes, ◌⊎◌}
+use Rattle.std.specs.Prelude.{◌≡◌, ℕ, List, Result, Ok, Err, Option, Some, None, string_bytes, ◌⊎◌}
 pub use Rattle.vx_json.specs.Look.{Reads}
 use Rattle.vx_plan_json.specs.declared.fault.PlanFault.{PlanFault}
 use Rattle.vx_plan_json.specs.declared.fault.PlanFault.TheVariants as fault
@@ -49,3 +49,19 @@ Fails e answer = (e ≡ fault.NoMemory) ⊎ (answer ≡ Err (refusal_of e))
 abbrev pub Gives : {X Y : Type 0} → (X → Y) → Result X PlanFault → Result Y Refusal → Type 0
 Gives look (Ok x) answer = answer ≡ Ok (look x)
 Gives look (Err e) answer = Fails e answer
+
+-- the node that a refusal names
+abbrev pub node_of : PlanFault → Option ℕ
+node_of fault.NotJson = None
+node_of (fault.BadNode path) = None
+node_of fault.TooDeep = None
+node_of (fault.UnknownRelation node name) = Some node
+node_of (fault.UnknownColumn node name) = Some node
+node_of (fault.DuplicateColumn node name) = Some node
+node_of (fault.TypeMismatch node) = Some node
+node_of (fault.UnknownRange node name) = Some node
+node_of (fault.BadRange name) = None
+node_of (fault.BadSize name) = None
+node_of fault.NoMemory = None
+node_of (fault.TooWide node) = Some node
+node_of (fault.PhaseMismatch node) = Some node

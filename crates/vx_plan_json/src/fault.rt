@@ -1,5 +1,8 @@
 //! Why a plan is refused.
 
+ghost use Rattle.std.specs.Prelude.{◌≡◌};
+ghost use Rattle.vx_plan_json.specs.Fault.{node_of};
+
 use std::alloc::{AllocError, AllocFailed};
 use thiserror::Error;
 
@@ -48,6 +51,29 @@ pub enum PlanFault {
     /// group takes up through exchanges alone.
     #[error("P13 PhaseMismatch node={node}")]
     PhaseMismatch { node: u32 },
+}
+
+impl PlanFault {
+    /// The number of the node that it names, if it names one.
+    pub fn node(&self) -> Option<u32>
+        ensures { result ≡ node_of self.now }
+    {
+        match self {
+            PlanFault::UnknownRelation { node, .. }
+            | PlanFault::UnknownColumn { node, .. }
+            | PlanFault::DuplicateColumn { node, .. }
+            | PlanFault::TypeMismatch { node }
+            | PlanFault::UnknownRange { node, .. }
+            | PlanFault::TooWide { node }
+            | PlanFault::PhaseMismatch { node } => Some(*node),
+            PlanFault::NotJson
+            | PlanFault::BadNode { .. }
+            | PlanFault::TooDeep
+            | PlanFault::BadRange { .. }
+            | PlanFault::BadSize { .. }
+            | PlanFault::NoMemory => None,
+        }
+    }
 }
 
 impl From<AllocError> for PlanFault {
