@@ -1,9 +1,9 @@
 //! What no clause says of catalogs: worked texts with their refusals.
 
-use crate::cases::parts;
 use crate::loading::KEYED;
 use std::alloc::Global;
 use std::test::Fail;
+use test_tables::parts;
 use vx_catalog::{Catalog, CatalogFault};
 
 // What is read from a text: that the catalog has no relations or some, or the refusal.

@@ -1,10 +1,10 @@
 //! What no clause says of loading and writing rows: worked texts with their refusals, and readers and writers that fail.
 
-use crate::cases::parts;
 use std::alloc::Global;
 use std::process::Abort;
 use std::sync::Arc;
 use std::test::Fail;
+use test_tables::parts;
 use vx_bytes::{MemoryIn, MemoryOut};
 use vx_catalog::{Catalog, Database, Loader, format_rows, write_rows};
 use vx_rows::Table;

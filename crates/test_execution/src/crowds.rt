@@ -5,8 +5,8 @@ use std::alloc::Global;
 use std::test::Fail;
 use test_runs::{
     CROWDS, IN_A_ROW, ROWS_OF_D, ROWS_OF_T, by_rounds, case_of, first_part, setup_with,
-    three_numbers,
 };
+use test_tables::three_numbers;
 use vx_exchange::ByteRouter;
 use vx_exec::Setup;
 

@@ -8,8 +8,8 @@ use std::test::Fail;
 use std::thread::Threads;
 use test_runs::{
     EXCHANGE_PLANS, Numbered, agrees, by_rounds, case_of, first_part, rows_below, setup_with,
-    three_numbers,
 };
+use test_tables::three_numbers;
 use vx_exchange::ByteRouter;
 use vx_exec::Setup;
 

@@ -2,7 +2,7 @@
 
 use std::alloc::Global;
 use std::test::Fail;
-use test_runs::three_numbers;
+use test_tables::three_numbers;
 use vx_exec::Setup;
 
 // A name and its number, as `many=4`.

@@ -2,7 +2,7 @@
 
 use std::alloc::{AllocError, Global};
 use std::test::Fail;
-use test_tables::shown;
+use test_tables::{parts, shown};
 use vx_bytes::MemoryIn;
 use vx_catalog::{Catalog, Database, Loader};
 use vx_plan::{Plan, TypedPlan, resolve};
@@ -73,13 +73,6 @@ a union | {"op":"union","left":T,"right":T} | 0 'b' 5;1 'b' 7;2 'a' -2;3 'c' 7;0
 a hash join | {"op":"join","method":"hash","on":[["k","u.k"]],"left":T,"right":U} | 0 'b' 5 0 'b' 5;0 'b' 5 1 'b' 7;1 'b' 7 0 'b' 5;1 'b' 7 1 'b' 7;2 'a' -2 2 'a' -2;3 'c' 7 3 'c' 7;
 a merge join, whose inputs fall | {"op":"join","method":"merge","on":[["v","u.v"]],"left":T,"right":U} | 0 'b' 5 0 'b' 5;1 'b' 7 1 'b' 7;1 'b' 7 3 'c' 7;2 'a' -2 2 'a' -2;3 'c' 7 1 'b' 7;3 'c' 7 3 'c' 7;
 the first exchange is refused | {"op":"union","left":T,"right":{"op":"exchange","kind":"gather","input":{"op":"exchange","kind":"gather","input":T}}} | X13 HasExchange node=2"#;
-
-// The parts of a line.
-fn parts(line: &str) -> Option<(&str, &str, &str)> {
-    let (name, rest) = line.split_once(" | ")?;
-    let (root, wanted) = rest.split_once(" | ")?;
-    Some((name, root, wanted))
-}
 
 #[test]
 fn plans_have_their_rows_or_are_refused(rt: HostRuntime) -> Result<(), Fail> {

@@ -1,19 +1,20 @@
 //! Texts that are made to cost much: one of each kind, of some 100,000 bytes. Each has its line, as any other text has.
 //! How much time and memory larger ones take is measured outside of the tests (`tools/try-hostile`).
 
-use crate::lines::{ROOM, line_for, parts};
+use crate::lines::{ROOM, line_for};
 use std::alloc::{AllocError, Global};
 use std::process::Abort;
 use std::sync::Wait;
 use std::test::Fail;
 use std::thread::Threads;
 use test_runs::{CATALOG, with_scans};
+use test_tables::parts;
 
 // How often the part of a text that is repeated stands there.
 const TIMES: usize = 20000;
 
-// Bundles: what each is, its text, in which the part between angle brackets is repeated, and what the program writes for it.
-// Brackets and members open, a member is repeated, texts never close or are written by escapes.
+// Bundles: what each is, its text, in which the part between angle brackets is repeated, and what the program writes for it,
+// where `\n` stands for the end of a line. Brackets and members open, a member is repeated, texts never close or are written by escapes.
 const BUNDLES: &str = r#"lists that never close | <[> | |volcano: V1 BadBundle\n|3
 objects that never close | <{"a":> | |volcano: V1 BadBundle\n|3
 a member that is repeated | {"a":1<,"a":1>} | |volcano: V1 BadBundle\n|3

@@ -1,4 +1,4 @@
-//! What an answer writes, with its status, as one text; cases as lines of text; and a store without files.
+//! What an answer writes, with its status, as one text, and a store without files.
 
 ghost use Rattle.std.specs.Prelude.{true};
 ghost use Rattle.vx_bytes.specs.Stored.{absent};
@@ -86,12 +86,4 @@ pub fn line_for<R: Threads + Wait + Sync + AllocGlobal>(
 ) -> Result<String, Fail> {
     let mut input = MemoryIn::new(bundle, fails_after);
     line_of(rt, &[], &NoFiles, &mut input, room)
-}
-
-/// The parts of a case, a line with ` | ` between them: what the case shows, what is given, and what has to come of it, where
-/// `\n` stands for the end of a line. An array of as many cases would take far longer to prove.
-pub fn parts(case: &str) -> Option<(&str, &str, &str)> {
-    let (name, rest) = case.split_once(" | ")?;
-    let (given, wanted) = rest.split_once(" | ")?;
-    Some((name, given, wanted))
 }

@@ -1,13 +1,13 @@
 //! Worked plans that are refused come to the same line in each mode, and where a case has several faults, to the first
 //! in the order of the catalog, the plan, the checker, the tables, the setup and the run.
 
-use crate::lines::parts;
 use crate::runs::{OF_THREE, compare};
 use std::process::Abort;
 use std::sync::Wait;
 use std::test::Fail;
 use std::thread::Threads;
 use test_runs::{GROUPED, MERGED, ROWS_OF_D, ROWS_OF_T};
+use test_tables::parts;
 
 // Rows of t and of d that are loaded.
 const LOADED: (&str, &str) = (ROWS_OF_T, ROWS_OF_D);
@@ -31,7 +31,7 @@ fn compare_settings<R: Threads + Wait + Sync + AllocGlobal + Abort>(
     Ok(())
 }
 
-// Plans, and their lines. Neither the rows nor the setting is looked at before the plan is accepted.
+// Plans, and their lines, where `\n` stands for the end of a line. Neither the rows nor the setting is looked at before the plan is accepted.
 const PLANS: &str =
     r#"a selection names a relation that the catalog lacks | {"sizes":["many"],"root":{"op":"exchange","kind":"gather","input":{"op":"scan","relation":"u","mode":"shared","size":"many"}}} | |volcano: P4 UnknownRelation node=1 name=u\n|3
 a number is compared with a text | {"sizes":["many"],"root":{"op":"exchange","kind":"gather","input":{"op":"select","where":[{"column":"v","op":"=","value":"7"}],"input":T_PLAIN}}} | |volcano: P7 TypeMismatch node=1\n|3

@@ -19,7 +19,7 @@ pub use cases::{Case, ToFirst, agrees, by_rounds, by_steps, case_of, outcome, se
 pub use crowds::{CROWDS, IN_A_ROW};
 pub use draws::{Draws, in_turn};
 pub use exchanges::{EXCHANGE_PLANS, Numbered, rows_below};
-pub use lines::{WorkedPlan, first_part, three_numbers, worked_plan};
+pub use lines::{WorkedPlan, first_part, worked_plan};
 pub use operators::{GATHERED_SUMS, GATHERED_SUMS_IN_TWO_PHASES, OPERATOR_JOINS, OPERATOR_PLANS};
 pub use queries::{by_percent, case_of_query, plan_of_query};
 pub use relations::{

@@ -1,5 +1,4 @@
-//! Worked plans and numbers as parts of lines of text. An array of as many cases would be proved element by element, in each crate that
-//! reads it.
+//! Worked plans as parts of lines of text. An array of as many cases would be proved element by element, in each crate that reads it.
 
 use crate::operators::{GATHERED_SUMS, JOINED_GATHERED_SUMS};
 use crate::relations::{BOTH_TOO_LARGE, LARGE, ROWS_OF_D, ROWS_OF_T, TOO_LARGE};
@@ -13,15 +12,6 @@ use std::test::Fail;
 pub fn first_part(line: &str) -> (&str, &str) {
     let (part, rest) = line.split_once('|').unwrap_or((line, ""));
     (part.trim(), rest.trim())
-}
-
-/// Three numbers, as `256 1024 8`.
-pub fn three_numbers(text: &str) -> Option<(u32, u32, u32)> {
-    let mut words = text.split_whitespace();
-    let first = words.next()?.parse::<u32>().ok()?;
-    let second = words.next()?.parse::<u32>().ok()?;
-    let third = words.next()?.parse::<u32>().ok()?;
-    Some((first, second, third))
 }
 
 /// A plan that was worked out.

@@ -8,6 +8,7 @@ use crate::batches::numbers;
 use std::alloc::{AllocError, Global};
 use std::process::Abort;
 use std::test::Fail;
+use test_tables::three_numbers;
 use vx_exchange::{ByteRouter, Deal, KeyRoute, Ranges, Router, Sender, Sends};
 use vx_ops::Polled;
 use vx_plan_nodes::Size;
@@ -24,15 +25,6 @@ const CASES: &str = "1 1 0
 5 4096 0
 64 1 130
 64 4096 1";
-
-// The three numbers of a line.
-fn three_numbers(line: &str) -> Option<(u32, u32, u32)> {
-    let mut words = line.split_whitespace();
-    let first = words.next()?.parse::<u32>().ok()?;
-    let second = words.next()?.parse::<u32>().ok()?;
-    let third = words.next()?.parse::<u32>().ok()?;
-    Some((first, second, third))
-}
 
 // What came of a sending end: numbers with their consumers, the largest packet of rows, and how many consumers were sent Last.
 #[derive(Drop)]

@@ -6,3 +6,12 @@ pub fn parts(line: &str) -> Option<(&str, &str, &str)> {
     let (given, wanted) = rest.split_once(" | ")?;
     Some((name, given, wanted))
 }
+
+/// Three numbers, as `256 1024 8`.
+pub fn three_numbers(text: &str) -> Option<(u32, u32, u32)> {
+    let mut words = text.split_whitespace();
+    let first = words.next()?.parse::<u32>().ok()?;
+    let second = words.next()?.parse::<u32>().ok()?;
+    let third = words.next()?.parse::<u32>().ok()?;
+    Some((first, second, third))
+}
