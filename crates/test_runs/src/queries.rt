@@ -3,23 +3,15 @@
 ghost use Rattle.std.specs.Prelude.{◌≤◌};
 
 use crate::cases::{Case, serially};
-use crate::relations::{accepted, fill};
 use std::alloc::{AllocError, Global};
 use std::test::Fail;
-use vx_bytes::MemoryOut;
+use test_relations::{accepted, fill, generated};
 use vx_catalog::{Catalog, Database};
 use vx_check::CheckedPlan;
-use vx_wisconsin::{catalog, generate, plan};
+use vx_wisconsin::{catalog, plan};
 
 // How many rows each relation has.
 const ROWS: [u64; 4] = [10_000, 10_000, 1000, 1000];
-
-// The text of so many rows.
-fn generated(alloc: Global, rows: u64) -> Result<String, Fail> {
-    let mut out = MemoryOut::new(alloc, 1_000_000, 1_000_000_000);
-    generate(alloc, rows, &mut out)?;
-    Ok(String::from_utf8(Vec::from_slice(alloc, out.bytes())?)?)
-}
 
 // The relations with their rows.
 fn filled(alloc: Global, catalog: &Catalog) -> Result<Database, Fail> {

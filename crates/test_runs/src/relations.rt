@@ -2,10 +2,9 @@
 
 use std::alloc::{AllocError, Global};
 use std::test::Fail;
-use vx_bytes::MemoryIn;
-use vx_catalog::{Catalog, Database, Loader};
-use vx_check::{CheckedPlan, check};
-use vx_plan::{Plan, resolve};
+use test_relations::{accepted, fill};
+use vx_catalog::{Catalog, Database};
+use vx_check::CheckedPlan;
 
 /// The relations t(id, k, v), by its key and order id, and d(k, n), by its key k.
 pub const CATALOG: &str =
@@ -68,37 +67,10 @@ pub fn with_scans(alloc: Global, document: &str) -> Result<String, AllocError> {
     Ok(text)
 }
 
-/// The plan of a text over a catalog, as the checker accepts it.
-pub fn accepted(alloc: Global, catalog: &Catalog, text: &str) -> Result<CheckedPlan, Fail> {
-    let plan = Plan::read(alloc, text.as_bytes())?;
-    match check(resolve(alloc, &plan, catalog)?) {
-        Ok(plan) => Ok(plan),
-        Err(_) => Err(Fail::new("the plan is accepted")),
-    }
-}
-
 /// The plan of a document, in which words in capitals stand for scans, as the checker accepts it.
 pub fn plan_of(alloc: Global, document: &str) -> Result<CheckedPlan, Fail> {
     let catalog = Catalog::read(alloc, CATALOG.as_bytes())?;
     accepted(alloc, &catalog, with_scans(alloc, document)?.as_str())
-}
-
-/// Fills a relation with the rows of a text.
-pub fn fill(
-    alloc: Global,
-    catalog: &Catalog,
-    database: &mut Database,
-    relation: usize,
-    text: &str,
-) -> Result<(), Fail> {
-    if relation >= catalog.len() {
-        return Err(Fail::new("the catalog has the relation"));
-    }
-    let mut reader = MemoryIn::new(text.as_bytes(), None);
-    match database.put(Loader::load(alloc, catalog, relation, &mut reader)?) {
-        Ok(()) => Ok(()),
-        Err(_) => Err(Fail::new("the rows are of this catalog")),
-    }
 }
 
 /// A database of these rows.

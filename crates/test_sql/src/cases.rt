@@ -1,52 +1,24 @@
-//! What the tests share: databases, plans, and whether SQLite gives the rows of the serial evaluation.
+//! What the tests share: databases, and whether SQLite gives the rows of the serial evaluation.
 
 use crate::engine::{answer_lines, opened, table_lines};
 use sqlite::{Connection, MemStore};
 use std::alloc::Global;
 use std::process::Abort;
 use std::test::Fail;
-use vx_bytes::MemoryIn;
-use vx_catalog::{Catalog, Database, Loader};
-use vx_check::{CheckedPlan, check};
-use vx_plan::{Plan, TypedPlan, erase, resolve};
+use test_relations::{accepted, fill};
+use vx_catalog::{Catalog, Database};
+use vx_plan::{TypedPlan, erase};
 use vx_serial::eval;
 use vx_sql::{Dialect, plan_sql};
-
-/// Fills a relation with the rows of a text.
-pub fn fill(
-    alloc: Global,
-    database: &mut Database,
-    relation: usize,
-    text: &str,
-) -> Result<(), Fail> {
-    let catalog = database.catalog().share()?;
-    if relation >= catalog.len() {
-        return Err(Fail::new("the catalog has the relation"));
-    }
-    let mut reader = MemoryIn::new(text.as_bytes(), None);
-    match database.put(Loader::load(alloc, &catalog, relation, &mut reader)?) {
-        Ok(()) => Ok(()),
-        Err(_) => Err(Fail::new("the rows are of this catalog")),
-    }
-}
 
 /// A database of the relations of a catalog, each with the rows of its text.
 pub fn database_of(alloc: Global, catalog: &str, texts: &[&str]) -> Result<Database, Fail> {
     let catalog = Catalog::read(alloc, catalog.as_bytes())?;
     let mut database = Database::empty(alloc, &catalog)?;
     for (relation, text) in texts.iter().enumerate() {
-        fill(alloc, &mut database, relation, text)?;
+        fill(alloc, &catalog, &mut database, relation, text)?;
     }
     Ok(database)
-}
-
-/// The plan of a document, as the checker accepts it.
-pub fn accepted(alloc: Global, database: &Database, document: &str) -> Result<CheckedPlan, Fail> {
-    let plan = Plan::read(alloc, document.as_bytes())?;
-    match check(resolve(alloc, &plan, database.catalog())?) {
-        Ok(plan) => Ok(plan),
-        Err(_) => Err(Fail::new("the plan is accepted")),
-    }
 }
 
 // The lines of the serial evaluation.
@@ -74,7 +46,7 @@ fn compare<R: Abort>(
     connection: &mut Connection<MemStore>,
     document: &str,
 ) -> Result<(), Fail> {
-    let plan = accepted(alloc, database, document)?;
+    let plan = accepted(alloc, database.catalog(), document)?;
     let mut wanted = serial_lines(alloc, database, plan.plan())?;
     let mut given = statement_lines(alloc, connection, plan.plan())?;
     if !plan.plan().is_total() {

@@ -1,10 +1,11 @@
 //! Where SQL means something else: groups by nothing, quotes inside of names and texts, and sums that leave 64 bits.
 
-use crate::cases::{accepted, compare_all, database_of};
+use crate::cases::{compare_all, database_of};
 use crate::engine::opened;
 use crate::examples::CATALOG;
 use sqlite::{Connection, Error, ErrorCode, MemStore};
 use std::test::Fail;
+use test_relations::accepted;
 use vx_serial::eval;
 use vx_sql::{Dialect, plan_sql};
 
@@ -48,7 +49,7 @@ fn sums_that_do_not_fit_are_errors(rt: HostRuntime) -> Result<(), Fail> {
     let alloc = rt.alloc();
     let rows = "id,k,v\n0,a,9223372036854775807\n1,a,1\n";
     let database = database_of(alloc, CATALOG, &[rows, NO_ROWS_OF_D])?;
-    let plan = accepted(alloc, &database, SUMS)?;
+    let plan = accepted(alloc, database.catalog(), SUMS)?;
     let statement = plan_sql(alloc, Dialect::Sqlite, plan.plan())?;
     let mut connection = opened(alloc, &database)?;
     assert!(rt; overflows(&mut connection, statement.as_str()));

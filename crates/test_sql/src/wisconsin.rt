@@ -1,29 +1,22 @@
 //! The queries of the Wisconsin benchmark over small relations.
 
-use crate::cases::{compare_all, fill};
+use crate::cases::compare_all;
 use std::alloc::Global;
 use std::test::Fail;
-use vx_bytes::MemoryOut;
+use test_relations::{fill, generated};
 use vx_catalog::{Catalog, Database};
-use vx_wisconsin::{catalog, generate, plan};
+use vx_wisconsin::{catalog, plan};
 
 // The rows of each relation.
 const ROWS: [u64; 4] = [200, 200, 100, 100];
-
-// The text of so many rows.
-fn text_of(alloc: Global, rows: u64) -> Result<String, Fail> {
-    let mut out = MemoryOut::new(alloc, 1_000_000, 1_000_000_000);
-    generate(alloc, rows, &mut out)?;
-    Ok(String::from_utf8(Vec::from_slice(alloc, out.bytes())?)?)
-}
 
 // The relations with their rows.
 fn filled(alloc: Global) -> Result<Database, Fail> {
     let catalog = Catalog::read(alloc, catalog().as_bytes())?;
     let mut database = Database::empty(alloc, &catalog)?;
     for (relation, rows) in ROWS.iter().enumerate() {
-        let text = text_of(alloc, *rows)?;
-        fill(alloc, &mut database, relation, text.as_str())?;
+        let text = generated(alloc, *rows)?;
+        fill(alloc, &catalog, &mut database, relation, text.as_str())?;
     }
     Ok(database)
 }

@@ -3,55 +3,35 @@
 
 ghost use Rattle.std.specs.Prelude.{◌≤◌};
 
-use crate::texts::{HEADER, text_of};
+use crate::texts::HEADER;
 use std::alloc::Global;
 use std::test::Fail;
-use vx_bytes::MemoryIn;
-use vx_catalog::{Catalog, Database, Loader, format_rows};
-use vx_check::{CheckedPlan, check};
-use vx_plan::{Plan, erase, name_texts, resolve};
+use test_relations::{accepted, fill, generated};
+use vx_catalog::{Catalog, Database, format_rows};
+use vx_check::CheckedPlan;
+use vx_plan::{erase, name_texts};
 use vx_serial::eval;
 use vx_wisconsin::{catalog, plan};
 
-// Loads a relation of so many rows.
-fn fill(
-    alloc: Global,
-    database: &mut Database,
-    catalog: &Catalog,
-    relation: usize,
-    rows: u64,
-) -> Result<(), Fail> {
-    if relation >= catalog.len() {
-        return Err(Fail::new("the catalog has four relations"));
-    }
-    let text = text_of(alloc, rows)?;
-    let mut reader = MemoryIn::new(text.as_bytes(), None);
-    match database.put(Loader::load(alloc, catalog, relation, &mut reader)?) {
-        Ok(()) => Ok(()),
-        Err(_) => Err(Fail::new("the rows are of this catalog")),
-    }
-}
+// How many rows each relation has.
+const ROWS: [u64; 4] = [10_000, 10_000, 1000, 1000];
 
 // The relations with the numbers of rows that the results are for.
 fn filled(alloc: Global) -> Result<Database, Fail> {
     let catalog = Catalog::read(alloc, catalog().as_bytes())?;
     let mut database = Database::empty(alloc, &catalog)?;
-    fill(alloc, &mut database, &catalog, 0, 10_000)?;
-    fill(alloc, &mut database, &catalog, 1, 10_000)?;
-    fill(alloc, &mut database, &catalog, 2, 1000)?;
-    fill(alloc, &mut database, &catalog, 3, 1000)?;
+    for (relation, rows) in ROWS.iter().enumerate() {
+        let text = generated(alloc, *rows)?;
+        fill(alloc, &catalog, &mut database, relation, text.as_str())?;
+    }
     Ok(database)
 }
 
 // The plan of a query, which the checker accepts.
 fn checked(alloc: Global, catalog: &Catalog, query: u32) -> Result<CheckedPlan, Fail> {
-    let Some(text) = plan(query) else {
-        return Err(Fail::new("the query has a plan"));
-    };
-    let plan = Plan::read(alloc, text.as_bytes())?;
-    match check(resolve(alloc, &plan, catalog)?) {
-        Ok(plan) => Ok(plan),
-        Err(_) => Err(Fail::new("the plan is accepted")),
+    match plan(query) {
+        Some(text) => accepted(alloc, catalog, text),
+        None => Err(Fail::new("the query has a plan")),
     }
 }
 
@@ -79,7 +59,7 @@ fn plans_are_total_where_they_are_to_be(rt: HostRuntime) -> Result<(), Fail> {
 
 // The header and the lines of the rows from `from` to `to`, without `to`, of 10,000.
 fn cut(alloc: Global, from: usize, to: usize) -> Result<String, Fail> {
-    let text = text_of(alloc, 10_000)?;
+    let text = generated(alloc, 10_000)?;
     let mut cut = format!(in alloc; "{HEADER}\n")?;
     for (i, line) in text.lines().enumerate() {
         if from < i && i <= to {
@@ -126,7 +106,7 @@ fn joins_lay_equal_rows_side_by_side(rt: HostRuntime) -> Result<(), Fail> {
     let alloc = rt.alloc();
     let database = filled(alloc)?;
     let thousand = cut(alloc, 0, 1000)?;
-    let small = text_of(alloc, 1000)?;
+    let small = generated(alloc, 1000)?;
     let twice = beside(alloc, thousand.as_str(), thousand.as_str())?;
     let both = beside(alloc, thousand.as_str(), small.as_str())?;
     let three = beside(alloc, twice.as_str(), small.as_str())?;

@@ -2,19 +2,13 @@
 
 use std::alloc::Global;
 use std::test::Fail;
+use test_relations::generated;
 use vx_bytes::MemoryOut;
 use vx_wisconsin::{GenerateFault, generate};
 
 /// The header of each text.
 pub const HEADER: &str =
     "unique1,unique2,two,four,ten,twenty,onePercent,tenPercent,twentyPercent,fiftyPercent,unique3,evenOnePercent,oddOnePercent,stringu1,stringu2,string4";
-
-/// The text of so many rows.
-pub fn text_of(alloc: Global, rows: u64) -> Result<String, Fail> {
-    let mut out = MemoryOut::new(alloc, 1_000_000, 1_000_000_000);
-    generate(alloc, rows, &mut out)?;
-    Ok(String::from_utf8(Vec::from_slice(alloc, out.bytes())?)?)
-}
 
 // The lines of a text.
 fn lines_of(alloc: Global, text: &str) -> Result<Vec<&str>, Fail> {
@@ -28,7 +22,7 @@ fn lines_of(alloc: Global, text: &str) -> Result<Vec<&str>, Fail> {
 #[test]
 fn no_rows_are_the_header_alone(rt: HostRuntime) -> Result<(), Fail> {
     let alloc = rt.alloc();
-    let text = text_of(alloc, 0)?;
+    let text = generated(alloc, 0)?;
     assert_eq!(rt; text.as_str(), format!(in alloc; "{HEADER}\n")?.as_str());
     Ok(())
 }
@@ -53,7 +47,7 @@ const FRONTS: [(u64, usize, &str); 8] = [
 fn lines_begin_as_worked_out_by_hand(rt: HostRuntime) -> Result<(), Fail> {
     let alloc = rt.alloc();
     for (rows, line, front) in FRONTS {
-        let text = text_of(alloc, rows)?;
+        let text = generated(alloc, rows)?;
         let lines = lines_of(alloc, text.as_str())?;
         let found = lines.get(line).copied().unwrap_or("");
         assert!(rt; found.starts_with(front), "{found}");
@@ -72,7 +66,7 @@ pub const SMALL: &str =
 #[test]
 fn four_rows_are_whole(rt: HostRuntime) -> Result<(), Fail> {
     let alloc = rt.alloc();
-    let text = text_of(alloc, 4)?;
+    let text = generated(alloc, 4)?;
     assert_eq!(rt;
         text.as_str(),
         format!(in alloc; "{HEADER}\n{SMALL}")?.as_str()
