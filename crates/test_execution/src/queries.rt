@@ -7,9 +7,8 @@ use std::alloc::Global;
 use std::sync::Wait;
 use std::test::Fail;
 use std::thread::Threads;
-use test_runs::{
-    Case, Draws, agrees, by_percent, by_rounds, case_of_query, plan_of_query, serially, setup_of,
-};
+use test_relations::plan_of_query;
+use test_runs::{Case, Draws, agrees, by_percent, by_rounds, case_of_query, serially, setup_of};
 use vx_exchange::ByteRouter;
 
 // How many runs with drawn sizes there are.

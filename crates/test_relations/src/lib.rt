@@ -4,7 +4,9 @@
 #![tactic(auto)]
 
 mod plans;
+mod queries;
 mod rows;
 
 pub use plans::accepted;
-pub use rows::{fill, generated};
+pub use queries::{generated, generated_database, plan_of_query};
+pub use rows::fill;

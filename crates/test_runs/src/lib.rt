@@ -21,7 +21,7 @@ pub use draws::{Draws, in_turn};
 pub use exchanges::{EXCHANGE_PLANS, Numbered, rows_below};
 pub use lines::{WorkedPlan, first_part, worked_plan};
 pub use operators::{GATHERED_SUMS, GATHERED_SUMS_IN_TWO_PHASES, OPERATOR_JOINS, OPERATOR_PLANS};
-pub use queries::{by_percent, case_of_query, plan_of_query};
+pub use queries::{by_percent, case_of_query};
 pub use relations::{
     BOTH_TOO_LARGE, CATALOG, LARGE, ROWS_OF_D, ROWS_OF_T, TOO_LARGE, plan_of, with_scans,
 };

@@ -5,38 +5,16 @@ ghost use Rattle.std.specs.Prelude.{◌≤◌};
 use crate::cases::{Case, serially};
 use std::alloc::{AllocError, Global};
 use std::test::Fail;
-use test_relations::{accepted, fill, generated};
-use vx_catalog::{Catalog, Database};
-use vx_check::CheckedPlan;
-use vx_wisconsin::{catalog, plan};
+use test_relations::{generated_database, plan_of_query};
 
 // How many rows each relation has.
 const ROWS: [u64; 4] = [10_000, 10_000, 1000, 1000];
 
-// The relations with their rows.
-fn filled(alloc: Global, catalog: &Catalog) -> Result<Database, Fail> {
-    let mut database = Database::empty(alloc, catalog)?;
-    for (relation, rows) in ROWS.iter().enumerate() {
-        let text = generated(alloc, *rows)?;
-        fill(alloc, catalog, &mut database, relation, text.as_str())?;
-    }
-    Ok(database)
-}
-
-/// The plan of a query, as the checker accepts it.
-pub fn plan_of_query(alloc: Global, query: u32) -> Result<CheckedPlan, Fail> {
-    match plan(query) {
-        Some(text) => accepted(alloc, &Catalog::read(alloc, catalog().as_bytes())?, text),
-        None => Err(Fail::new("the query has a plan")),
-    }
-}
-
 /// The plan of a query over the relations, and its rows by serial evaluation.
 pub fn case_of_query(alloc: Global, query: u32) -> Result<(Case, String), Fail> {
-    let catalog = Catalog::read(alloc, catalog().as_bytes())?;
     let case = Case {
         plan: plan_of_query(alloc, query)?,
-        database: filled(alloc, &catalog)?,
+        database: generated_database(alloc, &ROWS)?,
     };
     let rows = serially(alloc, &case)?;
     Ok((case, rows))

@@ -3,23 +3,11 @@
 use crate::cases::compare_all;
 use std::alloc::Global;
 use std::test::Fail;
-use test_relations::{fill, generated};
-use vx_catalog::{Catalog, Database};
-use vx_wisconsin::{catalog, plan};
+use test_relations::generated_database;
+use vx_wisconsin::plan;
 
 // The rows of each relation.
 const ROWS: [u64; 4] = [200, 200, 100, 100];
-
-// The relations with their rows.
-fn filled(alloc: Global) -> Result<Database, Fail> {
-    let catalog = Catalog::read(alloc, catalog().as_bytes())?;
-    let mut database = Database::empty(alloc, &catalog)?;
-    for (relation, rows) in ROWS.iter().enumerate() {
-        let text = generated(alloc, *rows)?;
-        fill(alloc, &catalog, &mut database, relation, text.as_str())?;
-    }
-    Ok(database)
-}
 
 // The plans of all queries.
 fn plans(alloc: Global) -> Result<Vec<&'static str>, Fail> {
@@ -35,7 +23,7 @@ fn plans(alloc: Global) -> Result<Vec<&'static str>, Fail> {
 #[test]
 fn queries_have_their_rows(rt: HostRuntime) -> Result<(), Fail> {
     let alloc = rt.alloc();
-    let database = filled(alloc)?;
+    let database = generated_database(alloc, &ROWS)?;
     let plans = plans(alloc)?;
     assert_eq!(rt; plans.len(), 13);
     compare_all(&rt, alloc, &database, plans.as_slice())

@@ -6,38 +6,18 @@ ghost use Rattle.std.specs.Prelude.{◌≤◌};
 use crate::texts::HEADER;
 use std::alloc::Global;
 use std::test::Fail;
-use test_relations::{accepted, fill, generated};
-use vx_catalog::{Catalog, Database, format_rows};
-use vx_check::CheckedPlan;
+use test_relations::{generated, generated_database, plan_of_query};
+use vx_catalog::{Database, format_rows};
 use vx_plan::{erase, name_texts};
 use vx_serial::eval;
-use vx_wisconsin::{catalog, plan};
+use vx_wisconsin::plan;
 
 // How many rows each relation has.
 const ROWS: [u64; 4] = [10_000, 10_000, 1000, 1000];
 
-// The relations with the numbers of rows that the results are for.
-fn filled(alloc: Global) -> Result<Database, Fail> {
-    let catalog = Catalog::read(alloc, catalog().as_bytes())?;
-    let mut database = Database::empty(alloc, &catalog)?;
-    for (relation, rows) in ROWS.iter().enumerate() {
-        let text = generated(alloc, *rows)?;
-        fill(alloc, &catalog, &mut database, relation, text.as_str())?;
-    }
-    Ok(database)
-}
-
-// The plan of a query, which the checker accepts.
-fn checked(alloc: Global, catalog: &Catalog, query: u32) -> Result<CheckedPlan, Fail> {
-    match plan(query) {
-        Some(text) => accepted(alloc, catalog, text),
-        None => Err(Fail::new("the query has a plan")),
-    }
-}
-
 // The text of the rows of a query.
 fn result_of(alloc: Global, database: &Database, query: u32) -> Result<String, Fail> {
-    let plan = checked(alloc, database.catalog(), query)?;
+    let plan = plan_of_query(alloc, query)?;
     let plan = plan.plan();
     let rows = eval(alloc, &erase(alloc, plan)?, database)?;
     let names = name_texts(alloc, plan.root().head().columns.names.as_slice())?;
@@ -47,9 +27,8 @@ fn result_of(alloc: Global, database: &Database, query: u32) -> Result<String, F
 #[test]
 fn plans_are_total_where_they_are_to_be(rt: HostRuntime) -> Result<(), Fail> {
     let alloc = rt.alloc();
-    let catalog = Catalog::read(alloc, catalog().as_bytes())?;
     for query in 1..14 {
-        let plan = checked(alloc, &catalog, query)?;
+        let plan = plan_of_query(alloc, query)?;
         assert_eq!(rt; plan.plan().is_total(), ![3, 5, 7, 8].contains(&query));
     }
     assert!(rt; plan(0).is_none());
@@ -73,7 +52,7 @@ fn cut(alloc: Global, from: usize, to: usize) -> Result<String, Fail> {
 #[test]
 fn selections_are_cut_out(rt: HostRuntime) -> Result<(), Fail> {
     let alloc = rt.alloc();
-    let database = filled(alloc)?;
+    let database = generated_database(alloc, &ROWS)?;
     let hundred = result_of(alloc, &database, 1)?;
     assert_eq!(rt; hundred.as_str(), cut(alloc, 0, 100)?.as_str());
     let thousand = result_of(alloc, &database, 2)?;
@@ -104,7 +83,7 @@ fn below_header(text: &str) -> &str {
 #[test]
 fn joins_lay_equal_rows_side_by_side(rt: HostRuntime) -> Result<(), Fail> {
     let alloc = rt.alloc();
-    let database = filled(alloc)?;
+    let database = generated_database(alloc, &ROWS)?;
     let thousand = cut(alloc, 0, 1000)?;
     let small = generated(alloc, 1000)?;
     let twice = beside(alloc, thousand.as_str(), thousand.as_str())?;
@@ -125,7 +104,7 @@ fn joins_lay_equal_rows_side_by_side(rt: HostRuntime) -> Result<(), Fail> {
 #[test]
 fn merged_joins_have_the_list_of_the_hashed(rt: HostRuntime) -> Result<(), Fail> {
     let alloc = rt.alloc();
-    let database = filled(alloc)?;
+    let database = generated_database(alloc, &ROWS)?;
     let matched = result_of(alloc, &database, 4)?;
     assert_eq!(rt; result_of(alloc, &database, 6)?.as_str(), matched.as_str());
     assert_eq!(rt; result_of(alloc, &database, 13)?.as_str(), matched.as_str());
@@ -135,7 +114,7 @@ fn merged_joins_have_the_list_of_the_hashed(rt: HostRuntime) -> Result<(), Fail>
 #[test]
 fn distinct_pairs_are_counted(rt: HostRuntime) -> Result<(), Fail> {
     let alloc = rt.alloc();
-    let database = filled(alloc)?;
+    let database = generated_database(alloc, &ROWS)?;
     let pairs = result_of(alloc, &database, 7)?;
     assert_eq!(rt; pairs.lines().count(), 201);
     let unique = result_of(alloc, &database, 8)?;
@@ -159,7 +138,7 @@ fn by_percent(alloc: Global, header: &str, factor: u64, more: u64) -> Result<Str
 #[test]
 fn aggregates_are_as_worked_out_by_hand(rt: HostRuntime) -> Result<(), Fail> {
     let alloc = rt.alloc();
-    let database = filled(alloc)?;
+    let database = generated_database(alloc, &ROWS)?;
     assert_eq!(rt; result_of(alloc, &database, 9)?.as_str(), "m\n0\n");
     let least = by_percent(alloc, "onePercent,m", 1, 0)?;
     assert_eq!(rt; result_of(alloc, &database, 10)?.as_str(), least.as_str());
