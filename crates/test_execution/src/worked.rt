@@ -10,9 +10,10 @@ use std::test::Fail;
 use std::thread::Threads;
 use test_runs::{
     Case, Draws, GROUPED, GROUPED_ROWS, JOIN_PLANS, OPERATOR_JOINS, OPERATOR_PLANS, ROWS_OF_D,
-    ROWS_OF_T, SUM_PLANS, ToFirst, WORKED_PLANS, agrees, by_rounds, by_steps, case_of, first_part,
-    serially, setup_of, worked_plan,
+    ROWS_OF_T, SUM_PLANS, WORKED_PLANS, agrees, by_rounds, by_steps, case_of, first_part, serially,
+    setup_of, worked_plan,
 };
+use test_tables::ToFirst;
 use vx_exchange::ByteRouter;
 use vx_exec::Setup;
 use vx_plan::Router;

@@ -8,26 +8,11 @@ use vx_catalog::Database;
 use vx_check::CheckedPlan;
 use vx_exec::{Ran, RunFault, Setup, run_rounds, run_scheduled};
 use vx_plan::{Router, erase};
-use vx_rows::Value;
 use vx_serial::eval;
 use vx_views::Rows;
 
 // More rounds than a run of these plans has.
 const ROUNDS: u64 = 1_000_000;
-
-/// Sends every key to consumer 0.
-#[derive(Drop)]
-pub struct ToFirst;
-
-impl Router for ToFirst {
-    ghost route_of = { λ _ _ _ _. 0 };
-
-    ghost in_range = { λ r name key n some. some };
-
-    fn route(&self, _name: &str, _key: &[Value], _n: u32) -> u32 {
-        0
-    }
-}
 
 /// A plan over a database.
 #[derive(Drop)]

@@ -15,7 +15,7 @@ mod relations;
 mod sizes;
 mod worked;
 
-pub use cases::{Case, ToFirst, agrees, by_rounds, by_steps, case_of, outcome, serially};
+pub use cases::{Case, agrees, by_rounds, by_steps, case_of, outcome, serially};
 pub use crowds::{CROWDS, IN_A_ROW};
 pub use draws::{Draws, in_turn};
 pub use exchanges::{EXCHANGE_PLANS, Numbered, rows_below};

@@ -4,9 +4,9 @@ ghost use Rattle.std.specs.Prelude.{◌≡◌};
 ghost use Rattle.vx_exchange.specs.Sender.{sender_is_open};
 
 use crate::batches::numbers;
-use crate::routers::ToFirst;
 use std::process::Abort;
 use std::test::Fail;
+use test_tables::ToFirst;
 use vx_exchange::{Collector, Deal, Receiver, Sender, Sends};
 use vx_ops::{Code, Fault, Got, Polled, Source, Want};
 use vx_ports::{Body, Ending, Packet};

@@ -8,8 +8,6 @@ mod batches;
 #[cfg(test)]
 mod exchanges;
 #[cfg(test)]
-mod routers;
-#[cfg(test)]
 mod senders;
 #[cfg(test)]
 mod sorts;

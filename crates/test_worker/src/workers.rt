@@ -6,9 +6,9 @@ ghost use Rattle.vx_ops.specs.Scan.{scan_types};
 ghost use Rattle.vx_exchange.specs.Collector.{collector_post, collector_is_open, collector_has_closed};
 ghost use Rattle.vx_worker.specs.Worker.{IsReady};
 
-use crate::routers::ToFirst;
 use std::alloc::{AllocError, Global};
 use std::test::Fail;
+use test_tables::ToFirst;
 use vx_exchange::Collector;
 use vx_ops::{Code, Fault, Scan};
 use vx_ports::{Packet, Put};
