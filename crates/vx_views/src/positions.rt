@@ -182,16 +182,34 @@ impl Positions {
     }
 }
 
+// Adds a position to each of these places.
+fn move_by(places: &mut [usize], from: usize)
+    requires { All (λ i. from + i < 2 ^ 64) places.old }
+    ensures { places.new ≡ map (λ i. from + i) places.old }
+{
+    for i in 0..places.len() {
+        places[i] = from + places[i];
+    }
+}
+
 // Places behind a position.
 fn moved(alloc: Global, places: &[usize], from: usize) -> Result<Vec<usize>, AllocError>
     requires { All (λ i. from + i < 2 ^ 64) places.now }
     ensures { IfOk result (λ v. v.items ≡ map (λ i. from + i) places.now) }
 {
-    let mut positions = Vec::with_capacity(alloc, places.len())?;
-    for i in 0..places.len() {
-        positions.push(from + places[i])?;
-    }
+    let mut positions = Vec::from_slice(alloc, places)?;
+    move_by(positions.as_mut_slice(), from);
     Ok(positions)
+}
+
+// Puts the position that is listed at each of these places there.
+fn look_up(places: &mut [usize], listed: &[usize])
+    requires { ArePositions (length listed.now) places.old }
+    ensures { places.new ≡ map (slice_index listed.now) places.old }
+{
+    for i in 0..places.len() {
+        places[i] = listed[places[i]];
+    }
 }
 
 // The positions at some places.
@@ -199,9 +217,7 @@ fn taken(alloc: Global, listed: &[usize], places: &[usize]) -> Result<Vec<usize>
     requires { ArePositions (length listed.now) places.now }
     ensures { IfOk result (λ v. v.items ≡ map (slice_index listed.now) places.now) }
 {
-    let mut positions = Vec::with_capacity(alloc, places.len())?;
-    for i in 0..places.len() {
-        positions.push(listed[places[i]])?;
-    }
+    let mut positions = Vec::from_slice(alloc, places)?;
+    look_up(positions.as_mut_slice(), listed);
     Ok(positions)
 }
