@@ -86,9 +86,10 @@ impl Bench {
         Ok(bench)
     }
 
-    /// How often each call is made: the least of its times is shown.
+    /// How often each call is made. The least of its times is shown: on a machine whose processors are shared with others, that is what it takes
+    /// when they are left to it.
     pub fn repeats(self) -> u64 {
-        if self.with_times { 3 } else { 1 }
+        if self.with_times { 11 } else { 1 }
     }
 
     /// Shows the head of the table.
