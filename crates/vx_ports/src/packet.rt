@@ -68,7 +68,7 @@ impl Packet {
     pub const MAX_ROWS: usize = 4096;
 
     ghost use Rattle.std.specs.Prelude.{◌≡◌, ◌<◌, ◌≤◌, [], length};
-    ghost use Rattle.vx_ports.specs.Packets.{brings, closes, FitsContent};
+    ghost use Rattle.vx_ports.specs.Packets.{brings, closes, content_rows, FitsContent};
     ghost use Rattle.vx_ports.specs.Seen.{ending_content};
     ghost use Rattle.vx_ports.specs.Bodies.{IsBody};
 
@@ -142,6 +142,16 @@ impl Packet {
             PacketKind::Rows => false,
             PacketKind::Last => true,
             PacketKind::Fault => true,
+        }
+    }
+
+    /// How many rows it has: none where it closes the stream.
+    pub fn row_count(&self) -> usize
+        ensures { result ≡ length (content_rows self.now.content) }
+    {
+        match self.kind {
+            PacketKind::Rows => self.rows.len(),
+            PacketKind::Last | PacketKind::Fault => 0,
         }
     }
 

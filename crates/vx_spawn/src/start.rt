@@ -5,7 +5,7 @@ use std::sync::Wait;
 use std::sync::atomic::{AtomicU64, Ordering};
 use std::thread::Parker;
 
-/// Calls: `new`, then `wait` by each thread, and by the thread that starts them `go` or `cancel`, once.
+/// Calls: `new`, then `wait` or `wait_for_partner` by each thread, and by the thread that starts them `go` or `cancel`, once.
 ///
 /// Whether the workers may take their first steps; and what each of them sleeps on while it cannot move.
 #[derive(Drop)]
@@ -42,7 +42,7 @@ impl Start {
         self.parkers.as_slice()
     }
 
-    /// Lets all threads go.
+    /// Lets all threads go. Those that wait for a partner sleep on until one wakes them.
     pub fn go(&self) {
         self.set(Start::STARTED);
     }
@@ -50,6 +50,9 @@ impl Start {
     /// Lets all threads end before their first step.
     pub fn cancel(&self) {
         self.set(Start::CANCELLED);
+        for parker in &self.parkers {
+            parker.unpark();
+        }
     }
 
     // A thread that waits sleeps only while the word is that of a closed barrier, so none sleeps on after this.
@@ -66,6 +69,22 @@ impl Start {
                 return word == Start::STARTED;
             }
             self.word.park(rt, 0);
+        }
+        unreachable!()
+    }
+
+    /// As `wait`, for a worker that can do nothing before another sent it a packet: it sleeps until it is woken for one, or the run was
+    /// cancelled. So the processors are left to those that begin.
+    pub fn wait_for_partner<T: Wait>(&self, rt: &T, worker: usize) -> bool {
+        let Some(parker) = self.parkers.get(worker) else {
+            return self.wait(rt);
+        };
+        'looks: for _ in rt.forever() {
+            let word = self.word.load(Ordering::SeqCst);
+            if word != Start::UNKNOWN {
+                return word == Start::STARTED;
+            }
+            parker.park(rt);
         }
         unreachable!()
     }

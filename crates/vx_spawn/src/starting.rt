@@ -19,6 +19,14 @@ use vx_plan_nodes::Router;
 use vx_threads::{Gate, ThreadWires, WorkerPlace, run_to_end};
 use vx_worker::Morsels;
 
+// Waits for the start, and returns whether the run was started. A worker that has no morsels to draw waits for its first packet, too.
+fn may_begin<O, S, T: Wait>(rt: &T, start: &Start, member: &CrewMember<O, S>) -> bool {
+    if member.ends.scans() == 0 && member.ends.inlets() > 0 {
+        return start.wait_for_partner(rt, member.number);
+    }
+    start.wait(rt)
+}
+
 /// What a worker's thread does: it waits for the start, and steps its worker to its end. None if the run was cancelled.
 pub fn work<O: Source + Drop, S: Sends + Drop, G: Morsels, R: Router, H: Gate, T: Wait>(
     rt: &T,
@@ -33,7 +41,7 @@ pub fn work<O: Source + Drop, S: Sends + Drop, G: Morsels, R: Router, H: Gate, T
     requires sits { All (Sits decks.now.items) member.ends.draws.items }
     ensures { IfSome result (λ j. IsHonest O.Stands O.op S.Stands S.task S.post S.bounds (R.route_of router.now) (G.morsel_of morsels.now) member j) }
 {
-    if !start.wait(rt) {
+    if !may_begin(rt, start, &member) {
         return None;
     }
     let CrewMember {

@@ -134,10 +134,11 @@ impl Ends {
         if place >= self.outs.len() || self.outs[place].is_closed() {
             return Put::Full(packet);
         }
+        let rows = packet.row_count();
         let closes = packet.is_closing();
         let answer = self.outs[place].put(packet);
         self.unwoken
-            .note(place, &answer, closes, parkers, self.consumers);
+            .note(place, &answer, rows, closes, parkers, self.consumers);
         answer
     }
 
@@ -166,6 +167,13 @@ impl Ends {
         ensures { result ≡ length self.now.ins.items }
     {
         self.ins.len()
+    }
+
+    /// How many scans it draws morsels of.
+    pub fn scans(&self) -> usize
+        ensures { result ≡ length self.now.draws.items }
+    {
+        self.draws.len()
     }
 
     /// Whether the workers of a scan share a deck.

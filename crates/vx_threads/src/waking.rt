@@ -1,8 +1,8 @@
 //! Waking the workers at the other ends of rings.
 //!
 //! To wake a worker that sleeps is a call of the system, which takes longer than to pass a small packet on. So not every packet wakes its
-//! consumer, and not every place that becomes free wakes the producer. A producer wakes its consumers once some packets wait for them, when
-//! it closes a ring, and before it waits itself. A consumer wakes a producer once half of the ring is free, and before it waits itself it
+//! consumer, and not every place that becomes free wakes the producer. A producer wakes its consumers once some small packets or a large one
+//! wait for them, when it closes a ring, and before it waits itself. A consumer wakes a producer once half of the ring is free, and before it waits itself it
 //! takes all that is in its rings. So no worker sleeps on while its partner waits too.
 
 use std::thread::Parker;
@@ -15,19 +15,23 @@ pub fn wake(parkers: &[Parker], worker: usize) {
     }
 }
 
-// Consumers are woken once so many packets wait for each of them.
+// Consumers are woken once so many packets wait for each of them,
 const PACKETS: usize = 4;
+
+// or so many rows, which takes longer to work through than to wake the one that does it.
+const ROWS: usize = 1024;
 
 // There are no more consumers than this.
 const MOST: usize = 64;
 
-/// The consumers that were put packets since they were last woken, by their places, and how many packets these are.
+/// The consumers that were put packets since they were last woken, by their places, and how many packets these are, of how many rows.
 #[derive(Clone, Copy, PartialEq, Eq)]
 pub struct Unwoken {
     // A bit for each place, the lowest one for the first.
     places: u64,
     consumers: usize,
     packets: usize,
+    rows: usize,
 }
 
 impl Unwoken {
@@ -39,14 +43,16 @@ impl Unwoken {
             places: 0,
             consumers: 0,
             packets: 0,
+            rows: 0,
         }
     }
 
-    // Adds a packet for the consumer at a place.
-    fn add(&mut self, place: usize)
+    // Adds a packet of so many rows for the consumer at a place.
+    fn add(&mut self, place: usize, rows: usize)
         requires { place < 64 }
     {
         self.packets = self.packets.saturating_add(1);
+        self.rows = self.rows.saturating_add(rows);
         let bit = 1u64 << place as u32;
         if self.places & bit == 0 {
             self.places |= bit;
@@ -54,17 +60,19 @@ impl Unwoken {
         }
     }
 
-    // Whether enough packets wait for them.
+    // Whether enough waits for them.
     fn is_due(&self) -> bool {
         self.packets >= self.consumers.saturating_mul(PACKETS)
+            || self.rows >= self.consumers.saturating_mul(ROWS)
     }
 
-    /// Notes what came of a put to the consumer at a place. If enough packets wait by now, or the packet closed the ring, all consumers with
-    /// packets are woken; `first` is the number of the first consumer among all workers.
+    /// Notes what came of a put to the consumer at a place, of a packet of so many rows. If enough waits by now, or the packet closed the
+    /// ring, all consumers with packets are woken; `first` is the number of the first consumer among all workers.
     pub fn note(
         &mut self,
         place: usize,
         answer: &Put,
+        rows: usize,
         closes: bool,
         parkers: &[Parker],
         first: usize,
@@ -76,7 +84,7 @@ impl Unwoken {
             wake(parkers, first.saturating_add(place));
             return;
         }
-        self.add(place);
+        self.add(place, rows);
         if closes || self.is_due() {
             self.wake_all(parkers, first);
         }
