@@ -1,7 +1,8 @@
 //! The consumers of rows by their values in some columns.
 
 ghost use Rattle.std.specs.Prelude.{◌≡◌, ◌<◌, ◌++◌, length, map, IfOk, OnOk};
-ghost use Rattle.vx_values.specs.Values.{pick};
+ghost use Rattle.vx_values.specs.Values.{pick, value_at};
+ghost use Rattle.vx_plan_nodes.specs.Routes.{range_consumer};
 ghost use Rattle.vx_values.specs.ValueView.{val_of};
 ghost use Rattle.vx_rows.specs.View.{row, AreColumns};
 ghost use Rattle.vx_exchange.specs.Routed.{key_columns, routed_to};
@@ -10,7 +11,7 @@ use crate::ranges::Ranges;
 use std::alloc::{AllocError, Global};
 use vx_keys::IntColumn;
 use vx_plan_nodes::Router;
-use vx_rows::Value;
+use vx_rows::{Cell, Value};
 use vx_views::{Chunk, Rows};
 
 /// How the consumer of a row follows from its values in some columns.
@@ -60,6 +61,22 @@ fn push_of_numbers<R: Router>(
     Ok(())
 }
 
+// Adds the consumers of rows by ranges, where the value of each row that decides is a number.
+fn push_of_ranges(
+    ranges: &Ranges,
+    keys: &IntColumn<'_>,
+    n: u32,
+    found: &mut Vec<u32>,
+) -> Result<(), AllocError>
+    requires some { 0 < n }
+    ensures { OnOk result (found.new.items ≡ found.old.items ++ map (λ key. range_consumer ranges.now (value_at key 0) n) keys.now) }
+{
+    for i in 0..keys.len() {
+        found.push(ranges.consumer(Cell::Int(keys.get(i)), n))?;
+    }
+    Ok(())
+}
+
 impl KeyRoute {
     // The consumer of a row among n. The key is room for the values of a row, whatever stands there.
     fn consumer_of<R: Router>(
@@ -101,9 +118,16 @@ impl KeyRoute {
         requires columns { AreColumns (length chunk.now.types) (key_columns self.now) }
         ensures { OnOk result (found.new.items ≡ found.old.items ++ map (routed_to (R.route_of router.now) self.now n) chunk.now.rows) }
     {
-        if let KeyRoute::Hash(name, columns) = self {
-            if let Some(keys) = IntColumn::of(chunk, columns.as_slice()) {
-                return push_of_numbers(router, name.as_str(), &keys, n, found);
+        match self {
+            KeyRoute::Hash(name, columns) => {
+                if let Some(keys) = IntColumn::of(chunk, columns.as_slice()) {
+                    return push_of_numbers(router, name.as_str(), &keys, n, found);
+                }
+            }
+            KeyRoute::Range(_, ranges, column) => {
+                if let Some(keys) = IntColumn::of(chunk, &[*column]) {
+                    return push_of_ranges(ranges, &keys, n, found);
+                }
             }
         }
         for i in 0..chunk.len() {

@@ -2,7 +2,8 @@ use Rattle.std.proofs.Common.{◌≡◌, ℕ, ◌++◌, ◌∷◌, [], ap, sym, 
 use Rattle.std.specs.Prelude.{OnOk}
 use Rattle.std.proofs.lemmas.List.{map_more}
 use Rattle.std.proofs.lemmas.Simd.{map-map}
-use Rattle.vx_values.specs.Values.{Row, pick}
+use Rattle.vx_values.specs.Values.{Row, pick, value_at}
+use Rattle.vx_plan_nodes.specs.Routes.{range_consumer}
 use Rattle.vx_views.proofs.Maybe.{on_ok_map}
 use Rattle.vx_exchange.specs.Routed.{routed_to}
 use Rattle.vx_exchange.specs.declared.routes.KeyRoute.{KeyRoute}
@@ -34,3 +35,14 @@ returns-in-Some g c =
     ap (map f) (c.in-Some.ensures ∙ ap (λ cs. map (pick cs) rows) c.as_slice.ensures.value) ∙ map-map f (pick cols) rows in
     let Q : KeyRoute → Type 0 = λ z. OnOk c.push_of_numbers.result (c.push_of_numbers.new.found.items ≡ old ++ map (routed_to hash z n) rows) in
     subst Q (sym c.in-Hash.is) (on_ok_map c.push_of_numbers.result (λ e. e ∙ ap (λ xs. old ++ xs) (by-name ∙ of-rows)) c.push_of_numbers.ensures)
+
+pub returns-in-Some-of : goal.returns-in-Some-of
+returns-in-Some-of g c =
+    let hash = g.R.Router.route_of c.args.router.now in
+    let n = c.args.n in
+    let rows = c.args.chunk.now.rows in
+    let old = c.args.found.now.items in
+    let f : Row → ℕ = λ key. range_consumer c.in-Range.ranges (value_at key 0) n in
+    let of-rows : map f c.in-Some-of.keys ≡ map (λ r. f (pick (c.in-Range.column ∷ []) r)) rows = ap (map f) c.in-Some-of.ensures ∙ map-map f (pick (c.in-Range.column ∷ [])) rows in
+    let Q : KeyRoute → Type 0 = λ z. OnOk c.push_of_ranges.result (c.push_of_ranges.new.found.items ≡ old ++ map (routed_to hash z n) rows) in
+    subst Q (sym c.in-Range.is) (on_ok_map c.push_of_ranges.result (λ e. e ∙ ap (λ xs. old ++ xs) of-rows) c.push_of_ranges.ensures)
