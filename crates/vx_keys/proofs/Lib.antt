@@ -7,3 +7,5 @@ pub mod HashedFacts
 pub mod RestFacts
 pub mod ErrorFacts
 pub mod DirectFacts
+pub mod BlockFacts
+pub mod RiseFacts

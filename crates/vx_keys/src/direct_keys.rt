@@ -1,6 +1,6 @@
 //! Keys that are one number each, found with no hashing.
 
-ghost use Rattle.std.specs.Prelude.{◌≡◌, ◌≢◌, ◌+◌, ◌*◌, ◌-◌, ◌^◌, ◌<◌, ◌≤◌, ◌++◌, ◌∷◌, [], ℕ, pos, min, max, length, map, take, OnOk, IfOk, IfSome, IfNone, slice_get, slice_index, slice_index_or, vec_len, position, Some, None};
+ghost use Rattle.std.specs.Prelude.{◌≡◌, ◌≢◌, ◌+◌, ◌*◌, ◌-◌, ◌^◌, ◌<◌, ◌≤◌, ◌++◌, ◌∷◌, [], ℕ, pos, min, max, length, map, take, OnOk, IfOk, IfSome, IfNone, slice_get, slice_index, slice_index_or, vec_len, slice_range, position, Some, None};
 ghost use Rattle.std.specs.List.{position_or_len, IsDistinct};
 ghost use Rattle.vx_values.specs.Values.{row_eq};
 ghost use Rattle.indexmap.specs.IndexSet.{insert_key, insert_all};
@@ -20,6 +20,13 @@ const SPREAD: usize = 8;
 
 // The table holds numbers of 32 bits.
 const MOST: usize = 0xffff_ffff;
+
+// How many numbers are found before they are added to a list, all at once. A list that grows by one number at a time has
+// its length written and read again for each.
+const BLOCK: usize = 64;
+
+// So many known keys before a new one tell that most keys are known.
+const MANY: usize = 8;
 
 /// Keys of one number each that are found by direct addressing, as in joins and groups by a perfect hash: the key itself is
 /// its place in a table, and one read there finds it. At the place of a key the table has one more than the number of the
@@ -64,6 +71,20 @@ fn window(room: usize, known: usize) -> usize
     ensures { result ≡ min (max (8 * max room known) 65536) (2 ^ 32 - 1) }
 {
     room.max(known).saturating_mul(SPREAD).max(SMALL).min(MOST)
+}
+
+// How many keys of a block are done with before known ones are looked for again, where the first `known` are known and the
+// next is new: that one too if most keys are known, and else all, since the search would end at a new key at once.
+fn part_end(known: usize, block: usize) -> usize
+    requires { known ≤ block }
+    ensures from { known ≤ result }
+    ensures to { result ≤ block }
+    ensures some { 0 < block → 0 < result }
+{
+    if known < MANY || known == block {
+        return block;
+    }
+    known + 1
 }
 
 // The place of a key among so many, if it has one there.
@@ -170,6 +191,50 @@ impl DirectKeys {
         self.add(key)
     }
 
+    // Puts the numbers of the keys from one on, up to the first that is not here, and returns how many these are.
+    fn find_known(&self, column: &IntColumn<'_>, from: usize, found: &mut [usize]) -> usize
+        requires within { from + length found.old ≤ length column.now }
+        requires fits { length column.now < 2 ^ 64 }
+        ensures within { result ≤ length found.old }
+        ensures numbers { take result found.new ≡ numbers_of self.now (slice_range column.now from (from + result)) }
+        // so the keys stay as they are
+        ensures keys { insert_all row_eq self.now (slice_range column.now from (from + result)) ≡ self.now }
+    {
+        let count = found.len();
+        for i in 0..count {
+            let Some(number) = self.find(column.get(from + i)) else {
+                return i;
+            };
+            found[i] = number;
+        }
+        count
+    }
+
+    // Does what `number_all` does with the keys from one on to another, without that one, and returns where it ended: there,
+    // or at the first key that is refused.
+    fn number_part(
+        &mut self,
+        column: &IntColumn<'_>,
+        from: usize,
+        to: usize,
+        numbers: &mut Vec<usize>,
+    ) -> Result<usize, AllocError>
+        requires { (from ≤ to) × (to ≤ length column.now) }
+        ensures within { IfOk result (λ n. (from ≤ n) × (n ≤ to)) }
+        ensures numbers { IfOk result (λ n. numbers.new.items ≡ numbers.old.items ++ numbers_of self.old (slice_range column.now from n)) }
+        ensures keys { IfOk result (λ n. self.new ≡ insert_all row_eq self.old (slice_range column.now from n)) }
+        // a small key is refused only where there are as many keys as have numbers
+        ensures small { IfOk result (λ n. n < to → (v : ℕ) → v < 65536 → slice_index_or column.now n [] ≡ number_key (pos v) → 2 ^ 32 - 1 ≤ length self.new) }
+    {
+        for i in from..to {
+            let Some(number) = self.number(column.get(i))? else {
+                return Ok(i);
+            };
+            numbers.push(number)?;
+        }
+        Ok(to)
+    }
+
     /// Adds the numbers of these keys, up to the first that is refused. Keys that are new are added. It returns how many it
     /// took: all, or those before the first that is refused.
     pub fn number_all(
@@ -184,11 +249,18 @@ impl DirectKeys {
         ensures small { IfOk result (λ n. n < length column.now → (v : ℕ) → v < 65536 → slice_index_or column.now n [] ≡ number_key (pos v) → 2 ^ 32 - 1 ≤ length self.new) }
     {
         let count = column.len();
-        for i in 0..count {
-            let Some(number) = self.number(column.get(i))? else {
-                return Ok(i);
-            };
-            numbers.push(number)?;
+        let mut found = [0; BLOCK];
+        let mut from = 0;
+        while from < count {
+            let block = BLOCK.min(count - from);
+            let known = self.find_known(column, from, &mut found[..block]);
+            numbers.extend_from_slice(&found[..known])?;
+            let to = from + part_end(known, block);
+            let taken = self.number_part(column, from + known, to, numbers)?;
+            if taken < to {
+                return Ok(taken);
+            }
+            from = to;
         }
         Ok(count)
     }
@@ -203,14 +275,30 @@ impl DirectKeys {
         number
     }
 
+    // Puts the numbers of the keys from one on, and for a key that is not here the number of the next new one.
+    fn find_block(&self, column: &IntColumn<'_>, from: usize, found: &mut [usize])
+        requires within { from + length found.old ≤ length column.now }
+        requires fits { length column.now < 2 ^ 64 }
+        ensures { found.new ≡ map (λ k. position_or_len (row_eq k) self.now) (slice_range column.now from (from + length found.old)) }
+    {
+        for i in 0..found.len() {
+            found[i] = self.number_or_next(column.get(from + i));
+        }
+    }
+
     /// The numbers of these keys, and for a key that is not here the number of the next new one.
     pub fn find_all(&self, column: &IntColumn<'_>) -> Result<Vec<usize>, AllocError>
         ensures { IfOk result (λ v. v.items ≡ map (λ k. position_or_len (row_eq k) self.now) column.now) }
     {
-        let mut numbers = Vec::with_capacity(self.alloc, column.len())?;
-        for i in 0..column.len() {
-            let number = self.number_or_next(column.get(i));
-            numbers.push(number)?;
+        let count = column.len();
+        let mut numbers = Vec::with_capacity(self.alloc, count)?;
+        let mut found = [0; BLOCK];
+        let mut from = 0;
+        while from < count {
+            let block = BLOCK.min(count - from);
+            self.find_block(column, from, &mut found[..block]);
+            numbers.extend_from_slice(&found[..block])?;
+            from += block;
         }
         Ok(numbers)
     }

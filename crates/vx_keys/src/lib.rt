@@ -9,10 +9,12 @@ mod direct_keys;
 mod hashed_keys;
 mod int_keys;
 mod keys;
+mod rising;
 mod row_keys;
 mod seen;
 mod text_keys;
 
 pub use columns::IntColumn;
 pub use keys::Keys;
+pub use rising::{compare_rows, rises};
 pub use seen::Seen;

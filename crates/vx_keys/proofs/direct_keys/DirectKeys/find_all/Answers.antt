@@ -1,17 +1,22 @@
-use Rattle.std.proofs.Common.{◌<◌, ◌++◌, ◌∷◌, [], arith, rules, sym, ap, ◌∙◌, length, w64}
-use Rattle.std.proofs.lemmas.Int.{to_z-of_z}
-use Rattle.std.specs.List.{position_or_len}
-use Rattle.std.proofs.lemmas.List.{map_more}
+use Rattle.std.proofs.Common.{arith, ◌≡◌, ◌≤◌, ◌+◌, ap, ◌∙◌, length, map, take}
+use Rattle.std.specs.List.{position_or_len, slice_range}
+use Rattle.std.proofs.lemmas.List.{length-take-le}
 use Rattle.vx_values.specs.Values.{Row, row_eq}
-use Rattle.vx_keys.specs.Columns.{number_key}
+use Rattle.vx_keys.proofs.BlockFacts.{block-next}
 use Rattle.vx_keys.proofs.direct_keys.DirectKeys.find_all.Goals as goal
 
-pub loop-i-preserved : goal.loop-i-preserved
-loop-i-preserved c =
-    let keys = c.args.column.now in
+pub loop-from-preserved : goal.loop-from-preserved
+loop-from-preserved c =
     let f = λ (k : Row). position_or_len (row_eq k) c.args.self.now in
-    let i = c.loop-i.i in
-    let near : i < length keys = omega (arith, c.loop-i-test.true, c.len-i-end.ensures) in
-    let key-is = ap number_key (to_z-of_z w64 c.get.result (search rules)) ∙ c.get.ensures in
-    c.in_ok-push.ensures.items
-    ∙ ((λ j. c.loop-i.invariant j ++ (c.number_or_next-number.ensures ∙ ap f key-is) j ∷ []) ∙ sym (map_more f keys i [] near))
+    let keys = c.args.column.now in
+    let from = c.loop-from.from in
+    let n = c.min-block.result in
+    let within : from + n ≤ length keys = omega arith in
+    let room : length (take n c.loop-from.found) ≡ n = length-take-le n c.loop-from.found (omega arith) in
+    record {
+      within = within;
+      numbers =
+          c.in_ok-extend_from_slice.ensures.items
+          ∙ block-next f keys c.loop-from.numbers.items c.find_block.new.found _ from n within c.loop-from.invariant.numbers
+          (c.find_block.ensures ∙ ap (λ m. map f (slice_range keys from (from + m))) room);
+    }

@@ -1,0 +1,91 @@
+-- Rows rise where their keys do, and where each chunk does and none begins below the one before it.
+use Rattle.std.proofs.Common.{◌≡◌, ℕ, ℤ, suc, ◌+◌, ◌-◌, ◌<◌, ◌≤◌, Bool, true, false, cond, List, [], refl, sym, ap, ap₂, ◌∙◌, length, map, take, get_or, inl, inr, arith, true≢false, is_lt, Less, Equal, Greater}
+use Rattle.std.specs.Ordering.{ordering_then}
+use Rattle.std.specs.Int.Signed.{lt_z}
+use Rattle.std.proofs.lemmas.Bool.{cases_lt}
+use Rattle.std.proofs.lemmas.List.{get_or-map, length-map, length-append}
+use Rattle.std.proofs.lemmas.List.Folds.{length-flat_map-take}
+use Rattle.vx_values.specs.Values.{Row, row_cmp, pick}
+use Rattle.vx_rows.specs.Order.{compare_on, sorted}
+use Rattle.vx_rows.specs.View.{RowsView}
+use Rattle.vx_rows.proofs.Order.{NoFall, sorted_from, sorted_neighbours, not_sorted}
+use Rattle.vx_views.specs.Chunks.{all_rows}
+use Rattle.vx_views.proofs.Whole.{next-rows, spot-row}
+use Rattle.vx_keys.specs.Columns.{number_key}
+
+-- no key but the first is smaller than the one before it
+abbrev pub KeysRise : List Row → ℕ → Type 0
+KeysRise keys n = (k : ℕ) → suc k < n → is_lt (row_cmp (get_or keys (suc k) []) (get_or keys k [])) ≡ false
+
+-- the keys of rows are as these
+module _ (cols : List ℕ) (rows keys : List Row) (e : keys ≡ map (pick cols) rows) where
+  key-at : (i : ℕ) → i < length keys → get_or keys i [] ≡ pick cols (get_or rows i [])
+  key-at i h = ap (λ ks. get_or ks i []) e ∙ get_or-map (pick cols) rows i [] [] (let m = ap length e ∙ length-map rows (pick cols) in omega (arith, m, h))
+
+  key-compare : (i j : ℕ) → i < length keys → j < length keys → row_cmp (get_or keys i []) (get_or keys j []) ≡ compare_on cols (get_or rows i []) (get_or rows j [])
+  key-compare i j a b = ap₂ row_cmp (key-at i a) (key-at j b)
+
+  pub keys-rise : KeysRise keys (length keys) → true ≡ sorted cols rows
+  keys-rise h =
+      let m = ap length e ∙ length-map rows (pick cols) in
+      sym (sorted_from cols rows (λ k l.
+      let near : suc k < length keys = omega (arith, m, l) in
+      ap is_lt (sym (key-compare (suc k) k near (omega (arith, near)))) ∙ h k near))
+
+  pub keys-fall : (i : ℕ) → 1 ≤ i → i < length keys → is_lt (row_cmp (get_or keys i []) (get_or keys (i - 1) [])) ≡ true → false ≡ sorted cols rows
+  keys-fall i some near h =
+      let m = ap length e ∙ length-map rows (pick cols) in
+      let at : suc (i - 1) ≡ i = omega (arith, some) in
+      let fall : is_lt (compare_on cols (get_or rows i []) (get_or rows (i - 1) [])) ≡ true = ap is_lt (sym (key-compare i (i - 1) near (omega (arith, near)))) ∙ h in
+      sym (not_sorted cols rows (i - 1) (omega (arith, m, some, near)) (ap (λ k. is_lt (compare_on cols (get_or rows k []) (get_or rows (i - 1) []))) at ∙ fall) (sorted cols rows) refl)
+
+-- a key of one number is smaller where the number is
+pub number-less : (a b : ℤ) → lt_z a b ≡ true → is_lt (row_cmp (number_key a) (number_key b)) ≡ true
+number-less a b h = ap (λ less. is_lt (ordering_then (cond less Less (cond (lt_z b a) Greater Equal)) Equal)) h
+
+-- rows that do not fall up to where one of the tables begins that they lie in, nor there
+module _ (cols : List ℕ) (ts : List RowsView) (rows : List Row) (whole : all_rows ts ≡ rows) (i at : ℕ) (t : RowsView) (there : i < length ts) (is : t ≡ get_or ts i t)
+    (place : at ≡ length (all_rows (take i ts))) where
+  -- it lies within the rows, and the next one begins behind it
+  pub table-within : at + length t.rows ≤ length rows
+  table-within =
+      let a = length-flat_map-take (λ u. u.rows) ts i t there in
+      let b = ap (λ u. length u.rows) is in
+      let w = ap length whole in
+      omega (arith, a, b, w, place)
+
+  pub table-place : at + length t.rows ≡ length (all_rows (take (i + 1) ts))
+  table-place =
+      let a = length-append (all_rows (take i ts)) t.rows in
+      let b = ap length (next-rows ts i t there is) in
+      omega (arith, a, b, place)
+
+  row-at : (p : ℕ) → p < length t.rows → get_or rows (at + p) [] ≡ get_or t.rows p []
+  row-at p h = ap (λ rs. get_or rs (at + p) []) (sym whole) ∙ spot-row ts (at + p) i p t there is h (ap (λ n. n + p) place)
+
+  inner : (b : Bool) (k : ℕ) → suc k < length t.rows → is_lt (compare_on cols (get_or rows (suc (at + k)) []) (get_or rows (at + k) [])) ≡ b
+      → is_lt (compare_on cols (get_or t.rows (suc k) []) (get_or t.rows k [])) ≡ b
+  inner b k h e =
+      let n : at + suc k ≡ suc (at + k) = omega arith in
+      ap is_lt (ap₂ (compare_on cols) (sym (row-at (suc k) h) ∙ ap (λ j. get_or rows j []) n) (sym (row-at k (omega (arith, h))))) ∙ e
+
+  pub table-next : sorted cols t.rows ≡ true → NoFall cols rows at → ((k : ℕ) → suc k ≡ at → suc k < length rows → is_lt (compare_on cols (get_or rows (suc k) []) (get_or rows k [])) ≡ false)
+      → NoFall cols rows (at + length t.rows)
+  table-next s before meet k l = elim (cases_lt (suc k) at) [
+    | inl h ↦ before k h
+    | inr h ↦ elim (cases_lt at (suc k)) [
+      | inl g ↦
+          let n : at + (k - at) ≡ k = omega (arith, g) in
+          let m : at + suc (k - at) ≡ suc k = omega (arith, g) in
+          let near : suc (k - at) < length t.rows = omega (arith, g, l) in
+          ap is_lt (ap₂ (compare_on cols) (ap (λ j. get_or rows j []) (sym m) ∙ row-at (suc (k - at)) near) (ap (λ j. get_or rows j []) (sym n) ∙ row-at (k - at) (omega (arith, near))))
+          ∙ sorted_neighbours cols t.rows s (k - at) near
+      | inr g ↦ meet k (omega (arith, h, g)) (omega (arith, l, table-within))
+    ]
+  ]
+
+  pub table-falls : sorted cols t.rows ≡ false → (b : Bool) → sorted cols rows ≡ b → b ≡ false
+  table-falls s false e = refl
+  table-falls s true e =
+      let up : sorted cols t.rows ≡ true = sorted_from cols t.rows (λ k h. inner false k h (sorted_neighbours cols rows e (at + k) (omega (arith, h, table-within)))) in
+      absurd (true≢false (sym up ∙ s))
