@@ -13,7 +13,7 @@ use Rattle.vx_rows.specs.View.{AreColumns}
 use Rattle.vx_plan_nodes.specs.Streams.{Streams}
 use Rattle.vx_receivers.specs.declared.heads.Head.{Head}
 use Rattle.vx_receivers.specs.Merged.{with_more}
-use Rattle.vx_receivers.specs.Heads.{HasRow, HasRowAt, Lacks, LacksAt, last_of, AreAlike, AreOf, Precedes, IsRun, IsOrder, AreAll, IsMissing}
+use Rattle.vx_receivers.specs.Heads.{HasRow, HasRowAt, Lacks, LacksAt, last_of, AreAlike, AreOf, Precedes, IsRun, IsOrder, AreAll, AllRise, IsMissing}
 use Rattle.vx_receivers.specs.Merge.{MergeView, MergeFits, IsMergeOf, HasMerged, AllGiven}
 use Rattle.vx_receivers.proofs.HeadFacts.{set-there, set-other, the-head, read-there}
 use Rattle.vx_receivers.proofs.Merges.{put-falls, put-rises, end-merged, run-merged}
@@ -33,13 +33,20 @@ types-changed types hs p g lt t e q h f = elim (eqb_tells q p) [
   | inr i ↦ t q h (sym (set-other hs p q g i.1) ∙ f)
 ]
 
+pub rises-changed : (cols : List ℕ) (hs : List Head) (p : ℕ) (g : Head) → p < length hs → AllRise cols hs → sorted cols g.rows.rows ≡ true → AllRise cols (set hs p g)
+rises-changed cols hs p g lt t s q = elim (eqb_tells q p) [
+  | inl i ↦ rw (i.1, set-there hs p g lt) s
+  | inr i ↦ rw (set-other hs p q g i.1) (t q)
+]
+
 -- one head was changed, and with it the order
-pub fits-changed : (v : MergeView) → MergeFits v → (p : ℕ) (g : Head) → p < length v.heads → g.rows.types ≡ v.types → (order : List ℕ) → IsOrder v.columns (set v.heads p g) order
+pub fits-changed : (v : MergeView) → MergeFits v → (p : ℕ) (g : Head) → p < length v.heads → g.rows.types ≡ v.types → sorted v.columns g.rows.rows ≡ true → (order : List ℕ) → IsOrder v.columns (set v.heads p g) order
     → ((q : ℕ) → q ≢ p → Contains v.order q → Contains order q) → (HasRow g → Contains order p) → (o : Option ℕ) → IsMissing (set v.heads p g) o
     → MergeFits (record v { heads = set v.heads p g; order = order; missing = o })
-fits-changed v fits p g lt e order is kept new o missing = record {
+fits-changed v fits p g lt e rise order is kept new o missing = record {
   columns = fits.columns;
   types = types-changed v.types v.heads p g lt fits.types e;
+  rises = rises-changed v.columns v.heads p g lt fits.rises rise;
   order = is;
   all = λ q r. elim (eqb_tells q p) [
     | inl i ↦
@@ -80,6 +87,9 @@ module _ (v m : MergeView) (seen : v ≡ m) (fits : MergeFits v) (p : ℕ) (miss
     types-x : x.rows.types ≡ v.types
     types-x = fits.types p x there
 
+    rises-x : sorted v.columns x.rows.rows ≡ true
+    rises-x = let r = fits.rises p in rw there at r
+
     pub call-types : (ts : List ColType) → ts ≡ m.types → ts ≡ x.rows.types
     call-types ts e = e ∙ (sym (ap (λ (y : MergeView). y.types) seen) ∙ sym types-x)
 
@@ -89,7 +99,7 @@ module _ (v m : MergeView) (seen : v ≡ m) (fits : MergeFits v) (p : ℕ) (miss
     -- a producer ends
     pub call-end-fits : g.rows ≡ x.rows → g.at ≡ x.at → (o : Option ℕ) → IsMissing (set v.heads p g) o → MergeFits (record v { heads = set v.heads p g; missing = o })
     call-end-fits rows at o h =
-        fits-changed v fits p g lacking-within (rw rows types-x) v.order (order-kept v.columns v.heads p g v.order out fits.order) (λ q ne c. c)
+        fits-changed v fits p g lacking-within (rw rows types-x) (rw rows rises-x) v.order (order-kept v.columns v.heads p g v.order out fits.order) (λ q ne c. c)
         (λ r. let l = lacks-x.1 in let s : x.at < length x.rows.rows = rw (sym rows, sym at) r in absurd (omega (arith, l, s))) o h
 
     pub call-ended : g.rows ≡ x.rows → g.at ≡ x.at → g.ended ≡ true → (closed more : ℕ → Bool) (came : Streams) (given : List Row) → ((j : ℕ) → closed j ≡ true → more j ≡ true) → more p ≡ true
@@ -110,9 +120,9 @@ module _ (v m : MergeView) (seen : v ≡ m) (fits : MergeFits v) (p : ℕ) (miss
       pub call-put-alike : AreAlike v.columns (set v.heads p g)
       call-put-alike = alike-of v.types v.columns (set v.heads p g) fits.columns (types-changed v.types v.heads p g lacking-within fits.types (types ∙ types-x))
 
-      pub call-put-fits : (order : List ℕ) → IsOrder v.columns (set v.heads p g) order → ((q : ℕ) → Contains v.order q → Contains order q) → Contains order p → (o : Option ℕ) → IsMissing (set v.heads p g) o
+      pub call-put-fits : sorted v.columns g.rows.rows ≡ true → (order : List ℕ) → IsOrder v.columns (set v.heads p g) order → ((q : ℕ) → Contains v.order q → Contains order q) → Contains order p → (o : Option ℕ) → IsMissing (set v.heads p g) o
           → MergeFits (record v { heads = set v.heads p g; order = order; missing = o })
-      call-put-fits order is kept new o h = fits-changed v fits p g lacking-within (types ∙ types-x) order is (λ q ne c. kept q c) (λ r. new) o h
+      call-put-fits rise order is kept new o h = fits-changed v fits p g lacking-within (types ∙ types-x) rise order is (λ q ne c. kept q c) (λ r. new) o h
 
       pub call-put-rises : sorted v.columns g.rows.rows ≡ true → (closed : ℕ → Bool) (came : Streams) (given : List Row) → HasMerged m closed came given
           → IsMergeOf v.columns (set v.heads p g) closed (with_more came p xs) given
@@ -177,6 +187,9 @@ module _ (v m : MergeView) (seen : v ≡ m) (fits : MergeFits v) (missing : m.mi
     types-g : g.rows.types ≡ v.types
     types-g = rw rows (fits.types p x first-there)
 
+    rises-g : sorted v.columns g.rows.rows ≡ true
+    rises-g = let r = fits.rises p in rw rows (rw first-there at r)
+
     pub call-run-types : x.rows.types ≡ m.types
     call-run-types = fits.types p x first-there ∙ ap (λ (y : MergeView). y.types) seen
 
@@ -223,19 +236,19 @@ module _ (v m : MergeView) (seen : v ≡ m) (fits : MergeFits v) (missing : m.mi
     pub call-run-fits : HasRow g → (order : List ℕ) → IsOrder v.columns (set v.heads p g) order → ((q : ℕ) → Contains (drop 1 v.order) q → Contains order q) → Contains order p → (o : Option ℕ) → o ≡ v.missing
         → MergeFits (record v { heads = set v.heads p g; order = order; missing = o })
     call-run-fits r order is kept new o e =
-        fits-changed v fits p g first-within types-g order is (λ q ne c. kept q (others q ne c)) (λ h. new) o
+        fits-changed v fits p g first-within types-g rises-g order is (λ q ne c. kept q (others q ne c)) (λ h. new) o
         (subst (λ o. IsMissing (set v.heads p g) o) (sym (e ∙ (ap (λ (y : MergeView). y.missing) seen ∙ missing))) (none-lacks (λ l. let b = l.1 in omega (arith, r, b))))
 
     -- it has none, and has ended
     pub call-run-ended : (HasRow g → ⊥) → g.ended ≡ true → (o : Option ℕ) → o ≡ v.missing → MergeFits (record v { heads = set v.heads p g; order = drop 1 v.order; missing = o })
     call-run-ended none t o e =
-        fits-changed v fits p g first-within types-g (drop 1 v.order) call-run-order others (λ h. absurd (none h)) o
+        fits-changed v fits p g first-within types-g rises-g (drop 1 v.order) call-run-order others (λ h. absurd (none h)) o
         (subst (λ o. IsMissing (set v.heads p g) o) (sym (e ∙ (ap (λ (y : MergeView). y.missing) seen ∙ missing))) (none-lacks (λ l. true≢false (sym t ∙ l.0))))
 
     -- it lacks one
     pub call-run-lacks : (HasRow g → ⊥) → g.ended ≡ false → MergeFits (record v { heads = set v.heads p g; order = drop 1 v.order; missing = Some p })
     call-run-lacks none t =
-        fits-changed v fits p g first-within types-g (drop 1 v.order) call-run-order others (λ h. absurd (none h)) (Some p)
+        fits-changed v fits p g first-within types-g rises-g (drop 1 v.order) call-run-order others (λ h. absurd (none h)) (Some p)
         (g, set-there v.heads p g first-within, (t, by-order g.at (length g.rows.rows) (λ l. absurd (none l)) (λ l. l)))
 
     pub call-run-merged : (closed : ℕ → Bool) (came : Streams) (given found more : List Row) → more ≡ found ++ slice_range x.rows.rows x.at to → HasMerged m closed came (given ++ found)

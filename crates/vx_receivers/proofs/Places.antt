@@ -1,13 +1,15 @@
 -- Where a producer belongs in an order of others, and how far its rows go before another's.
 use Rattle.std.proofs.Common.{ℕ, zero, suc, ◌≡◌, ◌≢◌, ◌<◌, ◌≤◌, ◌+◌, refl, sym, ap, ◌∙◌, arith, subst, List, [], ◌∷◌, Some, slice_get, length, get_or, drop, true, is_le}
-use Rattle.std.specs.List.{AllWithin, AllPairs, Contains, insert}
+use Rattle.std.specs.List.{AllWithin, AllPairs, Contains, insert, list_all}
 use Rattle.std.proofs.Math.ListN.{set}
 use Rattle.std.proofs.lemmas.List.{get_or_default}
 use Rattle.std.proofs.lemmas.Option.{get_or_from_slice_get}
-use Rattle.vx_rows.specs.Order.{compare_on}
+use Rattle.vx_values.specs.Values.{Row}
+use Rattle.vx_values.proofs.Booleans.{and-left, and-right}
+use Rattle.vx_rows.specs.Order.{compare_on, sorted}
 use Rattle.vx_rows.proofs.Compare.{le-trans}
 use Rattle.vx_receivers.specs.declared.heads.Head.{Head}
-use Rattle.vx_receivers.specs.Heads.{HasRowAt, GoesBefore, Precedes, IsOrder, IsRun, held_at, next_at, position_at}
+use Rattle.vx_receivers.specs.Heads.{HasRowAt, GoesBefore, Precedes, IsOrder, IsRun, AllRise, held_at, next_at, position_at}
 use Rattle.vx_receivers.proofs.HeadFacts.{before-trans, not-itself, set-other}
 use Rattle.vx_receivers.proofs.Orders.{all-insert, pairs-tail, pairs-head, pairs-insert}
 use Rattle.vx_receivers.proofs.Merges.{by-order}
@@ -57,6 +59,26 @@ run-all cols hs p q rest to rises more within least = record {
     go k a b zero d l = least k a b
     go k a b (suc n) d l = le-trans cols (get_or (held_at hs p) k []) (next_at hs q) (next_at hs (get_or rest n d)) (least k a b) (pairs-head (Precedes cols hs) q rest rises n d (omega (arith, l))).le
 
+-- what comes after a row is not less than it
+all-at : (cols : List ℕ) (x : Row) (xs : List Row) (k : ℕ) → list_all (λ y. is_le (compare_on cols x y)) xs ≡ true → k < length xs → is_le (compare_on cols x (get_or xs k [])) ≡ true
+all-at cols x [] k h l = absurd (omega (arith, l))
+all-at cols x (y ∷ ys) zero h l = and-left _ _ h
+all-at cols x (y ∷ ys) (suc k) h l = all-at cols x ys k (and-right _ _ h) (omega (arith, l))
+
+sorted-at : (cols : List ℕ) (xs : List Row) (i j : ℕ) → sorted cols xs ≡ true → i < j → j < length xs → is_le (compare_on cols (get_or xs i []) (get_or xs j [])) ≡ true
+sorted-at cols [] i j s a b = absurd (omega (arith, b))
+sorted-at cols (x ∷ xs) i zero s a b = absurd (omega (arith, a))
+sorted-at cols (x ∷ xs) zero (suc j) s a b = all-at cols x xs j (and-left _ _ s) (omega (arith, b))
+sorted-at cols (x ∷ xs) (suc i) (suc j) s a b = sorted-at cols xs i j (and-right _ _ s) (omega (arith, a)) (omega (arith, b))
+
+-- all rows up to one that is not greater than the next row of q are not greater either
+pub run-up : (cols : List ℕ) (hs : List Head) (p q middle : ℕ) → AllRise cols hs → middle < length (held_at hs p) → is_le (compare_on cols (get_or (held_at hs p) middle []) (next_at hs q)) ≡ true
+    → (k : ℕ) → k ≤ middle → is_le (compare_on cols (get_or (held_at hs p) k []) (next_at hs q)) ≡ true
+run-up cols hs p q middle rise l h k a =
+    by-order k middle
+    (λ lt. le-trans cols (get_or (held_at hs p) k []) (get_or (held_at hs p) middle []) (next_at hs q) (sorted-at cols (held_at hs p) k middle (rise p) lt l) h)
+    (λ le. let e : k ≡ middle = omega (arith, a, le) in rw e h)
+
 -- the first of an order is not among the others
 pub first-once : (cols : List ℕ) (hs : List Head) (p : ℕ) (rest : List ℕ) → IsOrder cols hs (p ∷ rest) → Contains rest p → ⊥
 first-once cols hs p rest o c = not-itself cols hs p (subst (Precedes cols hs p) c.2 (pairs-head (Precedes cols hs) p rest o.rises c.0 p c.1))
@@ -77,6 +99,12 @@ order-kept cols hs p g order none o = record {
 -- a head that was read, with any default
 pub place-row : (hs : List Head) (q : ℕ) (d : Head) → HasRowAt hs q → (get_or hs q d).at < length (held_at hs q)
 place-row hs q d r = let e = get_or_from_slice_get hs q r.0 d r.1 in rw (e, r.1) r.2
+
+pub place-at : (hs : List Head) (q : ℕ) (d : Head) → HasRowAt hs q → (get_or hs q d).at ≡ position_at hs q
+place-at hs q d r = let e = get_or_from_slice_get hs q r.0 d r.1 in rw (e, r.1) refl
+
+pub place-count : (hs : List Head) (q : ℕ) (d : Head) → HasRowAt hs q → length (get_or hs q d).rows.rows ≡ length (held_at hs q)
+place-count hs q d r = let e = get_or_from_slice_get hs q r.0 d r.1 in rw (e, r.1) refl
 
 pub read-before : (cols : List ℕ) (hs : List Head) (p q : ℕ) (d : Head) → HasRowAt hs q → GoesBefore cols (get_or (held_at hs q) (get_or hs q d).at []) q (next_at hs p) p → Precedes cols hs q p
 read-before cols hs p q d r g =

@@ -4,7 +4,7 @@ use Rattle.std.specs.List.{AllPairs, Contains}
 use Rattle.std.specs.Ordering.{is_le}
 use Rattle.vx_values.specs.Values.{Row}
 use Rattle.vx_values.specs.declared.value.ColType.{ColType}
-use Rattle.vx_rows.specs.Order.{compare_on}
+use Rattle.vx_rows.specs.Order.{compare_on, sorted}
 use Rattle.vx_rows.specs.View.{row, AreColumns}
 use Rattle.vx_receivers.specs.declared.heads.Head.{Head}
 
@@ -85,6 +85,10 @@ AreAll hs order = (p : ℕ) → HasRowAt hs p → Contains order p
 -- rows of these types
 abbrev pub AreOf : List ColType → List Head → Type 0
 AreOf types hs = (p : ℕ) (h : Head) → slice_get hs p ≡ Some h → h.rows.types ≡ types
+
+-- the rows at hand of each producer are sorted
+abbrev pub AllRise : List ℕ → List Head → Type 0
+AllRise cols hs = (p : ℕ) → sorted cols (held_at hs p) ≡ true
 
 -- rows that can be compared on these columns
 pub record AreAlike (cols : List ℕ) (hs : List Head) : Type 0 where

@@ -5,7 +5,7 @@ use Rattle.vx_values.specs.declared.value.ColType.{ColType}
 use Rattle.vx_rows.specs.View.{AreColumns}
 use Rattle.vx_plan_nodes.specs.Streams.{Streams}
 use Rattle.vx_receivers.specs.Merged.{Merged}
-use Rattle.vx_receivers.specs.Heads.{held_at, left_at, ended_at, IsOrder, AreAll, AreOf, LacksAt, IsMissing}
+use Rattle.vx_receivers.specs.Heads.{held_at, left_at, ended_at, IsOrder, AreAll, AllRise, AreOf, LacksAt, IsMissing}
 use Rattle.vx_receivers.specs.declared.heads.Head.{Head}
 
 -- its columns and types, what is at hand of each producer, which of them have rows in which order, and one that lacks a row
@@ -20,6 +20,7 @@ pub record MergeView : Type 0 where
 pub record MergeFits (m : MergeView) : Type 0 where
   pub columns : AreColumns (length m.types) m.columns
   pub types : AreOf m.types m.heads
+  pub rises : AllRise m.columns m.heads
   pub order : IsOrder m.columns m.heads m.order
   pub all : AreAll m.heads m.order
   pub missing : IsMissing m.heads m.missing

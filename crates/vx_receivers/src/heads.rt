@@ -4,13 +4,14 @@ ghost use Rattle.std.specs.Prelude.{◌≡◌, ◌≢◌, ◌≤◌, ◌<◌, �
 ghost use Rattle.std.specs.List.{AllWithin, Contains};
 ghost use Rattle.std.specs.Vec.{vec_len, vec_capacity};
 ghost use Rattle.std.specs.Ordering.{is_le};
-ghost use Rattle.vx_rows.specs.Order.{compare_on, sorted};
+ghost use Rattle.vx_rows.specs.Order.{compare_on};
 ghost use Rattle.vx_rows.specs.View.{row, AreColumns};
-ghost use Rattle.vx_receivers.specs.Heads.{HasRow, Lacks, HasRowAt, held_at, next_at, position_at, last_of, GoesBefore, Precedes, IsOrder, IsRun, AreAlike, IsFresh, IsMissing};
+ghost use Rattle.vx_receivers.specs.Heads.{HasRow, Lacks, HasRowAt, held_at, next_at, position_at, last_of, GoesBefore, Precedes, IsOrder, IsRun, AllRise, AreAlike, IsFresh, IsMissing};
 
 use std::alloc::{AllocError, Global};
 use std::cmp::Ordering;
-use vx_rows::{ColType, compare_cells};
+use vx_keys::compare_rows;
+use vx_rows::ColType;
 use vx_views::Rows;
 
 // What is at hand of a producer's stream: the rows from a position on, and whether it has ended. Of the rows before, the
@@ -65,36 +66,6 @@ impl Head {
             ended: self.ended,
         })
     }
-}
-
-// Compares two rows column by column, where they lie.
-fn compare_rows(columns: &[usize], a: &Rows, i: usize, b: &Rows, j: usize) -> Ordering
-    requires types { a.now.types ≡ b.now.types }
-    requires columns { AreColumns (length a.now.types) columns.now }
-    requires a { i < length a.now.rows }
-    requires b { j < length b.now.rows }
-    ensures { result ≡ compare_on columns.now (row a.now i) (row b.now j) }
-{
-    for c in columns {
-        match compare_cells(a.cell(i, *c), b.cell(j, *c)) {
-            Ordering::Equal => {}
-            other => return other,
-        }
-    }
-    Ordering::Equal
-}
-
-// Whether no row is less than the one before it.
-pub(crate) fn rises(rows: &Rows, columns: &[usize]) -> bool
-    requires { AreColumns (length rows.now.types) columns.now }
-    ensures { result ≡ sorted columns.now rows.now.rows }
-{
-    for i in 1..rows.len() {
-        if compare_rows(columns, rows, i, rows, i - 1).is_lt() {
-            return false;
-        }
-    }
-    true
 }
 
 // Whether row i of producer p goes before the next row of producer q: the lower one first among equals.
@@ -156,9 +127,36 @@ pub(crate) fn add_to_order(heads: &[Head], columns: &[usize], order: &mut Vec<us
     }
 }
 
-// Up to which of its rows producer p goes before the next row of producer q.
+// Between which two places the rows of producer p that go before the next row of producer q end, by steps that double: those
+// up to the first place go before it, and none from the second on. Fewer rows lie between the two than go before the first.
+fn gallop(heads: &[Head], columns: &[usize], p: usize, q: usize) -> (usize, usize)
+    requires alike { AreAlike columns.now heads.now }
+    requires rises { AllRise columns.now heads.now }
+    requires row { HasRowAt heads.now p }
+    requires other { HasRowAt heads.now q }
+    requires order { Precedes columns.now heads.now p q }
+    ensures more { position_at heads.now p < result.0 }
+    ensures order { result.0 ≤ result.1 }
+    ensures within { result.1 ≤ length (held_at heads.now p) }
+    ensures least { (k : ℕ) → position_at heads.now p ≤ k → k < result.0 → is_le (compare_on columns.now (get_or (held_at heads.now p) k []) (next_at heads.now q)) ≡ true }
+{
+    let at = heads[p].at;
+    let count = heads[p].rows.len();
+    let mut low = at + 1;
+    'doubles: while low - at <= count - low {
+        let next = low + (low - at);
+        if !goes_before(heads, columns, p, next - 1, q) {
+            return (low, next - 1);
+        }
+        low = next;
+    }
+    (low, count)
+}
+
+// Up to which of its rows producer p goes before the next row of producer q: by galloping, and then by halving.
 fn run_before(heads: &[Head], columns: &[usize], p: usize, q: usize) -> usize
     requires alike { AreAlike columns.now heads.now }
+    requires rises { AllRise columns.now heads.now }
     requires row { HasRowAt heads.now p }
     requires other { HasRowAt heads.now q }
     requires order { Precedes columns.now heads.now p q }
@@ -166,18 +164,22 @@ fn run_before(heads: &[Head], columns: &[usize], p: usize, q: usize) -> usize
     ensures within { result ≤ length (held_at heads.now p) }
     ensures least { (k : ℕ) → position_at heads.now p ≤ k → k < result → is_le (compare_on columns.now (get_or (held_at heads.now p) k []) (next_at heads.now q)) ≡ true }
 {
-    let count = heads[p].rows.len();
-    for i in heads[p].at + 1..count {
-        if !goes_before(heads, columns, p, i, q) {
-            return i;
+    let (mut low, mut high) = gallop(heads, columns, p, q);
+    'halves: while low < high {
+        let middle = low + (high - low) / 2;
+        if goes_before(heads, columns, p, middle, q) {
+            low = middle + 1;
+        } else {
+            high = middle;
         }
     }
-    count
+    low
 }
 
 // Up to which of its rows the first producer of an order goes before all others.
 pub(crate) fn run_end(heads: &[Head], columns: &[usize], order: &[usize]) -> usize
     requires alike { AreAlike columns.now heads.now }
+    requires rises { AllRise columns.now heads.now }
     requires order { IsOrder columns.now heads.now order.now }
     requires some { 0 < length order.now }
     ensures { IsRun columns.now heads.now (drop 1 order.now) (get_or order.now 0 0) result }

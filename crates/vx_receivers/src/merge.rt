@@ -8,9 +8,10 @@ ghost use Rattle.vx_plan_nodes.specs.Streams.{Streams};
 ghost use Rattle.vx_receivers.specs.Merged.{with_more};
 ghost use Rattle.vx_receivers.specs.Merge.{HasMerged, HasSameShape, AllGiven};
 
-use crate::heads::{Head, add_to_order, first_lacking, new_heads, rises, run_end};
+use crate::heads::{Head, add_to_order, first_lacking, new_heads, run_end};
 use std::alloc::{AllocError, Global};
 use std::marker::Model;
+use vx_keys::rises;
 use vx_rows::ColType;
 use vx_views::Rows;
 
@@ -23,8 +24,9 @@ const RUN: usize = 16;
 // Calls: `new (put | end | give)*`, and none after an `Err` or after a `put` that returns false.
 //
 // A merge of sorted streams that still grow. It keeps what is at hand of each, and the producers that have rows in the order
-// in which their next rows go. The first of them gives the rows that go before all others, which takes one comparison a row;
-// then it is put in its place again, which is found by halving. The order is a plain list of at most 64 numbers: to shift
+// in which their next rows go. The first of them gives the rows that go before all others. Where these end is found by
+// galloping, in steps that double, and then by halving: a long run takes few comparisons, and a run of one row takes one. Then
+// the producer is put in its place again, which is found by halving. The order is a plain list of at most 64 numbers: to shift
 // these costs less than a comparison of rows, and a tree of losers would compare as often.
 pub(crate) struct Merge {
     alloc: Global,

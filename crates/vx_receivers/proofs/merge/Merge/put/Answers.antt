@@ -50,7 +50,7 @@ invariant_of-self-2 c =
     let g = c.in_ok-next.next in
     let e = c.in_ok-next.ensures in
     let a = c.add_to_order.ensures in
-    call-put-fits _ _ c.self.view_is c.self.invariant c.args.from c.requires.missing x g c.index.ensures c.args.rows.rows e.rows e.at e.types e.ended c.add_to_order.new.order.items (rw (c.deref-3.ensures.value, c.deref-2.ensures.value) at a.order) (rw c.reserve.ensures.items at a.kept) a.added
+    call-put-fits _ _ c.self.view_is c.self.invariant c.args.from c.requires.missing x g c.index.ensures c.args.rows.rows e.rows e.at e.types e.ended (ap (λ cs. sorted cs g.rows.rows) (sym c.deref.ensures.value) ∙ (sym c.rises.ensures ∙ c.if-not-rises.false)) c.add_to_order.new.order.items (rw (c.deref-3.ensures.value, c.deref-2.ensures.value) at a.order) (rw c.reserve.ensures.items at a.kept) a.added
     c.first_lacking-self-inside.result (rw c.deref-4.ensures.value at c.first_lacking-self-inside.ensures)
 
 pub returns-then-not-rises-clause-falls : goal.returns-then-not-rises-clause-falls

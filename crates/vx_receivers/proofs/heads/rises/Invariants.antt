@@ -1,5 +1,0 @@
-use Rattle.vx_rows.proofs.Order.{NoFall}
-use Rattle.vx_receivers.proofs.heads.rises.Given as goal
-
-abbrev pub invariant-loop-i : goal.invariant-loop-i
-invariant-loop-i l = NoFall l.columns l.rows.rows l.i
