@@ -2,7 +2,7 @@
 use Rattle.std.specs.Bool.{IsTrue}
 use Rattle.std.proofs.Common.{◌≡◌, ◌↔◌, ℕ, zero, suc, ◌+◌, ◌-◌, ◌<◌, ◌≤◌, Bool, true, false, cond, List, [], ◌∷◌, ◌++◌, length, take, drop, flat_map, map, ◌&&◌, slice_range, refl, sym, ap, ◌∙◌, subst, arith, true≢false, append_assoc, is_le, is_lt, Ordering, Less}
 use Rattle.std.proofs.lemmas.List.{take_all, take-append-drop}
-use Rattle.std.proofs.Math.Seq.{take-append_seam}
+use Rattle.std.proofs.Math.Seq.{take-append_seam, drop-append_seam}
 use Rattle.vx_values.specs.Values.{Row, row_cmp, pick}
 use Rattle.vx_rows.specs.Order.{sorted}
 use Rattle.vx_rows.specs.View.{RowsView, row}
@@ -11,7 +11,7 @@ use Rattle.vx_merging.specs.Merged.{MergeView, HasMerged, state_at, last_key, jo
 use Rattle.vx_merging.specs.declared.merging.MergeFault.{MergeFault}
 use Rattle.vx_merging.specs.declared.merging.MergeFault.TheVariants.{Falls, NoMemory}
 use Rattle.vx_merging.proofs.MergeFacts.{right-falls}
-use Rattle.vx_merging.proofs.RiseFacts.{last-take, rise-back, fall-back}
+use Rattle.vx_merging.proofs.RiseFacts.{last-take, rise-back, rise-neighbours, fall-back}
 use Rattle.vx_merging.proofs.MergeTurns.{next-merged, run-moved, run-closed, advanced-end, advanced, advanced-falls, left-taken, left-taken-falls, right-taken, right-dropped}
 
 take-none : {X : Type 0} (n : ℕ) → take {A = X} n [] ≡ []
@@ -60,6 +60,11 @@ last-at by t some =
     let up : suc (length t.rows - 1) ≡ length t.rows = omega (arith, some) in
     ap (last_key by) (sym (ap (λ n. take n t.rows) up ∙ take_all (length t.rows) t.rows (omega arith))) ∙ last-take by t.rows (length t.rows - 1) (omega (arith, some))
 
+-- a run that is empty starts at its end, whatever the order of the next key
+stays-empty : (less : Bool) (start end : ℕ) → start ≡ end → start ≡ cond less end start
+stays-empty true start end e = e
+stays-empty false start end e = refl
+
 -- what is known of a run that moved on, on columns that are the merge's
 abbrev pub Moves : List ℕ → List ℕ → MergeView → ℕ → ℕ → Type 0
 Moves lefts rights s start end =
@@ -105,6 +110,15 @@ module _ (s now : MergeView) (e : s ≡ now) (earlier passed ys : List Row) (h :
 
     pub call-falls : is_le o ≡ false → sorted now.lefts (earlier ++ now.left.rows) ≡ false
     call-falls fall = subst (λ (m : MergeView). sorted m.lefts (earlier ++ m.left.rows) ≡ false) e (advanced-falls s earlier passed ys own near more o order-is fall)
+
+  -- the left rows at hand rise, and the run is empty
+  pub call-advanced-empty : s.next + 1 < length s.left.rows → sorted s.lefts s.left.rows ≡ true → s.start ≡ s.end → HoldsRun now passed
+      → IsMerged (record s { next = s.next + 1 }) earlier passed (ys ++ run_rows now)
+  call-advanced-empty more rises empty run =
+      let order = λ (n : ℕ). row_cmp (pick s.lefts (row s.left s.next)) (pick s.lefts (row s.left n)) in
+      let after : s.next + 1 ≡ suc s.next = omega arith in
+      let rise : is_le (order (s.next + 1)) ≡ true = ap (λ n. is_le (order n)) after ∙ rise-neighbours s.lefts s.left.rows s.next rises (omega (arith, more)) in
+      call-advanced more s.lefts s.lefts refl refl (order (s.next + 1)) refl rise run s.start (stays-empty (is_lt (order (s.next + 1))) s.start s.end empty)
 
 module _ (s now : MergeView) (e : s ≡ now) (ls rs ys : List Row) (h : HasJoined now ls rs ys) where
   held : HasJoined s ls rs ys
@@ -156,12 +170,13 @@ module _ (s now : MergeView) (e : s ≡ now) (ls rs ys : List Row) (h : HasJoine
       }
 
   -- a further batch of the right input
-  module _ (right : RowsView) (batch : List Row) (from : ℕ) (columns : List ℕ) (a : columns ≡ s.rights) (is : right.rows ≡ s.right.rows ++ batch) (long : from ≡ length s.right.rows) (b : Bool)
-      (tests : sorted columns (take from right.rows) ≡ true → b ≡ sorted columns right.rows) where
+  module _ (right : RowsView) (batch : List Row) (from : ℕ) (columns : List ℕ) (a : columns ≡ s.rights) (is : right.rows ≡ s.right.rows ++ batch) (long : from ≡ length s.right.rows) (up : sorted s.rights batch ≡ true) (b : Bool)
+      (tests : sorted columns (take from right.rows) ≡ true → sorted columns (drop from right.rows) ≡ true → b ≡ sorted columns right.rows) where
     tested : b ≡ sorted s.rights right.rows
     tested =
         let front : take from right.rows ≡ s.right.rows = (λ i. take (long i) (is i)) ∙ take-append_seam s.right.rows batch in
-        tests ((λ i. sorted (a i) (front i)) ∙ rise-back s.rights held.passed s.right.rows held.is.rises) ∙ ap (λ c. sorted c right.rows) a
+        let back : drop from right.rows ≡ batch = (λ i. drop (long i) (is i)) ∙ drop-append_seam s.right.rows batch in
+        tests ((λ i. sorted (a i) (front i)) ∙ rise-back s.rights held.passed s.right.rows held.is.rises) ((λ i. sorted (a i) (back i)) ∙ up) ∙ ap (λ c. sorted c right.rows) a
 
     pub call-right : s.right_ended ≡ false → s.end ≤ length s.right.rows → b ≡ true → HasJoined (record s { right = right }) ls (rs ++ batch) ys
     call-right runs within rise = record {

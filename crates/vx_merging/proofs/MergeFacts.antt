@@ -104,11 +104,6 @@ module _ (m : MergeState) (ls rs : List Row) (h : HasMerged m ls rs) where
         equal = h.equal;
       }
 
-  -- a left row below the key falls
-  pub left-falls : (y : Row) → row_cmp m.key (pick m.lefts y) ≡ Greater → sorted m.lefts (ls ++ y ∷ []) ≡ false
-  left-falls y e =
-      sym (rise-next m.lefts ls y h.left_rises) ∙ (ap (λ k. is_le (row_cmp k (pick m.lefts y))) (sym h.key_is) ∙ ap is_le e)
-
   -- a left row of a key above: no right row that was taken has it
   pub left-above : (y key : Row) → row_cmp m.key (pick m.lefts y) ≡ Less → key ≡ pick m.lefts y
       → HasMerged (record { lefts = m.lefts; rights = m.rights; key = key; start = m.end; end = m.end }) (ls ++ y ∷ []) rs

@@ -1,7 +1,7 @@
 -- Rows that rise, when one more comes behind them.
-use Rattle.std.proofs.Common.{◌≡◌, ℕ, suc, zero, ◌<◌, Bool, true, false, List, [], ◌∷◌, ◌++◌, length, take, drop, get_or, refl, sym, ap, ◌∙◌, arith, true≢false, is_le, append_assoc}
+use Rattle.std.proofs.Common.{◌≡◌, ℕ, suc, zero, ◌+◌, ◌<◌, Bool, true, false, List, [], ◌∷◌, ◌++◌, length, take, drop, get_or, refl, sym, ap, ◌∙◌, arith, true≢false, is_le, append_assoc, drop-cons}
 use Rattle.std.specs.List.{list_all}
-use Rattle.std.proofs.lemmas.List.{take-append-drop}
+use Rattle.std.proofs.lemmas.List.{take_more, take-append-drop}
 use Rattle.vx_values.specs.Values.{Row, row_cmp, pick}
 use Rattle.vx_rows.specs.Order.{compare_on, sorted}
 use Rattle.vx_values.proofs.Booleans.{and-left, and-right, and-both}
@@ -90,6 +90,13 @@ rise-next by xs y s = step (is_le (row_cmp (last_key by xs) (pick by y))) refl
     step true e = sym (rise-push by xs y s e)
     step false e = sym (not-so _ (λ h. true≢false (sym (rise-last by xs y h) ∙ e)))
 
+-- of rows that rise none is above the next
+pub rise-neighbours : (by : List ℕ) (xs : List Row) (n : ℕ) → sorted by xs ≡ true → suc n < length xs → is_le (row_cmp (pick by (get_or xs n [])) (pick by (get_or xs (suc n) []))) ≡ true
+rise-neighbours by [] n s l = absurd (omega arith)
+rise-neighbours by (x ∷ []) n s l = absurd (omega arith)
+rise-neighbours by (x ∷ y ∷ ys) zero s l = and-left _ _ (and-left _ _ s)
+rise-neighbours by (x ∷ y ∷ ys) (suc n) s l = rise-neighbours by (y ∷ ys) n (and-right _ _ s) (omega arith)
+
 -- where a front falls, so do all
 pub fall-front : (by : List ℕ) (xs ys : List Row) → sorted by xs ≡ false → sorted by (xs ++ ys) ≡ false
 fall-front by xs ys h = not-so _ (λ s. true≢false (sym (rise-front by xs ys s) ∙ h))
@@ -108,6 +115,16 @@ rise-meet by (x ∷ xs) y ys h k =
     and-both (list_all above (xs ++ y ∷ ys)) (sorted by (xs ++ y ∷ ys))
     (all-join above xs (y ∷ ys) (all-front above xs (y ∷ []) all) (and-both (above y) (list_all above ys) here behind))
     (rise-meet by xs y ys (and-right _ _ h) k)
+
+-- rows that rise up to a place, and from it on: all rise where those up to the row at it do
+pub rise-across : (by : List ℕ) (xs : List Row) (n : ℕ) (b : Bool) → n < length xs → sorted by (drop n xs) ≡ true → b ≡ sorted by (take (n + 1) xs) → b ≡ sorted by xs
+rise-across by xs n true l back e =
+    let y = get_or xs n [] in
+    let rest : drop n xs ≡ y ∷ drop (suc n) xs = drop-cons xs n [] l in
+    let whole : take n xs ++ y ∷ drop (suc n) xs ≡ xs = ap (λ zs. take n xs ++ zs) (sym rest) ∙ take-append-drop n xs in
+    let front : sorted by (take n xs ++ y ∷ []) ≡ true = ap (sorted by) (sym (take_more xs n [] l)) ∙ sym e in
+    sym (ap (sorted by) (sym whole) ∙ rise-meet by (take n xs) y (drop (suc n) xs) front (ap (sorted by) (sym rest) ∙ back))
+rise-across by xs n false l back e = sym (fall-take by xs (n + 1) (sym e))
 
 -- rows that rise behind others, where the last of these are among them
 pub rise-behind : (by : List ℕ) (ps ws bs : List Row) → (ws ≡ [] → ps ≡ []) → sorted by (ps ++ ws) ≡ true → sorted by (ws ++ bs) ≡ true → sorted by (ps ++ (ws ++ bs)) ≡ true

@@ -1,6 +1,6 @@
 //! Rows that rise on some columns: their order, and the rows of one key among them.
 
-ghost use Rattle.std.specs.Prelude.{◌≡◌, ◌<◌, ◌≤◌, ◌+◌, ◌++◌, ◌∷◌, [], List, length, take, true};
+ghost use Rattle.std.specs.Prelude.{◌≡◌, ◌<◌, ◌≤◌, ◌+◌, ◌++◌, ◌∷◌, [], List, length, take, drop, true};
 ghost use Rattle.std.specs.declared.cmp.Ordering.TheVariants.{Less};
 ghost use Rattle.vx_values.specs.Values.{Row as Cells, row_cmp, pick};
 ghost use Rattle.vx_rows.specs.Order.{sorted};
@@ -54,18 +54,13 @@ fn rises_at(rows: &Rows, i: usize, columns: &[usize]) -> bool
     i == 0 || compare_rows(rows, i - 1, columns, rows, i, columns).is_le()
 }
 
-/// Whether all rows rise, where those before row `from` do.
-pub fn rise_from(rows: &Rows, from: usize, columns: &[usize]) -> bool
+// Whether all rows rise, where those before row `from` do, and those from it on.
+pub(crate) fn rise_across(rows: &Rows, from: usize, columns: &[usize]) -> bool
     requires row { from ≤ length rows.now.rows }
     requires columns { AreColumns (length rows.now.types) columns.now }
-    ensures { sorted columns.now (take from rows.now.rows) ≡ true → result ≡ sorted columns.now rows.now.rows }
+    ensures { sorted columns.now (take from rows.now.rows) ≡ true → sorted columns.now (drop from rows.now.rows) ≡ true → result ≡ sorted columns.now rows.now.rows }
 {
-    for i in from..rows.len() {
-        if !rises_at(rows, i, columns) {
-            return false;
-        }
-    }
-    true
+    from >= rows.len() || rises_at(rows, from, columns)
 }
 
 // The run of the key of left row i, behind one of the same key or of a smaller one. Right rows that come later may

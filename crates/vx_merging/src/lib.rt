@@ -5,6 +5,5 @@ mod key_run;
 mod merging;
 mod side_by_side;
 
-pub use key_run::rise_from;
 pub use merging::{Merge, MergeFault, MergeNeed, merge_join};
 pub use side_by_side::push_beside;

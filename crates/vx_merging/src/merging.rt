@@ -9,11 +9,12 @@ ghost use Rattle.vx_plan_nodes.specs.Serial.{join_rows};
 ghost use Rattle.vx_merging.specs.declared.merging.MergeFault.TheVariants.{Falls};
 ghost use Rattle.vx_merging.specs.Merged.{HasJoined, IsMerged, HasSameInputs, HasSameShape, HoldsRun, MergeBlame, last_key, merge_need, rows_at, run_rows};
 
-use crate::key_run::{KeyRun, compare_rows, rise_from, run_of};
+use crate::key_run::{KeyRun, compare_rows, rise_across, run_of};
 use crate::side_by_side::{Pairs, add_pairs, pair_rows};
 use std::alloc::{AllocError, Global};
 use std::cmp::Ordering;
 use std::marker::Model;
+use vx_keys::rises;
 use vx_rows::ColType;
 use vx_views::Rows;
 
@@ -86,7 +87,8 @@ impl Drop for Merge {
 }
 
 impl Model for Merge {
-    ghost use Rattle.std.specs.Prelude.{◌≤◌, length};
+    ghost use Rattle.std.specs.Prelude.{◌≡◌, ◌≤◌, length, true};
+    ghost use Rattle.vx_rows.specs.Order.{sorted};
     ghost use Rattle.vx_rows.specs.View.{AreColumns};
     ghost use Rattle.vx_merging.specs.Merged.{MergeView};
 
@@ -95,7 +97,8 @@ impl Model for Merge {
     ghost view = { λ m. record { lefts = m.left_columns.items; rights = m.right_columns.items; left = m.left; next = m.next; right = m.right; start = m.start; end = m.end; left_ended = m.left_ended; right_ended = m.right_ended } };
 
     ghost invariant = { λ m. AreColumns (length m.left.types) m.left_columns.items × AreColumns (length m.right.types) m.right_columns.items
-        × (m.next ≤ length m.left.rows) × (m.start ≤ m.end) × (m.end ≤ length m.right.rows) };
+        × (m.next ≤ length m.left.rows) × (m.start ≤ m.end) × (m.end ≤ length m.right.rows)
+        × (sorted m.left_columns.items m.left.rows ≡ true) };
 }
 
 impl Merge {
@@ -167,6 +170,9 @@ impl Merge {
             return Ok(());
         }
         let order = self.order_of_next(&batch);
+        if !rises(&batch, &self.left_columns) {
+            return Err(MergeFault::Falls);
+        }
         self.start = run_start(order, self.start, self.end)?;
         self.left = batch;
         self.next = 0;
@@ -193,9 +199,12 @@ impl Merge {
         ensures err { IfErr result (λ e. (ls rs ys : List Cells) → HasJoined self.old ls rs ys → MergeBlame e (sorted self.old.rights (rs ++ batch.rows))) }
     {
         self.drop_passed()?;
+        if !rises(&batch, &self.right_columns) {
+            return Err(MergeFault::Falls);
+        }
         let from = self.right.len();
         self.right.append(batch)?;
-        if !rise_from(&self.right, from, &self.right_columns) {
+        if !rise_across(&self.right, from, &self.right_columns) {
             return Err(MergeFault::Falls);
         }
         Ok(())
@@ -288,7 +297,8 @@ impl Merge {
     {
         let count = self.left.len();
         let next = self.next + 1;
-        if next >= count {
+        // no key follows at hand, or the run is empty and stays so: the next key is not below this one
+        if next >= count || self.start >= self.end {
             self.next = next;
             return Ok(());
         }

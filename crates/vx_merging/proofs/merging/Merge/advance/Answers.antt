@@ -4,14 +4,23 @@ use Rattle.vx_rows.specs.Order.{sorted}
 use Rattle.vx_merging.specs.declared.merging.MergeFault.{MergeFault}
 use Rattle.vx_merging.specs.Merged.{IsMerged, MergeBlame}
 use Rattle.vx_keys.proofs.ErrorFacts.{reported}
-use Rattle.vx_merging.proofs.MergeCalls.{call-advanced-end, call-advanced, call-falls}
+use Rattle.vx_merging.proofs.MergeCalls.{call-advanced-end, call-advanced-empty, call-advanced, call-falls}
 use Rattle.vx_merging.proofs.merging.Merge.advance.Goals as goal
+use Rattle.vx_merging.proofs.merging.Merge.advance.Goals.{then-next-count-via-then-next-count, then-next-count-via-else-next-count+then-self}
 
 pub returns-then-next-count-clause-joined : goal.returns-then-next-count-clause-joined
 returns-then-next-count-clause-joined c = λ earlier passed ys h run.
-    let past = c.if-next-count.true in
     let long = c.len-count.ensures in
-    call-advanced-end _ _ c.self.view_is earlier passed ys h c.requires (omega (arith, past, long)) run
+    elim c.then-next-count.branch [
+      | then-next-count-via-then-next-count w ↦
+          let past = w.if-next-count.true in
+          call-advanced-end _ _ c.self.view_is earlier passed ys h c.requires (omega (arith, past, long)) run
+      | then-next-count-via-else-next-count+then-self w ↦
+          let some = w.if-next-count.false in
+          let none = w.if-self.true in
+          let order = c.self.invariant.3 in
+          call-advanced-empty _ _ c.self.view_is earlier passed ys h c.requires (omega (arith, some, long)) c.self.invariant.5 (omega (arith, none, order)) run
+    ]
 
 pub returns-in_err-self-inside-clause-err : goal.returns-in_err-self-inside-clause-err
 returns-in_err-self-inside-clause-err c =

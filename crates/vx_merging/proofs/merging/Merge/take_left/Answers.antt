@@ -1,11 +1,18 @@
-use Rattle.std.proofs.Common.{◌≡◌, ◌<◌, ◌++◌, List, length, false, subst, sym}
+use Rattle.std.proofs.Common.{◌≡◌, ◌<◌, ◌++◌, ◌∙◌, List, length, false, ap, subst, sym}
 use Rattle.vx_values.specs.Values.{Row}
 use Rattle.vx_rows.specs.Order.{sorted}
 use Rattle.vx_merging.specs.declared.merging.MergeFault.{MergeFault}
-use Rattle.vx_merging.specs.Merged.{HasJoined, MergeBlame}
+use Rattle.vx_merging.specs.Merged.{MergeView, HasJoined, MergeBlame}
 use Rattle.vx_keys.proofs.ErrorFacts.{reported}
+use Rattle.vx_merging.proofs.RiseFacts.{fall-back}
 use Rattle.vx_merging.proofs.MergeCalls.{call-left, call-left-falls, not-empty}
 use Rattle.vx_merging.proofs.merging.Merge.take_left.Goals as goal
+
+pub returns-then-not-rises-clause-err : goal.returns-then-not-rises-clause-err
+returns-then-not-rises-clause-err c = λ runs ls rs ys h.
+    let lefts : c.deref.result.now ≡ c.args.self.now.lefts = c.deref.ensures.value ∙ ap (λ (m : MergeView). m.lefts) c.self.view_is in
+    let xs = c.args.batch.rows in
+    fall-back c.args.self.now.lefts ls xs (ap (λ by. sorted by xs) (sym lefts) ∙ (sym c.rises.ensures ∙ c.if-not-rises.true))
 
 pub returns-in_err-self-inside-clause-err : goal.returns-in_err-self-inside-clause-err
 returns-in_err-self-inside-clause-err c =
