@@ -1,6 +1,6 @@
 //! What no clause says: that calls succeed with ample memory, and small examples.
 
-ghost use Rattle.std.specs.Prelude.{length};
+ghost use Rattle.std.specs.Prelude.{◌≡◌, length};
 ghost use Rattle.vx_rows.specs.View.{AreColumns};
 
 use crate::cases::{columns_of, parts, rows_of};
@@ -9,7 +9,7 @@ use std::test::Fail;
 use test_tables::shown;
 use vx_algebra::sorted_chunks;
 use vx_join::{Build, hash_join};
-use vx_keys::Seen;
+use vx_keys::{Seen, rises};
 use vx_merging::{MergeFault, merge_join};
 use vx_seeds::KeySeed;
 use vx_views::Rows;
@@ -48,6 +48,25 @@ fn hashed(alloc: Global, columns: &[usize], left: Rows, right: &Rows) -> Result<
     shown(alloc, &joined.gathered(alloc)?)
 }
 
+// Whether rows rise, with others behind them in a chunk of their own, as text.
+fn risen(
+    alloc: Global,
+    columns: &[usize],
+    mut rows: Rows,
+    behind: Rows,
+) -> Result<String, AllocError>
+    requires columns { AreColumns (length rows.types) columns.now }
+    requires behind { behind.types ≡ rows.types }
+{
+    rows.append(behind)?;
+    let word = if rises(&rows, columns) {
+        "rises"
+    } else {
+        "falls"
+    };
+    String::from_str(alloc, word)
+}
+
 // What a kernel makes of rows by some of their columns, as text.
 fn made(
     alloc: Global,
@@ -62,6 +81,9 @@ fn made(
     let right = rows_of(alloc, right)?;
     if kernel == "merge join" {
         return Ok(merged(alloc, columns, &left, &right)?);
+    }
+    if kernel == "rising" {
+        return Ok(risen(alloc, columns, left, right)?);
     }
     if kernel == "hash join" {
         return Ok(hashed(alloc, columns, left, &right)?);
@@ -94,7 +116,15 @@ a left input that falls | merge join | number | 3 c;4 d;1 e; | 1 a;2 b; | falls
 a right input that falls | merge join | number | 1 a;2 b; | 3 c;4 d;1 e; | falls
 a right input that falls beside no rows | merge join | number |  | 3 c;4 d;1 e; | falls
 a left input that falls beside no rows | merge join | number | 3 c;4 d;1 e; |  | falls
-a right input that falls behind all that is joined | merge join | number | 1 a;2 b; | 2 y;1 x; | falls";
+a right input that falls behind all that is joined | merge join | number | 1 a;2 b; | 2 y;1 x; | falls
+no rows rise | rising | number |  |  | rises
+rows of two chunks rise, equal ones among them | rising | number | -9223372036854775808 a;1 b;1 c; | 1 a;9223372036854775807 b; | rises
+a chunk that begins below the one before it | rising | number | 1 a;3 b; | 2 c;4 d; | falls
+numbers that fall in a chunk | rising | number | 1 a; | 3 b;2 c; | falls
+texts that rise beside numbers that fall | rising | text | 3 a;2 b; | 1 b; | rises
+texts that fall in a chunk | rising | text | 1 b;2 a; |  | falls
+rows of equal numbers fall by their texts | rising | number text | 1 b;1 a; | 2 c; | falls
+rows of equal numbers rise by their texts | rising | number text | 1 a;1 b; | 1 c; | rises";
 
 #[test]
 fn kernels_make_what_is_worked_out(rt: HostRuntime) -> Result<(), Fail> {
