@@ -1,6 +1,6 @@
-use Rattle.std.proofs.Common.{◌≡◌, ◌↔◌, ◌∙◌, true}
+use Rattle.std.proofs.Common.{◌≡◌, ◌↔◌, ◌∙◌, true, vec_len, length, arith, rules}
 use Rattle.vx_steps.specs.Verdicts.{EndsAt}
-use Rattle.vx_steps.proofs.Rounds.{flag-more}
+use Rattle.vx_steps.proofs.Rounds.{flag-more, all-ended}
 use Rattle.vx_steps.proofs.Followed.{follows-round}
 use Rattle.vx_steps.proofs.RunSteps.{advances-then}
 use Rattle.vx_steps.proofs.run.step_round.Goals as goal
@@ -20,3 +20,11 @@ loop-number-preserved g c =
       advances = advances-then g.O.Source.Stands g.O.Source.op g.S.Sends.Stands g.S.Sends.task g.S.Sends.post g.S.Sends.bounds (g.R.Router.route_of c.args.router.now) (g.G.Morsels.morsel_of c.args.morsels.now)
           c.args.workers.now.items c.loop-number.workers.items new.workers.items c.args.links.now c.loop-number.links new.links inv.advances one.advances;
     }
+
+pub returns-clause-ended : goal.returns-clause-ended
+returns-clause-ended g c =
+    let ws = c.loop-number.workers in
+    let n = c.loop-number.number in
+    let long : vec_len ws ≡ length ws.items = search rules in
+    let same : n ≡ length ws.items = omega (arith, long, c.loop-number-test.false, c.loop-number.auto.number-end, c.loop-number.invariant.len) in
+    all-ended ws.items n c.loop-number.all_ended same c.loop-number.invariant.flag
