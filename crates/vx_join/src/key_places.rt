@@ -1,11 +1,12 @@
 //! The places of the rows of each key, by the keys' numbers.
 
-ghost use Rattle.std.specs.Prelude.{◌≡◌, ◌<◌, ◌≤◌, ◌+◌, ◌^◌, ◌++◌, ◌∷◌, [], length, map, slice_set, slice_index_or, IfOk, OnOk, IsTrue};
+ghost use Rattle.std.specs.Prelude.{◌≡◌, ◌<◌, ◌≤◌, ◌+◌, ◌^◌, ◌++◌, ◌∷◌, [], length, map, slice_set, slice_index_or, IfOk, OnOk};
 ghost use Rattle.vx_rows.specs.Lists.{each_below};
 ghost use Rattle.vx_join.specs.Build.{AddsRows};
 ghost use Rattle.vx_join.specs.Parts.{places_in, listed_places};
 
 use std::alloc::{AllocError, Global};
+use vx_views::are_counted_from;
 
 /// For each key the places of its rows.
 pub(crate) enum KeyPlaces {
@@ -85,18 +86,6 @@ fn push_places(
         push_place(alloc, parts, numbers[i], first + i)?;
     }
     Ok(())
-}
-
-// Whether these are `first`, `first + 1`, and so on.
-fn are_counted_from(first: usize, numbers: &[usize]) -> bool
-    ensures { IsTrue result → numbers.now ≡ each_below (length numbers.now) (λ k. first + k) }
-{
-    for i in 0..numbers.len() {
-        if numbers[i] < first || numbers[i] - first != i {
-            return false;
-        }
-    }
-    true
 }
 
 // The list with this number, or no place where there is none.

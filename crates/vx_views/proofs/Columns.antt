@@ -1,5 +1,5 @@
 -- What lies at positions of a table.
-use Rattle.std.proofs.Common.{◌≡◌, ℕ, ℤ, pos, zero, suc, ◌+◌, ◌-◌, ◌<◌, ◌≤◌, List, [], ◌∷◌, refl, sym, ap, ◌∙◌, length, get_or, map, arith}
+use Rattle.std.proofs.Common.{◌≡◌, ℕ, ℤ, pos, zero, suc, ◌+◌, ◌-◌, ◌<◌, ◌≤◌, List, [], ◌∷◌, refl, sym, ap, ◌∙◌, subst, length, get_or, map, arith}
 use Rattle.std.specs.Prelude.{slice_range, All}
 use Rattle.std.proofs.lemmas.List.{length-map, get_or-map}
 use Rattle.vx_values.specs.Values.{Row, num, value_at}
@@ -80,3 +80,14 @@ part-far n from count h l =
     let v = get_or-each_below count (λ k. from + k) (count - 1) 0 (omega (arith, l)) in
     let r = h (count - 1) 0 (omega (arith, m, l)) in
     omega (arith, v, r, l)
+
+-- places that follow one another are a part of what lies there
+module _ (now places : List ℕ) (p : ℕ) (is : places ≡ each_below (length places) (λ k. p + k)) where
+  pub run-within : All (λ i. i < length now) places → 0 < length places → p + length places ≤ length now
+  run-within h some = part-far (length now) p (length places) (subst (All (λ i. i < length now)) is h) some
+
+  pub run-at : p + length places ≤ length now → slice_range now p (p + length places) ≡ map (λ i. get_or now i 0) places
+  run-at l =
+      let n : p + length places - p ≡ length places = omega arith in
+      sym (map-range now 0 p (p + length places) (omega arith) l)
+      ∙ (ap (λ m. map (λ i. get_or now i 0) (each_below m (λ k. p + k))) n ∙ ap (map (λ i. get_or now i 0)) (sym is))

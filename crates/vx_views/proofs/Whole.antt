@@ -18,6 +18,11 @@ next-rows ts i t h e =
     ∙ (flat_map-append (λ u. u.rows) (take i ts) (get_or ts i t ∷ [])
     ∙ (ap (λ rs. all_rows (take i ts) ++ rs) (append-nil (get_or ts i t).rows) ∙ ap (λ u. all_rows (take i ts) ++ u.rows) (sym e)))
 
+-- where there is a row there is a table
+pub some-table : (ts : List RowsView) (i : ℕ) → i < length (all_rows ts) → 0 < length ts
+some-table [] i h = absurd (omega (arith, h))
+some-table (u ∷ us) i h = omega arith
+
 -- what lies where a table's rows begin
 pub spot-row : (ts : List RowsView) (i k p : ℕ) (t : RowsView) → k < length ts → t ≡ get_or ts k t → p < length t.rows → i ≡ length (all_rows (take k ts)) + p → get_or (all_rows ts) i [] ≡ get_or t.rows p []
 spot-row ts i k p t h e l at =

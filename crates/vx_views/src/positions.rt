@@ -1,6 +1,6 @@
 //! Which rows of a table are seen, and in which order.
 
-ghost use Rattle.std.specs.Prelude.{◌≡◌, ℕ, ◌+◌, ◌-◌, ◌^◌, ◌<◌, ◌≤◌, List, length, map, slice_index, slice_range, All, IfOk};
+ghost use Rattle.std.specs.Prelude.{◌≡◌, ℕ, ◌+◌, ◌-◌, ◌^◌, ◌<◌, ◌≤◌, List, length, map, slice_index, slice_range, All, IfOk, IsTrue};
 ghost use Rattle.vx_rows.specs.View.{ArePositions};
 ghost use Rattle.vx_rows.specs.Lists.{each_below};
 
@@ -163,11 +163,16 @@ impl Positions {
         }
     }
 
-    /// The positions at these places.
+    /// The positions at these places. Where the places follow one another, these are a part of the positions, and none is copied.
     pub fn at(&self, alloc: Global, places: &[usize]) -> Result<Positions, AllocError>
         requires { ArePositions (length self.now) places.now }
         ensures { IfOk result (λ s. s ≡ map (slice_index self.now) places.now) }
     {
+        // no place is above this
+        let _count = self.len();
+        if !places.is_empty() && are_counted_from(places[0], places) {
+            return self.slice(places[0], places[0] + places.len());
+        }
         match &self.listed {
             None => {
                 let positions = moved(alloc, places, self.from)?;
@@ -220,4 +225,16 @@ fn taken(alloc: Global, listed: &[usize], places: &[usize]) -> Result<Vec<usize>
     let mut positions = Vec::from_slice(alloc, places)?;
     look_up(positions.as_mut_slice(), listed);
     Ok(positions)
+}
+
+/// Whether these are `first`, `first + 1`, and so on.
+pub fn are_counted_from(first: usize, numbers: &[usize]) -> bool
+    ensures { IsTrue result → numbers.now ≡ each_below (length numbers.now) (λ k. first + k) }
+{
+    for i in 0..numbers.len() {
+        if numbers[i] < first || numbers[i] - first != i {
+            return false;
+        }
+    }
+    true
 }

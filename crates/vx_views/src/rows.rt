@@ -119,6 +119,11 @@ impl Rows {
         requires column { column < length self.now.types }
         ensures { cell_val result ≡ value_at (row self.now i) column }
     {
+        // mostly there is one chunk
+        let first = &self.chunks[0];
+        if i < first.len() {
+            return first.cell(i, column);
+        }
         let spot = spot_of(self.chunks.as_slice(), i);
         self.chunks[spot.chunk].cell(spot.place, column)
     }
@@ -341,6 +346,10 @@ fn add_at(
     ensures types { found.new.types ≡ found.old.types }
     ensures ok { OnOk result (found.new.rows ≡ found.old.rows ++ map (λ i. slice_index_or (all_rows chunks.now) i []) places.now) }
 {
+    if chunks.len() == 1 && !places.is_empty() {
+        // the rows are those of the chunk, so a place in them is a place in it
+        return found.push(chunks[0].at(alloc, places)?);
+    }
     let mut from = 0;
     'runs: while from < places.len() {
         from = add_run(alloc, found, chunks, places, from)?;

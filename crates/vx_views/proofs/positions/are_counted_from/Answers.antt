@@ -2,7 +2,7 @@ use Rattle.std.proofs.Common.{◌≡◌, ◌<◌, ◌+◌, [], ◌∷◌, ◌++�
 use Rattle.std.proofs.lemmas.List.{take_more}
 use Rattle.vx_rows.specs.Lists.{each_below}
 use Rattle.vx_rows.proofs.Below.{each_below-none, each_below-next}
-use Rattle.vx_join.proofs.key_places.are_counted_from.Goals as goal
+use Rattle.vx_views.proofs.positions.are_counted_from.Goals as goal
 
 pub loop-i-init : goal.loop-i-init
 loop-i-init c = sym (each_below-none (λ k. c.args.first + k))
