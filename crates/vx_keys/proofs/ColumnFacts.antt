@@ -1,12 +1,18 @@
 -- Columns that are keys by themselves.
-use Rattle.std.proofs.Common.{◌≡◌, ℕ, ℤ, pos, suc, zero, ◌+◌, ◌<◌, List, [], ◌∷◌, map, length, get_or, refl, sym, ap, ◌∙◌, arith}
+use Rattle.std.proofs.Common.{◌≡◌, ℕ, ℤ, pos, suc, zero, ◌+◌, ◌-◌, ◌<◌, ◌≤◌, List, [], ◌∷◌, map, take, drop, length, get_or, refl, sym, ap, ◌∙◌, arith}
+use Rattle.std.specs.Prelude.{slice_range}
+use Rattle.std.proofs.lemmas.List.{same_lists, length-map, get_or-map, take-map, drop-map}
+use Rattle.std.proofs.lemmas.Simd.{map-map}
 use Rattle.vx_values.specs.Values.{Row, pick, value_at}
 use Rattle.vx_rows.specs.Lists.{each_below}
+use Rattle.vx_rows.specs.Numbers.{numbers_at}
+use Rattle.vx_rows.specs.View.{ArePositions}
 use Rattle.vx_rows.proofs.Below.{length-each_below, get_or-each_below}
 use Rattle.vx_views.specs.declared.positions.PositionsRef.{PositionsRef}
 use Rattle.vx_views.specs.declared.positions.PositionsRef.TheVariants.{Range}
 use Rattle.vx_views.specs.Seen.{seen_positions}
 use Rattle.vx_views.specs.Selected.{AreNumbers, AreTexts}
+use Rattle.vx_views.proofs.Facts.{length-slice, get_or-slice}
 use Rattle.vx_keys.specs.Columns.{number_key, text_key, number_keys, text_keys}
 
 -- lists that are made alike of positions and of rows
@@ -46,3 +52,38 @@ range-at at from count k is near =
     let f = λ (j : ℕ). from + j in
     let here : seen_positions at ≡ each_below count f = ap seen_positions is in
     ap (λ ps. get_or ps k 0) here ∙ get_or-each_below count f k 0 (omega (arith, near, ap length here, length-each_below count f))
+
+-- a part of a range lies among the numbers, and has these keys
+pub range-room : (at : PositionsRef) (first count limit from n : ℕ) → at ≡ Range first count → ArePositions limit (seen_positions at) → from + n ≤ length (seen_positions at) → 0 < n → first + from + n ≤ limit
+range-room at first count limit from n is below room some =
+    let k = from + (n - 1) in
+    let near : k < length (seen_positions at) = omega (arith, room, some) in
+    let v = range-at at first count k is near in
+    let r = below k 0 near in
+    omega (arith, v, r, some)
+
+pub range-keys : (numbers : List ℤ) (at : PositionsRef) (first count from n : ℕ) → at ≡ Range first count → from + n ≤ length (seen_positions at) → first + from + n ≤ length numbers
+    → map number_key (slice_range numbers (first + from) (first + from + n)) ≡ slice_range (number_keys numbers (seen_positions at)) from (from + n)
+range-keys numbers at first count from n is room within =
+    let ps = seen_positions at in
+    let part = slice_range numbers (first + from) (first + from + n) in
+    let keys = number_keys numbers ps in
+    let key = λ (q : ℕ). number_key (get_or numbers q (pos 0)) in
+    let all : length keys ≡ length ps = length-map ps key in
+    let long = length-slice numbers (first + from) (first + from + n) (omega arith) within in
+    let mapped = length-map part number_key in
+    let short = length-slice keys from (from + n) (omega arith) (omega (arith, all, room)) in
+    same_lists _ _ (omega (arith, long, mapped, short)) (λ k d near.
+    let here : k < n = omega (arith, mapped, long, near) in
+    get_or-map number_key part k (pos 0) d (omega (arith, long, here))
+    ∙ (ap number_key (get_or-slice numbers (first + from) (first + from + n) k (pos 0) (omega arith))
+    ∙ (ap key (omega arith ∙ sym (range-at at first count (from + k) is (omega (arith, here, room))))
+    ∙ sym (get_or-slice keys from (from + n) k d (omega arith) ∙ get_or-map key ps (from + k) 0 d (omega (arith, here, room))))))
+
+-- and so do listed positions
+pub listed-keys : (numbers : List ℤ) (ps : List ℕ) (from to : ℕ) → map number_key (numbers_at numbers (slice_range ps from to)) ≡ slice_range (number_keys numbers ps) from to
+listed-keys numbers ps from to =
+    let at = λ (q : ℕ). get_or numbers q (pos 0) in
+    let key = λ (q : ℕ). number_key (get_or numbers q (pos 0)) in
+    map-map number_key at (slice_range ps from to)
+    ∙ sym (ap (take (to - from)) (drop-map key from ps) ∙ take-map key (to - from) (drop from ps))

@@ -1,7 +1,7 @@
 -- Rows rise where their keys do, and where each chunk does and none begins below the one before it.
-use Rattle.std.proofs.Common.{◌≡◌, ℕ, ℤ, suc, ◌+◌, ◌-◌, ◌<◌, ◌≤◌, Bool, true, false, cond, List, [], refl, sym, ap, ap₂, ◌∙◌, length, map, take, get_or, inl, inr, arith, true≢false, is_lt, Less, Equal, Greater}
-use Rattle.std.specs.Ordering.{ordering_then}
-use Rattle.std.specs.Int.Signed.{lt_z}
+use Rattle.std.proofs.Common.{◌≡◌, ℕ, ℤ, pos, suc, ◌+◌, ◌-◌, ◌<◌, ◌≤◌, Bool, true, false, List, [], refl, sym, ap, ap₂, ◌∙◌, length, map, take, get_or, inl, inr, arith, true≢false, is_lt, Option, Some, None, is_some}
+use Rattle.std.specs.Prelude.{IfSome, IfNone}
+use Rattle.std.specs.List.{slice_range}
 use Rattle.std.proofs.lemmas.Bool.{cases_lt}
 use Rattle.std.proofs.lemmas.List.{get_or-map, length-map, length-append}
 use Rattle.std.proofs.lemmas.List.Folds.{length-flat_map-take}
@@ -10,12 +10,17 @@ use Rattle.vx_rows.specs.Order.{compare_on, sorted}
 use Rattle.vx_rows.specs.View.{RowsView}
 use Rattle.vx_rows.proofs.Order.{NoFall, sorted_from, sorted_neighbours, not_sorted}
 use Rattle.vx_views.specs.Chunks.{all_rows}
+use Rattle.vx_views.proofs.Facts.{length-slice, get_or-slice}
 use Rattle.vx_views.proofs.Whole.{next-rows, spot-row}
 use Rattle.vx_keys.specs.Columns.{number_key}
 
 -- no key but the first is smaller than the one before it
 abbrev pub KeysRise : List Row → ℕ → Type 0
 KeysRise keys n = (k : ℕ) → suc k < n → is_lt (row_cmp (get_or keys (suc k) []) (get_or keys k [])) ≡ false
+
+-- no number but the first is smaller than the one before it
+abbrev pub NumbersRise : List ℤ → Type 0
+NumbersRise numbers = (k : ℕ) → suc k < length numbers → is_lt (row_cmp (number_key (get_or numbers (suc k) (pos 0))) (number_key (get_or numbers k (pos 0)))) ≡ false
 
 -- the keys of rows are as these
 module _ (cols : List ℕ) (rows keys : List Row) (e : keys ≡ map (pick cols) rows) where
@@ -39,9 +44,46 @@ module _ (cols : List ℕ) (rows keys : List Row) (e : keys ≡ map (pick cols) 
       let fall : is_lt (compare_on cols (get_or rows i []) (get_or rows (i - 1) [])) ≡ true = ap is_lt (sym (key-compare i (i - 1) near (omega (arith, near)))) ∙ h in
       sym (not_sorted cols rows (i - 1) (omega (arith, m, some, near)) (ap (λ k. is_lt (compare_on cols (get_or rows k []) (get_or rows (i - 1) []))) at ∙ fall) (sorted cols rows) refl)
 
--- a key of one number is smaller where the number is
-pub number-less : (a b : ℤ) → lt_z a b ≡ true → is_lt (row_cmp (number_key a) (number_key b)) ≡ true
-number-less a b h = ap (λ less. is_lt (ordering_then (cond less Less (cond (lt_z b a) Greater Equal)) Equal)) h
+-- a block of numbers that was read from a column
+module _ (column : List Row) (block : List ℤ) (from n : ℕ) (within : from + n ≤ length column) (is : map number_key block ≡ slice_range column from (from + n)) where
+  block-long : length block ≡ n
+  block-long =
+      let all = ap length is in
+      let keys = length-map block number_key in
+      let part = length-slice column from (from + n) (omega arith) within in
+      omega (arith, all, keys, part)
+
+  block-key : (i : ℕ) → i < n → number_key (get_or block i (pos 0)) ≡ get_or column (from + i) []
+  block-key i h =
+      sym (get_or-map number_key block i (pos 0) [] (omega (arith, block-long, h)))
+      ∙ (ap (λ ks. get_or ks i []) is ∙ get_or-slice column from (from + n) i [] (omega (arith, h)))
+
+  block-compare : (i j : ℕ) → i < n → j < n
+      → row_cmp (get_or column (from + i) []) (get_or column (from + j) []) ≡ row_cmp (number_key (get_or block i (pos 0))) (number_key (get_or block j (pos 0)))
+  block-compare i j a b = ap₂ row_cmp (sym (block-key i a)) (sym (block-key j b))
+
+  -- its first number is the last of those before it
+  pub block-rises : KeysRise column (from + 1) → (fall : Option ℕ) → is_some fall ≡ false → IfNone fall (NumbersRise block) → KeysRise column (from + n)
+  block-rises before (Some i) e none k l = absurd (true≢false e)
+  block-rises before None e none k l = elim (cases_lt (suc k) (from + 1)) [
+    | inl h ↦ before k h
+    | inr h ↦
+        let here : from + (k - from) ≡ k = omega (arith, h) in
+        let next : from + suc (k - from) ≡ suc k = omega (arith, h) in
+        let near : suc (k - from) < n = omega (arith, h, l) in
+        ap is_lt (ap₂ (λ i j. row_cmp (get_or column i []) (get_or column j [])) (sym next) (sym here))
+        ∙ (ap is_lt (block-compare (suc (k - from)) (k - from) near (omega (arith, near))) ∙ none (k - from) (omega (arith, near, block-long)))
+  ]
+
+  pub block-falls : (cols : List ℕ) (rows : List Row) → column ≡ map (pick cols) rows → (fall : Option ℕ) → is_some fall ≡ true → IfSome fall (λ i. 1 ≤ i) → IfSome fall (λ i. i < length block)
+      → IfSome fall (λ i. is_lt (row_cmp (number_key (get_or block i (pos 0))) (number_key (get_or block (i - 1) (pos 0)))) ≡ true) → false ≡ sorted cols rows
+  block-falls cols rows e None s some near h = absurd (true≢false (sym s))
+  block-falls cols rows e (Some i) s some near h =
+      let last : from + (i - 1) ≡ from + i - 1 = omega (arith, some) in
+      let inside : i < n = omega (arith, near, block-long) in
+      let first : 1 ≤ from + i = omega (arith, some) in
+      keys-fall cols rows column e (from + i) first (omega (arith, inside, within))
+      (ap (λ j. is_lt (row_cmp (get_or column (from + i) []) (get_or column j []))) (sym last) ∙ (ap is_lt (block-compare i (i - 1) inside (omega (arith, inside))) ∙ h))
 
 -- rows that do not fall up to where one of the tables begins that they lie in, nor there
 module _ (cols : List ℕ) (ts : List RowsView) (rows : List Row) (whole : all_rows ts ≡ rows) (i at : ℕ) (t : RowsView) (there : i < length ts) (is : t ≡ get_or ts i t)

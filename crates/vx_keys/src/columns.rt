@@ -1,9 +1,9 @@
 //! Columns whose values are keys by themselves, read where they lie.
 
-ghost use Rattle.std.specs.Prelude.{◌≡◌, ◌^◌, ◌<◌, [], pos, length, map, slice_index, slice_index_or, IfSome};
+ghost use Rattle.std.specs.Prelude.{◌≡◌, ◌+◌, ◌^◌, ◌<◌, ◌≤◌, [], pos, length, map, slice_index, slice_index_or, slice_range, IfSome};
 ghost use Rattle.vx_values.specs.Values.{pick};
-ghost use Rattle.vx_rows.specs.View.{AreColumns};
-ghost use Rattle.vx_rows.specs.Numbers.{seen_numbers};
+ghost use Rattle.vx_rows.specs.View.{AreColumns, ArePositions};
+ghost use Rattle.vx_rows.specs.Numbers.{seen_numbers, numbers_at};
 ghost use Rattle.vx_views.specs.Seen.{seen_positions};
 ghost use Rattle.vx_keys.specs.Columns.{number_key, text_key};
 
@@ -51,6 +51,68 @@ fn number_at(numbers: NumbersRef<'_>, position: usize) -> i64
     match numbers {
         NumbersRef::Narrow(narrow) => i64::from(narrow[position]),
         NumbersRef::Wide(wide) => wide[position],
+    }
+}
+
+// Puts numbers of 32 bits into a slice of as many.
+fn widen(narrow: &[i32], numbers: &mut [i64])
+    requires { length narrow.now ≡ length numbers.old }
+    ensures len { length numbers.new ≡ length numbers.old }
+    ensures numbers { numbers.new ≡ narrow.now }
+{
+    for i in 0..numbers.len() {
+        numbers[i] = i64::from(narrow[i]);
+    }
+}
+
+// Puts the numbers of 32 bits at some positions into a slice of as many.
+fn widen_at(narrow: &[i32], positions: &[usize], numbers: &mut [i64])
+    requires long { length positions.now ≡ length numbers.old }
+    requires there { ArePositions (length narrow.now) positions.now }
+    ensures len { length numbers.new ≡ length numbers.old }
+    ensures numbers { numbers.new ≡ numbers_at narrow.now positions.now }
+{
+    for i in 0..numbers.len() {
+        numbers[i] = i64::from(narrow[positions[i]]);
+    }
+}
+
+// Puts the numbers of 64 bits at some positions into a slice of as many.
+fn copy_at(wide: &[i64], positions: &[usize], numbers: &mut [i64])
+    requires long { length positions.now ≡ length numbers.old }
+    requires there { ArePositions (length wide.now) positions.now }
+    ensures len { length numbers.new ≡ length numbers.old }
+    ensures numbers { numbers.new ≡ numbers_at wide.now positions.now }
+{
+    for i in 0..numbers.len() {
+        numbers[i] = wide[positions[i]];
+    }
+}
+
+// Puts the numbers from a position on into a slice.
+fn read_from(all: NumbersRef<'_>, first: usize, numbers: &mut [i64])
+    requires { first + length numbers.old ≤ length (seen_numbers all) }
+    ensures len { length numbers.new ≡ length numbers.old }
+    ensures numbers { numbers.new ≡ slice_range (seen_numbers all.entry) first (first + length numbers.old) }
+{
+    let count = numbers.len();
+    match all {
+        NumbersRef::Narrow(narrow) => widen(&narrow[first..first + count], numbers),
+        NumbersRef::Wide(wide) => numbers.copy_from_slice(&wide[first..first + count]),
+    }
+}
+
+// Puts the numbers at the positions from one on into a slice.
+fn read_at(all: NumbersRef<'_>, positions: &[usize], from: usize, numbers: &mut [i64])
+    requires within { from + length numbers.old ≤ length positions.now }
+    requires there { ArePositions (length (seen_numbers all)) positions.now }
+    ensures len { length numbers.new ≡ length numbers.old }
+    ensures numbers { numbers.new ≡ numbers_at (seen_numbers all.entry) (slice_range positions.now from (from + length numbers.old)) }
+{
+    let part = &positions[from..from + numbers.len()];
+    match all {
+        NumbersRef::Narrow(narrow) => widen_at(narrow, part, numbers),
+        NumbersRef::Wide(wide) => copy_at(wide, part, numbers),
     }
 }
 
@@ -109,6 +171,24 @@ impl<'a> IntColumn<'a> {
         // no position is above this
         let _count = number_count(self.numbers);
         number_at(self.numbers, position(self.at, k))
+    }
+
+    /// Puts the numbers of the rows from one on into a slice, one behind the other.
+    pub fn read(&self, from: usize, numbers: &mut [i64])
+        requires { from + length numbers.old ≤ length self.now }
+        ensures len { length numbers.new ≡ length numbers.old }
+        ensures numbers { map number_key numbers.new ≡ slice_range self.now from (from + length numbers.old) }
+    {
+        // a range of no rows may begin past the numbers
+        if numbers.len() == 0 {
+            return;
+        }
+        // no position is above this
+        let _count = number_count(self.numbers);
+        match self.at {
+            PositionsRef::Range(first, _) => read_from(self.numbers, first + from, numbers),
+            PositionsRef::Listed(positions) => read_at(self.numbers, positions, from, numbers),
+        }
     }
 }
 

@@ -1,6 +1,6 @@
 //! Keys that are one number each, found with no hashing.
 
-ghost use Rattle.std.specs.Prelude.{◌≡◌, ◌≢◌, ◌+◌, ◌*◌, ◌-◌, ◌^◌, ◌<◌, ◌≤◌, ◌++◌, ◌∷◌, [], ℕ, pos, min, max, length, map, take, OnOk, IfOk, IfSome, IfNone, slice_get, slice_index, slice_index_or, vec_len, slice_range, position, Some, None};
+ghost use Rattle.std.specs.Prelude.{◌≡◌, ◌≢◌, ◌+◌, ◌*◌, ◌-◌, ◌^◌, ◌<◌, ◌≤◌, ◌++◌, ◌∷◌, [], ℕ, pos, min, max, length, map, take, OnOk, IfOk, IfSome, IfNone, slice_get, slice_index, slice_index_or, vec_len, position, Some, None};
 ghost use Rattle.std.specs.List.{position_or_len, IsDistinct};
 ghost use Rattle.vx_values.specs.Values.{row_eq};
 ghost use Rattle.indexmap.specs.IndexSet.{insert_key, insert_all};
@@ -21,8 +21,8 @@ const SPREAD: usize = 8;
 // The table holds numbers of 32 bits.
 const MOST: usize = 0xffff_ffff;
 
-// How many numbers are found before they are added to a list, all at once. A list that grows by one number at a time has
-// its length written and read again for each.
+// How many keys are read and found at once. Their numbers are then added to a list all together: one that grows by one number
+// at a time has its length written and read again for each.
 const BLOCK: usize = 64;
 
 // So many known keys before a new one tell that most keys are known.
@@ -185,24 +185,34 @@ impl DirectKeys {
         // a small key is refused only where there are as many keys as have numbers
         ensures small { IfOk result (λ o. IfNone o ((v : ℕ) → v < 65536 → key ≡ pos v → 2 ^ 32 - 1 ≤ length self.old)) }
     {
-        if let Some(number) = self.find(key) {
-            return Ok(Some(number));
+        let Some(place) = place_within(key, self.table.len()) else {
+            return self.add(key);
+        };
+        let mark = self.table[place] as usize;
+        if mark != 0 {
+            return Ok(Some(mark - 1));
         }
-        self.add(key)
+        // it is new, and the table is long enough already; a number and a key have 32 bits each
+        let number = self.keys.len();
+        if number >= MOST || place >= MOST {
+            return Ok(None);
+        }
+        self.keys.push(place as u32)?;
+        self.table[place] = number as u32 + 1;
+        Ok(Some(number))
     }
 
-    // Puts the numbers of the keys from one on, up to the first that is not here, and returns how many these are.
-    fn find_known(&self, column: &IntColumn<'_>, from: usize, found: &mut [usize]) -> usize
-        requires within { from + length found.old ≤ length column.now }
-        requires fits { length column.now < 2 ^ 64 }
+    // Puts the numbers of the first of these keys, up to the first that is not here, and returns how many these are.
+    fn find_known(&self, keys: &[i64], found: &mut [usize]) -> usize
+        requires { length keys.now ≡ length found.old }
         ensures within { result ≤ length found.old }
-        ensures numbers { take result found.new ≡ numbers_of self.now (slice_range column.now from (from + result)) }
+        ensures numbers { take result found.new ≡ numbers_of self.now (take result (map number_key keys.now)) }
         // so the keys stay as they are
-        ensures keys { insert_all row_eq self.now (slice_range column.now from (from + result)) ≡ self.now }
+        ensures keys { insert_all row_eq self.now (take result (map number_key keys.now)) ≡ self.now }
     {
         let count = found.len();
         for i in 0..count {
-            let Some(number) = self.find(column.get(from + i)) else {
+            let Some(number) = self.find(keys[i]) else {
                 return i;
             };
             found[i] = number;
@@ -210,29 +220,48 @@ impl DirectKeys {
         count
     }
 
-    // Does what `number_all` does with the keys from one on to another, without that one, and returns where it ended: there,
-    // or at the first key that is refused.
-    fn number_part(
-        &mut self,
-        column: &IntColumn<'_>,
-        from: usize,
-        to: usize,
-        numbers: &mut Vec<usize>,
-    ) -> Result<usize, AllocError>
-        requires { (from ≤ to) × (to ≤ length column.now) }
-        ensures within { IfOk result (λ n. (from ≤ n) × (n ≤ to)) }
-        ensures numbers { IfOk result (λ n. numbers.new.items ≡ numbers.old.items ++ numbers_of self.old (slice_range column.now from n)) }
-        ensures keys { IfOk result (λ n. self.new ≡ insert_all row_eq self.old (slice_range column.now from n)) }
+    // Puts the numbers of these keys, up to the first that is refused, and returns how many it took. Keys that are new are
+    // added.
+    fn number_part(&mut self, keys: &[i64], found: &mut [usize]) -> Result<usize, AllocError>
+        requires { length keys.now ≡ length found.old }
+        ensures within { IfOk result (λ n. n ≤ length keys.now) }
+        ensures numbers { IfOk result (λ n. take n found.new ≡ numbers_of self.old (take n (map number_key keys.now))) }
+        ensures keys { IfOk result (λ n. self.new ≡ insert_all row_eq self.old (take n (map number_key keys.now))) }
         // a small key is refused only where there are as many keys as have numbers
-        ensures small { IfOk result (λ n. n < to → (v : ℕ) → v < 65536 → slice_index_or column.now n [] ≡ number_key (pos v) → 2 ^ 32 - 1 ≤ length self.new) }
+        ensures small { IfOk result (λ n. n < length keys.now → (v : ℕ) → v < 65536 → slice_index_or keys.now n (pos 0) ≡ pos v → 2 ^ 32 - 1 ≤ length self.new) }
     {
-        for i in from..to {
-            let Some(number) = self.number(column.get(i))? else {
+        let count = found.len();
+        for i in 0..count {
+            let Some(number) = self.number(keys[i])? else {
                 return Ok(i);
             };
-            numbers.push(number)?;
+            found[i] = number;
         }
-        Ok(to)
+        Ok(count)
+    }
+
+    // Does what `number_part` does, and faster where most of the keys are known.
+    fn number_block(&mut self, keys: &[i64], found: &mut [usize]) -> Result<usize, AllocError>
+        requires { length keys.now ≡ length found.old }
+        ensures within { IfOk result (λ n. n ≤ length keys.now) }
+        ensures numbers { IfOk result (λ n. take n found.new ≡ numbers_of self.old (take n (map number_key keys.now))) }
+        ensures keys { IfOk result (λ n. self.new ≡ insert_all row_eq self.old (take n (map number_key keys.now))) }
+        // a small key is refused only where there are as many keys as have numbers
+        ensures small { IfOk result (λ n. n < length keys.now → (v : ℕ) → v < 65536 → slice_index_or keys.now n (pos 0) ≡ pos v → 2 ^ 32 - 1 ≤ length self.new) }
+    {
+        let count = keys.len();
+        let mut done = 0;
+        while done < count {
+            let known = self.find_known(&keys[done..], &mut found[done..]);
+            let start = done + known;
+            let end = done + part_end(known, count - done);
+            let taken = self.number_part(&keys[start..end], &mut found[start..end])?;
+            if start + taken < end {
+                return Ok(start + taken);
+            }
+            done = end;
+        }
+        Ok(count)
     }
 
     /// Adds the numbers of these keys, up to the first that is refused. Keys that are new are added. It returns how many it
@@ -249,18 +278,18 @@ impl DirectKeys {
         ensures small { IfOk result (λ n. n < length column.now → (v : ℕ) → v < 65536 → slice_index_or column.now n [] ≡ number_key (pos v) → 2 ^ 32 - 1 ≤ length self.new) }
     {
         let count = column.len();
+        let mut keys = [0; BLOCK];
         let mut found = [0; BLOCK];
         let mut from = 0;
         while from < count {
             let block = BLOCK.min(count - from);
-            let known = self.find_known(column, from, &mut found[..block]);
-            numbers.extend_from_slice(&found[..known])?;
-            let to = from + part_end(known, block);
-            let taken = self.number_part(column, from + known, to, numbers)?;
-            if taken < to {
-                return Ok(taken);
+            column.read(from, &mut keys[..block]);
+            let taken = self.number_block(&keys[..block], &mut found[..block])?;
+            numbers.extend_from_slice(&found[..taken])?;
+            if taken < block {
+                return Ok(from + taken);
             }
-            from = to;
+            from += block;
         }
         Ok(count)
     }
@@ -275,14 +304,13 @@ impl DirectKeys {
         number
     }
 
-    // Puts the numbers of the keys from one on, and for a key that is not here the number of the next new one.
-    fn find_block(&self, column: &IntColumn<'_>, from: usize, found: &mut [usize])
-        requires within { from + length found.old ≤ length column.now }
-        requires fits { length column.now < 2 ^ 64 }
-        ensures { found.new ≡ map (λ k. position_or_len (row_eq k) self.now) (slice_range column.now from (from + length found.old)) }
+    // Puts the numbers of these keys, and for a key that is not here the number of the next new one.
+    fn find_block(&self, keys: &[i64], found: &mut [usize])
+        requires { length keys.now ≡ length found.old }
+        ensures { found.new ≡ map (λ k. position_or_len (row_eq k) self.now) (map number_key keys.now) }
     {
         for i in 0..found.len() {
-            found[i] = self.number_or_next(column.get(from + i));
+            found[i] = self.number_or_next(keys[i]);
         }
     }
 
@@ -292,11 +320,13 @@ impl DirectKeys {
     {
         let count = column.len();
         let mut numbers = Vec::with_capacity(self.alloc, count)?;
+        let mut keys = [0; BLOCK];
         let mut found = [0; BLOCK];
         let mut from = 0;
         while from < count {
             let block = BLOCK.min(count - from);
-            self.find_block(column, from, &mut found[..block]);
+            column.read(from, &mut keys[..block]);
+            self.find_block(&keys[..block], &mut found[..block]);
             numbers.extend_from_slice(&found[..block])?;
             from += block;
         }

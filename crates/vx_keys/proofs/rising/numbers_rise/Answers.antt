@@ -1,21 +1,30 @@
-use Rattle.std.proofs.Common.{◌≡◌, ◌-◌, ◌<◌, ap, ap₂, sym, ◌∙◌, length, get_or, [], true, is_lt, arith, rules, w64, to_z}
-use Rattle.std.specs.Int.Signed.{lt_z}
-use Rattle.std.proofs.lemmas.Int.{to_z-of_z}
-use Rattle.vx_values.specs.Values.{row_cmp}
-use Rattle.vx_keys.proofs.RiseFacts.{keys-rise, keys-fall, number-less}
+use Rattle.std.proofs.Common.{◌≡◌, ◌≤◌, ◌+◌, arith, sym, ◌∙◌, length, take}
+use Rattle.std.proofs.lemmas.List.{length-take-le}
+use Rattle.vx_keys.proofs.BlockFacts.{read-block}
+use Rattle.vx_keys.proofs.RiseFacts.{keys-rise, block-rises, block-falls}
 use Rattle.vx_keys.proofs.rising.numbers_rise.Goals as goal
 
-pub returns-then-number-last : goal.returns-then-number-last
-returns-then-number-last c = λ columns rows e.
-    let keys = c.args.numbers.now in
-    let i = c.loop-i.i in
-    let near : i < length keys = omega (arith, c.len-count.ensures, c.loop-i-test.true) in
-    let number = c.get-number.result in
-    let last = to_z w64 c.loop-i.last-bits in
-    let less : lt_z number last ≡ true = ap (λ z. lt_z z last) (sym (to_z-of_z w64 number (search rules))) ∙ c.if-number-last.true in
-    let fall : is_lt (row_cmp (get_or keys i []) (get_or keys (i - 1) [])) ≡ true =
-    ap is_lt (ap₂ row_cmp (sym c.get-number.ensures) (sym c.loop-i.invariant.last)) ∙ number-less number last less in
-    keys-fall columns rows keys e i (omega arith) near fall
+pub returns-then-is_some : goal.returns-then-is_some
+returns-then-is_some c = λ columns rows e.
+    let numbers = c.args.numbers.now in
+    let from = c.loop-from.from in
+    let n = c.min-block.result in
+    let within : from + n ≤ length numbers = omega arith in
+    let room : length (take n c.loop-from.found) ≡ n = length-take-le n c.loop-from.found (omega arith) in
+    let is = read-block numbers c.read.new.numbers _ from n _ room c.read.ensures.len c.read.ensures.numbers in
+    let fall = c.first_fall.ensures in
+    block-falls numbers _ from n within is columns rows e c.first_fall.result (sym c.is_some.ensures ∙ c.if-is_some.true) fall.some fall.within fall.falls
+
+pub loop-from-preserved : goal.loop-from-preserved
+loop-from-preserved c =
+    let numbers = c.args.numbers.now in
+    let from = c.loop-from.from in
+    let n = c.min-block.result in
+    let within : from + n ≤ length numbers = omega arith in
+    let room : length (take n c.loop-from.found) ≡ n = length-take-le n c.loop-from.found (omega arith) in
+    let is = read-block numbers c.read.new.numbers _ from n _ room c.read.ensures.len c.read.ensures.numbers in
+    let up = block-rises numbers _ from n within is c.loop-from.invariant.rises c.first_fall.result (sym c.is_some.ensures ∙ c.if-is_some.false) c.first_fall.ensures.none in
+    record { within = omega arith; rises = λ k l. up k (omega (arith, l)) }
 
 pub returns : goal.returns
-returns c = λ columns rows e. keys-rise columns rows c.args.numbers.now e (λ k l. c.loop-i.invariant.rises k (omega (arith, l, c.len-count.ensures, c.loop-i-test.false)))
+returns c = λ columns rows e. keys-rise columns rows c.args.numbers.now e (λ k l. c.loop-from.invariant.rises k (omega (arith, l, c.len-count.ensures, c.loop-from-test.false)))

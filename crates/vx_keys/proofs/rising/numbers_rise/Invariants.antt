@@ -1,7 +1,9 @@
-use Rattle.std.proofs.Common.{◌≡◌, ◌-◌, get_or, []}
-use Rattle.vx_keys.specs.Columns.{number_key}
+use Rattle.std.proofs.Common.{◌≤◌, ◌+◌, ◌-◌, length}
 use Rattle.vx_keys.proofs.RiseFacts.{KeysRise}
 use Rattle.vx_keys.proofs.rising.numbers_rise.Given as goal
 
-abbrev pub invariant-loop-i : goal.invariant-loop-i
-invariant-loop-i l = record { last : number_key l.last ≡ get_or l.numbers (l.i - 1) []; rises : KeysRise l.numbers l.i }
+abbrev pub invariant-loop-from : goal.invariant-loop-from
+invariant-loop-from l = record { within : l.from ≤ length l.numbers - 1; rises : KeysRise l.numbers (l.from + 1) }
+
+abbrev pub decreases-loop-from : goal.decreases-loop-from
+decreases-loop-from l = l.count - l.from

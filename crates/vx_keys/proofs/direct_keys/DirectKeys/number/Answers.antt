@@ -1,44 +1,112 @@
-use Rattle.std.proofs.Common.{◌≡◌, ◌<◌, ◌++◌, ◌∷◌, [], ℕ, List, arith, rules, sym, ap, ◌∙◌, subst, length, w64, ℤ, pos, ◌≤◌, ◌-◌, ◌^◌}
-use Rattle.std.specs.Prelude.{position, IfOk, IfSome, IfNone}
+use Rattle.std.proofs.Common.{◌≡◌, ◌≢◌, ◌<◌, ◌+◌, ◌-◌, ◌++◌, ◌∷◌, [], ℕ, ℤ, List, refl, arith, rules, sym, ap, ◌∙◌, subst, map, length, get_or, set, pos, w64}
+use Rattle.std.specs.Prelude.{position, IfOk, IfSome, Some, None}
+use Rattle.std.specs.List.{position_or_len}
 use Rattle.std.proofs.lemmas.Int.{to_z-of_z}
+use Rattle.std.proofs.lemmas.List.{get_or_read, map-append, length-map}
 use Rattle.std.proofs.lemmas.List.Quantifiers.{position-Some}
+use Rattle.indexmap.specs.IndexSet.{insert_key}
 use Rattle.vx_values.specs.Values.{Row, row_eq}
 use Rattle.vx_keys.specs.Columns.{number_key}
+use Rattle.vx_keys.specs.Direct.{direct_key, IsTable}
+use Rattle.vx_keys.proofs.DirectFacts.{beyond-number, zero-number, marked-number, next-table}
 use Rattle.vx_keys.proofs.NumberFacts.{found-number, missing-number, key-known, key-new}
 use Rattle.vx_keys.proofs.direct_keys.DirectKeys.number.Goals as goal
 
-pub returns-in-Some-clause-number : goal.returns-in-Some-clause-number
-returns-in-Some-clause-number c =
-    let keys = c.args.self.now in
-    let same = ap (λ z. position (row_eq (number_key z)) keys) (sym (to_z-of_z w64 c.args.key (search rules))) in
-    found-number (row_eq (number_key c.args.key)) keys c.in-Some.number (same ∙ sym c.in-Some.ensures)
+-- what a table says of a number, by the keys that it stands for
+module _ (items table : List ℕ) (keys : List Row) (is : IsTable items table) (shown : map direct_key items ≡ keys) where
+  beyond : (z w : ℤ) → w ≡ z → ((v : ℕ) → v < length table → w ≢ pos v) → position (row_eq (number_key z)) keys ≡ None
+  beyond z w same none = ap (position (row_eq (number_key z))) (sym shown) ∙ beyond-number items table is z (λ v near e. none v near (same ∙ e))
 
-pub returns-in-Some-clause-keys : goal.returns-in-Some-clause-keys
-returns-in-Some-clause-keys c =
+  marked : (z : ℤ) (v n : ℕ) → z ≡ pos v → get_or table v 0 ≡ n + 1 → position (row_eq (number_key z)) keys ≡ Some n
+  marked z v n at mark = ap (position (row_eq (number_key z))) (sym shown) ∙ marked-number items table is z v n at mark
+
+  unmarked : (z : ℤ) (v : ℕ) → z ≡ pos v → get_or table v 0 ≡ 0 → length keys ≡ position_or_len (row_eq (number_key z)) keys
+  unmarked z v at none = missing-number (row_eq (number_key z)) keys (ap (position (row_eq (number_key z))) (sym shown) ∙ zero-number items table is z v at none)
+
+  -- the keys with one more
+  with-new : (z : ℤ) (v : ℕ) (more : List ℕ) → z ≡ pos v → get_or table v 0 ≡ 0 → more ≡ items ++ v ∷ [] → map direct_key more ≡ insert_key row_eq keys (number_key z)
+  with-new z v more at none is-more =
+      let past = unmarked z v at none in
+      ap (map direct_key) is-more
+      ∙ (map-append direct_key items (v ∷ [])
+      ∙ ((λ j. shown j ++ number_key (sym at j) ∷ []) ∙ sym (key-new keys (number_key z) (omega (arith, past)))))
+
+pub add-requires : goal.add-requires
+add-requires c =
+    let t = c.self.inside in
+    beyond t.keys.items t.table.items c.args.self.now c.self.invariant c.self.view_is _ _ refl (λ v near. c.in_default.ensures.none v (omega (arith, near, c.len.ensures, t.table.ok.0)))
+
+pub returns-in_default-clause-number : goal.returns-in_default-clause-number
+returns-in_default-clause-number c =
+    let t = c.self.inside in
+    let key = c.args.key in
     let keys = c.args.self.now in
-    let n = c.in-Some.number in
-    let same = ap (λ z. position (row_eq (number_key z)) keys) (sym (to_z-of_z w64 c.args.key (search rules))) in
-    let at = same ∙ sym c.in-Some.ensures in
-    let number-is = found-number (row_eq (number_key c.args.key)) keys n at in
-    let near : n < length keys = (position-Some (row_eq (number_key c.args.key)) keys n [] at).0 in
-    sym (key-known keys (number_key c.args.key) (subst (λ m. m < length keys) number-is near))
+    let at = beyond t.keys.items t.table.items keys c.self.invariant c.self.view_is key _ (to_z-of_z w64 key (search rules)) (λ v near. c.in_default.ensures.none v (omega (arith, near, c.len.ensures, t.table.ok.0))) in
+    let none = missing-number (row_eq (number_key key)) keys at in
+    subst (λ (m : ℕ). IfOk c.add.result (λ o. IfSome o (λ n. n ≡ m))) none c.add.ensures.number
+
+pub returns-in_default-clause-keys : goal.returns-in_default-clause-keys
+returns-in_default-clause-keys c =
+    let t = c.self.inside in
+    let key = c.args.key in
+    let keys = c.args.self.now in
+    let at = beyond t.keys.items t.table.items keys c.self.invariant c.self.view_is key _ (to_z-of_z w64 key (search rules)) (λ v near. c.in_default.ensures.none v (omega (arith, near, c.len.ensures, t.table.ok.0))) in
+    let none = missing-number (row_eq (number_key key)) keys at in
+    let is = ap (λ z. keys ++ number_key z ∷ []) (to_z-of_z w64 key (search rules)) ∙ sym (key-new keys (number_key key) (omega (arith, none))) in
+    subst (λ (ks : List Row). IfOk c.add.result (λ o. IfSome o (λ _. c.add.new.self ≡ ks))) is c.add.ensures.keys
+
+pub returns-then-mark-ne0-clause-number : goal.returns-then-mark-ne0-clause-number
+returns-then-mark-ne0-clause-number c =
+    let t = c.self.inside in
+    let key = c.args.key in
+    let v = c.in-Some.place in
+    let n = c.index.result.now - 1 in
+    let at : key ≡ pos v = sym (to_z-of_z w64 key (search rules)) ∙ c.in-Some.ensures.there in
+    let mark : get_or t.table.items v 0 ≡ n + 1 = let read = get_or_read t.table.items v c.index.result.now (omega (arith, c.in-Some.ensures.within, c.len.ensures, t.table.ok.0)) c.index.ensures 0 in let some = c.if-mark-ne0.true in omega (arith, read, some) in
+    found-number (row_eq (number_key key)) c.args.self.now n (marked t.keys.items t.table.items c.args.self.now c.self.invariant c.self.view_is key v n at mark)
+
+pub returns-then-mark-ne0-clause-keys : goal.returns-then-mark-ne0-clause-keys
+returns-then-mark-ne0-clause-keys c =
+    let t = c.self.inside in
+    let key = c.args.key in
+    let keys = c.args.self.now in
+    let v = c.in-Some.place in
+    let n = c.index.result.now - 1 in
+    let at : key ≡ pos v = sym (to_z-of_z w64 key (search rules)) ∙ c.in-Some.ensures.there in
+    let mark : get_or t.table.items v 0 ≡ n + 1 = let read = get_or_read t.table.items v c.index.result.now (omega (arith, c.in-Some.ensures.within, c.len.ensures, t.table.ok.0)) c.index.ensures 0 in let some = c.if-mark-ne0.true in omega (arith, read, some) in
+    let there = marked t.keys.items t.table.items keys c.self.invariant c.self.view_is key v n at mark in
+    let near : n < length keys = (position-Some (row_eq (number_key key)) keys n [] there).0 in
+    sym (key-known keys (number_key key) (subst (λ m. m < length keys) (found-number (row_eq (number_key key)) keys n there) near))
+
+pub invariant_of-self-2 : goal.invariant_of-self-2
+invariant_of-self-2 c =
+    let t = c.self.inside in
+    let v = c.in-Some.place in
+    let near : v < length t.table.items = omega (arith, c.in-Some.ensures.within, c.len.ensures, t.table.ok.0) in
+    let zero : get_or t.table.items v 0 ≡ 0 = let read = get_or_read t.table.items v c.index.result.now near c.index.ensures 0 in sym read ∙ c.if-mark-ne0.false in
+    let count : c.len-number.result ≡ length t.keys.items = omega (arith, c.len-number.ensures, t.keys.ok.0) in
+    subst (λ (n : ℕ). IsTable c.push.new.self.items (set t.table.items v (n + 1))) (sym count)
+    (subst (λ (ks : List ℕ). IsTable ks (set t.table.items v (length t.keys.items + 1))) (sym c.in_ok-push.ensures.items) (next-table t.keys.items t.table.items c.self.invariant v near zero))
 
 pub returns-clause-number : goal.returns-clause-number
 returns-clause-number c =
+    let t = c.self.inside in
+    let key = c.args.key in
     let keys = c.args.self.now in
-    let same = ap (λ z. position (row_eq (number_key z)) keys) (sym (to_z-of_z w64 c.args.key (search rules))) in
-    let none = missing-number (row_eq (number_key c.args.key)) keys (same ∙ sym c.in_default.ensures) in
-    subst (λ (m : ℕ). IfOk c.add.result (λ o. IfSome o (λ n. n ≡ m))) none c.add.ensures.number
+    let v = c.in-Some.place in
+    let at : key ≡ pos v = sym (to_z-of_z w64 key (search rules)) ∙ c.in-Some.ensures.there in
+    let near : v < length t.table.items = omega (arith, c.in-Some.ensures.within, c.len.ensures, t.table.ok.0) in
+    let zero : get_or t.table.items v 0 ≡ 0 = let read = get_or_read t.table.items v c.index.result.now near c.index.ensures 0 in sym read ∙ c.if-mark-ne0.false in
+    let long : length t.keys.items ≡ length keys = sym (length-map t.keys.items direct_key) ∙ ap length c.self.view_is in
+    let count : c.len-number.result ≡ length keys = omega (arith, c.len-number.ensures, t.keys.ok.0, long) in
+    count ∙ unmarked t.keys.items t.table.items keys c.self.invariant c.self.view_is key v at zero
 
 pub returns-clause-keys : goal.returns-clause-keys
 returns-clause-keys c =
-    let keys = c.args.self.now in
-    let key = number_key c.args.key in
-    let same = ap (λ z. position (row_eq (number_key z)) keys) (sym (to_z-of_z w64 c.args.key (search rules))) in
-    let none = missing-number (row_eq key) keys (same ∙ sym c.in_default.ensures) in
-    let is = ap (λ z. keys ++ number_key z ∷ []) (to_z-of_z w64 c.args.key (search rules)) ∙ sym (key-new keys key (omega (arith, none))) in
-    subst (λ (ks : List Row). IfOk c.add.result (λ o. IfSome o (λ _. c.add.new.self ≡ ks))) is c.add.ensures.keys
-
-pub returns-clause-small : goal.returns-clause-small
-returns-clause-small c =
-    subst (λ (z : ℤ). IfOk c.add.result (λ o. IfNone o ((v : ℕ) → v < 65536 → z ≡ pos v → 2 ^ 32 - 1 ≤ length c.args.self.now))) (to_z-of_z w64 c.args.key (search rules)) c.add.ensures.small
+    let t = c.self.inside in
+    let key = c.args.key in
+    let v = c.in-Some.place in
+    let at : key ≡ pos v = sym (to_z-of_z w64 key (search rules)) ∙ c.in-Some.ensures.there in
+    let near : v < length t.table.items = omega (arith, c.in-Some.ensures.within, c.len.ensures, t.table.ok.0) in
+    let zero : get_or t.table.items v 0 ≡ 0 = let read = get_or_read t.table.items v c.index.result.now near c.index.ensures 0 in sym read ∙ c.if-mark-ne0.false in
+    with-new t.keys.items t.table.items c.args.self.now c.self.invariant c.self.view_is key v c.push.new.self.items at zero c.in_ok-push.ensures.items

@@ -1,0 +1,9 @@
+use Rattle.std.proofs.Common.{◌≡◌, take, length}
+use Rattle.vx_rows.specs.Numbers.{numbers_at}
+use Rattle.vx_keys.proofs.columns.widen_at.Given as goal
+
+abbrev pub invariant-loop-i : goal.invariant-loop-i
+invariant-loop-i l = record {
+  len : length l.numbers ≡ length l.fn.numbers;
+  numbers : take l.i l.numbers ≡ numbers_at l.narrow (take l.i l.positions);
+}
