@@ -1,3 +1,5 @@
+pub mod BlockFacts
+pub mod ByteFacts
 pub mod Arrivals
 pub mod InOrderFacts
 pub mod Cuts
@@ -5,5 +7,6 @@ pub mod LaneLists
 pub mod Turns
 pub mod PlaceFacts
 pub mod RangeFacts
+pub mod RemainderFacts
 pub mod KindDeals
 pub mod Senders

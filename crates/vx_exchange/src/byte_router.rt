@@ -1,12 +1,13 @@
 //! The program's hash router.
 
-ghost use Rattle.std.specs.Prelude.{◌≡◌, ◌≤◌, ◌*◌, ◌∷◌, [], length, take, map, flat_map};
+ghost use Rattle.std.specs.Prelude.{◌≡◌, ◌≤◌, ◌*◌, ◌++◌, ◌∷◌, [], length, take, map, flat_map};
 ghost use Rattle.std.specs.List.{fold};
 ghost use Rattle.std.specs.Int.{w64, to_be_bytes, cast_unsigned};
 ghost use Rattle.std.proofs.lemmas.Nat.{mod_below};
 ghost use Rattle.vx_values.specs.ValueView.{val_of};
 ghost use Rattle.vx_exchange.specs.ByteRouter.{hash_byte, value_bytes, key_hash, byte_route};
 
+use crate::remainder::Remainders;
 use vx_plan_nodes::Router;
 use vx_rows::Value;
 
@@ -68,6 +69,19 @@ fn hash_number(start: u32, n: i64) -> u32
     hash_four(half, b[4], b[5], b[6], b[7])
 }
 
+// The same, where `zeros` is the hash after four bytes that are 0: with these begins a number from 0 to 2^32 - 1, as most keys are.
+fn hash_small(start: u32, zeros: u32, n: i64) -> u32
+    requires { zeros ≡ fold hash_byte start (0 ∷ 0 ∷ 0 ∷ 0 ∷ []) }
+    ensures { result ≡ fold hash_byte start (to_be_bytes w64 (cast_unsigned w64 n)) }
+{
+    let bits = n.cast_unsigned();
+    if bits > 0xffff_ffff {
+        return hash_number(start, n);
+    }
+    let b = (bits as u32).to_be_bytes();
+    hash_four(zeros, b[0], b[1], b[2], b[3])
+}
+
 fn hash_value(start: u32, value: &Value) -> u32
     ensures { result ≡ fold hash_byte start (value_bytes (val_of value.now)) }
 {
@@ -87,13 +101,29 @@ fn hash_key(start: u32, key: &[Value]) -> u32
     hash
 }
 
+// What the hash of each key of a route begins with.
+fn hash_name(name: &str) -> u32
+    ensures { result ≡ fold hash_byte 7 (name.now ++ 0 ∷ []) }
+{
+    hash_byte(hash_bytes(7, name.as_bytes()), 0)
+}
+
 impl Router for ByteRouter {
     ghost route_of = { λ _. byte_route };
 
     ghost in_range = { λ r name key n some. mod_below (key_hash name key) n some };
 
     fn route(&self, name: &str, key: &[Value], n: u32) -> u32 {
-        let start = hash_byte(hash_bytes(7, name.as_bytes()), 0);
-        hash_key(start, key) % n
+        hash_key(hash_name(name), key) % n
+    }
+
+    // What is the same for all keys is found once: the hash of the name, and what divides by n.
+    fn route_numbers(&self, name: &str, keys: &[i64], n: u32, consumers: &mut [u32]) {
+        let start = hash_byte(hash_name(name), 1);
+        let zeros = hash_four(start, 0, 0, 0, 0);
+        let remainders = Remainders::by(n);
+        for i in 0..keys.len() {
+            consumers[i] = remainders.of(hash_small(start, zeros, keys[i]));
+        }
     }
 }

@@ -10,6 +10,7 @@ pub mod laws;
 mod places;
 mod ranges;
 mod receiver;
+mod remainder;
 mod routes;
 mod sender;
 

@@ -11,8 +11,11 @@ use crate::ranges::Ranges;
 use std::alloc::{AllocError, Global};
 use vx_keys::IntColumn;
 use vx_plan_nodes::Router;
-use vx_rows::{Cell, Value};
+use vx_rows::{Cell, Value, put_key};
 use vx_views::{Chunk, Rows};
+
+// How many numbers are routed at once.
+const BLOCK: usize = 64;
 
 /// How the consumer of a row follows from its values in some columns.
 #[derive(Drop)]
@@ -23,7 +26,7 @@ pub enum KeyRoute {
     Range(usize, Ranges, usize),
 }
 
-// Makes a key the values of a row in some columns.
+// Makes a key the values of a row in some columns, whatever stood there. Texts of the key keep their capacity, so mostly nothing is allocated.
 fn set_key(
     alloc: Global,
     key: &mut Vec<Value>,
@@ -35,15 +38,15 @@ fn set_key(
     requires columns { AreColumns (length chunk.now.types) columns.now }
     ensures { OnOk result (map val_of key.new.items ≡ pick columns.now (row chunk.now i)) }
 {
-    key.clear();
+    key.truncate(columns.len());
     for c in 0..columns.len() {
-        let value = chunk.cell(i, columns[c]).to_value(alloc)?;
-        key.push(value)?;
+        put_key(alloc, key, c, chunk.cell(i, columns[c]))?;
     }
     Ok(())
 }
 
-// Adds the consumers of rows by the hash route of this name, where the key of each row is one number.
+// Adds the consumers of rows by the hash route of this name, where the key of each row is one number. So many numbers are read and routed
+// at once, and not one by one, since a router may do that faster.
 fn push_of_numbers<R: Router>(
     router: &R,
     name: &str,
@@ -54,9 +57,16 @@ fn push_of_numbers<R: Router>(
     requires some { 0 < n }
     ensures { OnOk result (found.new.items ≡ found.old.items ++ map (λ key. R.route_of router.now name.now key n) keys.now) }
 {
-    for i in 0..keys.len() {
-        let key = [Value::Int(keys.get(i))];
-        found.push(router.route(name, &key, n))?;
+    let count = keys.len();
+    let mut numbers = [0; BLOCK];
+    let mut consumers = [0; BLOCK];
+    let mut from = 0;
+    while from < count {
+        let block = BLOCK.min(count - from);
+        keys.read(from, &mut numbers[..block]);
+        router.route_numbers(name, &numbers[..block], n, &mut consumers[..block]);
+        found.extend_from_slice(&consumers[..block])?;
+        from += block;
     }
     Ok(())
 }

@@ -18,7 +18,7 @@ pub use numbers::{Numbers, NumbersRef};
 pub use open::OpenRows;
 pub use row::Row;
 pub use sorting::compare_on;
-pub use table::Table;
+pub use table::{Table, put_key};
 pub use texts::Texts;
 pub use vx_bytes::{
     Broken, ByteIn, ByteOut, MemoryIn, MemoryOut, ReadFault, Real, read_all, write_all,

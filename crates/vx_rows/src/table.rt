@@ -17,8 +17,13 @@ use std::marker::Model;
 use std::mem;
 use vx_values::{Cell, ColType, Value};
 
-// Makes value j of a key that of a cell.
-fn put_key(alloc: Global, key: &mut Vec<Value>, j: usize, cell: Cell<'_>) -> Result<(), AllocError>
+/// Makes value j of a key that of a cell, or adds it behind all others. A text of the key keeps its capacity. After an `Err` the key is arbitrary.
+pub fn put_key(
+    alloc: Global,
+    key: &mut Vec<Value>,
+    j: usize,
+    cell: Cell<'_>,
+) -> Result<(), AllocError>
     requires { j ≤ length key.old.items }
     ensures ok { OnOk result (take (j + 1) (map val_of key.new.items) ≡ take j (map val_of key.old.items) ++ cell_val cell.entry ∷ []) }
     ensures long { OnOk result (j < length key.new.items) }

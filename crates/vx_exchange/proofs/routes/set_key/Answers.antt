@@ -1,17 +1,26 @@
-use Rattle.std.proofs.Common.{ℕ, ◌++◌, ◌∷◌, [], ap, sym, ◌∙◌, map, take}
-use Rattle.std.proofs.lemmas.List.{map-append, map_more}
-use Rattle.vx_values.specs.Values.{Val, value_at}
-use Rattle.vx_values.specs.ValueView.{val_of}
+use Rattle.std.proofs.Common.{◌≡◌, ◌<◌, ◌++◌, [], ◌∷◌, arith, ap, ◌∙◌, sym, length, take, get_or}
+use Rattle.std.proofs.lemmas.List.{length-map, take_more, get_or_default}
+use Rattle.vx_values.specs.Values.{pick, value_at}
+use Rattle.vx_values.specs.ValueView.{cell_val}
 use Rattle.vx_rows.specs.View.{row}
+use Rattle.vx_rows.proofs.Fill.{map_at}
 use Rattle.vx_exchange.proofs.routes.set_key.Goals as goal
 
 pub loop-c-preserved : goal.loop-c-preserved
 loop-c-preserved c =
-    let f : ℕ → Val = λ k. value_at (row c.args.chunk.now c.args.i) k in
     let cols = c.args.columns.now in
-    let k = c.loop-c.c in
-    let v = c.in_ok-value.value in
-    ap (map val_of) c.in_ok-push.ensures.items
-    ∙ (map-append val_of c.loop-c.key.items (v ∷ [])
-    ∙ (ap (λ xs. xs ++ val_of v ∷ []) c.loop-c.invariant
-    ∙ (ap (λ x. map f (take k cols) ++ x ∷ []) (c.in_ok-value.ensures.same ∙ c.cell.ensures) ∙ sym (map_more f cols k 0 c.loop-c-test.true))))
+    let r = row c.args.chunk.now c.args.i in
+    let j = c.loop-c.c in
+    let k = get_or cols j 0 in
+    let v = cell_val c.cell.result in
+    let near : j < length cols = c.loop-c-test.true in
+    let n : length (pick cols r) ≡ length cols = length-map cols (λ x. value_at r x) in
+    let e = map_at (λ x. value_at r x) cols j k v near (get_or_default cols j 0 k near) in
+    let long = c.in_ok-put_key.ensures.long in
+    let bound = c.in_ok-put_key.ensures.bound in
+    let was = c.loop-c.invariant.bound in
+    record {
+      long = omega (arith, long);
+      bound = omega (arith, bound, was, near);
+      values = c.in_ok-put_key.ensures.ok ∙ (ap (λ l. l ++ v ∷ []) c.loop-c.invariant.values ∙ (ap (λ x. take j (pick cols r) ++ x ∷ []) (c.cell.ensures ∙ sym e) ∙ sym (take_more (pick cols r) j v (omega (arith, n, near)))));
+    }

@@ -1,0 +1,10 @@
+use Rattle.std.proofs.Common.{◌≡◌, ◌∷◌, [], map, take, length}
+use Rattle.vx_values.specs.Values.{num}
+use Rattle.vx_exchange.specs.ByteRouter.{byte_route}
+use Rattle.vx_exchange.proofs.byte_router.ByteRouterRouter.route_numbers.Given as goal
+
+abbrev pub invariant-loop-i : goal.invariant-loop-i
+invariant-loop-i l = record {
+  len : length l.consumers ≡ length l.keys;
+  done : take l.i l.consumers ≡ map (λ k. byte_route l.name (num k ∷ []) l.n) (take l.i l.keys);
+}
