@@ -15,15 +15,24 @@ pub fn turn(next: u32, behind: usize, n: u32) -> u32
     ((next as usize + behind % n as usize) % n as usize) as u32
 }
 
+// The consumer among n that is behind another one, where the first one follows the last.
+fn next_turn(consumer: u32, n: u32) -> u32
+    requires { consumer < n }
+    ensures { result ≡ (consumer + 1) % n }
+{
+    if consumer + 1 == n { 0 } else { consumer + 1 }
+}
+
 /// The consumers of so many rows in turn, from the consumer `next` among n on.
 pub fn turns(alloc: Global, next: u32, count: usize, n: u32) -> Result<Vec<u32>, AllocError>
     requires { next < n }
     ensures { IfOk result (λ v. v.items ≡ each_below count (λ i. (next + i) % n)) }
 {
     let mut found = Vec::with_capacity(alloc, count)?;
-    for i in 0..count {
-        let consumer = turn(next, i, n);
+    let mut consumer = next;
+    for _i in 0..count {
         found.push(consumer)?;
+        consumer = next_turn(consumer, n);
     }
     Ok(found)
 }
