@@ -1,6 +1,7 @@
 -- A merge whose inputs come in batches, as its calls see it.
 use Rattle.std.specs.Bool.{IsTrue}
-use Rattle.std.proofs.Common.{◌≡◌, ◌↔◌, ℕ, zero, suc, ◌+◌, ◌-◌, ◌<◌, ◌≤◌, Bool, true, false, cond, List, [], ◌∷◌, ◌++◌, length, take, drop, flat_map, map, ◌&&◌, slice_range, refl, sym, ap, ◌∙◌, subst, arith, true≢false, append_assoc, is_le, is_lt, Ordering, Less}
+use Rattle.std.proofs.Common.{◌≡◌, ◌↔◌, ℕ, zero, suc, ◌+◌, ◌-◌, ◌<◌, ◌≤◌, Bool, true, false, cond, List, [], ◌∷◌, ◌++◌, length, take, drop, flat_map, map, ◌&&◌, slice_range, refl, sym, ap, ◌∙◌, subst, arith, true≢false, append_assoc, append-nil, inl, inr, is_le, is_lt, Ordering, Less}
+use Rattle.std.proofs.lemmas.Bool.{cases_lt}
 use Rattle.std.proofs.lemmas.List.{take_all, take-append-drop}
 use Rattle.std.proofs.Math.Seq.{take-append_seam, drop-append_seam}
 use Rattle.vx_values.specs.Values.{Row, row_cmp, pick}
@@ -12,7 +13,7 @@ use Rattle.vx_merging.specs.declared.merging.MergeFault.{MergeFault}
 use Rattle.vx_merging.specs.declared.merging.MergeFault.TheVariants.{Falls, NoMemory}
 use Rattle.vx_merging.proofs.MergeFacts.{right-falls}
 use Rattle.vx_merging.proofs.RiseFacts.{last-take, rise-back, rise-neighbours, fall-back}
-use Rattle.vx_merging.proofs.MergeTurns.{next-merged, run-moved, run-closed, advanced-end, advanced, advanced-falls, left-taken, left-taken-falls, right-taken, right-dropped}
+use Rattle.vx_merging.proofs.MergeTurns.{next-merged, run-moved, run-closed, run-ended, advanced-end, advanced, left-taken, left-taken-falls, right-taken, right-dropped}
 
 take-none : {X : Type 0} (n : ℕ) → take {A = X} n [] ≡ []
 take-none zero = refl
@@ -102,23 +103,59 @@ module _ (s now : MergeView) (e : s ≡ now) (earlier passed ys : List Row) (h :
     order-is : o ≡ row_cmp (pick s.lefts (row s.left s.next)) (pick s.lefts (row s.left (s.next + 1)))
     order-is = is ∙ (λ i. row_cmp (pick (a i) (row s.left s.next)) (pick (b i) (row s.left (s.next + 1))))
 
-    pub call-advanced : is_le o ≡ true → HoldsRun now passed → (start : ℕ) → start ≡ cond (is_lt o) s.end s.start
+    -- the left rows at hand rise, and so the next key is not below this one
+    pub call-advanced : sorted s.lefts s.left.rows ≡ true → HoldsRun now passed → (start : ℕ) → start ≡ cond (is_lt o) s.end s.start
         → IsMerged (record s { next = s.next + 1; start = start }) earlier passed (ys ++ run_rows now)
-    call-advanced rise run start st =
+    call-advanced rises run start st =
+        let after : s.next + 1 ≡ suc s.next = omega arith in
+        let rise : is_le o ≡ true =
+        ap is_le order-is
+        ∙ (ap (λ n. is_le (row_cmp (pick s.lefts (row s.left s.next)) (pick s.lefts (row s.left n)))) after ∙ rise-neighbours s.lefts s.left.rows s.next rises (omega (arith, more))) in
         subst (λ (zs : List Row). IsMerged (record s { next = s.next + 1; start = start }) earlier passed (ys ++ zs)) (ap run_rows e)
         (advanced s earlier passed ys own near more o order-is rise (subst (λ (m : MergeView). HoldsRun m passed) (sym e) run) start st)
 
-    pub call-falls : is_le o ≡ false → sorted now.lefts (earlier ++ now.left.rows) ≡ false
-    call-falls fall = subst (λ (m : MergeView). sorted m.lefts (earlier ++ m.left.rows) ≡ false) e (advanced-falls s earlier passed ys own near more o order-is fall)
-
-  -- the left rows at hand rise, and the run is empty
+  -- and the run is empty
   pub call-advanced-empty : s.next + 1 < length s.left.rows → sorted s.lefts s.left.rows ≡ true → s.start ≡ s.end → HoldsRun now passed
       → IsMerged (record s { next = s.next + 1 }) earlier passed (ys ++ run_rows now)
   call-advanced-empty more rises empty run =
-      let order = λ (n : ℕ). row_cmp (pick s.lefts (row s.left s.next)) (pick s.lefts (row s.left n)) in
-      let after : s.next + 1 ≡ suc s.next = omega arith in
-      let rise : is_le (order (s.next + 1)) ≡ true = ap (λ n. is_le (order n)) after ∙ rise-neighbours s.lefts s.left.rows s.next rises (omega (arith, more)) in
-      call-advanced more s.lefts s.lefts refl refl (order (s.next + 1)) refl rise run s.start (stays-empty (is_lt (order (s.next + 1))) s.start s.end empty)
+      let order = row_cmp (pick s.lefts (row s.left s.next)) (pick s.lefts (row s.left (s.next + 1))) in
+      call-advanced more s.lefts s.lefts refl refl order refl rises run s.start (stays-empty (is_lt order) s.start s.end empty)
+
+-- the left rows at hand rise, the right input has ended, and no right row is left for the next left row
+pub record HasNoMatch (s : MergeView) : Type 0 where
+  pub rises : sorted s.lefts s.left.rows ≡ true
+  pub ended : s.right_ended ≡ true
+  pub past : length s.right.rows ≤ s.start
+  pub order : s.start ≤ s.end
+  pub within : s.end ≤ length s.right.rows
+
+module _ (earlier passed ys : List Row) where
+  -- the next left row is joined with none
+  skipped-one : (s : MergeView) → HasNoMatch s → IsMerged s earlier passed ys → s.next < length s.left.rows → IsMerged (record s { next = s.next + 1 }) earlier passed ys
+  skipped-one s none h near =
+      let few : s.end - s.start ≡ 0 = omega arith in
+      let empty : s.start ≡ s.end = omega arith in
+      let past : length s.right.rows ≤ s.end = omega arith in
+      let rows : ys ++ run_rows s ≡ ys = ap (λ n. ys ++ map (λ r. row s.left s.next ++ r) (take n (drop s.start s.right.rows))) few ∙ append-nil ys in
+      let run : HoldsRun s passed = run-ended s earlier passed ys h near none.ended past in
+      let behind : IsMerged (record s { next = s.next + 1 }) earlier passed (ys ++ run_rows s) = elim (cases_lt (s.next + 1) (length s.left.rows)) [
+        | inl l ↦ call-advanced-empty s s refl earlier passed ys h near l none.rises empty run
+        | inr g ↦ advanced-end s earlier passed ys h near g run
+      ] in
+      subst (IsMerged (record s { next = s.next + 1 }) earlier passed) rows behind
+
+  -- nor are those behind it
+  skipped : (n to : ℕ) (s : MergeView) → HasNoMatch s → IsMerged s earlier passed ys → s.next + n ≡ to → to ≤ length s.left.rows → IsMerged (record s { next = to }) earlier passed ys
+  skipped zero to s none h e l = let at : s.next ≡ to = omega (arith, e) in subst (λ (k : ℕ). IsMerged (record s { next = k }) earlier passed ys) at h
+  skipped (suc n) to s none h e l =
+      let behind = record s { next = s.next + 1 } in
+      let still : HasNoMatch behind = record { rises = none.rises; ended = none.ended; past = none.past; order = none.order; within = none.within } in
+      skipped n to behind still (skipped-one s none h (omega (arith, e, l))) (omega (arith, e)) l
+
+  pub call-skipped : (s now : MergeView) → s ≡ now → IsMerged now earlier passed ys → HasNoMatch s → s.next ≤ length s.left.rows → (to : ℕ) → to ≡ length s.left.rows
+      → IsMerged (record s { next = to }) earlier passed ys
+  call-skipped s now e h none few to is =
+      skipped (to - s.next) to s none (subst (λ (m : MergeView). IsMerged m earlier passed ys) (sym e) h) (omega (arith, few, is)) (omega (arith, is))
 
 module _ (s now : MergeView) (e : s ≡ now) (ls rs ys : List Row) (h : HasJoined now ls rs ys) where
   held : HasJoined s ls rs ys

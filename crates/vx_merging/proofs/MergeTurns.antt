@@ -60,6 +60,10 @@ module _ (s : MergeView) (earlier passed ys : List Row) (h : IsMerged s earlier 
     run-closed start end m above shut =
         λ more ends rise. holds-run s.lefts s.rights (joined_rows s earlier) passed s.right.rows (row s.left s.next) start end m above more (λ past. ends (shut past)) rise
 
+    -- and so it is where it stands, where the right input has ended and no row is behind it
+    pub run-ended : s.right_ended ≡ true → length s.right.rows ≤ s.end → HoldsRun s passed
+    run-ended ended past = run-closed s.start s.end next-merged (λ n. absurd (omega (arith, n, past))) (λ _. ended)
+
     -- what was returned, with the next left row's rows
     holds-next : HoldsRun s passed → (more : List Row) → (s.right_ended ≡ true → more ≡ []) → sorted s.rights ((passed ++ s.right.rows) ++ more) ≡ true
         → ys ++ run_rows s ≡ flat_map (matched s.lefts s.rights ((passed ++ s.right.rows) ++ more)) (earlier ++ take (s.next + 1) s.left.rows)
@@ -107,16 +111,6 @@ module _ (s : MergeView) (earlier passed ys : List Row) (h : IsMerged s earlier 
             merged = λ _. subst P one-more (subst Q (sym at) (left-next s.lefts s.rights (begun s earlier) passed (passed ++ take s.end s.right.rows) s.start s.end (h.merged (λ _. near)) (row s.left (s.next + 1)) o last-is rise));
             holds = holds-next run;
           }
-
-      pub advanced-falls : is_le o ≡ false → sorted s.lefts (earlier ++ s.left.rows) ≡ false
-      advanced-falls fall =
-          let front : sorted s.lefts (begun s earlier ++ row s.left (s.next + 1) ∷ []) ≡ false =
-          left-fall s.lefts s.rights (begun s earlier) passed (passed ++ take s.end s.right.rows) s.start s.end (h.merged (λ _. near)) (row s.left (s.next + 1)) o last-is fall in
-          let whole : (begun s earlier ++ row s.left (s.next + 1) ∷ []) ++ drop ((s.next + 1) + 1) s.left.rows ≡ earlier ++ s.left.rows =
-          ap (λ xs. xs ++ drop ((s.next + 1) + 1) s.left.rows) one-more
-          ∙ (append_assoc earlier (take ((s.next + 1) + 1) s.left.rows) (drop ((s.next + 1) + 1) s.left.rows)
-          ∙ ap (λ xs. earlier ++ xs) (take-append-drop ((s.next + 1) + 1) s.left.rows)) in
-          ap (sorted s.lefts) (sym whole) ∙ fall-front s.lefts (begun s earlier ++ row s.left (s.next + 1) ∷ []) (drop ((s.next + 1) + 1) s.left.rows) front
 
   -- a further batch of the left input
   module _ (done : s.next ≡ length s.left.rows) (runs : s.left_ended ≡ false) (batch : RowsView) (some : 0 < length batch.rows)

@@ -231,7 +231,9 @@ impl Merge {
             left: Vec::new(self.alloc),
             right: Vec::new(self.alloc),
         };
-        while self.join_next(&mut pairs, most)? {}
+        while self.join_next(&mut pairs, most)? {
+            self.skip_unmatched();
+        }
         Ok(pair_rows(self.alloc, &self.left, &self.right, &pairs)?)
     }
 
@@ -257,7 +259,7 @@ impl Merge {
             return Ok(false);
         }
         add_pairs(pairs, self.next, self.start, self.end)?;
-        self.advance()?;
+        self.advance();
         Ok(true)
     }
 
@@ -288,25 +290,39 @@ impl Merge {
     }
 
     // Goes on behind the next left row, which was joined with its run.
-    fn advance(&mut self) -> Result<(), MergeFault>
+    fn advance(&mut self)
         requires { self.old.next < length self.old.left.rows }
         ensures inputs { HasSameInputs self.old self.new }
-        ensures next { OnOk result (self.new.next ≡ self.old.next + 1) }
-        ensures joined { OnOk result ((earlier passed ys : List Cells) → IsMerged self.old earlier passed ys → HoldsRun self.old passed → IsMerged self.new earlier passed (ys ++ run_rows self.old)) }
-        ensures err { IfErr result (λ e. (earlier passed ys : List Cells) → IsMerged self.old earlier passed ys → MergeBlame e (sorted self.old.lefts (earlier ++ self.old.left.rows))) }
+        ensures next { self.new.next ≡ self.old.next + 1 }
+        ensures joined { (earlier passed ys : List Cells) → IsMerged self.old earlier passed ys → HoldsRun self.old passed → IsMerged self.new earlier passed (ys ++ run_rows self.old) }
     {
         let count = self.left.len();
         let next = self.next + 1;
         // no key follows at hand, or the run is empty and stays so: the next key is not below this one
         if next >= count || self.start >= self.end {
             self.next = next;
-            return Ok(());
+            return;
         }
         let columns = &self.left_columns;
         let order = compare_rows(&self.left, self.next, columns, &self.left, next, columns);
-        self.start = run_start(order, self.start, self.end)?;
+        // a larger key has a new run, behind this one
+        if order.is_lt() {
+            self.start = self.end;
+        }
         self.next = next;
-        Ok(())
+    }
+
+    // Goes on behind all left rows at hand, where the right input has ended and all its rows are below the next left row:
+    // as left rows rise, none of them has a match.
+    fn skip_unmatched(&mut self)
+        ensures inputs { HasSameInputs self.old self.new }
+        ensures next { self.old.next ≤ self.new.next }
+        ensures all { self.old.right_ended ≡ true → length self.old.right.rows ≤ self.old.start → self.new.next ≡ length self.old.left.rows }
+        ensures joined { (earlier passed ys : List Cells) → IsMerged self.old earlier passed ys → IsMerged self.new earlier passed ys }
+    {
+        if self.right_ended && self.start >= self.right.len() {
+            self.next = self.left.len();
+        }
     }
 
     // Compares the key of the last left row at hand with that of the first of a batch. Where no left row came yet, that

@@ -24,17 +24,19 @@ loop-pairs-preserved c =
     let inv = c.loop-pairs.invariant in
     let next = c.in_ok-join_next.ensures in
     let was = c.loop-pairs.self in
+    let on = c.skip_unmatched.ensures in
     record {
-      inputs = same-inputs now was c.join_next.new.self inv.inputs next.inputs;
+      inputs = same-inputs now c.join_next.new.self c.skip_unmatched.new.self (same-inputs now was c.join_next.new.self inv.inputs next.inputs) on.inputs;
       many = next.many;
       left = subst (λ (n : ℕ). ArePositions n c.join_next.new.pairs.left.items) (ap (λ t. length t.rows) inv.inputs.left) next.left;
       right = subst (λ (n : ℕ). ArePositions n c.join_next.new.pairs.right.items) (ap (λ t. length t.rows) inv.inputs.right) next.right;
       joined = λ earlier passed ys h.
           let pairs = c.loop-pairs.pairs in
+          let more = c.join_next.new.pairs in
           let before : IsMerged was earlier passed (ys ++ rows_at was.left was.right pairs.left.items pairs.right.items) =
           subst (IsMerged was earlier passed) (λ i. ys ++ rows_at (sym inv.inputs.left i) (sym inv.inputs.right i) pairs.left.items pairs.right.items) (inv.joined earlier passed ys h) in
-          subst (IsMerged c.join_next.new.self earlier passed) (λ i. ys ++ rows_at (inv.inputs.left i) (inv.inputs.right i) c.join_next.new.pairs.left.items c.join_next.new.pairs.right.items)
-          (next.joined earlier passed ys before);
+          on.joined earlier passed _
+          (subst (IsMerged c.join_next.new.self earlier passed) (λ i. ys ++ rows_at (inv.inputs.left i) (inv.inputs.right i) more.left.items more.right.items) (next.joined earlier passed ys before));
     }
 
 pub returns-clause-joined : goal.returns-clause-joined
