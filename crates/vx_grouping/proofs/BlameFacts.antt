@@ -1,18 +1,20 @@
 -- Why a grouping stops, from why its parts do.
-use Rattle.std.proofs.Common.{◌≡◌, ℕ, suc, ◌<◌, ◌≤◌, Bool, true, false, cond, List, [], ◌∷◌, ◌++◌, filter, take, drop, length, get_or, sym, ap, ◌∙◌, subst, arith}
+use Rattle.std.proofs.Common.{◌≡◌, ℕ, suc, ◌<◌, ◌≤◌, Bool, true, false, cond, List, [], ◌∷◌, ◌++◌, map, filter, take, drop, length, get_or, set, length-set, sym, ap, ◌∙◌, subst, arith}
 use Rattle.std.proofs.lemmas.Grind.{flat_map-append}
-use Rattle.std.proofs.lemmas.List.{take-append-drop, get_or-map, length-map, length-take, length-append}
+use Rattle.std.proofs.lemmas.List.{take-append-drop, get_or-map, length-map, length-take, length-append, get_or-set_same}
 use Rattle.vx_values.specs.Values.{Row, row_eq, pick}
 use Rattle.vx_rows.specs.View.{RowsView}
 use Rattle.vx_views.specs.Chunks.{all_rows}
+use Rattle.vx_keys.specs.Numbers.{numbers_of}
 use Rattle.vx_plan_nodes.specs.Plan.{Aggregate}
 use Rattle.vx_plan_nodes.specs.Serial.{group_keys, of_key}
 use Rattle.vx_grouping.specs.declared.fault.GroupFault.{GroupFault}
 use Rattle.vx_grouping.specs.declared.fault.GroupFault.TheVariants.{Overflow, TooMany, NoMemory}
 use Rattle.vx_grouping.specs.Groups.{Held, no_held, counted, column_of, held_at, Groups, HasTaken}
+use Rattle.vx_grouping.specs.Takes.{advance_all}
 use Rattle.vx_grouping.specs.GroupFaults.{GroupBlame, TakeBlame, EndBlame, StepBlame, CellsBlame}
 use Rattle.vx_grouping.proofs.AggregateFacts.{counted-most}
-use Rattle.vx_grouping.proofs.GroupFacts.{of_rows}
+use Rattle.vx_grouping.proofs.GroupFacts.{of_rows, one-front}
 use Rattle.vx_grouping.proofs.EndFacts.{finished-none}
 
 -- each counts no more than there are rows
@@ -46,6 +48,16 @@ step-blame TooMany a by xs rows i now n near was inside h =
     omega (arith, near, h, most, long, front, whole)
 step-blame NoMemory a by xs rows i now n near was inside h = tt
 
+-- the same where all rows have one key
+pub one-blame : (e : GroupFault) (a : Aggregate) (by : List ℕ) (xs rows : List Row) (numbers : List ℕ) (old : List Held) (n : ℕ) → numbers ≡ numbers_of (group_keys by xs) (map (pick by) rows)
+    → old ≡ column_of by xs a → n < length old → ((k : ℕ) → k < length rows → get_or numbers k 0 ≡ n)
+    → (i : ℕ) → i < length rows → StepBlame e (advance_all (take i rows) (get_or old n no_held)).taken → TakeBlame e (xs ++ rows)
+one-blame e a by xs rows numbers old n are was inside same i near blame =
+    let h = advance_all (take i rows) (get_or old n no_held) in
+    let long = length-set old n h in
+    step-blame e a by xs rows i (set old n h) n near (one-front a by xs rows numbers old n are was inside same i (omega (arith, near))) (omega (arith, inside, long))
+    (subst (λ (g : Held). StepBlame e g.taken) (sym (get_or-set_same old n h no_held inside)) blame)
+
 -- nothing is to be shown where memory ran out
 pub no-memory-blame : (e : GroupFault) (xs : List Row) → e ≡ NoMemory → TakeBlame e xs
 no-memory-blame e xs is = subst (λ x. TakeBlame x xs) (sym is) tt
@@ -55,6 +67,13 @@ pub end-blame : (e : GroupFault) (g : Groups) (xs : List Row) (n : ℕ) → HasT
 end-blame Overflow g xs n t l h = finished-none g xs n t l h
 end-blame TooMany g xs n t l h = h
 end-blame NoMemory g xs n t l h = tt
+
+-- the first rows were not taken
+pub front-blame : (e : GroupFault) (xs rows : List Row) (n : ℕ) → TakeBlame e (xs ++ take n rows) → TakeBlame e (xs ++ rows)
+front-blame Overflow xs rows n h = h
+front-blame TooMany xs rows n h =
+    let long = length-append xs (take n rows) in let front = length-take n rows in let whole = length-append xs rows in omega (arith, h, long, front, whole)
+front-blame NoMemory xs rows n h = tt
 
 -- some chunks were not taken
 pub chunks-blame : (e : GroupFault) (xs : List Row) (ts : List RowsView) (i : ℕ) → TakeBlame e (xs ++ all_rows (take i ts)) → TakeBlame e (xs ++ all_rows ts)

@@ -1,15 +1,18 @@
 -- An aggregate of all groups when one more row comes.
-use Rattle.std.proofs.Common.{◌≡◌, ℕ, zero, suc, ◌+◌, ◌<◌, ◌≤◌, List, [], ◌∷◌, ◌++◌, map, length, take, get_or, set, true, false, append_assoc, sym, ap, ◌∙◌, arith}
+use Rattle.std.proofs.Common.{◌≡◌, ℕ, zero, suc, ◌+◌, ◌<◌, ◌≤◌, List, [], ◌∷◌, ◌++◌, map, length, take, get_or, set, true, false, append_assoc, refl, sym, ap, ◌∙◌, subst, take_all, length-set, add-one, arith}
+use Rattle.std.specs.Prelude.{slice_range}
 use Rattle.std.specs.List.{list_any, position_or_len}
-use Rattle.std.proofs.lemmas.List.{length-map, map-append, get_or-map, take-map, take_more}
+use Rattle.std.proofs.lemmas.List.{length-map, map-append, get_or-map, take-map, take_more, append-nil, set-get_or, get_or-set_same, set-set}
 use Rattle.indexmap.specs.IndexSet.{insert_all}
 use Rattle.vx_values.specs.Values.{Row, row_eq, pick}
+use Rattle.vx_views.proofs.Whole.{take-range}
 use Rattle.vx_plan_nodes.specs.Plan.{Aggregate}
 use Rattle.vx_plan_nodes.specs.Serial.{group_keys, of_key, firsts}
 use Rattle.vx_keys.specs.Numbers.{numbers_of}
 use Rattle.vx_keys.proofs.KeyFacts.{row_eq-refl, eq-swap, any-firsts, firsts-distinct, keyed-any, keyed-present, keyed-own, keyed-new, keyed-none, of_key-other, of_key-more, of_key-none, of_key-some}
 use Rattle.vx_keys.proofs.NumberFacts.{number-at, firsts-all}
 use Rattle.vx_grouping.specs.Groups.{Held, held_of, no_held, advance, column_of}
+use Rattle.vx_grouping.specs.Takes.{advance_all}
 use Rattle.vx_grouping.proofs.AggregateFacts.{held-push}
 
 -- an aggregate of the rows of a key
@@ -51,6 +54,11 @@ by-order (suc n) (suc m) f g = by-order n m (λ l. f (omega (arith, l))) (λ l. 
 pub one-more : (xs rows : List Row) (i : ℕ) → i < length rows → xs ++ take (i + 1) rows ≡ (xs ++ take i rows) ++ get_or rows i [] ∷ []
 one-more xs rows i near = ap (λ l. xs ++ l) (take_more rows i [] near) ∙ sym (append_assoc xs (take i rows) (get_or rows i [] ∷ []))
 
+-- the same for a block of rows
+pub block-more : (xs rows block : List Row) (from to : ℕ) → from ≤ to → to ≤ length rows → block ≡ slice_range rows from to → xs ++ take to rows ≡ (xs ++ take from rows) ++ block
+block-more xs rows block from to le within is =
+    ap (λ l. xs ++ l) (take-range rows from to le within) ∙ (sym (append_assoc xs (take from rows) (slice_range rows from to)) ∙ ap (λ l. (xs ++ take from rows) ++ l) (sym is))
+
 -- the keys when rows come behind others
 pub keys-more : (by : List ℕ) (xs rows : List Row) → insert_all row_eq (group_keys by xs) (map (pick by) rows) ≡ group_keys by (xs ++ rows)
 keys-more by xs rows = firsts-all (map (pick by) xs) (map (pick by) rows) ∙ ap firsts (sym (map-append (pick by) xs rows))
@@ -83,3 +91,39 @@ takes-next a by xs rows numbers i now next near are was known fresh =
     (λ below. known below ∙ (ap (λ l. set l n (advance y (get_or l n no_held))) was ∙ sym (column-known by a ys y n at (omega (arith, below, long)))))
     (λ past. fresh past ∙ (ap (λ l. l ++ held_of a (y ∷ []) ∷ []) was ∙ sym (column-new by a ys y (omega (arith, past, long, at)))))
     ∙ ap (λ l. column_of by l a) (sym (one-more xs rows i near))
+
+-- one row more, behind those that an aggregate took
+advance-behind : (rows : List Row) (y : Row) (h : Held) → advance_all (rows ++ y ∷ []) h ≡ advance y (advance_all rows h)
+advance-behind [] y h = refl
+advance-behind (x ∷ rows) y h = advance-behind rows y (advance x h)
+
+pub advance-more : (rows : List Row) (i : ℕ) (h : Held) → i < length rows → advance_all (take (i + 1) rows) h ≡ advance (get_or rows i []) (advance_all (take i rows) h)
+advance-more rows i h near = ap (λ l. advance_all l h) (take_more rows i [] near) ∙ advance-behind (take i rows) (get_or rows i []) h
+
+-- the first i rows, which have one key, came to its entry
+pub one-front : (a : Aggregate) (by : List ℕ) (xs rows : List Row) (numbers : List ℕ) (old : List Held) (n : ℕ) → numbers ≡ numbers_of (group_keys by xs) (map (pick by) rows)
+    → old ≡ column_of by xs a → n < length old → ((k : ℕ) → k < length rows → get_or numbers k 0 ≡ n)
+    → (i : ℕ) → i ≤ length rows → set old n (advance_all (take i rows) (get_or old n no_held)) ≡ column_of by (xs ++ take i rows) a
+one-front a by xs rows numbers old n are was inside same zero l = set-get_or old n no_held ∙ (was ∙ ap (λ ys. column_of by ys a) (sym (append-nil xs)))
+one-front a by xs rows numbers old n are was inside same (suc i) l =
+    let near : i < length rows = omega (arith, l) in
+    let h = advance_all (take i rows) (get_or old n no_held) in
+    let y = get_or rows i [] in
+    let now = set old n h in
+    let next = set old n (advance_all (take (i + 1) rows) (get_or old n no_held)) in
+    let long : length now ≡ length old = length-set old n h in
+    let step : next ≡ set now n (advance y (get_or now n no_held)) =
+    ap (set old n) (advance-more rows i (get_or old n no_held) near ∙ ap (advance y) (sym (get_or-set_same old n h no_held inside))) ∙ sym (set-set old n h (advance y (get_or now n no_held))) in
+    let all : next ≡ column_of by (xs ++ take (i + 1) rows) a =
+    takes-next a by xs rows numbers i now next near are (one-front a by xs rows numbers old n are was inside same i (omega (arith, l)))
+    (λ below. subst (λ m. next ≡ set now m (advance y (get_or now m no_held))) (sym (same i near)) step)
+    (λ past. let own = same i near in absurd (omega (arith, past, own, inside, long))) in
+    subst (λ m. set old n (advance_all (take m rows) (get_or old n no_held)) ≡ column_of by (xs ++ take m rows) a) (add-one i) all
+
+-- all rows came to it
+pub one-takes : (a : Aggregate) (by : List ℕ) (xs rows : List Row) (numbers : List ℕ) (old : List Held) (n : ℕ) → numbers ≡ numbers_of (group_keys by xs) (map (pick by) rows)
+    → old ≡ column_of by xs a → n < length old → ((k : ℕ) → k < length rows → get_or numbers k 0 ≡ n)
+    → set old n (advance_all rows (get_or old n no_held)) ≡ column_of by (xs ++ rows) a
+one-takes a by xs rows numbers old n are was inside same =
+    let whole : take (length rows) rows ≡ rows = take_all (length rows) rows (omega arith) in
+    subst (λ ys. set old n (advance_all ys (get_or old n no_held)) ≡ column_of by (xs ++ ys) a) whole (one-front a by xs rows numbers old n are was inside same (length rows) (omega arith))

@@ -1,10 +1,10 @@
 //! How an aggregate takes the rows of a chunk.
 
-ghost use Rattle.std.specs.Prelude.{◌≡◌, ◌<◌, ◌≤◌, ◌++◌, ◌∷◌, [], length, map, set, slice_index_or, OnOk, IfErr};
+ghost use Rattle.std.specs.Prelude.{◌≡◌, ◌<◌, ◌≤◌, ◌++◌, ◌∷◌, [], ℕ, length, map, set, take, slice_index, slice_index_or, OnOk, IfErr, IfSome};
 ghost use Rattle.vx_grouping.specs.declared.fault.GroupFault.TheVariants.{NoMemory};
 ghost use Rattle.vx_grouping.specs.Groups.{held_of, no_held, advance};
 ghost use Rattle.vx_grouping.specs.GroupFaults.{StepBlame};
-ghost use Rattle.vx_grouping.specs.Takes.{entry_held, Takes, TakesNot};
+ghost use Rattle.vx_grouping.specs.Takes.{entry_held, advance_all, Takes, TakesNot};
 
 use crate::fault::GroupFault;
 use std::alloc::AllocError;
@@ -66,9 +66,9 @@ fn add_row<F: Fold>(
     Ok(())
 }
 
-/// Adds the rows of a chunk, each to the entry of its key's number, or as the first of the next entry. After an `Err` some entries
-/// may have some of them.
-pub(crate) fn add_rows<F: Fold>(
+// Adds the rows of a chunk, each to the entry of its number, or as the first of the next entry. After an `Err` some entries may have
+// some of them.
+fn add_each<F: Fold>(
     fold: &F,
     entries: &mut Vec<F::Entry>,
     numbers: &[usize],
@@ -81,4 +81,53 @@ pub(crate) fn add_rows<F: Fold>(
         add_row(fold, entries, numbers[i], i)?;
     }
     Ok(())
+}
+
+// Adds all rows of a chunk, of which there are `count`, to one entry. After an `Err` the entry is arbitrary.
+#[inline(always)]
+fn add_to_one<F: Fold>(fold: &F, entry: &mut F::Entry, count: usize) -> Result<(), GroupFault>
+    requires { count ≡ length (F.rows fold.now) }
+    ensures taken { OnOk result (entry_held (F.aggregate fold.now) F.value F.taken entry.new ≡ advance_all (F.rows fold.now) (entry_held (F.aggregate fold.now) F.value F.taken entry.old)) }
+    ensures err { IfErr result (λ e. (i : ℕ) × ((i < length (F.rows fold.now)) × StepBlame e (advance_all (take i (F.rows fold.now)) (entry_held (F.aggregate fold.now) F.value F.taken entry.old)).taken)) }
+{
+    for i in 0..count {
+        fold.add(entry, i)?;
+    }
+    Ok(())
+}
+
+// The number that each of these is, if they are all the same.
+fn one_number(numbers: &[usize]) -> Option<usize>
+    ensures { IfSome result (λ n. (k : ℕ) → k < length numbers.now → slice_index numbers.now k ≡ n) }
+{
+    if numbers.is_empty() {
+        return None;
+    }
+    let first = numbers[0];
+    for number in numbers {
+        if *number != first {
+            return None;
+        }
+    }
+    Some(first)
+}
+
+/// Adds the rows of a chunk, each to the entry of its key's number, or as the first of the next entry. After an `Err` some entries
+/// may have some of them.
+pub(crate) fn add_rows<F: Fold>(
+    fold: &F,
+    entries: &mut Vec<F::Entry>,
+    numbers: &[usize],
+) -> Result<(), GroupFault>
+    requires { length numbers.now ≡ length (F.rows fold.now) }
+    ensures taken { OnOk result (Takes (F.aggregate fold.now) (F.rows fold.now) numbers.now (map (entry_held (F.aggregate fold.now) F.value F.taken) entries.old.items) (map (entry_held (F.aggregate fold.now) F.value F.taken) entries.new.items)) }
+    ensures err { IfErr result (λ e. TakesNot e (F.aggregate fold.now) (F.rows fold.now) numbers.now (map (entry_held (F.aggregate fold.now) F.value F.taken) entries.old.items)) }
+{
+    // rows of one key find their entry once
+    if let Some(number) = one_number(numbers) {
+        if number < entries.len() {
+            return add_to_one(fold, &mut entries[number], numbers.len());
+        }
+    }
+    add_each(fold, entries, numbers)
 }

@@ -1,6 +1,6 @@
 //! Grouping: rows by key, each key with the aggregates of its rows.
 
-ghost use Rattle.std.specs.Prelude.{◌≡◌, ◌<◌, ◌++◌, [], ℕ, List, All, length, map, OnOk, IfOk, IfErr, IfSome, Some, Err, true};
+ghost use Rattle.std.specs.Prelude.{◌≡◌, ◌<◌, ◌≤◌, ◌++◌, [], ℕ, List, All, length, map, OnOk, IfOk, IfErr, IfSome, Some, Err, true};
 ghost use Rattle.std.specs.List.{list_all};
 ghost use Rattle.vx_values.specs.Values.{Row as Cells, pick};
 ghost use Rattle.vx_values.specs.ValueView.{cell_val};
@@ -25,6 +25,9 @@ use vx_plan_nodes::Aggregate;
 use vx_rows::{Cell, ColType, Table};
 use vx_seeds::KeySeed;
 use vx_views::{Chunk, Rows};
+
+// How many rows are numbered at once: few enough that their numbers stay in the cache until each aggregate has read them.
+const BLOCK: usize = 4_096;
 
 /// Calls: `new add* finish`, and no `finish` after an `Err`.
 ///
@@ -174,6 +177,24 @@ impl Grouping {
         })
     }
 
+    // Adds the rows of a block behind those that were added, and lists the numbers of their keys. After an `Err` some
+    // aggregates may have some of them.
+    fn add_block(&mut self, block: &Chunk, numbers: &mut Vec<usize>) -> Result<(), GroupFault>
+        requires types { block.now.types ≡ self.old.types }
+        ensures types { self.new.types ≡ self.old.types }
+        ensures by { self.new.by ≡ self.old.by }
+        ensures aggregates { self.new.aggregates ≡ self.old.aggregates }
+        ensures failed { self.new.failed ≡ self.old.failed }
+        ensures taken { OnOk result ((xs : List Cells) → HasTaken self.old xs → HasTaken self.new (xs ++ block.now.rows)) }
+        ensures err { IfErr result (λ e. (xs : List Cells) → HasTaken self.old xs → TakeBlame e (xs ++ block.now.rows)) }
+    {
+        // each row fits the types
+        let _types = block.types();
+        numbers.clear();
+        self.keys.number_chunk(block, &self.by, numbers)?;
+        add_columns(self.alloc, &mut self.columns, block, numbers.as_slice())
+    }
+
     // Adds the rows of a chunk behind those that were added. After an `Err` some aggregates may have some of them.
     fn add_chunk(&mut self, chunk: &Chunk) -> Result<(), GroupFault>
         requires types { chunk.now.types ≡ self.old.types }
@@ -184,11 +205,19 @@ impl Grouping {
         ensures taken { OnOk result ((xs : List Cells) → HasTaken self.old xs → HasTaken self.new (xs ++ chunk.now.rows)) }
         ensures err { IfErr result (λ e. (xs : List Cells) → HasTaken self.old xs → TakeBlame e (xs ++ chunk.now.rows)) }
     {
-        // each row fits the types
-        let _types = chunk.types();
-        let mut numbers = Vec::with_capacity(self.alloc, chunk.len())?;
-        self.keys.number_chunk(chunk, &self.by, &mut numbers)?;
-        add_columns(self.alloc, &mut self.columns, chunk, numbers.as_slice())
+        let count = chunk.len();
+        let mut numbers = Vec::with_capacity(self.alloc, count.min(BLOCK))?;
+        if count <= BLOCK {
+            return self.add_block(chunk, &mut numbers);
+        }
+        let mut from = 0;
+        while from < count {
+            let most = BLOCK.min(count - from);
+            let block = chunk.slice(self.alloc, from, from + most)?;
+            self.add_block(&block, &mut numbers)?;
+            from += most;
+        }
+        Ok(())
     }
 
     // Adds the rows of chunks behind those that were added. After an `Err` some aggregates may have some of them.

@@ -1,38 +1,51 @@
-use Rattle.std.proofs.Common.{◌≡◌, ◌<◌, ◌++◌, arith, length, map, get_or}
-use Rattle.std.proofs.lemmas.List.{length-map}
-use Rattle.vx_keys.proofs.ErrorFacts.{reported}
-use Rattle.vx_grouping.specs.Takes.{entry_held, TakesNot}
-use Rattle.vx_grouping.proofs.GroupFacts.{takes-next, by-order}
-use Rattle.vx_grouping.proofs.BlameFacts.{step-blame, no-memory-blame}
+use Rattle.std.proofs.Common.{◌≡◌, ◌<◌, ◌∙◌, ℕ, arith, length, map, set, take, get_or, sym, ap, subst}
+use Rattle.std.proofs.lemmas.List.{map-set, get_or-map, length-map}
+use Rattle.std.proofs.lemmas.Result.{on_ok_weaker}
+use Rattle.vx_keys.proofs.ErrorFacts.{if-err}
+use Rattle.vx_grouping.specs.declared.fault.GroupFault.{GroupFault}
+use Rattle.vx_grouping.specs.Groups.{Held, no_held}
+use Rattle.vx_grouping.specs.GroupFaults.{StepBlame}
+use Rattle.vx_grouping.specs.Takes.{entry_held, advance_all, TakesNot}
+use Rattle.vx_grouping.proofs.GroupFacts.{one-takes}
+use Rattle.vx_grouping.proofs.BlameFacts.{one-blame}
 use Rattle.vx_grouping.proofs.fold.add_rows.Goals as goal
 
-pub loop-i-preserved : goal.loop-i-preserved
-loop-i-preserved g c = λ by xs are was.
+pub returns-then-number-len-clause-taken : goal.returns-then-number-len-clause-taken
+returns-then-number-len-clause-taken g c =
     let a = g.F.Fold.aggregate c.args.fold.now in
     let held = entry_held a g.F.Fold.value g.F.Fold.taken in
     let rows = g.F.Fold.rows c.args.fold.now in
-    let i = c.loop-i.i in
-    let test = c.loop-i-test.true in
-    let near : i < length rows = omega (arith, test, c.requires) in
-    let now = map held c.loop-i.entries.items in
-    let long : length now ≡ length c.loop-i.entries.items = length-map c.loop-i.entries.items held in
-    takes-next a by xs rows c.args.numbers.now i now (map held c.add_row.new.entries.items) near are (c.loop-i.invariant by xs are was)
-    (λ below. c.in_ok-add_row.ensures.known (omega (arith, below, long)))
-    (λ past. c.in_ok-add_row.ensures.new (omega (arith, past, long)))
+    let numbers = c.args.numbers.now in
+    let es = c.args.entries.now.items in
+    let n = c.in-Some.number in
+    let test = c.if-number-len.true in
+    let below : n < length es = omega (arith, test, c.len.ensures) in
+    let long : length (map held es) ≡ length es = length-map es held in
+    let same : (k : ℕ) → k < length rows → get_or numbers k 0 ≡ n = λ k near. c.in-Some.ensures k (omega (arith, near, c.requires)) in
+    let start : held c.index_mut.result.now ≡ get_or (map held es) n no_held = ap held c.index_mut.ensures.value ∙ sym (get_or-map held es n c.index_mut.result.now no_held below) in
+    on_ok_weaker c.add_to_one.result
+    (λ took by xs are was.
+    map-set held es n c.add_to_one.new.entry
+    ∙ (ap (set (map held es) n) (took ∙ ap (advance_all rows) start) ∙ one-takes a by xs rows numbers (map held es) n are was (omega (arith, below, long)) same))
+    c.add_to_one.ensures.taken
 
-pub returns-in_err-add_row-clause-err : goal.returns-in_err-add_row-clause-err
-returns-in_err-add_row-clause-err g c =
+pub returns-then-number-len-clause-err : goal.returns-then-number-len-clause-err
+returns-then-number-len-clause-err g c =
     let a = g.F.Fold.aggregate c.args.fold.now in
     let held = entry_held a g.F.Fold.value g.F.Fold.taken in
     let rows = g.F.Fold.rows c.args.fold.now in
-    let i = c.loop-i.i in
-    let test = c.loop-i-test.true in
-    let near : i < length rows = omega (arith, test, c.requires) in
-    let number = get_or c.args.numbers.now i 0 in
-    let now = map held c.loop-i.entries.items in
-    let long : length now ≡ length c.loop-i.entries.items = length-map c.loop-i.entries.items held in
-    let e = c.in_err-add_row.field-0.0 in
-    reported c.from_residual.result e (λ x. TakesNot x a rows c.args.numbers.now (map held c.args.entries.now.items)) c.from_residual.ensures.1
-    (λ by xs are was. by-order number (length now)
-    (λ below. step-blame e a by xs rows i now number near (c.loop-i.invariant by xs are was) below (c.in_err-add_row.ensures.full (omega (arith, below, long))))
-    (λ past. no-memory-blame e (xs ++ rows) (c.in_err-add_row.ensures.out (omega (arith, past, long)))))
+    let numbers = c.args.numbers.now in
+    let es = c.args.entries.now.items in
+    let n = c.in-Some.number in
+    let test = c.if-number-len.true in
+    let below : n < length es = omega (arith, test, c.len.ensures) in
+    let long : length (map held es) ≡ length es = length-map es held in
+    let same : (k : ℕ) → k < length rows → get_or numbers k 0 ≡ n = λ k near. c.in-Some.ensures k (omega (arith, near, c.requires)) in
+    let start : held c.index_mut.result.now ≡ get_or (map held es) n no_held = ap held c.index_mut.ensures.value ∙ sym (get_or-map held es n c.index_mut.result.now no_held below) in
+    if-err c.add_to_one.result
+    (λ (e : GroupFault). (i : ℕ) × ((i < length rows) × StepBlame e (advance_all (take i rows) (held c.index_mut.result.now)).taken))
+    (λ (e : GroupFault). TakesNot e a rows numbers (map held es))
+    (λ e blame by xs are was.
+    one-blame e a by xs rows numbers (map held es) n are was (omega (arith, below, long)) same blame.0 blame.1.0
+    (subst (λ (h : Held). StepBlame e (advance_all (take blame.0 rows) h).taken) start blame.1.1))
+    c.add_to_one.ensures.err

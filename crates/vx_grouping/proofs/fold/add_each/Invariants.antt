@@ -4,7 +4,7 @@ use Rattle.vx_keys.specs.Numbers.{numbers_of}
 use Rattle.vx_plan_nodes.specs.Serial.{group_keys}
 use Rattle.vx_grouping.specs.Groups.{column_of}
 use Rattle.vx_grouping.specs.Takes.{entry_held}
-use Rattle.vx_grouping.proofs.fold.add_rows.Given as goal
+use Rattle.vx_grouping.proofs.fold.add_each.Given as goal
 
 -- the first i rows were added
 abbrev pub invariant-loop-i : goal.invariant-loop-i
