@@ -5,7 +5,7 @@ use std::alloc::{AllocError, Global};
 use std::process::Abort;
 use std::test::Fail;
 use vx_rows::ColType;
-use vx_views::{Chunk, NumberTest, PositionsRef};
+use vx_views::{Chunk, NumberTest, Position, PositionsRef};
 
 // What is made of the rows so far.
 #[derive(Clone, Copy)]
@@ -272,7 +272,8 @@ fn number(chunk: &Chunk, k: usize) -> Option<i64> {
     let (numbers, seen) = chunk.numbers(0)?;
     let position = match seen {
         PositionsRef::Range(from, _) => from.checked_add(k)?,
-        PositionsRef::Listed(positions) => *positions.get(k)?,
+        PositionsRef::Narrow(positions) => positions.get(k)?.place(),
+        PositionsRef::Wide(positions) => *positions.get(k)?,
     };
     if position >= numbers.len() {
         return None;

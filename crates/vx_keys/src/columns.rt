@@ -1,15 +1,15 @@
 //! Columns whose values are keys by themselves, read where they lie.
 
-ghost use Rattle.std.specs.Prelude.{◌≡◌, ◌+◌, ◌^◌, ◌<◌, ◌≤◌, [], pos, length, map, slice_index, slice_index_or, slice_range, IfSome};
+ghost use Rattle.std.specs.Prelude.{◌≡◌, ◌+◌, ◌^◌, ◌<◌, ◌≤◌, [], pos, length, map, slice_index, slice_index_or, slice_range, All, IfSome};
 ghost use Rattle.vx_values.specs.Values.{pick};
-ghost use Rattle.vx_rows.specs.View.{AreColumns, ArePositions};
-ghost use Rattle.vx_rows.specs.Numbers.{seen_numbers, numbers_at};
+ghost use Rattle.vx_rows.specs.View.{AreColumns};
+ghost use Rattle.vx_rows.specs.Numbers.{seen_numbers};
 ghost use Rattle.vx_views.specs.Seen.{seen_positions};
 ghost use Rattle.vx_keys.specs.Columns.{number_key, text_key};
 
 use std::marker::Model;
 use vx_rows::{NumbersRef, Texts};
-use vx_views::{Chunk, PositionsRef};
+use vx_views::{Chunk, Position, PositionsRef};
 
 // How many positions there are.
 fn count_of(at: PositionsRef<'_>) -> usize
@@ -17,19 +17,21 @@ fn count_of(at: PositionsRef<'_>) -> usize
 {
     match at {
         PositionsRef::Range(_, count) => count,
-        PositionsRef::Listed(positions) => positions.len(),
+        PositionsRef::Narrow(positions) => positions.len(),
+        PositionsRef::Wide(positions) => positions.len(),
     }
 }
 
 // Position k.
-fn position(at: PositionsRef<'_>, k: usize) -> usize
+fn position_at(at: PositionsRef<'_>, k: usize) -> usize
     requires there { k < length (seen_positions at) }
     requires fits { slice_index (seen_positions at) k < 2 ^ 64 }
     ensures { result ≡ slice_index (seen_positions at.entry) k }
 {
     match at {
         PositionsRef::Range(from, _) => from + k,
-        PositionsRef::Listed(positions) => positions[k],
+        PositionsRef::Narrow(positions) => positions[k] as usize,
+        PositionsRef::Wide(positions) => positions[k],
     }
 }
 
@@ -66,26 +68,26 @@ fn widen(narrow: &[i32], numbers: &mut [i64])
 }
 
 // Puts the numbers of 32 bits at some positions into a slice of as many.
-fn widen_at(narrow: &[i32], positions: &[usize], numbers: &mut [i64])
+fn widen_at<P: Position>(narrow: &[i32], positions: &[P], numbers: &mut [i64])
     requires long { length positions.now ≡ length numbers.old }
-    requires there { ArePositions (length narrow.now) positions.now }
+    requires there { All (λ p. P.place p < length narrow.now) positions.now }
     ensures len { length numbers.new ≡ length numbers.old }
-    ensures numbers { numbers.new ≡ numbers_at narrow.now positions.now }
+    ensures numbers { numbers.new ≡ map (λ p. slice_index_or narrow.now (P.place p) (pos 0)) positions.now }
 {
     for i in 0..numbers.len() {
-        numbers[i] = i64::from(narrow[positions[i]]);
+        numbers[i] = i64::from(narrow[positions[i].place()]);
     }
 }
 
 // Puts the numbers of 64 bits at some positions into a slice of as many.
-fn copy_at(wide: &[i64], positions: &[usize], numbers: &mut [i64])
+fn copy_at<P: Position>(wide: &[i64], positions: &[P], numbers: &mut [i64])
     requires long { length positions.now ≡ length numbers.old }
-    requires there { ArePositions (length wide.now) positions.now }
+    requires there { All (λ p. P.place p < length wide.now) positions.now }
     ensures len { length numbers.new ≡ length numbers.old }
-    ensures numbers { numbers.new ≡ numbers_at wide.now positions.now }
+    ensures numbers { numbers.new ≡ map (λ p. slice_index_or wide.now (P.place p) (pos 0)) positions.now }
 {
     for i in 0..numbers.len() {
-        numbers[i] = wide[positions[i]];
+        numbers[i] = wide[positions[i].place()];
     }
 }
 
@@ -103,11 +105,11 @@ fn read_from(all: NumbersRef<'_>, first: usize, numbers: &mut [i64])
 }
 
 // Puts the numbers at the positions from one on into a slice.
-fn read_at(all: NumbersRef<'_>, positions: &[usize], from: usize, numbers: &mut [i64])
+fn read_at<P: Position>(all: NumbersRef<'_>, positions: &[P], from: usize, numbers: &mut [i64])
     requires within { from + length numbers.old ≤ length positions.now }
-    requires there { ArePositions (length (seen_numbers all)) positions.now }
+    requires there { All (λ p. P.place p < length (seen_numbers all)) positions.now }
     ensures len { length numbers.new ≡ length numbers.old }
-    ensures numbers { numbers.new ≡ numbers_at (seen_numbers all.entry) (slice_range positions.now from (from + length numbers.old)) }
+    ensures numbers { numbers.new ≡ map (λ p. slice_index_or (seen_numbers all.entry) (P.place p) (pos 0)) (slice_range positions.now from (from + length numbers.old)) }
 {
     let part = &positions[from..from + numbers.len()];
     match all {
@@ -170,7 +172,7 @@ impl<'a> IntColumn<'a> {
     {
         // no position is above this
         let _count = number_count(self.numbers);
-        number_at(self.numbers, position(self.at, k))
+        number_at(self.numbers, position_at(self.at, k))
     }
 
     /// Puts the numbers of the rows from one on into a slice, one behind the other.
@@ -187,7 +189,8 @@ impl<'a> IntColumn<'a> {
         let _count = number_count(self.numbers);
         match self.at {
             PositionsRef::Range(first, _) => read_from(self.numbers, first + from, numbers),
-            PositionsRef::Listed(positions) => read_at(self.numbers, positions, from, numbers),
+            PositionsRef::Narrow(positions) => read_at(self.numbers, positions, from, numbers),
+            PositionsRef::Wide(positions) => read_at(self.numbers, positions, from, numbers),
         }
     }
 }
@@ -242,6 +245,6 @@ impl<'a> TextColumn<'a> {
     {
         // no position is above this
         let _count = self.texts.len();
-        self.texts.get(position(self.at, k))
+        self.texts.get(position_at(self.at, k))
     }
 }

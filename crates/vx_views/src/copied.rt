@@ -16,7 +16,7 @@ impl Chunk {
         ensures err { OnErr result (rows.new.rows ≡ rows.old.rows) }
     {
         if let Some(part) = self.only_part() {
-            return part.copy_onto(rows);
+            return part.copy_onto(alloc, rows);
         }
         let copied = self.copied(alloc)?;
         rows.append_range(&copied, 0, copied.len())

@@ -32,6 +32,6 @@ mod table_rows;
 pub use chunk::Chunk;
 pub use laws::places_are_a_filter;
 pub use places::{NumberTest, push_place_if};
-pub use positions::{Positions, PositionsRef, are_counted_from};
+pub use positions::{Position, Positions, PositionsRef, are_counted_from};
 pub use rows::Rows;
 pub use table_rows::TableRows;

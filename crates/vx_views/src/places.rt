@@ -1,12 +1,12 @@
 //! The places of numbers that pass a test.
 
-ghost use Rattle.std.specs.Prelude.{◌≡◌, ℕ, ◌+◌, ◌<◌, ◌++◌, ◌∷◌, [], cond, pos, length, map, slice_index_or, IfOk, OnOk};
+ghost use Rattle.std.specs.Prelude.{◌≡◌, ℕ, ◌+◌, ◌<◌, ◌++◌, ◌∷◌, [], cond, pos, length, map, slice_index_or, All, IfOk, OnOk};
 ghost use Rattle.vx_values.specs.Values.{num};
-ghost use Rattle.vx_rows.specs.View.{ArePositions};
 ghost use Rattle.vx_rows.specs.Lists.{each_below};
 ghost use Rattle.vx_rows.specs.Numbers.{seen_numbers};
 ghost use Rattle.vx_views.specs.Selected.{of_number, places_of};
 
+use crate::positions::Position;
 use std::alloc::{AllocError, Global};
 use vx_rows::{Numbers, NumbersRef};
 
@@ -93,18 +93,18 @@ pub(crate) fn places_in<T: NumberTest>(
 }
 
 // The places of positions whose numbers of 32 bits pass.
-fn narrow_places_at<T: NumberTest>(
+fn narrow_places_at<P: Position, T: NumberTest>(
     alloc: Global,
     numbers: &[i32],
-    positions: &[usize],
+    positions: &[P],
     test: &T,
 ) -> Result<Vec<usize>, AllocError>
-    requires { ArePositions (length numbers.now) positions.now }
-    ensures { IfOk result (λ v. v.items ≡ places_of (of_number (T.says test.now)) (map (λ p. num (slice_index_or numbers.now p (pos 0))) positions.now)) }
+    requires { All (λ p. P.place p < length numbers.now) positions.now }
+    ensures { IfOk result (λ v. v.items ≡ places_of (of_number (T.says test.now)) (map (λ p. num (slice_index_or numbers.now (P.place p) (pos 0))) positions.now)) }
 {
     let mut places = Vec::new(alloc);
     for i in 0..positions.len() {
-        let number = numbers[positions[i]] as i64;
+        let number = numbers[positions[i].place()] as i64;
         let passes = test.passes(&number);
         push_place_if(&mut places, i, passes)?;
     }
@@ -112,32 +112,32 @@ fn narrow_places_at<T: NumberTest>(
 }
 
 // The places of positions whose numbers of 64 bits pass.
-fn wide_places_at<T: NumberTest>(
+fn wide_places_at<P: Position, T: NumberTest>(
     alloc: Global,
     numbers: &[i64],
-    positions: &[usize],
+    positions: &[P],
     test: &T,
 ) -> Result<Vec<usize>, AllocError>
-    requires { ArePositions (length numbers.now) positions.now }
-    ensures { IfOk result (λ v. v.items ≡ places_of (of_number (T.says test.now)) (map (λ p. num (slice_index_or numbers.now p (pos 0))) positions.now)) }
+    requires { All (λ p. P.place p < length numbers.now) positions.now }
+    ensures { IfOk result (λ v. v.items ≡ places_of (of_number (T.says test.now)) (map (λ p. num (slice_index_or numbers.now (P.place p) (pos 0))) positions.now)) }
 {
     let mut places = Vec::new(alloc);
     for i in 0..positions.len() {
-        let passes = test.passes(&numbers[positions[i]]);
+        let passes = test.passes(&numbers[positions[i].place()]);
         push_place_if(&mut places, i, passes)?;
     }
     Ok(places)
 }
 
 // The places of positions whose numbers pass.
-pub(crate) fn places_at<T: NumberTest>(
+pub(crate) fn places_at<P: Position, T: NumberTest>(
     alloc: Global,
     numbers: &Numbers,
-    positions: &[usize],
+    positions: &[P],
     test: &T,
 ) -> Result<Vec<usize>, AllocError>
-    requires { ArePositions (length numbers.now) positions.now }
-    ensures { IfOk result (λ v. v.items ≡ places_of (of_number (T.says test.now)) (map (λ p. num (slice_index_or numbers.now p (pos 0))) positions.now)) }
+    requires { All (λ p. P.place p < length numbers.now) positions.now }
+    ensures { IfOk result (λ v. v.items ≡ places_of (of_number (T.says test.now)) (map (λ p. num (slice_index_or numbers.now (P.place p) (pos 0))) positions.now)) }
 {
     match numbers.view() {
         NumbersRef::Narrow(narrow) => narrow_places_at(alloc, narrow, positions, test),

@@ -1,6 +1,6 @@
 //! Which rows of a table are seen, and in which order.
 
-ghost use Rattle.std.specs.Prelude.{◌≡◌, ℕ, ◌+◌, ◌-◌, ◌^◌, ◌<◌, ◌≤◌, List, length, map, slice_index, slice_range, All, IfOk, IsTrue};
+ghost use Rattle.std.specs.Prelude.{◌≡◌, ◌↔◌, ℕ, ◌+◌, ◌-◌, ◌^◌, ◌<◌, ◌≤◌, List, length, map, slice_index, slice_range, All, IfOk, IsTrue};
 ghost use Rattle.vx_rows.specs.View.{ArePositions};
 ghost use Rattle.vx_rows.specs.Lists.{each_below};
 
@@ -8,42 +8,118 @@ use std::alloc::{AllocError, Global};
 use std::marker::Model;
 use std::sync::Arc;
 
-/// A list of positions, which several `Positions` may share.
+// Positions below this fit 32 bits.
+const NARROW: usize = 0x1_0000_0000;
+
+/// A position as a list keeps it: in 32 bits, or in 64.
+pub trait Position: Copy {
+    ghost use Rattle.std.specs.Prelude.{◌≡◌, ℕ};
+
+    ghost place: { Self → ℕ };
+
+    /// The position as a number of 64 bits.
+    fn place(self) -> usize
+        ensures { result ≡ place self };
+}
+
+impl Position for u32 {
+    ghost place = { λ p. p };
+
+    fn place(self) -> usize {
+        self as usize
+    }
+}
+
+impl Position for usize {
+    ghost place = { λ p. p };
+
+    fn place(self) -> usize {
+        self
+    }
+}
+
+// The positions of a list, as wide as they are kept.
+#[derive(Drop)]
+enum Width {
+    Narrow(Vec<u32>),
+    Wide(Vec<usize>),
+}
+
+/// A list of positions, which several `Positions` may share. They take 4 bytes each where all of them are known to fit 32
+/// bits.
 pub struct PositionList {
-    items: Vec<usize>,
+    width: Width,
 }
 
 // By hand, so that the drops of its parts are made and proved here once, and not in each function that drops one.
 impl Drop for PositionList {
     fn drop(self) {
-        let PositionList { items: _ } = self;
+        let PositionList { width: _ } = self;
     }
 }
 
 impl Model for PositionList {
     ghost use Rattle.std.specs.Prelude.{List, ℕ};
+    ghost use Rattle.vx_views.specs.Seen.{kept_positions};
 
     ghost Value = { List ℕ };
 
-    ghost view = { λ p. p.items.items };
+    ghost view = { λ p. kept_positions p.width };
 }
 
 impl PositionList {
+    ghost use Rattle.vx_views.specs.Seen.{seen_positions};
+
+    /// How many positions there are.
+    fn len(&self) -> usize
+        ensures { result ≡ length self.now }
+    {
+        match &self.width {
+            Width::Narrow(positions) => positions.len(),
+            Width::Wide(positions) => positions.len(),
+        }
+    }
+
     /// The position at a place.
     fn get(&self, i: usize) -> usize
         requires { i < length self.now }
         ensures { result ≡ slice_index self.now i }
     {
-        self.items[i]
+        match &self.width {
+            Width::Narrow(positions) => positions[i] as usize,
+            Width::Wide(positions) => positions[i],
+        }
     }
 
     /// Those from `from` up to `to`.
-    fn part(&self, from: usize, to: usize) -> &[usize]
+    fn part(&self, from: usize, to: usize) -> PositionsRef<'_>
         requires order { from ≤ to }
         requires there { to ≤ length self.now }
-        ensures { result.now ≡ slice_range self.now from to }
+        ensures { seen_positions result ≡ slice_range self.now from to }
     {
-        &self.items.as_slice()[from..to]
+        match &self.width {
+            Width::Narrow(positions) => PositionsRef::Narrow(&positions.as_slice()[from..to]),
+            Width::Wide(positions) => PositionsRef::Wide(&positions.as_slice()[from..to]),
+        }
+    }
+
+    /// Of those from `from` up to `to`, the ones at some places, as wide as they are.
+    fn at(
+        &self,
+        alloc: Global,
+        from: usize,
+        to: usize,
+        places: &[usize],
+    ) -> Result<PositionList, AllocError>
+        requires order { from ≤ to }
+        requires there { to ≤ length self.now }
+        requires places { ArePositions (to - from) places.now }
+        ensures { IfOk result (λ l. l ≡ map (slice_index (slice_range self.now from to)) places.now) }
+    {
+        match &self.width {
+            Width::Narrow(positions) => narrow_at(alloc, &positions.as_slice()[from..to], places),
+            Width::Wide(positions) => wide_at(alloc, &positions.as_slice()[from..to], places),
+        }
     }
 }
 
@@ -77,11 +153,12 @@ impl Model for Positions {
     ghost invariant = { λ s. IsSelection arc_value s.listed s.from s.count };
 }
 
-/// What a loop goes over: the first position and how many follow it, or a list.
+/// What a loop goes over: the first position and how many follow it, or a list in 32 bits or in 64.
 #[derive(Clone, Copy)]
 pub enum PositionsRef<'a> {
     Range(usize, usize),
-    Listed(&'a [usize]),
+    Narrow(&'a [u32]),
+    Wide(&'a [usize]),
 }
 
 impl Positions {
@@ -100,12 +177,12 @@ impl Positions {
         }
     }
 
-    /// These positions.
-    pub fn list(alloc: Global, positions: Vec<usize>) -> Result<Positions, AllocError>
-        ensures { IfOk result (λ s. s ≡ positions.items) }
+    // These positions.
+    fn list(alloc: Global, positions: PositionList) -> Result<Positions, AllocError>
+        ensures { IfOk result (λ s. s ≡ positions) }
     {
         let count = positions.len();
-        let shared = Arc::new(alloc, PositionList { items: positions })?;
+        let shared = Arc::new(alloc, positions)?;
         Ok(Positions {
             listed: Some(shared),
             from: 0,
@@ -137,10 +214,7 @@ impl Positions {
     {
         match &self.listed {
             None => PositionsRef::Range(self.from, self.count),
-            Some(positions) => PositionsRef::Listed(positions.part(
-                self.from,
-                self.from + self.count,
-            )),
+            Some(positions) => positions.part(self.from, self.from + self.count),
         }
     }
 
@@ -175,15 +249,25 @@ impl Positions {
         }
         match &self.listed {
             None => {
-                let positions = moved(alloc, places, self.from)?;
+                let positions = moved(alloc, places, self.from, self.count)?;
                 Ok(Positions::list(alloc, positions)?)
             }
             Some(listed) => {
-                let part = listed.part(self.from, self.from + self.count);
-                let positions = taken(alloc, part, places)?;
+                let positions = listed.at(alloc, self.from, self.from + self.count, places)?;
                 Ok(Positions::list(alloc, positions)?)
             }
         }
+    }
+}
+
+// Puts the places behind a position, in 32 bits, into a slice of as many.
+fn move_to(places: &[usize], from: usize, positions: &mut [u32])
+    requires long { length places.now ≡ length positions.old }
+    requires narrow { All (λ i. from + i < 2 ^ 32) places.now }
+    ensures { positions.new ≡ map (λ i. from + i) places.now }
+{
+    for i in 0..positions.len() {
+        positions[i] = (from + places[i]) as u32;
     }
 }
 
@@ -197,17 +281,57 @@ fn move_by(places: &mut [usize], from: usize)
     }
 }
 
-// Places behind a position.
-fn moved(alloc: Global, places: &[usize], from: usize) -> Result<Vec<usize>, AllocError>
-    requires { All (λ i. from + i < 2 ^ 64) places.now }
-    ensures { IfOk result (λ v. v.items ≡ map (λ i. from + i) places.now) }
+// Places behind a position, in 32 bits where all that are below `count` fit them.
+fn moved(
+    alloc: Global,
+    places: &[usize],
+    from: usize,
+    count: usize,
+) -> Result<PositionList, AllocError>
+    requires there { ArePositions count places.now }
+    requires small { from + count < 2 ^ 64 }
+    ensures { IfOk result (λ l. l ≡ map (λ i. from + i) places.now) }
 {
-    let mut positions = Vec::from_slice(alloc, places)?;
-    move_by(positions.as_mut_slice(), from);
-    Ok(positions)
+    if from + count <= NARROW {
+        let mut narrow = Vec::new(alloc);
+        narrow.resize(places.len(), 0)?;
+        move_to(places, from, narrow.as_mut_slice());
+        return Ok(PositionList {
+            width: Width::Narrow(narrow),
+        });
+    }
+    let mut wide = Vec::from_slice(alloc, places)?;
+    move_by(wide.as_mut_slice(), from);
+    Ok(PositionList {
+        width: Width::Wide(wide),
+    })
 }
 
-// Puts the position that is listed at each of these places there.
+// Puts the positions of 32 bits that are listed at some places into a slice of as many.
+fn look_up_narrow(listed: &[u32], places: &[usize], positions: &mut [u32])
+    requires long { length places.now ≡ length positions.old }
+    requires there { ArePositions (length listed.now) places.now }
+    ensures { positions.new ≡ map (slice_index listed.now) places.now }
+{
+    for i in 0..positions.len() {
+        positions[i] = listed[places[i]];
+    }
+}
+
+// The positions of 32 bits at some places.
+fn narrow_at(alloc: Global, listed: &[u32], places: &[usize]) -> Result<PositionList, AllocError>
+    requires { ArePositions (length listed.now) places.now }
+    ensures { IfOk result (λ l. l ≡ map (slice_index listed.now) places.now) }
+{
+    let mut positions = Vec::new(alloc);
+    positions.resize(places.len(), 0)?;
+    look_up_narrow(listed, places, positions.as_mut_slice());
+    Ok(PositionList {
+        width: Width::Narrow(positions),
+    })
+}
+
+// Puts the position of 64 bits that is listed at each of these places there.
 fn look_up(places: &mut [usize], listed: &[usize])
     requires { ArePositions (length listed.now) places.old }
     ensures { places.new ≡ map (slice_index listed.now) places.old }
@@ -217,19 +341,41 @@ fn look_up(places: &mut [usize], listed: &[usize])
     }
 }
 
-// The positions at some places.
-fn taken(alloc: Global, listed: &[usize], places: &[usize]) -> Result<Vec<usize>, AllocError>
+// The positions of 64 bits at some places.
+fn wide_at(alloc: Global, listed: &[usize], places: &[usize]) -> Result<PositionList, AllocError>
     requires { ArePositions (length listed.now) places.now }
-    ensures { IfOk result (λ v. v.items ≡ map (slice_index listed.now) places.now) }
+    ensures { IfOk result (λ l. l ≡ map (slice_index listed.now) places.now) }
 {
     let mut positions = Vec::from_slice(alloc, places)?;
     look_up(positions.as_mut_slice(), listed);
+    Ok(PositionList {
+        width: Width::Wide(positions),
+    })
+}
+
+// Puts positions of 32 bits into a slice of as many of 64.
+fn widen(narrow: &[u32], positions: &mut [usize])
+    requires { length narrow.now ≡ length positions.old }
+    ensures { positions.new ≡ narrow.now }
+{
+    for i in 0..positions.len() {
+        positions[i] = narrow[i] as usize;
+    }
+}
+
+// The same positions in 64 bits.
+pub(crate) fn widened(alloc: Global, narrow: &[u32]) -> Result<Vec<usize>, AllocError>
+    ensures { IfOk result (λ v. v.items ≡ narrow.now) }
+{
+    let mut positions = Vec::new(alloc);
+    positions.resize(narrow.len(), 0)?;
+    widen(narrow, positions.as_mut_slice());
     Ok(positions)
 }
 
 /// Whether these are `first`, `first + 1`, and so on.
 pub fn are_counted_from(first: usize, numbers: &[usize]) -> bool
-    ensures { IsTrue result → numbers.now ≡ each_below (length numbers.now) (λ k. first + k) }
+    ensures { IsTrue result ↔ (numbers.now ≡ each_below (length numbers.now) (λ k. first + k)) }
 {
     for i in 0..numbers.len() {
         if numbers[i] < first || numbers[i] - first != i {

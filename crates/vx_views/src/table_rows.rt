@@ -12,7 +12,7 @@ ghost use Rattle.vx_views.specs.Selected.{of_number, places_of, AreNumbers, AreT
 ghost use Rattle.vx_views.specs.Seen.{seen_positions};
 
 use crate::places::{NumberTest, part_of, places_at, places_in};
-use crate::positions::{Positions, PositionsRef};
+use crate::positions::{Positions, PositionsRef, widened};
 use std::alloc::{AllocError, Global};
 use std::marker::Model;
 use std::sync::Arc;
@@ -121,7 +121,8 @@ impl TableRows {
                 let part = part_of(numbers, from, count);
                 Ok(places_in(alloc, part, test)?)
             }
-            PositionsRef::Listed(positions) => Ok(places_at(alloc, numbers, positions, test)?),
+            PositionsRef::Narrow(positions) => Ok(places_at(alloc, numbers, positions, test)?),
+            PositionsRef::Wide(positions) => Ok(places_at(alloc, numbers, positions, test)?),
         }
     }
 
@@ -148,7 +149,7 @@ impl TableRows {
     }
 
     /// Adds copies of the rows behind those of a table.
-    pub fn copy_onto(&self, rows: &mut Table) -> Result<(), AllocError>
+    pub fn copy_onto(&self, alloc: Global, rows: &mut Table) -> Result<(), AllocError>
         requires { self.now.types ≡ rows.old.types }
         ensures types { rows.new.types ≡ rows.old.types }
         ensures ok { OnOk result (rows.new.rows ≡ rows.old.rows ++ self.now.rows) }
@@ -156,7 +157,8 @@ impl TableRows {
     {
         match self.at.seen() {
             PositionsRef::Range(from, count) => append_part(rows, &*self.base, from, count),
-            PositionsRef::Listed(positions) => rows.append_rows_at(&*self.base, positions),
+            PositionsRef::Narrow(positions) => append_narrow(alloc, rows, &*self.base, positions),
+            PositionsRef::Wide(positions) => rows.append_rows_at(&*self.base, positions),
         }
     }
 }
@@ -176,4 +178,21 @@ fn append_part(rows: &mut Table, other: &Table, from: usize, count: usize) -> Re
         return Err(AllocError);
     };
     rows.append_range(other, from, to)
+}
+
+// Adds the rows of another table at positions of 32 bits.
+fn append_narrow(
+    alloc: Global,
+    rows: &mut Table,
+    other: &Table,
+    positions: &[u32],
+) -> Result<(), AllocError>
+    requires types { other.now.types ≡ rows.old.types }
+    requires there { ArePositions (length other.now.rows) positions.now }
+    ensures types { rows.new.types ≡ rows.old.types }
+    ensures ok { OnOk result (rows.new.rows ≡ rows.old.rows ++ map (row other.now) positions.now) }
+    ensures err { OnErr result (rows.new.rows ≡ rows.old.rows) }
+{
+    let wide = widened(alloc, positions)?;
+    rows.append_rows_at(other, wide.as_slice())
 }

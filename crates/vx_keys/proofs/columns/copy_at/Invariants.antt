@@ -1,9 +1,8 @@
-use Rattle.std.proofs.Common.{◌≡◌, take, length}
-use Rattle.vx_rows.specs.Numbers.{numbers_at}
+use Rattle.std.proofs.Common.{◌≡◌, take, length, map, get_or, pos}
 use Rattle.vx_keys.proofs.columns.copy_at.Given as goal
 
 abbrev pub invariant-loop-i : goal.invariant-loop-i
-invariant-loop-i l = record {
+invariant-loop-i g l = record {
   len : length l.numbers ≡ length l.fn.numbers;
-  numbers : take l.i l.numbers ≡ numbers_at l.wide (take l.i l.positions);
+  numbers : take l.i l.numbers ≡ map (λ p. get_or l.wide (g.P.Position.place p) (pos 0)) (take l.i l.positions);
 }

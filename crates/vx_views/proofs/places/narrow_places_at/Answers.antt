@@ -12,10 +12,13 @@ loop-i-preserved g c =
     let says = g.T.NumberTest.says c.args.test.now in
     let test = of_number says in
     let i = c.loop-i.i in
-    let z = get_or c.args.numbers.now (get_or c.args.positions.now i 0) (pos 0) in
+    let read = c.index-positions-i.result in
+    let z = get_or c.args.numbers.now c.place.result (pos 0) in
     let fits : SFits w32 z = search rules in
     let same : to_z w64 (of_z w64 (to_z w32 (of_z w32 z))) ≡ z = omega (arith, ints) in
+    let at = c.place.ensures ∙ ap g.P.Position.place c.index-positions-i.is in
     c.in_ok-push_place_if.ensures
     ∙ (ap (λ xs. xs ++ cond c.passes-passes.result (i ∷ []) []) c.loop-i.invariant
-    ∙ (ap (λ b. places_of test (map (λ p. num (get_or c.args.numbers.now p (pos 0))) (take i c.args.positions.now)) ++ cond b (i ∷ []) []) (c.passes-passes.ensures ∙ ap says same)
-    ∙ sym (next-place test (λ p. num (get_or c.args.numbers.now p (pos 0))) c.args.positions.now i 0 c.loop-i-test.true)))
+    ∙ (ap (λ b. places_of test (map (λ p. num (get_or c.args.numbers.now (g.P.Position.place p) (pos 0))) (take i c.args.positions.now)) ++ cond b (i ∷ []) [])
+    (c.passes-passes.ensures ∙ (ap says same ∙ ap (λ k. says (get_or c.args.numbers.now k (pos 0))) at))
+    ∙ sym (next-place test (λ p. num (get_or c.args.numbers.now (g.P.Position.place p) (pos 0))) c.args.positions.now i read c.loop-i-test.true)))

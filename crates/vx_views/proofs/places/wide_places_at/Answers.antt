@@ -7,8 +7,13 @@ use Rattle.vx_views.proofs.places.wide_places_at.Goals as goal
 
 pub loop-i-preserved : goal.loop-i-preserved
 loop-i-preserved g c =
-    let test = of_number (g.T.NumberTest.says c.args.test.now) in
+    let says = g.T.NumberTest.says c.args.test.now in
+    let test = of_number says in
     let i = c.loop-i.i in
+    let read = c.index-positions-i.result in
+    let at = c.place.ensures ∙ ap g.P.Position.place c.index-positions-i.is in
     c.in_ok-push_place_if.ensures
     ∙ (ap (λ xs. xs ++ cond c.passes-passes.result (i ∷ []) []) c.loop-i.invariant
-    ∙ (ap (λ b. places_of test (map (λ p. num (get_or c.args.numbers.now p (pos 0))) (take i c.args.positions.now)) ++ cond b (i ∷ []) []) c.passes-passes.ensures ∙ sym (next-place test (λ p. num (get_or c.args.numbers.now p (pos 0))) c.args.positions.now i 0 c.loop-i-test.true)))
+    ∙ (ap (λ b. places_of test (map (λ p. num (get_or c.args.numbers.now (g.P.Position.place p) (pos 0))) (take i c.args.positions.now)) ++ cond b (i ∷ []) [])
+    (c.passes-passes.ensures ∙ ap (λ k. says (get_or c.args.numbers.now k (pos 0))) at)
+    ∙ sym (next-place test (λ p. num (get_or c.args.numbers.now (g.P.Position.place p) (pos 0))) c.args.positions.now i read c.loop-i-test.true)))

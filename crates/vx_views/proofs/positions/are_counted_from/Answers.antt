@@ -2,6 +2,8 @@ use Rattle.std.proofs.Common.{◌≡◌, ◌<◌, ◌+◌, [], ◌∷◌, ◌++�
 use Rattle.std.proofs.lemmas.List.{take_more}
 use Rattle.vx_rows.specs.Lists.{each_below}
 use Rattle.vx_rows.proofs.Below.{each_below-none, each_below-next}
+use Rattle.vx_views.proofs.Facts.{counted-at}
+use Rattle.vx_views.proofs.positions.are_counted_from.Goals.{then-numbers-i-via-then-numbers-i, then-numbers-i-via-else-numbers-i+then-numbers-i-2}
 use Rattle.vx_views.proofs.positions.are_counted_from.Goals as goal
 
 pub loop-i-init : goal.loop-i-init
@@ -17,3 +19,15 @@ loop-i-preserved c =
     take_more numbers i 0 near
     ∙ (ap (λ xs. xs ++ get_or numbers i 0 ∷ []) c.loop-i.invariant
     ∙ (ap (λ n. each_below i (λ k. first + k) ++ n ∷ []) e ∙ sym (each_below-next i (λ k. first + k))))
+
+pub returns-then-numbers-i : goal.returns-then-numbers-i
+returns-then-numbers-i c =
+    let numbers = c.args.numbers.now in
+    let first = c.args.first in
+    let i = c.loop-i.i in
+    let near : i < length numbers = omega (arith, c.loop-i-test.true) in
+    elim c.then-numbers-i.branch [
+      | then-numbers-i-via-then-numbers-i w ↦ (λ h. absurd cc, λ e. let at = counted-at first numbers e i near in absurd (omega (arith, at, w.if-numbers-i.true)))
+      | then-numbers-i-via-else-numbers-i+then-numbers-i-2 w ↦
+          (λ h. absurd cc, λ e. let at = counted-at first numbers e i near in absurd (omega (arith, at, w.if-numbers-i.false, w.if-numbers-i-2.true)))
+    ]

@@ -8,4 +8,4 @@ pub returns-then-are_counted_from : goal.returns-then-are_counted_from
 returns-then-are_counted_from c = λ by xs rows here are was.
     let f : ℕ → List ℕ = λ k. k ∷ [] in
     let many : c.args.first ≡ c.in-Single.count = omega (arith, c.if-count-first.true) in
-    single-more by xs rows c.args.first c.args.numbers.now here are (ap (λ n. each_below n f) many ∙ (sym (ap places_in c.in-Single.is) ∙ was)) (c.are_counted_from.ensures c.if-are_counted_from.true)
+    single-more by xs rows c.args.first c.args.numbers.now here are (ap (λ n. each_below n f) many ∙ (sym (ap places_in c.in-Single.is) ∙ was)) (c.are_counted_from.ensures.0 c.if-are_counted_from.true)

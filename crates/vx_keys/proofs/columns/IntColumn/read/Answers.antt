@@ -26,13 +26,6 @@ overflow_add-first c =
     let most = c.number_count-count.ensures in
     omega (arith, room, most)
 
-pub read_at-requires-clause-within : goal.read_at-requires-clause-within
-read_at-requires-clause-within c =
-    let t = c.self.inside in
-    let long = rows-long (seen_numbers t.numbers) (seen_positions t.at) c.args.self.now c.self.view_is in
-    let listed = ap (λ a. length (seen_positions a)) c.in-Listed.is in
-    omega (arith, long, listed, c.requires)
-
 pub returns-in-Range-clause-numbers : goal.returns-in-Range-clause-numbers
 returns-in-Range-clause-numbers c =
     let t = c.self.inside in
@@ -46,13 +39,24 @@ returns-in-Range-clause-numbers c =
     ∙ (range-keys numbers t.at c.in-Range.first c.in-Range.field-1 from n c.in-Range.is within room
     ∙ ap (λ rows. slice_range rows from (from + n)) c.self.view_is)
 
-pub returns-in-Listed-clause-numbers : goal.returns-in-Listed-clause-numbers
-returns-in-Listed-clause-numbers c =
+pub returns-in-Narrow-clause-numbers : goal.returns-in-Narrow-clause-numbers
+returns-in-Narrow-clause-numbers c =
     let t = c.self.inside in
     let numbers = seen_numbers t.numbers in
     let from = c.args.from in
     let to = from + length c.args.numbers.now in
     ap (map number_key) c.read_at.ensures.numbers
-    ∙ (listed-keys numbers c.in-Listed.positions.now from to
-    ∙ (ap (λ a. slice_range (number_keys numbers (seen_positions a)) from to) (sym c.in-Listed.is)
+    ∙ (listed-keys numbers c.in-Narrow.positions.now from to
+    ∙ (ap (λ a. slice_range (number_keys numbers (seen_positions a)) from to) (sym c.in-Narrow.is)
+    ∙ ap (λ rows. slice_range rows from to) c.self.view_is))
+
+pub returns-in-Wide-clause-numbers : goal.returns-in-Wide-clause-numbers
+returns-in-Wide-clause-numbers c =
+    let t = c.self.inside in
+    let numbers = seen_numbers t.numbers in
+    let from = c.args.from in
+    let to = from + length c.args.numbers.now in
+    ap (map number_key) c.read_at-in-Wide.ensures.numbers
+    ∙ (listed-keys numbers c.in-Wide.positions.now from to
+    ∙ (ap (λ a. slice_range (number_keys numbers (seen_positions a)) from to) (sym c.in-Wide.is)
     ∙ ap (λ rows. slice_range rows from to) c.self.view_is))

@@ -26,13 +26,24 @@ returns-in_ok-places_in-in-Range g c =
     ∙ (ap (map (λ q. num (get_or numbers q (pos 0)))) c.in-Range.ensures
     ∙ (column-at numbers base.rows c.args.column c.self.inside.at values c.self.invariant ∙ ap (λ t. map (λ r. value_at r c.args.column) t.rows) c.self.view_is))) ∙ sym (places-map test (λ r. value_at r c.args.column) c.args.self.now.rows))
 
-pub returns-in_ok-places_at-in-Listed : goal.returns-in_ok-places_at-in-Listed
-returns-in_ok-places_at-in-Listed g c =
+pub returns-in_ok-places_at-in-Narrow : goal.returns-in_ok-places_at-in-Narrow
+returns-in_ok-places_at-in-Narrow g c =
     let test = of_number (g.T.NumberTest.says c.args.test.now) in
     let numbers = c.in-Some.numbers.now in
     let base = arc_value c.self.inside.base in
     let same = c.deref.ensures in
     let values : (k : ℕ) → k < length base.rows → value_at (get_or base.rows k []) c.args.column ≡ num (get_or numbers k (pos 0)) = subst (λ (t : RowsView). (k : ℕ) → k < length t.rows → value_at (get_or t.rows k []) c.args.column ≡ num (get_or numbers k (pos 0))) same c.in-Some.ensures.values in
-    c.in_ok-places_at-in-Listed.ensures
-    ∙ (ap (places_of test) (ap (map (λ q. num (get_or numbers q (pos 0)))) c.in-Listed.ensures
+    c.in_ok-places_at-in-Narrow.ensures
+    ∙ (ap (places_of test) (ap (map (λ q. num (get_or numbers q (pos 0)))) c.in-Narrow.ensures
+    ∙ (column-at numbers base.rows c.args.column c.self.inside.at values c.self.invariant ∙ ap (λ t. map (λ r. value_at r c.args.column) t.rows) c.self.view_is)) ∙ sym (places-map test (λ r. value_at r c.args.column) c.args.self.now.rows))
+
+pub returns-in_ok-places_at-in-Wide : goal.returns-in_ok-places_at-in-Wide
+returns-in_ok-places_at-in-Wide g c =
+    let test = of_number (g.T.NumberTest.says c.args.test.now) in
+    let numbers = c.in-Some.numbers.now in
+    let base = arc_value c.self.inside.base in
+    let same = c.deref.ensures in
+    let values : (k : ℕ) → k < length base.rows → value_at (get_or base.rows k []) c.args.column ≡ num (get_or numbers k (pos 0)) = subst (λ (t : RowsView). (k : ℕ) → k < length t.rows → value_at (get_or t.rows k []) c.args.column ≡ num (get_or numbers k (pos 0))) same c.in-Some.ensures.values in
+    c.in_ok-places_at-in-Wide.ensures
+    ∙ (ap (places_of test) (ap (map (λ q. num (get_or numbers q (pos 0)))) c.in-Wide.ensures
     ∙ (column-at numbers base.rows c.args.column c.self.inside.at values c.self.invariant ∙ ap (λ t. map (λ r. value_at r c.args.column) t.rows) c.self.view_is)) ∙ sym (places-map test (λ r. value_at r c.args.column) c.args.self.now.rows))
