@@ -9,6 +9,8 @@ mod chunks;
 #[cfg(test)]
 mod cuts;
 #[cfg(test)]
+mod lists;
+#[cfg(test)]
 mod many;
 #[cfg(test)]
 mod threads;

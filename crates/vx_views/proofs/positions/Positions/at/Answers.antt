@@ -41,6 +41,6 @@ returns-in_ok-list-in-None c =
 pub returns-in_ok-list-in-Some : goal.returns-in_ok-list-in-Some
 returns-in_ok-list-in-Some c =
     let e =
-        ap (λ xs. slice_range xs c.self.inside.from (c.self.inside.from + c.self.inside.count)) c.deref.ensures ∙ part-seen arc_value c.self.view_is c.self.invariant c.in-Some.listed c.in-Some.is
+    ap (λ xs. slice_range xs c.self.inside.from (c.self.inside.from + c.self.inside.count)) c.deref.ensures ∙ part-seen arc_value c.self.view_is c.self.invariant c.in-Some.listed c.in-Some.is
     in
     c.in_ok-list-in-Some.ensures ∙ (c.in_ok-positions-in-Some.ensures ∙ ap (λ xs. map (λ i. get_or xs i 0) c.args.places.now) e)
