@@ -6,6 +6,7 @@ pub mod Cuts
 pub mod LaneLists
 pub mod Turns
 pub mod PlaceFacts
+pub mod Concat
 pub mod RangeFacts
 pub mod RemainderFacts
 pub mod KindDeals

@@ -1,7 +1,7 @@
 //! How rows are dealt to the consumers of an exchange, one kind after the other.
 
 ghost use Rattle.std.specs.Prelude.{◌≡◌, ◌<◌, ◌^◌, [], length, map, zip, slice_index_or, false, true, IfOk, OnOk};
-ghost use Rattle.std.specs.List.{All};
+ghost use Rattle.std.specs.List.{All, flat_map};
 ghost use Rattle.vx_rows.specs.View.{row, AreColumns, ArePositions};
 ghost use Rattle.vx_plan_nodes.specs.Routes.{Routing};
 ghost use Rattle.vx_plan_nodes.specs.Streams.{bearing};
@@ -12,6 +12,7 @@ ghost use Rattle.vx_exchange.specs.Lanes.{kind_of, serves, bounds_of, columns_of
 use crate::lane::Lane;
 use crate::places::{places_of_each, turns};
 use crate::routes::{KeyRoute, consumers_of};
+use crate::scratch::Scratch;
 use std::alloc::{AllocError, Global};
 use vx_plan_nodes::{Router, Size};
 use vx_views::Rows;
@@ -64,28 +65,24 @@ fn deal_to_each(alloc: Global, lanes: &mut Vec<Lane>, rows: &Rows) -> Result<(),
     Ok(())
 }
 
-// The rows at the places of a consumer.
-fn rows_of_consumer(
-    alloc: Global,
-    rows: &Rows,
-    places: &[Vec<usize>],
-    consumer: usize,
-) -> Result<Rows, AllocError>
-    requires within { consumer < length places.now }
-    requires there { ArePositions (length rows.now.rows) (slice_index_or (map (λ p. p.items) places.now) consumer []) }
-    ensures types { IfOk result (λ r. r.types ≡ rows.now.types) }
-    ensures rows { IfOk result (λ r. r.rows ≡ map (row rows.now) (slice_index_or (map (λ p. p.items) places.now) consumer [])) }
+// Finds the places of all consumers, one list behind the other, whatever stood in `all`.
+fn join_places(places: &[Vec<usize>], all: &mut Vec<usize>) -> Result<(), AllocError>
+    ensures { OnOk result (all.new.items ≡ flat_map (λ p. p.items) places.now) }
 {
-    let mine = &places[consumer];
-    Ok(rows.at(alloc, mine.as_slice())?)
+    all.clear();
+    for consumer in 0..places.len() {
+        all.extend_from_slice(places[consumer].as_slice())?;
+    }
+    Ok(())
 }
 
-// To each lane the rows at its places.
+// To each lane the rows at its places. The rows of all lanes are found at once, so that they share one list of positions.
 fn deal_places(
     alloc: Global,
     lanes: &mut Vec<Lane>,
     rows: &Rows,
     places: &[Vec<usize>],
+    all: &mut Vec<usize>,
 ) -> Result<(), AllocError>
     requires many { length places.now ≡ length lanes.old.items }
     requires there { All (ArePositions (length rows.now.rows)) (map (λ p. p.items) places.now) }
@@ -94,29 +91,45 @@ fn deal_places(
     ensures ok { OnOk result (CutsEach (λ j. map (row rows.now) (slice_index_or (map (λ p. p.items) places.now) j [])) lanes.old.items lanes.new.items) }
     ensures same { SameLanes lanes.old.items lanes.new.items }
 {
+    join_places(places, all)?;
+    let sorted = rows.at(alloc, all.as_slice())?;
+    let mut from = 0;
     for consumer in 0..lanes.len() {
-        let part = rows_of_consumer(alloc, rows, places, consumer)?;
+        let to = from + places[consumer].len();
+        let part = sorted.slice(alloc, from, to)?;
         lanes[consumer].add(part)?;
+        from = to;
     }
     Ok(())
 }
 
-// Each row to the lane of its consumer.
+// Each row to the lane of its consumer, which stands in the scratch.
 fn deal_by_consumer(
     alloc: Global,
     lanes: &mut Vec<Lane>,
     rows: &Rows,
-    consumers: &[u32],
+    scratch: &mut Scratch,
 ) -> Result<(), AllocError>
-    requires many { length consumers.now ≡ length rows.now.rows }
-    requires there { All (λ k. k < length lanes.old.items) consumers.now }
+    requires many { length scratch.old.consumers.items ≡ length rows.now.rows }
+    requires there { All (λ k. k < length lanes.old.items) scratch.old.consumers.items }
     requires open { All (λ o. o.closed ≡ false) lanes.old.items }
     requires types { All (λ o. rows.now.types ≡ o.way.types) lanes.old.items }
-    ensures ok { OnOk result (CutsEach (λ j. bearing j (zip consumers.now rows.now.rows)) lanes.old.items lanes.new.items) }
+    ensures ok { OnOk result (CutsEach (λ j. bearing j (zip scratch.old.consumers.items rows.now.rows)) lanes.old.items lanes.new.items) }
     ensures same { SameLanes lanes.old.items lanes.new.items }
 {
-    let places = places_of_each(alloc, consumers, lanes.len())?;
-    deal_places(alloc, lanes, rows, places.as_slice())?;
+    places_of_each(
+        alloc,
+        scratch.consumers.as_slice(),
+        lanes.len(),
+        &mut scratch.places,
+    )?;
+    deal_places(
+        alloc,
+        lanes,
+        rows,
+        scratch.places.as_slice(),
+        &mut scratch.all,
+    )?;
     Ok(())
 }
 
@@ -126,6 +139,7 @@ fn deal_in_turn(
     next: u32,
     lanes: &mut Vec<Lane>,
     rows: &Rows,
+    scratch: &mut Scratch,
 ) -> Result<(), AllocError>
     requires few { length lanes.old.items < 2 ^ 32 }
     requires next { next < length lanes.old.items }
@@ -134,8 +148,8 @@ fn deal_in_turn(
     ensures ok { OnOk result (CutsEach (λ j. bearing j (in_turn (length lanes.old.items) next rows.now.rows)) lanes.old.items lanes.new.items) }
     ensures same { SameLanes lanes.old.items lanes.new.items }
 {
-    let consumers = turns(alloc, next, rows.len(), lanes.len() as u32)?;
-    deal_by_consumer(alloc, lanes, rows, consumers.as_slice())?;
+    turns(next, rows.len(), lanes.len() as u32, &mut scratch.consumers)?;
+    deal_by_consumer(alloc, lanes, rows, scratch)?;
     Ok(())
 }
 
@@ -146,6 +160,7 @@ fn deal_by_route<R: Router>(
     lanes: &mut Vec<Lane>,
     router: &R,
     rows: &Rows,
+    scratch: &mut Scratch,
 ) -> Result<(), AllocError>
     requires some { 0 < length lanes.old.items }
     requires few { length lanes.old.items < 2 ^ 32 }
@@ -155,8 +170,15 @@ fn deal_by_route<R: Router>(
     ensures ok { OnOk result (CutsEach (λ j. bearing j (zip (map (routed_to (R.route_of router.now) route.now (length lanes.old.items)) rows.now.rows) rows.now.rows)) lanes.old.items lanes.new.items) }
     ensures same { SameLanes lanes.old.items lanes.new.items }
 {
-    let consumers = consumers_of(alloc, route, router, rows, lanes.len() as u32)?;
-    deal_by_consumer(alloc, lanes, rows, consumers.as_slice())?;
+    consumers_of(
+        alloc,
+        route,
+        router,
+        rows,
+        lanes.len() as u32,
+        &mut scratch.consumers,
+    )?;
+    deal_by_consumer(alloc, lanes, rows, scratch)?;
     Ok(())
 }
 
@@ -166,6 +188,7 @@ pub fn deal_rows<R: Router>(
     deal: &Deal,
     next: u32,
     lanes: &mut Vec<Lane>,
+    scratch: &mut Scratch,
     router: &R,
     rows: Rows,
 ) -> Result<(), AllocError>
@@ -181,11 +204,11 @@ pub fn deal_rows<R: Router>(
 {
     match deal {
         Deal::Route(_, route) => {
-            deal_by_route(alloc, route, lanes, router, &rows)?;
+            deal_by_route(alloc, route, lanes, router, &rows, scratch)?;
             return Ok(());
         }
         Deal::Round(_) => {
-            deal_in_turn(alloc, next, lanes, &rows)?;
+            deal_in_turn(alloc, next, lanes, &rows, scratch)?;
             return Ok(());
         }
         Deal::Broadcast(_) => {

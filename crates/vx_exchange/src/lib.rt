@@ -12,6 +12,7 @@ mod ranges;
 mod receiver;
 mod remainder;
 mod routes;
+mod scratch;
 mod sender;
 
 pub use byte_router::ByteRouter;

@@ -1,6 +1,6 @@
 //! Consumers of rows, and the places of the rows of each consumer.
 
-ghost use Rattle.std.specs.Prelude.{◌≡◌, ◌+◌, ◌%◌, ◌<◌, ◌==◌, ◌++◌, ◌∷◌, [], length, map, slice_set, slice_index_or, IfOk, OnOk};
+ghost use Rattle.std.specs.Prelude.{◌≡◌, ◌+◌, ◌%◌, ◌<◌, ◌≤◌, ◌==◌, ◌++◌, ◌∷◌, [], length, map, max, take, slice_set, slice_index_or, OnOk};
 ghost use Rattle.std.specs.List.{All};
 ghost use Rattle.vx_rows.specs.Lists.{each_below};
 ghost use Rattle.vx_views.specs.Selected.{places_of};
@@ -23,30 +23,65 @@ fn next_turn(consumer: u32, n: u32) -> u32
     if consumer + 1 == n { 0 } else { consumer + 1 }
 }
 
-/// The consumers of so many rows in turn, from the consumer `next` among n on.
-pub fn turns(alloc: Global, next: u32, count: usize, n: u32) -> Result<Vec<u32>, AllocError>
+/// Finds the consumers of so many rows in turn, from the consumer `next` among n on, whatever stood in `found`.
+pub fn turns(next: u32, count: usize, n: u32, found: &mut Vec<u32>) -> Result<(), AllocError>
     requires { next < n }
-    ensures { IfOk result (λ v. v.items ≡ each_below count (λ i. (next + i) % n)) }
+    ensures { OnOk result (found.new.items ≡ each_below count (λ i. (next + i) % n)) }
 {
-    let mut found = Vec::with_capacity(alloc, count)?;
+    found.clear();
+    found.reserve(count)?;
     let mut consumer = next;
     for _i in 0..count {
         found.push(consumer)?;
         consumer = next_turn(consumer, n);
     }
-    Ok(found)
+    Ok(())
 }
 
-// No places for each of n consumers, with room for so many each.
-fn no_places(alloc: Global, n: usize, room: usize) -> Result<Vec<Vec<usize>>, AllocError>
-    ensures { IfOk result (λ v. map (λ p. p.items) v.items ≡ each_below n (λ j. [])) }
+// Makes a list empty, with room for so many places.
+fn empty_list(list: &mut Vec<usize>, room: usize) -> Result<(), AllocError>
+    ensures { OnOk result (list.new.items ≡ []) }
 {
-    let mut places = Vec::with_capacity(alloc, n)?;
-    for _i in 0..n {
-        let none = Vec::with_capacity(alloc, room)?;
-        places.push(none)?;
+    list.clear();
+    list.reserve(room)
+}
+
+// Makes the list of a consumer empty, or adds it behind all others, with room for so many places.
+fn put_empty(
+    alloc: Global,
+    places: &mut Vec<Vec<usize>>,
+    consumer: usize,
+    room: usize,
+) -> Result<(), AllocError>
+    requires { consumer ≤ length places.old.items }
+    ensures ok { OnOk result (take (consumer + 1) (map (λ p. p.items) places.new.items) ≡ take consumer (map (λ p. p.items) places.old.items) ++ [] ∷ []) }
+    ensures long { OnOk result (consumer < length places.new.items) }
+    ensures bound { length places.new.items ≤ max (length places.old.items) (consumer + 1) }
+{
+    if consumer < places.len() {
+        let list = &mut places[consumer];
+        empty_list(list, room)
+    } else {
+        let list = Vec::with_capacity(alloc, room)?;
+        places.push(list)?;
+        Ok(())
     }
-    Ok(places)
+}
+
+// Leaves no places for each of n consumers, with room for so many each. Lists that are there keep their memory.
+fn clear_places(
+    alloc: Global,
+    n: usize,
+    room: usize,
+    places: &mut Vec<Vec<usize>>,
+) -> Result<(), AllocError>
+    ensures { OnOk result (map (λ p. p.items) places.new.items ≡ each_below n (λ j. [])) }
+{
+    places.truncate(n);
+    for consumer in 0..n {
+        put_empty(alloc, places, consumer, room)?;
+    }
+    Ok(())
 }
 
 // Adds a place to those of a consumer.
@@ -58,20 +93,21 @@ fn add_place(places: &mut Vec<Vec<usize>>, consumer: usize, place: usize) -> Res
     Ok(())
 }
 
-/// For each of n consumers the places of its rows, in order, where these are the consumers of the rows.
+/// Finds for each of n consumers the places of its rows, in order, where these are the consumers of the rows, whatever stood in `places`.
 pub fn places_of_each(
     alloc: Global,
     consumers: &[u32],
     n: usize,
-) -> Result<Vec<Vec<usize>>, AllocError>
+    places: &mut Vec<Vec<usize>>,
+) -> Result<(), AllocError>
     requires { All (λ k. k < n) consumers.now }
-    ensures { IfOk result (λ v. map (λ p. p.items) v.items ≡ each_below n (λ j. places_of (λ k. k == j) consumers.now)) }
+    ensures { OnOk result (map (λ p. p.items) places.new.items ≡ each_below n (λ j. places_of (λ k. k == j) consumers.now)) }
 {
     // most consumers get about as many rows as the others
     let room = consumers.len() / n.max(1) + 8;
-    let mut places = no_places(alloc, n, room)?;
+    clear_places(alloc, n, room, places)?;
     for i in 0..consumers.len() {
-        add_place(&mut places, consumers[i] as usize, i)?;
+        add_place(places, consumers[i] as usize, i)?;
     }
-    Ok(places)
+    Ok(())
 }

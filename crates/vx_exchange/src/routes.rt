@@ -148,23 +148,25 @@ impl KeyRoute {
     }
 }
 
-/// The consumer of each row among n.
+/// Finds the consumer of each row among n, whatever stood in `found`.
 pub fn consumers_of<R: Router>(
     alloc: Global,
     route: &KeyRoute,
     router: &R,
     rows: &Rows,
     n: u32,
-) -> Result<Vec<u32>, AllocError>
+    found: &mut Vec<u32>,
+) -> Result<(), AllocError>
     requires some { 0 < n }
     requires columns { AreColumns (length rows.now.types) (key_columns route.now) }
-    ensures { IfOk result (λ v. v.items ≡ map (routed_to (R.route_of router.now) route.now n) rows.now.rows) }
+    ensures { OnOk result (found.new.items ≡ map (routed_to (R.route_of router.now) route.now n) rows.now.rows) }
 {
-    let mut found = Vec::with_capacity(alloc, rows.len())?;
+    found.clear();
+    found.reserve(rows.len())?;
     let mut key = Vec::new(alloc);
     let chunks = rows.chunks();
     for i in 0..chunks.len() {
-        route.push_consumers(alloc, router, &chunks[i], n, &mut key, &mut found)?;
+        route.push_consumers(alloc, router, &chunks[i], n, &mut key, found)?;
     }
-    Ok(found)
+    Ok(())
 }

@@ -8,6 +8,7 @@ use crate::deal::{Deal, deal_rows};
 use crate::lane::Lane;
 use crate::lanes::{clear_lanes, close_next, finish_lanes, make_lanes, next_packet};
 use crate::places::turn;
+use crate::scratch::Scratch;
 use std::alloc::{AllocError, Global};
 use vx_ends::Sends;
 use vx_ops::Polled;
@@ -37,6 +38,7 @@ pub struct Sender {
     deal: Deal,
     next: u32,
     stage: Stage,
+    scratch: Scratch,
     ghost numbered: { AreNumbered deal (ways_of lanes.items) },
     ghost served: { serves deal (length lanes.items) ≡ true },
     ghost few: { length lanes.items < 2 ^ 32 },
@@ -54,6 +56,7 @@ impl Drop for Sender {
             deal: _,
             next: _,
             stage: _,
+            scratch: _,
         } = self;
     }
 }
@@ -97,6 +100,7 @@ impl Sender {
             deal,
             next: 0,
             stage: Stage::Open,
+            scratch: Scratch::new(alloc),
         })
     }
 
@@ -128,6 +132,7 @@ impl Sender {
                     &self.deal,
                     self.next,
                     &mut self.lanes,
+                    &mut self.scratch,
                     router,
                     rows,
                 )?;

@@ -13,27 +13,27 @@ use Rattle.vx_exchange.proofs.deal.deal_by_consumer.Goals as goal
 
 pub deal_places-requires-clause-many : goal.deal_places-requires-clause-many
 deal_places-requires-clause-many c =
-    let f : ℕ → List ℕ = λ j. places_of (λ k. k == j) c.args.consumers.now in
-    let places : List (Vec ℕ Global) = c.as_slice.result.now in
-    let are : lists places ≡ each_below c.len.result f = ap lists c.as_slice.ensures.value ∙ c.in_ok-places.ensures in
+    let f : ℕ → List ℕ = λ j. places_of (λ k. k == j) c.args.scratch.now.consumers.items in
+    let places : List (Vec ℕ Global) = c.as_slice-2.result.now in
+    let are : lists places ≡ each_below c.len.result f = ap lists c.as_slice-2.ensures.value ∙ (c.in_ok-places_of_each.ensures ∙ ap (λ (ks : List ℕ). each_below c.len.result (λ j. places_of (λ k. k == j) ks)) c.as_slice.ensures.value) in
     let long : length places ≡ c.len.result = sym (length-map places (λ (v : Vec ℕ Global). v.items)) ∙ (ap (λ (ps : List (List ℕ)). length ps) are ∙ length-each_below c.len.result f) in
     let end = c.len.ensures in
     omega (arith, long, end)
 
 pub deal_places-requires-clause-there : goal.deal_places-requires-clause-there
 deal_places-requires-clause-there c =
-    let f : ℕ → List ℕ = λ j. places_of (λ k. k == j) c.args.consumers.now in
-    let places : List (Vec ℕ Global) = c.as_slice.result.now in
-    let are : lists places ≡ each_below c.len.result f = ap lists c.as_slice.ensures.value ∙ c.in_ok-places.ensures in
+    let f : ℕ → List ℕ = λ j. places_of (λ k. k == j) c.args.scratch.now.consumers.items in
+    let places : List (Vec ℕ Global) = c.as_slice-2.result.now in
+    let are : lists places ≡ each_below c.len.result f = ap lists c.as_slice-2.ensures.value ∙ (c.in_ok-places_of_each.ensures ∙ ap (λ (ks : List ℕ). each_below c.len.result (λ j. places_of (λ k. k == j) ks)) c.as_slice.ensures.value) in
     let P : List (List ℕ) → Type 0 = λ ps. All (ArePositions (length c.args.rows.now.rows)) ps in
-    subst P (sym are) (places-there c.len.result (length c.args.rows.now.rows) c.args.consumers.now c.requires.many)
+    subst P (sym are) (places-there c.len.result (length c.args.rows.now.rows) c.args.scratch.now.consumers.items c.requires.many)
 
 pub returns-clause-ok : goal.returns-clause-ok
 returns-clause-ok c =
-    let ks = c.args.consumers.now in
+    let ks = c.args.scratch.now.consumers.items in
     let f : ℕ → List ℕ = λ j. places_of (λ k. k == j) ks in
-    let places : List (Vec ℕ Global) = c.as_slice.result.now in
-    let are : lists places ≡ each_below c.len.result f = ap lists c.as_slice.ensures.value ∙ c.in_ok-places.ensures in
+    let places : List (Vec ℕ Global) = c.as_slice-2.result.now in
+    let are : lists places ≡ each_below c.len.result f = ap lists c.as_slice-2.ensures.value ∙ (c.in_ok-places_of_each.ensures ∙ ap (λ (ks : List ℕ). each_below c.len.result (λ j. places_of (λ k. k == j) ks)) c.as_slice.ensures.value) in
     let rows = c.args.rows.now in
     let old = c.args.lanes.now.items in
     let more : Streams = λ j. map (row rows) (get_or (lists places) j []) in

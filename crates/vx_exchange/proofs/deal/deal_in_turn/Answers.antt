@@ -11,13 +11,13 @@ use Rattle.vx_exchange.proofs.deal.deal_in_turn.Goals as goal
 pub deal_by_consumer-requires-clause-many : goal.deal_by_consumer-requires-clause-many
 deal_by_consumer-requires-clause-many c =
     let f : ℕ → ℕ = λ i. (c.args.next + i) % c.len-2.result in
-    let are : c.as_slice.result.now ≡ each_below c.len.result f = c.as_slice.ensures.value ∙ c.in_ok-consumers.ensures in
+    let are : c.turns.new.found.items ≡ each_below c.len.result f = c.in_ok-turns.ensures in
     ap (λ (ks : List ℕ). length ks) are ∙ (length-each_below c.len.result f ∙ c.len.ensures)
 
 pub deal_by_consumer-requires-clause-there : goal.deal_by_consumer-requires-clause-there
 deal_by_consumer-requires-clause-there c =
     let f : ℕ → ℕ = λ i. (c.args.next + i) % c.len-2.result in
-    let are : c.as_slice.result.now ≡ each_below c.len.result f = c.as_slice.ensures.value ∙ c.in_ok-consumers.ensures in
+    let are : c.turns.new.found.items ≡ each_below c.len.result f = c.in_ok-turns.ensures in
     let n = length c.args.lanes.now.items in
     let next = c.requires.next in
     let end = c.len-2.ensures in
@@ -28,14 +28,14 @@ deal_by_consumer-requires-clause-there c =
 pub returns-clause-ok : goal.returns-clause-ok
 returns-clause-ok c =
     let f : ℕ → ℕ = λ i. (c.args.next + i) % c.len-2.result in
-    let are : c.as_slice.result.now ≡ each_below c.len.result f = c.as_slice.ensures.value ∙ c.in_ok-consumers.ensures in
+    let are : c.turns.new.found.items ≡ each_below c.len.result f = c.in_ok-turns.ensures in
     let rows = c.args.rows.now.rows in
     let old = c.args.lanes.now.items in
     let n = length old in
     let end = c.len-2.ensures in
     let many : c.len-2.result ≡ n = omega (arith, end) in
-    let turns : c.as_slice.result.now ≡ each_below (length rows) (λ i. (c.args.next + i) % n) =
+    let turns : c.turns.new.found.items ≡ each_below (length rows) (λ i. (c.args.next + i) % n) =
     are ∙ (ap (λ m. each_below m f) c.len.ensures ∙ ap (λ m. each_below (length rows) (λ i. (c.args.next + i) % m)) many) in
-    let more : Streams = λ j. bearing j (zip c.as_slice.result.now rows) in
+    let more : Streams = λ j. bearing j (zip c.turns.new.found.items rows) in
     let more' : Streams = λ j. bearing j (in_turn n c.args.next rows) in
     cuts-same more more' old c.deal_by_consumer.new.lanes.items (λ j l. ap (λ (ks : List ℕ). bearing j (zip ks rows)) turns) c.in_ok-deal_by_consumer.ensures.ok

@@ -6,7 +6,7 @@ use Rattle.vx_exchange.proofs.PlaceFacts.{places-below, places-first, places-mor
 use Rattle.vx_exchange.proofs.places.places_of_each.Goals as goal
 
 pub loop-i-init : goal.loop-i-init
-loop-i-init c = c.in_ok-places.ensures ∙ places-first c.args.n c.args.consumers.now
+loop-i-init c = c.in_ok-clear_places.ensures ∙ places-first c.args.n c.args.consumers.now
 
 pub add_place-requires : goal.add_place-requires
 add_place-requires c =

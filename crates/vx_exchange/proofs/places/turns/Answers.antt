@@ -10,7 +10,7 @@ loop-i-init c =
     let f : ℕ → ℕ = λ j. (c.args.next + j) % c.args.n in
     let none : c.args.next + 0 ≡ c.args.next = omega arith in
     record {
-      found = c.in_ok-found.ensures.items ∙ sym (each_below-none f);
+      found = c.in_ok-reserve.ensures.items ∙ (c.clear.ensures.items ∙ sym (each_below-none f));
       turn = sym (ap (λ k. k % c.args.n) none ∙ mod-eq_of_lt c.requires);
     }
 
