@@ -1,7 +1,7 @@
 -- Rows rise where their keys do, and where each chunk does and none begins below the one before it.
-use Rattle.std.proofs.Common.{◌≡◌, ℕ, ℤ, pos, suc, ◌+◌, ◌-◌, ◌<◌, ◌≤◌, Bool, true, false, List, [], refl, sym, ap, ap₂, ◌∙◌, length, map, take, get_or, inl, inr, arith, true≢false, is_lt, Option, Some, None, is_some}
-use Rattle.std.specs.Prelude.{IfSome, IfNone}
-use Rattle.std.specs.List.{slice_range}
+use Rattle.std.proofs.Common.{◌≡◌, ℕ, ℤ, pos, suc, ◌+◌, ◌-◌, ◌<◌, ◌≤◌, Bool, true, false, List, [], refl, sym, ap, ap₂, ◌∙◌, length, map, take, get_or, inl, inr, arith, tests, true≢false, not, is_lt, is_le, Some}
+use Rattle.std.specs.List.{slice_range, IsAllAdjacentAnswer}
+use Rattle.std.specs.Ordering.{int_cmp, is_some_and}
 use Rattle.std.proofs.lemmas.Bool.{cases_lt}
 use Rattle.std.proofs.lemmas.List.{get_or-map, length-map, length-append}
 use Rattle.std.proofs.lemmas.List.Folds.{length-flat_map-take}
@@ -18,9 +18,13 @@ use Rattle.vx_keys.specs.Columns.{number_key}
 abbrev pub KeysRise : List Row → ℕ → Type 0
 KeysRise keys n = (k : ℕ) → suc k < n → is_lt (row_cmp (get_or keys (suc k) []) (get_or keys k [])) ≡ false
 
--- no number but the first is smaller than the one before it
-abbrev pub NumbersRise : List ℤ → Type 0
-NumbersRise numbers = (k : ℕ) → suc k < length numbers → is_lt (row_cmp (number_key (get_or numbers (suc k) (pos 0))) (number_key (get_or numbers k (pos 0)))) ≡ false
+-- whether numbers rise, as `is_sorted` of a slice tells it
+abbrev pub TellsRise : List ℤ → Bool → Type 0
+TellsRise numbers r = IsAllAdjacentAnswer (λ x y b. is_some_and is_le (Some (int_cmp x y)) ≡ b) numbers r
+
+-- of two numbers, as keys, the second is smaller or the first is at most the second
+fall-key : (x y : ℤ) → is_lt (row_cmp (number_key y) (number_key x)) ≡ not (is_le (int_cmp x y))
+fall-key x y = grind (arith, tests)
 
 -- the keys of rows are as these
 module _ (cols : List ℕ) (rows keys : List Row) (e : keys ≡ map (pick cols) rows) where
@@ -37,12 +41,10 @@ module _ (cols : List ℕ) (rows keys : List Row) (e : keys ≡ map (pick cols) 
       let near : suc k < length keys = omega (arith, m, l) in
       ap is_lt (sym (key-compare (suc k) k near (omega (arith, near)))) ∙ h k near))
 
-  pub keys-fall : (i : ℕ) → 1 ≤ i → i < length keys → is_lt (row_cmp (get_or keys i []) (get_or keys (i - 1) [])) ≡ true → false ≡ sorted cols rows
-  keys-fall i some near h =
+  pub keys-fall : (k : ℕ) → suc k < length keys → is_lt (row_cmp (get_or keys (suc k) []) (get_or keys k [])) ≡ true → false ≡ sorted cols rows
+  keys-fall k near h =
       let m = ap length e ∙ length-map rows (pick cols) in
-      let at : suc (i - 1) ≡ i = omega (arith, some) in
-      let fall : is_lt (compare_on cols (get_or rows i []) (get_or rows (i - 1) [])) ≡ true = ap is_lt (sym (key-compare i (i - 1) near (omega (arith, near)))) ∙ h in
-      sym (not_sorted cols rows (i - 1) (omega (arith, m, some, near)) (ap (λ k. is_lt (compare_on cols (get_or rows k []) (get_or rows (i - 1) []))) at ∙ fall) (sorted cols rows) refl)
+      sym (not_sorted cols rows k (omega (arith, m, near)) (ap is_lt (sym (key-compare (suc k) k near (omega (arith, near)))) ∙ h) (sorted cols rows) refl)
 
 -- a block of numbers that was read from a column
 module _ (column : List Row) (block : List ℤ) (from n : ℕ) (within : from + n ≤ length column) (is : map number_key block ≡ slice_range column from (from + n)) where
@@ -58,32 +60,33 @@ module _ (column : List Row) (block : List ℤ) (from n : ℕ) (within : from + 
       sym (get_or-map number_key block i (pos 0) [] (omega (arith, block-long, h)))
       ∙ (ap (λ ks. get_or ks i []) is ∙ get_or-slice column from (from + n) i [] (omega (arith, h)))
 
-  block-compare : (i j : ℕ) → i < n → j < n
-      → row_cmp (get_or column (from + i) []) (get_or column (from + j) []) ≡ row_cmp (number_key (get_or block i (pos 0))) (number_key (get_or block j (pos 0)))
-  block-compare i j a b = ap₂ row_cmp (sym (block-key i a)) (sym (block-key j b))
+  -- whether it falls behind a place
+  block-fall : (k : ℕ) → suc k < n → is_lt (row_cmp (get_or column (from + suc k) []) (get_or column (from + k) [])) ≡ not (is_le (int_cmp (get_or block k (pos 0)) (get_or block (k + 1) (pos 0))))
+  block-fall k near =
+      let next : suc k ≡ k + 1 = omega arith in
+      ap is_lt (ap₂ row_cmp (sym (block-key (suc k) near)) (sym (block-key k (omega (arith, near)))))
+      ∙ (fall-key (get_or block k (pos 0)) (get_or block (suc k) (pos 0)) ∙ ap (λ j. not (is_le (int_cmp (get_or block k (pos 0)) (get_or block j (pos 0))))) next)
 
   -- its first number is the last of those before it
-  pub block-rises : KeysRise column (from + 1) → (fall : Option ℕ) → is_some fall ≡ false → IfNone fall (NumbersRise block) → KeysRise column (from + n)
-  block-rises before (Some i) e none k l = absurd (true≢false e)
-  block-rises before None e none k l = elim (cases_lt (suc k) (from + 1)) [
+  pub block-rises : KeysRise column (from + 1) → (r : Bool) → r ≡ true → TellsRise block r → KeysRise column (from + n)
+  block-rises before false e up k l = absurd (true≢false (sym e))
+  block-rises before true e up k l = elim (cases_lt (suc k) (from + 1)) [
     | inl h ↦ before k h
     | inr h ↦
         let here : from + (k - from) ≡ k = omega (arith, h) in
         let next : from + suc (k - from) ≡ suc k = omega (arith, h) in
         let near : suc (k - from) < n = omega (arith, h, l) in
-        ap is_lt (ap₂ (λ i j. row_cmp (get_or column i []) (get_or column j [])) (sym next) (sym here))
-        ∙ (ap is_lt (block-compare (suc (k - from)) (k - from) near (omega (arith, near))) ∙ none (k - from) (omega (arith, near, block-long)))
+        ap is_lt (ap₂ (λ i j. row_cmp (get_or column i []) (get_or column j [])) (sym next) (sym here)) ∙ (block-fall (k - from) near ∙ ap not (up (k - from) (pos 0) (omega (arith, near, block-long))))
   ]
 
-  pub block-falls : (cols : List ℕ) (rows : List Row) → column ≡ map (pick cols) rows → (fall : Option ℕ) → is_some fall ≡ true → IfSome fall (λ i. 1 ≤ i) → IfSome fall (λ i. i < length block)
-      → IfSome fall (λ i. is_lt (row_cmp (number_key (get_or block i (pos 0))) (number_key (get_or block (i - 1) (pos 0)))) ≡ true) → false ≡ sorted cols rows
-  block-falls cols rows e None s some near h = absurd (true≢false (sym s))
-  block-falls cols rows e (Some i) s some near h =
-      let last : from + (i - 1) ≡ from + i - 1 = omega (arith, some) in
-      let inside : i < n = omega (arith, near, block-long) in
-      let first : 1 ≤ from + i = omega (arith, some) in
-      keys-fall cols rows column e (from + i) first (omega (arith, inside, within))
-      (ap (λ j. is_lt (row_cmp (get_or column (from + i) []) (get_or column j []))) (sym last) ∙ (ap is_lt (block-compare i (i - 1) inside (omega (arith, inside))) ∙ h))
+  pub block-falls : (cols : List ℕ) (rows : List Row) → column ≡ map (pick cols) rows → (r : Bool) → r ≡ false → TellsRise block r → false ≡ sorted cols rows
+  block-falls cols rows e true f fall = absurd (true≢false f)
+  block-falls cols rows e false f fall =
+      let k : ℕ = fall.0 in
+      let near : suc k < n = omega (arith, fall.1, block-long) in
+      let next : from + suc k ≡ suc (from + k) = omega arith in
+      keys-fall cols rows column e (from + k) (omega (arith, near, within))
+      (ap (λ j. is_lt (row_cmp (get_or column j []) (get_or column (from + k) []))) (sym next) ∙ (block-fall k near ∙ ap not (fall.2 (pos 0))))
 
 -- rows that do not fall up to where one of the tables begins that they lie in, nor there
 module _ (cols : List ℕ) (ts : List RowsView) (rows : List Row) (whole : all_rows ts ≡ rows) (i at : ℕ) (t : RowsView) (there : i < length ts) (is : t ≡ get_or ts i t)

@@ -5,6 +5,7 @@ ghost use Rattle.std.specs.List.{position_or_len, IsDistinct};
 ghost use Rattle.vx_values.specs.Values.{row_eq};
 ghost use Rattle.indexmap.specs.IndexSet.{insert_key, insert_all};
 ghost use Rattle.vx_keys.specs.Columns.{number_key};
+ghost use Rattle.vx_keys.specs.Direct.{direct_key};
 ghost use Rattle.vx_keys.specs.Numbers.{numbers_of};
 
 use crate::columns::IntColumn;
@@ -101,6 +102,7 @@ fn place_within(key: i64, count: usize) -> Option<usize>
 }
 
 // Makes a table reach past a place. It grows by zeros, so that it says of each number what it said before.
+#[inline(always)]
 fn reach(table: &mut Vec<u32>, place: usize) -> Result<(), AllocError>
     requires { place < 2 ^ 32 }
     ensures same { (v : ℕ) → slice_index table.new.items v ≡ slice_index table.old.items v }
@@ -155,6 +157,26 @@ impl DirectKeys {
         Some(mark - 1)
     }
 
+    // Adds the key of a place, which is not here, and returns its number. If it is refused, nothing changes.
+    #[inline(always)]
+    fn put(&mut self, place: usize) -> Result<Option<usize>, AllocError>
+        requires { position (row_eq (direct_key place)) self.old ≡ None }
+        ensures number { IfOk result (λ o. IfSome o (λ n. n ≡ length self.old)) }
+        ensures keys { IfOk result (λ o. IfSome o (λ _. self.new ≡ self.old ++ direct_key place ∷ [])) }
+        ensures refused { IfOk result (λ o. IfNone o (self.new ≡ self.old)) }
+        // a number and a key have 32 bits each
+        ensures full { IfOk result (λ o. IfNone o (place < 2 ^ 32 - 1 → 2 ^ 32 - 1 ≤ length self.old)) }
+    {
+        let number = self.keys.len();
+        if number >= MOST || place >= MOST {
+            return Ok(None);
+        }
+        reach(&mut self.table, place)?;
+        self.keys.push(place as u32)?;
+        self.table[place] = number as u32 + 1;
+        Ok(Some(number))
+    }
+
     // Adds a key that is not here, and returns its number. If it is refused, nothing changes.
     fn add(&mut self, key: i64) -> Result<Option<usize>, AllocError>
         requires { position (row_eq (number_key key)) self.old ≡ None }
@@ -164,17 +186,10 @@ impl DirectKeys {
         // a small key is refused only where there are as many keys as have numbers
         ensures small { IfOk result (λ o. IfNone o ((v : ℕ) → v < 65536 → key ≡ pos v → 2 ^ 32 - 1 ≤ length self.old)) }
     {
-        let number = self.keys.len();
-        let Some(place) = place_within(key, window(self.room, number)) else {
+        let Some(place) = place_within(key, window(self.room, self.keys.len())) else {
             return Ok(None);
         };
-        if number >= MOST {
-            return Ok(None);
-        }
-        reach(&mut self.table, place)?;
-        self.keys.push(place as u32)?;
-        self.table[place] = number as u32 + 1;
-        Ok(Some(number))
+        self.put(place)
     }
 
     // The number of a key, which is added if it is new. A new one that is refused changes nothing.
@@ -192,14 +207,8 @@ impl DirectKeys {
         if mark != 0 {
             return Ok(Some(mark - 1));
         }
-        // it is new, and the table is long enough already; a number and a key have 32 bits each
-        let number = self.keys.len();
-        if number >= MOST || place >= MOST {
-            return Ok(None);
-        }
-        self.keys.push(place as u32)?;
-        self.table[place] = number as u32 + 1;
-        Ok(Some(number))
+        // it is new, and the table is long enough already
+        self.put(place)
     }
 
     // Puts the numbers of the first of these keys, up to the first that is not here, and returns how many these are.

@@ -1,11 +1,10 @@
 //! Whether rows rise: no row is less than the one before it.
 
-ghost use Rattle.std.specs.Prelude.{◌≡◌, ◌-◌, ◌<◌, ◌≤◌, ℕ, suc, pos, List, map, length, slice_index_or, IfSome, IfNone, true, false};
+ghost use Rattle.std.specs.Prelude.{◌≡◌, ◌<◌, ℕ, suc, List, map, length, true, false};
 ghost use Rattle.std.specs.Ordering.{is_lt};
-ghost use Rattle.vx_values.specs.Values.{Row as Cells, pick, row_cmp};
+ghost use Rattle.vx_values.specs.Values.{Row as Cells, pick};
 ghost use Rattle.vx_rows.specs.Order.{compare_on, sorted};
 ghost use Rattle.vx_rows.specs.View.{row, AreColumns};
-ghost use Rattle.vx_keys.specs.Columns.{number_key};
 
 use crate::columns::IntColumn;
 use std::cmp::Ordering;
@@ -14,21 +13,6 @@ use vx_views::{Chunk, Rows};
 
 // How many numbers are read and compared at once.
 const BLOCK: usize = 64;
-
-// The place of the first number that is less than the one before it.
-fn first_fall(numbers: &[i64]) -> Option<usize>
-    ensures some { IfSome result (λ i. 1 ≤ i) }
-    ensures within { IfSome result (λ i. i < length numbers.now) }
-    ensures falls { IfSome result (λ i. is_lt (row_cmp (number_key (slice_index_or numbers.now i (pos 0))) (number_key (slice_index_or numbers.now (i - 1) (pos 0)))) ≡ true) }
-    ensures none { IfNone result ((k : ℕ) → suc k < length numbers.now → is_lt (row_cmp (number_key (slice_index_or numbers.now (suc k) (pos 0))) (number_key (slice_index_or numbers.now k (pos 0)))) ≡ false) }
-{
-    for i in 1..numbers.len() {
-        if numbers[i] < numbers[i - 1] {
-            return Some(i);
-        }
-    }
-    None
-}
 
 // Whether rows whose keys are these numbers rise.
 fn numbers_rise(numbers: &IntColumn<'_>) -> bool
@@ -40,7 +24,7 @@ fn numbers_rise(numbers: &IntColumn<'_>) -> bool
     while from + 1 < count {
         let block = BLOCK.min(count - from);
         numbers.read(from, &mut found[..block]);
-        if first_fall(&found[..block]).is_some() {
+        if !found[..block].is_sorted() {
             return false;
         }
         // the last number of a block is the first of the next one too

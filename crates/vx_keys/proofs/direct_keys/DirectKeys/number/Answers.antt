@@ -1,14 +1,14 @@
-use Rattle.std.proofs.Common.{◌≡◌, ◌≢◌, ◌<◌, ◌+◌, ◌-◌, ◌++◌, ◌∷◌, [], ℕ, ℤ, List, refl, arith, rules, sym, ap, ◌∙◌, subst, map, length, get_or, set, pos, w64}
+use Rattle.std.proofs.Common.{◌≡◌, ◌≢◌, ◌<◌, ◌+◌, ◌-◌, ◌++◌, ◌∷◌, [], ℕ, ℤ, List, refl, arith, rules, sym, ap, ◌∙◌, subst, map, length, get_or, pos, w64}
 use Rattle.std.specs.Prelude.{position, IfOk, IfSome, Some, None}
 use Rattle.std.specs.List.{position_or_len}
 use Rattle.std.proofs.lemmas.Int.{to_z-of_z}
-use Rattle.std.proofs.lemmas.List.{get_or_read, map-append, length-map}
+use Rattle.std.proofs.lemmas.List.{get_or_read}
 use Rattle.std.proofs.lemmas.List.Quantifiers.{position-Some}
 use Rattle.indexmap.specs.IndexSet.{insert_key}
 use Rattle.vx_values.specs.Values.{Row, row_eq}
 use Rattle.vx_keys.specs.Columns.{number_key}
 use Rattle.vx_keys.specs.Direct.{direct_key, IsTable}
-use Rattle.vx_keys.proofs.DirectFacts.{beyond-number, zero-number, marked-number, next-table}
+use Rattle.vx_keys.proofs.DirectFacts.{beyond-number, zero-number, marked-number}
 use Rattle.vx_keys.proofs.NumberFacts.{found-number, missing-number, key-known, key-new}
 use Rattle.vx_keys.proofs.direct_keys.DirectKeys.number.Goals as goal
 
@@ -20,16 +20,8 @@ module _ (items table : List ℕ) (keys : List Row) (is : IsTable items table) (
   marked : (z : ℤ) (v n : ℕ) → z ≡ pos v → get_or table v 0 ≡ n + 1 → position (row_eq (number_key z)) keys ≡ Some n
   marked z v n at mark = ap (position (row_eq (number_key z))) (sym shown) ∙ marked-number items table is z v n at mark
 
-  unmarked : (z : ℤ) (v : ℕ) → z ≡ pos v → get_or table v 0 ≡ 0 → length keys ≡ position_or_len (row_eq (number_key z)) keys
-  unmarked z v at none = missing-number (row_eq (number_key z)) keys (ap (position (row_eq (number_key z))) (sym shown) ∙ zero-number items table is z v at none)
-
-  -- the keys with one more
-  with-new : (z : ℤ) (v : ℕ) (more : List ℕ) → z ≡ pos v → get_or table v 0 ≡ 0 → more ≡ items ++ v ∷ [] → map direct_key more ≡ insert_key row_eq keys (number_key z)
-  with-new z v more at none is-more =
-      let past = unmarked z v at none in
-      ap (map direct_key) is-more
-      ∙ (map-append direct_key items (v ∷ [])
-      ∙ ((λ j. shown j ++ number_key (sym at j) ∷ []) ∙ sym (key-new keys (number_key z) (omega (arith, past)))))
+  unmarked : (v : ℕ) → get_or table v 0 ≡ 0 → position (row_eq (direct_key v)) keys ≡ None
+  unmarked v none = ap (position (row_eq (direct_key v))) (sym shown) ∙ zero-number items table is (pos v) v refl none
 
 pub add-requires : goal.add-requires
 add-requires c =
@@ -78,18 +70,28 @@ returns-then-mark-ne0-clause-keys c =
     let near : n < length keys = (position-Some (row_eq (number_key key)) keys n [] there).0 in
     sym (key-known keys (number_key key) (subst (λ m. m < length keys) (found-number (row_eq (number_key key)) keys n there) near))
 
-pub invariant_of-self-2 : goal.invariant_of-self-2
-invariant_of-self-2 c =
+pub put-requires : goal.put-requires
+put-requires c =
     let t = c.self.inside in
     let v = c.in-Some.place in
     let near : v < length t.table.items = omega (arith, c.in-Some.ensures.within, c.len.ensures, t.table.ok.0) in
     let zero : get_or t.table.items v 0 ≡ 0 = let read = get_or_read t.table.items v c.index.result.now near c.index.ensures 0 in sym read ∙ c.if-mark-ne0.false in
-    let count : c.len-number.result ≡ length t.keys.items = omega (arith, c.len-number.ensures, t.keys.ok.0) in
-    subst (λ (n : ℕ). IsTable c.push.new.self.items (set t.table.items v (n + 1))) (sym count)
-    (subst (λ (ks : List ℕ). IsTable ks (set t.table.items v (length t.keys.items + 1))) (sym c.in_ok-push.ensures.items) (next-table t.keys.items t.table.items c.self.invariant v near zero))
+    unmarked t.keys.items t.table.items c.args.self.now c.self.invariant c.self.view_is v zero
 
 pub returns-clause-number : goal.returns-clause-number
 returns-clause-number c =
+    let t = c.self.inside in
+    let key = c.args.key in
+    let v = c.in-Some.place in
+    let at : key ≡ pos v = sym (to_z-of_z w64 key (search rules)) ∙ c.in-Some.ensures.there in
+    let near : v < length t.table.items = omega (arith, c.in-Some.ensures.within, c.len.ensures, t.table.ok.0) in
+    let zero : get_or t.table.items v 0 ≡ 0 = let read = get_or_read t.table.items v c.index.result.now near c.index.ensures 0 in sym read ∙ c.if-mark-ne0.false in
+    let none = missing-number (row_eq (direct_key v)) c.args.self.now (unmarked t.keys.items t.table.items c.args.self.now c.self.invariant c.self.view_is v zero) in
+    let long : length c.args.self.now ≡ position_or_len (row_eq (number_key key)) c.args.self.now = none ∙ ap (λ z. position_or_len (row_eq (number_key z)) c.args.self.now) (sym at) in
+    subst (λ (m : ℕ). IfOk c.put.result (λ o. IfSome o (λ n. n ≡ m))) long c.put.ensures.number
+
+pub returns-clause-keys : goal.returns-clause-keys
+returns-clause-keys c =
     let t = c.self.inside in
     let key = c.args.key in
     let keys = c.args.self.now in
@@ -97,16 +99,6 @@ returns-clause-number c =
     let at : key ≡ pos v = sym (to_z-of_z w64 key (search rules)) ∙ c.in-Some.ensures.there in
     let near : v < length t.table.items = omega (arith, c.in-Some.ensures.within, c.len.ensures, t.table.ok.0) in
     let zero : get_or t.table.items v 0 ≡ 0 = let read = get_or_read t.table.items v c.index.result.now near c.index.ensures 0 in sym read ∙ c.if-mark-ne0.false in
-    let long : length t.keys.items ≡ length keys = sym (length-map t.keys.items direct_key) ∙ ap length c.self.view_is in
-    let count : c.len-number.result ≡ length keys = omega (arith, c.len-number.ensures, t.keys.ok.0, long) in
-    count ∙ unmarked t.keys.items t.table.items keys c.self.invariant c.self.view_is key v at zero
-
-pub returns-clause-keys : goal.returns-clause-keys
-returns-clause-keys c =
-    let t = c.self.inside in
-    let key = c.args.key in
-    let v = c.in-Some.place in
-    let at : key ≡ pos v = sym (to_z-of_z w64 key (search rules)) ∙ c.in-Some.ensures.there in
-    let near : v < length t.table.items = omega (arith, c.in-Some.ensures.within, c.len.ensures, t.table.ok.0) in
-    let zero : get_or t.table.items v 0 ≡ 0 = let read = get_or_read t.table.items v c.index.result.now near c.index.ensures 0 in sym read ∙ c.if-mark-ne0.false in
-    with-new t.keys.items t.table.items c.args.self.now c.self.invariant c.self.view_is key v c.push.new.self.items at zero c.in_ok-push.ensures.items
+    let none = missing-number (row_eq (direct_key v)) keys (unmarked t.keys.items t.table.items keys c.self.invariant c.self.view_is v zero) in
+    let is = sym (key-new keys (direct_key v) (omega (arith, none))) ∙ ap (λ z. insert_key row_eq keys (number_key z)) (sym at) in
+    subst (λ (ks : List Row). IfOk c.put.result (λ o. IfSome o (λ _. c.put.new.self ≡ ks))) is c.put.ensures.keys

@@ -1,11 +1,9 @@
-use Rattle.std.proofs.Common.{◌≡◌, ◌<◌, ◌+◌, arith, rules, sym, ap, ◌∙◌, subst, get_or, set, length, map, pos, w64, List, ℕ}
+use Rattle.std.proofs.Common.{◌≡◌, ◌<◌, ◌+◌, arith, refl, sym, ap, ◌∙◌, subst, get_or, set, length, map, pos, List, ℕ}
 use Rattle.std.specs.Prelude.{position, None}
-use Rattle.std.proofs.lemmas.Int.{to_z-of_z}
 use Rattle.vx_values.specs.Values.{row_eq}
-use Rattle.vx_keys.specs.Columns.{number_key}
 use Rattle.vx_keys.specs.Direct.{direct_key, IsTable}
 use Rattle.vx_keys.proofs.DirectFacts.{new-number, next-table, same-table}
-use Rattle.vx_keys.proofs.direct_keys.DirectKeys.add.Goals as goal
+use Rattle.vx_keys.proofs.direct_keys.DirectKeys.put.Goals as goal
 
 pub invariant_of-self : goal.invariant_of-self
 invariant_of-self c = same-table c.self.inside.keys.items c.self.inside.table.items c.self.invariant c.reach.new.table.items c.in_err-reach.ensures.same
@@ -17,13 +15,11 @@ invariant_of-self-in_err-push c =
 
 pub invariant_of-self-2 : goal.invariant_of-self-2
 invariant_of-self-2 c =
-    let key = c.args.key in
     let t = c.self.inside in
     let table = c.reach.new.table.items in
-    let v = c.in-Some.place in
-    let at : key ≡ pos v = sym (to_z-of_z w64 key (search rules)) ∙ c.in-Some.ensures.there in
-    let new : position (row_eq (number_key key)) (map direct_key t.keys.items) ≡ None = ap (position (row_eq (number_key key))) c.self.view_is ∙ c.requires in
-    let zero : get_or table v 0 ≡ 0 = c.in_ok-reach.ensures.same v ∙ new-number t.keys.items t.table.items c.self.invariant key v at new in
+    let v = c.args.place in
+    let new : position (row_eq (direct_key v)) (map direct_key t.keys.items) ≡ None = ap (position (row_eq (direct_key v))) c.self.view_is ∙ c.requires in
+    let zero : get_or table v 0 ≡ 0 = c.in_ok-reach.ensures.same v ∙ new-number t.keys.items t.table.items c.self.invariant (pos v) v refl new in
     let near : v < length table = omega (arith, c.in_ok-reach.ensures.there, c.reach.new.table.ok.0) in
     let count : c.len-number.result ≡ length t.keys.items = omega (arith, c.len-number.ensures, t.keys.ok.0) in
     let next = next-table t.keys.items table (same-table t.keys.items t.table.items c.self.invariant table c.in_ok-reach.ensures.same) v near zero in
