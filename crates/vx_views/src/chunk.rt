@@ -1,8 +1,8 @@
 //! Rows whose values lie in several shared tables side by side.
 
-ghost use Rattle.std.specs.Prelude.{◌≡◌, ◌↔◌, ◌+◌, ◌^◌, ◌<◌, ◌≤◌, ◌++◌, [], length, map, zip, slice_range, All, IfOk, IfSome, IfNone, IsTrue, OnOk};
+ghost use Rattle.std.specs.Prelude.{◌≡◌, ◌↔◌, ◌+◌, ◌^◌, ◌<◌, ◌≤◌, ◌++◌, [], length, map, zip, slice_index_or, slice_range, All, IfOk, IfSome, IfNone, IsTrue, OnOk};
 ghost use Rattle.std.specs.List.{AllByRecursion};
-ghost use Rattle.std.specs.Arc.{arc_value};
+ghost use Rattle.std.specs.Arc.{arc_value, arc_slice_items};
 ghost use Rattle.vx_values.specs.declared.value.ColType.TheVariants as kind;
 ghost use Rattle.vx_values.specs.Values.{value_at, pick};
 ghost use Rattle.vx_values.specs.ValueView.{cell_val};
@@ -18,7 +18,7 @@ use crate::positions::PositionsRef;
 use crate::table_rows::TableRows;
 use std::alloc::{AllocError, Global};
 use std::marker::Model;
-use std::sync::Arc;
+use std::sync::{Arc, ArcSlice};
 use vx_rows::{Cell, ColType, Numbers, Table, Texts};
 
 /// Where the values of a column lie: a part, and a column of it.
@@ -28,11 +28,12 @@ pub struct Field {
     pub column: usize,
 }
 
-/// Rows whose values lie in several shared tables side by side. Columns of one table share one list of positions.
+/// Rows whose values lie in several shared tables side by side. Columns of one table share one list of positions. What a chunk
+/// says of its columns is shared by the chunks that are cut from it.
 pub struct Chunk {
-    types: Vec<ColType>,
+    types: ArcSlice<ColType>,
     parts: Vec<TableRows>,
-    fields: Vec<Field>,
+    fields: ArcSlice<Field>,
     count: usize,
 }
 
@@ -49,6 +50,7 @@ impl Drop for Chunk {
 }
 
 impl Model for Chunk {
+    ghost use Rattle.std.specs.Arc.{arc_slice_items};
     ghost use Rattle.vx_rows.specs.View.{RowsView};
     ghost use Rattle.vx_rows.specs.Lists.{each_below};
 
@@ -56,9 +58,9 @@ impl Model for Chunk {
 
     ghost use Rattle.vx_views.specs.Chunks.{row_in, IsChunk};
 
-    ghost view = { λ c. record { types = c.types.items; rows = each_below c.count (row_in c.parts.items c.fields.items) } };
+    ghost view = { λ c. record { types = arc_slice_items c.types; rows = each_below c.count (row_in c.parts.items (arc_slice_items c.fields)) } };
 
-    ghost invariant = { λ c. IsChunk c.types.items c.parts.items c.fields.items c.count };
+    ghost invariant = { λ c. IsChunk (arc_slice_items c.types) c.parts.items (arc_slice_items c.fields) c.count };
 }
 
 impl Chunk {
@@ -69,8 +71,8 @@ impl Chunk {
         ensures types { IfOk result (λ c. c.types ≡ (arc_value base.now).types) }
         ensures rows { IfOk result (λ c. c.rows ≡ slice_range (arc_value base.now).rows from to) }
     {
-        let types = Vec::from_slice(alloc, base.types())?;
-        let fields = own_fields(alloc, types.len())?;
+        let types = ArcSlice::from_slice(alloc, base.types())?;
+        let fields = ArcSlice::from_vec(own_fields(alloc, types.len())?)?;
         let part = TableRows::of(base, from, to)?;
         let count = to - from;
         let mut parts = Vec::with_capacity(alloc, 1)?;
@@ -111,7 +113,7 @@ impl Chunk {
         requires column { column < length self.now.types }
         ensures { cell_val result ≡ value_at (row self.now i) column }
     {
-        let field = self.fields[column];
+        let field = field_of(&self.fields, column);
         self.parts[field.part].cell(i, field.column)
     }
 
@@ -123,8 +125,8 @@ impl Chunk {
         ensures rows { IfOk result (λ c. c.rows ≡ slice_range self.now.rows from to) }
     {
         let parts = parts_slice(alloc, self.parts.as_slice(), from, to)?;
-        let types = Vec::from_slice(alloc, self.types.as_slice())?;
-        let fields = Vec::from_slice(alloc, self.fields.as_slice())?;
+        let types = self.types.clone()?;
+        let fields = self.fields.clone()?;
         Ok(Chunk {
             types,
             parts,
@@ -140,8 +142,8 @@ impl Chunk {
         ensures rows { IfOk result (λ c. c.rows ≡ map (row self.now) places.now) }
     {
         let parts = parts_at(alloc, self.parts.as_slice(), places)?;
-        let types = Vec::from_slice(alloc, self.types.as_slice())?;
-        let fields = Vec::from_slice(alloc, self.fields.as_slice())?;
+        let types = self.types.clone()?;
+        let fields = self.fields.clone()?;
         Ok(Chunk {
             types,
             parts,
@@ -156,8 +158,8 @@ impl Chunk {
         ensures types { IfOk result (λ c. c.types ≡ map (type_at self.types) cols.now) }
         ensures rows { IfOk result (λ c. c.rows ≡ map (pick cols.now) self.rows) }
     {
-        let types = types_at(alloc, self.types.as_slice(), cols)?;
-        let fields = fields_at(alloc, self.fields.as_slice(), cols)?;
+        let types = ArcSlice::from_vec(types_at(alloc, self.types.as_slice(), cols)?)?;
+        let fields = ArcSlice::from_vec(fields_at(alloc, self.fields.as_slice(), cols)?)?;
         let Chunk {
             types: _,
             parts,
@@ -204,20 +206,27 @@ impl Chunk {
         ensures types { IfOk result (λ c. c.types ≡ left.types ++ right.types) }
         ensures rows { IfOk result (λ c. c.rows ≡ map (λ p. p.0 ++ p.1) (zip left.rows right.rows)) }
     {
+        let alloc = *left.parts.allocator();
+        let before = left.parts.len();
+        let types = types_of_both(alloc, left.types.as_slice(), right.types.as_slice())?;
+        let fields = fields_of_both(
+            alloc,
+            left.fields.as_slice(),
+            right.fields.as_slice(),
+            before,
+        )?;
         let Chunk {
-            mut types,
+            types: _,
             mut parts,
-            mut fields,
+            fields: _,
             count,
         } = left;
         let Chunk {
-            types: right_types,
+            types: _,
             parts: mut right_parts,
-            fields: right_fields,
+            fields: _,
             count: _,
         } = right;
-        types.extend_from_slice(right_types.as_slice())?;
-        push_shifted(&mut fields, right_fields.as_slice(), parts.len())?;
         parts.append(&mut right_parts)?;
         Ok(Chunk {
             types,
@@ -238,7 +247,7 @@ impl Chunk {
         requires number { type_at self.now.types column ≡ kind.Int }
         ensures { IfOk result (λ v. v.items ≡ places_of (λ r. of_number (T.says test.now) (value_at r column)) self.now.rows) }
     {
-        let field = self.fields[column];
+        let field = field_of(&self.fields, column);
         self.parts[field.part].places_where(alloc, field.column, test)
     }
 
@@ -249,7 +258,7 @@ impl Chunk {
         ensures none { IfNone result (type_at self.now.types column ≡ kind.Text) }
         ensures values { IfSome result (λ r. AreNumbers r.0.now (seen_positions r.1) column self.now.rows) }
     {
-        let field = self.fields[column];
+        let field = field_of(&self.fields, column);
         self.parts[field.part].numbers(field.column)
     }
 
@@ -260,7 +269,7 @@ impl Chunk {
         ensures none { IfNone result (type_at self.now.types column ≡ kind.Int) }
         ensures values { IfSome result (λ r. AreTexts r.0.now (seen_positions r.1) column self.now.rows) }
     {
-        let field = self.fields[column];
+        let field = field_of(&self.fields, column);
         self.parts[field.part].texts(field.column)
     }
 
@@ -279,6 +288,14 @@ impl Chunk {
     }
 }
 
+// The field of a column.
+fn field_of(fields: &ArcSlice<Field>, column: usize) -> Field
+    requires { column < length (arc_slice_items fields.now) }
+    ensures { result ≡ slice_index_or (arc_slice_items fields.now) column result }
+{
+    fields.as_slice()[column]
+}
+
 // Adds the fields of others, before whose parts so many stand.
 fn push_shifted(fields: &mut Vec<Field>, others: &[Field], before: usize) -> Result<(), AllocError>
     requires { All (λ f. f.part + before < 2 ^ 64) others.now }
@@ -292,6 +309,34 @@ fn push_shifted(fields: &mut Vec<Field>, others: &[Field], before: usize) -> Res
         })?;
     }
     Ok(())
+}
+
+// Types, and others behind them.
+fn types_of_both(
+    alloc: Global,
+    types: &[ColType],
+    others: &[ColType],
+) -> Result<ArcSlice<ColType>, AllocError>
+    ensures { IfOk result (λ v. arc_slice_items v ≡ types.now ++ others.now) }
+{
+    let mut all = Vec::from_slice(alloc, types)?;
+    all.extend_from_slice(others)?;
+    ArcSlice::from_vec(all)
+}
+
+// Fields, and others behind them, before whose parts so many stand.
+fn fields_of_both(
+    alloc: Global,
+    fields: &[Field],
+    others: &[Field],
+    before: usize,
+) -> Result<ArcSlice<Field>, AllocError>
+    requires { All (λ f. f.part + before < 2 ^ 64) others.now }
+    ensures { IfOk result (λ v. arc_slice_items v ≡ fields.now ++ map (shifted before) others.now) }
+{
+    let mut all = Vec::from_slice(alloc, fields)?;
+    push_shifted(&mut all, others, before)?;
+    ArcSlice::from_vec(all)
 }
 
 // Whether these fields are all columns of the first part, in order.

@@ -13,12 +13,12 @@ use crate::chunk::{Chunk, types_at};
 use std::alloc::{AllocError, Global};
 use std::marker::Model;
 use std::mem;
-use std::sync::Arc;
+use std::sync::{Arc, ArcSlice};
 use vx_rows::{Cell, ColType, Table};
 
-/// Rows in chunks, one behind the other. To add rows copies none.
+/// Rows in chunks, one behind the other. To add rows copies none. The list of types is shared by the rows that are cut from these.
 pub struct Rows {
-    types: Vec<ColType>,
+    types: ArcSlice<ColType>,
     chunks: Vec<Chunk>,
     count: usize,
 }
@@ -37,15 +37,16 @@ impl Drop for Rows {
 impl Model for Rows {
     ghost use Rattle.std.specs.Prelude.{◌≡◌, length, All};
     ghost use Rattle.std.specs.List.{AllByRecursion};
+    ghost use Rattle.std.specs.Arc.{arc_slice_items};
     ghost use Rattle.vx_values.specs.Types.{Fits};
     ghost use Rattle.vx_rows.specs.View.{RowsView};
     ghost use Rattle.vx_views.specs.Chunks.{all_rows};
 
     ghost Value = { RowsView };
 
-    ghost view = { λ r. record { types = r.types.items; rows = all_rows r.chunks.items } };
+    ghost view = { λ r. record { types = arc_slice_items r.types; rows = all_rows r.chunks.items } };
 
-    ghost invariant = { λ r. (r.count ≡ length (all_rows r.chunks.items)) × All (λ c. c.types ≡ r.types.items) r.chunks.items × AllByRecursion (Fits r.types.items) (all_rows r.chunks.items) };
+    ghost invariant = { λ r. (r.count ≡ length (all_rows r.chunks.items)) × All (λ c. c.types ≡ arc_slice_items r.types) r.chunks.items × AllByRecursion (Fits (arc_slice_items r.types)) (all_rows r.chunks.items) };
 }
 
 impl Rows {
@@ -55,7 +56,19 @@ impl Rows {
         ensures rows { IfOk result (λ r. r.rows ≡ []) }
     {
         Ok(Rows {
-            types: Vec::from_slice(alloc, types)?,
+            types: ArcSlice::from_slice(alloc, types)?,
+            chunks: Vec::new(alloc),
+            count: 0,
+        })
+    }
+
+    // No rows, of the types of these.
+    fn none_alike(&self, alloc: Global) -> Result<Rows, AllocError>
+        ensures types { IfOk result (λ r. r.types ≡ self.now.types) }
+        ensures rows { IfOk result (λ r. r.rows ≡ []) }
+    {
+        Ok(Rows {
+            types: self.types.clone()?,
             chunks: Vec::new(alloc),
             count: 0,
         })
@@ -175,7 +188,7 @@ impl Rows {
         ensures none { OnOk result (self.new.rows ≡ []) }
         ensures err { OnErr result (self.new.rows ≡ self.old.rows) }
     {
-        let empty = Rows::new(alloc, self.types.as_slice())?;
+        let empty = self.none_alike(alloc)?;
         Ok(mem::replace(self, empty))
     }
 
@@ -195,7 +208,7 @@ impl Rows {
         ensures types { IfOk result (λ r. r.types ≡ self.now.types) }
         ensures rows { IfOk result (λ r. r.rows ≡ slice_range self.now.rows from to) }
     {
-        let mut found = Rows::new(alloc, self.types.as_slice())?;
+        let mut found = self.none_alike(alloc)?;
         add_part(alloc, &mut found, self.chunks.as_slice(), from, to - from)?;
         Ok(found)
     }
@@ -206,7 +219,7 @@ impl Rows {
         ensures types { IfOk result (λ r. r.types ≡ self.now.types) }
         ensures rows { IfOk result (λ r. r.rows ≡ map (row self.now) places.now) }
     {
-        let mut found = Rows::new(alloc, self.types.as_slice())?;
+        let mut found = self.none_alike(alloc)?;
         add_at(alloc, &mut found, self.chunks.as_slice(), places)?;
         Ok(found)
     }
