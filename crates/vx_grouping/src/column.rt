@@ -81,7 +81,7 @@ fn add_extremes(
     match extremes {
         Extremes::Values(entries) => add_rows(&fold, entries, numbers),
         Extremes::Numbers(entries) => {
-            if let Some(operand) = NumberOperand::of(chunk, column) {
+            if let Some(operand) = NumberOperand::of(fold.alloc, chunk, column)? {
                 let end = fold.end;
                 return add_rows(&ExtremeNumbers { end, operand }, entries, numbers);
             }
@@ -95,6 +95,7 @@ fn add_extremes(
 
 // Adds the rows of a chunk to the sums of a column.
 fn add_sums(
+    alloc: Global,
     operand: CellOperand<'_>,
     sums: &mut Vec<WideSum>,
     numbers: &[usize],
@@ -103,7 +104,7 @@ fn add_sums(
     ensures taken { OnOk result (Takes (sum operand.entry.column) operand.entry.chunk.now.rows numbers.now (map (sum_held operand.entry.column) sums.old.items) (map (sum_held operand.entry.column) sums.new.items)) }
     ensures err { IfErr result (λ e. TakesNot e (sum operand.entry.column) operand.entry.chunk.now.rows numbers.now (map (sum_held operand.entry.column) sums.old.items)) }
 {
-    match NumberOperand::of(operand.chunk, operand.column) {
+    match NumberOperand::of(alloc, operand.chunk, operand.column)? {
         Some(operand) => add_rows(&SumOfNumbers { operand }, sums, numbers),
         None => add_rows(&SumOfValues { operand }, sums, numbers),
     }
@@ -169,7 +170,7 @@ impl AggregateColumn {
                     chunk,
                     column: *column,
                 };
-                add_sums(operand, sums, numbers)
+                add_sums(alloc, operand, sums, numbers)
             }
             AggregateColumn::CountRows(counts) => add_rows(&Count { chunk }, counts, numbers),
         }

@@ -4,6 +4,7 @@ ghost use Rattle.std.specs.Prelude.{◌≡◌, ◌<◌, ◌∷◌, [], length, m
 ghost use Rattle.vx_values.specs.Values.{num, pick, value_at};
 ghost use Rattle.vx_values.specs.ValueView.{val_of, cell_val};
 ghost use Rattle.vx_rows.specs.View.{row};
+ghost use Rattle.vx_keys.specs.Columns.{number_key};
 ghost use Rattle.vx_grouping.specs.Groups.{number_of};
 
 use std::alloc::{AllocError, Global};
@@ -12,15 +13,16 @@ use vx_keys::IntColumn;
 use vx_rows::{Cell, Value};
 use vx_views::Chunk;
 
-/// A column of a chunk that has numbers.
+/// A column of a chunk that has numbers. They are read once, in one loop for each way in which a column may lie, so that no
+/// aggregate asks that of each row.
 pub(crate) struct NumberOperand<'a> {
     chunk: &'a Chunk,
     column: usize,
-    numbers: IntColumn<'a>,
-    ghost same: { numbers ≡ map (pick (column ∷ [])) chunk.now.rows },
+    numbers: Vec<i64>,
+    ghost same: { map number_key numbers.items ≡ map (pick (column ∷ [])) chunk.now.rows },
 }
 
-// By hand, so that the drop of the column is made and proved here once.
+// By hand, so that the drop of the numbers is made and proved here once.
 impl Drop for NumberOperand<'_> {
     fn drop(self) {
         let NumberOperand {
@@ -33,19 +35,28 @@ impl Drop for NumberOperand<'_> {
 
 impl<'a> NumberOperand<'a> {
     /// That column, if there is one with numbers.
-    pub fn of(chunk: &'a Chunk, column: usize) -> Option<NumberOperand<'a>>
-        ensures chunk { IfSome result (λ o. o.chunk.now ≡ chunk.now) }
-        ensures column { IfSome result (λ o. o.column ≡ column) }
+    pub fn of(
+        alloc: Global,
+        chunk: &'a Chunk,
+        column: usize,
+    ) -> Result<Option<NumberOperand<'a>>, AllocError>
+        ensures chunk { IfOk result (λ o. IfSome o (λ x. x.chunk.now ≡ chunk.now)) }
+        ensures column { IfOk result (λ o. IfSome o (λ x. x.column ≡ column)) }
     {
         if column >= chunk.types().len() {
-            return None;
+            return Ok(None);
         }
-        let numbers = IntColumn::of(chunk, &[column])?;
-        Some(NumberOperand {
+        let Some(view) = IntColumn::of(chunk, &[column]) else {
+            return Ok(None);
+        };
+        let mut numbers = Vec::new(alloc);
+        numbers.resize(chunk.len(), 0)?;
+        view.read(0, numbers.as_mut_slice());
+        Ok(Some(NumberOperand {
             chunk,
             column,
             numbers,
-        })
+        }))
     }
 
     /// The number of row i.
@@ -54,7 +65,7 @@ impl<'a> NumberOperand<'a> {
         requires { i < length self.now.chunk.now.rows }
         ensures { num result ≡ value_at (row self.now.chunk.now i) self.now.column }
     {
-        self.numbers.get(i)
+        self.numbers[i]
     }
 }
 

@@ -1,9 +1,10 @@
-use Rattle.std.proofs.Common.{◌≡◌, ◌∙◌, ℕ, List, sym, ap, subst, map}
+use Rattle.std.proofs.Common.{◌≡◌, ◌∙◌, ℕ, List, Option, IfSome, sym, ap, subst, map}
 use Rattle.vx_values.specs.Values.{num}
 use Rattle.vx_values.specs.ValueView.{val_of}
 use Rattle.vx_rows.specs.View.{RowsView}
 use Rattle.vx_keys.proofs.ErrorFacts.{if-err, reported}
 use Rattle.vx_grouping.specs.declared.fault.GroupFault.{GroupFault}
+use Rattle.vx_grouping.specs.declared.operands.NumberOperand.{NumberOperand}
 use Rattle.vx_grouping.specs.Groups.{Held}
 use Rattle.vx_grouping.specs.Takes.{entry_held, TakesNot}
 use Rattle.vx_grouping.specs.Shown.{aggregate_at, extremes_held}
@@ -16,14 +17,18 @@ returns-in-Some-clause-err c =
     let end = c.args.fold.end in
     let numbers = c.args.numbers.now in
     let rows = c.args.fold.operand.chunk.now.rows in
+    let that : (o.chunk.now ≡ c.args.fold.operand.chunk.now) × (o.column ≡ c.args.fold.operand.column) = (
+      subst (λ (p : Option NumberOperand). IfSome p (λ x. x.chunk.now ≡ c.args.fold.operand.chunk.now)) c.in-Some.is c.in_ok-operand-in-Numbers.ensures.chunk,
+      subst (λ (p : Option NumberOperand). IfSome p (λ x. x.column ≡ c.args.fold.operand.column)) c.in-Some.is c.in_ok-operand-in-Numbers.ensures.column,
+    ) in
     let held : ℕ → List Held = λ col. map (entry_held (aggregate_at end col) (λ n. num n) (λ _. 0)) c.in-Numbers.entries.items in
     let was : held c.args.fold.operand.column ≡ extremes_held (aggregate_at end c.args.fold.operand.column) c.args.extremes.now =
     ap (extremes_held (aggregate_at end c.args.fold.operand.column)) (sym c.in-Numbers.is) in
     if-err c.add_rows-in-Some.result (λ (e : GroupFault). TakesNot e (aggregate_at end o.column) o.chunk.now.rows numbers (held o.column))
     (λ (e : GroupFault). TakesNot e (aggregate_at end c.args.fold.operand.column) rows numbers (extremes_held (aggregate_at end c.args.fold.operand.column) c.args.extremes.now))
     (λ e h. subst (TakesNot e (aggregate_at end c.args.fold.operand.column) rows numbers) was
-    (subst (λ col. TakesNot e (aggregate_at end col) rows numbers (held col)) c.in-Some.ensures.column
-    (subst (λ (t : RowsView). TakesNot e (aggregate_at end o.column) t.rows numbers (held o.column)) c.in-Some.ensures.chunk h)))
+    (subst (λ col. TakesNot e (aggregate_at end col) rows numbers (held col)) that.1
+    (subst (λ (t : RowsView). TakesNot e (aggregate_at end o.column) t.rows numbers (held o.column)) that.0 h)))
     c.add_rows-in-Some.ensures.err
 
 pub returns-in_err-add_rows-in-Numbers-clause-err : goal.returns-in_err-add_rows-in-Numbers-clause-err
