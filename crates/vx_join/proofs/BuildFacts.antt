@@ -104,12 +104,16 @@ part-found by rows keys parts key n is at inside =
     let passes : row_eq key (get_or ks n []) ≡ true = subst (λ m. row_eq key (get_or ks m []) ≡ true) (sym at) (passes_at_first (row_eq key) ks [] (subst (λ m. m < length ks) at near)) in
     ap (λ l. get_or l n []) is.parts_are ∙ (get_or-map (λ k. places_of by k rows) ks n [] [] near ∙ ap (λ k. places_of by k rows) (sym (row_eq-same key (get_or ks n []) passes)))
 
+pub key-missing : (by : List ℕ) (rows : List Row) (key : Row) (n : ℕ) → n ≡ position_or_len (row_eq key) (group_keys by rows) → length (group_keys by rows) ≤ n → [] ≡ places_of by key rows
+key-missing by rows key n at past =
+    sym (places-none by key rows (sym (any-firsts key (map (pick by) rows)) ∙ any-absent (row_eq key) (group_keys by rows) (omega (arith, past, at))))
+
 pub part-missing : (by : List ℕ) (rows keys : List Row) (parts : List (List ℕ)) (key : Row) (n : ℕ) → IsIndex by rows keys parts → n ≡ position_or_len (row_eq key) (group_keys by rows) → length parts ≤ n
     → [] ≡ places_of by key rows
 part-missing by rows keys parts key n is at past =
     let ks = group_keys by rows in
     let long : length parts ≡ length ks = ap length is.parts_are ∙ length-map ks (λ k. places_of by k rows) in
-    sym (places-none by key rows (sym (any-firsts key (map (pick by) rows)) ∙ any-absent (row_eq key) ks (omega (arith, past, long, at))))
+    key-missing by rows key n at (omega (arith, past, long))
 
 behind : (l : Row) (f : ℕ → Row) (ks : List ℕ) → map (λ j. l ++ f j) ks ≡ map (λ r. l ++ r) (map f ks)
 behind l f [] = refl

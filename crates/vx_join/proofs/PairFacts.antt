@@ -75,6 +75,14 @@ pairs-more ls rs lefts rights columns by at ps near is h =
           ∙ sym (ap (flat_map f) (take_more ls at [] near) ∙ (flat_map-append f (take at ls) (l ∷ []) ∙ ap (λ rows. flat_map f (take at ls) ++ rows) (append-nil (f l)))));
     }
 
+-- one left row whose key no right row has
+pub pairs-missing : (ls rs : List Row) (lefts rights columns by : List ℕ) (at : ℕ) → at < length ls → [] ≡ places_of by (pick columns (get_or ls at [])) rs
+    → ArePairs ls rs lefts rights (flat_map (matched columns by rs) (take at ls)) → ArePairs ls rs lefts rights (flat_map (matched columns by rs) (take (at + 1) ls))
+pairs-missing ls rs lefts rights columns by at near is h =
+    let made = flat_map (matched columns by rs) (take (at + 1) ls) in
+    subst (λ (ks : List ℕ). ArePairs ls rs ks rights made) (append-nil lefts)
+    (subst (λ (ks : List ℕ). ArePairs ls rs (lefts ++ []) ks made) (append-nil rights) (pairs-more ls rs lefts rights columns by at [] near is h))
+
 -- the number of a row's key, among those of a part of the rows
 pub number-in : (columns : List ℕ) (ks ls : List Row) (ns : List ℕ) (from to i : ℕ) → from + length ns ≡ to → to ≤ length ls → i < length ns
     → ns ≡ map (λ r. position_or_len (row_eq (pick columns r)) ks) (slice_range ls from to) → get_or ns i 0 ≡ position_or_len (row_eq (pick columns (get_or ls (from + i) []))) ks

@@ -200,11 +200,17 @@ impl Build {
             → ArePairs ls self.now.rows pairs.old.lefts.items pairs.old.rights.items (flat_map (matched columns self.now.columns self.now.rows) (take from ls))
             → ArePairs ls self.now.rows pairs.new.lefts.items pairs.new.rights.items (flat_map (matched columns self.now.columns self.now.rows) (take n ls))) }
     {
+        let known = self.keys.len();
         for i in 0..numbers.len() {
+            let number = numbers[i];
+            // no right row has the key: most rows of a selective join go no further
+            if number >= known {
+                continue;
+            }
             if pairs.lefts.len() >= most {
                 return Ok(from + i);
             }
-            push_pairs(pairs, from + i, self.matches(numbers[i]))?;
+            push_pairs(pairs, from + i, self.matches(number))?;
         }
         Ok(to)
     }

@@ -1,11 +1,36 @@
-use Rattle.std.proofs.Common.{arith, ◌≡◌, ◌+◌, ◌++◌, ◌<◌, [], sym, subst, flat_map, take, length, get_or, ℕ, List}
+use Rattle.std.proofs.Common.{arith, ◌≡◌, ◌+◌, ◌++◌, ◌<◌, [], sym, subst, ap, ◌∙◌, ◌≤◌, flat_map, take, length, get_or, ℕ, List}
 use Rattle.vx_values.specs.Values.{pick}
 use Rattle.vx_plan_nodes.specs.Serial.{group_keys}
-use Rattle.vx_join.specs.Build.{ArePairs}
+use Rattle.vx_join.specs.Build.{Built, ArePairs}
 use Rattle.vx_join.specs.Parts.{listed_places}
 use Rattle.vx_keys.specs.Matched.{matched}
-use Rattle.vx_join.proofs.PairFacts.{pairs-more, number-in}
+use Rattle.vx_join.proofs.BuildFacts.{key-missing}
+use Rattle.vx_join.proofs.PairFacts.{pairs-more, pairs-missing, number-in}
 use Rattle.vx_join.proofs.join.Build.pair_numbers.Goals as goal
+
+pub loop-i-preserved-then-number-known : goal.loop-i-preserved-then-number-known
+loop-i-preserved-then-number-known c = record {
+  start = λ z. absurd (omega (arith, z));
+  pairs = λ columns ls within is old.
+      let b = c.args.self.now in
+      let ns = c.args.numbers.now in
+      let i = c.loop-i.i in
+      let at = c.args.from + i in
+      let lefts = c.loop-i.pairs.lefts.items in
+      let rights = c.loop-i.pairs.rights.items in
+      let key = pick columns (get_or ls at []) in
+      let ks = group_keys b.columns b.rows in
+      let few : i < length ns = omega (arith, c.loop-i-test.true) in
+      let near : at < length ls = omega (arith, few, within, c.requires) in
+      let keys : c.self.inside.keys ≡ ks = subst (λ (v : Built). c.self.inside.keys ≡ group_keys v.columns v.rows) c.self.view_is c.self.invariant.keys_are in
+      let many = c.len-known.ensures.len ∙ ap length keys in
+      let past : length ks ≤ get_or ns i 0 = omega (arith, c.if-number-known.true, many) in
+      let number = number-in columns ks ls ns c.args.from c.args.to i c.requires within few is in
+      let none = key-missing b.columns b.rows key (get_or ns i 0) number past in
+      let next : at + 1 ≡ c.args.from + (i + 1) = omega arith in
+      subst (λ (n : ℕ). ArePairs ls b.rows lefts rights (flat_map (matched columns b.columns b.rows) (take n ls))) next
+      (pairs-missing ls b.rows lefts rights columns b.columns at near none (c.loop-i.invariant.pairs columns ls within is old));
+}
 
 pub loop-i-preserved : goal.loop-i-preserved
 loop-i-preserved c = record {
