@@ -11,7 +11,9 @@ ghost use Rattle.vx_grouping.specs.Shown.{aggregate_at, extremes_held, sum_held,
 
 use crate::fault::GroupFault;
 use crate::fold::add_rows;
-use crate::folds::{Count, End, ExtremeNumbers, ExtremeValues, SumOfNumbers, SumOfValues};
+use crate::folds::{
+    Count, End, ExtremeValues, GreatestNumbers, LeastNumbers, SumOfNumbers, SumOfValues,
+};
 use crate::operands::{CellOperand, NumberOperand};
 use crate::sum::WideSum;
 use std::alloc::{AllocError, Global};
@@ -82,8 +84,10 @@ fn add_extremes(
         Extremes::Values(entries) => add_rows(&fold, entries, numbers),
         Extremes::Numbers(entries) => {
             if let Some(operand) = NumberOperand::of(fold.alloc, chunk, column)? {
-                let end = fold.end;
-                return add_rows(&ExtremeNumbers { end, operand }, entries, numbers);
+                return match fold.end {
+                    End::Least => add_rows(&LeastNumbers { operand }, entries, numbers),
+                    End::Greatest => add_rows(&GreatestNumbers { operand }, entries, numbers),
+                };
             }
             let mut values = as_values(fold.alloc, entries.as_slice())?;
             add_rows(&fold, &mut values, numbers)?;

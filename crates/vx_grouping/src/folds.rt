@@ -1,7 +1,6 @@
 //! The aggregates: least and greatest values, sums and counts.
 
 ghost use Rattle.std.specs.Prelude.{◌≡◌, ◌+◌, ◌+ℤ◌, OnOk, IfErr};
-ghost use Rattle.vx_values.specs.Values.{num};
 ghost use Rattle.vx_values.specs.ValueView.{val_of, cell_val};
 ghost use Rattle.vx_grouping.specs.GroupFaults.{StepBlame};
 ghost use Rattle.vx_grouping.specs.Shown.{is_beyond};
@@ -22,17 +21,6 @@ pub(crate) enum End {
 }
 
 impl End {
-    // Whether a number is nearer to this end than the one that is kept.
-    #[inline(always)]
-    fn is_number_beyond(self, number: i64, kept: i64) -> bool
-        ensures { result ≡ is_beyond self (num number) (num kept) }
-    {
-        match self {
-            End::Least => kept > number,
-            End::Greatest => kept < number,
-        }
-    }
-
     // Whether a value is nearer to this end than the one that is kept.
     fn is_cell_beyond(self, cell: Cell<'_>, kept: &Value) -> bool
         ensures { result ≡ is_beyond self (cell_val cell.entry) (val_of kept.now) }
@@ -45,28 +33,27 @@ impl End {
     }
 }
 
-/// The least or the greatest number of a column.
-pub(crate) struct ExtremeNumbers<'a> {
-    pub end: End,
+/// The least number of a column.
+pub(crate) struct LeastNumbers<'a> {
     pub operand: NumberOperand<'a>,
 }
 
 // By hand, so that the drop of the operand is made and proved here once.
-impl Drop for ExtremeNumbers<'_> {
+impl Drop for LeastNumbers<'_> {
     fn drop(self) {
-        let ExtremeNumbers { end: _, operand: _ } = self;
+        let LeastNumbers { operand: _ } = self;
     }
 }
 
-impl Fold for ExtremeNumbers<'_> {
+impl Fold for LeastNumbers<'_> {
     ghost use Rattle.vx_values.specs.Values.{num};
-    ghost use Rattle.vx_grouping.specs.Shown.{aggregate_at};
+    ghost use Rattle.vx_plan_nodes.specs.Plan.{least};
 
     type Entry = i64;
 
     ghost rows = { λ f. f.operand.chunk.now.rows };
 
-    ghost aggregate = { λ f. aggregate_at f.end f.operand.column };
+    ghost aggregate = { λ f. least f.operand.column };
 
     ghost value = { λ n. num n };
 
@@ -79,10 +66,45 @@ impl Fold for ExtremeNumbers<'_> {
 
     #[inline(always)]
     fn add(&self, entry: &mut i64, i: usize) -> Result<(), GroupFault> {
-        let number = self.operand.get(i);
-        if self.end.is_number_beyond(number, *entry) {
-            *entry = number;
-        }
+        *entry = (*entry).min(self.operand.get(i));
+        Ok(())
+    }
+}
+
+/// The greatest number of a column.
+pub(crate) struct GreatestNumbers<'a> {
+    pub operand: NumberOperand<'a>,
+}
+
+// By hand, so that the drop of the operand is made and proved here once.
+impl Drop for GreatestNumbers<'_> {
+    fn drop(self) {
+        let GreatestNumbers { operand: _ } = self;
+    }
+}
+
+impl Fold for GreatestNumbers<'_> {
+    ghost use Rattle.vx_values.specs.Values.{num};
+    ghost use Rattle.vx_plan_nodes.specs.Plan.{greatest};
+
+    type Entry = i64;
+
+    ghost rows = { λ f. f.operand.chunk.now.rows };
+
+    ghost aggregate = { λ f. greatest f.operand.column };
+
+    ghost value = { λ n. num n };
+
+    ghost taken = { λ _. 0 };
+
+    #[inline(always)]
+    fn first(&self, i: usize) -> Result<i64, AllocError> {
+        Ok(self.operand.get(i))
+    }
+
+    #[inline(always)]
+    fn add(&self, entry: &mut i64, i: usize) -> Result<(), GroupFault> {
+        *entry = (*entry).max(self.operand.get(i));
         Ok(())
     }
 }
