@@ -1,8 +1,8 @@
 //! The program's hash router.
 
-ghost use Rattle.std.specs.Prelude.{◌≡◌, ◌≤◌, ◌*◌, ◌++◌, ◌∷◌, [], length, take, map, flat_map};
+ghost use Rattle.std.specs.Prelude.{◌≡◌, ◌≤◌, ◌<◌, ◌+◌, ◌*◌, ◌%◌, ◌^◌, ◌++◌, ◌∷◌, [], length, take, map, flat_map, All, IsTrue};
 ghost use Rattle.std.specs.List.{fold};
-ghost use Rattle.std.specs.Int.{w64, to_be_bytes, cast_unsigned};
+ghost use Rattle.std.specs.Int.{w32, w64, to_be_bytes, cast_unsigned, IsPowerOfTwo};
 ghost use Rattle.std.proofs.lemmas.Nat.{mod_below};
 ghost use Rattle.vx_values.specs.ValueView.{val_of};
 ghost use Rattle.vx_exchange.specs.ByteRouter.{hash_byte, value_bytes, key_hash, byte_route};
@@ -82,6 +82,31 @@ fn hash_small(start: u32, zeros: u32, n: i64) -> u32
     hash_four(zeros, b[0], b[1], b[2], b[3])
 }
 
+// Whether each of these is from 0 to 2^32 - 1.
+fn are_small(keys: &[i64]) -> bool
+    ensures { IsTrue result → All (λ key. cast_unsigned w64 key < 2 ^ 32) keys.now }
+{
+    let mut small = true;
+    for key in keys {
+        small &= key.cast_unsigned() <= 0xffff_ffff;
+    }
+    small
+}
+
+// The consumers of keys from 0 to 2^32 - 1 among `mask + 1`, a power of two. The loop has no branch and no division, so it is done for several
+// keys at once.
+fn route_small(zeros: u32, keys: &[i64], mask: u32, consumers: &mut [u32])
+    requires many { length keys.now ≡ length consumers.old }
+    requires small { All (λ key. cast_unsigned w64 key < 2 ^ 32) keys.now }
+    requires power { IsPowerOfTwo (mask + 1) }
+    ensures { consumers.new ≡ map (λ key. fold hash_byte zeros (to_be_bytes w32 (cast_unsigned w64 key)) % (mask + 1)) keys.now }
+{
+    for i in 0..consumers.len() {
+        let b = (keys[i].cast_unsigned() as u32).to_be_bytes();
+        consumers[i] = hash_four(zeros, b[0], b[1], b[2], b[3]) & mask;
+    }
+}
+
 fn hash_value(start: u32, value: &Value) -> u32
     ensures { result ≡ fold hash_byte start (value_bytes (val_of value.now)) }
 {
@@ -121,6 +146,10 @@ impl Router for ByteRouter {
     fn route_numbers(&self, name: &str, keys: &[i64], n: u32, consumers: &mut [u32]) {
         let start = hash_byte(hash_name(name), 1);
         let zeros = hash_four(start, 0, 0, 0, 0);
+        if n.is_power_of_two() && are_small(keys) {
+            route_small(zeros, keys, n - 1, consumers);
+            return;
+        }
         let remainders = Remainders::by(n);
         for i in 0..keys.len() {
             consumers[i] = remainders.of(hash_small(start, zeros, keys[i]));
