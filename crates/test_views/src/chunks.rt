@@ -230,33 +230,41 @@ impl NumberTest for Between {
     }
 }
 
-// The places of the numbers from `least` to `most` of the first column, where it has numbers.
-fn places(alloc: Global, chunk: &Chunk, least: i64, most: i64) -> Result<Vec<usize>, AllocError> {
+// The places of the numbers from `least` to `most` of the first column, where it has numbers and some of them are others.
+fn places(
+    alloc: Global,
+    chunk: &Chunk,
+    least: i64,
+    most: i64,
+) -> Result<Option<Vec<usize>>, AllocError> {
     if chunk.types().len() > 0 && chunk.types()[0] == ColType::Int {
-        return Ok(chunk.places_where(alloc, 0, &Between { least, most })?);
+        return chunk.places_where(alloc, 0, &Between { least, most });
     }
-    Ok(Vec::new(alloc))
+    Ok(None)
 }
 
-// A table, steps, the least and the greatest number that are looked for in what comes of them, and the places.
-type Search<'a> = (Pairs<'a>, &'a [Step<'a>], i64, i64, &'a [usize]);
+// A table, steps, the least and the greatest number that are looked for in what comes of them, and the places: none where all are such.
+type Search<'a> = (Pairs<'a>, &'a [Step<'a>], i64, i64, Option<&'a [usize]>);
 
 // Compares the places that are found in each case.
 fn compare_places(rt: &impl Abort, alloc: Global, cases: &[Search<'_>]) -> Result<(), AllocError> {
     for (pairs, steps, least, most, found) in cases {
         let chunk = made(alloc, pairs, steps)?;
-        assert_eq!(rt; places(alloc, &chunk, *least, *most)?.as_slice(), *found);
+        let places = places(alloc, &chunk, *least, *most)?;
+        assert_eq!(rt; places.as_ref().map(|p| p.as_slice()), *found);
     }
     Ok(())
 }
 
 const MIXED: [(i64, &str); 5] = [(5, "p"), (-3, "q"), (7, "r"), (0, "s"), (6, "t")];
 
-const IN_MIXED: [Search<'_>; 4] = [
-    (&MIXED, &[], 0, 6, &[0, 3, 4]),
-    (&MIXED, &[Step::Places(&[3, 2, 0])], 0, 6, &[0, 2]),
-    (&MIXED, &[Step::Places(&[3, 2, 0])], 6, 0, &[]),
-    (&MIXED, &[Step::Cut(5, 5)], -9, 9, &[]),
+const IN_MIXED: [Search<'_>; 6] = [
+    (&MIXED, &[], 0, 6, Some(&[0, 3, 4])),
+    (&MIXED, &[], -3, 7, None),
+    (&MIXED, &[Step::Places(&[3, 2, 0])], 0, 6, Some(&[0, 2])),
+    (&MIXED, &[Step::Places(&[3, 2, 0])], 0, 7, None),
+    (&MIXED, &[Step::Places(&[3, 2, 0])], 6, 0, Some(&[])),
+    (&MIXED, &[Step::Cut(5, 5)], -9, 9, None),
 ];
 
 #[test]
@@ -312,13 +320,13 @@ const LARGE: [(i64, &str); 4] = [
 ];
 
 const IN_LARGE: [Search<'_>; 2] = [
-    (&LARGE, &[], 5, 6_000_000_000, &[0, 1]),
+    (&LARGE, &[], 5, 6_000_000_000, Some(&[0, 1])),
     (
         &LARGE,
         &[Step::Places(&[3, 1, 0])],
         -6_000_000_000,
         5,
-        &[0, 2],
+        Some(&[0, 2]),
     ),
 ];
 

@@ -1,6 +1,7 @@
 -- All conditions hold, one by one.
 use Rattle.std.proofs.Common.{◌≡◌, ℕ, ◌+◌, ◌<◌, ◌&&◌, Bool, true, false, cond, List, [], ◌∷◌, length, take, filter, get_or, sym, ◌∙◌, ap, refl}
-use Rattle.std.specs.List.{list_all}
+use Rattle.std.specs.List.{All, list_all}
+use Rattle.std.proofs.lemmas.List.Elements.{All-head, All-tail}
 use Rattle.std.proofs.lemmas.List.Folds.{list_all-map, list_all_more}
 use Rattle.vx_values.specs.Values.{Row}
 use Rattle.vx_plan_nodes.specs.Serial.{passes}
@@ -40,3 +41,9 @@ chosen-more cs i c xs l e =
     ap (λ b. b && holds_of c r) (all-hold (take i cs) r)
     ∙ (ap (λ d. list_all (λ c. holds_of c r) (take i cs) && holds_of d r) (sym e)
     ∙ (sym (list_all_more (λ c. holds_of c r) cs i c l) ∙ sym (all-hold (take (i + 1) cs) r))))
+
+-- a test that passes all rows keeps them all
+pub keeps-all : (p : Row → Bool) (xs : List Row) → All (λ r. p r ≡ true) xs → xs ≡ filter p xs
+keeps-all p [] h = refl
+keeps-all p (x ∷ xs) h =
+    ap (λ ys. x ∷ ys) (keeps-all p xs (All-tail (λ r. p r ≡ true) x xs h)) ∙ sym (ap (λ b. cond b (x ∷ filter p xs) (filter p xs)) (All-head (λ r. p r ≡ true) x xs h))

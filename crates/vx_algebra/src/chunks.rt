@@ -1,6 +1,6 @@
 //! Selection and sorting of rows in chunks. Rows are picked by their places: a selection copies no cell, a sort each one once.
 
-ghost use Rattle.std.specs.Prelude.{◌≡◌, ◌<◌, ◌++◌, filter, length, IfOk, IfSome, OnOk};
+ghost use Rattle.std.specs.Prelude.{◌≡◌, ◌<◌, ◌++◌, true, filter, length, IfOk, IfSome, IfNone, OnOk};
 ghost use Rattle.std.specs.List.{All};
 ghost use Rattle.vx_values.specs.declared.value.ColType.TheVariants as kind;
 ghost use Rattle.vx_values.specs.Types.{type_at};
@@ -15,6 +15,7 @@ ghost use Rattle.vx_plan_nodes.specs.Serial.{passes, side, answers};
 ghost use Rattle.vx_views.specs.Chunks.{all_rows};
 ghost use Rattle.vx_views.specs.Selected.{places_of};
 ghost use Rattle.vx_algebra.specs.Holds.{holds_of};
+ghost use Rattle.vx_algebra.specs.Interval.{IsInterval};
 
 use crate::cells::cell_or_zero;
 use std::alloc::{AllocError, Global};
@@ -38,11 +39,47 @@ fn answer(test: Test, order: Ordering) -> bool
     }
 }
 
-// A comparison of a number with a constant.
+// A comparison of a number with a constant, as a test whether the number lies from `low` to `high`, or that it does not: so the loop over
+// a column asks of no number which comparison it is.
 #[derive(Clone, Copy)]
 struct NumberCondition {
     test: Test,
     constant: i64,
+    low: i64,
+    high: i64,
+    inside: bool,
+    ghost same: { IsInterval test constant low high inside },
+}
+
+// The numbers that compare so with a constant: from the first to the second one, or, at `false`, all others.
+fn interval(test: Test, constant: i64) -> (i64, i64, bool)
+    ensures { IsInterval test constant result.0 result.1 result.2 }
+{
+    match test {
+        Test::Equal => (constant, constant, true),
+        Test::Unequal => (constant, constant, false),
+        Test::AtMost => (i64::MIN, constant, true),
+        Test::Above => (i64::MIN, constant, false),
+        Test::AtLeast => (constant, i64::MAX, true),
+        Test::Below => (constant, i64::MAX, false),
+    }
+}
+
+impl NumberCondition {
+    // The comparison with a constant.
+    fn of(test: Test, constant: i64) -> NumberCondition
+        ensures test { result.test ≡ test }
+        ensures constant { result.constant ≡ constant }
+    {
+        let (low, high, inside) = interval(test, constant);
+        NumberCondition {
+            test,
+            constant,
+            low,
+            high,
+            inside,
+        }
+    }
 }
 
 impl NumberTest for NumberCondition {
@@ -53,7 +90,7 @@ impl NumberTest for NumberCondition {
     ghost says = { λ c z. answers (test_of c.test) (val_cmp (num z) (num c.constant)) };
 
     fn passes(&self, number: &i64) -> bool {
-        answer(self.test, number.cmp(&self.constant))
+        (self.low <= *number && *number <= self.high) == self.inside
     }
 }
 
@@ -68,10 +105,10 @@ fn number_condition(condition: &Condition, types: &[ColType]) -> Option<NumberCo
         return None;
     }
     match (types[condition.left], &condition.right) {
-        (ColType::Int, Side::Constant(Value::Int(number))) => Some(NumberCondition {
-            test: condition.test,
-            constant: *number,
-        }),
+        (ColType::Int, Side::Constant(Value::Int(number))) => Some(NumberCondition::of(
+            condition.test,
+            *number,
+        )),
         _ => None,
     }
 }
@@ -112,17 +149,19 @@ fn places_by_rows(
     Ok(places)
 }
 
-// The places of the rows of a chunk of which a condition holds. A column of numbers that is compared with a constant is gone over where it lies.
+// The places of the rows of a chunk of which a condition holds, or none where it holds of all. A column of numbers that is compared with a
+// constant is gone over where it lies.
 fn places_that_pass(
     alloc: Global,
     condition: &Condition,
     chunk: &Chunk,
-) -> Result<Vec<usize>, AllocError>
-    ensures { IfOk result (λ v. v.items ≡ places_of (holds_of condition.now) chunk.now.rows) }
+) -> Result<Option<Vec<usize>>, AllocError>
+    ensures some { IfOk result (λ o. IfSome o (λ v. v.items ≡ places_of (holds_of condition.now) chunk.now.rows)) }
+    ensures all { IfOk result (λ o. IfNone o (All (λ r. holds_of condition.now r ≡ true) chunk.now.rows)) }
 {
     match number_condition(condition, chunk.types()) {
-        Some(test) => Ok(chunk.places_where(alloc, condition.left, &test)?),
-        None => Ok(places_by_rows(alloc, condition, chunk)?),
+        Some(test) => chunk.places_where(alloc, condition.left, &test),
+        None => Ok(Some(places_by_rows(alloc, condition, chunk)?)),
     }
 }
 
@@ -131,10 +170,9 @@ fn kept(alloc: Global, condition: &Condition, chunk: Chunk) -> Result<Chunk, All
     ensures types { IfOk result (λ c. c.types ≡ chunk.types) }
     ensures rows { IfOk result (λ c. c.rows ≡ filter (holds_of condition.now) chunk.rows) }
 {
-    let places = places_that_pass(alloc, condition, &chunk)?;
-    if places.len() == chunk.len() {
+    let Some(places) = places_that_pass(alloc, condition, &chunk)? else {
         return Ok(chunk);
-    }
+    };
     places_are_a_filter();
     Ok(chunk.at(alloc, places.as_slice())?)
 }

@@ -1,5 +1,7 @@
 pub mod Facts
 pub mod Passing
+pub mod Counted
+pub mod Found
 pub mod Columns
 pub mod Fitting
 pub mod Chunked

@@ -7,7 +7,7 @@ use Rattle.std.proofs.Math.Seq.{get_or-append_seam}
 use Rattle.vx_rows.proofs.Below.{all_at}
 use Rattle.vx_views.specs.Selected.{places_from, places_of}
 
-step : (b : Bool) (n : ℕ) (xs ys : List ℕ) → cond b (n ∷ (xs ++ ys)) (xs ++ ys) ≡ cond b (n ∷ xs) xs ++ ys
+pub step : (b : Bool) (n : ℕ) (xs ys : List ℕ) → cond b (n ∷ (xs ++ ys)) (xs ++ ys) ≡ cond b (n ∷ xs) xs ++ ys
 step true n xs ys = refl
 step false n xs ys = refl
 
@@ -69,7 +69,7 @@ near-from {X} p m n (x ∷ xs) h = go (p x) (near-from p m (n + 1) xs (omega (ar
 pub places-near : {X : Type 0} (p : X → Bool) (xs : List X) → All (λ i. i < length xs) (places_of p xs)
 places-near p xs = let e : 0 + length xs ≡ length xs = omega arith in all_at (λ i. i < length xs) (places_of p xs) (near-from p (length xs) 0 xs e)
 
-few-from : {X : Type 0} (p : X → Bool) (n : ℕ) (xs : List X) → length (places_from p n xs) ≤ length xs
+pub few-from : {X : Type 0} (p : X → Bool) (n : ℕ) (xs : List X) → length (places_from p n xs) ≤ length xs
 few-from p n [] = omega arith
 few-from {X} p n (x ∷ xs) = go (p x) (few-from p (n + 1) xs)
   where

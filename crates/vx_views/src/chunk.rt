@@ -1,6 +1,6 @@
 //! Rows whose values lie in several shared tables side by side.
 
-ghost use Rattle.std.specs.Prelude.{◌≡◌, ◌↔◌, ◌+◌, ◌^◌, ◌<◌, ◌≤◌, ◌++◌, [], length, map, zip, slice_index_or, slice_range, All, IfOk, IfSome, IfNone, IsTrue, OnOk};
+ghost use Rattle.std.specs.Prelude.{◌≡◌, ◌↔◌, ◌+◌, ◌^◌, ◌<◌, ◌≤◌, ◌++◌, [], true, length, map, zip, slice_index_or, slice_range, All, IfOk, IfSome, IfNone, IsTrue, OnOk};
 ghost use Rattle.std.specs.List.{AllByRecursion};
 ghost use Rattle.std.specs.Arc.{arc_value, arc_slice_items};
 ghost use Rattle.vx_values.specs.declared.value.ColType.TheVariants as kind;
@@ -236,16 +236,17 @@ impl Chunk {
         })
     }
 
-    /// The places of the rows whose number in a column passes a test.
+    /// The places of the rows whose number in a column passes a test, or none where that of each row does.
     pub fn places_where<T: NumberTest>(
         &self,
         alloc: Global,
         column: usize,
         test: &T,
-    ) -> Result<Vec<usize>, AllocError>
+    ) -> Result<Option<Vec<usize>>, AllocError>
         requires column { column < length self.now.types }
         requires number { type_at self.now.types column ≡ kind.Int }
-        ensures { IfOk result (λ v. v.items ≡ places_of (λ r. of_number (T.says test.now) (value_at r column)) self.now.rows) }
+        ensures some { IfOk result (λ o. IfSome o (λ v. v.items ≡ places_of (λ r. of_number (T.says test.now) (value_at r column)) self.now.rows)) }
+        ensures all { IfOk result (λ o. IfNone o (All (λ r. of_number (T.says test.now) (value_at r column) ≡ true) self.now.rows)) }
     {
         let field = field_of(&self.fields, column);
         self.parts[field.part].places_where(alloc, field.column, test)

@@ -1,6 +1,6 @@
 //! The places of numbers that pass a test.
 
-ghost use Rattle.std.specs.Prelude.{◌≡◌, ℕ, ◌+◌, ◌<◌, ◌++◌, ◌∷◌, [], cond, pos, length, map, slice_index_or, All, IfOk, OnOk};
+ghost use Rattle.std.specs.Prelude.{◌≡◌, ℕ, ◌+◌, ◌<◌, ◌++◌, ◌∷◌, [], cond, pos, true, length, map, slice_index_or, All, IfOk, IfSome, IfNone, OnOk};
 ghost use Rattle.vx_values.specs.Values.{num};
 ghost use Rattle.vx_rows.specs.Lists.{each_below};
 ghost use Rattle.vx_rows.specs.Numbers.{seen_numbers};
@@ -45,102 +45,167 @@ pub fn push_place_if(places: &mut Vec<usize>, place: usize, passes: bool) -> Res
     Ok(())
 }
 
-// The places of numbers of 32 bits that pass.
-fn narrow_places_in<T: NumberTest>(
-    alloc: Global,
-    numbers: &[i32],
-    test: &T,
-) -> Result<Vec<usize>, AllocError>
-    ensures { IfOk result (λ v. v.items ≡ places_of (of_number (T.says test.now)) (map num numbers.now)) }
-{
-    let mut places = Vec::new(alloc);
-    for i in 0..numbers.len() {
-        let number = numbers[i] as i64;
-        let passes = test.passes(&number);
-        push_place_if(&mut places, i, passes)?;
-    }
-    Ok(places)
+/// A number as a column keeps it: in 32 bits, or in 64.
+trait Number: Copy {
+    ghost use Rattle.std.specs.Prelude.{◌≡◌, ℤ};
+
+    ghost value: { Self → ℤ };
+
+    /// The number in 64 bits.
+    fn number(self) -> i64
+        ensures { result ≡ value self };
 }
 
-// The places of numbers of 64 bits that pass.
-fn wide_places_in<T: NumberTest>(
-    alloc: Global,
-    numbers: &[i64],
-    test: &T,
-) -> Result<Vec<usize>, AllocError>
-    ensures { IfOk result (λ v. v.items ≡ places_of (of_number (T.says test.now)) (map num numbers.now)) }
-{
-    let mut places = Vec::new(alloc);
-    for i in 0..numbers.len() {
-        let passes = test.passes(&numbers[i]);
-        push_place_if(&mut places, i, passes)?;
+impl Number for i32 {
+    ghost value = { λ n. n };
+
+    fn number(self) -> i64 {
+        self as i64
     }
-    Ok(places)
 }
 
-// The places of numbers that pass.
+impl Number for i64 {
+    ghost value = { λ n. n };
+
+    fn number(self) -> i64 {
+        self
+    }
+}
+
+// How many numbers pass. The loop has no branch that depends on a number, so it is done for several numbers at once.
+fn count_passing<N: Number, T: NumberTest>(numbers: &[N], test: &T) -> usize
+    ensures { result ≡ length (places_of (of_number (T.says test.now)) (map (λ n. num (N.value n)) numbers.now)) }
+{
+    let mut count = 0;
+    for i in 0..numbers.len() {
+        let number = numbers[i].number();
+        count += test.passes(&number) as usize;
+    }
+    count
+}
+
+// Puts the places of the numbers that pass. Each place is written, and stays where its number passes: so there is no branch that depends
+// on a number.
+fn fill_passing<N: Number, T: NumberTest>(numbers: &[N], test: &T, places: &mut [usize])
+    requires { length places.old ≡ length (places_of (of_number (T.says test.now)) (map (λ n. num (N.value n)) numbers.now)) }
+    ensures { places.new ≡ places_of (of_number (T.says test.now)) (map (λ n. num (N.value n)) numbers.now) }
+{
+    let mut found = 0;
+    let mut i = 0;
+    while found < places.len() {
+        let number = numbers[i].number();
+        places[found] = i;
+        found += test.passes(&number) as usize;
+        i += 1;
+    }
+}
+
+// The places of numbers that pass, or none where all do.
+fn passing<N: Number, T: NumberTest>(
+    alloc: Global,
+    numbers: &[N],
+    test: &T,
+) -> Result<Option<Vec<usize>>, AllocError>
+    ensures some { IfOk result (λ o. IfSome o (λ v. v.items ≡ places_of (of_number (T.says test.now)) (map (λ n. num (N.value n)) numbers.now))) }
+    ensures all { IfOk result (λ o. IfNone o (All (λ v. of_number (T.says test.now) v ≡ true) (map (λ n. num (N.value n)) numbers.now))) }
+{
+    let count = count_passing(numbers, test);
+    if count == numbers.len() {
+        return Ok(None);
+    }
+    let mut places = Vec::new(alloc);
+    places.resize(count, 0)?;
+    fill_passing(numbers, test, places.as_mut_slice());
+    Ok(Some(places))
+}
+
+// The places of numbers that pass, or none where all do.
 pub(crate) fn places_in<T: NumberTest>(
     alloc: Global,
     numbers: NumbersRef<'_>,
     test: &T,
-) -> Result<Vec<usize>, AllocError>
-    ensures { IfOk result (λ v. v.items ≡ places_of (of_number (T.says test.now)) (map num (seen_numbers numbers.entry))) }
+) -> Result<Option<Vec<usize>>, AllocError>
+    ensures some { IfOk result (λ o. IfSome o (λ v. v.items ≡ places_of (of_number (T.says test.now)) (map num (seen_numbers numbers.entry)))) }
+    ensures all { IfOk result (λ o. IfNone o (All (λ v. of_number (T.says test.now) v ≡ true) (map num (seen_numbers numbers.entry)))) }
 {
     match numbers {
-        NumbersRef::Narrow(narrow) => narrow_places_in(alloc, narrow, test),
-        NumbersRef::Wide(wide) => wide_places_in(alloc, wide, test),
+        NumbersRef::Narrow(narrow) => passing(alloc, narrow, test),
+        NumbersRef::Wide(wide) => passing(alloc, wide, test),
     }
 }
 
-// The places of positions whose numbers of 32 bits pass.
-fn narrow_places_at<P: Position, T: NumberTest>(
-    alloc: Global,
-    numbers: &[i32],
+// How many positions have a number that passes.
+fn count_passing_at<N: Number, P: Position, T: NumberTest>(
+    numbers: &[N],
     positions: &[P],
     test: &T,
-) -> Result<Vec<usize>, AllocError>
+) -> usize
     requires { All (λ p. P.place p < length numbers.now) positions.now }
-    ensures { IfOk result (λ v. v.items ≡ places_of (of_number (T.says test.now)) (map (λ p. num (slice_index_or numbers.now (P.place p) (pos 0))) positions.now)) }
+    ensures { result ≡ length (places_of (λ p. T.says test.now (slice_index_or (map (λ n. N.value n) numbers.now) (P.place p) (pos 0))) positions.now) }
 {
-    let mut places = Vec::new(alloc);
+    let mut count = 0;
     for i in 0..positions.len() {
-        let number = numbers[positions[i].place()] as i64;
-        let passes = test.passes(&number);
-        push_place_if(&mut places, i, passes)?;
+        let number = numbers[positions[i].place()].number();
+        count += test.passes(&number) as usize;
     }
-    Ok(places)
+    count
 }
 
-// The places of positions whose numbers of 64 bits pass.
-fn wide_places_at<P: Position, T: NumberTest>(
-    alloc: Global,
-    numbers: &[i64],
+// Puts the places of the positions whose numbers pass.
+fn fill_passing_at<N: Number, P: Position, T: NumberTest>(
+    numbers: &[N],
     positions: &[P],
     test: &T,
-) -> Result<Vec<usize>, AllocError>
-    requires { All (λ p. P.place p < length numbers.now) positions.now }
-    ensures { IfOk result (λ v. v.items ≡ places_of (of_number (T.says test.now)) (map (λ p. num (slice_index_or numbers.now (P.place p) (pos 0))) positions.now)) }
+    places: &mut [usize],
+)
+    requires there { All (λ p. P.place p < length numbers.now) positions.now }
+    requires count { length places.old ≡ length (places_of (λ p. T.says test.now (slice_index_or (map (λ n. N.value n) numbers.now) (P.place p) (pos 0))) positions.now) }
+    ensures { places.new ≡ places_of (λ p. T.says test.now (slice_index_or (map (λ n. N.value n) numbers.now) (P.place p) (pos 0))) positions.now }
 {
-    let mut places = Vec::new(alloc);
-    for i in 0..positions.len() {
-        let passes = test.passes(&numbers[positions[i].place()]);
-        push_place_if(&mut places, i, passes)?;
+    let mut found = 0;
+    let mut i = 0;
+    while found < places.len() {
+        let number = numbers[positions[i].place()].number();
+        places[found] = i;
+        found += test.passes(&number) as usize;
+        i += 1;
     }
-    Ok(places)
 }
 
-// The places of positions whose numbers pass.
+// The places of positions whose numbers pass, or none where all do.
+fn passing_at<N: Number, P: Position, T: NumberTest>(
+    alloc: Global,
+    numbers: &[N],
+    positions: &[P],
+    test: &T,
+) -> Result<Option<Vec<usize>>, AllocError>
+    requires { All (λ p. P.place p < length numbers.now) positions.now }
+    ensures some { IfOk result (λ o. IfSome o (λ v. v.items ≡ places_of (λ p. T.says test.now (slice_index_or (map (λ n. N.value n) numbers.now) (P.place p) (pos 0))) positions.now)) }
+    ensures all { IfOk result (λ o. IfNone o (All (λ p. T.says test.now (slice_index_or (map (λ n. N.value n) numbers.now) (P.place p) (pos 0)) ≡ true) positions.now)) }
+{
+    let count = count_passing_at(numbers, positions, test);
+    if count == positions.len() {
+        return Ok(None);
+    }
+    let mut places = Vec::new(alloc);
+    places.resize(count, 0)?;
+    fill_passing_at(numbers, positions, test, places.as_mut_slice());
+    Ok(Some(places))
+}
+
+// The places of positions whose numbers pass, or none where all do.
 pub(crate) fn places_at<P: Position, T: NumberTest>(
     alloc: Global,
     numbers: &Numbers,
     positions: &[P],
     test: &T,
-) -> Result<Vec<usize>, AllocError>
+) -> Result<Option<Vec<usize>>, AllocError>
     requires { All (λ p. P.place p < length numbers.now) positions.now }
-    ensures { IfOk result (λ v. v.items ≡ places_of (of_number (T.says test.now)) (map (λ p. num (slice_index_or numbers.now (P.place p) (pos 0))) positions.now)) }
+    ensures some { IfOk result (λ o. IfSome o (λ v. v.items ≡ places_of (of_number (T.says test.now)) (map (λ p. num (slice_index_or numbers.now (P.place p) (pos 0))) positions.now))) }
+    ensures all { IfOk result (λ o. IfNone o (All (λ v. of_number (T.says test.now) v ≡ true) (map (λ p. num (slice_index_or numbers.now (P.place p) (pos 0))) positions.now))) }
 {
     match numbers.view() {
-        NumbersRef::Narrow(narrow) => narrow_places_at(alloc, narrow, positions, test),
-        NumbersRef::Wide(wide) => wide_places_at(alloc, wide, positions, test),
+        NumbersRef::Narrow(narrow) => passing_at(alloc, narrow, positions, test),
+        NumbersRef::Wide(wide) => passing_at(alloc, wide, positions, test),
     }
 }

@@ -1,6 +1,6 @@
 //! Rows of one table that is shared.
 
-ghost use Rattle.std.specs.Prelude.{◌≡◌, ◌+◌, ◌<◌, ◌≤◌, ◌++◌, length, map, slice_range, IfOk, IfSome, IfNone, OnOk, OnErr};
+ghost use Rattle.std.specs.Prelude.{◌≡◌, ◌+◌, ◌<◌, ◌≤◌, ◌++◌, true, length, map, slice_range, All, IfOk, IfSome, IfNone, OnOk, OnErr};
 ghost use Rattle.std.specs.Arc.{arc_value};
 ghost use Rattle.vx_values.specs.declared.value.ColType.TheVariants as kind;
 ghost use Rattle.vx_values.specs.Values.{value_at};
@@ -102,16 +102,17 @@ impl TableRows {
         Ok(TableRows { base, at })
     }
 
-    /// The places of the rows whose number in a column passes a test.
+    /// The places of the rows whose number in a column passes a test, or none where that of each row does.
     pub fn places_where<T: NumberTest>(
         &self,
         alloc: Global,
         column: usize,
         test: &T,
-    ) -> Result<Vec<usize>, AllocError>
+    ) -> Result<Option<Vec<usize>>, AllocError>
         requires column { column < length self.now.types }
         requires number { type_at self.now.types column ≡ kind.Int }
-        ensures { IfOk result (λ v. v.items ≡ places_of (λ r. of_number (T.says test.now) (value_at r column)) self.now.rows) }
+        ensures some { IfOk result (λ o. IfSome o (λ v. v.items ≡ places_of (λ r. of_number (T.says test.now) (value_at r column)) self.now.rows)) }
+        ensures all { IfOk result (λ o. IfNone o (All (λ r. of_number (T.says test.now) (value_at r column) ≡ true) self.now.rows)) }
     {
         let Some(numbers) = self.base.numbers(column) else {
             unreachable!()
@@ -119,10 +120,10 @@ impl TableRows {
         match self.at.seen() {
             PositionsRef::Range(from, count) => {
                 let part = part_of(numbers, from, count);
-                Ok(places_in(alloc, part, test)?)
+                places_in(alloc, part, test)
             }
-            PositionsRef::Narrow(positions) => Ok(places_at(alloc, numbers, positions, test)?),
-            PositionsRef::Wide(positions) => Ok(places_at(alloc, numbers, positions, test)?),
+            PositionsRef::Narrow(positions) => places_at(alloc, numbers, positions, test),
+            PositionsRef::Wide(positions) => places_at(alloc, numbers, positions, test),
         }
     }
 
