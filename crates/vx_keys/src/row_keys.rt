@@ -179,9 +179,10 @@ impl RowKeys {
 fn push_for_each(numbers: &mut Vec<usize>, number: usize, chunk: &Chunk) -> Result<(), AllocError>
     ensures { OnOk result (numbers.new.items ≡ numbers.old.items ++ map (λ _. number) chunk.now.rows) }
 {
-    for _i in 0..chunk.len() {
-        numbers.push(number)?;
-    }
+    let Some(count) = numbers.len().checked_add(chunk.len()) else {
+        return Err(AllocError);
+    };
+    numbers.resize(count, number)?;
     Ok(())
 }
 

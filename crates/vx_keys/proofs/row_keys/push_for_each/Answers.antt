@@ -1,17 +1,15 @@
-use Rattle.std.proofs.Common.{◌<◌, ◌++◌, ◌∷◌, [], arith, sym, ap, ◌∙◌, append_assoc, length, map, take}
-use Rattle.std.proofs.lemmas.List.{map_more}
-use Rattle.vx_values.specs.Values.{Row}
+use Rattle.std.proofs.Common.{◌≡◌, ◌++◌, ◌-◌, arith, rules, ap, ◌∙◌, length, replicate, vec_len}
+use Rattle.std.proofs.lemmas.List.{take_all}
+use Rattle.std.proofs.lemmas.Simd.{splat_is_map}
 use Rattle.vx_keys.proofs.row_keys.push_for_each.Goals as goal
 
-pub loop-i-preserved : goal.loop-i-preserved
-loop-i-preserved c =
+pub returns : goal.returns
+returns c =
+    let old = c.args.numbers.now in
     let rows = c.args.chunk.now.rows in
-    let first = c.args.numbers.now.items in
-    let n = c.args.number in
-    let i = c.loop-i._i in
-    let near : i < length rows = omega (arith, c.loop-i-test.true, c.len-i-end.ensures) in
-    let f = λ (r : Row). n in
-    c.in_ok-push.ensures.items
-    ∙ (ap (λ ns. ns ++ n ∷ []) c.loop-i.invariant
-    ∙ (append_assoc first (map f (take i rows)) (n ∷ [])
-    ∙ ap (λ ns. first ++ ns) (sym (map_more f rows i [] near))))
+    let count = c.in-Some.count in
+    let long : vec_len old ≡ length old.items = search rules in
+    let more : length rows ≡ count - vec_len old = omega (arith, c.len.ensures, c.len-2.ensures, c.in-Some.ensures) in
+    c.in_ok-resize.ensures.items
+    ∙ ((λ i. take_all count old.items (omega (arith, long, c.len.ensures, c.len-2.ensures, c.in-Some.ensures)) i ++ replicate (count - vec_len old) c.args.number)
+    ∙ ap (λ ns. old.items ++ ns) (splat_is_map rows (count - vec_len old) c.args.number more))
