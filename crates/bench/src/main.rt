@@ -1,6 +1,6 @@
 //! Times over the relations of `vx_wisconsin`, as one table: generating, loading and writing one, tests of its keys, queries by the
 //! serial evaluation, by 1, 4 and 64 workers in rounds, by 1 and 4 in threads and by hand over plain columns, the checker, a
-//! ring and a deck.
+//! ring, a deck, and what the processors give at once.
 //!
 //! Its arguments are the number of rows of the two largest relations, 1,000,000 where none is said, those of a packet and of
 //! a morsel, 256 and 1,024 by default, and how many packets a producer may run ahead, 8 by default. With the argument
@@ -14,6 +14,7 @@ mod checker;
 mod columns;
 mod decks;
 mod digest;
+mod processors;
 mod queries;
 mod relations;
 mod rings;
@@ -35,5 +36,6 @@ fn main(rt: HostRuntime) -> Result<(), Error> {
     bench.measure_queries(&rt, &database, &columns)?;
     bench.measure_checker(&rt)?;
     bench.measure_ring(&rt)?;
-    bench.measure_deck(&rt)
+    bench.measure_deck(&rt)?;
+    bench.measure_processors(&rt)
 }
