@@ -1,10 +1,33 @@
-"""The toolchain's command rt as a module, for tools/build-program and tools/rt."""
+"""The toolchain's command rt as a module, for tools/prove, tools/build-unproved and tools/rt."""
 import importlib.machinery
 import importlib.util
 import os
+import re
 import shutil
+import subprocess
 import sys
 import threading
+
+# The first version of the toolchain that the sources are proved with: a number and a letter, as in rattle-kit-13b.
+FIRST = (13, "b")
+WANTED = f"rattle-kit-{FIRST[0]}{FIRST[1]} or later"
+
+
+def version():
+    """The line by which the toolchain says which it is."""
+    said = subprocess.run(["rt", "version"], stdin=subprocess.DEVNULL, capture_output=True, text=True)
+    return said.stdout.strip()
+
+
+def why_unfit():
+    """Why the toolchain on this machine cannot build the program, or None where it can."""
+    if not shutil.which("rt"):
+        return f"the Rattle toolchain is not on this machine: there is no command rt on the path ({WANTED} is needed)"
+    line = version()
+    found = re.match(r"rattle-kit-([0-9]+)([a-z]*)", line)
+    if not found or (int(found[1]), found[2]) < FIRST:
+        return f"the Rattle toolchain has to be {WANTED}, and `rt version` says: {line or 'nothing'}"
+    return None
 
 
 def load():

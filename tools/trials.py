@@ -87,10 +87,10 @@ def runs_of_plans():
 
 
 def program():
-    """The path of the built program, or of the one that the environment names under VOLCANO."""
-    path = os.environ.get("VOLCANO", f"{ROOT}/crates/volcano/out/volcano")
+    """The path of the proved program, or of the one that the environment names under VOLCANO."""
+    path = os.environ.get("VOLCANO", f"{ROOT}/crates/volcano/out/proved/volcano")
     if not os.access(path, os.X_OK):
-        sys.exit("build the program first: ./volcano --version")
+        sys.exit("prove the program first: tools/prove")
     return path
 
 

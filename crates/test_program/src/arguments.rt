@@ -155,7 +155,7 @@ const HELP: [(&str, &str); 3] = [
     ("check --help", "Says whether every claim"),
     (
         "--version",
-        "volcano 0.1.0 (built here; tools/install notes the commit here)\n",
+        "volcano 0.1.0 (made here by rt; tools/prove marks a proved one)\n",
     ),
 ];
 

@@ -451,7 +451,7 @@ fn program<'a>(alloc: Global) -> Command<'a>
     ensures local { (fields_of result).has_globals ≡ false }
 {
     Command::new(alloc, "volcano")
-        .version("0.1.0 (built here; tools/install notes the commit here)")
+        .version("0.1.0 (made here by rt; tools/prove marks a proved one)")
         .about(
             "Runs query plans in parallel, after a check that every claim on them follows. Without a command it reads one request, as JSON, from standard input",
         )
