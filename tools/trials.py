@@ -2,6 +2,7 @@
 crates/test_transcripts, and runs of the built program."""
 import json
 import os
+import re
 import subprocess
 import sys
 import tempfile
@@ -34,6 +35,11 @@ class Example:
             return json.loads(text)
         except (ValueError, KeyError, OSError):
             return {}
+
+    def steady(self, errors):
+        """What standard error has in each run: where it is statistics, the text without its numbers, since times differ, and by threads counts too."""
+        has_statistics = any(it.startswith("--stats") for it in self.words)
+        return re.sub(rb"[ .\d]+", b" ", errors) if has_statistics else errors
 
     def is_total(self):
         plan = self.plan()
