@@ -1,10 +1,11 @@
 """The texts of tools/try-hostile: for each kind, a call that makes one of a size, what the program answers, and whether it is known to cost more
 than the bounds of docs/LIMITS.md."""
 import json
-from dataclasses import dataclass, field
+from dataclasses import dataclass, field, replace
 from itertools import combinations, islice
 
 CATALOG = '{"relations":[{"name":"t","columns":[{"name":"k","type":"text"}]},{"name":"u","columns":[{"name":"v","type":"int"}]}]}'
+LONG_NAMES = "memory: names are printed at each node"
 SCAN = '{"op":"scan","relation":"t","mode":"whole","size":"one"}'
 NUMBERS = SCAN.replace('"t"', '"u"')
 
@@ -186,6 +187,29 @@ def scanned_name(count):
     return Texts(catalog=catalog, plan=json.dumps({"root": united(scans)}))
 
 
+def annotated_name(count):
+    """The same name, which is the relation's key too: `annotate` prints it at each scan."""
+    return replace(scanned_name(count), command="annotate")
+
+
+def refused_name(count):
+    """The same name, where each scan claims another key: `check --all` prints the relation's key at each."""
+    texts = scanned_name(count)
+    return replace(texts, plan=texts.plan.replace('"op": "scan"', '"op": "scan", "claim": {"keys": [[]]}'), command="check", words=("--all",))
+
+
+def annotated_prefix(count):
+    """A prefix of so many bytes before 64 columns, in 16 keys of 32 of them each, under 61 gathers."""
+    texts = long_prefix(count)
+    catalog = json.loads(texts.catalog)
+    catalog["relations"][0]["keys"] = list(islice(combinations([f"c{it}" for it in range(64)], 32), 16))
+    return replace(texts, catalog=json.dumps(catalog), command="annotate")
+
+
+def explained_prefix(count):
+    return replace(long_prefix(count), command="explain", words=("--format", "json"))
+
+
 def deepest(kind="select", mode="rounds"):
     """A run of a plan of 64 nodes, one below the other: as deep as a plan may be."""
     root = json.loads(NUMBERS)
@@ -243,4 +267,8 @@ TEXTS = [
     Kind("a prefix of 64 columns under 61 gathers", long_prefix, 50_000, "accepted"),
     Kind("a prefix of 32 columns under 31 joins", joined_prefix, 50_000, "accepted"),
     Kind("a column's name, in a relation that 500 scans read", scanned_name, 50_000, "accepted"),
+    Kind("the same, printed by annotate", annotated_name, 50_000, r'\{"root":.*', LONG_NAMES),
+    Kind("the same, printed by check --all", refused_name, 50_000, "K8 KeyNotShown node=8 .*", LONG_NAMES),
+    Kind("a prefix in 16 keys of 32 columns under 61 gathers, printed by annotate", annotated_prefix, 1_000, r'\{"root":.*', LONG_NAMES),
+    Kind("a prefix of 64 columns under 61 gathers, printed by explain --format json", explained_prefix, 10_000, r'\{"nodes":.*', LONG_NAMES),
 ]
