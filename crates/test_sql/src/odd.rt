@@ -1,4 +1,5 @@
-//! Where SQL means something else: groups by nothing, quotes inside of names and texts, and sums that leave 64 bits.
+//! Where SQL means something else: groups by nothing, quotes inside of names and texts, outputs with the names of columns, and sums
+//! that leave 64 bits.
 
 use crate::cases::{compare_all, database_of};
 use crate::engine::opened;
@@ -17,6 +18,10 @@ const BY_NOTHING: &str =
 const QUOTED: &str =
     r#"{"root":{"op":"project","columns":[{"column":"k","as":"it's \"k\""}],"claim":{"part":"one"},"input":{"op":"select","where":[{"column":"k","op":">=","value":"it's"},{"column":"k","op":"<>","value":"\"b\""}],"claim":{"part":"one"},"input":{"op":"scan","relation":"t","mode":"whole","size":"one","claim":{"part":"one"}}}}}"#;
 
+// Outputs with the names of the root's columns, each with that of another.
+const RENAMED: &str =
+    r#"{"total":true,"root":{"op":"sort","columns":["c0_1"],"claim":{"part":"one","order":["c0_1"],"keys":[["c0_1"]]},"input":{"op":"project","columns":[{"column":"v","as":"c0_2"},{"column":"k","as":"c0_0"},{"column":"id","as":"c0_1"}],"claim":{"part":"one","keys":[["c0_1"]]},"input":{"op":"scan","relation":"t","mode":"whole","size":"one","claim":{"part":"one","keys":[["id"]]}}}}}"#;
+
 const ROWS_OF_T: &str =
     "id,k,v\n0,it's,5\n1,\"\"\"b\"\"\",7\n2,z,-2\n3,it''s,7\n4,a,-9223372036854775808\n";
 
@@ -25,7 +30,7 @@ const NO_ROWS_OF_D: &str = "k,n\n";
 #[test]
 fn odd_plans_have_their_rows(rt: HostRuntime) -> Result<(), Fail> {
     let alloc = rt.alloc();
-    let plans = [BY_NOTHING, QUOTED];
+    let plans = [BY_NOTHING, QUOTED, RENAMED];
     let database = database_of(alloc, CATALOG, &[ROWS_OF_T, NO_ROWS_OF_D])?;
     compare_all(&rt, alloc, &database, &plans)?;
     let empty = database_of(alloc, CATALOG, &["id,k,v\n", NO_ROWS_OF_D])?;

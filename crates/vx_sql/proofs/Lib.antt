@@ -1,1 +1,3 @@
 pub mod ColumnFacts
+pub mod OwnFacts
+pub mod WordFacts

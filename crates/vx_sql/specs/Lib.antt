@@ -1,3 +1,4 @@
 pub mod Words
+pub mod OwnNames
 pub mod Operators
 pub mod Statement

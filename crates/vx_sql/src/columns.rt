@@ -8,7 +8,7 @@ ghost use Rattle.vx_sql.specs.Operators.{outputs, all_columns, kept_columns, col
 ghost use Rattle.vx_sql.specs.Statement.{result_columns};
 
 use crate::dialect::Dialect;
-use crate::words::{push_column_name, push_identifier};
+use crate::words::{Alias, push_column_name, push_identifier};
 use std::alloc::{AllocError, Global};
 use vx_check::push_between;
 use vx_plan_nodes::{Aggregate, Name, Projected, TypedNode};
@@ -30,7 +30,7 @@ pub fn column_names(node: &TypedNode) -> &[Name]
 }
 
 // Adds the name that an expression gets.
-fn push_as(text: &mut String, node: u32, column: usize) -> Result<(), AllocError>
+fn push_as(text: &mut String, node: Alias, column: usize) -> Result<(), AllocError>
     ensures { OnOk result (string_bytes text.new ≡ string_bytes text.old ++ (codes " AS " ++ column_name node column)) }
 {
     text.push_str(" AS ")?;
@@ -39,7 +39,12 @@ fn push_as(text: &mut String, node: u32, column: usize) -> Result<(), AllocError
 
 /// Adds all columns of the node `from`, as those of the node `to`.
 #[tactic(auto, unfolding(crate::specs::Operators::all_columns), using(std::proofs::lemmas::Grind::common_steps, crate::proofs::ColumnFacts::columns_next))]
-pub fn push_all(text: &mut String, from: u32, to: u32, types: &[ColType]) -> Result<(), AllocError>
+pub fn push_all(
+    text: &mut String,
+    from: Alias,
+    to: Alias,
+    types: &[ColType],
+) -> Result<(), AllocError>
     ensures { OnOk result (string_bytes text.new ≡ string_bytes text.old ++ all_columns from to types.now) }
 {
     for (i, _kind) in types.iter().enumerate() {
@@ -52,7 +57,7 @@ pub fn push_all(text: &mut String, from: u32, to: u32, types: &[ColType]) -> Res
 
 // Adds these columns of the node `from`, as the first of the node `to`.
 #[tactic(auto, unfolding(crate::specs::Operators::kept_columns))]
-fn push_kept(text: &mut String, from: u32, to: u32, columns: &[usize]) -> Result<(), AllocError>
+fn push_kept(text: &mut String, from: Alias, to: Alias, columns: &[usize]) -> Result<(), AllocError>
     ensures { OnOk result (string_bytes text.new ≡ string_bytes text.old ++ kept_columns from to columns.now) }
 {
     for (i, column) in columns.iter().enumerate() {
@@ -67,8 +72,8 @@ fn push_kept(text: &mut String, from: u32, to: u32, columns: &[usize]) -> Result
 #[tactic(auto, unfolding(crate::specs::Operators::kept_columns))]
 pub fn push_projected(
     text: &mut String,
-    from: u32,
-    to: u32,
+    from: Alias,
+    to: Alias,
     kept: &[Projected],
 ) -> Result<(), AllocError>
     ensures { OnOk result (string_bytes text.new ≡ string_bytes text.old ++ kept_columns from to (map (λ k. k.column) kept.now)) }
@@ -112,7 +117,7 @@ fn push_relation_column(
 fn push_named_columns(
     text: &mut String,
     dialect: Dialect,
-    to: u32,
+    to: Alias,
     relation: &Relation,
     names: &[String],
 ) -> Result<(), AllocError>
@@ -137,7 +142,7 @@ fn push_named_columns(
 pub fn push_relation_columns(
     text: &mut String,
     dialect: Dialect,
-    to: u32,
+    to: Alias,
     relation: &Relation,
 ) -> Result<(), AllocError>
     requires { length relation.now.types ≡ length relation.now.names }
@@ -179,7 +184,7 @@ fn count_sql(dialect: Dialect) -> &'static str
 fn push_aggregate(
     text: &mut String,
     dialect: Dialect,
-    from: u32,
+    from: Alias,
     aggregate: Aggregate,
 ) -> Result<(), AllocError>
     ensures { OnOk result (string_bytes text.new ≡ string_bytes text.old ++ aggregate_sql dialect from (aggregate_of aggregate)) }
@@ -199,8 +204,8 @@ fn push_aggregate(
 fn push_aggregates(
     text: &mut String,
     dialect: Dialect,
-    from: u32,
-    to: u32,
+    from: Alias,
+    to: Alias,
     first: usize,
     aggregates: &[Aggregate],
 ) -> Result<(), AllocError>
@@ -220,8 +225,8 @@ fn push_aggregates(
 pub fn push_group_columns(
     text: &mut String,
     dialect: Dialect,
-    from: u32,
-    to: u32,
+    from: Alias,
+    to: Alias,
     by: &[usize],
     aggregates: &[Aggregate],
 ) -> Result<(), AllocError>
@@ -247,8 +252,8 @@ fn equal_left(on: &[(usize, usize)], right: usize) -> Option<usize>
 // Adds a right column of a join.
 fn push_right(
     text: &mut String,
-    left: u32,
-    right: u32,
+    left: Alias,
+    right: Alias,
     column: usize,
     equal: Option<usize>,
 ) -> Result<(), AllocError>
@@ -264,9 +269,9 @@ fn push_right(
 #[tactic(auto, using(std::proofs::lemmas::Grind::common_steps, crate::proofs::ColumnFacts::rights_next))]
 fn push_rights(
     text: &mut String,
-    left: u32,
-    right: u32,
-    to: u32,
+    left: Alias,
+    right: Alias,
+    to: Alias,
     first: usize,
     types: &[ColType],
     on: &[(usize, usize)],
@@ -286,9 +291,9 @@ fn push_rights(
 #[tactic(auto, unfolding(crate::specs::Operators::join_columns))]
 pub fn push_join_columns(
     text: &mut String,
-    left: u32,
-    right: u32,
-    to: u32,
+    left: Alias,
+    right: Alias,
+    to: Alias,
     left_types: &[ColType],
     right_types: &[ColType],
     on: &[(usize, usize)],
@@ -305,7 +310,7 @@ pub fn push_result_columns(
     alloc: Global,
     text: &mut String,
     dialect: Dialect,
-    from: u32,
+    from: Alias,
     names: &[Name],
 ) -> Result<(), AllocError>
     ensures { OnOk result (string_bytes text.new ≡ string_bytes text.old ++ separated (codes ", ") false (result_columns dialect from 0 names.now)) }

@@ -4,6 +4,7 @@
 mod columns;
 mod dialect;
 mod operators;
+mod own_names;
 mod statement;
 mod words;
 

@@ -10,7 +10,7 @@ use crate::columns::{
     push_all, push_group_columns, push_join_columns, push_projected, push_relation_columns,
 };
 use crate::dialect::Dialect;
-use crate::words::{push_column_name, push_column_of, push_identifier, push_value};
+use crate::words::{Alias, push_column_name, push_column_of, push_identifier, push_value};
 use std::alloc::AllocError;
 use vx_check::push_between;
 use vx_plan_nodes::{Binary, Condition, Side, Unary};
@@ -22,7 +22,7 @@ use vx_rows::ColType;
 pub fn push_scan(
     text: &mut String,
     dialect: Dialect,
-    node: u32,
+    node: Alias,
     relation: &Relation,
 ) -> Result<(), AllocError>
     requires { length relation.now.types ≡ length relation.now.names }
@@ -34,7 +34,12 @@ pub fn push_scan(
     push_identifier(text, dialect, relation.name())
 }
 
-fn push_side(text: &mut String, dialect: Dialect, from: u32, side: &Side) -> Result<(), AllocError>
+fn push_side(
+    text: &mut String,
+    dialect: Dialect,
+    from: Alias,
+    side: &Side,
+) -> Result<(), AllocError>
     ensures { OnOk result (string_bytes text.new ≡ string_bytes text.old ++ side_sql dialect from (side_of side.now)) }
 {
     match side {
@@ -47,7 +52,7 @@ fn push_side(text: &mut String, dialect: Dialect, from: u32, side: &Side) -> Res
 fn push_condition(
     text: &mut String,
     dialect: Dialect,
-    from: u32,
+    from: Alias,
     condition: &Condition,
 ) -> Result<(), AllocError>
     ensures { OnOk result (string_bytes text.new ≡ string_bytes text.old ++ condition_sql dialect from (condition_of condition.now)) }
@@ -62,7 +67,7 @@ fn push_condition(
 fn push_conditions(
     text: &mut String,
     dialect: Dialect,
-    from: u32,
+    from: Alias,
     conditions: &[Condition],
 ) -> Result<(), AllocError>
     ensures { OnOk result (string_bytes text.new ≡ string_bytes text.old ++ separated (codes " AND ") false (map (condition_sql dialect from) (map condition_of conditions.now))) }
@@ -75,7 +80,7 @@ fn push_conditions(
 }
 
 // Adds columns of the node `from`.
-fn push_columns(text: &mut String, from: u32, columns: &[usize]) -> Result<(), AllocError>
+fn push_columns(text: &mut String, from: Alias, columns: &[usize]) -> Result<(), AllocError>
     ensures { OnOk result (string_bytes text.new ≡ string_bytes text.old ++ separated (codes ", ") false (map (column_name from) columns.now)) }
 {
     for (i, column) in columns.iter().enumerate() {
@@ -86,7 +91,7 @@ fn push_columns(text: &mut String, from: u32, columns: &[usize]) -> Result<(), A
 }
 
 // Adds in which groups the rows of the node `from` are.
-fn push_grouping(text: &mut String, from: u32, by: &[usize]) -> Result<(), AllocError>
+fn push_grouping(text: &mut String, from: Alias, by: &[usize]) -> Result<(), AllocError>
     ensures { OnOk result (string_bytes text.new ≡ string_bytes text.old ++ grouping_sql from by.now) }
 {
     if by.is_empty() {
@@ -101,8 +106,8 @@ fn push_grouping(text: &mut String, from: u32, by: &[usize]) -> Result<(), Alloc
 pub fn push_unary_columns(
     text: &mut String,
     dialect: Dialect,
-    from: u32,
-    to: u32,
+    from: Alias,
+    to: Alias,
     types: &[ColType],
     operator: &Unary,
 ) -> Result<(), AllocError>
@@ -134,7 +139,7 @@ pub fn push_unary_columns(
 pub fn push_unary_clause(
     text: &mut String,
     dialect: Dialect,
-    from: u32,
+    from: Alias,
     operator: &Unary,
 ) -> Result<(), AllocError>
     ensures { OnOk result (string_bytes text.new ≡ string_bytes text.old ++ unary_clause dialect from (unary_of operator.now)) }
@@ -162,8 +167,8 @@ fn join_word(dialect: Dialect) -> &'static str
 // Adds the pairs on which a join's rows agree.
 fn push_pairs(
     text: &mut String,
-    left: u32,
-    right: u32,
+    left: Alias,
+    right: Alias,
     on: &[(usize, usize)],
 ) -> Result<(), AllocError>
     ensures { OnOk result (string_bytes text.new ≡ string_bytes text.old ++ separated (codes " AND ") false (map (pair_sql left right) on.now)) }
@@ -181,9 +186,9 @@ fn push_pairs(
 #[tactic(auto, unfolding(crate::specs::Operators::binary_columns))]
 pub fn push_binary_columns(
     text: &mut String,
-    left: u32,
-    right: u32,
-    to: u32,
+    left: Alias,
+    right: Alias,
+    to: Alias,
     left_types: &[ColType],
     right_types: &[ColType],
     operator: &Binary,
@@ -210,8 +215,8 @@ pub fn push_binary_columns(
 // Adds the word of a union, and its right SELECT as far as its rows.
 fn push_union_word(
     text: &mut String,
-    right: u32,
-    to: u32,
+    right: Alias,
+    to: Alias,
     right_types: &[ColType],
 ) -> Result<(), AllocError>
     ensures { OnOk result (string_bytes text.new ≡ string_bytes text.old ++ (codes " UNION ALL SELECT " ++ (all_columns right to right_types.now ++ codes " FROM "))) }
@@ -226,8 +231,8 @@ fn push_union_word(
 pub fn push_binary_word(
     text: &mut String,
     dialect: Dialect,
-    right: u32,
-    to: u32,
+    right: Alias,
+    to: Alias,
     right_types: &[ColType],
     operator: &Binary,
 ) -> Result<(), AllocError>
@@ -243,8 +248,8 @@ pub fn push_binary_word(
 #[tactic(auto, unfolding(crate::specs::Operators::binary_clause))]
 pub fn push_binary_clause(
     text: &mut String,
-    left: u32,
-    right: u32,
+    left: Alias,
+    right: Alias,
     operator: &Binary,
 ) -> Result<(), AllocError>
     ensures { OnOk result (string_bytes text.new ≡ string_bytes text.old ++ binary_clause left right (binary_of operator.now)) }

@@ -2,12 +2,13 @@
 
 ghost use Rattle.std.specs.Prelude.{◌≡◌, ◌++◌, ◌+◌, ◌<◌, map, string_bytes, codes, OnOk, IfOk, false};
 ghost use Rattle.vx_relations.specs.Catalog.{relation_at};
-ghost use Rattle.vx_plan_nodes.specs.Outline.{outline_of, columns, top, unary_of, binary_of};
-ghost use Rattle.vx_plan_nodes.specs.TypedView.{names_in};
+ghost use Rattle.vx_plan_nodes.specs.Outline.{outline_of, columns, top, top_of, unary_of, binary_of};
+ghost use Rattle.vx_plan_nodes.specs.TypedView.{names_in, resolved_of};
 ghost use Rattle.vx_sql.specs.Words.{node_name, column_of};
+ghost use Rattle.vx_sql.specs.OwnNames.{OwnNamesAreApart};
 ghost use Rattle.vx_check.specs.Explain.{separated};
 ghost use Rattle.vx_sql.specs.Operators.{scan_sql, unary_columns, unary_sql, binary_columns, binary_word, binary_clause, binary_sql};
-ghost use Rattle.vx_sql.specs.Statement.{maker, table_as, tables, within, nested, result_columns, order_sql, result_sql, with_tables, plan_sql};
+ghost use Rattle.vx_sql.specs.Statement.{named_by, maker, table_as, tables, within, nested, result_columns, order_sql, result_sql, with_tables, plan_sql};
 
 use crate::columns::{column_names, column_types, push_result_columns};
 use crate::dialect::Dialect;
@@ -15,20 +16,31 @@ use crate::operators::{
     push_binary_clause, push_binary_columns, push_binary_word, push_scan, push_unary_clause,
     push_unary_columns,
 };
-use crate::words::{push_column_of, push_identifier, push_node_name};
+use crate::own_names::underscores;
+use crate::words::{Alias, push_column_of, push_identifier, push_node_name};
 use std::alloc::{AllocError, Global};
 use vx_check::push_between;
-use vx_plan_nodes::{Binary, TypedNode, TypedPlan, Unary};
+use vx_plan_nodes::{Binary, Head, TypedNode, TypedPlan, Unary};
 
-// The number of the node whose rows these are: an exchange gives those of the node below it.
-fn maker(node: &TypedNode) -> u32
-    ensures { result ≡ maker (outline_of node.now) }
+// The alias of a node.
+fn named_by(underscores: usize, head: &Head) -> Alias
+    ensures { result ≡ named_by underscores (top_of head.now) }
+{
+    Alias {
+        underscores,
+        node: head.number,
+    }
+}
+
+// The alias of the node whose rows these are: an exchange gives those of the node below it.
+fn maker(underscores: usize, node: &TypedNode) -> Alias
+    ensures { result ≡ maker underscores (outline_of node.now) }
 {
     match node {
-        TypedNode::Scan(head, _) => head.number,
-        TypedNode::Unary(head, _, _) => head.number,
-        TypedNode::Binary(head, _, _, _) => head.number,
-        TypedNode::Exchange(_, _, input) => maker(input),
+        TypedNode::Scan(head, _) => named_by(underscores, head),
+        TypedNode::Unary(head, _, _) => named_by(underscores, head),
+        TypedNode::Binary(head, _, _, _) => named_by(underscores, head),
+        TypedNode::Exchange(_, _, input) => maker(underscores, input),
     }
 }
 
@@ -38,7 +50,7 @@ fn push_scan_of(
     text: &mut String,
     dialect: Dialect,
     plan: &TypedPlan,
-    node: u32,
+    node: Alias,
     relation: usize,
 ) -> Result<(), AllocError>
     ensures { OnOk result (string_bytes text.new ≡ string_bytes text.old ++ scan_sql dialect node (relation_at (names_in plan.now).catalog relation)) }
@@ -54,17 +66,17 @@ fn push_scan_of(
 fn push_unary_head(
     text: &mut String,
     dialect: Dialect,
-    to: u32,
+    to: Alias,
     operator: &Unary,
     input: &TypedNode,
 ) -> Result<(), AllocError>
-    ensures { OnOk result (string_bytes text.new ≡ string_bytes text.old ++ (codes "SELECT " ++ (unary_columns dialect (maker (outline_of input.now)) to (columns (outline_of input.now)).types (unary_of operator.now) ++ codes " FROM "))) }
+    ensures { OnOk result (string_bytes text.new ≡ string_bytes text.old ++ (codes "SELECT " ++ (unary_columns dialect (maker to.underscores (outline_of input.now)) to (columns (outline_of input.now)).types (unary_of operator.now) ++ codes " FROM "))) }
 {
     text.push_str("SELECT ")?;
     push_unary_columns(
         text,
         dialect,
-        maker(input),
+        maker(to.underscores, input),
         to,
         column_types(input),
         operator,
@@ -75,18 +87,18 @@ fn push_unary_head(
 // Adds an operator over two inputs as far as the left rows.
 fn push_binary_head(
     text: &mut String,
-    to: u32,
+    to: Alias,
     operator: &Binary,
     left: &TypedNode,
     right: &TypedNode,
 ) -> Result<(), AllocError>
-    ensures { OnOk result (string_bytes text.new ≡ string_bytes text.old ++ (codes "SELECT " ++ (binary_columns (maker (outline_of left.now)) (maker (outline_of right.now)) to (columns (outline_of left.now)).types (columns (outline_of right.now)).types (binary_of operator.now) ++ codes " FROM "))) }
+    ensures { OnOk result (string_bytes text.new ≡ string_bytes text.old ++ (codes "SELECT " ++ (binary_columns (maker to.underscores (outline_of left.now)) (maker to.underscores (outline_of right.now)) to (columns (outline_of left.now)).types (columns (outline_of right.now)).types (binary_of operator.now) ++ codes " FROM "))) }
 {
     text.push_str("SELECT ")?;
     push_binary_columns(
         text,
-        maker(left),
-        maker(right),
+        maker(to.underscores, left),
+        maker(to.underscores, right),
         to,
         column_types(left),
         column_types(right),
@@ -101,7 +113,7 @@ fn push_scan_table(
     text: &mut String,
     dialect: Dialect,
     plan: &TypedPlan,
-    node: u32,
+    node: Alias,
     relation: usize,
 ) -> Result<(), AllocError>
     ensures { OnOk result (string_bytes text.new ≡ string_bytes text.old ++ table_as node (scan_sql dialect node (relation_at (names_in plan.now).catalog relation))) }
@@ -117,15 +129,15 @@ fn push_scan_table(
 fn push_unary(
     text: &mut String,
     dialect: Dialect,
-    to: u32,
+    to: Alias,
     operator: &Unary,
     input: &TypedNode,
 ) -> Result<(), AllocError>
-    ensures { OnOk result (string_bytes text.new ≡ string_bytes text.old ++ unary_sql dialect (maker (outline_of input.now)) to (columns (outline_of input.now)).types (unary_of operator.now) (node_name (maker (outline_of input.now)))) }
+    ensures { OnOk result (string_bytes text.new ≡ string_bytes text.old ++ unary_sql dialect (maker to.underscores (outline_of input.now)) to (columns (outline_of input.now)).types (unary_of operator.now) (node_name (maker to.underscores (outline_of input.now)))) }
 {
     push_unary_head(text, dialect, to, operator, input)?;
-    push_node_name(text, maker(input))?;
-    push_unary_clause(text, dialect, maker(input), operator)
+    push_node_name(text, maker(to.underscores, input))?;
+    push_unary_clause(text, dialect, maker(to.underscores, input), operator)
 }
 
 // Adds the same as a table behind others.
@@ -133,11 +145,11 @@ fn push_unary(
 fn push_unary_table(
     text: &mut String,
     dialect: Dialect,
-    to: u32,
+    to: Alias,
     operator: &Unary,
     input: &TypedNode,
 ) -> Result<(), AllocError>
-    ensures { OnOk result (string_bytes text.new ≡ string_bytes text.old ++ (codes ",\n" ++ table_as to (unary_sql dialect (maker (outline_of input.now)) to (columns (outline_of input.now)).types (unary_of operator.now) (node_name (maker (outline_of input.now)))))) }
+    ensures { OnOk result (string_bytes text.new ≡ string_bytes text.old ++ (codes ",\n" ++ table_as to (unary_sql dialect (maker to.underscores (outline_of input.now)) to (columns (outline_of input.now)).types (unary_of operator.now) (node_name (maker to.underscores (outline_of input.now)))))) }
 {
     text.push_str(",\n")?;
     push_node_name(text, to)?;
@@ -151,25 +163,30 @@ fn push_unary_table(
 fn push_binary(
     text: &mut String,
     dialect: Dialect,
-    to: u32,
+    to: Alias,
     operator: &Binary,
     left: &TypedNode,
     right: &TypedNode,
 ) -> Result<(), AllocError>
-    ensures { OnOk result (string_bytes text.new ≡ string_bytes text.old ++ binary_sql dialect (maker (outline_of left.now)) (maker (outline_of right.now)) to (columns (outline_of left.now)).types (columns (outline_of right.now)).types (binary_of operator.now) (node_name (maker (outline_of left.now))) (node_name (maker (outline_of right.now)))) }
+    ensures { OnOk result (string_bytes text.new ≡ string_bytes text.old ++ binary_sql dialect (maker to.underscores (outline_of left.now)) (maker to.underscores (outline_of right.now)) to (columns (outline_of left.now)).types (columns (outline_of right.now)).types (binary_of operator.now) (node_name (maker to.underscores (outline_of left.now))) (node_name (maker to.underscores (outline_of right.now)))) }
 {
     push_binary_head(text, to, operator, left, right)?;
-    push_node_name(text, maker(left))?;
+    push_node_name(text, maker(to.underscores, left))?;
     push_binary_word(
         text,
         dialect,
-        maker(right),
+        maker(to.underscores, right),
         to,
         column_types(right),
         operator,
     )?;
-    push_node_name(text, maker(right))?;
-    push_binary_clause(text, maker(left), maker(right), operator)
+    push_node_name(text, maker(to.underscores, right))?;
+    push_binary_clause(
+        text,
+        maker(to.underscores, left),
+        maker(to.underscores, right),
+        operator,
+    )
 }
 
 // Adds the same as a table behind others.
@@ -177,12 +194,12 @@ fn push_binary(
 fn push_binary_table(
     text: &mut String,
     dialect: Dialect,
-    to: u32,
+    to: Alias,
     operator: &Binary,
     left: &TypedNode,
     right: &TypedNode,
 ) -> Result<(), AllocError>
-    ensures { OnOk result (string_bytes text.new ≡ string_bytes text.old ++ (codes ",\n" ++ table_as to (binary_sql dialect (maker (outline_of left.now)) (maker (outline_of right.now)) to (columns (outline_of left.now)).types (columns (outline_of right.now)).types (binary_of operator.now) (node_name (maker (outline_of left.now))) (node_name (maker (outline_of right.now)))))) }
+    ensures { OnOk result (string_bytes text.new ≡ string_bytes text.old ++ (codes ",\n" ++ table_as to (binary_sql dialect (maker to.underscores (outline_of left.now)) (maker to.underscores (outline_of right.now)) to (columns (outline_of left.now)).types (columns (outline_of right.now)).types (binary_of operator.now) (node_name (maker to.underscores (outline_of left.now))) (node_name (maker to.underscores (outline_of right.now)))))) }
 {
     text.push_str(",\n")?;
     push_node_name(text, to)?;
@@ -195,31 +212,45 @@ fn push_binary_table(
 fn push_tables(
     text: &mut String,
     dialect: Dialect,
+    underscores: usize,
     plan: &TypedPlan,
     node: &TypedNode,
 ) -> Result<(), AllocError>
-    ensures { OnOk result (string_bytes text.new ≡ string_bytes text.old ++ tables dialect (names_in plan.now) (outline_of node.now)) }
+    ensures { OnOk result (string_bytes text.new ≡ string_bytes text.old ++ tables dialect underscores (names_in plan.now) (outline_of node.now)) }
 {
     match node {
         TypedNode::Scan(head, scan) => {
-            push_scan_table(text, dialect, plan, head.number, scan.relation)
+            push_scan_table(
+                text,
+                dialect,
+                plan,
+                named_by(underscores, head),
+                scan.relation,
+            )
         }
         TypedNode::Unary(head, operator, input) => {
-            push_tables(text, dialect, plan, input)?;
-            push_unary_table(text, dialect, head.number, operator, input)
+            push_tables(text, dialect, underscores, plan, input)?;
+            push_unary_table(text, dialect, named_by(underscores, head), operator, input)
         }
         TypedNode::Binary(head, operator, left, right) => {
-            push_tables(text, dialect, plan, left)?;
+            push_tables(text, dialect, underscores, plan, left)?;
             text.push_str(",\n")?;
-            push_tables(text, dialect, plan, right)?;
-            push_binary_table(text, dialect, head.number, operator, left, right)
+            push_tables(text, dialect, underscores, plan, right)?;
+            push_binary_table(
+                text,
+                dialect,
+                named_by(underscores, head),
+                operator,
+                left,
+                right,
+            )
         }
-        TypedNode::Exchange(_, _, input) => push_tables(text, dialect, plan, input),
+        TypedNode::Exchange(_, _, input) => push_tables(text, dialect, underscores, plan, input),
     }
 }
 
 // Adds the end of a node's rows that stand in brackets, and their name.
-fn push_end(text: &mut String, node: u32) -> Result<(), AllocError>
+fn push_end(text: &mut String, node: Alias) -> Result<(), AllocError>
     ensures { OnOk result (string_bytes text.new ≡ string_bytes text.old ++ (codes ") AS " ++ node_name node)) }
 {
     text.push_str(") AS ")?;
@@ -230,18 +261,18 @@ fn push_end(text: &mut String, node: u32) -> Result<(), AllocError>
 fn push_binary_middle(
     text: &mut String,
     dialect: Dialect,
-    to: u32,
+    to: Alias,
     operator: &Binary,
     left: &TypedNode,
     right: &TypedNode,
 ) -> Result<(), AllocError>
-    ensures { OnOk result (string_bytes text.new ≡ string_bytes text.old ++ (codes ") AS " ++ (node_name (maker (outline_of left.now)) ++ (binary_word dialect (maker (outline_of right.now)) to (columns (outline_of right.now)).types (binary_of operator.now) ++ codes "(")))) }
+    ensures { OnOk result (string_bytes text.new ≡ string_bytes text.old ++ (codes ") AS " ++ (node_name (maker to.underscores (outline_of left.now)) ++ (binary_word dialect (maker to.underscores (outline_of right.now)) to (columns (outline_of right.now)).types (binary_of operator.now) ++ codes "(")))) }
 {
-    push_end(text, maker(left))?;
+    push_end(text, maker(to.underscores, left))?;
     push_binary_word(
         text,
         dialect,
-        maker(right),
+        maker(to.underscores, right),
         to,
         column_types(right),
         operator,
@@ -252,14 +283,20 @@ fn push_binary_middle(
 // Adds what stands behind the right rows, which are in brackets.
 fn push_binary_end(
     text: &mut String,
+    underscores: usize,
     operator: &Binary,
     left: &TypedNode,
     right: &TypedNode,
 ) -> Result<(), AllocError>
-    ensures { OnOk result (string_bytes text.new ≡ string_bytes text.old ++ (codes ") AS " ++ (node_name (maker (outline_of right.now)) ++ binary_clause (maker (outline_of left.now)) (maker (outline_of right.now)) (binary_of operator.now)))) }
+    ensures { OnOk result (string_bytes text.new ≡ string_bytes text.old ++ (codes ") AS " ++ (node_name (maker underscores (outline_of right.now)) ++ binary_clause (maker underscores (outline_of left.now)) (maker underscores (outline_of right.now)) (binary_of operator.now)))) }
 {
-    push_end(text, maker(right))?;
-    push_binary_clause(text, maker(left), maker(right), operator)
+    push_end(text, maker(underscores, right))?;
+    push_binary_clause(
+        text,
+        maker(underscores, left),
+        maker(underscores, right),
+        operator,
+    )
 }
 
 // Adds the node's rows, with those of each node below it within them.
@@ -267,35 +304,49 @@ fn push_binary_end(
 fn push_nested(
     text: &mut String,
     dialect: Dialect,
+    underscores: usize,
     plan: &TypedPlan,
     node: &TypedNode,
 ) -> Result<(), AllocError>
-    ensures { OnOk result (string_bytes text.new ≡ string_bytes text.old ++ nested dialect (names_in plan.now) (outline_of node.now)) }
+    ensures { OnOk result (string_bytes text.new ≡ string_bytes text.old ++ nested dialect underscores (names_in plan.now) (outline_of node.now)) }
 {
     match node {
         TypedNode::Scan(head, scan) => {
-            push_scan_of(text, dialect, plan, head.number, scan.relation)
+            push_scan_of(
+                text,
+                dialect,
+                plan,
+                named_by(underscores, head),
+                scan.relation,
+            )
         }
         TypedNode::Unary(head, operator, input) => {
-            push_unary_head(text, dialect, head.number, operator, input)?;
+            push_unary_head(text, dialect, named_by(underscores, head), operator, input)?;
             text.push_str("(")?;
-            push_nested(text, dialect, plan, input)?;
-            push_end(text, maker(input))?;
-            push_unary_clause(text, dialect, maker(input), operator)
+            push_nested(text, dialect, underscores, plan, input)?;
+            push_end(text, maker(underscores, input))?;
+            push_unary_clause(text, dialect, maker(underscores, input), operator)
         }
         TypedNode::Binary(head, operator, left, right) => {
-            push_binary_head(text, head.number, operator, left, right)?;
+            push_binary_head(text, named_by(underscores, head), operator, left, right)?;
             text.push_str("(")?;
-            push_nested(text, dialect, plan, left)?;
-            push_binary_middle(text, dialect, head.number, operator, left, right)?;
-            push_nested(text, dialect, plan, right)?;
-            push_binary_end(text, operator, left, right)
+            push_nested(text, dialect, underscores, plan, left)?;
+            push_binary_middle(
+                text,
+                dialect,
+                named_by(underscores, head),
+                operator,
+                left,
+                right,
+            )?;
+            push_nested(text, dialect, underscores, plan, right)?;
+            push_binary_end(text, underscores, operator, left, right)
         }
-        TypedNode::Exchange(_, _, input) => push_nested(text, dialect, plan, input),
+        TypedNode::Exchange(_, _, input) => push_nested(text, dialect, underscores, plan, input),
     }
 }
 
-fn push_order_columns(text: &mut String, node: u32, order: &[usize]) -> Result<(), AllocError>
+fn push_order_columns(text: &mut String, node: Alias, order: &[usize]) -> Result<(), AllocError>
     ensures { OnOk result (string_bytes text.new ≡ string_bytes text.old ++ separated (codes ", ") false (map (column_of node) order.now)) }
 {
     for (i, column) in order.iter().enumerate() {
@@ -306,7 +357,7 @@ fn push_order_columns(text: &mut String, node: u32, order: &[usize]) -> Result<(
 }
 
 // Adds the order of the result, if there is one.
-fn push_order(text: &mut String, node: u32, order: &[usize]) -> Result<(), AllocError>
+fn push_order(text: &mut String, node: Alias, order: &[usize]) -> Result<(), AllocError>
     ensures { OnOk result (string_bytes text.new ≡ string_bytes text.old ++ order_sql node order.now) }
 {
     if order.is_empty() {
@@ -321,20 +372,35 @@ fn push_result_head(
     alloc: Global,
     text: &mut String,
     dialect: Dialect,
+    underscores: usize,
     root: &TypedNode,
 ) -> Result<(), AllocError>
-    ensures { OnOk result (string_bytes text.new ≡ string_bytes text.old ++ (codes "SELECT " ++ (separated (codes ", ") false (result_columns dialect (maker (outline_of root.now)) 0 (columns (outline_of root.now)).names) ++ codes " FROM "))) }
+    ensures { OnOk result (string_bytes text.new ≡ string_bytes text.old ++ (codes "SELECT " ++ (separated (codes ", ") false (result_columns dialect (maker underscores (outline_of root.now)) 0 (columns (outline_of root.now)).names) ++ codes " FROM "))) }
 {
     text.push_str("SELECT ")?;
-    push_result_columns(alloc, text, dialect, maker(root), column_names(root))?;
+    push_result_columns(
+        alloc,
+        text,
+        dialect,
+        maker(underscores, root),
+        column_names(root),
+    )?;
     text.push_str(" FROM ")
 }
 
 // Adds the order of the root and the end of the statement.
-fn push_result_end(text: &mut String, root: &TypedNode) -> Result<(), AllocError>
-    ensures { OnOk result (string_bytes text.new ≡ string_bytes text.old ++ (order_sql (maker (outline_of root.now)) (top (outline_of root.now)).claim.order ++ codes ";\n")) }
+fn push_result_end(
+    text: &mut String,
+    underscores: usize,
+    root: &TypedNode,
+) -> Result<(), AllocError>
+    ensures { OnOk result (string_bytes text.new ≡ string_bytes text.old ++ (order_sql (maker underscores (outline_of root.now)) (top (outline_of root.now)).claim.order ++ codes ";\n")) }
 {
-    push_order(text, maker(root), root.head().claim.order.as_slice())?;
+    push_order(
+        text,
+        maker(underscores, root),
+        root.head().claim.order.as_slice(),
+    )?;
     text.push_str(";\n")
 }
 
@@ -344,17 +410,18 @@ fn push_with_tables(
     alloc: Global,
     text: &mut String,
     dialect: Dialect,
+    underscores: usize,
     plan: &TypedPlan,
     root: &TypedNode,
 ) -> Result<(), AllocError>
-    ensures { OnOk result (string_bytes text.new ≡ string_bytes text.old ++ with_tables dialect (names_in plan.now) (outline_of root.now)) }
+    ensures { OnOk result (string_bytes text.new ≡ string_bytes text.old ++ with_tables dialect underscores (names_in plan.now) (outline_of root.now)) }
 {
     text.push_str("WITH ")?;
-    push_tables(text, dialect, plan, root)?;
+    push_tables(text, dialect, underscores, plan, root)?;
     text.push_str("\n")?;
-    push_result_head(alloc, text, dialect, root)?;
-    push_node_name(text, maker(root))?;
-    push_result_end(text, root)
+    push_result_head(alloc, text, dialect, underscores, root)?;
+    push_node_name(text, maker(underscores, root))?;
+    push_result_end(text, underscores, root)
 }
 
 // Adds the rows of the root, with those of all nodes within them.
@@ -363,28 +430,34 @@ fn push_all_nested(
     alloc: Global,
     text: &mut String,
     dialect: Dialect,
+    underscores: usize,
     plan: &TypedPlan,
     root: &TypedNode,
 ) -> Result<(), AllocError>
-    ensures { OnOk result (string_bytes text.new ≡ string_bytes text.old ++ result_sql dialect (outline_of root.now) (within (maker (outline_of root.now)) (nested dialect (names_in plan.now) (outline_of root.now)))) }
+    ensures { OnOk result (string_bytes text.new ≡ string_bytes text.old ++ result_sql dialect underscores (outline_of root.now) (within (maker underscores (outline_of root.now)) (nested dialect underscores (names_in plan.now) (outline_of root.now)))) }
 {
-    push_result_head(alloc, text, dialect, root)?;
+    push_result_head(alloc, text, dialect, underscores, root)?;
     text.push_str("(")?;
-    push_nested(text, dialect, plan, root)?;
-    push_end(text, maker(root))?;
-    push_result_end(text, root)
+    push_nested(text, dialect, underscores, plan, root)?;
+    push_end(text, maker(underscores, root))?;
+    push_result_end(text, underscores, root)
 }
 
+#[tactic(auto, using(crate::proofs::OwnFacts::own_apart))]
 /// The plan without its exchanges as one statement of SQL, which ends in the order that the root claims.
 pub fn plan_sql(alloc: Global, dialect: Dialect, plan: &TypedPlan) -> Result<String, AllocError>
-    ensures { IfOk result (λ s. string_bytes s ≡ plan_sql dialect plan.now) }
+    ensures text { IfOk result (λ s. string_bytes s ≡ plan_sql dialect plan.now) }
+    ensures own { OwnNamesAreApart (names_in plan.now) (resolved_of plan.now).root }
 {
     let mut text = String::new(alloc);
+    let count = underscores(alloc, plan)?;
     match dialect {
         Dialect::Sqlite | Dialect::Postgres => {
-            push_with_tables(alloc, &mut text, dialect, plan, plan.root())?
+            push_with_tables(alloc, &mut text, dialect, count, plan, plan.root())?
         }
-        Dialect::ClickHouse => push_all_nested(alloc, &mut text, dialect, plan, plan.root())?,
+        Dialect::ClickHouse => {
+            push_all_nested(alloc, &mut text, dialect, count, plan, plan.root())?
+        }
     }
     Ok(text)
 }

@@ -9,4 +9,4 @@ pub returns : goal.returns
 returns c =
     let done = YieldsList-end (YieldsList-from_chars c.args.words.now c.utf8.words cc) c.loop-character.yielded _ c.loop-character.yielded_by _ _ c.in-None.is c.next.ensures.steps in
     c.loop-character.invariant
-    ∙ ap (λ cs. string_bytes c.args.text.now ++ flat_map (inside c.args.quote c.args.escape) cs) (sym (map-id c.loop-character.yielded) ∙ done.0)
+    ∙ ap (λ cs. string_bytes c.args.text.now ++ flat_map (inside c.args.quote c.args.escape c.args.zero.now) cs) (sym (map-id c.loop-character.yielded) ∙ done.0)

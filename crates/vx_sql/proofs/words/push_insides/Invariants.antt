@@ -5,4 +5,4 @@ use Rattle.vx_sql.proofs.words.push_insides.Given as goal
 
 abbrev pub invariant-loop-character : goal.invariant-loop-character
 invariant-loop-character l =
-    string_bytes l.text ≡ string_bytes l.initial.text ++ flat_map (inside l.quote l.escape) l.yielded
+    string_bytes l.text ≡ string_bytes l.initial.text ++ flat_map (inside l.quote l.escape l.zero) l.yielded
