@@ -443,8 +443,8 @@ fn push_all_nested(
     push_result_end(text, underscores, root)
 }
 
-#[tactic(auto, using(crate::proofs::OwnFacts::own_apart))]
 /// The plan without its exchanges as one statement of SQL, which ends in the order that the root claims.
+#[tactic(auto, using(crate::proofs::OwnFacts::own_apart))]
 pub fn plan_sql(alloc: Global, dialect: Dialect, plan: &TypedPlan) -> Result<String, AllocError>
     ensures text { IfOk result (λ s. string_bytes s ≡ plan_sql dialect plan.now) }
     ensures own { OwnNamesAreApart (names_in plan.now) (resolved_of plan.now).root }
