@@ -1,6 +1,7 @@
 pub mod Plan
 pub mod Parts
 pub mod Types
+pub mod Describe
 pub mod Numbering
 pub mod Serial
 pub mod Phases

@@ -1,0 +1,70 @@
+-- What an operator does with columns and rows, whatever its inputs claim.
+use Rattle.std.specs.Prelude.{ℕ, ◌+◌, ◌-◌, ◌==◌, nat_lt, nat_le, cond, List, length, position, Option, Some, None, slice_get}
+use Rattle.vx_plan_nodes.specs.Plan.{Unary, select, project, distinct, sort, group, plain, partial, final, Binary, union, join}
+
+-- ---- copies of columns
+
+-- how columns of an output are copies of those of an input: each of its own, those that are kept, or those of a left or of a right input, the left one so wide
+pub data Copying : Type 0 where
+  whole_rows : Copying
+  columns_kept : List ℕ → Copying
+  left_of : ℕ → Copying
+  right_of : ℕ → Copying
+
+-- the input column that an output column is a copy of
+abbrev pub source : Copying → ℕ → Option ℕ
+source whole_rows c = Some c
+source (columns_kept cols) c = slice_get cols c
+source (left_of w) c = cond (nat_lt c w) (Some c) None
+source (right_of w) c = cond (nat_le w c) (Some (c - w)) None
+
+-- where an input column first stands in the output. An output has no more than 64 columns
+abbrev pub place : Copying → ℕ → Option ℕ
+place whole_rows c = Some c
+place (columns_kept cols) c = position (λ k. c == k) cols
+place (left_of w) c = cond (nat_lt c w) (Some c) None
+place (right_of w) c = cond (nat_lt c 64) (Some (w + c)) None
+
+-- ---- operators over one input
+
+-- what becomes of the order of the rows: it goes on, or they are put in order on these input columns
+pub data OrderAfter : Type 0 where
+  order_kept : OrderAfter
+  sorted_on : List ℕ → OrderAfter
+
+-- what becomes of the keys: they go on, or the first columns of the output are one, or there is none
+pub data KeysAfter : Type 0 where
+  keys_kept : KeysAfter
+  key_of_first : ℕ → KeysAfter
+  no_key : KeysAfter
+
+-- an operator over one input: how it copies columns; the columns on which rows that agree have to be on one worker, if it does not take the rows one by one;
+-- and what becomes of the order and of the keys
+pub record Described : Type 0 where
+  pub copying : Copying
+  pub meets : Option (List ℕ)
+  pub order : OrderAfter
+  pub keys : KeysAfter
+
+abbrev pub described : Unary → Described
+described (select cs) = record { copying = whole_rows; meets = None; order = order_kept; keys = keys_kept }
+described (project cols) = record { copying = columns_kept cols; meets = None; order = order_kept; keys = keys_kept }
+described (distinct cols) = record { copying = columns_kept cols; meets = Some cols; order = order_kept; keys = key_of_first (length cols) }
+described (sort cols) = record { copying = whole_rows; meets = None; order = sorted_on cols; keys = keys_kept }
+described (group plain by aggregates) = record { copying = columns_kept by; meets = Some by; order = order_kept; keys = key_of_first (length by) }
+described (group partial by aggregates) = record { copying = columns_kept by; meets = None; order = order_kept; keys = no_key }
+described (group final by aggregates) = record { copying = columns_kept by; meets = Some by; order = order_kept; keys = key_of_first (length by) }
+
+-- ---- operators over two inputs
+
+-- an operator over two inputs: how it copies the columns of the left and of the right one, and the pairs of a left and a right column on which rows that agree
+-- have to meet; no pairs where the rows of both inputs stand side by side
+pub record DescribedBoth : Type 0 where
+  pub left : Copying
+  pub right : Copying
+  pub pairs : Option (List (ℕ × ℕ))
+
+-- over a left input of this width
+abbrev pub described_both : ℕ → Binary → DescribedBoth
+described_both w union = record { left = whole_rows; right = whole_rows; pairs = None }
+described_both w (join m on) = record { left = left_of w; right = right_of w; pairs = Some on }
