@@ -6,3 +6,6 @@ pub mod PairFacts
 pub mod RuleFacts
 pub mod WidthFacts
 pub mod Refusals
+pub mod Bools
+pub mod Exact
+pub mod Carrying

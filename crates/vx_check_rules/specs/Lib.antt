@@ -1,5 +1,8 @@
 pub mod Rules
 pub mod Refusal
+pub mod Behaviour
+pub mod Exactly
+pub mod Carried
 pub mod Claims
 pub mod Copies
 pub mod Pairs

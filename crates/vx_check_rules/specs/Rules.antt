@@ -175,9 +175,14 @@ shows catalog (binary n c union p q) x = both_have p q x
 shows catalog (binary n c (join m on) p q) x = join_shows on (width catalog p) p q x
 shows catalog (exchange n c k m p) q = kind_shows k q
 
--- K3: the claimed part is shown
+-- the test of the part, which the part of one worker never passes
+abbrev pub unless_one : (Part → Bool) → Part → Bool
+unless_one test one = false
+unless_one test q = test q
+
+-- K3: the claimed part is shown; where the size is not one, the part of one worker never is
 abbrev pub part_shown : (ℕ → Relation) → Plan → Bool
-part_shown catalog p = is_one (size p) || shows catalog p (claim p).part
+part_shown catalog p = is_one (size p) || unless_one (shows catalog p) (claim p).part
 
 -- the orders that an operator shows
 abbrev pub unary_orders : Unary → List ℕ → List ℕ → Bool

@@ -8,6 +8,7 @@ mod copied;
 mod copies;
 mod inputs;
 mod keys;
+mod laws;
 mod nodes;
 mod orders;
 mod pairs;
@@ -19,6 +20,10 @@ mod shown;
 
 pub use checked::CheckedPlan;
 pub use checking::check;
+pub use laws::{
+    carried_is_shown, copies_back, fits_exactly, keys_carried, keys_exactly, orders_carried,
+    orders_exactly, parts_carried, parts_exactly, verdicts_exactly,
+};
 pub use parts::{are_routed_alike, gives, is_same_route};
 pub use refusal::{failure_at, root_failure};
 pub use refused::Refused;

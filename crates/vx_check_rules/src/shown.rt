@@ -4,7 +4,7 @@ ghost use Rattle.std.specs.Prelude.{◌≡◌, ℕ, cond};
 ghost use Rattle.vx_plan_nodes.specs.Plan.{any, all};
 ghost use Rattle.vx_relations.specs.Relation.{Relation};
 ghost use Rattle.vx_plan_nodes.specs.Outline.{part_of, unary_of, binary_of, kind_of, outline_of, plan_of};
-ghost use Rattle.vx_check_rules.specs.Rules.{part_gives, unary_shows, alike_shows, join_shows, both_have, kind_shows, part_shown};
+ghost use Rattle.vx_check_rules.specs.Rules.{part_gives, unary_shows, alike_shows, join_shows, both_have, kind_shows, shows, part_shown};
 ghost use Rattle.vx_check_rules.specs.Joints.{binary_shows};
 ghost use Rattle.vx_plan_nodes.specs.Outputs.{HasOutputs};
 
@@ -115,14 +115,10 @@ fn scan_gives(is_shared: bool, wanted: &Part) -> bool
     }
 }
 
-/// Whether the node's claimed part is shown: K3.
-pub fn is_part_shown(node: &TypedNode) -> bool
-    ensures { (catalog : ℕ → Relation) → HasOutputs catalog (outline_of node.now) → result ≡ part_shown catalog (plan_of node.now) }
+// Whether a node of several workers shows the part.
+fn several_show(node: &TypedNode, wanted: &Part) -> bool
+    ensures { (catalog : ℕ → Relation) → HasOutputs catalog (outline_of node.now) → result ≡ shows catalog (plan_of node.now) (part_of wanted.now) }
 {
-    if has_one_worker(node) {
-        return true;
-    }
-    let wanted = claimed_part(node);
     match node {
         TypedNode::Scan(_, scan) => scan_gives(scan.shared, wanted),
         TypedNode::Unary(_, operator, input) => shows_over(operator, input, wanted),
@@ -130,5 +126,19 @@ pub fn is_part_shown(node: &TypedNode) -> bool
             binary_gives(operator, width_of(left), left, right, wanted)
         }
         TypedNode::Exchange(_, exchange, _) => kind_gives(&exchange.kind, wanted),
+    }
+}
+
+/// Whether the node's claimed part is shown, as the part of one worker never is at several: K3.
+pub fn is_part_shown(node: &TypedNode) -> bool
+    ensures { (catalog : ℕ → Relation) → HasOutputs catalog (outline_of node.now) → result ≡ part_shown catalog (plan_of node.now) }
+{
+    if has_one_worker(node) {
+        return true;
+    }
+    let wanted = claimed_part(node);
+    match wanted {
+        Part::One => false,
+        Part::Any | Part::All | Part::Routed(_, _) => several_show(node, wanted),
     }
 }

@@ -1,0 +1,253 @@
+-- What a node has of its inputs' claims, by the description of its operator: the ways to a part, the orders and the keys that are there. Read downwards it tests a claim; read upwards it makes one.
+use Rattle.std.specs.Prelude.{ℕ, ◌==◌, Bool, true, false, cond, not, ◌&&◌, ◌||◌, List, [], ◌∷◌, ◌++◌, map, flat_map, filter_map, Option, Some, None}
+use Rattle.std.specs.List.{list_all, list_any}
+use Rattle.vx_relations.specs.Relation.{Relation}
+use Rattle.vx_plan_nodes.specs.Plan.{Route, Part, one, any, all, routed, ExchangeKind, Plan, scan, unary, binary, exchange, claim, size, is_one}
+use Rattle.vx_plan_nodes.specs.Parts.{kind_part}
+use Rattle.vx_plan_nodes.specs.Phases.{first_columns}
+use Rattle.vx_plan_nodes.specs.Types.{width}
+use Rattle.vx_plan_nodes.specs.Describe.{Copying, whole_rows, columns_kept, left_of, right_of, source, place, OrderAfter, order_kept, sorted_on, KeysAfter, keys_kept, key_of_first, no_key, Described, described, DescribedBoth, described_both}
+use Rattle.vx_check_rules.specs.Rules.{part_gives, has, is_prefix, cons_both, if_some, routed_within, routed_alike, covers, goes_on}
+
+-- ---- columns, all of them or up to the first
+
+-- the input columns that these are copies of, if each is one
+abbrev pub sources : Copying → List ℕ → Option (List ℕ)
+sources k [] = Some []
+sources k (c ∷ cs) = cons_both (source k c) (sources k cs)
+
+-- where these input columns stand in the output, if each has a place
+abbrev pub places : Copying → List ℕ → Option (List ℕ)
+places k [] = Some []
+places k (c ∷ cs) = cons_both (place k c) (places k cs)
+
+-- where they stand up to the first that has no place
+abbrev pub place_then : Option ℕ → List ℕ → List ℕ
+place_then None cs = []
+place_then (Some c) cs = c ∷ cs
+
+abbrev pub front_places : Copying → List ℕ → List ℕ
+front_places k [] = []
+front_places k (c ∷ cs) = place_then (place k c) (front_places k cs)
+
+-- ---- what is there
+
+-- a way to a part: each of these inputs has it, on the columns that are copied; of each input whether it has one worker, and its part
+pub record Way : Type 0 where
+  pub copying : Copying
+  pub from : List (Bool × Part)
+
+-- an order, on the columns that are copied
+pub record Sorted : Type 0 where
+  pub copying : Copying
+  pub order : List ℕ
+
+-- keys: one of each of these lists, together, on the columns that are copied
+pub record Keyed : Type 0 where
+  pub from : List (Copying × List (List ℕ))
+
+-- the ways to a part, none where the operator does not fit its inputs; the orders; and the keys
+pub record Behaviour : Type 0 where
+  pub ways : List Way
+  pub sortings : List Sorted
+  pub keyed : List Keyed
+
+abbrev pub way : Copying → List (Bool × Part) → Way
+way k from = record { copying = k; from = from }
+
+abbrev pub sorted_by : Copying → List ℕ → Sorted
+sorted_by k order = record { copying = k; order = order }
+
+abbrev pub keyed_by : List (Copying × List (List ℕ)) → Keyed
+keyed_by from = record { from = from }
+
+-- ---- the behaviour of a node
+
+-- the list where the test passes, else none
+abbrev pub if_so : {X : Type 0} → Bool → List X → List X
+if_so b xs = cond b xs []
+
+-- an input's part, as it claims it; and a part alone
+abbrev pub own : Plan → Bool × Part
+own p = (is_one (size p), (claim p).part)
+
+abbrev pub bare : Part → Bool × Part
+bare q = (false, q)
+
+-- rows of an input that agree in these columns are on one worker
+abbrev pub meet : Option (List ℕ) → Plan → Bool
+meet None p = true
+meet (Some cols) p = is_one (size p) || (has p all || routed_within (claim p).part cols)
+
+abbrev pub order_after : OrderAfter → List ℕ → List ℕ
+order_after order_kept below = below
+order_after (sorted_on cols) below = cols
+
+abbrev pub keyed_after : KeysAfter → Copying → List (List ℕ) → List Keyed
+keyed_after keys_kept k below = keyed_by ((k, below) ∷ []) ∷ []
+keyed_after (key_of_first n) k below = keyed_by ((whole_rows, first_columns n ∷ []) ∷ []) ∷ []
+keyed_after no_key k below = []
+
+-- of an operator over one input: its way is there where the rows that have to meet do
+abbrev pub over : Described → Plan → Behaviour
+over d p = record {
+  ways = if_so (meet d.meets p) (way d.copying (own p ∷ []) ∷ []);
+  sortings = sorted_by d.copying (order_after d.order (claim p).order) ∷ [];
+  keyed = keyed_after d.keys d.copying (claim p).keys;
+}
+
+-- of one over two inputs. Rows side by side have the parts that both inputs have, if both have each row once or both have all on each worker.
+-- Rows that have to meet do where both inputs are routed alike, and where each worker has one of them whole. An input of one worker has every part, so that
+-- there a left column is tested to be one; a left input's own route and order name left columns, which stand where they stood
+abbrev pub ways_over : Option (List (ℕ × ℕ)) → DescribedBoth → Plan → Plan → List Way
+ways_over None d p q = if_so (is_one (size p) || ((has p any && has q any) || (has p all && has q all))) (way d.left (own p ∷ own q ∷ []) ∷ [])
+ways_over (Some on) d p q =
+    if_so (routed_alike on (claim p).part (claim q).part) (way whole_rows (bare (claim p).part ∷ []) ∷ way d.right (bare (claim q).part ∷ []) ∷ [])
+    ++ (if_so (has q all) (way d.left (own p ∷ []) ∷ []) ++ if_so (has p all) (way d.right (own q ∷ []) ∷ []))
+
+-- the left input's order goes on where rows meet, and is lost where they stand side by side
+abbrev pub order_over : Option (List (ℕ × ℕ)) → List ℕ → List ℕ
+order_over None left = []
+order_over (Some on) left = left
+
+-- an input's keys where the rows of the other one meet one row each; else a key of each input together
+abbrev pub keyed_held : (right_held left_held : Bool) → (lefts rights : Copying × List (List ℕ)) → List Keyed
+keyed_held right_held left_held lefts rights =
+    if_so right_held (keyed_by (lefts ∷ []) ∷ []) ++ (if_so left_held (keyed_by (rights ∷ []) ∷ []) ++ if_so (not (right_held || left_held)) (keyed_by (lefts ∷ rights ∷ []) ∷ []))
+
+abbrev pub keyed_over : Option (List (ℕ × ℕ)) → DescribedBoth → (lefts rights : List (List ℕ)) → List Keyed
+keyed_over None d lefts rights = []
+keyed_over (Some on) d lefts rights =
+    keyed_held (covers rights (map (λ p. p.1) on)) (covers lefts (map (λ p. p.0) on)) (whole_rows, lefts) (d.right, rights)
+
+abbrev pub over_both : DescribedBoth → Plan → Plan → Behaviour
+over_both d p q = record {
+  ways = ways_over d.pairs d p q;
+  sortings = sorted_by whole_rows (order_over d.pairs (claim p).order) ∷ [];
+  keyed = keyed_over d.pairs d (claim p).keys (claim q).keys;
+}
+
+-- of a scan: what its relation declares
+abbrev pub of_relation : Bool → Relation → Behaviour
+of_relation shared r = record {
+  ways = way whole_rows (bare (cond shared any all) ∷ []) ∷ [];
+  sortings = sorted_by whole_rows r.order ∷ [];
+  keyed = keyed_by ((whole_rows, r.keys) ∷ []) ∷ [];
+}
+
+-- of an exchange: the part that it makes; the input's order where that goes on, and the one that it merges by; and the input's keys
+abbrev pub moved : ExchangeKind → List ℕ → Plan → Behaviour
+moved kind merge p = record {
+  ways = way whole_rows (bare (kind_part kind) ∷ []) ∷ [];
+  sortings = if_so (is_one (size p) || goes_on kind (claim p)) (sorted_by whole_rows (claim p).order ∷ []) ++ sorted_by whole_rows merge ∷ [];
+  keyed = keyed_by ((whole_rows, (claim p).keys) ∷ []) ∷ [];
+}
+
+abbrev pub behaviour : (ℕ → Relation) → Plan → Behaviour
+behaviour catalog (scan n c r shared z) = of_relation shared (catalog r)
+behaviour catalog (unary n c op p) = over (described op) p
+behaviour catalog (binary n c op p q) = over_both (described_both (width catalog p) op) p q
+behaviour catalog (exchange n c kind merge p) = moved kind merge p
+
+-- ---- downwards: what is shown
+
+-- the operator fits its inputs: there is a way
+abbrev pub fits : Behaviour → Bool
+fits b = list_any (λ w. true) b.ways
+
+-- each of the inputs has the part
+abbrev pub each_has : List (Bool × Part) → Part → Bool
+each_has from q = list_all (λ f. f.0 || part_gives f.1 q) from
+
+-- a way gives the part; no way has all rows on one of several workers
+abbrev pub gives : Way → Part → Bool
+gives w one = false
+gives w any = each_has w.from any
+gives w all = each_has w.from all
+gives w (routed r cols) = if_some (sources w.copying cols) (λ cs. each_has w.from (routed r cs))
+
+-- the rows are sorted so, as they are sorted on the columns that these are copies of
+abbrev pub sorts : Sorted → List ℕ → Bool
+sorts s order = if_some (sources s.copying order) (λ cs. is_prefix cs s.order)
+
+-- the column is this one
+abbrev pub is_column : Option ℕ → ℕ → Bool
+is_column None c = false
+is_column (Some d) c = c == d
+
+-- among these output columns is a copy of this input column; and copies of all columns of one of these keys
+abbrev pub has_copy : Copying → List ℕ → ℕ → Bool
+has_copy k cols c = list_any (λ x. is_column (source k x) c) cols
+
+abbrev pub has_key : Copying → List (List ℕ) → List ℕ → Bool
+has_key k keys cols = list_any (λ key. list_all (has_copy k cols) key) keys
+
+-- these output columns contain a key of each of the inputs
+abbrev pub keys_give : Keyed → List ℕ → Bool
+keys_give k cols = list_all (λ f. has_key f.0 f.1 cols) k.from
+
+-- the part, the order and the key are shown
+abbrev pub shown_part : Behaviour → Part → Bool
+shown_part b q = list_any (λ w. gives w q) b.ways
+
+abbrev pub shown_order : Behaviour → List ℕ → Bool
+shown_order b order = list_any (λ s. sorts s order) b.sortings
+
+abbrev pub shown_key : Behaviour → List ℕ → Bool
+shown_key b cols = list_any (λ k. keys_give k cols) b.keyed
+
+-- ---- upwards: what is claimed
+
+-- routed by the columns at their places; any part where one of them has none
+abbrev pub routed_at : Route → Option (List ℕ) → Part
+routed_at r None = any
+routed_at r (Some cols) = routed r cols
+
+-- what an output has of an input's part; of one worker's part nothing, which no several workers have
+abbrev pub part_up : Copying → Part → Option Part
+part_up k one = None
+part_up k any = Some any
+part_up k all = Some all
+part_up k (routed r cols) = Some (routed_at r (places k cols))
+
+-- the first input's part if the others have it too, else any
+abbrev pub common_part : List (Bool × Part) → Part
+common_part [] = any
+common_part (f ∷ fs) = cond (list_all (λ g. part_gives g.1 f.1) fs) f.1 any
+
+-- the part that the first way carries up
+abbrev pub first_part : List Way → Option Part
+first_part [] = None
+first_part (w ∷ ws) = part_up w.copying (common_part w.from)
+
+-- the order that the first sorting carries up
+abbrev pub first_order : List Sorted → List ℕ
+first_order [] = []
+first_order (s ∷ ss) = front_places s.copying s.order
+
+-- the keys of which each column has a place
+abbrev pub kept_keys : Copying → List (List ℕ) → List (List ℕ)
+kept_keys k keys = filter_map (places k) keys
+
+-- of one list all; of more the first of each, together
+abbrev pub first_pair : List (List ℕ) → List (List ℕ) → List (List ℕ)
+first_pair (k ∷ lefts) (j ∷ rights) = (k ++ j) ∷ []
+first_pair _ _ = []
+
+abbrev pub together : List (List (List ℕ)) → List (List ℕ)
+together [] = []
+together (keys ∷ []) = keys
+together (keys ∷ more ∷ others) = first_pair keys (together (more ∷ others))
+
+abbrev pub keys_up : Keyed → List (List ℕ)
+keys_up k = together (map (λ f. kept_keys f.0 f.1) k.from)
+
+-- what a node claims in place of its claim: one worker's part, or the one that is carried up; the order; and the keys
+abbrev pub node_part : (ℕ → Relation) → Plan → Option Part
+node_part catalog p = cond (is_one (size p)) (Some one) (first_part (behaviour catalog p).ways)
+
+abbrev pub node_order : (ℕ → Relation) → Plan → List ℕ
+node_order catalog p = first_order (behaviour catalog p).sortings
+
+abbrev pub node_keys : (ℕ → Relation) → Plan → List (List ℕ)
+node_keys catalog p = flat_map keys_up (behaviour catalog p).keyed
