@@ -1,5 +1,5 @@
 -- What is carried up is shown.
-use Rattle.std.proofs.Common.{ℕ, ◌≡◌, ◌+◌, ◌-◌, ◌<◌, ◌==◌, nat_lt, nat_le, Bool, true, false, cond, ◌&&◌, ◌||◌, List, [], ◌∷◌, ◌++◌, map, flat_map, length, get_or, position, refl, sym, ap, ◌∙◌, subst, arith, Option, Some, None, slice_get}
+use Rattle.std.proofs.Common.{ℕ, ◌≡◌, ◌+◌, ◌-◌, ◌==◌, nat_lt, nat_le, Bool, true, false, cond, ◌&&◌, ◌||◌, List, [], ◌∷◌, ◌++◌, map, flat_map, length, get_or, position, refl, sym, ap, ◌∙◌, arith, Option, Some, None, slice_get}
 use Rattle.std.specs.List.{list_any, list_all, cons_option}
 use Rattle.std.proofs.lemmas.Bool.{eqb-true}
 use Rattle.std.proofs.lemmas.Bool.Decides.{nat_tests}
@@ -7,16 +7,16 @@ use Rattle.std.proofs.lemmas.List.Folds.{list_any-append, list_all-append}
 use Rattle.std.proofs.lemmas.List.Quantifiers.{position-Some}
 use Rattle.vx_values.proofs.Booleans.{and-left, and-right, and-both}
 use Rattle.vx_relations.specs.Relation.{Relation}
-use Rattle.vx_plan_nodes.specs.Plan.{Route, by_hash, by_range, Part, one, any, all, routed, Claim, Unary, select, project, distinct, sort, group, plain, partial, final, union, join, Plan, scan, unary, binary, exchange, claim, size, is_one, Size, one_worker, group_of, size_eq, target}
+use Rattle.vx_plan_nodes.specs.Plan.{Route, by_hash, by_range, Part, one, any, all, routed, Claim, Unary, select, project, distinct, sort, group, plain, partial, final, union, join, Plan, scan, unary, binary, exchange, claim, size, is_one, Size, one_worker, group_of, size_eq}
 use Rattle.vx_plan_nodes.specs.Parts.{kind_part}
 use Rattle.vx_plan_nodes.specs.Phases.{first_columns}
 use Rattle.vx_plan_nodes.specs.Types.{width}
 use Rattle.vx_plan_nodes.specs.Describe.{Copying, whole_rows, columns_kept, left_of, right_of, source, place, described, described_both}
 use Rattle.vx_check_rules.specs.Rules.{numbers_eq, route_eq, part_gives, has, contains, within, is_prefix, cons_both, copied, if_some, unless_one, sizes_match, not_replicated, inputs_match, order_given, shows, orders, covers, numbers_below, keys_of, routed_alike, goes_on}
-use Rattle.vx_check_rules.specs.Refusal.{Rule, size_mismatch, replicated_input, inputs_not_matched, order_needed, part_not_shown, order_not_shown, key_not_shown, first_failure, node_tests}
-use Rattle.vx_check_rules.specs.Behaviour.{sources, places, place_then, front_places, Way, Sorted, Keyed, Behaviour, way, sorted_by, keyed_by, order_after, order_over, if_so, own, bare, meet, over, behaviour, each_has, gives, sorts, is_column, has_copy, has_key, keys_give, shown_part, shown_order, shown_key, routed_at, part_up, common_part, first_part, first_order, kept_keys, first_pair, together, keys_up, node_part, node_order, node_keys}
+use Rattle.vx_check_rules.specs.Refusal.{size_mismatch, replicated_input, inputs_not_matched, order_needed, part_not_shown, order_not_shown, key_not_shown, first_failure, node_tests}
+use Rattle.vx_check_rules.specs.Behaviour.{sources, places, place_then, front_places, Way, Sorted, Keyed, way, sorted_by, order_after, order_over, if_so, own, bare, meet, behaviour, each_has, gives, sorts, is_column, has_copy, has_key, keys_give, shown_part, shown_order, shown_key, routed_at, part_up, first_part, first_order, kept_keys, first_pair, together, keys_up, node_part, node_order, node_keys}
 use Rattle.vx_check_rules.specs.Carried.{CopiesBack, OrdersCarried, KeysCarried, PartsCarried, with_claim, carried, CarriedIsShown}
-use Rattle.vx_check_rules.proofs.Bools.{or-false, or-left, or-right, all-more, any-more}
+use Rattle.vx_check_rules.proofs.Bools.{or-left, or-right, all-more, any-more}
 use Rattle.vx_check_rules.proofs.ColumnFacts.{list_all-ext}
 use Rattle.vx_check_rules.proofs.Exact.{sources-kept, slice-at, orders-exactly, parts-exactly, key-whole, key-first, join-keys, all-first}
 

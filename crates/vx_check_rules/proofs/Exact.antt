@@ -1,5 +1,5 @@
 -- The behaviours say what the rule table says.
-use Rattle.std.proofs.Common.{ℕ, zero, suc, ◌≡◌, ◌+◌, ◌-◌, ◌<◌, ◌==◌, nat_lt, nat_le, not, Bool, true, false, cond, ◌&&◌, ◌||◌, List, [], ◌∷◌, ◌++◌, map, length, get_or, refl, sym, ap, ◌∙◌, arith, Option, Some, None, slice_get}
+use Rattle.std.proofs.Common.{ℕ, zero, suc, ◌≡◌, ◌+◌, ◌-◌, ◌<◌, ◌==◌, nat_lt, nat_le, Bool, true, false, cond, ◌&&◌, ◌||◌, List, [], ◌∷◌, ◌++◌, map, length, get_or, refl, sym, ap, ◌∙◌, arith, Option, Some, None, slice_get}
 use Rattle.std.specs.List.{list_any, list_all}
 use Rattle.std.proofs.lemmas.Bool.Decides.{nat_tests}
 use Rattle.std.proofs.lemmas.List.Folds.{list_any-append, list_all-append, list_all-map}
@@ -11,10 +11,10 @@ use Rattle.vx_plan_nodes.specs.Parts.{kind_part}
 use Rattle.vx_plan_nodes.specs.Phases.{columns_from, first_columns}
 use Rattle.vx_plan_nodes.specs.Types.{width}
 use Rattle.vx_plan_nodes.specs.Describe.{Copying, whole_rows, columns_kept, left_of, right_of, source, described}
-use Rattle.vx_check_rules.specs.Rules.{part_gives, has, contains, within, is_prefix, cons_both, if_some, unless_one, through, copied, left_columns, right_columns, routed_within, routed_alike, alike_shows, join_shows, both_have, kind_shows, shows, unary_shows, keeps_apart, sizes_match, not_replicated, inputs_match, order_given, part_shown, order_shown, covers, numbers_below, shifted, goes_on, orders, keys_of, keys_shown, join_keys}
-use Rattle.vx_check_rules.specs.Refusal.{Rule, size_mismatch, part_not_shown, inputs_not_matched, replicated_input, order_not_shown, order_needed, key_not_shown, first_failure}
-use Rattle.vx_check_rules.specs.Behaviour.{sources, Way, Keyed, way, sorted_by, keyed_by, if_so, own, bare, over, ways_over, keyed_held, behaviour, fits, each_has, gives, sorts, is_column, has_copy, has_key, keys_give, shown_part, shown_order, shown_key}
-use Rattle.vx_check_rules.specs.Exactly.{FitsExactly, PartsExactly, OrdersExactly, KeysExactly, VerdictsExactly, keys_name_columns}
+use Rattle.vx_check_rules.specs.Rules.{part_gives, has, contains, within, is_prefix, cons_both, if_some, unless_one, through, copied, left_columns, right_columns, routed_within, routed_alike, alike_shows, join_shows, both_have, kind_shows, unary_shows, keeps_apart, sizes_match, not_replicated, inputs_match, order_given, part_shown, order_shown, covers, numbers_below, shifted, goes_on, orders, keys_of, keys_shown, join_keys}
+use Rattle.vx_check_rules.specs.Refusal.{size_mismatch, part_not_shown, inputs_not_matched, replicated_input, order_not_shown, order_needed, key_not_shown, first_failure}
+use Rattle.vx_check_rules.specs.Behaviour.{sources, Way, way, sorted_by, keyed_by, if_so, own, bare, over, ways_over, keyed_held, behaviour, fits, each_has, gives, sorts, is_column, has_copy, has_key, keys_give, shown_part, shown_order, shown_key}
+use Rattle.vx_check_rules.specs.Exactly.{FitsExactly, PartsExactly, OrdersExactly, KeysExactly, VerdictsExactly}
 use Rattle.vx_check_rules.proofs.Bools.{or-false, or-true, and-true, or-assoc, or-swap, or-again, any-if}
 use Rattle.vx_check_rules.proofs.ColumnFacts.{list_all-ext, list_any-ext, contains-below}
 
@@ -172,7 +172,7 @@ alike on w (routed r ls) (routed s rs) (routed t cs) =
     let l : gives (way whole_rows (bare (routed r ls) ∷ [])) (routed t cs) ≡ part_gives (routed r ls) (routed t cs) = bare-whole (routed r ls) (routed t cs) in
     let g : Bool = gives (way (right_of w) (bare (routed s rs) ∷ [])) (routed t cs) in
     let m : g ≡ if_some (right_columns w cs) (λ ds. part_gives (routed s rs) (routed t ds))
-      = gives-through (right_of w) (bare (routed s rs) ∷ []) (part_gives (routed s rs)) (right_columns w) (each-bare (routed s rs)) (sources-right w) (routed t cs) in
+    = gives-through (right_of w) (bare (routed s rs) ∷ []) (part_gives (routed s rs)) (right_columns w) (each-bare (routed s rs)) (sources-right w) (routed t cs) in
     ap (λ b. routed_alike on (routed r ls) (routed s rs) && b) (ap (λ b. b || (g || false)) l ∙ ap (λ b. part_gives (routed r ls) (routed t cs) || b) (or-false g ∙ m))
 
 join-unless : (on : List (ℕ × ℕ)) (w : ℕ) (p q : Plan) (x : Part) → unless_one (join_shows on w p q) x ≡ join_shows on w p q x
@@ -204,14 +204,14 @@ join-parts on w p q x =
     let C : Bool = has p all && through (has q) (right_columns w) x in
     let ea : list_any f (if_so a us) ≡ A = any-if f a us ∙ alike on w (claim p).part (claim q).part x in
     let eb : list_any f (if_so (has q all) (l ∷ [])) ≡ B
-      = any-if f (has q all) (l ∷ []) ∙ ap (λ b. has q all && b) (or-false (gives l x) ∙ gives-through (left_of w) (own p ∷ []) (has p) (left_columns w) (each-own p) (sources-left w) x) in
+    = any-if f (has q all) (l ∷ []) ∙ ap (λ b. has q all && b) (or-false (gives l x) ∙ gives-through (left_of w) (own p ∷ []) (has p) (left_columns w) (each-own p) (sources-left w) x) in
     let ec : list_any f (if_so (has p all) (r ∷ [])) ≡ C
-      = any-if f (has p all) (r ∷ []) ∙ ap (λ b. has p all && b) (or-false (gives r x) ∙ gives-through (right_of w) (own q ∷ []) (has q) (right_columns w) (each-own q) (sources-right w) x) in
+    = any-if f (has p all) (r ∷ []) ∙ ap (λ b. has p all && b) (or-false (gives r x) ∙ gives-through (right_of w) (own q ∷ []) (has q) (right_columns w) (each-own q) (sources-right w) x) in
     let rest : List Way = if_so (has q all) (l ∷ []) ++ if_so (has p all) (r ∷ []) in
     let split : list_any f (if_so a us ++ rest) ≡ (A || (B || C))
-      = list_any-append f (if_so a us) rest
-        ∙ (ap (λ b. b || list_any f rest) ea
-        ∙ ap (λ b. A || b) (list_any-append f (if_so (has q all) (l ∷ [])) (if_so (has p all) (r ∷ [])) ∙ (ap (λ b. b || list_any f (if_so (has p all) (r ∷ []))) eb ∙ ap (λ b. B || b) ec))) in
+    = list_any-append f (if_so a us) rest
+    ∙ (ap (λ b. b || list_any f rest) ea
+    ∙ ap (λ b. A || b) (list_any-append f (if_so (has q all) (l ∷ [])) (if_so (has p all) (r ∷ [])) ∙ (ap (λ b. b || list_any f (if_so (has p all) (r ∷ []))) eb ∙ ap (λ b. B || b) ec))) in
     or-assoc A B C ∙ sym split
 
 kind-parts : (k : ExchangeKind) (q : Part) → kind_shows k q ≡ part_gives (kind_part k) q
@@ -326,7 +326,7 @@ covers-behind w keys cols =
 -- keys of either input, or of both together
 held : (a b : Bool) (lefts rights : Copying × List (List ℕ)) (cols : List ℕ)
     → (((has_key lefts.0 lefts.1 cols && has_key rights.0 rights.1 cols) || (has_key lefts.0 lefts.1 cols && a)) || (has_key rights.0 rights.1 cols && b))
-      ≡ list_any (λ k. keys_give k cols) (keyed_held a b lefts rights)
+    ≡ list_any (λ k. keys_give k cols) (keyed_held a b lefts rights)
 held a b lefts rights cols = by a b (has_key lefts.0 lefts.1 cols) (has_key rights.0 rights.1 cols) refl refl
   where
     L : Bool
@@ -355,7 +355,7 @@ held a b lefts rights cols = by a b (has_key lefts.0 lefts.1 cols) (has_key righ
 
 pub join-keys : (on : List (ℕ × ℕ)) (w : ℕ) (lefts rights : List (List ℕ)) (cols : List ℕ)
     → join_keys on w lefts rights cols
-      ≡ list_any (λ k. keys_give k cols) (keyed_held (covers rights (map (λ p. p.1) on)) (covers lefts (map (λ p. p.0) on)) (whole_rows, lefts) (right_of w, rights))
+    ≡ list_any (λ k. keys_give k cols) (keyed_held (covers rights (map (λ p. p.1) on)) (covers lefts (map (λ p. p.0) on)) (whole_rows, lefts) (right_of w, rights))
 join-keys on w lefts rights cols =
     let a : Bool = covers rights (map (λ p. p.1) on) in
     let b : Bool = covers lefts (map (λ p. p.0) on) in
@@ -413,7 +413,7 @@ keys-all catalog p (k ∷ keys) h =
 
 cascade : (a b c d e e' f f' g g' : Bool) → (c ≡ true → e ≡ e') → f ≡ f' → g ≡ g'
     → first_failure ((a, size_mismatch) ∷ (b, replicated_input) ∷ (c, inputs_not_matched) ∷ (d, order_needed) ∷ (e, part_not_shown) ∷ (f, order_not_shown) ∷ (g, key_not_shown) ∷ [])
-      ≡ first_failure ((a, size_mismatch) ∷ (b, replicated_input) ∷ (c, inputs_not_matched) ∷ (d, order_needed) ∷ (e', part_not_shown) ∷ (f', order_not_shown) ∷ (g', key_not_shown) ∷ [])
+    ≡ first_failure ((a, size_mismatch) ∷ (b, replicated_input) ∷ (c, inputs_not_matched) ∷ (d, order_needed) ∷ (e', part_not_shown) ∷ (f', order_not_shown) ∷ (g', key_not_shown) ∷ [])
 cascade a b true d e e' f f' g g' h k l = rw (h refl, k, l) refl
 cascade a b false d e e' f f' g g' h k l = refl
 

@@ -6,7 +6,7 @@ use Rattle.vx_plan_nodes.specs.Plan.{Route, Part, one, any, all, routed, Exchang
 use Rattle.vx_plan_nodes.specs.Parts.{kind_part}
 use Rattle.vx_plan_nodes.specs.Phases.{first_columns}
 use Rattle.vx_plan_nodes.specs.Types.{width}
-use Rattle.vx_plan_nodes.specs.Describe.{Copying, whole_rows, columns_kept, left_of, right_of, source, place, OrderAfter, order_kept, sorted_on, KeysAfter, keys_kept, key_of_first, no_key, Described, described, DescribedBoth, described_both}
+use Rattle.vx_plan_nodes.specs.Describe.{Copying, whole_rows, source, place, OrderAfter, order_kept, sorted_on, KeysAfter, keys_kept, key_of_first, no_key, Described, described, DescribedBoth, described_both}
 use Rattle.vx_check_rules.specs.Rules.{part_gives, has, is_prefix, cons_both, if_some, routed_within, routed_alike, covers, goes_on}
 
 -- ---- columns, all of them or up to the first

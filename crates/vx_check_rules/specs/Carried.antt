@@ -1,5 +1,5 @@
 -- That what is carried up is shown.
-use Rattle.std.specs.Prelude.{ℕ, ◌≡◌, Bool, true, List, [], ◌∷◌, Option, Some, None}
+use Rattle.std.specs.Prelude.{ℕ, ◌≡◌, Bool, true, [], ◌∷◌, Some, None}
 use Rattle.std.specs.List.{list_all}
 use Rattle.vx_relations.specs.Relation.{Relation}
 use Rattle.vx_plan_nodes.specs.Plan.{Part, Claim, Plan, scan, unary, binary, exchange}
