@@ -99,7 +99,7 @@ through-whole had any = refl
 through-whole had all = refl
 through-whole had (routed r cs) = refl
 
-through-unless : (had : Part → Bool) (columns : List ℕ → Option (List ℕ)) (q : Part) → unless_one (through had columns) q ≡ through had columns q
+pub through-unless : (had : Part → Bool) (columns : List ℕ → Option (List ℕ)) (q : Part) → unless_one (through had columns) q ≡ through had columns q
 through-unless had columns one = refl
 through-unless had columns any = refl
 through-unless had columns all = refl
@@ -175,7 +175,7 @@ alike on w (routed r ls) (routed s rs) (routed t cs) =
     = gives-through (right_of w) (bare (routed s rs) ∷ []) (part_gives (routed s rs)) (right_columns w) (each-bare (routed s rs)) (sources-right w) (routed t cs) in
     ap (λ b. routed_alike on (routed r ls) (routed s rs) && b) (ap (λ b. b || (g || false)) l ∙ ap (λ b. part_gives (routed r ls) (routed t cs) || b) (or-false g ∙ m))
 
-join-unless : (on : List (ℕ × ℕ)) (w : ℕ) (p q : Plan) (x : Part) → unless_one (join_shows on w p q) x ≡ join_shows on w p q x
+pub join-unless : (on : List (ℕ × ℕ)) (w : ℕ) (p q : Plan) (x : Part) → unless_one (join_shows on w p q) x ≡ join_shows on w p q x
 join-unless on w p q one = none (routed_alike on (claim p).part (claim q).part) (has q all) (has p all)
   where
     none : (a b c : Bool) → false ≡ (((a && false) || (b && false)) || (c && false))

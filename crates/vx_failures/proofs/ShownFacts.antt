@@ -6,17 +6,18 @@ use Rattle.std.proofs.lemmas.Bool.Decides.{nat_tests}
 use Rattle.std.proofs.lemmas.Bool.{eqb-true}
 use Rattle.std.proofs.lemmas.List.Folds.{list_all-append, list_any-append, list_all-map}
 use Rattle.vx_relations.specs.Relation.{Relation}
-use Rattle.vx_plan_nodes.specs.Plan.{Route, by_hash, by_range, Part, one, any, all, routed, Claim, Unary, select, project, distinct, sort, group, plain, partial, final, union, join, ExchangeKind, route_to, round, broadcast, gather, concat, Plan, scan, unary, binary, exchange, claim, size, size_eq, is_one, Size, one_worker, group_of}
+use Rattle.vx_plan_nodes.specs.Plan.{Route, by_hash, by_range, Part, one, any, all, routed, Claim, Unary, select, project, distinct, sort, group, plain, partial, final, union, join, ExchangeKind, route_to, round, broadcast, gather, concat, Plan, scan, unary, binary, exchange, claim, size, size_eq, is_one, target, Size, one_worker, group_of}
 use Rattle.vx_plan_nodes.specs.Parts.{kind_part}
 use Rattle.vx_plan_nodes.specs.Phases.{first_columns}
 use Rattle.vx_plan_nodes.specs.Outline.{claim_of}
 use Rattle.vx_plan_nodes.specs.declared.typed.Claim as rust_claim
 use Rattle.vx_plan_nodes.specs.Types.{width}
 use Rattle.vx_plan.proofs.PhaseFacts.{first_push}
-use Rattle.vx_check_rules.specs.Rules.{numbers_eq, route_eq, part_gives, has, not_replicated, contains, within, is_prefix, cons_both, copied, if_some, left_columns, right_columns, routed_alike, through, sizes_match, order_given, binary_inputs_match, inputs_match, unary_shows, alike_shows, join_shows, both_have, kind_shows, shows, goes_on, orders, covers, numbers_below, unary_keys, shifted, keys_of}
+use Rattle.vx_check_rules.specs.Rules.{numbers_eq, route_eq, part_gives, has, not_replicated, contains, within, is_prefix, cons_both, copied, if_some, unless_one, left_columns, right_columns, routed_alike, through, sizes_match, order_given, binary_inputs_match, inputs_match, unary_shows, alike_shows, join_shows, both_have, kind_shows, shows, goes_on, orders, covers, numbers_below, unary_keys, shifted, keys_of}
 use Rattle.vx_check_rules.specs.Joints.{held_keys}
+use Rattle.vx_check_rules.proofs.Exact.{through-unless, join-unless}
 use Rattle.vx_check_rules.specs.Refusal.{Rule, size_mismatch, replicated_input, inputs_not_matched, order_needed, part_not_shown, order_not_shown, key_not_shown, first_failure, node_tests}
-use Rattle.vx_failures.specs.Shown.{Shows, kept_place, left_place, right_place, places, place_then, front_places, kept_keys, routed_at, kept_part, unary_part, join_part, several_part, node_part, node_order, unary_shown_keys, first_pair, held_shown_keys, node_keys, is_of_claim, claim_with, shown_claim}
+use Rattle.vx_failures.specs.Shown.{Shows, kept_place, left_place, right_place, places, place_then, front_places, kept_keys, routed_at, kept_part, of_several, unary_part, join_part, several_part, node_part, node_order, unary_shown_keys, first_pair, held_shown_keys, node_keys, is_of_claim, claim_with, shown_claim}
 
 -- ---- lists of columns
 
@@ -202,12 +203,22 @@ kept-passes p at columns x are h = by (claim p).part refl h
     by all e k = let is : x ≡ all = cc in rw is (has-own p all (rw e refl))
     by (routed r cs) e k = let is : x ≡ routed_at r (places at cs) = cc in rw is (at-places r cs (places at cs) refl e)
 
-unary-part-shown : (op : Unary) (p : Plan) (x : Part) → unary_part op (claim p).part ≡ Some x → unary_shows op p x ≡ true
-unary-part-shown (select cs) p x h = let is : x ≡ (claim p).part = cc in rw is (has-own p (claim p).part (gives-same (claim p).part))
-unary-part-shown (sort cols) p x h = let is : x ≡ (claim p).part = cc in rw is (has-own p (claim p).part (gives-same (claim p).part))
-unary-part-shown (project cols) p x h = kept-passes p (kept_place cols) (copied cols) x (copied-back cols) h
-unary-part-shown (distinct cols) p x h = kept-passes p (kept_place cols) (copied cols) x (copied-back cols) h
-unary-part-shown (group phase by aggregates) p x h = kept-passes p (kept_place by) (copied by) x (copied-back by) h
+-- the same part of several workers
+same-part-shown : (p : Plan) (x : Part) → of_several (claim p).part ≡ Some x → unless_one (has p) x ≡ true
+same-part-shown p x h = by (claim p).part refl h
+  where
+    by : (q : Part) → (claim p).part ≡ q → of_several q ≡ Some x → unless_one (has p) x ≡ true
+    by one e k = cc
+    by any e k = let is : x ≡ any = cc in rw is (has-own p any (rw e refl))
+    by all e k = let is : x ≡ all = cc in rw is (has-own p all (rw e refl))
+    by (routed r cs) e k = let is : x ≡ routed r cs = cc in rw is (has-own p (routed r cs) (rw e (gives-same (routed r cs))))
+
+unary-part-shown : (op : Unary) (p : Plan) (x : Part) → unary_part op (claim p).part ≡ Some x → unless_one (unary_shows op p) x ≡ true
+unary-part-shown (select cs) p x h = same-part-shown p x h
+unary-part-shown (sort cols) p x h = same-part-shown p x h
+unary-part-shown (project cols) p x h = through-unless (has p) (copied cols) x ∙ kept-passes p (kept_place cols) (copied cols) x (copied-back cols) h
+unary-part-shown (distinct cols) p x h = through-unless (has p) (copied cols) x ∙ kept-passes p (kept_place cols) (copied cols) x (copied-back cols) h
+unary-part-shown (group phase by aggregates) p x h = through-unless (has p) (copied by) x ∙ kept-passes p (kept_place by) (copied by) x (copied-back by) h
 
 -- inputs of one size name
 both-several : (a b : Size) → size_eq a b ≡ true → is_one a ≡ false → is_one b ≡ false
@@ -284,33 +295,40 @@ join-part-shown : (on : List (ℕ × ℕ)) (m : Bool) (w : ℕ) (p q : Plan) (x 
     → join_part w (claim p).part (claim q).part ≡ Some x → join_shows on w p q x ≡ true
 join-part-shown on m w p q x h k fits e = join-fits on w p q x (claim p).part (claim q).part refl refl (rw (h, k) at fits) e
 
-kind-part-shown : (k : ExchangeKind) → kind_shows k (kind_part k) ≡ true
-kind-part-shown (route_to z r cols) = gives-same (routed r cols)
-kind-part-shown (round z) = refl
-kind-part-shown (broadcast z) = refl
-kind-part-shown gather = refl
-kind-part-shown concat = refl
+kind-part-shown : (k : ExchangeKind) → is_one (target k) ≡ false → unless_one (kind_shows k) (kind_part k) ≡ true
+kind-part-shown (route_to z r cols) s = gives-same (routed r cols)
+kind-part-shown (round z) s = refl
+kind-part-shown (broadcast z) s = refl
+kind-part-shown gather s = cc
+kind-part-shown concat s = cc
 
-scan-part-shown : (catalog : ℕ → Relation) (n r : ℕ) (c : Claim) (shared : Bool) (z : Size) → shows catalog (scan n c r shared z) (cond shared any all) ≡ true
+scan-part-shown : (catalog : ℕ → Relation) (n r : ℕ) (c : Claim) (shared : Bool) (z : Size) → unless_one (shows catalog (scan n c r shared z)) (cond shared any all) ≡ true
 scan-part-shown catalog n r c true z = refl
 scan-part-shown catalog n r c false z = refl
 
+both-unless : (p q : Plan) (x : Part) → unless_one (both_have p q) x ≡ both_have p q x
+both-unless p q one = refl
+both-unless p q any = refl
+both-unless p q all = refl
+both-unless p q (routed r cols) = refl
+
 -- at a node of several workers whose operator fits its inputs
 several-shown : (catalog : ℕ → Relation) (p : Plan) (x : Part) → is_one (size p) ≡ false → sizes_match p ≡ true → inputs_match p ≡ true → several_part catalog p ≡ Some x
-    → shows catalog p x ≡ true
+    → unless_one (shows catalog p) x ≡ true
 several-shown catalog (scan n c r shared z) x s h k e = let is : x ≡ cond shared any all = cc in rw is (scan-part-shown catalog n r c shared z)
 several-shown catalog (unary n c op p) x s h k e = unary-part-shown op p x e
 several-shown catalog (binary n c union p q) x s h k e =
     let is : x ≡ cond (part_gives (claim q).part (claim p).part) (claim p).part any = cc in
-    rw is (union-part-shown p q s (both-several (size p) (size q) h s) (or-drop (is_one (size p)) _ s k))
-several-shown catalog (binary n c (join m on) p q) x s h k e = join-part-shown on m (width catalog p) p q x s (both-several (size p) (size q) h s) (or-drop (is_one (size p)) _ s k) e
-several-shown catalog (exchange n c k m p) x s h j e = let is : x ≡ kind_part k = cc in rw is (kind-part-shown k)
+    both-unless p q x ∙ rw is (union-part-shown p q s (both-several (size p) (size q) h s) (or-drop (is_one (size p)) _ s k))
+several-shown catalog (binary n c (join m on) p q) x s h k e =
+    join-unless on (width catalog p) p q x ∙ join-part-shown on m (width catalog p) p q x s (both-several (size p) (size q) h s) (or-drop (is_one (size p)) _ s k) e
+several-shown catalog (exchange n c k m p) x s h j e = let is : x ≡ kind_part k = cc in rw is (kind-part-shown k s)
 
 part-shown : (catalog : ℕ → Relation) (p : Plan) (x : Part) → sizes_match p ≡ true → inputs_match p ≡ true → node_part catalog p ≡ Some x
-    → (is_one (size p) || shows catalog p x) ≡ true
+    → (is_one (size p) || unless_one (shows catalog p) x) ≡ true
 part-shown catalog p x h k e = by (is_one (size p)) refl e
   where
-    by : (b : Bool) → is_one (size p) ≡ b → cond b (Some one) (several_part catalog p) ≡ Some x → (b || shows catalog p x) ≡ true
+    by : (b : Bool) → is_one (size p) ≡ b → cond b (Some one) (several_part catalog p) ≡ Some x → (b || unless_one (shows catalog p) x) ≡ true
     by true s e = refl
     by false s e = several-shown catalog p x s h k e
 
@@ -486,7 +504,7 @@ tests-pass : (s r i o t u k : Bool) → s ≡ true → r ≡ true → i ≡ true
 tests-pass s r i o t u k hs hr hi ho ht hu hk = rw (hs, hr, hi, ho, ht, hu, hk) refl
 
 -- the tests of the operator do not depend on the claim
-claim-passes : (catalog : ℕ → Relation) (p : Plan) (c : Claim) → Fits p → (is_one (size p) || shows catalog p c.part) ≡ true → orders catalog p c.order ≡ true
+claim-passes : (catalog : ℕ → Relation) (p : Plan) (c : Claim) → Fits p → (is_one (size p) || unless_one (shows catalog p) c.part) ≡ true → orders catalog p c.order ≡ true
     → list_all (keys_of catalog p) c.keys ≡ true → Shows catalog p c
 claim-passes catalog (scan n d r true z) c fits h k l = tests-pass _ _ _ _ _ _ _ fits.sizes fits.once fits.inputs fits.order h k l
 claim-passes catalog (scan n d r false z) c fits h k l = tests-pass _ _ _ _ _ _ _ fits.sizes fits.once fits.inputs fits.order h k l

@@ -60,9 +60,14 @@ kept_part at any = Some any
 kept_part at all = Some all
 kept_part at (routed r cols) = Some (routed_at r (places at cols))
 
+-- a part that several workers have
+abbrev pub of_several : Part → Option Part
+of_several one = None
+of_several q = Some q
+
 abbrev pub unary_part : Unary → Part → Option Part
-unary_part (select cs) q = Some q
-unary_part (sort cols) q = Some q
+unary_part (select cs) q = of_several q
+unary_part (sort cols) q = of_several q
 unary_part (project cols) q = kept_part (kept_place cols) q
 unary_part (distinct cols) q = kept_part (kept_place cols) q
 unary_part (group phase by aggregates) q = kept_part (kept_place by) q

@@ -6,7 +6,7 @@ ghost use Rattle.vx_plan_nodes.specs.Plan.{any};
 ghost use Rattle.vx_plan_nodes.specs.Outline.{route_of, part_of, unary_of, binary_of, outline_of, plan_of};
 ghost use Rattle.vx_plan_nodes.specs.Outputs.{HasOutputs};
 ghost use Rattle.vx_check_rules.specs.Rules.{part_gives};
-ghost use Rattle.vx_failures.specs.Shown.{routed_at, kept_part, unary_part, join_part, binary_part, several_part, node_part};
+ghost use Rattle.vx_failures.specs.Shown.{routed_at, kept_part, of_several, unary_part, join_part, binary_part, several_part, node_part};
 ghost use Rattle.vx_failures.specs.ShownView.{place_at};
 
 use crate::places::Places;
@@ -42,12 +42,22 @@ fn kept_part(alloc: Global, places: Places<'_>, part: &Part) -> Result<Option<Pa
     }
 }
 
+// The same part, if several workers have it.
+fn of_several(alloc: Global, part: &Part) -> Result<Option<Part>, AllocError>
+    ensures { IfOk result (λ o. option_map part_of o ≡ of_several (part_of part.now)) }
+{
+    match part {
+        Part::One => Ok(None),
+        Part::Any | Part::All | Part::Routed(_, _) => Ok(Some(copied_part(alloc, part)?)),
+    }
+}
+
 // The part of an operator over an input with this part.
 fn unary_part(alloc: Global, operator: &Unary, part: &Part) -> Result<Option<Part>, AllocError>
     ensures { IfOk result (λ o. option_map part_of o ≡ unary_part (unary_of operator.now) (part_of part.now)) }
 {
     match operator {
-        Unary::Select(_) | Unary::Sort(_) => Ok(Some(copied_part(alloc, part)?)),
+        Unary::Select(_) | Unary::Sort(_) => of_several(alloc, part),
         Unary::Project(kept) | Unary::Distinct(kept) => {
             kept_part(alloc, Places::Outputs(kept.as_slice()), part)
         }

@@ -11,7 +11,7 @@ use Rattle.vx_plan_nodes.specs.Serial.{passes, firsts, group_keys, group_fits, u
 use Rattle.vx_plan_nodes.specs.Streams.{Streams, joined, workers}
 use Rattle.vx_plan_nodes.specs.Routes.{Routing}
 use Rattle.vx_plan_nodes.specs.Runs.{Exchanges, Runs}
-use Rattle.vx_check_rules.specs.Rules.{part_gives, has, copied, covers, is_prefix, if_some, within, numbers_below, routed_within, allowed_here, sizes_match, not_replicated, inputs_match, order_given, part_shown, order_shown, keys_shown, keeps_apart, unary_shows, unary_orders, unary_keys, kind_shows, goes_on, rises_by}
+use Rattle.vx_check_rules.specs.Rules.{part_gives, has, copied, covers, is_prefix, if_some, within, numbers_below, routed_within, allowed_here, sizes_match, not_replicated, inputs_match, order_given, shows, unless_one, part_shown, order_shown, keys_shown, keeps_apart, unary_shows, unary_orders, unary_keys, kind_shows, goes_on, rises_by}
 use Rattle.vx_check_rules.specs.Claims.{PartHolds, InItsStream, ClaimHolds, Given, PartOf, ClaimOf}
 use Rattle.vx_laws.proofs.Bags.{SameRows-sym, and-left, and-right, SameRows-refl, SameRows-trans, total-joined, across-least}
 use Rattle.vx_laws.proofs.Parts.{InRange, single, from_single, weaker, has-holds, one-worker, some-workers, or-cases, list_all-weaken, single-of, weaker-of, has-holds-of, part-map}
@@ -39,11 +39,21 @@ seven a b c d e f g h =
     let h5 = and-right e (f && g) h4 in
     (and-left a _ h, and-left b _ h1, and-left c _ h2, and-left d _ h3, and-left e _ h4, and-left f _ h5, and-right f g h5)
 
+-- what is shown unless it is the part of one worker is shown
+shown-of : (b : Bool) (test : Part → Bool) (q : Part) → (b || unless_one test q) ≡ true → (b || test q) ≡ true
+shown-of true test q h = refl
+shown-of false test one h = cc
+shown-of false test any h = h
+shown-of false test all h = h
+shown-of false test (routed r cols) h = h
+
 -- each test at a node
 pub tests : (catalog : ℕ → Relation) (p : Plan) → allowed_here catalog p ≡ true
     → (sizes_match p ≡ true) × (not_replicated p ≡ true) × (inputs_match p ≡ true) × (order_given p ≡ true)
-    × (part_shown catalog p ≡ true) × (order_shown catalog p ≡ true) × (keys_shown catalog p ≡ true)
-tests catalog p h = seven (sizes_match p) (not_replicated p) (inputs_match p) (order_given p) (part_shown catalog p) (order_shown catalog p) (keys_shown catalog p) h
+    × ((is_one (size p) || shows catalog p (claim p).part) ≡ true) × (order_shown catalog p ≡ true) × (keys_shown catalog p ≡ true)
+tests catalog p h =
+    let t = seven (sizes_match p) (not_replicated p) (inputs_match p) (order_given p) (part_shown catalog p) (order_shown catalog p) (keys_shown catalog p) h in
+    (t.0, t.1, t.2, t.3, shown-of (is_one (size p)) (shows catalog p) (claim p).part t.4, t.5, t.6)
 
 -- the plan has serial rows, and its top's claim holds of them and of these streams
 pub record Holding (db : ℕ → List Row) (sizes : ℕ → ℕ) (goes : Routing) (p : Plan) (s : Streams) : Type 0 where
