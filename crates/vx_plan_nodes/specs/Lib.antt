@@ -16,4 +16,5 @@ pub mod Outputs
 pub mod OutputProps
 pub mod Names
 pub mod TypedView
+pub mod DescribeView
 pub mod Erased

@@ -2,6 +2,7 @@
 #![tactic(auto)]
 
 mod conditions;
+mod describe;
 mod halves;
 mod name;
 mod outputs;
@@ -11,6 +12,7 @@ mod typed;
 mod typed_plan;
 
 pub use conditions::copied_conditions;
+pub use describe::{Copying, Described, DescribedBoth, KeptColumns, KeysAfter, OrderAfter};
 pub use name::{Name, find_output_name, name_texts, share_names};
 pub use outputs::output_types;
 pub use parts::{copied_part, kind_part, routed_part};
