@@ -1,5 +1,5 @@
 -- Lists one after the other are sorted where a range routed their rows.
-use Rattle.std.proofs.Common.{◌≡◌, ℕ, zero, suc, ◌+◌, ◌<◌, ◌≤◌, ◌==◌, nat_lt, Bool, true, List, [], ◌∷◌, ◌++◌, refl, ap, ◌∙◌, arith, eqb-true, ltb-true, lt-ltb, is_le, Ordering, Less, Equal, Greater}
+use Rattle.std.proofs.Common.{◌≡◌, ℕ, zero, suc, ◌<◌, ◌≤◌, ◌==◌, nat_lt, Bool, true, List, [], ◌∷◌, ◌++◌, refl, ap, ◌∙◌, arith, eqb-true, ltb-true, lt-ltb, is_le, Ordering, Less, Equal, Greater}
 use Rattle.std.specs.List.{list_all}
 use Rattle.std.specs.Ordering.{ordering_then, ordering_reverse}
 use Rattle.vx_values.specs.Values.{Row, val_cmp, value_at, pick}

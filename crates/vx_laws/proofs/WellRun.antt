@@ -4,7 +4,7 @@ use Rattle.std.proofs.Common.{◌≡◌, ℕ, ◌<◌, ◌==◌, ◌&&◌, Bool,
 use Rattle.vx_values.specs.Values.{Row}
 use Rattle.vx_plan_nodes.specs.Plan.{Size, ExchangeKind, target, Claim, Plan, scan, unary, binary, exchange, size, is_one, size_eq}
 use Rattle.vx_plan_nodes.specs.Serial.{unary_rows, binary_rows}
-use Rattle.vx_plan_nodes.specs.Streams.{Streams, workers, Dealt, joined}
+use Rattle.vx_plan_nodes.specs.Streams.{Streams, workers, Dealt}
 use Rattle.vx_plan_nodes.specs.Routes.{Sends}
 use Rattle.vx_plan_nodes.specs.Runs.{Runs, is_concat}
 use Rattle.vx_ports.specs.Packets.{PacketView, rows_of}
