@@ -3,3 +3,4 @@ pub mod Shown
 pub mod ShownView
 pub mod Lines
 pub mod FailureView
+pub mod Same

@@ -5,6 +5,7 @@ mod failing;
 mod failure;
 mod finding;
 mod keys;
+mod laws;
 mod lines;
 mod orders;
 mod parts;
@@ -14,5 +15,6 @@ mod shown;
 
 pub use failing::failures;
 pub use failure::Failure;
+pub use laws::{keys_are_carried, orders_are_carried, parts_are_carried};
 pub use reporting::report;
 pub use shown::shown_claim;
