@@ -195,15 +195,15 @@ joint-same on w s t (routed r ls) any h = cc
 
 join-same : (on : List (ℕ × ℕ)) (w : ℕ) (p q : Plan) → is_one (size p) ≡ false → is_one (size q) ≡ false → (routed_alike on (claim p).part (claim q).part || has q all || has p all) ≡ true
     → upwards.first_part (upwards.if_so (routed_alike on (claim p).part (claim q).part) (upwards.way whole_rows (upwards.bare (claim p).part ∷ []) ∷ upwards.way (right_of w) (upwards.bare (claim q).part ∷ []) ∷ [])
-        ++ (upwards.if_so (has q all) (upwards.way (left_of w) (upwards.own p ∷ []) ∷ []) ++ upwards.if_so (has p all) (upwards.way (right_of w) (upwards.own q ∷ []) ∷ [])))
-      ≡ join_part w (claim p).part (claim q).part
+    ++ (upwards.if_so (has q all) (upwards.way (left_of w) (upwards.own p ∷ []) ∷ []) ++ upwards.if_so (has p all) (upwards.way (right_of w) (upwards.own q ∷ []) ∷ [])))
+    ≡ join_part w (claim p).part (claim q).part
 join-same on w p q s t h = by (is_one (size p)) (is_one (size q)) s t h
   where
     by : (a b : Bool) → a ≡ false → b ≡ false → (routed_alike on (claim p).part (claim q).part || (b || part_gives (claim q).part all) || (a || part_gives (claim p).part all)) ≡ true
         → upwards.first_part (upwards.if_so (routed_alike on (claim p).part (claim q).part) (upwards.way whole_rows (upwards.bare (claim p).part ∷ []) ∷ upwards.way (right_of w) (upwards.bare (claim q).part ∷ []) ∷ [])
-            ++ (upwards.if_so (b || part_gives (claim q).part all) (upwards.way (left_of w) ((a, (claim p).part) ∷ []) ∷ [])
-            ++ upwards.if_so (a || part_gives (claim p).part all) (upwards.way (right_of w) ((b, (claim q).part) ∷ []) ∷ [])))
-          ≡ join_part w (claim p).part (claim q).part
+        ++ (upwards.if_so (b || part_gives (claim q).part all) (upwards.way (left_of w) ((a, (claim p).part) ∷ []) ∷ [])
+        ++ upwards.if_so (a || part_gives (claim p).part all) (upwards.way (right_of w) ((b, (claim q).part) ∷ []) ∷ [])))
+        ≡ join_part w (claim p).part (claim q).part
     by true b e f h = cc
     by false true e f h = cc
     by false false e f h = joint-same on w false false (claim p).part (claim q).part h
