@@ -9,3 +9,5 @@ pub mod Refusals
 pub mod Bools
 pub mod Exact
 pub mod Carrying
+pub mod SourceFacts
+pub mod WayFacts

@@ -1,7 +1,7 @@
 -- What operators over two inputs show, in the words of the rule table.
 use Rattle.std.specs.Prelude.{ℕ, Bool, false, ◌&&◌, ◌||◌, List, [], map}
-use Rattle.vx_plan_nodes.specs.Plan.{Part, Plan, Binary, union, join}
-use Rattle.vx_check_rules.specs.Rules.{is_prefix, covers, shifted, join_keys, both_have, join_shows}
+use Rattle.vx_plan_nodes.specs.Plan.{Binary, union, join}
+use Rattle.vx_check_rules.specs.Rules.{is_prefix, covers, shifted, join_keys}
 
 -- the orders over a left input that is sorted so
 abbrev pub binary_orders : Binary → List ℕ → List ℕ → Bool
@@ -19,8 +19,3 @@ held_keys right_held left_held w lefts rights x =
 abbrev pub binary_keys : Binary → ℕ → List (List ℕ) → List (List ℕ) → List ℕ → Bool
 binary_keys union w lefts rights x = false
 binary_keys (join m on) w lefts rights x = join_keys on w lefts rights x
-
--- the parts over these inputs, the left one so wide
-abbrev pub binary_shows : Binary → ℕ → Plan → Plan → Part → Bool
-binary_shows union w p q x = both_have p q x
-binary_shows (join m on) w p q x = join_shows on w p q x

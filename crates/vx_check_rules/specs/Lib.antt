@@ -10,3 +10,4 @@ pub mod Joints
 pub mod RuleView
 pub mod Checked
 pub mod CheckedView
+pub mod WayView

@@ -17,6 +17,8 @@ mod refusal;
 mod refused;
 mod rule;
 mod shown;
+mod sources;
+mod ways;
 
 pub use checked::CheckedPlan;
 pub use checking::check;

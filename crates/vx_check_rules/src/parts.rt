@@ -1,16 +1,39 @@
-//! Parts: what a claimed one gives, and what an output has of its input's.
+//! Parts: what a claimed one gives.
 
-ghost use Rattle.std.specs.Prelude.{◌≡◌, ◌||◌, map};
+ghost use Rattle.std.specs.Prelude.{◌≡◌};
 ghost use Rattle.vx_plan_nodes.specs.Plan.{routed};
 ghost use Rattle.vx_plan_nodes.specs.Outline.{part_of, route_of, plan_of};
-ghost use Rattle.vx_check_rules.specs.Rules.{route_eq, part_gives, has, if_some, contains, within, routed_within, routed_alike, through};
-ghost use Rattle.vx_check_rules.specs.Copies.{copied_by};
+ghost use Rattle.vx_plan_nodes.specs.DescribeView.{copying_of, kept_columns};
+ghost use Rattle.vx_check_rules.specs.Rules.{route_eq, part_gives, has, if_some, within, routed_within, routed_alike};
+ghost use Rattle.vx_check_rules.specs.Behaviour.{sources};
+ghost use Rattle.vx_check_rules.specs.WayView.{part_seen};
 
-use crate::columns::{are_same, is_within};
-use crate::copies::Copies;
+use crate::columns::are_same;
 use crate::nodes::{claimed_part, has_one_worker};
 use crate::pairs::are_pairs;
-use vx_plan_nodes::{Part, Projected, Route, TypedNode};
+use crate::sources::are_copies_of;
+use vx_plan_nodes::{Copying, KeptColumns, Part, Route, TypedNode};
+
+/// A part that is borrowed.
+#[derive(Clone, Copy)]
+pub enum PartSeen<'p> {
+    One,
+    Any,
+    All,
+    Routed(&'p Route, &'p [usize]),
+}
+
+/// The part, borrowed.
+pub fn seen(part: &Part) -> PartSeen<'_>
+    ensures { part_seen result ≡ part_of part.now }
+{
+    match part {
+        Part::One => PartSeen::One,
+        Part::Any => PartSeen::Any,
+        Part::All => PartSeen::All,
+        Part::Routed(route, columns) => PartSeen::Routed(route, columns.as_slice()),
+    }
+}
 
 /// Whether two routes are one: of the same kind, with the same name.
 pub fn is_same_route(route: &Route, other: &Route) -> bool
@@ -23,8 +46,8 @@ pub fn is_same_route(route: &Route, other: &Route) -> bool
     }
 }
 
-/// Whether a part that is routed by this route on these columns gives the wanted one.
-pub fn route_gives(route: &Route, columns: &[usize], wanted: &Part) -> bool
+// Whether a part that is routed by this route on these columns gives the wanted one.
+fn route_gives(route: &Route, columns: &[usize], wanted: &Part) -> bool
     ensures { result ≡ part_gives (routed (route_of route.now) columns.now) (part_of wanted.now) }
 {
     match wanted {
@@ -35,15 +58,37 @@ pub fn route_gives(route: &Route, columns: &[usize], wanted: &Part) -> bool
     }
 }
 
+impl PartSeen<'_> {
+    /// Whether the wanted part is this one, or any where this one is routed.
+    pub fn gives(self, wanted: &Part) -> bool
+        ensures { result ≡ part_gives (part_seen self.entry) (part_of wanted.now) }
+    {
+        match (self, wanted) {
+            (PartSeen::One, Part::One) | (PartSeen::Any, Part::Any) | (PartSeen::All, Part::All) =>
+                true,
+            (PartSeen::Routed(route, columns), _) => route_gives(route, columns, wanted),
+            _ => false,
+        }
+    }
+
+    /// Whether it is routed by this route, on the input columns that these output columns are copies of.
+    pub fn gives_copied(self, copying: Copying<'_>, route: &Route, columns: &[usize]) -> bool
+        ensures { result ≡ if_some (sources (copying_of copying.entry) columns.now) (λ cs. part_gives (part_seen self.entry) (routed (route_of route.now) cs)) }
+    {
+        match self {
+            PartSeen::Routed(own, inputs) => {
+                is_same_route(own, route) && are_copies_of(copying, columns, inputs)
+            }
+            _ => false,
+        }
+    }
+}
+
 /// Whether the wanted part is the claimed one, or any where that is routed.
 pub fn gives(claimed: &Part, wanted: &Part) -> bool
     ensures { result ≡ part_gives (part_of claimed.now) (part_of wanted.now) }
 {
-    match (claimed, wanted) {
-        (Part::One, Part::One) | (Part::Any, Part::Any) | (Part::All, Part::All) => true,
-        (Part::Routed(route, columns), _) => route_gives(route, columns.as_slice(), wanted),
-        _ => false,
-    }
+    seen(claimed).gives(wanted)
 }
 
 /// Whether the node has the part, by its claim or because it has one worker.
@@ -51,72 +96,6 @@ pub fn has_part(node: &TypedNode, wanted: &Part) -> bool
     ensures { result ≡ has (plan_of node.now) (part_of wanted.now) }
 {
     has_one_worker(node) || gives(claimed_part(node), wanted)
-}
-
-/// Whether the claimed part is routed by this route, on the input columns that these output columns are copies of.
-pub fn gives_routed(claimed: &Part, copies: Copies<'_>, route: &Route, columns: &[usize]) -> bool
-    ensures { result ≡ if_some (copied_by copies.entry columns.now) (λ cs. part_gives (part_of claimed.now) (routed (route_of route.now) cs)) }
-{
-    match claimed {
-        Part::Routed(claimed, inputs) => {
-            is_same_route(claimed, route) && copies.stand_for(columns, inputs.as_slice())
-        }
-        _ => false,
-    }
-}
-
-// Whether the input has the part that is routed by this route, on the input columns that these output columns are
-// copies of.
-fn has_routed(input: &TypedNode, copies: Copies<'_>, route: &Route, columns: &[usize]) -> bool
-    ensures { result ≡ if_some (copied_by copies.entry columns.now) (λ cs. has (plan_of input.now) (routed (route_of route.now) cs)) }
-{
-    if has_one_worker(input) {
-        return copies.copy_all(columns);
-    }
-    gives_routed(claimed_part(input), copies, route, columns)
-}
-
-/// Whether the output has the part because its input has it, on the columns that are copied.
-pub fn passes_through(input: &TypedNode, copies: Copies<'_>, wanted: &Part) -> bool
-    ensures { result ≡ through (has (plan_of input.now)) (copied_by copies.entry) (part_of wanted.now) }
-{
-    match wanted {
-        Part::One => false,
-        Part::Any | Part::All => has_part(input, wanted),
-        Part::Routed(route, columns) => has_routed(input, copies, route, columns.as_slice()),
-    }
-}
-
-/// Whether the part is routed on columns that are all among these.
-pub fn is_routed_within(part: &Part, kept: &[usize]) -> bool
-    ensures { result ≡ routed_within (part_of part.now) kept.now }
-{
-    match part {
-        Part::Routed(_, columns) => is_within(columns.as_slice(), kept),
-        _ => false,
-    }
-}
-
-fn is_kept(kept: &[Projected], column: usize) -> bool
-    ensures { result ≡ contains (map (λ k. k.column) kept.now) column }
-{
-    kept.iter().any(|k| column == k.column)
-}
-
-fn are_kept(kept: &[Projected], columns: &[usize]) -> bool
-    ensures { result ≡ within columns.now (map (λ k. k.column) kept.now) }
-{
-    columns.iter().all(|column| is_kept(kept, *column))
-}
-
-/// Whether the part is routed on columns that are all kept.
-pub fn is_routed_on_kept(part: &Part, kept: &[Projected]) -> bool
-    ensures { result ≡ routed_within (part_of part.now) (map (λ k. k.column) kept.now) }
-{
-    match part {
-        Part::Routed(_, columns) => are_kept(kept, columns.as_slice()),
-        _ => false,
-    }
 }
 
 /// Whether both parts are routed by one route, on columns that the pairs name.
@@ -127,6 +106,23 @@ pub fn are_routed_alike(on: &[(usize, usize)], left: &Part, right: &Part) -> boo
         (Part::Routed(route, lefts), Part::Routed(other, rights)) => {
             is_same_route(route, other) && are_pairs(on, lefts.as_slice(), rights.as_slice())
         }
+        _ => false,
+    }
+}
+
+// Whether each of the columns is kept.
+fn are_kept(kept: KeptColumns<'_>, columns: &[usize]) -> bool
+    ensures { result ≡ within columns.now (kept_columns kept.entry) }
+{
+    columns.iter().all(|column| kept.contains(*column))
+}
+
+/// Whether the part is routed on columns that are all kept.
+pub fn is_routed_on(part: &Part, kept: KeptColumns<'_>) -> bool
+    ensures { result ≡ routed_within (part_of part.now) (kept_columns kept.entry) }
+{
+    match part {
+        Part::Routed(_, columns) => are_kept(kept, columns.as_slice()),
         _ => false,
     }
 }

@@ -1,0 +1,287 @@
+//! The ways of a node to a part, by what its operator does with columns and rows.
+
+ghost use Rattle.std.specs.Prelude.{◌≡◌, ℕ, true, cond, ◌&&◌, ◌||◌, [], ◌∷◌, option_map, option_to_list};
+ghost use Rattle.std.specs.List.{list_all, list_any};
+ghost use Rattle.vx_relations.specs.Relation.{Relation};
+ghost use Rattle.vx_plan_nodes.specs.Plan.{any, all, routed, claim, size, is_one};
+ghost use Rattle.vx_plan_nodes.specs.Parts.{kind_part};
+ghost use Rattle.vx_plan_nodes.specs.Outline.{part_of, route_of, kind_of, outline_of, plan_of};
+ghost use Rattle.vx_plan_nodes.specs.Outputs.{HasOutputs};
+ghost use Rattle.vx_plan_nodes.specs.Describe.{whole_rows};
+ghost use Rattle.vx_plan_nodes.specs.DescribeView.{copying_of, kept_columns, described_of, described_both_of};
+ghost use Rattle.vx_check_rules.specs.Rules.{part_gives, has, if_some, within, routed_within};
+ghost use Rattle.vx_check_rules.specs.Behaviour.{sources, way, if_so, own, bare, meet, gives, over, ways_over, over_both, behaviour};
+ghost use Rattle.vx_check_rules.specs.WayView.{part_seen, had_of, way_of, way_in, ways_in};
+
+use crate::nodes::{claimed_part, has_one_worker};
+use crate::parts::{PartSeen, are_routed_alike, has_part, is_routed_on, seen};
+use crate::sources::are_copies;
+use vx_plan_nodes::{
+    Copying, Described, DescribedBoth, ExchangeKind, KeptColumns, Part, Route, TypedNode,
+    output_types,
+};
+
+/// What an input has: whether it has one worker, and its part.
+#[derive(Clone, Copy)]
+pub struct Had<'p> {
+    pub is_alone: bool,
+    pub part: PartSeen<'p>,
+}
+
+/// A way to a part: each of one or two inputs has it, on the columns that are copied.
+#[derive(Clone, Copy)]
+pub struct Way<'p> {
+    pub copying: Copying<'p>,
+    pub first: Had<'p>,
+    pub second: Option<Had<'p>>,
+}
+
+// The part that an exchange of this kind makes.
+fn made(kind: &ExchangeKind) -> PartSeen<'_>
+    ensures { part_seen result ≡ kind_part (kind_of kind.now) }
+{
+    match kind {
+        ExchangeKind::Route(_, route, columns) => PartSeen::Routed(route, columns.as_slice()),
+        ExchangeKind::Round(_) => PartSeen::Any,
+        ExchangeKind::Broadcast(_) => PartSeen::All,
+        ExchangeKind::Gather | ExchangeKind::Concat => PartSeen::One,
+    }
+}
+
+impl Had<'_> {
+    /// Whether the input has the part.
+    fn has(self, wanted: &Part) -> bool
+        ensures { result ≡ (self.entry.is_alone || part_gives (part_seen self.entry.part) (part_of wanted.now)) }
+    {
+        self.is_alone || self.part.gives(wanted)
+    }
+
+    /// Whether the input has the part that is routed by this route, on the input columns that these output columns are
+    /// copies of.
+    fn has_copied(self, copying: Copying<'_>, route: &Route, columns: &[usize]) -> bool
+        ensures { result ≡ if_some (sources (copying_of copying.entry) columns.now) (λ cs. self.entry.is_alone || part_gives (part_seen self.entry.part) (routed (route_of route.now) cs)) }
+    {
+        if self.is_alone {
+            return are_copies(copying, columns);
+        }
+        self.part.gives_copied(copying, route, columns)
+    }
+}
+
+// Whether the second input, if there is one, has the part.
+fn other_has(second: Option<Had<'_>>, wanted: &Part) -> bool
+    ensures { result ≡ list_all (λ f. f.0 || part_gives f.1 (part_of wanted.now)) (option_to_list (option_map had_of second.entry)) }
+{
+    match second {
+        Some(had) => had.has(wanted),
+        None => true,
+    }
+}
+
+impl Way<'_> {
+    // Whether each input has the part that is routed by this route, on the columns that are copied.
+    fn gives_routed(self, route: &Route, columns: &[usize]) -> bool
+        ensures { result ≡ gives (way_of self.entry) (routed (route_of route.now) columns.now) }
+    {
+        match self.second {
+            Some(second) => {
+                self.first.has_copied(self.copying, route, columns)
+                    && second.has_copied(self.copying, route, columns)
+            }
+            None => self.first.has_copied(self.copying, route, columns),
+        }
+    }
+
+    /// Whether the way gives the part; the part of one worker no way does.
+    pub fn gives(self, wanted: &Part) -> bool
+        ensures { result ≡ gives (way_of self.entry) (part_of wanted.now) }
+    {
+        match wanted {
+            Part::One => false,
+            Part::Any | Part::All => self.first.has(wanted) && other_has(self.second, wanted),
+            Part::Routed(route, columns) => self.gives_routed(route, columns.as_slice()),
+        }
+    }
+}
+
+// The input with the part that it claims.
+fn claimed(input: &TypedNode) -> Had<'_>
+    ensures { had_of result ≡ own (plan_of input.now) }
+{
+    Had {
+        is_alone: has_one_worker(input),
+        part: seen(claimed_part(input)),
+    }
+}
+
+// A part, whatever the number of workers.
+fn bare<'p>(part: PartSeen<'p>) -> Had<'p>
+    ensures { had_of result ≡ bare (part_seen part.entry) }
+{
+    Had {
+        is_alone: false,
+        part,
+    }
+}
+
+// The part that the input claims, whatever its number of workers.
+fn bare_claim(input: &TypedNode) -> Had<'_>
+    ensures { had_of result ≡ bare (claim (plan_of input.now)).part }
+{
+    bare(seen(claimed_part(input)))
+}
+
+// The way of one input, if it is there.
+fn way_if<'p>(is_there: bool, copying: Copying<'p>, first: Had<'p>) -> Option<Way<'p>>
+    ensures { way_in result ≡ if_so is_there (way (copying_of copying.entry) (had_of first.entry ∷ []) ∷ []) }
+{
+    is_there.then_some(Way {
+        copying,
+        first,
+        second: None,
+    })
+}
+
+// Whether rows of the input that agree in these columns are on one worker.
+fn do_meet(meets: Option<KeptColumns<'_>>, input: &TypedNode) -> bool
+    ensures { result ≡ meet (option_map kept_columns meets.entry) (plan_of input.now) }
+{
+    match meets {
+        None => true,
+        Some(kept) => {
+            has_one_worker(input)
+                || has_part(input, &Part::All)
+                || is_routed_on(claimed_part(input), kept)
+        }
+    }
+}
+
+// The ways of an operator over one input.
+fn ways_over<'p>(described: Described<'p>, input: &'p TypedNode) -> [Option<Way<'p>>; 4]
+    ensures { ways_in result ≡ (over (described_of described.entry) (plan_of input.now)).ways }
+{
+    let way = way_if(
+        do_meet(described.meets, input),
+        described.copying,
+        claimed(input),
+    );
+    [way, None, None, None]
+}
+
+// Whether rows of both inputs can stand side by side: each input has each row once, or each has all rows on each worker.
+fn do_stand_beside(left: &TypedNode, right: &TypedNode) -> bool
+    ensures { result ≡ (is_one (size (plan_of left.now)) || ((has (plan_of left.now) any && has (plan_of right.now) any) || (has (plan_of left.now) all && has (plan_of right.now) all))) }
+{
+    has_one_worker(left)
+        || (has_part(left, &Part::Any) && has_part(right, &Part::Any))
+        || (has_part(left, &Part::All) && has_part(right, &Part::All))
+}
+
+// The way of rows that stand side by side, if they can.
+fn way_beside<'p>(
+    copying: Copying<'p>,
+    left: &'p TypedNode,
+    right: &'p TypedNode,
+) -> Option<Way<'p>>
+    ensures { way_in result ≡ if_so (is_one (size (plan_of left.now)) || ((has (plan_of left.now) any && has (plan_of right.now) any) || (has (plan_of left.now) all && has (plan_of right.now) all)))
+        (way (copying_of copying.entry) (own (plan_of left.now) ∷ own (plan_of right.now) ∷ []) ∷ []) }
+{
+    do_stand_beside(left, right).then_some(Way {
+        copying,
+        first: claimed(left),
+        second: Some(claimed(right)),
+    })
+}
+
+// The ways of rows that meet on these pairs.
+fn ways_met<'p>(
+    on: &'p [(usize, usize)],
+    described: DescribedBoth<'p>,
+    left: &'p TypedNode,
+    right: &'p TypedNode,
+) -> [Option<Way<'p>>; 4]
+    ensures { ways_in result ≡ ways_over (Some on.now) (described_both_of described.entry) (plan_of left.now) (plan_of right.now) }
+{
+    let are_alike = are_routed_alike(on, claimed_part(left), claimed_part(right));
+    [
+        way_if(are_alike, Copying::WholeRows, bare_claim(left)),
+        way_if(are_alike, described.right, bare_claim(right)),
+        way_if(has_part(right, &Part::All), described.left, claimed(left)),
+        way_if(has_part(left, &Part::All), described.right, claimed(right)),
+    ]
+}
+
+// The ways of an operator over two inputs.
+fn ways_over_both<'p>(
+    described: DescribedBoth<'p>,
+    left: &'p TypedNode,
+    right: &'p TypedNode,
+) -> [Option<Way<'p>>; 4]
+    ensures { ways_in result ≡ (over_both (described_both_of described.entry) (plan_of left.now) (plan_of right.now)).ways }
+{
+    match described.pairs {
+        None => [way_beside(described.left, left, right), None, None, None],
+        Some(on) => ways_met(on, described, left, right),
+    }
+}
+
+// The way to a part that is there without any input.
+fn ways_made<'p>(part: PartSeen<'p>) -> [Option<Way<'p>>; 4]
+    ensures { ways_in result ≡ way whole_rows (bare (part_seen part.entry) ∷ []) ∷ [] }
+{
+    [
+        way_if(true, Copying::WholeRows, bare(part)),
+        None,
+        None,
+        None,
+    ]
+}
+
+// The part of a scan.
+fn scanned<'p>(is_shared: bool) -> PartSeen<'p>
+    ensures { part_seen result ≡ cond is_shared any all }
+{
+    if is_shared {
+        PartSeen::Any
+    } else {
+        PartSeen::All
+    }
+}
+
+/// The ways of a node to a part.
+pub fn node_ways(node: &TypedNode) -> [Option<Way<'_>>; 4]
+    ensures { (catalog : ℕ → Relation) → HasOutputs catalog (outline_of node.now) → ways_in result ≡ (behaviour catalog (plan_of node.now)).ways }
+{
+    match node {
+        TypedNode::Scan(_, scan) => ways_made(scanned(scan.shared)),
+        TypedNode::Unary(_, operator, input) => ways_over(operator.described(), input),
+        TypedNode::Binary(_, operator, left, right) => {
+            ways_over_both(operator.described(output_types(left)), left, right)
+        }
+        TypedNode::Exchange(_, exchange, _) => ways_made(made(&exchange.kind)),
+    }
+}
+
+// Whether the way is there and gives the part.
+fn is_given(way: Option<Way<'_>>, wanted: &Part) -> bool
+    ensures { result ≡ list_any (λ w. gives w (part_of wanted.now)) (way_in way.entry) }
+{
+    match way {
+        Some(way) => way.gives(wanted),
+        None => false,
+    }
+}
+
+/// Whether one of the ways gives the part.
+pub fn give(ways: &[Option<Way<'_>>], wanted: &Part) -> bool
+    ensures { result ≡ list_any (λ w. gives w (part_of wanted.now)) (ways_in ways.now) }
+{
+    ways.iter().any(|way| is_given(*way, wanted))
+}
+
+/// Whether there is a way.
+pub fn has_way(ways: &[Option<Way<'_>>]) -> bool
+    ensures { result ≡ list_any (λ w. true) (ways_in ways.now) }
+{
+    ways.iter().any(|way| way.is_some())
+}
