@@ -94,9 +94,6 @@ stands-length f (c ∷ cs) (x ∷ xs) other = longer (f c) (each_input f cs) (st
     longer (Some c) None h = refl
     longer (Some c) (Some cs) h = rw h (and-false (x == c))
 
-pub stands-copied : (p : Copies) (cols inputs : List ℕ) → if_some (copied_by p cols) (numbers_eq inputs) ≡ stands (input_of p) cols inputs
-stands-copied p cols inputs = ap (λ o. if_some o (numbers_eq inputs)) (copied_by-each p cols)
-
 front_cons : (o : Option ℕ) (os : Option (List ℕ)) (x : ℕ) (ys xs : List ℕ) → if_some os (numbers_eq ys) ≡ if_some os (λ cs. is_prefix cs xs)
     → if_some (cons_both o os) (numbers_eq (x ∷ ys)) ≡ if_some (cons_both o os) (λ cs. is_prefix cs (x ∷ xs))
 front_cons None os x ys xs h = refl

@@ -1,12 +1,7 @@
--- What operators over two inputs show, in the words of the rule table.
+-- What operators over two inputs show of keys, in the words of the rule table.
 use Rattle.std.specs.Prelude.{ℕ, Bool, false, ◌&&◌, ◌||◌, List, [], map}
 use Rattle.vx_plan_nodes.specs.Plan.{Binary, union, join}
-use Rattle.vx_check_rules.specs.Rules.{is_prefix, covers, shifted, join_keys}
-
--- the orders over a left input that is sorted so
-abbrev pub binary_orders : Binary → List ℕ → List ℕ → Bool
-binary_orders union below order = is_prefix order []
-binary_orders (join m on) below order = is_prefix order below
+use Rattle.vx_check_rules.specs.Rules.{covers, shifted, join_keys}
 
 -- the keys that a join shows, where it is known whether the right input is joined on a key, and the left one
 abbrev pub held_keys : (right_held left_held : Bool) → ℕ → List (List ℕ) → List (List ℕ) → List ℕ → Bool

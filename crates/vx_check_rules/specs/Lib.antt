@@ -11,3 +11,4 @@ pub mod RuleView
 pub mod Checked
 pub mod CheckedView
 pub mod WayView
+pub mod SortedView

@@ -1,7 +1,7 @@
 //! Output columns that are copies of input columns.
 
 ghost use Rattle.std.specs.Prelude.{◌≡◌, ◌&&◌, map, true};
-ghost use Rattle.vx_check_rules.specs.Rules.{numbers_eq, is_prefix, covers, if_some, shifted};
+ghost use Rattle.vx_check_rules.specs.Rules.{covers, if_some, shifted};
 
 use crate::copied::CopiedColumns;
 use vx_plan_nodes::Projected;
@@ -41,27 +41,6 @@ impl Copies<'_> {
         columns.iter().all(|column| self.input(*column).is_some())
     }
 
-    /// Whether the output columns are copies of just these input columns, in order.
-    pub fn stand_for(self, columns: &[usize], inputs: &[usize]) -> bool
-        ensures { result ≡ if_some (copied_by self.entry columns.now) (numbers_eq inputs.now) }
-    {
-        if columns.len() != inputs.len() {
-            return false;
-        }
-        for (i, column) in columns.iter().enumerate() {
-            if self.input(*column) != Some(inputs[i]) {
-                return false;
-            }
-        }
-        true
-    }
-
-    /// Whether the output columns are copies of input columns that begin these.
-    pub fn stand_for_prefix(self, columns: &[usize], inputs: &[usize]) -> bool
-        ensures { result ≡ if_some (copied_by self.entry columns.now) (λ cs. is_prefix cs inputs.now) }
-    {
-        columns.len() <= inputs.len() && self.stand_for(columns, &inputs[..columns.len()])
-    }
     /// Whether one of the output columns is a copy of this input column.
     pub fn is_copied(self, columns: &[usize], input: usize) -> bool
         ensures { result ≡ has_copy self.entry columns.now input }

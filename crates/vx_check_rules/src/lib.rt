@@ -17,6 +17,7 @@ mod refusal;
 mod refused;
 mod rule;
 mod shown;
+mod sortings;
 mod sources;
 mod ways;
 

@@ -2,7 +2,7 @@
 
 ghost use Rattle.std.specs.Prelude.{◌≡◌, ◌&&◌, true};
 ghost use Rattle.vx_plan_nodes.specs.DescribeView.{copying_of};
-ghost use Rattle.vx_check_rules.specs.Rules.{numbers_eq, if_some};
+ghost use Rattle.vx_check_rules.specs.Rules.{numbers_eq, is_prefix, if_some};
 ghost use Rattle.vx_check_rules.specs.Behaviour.{sources};
 
 use vx_plan_nodes::Copying;
@@ -29,4 +29,11 @@ pub fn are_copies_of(copying: Copying<'_>, columns: &[usize], inputs: &[usize]) 
         }
     }
     true
+}
+
+/// Whether the output columns are copies of input columns that begin these.
+pub fn begin_with_copies(copying: Copying<'_>, columns: &[usize], inputs: &[usize]) -> bool
+    ensures { result ≡ if_some (sources (copying_of copying.entry) columns.now) (λ cs. is_prefix cs inputs.now) }
+{
+    columns.len() <= inputs.len() && are_copies_of(copying, columns, &inputs[..columns.len()])
 }

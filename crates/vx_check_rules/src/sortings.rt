@@ -1,0 +1,174 @@
+//! The orders that a node has, by what its operator does with columns and rows.
+
+ghost use Rattle.std.specs.Prelude.{◌≡◌, [], ◌∷◌};
+ghost use Rattle.std.specs.List.{list_any};
+ghost use Rattle.vx_relations.specs.Catalog.{relation_at};
+ghost use Rattle.vx_plan_nodes.specs.Plan.{claim};
+ghost use Rattle.vx_plan_nodes.specs.Outline.{part_of, kind_of, plan_of};
+ghost use Rattle.vx_plan_nodes.specs.Describe.{whole_rows};
+ghost use Rattle.vx_plan_nodes.specs.DescribeView.{copying_of, order_after_of, described_of, described_both_of};
+ghost use Rattle.vx_check_rules.specs.Rules.{rises_by, goes_on};
+ghost use Rattle.vx_check_rules.specs.Behaviour.{sorted_by, if_so, order_after, order_over, moved, behaviour, sorts};
+ghost use Rattle.vx_check_rules.specs.SortedView.{sorted_of, sorting_in, sortings_in};
+
+use crate::columns::is_prefix;
+use crate::nodes::{claimed_order, claimed_part, has_one_worker};
+use crate::sources::begin_with_copies;
+use vx_plan_nodes::{
+    Copying, Described, DescribedBoth, Exchange, ExchangeKind, OrderAfter, Part, Route, TypedNode,
+    output_types,
+};
+use vx_relations::Catalog;
+
+/// An order, on the columns that are copied.
+#[derive(Clone, Copy)]
+pub struct Sorted<'p> {
+    pub copying: Copying<'p>,
+    pub order: &'p [usize],
+}
+
+impl Sorted<'_> {
+    /// Whether the rows are sorted so.
+    pub fn sorts(self, wanted: &[usize]) -> bool
+        ensures { result ≡ sorts (sorted_of self.entry) wanted.now }
+    {
+        begin_with_copies(self.copying, wanted, self.order)
+    }
+}
+
+// An order of columns that stand where they stood.
+fn whole<'p>(order: &'p [usize]) -> Sorted<'p>
+    ensures { sorted_of result ≡ sorted_by whole_rows order.now }
+{
+    Sorted {
+        copying: Copying::WholeRows,
+        order,
+    }
+}
+
+// Such an order, if it is there.
+fn whole_if<'p>(is_there: bool, order: &'p [usize]) -> Option<Sorted<'p>>
+    ensures { sorting_in result ≡ if_so is_there (sorted_by whole_rows order.now ∷ []) }
+{
+    is_there.then_some(whole(order))
+}
+
+// No other order.
+fn only<'p>(sorted: Sorted<'p>) -> [Option<Sorted<'p>>; 2]
+    ensures { sortings_in result ≡ sorted_of sorted.entry ∷ [] }
+{
+    [Some(sorted), None]
+}
+
+// The order that a relation declares.
+fn declared_order(catalog: &Catalog, relation: usize) -> &[usize]
+    ensures { result.now ≡ (relation_at catalog.now relation).order }
+{
+    if relation < catalog.len() {
+        catalog.get(relation).order()
+    } else {
+        &[]
+    }
+}
+
+// The order of the output's rows, over rows that are sorted on `below`.
+fn order_after<'p>(order: OrderAfter<'p>, below: &'p [usize]) -> &'p [usize]
+    ensures { result.now ≡ order_after (order_after_of order.entry) below.now }
+{
+    match order {
+        OrderAfter::Kept => below,
+        OrderAfter::SortedOn(columns) => columns,
+    }
+}
+
+// The order of an operator over one input that is sorted on `below`.
+fn sorted_over<'p>(described: Described<'p>, below: &'p [usize]) -> Sorted<'p>
+    ensures { sorted_of result ≡ sorted_by (described_of described.entry).copying (order_after (described_of described.entry).order below.now) }
+{
+    Sorted {
+        copying: described.copying,
+        order: order_after(described.order, below),
+    }
+}
+
+// The order of an operator over two inputs, where the left one is sorted on `left`. It is lost where rows stand side by
+// side.
+fn sorted_over_both<'p>(described: DescribedBoth<'p>, left: &'p [usize]) -> Sorted<'p>
+    ensures { sorted_of result ≡ sorted_by whole_rows (order_over (described_both_of described.entry).pairs left.now) }
+{
+    match described.pairs {
+        Some(_) => whole(left),
+        None => whole(&[]),
+    }
+}
+
+// Whether rows with this part rise with the number of their worker, where each worker's rows are in this order: a range
+// on the order's first column put them there.
+fn rises_with_workers(part: &Part, order: &[usize]) -> bool
+    ensures { result ≡ rises_by (part_of part.now) order.now }
+{
+    match part {
+        Part::Routed(Route::Range(_), columns) => {
+            columns.len() == 1 && is_prefix(columns.as_slice(), order)
+        }
+        Part::One | Part::Any | Part::All | Part::Routed(Route::Hash(_), _) => false,
+    }
+}
+
+// Whether an exchange of this kind keeps the order of its producers' rows, since it takes one producer after the other.
+fn goes_on_in_order(kind: &ExchangeKind, input: &TypedNode) -> bool
+    ensures { result ≡ goes_on (kind_of kind.now) (claim (plan_of input.now)) }
+{
+    match kind {
+        ExchangeKind::Concat => rises_with_workers(claimed_part(input), claimed_order(input)),
+        ExchangeKind::Route(_, _, _)
+        | ExchangeKind::Round(_)
+        | ExchangeKind::Broadcast(_)
+        | ExchangeKind::Gather => false,
+    }
+}
+
+// The orders over an exchange: its input's where that goes on, and the one that it merges by.
+fn sortings_moved<'p>(exchange: &'p Exchange, input: &'p TypedNode) -> [Option<Sorted<'p>>; 2]
+    ensures { sortings_in result ≡ (moved (kind_of exchange.now.kind) exchange.now.merge.items (plan_of input.now)).sortings }
+{
+    let goes_on = has_one_worker(input) || goes_on_in_order(&exchange.kind, input);
+    [
+        whole_if(goes_on, claimed_order(input)),
+        Some(whole(exchange.merge.as_slice())),
+    ]
+}
+
+/// The orders of a node.
+pub fn node_sortings<'p>(catalog: &'p Catalog, node: &'p TypedNode) -> [Option<Sorted<'p>>; 2]
+    ensures { sortings_in result ≡ (behaviour (relation_at catalog.now) (plan_of node.now)).sortings }
+{
+    match node {
+        TypedNode::Scan(_, scan) => only(whole(declared_order(catalog, scan.relation))),
+        TypedNode::Unary(_, operator, input) => {
+            only(sorted_over(operator.described(), claimed_order(input)))
+        }
+        TypedNode::Binary(_, operator, left, _) => only(sorted_over_both(
+            operator.described(output_types(left)),
+            claimed_order(left),
+        )),
+        TypedNode::Exchange(_, exchange, input) => sortings_moved(exchange, input),
+    }
+}
+
+// Whether the order is there and the rows are sorted so by it.
+fn is_sorted(sorting: Option<Sorted<'_>>, order: &[usize]) -> bool
+    ensures { result ≡ list_any (λ s. sorts s order.now) (sorting_in sorting.entry) }
+{
+    match sorting {
+        Some(sorted) => sorted.sorts(order),
+        None => false,
+    }
+}
+
+/// Whether the rows are sorted so by one of these.
+pub fn sort(sortings: &[Option<Sorted<'_>>], order: &[usize]) -> bool
+    ensures { result ≡ list_any (λ s. sorts s order.now) (sortings_in sortings.now) }
+{
+    sortings.iter().any(|sorting| is_sorted(*sorting, order))
+}
