@@ -1,5 +1,5 @@
 -- Sources of columns, one by one.
-use Rattle.std.proofs.Common.{◌≡◌, ℕ, Bool, List, [], ◌∷◌, refl, ap}
+use Rattle.std.proofs.Common.{◌≡◌, ℕ, List, [], ◌∷◌, refl, ap}
 use Rattle.vx_plan_nodes.specs.Describe.{Copying, source}
 use Rattle.vx_check_rules.specs.Rules.{cons_both, if_some, numbers_eq}
 use Rattle.vx_check_rules.specs.Behaviour.{sources}

@@ -1,5 +1,5 @@
 -- What operators over two inputs show of keys, in the words of the rule table.
-use Rattle.std.specs.Prelude.{ℕ, Bool, false, ◌&&◌, ◌||◌, List, [], map}
+use Rattle.std.specs.Prelude.{ℕ, Bool, false, ◌&&◌, ◌||◌, List, map}
 use Rattle.vx_plan_nodes.specs.Plan.{Binary, union, join}
 use Rattle.vx_check_rules.specs.Rules.{covers, shifted, join_keys}
 
