@@ -1,11 +1,10 @@
 use Rattle.std.proofs.Common.{◌≡◌, ℕ, true, false, Some, None, refl, sym, ◌∙◌}
 use Rattle.vx_relations.specs.Relation.{Relation}
 use Rattle.vx_relations.specs.Catalog.{relation_at}
-use Rattle.vx_plan_nodes.specs.Plan.{Plan, claim}
+use Rattle.vx_plan_nodes.specs.Plan.{Plan}
 use Rattle.vx_plan_nodes.specs.Outline.{plan_of}
 use Rattle.vx_check_rules.specs.Rules.{sizes_match, not_replicated, inputs_match, order_given, part_shown, order_shown, keys_shown}
 use Rattle.vx_check_rules.specs.Refusal.{inputs_not_matched, order_needed, part_not_shown, order_not_shown, key_not_shown, first_failure, node_tests}
-use Rattle.vx_check_rules.proofs.Exact.{parts-exactly}
 use Rattle.vx_check_rules.proofs.refusal.failure_at.Goals as goal
 
 -- the tests of the operator pass
@@ -54,7 +53,7 @@ returns-then-not-is_part_shown c =
       inputs = sym (c.do_inputs_match.ensures (relation_at c.args.catalog.now) c.requires) ∙ c.if-not-do_inputs_match.false;
       order = sym c.is_order_given.ensures ∙ c.if-not-is_order_given.false;
     } in
-    no-part (relation_at c.args.catalog.now) (plan_of c.args.node.now) fits (parts-exactly (relation_at c.args.catalog.now) (plan_of c.args.node.now) (claim (plan_of c.args.node.now)).part fits.inputs ∙ (sym (c.is_part_shown.ensures (relation_at c.args.catalog.now) c.requires) ∙ c.if-not-is_part_shown.true))
+    no-part (relation_at c.args.catalog.now) (plan_of c.args.node.now) fits (sym (c.is_part_shown.ensures (relation_at c.args.catalog.now) c.requires fits.inputs) ∙ c.if-not-is_part_shown.true)
 
 pub returns-then-not-is_order_shown : goal.returns-then-not-is_order_shown
 returns-then-not-is_order_shown c =
@@ -64,7 +63,7 @@ returns-then-not-is_order_shown c =
       inputs = sym (c.do_inputs_match.ensures (relation_at c.args.catalog.now) c.requires) ∙ c.if-not-do_inputs_match.false;
       order = sym c.is_order_given.ensures ∙ c.if-not-is_order_given.false;
     } in
-    no-order (relation_at c.args.catalog.now) (plan_of c.args.node.now) fits (parts-exactly (relation_at c.args.catalog.now) (plan_of c.args.node.now) (claim (plan_of c.args.node.now)).part fits.inputs ∙ (sym (c.is_part_shown.ensures (relation_at c.args.catalog.now) c.requires) ∙ c.if-not-is_part_shown.false))
+    no-order (relation_at c.args.catalog.now) (plan_of c.args.node.now) fits (sym (c.is_part_shown.ensures (relation_at c.args.catalog.now) c.requires fits.inputs) ∙ c.if-not-is_part_shown.false)
     (sym c.is_order_shown.ensures ∙ c.if-not-is_order_shown.true)
 
 pub returns-then-not-are_keys_shown : goal.returns-then-not-are_keys_shown
@@ -75,7 +74,7 @@ returns-then-not-are_keys_shown c =
       inputs = sym (c.do_inputs_match.ensures (relation_at c.args.catalog.now) c.requires) ∙ c.if-not-do_inputs_match.false;
       order = sym c.is_order_given.ensures ∙ c.if-not-is_order_given.false;
     } in
-    no-keys (relation_at c.args.catalog.now) (plan_of c.args.node.now) fits (parts-exactly (relation_at c.args.catalog.now) (plan_of c.args.node.now) (claim (plan_of c.args.node.now)).part fits.inputs ∙ (sym (c.is_part_shown.ensures (relation_at c.args.catalog.now) c.requires) ∙ c.if-not-is_part_shown.false))
+    no-keys (relation_at c.args.catalog.now) (plan_of c.args.node.now) fits (sym (c.is_part_shown.ensures (relation_at c.args.catalog.now) c.requires fits.inputs) ∙ c.if-not-is_part_shown.false)
     (sym c.is_order_shown.ensures ∙ c.if-not-is_order_shown.false) (sym c.are_keys_shown.ensures ∙ c.if-not-are_keys_shown.true)
 
 pub returns : goal.returns
@@ -86,5 +85,5 @@ returns c =
       inputs = sym (c.do_inputs_match.ensures (relation_at c.args.catalog.now) c.requires) ∙ c.if-not-do_inputs_match.false;
       order = sym c.is_order_given.ensures ∙ c.if-not-is_order_given.false;
     } in
-    no-failure (relation_at c.args.catalog.now) (plan_of c.args.node.now) fits (parts-exactly (relation_at c.args.catalog.now) (plan_of c.args.node.now) (claim (plan_of c.args.node.now)).part fits.inputs ∙ (sym (c.is_part_shown.ensures (relation_at c.args.catalog.now) c.requires) ∙ c.if-not-is_part_shown.false))
+    no-failure (relation_at c.args.catalog.now) (plan_of c.args.node.now) fits (sym (c.is_part_shown.ensures (relation_at c.args.catalog.now) c.requires fits.inputs) ∙ c.if-not-is_part_shown.false)
     (sym c.is_order_shown.ensures ∙ c.if-not-is_order_shown.false) (sym c.are_keys_shown.ensures ∙ c.if-not-are_keys_shown.false)
