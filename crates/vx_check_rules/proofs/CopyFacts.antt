@@ -6,7 +6,7 @@ use Rattle.std.proofs.lemmas.List.{drop_all}
 use Rattle.std.proofs.lemmas.Bool.Decides.{nat_tests}
 use Rattle.std.proofs.Math.Bool.{and-false}
 use Rattle.vx_check_rules.specs.declared.copies.Copies.{Copies}
-use Rattle.vx_check_rules.specs.declared.copies.Copies.TheVariants.{Outputs, Keys, Left, Right}
+use Rattle.vx_check_rules.specs.declared.copies.Copies.TheVariants.{Outputs, Right}
 use Rattle.vx_check_rules.specs.Rules.{numbers_eq, is_prefix, copied, left_columns, right_columns, cons_both, if_some}
 use Rattle.vx_check_rules.specs.Copies.{input_of, copied_by}
 
@@ -24,10 +24,6 @@ cons_if true true c cs = refl
 cons_if true false c cs = refl
 cons_if false d c cs = refl
 
-left-each : (w : ℕ) (cols : List ℕ) → left_columns w cols ≡ each_input (λ c. cond (nat_lt c w) (Some c) None) cols
-left-each w [] = refl
-left-each w (c ∷ cs) = cons_if (nat_lt c w) (list_all (λ c. nat_lt c w) cs) c cs ∙ ap (cons_both (cond (nat_lt c w) (Some c) None)) (left-each w cs)
-
 right-each : (w : ℕ) (cols : List ℕ) → right_columns w cols ≡ each_input (λ c. cond (nat_le w c) (Some (c - w)) None) cols
 right-each w [] = refl
 right-each w (c ∷ cs) =
@@ -36,8 +32,6 @@ right-each w (c ∷ cs) =
 -- columns are copied one by one
 pub copied_by-each : (p : Copies) (cols : List ℕ) → copied_by p cols ≡ each_input (input_of p) cols
 copied_by-each (Outputs kept) cols = copied-each (map (λ k. k.column) kept.now) cols
-copied_by-each (Keys by) cols = copied-each by.now cols
-copied_by-each (Left w) cols = left-each w cols
 copied_by-each (Right w) cols = right-each w cols
 
 all_cons : (o : Option ℕ) (os : Option (List ℕ)) → if_some (cons_both o os) (λ cs. true) ≡ (is_some o && if_some os (λ cs. true))

@@ -1,24 +1,20 @@
 -- How the columns of an output stand for those of an input, as the program holds it.
-use Rattle.std.specs.Prelude.{ℕ, ◌≡◌, ◌<◌, ◌==◌, ◌-◌, nat_eq, nat_lt, nat_le, Bool, cond, List, map, Option, Some, None, slice_get}
+use Rattle.std.specs.Prelude.{ℕ, ◌≡◌, ◌<◌, ◌==◌, ◌-◌, nat_eq, nat_le, Bool, cond, List, map, Option, Some, None, slice_get}
 use Rattle.std.specs.Int.{bit_at}
 use Rattle.std.specs.List.{list_all, list_any}
 use Rattle.std.specs.Option.{option_eq}
 use Rattle.vx_check_rules.specs.declared.copies.Copies.{Copies}
-use Rattle.vx_check_rules.specs.declared.copies.Copies.TheVariants.{Outputs, Keys, Left, Right}
-use Rattle.vx_check_rules.specs.Rules.{copied, left_columns, right_columns}
+use Rattle.vx_check_rules.specs.declared.copies.Copies.TheVariants.{Outputs, Right}
+use Rattle.vx_check_rules.specs.Rules.{copied, right_columns}
 
 -- the input column that an output column is a copy of
 abbrev pub input_of : Copies → ℕ → Option ℕ
 input_of (Outputs kept) c = slice_get (map (λ k. k.column) kept.now) c
-input_of (Keys by) c = slice_get by.now c
-input_of (Left w) c = cond (nat_lt c w) (Some c) None
 input_of (Right w) c = cond (nat_le w c) (Some (c - w)) None
 
 -- the input columns that output columns are copies of, if all are
 abbrev pub copied_by : Copies → List ℕ → Option (List ℕ)
 copied_by (Outputs kept) cols = copied (map (λ k. k.column) kept.now) cols
-copied_by (Keys by) cols = copied by.now cols
-copied_by (Left w) cols = left_columns w cols
 copied_by (Right w) cols = right_columns w cols
 
 -- one of these output columns is a copy of this input column

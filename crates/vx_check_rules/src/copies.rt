@@ -9,12 +9,8 @@ use vx_plan_nodes::Projected;
 /// How the columns of an output stand for those of an input.
 #[derive(Clone, Copy)]
 pub enum Copies<'a> {
-    /// The columns that a projection or a distinct keeps.
+    /// The columns that a projection keeps.
     Outputs(&'a [Projected]),
-    /// The keys of a group, which stand in front of its aggregates.
-    Keys(&'a [usize]),
-    /// The columns of a join's left input, of this width.
-    Left(usize),
     /// The columns of a join's right input, which stand behind the left one's, of this width.
     Right(usize),
 }
@@ -28,8 +24,6 @@ impl Copies<'_> {
     {
         match self {
             Copies::Outputs(kept) => kept.get(column).map(|k| k.column),
-            Copies::Keys(by) => by.get(column).copied(),
-            Copies::Left(width) => (column < width).then_some(column),
             Copies::Right(width) => column.checked_sub(width),
         }
     }

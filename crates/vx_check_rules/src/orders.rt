@@ -11,7 +11,7 @@ use crate::columns::{has_first, is_prefix};
 use crate::copies::is_covered;
 use crate::nodes::{claimed_keys, claimed_order, width_of};
 use crate::pairs::{Input, are_prefix};
-use crate::sortings::{node_sortings, sort};
+use crate::sortings::{node_sortings, show_order};
 use vx_plan_nodes::{Binary, TypedNode};
 use vx_relations::Catalog;
 
@@ -36,7 +36,7 @@ pub fn is_order_given(node: &TypedNode) -> bool
 pub fn is_order_shown(catalog: &Catalog, node: &TypedNode) -> bool
     ensures { result ≡ order_shown (relation_at catalog.now) (plan_of node.now) }
 {
-    sort(&node_sortings(catalog, node), claimed_order(node))
+    show_order(&node_sortings(catalog, node), claimed_order(node))
 }
 
 /// Whether the node's claimed order contains all columns of a claimed key, or all output columns: K9.

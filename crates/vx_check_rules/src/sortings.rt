@@ -167,7 +167,7 @@ fn is_sorted(sorting: Option<Sorted<'_>>, order: &[usize]) -> bool
 }
 
 /// Whether the rows are sorted so by one of these.
-pub fn sort(sortings: &[Option<Sorted<'_>>], order: &[usize]) -> bool
+pub fn show_order(sortings: &[Option<Sorted<'_>>], order: &[usize]) -> bool
     ensures { result ≡ list_any (λ s. sorts s order.now) (sortings_in sortings.now) }
 {
     sortings.iter().any(|sorting| is_sorted(*sorting, order))

@@ -273,7 +273,7 @@ fn is_given(way: Option<Way<'_>>, wanted: &Part) -> bool
 }
 
 /// Whether one of the ways gives the part.
-pub fn give(ways: &[Option<Way<'_>>], wanted: &Part) -> bool
+pub fn show_part(ways: &[Option<Way<'_>>], wanted: &Part) -> bool
     ensures { result ≡ list_any (λ w. gives w (part_of wanted.now)) (ways_in ways.now) }
 {
     ways.iter().any(|way| is_given(*way, wanted))

@@ -11,5 +11,5 @@ pub returns : goal.returns
 returns c =
     let catalog = relation_at c.args.catalog.now in
     let p = plan_of c.args.node.now in
-    c.sort.ensures ∙ (ap (list_any (λ s. sorts s c.claimed_order.result.now)) c.node_sortings.ensures
+    c.show_order.ensures ∙ (ap (list_any (λ s. sorts s c.claimed_order.result.now)) c.node_sortings.ensures
     ∙ (ap (shown_order (behaviour catalog p)) c.claimed_order.ensures ∙ sym (orders-exactly catalog p (claim p).order)))

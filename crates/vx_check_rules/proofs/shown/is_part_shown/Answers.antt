@@ -9,5 +9,5 @@ pub returns-else-has_one_worker : goal.returns-else-has_one_worker
 returns-else-has_one_worker c = λ catalog given fits.
     let p : Plan = plan_of c.args.node.now in
     let several : is_one (size p) ≡ false = sym c.has_one_worker.ensures ∙ c.if-has_one_worker.false in
-    let shown : c.give.result ≡ shown_part (behaviour catalog p) (claim p).part = rw (c.node_ways.ensures catalog given, c.claimed_part.ensures) at c.give.ensures in
+    let shown : c.show_part.result ≡ shown_part (behaviour catalog p) (claim p).part = rw (c.node_ways.ensures catalog given, c.claimed_part.ensures) at c.show_part.ensures in
     shown ∙ (ap (λ (b : Bool). b || shown_part (behaviour catalog p) (claim p).part) (sym several) ∙ sym (parts-exactly catalog p (claim p).part fits))

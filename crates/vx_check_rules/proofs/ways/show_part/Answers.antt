@@ -8,7 +8,7 @@ use Rattle.vx_check_rules.specs.declared.ways.Way.{Way}
 use Rattle.vx_check_rules.specs.Behaviour.{gives}
 use Rattle.vx_check_rules.specs.WayView.{way_in}
 use Rattle.vx_check_rules.proofs.WayFacts.{any-flat}
-use Rattle.vx_check_rules.proofs.ways.give.Goals as goal
+use Rattle.vx_check_rules.proofs.ways.show_part.Goals as goal
 
 pub returns : goal.returns
 returns c =

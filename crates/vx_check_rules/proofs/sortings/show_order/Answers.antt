@@ -7,7 +7,7 @@ use Rattle.vx_check_rules.specs.declared.sortings.Sorted.{Sorted}
 use Rattle.vx_check_rules.specs.Behaviour.{sorts}
 use Rattle.vx_check_rules.specs.SortedView.{sorting_in}
 use Rattle.vx_check_rules.proofs.WayFacts.{any-flat}
-use Rattle.vx_check_rules.proofs.sortings.sort.Goals as goal
+use Rattle.vx_check_rules.proofs.sortings.show_order.Goals as goal
 
 pub returns : goal.returns
 returns c =
