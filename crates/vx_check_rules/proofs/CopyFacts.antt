@@ -1,5 +1,5 @@
 -- Copies of columns, one by one.
-use Rattle.std.proofs.Common.{◌≡◌, ℕ, suc, ◌+◌, ◌-◌, ◌<◌, ◌≤◌, Bool, true, false, cond, List, [], ◌∷◌, length, take, drop, map, get_or, nat_lt, nat_le, ◌==◌, ◌&&◌, Option, Some, None, slice_get, is_some, refl, sym, ap, ◌∙◌, arith, add-one, drop-cons, not, eqb}
+use Rattle.std.proofs.Common.{◌≡◌, ℕ, suc, ◌+◌, ◌-◌, ◌<◌, ◌≤◌, Bool, true, false, cond, List, [], ◌∷◌, length, take, drop, map, get_or, nat_le, ◌==◌, ◌&&◌, Option, Some, None, slice_get, is_some, refl, sym, ap, ◌∙◌, arith, add-one, drop-cons, not, eqb}
 use Rattle.std.specs.List.{list_all}
 use Rattle.std.specs.Option.{option_eq}
 use Rattle.std.proofs.lemmas.List.{drop_all}
@@ -7,7 +7,7 @@ use Rattle.std.proofs.lemmas.Bool.Decides.{nat_tests}
 use Rattle.std.proofs.Math.Bool.{and-false}
 use Rattle.vx_check_rules.specs.declared.copies.Copies.{Copies}
 use Rattle.vx_check_rules.specs.declared.copies.Copies.TheVariants.{Outputs, Right}
-use Rattle.vx_check_rules.specs.Rules.{numbers_eq, is_prefix, copied, left_columns, right_columns, cons_both, if_some}
+use Rattle.vx_check_rules.specs.Rules.{numbers_eq, is_prefix, copied, right_columns, cons_both, if_some}
 use Rattle.vx_check_rules.specs.Copies.{input_of, copied_by}
 
 -- what each column stands for, if each stands for one
