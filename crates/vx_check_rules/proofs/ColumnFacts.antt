@@ -1,10 +1,9 @@
 -- Lists of columns, in the words of the program's tests.
-use Rattle.std.proofs.Common.{◌≡◌, ℕ, zero, suc, ◌<◌, Bool, true, false, List, [], ◌∷◌, length, take, nat_lt, ◌==◌, ◌&&◌, ◌||◌, refl, sym, ap, ◌∙◌, arith, eqb}
-use Rattle.std.proofs.lemmas.Bool.{eqb-true}
-use Rattle.std.proofs.Math.Bool.{and-false}
+use Rattle.std.proofs.Common.{◌≡◌, ℕ, zero, suc, ◌+◌, ◌-◌, ◌<◌, Bool, List, [], ◌∷◌, length, take, nat_lt, ◌==◌, ◌&&◌, ◌||◌, refl, sym, ap, ◌∙◌, arith, add-one, eqb}
 use Rattle.std.specs.List.{list_all, list_any}
 use Rattle.std.specs.Cmp.Lexicographic.{pointwise}
 use Rattle.std.proofs.lemmas.Bool.Decides.{nat_tests}
+use Rattle.vx_plan_nodes.specs.Phases.{columns_from}
 use Rattle.vx_check_rules.specs.Rules.{numbers_eq, contains, within, is_prefix, numbers_below}
 
 pub list_all-ext : {X : Type 0} (p q : X → Bool) (xs : List X) → ((x : X) → p x ≡ q x) → list_all p xs ≡ list_all q xs
@@ -31,15 +30,9 @@ contains-below (suc n) c = ap (λ b. (c == n) || b) (contains-below n c) ∙ bel
 pub within-below : (n : ℕ) (xs : List ℕ) → list_all (λ c. nat_lt c n) xs ≡ within xs (numbers_below n)
 within-below n xs = list_all-ext _ _ xs (λ c. sym (contains-below n c))
 
-missing_step : (n c : ℕ) (xs : List ℕ) → c < suc n → contains xs c ≡ false → (c < n → within (numbers_below n) xs ≡ false) → (b : Bool) → (c == n) ≡ b
-    → (contains xs n && within (numbers_below n) xs) ≡ false
-missing_step n c xs h gone below true e = let same : n ≡ c = sym (eqb-true _ _ e) in rw (same, gone) refl
-missing_step n c xs h gone below false e = rw (below (grind (arith, nat_tests))) (and-false (contains xs n))
-
--- one of the first n is missing
-pub missing-below : (n c : ℕ) (xs : List ℕ) → c < n → contains xs c ≡ false → within (numbers_below n) xs ≡ false
-missing-below zero c xs h gone = absurd (omega arith)
-missing-below (suc n) c xs h gone = missing_step n c xs h gone (λ k. missing-below n c xs k gone) (c == n) refl
+-- this column, and those behind it
+pub columns-here : (test : ℕ → Bool) (i n : ℕ) → i < n → list_all test (columns_from i (n - i)) ≡ (test i && list_all test (columns_from (i + 1) (n - (i + 1))))
+columns-here test i n h = let e : n - i ≡ suc (n - suc i) = omega arith in rw (e, add-one) refl
 
 -- texts are compared byte by byte
 pub numbers-pointwise : (xs ys : List ℕ) → pointwise eqb xs ys ≡ numbers_eq xs ys

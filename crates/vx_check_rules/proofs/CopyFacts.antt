@@ -1,51 +1,26 @@
 -- Copies of columns, one by one.
-use Rattle.std.proofs.Common.{◌≡◌, ℕ, suc, ◌+◌, ◌-◌, ◌<◌, ◌≤◌, Bool, true, false, cond, List, [], ◌∷◌, length, take, drop, map, get_or, nat_le, ◌==◌, ◌&&◌, Option, Some, None, slice_get, is_some, refl, sym, ap, ◌∙◌, arith, add-one, drop-cons, not, eqb}
+use Rattle.std.proofs.Common.{◌≡◌, ℕ, suc, ◌+◌, ◌<◌, ◌≤◌, Bool, true, false, List, [], ◌∷◌, length, take, drop, get_or, ◌==◌, ◌&&◌, Option, Some, None, is_some, refl, sym, ap, ◌∙◌, arith, add-one, drop-cons, not, eqb}
 use Rattle.std.specs.List.{list_all}
 use Rattle.std.specs.Option.{option_eq}
 use Rattle.std.proofs.lemmas.List.{drop_all}
 use Rattle.std.proofs.lemmas.Bool.Decides.{nat_tests}
 use Rattle.std.proofs.Math.Bool.{and-false}
-use Rattle.vx_check_rules.specs.declared.copies.Copies.{Copies}
-use Rattle.vx_check_rules.specs.declared.copies.Copies.TheVariants.{Outputs, Right}
-use Rattle.vx_check_rules.specs.Rules.{numbers_eq, is_prefix, copied, right_columns, cons_both, if_some}
-use Rattle.vx_check_rules.specs.Copies.{input_of, copied_by}
-
--- what each column stands for, if each stands for one
-abbrev pub each_input : (ℕ → Option ℕ) → List ℕ → Option (List ℕ)
-each_input f [] = Some []
-each_input f (c ∷ cs) = cons_both (f c) (each_input f cs)
-
-copied-each : (kept cols : List ℕ) → copied kept cols ≡ each_input (slice_get kept) cols
-copied-each kept [] = refl
-copied-each kept (c ∷ cs) = ap (cons_both (slice_get kept c)) (copied-each kept cs)
-
-cons_if : (b d : Bool) (c : ℕ) (cs : List ℕ) → cond (b && d) (Some (c ∷ cs)) None ≡ cons_both (cond b (Some c) None) (cond d (Some cs) None)
-cons_if true true c cs = refl
-cons_if true false c cs = refl
-cons_if false d c cs = refl
-
-right-each : (w : ℕ) (cols : List ℕ) → right_columns w cols ≡ each_input (λ c. cond (nat_le w c) (Some (c - w)) None) cols
-right-each w [] = refl
-right-each w (c ∷ cs) =
-    cons_if (nat_le w c) (list_all (λ c. nat_le w c) cs) (c - w) (map (λ c. c - w) cs) ∙ ap (cons_both (cond (nat_le w c) (Some (c - w)) None)) (right-each w cs)
-
--- columns are copied one by one
-pub copied_by-each : (p : Copies) (cols : List ℕ) → copied_by p cols ≡ each_input (input_of p) cols
-copied_by-each (Outputs kept) cols = copied-each (map (λ k. k.column) kept.now) cols
-copied_by-each (Right w) cols = right-each w cols
+use Rattle.vx_plan_nodes.specs.Describe.{Copying, source}
+use Rattle.vx_check_rules.specs.Rules.{numbers_eq, is_prefix, cons_both, if_some}
+use Rattle.vx_check_rules.specs.Behaviour.{sources}
 
 all_cons : (o : Option ℕ) (os : Option (List ℕ)) → if_some (cons_both o os) (λ cs. true) ≡ (is_some o && if_some os (λ cs. true))
 all_cons None os = refl
 all_cons (Some c) None = refl
 all_cons (Some c) (Some cs) = refl
 
-pub copies-all : (f : ℕ → Option ℕ) (cols : List ℕ) → list_all (λ c. is_some (f c)) cols ≡ if_some (each_input f cols) (λ cs. true)
-copies-all f [] = refl
-copies-all f (c ∷ cs) = ap (λ b. is_some (f c) && b) (copies-all f cs) ∙ sym (all_cons (f c) (each_input f cs))
+pub copies-all : (k : Copying) (cols : List ℕ) → list_all (λ c. is_some (source k c)) cols ≡ if_some (sources k cols) (λ cs. true)
+copies-all k [] = refl
+copies-all k (c ∷ cs) = ap (λ b. is_some (source k c) && b) (copies-all k cs) ∙ sym (all_cons (source k c) (sources k cs))
 
 -- the columns are copies of just these, in order
-abbrev pub stands : (ℕ → Option ℕ) → List ℕ → List ℕ → Bool
-stands f cols inputs = if_some (each_input f cols) (numbers_eq inputs)
+abbrev pub stands : Copying → List ℕ → List ℕ → Bool
+stands k cols inputs = if_some (sources k cols) (numbers_eq inputs)
 
 stands_some : (o : Option (List ℕ)) (c x : ℕ) (xs : List ℕ) → if_some (cons_both (Some c) o) (numbers_eq (x ∷ xs)) ≡ ((x == c) && if_some o (numbers_eq xs))
 stands_some None c x xs = sym (and-false (x == c))
@@ -60,28 +35,28 @@ stands_option None os x xs = refl
 stands_option (Some d) os x xs = stands_some os d x xs ∙ ap (λ b. b && if_some os (numbers_eq xs)) (eq_swap x d)
 
 -- this column, and those behind it
-pub stands-here : (f : ℕ → Option ℕ) (cols inputs : List ℕ) (i : ℕ) → i < length cols → i < length inputs
-    → stands f (drop i cols) (drop i inputs) ≡ (option_eq eqb (f (get_or cols i 0)) (Some (get_or inputs i 0)) && stands f (drop (i + 1) cols) (drop (i + 1) inputs))
-stands-here f cols inputs i h k = rw (drop-cons cols i 0, drop-cons inputs i 0, add-one) (stands_option (f (get_or cols i 0)) (each_input f (drop (suc i) cols)) (get_or inputs i 0) (drop (suc i) inputs))
+pub stands-here : (k : Copying) (cols inputs : List ℕ) (i : ℕ) → i < length cols → i < length inputs
+    → stands k (drop i cols) (drop i inputs) ≡ (option_eq eqb (source k (get_or cols i 0)) (Some (get_or inputs i 0)) && stands k (drop (i + 1) cols) (drop (i + 1) inputs))
+stands-here k cols inputs i h l = rw (drop-cons cols i 0, drop-cons inputs i 0, add-one) (stands_option (source k (get_or cols i 0)) (sources k (drop (suc i) cols)) (get_or inputs i 0) (drop (suc i) inputs))
 
-pub stands-done : (f : ℕ → Option ℕ) (cols inputs : List ℕ) (i : ℕ) → length cols ≤ i → length inputs ≤ i → stands f (drop i cols) (drop i inputs) ≡ true
-stands-done f cols inputs i h k = rw (drop_all i cols h, drop_all i inputs k) refl
+pub stands-done : (k : Copying) (cols inputs : List ℕ) (i : ℕ) → length cols ≤ i → length inputs ≤ i → stands k (drop i cols) (drop i inputs) ≡ true
+stands-done k cols inputs i h l = rw (drop_all i cols h, drop_all i inputs l) refl
 
 pub not-not : (b c : Bool) → b ≡ not c → b ≡ true → c ≡ false
 not-not b true e h = cc
 not-not b false e h = refl
 
 -- as many columns
-pub stands-length : (f : ℕ → Option ℕ) (cols inputs : List ℕ) → (length cols ≡ length inputs → ⊥) → stands f cols inputs ≡ false
-stands-length f [] [] other = absurd (other refl)
-stands-length f [] (x ∷ xs) other = refl
-stands-length f (c ∷ cs) [] other = short (f c) (each_input f cs)
+pub stands-length : (k : Copying) (cols inputs : List ℕ) → (length cols ≡ length inputs → ⊥) → stands k cols inputs ≡ false
+stands-length k [] [] other = absurd (other refl)
+stands-length k [] (x ∷ xs) other = refl
+stands-length k (c ∷ cs) [] other = short (source k c) (sources k cs)
   where
     short : (o : Option ℕ) (os : Option (List ℕ)) → if_some (cons_both o os) (numbers_eq []) ≡ false
     short None os = refl
     short (Some c) None = refl
     short (Some c) (Some cs) = refl
-stands-length f (c ∷ cs) (x ∷ xs) other = longer (f c) (each_input f cs) (stands-length f cs xs (λ e. other (ap suc e)))
+stands-length k (c ∷ cs) (x ∷ xs) other = longer (source k c) (sources k cs) (stands-length k cs xs (λ e. other (ap suc e)))
   where
     longer : (o : Option ℕ) (os : Option (List ℕ)) → if_some os (numbers_eq xs) ≡ false → if_some (cons_both o os) (numbers_eq (x ∷ xs)) ≡ false
     longer None os h = refl
@@ -95,10 +70,10 @@ front_cons (Some d) None x ys xs h = refl
 front_cons (Some d) (Some ds) x ys xs h = rw (h, eq_swap x d) refl
 
 -- the copied columns begin these
-pub stands-front : (f : ℕ → Option ℕ) (cols inputs : List ℕ) → length cols ≤ length inputs → stands f cols (take (length cols) inputs) ≡ if_some (each_input f cols) (λ cs. is_prefix cs inputs)
-stands-front f [] inputs h = refl
-stands-front f (c ∷ cs) [] h = absurd (omega arith)
-stands-front f (c ∷ cs) (x ∷ xs) h = front_cons (f c) (each_input f cs) x (take (length cs) xs) xs (stands-front f cs xs (omega arith))
+pub stands-front : (k : Copying) (cols inputs : List ℕ) → length cols ≤ length inputs → stands k cols (take (length cols) inputs) ≡ if_some (sources k cols) (λ cs. is_prefix cs inputs)
+stands-front k [] inputs h = refl
+stands-front k (c ∷ cs) [] h = absurd (omega arith)
+stands-front k (c ∷ cs) (x ∷ xs) h = front_cons (source k c) (sources k cs) x (take (length cs) xs) xs (stands-front k cs xs (omega arith))
 
 short_cons : (o : Option ℕ) (os : Option (List ℕ)) (x : ℕ) (xs : List ℕ) → if_some os (λ cs. is_prefix cs xs) ≡ false → if_some (cons_both o os) (λ cs. is_prefix cs (x ∷ xs)) ≡ false
 short_cons None os x xs h = refl
@@ -110,7 +85,7 @@ short_end None os = refl
 short_end (Some d) None = refl
 short_end (Some d) (Some ds) = refl
 
-pub stands-short : (f : ℕ → Option ℕ) (cols inputs : List ℕ) → length inputs < length cols → if_some (each_input f cols) (λ cs. is_prefix cs inputs) ≡ false
-stands-short f [] inputs h = absurd (omega arith)
-stands-short f (c ∷ cs) [] h = short_end (f c) (each_input f cs)
-stands-short f (c ∷ cs) (x ∷ xs) h = short_cons (f c) (each_input f cs) x xs (stands-short f cs xs (omega arith))
+pub stands-short : (k : Copying) (cols inputs : List ℕ) → length inputs < length cols → if_some (sources k cols) (λ cs. is_prefix cs inputs) ≡ false
+stands-short k [] inputs h = absurd (omega arith)
+stands-short k (c ∷ cs) [] h = short_end (source k c) (sources k cs)
+stands-short k (c ∷ cs) (x ∷ xs) h = short_cons (source k c) (sources k cs) x xs (stands-short k cs xs (omega arith))

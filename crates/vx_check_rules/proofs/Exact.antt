@@ -403,7 +403,7 @@ keys-exactly catalog (exchange n c k m p) cols e = key-whole (claim p).keys cols
 
 -- ---- the verdict
 
-keys-all : (catalog : ℕ → Relation) (p : Plan) (keys : List (List ℕ)) → list_all (λ k. within k (numbers_below (width catalog p))) keys ≡ true
+pub keys-all : (catalog : ℕ → Relation) (p : Plan) (keys : List (List ℕ)) → list_all (λ k. within k (numbers_below (width catalog p))) keys ≡ true
     → list_all (keys_of catalog p) keys ≡ list_all (shown_key (behaviour catalog p)) keys
 keys-all catalog p [] h = refl
 keys-all catalog p (k ∷ keys) h =

@@ -1,13 +1,12 @@
 pub mod BitFacts
 pub mod ColumnFacts
 pub mod CopyFacts
-pub mod KeyFacts
 pub mod PairFacts
 pub mod RuleFacts
 pub mod WidthFacts
+pub mod NamedKeys
 pub mod Refusals
 pub mod Bools
 pub mod Exact
 pub mod Carrying
-pub mod SourceFacts
 pub mod WayFacts

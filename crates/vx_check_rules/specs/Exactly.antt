@@ -2,7 +2,7 @@
 use Rattle.std.specs.Prelude.{ℕ, ◌≡◌, Bool, true, ◌||◌, List, [], ◌∷◌}
 use Rattle.std.specs.List.{list_all}
 use Rattle.vx_relations.specs.Relation.{Relation}
-use Rattle.vx_plan_nodes.specs.Plan.{Part, Plan, claim, size, is_one}
+use Rattle.vx_plan_nodes.specs.Plan.{Part, Plan, scan, unary, binary, exchange, claim, size, is_one}
 use Rattle.vx_plan_nodes.specs.Types.{width}
 use Rattle.vx_check_rules.specs.Rules.{sizes_match, not_replicated, order_given, inputs_match, unless_one, shows, orders, keys_of, within, numbers_below}
 use Rattle.vx_check_rules.specs.Refusal.{Rule, size_mismatch, part_not_shown, inputs_not_matched, replicated_input, order_not_shown, order_needed, key_not_shown, first_failure, node_tests}
@@ -36,6 +36,13 @@ behaviour_tests catalog p =
 -- the claimed keys of a node name its columns
 abbrev pub keys_name_columns : (ℕ → Relation) → Plan → Bool
 keys_name_columns catalog p = list_all (λ k. within k (numbers_below (width catalog p))) (claim p).keys
+
+-- and so at every node below
+abbrev pub KeysNameColumns : (ℕ → Relation) → Plan → Type 0
+KeysNameColumns catalog (scan n c r m z) = keys_name_columns catalog (scan n c r m z) ≡ true
+KeysNameColumns catalog (unary n c op p) = (keys_name_columns catalog (unary n c op p) ≡ true) × KeysNameColumns catalog p
+KeysNameColumns catalog (binary n c op p q) = (keys_name_columns catalog (binary n c op p q) ≡ true) × KeysNameColumns catalog p × KeysNameColumns catalog q
+KeysNameColumns catalog (exchange n c k m p) = (keys_name_columns catalog (exchange n c k m p) ≡ true) × KeysNameColumns catalog p
 
 -- the first test that fails at a node is the same, where its claimed keys name its columns
 abbrev pub VerdictsExactly : Type 0

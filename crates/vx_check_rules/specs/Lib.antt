@@ -4,11 +4,11 @@ pub mod Behaviour
 pub mod Exactly
 pub mod Carried
 pub mod Claims
-pub mod Copies
+pub mod Copied
 pub mod Pairs
-pub mod Joints
 pub mod RuleView
 pub mod Checked
 pub mod CheckedView
 pub mod WayView
 pub mod SortedView
+pub mod KeyedView

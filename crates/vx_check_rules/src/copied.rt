@@ -1,12 +1,14 @@
 //! The input columns that have copies among output columns, for many questions about the same ones.
 
-ghost use Rattle.std.specs.Prelude.{◌≡◌, ℕ, ◌<◌, ◌==◌, ◌||◌, nat_eq, Some};
+ghost use Rattle.std.specs.Prelude.{◌≡◌, ℕ, ◌<◌, ◌==◌, ◌||◌};
 ghost use Rattle.std.specs.List.{list_all};
-ghost use Rattle.std.specs.Option.{option_eq};
 ghost use Rattle.std.specs.Int.{bit_at};
-ghost use Rattle.vx_check_rules.specs.Copies.{has_copy, LowCopies};
+ghost use Rattle.vx_plan_nodes.specs.Phases.{first_columns};
+ghost use Rattle.vx_plan_nodes.specs.DescribeView.{copying_of};
+ghost use Rattle.vx_check_rules.specs.Behaviour.{is_column, has_copy};
+ghost use Rattle.vx_check_rules.specs.Copied.{LowCopies};
 
-use crate::copies::Copies;
+use vx_plan_nodes::Copying;
 
 // How many columns have a bit.
 const LOW: usize = 64;
@@ -15,15 +17,15 @@ const LOW: usize = 64;
 /// needs no walk over the output columns: a plan may claim thousands of keys, each of which is held against each key of the input.
 #[derive(Drop)]
 pub(crate) struct CopiedColumns<'a> {
-    copies: Copies<'a>,
+    copying: Copying<'a>,
     columns: &'a [usize],
     low: u64,
-    ghost bits: { LowCopies (has_copy copies columns.now) low },
+    ghost bits: { LowCopies (has_copy (copying_of copying) columns.now) low },
 }
 
 // The bits with one more input column.
 fn with_bit(low: u64, input: Option<usize>) -> u64
-    ensures { (c : ℕ) → c < 64 → (bit_at result c == 1) ≡ ((bit_at low c == 1) || option_eq nat_eq input (Some c)) }
+    ensures { (c : ℕ) → c < 64 → (bit_at result c == 1) ≡ ((bit_at low c == 1) || is_column input c) }
 {
     match input {
         Some(input) if input < LOW => low | 1 << input,
@@ -32,43 +34,67 @@ fn with_bit(low: u64, input: Option<usize>) -> u64
 }
 
 // A bit for each of the first input columns that has a copy.
-fn bits_of(copies: Copies<'_>, columns: &[usize]) -> u64
-    ensures { LowCopies (has_copy copies.entry columns.now) result }
+fn bits_of(copying: Copying<'_>, columns: &[usize]) -> u64
+    ensures { LowCopies (has_copy (copying_of copying.entry) columns.now) result }
 {
     let mut low = 0;
     for i in 0..columns.len() {
-        low = with_bit(low, copies.input(columns[i]));
+        low = with_bit(low, copying.source(columns[i]));
     }
     low
 }
 
+// Whether the column is there, and is this one.
+fn is_column(source: Option<usize>, column: usize) -> bool
+    ensures { result ≡ is_column source column }
+{
+    match source {
+        Some(source) => column == source,
+        None => false,
+    }
+}
+
 impl<'a> CopiedColumns<'a> {
     /// Of which these output columns have copies.
-    pub fn of(copies: Copies<'a>, columns: &'a [usize]) -> CopiedColumns<'a>
-        ensures copies { result.copies ≡ copies.entry }
+    pub fn of(copying: Copying<'a>, columns: &'a [usize]) -> CopiedColumns<'a>
+        ensures copying { result.copying ≡ copying.entry }
         ensures columns { result.columns.now ≡ columns.now }
     {
         CopiedColumns {
-            copies,
+            copying,
             columns,
-            low: bits_of(copies, columns),
+            low: bits_of(copying, columns),
         }
     }
 
     // Whether this input column has a copy.
     fn has(&self, input: usize) -> bool
-        ensures { result ≡ has_copy self.now.copies self.now.columns.now input }
+        ensures { result ≡ has_copy (copying_of self.now.copying) self.now.columns.now input }
     {
         if input < LOW {
             return self.low >> input & 1 == 1;
         }
-        self.copies.is_copied(self.columns, input)
+        self.columns
+            .iter()
+            .any(|column| is_column(self.copying.source(*column), input))
     }
 
     /// Whether each of these input columns has a copy.
     pub fn has_all(&self, inputs: &[usize]) -> bool
-        ensures { result ≡ list_all (has_copy self.now.copies self.now.columns.now) inputs.now }
+        ensures { result ≡ list_all (has_copy (copying_of self.now.copying) self.now.columns.now) inputs.now }
     {
         inputs.iter().all(|input| self.has(*input))
+    }
+
+    /// Whether each of the first input columns, so many, has a copy.
+    pub fn has_first(&self, count: usize) -> bool
+        ensures { result ≡ list_all (has_copy (copying_of self.now.copying) self.now.columns.now) (first_columns count) }
+    {
+        for input in 0..count {
+            if !self.has(input) {
+                return false;
+            }
+        }
+        true
     }
 }

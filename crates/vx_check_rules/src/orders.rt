@@ -7,8 +7,8 @@ ghost use Rattle.vx_plan_nodes.specs.Outline.{outline_of, plan_of};
 ghost use Rattle.vx_check_rules.specs.Rules.{order_given, order_shown, is_total_order};
 ghost use Rattle.vx_plan_nodes.specs.Outputs.{HasOutputs};
 
-use crate::columns::{has_first, is_prefix};
-use crate::copies::is_covered;
+use crate::columns::is_prefix;
+use crate::keyed::{KeysSeen, whole};
 use crate::nodes::{claimed_keys, claimed_order, width_of};
 use crate::pairs::{Input, are_prefix};
 use crate::sortings::{node_sortings, show_order};
@@ -44,5 +44,6 @@ pub fn is_order_total(node: &TypedNode) -> bool
     ensures { (catalog : ℕ → Relation) → HasOutputs catalog (outline_of node.now) → result ≡ is_total_order catalog (plan_of node.now) }
 {
     let order = claimed_order(node);
-    is_covered(claimed_keys(node), order) || has_first(order, width_of(node))
+    whole(KeysSeen::Listed(claimed_keys(node))).have(order)
+        || whole(KeysSeen::First(width_of(node))).have(order)
 }

@@ -1,11 +1,12 @@
 //! The first refused node of a plan.
 
-ghost use Rattle.std.specs.Prelude.{◌≡◌, ℕ, option_map};
+ghost use Rattle.std.specs.Prelude.{◌≡◌, ℕ, true, option_map};
 ghost use Rattle.vx_relations.specs.Relation.{Relation};
 ghost use Rattle.vx_relations.specs.Catalog.{relation_at};
 ghost use Rattle.vx_plan_nodes.specs.Plan.{number};
 ghost use Rattle.vx_plan_nodes.specs.Outline.{outline_of, plan_of};
 ghost use Rattle.vx_check_rules.specs.Refusal.{first_failure, node_tests, root_tests, or_else, refused_at, first_refused, refusal};
+ghost use Rattle.vx_check_rules.specs.Exactly.{keys_name_columns, KeysNameColumns};
 ghost use Rattle.vx_check_rules.specs.RuleView.{rule_of, refusal_of};
 ghost use Rattle.vx_plan_nodes.specs.Outputs.{HasOutputs};
 
@@ -20,7 +21,8 @@ use vx_relations::Catalog;
 
 /// The first of a node's tests that fails, where the node is judged by what it and its inputs claim.
 pub fn failure_at(catalog: &Catalog, node: &TypedNode) -> Option<Rule>
-    requires { HasOutputs (relation_at catalog.now) (outline_of node.now) }
+    requires outputs { HasOutputs (relation_at catalog.now) (outline_of node.now) }
+    requires keys { keys_name_columns (relation_at catalog.now) (plan_of node.now) ≡ true }
     ensures { option_map rule_of result ≡ first_failure (node_tests (relation_at catalog.now) (plan_of node.now)) }
 {
     if !do_sizes_match(node) {
@@ -62,7 +64,8 @@ pub fn root_failure(is_total: bool, root: &TypedNode) -> Option<Rule>
 
 // The node with the first of its tests that fails.
 fn refused_here(catalog: &Catalog, node: &TypedNode) -> Option<(u32, Rule)>
-    requires { HasOutputs (relation_at catalog.now) (outline_of node.now) }
+    requires outputs { HasOutputs (relation_at catalog.now) (outline_of node.now) }
+    requires keys { KeysNameColumns (relation_at catalog.now) (plan_of node.now) }
     ensures { option_map refusal_of result ≡ refused_at (number (plan_of node.now)) (node_tests (relation_at catalog.now) (plan_of node.now)) }
 {
     failure_at(catalog, node).map(|rule| (node.head().number, rule))
@@ -74,7 +77,8 @@ fn or_refused_here(
     catalog: &Catalog,
     node: &TypedNode,
 ) -> Option<(u32, Rule)>
-    requires { HasOutputs (relation_at catalog.now) (outline_of node.now) }
+    requires outputs { HasOutputs (relation_at catalog.now) (outline_of node.now) }
+    requires keys { KeysNameColumns (relation_at catalog.now) (plan_of node.now) }
     ensures { option_map refusal_of result ≡ or_else (option_map refusal_of below) (refused_at (number (plan_of node.now)) (node_tests (relation_at catalog.now) (plan_of node.now))) }
 {
     below.or_else(|| refused_here(catalog, node))
@@ -82,7 +86,8 @@ fn or_refused_here(
 
 // The first refused node in post-order, and the first of its tests that fails.
 fn first_refused_in(catalog: &Catalog, node: &TypedNode) -> Option<(u32, Rule)>
-    requires { HasOutputs (relation_at catalog.now) (outline_of node.now) }
+    requires outputs { HasOutputs (relation_at catalog.now) (outline_of node.now) }
+    requires keys { KeysNameColumns (relation_at catalog.now) (plan_of node.now) }
     ensures { option_map refusal_of result ≡ first_refused (relation_at catalog.now) (plan_of node.now) }
 {
     match node {
@@ -116,7 +121,8 @@ fn refused_root(is_total: bool, root: &TypedNode) -> Option<(u32, Rule)>
 
 /// What refuses the plan: a node and a rule. The root's own tests are the last.
 pub fn refusal_in(catalog: &Catalog, is_total: bool, root: &TypedNode) -> Option<(u32, Rule)>
-    requires { HasOutputs (relation_at catalog.now) (outline_of root.now) }
+    requires outputs { HasOutputs (relation_at catalog.now) (outline_of root.now) }
+    requires keys { KeysNameColumns (relation_at catalog.now) (plan_of root.now) }
     ensures { option_map refusal_of result ≡ refusal (relation_at catalog.now) is_total (plan_of root.now) }
 {
     first_refused_in(catalog, root).or_else(|| refused_root(is_total, root))

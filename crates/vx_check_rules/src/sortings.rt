@@ -60,17 +60,6 @@ fn only<'p>(sorted: Sorted<'p>) -> [Option<Sorted<'p>>; 2]
     [Some(sorted), None]
 }
 
-// The order that a relation declares.
-fn declared_order(catalog: &Catalog, relation: usize) -> &[usize]
-    ensures { result.now ≡ (relation_at catalog.now relation).order }
-{
-    if relation < catalog.len() {
-        catalog.get(relation).order()
-    } else {
-        &[]
-    }
-}
-
 // The order of the output's rows, over rows that are sorted on `below`.
 fn order_after<'p>(order: OrderAfter<'p>, below: &'p [usize]) -> &'p [usize]
     ensures { result.now ≡ order_after (order_after_of order.entry) below.now }
@@ -144,7 +133,7 @@ pub fn node_sortings<'p>(catalog: &'p Catalog, node: &'p TypedNode) -> [Option<S
     ensures { sortings_in result ≡ (behaviour (relation_at catalog.now) (plan_of node.now)).sortings }
 {
     match node {
-        TypedNode::Scan(_, scan) => only(whole(declared_order(catalog, scan.relation))),
+        TypedNode::Scan(_, scan) => only(whole(catalog.order_of(scan.relation))),
         TypedNode::Unary(_, operator, input) => {
             only(sorted_over(operator.described(), claimed_order(input)))
         }

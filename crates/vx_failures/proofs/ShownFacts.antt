@@ -14,10 +14,16 @@ use Rattle.vx_plan_nodes.specs.declared.typed.Claim as rust_claim
 use Rattle.vx_plan_nodes.specs.Types.{width}
 use Rattle.vx_plan.proofs.PhaseFacts.{first_push}
 use Rattle.vx_check_rules.specs.Rules.{numbers_eq, route_eq, part_gives, has, not_replicated, contains, within, is_prefix, cons_both, copied, if_some, unless_one, left_columns, right_columns, routed_alike, through, sizes_match, order_given, binary_inputs_match, inputs_match, unary_shows, alike_shows, join_shows, both_have, kind_shows, shows, goes_on, orders, covers, numbers_below, unary_keys, shifted, keys_of}
-use Rattle.vx_check_rules.specs.Joints.{held_keys}
 use Rattle.vx_check_rules.proofs.Exact.{through-unless, join-unless}
 use Rattle.vx_check_rules.specs.Refusal.{Rule, size_mismatch, replicated_input, inputs_not_matched, order_needed, part_not_shown, order_not_shown, key_not_shown, first_failure, node_tests}
 use Rattle.vx_failures.specs.Shown.{Shows, kept_place, left_place, right_place, places, place_then, front_places, kept_keys, routed_at, kept_part, of_several, unary_part, join_part, several_part, node_part, node_order, unary_shown_keys, first_pair, held_shown_keys, node_keys, is_of_claim, claim_with, shown_claim}
+
+-- the keys that a join shows, where it is known whether the right input is joined on a key, and the left one
+abbrev held_keys : (right_held left_held : Bool) → ℕ → List (List ℕ) → List (List ℕ) → List ℕ → Bool
+held_keys right_held left_held w lefts rights x =
+    (covers lefts x && covers (map (shifted w) rights) x)
+    || (covers lefts x && right_held)
+    || (covers (map (shifted w) rights) x && left_held)
 
 -- ---- lists of columns
 

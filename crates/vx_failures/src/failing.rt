@@ -6,6 +6,7 @@ ghost use Rattle.vx_relations.specs.Catalog.{relation_at};
 ghost use Rattle.vx_plan_nodes.specs.Plan.{number};
 ghost use Rattle.vx_plan_nodes.specs.Outline.{outline_of, plan_of};
 ghost use Rattle.vx_plan_nodes.specs.Outputs.{HasOutputs};
+ghost use Rattle.vx_check_rules.specs.Exactly.{KeysNameColumns};
 ghost use Rattle.vx_check_rules.specs.Refusal.{node_tests, root_tests, or_else, refused_at};
 ghost use Rattle.vx_check_rules.specs.Checked.{refusal_of_plan};
 ghost use Rattle.vx_failures.specs.Failures.{listed, failures_in, failures_below};
@@ -19,7 +20,8 @@ use vx_relations::Catalog;
 
 // The node with the first of its tests that fails.
 fn failed_at(catalog: &Catalog, node: &TypedNode) -> Option<Failure>
-    requires { HasOutputs (relation_at catalog.now) (outline_of node.now) }
+    requires outputs { HasOutputs (relation_at catalog.now) (outline_of node.now) }
+    requires keys { KeysNameColumns (relation_at catalog.now) (plan_of node.now) }
     ensures { option_map failure_is result ≡ refused_at (number (plan_of node.now)) (node_tests (relation_at catalog.now) (plan_of node.now)) }
 {
     let rule = failure_at(catalog, node)?;
@@ -53,7 +55,8 @@ fn put_failures(
     catalog: &Catalog,
     node: &TypedNode,
 ) -> Result<(), AllocError>
-    requires { HasOutputs (relation_at catalog.now) (outline_of node.now) }
+    requires outputs { HasOutputs (relation_at catalog.now) (outline_of node.now) }
+    requires keys { KeysNameColumns (relation_at catalog.now) (plan_of node.now) }
     ensures { OnOk result (map failure_is failures.new.items ≡ map failure_is failures.old.items ++ failures_in (relation_at catalog.now) (plan_of node.now)) }
 {
     match node {
@@ -80,7 +83,8 @@ fn put_failures_below(
     catalog: &Catalog,
     node: &TypedNode,
 ) -> Result<(), AllocError>
-    requires { HasOutputs (relation_at catalog.now) (outline_of node.now) }
+    requires outputs { HasOutputs (relation_at catalog.now) (outline_of node.now) }
+    requires keys { KeysNameColumns (relation_at catalog.now) (plan_of node.now) }
     ensures { OnOk result (map failure_is failures.new.items ≡ map failure_is failures.old.items ++ failures_below (relation_at catalog.now) (plan_of node.now)) }
 {
     match node {
@@ -96,7 +100,8 @@ fn put_failures_below(
 
 // The root with the first of its tests that fails, its own after those of every node.
 fn failed_at_root(catalog: &Catalog, is_total: bool, root: &TypedNode) -> Option<Failure>
-    requires { HasOutputs (relation_at catalog.now) (outline_of root.now) }
+    requires outputs { HasOutputs (relation_at catalog.now) (outline_of root.now) }
+    requires keys { KeysNameColumns (relation_at catalog.now) (plan_of root.now) }
     ensures { option_map failure_is result ≡ or_else (refused_at (number (plan_of root.now)) (node_tests (relation_at catalog.now) (plan_of root.now)))
         (refused_at (number (plan_of root.now)) (root_tests (relation_at catalog.now) is_total (plan_of root.now))) }
 {

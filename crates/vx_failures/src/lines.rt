@@ -2,9 +2,10 @@
 
 ghost use Rattle.std.specs.Prelude.{◌≡◌, ◌++◌, map, option_map, string_bytes, OnOk, IfOk, IfSome};
 ghost use Rattle.vx_relations.specs.Catalog.{relation_at};
-ghost use Rattle.vx_plan_nodes.specs.Outline.{columns, claim_of, outline_of};
+ghost use Rattle.vx_plan_nodes.specs.Outline.{columns, claim_of, outline_of, plan_of};
 ghost use Rattle.vx_plan_nodes.specs.Outputs.{HasOutputs};
 ghost use Rattle.vx_plan_nodes.specs.TypedView.{names_in, resolved_of};
+ghost use Rattle.vx_check_rules.specs.Exactly.{KeysNameColumns};
 ghost use Rattle.vx_check_rules.specs.RuleView.{rule_of};
 ghost use Rattle.vx_failures.specs.Lines.{rule_text, claim_text, shown_text, line_of, lines_of};
 ghost use Rattle.vx_failures.specs.FailureView.{failure_is};
@@ -68,7 +69,7 @@ fn push_shown(
     plan: &TypedPlan,
     node: Option<&TypedNode>,
 ) -> Result<(), AllocError>
-    requires { IfSome node (λ n. HasOutputs (relation_at (names_in plan.now).catalog) (outline_of n.now)) }
+    requires { IfSome node (λ n. HasOutputs (relation_at (names_in plan.now).catalog) (outline_of n.now) × KeysNameColumns (relation_at (names_in plan.now).catalog) (plan_of n.now)) }
     ensures { OnOk result (string_bytes text.new ≡ string_bytes text.old ++ shown_text (names_in plan.now) (option_map (λ n. outline_of n.now) node.entry)) }
 {
     let Some(node) = node else {

@@ -1,9 +1,10 @@
 //! The claim that the rule table shows at a node.
 
-ghost use Rattle.std.specs.Prelude.{◌≡◌, option_map, IfOk, IfSome};
+ghost use Rattle.std.specs.Prelude.{◌≡◌, true, option_map, IfOk, IfSome};
 ghost use Rattle.vx_relations.specs.Catalog.{relation_at};
 ghost use Rattle.vx_plan_nodes.specs.Outline.{claim_of, outline_of, plan_of};
 ghost use Rattle.vx_plan_nodes.specs.Outputs.{HasOutputs};
+ghost use Rattle.vx_check_rules.specs.Exactly.{keys_name_columns};
 ghost use Rattle.vx_check_rules.specs.RuleView.{rule_of};
 ghost use Rattle.vx_failures.specs.Shown.{Shows, is_of_claim, claim_with, node_part, shown_claim};
 
@@ -46,7 +47,8 @@ pub fn shown_claim(
     catalog: &Catalog,
     node: &TypedNode,
 ) -> Result<Option<Claim>, AllocError>
-    requires { HasOutputs (relation_at catalog.now) (outline_of node.now) }
+    requires outputs { HasOutputs (relation_at catalog.now) (outline_of node.now) }
+    requires keys { keys_name_columns (relation_at catalog.now) (plan_of node.now) ≡ true }
     ensures claim { IfOk result (λ o. option_map claim_of o ≡ shown_claim (relation_at catalog.now) (plan_of node.now)) }
     ensures shown { IfOk result (λ o. IfSome o (λ c. Shows (relation_at catalog.now) (plan_of node.now) (claim_of c))) }
 {

@@ -38,32 +38,32 @@ no-failure catalog p f h k l = rw (f.sizes, f.once, f.inputs, f.order, h, k, l) 
 pub returns-then-not-do_inputs_match : goal.returns-then-not-do_inputs_match
 returns-then-not-do_inputs_match c =
     no-inputs (relation_at c.args.catalog.now) (plan_of c.args.node.now) (sym c.do_sizes_match.ensures ∙ c.if-not-do_sizes_match.false) (sym c.is_not_replicated.ensures ∙ c.if-not-is_not_replicated.false)
-    (sym (c.do_inputs_match.ensures (relation_at c.args.catalog.now) c.requires) ∙ c.if-not-do_inputs_match.true)
+    (sym (c.do_inputs_match.ensures (relation_at c.args.catalog.now) c.requires.outputs) ∙ c.if-not-do_inputs_match.true)
 
 pub returns-then-not-is_order_given : goal.returns-then-not-is_order_given
 returns-then-not-is_order_given c =
     not-given (relation_at c.args.catalog.now) (plan_of c.args.node.now) (sym c.do_sizes_match.ensures ∙ c.if-not-do_sizes_match.false) (sym c.is_not_replicated.ensures ∙ c.if-not-is_not_replicated.false)
-    (sym (c.do_inputs_match.ensures (relation_at c.args.catalog.now) c.requires) ∙ c.if-not-do_inputs_match.false) (sym c.is_order_given.ensures ∙ c.if-not-is_order_given.true)
+    (sym (c.do_inputs_match.ensures (relation_at c.args.catalog.now) c.requires.outputs) ∙ c.if-not-do_inputs_match.false) (sym c.is_order_given.ensures ∙ c.if-not-is_order_given.true)
 
 pub returns-then-not-is_part_shown : goal.returns-then-not-is_part_shown
 returns-then-not-is_part_shown c =
     let fits : Fits (plan_of c.args.node.now) = record {
       sizes = sym c.do_sizes_match.ensures ∙ c.if-not-do_sizes_match.false;
       once = sym c.is_not_replicated.ensures ∙ c.if-not-is_not_replicated.false;
-      inputs = sym (c.do_inputs_match.ensures (relation_at c.args.catalog.now) c.requires) ∙ c.if-not-do_inputs_match.false;
+      inputs = sym (c.do_inputs_match.ensures (relation_at c.args.catalog.now) c.requires.outputs) ∙ c.if-not-do_inputs_match.false;
       order = sym c.is_order_given.ensures ∙ c.if-not-is_order_given.false;
     } in
-    no-part (relation_at c.args.catalog.now) (plan_of c.args.node.now) fits (sym (c.is_part_shown.ensures (relation_at c.args.catalog.now) c.requires fits.inputs) ∙ c.if-not-is_part_shown.true)
+    no-part (relation_at c.args.catalog.now) (plan_of c.args.node.now) fits (sym (c.is_part_shown.ensures (relation_at c.args.catalog.now) c.requires.outputs fits.inputs) ∙ c.if-not-is_part_shown.true)
 
 pub returns-then-not-is_order_shown : goal.returns-then-not-is_order_shown
 returns-then-not-is_order_shown c =
     let fits : Fits (plan_of c.args.node.now) = record {
       sizes = sym c.do_sizes_match.ensures ∙ c.if-not-do_sizes_match.false;
       once = sym c.is_not_replicated.ensures ∙ c.if-not-is_not_replicated.false;
-      inputs = sym (c.do_inputs_match.ensures (relation_at c.args.catalog.now) c.requires) ∙ c.if-not-do_inputs_match.false;
+      inputs = sym (c.do_inputs_match.ensures (relation_at c.args.catalog.now) c.requires.outputs) ∙ c.if-not-do_inputs_match.false;
       order = sym c.is_order_given.ensures ∙ c.if-not-is_order_given.false;
     } in
-    no-order (relation_at c.args.catalog.now) (plan_of c.args.node.now) fits (sym (c.is_part_shown.ensures (relation_at c.args.catalog.now) c.requires fits.inputs) ∙ c.if-not-is_part_shown.false)
+    no-order (relation_at c.args.catalog.now) (plan_of c.args.node.now) fits (sym (c.is_part_shown.ensures (relation_at c.args.catalog.now) c.requires.outputs fits.inputs) ∙ c.if-not-is_part_shown.false)
     (sym c.is_order_shown.ensures ∙ c.if-not-is_order_shown.true)
 
 pub returns-then-not-are_keys_shown : goal.returns-then-not-are_keys_shown
@@ -71,10 +71,10 @@ returns-then-not-are_keys_shown c =
     let fits : Fits (plan_of c.args.node.now) = record {
       sizes = sym c.do_sizes_match.ensures ∙ c.if-not-do_sizes_match.false;
       once = sym c.is_not_replicated.ensures ∙ c.if-not-is_not_replicated.false;
-      inputs = sym (c.do_inputs_match.ensures (relation_at c.args.catalog.now) c.requires) ∙ c.if-not-do_inputs_match.false;
+      inputs = sym (c.do_inputs_match.ensures (relation_at c.args.catalog.now) c.requires.outputs) ∙ c.if-not-do_inputs_match.false;
       order = sym c.is_order_given.ensures ∙ c.if-not-is_order_given.false;
     } in
-    no-keys (relation_at c.args.catalog.now) (plan_of c.args.node.now) fits (sym (c.is_part_shown.ensures (relation_at c.args.catalog.now) c.requires fits.inputs) ∙ c.if-not-is_part_shown.false)
+    no-keys (relation_at c.args.catalog.now) (plan_of c.args.node.now) fits (sym (c.is_part_shown.ensures (relation_at c.args.catalog.now) c.requires.outputs fits.inputs) ∙ c.if-not-is_part_shown.false)
     (sym c.is_order_shown.ensures ∙ c.if-not-is_order_shown.false) (sym c.are_keys_shown.ensures ∙ c.if-not-are_keys_shown.true)
 
 pub returns : goal.returns
@@ -82,8 +82,8 @@ returns c =
     let fits : Fits (plan_of c.args.node.now) = record {
       sizes = sym c.do_sizes_match.ensures ∙ c.if-not-do_sizes_match.false;
       once = sym c.is_not_replicated.ensures ∙ c.if-not-is_not_replicated.false;
-      inputs = sym (c.do_inputs_match.ensures (relation_at c.args.catalog.now) c.requires) ∙ c.if-not-do_inputs_match.false;
+      inputs = sym (c.do_inputs_match.ensures (relation_at c.args.catalog.now) c.requires.outputs) ∙ c.if-not-do_inputs_match.false;
       order = sym c.is_order_given.ensures ∙ c.if-not-is_order_given.false;
     } in
-    no-failure (relation_at c.args.catalog.now) (plan_of c.args.node.now) fits (sym (c.is_part_shown.ensures (relation_at c.args.catalog.now) c.requires fits.inputs) ∙ c.if-not-is_part_shown.false)
+    no-failure (relation_at c.args.catalog.now) (plan_of c.args.node.now) fits (sym (c.is_part_shown.ensures (relation_at c.args.catalog.now) c.requires.outputs fits.inputs) ∙ c.if-not-is_part_shown.false)
     (sym c.is_order_shown.ensures ∙ c.if-not-is_order_shown.false) (sym c.are_keys_shown.ensures ∙ c.if-not-are_keys_shown.false)

@@ -1,8 +1,16 @@
 use Rattle.std.proofs.Common.{◌∙◌, slice_get, ap}
 use Rattle.vx_check_rules.specs.Checked.{relations}
-use Rattle.vx_plan_nodes.specs.TypedView.{plan, resolved_of}
+use Rattle.vx_plan_nodes.specs.Outline.{plan_of}
+use Rattle.vx_plan_nodes.specs.TypedView.{plan, scope, resolved_of}
+use Rattle.vx_check_rules.proofs.NamedKeys.{typed-keys}
 use Rattle.vx_failures.proofs.FailureFacts.{first_failure_refused, put_behind}
 use Rattle.vx_failures.proofs.failing.failures.Goals as goal
+
+pub put_failures_below-requires-clause-keys : goal.put_failures_below-requires-clause-keys
+put_failures_below-requires-clause-keys c = rw c.catalog-catalog.ensures (typed-keys (scope c.args.plan.now) (plan_of c.root-root.result.now) c.root-root.ensures.typed.nodes)
+
+pub failed_at_root-requires-clause-keys : goal.failed_at_root-requires-clause-keys
+failed_at_root-requires-clause-keys c = rw c.catalog-catalog.ensures (typed-keys (scope c.args.plan.now) (plan_of c.root-root.result.now) c.root-root.ensures.typed.nodes)
 
 pub returns-clause-all : goal.returns-clause-all
 returns-clause-all c =
