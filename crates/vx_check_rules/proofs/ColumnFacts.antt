@@ -1,9 +1,9 @@
 -- Lists of columns, in the words of the program's tests.
-use Rattle.std.proofs.Common.{◌≡◌, ℕ, zero, suc, ◌+◌, ◌-◌, ◌<◌, Bool, List, [], ◌∷◌, length, take, nat_lt, ◌==◌, ◌&&◌, ◌||◌, refl, sym, ap, ◌∙◌, arith, add-one, eqb}
+use Rattle.std.proofs.Common.{◌≡◌, ℕ, zero, suc, ◌+◌, ◌-◌, ◌<◌, Bool, List, [], ◌∷◌, ◌++◌, length, take, nat_lt, ◌==◌, ◌&&◌, ◌||◌, refl, sym, ap, ◌∙◌, arith, add-one, eqb}
 use Rattle.std.specs.List.{list_all, list_any}
 use Rattle.std.specs.Cmp.Lexicographic.{pointwise}
 use Rattle.std.proofs.lemmas.Bool.Decides.{nat_tests}
-use Rattle.vx_plan_nodes.specs.Phases.{columns_from}
+use Rattle.vx_plan_nodes.specs.Phases.{columns_from, first_columns}
 use Rattle.vx_check_rules.specs.Rules.{numbers_eq, contains, within, is_prefix, numbers_below}
 
 pub list_all-ext : {X : Type 0} (p q : X → Bool) (xs : List X) → ((x : X) → p x ≡ q x) → list_all p xs ≡ list_all q xs
@@ -33,6 +33,17 @@ within-below n xs = list_all-ext _ _ xs (λ c. sym (contains-below n c))
 -- this column, and those behind it
 pub columns-here : (test : ℕ → Bool) (i n : ℕ) → i < n → list_all test (columns_from i (n - i)) ≡ (test i && list_all test (columns_from (i + 1) (n - (i + 1))))
 columns-here test i n h = let e : n - i ≡ suc (n - suc i) = omega arith in rw (e, add-one) refl
+
+-- one column more
+columns-push : (i n : ℕ) → columns_from i (suc n) ≡ columns_from i n ++ (i + n) ∷ []
+columns-push i zero = let z : i + 0 ≡ i = omega arith in ap (λ x. x ∷ []) (sym z)
+columns-push i (suc n) = let e : suc i + n ≡ i + suc n = omega arith in ap (λ xs. i ∷ xs) (columns-push (suc i) n ∙ ap (λ x. columns_from (suc i) n ++ x ∷ []) e)
+
+pub first-suc : (n : ℕ) → first_columns (suc n) ≡ first_columns n ++ n ∷ []
+first-suc n = let z : 0 + n ≡ n = omega arith in columns-push 0 n ∙ ap (λ x. first_columns n ++ x ∷ []) z
+
+pub first_push : (n : ℕ) → first_columns (n + 1) ≡ first_columns n ++ n ∷ []
+first_push n = rw add-one (first-suc n)
 
 -- texts are compared byte by byte
 pub numbers-pointwise : (xs ys : List ℕ) → pointwise eqb xs ys ≡ numbers_eq xs ys

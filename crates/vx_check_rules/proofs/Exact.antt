@@ -8,7 +8,7 @@ use Rattle.vx_relations.specs.Relation.{Relation}
 use Rattle.vx_relations.proofs.NameFacts.{list_any-map}
 use Rattle.vx_plan_nodes.specs.Plan.{Route, Part, one, any, all, routed, Claim, Unary, select, project, distinct, sort, group, plain, partial, final, union, join, ExchangeKind, route_to, round, broadcast, gather, concat, Plan, scan, unary, binary, exchange, claim, size, is_one, target}
 use Rattle.vx_plan_nodes.specs.Parts.{kind_part}
-use Rattle.vx_plan_nodes.specs.Phases.{columns_from, first_columns}
+use Rattle.vx_plan_nodes.specs.Phases.{first_columns}
 use Rattle.vx_plan_nodes.specs.Types.{width}
 use Rattle.vx_plan_nodes.specs.Describe.{Copying, whole_rows, columns_kept, left_of, right_of, source, described}
 use Rattle.vx_check_rules.specs.Rules.{part_gives, has, contains, within, is_prefix, cons_both, if_some, unless_one, through, copied, left_columns, right_columns, routed_within, routed_alike, alike_shows, join_shows, both_have, kind_shows, unary_shows, keeps_apart, sizes_match, not_replicated, inputs_match, order_given, part_shown, order_shown, covers, numbers_below, shifted, goes_on, orders, keys_of, keys_shown, join_keys}
@@ -16,7 +16,7 @@ use Rattle.vx_check_rules.specs.Refusal.{size_mismatch, part_not_shown, inputs_n
 use Rattle.vx_check_rules.specs.Behaviour.{sources, Way, way, sorted_by, keyed_by, if_so, own, bare, over, ways_over, keyed_held, behaviour, fits, each_has, gives, sorts, is_column, has_copy, has_key, keys_give, shown_part, shown_order, shown_key}
 use Rattle.vx_check_rules.specs.Exactly.{FitsExactly, PartsExactly, OrdersExactly, KeysExactly, VerdictsExactly}
 use Rattle.vx_check_rules.proofs.Bools.{or-false, or-true, and-true, or-assoc, or-swap, or-again, any-if}
-use Rattle.vx_check_rules.proofs.ColumnFacts.{list_all-ext, list_any-ext, contains-below}
+use Rattle.vx_check_rules.proofs.ColumnFacts.{list_all-ext, list_any-ext, contains-below, first-suc}
 
 -- ---- columns
 
@@ -362,17 +362,11 @@ join-keys on w lefts rights cols =
     ap (λ r. ((covers lefts cols && r) || (covers lefts cols && a)) || (r && b)) (covers-behind w rights cols) ∙ held a b (whole_rows, lefts) (right_of w, rights) cols
 
 -- the first columns are the numbers below
-columns-push : (i n : ℕ) → columns_from i (suc n) ≡ columns_from i n ++ (i + n) ∷ []
-columns-push i zero = let z : i + 0 ≡ i = omega arith in ap (λ x. x ∷ []) (sym z)
-columns-push i (suc n) = let e : suc i + n ≡ i + suc n = omega arith in ap (λ xs. i ∷ xs) (columns-push (suc i) n ∙ ap (λ x. columns_from (suc i) n ++ x ∷ []) e)
-
 pub all-first : (test : ℕ → Bool) (n : ℕ) → list_all test (numbers_below n) ≡ list_all test (first_columns n)
 all-first test zero = refl
 all-first test (suc n) =
-    let z : 0 + n ≡ n = omega arith in
     ap (λ b. test n && b) (all-first test n)
-    ∙ (swap (test n) (list_all test (first_columns n))
-    ∙ sym (ap (list_all test) (columns-push 0 n ∙ ap (λ x. first_columns n ++ x ∷ []) z) ∙ list_all-append test (first_columns n) (n ∷ [])))
+    ∙ (swap (test n) (list_all test (first_columns n)) ∙ sym (ap (list_all test) (first-suc n) ∙ list_all-append test (first_columns n) (n ∷ [])))
   where
     swap : (a b : Bool) → (a && b) ≡ (b && (a && true))
     swap true true = refl

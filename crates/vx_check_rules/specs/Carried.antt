@@ -31,6 +31,10 @@ with_claim d (unary n c op p) = unary n d op p
 with_claim d (binary n c op p q) = binary n d op p q
 with_claim d (exchange n c k m p) = exchange n d k m p
 
+-- with this claim in place of its own no test of the node fails
+abbrev pub Shows : (ℕ → Relation) → Plan → Claim → Type 0
+Shows catalog p c = first_failure (node_tests catalog (with_claim c p)) ≡ None
+
 -- what is carried up to a node, with this part
 abbrev pub carried : (ℕ → Relation) → Plan → Part → Claim
 carried catalog p q = record { part = q; order = node_order catalog p; keys = node_keys catalog p }
@@ -38,4 +42,4 @@ carried catalog p q = record { part = q; order = node_order catalog p; keys = no
 -- where an operator fits its inputs, no test of the node fails with what is carried up in place of its claim
 abbrev pub CarriedIsShown : Type 0
 CarriedIsShown = (catalog : ℕ → Relation) (p : Plan) (q : Part) → sizes_match p ≡ true → not_replicated p ≡ true → inputs_match p ≡ true → order_given p ≡ true
-    → node_part catalog p ≡ Some q → first_failure (node_tests catalog (with_claim (carried catalog p q) p)) ≡ None
+    → node_part catalog p ≡ Some q → Shows catalog p (carried catalog p q)

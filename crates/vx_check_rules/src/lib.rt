@@ -1,6 +1,8 @@
 //! The rule table: the claims of a plan follow, or the first that does not is refused.
 #![tactic(auto)]
 
+mod carried;
+mod carried_keys;
 mod checked;
 mod checking;
 mod columns;
@@ -13,6 +15,7 @@ mod nodes;
 mod orders;
 mod pairs;
 mod parts;
+mod places;
 mod refusal;
 mod refused;
 mod rule;
@@ -21,6 +24,8 @@ mod sortings;
 mod sources;
 mod ways;
 
+pub use carried::{node_order, node_part};
+pub use carried_keys::node_keys;
 pub use checked::CheckedPlan;
 pub use checking::check;
 pub use laws::{

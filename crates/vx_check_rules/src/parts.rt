@@ -47,28 +47,35 @@ pub fn is_same_route(route: &Route, other: &Route) -> bool
 }
 
 // Whether a part that is routed by this route on these columns gives the wanted one.
-fn route_gives(route: &Route, columns: &[usize], wanted: &Part) -> bool
-    ensures { result ≡ part_gives (routed (route_of route.now) columns.now) (part_of wanted.now) }
+fn route_gives(route: &Route, columns: &[usize], wanted: PartSeen<'_>) -> bool
+    ensures { result ≡ part_gives (routed (route_of route.now) columns.now) (part_seen wanted.entry) }
 {
     match wanted {
-        Part::One | Part::All => false,
-        Part::Any => true,
-        Part::Routed(other, others) => is_same_route(route, other)
-            && are_same(columns, others.as_slice()),
+        PartSeen::One | PartSeen::All => false,
+        PartSeen::Any => true,
+        PartSeen::Routed(other, others) => is_same_route(route, other) && are_same(columns, others),
     }
 }
 
 impl PartSeen<'_> {
     /// Whether the wanted part is this one, or any where this one is routed.
-    pub fn gives(self, wanted: &Part) -> bool
-        ensures { result ≡ part_gives (part_seen self.entry) (part_of wanted.now) }
+    pub fn gives_seen(self, wanted: PartSeen<'_>) -> bool
+        ensures { result ≡ part_gives (part_seen self.entry) (part_seen wanted.entry) }
     {
         match (self, wanted) {
-            (PartSeen::One, Part::One) | (PartSeen::Any, Part::Any) | (PartSeen::All, Part::All) =>
-                true,
+            (PartSeen::One, PartSeen::One)
+            | (PartSeen::Any, PartSeen::Any)
+            | (PartSeen::All, PartSeen::All) => true,
             (PartSeen::Routed(route, columns), _) => route_gives(route, columns, wanted),
             _ => false,
         }
+    }
+
+    /// The same of a part that owns its columns.
+    pub fn gives(self, wanted: &Part) -> bool
+        ensures { result ≡ part_gives (part_seen self.entry) (part_of wanted.now) }
+    {
+        self.gives_seen(seen(wanted))
     }
 
     /// Whether it is routed by this route, on the input columns that these output columns are copies of.

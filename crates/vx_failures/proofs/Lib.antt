@@ -1,4 +1,3 @@
 pub mod FailureFacts
 pub mod FindingFacts
 pub mod ShownFacts
-pub mod SameFacts

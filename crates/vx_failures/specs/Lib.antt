@@ -1,6 +1,4 @@
 pub mod Failures
 pub mod Shown
-pub mod ShownView
 pub mod Lines
 pub mod FailureView
-pub mod Same

@@ -4,17 +4,11 @@
 mod failing;
 mod failure;
 mod finding;
-mod keys;
-mod laws;
 mod lines;
-mod orders;
-mod parts;
-mod places;
 mod reporting;
 mod shown;
 
 pub use failing::failures;
 pub use failure::Failure;
-pub use laws::{keys_are_carried, orders_are_carried, parts_are_carried};
 pub use reporting::report;
 pub use shown::shown_claim;

@@ -4,15 +4,14 @@ ghost use Rattle.std.specs.Prelude.{◌≡◌, true, option_map, IfOk, IfSome};
 ghost use Rattle.vx_relations.specs.Catalog.{relation_at};
 ghost use Rattle.vx_plan_nodes.specs.Outline.{claim_of, outline_of, plan_of};
 ghost use Rattle.vx_plan_nodes.specs.Outputs.{HasOutputs};
+ghost use Rattle.vx_check_rules.specs.Behaviour.{node_part};
+ghost use Rattle.vx_check_rules.specs.Carried.{Shows, carried};
 ghost use Rattle.vx_check_rules.specs.Exactly.{keys_name_columns};
 ghost use Rattle.vx_check_rules.specs.RuleView.{rule_of};
-ghost use Rattle.vx_failures.specs.Shown.{Shows, is_of_claim, claim_with, node_part, shown_claim};
+ghost use Rattle.vx_failures.specs.Shown.{is_of_claim, shown_claim};
 
-use crate::keys::node_keys;
-use crate::orders::node_order;
-use crate::parts::node_part;
 use std::alloc::{AllocError, Global};
-use vx_check_rules::{Rule, failure_at};
+use vx_check_rules::{Rule, failure_at, node_keys, node_order, node_part};
 use vx_plan_nodes::{Claim, TypedNode};
 use vx_relations::Catalog;
 
@@ -27,10 +26,10 @@ fn is_of_claim(rule: Option<Rule>) -> bool
     }
 }
 
-// The claim that is shown at a node whose operator fits its inputs.
+// The claim that is carried up to a node.
 fn claim_at(alloc: Global, catalog: &Catalog, node: &TypedNode) -> Result<Option<Claim>, AllocError>
     requires { HasOutputs (relation_at catalog.now) (outline_of node.now) }
-    ensures { IfOk result (λ o. option_map claim_of o ≡ option_map (claim_with (relation_at catalog.now) (plan_of node.now)) (node_part (relation_at catalog.now) (plan_of node.now))) }
+    ensures { IfOk result (λ o. option_map claim_of o ≡ option_map (carried (relation_at catalog.now) (plan_of node.now)) (node_part (relation_at catalog.now) (plan_of node.now))) }
 {
     let Some(part) = node_part(alloc, node)? else {
         return Ok(None);

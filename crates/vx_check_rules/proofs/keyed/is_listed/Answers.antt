@@ -10,6 +10,5 @@ use Rattle.vx_check_rules.proofs.keyed.is_listed.Goals as goal
 
 pub returns : goal.returns
 returns c =
-    let test = has_copy (copying_of c.args.copied.now.copying) c.args.copied.now.columns.now in
-    any_from_yields_List (λ (v : Vec ℕ Global). list_all test v.items) _ _ _ c.any.ensures.ran (YieldsList-from_slice c.args.keys.now cc) (λ x b q k. search (rules, tests))
-    ∙ sym (list_any-map (list_all test) (λ (v : Vec ℕ Global). v.items) c.args.keys.now)
+    any_from_yields_List (λ (v : Vec ℕ Global). list_all (has_copy (copying_of c.args.copied.now.copying) c.args.copied.now.columns.now) v.items) _ _ _ c.any.ensures.ran (YieldsList-from_slice c.args.keys.now cc) (λ x b q k. search (rules, tests))
+    ∙ sym (list_any-map (list_all (has_copy (copying_of c.args.copied.now.copying) c.args.copied.now.columns.now)) (λ (v : Vec ℕ Global). v.items) c.args.keys.now)
