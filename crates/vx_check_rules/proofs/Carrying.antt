@@ -329,7 +329,7 @@ or-drop false c h k = k
 several : (catalog : ℕ → Relation) (p : Plan) (q : Part) → is_one (size p) ≡ false → sizes_match p ≡ true → inputs_match p ≡ true → first_part (behaviour catalog p).ways ≡ Some q
     → shown_part (behaviour catalog p) q ≡ true
 several catalog (scan n c r shared z) q s h k e = alone whole_rows false (cond shared any all) q [] e
-several catalog (unary n c op p) q s h k e = alone-if (meet (described op).meets p) (described op).copying (is_one (size p)) (claim p).part q e
+several catalog (unary n c op p) q s h k e = alone-if (meet (described op).meets (own p)) (described op).copying (is_one (size p)) (claim p).part q e
 several catalog (binary n c union p q) x s h k e =
     side-by-side p q x (is_one (size p) || ((has p any && has q any) || (has p all && has q all))) s (both-several (size p) (size q) h s) (or-drop (is_one (size p)) _ s k) e
 several catalog (binary n c (join m on) p q) x s h k e =

@@ -192,7 +192,7 @@ join-unless on w p q all = refl
 join-unless on w p q (routed r cs) = refl
 
 pub join-parts : (on : List (ℕ × ℕ)) (w : ℕ) (p q : Plan) (x : Part)
-    → join_shows on w p q x ≡ list_any (λ v. gives v x) (ways_over (Some on) (record { left = left_of w; right = right_of w; pairs = Some on }) p q)
+    → join_shows on w p q x ≡ list_any (λ v. gives v x) (ways_over (Some on) (record { left = left_of w; right = right_of w; pairs = Some on }) (own p) (own q))
 join-parts on w p q x =
     let f = λ (v : Way). gives v x in
     let a : Bool = routed_alike on (claim p).part (claim q).part in

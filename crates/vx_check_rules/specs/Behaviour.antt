@@ -7,7 +7,7 @@ use Rattle.vx_plan_nodes.specs.Parts.{kind_part}
 use Rattle.vx_plan_nodes.specs.Phases.{first_columns}
 use Rattle.vx_plan_nodes.specs.Types.{width}
 use Rattle.vx_plan_nodes.specs.Describe.{Copying, whole_rows, source, place, OrderAfter, order_kept, sorted_on, KeysAfter, keys_kept, key_of_first, no_key, Described, described, DescribedBoth, described_both}
-use Rattle.vx_check_rules.specs.Rules.{part_gives, has, is_prefix, cons_both, if_some, routed_within, routed_alike, covers, goes_on}
+use Rattle.vx_check_rules.specs.Rules.{part_gives, is_prefix, cons_both, if_some, routed_within, routed_alike, covers, goes_on}
 
 -- ---- columns, all of them or up to the first
 
@@ -74,10 +74,14 @@ own p = (is_one (size p), (claim p).part)
 abbrev pub bare : Part → Bool × Part
 bare q = (false, q)
 
+-- the input has the part, as its one worker or what it claims shows
+abbrev pub input_has : Bool × Part → Part → Bool
+input_has h q = h.0 || part_gives h.1 q
+
 -- rows of an input that agree in these columns are on one worker
-abbrev pub meet : Option (List ℕ) → Plan → Bool
-meet None p = true
-meet (Some cols) p = is_one (size p) || (has p all || routed_within (claim p).part cols)
+abbrev pub meet : Option (List ℕ) → Bool × Part → Bool
+meet None h = true
+meet (Some cols) h = h.0 || (input_has h all || routed_within h.1 cols)
 
 abbrev pub order_after : OrderAfter → List ℕ → List ℕ
 order_after order_kept below = below
@@ -88,10 +92,14 @@ keyed_after keys_kept k below = keyed_by ((k, below) ∷ []) ∷ []
 keyed_after (key_of_first n) k below = keyed_by ((whole_rows, first_columns n ∷ []) ∷ []) ∷ []
 keyed_after no_key k below = []
 
--- of an operator over one input: its way is there where the rows that have to meet do
+-- the ways of an operator over one input: one, where the rows that have to meet do
+abbrev pub ways_along : Described → Bool × Part → List Way
+ways_along d h = if_so (meet d.meets h) (way d.copying (h ∷ []) ∷ [])
+
+-- of an operator over one input
 abbrev pub over : Described → Plan → Behaviour
 over d p = record {
-  ways = if_so (meet d.meets p) (way d.copying (own p ∷ []) ∷ []);
+  ways = ways_along d (own p);
   sortings = sorted_by d.copying (order_after d.order (claim p).order) ∷ [];
   keyed = keyed_after d.keys d.copying (claim p).keys;
 }
@@ -99,11 +107,11 @@ over d p = record {
 -- of one over two inputs. Rows side by side have the parts that both inputs have, if both have each row once or both have all on each worker.
 -- Rows that have to meet do where both inputs are routed alike, and where each worker has one of them whole. An input of one worker has every part, so that
 -- there a left column is tested to be one; a left input's own route and order name left columns, which stand where they stood
-abbrev pub ways_over : Option (List (ℕ × ℕ)) → DescribedBoth → Plan → Plan → List Way
-ways_over None d p q = if_so (is_one (size p) || ((has p any && has q any) || (has p all && has q all))) (way d.left (own p ∷ own q ∷ []) ∷ [])
-ways_over (Some on) d p q =
-    if_so (routed_alike on (claim p).part (claim q).part) (way whole_rows (bare (claim p).part ∷ []) ∷ way d.right (bare (claim q).part ∷ []) ∷ [])
-    ++ (if_so (has q all) (way d.left (own p ∷ []) ∷ []) ++ if_so (has p all) (way d.right (own q ∷ []) ∷ []))
+abbrev pub ways_over : Option (List (ℕ × ℕ)) → DescribedBoth → Bool × Part → Bool × Part → List Way
+ways_over None d h g = if_so (h.0 || ((input_has h any && input_has g any) || (input_has h all && input_has g all))) (way d.left (h ∷ g ∷ []) ∷ [])
+ways_over (Some on) d h g =
+    if_so (routed_alike on h.1 g.1) (way whole_rows (bare h.1 ∷ []) ∷ way d.right (bare g.1 ∷ []) ∷ [])
+    ++ (if_so (input_has g all) (way d.left (h ∷ []) ∷ []) ++ if_so (input_has h all) (way d.right (g ∷ []) ∷ []))
 
 -- the left input's order goes on where rows meet, and is lost where they stand side by side
 abbrev pub order_over : Option (List (ℕ × ℕ)) → List ℕ → List ℕ
@@ -122,15 +130,19 @@ keyed_over (Some on) d lefts rights =
 
 abbrev pub over_both : DescribedBoth → Plan → Plan → Behaviour
 over_both d p q = record {
-  ways = ways_over d.pairs d p q;
+  ways = ways_over d.pairs d (own p) (own q);
   sortings = sorted_by whole_rows (order_over d.pairs (claim p).order) ∷ [];
   keyed = keyed_over d.pairs d (claim p).keys (claim q).keys;
 }
 
+-- the way to a part that is there whatever the inputs have
+abbrev pub ways_made : Part → List Way
+ways_made q = way whole_rows (bare q ∷ []) ∷ []
+
 -- of a scan: what its relation declares
 abbrev pub of_relation : Bool → Relation → Behaviour
 of_relation shared r = record {
-  ways = way whole_rows (bare (cond shared any all) ∷ []) ∷ [];
+  ways = ways_made (cond shared any all);
   sortings = sorted_by whole_rows r.order ∷ [];
   keyed = keyed_by ((whole_rows, r.keys) ∷ []) ∷ [];
 }
@@ -138,7 +150,7 @@ of_relation shared r = record {
 -- of an exchange: the part that it makes; the input's order where that goes on, and the one that it merges by; and the input's keys
 abbrev pub moved : ExchangeKind → List ℕ → Plan → Behaviour
 moved kind merge p = record {
-  ways = way whole_rows (bare (kind_part kind) ∷ []) ∷ [];
+  ways = ways_made (kind_part kind);
   sortings = if_so (is_one (size p) || goes_on kind (claim p)) (sorted_by whole_rows (claim p).order ∷ []) ++ sorted_by whole_rows merge ∷ [];
   keyed = keyed_by ((whole_rows, (claim p).keys) ∷ []) ∷ [];
 }
@@ -149,6 +161,20 @@ behaviour catalog (unary n c op p) = over (described op) p
 behaviour catalog (binary n c op p q) = over_both (described_both (width catalog p) op) p q
 behaviour catalog (exchange n c kind merge p) = moved kind merge p
 
+-- the ways of a node whose inputs have these parts in place of those that they claim
+abbrev pub ways_from : (ℕ → Relation) → Plan → (left right : Bool × Part) → List Way
+ways_from catalog (scan n c r shared z) h g = ways_made (cond shared any all)
+ways_from catalog (unary n c op p) h g = ways_along (described op) h
+ways_from catalog (binary n c op p q) h g = ways_over (described_both (width catalog p) op).pairs (described_both (width catalog p) op) h g
+ways_from catalog (exchange n c kind merge p) h g = ways_made (kind_part kind)
+
+-- the keys of a node whose inputs have these in place of those that they claim
+abbrev pub keyed_from : (ℕ → Relation) → Plan → (lefts rights : List (List ℕ)) → List Keyed
+keyed_from catalog (scan n c r shared z) lefts rights = keyed_by ((whole_rows, (catalog r).keys) ∷ []) ∷ []
+keyed_from catalog (unary n c op p) lefts rights = keyed_after (described op).keys (described op).copying lefts
+keyed_from catalog (binary n c op p q) lefts rights = keyed_over (described_both (width catalog p) op).pairs (described_both (width catalog p) op) lefts rights
+keyed_from catalog (exchange n c kind merge p) lefts rights = keyed_by ((whole_rows, lefts) ∷ []) ∷ []
+
 -- ---- downwards: what is shown
 
 -- the operator fits its inputs: there is a way
@@ -157,7 +183,7 @@ fits b = list_any (λ w. true) b.ways
 
 -- each of the inputs has the part
 abbrev pub each_has : List (Bool × Part) → Part → Bool
-each_has from q = list_all (λ f. f.0 || part_gives f.1 q) from
+each_has from q = list_all (λ f. input_has f q) from
 
 -- a way gives the part; no way has all rows on one of several workers
 abbrev pub gives : Way → Part → Bool

@@ -7,7 +7,7 @@ ghost use Rattle.vx_plan_nodes.specs.Outline.{outline_of, plan_of};
 ghost use Rattle.vx_plan_nodes.specs.Outputs.{HasOutputs};
 ghost use Rattle.vx_plan_nodes.specs.Describe.{whole_rows};
 ghost use Rattle.vx_plan_nodes.specs.DescribeView.{copying_of, described_of, described_both_of};
-ghost use Rattle.vx_check_rules.specs.Behaviour.{keyed_by, keyed_after, keyed_held, keyed_over, behaviour, has_copy, has_key, keys_give};
+ghost use Rattle.vx_check_rules.specs.Behaviour.{keyed_by, keyed_after, keyed_held, keyed_over, keyed_from, behaviour, has_copy, has_key, keys_give};
 ghost use Rattle.vx_check_rules.specs.KeyedView.{keys_seen, copied_keys, keyed_of, keyed_in, all_keyed_in};
 
 use crate::copied::CopiedColumns;
@@ -186,25 +186,39 @@ fn keyed_over<'p>(
     )
 }
 
+/// The keys of a node whose inputs have these keys in place of those that they claim. A node with fewer inputs looks at
+/// the first list alone, or at none.
+pub fn keyed_from<'p>(
+    catalog: &'p Catalog,
+    node: &'p TypedNode,
+    lefts: &'p [Vec<usize>],
+    rights: &'p [Vec<usize>],
+) -> [Option<Keyed<'p>>; 2]
+    requires { HasOutputs (relation_at catalog.now) (outline_of node.now) }
+    ensures { all_keyed_in result ≡ keyed_from (relation_at catalog.now) (plan_of node.now) (map (λ k. k.items) lefts.now) (map (λ k. k.items) rights.now) }
+{
+    match node {
+        TypedNode::Scan(_, scan) => [alone(whole(declared(catalog, scan.relation))), None],
+        TypedNode::Unary(_, operator, _) => keyed_after(operator.described(), lefts),
+        TypedNode::Binary(_, operator, input, _) => {
+            keyed_over(operator.described(output_types(input)), lefts, rights)
+        }
+        TypedNode::Exchange(_, _, _) => [alone(whole(KeysSeen::Listed(lefts))), None],
+    }
+}
+
 /// The keys of a node.
 pub fn node_keyed<'p>(catalog: &'p Catalog, node: &'p TypedNode) -> [Option<Keyed<'p>>; 2]
     requires { HasOutputs (relation_at catalog.now) (outline_of node.now) }
     ensures { all_keyed_in result ≡ (behaviour (relation_at catalog.now) (plan_of node.now)).keyed }
 {
     match node {
-        TypedNode::Scan(_, scan) => [alone(whole(declared(catalog, scan.relation))), None],
-        TypedNode::Unary(_, operator, input) => {
-            keyed_after(operator.described(), claimed_keys(input))
+        TypedNode::Scan(_, _) => keyed_from(catalog, node, &[], &[]),
+        TypedNode::Unary(_, _, input) => keyed_from(catalog, node, claimed_keys(input), &[]),
+        TypedNode::Binary(_, _, left, right) => {
+            keyed_from(catalog, node, claimed_keys(left), claimed_keys(right))
         }
-        TypedNode::Binary(_, operator, left, right) => keyed_over(
-            operator.described(output_types(left)),
-            claimed_keys(left),
-            claimed_keys(right),
-        ),
-        TypedNode::Exchange(_, _, input) => [
-            alone(whole(KeysSeen::Listed(claimed_keys(input)))),
-            None,
-        ],
+        TypedNode::Exchange(_, _, input) => { keyed_from(catalog, node, claimed_keys(input), &[]) }
     }
 }
 

@@ -89,6 +89,16 @@ impl PartSeen<'_> {
             _ => false,
         }
     }
+
+    /// Whether it is routed on columns that are all kept.
+    pub fn is_routed_on(self, kept: KeptColumns<'_>) -> bool
+        ensures { result ≡ routed_within (part_seen self.entry) (kept_columns kept.entry) }
+    {
+        match self {
+            PartSeen::Routed(_, columns) => are_kept(kept, columns),
+            _ => false,
+        }
+    }
 }
 
 /// Whether the wanted part is the claimed one, or any where that is routed.
@@ -106,12 +116,12 @@ pub fn has_part(node: &TypedNode, wanted: &Part) -> bool
 }
 
 /// Whether both parts are routed by one route, on columns that the pairs name.
-pub fn are_routed_alike(on: &[(usize, usize)], left: &Part, right: &Part) -> bool
-    ensures { result ≡ routed_alike on.now (part_of left.now) (part_of right.now) }
+pub fn are_seen_alike(on: &[(usize, usize)], left: PartSeen<'_>, right: PartSeen<'_>) -> bool
+    ensures { result ≡ routed_alike on.now (part_seen left.entry) (part_seen right.entry) }
 {
     match (left, right) {
-        (Part::Routed(route, lefts), Part::Routed(other, rights)) => {
-            is_same_route(route, other) && are_pairs(on, lefts.as_slice(), rights.as_slice())
+        (PartSeen::Routed(route, lefts), PartSeen::Routed(other, rights)) => {
+            is_same_route(route, other) && are_pairs(on, lefts, rights)
         }
         _ => false,
     }
@@ -122,14 +132,4 @@ fn are_kept(kept: KeptColumns<'_>, columns: &[usize]) -> bool
     ensures { result ≡ within columns.now (kept_columns kept.entry) }
 {
     columns.iter().all(|column| kept.contains(*column))
-}
-
-/// Whether the part is routed on columns that are all kept.
-pub fn is_routed_on(part: &Part, kept: KeptColumns<'_>) -> bool
-    ensures { result ≡ routed_within (part_of part.now) (kept_columns kept.entry) }
-{
-    match part {
-        Part::Routed(_, columns) => are_kept(kept, columns.as_slice()),
-        _ => false,
-    }
 }

@@ -91,9 +91,9 @@ fn sorted_over_both<'p>(described: DescribedBoth<'p>, left: &'p [usize]) -> Sort
     }
 }
 
-// Whether rows with this part rise with the number of their worker, where each worker's rows are in this order: a range
-// on the order's first column put them there.
-fn rises_with_workers(part: &Part, order: &[usize]) -> bool
+/// Whether rows with this part rise with the number of their worker, where each worker's rows are in this order: a range
+/// on the order's first column put them there.
+pub fn rises_with_workers(part: &Part, order: &[usize]) -> bool
     ensures { result ≡ rises_by (part_of part.now) order.now }
 {
     match part {

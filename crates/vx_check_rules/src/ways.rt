@@ -3,18 +3,18 @@
 ghost use Rattle.std.specs.Prelude.{◌≡◌, ℕ, true, cond, ◌&&◌, ◌||◌, [], ◌∷◌, option_map, option_to_list};
 ghost use Rattle.std.specs.List.{list_all, list_any};
 ghost use Rattle.vx_relations.specs.Relation.{Relation};
-ghost use Rattle.vx_plan_nodes.specs.Plan.{any, all, routed, claim, size, is_one};
+ghost use Rattle.vx_plan_nodes.specs.Plan.{any, all, routed};
 ghost use Rattle.vx_plan_nodes.specs.Parts.{kind_part};
 ghost use Rattle.vx_plan_nodes.specs.Outline.{part_of, route_of, kind_of, outline_of, plan_of};
 ghost use Rattle.vx_plan_nodes.specs.Outputs.{HasOutputs};
 ghost use Rattle.vx_plan_nodes.specs.Describe.{whole_rows};
 ghost use Rattle.vx_plan_nodes.specs.DescribeView.{copying_of, kept_columns, described_of, described_both_of};
-ghost use Rattle.vx_check_rules.specs.Rules.{part_gives, has, if_some, within, routed_within};
-ghost use Rattle.vx_check_rules.specs.Behaviour.{sources, way, if_so, own, bare, meet, gives, over, ways_over, over_both, behaviour};
+ghost use Rattle.vx_check_rules.specs.Rules.{part_gives, if_some};
+ghost use Rattle.vx_check_rules.specs.Behaviour.{sources, way, if_so, own, bare, input_has, meet, gives, ways_along, ways_over, ways_made, ways_from, behaviour};
 ghost use Rattle.vx_check_rules.specs.WayView.{part_seen, had_of, way_of, way_in, ways_in};
 
 use crate::nodes::{claimed_part, has_one_worker};
-use crate::parts::{PartSeen, are_routed_alike, has_part, is_routed_on, seen};
+use crate::parts::{PartSeen, are_seen_alike, seen};
 use crate::sources::are_copies;
 use vx_plan_nodes::{
     Copying, Described, DescribedBoth, ExchangeKind, KeptColumns, Part, Route, TypedNode,
@@ -51,7 +51,7 @@ fn made(kind: &ExchangeKind) -> PartSeen<'_>
 impl Had<'_> {
     /// Whether the input has the part.
     fn has(self, wanted: &Part) -> bool
-        ensures { result ≡ (self.entry.is_alone || part_gives (part_seen self.entry.part) (part_of wanted.now)) }
+        ensures { result ≡ input_has (had_of self.entry) (part_of wanted.now) }
     {
         self.is_alone || self.part.gives(wanted)
     }
@@ -70,7 +70,7 @@ impl Had<'_> {
 
 // Whether the second input, if there is one, has the part.
 fn other_has(second: Option<Had<'_>>, wanted: &Part) -> bool
-    ensures { result ≡ list_all (λ f. f.0 || part_gives f.1 (part_of wanted.now)) (option_to_list (option_map had_of second.entry)) }
+    ensures { result ≡ list_all (λ f. input_has f (part_of wanted.now)) (option_to_list (option_map had_of second.entry)) }
 {
     match second {
         Some(had) => had.has(wanted),
@@ -124,13 +124,6 @@ fn bare<'p>(part: PartSeen<'p>) -> Had<'p>
     }
 }
 
-// The part that the input claims, whatever its number of workers.
-fn bare_claim(input: &TypedNode) -> Had<'_>
-    ensures { had_of result ≡ bare (claim (plan_of input.now)).part }
-{
-    bare(seen(claimed_part(input)))
-}
-
 // The way of one input, if it is there.
 fn way_if<'p>(is_there: bool, copying: Copying<'p>, first: Had<'p>) -> Option<Way<'p>>
     ensures { way_in result ≡ if_so is_there (way (copying_of copying.entry) (had_of first.entry ∷ []) ∷ []) }
@@ -143,53 +136,41 @@ fn way_if<'p>(is_there: bool, copying: Copying<'p>, first: Had<'p>) -> Option<Wa
 }
 
 // Whether rows of the input that agree in these columns are on one worker.
-fn do_meet(meets: Option<KeptColumns<'_>>, input: &TypedNode) -> bool
-    ensures { result ≡ meet (option_map kept_columns meets.entry) (plan_of input.now) }
+fn do_meet(meets: Option<KeptColumns<'_>>, input: Had<'_>) -> bool
+    ensures { result ≡ meet (option_map kept_columns meets.entry) (had_of input.entry) }
 {
     match meets {
         None => true,
-        Some(kept) => {
-            has_one_worker(input)
-                || has_part(input, &Part::All)
-                || is_routed_on(claimed_part(input), kept)
-        }
+        Some(kept) => { input.is_alone || input.has(&Part::All) || input.part.is_routed_on(kept) }
     }
 }
 
 // The ways of an operator over one input.
-fn ways_over<'p>(described: Described<'p>, input: &'p TypedNode) -> [Option<Way<'p>>; 4]
-    ensures { ways_in result ≡ (over (described_of described.entry) (plan_of input.now)).ways }
+fn ways_along<'p>(described: Described<'p>, input: Had<'p>) -> [Option<Way<'p>>; 4]
+    ensures { ways_in result ≡ ways_along (described_of described.entry) (had_of input.entry) }
 {
-    let way = way_if(
-        do_meet(described.meets, input),
-        described.copying,
-        claimed(input),
-    );
+    let way = way_if(do_meet(described.meets, input), described.copying, input);
     [way, None, None, None]
 }
 
 // Whether rows of both inputs can stand side by side: each input has each row once, or each has all rows on each worker.
-fn do_stand_beside(left: &TypedNode, right: &TypedNode) -> bool
-    ensures { result ≡ (is_one (size (plan_of left.now)) || ((has (plan_of left.now) any && has (plan_of right.now) any) || (has (plan_of left.now) all && has (plan_of right.now) all))) }
+fn do_stand_beside(left: Had<'_>, right: Had<'_>) -> bool
+    ensures { result ≡ ((had_of left.entry).0 || ((input_has (had_of left.entry) any && input_has (had_of right.entry) any) || (input_has (had_of left.entry) all && input_has (had_of right.entry) all))) }
 {
-    has_one_worker(left)
-        || (has_part(left, &Part::Any) && has_part(right, &Part::Any))
-        || (has_part(left, &Part::All) && has_part(right, &Part::All))
+    left.is_alone
+        || (left.has(&Part::Any) && right.has(&Part::Any))
+        || (left.has(&Part::All) && right.has(&Part::All))
 }
 
 // The way of rows that stand side by side, if they can.
-fn way_beside<'p>(
-    copying: Copying<'p>,
-    left: &'p TypedNode,
-    right: &'p TypedNode,
-) -> Option<Way<'p>>
-    ensures { way_in result ≡ if_so (is_one (size (plan_of left.now)) || ((has (plan_of left.now) any && has (plan_of right.now) any) || (has (plan_of left.now) all && has (plan_of right.now) all)))
-        (way (copying_of copying.entry) (own (plan_of left.now) ∷ own (plan_of right.now) ∷ []) ∷ []) }
+fn way_beside<'p>(copying: Copying<'p>, left: Had<'p>, right: Had<'p>) -> Option<Way<'p>>
+    ensures { way_in result ≡ if_so ((had_of left.entry).0 || ((input_has (had_of left.entry) any && input_has (had_of right.entry) any) || (input_has (had_of left.entry) all && input_has (had_of right.entry) all)))
+        (way (copying_of copying.entry) (had_of left.entry ∷ had_of right.entry ∷ []) ∷ []) }
 {
     do_stand_beside(left, right).then_some(Way {
         copying,
-        first: claimed(left),
-        second: Some(claimed(right)),
+        first: left,
+        second: Some(right),
     })
 }
 
@@ -197,27 +178,27 @@ fn way_beside<'p>(
 fn ways_met<'p>(
     on: &'p [(usize, usize)],
     described: DescribedBoth<'p>,
-    left: &'p TypedNode,
-    right: &'p TypedNode,
+    left: Had<'p>,
+    right: Had<'p>,
 ) -> [Option<Way<'p>>; 4]
-    ensures { ways_in result ≡ ways_over (Some on.now) (described_both_of described.entry) (plan_of left.now) (plan_of right.now) }
+    ensures { ways_in result ≡ ways_over (Some on.now) (described_both_of described.entry) (had_of left.entry) (had_of right.entry) }
 {
-    let are_alike = are_routed_alike(on, claimed_part(left), claimed_part(right));
+    let are_alike = are_seen_alike(on, left.part, right.part);
     [
-        way_if(are_alike, Copying::WholeRows, bare_claim(left)),
-        way_if(are_alike, described.right, bare_claim(right)),
-        way_if(has_part(right, &Part::All), described.left, claimed(left)),
-        way_if(has_part(left, &Part::All), described.right, claimed(right)),
+        way_if(are_alike, Copying::WholeRows, bare(left.part)),
+        way_if(are_alike, described.right, bare(right.part)),
+        way_if(right.has(&Part::All), described.left, left),
+        way_if(left.has(&Part::All), described.right, right),
     ]
 }
 
 // The ways of an operator over two inputs.
-fn ways_over_both<'p>(
+fn ways_over<'p>(
     described: DescribedBoth<'p>,
-    left: &'p TypedNode,
-    right: &'p TypedNode,
+    left: Had<'p>,
+    right: Had<'p>,
 ) -> [Option<Way<'p>>; 4]
-    ensures { ways_in result ≡ (over_both (described_both_of described.entry) (plan_of left.now) (plan_of right.now)).ways }
+    ensures { ways_in result ≡ ways_over (described_both_of described.entry).pairs (described_both_of described.entry) (had_of left.entry) (had_of right.entry) }
 {
     match described.pairs {
         None => [way_beside(described.left, left, right), None, None, None],
@@ -227,7 +208,7 @@ fn ways_over_both<'p>(
 
 // The way to a part that is there without any input.
 fn ways_made<'p>(part: PartSeen<'p>) -> [Option<Way<'p>>; 4]
-    ensures { ways_in result ≡ way whole_rows (bare (part_seen part.entry) ∷ []) ∷ [] }
+    ensures { ways_in result ≡ ways_made (part_seen part.entry) }
 {
     [
         way_if(true, Copying::WholeRows, bare(part)),
@@ -248,17 +229,30 @@ fn scanned<'p>(is_shared: bool) -> PartSeen<'p>
     }
 }
 
+/// The ways of a node whose inputs have these parts in place of those that they claim. A node with fewer inputs looks at
+/// the first one alone, or at none.
+pub fn ways_from<'p>(node: &'p TypedNode, left: Had<'p>, right: Had<'p>) -> [Option<Way<'p>>; 4]
+    ensures { (catalog : ℕ → Relation) → HasOutputs catalog (outline_of node.now) → ways_in result ≡ ways_from catalog (plan_of node.now) (had_of left.entry) (had_of right.entry) }
+{
+    match node {
+        TypedNode::Scan(_, scan) => ways_made(scanned(scan.shared)),
+        TypedNode::Unary(_, operator, _) => ways_along(operator.described(), left),
+        TypedNode::Binary(_, operator, input, _) => {
+            ways_over(operator.described(output_types(input)), left, right)
+        }
+        TypedNode::Exchange(_, exchange, _) => ways_made(made(&exchange.kind)),
+    }
+}
+
 /// The ways of a node to a part.
 pub fn node_ways(node: &TypedNode) -> [Option<Way<'_>>; 4]
     ensures { (catalog : ℕ → Relation) → HasOutputs catalog (outline_of node.now) → ways_in result ≡ (behaviour catalog (plan_of node.now)).ways }
 {
     match node {
-        TypedNode::Scan(_, scan) => ways_made(scanned(scan.shared)),
-        TypedNode::Unary(_, operator, input) => ways_over(operator.described(), input),
-        TypedNode::Binary(_, operator, left, right) => {
-            ways_over_both(operator.described(output_types(left)), left, right)
-        }
-        TypedNode::Exchange(_, exchange, _) => ways_made(made(&exchange.kind)),
+        TypedNode::Scan(_, _) => ways_from(node, bare(PartSeen::Any), bare(PartSeen::Any)),
+        TypedNode::Unary(_, _, input) => ways_from(node, claimed(input), bare(PartSeen::Any)),
+        TypedNode::Binary(_, _, left, right) => ways_from(node, claimed(left), claimed(right)),
+        TypedNode::Exchange(_, _, input) => { ways_from(node, claimed(input), bare(PartSeen::Any)) }
     }
 }
 

@@ -1,24 +1,20 @@
-use Rattle.std.proofs.Common.{◌≡◌, ◌∙◌, length, ap}
-use Rattle.vx_relations.specs.Catalog.{relation_at}
-use Rattle.vx_plan_nodes.specs.Plan.{claim}
-use Rattle.vx_plan_nodes.specs.Outline.{binary_of, plan_of}
-use Rattle.vx_plan_nodes.specs.Types.{width}
-use Rattle.vx_plan_nodes.specs.Describe.{described_both}
-use Rattle.vx_plan_nodes.specs.DescribeView.{described_both_of}
-use Rattle.vx_check_rules.specs.Behaviour.{keyed_over}
-use Rattle.vx_check_rules.proofs.WidthFacts.{types_of-width}
 use Rattle.vx_check_rules.proofs.keyed.node_keyed.Goals as goal
+
+pub returns-in-Scan : goal.returns-in-Scan
+returns-in-Scan c = rw c.in-Scan.is (rw c.in-Scan.is at c.keyed_from.ensures)
 
 pub returns-in-Binary : goal.returns-in-Binary
 returns-in-Binary c =
-    let catalog = relation_at c.args.catalog.now in
-    let left = c.in-Binary.left.value in
-    let right = c.in-Binary.right.value in
-    let has = rw c.in-Binary.is at c.requires in
-    let types = rw c.deref-in-Binary.ensures at (c.output_types.ensures catalog) in
-    let wide : length c.output_types.result.now ≡ width catalog (plan_of left) = ap length (types has.1) ∙ types_of-width catalog (plan_of left) in
-    let is : described_both_of c.described-in-Binary.result ≡ described_both (width catalog (plan_of left)) (binary_of c.in-Binary.operator) =
-    c.described-in-Binary.ensures ∙ ap (λ w. described_both w (binary_of c.in-Binary.operator)) wide in
-    let lefts = rw c.deref-in-Binary-2.ensures at c.claimed_keys-in-Binary.ensures in
-    let rights = rw c.deref-in-Binary-3.ensures at c.claimed_keys-in-Binary-2.ensures in
-    rw c.in-Binary.is (rw (lefts, rights) at c.keyed_over.ensures ∙ ap (λ d. keyed_over d.pairs d (claim (plan_of left)).keys (claim (plan_of right)).keys) is)
+    let lefts = rw c.deref-in-Binary.ensures at c.claimed_keys-in-Binary.ensures in
+    let rights = rw c.deref-in-Binary-2.ensures at c.claimed_keys-in-Binary-2.ensures in
+    rw c.in-Binary.is (rw (c.in-Binary.is, lefts, rights) at c.keyed_from-in-Binary.ensures)
+
+pub returns-in-Unary : goal.returns-in-Unary
+returns-in-Unary c =
+    let input = rw c.deref.ensures at c.claimed_keys.ensures in
+    rw c.in-Unary.is (rw (c.in-Unary.is, input) at c.keyed_from-in-Unary.ensures)
+
+pub returns-in-Exchange : goal.returns-in-Exchange
+returns-in-Exchange c =
+    let input = rw c.deref-in-Exchange.ensures at c.claimed_keys-in-Exchange.ensures in
+    rw c.in-Exchange.is (rw (c.in-Exchange.is, input) at c.keyed_from-in-Exchange.ensures)

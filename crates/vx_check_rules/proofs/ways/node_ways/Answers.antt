@@ -1,19 +1,19 @@
-use Rattle.std.proofs.Common.{◌≡◌, ◌∙◌, length, ap}
-use Rattle.vx_plan_nodes.specs.Outline.{binary_of, plan_of}
-use Rattle.vx_plan_nodes.specs.Types.{width}
-use Rattle.vx_plan_nodes.specs.Describe.{described_both}
-use Rattle.vx_plan_nodes.specs.DescribeView.{described_both_of}
-use Rattle.vx_check_rules.specs.Behaviour.{over_both}
-use Rattle.vx_check_rules.proofs.WidthFacts.{types_of-width}
+use Rattle.std.proofs.Common.{◌≡◌}
 use Rattle.vx_check_rules.proofs.ways.node_ways.Goals as goal
+
+pub returns-in-Scan : goal.returns-in-Scan
+returns-in-Scan c = λ catalog given. let from = c.ways_from.ensures catalog given in rw c.in-Scan.is (rw c.in-Scan.is at from)
+
+pub returns-in-Unary : goal.returns-in-Unary
+returns-in-Unary c = λ catalog given.
+    let input = rw c.deref.ensures at c.claimed.ensures in
+    let from = rw input at c.ways_from-in-Unary.ensures catalog given in rw c.in-Unary.is (rw c.in-Unary.is at from)
 
 pub returns-in-Binary : goal.returns-in-Binary
 returns-in-Binary c = λ catalog given.
-    let left = c.in-Binary.left.value in
-    let right = c.in-Binary.right.value in
-    let has = rw c.in-Binary.is at given in
-    let types = rw c.deref-in-Binary.ensures at (c.output_types.ensures catalog) in
-    let wide : length c.output_types.result.now ≡ width catalog (plan_of left) = ap length (types has.1) ∙ types_of-width catalog (plan_of left) in
-    let is : described_both_of c.described-in-Binary.result ≡ described_both (width catalog (plan_of left)) (binary_of c.in-Binary.operator) =
-    c.described-in-Binary.ensures ∙ ap (λ w. described_both w (binary_of c.in-Binary.operator)) wide in
-    rw c.in-Binary.is (rw (c.deref-in-Binary-2.ensures, c.deref-in-Binary-3.ensures) at c.ways_over_both.ensures ∙ ap (λ d. (over_both d (plan_of left) (plan_of right)).ways) is)
+    let left = rw c.deref-in-Binary.ensures at c.claimed-in-Binary.ensures in
+    let right = rw c.deref-in-Binary-2.ensures at c.claimed-in-Binary-2.ensures in
+    let from = rw (left, right) at c.ways_from-in-Binary.ensures catalog given in rw c.in-Binary.is (rw c.in-Binary.is at from)
+
+pub returns-in-Exchange : goal.returns-in-Exchange
+returns-in-Exchange c = λ catalog given. let from = c.ways_from-in-Exchange.ensures catalog given in rw c.in-Exchange.is (rw c.in-Exchange.is at from)
