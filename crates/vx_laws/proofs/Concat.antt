@@ -1,10 +1,12 @@
 -- Lists one after the other are sorted where a range routed their rows.
-use Rattle.std.proofs.Common.{◌≡◌, ℕ, zero, suc, ◌<◌, ◌≤◌, ◌==◌, nat_lt, Bool, true, List, [], ◌∷◌, ◌++◌, refl, ap, ◌∙◌, arith, eqb-true, ltb-true, lt-ltb, is_le, Ordering, Less, Equal, Greater}
+use Rattle.std.proofs.Common.{◌≡◌, ℕ, zero, suc, ◌<◌, ◌≤◌, ◌==◌, nat_lt, Bool, true, true≢false, List, [], ◌∷◌, ◌++◌, refl, sym, subst, ap, ◌∙◌, arith, eqb-true, ltb-true, lt-ltb, is_le, Ordering, Less, Equal, Greater}
 use Rattle.std.specs.List.{list_all}
 use Rattle.std.specs.Ordering.{ordering_then, ordering_reverse}
 use Rattle.vx_values.specs.Values.{Row, val_cmp, value_at, pick}
 use Rattle.vx_rows.specs.Order.{compare_on, sorted}
-use Rattle.vx_plan_nodes.specs.Plan.{by_range}
+use Rattle.vx_plan_nodes.specs.Plan.{Claim, Part, one, any, all, routed, by_hash, by_range, ExchangeKind, route_to, round, broadcast, gather, concat}
+use Rattle.vx_plan_nodes.specs.Runs.{is_concat}
+use Rattle.vx_check_rules.specs.Rules.{rises_by, goes_on}
 use Rattle.vx_plan_nodes.specs.Streams.{Streams, joined}
 use Rattle.vx_plan_nodes.specs.Routes.{Routing}
 use Rattle.vx_rows.proofs.Compare.{val_cmp_total}
@@ -12,6 +14,7 @@ use Rattle.vx_laws.proofs.Bags.{and-left, and-right, and-both}
 use Rattle.vx_laws.proofs.Parts.{list_all-weaken}
 use Rattle.vx_laws.proofs.JoinOrder.{list_all-append}
 use Rattle.vx_laws.proofs.Groups.{joined-all}
+use Rattle.vx_laws.proofs.Places.{Placed}
 
 -- two sorted lists, of which no row of the second is smaller than one of the first
 pub sorted-two : (cs : List ℕ) (xs ys : List Row) → sorted cs xs ≡ true → sorted cs ys ≡ true
@@ -53,3 +56,25 @@ module _ (goes : Routing) (rising : Rising goes) (k c : ℕ) (cs : List ℕ) (n 
       (λ x e. list_all-weaken (λ row. place row == m) (λ y. is_le (compare_on (c ∷ cs) x y))
       (λ y f. let a : place x < m = ltb-true (place x) m e in let b : place y ≡ m = eqb-true (place y) m f in below x y (omega (arith, a, b))) (s m) last)
       (joined m s) before)
+
+-- lists whose rows stand where a range on the first column of their order routes them are in order one after the other
+pub ranged : (goes : Routing) → Rising goes → (q : Part) (order : List ℕ) (m : ℕ) (s : Streams) → rises_by q order ≡ true
+    → ((i : ℕ) → i < m → sorted order (s i) ≡ true) → ((i : ℕ) → i < m → Placed goes q m i (s i)) → sorted order (joined m s) ≡ true
+ranged goes rising one order m s e up at = absurd (true≢false (sym e))
+ranged goes rising any order m s e up at = absurd (true≢false (sym e))
+ranged goes rising all order m s e up at = absurd (true≢false (sym e))
+ranged goes rising (routed (by_hash name) cols) order m s e up at = absurd (true≢false (sym e))
+ranged goes rising (routed (by_range k) []) order m s e up at = absurd (true≢false (sym e))
+ranged goes rising (routed (by_range k) (a ∷ b ∷ cols)) order m s e up at = absurd (true≢false (sym e))
+ranged goes rising (routed (by_range k) (a ∷ [])) [] m s e up at = absurd (true≢false (sym e))
+ranged goes rising (routed (by_range k) (a ∷ [])) (d ∷ order) m s e up at =
+    let Q : ℕ → Type 0 = λ v. (i : ℕ) → i < m → list_all (λ row. goes (by_range k) (pick (v ∷ []) row) m == i) (s i) ≡ true in
+    joined-sorted goes rising k d order m m s (subst Q (eqb-true a d e) at) up
+
+-- an order goes on only in a concat of such lists
+pub goes-on-is : (k : ExchangeKind) (c : Claim) → goes_on k c ≡ true → (is_concat k ≡ true) × (rises_by c.part c.order ≡ true)
+goes-on-is (route_to z r cols) c e = absurd (true≢false (sym e))
+goes-on-is (round z) c e = absurd (true≢false (sym e))
+goes-on-is (broadcast z) c e = absurd (true≢false (sym e))
+goes-on-is gather c e = absurd (true≢false (sym e))
+goes-on-is concat c e = (refl, e)

@@ -1,23 +1,23 @@
 -- Groups of streams, and of all rows.
-use Rattle.std.proofs.Common.{◌≡◌, ℕ, zero, suc, ◌<◌, ◌≤◌, ◌==◌, nat_lt, Bool, true, false, cond, not, ◌&&◌, ◌||◌, ◌⊎◌, inl, inr, List, [], ◌∷◌, ◌++◌, map, length, refl, sym, ap, ◌∙◌, subst, arith, true≢false, Some, slice_get, eqb-true, lt-ltb, is_le}
+use Rattle.std.proofs.Common.{◌≡◌, ℕ, zero, suc, ◌<◌, ◌≤◌, ◌==◌, nat_lt, Bool, true, false, cond, not, ◌&&◌, ◌||◌, List, [], ◌∷◌, ◌++◌, map, length, refl, sym, ap, ◌∙◌, subst, arith, true≢false, Some, slice_get, eqb-true, lt-ltb, is_le}
 use Rattle.std.specs.List.{list_all}
 use Rattle.vx_values.specs.Values.{Row, row_eq, pick}
 use Rattle.vx_rows.specs.Order.{agree, sorted, compare_on}
 use Rattle.vx_rows.specs.Bags.{total, count, SameRows}
 use Rattle.vx_rows.specs.Keys.{HasKey}
-use Rattle.vx_plan_nodes.specs.Plan.{Route, Part, one, any, all, routed, Aggregate}
+use Rattle.vx_plan_nodes.specs.Plan.{Route, Aggregate}
 use Rattle.vx_relations.specs.Catalog.{all_below}
-use Rattle.vx_plan_nodes.specs.Serial.{firsts, group_keys, group_row, group_fits, of_key, aggregate_of}
+use Rattle.vx_plan_nodes.specs.Serial.{group_keys, group_row, group_fits, of_key, aggregate_of}
 use Rattle.vx_plan_nodes.specs.Streams.{Streams, joined}
 use Rattle.vx_plan_nodes.specs.Routes.{Routing}
-use Rattle.vx_check_rules.specs.Rules.{within, copied, numbers_below, part_gives, routed_within}
+use Rattle.vx_check_rules.specs.Rules.{within, copied, numbers_below}
 use Rattle.vx_check_rules.specs.Claims.{InItsStream}
 use Rattle.vx_laws.proofs.Bags.{and-left, and-right, and-both, total-map, total-joined, across-ext, SameRows-all, stream-all}
 use Rattle.vx_laws.proofs.Parts.{list_all-weaken, list_all-always}
 use Rattle.vx_laws.proofs.Keys.{agree-within}
 use Rattle.vx_rows.proofs.Compare.{row_eq-same, row_eq-refl, agree-both}
 use Rattle.vx_laws.proofs.Unary.{map-all, project-sorted}
-use Rattle.vx_laws.proofs.Copies.{copied-pick, copied-cons, copied-alone}
+use Rattle.vx_laws.proofs.Copies.{copied-cons}
 use Rattle.vx_laws.proofs.Join.{total-all-ext, pick-left, value-left}
 use Rattle.vx_laws.proofs.JoinOrder.{list_all-append, all-and, wide}
 use Rattle.vx_laws.proofs.Widths.{firsts-all, picks-wide}
@@ -112,24 +112,6 @@ module _ (goes : Routing) (rt : Route) (cols by : List ℕ) (aggregates : List A
       (λ x e. implies-from _ _ (sym (group_fits-same by aggregates (s i) base (pick by x) (key-apart goes rt cols by n s base sub same apart i l x e))))
       (s i) (apart i l))))
 
--- routes of output rows, through copied columns
-pub firsts-in-stream : (goes : Routing) (rt : Route) (kept cs ds : List ℕ) (n : ℕ) (s s' : Streams) → copied kept cs ≡ Some ds
-    → ((w : ℕ) → w < n → firsts (map (pick kept) (s w)) ≡ s' w) → InItsStream goes rt ds n s → InItsStream goes rt cs n s'
-firsts-in-stream goes rt kept cs ds n s s' e run h w l =
-    let P : List Row → Type 0 = λ xs. list_all (λ row. goes rt (pick cs row) n == w) xs ≡ true in
-    subst P (run w l) (keys-all kept (λ row. goes rt (pick cs row) n == w) (s w)
-    (list_all-weaken (λ row. goes rt (pick ds row) n == w) (λ row. goes rt (pick cs (pick kept row)) n == w)
-    (λ row t. ap (λ k. goes rt k n == w) (copied-alone kept cs ds row e) ∙ t) (s w) (h w l)))
-
-pub groups-in-stream : (goes : Routing) (rt : Route) (by cs ds : List ℕ) (aggregates : List Aggregate) (n : ℕ) (s s' : Streams) → copied by cs ≡ Some ds
-    → ((w : ℕ) → w < n → groups by aggregates (s w) ≡ s' w) → InItsStream goes rt ds n s → InItsStream goes rt cs n s'
-groups-in-stream goes rt by cs ds aggregates n s s' e run h w l =
-    let P : List Row → Type 0 = λ xs. list_all (λ row. goes rt (pick cs row) n == w) xs ≡ true in
-    subst P (run w l) (map-all (λ row. goes rt (pick cs row) n == w) (group_row by aggregates (s w)) (group_keys by (s w))
-    (keys-all by (λ key. goes rt (pick cs (group_row by aggregates (s w) key)) n == w) (s w)
-    (list_all-weaken (λ row. goes rt (pick ds row) n == w) (λ row. goes rt (pick cs (group_row by aggregates (s w) (pick by row))) n == w)
-    (λ row t. ap (λ k. goes rt k n == w) (copied-pick by cs ds row (map (λ a. aggregate_of a (of_key by (pick by row) (s w))) aggregates) e) ∙ t) (s w) (h w l))))
-
 -- order
 pub slice-below : (kept : List ℕ) (c d : ℕ) → slice_get kept c ≡ Some d → c < length kept
 slice-below [] c d e = cc
@@ -185,12 +167,3 @@ groups-key by x aggregates xs w row =
     let m = firsts-at-most k0 (map (pick by) xs) in
     omega (arith, a, m)) in
     omega (arith, e, b)
-
--- which of the three ways an input is fit for equal keys
-pub apart-ways : (b : Bool) (part : Part) (kept : List ℕ) → (b || ((b || part_gives part all) || routed_within part kept)) ≡ true
-    → (b ≡ true) ⊎ ((part ≡ all) ⊎ ((r : Route) × (cols : List ℕ) × (part ≡ routed r cols) × (within cols kept ≡ true)))
-apart-ways true part kept h = inl refl
-apart-ways false one kept h = absurd (true≢false (sym h))
-apart-ways false any kept h = absurd (true≢false (sym h))
-apart-ways false all kept h = inr (inl refl)
-apart-ways false (routed r cols) kept h = inr (inr (r, cols, refl, h))

@@ -15,7 +15,10 @@ pub mod Groups
 pub mod Pieces
 pub mod Concat
 pub mod Opened
+pub mod Operators
+pub mod Places
 pub mod OneInput
+pub mod TwoInputs
 pub mod Frame
 pub mod Erased
 pub mod Total

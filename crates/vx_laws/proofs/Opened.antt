@@ -3,8 +3,8 @@ use Rattle.std.proofs.Common.{◌≡◌, ℕ, Bool, true, false, cond, List, len
 use Rattle.std.specs.List.{list_all}
 use Rattle.vx_values.specs.Values.{Row}
 use Rattle.vx_rows.specs.Bags.{SameRows}
-use Rattle.vx_plan_nodes.specs.Plan.{plain, partial, final, Aggregate, select, project, distinct, sort, group, Plan, scan, unary, binary, exchange}
-use Rattle.vx_plan_nodes.specs.Phases.{first_columns, merged, aggregates_eq, columns_eq, is_open, opens, Parts, spoken, Gives, listed}
+use Rattle.vx_plan_nodes.specs.Plan.{plain, partial, final, Aggregate, select, project, distinct, sort, group, Unary, Plan, scan, unary, binary, exchange}
+use Rattle.vx_plan_nodes.specs.Phases.{first_columns, merged, aggregates_eq, columns_eq, is_partial, is_open, opens, Parts, unary_spoken, UnaryGives, unary_listed, spoken, Gives, listed}
 use Rattle.vx_plan_nodes.specs.Serial.{group_keys, group_rows, group_fits, SerialResult, rows, overflow, or_overflow, after, serial}
 use Rattle.vx_plan_nodes.proofs.PhaseEqual.{aggregates_eq-is, columns_eq-is}
 use Rattle.vx_laws.proofs.Bags.{and-left, and-right, SameRows-trans, SameRows-sym}
@@ -13,53 +13,26 @@ use Rattle.vx_laws.proofs.Groups.{groups}
 
 -- ---- closed nodes
 
+shut : (op : Unary) → is_partial op ≡ false → (P : (Plan → Plan → Plan) → (List Row → List Row → Type 0) → (List Row → List Row) → Type 0)
+    → P (λ p whole. whole) (λ base xs. SameRows xs base) (λ base. base) → P (unary_spoken op) (UnaryGives op) (unary_listed op)
+shut (select cs) e P h = h
+shut (project cols) e P h = h
+shut (distinct cols) e P h = h
+shut (sort cols) e P h = h
+shut (group plain by aggregates) e P h = h
+shut (group partial by aggregates) e P h = absurd (true≢false e)
+shut (group final by aggregates) e P h = h
+
+-- what is said of a closed node's own serial rows is said of those that its claim speaks of
+pub closed : (db : ℕ → List Row) (p : Plan) → is_open p ≡ false → (P : SerialResult → (List Row → List Row → Type 0) → (List Row → List Row) → Type 0)
+    → P (serial db p) (λ base xs. SameRows xs base) (λ base. base) → P (serial db (spoken p)) (Gives p) (listed p)
+closed db (scan n c r m z) e P h = h
+closed db (unary n c op p) e P h = shut op e (λ spoken_of gives_of listed_of. P (serial db (spoken_of p (unary n c op p))) gives_of listed_of) h
+closed db (binary n c op p q) e P h = h
+closed db (exchange n c k m p) e P h = closed db p e P h
+
 pub closed-spoken : (db : ℕ → List Row) (p : Plan) → is_open p ≡ false → serial db (spoken p) ≡ serial db p
-closed-spoken db (scan n c r m z) e = refl
-closed-spoken db (unary n c (select cs) p) e = refl
-closed-spoken db (unary n c (project cols) p) e = refl
-closed-spoken db (unary n c (distinct cols) p) e = refl
-closed-spoken db (unary n c (sort cols) p) e = refl
-closed-spoken db (unary n c (group plain by aggregates) p) e = refl
-closed-spoken db (unary n c (group partial by aggregates) p) e = absurd (true≢false e)
-closed-spoken db (unary n c (group final by aggregates) p) e = refl
-closed-spoken db (binary n c op p q) e = refl
-closed-spoken db (exchange n c k m p) e = closed-spoken db p e
-
-pub closed-gives : (p : Plan) → is_open p ≡ false → (base xs : List Row) → Gives p base xs → SameRows xs base
-closed-gives (scan n c r m z) e base xs h = h
-closed-gives (unary n c (select cs) p) e base xs h = h
-closed-gives (unary n c (project cols) p) e base xs h = h
-closed-gives (unary n c (distinct cols) p) e base xs h = h
-closed-gives (unary n c (sort cols) p) e base xs h = h
-closed-gives (unary n c (group plain by aggregates) p) e base xs h = h
-closed-gives (unary n c (group partial by aggregates) p) e base xs h = absurd (true≢false e)
-closed-gives (unary n c (group final by aggregates) p) e base xs h = h
-closed-gives (binary n c op p q) e base xs h = h
-closed-gives (exchange n c k m p) e base xs h = closed-gives p e base xs h
-
-pub gives-closed : (p : Plan) → is_open p ≡ false → (base xs : List Row) → SameRows xs base → Gives p base xs
-gives-closed (scan n c r m z) e base xs h = h
-gives-closed (unary n c (select cs) p) e base xs h = h
-gives-closed (unary n c (project cols) p) e base xs h = h
-gives-closed (unary n c (distinct cols) p) e base xs h = h
-gives-closed (unary n c (sort cols) p) e base xs h = h
-gives-closed (unary n c (group plain by aggregates) p) e base xs h = h
-gives-closed (unary n c (group partial by aggregates) p) e base xs h = absurd (true≢false e)
-gives-closed (unary n c (group final by aggregates) p) e base xs h = h
-gives-closed (binary n c op p q) e base xs h = h
-gives-closed (exchange n c k m p) e base xs h = gives-closed p e base xs h
-
-pub closed-listed : (p : Plan) → is_open p ≡ false → (base : List Row) → listed p base ≡ base
-closed-listed (scan n c r m z) e base = refl
-closed-listed (unary n c (select cs) p) e base = refl
-closed-listed (unary n c (project cols) p) e base = refl
-closed-listed (unary n c (distinct cols) p) e base = refl
-closed-listed (unary n c (sort cols) p) e base = refl
-closed-listed (unary n c (group plain by aggregates) p) e base = refl
-closed-listed (unary n c (group partial by aggregates) p) e base = absurd (true≢false e)
-closed-listed (unary n c (group final by aggregates) p) e base = refl
-closed-listed (binary n c op p q) e base = refl
-closed-listed (exchange n c k m p) e base = closed-listed p e base
+closed-spoken db p e = closed db p e (λ o gives_of listed_of. o ≡ serial db p) refl
 
 -- ---- open nodes
 

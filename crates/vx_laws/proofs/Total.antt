@@ -13,7 +13,7 @@ use Rattle.vx_check_rules.specs.Rules.{within, numbers_below, is_total_order}
 use Rattle.vx_relations.specs.Relation.{KeysHold}
 use Rattle.vx_laws.specs.Sound.{SoundAtRoot}
 use Rattle.vx_laws.proofs.Bags.{and-left, and-right, and-both, total-add, SameRows-all, SameRows-sym}
-use Rattle.vx_laws.proofs.Parts.{or-cases, from_single, one-worker, list_all-always}
+use Rattle.vx_laws.proofs.Parts.{or-cases, from_single-of, one-worker, list_all-always}
 use Rattle.vx_laws.proofs.Keys.{agree-within}
 use Rattle.vx_rows.proofs.Compare.{row_eq-same, row_eq-refl, row_eq-laws, row_cmp_total}
 use Rattle.vx_laws.proofs.Join.{total-all-le}
@@ -103,7 +103,7 @@ sound-at-root catalog db sizes goes given is_total p s wf shut ok root run =
     let h = close catalog db sizes goes given p s shut (all-hold catalog db sizes goes given p s wf ok run) in
     let one_size : is_one (size p) ≡ true = and-left (is_one (size p)) (not is_total || is_total_order catalog p) root in
     let n1 : workers sizes (size p) ≡ 1 = one-worker sizes (size p) one_size in
-    let all_one : SameRows (joined (workers sizes (size p)) s) h.base = from_single goes given.in_range (claim p).part (workers sizes (size p)) (s) h.base n1 h.holds.part in
+    let all_one : SameRows (joined (workers sizes (size p)) s) h.base = from_single-of goes given.in_range (claim p).part (workers sizes (size p)) s (λ xs. SameRows xs h.base) n1 h.holds.part in
     let P : ℕ → Type 0 = λ m. SameRows (joined m s) h.base in
     let same : SameRows (s 0) h.base = subst P n1 all_one in
     let L : ℕ → Type 0 = λ m. 0 < m in
