@@ -6,13 +6,13 @@ use Rattle.vx_values.specs.Types.{fits_64}
 use Rattle.vx_rows.specs.Bags.{SameRows, total}
 use Rattle.vx_relations.specs.Relation.{Relation}
 use Rattle.vx_plan_nodes.specs.Types.{well_formed, names_columns, width}
-use Rattle.vx_plan_nodes.specs.Plan.{Part, one, any, all, routed, Claim, Plan, scan, unary, binary, exchange, claim, size, Unary, select, project, distinct, sort, group, Binary, union, join, is_one, plain, partial, final, Aggregate, least, greatest, sum, count_rows}
+use Rattle.vx_plan_nodes.specs.Plan.{Part, one, any, all, routed, Claim, Plan, scan, unary, binary, exchange, claim, size, Unary, group, Binary, union, join, is_one, partial, final, Aggregate, least, greatest, sum, count_rows}
 use Rattle.vx_plan_nodes.specs.Describe.{described}
 use Rattle.vx_plan_nodes.specs.Serial.{group_keys, group_fits, unary_rows, rows, or_overflow, after, serial, group_rows, SerialResult, overflow, IsTooLong, HasLargeInput, LargePart, is_sum_of, fits, sum_of, count_of, of_key}
 use Rattle.vx_plan_nodes.specs.Streams.{Streams, joined, workers}
 use Rattle.vx_plan_nodes.specs.Routes.{Routing}
 use Rattle.vx_plan_nodes.specs.Runs.{Runs}
-use Rattle.vx_plan_nodes.specs.Phases.{first_columns, is_partial, is_final, is_open, opens, phase_fits, both_closed, spoken, Gives}
+use Rattle.vx_plan_nodes.specs.Phases.{is_partial, is_final, is_open, opens, phase_fits, both_closed, spoken, Gives}
 use Rattle.vx_check_rules.specs.Rules.{allowed, allowed_here}
 use Rattle.vx_check_rules.specs.Behaviour.{over}
 use Rattle.vx_check_rules.specs.Claims.{PartHolds, Given}
@@ -22,10 +22,11 @@ use Rattle.vx_laws.proofs.Erased.{erased-rows}
 use Rattle.vx_laws.proofs.Bags.{SameRows-sym, and-left, and-right, SameRows-refl, total-joined, across-least}
 use Rattle.vx_laws.proofs.Groups.{groups, fits-split}
 use Rattle.vx_laws.proofs.Exchange.{filter-all}
-use Rattle.vx_laws.proofs.Opened.{opened}
+use Rattle.vx_laws.proofs.Opened.{opened, opened-as}
+use Rattle.vx_laws.proofs.Phased.{by-phase}
 use Rattle.vx_laws.proofs.Pieces.{final-fits}
 use Rattle.vx_laws.proofs.Operators.{whole}
-use Rattle.vx_laws.proofs.OneInput.{tests, Holding, HoldingAt, fitting-at, scan-holds, unary-holds, close, exchange-holds, partial-holds, final-holds}
+use Rattle.vx_laws.proofs.OneInput.{tests, HoldingOf, Holding, HoldingAt, fitting-at, scan-holds, unary-holds, close, exchange-holds, partial-holds, final-holds}
 use Rattle.vx_laws.proofs.TwoInputs.{binary-holds}
 
 module _ (catalog : ℕ → Relation) (db : ℕ → List Row) (sizes : ℕ → ℕ) (goes : Routing) (given : Given catalog db sizes goes) where
@@ -73,20 +74,15 @@ module _ (catalog : ℕ → Relation) (db : ℕ → List Row) (sizes : ℕ → �
 
   unary-at : (k : ℕ) (c : Claim) (op : Unary) (p : Plan) (s out : Streams) → phase_fits op p ≡ true → HoldingAt db sizes goes p s → allowed_here catalog (unary k c op p) ≡ true
       → ((w : ℕ) → w < workers sizes (size p) → unary_rows op (s w) ≡ Some (out w)) → HoldingAt db sizes goes (unary k c op p) out
-  unary-at k c op p s out e h ok run = go op e ok run
-    where
-      own_rows : not (is_open p) ≡ true → Holding db sizes goes p s
-      own_rows e = close catalog db sizes goes given p s (not-open (is_open p) e) h
-
-      go : (op : Unary) → phase_fits op p ≡ true → allowed_here catalog (unary k c op p) ≡ true
-          → ((w : ℕ) → w < workers sizes (size p) → unary_rows op (s w) ≡ Some (out w)) → HoldingAt db sizes goes (unary k c op p) out
-      go (select cs) e ok run = unary-holds catalog db sizes goes given k c (select cs) refl p s out (own_rows e) ok run
-      go (project cols) e ok run = unary-holds catalog db sizes goes given k c (project cols) refl p s out (own_rows e) ok run
-      go (distinct cols) e ok run = unary-holds catalog db sizes goes given k c (distinct cols) refl p s out (own_rows e) ok run
-      go (sort cols) e ok run = unary-holds catalog db sizes goes given k c (sort cols) refl p s out (own_rows e) ok run
-      go (group plain by aggregates) e ok run = unary-holds catalog db sizes goes given k c (group plain by aggregates) refl p s out (own_rows e) ok run
-      go (group partial by aggregates) e ok run = partial-holds catalog db sizes goes given k c by aggregates p s out (own_rows e) ok run
-      go (group final by aggregates) e ok run = final-holds catalog db sizes goes given k c by aggregates p s out h e ok run
+  unary-at k c op p s out e h ok run =
+      let own_rows : not (is_open p) ≡ true → Holding db sizes goes p s = λ e. close catalog db sizes goes given p s (not-open (is_open p) e) h in
+      by-phase
+      (λ op fits_of is_of spoken_of gives_of listed_of. fits_of p ≡ true → allowed_here catalog (unary k c op p) ≡ true → ((w : ℕ) → w < workers sizes (size p) → unary_rows op (s w) ≡ Some (out w))
+      → HoldingOf goes c (workers sizes (size p)) out (serial db (spoken_of p (unary k c op p))) gives_of listed_of)
+      (λ op w e ok run. unary-holds catalog db sizes goes given k c op w p s out (own_rows e) ok run)
+      (λ by aggregates e ok run. partial-holds catalog db sizes goes given k c by aggregates p s out (own_rows e) ok run)
+      (λ by aggregates e ok run. final-holds catalog db sizes goes given k c by aggregates p s out h e ok run)
+      op e ok run
 
   pub all-hold : (p : Plan) (s : Streams) → well_formed catalog p ≡ true → allowed catalog p ≡ true → Runs db sizes goes p s → HoldingAt db sizes goes p s
   all-hold (scan k c r m z) s wf ok run = scan-holds catalog db sizes goes given k c r m z s ok run
@@ -151,9 +147,7 @@ module _ (catalog : ℕ → Relation) (db : ℕ → List Row) (sizes : ℕ → �
       let all_fit : list_all (group_fits o.by o.aggregates ih.base) (group_keys o.by ih.base) ≡ true
       = fitted o.by o.aggregates o.node (sym (ap (λ v. after v (λ xs. or_overflow o.node (group_rows o.by o.aggregates xs))) ih.is_serial) ∙ (sym (o.serial_is db) ∙ h)) in
       let each : (xs : List Row) → Gives p ih.base xs → list_all (group_fits keys puts xs) (group_keys keys xs) ≡ true = λ xs g.
-      let A : List ℕ → Type 0 = λ v. list_all (group_fits v puts xs) (group_keys v xs) ≡ true in
-      let B : List Aggregate → Type 0 = λ v. list_all (group_fits (first_columns (length o.by)) v xs) (group_keys (first_columns (length o.by)) xs) ≡ true in
-      subst A (sym o.keys_are) (subst B (sym o.puts_are) (final-fits o.by o.aggregates ih.base xs (o.gives ih.base xs g) all_fit)) in
+      opened-as keys puts p o (λ a b. list_all (group_fits a b xs) (group_keys a xs) ≡ true) (final-fits o.by o.aggregates ih.base xs (o.gives ih.base xs g) all_fit) in
       group-fit keys puts (s w) (⊎_elim
       (λ f. each (s w) (f.0 w l))
       (λ f. fits-split goes f.0.0 f.0.1 keys puts n s (joined n s) f.0.2 (SameRows-refl (joined n s)) f.0.3 (each (joined n s) f.1) w l)
@@ -239,39 +233,33 @@ module _ (catalog : ℕ → Relation) (db : ℕ → List Row) (sizes : ℕ → �
       let here : Bool = allowed_here catalog (unary k c op p) in
       let h = all-hold p u (and-left (well_formed catalog p) (phase_fits op p && names_columns (width catalog (unary k c op p)) c) wf) (and-left (allowed catalog p) here ok) run in
       let t = tests catalog (unary k c op p) (and-right (allowed catalog p) here ok) in
-      go op (phase-of k c op p wf) h t.2 e
+      by-phase
+      (λ op fits_of is_of spoken_of gives_of listed_of. fits_of p ≡ true → (is_one (size p) || Rattle.vx_check_rules.specs.Behaviour.fits (over (described op) p)) ≡ true → serial db (unary k c op p) ≡ rows xs
+      → IsSome (unary_rows op (u w)) ⊎ (HasLargeInput op (serial db p) ⊎ IsTooLong op (serial db p)))
+      (λ op v f t e.
+      let ih = own_rows h f in
+      inl (operator-fits op v p u ih t xs (some-rows k (unary_rows op ih.base) xs (sym (ap (λ x. after x (λ ys. or_overflow k (unary_rows op ys))) ih.is_serial) ∙ e)) w l))
+      (λ by aggregates f t e.
+      let ih = own_rows h f in
+      let P : SerialResult → Type 0 = λ o. HasLargeInput (group partial by aggregates) o ⊎ IsTooLong (group partial by aggregates) o in
+      decide by aggregates (list_all (group_fits by aggregates (u w)) (group_keys by (u w))) refl
+      (λ bad. subst P (sym ih.is_serial) (partial-large by aggregates (u w) ih.base (λ f. part-total (claim p).part (workers sizes (size p)) u ih.base ih.holds.part f w l) bad)))
+      (λ by aggregates f t e. inl (below by aggregates (serial db p) refl h f t e))
+      op (phase-of k c op p wf) t.2 e
     where
-      closed : (op : Unary) → (is_partial op || is_final op) ≡ false → not (is_open p) ≡ true → HoldingAt db sizes goes p u → (is_one (size p) || Rattle.vx_check_rules.specs.Behaviour.fits (over (described op) p)) ≡ true
-          → serial db (unary k c op p) ≡ rows xs → IsSome (unary_rows op (u w)) ⊎ (HasLargeInput op (serial db p) ⊎ IsTooLong op (serial db p))
-      closed op whole_is f h t e =
-          let ih : Holding db sizes goes p u = close catalog db sizes goes given p u (not-open (is_open p) f) h in
-          let o : or_overflow k (unary_rows op ih.base) ≡ rows xs = sym (ap (λ x. after x (λ ys. or_overflow k (unary_rows op ys))) ih.is_serial) ∙ e in
-          inl (operator-fits op whole_is p u ih t xs (some-rows k (unary_rows op ih.base) xs o) w l)
+      own_rows : HoldingAt db sizes goes p u → not (is_open p) ≡ true → Holding db sizes goes p u
+      own_rows h f = close catalog db sizes goes given p u (not-open (is_open p) f) h
 
-      go : (op : Unary) → phase_fits op p ≡ true → HoldingAt db sizes goes p u → (is_one (size p) || Rattle.vx_check_rules.specs.Behaviour.fits (over (described op) p)) ≡ true
-          → serial db (unary k c op p) ≡ rows xs → IsSome (unary_rows op (u w)) ⊎ (HasLargeInput op (serial db p) ⊎ IsTooLong op (serial db p))
-      go (select cs) f h t e = closed (select cs) refl f h t e
-      go (project cols) f h t e = closed (project cols) refl f h t e
-      go (distinct cols) f h t e = closed (distinct cols) refl f h t e
-      go (sort cols) f h t e = closed (sort cols) refl f h t e
-      go (group plain by aggregates) f h t e = closed (group plain by aggregates) refl f h t e
-      go (group final by aggregates) f h t e = inl (below (serial db p) refl e)
-        where
-          below : (o : SerialResult) → serial db p ≡ o → after o (λ ys. or_overflow k (group_rows by aggregates ys)) ≡ rows xs → IsSome (group_rows by aggregates (u w))
-          below (overflow m) g e = cc
-          below (rows ys) g e = final-fit by aggregates p u h f t ys g w l
-      go (group partial by aggregates) f h t e =
-          let ih : Holding db sizes goes p u = close catalog db sizes goes given p u (not-open (is_open p) f) h in
-          let most : (f : Row → ℕ) → total f (u w) ≤ total f ih.base = λ f. part-total (claim p).part (workers sizes (size p)) u ih.base ih.holds.part f w l in
-          let P : SerialResult → Type 0 = λ o. HasLargeInput (group partial by aggregates) o ⊎ IsTooLong (group partial by aggregates) o in
-          decide (list_all (group_fits by aggregates (u w)) (group_keys by (u w))) refl
-          (λ bad. subst P (sym ih.is_serial) (partial-large by aggregates (u w) ih.base most bad))
-        where
-          decide : (b : Bool) → list_all (group_fits by aggregates (u w)) (group_keys by (u w)) ≡ b
-              → (list_all (group_fits by aggregates (u w)) (group_keys by (u w)) ≡ false → HasLargeInput (group partial by aggregates) (serial db p) ⊎ IsTooLong (group partial by aggregates) (serial db p))
-              → IsSome (group_rows by aggregates (u w)) ⊎ (HasLargeInput (group partial by aggregates) (serial db p) ⊎ IsTooLong (group partial by aggregates) (serial db p))
-          decide true e bad = inl (group-fit by aggregates (u w) e)
-          decide false e bad = inr (bad e)
+      below : (by : List ℕ) (aggregates : List Aggregate) (o : SerialResult) → serial db p ≡ o → HoldingAt db sizes goes p u → opens by aggregates p ≡ true
+          → (is_one (size p) || Rattle.vx_check_rules.specs.Behaviour.fits (over (described (group final by aggregates)) p)) ≡ true → after o (λ ys. or_overflow k (group_rows by aggregates ys)) ≡ rows xs → IsSome (group_rows by aggregates (u w))
+      below by aggregates (overflow m) g h f t e = cc
+      below by aggregates (rows ys) g h f t e = final-fit by aggregates p u h f t ys g w l
+
+      decide : (by : List ℕ) (aggregates : List Aggregate) (b : Bool) → list_all (group_fits by aggregates (u w)) (group_keys by (u w)) ≡ b
+          → (list_all (group_fits by aggregates (u w)) (group_keys by (u w)) ≡ false → HasLargeInput (group partial by aggregates) (serial db p) ⊎ IsTooLong (group partial by aggregates) (serial db p))
+          → IsSome (group_rows by aggregates (u w)) ⊎ (HasLargeInput (group partial by aggregates) (serial db p) ⊎ IsTooLong (group partial by aggregates) (serial db p))
+      decide by aggregates true e bad = inl (group-fit by aggregates (u w) e)
+      decide by aggregates false e bad = inr (bad e)
 
 pub no-overflow : NoOverflow
 no-overflow catalog db sizes goes given n c op p u = no-overflow-at catalog db sizes goes given n c op p u
@@ -283,13 +271,8 @@ sound catalog db sizes goes given p s wf ok run =
   where
     well-spoken : (catalog : ℕ → Relation) (p : Plan) → well_formed catalog p ≡ true → well_formed catalog (spoken p) ≡ true
     well-spoken catalog (scan n c r m z) wf = wf
-    well-spoken catalog (unary n c (select cs) p) wf = wf
-    well-spoken catalog (unary n c (project cols) p) wf = wf
-    well-spoken catalog (unary n c (distinct cols) p) wf = wf
-    well-spoken catalog (unary n c (sort cols) p) wf = wf
-    well-spoken catalog (unary n c (group plain by aggregates) p) wf = wf
-    well-spoken catalog (unary n c (group partial by aggregates) p) wf = and-left (well_formed catalog p) _ wf
-    well-spoken catalog (unary n c (group final by aggregates) p) wf = wf
+    well-spoken catalog (unary n c op p) wf = by-phase (λ op fits_of is_of spoken_of gives_of listed_of. well_formed catalog (unary n c op p) ≡ true → well_formed catalog (spoken_of p (unary n c op p)) ≡ true)
+        (λ op w wf. wf) (λ by aggregates wf. and-left (well_formed catalog p) _ wf) (λ by aggregates wf. wf) op wf
     well-spoken catalog (binary n c op p q) wf = wf
     well-spoken catalog (exchange n c k m p) wf = well-spoken catalog p (and-left (well_formed catalog p) _ wf)
 

@@ -29,7 +29,7 @@ use Rattle.vx_laws.proofs.Widths.{some-of, firsts-all, picks-wide}
 use Rattle.vx_laws.proofs.Apart.{firsts-sorted}
 use Rattle.vx_laws.proofs.Groups.{groups, groups-joined, fits-joined, extended-sorted, copied-below, groups-key}
 use Rattle.vx_laws.proofs.Exchange.{Dealt-same, exchange-any, broadcast-all, routed-in-stream, single-sorted}
-use Rattle.vx_laws.proofs.Opened.{closed, opened, Gives-order, final-serial}
+use Rattle.vx_laws.proofs.Opened.{closed, Opened, opened, opened-as, Gives-order, final-serial}
 use Rattle.vx_laws.proofs.Pieces.{Parts-base, Parts-joined, Parts-groups, final-groups, fits-final}
 use Rattle.vx_laws.proofs.Concat.{ranged}
 use Rattle.vx_laws.proofs.Operators.{Made, Meets, Whole, whole, unary-ordered}
@@ -209,14 +209,14 @@ module _ (catalog : ℕ → Relation) (db : ℕ → List Row) (sizes : ℕ → �
   length-columns i zero = refl
   length-columns i (suc n) = ap suc (length-columns (suc i) n)
 
-  final-of : (k : ℕ) (c : Claim) (by : List ℕ) (aggregates : List Aggregate) (p : Plan) (s out : Streams) (ih : HoldingAt db sizes goes p s)
-      → ((base xs : List Row) → Gives p base xs → Parts by aggregates base xs) → ((base : List Row) → listed p base ≡ group_keys by base)
-      → (node : ℕ) → ((db : ℕ → List Row) → serial db p ≡ after (serial db (spoken p)) (λ xs. or_overflow node (group_rows by aggregates xs)))
-      → ((xs : List Row) → serial db p ≡ rows xs → group_rows (first_columns (length by)) (merged (length by) aggregates) xs ≡ Some xs)
-      → allowed_here catalog (unary k c (group final (first_columns (length by)) (merged (length by) aggregates)) p) ≡ true
-      → ((w : ℕ) → w < workers sizes (size p) → group_rows (first_columns (length by)) (merged (length by) aggregates) (s w) ≡ Some (out w))
-      → Holding db sizes goes (unary k c (group final (first_columns (length by)) (merged (length by) aggregates)) p) out
-  final-of k c by aggregates p s out ih gives_parts lists node serial_is again ok run =
+  final-of : (k : ℕ) (c : Claim) (p : Plan) (keys_of : List ℕ) (puts_of : List Aggregate) (s out : Streams) (ih : HoldingAt db sizes goes p s) (opened_is : Opened keys_of puts_of p)
+      → ((xs : List Row) → serial db p ≡ rows xs → group_rows (first_columns (length opened_is.by)) (merged (length opened_is.by) opened_is.aggregates) xs ≡ Some xs)
+      → allowed_here catalog (unary k c (group final (first_columns (length opened_is.by)) (merged (length opened_is.by) opened_is.aggregates)) p) ≡ true
+      → ((w : ℕ) → w < workers sizes (size p) → group_rows (first_columns (length opened_is.by)) (merged (length opened_is.by) opened_is.aggregates) (s w) ≡ Some (out w))
+      → Holding db sizes goes (unary k c (group final (first_columns (length opened_is.by)) (merged (length opened_is.by) opened_is.aggregates)) p) out
+  final-of k c p keys_of puts_of s out ih opened_is again ok run =
+      let by : List ℕ = opened_is.by in
+      let aggregates : List Aggregate = opened_is.aggregates in
       let keys : List ℕ = first_columns (length by) in
       let puts : List Aggregate = merged (length by) aggregates in
       let op : Unary = group final keys puts in
@@ -225,13 +225,13 @@ module _ (catalog : ℕ → Relation) (db : ℕ → List Row) (sizes : ℕ → �
       let base' : List Row = groups by aggregates ih.base in
       let both : (xs ys : List Row) → group_rows keys puts xs ≡ Some ys → (list_all (group_fits keys puts xs) (group_keys keys xs) ≡ true) × (groups keys puts xs ≡ ys)
       = λ xs ys e. some-of (list_all (group_fits keys puts xs) (group_keys keys xs)) (groups keys puts xs) ys e in
-      let whole_of : (xs : List Row) → Gives p ih.base xs → SameRows (groups keys puts xs) base' = λ xs g. final-groups by aggregates ih.base xs (gives_parts ih.base xs g) in
+      let whole_of : (xs : List Row) → Gives p ih.base xs → SameRows (groups keys puts xs) base' = λ xs g. final-groups by aggregates ih.base xs (opened_is.gives ih.base xs g) in
       let fit : list_all (group_fits by aggregates ih.base) (group_keys by ih.base) ≡ true = ⊎_elim
-      (λ f. fits-final by aggregates ih.base (s 0) (gives_parts ih.base (s 0) (f.0 0 (some (size p)))) (both (s 0) (out 0) (run 0 (some (size p)))).0)
-      (λ f. fits-final by aggregates ih.base (joined n s) (gives_parts ih.base (joined n s) f.1)
+      (λ f. fits-final by aggregates ih.base (s 0) (opened_is.gives ih.base (s 0) (f.0 0 (some (size p)))) (both (s 0) (out 0) (run 0 (some (size p)))).0)
+      (λ f. fits-final by aggregates ih.base (joined n s) (opened_is.gives ih.base (joined n s) f.1)
       (fits-joined goes f.0.0 f.0.1 keys puts n s (joined n s) f.0.2 (SameRows-refl (joined n s)) f.0.3 (λ w l. (both (s w) (out w) (run w l)).0)))
       (fitting-at op p s (λ xs. Gives p ih.base xs) ih.holds.part h.2) in
-      let below : serial db p ≡ rows base' = serial_is db ∙ (ap (λ o. after o (λ xs. or_overflow node (group_rows by aggregates xs))) ih.is_serial ∙ ap (λ b. or_overflow node (cond b (Some base') None)) fit) in
+      let below : serial db p ≡ rows base' = opened_is.serial_is db ∙ (ap (λ o. after o (λ xs. or_overflow opened_is.node (group_rows by aggregates xs))) ih.is_serial ∙ ap (λ b. or_overflow opened_is.node (cond b (Some base') None)) fit) in
       let o = if_some-is (copied keys c.order) (λ ds. is_prefix ds (claim p).order) h.5 in
       let Q : List ℕ → Type 0 = λ v. sorted v (group_keys by ih.base) ≡ true in
       let R : List Row → Type 0 = λ l. sorted (claim p).order l ≡ true in
@@ -249,7 +249,7 @@ module _ (catalog : ℕ → Relation) (db : ℕ → List Row) (sizes : ℕ → �
             ok run
             (extended-sorted c.order (length by) (group_row by aggregates ih.base) (λ key. map (λ a. aggregate_of a (of_key by key ih.base)) aggregates) (λ key. refl)
             (subst L (length-columns 0 (length by)) (copied-below keys c.order o.0 o.1)) (group_keys by ih.base) (firsts-all (λ row. length row == length by) (map (pick by) ih.base) (picks-wide by ih.base))
-            (subst Q (copied-same (length by) c.order o.0 o.1) (sorted-front o.0 (claim p).order o.2 (group_keys by ih.base) (subst R (lists ih.base) ih.holds.order.1))))
+            (subst Q (copied-same (length by) c.order o.0 o.1) (sorted-front o.0 (claim p).order o.2 (group_keys by ih.base) (subst R (opened_is.listed_is ih.base) ih.holds.order.1))))
             (keys-from (λ x. within (numbers_below (length keys)) x) base'
             (λ x e. let W : ℕ → Type 0 = λ v. within (numbers_below v) x ≡ true in groups-key by x aggregates ih.base (subst W (length-columns 0 (length by)) e)) c.keys h.6);
       }
@@ -261,22 +261,10 @@ module _ (catalog : ℕ → Relation) (db : ℕ → List Row) (sizes : ℕ → �
       → Holding db sizes goes (unary k c (group final keys puts) p) out
   final-holds k c keys puts p s out ih e ok run =
       let o = opened keys puts p e in
-      go keys puts o.keys_are o.puts_are (λ xs h. final-serial db keys puts p e xs h) ok run
-    where
-      go : (ks : List ℕ) (ps : List Aggregate) → ks ≡ first_columns (length (opened keys puts p e).by) → ps ≡ merged (length (opened keys puts p e).by) (opened keys puts p e).aggregates
-          → ((xs : List Row) → serial db p ≡ rows xs → group_rows ks ps xs ≡ Some xs)
-          → allowed_here catalog (unary k c (group final ks ps) p) ≡ true
-          → ((w : ℕ) → w < workers sizes (size p) → group_rows ks ps (s w) ≡ Some (out w))
-          → Holding db sizes goes (unary k c (group final ks ps) p) out
-      go ks ps ke pe =
-          let o = opened keys puts p e in
-          let T : List ℕ → List Aggregate → Type 0 = λ a b. ((xs : List Row) → serial db p ≡ rows xs → group_rows a b xs ≡ Some xs)
-          → allowed_here catalog (unary k c (group final a b) p) ≡ true
-          → ((w : ℕ) → w < workers sizes (size p) → group_rows a b (s w) ≡ Some (out w))
-          → Holding db sizes goes (unary k c (group final a b) p) out in
-          let A : List ℕ → Type 0 = λ a. T a ps in
-          let B : List Aggregate → Type 0 = λ b. T (first_columns (length o.by)) b in
-          subst A (sym ke) (subst B (sym pe) (λ again ok run. final-of k c o.by o.aggregates p s out ih o.gives o.listed_is o.node o.serial_is again ok run))
+      opened-as keys puts p o
+      (λ a b. ((xs : List Row) → serial db p ≡ rows xs → group_rows a b xs ≡ Some xs) → allowed_here catalog (unary k c (group final a b) p) ≡ true
+      → ((w : ℕ) → w < workers sizes (size p) → group_rows a b (s w) ≡ Some (out w)) → Holding db sizes goes (unary k c (group final a b) p) out)
+      (final-of k c p keys puts s out ih o) (final-serial db keys puts p e) ok run
 
   -- ---- scans
 

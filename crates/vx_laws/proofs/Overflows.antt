@@ -41,6 +41,7 @@ use Rattle.vx_laws.proofs.WellRun.{Sized, abides-makes, runs-of, dealt-lists, Pr
 use Rattle.vx_ends.proofs.Joined.{joined-ext}
 use Rattle.vx_laws.proofs.Shuffles.{sorted-shuffle}
 use Rattle.vx_laws.proofs.Opened.{closed-spoken}
+use Rattle.vx_laws.proofs.Phased.{by-phase}
 use Rattle.vx_plan_nodes.specs.Phases.{is_open, opens, phase_fits, spoken, Gives, is_row_of}
 use Rattle.vx_relations.specs.Relation.{Relation}
 use Rattle.std.specs.List.{list_all}
@@ -181,17 +182,14 @@ same-length xs ys s = sym (counted xs) ∙ (s.totals (λ r. 1) ∙ counted ys)
 
 gives-length : (p : Plan) (base xs : List Row) → Gives p base xs → length xs ≤ length base
 gives-length (scan n c r m z) base xs h = let e = same-length xs base h in omega (arith, e)
-gives-length (unary n c (select cs) p) base xs h = let e = same-length xs base h in omega (arith, e)
-gives-length (unary n c (project cols) p) base xs h = let e = same-length xs base h in omega (arith, e)
-gives-length (unary n c (distinct cols) p) base xs h = let e = same-length xs base h in omega (arith, e)
-gives-length (unary n c (sort cols) p) base xs h = let e = same-length xs base h in omega (arith, e)
-gives-length (unary n c (group plain by aggregates) p) base xs h = let e = same-length xs base h in omega (arith, e)
-gives-length (unary n c (group partial by aggregates) p) base xs h =
+gives-length (unary n c op p) base xs h = by-phase (λ op fits_of is_of spoken_of gives_of listed_of. gives_of base xs → length xs ≤ length base)
+    (λ op w h. let e = same-length xs base h in omega (arith, e))
+    (λ by aggregates h.
     let e = row-list by aggregates h.pieces h.each in
     let a : length (map (λ (t : Row × List Row). t.0) h.pieces) ≡ length xs = ap length h.rows_are in
     let b = same-length (flat_map (λ (t : Row × List Row). t.1) h.pieces) base h.whole in
-    omega (arith, e, a, b)
-gives-length (unary n c (group final by aggregates) p) base xs h = let e = same-length xs base h in omega (arith, e)
+    omega (arith, e, a, b))
+    (λ by aggregates h. let e = same-length xs base h in omega (arith, e)) op h
 gives-length (binary n c op p q) base xs h = let e = same-length xs base h in omega (arith, e)
 gives-length (exchange n c k m p) base xs h = gives-length p base xs h
 
@@ -387,14 +385,11 @@ module _ (S : RunModel) (giv : Given S.catalog S.db S.sizes (goes S)) (some : 0 
   -- an open node whose partial takes too long a list
   open-long : (keys : List ℕ) (puts : List Aggregate) (p : Plan) → opens keys puts p ≡ true → (base : List Row) → serial S.db (spoken p) ≡ rows base → 4611686018427387904 < length base → HasTooLong S.db p
   open-long keys puts (scan n c r m z) e base h l = absurd (true≢false (sym e))
-  open-long keys puts (unary n c (select cs) p) e base h l = absurd (true≢false (sym e))
-  open-long keys puts (unary n c (project cols) p) e base h l = absurd (true≢false (sym e))
-  open-long keys puts (unary n c (distinct cols) p) e base h l = absurd (true≢false (sym e))
-  open-long keys puts (unary n c (sort cols) p) e base h l = absurd (true≢false (sym e))
-  open-long keys puts (unary n c (group plain by aggregates) p) e base h l = absurd (true≢false (sym e))
-  open-long keys puts (unary n c (group partial by aggregates) p) e base h l =
-      let P : SerialResult → Type 0 = λ o. IsTooLong (group partial by aggregates) o in inr (subst P (sym h) l)
-  open-long keys puts (unary n c (group final by aggregates) p) e base h l = absurd (true≢false (sym e))
+  open-long keys puts (unary n c op p) e base h l = by-phase
+      (λ op fits_of is_of spoken_of gives_of listed_of. is_of keys puts ≡ true → serial S.db (spoken_of p (unary n c op p)) ≡ rows base → HasTooLong S.db (unary n c op p))
+      (λ op w e h. absurd (true≢false (sym e)))
+      (λ by aggregates e h. let P : SerialResult → Type 0 = λ o. IsTooLong (group partial by aggregates) o in inr (subst P (sym h) l))
+      (λ by aggregates e h. absurd (true≢false (sym e))) op e h
   open-long keys puts (binary n c op p q) e base h l = absurd (true≢false (sym e))
   open-long keys puts (exchange n c k m p) e base h l = open-long keys puts p e base h l
 
