@@ -1,17 +1,18 @@
 -- Lists one after the other are sorted where a range routed their rows.
-use Rattle.std.proofs.Common.{◌≡◌, ℕ, zero, suc, ◌<◌, ◌≤◌, ◌==◌, nat_lt, Bool, true, true≢false, List, [], ◌∷◌, ◌++◌, refl, sym, subst, ap, ◌∙◌, arith, eqb-true, ltb-true, lt-ltb, is_le, Ordering, Less, Equal, Greater}
+use Rattle.std.proofs.Common.{⊎_elim, ◌&&◌, ◌||◌, ◌≡◌, ℕ, zero, suc, ◌<◌, ◌≤◌, ◌==◌, nat_lt, Bool, true, true≢false, List, [], ◌∷◌, ◌++◌, refl, sym, subst, ap, ◌∙◌, arith, eqb-true, ltb-true, lt-ltb, is_le, Ordering, Less, Equal, Greater}
 use Rattle.std.specs.List.{list_all}
 use Rattle.std.specs.Ordering.{ordering_then, ordering_reverse}
 use Rattle.vx_values.specs.Values.{Row, val_cmp, value_at, pick}
 use Rattle.vx_rows.specs.Order.{compare_on, sorted}
-use Rattle.vx_plan_nodes.specs.Plan.{Claim, Part, one, any, all, routed, by_hash, by_range, ExchangeKind, route_to, round, broadcast, gather, concat}
+use Rattle.vx_plan_nodes.specs.Plan.{Plan, claim, size, is_one, Claim, Part, one, any, all, routed, by_hash, by_range, ExchangeKind, route_to, round, broadcast, gather, concat}
 use Rattle.vx_plan_nodes.specs.Runs.{is_concat}
-use Rattle.vx_check_rules.specs.Rules.{rises_by, goes_on}
+use Rattle.vx_check_rules.specs.Rules.{is_prefix, rises_by, goes_on}
 use Rattle.vx_plan_nodes.specs.Streams.{Streams, joined}
 use Rattle.vx_plan_nodes.specs.Routes.{Routing}
 use Rattle.vx_rows.proofs.Compare.{val_cmp_total}
 use Rattle.vx_laws.proofs.Bags.{and-left, and-right, and-both}
-use Rattle.vx_laws.proofs.Parts.{list_all-weaken}
+use Rattle.vx_laws.proofs.Parts.{list_all-weaken, or-cases}
+use Rattle.vx_laws.proofs.Orders.{sorted-front}
 use Rattle.vx_laws.proofs.JoinOrder.{list_all-append}
 use Rattle.vx_laws.proofs.Groups.{joined-all}
 use Rattle.vx_laws.proofs.Places.{Placed}
@@ -78,3 +79,15 @@ goes-on-is (round z) c e = absurd (true≢false (sym e))
 goes-on-is (broadcast z) c e = absurd (true≢false (sym e))
 goes-on-is gather c e = absurd (true≢false (sym e))
 goes-on-is concat c e = (refl, e)
+
+-- what an exchange puts out is in the order that it shows: the one that it merges by, or the input's from one worker, or that of a concat that goes on
+pub exchange-sorted : (p : Plan) (kind : ExchangeKind) (merge order : List ℕ) (out : List Row)
+    → (is_prefix order merge || ((is_one (size p) || goes_on kind (claim p)) && is_prefix order (claim p).order)) ≡ true → sorted merge out ≡ true
+    → (is_one (size p) ≡ true → sorted (claim p).order out ≡ true) → (goes_on kind (claim p) ≡ true → sorted (claim p).order out ≡ true) → sorted order out ≡ true
+exchange-sorted p kind merge order out h by_merge from_one on_it_goes = ⊎_elim
+    (λ e. sorted-front order merge e out by_merge)
+    (λ e.
+    let there : Bool = is_one (size p) || goes_on kind (claim p) in
+    sorted-front order (claim p).order (and-right there (is_prefix order (claim p).order) e) out
+    (⊎_elim from_one on_it_goes (or-cases (is_one (size p)) (goes_on kind (claim p)) (and-left there (is_prefix order (claim p).order) e))))
+    (or-cases (is_prefix order merge) ((is_one (size p) || goes_on kind (claim p)) && is_prefix order (claim p).order) h)

@@ -31,7 +31,7 @@ use Rattle.vx_laws.proofs.Groups.{groups, groups-joined, fits-joined, extended-s
 use Rattle.vx_laws.proofs.Exchange.{Dealt-same, exchange-any, broadcast-all, routed-in-stream, single-sorted}
 use Rattle.vx_laws.proofs.Opened.{closed, Opened, opened, opened-as, Gives-order, final-serial}
 use Rattle.vx_laws.proofs.Pieces.{Parts-base, Parts-joined, Parts-groups, final-groups, fits-final}
-use Rattle.vx_laws.proofs.Concat.{ranged}
+use Rattle.vx_laws.proofs.Concat.{ranged, exchange-sorted}
 use Rattle.vx_laws.proofs.Operators.{Made, Meets, Whole, whole, unary-ordered}
 use Rattle.vx_laws.proofs.Places.{part-placed, had-place, each-if, unary-places, Stands, shown-part, made-gives}
 
@@ -352,21 +352,12 @@ module _ (catalog : ℕ → Relation) (db : ℕ → List Row) (sizes : ℕ → �
           part = made-part goes given.in_range (is_one (target kind)) (kind_part kind) c.part (workers sizes (target kind)) out (λ xs. Gives p ih.base xs) (one-worker sizes (target kind))
               (exchange-made kind merge p ih.base (workers sizes (size p)) s out
               (has-part goes given.in_range (is_one (size p)) (claim p).part any (workers sizes (size p)) s (λ xs. Gives p ih.base xs) (one-worker sizes (size p)) h.1 ih.holds.part) x) h.4;
-          order = ⊎_elim
-              (λ by_merge. (
-                λ w l. sorted-front c.order merge by_merge (out w) (x.merged w l),
-                sorted-front c.order merge by_merge list (sorted-front merge (claim p).order h.3 list ih.holds.order.1),
-              ))
-              (λ single.
-              let f = and-right (is_one (size p) || goes_on kind (claim p)) (is_prefix c.order (claim p).order) single in (
-                λ w l. ⊎_elim
-                    (λ o. single-sorted goes kind merge _ _ s out x (one-worker sizes (size p) o) c.order
-                    (sorted-front c.order (claim p).order f _ (ih.holds.order.0 0 (some (size p)))) w l)
-                    (λ g. sorted-front c.order (claim p).order f (out w) (concat-sorted kind merge p s ih out x g w l))
-                    (or-cases (is_one (size p)) (goes_on kind (claim p)) (and-left (is_one (size p) || goes_on kind (claim p)) (is_prefix c.order (claim p).order) single)),
-                sorted-front c.order (claim p).order f list ih.holds.order.1,
-              ))
-              (or-cases (is_prefix c.order merge) ((is_one (size p) || goes_on kind (claim p)) && is_prefix c.order (claim p).order) h.5);
+          order = (
+            λ w l. exchange-sorted p kind merge c.order (out w) h.5 (x.merged w l)
+                (λ o. single-sorted goes kind merge _ _ s out x (one-worker sizes (size p) o) (claim p).order (ih.holds.order.0 0 (some (size p))) w l)
+                (λ g. concat-sorted kind merge p s ih out x g w l),
+            exchange-sorted p kind merge c.order list h.5 (sorted-front merge (claim p).order h.3 list ih.holds.order.1) (λ o. ih.holds.order.1) (λ g. ih.holds.order.1),
+          );
           keys = keys-from (covers (claim p).keys) list (λ y e. covers-key (claim p).keys y e list ih.holds.keys) c.keys h.6;
         };
       }

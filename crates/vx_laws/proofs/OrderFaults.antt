@@ -148,7 +148,7 @@ module _ (S : RunModel) (giv : Given S.catalog S.db S.sizes (goes S)) where
       (λ i a.
       let P : List PacketView → Type 0 = λ ps. sorted merge (rows_of ps) ≡ true in
       subst P (sym (seen i)) (sorted-front merge (claim p).order t.3 (rows_of (reads.came n i))
-      (came-tidy S giv n i k p run.0 ts (tidy S giv p fit wp okp run.0 run.1 i a) (run.2 i a) w l (run.3 i w a l) (reads.came n i) (begin.came n i)).0.1))
+      (came-tidy S giv n i k p run.0 ts (tidy S giv p fit wp okp run.0 run.1 i a) (run.2 i a) w l (run.3 i w a l) (reads.came n i) (begin.came n i)).0.0.1))
       (λ i a.
       let P : List PacketView → Type 0 = λ ps. AllFor (port_of n w k merge p) i ps in
       let flow = run.3 i w a l in

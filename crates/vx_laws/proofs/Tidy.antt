@@ -40,7 +40,7 @@ use Rattle.vx_laws.proofs.Decks.{Drawn, dispatched-drawn}
 use Rattle.vx_laws.proofs.Overflows.{reads-begin}
 use Rattle.vx_plan_nodes.specs.Phases.{phase_fits, both_closed}
 use Rattle.vx_plan_nodes.specs.Runs.{is_concat}
-use Rattle.vx_laws.proofs.Concat.{ranged, goes-on-is}
+use Rattle.vx_laws.proofs.Concat.{ranged, goes-on-is, exchange-sorted}
 
 abbrev pub Tidy : ℕ → List ℕ → List Row → Type 0
 Tidy w cols xs = (wide w xs ≡ true) × (sorted cols xs ≡ true)
@@ -109,10 +109,11 @@ sends-place goes concat n xs sent h j l = list_all-always (λ row. true) (λ row
 abbrev pub Neat : Routing → Claim → (wd n w : ℕ) → List Row → Type 0
 Neat goes c wd n w xs = Tidy wd c.order xs × Placed goes c.part n w xs
 
-pub neat-begins : (goes : Routing) (c : Claim) (wd n w : ℕ) (xs zs : List Row) → IsBeginning xs zs → Neat goes c wd n w zs → Neat goes c wd n w xs
-neat-begins goes c wd n w xs zs b h =
-    let P : List Row → Type 0 = λ l. list_all (at_place goes c.part n w) l ≡ true in
-    (tidy-begins wd c.order xs zs b h.0, all-left (at_place goes c.part n w) xs b.rest (subst P (sym b.joined) h.1))
+all-begins : (q : Row → Bool) (xs zs : List Row) → IsBeginning xs zs → list_all q zs ≡ true → list_all q xs ≡ true
+all-begins q xs zs b h = let P : List Row → Type 0 = λ l. list_all q l ≡ true in all-left q xs b.rest (subst P (sym b.joined) h)
+
+neat-begins : (goes : Routing) (c : Claim) (wd n w : ℕ) (xs zs : List Row) → IsBeginning xs zs → Neat goes c wd n w zs → Neat goes c wd n w xs
+neat-begins goes c wd n w xs zs b h = (tidy-begins wd c.order xs zs b h.0, all-begins (at_place goes c.part n w) xs zs b h.1)
 
 module _ (S : RunModel) (giv : Given S.catalog S.db S.sizes (goes S)) where
   abbrev IsTidy : Plan → (w : ℕ) → List Row → Type 0
@@ -122,65 +123,42 @@ module _ (S : RunModel) (giv : Given S.catalog S.db S.sizes (goes S)) where
   abbrev Gives : Plan → (ℕ → Trace) → ℕ → Type 0
   Gives p ts w = (reads : Reads) → ReadsBegin S (ts w) reads → (out : Stream) → FragAbides (fragment S w p) reads out → IsTidy p w out.rows
 
-  -- what a producer put, well or not
-  put-tidy : (n i : ℕ) (k : ExchangeKind) (p : Plan) (us : ℕ → Trace) → Gives p us i → Ends S (fragment S i p) (send (ship_of S n i k p)) (us i)
-      → (j : ℕ) → j < workers S.sizes (target k) → IsTidy p i (rows_of ((us i).sent j))
-  put-tidy n i k p us gives e j b = go e.0 e.1
+  -- what holds of all that a producer sends a consumer, and of each beginning of it, holds of what the consumer has read so far
+  came-so : (P : List Row → Type 0) → ((xs zs : List Row) → IsBeginning xs zs → P zs → P xs) → (n i : ℕ) (k : ExchangeKind) (p : Plan) (u t : Trace) → Ends S (fragment S i p) (send (ship_of S n i k p)) u
+      → (j : ℕ) → j < workers S.sizes (target k)
+      → ((reads : Reads) → ReadsBegin S u reads → (out : Stream) → FragAbides (fragment S i p) reads out → (sent : Streams) → Sends (goes S) k (workers S.sizes (target k)) out.rows sent → P (sent j))
+      → Flows (u.sent j) (t.came n i) → (seen : List PacketView) → IsBeginning seen (t.came n i) → P (rows_of seen)
+  came-so P begins n i k p u t e j b sends f seen s =
+      begins (rows_of seen) (rows_of (t.came n i)) (begins-rows seen (t.came n i) s)
+      (begins (rows_of (t.came n i)) (rows_of (u.sent j)) (begins-rows (t.came n i) (u.sent j) (record { rest = f.rest; joined = f.begins })) (go e.0 e.1))
     where
-      sent-tidy : (xs : List Row) (sent : Streams) → Sends (goes S) k (workers S.sizes (target k)) xs sent → IsTidy p i xs → IsTidy p i (sent j)
-      sent-tidy xs sent h t = (
-        (sends-all (goes S) k (workers S.sizes (target k)) xs sent h (λ row. length row == width S.catalog p) t.0.0 j b, sends-sorted (goes S) k (workers S.sizes (target k)) xs sent h (claim p).order t.0.1 j b),
-        sends-all (goes S) k (workers S.sizes (target k)) xs sent h (at_place (goes S) (claim p).part (workers S.sizes (size p)) i) t.1 j b,
-      )
-
-      go : (fate : Fate) → Honest S (fragment S i p) (send (ship_of S n i k p)) fate (us i) → IsTidy p i (rows_of ((us i).sent j))
+      go : (fate : Fate) → Honest S (fragment S i p) (send (ship_of S n i k p)) fate u → P (rows_of (u.sent j))
       go well h =
-          let t = sent-tidy h.out.rows h.finished.sent h.finished.sends (gives h.reads (reads-begin S (us i) h.reads h.reads_are) h.out h.abides) in
-          let Q : List Row → Type 0 = λ xs. IsTidy p i xs in
-          subst Q (sym (port-rows (ship_of S n i k p) j (h.finished.sent j) ((us i).sent j) (h.finished.ports j b))) t
+          subst P (sym (port-rows (ship_of S n i k p) j (h.finished.sent j) (u.sent j) (h.finished.ports j b)))
+          (sends h.reads (reads-begin S u h.reads h.reads_are) h.out h.abides h.finished.sent h.finished.sends)
       go (failed x) h =
-          let t = sent-tidy h.out.rows h.stopped.sent h.stopped.sends (gives h.reads h.reads_begin h.out h.abides) in
           let c = h.stopped.ports j b in
-          let Q : List Row → Type 0 = λ xs. IsTidy p i xs in
-          subst Q (sym (cut-rows (ship_of S n i k p) j (h.stopped.sent j) ((us i).sent j) c))
-          (neat-begins (goes S) (claim p) (width S.catalog p) (workers S.sizes (size p)) i (end_to_end c.parts) (h.stopped.sent j) c.begins t)
+          subst P (sym (cut-rows (ship_of S n i k p) j (h.stopped.sent j) (u.sent j) c))
+          (begins (end_to_end c.parts) (h.stopped.sent j) c.begins (sends h.reads h.reads_begin h.out h.abides h.stopped.sent h.stopped.sends))
 
-  -- what a consumer has read of a producer so far
+  -- what a consumer has read of a producer so far is as tidy as there, and stands where the exchange sends it
   pub came-tidy : (n : ℕ) (i : ℕ) (k : ExchangeKind) (p : Plan) (us ts : ℕ → Trace) → Gives p us i → Ends S (fragment S i p) (send (ship_of S n i k p)) (us i)
-      → (j : ℕ) → j < workers S.sizes (target k) → Flows ((us i).sent j) ((ts j).came n i) → (seen : List PacketView) → IsBeginning seen ((ts j).came n i) → IsTidy p i (rows_of seen)
+      → (j : ℕ) → j < workers S.sizes (target k) → Flows ((us i).sent j) ((ts j).came n i) → (seen : List PacketView) → IsBeginning seen ((ts j).came n i)
+      → IsTidy p i (rows_of seen) × Placed (goes S) (kind_part k) (workers S.sizes (target k)) j (rows_of seen)
   came-tidy n i k p us ts gives e j b f seen s =
-      let t = put-tidy n i k p us gives e j b in
-      let taken = begins-rows ((ts j).came n i) ((us i).sent j) (record { rest = f.rest; joined = f.begins }) in
-      let read = begins-rows seen ((ts j).came n i) s in
-      neat-begins (goes S) (claim p) (width S.catalog p) (workers S.sizes (size p)) i (rows_of seen) (rows_of ((ts j).came n i)) read
-      (neat-begins (goes S) (claim p) (width S.catalog p) (workers S.sizes (size p)) i (rows_of ((ts j).came n i)) (rows_of ((us i).sent j)) taken t)
-
-  -- what a producer put for a consumer stands there
-  put-place : (n i : ℕ) (k : ExchangeKind) (p : Plan) (u : Trace) → Ends S (fragment S i p) (send (ship_of S n i k p)) u
-      → (j : ℕ) → j < workers S.sizes (target k) → list_all (at_place (goes S) (kind_part k) (workers S.sizes (target k)) j) (rows_of (u.sent j)) ≡ true
-  put-place n i k p u e j b = go e.0 e.1
-    where
-      go : (fate : Fate) → Honest S (fragment S i p) (send (ship_of S n i k p)) fate u → list_all (at_place (goes S) (kind_part k) (workers S.sizes (target k)) j) (rows_of (u.sent j)) ≡ true
-      go well h =
-          let Q : List Row → Type 0 = λ xs. list_all (at_place (goes S) (kind_part k) (workers S.sizes (target k)) j) xs ≡ true in
-          subst Q (sym (port-rows (ship_of S n i k p) j (h.finished.sent j) (u.sent j) (h.finished.ports j b)))
-          (sends-place (goes S) k (workers S.sizes (target k)) h.out.rows h.finished.sent h.finished.sends j b)
-      go (failed x) h =
-          let c = h.stopped.ports j b in
-          let Q : List Row → Type 0 = λ xs. list_all (at_place (goes S) (kind_part k) (workers S.sizes (target k)) j) xs ≡ true in
-          subst Q (sym (cut-rows (ship_of S n i k p) j (h.stopped.sent j) (u.sent j) c))
-          (all-left (at_place (goes S) (kind_part k) (workers S.sizes (target k)) j) (end_to_end c.parts) c.begins.rest
-          (subst Q (sym c.begins.joined) (sends-place (goes S) k (workers S.sizes (target k)) h.out.rows h.stopped.sent h.stopped.sends j b)))
-
-  came-place : (n i : ℕ) (k : ExchangeKind) (p : Plan) (u t : Trace) → Ends S (fragment S i p) (send (ship_of S n i k p)) u
-      → (j : ℕ) → j < workers S.sizes (target k) → Flows (u.sent j) (t.came n i) → (seen : List PacketView) → IsBeginning seen (t.came n i)
-      → list_all (at_place (goes S) (kind_part k) (workers S.sizes (target k)) j) (rows_of seen) ≡ true
-  came-place n i k p u t e j b f seen s =
-      let q : Row → Bool = at_place (goes S) (kind_part k) (workers S.sizes (target k)) j in
-      let Q : List Row → Type 0 = λ xs. list_all q xs ≡ true in
-      let taken = begins-rows (t.came n i) (u.sent j) (record { rest = f.rest; joined = f.begins }) in
-      let read = begins-rows seen (t.came n i) s in
-      all-left q (rows_of seen) read.rest (subst Q (sym read.joined) (all-left q (rows_of (t.came n i)) taken.rest (subst Q (sym taken.joined) (put-place n i k p u e j b))))
+      let m : ℕ = workers S.sizes (target k) in
+      came-so (λ xs. IsTidy p i xs × Placed (goes S) (kind_part k) m j xs)
+      (λ xs zs g h. (neat-begins (goes S) (claim p) (width S.catalog p) (workers S.sizes (size p)) i xs zs g h.0, all-begins (at_place (goes S) (kind_part k) m j) xs zs g h.1))
+      n i k p (us i) (ts j) e j b
+      (λ reads r out a sent h.
+      let t = gives reads r out a in (
+        (
+          (sends-all (goes S) k m out.rows sent h (λ row. length row == width S.catalog p) t.0.0 j b, sends-sorted (goes S) k m out.rows sent h (claim p).order t.0.1 j b),
+          sends-all (goes S) k m out.rows sent h (at_place (goes S) (claim p).part (workers S.sizes (size p)) i) t.1 j b,
+        ),
+        sends-place (goes S) k m out.rows sent h j b,
+      ))
+      f seen s
 
   -- a part that is made where it is
   made-place : (z : Size) (p q : Part) (w : ℕ) → w < workers S.sizes z → (xs : List Row) → Placed (goes S) p (workers S.sizes z) w xs
@@ -292,45 +270,30 @@ module _ (S : RunModel) (giv : Given S.catalog S.db S.sizes (goes S)) where
       let wd : ℕ = width S.catalog p in
       let t = tests S.catalog (exchange n c k merge p) (and-right (allowed S.catalog p) here ok) in
       let b = h.2.before in
-      let lists : (i : ℕ) → i < m → IsTidy p i (rows_of (b.inputs.came i)) = λ i a.
-      let seen : h.0.came i ≡ reads.came n i = ap (λ (g : ℕ → List PacketView). g i) h.1.came in
-      let came = came-tidy n i k p run.0 ts
-      (tidy p fit (and-left (well_formed S.catalog p) (names_columns (width S.catalog p) c) wf) (and-left (allowed S.catalog p) here ok) run.0 run.1 i a)
-      (run.2 i a) w l (run.3 i w a l) (reads.came n i) (begin.came n i) in
-      let P : List PacketView → Type 0 = λ ps. IsTidy p i (rows_of ps) in
-      neat-begins (goes S) (claim p) wd m i (rows_of (b.inputs.came i)) (rows_of (h.0.came i)) (b.begins.came i) (subst P (sym seen) came) in
       let n0 : ℕ = workers S.sizes (target k) in
-      let places : (i : ℕ) → i < m → list_all (at_place (goes S) (kind_part k) n0 w) (rows_of (b.inputs.came i)) ≡ true = λ i a.
+      let lists : (i : ℕ) → i < m → IsTidy p i (rows_of (b.inputs.came i)) × Placed (goes S) (kind_part k) n0 w (rows_of (b.inputs.came i)) = λ i a.
       let seen : h.0.came i ≡ reads.came n i = ap (λ (g : ℕ → List PacketView). g i) h.1.came in
-      let came = came-place n i k p (run.0 i) (ts w) (run.2 i a) w l (run.3 i w a l) (reads.came n i) (begin.came n i) in
-      let P : List PacketView → Type 0 = λ ps. list_all (at_place (goes S) (kind_part k) n0 w) (rows_of ps) ≡ true in
-      let Q : List Row → Type 0 = λ xs. list_all (at_place (goes S) (kind_part k) n0 w) xs ≡ true in
-      all-left (at_place (goes S) (kind_part k) n0 w) (rows_of (b.inputs.came i)) (b.begins.came i).rest (subst Q (sym (b.begins.came i).joined) (subst P (sym seen) came)) in
-      let whole_wide : wide wd b.whole ≡ true = dealt-all m b.whole (λ i. rows_of (b.inputs.came i)) b.makes.0 (λ row. length row == wd) (λ i a. (lists i a).0.0) in
+      let P : List PacketView → Type 0 = λ ps. IsTidy p i (rows_of ps) × Placed (goes S) (kind_part k) n0 w (rows_of ps) in
+      let came = subst P (sym seen) (came-tidy n i k p run.0 ts
+      (tidy p fit (and-left (well_formed S.catalog p) (names_columns (width S.catalog p) c) wf) (and-left (allowed S.catalog p) here ok) run.0 run.1 i a)
+      (run.2 i a) w l (run.3 i w a l) (reads.came n i) (begin.came n i)) in (
+        neat-begins (goes S) (claim p) wd m i (rows_of (b.inputs.came i)) (rows_of (h.0.came i)) (b.begins.came i) came.0,
+        all-begins (at_place (goes S) (kind_part k) n0 w) (rows_of (b.inputs.came i)) (rows_of (h.0.came i)) (b.begins.came i) came.1,
+      ) in
+      let whole_wide : wide wd b.whole ≡ true = dealt-all m b.whole (λ i. rows_of (b.inputs.came i)) b.makes.0 (λ row. length row == wd) (λ i a. (lists i a).0.0.0) in
       let whole_place : Placed (goes S) c.part n0 w b.whole
-      = made-place (target k) (kind_part k) c.part w l b.whole (dealt-all m b.whole (λ i. rows_of (b.inputs.came i)) b.makes.0 (at_place (goes S) (kind_part k) n0 w) places) t.4 in
-      let whole_sorted : sorted c.order b.whole ≡ true = ⊎_elim
-      (λ by_merge. sorted-front c.order merge by_merge b.whole b.makes.1)
-      (λ single.
-      let f = and-right (is_one (size p) || goes_on k (claim p)) (is_prefix c.order (claim p).order) single in
-      ⊎_elim
+      = made-place (target k) (kind_part k) c.part w l b.whole (dealt-all m b.whole (λ i. rows_of (b.inputs.came i)) b.makes.0 (at_place (goes S) (kind_part k) n0 w) (λ i a. (lists i a).1)) t.4 in
+      let whole_sorted : sorted c.order b.whole ≡ true = exchange-sorted p k merge c.order b.whole t.5 b.makes.1
       (λ o.
       let e = one-worker S.sizes (size p) o in
       let D : ℕ → Type 0 = λ a. Dealt a b.whole (λ i. rows_of (b.inputs.came i)) in
       let N : ℕ → Type 0 = λ a. 0 < a in
       let is : b.whole ≡ rows_of (b.inputs.came 0) = Dealt-one (subst D e b.makes.0) in
-      let Q : List Row → Type 0 = λ xs. sorted c.order xs ≡ true in
-      subst Q (sym is) (sorted-front c.order (claim p).order f (rows_of (b.inputs.came 0)) (lists 0 (subst N (sym e) (omega arith))).0.1))
-      (λ g. sorted-front c.order (claim p).order f b.whole (in-order k (claim p) m (λ i. rows_of (b.inputs.came i)) b.whole g b.makes.2 (λ i a. (lists i a).0.1) (λ i a. (lists i a).1)))
-      (or-cases (is_one (size p)) (goes_on k (claim p)) (and-left (is_one (size p) || goes_on k (claim p)) (is_prefix c.order (claim p).order) single)))
-      (or-cases (is_prefix c.order merge) ((is_one (size p) || goes_on k (claim p)) && is_prefix c.order (claim p).order) t.5) in
+      let Q : List Row → Type 0 = λ xs. sorted (claim p).order xs ≡ true in
+      subst Q (sym is) (lists 0 (subst N (sym e) (omega arith))).0.0.1)
+      (λ g.
+      let r = goes-on-is k (claim p) g in
+      let Q : List Row → Type 0 = λ xs. sorted (claim p).order xs ≡ true in
+      subst Q (b.makes.2 r.0) (ranged (goes S) giv.rising (claim p).part (claim p).order m (λ i. rows_of (b.inputs.came i)) r.1 (λ i a. (lists i a).0.0.1) (λ i a. (lists i a).0.1))) in
       let Q : Stream → Type 0 = λ s. Neat (goes S) c wd n0 w s.rows in
       subst Q h.3 (neat-begins (goes S) c wd n0 w h.0.gave.rows b.whole b.gave ((whole_wide, whole_sorted), whole_place))
-    where
-      -- beginnings of lists that a range routed, one after the other
-      in-order : (k : ExchangeKind) (c : Claim) (m : ℕ) (s : Streams) (whole : List Row) → goes_on k c ≡ true
-          → (is_concat k ≡ true → joined m s ≡ whole) → ((i : ℕ) → i < m → sorted c.order (s i) ≡ true) → ((i : ℕ) → i < m → Placed (goes S) c.part m i (s i)) → sorted c.order whole ≡ true
-      in-order k c m s whole g e up at =
-          let r = goes-on-is k c g in
-          let P : List Row → Type 0 = λ xs. sorted c.order xs ≡ true in
-          subst P (e r.0) (ranged (goes S) giv.rising c.part c.order m s r.1 up at)
