@@ -28,50 +28,13 @@ use Rattle.vx_laws.proofs.Pieces.{final-fits}
 use Rattle.vx_laws.proofs.Operators.{whole}
 use Rattle.vx_laws.proofs.OneInput.{tests, HoldingOf, Holding, HoldingAt, fitting-at, scan-holds, unary-holds, close, exchange-holds, partial-holds, final-holds}
 use Rattle.vx_laws.proofs.TwoInputs.{binary-holds}
+use Rattle.vx_laws.proofs.WellFormed.{well-under, well-both, names}
+
+pub not-open : (b : Bool) → not b ≡ true → b ≡ false
+not-open true e = sym e
+not-open false e = refl
 
 module _ (catalog : ℕ → Relation) (db : ℕ → List Row) (sizes : ℕ → ℕ) (goes : Routing) (given : Given catalog db sizes goes) where
-  -- a well-formed plan's claims name its columns
-  pub names : (p : Plan) → well_formed catalog p ≡ true → names_columns (width catalog p) (claim p) ≡ true
-  names (scan k c r m z) h = h
-  names (unary k c op p) h =
-      and-right (phase_fits op p) (names_columns (width catalog (unary k c op p)) c) (and-right (well_formed catalog p) (phase_fits op p && names_columns (width catalog (unary k c op p)) c) h)
-  names (binary k c union p q) h =
-      let some : Bool = (width catalog p == width catalog q) && names_columns (width catalog p) c in
-      let last : Bool = both_closed p q && some in
-      and-right (width catalog p == width catalog q) (names_columns (width catalog p) c) (and-right (both_closed p q) some (and-right (well_formed catalog q) last (and-right (well_formed catalog p) (well_formed catalog q && last) h)))
-  names (binary k c (join m on) p q) h =
-      let last : Bool = both_closed p q && names_columns (width catalog p + width catalog q) c in
-      and-right (both_closed p q) (names_columns (width catalog p + width catalog q) c) (and-right (well_formed catalog q) last (and-right (well_formed catalog p) (well_formed catalog q && last) h))
-  names (exchange k c kind m p) h = and-right (well_formed catalog p) (names_columns (width catalog p) c) h
-
-  -- the phase of a well-formed operator fits its input
-  pub phase-of : (k : ℕ) (c : Claim) (op : Unary) (p : Plan) → well_formed catalog (unary k c op p) ≡ true → phase_fits op p ≡ true
-  phase-of k c op p h = and-left (phase_fits op p) (names_columns (width catalog (unary k c op p)) c) (and-right (well_formed catalog p) (phase_fits op p && names_columns (width catalog (unary k c op p)) c) h)
-
-  closed-both : (k : ℕ) (c : Claim) (op : Binary) (p q : Plan) → well_formed catalog (binary k c op p q) ≡ true → both_closed p q ≡ true
-  closed-both k c union p q h =
-      let some : Bool = (width catalog p == width catalog q) && names_columns (width catalog p) c in
-      and-left (both_closed p q) some (and-right (well_formed catalog q) (both_closed p q && some) (and-right (well_formed catalog p) (well_formed catalog q && (both_closed p q && some)) h))
-  closed-both k c (join m on) p q h =
-      let some : Bool = names_columns (width catalog p + width catalog q) c in
-      and-left (both_closed p q) some (and-right (well_formed catalog q) (both_closed p q && some) (and-right (well_formed catalog p) (well_formed catalog q && (both_closed p q && some)) h))
-
-  pub not-open : (b : Bool) → not b ≡ true → b ≡ false
-  not-open true e = sym e
-  not-open false e = refl
-
-  pub well-left : (k : ℕ) (c : Claim) (op : Binary) (p q : Plan) → well_formed catalog (binary k c op p q) ≡ true → well_formed catalog p ≡ true
-  well-left k c union p q h = and-left (well_formed catalog p) _ h
-  well-left k c (join m on) p q h = and-left (well_formed catalog p) _ h
-
-  pub well-right : (k : ℕ) (c : Claim) (op : Binary) (p q : Plan) → well_formed catalog (binary k c op p q) ≡ true → well_formed catalog q ≡ true
-  well-right k c union p q h =
-      let last : Bool = both_closed p q && ((width catalog p == width catalog q) && names_columns (width catalog p) c) in
-      and-left (well_formed catalog q) last (and-right (well_formed catalog p) (well_formed catalog q && last) h)
-  well-right k c (join m on) p q h =
-      let last : Bool = both_closed p q && names_columns (width catalog p + width catalog q) c in
-      and-left (well_formed catalog q) last (and-right (well_formed catalog p) (well_formed catalog q && last) h)
-
   unary-at : (k : ℕ) (c : Claim) (op : Unary) (p : Plan) (s out : Streams) → phase_fits op p ≡ true → HoldingAt db sizes goes p s → allowed_here catalog (unary k c op p) ≡ true
       → ((w : ℕ) → w < workers sizes (size p) → unary_rows op (s w) ≡ Some (out w)) → HoldingAt db sizes goes (unary k c op p) out
   unary-at k c op p s out e h ok run =
@@ -88,19 +51,18 @@ module _ (catalog : ℕ → Relation) (db : ℕ → List Row) (sizes : ℕ → �
   all-hold (scan k c r m z) s wf ok run = scan-holds catalog db sizes goes given k c r m z s ok run
   all-hold (unary k c op p) s wf ok run =
       let here : Bool = allowed_here catalog (unary k c op p) in
-      let h = all-hold p run.0 (and-left (well_formed catalog p) (phase_fits op p && names_columns (width catalog (unary k c op p)) c) wf) (and-left (allowed catalog p) here ok) run.1 in
-      unary-at k c op p run.0 s (phase-of k c op p wf) h (and-right (allowed catalog p) here ok) run.2
+      let h = all-hold p run.0 (well-under catalog k c op p wf).0 (and-left (allowed catalog p) here ok) run.1 in
+      unary-at k c op p run.0 s (well-under catalog k c op p wf).1 h (and-right (allowed catalog p) here ok) run.2
   all-hold (binary k c op p q) s wf ok run =
       let here : Bool = allowed_here catalog (binary k c op p q) in
       let rest = and-right (allowed catalog p) (allowed catalog q && here) ok in
-      let wp = well-left k c op p q wf in
-      let closed = closed-both k c op p q wf in
-      let h = all-hold p run.0 wp (and-left (allowed catalog p) (allowed catalog q && here) ok) run.2 in
-      let j = all-hold q run.1 (well-right k c op p q wf) (and-left (allowed catalog q) here rest) run.3 in
+      let well = well-both catalog k c op p q wf in
+      let h = all-hold p run.0 well.0 (and-left (allowed catalog p) (allowed catalog q && here) ok) run.2 in
+      let j = all-hold q run.1 well.1 (and-left (allowed catalog q) here rest) run.3 in
       binary-holds catalog db sizes goes given k c op p q run.0 run.1 s
-      (close catalog db sizes goes given p run.0 (not-open (is_open p) (and-left (not (is_open p)) (not (is_open q)) closed)) h)
-      (close catalog db sizes goes given q run.1 (not-open (is_open q) (and-right (not (is_open p)) (not (is_open q)) closed)) j)
-      wp (names p wp) (and-right (allowed catalog q) here rest) run.4
+      (close catalog db sizes goes given p run.0 (not-open (is_open p) (and-left (not (is_open p)) (not (is_open q)) well.2)) h)
+      (close catalog db sizes goes given q run.1 (not-open (is_open q) (and-right (not (is_open p)) (not (is_open q)) well.2)) j)
+      well.0 (names catalog p well.0) (and-right (allowed catalog q) here rest) run.4
   all-hold (exchange k c kind merge p) s wf ok run =
       let here : Bool = allowed_here catalog (exchange k c kind merge p) in
       let h = all-hold p run.0 (and-left (well_formed catalog p) (names_columns (width catalog p) c) wf) (and-left (allowed catalog p) here ok) run.1 in
@@ -231,7 +193,7 @@ module _ (catalog : ℕ → Relation) (db : ℕ → List Row) (sizes : ℕ → �
       → IsSome (unary_rows op (u w)) ⊎ (HasLargeInput op (serial db p) ⊎ IsTooLong op (serial db p))
   no-overflow-at k c op p u wf ok run xs e w l =
       let here : Bool = allowed_here catalog (unary k c op p) in
-      let h = all-hold p u (and-left (well_formed catalog p) (phase_fits op p && names_columns (width catalog (unary k c op p)) c) wf) (and-left (allowed catalog p) here ok) run in
+      let h = all-hold p u (well-under catalog k c op p wf).0 (and-left (allowed catalog p) here ok) run in
       let t = tests catalog (unary k c op p) (and-right (allowed catalog p) here ok) in
       by-phase
       (λ op fits_of is_of spoken_of gives_of listed_of. fits_of p ≡ true → (is_one (size p) || Rattle.vx_check_rules.specs.Behaviour.fits (over (described op) p)) ≡ true → serial db (unary k c op p) ≡ rows xs
@@ -245,7 +207,7 @@ module _ (catalog : ℕ → Relation) (db : ℕ → List Row) (sizes : ℕ → �
       decide by aggregates (list_all (group_fits by aggregates (u w)) (group_keys by (u w))) refl
       (λ bad. subst P (sym ih.is_serial) (partial-large by aggregates (u w) ih.base (λ f. part-total (claim p).part (workers sizes (size p)) u ih.base ih.holds.part f w l) bad)))
       (λ by aggregates f t e. inl (below by aggregates (serial db p) refl h f t e))
-      op (phase-of k c op p wf) t.2 e
+      op (well-under catalog k c op p wf).1 t.2 e
     where
       own_rows : HoldingAt db sizes goes p u → not (is_open p) ≡ true → Holding db sizes goes p u
       own_rows h f = close catalog db sizes goes given p u (not-open (is_open p) f) h
@@ -279,14 +241,14 @@ sound catalog db sizes goes given p s wf ok run =
 pub sound-throughout : SoundThroughout
 sound-throughout catalog db sizes goes given (scan k c r m z) s wf ok run = sound catalog db sizes goes given (scan k c r m z) s wf ok run
 sound-throughout catalog db sizes goes given (unary k c op p) s wf ok run = (
-  sound-throughout catalog db sizes goes given p run.0 (and-left (well_formed catalog p) (phase_fits op p && names_columns (width catalog (unary k c op p)) c) wf) (and-left (allowed catalog p) (allowed_here catalog (unary k c op p)) ok) run.1,
+  sound-throughout catalog db sizes goes given p run.0 (well-under catalog k c op p wf).0 (and-left (allowed catalog p) (allowed_here catalog (unary k c op p)) ok) run.1,
   sound catalog db sizes goes given (unary k c op p) s wf ok run,
 )
 sound-throughout catalog db sizes goes given (binary k c op p q) s wf ok run =
     let here : Bool = allowed_here catalog (binary k c op p q) in
     let rest = and-right (allowed catalog p) (allowed catalog q && here) ok in (
-      sound-throughout catalog db sizes goes given p run.0 (well-left catalog db sizes goes given k c op p q wf) (and-left (allowed catalog p) (allowed catalog q && here) ok) run.2,
-      sound-throughout catalog db sizes goes given q run.1 (well-right catalog db sizes goes given k c op p q wf) (and-left (allowed catalog q) here rest) run.3,
+      sound-throughout catalog db sizes goes given p run.0 (well-both catalog k c op p q wf).0 (and-left (allowed catalog p) (allowed catalog q && here) ok) run.2,
+      sound-throughout catalog db sizes goes given q run.1 (well-both catalog k c op p q wf).1 (and-left (allowed catalog q) here rest) run.3,
       sound catalog db sizes goes given (binary k c op p q) s wf ok run,
     )
 sound-throughout catalog db sizes goes given (exchange k c kind merge p) s wf ok run = (

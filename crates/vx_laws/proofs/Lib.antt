@@ -14,6 +14,7 @@ pub mod Apart
 pub mod Groups
 pub mod Pieces
 pub mod Concat
+pub mod WellFormed
 pub mod Phased
 pub mod Opened
 pub mod Operators

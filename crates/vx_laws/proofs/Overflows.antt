@@ -31,7 +31,8 @@ use Rattle.vx_laws.proofs.Orders.{Dealt-one, sorted-front}
 use Rattle.vx_laws.proofs.Unary.{some-is}
 use Rattle.vx_laws.proofs.Exchange.{sends-sorted}
 use Rattle.vx_laws.proofs.OneInput.{tests, HoldingAt}
-use Rattle.vx_laws.proofs.Frame.{all-hold, no-overflow-at, well-left, well-right, phase-of, not-open}
+use Rattle.vx_laws.proofs.Frame.{all-hold, no-overflow-at, not-open}
+use Rattle.vx_laws.proofs.WellFormed.{well-under, well-both}
 use Rattle.vx_laws.proofs.Erased.{erased-overflows}
 use Rattle.vx_laws.proofs.Settings.{set-given}
 use Rattle.vx_laws.proofs.Choose.{choose, one-more}
@@ -303,7 +304,7 @@ module _ (S : RunModel) (giv : Given S.catalog S.db S.sizes (goes S)) (some : 0 
       (λ none. inr (not-overflow n c op p got.0 wf ok got.1 none.0 none.1 none.2))
       (all-some (workers S.sizes (size p)) (λ v. unary_rows op (got.0 v))))
       (λ real. inr (real-unary S.db n c op p real))
-      (complete p fit (and-left (well_formed S.catalog p) (phase_fits op p && names_columns (width S.catalog (unary n c op p)) c) wf) (and-left (allowed S.catalog p) here ok) ts run w l h.makes.0.left.rows
+      (complete p fit (well-under S.catalog n c op p wf).0 (and-left (allowed S.catalog p) here ok) ts run w l h.makes.0.left.rows
       (record { reads = h.reads; reads_begin = h.reads_begin; makes = h.makes.1 }))
   complete (binary n c op p q) fit wf ok ts run w l out h =
       let here : Bool = allowed_here S.catalog (binary n c op p q) in
@@ -319,10 +320,10 @@ module _ (S : RunModel) (giv : Given S.catalog S.db S.sizes (goes S)) (some : 0 
         ap (λ xs. binary_rows op xs (right.0 w)) left.2 ∙ ap (binary_rows op h.makes.0.left.rows) right.2 ∙ h.makes.3,
       ))
       (λ real. inr (real-right S.db n c op p q real))
-      (complete q (and-right (is_fit S.relation_of p) (is_fit S.relation_of q) fits) (well-right S.catalog S.db S.sizes (goes S) giv n c op p q wf) (and-left (allowed S.catalog q) here rest) ts run.1 w (subst P same l) h.makes.0.right.rows
+      (complete q (and-right (is_fit S.relation_of p) (is_fit S.relation_of q) fits) (well-both S.catalog n c op p q wf).1 (and-left (allowed S.catalog q) here rest) ts run.1 w (subst P same l) h.makes.0.right.rows
       (record { reads = h.reads; reads_begin = h.reads_begin; makes = h.makes.2 })))
       (λ real. inr (real-left S.db n c op p q real))
-      (complete p (and-left (is_fit S.relation_of p) (is_fit S.relation_of q) fits) (well-left S.catalog S.db S.sizes (goes S) giv n c op p q wf) (and-left (allowed S.catalog p) (allowed S.catalog q && here) ok) ts run.0 w l h.makes.0.left.rows
+      (complete p (and-left (is_fit S.relation_of p) (is_fit S.relation_of q) fits) (well-both S.catalog n c op p q wf).0 (and-left (allowed S.catalog p) (allowed S.catalog q && here) ok) ts run.0 w l h.makes.0.left.rows
       (record { reads = h.reads; reads_begin = h.reads_begin; makes = h.makes.1 }))
   complete (exchange n c k merge p) fit wf ok ts run w l out h =
       let here : Bool = allowed_here S.catalog (exchange n c k merge p) in
@@ -403,16 +404,16 @@ module _ (S : RunModel) (giv : Given S.catalog S.db S.sizes (goes S)) (some : 0 
       (λ long.
       let holds : HoldingAt S.db S.sizes (goes S) p u
       = all-hold S.catalog S.db S.sizes (goes S) giv p u
-      (and-left (well_formed S.catalog p) (phase_fits (group phase by aggregates) p && names_columns (width S.catalog (unary n c (group phase by aggregates) p)) c) wf)
+      (well-under S.catalog n c (group phase by aggregates) p wf).0
       (and-left (allowed S.catalog p) (allowed_here S.catalog (unary n c (group phase by aggregates) p)) ok) run in
       let most = stands-length (goes S) (claim p).part (workers S.sizes (size p)) u (λ xs. Gives p holds.base xs) (length holds.base) (λ xs g. gives-length p holds.base xs g) holds.holds.part w l in
-      go phase (phase-of S.catalog S.db S.sizes (goes S) giv n c (group phase by aggregates) p wf) holds.base holds.is_serial (omega (arith, most, long)))
+      go phase (well-under S.catalog n c (group phase by aggregates) p wf).1 holds.base holds.is_serial (omega (arith, most, long)))
       why
     where
       closed : (phase : Phase) → not (is_open p) ≡ true → (base : List Row) → serial S.db (spoken p) ≡ rows base → 4611686018427387904 < length base → HasTooLong S.db (unary n c (group phase by aggregates) p)
       closed phase e base h big =
           let P : SerialResult → Type 0 = λ o. IsTooLong (group phase by aggregates) o in
-          let same : serial S.db p ≡ rows base = sym (closed-spoken S.db p (not-open S.catalog S.db S.sizes (goes S) giv (is_open p) e)) ∙ h in
+          let same : serial S.db p ≡ rows base = sym (closed-spoken S.db p (not-open (is_open p) e)) ∙ h in
           inr (subst P (sym same) big)
 
       go : (phase : Phase) → phase_fits (group phase by aggregates) p ≡ true → (base : List Row) → serial S.db (spoken p) ≡ rows base → 4611686018427387904 < length base
@@ -431,7 +432,7 @@ module _ (S : RunModel) (giv : Given S.catalog S.db S.sizes (goes S)) (some : 0 
       (λ o. absurd o)
       (h.2.blame (Own Overflow node) (ap (λ (s : Stream). s.over) h.3 ∙ e))
   fails (unary n c op p) fit wf ok ts run w l reads begin out h node e =
-      let wp = and-left (well_formed S.catalog p) (phase_fits op p && names_columns (width S.catalog (unary n c op p)) c) wf in
+      let wp = (well-under S.catalog n c op p wf).0 in
       let okp = and-left (allowed S.catalog p) (allowed_here S.catalog (unary n c op p)) ok in
       ⊎_elim
       (λ i. real-unary S.db n c op p (fails p fit wp okp ts run w l reads begin h.0.left h.1 node i))
@@ -444,7 +445,7 @@ module _ (S : RunModel) (giv : Given S.catalog S.db S.sizes (goes S)) (some : 0 
       own (distinct cols) wf ok o = absurd o
       own (sort cols) wf ok o = absurd o
       own (group phase by aggregates) wf ok o =
-          let wp = and-left (well_formed S.catalog p) (phase_fits (group phase by aggregates) p && names_columns (width S.catalog (unary n c (group phase by aggregates) p)) c) wf in
+          let wp = (well-under S.catalog n c (group phase by aggregates) p wf).0 in
           let okp = and-left (allowed S.catalog p) (allowed_here S.catalog (unary n c (group phase by aggregates) p)) ok in
           ⊎_elim
           (λ got.
@@ -460,9 +461,9 @@ module _ (S : RunModel) (giv : Given S.catalog S.db S.sizes (goes S)) (some : 0 
       let P : Size → Type 0 = λ z. w < workers S.sizes z in
       ⊎_elim
       (λ i. ⊎_elim
-      (λ left. real-left S.db n c op p q (fails p (and-left (is_fit S.relation_of p) (is_fit S.relation_of q) fits) (well-left S.catalog S.db S.sizes (goes S) giv n c op p q wf)
+      (λ left. real-left S.db n c op p q (fails p (and-left (is_fit S.relation_of p) (is_fit S.relation_of q) fits) (well-both S.catalog n c op p q wf).0
       (and-left (allowed S.catalog p) (allowed S.catalog q && here) ok) ts run.0 w l reads begin h.0.left h.1 node left))
-      (λ right. real-right S.db n c op p q (fails q (and-right (is_fit S.relation_of p) (is_fit S.relation_of q) fits) (well-right S.catalog S.db S.sizes (goes S) giv n c op p q wf)
+      (λ right. real-right S.db n c op p q (fails q (and-right (is_fit S.relation_of p) (is_fit S.relation_of q) fits) (well-both S.catalog n c op p q wf).1
       (and-left (allowed S.catalog q) here rest) ts run.1 w (subst P same l) reads begin h.0.right h.2 node right))
       i)
       (λ o. absurd (none op o))
@@ -489,16 +490,16 @@ module _ (S : RunModel) (giv : Given S.catalog S.db S.sizes (goes S)) (some : 0 
       → (ts : ℕ → Trace) (run : RunOf S (Ends S) p ts) (node : ℕ) → FailsBelow S (Own Overflow node) p ts run → Overflows S.db p
   below (scan n c r m z) fit wf ok ts run node h = absurd h
   below (unary n c op p) fit wf ok ts run node h =
-      real-unary S.db n c op p (below p fit (and-left (well_formed S.catalog p) (phase_fits op p && names_columns (width S.catalog (unary n c op p)) c) wf)
+      real-unary S.db n c op p (below p fit (well-under S.catalog n c op p wf).0
       (and-left (allowed S.catalog p) (allowed_here S.catalog (unary n c op p)) ok) ts run node h)
   below (binary n c op p q) fit wf ok ts run node h =
       let here : Bool = allowed_here S.catalog (binary n c op p q) in
       let rest = and-right (allowed S.catalog p) (allowed S.catalog q && here) ok in
       let fits = and-right (size_eq (size p) (size q)) (is_fit S.relation_of p && is_fit S.relation_of q) fit in
       ⊎_elim
-      (λ left. real-left S.db n c op p q (below p (and-left (is_fit S.relation_of p) (is_fit S.relation_of q) fits) (well-left S.catalog S.db S.sizes (goes S) giv n c op p q wf)
+      (λ left. real-left S.db n c op p q (below p (and-left (is_fit S.relation_of p) (is_fit S.relation_of q) fits) (well-both S.catalog n c op p q wf).0
       (and-left (allowed S.catalog p) (allowed S.catalog q && here) ok) ts run.0 node left))
-      (λ right. real-right S.db n c op p q (below q (and-right (is_fit S.relation_of p) (is_fit S.relation_of q) fits) (well-right S.catalog S.db S.sizes (goes S) giv n c op p q wf)
+      (λ right. real-right S.db n c op p q (below q (and-right (is_fit S.relation_of p) (is_fit S.relation_of q) fits) (well-both S.catalog n c op p q wf).1
       (and-left (allowed S.catalog q) here rest) ts run.1 node right))
       h
   below (exchange n c k merge p) fit wf ok ts run node h =

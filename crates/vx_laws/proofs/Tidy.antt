@@ -34,7 +34,7 @@ use Rattle.vx_laws.proofs.Operators.{unary-ordered}
 use Rattle.vx_laws.proofs.Places.{at_place, Placed, had-place, shown-placed, unary-places, union-places, join-places, made-gives}
 use Rattle.vx_laws.proofs.Exchange.{sends-sorted, filter-all}
 use Rattle.vx_laws.proofs.OneInput.{tests}
-use Rattle.vx_laws.proofs.Frame.{names, well-left, well-right}
+use Rattle.vx_laws.proofs.WellFormed.{well-under, well-both, names}
 use Rattle.vx_laws.proofs.Packets.{rows_of-append, rows_of-packets, port-rows}
 use Rattle.vx_laws.proofs.Decks.{Drawn, dispatched-drawn}
 use Rattle.vx_laws.proofs.Overflows.{reads-begin}
@@ -197,7 +197,7 @@ module _ (S : RunModel) (giv : Given S.catalog S.db S.sizes (goes S)) where
       let here : Bool = allowed_here S.catalog (unary n c op p) in
       let wd : ℕ = width S.catalog p in
       let t = tests S.catalog (unary n c op p) (and-right (allowed S.catalog p) here ok) in
-      let left = tidy p fit (and-left (well_formed S.catalog p) (phase_fits op p && names_columns (width S.catalog (unary n c op p)) c) wf) (and-left (allowed S.catalog p) here ok) ts run w l reads begin h.0.left h.1 in
+      let left = tidy p fit (well-under S.catalog n c op p wf).0 (and-left (allowed S.catalog p) here ok) ts run w l reads begin h.0.left h.1 in
       let k = h.2.before in
       let n0 : ℕ = workers S.sizes (size p) in
       let input = neat-begins (goes S) (claim p) wd n0 w k.inputs.left.rows h.0.left.rows k.begins.left left in
@@ -216,9 +216,9 @@ module _ (S : RunModel) (giv : Given S.catalog S.db S.sizes (goes S)) where
       let same : size p ≡ size q = size_eq-is (size p) (size q) (and-left (size_eq (size p) (size q)) _ fit) in
       let fits = and-right (size_eq (size p) (size q)) (is_fit S.relation_of p && is_fit S.relation_of q) fit in
       let P : Size → Type 0 = λ z. w < workers S.sizes z in
-      let wp = well-left S.catalog S.db S.sizes (goes S) giv n c op p q wf in
+      let wp = (well-both S.catalog n c op p q wf).0 in
       let left = tidy p (and-left (is_fit S.relation_of p) (is_fit S.relation_of q) fits) wp (and-left (allowed S.catalog p) (allowed S.catalog q && here) ok) ts run.0 w l reads begin h.0.left h.1 in
-      let right = tidy q (and-right (is_fit S.relation_of p) (is_fit S.relation_of q) fits) (well-right S.catalog S.db S.sizes (goes S) giv n c op p q wf) (and-left (allowed S.catalog q) here rest) ts run.1 w (subst P same l) reads begin h.0.right h.2 in
+      let right = tidy q (and-right (is_fit S.relation_of p) (is_fit S.relation_of q) fits) (well-both S.catalog n c op p q wf).1 (and-left (allowed S.catalog q) here rest) ts run.1 w (subst P same l) reads begin h.0.right h.2 in
       let k = h.3.before in
       let ls = neat-begins (goes S) (claim p) (width S.catalog p) (workers S.sizes (size p)) w k.inputs.left.rows h.0.left.rows k.begins.left left in
       let rs = neat-begins (goes S) (claim q) (width S.catalog q) (workers S.sizes (size q)) w k.inputs.right.rows h.0.right.rows k.begins.right right in
@@ -253,7 +253,7 @@ module _ (S : RunModel) (giv : Given S.catalog S.db S.sizes (goes S)) where
       both (join m on) same_size l wf ok wp ls rs a b =
           let t = tests S.catalog (binary n c (join m on) p q) ok in
           let wd : ℕ = width S.catalog p in
-          let nm = names S.catalog S.db S.sizes (goes S) giv p wp in
+          let nm = names S.catalog p wp in
           let n1 = and-right (all_below wd (part_columns (claim p).part)) (all_below wd (claim p).order && list_all (all_below wd) (claim p).keys) nm in
           let order_below = and-left (all_below wd (claim p).order) (list_all (all_below wd) (claim p).keys) n1 in (
             (

@@ -10,6 +10,7 @@ use Rattle.vx_plan_nodes.specs.Types.{width, unary_width, well_formed, names_col
 use Rattle.vx_plan_nodes.specs.Serial.{passes, firsts, group_keys, group_row, group_fits, of_key, aggregate_of, unary_rows, join_rows, SerialResult, rows, overflow, or_overflow, after, serial}
 use Rattle.vx_rows.specs.Order.{sort_on}
 use Rattle.vx_laws.proofs.Bags.{and-left, and-right, and-both}
+use Rattle.vx_laws.proofs.WellFormed.{well-under}
 use Rattle.vx_laws.proofs.Parts.{list_all-weaken, list_all-always}
 use Rattle.vx_laws.proofs.Orders.{list_all-filter}
 use Rattle.vx_laws.proofs.Unary.{map-all, sort-all}
@@ -89,7 +90,7 @@ module _ (catalog : ℕ → Relation) (db : ℕ → List Row) (meets : (r : ℕ)
       let k : db r ≡ xs = cc in
       let P : List Row → Type 0 = λ l. wide (length (catalog r).types) l ≡ true in subst P k (fit-wide (catalog r).types (db r) (meets r).fit)
   serial-wide (unary n c op p) xs ok e =
-      go (serial db p) (λ ys. serial-wide p ys (and-left (well_formed catalog p) (phase_fits op p && names_columns (width catalog (unary n c op p)) c) ok)) e
+      go (serial db p) (λ ys. serial-wide p ys (well-under catalog n c op p ok).0) e
     where
       done : (o : Option (List Row)) (ys : List Row) → wide (width catalog p) ys ≡ true → unary_rows op ys ≡ o → or_overflow n o ≡ rows xs → wide (unary_width op (width catalog p)) xs ≡ true
       done (Some zs) ys h k e =
