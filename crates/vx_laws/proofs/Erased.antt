@@ -1,14 +1,14 @@
 -- The plan without exchanges has the same serial rows.
-use Rattle.std.proofs.Common.{◌≡◌, ℕ, ◌+◌, List, refl, ap, ◌∙◌, Option, Some, None, sym, ◌==◌, Bool, true, ◌&&◌}
+use Rattle.std.proofs.Common.{◌≡◌, ℕ, ◌+◌, List, refl, ap, ◌∙◌, Option, Some, None, sym, true}
 use Rattle.vx_values.specs.Values.{Row}
-use Rattle.vx_plan_nodes.specs.Plan.{Plan, scan, unary, binary, exchange, Claim, Unary, select, project, distinct, sort, group, plain, partial, final, Aggregate, Binary, union, join}
+use Rattle.vx_plan_nodes.specs.Plan.{Plan, scan, unary, binary, exchange, Unary, select, project, distinct, sort, group, plain, partial, final, Aggregate}
 use Rattle.vx_plan_nodes.specs.Serial.{SerialResult, rows, overflow, or_overflow, after, serial, unary_rows, binary_rows, IsOverflow, group_rows}
 use Rattle.vx_laws.specs.Faults.{ErasedOverflows}
 use Rattle.vx_plan_nodes.specs.Erase.{erase_from, nodes_left}
 use Rattle.vx_relations.specs.Relation.{Relation}
-use Rattle.vx_plan_nodes.specs.Phases.{phase_fits, both_closed}
+use Rattle.vx_plan_nodes.specs.Phases.{phase_fits}
 use Rattle.vx_plan_nodes.specs.Types.{well_formed, names_columns, width}
-use Rattle.vx_laws.proofs.Bags.{and-left, and-right}
+use Rattle.vx_laws.proofs.Bags.{and-left}
 use Rattle.vx_laws.proofs.Opened.{final-serial}
 use Rattle.vx_laws.proofs.WellFormed.{well-under, well-both}
 

@@ -6,13 +6,13 @@ use Rattle.vx_values.specs.Types.{fits_64}
 use Rattle.vx_rows.specs.Bags.{SameRows, total}
 use Rattle.vx_relations.specs.Relation.{Relation}
 use Rattle.vx_plan_nodes.specs.Types.{well_formed, names_columns, width}
-use Rattle.vx_plan_nodes.specs.Plan.{Part, one, any, all, routed, Claim, Plan, scan, unary, binary, exchange, claim, size, Unary, group, Binary, union, join, is_one, partial, final, Aggregate, least, greatest, sum, count_rows}
+use Rattle.vx_plan_nodes.specs.Plan.{Part, one, any, all, routed, Claim, Plan, scan, unary, binary, exchange, claim, size, Unary, group, is_one, partial, final, Aggregate, least, greatest, sum, count_rows}
 use Rattle.vx_plan_nodes.specs.Describe.{described}
 use Rattle.vx_plan_nodes.specs.Serial.{group_keys, group_fits, unary_rows, rows, or_overflow, after, serial, group_rows, SerialResult, overflow, IsTooLong, HasLargeInput, LargePart, is_sum_of, fits, sum_of, count_of, of_key}
 use Rattle.vx_plan_nodes.specs.Streams.{Streams, joined, workers}
 use Rattle.vx_plan_nodes.specs.Routes.{Routing}
 use Rattle.vx_plan_nodes.specs.Runs.{Runs}
-use Rattle.vx_plan_nodes.specs.Phases.{is_partial, is_final, is_open, opens, phase_fits, both_closed, spoken, Gives}
+use Rattle.vx_plan_nodes.specs.Phases.{is_partial, is_final, is_open, opens, phase_fits, spoken, Gives}
 use Rattle.vx_check_rules.specs.Rules.{allowed, allowed_here}
 use Rattle.vx_check_rules.specs.Behaviour.{over}
 use Rattle.vx_check_rules.specs.Claims.{PartHolds, Given}

@@ -18,6 +18,7 @@ pub mod WellFormed
 pub mod Phased
 pub mod Opened
 pub mod Operators
+pub mod Wide
 pub mod Places
 pub mod OneInput
 pub mod TwoInputs

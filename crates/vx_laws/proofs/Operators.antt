@@ -1,5 +1,5 @@
 -- What the operators over one input do to rows: one record of facts for each operator.
-use Rattle.std.proofs.Common.{◌≡◌, ℕ, ◌<◌, Bool, true, false, cond, ◌||◌, List, map, filter, length, refl, sym, ap, ◌∙◌, subst, arith, true≢false, Option, Some, None, IsSome}
+use Rattle.std.proofs.Common.{◌≡◌, ◌==◌, ◌+◌, ℕ, ◌<◌, Bool, true, false, cond, ◌||◌, List, map, filter, length, refl, sym, ap, ◌∙◌, subst, arith, true≢false, Option, Some, None, IsSome}
 use Rattle.std.specs.List.{list_all}
 use Rattle.vx_values.specs.Values.{Row, pick}
 use Rattle.vx_rows.specs.Order.{agree, sorted, sort_on}
@@ -7,6 +7,7 @@ use Rattle.vx_rows.specs.Bags.{SameRows}
 use Rattle.vx_rows.specs.Keys.{HasKey}
 use Rattle.vx_relations.specs.Relation.{Relation, KeysHold}
 use Rattle.vx_plan_nodes.specs.Plan.{Route, Claim, Plan, unary, claim, Unary, select, project, distinct, sort, group, plain, partial, final, Aggregate}
+use Rattle.vx_plan_nodes.specs.Types.{unary_width}
 use Rattle.vx_plan_nodes.specs.Describe.{Copying, whole_rows, columns_kept, OrderAfter, order_kept, sorted_on, described}
 use Rattle.vx_plan_nodes.specs.Phases.{is_partial, is_final}
 use Rattle.vx_plan_nodes.specs.Serial.{passes, firsts, group_keys, group_row, group_fits, group_rows, unary_rows, aggregate_of, of_key}
@@ -24,68 +25,80 @@ use Rattle.vx_laws.proofs.Keys.{count-filter, covers-key}
 use Rattle.vx_laws.proofs.Linear.{Linear, Linear-filter, Linear-map, Linear-sort, sort-total, linear-same, linear-joined}
 use Rattle.vx_laws.proofs.Copies.{if_some-is, copied-alone, copied-pick}
 use Rattle.vx_laws.proofs.Unary.{some-is, sort-all, sort-sorted, map-all, project-sorted, project-key}
-use Rattle.vx_laws.proofs.Widths.{some-of}
+use Rattle.vx_laws.proofs.Widths.{firsts-all, picks-wide, some-of, groups-wide}
+use Rattle.vx_laws.proofs.JoinOrder.{wide}
 use Rattle.vx_laws.proofs.Apart.{firsts-same, picks-same, firsts-joined, firsts-sorted, distinct-key}
 use Rattle.vx_laws.proofs.Groups.{groups, groups-same, groups-joined, fits-joined, fits-same-rows, fits-split, groups-sorted, groups-key, keys-all}
 
 -- ---- one list
 
--- a row of the output has the values of an input's row in the columns that are copied, and the rows are in order on them
-pub record Keeps (k : Copying) (after : OrderAfter) (op : List Row → Option (List Row)) : Type 0 where
+-- a row of the output has the values of an input's row in the columns that are copied, the rows are in order on them, and each has as many values as there are columns
+pub record Keeps (k : Copying) (after : OrderAfter) (width : ℕ → ℕ) (op : List Row → Option (List Row)) : Type 0 where
   pub stems : (cs ds : List ℕ) → sources k cs ≡ Some ds → (test : Row → Bool) (xs ys : List Row) → op xs ≡ Some ys
       → list_all (λ row. test (pick ds row)) xs ≡ true → list_all (λ row. test (pick cs row)) ys ≡ true
   pub ordered : (cs ds below : List ℕ) → sources k cs ≡ Some ds → is_prefix ds (order_after after below) ≡ true → (xs ys : List Row) → op xs ≡ Some ys
       → sorted below xs ≡ true → sorted cs ys ≡ true
+  pub wide_as : (w : ℕ) (xs ys : List Row) → op xs ≡ Some ys → wide w xs ≡ true → wide (width w) ys ≡ true
 
 -- whole rows have all columns where they were
 pub same-columns : (cs ds : List ℕ) → sources whole_rows cs ≡ Some ds → cs ≡ ds
 same-columns cs ds e = some-is cs ds (sym (sources-whole cs) ∙ e)
 
--- by a function that gives the operator's list
-keeps-by : (k : Copying) (after : OrderAfter) (op : List Row → Option (List Row)) (f : List Row → List Row) → ((xs ys : List Row) → op xs ≡ Some ys → f xs ≡ ys)
-    → ((cs ds : List ℕ) → sources k cs ≡ Some ds → (test : Row → Bool) (xs : List Row) → list_all (λ row. test (pick ds row)) xs ≡ true → list_all (λ row. test (pick cs row)) (f xs) ≡ true)
-    → ((cs ds below : List ℕ) → sources k cs ≡ Some ds → is_prefix ds (order_after after below) ≡ true → (xs : List Row) → sorted below xs ≡ true → sorted cs (f xs) ≡ true)
-    → Keeps k after op
-keeps-by k after op f is stems ordered = record {
-  stems = λ cs ds c test xs ys e h. let P : List Row → Type 0 = λ l. list_all (λ row. test (pick cs row)) l ≡ true in subst P (is xs ys e) (stems cs ds c test xs h);
-  ordered = λ cs ds below c front xs ys e h. let P : List Row → Type 0 = λ l. sorted cs l ≡ true in subst P (is xs ys e) (ordered cs ds below c front xs h);
+-- by a function that gives the operator's list of whole rows: what holds of each row of its input holds of each of these
+keeps-whole : (after : OrderAfter) (op : List Row → Option (List Row)) (f : List Row → List Row) → ((xs ys : List Row) → op xs ≡ Some ys → f xs ≡ ys)
+    → ((q : Row → Bool) (xs : List Row) → list_all q xs ≡ true → list_all q (f xs) ≡ true)
+    → ((cs below : List ℕ) → is_prefix cs (order_after after below) ≡ true → (xs : List Row) → sorted below xs ≡ true → sorted cs (f xs) ≡ true)
+    → Keeps whole_rows after (λ w. w) op
+keeps-whole after op f is each ordered =
+    let all : (q : Row → Bool) (xs ys : List Row) → op xs ≡ Some ys → list_all q xs ≡ true → list_all q ys ≡ true
+    = λ q xs ys e h. let P : List Row → Type 0 = λ l. list_all q l ≡ true in subst P (is xs ys e) (each q xs h) in
+    record {
+      stems = λ cs ds c test xs ys e h.
+          let P : List ℕ → Type 0 = λ v. list_all (λ row. test (pick v row)) ys ≡ true in subst P (sym (same-columns cs ds c)) (all (λ row. test (pick ds row)) xs ys e h);
+      ordered = λ cs ds below c front xs ys e h.
+          let P : List Row → Type 0 = λ l. sorted cs l ≡ true in
+          let Q : List ℕ → Type 0 = λ v. is_prefix v (order_after after below) ≡ true in
+          subst P (is xs ys e) (ordered cs below (subst Q (sym (same-columns cs ds c)) front) xs h);
+      wide_as = λ w xs ys e h. all (λ row. length row == w) xs ys e h;
+    }
+
+-- by one that gives rows with copies
+keeps-columns : (kept : List ℕ) (width : ℕ) (op : List Row → Option (List Row)) (f : List Row → List Row) → ((xs ys : List Row) → op xs ≡ Some ys → f xs ≡ ys)
+    → ((cs ds : List ℕ) → copied kept cs ≡ Some ds → (test : Row → Bool) (xs : List Row) → list_all (λ row. test (pick ds row)) xs ≡ true → list_all (λ row. test (pick cs row)) (f xs) ≡ true)
+    → ((cs ds : List ℕ) → copied kept cs ≡ Some ds → (xs : List Row) → sorted ds xs ≡ true → sorted cs (f xs) ≡ true)
+    → ((xs : List Row) → wide width (f xs) ≡ true)
+    → Keeps (columns_kept kept) order_kept (λ w. width) op
+keeps-columns kept width op f is stems ordered wide_as = record {
+  stems = λ cs ds c test xs ys e h. let P : List Row → Type 0 = λ l. list_all (λ row. test (pick cs row)) l ≡ true in subst P (is xs ys e) (stems cs ds (sym (sources-kept kept cs) ∙ c) test xs h);
+  ordered = λ cs ds below c front xs ys e h.
+      let P : List Row → Type 0 = λ l. sorted cs l ≡ true in subst P (is xs ys e) (ordered cs ds (sym (sources-kept kept cs) ∙ c) xs (sorted-front ds below front xs h));
+  wide_as = λ w xs ys e h. let P : List Row → Type 0 = λ l. wide width l ≡ true in subst P (is xs ys e) (wide_as xs);
 }
 
--- rows that stay whole
-whole-stems : (f : List Row → List Row) → ((q : Row → Bool) (xs : List Row) → list_all q xs ≡ true → list_all q (f xs) ≡ true)
-    → (cs ds : List ℕ) → sources whole_rows cs ≡ Some ds → (test : Row → Bool) (xs : List Row) → list_all (λ row. test (pick ds row)) xs ≡ true → list_all (λ row. test (pick cs row)) (f xs) ≡ true
-whole-stems f keeps cs ds c test xs h =
-    let P : List ℕ → Type 0 = λ v. list_all (λ row. test (pick v row)) xs ≡ true in keeps (λ row. test (pick cs row)) xs (subst P (sym (same-columns cs ds c)) h)
-
--- rows that have copies
 copied-stems : (cs ds : List ℕ) (g : Row → Row) → ((row : Row) → pick cs (g row) ≡ pick ds row) → (test : Row → Bool) (xs : List Row)
     → list_all (λ row. test (pick ds row)) xs ≡ true → list_all (λ row. test (pick cs (g row))) xs ≡ true
 copied-stems cs ds g same test xs h = list_all-weaken (λ row. test (pick ds row)) (λ row. test (pick cs (g row))) (λ row t. ap test (same row) ∙ t) xs h
 
-group-keeps : (by : List ℕ) (aggregates : List Aggregate) → Keeps (columns_kept by) order_kept (group_rows by aggregates)
-group-keeps by aggregates = keeps-by (columns_kept by) order_kept (group_rows by aggregates) (groups by aggregates)
+group-keeps : (by : List ℕ) (aggregates : List Aggregate) → Keeps (columns_kept by) order_kept (λ w. length by + length aggregates) (group_rows by aggregates)
+group-keeps by aggregates = keeps-columns by (length by + length aggregates) (group_rows by aggregates) (groups by aggregates)
     (λ xs ys e. (some-of (list_all (group_fits by aggregates xs) (group_keys by xs)) (groups by aggregates xs) ys e).1)
     (λ cs ds c test xs h. map-all (λ row. test (pick cs row)) (group_row by aggregates xs) (group_keys by xs)
     (keys-all by (λ key. test (pick cs (group_row by aggregates xs key))) xs
-    (copied-stems cs ds (λ row. group_row by aggregates xs (pick by row))
-    (λ row. copied-pick by cs ds row (map (λ a. aggregate_of a (of_key by (pick by row) xs)) aggregates) (sym (sources-kept by cs) ∙ c)) test xs h)))
-    (λ cs ds below c front xs h. groups-sorted by cs ds aggregates (sym (sources-kept by cs) ∙ c) xs (sorted-front ds below front xs h))
+    (copied-stems cs ds (λ row. group_row by aggregates xs (pick by row)) (λ row. copied-pick by cs ds row (map (λ a. aggregate_of a (of_key by (pick by row) xs)) aggregates) c) test xs h)))
+    (λ cs ds c xs h. groups-sorted by cs ds aggregates c xs h)
+    (λ xs. groups-wide by aggregates xs)
 
-pub keeps : (op : Unary) → Keeps (described op).copying (described op).order (unary_rows op)
-keeps (select conditions) = keeps-by whole_rows order_kept (unary_rows (select conditions)) (filter (passes conditions)) (λ xs ys e. some-is _ _ e)
-    (whole-stems (filter (passes conditions)) (λ q xs. list_all-filter q (passes conditions) xs))
-    (λ cs ds below c front xs h.
-    let P : List ℕ → Type 0 = λ v. is_prefix v below ≡ true in sorted-filter cs (passes conditions) xs (sorted-front cs below (subst P (sym (same-columns cs ds c)) front) xs h))
-keeps (project cols) = keeps-by (columns_kept cols) order_kept (unary_rows (project cols)) (map (pick cols)) (λ xs ys e. some-is _ _ e)
-    (λ cs ds c test xs h. map-all (λ row. test (pick cs row)) (pick cols) xs (copied-stems cs ds (pick cols) (λ row. copied-alone cols cs ds row (sym (sources-kept cols cs) ∙ c)) test xs h))
-    (λ cs ds below c front xs h. project-sorted cols cs ds (sym (sources-kept cols cs) ∙ c) xs (sorted-front ds below front xs h))
-keeps (distinct cols) = keeps-by (columns_kept cols) order_kept (unary_rows (distinct cols)) (λ xs. firsts (map (pick cols) xs)) (λ xs ys e. some-is _ _ e)
-    (λ cs ds c test xs h. keys-all cols (λ row. test (pick cs row)) xs (copied-stems cs ds (pick cols) (λ row. copied-alone cols cs ds row (sym (sources-kept cols cs) ∙ c)) test xs h))
-    (λ cs ds below c front xs h. firsts-sorted cs (map (pick cols) xs) (project-sorted cols cs ds (sym (sources-kept cols cs) ∙ c) xs (sorted-front ds below front xs h)))
-keeps (sort cols) = keeps-by whole_rows (sorted_on cols) (unary_rows (sort cols)) (sort_on cols) (λ xs ys e. some-is _ _ e)
-    (whole-stems (sort_on cols) (λ q xs. sort-all q cols xs))
-    (λ cs ds below c front xs h.
-    let P : List ℕ → Type 0 = λ v. is_prefix v cols ≡ true in sorted-front cs cols (subst P (sym (same-columns cs ds c)) front) (sort_on cols xs) (sort-sorted cols xs))
+pub keeps : (op : Unary) → Keeps (described op).copying (described op).order (λ w. unary_width op w) (unary_rows op)
+keeps (select conditions) = keeps-whole order_kept (unary_rows (select conditions)) (filter (passes conditions)) (λ xs ys e. some-is _ _ e)
+    (λ q xs. list_all-filter q (passes conditions) xs) (λ cs below front xs h. sorted-filter cs (passes conditions) xs (sorted-front cs below front xs h))
+keeps (project cols) = keeps-columns cols (length cols) (unary_rows (project cols)) (map (pick cols)) (λ xs ys e. some-is _ _ e)
+    (λ cs ds c test xs h. map-all (λ row. test (pick cs row)) (pick cols) xs (copied-stems cs ds (pick cols) (λ row. copied-alone cols cs ds row c) test xs h))
+    (λ cs ds c xs h. project-sorted cols cs ds c xs h) (λ xs. picks-wide cols xs)
+keeps (distinct cols) = keeps-columns cols (length cols) (unary_rows (distinct cols)) (λ xs. firsts (map (pick cols) xs)) (λ xs ys e. some-is _ _ e)
+    (λ cs ds c test xs h. keys-all cols (λ row. test (pick cs row)) xs (copied-stems cs ds (pick cols) (λ row. copied-alone cols cs ds row c) test xs h))
+    (λ cs ds c xs h. firsts-sorted cs (map (pick cols) xs) (project-sorted cols cs ds c xs h)) (λ xs. firsts-all (λ row. length row == length cols) (map (pick cols) xs) (picks-wide cols xs))
+keeps (sort cols) = keeps-whole (sorted_on cols) (unary_rows (sort cols)) (sort_on cols) (λ xs ys e. some-is _ _ e)
+    (λ q xs. sort-all q cols xs) (λ cs below front xs h. sorted-front cs cols front (sort_on cols xs) (sort-sorted cols xs))
 keeps (group plain by aggregates) = group-keeps by aggregates
 keeps (group partial by aggregates) = group-keeps by aggregates
 keeps (group final by aggregates) = group-keeps by aggregates

@@ -28,7 +28,6 @@ use Rattle.vx_laws.proofs.Orders.{sorted-front}
 use Rattle.vx_laws.proofs.OneInput.{tests}
 use Rattle.vx_laws.proofs.WellFormed.{well-under, well-both}
 use Rattle.vx_laws.proofs.Tidy.{tidy, came-tidy}
-use Rattle.vx_plan_nodes.specs.Phases.{phase_fits}
 use Rattle.vx_plan_nodes.specs.Runs.{is_concat}
 
 -- all packets are for this port, from this producer

@@ -1,6 +1,6 @@
 -- What a node has given so far is as wide as its columns, and sorted on its claimed order.
 use Rattle.vx_worker.specs.Fragment.{goes, RunModel, Reads, fragment, FragAbides}
-use Rattle.std.proofs.Common.{◌≡◌, ⊎_elim, ℕ, ◌<◌, ◌==◌, Bool, true, false, ◌&&◌, List, [], ◌∷◌, ◌++◌, map, length, refl, sym, ap, ◌∙◌, subst, arith, append-nil, append_assoc, eqb-true, is_le, ◌||◌}
+use Rattle.std.proofs.Common.{◌≡◌, ℕ, ◌<◌, ◌==◌, Bool, true, false, ◌&&◌, List, [], ◌∷◌, ◌++◌, map, length, refl, sym, ap, ◌∙◌, subst, arith, append-nil, append_assoc, eqb-true, is_le, ◌||◌}
 use Rattle.std.specs.List.{list_all, list_any}
 use Rattle.vx_values.specs.Values.{Row, pick}
 use Rattle.vx_rows.specs.Order.{compare_on, sorted}
@@ -8,11 +8,11 @@ use Rattle.vx_plan_nodes.specs.Plan.{Size, ExchangeKind, route_to, round, broadc
 use Rattle.vx_plan_nodes.specs.Types.{width, unary_width, well_formed, names_columns, part_columns}
 use Rattle.vx_relations.specs.Catalog.{all_below}
 use Rattle.vx_plan_nodes.specs.Serial.{binary_rows, join_rows}
-use Rattle.vx_check_rules.specs.Rules.{is_prefix, allowed, allowed_here, has, goes_on}
+use Rattle.vx_check_rules.specs.Rules.{is_prefix, allowed, allowed_here, has}
 use Rattle.vx_check_rules.specs.Behaviour.{way, bare, over, gives, behaviour}
 use Rattle.vx_plan_nodes.specs.Describe.{whole_rows, described}
 use Rattle.vx_plan_nodes.specs.Parts.{kind_part}
-use Rattle.vx_plan_nodes.specs.Streams.{Streams, workers, bearing, Dealt, joined}
+use Rattle.vx_plan_nodes.specs.Streams.{Streams, workers, bearing, Dealt}
 use Rattle.vx_plan_nodes.specs.Routes.{Routing, Sends}
 use Rattle.vx_check_rules.specs.Claims.{Given}
 use Rattle.vx_ports.specs.Packets.{PacketView, rows_of, Flows}
@@ -25,12 +25,12 @@ use Rattle.vx_ends.specs.Tasks.{send}
 use Rattle.vx_laws.specs.RunOf.{ship_of, RunOf}
 use Rattle.vx_plan_nodes.specs.Numbering.{is_fit}
 use Rattle.vx_laws.proofs.Bags.{and-left, and-right, and-both, against, against-none, none-against, Dealt-total, across-ext, across-zero}
-use Rattle.vx_laws.proofs.Parts.{size_eq-is, one-worker, or-cases, list_all-always}
+use Rattle.vx_laws.proofs.Parts.{size_eq-is, one-worker, list_all-always}
 use Rattle.vx_laws.proofs.Orders.{list_all-bearing, list_all-filter, sorted-bearing, sorted-front, sorted-none, Dealt-one}
-use Rattle.vx_laws.proofs.Widths.{fit-wide, unary-wide, join-wide}
+use Rattle.vx_laws.proofs.Wide.{fit-wide, join-wide}
 use Rattle.vx_laws.proofs.JoinOrder.{wide, join-sorted, list_all-append}
 use Rattle.vx_laws.proofs.Binary.{front-below}
-use Rattle.vx_laws.proofs.Operators.{unary-ordered}
+use Rattle.vx_laws.proofs.Operators.{keeps, unary-ordered}
 use Rattle.vx_laws.proofs.Places.{at_place, Placed, had-place, shown-placed, unary-places, union-places, join-places, made-gives}
 use Rattle.vx_laws.proofs.Exchange.{sends-sorted, filter-all}
 use Rattle.vx_laws.proofs.OneInput.{tests}
@@ -38,8 +38,7 @@ use Rattle.vx_laws.proofs.WellFormed.{well-under, well-both, names}
 use Rattle.vx_laws.proofs.Packets.{rows_of-append, rows_of-packets, port-rows}
 use Rattle.vx_laws.proofs.Decks.{Drawn, dispatched-drawn}
 use Rattle.vx_laws.proofs.Overflows.{reads-begin}
-use Rattle.vx_plan_nodes.specs.Phases.{phase_fits, both_closed}
-use Rattle.vx_plan_nodes.specs.Runs.{is_concat}
+use Rattle.vx_plan_nodes.specs.Phases.{both_closed}
 use Rattle.vx_laws.proofs.Concat.{ranged, goes-on-is, exchange-sorted}
 
 abbrev pub Tidy : ℕ → List ℕ → List Row → Type 0
@@ -203,7 +202,7 @@ module _ (S : RunModel) (giv : Given S.catalog S.db S.sizes (goes S)) where
       let input = neat-begins (goes S) (claim p) wd n0 w k.inputs.left.rows h.0.left.rows k.begins.left left in
       let whole : Neat (goes S) c (unary_width op wd) n0 w k.whole
       = (
-        (unary-wide op wd k.inputs.left.rows k.whole input.0.0 k.makes, unary-ordered S.catalog n c op p t.5 k.inputs.left.rows k.whole k.makes input.0.1),
+        ((keeps op).wide_as wd k.inputs.left.rows k.whole k.makes input.0.0, unary-ordered S.catalog n c op p t.5 k.inputs.left.rows k.whole k.makes input.0.1),
         shown-placed (goes S) giv.in_range (is_one (size p)) (over (described op) p).ways c.part n0 w (one-worker S.sizes (size p)) l k.whole
             (unary-places (goes S) op p n0 w k.inputs.left.rows k.whole k.makes
             (λ q e. had-place (goes S) giv.in_range (is_one (size p)) (claim p).part q n0 w (one-worker S.sizes (size p)) l k.inputs.left.rows input.1 e)) t.4,

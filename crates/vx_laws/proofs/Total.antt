@@ -18,7 +18,7 @@ use Rattle.vx_laws.proofs.Keys.{agree-within}
 use Rattle.vx_rows.proofs.Compare.{row_eq-same, row_eq-refl, row_eq-laws, row_cmp_total}
 use Rattle.vx_laws.proofs.Join.{total-all-le}
 use Rattle.vx_laws.proofs.JoinOrder.{wide}
-use Rattle.vx_laws.proofs.Widths.{serial-wide}
+use Rattle.vx_laws.proofs.Wide.{serial-wide}
 use Rattle.vx_laws.proofs.Apart.{self-counts, nothing-same, find-in, agree-all}
 use Rattle.vx_laws.proofs.Erased.{erased-rows}
 use Rattle.vx_laws.proofs.OneInput.{close}

@@ -20,7 +20,7 @@ use Rattle.vx_laws.proofs.Bags.{and-left, and-right}
 use Rattle.vx_laws.proofs.Parts.{has-part, one-worker, size_eq-is}
 use Rattle.vx_laws.proofs.Orders.{sorted-front, sorted-none}
 use Rattle.vx_laws.proofs.Keys.{keys-from}
-use Rattle.vx_laws.proofs.Widths.{serial-wide}
+use Rattle.vx_laws.proofs.Wide.{serial-wide}
 use Rattle.vx_laws.proofs.JoinOrder.{wide, join-sorted, join-key}
 use Rattle.vx_laws.proofs.Join.{join-left, join-right, join-same}
 use Rattle.vx_laws.proofs.Binary.{streams-all, union-any, append-same, join-met, front-below}
