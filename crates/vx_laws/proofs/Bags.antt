@@ -1,5 +1,5 @@
 -- Totals of lists: each way to make a list from lists says what its totals are.
-use Rattle.std.proofs.Common.{◌≡◌, ℕ, zero, suc, ◌+◌, ◌<◌, ◌≤◌, ◌==◌, nat_lt, Bool, true, false, cond, not, ◌&&◌, List, [], ◌∷◌, ◌++◌, map, filter, flat_map, refl, sym, ap, ◌∙◌, arith, add_assoc, zero-add, true≢false, ltb-true, eqb-true, ne_eqb, eq-eqb, ◌≢◌}
+use Rattle.std.proofs.Common.{◌≡◌, ℕ, zero, suc, ◌+◌, ◌<◌, ◌≤◌, ◌==◌, nat_lt, Bool, true, false, cond, not, ◌&&◌, List, [], ◌∷◌, ◌++◌, map, filter, flat_map, length, refl, sym, ap, ◌∙◌, arith, add_assoc, zero-add, true≢false, ltb-true, eqb-true, ne_eqb, eq-eqb, ◌≢◌}
 use Rattle.std.specs.List.{list_all}
 use Rattle.std.proofs.lemmas.Bool.{eqb-false}
 use Rattle.vx_values.specs.Values.{Row}
@@ -41,6 +41,11 @@ total-zero (x ∷ xs) = zero-add (total (λ x. 0) xs) ∙ total-zero xs
 pub total-add : {X : Type 0} (f g : X → ℕ) (xs : List X) → total (λ x. f x + g x) xs ≡ total f xs + total g xs
 total-add f g [] = refl
 total-add f g (x ∷ xs) = omega (arith, total-add f g xs)
+
+-- as many ones as elements
+pub total-ones : {X : Type 0} (xs : List X) → total (λ x. 1) xs ≡ length xs
+total-ones [] = refl
+total-ones (x ∷ xs) = let e = total-ones xs in omega (arith, e)
 
 pub total-joined : (f : Row → ℕ) (n : ℕ) (s : Streams) → total f (joined n s) ≡ across n (λ i. total f (s i))
 total-joined f zero s = refl

@@ -13,7 +13,7 @@ use Rattle.vx_rows.proofs.Compare.{val_cmp_total}
 use Rattle.vx_laws.proofs.Bags.{and-left, and-right, and-both}
 use Rattle.vx_laws.proofs.Parts.{list_all-weaken, or-cases}
 use Rattle.vx_laws.proofs.Orders.{sorted-front}
-use Rattle.vx_laws.proofs.JoinOrder.{list_all-append}
+use Rattle.vx_laws.proofs.JoinOrder.{all-append}
 use Rattle.vx_laws.proofs.Groups.{joined-all}
 use Rattle.vx_laws.proofs.Places.{Placed}
 
@@ -25,7 +25,7 @@ sorted-two cs (x ∷ xs) ys h k b =
     let le : Row → Bool = λ y. is_le (compare_on cs x y) in
     let rest : Bool = list_all (λ x. list_all (λ y. is_le (compare_on cs x y)) ys) xs in
     and-both (list_all le (xs ++ ys)) (sorted cs (xs ++ ys))
-    (list_all-append le xs ys (and-left (list_all le xs) (sorted cs xs) h) (and-left (list_all le ys) rest b))
+    (all-append le xs ys (and-left (list_all le xs) (sorted cs xs) h) (and-left (list_all le ys) rest b))
     (sorted-two cs xs ys (and-right (list_all le xs) (sorted cs xs) h) k (and-right (list_all le ys) rest b))
 
 abbrev pub Rising : Routing → Type 0

@@ -1,12 +1,13 @@
 -- The induction on the plan.
 use Rattle.std.proofs.Common.{Option, IsSome, ◌≡◌, ℕ, ◌+◌, ◌<◌, ◌==◌, Bool, true, false, cond, not, ◌&&◌, ◌||◌, ⊎_elim, List, [], ◌∷◌, filter, length, refl, sym, ap, ◌∙◌, subst, arith, true≢false, Some, None, ◌⊎◌, inl, inr, eq-eqb, ◌≤◌}
+use Rattle.std.proofs.lemmas.Bool.{not-true}
 use Rattle.std.specs.List.{list_all, list_any}
 use Rattle.vx_values.specs.Values.{Row, pick, row_eq}
 use Rattle.vx_values.specs.Types.{fits_64}
 use Rattle.vx_rows.specs.Bags.{SameRows, total}
 use Rattle.vx_relations.specs.Relation.{Relation}
 use Rattle.vx_plan_nodes.specs.Types.{well_formed, names_columns, width}
-use Rattle.vx_plan_nodes.specs.Plan.{Part, one, any, all, routed, Claim, Plan, scan, unary, binary, exchange, claim, size, Unary, group, is_one, partial, final, Aggregate, least, greatest, sum, count_rows}
+use Rattle.vx_plan_nodes.specs.Plan.{Claim, Plan, scan, unary, binary, exchange, claim, size, Unary, group, is_one, partial, final, Aggregate, least, greatest, sum, count_rows}
 use Rattle.vx_plan_nodes.specs.Describe.{described}
 use Rattle.vx_plan_nodes.specs.Serial.{group_keys, group_fits, unary_rows, rows, or_overflow, after, serial, group_rows, SerialResult, overflow, IsTooLong, HasLargeInput, LargePart, is_sum_of, fits, sum_of, count_of, of_key}
 use Rattle.vx_plan_nodes.specs.Streams.{Streams, joined, workers}
@@ -15,13 +16,14 @@ use Rattle.vx_plan_nodes.specs.Runs.{Runs}
 use Rattle.vx_plan_nodes.specs.Phases.{is_partial, is_final, is_open, opens, phase_fits, spoken, Gives}
 use Rattle.vx_check_rules.specs.Rules.{allowed, allowed_here}
 use Rattle.vx_check_rules.specs.Behaviour.{over}
-use Rattle.vx_check_rules.specs.Claims.{PartHolds, Given}
+use Rattle.vx_check_rules.specs.Claims.{Given}
 use Rattle.vx_check_rules.proofs.Bools.{or-left, or-right}
 use Rattle.vx_laws.specs.Sound.{SoundThroughout, Sound, NoOverflow}
 use Rattle.vx_laws.proofs.Erased.{erased-rows}
-use Rattle.vx_laws.proofs.Bags.{SameRows-sym, and-left, and-right, SameRows-refl, total-joined, across-least}
+use Rattle.vx_laws.proofs.Bags.{SameRows-sym, and-left, and-right, SameRows-refl, total-ones}
 use Rattle.vx_laws.proofs.Groups.{groups, fits-split}
 use Rattle.vx_laws.proofs.Exchange.{filter-all}
+use Rattle.vx_laws.proofs.Parts.{stream-most}
 use Rattle.vx_laws.proofs.Opened.{opened, opened-as}
 use Rattle.vx_laws.proofs.Phased.{by-phase}
 use Rattle.vx_laws.proofs.Pieces.{final-fits}
@@ -30,15 +32,11 @@ use Rattle.vx_laws.proofs.OneInput.{tests, HoldingOf, Holding, HoldingAt, fittin
 use Rattle.vx_laws.proofs.TwoInputs.{binary-holds}
 use Rattle.vx_laws.proofs.WellFormed.{well-under, well-both, names}
 
-pub not-open : (b : Bool) → not b ≡ true → b ≡ false
-not-open true e = sym e
-not-open false e = refl
-
 module _ (catalog : ℕ → Relation) (db : ℕ → List Row) (sizes : ℕ → ℕ) (goes : Routing) (given : Given catalog db sizes goes) where
   unary-at : (k : ℕ) (c : Claim) (op : Unary) (p : Plan) (s out : Streams) → phase_fits op p ≡ true → HoldingAt db sizes goes p s → allowed_here catalog (unary k c op p) ≡ true
       → ((w : ℕ) → w < workers sizes (size p) → unary_rows op (s w) ≡ Some (out w)) → HoldingAt db sizes goes (unary k c op p) out
   unary-at k c op p s out e h ok run =
-      let own_rows : not (is_open p) ≡ true → Holding db sizes goes p s = λ e. close catalog db sizes goes given p s (not-open (is_open p) e) h in
+      let own_rows : not (is_open p) ≡ true → Holding db sizes goes p s = λ e. close catalog db sizes goes given p s (not-true (is_open p) e) h in
       by-phase
       (λ op fits_of is_of spoken_of gives_of listed_of. fits_of p ≡ true → allowed_here catalog (unary k c op p) ≡ true → ((w : ℕ) → w < workers sizes (size p) → unary_rows op (s w) ≡ Some (out w))
       → HoldingOf goes c (workers sizes (size p)) out (serial db (spoken_of p (unary k c op p))) gives_of listed_of)
@@ -60,8 +58,8 @@ module _ (catalog : ℕ → Relation) (db : ℕ → List Row) (sizes : ℕ → �
       let h = all-hold p run.0 well.0 (and-left (allowed catalog p) (allowed catalog q && here) ok) run.2 in
       let j = all-hold q run.1 well.1 (and-left (allowed catalog q) here rest) run.3 in
       binary-holds catalog db sizes goes given k c op p q run.0 run.1 s
-      (close catalog db sizes goes given p run.0 (not-open (is_open p) (and-left (not (is_open p)) (not (is_open q)) well.2)) h)
-      (close catalog db sizes goes given q run.1 (not-open (is_open q) (and-right (not (is_open p)) (not (is_open q)) well.2)) j)
+      (close catalog db sizes goes given p run.0 (not-true (is_open p) (and-left (not (is_open p)) (not (is_open q)) well.2)) h)
+      (close catalog db sizes goes given q run.1 (not-true (is_open q) (and-right (not (is_open p)) (not (is_open q)) well.2)) j)
       well.0 (names catalog p well.0) (and-right (allowed catalog q) here rest) run.4
   all-hold (exchange k c kind merge p) s wf ok run =
       let here : Bool = allowed_here catalog (exchange k c kind merge p) in
@@ -84,20 +82,6 @@ module _ (catalog : ℕ → Relation) (db : ℕ → List Row) (sizes : ℕ → �
       (λ f. let m = (whole goes op e).of_bags ih.base (s w) xs (SameRows-sym (f.0 w l)) g in some-list (unary_rows op (s w)) m.out m.is)
       (λ f. (whole goes op e).splits (workers sizes (size p)) s ih.base xs f.0 f.1 g w l)
       (fitting-at catalog db sizes goes given op p s (λ xs. SameRows xs ih.base) ih.holds.part fit)
-
-  stream-total : (n : ℕ) (s : Streams) (base : List Row) → SameRows (joined n s) base → (f : Row → ℕ) → (w : ℕ) → w < n → total f (s w) ≤ total f base
-  stream-total n s base same f w l =
-      let a = same.totals f in
-      let b = total-joined f n s in
-      let c = across-least n (λ i. total f (s i)) w l in
-      omega (arith, a, b, c)
-
-  -- one stream has no more of the rows than all
-  pub part-total : (q : Part) (n : ℕ) (s : Streams) (base : List Row) → PartHolds goes q n s base → (f : Row → ℕ) → (w : ℕ) → w < n → total f (s w) ≤ total f base
-  part-total one n s base h f w l = stream-total n s base h.1 f w l
-  part-total any n s base h f w l = stream-total n s base h f w l
-  part-total all n s base h f w l = let e = (h w l).totals f in omega (arith, e)
-  part-total (routed r cs) n s base h f w l = stream-total n s base h.0 f w l
 
   -- a final over parts of groups that fit
   final-fit : (keys : List ℕ) (puts : List Aggregate) (p : Plan) (s : Streams) (ih : HoldingAt db sizes goes p s) → opens keys puts p ≡ true
@@ -173,13 +157,9 @@ module _ (catalog : ℕ → Relation) (db : ℕ → List Row) (sizes : ℕ → �
         summed = x.1;
         outside = x.2;
       }))
-      (λ x. inr (let a = less (λ r. 1) in let b = counted base in let c = many (total (λ r. 1) some) x in omega (arith, a, b, c)))
+      (λ x. inr (let a = less (λ r. 1) in let b = total-ones base in let c = many (total (λ r. 1) some) x in omega (arith, a, b, c)))
       (failing aggregates some k.1)
     where
-      counted : (xs : List Row) → total (λ r. 1) xs ≡ length xs
-      counted [] = refl
-      counted (x ∷ xs) = let e = counted xs in omega (arith, e)
-
       filter-total : (f : Row → ℕ) (p : Row → Bool) (xs : List Row) → total f (filter p xs) ≤ total f xs
       filter-total f p [] = omega arith
       filter-total f p (x ∷ xs) = go (p x) (filter-total f p xs)
@@ -205,12 +185,12 @@ module _ (catalog : ℕ → Relation) (db : ℕ → List Row) (sizes : ℕ → �
       let ih = own_rows h f in
       let P : SerialResult → Type 0 = λ o. HasLargeInput (group partial by aggregates) o ⊎ IsTooLong (group partial by aggregates) o in
       decide by aggregates (list_all (group_fits by aggregates (u w)) (group_keys by (u w))) refl
-      (λ bad. subst P (sym ih.is_serial) (partial-large by aggregates (u w) ih.base (λ f. part-total (claim p).part (workers sizes (size p)) u ih.base ih.holds.part f w l) bad)))
+      (λ bad. subst P (sym ih.is_serial) (partial-large by aggregates (u w) ih.base (λ f. stream-most goes (claim p).part (workers sizes (size p)) u (λ xs. SameRows xs ih.base) f (total f ih.base) (λ xs e. let k = e.totals f in omega (arith, k)) ih.holds.part w l) bad)))
       (λ by aggregates f t e. inl (below by aggregates (serial db p) refl h f t e))
       op (well-under catalog k c op p wf).1 t.2 e
     where
       own_rows : HoldingAt db sizes goes p u → not (is_open p) ≡ true → Holding db sizes goes p u
-      own_rows h f = close catalog db sizes goes given p u (not-open (is_open p) f) h
+      own_rows h f = close catalog db sizes goes given p u (not-true (is_open p) f) h
 
       below : (by : List ℕ) (aggregates : List Aggregate) (o : SerialResult) → serial db p ≡ o → HoldingAt db sizes goes p u → opens by aggregates p ≡ true
           → (is_one (size p) || Rattle.vx_check_rules.specs.Behaviour.fits (over (described (group final by aggregates)) p)) ≡ true → after o (λ ys. or_overflow k (group_rows by aggregates ys)) ≡ rows xs → IsSome (group_rows by aggregates (u w))

@@ -19,13 +19,13 @@ use Rattle.vx_rows.proofs.Compare.{row_eq-same, row_eq-refl, agree-both}
 use Rattle.vx_laws.proofs.Unary.{map-all, project-sorted}
 use Rattle.vx_laws.proofs.Copies.{copied-cons}
 use Rattle.vx_laws.proofs.Join.{total-all-ext, pick-left, value-left}
-use Rattle.vx_laws.proofs.JoinOrder.{list_all-append, all-and, wide}
+use Rattle.vx_laws.proofs.JoinOrder.{all-append, all-and, wide}
 use Rattle.vx_laws.proofs.Widths.{firsts-all, picks-wide}
 use Rattle.vx_laws.proofs.Apart.{firsts-same, picks-same, firsts-joined, firsts-sorted, of_key-same, group_row-same, group_fits-same, key-apart, firsts-at-most, agree-value, below-contains, rows-equal, count-witness-in, count-mono-in}
 
 pub joined-all : (p : Row → Bool) (n : ℕ) (s : Streams) → ((w : ℕ) → w < n → list_all p (s w) ≡ true) → list_all p (joined n s) ≡ true
 joined-all p zero s h = refl
-joined-all p (suc n) s h = list_all-append p (joined n s) (s n) (joined-all p n s (λ w l. h w (omega arith))) (h n (omega arith))
+joined-all p (suc n) s h = all-append p (joined n s) (s n) (joined-all p n s (λ w l. h w (omega arith))) (h n (omega arith))
 
 -- what holds of each row's key holds of all keys
 pub keys-all : (by : List ℕ) (p : Row → Bool) (xs : List Row) → list_all (λ x. p (pick by x)) xs ≡ true → list_all p (group_keys by xs) ≡ true

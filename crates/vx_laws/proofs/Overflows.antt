@@ -3,15 +3,14 @@ use Rattle.vx_worker.specs.Fragment.{goes, RunModel, Frag, Reads, fragment, Frag
 use Rattle.std.proofs.Common.{◌≡◌, ◌⊎◌, inl, inr, ⊎_elim, ℕ, zero, suc, ◌<◌, ◌≤◌, ◌==◌, Bool, true, false, cond, not, ◌||◌, ◌&&◌, List, [], ◌∷◌, ◌++◌, map, length, Option, Some, None, IsSome, refl, sym, ap, ◌∙◌, subst, arith, append-nil, true≢false, eqb-true, eq-eqb, ◌+◌, flat_map, length-append}
 use Rattle.vx_values.specs.Values.{Row}
 use Rattle.vx_rows.specs.Order.{sorted}
-use Rattle.vx_rows.specs.Bags.{total, SameRows}
-use Rattle.vx_plan_nodes.specs.Plan.{Size, ExchangeKind, target, Claim, Part, one, any, all, routed, Unary, select, project, distinct, sort, group, Binary, union, join, Aggregate, Plan, scan, unary, binary, exchange, size, claim, size_eq, Phase, plain, partial, final, route_to, round, broadcast, gather, concat}
+use Rattle.vx_rows.specs.Bags.{SameRows}
+use Rattle.vx_plan_nodes.specs.Plan.{Size, ExchangeKind, target, Claim, Unary, select, project, distinct, sort, group, Binary, union, join, Aggregate, Plan, scan, unary, binary, exchange, size, claim, size_eq, Phase, plain, partial, final, route_to, round, broadcast, gather, concat}
 use Rattle.vx_plan_nodes.specs.Types.{width, well_formed, names_columns}
 use Rattle.vx_plan_nodes.specs.Serial.{unary_rows, binary_rows, group_rows, SerialResult, rows, overflow, or_overflow, after, serial, IsOverflow, IsTooLong, HasTooLong, HasLargePart}
 use Rattle.vx_check_rules.specs.Rules.{allowed, allowed_here}
 use Rattle.vx_plan_nodes.specs.Streams.{Streams, workers, joined, Dealt}
-use Rattle.vx_plan_nodes.specs.Routes.{Routing}
 use Rattle.vx_plan_nodes.specs.Runs.{Runs, is_concat}
-use Rattle.vx_check_rules.specs.Claims.{Given, PartOf}
+use Rattle.vx_check_rules.specs.Claims.{Given}
 use Rattle.vx_ports.specs.Packets.{fault, PacketView, rows_of, closes, is_last, is_closed, has_last, is_empty, is_stream, Flows}
 use Rattle.vx_worker.specs.Morsels.{morsel_of, morsels}
 use Rattle.vx_ops.specs.Ledger.{Stream, one_op, two_op, OwnBlame}
@@ -25,13 +24,13 @@ use Rattle.vx_laws.specs.Faults.{IsReal, FailsBelow, OverflowIsReal}
 use Rattle.vx_ops.specs.declared.fault.Code.TheVariants.{Overflow}
 use Rattle.vx_ops.specs.declared.fault.Fault.TheVariants.{Own}
 use Rattle.vx_ops.specs.declared.fault.Over.TheVariants.{Failed}
-use Rattle.vx_laws.proofs.Bags.{and-left, and-right, across-least, total-joined}
-use Rattle.vx_laws.proofs.Parts.{some-workers, size_eq-is, one-worker}
+use Rattle.vx_laws.proofs.Bags.{total-ones, and-left, and-right}
+use Rattle.vx_laws.proofs.Parts.{stream-most, some-workers, size_eq-is, one-worker}
 use Rattle.vx_laws.proofs.Orders.{Dealt-one, sorted-front}
 use Rattle.vx_laws.proofs.Unary.{some-is}
 use Rattle.vx_laws.proofs.Exchange.{sends-sorted}
 use Rattle.vx_laws.proofs.OneInput.{tests, HoldingAt}
-use Rattle.vx_laws.proofs.Frame.{all-hold, no-overflow-at, not-open}
+use Rattle.vx_laws.proofs.Frame.{all-hold, no-overflow-at}
 use Rattle.vx_laws.proofs.WellFormed.{well-under, well-both}
 use Rattle.vx_laws.proofs.Erased.{erased-overflows}
 use Rattle.vx_laws.proofs.Settings.{set-given}
@@ -45,6 +44,7 @@ use Rattle.vx_laws.proofs.Opened.{closed-spoken}
 use Rattle.vx_laws.proofs.Phased.{by-phase}
 use Rattle.vx_plan_nodes.specs.Phases.{is_open, opens, phase_fits, spoken, Gives, is_row_of}
 use Rattle.vx_relations.specs.Relation.{Relation}
+use Rattle.std.proofs.lemmas.Bool.{not-true}
 use Rattle.std.specs.List.{list_all}
 
 -- lists of packets
@@ -174,12 +174,8 @@ row-list by aggregates (t ∷ ts) h =
     some-rows row [] h = absurd (true≢false (sym h))
     some-rows row (x ∷ xs) h = omega arith
 
-counted : (xs : List Row) → total (λ r. 1) xs ≡ length xs
-counted [] = refl
-counted (x ∷ xs) = let e = counted xs in omega (arith, e)
-
 same-length : (xs ys : List Row) → SameRows xs ys → length xs ≡ length ys
-same-length xs ys s = sym (counted xs) ∙ (s.totals (λ r. 1) ∙ counted ys)
+same-length xs ys s = sym (total-ones xs) ∙ (s.totals (λ r. 1) ∙ total-ones ys)
 
 gives-length : (p : Plan) (base xs : List Row) → Gives p base xs → length xs ≤ length base
 gives-length (scan n c r m z) base xs h = let e = same-length xs base h in omega (arith, e)
@@ -193,26 +189,6 @@ gives-length (unary n c op p) base xs h = by-phase (λ op fits_of is_of spoken_o
     (λ by aggregates h. let e = same-length xs base h in omega (arith, e)) op h
 gives-length (binary n c op p q) base xs h = let e = same-length xs base h in omega (arith, e)
 gives-length (exchange n c k m p) base xs h = gives-length p base xs h
-
--- one stream has no more rows than all
-stands-length : (goes : Routing) (q : Part) (n : ℕ) (s : Streams) (stands : List Row → Type 0) (most : ℕ) → ((xs : List Row) → stands xs → length xs ≤ most)
-    → PartOf goes q n s stands → (w : ℕ) → w < n → length (s w) ≤ most
-stands-length goes q n s stands most law h w l = shown q h
-  where
-    by-all : stands (joined n s) → length (s w) ≤ most
-    by-all g =
-        let a = counted (s w) in
-        let b = counted (joined n s) in
-        let d = total-joined (λ r. 1) n s in
-        let e = across-least n (λ i. total (λ r. 1) (s i)) w l in
-        let f = law (joined n s) g in
-        omega (arith, a, b, d, e, f)
-
-    shown : (q : Part) → PartOf goes q n s stands → length (s w) ≤ most
-    shown one h = by-all h.1
-    shown any h = by-all h
-    shown all h = law (s w) (h w l)
-    shown (routed r cs) h = by-all h.0
 
 module _ (S : RunModel) (giv : Given S.catalog S.db S.sizes (goes S)) (some : 0 < S.morsel) where
   fit-sized : Sized S
@@ -406,14 +382,16 @@ module _ (S : RunModel) (giv : Given S.catalog S.db S.sizes (goes S)) (some : 0 
       = all-hold S.catalog S.db S.sizes (goes S) giv p u
       (well-under S.catalog n c (group phase by aggregates) p wf).0
       (and-left (allowed S.catalog p) (allowed_here S.catalog (unary n c (group phase by aggregates) p)) ok) run in
-      let most = stands-length (goes S) (claim p).part (workers S.sizes (size p)) u (λ xs. Gives p holds.base xs) (length holds.base) (λ xs g. gives-length p holds.base xs g) holds.holds.part w l in
-      go phase (well-under S.catalog n c (group phase by aggregates) p wf).1 holds.base holds.is_serial (omega (arith, most, long)))
+      let ones = total-ones (u w) in
+      let most = stream-most (goes S) (claim p).part (workers S.sizes (size p)) u (λ xs. Gives p holds.base xs) (λ r. 1) (length holds.base)
+      (λ xs g. let a = total-ones xs in let b = gives-length p holds.base xs g in omega (arith, a, b)) holds.holds.part w l in
+      go phase (well-under S.catalog n c (group phase by aggregates) p wf).1 holds.base holds.is_serial (omega (arith, most, long, ones)))
       why
     where
       closed : (phase : Phase) → not (is_open p) ≡ true → (base : List Row) → serial S.db (spoken p) ≡ rows base → 4611686018427387904 < length base → HasTooLong S.db (unary n c (group phase by aggregates) p)
       closed phase e base h big =
           let P : SerialResult → Type 0 = λ o. IsTooLong (group phase by aggregates) o in
-          let same : serial S.db p ≡ rows base = sym (closed-spoken S.db p (not-open (is_open p) e)) ∙ h in
+          let same : serial S.db p ≡ rows base = sym (closed-spoken S.db p (not-true (is_open p) e)) ∙ h in
           inr (subst P (sym same) big)
 
       go : (phase : Phase) → phase_fits (group phase by aggregates) p ≡ true → (base : List Row) → serial S.db (spoken p) ≡ rows base → 4611686018427387904 < length base

@@ -1,13 +1,14 @@
 -- What a node has by its claim and its size.
-use Rattle.std.proofs.Common.{⊎_elim, ◌≡◌, ℕ, ◌<◌, Bool, true, false, ◌||◌, ◌⊎◌, inl, inr, List, [], ◌∷◌, refl, sym, ap, subst, arith, true≢false, eqb-true, eq-eqb}
+use Rattle.std.proofs.Common.{⊎_elim, ◌≡◌, ℕ, ◌<◌, ◌≤◌, Bool, true, false, ◌||◌, ◌⊎◌, inl, inr, List, [], ◌∷◌, refl, sym, ap, subst, arith, true≢false, eqb-true, eq-eqb}
 use Rattle.std.specs.List.{list_all}
 use Rattle.vx_values.specs.Values.{Row, pick}
+use Rattle.vx_rows.specs.Bags.{total}
 use Rattle.vx_plan_nodes.specs.Plan.{Size, one_worker, group_of, Route, by_hash, by_range, Part, one, any, all, routed, is_one, size_eq}
 use Rattle.vx_plan_nodes.specs.Streams.{Streams, joined, workers}
 use Rattle.vx_plan_nodes.specs.Routes.{Routing}
 use Rattle.vx_check_rules.specs.Rules.{numbers_eq, route_eq, part_gives}
 use Rattle.vx_check_rules.specs.Claims.{InItsStream, PartOf}
-use Rattle.vx_laws.proofs.Bags.{and-left, and-right, and-both}
+use Rattle.vx_laws.proofs.Bags.{and-left, and-right, and-both, total-joined, across-least}
 
 pub or-cases : (a b : Bool) → (a || b) ≡ true → (a ≡ true) ⊎ (b ≡ true)
 or-cases true b e = inl refl
@@ -101,3 +102,17 @@ module _ (goes : Routing) (law : InRange goes) where
       (λ o. single-of q n s stands (single o) (from_single-of p n s stands (single o) h))
       (λ g. weaker-of p q n s stands g h)
       (or-cases b (part_gives p q) e)
+
+-- one stream has no more than any list that stands for the rows
+pub stream-most : (goes : Routing) (q : Part) (n : ℕ) (s : Streams) (stands : List Row → Type 0) (f : Row → ℕ) (most : ℕ) → ((xs : List Row) → stands xs → total f xs ≤ most)
+    → PartOf goes q n s stands → (w : ℕ) → w < n → total f (s w) ≤ most
+stream-most goes q n s stands f most law h w l = shown q h
+  where
+    together : stands (joined n s) → total f (s w) ≤ most
+    together g = let a = law (joined n s) g in let b = total-joined f n s in let c = across-least n (λ i. total f (s i)) w l in omega (arith, a, b, c)
+
+    shown : (q : Part) → PartOf goes q n s stands → total f (s w) ≤ most
+    shown one h = together h.1
+    shown any h = together h
+    shown all h = law (s w) (h w l)
+    shown (routed r cols) h = together h.0

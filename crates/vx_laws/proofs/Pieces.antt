@@ -2,6 +2,10 @@
 use Rattle.std.proofs.Common.{◌≡◌, ℕ, zero, suc, ◌+◌, ◌*◌, ◌<◌, ◌≤◌, ◌==◌, pos, negsuc, ◌-ℤ◌, Bool, true, false, cond, not, ◌&&◌, List, [], ◌∷◌, ◌++◌, map, filter, flat_map, length, refl, sym, ap, ap₂, ◌∙◌, subst, arith, true≢false, is_le, is_eq, append_assoc, zero-add, eqb-true, Some, None}
 use Rattle.std.proofs.lemmas.Int.{ints}
 use Rattle.std.proofs.lemmas.Cmp.{tied_itself}
+use Rattle.std.proofs.lemmas.Bool.{not-true}
+use Rattle.std.proofs.lemmas.List.{map-append}
+use Rattle.std.proofs.lemmas.List.Elements.{filter-append}
+use Rattle.std.proofs.lemmas.Grind.{flat_map-append}
 use Rattle.std.specs.List.{list_all}
 use Rattle.vx_values.specs.Lists.{is_some_list}
 use Rattle.vx_values.specs.Types.{fits_64}
@@ -13,12 +17,12 @@ use Rattle.vx_plan_nodes.specs.Phases.{columns_from, first_columns, merging, mer
 use Rattle.vx_plan_nodes.specs.Serial.{firsts, group_keys, group_rows, group_row, group_fits, of_key, aggregate_of, fits, sum_of, count_of, above_zero, below_zero, least_of, greatest_of}
 use Rattle.vx_plan_nodes.specs.Streams.{Streams, joined}
 use Rattle.vx_rows.proofs.Compare.{row_eq-same, row_eq-refl, row_eq-laws, val_cmp_total, val_cmp-same, is_eq-Equal}
-use Rattle.vx_laws.proofs.Bags.{and-left, and-right, and-both, when, total-append, total-map, total-filter, total-flat_map, total-ext, total-zero, total-add, against, against-none, none-against, SameRows-all, SameRows-sym, SameRows-trans, SameRows-refl}
+use Rattle.vx_laws.proofs.Bags.{total-ones, and-left, and-right, and-both, when, total-append, total-map, total-filter, total-flat_map, total-ext, total-zero, total-add, against, against-none, none-against, SameRows-all, SameRows-sym, SameRows-trans, SameRows-refl}
 use Rattle.vx_laws.proofs.Parts.{list_all-weaken}
 use Rattle.vx_laws.proofs.Join.{total-swap, total-all-ext, value-left, value-right}
 use Rattle.vx_laws.proofs.Exchange.{filter-all}
 use Rattle.vx_laws.proofs.Widths.{length-pick, firsts-all, picks-wide}
-use Rattle.vx_laws.proofs.JoinOrder.{list_all-append}
+use Rattle.vx_laws.proofs.JoinOrder.{all-append, all-front, all-back, all-and}
 use Rattle.vx_laws.proofs.Apart.{flag-no, flag-yes, sign, firsts-count, same-from-counts, nothing-same, self-counts, val-trans, val-both, least-below, least-among, greatest-above, greatest-among, group_row-same, of_key-same}
 use Rattle.vx_laws.proofs.Groups.{groups, groups-same, keys-all, fits-same-rows}
 
@@ -61,7 +65,9 @@ arranged f xs (y ∷ ys) s =
           let e : h (f t.0) ≡ h y = ap h t.2 in
           omega (arith, a, b, c, d, e);
     }) in
-    (t.0 ∷ r.0, ap₂ (λ a b. a ∷ b) t.2 r.1, λ g. let a = r.2 g in let b = t.3 g in omega (arith, a, b))
+    let front : f t.0 ≡ y = t.2 in
+    let rest : map f r.0 ≡ ys = r.1 in
+    (t.0 ∷ r.0, (cc), λ g. let a = r.2 g in let b = t.3 g in omega (arith, a, b))
 
 pub Parts-order : (by : List ℕ) (aggregates : List Aggregate) (base xs ys : List Row) → SameRows xs ys → Parts by aggregates base xs → Parts by aggregates base ys
 Parts-order by aggregates base xs ys s p =
@@ -78,25 +84,17 @@ Parts-order by aggregates base xs ys s p =
 pub Parts-base : (by : List ℕ) (aggregates : List Aggregate) (base other xs : List Row) → SameRows base other → Parts by aggregates base xs → Parts by aggregates other xs
 Parts-base by aggregates base other xs s p = record { pieces = p.pieces; rows_are = p.rows_are; each = p.each; whole = SameRows-trans p.whole s }
 
-map-append : {X Y : Type 0} (f : X → Y) (xs ys : List X) → map f (xs ++ ys) ≡ map f xs ++ map f ys
-map-append f [] ys = refl
-map-append f (x ∷ xs) ys = ap (λ l. f x ∷ l) (map-append f xs ys)
-
-flat-append : {X Y : Type 0} (f : X → List Y) (xs ys : List X) → flat_map f (xs ++ ys) ≡ flat_map f xs ++ flat_map f ys
-flat-append f [] ys = refl
-flat-append f (x ∷ xs) ys = ap (λ l. f x ++ l) (flat-append f xs ys) ∙ sym (append_assoc (f x) (flat_map f xs) (flat_map f ys))
-
 pub Parts-append : (by : List ℕ) (aggregates : List Aggregate) (base other xs ys : List Row) → Parts by aggregates base xs → Parts by aggregates other ys
     → Parts by aggregates (base ++ other) (xs ++ ys)
 Parts-append by aggregates base other xs ys p q = record {
   pieces = p.pieces ++ q.pieces;
   rows_are = map-append (λ (t : Piece). t.0) p.pieces q.pieces ∙ ap₂ (λ a b. a ++ b) p.rows_are q.rows_are;
-  each = list_all-append (λ (t : Piece). is_row_of by aggregates t.0 t.1) p.pieces q.pieces p.each q.each;
+  each = all-append (λ (t : Piece). is_row_of by aggregates t.0 t.1) p.pieces q.pieces p.each q.each;
   whole = record {
     totals = λ f.
         let a = p.whole.totals f in
         let b = q.whole.totals f in
-        let c : total f (flat_map (λ (t : Piece). t.1) (p.pieces ++ q.pieces)) ≡ total f (flat_map (λ (t : Piece). t.1) p.pieces ++ flat_map (λ (t : Piece). t.1) q.pieces) = ap (total f) (flat-append (λ (t : Piece). t.1) p.pieces q.pieces) in
+        let c : total f (flat_map (λ (t : Piece). t.1) (p.pieces ++ q.pieces)) ≡ total f (flat_map (λ (t : Piece). t.1) p.pieces ++ flat_map (λ (t : Piece). t.1) q.pieces) = ap (total f) (flat_map-append (λ (t : Piece). t.1) p.pieces q.pieces) in
         let d = total-append f (flat_map (λ (t : Piece). t.1) p.pieces) (flat_map (λ (t : Piece). t.1) q.pieces) in
         let e = total-append f base other in
         omega (arith, a, b, c, d, e);
@@ -131,10 +129,6 @@ is_row-of-key by aggregates key (x ∷ xs) h some =
     and-both (list_all (agree by x) xs) (row_eq (key ++ vals) (pick by x ++ vals))
     (subst P e (and-right (row_eq key (pick by x)) (list_all (λ r. row_eq key (pick by r)) xs) h))
     (subst Q e (row_eq-refl (key ++ vals)))
-
-counted-length : {X : Type 0} (xs : List X) → total (λ x. 1) xs ≡ length xs
-counted-length [] = refl
-counted-length (x ∷ xs) = let e = counted-length xs in omega (arith, e)
 
 -- each key of the list has a row
 of_key-some : (by : List ℕ) (xs : List Row) → list_all (λ x. is_some_list (of_key by (pick by x) xs)) xs ≡ true
@@ -204,7 +198,7 @@ groups-whole by aggregates xs = record {
     alone f x e =
         let ks : List Row = group_keys by xs in
         let some = some-length (of_key by (pick by x) xs) e in
-        let m : total (λ r. 1) (of_key by (pick by x) xs) ≡ length (of_key by (pick by x) xs) = counted-length (of_key by (pick by x) xs) in
+        let m : total (λ r. 1) (of_key by (pick by x) xs) ≡ length (of_key by (pick by x) xs) = total-ones (of_key by (pick by x) xs) in
         let c : total (λ r. 1) (of_key by (pick by x) xs) ≡ total (λ r. when (row_eq (pick by x) (pick by r)) 1) xs = total-filter (λ r. 1) (λ r. row_eq (pick by x) (pick by r)) xs in
         let d : total (λ r. when (row_eq (pick by x) (pick by r)) 1) xs ≡ count (λ r. row_eq (pick by x) (pick by r)) xs = total-ext (λ r. when (row_eq (pick by x) (pick by r)) 1) (λ r. cond (row_eq (pick by x) (pick by r)) 1 0) (λ r. same-flag (row_eq (pick by x) (pick by r))) xs in
         let g : count (row_eq (pick by x)) (map (pick by) xs) ≡ count (λ r. row_eq (pick by x) (pick by r)) xs = total-map (λ y. cond (row_eq (pick by x) y) 1 0) (pick by) xs in
@@ -302,26 +296,13 @@ sum-of-counts i ts h =
 -- what holds of all rows that pieces stand for holds of each piece's
 pieces-all : (q : Row → Bool) (ts : List Piece) → list_all q (all-in ts) ≡ true → list_all (λ (t : Piece). list_all q t.1) ts ≡ true
 pieces-all q [] h = refl
-pieces-all q (t ∷ ts) h = and-both (list_all q t.1) _ (front q t.1 (all-in ts) h) (pieces-all q ts (back q t.1 (all-in ts) h))
-  where
-    front : (q : Row → Bool) (xs ys : List Row) → list_all q (xs ++ ys) ≡ true → list_all q xs ≡ true
-    front q [] ys h = refl
-    front q (x ∷ xs) ys h = and-both (q x) (list_all q xs) (and-left (q x) (list_all q (xs ++ ys)) h) (front q xs ys (and-right (q x) (list_all q (xs ++ ys)) h))
-
-    back : (q : Row → Bool) (xs ys : List Row) → list_all q (xs ++ ys) ≡ true → list_all q ys ≡ true
-    back q [] ys h = h
-    back q (x ∷ xs) ys h = back q xs ys (and-right (q x) (list_all q (xs ++ ys)) h)
-
-both-all : {X : Type 0} (p q : X → Bool) (xs : List X) → list_all p xs ≡ true → list_all q xs ≡ true → list_all (λ x. p x && q x) xs ≡ true
-both-all p q [] h k = refl
-both-all p q (x ∷ xs) h k =
-    and-both (p x && q x) (list_all (λ x. p x && q x) xs) (and-both (p x) (q x) (and-left (p x) (list_all p xs) h) (and-left (q x) (list_all q xs) k))
-    (both-all p q xs (and-right (p x) (list_all p xs) h) (and-right (q x) (list_all q xs) k))
+pieces-all q (t ∷ ts) h =
+    and-both (list_all q t.1) _ (all-front q t.1 (all-in ts) h) (pieces-all q ts (all-back q t.1 (all-in ts) h))
 
 -- a test of the values of all rows holds of the value that each piece shows, where that is one of them
 pieces-value : (i c : ℕ) (a : Aggregate) (p : Val → Bool) → ((xs : List Row) → is_some_list xs ≡ true → list_all (λ r. p (value_at r c)) xs ≡ true → p (aggregate_of a xs) ≡ true)
     → (ts : List Piece) → list_all (shows-at i a) ts ≡ true → list_all (λ r. p (value_at r c)) (all-in ts) ≡ true → list_all (λ r. p (value_at r i)) (rows-in ts) ≡ true
-pieces-value i c a p among ts h k = go ts (both-all (shows-at i a) (λ (t : Piece). list_all (λ r. p (value_at r c)) t.1) ts h (pieces-all (λ r. p (value_at r c)) ts k))
+pieces-value i c a p among ts h k = go ts (all-and (shows-at i a) (λ (t : Piece). list_all (λ r. p (value_at r c)) t.1) ts h (pieces-all (λ r. p (value_at r c)) ts k))
   where
     go : (ts : List Piece) → list_all (λ (t : Piece). shows-at i a t && list_all (λ r. p (value_at r c)) t.1) ts ≡ true → list_all (λ r. p (value_at r i)) (rows-in ts) ≡ true
     go [] h = refl
@@ -341,7 +322,7 @@ value-pieces i c a p goes_on [] h k = refl
 value-pieces i c a p goes_on (t ∷ ts) h k =
     let s = and-left (shows-at i a t) (list_all (shows-at i a) ts) h in
     let P : Val → Type 0 = λ w. p w ≡ true in
-    list_all-append (λ r. p (value_at r c)) t.1 (all-in ts)
+    all-append (λ r. p (value_at r c)) t.1 (all-in ts)
     (goes_on t.1 (and-right (is_eq (val_cmp (value_at t.0 i) (aggregate_of a t.1))) (is_some_list t.1) s)
     (subst P (shown-value i a t s) (and-left (p (value_at t.0 i)) (list_all (λ r. p (value_at r i)) (rows-in ts)) k)))
     (value-pieces i c a p goes_on ts (and-right (shows-at i a t) (list_all (shows-at i a) ts) h) (and-right (p (value_at t.0 i)) (list_all (λ r. p (value_at r i)) (rows-in ts)) k))
@@ -506,14 +487,6 @@ pick-key n key vals e =
 row-key : (by : List ℕ) (aggregates : List Aggregate) (row : Row) (xs : List Row) (r : RowOf by aggregates row xs) → pick (first_columns (length by)) row ≡ r.key
 row-key by aggregates row xs r = ap (λ v. pick (first_columns (length by)) v) r.row_is ∙ pick-key (length by) r.key (map (λ a. aggregate_of a xs) aggregates) r.long
 
-filter-append : {X : Type 0} (p : X → Bool) (xs ys : List X) → filter p (xs ++ ys) ≡ filter p xs ++ filter p ys
-filter-append p [] ys = refl
-filter-append p (x ∷ xs) ys = go (p x) (filter-append p xs ys)
-  where
-    go : (b : Bool) → filter p (xs ++ ys) ≡ filter p xs ++ filter p ys → cond b (x ∷ filter p (xs ++ ys)) (filter p (xs ++ ys)) ≡ cond b (x ∷ filter p xs) (filter p xs) ++ filter p ys
-    go true e = ap (λ l. x ∷ l) e
-    go false e = e
-
 filter-every : {X : Type 0} (p : X → Bool) (xs : List X) → list_all p xs ≡ true → filter p xs ≡ xs
 filter-every p [] h = refl
 filter-every p (x ∷ xs) h = ap (λ b. cond b (x ∷ filter p xs) (filter p xs)) (and-left (p x) (list_all p xs) h) ∙ ap (λ l. x ∷ l) (filter-every p xs (and-right (p x) (list_all p xs) h))
@@ -521,12 +494,8 @@ filter-every p (x ∷ xs) h = ap (λ b. cond b (x ∷ filter p xs) (filter p xs)
 filter-nothing : {X : Type 0} (p : X → Bool) (xs : List X) → list_all (λ x. not (p x)) xs ≡ true → filter p xs ≡ []
 filter-nothing p [] h = refl
 filter-nothing p (x ∷ xs) h =
-    let e : p x ≡ false = off (p x) (and-left (not (p x)) (list_all (λ x. not (p x)) xs) h) in
+    let e : p x ≡ false = not-true (p x) (and-left (not (p x)) (list_all (λ x. not (p x)) xs) h) in
     ap (λ b. cond b (x ∷ filter p xs) (filter p xs)) e ∙ filter-nothing p xs (and-right (not (p x)) (list_all (λ x. not (p x)) xs) h)
-  where
-    off : (b : Bool) → not b ≡ true → b ≡ false
-    off true e = sym e
-    off false e = refl
 
 -- no row stands before an equal one
 abbrev All-apart : List Row → Bool
@@ -642,12 +611,8 @@ module _ (by : List ℕ) (aggregates : List Aggregate) where
           none : (xs : List Row) → list_all (λ x. not (row_eq r (pick by x))) xs ≡ true → sign (total (λ x. cond (row_eq r (pick by x)) 1 0) xs) ≡ 0
           none xs a =
               let e : total (λ x. cond (row_eq r (pick by x)) 1 0) xs ≡ total (λ x. 0) xs
-              = total-all-ext (λ x. not (row_eq r (pick by x))) (λ x. cond (row_eq r (pick by x)) 1 0) (λ x. 0) (λ x n. flag-no (row_eq r (pick by x)) (off (row_eq r (pick by x)) n)) xs a in
+              = total-all-ext (λ x. not (row_eq r (pick by x))) (λ x. cond (row_eq r (pick by x)) 1 0) (λ x. 0) (λ x n. flag-no (row_eq r (pick by x)) (not-true (row_eq r (pick by x)) n)) xs a in
               ap sign (e ∙ total-zero xs)
-            where
-              off : (b : Bool) → not b ≡ true → b ≡ false
-              off true e = sym e
-              off false e = refl
 
           go : (b : Bool) (o : RowOf by aggregates t.0 t.1) → row_eq r o.key ≡ b → sign (cond b 1 0) ≡ sign (total (λ x. cond (row_eq r (pick by x)) 1 0) t.1)
           go true o e =

@@ -18,7 +18,7 @@ use Rattle.vx_laws.proofs.Bags.{and-left, and-right}
 use Rattle.vx_laws.proofs.Parts.{InRange, or-cases, single-of, route_eq-is, numbers_eq-is, list_all-always, list_all-weaken}
 use Rattle.vx_laws.proofs.Copies.{if_some-is}
 use Rattle.vx_laws.proofs.Join.{pick-left, pick-minus}
-use Rattle.vx_laws.proofs.JoinOrder.{wide, join-all, list_all-append, all-and}
+use Rattle.vx_laws.proofs.JoinOrder.{wide, join-all, all-append, all-and}
 use Rattle.vx_laws.proofs.Binary.{right_columns-is, left_columns-is}
 use Rattle.vx_laws.proofs.Operators.{keeps, same-columns}
 
@@ -117,7 +117,7 @@ union-places goes v p q n w ls rs left right =
           let P : List ℕ → Type 0 = λ z. Placed goes (routed r z) n w (ls ++ rs) in
           let k = and-right (has p (routed r ds)) (has q (routed r ds) && true) h in
           subst P (sym (same-columns cs ds c))
-          (list_all-append (at_place goes (routed r ds) n w) ls rs (left (routed r ds) (and-left (has p (routed r ds)) (has q (routed r ds) && true) h)) (right (routed r ds) (and-left (has q (routed r ds)) true k))),
+          (all-append (at_place goes (routed r ds) n w) ls rs (left (routed r ds) (and-left (has p (routed r ds)) (has q (routed r ds) && true) h)) (right (routed r ds) (and-left (has q (routed r ds)) true k))),
       tt,
     ))
 

@@ -28,7 +28,7 @@ use Rattle.vx_laws.proofs.Bags.{and-left, and-right, and-both, against, against-
 use Rattle.vx_laws.proofs.Parts.{size_eq-is, one-worker, list_all-always}
 use Rattle.vx_laws.proofs.Orders.{list_all-bearing, list_all-filter, sorted-bearing, sorted-front, sorted-none, Dealt-one}
 use Rattle.vx_laws.proofs.Wide.{fit-wide, join-wide}
-use Rattle.vx_laws.proofs.JoinOrder.{wide, join-sorted, list_all-append}
+use Rattle.vx_laws.proofs.JoinOrder.{all-front, wide, join-sorted, all-append}
 use Rattle.vx_laws.proofs.Binary.{front-below}
 use Rattle.vx_laws.proofs.Operators.{keeps, unary-ordered}
 use Rattle.vx_laws.proofs.Places.{at_place, Placed, had-place, shown-placed, unary-places, union-places, join-places, made-gives}
@@ -44,22 +44,18 @@ use Rattle.vx_laws.proofs.Concat.{ranged, goes-on-is, exchange-sorted}
 abbrev pub Tidy : ℕ → List ℕ → List Row → Type 0
 Tidy w cols xs = (wide w xs ≡ true) × (sorted cols xs ≡ true)
 
-all-left : (q : Row → Bool) (xs ys : List Row) → list_all q (xs ++ ys) ≡ true → list_all q xs ≡ true
-all-left q [] ys h = refl
-all-left q (x ∷ xs) ys h = and-both (q x) (list_all q xs) (and-left (q x) (list_all q (xs ++ ys)) h) (all-left q xs ys (and-right (q x) (list_all q (xs ++ ys)) h))
-
 sorted-left : (cols : List ℕ) (xs ys : List Row) → sorted cols (xs ++ ys) ≡ true → sorted cols xs ≡ true
 sorted-left cols [] ys h = refl
 sorted-left cols (x ∷ xs) ys h =
     let le : Row → Bool = λ y. is_le (compare_on cols x y) in
-    and-both (list_all le xs) (sorted cols xs) (all-left le xs ys (and-left (list_all le (xs ++ ys)) (sorted cols (xs ++ ys)) h))
+    and-both (list_all le xs) (sorted cols xs) (all-front le xs ys (and-left (list_all le (xs ++ ys)) (sorted cols (xs ++ ys)) h))
     (sorted-left cols xs ys (and-right (list_all le (xs ++ ys)) (sorted cols (xs ++ ys)) h))
 
 pub tidy-left : (w : ℕ) (cols : List ℕ) (xs ys zs : List Row) → xs ++ ys ≡ zs → Tidy w cols zs → Tidy w cols xs
 tidy-left w cols xs ys zs e h =
     let P : List Row → Type 0 = λ l. wide w l ≡ true in
     let Q : List Row → Type 0 = λ l. sorted cols l ≡ true in
-    (all-left (λ row. length row == w) xs ys (subst P (sym e) h.0), sorted-left cols xs ys (subst Q (sym e) h.1))
+    (all-front (λ row. length row == w) xs ys (subst P (sym e) h.0), sorted-left cols xs ys (subst Q (sym e) h.1))
 
 pub tidy-begins : (w : ℕ) (cols : List ℕ) (xs zs : List Row) → IsBeginning xs zs → Tidy w cols zs → Tidy w cols xs
 tidy-begins w cols xs zs b h = tidy-left w cols xs b.rest zs b.joined h
@@ -109,7 +105,7 @@ abbrev pub Neat : Routing → Claim → (wd n w : ℕ) → List Row → Type 0
 Neat goes c wd n w xs = Tidy wd c.order xs × Placed goes c.part n w xs
 
 all-begins : (q : Row → Bool) (xs zs : List Row) → IsBeginning xs zs → list_all q zs ≡ true → list_all q xs ≡ true
-all-begins q xs zs b h = let P : List Row → Type 0 = λ l. list_all q l ≡ true in all-left q xs b.rest (subst P (sym b.joined) h)
+all-begins q xs zs b h = let P : List Row → Type 0 = λ l. list_all q l ≡ true in all-front q xs b.rest (subst P (sym b.joined) h)
 
 neat-begins : (goes : Routing) (c : Claim) (wd n w : ℕ) (xs zs : List Row) → IsBeginning xs zs → Neat goes c wd n w zs → Neat goes c wd n w xs
 neat-begins goes c wd n w xs zs b h = (tidy-begins wd c.order xs zs b h.0, all-begins (at_place goes c.part n w) xs zs b h.1)
@@ -245,7 +241,7 @@ module _ (S : RunModel) (giv : Given S.catalog S.db S.sizes (goes S)) where
           let same = eqb-true (width S.catalog p) (width S.catalog q) (and-left (width S.catalog p == width S.catalog q) (names_columns (width S.catalog p) c)
           (and-right (both_closed p q) some (and-right (well_formed S.catalog q) last (and-right (well_formed S.catalog p) (well_formed S.catalog q && last) wf)))) in
           let Q : ℕ → Type 0 = λ v. wide v rs ≡ true in (
-            (list_all-append (λ row. length row == width S.catalog p) ls rs a.0.0 (subst Q (sym same) b.0.0), sorted-front c.order [] t.5 (ls ++ rs) (sorted-none (ls ++ rs))),
+            (all-append (λ row. length row == width S.catalog p) ls rs a.0.0 (subst Q (sym same) b.0.0), sorted-front c.order [] t.5 (ls ++ rs) (sorted-none (ls ++ rs))),
             shown-placed (goes S) giv.in_range (is_one (size p)) (behaviour S.catalog (binary n c union p q)).ways c.part (workers S.sizes (size p)) w (one-worker S.sizes (size p)) l (ls ++ rs)
                 (union-places (goes S) (width S.catalog p) p q (workers S.sizes (size p)) w ls rs (at_left ls a.1) (at_right same_size rs b.1)) t.4,
           )

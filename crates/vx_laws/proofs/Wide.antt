@@ -10,7 +10,7 @@ use Rattle.vx_plan_nodes.specs.Types.{width, unary_width, well_formed, names_col
 use Rattle.vx_plan_nodes.specs.Serial.{unary_rows, join_rows, SerialResult, rows, overflow, or_overflow, after, serial}
 use Rattle.vx_laws.proofs.Bags.{and-left, and-right, and-both}
 use Rattle.vx_laws.proofs.WellFormed.{well-under}
-use Rattle.vx_laws.proofs.JoinOrder.{wide, join-all, list_all-append}
+use Rattle.vx_laws.proofs.JoinOrder.{wide, join-all, all-append}
 use Rattle.vx_plan_nodes.specs.Phases.{both_closed}
 use Rattle.vx_laws.proofs.Widths.{length-values}
 use Rattle.vx_laws.proofs.Operators.{keeps}
@@ -64,7 +64,7 @@ module _ (catalog : ℕ → Relation) (db : ℕ → List Row) (meets : (r : ℕ)
           let a : ys ++ zs ≡ xs = cc in
           let P : List Row → Type 0 = λ l. wide (width catalog p) l ≡ true in
           let Q : ℕ → Type 0 = λ w. wide w zs ≡ true in
-          subst P a (list_all-append (λ row. length row == width catalog p) ys zs (ih ys refl) (subst Q (sym s) (jh zs refl)))
+          subst P a (all-append (λ row. length row == width catalog p) ys zs (ih ys refl) (subst Q (sym s) (jh zs refl)))
       go (rows ys) (overflow m) ih jh s e = cc
       go (overflow m) u ih jh s e = cc
   serial-wide (binary n c (join m on) p q) xs ok e =
