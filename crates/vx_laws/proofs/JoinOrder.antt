@@ -1,5 +1,5 @@
 -- Joins: order and keys.
-use Rattle.std.proofs.Common.{◌≡◌, ℕ, ◌≤◌, ◌==◌, Bool, true, false, cond, ◌&&◌, ◌||◌, ⊎_elim, List, [], ◌∷◌, ◌++◌, map, filter, length, drop, refl, sym, ap, ◌∙◌, arith, true≢false, is_le, is_eq, eqb-true, Ordering, Less, Equal, Greater}
+use Rattle.std.proofs.Common.{◌≡◌, ℕ, ◌≤◌, ◌==◌, Bool, true, false, cond, ◌&&◌, ◌||◌, ⊎_elim, List, [], ◌∷◌, ◌++◌, map, filter, length, drop, refl, sym, ap, ◌∙◌, arith, true≢false, is_le, is_eq, eqb-true}
 use Rattle.std.proofs.lemmas.List.Folds.{list_all-append}
 use Rattle.std.specs.List.{list_all}
 use Rattle.vx_values.specs.Values.{Row, row_cmp, pick}
@@ -10,6 +10,7 @@ use Rattle.vx_relations.specs.Catalog.{all_below}
 use Rattle.vx_plan_nodes.specs.Serial.{matches, joined_with, join_rows}
 use Rattle.vx_check_rules.specs.Rules.{within, covers, shifted, join_keys}
 use Rattle.vx_relations.specs.Relation.{KeysHold}
+use Rattle.vx_rows.proofs.SortFacts.{eq-le}
 use Rattle.vx_laws.proofs.Bags.{and-left, and-right, and-both, when}
 use Rattle.vx_laws.proofs.Parts.{or-cases, list_all-weaken, list_all-always}
 use Rattle.vx_laws.proofs.Keys.{agree-within, count-mono, covers-key}
@@ -41,11 +42,6 @@ join-all pl pr q on (l ∷ ls) rs f h k =
     all-append q (joined_with on rs l) (join_rows on ls rs)
     (block-all pr q on l rs (λ r e. f l r (and-left _ _ h) e) k)
     (join-all pl pr q on ls rs f (and-right (pl l) (list_all pl ls) h) k)
-
-pub eq-le : (o : Ordering) → is_eq o ≡ true → is_le o ≡ true
-eq-le Less h = refl
-eq-le Equal h = refl
-eq-le Greater h = h
 
 pub agree-sym : (cs : List ℕ) (a b : Row) → agree cs a b ≡ true → agree cs b a ≡ true
 agree-sym cs a b h = agree-both cs a b a h (row_eq-refl (pick cs a))
