@@ -38,8 +38,8 @@ module _ (catalog : ℕ → Relation) (db : ℕ → List Row) (sizes : ℕ → �
   unary-at k c op p s out e h ok run =
       let own_rows : not (is_open p) ≡ true → Holding db sizes goes p s = λ e. close catalog db sizes goes given p s (not-true (is_open p) e) h in
       by-phase
-      (λ op fits_of is_of spoken_of gives_of listed_of. fits_of p ≡ true → allowed_here catalog (unary k c op p) ≡ true → ((w : ℕ) → w < workers sizes (size p) → unary_rows op (s w) ≡ Some (out w))
-      → HoldingOf goes c (workers sizes (size p)) out (serial db (spoken_of p (unary k c op p))) gives_of listed_of)
+      (λ op f. f.fits p ≡ true → allowed_here catalog (unary k c op p) ≡ true → ((w : ℕ) → w < workers sizes (size p) → unary_rows op (s w) ≡ Some (out w))
+      → HoldingOf goes c (workers sizes (size p)) out (serial db (f.spoken_of p (unary k c op p))) f.gives_of f.listed_of)
       (λ op w e ok run. unary-holds catalog db sizes goes given k c op w p s out (own_rows e) ok run)
       (λ by aggregates e ok run. partial-holds catalog db sizes goes given k c by aggregates p s out (own_rows e) ok run)
       (λ by aggregates e ok run. final-holds catalog db sizes goes given k c by aggregates p s out h e ok run)
@@ -176,7 +176,7 @@ module _ (catalog : ℕ → Relation) (db : ℕ → List Row) (sizes : ℕ → �
       let h = all-hold p u (well-under catalog k c op p wf).0 (and-left (allowed catalog p) here ok) run in
       let t = tests catalog (unary k c op p) (and-right (allowed catalog p) here ok) in
       by-phase
-      (λ op fits_of is_of spoken_of gives_of listed_of. fits_of p ≡ true → (is_one (size p) || Rattle.vx_check_rules.specs.Behaviour.fits (over (described op) p)) ≡ true → serial db (unary k c op p) ≡ rows xs
+      (λ op f. f.fits p ≡ true → (is_one (size p) || Rattle.vx_check_rules.specs.Behaviour.fits (over (described op) p)) ≡ true → serial db (unary k c op p) ≡ rows xs
       → IsSome (unary_rows op (u w)) ⊎ (HasLargeInput op (serial db p) ⊎ IsTooLong op (serial db p)))
       (λ op v f t e.
       let ih = own_rows h f in
@@ -213,7 +213,7 @@ sound catalog db sizes goes given p s wf ok run =
   where
     well-spoken : (catalog : ℕ → Relation) (p : Plan) → well_formed catalog p ≡ true → well_formed catalog (spoken p) ≡ true
     well-spoken catalog (scan n c r m z) wf = wf
-    well-spoken catalog (unary n c op p) wf = by-phase (λ op fits_of is_of spoken_of gives_of listed_of. well_formed catalog (unary n c op p) ≡ true → well_formed catalog (spoken_of p (unary n c op p)) ≡ true)
+    well-spoken catalog (unary n c op p) wf = by-phase (λ op f. well_formed catalog (unary n c op p) ≡ true → well_formed catalog (f.spoken_of p (unary n c op p)) ≡ true)
         (λ op w wf. wf) (λ by aggregates wf. and-left (well_formed catalog p) _ wf) (λ by aggregates wf. wf) op wf
     well-spoken catalog (binary n c op p q) wf = wf
     well-spoken catalog (exchange n c k m p) wf = well-spoken catalog p (and-left (well_formed catalog p) _ wf)

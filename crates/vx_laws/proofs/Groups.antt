@@ -1,5 +1,6 @@
 -- Groups of streams, and of all rows.
-use Rattle.std.proofs.Common.{◌≡◌, ℕ, zero, suc, ◌<◌, ◌≤◌, ◌==◌, nat_lt, Bool, true, false, cond, not, ◌&&◌, ◌||◌, List, [], ◌∷◌, ◌++◌, map, length, refl, sym, ap, ◌∙◌, subst, arith, true≢false, Some, slice_get, eqb-true, lt-ltb, is_le}
+use Rattle.std.proofs.Common.{◌≡◌, ℕ, zero, suc, ◌<◌, ◌≤◌, ◌==◌, nat_lt, Bool, true, false, cond, not, ◌&&◌, List, [], ◌∷◌, ◌++◌, map, length, refl, sym, ap, ap₂, ◌∙◌, subst, arith, Some, slice_get, eqb-true, lt-ltb, is_le}
+use Rattle.std.proofs.lemmas.Bool.{not-true}
 use Rattle.std.specs.List.{list_all}
 use Rattle.vx_values.specs.Values.{Row, row_eq, pick}
 use Rattle.vx_rows.specs.Order.{agree, sorted, compare_on}
@@ -48,16 +49,24 @@ groups-same by aggregates xs ys s = record {
       ∙ sym (total-map f (group_row by aggregates ys) (group_keys by ys))));
 }
 
-abbrev pub implies : Bool → Bool → Bool
-implies a b = not a || b
+-- both tests pass, or neither does
+abbrev alike : Bool → Bool → Bool
+alike true b = b
+alike false b = not b
 
-pub implies-from : (a b : Bool) → a ≡ b → implies a b ≡ true
-implies-from true b e = sym e
-implies-from false b e = refl
+alike-from : (a b : Bool) → a ≡ b → alike a b ≡ true
+alike-from true b e = sym e
+alike-from false b e = ap not (sym e)
 
-pub implies-take : (a b : Bool) → (a && implies a b) ≡ true → b ≡ true
-implies-take true b e = e
-implies-take false b e = absurd (true≢false (sym e))
+alike-same : (a b : Bool) → alike a b ≡ true → a ≡ b
+alike-same true b e = sym e
+alike-same false b e = sym (not-true b e)
+
+same-all : {X : Type 0} (f g : X → Bool) (xs : List X) → list_all (λ x. alike (f x) (g x)) xs ≡ true → list_all f xs ≡ list_all g xs
+same-all f g [] h = refl
+same-all f g (x ∷ xs) h =
+    let rest : Bool = list_all (λ y. alike (f y) (g y)) xs in
+    ap₂ (λ a b. a && b) (alike-same (f x) (g x) (and-left (alike (f x) (g x)) rest h)) (same-all f g xs (and-right (alike (f x) (g x)) rest h))
 
 pub fits-same-rows : (by : List ℕ) (aggregates : List Aggregate) (xs ys : List Row) → SameRows xs ys
     → list_all (group_fits by aggregates xs) (group_keys by xs) ≡ true → list_all (group_fits by aggregates ys) (group_keys by ys) ≡ true
@@ -89,28 +98,19 @@ module _ (goes : Routing) (rt : Route) (cols by : List ℕ) (aggregates : List A
         ∙ (sym (total-joined g n (λ i. group_keys by (s i))) ∙ (keys-joined.totals g ∙ sym (total-map f (group_row by aggregates base) (group_keys by base)))));
   }
 
+  -- the keys of a stream overflow there where they do among all rows
+  stream-fits : (i : ℕ) → i < n → list_all (group_fits by aggregates (s i)) (group_keys by (s i)) ≡ list_all (group_fits by aggregates base) (group_keys by (s i))
+  stream-fits i l = same-all (group_fits by aggregates (s i)) (group_fits by aggregates base) (group_keys by (s i))
+      (keys-all by (λ key. alike (group_fits by aggregates (s i) key) (group_fits by aggregates base key)) (s i)
+      (list_all-weaken (λ x. goes rt (pick cols x) n == i) (λ x. alike (group_fits by aggregates (s i) (pick by x)) (group_fits by aggregates base (pick by x)))
+      (λ x e. alike-from _ _ (group_fits-same by aggregates (s i) base (pick by x) (key-apart goes rt cols by n s base sub same apart i l x e))) (s i) (apart i l)))
+
   pub fits-joined : ((w : ℕ) → w < n → list_all (group_fits by aggregates (s w)) (group_keys by (s w)) ≡ true) → list_all (group_fits by aggregates base) (group_keys by base) ≡ true
-  fits-joined h = SameRows-all keys-joined (group_fits by aggregates base) (joined-all (group_fits by aggregates base) n (λ i. group_keys by (s i)) (λ i l.
-      list_all-weaken (λ key. group_fits by aggregates (s i) key && implies (group_fits by aggregates (s i) key) (group_fits by aggregates base key)) (group_fits by aggregates base)
-      (λ key e. implies-take (group_fits by aggregates (s i) key) (group_fits by aggregates base key) e) (group_keys by (s i))
-      (all-and (group_fits by aggregates (s i)) (λ key. implies (group_fits by aggregates (s i) key) (group_fits by aggregates base key)) (group_keys by (s i)) (h i l)
-      (keys-all by (λ key. implies (group_fits by aggregates (s i) key) (group_fits by aggregates base key)) (s i)
-      (list_all-weaken (λ x. goes rt (pick cols x) n == i) (λ x. implies (group_fits by aggregates (s i) (pick by x)) (group_fits by aggregates base (pick by x)))
-      (λ x e. implies-from _ _ (group_fits-same by aggregates (s i) base (pick by x) (key-apart goes rt cols by n s base sub same apart i l x e)))
-      (s i) (apart i l))))))
+  fits-joined h = SameRows-all keys-joined (group_fits by aggregates base) (joined-all (group_fits by aggregates base) n (λ i. group_keys by (s i)) (λ i l. sym (stream-fits i l) ∙ h i l))
 
   -- the other direction: where no key of all rows overflows, none of a stream does
   pub fits-split : list_all (group_fits by aggregates base) (group_keys by base) ≡ true → (i : ℕ) → i < n → list_all (group_fits by aggregates (s i)) (group_keys by (s i)) ≡ true
-  fits-split h i l =
-      let here : list_all (group_fits by aggregates base) (group_keys by (s i)) ≡ true
-      = stream-all n (λ j. group_keys by (s j)) (group_keys by base) keys-joined (group_fits by aggregates base) h i l in
-      list_all-weaken (λ key. group_fits by aggregates base key && implies (group_fits by aggregates base key) (group_fits by aggregates (s i) key)) (group_fits by aggregates (s i))
-      (λ key e. implies-take (group_fits by aggregates base key) (group_fits by aggregates (s i) key) e) (group_keys by (s i))
-      (all-and (group_fits by aggregates base) (λ key. implies (group_fits by aggregates base key) (group_fits by aggregates (s i) key)) (group_keys by (s i)) here
-      (keys-all by (λ key. implies (group_fits by aggregates base key) (group_fits by aggregates (s i) key)) (s i)
-      (list_all-weaken (λ x. goes rt (pick cols x) n == i) (λ x. implies (group_fits by aggregates base (pick by x)) (group_fits by aggregates (s i) (pick by x)))
-      (λ x e. implies-from _ _ (sym (group_fits-same by aggregates (s i) base (pick by x) (key-apart goes rt cols by n s base sub same apart i l x e))))
-      (s i) (apart i l))))
+  fits-split h i l = stream-fits i l ∙ stream-all n (λ j. group_keys by (s j)) (group_keys by base) keys-joined (group_fits by aggregates base) h i l
 
 -- order
 pub slice-below : (kept : List ℕ) (c d : ℕ) → slice_get kept c ≡ Some d → c < length kept

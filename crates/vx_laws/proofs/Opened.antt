@@ -19,8 +19,8 @@ pub closed : (db : ℕ → List Row) (p : Plan) → is_open p ≡ false → (P :
     → P (serial db p) (λ base xs. SameRows xs base) (λ base. base) → P (serial db (spoken p)) (Gives p) (listed p)
 closed db (scan n c r m z) e P h = h
 closed db (unary n c op p) e P h = by-phase
-    (λ op fits is_of spoken_of gives_of listed_of. is_partial op ≡ false → P (serial db (unary n c op p)) (λ base xs. SameRows xs base) (λ base. base)
-    → P (serial db (spoken_of p (unary n c op p))) gives_of listed_of)
+    (λ op f. is_partial op ≡ false → P (serial db (unary n c op p)) (λ base xs. SameRows xs base) (λ base. base)
+    → P (serial db (f.spoken_of p (unary n c op p))) f.gives_of f.listed_of)
     (λ op w e h. h) (λ by aggregates e h. absurd (true≢false e)) (λ by aggregates e h. h) op e h
 closed db (binary n c op p q) e P h = h
 closed db (exchange n c k m p) e P h = closed db p e P h
@@ -47,7 +47,7 @@ Opened keys puts p = OpenedOf keys puts (λ db. serial db p) (λ db. serial db (
 pub opened : (keys : List ℕ) (puts : List Aggregate) (p : Plan) → opens keys puts p ≡ true → Opened keys puts p
 opened keys puts (scan n c r m z) e = absurd (true≢false (sym e))
 opened keys puts (unary n c op p) e = by-phase
-    (λ op fits is_of spoken_of gives_of listed_of. is_of keys puts ≡ true → OpenedOf keys puts (λ db. serial db (unary n c op p)) (λ db. serial db (spoken_of p (unary n c op p))) gives_of listed_of)
+    (λ op f. f.is_of keys puts ≡ true → OpenedOf keys puts (λ db. serial db (unary n c op p)) (λ db. serial db (f.spoken_of p (unary n c op p))) f.gives_of f.listed_of)
     (λ op w e. absurd (true≢false (sym e)))
     (λ by aggregates e. record {
       by = by;
@@ -73,7 +73,7 @@ opened-as keys puts p o T h =
 -- what stands for the serial rows does so in any order
 pub Gives-order : (p : Plan) (base xs ys : List Row) → SameRows xs ys → Gives p base xs → Gives p base ys
 Gives-order (scan n c r m z) base xs ys s h = SameRows-trans (SameRows-sym s) h
-Gives-order (unary n c op p) base xs ys s h = by-phase (λ op fits is_of spoken_of gives_of listed_of. gives_of base xs → gives_of base ys)
+Gives-order (unary n c op p) base xs ys s h = by-phase (λ op f. f.gives_of base xs → f.gives_of base ys)
     (λ op w h. SameRows-trans (SameRows-sym s) h) (λ by aggregates h. Parts-order by aggregates base xs ys s h) (λ by aggregates h. SameRows-trans (SameRows-sym s) h) op h
 Gives-order (binary n c op p q) base xs ys s h = SameRows-trans (SameRows-sym s) h
 Gives-order (exchange n c k m p) base xs ys s h = Gives-order p base xs ys s h

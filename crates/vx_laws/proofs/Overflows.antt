@@ -179,7 +179,7 @@ same-length xs ys s = sym (total-ones xs) ∙ (s.totals (λ r. 1) ∙ total-ones
 
 gives-length : (p : Plan) (base xs : List Row) → Gives p base xs → length xs ≤ length base
 gives-length (scan n c r m z) base xs h = let e = same-length xs base h in omega (arith, e)
-gives-length (unary n c op p) base xs h = by-phase (λ op fits_of is_of spoken_of gives_of listed_of. gives_of base xs → length xs ≤ length base)
+gives-length (unary n c op p) base xs h = by-phase (λ op f. f.gives_of base xs → length xs ≤ length base)
     (λ op w h. let e = same-length xs base h in omega (arith, e))
     (λ by aggregates h.
     let e = row-list by aggregates h.pieces h.each in
@@ -363,7 +363,7 @@ module _ (S : RunModel) (giv : Given S.catalog S.db S.sizes (goes S)) (some : 0 
   open-long : (keys : List ℕ) (puts : List Aggregate) (p : Plan) → opens keys puts p ≡ true → (base : List Row) → serial S.db (spoken p) ≡ rows base → 4611686018427387904 < length base → HasTooLong S.db p
   open-long keys puts (scan n c r m z) e base h l = absurd (true≢false (sym e))
   open-long keys puts (unary n c op p) e base h l = by-phase
-      (λ op fits_of is_of spoken_of gives_of listed_of. is_of keys puts ≡ true → serial S.db (spoken_of p (unary n c op p)) ≡ rows base → HasTooLong S.db (unary n c op p))
+      (λ op f. f.is_of keys puts ≡ true → serial S.db (f.spoken_of p (unary n c op p)) ≡ rows base → HasTooLong S.db (unary n c op p))
       (λ op w e h. absurd (true≢false (sym e)))
       (λ by aggregates e h. let P : SerialResult → Type 0 = λ o. IsTooLong (group partial by aggregates) o in inr (subst P (sym h) l))
       (λ by aggregates e h. absurd (true≢false (sym e))) op e h
