@@ -14,7 +14,7 @@ use Rattle.vx_rows.specs.Order.{agree}
 use Rattle.vx_rows.specs.Bags.{total, count, SameRows}
 use Rattle.vx_plan_nodes.specs.Plan.{Aggregate, least, greatest, sum, count_rows}
 use Rattle.vx_plan_nodes.specs.Phases.{columns_from, first_columns, merging, merged, is_row_of, Parts}
-use Rattle.vx_plan_nodes.specs.Serial.{firsts, group_keys, group_rows, group_row, group_fits, of_key, aggregate_of, fits, sum_of, count_of, above_zero, below_zero, least_of, greatest_of}
+use Rattle.vx_plan_nodes.specs.Serial.{first_or_none, firsts, group_keys, group_rows, group_row, group_fits, of_key, aggregate_of, fits, sum_of, count_of, above_zero, below_zero, least_of, greatest_of}
 use Rattle.vx_plan_nodes.specs.Streams.{Streams, joined}
 use Rattle.vx_rows.proofs.Compare.{row_eq-same, row_eq-refl, row_eq-laws, val_cmp_total, val_cmp-same, is_eq-Equal}
 use Rattle.vx_laws.proofs.Bags.{total-ones, and-left, and-right, and-both, when, total-append, total-map, total-filter, total-flat_map, total-ext, total-zero, total-add, against, against-none, none-against, SameRows-all, SameRows-sym, SameRows-trans, SameRows-refl}
@@ -23,7 +23,7 @@ use Rattle.vx_laws.proofs.Join.{total-swap, total-all-ext, value-left, value-rig
 use Rattle.vx_laws.proofs.Exchange.{filter-all}
 use Rattle.vx_laws.proofs.Widths.{length-pick, firsts-all, picks-wide}
 use Rattle.vx_laws.proofs.JoinOrder.{all-append, all-front, all-back, all-and}
-use Rattle.vx_laws.proofs.Apart.{flag-no, flag-yes, sign, firsts-count, same-from-counts, nothing-same, self-counts, val-trans, val-both, least-below, least-among, greatest-above, greatest-among, group_row-same, of_key-same}
+use Rattle.vx_laws.proofs.Apart.{flag-no, flag-yes, sign, firsts-count, same-from-counts, nothing-same, self-counts, Extreme, least-extreme, greatest-extreme, group_row-same, of_key-same}
 use Rattle.vx_laws.proofs.Groups.{groups, groups-same, keys-all, fits-same-rows}
 
 -- ---- parts in any order
@@ -237,11 +237,14 @@ Parts-groups by aggregates xs = record {
 -- ---- a final grouping puts parts together
 
 -- the row has in column c the aggregate of its rows, of which there are some
-abbrev shows-at : ℕ → Aggregate → Piece → Bool
-shows-at c a t = is_eq (val_cmp (value_at t.0 c) (aggregate_of a t.1)) && is_some_list t.1
+abbrev shows : ℕ → (List Row → Val) → Piece → Bool
+shows c v t = is_eq (val_cmp (value_at t.0 c) (v t.1)) && is_some_list t.1
 
-shown-value : (c : ℕ) (a : Aggregate) (t : Piece) → shows-at c a t ≡ true → value_at t.0 c ≡ aggregate_of a t.1
-shown-value c a t h = val_cmp-same (value_at t.0 c) (aggregate_of a t.1) (is_eq-Equal _ (and-left (is_eq (val_cmp (value_at t.0 c) (aggregate_of a t.1))) (is_some_list t.1) h))
+abbrev shows-at : ℕ → Aggregate → Piece → Bool
+shows-at c a t = shows c (λ xs. aggregate_of a xs) t
+
+shown-value : (c : ℕ) (v : List Row → Val) (t : Piece) → shows c v t ≡ true → value_at t.0 c ≡ v t.1
+shown-value c v t h = val_cmp-same (value_at t.0 c) (v t.1) (is_eq-Equal _ (and-left (is_eq (val_cmp (value_at t.0 c) (v t.1))) (is_some_list t.1) h))
 
 abbrev rows-in : List Piece → List Row
 rows-in ts = map (λ (t : Piece). t.0) ts
@@ -270,7 +273,7 @@ sum-of-sums i c ts h =
     let v : total (λ r. below_zero (value_at r c)) (all-in ts) ≡ total down ts = total-flat_map (λ r. below_zero (value_at r c)) (λ (t : Piece). t.1) ts in
     let x : total (λ (t : Piece). above_zero (value_at t.0 i) + down t) ts ≡ total (λ (t : Piece). up t + below_zero (value_at t.0 i)) ts
     = total-all-ext (shows-at i (sum c)) (λ (t : Piece). above_zero (value_at t.0 i) + down t) (λ (t : Piece). up t + below_zero (value_at t.0 i))
-    (λ t g. let P : Val → Type 0 = λ w. above_zero w + down t ≡ up t + below_zero w in subst P (sym (shown-value i (sum c) t g)) (difference-parts (up t, down t))) ts h in
+    (λ t g. let P : Val → Type 0 = λ w. above_zero w + down t ≡ up t + below_zero w in subst P (sym (shown-value i (λ xs. aggregate_of (sum c) xs) t g)) (difference-parts (up t, down t))) ts h in
     let y = total-add (λ (t : Piece). above_zero (value_at t.0 i)) down ts in
     let z = total-add up (λ (t : Piece). below_zero (value_at t.0 i)) ts in
     difference-is (total (λ r. above_zero (value_at r i)) (rows-in ts)) (total (λ r. below_zero (value_at r i)) (rows-in ts)) (total (λ r. above_zero (value_at r c)) (all-in ts)) (total (λ r. below_zero (value_at r c)) (all-in ts))
@@ -283,9 +286,9 @@ sum-of-counts i ts h =
     let b : total (λ r. below_zero (value_at r i)) (rows-in ts) ≡ total (λ (t : Piece). below_zero (value_at t.0 i)) ts = total-map (λ r. below_zero (value_at r i)) (λ (t : Piece). t.0) ts in
     let u : total (λ r. 1) (all-in ts) ≡ total many ts = total-flat_map (λ r. 1) (λ (t : Piece). t.1) ts in
     let x : total (λ (t : Piece). above_zero (value_at t.0 i)) ts ≡ total many ts
-    = total-all-ext (shows-at i count_rows) (λ (t : Piece). above_zero (value_at t.0 i)) many (λ t g. ap above_zero (shown-value i count_rows t g)) ts h in
+    = total-all-ext (shows-at i count_rows) (λ (t : Piece). above_zero (value_at t.0 i)) many (λ t g. ap above_zero (shown-value i (λ xs. aggregate_of count_rows xs) t g)) ts h in
     let y : total (λ (t : Piece). below_zero (value_at t.0 i)) ts ≡ total (λ (t : Piece). 0) ts
-    = total-all-ext (shows-at i count_rows) (λ (t : Piece). below_zero (value_at t.0 i)) (λ t. 0) (λ t g. ap below_zero (shown-value i count_rows t g)) ts h in
+    = total-all-ext (shows-at i count_rows) (λ (t : Piece). below_zero (value_at t.0 i)) (λ t. 0) (λ t g. ap below_zero (shown-value i (λ xs. aggregate_of count_rows xs) t g)) ts h in
     let z : total (λ (t : Piece). 0) ts ≡ 0 = total-zero ts in
     difference-is (total (λ r. above_zero (value_at r i)) (rows-in ts)) (total (λ r. below_zero (value_at r i)) (rows-in ts)) (total (λ r. 1) (all-in ts)) 0 (omega (arith, a, b, u, x, y, z))
     ∙ nothing-off (total (λ r. 1) (all-in ts))
@@ -300,108 +303,71 @@ pieces-all q (t ∷ ts) h =
     and-both (list_all q t.1) _ (all-front q t.1 (all-in ts) h) (pieces-all q ts (all-back q t.1 (all-in ts) h))
 
 -- a test of the values of all rows holds of the value that each piece shows, where that is one of them
-pieces-value : (i c : ℕ) (a : Aggregate) (p : Val → Bool) → ((xs : List Row) → is_some_list xs ≡ true → list_all (λ r. p (value_at r c)) xs ≡ true → p (aggregate_of a xs) ≡ true)
-    → (ts : List Piece) → list_all (shows-at i a) ts ≡ true → list_all (λ r. p (value_at r c)) (all-in ts) ≡ true → list_all (λ r. p (value_at r i)) (rows-in ts) ≡ true
-pieces-value i c a p among ts h k = go ts (all-and (shows-at i a) (λ (t : Piece). list_all (λ r. p (value_at r c)) t.1) ts h (pieces-all (λ r. p (value_at r c)) ts k))
+pieces-value : (i c : ℕ) (of : List Row → Val) (p : Val → Bool) → ((xs : List Row) → is_some_list xs ≡ true → list_all (λ r. p (value_at r c)) xs ≡ true → p (of xs) ≡ true)
+    → (ts : List Piece) → list_all (shows i of) ts ≡ true → list_all (λ r. p (value_at r c)) (all-in ts) ≡ true → list_all (λ r. p (value_at r i)) (rows-in ts) ≡ true
+pieces-value i c of p among ts h k = go ts (all-and (shows i of) (λ (t : Piece). list_all (λ r. p (value_at r c)) t.1) ts h (pieces-all (λ r. p (value_at r c)) ts k))
   where
-    go : (ts : List Piece) → list_all (λ (t : Piece). shows-at i a t && list_all (λ r. p (value_at r c)) t.1) ts ≡ true → list_all (λ r. p (value_at r i)) (rows-in ts) ≡ true
+    go : (ts : List Piece) → list_all (λ (t : Piece). shows i of t && list_all (λ r. p (value_at r c)) t.1) ts ≡ true → list_all (λ r. p (value_at r i)) (rows-in ts) ≡ true
     go [] h = refl
     go (t ∷ ts) h =
-        let here = and-left (shows-at i a t && list_all (λ r. p (value_at r c)) t.1) (list_all (λ (t : Piece). shows-at i a t && list_all (λ r. p (value_at r c)) t.1) ts) h in
-        let s = and-left (shows-at i a t) (list_all (λ r. p (value_at r c)) t.1) here in
-        let v = among t.1 (and-right (is_eq (val_cmp (value_at t.0 i) (aggregate_of a t.1))) (is_some_list t.1) s) (and-right (shows-at i a t) (list_all (λ r. p (value_at r c)) t.1) here) in
+        let here = and-left (shows i of t && list_all (λ r. p (value_at r c)) t.1) (list_all (λ (t : Piece). shows i of t && list_all (λ r. p (value_at r c)) t.1) ts) h in
+        let s = and-left (shows i of t) (list_all (λ r. p (value_at r c)) t.1) here in
+        let v = among t.1 (and-right (is_eq (val_cmp (value_at t.0 i) (of t.1))) (is_some_list t.1) s) (and-right (shows i of t) (list_all (λ r. p (value_at r c)) t.1) here) in
         let P : Val → Type 0 = λ w. p w ≡ true in
         and-both (p (value_at t.0 i)) (list_all (λ r. p (value_at r i)) (rows-in ts))
-        (subst P (sym (shown-value i a t s)) v)
-        (go ts (and-right (shows-at i a t && list_all (λ r. p (value_at r c)) t.1) (list_all (λ (t : Piece). shows-at i a t && list_all (λ r. p (value_at r c)) t.1) ts) h))
+        (subst P (sym (shown-value i of t s)) v)
+        (go ts (and-right (shows i of t && list_all (λ r. p (value_at r c)) t.1) (list_all (λ (t : Piece). shows i of t && list_all (λ r. p (value_at r c)) t.1) ts) h))
 
 -- a test of the values that pieces show holds of the values of all rows, where it goes on to the rows of a piece
-value-pieces : (i c : ℕ) (a : Aggregate) (p : Val → Bool) → ((xs : List Row) → is_some_list xs ≡ true → p (aggregate_of a xs) ≡ true → list_all (λ r. p (value_at r c)) xs ≡ true)
-    → (ts : List Piece) → list_all (shows-at i a) ts ≡ true → list_all (λ r. p (value_at r i)) (rows-in ts) ≡ true → list_all (λ r. p (value_at r c)) (all-in ts) ≡ true
-value-pieces i c a p goes_on [] h k = refl
-value-pieces i c a p goes_on (t ∷ ts) h k =
-    let s = and-left (shows-at i a t) (list_all (shows-at i a) ts) h in
+value-pieces : (i c : ℕ) (of : List Row → Val) (p : Val → Bool) → ((xs : List Row) → is_some_list xs ≡ true → p (of xs) ≡ true → list_all (λ r. p (value_at r c)) xs ≡ true)
+    → (ts : List Piece) → list_all (shows i of) ts ≡ true → list_all (λ r. p (value_at r i)) (rows-in ts) ≡ true → list_all (λ r. p (value_at r c)) (all-in ts) ≡ true
+value-pieces i c of p goes_on [] h k = refl
+value-pieces i c of p goes_on (t ∷ ts) h k =
+    let s = and-left (shows i of t) (list_all (shows i of) ts) h in
     let P : Val → Type 0 = λ w. p w ≡ true in
     all-append (λ r. p (value_at r c)) t.1 (all-in ts)
-    (goes_on t.1 (and-right (is_eq (val_cmp (value_at t.0 i) (aggregate_of a t.1))) (is_some_list t.1) s)
-    (subst P (shown-value i a t s) (and-left (p (value_at t.0 i)) (list_all (λ r. p (value_at r i)) (rows-in ts)) k)))
-    (value-pieces i c a p goes_on ts (and-right (shows-at i a t) (list_all (shows-at i a) ts) h) (and-right (p (value_at t.0 i)) (list_all (λ r. p (value_at r i)) (rows-in ts)) k))
+    (goes_on t.1 (and-right (is_eq (val_cmp (value_at t.0 i) (of t.1))) (is_some_list t.1) s)
+    (subst P (shown-value i of t s) (and-left (p (value_at t.0 i)) (list_all (λ r. p (value_at r i)) (rows-in ts)) k)))
+    (value-pieces i c of p goes_on ts (and-right (shows i of t) (list_all (shows i of) ts) h) (and-right (p (value_at t.0 i)) (list_all (λ r. p (value_at r i)) (rows-in ts)) k))
 
-least-in : (c : ℕ) (p : Val → Bool) (xs : List Row) → is_some_list xs ≡ true → list_all (λ r. p (value_at r c)) xs ≡ true → p (aggregate_of (least c) xs) ≡ true
-least-in c p [] s h = absurd (true≢false (sym s))
-least-in c p (x ∷ xs) s h = least-among c x xs p h
-
-greatest-in : (c : ℕ) (p : Val → Bool) (xs : List Row) → is_some_list xs ≡ true → list_all (λ r. p (value_at r c)) xs ≡ true → p (aggregate_of (greatest c) xs) ≡ true
-greatest-in c p [] s h = absurd (true≢false (sym s))
-greatest-in c p (x ∷ xs) s h = greatest-among c x xs p h
-
-least-rest : (c : ℕ) (m : Val) (xs : List Row) → is_some_list xs ≡ true → is_le (val_cmp m (aggregate_of (least c) xs)) ≡ true → list_all (λ r. is_le (val_cmp m (value_at r c))) xs ≡ true
-least-rest c m [] s h = absurd (true≢false (sym s))
-least-rest c m (x ∷ xs) s h =
-    list_all-weaken (λ r. is_le (val_cmp (least_of c x xs) (value_at r c))) (λ r. is_le (val_cmp m (value_at r c)))
-    (λ r k. val-trans m (least_of c x xs) (value_at r c) h k) (x ∷ xs) (least-below c x xs)
-
-greatest-rest : (c : ℕ) (m : Val) (xs : List Row) → is_some_list xs ≡ true → is_le (val_cmp (aggregate_of (greatest c) xs) m) ≡ true → list_all (λ r. is_le (val_cmp (value_at r c) m)) xs ≡ true
-greatest-rest c m [] s h = absurd (true≢false (sym s))
-greatest-rest c m (x ∷ xs) s h =
-    list_all-weaken (λ r. is_le (val_cmp (value_at r c) (greatest_of c x xs))) (λ r. is_le (val_cmp (value_at r c) m))
-    (λ r k. val-trans (value_at r c) (greatest_of c x xs) m k h) (x ∷ xs) (greatest-above c x xs)
-
--- the least of a list that is not empty, as one of a first row and others
-least-of-least : (i c : ℕ) (ts : List Piece) → list_all (shows-at i (least c)) ts ≡ true → aggregate_of (least i) (rows-in ts) ≡ aggregate_of (least c) (all-in ts)
-least-of-least i c [] h = refl
-least-of-least i c (t ∷ ts) h = go (all-in (t ∷ ts)) refl
+-- the extreme of what pieces show is that of all rows
+extreme-of-extremes : (of : ℕ → Row → List Row → Val) (before : Val → Val → Bool) → Extreme of before → (i c : ℕ) (ts : List Piece)
+    → list_all (shows i (first_or_none (of c))) ts ≡ true → first_or_none (of i) (rows-in ts) ≡ first_or_none (of c) (all-in ts)
+extreme-of-extremes of before e i c [] h = refl
+extreme-of-extremes of before e i c (t ∷ ts) h = go (all-in (t ∷ ts)) refl
   where
-    L : List Row
-    L = rows-in (t ∷ ts)
+    inside : (p : Val → Bool) (xs : List Row) → is_some_list xs ≡ true → list_all (λ r. p (value_at r c)) xs ≡ true → p (first_or_none (of c) xs) ≡ true
+    inside p [] s k = absurd (true≢false (sym s))
+    inside p (x ∷ xs) s k = e.among c x xs p k
+
+    rest : (m : Val) (xs : List Row) → is_some_list xs ≡ true → before m (first_or_none (of c) xs) ≡ true → list_all (λ r. before m (value_at r c)) xs ≡ true
+    rest m [] s k = absurd (true≢false (sym s))
+    rest m (x ∷ xs) s k =
+        list_all-weaken (λ r. before (of c x xs) (value_at r c)) (λ r. before m (value_at r c)) (λ r g. e.trans m (of c x xs) (value_at r c) k g) (x ∷ xs) (e.first c x xs)
 
     some : is_some_list t.1 ≡ true
-    some = and-right (is_eq (val_cmp (value_at t.0 i) (aggregate_of (least c) t.1))) (is_some_list t.1) (and-left (shows-at i (least c) t) (list_all (shows-at i (least c)) ts) h)
+    some = and-right (is_eq (val_cmp (value_at t.0 i) (first_or_none (of c) t.1))) (is_some_list t.1)
+        (and-left (shows i (first_or_none (of c)) t) (list_all (shows i (first_or_none (of c))) ts) h)
 
-    go : (xs : List Row) → all-in (t ∷ ts) ≡ xs → aggregate_of (least i) L ≡ aggregate_of (least c) xs
-    go [] e = absurd (none t.1 (all-in ts) some e)
-      where
-        none : (xs ys : List Row) → is_some_list xs ≡ true → xs ++ ys ≡ [] → ⊥
-        none [] ys s e = true≢false (sym s)
-        none (x ∷ xs) ys s e = cc
-    go (x ∷ xs) e =
-        let m : Val = least_of i t.0 (rows-in ts) in
-        let v : Val = least_of c x xs in
-        let P : List Row → Type 0 = λ l. list_all (λ r. is_le (val_cmp v (value_at r c))) l ≡ true in
-        let Q : List Row → Type 0 = λ l. list_all (λ r. is_le (val_cmp m (value_at r c))) l ≡ true in
-        val-both m v
-        (least-among c x xs (λ u. is_le (val_cmp m u)) (subst Q e (value-pieces i c (least c) (λ u. is_le (val_cmp m u)) (λ ys s k. least-rest c m ys s k) (t ∷ ts) h (least-below i t.0 (rows-in ts)))))
-        (least-among i t.0 (rows-in ts) (λ u. is_le (val_cmp v u)) (pieces-value i c (least c) (λ u. is_le (val_cmp v u)) (λ ys s k. least-in c (λ u. is_le (val_cmp v u)) ys s k) (t ∷ ts) h (subst P (sym e) (least-below c x xs))))
+    none : (xs ys : List Row) → is_some_list xs ≡ true → xs ++ ys ≡ [] → ⊥
+    none [] ys s g = true≢false (sym s)
+    none (x ∷ xs) ys s g = cc
 
-greatest-of-greatest : (i c : ℕ) (ts : List Piece) → list_all (shows-at i (greatest c)) ts ≡ true → aggregate_of (greatest i) (rows-in ts) ≡ aggregate_of (greatest c) (all-in ts)
-greatest-of-greatest i c [] h = refl
-greatest-of-greatest i c (t ∷ ts) h = go (all-in (t ∷ ts)) refl
-  where
-    L : List Row
-    L = rows-in (t ∷ ts)
-
-    some : is_some_list t.1 ≡ true
-    some = and-right (is_eq (val_cmp (value_at t.0 i) (aggregate_of (greatest c) t.1))) (is_some_list t.1) (and-left (shows-at i (greatest c) t) (list_all (shows-at i (greatest c)) ts) h)
-
-    go : (xs : List Row) → all-in (t ∷ ts) ≡ xs → aggregate_of (greatest i) L ≡ aggregate_of (greatest c) xs
-    go [] e = absurd (none t.1 (all-in ts) some e)
-      where
-        none : (xs ys : List Row) → is_some_list xs ≡ true → xs ++ ys ≡ [] → ⊥
-        none [] ys s e = true≢false (sym s)
-        none (x ∷ xs) ys s e = cc
-    go (x ∷ xs) e =
-        let m : Val = greatest_of i t.0 (rows-in ts) in
-        let v : Val = greatest_of c x xs in
-        let P : List Row → Type 0 = λ l. list_all (λ r. is_le (val_cmp (value_at r c) v)) l ≡ true in
-        let Q : List Row → Type 0 = λ l. list_all (λ r. is_le (val_cmp (value_at r c) m)) l ≡ true in
-        val-both m v
-        (greatest-among i t.0 (rows-in ts) (λ u. is_le (val_cmp u v)) (pieces-value i c (greatest c) (λ u. is_le (val_cmp u v)) (λ ys s k. greatest-in c (λ u. is_le (val_cmp u v)) ys s k) (t ∷ ts) h (subst P (sym e) (greatest-above c x xs))))
-        (greatest-among c x xs (λ u. is_le (val_cmp u m)) (subst Q e (value-pieces i c (greatest c) (λ u. is_le (val_cmp u m)) (λ ys s k. greatest-rest c m ys s k) (t ∷ ts) h (greatest-above i t.0 (rows-in ts)))))
+    go : (xs : List Row) → all-in (t ∷ ts) ≡ xs → of i t.0 (rows-in ts) ≡ first_or_none (of c) xs
+    go [] g = absurd (none t.1 (all-in ts) some g)
+    go (x ∷ xs) g =
+        let m : Val = of i t.0 (rows-in ts) in
+        let v : Val = of c x xs in
+        let P : List Row → Type 0 = λ l. list_all (λ r. before v (value_at r c)) l ≡ true in
+        let Q : List Row → Type 0 = λ l. list_all (λ r. before m (value_at r c)) l ≡ true in
+        e.both m v
+        (e.among c x xs (λ u. before m u) (subst Q g (value-pieces i c (first_or_none (of c)) (λ u. before m u) (λ ys s k. rest m ys s k) (t ∷ ts) h (e.first i t.0 (rows-in ts)))))
+        (e.among i t.0 (rows-in ts) (λ u. before v u) (pieces-value i c (first_or_none (of c)) (λ u. before v u) (λ ys s k. inside (λ u. before v u) ys s k) (t ∷ ts) h (subst P (sym g) (e.first c x xs))))
 
 -- one aggregate, put together from parts
 pub merged-one : (i : ℕ) (a : Aggregate) (ts : List Piece) → list_all (shows-at i a) ts ≡ true → aggregate_of (merging i a) (rows-in ts) ≡ aggregate_of a (all-in ts)
-merged-one i (least c) ts h = least-of-least i c ts h
-merged-one i (greatest c) ts h = greatest-of-greatest i c ts h
+merged-one i (least c) ts h = extreme-of-extremes least_of (λ a b. is_le (val_cmp a b)) least-extreme i c ts h
+merged-one i (greatest c) ts h = extreme-of-extremes greatest_of (λ a b. is_le (val_cmp b a)) greatest-extreme i c ts h
 merged-one i (sum c) ts h = ap num (sum-of-sums i c ts h)
 merged-one i count_rows ts h = ap num (sum-of-counts i ts h)
 
