@@ -7,15 +7,13 @@ use Rattle.vx_values.specs.Types.{fits_64}
 use Rattle.vx_rows.specs.Bags.{SameRows, total}
 use Rattle.vx_relations.specs.Relation.{Relation}
 use Rattle.vx_plan_nodes.specs.Types.{well_formed, names_columns, width}
-use Rattle.vx_plan_nodes.specs.Plan.{Claim, Plan, scan, unary, binary, exchange, claim, size, Unary, group, is_one, partial, final, Aggregate, least, greatest, sum, count_rows}
-use Rattle.vx_plan_nodes.specs.Describe.{described}
+use Rattle.vx_plan_nodes.specs.Plan.{Claim, Plan, scan, unary, binary, exchange, claim, size, Unary, group, partial, final, Aggregate, least, greatest, sum, count_rows}
 use Rattle.vx_plan_nodes.specs.Serial.{group_keys, group_fits, unary_rows, rows, or_overflow, after, serial, group_rows, SerialResult, overflow, IsTooLong, HasLargeInput, LargePart, is_sum_of, fits, sum_of, count_of, of_key}
 use Rattle.vx_plan_nodes.specs.Streams.{Streams, joined, workers}
 use Rattle.vx_plan_nodes.specs.Routes.{Routing}
 use Rattle.vx_plan_nodes.specs.Runs.{Runs}
 use Rattle.vx_plan_nodes.specs.Phases.{is_partial, is_final, is_open, opens, phase_fits, spoken, Gives}
 use Rattle.vx_check_rules.specs.Rules.{allowed, allowed_here}
-use Rattle.vx_check_rules.specs.Behaviour.{over}
 use Rattle.vx_check_rules.specs.Claims.{Given}
 use Rattle.vx_check_rules.proofs.Bools.{or-left, or-right}
 use Rattle.vx_laws.specs.Sound.{SoundThroughout, Sound, NoOverflow}
@@ -28,7 +26,7 @@ use Rattle.vx_laws.proofs.Opened.{opened, opened-as}
 use Rattle.vx_laws.proofs.Phased.{by-phase}
 use Rattle.vx_laws.proofs.Pieces.{final-fits}
 use Rattle.vx_laws.proofs.Operators.{whole}
-use Rattle.vx_laws.proofs.OneInput.{tests, HoldingOf, Holding, HoldingAt, fitting-at, scan-holds, unary-holds, close, exchange-holds, partial-holds, final-holds}
+use Rattle.vx_laws.proofs.OneInput.{FitsInput, tests, HoldingOf, Holding, HoldingAt, fitting-at, scan-holds, unary-holds, close, exchange-holds, partial-holds, final-holds}
 use Rattle.vx_laws.proofs.TwoInputs.{binary-holds}
 use Rattle.vx_laws.proofs.WellFormed.{well-under, well-both, names}
 
@@ -76,7 +74,7 @@ module _ (catalog : ℕ → Relation) (db : ℕ → List Row) (sizes : ℕ → �
   group-fit : (by : List ℕ) (aggregates : List Aggregate) (xs : List Row) → list_all (group_fits by aggregates xs) (group_keys by xs) ≡ true → IsSome (group_rows by aggregates xs)
   group-fit by aggregates xs e = some-list (group_rows by aggregates xs) (groups by aggregates xs) (ap (λ b. cond b (Some (groups by aggregates xs)) None) e)
 
-  operator-fits : (op : Unary) → (is_partial op || is_final op) ≡ false → (p : Plan) (s : Streams) (ih : Holding db sizes goes p s) → (is_one (size p) || Rattle.vx_check_rules.specs.Behaviour.fits (over (described op) p)) ≡ true
+  operator-fits : (op : Unary) → (is_partial op || is_final op) ≡ false → (p : Plan) (s : Streams) (ih : Holding db sizes goes p s) → FitsInput op p
       → (xs : List Row) → unary_rows op ih.base ≡ Some xs → (w : ℕ) → w < workers sizes (size p) → IsSome (unary_rows op (s w))
   operator-fits op e p s ih fit xs g w l = ⊎_elim
       (λ f. let m = (whole goes op e).of_bags ih.base (s w) xs (SameRows-sym (f.0 w l)) g in some-list (unary_rows op (s w)) m.out m.is)
@@ -85,7 +83,7 @@ module _ (catalog : ℕ → Relation) (db : ℕ → List Row) (sizes : ℕ → �
 
   -- a final over parts of groups that fit
   final-fit : (keys : List ℕ) (puts : List Aggregate) (p : Plan) (s : Streams) (ih : HoldingAt db sizes goes p s) → opens keys puts p ≡ true
-      → (is_one (size p) || Rattle.vx_check_rules.specs.Behaviour.fits (over (described (group final keys puts)) p)) ≡ true
+      → FitsInput (group final keys puts) p
       → (ys : List Row) → serial db p ≡ rows ys → (w : ℕ) → w < workers sizes (size p) → IsSome (group_rows keys puts (s w))
   final-fit keys puts p s ih e fit ys h w l =
       let o = opened keys puts p e in
@@ -176,7 +174,7 @@ module _ (catalog : ℕ → Relation) (db : ℕ → List Row) (sizes : ℕ → �
       let h = all-hold p u (well-under catalog k c op p wf).0 (and-left (allowed catalog p) here ok) run in
       let t = tests catalog (unary k c op p) (and-right (allowed catalog p) here ok) in
       by-phase
-      (λ op f. f.fits p ≡ true → (is_one (size p) || Rattle.vx_check_rules.specs.Behaviour.fits (over (described op) p)) ≡ true → serial db (unary k c op p) ≡ rows xs
+      (λ op f. f.fits p ≡ true → FitsInput op p → serial db (unary k c op p) ≡ rows xs
       → IsSome (unary_rows op (u w)) ⊎ (HasLargeInput op (serial db p) ⊎ IsTooLong op (serial db p)))
       (λ op v f t e.
       let ih = own_rows h f in
@@ -193,7 +191,7 @@ module _ (catalog : ℕ → Relation) (db : ℕ → List Row) (sizes : ℕ → �
       own_rows h f = close catalog db sizes goes given p u (not-true (is_open p) f) h
 
       below : (by : List ℕ) (aggregates : List Aggregate) (o : SerialResult) → serial db p ≡ o → HoldingAt db sizes goes p u → opens by aggregates p ≡ true
-          → (is_one (size p) || Rattle.vx_check_rules.specs.Behaviour.fits (over (described (group final by aggregates)) p)) ≡ true → after o (λ ys. or_overflow k (group_rows by aggregates ys)) ≡ rows xs → IsSome (group_rows by aggregates (u w))
+          → FitsInput (group final by aggregates) p → after o (λ ys. or_overflow k (group_rows by aggregates ys)) ≡ rows xs → IsSome (group_rows by aggregates (u w))
       below by aggregates (overflow m) g h f t e = cc
       below by aggregates (rows ys) g h f t e = final-fit by aggregates p u h f t ys g w l
 

@@ -67,6 +67,10 @@ HoldingAt db sizes goes p s = HoldingOf goes (claim p) (workers sizes (size p)) 
 abbrev pub Holding : (ℕ → List Row) → (ℕ → ℕ) → Routing → Plan → Streams → Type 0
 Holding db sizes goes p s = HoldingOf goes (claim p) (workers sizes (size p)) s (serial db p) (λ base xs. SameRows xs base) (λ base. base)
 
+-- an operator fits its input
+abbrev pub FitsInput : Unary → Plan → Type 0
+FitsInput op p = (is_one (size p) || fits (over (described op) p)) ≡ true
+
 -- each stream stands for all rows, and is the only one where each row is in one of them; or all do together, and rows that have to meet do
 abbrev pub Fitting : Routing → Option (List ℕ) → Bool → Part → ℕ → Streams → (List Row → Type 0) → Type 0
 Fitting goes m b q n s stands = (((w : ℕ) → w < n → stands (s w)) × ((b || part_gives q any) ≡ true → n ≡ 1)) ⊎ (Meets goes m n s × stands (joined n s))
@@ -112,7 +116,7 @@ module _ (catalog : ℕ → Relation) (db : ℕ → List Row) (sizes : ℕ → �
 
   -- the ways in which an operator's input fits it
   pub fitting-at : (op : Unary) (p : Plan) (s : Streams) (stands : List Row → Type 0) → PartOf goes (claim p).part (workers sizes (size p)) s stands
-      → (is_one (size p) || fits (over (described op) p)) ≡ true → Fitting goes (described op).meets (is_one (size p)) (claim p).part (workers sizes (size p)) s stands
+      → FitsInput op p → Fitting goes (described op).meets (is_one (size p)) (claim p).part (workers sizes (size p)) s stands
   fitting-at op p s stands h e = fitting goes given.in_range (workers sizes (size p)) s stands p (described op).meets (described op).copying (one-worker sizes (size p)) e h
 
   -- ---- one step for all operators over one input
