@@ -2,15 +2,16 @@
 use Rattle.std.proofs.Common.{◌≡◌, ⊎_elim, ℕ, ◌<◌, ◌==◌, Bool, true, false, ◌&&◌, ◌||◌, List, [], ◌∷◌, ◌++◌, length, refl, sym, ap, ◌∙◌, subst, arith, true≢false, eq-eqb, eqb-true, Some}
 use Rattle.std.specs.List.{list_all, list_any}
 use Rattle.vx_values.specs.Values.{Row, pick}
-use Rattle.vx_plan_nodes.specs.Plan.{Route, Part, one, any, all, routed, Unary, Plan, claim, size, is_one, union, join}
-use Rattle.vx_plan_nodes.specs.Types.{part_columns}
+use Rattle.vx_plan_nodes.specs.Plan.{Claim, Binary, binary, Route, Part, one, any, all, routed, Unary, Plan, claim, size, is_one, union, join}
+use Rattle.vx_plan_nodes.specs.Types.{part_columns, names_columns, width}
+use Rattle.vx_relations.specs.Relation.{Relation}
 use Rattle.vx_plan_nodes.specs.Describe.{whole_rows, left_of, right_of, described, described_both}
-use Rattle.vx_plan_nodes.specs.Serial.{unary_rows, join_rows}
+use Rattle.vx_plan_nodes.specs.Serial.{unary_rows, binary_rows, join_rows}
 use Rattle.vx_plan_nodes.specs.Streams.{Streams, joined}
 use Rattle.vx_plan_nodes.specs.Routes.{Routing}
 use Rattle.vx_relations.specs.Catalog.{all_below}
-use Rattle.vx_check_rules.specs.Rules.{part_gives, has, route_eq, numbers_eq, right_columns, routed_alike}
-use Rattle.vx_check_rules.specs.Behaviour.{sources, Way, way, if_so, own, bare, meet, over, ways_over, each_has, gives}
+use Rattle.vx_check_rules.specs.Rules.{orders, part_gives, has, route_eq, numbers_eq, right_columns, routed_alike}
+use Rattle.vx_check_rules.specs.Behaviour.{behaviour, sources, Way, way, if_so, own, bare, meet, over, ways_over, each_has, gives}
 use Rattle.vx_check_rules.specs.Claims.{PartOf}
 use Rattle.vx_check_rules.proofs.Exact.{sources-left, sources-right}
 use Rattle.vx_check_rules.proofs.Bools.{or-false}
@@ -18,8 +19,11 @@ use Rattle.vx_laws.proofs.Bags.{and-left, and-right}
 use Rattle.vx_laws.proofs.Parts.{InRange, or-cases, single-of, route_eq-is, numbers_eq-is, list_all-always, list_all-weaken}
 use Rattle.vx_laws.proofs.Copies.{if_some-is}
 use Rattle.vx_laws.proofs.Join.{pick-left, pick-minus}
-use Rattle.vx_laws.proofs.JoinOrder.{wide, join-all, all-append, all-and}
-use Rattle.vx_laws.proofs.Binary.{right_columns-is, left_columns-is}
+use Rattle.vx_laws.proofs.JoinOrder.{join-sorted, wide, join-all, all-append, all-and}
+use Rattle.vx_laws.proofs.Binary.{right_columns-is, left_columns-is, front-below}
+use Rattle.vx_laws.proofs.Orders.{sorted-front, sorted-none}
+use Rattle.vx_laws.proofs.WellFormed.{named}
+use Rattle.vx_rows.specs.Order.{sorted}
 use Rattle.vx_laws.proofs.Operators.{keeps, same-columns}
 
 -- ---- lists of ways
@@ -107,7 +111,7 @@ unary-places goes op p n w xs ys e had =
     (λ m. (λ r cs ds c h. (keeps op).stems cs ds c (λ key. goes r key n == w) xs ys e (had (routed r ds) (and-left (has p (routed r ds)) true h)), tt))
 
 -- rows side by side
-pub union-places : (goes : Routing) (v : ℕ) (p q : Plan) (n w : ℕ) (ls rs : List Row)
+union-places : (goes : Routing) (v : ℕ) (p q : Plan) (n w : ℕ) (ls rs : List Row)
     → ((x : Part) → has p x ≡ true → Placed goes x n w ls) → ((x : Part) → has q x ≡ true → Placed goes x n w rs)
     → Each (λ v. Places goes n w (ls ++ rs) v) (ways_over (described_both v union).pairs (described_both v union) p q)
 union-places goes v p q n w ls rs left right =
@@ -146,7 +150,7 @@ given-below wd (routed t cs) r ds g h =
     let P : List ℕ → Type 0 = λ z. all_below wd z ≡ true in subst P (numbers_eq-is cs ds (and-right (route_eq t r) (numbers_eq cs ds) g)) h
 
 -- rows that are paired stand where their left rows did, and where their right rows did
-pub join-places : (goes : Routing) (m : Bool) (on : List (ℕ × ℕ)) (wd : ℕ) (p q : Plan) (n w : ℕ) (ls rs : List Row) → wide wd ls ≡ true → all_below wd (part_columns (claim p).part) ≡ true
+join-places : (goes : Routing) (m : Bool) (on : List (ℕ × ℕ)) (wd : ℕ) (p q : Plan) (n w : ℕ) (ls rs : List Row) → wide wd ls ≡ true → all_below wd (part_columns (claim p).part) ≡ true
     → Placed goes (claim p).part n w ls → Placed goes (claim q).part n w rs
     → ((x : Part) → has p x ≡ true → Placed goes x n w ls) → ((x : Part) → has q x ≡ true → Placed goes x n w rs)
     → Each (λ v. Places goes n w (join_rows on ls rs) v) (ways_over (described_both wd (join m on)).pairs (described_both wd (join m on)) p q)
@@ -180,6 +184,22 @@ join-places goes m on wd p q n w ls rs ws below at_left at_right left right =
       λ r cs ds c h. place-right goes r cs ds on wd n w ls rs (sym (sources-right wd cs) ∙ c) ws (right (routed r ds) (and-left (has q (routed r ds)) true h)),
       tt,
     ))))
+
+-- over two inputs
+pub both-places : (goes : Routing) (catalog : ℕ → Relation) (k : ℕ) (c : Claim) (op : Binary) (p q : Plan) (n w : ℕ) (ls rs : List Row) → names_columns (width catalog p) (claim p) ≡ true
+    → wide (width catalog p) ls ≡ true → Placed goes (claim p).part n w ls → Placed goes (claim q).part n w rs
+    → ((x : Part) → has p x ≡ true → Placed goes x n w ls) → ((x : Part) → has q x ≡ true → Placed goes x n w rs)
+    → Each (λ v. Places goes n w (binary_rows op ls rs) v) (behaviour catalog (binary k c op p q)).ways
+both-places goes catalog k c union p q n w ls rs names ws at_left at_right left right = union-places goes (width catalog p) p q n w ls rs left right
+both-places goes catalog k c (join m on) p q n w ls rs names ws at_left at_right left right =
+    join-places goes m on (width catalog p) p q n w ls rs ws (named (width catalog p) (claim p) names).0 at_left at_right left right
+
+-- and the order of their rows
+pub both-ordered : (catalog : ℕ → Relation) (k : ℕ) (c : Claim) (op : Binary) (p q : Plan) → names_columns (width catalog p) (claim p) ≡ true → orders catalog (binary k c op p q) c.order ≡ true
+    → (ls rs : List Row) → wide (width catalog p) ls ≡ true → sorted (claim p).order ls ≡ true → sorted c.order (binary_rows op ls rs) ≡ true
+both-ordered catalog k c union p q names h ls rs v e = sorted-front c.order [] h (ls ++ rs) (sorted-none (ls ++ rs))
+both-ordered catalog k c (join m on) p q names h ls rs v e =
+    join-sorted c.order (width catalog p) on ls rs (front-below (width catalog p) c.order (claim p).order h (named (width catalog p) (claim p) names).1) v (sorted-front c.order (claim p).order h ls e)
 
 -- ---- what the lists stand for
 

@@ -4,10 +4,9 @@ use Rattle.std.proofs.Common.{◌≡◌, ℕ, ◌<◌, ◌==◌, Bool, true, fal
 use Rattle.std.specs.List.{list_all, list_any}
 use Rattle.vx_values.specs.Values.{Row, pick}
 use Rattle.vx_rows.specs.Order.{compare_on, sorted}
-use Rattle.vx_plan_nodes.specs.Plan.{Size, ExchangeKind, route_to, round, broadcast, gather, target, Claim, Binary, union, join, Plan, scan, unary, binary, exchange, size, claim, is_one, size_eq, Part, any, all, concat}
-use Rattle.vx_plan_nodes.specs.Types.{width, unary_width, well_formed, names_columns, part_columns}
-use Rattle.vx_relations.specs.Catalog.{all_below}
-use Rattle.vx_plan_nodes.specs.Serial.{binary_rows, join_rows}
+use Rattle.vx_plan_nodes.specs.Plan.{Size, ExchangeKind, route_to, round, broadcast, gather, target, Claim, Plan, scan, unary, binary, exchange, size, claim, is_one, size_eq, Part, any, all, concat}
+use Rattle.vx_plan_nodes.specs.Types.{width, unary_width, well_formed, names_columns}
+use Rattle.vx_plan_nodes.specs.Serial.{binary_rows}
 use Rattle.vx_check_rules.specs.Rules.{is_prefix, allowed, allowed_here, has}
 use Rattle.vx_check_rules.specs.Behaviour.{way, bare, over, gives, behaviour}
 use Rattle.vx_plan_nodes.specs.Describe.{whole_rows, described}
@@ -26,19 +25,17 @@ use Rattle.vx_laws.specs.RunOf.{ship_of, RunOf}
 use Rattle.vx_plan_nodes.specs.Numbering.{is_fit}
 use Rattle.vx_laws.proofs.Bags.{and-left, and-right, and-both, against, against-none, none-against, Dealt-total, across-ext, across-zero}
 use Rattle.vx_laws.proofs.Parts.{size_eq-is, one-worker, list_all-always}
-use Rattle.vx_laws.proofs.Orders.{list_all-bearing, list_all-filter, sorted-bearing, sorted-front, sorted-none, Dealt-one}
-use Rattle.vx_laws.proofs.Wide.{fit-wide, join-wide}
-use Rattle.vx_laws.proofs.JoinOrder.{all-front, wide, join-sorted, all-append}
-use Rattle.vx_laws.proofs.Binary.{front-below}
+use Rattle.vx_laws.proofs.Orders.{list_all-bearing, list_all-filter, sorted-bearing, sorted-front, Dealt-one}
+use Rattle.vx_laws.proofs.Wide.{fit-wide, both-wide}
+use Rattle.vx_laws.proofs.JoinOrder.{all-front, wide}
 use Rattle.vx_laws.proofs.Operators.{keeps, unary-ordered}
-use Rattle.vx_laws.proofs.Places.{at_place, Placed, had-place, shown-placed, unary-places, union-places, join-places, made-gives}
+use Rattle.vx_laws.proofs.Places.{at_place, Placed, had-place, shown-placed, unary-places, both-places, both-ordered, made-gives}
 use Rattle.vx_laws.proofs.Exchange.{sends-sorted, filter-all}
 use Rattle.vx_laws.proofs.OneInput.{tests}
 use Rattle.vx_laws.proofs.WellFormed.{well-under, well-both, names}
 use Rattle.vx_laws.proofs.Packets.{rows_of-append, rows_of-packets, port-rows}
 use Rattle.vx_laws.proofs.Decks.{Drawn, dispatched-drawn}
 use Rattle.vx_laws.proofs.Overflows.{reads-begin}
-use Rattle.vx_plan_nodes.specs.Phases.{both_closed}
 use Rattle.vx_laws.proofs.Concat.{ranged, goes-on-is, exchange-sorted}
 
 abbrev pub Tidy : ℕ → List ℕ → List Row → Type 0
@@ -212,6 +209,9 @@ module _ (S : RunModel) (giv : Given S.catalog S.db S.sizes (goes S)) where
       let fits = and-right (size_eq (size p) (size q)) (is_fit S.relation_of p && is_fit S.relation_of q) fit in
       let P : Size → Type 0 = λ z. w < workers S.sizes z in
       let wp = (well-both S.catalog n c op p q wf).0 in
+      let t = tests S.catalog (binary n c op p q) (and-right (allowed S.catalog q) here rest) in
+      let nm = names S.catalog p wp in
+      let n0 : ℕ = workers S.sizes (size p) in
       let left = tidy p (and-left (is_fit S.relation_of p) (is_fit S.relation_of q) fits) wp (and-left (allowed S.catalog p) (allowed S.catalog q && here) ok) ts run.0 w l reads begin h.0.left h.1 in
       let right = tidy q (and-right (is_fit S.relation_of p) (is_fit S.relation_of q) fits) (well-both S.catalog n c op p q wf).1 (and-left (allowed S.catalog q) here rest) ts run.1 w (subst P same l) reads begin h.0.right h.2 in
       let k = h.3.before in
@@ -220,7 +220,15 @@ module _ (S : RunModel) (giv : Given S.catalog S.db S.sizes (goes S)) where
       let R : List Row → Type 0 = λ xs. IsTidy (binary n c op p q) w xs in
       let Q : Stream → Type 0 = λ s. IsTidy (binary n c op p q) w s.rows in
       subst Q h.4 (neat-begins (goes S) c (width S.catalog (binary n c op p q)) (workers S.sizes (size p)) w h.0.gave.rows k.whole k.gave
-      (subst R k.makes (both op same l wf (and-right (allowed S.catalog q) here rest) wp k.inputs.left.rows k.inputs.right.rows ls rs)))
+      (subst R k.makes (
+        (
+          both-wide S.catalog n c op p q wf k.inputs.left.rows k.inputs.right.rows ls.0.0 rs.0.0,
+          both-ordered S.catalog n c op p q nm t.5 k.inputs.left.rows k.inputs.right.rows ls.0.0 ls.0.1,
+        ),
+        shown-placed (goes S) giv.in_range (is_one (size p)) (behaviour S.catalog (binary n c op p q)).ways c.part n0 w (one-worker S.sizes (size p)) l (binary_rows op k.inputs.left.rows k.inputs.right.rows)
+            (both-places (goes S) S.catalog n c op p q n0 w k.inputs.left.rows k.inputs.right.rows nm ls.0.0 ls.1 (here_too same k.inputs.right.rows rs.1)
+            (at_left k.inputs.left.rows ls.1) (at_right same k.inputs.right.rows rs.1)) t.4,
+      )))
     where
       at_left : (ls : List Row) → Placed (goes S) (claim p).part (workers S.sizes (size p)) w ls → (x : Part) → has p x ≡ true → Placed (goes S) x (workers S.sizes (size p)) w ls
       at_left ls a x e = had-place (goes S) giv.in_range (is_one (size p)) (claim p).part x (workers S.sizes (size p)) w (one-worker S.sizes (size p)) l ls a e
@@ -231,34 +239,6 @@ module _ (S : RunModel) (giv : Given S.catalog S.db S.sizes (goes S)) where
       at_right : size p ≡ size q → (rs : List Row) → Placed (goes S) (claim q).part (workers S.sizes (size q)) w rs → (x : Part) → has q x ≡ true → Placed (goes S) x (workers S.sizes (size p)) w rs
       at_right same rs b x e =
           had-place (goes S) giv.in_range (is_one (size q)) (claim q).part x (workers S.sizes (size p)) w (λ o. ap (workers S.sizes) same ∙ one-worker S.sizes (size q) o) l rs (here_too same rs b) e
-
-      both : (op : Binary) → size p ≡ size q → w < workers S.sizes (size p) → well_formed S.catalog (binary n c op p q) ≡ true → allowed_here S.catalog (binary n c op p q) ≡ true → well_formed S.catalog p ≡ true
-          → (ls rs : List Row) → IsTidy p w ls → IsTidy q w rs → IsTidy (binary n c op p q) w (binary_rows op ls rs)
-      both union same_size l wf ok wp ls rs a b =
-          let t = tests S.catalog (binary n c union p q) ok in
-          let some : Bool = (width S.catalog p == width S.catalog q) && names_columns (width S.catalog p) c in
-          let last : Bool = both_closed p q && some in
-          let same = eqb-true (width S.catalog p) (width S.catalog q) (and-left (width S.catalog p == width S.catalog q) (names_columns (width S.catalog p) c)
-          (and-right (both_closed p q) some (and-right (well_formed S.catalog q) last (and-right (well_formed S.catalog p) (well_formed S.catalog q && last) wf)))) in
-          let Q : ℕ → Type 0 = λ v. wide v rs ≡ true in (
-            (all-append (λ row. length row == width S.catalog p) ls rs a.0.0 (subst Q (sym same) b.0.0), sorted-front c.order [] t.5 (ls ++ rs) (sorted-none (ls ++ rs))),
-            shown-placed (goes S) giv.in_range (is_one (size p)) (behaviour S.catalog (binary n c union p q)).ways c.part (workers S.sizes (size p)) w (one-worker S.sizes (size p)) l (ls ++ rs)
-                (union-places (goes S) (width S.catalog p) p q (workers S.sizes (size p)) w ls rs (at_left ls a.1) (at_right same_size rs b.1)) t.4,
-          )
-      both (join m on) same_size l wf ok wp ls rs a b =
-          let t = tests S.catalog (binary n c (join m on) p q) ok in
-          let wd : ℕ = width S.catalog p in
-          let nm = names S.catalog p wp in
-          let n1 = and-right (all_below wd (part_columns (claim p).part)) (all_below wd (claim p).order && list_all (all_below wd) (claim p).keys) nm in
-          let order_below = and-left (all_below wd (claim p).order) (list_all (all_below wd) (claim p).keys) n1 in (
-            (
-              join-wide on wd (width S.catalog q) ls rs a.0.0 b.0.0,
-              join-sorted c.order wd on ls rs (front-below wd c.order (claim p).order t.5 order_below) a.0.0 (sorted-front c.order (claim p).order t.5 ls a.0.1),
-            ),
-            shown-placed (goes S) giv.in_range (is_one (size p)) (behaviour S.catalog (binary n c (join m on) p q)).ways c.part (workers S.sizes (size p)) w (one-worker S.sizes (size p)) l (join_rows on ls rs)
-                (join-places (goes S) m on wd p q (workers S.sizes (size p)) w ls rs a.0.0 (and-left (all_below wd (part_columns (claim p).part)) (all_below wd (claim p).order && list_all (all_below wd) (claim p).keys) nm)
-                a.1 (here_too same_size rs b.1) (at_left ls a.1) (at_right same_size rs b.1)) t.4,
-          )
   tidy (exchange n c k merge p) fit wf ok ts run w l reads begin out h =
       let here : Bool = allowed_here S.catalog (exchange n c k merge p) in
       let m : ℕ = workers S.sizes (size p) in

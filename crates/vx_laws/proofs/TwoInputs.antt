@@ -1,12 +1,10 @@
 -- The claims of nodes with two inputs, by the behaviours of their operators.
 use Rattle.std.proofs.Common.{◌≡◌, ℕ, ◌<◌, ◌==◌, Bool, true, false, ◌&&◌, ◌||◌, List, [], ◌∷◌, ◌++◌, length, sym, ap, ◌∙◌, subst, true≢false}
-use Rattle.std.specs.List.{list_all}
 use Rattle.vx_values.specs.Values.{Row}
 use Rattle.vx_rows.specs.Order.{sorted}
 use Rattle.vx_rows.specs.Bags.{SameRows}
-use Rattle.vx_relations.specs.Catalog.{all_below}
 use Rattle.vx_relations.specs.Relation.{Relation, KeysHold}
-use Rattle.vx_plan_nodes.specs.Types.{well_formed, names_columns, part_columns, width}
+use Rattle.vx_plan_nodes.specs.Types.{well_formed, names_columns, width}
 use Rattle.vx_plan_nodes.specs.Plan.{Size, Part, any, all, Claim, Plan, binary, claim, size, Binary, union, join, is_one, size_eq}
 use Rattle.vx_plan_nodes.specs.Describe.{whole_rows, left_of, right_of, described_both}
 use Rattle.vx_plan_nodes.specs.Serial.{binary_rows, join_rows, rows, after, serial}
@@ -18,13 +16,13 @@ use Rattle.vx_check_rules.specs.Claims.{PartHolds, Given}
 use Rattle.vx_check_rules.proofs.Bools.{or-left}
 use Rattle.vx_laws.proofs.Bags.{and-left, and-right}
 use Rattle.vx_laws.proofs.Parts.{has-part, one-worker, size_eq-is}
-use Rattle.vx_laws.proofs.Orders.{sorted-front, sorted-none}
 use Rattle.vx_laws.proofs.Keys.{keys-from}
 use Rattle.vx_laws.proofs.Wide.{serial-wide}
-use Rattle.vx_laws.proofs.JoinOrder.{wide, join-sorted, join-key}
+use Rattle.vx_laws.proofs.JoinOrder.{wide, join-key}
 use Rattle.vx_laws.proofs.Join.{join-left, join-right, join-same}
-use Rattle.vx_laws.proofs.Binary.{streams-all, union-any, append-same, join-met, front-below}
-use Rattle.vx_laws.proofs.Places.{Each, each-if, each-append, Places, Stands, part-placed, union-places, join-places, shown-part}
+use Rattle.vx_laws.proofs.Binary.{streams-all, union-any, append-same, join-met}
+use Rattle.vx_laws.proofs.Places.{Each, each-if, each-append, Places, Stands, part-placed, both-places, both-ordered, shown-part}
+use Rattle.vx_laws.proofs.WellFormed.{named}
 use Rattle.vx_laws.proofs.OneInput.{tests, Holding}
 
 module _ (catalog : ℕ → Relation) (db : ℕ → List Row) (sizes : ℕ → ℕ) (goes : Routing) (given : Given catalog db sizes goes) where
@@ -59,12 +57,10 @@ module _ (catalog : ℕ → Relation) (db : ℕ → List Row) (sizes : ℕ → �
         all_wide = λ w l. streams-all goes (claim p).part n s ih.base ih.holds.part (λ row. length row == width catalog p) base_wide w l;
       }
 
-  -- what an operator over two inputs owes: what its lists stand for, where their rows stand, their order, and keys
+  -- what an operator over two inputs owes: what its lists stand for, and keys
   record Over (k : ℕ) (c : Claim) (op : Binary) (p q : Plan) (s t out : Streams) (base rbase : List Row) : Type 0 where
     alone : is_one (size p) ≡ true → SameRows (joined (workers sizes (size p)) out) (binary_rows op base rbase)
     stands : Each (λ v. Stands (workers sizes (size p)) out (λ xs. SameRows xs (binary_rows op base rbase)) v) (behaviour catalog (binary k c op p q)).ways
-    places : (w : ℕ) → w < workers sizes (size p) → Each (λ v. Places goes (workers sizes (size p)) w (binary_rows op (s w) (t w)) v) (behaviour catalog (binary k c op p q)).ways
-    ordered : (ls rs : List Row) → wide (width catalog p) ls ≡ true → sorted (claim p).order ls ≡ true → sorted c.order (binary_rows op ls rs) ≡ true
     keyed : KeysHold c.keys (binary_rows op base rbase)
 
   union-over : (k : ℕ) (c : Claim) (p q : Plan) (s t out : Streams) (base rbase : List Row) → Both p q s t base rbase → allowed_here catalog (binary k c union p q) ≡ true
@@ -85,9 +81,6 @@ module _ (catalog : ℕ → Relation) (db : ℕ → List Row) (sizes : ℕ → �
               ),
               tt,
             ));
-        places = λ w l. union-places goes (width catalog p) p q n w (s w) (t w)
-            (λ x e. part-placed goes x n s (λ xs. SameRows xs base) (both.left x e) w l) (λ x e. part-placed goes x n t (λ xs. SameRows xs rbase) (both.right x e) w l);
-        ordered = λ ls rs v e. sorted-front c.order [] h.5 (ls ++ rs) (sorted-none (ls ++ rs));
         keyed = keys-from (λ x. false) (base ++ rbase) (λ x e. absurd (true≢false (sym e))) c.keys h.6;
       }
 
@@ -133,19 +126,11 @@ module _ (catalog : ℕ → Relation) (db : ℕ → List Row) (sizes : ℕ → �
       let h = tests catalog (binary k c (join m on) p q) ok in
       let n : ℕ = workers sizes (size p) in
       let wd : ℕ = width catalog p in
-      let rest = and-right (all_below wd (part_columns (claim p).part)) (all_below wd (claim p).order && list_all (all_below wd) (claim p).keys) names in
-      let part_below = and-left (all_below wd (part_columns (claim p).part)) (all_below wd (claim p).order && list_all (all_below wd) (claim p).keys) names in
-      let order_below = and-left (all_below wd (claim p).order) (list_all (all_below wd) (claim p).keys) rest in
-      let keys_below = and-right (all_below wd (claim p).order) (list_all (all_below wd) (claim p).keys) rest in
       record {
         alone = λ o. join-left on n s t out base rbase run (both.right all (both.one_right o all)) (both.left any (both.one_left o any));
         stands = join-stands m on wd p q s t out base rbase both run;
-        places = λ w l. join-places goes m on wd p q n w (s w) (t w) (both.all_wide w l) part_below
-            (part-placed goes (claim p).part n s (λ xs. SameRows xs base) both.part w l) (part-placed goes (claim q).part n t (λ xs. SameRows xs rbase) both.part_right w l)
-            (λ x e. part-placed goes x n s (λ xs. SameRows xs base) (both.left x e) w l) (λ x e. part-placed goes x n t (λ xs. SameRows xs rbase) (both.right x e) w l);
-        ordered = λ ls rs v e. join-sorted c.order wd on ls rs (front-below wd c.order (claim p).order h.5 order_below) v (sorted-front c.order (claim p).order h.5 ls e);
         keyed = keys-from (join_keys on wd (claim p).keys (claim q).keys) (join_rows on base rbase)
-            (λ x e. join-key on wd (claim p).keys (claim q).keys base rbase both.base_wide keys_below keys keys_right x e) c.keys h.6;
+            (λ x e. join-key on wd (claim p).keys (claim q).keys base rbase both.base_wide (named wd (claim p) names).2 keys keys_right x e) c.keys h.6;
       }
 
   pub binary-holds : (k : ℕ) (c : Claim) (op : Binary) (p q : Plan) (s t out : Streams) (ih : Holding db sizes goes p s) (jh : Holding db sizes goes q t)
@@ -164,11 +149,14 @@ module _ (catalog : ℕ → Relation) (db : ℕ → List Row) (sizes : ℕ → �
         is_serial = ap (λ x. after x (λ xs. after (serial db q) (λ ys. rows (binary_rows op xs ys)))) ih.is_serial ∙ ap (λ x. after x (λ ys. rows (binary_rows op ih.base ys))) jh.is_serial;
         holds = record {
           part = shown-part goes given.in_range (is_one (size p)) (behaviour catalog (binary k c op p q)).ways c.part n out (λ xs. SameRows xs list) (one-worker sizes (size p)) over.alone over.stands
-              (λ w l. let P : List Row → Type 0 = λ xs. Each (λ v. Places goes n w xs v) (behaviour catalog (binary k c op p q)).ways in subst P (run w l) (over.places w l))
+              (λ w l. let P : List Row → Type 0 = λ xs. Each (λ v. Places goes n w xs v) (behaviour catalog (binary k c op p q)).ways in
+              subst P (run w l) (both-places goes catalog k c op p q n w (s w) (t w) names (both.all_wide w l)
+              (part-placed goes (claim p).part n s (λ xs. SameRows xs ih.base) both.part w l) (part-placed goes (claim q).part n t (λ xs. SameRows xs jh.base) both.part_right w l)
+              (λ x e. part-placed goes x n s (λ xs. SameRows xs ih.base) (both.left x e) w l) (λ x e. part-placed goes x n t (λ xs. SameRows xs jh.base) (both.right x e) w l)))
               h.4;
           order = (
-            λ w l. let P : List Row → Type 0 = λ xs. sorted c.order xs ≡ true in subst P (run w l) (over.ordered (s w) (t w) (both.all_wide w l) (ih.holds.order.0 w l)),
-            over.ordered ih.base jh.base both.base_wide ih.holds.order.1,
+            λ w l. let P : List Row → Type 0 = λ xs. sorted c.order xs ≡ true in subst P (run w l) (both-ordered catalog k c op p q names h.5 (s w) (t w) (both.all_wide w l) (ih.holds.order.0 w l)),
+            both-ordered catalog k c op p q names h.5 ih.base jh.base both.base_wide ih.holds.order.1,
           );
           keys = over.keyed;
         };

@@ -1,8 +1,10 @@
 -- What a well-formed plan says of its inputs, and of its claims.
-use Rattle.std.proofs.Common.{◌≡◌, ℕ, ◌==◌, Bool, true, ◌&&◌}
+use Rattle.std.proofs.Common.{◌≡◌, ℕ, ◌==◌, Bool, true, ◌&&◌, eqb-true}
+use Rattle.std.specs.List.{list_all}
 use Rattle.vx_relations.specs.Relation.{Relation}
 use Rattle.vx_plan_nodes.specs.Plan.{Claim, Plan, scan, unary, binary, exchange, claim, Unary, Binary, union, join}
-use Rattle.vx_plan_nodes.specs.Types.{well_formed, names_columns, width}
+use Rattle.vx_plan_nodes.specs.Types.{well_formed, names_columns, part_columns, width}
+use Rattle.vx_relations.specs.Catalog.{all_below}
 use Rattle.vx_plan_nodes.specs.Phases.{phase_fits, both_closed}
 use Rattle.vx_laws.proofs.Bags.{and-left, and-right}
 
@@ -29,6 +31,22 @@ well-both catalog k c union p q h =
     let t = four (well_formed catalog p) (well_formed catalog q) (both_closed p q) (same && named) h in
     (t.0, t.1, t.2, and-right same named t.3)
 well-both catalog k c (join m on) p q h = four (well_formed catalog p) (well_formed catalog q) (both_closed p q) (names_columns (width catalog (binary k c (join m on) p q)) c) h
+
+-- the inputs of a union are equally wide
+pub union-widths : (catalog : ℕ → Relation) (k : ℕ) (c : Claim) (p q : Plan) → well_formed catalog (binary k c union p q) ≡ true → width catalog p ≡ width catalog q
+union-widths catalog k c p q h =
+    let same : Bool = width catalog p == width catalog q in
+    let named : Bool = names_columns (width catalog p) c in
+    eqb-true (width catalog p) (width catalog q) (and-left same named (four (well_formed catalog p) (well_formed catalog q) (both_closed p q) (same && named) h).3)
+
+-- a claim names columns with its part, its order and its keys
+pub named : (w : ℕ) (c : Claim) → names_columns w c ≡ true → (all_below w (part_columns c.part) ≡ true) × (all_below w c.order ≡ true) × (list_all (all_below w) c.keys ≡ true)
+named w c h =
+    let rest = and-right (all_below w (part_columns c.part)) (all_below w c.order && list_all (all_below w) c.keys) h in (
+      and-left (all_below w (part_columns c.part)) (all_below w c.order && list_all (all_below w) c.keys) h,
+      and-left (all_below w c.order) (list_all (all_below w) c.keys) rest,
+      and-right (all_below w c.order) (list_all (all_below w) c.keys) rest,
+    )
 
 -- the claim names columns
 pub names : (catalog : ℕ → Relation) (p : Plan) → well_formed catalog p ≡ true → names_columns (width catalog p) (claim p) ≡ true

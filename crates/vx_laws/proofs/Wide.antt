@@ -1,17 +1,16 @@
 -- Each serial row has a value for each output column.
-use Rattle.std.proofs.Common.{◌∙◌, ◌≡◌, ℕ, ◌+◌, ◌==◌, true, ◌&&◌, List, [], ◌∷◌, ◌++◌, length, refl, sym, ap, subst, arith, Option, Some, None, eqb-true, eq-eqb, length-append}
+use Rattle.std.proofs.Common.{◌∙◌, ◌≡◌, ℕ, ◌+◌, ◌==◌, true, List, [], ◌∷◌, ◌++◌, length, refl, sym, ap, subst, arith, Option, Some, None, eqb-true, eq-eqb, length-append}
 use Rattle.std.specs.List.{AllByRecursion}
 use Rattle.vx_values.specs.declared.value.ColType.{ColType}
 use Rattle.vx_values.specs.Types.{Fits, type_of}
 use Rattle.vx_values.specs.Values.{Row}
-use Rattle.vx_plan_nodes.specs.Plan.{union, join, Plan, scan, unary, binary, exchange}
+use Rattle.vx_plan_nodes.specs.Plan.{Claim, Binary, union, join, Plan, scan, unary, binary, exchange}
 use Rattle.vx_relations.specs.Relation.{Relation, Meets}
 use Rattle.vx_plan_nodes.specs.Types.{width, unary_width, well_formed, names_columns}
-use Rattle.vx_plan_nodes.specs.Serial.{unary_rows, join_rows, SerialResult, rows, overflow, or_overflow, after, serial}
-use Rattle.vx_laws.proofs.Bags.{and-left, and-right, and-both}
-use Rattle.vx_laws.proofs.WellFormed.{well-under}
+use Rattle.vx_plan_nodes.specs.Serial.{unary_rows, binary_rows, join_rows, SerialResult, rows, overflow, or_overflow, after, serial}
+use Rattle.vx_laws.proofs.Bags.{and-left, and-both}
+use Rattle.vx_laws.proofs.WellFormed.{well-under, well-both, union-widths}
 use Rattle.vx_laws.proofs.JoinOrder.{wide, join-all, all-append}
-use Rattle.vx_plan_nodes.specs.Phases.{both_closed}
 use Rattle.vx_laws.proofs.Widths.{length-values}
 use Rattle.vx_laws.proofs.Operators.{keeps}
 
@@ -29,6 +28,12 @@ join-wide on v w ls rs h k = join-all (λ l. length l == v) (λ r. length r == w
     let y : length r ≡ w = eqb-true _ w b in
     let z : length (l ++ r) ≡ length l + length r = length-append l r in
     eq-eqb _ _ (omega arith)) h k
+
+pub both-wide : (catalog : ℕ → Relation) (k : ℕ) (c : Claim) (op : Binary) (p q : Plan) → well_formed catalog (binary k c op p q) ≡ true → (ls rs : List Row)
+    → wide (width catalog p) ls ≡ true → wide (width catalog q) rs ≡ true → wide (width catalog (binary k c op p q)) (binary_rows op ls rs) ≡ true
+both-wide catalog k c union p q wf ls rs a b =
+    let P : ℕ → Type 0 = λ w. wide w rs ≡ true in all-append (λ row. length row == width catalog p) ls rs a (subst P (sym (union-widths catalog k c p q wf)) b)
+both-wide catalog k c (join m on) p q wf ls rs a b = join-wide on (width catalog p) (width catalog q) ls rs a b
 
 module _ (catalog : ℕ → Relation) (db : ℕ → List Row) (meets : (r : ℕ) → Meets (catalog r) (db r)) where
   pub serial-wide : (p : Plan) (xs : List Row) → well_formed catalog p ≡ true → serial db p ≡ rows xs → wide (width catalog p) xs ≡ true
@@ -49,36 +54,16 @@ module _ (catalog : ℕ → Relation) (db : ℕ → List Row) (meets : (r : ℕ)
           → wide (unary_width op (width catalog p)) xs ≡ true
       go (rows ys) ih e = done (unary_rows op ys) ys (ih ys refl) refl e
       go (overflow m) ih e = cc
-  serial-wide (binary n c union p q) xs ok e =
-      let k1 = and-right (well_formed catalog p) (well_formed catalog q && (both_closed p q && ((width catalog p == width catalog q) && names_columns (width catalog p) c))) ok in
-      let k2 = and-right (well_formed catalog q) (both_closed p q && ((width catalog p == width catalog q) && names_columns (width catalog p) c)) k1 in
-      let k3 = and-right (both_closed p q) ((width catalog p == width catalog q) && names_columns (width catalog p) c) k2 in
-      let same = eqb-true (width catalog p) (width catalog q) (and-left (width catalog p == width catalog q) (names_columns (width catalog p) c) k3) in
-      go (serial db p) (serial db q)
-      (λ ys. serial-wide p ys (and-left (well_formed catalog p) (well_formed catalog q && (both_closed p q && ((width catalog p == width catalog q) && names_columns (width catalog p) c))) ok))
-      (λ ys. serial-wide q ys (and-left (well_formed catalog q) (both_closed p q && ((width catalog p == width catalog q) && names_columns (width catalog p) c)) k1)) same e
+  serial-wide (binary n c op p q) xs ok e =
+      let well = well-both catalog n c op p q ok in
+      go (serial db p) (serial db q) (λ ys. serial-wide p ys well.0) (λ ys. serial-wide q ys well.1) e
     where
       go : (o u : SerialResult) → ((ys : List Row) → o ≡ rows ys → wide (width catalog p) ys ≡ true) → ((ys : List Row) → u ≡ rows ys → wide (width catalog q) ys ≡ true)
-          → width catalog p ≡ width catalog q → after o (λ ys. after u (λ zs. rows (ys ++ zs))) ≡ rows xs → wide (width catalog p) xs ≡ true
-      go (rows ys) (rows zs) ih jh s e =
-          let a : ys ++ zs ≡ xs = cc in
-          let P : List Row → Type 0 = λ l. wide (width catalog p) l ≡ true in
-          let Q : ℕ → Type 0 = λ w. wide w zs ≡ true in
-          subst P a (all-append (λ row. length row == width catalog p) ys zs (ih ys refl) (subst Q (sym s) (jh zs refl)))
-      go (rows ys) (overflow m) ih jh s e = cc
-      go (overflow m) u ih jh s e = cc
-  serial-wide (binary n c (join m on) p q) xs ok e =
-      let k1 = and-right (well_formed catalog p) (well_formed catalog q && (both_closed p q && names_columns (width catalog p + width catalog q) c)) ok in
-      go (serial db p) (serial db q)
-      (λ ys. serial-wide p ys (and-left (well_formed catalog p) (well_formed catalog q && (both_closed p q && names_columns (width catalog p + width catalog q) c)) ok))
-      (λ ys. serial-wide q ys (and-left (well_formed catalog q) ((both_closed p q && names_columns (width catalog p + width catalog q) c)) k1)) e
-    where
-      go : (o u : SerialResult) → ((ys : List Row) → o ≡ rows ys → wide (width catalog p) ys ≡ true) → ((ys : List Row) → u ≡ rows ys → wide (width catalog q) ys ≡ true)
-          → after o (λ ys. after u (λ zs. rows (join_rows on ys zs))) ≡ rows xs → wide (width catalog p + width catalog q) xs ≡ true
+          → after o (λ ys. after u (λ zs. rows (binary_rows op ys zs))) ≡ rows xs → wide (width catalog (binary n c op p q)) xs ≡ true
       go (rows ys) (rows zs) ih jh e =
-          let a : join_rows on ys zs ≡ xs = cc in
-          let P : List Row → Type 0 = λ l. wide (width catalog p + width catalog q) l ≡ true in
-          subst P a (join-wide on (width catalog p) (width catalog q) ys zs (ih ys refl) (jh zs refl))
+          let a : binary_rows op ys zs ≡ xs = cc in
+          let P : List Row → Type 0 = λ l. wide (width catalog (binary n c op p q)) l ≡ true in
+          subst P a (both-wide catalog n c op p q ok ys zs (ih ys refl) (jh zs refl))
       go (rows ys) (overflow m) ih jh e = cc
       go (overflow m) u ih jh e = cc
   serial-wide (exchange n c k m p) xs ok e = serial-wide p xs (and-left (well_formed catalog p) (names_columns (width catalog p) c) ok) e
