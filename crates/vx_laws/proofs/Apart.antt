@@ -8,7 +8,7 @@ use Rattle.vx_rows.specs.Order.{agree, sorted, compare_on}
 use Rattle.vx_rows.specs.Bags.{total, count, SameRows}
 use Rattle.vx_rows.specs.Keys.{HasKey}
 use Rattle.vx_plan_nodes.specs.Plan.{Route, Aggregate, least, greatest, sum, count_rows}
-use Rattle.vx_plan_nodes.specs.Serial.{firsts, group_row, group_fits, of_key, aggregate_of, fits, sum_of, count_of, above_zero, below_zero, least_of, greatest_of}
+use Rattle.vx_plan_nodes.specs.Serial.{firsts, group_row, group_fits, of_key, aggregate_of, fits, sum_of, count_of, above_zero, below_zero, least_of, greatest_of, smaller, larger, first_or_none}
 use Rattle.vx_values.specs.Types.{fits_64}
 use Rattle.vx_plan_nodes.specs.Streams.{Streams, joined, across}
 use Rattle.vx_plan_nodes.specs.Routes.{Routing}
@@ -275,70 +275,92 @@ val-both a b h k = val_cmp-same a b (go (val_cmp a b) (val_cmp b a) (val_cmp_tot
     go o Equal e h k = e
     go o Greater e h k = absurd (true≢false (sym k))
 
--- the least value is below all, and is one of them
-pub least-below : (c : ℕ) (x : Row) (xs : List Row) → list_all (λ r. is_le (val_cmp (least_of c x xs) (value_at r c))) (x ∷ xs) ≡ true
-least-below c x [] = and-both _ true (val-refl (value_at x c)) refl
-least-below c x (y ∷ ys) = cases (is_le (val_cmp (value_at x c) (least_of c y ys))) refl (least-below c y ys)
-  where
-    v : Val
-    v = least_of c y ys
+-- the least and the greatest value: one of the values, and none of them comes before it
+pub record Extreme (of : ℕ → Row → List Row → Val) (before : Val → Val → Bool) : Type 0 where
+  pub among : (c : ℕ) (x : Row) (xs : List Row) (p : Val → Bool) → list_all (λ r. p (value_at r c)) (x ∷ xs) ≡ true → p (of c x xs) ≡ true
+  pub first : (c : ℕ) (x : Row) (xs : List Row) → list_all (λ r. before (of c x xs) (value_at r c)) (x ∷ xs) ≡ true
+  pub trans : (a b c : Val) → before a b ≡ true → before b c ≡ true → before a c ≡ true
+  pub both : (a b : Val) → before a b ≡ true → before b a ≡ true → a ≡ b
 
-    cases : (b : Bool) → is_le (val_cmp (value_at x c) (least_of c y ys)) ≡ b
-        → list_all (λ r. is_le (val_cmp (least_of c y ys) (value_at r c))) (y ∷ ys) ≡ true
-        → list_all (λ r. is_le (val_cmp (cond b (value_at x c) (least_of c y ys)) (value_at r c))) (x ∷ y ∷ ys) ≡ true
-    cases true e ih = and-both _ _ (val-refl (value_at x c))
-        (list_all-weaken (λ r. is_le (val_cmp (least_of c y ys) (value_at r c))) (λ r. is_le (val_cmp (value_at x c) (value_at r c)))
-        (λ r k. val-trans (value_at x c) (least_of c y ys) (value_at r c) e k) (y ∷ ys) ih)
-    cases false e ih = and-both _ _ (val-other (value_at x c) (least_of c y ys) e) ih
+-- one of two values, before both
+pub record Chosen (before : Val → Val → Bool) (a b chosen : Val) : Type 0 where
+  pub one_of : (p : Val → Bool) → p a ≡ true → p b ≡ true → p chosen ≡ true
+  pub before_first : before chosen a ≡ true
+  pub before_second : before chosen b ≡ true
 
-pub least-among : (c : ℕ) (x : Row) (xs : List Row) (p : Val → Bool) → list_all (λ r. p (value_at r c)) (x ∷ xs) ≡ true → p (least_of c x xs) ≡ true
-least-among c x [] p h = and-left (p (value_at x c)) true h
-least-among c x (y ∷ ys) p h = cases (is_le (val_cmp (value_at x c) (least_of c y ys)))
-    (least-among c y ys p (and-right (p (value_at x c)) (list_all (λ r. p (value_at r c)) (y ∷ ys)) h))
-  where
-    cases : (b : Bool) → p (least_of c y ys) ≡ true → p (cond b (value_at x c) (least_of c y ys)) ≡ true
-    cases true ih = and-left (p (value_at x c)) (list_all (λ r. p (value_at r c)) (y ∷ ys)) h
-    cases false ih = ih
+module _ (of : ℕ → Row → List Row → Val) (before : Val → Val → Bool) (choose : Val → Val → Val)
+    (of_one : (c : ℕ) (x : Row) → of c x [] ≡ value_at x c) (of_more : (c : ℕ) (x y : Row) (ys : List Row) → of c x (y ∷ ys) ≡ choose (value_at x c) (of c y ys))
+    (chooses : (a b : Val) → Chosen before a b (choose a b)) (itself : (a : Val) → before a a ≡ true)
+    (trans : (a b c : Val) → before a b ≡ true → before b c ≡ true → before a c ≡ true) where
+  extreme-among : (c : ℕ) (x : Row) (xs : List Row) (p : Val → Bool) → list_all (λ r. p (value_at r c)) (x ∷ xs) ≡ true → p (of c x xs) ≡ true
+  extreme-among c x [] p h = ap p (of_one c x) ∙ and-left (p (value_at x c)) true h
+  extreme-among c x (y ∷ ys) p h =
+      let rest : Bool = list_all (λ r. p (value_at r c)) (y ∷ ys) in
+      ap p (of_more c x y ys) ∙ (chooses (value_at x c) (of c y ys)).one_of p (and-left (p (value_at x c)) rest h) (extreme-among c y ys p (and-right (p (value_at x c)) rest h))
 
-pub greatest-above : (c : ℕ) (x : Row) (xs : List Row) → list_all (λ r. is_le (val_cmp (value_at r c) (greatest_of c x xs))) (x ∷ xs) ≡ true
-greatest-above c x [] = and-both _ true (val-refl (value_at x c)) refl
-greatest-above c x (y ∷ ys) = cases (is_le (val_cmp (value_at x c) (greatest_of c y ys))) refl (greatest-above c y ys)
-  where
-    cases : (b : Bool) → is_le (val_cmp (value_at x c) (greatest_of c y ys)) ≡ b
-        → list_all (λ r. is_le (val_cmp (value_at r c) (greatest_of c y ys))) (y ∷ ys) ≡ true
-        → list_all (λ r. is_le (val_cmp (value_at r c) (cond b (greatest_of c y ys) (value_at x c)))) (x ∷ y ∷ ys) ≡ true
-    cases true e ih = and-both _ _ e ih
-    cases false e ih = and-both _ _ (val-refl (value_at x c))
-        (list_all-weaken (λ r. is_le (val_cmp (value_at r c) (greatest_of c y ys))) (λ r. is_le (val_cmp (value_at r c) (value_at x c)))
-        (λ r k. val-trans (value_at r c) (greatest_of c y ys) (value_at x c) k (val-other (value_at x c) (greatest_of c y ys) e)) (y ∷ ys) ih)
+  extreme-first : (c : ℕ) (x : Row) (xs : List Row) → list_all (λ r. before (of c x xs) (value_at r c)) (x ∷ xs) ≡ true
+  extreme-first c x [] = and-both _ true (ap (λ v. before v (value_at x c)) (of_one c x) ∙ itself (value_at x c)) refl
+  extreme-first c x (y ∷ ys) =
+      let k = chooses (value_at x c) (of c y ys) in
+      let v : Val = choose (value_at x c) (of c y ys) in
+      let P : Val → Type 0 = λ u. list_all (λ r. before u (value_at r c)) (x ∷ y ∷ ys) ≡ true in
+      subst P (sym (of_more c x y ys)) (and-both (before v (value_at x c)) (list_all (λ r. before v (value_at r c)) (y ∷ ys)) k.before_first
+      (list_all-weaken (λ r. before (of c y ys) (value_at r c)) (λ r. before v (value_at r c)) (λ r e. trans v (of c y ys) (value_at r c) k.before_second e) (y ∷ ys) (extreme-first c y ys)))
 
-pub greatest-among : (c : ℕ) (x : Row) (xs : List Row) (p : Val → Bool) → list_all (λ r. p (value_at r c)) (x ∷ xs) ≡ true → p (greatest_of c x xs) ≡ true
-greatest-among c x [] p h = and-left (p (value_at x c)) true h
-greatest-among c x (y ∷ ys) p h = cases (is_le (val_cmp (value_at x c) (greatest_of c y ys)))
-    (greatest-among c y ys p (and-right (p (value_at x c)) (list_all (λ r. p (value_at r c)) (y ∷ ys)) h))
+pub least-extreme : Extreme least_of (λ a b. is_le (val_cmp a b))
+least-extreme = record {
+  among = extreme-among least_of le smaller (λ c x. refl) (λ c x y ys. refl) chooses val-refl val-trans;
+  first = extreme-first least_of le smaller (λ c x. refl) (λ c x y ys. refl) chooses val-refl val-trans;
+  trans = val-trans;
+  both = val-both;
+}
   where
-    cases : (b : Bool) → p (greatest_of c y ys) ≡ true → p (cond b (greatest_of c y ys) (value_at x c)) ≡ true
-    cases true ih = ih
-    cases false ih = and-left (p (value_at x c)) (list_all (λ r. p (value_at r c)) (y ∷ ys)) h
+    le : Val → Val → Bool
+    le a b = is_le (val_cmp a b)
+
+    chooses : (a b : Val) → Chosen le a b (smaller a b)
+    chooses a b = go (is_le (val_cmp a b)) refl
+      where
+        go : (t : Bool) → is_le (val_cmp a b) ≡ t → Chosen le a b (cond t a b)
+        go true e = record { one_of = λ p u v. u; before_first = val-refl a; before_second = e }
+        go false e = record { one_of = λ p u v. v; before_first = val-other a b e; before_second = val-refl b }
+
+pub greatest-extreme : Extreme greatest_of (λ a b. is_le (val_cmp b a))
+greatest-extreme = record {
+  among = extreme-among greatest_of ge larger (λ c x. refl) (λ c x y ys. refl) chooses val-refl above;
+  first = extreme-first greatest_of ge larger (λ c x. refl) (λ c x y ys. refl) chooses val-refl above;
+  trans = above;
+  both = λ a b h k. val-both a b k h;
+}
+  where
+    ge : Val → Val → Bool
+    ge a b = is_le (val_cmp b a)
+
+    above : (a b c : Val) → is_le (val_cmp b a) ≡ true → is_le (val_cmp c b) ≡ true → is_le (val_cmp c a) ≡ true
+    above a b c h k = val-trans c b a k h
+
+    chooses : (a b : Val) → Chosen ge a b (larger a b)
+    chooses a b = go (is_le (val_cmp a b)) refl
+      where
+        go : (t : Bool) → is_le (val_cmp a b) ≡ t → Chosen ge a b (cond t b a)
+        go true e = record { one_of = λ p u v. v; before_first = e; before_second = val-refl b }
+        go false e = record { one_of = λ p u v. u; before_first = val-refl a; before_second = val-other a b e }
 
 pub nothing-same : (x : Row) (xs : List Row) → SameRows [] (x ∷ xs) → ⊥
 nothing-same x xs s = let e = s.totals (λ r. 1) in absurd (omega (arith, e))
 
+extreme-same : (of : ℕ → Row → List Row → Val) (before : Val → Val → Bool) → Extreme of before → (c : ℕ) (xs ys : List Row) → SameRows xs ys → first_or_none (of c) xs ≡ first_or_none (of c) ys
+extreme-same of before e c [] [] s = refl
+extreme-same of before e c [] (y ∷ ys) s = absurd (nothing-same y ys s)
+extreme-same of before e c (x ∷ xs) [] s = absurd (nothing-same x xs (SameRows-sym s))
+extreme-same of before e c (x ∷ xs) (y ∷ ys) s =
+    e.both (of c x xs) (of c y ys)
+    (e.among c y ys (λ v. before (of c x xs) v) (SameRows-all s (λ r. before (of c x xs) (value_at r c)) (e.first c x xs)))
+    (e.among c x xs (λ v. before (of c y ys) v) (SameRows-all (SameRows-sym s) (λ r. before (of c y ys) (value_at r c)) (e.first c y ys)))
+
 pub aggregate-same : (a : Aggregate) (xs ys : List Row) → SameRows xs ys → aggregate_of a xs ≡ aggregate_of a ys
-aggregate-same (least c) [] [] s = refl
-aggregate-same (least c) [] (y ∷ ys) s = absurd (nothing-same y ys s)
-aggregate-same (least c) (x ∷ xs) [] s = absurd (nothing-same x xs (SameRows-sym s))
-aggregate-same (least c) (x ∷ xs) (y ∷ ys) s =
-    val-both (least_of c x xs) (least_of c y ys)
-    (least-among c y ys (λ v. is_le (val_cmp (least_of c x xs) v)) (SameRows-all s (λ r. is_le (val_cmp (least_of c x xs) (value_at r c))) (least-below c x xs)))
-    (least-among c x xs (λ v. is_le (val_cmp (least_of c y ys) v)) (SameRows-all (SameRows-sym s) (λ r. is_le (val_cmp (least_of c y ys) (value_at r c))) (least-below c y ys)))
-aggregate-same (greatest c) [] [] s = refl
-aggregate-same (greatest c) [] (y ∷ ys) s = absurd (nothing-same y ys s)
-aggregate-same (greatest c) (x ∷ xs) [] s = absurd (nothing-same x xs (SameRows-sym s))
-aggregate-same (greatest c) (x ∷ xs) (y ∷ ys) s =
-    val-both (greatest_of c x xs) (greatest_of c y ys)
-    (greatest-among c x xs (λ v. is_le (val_cmp v (greatest_of c y ys))) (SameRows-all (SameRows-sym s) (λ r. is_le (val_cmp (value_at r c) (greatest_of c y ys))) (greatest-above c y ys)))
-    (greatest-among c y ys (λ v. is_le (val_cmp v (greatest_of c x xs))) (SameRows-all s (λ r. is_le (val_cmp (value_at r c) (greatest_of c x xs))) (greatest-above c x xs)))
+aggregate-same (least c) xs ys s = extreme-same least_of (λ a b. is_le (val_cmp a b)) least-extreme c xs ys s
+aggregate-same (greatest c) xs ys s = extreme-same greatest_of (λ a b. is_le (val_cmp b a)) greatest-extreme c xs ys s
 aggregate-same (sum c) xs ys s = ap num (sum-same c s)
 aggregate-same count_rows xs ys s = ap num (count-same s)
 

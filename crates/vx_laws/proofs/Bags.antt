@@ -1,7 +1,8 @@
 -- Totals of lists: each way to make a list from lists says what its totals are.
-use Rattle.std.proofs.Common.{◌≡◌, ℕ, zero, suc, ◌+◌, ◌<◌, ◌≤◌, ◌==◌, nat_lt, Bool, true, false, cond, not, ◌&&◌, List, [], ◌∷◌, ◌++◌, map, filter, flat_map, refl, sym, ap, ◌∙◌, arith, add_assoc, zero-add, true≢false, ltb-true, eqb-true, ne_eqb, eq-eqb, ◌≢◌}
+use Rattle.std.proofs.Common.{◌≡◌, ℕ, zero, suc, ◌+◌, ◌<◌, ◌≤◌, ◌==◌, nat_lt, Bool, true, false, cond, not, List, [], ◌∷◌, ◌++◌, map, filter, flat_map, length, refl, sym, ap, ◌∙◌, arith, add_assoc, zero-add, ltb-true, eqb-true, ne_eqb, eq-eqb, ◌≢◌}
 use Rattle.std.specs.List.{list_all}
 use Rattle.std.proofs.lemmas.Bool.{eqb-false}
+pub use Rattle.vx_values.proofs.Booleans.{and-left, and-right, and-both}
 use Rattle.vx_values.specs.Values.{Row}
 use Rattle.vx_rows.specs.Bags.{total, SameRows}
 use Rattle.vx_plan_nodes.specs.Streams.{Streams, across, joined, bearing, Dealt}
@@ -41,6 +42,11 @@ total-zero (x ∷ xs) = zero-add (total (λ x. 0) xs) ∙ total-zero xs
 pub total-add : {X : Type 0} (f g : X → ℕ) (xs : List X) → total (λ x. f x + g x) xs ≡ total f xs + total g xs
 total-add f g [] = refl
 total-add f g (x ∷ xs) = omega (arith, total-add f g xs)
+
+-- as many ones as elements
+pub total-ones : {X : Type 0} (xs : List X) → total (λ x. 1) xs ≡ length xs
+total-ones [] = refl
+total-ones (x ∷ xs) = let e = total-ones xs in omega (arith, e)
 
 pub total-joined : (f : Row → ℕ) (n : ℕ) (s : Streams) → total f (joined n s) ≡ across n (λ i. total f (s i))
 total-joined f zero s = refl
@@ -108,17 +114,6 @@ across-one (suc n) k v l = cases (k == n) refl (across-one n k v)
 pub total-bearing : (f : Row → ℕ) (i : ℕ) (ts : List (ℕ × Row)) → total f (bearing i ts) ≡ total (λ t. when (t.0 == i) (f t.1)) ts
 total-bearing f i [] = refl
 total-bearing f i (t ∷ ts) = total-cond f (t.0 == i) t.1 (bearing i ts) ∙ ap (λ n. when (t.0 == i) (f t.1) + n) (total-bearing f i ts)
-
-pub and-left : (a b : Bool) → (a && b) ≡ true → a ≡ true
-and-left true b e = refl
-and-left false b e = e
-
-pub and-right : (a b : Bool) → (a && b) ≡ true → b ≡ true
-and-right true b e = e
-and-right false b e = absurd (true≢false (sym e))
-
-pub and-both : (a b : Bool) → a ≡ true → b ≡ true → (a && b) ≡ true
-and-both a b e f = rw (e, f) refl
 
 -- each numbered row counts for one of n
 pub numbered-total : (f : Row → ℕ) (n : ℕ) (ts : List (ℕ × Row)) → list_all (λ t. nat_lt t.0 n) ts ≡ true

@@ -1,21 +1,18 @@
 -- Union and join keep the parts that the rule table shows.
-use Rattle.std.proofs.Common.{◌≡◌, ℕ, ◌+◌, ◌-◌, ◌<◌, ◌==◌, nat_lt, nat_le, Bool, true, false, cond, ◌&&◌, ⊎_elim, List, [], ◌∷◌, ◌++◌, map, length, refl, sym, ap, ◌∙◌, subst, arith, true≢false, Some, None, eqb-true, ltb-true, lt-ltb}
+use Rattle.std.proofs.Common.{◌≡◌, ℕ, ◌+◌, ◌-◌, ◌<◌, ◌==◌, nat_lt, nat_le, Bool, true, false, cond, List, [], ◌∷◌, ◌++◌, map, refl, sym, ap, ◌∙◌, subst, arith, true≢false, Some, None, eqb-true, ltb-true, lt-ltb}
 use Rattle.std.specs.List.{list_all}
-use Rattle.vx_values.specs.Values.{Row, pick}
+use Rattle.vx_values.specs.Values.{Row}
 use Rattle.vx_rows.specs.Bags.{total, SameRows}
 use Rattle.vx_plan_nodes.specs.Plan.{Route, Part, one, any, all, routed}
-use Rattle.vx_plan_nodes.specs.Types.{part_columns}
 use Rattle.vx_relations.specs.Catalog.{all_below}
 use Rattle.vx_plan_nodes.specs.Serial.{join_rows}
 use Rattle.vx_plan_nodes.specs.Streams.{Streams, joined, across}
 use Rattle.vx_plan_nodes.specs.Routes.{Routing}
-use Rattle.vx_check_rules.specs.Rules.{part_gives, route_eq, numbers_eq, all_pairs, routed_alike, alike_shows, right_columns, left_columns, if_some, is_prefix}
+use Rattle.vx_check_rules.specs.Rules.{part_gives, route_eq, all_pairs, routed_alike, right_columns, left_columns, is_prefix}
 use Rattle.vx_check_rules.specs.Claims.{PartHolds, InItsStream}
 use Rattle.vx_laws.proofs.Bags.{and-left, and-right, and-both, total-append, total-joined, across-ext, across-add, stream-all, SameRows-all, SameRows-sym}
-use Rattle.vx_laws.proofs.Parts.{or-cases, route_eq-is, numbers_eq-is, list_all-always}
-use Rattle.vx_laws.proofs.Copies.{if_some-is}
-use Rattle.vx_laws.proofs.Join.{pick-left, pick-minus, join-alike}
-use Rattle.vx_laws.proofs.JoinOrder.{wide, join-all, list_all-append}
+use Rattle.vx_laws.proofs.Parts.{route_eq-is}
+use Rattle.vx_laws.proofs.Join.{join-alike}
 
 -- what holds of the serial rows holds of each stream's
 pub streams-all : (goes : Routing) (q : Part) (n : ℕ) (s : Streams) (base : List Row) → PartHolds goes q n s base
@@ -51,38 +48,7 @@ append-same {xs} {xs'} {ys} {ys'} a b = record {
       omega (arith, x, y, u, v);
 }
 
-pub union-part : (goes : Routing) (q : Part) (n : ℕ) (s t s' : Streams) (base rbase : List Row) → ((w : ℕ) → w < n → (s w ++ t w) ≡ s' w)
-    → PartHolds goes q n s base → PartHolds goes q n t rbase → PartHolds goes q n s' (base ++ rbase)
-union-part goes one n s t s' base rbase run h k = (h.0, union-any n s t s' base rbase run h.1 k.1)
-union-part goes any n s t s' base rbase run h k = union-any n s t s' base rbase run h k
-union-part goes all n s t s' base rbase run h k = λ w l.
-    let P : List Row → Type 0 = λ xs. SameRows xs (base ++ rbase) in subst P (run w l) (append-same (h w l) (k w l))
-union-part goes (routed r cols) n s t s' base rbase run h k = (
-  union-any n s t s' base rbase run h.0 k.0,
-  λ w l.
-      let P : List Row → Type 0 = λ xs. list_all (λ row. goes r (pick cols row) n == w) xs ≡ true in
-      subst P (run w l) (list_all-append (λ row. goes r (pick cols row) n == w) (s w) (t w) (h.1 w l) (k.1 w l)),
-)
-
--- join: a route of the left rows, and one of the right rows
-pub stream-left : (goes : Routing) (v : Route) (cols : List ℕ) (on : List (ℕ × ℕ)) (wd n : ℕ) (s t s' : Streams)
-    → ((w : ℕ) → w < n → join_rows on (s w) (t w) ≡ s' w) → ((w : ℕ) → w < n → wide wd (s w) ≡ true) → all_below wd cols ≡ true
-    → InItsStream goes v cols n s → InItsStream goes v cols n s'
-stream-left goes v cols on wd n s t s' run ws below h w l =
-    let q : Row → Bool = λ row. goes v (pick cols row) n == w in
-    let P : List Row → Type 0 = λ xs. list_all q xs ≡ true in
-    let both : (xs : List Row) → list_all q xs ≡ true → wide wd xs ≡ true → list_all (λ x. q x && (length x == wd)) xs ≡ true = all-two q (λ x. length x == wd) in
-    subst P (run w l) (join-all (λ x. q x && (length x == wd)) (λ r. true) q on (s w) (t w)
-    (λ x r e _. ap (λ k. goes v k n == w) (pick-left wd cols x r below (eqb-true (length x) wd (and-right (q x) (length x == wd) e))) ∙ and-left (q x) (length x == wd) e)
-    (both (s w) (h w l) (ws w l)) (list_all-always (λ r. true) (λ r. refl) (t w)))
-  where
-    all-two : (p q : Row → Bool) (xs : List Row) → list_all p xs ≡ true → list_all q xs ≡ true → list_all (λ x. p x && q x) xs ≡ true
-    all-two p q [] h k = refl
-    all-two p q (x ∷ xs) h k =
-        and-both (p x && q x) (list_all (λ y. p y && q y) xs)
-        (and-both (p x) (q x) (and-left (p x) (list_all p xs) h) (and-left (q x) (list_all q xs) k))
-        (all-two p q xs (and-right (p x) (list_all p xs) h) (and-right (q x) (list_all q xs) k))
-
+-- join
 pub right_columns-is : (w : ℕ) (cols cs : List ℕ) → right_columns w cols ≡ Some cs → (list_all (λ c. nat_le w c) cols ≡ true) × (map (λ c. c - w) cols ≡ cs)
 right_columns-is w cols cs e = go (list_all (λ c. nat_le w c) cols) e
   where
@@ -97,59 +63,20 @@ left_columns-is w cols cs e = go (all_below w cols) e
     go true e = (refl, cc)
     go false e = cc
 
-pub stream-right : (goes : Routing) (v : Route) (cols cs : List ℕ) (on : List (ℕ × ℕ)) (wd n : ℕ) (s t s' : Streams)
-    → ((w : ℕ) → w < n → join_rows on (s w) (t w) ≡ s' w) → ((w : ℕ) → w < n → wide wd (s w) ≡ true) → right_columns wd cols ≡ Some cs
-    → InItsStream goes v cs n t → InItsStream goes v cols n s'
-stream-right goes v cols cs on wd n s t s' run ws e h w l =
-    let k = right_columns-is wd cols cs e in
-    let q : Row → Bool = λ row. goes v (pick cols row) n == w in
-    let p : Row → Bool = λ row. goes v (pick cs row) n == w in
-    let P : List Row → Type 0 = λ xs. list_all q xs ≡ true in
-    subst P (run w l) (join-all (λ x. length x == wd) p q on (s w) (t w)
-    (λ x r a b.
-    ap (λ y. goes v y n == w) (pick-minus wd cols x r k.0 (eqb-true (length x) wd a) ∙ ap (λ y. pick y r) k.1) ∙ b)
-    (ws w l) (h w l))
-
--- by like routes
-pub join-alike-part : (goes : Routing) (on : List (ℕ × ℕ)) (wd : ℕ) (pp qp x : Part) (n : ℕ) (s t s' : Streams) (base rbase : List Row)
-    → routed_alike on pp qp ≡ true → alike_shows wd pp qp x ≡ true
-    → ((w : ℕ) → w < n → join_rows on (s w) (t w) ≡ s' w) → ((w : ℕ) → w < n → wide wd (s w) ≡ true) → all_below wd (part_columns pp) ≡ true
-    → PartHolds goes pp n s base → PartHolds goes qp n t rbase → PartHolds goes x n s' (join_rows on base rbase)
-join-alike-part goes on wd one qp x n s t s' base rbase ra sh run ws below hp hq = absurd (true≢false (sym ra))
-join-alike-part goes on wd any qp x n s t s' base rbase ra sh run ws below hp hq = absurd (true≢false (sym ra))
-join-alike-part goes on wd all qp x n s t s' base rbase ra sh run ws below hp hq = absurd (true≢false (sym ra))
-join-alike-part goes on wd (routed r ls) one x n s t s' base rbase ra sh run ws below hp hq = absurd (true≢false (sym ra))
-join-alike-part goes on wd (routed r ls) any x n s t s' base rbase ra sh run ws below hp hq = absurd (true≢false (sym ra))
-join-alike-part goes on wd (routed r ls) all x n s t s' base rbase ra sh run ws below hp hq = absurd (true≢false (sym ra))
-join-alike-part goes on wd (routed r ls) (routed u rs) x n s t s' base rbase ra sh run ws below hp hq =
-    let ru : r ≡ u = route_eq-is r u (and-left (route_eq r u) (all_pairs on ls rs) ra) in
+-- inputs that are routed alike: rows that are paired meet, and neither input has all rows on each worker
+pub join-met : (goes : Routing) (on : List (ℕ × ℕ)) (pp qp : Part) (n : ℕ) (s t s' : Streams) (base rbase : List Row)
+    → routed_alike on pp qp ≡ true → ((w : ℕ) → w < n → join_rows on (s w) (t w) ≡ s' w) → PartHolds goes pp n s base → PartHolds goes qp n t rbase
+    → SameRows (joined n s') (join_rows on base rbase) × (part_gives pp all ≡ false) × (part_gives qp all ≡ false)
+join-met goes on one qp n s t s' base rbase ra run hp hq = absurd (true≢false (sym ra))
+join-met goes on any qp n s t s' base rbase ra run hp hq = absurd (true≢false (sym ra))
+join-met goes on all qp n s t s' base rbase ra run hp hq = absurd (true≢false (sym ra))
+join-met goes on (routed r ls) one n s t s' base rbase ra run hp hq = absurd (true≢false (sym ra))
+join-met goes on (routed r ls) any n s t s' base rbase ra run hp hq = absurd (true≢false (sym ra))
+join-met goes on (routed r ls) all n s t s' base rbase ra run hp hq = absurd (true≢false (sym ra))
+join-met goes on (routed r ls) (routed u rs) n s t s' base rbase ra run hp hq =
     let U : Route → Type 0 = λ k. InItsStream goes k rs n t in
-    let same : SameRows (joined n s') (join_rows on base rbase)
-    = join-alike goes r on ls rs n s t s' base rbase (and-right (route_eq r u) (all_pairs on ls rs) ra) run hp.0 hp.1 hq.0 (subst U (sym ru) hq.1) in
-    shown x sh same
-  where
-    shown : (x : Part) → alike_shows wd (routed r ls) (routed u rs) x ≡ true → SameRows (joined n s') (join_rows on base rbase) → PartHolds goes x n s' (join_rows on base rbase)
-    shown one sh same = absurd (true≢false (sym sh))
-    shown any sh same = same
-    shown all sh same = absurd (true≢false (sym sh))
-    shown (routed v cols) sh same = (
-      same,
-      ⊎_elim
-          (λ by_left.
-          let rv : r ≡ v = route_eq-is r v (and-left (route_eq r v) (numbers_eq ls cols) by_left) in
-          let lc : ls ≡ cols = numbers_eq-is ls cols (and-right (route_eq r v) (numbers_eq ls cols) by_left) in
-          let A : Route → Type 0 = λ k. InItsStream goes k ls n s' in
-          let B : List ℕ → Type 0 = λ k. InItsStream goes v k n s' in
-          subst B lc (subst A rv (stream-left goes r ls on wd n s t s' run ws below hp.1)))
-          (λ by_right.
-          let w = if_some-is (right_columns wd cols) (λ cs. part_gives (routed u rs) (routed v cs)) by_right in
-          let uv : u ≡ v = route_eq-is u v (and-left (route_eq u v) (numbers_eq rs w.0) w.2) in
-          let rc : rs ≡ w.0 = numbers_eq-is rs w.0 (and-right (route_eq u v) (numbers_eq rs w.0) w.2) in
-          let A : Route → Type 0 = λ k. InItsStream goes k rs n t in
-          let B : List ℕ → Type 0 = λ k. InItsStream goes v k n t in
-          stream-right goes v cols w.0 on wd n s t s' run ws w.1 (subst B rc (subst A uv hq.1)))
-          (or-cases (part_gives (routed r ls) (routed v cols)) (if_some (right_columns wd cols) (λ cs. part_gives (routed u rs) (routed v cs))) sh),
-    )
+    let same : r ≡ u = route_eq-is r u (and-left (route_eq r u) (all_pairs on ls rs) ra) in
+    (join-alike goes r on ls rs n s t s' base rbase (and-right (route_eq r u) (all_pairs on ls rs) ra) run hp.0 hp.1 hq.0 (subst U (sym same) hq.1), refl, refl)
 
 pub front-below : (w : ℕ) (cs ds : List ℕ) → is_prefix cs ds ≡ true → all_below w ds ≡ true → all_below w cs ≡ true
 front-below w [] ds f h = refl

@@ -1,17 +1,21 @@
 -- Lists one after the other are sorted where a range routed their rows.
-use Rattle.std.proofs.Common.{◌≡◌, ℕ, zero, suc, ◌<◌, ◌≤◌, ◌==◌, nat_lt, Bool, true, List, [], ◌∷◌, ◌++◌, refl, ap, ◌∙◌, arith, eqb-true, ltb-true, lt-ltb, is_le, Ordering, Less, Equal, Greater}
+use Rattle.std.proofs.Common.{⊎_elim, ◌&&◌, ◌||◌, ◌≡◌, ℕ, zero, suc, ◌<◌, ◌≤◌, ◌==◌, nat_lt, Bool, true, true≢false, List, [], ◌∷◌, ◌++◌, refl, sym, subst, ap, ◌∙◌, arith, eqb-true, ltb-true, lt-ltb, is_le, Ordering, Less, Equal, Greater}
 use Rattle.std.specs.List.{list_all}
 use Rattle.std.specs.Ordering.{ordering_then, ordering_reverse}
 use Rattle.vx_values.specs.Values.{Row, val_cmp, value_at, pick}
 use Rattle.vx_rows.specs.Order.{compare_on, sorted}
-use Rattle.vx_plan_nodes.specs.Plan.{by_range}
+use Rattle.vx_plan_nodes.specs.Plan.{Plan, claim, size, is_one, Claim, Part, one, any, all, routed, by_hash, by_range, ExchangeKind, route_to, round, broadcast, gather, concat}
+use Rattle.vx_plan_nodes.specs.Runs.{is_concat}
+use Rattle.vx_check_rules.specs.Rules.{is_prefix, rises_by, goes_on}
 use Rattle.vx_plan_nodes.specs.Streams.{Streams, joined}
 use Rattle.vx_plan_nodes.specs.Routes.{Routing}
 use Rattle.vx_rows.proofs.Compare.{val_cmp_total}
 use Rattle.vx_laws.proofs.Bags.{and-left, and-right, and-both}
-use Rattle.vx_laws.proofs.Parts.{list_all-weaken}
-use Rattle.vx_laws.proofs.JoinOrder.{list_all-append}
+use Rattle.vx_laws.proofs.Parts.{list_all-weaken, or-cases}
+use Rattle.vx_laws.proofs.Orders.{sorted-front}
+use Rattle.vx_laws.proofs.JoinOrder.{all-append}
 use Rattle.vx_laws.proofs.Groups.{joined-all}
+use Rattle.vx_laws.proofs.Places.{Placed}
 
 -- two sorted lists, of which no row of the second is smaller than one of the first
 pub sorted-two : (cs : List ℕ) (xs ys : List Row) → sorted cs xs ≡ true → sorted cs ys ≡ true
@@ -21,7 +25,7 @@ sorted-two cs (x ∷ xs) ys h k b =
     let le : Row → Bool = λ y. is_le (compare_on cs x y) in
     let rest : Bool = list_all (λ x. list_all (λ y. is_le (compare_on cs x y)) ys) xs in
     and-both (list_all le (xs ++ ys)) (sorted cs (xs ++ ys))
-    (list_all-append le xs ys (and-left (list_all le xs) (sorted cs xs) h) (and-left (list_all le ys) rest b))
+    (all-append le xs ys (and-left (list_all le xs) (sorted cs xs) h) (and-left (list_all le ys) rest b))
     (sorted-two cs xs ys (and-right (list_all le xs) (sorted cs xs) h) k (and-right (list_all le ys) rest b))
 
 abbrev pub Rising : Routing → Type 0
@@ -53,3 +57,37 @@ module _ (goes : Routing) (rising : Rising goes) (k c : ℕ) (cs : List ℕ) (n 
       (λ x e. list_all-weaken (λ row. place row == m) (λ y. is_le (compare_on (c ∷ cs) x y))
       (λ y f. let a : place x < m = ltb-true (place x) m e in let b : place y ≡ m = eqb-true (place y) m f in below x y (omega (arith, a, b))) (s m) last)
       (joined m s) before)
+
+-- lists whose rows stand where a range on the first column of their order routes them are in order one after the other
+pub ranged : (goes : Routing) → Rising goes → (q : Part) (order : List ℕ) (m : ℕ) (s : Streams) → rises_by q order ≡ true
+    → ((i : ℕ) → i < m → sorted order (s i) ≡ true) → ((i : ℕ) → i < m → Placed goes q m i (s i)) → sorted order (joined m s) ≡ true
+ranged goes rising one order m s e up at = absurd (true≢false (sym e))
+ranged goes rising any order m s e up at = absurd (true≢false (sym e))
+ranged goes rising all order m s e up at = absurd (true≢false (sym e))
+ranged goes rising (routed (by_hash name) cols) order m s e up at = absurd (true≢false (sym e))
+ranged goes rising (routed (by_range k) []) order m s e up at = absurd (true≢false (sym e))
+ranged goes rising (routed (by_range k) (a ∷ b ∷ cols)) order m s e up at = absurd (true≢false (sym e))
+ranged goes rising (routed (by_range k) (a ∷ [])) [] m s e up at = absurd (true≢false (sym e))
+ranged goes rising (routed (by_range k) (a ∷ [])) (d ∷ order) m s e up at =
+    let Q : ℕ → Type 0 = λ v. (i : ℕ) → i < m → list_all (λ row. goes (by_range k) (pick (v ∷ []) row) m == i) (s i) ≡ true in
+    joined-sorted goes rising k d order m m s (subst Q (eqb-true a d e) at) up
+
+-- an order goes on only in a concat of such lists
+pub goes-on-is : (k : ExchangeKind) (c : Claim) → goes_on k c ≡ true → (is_concat k ≡ true) × (rises_by c.part c.order ≡ true)
+goes-on-is (route_to z r cols) c e = absurd (true≢false (sym e))
+goes-on-is (round z) c e = absurd (true≢false (sym e))
+goes-on-is (broadcast z) c e = absurd (true≢false (sym e))
+goes-on-is gather c e = absurd (true≢false (sym e))
+goes-on-is concat c e = (refl, e)
+
+-- what an exchange puts out is in the order that it shows: the one that it merges by, or the input's from one worker, or that of a concat that goes on
+pub exchange-sorted : (p : Plan) (kind : ExchangeKind) (merge order : List ℕ) (out : List Row)
+    → (is_prefix order merge || ((is_one (size p) || goes_on kind (claim p)) && is_prefix order (claim p).order)) ≡ true → sorted merge out ≡ true
+    → (is_one (size p) ≡ true → sorted (claim p).order out ≡ true) → (goes_on kind (claim p) ≡ true → sorted (claim p).order out ≡ true) → sorted order out ≡ true
+exchange-sorted p kind merge order out h by_merge from_one on_it_goes = ⊎_elim
+    (λ e. sorted-front order merge e out by_merge)
+    (λ e.
+    let there : Bool = is_one (size p) || goes_on kind (claim p) in
+    sorted-front order (claim p).order (and-right there (is_prefix order (claim p).order) e) out
+    (⊎_elim from_one on_it_goes (or-cases (is_one (size p)) (goes_on kind (claim p)) (and-left there (is_prefix order (claim p).order) e))))
+    (or-cases (is_prefix order merge) ((is_one (size p) || goes_on kind (claim p)) && is_prefix order (claim p).order) h)

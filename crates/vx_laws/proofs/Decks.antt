@@ -9,6 +9,7 @@ use Rattle.vx_values.specs.Values.{Row}
 use Rattle.vx_plan_nodes.specs.Streams.{across, bearing, Dealt}
 use Rattle.vx_morsel.specs.Draws.{Draws, times, once_below, AllAbove, Rises}
 use Rattle.vx_worker.specs.Morsels.{morsel_of, morsel_count, morsels, Dispatched}
+use Rattle.vx_ends.proofs.Deals.{bearing-append}
 use Rattle.vx_laws.proofs.Bags.{across-least, eqb-refl, and-both}
 
 -- the seat that drew x
@@ -86,15 +87,6 @@ tagged o f k (suc c) = map (λ row. (o k, row)) (f k) ++ tagged o f (suc k) c
 abbrev pub all_from : (ℕ → List Row) → ℕ → ℕ → List Row
 all_from f k zero = []
 all_from f k (suc c) = f k ++ all_from f (suc k) c
-
-pub bearing-append : (i : ℕ) (xs ys : List (ℕ × Row)) → bearing i (xs ++ ys) ≡ bearing i xs ++ bearing i ys
-bearing-append i [] ys = refl
-bearing-append i (x ∷ xs) ys = go (x.0 == i) (bearing-append i xs ys)
-  where
-    go : (b : Bool) → bearing i (xs ++ ys) ≡ bearing i xs ++ bearing i ys
-        → cond b (x.1 ∷ bearing i (xs ++ ys)) (bearing i (xs ++ ys)) ≡ cond b (x.1 ∷ bearing i xs) (bearing i xs) ++ bearing i ys
-    go true e = ap (λ zs. x.1 ∷ zs) e
-    go false e = e
 
 pub bearing-tag : (i a : ℕ) (xs : List Row) → bearing i (map (λ row. (a, row)) xs) ≡ cond (a == i) xs []
 bearing-tag i a [] = go (a == i)

@@ -1,27 +1,16 @@
 -- The plan without exchanges has the same serial rows.
-use Rattle.std.proofs.Common.{◌≡◌, ℕ, ◌+◌, List, refl, ap, ◌∙◌, Option, Some, None, sym, ◌==◌, Bool, true, ◌&&◌}
+use Rattle.std.proofs.Common.{cond, ◌≡◌, ℕ, ◌+◌, List, refl, ap, ◌∙◌, Option, Some, None, sym, true}
 use Rattle.vx_values.specs.Values.{Row}
-use Rattle.vx_plan_nodes.specs.Plan.{Plan, scan, unary, binary, exchange, Claim, Unary, select, project, distinct, sort, group, plain, partial, final, Aggregate, Binary, union, join}
+use Rattle.vx_plan_nodes.specs.Plan.{Plan, scan, unary, binary, exchange, Unary, group, partial, Aggregate}
 use Rattle.vx_plan_nodes.specs.Serial.{SerialResult, rows, overflow, or_overflow, after, serial, unary_rows, binary_rows, IsOverflow, group_rows}
 use Rattle.vx_laws.specs.Faults.{ErasedOverflows}
-use Rattle.vx_plan_nodes.specs.Erase.{erase_from, nodes_left}
+use Rattle.vx_plan_nodes.specs.Erase.{no_claim, erase_from, nodes_left}
 use Rattle.vx_relations.specs.Relation.{Relation}
-use Rattle.vx_plan_nodes.specs.Phases.{phase_fits, both_closed}
 use Rattle.vx_plan_nodes.specs.Types.{well_formed, names_columns, width}
-use Rattle.vx_laws.proofs.Bags.{and-left, and-right}
+use Rattle.vx_laws.proofs.Bags.{and-left}
+use Rattle.vx_laws.proofs.Phased.{by-phase}
 use Rattle.vx_laws.proofs.Opened.{final-serial}
-
-pub well-left-of : (catalog : ℕ → Relation) (k : ℕ) (c : Claim) (op : Binary) (p q : Plan) → well_formed catalog (binary k c op p q) ≡ true → well_formed catalog p ≡ true
-well-left-of catalog k c union p q h = and-left (well_formed catalog p) _ h
-well-left-of catalog k c (join m on) p q h = and-left (well_formed catalog p) _ h
-
-pub well-right-of : (catalog : ℕ → Relation) (k : ℕ) (c : Claim) (op : Binary) (p q : Plan) → well_formed catalog (binary k c op p q) ≡ true → well_formed catalog q ≡ true
-well-right-of catalog k c union p q h =
-    let last : Bool = both_closed p q && ((width catalog p == width catalog q) && names_columns (width catalog p) c) in
-    and-left (well_formed catalog q) last (and-right (well_formed catalog p) (well_formed catalog q && last) h)
-well-right-of catalog k c (join m on) p q h =
-    let last : Bool = both_closed p q && names_columns (width catalog p + width catalog q) c in
-    and-left (well_formed catalog q) last (and-right (well_formed catalog p) (well_formed catalog q && last) h)
+use Rattle.vx_laws.proofs.WellFormed.{well-under, well-both}
 
 -- a list of rows, whatever node overflows
 abbrev pub list_of : SerialResult → Option (List Row)
@@ -41,8 +30,12 @@ after-list (overflow n) (overflow m) f g e h = refl
 pub erase-list : (catalog : ℕ → Relation) (db : ℕ → List Row) (i : ℕ) (p : Plan) → well_formed catalog p ≡ true → list_of (serial db (erase_from i p)) ≡ list_of (serial db p)
 erase-list catalog db i (scan n c r m z) wf = refl
 erase-list catalog db i (unary n c op p) wf =
-    go op (and-left (phase_fits op p) (names_columns (width catalog (unary n c op p)) c) (and-right (well_formed catalog p) (phase_fits op p && names_columns (width catalog (unary n c op p)) c) wf))
-    (λ j. erase-list catalog db j p (and-left (well_formed catalog p) (phase_fits op p && names_columns (width catalog (unary n c op p)) c) wf))
+    let ih : (j : ℕ) → list_of (serial db (erase_from j p)) ≡ list_of (serial db p) = λ j. erase-list catalog db j p (well-under catalog n c op p wf).0 in
+    by-phase
+    (λ op f. f.fits p ≡ true → list_of (serial db (cond f.ends (erase_from i p) (unary i no_claim f.once (erase_from (i + 1) p)))) ≡ list_of (serial db (unary n c op p)))
+    (λ op v e. over op ih) (λ by aggregates e. over (group partial by aggregates) ih)
+    (λ by aggregates e. ih i ∙ again by aggregates (serial db p) (λ xs h. final-serial db by aggregates p e xs h))
+    op (well-under catalog n c op p wf).1
   where
     over : (op : Unary) → ((j : ℕ) → list_of (serial db (erase_from j p)) ≡ list_of (serial db p))
         → list_of (after (serial db (erase_from (i + 1) p)) (λ xs. or_overflow i (unary_rows op xs))) ≡ list_of (after (serial db p) (λ xs. or_overflow n (unary_rows op xs)))
@@ -53,18 +46,8 @@ erase-list catalog db i (unary n c op p) wf =
         → list_of o ≡ list_of (after o (λ xs. or_overflow n (group_rows keys puts xs)))
     again keys puts (overflow m) h = refl
     again keys puts (rows xs) h = sym (ap (λ v. list_of (or_overflow n v)) (h xs refl))
-
-    go : (op : Unary) → phase_fits op p ≡ true → ((j : ℕ) → list_of (serial db (erase_from j p)) ≡ list_of (serial db p))
-        → list_of (serial db (erase_from i (unary n c op p))) ≡ list_of (serial db (unary n c op p))
-    go (select cs) e ih = over (select cs) ih
-    go (project cols) e ih = over (project cols) ih
-    go (distinct cols) e ih = over (distinct cols) ih
-    go (sort cols) e ih = over (sort cols) ih
-    go (group plain by aggregates) e ih = over (group plain by aggregates) ih
-    go (group partial by aggregates) e ih = over (group partial by aggregates) ih
-    go (group final by aggregates) e ih = ih i ∙ again by aggregates (serial db p) (λ xs h. final-serial db by aggregates p e xs h)
 erase-list catalog db i (binary n c op p q) wf = after-list _ _ (λ xs. after (serial db (erase_from (i + 1 + nodes_left p) q)) (λ ys. rows (binary_rows op xs ys))) (λ xs. after (serial db q) (λ ys. rows (binary_rows op xs ys)))
-    (erase-list catalog db (i + 1) p (well-left-of catalog n c op p q wf)) (λ xs. after-list _ _ (λ ys. rows (binary_rows op xs ys)) (λ ys. rows (binary_rows op xs ys)) (erase-list catalog db (i + 1 + nodes_left p) q (well-right-of catalog n c op p q wf)) (λ ys. refl))
+    (erase-list catalog db (i + 1) p (well-both catalog n c op p q wf).0) (λ xs. after-list _ _ (λ ys. rows (binary_rows op xs ys)) (λ ys. rows (binary_rows op xs ys)) (erase-list catalog db (i + 1 + nodes_left p) q (well-both catalog n c op p q wf).1) (λ ys. refl))
 erase-list catalog db i (exchange n c k m p) wf = erase-list catalog db i p (and-left (well_formed catalog p) (names_columns (width catalog p) c) wf)
 
 pub erased-rows : (catalog : ℕ → Relation) (db : ℕ → List Row) (i : ℕ) (p : Plan) (xs : List Row) → well_formed catalog p ≡ true → serial db p ≡ rows xs → serial db (erase_from i p) ≡ rows xs

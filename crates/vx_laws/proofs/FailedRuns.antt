@@ -7,6 +7,7 @@ use Rattle.vx_ops.specs.Ledger.{Stream, Ledger, fresh, one_op, scan_op, OwnBlame
 use Rattle.vx_worker.specs.Fragment.{fragment}
 use Rattle.vx_worker.specs.Trace.{failed, HasFailed}
 use Rattle.vx_ends.specs.Tasks.{keep}
+use Rattle.vx_ops.proofs.Turns.{ended-failed, same-fault}
 use Rattle.vx_laws.specs.Samples.{large, summing, summer, FailedRun}
 use Rattle.vx_ops.specs.declared.fault.Code.TheVariants.{Overflow}
 use Rattle.vx_ops.specs.declared.fault.Fault.{Fault}
@@ -30,15 +31,12 @@ grouping = record { left = all_rows; right = fresh; came = λ i. []; gave = stop
 abbrev nothing : Ledger
 nothing = record { left = fresh; right = fresh; came = λ i. []; gave = fresh }
 
-same-fault : (f g : Fault) → Failed f ≡ Failed g → f ≡ g
-same-fault f g e = cc
-
 abides-group : Abides (one_op 0 (group plain [] (sum 0 ∷ []))) grouping
 abides-group = record {
   before = begun_nothing (one_op 0 (group plain [] (sum 0 ∷ []))) grouping nothing []
       (record { left = record { rest = large.db 0; joined = refl }; right = all_of []; came = λ i. all_of [] }) refl refl;
   ended = λ e. absurd (not-ended e);
-  passes = λ f e. absurd (not-failed f e);
+  passes = λ f e. absurd (ended-failed f e);
   tests = tt;
   blame = λ f e.
       let P : Fault → Type 0 = λ x. OwnBlame (one_op 0 (group plain [] (sum 0 ∷ []))) grouping x in
@@ -47,9 +45,6 @@ abides-group = record {
   where
     not-ended : Failed (Own Overflow 0) ≡ Ended → ⊥
     not-ended e = cc
-
-    not-failed : (f : Fault) → Ended ≡ Failed f → ⊥
-    not-failed f e = cc
 
 failed-worker : HasFailed large (fragment large 0 summing) (keep []) (Own Overflow 0) summer
 failed-worker = record {

@@ -1,31 +1,32 @@
 -- Groups of streams, and of all rows.
-use Rattle.std.proofs.Common.{◌≡◌, ℕ, zero, suc, ◌<◌, ◌≤◌, ◌==◌, nat_lt, Bool, true, false, cond, not, ◌&&◌, ◌||◌, ◌⊎◌, inl, inr, List, [], ◌∷◌, ◌++◌, map, length, refl, sym, ap, ◌∙◌, subst, arith, true≢false, Some, slice_get, eqb-true, lt-ltb, is_le}
+use Rattle.std.proofs.Common.{◌≡◌, ℕ, zero, suc, ◌<◌, ◌≤◌, ◌==◌, nat_lt, Bool, true, false, cond, not, ◌&&◌, List, [], ◌∷◌, ◌++◌, map, length, refl, sym, ap, ap₂, ◌∙◌, subst, arith, Some, slice_get, eqb-true, lt-ltb, is_le}
+use Rattle.std.proofs.lemmas.Bool.{not-true}
 use Rattle.std.specs.List.{list_all}
 use Rattle.vx_values.specs.Values.{Row, row_eq, pick}
 use Rattle.vx_rows.specs.Order.{agree, sorted, compare_on}
 use Rattle.vx_rows.specs.Bags.{total, count, SameRows}
 use Rattle.vx_rows.specs.Keys.{HasKey}
-use Rattle.vx_plan_nodes.specs.Plan.{Route, Part, one, any, all, routed, Aggregate}
+use Rattle.vx_plan_nodes.specs.Plan.{Route, Aggregate}
 use Rattle.vx_relations.specs.Catalog.{all_below}
-use Rattle.vx_plan_nodes.specs.Serial.{firsts, group_keys, group_row, group_fits, of_key, aggregate_of}
+use Rattle.vx_plan_nodes.specs.Serial.{group_keys, group_row, group_fits, of_key, aggregate_of}
 use Rattle.vx_plan_nodes.specs.Streams.{Streams, joined}
 use Rattle.vx_plan_nodes.specs.Routes.{Routing}
-use Rattle.vx_check_rules.specs.Rules.{within, copied, numbers_below, part_gives, routed_within}
+use Rattle.vx_check_rules.specs.Rules.{within, copied, numbers_below}
 use Rattle.vx_check_rules.specs.Claims.{InItsStream}
 use Rattle.vx_laws.proofs.Bags.{and-left, and-right, and-both, total-map, total-joined, across-ext, SameRows-all, stream-all}
 use Rattle.vx_laws.proofs.Parts.{list_all-weaken, list_all-always}
 use Rattle.vx_laws.proofs.Keys.{agree-within}
 use Rattle.vx_rows.proofs.Compare.{row_eq-same, row_eq-refl, agree-both}
 use Rattle.vx_laws.proofs.Unary.{map-all, project-sorted}
-use Rattle.vx_laws.proofs.Copies.{copied-pick, copied-cons, copied-alone}
+use Rattle.vx_laws.proofs.Copies.{copied-cons}
 use Rattle.vx_laws.proofs.Join.{total-all-ext, pick-left, value-left}
-use Rattle.vx_laws.proofs.JoinOrder.{list_all-append, all-and, wide}
+use Rattle.vx_laws.proofs.JoinOrder.{all-append, all-and, wide}
 use Rattle.vx_laws.proofs.Widths.{firsts-all, picks-wide}
 use Rattle.vx_laws.proofs.Apart.{firsts-same, picks-same, firsts-joined, firsts-sorted, of_key-same, group_row-same, group_fits-same, key-apart, firsts-at-most, agree-value, below-contains, rows-equal, count-witness-in, count-mono-in}
 
 pub joined-all : (p : Row → Bool) (n : ℕ) (s : Streams) → ((w : ℕ) → w < n → list_all p (s w) ≡ true) → list_all p (joined n s) ≡ true
 joined-all p zero s h = refl
-joined-all p (suc n) s h = list_all-append p (joined n s) (s n) (joined-all p n s (λ w l. h w (omega arith))) (h n (omega arith))
+joined-all p (suc n) s h = all-append p (joined n s) (s n) (joined-all p n s (λ w l. h w (omega arith))) (h n (omega arith))
 
 -- what holds of each row's key holds of all keys
 pub keys-all : (by : List ℕ) (p : Row → Bool) (xs : List Row) → list_all (λ x. p (pick by x)) xs ≡ true → list_all p (group_keys by xs) ≡ true
@@ -48,16 +49,24 @@ groups-same by aggregates xs ys s = record {
       ∙ sym (total-map f (group_row by aggregates ys) (group_keys by ys))));
 }
 
-abbrev pub implies : Bool → Bool → Bool
-implies a b = not a || b
+-- both tests pass, or neither does
+abbrev alike : Bool → Bool → Bool
+alike true b = b
+alike false b = not b
 
-pub implies-from : (a b : Bool) → a ≡ b → implies a b ≡ true
-implies-from true b e = sym e
-implies-from false b e = refl
+alike-from : (a b : Bool) → a ≡ b → alike a b ≡ true
+alike-from true b e = sym e
+alike-from false b e = ap not (sym e)
 
-pub implies-take : (a b : Bool) → (a && implies a b) ≡ true → b ≡ true
-implies-take true b e = e
-implies-take false b e = absurd (true≢false (sym e))
+alike-same : (a b : Bool) → alike a b ≡ true → a ≡ b
+alike-same true b e = sym e
+alike-same false b e = sym (not-true b e)
+
+same-all : {X : Type 0} (f g : X → Bool) (xs : List X) → list_all (λ x. alike (f x) (g x)) xs ≡ true → list_all f xs ≡ list_all g xs
+same-all f g [] h = refl
+same-all f g (x ∷ xs) h =
+    let rest : Bool = list_all (λ y. alike (f y) (g y)) xs in
+    ap₂ (λ a b. a && b) (alike-same (f x) (g x) (and-left (alike (f x) (g x)) rest h)) (same-all f g xs (and-right (alike (f x) (g x)) rest h))
 
 pub fits-same-rows : (by : List ℕ) (aggregates : List Aggregate) (xs ys : List Row) → SameRows xs ys
     → list_all (group_fits by aggregates xs) (group_keys by xs) ≡ true → list_all (group_fits by aggregates ys) (group_keys by ys) ≡ true
@@ -89,46 +98,19 @@ module _ (goes : Routing) (rt : Route) (cols by : List ℕ) (aggregates : List A
         ∙ (sym (total-joined g n (λ i. group_keys by (s i))) ∙ (keys-joined.totals g ∙ sym (total-map f (group_row by aggregates base) (group_keys by base)))));
   }
 
+  -- the keys of a stream overflow there where they do among all rows
+  stream-fits : (i : ℕ) → i < n → list_all (group_fits by aggregates (s i)) (group_keys by (s i)) ≡ list_all (group_fits by aggregates base) (group_keys by (s i))
+  stream-fits i l = same-all (group_fits by aggregates (s i)) (group_fits by aggregates base) (group_keys by (s i))
+      (keys-all by (λ key. alike (group_fits by aggregates (s i) key) (group_fits by aggregates base key)) (s i)
+      (list_all-weaken (λ x. goes rt (pick cols x) n == i) (λ x. alike (group_fits by aggregates (s i) (pick by x)) (group_fits by aggregates base (pick by x)))
+      (λ x e. alike-from _ _ (group_fits-same by aggregates (s i) base (pick by x) (key-apart goes rt cols by n s base sub same apart i l x e))) (s i) (apart i l)))
+
   pub fits-joined : ((w : ℕ) → w < n → list_all (group_fits by aggregates (s w)) (group_keys by (s w)) ≡ true) → list_all (group_fits by aggregates base) (group_keys by base) ≡ true
-  fits-joined h = SameRows-all keys-joined (group_fits by aggregates base) (joined-all (group_fits by aggregates base) n (λ i. group_keys by (s i)) (λ i l.
-      list_all-weaken (λ key. group_fits by aggregates (s i) key && implies (group_fits by aggregates (s i) key) (group_fits by aggregates base key)) (group_fits by aggregates base)
-      (λ key e. implies-take (group_fits by aggregates (s i) key) (group_fits by aggregates base key) e) (group_keys by (s i))
-      (all-and (group_fits by aggregates (s i)) (λ key. implies (group_fits by aggregates (s i) key) (group_fits by aggregates base key)) (group_keys by (s i)) (h i l)
-      (keys-all by (λ key. implies (group_fits by aggregates (s i) key) (group_fits by aggregates base key)) (s i)
-      (list_all-weaken (λ x. goes rt (pick cols x) n == i) (λ x. implies (group_fits by aggregates (s i) (pick by x)) (group_fits by aggregates base (pick by x)))
-      (λ x e. implies-from _ _ (group_fits-same by aggregates (s i) base (pick by x) (key-apart goes rt cols by n s base sub same apart i l x e)))
-      (s i) (apart i l))))))
+  fits-joined h = SameRows-all keys-joined (group_fits by aggregates base) (joined-all (group_fits by aggregates base) n (λ i. group_keys by (s i)) (λ i l. sym (stream-fits i l) ∙ h i l))
 
   -- the other direction: where no key of all rows overflows, none of a stream does
   pub fits-split : list_all (group_fits by aggregates base) (group_keys by base) ≡ true → (i : ℕ) → i < n → list_all (group_fits by aggregates (s i)) (group_keys by (s i)) ≡ true
-  fits-split h i l =
-      let here : list_all (group_fits by aggregates base) (group_keys by (s i)) ≡ true
-      = stream-all n (λ j. group_keys by (s j)) (group_keys by base) keys-joined (group_fits by aggregates base) h i l in
-      list_all-weaken (λ key. group_fits by aggregates base key && implies (group_fits by aggregates base key) (group_fits by aggregates (s i) key)) (group_fits by aggregates (s i))
-      (λ key e. implies-take (group_fits by aggregates base key) (group_fits by aggregates (s i) key) e) (group_keys by (s i))
-      (all-and (group_fits by aggregates base) (λ key. implies (group_fits by aggregates base key) (group_fits by aggregates (s i) key)) (group_keys by (s i)) here
-      (keys-all by (λ key. implies (group_fits by aggregates base key) (group_fits by aggregates (s i) key)) (s i)
-      (list_all-weaken (λ x. goes rt (pick cols x) n == i) (λ x. implies (group_fits by aggregates base (pick by x)) (group_fits by aggregates (s i) (pick by x)))
-      (λ x e. implies-from _ _ (sym (group_fits-same by aggregates (s i) base (pick by x) (key-apart goes rt cols by n s base sub same apart i l x e))))
-      (s i) (apart i l))))
-
--- routes of output rows, through copied columns
-pub firsts-in-stream : (goes : Routing) (rt : Route) (kept cs ds : List ℕ) (n : ℕ) (s s' : Streams) → copied kept cs ≡ Some ds
-    → ((w : ℕ) → w < n → firsts (map (pick kept) (s w)) ≡ s' w) → InItsStream goes rt ds n s → InItsStream goes rt cs n s'
-firsts-in-stream goes rt kept cs ds n s s' e run h w l =
-    let P : List Row → Type 0 = λ xs. list_all (λ row. goes rt (pick cs row) n == w) xs ≡ true in
-    subst P (run w l) (keys-all kept (λ row. goes rt (pick cs row) n == w) (s w)
-    (list_all-weaken (λ row. goes rt (pick ds row) n == w) (λ row. goes rt (pick cs (pick kept row)) n == w)
-    (λ row t. ap (λ k. goes rt k n == w) (copied-alone kept cs ds row e) ∙ t) (s w) (h w l)))
-
-pub groups-in-stream : (goes : Routing) (rt : Route) (by cs ds : List ℕ) (aggregates : List Aggregate) (n : ℕ) (s s' : Streams) → copied by cs ≡ Some ds
-    → ((w : ℕ) → w < n → groups by aggregates (s w) ≡ s' w) → InItsStream goes rt ds n s → InItsStream goes rt cs n s'
-groups-in-stream goes rt by cs ds aggregates n s s' e run h w l =
-    let P : List Row → Type 0 = λ xs. list_all (λ row. goes rt (pick cs row) n == w) xs ≡ true in
-    subst P (run w l) (map-all (λ row. goes rt (pick cs row) n == w) (group_row by aggregates (s w)) (group_keys by (s w))
-    (keys-all by (λ key. goes rt (pick cs (group_row by aggregates (s w) key)) n == w) (s w)
-    (list_all-weaken (λ row. goes rt (pick ds row) n == w) (λ row. goes rt (pick cs (group_row by aggregates (s w) (pick by row))) n == w)
-    (λ row t. ap (λ k. goes rt k n == w) (copied-pick by cs ds row (map (λ a. aggregate_of a (of_key by (pick by row) (s w))) aggregates) e) ∙ t) (s w) (h w l))))
+  fits-split h i l = stream-fits i l ∙ stream-all n (λ j. group_keys by (s j)) (group_keys by base) keys-joined (group_fits by aggregates base) h i l
 
 -- order
 pub slice-below : (kept : List ℕ) (c d : ℕ) → slice_get kept c ≡ Some d → c < length kept
@@ -185,12 +167,3 @@ groups-key by x aggregates xs w row =
     let m = firsts-at-most k0 (map (pick by) xs) in
     omega (arith, a, m)) in
     omega (arith, e, b)
-
--- which of the three ways an input is fit for equal keys
-pub apart-ways : (b : Bool) (part : Part) (kept : List ℕ) → (b || ((b || part_gives part all) || routed_within part kept)) ≡ true
-    → (b ≡ true) ⊎ ((part ≡ all) ⊎ ((r : Route) × (cols : List ℕ) × (part ≡ routed r cols) × (within cols kept ≡ true)))
-apart-ways true part kept h = inl refl
-apart-ways false one kept h = absurd (true≢false (sym h))
-apart-ways false any kept h = absurd (true≢false (sym h))
-apart-ways false all kept h = inr (inl refl)
-apart-ways false (routed r cols) kept h = inr (inr (r, cols, refl, h))

@@ -1,5 +1,6 @@
 -- Joins: order and keys.
-use Rattle.std.proofs.Common.{◌≡◌, ℕ, ◌≤◌, ◌==◌, Bool, true, false, cond, ◌&&◌, ◌||◌, ⊎_elim, List, [], ◌∷◌, ◌++◌, map, filter, length, drop, refl, sym, ap, ◌∙◌, arith, true≢false, is_le, is_eq, eqb-true, Ordering, Less, Equal, Greater}
+use Rattle.std.proofs.Common.{◌≡◌, ℕ, ◌≤◌, ◌==◌, Bool, true, false, cond, ◌&&◌, ◌||◌, ⊎_elim, List, [], ◌∷◌, ◌++◌, map, filter, length, drop, refl, sym, ap, ◌∙◌, arith, true≢false, is_le, is_eq, eqb-true}
+use Rattle.std.proofs.lemmas.List.Folds.{list_all-append}
 use Rattle.std.specs.List.{list_all}
 use Rattle.vx_values.specs.Values.{Row, row_cmp, pick}
 use Rattle.vx_rows.specs.Order.{compare_on, agree, sorted}
@@ -9,6 +10,7 @@ use Rattle.vx_relations.specs.Catalog.{all_below}
 use Rattle.vx_plan_nodes.specs.Serial.{matches, joined_with, join_rows}
 use Rattle.vx_check_rules.specs.Rules.{within, covers, shifted, join_keys}
 use Rattle.vx_relations.specs.Relation.{KeysHold}
+use Rattle.vx_rows.proofs.SortFacts.{eq-le}
 use Rattle.vx_laws.proofs.Bags.{and-left, and-right, and-both, when}
 use Rattle.vx_laws.proofs.Parts.{or-cases, list_all-weaken, list_all-always}
 use Rattle.vx_laws.proofs.Keys.{agree-within, count-mono, covers-key}
@@ -17,9 +19,15 @@ use Rattle.vx_laws.proofs.Orders.{list_all-filter}
 use Rattle.vx_laws.proofs.Unary.{map-all}
 use Rattle.vx_laws.proofs.Join.{pick-left, pick-shifted, pick-drop, total-swap, pair, join-total, total-all-le}
 
-pub list_all-append : {X : Type 0} (q : X → Bool) (xs ys : List X) → list_all q xs ≡ true → list_all q ys ≡ true → list_all q (xs ++ ys) ≡ true
-list_all-append q [] ys h k = k
-list_all-append q (x ∷ xs) ys h k = and-both _ _ (and-left _ _ h) (list_all-append q xs ys (and-right (q x) (list_all q xs) h) k)
+-- what holds of all rows of two lists one after the other holds of those of each, and the other way round
+pub all-append : {X : Type 0} (q : X → Bool) (xs ys : List X) → list_all q xs ≡ true → list_all q ys ≡ true → list_all q (xs ++ ys) ≡ true
+all-append q xs ys h k = list_all-append q xs ys ∙ and-both (list_all q xs) (list_all q ys) h k
+
+pub all-front : {X : Type 0} (q : X → Bool) (xs ys : List X) → list_all q (xs ++ ys) ≡ true → list_all q xs ≡ true
+all-front q xs ys h = and-left (list_all q xs) (list_all q ys) (sym (list_all-append q xs ys) ∙ h)
+
+pub all-back : {X : Type 0} (q : X → Bool) (xs ys : List X) → list_all q (xs ++ ys) ≡ true → list_all q ys ≡ true
+all-back q xs ys h = and-right (list_all q xs) (list_all q ys) (sym (list_all-append q xs ys) ∙ h)
 
 -- what holds of each pair of a left row and a right row holds of a join's rows
 pub block-all : (pr q : Row → Bool) (on : List (ℕ × ℕ)) (l : Row) (rs : List Row)
@@ -31,14 +39,9 @@ pub join-all : (pl pr q : Row → Bool) (on : List (ℕ × ℕ)) (ls rs : List R
     → ((l r : Row) → pl l ≡ true → pr r ≡ true → q (l ++ r) ≡ true) → list_all pl ls ≡ true → list_all pr rs ≡ true → list_all q (join_rows on ls rs) ≡ true
 join-all pl pr q on [] rs f h k = refl
 join-all pl pr q on (l ∷ ls) rs f h k =
-    list_all-append q (joined_with on rs l) (join_rows on ls rs)
+    all-append q (joined_with on rs l) (join_rows on ls rs)
     (block-all pr q on l rs (λ r e. f l r (and-left _ _ h) e) k)
     (join-all pl pr q on ls rs f (and-right (pl l) (list_all pl ls) h) k)
-
-pub eq-le : (o : Ordering) → is_eq o ≡ true → is_le o ≡ true
-eq-le Less h = refl
-eq-le Equal h = refl
-eq-le Greater h = h
 
 pub agree-sym : (cs : List ℕ) (a b : Row) → agree cs a b ≡ true → agree cs b a ≡ true
 agree-sym cs a b h = agree-both cs a b a h (row_eq-refl (pick cs a))
@@ -50,7 +53,7 @@ sorted-append cs l (x ∷ xs) ys h k b =
     let tail = and-right (agree cs l x) (list_all (agree cs l) xs) h in
     let here : agree cs l x ≡ true = and-left _ _ h in
     and-both _ _
-    (list_all-append (λ z. is_le (compare_on cs x z)) xs ys
+    (all-append (λ z. is_le (compare_on cs x z)) xs ys
     (list_all-weaken (agree cs l) (λ z. is_le (compare_on cs x z)) (λ z e. eq-le _ (agree-both cs l x z here e)) xs tail)
     (list_all-weaken (λ y. is_le (compare_on cs l y)) (λ z. is_le (compare_on cs x z)) (λ z e. le-trans cs x l z (eq-le _ (agree-sym cs l x here)) e) ys b))
     (sorted-append cs l xs ys tail k b)

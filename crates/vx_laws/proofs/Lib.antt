@@ -14,8 +14,14 @@ pub mod Apart
 pub mod Groups
 pub mod Pieces
 pub mod Concat
+pub mod WellFormed
+pub mod Phased
 pub mod Opened
+pub mod Operators
+pub mod Wide
+pub mod Places
 pub mod OneInput
+pub mod TwoInputs
 pub mod Frame
 pub mod Erased
 pub mod Total

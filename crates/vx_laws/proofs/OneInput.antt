@@ -1,33 +1,39 @@
--- The claims of scans, and of nodes with one input whose claim holds.
-use Rattle.std.proofs.Common.{◌≡◌, ℕ, ◌+◌, ◌<◌, ◌==◌, Bool, true, false, cond, ◌&&◌, ◌||◌, ⊎_elim, List, [], ◌∷◌, ◌++◌, map, filter, length, refl, sym, ap, ◌∙◌, subst, arith, true≢false, Some, None, ◌⊎◌, zero, suc, ◌≤◌, eqb-true, ap₂}
-use Rattle.std.specs.List.{list_all}
+-- The claims of scans, of nodes with one input, and of exchanges.
+use Rattle.std.proofs.Common.{◌≡◌, ℕ, ◌+◌, ◌<◌, ◌==◌, Bool, true, false, cond, ◌&&◌, ◌||◌, ⊎_elim, List, [], ◌∷◌, ◌++◌, map, length, refl, sym, ap, ◌∙◌, subst, arith, true≢false, Option, Some, None, ◌⊎◌, inl, inr, zero, suc, ◌≤◌, ap₂, slice_get}
+use Rattle.std.specs.List.{list_all, list_any}
 use Rattle.vx_values.specs.Values.{Row, pick}
-use Rattle.vx_rows.specs.Order.{agree, sorted, sort_on}
-use Rattle.vx_rows.specs.Bags.{SameRows, total}
+use Rattle.vx_rows.specs.Order.{sorted}
+use Rattle.vx_rows.specs.Bags.{SameRows}
 use Rattle.vx_relations.specs.Catalog.{all_below}
-use Rattle.vx_plan_nodes.specs.Plan.{Size, Route, Part, one, any, all, routed, Claim, Plan, scan, unary, exchange, claim, size, Unary, select, project, distinct, sort, group, ExchangeKind, route_to, round, broadcast, gather, target, is_one, plain, partial, final, Aggregate, by_range, concat}
-use Rattle.vx_relations.specs.Relation.{Relation}
-use Rattle.vx_plan_nodes.specs.Serial.{passes, firsts, group_keys, group_fits, unary_rows, rows, or_overflow, after, serial, group_row, aggregate_of, group_rows, of_key}
+use Rattle.vx_relations.specs.Relation.{Relation, KeysHold}
+use Rattle.vx_plan_nodes.specs.Plan.{Size, Part, one, any, all, routed, Claim, Plan, scan, unary, exchange, claim, size, Unary, group, ExchangeKind, route_to, round, broadcast, gather, target, is_one, partial, final, Aggregate, concat}
+use Rattle.vx_plan_nodes.specs.Parts.{kind_part}
+use Rattle.vx_plan_nodes.specs.Describe.{Copying, whole_rows, described}
+use Rattle.vx_plan_nodes.specs.Serial.{group_keys, group_fits, unary_rows, SerialResult, rows, or_overflow, after, serial, group_row, aggregate_of, group_rows, of_key}
 use Rattle.vx_plan_nodes.specs.Streams.{Streams, joined, workers}
 use Rattle.vx_plan_nodes.specs.Routes.{Routing}
 use Rattle.vx_plan_nodes.specs.Runs.{Exchanges, Runs}
-use Rattle.vx_check_rules.specs.Rules.{part_gives, has, copied, covers, is_prefix, if_some, within, numbers_below, routed_within, allowed_here, sizes_match, not_replicated, inputs_match, order_given, shows, unless_one, part_shown, order_shown, keys_shown, keeps_apart, unary_shows, unary_orders, unary_keys, kind_shows, goes_on, rises_by}
-use Rattle.vx_check_rules.specs.Claims.{PartHolds, InItsStream, ClaimHolds, Given, PartOf, ClaimOf}
-use Rattle.vx_laws.proofs.Bags.{SameRows-sym, and-left, and-right, SameRows-refl, SameRows-trans, total-joined, across-least}
-use Rattle.vx_laws.proofs.Parts.{InRange, single, from_single, weaker, has-holds, one-worker, some-workers, or-cases, list_all-weaken, single-of, weaker-of, has-holds-of, part-map}
-use Rattle.vx_laws.proofs.Orders.{sorted-front, sorted-filter, Dealt-sorted, list_all-filter}
-use Rattle.vx_laws.proofs.Keys.{count-filter, covers-key, keys-from}
-use Rattle.vx_laws.proofs.Linear.{Linear, Linear-filter, Linear-map, Linear-sort, sort-total, linear-same, linear-joined}
-use Rattle.vx_laws.proofs.Copies.{if_some-is, copied-alone, copied-cons}
-use Rattle.vx_laws.proofs.Unary.{some-is, through-holds, linear-part, through-order, sort-all, sort-sorted, map-all, project-sorted, project-key, through-of}
+use Rattle.vx_plan_nodes.specs.Phases.{columns_from, first_columns, merged, is_partial, is_final, is_open, opens, Parts, spoken, Gives, listed}
+use Rattle.vx_check_rules.specs.Rules.{part_gives, has, copied, covers, is_prefix, within, numbers_below, routed_within, allowed_here, sizes_match, not_replicated, inputs_match, order_given, part_shown, order_shown, keys_shown, goes_on, unary_keys}
+use Rattle.vx_check_rules.specs.Behaviour.{way, own, bare, if_so, meet, over, gives, behaviour, fits, shown_part}
+use Rattle.vx_check_rules.specs.Claims.{PartHolds, OrderHolds, Given, PartOf, ClaimOf}
+use Rattle.vx_check_rules.proofs.Exact.{fits-exactly, parts-exactly}
+use Rattle.vx_check_rules.proofs.Bools.{or-false, or-left, any-if}
+use Rattle.vx_laws.proofs.Bags.{SameRows-sym, and-left, and-right, SameRows-refl, SameRows-trans}
+use Rattle.vx_laws.proofs.Parts.{InRange, single-of, from_single-of, has-part, one-worker, some-workers, or-cases}
+use Rattle.vx_laws.proofs.Orders.{sorted-front, Dealt-sorted}
+use Rattle.vx_laws.proofs.Keys.{covers-key, keys-from}
+use Rattle.vx_laws.proofs.Copies.{if_some-is, copied-cons}
+use Rattle.vx_laws.proofs.Unary.{some-is, project-sorted}
 use Rattle.vx_laws.proofs.Widths.{some-of, firsts-all, picks-wide}
-use Rattle.vx_laws.proofs.Apart.{firsts-same, picks-same, firsts-joined, firsts-sorted, distinct-key}
-use Rattle.vx_laws.proofs.Groups.{groups, groups-same, groups-joined, fits-joined, fits-same-rows, firsts-in-stream, groups-in-stream, groups-sorted, groups-key, apart-ways, extended-sorted, copied-below}
+use Rattle.vx_laws.proofs.Apart.{firsts-sorted}
+use Rattle.vx_laws.proofs.Groups.{groups, groups-joined, fits-joined, extended-sorted, copied-below, groups-key}
 use Rattle.vx_laws.proofs.Exchange.{Dealt-same, exchange-any, broadcast-all, routed-in-stream, single-sorted}
-use Rattle.vx_plan_nodes.specs.Phases.{first_columns, merged, is_partial, is_final, is_open, opens, Parts, spoken, Gives, listed}
-use Rattle.vx_laws.proofs.Opened.{closed-spoken, closed-gives, gives-closed, closed-listed, opened, Gives-order, final-serial}
+use Rattle.vx_laws.proofs.Opened.{closed, Opened, opened, opened-as, Gives-order, final-serial}
 use Rattle.vx_laws.proofs.Pieces.{Parts-base, Parts-joined, Parts-groups, final-groups, fits-final}
-use Rattle.vx_laws.proofs.Concat.{joined-sorted}
+use Rattle.vx_laws.proofs.Concat.{ranged, exchange-sorted}
+use Rattle.vx_laws.proofs.Operators.{Made, Meets, Whole, whole, unary-ordered}
+use Rattle.vx_laws.proofs.Places.{part-placed, had-place, each-if, unary-places, Stands, shown-part, made-gives}
 
 pub seven : (a b c d e f g : Bool) → (a && (b && (c && (d && (e && (f && g)))))) ≡ true
     → (a ≡ true) × (b ≡ true) × (c ≡ true) × (d ≡ true) × (e ≡ true) × (f ≡ true) × (g ≡ true)
@@ -39,525 +45,158 @@ seven a b c d e f g h =
     let h5 = and-right e (f && g) h4 in
     (and-left a _ h, and-left b _ h1, and-left c _ h2, and-left d _ h3, and-left e _ h4, and-left f _ h5, and-right f g h5)
 
--- what is shown unless it is the part of one worker is shown
-shown-of : (b : Bool) (test : Part → Bool) (q : Part) → (b || unless_one test q) ≡ true → (b || test q) ≡ true
-shown-of true test q h = refl
-shown-of false test one h = cc
-shown-of false test any h = h
-shown-of false test all h = h
-shown-of false test (routed r cols) h = h
-
--- each test at a node
+-- each test at a node; those of its inputs and of its part by its behaviour
 pub tests : (catalog : ℕ → Relation) (p : Plan) → allowed_here catalog p ≡ true
-    → (sizes_match p ≡ true) × (not_replicated p ≡ true) × (inputs_match p ≡ true) × (order_given p ≡ true)
-    × ((is_one (size p) || shows catalog p (claim p).part) ≡ true) × (order_shown catalog p ≡ true) × (keys_shown catalog p ≡ true)
+    → (sizes_match p ≡ true) × (not_replicated p ≡ true) × ((is_one (size p) || fits (behaviour catalog p)) ≡ true) × (order_given p ≡ true)
+    × ((is_one (size p) || shown_part (behaviour catalog p) (claim p).part) ≡ true) × (order_shown catalog p ≡ true) × (keys_shown catalog p ≡ true)
 tests catalog p h =
     let t = seven (sizes_match p) (not_replicated p) (inputs_match p) (order_given p) (part_shown catalog p) (order_shown catalog p) (keys_shown catalog p) h in
-    (t.0, t.1, t.2, t.3, shown-of (is_one (size p)) (shows catalog p) (claim p).part t.4, t.5, t.6)
+    (t.0, t.1, sym (fits-exactly catalog p) ∙ t.2, t.3, sym (parts-exactly catalog p (claim p).part t.2) ∙ t.4, t.5, t.6)
 
--- the plan has serial rows, and its top's claim holds of them and of these streams
-pub record Holding (db : ℕ → List Row) (sizes : ℕ → ℕ) (goes : Routing) (p : Plan) (s : Streams) : Type 0 where
+-- the plan that a claim speaks of has serial rows, and the claim holds of them and of these streams
+pub record HoldingOf (goes : Routing) (c : Claim) (n : ℕ) (s : Streams) (o : SerialResult) (gives_of : List Row → List Row → Type 0) (listed_of : List Row → List Row) : Type 0 where
   pub base : List Row
-  pub is_serial : serial db p ≡ rows base
-  pub holds : ClaimHolds goes (claim p) (workers sizes (size p)) s base
+  pub is_serial : o ≡ rows base
+  pub holds : ClaimOf goes c n s (λ xs. gives_of base xs) (listed_of base)
 
--- the same where the node may be open
-pub record HoldingAt (db : ℕ → List Row) (sizes : ℕ → ℕ) (goes : Routing) (p : Plan) (s : Streams) : Type 0 where
-  pub base : List Row
-  pub is_serial : serial db (spoken p) ≡ rows base
-  pub holds : ClaimOf goes (claim p) (workers sizes (size p)) s (λ xs. Gives p base xs) (listed p base)
+-- at a node, which may be open
+abbrev pub HoldingAt : (ℕ → List Row) → (ℕ → ℕ) → Routing → Plan → Streams → Type 0
+HoldingAt db sizes goes p s = HoldingOf goes (claim p) (workers sizes (size p)) s (serial db (spoken p)) (Gives p) (listed p)
 
--- a plan below, with its streams
-pub record Held (db : ℕ → List Row) (sizes : ℕ → ℕ) (goes : Routing) (p : Plan) : Type 0 where
-  pub s : Streams
-  pub base : List Row
-  pub is_serial : serial db p ≡ rows base
-  pub holds : ClaimHolds goes (claim p) (workers sizes (size p)) s base
+-- at a node that is closed
+abbrev pub Holding : (ℕ → List Row) → (ℕ → ℕ) → Routing → Plan → Streams → Type 0
+Holding db sizes goes p s = HoldingOf goes (claim p) (workers sizes (size p)) s (serial db p) (λ base xs. SameRows xs base) (λ base. base)
 
--- what an operator owes: a list of its own from the serial rows, of which the claim holds
-pub record Step (goes : Routing) (op : Unary) (c : Claim) (n : ℕ) (s' : Streams) (base : List Row) : Type 0 where
-  pub base' : List Row
-  pub is : unary_rows op base ≡ Some base'
-  pub holds : ClaimHolds goes c n s' base'
+-- an operator fits its input
+abbrev pub FitsInput : Unary → Plan → Type 0
+FitsInput op p = (is_one (size p) || fits (over (described op) p)) ≡ true
 
-pub stream-total : (n : ℕ) (s : Streams) (base : List Row) → SameRows (joined n s) base → (f : Row → ℕ) → (w : ℕ) → w < n → total f (s w) ≤ total f base
-stream-total n s base same f w l =
-    let a = same.totals f in
-    let b = total-joined f n s in
-    let c = across-least n (λ i. total f (s i)) w l in
-    omega (arith, a, b, c)
+-- each stream stands for all rows, and is the only one where each row is in one of them; or all do together, and rows that have to meet do
+abbrev pub Fitting : Routing → Option (List ℕ) → Bool → Part → ℕ → Streams → (List Row → Type 0) → Type 0
+Fitting goes m b q n s stands = (((w : ℕ) → w < n → stands (s w)) × ((b || part_gives q any) ≡ true → n ≡ 1)) ⊎ (Meets goes m n s × stands (joined n s))
 
--- a part is shown, or there is one worker, by what stands for the serial rows
-pub either-of : (goes : Routing) → InRange goes → (sizes : ℕ → ℕ) (z : Size) (q : Part) (shown : Bool) (s' : Streams) (stands : List Row → Type 0)
-    → (is_one z || shown) ≡ true
-    → (is_one z ≡ true → stands (joined (workers sizes z) s'))
-    → (shown ≡ true → PartOf goes q (workers sizes z) s' stands)
-    → PartOf goes q (workers sizes z) s' stands
-either-of goes law sizes z q shown s' stands h one_ok shown_ok = ⊎_elim
-    (λ o. single-of goes law q _ s' stands (one-worker sizes z o) (one_ok o))
-    (λ e. shown_ok e)
-    (or-cases _ _ h)
+module _ (goes : Routing) (law : InRange goes) (n : ℕ) (s : Streams) (stands : List Row → Type 0) where
+  loose : (b : Bool) (q : Part) → (b ≡ true → n ≡ 1) → PartOf goes q n s stands → Fitting goes None b q n s stands
+  loose b one single h = inr (tt, h.1)
+  loose b any single h = inr (tt, h)
+  loose b all single h = inl (h, λ e. single (sym (or-false b) ∙ e))
+  loose b (routed r cs) single h = inr (tt, h.0)
 
--- a part is shown, or there is one worker
-pub either-part : (goes : Routing) → InRange goes → (sizes : ℕ → ℕ) (z : Size) (q : Part) (shown : Bool) (s' : Streams) (base' : List Row)
-    → (is_one z || shown) ≡ true
-    → (is_one z ≡ true → SameRows (joined (workers sizes z) s') base')
-    → (shown ≡ true → PartHolds goes q (workers sizes z) s' base')
-    → PartHolds goes q (workers sizes z) s' base'
-either-part goes law sizes z q shown s' base' h one_ok shown_ok = ⊎_elim
-    (λ o. single goes law q _ s' base' (one-worker sizes z o) (one_ok o))
-    (λ e. shown_ok e)
-    (or-cases _ _ h)
+  tight : (cols : List ℕ) (b : Bool) (q : Part) → (b ≡ true → n ≡ 1) → (b || ((b || part_gives q all) || routed_within q cols)) ≡ true → PartOf goes q n s stands
+      → Fitting goes (Some cols) b q n s stands
+  tight cols true q single e h = inl (single-of goes law all n s stands (single refl) (from_single-of goes law q n s stands (single refl) h), λ o. single refl)
+  tight cols false one single e h = absurd (true≢false (sym e))
+  tight cols false any single e h = absurd (true≢false (sym e))
+  tight cols false all single e h = inl (h, λ o. absurd (true≢false (sym o)))
+  tight cols false (routed r cs) single e h = inr ((r, cs, e, h.1), h.0)
+
+  -- an input of an operator that fits it
+  pub fitting : (p : Plan) (m : Option (List ℕ)) (k : Copying) → (is_one (size p) ≡ true → n ≡ 1) → (is_one (size p) || list_any (λ v. true) (if_so (meet m p) (way k (own p ∷ []) ∷ []))) ≡ true
+      → PartOf goes (claim p).part n s stands → Fitting goes m (is_one (size p)) (claim p).part n s stands
+  fitting p None k single e h = loose (is_one (size p)) (claim p).part single h
+  fitting p (Some cols) k single e h =
+      let met : Bool = meet (Some cols) p in
+      tight cols (is_one (size p)) (claim p).part single
+      (⊎_elim (λ o. or-left (is_one (size p)) _ o) (λ g. and-left met true (sym (any-if (λ v. true) met (way k (own p ∷ []) ∷ [])) ∙ g))
+      (or-cases (is_one (size p)) (list_any (λ v. true) (if_so met (way k (own p ∷ []) ∷ []))) e)) h
+
+-- what an operator makes of lists that stand for the rows of its input
+pub record Carries (goes : Routing) (m : Option (List ℕ)) (op : List Row → Option (List Row)) (from to : List Row → Type 0) : Type 0 where
+  pub alone : (xs ys : List Row) → op xs ≡ Some ys → from xs → to ys
+  pub joins : (n : ℕ) (s s' : Streams) → Meets goes m n s → from (joined n s) → ((w : ℕ) → w < n → op (s w) ≡ Some (s' w)) → to (joined n s')
+
+-- a part that is made where it is
+made-part : (goes : Routing) → InRange goes → (b : Bool) (p q : Part) (n : ℕ) (s : Streams) (stands : List Row → Type 0) → (b ≡ true → n ≡ 1) → PartOf goes p n s stands
+    → (b || list_any (λ v. gives v q) (way whole_rows (bare p ∷ []) ∷ [])) ≡ true → PartOf goes q n s stands
+made-part goes law b p q n s stands single h e = has-part goes law b p q n s stands single (made-gives b p q e) h
 
 module _ (catalog : ℕ → Relation) (db : ℕ → List Row) (sizes : ℕ → ℕ) (goes : Routing) (given : Given catalog db sizes goes) where
-  given_some : (z : Size) → 0 < workers sizes z
-  given_some z = some-workers sizes given.some_workers z
+  some : (z : Size) → 0 < workers sizes z
+  some z = some-workers sizes given.some_workers z
 
-  -- the part that an input has
-  pub had : (p : Plan) (ih : Held db sizes goes p) (q : Part) → has p q ≡ true → PartHolds goes q (workers sizes (size p)) (ih.s) ih.base
-  had p ih q h = has-holds goes given.in_range sizes (size p) (claim p).part q (ih.s) ih.base h ih.holds.part
+  -- the ways in which an operator's input fits it
+  pub fitting-at : (op : Unary) (p : Plan) (s : Streams) (stands : List Row → Type 0) → PartOf goes (claim p).part (workers sizes (size p)) s stands
+      → FitsInput op p → Fitting goes (described op).meets (is_one (size p)) (claim p).part (workers sizes (size p)) s stands
+  fitting-at op p s stands h e = fitting goes given.in_range (workers sizes (size p)) s stands p (described op).meets (described op).copying (one-worker sizes (size p)) e h
 
-  pub had-one : (p : Plan) (ih : Held db sizes goes p) → is_one (size p) ≡ true → SameRows (joined (workers sizes (size p)) (ih.s)) ih.base
-  had-one p ih o = from_single goes given.in_range (claim p).part _ _ ih.base (one-worker sizes (size p) o) ih.holds.part
+  -- ---- one step for all operators over one input
 
-  pub routed-any : (p : Plan) (r : Route) (cs : List ℕ) → has p (routed r cs) ≡ true → has p any ≡ true
-  routed-any p r cs h = go (is_one (size p)) (claim p).part h
-    where
-      go : (b : Bool) (x : Part) → (b || part_gives x (routed r cs)) ≡ true → (b || part_gives x any) ≡ true
-      go true x h = refl
-      go false one h = absurd (true≢false (sym h))
-      go false any h = refl
-      go false all h = absurd (true≢false (sym h))
-      go false (routed t ds) h = refl
-
-  pub or-left : (a b : Bool) → a ≡ true → (a || b) ≡ true
-  or-left true b e = refl
-  or-left false b e = absurd (true≢false (sym e))
-
-  -- an input that is fit for equal keys: all rows in each stream, or equal keys in one
-  pub apart-else : (p : Plan) (ih : Held db sizes goes p) (kept : List ℕ) (G : Type 0)
-      → (is_one (size p) || (has p all || routed_within (claim p).part kept)) ≡ true
-      → (((w : ℕ) → w < workers sizes (size p) → SameRows (ih.s w) ih.base) → G)
-      → ((r : Route) (cols : List ℕ) → within cols kept ≡ true → SameRows (joined (workers sizes (size p)) (ih.s)) ih.base
-      → InItsStream goes r cols (workers sizes (size p)) (ih.s) → G)
-      → G
-  apart-else p ih kept G apart by_all by_route = ⊎_elim
-      (λ o. by_all (had p ih all (or-left (is_one (size p)) _ o)))
-      (λ rest. ⊎_elim
-      (λ e. let P : Part → Type 0 = λ q. PartHolds goes q (workers sizes (size p)) (ih.s) ih.base in by_all (subst P e ih.holds.part))
-      (λ w.
-      let P : Part → Type 0 = λ q. PartHolds goes q (workers sizes (size p)) (ih.s) ih.base in
-      let h : PartHolds goes (routed w.0 w.1) (workers sizes (size p)) (ih.s) ih.base = subst P w.2 ih.holds.part in
-      by_route w.0 w.1 w.3 h.0 h.1)
-      rest)
-      (apart-ways (is_one (size p)) (claim p).part kept apart)
-
-  apart-any : (p : Plan) (ih : Held db sizes goes p) (kept : List ℕ) (s' : Streams) (base' : List Row)
-      → (is_one (size p) || (has p all || routed_within (claim p).part kept)) ≡ true
-      → (((w : ℕ) → w < workers sizes (size p) → SameRows (ih.s w) ih.base) → (w : ℕ) → w < workers sizes (size p) → SameRows (s' w) base')
-      → ((r : Route) (cols : List ℕ) → within cols kept ≡ true → SameRows (joined (workers sizes (size p)) (ih.s)) ih.base
-      → InItsStream goes r cols (workers sizes (size p)) (ih.s) → SameRows (joined (workers sizes (size p)) s') base')
-      → has p any ≡ true → SameRows (joined (workers sizes (size p)) s') base'
-  apart-any p ih kept s' base' apart by_all by_route h_any = ⊎_elim
-      (λ o. one_case o)
-      (λ rest. ⊎_elim
-      (λ e. one_case (all-only (is_one (size p)) (claim p).part e h_any))
-      (λ w.
-      let P : Part → Type 0 = λ q. PartHolds goes q (workers sizes (size p)) (ih.s) ih.base in
-      let h : PartHolds goes (routed w.0 w.1) (workers sizes (size p)) (ih.s) ih.base = subst P w.2 ih.holds.part in
-      by_route w.0 w.1 w.3 h.0 h.1)
-      rest)
-      (apart-ways (is_one (size p)) (claim p).part kept apart)
-    where
-      one_case : is_one (size p) ≡ true → SameRows (joined (workers sizes (size p)) s') base'
-      one_case o = from_single goes given.in_range all (workers sizes (size p)) s' base' (one-worker sizes (size p) o) (by_all (had p ih all (or-left (is_one (size p)) _ o)))
-
-      all-only : (b : Bool) (x : Part) → x ≡ all → (b || part_gives x any) ≡ true → b ≡ true
-      all-only true x e h = refl
-      all-only false one e h = cc
-      all-only false any e h = cc
-      all-only false all e h = h
-      all-only false (routed r cols) e h = cc
-
-  unary-step : (op : Unary) → (is_partial op || is_final op) ≡ false → (c : Claim) (p : Plan) (ih : Held db sizes goes p) (s' : Streams)
-      → ((w : ℕ) → w < workers sizes (size p) → unary_rows op (ih.s w) ≡ Some (s' w))
-      → (is_one (size p) || keeps_apart op p) ≡ true
-      → (is_one (size p) || unary_shows op p c.part) ≡ true
-      → unary_orders op (claim p).order c.order ≡ true
-      → list_all (unary_keys op (claim p).keys) c.keys ≡ true
-      → Step goes op c (workers sizes (size p)) s' ih.base
-  unary-step (select cs) whole c p ih s' run apart shown order keys =
-      let n : ℕ = workers sizes (size p) in
-      let s : Streams = ih.s in
-      let runs : (w : ℕ) → w < n → filter (passes cs) (s w) ≡ s' w = λ w l. some-is _ _ (run w l) in
-      record {
-        base' = filter (passes cs) ih.base;
-        is = refl;
-        holds = record {
-          part = either-part goes given.in_range sizes (size p) c.part _ s' _ shown
-              (λ o. linear-part goes (filter (passes cs)) (Linear-filter (passes cs)) n s s' ih.base runs (λ q xs. list_all-filter q (passes cs) xs) any (had-one p ih o))
-              (λ h. linear-part goes (filter (passes cs)) (Linear-filter (passes cs)) n s s' ih.base runs (λ q xs. list_all-filter q (passes cs) xs) c.part (had p ih c.part h));
-          order = through-order (filter (passes cs)) n s s' ih.base c.order (claim p).order runs
-              (λ xs h. sorted-filter c.order (passes cs) xs (sorted-front c.order (claim p).order order xs h)) ih.holds.order;
-          keys = keys-from (covers (claim p).keys) (filter (passes cs) ih.base)
-              (λ x h row. let a = count-filter (agree x row) (passes cs) ih.base in let b = covers-key (claim p).keys x h ih.base ih.holds.keys row in omega (arith, a, b))
-              c.keys keys;
-        };
-      }
-  unary-step (project cols) whole c p ih s' run apart shown order keys =
-      let n : ℕ = workers sizes (size p) in
-      let s : Streams = ih.s in
-      let runs : (w : ℕ) → w < n → map (pick cols) (s w) ≡ s' w = λ w l. some-is _ _ (run w l) in
-      let lin : Linear (map (pick cols)) = Linear-map (pick cols) in
-      let any_ok : SameRows (joined n s) ih.base → SameRows (joined n s') (map (pick cols) ih.base)
-      = λ same. SameRows-trans (linear-joined lin n s s' runs) (linear-same lin same) in
-      let o = if_some-is (copied cols c.order) (λ ds. is_prefix ds (claim p).order) order in
-      record {
-        base' = map (pick cols) ih.base;
-        is = refl;
-        holds = record {
-          part = either-part goes given.in_range sizes (size p) c.part _ s' _ shown
-              (λ one. any_ok (had-one p ih one))
-              (λ h. through-holds goes n s' (map (pick cols) ih.base) (has p) (copied cols)
-              (λ a. any_ok (had p ih any a))
-              (routed-any p)
-              (λ a w l. let P : List Row → Type 0 = λ xs. SameRows xs (map (pick cols) ih.base) in subst P (runs w l) (linear-same lin (had p ih all a w l)))
-              (λ r cs ds e a w l.
-              let P : List Row → Type 0 = λ xs. list_all (λ row. goes r (pick cs row) n == w) xs ≡ true in
-              subst P (runs w l) (map-all _ (pick cols) (s w)
-              (list_all-weaken (λ row. goes r (pick ds row) n == w) (λ row. goes r (pick cs (pick cols row)) n == w)
-              (λ row t. ap (λ k. goes r k n == w) (copied-alone cols cs ds row e) ∙ t) (s w) ((had p ih (routed r ds) a).1 w l))))
-              c.part h);
-          order = through-order (map (pick cols)) n s s' ih.base c.order (claim p).order runs
-              (λ xs h. project-sorted cols c.order o.0 o.1 xs (sorted-front o.0 (claim p).order o.2 xs h)) ih.holds.order;
-          keys = keys-from (λ x. if_some (copied cols x) (covers (claim p).keys)) (map (pick cols) ih.base)
-              (λ x h. let w = if_some-is (copied cols x) (covers (claim p).keys) h in project-key cols x w.0 w.1 ih.base (covers-key (claim p).keys w.0 w.2 ih.base ih.holds.keys))
-              c.keys keys;
-        };
-      }
-  unary-step (distinct cols) whole c p ih s' run apart shown order keys =
-      let n : ℕ = workers sizes (size p) in
-      let s : Streams = ih.s in
-      let op : List Row → List Row = λ xs. firsts (map (pick cols) xs) in
-      let runs : (w : ℕ) → w < n → firsts (map (pick cols) (s w)) ≡ s' w = λ w l. some-is _ _ (run w l) in
-      let each : ((w : ℕ) → w < n → SameRows (s w) ih.base) → (w : ℕ) → w < n → SameRows (s' w) (op ih.base)
-      = λ same w l. let P : List Row → Type 0 = λ xs. SameRows xs (op ih.base) in subst P (runs w l) (firsts-same (picks-same cols (same w l))) in
-      let any_ok : has p any ≡ true → SameRows (joined n s') (op ih.base)
-      = apart-any p ih cols s' (op ih.base) apart each
-      (λ r cs sub same at. firsts-joined goes r cs cols n s s' ih.base sub runs same at) in
-      let o = if_some-is (copied cols c.order) (λ ds. is_prefix ds (claim p).order) order in
-      record {
-        base' = op ih.base;
-        is = refl;
-        holds = record {
-          part = either-part goes given.in_range sizes (size p) c.part _ s' _ shown
-              (λ one. any_ok (or-left (is_one (size p)) _ one))
-              (λ h. through-holds goes n s' (op ih.base) (has p) (copied cols) any_ok (routed-any p)
-              (λ a. each (had p ih all a))
-              (λ r cs ds e a. firsts-in-stream goes r cols cs ds n s s' e runs (had p ih (routed r ds) a).1)
-              c.part h);
-          order = through-order op n s s' ih.base c.order (claim p).order runs
-              (λ xs h. firsts-sorted c.order (map (pick cols) xs) (project-sorted cols c.order o.0 o.1 xs (sorted-front o.0 (claim p).order o.2 xs h))) ih.holds.order;
-          keys = keys-from (λ x. within (numbers_below (length cols)) x && within x (numbers_below (length cols))) (op ih.base)
-              (λ x h. distinct-key cols x ih.base (and-left (within (numbers_below (length cols)) x) (within x (numbers_below (length cols))) h))
-              c.keys keys;
-        };
-      }
-  unary-step (sort cols) whole c p ih s' run apart shown order keys =
-      let n : ℕ = workers sizes (size p) in
-      let s : Streams = ih.s in
-      let runs : (w : ℕ) → w < n → sort_on cols (s w) ≡ s' w = λ w l. some-is _ _ (run w l) in
-      record {
-        base' = sort_on cols ih.base;
-        is = refl;
-        holds = record {
-          part = either-part goes given.in_range sizes (size p) c.part _ s' _ shown
-              (λ o. linear-part goes (sort_on cols) (Linear-sort cols) n s s' ih.base runs (λ q xs. sort-all q cols xs) any (had-one p ih o))
-              (λ h. linear-part goes (sort_on cols) (Linear-sort cols) n s s' ih.base runs (λ q xs. sort-all q cols xs) c.part (had p ih c.part h));
-          order = through-order (sort_on cols) n s s' ih.base c.order (claim p).order runs
-              (λ xs h. sorted-front c.order cols order (sort_on cols xs) (sort-sorted cols xs)) ih.holds.order;
-          keys = keys-from (covers (claim p).keys) (sort_on cols ih.base)
-              (λ x h row.
-              let a = sort-total (λ r. cond (agree x row r) 1 0) cols ih.base in
-              let b = covers-key (claim p).keys x h ih.base ih.holds.keys row in
-              omega (arith, a, b))
-              c.keys keys;
-        };
-      }
-  unary-step (group partial by aggregates) whole c p ih s' run apart shown order keys = absurd (true≢false whole)
-  unary-step (group final by aggregates) whole c p ih s' run apart shown order keys = absurd (true≢false whole)
-  unary-step (group plain by aggregates) whole c p ih s' run apart shown order keys =
-      let n : ℕ = workers sizes (size p) in
-      let s : Streams = ih.s in
-      let op : List Row → List Row = groups by aggregates in
-      let both : (w : ℕ) → w < n → (list_all (group_fits by aggregates (s w)) (group_keys by (s w)) ≡ true) × (groups by aggregates (s w) ≡ s' w)
-      = λ w l. some-of (list_all (group_fits by aggregates (s w)) (group_keys by (s w))) (groups by aggregates (s w)) (s' w) (run w l) in
-      let runs : (w : ℕ) → w < n → groups by aggregates (s w) ≡ s' w = λ w l. (both w l).1 in
-      let each : ((w : ℕ) → w < n → SameRows (s w) ih.base) → (w : ℕ) → w < n → SameRows (s' w) (op ih.base)
-      = λ same w l. let P : List Row → Type 0 = λ xs. SameRows xs (op ih.base) in subst P (runs w l) (groups-same by aggregates (s w) ih.base (same w l)) in
-      let any_ok : has p any ≡ true → SameRows (joined n s') (op ih.base)
-      = apart-any p ih by s' (op ih.base) apart each
-      (λ r cs sub same at. groups-joined goes r cs by aggregates n s ih.base sub same at s' runs) in
-      let fit : list_all (group_fits by aggregates ih.base) (group_keys by ih.base) ≡ true
-      = apart-else p ih by (list_all (group_fits by aggregates ih.base) (group_keys by ih.base) ≡ true) apart
-      (λ same. fits-same-rows by aggregates (s 0) ih.base (same 0 (given_some (size p))) (both 0 (given_some (size p))).0)
-      (λ r cs sub same at. fits-joined goes r cs by aggregates n s ih.base sub same at (λ w l. (both w l).0)) in
-      let o = if_some-is (copied by c.order) (λ ds. is_prefix ds (claim p).order) order in
-      record {
-        base' = op ih.base;
-        is = ap (λ b. cond b (Some (op ih.base)) None) fit;
-        holds = record {
-          part = either-part goes given.in_range sizes (size p) c.part _ s' _ shown
-              (λ one. any_ok (or-left (is_one (size p)) _ one))
-              (λ h. through-holds goes n s' (op ih.base) (has p) (copied by) any_ok (routed-any p)
-              (λ a. each (had p ih all a))
-              (λ r cs ds e a. groups-in-stream goes r by cs ds aggregates n s s' e runs (had p ih (routed r ds) a).1)
-              c.part h);
-          order = through-order op n s s' ih.base c.order (claim p).order runs
-              (λ xs h. groups-sorted by c.order o.0 aggregates o.1 xs (sorted-front o.0 (claim p).order o.2 xs h)) ih.holds.order;
-          keys = keys-from (λ x. within (numbers_below (length by)) x) (op ih.base) (λ x h. groups-key by x aggregates ih.base h) c.keys keys;
-        };
-      }
-
-  pub scan-holds : (k : ℕ) (c : Claim) (r : ℕ) (m : Bool) (z : Size) (out : Streams) → allowed_here catalog (scan k c r m z) ≡ true
-      → Runs db sizes goes (scan k c r m z) out → Holding db sizes goes (scan k c r m z) out
-  scan-holds k c r true z out ok run =
-      let h = tests catalog (scan k c r true z) ok in
-      let n : ℕ = workers sizes z in
-      record {
-        base = db r;
-        is_serial = refl;
-        holds = record {
-          part = either-part goes given.in_range sizes z c.part _ out (db r) h.4
-              (λ one. Dealt-same run)
-              (λ g. weaker goes given.in_range any c.part n out (db r) g (Dealt-same run));
-          order = (
-            λ w l. Dealt-sorted run c.order (sorted-front c.order (catalog r).order h.5 (db r) (given.meets r).order) w l,
-            sorted-front c.order (catalog r).order h.5 (db r) (given.meets r).order,
-          );
-          keys = keys-from (covers (catalog r).keys) (db r) (λ x g. covers-key (catalog r).keys x g (db r) (given.meets r).keys) c.keys h.6;
-        };
-      }
-  scan-holds k c r false z out ok run =
-      let h = tests catalog (scan k c r false z) ok in
-      let n : ℕ = workers sizes z in
-      let each : (w : ℕ) → w < n → SameRows (out w) (db r) = λ w l. let P : List Row → Type 0 = λ xs. SameRows xs (db r) in subst P (sym (run w l)) (SameRows-refl (db r)) in
-      let up : sorted c.order (db r) ≡ true = sorted-front c.order (catalog r).order h.5 (db r) (given.meets r).order in
-      record {
-        base = db r;
-        is_serial = refl;
-        holds = record {
-          part = either-part goes given.in_range sizes z c.part _ out (db r) h.4
-              (λ one. from_single goes given.in_range all n out (db r) (one-worker sizes z one) each)
-              (λ g. weaker goes given.in_range all c.part n out (db r) g each);
-          order = (λ w l. let P : List Row → Type 0 = λ xs. sorted c.order xs ≡ true in subst P (sym (run w l)) up, up);
-          keys = keys-from (covers (catalog r).keys) (db r) (λ x g. covers-key (catalog r).keys x g (db r) (given.meets r).keys) c.keys h.6;
-        };
-      }
-
-  pub unary-holds : (k : ℕ) (c : Claim) (op : Unary) → (is_partial op || is_final op) ≡ false → (p : Plan) (out : Streams) (ih : Held db sizes goes p) → allowed_here catalog (unary k c op p) ≡ true
-      → ((w : ℕ) → w < workers sizes (size p) → unary_rows op (ih.s w) ≡ Some (out w))
-      → Holding db sizes goes (unary k c op p) out
-  unary-holds k c op whole p out ih ok run =
+  unary-claim : (k : ℕ) (c : Claim) (op : Unary) (p : Plan) (s out : Streams) (from to : List Row → Type 0) (list list' : List Row)
+      → PartOf goes (claim p).part (workers sizes (size p)) s from → OrderHolds (claim p).order (workers sizes (size p)) s list
+      → Carries goes (described op).meets (unary_rows op) from to → allowed_here catalog (unary k c op p) ≡ true
+      → ((w : ℕ) → w < workers sizes (size p) → unary_rows op (s w) ≡ Some (out w)) → sorted c.order list' ≡ true → KeysHold c.keys list'
+      → ClaimOf goes c (workers sizes (size p)) out to list'
+  unary-claim k c op p s out from to list list' part order carries ok run up keys =
       let h = tests catalog (unary k c op p) ok in
-      let t = unary-step op whole c p ih out run h.2 h.4 h.5 h.6 in
-      record {
-        base = t.base';
-        is_serial = ap (λ x. after x (λ xs. or_overflow k (unary_rows op xs))) ih.is_serial ∙ ap (or_overflow k) t.is;
-        holds = t.holds;
-      }
-
-  -- ---- closed nodes and open ones
-
-  pub close : (p : Plan) (s : Streams) → is_open p ≡ false → HoldingAt db sizes goes p s → Holding db sizes goes p s
-  close p s e h =
-      let P : List Row → Type 0 = λ l. ((w : ℕ) → w < workers sizes (size p) → sorted (claim p).order (s w) ≡ true) × (sorted (claim p).order l ≡ true) in
-      let Q : List Row → Type 0 = λ l. Rattle.vx_relations.specs.Relation.KeysHold (claim p).keys l in
-      record {
-        base = h.base;
-        is_serial = sym (closed-spoken db p e) ∙ h.is_serial;
-        holds = record {
-          part = part-map goes given.in_range (claim p).part (workers sizes (size p)) s (λ xs. Gives p h.base xs) (λ xs. SameRows xs h.base) (λ xs g. closed-gives p e h.base xs g) h.holds.part;
-          order = subst P (closed-listed p e h.base) h.holds.order;
-          keys = subst Q (closed-listed p e h.base) h.holds.keys;
-        };
-      }
-
-  pub widen : (p : Plan) (s : Streams) → is_open p ≡ false → Holding db sizes goes p s → HoldingAt db sizes goes p s
-  widen p s e h =
-      let P : List Row → Type 0 = λ l. ((w : ℕ) → w < workers sizes (size p) → sorted (claim p).order (s w) ≡ true) × (sorted (claim p).order l ≡ true) in
-      let Q : List Row → Type 0 = λ l. Rattle.vx_relations.specs.Relation.KeysHold (claim p).keys l in
-      record {
-        base = h.base;
-        is_serial = closed-spoken db p e ∙ h.is_serial;
-        holds = record {
-          part = part-map goes given.in_range (claim p).part (workers sizes (size p)) s (λ xs. SameRows xs h.base) (λ xs. Gives p h.base xs) (λ xs g. gives-closed p e h.base xs g) h.holds.part;
-          order = subst P (sym (closed-listed p e h.base)) h.holds.order;
-          keys = subst Q (sym (closed-listed p e h.base)) h.holds.keys;
-        };
-      }
-
-  -- what a part that any node has says
-  has-at : (p : Plan) (s : Streams) (h : HoldingAt db sizes goes p s) (q : Part) → has p q ≡ true → PartOf goes q (workers sizes (size p)) s (λ xs. Gives p h.base xs)
-  has-at p s h q e = has-holds-of goes given.in_range sizes (size p) (claim p).part q s (λ xs. Gives p h.base xs) e h.holds.part
-
-  -- ---- exchanges, closed or open
-
-  exchange-shown : (kind : ExchangeKind) (merge : List ℕ) (p : Plan) (s : Streams) (ih : HoldingAt db sizes goes p s) (s' : Streams)
-      → Exchanges goes kind merge (workers sizes (size p)) (workers sizes (target kind)) s s'
-      → has p any ≡ true → (q : Part) → kind_shows kind q ≡ true
-      → PartOf goes q (workers sizes (target kind)) s' (λ xs. Gives p ih.base xs)
-  exchange-shown kind merge p s ih s' x h q g = go kind x g
-    where
-      m : ℕ
-      m = workers sizes (size p)
-
-      all_of : List Row
-      all_of = joined m s
-
-      moved : (xs : List Row) → SameRows xs all_of → Gives p ih.base xs
-      moved xs e = Gives-order p ih.base all_of xs (SameRows-sym e) (has-at p s ih any h)
-
-      go : (kind : ExchangeKind) → Exchanges goes kind merge m (workers sizes (target kind)) s s' → kind_shows kind q ≡ true → PartOf goes q (workers sizes (target kind)) s' (λ xs. Gives p ih.base xs)
-      go (route_to z r cols) x g =
-          weaker-of goes given.in_range (routed r cols) q _ s' (λ xs. Gives p ih.base xs) g (
-            moved _ (exchange-any goes given.in_range (route_to z r cols) merge _ _ s s' all_of x (given_some z) (λ y e. cc) (λ e. cc) (λ e. cc) (SameRows-refl all_of)),
-            routed-in-stream goes z r cols merge _ _ s s' x,
-          )
-      go (round z) x g =
-          weaker-of goes given.in_range any q _ s' (λ xs. Gives p ih.base xs) g
-          (moved _ (exchange-any goes given.in_range (round z) merge _ _ s s' all_of x (given_some z) (λ y e. cc) (λ e. cc) (λ e. cc) (SameRows-refl all_of)))
-      go (broadcast z) x g =
-          weaker-of goes given.in_range all q _ s' (λ xs. Gives p ih.base xs) g (λ w l. moved (s' w) (broadcast-all goes z merge _ _ s s' all_of x (SameRows-refl all_of) w l))
-      go gather x g =
-          single-of goes given.in_range q 1 s' (λ xs. Gives p ih.base xs) refl
-          (moved _ (exchange-any goes given.in_range gather merge _ 1 s s' all_of x (omega arith) (λ y e. cc) (λ e. refl) (λ e. cc) (SameRows-refl all_of)))
-      go concat x g =
-          single-of goes given.in_range q 1 s' (λ xs. Gives p ih.base xs) refl
-          (moved _ (exchange-any goes given.in_range concat merge _ 1 s s' all_of x (omega arith) (λ y e. cc) (λ e. cc) (λ e. refl) (SameRows-refl all_of)))
-
-  exchange-part : (kind : ExchangeKind) (c : Claim) (merge : List ℕ) (p : Plan) (s : Streams) (ih : HoldingAt db sizes goes p s) (s' : Streams)
-      → has p any ≡ true
-      → Exchanges goes kind merge (workers sizes (size p)) (workers sizes (target kind)) s s'
-      → (is_one (target kind) || kind_shows kind c.part) ≡ true
-      → PartOf goes c.part (workers sizes (target kind)) s' (λ xs. Gives p ih.base xs)
-  exchange-part kind c merge p s ih s' h_any x shown =
-      let m : ℕ = workers sizes (size p) in
-      let n : ℕ = workers sizes (target kind) in
-      let all_of : List Row = joined m s in
-      either-of goes given.in_range sizes (target kind) c.part _ s' (λ xs. Gives p ih.base xs) shown
-      (λ one. Gives-order p ih.base all_of (joined n s') (SameRows-sym (exchange-any goes given.in_range kind merge m n s s' all_of x (given_some (target kind))
-      (λ z e. one-worker sizes (target kind) one) (λ e. one-worker sizes (target kind) one) (λ e. one-worker sizes (target kind) one) (SameRows-refl all_of))) (has-at p s ih any h_any))
-      (λ g. exchange-shown kind merge p s ih s' x h_any c.part g)
-
-  -- a concat of streams that a range routed, in order
-  concat-sorted : (kind : ExchangeKind) (merge : List ℕ) (p : Plan) (s : Streams) (ih : HoldingAt db sizes goes p s) (s' : Streams)
-      → Exchanges goes kind merge (workers sizes (size p)) (workers sizes (target kind)) s s'
-      → goes_on kind (claim p) ≡ true → (w : ℕ) → w < workers sizes (target kind) → sorted (claim p).order (s' w) ≡ true
-  concat-sorted (route_to z r cols) merge p s ih s' x e w l = absurd (true≢false (sym e))
-  concat-sorted (round z) merge p s ih s' x e w l = absurd (true≢false (sym e))
-  concat-sorted (broadcast z) merge p s ih s' x e w l = absurd (true≢false (sym e))
-  concat-sorted gather merge p s ih s' x e w l = absurd (true≢false (sym e))
-  concat-sorted concat merge p s ih s' x e w l = go (claim p).part (claim p).order e ih.holds.part ih.holds.order.0
-    where
-      m : ℕ
-      m = workers sizes (size p)
-
-      same-joined : (k : ℕ) → k ≤ m → joined k (λ i. x.sent i w) ≡ joined k s
-      same-joined zero b = refl
-      same-joined (suc k) b = ap₂ (λ a d. a ++ d) (same-joined k (omega arith)) (sym (x.sends k (omega arith) w l))
-
-      is_joined : joined m s ≡ s' w
-      is_joined = sym (same-joined m (omega arith)) ∙ x.in_order refl w l
-
-      go : (q : Part) (order : List ℕ) → rises_by q order ≡ true → PartOf goes q m s (λ xs. Gives p ih.base xs)
-          → ((i : ℕ) → i < m → sorted order (s i) ≡ true) → sorted order (s' w) ≡ true
-      go one order e h up = absurd (true≢false (sym e))
-      go any order e h up = absurd (true≢false (sym e))
-      go all order e h up = absurd (true≢false (sym e))
-      go (routed (Rattle.vx_plan_nodes.specs.Plan.by_hash name) cols) order e h up = absurd (true≢false (sym e))
-      go (routed (by_range k) []) order e h up = absurd (true≢false (sym e))
-      go (routed (by_range k) (a ∷ b ∷ cols)) order e h up = absurd (true≢false (sym e))
-      go (routed (by_range k) (a ∷ [])) [] e h up = absurd (true≢false (sym e))
-      go (routed (by_range k) (a ∷ [])) (d ∷ order) e h up =
-          let same : a ≡ d = eqb-true a d e in
-          let P : List Row → Type 0 = λ l. sorted (d ∷ order) l ≡ true in
-          let Q : ℕ → Type 0 = λ v. InItsStream goes (by_range k) (v ∷ []) m s in
-          subst P is_joined (joined-sorted goes given.rising k d order m m s (subst Q same h.1) up)
-
-  pub exchange-holds : (k : ℕ) (c : Claim) (kind : ExchangeKind) (merge : List ℕ) (p : Plan) (s out : Streams) (ih : HoldingAt db sizes goes p s) → allowed_here catalog (exchange k c kind merge p) ≡ true
-      → Exchanges goes kind merge (workers sizes (size p)) (workers sizes (target kind)) s out
-      → HoldingAt db sizes goes (exchange k c kind merge p) out
-  exchange-holds k c kind merge p s out ih ok x =
-      let h = tests catalog (exchange k c kind merge p) ok in
-      let list : List Row = listed p ih.base in
-      record {
-        base = ih.base;
-        is_serial = ih.is_serial;
-        holds = record {
-          part = exchange-part kind c merge p s ih out h.1 x h.4;
-          order = ⊎_elim
-              (λ by_merge. (
-                λ w l. sorted-front c.order merge by_merge (out w) (x.merged w l),
-                sorted-front c.order merge by_merge list (sorted-front merge (claim p).order h.3 list ih.holds.order.1),
-              ))
-              (λ single.
-              let f = and-right (is_one (size p) || goes_on kind (claim p)) (is_prefix c.order (claim p).order) single in (
-                λ w l. ⊎_elim
-                    (λ o. single-sorted goes kind merge _ _ s out x (one-worker sizes (size p) o) c.order
-                    (sorted-front c.order (claim p).order f _ (ih.holds.order.0 0 (given_some (size p)))) w l)
-                    (λ g. sorted-front c.order (claim p).order f (out w) (concat-sorted kind merge p s ih out x g w l))
-                    (or-cases (is_one (size p)) (goes_on kind (claim p)) (and-left (is_one (size p) || goes_on kind (claim p)) (is_prefix c.order (claim p).order) single)),
-                sorted-front c.order (claim p).order f list ih.holds.order.1,
-              ))
-              (or-cases (is_prefix c.order merge) ((is_one (size p) || goes_on kind (claim p)) && is_prefix c.order (claim p).order) h.5);
-          keys = keys-from (covers (claim p).keys) list (λ y e. covers-key (claim p).keys y e list ih.holds.keys) c.keys h.6;
-        };
-      }
-
-  -- ---- a partial grouping
-
-  pub partial-holds : (k : ℕ) (c : Claim) (by : List ℕ) (aggregates : List Aggregate) (p : Plan) (out : Streams) (ih : Held db sizes goes p)
-      → allowed_here catalog (unary k c (group partial by aggregates) p) ≡ true
-      → ((w : ℕ) → w < workers sizes (size p) → unary_rows (group partial by aggregates) (ih.s w) ≡ Some (out w))
-      → HoldingAt db sizes goes (unary k c (group partial by aggregates) p) out
-  partial-holds k c by aggregates p out ih ok run =
-      let h = tests catalog (unary k c (group partial by aggregates) p) ok in
       let n : ℕ = workers sizes (size p) in
-      let s : Streams = ih.s in
-      let stands : List Row → Type 0 = λ xs. Parts by aggregates ih.base xs in
-      let runs : (w : ℕ) → w < n → groups by aggregates (s w) ≡ out w
-      = λ w l. (some-of (list_all (group_fits by aggregates (s w)) (group_keys by (s w))) (groups by aggregates (s w)) (out w) (run w l)).1 in
-      let parts : (w : ℕ) → w < n → Parts by aggregates (s w) (out w)
-      = λ w l. let P : List Row → Type 0 = λ xs. Parts by aggregates (s w) xs in subst P (runs w l) (Parts-groups by aggregates (s w)) in
-      let any_ok : SameRows (joined n s) ih.base → stands (joined n out)
-      = λ same. Parts-base by aggregates (joined n s) ih.base (joined n out) same (Parts-joined by aggregates n s out parts) in
+      let one_is : is_one (size p) ≡ true → n ≡ 1 = one-worker sizes (size p) in
+      let had : (q : Part) → has p q ≡ true → PartOf goes q n s from = λ q e. has-part goes given.in_range (is_one (size p)) (claim p).part q n s from one_is e part in
+      let each : has p all ≡ true → (w : ℕ) → w < n → to (out w) = λ e w l. carries.alone (s w) (out w) (run w l) (had all e w l) in
+      let together : has p any ≡ true → to (joined n out) = λ e. ⊎_elim
+      (λ f. from_single-of goes given.in_range all n out to (f.1 e) (λ w l. carries.alone (s w) (out w) (run w l) (f.0 w l)))
+      (λ f. carries.joins n s out f.0 f.1 run)
+      (fitting-at op p s from part h.2) in
+      record {
+        part = shown-part goes given.in_range (is_one (size p)) (over (described op) p).ways c.part n out to one_is (λ o. together (or-left (is_one (size p)) _ o))
+            (each-if (λ v. Stands n out to v) (meet (described op).meets p) (way (described op).copying (own p ∷ []) ∷ [])
+            (λ m. (((λ e. together (and-left (has p any) true e)), (λ e. each (and-left (has p all) true e))), tt)))
+            (λ w l. unary-places goes op p n w (s w) (out w) (run w l)
+            (λ q e. had-place goes given.in_range (is_one (size p)) (claim p).part q n w one_is l (s w) (part-placed goes (claim p).part n s from part w l) e))
+            h.4;
+        order = ((λ w l. unary-ordered catalog k c op p h.5 (s w) (out w) (run w l) (order.0 w l)), up);
+        keys = keys;
+      }
+
+  -- an operator that is whole
+  pub unary-holds : (k : ℕ) (c : Claim) (op : Unary) → (is_partial op || is_final op) ≡ false → (p : Plan) (s out : Streams) (ih : Holding db sizes goes p s)
+      → allowed_here catalog (unary k c op p) ≡ true → ((w : ℕ) → w < workers sizes (size p) → unary_rows op (s w) ≡ Some (out w)) → Holding db sizes goes (unary k c op p) out
+  unary-holds k c op e p s out ih ok run =
+      let h = tests catalog (unary k c op p) ok in
+      let n : ℕ = workers sizes (size p) in
+      let base : List Row = ih.base in
+      let facts : Whole goes op = whole goes op e in
+      let made : (xs : List Row) × (unary_rows op base ≡ Some xs) = ⊎_elim
+      (λ f. let m = facts.of_bags (s 0) base (out 0) (f.0 0 (some (size p))) (run 0 (some (size p))) in (m.out, m.is))
+      (λ f. let m = facts.joins n s out base f.0 f.1 run in (m.out, m.is))
+      (fitting-at op p s (λ xs. SameRows xs base) ih.holds.part h.2) in
+      let same : (like : List Row) → Made (unary_rows op) base like → SameRows like made.0 = λ like m.
+      let P : List Row → Type 0 = λ xs. SameRows like xs in subst P (some-is m.out made.0 (sym m.is ∙ made.1)) m.same in
+      record {
+        base = made.0;
+        is_serial = ap (λ x. after x (λ xs. or_overflow k (unary_rows op xs))) ih.is_serial ∙ ap (or_overflow k) made.1;
+        holds = unary-claim k c op p s out (λ xs. SameRows xs base) (λ xs. SameRows xs made.0) base made.0 ih.holds.part ih.holds.order
+            (record { alone = λ xs ys g f. same ys (facts.of_bags xs base ys f g); joins = λ m t t' met f g. same (joined m t') (facts.joins m t t' base met f g) })
+            ok run (unary-ordered catalog k c op p h.5 base made.0 made.1 ih.holds.order.1)
+            (keys-from (unary_keys op (claim p).keys) made.0 (λ x g. facts.keyed (claim p).keys x g base made.0 made.1 ih.holds.keys) c.keys h.6);
+      }
+
+  -- a partial grouping
+  pub partial-holds : (k : ℕ) (c : Claim) (by : List ℕ) (aggregates : List Aggregate) (p : Plan) (s out : Streams) (ih : Holding db sizes goes p s)
+      → allowed_here catalog (unary k c (group partial by aggregates) p) ≡ true
+      → ((w : ℕ) → w < workers sizes (size p) → unary_rows (group partial by aggregates) (s w) ≡ Some (out w))
+      → HoldingAt db sizes goes (unary k c (group partial by aggregates) p) out
+  partial-holds k c by aggregates p s out ih ok run =
+      let h = tests catalog (unary k c (group partial by aggregates) p) ok in
+      let base : List Row = ih.base in
+      let parts : (xs ys : List Row) → group_rows by aggregates xs ≡ Some ys → Parts by aggregates xs ys = λ xs ys e.
+      let P : List Row → Type 0 = λ l. Parts by aggregates xs l in
+      subst P (some-of (list_all (group_fits by aggregates xs) (group_keys by xs)) (groups by aggregates xs) ys e).1 (Parts-groups by aggregates xs) in
       let o = if_some-is (copied by c.order) (λ ds. is_prefix ds (claim p).order) h.5 in
       record {
-        base = ih.base;
+        base = base;
         is_serial = ih.is_serial;
-        holds = record {
-          part = either-of goes given.in_range sizes (size p) c.part _ out stands h.4
-              (λ one. any_ok (had-one p ih one))
-              (λ g. through-of goes n out stands (has p) (copied by)
-              (λ a. any_ok (had p ih any a))
-              (routed-any p)
-              (λ a w l. Parts-base by aggregates (s w) ih.base (out w) (had p ih all a w l) (parts w l))
-              (λ r cs ds e a. groups-in-stream goes r by cs ds aggregates n s out e runs (had p ih (routed r ds) a).1)
-              c.part g);
-          order = (
-            λ w l.
-                let P : List Row → Type 0 = λ xs. sorted c.order xs ≡ true in
-                subst P (runs w l) (groups-sorted by c.order o.0 aggregates o.1 (s w) (sorted-front o.0 (claim p).order o.2 (s w) (ih.holds.order.0 w l))),
-            firsts-sorted c.order (map (pick by) ih.base) (project-sorted by c.order o.0 o.1 ih.base (sorted-front o.0 (claim p).order o.2 ih.base ih.holds.order.1)),
-          );
-          keys = keys-from (λ x. false) (group_keys by ih.base) (λ x e. absurd (true≢false (sym e))) c.keys h.6;
-        };
+        holds = unary-claim k c (group partial by aggregates) p s out (λ xs. SameRows xs base) (λ xs. Parts by aggregates base xs) base (group_keys by base) ih.holds.part ih.holds.order
+            (record {
+              alone = λ xs ys e f. Parts-base by aggregates xs base ys f (parts xs ys e);
+              joins = λ n t t' met f g. Parts-base by aggregates (joined n t) base (joined n t') f (Parts-joined by aggregates n t t' (λ w l. parts (t w) (t' w) (g w l)));
+            })
+            ok run (firsts-sorted c.order (map (pick by) base) (project-sorted by c.order o.0 o.1 base (sorted-front o.0 (claim p).order o.2 base ih.holds.order.1)))
+            (keys-from (λ x. false) (group_keys by base) (λ x e. absurd (true≢false (sym e))) c.keys h.6);
       }
 
   -- ---- a final grouping
 
-  copied-first : (n i : ℕ) (c d : ℕ) → Rattle.std.proofs.Common.slice_get (Rattle.vx_plan_nodes.specs.Phases.columns_from i n) c ≡ Some d → d ≡ i + c
+  copied-first : (n i : ℕ) (c d : ℕ) → slice_get (columns_from i n) c ≡ Some d → d ≡ i + c
   copied-first zero i c d e = cc
   copied-first (suc n) i zero d e = let k : i ≡ d = cc in omega (arith, k)
   copied-first (suc n) i (suc c) d e = let k = copied-first n (suc i) c d e in omega (arith, k)
@@ -570,108 +209,53 @@ module _ (catalog : ℕ → Relation) (db : ℕ → List Row) (sizes : ℕ → �
       let b : w.1 ≡ cs = copied-same n cs w.1 w.4 in
       w.2 ∙ ap₂ (λ x y. x ∷ y) a b
 
-  length-columns : (i n : ℕ) → length (Rattle.vx_plan_nodes.specs.Phases.columns_from i n) ≡ n
+  length-columns : (i n : ℕ) → length (columns_from i n) ≡ n
   length-columns i zero = refl
   length-columns i (suc n) = ap suc (length-columns (suc i) n)
 
-  -- the ways in which an open input is fit for a final
-  pub final-else : (p : Plan) (s : Streams) (ih : HoldingAt db sizes goes p s) (kept : List ℕ) (G : Type 0)
-      → (is_one (size p) || (has p all || routed_within (claim p).part kept)) ≡ true
-      → (((w : ℕ) → w < workers sizes (size p) → Gives p ih.base (s w)) → G)
-      → ((r : Route) (cols : List ℕ) → within cols kept ≡ true → Gives p ih.base (joined (workers sizes (size p)) s)
-      → InItsStream goes r cols (workers sizes (size p)) s → G)
-      → G
-  final-else p s ih kept G apart by_all by_route = ⊎_elim
-      (λ o. by_all (has-at p s ih all (or-left (is_one (size p)) _ o)))
-      (λ rest. ⊎_elim
-      (λ e. let P : Part → Type 0 = λ q. PartOf goes q (workers sizes (size p)) s (λ xs. Gives p ih.base xs) in by_all (subst P e ih.holds.part))
-      (λ w.
-      let P : Part → Type 0 = λ q. PartOf goes q (workers sizes (size p)) s (λ xs. Gives p ih.base xs) in
-      let h : PartOf goes (routed w.0 w.1) (workers sizes (size p)) s (λ xs. Gives p ih.base xs) = subst P w.2 ih.holds.part in
-      by_route w.0 w.1 w.3 h.0 h.1)
-      rest)
-      (apart-ways (is_one (size p)) (claim p).part kept apart)
-
-  final-any : (p : Plan) (s : Streams) (ih : HoldingAt db sizes goes p s) (kept : List ℕ) (s' : Streams) (base' : List Row)
-      → (is_one (size p) || (has p all || routed_within (claim p).part kept)) ≡ true
-      → (((w : ℕ) → w < workers sizes (size p) → Gives p ih.base (s w)) → (w : ℕ) → w < workers sizes (size p) → SameRows (s' w) base')
-      → ((r : Route) (cols : List ℕ) → within cols kept ≡ true → Gives p ih.base (joined (workers sizes (size p)) s)
-      → InItsStream goes r cols (workers sizes (size p)) s → SameRows (joined (workers sizes (size p)) s') base')
-      → has p any ≡ true → SameRows (joined (workers sizes (size p)) s') base'
-  final-any p s ih kept s' base' apart by_all by_route h_any = ⊎_elim
-      (λ o. one_case o)
-      (λ rest. ⊎_elim
-      (λ e. one_case (all-only (is_one (size p)) (claim p).part e h_any))
-      (λ w.
-      let P : Part → Type 0 = λ q. PartOf goes q (workers sizes (size p)) s (λ xs. Gives p ih.base xs) in
-      let h : PartOf goes (routed w.0 w.1) (workers sizes (size p)) s (λ xs. Gives p ih.base xs) = subst P w.2 ih.holds.part in
-      by_route w.0 w.1 w.3 h.0 h.1)
-      rest)
-      (apart-ways (is_one (size p)) (claim p).part kept apart)
-    where
-      one_case : is_one (size p) ≡ true → SameRows (joined (workers sizes (size p)) s') base'
-      one_case o = from_single goes given.in_range all (workers sizes (size p)) s' base' (one-worker sizes (size p) o) (by_all (has-at p s ih all (or-left (is_one (size p)) _ o)))
-
-      all-only : (b : Bool) (x : Part) → x ≡ all → (b || part_gives x any) ≡ true → b ≡ true
-      all-only true x e h = refl
-      all-only false one e h = cc
-      all-only false any e h = cc
-      all-only false all e h = h
-      all-only false (routed r cols) e h = cc
-
-  final-of : (k : ℕ) (c : Claim) (by : List ℕ) (aggregates : List Aggregate) (p : Plan) (s out : Streams) (ih : HoldingAt db sizes goes p s)
-      → ((base xs : List Row) → Gives p base xs → Parts by aggregates base xs) → ((base : List Row) → listed p base ≡ group_keys by base)
-      → (node : ℕ) → ((db : ℕ → List Row) → serial db p ≡ after (serial db (spoken p)) (λ xs. or_overflow node (group_rows by aggregates xs)))
-      → ((xs : List Row) → serial db p ≡ rows xs → group_rows (first_columns (length by)) (merged (length by) aggregates) xs ≡ Some xs)
-      → allowed_here catalog (unary k c (group final (first_columns (length by)) (merged (length by) aggregates)) p) ≡ true
-      → ((w : ℕ) → w < workers sizes (size p) → group_rows (first_columns (length by)) (merged (length by) aggregates) (s w) ≡ Some (out w))
-      → Holding db sizes goes (unary k c (group final (first_columns (length by)) (merged (length by) aggregates)) p) out
-  final-of k c by aggregates p s out ih gives lists node serial_is again ok run =
+  final-of : (k : ℕ) (c : Claim) (p : Plan) (keys_of : List ℕ) (puts_of : List Aggregate) (s out : Streams) (ih : HoldingAt db sizes goes p s) (opened_is : Opened keys_of puts_of p)
+      → ((xs : List Row) → serial db p ≡ rows xs → group_rows (first_columns (length opened_is.by)) (merged (length opened_is.by) opened_is.aggregates) xs ≡ Some xs)
+      → allowed_here catalog (unary k c (group final (first_columns (length opened_is.by)) (merged (length opened_is.by) opened_is.aggregates)) p) ≡ true
+      → ((w : ℕ) → w < workers sizes (size p) → group_rows (first_columns (length opened_is.by)) (merged (length opened_is.by) opened_is.aggregates) (s w) ≡ Some (out w))
+      → Holding db sizes goes (unary k c (group final (first_columns (length opened_is.by)) (merged (length opened_is.by) opened_is.aggregates)) p) out
+  final-of k c p keys_of puts_of s out ih opened_is again ok run =
+      let by : List ℕ = opened_is.by in
+      let aggregates : List Aggregate = opened_is.aggregates in
       let keys : List ℕ = first_columns (length by) in
       let puts : List Aggregate = merged (length by) aggregates in
-      let h = tests catalog (unary k c (group final keys puts) p) ok in
+      let op : Unary = group final keys puts in
+      let h = tests catalog (unary k c op p) ok in
       let n : ℕ = workers sizes (size p) in
       let base' : List Row = groups by aggregates ih.base in
-      let both : (w : ℕ) → w < n → (list_all (group_fits keys puts (s w)) (group_keys keys (s w)) ≡ true) × (groups keys puts (s w) ≡ out w)
-      = λ w l. some-of (list_all (group_fits keys puts (s w)) (group_keys keys (s w))) (groups keys puts (s w)) (out w) (run w l) in
-      let runs : (w : ℕ) → w < n → groups keys puts (s w) ≡ out w = λ w l. (both w l).1 in
-      let each : ((w : ℕ) → w < n → Gives p ih.base (s w)) → (w : ℕ) → w < n → SameRows (out w) base'
-      = λ g w l. let P : List Row → Type 0 = λ xs. SameRows xs base' in subst P (runs w l) (final-groups by aggregates ih.base (s w) (gives ih.base (s w) (g w l))) in
-      let any_ok : has p any ≡ true → SameRows (joined n out) base'
-      = final-any p s ih keys out base' h.2 each
-      (λ r cs sub g at. SameRows-trans (groups-joined goes r cs keys puts n s (joined n s) sub (SameRows-refl (joined n s)) at out runs) (final-groups by aggregates ih.base (joined n s) (gives ih.base (joined n s) g))) in
-      let fit : list_all (group_fits by aggregates ih.base) (group_keys by ih.base) ≡ true
-      = final-else p s ih keys (list_all (group_fits by aggregates ih.base) (group_keys by ih.base) ≡ true) h.2
-      (λ g. fits-final by aggregates ih.base (s 0) (gives ih.base (s 0) (g 0 (given_some (size p)))) (both 0 (given_some (size p))).0)
-      (λ r cs sub g at. fits-final by aggregates ih.base (joined n s) (gives ih.base (joined n s) g)
-      (fits-joined goes r cs keys puts n s (joined n s) sub (SameRows-refl (joined n s)) at (λ w l. (both w l).0))) in
-      let below : serial db p ≡ rows base' = serial_is db ∙ (ap (λ o. after o (λ xs. or_overflow node (group_rows by aggregates xs))) ih.is_serial ∙ ap (λ b. or_overflow node (cond b (Some base') None)) fit) in
+      let both : (xs ys : List Row) → group_rows keys puts xs ≡ Some ys → (list_all (group_fits keys puts xs) (group_keys keys xs) ≡ true) × (groups keys puts xs ≡ ys)
+      = λ xs ys e. some-of (list_all (group_fits keys puts xs) (group_keys keys xs)) (groups keys puts xs) ys e in
+      let whole_of : (xs : List Row) → Gives p ih.base xs → SameRows (groups keys puts xs) base' = λ xs g. final-groups by aggregates ih.base xs (opened_is.gives ih.base xs g) in
+      let fit : list_all (group_fits by aggregates ih.base) (group_keys by ih.base) ≡ true = ⊎_elim
+      (λ f. fits-final by aggregates ih.base (s 0) (opened_is.gives ih.base (s 0) (f.0 0 (some (size p)))) (both (s 0) (out 0) (run 0 (some (size p)))).0)
+      (λ f. fits-final by aggregates ih.base (joined n s) (opened_is.gives ih.base (joined n s) f.1)
+      (fits-joined goes f.0.0 f.0.1 keys puts n s (joined n s) f.0.2 (SameRows-refl (joined n s)) f.0.3 (λ w l. (both (s w) (out w) (run w l)).0)))
+      (fitting-at op p s (λ xs. Gives p ih.base xs) ih.holds.part h.2) in
+      let below : serial db p ≡ rows base' = opened_is.serial_is db ∙ (ap (λ o. after o (λ xs. or_overflow opened_is.node (group_rows by aggregates xs))) ih.is_serial ∙ ap (λ b. or_overflow opened_is.node (cond b (Some base') None)) fit) in
       let o = if_some-is (copied keys c.order) (λ ds. is_prefix ds (claim p).order) h.5 in
-      let as_keys : o.0 ≡ c.order = copied-same (length by) c.order o.0 o.1 in
       let Q : List ℕ → Type 0 = λ v. sorted v (group_keys by ih.base) ≡ true in
       let R : List Row → Type 0 = λ l. sorted (claim p).order l ≡ true in
       let L : ℕ → Type 0 = λ v. all_below v c.order ≡ true in
       record {
         base = base';
         is_serial = ap (λ o. after o (λ xs. or_overflow k (group_rows keys puts xs))) below ∙ ap (or_overflow k) (again base' below);
-        holds = record {
-          part = either-part goes given.in_range sizes (size p) c.part _ out _ h.4
-              (λ one. any_ok (or-left (is_one (size p)) _ one))
-              (λ g. through-holds goes n out base' (has p) (copied keys) any_ok (routed-any p)
-              (λ a. each (has-at p s ih all a))
-              (λ r cs ds e a. groups-in-stream goes r keys cs ds puts n s out e runs (has-at p s ih (routed r ds) a).1)
-              c.part g);
-          order = (
-            λ w l.
-                let P : List Row → Type 0 = λ xs. sorted c.order xs ≡ true in
-                subst P (runs w l) (groups-sorted keys c.order o.0 puts o.1 (s w) (sorted-front o.0 (claim p).order o.2 (s w) (ih.holds.order.0 w l))),
-            extended-sorted c.order (length by) (group_row by aggregates ih.base) (λ key. map (λ a. aggregate_of a (of_key by key ih.base)) aggregates) (λ key. refl)
-                (subst L (length-columns 0 (length by)) (copied-below keys c.order o.0 o.1)) (group_keys by ih.base) (firsts-all (λ row. length row == length by) (map (pick by) ih.base) (picks-wide by ih.base))
-                (subst Q as_keys (sorted-front o.0 (claim p).order o.2 (group_keys by ih.base) (subst R (lists ih.base) ih.holds.order.1))),
-          );
-          keys = keys-from (λ x. within (numbers_below (length keys)) x) base'
-              (λ x e. let W : ℕ → Type 0 = λ v. within (numbers_below v) x ≡ true in groups-key by x aggregates ih.base (subst W (length-columns 0 (length by)) e)) c.keys h.6;
-        };
+        holds = unary-claim k c op p s out (λ xs. Gives p ih.base xs) (λ xs. SameRows xs base') (listed p ih.base) base' ih.holds.part ih.holds.order
+            (record {
+              alone = λ xs ys e g. let P : List Row → Type 0 = λ l. SameRows l base' in subst P (both xs ys e).1 (whole_of xs g);
+              joins = λ m t t' met g e.
+                  SameRows-trans (groups-joined goes met.0 met.1 keys puts m t (joined m t) met.2 (SameRows-refl (joined m t)) met.3 t' (λ w l. (both (t w) (t' w) (e w l)).1))
+                  (whole_of (joined m t) g);
+            })
+            ok run
+            (extended-sorted c.order (length by) (group_row by aggregates ih.base) (λ key. map (λ a. aggregate_of a (of_key by key ih.base)) aggregates) (λ key. refl)
+            (subst L (length-columns 0 (length by)) (copied-below keys c.order o.0 o.1)) (group_keys by ih.base) (firsts-all (λ row. length row == length by) (map (pick by) ih.base) (picks-wide by ih.base))
+            (subst Q (copied-same (length by) c.order o.0 o.1) (sorted-front o.0 (claim p).order o.2 (group_keys by ih.base) (subst R (opened_is.listed_is ih.base) ih.holds.order.1))))
+            (keys-from (λ x. within (numbers_below (length keys)) x) base'
+            (λ x e. let W : ℕ → Type 0 = λ v. within (numbers_below v) x ≡ true in groups-key by x aggregates ih.base (subst W (length-columns 0 (length by)) e)) c.keys h.6);
       }
 
   pub final-holds : (k : ℕ) (c : Claim) (keys : List ℕ) (puts : List Aggregate) (p : Plan) (s out : Streams) (ih : HoldingAt db sizes goes p s)
@@ -681,19 +265,103 @@ module _ (catalog : ℕ → Relation) (db : ℕ → List Row) (sizes : ℕ → �
       → Holding db sizes goes (unary k c (group final keys puts) p) out
   final-holds k c keys puts p s out ih e ok run =
       let o = opened keys puts p e in
-      go keys puts o.keys_are o.puts_are (λ xs h. final-serial db keys puts p e xs h) ok run
+      opened-as keys puts p o
+      (λ a b. ((xs : List Row) → serial db p ≡ rows xs → group_rows a b xs ≡ Some xs) → allowed_here catalog (unary k c (group final a b) p) ≡ true
+      → ((w : ℕ) → w < workers sizes (size p) → group_rows a b (s w) ≡ Some (out w)) → Holding db sizes goes (unary k c (group final a b) p) out)
+      (final-of k c p keys puts s out ih o) (final-serial db keys puts p e) ok run
+
+  -- ---- scans
+
+  scan-part : (r : ℕ) (m : Bool) (k : ℕ) (c : Claim) (z : Size) (out : Streams) → Runs db sizes goes (scan k c r m z) out → PartHolds goes (cond m any all) (workers sizes z) out (db r)
+  scan-part r true k c z out run = Dealt-same run
+  scan-part r false k c z out run = λ w l. let P : List Row → Type 0 = λ xs. SameRows xs (db r) in subst P (sym (run w l)) (SameRows-refl (db r))
+
+  scan-order : (r : ℕ) (m : Bool) (k : ℕ) (c : Claim) (z : Size) (out : Streams) → Runs db sizes goes (scan k c r m z) out → (cs : List ℕ) → sorted cs (db r) ≡ true
+      → (w : ℕ) → w < workers sizes z → sorted cs (out w) ≡ true
+  scan-order r true k c z out run cs up w l = Dealt-sorted run cs up w l
+  scan-order r false k c z out run cs up w l = let P : List Row → Type 0 = λ xs. sorted cs xs ≡ true in subst P (sym (run w l)) up
+
+  pub scan-holds : (k : ℕ) (c : Claim) (r : ℕ) (m : Bool) (z : Size) (out : Streams) → allowed_here catalog (scan k c r m z) ≡ true
+      → Runs db sizes goes (scan k c r m z) out → Holding db sizes goes (scan k c r m z) out
+  scan-holds k c r m z out ok run =
+      let h = tests catalog (scan k c r m z) ok in
+      let up : sorted c.order (db r) ≡ true = sorted-front c.order (catalog r).order h.5 (db r) (given.meets r).order in
+      record {
+        base = db r;
+        is_serial = refl;
+        holds = record {
+          part = made-part goes given.in_range (is_one z) (cond m any all) c.part (workers sizes z) out (λ xs. SameRows xs (db r)) (one-worker sizes z) (scan-part r m k c z out run) h.4;
+          order = (scan-order r m k c z out run c.order up, up);
+          keys = keys-from (covers (catalog r).keys) (db r) (λ x g. covers-key (catalog r).keys x g (db r) (given.meets r).keys) c.keys h.6;
+        };
+      }
+
+  -- ---- closed nodes and open ones
+
+  pub close : (p : Plan) (s : Streams) → is_open p ≡ false → HoldingAt db sizes goes p s → Holding db sizes goes p s
+  close p s e h = closed db p e (λ o gives_of listed_of. HoldingOf goes (claim p) (workers sizes (size p)) s o gives_of listed_of → Holding db sizes goes p s) (λ g. g) h
+
+  -- ---- exchanges, closed or open
+
+  -- the part that an exchange makes
+  exchange-made : (kind : ExchangeKind) (merge : List ℕ) (p : Plan) (base : List Row) (m : ℕ) (s s' : Streams) → Gives p base (joined m s)
+      → Exchanges goes kind merge m (workers sizes (target kind)) s s' → PartOf goes (kind_part kind) (workers sizes (target kind)) s' (λ xs. Gives p base xs)
+  exchange-made kind merge p base m s s' h x = go kind x
     where
-      go : (ks : List ℕ) (ps : List Aggregate) → ks ≡ first_columns (length (opened keys puts p e).by) → ps ≡ merged (length (opened keys puts p e).by) (opened keys puts p e).aggregates
-          → ((xs : List Row) → serial db p ≡ rows xs → group_rows ks ps xs ≡ Some xs)
-          → allowed_here catalog (unary k c (group final ks ps) p) ≡ true
-          → ((w : ℕ) → w < workers sizes (size p) → group_rows ks ps (s w) ≡ Some (out w))
-          → Holding db sizes goes (unary k c (group final ks ps) p) out
-      go ks ps ke pe =
-          let o = opened keys puts p e in
-          let T : List ℕ → List Aggregate → Type 0 = λ a b. ((xs : List Row) → serial db p ≡ rows xs → group_rows a b xs ≡ Some xs)
-          → allowed_here catalog (unary k c (group final a b) p) ≡ true
-          → ((w : ℕ) → w < workers sizes (size p) → group_rows a b (s w) ≡ Some (out w))
-          → Holding db sizes goes (unary k c (group final a b) p) out in
-          let A : List ℕ → Type 0 = λ a. T a ps in
-          let B : List Aggregate → Type 0 = λ b. T (first_columns (length o.by)) b in
-          subst A (sym ke) (subst B (sym pe) (λ again ok run. final-of k c o.by o.aggregates p s out ih o.gives o.listed_is o.node o.serial_is again ok run))
+      moved : (xs : List Row) → SameRows xs (joined m s) → Gives p base xs
+      moved xs e = Gives-order p base (joined m s) xs (SameRows-sym e) h
+
+      go : (kind : ExchangeKind) → Exchanges goes kind merge m (workers sizes (target kind)) s s' → PartOf goes (kind_part kind) (workers sizes (target kind)) s' (λ xs. Gives p base xs)
+      go (route_to z r cols) x = (
+        moved _ (exchange-any goes given.in_range (route_to z r cols) merge _ _ s s' (joined m s) x (some z) (λ y e. cc) (λ e. cc) (λ e. cc) (SameRows-refl (joined m s))),
+        routed-in-stream goes z r cols merge _ _ s s' x,
+      )
+      go (round z) x = moved _ (exchange-any goes given.in_range (round z) merge _ _ s s' (joined m s) x (some z) (λ y e. cc) (λ e. cc) (λ e. cc) (SameRows-refl (joined m s)))
+      go (broadcast z) x = λ w l. moved (s' w) (broadcast-all goes z merge _ _ s s' (joined m s) x (SameRows-refl (joined m s)) w l)
+      go gather x = (refl, moved _ (exchange-any goes given.in_range gather merge _ 1 s s' (joined m s) x (omega arith) (λ y e. cc) (λ e. refl) (λ e. cc) (SameRows-refl (joined m s))))
+      go concat x = (refl, moved _ (exchange-any goes given.in_range concat merge _ 1 s s' (joined m s) x (omega arith) (λ y e. cc) (λ e. cc) (λ e. refl) (SameRows-refl (joined m s))))
+
+  -- a concat of streams that a range routed, in order
+  concat-sorted : (kind : ExchangeKind) (merge : List ℕ) (p : Plan) (s : Streams) (ih : HoldingAt db sizes goes p s) (s' : Streams)
+      → Exchanges goes kind merge (workers sizes (size p)) (workers sizes (target kind)) s s'
+      → goes_on kind (claim p) ≡ true → (w : ℕ) → w < workers sizes (target kind) → sorted (claim p).order (s' w) ≡ true
+  concat-sorted (route_to z r cols) merge p s ih s' x e w l = absurd (true≢false (sym e))
+  concat-sorted (round z) merge p s ih s' x e w l = absurd (true≢false (sym e))
+  concat-sorted (broadcast z) merge p s ih s' x e w l = absurd (true≢false (sym e))
+  concat-sorted gather merge p s ih s' x e w l = absurd (true≢false (sym e))
+  concat-sorted concat merge p s ih s' x e w l =
+      let P : List Row → Type 0 = λ xs. sorted (claim p).order xs ≡ true in
+      subst P is_joined (ranged goes given.rising (claim p).part (claim p).order m s e ih.holds.order.0 (part-placed goes (claim p).part m s (λ xs. Gives p ih.base xs) ih.holds.part))
+    where
+      m : ℕ
+      m = workers sizes (size p)
+
+      same-joined : (k : ℕ) → k ≤ m → joined k (λ i. x.sent i w) ≡ joined k s
+      same-joined zero b = refl
+      same-joined (suc k) b = ap₂ (λ a d. a ++ d) (same-joined k (omega arith)) (sym (x.sends k (omega arith) w l))
+
+      is_joined : joined m s ≡ s' w
+      is_joined = sym (same-joined m (omega arith)) ∙ x.in_order refl w l
+
+  pub exchange-holds : (k : ℕ) (c : Claim) (kind : ExchangeKind) (merge : List ℕ) (p : Plan) (s out : Streams) (ih : HoldingAt db sizes goes p s) → allowed_here catalog (exchange k c kind merge p) ≡ true
+      → Exchanges goes kind merge (workers sizes (size p)) (workers sizes (target kind)) s out
+      → HoldingAt db sizes goes (exchange k c kind merge p) out
+  exchange-holds k c kind merge p s out ih ok x =
+      let h = tests catalog (exchange k c kind merge p) ok in
+      let list : List Row = listed p ih.base in
+      record {
+        base = ih.base;
+        is_serial = ih.is_serial;
+        holds = record {
+          part = made-part goes given.in_range (is_one (target kind)) (kind_part kind) c.part (workers sizes (target kind)) out (λ xs. Gives p ih.base xs) (one-worker sizes (target kind))
+              (exchange-made kind merge p ih.base (workers sizes (size p)) s out
+              (has-part goes given.in_range (is_one (size p)) (claim p).part any (workers sizes (size p)) s (λ xs. Gives p ih.base xs) (one-worker sizes (size p)) h.1 ih.holds.part) x) h.4;
+          order = (
+            λ w l. exchange-sorted p kind merge c.order (out w) h.5 (x.merged w l)
+                (λ o. single-sorted goes kind merge _ _ s out x (one-worker sizes (size p) o) (claim p).order (ih.holds.order.0 0 (some (size p))) w l)
+                (λ g. concat-sorted kind merge p s ih out x g w l),
+            exchange-sorted p kind merge c.order list h.5 (sorted-front merge (claim p).order h.3 list ih.holds.order.1) (λ o. ih.holds.order.1) (λ g. ih.holds.order.1),
+          );
+          keys = keys-from (covers (claim p).keys) list (λ y e. covers-key (claim p).keys y e list ih.holds.keys) c.keys h.6;
+        };
+      }

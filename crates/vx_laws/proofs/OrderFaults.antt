@@ -26,9 +26,8 @@ use Rattle.vx_laws.proofs.Bags.{and-left, and-right}
 use Rattle.vx_laws.proofs.Parts.{size_eq-is, one-worker}
 use Rattle.vx_laws.proofs.Orders.{sorted-front}
 use Rattle.vx_laws.proofs.OneInput.{tests}
-use Rattle.vx_laws.proofs.Frame.{well-left, well-right}
+use Rattle.vx_laws.proofs.WellFormed.{well-under, well-both}
 use Rattle.vx_laws.proofs.Tidy.{tidy, came-tidy}
-use Rattle.vx_plan_nodes.specs.Phases.{phase_fits}
 use Rattle.vx_plan_nodes.specs.Runs.{is_concat}
 
 -- all packets are for this port, from this producer
@@ -79,7 +78,7 @@ module _ (S : RunModel) (giv : Given S.catalog S.db S.sizes (goes S)) where
       own (Own Stranger node) o b = b
       own Passed o b = o
   order-fails (unary n c op p) fit wf ok ts run w l reads begin out h f o e = ⊎_elim
-      (λ i. order-fails p fit (and-left (well_formed S.catalog p) (phase_fits op p && names_columns (width S.catalog (unary n c op p)) c) wf)
+      (λ i. order-fails p fit (well-under S.catalog n c op p wf).0
       (and-left (allowed S.catalog p) (allowed_here S.catalog (unary n c op p)) ok) ts run w l reads begin h.0.left h.1 f o i)
       (λ b. own op f o b)
       (h.2.blame f (ap (λ (s : Stream). s.over) h.3 ∙ e))
@@ -107,8 +106,8 @@ module _ (S : RunModel) (giv : Given S.catalog S.db S.sizes (goes S)) where
       let fits = and-right (size_eq (size p) (size q)) (is_fit S.relation_of p && is_fit S.relation_of q) fit in
       let fp = and-left (is_fit S.relation_of p) (is_fit S.relation_of q) fits in
       let fq = and-right (is_fit S.relation_of p) (is_fit S.relation_of q) fits in
-      let wp = well-left S.catalog S.db S.sizes (goes S) giv n c op p q wf in
-      let wq = well-right S.catalog S.db S.sizes (goes S) giv n c op p q wf in
+      let wp = (well-both S.catalog n c op p q wf).0 in
+      let wq = (well-both S.catalog n c op p q wf).1 in
       let P : Size → Type 0 = λ z. w < workers S.sizes z in
       let right : w < workers S.sizes (size q) = subst P same l in
       ⊎_elim
@@ -148,7 +147,7 @@ module _ (S : RunModel) (giv : Given S.catalog S.db S.sizes (goes S)) where
       (λ i a.
       let P : List PacketView → Type 0 = λ ps. sorted merge (rows_of ps) ≡ true in
       subst P (sym (seen i)) (sorted-front merge (claim p).order t.3 (rows_of (reads.came n i))
-      (came-tidy S giv n i k p run.0 ts (tidy S giv p fit wp okp run.0 run.1 i a) (run.2 i a) w l (run.3 i w a l) (reads.came n i) (begin.came n i)).0.1))
+      (came-tidy S giv n i k p run.0 ts (tidy S giv p fit wp okp run.0 run.1 i a) (run.2 i a) w l (run.3 i w a l) (reads.came n i) (begin.came n i)).0.0.1))
       (λ i a.
       let P : List PacketView → Type 0 = λ ps. AllFor (port_of n w k merge p) i ps in
       let flow = run.3 i w a l in
@@ -187,15 +186,15 @@ module _ (S : RunModel) (giv : Given S.catalog S.db S.sizes (goes S)) where
       → (ts : ℕ → Trace) (run : RunOf S (Ends S) p ts) (f : Fault) → IsOrderFault f → FailsBelow S f p ts run → ⊥
   below-so (scan n c r m z) fit wf ok ts run f o h = h
   below-so (unary n c op p) fit wf ok ts run f o h =
-      below-so p fit (and-left (well_formed S.catalog p) (phase_fits op p && names_columns (width S.catalog (unary n c op p)) c) wf)
+      below-so p fit (well-under S.catalog n c op p wf).0
       (and-left (allowed S.catalog p) (allowed_here S.catalog (unary n c op p)) ok) ts run f o h
   below-so (binary n c op p q) fit wf ok ts run f o h =
       let here : Bool = allowed_here S.catalog (binary n c op p q) in
       let rest = and-right (allowed S.catalog p) (allowed S.catalog q && here) ok in
       let fits = and-right (size_eq (size p) (size q)) (is_fit S.relation_of p && is_fit S.relation_of q) fit in
       ⊎_elim
-      (λ a. below-so p (and-left (is_fit S.relation_of p) (is_fit S.relation_of q) fits) (well-left S.catalog S.db S.sizes (goes S) giv n c op p q wf) (and-left (allowed S.catalog p) (allowed S.catalog q && here) ok) ts run.0 f o a)
-      (λ b. below-so q (and-right (is_fit S.relation_of p) (is_fit S.relation_of q) fits) (well-right S.catalog S.db S.sizes (goes S) giv n c op p q wf) (and-left (allowed S.catalog q) here rest) ts run.1 f o b)
+      (λ a. below-so p (and-left (is_fit S.relation_of p) (is_fit S.relation_of q) fits) (well-both S.catalog n c op p q wf).0 (and-left (allowed S.catalog p) (allowed S.catalog q && here) ok) ts run.0 f o a)
+      (λ b. below-so q (and-right (is_fit S.relation_of p) (is_fit S.relation_of q) fits) (well-both S.catalog n c op p q wf).1 (and-left (allowed S.catalog q) here rest) ts run.1 f o b)
       h
   below-so (exchange n c k merge p) fit wf ok ts run f o h =
       let wp = and-left (well_formed S.catalog p) (names_columns (width S.catalog p) c) wf in

@@ -3,15 +3,14 @@ use Rattle.vx_worker.specs.Fragment.{goes, RunModel, Frag, Reads, fragment, Frag
 use Rattle.std.proofs.Common.{◌≡◌, ◌⊎◌, inl, inr, ⊎_elim, ℕ, zero, suc, ◌<◌, ◌≤◌, ◌==◌, Bool, true, false, cond, not, ◌||◌, ◌&&◌, List, [], ◌∷◌, ◌++◌, map, length, Option, Some, None, IsSome, refl, sym, ap, ◌∙◌, subst, arith, append-nil, true≢false, eqb-true, eq-eqb, ◌+◌, flat_map, length-append}
 use Rattle.vx_values.specs.Values.{Row}
 use Rattle.vx_rows.specs.Order.{sorted}
-use Rattle.vx_rows.specs.Bags.{total, SameRows}
-use Rattle.vx_plan_nodes.specs.Plan.{Size, ExchangeKind, target, Claim, Part, one, any, all, routed, Unary, select, project, distinct, sort, group, Binary, union, join, Aggregate, Plan, scan, unary, binary, exchange, size, claim, size_eq, Phase, plain, partial, final, route_to, round, broadcast, gather, concat}
+use Rattle.vx_rows.specs.Bags.{SameRows}
+use Rattle.vx_plan_nodes.specs.Plan.{Size, ExchangeKind, target, Claim, Unary, select, project, distinct, sort, group, Binary, union, join, Aggregate, Plan, scan, unary, binary, exchange, size, claim, size_eq, Phase, plain, partial, final, route_to, round, broadcast, gather, concat}
 use Rattle.vx_plan_nodes.specs.Types.{width, well_formed, names_columns}
 use Rattle.vx_plan_nodes.specs.Serial.{unary_rows, binary_rows, group_rows, SerialResult, rows, overflow, or_overflow, after, serial, IsOverflow, IsTooLong, HasTooLong, HasLargePart}
 use Rattle.vx_check_rules.specs.Rules.{allowed, allowed_here}
 use Rattle.vx_plan_nodes.specs.Streams.{Streams, workers, joined, Dealt}
-use Rattle.vx_plan_nodes.specs.Routes.{Routing}
 use Rattle.vx_plan_nodes.specs.Runs.{Runs, is_concat}
-use Rattle.vx_check_rules.specs.Claims.{Given, PartOf}
+use Rattle.vx_check_rules.specs.Claims.{Given}
 use Rattle.vx_ports.specs.Packets.{fault, PacketView, rows_of, closes, is_last, is_closed, has_last, is_empty, is_stream, Flows}
 use Rattle.vx_worker.specs.Morsels.{morsel_of, morsels}
 use Rattle.vx_ops.specs.Ledger.{Stream, one_op, two_op, OwnBlame}
@@ -25,13 +24,14 @@ use Rattle.vx_laws.specs.Faults.{IsReal, FailsBelow, OverflowIsReal}
 use Rattle.vx_ops.specs.declared.fault.Code.TheVariants.{Overflow}
 use Rattle.vx_ops.specs.declared.fault.Fault.TheVariants.{Own}
 use Rattle.vx_ops.specs.declared.fault.Over.TheVariants.{Failed}
-use Rattle.vx_laws.proofs.Bags.{and-left, and-right, across-least, total-joined}
-use Rattle.vx_laws.proofs.Parts.{some-workers, size_eq-is, one-worker}
+use Rattle.vx_laws.proofs.Bags.{total-ones, and-left, and-right}
+use Rattle.vx_laws.proofs.Parts.{stream-most, some-workers, size_eq-is, one-worker}
 use Rattle.vx_laws.proofs.Orders.{Dealt-one, sorted-front}
 use Rattle.vx_laws.proofs.Unary.{some-is}
 use Rattle.vx_laws.proofs.Exchange.{sends-sorted}
 use Rattle.vx_laws.proofs.OneInput.{tests, HoldingAt}
-use Rattle.vx_laws.proofs.Frame.{all-hold, no-overflow-at, well-left, well-right, phase-of, not-open}
+use Rattle.vx_laws.proofs.Frame.{all-hold, no-overflow-at}
+use Rattle.vx_laws.proofs.WellFormed.{well-under, well-both}
 use Rattle.vx_laws.proofs.Erased.{erased-overflows}
 use Rattle.vx_laws.proofs.Settings.{set-given}
 use Rattle.vx_laws.proofs.Choose.{choose, one-more}
@@ -41,8 +41,10 @@ use Rattle.vx_laws.proofs.WellRun.{Sized, abides-makes, runs-of, dealt-lists, Pr
 use Rattle.vx_ends.proofs.Joined.{joined-ext}
 use Rattle.vx_laws.proofs.Shuffles.{sorted-shuffle}
 use Rattle.vx_laws.proofs.Opened.{closed-spoken}
+use Rattle.vx_laws.proofs.Phased.{by-phase}
 use Rattle.vx_plan_nodes.specs.Phases.{is_open, opens, phase_fits, spoken, Gives, is_row_of}
 use Rattle.vx_relations.specs.Relation.{Relation}
+use Rattle.std.proofs.lemmas.Bool.{not-true}
 use Rattle.std.specs.List.{list_all}
 
 -- lists of packets
@@ -172,48 +174,21 @@ row-list by aggregates (t ∷ ts) h =
     some-rows row [] h = absurd (true≢false (sym h))
     some-rows row (x ∷ xs) h = omega arith
 
-counted : (xs : List Row) → total (λ r. 1) xs ≡ length xs
-counted [] = refl
-counted (x ∷ xs) = let e = counted xs in omega (arith, e)
-
 same-length : (xs ys : List Row) → SameRows xs ys → length xs ≡ length ys
-same-length xs ys s = sym (counted xs) ∙ (s.totals (λ r. 1) ∙ counted ys)
+same-length xs ys s = sym (total-ones xs) ∙ (s.totals (λ r. 1) ∙ total-ones ys)
 
 gives-length : (p : Plan) (base xs : List Row) → Gives p base xs → length xs ≤ length base
 gives-length (scan n c r m z) base xs h = let e = same-length xs base h in omega (arith, e)
-gives-length (unary n c (select cs) p) base xs h = let e = same-length xs base h in omega (arith, e)
-gives-length (unary n c (project cols) p) base xs h = let e = same-length xs base h in omega (arith, e)
-gives-length (unary n c (distinct cols) p) base xs h = let e = same-length xs base h in omega (arith, e)
-gives-length (unary n c (sort cols) p) base xs h = let e = same-length xs base h in omega (arith, e)
-gives-length (unary n c (group plain by aggregates) p) base xs h = let e = same-length xs base h in omega (arith, e)
-gives-length (unary n c (group partial by aggregates) p) base xs h =
+gives-length (unary n c op p) base xs h = by-phase (λ op f. f.gives_of base xs → length xs ≤ length base)
+    (λ op w h. let e = same-length xs base h in omega (arith, e))
+    (λ by aggregates h.
     let e = row-list by aggregates h.pieces h.each in
     let a : length (map (λ (t : Row × List Row). t.0) h.pieces) ≡ length xs = ap length h.rows_are in
     let b = same-length (flat_map (λ (t : Row × List Row). t.1) h.pieces) base h.whole in
-    omega (arith, e, a, b)
-gives-length (unary n c (group final by aggregates) p) base xs h = let e = same-length xs base h in omega (arith, e)
+    omega (arith, e, a, b))
+    (λ by aggregates h. let e = same-length xs base h in omega (arith, e)) op h
 gives-length (binary n c op p q) base xs h = let e = same-length xs base h in omega (arith, e)
 gives-length (exchange n c k m p) base xs h = gives-length p base xs h
-
--- one stream has no more rows than all
-stands-length : (goes : Routing) (q : Part) (n : ℕ) (s : Streams) (stands : List Row → Type 0) (most : ℕ) → ((xs : List Row) → stands xs → length xs ≤ most)
-    → PartOf goes q n s stands → (w : ℕ) → w < n → length (s w) ≤ most
-stands-length goes q n s stands most law h w l = shown q h
-  where
-    by-all : stands (joined n s) → length (s w) ≤ most
-    by-all g =
-        let a = counted (s w) in
-        let b = counted (joined n s) in
-        let d = total-joined (λ r. 1) n s in
-        let e = across-least n (λ i. total (λ r. 1) (s i)) w l in
-        let f = law (joined n s) g in
-        omega (arith, a, b, d, e, f)
-
-    shown : (q : Part) → PartOf goes q n s stands → length (s w) ≤ most
-    shown one h = by-all h.1
-    shown any h = by-all h
-    shown all h = law (s w) (h w l)
-    shown (routed r cs) h = by-all h.0
 
 module _ (S : RunModel) (giv : Given S.catalog S.db S.sizes (goes S)) (some : 0 < S.morsel) where
   fit-sized : Sized S
@@ -305,7 +280,7 @@ module _ (S : RunModel) (giv : Given S.catalog S.db S.sizes (goes S)) (some : 0 
       (λ none. inr (not-overflow n c op p got.0 wf ok got.1 none.0 none.1 none.2))
       (all-some (workers S.sizes (size p)) (λ v. unary_rows op (got.0 v))))
       (λ real. inr (real-unary S.db n c op p real))
-      (complete p fit (and-left (well_formed S.catalog p) (phase_fits op p && names_columns (width S.catalog (unary n c op p)) c) wf) (and-left (allowed S.catalog p) here ok) ts run w l h.makes.0.left.rows
+      (complete p fit (well-under S.catalog n c op p wf).0 (and-left (allowed S.catalog p) here ok) ts run w l h.makes.0.left.rows
       (record { reads = h.reads; reads_begin = h.reads_begin; makes = h.makes.1 }))
   complete (binary n c op p q) fit wf ok ts run w l out h =
       let here : Bool = allowed_here S.catalog (binary n c op p q) in
@@ -321,10 +296,10 @@ module _ (S : RunModel) (giv : Given S.catalog S.db S.sizes (goes S)) (some : 0 
         ap (λ xs. binary_rows op xs (right.0 w)) left.2 ∙ ap (binary_rows op h.makes.0.left.rows) right.2 ∙ h.makes.3,
       ))
       (λ real. inr (real-right S.db n c op p q real))
-      (complete q (and-right (is_fit S.relation_of p) (is_fit S.relation_of q) fits) (well-right S.catalog S.db S.sizes (goes S) giv n c op p q wf) (and-left (allowed S.catalog q) here rest) ts run.1 w (subst P same l) h.makes.0.right.rows
+      (complete q (and-right (is_fit S.relation_of p) (is_fit S.relation_of q) fits) (well-both S.catalog n c op p q wf).1 (and-left (allowed S.catalog q) here rest) ts run.1 w (subst P same l) h.makes.0.right.rows
       (record { reads = h.reads; reads_begin = h.reads_begin; makes = h.makes.2 })))
       (λ real. inr (real-left S.db n c op p q real))
-      (complete p (and-left (is_fit S.relation_of p) (is_fit S.relation_of q) fits) (well-left S.catalog S.db S.sizes (goes S) giv n c op p q wf) (and-left (allowed S.catalog p) (allowed S.catalog q && here) ok) ts run.0 w l h.makes.0.left.rows
+      (complete p (and-left (is_fit S.relation_of p) (is_fit S.relation_of q) fits) (well-both S.catalog n c op p q wf).0 (and-left (allowed S.catalog p) (allowed S.catalog q && here) ok) ts run.0 w l h.makes.0.left.rows
       (record { reads = h.reads; reads_begin = h.reads_begin; makes = h.makes.1 }))
   complete (exchange n c k merge p) fit wf ok ts run w l out h =
       let here : Bool = allowed_here S.catalog (exchange n c k merge p) in
@@ -387,14 +362,11 @@ module _ (S : RunModel) (giv : Given S.catalog S.db S.sizes (goes S)) (some : 0 
   -- an open node whose partial takes too long a list
   open-long : (keys : List ℕ) (puts : List Aggregate) (p : Plan) → opens keys puts p ≡ true → (base : List Row) → serial S.db (spoken p) ≡ rows base → 4611686018427387904 < length base → HasTooLong S.db p
   open-long keys puts (scan n c r m z) e base h l = absurd (true≢false (sym e))
-  open-long keys puts (unary n c (select cs) p) e base h l = absurd (true≢false (sym e))
-  open-long keys puts (unary n c (project cols) p) e base h l = absurd (true≢false (sym e))
-  open-long keys puts (unary n c (distinct cols) p) e base h l = absurd (true≢false (sym e))
-  open-long keys puts (unary n c (sort cols) p) e base h l = absurd (true≢false (sym e))
-  open-long keys puts (unary n c (group plain by aggregates) p) e base h l = absurd (true≢false (sym e))
-  open-long keys puts (unary n c (group partial by aggregates) p) e base h l =
-      let P : SerialResult → Type 0 = λ o. IsTooLong (group partial by aggregates) o in inr (subst P (sym h) l)
-  open-long keys puts (unary n c (group final by aggregates) p) e base h l = absurd (true≢false (sym e))
+  open-long keys puts (unary n c op p) e base h l = by-phase
+      (λ op f. f.is_of keys puts ≡ true → serial S.db (f.spoken_of p (unary n c op p)) ≡ rows base → HasTooLong S.db (unary n c op p))
+      (λ op w e h. absurd (true≢false (sym e)))
+      (λ by aggregates e h. let P : SerialResult → Type 0 = λ o. IsTooLong (group partial by aggregates) o in inr (subst P (sym h) l))
+      (λ by aggregates e h. absurd (true≢false (sym e))) op e h
   open-long keys puts (binary n c op p q) e base h l = absurd (true≢false (sym e))
   open-long keys puts (exchange n c k m p) e base h l = open-long keys puts p e base h l
 
@@ -408,16 +380,18 @@ module _ (S : RunModel) (giv : Given S.catalog S.db S.sizes (goes S)) (some : 0 
       (λ long.
       let holds : HoldingAt S.db S.sizes (goes S) p u
       = all-hold S.catalog S.db S.sizes (goes S) giv p u
-      (and-left (well_formed S.catalog p) (phase_fits (group phase by aggregates) p && names_columns (width S.catalog (unary n c (group phase by aggregates) p)) c) wf)
+      (well-under S.catalog n c (group phase by aggregates) p wf).0
       (and-left (allowed S.catalog p) (allowed_here S.catalog (unary n c (group phase by aggregates) p)) ok) run in
-      let most = stands-length (goes S) (claim p).part (workers S.sizes (size p)) u (λ xs. Gives p holds.base xs) (length holds.base) (λ xs g. gives-length p holds.base xs g) holds.holds.part w l in
-      go phase (phase-of S.catalog S.db S.sizes (goes S) giv n c (group phase by aggregates) p wf) holds.base holds.is_serial (omega (arith, most, long)))
+      let ones = total-ones (u w) in
+      let most = stream-most (goes S) (claim p).part (workers S.sizes (size p)) u (λ xs. Gives p holds.base xs) (λ r. 1) (length holds.base)
+      (λ xs g. let a = total-ones xs in let b = gives-length p holds.base xs g in omega (arith, a, b)) holds.holds.part w l in
+      go phase (well-under S.catalog n c (group phase by aggregates) p wf).1 holds.base holds.is_serial (omega (arith, most, long, ones)))
       why
     where
       closed : (phase : Phase) → not (is_open p) ≡ true → (base : List Row) → serial S.db (spoken p) ≡ rows base → 4611686018427387904 < length base → HasTooLong S.db (unary n c (group phase by aggregates) p)
       closed phase e base h big =
           let P : SerialResult → Type 0 = λ o. IsTooLong (group phase by aggregates) o in
-          let same : serial S.db p ≡ rows base = sym (closed-spoken S.db p (not-open S.catalog S.db S.sizes (goes S) giv (is_open p) e)) ∙ h in
+          let same : serial S.db p ≡ rows base = sym (closed-spoken S.db p (not-true (is_open p) e)) ∙ h in
           inr (subst P (sym same) big)
 
       go : (phase : Phase) → phase_fits (group phase by aggregates) p ≡ true → (base : List Row) → serial S.db (spoken p) ≡ rows base → 4611686018427387904 < length base
@@ -436,7 +410,7 @@ module _ (S : RunModel) (giv : Given S.catalog S.db S.sizes (goes S)) (some : 0 
       (λ o. absurd o)
       (h.2.blame (Own Overflow node) (ap (λ (s : Stream). s.over) h.3 ∙ e))
   fails (unary n c op p) fit wf ok ts run w l reads begin out h node e =
-      let wp = and-left (well_formed S.catalog p) (phase_fits op p && names_columns (width S.catalog (unary n c op p)) c) wf in
+      let wp = (well-under S.catalog n c op p wf).0 in
       let okp = and-left (allowed S.catalog p) (allowed_here S.catalog (unary n c op p)) ok in
       ⊎_elim
       (λ i. real-unary S.db n c op p (fails p fit wp okp ts run w l reads begin h.0.left h.1 node i))
@@ -449,7 +423,7 @@ module _ (S : RunModel) (giv : Given S.catalog S.db S.sizes (goes S)) (some : 0 
       own (distinct cols) wf ok o = absurd o
       own (sort cols) wf ok o = absurd o
       own (group phase by aggregates) wf ok o =
-          let wp = and-left (well_formed S.catalog p) (phase_fits (group phase by aggregates) p && names_columns (width S.catalog (unary n c (group phase by aggregates) p)) c) wf in
+          let wp = (well-under S.catalog n c (group phase by aggregates) p wf).0 in
           let okp = and-left (allowed S.catalog p) (allowed_here S.catalog (unary n c (group phase by aggregates) p)) ok in
           ⊎_elim
           (λ got.
@@ -465,9 +439,9 @@ module _ (S : RunModel) (giv : Given S.catalog S.db S.sizes (goes S)) (some : 0 
       let P : Size → Type 0 = λ z. w < workers S.sizes z in
       ⊎_elim
       (λ i. ⊎_elim
-      (λ left. real-left S.db n c op p q (fails p (and-left (is_fit S.relation_of p) (is_fit S.relation_of q) fits) (well-left S.catalog S.db S.sizes (goes S) giv n c op p q wf)
+      (λ left. real-left S.db n c op p q (fails p (and-left (is_fit S.relation_of p) (is_fit S.relation_of q) fits) (well-both S.catalog n c op p q wf).0
       (and-left (allowed S.catalog p) (allowed S.catalog q && here) ok) ts run.0 w l reads begin h.0.left h.1 node left))
-      (λ right. real-right S.db n c op p q (fails q (and-right (is_fit S.relation_of p) (is_fit S.relation_of q) fits) (well-right S.catalog S.db S.sizes (goes S) giv n c op p q wf)
+      (λ right. real-right S.db n c op p q (fails q (and-right (is_fit S.relation_of p) (is_fit S.relation_of q) fits) (well-both S.catalog n c op p q wf).1
       (and-left (allowed S.catalog q) here rest) ts run.1 w (subst P same l) reads begin h.0.right h.2 node right))
       i)
       (λ o. absurd (none op o))
@@ -494,16 +468,16 @@ module _ (S : RunModel) (giv : Given S.catalog S.db S.sizes (goes S)) (some : 0 
       → (ts : ℕ → Trace) (run : RunOf S (Ends S) p ts) (node : ℕ) → FailsBelow S (Own Overflow node) p ts run → Overflows S.db p
   below (scan n c r m z) fit wf ok ts run node h = absurd h
   below (unary n c op p) fit wf ok ts run node h =
-      real-unary S.db n c op p (below p fit (and-left (well_formed S.catalog p) (phase_fits op p && names_columns (width S.catalog (unary n c op p)) c) wf)
+      real-unary S.db n c op p (below p fit (well-under S.catalog n c op p wf).0
       (and-left (allowed S.catalog p) (allowed_here S.catalog (unary n c op p)) ok) ts run node h)
   below (binary n c op p q) fit wf ok ts run node h =
       let here : Bool = allowed_here S.catalog (binary n c op p q) in
       let rest = and-right (allowed S.catalog p) (allowed S.catalog q && here) ok in
       let fits = and-right (size_eq (size p) (size q)) (is_fit S.relation_of p && is_fit S.relation_of q) fit in
       ⊎_elim
-      (λ left. real-left S.db n c op p q (below p (and-left (is_fit S.relation_of p) (is_fit S.relation_of q) fits) (well-left S.catalog S.db S.sizes (goes S) giv n c op p q wf)
+      (λ left. real-left S.db n c op p q (below p (and-left (is_fit S.relation_of p) (is_fit S.relation_of q) fits) (well-both S.catalog n c op p q wf).0
       (and-left (allowed S.catalog p) (allowed S.catalog q && here) ok) ts run.0 node left))
-      (λ right. real-right S.db n c op p q (below q (and-right (is_fit S.relation_of p) (is_fit S.relation_of q) fits) (well-right S.catalog S.db S.sizes (goes S) giv n c op p q wf)
+      (λ right. real-right S.db n c op p q (below q (and-right (is_fit S.relation_of p) (is_fit S.relation_of q) fits) (well-both S.catalog n c op p q wf).1
       (and-left (allowed S.catalog q) here rest) ts run.1 node right))
       h
   below (exchange n c k merge p) fit wf ok ts run node h =

@@ -1,14 +1,14 @@
 -- What a node has by its claim and its size.
-use Rattle.std.proofs.Common.{⊎_elim, ◌≡◌, ℕ, ◌<◌, Bool, true, false, ◌||◌, ◌⊎◌, inl, inr, List, [], ◌∷◌, refl, sym, ap, subst, arith, true≢false, eqb-true, eq-eqb}
+use Rattle.std.proofs.Common.{⊎_elim, ◌≡◌, ℕ, ◌<◌, ◌≤◌, Bool, true, false, ◌||◌, ◌⊎◌, inl, inr, List, [], ◌∷◌, refl, sym, ap, subst, arith, true≢false, eqb-true, eq-eqb}
 use Rattle.std.specs.List.{list_all}
 use Rattle.vx_values.specs.Values.{Row, pick}
-use Rattle.vx_rows.specs.Bags.{SameRows}
+use Rattle.vx_rows.specs.Bags.{total}
 use Rattle.vx_plan_nodes.specs.Plan.{Size, one_worker, group_of, Route, by_hash, by_range, Part, one, any, all, routed, is_one, size_eq}
 use Rattle.vx_plan_nodes.specs.Streams.{Streams, joined, workers}
 use Rattle.vx_plan_nodes.specs.Routes.{Routing}
 use Rattle.vx_check_rules.specs.Rules.{numbers_eq, route_eq, part_gives}
-use Rattle.vx_check_rules.specs.Claims.{PartHolds, InItsStream, PartOf}
-use Rattle.vx_laws.proofs.Bags.{and-left, and-right, and-both}
+use Rattle.vx_check_rules.specs.Claims.{InItsStream, PartOf}
+use Rattle.vx_laws.proofs.Bags.{and-left, and-right, and-both, total-joined, across-least}
 
 pub or-cases : (a b : Bool) → (a || b) ≡ true → (a ≡ true) ⊎ (b ≡ true)
 or-cases true b e = inl refl
@@ -96,31 +96,23 @@ module _ (goes : Routing) (law : InRange goes) where
       let Q : List ℕ → Type 0 = λ x. stands (joined n s) × InItsStream goes r x n s in
       subst P a (subst Q b h)
 
-  -- what `has` shows
-  pub has-holds-of : (sizes : ℕ → ℕ) (z : Size) (p q : Part) (s : Streams) (stands : List Row → Type 0)
-      → (is_one z || part_gives p q) ≡ true → PartOf goes p (workers sizes z) s stands → PartOf goes q (workers sizes z) s stands
-  has-holds-of sizes z p q s stands e h = ⊎_elim
-      (λ o. single-of q _ s stands (one-worker sizes z o) (from_single-of p _ s stands (one-worker sizes z o) h))
-      (λ g. weaker-of p q _ s stands g h)
-      (or-cases _ _ e)
+  -- what one worker has, or what a part gives
+  pub has-part : (b : Bool) (p q : Part) (n : ℕ) (s : Streams) (stands : List Row → Type 0) → (b ≡ true → n ≡ 1) → (b || part_gives p q) ≡ true → PartOf goes p n s stands → PartOf goes q n s stands
+  has-part b p q n s stands single e h = ⊎_elim
+      (λ o. single-of q n s stands (single o) (from_single-of p n s stands (single o) h))
+      (λ g. weaker-of p q n s stands g h)
+      (or-cases b (part_gives p q) e)
 
-  -- and for the serial rows, each as often
-  pub single : (q : Part) (n : ℕ) (s : Streams) (base : List Row) → n ≡ 1 → SameRows (joined n s) base → PartHolds goes q n s base
-  single q n s base e h = single-of q n s (λ xs. SameRows xs base) e h
+-- one stream has no more than any list that stands for the rows
+pub stream-most : (goes : Routing) (q : Part) (n : ℕ) (s : Streams) (stands : List Row → Type 0) (f : Row → ℕ) (most : ℕ) → ((xs : List Row) → stands xs → total f xs ≤ most)
+    → PartOf goes q n s stands → (w : ℕ) → w < n → total f (s w) ≤ most
+stream-most goes q n s stands f most law h w l = shown q h
+  where
+    together : stands (joined n s) → total f (s w) ≤ most
+    together g = let a = law (joined n s) g in let b = total-joined f n s in let c = across-least n (λ i. total f (s i)) w l in omega (arith, a, b, c)
 
-  pub from_single : (q : Part) (n : ℕ) (s : Streams) (base : List Row) → n ≡ 1 → PartHolds goes q n s base → SameRows (joined n s) base
-  from_single q n s base e h = from_single-of q n s (λ xs. SameRows xs base) e h
-
-  pub weaker : (p q : Part) (n : ℕ) (s : Streams) (base : List Row) → part_gives p q ≡ true → PartHolds goes p n s base → PartHolds goes q n s base
-  weaker p q n s base e h = weaker-of p q n s (λ xs. SameRows xs base) e h
-
-  pub has-holds : (sizes : ℕ → ℕ) (z : Size) (p q : Part) (s : Streams) (base : List Row)
-      → (is_one z || part_gives p q) ≡ true → PartHolds goes p (workers sizes z) s base → PartHolds goes q (workers sizes z) s base
-  has-holds sizes z p q s base e h = has-holds-of sizes z p q s (λ xs. SameRows xs base) e h
-
-  -- what stands for less
-  pub part-map : (q : Part) (n : ℕ) (s : Streams) (A B : List Row → Type 0) → ((xs : List Row) → A xs → B xs) → PartOf goes q n s A → PartOf goes q n s B
-  part-map one n s A B f h = (h.0, f (joined n s) h.1)
-  part-map any n s A B f h = f (joined n s) h
-  part-map all n s A B f h = λ w l. f (s w) (h w l)
-  part-map (routed r cols) n s A B f h = (f (joined n s) h.0, h.1)
+    shown : (q : Part) → PartOf goes q n s stands → total f (s w) ≤ most
+    shown one h = together h.1
+    shown any h = together h
+    shown all h = law (s w) (h w l)
+    shown (routed r cols) h = together h.0

@@ -1,12 +1,15 @@
 -- Phases that fit, seen from below and from each node.
-use Rattle.std.proofs.Common.{◌≡◌, Bool, true, false, not, ◌&&◌, ◌||◌, refl, ap, ap₂, ◌∙◌}
+use Rattle.std.proofs.Common.{◌≡◌, Bool, true, false, not, ◌&&◌, ◌||◌, refl, sym, ap, ap₂, ◌∙◌}
 use Rattle.vx_relations.specs.Catalog.{relation_at}
-use Rattle.vx_plan_nodes.specs.Plan.{Unary, select, project, distinct, sort, group, plain, partial, final, Plan, scan, unary, binary, exchange}
+use Rattle.vx_plan_nodes.specs.Plan.{Unary, Plan, scan, unary, binary, exchange}
 use Rattle.vx_plan_nodes.specs.Phases.{is_open, is_partial, is_final, opens, phase_fits, both_closed, phased, phase_seen, phases_seen}
 use Rattle.vx_plan_nodes.specs.Types.{types_of}
 use Rattle.vx_plan_nodes.specs.Typed.{Scope, is_binary, is_output, typed}
 use Rattle.vx_plan_nodes.specs.Types.{binary_types}
 use Rattle.vx_laws.specs.Forms.{PhasesAgree}
+use Rattle.std.proofs.Math.Bool.{and-false, and_comm}
+use Rattle.vx_check_rules.proofs.Bools.{or-false, or-true, and-true}
+use Rattle.vx_laws.proofs.Phased.{by-phase}
 use Rattle.vx_laws.proofs.Bags.{and-left, and-right, and-both}
 use Rattle.vx_plan_nodes.proofs.ErasedFacts.{typed-below}
 
@@ -15,56 +18,24 @@ seen true (scan n c r m z) = refl
 seen false (scan n c r m z) = refl
 seen u (unary n c op p) = go u op (seen false p) (seen true p)
   where
-    other : (u a b : Bool) → (a && b) ≡ ((a && b) && (u || true))
-    other true true true = refl
-    other false true true = refl
-    other true true false = refl
-    other false true false = refl
-    other true false b = refl
-    other false false b = refl
-
-    under : (u a b : Bool) → (u && (a && b)) ≡ ((a && b) && (u || false))
-    under true true true = refl
-    under true true false = refl
-    under true false b = refl
-    under false true true = refl
-    under false true false = refl
-    under false false b = refl
-
-    over : (u o a b : Bool) → (o && (a && true)) ≡ ((a && o) && (u || true))
-    over true true true b = refl
-    over false true true b = refl
-    over true true false b = refl
-    over false true false b = refl
-    over true false true b = refl
-    over false false true b = refl
-    over true false false b = refl
-    over false false false b = refl
+    always : (u a : Bool) → a ≡ (a && (u || true))
+    always u a = sym (ap (λ v. a && v) (or-true u) ∙ and-true a)
 
     go : (u : Bool) (op : Unary) → phases_seen false p ≡ (phased p && not (is_open p)) → phases_seen true p ≡ (phased p && true)
         → (phase_seen u op p && phases_seen (is_final op) p) ≡ ((phased p && phase_fits op p) && (u || not (is_partial op)))
-    go u (select cs) e f = e ∙ other u (phased p) (not (is_open p))
-    go u (project cols) e f = e ∙ other u (phased p) (not (is_open p))
-    go u (distinct cols) e f = e ∙ other u (phased p) (not (is_open p))
-    go u (sort cols) e f = e ∙ other u (phased p) (not (is_open p))
-    go u (group plain by aggregates) e f = e ∙ other u (phased p) (not (is_open p))
-    go u (group partial by aggregates) e f = ap (λ v. u && v) e ∙ under u (phased p) (not (is_open p))
-    go u (group final by aggregates) e f = ap (λ v. opens by aggregates p && v) f ∙ over u (opens by aggregates p) (phased p) true
-seen u (binary n c op p q) = ap₂ (λ a b. a && b) (seen false p) (seen false q) ∙ shuffle u (phased p) (phased q) (not (is_open p)) (not (is_open q))
+    go u op e f = by-phase (λ op g. (g.seen u p && phases_seen g.ends p) ≡ ((phased p && g.fits p) && (u || not g.begins)))
+        (λ op v. e ∙ always u (phased p && not (is_open p)))
+        (λ by aggregates. ap (λ v. u && v) e ∙ (and_comm u (phased p && not (is_open p)) ∙ ap (λ v. (phased p && not (is_open p)) && v) (sym (or-false u))))
+        (λ by aggregates. ap (λ v. opens by aggregates p && v) (f ∙ and-true (phased p)) ∙ (and_comm (opens by aggregates p) (phased p) ∙ always u (phased p && opens by aggregates p))) op
+seen u (binary n c op p q) = ap₂ (λ a b. a && b) (seen false p) (seen false q) ∙ (shuffle (phased p) (phased q) (not (is_open p)) (not (is_open q)) ∙ sym (ap (λ v. here && v) (or-true u) ∙ and-true here))
   where
-    shuffle : (u a b x y : Bool) → ((a && x) && (b && y)) ≡ ((a && (b && (x && y))) && (u || true))
-    shuffle true false b x y = refl
-    shuffle false false b x y = refl
-    shuffle true true false true y = refl
-    shuffle false true false true y = refl
-    shuffle true true false false y = refl
-    shuffle false true false false y = refl
-    shuffle true true true true true = refl
-    shuffle false true true true true = refl
-    shuffle true true true true false = refl
-    shuffle false true true true false = refl
-    shuffle true true true false y = refl
-    shuffle false true true false y = refl
+    here : Bool
+    here = phased p && (phased q && (not (is_open p) && not (is_open q)))
+
+    shuffle : (a b x y : Bool) → ((a && x) && (b && y)) ≡ (a && (b && (x && y)))
+    shuffle false b x y = refl
+    shuffle true b false y = sym (and-false b)
+    shuffle true b true y = refl
 seen u (exchange n c k m p) = seen u p
 
 well : (s : Scope) (p : Plan) → typed s p ≡ true → phased p ≡ true

@@ -2,6 +2,10 @@
 use Rattle.std.proofs.Common.{◌≡◌, ℕ, zero, suc, ◌+◌, ◌*◌, ◌<◌, ◌≤◌, ◌==◌, pos, negsuc, ◌-ℤ◌, Bool, true, false, cond, not, ◌&&◌, List, [], ◌∷◌, ◌++◌, map, filter, flat_map, length, refl, sym, ap, ap₂, ◌∙◌, subst, arith, true≢false, is_le, is_eq, append_assoc, zero-add, eqb-true, Some, None}
 use Rattle.std.proofs.lemmas.Int.{ints}
 use Rattle.std.proofs.lemmas.Cmp.{tied_itself}
+use Rattle.std.proofs.lemmas.Bool.{not-true}
+use Rattle.std.proofs.lemmas.List.{map-append}
+use Rattle.std.proofs.lemmas.List.Elements.{filter-append}
+use Rattle.std.proofs.lemmas.Grind.{flat_map-append}
 use Rattle.std.specs.List.{list_all}
 use Rattle.vx_values.specs.Lists.{is_some_list}
 use Rattle.vx_values.specs.Types.{fits_64}
@@ -10,16 +14,16 @@ use Rattle.vx_rows.specs.Order.{agree}
 use Rattle.vx_rows.specs.Bags.{total, count, SameRows}
 use Rattle.vx_plan_nodes.specs.Plan.{Aggregate, least, greatest, sum, count_rows}
 use Rattle.vx_plan_nodes.specs.Phases.{columns_from, first_columns, merging, merged, is_row_of, Parts}
-use Rattle.vx_plan_nodes.specs.Serial.{firsts, group_keys, group_rows, group_row, group_fits, of_key, aggregate_of, fits, sum_of, count_of, above_zero, below_zero, least_of, greatest_of}
+use Rattle.vx_plan_nodes.specs.Serial.{first_or_none, firsts, group_keys, group_rows, group_row, group_fits, of_key, aggregate_of, fits, sum_of, count_of, above_zero, below_zero, least_of, greatest_of}
 use Rattle.vx_plan_nodes.specs.Streams.{Streams, joined}
 use Rattle.vx_rows.proofs.Compare.{row_eq-same, row_eq-refl, row_eq-laws, val_cmp_total, val_cmp-same, is_eq-Equal}
-use Rattle.vx_laws.proofs.Bags.{and-left, and-right, and-both, when, total-append, total-map, total-filter, total-flat_map, total-ext, total-zero, total-add, against, against-none, none-against, SameRows-all, SameRows-sym, SameRows-trans, SameRows-refl}
+use Rattle.vx_laws.proofs.Bags.{total-ones, and-left, and-right, and-both, when, total-append, total-map, total-filter, total-flat_map, total-ext, total-zero, total-add, against, against-none, none-against, SameRows-all, SameRows-sym, SameRows-trans, SameRows-refl}
 use Rattle.vx_laws.proofs.Parts.{list_all-weaken}
 use Rattle.vx_laws.proofs.Join.{total-swap, total-all-ext, value-left, value-right}
 use Rattle.vx_laws.proofs.Exchange.{filter-all}
 use Rattle.vx_laws.proofs.Widths.{length-pick, firsts-all, picks-wide}
-use Rattle.vx_laws.proofs.JoinOrder.{list_all-append}
-use Rattle.vx_laws.proofs.Apart.{flag-no, flag-yes, sign, firsts-count, same-from-counts, nothing-same, self-counts, val-trans, val-both, least-below, least-among, greatest-above, greatest-among, group_row-same, of_key-same}
+use Rattle.vx_laws.proofs.JoinOrder.{all-append, all-front, all-back, all-and}
+use Rattle.vx_laws.proofs.Apart.{flag-no, flag-yes, sign, firsts-count, same-from-counts, nothing-same, self-counts, Extreme, least-extreme, greatest-extreme, group_row-same, of_key-same}
 use Rattle.vx_laws.proofs.Groups.{groups, groups-same, keys-all, fits-same-rows}
 
 -- ---- parts in any order
@@ -61,7 +65,9 @@ arranged f xs (y ∷ ys) s =
           let e : h (f t.0) ≡ h y = ap h t.2 in
           omega (arith, a, b, c, d, e);
     }) in
-    (t.0 ∷ r.0, ap₂ (λ a b. a ∷ b) t.2 r.1, λ g. let a = r.2 g in let b = t.3 g in omega (arith, a, b))
+    let front : f t.0 ≡ y = t.2 in
+    let rest : map f r.0 ≡ ys = r.1 in
+    (t.0 ∷ r.0, (cc), λ g. let a = r.2 g in let b = t.3 g in omega (arith, a, b))
 
 pub Parts-order : (by : List ℕ) (aggregates : List Aggregate) (base xs ys : List Row) → SameRows xs ys → Parts by aggregates base xs → Parts by aggregates base ys
 Parts-order by aggregates base xs ys s p =
@@ -78,25 +84,17 @@ Parts-order by aggregates base xs ys s p =
 pub Parts-base : (by : List ℕ) (aggregates : List Aggregate) (base other xs : List Row) → SameRows base other → Parts by aggregates base xs → Parts by aggregates other xs
 Parts-base by aggregates base other xs s p = record { pieces = p.pieces; rows_are = p.rows_are; each = p.each; whole = SameRows-trans p.whole s }
 
-map-append : {X Y : Type 0} (f : X → Y) (xs ys : List X) → map f (xs ++ ys) ≡ map f xs ++ map f ys
-map-append f [] ys = refl
-map-append f (x ∷ xs) ys = ap (λ l. f x ∷ l) (map-append f xs ys)
-
-flat-append : {X Y : Type 0} (f : X → List Y) (xs ys : List X) → flat_map f (xs ++ ys) ≡ flat_map f xs ++ flat_map f ys
-flat-append f [] ys = refl
-flat-append f (x ∷ xs) ys = ap (λ l. f x ++ l) (flat-append f xs ys) ∙ sym (append_assoc (f x) (flat_map f xs) (flat_map f ys))
-
 pub Parts-append : (by : List ℕ) (aggregates : List Aggregate) (base other xs ys : List Row) → Parts by aggregates base xs → Parts by aggregates other ys
     → Parts by aggregates (base ++ other) (xs ++ ys)
 Parts-append by aggregates base other xs ys p q = record {
   pieces = p.pieces ++ q.pieces;
   rows_are = map-append (λ (t : Piece). t.0) p.pieces q.pieces ∙ ap₂ (λ a b. a ++ b) p.rows_are q.rows_are;
-  each = list_all-append (λ (t : Piece). is_row_of by aggregates t.0 t.1) p.pieces q.pieces p.each q.each;
+  each = all-append (λ (t : Piece). is_row_of by aggregates t.0 t.1) p.pieces q.pieces p.each q.each;
   whole = record {
     totals = λ f.
         let a = p.whole.totals f in
         let b = q.whole.totals f in
-        let c : total f (flat_map (λ (t : Piece). t.1) (p.pieces ++ q.pieces)) ≡ total f (flat_map (λ (t : Piece). t.1) p.pieces ++ flat_map (λ (t : Piece). t.1) q.pieces) = ap (total f) (flat-append (λ (t : Piece). t.1) p.pieces q.pieces) in
+        let c : total f (flat_map (λ (t : Piece). t.1) (p.pieces ++ q.pieces)) ≡ total f (flat_map (λ (t : Piece). t.1) p.pieces ++ flat_map (λ (t : Piece). t.1) q.pieces) = ap (total f) (flat_map-append (λ (t : Piece). t.1) p.pieces q.pieces) in
         let d = total-append f (flat_map (λ (t : Piece). t.1) p.pieces) (flat_map (λ (t : Piece). t.1) q.pieces) in
         let e = total-append f base other in
         omega (arith, a, b, c, d, e);
@@ -131,10 +129,6 @@ is_row-of-key by aggregates key (x ∷ xs) h some =
     and-both (list_all (agree by x) xs) (row_eq (key ++ vals) (pick by x ++ vals))
     (subst P e (and-right (row_eq key (pick by x)) (list_all (λ r. row_eq key (pick by r)) xs) h))
     (subst Q e (row_eq-refl (key ++ vals)))
-
-counted-length : {X : Type 0} (xs : List X) → total (λ x. 1) xs ≡ length xs
-counted-length [] = refl
-counted-length (x ∷ xs) = let e = counted-length xs in omega (arith, e)
 
 -- each key of the list has a row
 of_key-some : (by : List ℕ) (xs : List Row) → list_all (λ x. is_some_list (of_key by (pick by x) xs)) xs ≡ true
@@ -204,7 +198,7 @@ groups-whole by aggregates xs = record {
     alone f x e =
         let ks : List Row = group_keys by xs in
         let some = some-length (of_key by (pick by x) xs) e in
-        let m : total (λ r. 1) (of_key by (pick by x) xs) ≡ length (of_key by (pick by x) xs) = counted-length (of_key by (pick by x) xs) in
+        let m : total (λ r. 1) (of_key by (pick by x) xs) ≡ length (of_key by (pick by x) xs) = total-ones (of_key by (pick by x) xs) in
         let c : total (λ r. 1) (of_key by (pick by x) xs) ≡ total (λ r. when (row_eq (pick by x) (pick by r)) 1) xs = total-filter (λ r. 1) (λ r. row_eq (pick by x) (pick by r)) xs in
         let d : total (λ r. when (row_eq (pick by x) (pick by r)) 1) xs ≡ count (λ r. row_eq (pick by x) (pick by r)) xs = total-ext (λ r. when (row_eq (pick by x) (pick by r)) 1) (λ r. cond (row_eq (pick by x) (pick by r)) 1 0) (λ r. same-flag (row_eq (pick by x) (pick by r))) xs in
         let g : count (row_eq (pick by x)) (map (pick by) xs) ≡ count (λ r. row_eq (pick by x) (pick by r)) xs = total-map (λ y. cond (row_eq (pick by x) y) 1 0) (pick by) xs in
@@ -243,11 +237,14 @@ Parts-groups by aggregates xs = record {
 -- ---- a final grouping puts parts together
 
 -- the row has in column c the aggregate of its rows, of which there are some
-abbrev shows-at : ℕ → Aggregate → Piece → Bool
-shows-at c a t = is_eq (val_cmp (value_at t.0 c) (aggregate_of a t.1)) && is_some_list t.1
+abbrev shows : ℕ → (List Row → Val) → Piece → Bool
+shows c v t = is_eq (val_cmp (value_at t.0 c) (v t.1)) && is_some_list t.1
 
-shown-value : (c : ℕ) (a : Aggregate) (t : Piece) → shows-at c a t ≡ true → value_at t.0 c ≡ aggregate_of a t.1
-shown-value c a t h = val_cmp-same (value_at t.0 c) (aggregate_of a t.1) (is_eq-Equal _ (and-left (is_eq (val_cmp (value_at t.0 c) (aggregate_of a t.1))) (is_some_list t.1) h))
+abbrev shows-at : ℕ → Aggregate → Piece → Bool
+shows-at c a t = shows c (λ xs. aggregate_of a xs) t
+
+shown-value : (c : ℕ) (v : List Row → Val) (t : Piece) → shows c v t ≡ true → value_at t.0 c ≡ v t.1
+shown-value c v t h = val_cmp-same (value_at t.0 c) (v t.1) (is_eq-Equal _ (and-left (is_eq (val_cmp (value_at t.0 c) (v t.1))) (is_some_list t.1) h))
 
 abbrev rows-in : List Piece → List Row
 rows-in ts = map (λ (t : Piece). t.0) ts
@@ -276,7 +273,7 @@ sum-of-sums i c ts h =
     let v : total (λ r. below_zero (value_at r c)) (all-in ts) ≡ total down ts = total-flat_map (λ r. below_zero (value_at r c)) (λ (t : Piece). t.1) ts in
     let x : total (λ (t : Piece). above_zero (value_at t.0 i) + down t) ts ≡ total (λ (t : Piece). up t + below_zero (value_at t.0 i)) ts
     = total-all-ext (shows-at i (sum c)) (λ (t : Piece). above_zero (value_at t.0 i) + down t) (λ (t : Piece). up t + below_zero (value_at t.0 i))
-    (λ t g. let P : Val → Type 0 = λ w. above_zero w + down t ≡ up t + below_zero w in subst P (sym (shown-value i (sum c) t g)) (difference-parts (up t, down t))) ts h in
+    (λ t g. let P : Val → Type 0 = λ w. above_zero w + down t ≡ up t + below_zero w in subst P (sym (shown-value i (λ xs. aggregate_of (sum c) xs) t g)) (difference-parts (up t, down t))) ts h in
     let y = total-add (λ (t : Piece). above_zero (value_at t.0 i)) down ts in
     let z = total-add up (λ (t : Piece). below_zero (value_at t.0 i)) ts in
     difference-is (total (λ r. above_zero (value_at r i)) (rows-in ts)) (total (λ r. below_zero (value_at r i)) (rows-in ts)) (total (λ r. above_zero (value_at r c)) (all-in ts)) (total (λ r. below_zero (value_at r c)) (all-in ts))
@@ -289,9 +286,9 @@ sum-of-counts i ts h =
     let b : total (λ r. below_zero (value_at r i)) (rows-in ts) ≡ total (λ (t : Piece). below_zero (value_at t.0 i)) ts = total-map (λ r. below_zero (value_at r i)) (λ (t : Piece). t.0) ts in
     let u : total (λ r. 1) (all-in ts) ≡ total many ts = total-flat_map (λ r. 1) (λ (t : Piece). t.1) ts in
     let x : total (λ (t : Piece). above_zero (value_at t.0 i)) ts ≡ total many ts
-    = total-all-ext (shows-at i count_rows) (λ (t : Piece). above_zero (value_at t.0 i)) many (λ t g. ap above_zero (shown-value i count_rows t g)) ts h in
+    = total-all-ext (shows-at i count_rows) (λ (t : Piece). above_zero (value_at t.0 i)) many (λ t g. ap above_zero (shown-value i (λ xs. aggregate_of count_rows xs) t g)) ts h in
     let y : total (λ (t : Piece). below_zero (value_at t.0 i)) ts ≡ total (λ (t : Piece). 0) ts
-    = total-all-ext (shows-at i count_rows) (λ (t : Piece). below_zero (value_at t.0 i)) (λ t. 0) (λ t g. ap below_zero (shown-value i count_rows t g)) ts h in
+    = total-all-ext (shows-at i count_rows) (λ (t : Piece). below_zero (value_at t.0 i)) (λ t. 0) (λ t g. ap below_zero (shown-value i (λ xs. aggregate_of count_rows xs) t g)) ts h in
     let z : total (λ (t : Piece). 0) ts ≡ 0 = total-zero ts in
     difference-is (total (λ r. above_zero (value_at r i)) (rows-in ts)) (total (λ r. below_zero (value_at r i)) (rows-in ts)) (total (λ r. 1) (all-in ts)) 0 (omega (arith, a, b, u, x, y, z))
     ∙ nothing-off (total (λ r. 1) (all-in ts))
@@ -302,125 +299,75 @@ sum-of-counts i ts h =
 -- what holds of all rows that pieces stand for holds of each piece's
 pieces-all : (q : Row → Bool) (ts : List Piece) → list_all q (all-in ts) ≡ true → list_all (λ (t : Piece). list_all q t.1) ts ≡ true
 pieces-all q [] h = refl
-pieces-all q (t ∷ ts) h = and-both (list_all q t.1) _ (front q t.1 (all-in ts) h) (pieces-all q ts (back q t.1 (all-in ts) h))
-  where
-    front : (q : Row → Bool) (xs ys : List Row) → list_all q (xs ++ ys) ≡ true → list_all q xs ≡ true
-    front q [] ys h = refl
-    front q (x ∷ xs) ys h = and-both (q x) (list_all q xs) (and-left (q x) (list_all q (xs ++ ys)) h) (front q xs ys (and-right (q x) (list_all q (xs ++ ys)) h))
-
-    back : (q : Row → Bool) (xs ys : List Row) → list_all q (xs ++ ys) ≡ true → list_all q ys ≡ true
-    back q [] ys h = h
-    back q (x ∷ xs) ys h = back q xs ys (and-right (q x) (list_all q (xs ++ ys)) h)
-
-both-all : {X : Type 0} (p q : X → Bool) (xs : List X) → list_all p xs ≡ true → list_all q xs ≡ true → list_all (λ x. p x && q x) xs ≡ true
-both-all p q [] h k = refl
-both-all p q (x ∷ xs) h k =
-    and-both (p x && q x) (list_all (λ x. p x && q x) xs) (and-both (p x) (q x) (and-left (p x) (list_all p xs) h) (and-left (q x) (list_all q xs) k))
-    (both-all p q xs (and-right (p x) (list_all p xs) h) (and-right (q x) (list_all q xs) k))
+pieces-all q (t ∷ ts) h =
+    and-both (list_all q t.1) _ (all-front q t.1 (all-in ts) h) (pieces-all q ts (all-back q t.1 (all-in ts) h))
 
 -- a test of the values of all rows holds of the value that each piece shows, where that is one of them
-pieces-value : (i c : ℕ) (a : Aggregate) (p : Val → Bool) → ((xs : List Row) → is_some_list xs ≡ true → list_all (λ r. p (value_at r c)) xs ≡ true → p (aggregate_of a xs) ≡ true)
-    → (ts : List Piece) → list_all (shows-at i a) ts ≡ true → list_all (λ r. p (value_at r c)) (all-in ts) ≡ true → list_all (λ r. p (value_at r i)) (rows-in ts) ≡ true
-pieces-value i c a p among ts h k = go ts (both-all (shows-at i a) (λ (t : Piece). list_all (λ r. p (value_at r c)) t.1) ts h (pieces-all (λ r. p (value_at r c)) ts k))
+pieces-value : (i c : ℕ) (of : List Row → Val) (p : Val → Bool) → ((xs : List Row) → is_some_list xs ≡ true → list_all (λ r. p (value_at r c)) xs ≡ true → p (of xs) ≡ true)
+    → (ts : List Piece) → list_all (shows i of) ts ≡ true → list_all (λ r. p (value_at r c)) (all-in ts) ≡ true → list_all (λ r. p (value_at r i)) (rows-in ts) ≡ true
+pieces-value i c of p among ts h k = go ts (all-and (shows i of) (λ (t : Piece). list_all (λ r. p (value_at r c)) t.1) ts h (pieces-all (λ r. p (value_at r c)) ts k))
   where
-    go : (ts : List Piece) → list_all (λ (t : Piece). shows-at i a t && list_all (λ r. p (value_at r c)) t.1) ts ≡ true → list_all (λ r. p (value_at r i)) (rows-in ts) ≡ true
+    go : (ts : List Piece) → list_all (λ (t : Piece). shows i of t && list_all (λ r. p (value_at r c)) t.1) ts ≡ true → list_all (λ r. p (value_at r i)) (rows-in ts) ≡ true
     go [] h = refl
     go (t ∷ ts) h =
-        let here = and-left (shows-at i a t && list_all (λ r. p (value_at r c)) t.1) (list_all (λ (t : Piece). shows-at i a t && list_all (λ r. p (value_at r c)) t.1) ts) h in
-        let s = and-left (shows-at i a t) (list_all (λ r. p (value_at r c)) t.1) here in
-        let v = among t.1 (and-right (is_eq (val_cmp (value_at t.0 i) (aggregate_of a t.1))) (is_some_list t.1) s) (and-right (shows-at i a t) (list_all (λ r. p (value_at r c)) t.1) here) in
+        let here = and-left (shows i of t && list_all (λ r. p (value_at r c)) t.1) (list_all (λ (t : Piece). shows i of t && list_all (λ r. p (value_at r c)) t.1) ts) h in
+        let s = and-left (shows i of t) (list_all (λ r. p (value_at r c)) t.1) here in
+        let v = among t.1 (and-right (is_eq (val_cmp (value_at t.0 i) (of t.1))) (is_some_list t.1) s) (and-right (shows i of t) (list_all (λ r. p (value_at r c)) t.1) here) in
         let P : Val → Type 0 = λ w. p w ≡ true in
         and-both (p (value_at t.0 i)) (list_all (λ r. p (value_at r i)) (rows-in ts))
-        (subst P (sym (shown-value i a t s)) v)
-        (go ts (and-right (shows-at i a t && list_all (λ r. p (value_at r c)) t.1) (list_all (λ (t : Piece). shows-at i a t && list_all (λ r. p (value_at r c)) t.1) ts) h))
+        (subst P (sym (shown-value i of t s)) v)
+        (go ts (and-right (shows i of t && list_all (λ r. p (value_at r c)) t.1) (list_all (λ (t : Piece). shows i of t && list_all (λ r. p (value_at r c)) t.1) ts) h))
 
 -- a test of the values that pieces show holds of the values of all rows, where it goes on to the rows of a piece
-value-pieces : (i c : ℕ) (a : Aggregate) (p : Val → Bool) → ((xs : List Row) → is_some_list xs ≡ true → p (aggregate_of a xs) ≡ true → list_all (λ r. p (value_at r c)) xs ≡ true)
-    → (ts : List Piece) → list_all (shows-at i a) ts ≡ true → list_all (λ r. p (value_at r i)) (rows-in ts) ≡ true → list_all (λ r. p (value_at r c)) (all-in ts) ≡ true
-value-pieces i c a p goes_on [] h k = refl
-value-pieces i c a p goes_on (t ∷ ts) h k =
-    let s = and-left (shows-at i a t) (list_all (shows-at i a) ts) h in
+value-pieces : (i c : ℕ) (of : List Row → Val) (p : Val → Bool) → ((xs : List Row) → is_some_list xs ≡ true → p (of xs) ≡ true → list_all (λ r. p (value_at r c)) xs ≡ true)
+    → (ts : List Piece) → list_all (shows i of) ts ≡ true → list_all (λ r. p (value_at r i)) (rows-in ts) ≡ true → list_all (λ r. p (value_at r c)) (all-in ts) ≡ true
+value-pieces i c of p goes_on [] h k = refl
+value-pieces i c of p goes_on (t ∷ ts) h k =
+    let s = and-left (shows i of t) (list_all (shows i of) ts) h in
     let P : Val → Type 0 = λ w. p w ≡ true in
-    list_all-append (λ r. p (value_at r c)) t.1 (all-in ts)
-    (goes_on t.1 (and-right (is_eq (val_cmp (value_at t.0 i) (aggregate_of a t.1))) (is_some_list t.1) s)
-    (subst P (shown-value i a t s) (and-left (p (value_at t.0 i)) (list_all (λ r. p (value_at r i)) (rows-in ts)) k)))
-    (value-pieces i c a p goes_on ts (and-right (shows-at i a t) (list_all (shows-at i a) ts) h) (and-right (p (value_at t.0 i)) (list_all (λ r. p (value_at r i)) (rows-in ts)) k))
+    all-append (λ r. p (value_at r c)) t.1 (all-in ts)
+    (goes_on t.1 (and-right (is_eq (val_cmp (value_at t.0 i) (of t.1))) (is_some_list t.1) s)
+    (subst P (shown-value i of t s) (and-left (p (value_at t.0 i)) (list_all (λ r. p (value_at r i)) (rows-in ts)) k)))
+    (value-pieces i c of p goes_on ts (and-right (shows i of t) (list_all (shows i of) ts) h) (and-right (p (value_at t.0 i)) (list_all (λ r. p (value_at r i)) (rows-in ts)) k))
 
-least-in : (c : ℕ) (p : Val → Bool) (xs : List Row) → is_some_list xs ≡ true → list_all (λ r. p (value_at r c)) xs ≡ true → p (aggregate_of (least c) xs) ≡ true
-least-in c p [] s h = absurd (true≢false (sym s))
-least-in c p (x ∷ xs) s h = least-among c x xs p h
-
-greatest-in : (c : ℕ) (p : Val → Bool) (xs : List Row) → is_some_list xs ≡ true → list_all (λ r. p (value_at r c)) xs ≡ true → p (aggregate_of (greatest c) xs) ≡ true
-greatest-in c p [] s h = absurd (true≢false (sym s))
-greatest-in c p (x ∷ xs) s h = greatest-among c x xs p h
-
-least-rest : (c : ℕ) (m : Val) (xs : List Row) → is_some_list xs ≡ true → is_le (val_cmp m (aggregate_of (least c) xs)) ≡ true → list_all (λ r. is_le (val_cmp m (value_at r c))) xs ≡ true
-least-rest c m [] s h = absurd (true≢false (sym s))
-least-rest c m (x ∷ xs) s h =
-    list_all-weaken (λ r. is_le (val_cmp (least_of c x xs) (value_at r c))) (λ r. is_le (val_cmp m (value_at r c)))
-    (λ r k. val-trans m (least_of c x xs) (value_at r c) h k) (x ∷ xs) (least-below c x xs)
-
-greatest-rest : (c : ℕ) (m : Val) (xs : List Row) → is_some_list xs ≡ true → is_le (val_cmp (aggregate_of (greatest c) xs) m) ≡ true → list_all (λ r. is_le (val_cmp (value_at r c) m)) xs ≡ true
-greatest-rest c m [] s h = absurd (true≢false (sym s))
-greatest-rest c m (x ∷ xs) s h =
-    list_all-weaken (λ r. is_le (val_cmp (value_at r c) (greatest_of c x xs))) (λ r. is_le (val_cmp (value_at r c) m))
-    (λ r k. val-trans (value_at r c) (greatest_of c x xs) m k h) (x ∷ xs) (greatest-above c x xs)
-
--- the least of a list that is not empty, as one of a first row and others
-least-of-least : (i c : ℕ) (ts : List Piece) → list_all (shows-at i (least c)) ts ≡ true → aggregate_of (least i) (rows-in ts) ≡ aggregate_of (least c) (all-in ts)
-least-of-least i c [] h = refl
-least-of-least i c (t ∷ ts) h = go (all-in (t ∷ ts)) refl
+-- the extreme of what pieces show is that of all rows
+extreme-of-extremes : (of : ℕ → Row → List Row → Val) (before : Val → Val → Bool) → Extreme of before → (i c : ℕ) (ts : List Piece)
+    → list_all (shows i (first_or_none (of c))) ts ≡ true → first_or_none (of i) (rows-in ts) ≡ first_or_none (of c) (all-in ts)
+extreme-of-extremes of before e i c [] h = refl
+extreme-of-extremes of before e i c (t ∷ ts) h = go (all-in (t ∷ ts)) refl
   where
-    L : List Row
-    L = rows-in (t ∷ ts)
+    inside : (p : Val → Bool) (xs : List Row) → is_some_list xs ≡ true → list_all (λ r. p (value_at r c)) xs ≡ true → p (first_or_none (of c) xs) ≡ true
+    inside p [] s k = absurd (true≢false (sym s))
+    inside p (x ∷ xs) s k = e.among c x xs p k
+
+    rest : (m : Val) (xs : List Row) → is_some_list xs ≡ true → before m (first_or_none (of c) xs) ≡ true → list_all (λ r. before m (value_at r c)) xs ≡ true
+    rest m [] s k = absurd (true≢false (sym s))
+    rest m (x ∷ xs) s k =
+        list_all-weaken (λ r. before (of c x xs) (value_at r c)) (λ r. before m (value_at r c)) (λ r g. e.trans m (of c x xs) (value_at r c) k g) (x ∷ xs) (e.first c x xs)
 
     some : is_some_list t.1 ≡ true
-    some = and-right (is_eq (val_cmp (value_at t.0 i) (aggregate_of (least c) t.1))) (is_some_list t.1) (and-left (shows-at i (least c) t) (list_all (shows-at i (least c)) ts) h)
+    some = and-right (is_eq (val_cmp (value_at t.0 i) (first_or_none (of c) t.1))) (is_some_list t.1)
+        (and-left (shows i (first_or_none (of c)) t) (list_all (shows i (first_or_none (of c))) ts) h)
 
-    go : (xs : List Row) → all-in (t ∷ ts) ≡ xs → aggregate_of (least i) L ≡ aggregate_of (least c) xs
-    go [] e = absurd (none t.1 (all-in ts) some e)
-      where
-        none : (xs ys : List Row) → is_some_list xs ≡ true → xs ++ ys ≡ [] → ⊥
-        none [] ys s e = true≢false (sym s)
-        none (x ∷ xs) ys s e = cc
-    go (x ∷ xs) e =
-        let m : Val = least_of i t.0 (rows-in ts) in
-        let v : Val = least_of c x xs in
-        let P : List Row → Type 0 = λ l. list_all (λ r. is_le (val_cmp v (value_at r c))) l ≡ true in
-        let Q : List Row → Type 0 = λ l. list_all (λ r. is_le (val_cmp m (value_at r c))) l ≡ true in
-        val-both m v
-        (least-among c x xs (λ u. is_le (val_cmp m u)) (subst Q e (value-pieces i c (least c) (λ u. is_le (val_cmp m u)) (λ ys s k. least-rest c m ys s k) (t ∷ ts) h (least-below i t.0 (rows-in ts)))))
-        (least-among i t.0 (rows-in ts) (λ u. is_le (val_cmp v u)) (pieces-value i c (least c) (λ u. is_le (val_cmp v u)) (λ ys s k. least-in c (λ u. is_le (val_cmp v u)) ys s k) (t ∷ ts) h (subst P (sym e) (least-below c x xs))))
+    none : (xs ys : List Row) → is_some_list xs ≡ true → xs ++ ys ≡ [] → ⊥
+    none [] ys s g = true≢false (sym s)
+    none (x ∷ xs) ys s g = cc
 
-greatest-of-greatest : (i c : ℕ) (ts : List Piece) → list_all (shows-at i (greatest c)) ts ≡ true → aggregate_of (greatest i) (rows-in ts) ≡ aggregate_of (greatest c) (all-in ts)
-greatest-of-greatest i c [] h = refl
-greatest-of-greatest i c (t ∷ ts) h = go (all-in (t ∷ ts)) refl
-  where
-    L : List Row
-    L = rows-in (t ∷ ts)
-
-    some : is_some_list t.1 ≡ true
-    some = and-right (is_eq (val_cmp (value_at t.0 i) (aggregate_of (greatest c) t.1))) (is_some_list t.1) (and-left (shows-at i (greatest c) t) (list_all (shows-at i (greatest c)) ts) h)
-
-    go : (xs : List Row) → all-in (t ∷ ts) ≡ xs → aggregate_of (greatest i) L ≡ aggregate_of (greatest c) xs
-    go [] e = absurd (none t.1 (all-in ts) some e)
-      where
-        none : (xs ys : List Row) → is_some_list xs ≡ true → xs ++ ys ≡ [] → ⊥
-        none [] ys s e = true≢false (sym s)
-        none (x ∷ xs) ys s e = cc
-    go (x ∷ xs) e =
-        let m : Val = greatest_of i t.0 (rows-in ts) in
-        let v : Val = greatest_of c x xs in
-        let P : List Row → Type 0 = λ l. list_all (λ r. is_le (val_cmp (value_at r c) v)) l ≡ true in
-        let Q : List Row → Type 0 = λ l. list_all (λ r. is_le (val_cmp (value_at r c) m)) l ≡ true in
-        val-both m v
-        (greatest-among i t.0 (rows-in ts) (λ u. is_le (val_cmp u v)) (pieces-value i c (greatest c) (λ u. is_le (val_cmp u v)) (λ ys s k. greatest-in c (λ u. is_le (val_cmp u v)) ys s k) (t ∷ ts) h (subst P (sym e) (greatest-above c x xs))))
-        (greatest-among c x xs (λ u. is_le (val_cmp u m)) (subst Q e (value-pieces i c (greatest c) (λ u. is_le (val_cmp u m)) (λ ys s k. greatest-rest c m ys s k) (t ∷ ts) h (greatest-above i t.0 (rows-in ts)))))
+    go : (xs : List Row) → all-in (t ∷ ts) ≡ xs → of i t.0 (rows-in ts) ≡ first_or_none (of c) xs
+    go [] g = absurd (none t.1 (all-in ts) some g)
+    go (x ∷ xs) g =
+        let m : Val = of i t.0 (rows-in ts) in
+        let v : Val = of c x xs in
+        let P : List Row → Type 0 = λ l. list_all (λ r. before v (value_at r c)) l ≡ true in
+        let Q : List Row → Type 0 = λ l. list_all (λ r. before m (value_at r c)) l ≡ true in
+        e.both m v
+        (e.among c x xs (λ u. before m u) (subst Q g (value-pieces i c (first_or_none (of c)) (λ u. before m u) (λ ys s k. rest m ys s k) (t ∷ ts) h (e.first i t.0 (rows-in ts)))))
+        (e.among i t.0 (rows-in ts) (λ u. before v u) (pieces-value i c (first_or_none (of c)) (λ u. before v u) (λ ys s k. inside (λ u. before v u) ys s k) (t ∷ ts) h (subst P (sym g) (e.first c x xs))))
 
 -- one aggregate, put together from parts
 pub merged-one : (i : ℕ) (a : Aggregate) (ts : List Piece) → list_all (shows-at i a) ts ≡ true → aggregate_of (merging i a) (rows-in ts) ≡ aggregate_of a (all-in ts)
-merged-one i (least c) ts h = least-of-least i c ts h
-merged-one i (greatest c) ts h = greatest-of-greatest i c ts h
+merged-one i (least c) ts h = extreme-of-extremes least_of (λ a b. is_le (val_cmp a b)) least-extreme i c ts h
+merged-one i (greatest c) ts h = extreme-of-extremes greatest_of (λ a b. is_le (val_cmp b a)) greatest-extreme i c ts h
 merged-one i (sum c) ts h = ap num (sum-of-sums i c ts h)
 merged-one i count_rows ts h = ap num (sum-of-counts i ts h)
 
@@ -506,14 +453,6 @@ pick-key n key vals e =
 row-key : (by : List ℕ) (aggregates : List Aggregate) (row : Row) (xs : List Row) (r : RowOf by aggregates row xs) → pick (first_columns (length by)) row ≡ r.key
 row-key by aggregates row xs r = ap (λ v. pick (first_columns (length by)) v) r.row_is ∙ pick-key (length by) r.key (map (λ a. aggregate_of a xs) aggregates) r.long
 
-filter-append : {X : Type 0} (p : X → Bool) (xs ys : List X) → filter p (xs ++ ys) ≡ filter p xs ++ filter p ys
-filter-append p [] ys = refl
-filter-append p (x ∷ xs) ys = go (p x) (filter-append p xs ys)
-  where
-    go : (b : Bool) → filter p (xs ++ ys) ≡ filter p xs ++ filter p ys → cond b (x ∷ filter p (xs ++ ys)) (filter p (xs ++ ys)) ≡ cond b (x ∷ filter p xs) (filter p xs) ++ filter p ys
-    go true e = ap (λ l. x ∷ l) e
-    go false e = e
-
 filter-every : {X : Type 0} (p : X → Bool) (xs : List X) → list_all p xs ≡ true → filter p xs ≡ xs
 filter-every p [] h = refl
 filter-every p (x ∷ xs) h = ap (λ b. cond b (x ∷ filter p xs) (filter p xs)) (and-left (p x) (list_all p xs) h) ∙ ap (λ l. x ∷ l) (filter-every p xs (and-right (p x) (list_all p xs) h))
@@ -521,12 +460,8 @@ filter-every p (x ∷ xs) h = ap (λ b. cond b (x ∷ filter p xs) (filter p xs)
 filter-nothing : {X : Type 0} (p : X → Bool) (xs : List X) → list_all (λ x. not (p x)) xs ≡ true → filter p xs ≡ []
 filter-nothing p [] h = refl
 filter-nothing p (x ∷ xs) h =
-    let e : p x ≡ false = off (p x) (and-left (not (p x)) (list_all (λ x. not (p x)) xs) h) in
+    let e : p x ≡ false = not-true (p x) (and-left (not (p x)) (list_all (λ x. not (p x)) xs) h) in
     ap (λ b. cond b (x ∷ filter p xs) (filter p xs)) e ∙ filter-nothing p xs (and-right (not (p x)) (list_all (λ x. not (p x)) xs) h)
-  where
-    off : (b : Bool) → not b ≡ true → b ≡ false
-    off true e = sym e
-    off false e = refl
 
 -- no row stands before an equal one
 abbrev All-apart : List Row → Bool
@@ -642,12 +577,8 @@ module _ (by : List ℕ) (aggregates : List Aggregate) where
           none : (xs : List Row) → list_all (λ x. not (row_eq r (pick by x))) xs ≡ true → sign (total (λ x. cond (row_eq r (pick by x)) 1 0) xs) ≡ 0
           none xs a =
               let e : total (λ x. cond (row_eq r (pick by x)) 1 0) xs ≡ total (λ x. 0) xs
-              = total-all-ext (λ x. not (row_eq r (pick by x))) (λ x. cond (row_eq r (pick by x)) 1 0) (λ x. 0) (λ x n. flag-no (row_eq r (pick by x)) (off (row_eq r (pick by x)) n)) xs a in
+              = total-all-ext (λ x. not (row_eq r (pick by x))) (λ x. cond (row_eq r (pick by x)) 1 0) (λ x. 0) (λ x n. flag-no (row_eq r (pick by x)) (not-true (row_eq r (pick by x)) n)) xs a in
               ap sign (e ∙ total-zero xs)
-            where
-              off : (b : Bool) → not b ≡ true → b ≡ false
-              off true e = sym e
-              off false e = refl
 
           go : (b : Bool) (o : RowOf by aggregates t.0 t.1) → row_eq r o.key ≡ b → sign (cond b 1 0) ≡ sign (total (λ x. cond (row_eq r (pick by x)) 1 0) t.1)
           go true o e =

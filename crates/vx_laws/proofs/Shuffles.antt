@@ -4,12 +4,13 @@ use Rattle.std.specs.List.{list_all}
 use Rattle.vx_values.specs.Values.{Row}
 use Rattle.vx_rows.specs.Order.{compare_on, sorted, insert_sorted, sort_on}
 use Rattle.vx_plan_nodes.specs.Streams.{Streams, bearing, Dealt}
+use Rattle.vx_ends.proofs.Deals.{bearing-append, ranges-append}
 use Rattle.vx_laws.proofs.Bags.{and-left, and-right, and-both}
 use Rattle.vx_laws.proofs.Parts.{list_all-weaken}
 use Rattle.vx_rows.proofs.Compare.{le-trans}
 use Rattle.vx_laws.proofs.Orders.{list_all-bearing, rows_of}
 use Rattle.vx_laws.proofs.Unary.{sort-sorted}
-use Rattle.vx_laws.proofs.Decks.{bearing-append, bearing-tag, tag-range}
+use Rattle.vx_laws.proofs.Decks.{bearing-tag, tag-range}
 
 abbrev pub insert_pair : List ℕ → ℕ × Row → List (ℕ × Row) → List (ℕ × Row)
 insert_pair cols t [] = t ∷ []
@@ -103,17 +104,12 @@ abbrev pub numbered_lists : ℕ → Streams → List (ℕ × Row)
 numbered_lists zero l = []
 numbered_lists (suc n) l = numbered_lists n l ++ map (λ row. (n, row)) (l n)
 
-range-append : (n : ℕ) (xs ys : List (ℕ × Row)) → list_all (λ t. nat_lt t.0 n) xs ≡ true → list_all (λ t. nat_lt t.0 n) ys ≡ true → list_all (λ t. nat_lt t.0 n) (xs ++ ys) ≡ true
-range-append n [] ys h k = k
-range-append n (x ∷ xs) ys h k =
-    and-both (nat_lt x.0 n) (list_all (λ t. nat_lt t.0 n) (xs ++ ys)) (and-left (nat_lt x.0 n) (list_all (λ t. nat_lt t.0 n) xs) h) (range-append n xs ys (and-right (nat_lt x.0 n) (list_all (λ t. nat_lt t.0 n) xs) h) k)
-
 numbered-range : (m n : ℕ) (l : Streams) → n ≤ m → list_all (λ t. nat_lt t.0 m) (numbered_lists n l) ≡ true
 numbered-range m zero l h = refl
 numbered-range m (suc n) l h =
     let e : map (λ row. (n, row)) (l n) ++ [] ≡ map (λ row. (n, row)) (l n) = append-nil (map (λ row. (n, row)) (l n)) in
     let P : List (ℕ × Row) → Type 0 = λ ts. list_all (λ t. nat_lt t.0 m) ts ≡ true in
-    range-append m (numbered_lists n l) (map (λ row. (n, row)) (l n)) (numbered-range m n l (omega arith)) (subst P e (tag-range n m (l n) [] (omega arith) refl))
+    ranges-append m (numbered_lists n l) (map (λ row. (n, row)) (l n)) (numbered-range m n l (omega arith)) (subst P e (tag-range n m (l n) [] (omega arith) refl))
 
 bearing-past : (n : ℕ) (l : Streams) (i : ℕ) → n ≤ i → bearing i (numbered_lists n l) ≡ []
 bearing-past zero l i h = refl

@@ -1,7 +1,6 @@
 -- Two sorted lists of the same rows are one list, where rows that agree on the order are equal.
-use Rattle.std.proofs.Common.{◌≡◌, ℕ, ◌+◌, ◌<◌, ◌≤◌, ◌==◌, Bool, true, false, cond, not, ◌||◌, ⊎_elim, List, [], ◌∷◌, length, refl, sym, ap, ◌∙◌, subst, arith, true≢false, eqb-true, is_le, is_eq, Ordering, Less, Equal, Greater}
+use Rattle.std.proofs.Common.{◌≡◌, ℕ, ◌+◌, ◌<◌, ◌≤◌, ◌==◌, Bool, true, false, cond, not, ◌||◌, ⊎_elim, List, [], ◌∷◌, length, refl, sym, ap, ◌∙◌, subst, arith, true≢false, eqb-true, is_le}
 use Rattle.std.specs.List.{list_all, list_any}
-use Rattle.std.specs.Ordering.{ordering_reverse}
 use Rattle.vx_values.specs.Values.{Row, row_eq, pick}
 use Rattle.vx_rows.specs.Order.{agree, sorted, compare_on}
 use Rattle.vx_rows.specs.Bags.{count, SameRows}
@@ -11,23 +10,19 @@ use Rattle.vx_plan_nodes.specs.Types.{width}
 use Rattle.vx_plan_nodes.specs.Streams.{joined, workers}
 use Rattle.vx_check_rules.specs.Rules.{within, numbers_below, is_total_order}
 use Rattle.vx_relations.specs.Relation.{KeysHold}
+use Rattle.vx_rows.proofs.SortFacts.{eq-le, both-le}
 use Rattle.vx_laws.specs.Sound.{SoundAtRoot}
 use Rattle.vx_laws.proofs.Bags.{and-left, and-right, and-both, total-add, SameRows-all, SameRows-sym}
-use Rattle.vx_laws.proofs.Parts.{or-cases, from_single, one-worker, list_all-always}
+use Rattle.vx_laws.proofs.Parts.{or-cases, from_single-of, one-worker, list_all-always}
 use Rattle.vx_laws.proofs.Keys.{agree-within}
 use Rattle.vx_rows.proofs.Compare.{row_eq-same, row_eq-refl, row_eq-laws, row_cmp_total}
 use Rattle.vx_laws.proofs.Join.{total-all-le}
 use Rattle.vx_laws.proofs.JoinOrder.{wide}
-use Rattle.vx_laws.proofs.Widths.{serial-wide}
+use Rattle.vx_laws.proofs.Wide.{serial-wide}
 use Rattle.vx_laws.proofs.Apart.{self-counts, nothing-same, find-in, agree-all}
 use Rattle.vx_laws.proofs.Erased.{erased-rows}
 use Rattle.vx_laws.proofs.OneInput.{close}
 use Rattle.vx_laws.proofs.Frame.{all-hold}
-
-le-both : (o p : Ordering) → o ≡ ordering_reverse p → is_le o ≡ true → is_le p ≡ true → is_eq o ≡ true
-le-both o Less e h k = let b : is_le o ≡ false = ap is_le e in absurd (true≢false (sym h ∙ b))
-le-both o Equal e h k = ap is_eq e
-le-both o Greater e h k = absurd (true≢false (sym k))
 
 -- rows of the list that agree on these columns are equal
 abbrev pub Reports : List ℕ → List Row → Type 0
@@ -40,12 +35,12 @@ same-list cols (x ∷ xs) [] t s h k = absurd (nothing-same x xs (SameRows-sym s
 same-list cols (x ∷ xs) (y ∷ ys) t s h k =
     let le_x : Row → Bool = λ r. is_le (compare_on cols x r) in
     let le_y : Row → Bool = λ r. is_le (compare_on cols y r) in
-    let reflexive : (a : Row) → is_le (compare_on cols a a) ≡ true = λ a. eq-is-le _ (row_eq-refl (pick cols a)) in
+    let reflexive : (a : Row) → is_le (compare_on cols a a) ≡ true = λ a. eq-le _ (row_eq-refl (pick cols a)) in
     let all_x : list_all le_x (x ∷ xs) ≡ true = and-both (le_x x) (list_all le_x xs) (reflexive x) (and-left (list_all le_x xs) (sorted cols xs) h) in
     let all_y : list_all le_y (y ∷ ys) ≡ true = and-both (le_y y) (list_all le_y ys) (reflexive y) (and-left (list_all le_y ys) (sorted cols ys) k) in
     let xy : is_le (compare_on cols x y) ≡ true = and-left (le_x y) (list_all le_x ys) (SameRows-all s le_x all_x) in
     let yx : is_le (compare_on cols y x) ≡ true = and-left (le_y x) (list_all le_y xs) (SameRows-all (SameRows-sym s) le_y all_y) in
-    let e : agree cols x y ≡ true = le-both (compare_on cols x y) (compare_on cols y x) (row_cmp_total.antisymm (pick cols x) (pick cols y)) xy yx in
+    let e : agree cols x y ≡ true = both-le (compare_on cols x y) (compare_on cols y x) (row_cmp_total.antisymm (pick cols x) (pick cols y)) xy yx in
     let cy = self-counts y ys in
     let cs = s.totals (λ r. cond (row_eq y r) 1 0) in
     let same : x ≡ y = t x y (self-counts x xs) (omega (arith, cy, cs)) e in
@@ -53,11 +48,6 @@ same-list cols (x ∷ xs) (y ∷ ys) t s h k =
     let rest : xs ≡ ys = same-list cols xs ys (λ a b ca cb g. t a b (omega (arith, ca)) (omega (arith, cb)) g) tails
     (and-right (list_all le_x xs) (sorted cols xs) h) (and-right (list_all le_y ys) (sorted cols ys) k) in
     cc
-  where
-    eq-is-le : (o : Ordering) → is_eq o ≡ true → is_le o ≡ true
-    eq-is-le Less h = refl
-    eq-is-le Equal h = refl
-    eq-is-le Greater h = h
 
 -- an order that contains a key distinguishes rows
 pub key-tells : (k cols : List ℕ) (xs : List Row) → within k cols ≡ true → HasKey k xs → Reports cols xs
@@ -103,7 +93,7 @@ sound-at-root catalog db sizes goes given is_total p s wf shut ok root run =
     let h = close catalog db sizes goes given p s shut (all-hold catalog db sizes goes given p s wf ok run) in
     let one_size : is_one (size p) ≡ true = and-left (is_one (size p)) (not is_total || is_total_order catalog p) root in
     let n1 : workers sizes (size p) ≡ 1 = one-worker sizes (size p) one_size in
-    let all_one : SameRows (joined (workers sizes (size p)) s) h.base = from_single goes given.in_range (claim p).part (workers sizes (size p)) (s) h.base n1 h.holds.part in
+    let all_one : SameRows (joined (workers sizes (size p)) s) h.base = from_single-of goes given.in_range (claim p).part (workers sizes (size p)) s (λ xs. SameRows xs h.base) n1 h.holds.part in
     let P : ℕ → Type 0 = λ m. SameRows (joined m s) h.base in
     let same : SameRows (s 0) h.base = subst P n1 all_one in
     let L : ℕ → Type 0 = λ m. 0 < m in

@@ -1,45 +1,21 @@
 -- What is typed is well formed; the plan without exchanges is typed, and numbered in preorder.
-use Rattle.std.proofs.Common.{◌≡◌, ℕ, suc, ◌+◌, ◌==◌, nat_lt, nat_le, Bool, true, ◌&&◌, List, [], ◌∷◌, ◌++◌, map, length, refl, sym, ap, ◌∙◌, subst, true≢false, eq-eqb, length-append}
+use Rattle.std.proofs.Common.{◌≡◌, ℕ, suc, ◌+◌, ◌==◌, nat_lt, nat_le, Bool, true, ◌&&◌, List, [], ◌∷◌, ◌++◌, length, refl, sym, ap, ◌∙◌, subst, true≢false, eq-eqb}
 use Rattle.std.specs.List.{list_all}
 use Rattle.vx_values.specs.declared.value.ColType.{ColType}
 use Rattle.vx_values.specs.Types.{type_at}
-use Rattle.vx_relations.specs.Relation.{Relation}
 use Rattle.vx_relations.specs.Catalog.{relation_at, all_below, are_distinct}
-use Rattle.vx_plan_nodes.specs.Plan.{by_hash, by_range, Part, one, any, all, routed, Claim, Unary, select, project, distinct, sort, group, Binary, union, join, Plan, scan, unary, binary, exchange}
-use Rattle.vx_plan_nodes.specs.Types.{aggregate_type, unary_types, unary_width, binary_types, binary_width, types_of, width, part_columns, names_columns, well_formed}
+use Rattle.vx_plan_nodes.specs.Plan.{by_hash, by_range, Part, one, any, all, routed, Claim, union, join, Plan, scan, unary, binary, exchange}
+use Rattle.vx_plan_nodes.specs.Types.{types_of, width, part_columns, names_columns, well_formed}
 use Rattle.vx_plan_nodes.specs.Typed.{Scope, type_eq, types_eq, are_columns, range_type, bounds_at, is_part, is_claim, is_unary, is_binary, is_kind, is_size, is_output, typed, may_merge}
 use Rattle.vx_values.specs.Lists.{is_some_list}
 use Rattle.vx_plan_nodes.proofs.ErasedFacts.{erased-types, erased-typed, erased-numbered, erased-closed}
+use Rattle.vx_check_rules.proofs.WidthFacts.{types_of-width}
 use Rattle.vx_laws.specs.Forms.{TypedIsWellFormed, ErasedIsTyped}
 use Rattle.vx_laws.proofs.Bags.{and-left, and-right, and-both}
 use Rattle.vx_laws.proofs.Parts.{list_all-weaken}
-use Rattle.vx_laws.proofs.Widths.{length-values}
 use Rattle.vx_plan_nodes.specs.Phases.{phase_fits, both_closed}
 
 -- as many types as columns
-
-unary-types-width : (op : Unary) (types : List ColType) → length (unary_types op types) ≡ unary_width op (length types)
-unary-types-width (select cs) types = refl
-unary-types-width (project cols) types = length-values (type_at types) cols
-unary-types-width (distinct cols) types = length-values (type_at types) cols
-unary-types-width (sort cols) types = refl
-unary-types-width (group phase by aggregates) types =
-    length-append (map (type_at types) by) (map (aggregate_type types) aggregates)
-    ∙ ap (λ k. k + length (map (aggregate_type types) aggregates)) (length-values (type_at types) by)
-    ∙ ap (λ k. length by + k) (length-values (aggregate_type types) aggregates)
-
-binary-types-width : (op : Binary) (ts us : List ColType) → length (binary_types op ts us) ≡ binary_width op (length ts) (length us)
-binary-types-width union ts us = refl
-binary-types-width (join m on) ts us = length-append ts us
-
-pub types-width : (catalog : ℕ → Relation) (p : Plan) → length (types_of catalog p) ≡ width catalog p
-types-width catalog (scan n c r m z) = refl
-types-width catalog (unary n c op p) = unary-types-width op (types_of catalog p) ∙ ap (unary_width op) (types-width catalog p)
-types-width catalog (binary n c op p q) =
-    binary-types-width op (types_of catalog p) (types_of catalog q)
-    ∙ ap (λ k. binary_width op k (length (types_of catalog q))) (types-width catalog p)
-    ∙ ap (binary_width op (width catalog p)) (types-width catalog q)
-types-width catalog (exchange n c k m p) = types-width catalog p
 
 -- a typed claim names columns
 
@@ -71,7 +47,7 @@ output-names s types c h = claim-names s types c (and-right (nat_le (length type
 
 -- at the plan's own width
 names-at : (s : Scope) (p : Plan) (c : Claim) → is_output s (types_of (relation_at s.catalog) p) c ≡ true → names_columns (width (relation_at s.catalog) p) c ≡ true
-names-at s p c h = let P : ℕ → Type 0 = λ w. names_columns w c ≡ true in subst P (types-width (relation_at s.catalog) p) (output-names s (types_of (relation_at s.catalog) p) c h)
+names-at s p c h = let P : ℕ → Type 0 = λ w. names_columns w c ≡ true in subst P (types_of-width (relation_at s.catalog) p) (output-names s (types_of (relation_at s.catalog) p) c h)
 
 types_eq-length : (ts us : List ColType) → types_eq ts us ≡ true → length ts ≡ length us
 types_eq-length [] [] h = refl
@@ -101,7 +77,7 @@ typed-well-formed s (binary n c union p q) h =
     let last = and-right (both_closed p q) (types_eq ts us && out) more in
     let wp : ℕ = width (relation_at s.catalog) p in
     let wq : ℕ = width (relation_at s.catalog) q in
-    let same : wp ≡ wq = sym (types-width (relation_at s.catalog) p) ∙ types_eq-length ts us (and-left (types_eq ts us) out last) ∙ types-width (relation_at s.catalog) q in
+    let same : wp ≡ wq = sym (types_of-width (relation_at s.catalog) p) ∙ types_eq-length ts us (and-left (types_eq ts us) out last) ∙ types_of-width (relation_at s.catalog) q in
     and-both (well_formed (relation_at s.catalog) p) (well_formed (relation_at s.catalog) q && (both_closed p q && ((wp == wq) && names_columns wp c)))
     (typed-well-formed s p (and-left (typed s p) (typed s q && (both_closed p q && (types_eq ts us && out))) h))
     (and-both (well_formed (relation_at s.catalog) q) (both_closed p q && ((wp == wq) && names_columns wp c))
@@ -133,7 +109,7 @@ typed-well-formed s (exchange n c k m p) h =
     (names-at s p c (and-right (may_merge k m) out (and-right (are_columns (length ts) m) more (and-right kind_typed (are_columns (length ts) m && more) rest))))
 
 pub typed-is-well-formed : TypedIsWellFormed
-typed-is-well-formed s p h = (typed-well-formed s p h, types-width (relation_at s.catalog) p)
+typed-is-well-formed s p h = (typed-well-formed s p h, types_of-width (relation_at s.catalog) p)
 
 -- the plan without exchanges
 

@@ -1,70 +1,19 @@
 -- Select, project and sort keep what the rule table says.
-use Rattle.std.proofs.Common.{◌≡◌, ℕ, ◌<◌, ◌≤◌, ◌==◌, Bool, true, false, cond, List, [], ◌∷◌, map, refl, sym, ap, ◌∙◌, subst, arith, true≢false, Option, Some, unwrap_or, is_le, is_eq}
+use Rattle.std.proofs.Common.{◌≡◌, ℕ, ◌≤◌, Bool, true, false, cond, List, [], ◌∷◌, map, refl, sym, ap, ◌∙◌, arith, Some, unwrap_or, is_le, is_eq}
 use Rattle.std.specs.List.{list_all}
 use Rattle.vx_values.specs.Values.{Row, pick}
 use Rattle.vx_rows.specs.Order.{compare_on, agree, sorted, insert_sorted, sort_on}
-use Rattle.vx_rows.specs.Bags.{count, SameRows}
+use Rattle.vx_rows.specs.Bags.{count}
 use Rattle.vx_rows.specs.Keys.{HasKey}
-use Rattle.vx_plan_nodes.specs.Plan.{Route, Part, one, any, all, routed}
-use Rattle.vx_plan_nodes.specs.Streams.{Streams, joined}
-use Rattle.vx_plan_nodes.specs.Routes.{Routing}
-use Rattle.vx_check_rules.specs.Rules.{through, copied}
-use Rattle.vx_check_rules.specs.Claims.{PartHolds, InItsStream, OrderHolds, PartOf}
-use Rattle.vx_laws.proofs.Bags.{and-left, and-right, and-both, total-map, SameRows-trans}
+use Rattle.vx_check_rules.specs.Rules.{copied}
+use Rattle.vx_laws.proofs.Bags.{and-left, and-right, and-both, total-map}
 use Rattle.vx_laws.proofs.Parts.{list_all-weaken}
 use Rattle.vx_laws.proofs.Keys.{count-mono}
-use Rattle.vx_laws.proofs.Linear.{Linear, linear-same, linear-joined}
 use Rattle.vx_rows.proofs.Compare.{le-trans, le-other, agree-both, count-witness}
-use Rattle.vx_laws.proofs.Copies.{if_some-is, copied-alone}
+use Rattle.vx_laws.proofs.Copies.{copied-alone}
 
 pub some-is : {X : Type 0} (x y : X) → Some x ≡ Some y → x ≡ y
 some-is x y e = ap (λ o. unwrap_or o x) e
-
--- a part that is had through the columns that the output copies
-pub through-of : (goes : Routing) (n : ℕ) (s' : Streams) (stands : List Row → Type 0) (had : Part → Bool) (columns : List ℕ → Option (List ℕ))
-    → (had any ≡ true → stands (joined n s'))
-    → ((r : Route) (ds : List ℕ) → had (routed r ds) ≡ true → had any ≡ true)
-    → (had all ≡ true → (w : ℕ) → w < n → stands (s' w))
-    → ((r : Route) (cs ds : List ℕ) → columns cs ≡ Some ds → had (routed r ds) ≡ true → InItsStream goes r cs n s')
-    → (q : Part) → through had columns q ≡ true → PartOf goes q n s' stands
-through-of goes n s' stands had columns any_ok routed_any all_ok routed_ok one h = absurd (true≢false (sym h))
-through-of goes n s' stands had columns any_ok routed_any all_ok routed_ok any h = any_ok h
-through-of goes n s' stands had columns any_ok routed_any all_ok routed_ok all h = all_ok h
-through-of goes n s' stands had columns any_ok routed_any all_ok routed_ok (routed r cs) h =
-    let w = if_some-is (columns cs) (λ ds. had (routed r ds)) h in
-    (any_ok (routed_any r w.0 w.2), routed_ok r cs w.0 w.1 w.2)
-
-pub through-holds : (goes : Routing) (n : ℕ) (s' : Streams) (base' : List Row) (had : Part → Bool) (columns : List ℕ → Option (List ℕ))
-    → (had any ≡ true → SameRows (joined n s') base')
-    → ((r : Route) (ds : List ℕ) → had (routed r ds) ≡ true → had any ≡ true)
-    → (had all ≡ true → (w : ℕ) → w < n → SameRows (s' w) base')
-    → ((r : Route) (cs ds : List ℕ) → columns cs ≡ Some ds → had (routed r ds) ≡ true → InItsStream goes r cs n s')
-    → (q : Part) → through had columns q ≡ true → PartHolds goes q n s' base'
-through-holds goes n s' base' had columns any_ok routed_any all_ok routed_ok q h = through-of goes n s' (λ xs. SameRows xs base') had columns any_ok routed_any all_ok routed_ok q h
-
--- an operator whose totals are totals of its input, and that leaves each row's route
-pub linear-part : (goes : Routing) (op : List Row → List Row) → Linear op → (n : ℕ) (s s' : Streams) (base : List Row)
-    → ((w : ℕ) → w < n → op (s w) ≡ s' w)
-    → ((p : Row → Bool) (xs : List Row) → list_all p xs ≡ true → list_all p (op xs) ≡ true)
-    → (q : Part) → PartHolds goes q n s base → PartHolds goes q n s' (op base)
-linear-part goes op lin n s s' base run keeps one h = (h.0, SameRows-trans (linear-joined lin n s s' run) (linear-same lin h.1))
-linear-part goes op lin n s s' base run keeps any h = SameRows-trans (linear-joined lin n s s' run) (linear-same lin h)
-linear-part goes op lin n s s' base run keeps all h = λ w l.
-    let P : List Row → Type 0 = λ xs. SameRows xs (op base) in
-    subst P (run w l) (linear-same lin (h w l))
-linear-part goes op lin n s s' base run keeps (routed r cols) h = (
-  SameRows-trans (linear-joined lin n s s' run) (linear-same lin h.0),
-  λ w l.
-      let P : List Row → Type 0 = λ xs. list_all (λ row. goes r (pick cols row) n == w) xs ≡ true in
-      subst P (run w l) (keeps _ (s w) (h.1 w l)),
-)
-
-pub through-order : (op : List Row → List Row) (n : ℕ) (s s' : Streams) (base : List Row) (cs ds : List ℕ)
-    → ((w : ℕ) → w < n → op (s w) ≡ s' w)
-    → ((xs : List Row) → sorted ds xs ≡ true → sorted cs (op xs) ≡ true)
-    → OrderHolds ds n s base → OrderHolds cs n s' (op base)
-through-order op n s s' base cs ds run keeps h =
-    (λ w l. let P : List Row → Type 0 = λ xs. sorted cs xs ≡ true in subst P (run w l) (keeps (s w) (h.0 w l)), keeps base h.1)
 
 -- sort
 pub insert-all : (p : Row → Bool) (cols : List ℕ) (x : Row) (ys : List Row) → p x ≡ true → list_all p ys ≡ true → list_all p (insert_sorted cols x ys) ≡ true
