@@ -2,7 +2,7 @@
 
 use crate::columns::{is_within, kept_columns, kept_places, shifted};
 use std::alloc::{AllocError, Global};
-use vx_check_rules::{are_routed_alike, is_same_route};
+use vx_check_rules::is_same_route;
 use vx_plan_nodes::{
     Binary, Part, Phase, Size, TypedNode, Unary, copied_part, kind_part, routed_part,
 };
@@ -115,6 +115,33 @@ fn shifted_part(alloc: Global, width: usize, part: &Part) -> Result<Part, AllocE
         ),
         Part::One | Part::Any | Part::All => copied_part(alloc, part),
     }
+}
+
+// Whether both parts are routed by one route, on columns that the pairs name.
+fn are_routed_alike(on: &[(usize, usize)], left: &Part, right: &Part) -> bool {
+    match (left, right) {
+        (Part::Routed(route, lefts), Part::Routed(other, rights)) => {
+            is_same_route(route, other) && are_paired(on, lefts.as_slice(), rights.as_slice())
+        }
+        _ => false,
+    }
+}
+
+// Whether the lists are equally long and each column is paired with the one at its place.
+fn are_paired(on: &[(usize, usize)], lefts: &[usize], rights: &[usize]) -> bool {
+    if lefts.len() != rights.len() {
+        return false;
+    }
+    for (i, left) in lefts.iter().enumerate() {
+        if !is_pair(on, *left, rights[i]) {
+            return false;
+        }
+    }
+    true
+}
+
+fn is_pair(on: &[(usize, usize)], left: usize, right: usize) -> bool {
+    on.iter().any(|pair| pair.0 == left && pair.1 == right)
 }
 
 // The parts that a join shows over inputs with these parts, none if they do not fit.
