@@ -91,11 +91,11 @@ module _ (goes : Routing) (law : InRange goes) (n : ℕ) (s : Streams) (stands :
   tight cols false (routed r cs) single e h = inr ((r, cs, e, h.1), h.0)
 
   -- an input of an operator that fits it
-  pub fitting : (p : Plan) (m : Option (List ℕ)) (k : Copying) → (is_one (size p) ≡ true → n ≡ 1) → (is_one (size p) || list_any (λ v. true) (if_so (meet m p) (way k (own p ∷ []) ∷ []))) ≡ true
+  pub fitting : (p : Plan) (m : Option (List ℕ)) (k : Copying) → (is_one (size p) ≡ true → n ≡ 1) → (is_one (size p) || list_any (λ v. true) (if_so (meet m (own p)) (way k (own p ∷ []) ∷ []))) ≡ true
       → PartOf goes (claim p).part n s stands → Fitting goes m (is_one (size p)) (claim p).part n s stands
   fitting p None k single e h = loose (is_one (size p)) (claim p).part single h
   fitting p (Some cols) k single e h =
-      let met : Bool = meet (Some cols) p in
+      let met : Bool = meet (Some cols) (own p) in
       tight cols (is_one (size p)) (claim p).part single
       (⊎_elim (λ o. or-left (is_one (size p)) _ o) (λ g. and-left met true (sym (any-if (λ v. true) met (way k (own p ∷ []) ∷ [])) ∙ g))
       (or-cases (is_one (size p)) (list_any (λ v. true) (if_so met (way k (own p ∷ []) ∷ []))) e)) h
@@ -138,7 +138,7 @@ module _ (catalog : ℕ → Relation) (db : ℕ → List Row) (sizes : ℕ → �
       (fitting-at op p s from part h.2) in
       record {
         part = shown-part goes given.in_range (is_one (size p)) (over (described op) p).ways c.part n out to one_is (λ o. together (or-left (is_one (size p)) _ o))
-            (each-if (λ v. Stands n out to v) (meet (described op).meets p) (way (described op).copying (own p ∷ []) ∷ [])
+            (each-if (λ v. Stands n out to v) (meet (described op).meets (own p)) (way (described op).copying (own p ∷ []) ∷ [])
             (λ m. (((λ e. together (and-left (has p any) true e)), (λ e. each (and-left (has p all) true e))), tt)))
             (λ w l. unary-places goes op p n w (s w) (out w) (run w l)
             (λ q e. had-place goes given.in_range (is_one (size p)) (claim p).part q n w one_is l (s w) (part-placed goes (claim p).part n s from part w l) e))

@@ -107,13 +107,13 @@ shown-placed goes law b ways q n w single l ys h e = ⊎_elim
 pub unary-places : (goes : Routing) (op : Unary) (p : Plan) (n w : ℕ) (xs ys : List Row) → unary_rows op xs ≡ Some ys → ((q : Part) → has p q ≡ true → Placed goes q n w xs)
     → Each (λ v. Places goes n w ys v) (over (described op) p).ways
 unary-places goes op p n w xs ys e had =
-    each-if (λ v. Places goes n w ys v) (meet (described op).meets p) (way (described op).copying (own p ∷ []) ∷ [])
+    each-if (λ v. Places goes n w ys v) (meet (described op).meets (own p)) (way (described op).copying (own p ∷ []) ∷ [])
     (λ m. (λ r cs ds c h. (keeps op).stems cs ds c (λ key. goes r key n == w) xs ys e (had (routed r ds) (and-left (has p (routed r ds)) true h)), tt))
 
 -- rows side by side
 union-places : (goes : Routing) (v : ℕ) (p q : Plan) (n w : ℕ) (ls rs : List Row)
     → ((x : Part) → has p x ≡ true → Placed goes x n w ls) → ((x : Part) → has q x ≡ true → Placed goes x n w rs)
-    → Each (λ v. Places goes n w (ls ++ rs) v) (ways_over (described_both v union).pairs (described_both v union) p q)
+    → Each (λ v. Places goes n w (ls ++ rs) v) (ways_over (described_both v union).pairs (described_both v union) (own p) (own q))
 union-places goes v p q n w ls rs left right =
     each-if (λ v. Places goes n w (ls ++ rs) v) (is_one (size p) || ((has p any && has q any) || (has p all && has q all))) (way whole_rows (own p ∷ own q ∷ []) ∷ [])
     (λ m. (
@@ -153,7 +153,7 @@ given-below wd (routed t cs) r ds g h =
 join-places : (goes : Routing) (m : Bool) (on : List (ℕ × ℕ)) (wd : ℕ) (p q : Plan) (n w : ℕ) (ls rs : List Row) → wide wd ls ≡ true → all_below wd (part_columns (claim p).part) ≡ true
     → Placed goes (claim p).part n w ls → Placed goes (claim q).part n w rs
     → ((x : Part) → has p x ≡ true → Placed goes x n w ls) → ((x : Part) → has q x ≡ true → Placed goes x n w rs)
-    → Each (λ v. Places goes n w (join_rows on ls rs) v) (ways_over (described_both wd (join m on)).pairs (described_both wd (join m on)) p q)
+    → Each (λ v. Places goes n w (join_rows on ls rs) v) (ways_over (described_both wd (join m on)).pairs (described_both wd (join m on)) (own p) (own q))
 join-places goes m on wd p q n w ls rs ws below at_left at_right left right =
     let P : Way → Type 0 = λ v. Places goes n w (join_rows on ls rs) v in
     let of_left : List Way = way (left_of wd) (own p ∷ []) ∷ [] in

@@ -87,7 +87,7 @@ module _ (catalog : ℕ → Relation) (db : ℕ → List Row) (sizes : ℕ → �
   -- the four ways of a join: by like routes to the left and to the right part, by a whole right input, by a whole left one
   join-stands : (m : Bool) (on : List (ℕ × ℕ)) (wd : ℕ) (p q : Plan) (s t out : Streams) (base rbase : List Row) → Both p q s t base rbase
       → ((w : ℕ) → w < workers sizes (size p) → join_rows on (s w) (t w) ≡ out w)
-      → Each (λ v. Stands (workers sizes (size p)) out (λ xs. SameRows xs (join_rows on base rbase)) v) (ways_over (described_both wd (join m on)).pairs (described_both wd (join m on)) p q)
+      → Each (λ v. Stands (workers sizes (size p)) out (λ xs. SameRows xs (join_rows on base rbase)) v) (ways_over (described_both wd (join m on)).pairs (described_both wd (join m on)) (own p) (own q))
   join-stands m on wd p q s t out base rbase both run =
       let n : ℕ = workers sizes (size p) in
       let P : Way → Type 0 = λ v. Stands n out (λ xs. SameRows xs (join_rows on base rbase)) v in
