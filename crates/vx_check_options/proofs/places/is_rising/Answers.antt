@@ -1,0 +1,16 @@
+use Rattle.std.proofs.Common.{◌∙◌, sym, rules, [], ◌∷◌}
+use Rattle.std.proofs.lemmas.Iterator.{YieldsList-from_slice}
+use Rattle.std.proofs.lemmas.Iterator.Search.{any_from_yields_List}
+use borrow.Author.Tests.{tests}
+use Rattle.vx_relations.proofs.NameFacts.{list_any-map}
+use Rattle.vx_plan_nodes.specs.declared.typed.Part as rust_part
+use Rattle.vx_plan_nodes.specs.Plan.{Part}
+use Rattle.vx_plan_nodes.specs.Outline.{part_of}
+use Rattle.vx_check_rules.specs.Rules.{rises_by}
+use Rattle.vx_check_options.proofs.places.is_rising.Goals as goal
+
+pub returns : goal.returns
+returns c =
+    let test = λ (x : Part). rises_by x (c.args.column ∷ []) in
+    any_from_yields_List (λ (p : rust_part.Part). test (part_of p)) _ _ _ c.any.ensures.ran (YieldsList-from_slice c.args.parts.now cc) (λ x b q k. search (rules, tests))
+    ∙ sym (list_any-map test part_of c.args.parts.now)

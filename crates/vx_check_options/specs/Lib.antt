@@ -1,0 +1,5 @@
+pub mod Options
+pub mod Placed
+pub mod Laws
+pub mod FoundKeys
+pub mod Claimed

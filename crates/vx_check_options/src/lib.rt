@@ -1,0 +1,56 @@
+//! What nodes can claim, whatever they claim: the laws on which `annotate` rests.
+#![tactic(auto)]
+
+mod copies;
+mod options;
+mod parts;
+mod places;
+mod placing;
+
+ghost use Rattle.vx_check_options.specs.Claimed.{ClaimedIsFit, ClaimedIsTyped, ClaimedKeeps, ClaimedIsStrongest};
+ghost use Rattle.vx_check_options.specs.Laws.{OnlyOptions, PlacedIsFit, PlacedKeeps, PlacedIsTyped, PlacedIsStrongest};
+
+/// Where claims are accepted, each node can claim what they do.
+pub fn only_options()
+    ensures { OnlyOptions }
+{}
+
+/// The checker refuses the claims that are placed exactly where no claims fit.
+pub fn placed_is_fit()
+    ensures { PlacedIsFit }
+{}
+
+/// They keep what the plan claims.
+pub fn placed_keeps()
+    ensures { PlacedKeeps }
+{}
+
+/// They name what there is.
+pub fn placed_is_typed()
+    ensures { PlacedIsTyped }
+{}
+
+/// They tell the most that is shown at each node.
+pub fn placed_is_strongest()
+    ensures { PlacedIsStrongest }
+{}
+
+/// The checker refuses claims that are placed, with the keys that are found, exactly where no claims fit.
+pub fn claimed_is_fit()
+    ensures { ClaimedIsFit }
+{}
+
+/// They name what there is.
+pub fn claimed_is_typed()
+    ensures { ClaimedIsTyped }
+{}
+
+/// They keep what an accepted plan claims.
+pub fn claimed_keeps()
+    ensures { ClaimedKeeps }
+{}
+
+/// They tell the most that is shown at each node.
+pub fn claimed_is_strongest()
+    ensures { ClaimedIsStrongest }
+{}
