@@ -1,3 +1,15 @@
 pub mod TreeFacts
+pub mod ClaimedFacts
+pub mod FormedFacts
+pub mod BareFacts
+pub mod NamedFacts
+pub mod ClaimsResolve
 pub mod TellingFacts
 pub mod VerdictFacts
+pub mod FoundDocument
+pub mod FoundParts
+pub mod FoundTells
+pub mod SavedFacts
+pub mod FoundRefused
+pub mod Reversed
+pub mod Answering

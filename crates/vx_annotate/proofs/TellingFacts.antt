@@ -7,7 +7,7 @@ use Rattle.vx_values.specs.Values.{Name}
 use Rattle.vx_plan_json.specs.Document.{PartForm, one, any, all, hash_part, range_part, ClaimForm, Tree, scan, unary, binary, exchange, Document}
 use Rattle.vx_annotate.specs.Telling.{begins, has_name, covers_name, part_tells, claim_tells, tree_tells, tells}
 
-name_self : (n : Name) → bytes_eq n n ≡ true
+pub name_self : (n : Name) → bytes_eq n n ≡ true
 name_self n = (bytes_eq-Decides n n).1 refl
 
 begins_self : (ns : List Name) → begins ns ns ≡ true
@@ -45,7 +45,7 @@ covers_self [] = refl
 covers_self (k ∷ ks) =
     and-both (covers_name (k ∷ ks) k) (list_all (covers_name (k ∷ ks)) ks) (or_first (list_all (has_name k) k) (covers_name ks k) (has_self k)) (covers_more k ks ks (covers_self ks))
 
-part_self : (p : PartForm) → part_tells p p ≡ true
+pub part_self : (p : PartForm) → part_tells p p ≡ true
 part_self one = refl
 part_self any = refl
 part_self all = refl

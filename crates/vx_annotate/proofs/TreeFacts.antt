@@ -5,7 +5,7 @@ use Rattle.vx_plan_json.specs.Document.{Tree, scan, unary, binary, exchange, tre
 use Rattle.vx_plan_json.specs.Formed.{is_claim_form, is_scan_form, is_unary_form, is_binary_form, is_kind_form, is_merge_form, is_tree_form}
 use Rattle.vx_annotate.specs.Unclaimed.{without_claims, are_claims_formed}
 
-nodes_without : (t : Tree) → tree_nodes (without_claims t) ≡ tree_nodes t
+pub nodes_without : (t : Tree) → tree_nodes (without_claims t) ≡ tree_nodes t
 nodes_without (scan c s) = refl
 nodes_without (unary c op t) = ap suc (nodes_without t)
 nodes_without (binary c op t u) = λ i. suc (nodes_without t i + nodes_without u i)
@@ -25,7 +25,7 @@ same_levels t u h = sym (levels_without t) ∙ (ap tree_levels h ∙ levels_with
 
 -- ---- a tree has its form where its claims have theirs and the tree without them has it
 
-form_without : (t : Tree) → is_tree_form t ≡ true → is_tree_form (without_claims t) ≡ true
+pub form_without : (t : Tree) → is_tree_form t ≡ true → is_tree_form (without_claims t) ≡ true
 form_without (scan c s) h = and-right (is_claim_form c) (is_scan_form s) h
 form_without (unary c op t) h =
     let own = and-right (is_claim_form c) (is_unary_form op && is_tree_form t) h in

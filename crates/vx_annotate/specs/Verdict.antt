@@ -28,7 +28,3 @@ refuses (Err e) = None
 -- of a document that fits the catalog the first node that the rule table refuses, and what is not shown there
 abbrev pub refused_at : List Relation → Document → Option (ℕ × Rule)
 refused_at catalog d = refuses (resolved d catalog)
-
--- this is what the rule table refuses of the document, which fits the catalog
-abbrev pub IsVerdict : List Relation → Document → Option (ℕ × Rule) → Type 0
-IsVerdict catalog d o = (p : TypedPlanView) × (resolved d catalog ≡ Ok p) × (o ≡ refusal_in p)

@@ -1,137 +1,99 @@
 //! A plan with the claims that the rule table shows.
 
-ghost use Rattle.std.specs.Prelude.{◌≡◌, ◌⊎◌, true, option_map, IfOk, IfErr};
+ghost use Rattle.std.specs.Prelude.{◌≡◌, true, option_map, Ok, IfOk, IfErr};
+ghost use Rattle.vx_relations.specs.Catalog.{relation_at};
+ghost use Rattle.vx_plan_nodes.specs.Outline.{plan_of};
+ghost use Rattle.vx_plan_nodes.specs.TypedView.{resolved_of, plan, scope};
 ghost use Rattle.vx_plan_json.specs.Fault.{Fails};
 ghost use Rattle.vx_plan_json.specs.PlanView.{document_of};
+ghost use Rattle.vx_check_rules.specs.Refusal.{or_else};
 ghost use Rattle.vx_check_rules.specs.RuleView.{refusal_of};
+ghost use Rattle.vx_check_options.specs.Options.{first_unfit};
 ghost use Rattle.vx_plan.specs.Resolve.{resolved};
 ghost use Rattle.vx_annotate.specs.Unclaimed.{unclaimed};
-ghost use Rattle.vx_annotate.specs.Verdict.{is_accepted, IsVerdict};
+ghost use Rattle.vx_annotate.specs.Verdict.{is_accepted};
 ghost use Rattle.vx_annotate.specs.Telling.{tells};
+ghost use Rattle.vx_annotate.specs.Hinted.{IsHinted, unfit_root};
+ghost use Rattle.vx_annotate.specs.Strongest.{TellsTheMost};
 ghost use Rattle.vx_annotate.specs.Fault.{IsReason};
 
-use crate::choosing::{first_part, put_claims};
 use crate::fault::AnnotateFault;
-use crate::formed::FormedClaim;
-use crate::keys::{is_order_total, keys_of};
 use crate::naming::Naming;
-use crate::orders::order_of;
-use crate::parts::width_of;
 use crate::rewriting::claimed_plan;
-use crate::telling::tells;
-use crate::verdict::{is_accepted, refusal_in};
+use crate::verdict::is_accepted;
 use std::alloc::{AllocError, Global};
+use vx_check_options::{first_unfit, found_claims, is_alone};
 use vx_check_rules::Rule;
 use vx_plan::resolve;
 use vx_plan_json::{Plan, PlanFault};
 use vx_plan_nodes::{TypedNode, TypedPlan};
 use vx_relations::Catalog;
 
-// The claims of all nodes, in preorder from the last one on.
-fn found_claims(
-    alloc: Global,
-    catalog: &Catalog,
-    typed: &TypedPlan,
-) -> Result<Vec<FormedClaim>, AllocError> {
-    let naming = Naming {
-        catalog,
-        ranges: typed.ranges(),
-    };
-    let mut claims = Vec::new(alloc);
-    let part = first_part(alloc, typed.root())?;
-    put_claims(alloc, &naming, &mut claims, typed.root(), &part)?;
-    claims.reverse();
-    Ok(claims)
-}
-
-// Whether the longest order of the root is a total one.
-fn is_total(alloc: Global, catalog: &Catalog, root: &TypedNode) -> Result<bool, AllocError> {
-    let order = order_of(alloc, catalog, root)?;
-    let keys = keys_of(alloc, catalog, root)?;
-    is_order_total(alloc, order.as_slice(), keys.as_slice(), width_of(root))
-}
-
-// The plan with the claims that are found for it, by the plan without claims.
-fn annotated(
-    alloc: Global,
-    catalog: &Catalog,
-    typed: &TypedPlan,
-    plan: &Plan,
-) -> Result<Plan, AllocError>
-    ensures { IfOk result (λ p. unclaimed (document_of p) ≡ unclaimed (document_of plan.now)) }
+// The typed plan of a plan that is accepted.
+fn resolved_again(alloc: Global, catalog: &Catalog, plan: &Plan) -> Result<TypedPlan, AllocError>
+    requires { is_accepted catalog.now (document_of plan.now) ≡ true }
+    ensures { IfOk result (λ t. resolved (document_of plan.now) catalog.now ≡ Ok (resolved_of t)) }
 {
-    let claims = found_claims(alloc, catalog, typed)?;
-    let total = is_total(alloc, catalog, typed.root())?;
-    claimed_plan(alloc, claims, total, plan)
-}
-
-// A plan, and what the rule table refuses of it. A plan that does not fit the catalog gives way to the other one.
-fn judged(
-    alloc: Global,
-    catalog: &Catalog,
-    plan: Plan,
-    other: Plan,
-) -> Result<(Plan, Option<(u32, Rule)>), PlanFault>
-    requires { unclaimed (document_of other) ≡ unclaimed (document_of plan) }
-    ensures same { IfOk result (λ r. unclaimed (document_of r.0) ≡ unclaimed (document_of plan)) }
-    ensures verdict { IfOk result (λ r. IsVerdict catalog.now (document_of r.0) (option_map refusal_of r.1)) }
-    ensures fault { IfErr result (λ e. Fails e (resolved (document_of other) catalog.now)) }
-{
-    match resolve(alloc, &plan, catalog) {
-        Ok(typed) => Ok((plan, refusal_in(typed))),
-        Err(PlanFault::NoMemory) => Err(PlanFault::NoMemory),
-        Err(_) => {
-            let typed = resolve(alloc, &other, catalog)?;
-            Ok((other, refusal_in(typed)))
-        }
+    match resolve(alloc, plan, catalog) {
+        Ok(typed) => Ok(typed),
+        Err(_) => Err(AllocError),
     }
 }
 
-// The plan with the claims that are found for it, and what the rule table refuses of it.
-fn found(
-    alloc: Global,
-    catalog: &Catalog,
-    plan: &Plan,
-) -> Result<(Plan, Option<(u32, Rule)>), PlanFault>
-    ensures same { IfOk result (λ r. unclaimed (document_of r.0) ≡ unclaimed (document_of plan.now)) }
-    ensures verdict { IfOk result (λ r. IsVerdict catalog.now (document_of r.0) (option_map refusal_of r.1)) }
+// The typed plan whose claims are kept: the plan as it is, if it is accepted, else without its claims.
+fn hinted(alloc: Global, catalog: &Catalog, plan: &Plan) -> Result<TypedPlan, PlanFault>
+    ensures hinted { IfOk result (λ t. IsHinted catalog.now (document_of plan.now) (resolved_of t)) }
     ensures fault { IfErr result (λ e. Fails e (resolved (unclaimed (document_of plan.now)) catalog.now)) }
 {
     let bare = claimed_plan(alloc, Vec::new(alloc), false, plan)?;
     let typed = resolve(alloc, &bare, catalog)?;
-    let claimed = annotated(alloc, catalog, &typed, plan)?;
-    judged(alloc, catalog, claimed, bare)
+    if is_accepted(alloc, catalog, plan)? {
+        return Ok(resolved_again(alloc, catalog, plan)?);
+    }
+    Ok(typed)
 }
 
-// The first plan where its claims tell at least as much as the second one's, else the second.
-fn stronger(claimed: Plan, plan: Plan) -> Plan
-    ensures telling { tells (document_of result) (document_of plan) ≡ true }
-    ensures which { (document_of result ≡ document_of claimed) ⊎ (document_of result ≡ document_of plan) }
+// The root, if it has several workers.
+fn unfit_root(root: &TypedNode) -> Option<(u32, Rule)>
+    ensures { option_map refusal_of result ≡ unfit_root (plan_of root.now) }
 {
-    if tells(&claimed, &plan) {
-        claimed
-    } else {
-        plan
+    if is_alone(root) {
+        return None;
+    }
+    Some((root.head().number, Rule::RootNotOne))
+}
+
+// The first node that no claims can save, or the root if it has several workers.
+fn unfit(alloc: Global, typed: &TypedPlan) -> Result<Option<(u32, Rule)>, AllocError>
+    ensures { IfOk result (λ o. option_map refusal_of o ≡ or_else (first_unfit (relation_at (scope typed.now).catalog) (plan typed.now)) (unfit_root (plan typed.now))) }
+{
+    let root = typed.root();
+    match first_unfit(alloc, typed.catalog(), root)? {
+        Some(unfit) => Ok(Some(unfit)),
+        None => Ok(unfit_root(root)),
     }
 }
 
 /// The plan with its claims, and whether it is total, replaced by what the rule table shows: at each node a part that
 /// tells the most of those with which the operators above it fit, the longest order, and the minimal keys, the first
-/// 16; and total where the root's order is. The plan stays as it is where the checker accepts it and the claims that
-/// are found do not tell as much everywhere. The refusal is the first one of the plan without claims, or else of the
-/// rule table.
+/// 16; and total where the root's order is. What an accepted plan claims is kept: each of its claims is told by the new
+/// one. The refusal is the first one of the plan without claims, or else the first node that no claims can save.
 pub fn annotate(alloc: Global, catalog: &Catalog, plan: Plan) -> Result<Plan, AnnotateFault>
     ensures same { IfOk result (λ p. unclaimed (document_of p) ≡ unclaimed (document_of plan)) }
     ensures accepted { IfOk result (λ p. is_accepted catalog.now (document_of p) ≡ true) }
     ensures telling { is_accepted catalog.now (document_of plan) ≡ true → IfOk result (λ p. tells (document_of p) (document_of plan) ≡ true) }
+    ensures strongest { IfOk result (λ p. TellsTheMost catalog.now (document_of p)) }
     ensures refused { IfErr result (λ e. IsReason catalog.now (document_of plan) e) }
 {
-    let (claimed, refusal) = found(alloc, catalog, &plan)?;
-    let is_fine = is_accepted(alloc, catalog, &plan)?;
-    match refusal {
-        None if is_fine => Ok(stronger(claimed, plan)),
-        None => Ok(claimed),
-        Some(_) if is_fine => Ok(plan),
-        Some((node, rule)) => Err(AnnotateFault::Rule { node, rule }),
+    let _relations = catalog.len();
+    let typed = hinted(alloc, catalog, &plan)?;
+    if let Some((node, rule)) = unfit(alloc, &typed)? {
+        return Err(AnnotateFault::Rule { node, rule });
     }
+    let (claims, is_total) = found_claims(alloc, typed.catalog(), typed.root())?;
+    let naming = Naming {
+        ranges: typed.ranges(),
+    };
+    let named = naming.named_claims(alloc, claims, typed.root())?;
+    Ok(claimed_plan(alloc, named, is_total, &plan)?)
 }

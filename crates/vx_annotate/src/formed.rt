@@ -87,8 +87,12 @@ pub fn no_claim(alloc: Global) -> NamedClaim
 }
 
 impl FormedClaim {
+    ghost use Rattle.vx_annotate.specs.Claimed.{form_of, kept_form};
+
     /// The claim, or one that says nothing where no document can say it.
-    pub fn new(alloc: Global, claim: NamedClaim) -> FormedClaim {
+    pub fn new(alloc: Global, claim: NamedClaim) -> FormedClaim
+        ensures { form_of result ≡ kept_form (claim_form claim) }
+    {
         if is_formed(&claim) {
             return FormedClaim { claim };
         }
@@ -99,7 +103,8 @@ impl FormedClaim {
 
     /// The claim.
     pub fn into_claim(self) -> NamedClaim
-        ensures { is_claim_form (claim_form result) ≡ true }
+        ensures formed { is_claim_form (claim_form result) ≡ true }
+        ensures same { claim_form result ≡ form_of self }
     {
         let FormedClaim { claim } = self;
         claim

@@ -1,10 +1,11 @@
 //! A plan with other claims.
 
-ghost use Rattle.std.specs.Prelude.{◌≡◌, [], true, false, IfOk};
-ghost use Rattle.vx_plan_json.specs.Document.{claim_form, tree_of};
+ghost use Rattle.std.specs.Prelude.{◌≡◌, [], true, false, drop, IfOk};
+ghost use Rattle.vx_plan_json.specs.Document.{claim_form, tree_of, tree_nodes};
 ghost use Rattle.vx_plan_json.specs.Formed.{is_claim_form};
 ghost use Rattle.vx_plan_json.specs.PlanView.{document_of};
-ghost use Rattle.vx_annotate.specs.Unclaimed.{no_claim, without_claims, are_claims_formed, unclaimed};
+ghost use Rattle.vx_annotate.specs.Unclaimed.{are_claims_formed, unclaimed};
+ghost use Rattle.vx_annotate.specs.Claimed.{first_form, later_forms, tree_with, with_forms, forms_in};
 
 use crate::copies::{copied_binary, copied_kind, copied_names, copied_scan, copied_unary};
 use crate::formed::{FormedClaim, no_claim};
@@ -15,8 +16,8 @@ use vx_values::copied_ranges;
 // The last of the claims, which is taken from them, or one that says nothing.
 fn next_claim(alloc: Global, claims: &mut Vec<FormedClaim>) -> NamedClaim
     ensures formed { is_claim_form (claim_form result) ≡ true }
-    ensures none { claims.old.items ≡ [] → claims.new.items ≡ [] }
-    ensures bare { claims.old.items ≡ [] → claim_form result ≡ no_claim }
+    ensures first { claim_form result ≡ first_form (forms_in claims.old.items) }
+    ensures later { forms_in claims.new.items ≡ later_forms (forms_in claims.old.items) }
 {
     match claims.pop() {
         Some(claim) => claim.into_claim(),
@@ -30,9 +31,9 @@ fn claimed_node(
     claims: &mut Vec<FormedClaim>,
     node: &Node,
 ) -> Result<Node, AllocError>
-    ensures same { IfOk result (λ n. without_claims (tree_of n) ≡ without_claims (tree_of node.now)) }
     ensures formed { IfOk result (λ n. are_claims_formed (tree_of n) ≡ true) }
-    ensures bare { claims.old.items ≡ [] → IfOk result (λ n. (claims.new.items ≡ []) × (tree_of n ≡ without_claims (tree_of node.now))) }
+    ensures placed { IfOk result (λ n. tree_of n ≡ tree_with (forms_in claims.old.items) (tree_of node.now)) }
+    ensures later { IfOk result (λ n. forms_in claims.new.items ≡ drop (tree_nodes (tree_of node.now)) (forms_in claims.old.items)) }
 {
     let claim = next_claim(alloc, claims);
     match node {
@@ -65,6 +66,7 @@ pub fn claimed_plan(
     total: bool,
     plan: &Plan,
 ) -> Result<Plan, AllocError>
+    ensures placed { IfOk result (λ p. document_of p ≡ with_forms (forms_in claims.items) total (document_of plan.now)) }
     ensures same { IfOk result (λ p. unclaimed (document_of p) ≡ unclaimed (document_of plan.now)) }
     ensures bare { claims.items ≡ [] → total ≡ false → IfOk result (λ p. document_of p ≡ unclaimed (document_of plan.now)) }
 {

@@ -1,27 +1,16 @@
 //! What the checker answers of a plan.
 
-ghost use Rattle.std.specs.Prelude.{◌≡◌, is_none, option_map, IfOk};
+ghost use Rattle.std.specs.Prelude.{◌≡◌, is_none, IfOk};
 ghost use Rattle.vx_plan_json.specs.PlanView.{document_of};
 ghost use Rattle.vx_plan_nodes.specs.TypedView.{resolved_of};
-ghost use Rattle.vx_check_rules.specs.RuleView.{refusal_of};
 ghost use Rattle.vx_annotate.specs.Verdict.{refusal_in, is_accepted};
 
 use std::alloc::{AllocError, Global};
-use vx_check_rules::{Rule, check};
+use vx_check_rules::check;
 use vx_plan::resolve;
 use vx_plan_json::{Plan, PlanFault};
 use vx_plan_nodes::TypedPlan;
 use vx_relations::Catalog;
-
-/// The first node that the rule table refuses, and what is not shown there.
-pub fn refusal_in(typed: TypedPlan) -> Option<(u32, Rule)>
-    ensures { option_map refusal_of result ≡ refusal_in (resolved_of typed) }
-{
-    match check(typed) {
-        Ok(_) => None,
-        Err(refused) => Some((refused.node, refused.rule)),
-    }
-}
 
 fn is_allowed(typed: TypedPlan) -> bool
     ensures { result ≡ is_none (refusal_in (resolved_of typed)) }

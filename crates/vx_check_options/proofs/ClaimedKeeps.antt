@@ -35,7 +35,7 @@ claim-itself : (c : Claim) → KeepsClaim c c
 claim-itself c = (part-itself c.part, prefix-same c.order)
 
 -- and each plan
-plan-itself : (p : Plan) → Keeps p p
+pub plan-itself : (p : Plan) → Keeps p p
 plan-itself (scan n c r m z) = (c, refl, claim-itself c)
 plan-itself (unary n c op p) = (c, p, refl, claim-itself c, plan-itself p)
 plan-itself (binary n c op p q) = (c, p, q, refl, claim-itself c, plan-itself p, plan-itself q)

@@ -16,9 +16,12 @@ pub mod PlacedParts
 pub mod PlacedSent
 pub mod PlacedIsFit
 pub mod Strongest
+pub mod FoundFacts
 pub mod WithoutKeys
 pub mod ClaimedIsFit
 pub mod ClaimedIsTyped
-pub mod ClaimedIsStrongest
 pub mod KeysMonotone
 pub mod ClaimedKeeps
+pub mod ClaimedIsStrongest
+pub mod KeyChoices
+pub mod ClaimLists

@@ -227,7 +227,7 @@ claimed-placed catalog (binary n c op p p2) q order x h =
 claimed-placed catalog (exchange n c k m p) q order x h = ap without_keys h.2 ∙ ap (exchange n (keyless q order) k m) (claimed-placed catalog p _ _ h.1 h.3)
 
 -- it is as wide
-claimed-width : (catalog : ℕ → Relation) (p : Plan) (q : Part) (order : List ℕ) (x : Plan) → IsClaimed catalog p q order x → width catalog x ≡ width catalog p
+pub claimed-width : (catalog : ℕ → Relation) (p : Plan) (q : Part) (order : List ℕ) (x : Plan) → IsClaimed catalog p q order x → width catalog x ≡ width catalog p
 claimed-width catalog p q order x h = sym (width-without catalog x) ∙ ap (width catalog) (claimed-placed catalog p q order x h) ∙ width-placed catalog p q order
 
 -- keys that are found are shown

@@ -1,11 +1,12 @@
 -- Plans with claims that are placed from the top down and keys that are found from the inputs upwards, and what such claims are good for.
-use Rattle.std.specs.Prelude.{ℕ, ◌≡◌, ◌<◌, ◌⊎◌, true, List, [], length, None}
+use Rattle.std.specs.Prelude.{ℕ, ◌≡◌, ◌<◌, ◌⊎◌, Bool, true, ◌&&◌, List, [], ◌∷◌, ◌++◌, length, None}
+use Rattle.std.specs.List.{list_all}
 use Rattle.vx_relations.specs.Relation.{Relation}
 use Rattle.vx_relations.specs.Catalog.{relation_at, all_below, IsCatalog}
 use Rattle.vx_plan_nodes.specs.Plan.{Part, Claim, Plan, scan, unary, binary, exchange, claim, size, is_one}
-use Rattle.vx_plan_nodes.specs.Types.{width}
+use Rattle.vx_plan_nodes.specs.Types.{width, types_of}
 use Rattle.vx_plan_nodes.specs.Describe.{whole_rows, described}
-use Rattle.vx_plan_nodes.specs.Typed.{Scope, typed}
+use Rattle.vx_plan_nodes.specs.Typed.{Scope, typed, are_columns}
 use Rattle.vx_check_rules.specs.Rules.{covers, allowed}
 use Rattle.vx_check_rules.specs.Refusal.{first_refused}
 use Rattle.vx_check_rules.specs.Behaviour.{behaviour, shown_key, keyed_from}
@@ -82,3 +83,22 @@ pub record HasAllKeys (catalog : ℕ → Relation) (p : Plan) : Type 0 where
 abbrev pub ClaimedIsStrongest : Type 0
 ClaimedIsStrongest = (s : Scope) (p : Plan) (q : Part) (order : List ℕ) (x : Plan) → IsReady s p q order → first_unfit (relation_at s.catalog) p ≡ None
     → IsClaimed (relation_at s.catalog) p q order x → AtEach (IsStrongest (relation_at s.catalog)) x × AtEach (HasAllKeys (relation_at s.catalog)) x
+
+-- ---- claims as the program finds them
+
+-- the claims of all nodes: those of a right input before those of a left one, and the claim of a node behind those of its inputs
+abbrev pub reversed_claims : Plan → List Claim
+reversed_claims (scan n c r m z) = c ∷ []
+reversed_claims (unary n c op p) = reversed_claims p ++ c ∷ []
+reversed_claims (binary n c op p q) = reversed_claims q ++ (reversed_claims p ++ c ∷ [])
+reversed_claims (exchange n c k m p) = reversed_claims p ++ c ∷ []
+
+-- at every node each claimed key names columns of the output, none twice
+abbrev pub names_keys_at : (ℕ → Relation) → Plan → Bool
+names_keys_at catalog p = list_all (are_columns (length (types_of catalog p))) (claim p).keys
+
+abbrev pub names_keys : (ℕ → Relation) → Plan → Bool
+names_keys catalog (scan n c r m z) = names_keys_at catalog (scan n c r m z)
+names_keys catalog (unary n c op p) = names_keys catalog p && names_keys_at catalog (unary n c op p)
+names_keys catalog (binary n c op p q) = names_keys catalog p && (names_keys catalog q && names_keys_at catalog (binary n c op p q))
+names_keys catalog (exchange n c k m p) = names_keys catalog p && names_keys_at catalog (exchange n c k m p)

@@ -1,7 +1,10 @@
 //! What nodes can claim, whatever they claim: the laws on which `annotate` rests.
 #![tactic(auto)]
 
+mod choices;
+mod claiming;
 mod copies;
+mod keys;
 mod options;
 mod parts;
 mod places;
@@ -9,6 +12,10 @@ mod placing;
 
 ghost use Rattle.vx_check_options.specs.Claimed.{ClaimedIsFit, ClaimedIsTyped, ClaimedKeeps, ClaimedIsStrongest};
 ghost use Rattle.vx_check_options.specs.Laws.{OnlyOptions, PlacedIsFit, PlacedKeeps, PlacedIsTyped, PlacedIsStrongest};
+
+pub use claiming::found_claims;
+pub use options::first_unfit;
+pub use parts::is_alone;
 
 /// Where claims are accepted, each node can claim what they do.
 pub fn only_options()

@@ -18,8 +18,8 @@ use vx_check_rules::{Rule, do_sizes_match, gives};
 use vx_plan_nodes::{Binary, Part, TypedNode};
 use vx_relations::Catalog;
 
-// The list of one part that stands for an input that a node does not have.
-fn no_input(alloc: Global) -> Result<Vec<Part>, AllocError>
+/// The list of one part that stands for an input that a node does not have.
+pub fn no_input(alloc: Global) -> Result<Vec<Part>, AllocError>
     ensures { IfOk result (λ v. map part_of v.items ≡ no_input) }
 {
     only_part(alloc, Part::Any)

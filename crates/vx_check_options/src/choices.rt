@@ -1,0 +1,140 @@
+//! Choices of copies of columns, and the keys that they make.
+
+ghost use Rattle.std.specs.Prelude.{◌≡◌, ◌++◌, true, not, map, IfOk, OnOk};
+ghost use Rattle.std.specs.List.{list_any, filter};
+ghost use Rattle.vx_relations.specs.Catalog.{are_distinct};
+ghost use Rattle.vx_plan_nodes.specs.Describe.{source};
+ghost use Rattle.vx_plan_nodes.specs.DescribeView.{copying_of};
+ghost use Rattle.vx_values.specs.Lists.{is_some_list};
+ghost use Rattle.vx_check_rules.specs.Rules.{contains, within, covers};
+ghost use Rattle.vx_check_rules.specs.Behaviour.{is_column};
+ghost use Rattle.vx_check_options.specs.FoundKeys.{with_key, with_column, choices_of, IsChoice, IsMet, Finds};
+
+use std::alloc::{AllocError, Global};
+use vx_plan_nodes::Copying;
+
+/// So many keys of a node are looked for. A plan that claims more keeps them.
+pub const MAX_KEYS: usize = 16;
+
+/// Lists of columns, each a key or the copies of one column.
+pub type Lists = Vec<Vec<usize>>;
+
+fn contains(columns: &[usize], column: usize) -> bool
+    ensures { result ≡ contains columns.now column }
+{
+    columns.iter().any(|other| column == *other)
+}
+
+// Whether each of the columns is among the others.
+fn is_within(columns: &[usize], others: &[usize]) -> bool
+    ensures { result ≡ within columns.now others.now }
+{
+    columns.iter().all(|column| contains(others, *column))
+}
+
+/// Whether the columns contain one of the keys.
+pub fn are_covered(keys: &[Vec<usize>], columns: &[usize]) -> bool
+    ensures { result ≡ covers (map (λ k. k.items) keys.now) columns.now }
+{
+    keys.iter().any(|key| is_within(key.as_slice(), columns))
+}
+
+/// Puts the key behind the others, if none of them is contained in it, and drops those that contain it.
+pub fn add_key(found: &mut Lists, key: Vec<usize>) -> Result<(), AllocError>
+    ensures { OnOk result (map (λ k. k.items) found.new.items ≡ with_key (map (λ k. k.items) found.old.items) key.items) }
+{
+    if are_covered(found.as_slice(), key.as_slice()) {
+        return Ok(());
+    }
+    found.retain(|other| !is_within(key.as_slice(), other.as_slice()));
+    found.push(key)?;
+    Ok(())
+}
+
+// The columns with one more, if it is not among them.
+fn with_column(alloc: Global, columns: &[usize], column: usize) -> Result<Vec<usize>, AllocError>
+    ensures { IfOk result (λ v. v.items ≡ with_column columns.now column) }
+{
+    let mut longer = Vec::from_slice(alloc, columns)?;
+    if !contains(columns, column) {
+        longer.push(column)?;
+    }
+    Ok(longer)
+}
+
+// Whether the output column is a copy of the input column.
+fn is_copy(copying: Copying<'_>, column: usize, input: usize) -> bool
+    ensures { result ≡ is_column (source (copying_of copying.entry) column) input }
+{
+    match copying.source(column) {
+        Some(source) => input == source,
+        None => false,
+    }
+}
+
+// The copies of the input column among the allowed columns.
+fn copies_among(
+    alloc: Global,
+    copying: Copying<'_>,
+    allowed: &[usize],
+    input: usize,
+) -> Result<Vec<usize>, AllocError>
+    ensures { IfOk result (λ v. v.items ≡ filter (λ d. is_column (source (copying_of copying.entry) d) input) allowed.now) }
+{
+    let mut copies = Vec::new(alloc);
+    for column in allowed {
+        if is_copy(copying, *column, input) {
+            copies.push(*column)?;
+        }
+    }
+    Ok(copies)
+}
+
+/// Puts the allowed copies of each column of the key behind the choices that are there.
+pub fn put_choices(
+    alloc: Global,
+    choices: &mut Lists,
+    copying: Copying<'_>,
+    allowed: &[usize],
+    key: &[usize],
+) -> Result<(), AllocError>
+    ensures { OnOk result (map (λ k. k.items) choices.new.items ≡ map (λ k. k.items) choices.old.items ++ choices_of (copying_of copying.entry) allowed.now key.now) }
+{
+    for input in key {
+        choices.push(copies_among(alloc, copying, allowed, *input)?)?;
+    }
+    Ok(())
+}
+
+/// Whether one of the choices has nothing to choose from.
+pub fn is_any_empty(choices: &[Vec<usize>]) -> bool
+    ensures { result ≡ list_any (λ ds. not (is_some_list ds)) (map (λ k. k.items) choices.now) }
+{
+    choices.iter().any(|columns| columns.is_empty())
+}
+
+/// Adds the keys of these columns and one of each of the choices, until 16 are found. The choices can be more than could be
+/// tried: six columns with ten copies each have a million. But no key of an input contains another one, and no choice has
+/// an empty list, so that each choice that is tried is a key to add, unless it was found among the claimed keys or
+/// contains another one of a relation. So not many more are tried than are found.
+pub fn add_choices(
+    alloc: Global,
+    found: &mut Lists,
+    columns: &[usize],
+    choices: &[Vec<usize>],
+) -> Result<(), AllocError>
+    requires { are_distinct columns.now ≡ true }
+    ensures { OnOk result (Finds (IsChoice columns.now (map (λ k. k.items) choices.now)) (IsMet columns.now (map (λ k. k.items) choices.now)) (map (λ k. k.items) found.old.items) (map (λ k. k.items) found.new.items)) }
+{
+    if found.len() >= MAX_KEYS {
+        return Ok(());
+    }
+    let [first, rest @ ..] = choices else {
+        return add_key(found, Vec::from_slice(alloc, columns)?);
+    };
+    for column in first.as_slice() {
+        let longer = with_column(alloc, columns, *column)?;
+        add_choices(alloc, found, longer.as_slice(), rest)?;
+    }
+    Ok(())
+}

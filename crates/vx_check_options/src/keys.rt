@@ -1,0 +1,282 @@
+//! The keys that a node can claim, by any keys of its inputs.
+
+ghost use Rattle.std.specs.Prelude.{◌≡◌, ℕ, ◌==◌, List, ◌∷◌, [], ◌++◌, true, not, map, length, option_map, option_to_list, IfOk, OnOk};
+ghost use Rattle.std.specs.List.{list_all, filter};
+ghost use Rattle.vx_relations.specs.Catalog.{relation_at};
+ghost use Rattle.vx_plan_nodes.specs.Phases.{first_columns};
+ghost use Rattle.vx_plan_nodes.specs.Outline.{outline_of, plan_of};
+ghost use Rattle.vx_plan_nodes.specs.Outputs.{HasOutputs};
+ghost use Rattle.vx_plan_nodes.specs.Types.{types_of};
+ghost use Rattle.vx_plan_nodes.specs.Typed.{are_columns};
+ghost use Rattle.vx_plan_nodes.specs.DescribeView.{copying_of};
+ghost use Rattle.vx_check_rules.specs.Behaviour.{has_key, keys_give, keyed_from};
+ghost use Rattle.vx_check_rules.specs.KeyedView.{keys_seen, copied_keys, keyed_of, keyed_in, all_keyed_in};
+ghost use Rattle.vx_check_options.specs.FoundKeys.{show, both_give, choices_of, IsPart, IsKey, IsShown, Finds, KeptKeys, FoundKeys};
+
+use crate::choices::{Lists, add_choices, add_key, is_any_empty, put_choices};
+use std::alloc::{AllocError, Global};
+use vx_check_rules::{CopiedKeys, Keyed, KeysSeen, keyed_from, show_key};
+use vx_plan_nodes::{Copying, TypedNode, output_types};
+use vx_relations::{Catalog, Relation};
+
+// How the columns of a key of each input are copied, and the columns in which copies are looked for.
+#[derive(Clone, Copy)]
+struct Search<'p> {
+    first: Copying<'p>,
+    second: Copying<'p>,
+    allowed: &'p [usize],
+}
+
+// The first columns, so many.
+#[tactic(auto, using(vx_check_rules::proofs::ColumnFacts::first_push))]
+fn first_columns(alloc: Global, count: usize) -> Result<Vec<usize>, AllocError>
+    ensures { IfOk result (λ v. v.items ≡ first_columns count) }
+{
+    let mut columns = Vec::new(alloc);
+    for column in 0..count {
+        columns.push(column)?;
+    }
+    Ok(columns)
+}
+
+// Copies of the keys.
+fn copied(alloc: Global, keys: &[Vec<usize>]) -> Result<Lists, AllocError>
+    ensures { IfOk result (λ v. map (λ k. k.items) v.items ≡ map (λ k. k.items) keys.now) }
+{
+    let mut copied = Vec::new(alloc);
+    for key in keys {
+        copied.push(Vec::from_slice(alloc, key.as_slice())?)?;
+    }
+    Ok(copied)
+}
+
+// Those that the relation declares.
+fn declared(alloc: Global, relation: &Relation) -> Result<Lists, AllocError>
+    ensures { IfOk result (λ v. map (λ k. k.items) v.items ≡ relation.now.keys) }
+{
+    let mut declared = Vec::new(alloc);
+    for key in 0..relation.key_count() {
+        declared.push(Vec::from_slice(alloc, relation.key(key))?)?;
+    }
+    Ok(declared)
+}
+
+// The key of the first columns, so many.
+fn only_first(alloc: Global, count: usize) -> Result<Lists, AllocError>
+    ensures { IfOk result (λ v. map (λ k. k.items) v.items ≡ first_columns count ∷ []) }
+{
+    let mut keys = Vec::new(alloc);
+    keys.push(first_columns(alloc, count)?)?;
+    Ok(keys)
+}
+
+// The keys as lists of columns.
+fn listed(alloc: Global, keys: KeysSeen<'_>) -> Result<Lists, AllocError>
+    ensures { IfOk result (λ v. map (λ k. k.items) v.items ≡ keys_seen keys.entry) }
+{
+    match keys {
+        KeysSeen::Listed(keys) => copied(alloc, keys),
+        KeysSeen::Declared(relation) => declared(alloc, relation),
+        KeysSeen::First(count) => only_first(alloc, count),
+    }
+}
+
+impl Search<'_> {
+    // The copies of each column of both keys.
+    fn choices(self, alloc: Global, key: &[usize], other: &[usize]) -> Result<Lists, AllocError>
+        ensures { IfOk result (λ v. map (λ k. k.items) v.items ≡ choices_of (copying_of self.entry.first) self.entry.allowed.now key.now ++ choices_of (copying_of self.entry.second) self.entry.allowed.now other.now) }
+    {
+        let mut choices = Vec::new(alloc);
+        put_choices(alloc, &mut choices, self.first, self.allowed, key)?;
+        put_choices(alloc, &mut choices, self.second, self.allowed, other)?;
+        Ok(choices)
+    }
+
+    // Adds the keys of copies of all columns of both keys.
+    fn add_both(
+        self,
+        alloc: Global,
+        found: &mut Lists,
+        key: &[usize],
+        other: &[usize],
+    ) -> Result<(), AllocError>
+        ensures { OnOk result (Finds (IsKey (both_give (copying_of self.entry.first) (copying_of self.entry.second) (key.now ∷ []) (other.now ∷ [])) self.entry.allowed.now)
+            (IsShown (both_give (copying_of self.entry.first) (copying_of self.entry.second) (key.now ∷ []) (other.now ∷ [])) self.entry.allowed.now)
+            (map (λ k. k.items) found.old.items) (map (λ k. k.items) found.new.items)) }
+    {
+        let choices = self.choices(alloc, key, other)?;
+        if is_any_empty(choices.as_slice()) {
+            return Ok(());
+        }
+        add_choices(alloc, found, &[], choices.as_slice())
+    }
+
+    // The same for the key and each of the other ones.
+    fn add_beside(
+        self,
+        alloc: Global,
+        found: &mut Lists,
+        key: &[usize],
+        others: &[Vec<usize>],
+    ) -> Result<(), AllocError>
+        ensures { OnOk result (Finds (IsKey (both_give (copying_of self.entry.first) (copying_of self.entry.second) (key.now ∷ []) (map (λ k. k.items) others.now)) self.entry.allowed.now)
+            (IsShown (both_give (copying_of self.entry.first) (copying_of self.entry.second) (key.now ∷ []) (map (λ k. k.items) others.now)) self.entry.allowed.now)
+            (map (λ k. k.items) found.old.items) (map (λ k. k.items) found.new.items)) }
+    {
+        for other in others {
+            self.add_both(alloc, found, key, other.as_slice())?;
+        }
+        Ok(())
+    }
+
+    // The same for each of the keys.
+    fn add_among(
+        self,
+        alloc: Global,
+        found: &mut Lists,
+        keys: &[Vec<usize>],
+        others: &[Vec<usize>],
+    ) -> Result<(), AllocError>
+        ensures { OnOk result (Finds (IsKey (both_give (copying_of self.entry.first) (copying_of self.entry.second) (map (λ k. k.items) keys.now) (map (λ k. k.items) others.now)) self.entry.allowed.now)
+            (IsShown (both_give (copying_of self.entry.first) (copying_of self.entry.second) (map (λ k. k.items) keys.now) (map (λ k. k.items) others.now)) self.entry.allowed.now)
+            (map (λ k. k.items) found.old.items) (map (λ k. k.items) found.new.items)) }
+    {
+        for key in keys {
+            self.add_beside(alloc, found, key.as_slice(), others)?;
+        }
+        Ok(())
+    }
+}
+
+// The keys of the second input. Of one input's keys alone it is the key of no columns, which any columns contain.
+fn other_keys<'p>(keyed: Keyed<'p>) -> CopiedKeys<'p>
+    ensures { (x : List ℕ) → has_key (copied_keys result).0 (copied_keys result).1 x ≡ list_all (λ f. has_key f.0 f.1 x) (option_to_list (option_map copied_keys keyed.entry.second)) }
+{
+    match keyed.second {
+        Some(keys) => keys,
+        None => CopiedKeys {
+            copying: Copying::WholeRows,
+            keys: KeysSeen::First(0),
+        },
+    }
+}
+
+// Adds the keys of these columns.
+fn add_keyed(
+    alloc: Global,
+    found: &mut Lists,
+    keyed: Keyed<'_>,
+    allowed: &[usize],
+) -> Result<(), AllocError>
+    ensures { OnOk result (Finds (IsKey (keys_give (keyed_of keyed.entry)) allowed.now) (IsShown (keys_give (keyed_of keyed.entry)) allowed.now) (map (λ k. k.items) found.old.items) (map (λ k. k.items) found.new.items)) }
+{
+    let second = other_keys(keyed);
+    let keys = listed(alloc, keyed.first.keys)?;
+    let others = listed(alloc, second.keys)?;
+    let search = Search {
+        first: keyed.first.copying,
+        second: second.copying,
+        allowed,
+    };
+    search.add_among(alloc, found, keys.as_slice(), others.as_slice())
+}
+
+// Adds them, if they are there.
+fn add_some(
+    alloc: Global,
+    found: &mut Lists,
+    keyed: Option<Keyed<'_>>,
+    allowed: &[usize],
+) -> Result<(), AllocError>
+    ensures { OnOk result (Finds (IsKey (show (keyed_in keyed.entry)) allowed.now) (IsShown (show (keyed_in keyed.entry)) allowed.now) (map (λ k. k.items) found.old.items) (map (λ k. k.items) found.new.items)) }
+{
+    match keyed {
+        Some(keyed) => add_keyed(alloc, found, keyed, allowed),
+        None => Ok(()),
+    }
+}
+
+// Adds those of all that are there.
+fn add_all(
+    alloc: Global,
+    found: &mut Lists,
+    keyed: &[Option<Keyed<'_>>],
+    allowed: &[usize],
+) -> Result<(), AllocError>
+    ensures { OnOk result (Finds (IsKey (show (all_keyed_in keyed.now)) allowed.now) (IsShown (show (all_keyed_in keyed.now)) allowed.now) (map (λ k. k.items) found.old.items) (map (λ k. k.items) found.new.items)) }
+{
+    for each in keyed {
+        add_some(alloc, found, *each, allowed)?;
+    }
+    Ok(())
+}
+
+// The other columns.
+fn without(alloc: Global, columns: &[usize], column: usize) -> Result<Vec<usize>, AllocError>
+    ensures { IfOk result (λ v. v.items ≡ filter (λ c. not (c == column)) columns.now) }
+{
+    let mut others = Vec::new(alloc);
+    for other in columns {
+        if *other != column {
+            others.push(*other)?;
+        }
+    }
+    Ok(others)
+}
+
+// The columns of a key that are needed: a last one that is not is left out first.
+fn needed(
+    alloc: Global,
+    keyed: &[Option<Keyed<'_>>],
+    key: &[usize],
+) -> Result<Vec<usize>, AllocError>
+    ensures { IfOk result (λ v. IsPart (show (all_keyed_in keyed.now)) key.now v.items) }
+{
+    let mut part = Vec::from_slice(alloc, key)?;
+    for i in 0..key.len() {
+        let others = without(alloc, part.as_slice(), key[key.len() - 1 - i])?;
+        if show_key(keyed, others.as_slice()) {
+            part = others;
+        }
+    }
+    Ok(part)
+}
+
+// Of each claimed key that is shown the columns that are needed.
+fn kept_keys(
+    alloc: Global,
+    keyed: &[Option<Keyed<'_>>],
+    claimed: &[Vec<usize>],
+) -> Result<Lists, AllocError>
+    ensures { IfOk result (λ v. KeptKeys (show (all_keyed_in keyed.now)) (map (λ k. k.items) claimed.now) (map (λ k. k.items) v.items)) }
+{
+    let mut kept = Vec::new(alloc);
+    for key in claimed {
+        if show_key(keyed, key.as_slice()) {
+            add_key(&mut kept, needed(alloc, keyed, key.as_slice())?)?;
+        }
+    }
+    Ok(kept)
+}
+
+/// The keys that a node can claim, where its inputs have these keys: of each key that it claims already the part that is
+/// needed, and then the first others, in the order of the inputs' keys, until there are 16.
+pub fn found_keys(
+    alloc: Global,
+    catalog: &Catalog,
+    node: &TypedNode,
+    claimed: &[Vec<usize>],
+    lefts: &[Vec<usize>],
+    rights: &[Vec<usize>],
+) -> Result<Lists, AllocError>
+    requires outputs { HasOutputs (relation_at catalog.now) (outline_of node.now) }
+    requires claimed { list_all (are_columns (length (types_of (relation_at catalog.now) (plan_of node.now)))) (map (λ k. k.items) claimed.now) ≡ true }
+    ensures { IfOk result (λ v. FoundKeys (show (keyed_from (relation_at catalog.now) (plan_of node.now) (map (λ k. k.items) lefts.now) (map (λ k. k.items) rights.now)))
+        (length (types_of (relation_at catalog.now) (plan_of node.now))) (map (λ k. k.items) claimed.now) (map (λ k. k.items) v.items)) }
+{
+    let keyed = keyed_from(catalog, node, lefts, rights);
+    let columns = first_columns(alloc, output_types(node).len())?;
+    let mut found = kept_keys(alloc, &keyed, claimed)?;
+    add_all(alloc, &mut found, &keyed, columns.as_slice())?;
+    Ok(found)
+}
