@@ -4,18 +4,18 @@ use Rattle.std.specs.List.{list_all}
 use Rattle.vx_values.proofs.Booleans.{and-left, and-right, and-both}
 use Rattle.vx_relations.specs.Relation.{Relation}
 use Rattle.vx_relations.specs.Catalog.{relation_at, IsCatalog}
-use Rattle.vx_plan_nodes.specs.Plan.{Claim, Plan, scan, unary, binary, exchange, claim, number, size, is_one}
+use Rattle.vx_plan_nodes.specs.Plan.{Plan, scan, unary, binary, exchange, claim, number, size, is_one}
 use Rattle.vx_plan_nodes.specs.Types.{types_of, width}
-use Rattle.vx_plan_nodes.specs.Typed.{Scope, typed, is_size, is_kind, is_routed, is_part, is_claim, is_output, is_unary, is_binary, are_columns, may_merge}
+use Rattle.vx_plan_nodes.specs.Typed.{Scope, typed, is_size, is_kind, is_part, is_claim, is_output, is_unary, is_binary, are_columns, may_merge}
 use Rattle.vx_plan_nodes.specs.Phases.{phase_fits, both_closed}
-use Rattle.vx_plan_nodes.specs.Outline.{Outline, plan_in}
+use Rattle.vx_plan_nodes.specs.Outline.{plan_in}
 use Rattle.vx_plan_nodes.specs.Names.{scope_of, TypedPlanView}
 use Rattle.vx_plan_json.specs.Document.{ClaimForm, Document}
 use Rattle.vx_plan_json.specs.Formed.{is_head_form, is_tree_form}
 use Rattle.vx_plan.specs.Resolve.{resolved}
 use Rattle.vx_plan.specs.ByName.{tree_by_name}
 use Rattle.vx_plan.proofs.PlanExact.{plans_resolved_exactly}
-use Rattle.vx_check_rules.specs.Rules.{contains, within, is_prefix, covers, numbers_below, allowed, is_total_order}
+use Rattle.vx_check_rules.specs.Rules.{contains, within, is_prefix, covers, numbers_below, is_total_order}
 use Rattle.vx_check_rules.specs.Refusal.{Rule, root_not_one, or_else}
 use Rattle.vx_check_rules.proofs.Bools.{or-left, or-right, all-more}
 use Rattle.vx_check_rules.proofs.Refusals.{refusal-decides}
@@ -34,7 +34,7 @@ use Rattle.vx_annotate.specs.Hinted.{IsHinted, unfit_root}
 use Rattle.vx_annotate.specs.Saved.{IsWithin, IsNeverAccepted, IsNeverSaved}
 use Rattle.vx_annotate.specs.Strongest.{TellsTheMost}
 use Rattle.vx_annotate.proofs.ClaimsResolve.{claimed}
-use Rattle.vx_annotate.proofs.FoundDocument.{IsFound, found-document, is-ready, hinted-named}
+use Rattle.vx_annotate.proofs.FoundDocument.{found-document, is-ready}
 use Rattle.vx_annotate.proofs.FoundParts.{found-parts}
 use Rattle.vx_annotate.proofs.FoundTells.{found-tells}
 use Rattle.vx_annotate.proofs.FoundRefused.{unfit-found, several-found}

@@ -177,14 +177,6 @@ with-none (form.binary c op t u) =
     λ i. form.binary no_claim op (with-none t i) (right i)
 with-none (form.exchange c kind merge t) = ap (form.exchange no_claim kind merge) (with-none t)
 
-later-more : (n : ℕ) (forms : List ClaimForm) → drop n (later_forms forms) ≡ drop (suc n) forms
-later-more n [] = drop-nil n
-later-more n (f ∷ forms) = refl
-
--- the claims that are left after a node and both its inputs
-pub later-both : (l r : ℕ) (forms first second third : List ClaimForm) → third ≡ drop r second → second ≡ drop l first → first ≡ later_forms forms → third ≡ drop (suc (l + r)) forms
-later-both l r forms first second third c b a = c ∙ (ap (drop r) (b ∙ ap (drop l) a) ∙ (drop-drop r l (later_forms forms) ∙ later-more (l + r) forms))
-
 -- the document says the same but for claims
 pub unclaimed-with : (forms : List ClaimForm) (total : Bool) (d : Document) → unclaimed (with_forms forms total d) ≡ unclaimed d
 unclaimed-with forms total d = λ i. record { sizes = d.sizes; ranges = d.ranges; total = false; root = without-with forms d.root i }
@@ -192,6 +184,9 @@ unclaimed-with forms total d = λ i. record { sizes = d.sizes; ranges = d.ranges
 -- and nothing that the claims said
 pub with-unclaimed : (forms : List ClaimForm) (total : Bool) (d : Document) → with_forms forms total (unclaimed d) ≡ with_forms forms total d
 with-unclaimed forms total d = λ i. record { sizes = d.sizes; ranges = d.ranges; total = total; root = with-without forms d.root i }
+
+pub with-same : (forms : List ClaimForm) (total : Bool) (d e : Document) → unclaimed d ≡ unclaimed e → with_forms forms total d ≡ with_forms forms total e
+with-same forms total d e h = sym (with-unclaimed forms total d) ∙ (ap (with_forms forms total) h ∙ with-unclaimed forms total e)
 
 pub unclaimed-none : (d : Document) → with_forms [] false d ≡ unclaimed d
 unclaimed-none d = λ i. record { sizes = d.sizes; ranges = d.ranges; total = false; root = with-none d.root i }

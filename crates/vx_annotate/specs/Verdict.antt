@@ -1,5 +1,5 @@
 -- What the checker says of a document over a catalog.
-use Rattle.std.specs.Prelude.{◌≡◌, ℕ, List, Bool, false, Option, None, is_none, Result, Ok, Err}
+use Rattle.std.specs.Prelude.{ℕ, List, Bool, false, Option, None, is_none, Result, Ok, Err}
 use Rattle.vx_relations.specs.Relation.{Relation}
 use Rattle.vx_relations.specs.Catalog.{relation_at}
 use Rattle.vx_plan_nodes.specs.Names.{TypedPlanView}

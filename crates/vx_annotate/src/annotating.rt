@@ -40,17 +40,19 @@ fn resolved_again(alloc: Global, catalog: &Catalog, plan: &Plan) -> Result<Typed
     }
 }
 
-// The typed plan whose claims are kept: the plan as it is, if it is accepted, else without its claims.
-fn hinted(alloc: Global, catalog: &Catalog, plan: &Plan) -> Result<TypedPlan, PlanFault>
-    ensures hinted { IfOk result (λ t. IsHinted catalog.now (document_of plan.now) (resolved_of t)) }
-    ensures fault { IfErr result (λ e. Fails e (resolved (unclaimed (document_of plan.now)) catalog.now)) }
+// The plan whose claims are kept, and its typed plan: the plan as it is, if it is accepted, else without its claims.
+fn hinted(alloc: Global, catalog: &Catalog, plan: Plan) -> Result<(TypedPlan, Plan), PlanFault>
+    ensures hinted { IfOk result (λ r. IsHinted catalog.now (document_of plan) (resolved_of r.0)) }
+    ensures same { IfOk result (λ r. unclaimed (document_of r.1) ≡ unclaimed (document_of plan)) }
+    ensures fault { IfErr result (λ e. Fails e (resolved (unclaimed (document_of plan)) catalog.now)) }
 {
-    let bare = claimed_plan(alloc, Vec::new(alloc), false, plan)?;
-    let typed = resolve(alloc, &bare, catalog)?;
-    if is_accepted(alloc, catalog, plan)? {
-        return Ok(resolved_again(alloc, catalog, plan)?);
+    if is_accepted(alloc, catalog, &plan)? {
+        let typed = resolved_again(alloc, catalog, &plan)?;
+        return Ok((typed, plan));
     }
-    Ok(typed)
+    let bare = claimed_plan(alloc, Vec::new(alloc), false, plan);
+    let typed = resolve(alloc, &bare, catalog)?;
+    Ok((typed, bare))
 }
 
 // The root, if it has several workers.
@@ -86,7 +88,7 @@ pub fn annotate(alloc: Global, catalog: &Catalog, plan: Plan) -> Result<Plan, An
     ensures refused { IfErr result (λ e. IsReason catalog.now (document_of plan) e) }
 {
     let _relations = catalog.len();
-    let typed = hinted(alloc, catalog, &plan)?;
+    let (typed, kept) = hinted(alloc, catalog, plan)?;
     if let Some((node, rule)) = unfit(alloc, &typed)? {
         return Err(AnnotateFault::Rule { node, rule });
     }
@@ -95,5 +97,5 @@ pub fn annotate(alloc: Global, catalog: &Catalog, plan: Plan) -> Result<Plan, An
         ranges: typed.ranges(),
     };
     let named = naming.named_claims(alloc, claims, typed.root())?;
-    Ok(claimed_plan(alloc, named, is_total, &plan)?)
+    Ok(claimed_plan(alloc, named, is_total, kept))
 }

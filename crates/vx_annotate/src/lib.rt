@@ -2,7 +2,6 @@
 #![tactic(auto)]
 
 mod annotating;
-mod copies;
 mod fault;
 mod formed;
 mod naming;

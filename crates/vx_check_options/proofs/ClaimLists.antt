@@ -58,13 +58,15 @@ exchange-claimed catalog p n c k merge below is q order keys y i f =
     let P : Plan → Type 0 = λ x. FoundAt catalog x (claim y).keys [] keys → IsClaimed catalog x q order (exchange n (note q order keys) k merge y) in
     subst P (sym is) (λ g. (keys, y, refl, i, g)) f
 
--- the last claim behind those below
-pub last-put : {T E : Type 0} (r : Result T E) (f : T → List (List ℕ)) (C : Plan → Type 0) (x : Plan) (new more old below : List Claim) (last : Claim) → C x
-    → reversed_claims x ≡ below ++ last ∷ [] → more ≡ old ++ below → IfOk r (λ v. f v ≡ (claim x).keys) → IfOk r (λ v. new ≡ more ++ last ∷ [])
+-- the claim of a node, whatever keys were found, behind those below
+pub last-put : {T E : Type 0} (r : Result T E) (f : T → List (List ℕ)) (q : Part) (order : List ℕ) (F : List (List ℕ) → Type 0) (C : Plan → Type 0) (x : List (List ℕ) → Plan) (new more old below : List Claim)
+    → ((keys : List (List ℕ)) → F keys → C (x keys)) → ((keys : List (List ℕ)) → (claim (x keys)).keys ≡ keys) → ((keys : List (List ℕ)) → reversed_claims (x keys) ≡ below ++ note q order keys ∷ [])
+    → more ≡ old ++ below → IfOk r (λ v. F (f v)) → IfOk r (λ v. new ≡ more ++ note q order (f v) ∷ [])
     → IfOk r (λ v. (y : Plan) × C y × (f v ≡ (claim y).keys) × (new ≡ old ++ reversed_claims y))
-last-put (Ok v) f C x new more old below last is all here keys put =
-    (x, is, keys, put ∙ ap (λ cs. cs ++ last ∷ []) here ∙ append_assoc old below (last ∷ []) ∙ ap (λ cs. old ++ cs) (sym all))
-last-put (Err e) f C x new more old below last is all here keys put = tt
+last-put (Ok v) f q order F C x new more old below is keys all here found put =
+    let last : Claim = note q order (f v) in
+    (x (f v), is (f v) found, sym (keys (f v)), put ∙ ap (λ cs. cs ++ last ∷ []) here ∙ append_assoc old below (last ∷ []) ∙ ap (λ cs. old ++ cs) (sym (all (f v))))
+last-put (Err e) f q order F C x new more old below is keys all here found put = tt
 
 -- claims under an equal part and an equal order
 pub claimed-as : (catalog : ℕ → Relation) (p : Plan) (q r : Part) (order other : List ℕ) (y : Plan) → q ≡ r → order ≡ other → IsClaimed catalog p q order y → IsClaimed catalog p r other y

@@ -8,17 +8,17 @@ use Rattle.vx_relations.specs.Relation.{Relation}
 use Rattle.vx_relations.specs.Catalog.{relation_at}
 use Rattle.vx_plan_nodes.specs.Plan.{Size, by_hash, by_range, Part, one, any, all, routed, Claim, Unary, Binary, union, join, ExchangeKind, route_to, round, broadcast, gather, concat, Plan, scan, unary, binary, exchange, number, claim, size, is_one, size_eq}
 use Rattle.vx_plan_nodes.specs.Types.{width, unary_width, binary_width}
-use Rattle.vx_plan_nodes.specs.Typed.{may_merge, is_kind, are_columns, typed}
+use Rattle.vx_plan_nodes.specs.Typed.{Scope, may_merge, is_kind, are_columns, typed}
 use Rattle.vx_plan_nodes.specs.Describe.{Copying, whole_rows, OrderAfter, order_kept, sorted_on, described, described_both}
 use Rattle.vx_check_rules.specs.Rules.{part_gives, contains, is_prefix, rises_by, goes_on, sizes_match, not_replicated, inputs_match, order_given, part_shown, order_shown, if_some, keys_of, keys_shown}
-use Rattle.vx_check_rules.specs.Refusal.{Rule, size_mismatch, part_not_shown, inputs_not_matched, replicated_input, order_not_shown, order_needed, key_not_shown, first_failure, node_tests, or_else, refused_at}
+use Rattle.vx_check_rules.specs.Refusal.{Rule, size_mismatch, part_not_shown, inputs_not_matched, replicated_input, order_not_shown, order_needed, key_not_shown, first_failure, first_refused, node_tests, or_else, refused_at}
 use Rattle.vx_check_rules.specs.Behaviour.{own, gives, sources, order_after, ways_along, ways_over, ways_from, behaviour, fits, shown_part}
 use Rattle.vx_check_rules.proofs.Bools.{or-left, or-right, any-more}
 use Rattle.vx_check_rules.proofs.Exact.{fits-exactly, parts-exactly, orders-exactly}
 use Rattle.vx_check_rules.proofs.Refusals.{none-both, none-failed}
 use Rattle.vx_check_options.specs.Options.{told_parts, parts_at, Places, singles, narrowed, or_nowhere, places_over_both, places_sent, rising, places_at, can_send, can_meet, can_order, can_keep, fit_tests, first_unfit}
 use Rattle.vx_check_options.specs.Placed.{order_along, order_below, left_order, right_order, order_sent, is_chosen, first_part, parts_below, part_sent, keyless, placed, bare}
-use Rattle.vx_check_options.specs.Laws.{is_option, PlacedIsFit}
+use Rattle.vx_check_options.specs.Laws.{is_option}
 use Rattle.vx_check_options.proofs.PlacedOrders.{same-tests, are_full, full-singles, full-up, full-rising, full-nowhere, first-chosen, along-chosen, chosen-along, prefix-same, begins-same, kept-chosen, goes-on-same, none-chosen, kept-prefix, singles-chosen, then-chosen, below-shown}
 use Rattle.vx_check_options.proofs.PlacedParts.{lefts_at, rights_at, parts-at-is, below-given, below-in, sent-in, option-in, find-some, met-some, both-several}
 use Rattle.vx_check_options.proofs.PlacedSent.{all-say, each-says}
@@ -426,7 +426,9 @@ pub below-chosen : (a : OrderAfter) (k : Copying) (order : List ℕ) (places : P
 below-chosen order_kept k order places f = along-chosen k order places f
 below-chosen (sorted_on cols) k order places f = first-chosen places f
 
-pub placed-is-fit : PlacedIsFit
+pub placed-is-fit : (s : Scope) (p : Plan) (q : Part) (order : List ℕ) → typed s p ≡ true → (bare p ≡ p) ⊎ (first_unfit (relation_at s.catalog) p ≡ None)
+    → is_option (parts_at (relation_at s.catalog) p) q ≡ true → is_chosen order (places_at (relation_at s.catalog) p) ≡ true
+    → first_refused (relation_at s.catalog) (placed (relation_at s.catalog) p q order) ≡ first_unfit (relation_at s.catalog) p
 placed-is-fit s (scan n c r m z) q order t how o h =
     let catalog = relation_at s.catalog in
     let here = ready catalog (scan n c r m z) how in

@@ -3,15 +3,15 @@ use Rattle.std.proofs.Common.{◌≡◌, ℕ, nat_lt, nat_le, Bool, true, not, �
 use Rattle.vx_values.specs.declared.value.ColType.{ColType}
 use Rattle.vx_values.proofs.Booleans.{and-left, and-right, and-both}
 use Rattle.vx_relations.specs.Relation.{Relation}
-use Rattle.vx_relations.specs.Catalog.{relation_at}
+use Rattle.vx_relations.specs.Catalog.{relation_at, IsCatalog}
 use Rattle.vx_plan_nodes.specs.Plan.{Part, Aggregate, Claim, Unary, select, project, distinct, sort, group, plain, partial, final, Binary, ExchangeKind, Plan, scan, unary, binary, exchange, claim, size, is_one}
 use Rattle.vx_plan_nodes.specs.Describe.{whole_rows, described}
 use Rattle.vx_plan_nodes.specs.Types.{unary_types, binary_types, types_of}
 use Rattle.vx_plan_nodes.specs.Typed.{Scope, are_columns, is_size, is_part, is_claim, is_unary, is_binary, is_kind, may_merge, is_output, typed}
 use Rattle.vx_plan_nodes.specs.Phases.{is_open, opens, phase_fits, both_closed}
 use Rattle.vx_check_options.specs.Options.{Places, no_input, parts_at, places_over, places_at}
-use Rattle.vx_check_options.specs.Placed.{order_along, order_below, left_order, right_order, order_sent, parts_below, part_sent, keyless, placed}
-use Rattle.vx_check_options.specs.Laws.{is_option, PlacedIsTyped}
+use Rattle.vx_check_options.specs.Placed.{order_along, order_below, left_order, right_order, order_sent, parts_below, part_sent, is_chosen, keyless, placed}
+use Rattle.vx_check_options.specs.Laws.{is_option}
 use Rattle.vx_check_options.proofs.ChosenParts.{option-passes, parts_below-options, part_sent-option}
 use Rattle.vx_check_options.proofs.ChosenOrders.{along-chosen, chosen-front, front-narrowed}
 use Rattle.vx_check_options.proofs.PlacedKeeps.{places-filled, below-chosen, left-chosen, right-chosen}
@@ -140,7 +140,9 @@ exchange-typed s n k merge c p ts h e o m may out =
     (and-both (are_columns (length ts) merge) (may_merge k merge && is_output s ts c) m (and-both (may_merge k merge) (is_output s ts c) may out)))
 
 -- by induction from the top: the order of each input is of columns, and those of the output are copies of them
-pub placed-is-typed : PlacedIsTyped
+pub placed-is-typed : (s : Scope) (p : Plan) (q : Part) (order : List ℕ) → IsCatalog s.catalog → typed s p ≡ true
+    → is_option (parts_at (relation_at s.catalog) p) q ≡ true → is_chosen order (places_at (relation_at s.catalog) p) ≡ true
+    → typed s (placed (relation_at s.catalog) p q order) ≡ true
 placed-is-typed s (scan n c r m z) q order catalog h is_opt chosen =
     let node : Plan = scan n c r m z in
     let ts : List ColType = types_of (relation_at s.catalog) node in

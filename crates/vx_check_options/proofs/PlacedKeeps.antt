@@ -1,5 +1,5 @@
 -- What is placed keeps the claims that are there.
-use Rattle.std.proofs.Common.{◌≡◌, ℕ, Bool, true, false, cond, ◌&&◌, List, [], ◌∷◌, map, take, refl, sym, ap, ◌∙◌, true≢false}
+use Rattle.std.proofs.Common.{◌≡◌, ℕ, Bool, true, false, cond, ◌&&◌, List, [], ◌∷◌, map, take, refl, sym, ap, ◌∙◌, true≢false, None}
 use Rattle.vx_values.specs.Lists.{is_some_list}
 use Rattle.vx_values.proofs.Booleans.{and-left, and-right}
 use Rattle.vx_relations.specs.Relation.{Relation}
@@ -10,8 +10,8 @@ use Rattle.vx_check_rules.specs.Refusal.{or_else, refused_at}
 use Rattle.vx_check_rules.proofs.Bools.{or-false}
 use Rattle.vx_check_rules.proofs.Refusals.{passed, none-both, none-failed}
 use Rattle.vx_check_options.specs.Options.{Places, no_input, told_parts, parts_above, parts_at, same_part, narrowed, or_nowhere, places_after, places_over_both, places_sent, places_over, places_at, can_send, can_meet, can_order, can_keep, fit_tests, first_unfit}
-use Rattle.vx_check_options.specs.Placed.{order_below, left_order, right_order, order_sent, is_chosen, keyless}
-use Rattle.vx_check_options.specs.Laws.{keeps_part, is_option, PlacedKeeps}
+use Rattle.vx_check_options.specs.Placed.{order_below, left_order, right_order, order_sent, is_chosen, keyless, placed}
+use Rattle.vx_check_options.specs.Laws.{keeps_part, is_option, Keeps}
 use Rattle.vx_check_options.proofs.ChosenParts.{part-is, parts_below-options, part_sent-option}
 use Rattle.vx_check_options.proofs.ChosenOrders.{are_filled, first-columns-chosen, along-chosen, prefix-chosen, nowhere-filled, singles-filled, up-filled, rising-filled}
 
@@ -128,7 +128,8 @@ fit-here catalog p h =
     )
 
 -- by induction from the top: what is placed at an input is one of its options, and is chosen from its places
-pub placed-keeps : PlacedKeeps
+pub placed-keeps : (catalog : ℕ → Relation) (p : Plan) (q : Part) (order : List ℕ) → first_unfit catalog p ≡ None
+    → is_option (parts_at catalog p) q ≡ true → is_chosen order (places_at catalog p) ≡ true → Keeps p (placed catalog p q order)
 placed-keeps catalog (scan n c r m z) q order fit is_opt chosen =
     let node : Plan = scan n c r m z in
     let here = fit-here catalog node (none-failed n (fit_tests catalog node) fit) in

@@ -8,7 +8,7 @@ use Rattle.vx_values.proofs.Booleans.{and-left, and-right, and-both}
 use Rattle.vx_relations.specs.Relation.{Relation}
 use Rattle.vx_relations.specs.Catalog.{relation_at}
 use Rattle.vx_plan_nodes.specs.Plan.{Route, by_hash, by_range, Part, one, any, all, routed, Claim, Unary, select, project, distinct, sort, group, plain, partial, final, Binary, union, join, ExchangeKind, route_to, round, broadcast, gather, concat, Plan, scan, unary, binary, exchange, claim, size, is_one}
-use Rattle.vx_plan_nodes.specs.Typed.{may_merge, is_kind, are_columns, typed}
+use Rattle.vx_plan_nodes.specs.Typed.{Scope, may_merge, is_kind, are_columns, typed}
 use Rattle.vx_plan_nodes.specs.Describe.{Copying, whole_rows, columns_kept, left_of, right_of, source, OrderAfter, order_kept, sorted_on, described}
 use Rattle.vx_check_rules.specs.Rules.{part_gives, contains, is_prefix, cons_both, if_some, rises_by, goes_on, orders}
 use Rattle.vx_check_rules.specs.Refusal.{or_else, refused_at}
@@ -18,7 +18,7 @@ use Rattle.vx_check_rules.proofs.Exact.{orders-exactly}
 use Rattle.vx_check_rules.proofs.Refusals.{none-both}
 use Rattle.vx_check_options.specs.Options.{places_from, copies, in_front, copied_lists, routed_by, parts_up, parts_of_way, parts_among, same_part, is_routed, told_parts, parts_above, parts_at, Places, singles, place_then, places_up, narrowed, or_nowhere, places_after, places_sent, rising, places_at, fit_tests, first_unfit}
 use Rattle.vx_check_options.specs.Placed.{order_along, order_below, order_sent, is_chosen, part_sent, keyless, placed}
-use Rattle.vx_check_options.specs.Laws.{is_option, IsStrongest, PlacedIsStrongest}
+use Rattle.vx_check_options.specs.Laws.{is_option, IsStrongest, AtEach}
 use Rattle.vx_check_options.proofs.PlacedOrders.{same-number, are_full, some-is, narrowed-length, chosen-length, along-chosen, chosen-along, kept-chosen, singles-chosen}
 use Rattle.vx_check_options.proofs.PlacedParts.{any-where, not-so, any-take, take-some, filter-some, routed-is, part-is, any-at, told-any, common_of, ways-each, lefts_at, rights_at, parts-at-is, passes_over, among-some, if-given, below-in, sent-in, option-in}
 use Rattle.vx_check_options.proofs.PlacedIsFit.{size-placed, part-placed, claim-placed, order-placed, full-at, left_part, right_part, ways-placed, AllFit, all-fit, left-chosen, right-chosen, below-chosen}
@@ -385,7 +385,9 @@ strongest-here catalog p q order fit hl hr o longest = record {
       omega (arith, shorter, same);
 }
 
-pub placed-is-strongest : PlacedIsStrongest
+pub placed-is-strongest : (s : Scope) (p : Plan) (q : Part) (order : List ℕ) → typed s p ≡ true → first_unfit (relation_at s.catalog) p ≡ None
+    → is_option (parts_at (relation_at s.catalog) p) q ≡ true → is_chosen order (places_at (relation_at s.catalog) p) ≡ true
+    → AtEach (IsStrongest (relation_at s.catalog)) (placed (relation_at s.catalog) p q order)
 placed-is-strongest s (scan n c r m z) q order t e o h =
     let catalog = relation_at s.catalog in
     let fit = all-fit catalog (scan n c r m z) e in

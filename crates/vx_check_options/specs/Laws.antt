@@ -2,14 +2,12 @@
 use Rattle.std.specs.Prelude.{ℕ, ◌≡◌, ◌≤◌, ◌⊎◌, nat_lt, Bool, true, false, ◌&&◌, ◌||◌, List, [], ◌∷◌, length, None}
 use Rattle.std.specs.List.{list_all, list_any}
 use Rattle.vx_relations.specs.Relation.{Relation}
-use Rattle.vx_relations.specs.Catalog.{relation_at, IsCatalog}
+use Rattle.vx_relations.specs.Catalog.{relation_at}
 use Rattle.vx_plan_nodes.specs.Plan.{Route, Part, one, any, all, routed, Claim, Plan, scan, unary, binary, exchange, claim, size, is_one}
 use Rattle.vx_plan_nodes.specs.Typed.{Scope, typed}
 use Rattle.vx_check_rules.specs.Rules.{part_gives, contains, is_prefix, allowed}
-use Rattle.vx_check_rules.specs.Refusal.{first_refused}
 use Rattle.vx_check_rules.specs.Behaviour.{behaviour, shown_part, shown_order}
 use Rattle.vx_check_options.specs.Options.{Places, parts_at, is_within, places_at, same_part, first_unfit}
-use Rattle.vx_check_options.specs.Placed.{is_chosen, placed, bare}
 
 -- ---- claims beside others
 
@@ -55,23 +53,6 @@ OnlyOptions = (s : Scope) (p q : Plan) → Keeps p q → (is_within (relation_at
     → (first_unfit (relation_at s.catalog) p ≡ None) × ((is_one (size p) || is_told (parts_at (relation_at s.catalog) p) (claim q).part) ≡ true)
     × (is_front (claim q).order (places_at (relation_at s.catalog) p) ≡ true)
 
--- the checker refuses what is placed exactly where no claims fit: of a plan without claims, and of one where all can be kept
-abbrev pub PlacedIsFit : Type 0
-PlacedIsFit = (s : Scope) (p : Plan) (q : Part) (order : List ℕ) → typed s p ≡ true → (bare p ≡ p) ⊎ (first_unfit (relation_at s.catalog) p ≡ None)
-    → is_option (parts_at (relation_at s.catalog) p) q ≡ true → is_chosen order (places_at (relation_at s.catalog) p) ≡ true
-    → first_refused (relation_at s.catalog) (placed (relation_at s.catalog) p q order) ≡ first_unfit (relation_at s.catalog) p
-
--- what is placed keeps what the plan claims
-abbrev pub PlacedKeeps : Type 0
-PlacedKeeps = (catalog : ℕ → Relation) (p : Plan) (q : Part) (order : List ℕ) → first_unfit catalog p ≡ None
-    → is_option (parts_at catalog p) q ≡ true → is_chosen order (places_at catalog p) ≡ true → Keeps p (placed catalog p q order)
-
--- and is typed where the plan is
-abbrev pub PlacedIsTyped : Type 0
-PlacedIsTyped = (s : Scope) (p : Plan) (q : Part) (order : List ℕ) → IsCatalog s.catalog → typed s p ≡ true
-    → is_option (parts_at (relation_at s.catalog) p) q ≡ true → is_chosen order (places_at (relation_at s.catalog) p) ≡ true
-    → typed s (placed (relation_at s.catalog) p q order) ≡ true
-
 -- at a node, over the claims of its inputs: one worker claims all rows; any part is claimed only where no routed one is shown, of columns that an output can have;
 -- and no longer order is shown
 pub record IsStrongest (catalog : ℕ → Relation) (p : Plan) : Type 0 where
@@ -86,9 +67,3 @@ AtEach P (scan n c r m z) = P (scan n c r m z)
 AtEach P (unary n c op p) = AtEach P p × P (unary n c op p)
 AtEach P (binary n c op p q) = AtEach P p × AtEach P q × P (binary n c op p q)
 AtEach P (exchange n c k m p) = AtEach P p × P (exchange n c k m p)
-
--- what is placed tells the most at every node
-abbrev pub PlacedIsStrongest : Type 0
-PlacedIsStrongest = (s : Scope) (p : Plan) (q : Part) (order : List ℕ) → typed s p ≡ true → first_unfit (relation_at s.catalog) p ≡ None
-    → is_option (parts_at (relation_at s.catalog) p) q ≡ true → is_chosen order (places_at (relation_at s.catalog) p) ≡ true
-    → AtEach (IsStrongest (relation_at s.catalog)) (placed (relation_at s.catalog) p q order)

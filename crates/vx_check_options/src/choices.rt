@@ -19,7 +19,8 @@ pub const MAX_KEYS: usize = 16;
 /// Lists of columns, each a key or the copies of one column.
 pub type Lists = Vec<Vec<usize>>;
 
-fn contains(columns: &[usize], column: usize) -> bool
+/// Whether the column is one of these.
+pub fn contains(columns: &[usize], column: usize) -> bool
     ensures { result ≡ contains columns.now column }
 {
     columns.iter().any(|other| column == *other)

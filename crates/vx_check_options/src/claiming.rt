@@ -10,13 +10,12 @@ ghost use Rattle.vx_plan_nodes.specs.Outputs.{HasOutputs};
 ghost use Rattle.vx_check_rules.specs.Rules.{covers, within, numbers_below, is_total_order};
 ghost use Rattle.vx_check_options.specs.Options.{no_input, parts_at, places_at};
 ghost use Rattle.vx_check_options.specs.Placed.{first_columns, first_part, order_along, order_below, left_order, right_order, order_sent, parts_below, part_sent};
-ghost use Rattle.vx_check_options.specs.Claimed.{FoundAt, IsClaimed, reversed_claims, names_keys};
+ghost use Rattle.vx_check_options.specs.Claimed.{note, FoundAt, IsClaimed, reversed_claims, names_keys, names_keys_at};
 
-use crate::choices::are_covered;
-use crate::keys::found_keys;
+use crate::choices::{are_covered, contains};
+use crate::keys::{copied, found_keys};
 use crate::options::{no_input, parts_at, places_at};
 use crate::parts::is_alone;
-use crate::places::has;
 use crate::placing::{
     first_columns, first_part, left_order, order_below, order_sent, part_sent, parts_below,
     right_order,
@@ -32,17 +31,6 @@ type Keys = Vec<Vec<usize>>;
 pub struct Place {
     pub part: Part,
     pub order: Vec<usize>,
-}
-
-// The same keys in memory of their own.
-fn copied_keys(alloc: Global, keys: &[Vec<usize>]) -> Result<Keys, AllocError>
-    ensures { IfOk result (λ v. map (λ k. k.items) v.items ≡ map (λ k. k.items) keys.now) }
-{
-    let mut copied = Vec::new(alloc);
-    for key in keys {
-        copied.push(Vec::from_slice(alloc, key.as_slice())?)?;
-    }
-    Ok(copied)
 }
 
 // What the input of an operator over one input is to claim.
@@ -148,22 +136,29 @@ fn place_sent(
     Ok(Place { part, order })
 }
 
-// Puts the claim of a node behind the others, and returns its keys.
+// Finds the keys of a node, over those that its inputs claim, puts its claim behind the others, and returns the keys.
 fn put_claim(
     alloc: Global,
+    catalog: &Catalog,
     claims: &mut Vec<Claim>,
+    node: &TypedNode,
     place: Place,
-    keys: Keys,
+    lefts: &[Vec<usize>],
+    rights: &[Vec<usize>],
 ) -> Result<Keys, AllocError>
-    ensures keys { IfOk result (λ v. map (λ k. k.items) v.items ≡ map (λ k. k.items) keys.items) }
-    ensures claims { IfOk result (λ v. map claim_of claims.new.items ≡ map claim_of claims.old.items ++ record { part = part_of place.part; order = place.order.items; keys = map (λ k. k.items) keys.items } ∷ []) }
+    requires outputs { HasOutputs (relation_at catalog.now) (outline_of node.now) }
+    requires keys { names_keys_at (relation_at catalog.now) (plan_of node.now) ≡ true }
+    ensures keys { IfOk result (λ v. FoundAt (relation_at catalog.now) (plan_of node.now) (map (λ k. k.items) lefts.now) (map (λ k. k.items) rights.now) (map (λ k. k.items) v.items)) }
+    ensures claims { IfOk result (λ v. map claim_of claims.new.items ≡ map claim_of claims.old.items ++ note (part_of place.part) place.order.items (map (λ k. k.items) v.items) ∷ []) }
 {
-    let copied = copied_keys(alloc, keys.as_slice())?;
+    let claimed = node.head().claim.keys.as_slice();
+    let keys = found_keys(alloc, catalog, node, claimed, lefts, rights)?;
+    let copies = copied(alloc, keys.as_slice())?;
     let Place { part, order } = place;
     claims.push(Claim {
         part,
         order,
-        keys: copied,
+        keys: copies,
     })?;
     Ok(keys)
 }
@@ -182,17 +177,12 @@ fn put_claims(
     ensures { IfOk result (λ v. (x : Plan) × IsClaimed (relation_at catalog.now) (plan_of node.now) (part_of place.part) place.order.items x
         × (map (λ k. k.items) v.items ≡ (claim x).keys) × (map claim_of claims.new.items ≡ map claim_of claims.old.items ++ reversed_claims x)) }
 {
-    let claimed = node.head().claim.keys.as_slice();
     match node {
-        TypedNode::Scan(_, _) => {
-            let keys = found_keys(alloc, catalog, node, claimed, &[], &[])?;
-            put_claim(alloc, claims, place, keys)
-        }
+        TypedNode::Scan(_, _) => put_claim(alloc, catalog, claims, node, place, &[], &[]),
         TypedNode::Unary(_, operator, input) => {
             let below = place_below(alloc, catalog, node, operator, input, &place)?;
             let lefts = put_claims(alloc, catalog, claims, input, below)?;
-            let keys = found_keys(alloc, catalog, node, claimed, lefts.as_slice(), &[])?;
-            put_claim(alloc, claims, place, keys)
+            put_claim(alloc, catalog, claims, node, place, lefts.as_slice(), &[])
         }
         TypedNode::Binary(_, operator, left, right) => {
             let (first, second) = places_below(
@@ -200,21 +190,20 @@ fn put_claims(
             )?;
             let rights = put_claims(alloc, catalog, claims, right, second)?;
             let lefts = put_claims(alloc, catalog, claims, left, first)?;
-            let keys = found_keys(
+            put_claim(
                 alloc,
                 catalog,
+                claims,
                 node,
-                claimed,
+                place,
                 lefts.as_slice(),
                 rights.as_slice(),
-            )?;
-            put_claim(alloc, claims, place, keys)
+            )
         }
         TypedNode::Exchange(_, exchange, input) => {
             let below = place_sent(alloc, catalog, exchange, input, &place)?;
             let lefts = put_claims(alloc, catalog, claims, input, below)?;
-            let keys = found_keys(alloc, catalog, node, claimed, lefts.as_slice(), &[])?;
-            put_claim(alloc, claims, place, keys)
+            put_claim(alloc, catalog, claims, node, place, lefts.as_slice(), &[])
         }
     }
 }
@@ -224,7 +213,7 @@ fn are_all(columns: &[usize], width: usize) -> bool
     ensures { result ≡ within (numbers_below width) columns.now }
 {
     for column in 0..width {
-        if !has(columns, column) {
+        if !contains(columns, column) {
             return false;
         }
     }

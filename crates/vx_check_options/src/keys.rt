@@ -39,8 +39,8 @@ fn first_columns(alloc: Global, count: usize) -> Result<Vec<usize>, AllocError>
     Ok(columns)
 }
 
-// Copies of the keys.
-fn copied(alloc: Global, keys: &[Vec<usize>]) -> Result<Lists, AllocError>
+/// Copies of the keys.
+pub fn copied(alloc: Global, keys: &[Vec<usize>]) -> Result<Lists, AllocError>
     ensures { IfOk result (λ v. map (λ k. k.items) v.items ≡ map (λ k. k.items) keys.now) }
 {
     let mut copied = Vec::new(alloc);

@@ -11,7 +11,7 @@ mod places;
 mod placing;
 
 ghost use Rattle.vx_check_options.specs.Claimed.{ClaimedIsFit, ClaimedIsTyped, ClaimedKeeps, ClaimedIsStrongest};
-ghost use Rattle.vx_check_options.specs.Laws.{OnlyOptions, PlacedIsFit, PlacedKeeps, PlacedIsTyped, PlacedIsStrongest};
+ghost use Rattle.vx_check_options.specs.Laws.{OnlyOptions};
 
 pub use claiming::found_claims;
 pub use options::first_unfit;
@@ -20,26 +20,6 @@ pub use parts::is_alone;
 /// Where claims are accepted, each node can claim what they do.
 pub fn only_options()
     ensures { OnlyOptions }
-{}
-
-/// The checker refuses the claims that are placed exactly where no claims fit.
-pub fn placed_is_fit()
-    ensures { PlacedIsFit }
-{}
-
-/// They keep what the plan claims.
-pub fn placed_keeps()
-    ensures { PlacedKeeps }
-{}
-
-/// They name what there is.
-pub fn placed_is_typed()
-    ensures { PlacedIsTyped }
-{}
-
-/// They tell the most that is shown at each node.
-pub fn placed_is_strongest()
-    ensures { PlacedIsStrongest }
 {}
 
 /// The checker refuses claims that are placed, with the keys that are found, exactly where no claims fit.

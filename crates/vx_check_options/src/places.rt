@@ -8,6 +8,7 @@ ghost use Rattle.vx_plan_nodes.specs.DescribeView.{copying_of, order_after_of};
 ghost use Rattle.vx_check_rules.specs.Rules.{contains, rises_by};
 ghost use Rattle.vx_check_options.specs.Options.{singles, copies, places_up, place_then, narrowed, or_nowhere, places_after, places_over_both, rising, places_sent, places_over};
 
+use crate::choices::contains;
 use crate::copies::copies;
 use crate::parts::is_alone;
 use std::alloc::{AllocError, Global};
@@ -73,13 +74,6 @@ fn places_up(
     Ok(found)
 }
 
-/// Whether the column is one of these.
-pub fn has(columns: &[usize], column: usize) -> bool
-    ensures { result ≡ contains columns.now column }
-{
-    columns.iter().any(|other| column == *other)
-}
-
 // The same places in memory of their own.
 fn copied_places(alloc: Global, places: &[Vec<usize>]) -> Result<Places, AllocError>
     ensures { IfOk result (λ v. map (λ v. v.items) v.items ≡ map (λ v. v.items) places.now) }
@@ -129,7 +123,7 @@ pub fn narrowed(
         [column, columns @ ..] => match places {
             [] => Ok(None),
             [place, places @ ..] => {
-                if !has(place.as_slice(), *column) {
+                if !contains(place.as_slice(), *column) {
                     return Ok(None);
                 }
                 let more = narrowed(alloc, columns, places)?;

@@ -9,8 +9,9 @@ ghost use Rattle.vx_plan_nodes.specs.Outputs.{HasOutputs};
 ghost use Rattle.vx_check_rules.specs.Rules.{rises_by};
 ghost use Rattle.vx_check_options.specs.Placed.{first_columns, column_at, order_along, order_below, left_order, right_order, order_sent, first_part, first_two, is_given, parts_below, part_sent};
 
+use crate::choices::contains;
 use crate::parts::{gives_part, is_alone};
-use crate::places::{has, right_columns};
+use crate::places::right_columns;
 use std::alloc::{AllocError, Global};
 use vx_check_rules::rises_with_workers;
 use vx_plan_nodes::{Binary, Copying, ExchangeKind, OrderAfter, Part, TypedNode, copied_part};
@@ -36,7 +37,13 @@ fn column_at(place: &[usize], column: usize) -> usize
 {
     match place {
         [] => column,
-        [first, ..] => { if has(place, column) { column } else { *first } }
+        [first, ..] => {
+            if contains(place, column) {
+                column
+            } else {
+                *first
+            }
+        }
     }
 }
 

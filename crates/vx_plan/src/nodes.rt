@@ -106,15 +106,7 @@ fn exchange_typed(
 fn is_final(unary: &NamedUnary) -> bool
     ensures { result ≡ is_final_form (unary_form unary.now) }
 {
-    match unary {
-        NamedUnary::FinalGroup => true,
-        NamedUnary::Select(_)
-        | NamedUnary::Project(_)
-        | NamedUnary::Distinct(_)
-        | NamedUnary::Sort(_)
-        | NamedUnary::Group(_, _)
-        | NamedUnary::PartialGroup(_, _) => false,
-    }
+    matches!(unary, NamedUnary::FinalGroup)
 }
 
 /// The typed nodes of a tree whose top has this number, and the number after its last. The flag says whether the way up from

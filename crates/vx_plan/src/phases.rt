@@ -29,11 +29,7 @@ fn parts_made(unary: &Unary) -> Option<(&[usize], &[Aggregate])>
         Unary::Group(Phase::Partial, by, aggregates) => {
             Some((by.as_slice(), aggregates.as_slice()))
         }
-        Unary::Group(Phase::Plain | Phase::Final, _, _)
-        | Unary::Select(_)
-        | Unary::Project(_)
-        | Unary::Distinct(_)
-        | Unary::Sort(_) => None,
+        _ => None,
     }
 }
 

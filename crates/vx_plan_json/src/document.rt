@@ -108,4 +108,23 @@ impl Plan {
     {
         &self.root
     }
+
+    /// The declared size names, the declared ranges, and the node at the top.
+    pub fn into_parts(self) -> (Vec<String>, Vec<NamedRange>, Node)
+        ensures sizes { map string_bytes result.0.items ≡ (document_of self).sizes }
+        ensures ranges { map range_form result.1.items ≡ (document_of self).ranges }
+        ensures root { tree_of result.2 ≡ (document_of self).root }
+        ensures few { tree_nodes (tree_of result.2) ≤ 1000 }
+        ensures low { tree_levels (tree_of result.2) ≤ 64 }
+        ensures declared { is_head_form (document_of self).sizes (document_of self).ranges ≡ true }
+        ensures formed { is_tree_form (tree_of result.2) ≡ true }
+    {
+        let Plan {
+            sizes,
+            ranges,
+            total: _,
+            root,
+        } = self;
+        (sizes, ranges, root)
+    }
 }

@@ -10,9 +10,10 @@ ghost use Rattle.vx_plan_json.specs.Document.{hash_part, range_part, part_form, 
 ghost use Rattle.vx_values.specs.Ranges.{RangeForm, range_form};
 ghost use Rattle.vx_plan_json.specs.PlanView.{document_of};
 ghost use Rattle.vx_plan_json.specs.Reading.{document_of_text};
-ghost use Rattle.vx_plan_json.specs.Written.{names_json, list_json, value_json, with_some, with_text, range_json, part_json, with_part, claim_members, with_object, with_claim, with_side, condition_json, output_json, with_function, with_call, aggregate_json, pair_json, with_some_text, with_scan, with_lists, with_phase, with_unary, with_join, with_binary, with_kind, scan_json, unary_json, binary_json, exchange_json, node_json, with_total, document_json};
+ghost use Rattle.vx_plan_json.specs.Written.{names_json, list_json, value_json, with_some, with_text, range_json, part_json, with_part, claim_members, with_object, with_claim, with_side, condition_json, output_json, with_function, with_call, aggregate_json, pair_json, scan_json, unary_json, binary_json, exchange_json, node_json, with_total, document_json};
 
 use crate::document::Plan;
+use crate::operators::{put_binary, put_kind, put_scan, put_unary};
 use crate::plan::{
     NamedAggregate, NamedBinary, NamedClaim, NamedCondition, NamedFunction, NamedKind, NamedOutput,
     NamedPart, NamedScan, NamedSide, NamedUnary, Node,
@@ -21,10 +22,11 @@ use serde_json::{Map, Value as Json, put};
 use std::alloc::{AllocError, Global};
 use vx_values::{NamedRange, Value};
 
-type Members = Map<String, Json>;
+/// The members of an object.
+pub type Members = Map<String, Json>;
 
 /// What has a form in JSON.
-trait ToJson {
+pub trait ToJson {
     ghost use Rattle.std.specs.Prelude.{◌≡◌, IfOk};
     ghost use Rattle.serde_json.specs.Data.{Data};
     ghost use Rattle.serde_json.specs.View.{view};
@@ -50,7 +52,8 @@ fn list_json<T: ToJson>(alloc: Global, items: &[T]) -> Result<Json, AllocError>
     Ok(Json::Array(list))
 }
 
-fn put_list<T: ToJson>(
+/// A list as a member.
+pub fn put_list<T: ToJson>(
     members: &mut Members,
     alloc: Global,
     key: &str,
@@ -106,7 +109,13 @@ impl ToJson for Vec<String> {
     }
 }
 
-fn put_text(members: &mut Members, alloc: Global, key: &str, value: &str) -> Result<(), AllocError>
+/// A text as a member.
+pub fn put_text(
+    members: &mut Members,
+    alloc: Global,
+    key: &str,
+    value: &str,
+) -> Result<(), AllocError>
     ensures { OnOk result (members_view members.new.entries ≡ with_text key.now value.now (members_view members.old.entries)) }
 {
     put(members, alloc, key, text(alloc, value)?)
@@ -316,144 +325,6 @@ impl ToJson for (String, String) {
         both.push(text(alloc, self.0.as_str())?)?;
         both.push(text(alloc, self.1.as_str())?)?;
         Ok(Json::Array(both))
-    }
-}
-
-// A text, unless it is empty.
-fn put_some_text(
-    members: &mut Members,
-    alloc: Global,
-    key: &str,
-    value: &str,
-) -> Result<(), AllocError>
-    ensures { OnOk result (members_view members.new.entries ≡ with_some_text key.now value.now (members_view members.old.entries)) }
-{
-    if value.is_empty() {
-        return Ok(());
-    }
-    put_text(members, alloc, key, value)
-}
-
-fn put_scan(members: &mut Members, alloc: Global, scan: &NamedScan) -> Result<(), AllocError>
-    ensures { OnOk result (members_view members.new.entries ≡ with_scan (scan_form scan.now) (members_view members.old.entries)) }
-{
-    let mode = if scan.shared { "shared" } else { "whole" };
-    put_text(members, alloc, "op", "scan")?;
-    put_text(members, alloc, "relation", scan.relation.as_str())?;
-    put_text(members, alloc, "mode", mode)?;
-    put_text(members, alloc, "size", scan.size.as_str())?;
-    put_some_text(members, alloc, "prefix", scan.prefix.as_str())
-}
-
-// The columns and the aggregates of a group.
-fn put_lists(
-    members: &mut Members,
-    alloc: Global,
-    by: &[String],
-    aggregates: &[NamedAggregate],
-) -> Result<(), AllocError>
-    ensures { OnOk result (members_view members.new.entries ≡ with_lists (map string_bytes by.now) (map aggregate_form aggregates.now) (members_view members.old.entries)) }
-{
-    put_list(members, alloc, "by", by)?;
-    put_list(members, alloc, "aggregates", aggregates)
-}
-
-// A group's name and phase.
-fn put_phase(members: &mut Members, alloc: Global, phase: &str) -> Result<(), AllocError>
-    ensures { OnOk result (members_view members.new.entries ≡ with_phase phase.now (members_view members.old.entries)) }
-{
-    put_text(members, alloc, "op", "group")?;
-    put_text(members, alloc, "phase", phase)
-}
-
-fn put_unary(members: &mut Members, alloc: Global, unary: &NamedUnary) -> Result<(), AllocError>
-    ensures { OnOk result (members_view members.new.entries ≡ with_unary (unary_form unary.now) (members_view members.old.entries)) }
-{
-    match unary {
-        NamedUnary::Select(conditions) => {
-            put_text(members, alloc, "op", "select")?;
-            put_list(members, alloc, "where", conditions.as_slice())
-        }
-        NamedUnary::Project(outputs) => {
-            put_text(members, alloc, "op", "project")?;
-            put_list(members, alloc, "columns", outputs.as_slice())
-        }
-        NamedUnary::Distinct(outputs) => {
-            put_text(members, alloc, "op", "distinct")?;
-            put_list(members, alloc, "columns", outputs.as_slice())
-        }
-        NamedUnary::Sort(names) => {
-            put_text(members, alloc, "op", "sort")?;
-            put_list(members, alloc, "columns", names.as_slice())
-        }
-        NamedUnary::Group(by, aggregates) => {
-            put_text(members, alloc, "op", "group")?;
-            put_lists(members, alloc, by.as_slice(), aggregates.as_slice())
-        }
-        NamedUnary::PartialGroup(by, aggregates) => {
-            put_phase(members, alloc, "partial")?;
-            put_lists(members, alloc, by.as_slice(), aggregates.as_slice())
-        }
-        NamedUnary::FinalGroup => put_phase(members, alloc, "final"),
-    }
-}
-
-fn put_join(
-    members: &mut Members,
-    alloc: Global,
-    method: &str,
-    on: &[(String, String)],
-) -> Result<(), AllocError>
-    ensures { OnOk result (members_view members.new.entries ≡ with_join method.now (map pair_form on.now) (members_view members.old.entries)) }
-{
-    put_text(members, alloc, "op", "join")?;
-    put_text(members, alloc, "method", method)?;
-    put_list(members, alloc, "on", on)
-}
-
-fn put_binary(members: &mut Members, alloc: Global, binary: &NamedBinary) -> Result<(), AllocError>
-    ensures { OnOk result (members_view members.new.entries ≡ with_binary (binary_form binary.now) (members_view members.old.entries)) }
-{
-    match binary {
-        NamedBinary::Union => put_text(members, alloc, "op", "union"),
-        NamedBinary::HashJoin(on) => put_join(members, alloc, "hash", on.as_slice()),
-        NamedBinary::MergeJoin(on) => put_join(members, alloc, "merge", on.as_slice()),
-    }
-}
-
-fn put_sized(members: &mut Members, alloc: Global, kind: &str, size: &str) -> Result<(), AllocError>
-    ensures { OnOk result (members_view members.new.entries ≡ with_text (codes "size") size.now (with_text (codes "kind") kind.now (members_view members.old.entries))) }
-{
-    put_text(members, alloc, "kind", kind)?;
-    put_text(members, alloc, "size", size)
-}
-
-fn put_kind(members: &mut Members, alloc: Global, kind: &NamedKind) -> Result<(), AllocError>
-    ensures { OnOk result (members_view members.new.entries ≡ with_kind (kind_form kind.now) (members_view members.old.entries)) }
-{
-    match kind {
-        NamedKind::Hash {
-            size,
-            route,
-            columns,
-        } => {
-            put_sized(members, alloc, "hash", size.as_str())?;
-            put_text(members, alloc, "route", route.as_str())?;
-            put_list(members, alloc, "columns", columns.as_slice())
-        }
-        NamedKind::Range {
-            size,
-            range,
-            column,
-        } => {
-            put_sized(members, alloc, "range", size.as_str())?;
-            put_text(members, alloc, "route", range.as_str())?;
-            put_text(members, alloc, "column", column.as_str())
-        }
-        NamedKind::Round(size) => put_sized(members, alloc, "round", size.as_str()),
-        NamedKind::Broadcast(size) => put_sized(members, alloc, "broadcast", size.as_str()),
-        NamedKind::Gather => put_text(members, alloc, "kind", "gather"),
-        NamedKind::Concat => put_text(members, alloc, "kind", "concat"),
     }
 }
 

@@ -1,21 +1,23 @@
-//! What a node's JSON object says of the node itself.
+//! What a node's JSON object says of the node itself, read and written.
 
-ghost use Rattle.std.specs.Prelude.{[], Some, map, string_bytes, codes};
+ghost use Rattle.std.specs.Prelude.{◌≡◌, [], Some, map, string_bytes, codes, OnOk};
 ghost use Rattle.serde_json.specs.Find.{get, as_str};
-ghost use Rattle.serde_json.specs.View.{view};
+ghost use Rattle.serde_json.specs.View.{view, members_view};
 ghost use Rattle.vx_json.specs.Look.{Finds, Parses};
 ghost use Rattle.vx_plan_json.specs.Look.{or_default};
-ghost use Rattle.vx_plan_json.specs.Document.{output_form, aggregate_form, scan_form, unary_form, binary_form, kind_form};
+ghost use Rattle.vx_plan_json.specs.Document.{output_form, aggregate_form, scan_form, unary_form, pair_form, binary_form, kind_form};
 ghost use Rattle.vx_plan_json.specs.Form.{some_names_in};
 ghost use Rattle.vx_plan_json.specs.Operators.{own_form, mode_named, scan_in, scan_own, select_in, outputs_in, sort_in, lists_in, group_in, partial_in, final_in, phase_named, phased_in, unary_in, unary_own, method_named, join_in, union_in, binary_own, hash_in, range_in, sized_in, gather_in, concat_in, kind_in, merge_by, exchange_own, own_named, own_in};
+ghost use Rattle.vx_plan_json.specs.Written.{with_text, with_some_text, with_scan, with_lists, with_phase, with_unary, with_join, with_binary, with_kind};
 
 use crate::forms::{AggregateReader, ConditionReader, OutputReader, PairReader, read_node_claim};
+use crate::json::{Members, put_list, put_text};
 use crate::look::{get_text_at, read_name_at};
 use crate::plan::{
     NamedAggregate, NamedBinary, NamedClaim, NamedKind, NamedOutput, NamedScan, NamedUnary,
 };
 use serde_json::Value as Json;
-use std::alloc::Global;
+use std::alloc::{AllocError, Global};
 use vx_json::{Misread, NameReader, get_member, get_text, read_list, read_some, test_members};
 
 /// What a node says of itself, and the values of its inputs.
@@ -358,4 +360,150 @@ pub fn read_own<'v>(alloc: Global, value: &'v Json) -> Result<Own<'v>, Misread>
     ensures { Parses own_form result (own_in (view value.now)) }
 {
     read_node_of(alloc, get_text_at(value, "op")?, value)
+}
+
+// A text, unless it is empty.
+fn put_some_text(
+    members: &mut Members,
+    alloc: Global,
+    key: &str,
+    value: &str,
+) -> Result<(), AllocError>
+    ensures { OnOk result (members_view members.new.entries ≡ with_some_text key.now value.now (members_view members.old.entries)) }
+{
+    if value.is_empty() {
+        return Ok(());
+    }
+    put_text(members, alloc, key, value)
+}
+
+/// What a scan says of itself, as members.
+pub fn put_scan(members: &mut Members, alloc: Global, scan: &NamedScan) -> Result<(), AllocError>
+    ensures { OnOk result (members_view members.new.entries ≡ with_scan (scan_form scan.now) (members_view members.old.entries)) }
+{
+    let mode = if scan.shared { "shared" } else { "whole" };
+    put_text(members, alloc, "op", "scan")?;
+    put_text(members, alloc, "relation", scan.relation.as_str())?;
+    put_text(members, alloc, "mode", mode)?;
+    put_text(members, alloc, "size", scan.size.as_str())?;
+    put_some_text(members, alloc, "prefix", scan.prefix.as_str())
+}
+
+// The columns and the aggregates of a group.
+fn put_lists(
+    members: &mut Members,
+    alloc: Global,
+    by: &[String],
+    aggregates: &[NamedAggregate],
+) -> Result<(), AllocError>
+    ensures { OnOk result (members_view members.new.entries ≡ with_lists (map string_bytes by.now) (map aggregate_form aggregates.now) (members_view members.old.entries)) }
+{
+    put_list(members, alloc, "by", by)?;
+    put_list(members, alloc, "aggregates", aggregates)
+}
+
+// A group's name and phase.
+fn put_phase(members: &mut Members, alloc: Global, phase: &str) -> Result<(), AllocError>
+    ensures { OnOk result (members_view members.new.entries ≡ with_phase phase.now (members_view members.old.entries)) }
+{
+    put_text(members, alloc, "op", "group")?;
+    put_text(members, alloc, "phase", phase)
+}
+
+/// What an operator over one input says of itself, as members.
+pub fn put_unary(members: &mut Members, alloc: Global, unary: &NamedUnary) -> Result<(), AllocError>
+    ensures { OnOk result (members_view members.new.entries ≡ with_unary (unary_form unary.now) (members_view members.old.entries)) }
+{
+    match unary {
+        NamedUnary::Select(conditions) => {
+            put_text(members, alloc, "op", "select")?;
+            put_list(members, alloc, "where", conditions.as_slice())
+        }
+        NamedUnary::Project(outputs) => {
+            put_text(members, alloc, "op", "project")?;
+            put_list(members, alloc, "columns", outputs.as_slice())
+        }
+        NamedUnary::Distinct(outputs) => {
+            put_text(members, alloc, "op", "distinct")?;
+            put_list(members, alloc, "columns", outputs.as_slice())
+        }
+        NamedUnary::Sort(names) => {
+            put_text(members, alloc, "op", "sort")?;
+            put_list(members, alloc, "columns", names.as_slice())
+        }
+        NamedUnary::Group(by, aggregates) => {
+            put_text(members, alloc, "op", "group")?;
+            put_lists(members, alloc, by.as_slice(), aggregates.as_slice())
+        }
+        NamedUnary::PartialGroup(by, aggregates) => {
+            put_phase(members, alloc, "partial")?;
+            put_lists(members, alloc, by.as_slice(), aggregates.as_slice())
+        }
+        NamedUnary::FinalGroup => put_phase(members, alloc, "final"),
+    }
+}
+
+fn put_join(
+    members: &mut Members,
+    alloc: Global,
+    method: &str,
+    on: &[(String, String)],
+) -> Result<(), AllocError>
+    ensures { OnOk result (members_view members.new.entries ≡ with_join method.now (map pair_form on.now) (members_view members.old.entries)) }
+{
+    put_text(members, alloc, "op", "join")?;
+    put_text(members, alloc, "method", method)?;
+    put_list(members, alloc, "on", on)
+}
+
+/// What an operator over two inputs says of itself, as members.
+pub fn put_binary(
+    members: &mut Members,
+    alloc: Global,
+    binary: &NamedBinary,
+) -> Result<(), AllocError>
+    ensures { OnOk result (members_view members.new.entries ≡ with_binary (binary_form binary.now) (members_view members.old.entries)) }
+{
+    match binary {
+        NamedBinary::Union => put_text(members, alloc, "op", "union"),
+        NamedBinary::HashJoin(on) => put_join(members, alloc, "hash", on.as_slice()),
+        NamedBinary::MergeJoin(on) => put_join(members, alloc, "merge", on.as_slice()),
+    }
+}
+
+fn put_sized(members: &mut Members, alloc: Global, kind: &str, size: &str) -> Result<(), AllocError>
+    ensures { OnOk result (members_view members.new.entries ≡ with_text (codes "size") size.now (with_text (codes "kind") kind.now (members_view members.old.entries))) }
+{
+    put_text(members, alloc, "kind", kind)?;
+    put_text(members, alloc, "size", size)
+}
+
+/// How an exchange sends, as members.
+pub fn put_kind(members: &mut Members, alloc: Global, kind: &NamedKind) -> Result<(), AllocError>
+    ensures { OnOk result (members_view members.new.entries ≡ with_kind (kind_form kind.now) (members_view members.old.entries)) }
+{
+    match kind {
+        NamedKind::Hash {
+            size,
+            route,
+            columns,
+        } => {
+            put_sized(members, alloc, "hash", size.as_str())?;
+            put_text(members, alloc, "route", route.as_str())?;
+            put_list(members, alloc, "columns", columns.as_slice())
+        }
+        NamedKind::Range {
+            size,
+            range,
+            column,
+        } => {
+            put_sized(members, alloc, "range", size.as_str())?;
+            put_text(members, alloc, "route", range.as_str())?;
+            put_text(members, alloc, "column", column.as_str())
+        }
+        NamedKind::Round(size) => put_sized(members, alloc, "round", size.as_str()),
+        NamedKind::Broadcast(size) => put_sized(members, alloc, "broadcast", size.as_str()),
+        NamedKind::Gather => put_text(members, alloc, "kind", "gather"),
+        NamedKind::Concat => put_text(members, alloc, "kind", "concat"),
+    }
 }

@@ -1,9 +1,8 @@
-use Rattle.std.proofs.Common.{◌≡◌, ◌∙◌, ◌||◌, List, ℕ, Vec, Global, map, ap, sym, length}
+use Rattle.std.proofs.Common.{◌≡◌, ◌∙◌, ap, length}
 use Rattle.vx_relations.specs.Catalog.{relation_at}
 use Rattle.vx_plan_nodes.specs.Plan.{Plan}
 use Rattle.vx_plan_nodes.specs.Types.{width}
 use Rattle.vx_plan_nodes.specs.Outline.{plan_of}
-use Rattle.vx_check_rules.specs.Rules.{is_total_order}
 use Rattle.vx_check_rules.proofs.WidthFacts.{types_of-width}
 use Rattle.vx_check_options.proofs.ClaimLists.{claimed-as, claimed-total}
 use Rattle.vx_check_options.proofs.claiming.found_claims.Goals as goal
