@@ -23,8 +23,8 @@ use Rattle.vx_threads.specs.Joined.{AllBear, FlowsThrough, CameBack}
 use Rattle.vx_threads.specs.Paired.{IsRingOf, AllSame}
 use Rattle.vx_threads.proofs.Still.{paired-stays}
 use Rattle.vx_spawn.specs.declared.member.Joined.{Joined}
-use Rattle.vx_pairs.specs.Plans.{AllPairs, AreApart}
-use Rattle.vx_closing.specs.Closing.{AllSeatedIn, AllClosed, AreApartDraws}
+use Rattle.vx_assembly.specs.Plans.{AllPairs, AreApart}
+use Rattle.vx_assembly.specs.Closing.{AllSeatedIn, AllClosed, AreApartDraws}
 use Rattle.vx_assembly.specs.Parts.{worker_in, outs_in, ins_in, drawers_in, held_in}
 use Rattle.vx_assembly.specs.Assembly.{WasRun}
 use Rattle.vx_assembly.proofs.Lists.{apart-in, apart-draws}

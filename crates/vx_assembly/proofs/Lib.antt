@@ -1,3 +1,8 @@
+pub mod Walking
+pub mod Spanning
+pub mod Finding
+pub mod SeatsTaken
+pub mod Seating
 pub mod Lists
 pub mod Each
 pub mod Together

@@ -6,9 +6,9 @@ use Rattle.vx_threads.specs.declared.drawer.Dealer.{Dealer}
 use Rattle.vx_threads.specs.Holds.{Hold, IsApart, OutAt, InAt, DrawAt}
 use Rattle.vx_threads.specs.Joined.{PairAt}
 use Rattle.vx_spawn.specs.declared.member.Joined.{Joined}
-use Rattle.vx_pairs.specs.Pairs.{At}
-use Rattle.vx_pairs.specs.Plans.{PairIn, AreApart}
-use Rattle.vx_closing.specs.Closing.{DrawIn, AreApartDraws}
+use Rattle.vx_assembly.specs.Pairs.{At}
+use Rattle.vx_assembly.specs.Plans.{PairIn, AreApart}
+use Rattle.vx_assembly.specs.Closing.{DrawIn, AreApartDraws}
 use Rattle.vx_assembly.specs.Parts.{outs_in, ins_in, drawers_in, held_in}
 
 pub some-is : {A : Type 0} (x y : A) → Some x ≡ Some y → x ≡ y

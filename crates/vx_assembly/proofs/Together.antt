@@ -17,8 +17,8 @@ use Rattle.vx_threads.specs.Joined.{FlowsThrough, ClosedAt, Together}
 use Rattle.vx_threads.specs.Paired.{IsRingOf, Paired, AllSame}
 use Rattle.vx_threads.specs.Wired.{HasDeck, Dealing, AllSeated}
 use Rattle.vx_spawn.specs.declared.member.Joined.{Joined}
-use Rattle.vx_pairs.specs.Plans.{AllPairs}
-use Rattle.vx_closing.specs.Closing.{AllSeatedIn, AllClosed}
+use Rattle.vx_assembly.specs.Plans.{AllPairs}
+use Rattle.vx_assembly.specs.Closing.{AllSeatedIn, AllClosed}
 use Rattle.vx_assembly.specs.Parts.{outs_in, ins_in, drawers_in, held_in}
 use Rattle.vx_assembly.proofs.Lists.{pair-in, pair-at, draw-in, draw-at}
 

@@ -14,13 +14,13 @@ ghost use Rattle.vx_steps.specs.declared.verdict.Verdict.TheVariants.{Unfinished
 ghost use Rattle.vx_assembly.specs.Assembly.{WasRun};
 ghost use Rattle.vx_assembly.specs.Parts.{worker_in};
 
+use crate::closing::close_decks;
+use crate::plans::reunite_plan;
 use crate::taking::{Parts, take_apart};
 use std::alloc::{AllocError, Global};
-use vx_closing::close_decks;
 use vx_decks::SharedDeck;
 use vx_ends::Sends;
 use vx_ops::Source;
-use vx_pairs::reunite_plan;
 use vx_plan_nodes::TypedNode;
 use vx_spawn::Joined;
 use vx_steps::{Verdict, judge};
