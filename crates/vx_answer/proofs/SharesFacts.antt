@@ -15,7 +15,7 @@ use Rattle.vx_plan_nodes.specs.Typed.{bounds_at}
 use Rattle.vx_plan_nodes.specs.Serial.{SerialResult, IsOverflow}
 use Rattle.vx_check_rules.specs.Claims.{Delivers}
 use Rattle.vx_laws.specs.Faults.{IsReal}
-use Rattle.vx_groups.specs.Groups.{group_at}
+use Rattle.vx_layout.specs.Groups.{group_at}
 use Rattle.vx_exec.specs.Runs.{IsRunOf, IsSetUp, IsTrueOf}
 use Rattle.vx_exec.specs.Runs as fails
 use Rattle.vx_exec.specs.Sizes.{Sizes}

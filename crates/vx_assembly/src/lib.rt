@@ -6,7 +6,6 @@ mod closing;
 mod pairs;
 mod plans;
 mod seats;
-mod spans;
 mod taking;
 
 pub use assembling::assemble;

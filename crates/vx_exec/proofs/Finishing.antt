@@ -38,7 +38,7 @@ use Rattle.vx_steps.specs.declared.verdict.Verdict.{Verdict}
 use Rattle.vx_steps.specs.declared.verdict.Verdict.TheVariants as verdict
 use Rattle.vx_steps.proofs.Build.{crew-count}
 use Rattle.vx_steps.proofs.RunSteps.{map-length}
-use Rattle.vx_groups.specs.Groups.{IsWithin, group_at}
+use Rattle.vx_layout.specs.Groups.{IsWithin, group_at}
 use Rattle.vx_exec.specs.Job.{model_of}
 use Rattle.vx_exec.specs.Runs.{IfDone, ComesTo, IsRunOf, fault_reported, IsTrueOf, IsFirstReported}
 use Rattle.vx_exec.specs.Making.{board_of}
@@ -101,7 +101,7 @@ module _ (j : Job) (hash : List ℕ → Row → ℕ → ℕ) where
       record {
         set = record {
           meets = subst P j.same_catalog meets;
-          some_workers = some-group j.groups.items j.within.groups;
+          some_workers = some-group j.layout.groups.items j.within.groups;
           in_range = in_range;
           some_packet = omega (arith, packet);
           some_morsel = omega (arith, morsel);
@@ -133,11 +133,11 @@ module _ (j : Job) (hash : List ℕ → Row → ℕ → ℕ) where
       }
 
   -- they are as many as the plan asks for
-  pub ready-count : (ws : Vec (Worker Operator Destination) Global) (w : LinksView) → IsReadyFor ws.items w → vec_len ws ≡ crew_size (group_at j.groups.items) (plan j.plan.now)
+  pub ready-count : (ws : Vec (Worker Operator Destination) Global) (w : LinksView) → IsReadyFor ws.items w → vec_len ws ≡ crew_size (group_at j.layout.groups.items) (plan j.plan.now)
   ready-count ws w begun =
       let roles = map (role_of operator_op post_of bounds_of) ws.items in
       let a = map-length (role_of operator_op post_of bounds_of) ws.items in
-      let b : length roles ≡ crew_size (group_at j.groups.items) (plan j.plan.now) = crew-count (model_of hash j) (plan j.plan.now) roles w begun.ready.crew in
+      let b : length roles ≡ crew_size (group_at j.layout.groups.items) (plan j.plan.now) = crew-count (model_of hash j) (plan j.plan.now) roles w begun.ready.crew in
       let ok = ws.ok in
       omega (arith, a, b, ok)
 
@@ -182,7 +182,7 @@ module _ {j : Job} {hash : List ℕ → Row → ℕ → ℕ} {ws : List (Worker 
 
   -- the rows that they give are those of a run of the plan
   pub comes-done : (v : Verdict) (r : Result Ran RunFault) → HasRun j hash ws v → ComesTo ws v r
-      → IfOk r (IfDone (IsRunOf hash (resolved_of j.plan.now) j.database.now j.groups.items))
+      → IfOk r (IfDone (IsRunOf hash (resolved_of j.plan.now) j.database.now j.layout.groups.items))
   comes-done verdict.Done (Ok (ran.Done t)) run h =
       let first = run.keeps.first in
       let answer = run.answers first t.rows (h first).0 in

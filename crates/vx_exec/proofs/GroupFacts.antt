@@ -2,7 +2,7 @@
 use Rattle.std.proofs.Common.{◌≡◌, ℕ, Bool, true, false, not, cond, List, [], ◌∷◌, Option, Some, None, Ok, rules, refl}
 use Rattle.std.specs.List.{All}
 use Rattle.std.proofs.lemmas.List.Elements.{All-nil, All-cons}
-use Rattle.vx_groups.specs.Groups.{IsWithin}
+use Rattle.vx_layout.specs.Groups.{IsWithin}
 use Rattle.vx_exec.specs.Setup.{SetupRefusal, no_name, tested}
 use Rattle.vx_setup.specs.Setup.{Entry, is_within, workers_named, groups_named, first_out_of_range}
 

@@ -1,6 +1,5 @@
 pub mod Sizes
 pub mod LeafTypes
-pub mod ScanRelations
 pub mod Job
 pub mod Part
 pub mod Setup

@@ -35,7 +35,7 @@ use Rattle.vx_steps.specs.Roles.{crew_size}
 use Rattle.vx_steps.specs.Schedules.{IsBadStep}
 use Rattle.vx_steps.specs.declared.verdict.Verdict.{Verdict}
 use Rattle.vx_steps.specs.declared.verdict.Verdict.TheVariants as verdict
-use Rattle.vx_groups.specs.Groups.{group_at}
+use Rattle.vx_layout.specs.Groups.{group_at}
 use Rattle.vx_exec.specs.Counts.{AreCountsOf}
 use Rattle.vx_exec.specs.Sizes.{Sizes}
 use Rattle.vx_exec.specs.Setup.{sizes_set, Fails}

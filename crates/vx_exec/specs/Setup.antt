@@ -4,7 +4,7 @@ use Rattle.vx_plan_nodes.specs.Plan.{Plan}
 use Rattle.vx_steps.specs.Roles.{crew_size}
 use Rattle.vx_relations.specs.Walk.{◌>>=◌}
 use Rattle.vx_setup.specs.Setup.{SetupView, is_within, groups_named, first_missing, first_out_of_range}
-use Rattle.vx_groups.specs.Groups.{group_at}
+use Rattle.vx_layout.specs.Groups.{group_at}
 use Rattle.vx_exec.specs.Sizes.{Sizes}
 use Rattle.vx_setup.specs.declared.fault.RunFault.{RunFault}
 use Rattle.vx_setup.specs.declared.fault.RunFault.TheVariants as fault

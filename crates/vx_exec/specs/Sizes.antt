@@ -9,7 +9,7 @@ use Rattle.vx_plan_nodes.specs.TypedView.{scope, plan}
 use Rattle.vx_plan_nodes.specs.declared.typed_plan.TypedPlan.{TypedPlan}
 use Rattle.vx_check_rules.specs.Checked.{relations}
 use Rattle.vx_worker.specs.Fragment.{RunModel}
-use Rattle.vx_groups.specs.Groups.{IsWithin, group_at}
+use Rattle.vx_layout.specs.Groups.{IsWithin, group_at}
 
 -- the workers of each size name by its number, the rows of a packet and those of a morsel
 pub record Sizes : Type 0 where

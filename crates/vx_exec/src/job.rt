@@ -10,13 +10,13 @@ ghost use Rattle.vx_plan_nodes.specs.TypedView.{scope, plan as whole_plan};
 ghost use Rattle.vx_check_rules.specs.Checked.{relations};
 ghost use Rattle.vx_worker.specs.Morsels.{morsel_of, morsel_count};
 ghost use Rattle.vx_steps.specs.Roles.{crew_size};
-ghost use Rattle.vx_groups.specs.Groups.{IsWithin, group_at};
+ghost use Rattle.vx_layout.specs.Groups.{IsWithin, group_at};
+ghost use Rattle.vx_layout.specs.Layout.{spans_of};
 ghost use Rattle.vx_exec.specs.Sizes.{AreWithin};
-ghost use Rattle.vx_exec.specs.ScanRelations.{AreRelations};
 
 use std::alloc::{AllocError, Global};
 use vx_catalog::{Catalog, Database};
-use vx_groups::workers_of;
+use vx_layout::{Layout, NodeSpan};
 use vx_plan_nodes::{Size, TypedPlan};
 use vx_rows::ColType;
 use vx_seeds::KeySeed;
@@ -28,21 +28,18 @@ use vx_worker::Morsels;
 pub struct Job<'j> {
     alloc: Global,
     plan: &'j TypedPlan,
+    layout: Layout,
     database: &'j Database,
-    // The workers of each size name, by its number.
-    groups: Vec<u32>,
-    // By node number: the relation that its scan reads, and of other nodes none.
-    relations: Vec<Option<usize>>,
     packet: usize,
     morsel: usize,
     // The packets by which a producer may run ahead, where workers are threads.
     slack: u32,
+    ghost laid_out: { layout.spans.items ≡ spans_of (group_at layout.groups.items) (whole_plan plan.now) 0 1 },
     ghost same_catalog: { database.now.catalog ≡ (scope plan.now).catalog },
-    ghost named: { length groups.items ≡ (scope plan.now).sizes },
-    ghost within: { AreWithin (record { groups = groups.items; packet = packet; morsel = morsel }) },
+    ghost named: { length layout.groups.items ≡ (scope plan.now).sizes },
+    ghost within: { AreWithin (record { groups = layout.groups.items; packet = packet; morsel = morsel }) },
     ghost room: { IsWithin 1 1024 slack },
-    ghost few_workers: { crew_size (group_at groups.items) (whole_plan plan.now) ≤ 256 },
-    ghost of_scans: { AreRelations plan.now relations.items },
+    ghost few_workers: { crew_size (group_at layout.groups.items) (whole_plan plan.now) ≤ 256 },
 }
 
 impl<'j> Job<'j> {
@@ -52,29 +49,27 @@ impl<'j> Job<'j> {
     pub(crate) fn new(
         alloc: Global,
         plan: &'j TypedPlan,
+        layout: Layout,
         database: &'j Database,
-        groups: Vec<u32>,
-        relations: Vec<Option<usize>>,
         packet: usize,
         morsel: usize,
         slack: u32,
     ) -> Job<'j>
+        requires laid_out { layout.spans.items ≡ spans_of (group_at layout.groups.items) (whole_plan plan.now) 0 1 }
         requires catalog { database.now.catalog ≡ (scope plan.now).catalog }
-        requires named { length groups.items ≡ (scope plan.now).sizes }
-        requires within { AreWithin (record { groups = groups.items; packet = packet; morsel = morsel }) }
+        requires named { length layout.groups.items ≡ (scope plan.now).sizes }
+        requires within { AreWithin (record { groups = layout.groups.items; packet = packet; morsel = morsel }) }
         requires room { IsWithin 1 1024 slack }
-        requires few { crew_size (group_at groups.items) (whole_plan plan.now) ≤ 256 }
-        requires of_scans { AreRelations plan.now relations.items }
+        requires few { crew_size (group_at layout.groups.items) (whole_plan plan.now) ≤ 256 }
         ensures plan { result.plan.now ≡ plan.now }
         ensures database { result.database.now ≡ database.now }
-        ensures sizes { sizes_of result ≡ record { groups = groups.items; packet = packet; morsel = morsel } }
+        ensures sizes { sizes_of result ≡ record { groups = layout.groups.items; packet = packet; morsel = morsel } }
     {
         Job {
             alloc,
             plan,
+            layout,
             database,
-            groups,
-            relations,
             packet,
             morsel,
             slack,
@@ -83,11 +78,11 @@ impl<'j> Job<'j> {
 
     /// How many workers a size has.
     pub fn workers(&self, size: Size) -> u32
-        ensures value { result ≡ workers (group_at self.now.groups.items) (size_of size) }
+        ensures value { result ≡ workers (group_at self.now.layout.groups.items) (size_of size) }
         ensures some { 1 ≤ result }
         ensures few { result ≤ 64 }
     {
-        workers_of(self.groups.as_slice(), size)
+        self.layout.workers_of(size)
     }
 
     /// The plan.
@@ -105,12 +100,12 @@ impl<'j> Job<'j> {
         let _catalog = self.database.catalog();
     }
 
-    /// The workers of each size name, by its number.
-    pub fn groups(&self) -> &[u32]
-        ensures value { result.now ≡ self.now.groups.items }
-        ensures within { All (IsWithin 1 64) result.now }
+    /// Which workers the nodes of the plan have.
+    pub fn layout(&self) -> &Layout
+        ensures value { result.now ≡ self.now.layout }
+        ensures spans { result.now.spans.items ≡ spans_of (group_at self.now.layout.groups.items) (whole_plan self.now.plan.now) 0 1 }
     {
-        self.groups.as_slice()
+        &self.layout
     }
 
     /// The packets by which a producer may run ahead of a consumer, where workers are threads.
@@ -180,8 +175,8 @@ impl Morsels for Job<'_> {
 
     /// A morsel, lent. Only scans read morsels: a number of another leaf gets none.
     fn morsel(&self, scan: u32, number: u64) -> Result<Rows, AllocError> {
-        match self.relations.get(scan as usize) {
-            Some(Some(relation)) => self.lend_morsel(*relation, number),
+        match self.layout.spans().get(scan as usize) {
+            Some(NodeSpan::Scan(span)) => self.lend_morsel(span.relation, number),
             _ => Err(AllocError),
         }
     }

@@ -14,7 +14,7 @@ ghost use Rattle.vx_worker.specs.declared.worker.Worker.{Worker as AWorker};
 ghost use Rattle.vx_operators.specs.declared.operator.Operator.{Operator as AnOperator};
 ghost use Rattle.vx_operators.specs.declared.destination.Destination.{Destination as ADestination};
 ghost use Rattle.vx_steps.specs.Roles.{crew_size};
-ghost use Rattle.vx_groups.specs.Groups.{group_at};
+ghost use Rattle.vx_layout.specs.Groups.{group_at};
 ghost use Rattle.vx_exec.specs.Sizes.{run_model, Sizes};
 ghost use Rattle.vx_exec.specs.Job.{model_of};
 ghost use Rattle.vx_exec.specs.Counts.{is_wanted, counts_in};
@@ -93,7 +93,7 @@ fn run_job<R: Router>(
 ) -> Result<Ran, RunFault>
     requires allowed { is_allowed job.now.plan.now ≡ true }
     requires root { is_root_allowed job.now.plan.now ≡ true }
-    ensures done { IfOk result (IfDone (IsRunOf (R.route_of router.now) (resolved_of job.now.plan.now) job.now.database.now job.now.groups.items)) }
+    ensures done { IfOk result (IfDone (IsRunOf (R.route_of router.now) (resolved_of job.now.plan.now) job.now.database.now job.now.layout.groups.items)) }
     ensures failed { IfErr result (IsTrueOf (resolved_of job.now.plan.now) job.now.database.now) }
     ensures first { IfErr result (IsFirstReported (model_of (R.route_of router.now) job.now) (whole_plan job.now.plan.now)) }
     ensures rounds { InRounds (R.route_of router.now) (model_of (R.route_of router.now) job.now) (whole_plan job.now.plan.now) limit result }
@@ -117,12 +117,12 @@ fn schedule_job<R: Router>(
 ) -> Result<Ran, RunFault>
     requires allowed { is_allowed job.now.plan.now ≡ true }
     requires root { is_root_allowed job.now.plan.now ≡ true }
-    ensures done { IfOk result (IfDone (IsRunOf (R.route_of router.now) (resolved_of job.now.plan.now) job.now.database.now job.now.groups.items)) }
+    ensures done { IfOk result (IfDone (IsRunOf (R.route_of router.now) (resolved_of job.now.plan.now) job.now.database.now job.now.layout.groups.items)) }
     ensures failed { IfErr result (λ e. IsTrueOf (resolved_of job.now.plan.now) job.now.database.now e
-        ⊎ IsBadStepOf steps.now (crew_size (group_at job.now.groups.items) (whole_plan job.now.plan.now)) e) }
+        ⊎ IsBadStepOf steps.now (crew_size (group_at job.now.layout.groups.items) (whole_plan job.now.plan.now)) e) }
     ensures first { IfErr result (λ e. IsFirstReported (model_of (R.route_of router.now) job.now) (whole_plan job.now.plan.now) e
-        ⊎ IsBadStepOf steps.now (crew_size (group_at job.now.groups.items) (whole_plan job.now.plan.now)) e) }
-    ensures named { NamesFirst steps.now (crew_size (group_at job.now.groups.items) (whole_plan job.now.plan.now)) result }
+        ⊎ IsBadStepOf steps.now (crew_size (group_at job.now.layout.groups.items) (whole_plan job.now.plan.now)) e) }
+    ensures named { NamesFirst steps.now (crew_size (group_at job.now.layout.groups.items) (whole_plan job.now.plan.now)) result }
     ensures scheduled { Scheduled (R.route_of router.now) (model_of (R.route_of router.now) job.now) (whole_plan job.now.plan.now) steps.now result }
 {
     job.meets();

@@ -1,25 +1,18 @@
 //! The tests of a run's setup, before its first step.
 
-ghost use Rattle.std.specs.Prelude.{◌≡◌, ◌+◌, ◌*◌, ◌≤◌, map, string_bytes, IfOk, IfErr};
-ghost use Rattle.std.specs.List.{All};
-ghost use Rattle.vx_plan_nodes.specs.Numbering.{nodes};
-ghost use Rattle.vx_plan_nodes.specs.Outline.{plan_of};
+ghost use Rattle.std.specs.Prelude.{◌≡◌, nat_le, map, string_bytes, IfOk, IfErr};
 ghost use Rattle.vx_plan_nodes.specs.TypedView.{names_in, scope, resolved_of, plan as plan_of_typed};
-ghost use Rattle.vx_laws.specs.Layout.{workers_below};
-ghost use Rattle.vx_steps.specs.Roles.{crew_size};
-ghost use Rattle.vx_groups.specs.Groups.{IsWithin, group_at};
 ghost use Rattle.vx_exec.specs.Sizes.{Sizes};
 ghost use Rattle.vx_exec.specs.Job.{sizes_of};
 ghost use Rattle.vx_setup.specs.Setup.{first_missing, first_out_of_range};
-ghost use Rattle.vx_exec.specs.Setup.{tested, no_name, few_workers, size_missing, size_out_of_range, refusal_of, sizes_set, Gives};
+ghost use Rattle.vx_exec.specs.Setup.{tested, no_name, too_many_workers, size_missing, size_out_of_range, refusal_of, sizes_set, Gives};
 ghost use Rattle.vx_exec.specs.Runs.{IsSetUp, RunFails};
 
 use crate::job::Job;
-use crate::relations::relations_of;
 use std::alloc::{AllocError, Global};
 use vx_catalog::Database;
-use vx_groups::workers_of;
-use vx_plan_nodes::{TypedNode, TypedPlan};
+use vx_layout::Layout;
+use vx_plan_nodes::TypedPlan;
 use vx_setup::{RunFault, Setup, is_within};
 
 // The most rows of a packet.
@@ -65,39 +58,10 @@ fn test_ranges(alloc: Global, setup: &Setup, names: &[String]) -> Result<(), Run
     }
 }
 
-// How many workers the fragments below a node's own have.
-fn workers_below(groups: &[u32], node: &TypedNode) -> u32
-    requires within { All (IsWithin 1 64) groups.now }
-    requires few { nodes (plan_of node.now) ≤ 1000 }
-    ensures count { result ≡ workers_below (group_at groups.now) (plan_of node.now) }
-    ensures bound { result ≤ 64 * nodes (plan_of node.now) }
+// So many workers are at most 256.
+fn test_workers(number: u32) -> Result<(), RunFault>
+    ensures { Gives (λ _. tt) result (tested (nat_le number 256) (too_many_workers number)) }
 {
-    match node {
-        TypedNode::Scan(_, _) => 0,
-        TypedNode::Unary(_, _, input) => workers_below(groups, input),
-        TypedNode::Binary(_, _, left, right) => {
-            workers_below(groups, left) + workers_below(groups, right)
-        }
-        TypedNode::Exchange(_, _, input) => {
-            workers_of(groups, input.size()) + workers_below(groups, input)
-        }
-    }
-}
-
-// How many workers a plan has.
-fn crew_size(groups: &[u32], plan: &TypedPlan) -> u32
-    requires { All (IsWithin 1 64) groups.now }
-    ensures { result ≡ crew_size (group_at groups.now) (plan_of_typed plan.now) }
-{
-    1 + workers_below(groups, plan.root())
-}
-
-// The plan has at most 256 workers.
-fn test_workers(groups: &[u32], plan: &TypedPlan) -> Result<(), RunFault>
-    requires { All (IsWithin 1 64) groups.now }
-    ensures { Gives (λ _. tt) result (few_workers groups.now (plan_of_typed plan.now)) }
-{
-    let number = crew_size(groups, plan);
     fail_unless(number <= MOST_WORKERS, RunFault::TooManyWorkers { number })
 }
 
@@ -127,14 +91,12 @@ fn job_in<'j>(
     )?;
     fail_unless(is_within(MOST_SLACK, setup.slack()), RunFault::BadSlack)?;
     let groups = setup.groups(alloc, names)?;
-    test_workers(groups.as_slice(), plan)?;
-    let relations = relations_of(alloc, plan)?;
+    let layout = Layout::of(alloc, groups, plan)?;
+    test_workers(layout.workers())?;
     let packet = setup.packet() as usize;
     let morsel = setup.morsel() as usize;
     let slack = setup.slack();
-    Ok(Job::new(
-        alloc, plan, database, groups, relations, packet, morsel, slack,
-    ))
+    Ok(Job::new(alloc, plan, layout, database, packet, morsel, slack))
 }
 
 /// A plan over a database, set up to run. The first test that fails is the answer, in this order: the database has the

@@ -22,7 +22,7 @@ use Rattle.vx_steps.proofs.Build.{crew-count, crew-root, crew-below}
 use Rattle.vx_steps.proofs.RunSteps.{map-length}
 use Rattle.vx_steps.specs.declared.verdict.Verdict.{Verdict}
 use Rattle.vx_steps.specs.declared.verdict.Verdict.TheVariants as verdict
-use Rattle.vx_groups.specs.Groups.{group_at}
+use Rattle.vx_layout.specs.Groups.{group_at}
 use Rattle.vx_decks.specs.Seats.{DeckView}
 use Rattle.vx_threads.specs.Carrying.{hold_of}
 use Rattle.vx_threads.specs.Drawers.{Sits}
@@ -83,11 +83,11 @@ module _ (j : Job) (hash : List ℕ → Row → ℕ → ℕ) where
   WereRun p decks places js =
       WasRun OperatorStands operator_op DestinationStands task_of post_of bounds_of hash (scan_morsels (model_of hash j)) (model_of hash j) p decks places js
 
-  new-count : (ws : List (Worker Operator Destination)) → AreNew j ws → length ws ≡ crew_size (group_at j.groups.items) (plan j.plan.now)
+  new-count : (ws : List (Worker Operator Destination)) → AreNew j ws → length ws ≡ crew_size (group_at j.layout.groups.items) (plan j.plan.now)
   new-count ws new =
       let ready = new.ready hash in
       let a = map-length role ws in
-      let b : length (map role ws) ≡ crew_size (group_at j.groups.items) (plan j.plan.now) = crew-count (model_of hash j) (plan j.plan.now) (map role ws) ready.0 ready.1.crew in
+      let b : length (map role ws) ≡ crew_size (group_at j.layout.groups.items) (plan j.plan.now) = crew-count (model_of hash j) (plan j.plan.now) (map role ws) ready.0 ready.1.crew in
       omega (arith, a, b)
 
   -- there are few of them
@@ -98,17 +98,17 @@ module _ (j : Job) (hash : List ℕ → Row → ℕ → ℕ) where
   pub as-many-ends : (ws : List (Worker Operator Destination)) (w : Wiring) → AreNew j ws → IsWiringOf j w → length w.ends.items ≡ length ws
   as-many-ends ws w new wiring =
       let a = map-length hold_of w.ends.items in
-      let b : length (map hold_of w.ends.items) ≡ crew_size (group_at j.groups.items) (plan j.plan.now) = (wiring.wired hash).count in
+      let b : length (map hold_of w.ends.items) ≡ crew_size (group_at j.layout.groups.items) (plan j.plan.now) = (wiring.wired hash).count in
       let c = new-count ws new in
       omega (arith, a, b, c)
 
   -- and its place
-  pub as-many-places : (ws : List (Worker Operator Destination)) (seats lent : List FragmentPlace) (groups : List ℕ) (p : Plan) → AreNew j ws → groups ≡ j.groups.items → p ≡ plan j.plan.now
+  pub as-many-places : (ws : List (Worker Operator Destination)) (seats lent : List FragmentPlace) (groups : List ℕ) (p : Plan) → AreNew j ws → groups ≡ j.layout.groups.items → p ≡ plan j.plan.now
       → lent ≡ seats → map place_in seats ≡ places_from 0 (1 ∷ fragments_below (group_at groups) p) → length lent ≡ length ws
   as-many-places ws seats lent groups p new eg ep el is =
       let a = map-length place_in seats in
       let b = ap (λ (z : List (ℕ × ℕ)). length z) is ∙ places-count (group_at groups) p ∙ ap (λ z. crew_size (group_at z) p) eg
-      ∙ ap (λ z. crew_size (group_at j.groups.items) z) ep in
+      ∙ ap (λ z. crew_size (group_at j.layout.groups.items) z) ep in
       let c = new-count ws new in
       let d = ap (λ (z : List FragmentPlace). length z) el in
       omega (arith, a, b, c, d)

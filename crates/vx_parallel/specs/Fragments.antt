@@ -3,6 +3,14 @@ use Rattle.std.specs.Prelude.{ℕ, ◌+◌, List, [], ◌∷◌, ◌++◌}
 use Rattle.vx_rows.specs.Lists.{each_below}
 use Rattle.vx_plan_nodes.specs.Plan.{Plan, scan, unary, binary, exchange, size}
 use Rattle.vx_plan_nodes.specs.Streams.{workers}
+use Rattle.vx_layout.specs.declared.span.NodeSpan.{NodeSpan}
+use Rattle.vx_layout.specs.declared.span.NodeSpan.TheVariants.{Inner, Exchange, Scan}
+
+-- how many workers the fragment below a node has, if the node is an exchange
+abbrev pub fragment_in : NodeSpan → List ℕ
+fragment_in Inner = []
+fragment_in (Exchange s) = s.producers ∷ []
+fragment_in (Scan s) = []
 
 -- how many workers each fragment below the plan's top one has, in preorder of their top nodes
 abbrev pub fragments_below : (ℕ → ℕ) → Plan → List ℕ

@@ -7,7 +7,7 @@ ghost use Rattle.vx_check_rules.specs.CheckedView.{typed_plan};
 ghost use Rattle.vx_operators.specs.Operator.{operator_types};
 ghost use Rattle.vx_operators.specs.Destination.{post_of, is_open, has_closed};
 ghost use Rattle.vx_steps.specs.Roles.{crew_size};
-ghost use Rattle.vx_groups.specs.Groups.{group_at};
+ghost use Rattle.vx_layout.specs.Groups.{group_at};
 ghost use Rattle.vx_spawn.specs.Each.{AllReady};
 ghost use Rattle.vx_setup.specs.declared.fault.RunFault.TheVariants.{NoMemory, NoThread};
 ghost use Rattle.vx_exec.specs.Sizes.{run_model, Sizes};
@@ -47,7 +47,8 @@ fn wiring_for(alloc: Global, job: &Job<'_>) -> Result<Wiring, AllocError>
 {
     let counts = job.morsel_counts(alloc)?;
     let root = job.plan().root();
-    wiring_of(alloc, root, job.groups(), counts.as_slice(), job.slack())
+    let groups = job.layout().groups();
+    wiring_of(alloc, root, groups, counts.as_slice(), job.slack())
 }
 
 // Runs all workers of a job, each in a thread of its own.
@@ -88,12 +89,11 @@ fn run_crew<R: Router + Sync, G: Gate + Sync, T: Threads + Wait + Sync>(
         decks,
         places,
     } = wiring;
-    let root = job.plan().root();
-    let groups = job.groups();
-    let seats = places_of(alloc, root, groups)?;
+    let layout = job.layout();
+    let seats = places_of(alloc, layout)?;
     let members = members_of(alloc, workers, ends, seats.as_slice())?;
     let joined = start_members(rt, alloc, job, router, gate, &decks, members)?;
-    let ended = assemble(alloc, root, groups, decks, places.as_slice(), joined)?;
+    let ended = assemble(alloc, layout, decks, places.as_slice(), joined)?;
     Ok(ended)
 }
 
@@ -110,11 +110,11 @@ fn run_job<R: Router + Sync, G: Gate + Sync, T: Threads + Wait + Sync>(
 ) -> Result<Ran, RunFault>
     requires allowed { is_allowed job.now.plan.now ≡ true }
     requires root { is_root_allowed job.now.plan.now ≡ true }
-    ensures done { IfOk result (IfDone (IsRunOf (R.route_of router.now) (resolved_of job.now.plan.now) job.now.database.now job.now.groups.items)) }
+    ensures done { IfOk result (IfDone (IsRunOf (R.route_of router.now) (resolved_of job.now.plan.now) job.now.database.now job.now.layout.groups.items)) }
     ensures whole { IfOk result IsWhole }
     ensures failed { IfErr result (λ e. (e ≡ NoThread) ⊎ IsTrueOf (resolved_of job.now.plan.now) job.now.database.now e) }
     ensures first { IfErr result (IsReportedByThreads (model_of (R.route_of router.now) job.now) (whole_plan job.now.plan.now)) }
-    ensures few { NeedsFew most (crew_size (group_at job.now.groups.items) (whole_plan job.now.plan.now)) result }
+    ensures few { NeedsFew most (crew_size (group_at job.now.layout.groups.items) (whole_plan job.now.plan.now)) result }
     ensures counted { is_wanted counts.old ≡ true
         → CountedByThreads (R.route_of router.now) (model_of (R.route_of router.now) job.now) (whole_plan job.now.plan.now) result (counts_in counts.new) }
 {

@@ -5,7 +5,7 @@ use Rattle.std.proofs.Math.ListN.{get_or}
 use Rattle.std.proofs.lemmas.Option.{slice_get_within, slice_get-get_or}
 use Rattle.std.specs.List.{All}
 use Rattle.vx_values.specs.Values.{Row}
-use Rattle.vx_groups.specs.Groups.{group_at}
+use Rattle.vx_layout.specs.Groups.{group_at}
 use Rattle.vx_threads.specs.Carrying.{hold_of}
 use Rattle.vx_threads.specs.Drawers.{Sits}
 use Rattle.vx_threads.specs.declared.ends.Ends.{Ends}

@@ -2,7 +2,7 @@
 use Rattle.std.specs.Prelude.{◌≡◌, ℕ, ◌<◌, ◌+◌, ◌⊎◌, true, List, [], ◌∷◌, ◌++◌, length, Some, slice_get, slice_index_or}
 use Rattle.vx_plan_nodes.specs.Plan.{Plan}
 use Rattle.vx_plan_nodes.specs.Numbering.{nodes, is_numbered}
-use Rattle.vx_groups.specs.Groups.{group_at}
+use Rattle.vx_layout.specs.Groups.{group_at}
 use Rattle.vx_worker.specs.Fragment.{RunModel}
 use Rattle.vx_worker.specs.Morsels.{morsel_count}
 use Rattle.vx_worker.specs.Trace.{empty_trace}

@@ -4,7 +4,7 @@ ghost use Rattle.std.specs.Prelude.{◌≡◌, ◌≤◌, ◌+◌, [], ◌∷◌
 ghost use Rattle.vx_plan_nodes.specs.Outline.{plan_of, size_of, kind_of};
 ghost use Rattle.vx_plan_nodes.specs.Plan.{size, target, scan as scan_at, Claim};
 ghost use Rattle.vx_plan_nodes.specs.Streams.{workers};
-ghost use Rattle.vx_groups.specs.Groups.{group_at};
+ghost use Rattle.vx_layout.specs.Groups.{group_at};
 ghost use Rattle.vx_worker.specs.Fragment.{RunModel};
 ghost use Rattle.vx_wiring.specs.Sized.{IsSized};
 

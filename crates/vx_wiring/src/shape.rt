@@ -4,9 +4,9 @@ ghost use Rattle.std.specs.Prelude.{◌≡◌, ◌≤◌, slice_index_or};
 ghost use Rattle.std.specs.List.{All};
 ghost use Rattle.vx_plan_nodes.specs.Outline.{size_of};
 ghost use Rattle.vx_plan_nodes.specs.Streams.{workers};
-ghost use Rattle.vx_groups.specs.Groups.{IsWithin, group_at};
+ghost use Rattle.vx_layout.specs.Groups.{IsWithin, group_at};
 
-use vx_groups::workers_of;
+use vx_layout::workers_of;
 use vx_plan_nodes::Size;
 
 /// How many workers each size has and how many morsels each relation, and the room of each ring.

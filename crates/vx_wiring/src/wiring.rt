@@ -5,7 +5,7 @@ ghost use Rattle.std.specs.List.{All};
 ghost use Rattle.vx_plan_nodes.specs.Numbering.{is_numbered};
 ghost use Rattle.vx_plan_nodes.specs.Outline.{plan_of};
 ghost use Rattle.vx_plan_nodes.specs.Plan.{is_one, size};
-ghost use Rattle.vx_groups.specs.Groups.{IsWithin, group_at};
+ghost use Rattle.vx_layout.specs.Groups.{IsWithin, group_at};
 ghost use Rattle.vx_worker.specs.Fragment.{RunModel};
 ghost use Rattle.vx_worker.specs.Morsels.{morsel_count};
 ghost use Rattle.vx_threads.specs.Carrying.{hold_of};

@@ -1,6 +1,10 @@
-use Rattle.std.proofs.Common.{◌≡◌, ◌∙◌, map, subst, refl}
-use Rattle.vx_plan_nodes.specs.Outline.{plan_of}
-use Rattle.vx_groups.specs.Groups.{group_at}
+use Rattle.std.proofs.Common.{◌≡◌, ◌∙◌, ℕ, List, Vec, Global, map, subst, sym, refl}
+use Rattle.std.specs.List.{All}
+use Rattle.vx_layout.specs.Groups.{group_at}
+use Rattle.vx_layout.specs.declared.span.NodeSpan.{NodeSpan}
+use Rattle.vx_threads.specs.Paired.{IsRingOf}
+use Rattle.vx_assembly.specs.Spans.{IsSpanned, IsSmall}
+use Rattle.vx_assembly.proofs.Spanning.{to-spans, flowed}
 use Rattle.vx_steps.specs.Ready.{Settled}
 use Rattle.vx_steps.specs.Headline.{Answers}
 use Rattle.vx_steps.specs.Verdicts.{GoesOn, Judged}
@@ -12,26 +16,34 @@ use Rattle.vx_assembly.proofs.Each.{none-goes-on}
 use Rattle.vx_assembly.proofs.Came.{paired, inlets-apart, seated, draws-apart, came-back}
 use Rattle.vx_assembly.proofs.assembling.assemble.Goals as goal
 
-pub reunite_plan-requires-clause-paired : goal.reunite_plan-requires-clause-paired
-reunite_plan-requires-clause-paired g c =
+pub reunite_spans-requires-clause-small : goal.reunite_spans-requires-clause-small
+reunite_spans-requires-clause-small g c = subst (λ (z : List NodeSpan). All IsSmall z) (sym c.spans.ensures) c.requires.small
+
+pub reunite_spans-requires-clause-rings : goal.reunite_spans-requires-clause-rings
+reunite_spans-requires-clause-rings g c =
     let ran = c.requires.ran in
     let parts = c.in_ok-workers.field-0 in
     let done = c.in_ok-workers.ensures in
-    paired g.O.Source.Stands g.O.Source.op g.S.Sends.Stands g.S.Sends.task g.S.Sends.post g.S.Sends.bounds ran.0 ran.1 ran.2
-    (plan_of c.args.root.now) c.args.decks.items c.args.places.now c.args.joined.items ran.4 (group_at c.args.groups.now) ran.3
-    parts.outs.items parts.ins.items parts.draws.items done.outs done.ins done.draws
+    let sizes = group_at c.args.layout.now.groups.items in
+    let os = parts.outs.items in
+    let is = parts.ins.items in
+    subst (λ (z : List NodeSpan). All (IsSpanned IsRingOf os is) z) (sym (c.spans.ensures ∙ ran.5))
+    (to-spans IsRingOf os is sizes ran.3 0 1
+    (paired g.O.Source.Stands g.O.Source.op g.S.Sends.Stands g.S.Sends.task g.S.Sends.post g.S.Sends.bounds ran.0 ran.1 ran.2
+    ran.3 c.args.decks.items c.args.places.now c.args.joined.items ran.6 sizes ran.4
+    os is parts.draws.items done.outs done.ins done.draws))
 
-pub reunite_plan-requires-clause-apart : goal.reunite_plan-requires-clause-apart
-reunite_plan-requires-clause-apart g c =
+pub reunite_spans-requires-clause-apart : goal.reunite_spans-requires-clause-apart
+reunite_spans-requires-clause-apart g c =
     let ran = c.requires.ran in
     let parts = c.in_ok-workers.field-0 in
     let done = c.in_ok-workers.ensures in
     inlets-apart g.O.Source.Stands g.O.Source.op g.S.Sends.Stands g.S.Sends.task g.S.Sends.post g.S.Sends.bounds ran.0 ran.1 ran.2
-    (plan_of c.args.root.now) c.args.decks.items c.args.places.now c.args.joined.items ran.4 (group_at c.args.groups.now) ran.3
+    ran.3 c.args.decks.items c.args.places.now c.args.joined.items ran.6 (group_at c.args.layout.now.groups.items) ran.4
     parts.outs.items parts.ins.items parts.draws.items done.outs done.ins done.draws
 
 pub close_decks-requires-clause-many : goal.close_decks-requires-clause-many
-close_decks-requires-clause-many g c = c.requires.ran.4.wired.matched
+close_decks-requires-clause-many g c = c.requires.ran.6.wired.matched
 
 pub close_decks-requires-clause-seated : goal.close_decks-requires-clause-seated
 close_decks-requires-clause-seated g c =
@@ -39,7 +51,7 @@ close_decks-requires-clause-seated g c =
     let parts = c.in_ok-workers.field-0 in
     let done = c.in_ok-workers.ensures in
     seated g.O.Source.Stands g.O.Source.op g.S.Sends.Stands g.S.Sends.task g.S.Sends.post g.S.Sends.bounds ran.0 ran.1 ran.2
-    (plan_of c.args.root.now) c.args.decks.items c.args.places.now c.args.joined.items ran.4 (group_at c.args.groups.now) ran.3
+    ran.3 c.args.decks.items c.args.places.now c.args.joined.items ran.6 (group_at c.args.layout.now.groups.items) ran.4
     parts.outs.items parts.ins.items parts.draws.items done.outs done.ins done.draws
 
 pub close_decks-requires-clause-apart : goal.close_decks-requires-clause-apart
@@ -48,14 +60,14 @@ close_decks-requires-clause-apart g c =
     let parts = c.in_ok-workers.field-0 in
     let done = c.in_ok-workers.ensures in
     draws-apart g.O.Source.Stands g.O.Source.op g.S.Sends.Stands g.S.Sends.task g.S.Sends.post g.S.Sends.bounds ran.0 ran.1 ran.2
-    (plan_of c.args.root.now) c.args.decks.items c.args.places.now c.args.joined.items ran.4 (group_at c.args.groups.now) ran.3
+    ran.3 c.args.decks.items c.args.places.now c.args.joined.items ran.6 (group_at c.args.layout.now.groups.items) ran.4
     parts.outs.items parts.ins.items parts.draws.items done.outs done.ins done.draws
 
 pub returns-clause-workers : goal.returns-clause-workers
 returns-clause-workers g c = c.in_ok-workers.ensures.workers
 
 pub returns-clause-whole : goal.returns-clause-whole
-returns-clause-whole g c = λ hash m W sized run unfinished.
+returns-clause-whole g c = λ hash m W p sized laid run unfinished.
     let js = c.args.joined.items in
     let ws = c.as_slice.result.now in
     let are : ws ≡ map worker_in js = c.as_slice.ensures.value ∙ c.in_ok-workers.ensures.workers in
@@ -64,27 +76,25 @@ returns-clause-whole g c = λ hash m W sized run unfinished.
     run.members js run.honest (subst (λ z. GoesOn z) are judged)
 
 pub returns-clause-settled : goal.returns-clause-settled
-returns-clause-settled g c = λ hash m W sized run.
+returns-clause-settled g c = λ hash m W p sized laid run.
     let parts = c.in_ok-workers.field-0 in
     let done = c.in_ok-workers.ensures in
     let js = c.args.joined.items in
-    let p = plan_of c.args.root.now in
     let ws = c.as_slice.result.now in
     let x = c.judge-verdict.result in
     subst (λ z. Settled g.S.Sends.task W p z x) c.as_slice.ensures.value
     (settled g.O.Source.Stands g.O.Source.op g.S.Sends.Stands g.S.Sends.task g.S.Sends.post g.S.Sends.bounds hash m g.met.S.Sends.at_post W p ws ws
     (map held_in js) refl
     (came-back g.O.Source.Stands g.O.Source.op g.S.Sends.Stands g.S.Sends.task g.S.Sends.post g.S.Sends.bounds hash m W p
-    c.args.decks.items c.args.places.now js run (group_at c.args.groups.now) sized parts.outs.items parts.ins.items parts.draws.items
-    done.outs done.ins done.draws ws (c.as_slice.ensures.value ∙ done.workers) c.in_ok-reunite_plan.ensures.flows c.in_ok-close_decks.ensures)
+    c.args.decks.items c.args.places.now js run (group_at c.args.layout.now.groups.items) sized parts.outs.items parts.ins.items parts.draws.items
+    done.outs done.ins done.draws ws (c.as_slice.ensures.value ∙ done.workers) (flowed (group_at c.args.layout.now.groups.items) p parts.outs.items parts.ins.items c.spans.result.now (c.spans.ensures ∙ laid) c.reunite_spans.ensures.flows) c.in_ok-close_decks.ensures)
     x c.judge-verdict.ensures)
 
 pub returns-clause-answers : goal.returns-clause-answers
-returns-clause-answers g c = λ hash m W is_total sized run ok.
+returns-clause-answers g c = λ hash m W p is_total sized laid run ok.
     let parts = c.in_ok-workers.field-0 in
     let done = c.in_ok-workers.ensures in
     let js = c.args.joined.items in
-    let p = plan_of c.args.root.now in
     let ws = c.as_slice.result.now in
     let x = c.judge-verdict.result in
     subst (λ z. Answers g.S.Sends.task W is_total p z x) c.as_slice.ensures.value
@@ -92,20 +102,19 @@ returns-clause-answers g c = λ hash m W is_total sized run ok.
     (settled g.O.Source.Stands g.O.Source.op g.S.Sends.Stands g.S.Sends.task g.S.Sends.post g.S.Sends.bounds hash m g.met.S.Sends.at_post W p ws ws
     (map held_in js) refl
     (came-back g.O.Source.Stands g.O.Source.op g.S.Sends.Stands g.S.Sends.task g.S.Sends.post g.S.Sends.bounds hash m W p
-    c.args.decks.items c.args.places.now js run (group_at c.args.groups.now) sized parts.outs.items parts.ins.items parts.draws.items
-    done.outs done.ins done.draws ws (c.as_slice.ensures.value ∙ done.workers) c.in_ok-reunite_plan.ensures.flows c.in_ok-close_decks.ensures)
+    c.args.decks.items c.args.places.now js run (group_at c.args.layout.now.groups.items) sized parts.outs.items parts.ins.items parts.draws.items
+    done.outs done.ins done.draws ws (c.as_slice.ensures.value ∙ done.workers) (flowed (group_at c.args.layout.now.groups.items) p parts.outs.items parts.ins.items c.spans.result.now (c.spans.ensures ∙ laid) c.reunite_spans.ensures.flows) c.in_ok-close_decks.ensures)
     x c.judge-verdict.ensures))
 
 pub returns-clause-first : goal.returns-clause-first
-returns-clause-first g c = λ hash m W is_total sized run ok.
+returns-clause-first g c = λ hash m W p is_total sized laid run ok.
     let parts = c.in_ok-workers.field-0 in
     let done = c.in_ok-workers.ensures in
     let js = c.args.joined.items in
-    let p = plan_of c.args.root.now in
     let ws = c.as_slice.result.now in
     reported g.O.Source.Stands g.O.Source.op g.S.Sends.Stands g.S.Sends.task g.S.Sends.post g.S.Sends.bounds hash m g.met.S.Sends.at_post W p ws ws
     (map held_in js) refl
     (came-back g.O.Source.Stands g.O.Source.op g.S.Sends.Stands g.S.Sends.task g.S.Sends.post g.S.Sends.bounds hash m W p
-    c.args.decks.items c.args.places.now js run (group_at c.args.groups.now) sized parts.outs.items parts.ins.items parts.draws.items
-    done.outs done.ins done.draws ws (c.as_slice.ensures.value ∙ done.workers) c.in_ok-reunite_plan.ensures.flows c.in_ok-close_decks.ensures)
+    c.args.decks.items c.args.places.now js run (group_at c.args.layout.now.groups.items) sized parts.outs.items parts.ins.items parts.draws.items
+    done.outs done.ins done.draws ws (c.as_slice.ensures.value ∙ done.workers) (flowed (group_at c.args.layout.now.groups.items) p parts.outs.items parts.ins.items c.spans.result.now (c.spans.ensures ∙ laid) c.reunite_spans.ensures.flows) c.in_ok-close_decks.ensures)
     ok.fit (some-workers W is_total p ok) c.judge-verdict.result c.judge-verdict.ensures

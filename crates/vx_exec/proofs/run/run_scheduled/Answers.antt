@@ -3,7 +3,7 @@ use Rattle.vx_plan_nodes.specs.TypedView.{resolved_of, plan as whole_plan}
 use Rattle.vx_check_rules.specs.CheckedView.{typed_plan}
 use Rattle.vx_steps.specs.Roles.{crew_size}
 use Rattle.vx_exec.specs.Job.{sizes_of}
-use Rattle.vx_groups.specs.Groups.{group_at}
+use Rattle.vx_layout.specs.Groups.{group_at}
 use Rattle.vx_exec.specs.Sizes.{Sizes, run_model}
 use Rattle.vx_exec.specs.Runs.{Scheduled, IsTrueOf, IsFirstReported, IsSetUp, IsBadStepOf, NamesFirst, RunFails, ScheduleFails, for_fault, for_run, for_step}
 use Rattle.vx_exec.proofs.Outcomes.{steps-nothing, failed-by, err-reported, names-nothing, of-job, ok-reported}
@@ -15,13 +15,13 @@ returns-clause-refused g c =
     let p = resolved_of (typed_plan c.args.plan.now) in
     let same = c.in_ok-job.ensures.plan ∙ c.plan.ensures.same in
     let set = subst (λ z. IsSetUp (resolved_of z) c.args.database.now c.args.setup.now (sizes_of j)) c.plan.ensures.same c.in_ok-job.ensures.set in
-    failed-by c.schedule_job.result (λ e. IsTrueOf (resolved_of j.plan.now) j.database.now e ⊎ IsBadStepOf c.args.steps.now (crew_size (group_at j.groups.items) (whole_plan j.plan.now)) e)
+    failed-by c.schedule_job.result (λ e. IsTrueOf (resolved_of j.plan.now) j.database.now e ⊎ IsBadStepOf c.args.steps.now (crew_size (group_at j.layout.groups.items) (whole_plan j.plan.now)) e)
     (ScheduleFails p c.args.database.now c.args.setup.now c.args.steps.now)
     (λ e h. elim h [
       | inl true_fault ↦
           for_run (for_fault (sizes_of j) set (subst (λ z. IsTrueOf (resolved_of z) c.args.database.now e) same
           (subst (λ b. IsTrueOf (resolved_of j.plan.now) b e) c.in_ok-job.ensures.database true_fault)))
-      | inr bad ↦ for_step (sizes_of j) set (subst (λ z. IsBadStepOf c.args.steps.now (crew_size (group_at j.groups.items) (whole_plan z)) e) same bad)
+      | inr bad ↦ for_step (sizes_of j) set (subst (λ z. IsBadStepOf c.args.steps.now (crew_size (group_at j.layout.groups.items) (whole_plan z)) e) same bad)
     ])
     c.schedule_job.ensures.failed
 

@@ -4,7 +4,7 @@ use Rattle.std.proofs.Common.{◌<◌, ℕ, inl, inr, subst}
 use Rattle.std.specs.List.{All}
 use Rattle.vx_steps.specs.Roles.{crew_size}
 use Rattle.vx_steps.specs.Schedules.{IsBadStep}
-use Rattle.vx_groups.specs.Groups.{group_at}
+use Rattle.vx_layout.specs.Groups.{group_at}
 use Rattle.vx_exec.specs.Runs.{IsTrueOf, IsFirstReported, IsBadStepOf}
 use Rattle.vx_exec.specs.Job.{model_of}
 use Rattle.vx_setup.specs.declared.fault.RunFault.{RunFault}
@@ -38,7 +38,7 @@ returns-in-Ok g c =
     let end = c.judge_schedule in
     let run = has-run j hash parts.result.0.items end.new.workers.items parts.result.1 c.in-Ok.verdict begun end.ensures.roles c.in-Ok.ensures.answers c.in-Ok.ensures.first in
     let p = whole_plan j.plan.now in
-    let count : ℕ = crew_size (group_at j.groups.items) p in
+    let count : ℕ = crew_size (group_at j.layout.groups.items) p in
     let bad : RunFault → Type 0 = IsBadStepOf c.args.steps.now count in
     let r = c.answer_of.result in
     record {

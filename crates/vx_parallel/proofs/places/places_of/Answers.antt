@@ -1,16 +1,16 @@
-use Rattle.std.proofs.Common.{length, map, ap, arith}
-use Rattle.vx_plan_nodes.specs.Outline.{plan_of}
-use Rattle.vx_groups.specs.Groups.{group_at}
-use Rattle.vx_parallel.specs.Fragments.{places_from}
+use Rattle.std.proofs.Common.{◌≡◌, ◌∷◌, ◌∙◌, List, ℕ, length, map, flat_map, ap, arith}
+use Rattle.vx_layout.specs.declared.span.NodeSpan.{NodeSpan}
+use Rattle.vx_parallel.specs.Fragments.{fragment_in, places_from}
 use Rattle.vx_parallel.specs.Places.{place_in}
-use Rattle.vx_parallel.proofs.Fragments.{few-fragments, one-fragment}
+use Rattle.vx_parallel.proofs.Fragments.{few-in, one-fragment}
 use Rattle.vx_parallel.proofs.places.places_of.Goals as goal
 
 pub overflow_cast-fragment : goal.overflow_cast-fragment
 overflow_cast-fragment c =
-    let few = few-fragments (group_at c.args.groups.now) (plan_of c.args.root.now) in
-    let count = ap length c.in_ok-fragments.ensures in
-    let nodes = c.requires.few in
+    let spans : List NodeSpan = c.args.layout.now.spans.items in
+    let few = few-in spans in
+    let count = ap length (c.in_ok-fragments.ensures ∙ ap (λ (z : List NodeSpan). 1 ∷ flat_map fragment_in z) c.spans.ensures) in
+    let nodes = c.requires in
     let below = c.loop-fragment-test.true in
     let end = c.len-fragment-end.ensures in
     omega (arith, few, count, nodes, below, end)

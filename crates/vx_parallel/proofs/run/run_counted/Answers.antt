@@ -2,7 +2,7 @@ use Rattle.std.proofs.Common.{◌≡◌, ◌⊎◌, subst, sym, ◌∙◌, inl, 
 use Rattle.vx_plan_nodes.specs.TypedView.{resolved_of, plan as whole_plan}
 use Rattle.vx_check_rules.specs.CheckedView.{typed_plan}
 use Rattle.vx_steps.specs.Roles.{crew_size}
-use Rattle.vx_groups.specs.Groups.{group_at}
+use Rattle.vx_layout.specs.Groups.{group_at}
 use Rattle.vx_setup.specs.declared.fault.RunFault.TheVariants as fault
 use Rattle.vx_exec.specs.Counts.{counts_in}
 use Rattle.vx_exec.specs.Job.{sizes_of}

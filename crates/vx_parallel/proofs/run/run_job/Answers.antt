@@ -3,7 +3,7 @@ use Rattle.vx_plan_nodes.specs.TypedView.{plan as whole_plan, resolved_of}
 use Rattle.vx_plan_nodes.specs.Types.{types_of}
 use Rattle.vx_check_rules.specs.Checked.{relations}
 use Rattle.vx_steps.specs.Roles.{crew_size}
-use Rattle.vx_groups.specs.Groups.{group_at}
+use Rattle.vx_layout.specs.Groups.{group_at}
 use Rattle.vx_exec.specs.Counts.{AreCountsOf, counts_in}
 use Rattle.vx_exec.specs.Job.{model_of}
 use Rattle.vx_exec.specs.Runs.{IsTrueOf, IsFirstReported}
@@ -83,7 +83,7 @@ returns-in_err-ended-clause-first g c =
 pub returns-in_err-ended-clause-few : goal.returns-in_err-ended-clause-few
 returns-in_err-ended-clause-few g c =
     let j = c.args.job.now in
-    refusal-few c.from_residual-in_err-ended.result c.in_err-ended.field-0.0 c.args.most (crew_size (group_at j.groups.items) (whole_plan j.plan.now))
+    refusal-few c.from_residual-in_err-ended.result c.in_err-ended.field-0.0 c.args.most (crew_size (group_at j.layout.groups.items) (whole_plan j.plan.now))
     c.from_residual-in_err-ended.ensures.1 c.in_err-ended.ensures.fault
 
 pub returns-in_err-ended-clause-counted : goal.returns-in_err-ended-clause-counted

@@ -1,27 +1,40 @@
-use Rattle.std.proofs.Common.{◌≡◌, List, sym, subst}
+use Rattle.std.proofs.Common.{◌≡◌, ◌∙◌, true, List, sym, ap, subst}
 use Rattle.std.specs.Prelude.{IfOk}
 use Rattle.vx_values.specs.declared.value.ColType.{ColType}
 use Rattle.vx_catalog.specs.Database.{rows_at}
+use Rattle.vx_plan_nodes.specs.Numbering.{is_numbered}
+use Rattle.vx_plan_nodes.specs.Outline.{plan_of}
+use Rattle.vx_plan_nodes.specs.Plan.{Plan}
+use Rattle.vx_plan_nodes.specs.TypedView.{scope, plan}
 use Rattle.vx_worker.specs.Morsels.{morsel_of}
-use Rattle.vx_exec.proofs.ScanFacts.{read-at}
+use Rattle.vx_check_rules.specs.Checked.{relations}
+use Rattle.vx_layout.specs.Groups.{group_at}
+use Rattle.vx_layout.specs.Layout.{spans_of}
+use Rattle.vx_exec.proofs.ScanFacts.{IsReadAt, span-at}
 use Rattle.vx_exec.proofs.job.JobMorsels.morsel.Goals as goal
 
 pub lend_morsel-requires : goal.lend_morsel-requires
 lend_morsel-requires c =
     let j = c.args.self.now in
-    let k = c.in-Some-Some.ensures.lookup in
-    (read-at j.plan.now j.relations.items c.deref.result.now c.in-Some-Some.field-0.now c.args.scan c.in-Some-Some.relation j.of_scans c.deref.ensures.value k.3.0 k.1 c.in-Some-Some.field-0-is).there
+    let k = c.in-Some-Scan.ensures.lookup in
+    let p : Plan = plan j.plan.now in
+    (span-at (relations j.plan.now) (scope j.plan.now) (group_at j.layout.groups.items) p c.spans.result.now c.in-Some-Scan.field-0.now c.in-Some-Scan.span c.args.scan
+    j.plan.now.numbered j.plan.now.typed_nodes (c.spans.ensures ∙ j.laid_out) k.3.0 k.1 c.in-Some-Scan.field-0-is).there
 
-pub returns-in-Some-Some-clause-rows : goal.returns-in-Some-Some-clause-rows
-returns-in-Some-Some-clause-rows c =
+pub returns-in-Some-Scan-clause-rows : goal.returns-in-Some-Scan-clause-rows
+returns-in-Some-Scan-clause-rows c =
     let j = c.args.self.now in
-    let k = c.in-Some-Some.ensures.lookup in
-    let at = read-at j.plan.now j.relations.items c.deref.result.now c.in-Some-Some.field-0.now c.args.scan c.in-Some-Some.relation j.of_scans c.deref.ensures.value k.3.0 k.1 c.in-Some-Some.field-0-is in
+    let k = c.in-Some-Scan.ensures.lookup in
+    let p : Plan = plan j.plan.now in
+    let at = span-at (relations j.plan.now) (scope j.plan.now) (group_at j.layout.groups.items) p c.spans.result.now c.in-Some-Scan.field-0.now c.in-Some-Scan.span c.args.scan
+    j.plan.now.numbered j.plan.now.typed_nodes (c.spans.ensures ∙ j.laid_out) k.3.0 k.1 c.in-Some-Scan.field-0-is in
     subst (λ r. IfOk c.lend_morsel.result (λ rows. rows.rows ≡ morsel_of j.morsel (rows_at j.database.now r) c.args.number)) (sym at.relation) c.lend_morsel.ensures.rows
 
-pub returns-in-Some-Some-clause-types : goal.returns-in-Some-Some-clause-types
-returns-in-Some-Some-clause-types c =
+pub returns-in-Some-Scan-clause-types : goal.returns-in-Some-Scan-clause-types
+returns-in-Some-Scan-clause-types c =
     let j = c.args.self.now in
-    let k = c.in-Some-Some.ensures.lookup in
-    let at = read-at j.plan.now j.relations.items c.deref.result.now c.in-Some-Some.field-0.now c.args.scan c.in-Some-Some.relation j.of_scans c.deref.ensures.value k.3.0 k.1 c.in-Some-Some.field-0-is in
+    let k = c.in-Some-Scan.ensures.lookup in
+    let p : Plan = plan j.plan.now in
+    let at = span-at (relations j.plan.now) (scope j.plan.now) (group_at j.layout.groups.items) p c.spans.result.now c.in-Some-Scan.field-0.now c.in-Some-Scan.span c.args.scan
+    j.plan.now.numbered j.plan.now.typed_nodes (c.spans.ensures ∙ j.laid_out) k.3.0 k.1 c.in-Some-Scan.field-0-is in
     subst (λ (types : List ColType). IfOk c.lend_morsel.result (λ rows. rows.types ≡ types)) (sym at.types) c.lend_morsel.ensures.types

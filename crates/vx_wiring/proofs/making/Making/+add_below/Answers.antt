@@ -2,7 +2,7 @@ use Rattle.std.proofs.Common.{◌≡◌, ℕ, length, ap, sym, ◌∙◌, subst,
 use Rattle.vx_plan_nodes.specs.Outline.{plan_of, claim_of, size_of, unary_of, binary_of, kind_of}
 use Rattle.vx_plan_nodes.specs.Plan.{size, target}
 use Rattle.vx_plan_nodes.specs.Streams.{workers}
-use Rattle.vx_groups.specs.Groups.{group_at}
+use Rattle.vx_layout.specs.Groups.{group_at}
 use Rattle.vx_wiring.specs.Making.{AddsProducers, AddsBelow, made_of}
 use Rattle.vx_wiring.proofs.Shares.{held-length}
 use Rattle.vx_wiring.proofs.Growing.{adds-unary, adds-binary, adds-exchange}

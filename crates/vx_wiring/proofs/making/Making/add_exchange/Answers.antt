@@ -2,7 +2,7 @@ use Rattle.std.proofs.Common.{◌≡◌, ℕ, ap, ◌∙◌, subst, arith}
 use Rattle.vx_plan_nodes.specs.Outline.{kind_of}
 use Rattle.vx_plan_nodes.specs.Plan.{target}
 use Rattle.vx_plan_nodes.specs.Streams.{workers}
-use Rattle.vx_groups.specs.Groups.{group_at}
+use Rattle.vx_layout.specs.Groups.{group_at}
 use Rattle.vx_wiring.specs.Making.{AddsProducers, made_of}
 use Rattle.vx_wiring.proofs.Shares.{held-length}
 use Rattle.vx_wiring.proofs.making.Making.add_exchange.Goals as goal

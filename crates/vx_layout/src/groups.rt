@@ -1,11 +1,10 @@
 //! How many workers each size of a plan has in a run.
-#![tactic(auto)]
 
 ghost use Rattle.std.specs.Prelude.{◌≡◌, ◌≤◌};
 ghost use Rattle.std.specs.List.{All};
 ghost use Rattle.vx_plan_nodes.specs.Outline.{size_of};
 ghost use Rattle.vx_plan_nodes.specs.Streams.{workers};
-ghost use Rattle.vx_groups.specs.Groups.{IsWithin, group_at};
+ghost use Rattle.vx_layout.specs.Groups.{IsWithin, group_at};
 
 use vx_plan_nodes::Size;
 
