@@ -4,7 +4,8 @@ use crate::relations::{BPRIME, ONEK, TENK1, TENK2};
 use anyhow::{Error, bail};
 use std::alloc::Global;
 use vx_catalog::Database;
-use vx_rows::{Cell, Table};
+use vx_rows::Table;
+use vx_values::Cell;
 
 /// A list for each column, whose texts are lent by the database.
 #[derive(Drop)]

@@ -13,7 +13,7 @@ use std::time::Instant;
 use vx_catalog::Database;
 use vx_check::{CheckedPlan, check};
 use vx_exchange::ByteRouter;
-use vx_exec::{Ran, Setup, run_rounds};
+use vx_exec::{RunOutcome, Setup, run_rounds};
 use vx_parallel::{Free, run_threads};
 use vx_plan::{Plan, TypedPlan, erase, resolve};
 use vx_serial::eval;
@@ -149,11 +149,11 @@ impl<'t> Query<'t> {
             &ByteRouter,
             u64::MAX,
         )? {
-            Ran::Done(rows) => {
+            RunOutcome::Done(rows) => {
                 let nanos = nanos_since(rt, start)?;
                 Ok((Digest::of(&rows.gathered(alloc)?), nanos))
             }
-            Ran::Unfinished => bail!("a run does not end"),
+            RunOutcome::Unfinished => bail!("a run does not end"),
         }
     }
 
@@ -174,11 +174,11 @@ impl<'t> Query<'t> {
             &ByteRouter,
             &Free,
         )? {
-            Ran::Done(rows) => {
+            RunOutcome::Done(rows) => {
                 let nanos = nanos_since(rt, start)?;
                 Ok((Digest::of(&rows.gathered(alloc)?), nanos))
             }
-            Ran::Unfinished => bail!("a run does not end"),
+            RunOutcome::Unfinished => bail!("a run does not end"),
         }
     }
 

@@ -10,7 +10,9 @@ use std::time::Instant;
 use std::{hint, thread};
 use vx_ports::{Body, InPort, OutPort, Packet, Put};
 use vx_rings::{RingIn, RingOut, ring_pair};
-use vx_rows::{ColType, Table, Value};
+use vx_rows::Table;
+use vx_values::limits::MAX_PACKET_ROWS;
+use vx_values::{ColType, Value};
 use vx_views::Rows;
 
 const SLACK: u32 = 8;
@@ -42,7 +44,7 @@ fn shared_rows(alloc: Global) -> Result<Arc<Table>, AllocError> {
 // The packet with this number.
 fn packet(alloc: Global, base: &Arc<Table>, number: u32) -> Result<Packet, Error> {
     let rows = Rows::of(alloc, base, 0, base.len())?;
-    if rows.is_empty() || rows.len() > Packet::MAX_ROWS {
+    if rows.is_empty() || rows.len() > MAX_PACKET_ROWS as usize {
         bail!("{} rows are too few or too many for a packet", rows.len());
     }
     Ok(Packet::of_rows(number, 0, 0, rows))

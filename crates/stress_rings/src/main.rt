@@ -9,7 +9,8 @@ mod rings;
 use std::alloc::{AllocError, Global};
 use std::io;
 use std::sync::Arc;
-use vx_rows::{ColType, Table, Value};
+use vx_rows::Table;
+use vx_values::{ColType, Value};
 
 const PACKETS: u32 = 100_000;
 

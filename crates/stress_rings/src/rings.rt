@@ -5,9 +5,11 @@ use std::sync::atomic::{AtomicU64, Ordering};
 use std::sync::{Arc, Wait};
 use std::thread;
 use std::thread::Threads;
-use vx_ports::{Body, Ending, InPort, OutPort, Packet, Put};
+use vx_ports::{Body, InPort, OutPort, Packet, Put, StreamEnd};
 use vx_rings::{RingIn, RingOut, ring_pair};
-use vx_rows::{Cell, ColType, Table};
+use vx_rows::Table;
+use vx_values::limits::MAX_PACKET_ROWS;
+use vx_values::{Cell, ColType};
 use vx_views::Rows;
 
 /// What the last thread saw, and how many packets were not those that were to come.
@@ -27,7 +29,7 @@ fn size_of(number: u32) -> usize {
 fn packet(alloc: Global, base: &Arc<Table>, number: u32) -> Option<Packet> {
     let from = base.len().checked_sub(size_of(number))?;
     let rows = Rows::of(alloc, base, from, base.len()).ok()?;
-    if rows.is_empty() || rows.len() > Packet::MAX_ROWS {
+    if rows.is_empty() || rows.len() > MAX_PACKET_ROWS as usize {
         return None;
     }
     Some(Packet::of_rows(number, 0, 0, rows))
@@ -94,7 +96,7 @@ fn produce(
         put(rt, given_up, &mut out, packet)?;
     }
     let none = Rows::new(alloc, &[ColType::Int]).ok()?;
-    let last = Packet::closing(packets, 0, 0, Ending::Last, none);
+    let last = Packet::closing(packets, 0, 0, StreamEnd::Last, none);
     put(rt, given_up, &mut out, last)
 }
 

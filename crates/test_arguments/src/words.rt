@@ -66,17 +66,17 @@ volcano sql --catalog c --plan p => Sql(Sources { catalog: "c", plan: "p" }, "sq
 volcano sql --dialect=postgres --plan p --catalog - => Sql(Sources { catalog: "-", plan: "p" }, "postgres")
 volcano why K4 => Why("K4")
 volcano serial --catalog c --plan p --data d => Serial(Sources { catalog: "c", plan: "p" }, "d")
-volcano run --catalog c --plan p --data d --morsel 7 many=4 few=2 => Run(Sources { catalog: "c", plan: "p" }, "d", Limits { packet: "256", morsel: "7", slack: "8", mode: "rounds", sizes: ["many=4", "few=2"] })
-volcano run --catalog c --plan p --data d --mode threads => Run(Sources { catalog: "c", plan: "p" }, "d", Limits { packet: "256", morsel: "1024", slack: "8", mode: "threads", sizes: [] })
-volcano run --catalog c --plan p --plan - --plan p --data d many=4 => RunPlans(ManySources { catalog: "c", plans: ["p", "-", "p"] }, "d", Limits { packet: "256", morsel: "1024", slack: "8", mode: "rounds", sizes: ["many=4"] })
+volcano run --catalog c --plan p --data d --morsel 7 many=4 few=2 => Run(Sources { catalog: "c", plan: "p" }, "d", RunArguments { packet: "256", morsel: "7", slack: "8", mode: "rounds", sizes: ["many=4", "few=2"] })
+volcano run --catalog c --plan p --data d --mode threads => Run(Sources { catalog: "c", plan: "p" }, "d", RunArguments { packet: "256", morsel: "1024", slack: "8", mode: "threads", sizes: [] })
+volcano run --catalog c --plan p --plan - --plan p --data d many=4 => RunPlans(ManySources { catalog: "c", plans: ["p", "-", "p"] }, "d", RunArguments { packet: "256", morsel: "1024", slack: "8", mode: "rounds", sizes: ["many=4"] })
 volcano check --catalog c --plan p --verbose-errors => Check(Sources { catalog: "c", plan: "p" }), verbose
 volcano annotate --verbose-errors --catalog c --plan p => Annotate(Sources { catalog: "c", plan: "p" }), verbose
 volcano sql --catalog c --verbose-errors --plan p => Sql(Sources { catalog: "c", plan: "p" }, "sqlite"), verbose
 volcano serial --catalog c --quiet --plan p --data d --verbose-errors => Serial(Sources { catalog: "c", plan: "p" }, "d"), verbose
 volcano serial --catalog c --plan p --data d --threads=1 => Serial(Sources { catalog: "c", plan: "p" }, "d"), 1 threads
-volcano run --threads 4 --catalog c --plan p --data d => Run(Sources { catalog: "c", plan: "p" }, "d", Limits { packet: "256", morsel: "1024", slack: "8", mode: "rounds", sizes: [] }), 4 threads
-volcano run --catalog c --plan p --data d --stats json many=4 => Run(Sources { catalog: "c", plan: "p" }, "d", Limits { packet: "256", morsel: "1024", slack: "8", mode: "rounds", sizes: ["many=4"] }), statistics: json
-volcano run --stats=table --catalog c --plan p --data d => Run(Sources { catalog: "c", plan: "p" }, "d", Limits { packet: "256", morsel: "1024", slack: "8", mode: "rounds", sizes: [] }), statistics: table
+volcano run --threads 4 --catalog c --plan p --data d => Run(Sources { catalog: "c", plan: "p" }, "d", RunArguments { packet: "256", morsel: "1024", slack: "8", mode: "rounds", sizes: [] }), 4 threads
+volcano run --catalog c --plan p --data d --stats json many=4 => Run(Sources { catalog: "c", plan: "p" }, "d", RunArguments { packet: "256", morsel: "1024", slack: "8", mode: "rounds", sizes: ["many=4"] }), statistics: json
+volcano run --stats=table --catalog c --plan p --data d => Run(Sources { catalog: "c", plan: "p" }, "d", RunArguments { packet: "256", morsel: "1024", slack: "8", mode: "rounds", sizes: [] }), statistics: table
 volcano explain --plan p --catalog c --format dot --stats s.json => Draw(Sources { catalog: "c", plan: "p" }, "s.json")
 volcano explain --stats=s.json --plan p --catalog c --format json => nothing
 volcano gen --rows 0 => Generate(0)

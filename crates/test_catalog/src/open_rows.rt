@@ -2,7 +2,8 @@
 
 use std::test::Fail;
 use test_tables::{TYPES, shown};
-use vx_rows::{Cell, OpenRows};
+use vx_rows::OpenRows;
+use vx_values::Cell;
 
 #[test]
 fn rows_are_filled_value_by_value(rt: HostRuntime) -> Result<(), Fail> {

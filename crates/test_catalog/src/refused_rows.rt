@@ -9,7 +9,8 @@ use std::alloc::{AllocError, Global};
 use std::process::Abort;
 use std::test::Fail;
 use test_tables::TYPES;
-use vx_rows::{Cell, Table};
+use vx_rows::Table;
+use vx_values::Cell;
 
 // The rows after each growth.
 const GROWN: &str = "7 b\n-5 \n7 b\n-5 \n-5 \n7 b\n9 b";

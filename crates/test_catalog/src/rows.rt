@@ -9,7 +9,8 @@ use std::collections::HashMap;
 use std::process::Abort;
 use std::test::Fail;
 use test_tables::{shown, table};
-use vx_rows::{Cell, Row, Table};
+use vx_rows::{Row, Table};
+use vx_values::Cell;
 
 // Four rows, two of them with one text of more than one byte a character.
 const FOUR: [(i64, &str); 4] = [(i64::MIN, ""), (i64::MAX, "aä€😀"), (0, "b"), (7, "aä€😀")];

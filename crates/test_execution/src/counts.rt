@@ -5,7 +5,7 @@ use std::alloc::{AllocError, Global};
 use std::test::Fail;
 use test_runs::{Case, ROWS_OF_D, ROWS_OF_T, SELECTED, case_of, first_part, setup_of};
 use vx_exchange::ByteRouter;
-use vx_exec::{Ran, RunCounts, WorkerCounts, run_rounds_counted};
+use vx_exec::{RunCounts, RunOutcome, WorkerCounts, run_rounds_counted};
 use vx_parallel::{Free, run_threads_counted};
 
 // What the workers of a run counted at a node, together, as one text: rows that came from the left, rows given, morsels, packets taken;
@@ -50,7 +50,7 @@ fn counted(alloc: Global, case: &Case, limit: u64) -> Result<(RunCounts, bool), 
         limit,
         &mut counts,
     )?;
-    Ok((counts, matches!(ran, Ran::Done(_))))
+    Ok((counts, matches!(ran, RunOutcome::Done(_))))
 }
 
 // How many rounds there may be, a node, and what all workers counted there. Four rows are scanned in morsels of one row, and two of
@@ -107,7 +107,7 @@ fn threads_count_each_row_once(rt: HostRuntime) -> Result<(), Fail> {
         &Free,
         &mut counts,
     )?;
-    assert!(rt; matches!(ran, Ran::Done(_)));
+    assert!(rt; matches!(ran, RunOutcome::Done(_)));
     let (puts, _) = steps_of(counts.workers());
     assert!(rt; puts == 4 && counts.workers().len() == 3);
     for line in BY_THREADS.lines() {

@@ -13,9 +13,7 @@ use test_runs::{
 };
 use vx_exchange::ByteRouter;
 use vx_exec::Setup;
-
-// The most workers of a run.
-const MOST: u32 = 256;
+use vx_values::limits::MAX_WORKERS;
 
 // Rows of t, one for each morsel of a scan.
 const EIGHT_ROWS: &str = "0,a,7\n1,b,7\n2,c,7\n3,d,7\n4,e,7\n5,f,7\n6,g,7\n7,h,7\n";
@@ -33,7 +31,7 @@ fn met<T: Threads + Wait + Sync>(
     meeting: &Meeting,
     rows: &str,
 ) -> Result<(bool, u64), Fail> {
-    let text = by_threads_within(rt, alloc, case, setup, &ByteRouter, meeting, MOST)?;
+    let text = by_threads_within(rt, alloc, case, setup, &ByteRouter, meeting, MAX_WORKERS)?;
     Ok((
         agrees(alloc, case, text.as_str(), rows)?,
         meeting.meetings(),
@@ -104,7 +102,7 @@ fn a_worker_takes_what_is_left_of_a_scan(rt: HostRuntime) -> Result<(), Fail> {
     let case = case_of(alloc, MERGED, EIGHT_ROWS, ROWS_OF_D)?;
     let setup = setup_of(alloc, 2, 1, 1, 8)?;
     let gate = UntilNothingIsLeft::new();
-    let text = by_threads_within(&rt, alloc, &case, &setup, &ByteRouter, &gate, MOST)?;
+    let text = by_threads_within(&rt, alloc, &case, &setup, &ByteRouter, &gate, MAX_WORKERS)?;
     assert_eq!(rt;
         text.as_str(),
         "0 'a' 7;1 'b' 7;2 'c' 7;3 'd' 7;4 'e' 7;5 'f' 7;6 'g' 7;7 'h' 7;"
@@ -124,7 +122,7 @@ fn the_gate_is_called_after_each_draw_of_a_shared_scan(rt: HostRuntime) -> Resul
         let case = case_of(alloc, document, ROWS_OF_T, ROWS_OF_D)?;
         let setup = setup_of(alloc, 3, 1, 1, 4)?;
         let gate = DrawCount::new();
-        by_threads_within(&rt, alloc, &case, &setup, &ByteRouter, &gate, MOST)?;
+        by_threads_within(&rt, alloc, &case, &setup, &ByteRouter, &gate, MAX_WORKERS)?;
         assert_eq!(rt; gate.draws(), (4, 3), "{document}");
     }
     Ok(())

@@ -7,7 +7,7 @@ use std::test::Fail;
 use test_runs::{CATALOG, Case, first_part, plan_of};
 use vx_catalog::{Catalog, Database};
 use vx_exchange::ByteRouter;
-use vx_exec::{Ran, RunFault, run_rounds};
+use vx_exec::{RunFault, RunOutcome, run_rounds};
 
 // The same relations without a declared order.
 const OTHER: &str =
@@ -63,7 +63,7 @@ fn empty_case(alloc: Global, plan: &str, catalog: &str) -> Result<Case, Fail> {
 }
 
 // `ok`, or the line of a refusal.
-fn answer(alloc: Global, ran: Result<Ran, RunFault>) -> Result<String, AllocError> {
+fn answer(alloc: Global, ran: Result<RunOutcome, RunFault>) -> Result<String, AllocError> {
     match ran {
         Ok(_) => String::from_str(alloc, "ok"),
         Err(fault) => format!(in alloc; "{fault}"),

@@ -7,7 +7,8 @@ ghost use Rattle.vx_rows.specs.View.{AreColumns};
 use std::alloc::{AllocError, Global};
 use std::test::Fail;
 use test_tables::TYPES;
-use vx_rows::{Cell, Table};
+use vx_rows::Table;
+use vx_values::Cell;
 use vx_views::Rows;
 
 /// The parts of a line, with a `|` between them: what the case shows, four parts of what is given, and what has to come of it.

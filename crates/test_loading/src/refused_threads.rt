@@ -9,7 +9,7 @@ use std::test::Fail;
 use std::thread::Threads;
 use vx_bytes::MemoryIn;
 use vx_catalog::{Catalog, CatalogFault, LoadFault};
-use vx_loading::{Shares, load_in_shares};
+use vx_loading::{ReadShares, load_in_shares};
 
 const FINE: &[u8] = b"id,k,v\n0,a,5\n1,b,7\n2,a,-2\n3,c,7\n4,d,1\n";
 
@@ -29,7 +29,7 @@ fn count<P: Threads + Sync>(
     if catalog.is_empty() {
         return Err(Fail::new("the catalog has no relations"));
     }
-    let shares = Shares {
+    let shares = ReadShares {
         threads: 3,
         block: 3,
         least: 8,

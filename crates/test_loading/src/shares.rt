@@ -7,7 +7,7 @@ use std::test::Fail;
 use std::thread::Threads;
 use vx_bytes::MemoryIn;
 use vx_catalog::{Catalog, LoadFault, Loaded, Loader, format_rows};
-use vx_loading::{Shares, load_in_shares, load_in_threads};
+use vx_loading::{ReadShares, load_in_shares, load_in_threads};
 use vx_rows::Table;
 use vx_views::Rows;
 
@@ -48,7 +48,7 @@ fn compare_shared<R: Abort + Threads + Sync>(
     catalog: &Catalog,
     text: &[u8],
     fails_after: Option<usize>,
-    shares: Shares,
+    shares: ReadShares,
     wanted: &str,
 ) -> Result<(), Fail> {
     if catalog.is_empty() || shares.threads == 0 {
@@ -77,7 +77,7 @@ fn compare<R: Abort + Threads + Sync>(
     let wanted = outcome(alloc, &catalog, one)?;
     for threads in [1usize, 2, 7] {
         for (block, least) in SIZES {
-            let shares = Shares {
+            let shares = ReadShares {
                 threads,
                 block,
                 least,
@@ -177,7 +177,7 @@ fn a_long_text_is_read_in_several_rounds(rt: HostRuntime) -> Result<(), Fail> {
     let alloc = rt.alloc();
     let catalog = Catalog::read(alloc, KEYED.as_bytes())?;
     let text = many(alloc, 20000)?;
-    let shares = Shares {
+    let shares = ReadShares {
         threads: 2,
         block: 32 << 10,
         least: 4 << 10,

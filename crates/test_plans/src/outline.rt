@@ -2,7 +2,7 @@
 
 use std::alloc::{AllocError, Global};
 use vx_plan::{Binary, Head, Phase, TypedNode, TypedPlan, Unary};
-use vx_rows::ColType;
+use vx_values::ColType;
 
 fn unary_name(unary: &Unary) -> &'static str {
     match unary {

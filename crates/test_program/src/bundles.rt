@@ -7,14 +7,15 @@ use std::alloc::Global;
 use std::process::Abort;
 use std::test::Fail;
 use vx_answer::{Refusal, deliver, report};
-use vx_bundle::{Bundle, Command, Mode, bundle_in};
+use vx_bundle::{Bundle, Command, bundle_in};
 use vx_bytes::MemoryOut;
 use vx_catalog::LoadFault;
 use vx_check::Rule;
 use vx_exchange::ByteRouter;
 use vx_exec::RunFault;
 use vx_plan::Router;
-use vx_rows::Value;
+use vx_setup::Mode;
+use vx_values::Value;
 
 const FIRST: &str =
     r#"{"command":"run","catalog":{"relations":[{"name":"t","columns":[{"name":"id","type":"int"},{"name":"k","type":"text"},{"name":"v","type":"int"}],"keys":[["id"]],"order":["id"]}]},"plan":{"sizes":["many"],"root":{"op":"exchange","kind":"gather","claim":{"part":"one"},"input":{"op":"select","where":[{"column":"v","op":"=","value":7}],"input":{"op":"scan","relation":"t","mode":"shared","size":"many"}}}},"tables":{"t":"id,k,v\n0,a,5\n1,b,7\n2,a,-2\n3,c,7\n"},"sizes":{"many":3},"packet":1,"morsel":1,"slack":4,"mode":"rounds"}"#;
@@ -52,15 +53,16 @@ fn keys_are_sent_by_their_bytes(rt: HostRuntime) -> Result<(), Fail> {
 // Compares the members of a bundle, of which all that may be left out are.
 fn compare_members(rt: &impl Abort, bundle: &Bundle<'_>) -> Result<(), Fail> {
     let setting = bundle.setting();
+    let setup = setting.setup();
     assert!(rt; bundle.command() == Command::Explain);
     assert!(rt; setting.mode() == Mode::Rounds);
     assert_eq!(rt;
-        [setting.packet(), setting.morsel(), setting.slack()],
+        [setup.packet(), setup.morsel(), setup.slack()],
         [256, 1024, 8]
     );
     assert_eq!(rt; bundle.table("a"), Some("x"));
     assert!(rt; bundle.table("b").is_none());
-    let (name, workers) = setting.sizes().first().ok_or("a size")?;
+    let (name, workers) = setup.sizes().first().ok_or("a size")?;
     assert_eq!(rt; name.as_str(), "n");
     assert_eq!(rt; *workers, u32::MAX);
     Ok(())

@@ -2,9 +2,10 @@
 
 use std::alloc::{AllocError, Global};
 use std::test::Fail;
-use vx_ports::{Ending, InPort, OutPort, Packet, Put};
+use vx_ports::{InPort, OutPort, Packet, Put, StreamEnd};
 use vx_rings::{RingIn, RingOut, reunite, ring_pair};
-use vx_rows::{ColType, Table, Value};
+use vx_rows::Table;
+use vx_values::{ColType, Value};
 use vx_views::Rows;
 
 // What came of a put: nothing is left, or the packet of this producer was returned, or the port was closed before.
@@ -27,7 +28,7 @@ fn row(alloc: Global, from: u32) -> Result<Packet, AllocError> {
 // The packet that closes the stream of this producer.
 fn last(alloc: Global, from: u32) -> Result<Packet, AllocError> {
     let none = Rows::new(alloc, &[ColType::Int])?;
-    Ok(Packet::closing(0, from, 0, Ending::Last, none))
+    Ok(Packet::closing(0, from, 0, StreamEnd::Last, none))
 }
 
 fn put(out: &mut RingOut, packet: Packet) -> Outcome {

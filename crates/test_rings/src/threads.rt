@@ -9,9 +9,9 @@ use std::test::Fail;
 use std::thread;
 use std::thread::Threads;
 use vx_decks::{DeckSeat, SharedDeck};
-use vx_ports::{Ending, InPort, OutPort, Packet};
+use vx_ports::{InPort, OutPort, Packet, StreamEnd};
 use vx_rings::{RingIn, RingOut, reunite, ring_pair};
-use vx_rows::ColType;
+use vx_values::ColType;
 use vx_views::Rows;
 
 // Draws until the seat meets the end.
@@ -92,7 +92,7 @@ fn ends_pass_on_in_two_threads(rt: HostRuntime) -> Result<(), Fail> {
     let alloc = rt.alloc();
     let (out, input) = ring_pair(alloc, 1)?;
     let none = Rows::new(alloc, &[ColType::Int])?;
-    let last = Packet::closing(0, 0, 0, Ending::Last, none);
+    let last = Packet::closing(0, 0, 0, StreamEnd::Last, none);
     let (out, _input) = pass_on(&rt, out, input, last);
     assert!(rt; out.is_closed());
     Ok(())

@@ -6,7 +6,7 @@ use std::test::Fail;
 use test_tables::shown;
 use vx_catalog::Database;
 use vx_check::CheckedPlan;
-use vx_exec::{Ran, RunFault, Setup, run_rounds, run_scheduled};
+use vx_exec::{RunFault, RunOutcome, Setup, run_rounds, run_scheduled};
 use vx_plan::{Router, erase};
 use vx_serial::eval;
 use vx_views::Rows;
@@ -40,10 +40,10 @@ fn text_of(alloc: Global, rows: &Rows) -> Result<String, AllocError> {
 }
 
 /// What a run comes to: its rows as one text, the line of its fault, or that some worker has not ended.
-pub fn outcome(alloc: Global, ran: Result<Ran, RunFault>) -> Result<String, AllocError> {
+pub fn outcome(alloc: Global, ran: Result<RunOutcome, RunFault>) -> Result<String, AllocError> {
     match ran {
-        Ok(Ran::Done(rows)) => text_of(alloc, &rows),
-        Ok(Ran::Unfinished) => String::from_str(alloc, "unfinished"),
+        Ok(RunOutcome::Done(rows)) => text_of(alloc, &rows),
+        Ok(RunOutcome::Unfinished) => String::from_str(alloc, "unfinished"),
         Err(fault) => format!(in alloc; "{fault}"),
     }
 }

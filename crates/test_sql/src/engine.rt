@@ -8,7 +8,8 @@ use sqlite::{Connection, MemStore, Row};
 use std::alloc::{AllocError, Global};
 use std::test::Fail;
 use vx_catalog::{Database, Relation};
-use vx_rows::{Cell, ColType, Table};
+use vx_rows::Table;
+use vx_values::{Cell, ColType};
 
 // Adds a value.
 fn push_value(alloc: Global, text: &mut String, cell: Cell<'_>) -> Result<(), AllocError> {

@@ -5,7 +5,7 @@ use std::alloc::Global;
 use std::test::Fail;
 use vx_bytes::{MemoryOut, write_all};
 use vx_stats::{
-    LoadTime, Phase, PhaseTime, StatsForm, push_lone_plan, push_plan, push_shared, write_end,
+    LoadTime, PhaseTime, StatsForm, WorkPhase, push_lone_plan, push_plan, push_shared, write_end,
 };
 
 const TABLE: &str =
@@ -33,23 +33,23 @@ const JSON: &str =
 // Times of the phases before the write.
 const TIMES: [PhaseTime; 5] = [
     PhaseTime {
-        phase: Phase::Read,
+        phase: WorkPhase::Read,
         microseconds: Some(12),
     },
     PhaseTime {
-        phase: Phase::Plan,
+        phase: WorkPhase::Plan,
         microseconds: Some(345),
     },
     PhaseTime {
-        phase: Phase::Check,
+        phase: WorkPhase::Check,
         microseconds: Some(6789),
     },
     PhaseTime {
-        phase: Phase::Load,
+        phase: WorkPhase::Load,
         microseconds: Some(1_234_567),
     },
     PhaseTime {
-        phase: Phase::Run,
+        phase: WorkPhase::Run,
         microseconds: None,
     },
 ];
@@ -103,7 +103,7 @@ fn one_of_several_plans_has_the_time_of_its_run(rt: HostRuntime) -> Result<(), F
     let alloc = rt.alloc();
     let plan = plan(alloc)?;
     let run = PhaseTime {
-        phase: Phase::Run,
+        phase: WorkPhase::Run,
         microseconds: Some(1000),
     };
     for (form, text) in [
@@ -152,7 +152,7 @@ fn several_plans_share_times(rt: HostRuntime) -> Result<(), Fail> {
     let alloc = rt.alloc();
     let catalog = catalog(alloc)?;
     let loaded = PhaseTime {
-        phase: Phase::Load,
+        phase: WorkPhase::Load,
         microseconds: Some(999),
     };
     let load = LoadTime {

@@ -4,7 +4,8 @@ ghost use Rattle.std.specs.Prelude.{◌≡◌, ◌<◌, [], ◌∷◌, length, I
 ghost use Rattle.vx_values.specs.declared.value.ColType.TheVariants as kind;
 
 use std::alloc::{AllocError, Global};
-use vx_rows::{Cell, ColType, Table, Value};
+use vx_rows::Table;
+use vx_values::{Cell, ColType, Value};
 
 /// A number and a text.
 pub const TYPES: [ColType; 2] = [ColType::Int, ColType::Text];

@@ -3,7 +3,7 @@
 use crate::cuts::{FIVE, cut, of};
 use std::test::Fail;
 use std::thread;
-use vx_rows::Cell;
+use vx_values::Cell;
 use vx_views::Chunk;
 
 // The number of row i, or 0.

@@ -4,7 +4,8 @@ ghost use Rattle.std.specs.Prelude.{◌≡◌, ◌∷◌, [], IfOk};
 ghost use Rattle.vx_values.specs.declared.value.ColType.{ColType as rust_type};
 
 use std::alloc::{AllocError, Global};
-use vx_rows::{ColType, Table, Value};
+use vx_rows::Table;
+use vx_values::{ColType, Value};
 use vx_views::Rows;
 
 /// Rows of one number each: 0, 1, and so on.

@@ -9,8 +9,8 @@ use std::test::Fail;
 use test_tables::ToFirst;
 use vx_exchange::{Collector, Deal, Receiver, Sender, Sends};
 use vx_ops::{Code, Fault, Got, Polled, Source, Want};
-use vx_ports::{Body, Ending, Packet};
-use vx_rows::ColType;
+use vx_ports::{Body, Packet, StreamEnd};
+use vx_values::ColType;
 use vx_views::Rows;
 
 // A receiver's turn with a packet, or with none.
@@ -63,11 +63,11 @@ fn ends_after_both_producers(rt: HostRuntime) -> Result<(), Fail> {
     let first = turn(&rt, &mut receiver, Some(Packet::of_rows(3, 0, 4, rows)));
     assert!(rt; matches!(first, Polled::Gave(_)));
     assert_eq!(rt; receiver.wants(), Want::Packet(1));
-    let last = Packet::closing(3, 1, 4, Ending::Last, Rows::new(alloc, &[ColType::Int])?);
+    let last = Packet::closing(3, 1, 4, StreamEnd::Last, Rows::new(alloc, &[ColType::Int])?);
     assert!(rt; matches!(turn(&rt, &mut receiver, Some(last)), Polled::Waiting));
     assert_eq!(rt; receiver.wants(), Want::Packet(0));
     assert!(rt; matches!(turn(&rt, &mut receiver, None), Polled::Waiting));
-    let last = Packet::closing(3, 0, 4, Ending::Last, Rows::new(alloc, &[ColType::Int])?);
+    let last = Packet::closing(3, 0, 4, StreamEnd::Last, Rows::new(alloc, &[ColType::Int])?);
     assert!(rt; matches!(turn(&rt, &mut receiver, Some(last)), Polled::End));
     assert!(rt; matches!(turn(&rt, &mut receiver, None), Polled::End));
     Ok(())
@@ -81,8 +81,8 @@ fn next_size(sender: &mut Sender) -> i64
         None => -2,
         Some((_, packet)) => match packet.into_body() {
             Body::Rows(rows) => rows.len().min(4096) as i64,
-            Body::End(Ending::Last) => 0,
-            Body::End(Ending::Fault) => -1,
+            Body::End(StreamEnd::Last) => 0,
+            Body::End(StreamEnd::Fault) => -1,
         },
     }
 }

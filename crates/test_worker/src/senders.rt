@@ -12,8 +12,8 @@ use test_tables::three_numbers;
 use vx_exchange::{ByteRouter, Deal, KeyRoute, Ranges, Router, Sender, Sends};
 use vx_ops::Polled;
 use vx_plan_nodes::Size;
-use vx_ports::{Body, Ending};
-use vx_rows::{Cell, ColType, Value};
+use vx_ports::{Body, StreamEnd};
+use vx_values::{Cell, ColType, Value};
 use vx_views::Rows;
 
 // How many consumers there are, how large packets are, and how many rows come, a case on each line.
@@ -55,8 +55,8 @@ impl Sent {
             };
             match packet.into_body() {
                 Body::Rows(rows) => self.push_rows(rt, consumer, &rows)?,
-                Body::End(Ending::Last) => self.lasts = self.lasts.saturating_add(1),
-                Body::End(Ending::Fault) => assert!(rt; false, "no fault came"),
+                Body::End(StreamEnd::Last) => self.lasts = self.lasts.saturating_add(1),
+                Body::End(StreamEnd::Fault) => assert!(rt; false, "no fault came"),
             }
         }
         Ok(())

@@ -9,7 +9,8 @@ use std::alloc::{AllocError, Global};
 use std::process::Abort;
 use std::test::Fail;
 use vx_ops::{Fault, Got, Polled, Sort, Source, Want};
-use vx_rows::{Cell, ColType, Table, Value};
+use vx_rows::Table;
+use vx_values::{Cell, ColType, Value};
 use vx_views::Rows;
 
 // One row for each of these numbers.

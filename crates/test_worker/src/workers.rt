@@ -12,9 +12,10 @@ use test_tables::ToFirst;
 use vx_exchange::Collector;
 use vx_ops::{Code, Fault, Scan};
 use vx_ports::{Packet, Put};
-use vx_rows::{ColType, Table, Value};
+use vx_rows::Table;
+use vx_values::{ColType, Value};
 use vx_views::Rows;
-use vx_worker::{Morsels, Outcome, Stepped, Tree, Wires, Worker};
+use vx_worker::{Morsels, StepOutcome, Tree, Wires, Worker, WorkerOutcome};
 
 // Numbers from `next` to below `end`, and no packet.
 #[derive(Drop)]
@@ -87,16 +88,16 @@ fn three_rows(alloc: Global, refused: u64) -> Result<Pages, AllocError>
 }
 
 // Steps until the worker has ended, at most twenty times.
-fn finish(worker: &mut Worker<Scan, Collector>, pages: &Pages, wires: &mut Numbers) -> Stepped
+fn finish(worker: &mut Worker<Scan, Collector>, pages: &Pages, wires: &mut Numbers) -> StepOutcome
     requires pages { pages.now.rows.types ≡ ExchangeKind.Int ∷ [] }
     requires worker { IsReady scan_types collector_post collector_is_open collector_has_closed (λ _. ExchangeKind.Int ∷ []) worker.old }
 {
     'steps: for _ in 0..20 {
-        if worker.step(pages, &ToFirst, wires) == Stepped::Ended {
-            return Stepped::Ended;
+        if worker.step(pages, &ToFirst, wires) == StepOutcome::Ended {
+            return StepOutcome::Ended;
         }
     }
-    Stepped::Waiting
+    StepOutcome::Waiting
 }
 
 // A worker at the root that scans, with node number 7.
@@ -115,8 +116,8 @@ fn scans_to_the_end(rt: HostRuntime) -> Result<(), Fail> {
     let pages = three_rows(alloc, 9)?;
     let mut worker = scanner(alloc)?;
     let mut wires = Numbers { next: 0, end: 4 };
-    assert_eq!(rt; finish(&mut worker, &pages, &mut wires), Stepped::Ended);
-    assert!(rt; matches!(worker.outcome(), Some(Outcome::Well)));
+    assert_eq!(rt; finish(&mut worker, &pages, &mut wires), StepOutcome::Ended);
+    assert!(rt; matches!(worker.outcome(), Some(WorkerOutcome::Well)));
     assert_eq!(rt; worker.into_sender().into_rows().len(), 12);
     Ok(())
 }
@@ -127,10 +128,10 @@ fn fails_where_memory_is_refused(rt: HostRuntime) -> Result<(), Fail> {
     let pages = three_rows(alloc, 2)?;
     let mut worker = scanner(alloc)?;
     let mut wires = Numbers { next: 0, end: 4 };
-    assert_eq!(rt; finish(&mut worker, &pages, &mut wires), Stepped::Ended);
+    assert_eq!(rt; finish(&mut worker, &pages, &mut wires), StepOutcome::Ended);
     match worker.outcome() {
         Some(
-            Outcome::Failed(
+            WorkerOutcome::Failed(
                 Fault::Own {
                     code: Code::NoMemory,
                     node,

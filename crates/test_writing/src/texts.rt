@@ -9,9 +9,10 @@ use std::sync::Arc;
 use std::test::Fail;
 use std::thread::Threads;
 use vx_catalog::format_rows;
-use vx_rows::{ColType, Table, Value};
+use vx_rows::Table;
+use vx_values::{ColType, Value};
 use vx_views::Rows;
-use vx_writing::{Shares, format_in_shares, format_in_threads};
+use vx_writing::{WriteShares, format_in_shares, format_in_threads};
 
 // Rows whose texts need quotes, or look as if they did.
 const ENTRIES: [(i64, &str); 7] = [
@@ -73,7 +74,7 @@ fn second(alloc: Global) -> Result<Vec<String>, AllocError> {
 fn compare_shared<R: Abort + Threads + Sync>(
     rt: &R,
     alloc: Global,
-    shares: Shares,
+    shares: WriteShares,
     names: &[String],
     rows: &Rows,
     wanted: &str,
@@ -97,7 +98,14 @@ fn compare<R: Abort + Threads + Sync>(
 ) -> Result<(), Fail> {
     for threads in [1usize, 2, 4, 64] {
         for block in [1usize, 2, 3, 7, usize::MAX] {
-            compare_shared(rt, alloc, Shares { threads, block }, names, rows, wanted)?;
+            compare_shared(
+                rt,
+                alloc,
+                WriteShares { threads, block },
+                names,
+                rows,
+                wanted,
+            )?;
         }
     }
     Ok(())

@@ -5,7 +5,7 @@ ghost use Rattle.vx_values.specs.Values.{value_at};
 ghost use Rattle.vx_values.specs.ValueView.{cell_val};
 ghost use Rattle.vx_rows.specs.View.{row};
 
-use vx_rows::Cell;
+use vx_values::Cell;
 use vx_views::Chunk;
 
 /// The value of row i of a chunk at a column, and the number 0 where there is no such column, as the definitions have it.

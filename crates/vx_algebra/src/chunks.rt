@@ -6,7 +6,7 @@ ghost use Rattle.vx_values.specs.declared.value.ColType.TheVariants as kind;
 ghost use Rattle.vx_values.specs.Types.{type_at};
 ghost use Rattle.vx_values.specs.Values.{num};
 ghost use Rattle.vx_values.specs.ValueView.{cell_val, test_of};
-ghost use Rattle.vx_rows.specs.Order.{sort_on};
+ghost use Rattle.vx_values.specs.Order.{sort_on};
 ghost use Rattle.vx_rows.specs.View.{row, AreColumns};
 ghost use Rattle.vx_plan_nodes.specs.Conditions.{conditions_of};
 ghost use Rattle.vx_plan_nodes.specs.Outline.{side_of};
@@ -21,8 +21,7 @@ use crate::cells::cell_or_zero;
 use std::alloc::{AllocError, Global};
 use std::cmp::Ordering;
 use vx_plan_nodes::{Condition, Side};
-use vx_rows::{Cell, ColType, Value, compare_cells};
-use vx_values::Test;
+use vx_values::{Cell, ColType, Test, Value, compare_cells};
 use vx_views::{Chunk, NumberTest, Rows, places_are_a_filter, push_place_if};
 
 // What a test says of a comparison.

@@ -6,7 +6,7 @@ ghost use Rattle.vx_rows.specs.View.{AreColumns};
 
 use std::alloc::{AllocError, Global};
 use vx_plan_nodes::Projected;
-use vx_rows::ColType;
+use vx_values::ColType;
 
 /// The types of these columns.
 pub fn types_at(

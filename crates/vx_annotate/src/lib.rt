@@ -1,4 +1,4 @@
-//! Plans with the claims that the rule table shows, found from the inputs upwards.
+//! Plans with the claims that the rule table shows: the most telling ones, at each node.
 #![tactic(auto)]
 
 mod annotating;

@@ -5,7 +5,8 @@ use Rattle.std.proofs.lemmas.Str.{encode_ascii}
 use Rattle.std.specs.Prelude.{◌==◌}
 use Rattle.std.specs.Str.{NoCharPasses}
 use Rattle.std.specs.Str.Pattern.{RFindsChar, SplitsAroundMatch}
-use Rattle.vx_bundle.specs.Setting.{Named, size_form}
+use Rattle.vx_setup.specs.Setup.{entry_of}
+use Rattle.vx_bundle.specs.Named.{Named}
 use Rattle.vx_answer.specs.Arguments.{Numbers, IsCut, IsSize, IsNoSize, AreSizes, HasNoSize}
 
 -- one argument more
@@ -35,10 +36,10 @@ size_missing look words i d there h =
 
 -- the sizes of the arguments so far, and that of the next
 pub sizes_grow : {W : Type 0} (look : W → List ℕ) (words : List W) (i : ℕ) (d : W) (sizes grown : List (String Global × ℕ)) (size : String Global × ℕ) → i < length words
-    → AreSizes (map look (take i words)) (map size_form sizes) → IsSize (look (get_or words i d)) (size_form size) → grown ≡ sizes ++ size ∷ []
-    → AreSizes (map look (take (i + 1) words)) (map size_form grown)
+    → AreSizes (map look (take i words)) (map entry_of sizes) → IsSize (look (get_or words i d)) (entry_of size) → grown ≡ sizes ++ size ∷ []
+    → AreSizes (map look (take (i + 1) words)) (map entry_of grown)
 sizes_grow look words i d sizes grown size there h is more =
-    let all : map size_form grown ≡ map size_form sizes ++ size_form size ∷ [] = ap (map size_form) more ∙ map-append size_form sizes (size ∷ []) in
-    let P : List (List ℕ) → Type 0 = λ ws. AreSizes ws (map size_form grown) in
+    let all : map entry_of grown ≡ map entry_of sizes ++ entry_of size ∷ [] = ap (map entry_of) more ∙ map-append entry_of sizes (size ∷ []) in
+    let P : List (List ℕ) → Type 0 = λ ws. AreSizes ws (map entry_of grown) in
     let Q : Named ℕ → Type 0 = λ zs. AreSizes (map look (take i words) ++ look (get_or words i d) ∷ []) zs in
-    subst P (sym (map_more look words i d there)) (subst Q (sym all) (sizes_more (map look (take i words)) (map size_form sizes) (look (get_or words i d)) (size_form size) h is))
+    subst P (sym (map_more look words i d there)) (subst Q (sym all) (sizes_more (map look (take i words)) (map entry_of sizes) (look (get_or words i d)) (entry_of size) h is))

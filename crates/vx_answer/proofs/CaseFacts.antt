@@ -21,7 +21,7 @@ use Rattle.vx_plan_nodes.specs.Erase.{nodes_left, at_once}
 use Rattle.vx_plan_nodes.specs.Erased.{erased_from, erased_top}
 use Rattle.vx_plan_nodes.specs.Phases.{is_final}
 use Rattle.vx_plan_nodes.specs.Names.{TypedPlanView}
-use Rattle.vx_setup.specs.Setup.{SetupView, is_within, groups_named, first_missing, first_out_of_range}
+use Rattle.vx_setup.specs.Setup.{SetupView, is_within, worker_groups_named, first_missing, first_out_of_range}
 use Rattle.vx_setup.specs.declared.fault.RunFault.{RunFault}
 use Rattle.vx_setup.specs.declared.fault.RunFault.TheVariants as run
 use Rattle.vx_exec.specs.Setup.{SetupRefusal, size_missing, size_out_of_range, bad_packet, bad_morsel, bad_slack, other, tested, no_name, few_workers, sizes_set, refusal_of}
@@ -29,16 +29,16 @@ use Rattle.vx_exec.specs.Runs.{RunFails, IsTrueOf}
 use Rattle.vx_exec.specs.Runs as runs
 use Rattle.vx_serial.specs.Evaluated.{first_exchange}
 use Rattle.vx_serial.specs.Results.{EvalFails}
-use Rattle.vx_serial.specs.declared.fault.EvalFault.{EvalFault}
-use Rattle.vx_serial.specs.declared.fault.EvalFault.TheVariants as eval
+use Rattle.vx_setup.specs.declared.eval_fault.EvalFault.{EvalFault}
+use Rattle.vx_setup.specs.declared.eval_fault.EvalFault.TheVariants as eval
 use Rattle.vx_bundle.specs.Bundle.{Bundle}
-use Rattle.vx_bundle.specs.Setting.{Named}
+use Rattle.vx_bundle.specs.Named.{Named}
 use Rattle.vx_refusals.specs.declared.refusal.Refusal.{Refusal}
 use Rattle.vx_refusals.specs.declared.refusal.Refusal.TheVariants as refusal
 use Rattle.vx_tables.specs.Filled.{scans, IsFirstMissing, missing_memory, first_missing as first_of_missing}
 use Rattle.vx_refusals.specs.Status.{status_of}
 use Rattle.vx_tables.specs.Texts.{Missing, text_of, rows_from, holds_in, lacks_in, MissesBy, Misses, for_memory, for_no_text, for_bad_text}
-use Rattle.vx_answer.specs.Commands.{refusal_in, setup_of, RunRefuses, PlanRefuses, SerialRefuses, CommandRefuses, erased}
+use Rattle.vx_answer.specs.Commands.{refusal_in, RunRefuses, PlanRefuses, SerialRefuses, CommandRefuses, erased}
 use Rattle.vx_answer.specs.Commands as commands
 use Rattle.vx_answer.specs.Answer.{IsBundlePlan, IsBundlePlanRefusal, Refuses}
 use Rattle.vx_answer.specs.Planning.{plan_from}
@@ -124,7 +124,7 @@ sizes_named s names p =
     named_then (tested (is_within 4096 s.packet) bad_packet) _ (named_test (is_within 4096 s.packet) bad_packet tt) (λ _.
     named_then (tested (is_within 1000000 s.morsel) bad_morsel) _ (named_test (is_within 1000000 s.morsel) bad_morsel tt) (λ _.
     named_then (tested (is_within 1024 s.slack) bad_slack) _ (named_test (is_within 1024 s.slack) bad_slack tt) (λ _.
-    named_then (few_workers (groups_named s.sizes names) p) _ (named_test _ _ tt) (λ _. tt))))))
+    named_then (few_workers (worker_groups_named s.sizes names) p) _ (named_test _ _ tt) (λ _. tt))))))
 
 -- a fault that is a refusal with a name is one of the setup
 named_setup : (fault : RunFault) → IsNamed (refusal_of fault) → is_of_setup fault ≡ true
@@ -152,7 +152,7 @@ run_refuses : (b : Bundle) (p : TypedPlanView) (db : Database) (e : Refusal) →
 run_refuses b p db e same (commands.for_rounds in_rounds s set is) three = absurd (not_three e refusal.Unfinished is refl three)
 run_refuses b p db e same (commands.for_threads in_threads s set is) three = absurd (not_three e (refusal.Run run.NoThread) is refl three)
 run_refuses b p db e same (commands.run_memory is) three = absurd (not_three e refusal.NoMemory is refl three)
-run_refuses b p db e same (commands.for_fault fault is h) three = run_fails p db (setup_of b.setting) fault e same is h three
+run_refuses b p db e same (commands.for_fault fault is h) three = run_fails p db b.setting.setup fault e same is h three
 
 plan_refuses : (b : Bundle) (p : TypedPlanView) (e : Refusal) → IsCase b p → PlanRefuses p (holds_in b.tables) (lacks_in b.tables) b.setting e → status_of e ≡ 3 → IsOfSetup e
 plan_refuses b p e case (commands.for_tables h) three = absurd (tables_load b.tables (plan_in p.root) p.names.catalog e case.loaded h three)

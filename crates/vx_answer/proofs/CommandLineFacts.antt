@@ -13,7 +13,7 @@ use Rattle.vx_answer.specs.declared.command_line.ArgumentAnswer.{ArgumentAnswer}
 use Rattle.vx_answer.specs.declared.command_line.ArgumentAnswer.TheVariants as answer
 use Rattle.vx_answer.specs.declared.command_line.ArgumentFault.{ArgumentFault}
 use Rattle.vx_answer.specs.declared.command_line.ArgumentFault.TheVariants as fault
-use Rattle.vx_bundle.specs.Setting.{Setting}
+use Rattle.vx_setup.specs.Setting.{Setting}
 use Rattle.vx_answer.specs.Arguments.{IsSetting}
 use Rattle.vx_answer.specs.Commands.{CommandRefuses}
 use Rattle.vx_bytes.specs.Stored.{Stored}
@@ -86,12 +86,12 @@ clap_refused files reliable input failed arguments error (Err (fault.Failing lin
 clap_refused files reliable input failed arguments error (Err (fault.Stopped s)) has h = absurd h
 
 -- why runs of several plans have no answer is why what arguments ask for has none
-pub plans_fault : (files : List ℕ → Stored) (reliable : List ℕ → Bool) (input : Option (List ℕ)) (failed : Bool) (ask : Ask) (paths : ManyPaths) (folder : List ℕ) (limits : Given) (setting : Setting) (e : ArgumentFault)
-    → ask ≡ run_plans paths folder limits → IsSetting limits setting → IsPlansFault files reliable input failed paths folder setting e → IsAskFault files reliable input failed ask e
-plans_fault files reliable input failed ask paths folder limits setting (fault.Usage text) is set h = absurd h
-plans_fault files reliable input failed ask paths folder limits setting (fault.Refused e) is set h = for_asked_runs paths folder limits setting is set h
-plans_fault files reliable input failed ask paths folder limits setting (fault.Failing lines) is set h = absurd h
-plans_fault files reliable input failed ask paths folder limits setting (fault.Stopped s) is set h = (paths, folder, limits, setting, is, set, h)
+pub plans_fault : (files : List ℕ → Stored) (reliable : List ℕ → Bool) (input : Option (List ℕ)) (failed : Bool) (ask : Ask) (paths : ManyPaths) (folder : List ℕ) (given : Given) (setting : Setting) (e : ArgumentFault)
+    → ask ≡ run_plans paths folder given → IsSetting given setting → IsPlansFault files reliable input failed paths folder setting e → IsAskFault files reliable input failed ask e
+plans_fault files reliable input failed ask paths folder given setting (fault.Usage text) is set h = absurd h
+plans_fault files reliable input failed ask paths folder given setting (fault.Refused e) is set h = for_asked_runs paths folder given setting is set h
+plans_fault files reliable input failed ask paths folder given setting (fault.Failing lines) is set h = absurd h
+plans_fault files reliable input failed ask paths folder given setting (fault.Stopped s) is set h = (paths, folder, given, setting, is, set, h)
 
 -- runs that stop at a plan are refused for that
 pub stopped_refuses : (files : List ℕ → Stored) (reliable : List ℕ → Bool) (input : Option (List ℕ)) (failed : Bool) (arguments : List (List ℕ)) (text : List ℕ) (e : Refusal) → AsksForStopped files input arguments text e

@@ -3,7 +3,6 @@ use Rattle.std.proofs.Common.{◌≡◌, ℕ, List, [], Vec, Global, Bool, true,
 use Rattle.std.specs.Prelude.{IfOk}
 use Rattle.vx_bytes.specs.Ports.{IsAll, IsOver, ExplainsAll}
 use Rattle.vx_bytes.specs.declared.bytes.ReadFault.TheVariants as fault
-use Rattle.vx_catalog.specs.Loading.{max_bytes}
 use Rattle.vx_plan_json.specs.Document.{Document}
 use Rattle.vx_plan_json.specs.Fault as plan
 use Rattle.vx_plan_json.specs.Reading.{document_of_text}
@@ -16,6 +15,7 @@ use Rattle.vx_tables.proofs.FolderFacts.{may_fail}
 use Rattle.vx_answer.specs.Answer.{RefusedWith}
 use Rattle.vx_answer.specs.Planning.{plan_from, for_catalog, for_plan}
 use Rattle.vx_answer.specs.Files.{is_input, known_at, left_of, input_after, plan_at, IsUnreadable, IsInputRefusal, input_memory, for_input, AreNotRead, no_catalog_bytes, no_catalog, no_plan_bytes, no_plan, IsFilesRefusal, for_catalog_bytes, for_plan_bytes, for_contents}
+use Rattle.vx_values.specs.Limits.{max_text_bytes}
 
 -- the bytes are all that there are, as far as is known
 abbrev pub AreAll : Stored → List ℕ → Type 0
@@ -73,14 +73,14 @@ not_read_refused files reliable input failed paths e (no_plan relations fault is
     (λ bytes k. fails_then fault (document_of_text bytes) (λ d. resolved d relations) k) h))
 
 -- a file that failed while it was read
-pub unreadable_broken : (reliable failed : Bool) (known : Option (List ℕ)) (file : Stored) → (reliable ≡ true → failed ≡ false) → ExplainsAll max_bytes known failed fault.Broken → IsUnreadable file reliable
+pub unreadable_broken : (reliable failed : Bool) (known : Option (List ℕ)) (file : Stored) → (reliable ≡ true → failed ≡ false) → ExplainsAll max_text_bytes known failed fault.Broken → IsUnreadable file reliable
 unreadable_broken reliable failed known file never h = inr (inl (may_fail reliable failed never h))
 
 -- a file that is too long
-pub unreadable_long : (file : Stored) (known : Option (List ℕ)) (failed reliable : Bool) → OpensAs file known → ExplainsAll max_bytes known failed fault.TooLarge → IsUnreadable file reliable
+pub unreadable_long : (file : Stored) (known : Option (List ℕ)) (failed reliable : Bool) → OpensAs file known → ExplainsAll max_text_bytes known failed fault.TooLarge → IsUnreadable file reliable
 unreadable_long silent known failed reliable opened h = inl tt
 unreadable_long absent known failed reliable opened h = absurd opened
-unreadable_long (present xs) known failed reliable opened h = let P : Option (List ℕ) → Type 0 = λ o. IsOver max_bytes o in inr (inr (subst P opened h.0))
+unreadable_long (present xs) known failed reliable opened h = let P : Option (List ℕ) → Type 0 = λ o. IsOver max_text_bytes o in inr (inr (subst P opened h.0))
 
 -- input that was not read is refused for that
 pub input_refused : (known : Option (List ℕ)) (failed : Bool) (e : Refusal) → IsInputRefusal known failed e → RefusedWith known failed e

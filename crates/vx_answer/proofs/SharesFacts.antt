@@ -14,20 +14,20 @@ use Rattle.vx_plan_nodes.specs.Routes.{sends_by}
 use Rattle.vx_plan_nodes.specs.Typed.{bounds_at}
 use Rattle.vx_plan_nodes.specs.Serial.{SerialResult, IsOverflow}
 use Rattle.vx_check_rules.specs.Claims.{Delivers}
-use Rattle.vx_laws.specs.Faults.{IsReal}
-use Rattle.vx_layout.specs.Groups.{group_at}
+use Rattle.vx_plan_nodes.specs.Real.{IsReal}
+use Rattle.vx_plan_nodes.specs.Workers.{worker_group_at}
 use Rattle.vx_exec.specs.Runs.{IsRunOf, IsSetUp, IsTrueOf}
 use Rattle.vx_exec.specs.Runs as fails
 use Rattle.vx_exec.specs.Sizes.{Sizes}
 use Rattle.vx_rows.specs.View.{RowsView}
 use Rattle.vx_setup.specs.declared.fault.RunFault.{RunFault}
 use Rattle.vx_setup.specs.declared.fault.RunFault.TheVariants as run
-use Rattle.vx_bundle.specs.Setting.{Setting}
+use Rattle.vx_setup.specs.Setting.{Setting}
 use Rattle.vx_bytes.specs.Stored.{Stored}
-use Rattle.vx_exchange.specs.ByteRouter.{byte_route}
+use Rattle.vx_plan_nodes.specs.ByteRouter.{byte_route}
 use Rattle.vx_refusals.specs.declared.refusal.Refusal.{Refusal}
 use Rattle.vx_tables.specs.Filled.{scans}
-use Rattle.vx_answer.specs.Commands.{Holding, setup_of, IsRunOver, RunRefuses, for_rounds, for_threads, run_memory, for_fault}
+use Rattle.vx_answer.specs.Commands.{Holding, IsRunOver, RunRefuses, for_rounds, for_threads, run_memory, for_fault}
 use Rattle.vx_answer.specs.Planning.{exactly}
 use Rattle.vx_answer.specs.Files.{input_after}
 use Rattle.vx_answer.specs.Plans.{NamedPlan, AreAccepted, any_scans, IsLoadedFor, IsShareFor, IsRunIn, RunRefusesIn, AreAnswers, StopsAt}
@@ -94,7 +94,7 @@ module _ (p : TypedPlanView) (holds : Holding) (all db : Database) (s : Setting)
   same_rows : SameSeen (rows_at all) (rows_at db) (plan_in p.root)
   same_rows i is = sym (has.same i is)
 
-  set_in : (sizes : Sizes) → IsSetUp p all (setup_of s) sizes → IsSetUp p db (setup_of s) sizes
+  set_in : (sizes : Sizes) → IsSetUp p all s.setup sizes → IsSetUp p db s.setup sizes
   set_in sizes h = record { same = has.own.same; sizes = h.sizes }
 
   true_in : (e : RunFault) → IsTrueOf p all e → IsTrueOf p db e
@@ -115,14 +115,14 @@ module _ (p : TypedPlanView) (holds : Holding) (all db : Database) (s : Setting)
   run_in : (groups : List ℕ) (t : RowsView) → IsRunOf byte_route p all groups t → IsRunOf byte_route p db groups t
   run_in groups t h = record {
     types = h.types;
-    runs = runs_seen (rows_at all) (rows_at db) (group_at groups) (sends_by byte_route (bounds_at (scope_of p.names).ranges)) (plan_in p.root) (λ _. t.rows) same_rows h.runs;
+    runs = runs_seen (rows_at all) (rows_at db) (worker_group_at groups) (sends_by byte_route (bounds_at (scope_of p.names).ranges)) (plan_in p.root) (λ _. t.rows) same_rows h.runs;
     delivers = delivers_in (rows_at all) (rows_at db) p.total (plan_in p.root) t.rows same_rows h.delivers;
   }
 
   pub answer_in : (text : List ℕ) → IsRunOver p all s text → IsRunIn all holds s p text
-  answer_in text h = (db, has, (h.0, h.1, set_in h.1 h.2, run_in h.1.groups h.0 h.3, h.4))
+  answer_in text h = (db, has, (h.0, h.1, set_in h.1 h.2, run_in h.1.worker_groups h.0 h.3, h.4))
 
-  fails_in : (e : RunFault) → all.catalog ≡ p.names.catalog → fails.RunFails p all (setup_of s) e → fails.RunFails p db (setup_of s) e
+  fails_in : (e : RunFault) → all.catalog ≡ p.names.catalog → fails.RunFails p all s.setup e → fails.RunFails p db s.setup e
   fails_in e over (fails.for_catalog is other) = absurd (other over)
   fails_in e over (fails.for_setup same h) = fails.for_setup has.own.same h
   fails_in e over (fails.for_fault sizes set h) = fails.for_fault sizes (set_in sizes set) (true_in e h)

@@ -4,7 +4,7 @@ use Rattle.std.proofs.lemmas.List.{append-nil, take_more}
 use Rattle.std.specs.Prelude.{IfOk, IfErr}
 use Rattle.vx_arguments.specs.Asked.{Paths}
 use Rattle.vx_bundle.specs.declared.command.Command.TheVariants as command
-use Rattle.vx_bundle.specs.Setting.{Setting}
+use Rattle.vx_setup.specs.Setting.{Setting}
 use Rattle.vx_bytes.specs.Stored.{Stored}
 use Rattle.vx_catalog.specs.Database.{Database}
 use Rattle.vx_check_rules.specs.CheckedView.{typed_plan}
@@ -14,8 +14,8 @@ use Rattle.vx_refusals.specs.declared.refusal.Refusal.{Refusal}
 use Rattle.vx_refusals.specs.declared.refusal.Refusal.TheVariants as refusal
 use Rattle.vx_plan_nodes.specs.declared.typed_plan.TypedPlan.{TypedPlan}
 use Rattle.vx_stats.specs.Text.{plan_text}
-use Rattle.vx_stats.specs.declared.phases.Phase.{Phase}
-use Rattle.vx_stats.specs.declared.phases.Phase.TheVariants as phase
+use Rattle.vx_stats.specs.declared.phases.WorkPhase.{WorkPhase}
+use Rattle.vx_stats.specs.declared.phases.WorkPhase.TheVariants as work_phase
 use Rattle.vx_stats.specs.declared.text.StatsForm.{StatsForm}
 use Rattle.vx_tables.specs.Folder.{holds_at}
 use Rattle.vx_answer.specs.CommandLine.{FileCommand, AnswersTask, TaskRefuses, task_memory, for_planning}
@@ -25,7 +25,7 @@ use Rattle.vx_answer.specs.Plans.{AreAnswers, title}
 use Rattle.vx_answer.specs.PlansView.{named_is}
 use Rattle.vx_answer.specs.Stats.{IsCountedRun, IsCountedPlan, AreTaskStats, IsRunMore, AreCountedRuns}
 use Rattle.vx_answer.specs.declared.plans.AcceptedPlan.{AcceptedPlan}
-use Rattle.vx_answer.specs.declared.stats.Counted.{Counted}
+use Rattle.vx_answer.specs.declared.stats.CountedText.{CountedText}
 
 -- and so the command is
 pub rest_refused_or : {T : Type 0} (r : Result T Refusal) (p : TypedPlanView) (holds : Holding) (lacks : Lacking) (s : Setting) → IsShown p
@@ -94,9 +94,9 @@ counted_grow f db s ns i d n text stats grown reported there at h more =
     (subst (λ t. AreCountedRuns f db s (take i ns ++ n ∷ []) t reported) (sym more.text_is) (subst (λ t. AreCountedRuns f db s (take i ns ++ n ∷ []) (text ++ own) t) (sym more.stats_are) all))
 
 -- what is reported of a run of this plan is reported of the task
-pub task_stats : (files : List ℕ → Stored) (input : Option (List ℕ)) (f : StatsForm) (t : FileCommand) (p : TypedPlan) (r : Result Counted Refusal) → IsFilesPlan files input t.paths (resolved_of p)
+pub task_stats : (files : List ℕ → Stored) (input : Option (List ℕ)) (f : StatsForm) (t : FileCommand) (p : TypedPlan) (r : Result CountedText Refusal) → IsFilesPlan files input t.paths (resolved_of p)
     → IfOk r (λ k. IsShown (resolved_of p))
-    → IfOk r (λ k. IsCountedPlan f p (holds_at files t.folder) t.setting (phase.Read ∷ phase.Plan ∷ phase.Check ∷ []) k.text.items (string_bytes k.opening))
+    → IfOk r (λ k. IsCountedPlan f p (holds_at files t.folder) t.setting (work_phase.Read ∷ work_phase.Plan ∷ work_phase.Check ∷ []) k.text.items (string_bytes k.opening))
     → IfOk r (λ k. AreTaskStats files input f t k.text.items (string_bytes k.opening))
 task_stats files input f t p (Ok k) planned shown reported = record { plan = p; planned = planned; shown = shown; counted = reported }
 task_stats files input f t p (Err e) planned shown reported = tt
@@ -113,6 +113,6 @@ pub added_twice : {A : Type 0} (start once twice first second : List A) → once
 added_twice start once twice first second one two = two ∙ ap (λ x. x ++ second) one ∙ append_assoc start first second
 
 -- three phases, one after the other
-pub three_phases : (none one two three : List Phase) (p q r : Phase) → none ≡ [] → one ≡ none ++ p ∷ [] → two ≡ one ++ q ∷ [] → three ≡ two ++ r ∷ [] → three ≡ p ∷ q ∷ r ∷ []
+pub three_phases : (none one two three : List WorkPhase) (p q r : WorkPhase) → none ≡ [] → one ≡ none ++ p ∷ [] → two ≡ one ++ q ∷ [] → three ≡ two ++ r ∷ [] → three ≡ p ∷ q ∷ r ∷ []
 three_phases none one two three p q r begins first second third =
     third ∙ ap (λ x. x ++ r ∷ []) (second ∙ ap (λ x. x ++ q ∷ []) (first ∙ ap (λ x. x ++ p ∷ []) begins))

@@ -9,7 +9,7 @@ use Rattle.clap.specs.declared.error.kind.ErrorKind.TheVariants as kind
 use Rattle.vx_arguments.specs.Asked.{Ask, Paths, ManyPaths, Given, run, run_plans, stats_by, faults_of}
 use Rattle.vx_bundle.specs.declared.command.Command.TheVariants as command
 use Rattle.vx_refusals.specs.declared.refusal.Refusal.{Refusal}
-use Rattle.vx_bundle.specs.Setting.{Setting}
+use Rattle.vx_setup.specs.Setting.{Setting}
 use Rattle.vx_bytes.specs.Stored.{Stored}
 use Rattle.vx_stats.specs.declared.text.StatsForm.{StatsForm}
 use Rattle.vx_answer.specs.Arguments.{IsSetting}
@@ -23,7 +23,7 @@ use Rattle.vx_answer.specs.StatsView.{IsCountedAs, IsUncounted, IsStatsFault}
 use Rattle.vx_answer.specs.declared.command_line.ArgumentAnswer.{ArgumentAnswer}
 use Rattle.vx_answer.specs.declared.command_line.ArgumentAnswer.TheVariants as answer
 use Rattle.vx_answer.specs.declared.command_line.ArgumentFault.{ArgumentFault}
-use Rattle.vx_answer.specs.declared.stats.Counted.{Counted}
+use Rattle.vx_answer.specs.declared.stats.CountedText.{CountedText}
 use Rattle.vx_answer.specs.declared.command_line.ArgumentFault.TheVariants as fault
 use Rattle.vx_answer.proofs.CommandLineFacts.{arguments_refused}
 use Rattle.vx_answer.proofs.SharesFacts.{have_shares, answers_in}
@@ -75,29 +75,29 @@ request_refused files reliable input failed arguments ask word (Err e) asked is 
 ]
 
 -- a counted run answers what is asked for
-pub one_counted : (files : List ℕ → Stored) (input : Option (List ℕ)) (f : StatsForm) (ask : Ask) (paths : Paths) (folder : List ℕ) (limits : Given) (s : Setting) (k : Counted) → ask ≡ run paths folder limits
-    → IsSetting limits s → k.form ≡ f → AreTaskStats files input f (record { command = command.Run; paths = paths; folder = folder; setting = s }) k.text.items (string_bytes k.opening)
+pub one_counted : (files : List ℕ → Stored) (input : Option (List ℕ)) (f : StatsForm) (ask : Ask) (paths : Paths) (folder : List ℕ) (given : Given) (s : Setting) (k : CountedText) → ask ≡ run paths folder given
+    → IsSetting given s → k.form ≡ f → AreTaskStats files input f (record { command = command.Run; paths = paths; folder = folder; setting = s }) k.text.items (string_bytes k.opening)
     → IsAskAnswer files input ask (answer.Counted k)
-one_counted files input f ask paths folder limits s k same set form h =
+one_counted files input f ask paths folder given s k same set form h =
     let t : FileCommand = record { command = command.Run; paths = paths; folder = folder; setting = s } in
     let P : Ask → Type 0 = λ a. IsAskAnswer files input a (answer.Counted k) in
-    let is : IsTask (run paths folder limits) t = (s, set, refl) in
+    let is : IsTask (run paths folder given) t = (s, set, refl) in
     let reported = subst (λ g. AreTaskStats files input g t k.text.items (string_bytes k.opening)) (sym form) h in
     subst P (sym same) (for_task t is (stats_answer files input f paths folder s k.text.items (string_bytes k.opening) h), for_one t is refl reported)
 
 -- and so do several
-pub several_counted : (files : List ℕ → Stored) (input : Option (List ℕ)) (f : StatsForm) (ask : Ask) (paths : ManyPaths) (folder : List ℕ) (limits : Given) (s : Setting) (k : Counted)
-    → ask ≡ run_plans paths folder limits → IsSetting limits s → k.form ≡ f → ArePlansStats files input f paths folder s k.text.items (string_bytes k.opening) → IsAskAnswer files input ask (answer.Counted k)
-several_counted files input f ask paths folder limits s k same set form h =
+pub several_counted : (files : List ℕ → Stored) (input : Option (List ℕ)) (f : StatsForm) (ask : Ask) (paths : ManyPaths) (folder : List ℕ) (given : Given) (s : Setting) (k : CountedText)
+    → ask ≡ run_plans paths folder given → IsSetting given s → k.form ≡ f → ArePlansStats files input f paths folder s k.text.items (string_bytes k.opening) → IsAskAnswer files input ask (answer.Counted k)
+several_counted files input f ask paths folder given s k same set form h =
     let reported = subst (λ g. ArePlansStats files input g paths folder s k.text.items (string_bytes k.opening)) (sym form) h in
-    (for_runs paths folder limits s same set (plans_stats files input f paths folder s k.text.items (string_bytes k.opening) h), for_several paths folder limits s same set reported)
+    (for_runs paths folder given s same set (plans_stats files input f paths folder s k.text.items (string_bytes k.opening) h), for_several paths folder given s same set reported)
 
 -- why a task that is a run is refused
-pub run_refused : (files : List ℕ → Stored) (reliable : List ℕ → Bool) (input : Option (List ℕ)) (failed : Bool) (ask : Ask) (paths : Paths) (folder : List ℕ) (limits : Given) (s : Setting) (e : Refusal)
-    → ask ≡ run paths folder limits → IsSetting limits s → TaskRefuses files reliable input failed (record { command = command.Run; paths = paths; folder = folder; setting = s }) e
+pub run_refused : (files : List ℕ → Stored) (reliable : List ℕ → Bool) (input : Option (List ℕ)) (failed : Bool) (ask : Ask) (paths : Paths) (folder : List ℕ) (given : Given) (s : Setting) (e : Refusal)
+    → ask ≡ run paths folder given → IsSetting given s → TaskRefuses files reliable input failed (record { command = command.Run; paths = paths; folder = folder; setting = s }) e
     → AskRefuses files reliable input failed ask e
-run_refused files reliable input failed ask paths folder limits s e same set h =
+run_refused files reliable input failed ask paths folder given s e same set h =
     let t : FileCommand = record { command = command.Run; paths = paths; folder = folder; setting = s } in
     let P : Ask → Type 0 = λ a. AskRefuses files reliable input failed a e in
-    let is : IsTask (run paths folder limits) t = (s, set, refl) in
+    let is : IsTask (run paths folder given) t = (s, set, refl) in
     subst P (sym same) (for_asked_task t is h)

@@ -3,9 +3,10 @@ use Rattle.std.specs.Prelude.{◌≡◌, ℕ, ◌^◌, ◌<◌, ◌==◌, ◌++�
 use Rattle.std.specs.Str.{NoCharPasses}
 use Rattle.std.specs.Str.Parse.{IsNumeral, digits_value, without_leading_plus}
 use Rattle.vx_arguments.specs.Asked.{Given}
-use Rattle.vx_bundle.specs.declared.setting.Mode.{Mode}
-use Rattle.vx_bundle.specs.declared.setting.Mode.TheVariants as mode
-use Rattle.vx_bundle.specs.Setting.{Named, Setting}
+use Rattle.vx_setup.specs.declared.setting.Mode.{Mode}
+use Rattle.vx_setup.specs.declared.setting.Mode.TheVariants as mode
+use Rattle.vx_setup.specs.Setting.{Setting}
+use Rattle.vx_bundle.specs.Named.{Named}
 
 -- the number of 32 bits that a text of digits is, behind a plus or not, if it is one
 abbrev pub Numbers : List ℕ → Option ℕ → Type 0
@@ -40,17 +41,17 @@ abbrev pub mode_named : List ℕ → Option Mode
 mode_named text = if bytes_eq text (codes "rounds") then Some mode.Rounds else if bytes_eq text (codes "threads") then Some mode.Threads else None
 
 -- what arguments say of a run
-pub record IsSetting (limits : Given) (s : Setting) : Type 0 where
-  pub packet : Numbers limits.packet (Some s.packet)
-  pub morsel : Numbers limits.morsel (Some s.morsel)
-  pub slack : Numbers limits.slack (Some s.slack)
-  pub sizes : AreSizes limits.sizes s.sizes
-  pub mode : mode_named limits.mode ≡ Some s.mode
+pub record IsSetting (given : Given) (s : Setting) : Type 0 where
+  pub packet : Numbers given.packet (Some s.setup.packet)
+  pub morsel : Numbers given.morsel (Some s.setup.morsel)
+  pub slack : Numbers given.slack (Some s.setup.slack)
+  pub sizes : AreSizes given.sizes s.setup.sizes
+  pub mode : mode_named given.mode ≡ Some s.mode
 
 -- arguments that set no run up: a number is none, the mode is none, or an argument is no NAME=N
-pub data IsNoSetting (limits : Given) : Type 0 where
-  for_packet : Numbers limits.packet None → IsNoSetting limits
-  for_morsel : Numbers limits.morsel None → IsNoSetting limits
-  for_slack : Numbers limits.slack None → IsNoSetting limits
-  for_mode : mode_named limits.mode ≡ None → IsNoSetting limits
-  for_size : HasNoSize limits.sizes → IsNoSetting limits
+pub data IsNoSetting (given : Given) : Type 0 where
+  for_packet : Numbers given.packet None → IsNoSetting given
+  for_morsel : Numbers given.morsel None → IsNoSetting given
+  for_slack : Numbers given.slack None → IsNoSetting given
+  for_mode : mode_named given.mode ≡ None → IsNoSetting given
+  for_size : HasNoSize given.sizes → IsNoSetting given

@@ -7,8 +7,9 @@ use Rattle.vx_plan_nodes.specs.Names.{TypedPlanView}
 use Rattle.vx_arguments.specs.Asked.{Ask, Paths, ManyPaths, Given, bundle, check, check_all, explain, draw, annotate, sql, why, serial, run, run_plans, generate, asked_by, stats_by, faults_of}
 use Rattle.vx_bundle.specs.declared.command.Command.{Command}
 use Rattle.vx_bundle.specs.declared.command.Command.TheVariants as command
-use Rattle.vx_bundle.specs.declared.setting.Mode.TheVariants as mode
-use Rattle.vx_bundle.specs.Setting.{Setting}
+use Rattle.vx_setup.specs.declared.setting.Mode.TheVariants as mode
+use Rattle.vx_setup.specs.Setup.{default_packet_rows, default_morsel_rows, default_slack}
+use Rattle.vx_setup.specs.Setting.{Setting}
 use Rattle.vx_bytes.specs.Stored.{Stored, IfBytes}
 use Rattle.vx_catalog.specs.Csv.{csv_text}
 use Rattle.vx_refusals.specs.declared.refusal.Refusal.{Refusal}
@@ -34,7 +35,8 @@ use Rattle.vx_answer.specs.Plans.{AnswersPlans, PlansStop, PlansRefuse}
 use Rattle.vx_answer.specs.declared.forms.PlanForm.{PlanForm}
 use Rattle.vx_answer.specs.declared.forms.PlanForm.TheVariants as form
 use Rattle.vx_why.specs.Codes.{is_code}
-use Rattle.vx_wisconsin.specs.Wisconsin.{max_rows, wisconsin, column_names}
+use Rattle.vx_wisconsin.specs.Wisconsin.{wisconsin, column_names}
+use Rattle.vx_values.specs.Limits.{max_generated_rows}
 
 -- a command over the catalog, the plan and the folder of tables that arguments name
 pub record FileCommand : Type 0 where
@@ -43,9 +45,9 @@ pub record FileCommand : Type 0 where
   pub folder : List ℕ
   pub setting : Setting
 
--- by default: 256 rows a packet, 1,024 a morsel, 8 packets of slack, in rounds
+-- by default: the packets, morsels and slack of a setup where none is said, in rounds
 abbrev pub default_setting : Setting
-default_setting = record { sizes = []; packet = 256; morsel = 1024; slack = 8; mode = mode.Rounds }
+default_setting = record { setup = record { sizes = []; packet = default_packet_rows; morsel = default_morsel_rows; slack = default_slack }; mode = mode.Rounds }
 
 -- a task is what arguments ask for
 abbrev pub IsTask : Ask → FileCommand → Type 0
@@ -58,8 +60,8 @@ IsTask (annotate paths) t = ⊥
 IsTask (sql paths dialect) t = ⊥
 IsTask (why code) t = ⊥
 IsTask (serial paths folder) t = t ≡ record { command = command.Serial; paths = paths; folder = folder; setting = default_setting }
-IsTask (run paths folder limits) t = (s : Setting) × IsSetting limits s × (t ≡ record { command = command.Run; paths = paths; folder = folder; setting = s })
-IsTask (run_plans paths folder limits) t = ⊥
+IsTask (run paths folder given) t = (s : Setting) × IsSetting given s × (t ≡ record { command = command.Run; paths = paths; folder = folder; setting = s })
+IsTask (run_plans paths folder given) t = ⊥
 IsTask (generate rows) t = ⊥
 
 -- arguments ask for a run and set none up, for a format or a dialect that there is not, or for a code that is none; a file of statistics may be none of this plan
@@ -73,8 +75,8 @@ IsNoTask (annotate paths) = ⊥
 IsNoTask (sql paths dialect) = dialect_named dialect ≡ None
 IsNoTask (why code) = is_code code ≡ false
 IsNoTask (serial paths folder) = ⊥
-IsNoTask (run paths folder limits) = IsNoSetting limits
-IsNoTask (run_plans paths folder limits) = IsNoSetting limits
+IsNoTask (run paths folder given) = IsNoSetting given
+IsNoTask (run_plans paths folder given) = IsNoSetting given
 IsNoTask (generate rows) = ⊥
 
 -- the text answers a task: it is what its command asks for of its plan over the files of its folder
@@ -171,14 +173,14 @@ pub data AnswersAsk (files : List ℕ → Stored) (input : Option (List ℕ)) (a
   for_all_nodes : (paths : Paths) → ask ≡ check_all paths → AnswersAll files input paths text → AnswersAsk files input ask text
   for_claims : (paths : Paths) → ask ≡ annotate paths → AnswersAnnotation files input paths text → AnswersAsk files input ask text
   for_code : (code : List ℕ) → ask ≡ why code → IsEntry code text → AnswersAsk files input ask text
-  for_runs : (paths : ManyPaths) (folder : List ℕ) (limits : Given) (s : Setting) → ask ≡ run_plans paths folder limits → IsSetting limits s → AnswersPlans files input paths folder s text
+  for_runs : (paths : ManyPaths) (folder : List ℕ) (given : Given) (s : Setting) → ask ≡ run_plans paths folder given → IsSetting given s → AnswersPlans files input paths folder s text
       → AnswersAsk files input ask text
-  for_relation : (rows : ℕ) → ask ≡ generate rows → rows ≤ max_rows → text ≡ csv_text column_names (wisconsin rows) → AnswersAsk files input ask text
+  for_relation : (rows : ℕ) → ask ≡ generate rows → rows ≤ max_generated_rows → text ≡ csv_text column_names (wisconsin rows) → AnswersAsk files input ask text
 
 -- arguments ask for runs of several plans, of which one gives no text for this reason; the text is that of the runs before it
 abbrev pub AskStops : (List ℕ → Stored) → Option (List ℕ) → Ask → List ℕ → Refusal → Type 0
 AskStops files input ask text e =
-    (paths : ManyPaths) × (folder : List ℕ) × (limits : Given) × (s : Setting) × (ask ≡ run_plans paths folder limits) × IsSetting limits s × PlansStop files input paths folder s text e
+    (paths : ManyPaths) × (folder : List ℕ) × (given : Given) × (s : Setting) × (ask ≡ run_plans paths folder given) × IsSetting given s × PlansStop files input paths folder s text e
 
 -- what arguments ask for is refused with this refusal
 pub data AskRefuses (files : List ℕ → Stored) (reliable : List ℕ → Bool) (input : Option (List ℕ)) (failed : Bool) (ask : Ask) (e : Refusal) : Type 0 where
@@ -190,10 +192,10 @@ pub data AskRefuses (files : List ℕ → Stored) (reliable : List ℕ → Bool)
   for_asked_sql : (d : Dialect) (paths : Paths) (name : List ℕ) → ask ≡ sql paths name → dialect_named name ≡ Some d → StatementIsRefused files reliable input failed paths e → AskRefuses files reliable input failed ask e
   for_asked_all : (paths : Paths) → ask ≡ check_all paths → IsFilesRefusal files reliable input failed paths e → AskRefuses files reliable input failed ask e
   for_asked_claims : (paths : Paths) → ask ≡ annotate paths → AnnotationIsRefused files reliable input failed paths e → AskRefuses files reliable input failed ask e
-  for_asked_runs : (paths : ManyPaths) (folder : List ℕ) (limits : Given) (s : Setting) → ask ≡ run_plans paths folder limits → IsSetting limits s
+  for_asked_runs : (paths : ManyPaths) (folder : List ℕ) (given : Given) (s : Setting) → ask ≡ run_plans paths folder given → IsSetting given s
       → PlansRefuse files reliable input failed paths folder e → AskRefuses files reliable input failed ask e
   for_stopped : (text : List ℕ) → AskStops files input ask text e → AskRefuses files reliable input failed ask e
-  for_asked_relation : (rows : ℕ) → ask ≡ generate rows → max_rows < rows → e ≡ refusal.TooLarge → AskRefuses files reliable input failed ask e
+  for_asked_relation : (rows : ℕ) → ask ≡ generate rows → max_generated_rows < rows → e ≡ refusal.TooLarge → AskRefuses files reliable input failed ask e
 
 -- arguments ask for help or for the version
 abbrev pub AskForHelp : List (List ℕ) → Type 0

@@ -2,8 +2,8 @@
 use Rattle.std.specs.Prelude.{◌≡◌, ℕ, ◌⊎◌, List, Bool, Option, Some, string_bytes}
 use Rattle.vx_arguments.specs.Asked.{paths_are, many_are, Ask, Paths, ManyPaths, Given, bundle, check_all, explain, draw, annotate, sql, why, run_plans, generate}
 use Rattle.vx_answer.specs.declared.command_line.FileCommand as held
-use Rattle.vx_answer.specs.declared.command_line.Job.{Job}
-use Rattle.vx_answer.specs.declared.command_line.Job.TheVariants as job
+use Rattle.vx_answer.specs.declared.command_line.AskedJob.{AskedJob}
+use Rattle.vx_answer.specs.declared.command_line.AskedJob.TheVariants as asked_job
 use Rattle.vx_answer.specs.declared.command_line.ArgumentAnswer.{ArgumentAnswer}
 use Rattle.vx_answer.specs.declared.command_line.ArgumentAnswer.TheVariants as answer
 use Rattle.vx_answer.specs.declared.command_line.ArgumentFault.{ArgumentFault}
@@ -14,7 +14,7 @@ use Rattle.vx_refusals.specs.declared.refusal.Refusal.TheVariants as refusal
 use Rattle.vx_bytes.specs.Stored.{Stored}
 use Rattle.vx_answer.specs.Forms.{form_named}
 use Rattle.vx_answer.specs.Statements.{dialect_named}
-use Rattle.vx_bundle.specs.Setting.{Setting}
+use Rattle.vx_setup.specs.Setting.{Setting}
 use Rattle.vx_answer.specs.declared.command_line.FilePlans.{FilePlans}
 use Rattle.vx_answer.specs.Arguments.{IsSetting}
 use Rattle.vx_answer.specs.Plans.{PlansStop, PlansRefuse}
@@ -26,20 +26,20 @@ task_is t = record { command = t.command; paths = paths_are t.sources; folder = 
 
 -- runs of several plans are what arguments ask for
 abbrev pub IsPlansTask : Ask → FilePlans → Type 0
-IsPlansTask ask t = (limits : Given) × (ask ≡ run_plans (many_are t.sources) t.folder.now limits) × IsSetting limits t.setting
+IsPlansTask ask t = (given : Given) × (ask ≡ run_plans (many_are t.sources) t.folder.now given) × IsSetting given t.setting
 
 -- a job does what arguments ask for
-abbrev pub IsJob : Ask → Job → Type 0
-IsJob ask job.Bundle = ask ≡ bundle
-IsJob ask (job.Command t) = IsTask ask (task_is t)
-IsJob ask (job.Verdict sources) = ask ≡ check_all (paths_are sources)
-IsJob ask (job.Annotation sources) = ask ≡ annotate (paths_are sources)
-IsJob ask (job.Form f sources) = (format : List ℕ) × (ask ≡ explain (paths_are sources) format) × (form_named format ≡ Some f)
-IsJob ask (job.Drawing sources stats) = ask ≡ draw (paths_are sources) stats.now
-IsJob ask (job.Statement d sources) = (name : List ℕ) × (ask ≡ sql (paths_are sources) name) × (dialect_named name ≡ Some d)
-IsJob ask (job.Plans t) = IsPlansTask ask t
-IsJob ask (job.Entry text) = (code : List ℕ) × (ask ≡ why code) × IsEntry code text.now
-IsJob ask (job.Relation rows) = ask ≡ generate rows
+abbrev pub IsJob : Ask → AskedJob → Type 0
+IsJob ask asked_job.Bundle = ask ≡ bundle
+IsJob ask (asked_job.Command t) = IsTask ask (task_is t)
+IsJob ask (asked_job.Verdict sources) = ask ≡ check_all (paths_are sources)
+IsJob ask (asked_job.Annotation sources) = ask ≡ annotate (paths_are sources)
+IsJob ask (asked_job.Form f sources) = (format : List ℕ) × (ask ≡ explain (paths_are sources) format) × (form_named format ≡ Some f)
+IsJob ask (asked_job.Drawing sources stats) = ask ≡ draw (paths_are sources) stats.now
+IsJob ask (asked_job.Statement d sources) = (name : List ℕ) × (ask ≡ sql (paths_are sources) name) × (dialect_named name ≡ Some d)
+IsJob ask (asked_job.Plans t) = IsPlansTask ask t
+IsJob ask (asked_job.Entry text) = (code : List ℕ) × (ask ≡ why code) × IsEntry code text.now
+IsJob ask (asked_job.Relation rows) = ask ≡ generate rows
 
 -- what answers what arguments ask for: a finished text, or the number of rows of the relation that they ask for
 abbrev pub IsAskAnswer : (List ℕ → Stored) → Option (List ℕ) → Ask → ArgumentAnswer → Type 0

@@ -14,21 +14,23 @@ use Rattle.vx_check_rules.specs.RuleView.{rule_of}
 use Rattle.vx_check.specs.Accepted.{accepted_text}
 use Rattle.vx_check.specs.Explain.{explain_text}
 use Rattle.vx_check_rules.specs.declared.rule.Rule as rust_rule
-use Rattle.vx_setup.specs.Setup.{SetupView}
+use Rattle.vx_exec.specs.Promise.{Reports, NothingElse}
 use Rattle.vx_exec.specs.Sizes.{Sizes}
 use Rattle.vx_exec.specs.Runs.{IsRunOf, IsSetUp, RunFails}
+use Rattle.vx_parallel.specs.Parallel.{NoThreadStarted}
 use Rattle.vx_setup.specs.declared.fault.RunFault.{RunFault}
 use Rattle.vx_serial.specs.Results.{IsSerialOf, EvalFails}
-use Rattle.vx_serial.specs.declared.fault.EvalFault.{EvalFault}
+use Rattle.vx_setup.specs.declared.eval_fault.EvalFault.{EvalFault}
 use Rattle.vx_setup.specs.declared.fault.RunFault.TheVariants as run_fault
-use Rattle.vx_bundle.specs.declared.setting.Mode.TheVariants as mode
+use Rattle.vx_setup.specs.declared.setting.Mode.{Mode}
+use Rattle.vx_setup.specs.declared.setting.Mode.TheVariants as mode
 use Rattle.vx_bundle.specs.declared.command.Command.{Command}
 use Rattle.vx_bundle.specs.declared.command.Command.TheVariants as command
 use Rattle.vx_refusals.specs.declared.refusal.Refusal.{Refusal}
 use Rattle.vx_refusals.specs.declared.refusal.Refusal.TheVariants as refusal
-use Rattle.vx_exchange.specs.ByteRouter.{byte_route}
+use Rattle.vx_plan_nodes.specs.ByteRouter.{byte_route}
 use Rattle.vx_tables.specs.Filled.{IsFilled, IsFirstMissing}
-use Rattle.vx_bundle.specs.Setting.{Setting}
+use Rattle.vx_setup.specs.Setting.{Setting}
 
 -- what tables have of a relation
 abbrev pub Holding : Type 1
@@ -42,22 +44,23 @@ Lacking = Relation → Refusal → Type 0
 abbrev pub refusal_in : TypedPlanView → Option (ℕ × Rule)
 refusal_in p = refusal (relation_at p.names.catalog) p.total (plan_in p.root)
 
--- the setup of a run, from a setting
-abbrev pub setup_of : Setting → SetupView
-setup_of s = record { sizes = s.sizes; packet = s.packet; morsel = s.morsel; slack = s.slack }
-
 -- the text is that of the rows of a run of this plan over this database, set up like this, under the names of the plan's output
 abbrev pub IsRunOver : TypedPlanView → Database → Setting → List ℕ → Type 0
 IsRunOver p db setting text =
-    (rows : RowsView) × (s : Sizes) × IsSetUp p db (setup_of setting) s × IsRunOf byte_route p db s.groups rows × (text ≡ csv_text (columns p.root).names rows.rows)
+    (rows : RowsView) × (s : Sizes) × IsSetUp p db setting.setup s × IsRunOf byte_route p db s.worker_groups rows × (text ≡ csv_text (columns p.root).names rows.rows)
+
+-- the faults that a run in this mode may report besides those of any run
+abbrev pub MayReport : Mode → Reports
+MayReport mode.Rounds = NothingElse
+MayReport mode.Threads = NoThreadStarted
 
 -- why a run of this plan over this database gives no text: it was set up rightly and its rounds were over or its threads were not started, memory ran out,
 -- or it failed
 pub data RunRefuses (p : TypedPlanView) (db : Database) (setting : Setting) (e : Refusal) : Type 0 where
-  for_rounds : setting.mode ≡ mode.Rounds → (s : Sizes) → IsSetUp p db (setup_of setting) s → e ≡ refusal.Unfinished → RunRefuses p db setting e
-  for_threads : setting.mode ≡ mode.Threads → (s : Sizes) → IsSetUp p db (setup_of setting) s → e ≡ refusal.Run run_fault.NoThread → RunRefuses p db setting e
+  for_rounds : setting.mode ≡ mode.Rounds → (s : Sizes) → IsSetUp p db setting.setup s → e ≡ refusal.Unfinished → RunRefuses p db setting e
+  for_threads : setting.mode ≡ mode.Threads → (s : Sizes) → IsSetUp p db setting.setup s → e ≡ refusal.Run run_fault.NoThread → RunRefuses p db setting e
   run_memory : e ≡ refusal.NoMemory → RunRefuses p db setting e
-  for_fault : (fault : RunFault) → e ≡ refusal.Run fault → RunFails p db (setup_of setting) fault → RunRefuses p db setting e
+  for_fault : (fault : RunFault) → e ≡ refusal.Run fault → RunFails p db setting.setup fault → RunRefuses p db setting e
 
 -- a database of a plan's catalog, with the rows that the tables have of what the plan scans
 pub record IsDatabaseFor (p : TypedPlanView) (holds : Holding) (db : Database) : Type 0 where

@@ -5,7 +5,6 @@ use Rattle.vx_relations.specs.Relation.{Relation}
 use Rattle.vx_relations.specs.Naming.{catalog_text}
 use Rattle.vx_relations.specs.Naming as catalog
 use Rattle.vx_relations.specs.declared.fault.CatalogFault.{CatalogFault}
-use Rattle.vx_catalog.specs.Loading.{max_bytes}
 use Rattle.vx_plan_json.specs.Document.{Document}
 use Rattle.vx_plan_json.specs.Fault as plan
 use Rattle.vx_plan_json.specs.declared.fault.PlanFault.{PlanFault}
@@ -17,6 +16,7 @@ use Rattle.vx_bytes.specs.Stored.{Stored, stored_by, IfBytes, MayBeAbsent}
 use Rattle.vx_refusals.specs.declared.refusal.Refusal.{Refusal}
 use Rattle.vx_refusals.specs.declared.refusal.Refusal.TheVariants as refusal
 use Rattle.vx_answer.specs.Planning.{Reading, read_from, IsPlanned, IsPlanRefusal}
+use Rattle.vx_values.specs.Limits.{max_text_bytes}
 
 -- the path of standard input
 abbrev pub is_input : List ℕ → Bool
@@ -48,11 +48,11 @@ IsFilesPlan files input paths p = IsPlanned (catalog_at files input paths) (plan
 
 -- a reader failed, or had too many bytes, as far as its bytes are known
 abbrev pub IsUnread : Option (List ℕ) → Bool → Type 0
-IsUnread known failed = (failed ≡ true) ⊎ IsOver max_bytes known
+IsUnread known failed = (failed ≡ true) ⊎ IsOver max_text_bytes known
 
 -- why a file is unreadable: it is not there, reading it may fail, or it is too long
 abbrev pub IsUnreadable : Stored → Bool → Type 0
-IsUnreadable file reliable = MayBeAbsent file ⊎ (reliable ≡ false) ⊎ IfBytes file (λ bytes. max_bytes < length bytes)
+IsUnreadable file reliable = MayBeAbsent file ⊎ (reliable ≡ false) ⊎ IfBytes file (λ bytes. max_text_bytes < length bytes)
 
 -- why a file has no bytes: it is unreadable, or memory ran out
 pub data IsFileRefusal (file : Stored) (reliable : Bool) (path : List ℕ) (e : Refusal) : Type 0 where

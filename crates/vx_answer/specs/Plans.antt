@@ -12,7 +12,7 @@ use Rattle.vx_plan_json.specs.Reading.{document_of_text}
 use Rattle.vx_plan_nodes.specs.Names.{TypedPlanView}
 use Rattle.vx_plan_nodes.specs.Outline.{plan_in}
 use Rattle.vx_arguments.specs.Asked.{ManyPaths}
-use Rattle.vx_bundle.specs.Setting.{Setting}
+use Rattle.vx_setup.specs.Setting.{Setting}
 use Rattle.vx_bytes.specs.Stored.{Stored}
 use Rattle.vx_refusals.specs.declared.refusal.Refusal.{Refusal}
 use Rattle.vx_refusals.specs.declared.refusal.Refusal.TheVariants as refusal

@@ -1,20 +1,20 @@
 -- Statistics of runs: which arguments ask for them, and what standard error gets behind the rows. `files` and `input` are as in `Files`.
-use Rattle.std.specs.Prelude.{◌≡◌, ℕ, ◌++◌, List, [], ◌∷◌, map, Bool, true, false, Option, option_and_then, Ok, length, codes}
+use Rattle.std.specs.Prelude.{◌≡◌, ℕ, ◌++◌, List, [], ◌∷◌, map, Bool, true, false, Option, option_and_then, Result, Ok, length, codes}
 use Rattle.vx_arguments.specs.Asked.{Ask, ManyPaths, Given, run, run_plans, stats_by}
 use Rattle.vx_bundle.specs.declared.command.Command.TheVariants as command
-use Rattle.vx_bundle.specs.declared.setting.Mode.{Mode}
-use Rattle.vx_bundle.specs.declared.setting.Mode.TheVariants as mode
-use Rattle.vx_bundle.specs.Setting.{Setting}
+use Rattle.vx_setup.specs.declared.setting.Mode.{Mode}
+use Rattle.vx_setup.specs.declared.setting.Mode.TheVariants as mode
+use Rattle.vx_setup.specs.Setting.{Setting}
 use Rattle.vx_bytes.specs.Stored.{Stored}
 use Rattle.vx_catalog.specs.Csv.{csv_text}
 use Rattle.vx_catalog.specs.Database.{Database}
 use Rattle.vx_check_rules.specs.CheckedView.{typed_plan}
-use Rattle.vx_exchange.specs.ByteRouter.{byte_route}
+use Rattle.vx_plan_nodes.specs.ByteRouter.{byte_route}
 use Rattle.vx_exec.specs.Runs.{IsRunOf, IsSetUp, CountedInRounds}
 use Rattle.vx_exec.specs.Sizes.{run_model, Sizes}
 use Rattle.vx_exec.specs.declared.counted.WorkerCounts.{WorkerCounts}
-use Rattle.vx_exec.specs.declared.ran.Ran.{Ran}
-use Rattle.vx_exec.specs.declared.ran.Ran.TheVariants as ran
+use Rattle.vx_exec.specs.declared.ran.RunOutcome.{RunOutcome}
+use Rattle.vx_exec.specs.declared.ran.RunOutcome.TheVariants as run_outcome
 use Rattle.vx_parallel.specs.Parallel.{CountedByThreads}
 use Rattle.vx_plan_nodes.specs.Outline.{columns}
 use Rattle.vx_plan_nodes.specs.TypedView.{scope, plan as whole_plan, resolved_of}
@@ -25,16 +25,17 @@ use Rattle.vx_stats.specs.Phases.{phases_of}
 use Rattle.vx_stats.specs.Loads.{relations_of}
 use Rattle.vx_stats.specs.declared.loads.LoadTime.{LoadTime}
 use Rattle.vx_stats.specs.Text.{plan_text, lone_text, shared_text, write_end}
-use Rattle.vx_stats.specs.declared.phases.Phase.{Phase}
-use Rattle.vx_stats.specs.declared.phases.Phase.TheVariants as phase
+use Rattle.vx_stats.specs.declared.phases.WorkPhase.{WorkPhase}
+use Rattle.vx_stats.specs.declared.phases.WorkPhase.TheVariants as work_phase
 use Rattle.vx_stats.specs.declared.phases.PhaseTime.{PhaseTime}
 use Rattle.vx_stats.specs.declared.text.StatsForm.{StatsForm}
 use Rattle.vx_stats.specs.declared.text.StatsForm.TheVariants as form
+use Rattle.vx_setup.specs.declared.fault.RunFault.{RunFault}
 use Rattle.vx_tables.specs.Filled.{scans, scanned_below}
 use Rattle.vx_tables.specs.Folder.{holds_at}
 use Rattle.vx_answer.specs.Arguments.{IsSetting}
 use Rattle.vx_answer.specs.CommandLine.{FileCommand, IsTask, with_program_name, AsksFor}
-use Rattle.vx_answer.specs.Commands.{Holding, setup_of, IsShown, IsDatabaseFor}
+use Rattle.vx_answer.specs.Commands.{Holding, IsShown, IsDatabaseFor}
 use Rattle.vx_answer.specs.Files.{IsFilesPlan}
 use Rattle.vx_answer.specs.Plans.{ArePlansAt, IsLoadedFor, any_scans, title}
 use Rattle.vx_answer.specs.PlansView.{named_is}
@@ -51,8 +52,8 @@ stats_asked arguments = stats_of_word (stats_by (with_program_name arguments))
 
 -- what is asked for is a run, or several
 abbrev pub is_run : Ask → Bool
-is_run (run paths folder limits) = true
-is_run (run_plans paths folder limits) = true
+is_run (run paths folder given) = true
+is_run (run_plans paths folder given) = true
 is_run _ = false
 
 -- at most so many rounds
@@ -60,25 +61,25 @@ abbrev pub most_rounds : ℕ
 most_rounds = 1000000000
 
 -- the workers of a run in this mode, which came to this, counted this in the end
-abbrev pub CountedIn : Mode → TypedPlan → Database → Sizes → Ran → List WorkerCounts → Type 0
-CountedIn mode.Rounds p db s r ws = CountedInRounds byte_route (run_model byte_route p db s) (whole_plan p) most_rounds (Ok r) ws
-CountedIn mode.Threads p db s r ws = CountedByThreads byte_route (run_model byte_route p db s) (whole_plan p) (Ok r) ws
+abbrev pub CountedIn : Mode → TypedPlan → Database → Sizes → Result RunOutcome RunFault → List WorkerCounts → Type 0
+CountedIn mode.Rounds p db s result ws = CountedInRounds byte_route (run_model byte_route p db s) (whole_plan p) most_rounds result ws
+CountedIn mode.Threads p db s result ws = CountedByThreads byte_route (run_model byte_route p db s) (whole_plan p) result ws
 
 -- the text is that of the rows of a run of this plan over this database, as in `IsRunOver`, and the workers of that run counted this
 pub record IsCountedRun (p : TypedPlan) (db : Database) (setting : Setting) (text : List ℕ) (ws : List WorkerCounts) : Type 0 where
   pub rows : RowsView
   pub sizes : Sizes
-  pub set : IsSetUp (resolved_of p) db (setup_of setting) sizes
-  pub run : IsRunOf byte_route (resolved_of p) db sizes.groups rows
+  pub set : IsSetUp (resolved_of p) db setting.setup sizes
+  pub run : IsRunOf byte_route (resolved_of p) db sizes.worker_groups rows
   pub is : text ≡ csv_text (columns (resolved_of p).root).names rows.rows
-  pub counted : CountedIn setting.mode p db sizes (ran.Done rows) ws
+  pub counted : CountedIn setting.mode p db sizes (Ok (run_outcome.Done rows)) ws
 
 -- the phases of what several plans have in common, before the write
-abbrev pub shared_phases : List Phase
-shared_phases = phase.Catalog ∷ phase.Plans ∷ phase.Load ∷ []
+abbrev pub shared_phases : List WorkPhase
+shared_phases = work_phase.Catalog ∷ work_phase.Plans ∷ work_phase.Load ∷ []
 
 -- statistics, up to the time of the write, of a counted run of this plan over the tables, with this text; these phases came before, and each relation that the plan scans was loaded
-pub record IsCountedPlan (f : StatsForm) (p : TypedPlan) (holds : Holding) (setting : Setting) (before : List Phase) (text opening : List ℕ) : Type 0 where
+pub record IsCountedPlan (f : StatsForm) (p : TypedPlan) (holds : Holding) (setting : Setting) (before : List WorkPhase) (text opening : List ℕ) : Type 0 where
   pub db : Database
   pub counts : List WorkerCounts
   pub loads : List LoadTime
@@ -86,7 +87,7 @@ pub record IsCountedPlan (f : StatsForm) (p : TypedPlan) (holds : Holding) (sett
   pub loaded : IsDatabaseFor (resolved_of p) holds db
   pub each : relations_of loads ≡ scanned_below (scans (whole_plan p)) (length (scope p).catalog)
   pub run : IsCountedRun p db setting text counts
-  pub phases : phases_of times ≡ before ++ (phase.Load ∷ phase.Run ∷ [])
+  pub phases : phases_of times ≡ before ++ (work_phase.Load ∷ work_phase.Run ∷ [])
   pub is : opening ≡ lone_text f p counts loads times
 
 -- the same of a run that arguments ask for: the phases are read, plan, check, load and run
@@ -94,7 +95,7 @@ pub record AreTaskStats (files : List ℕ → Stored) (input : Option (List ℕ)
   pub plan : TypedPlan
   pub planned : IsFilesPlan files input t.paths (resolved_of plan)
   pub shown : IsShown (resolved_of plan)
-  pub counted : IsCountedPlan f plan (holds_at files t.folder) t.setting (phase.Read ∷ phase.Plan ∷ phase.Check ∷ []) text opening
+  pub counted : IsCountedPlan f plan (holds_at files t.folder) t.setting (work_phase.Read ∷ work_phase.Plan ∷ work_phase.Check ∷ []) text opening
 
 -- to a text and to statistics came those of one more counted run, each behind the line with its path
 pub record IsRunMore (f : StatsForm) (db : Database) (setting : Setting) (n : AcceptedPlan) (text stats grown reported : List ℕ) : Type 0 where
@@ -102,7 +103,7 @@ pub record IsRunMore (f : StatsForm) (db : Database) (setting : Setting) (n : Ac
   pub counts : List WorkerCounts
   pub time : PhaseTime
   pub run : IsCountedRun (typed_plan n.plan) db setting own counts
-  pub timed : time.phase ≡ phase.Run
+  pub timed : time.phase ≡ work_phase.Run
   pub text_is : grown ≡ text ++ (title n.path.now ++ own)
   pub stats_are : reported ≡ stats ++ (title n.path.now ++ plan_text f (typed_plan n.plan) counts time)
 
@@ -131,7 +132,7 @@ pub record ArePlansStats (files : List ℕ → Stored) (input : Option (List ℕ
 -- statistics, up to the time of the write, of the runs that are asked for, with this text
 pub data AreAskStats (files : List ℕ → Stored) (input : Option (List ℕ)) (f : StatsForm) (ask : Ask) (text opening : List ℕ) : Type 0 where
   for_one : (t : FileCommand) → IsTask ask t → t.command ≡ command.Run → AreTaskStats files input f t text opening → AreAskStats files input f ask text opening
-  for_several : (paths : ManyPaths) (folder : List ℕ) (limits : Given) (s : Setting) → ask ≡ run_plans paths folder limits → IsSetting limits s → ArePlansStats files input f paths folder s text opening
+  for_several : (paths : ManyPaths) (folder : List ℕ) (given : Given) (s : Setting) → ask ≡ run_plans paths folder given → IsSetting given s → ArePlansStats files input f paths folder s text opening
       → AreAskStats files input f ask text opening
 
 -- the same of what arguments ask for

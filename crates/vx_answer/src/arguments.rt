@@ -2,12 +2,12 @@
 
 ghost use Rattle.std.specs.Prelude.{◌≡◌, map, MatchOption, IfOk};
 ghost use Rattle.vx_arguments.specs.Asked.{given_is};
-ghost use Rattle.vx_bundle.specs.Setting.{size_form};
+ghost use Rattle.vx_setup.specs.Setup.{entry_of};
 ghost use Rattle.vx_answer.specs.Arguments.{Numbers, mode_named, IsSize, IsNoSize, AreSizes, HasNoSize, IsSetting, IsNoSetting};
 
 use std::alloc::{AllocError, Global};
-use vx_arguments::Limits;
-use vx_bundle::{Mode, Setting};
+use vx_arguments::RunArguments;
+use vx_setup::{Mode, Setting, Setup};
 
 // The number of 32 bits that a text is.
 fn number_in(text: &str) -> Option<u32>
@@ -29,7 +29,7 @@ fn mode_named(text: &str) -> Option<Mode>
 
 // The name and the number of an argument NAME=N.
 fn size_in(alloc: Global, argument: &str) -> Result<Option<(String, u32)>, AllocError>
-    ensures { IfOk result (λ o. MatchOption o (IsNoSize argument.now) (λ z. IsSize argument.now (size_form z))) }
+    ensures { IfOk result (λ o. MatchOption o (IsNoSize argument.now) (λ z. IsSize argument.now (entry_of z))) }
 {
     let Some((name, number)) = argument.rsplit_once('=') else {
         return Ok(None);
@@ -42,7 +42,7 @@ fn size_in(alloc: Global, argument: &str) -> Result<Option<(String, u32)>, Alloc
 
 // The names and the numbers of arguments NAME=N.
 fn sizes_in(alloc: Global, arguments: &[&str]) -> Result<Option<Vec<(String, u32)>>, AllocError>
-    ensures { IfOk result (λ o. MatchOption o (HasNoSize (map (λ a. a.now) arguments.now)) (λ v. AreSizes (map (λ a. a.now) arguments.now) (map size_form v.items))) }
+    ensures { IfOk result (λ o. MatchOption o (HasNoSize (map (λ a. a.now) arguments.now)) (λ v. AreSizes (map (λ a. a.now) arguments.now) (map entry_of v.items))) }
 {
     let mut sizes = Vec::new(alloc);
     for argument in arguments {
@@ -55,23 +55,26 @@ fn sizes_in(alloc: Global, arguments: &[&str]) -> Result<Option<Vec<(String, u32
 }
 
 /// How arguments set a run up, if they do.
-pub fn setting_in(alloc: Global, limits: &Limits<'_>) -> Result<Option<Setting>, AllocError>
-    ensures { IfOk result (λ o. MatchOption o (IsNoSetting (given_is limits.now)) (λ s. IsSetting (given_is limits.now) s)) }
+pub fn setting_in(alloc: Global, given: &RunArguments<'_>) -> Result<Option<Setting>, AllocError>
+    ensures { IfOk result (λ o. MatchOption o (IsNoSetting (given_is given.now)) (λ s. IsSetting (given_is given.now) s)) }
 {
-    let Some(packet) = number_in(limits.packet) else {
+    let Some(packet) = number_in(given.packet) else {
         return Ok(None);
     };
-    let Some(morsel) = number_in(limits.morsel) else {
+    let Some(morsel) = number_in(given.morsel) else {
         return Ok(None);
     };
-    let Some(slack) = number_in(limits.slack) else {
+    let Some(slack) = number_in(given.slack) else {
         return Ok(None);
     };
-    let Some(mode) = mode_named(limits.mode) else {
+    let Some(mode) = mode_named(given.mode) else {
         return Ok(None);
     };
-    match sizes_in(alloc, limits.sizes.as_slice())? {
-        Some(sizes) => Ok(Some(Setting::new(sizes, packet, morsel, slack, mode))),
+    match sizes_in(alloc, given.sizes.as_slice())? {
+        Some(sizes) => {
+            let setup = Setup::new(sizes, packet, morsel, slack);
+            Ok(Some(Setting::new(setup, mode)))
+        }
         None => Ok(None),
     }
 }

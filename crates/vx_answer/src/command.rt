@@ -10,11 +10,12 @@ use crate::serial::serial_plan;
 use std::alloc::Global;
 use std::sync::Wait;
 use std::thread::Threads;
-use vx_bundle::{Command, Setting};
+use vx_bundle::Command;
 use vx_check::{CheckedPlan, accepted_text, check, explain};
 use vx_plan::TypedPlan;
 use vx_refusals::Refusal;
 use vx_seeds::KeySeed;
+use vx_setup::Setting;
 use vx_tables::Tables;
 
 /// A plan, once the checker has accepted it.

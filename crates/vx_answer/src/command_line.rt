@@ -15,7 +15,7 @@ use crate::annotating::annotated_plan;
 use crate::arguments::setting_in;
 use crate::command::execute;
 use crate::counting::answer_counted;
-use crate::failing::{Verdict, verdict_on};
+use crate::failing::{Findings, verdict_on};
 use crate::files::{bytes_at, document_from_files, is_input, plan_from_files};
 use crate::forms::{PlanForm, form_named, plan_in_form};
 use crate::loading::loading_threads;
@@ -23,19 +23,20 @@ use crate::plans::{accepted_plans, catalog_under};
 use crate::program::outcome_of;
 use crate::runs::{Stopped, run_each};
 use crate::statement::{dialect_named, statement};
-use crate::stats::{Counted, stats_named};
+use crate::stats::{CountedText, stats_named};
 use clap::Error;
 use clap::error::ErrorKind;
 use std::alloc::{AllocError, Global};
 use std::sync::Wait;
 use std::thread::Threads;
 use std::time::Clock;
-use vx_arguments::{Asked, Limits, ManySources, Request, Sources, asked_for};
-use vx_bundle::{Command, MORSEL, Mode, PACKET, SLACK, Setting};
+use vx_arguments::{Asked, ManySources, Request, RunArguments, Sources, asked_for};
+use vx_bundle::Command;
 use vx_bytes::{ByteIn, Store};
 use vx_drawing::{DrawFault, draw};
 use vx_refusals::Refusal;
 use vx_seeds::KeySeed;
+use vx_setup::{DEFAULT_MORSEL_ROWS, DEFAULT_PACKET_ROWS, DEFAULT_SLACK, Mode, Setting, Setup};
 use vx_sql::Dialect;
 use vx_stats::operator_words;
 use vx_tables::{Folder, Unobserved, load_scanned_in_threads};
@@ -60,7 +61,7 @@ pub struct FilePlans<'a> {
 
 /// What arguments ask for, with its values.
 #[derive(Drop)]
-enum Job<'a> {
+enum AskedJob<'a> {
     /// The answer to a bundle on standard input.
     Bundle,
     Command(FileCommand<'a>),
@@ -89,7 +90,7 @@ pub enum ArgumentAnswer {
     /// The text of the relation with so many rows, which is still to be made.
     Relation(u64),
     /// A finished text, and statistics that follow it.
-    Counted(Counted),
+    Counted(CountedText),
 }
 
 /// Why arguments have no answer.
@@ -143,7 +144,13 @@ impl From<AllocError> for ArgumentFault {
 fn default_setting(alloc: Global) -> Setting
     ensures { result ≡ default_setting }
 {
-    Setting::new(Vec::new(alloc), PACKET, MORSEL, SLACK, Mode::Rounds)
+    let setup = Setup::new(
+        Vec::new(alloc),
+        DEFAULT_PACKET_ROWS,
+        DEFAULT_MORSEL_ROWS,
+        DEFAULT_SLACK,
+    );
+    Setting::new(setup, Mode::Rounds)
 }
 
 // A command that needs no more than a catalog and a plan, or a folder of tables too.
@@ -168,11 +175,11 @@ fn run_task<'a>(
     alloc: Global,
     sources: Sources<'a>,
     folder: &'a str,
-    limits: &Limits<'a>,
+    given: &RunArguments<'a>,
 ) -> Result<Option<FileCommand<'a>>, AllocError>
-    ensures { IfOk result (λ o. MatchOption o (IsNoSetting (given_is limits.now)) (λ t. IsTask (run (paths_are sources.entry) folder.entry.now (given_is limits.now)) (task_is t))) }
+    ensures { IfOk result (λ o. MatchOption o (IsNoSetting (given_is given.now)) (λ t. IsTask (run (paths_are sources.entry) folder.entry.now (given_is given.now)) (task_is t))) }
 {
-    match setting_in(alloc, limits)? {
+    match setting_in(alloc, given)? {
         Some(setting) => Ok(Some(FileCommand {
             command: Command::Run,
             sources,
@@ -188,11 +195,11 @@ fn plans_task<'a>(
     alloc: Global,
     sources: &ManySources<'a>,
     folder: &'a str,
-    limits: &Limits<'a>,
+    given: &RunArguments<'a>,
 ) -> Result<Option<FilePlans<'a>>, AllocError>
-    ensures { IfOk result (λ o. MatchOption o (IsNoSetting (given_is limits.now)) (λ t. IsPlansTask (run_plans (many_are sources.now) folder.entry.now (given_is limits.now)) t)) }
+    ensures { IfOk result (λ o. MatchOption o (IsNoSetting (given_is given.now)) (λ t. IsPlansTask (run_plans (many_are sources.now) folder.entry.now (given_is given.now)) t)) }
 {
-    let Some(setting) = setting_in(alloc, limits)? else {
+    let Some(setting) = setting_in(alloc, given)? else {
         return Ok(None);
     };
     let plans = Vec::from_slice(alloc, sources.plans.as_slice())?;
@@ -205,70 +212,70 @@ fn plans_task<'a>(
 }
 
 // What explaining a plan in the format of this name is.
-fn explain_job<'a>(alloc: Global, sources: Sources<'a>, format: &str) -> Option<Job<'a>>
+fn explain_job<'a>(alloc: Global, sources: Sources<'a>, format: &str) -> Option<AskedJob<'a>>
     ensures { MatchOption result (IsNoTask (explain (paths_are sources.entry) format.now)) (λ j. IsJob (explain (paths_are sources.entry) format.now) j) }
 {
     if format == "text" {
         let task = plain_task(alloc, Command::Explain, sources, "");
-        return Some(Job::Command(task));
+        return Some(AskedJob::Command(task));
     }
     match form_named(format) {
-        Some(form) => Some(Job::Form(form, sources)),
+        Some(form) => Some(AskedJob::Form(form, sources)),
         None => None,
     }
 }
 
 // What printing a plan in the SQL of the dialect of this name is.
-fn sql_job<'a>(sources: Sources<'a>, dialect: &str) -> Option<Job<'a>>
+fn sql_job<'a>(sources: Sources<'a>, dialect: &str) -> Option<AskedJob<'a>>
     ensures { MatchOption result (IsNoTask (sql (paths_are sources.entry) dialect.now)) (λ j. IsJob (sql (paths_are sources.entry) dialect.now) j) }
 {
     match dialect_named(dialect) {
-        Some(dialect) => Some(Job::Statement(dialect, sources)),
+        Some(dialect) => Some(AskedJob::Statement(dialect, sources)),
         None => None,
     }
 }
 
 // What printing the meaning of a code is.
-fn why_job<'a>(code: &str) -> Option<Job<'a>>
+fn why_job<'a>(code: &str) -> Option<AskedJob<'a>>
     ensures { MatchOption result (IsNoTask (why code.now)) (λ j. IsJob (why code.now) j) }
 {
     match entry(code) {
-        Some(text) => Some(Job::Entry(text)),
+        Some(text) => Some(AskedJob::Entry(text)),
         None => None,
     }
 }
 
 // The job that is asked for: `None` if the arguments set no run up.
-fn job_in<'a>(alloc: Global, asked: &Asked<'a>) -> Result<Option<Job<'a>>, AllocError>
+fn job_in<'a>(alloc: Global, asked: &Asked<'a>) -> Result<Option<AskedJob<'a>>, AllocError>
     ensures { IfOk result (λ o. MatchOption o (IsNoTask (asked_is asked.now)) (λ j. IsJob (asked_is asked.now) j)) }
 {
     match asked {
-        Asked::Bundle => Ok(Some(Job::Bundle)),
+        Asked::Bundle => Ok(Some(AskedJob::Bundle)),
         Asked::Check(sources) => {
             let task = plain_task(alloc, Command::Check, *sources, "");
-            Ok(Some(Job::Command(task)))
+            Ok(Some(AskedJob::Command(task)))
         }
-        Asked::CheckAll(sources) => Ok(Some(Job::Verdict(*sources))),
-        Asked::Annotate(sources) => Ok(Some(Job::Annotation(*sources))),
+        Asked::CheckAll(sources) => Ok(Some(AskedJob::Verdict(*sources))),
+        Asked::Annotate(sources) => Ok(Some(AskedJob::Annotation(*sources))),
         Asked::Explain(sources, format) => Ok(explain_job(alloc, *sources, format)),
-        Asked::Draw(sources, stats) => Ok(Some(Job::Drawing(*sources, *stats))),
+        Asked::Draw(sources, stats) => Ok(Some(AskedJob::Drawing(*sources, *stats))),
         Asked::Sql(sources, dialect) => Ok(sql_job(*sources, dialect)),
         Asked::Why(code) => Ok(why_job(code)),
         Asked::Serial(sources, folder) => {
             let task = plain_task(alloc, Command::Serial, *sources, *folder);
-            Ok(Some(Job::Command(task)))
+            Ok(Some(AskedJob::Command(task)))
         }
-        Asked::Run(sources, folder, limits) => match run_task(alloc, *sources, *folder, limits)? {
-            Some(task) => Ok(Some(Job::Command(task))),
+        Asked::Run(sources, folder, given) => match run_task(alloc, *sources, *folder, given)? {
+            Some(task) => Ok(Some(AskedJob::Command(task))),
             None => Ok(None),
         },
-        Asked::RunPlans(sources, folder, limits) => {
-            match plans_task(alloc, sources, *folder, limits)? {
-                Some(task) => Ok(Some(Job::Plans(task))),
+        Asked::RunPlans(sources, folder, given) => {
+            match plans_task(alloc, sources, *folder, given)? {
+                Some(task) => Ok(Some(AskedJob::Plans(task))),
                 None => Ok(None),
             }
         }
-        Asked::Generate(rows) => Ok(Some(Job::Relation(*rows))),
+        Asked::Generate(rows) => Ok(Some(AskedJob::Relation(*rows))),
     }
 }
 
@@ -431,8 +438,8 @@ fn answer_verdict<F: Store, I: ByteIn>(
 {
     let plan = plan_from_files(alloc, files, input, sources)?;
     match verdict_on(alloc, &plan)? {
-        Verdict::Accepted(text) => Ok(ArgumentAnswer::Text(text)),
-        Verdict::Failing(lines) => Err(ArgumentFault::Failing(lines)),
+        Findings::Accepted(text) => Ok(ArgumentAnswer::Text(text)),
+        Findings::Failing(lines) => Err(ArgumentFault::Failing(lines)),
     }
 }
 
@@ -479,34 +486,36 @@ pub fn answer_asked<T: Threads + Wait + Sync, F: Store, I: ByteIn>(
     ensures refused { IfErr result (IsAskFault (F.holds files.now) (F.is_reliable files.now) (I.remaining input.old) (I.has_failed input.new) (asked_is asked.now)) }
 {
     match job_in(alloc, asked)? {
-        Some(Job::Bundle) => Ok(ArgumentAnswer::Text(outcome_of(rt, alloc, seed, input)?)),
-        Some(Job::Command(task)) => {
+        Some(AskedJob::Bundle) => Ok(ArgumentAnswer::Text(outcome_of(rt, alloc, seed, input)?)),
+        Some(AskedJob::Command(task)) => {
             let text = answer_task(rt, alloc, threads, seed, files, input, &task)?;
             Ok(ArgumentAnswer::Text(text))
         }
-        Some(Job::Verdict(sources)) => answer_verdict(alloc, files, input, sources),
-        Some(Job::Annotation(sources)) => {
+        Some(AskedJob::Verdict(sources)) => answer_verdict(alloc, files, input, sources),
+        Some(AskedJob::Annotation(sources)) => {
             let text = answer_annotation(alloc, files, input, sources)?;
             Ok(ArgumentAnswer::Text(text))
         }
-        Some(Job::Form(form, sources)) => {
+        Some(AskedJob::Form(form, sources)) => {
             let text = answer_form(alloc, files, input, form, sources)?;
             Ok(ArgumentAnswer::Text(text))
         }
-        Some(Job::Drawing(sources, stats)) => answer_drawing(alloc, files, input, sources, stats),
-        Some(Job::Statement(dialect, sources)) => {
+        Some(AskedJob::Drawing(sources, stats)) => answer_drawing(
+            alloc, files, input, sources, stats,
+        ),
+        Some(AskedJob::Statement(dialect, sources)) => {
             let text = answer_statement(alloc, files, input, dialect, sources)?;
             Ok(ArgumentAnswer::Text(text))
         }
-        Some(Job::Plans(task)) => {
+        Some(AskedJob::Plans(task)) => {
             let text = answer_plans(rt, alloc, threads, seed, files, input, &task)?;
             Ok(ArgumentAnswer::Text(text))
         }
-        Some(Job::Entry(text)) => {
+        Some(AskedJob::Entry(text)) => {
             let text = Vec::from_slice(alloc, text.as_bytes())?;
             Ok(ArgumentAnswer::Text(text))
         }
-        Some(Job::Relation(rows)) => Ok(ArgumentAnswer::Relation(rows)),
+        Some(AskedJob::Relation(rows)) => Ok(ArgumentAnswer::Relation(rows)),
         None => Err(usage_error(alloc, usage_text(asked))),
     }
 }

@@ -14,17 +14,17 @@ use crate::command_line::{ArgumentAnswer, ArgumentFault, answer_asked, usage_err
 use crate::files::is_input;
 use crate::plans::{AcceptedPlan, accepted_plans, catalog_under};
 use crate::runs::Stopped;
-use crate::stats::{Counted, add_counted_run, counted_task};
+use crate::stats::{CountedText, add_counted_run, counted_task};
 use std::alloc::Global;
 use std::sync::Wait;
 use std::thread::Threads;
 use std::time::Clock;
 use vx_arguments::{Asked, ManySources};
-use vx_bundle::Setting;
 use vx_bytes::{ByteIn, Store};
 use vx_catalog::Database;
 use vx_seeds::KeySeed;
-use vx_stats::{LoadTimer, Phase, StatsForm, Timer, push_shared};
+use vx_setup::Setting;
+use vx_stats::{LoadTimer, StatsForm, Timer, WorkPhase, push_shared};
 use vx_tables::{Folder, load_scanned_in_threads};
 
 // The texts of runs of plans over one database, each behind a line with the path of its plan, and their statistics. The first plan
@@ -38,7 +38,7 @@ fn count_each<T: Threads + Wait + Sync, C: Clock>(
     setting: &Setting,
     plans: &[AcceptedPlan<'_>],
     database: &Database,
-) -> Result<Counted, Stopped>
+) -> Result<CountedText, Stopped>
     ensures form { IfOk result (λ k. k.form ≡ form) }
     ensures stats { IfOk result (λ k. AreCountedRuns form database.now setting.now plans.now k.text.items (string_bytes k.opening)) }
     ensures stopped { IfErr result (λ s. StopsAt (λ p own. IsRunOver p database.now setting.now own) (λ p e. RunRefuses p database.now setting.now e) (map named_is plans.now) s.text.items s.refusal) }
@@ -62,7 +62,7 @@ fn count_each<T: Threads + Wait + Sync, C: Clock>(
             Err(refusal) => return Err(Stopped { text, refusal }),
         }
     }
-    Ok(Counted {
+    Ok(CountedText {
         text,
         form,
         opening,
@@ -82,18 +82,18 @@ fn counted_plans<T: Threads + Wait + Sync, C: Clock, F: Store, I: ByteIn>(
     sources: &ManySources<'_>,
     folder: &str,
     setting: &Setting,
-) -> Result<Counted, ArgumentFault>
+) -> Result<CountedText, ArgumentFault>
     ensures form { IfOk result (λ k. k.form ≡ form) }
     ensures stats { IfOk result (λ k. ArePlansStats (F.holds files.now) (I.remaining input.old) form (many_are sources.now) folder.now setting.now k.text.items (string_bytes k.opening)) }
     ensures refused { IfErr result (IsPlansFault (F.holds files.now) (F.is_reliable files.now) (I.remaining input.old) (I.has_failed input.new) (many_are sources.now) folder.now setting.now) }
 {
     let mut timer = Timer::start(alloc, clock);
     let catalog = catalog_under(alloc, files, input, sources.catalog)?;
-    timer.end(clock, Phase::Catalog)?;
+    timer.end(clock, WorkPhase::Catalog)?;
     let was_read = is_input(sources.catalog);
     let paths = sources.plans.as_slice();
     let plans = accepted_plans(alloc, files, input, was_read, &catalog, paths)?;
-    timer.end(clock, Phase::Plans)?;
+    timer.end(clock, WorkPhase::Plans)?;
     let tables = Folder {
         files,
         path: folder,
@@ -102,7 +102,7 @@ fn counted_plans<T: Threads + Wait + Sync, C: Clock, F: Store, I: ByteIn>(
     let database = load_scanned_in_threads(
         rt, alloc, threads, seed, &catalog, &plans, &tables, &mut loads,
     )?;
-    timer.end(clock, Phase::Load)?;
+    timer.end(clock, WorkPhase::Load)?;
     let mut counted = count_each(
         rt,
         clock,
@@ -142,8 +142,8 @@ pub fn answer_counted<T: Threads + Wait + Sync, C: Clock, F: Store, I: ByteIn>(
     ensures refused { IfErr result (IsAskFault (F.holds files.now) (F.is_reliable files.now) (I.remaining input.old) (I.has_failed input.new) (asked_is asked.now)) }
 {
     match asked {
-        Asked::Run(sources, folder, limits) => {
-            let Some(setting) = setting_in(alloc, limits)? else {
+        Asked::Run(sources, folder, given) => {
+            let Some(setting) = setting_in(alloc, given)? else {
                 return Err(usage_error(alloc, usage_text(asked)));
             };
             let counted = counted_task(
@@ -151,8 +151,8 @@ pub fn answer_counted<T: Threads + Wait + Sync, C: Clock, F: Store, I: ByteIn>(
             )?;
             Ok(ArgumentAnswer::Counted(counted))
         }
-        Asked::RunPlans(sources, folder, limits) => {
-            let Some(setting) = setting_in(alloc, limits)? else {
+        Asked::RunPlans(sources, folder, given) => {
+            let Some(setting) = setting_in(alloc, given)? else {
                 return Err(usage_error(alloc, usage_text(asked)));
             };
             let counted = counted_plans(

@@ -11,7 +11,7 @@ use vx_plan::TypedPlan;
 
 /// What the checker says of all nodes of a plan.
 #[derive(Drop)]
-pub enum Verdict {
+pub enum Findings {
     /// Each note follows. With the text that says so.
     Accepted(Vec<u8>),
     /// A line for each node of which a claim does not follow.
@@ -19,11 +19,11 @@ pub enum Verdict {
 }
 
 /// What the checker says of all nodes of a plan.
-pub fn verdict_on(alloc: Global, plan: &TypedPlan) -> Result<Verdict, AllocError>
+pub fn verdict_on(alloc: Global, plan: &TypedPlan) -> Result<Findings, AllocError>
     ensures { IfOk result (IsVerdict (resolved_of plan.now)) }
 {
     match report(alloc, plan)? {
-        None => Ok(Verdict::Accepted(accepted_text(alloc, plan.is_total())?)),
-        Some(lines) => Ok(Verdict::Failing(lines)),
+        None => Ok(Findings::Accepted(accepted_text(alloc, plan.is_total())?)),
+        Some(lines) => Ok(Findings::Failing(lines)),
     }
 }

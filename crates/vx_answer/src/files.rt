@@ -8,13 +8,13 @@ ghost use Rattle.vx_bytes.specs.Stored.{IfBytes};
 ghost use Rattle.vx_plan_json.specs.PlanView.{document_of};
 ghost use Rattle.vx_answer.specs.Files.{is_input, left_of, known_at, IsFileRefusal, IsInputRefusal, IsReadRefusal, AreRead, AreNotRead, IsFilesPlan, IsFilesRefusal};
 
-use crate::program::MAX_BYTES;
 use std::alloc::Global;
 use vx_arguments::Sources;
 use vx_bytes::{ByteIn, ReadFault, Store, read_all};
 use vx_catalog::Catalog;
 use vx_plan::{Plan, TypedPlan, resolve};
 use vx_refusals::Refusal;
+use vx_values::limits::MAX_TEXT_BYTES;
 
 // The path of standard input.
 const INPUT: &str = "-";
@@ -36,7 +36,7 @@ fn file_bytes<F: Store>(alloc: Global, files: &F, path: &str) -> Result<Vec<u8>,
         Some(file) => file,
         None => return Err(Refusal::FileUnreadable { path: name }),
     };
-    match read_all(alloc, &mut file, MAX_BYTES) {
+    match read_all(alloc, &mut file, MAX_TEXT_BYTES) {
         Ok(bytes) => Ok(bytes),
         Err(ReadFault::NoMemory) => Err(Refusal::NoMemory),
         Err(ReadFault::Broken) => Err(Refusal::FileUnreadable { path: name }),
@@ -50,7 +50,7 @@ pub fn input_bytes<I: ByteIn>(alloc: Global, input: &mut I) -> Result<Vec<u8>, R
     ensures refused { IfErr result (IsInputRefusal (I.remaining input.old) (I.has_failed input.new)) }
     ensures broken { I.has_failed input.new ≡ true → IsErrOf result Refusal.InputUnreadable }
 {
-    match read_all(alloc, input, MAX_BYTES) {
+    match read_all(alloc, input, MAX_TEXT_BYTES) {
         Ok(bytes) => Ok(bytes),
         Err(ReadFault::NoMemory) => Err(Refusal::NoMemory),
         Err(ReadFault::Broken | ReadFault::TooLarge) => Err(Refusal::InputUnreadable),

@@ -10,14 +10,15 @@ ghost use Rattle.vx_stats.specs.Text.{write_end};
 ghost use Rattle.vx_stats.specs.declared.text.StatsForm.{StatsForm};
 ghost use Rattle.vx_answer.specs.Stats.{is_run, stats_asked, AreStatsOf};
 ghost use Rattle.vx_answer.specs.CommandLine.{AnswersArguments, AsksFor, IsUsageError, AreRefusedBy, AsksForFailing, AsksForStopped};
-ghost use Rattle.vx_wisconsin.specs.Wisconsin.{max_rows, wisconsin, column_names};
+ghost use Rattle.vx_wisconsin.specs.Wisconsin.{wisconsin, column_names};
+ghost use Rattle.vx_values.specs.Limits.{max_generated_rows};
 
 use crate::bundle::answer_bytes;
 use crate::command_line::{ArgumentAnswer, ArgumentFault, answer_arguments};
 use crate::files::input_bytes;
 use crate::places::write_place;
 use crate::runs::Stopped;
-use crate::stats::Counted;
+use crate::stats::CountedText;
 use std::alloc::Global;
 use std::sync::Wait;
 use std::thread::Threads;
@@ -27,9 +28,6 @@ use vx_refusals::{Refusal, report, status};
 use vx_seeds::KeySeed;
 use vx_stats::{Stopwatch, write_end};
 use vx_wisconsin::{GenerateFault, generate};
-
-/// The most bytes that an input may have.
-pub const MAX_BYTES: usize = 1 << 40;
 
 /// The text that answers the bundle of which an input has the bytes that are left.
 pub fn outcome_of<T: Threads + Wait + Sync, I: ByteIn>(
@@ -127,11 +125,11 @@ pub fn reply<T: Threads + Wait + Sync, I: ByteIn, O: ByteOut, E: ByteOut>(
 // Writes the text of the relation with so many rows on `out` as it is made, or reports on `err` why not. All memory is taken
 // before the first write.
 fn write_relation<O: ByteOut, E: ByteOut>(alloc: Global, rows: u64, out: &mut O, err: &mut E) -> u8
-    ensures done { result ≡ 0 → (rows ≤ max_rows) × Appends (O.contents out.old) (O.contents out.new) (csv_text column_names (wisconsin rows)) }
+    ensures done { result ≡ 0 → (rows ≤ max_generated_rows) × Appends (O.contents out.old) (O.contents out.new) (csv_text column_names (wisconsin rows)) }
     ensures kept { result ≢ 0 → O.has_failed out.new ≡ false → out.new ≡ out.old }
     ensures statuses { (result ≡ 0) ⊎ (result ≡ 3) ⊎ (result ≡ 4) }
     ensures quiet { result ≡ 0 → err.new ≡ err.old }
-    ensures large { (max_rows < rows → result ≡ 3) × (result ≡ 3 → (max_rows < rows) × (out.new ≡ out.old)) }
+    ensures large { (max_generated_rows < rows → result ≡ 3) × (result ≡ 3 → (max_generated_rows < rows) × (out.new ≡ out.old)) }
 {
     match generate(alloc, rows, out) {
         Ok(()) => 0,
@@ -162,7 +160,11 @@ fn write_stopped<O: ByteOut, E: ByteOut>(stopped: Stopped, out: &mut O, err: &mu
 }
 
 // Writes the statistics of runs on `err`, the time that the write of their rows took too.
-fn write_stats<E: ByteOut>(counted: &Counted, time: Option<u64>, err: &mut E) -> Result<(), Broken>
+fn write_stats<E: ByteOut>(
+    counted: &CountedText,
+    time: Option<u64>,
+    err: &mut E,
+) -> Result<(), Broken>
     ensures ok { OnOk result (Appends (E.contents err.old) (E.contents err.new) (string_bytes counted.now.opening ++ write_end counted.now.form time)) }
     ensures fails { E.has_failed err.new ≡ (E.has_failed err.old || is_err result) }
 {
@@ -174,7 +176,7 @@ fn write_stats<E: ByteOut>(counted: &Counted, time: Option<u64>, err: &mut E) ->
 // them that fails changes nothing else.
 fn write_counted<C: Clock, O: ByteOut, E: ByteOut>(
     clock: &C,
-    counted: &Counted,
+    counted: &CountedText,
     out: &mut O,
     err: &mut E,
 ) -> u8

@@ -1,57 +1,38 @@
 //! Runs of plans over tables.
 
 ghost use Rattle.std.specs.Prelude.{◌≡◌, true, map, IfOk, IfErr};
-ghost use Rattle.vx_bundle.specs.declared.setting.Mode.TheVariants as mode;
-ghost use Rattle.vx_exchange.specs.ByteRouter.{byte_route};
+ghost use Rattle.vx_setup.specs.declared.setting.Mode.TheVariants as mode;
+ghost use Rattle.vx_plan_nodes.specs.ByteRouter.{byte_route};
 ghost use Rattle.vx_exec.specs.Counts.{is_wanted, counts_in};
+ghost use Rattle.vx_exec.specs.Promise.{RunPromise};
+ghost use Rattle.vx_exec.specs.Runs.{IsSetUp};
 ghost use Rattle.vx_exec.specs.Sizes.{Sizes};
-ghost use Rattle.vx_exec.specs.Runs.{IfDone, IsRunOf, IsSetUp};
 ghost use Rattle.vx_parallel.specs.Parallel.{IsWhole};
 ghost use Rattle.vx_catalog.specs.Csv.{csv_text};
 ghost use Rattle.vx_plan_nodes.specs.Outline.{columns};
 ghost use Rattle.vx_plan_nodes.specs.TypedView.{resolved_of};
 ghost use Rattle.vx_check_rules.specs.CheckedView.{typed_plan};
-ghost use Rattle.vx_bundle.specs.Setting.{size_form};
-ghost use Rattle.vx_answer.specs.Commands.{IsRunOver, RunRefuses, IsRun, PlanRefuses, setup_of};
+ghost use Rattle.vx_answer.specs.Commands.{IsRunOver, RunRefuses, MayReport, IsRun, PlanRefuses};
 ghost use Rattle.vx_answer.specs.Stats.{CountedIn, IsCountedRun};
 
 use std::alloc::{AllocError, Global};
 use std::sync::Wait;
 use std::thread::Threads;
-use vx_bundle::{Mode, Setting};
 use vx_catalog::Database;
 use vx_check::CheckedPlan;
 use vx_exchange::ByteRouter;
-use vx_exec::{Ran, RunCounts, Setup, run_rounds_counted};
+use vx_exec::{RunCounts, RunFault, RunOutcome, run_rounds_counted};
 use vx_parallel::{Free, run_threads_counted};
 use vx_plan::{TypedPlan, name_texts};
 use vx_refusals::Refusal;
 use vx_seeds::KeySeed;
+use vx_setup::{Mode, Setting};
 use vx_tables::{Tables, Unobserved, load_tables_in_threads};
 use vx_views::Rows;
 use vx_writing::format_in_threads;
 
 // The most rounds of a run.
 const MAX_ROUNDS: u64 = 1_000_000_000;
-
-// Size names with their numbers of workers, in memory of their own.
-fn copied_sizes(alloc: Global, sizes: &[(String, u32)]) -> Result<Vec<(String, u32)>, AllocError>
-    ensures { IfOk result (λ v. map size_form v.items ≡ map size_form sizes.now) }
-{
-    let mut copies = Vec::new(alloc);
-    for (name, workers) in sizes {
-        copies.push((String::from_str(alloc, name.as_str())?, *workers))?;
-    }
-    Ok(copies)
-}
-
-// The setup of a run, with a copy of the sizes.
-fn setup_of(alloc: Global, setting: &Setting) -> Result<Setup, AllocError>
-    ensures { IfOk result (λ s. s ≡ setup_of setting.now) }
-{
-    let sizes = copied_sizes(alloc, setting.sizes())?;
-    Ok(Setup::new(sizes, setting.packet(), setting.morsel(), setting.slack()))
-}
 
 /// The text of rows under the names of a plan's output, made by up to so many threads.
 pub fn text_of<P: Threads + Sync>(
@@ -76,42 +57,33 @@ fn ran_over<T: Threads + Wait + Sync>(
     plan: &CheckedPlan,
     database: &Database,
     counts: &mut RunCounts,
-) -> Result<Ran, Refusal>
-    ensures done { IfOk result (IfDone (λ rows. (s : Sizes) × IsSetUp (resolved_of (typed_plan plan.now)) database.now (setup_of setting.now) s
-        × IsRunOf byte_route (resolved_of (typed_plan plan.now)) database.now s.groups rows)) }
-    ensures set { IfOk result (λ _. (s : Sizes) × IsSetUp (resolved_of (typed_plan plan.now)) database.now (setup_of setting.now) s) }
+) -> Result<RunOutcome, RunFault>
+    ensures promise { RunPromise byte_route (MayReport setting.now.mode) (typed_plan plan.now) database.now setting.now.setup result }
     ensures whole { setting.now.mode ≡ mode.Threads → IfOk result IsWhole }
-    ensures refused { IfErr result (λ e. RunRefuses (resolved_of (typed_plan plan.now)) database.now setting.now e) }
-    ensures counted { is_wanted counts.old ≡ true → IfOk result (λ r. (s : Sizes) → IsSetUp (resolved_of (typed_plan plan.now)) database.now (setup_of setting.now) s
-        → CountedIn setting.now.mode (typed_plan plan.now) database.now s r (counts_in counts.new)) }
+    ensures counted { is_wanted counts.old ≡ true → (s : Sizes) → IsSetUp (resolved_of (typed_plan plan.now)) database.now setting.now.setup s
+        → CountedIn setting.now.mode (typed_plan plan.now) database.now s result (counts_in counts.new) }
 {
-    let setup = setup_of(alloc, setting)?;
+    let setup = setting.setup();
     match setting.mode() {
-        Mode::Rounds => {
-            let ran = run_rounds_counted(
-                alloc,
-                plan,
-                database,
-                &setup,
-                &ByteRouter,
-                MAX_ROUNDS,
-                counts,
-            )?;
-            Ok(ran)
-        }
-        Mode::Threads => {
-            let ran = run_threads_counted(
-                rt,
-                alloc,
-                plan,
-                database,
-                &setup,
-                &ByteRouter,
-                &Free,
-                counts,
-            )?;
-            Ok(ran)
-        }
+        Mode::Rounds => run_rounds_counted(
+            alloc,
+            plan,
+            database,
+            setup,
+            &ByteRouter,
+            MAX_ROUNDS,
+            counts,
+        ),
+        Mode::Threads => run_threads_counted(
+            rt,
+            alloc,
+            plan,
+            database,
+            setup,
+            &ByteRouter,
+            &Free,
+            counts,
+        ),
     }
 }
 
@@ -131,8 +103,8 @@ pub fn run_over<T: Threads + Wait + Sync>(
     ensures counted { is_wanted counts.old ≡ true → IfOk result (λ text. IsCountedRun (typed_plan plan.now) database.now setting.now text.items (counts_in counts.new)) }
 {
     match ran_over(rt, alloc, setting, plan, database, counts)? {
-        Ran::Done(rows) => Ok(text_of(rt, alloc, threads, plan.plan(), &rows)?),
-        Ran::Unfinished => Err(Refusal::Unfinished),
+        RunOutcome::Done(rows) => Ok(text_of(rt, alloc, threads, plan.plan(), &rows)?),
+        RunOutcome::Unfinished => Err(Refusal::Unfinished),
     }
 }
 

@@ -12,10 +12,10 @@ use crate::run::run_over;
 use std::alloc::{AllocError, Global};
 use std::sync::Wait;
 use std::thread::Threads;
-use vx_bundle::Setting;
 use vx_catalog::Database;
 use vx_exec::RunCounts;
 use vx_refusals::Refusal;
+use vx_setup::Setting;
 
 /// The answers before the first plan of which the run gives no text, and why it gives none.
 #[derive(Drop)]

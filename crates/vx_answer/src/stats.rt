@@ -6,7 +6,7 @@ ghost use Rattle.vx_check_rules.specs.CheckedView.{typed_plan};
 ghost use Rattle.vx_arguments.specs.Asked.{paths_are};
 ghost use Rattle.vx_bundle.specs.declared.command.Command.TheVariants as command;
 ghost use Rattle.vx_stats.specs.Phases.{phases_of, times_in};
-ghost use Rattle.vx_stats.specs.declared.phases.Phase.TheVariants as phase;
+ghost use Rattle.vx_stats.specs.declared.phases.WorkPhase.TheVariants as work_phase;
 ghost use Rattle.vx_answer.specs.CommandLine.{TaskRefuses};
 ghost use Rattle.vx_answer.specs.Commands.{IsShown, PlanRefuses, CommandRefuses, RunRefuses};
 ghost use Rattle.vx_answer.specs.Files.{IsFilesPlan, IsFilesRefusal};
@@ -24,7 +24,6 @@ use std::sync::Wait;
 use std::thread::Threads;
 use std::time::Clock;
 use vx_arguments::Sources;
-use vx_bundle::Setting;
 use vx_bytes::{ByteIn, Store};
 use vx_catalog::Database;
 use vx_check::CheckedPlan;
@@ -32,12 +31,13 @@ use vx_exec::RunCounts;
 use vx_plan::{TypedPlan, resolve};
 use vx_refusals::Refusal;
 use vx_seeds::KeySeed;
-use vx_stats::{LoadTimer, Phase, StatsForm, Stopwatch, Timer, push_lone_plan, push_plan};
+use vx_setup::Setting;
+use vx_stats::{LoadTimer, StatsForm, Stopwatch, Timer, WorkPhase, push_lone_plan, push_plan};
 use vx_tables::{Folder, Tables, load_tables_in_threads};
 
 /// A finished text, and the statistics of its runs up to the time that its write takes.
 #[derive(Drop)]
-pub struct Counted {
+pub struct CountedText {
     pub text: Vec<u8>,
     pub form: StatsForm,
     pub opening: String,
@@ -66,12 +66,12 @@ fn timed_plan<C: Clock, F: Store, I: ByteIn>(
 ) -> Result<TypedPlan, Refusal>
     ensures planned { IfOk result (λ p. IsFilesPlan (F.holds files.now) (I.remaining input.old) (paths_are sources.entry) (resolved_of p)) }
     ensures refused { IfErr result (λ e. (e ≡ Refusal.NoMemory) ⊎ IsFilesRefusal (F.holds files.now) (F.is_reliable files.now) (I.remaining input.old) (I.has_failed input.new) (paths_are sources.entry) e) }
-    ensures phases { OnOk result (phases_of (times_in timer.new) ≡ phases_of (times_in timer.old) ++ (phase.Read ∷ phase.Plan ∷ [])) }
+    ensures phases { OnOk result (phases_of (times_in timer.new) ≡ phases_of (times_in timer.old) ++ (work_phase.Read ∷ work_phase.Plan ∷ [])) }
 {
     let (catalog, plan) = document_from_files(alloc, files, input, sources)?;
-    timer.end(clock, Phase::Read)?;
+    timer.end(clock, WorkPhase::Read)?;
     let typed = resolve(alloc, &plan, &catalog)?;
-    timer.end(clock, Phase::Plan)?;
+    timer.end(clock, WorkPhase::Plan)?;
     Ok(typed)
 }
 
@@ -87,7 +87,7 @@ fn counted_plan<R: Threads + Wait + Sync, C: Clock, T: Tables>(
     plan: &CheckedPlan,
     form: StatsForm,
     timer: &mut Timer,
-) -> Result<Counted, Refusal>
+) -> Result<CountedText, Refusal>
     ensures form { IfOk result (λ k. k.form ≡ form) }
     ensures stats { IfOk result (λ k. IsCountedPlan form (typed_plan plan.now) (T.holds tables.now) setting.now (phases_of (times_in timer.old)) k.text.items (string_bytes k.opening)) }
     ensures refused { IfErr result (λ e. (e ≡ Refusal.NoMemory) ⊎ PlanRefuses (resolved_of (typed_plan plan.now)) (T.holds tables.now) (T.lacks tables.now) setting.now e) }
@@ -102,10 +102,10 @@ fn counted_plan<R: Threads + Wait + Sync, C: Clock, T: Tables>(
         tables,
         &mut loads,
     )?;
-    timer.end(clock, Phase::Load)?;
+    timer.end(clock, WorkPhase::Load)?;
     let mut counts = RunCounts::new(alloc);
     let text = run_over(rt, alloc, threads, setting, plan, &database, &mut counts)?;
-    timer.end(clock, Phase::Run)?;
+    timer.end(clock, WorkPhase::Run)?;
     let mut opening = String::new(alloc);
     push_lone_plan(
         &mut opening,
@@ -116,7 +116,7 @@ fn counted_plan<R: Threads + Wait + Sync, C: Clock, T: Tables>(
         loads.times(),
         timer.times(),
     )?;
-    Ok(Counted {
+    Ok(CountedText {
         text,
         form,
         opening,
@@ -135,14 +135,14 @@ fn counted_run<R: Threads + Wait + Sync, C: Clock, T: Tables>(
     plan: TypedPlan,
     form: StatsForm,
     timer: &mut Timer,
-) -> Result<Counted, Refusal>
+) -> Result<CountedText, Refusal>
     ensures form { IfOk result (λ k. k.form ≡ form) }
     ensures shown { IfOk result (λ _. IsShown (resolved_of plan)) }
-    ensures stats { IfOk result (λ k. IsCountedPlan form plan (T.holds tables.now) setting.now (phases_of (times_in timer.old) ++ (phase.Check ∷ [])) k.text.items (string_bytes k.opening)) }
+    ensures stats { IfOk result (λ k. IsCountedPlan form plan (T.holds tables.now) setting.now (phases_of (times_in timer.old) ++ (work_phase.Check ∷ [])) k.text.items (string_bytes k.opening)) }
     ensures refused { IfErr result (λ e. CommandRefuses command.Run (resolved_of plan) (T.holds tables.now) (T.lacks tables.now) setting.now e) }
 {
     let checked = accepted(plan)?;
-    timer.end(clock, Phase::Check)?;
+    timer.end(clock, WorkPhase::Check)?;
     counted_plan(
         rt, clock, alloc, threads, seed, tables, setting, &checked, form, timer,
     )
@@ -161,7 +161,7 @@ pub fn counted_task<T: Threads + Wait + Sync, C: Clock, F: Store, I: ByteIn>(
     sources: Sources<'_>,
     folder: &str,
     setting: &Setting,
-) -> Result<Counted, Refusal>
+) -> Result<CountedText, Refusal>
     ensures form { IfOk result (λ k. k.form ≡ form) }
     ensures stats { IfOk result (λ k. AreTaskStats (F.holds files.now) (I.remaining input.old) form
         (record { command = command.Run; paths = paths_are sources.entry; folder = folder.now; setting = setting.now }) k.text.items (string_bytes k.opening)) }
@@ -216,7 +216,7 @@ pub fn add_counted_run<T: Threads + Wait + Sync, C: Clock>(
         database,
         &mut counts,
     )?;
-    let time = watch.end(clock, Phase::Run);
+    let time = watch.end(clock, WorkPhase::Run);
     push_title(stats, accepted.path)?;
     push_plan(
         stats,

@@ -10,7 +10,7 @@ use Rattle.clap.specs.declared.builder.action.ArgAction.TheVariants.{Append, Set
 use Rattle.clap.specs.declared.builder.value_parser.ValueParser.TheVariants as parser
 use Rattle.vx_arguments.specs.declared.asked.Sources.{Sources}
 use Rattle.vx_arguments.specs.declared.asked.ManySources.{ManySources}
-use Rattle.vx_arguments.specs.declared.asked.Limits.{Limits}
+use Rattle.vx_arguments.specs.declared.asked.RunArguments.{RunArguments}
 use Rattle.vx_arguments.specs.declared.asked.Asked.{Asked}
 use Rattle.vx_arguments.specs.declared.asked.Asked.TheVariants as asked
 
@@ -157,9 +157,9 @@ serial_of rows = option_and_then (λ p. option_map (serial p) (first_of (codes "
 
 -- a run of one plan, or of several
 abbrev pub run_for : Text → List Text → Text → Given → Ask
-run_for catalog (plan ∷ []) folder limits = run (record { catalog = catalog; plan = plan }) folder limits
-run_for catalog [] folder limits = run_plans (record { catalog = catalog; plans = [] }) folder limits
-run_for catalog (plan ∷ next ∷ plans) folder limits = run_plans (record { catalog = catalog; plans = plan ∷ next ∷ plans }) folder limits
+run_for catalog (plan ∷ []) folder given = run (record { catalog = catalog; plan = plan }) folder given
+run_for catalog [] folder given = run_plans (record { catalog = catalog; plans = [] }) folder given
+run_for catalog (plan ∷ next ∷ plans) folder given = run_plans (record { catalog = catalog; plans = plan ∷ next ∷ plans }) folder given
 
 abbrev pub run_of : List Row → Option Ask
 run_of rows = option_and_then (λ c. option_and_then (λ ps. option_and_then (λ d. option_map (run_for c ps d) (given_of rows)) (first_of (codes "data") rows)) (all_of (codes "plan") rows)) (first_of (codes "catalog") rows)
@@ -241,7 +241,7 @@ paths_are s = record { catalog = s.catalog.now; plan = s.plan.now }
 abbrev pub many_are : ManySources → ManyPaths
 many_are s = record { catalog = s.catalog.now; plans = map (λ p. p.now) s.plans.items }
 
-abbrev pub given_is : Limits → Given
+abbrev pub given_is : RunArguments → Given
 given_is l = record { packet = l.packet.now; morsel = l.morsel.now; slack = l.slack.now; mode = l.mode.now; sizes = map (λ t. t.now) l.sizes.items }
 
 abbrev pub asked_is : Asked → Ask
@@ -254,6 +254,6 @@ asked_is (asked.Annotate sources) = annotate (paths_are sources)
 asked_is (asked.Sql sources dialect) = sql (paths_are sources) dialect.now
 asked_is (asked.Why code) = why code.now
 asked_is (asked.Serial sources folder) = serial (paths_are sources) folder.now
-asked_is (asked.Run sources folder limits) = run (paths_are sources) folder.now (given_is limits)
-asked_is (asked.RunPlans sources folder limits) = run_plans (many_are sources) folder.now (given_is limits)
+asked_is (asked.Run sources folder given) = run (paths_are sources) folder.now (given_is given)
+asked_is (asked.RunPlans sources folder given) = run_plans (many_are sources) folder.now (given_is given)
 asked_is (asked.Generate rows) = generate rows

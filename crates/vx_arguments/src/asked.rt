@@ -24,7 +24,7 @@ pub struct ManySources<'a> {
 
 /// The numbers and the mode of a run as they were written or are by default, and its arguments `NAME=N`.
 #[derive(Debug, Drop)]
-pub struct Limits<'a> {
+pub struct RunArguments<'a> {
     pub packet: &'a str,
     pub morsel: &'a str,
     pub slack: &'a str,
@@ -53,9 +53,9 @@ pub enum Asked<'a> {
     /// With the folder of the tables.
     Serial(Sources<'a>, &'a str),
     /// With the folder of the tables.
-    Run(Sources<'a>, &'a str, Limits<'a>),
+    Run(Sources<'a>, &'a str, RunArguments<'a>),
     /// Runs of several plans, with the folder of the tables.
-    RunPlans(ManySources<'a>, &'a str, Limits<'a>),
+    RunPlans(ManySources<'a>, &'a str, RunArguments<'a>),
     /// The text of the relation with so many rows.
     Generate(u64),
 }
@@ -103,7 +103,10 @@ fn sizes_in<'a>(alloc: Global, found: &ArgMatches<'a>) -> Result<Vec<&'a str>, A
     }
 }
 
-fn limits_in<'a>(alloc: Global, found: &ArgMatches<'a>) -> Result<Option<Limits<'a>>, AllocError>
+fn run_arguments_in<'a>(
+    alloc: Global,
+    found: &ArgMatches<'a>,
+) -> Result<Option<RunArguments<'a>>, AllocError>
     ensures { IfOk result (λ o. option_map given_is o ≡ given_of (rows_of (found_of found.now))) }
 {
     let Some(packet) = value(found, "packet") else {
@@ -119,7 +122,7 @@ fn limits_in<'a>(alloc: Global, found: &ArgMatches<'a>) -> Result<Option<Limits<
         return Ok(None);
     };
     let sizes = sizes_in(alloc, found)?;
-    Ok(Some(Limits {
+    Ok(Some(RunArguments {
         packet,
         morsel,
         slack,
@@ -174,15 +177,15 @@ fn run_for<'a>(
     catalog: &'a str,
     plans: &[&'a str],
     folder: &'a str,
-    limits: Limits<'a>,
+    given: RunArguments<'a>,
 ) -> Result<Asked<'a>, AllocError>
-    ensures { IfOk result (λ a. asked_is a ≡ run_for catalog.entry.now (map (λ p. p.now) plans.entry.now) folder.entry.now (given_is limits.entry)) }
+    ensures { IfOk result (λ a. asked_is a ≡ run_for catalog.entry.now (map (λ p. p.now) plans.entry.now) folder.entry.now (given_is given.entry)) }
 {
     if let [plan] = plans {
-        return Ok(Asked::Run(Sources { catalog, plan }, folder, limits));
+        return Ok(Asked::Run(Sources { catalog, plan }, folder, given));
     }
     let plans = Vec::from_slice(alloc, plans)?;
-    Ok(Asked::RunPlans(ManySources { catalog, plans }, folder, limits))
+    Ok(Asked::RunPlans(ManySources { catalog, plans }, folder, given))
 }
 
 fn run_asked<'a>(alloc: Global, found: &ArgMatches<'a>) -> Result<Option<Asked<'a>>, AllocError>
@@ -197,8 +200,8 @@ fn run_asked<'a>(alloc: Global, found: &ArgMatches<'a>) -> Result<Option<Asked<'
     let Some(data) = value(found, "data") else {
         return Ok(None);
     };
-    match limits_in(alloc, found)? {
-        Some(limits) => Ok(Some(run_for(alloc, catalog, plans, data, limits)?)),
+    match run_arguments_in(alloc, found)? {
+        Some(given) => Ok(Some(run_for(alloc, catalog, plans, data, given)?)),
         None => Ok(None),
     }
 }

@@ -1,6 +1,7 @@
 -- All workers came back, as the law of a run in threads wants it (our own).
 use Rattle.std.proofs.Common.{ℕ, ◌≡◌, List, map, Vec, Global, Some, sym, ◌∙◌, subst, slice_get}
-use Rattle.std.specs.List.{AllZip}
+use Rattle.std.specs.List.{All, AllZip}
+use Rattle.std.proofs.lemmas.List.Elements.{All-from_recursion, recursion_from_All}
 use Rattle.vx_values.specs.Values.{Val, Row}
 use Rattle.vx_plan_nodes.specs.Plan.{Plan}
 use Rattle.vx_plan_nodes.specs.Routes.{Routing}
@@ -22,8 +23,10 @@ use Rattle.vx_threads.specs.Holds.{Hold, IsApart}
 use Rattle.vx_threads.specs.Joined.{AllBear, FlowsThrough, CameBack}
 use Rattle.vx_threads.specs.Paired.{IsRingOf, AllSame}
 use Rattle.vx_threads.proofs.Still.{paired-stays}
+use Rattle.vx_layout.specs.Layout.{spans_of}
 use Rattle.vx_spawn.specs.declared.member.Joined.{Joined}
-use Rattle.vx_assembly.specs.Plans.{AllPairs, AreApart}
+use Rattle.vx_assembly.specs.Plans.{AreApart}
+use Rattle.vx_assembly.specs.Spans.{IsSpanned}
 use Rattle.vx_assembly.specs.Closing.{AllSeatedIn, AllClosed, AreApartDraws}
 use Rattle.vx_assembly.specs.Parts.{worker_in, outs_in, ins_in, drawers_in, held_in}
 use Rattle.vx_assembly.specs.Assembly.{WasRun}
@@ -47,12 +50,13 @@ module _ {O S : Type 0} (OS : O → Ledger → Type 0) (op : O → Op) (SS : S �
   module _ (sizes : ℕ → ℕ) (sized : W.sizes ≡ sizes) (os : List (Vec RingOut Global)) (is : List (Vec Inlet Global)) (ds : List (Vec Drawer Global))
       (outs : os ≡ map outs_in js) (ins : is ≡ map ins_in js) (draws : ds ≡ map drawers_in js) where
     -- what the reunion asks for
-    pub paired : AllPairs IsRingOf sizes p 0 1 os is
+    pub paired : All (IsSpanned IsRingOf os is) (spans_of sizes p 0 1)
     paired =
-        let here = pairs-in js W p 0 1 (paired-stays W (map held_before run.members) (map held_in js) same p 0 1 run.wired.paired) in
-        subst (λ (z : ℕ → ℕ). AllPairs IsRingOf z p 0 1 os is) sized
-        (subst (λ (z : List (Vec RingOut Global)). AllPairs IsRingOf W.sizes p 0 1 z is) (sym outs)
-        (subst (λ (z : List (Vec Inlet Global)). AllPairs IsRingOf W.sizes p 0 1 (map outs_in js) z) (sym ins) here))
+        let here = All-from_recursion (IsSpanned IsRingOf (map outs_in js) (map ins_in js)) (spans_of W.sizes p 0 1)
+        (pairs-in js W p 0 1 (paired-stays W (map held_before run.members) (map held_in js) same p 0 1 run.wired.paired)) in
+        subst (λ (z : ℕ → ℕ). All (IsSpanned IsRingOf os is) (spans_of z p 0 1)) sized
+        (subst (λ (z : List (Vec RingOut Global)). All (IsSpanned IsRingOf z is) (spans_of W.sizes p 0 1)) (sym outs)
+        (subst (λ (z : List (Vec Inlet Global)). All (IsSpanned IsRingOf (map outs_in js) z) (spans_of W.sizes p 0 1)) (sym ins) here))
 
     pub inlets-apart : AreApart is
     inlets-apart = subst (λ (z : List (Vec Inlet Global)). AreApart z) (sym ins) (apart-in js each-apart)
@@ -67,14 +71,14 @@ module _ {O S : Type 0} (OS : O → Ledger → Type 0) (op : O → Op) (SS : S �
     draws-apart = subst (λ (z : List (Vec Drawer Global)). AreApartDraws z) (sym draws) (apart-draws js each-apart)
 
     -- and what both give
-    pub came-back : (ws : List (Worker O S)) → ws ≡ map worker_in js → AllPairs FlowsThrough sizes p 0 1 os is → AllClosed decks places ds
+    pub came-back : (ws : List (Worker O S)) → ws ≡ map worker_in js → All (IsSpanned FlowsThrough os is) (spans_of sizes p 0 1) → AllClosed decks places ds
         → CameBack OS op SS task post bounds hash m W p ws (map held_in js)
     came-back ws is_it flows closed =
         let roles = same-roles OS op SS task post bounds hash m run.members js run.honest in
-        let through : AllPairs FlowsThrough W.sizes p 0 1 (map outs_in js) (map ins_in js) =
-        subst (λ (z : ℕ → ℕ). AllPairs FlowsThrough z p 0 1 (map outs_in js) (map ins_in js)) (sym sized)
-        (subst (λ (z : List (Vec RingOut Global)). AllPairs FlowsThrough sizes p 0 1 z (map ins_in js)) outs
-        (subst (λ (z : List (Vec Inlet Global)). AllPairs FlowsThrough sizes p 0 1 os z) ins flows)) in
+        let through : All (IsSpanned FlowsThrough (map outs_in js) (map ins_in js)) (spans_of W.sizes p 0 1) =
+        subst (λ (z : ℕ → ℕ). All (IsSpanned FlowsThrough (map outs_in js) (map ins_in js)) (spans_of z p 0 1)) (sym sized)
+        (subst (λ (z : List (Vec RingOut Global)). All (IsSpanned FlowsThrough z (map ins_in js)) (spans_of sizes p 0 1)) outs
+        (subst (λ (z : List (Vec Inlet Global)). All (IsSpanned FlowsThrough os z) (spans_of sizes p 0 1)) ins flows)) in
         let shut : AllClosed decks places (map drawers_in js) = subst (λ (z : List (Vec Drawer Global)). AllClosed decks places z) draws closed in
         let all : CameBack OS op SS task post bounds hash m W p (map worker_in js) (map held_in js) = record {
           traces = traces.0;
@@ -84,6 +88,7 @@ module _ {O S : Type 0} (OS : O → Ledger → Type 0) (op : O → Op) (SS : S �
           count = map-length worker_in js ∙ same-count OS op SS task post bounds hash m run.members js run.honest ∙ run.count;
           root = subst (λ (z : List Role). IsRoot W p (role_at z 0)) roles run.root;
           below = subst (λ (z : List Role). RolesBelow W (role_at z) p 1) roles run.below;
-          together = together js (map held_before run.members) same decks places W p 0 1 shut through run.wired.dealing;
+          together = together js (map held_before run.members) same decks places W p 0 1 shut
+              (recursion_from_All (IsSpanned FlowsThrough (map outs_in js) (map ins_in js)) (spans_of W.sizes p 0 1) through) run.wired.dealing;
         } in
         subst (λ (z : List (Worker O S)). CameBack OS op SS task post bounds hash m W p z (map held_in js)) (sym is_it) all

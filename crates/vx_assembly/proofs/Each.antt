@@ -1,6 +1,7 @@
 -- From what is honest of each worker to the traces of all (our own).
 use Rattle.std.proofs.Common.{arith, true, false, ℕ, zero, suc, ◌<◌, Option, IsSome, ◌≡◌, List, [], ◌∷◌, map, length, Some, refl, sym, ap, ◌∙◌, subst, slice_get}
 use Rattle.std.specs.List.{AllZip, slice_index_or}
+use Rattle.std.proofs.lemmas.Option.{same_Some, none-some}
 use Rattle.vx_values.specs.Values.{Val, Row}
 use Rattle.vx_plan_nodes.specs.Routes.{Routing}
 use Rattle.vx_ports.specs.Packets.{PacketView}
@@ -10,7 +11,7 @@ use Rattle.vx_ends.specs.Sending.{RoutesAs}
 use Rattle.vx_worker.specs.Trace.{Trace, empty_trace}
 use Rattle.vx_worker.specs.Worker.{Role, role_of, sender_of, WorkerStands}
 use Rattle.vx_worker.specs.declared.worker.Worker.{Worker}
-use Rattle.vx_worker.specs.declared.worker.Outcome.{Outcome}
+use Rattle.vx_worker.specs.declared.worker.WorkerOutcome.{WorkerOutcome}
 use Rattle.vx_steps.specs.Verdicts.{GoesOn, HasEnded}
 use Rattle.vx_steps.specs.Agrees.{trace_at}
 use Rattle.vx_steps.specs.Runs.{roles_of}
@@ -22,7 +23,6 @@ use Rattle.vx_spawn.specs.declared.member.CrewMember.{CrewMember}
 use Rattle.vx_spawn.specs.declared.member.Joined.{Joined}
 use Rattle.vx_spawn.specs.Each.{EachHonest}
 use Rattle.vx_assembly.specs.Parts.{worker_in, held_in}
-use Rattle.vx_assembly.proofs.Lists.{some-is, none-some}
 
 pub map-length : {A B : Type 0} (f : A → B) (xs : List A) → length (map f xs) ≡ length xs
 map-length f [] = refl
@@ -68,7 +68,7 @@ module _ {O S : Type 0} (OS : O → Ledger → Type 0) (op : O → Op) (SS : S �
   none-goes-on ps [] h on = let l = on.within in omega (arith, l)
   none-goes-on ps (j ∷ js) h on =
       let ended = all-ended ps (j ∷ js) h on.number j.worker on.within in
-      none-ended (subst (λ (o : Option Outcome). IsSome o) (on.here j.worker) ended)
+      none-ended (subst (λ (o : Option WorkerOutcome). IsSome o) (on.here j.worker) ended)
     where
       none-ended : false ≡ true → ⊥
       none-ended e = cc
@@ -79,7 +79,7 @@ module _ {O S : Type 0} (OS : O → Ledger → Type 0) (op : O → Op) (SS : S �
   same-ends [] js h a x e = absurd (none-some x e)
   same-ends (p ∷ ps) [] h a x e = absurd h
   same-ends (p ∷ ps) (j ∷ js) h zero x e =
-      (held_in j, refl, subst (λ (z : Hold). SameEnds z (held_in j)) (some-is (held_before p) x e) h.0.ran.same)
+      (held_in j, refl, subst (λ (z : Hold). SameEnds z (held_in j)) (same_Some (held_before p) x e) h.0.ran.same)
   same-ends (p ∷ ps) (j ∷ js) h (suc a) x e = same-ends ps js h.1 a x e
 
   -- and each worker has a trace that stands for it, which these ends carried
@@ -98,5 +98,5 @@ module _ {O S : Type 0} (OS : O → Ledger → Type 0) (op : O → Op) (SS : S �
     where
       bear : (u : Trace) (us : List Trace) → Bears (held_in j) u → AllBear (map held_in js) (trace_at us)
           → AllBear (map held_in (j ∷ js)) (trace_at (u ∷ us))
-      bear u us b all zero x e = subst (λ (z : Hold). Bears z u) (some-is (held_in j) x e) b
+      bear u us b all zero x e = subst (λ (z : Hold). Bears z u) (same_Some (held_in j) x e) b
       bear u us b all (suc a) x e = all a x e

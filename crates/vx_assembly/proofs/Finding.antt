@@ -1,8 +1,9 @@
 -- The inlet that a search found is the one that was looked for (our own).
-use Rattle.std.proofs.Common.{arith, ℕ, zero, suc, ◌≡◌, ◌<◌, ◌&&◌, ◌==◌, Bool, true, false, List, [], ◌∷◌, Vec, Global, length, Some, refl, sym, ap, ◌∙◌, subst, slice_get}
+use Rattle.std.proofs.Common.{ℕ, ◌≡◌, ◌<◌, ◌&&◌, ◌==◌, Bool, true, false, List, Vec, Global, length, Some, refl, sym, ap, ◌∙◌, subst, slice_get}
 use Rattle.std.specs.List.{slice_index_or}
 use Rattle.std.proofs.lemmas.Bool.{eqb-true}
 use Rattle.std.proofs.lemmas.Option.{get_or_from_slice_get}
+use Rattle.vx_assembly.proofs.SeatsTaken.{below, one-at}
 use Rattle.vx_rings.specs.declared.ring.RingOut.{RingOut}
 use Rattle.vx_threads.specs.Inlets.{is_way}
 use Rattle.vx_threads.specs.Joined.{FlowsThrough}
@@ -10,14 +11,6 @@ use Rattle.vx_threads.specs.Paired.{IsRingOf}
 use Rattle.vx_threads.specs.declared.inlet.Inlet.{Inlet}
 use Rattle.vx_assembly.specs.Pairs.{At, RingAt}
 use Rattle.vx_assembly.specs.Plans.{PairIn, AreApart}
-
-some-is : {A : Type 0} (x y : A) → Some x ≡ Some y → x ≡ y
-some-is x y e = cc
-
-pub below : {A : Type 0} (xs : List A) (k : ℕ) → k < length xs → (x : A) × (slice_get xs k ≡ Some x)
-below [] k l = absurd (omega (arith, l))
-below (x ∷ xs) zero l = (x, refl)
-below (x ∷ xs) (suc k) l = below xs k (omega (arith, l))
 
 -- within the list the default counts for nothing
 pub same-or : {A : Type 0} (xs : List A) (k : ℕ) (d e : A) → k < length xs → slice_index_or xs k d ≡ slice_index_or xs k e
@@ -28,12 +21,6 @@ same-or xs k d e l =
 both : (a b : Bool) → (a && b) ≡ true → (a ≡ true) × (b ≡ true)
 both true b e = (refl, e)
 both false b e = absurd (cc)
-
--- what stands at one place of one list
-one-at : {A : Type 0} (xs : List (Vec A Global)) (a j : ℕ) (x y : A) → At xs a j x → At xs a j y → x ≡ y
-one-at xs a j x y h k =
-    let e = some-is k.list h.list (sym k.outer ∙ h.outer) in
-    some-is x y (sym h.inner ∙ subst (λ v. slice_get v.items j ≡ Some y) e k.inner)
 
 pub found : (is : List (Vec Inlet Global)) (b n i place : ℕ) (l : Vec Inlet Global) (xs : List Inlet) → slice_get is b ≡ Some l → xs ≡ l.items → place < length xs
     → ((d : Inlet) → is_way (slice_index_or xs place d) n i ≡ true) → (y : Inlet) × At is b place y × (y.exchange ≡ n) × (y.from ≡ i)

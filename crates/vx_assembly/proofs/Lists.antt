@@ -1,5 +1,6 @@
 -- What threads held, as one list of all and as lists of its parts (our own).
-use Rattle.std.proofs.Common.{ℕ, zero, suc, ◌≡◌, List, [], ◌∷◌, ◌++◌, map, Vec, Global, Some, None, refl, sym, ap, ◌∙◌, subst, slice_get, append_assoc}
+use Rattle.std.proofs.Common.{ℕ, zero, suc, ◌≡◌, List, [], ◌∷◌, ◌++◌, map, Vec, Global, Some, refl, sym, ap, ◌∙◌, subst, slice_get, append_assoc, option_map}
+use Rattle.std.proofs.lemmas.Option.{same_Some, none-some, slice_get-map}
 use Rattle.vx_rings.specs.declared.ring.RingOut.{RingOut}
 use Rattle.vx_threads.specs.declared.inlet.Inlet.{Inlet}
 use Rattle.vx_threads.specs.declared.drawer.Dealer.{Dealer}
@@ -11,20 +12,12 @@ use Rattle.vx_assembly.specs.Plans.{PairIn, AreApart}
 use Rattle.vx_assembly.specs.Closing.{DrawIn, AreApartDraws}
 use Rattle.vx_assembly.specs.Parts.{outs_in, ins_in, drawers_in, held_in}
 
-pub some-is : {A : Type 0} (x y : A) → Some x ≡ Some y → x ≡ y
-some-is x y e = cc
-
-pub none-some : {A : Type 0} (x : A) → None ≡ Some x → ⊥
-none-some x e = cc
-
 pub map-on : {A B : Type 0} (f : A → B) (xs : List A) (a : ℕ) (x : A) → slice_get xs a ≡ Some x → slice_get (map f xs) a ≡ Some (f x)
-map-on f [] a x e = absurd (none-some x e)
-map-on f (y ∷ xs) zero x e = ap (λ z. Some (f z)) (some-is y x e)
-map-on f (y ∷ xs) (suc a) x e = map-on f xs a x e
+map-on f xs a x e = slice_get-map f xs a ∙ ap (option_map f) e
 
 pub map-back : {A B : Type 0} (f : A → B) (xs : List A) (a : ℕ) (y : B) → slice_get (map f xs) a ≡ Some y → (x : A) × (slice_get xs a ≡ Some x) × (f x ≡ y)
 map-back f [] a y e = absurd (none-some y e)
-map-back f (x ∷ xs) zero y e = (x, refl, some-is (f x) y e)
+map-back f (x ∷ xs) zero y e = (x, refl, same_Some (f x) y e)
 map-back f (x ∷ xs) (suc a) y e = map-back f xs a y e
 
 module _ {O S : Type 0} (js : List (Joined O S)) where
@@ -83,7 +76,7 @@ module _ {O S : Type 0} (js : List (Joined O S)) where
 
   module _ (apart : (a : ℕ) (h : Hold) → slice_get (map held_in js) a ≡ Some h → IsApart h) where
     same-one : (a : ℕ) (x y : Joined O S) → slice_get js a ≡ Some x → slice_get js a ≡ Some y → x ≡ y
-    same-one a x y p q = some-is x y (sym p ∙ q)
+    same-one a x y p q = same_Some x y (sym p ∙ q)
 
     pub apart-in : AreApart (map ins_in js)
     apart-in b k l e f x y p q =

@@ -1,10 +1,10 @@
 -- The seats of one deck, and of all decks (our own).
-use Rattle.std.proofs.Common.{arith, ℕ, zero, suc, ◌≡◌, ◌<◌, ◌+◌, ◌⊎◌, List, [], ◌∷◌, ◌++◌, Vec, Global, length, Some, None}
+use Rattle.std.proofs.Common.{arith, ℕ, zero, suc, ◌≡◌, ◌<◌, ◌+◌, ◌⊎◌, List, [], ◌∷◌, ◌++◌, Vec, Global, length, Some}
 use Rattle.std.proofs.Common.{refl, sym, ap, ◌∙◌, subst, inl, inr, slice_get, get_or, zero-add}
 use Rattle.std.specs.List.{All}
 use Rattle.std.specs.List.{enumerate_from}
 use Rattle.std.proofs.lemmas.List.FromFn.{length-enumerate_from, get_or-enumerate_from}
-use Rattle.std.proofs.lemmas.Option.{get_or_from_slice_get, slice_get_within, slice_get-get_or}
+use Rattle.std.proofs.lemmas.Option.{get_or_from_slice_get, slice_get_within, slice_get-get_or, same_Some, none-some}
 use Rattle.vx_decks.specs.Seats.{DeckView, SeatView, IsSeatOf}
 use Rattle.vx_threads.specs.declared.deck_place.DeckPlace.{DeckPlace}
 use Rattle.vx_threads.specs.declared.drawer.Drawer.{Drawer}
@@ -12,12 +12,6 @@ use Rattle.vx_threads.specs.declared.drawer.Dealer.TheVariants as dealer
 use Rattle.vx_assembly.specs.Closing.{DrawIn, SeatedIn, ClosedIn, AreApartDraws}
 use Rattle.vx_assembly.specs.SeatsTaken.{HeldIn, Remains}
 use Rattle.vx_assembly.proofs.SeatsTaken.{below, one-seat, held-back}
-
-pub some-is : {A : Type 0} (x y : A) → Some x ≡ Some y → x ≡ y
-some-is x y e = cc
-
-none-some : {A : Type 0} (x : A) → None ≡ Some x → ⊥
-none-some x e = cc
 
 -- what comes with its number stands there
 pub numbered : {A : Type 0} (ds : List A) (n number : ℕ) (d : A) → (n < length (enumerate_from 0 ds)) × ((number, d) ≡ get_or (enumerate_from 0 ds) n (number, d))
@@ -35,7 +29,7 @@ numbered {A} ds n number d h =
 -- what stands in a list with one more behind it
 pub one-more : {A : Type 0} (xs : List A) (r : A) (w : ℕ) (s : A) → slice_get (xs ++ r ∷ []) w ≡ Some s
     → (slice_get xs w ≡ Some s) ⊎ ((w ≡ length xs) × (r ≡ s))
-one-more [] r zero s e = inr (refl, some-is r s e)
+one-more [] r zero s e = inr (refl, same_Some r s e)
 one-more [] r (suc w) s e = absurd (none-some s e)
 one-more (x ∷ xs) r zero s e = inl e
 one-more (x ∷ xs) r (suc w) s e = elim (one-more xs r w s e) [

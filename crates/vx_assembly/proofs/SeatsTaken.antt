@@ -1,10 +1,11 @@
 -- Seats taken one after another (our own).
-use Rattle.std.proofs.Common.{arith, ℕ, zero, suc, ◌≡◌, ◌≢◌, ◌<◌, ◌⊎◌, List, [], ◌∷◌, Vec, Global, length, Some, None}
+use Rattle.std.proofs.Common.{arith, ℕ, zero, suc, ◌≡◌, ◌≢◌, ◌<◌, ◌⊎◌, List, [], ◌∷◌, Vec, Global, length, Some}
 use Rattle.std.proofs.Common.{refl, sym, ap, ◌∙◌, subst, inl, inr, slice_get}
 use Rattle.std.proofs.Math.ListN.{set}
 use Rattle.std.specs.List.{slice_index_or}
 use Rattle.std.proofs.lemmas.Bool.{cases_eq}
-use Rattle.std.proofs.lemmas.Option.{get_or_from_slice_get}
+use Rattle.std.proofs.lemmas.Option.{get_or_from_slice_get, same_Some}
+use Rattle.vx_threads.proofs.Bearing.{set-here, set-other}
 use Rattle.vx_decks.specs.Seats.{SeatView}
 use Rattle.vx_threads.specs.declared.drawer.Drawer.{Drawer}
 use Rattle.vx_threads.specs.declared.drawer.Dealer.TheVariants as dealer
@@ -12,35 +13,17 @@ use Rattle.vx_assembly.specs.Pairs.{At}
 use Rattle.vx_assembly.specs.Closing.{DrawIn, AreApartDraws}
 use Rattle.vx_assembly.specs.SeatsTaken.{SeatAt, Remains}
 
-some-is : {A : Type 0} (x y : A) → Some x ≡ Some y → x ≡ y
-some-is x y e = cc
-
-none-some : {A : Type 0} (x : A) → None ≡ Some x → ⊥
-none-some x e = cc
-
 seat-deck : (k l : ℕ) (s t : SeatView) → dealer.Seat k s ≡ dealer.Seat l t → k ≡ l
 seat-deck k l s t e = cc
 
 seat-view : (k : ℕ) (s t : SeatView) → dealer.Seat k s ≡ dealer.Seat k t → s ≡ t
 seat-view k s t e = cc
 
-set-here : {A : Type 0} (xs : List A) (k : ℕ) (x y : A) → slice_get xs k ≡ Some x → slice_get (set xs k y) k ≡ Some y
-set-here [] k x y e = absurd (none-some x e)
-set-here (z ∷ xs) zero x y e = refl
-set-here (z ∷ xs) (suc k) x y e = set-here xs k x y e
-
-set-other : {A : Type 0} (xs : List A) (k : ℕ) (y : A) (l : ℕ) → l ≢ k → slice_get (set xs k y) l ≡ slice_get xs l
-set-other [] k y l ne = refl
-set-other (z ∷ xs) zero y zero ne = absurd (ne refl)
-set-other (z ∷ xs) zero y (suc l) ne = refl
-set-other (z ∷ xs) (suc k) y zero ne = refl
-set-other (z ∷ xs) (suc k) y (suc l) ne = set-other xs k y l (λ e. ne (ap suc e))
-
 -- what stands at one place of one list
 pub one-at : {A : Type 0} (xs : List (Vec A Global)) (a j : ℕ) (x y : A) → At xs a j x → At xs a j y → x ≡ y
 one-at xs a j x y h k =
-    let e = some-is k.list h.list (sym k.outer ∙ h.outer) in
-    some-is x y (sym h.inner ∙ subst (λ v. slice_get v.items j ≡ Some y) e k.inner)
+    let e = same_Some k.list h.list (sym k.outer ∙ h.outer) in
+    same_Some x y (sym h.inner ∙ subst (λ v. slice_get v.items j ≡ Some y) e k.inner)
 
 pub remains-then : (p q r : (a k : ℕ) → Type 0) (xs ys zs : List (Vec Drawer Global)) → ((a k : ℕ) → r a k → p a k × q a k)
     → Remains p xs ys → Remains q ys zs → Remains r xs zs
@@ -65,12 +48,12 @@ module _ (xs : List (Vec Drawer Global)) (a j d : ℕ) (t : SeatView) (l w : Vec
         let z = h.1 in
         elim (cases_eq b a) [
           | inl e ↦
-              let lz : l ≡ h.2.list = some-is l h.2.list (sym at ∙ ap (slice_get xs) (sym e) ∙ h.2.outer) in
+              let lz : l ≡ h.2.list = same_Some l h.2.list (sym at ∙ ap (slice_get xs) (sym e) ∙ h.2.outer) in
               let inn : slice_get l.items i ≡ Some z = subst (λ (v : Vec Drawer Global). slice_get v.items i ≡ Some z) (sym lz) h.2.inner in
               let outer : slice_get (set xs a w) b ≡ Some w = subst (λ m. slice_get (set xs a w) m ≡ Some w) (sym e) (set-here xs a l w at) in
               elim (cases_eq i j) [
                 | inl f ↦
-                    let xz : x ≡ z = some-is x z (sym here ∙ ap (slice_get l.items) (sym f) ∙ inn) in
+                    let xz : x ≡ z = same_Some x z (sym here ∙ ap (slice_get l.items) (sym f) ∙ inn) in
                     let dk : k ≡ d = seat-deck k d s t (sym h.4 ∙ ap (λ (v : Drawer). v.dealer) (sym xz) ∙ seat) in
                     absurd (elim st [ inl ne ↦ ne e | inr ne ↦ ne dk ])
                 | inr f ↦ (
@@ -85,13 +68,13 @@ module _ (xs : List (Vec Drawer Global)) (a j d : ℕ) (t : SeatView) (l w : Vec
         ];
     places = λ b k z h. elim (cases_eq b a) [
       | inl e ↦
-          let wz : w ≡ h.list = some-is w h.list (sym (set-here xs a l w at) ∙ ap (slice_get (set xs a w)) (sym e) ∙ h.outer) in
+          let wz : w ≡ h.list = same_Some w h.list (sym (set-here xs a l w at) ∙ ap (slice_get (set xs a w)) (sym e) ∙ h.outer) in
           let inn : slice_get (set l.items j y) k ≡ Some z =
           sym (ap (λ ys. slice_get ys k) wi) ∙ subst (λ (v : Vec Drawer Global). slice_get v.items k ≡ Some z) (sym wz) h.inner in
           let outer : slice_get xs b ≡ Some l = ap (slice_get xs) e ∙ at in
           elim (cases_eq k j) [
             | inl f ↦
-                let yz : y ≡ z = some-is y z (sym (set-here l.items j x y here) ∙ ap (slice_get (set l.items j y)) (sym f) ∙ inn) in
+                let yz : y ≡ z = same_Some y z (sym (set-here l.items j x y here) ∙ ap (slice_get (set l.items j y)) (sym f) ∙ inn) in
                 (x, record { list = l; outer = outer; inner = ap (slice_get l.items) f ∙ here }, sym (ap (λ (v : Drawer). v.scan) yz) ∙ scan)
             | inr f ↦ (z, record { list = l; outer = outer; inner = sym (set-other l.items j y k f) ∙ inn }, refl)
           ]

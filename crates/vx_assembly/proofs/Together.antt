@@ -1,12 +1,15 @@
 -- All rings reunited and all decks closed, as the plan says (our own).
 use Rattle.std.proofs.Common.{ℕ, ◌≡◌, ◌+◌, true, false, List, length, map, refl, ap, ◌∙◌, subst}
+use Rattle.std.specs.List.{AllByRecursion}
 use Rattle.vx_plan_nodes.specs.Plan.{Plan, scan, unary, binary, exchange, size}
 use Rattle.vx_plan_nodes.specs.Streams.{workers}
 use Rattle.vx_morsel.specs.Draws.{DealtOut}
 use Rattle.vx_morsel.specs.Hands.{HandState}
 use Rattle.vx_worker.specs.Fragment.{RunModel}
 use Rattle.vx_worker.specs.Morsels.{morsel_count}
-use Rattle.vx_laws.specs.Layout.{workers_below}
+use Rattle.vx_plan_nodes.specs.Workers.{workers_below}
+use Rattle.vx_layout.specs.Layout.{spans_of}
+use Rattle.vx_layout.proofs.Each.{each-both, each-parts}
 use Rattle.vx_decks.specs.Seats.{DeckView, SeatView, draws_in}
 use Rattle.vx_threads.specs.declared.drawer.Dealer.{Dealer}
 use Rattle.vx_threads.specs.declared.drawer.Dealer.TheVariants as dealer
@@ -17,7 +20,7 @@ use Rattle.vx_threads.specs.Joined.{FlowsThrough, ClosedAt, Together}
 use Rattle.vx_threads.specs.Paired.{IsRingOf, Paired, AllSame}
 use Rattle.vx_threads.specs.Wired.{HasDeck, Dealing, AllSeated}
 use Rattle.vx_spawn.specs.declared.member.Joined.{Joined}
-use Rattle.vx_assembly.specs.Plans.{AllPairs}
+use Rattle.vx_assembly.specs.Spans.{IsSpanned}
 use Rattle.vx_assembly.specs.Closing.{AllSeatedIn, AllClosed}
 use Rattle.vx_assembly.specs.Parts.{outs_in, ins_in, drawers_in, held_in}
 use Rattle.vx_assembly.proofs.Lists.{pair-in, pair-at, draw-in, draw-at}
@@ -57,10 +60,14 @@ module _ (gs hs : List Hold) (same : AllSame gs hs) where
 
 module _ {O S : Type 0} (js : List (Joined O S)) where
   pub pairs-in : (W : RunModel) (p : Plan) (top next : ℕ) → Paired W p top next (map held_in js)
-      → AllPairs IsRingOf W.sizes p top next (map outs_in js) (map ins_in js)
-  pairs-in W (scan n c r k z) top next h = tt
-  pairs-in W (unary n c op p) top next h = pairs-in W p top next h
-  pairs-in W (binary n c op p q) top next h = (pairs-in W p top next h.0, pairs-in W q top (next + workers_below W.sizes p) h.1)
+      → AllByRecursion (IsSpanned IsRingOf (map outs_in js) (map ins_in js)) (spans_of W.sizes p top next)
+  pairs-in W (scan n c r k z) top next h = (tt, tt)
+  pairs-in W (unary n c op p) top next h = (tt, pairs-in W p top next h)
+  pairs-in W (binary n c op p q) top next h =
+      let behind = next + workers_below W.sizes p in (
+        tt,
+        each-both (IsSpanned IsRingOf (map outs_in js) (map ins_in js)) (spans_of W.sizes p top next) (spans_of W.sizes q top behind) (pairs-in W p top next h.0) (pairs-in W q top behind h.1),
+      )
   pairs-in W (exchange n c k merge p) top next h = (
     λ i j l r. pair-in js IsRingOf (next + i) j (top + j) n i (h.0 i j l r),
     pairs-in W p next (next + workers W.sizes (size p)) h.1,
@@ -95,7 +102,7 @@ module _ {O S : Type 0} (js : List (Joined O S)) where
         }
 
     pub together : (W : RunModel) (p : Plan) (top next : ℕ) → AllClosed decks places (map drawers_in js)
-        → AllPairs FlowsThrough W.sizes p top next (map outs_in js) (map ins_in js) → Dealing W decks places p top next gs
+        → AllByRecursion (IsSpanned FlowsThrough (map outs_in js) (map ins_in js)) (spans_of W.sizes p top next) → Dealing W decks places p top next gs
         → Together FlowsThrough W p top next (map held_in js)
     together W (scan n c r true z) top next closed f h =
         closed-at n top (workers W.sizes z) (morsel_count W.morsel (length (W.db r))) closed h
@@ -103,9 +110,11 @@ module _ {O S : Type 0} (js : List (Joined O S)) where
         let x = h w l in
         let y = hand-at gs (map held_in js) same (top + w) n x.0 x.1 in
         (y.0, y.1, y.2 ∙ x.2)
-    together W (unary n c op p) top next closed f h = together W p top next closed f h
+    together W (unary n c op p) top next closed f h = together W p top next closed f.1 h
     together W (binary n c op p q) top next closed f h =
-        (together W p top next closed f.0 h.0, together W q top (next + workers_below W.sizes p) closed f.1 h.1)
+        let behind = next + workers_below W.sizes p in
+        let z = each-parts (IsSpanned FlowsThrough (map outs_in js) (map ins_in js)) (spans_of W.sizes p top next) (spans_of W.sizes q top behind) f.1 in
+        (together W p top next closed z.0 h.0, together W q top behind closed z.1 h.1)
     together W (exchange n c k merge p) top next closed f h = (
       λ i j l r. pair-at js FlowsThrough (next + i) j (top + j) n i (f.0 i j l r),
       together W p next (next + workers W.sizes (size p)) closed f.1 h,

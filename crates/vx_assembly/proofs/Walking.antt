@@ -1,38 +1,19 @@
 -- One pair after another.
-use Rattle.std.proofs.Common.{◌+◌, Vec, Global, ℕ, zero, suc, ◌≡◌, ◌≢◌, List, [], ◌∷◌, Some, None}
+use Rattle.std.proofs.Common.{Vec, Global, ℕ, ◌≡◌, List, Some}
 use Rattle.std.proofs.Common.{refl, sym, ap, ◌∙◌, subst, inl, inr, slice_get}
 use Rattle.std.proofs.Math.ListN.{set}
 use Rattle.std.proofs.lemmas.Bool.{cases_eq}
+use Rattle.std.proofs.lemmas.Option.{same_Some}
+use Rattle.vx_threads.proofs.Bearing.{set-here, set-other}
 use Rattle.vx_ports.specs.Packets.{Flows}
 use Rattle.vx_rings.specs.Ends.{put_to, taken_from}
 use Rattle.vx_rings.specs.declared.ring.RingOut.{RingOut}
-use Rattle.vx_plan_nodes.specs.Plan.{Plan, scan, unary, binary, exchange, size}
-use Rattle.vx_plan_nodes.specs.Streams.{workers}
-use Rattle.vx_laws.specs.Layout.{workers_below}
 use Rattle.vx_threads.specs.Idle.{same_inlet_self}
 use Rattle.vx_threads.specs.Joined.{FlowsThrough}
 use Rattle.vx_threads.specs.Paired.{IsRingOf}
 use Rattle.vx_threads.specs.declared.inlet.Inlet.{Inlet}
 use Rattle.vx_assembly.specs.Pairs.{StillOut, StillIn, Still, Reunited}
-use Rattle.vx_assembly.specs.Plans.{PairIn, AllPairs, AreApart}
-
-some-is : {A : Type 0} (x y : A) → Some x ≡ Some y → x ≡ y
-some-is x y e = cc
-
-none-some : {A : Type 0} (x : A) → None ≡ Some x → ⊥
-none-some x e = cc
-
-set-here : {A : Type 0} (xs : List A) (k : ℕ) (x y : A) → slice_get xs k ≡ Some x → slice_get (set xs k y) k ≡ Some y
-set-here [] k x y e = absurd (none-some x e)
-set-here (z ∷ xs) zero x y e = refl
-set-here (z ∷ xs) (suc k) x y e = set-here xs k x y e
-
-set-other : {A : Type 0} (xs : List A) (k : ℕ) (y : A) (l : ℕ) → l ≢ k → slice_get (set xs k y) l ≡ slice_get xs l
-set-other [] k y l ne = refl
-set-other (z ∷ xs) zero y zero ne = absurd (ne refl)
-set-other (z ∷ xs) zero y (suc l) ne = refl
-set-other (z ∷ xs) (suc k) y zero ne = refl
-set-other (z ∷ xs) (suc k) y (suc l) ne = set-other xs k y l (λ e. ne (ap suc e))
+use Rattle.vx_assembly.specs.Plans.{PairIn, AreApart}
 
 module _ {A : Type 0} (R : A → A → Type 0) (self : (x : A) → R x x) where
   -- one element of one list was changed to one like it: l became w
@@ -41,12 +22,12 @@ module _ {A : Type 0} (R : A → A → Type 0) (self : (x : A) → R x x) where
   still-set xs a j l w x y at here wi r = record {
     on = λ b k z h. elim (cases_eq b a) [
       | inl e ↦
-          let lz : l ≡ h.list = some-is l h.list (sym at ∙ ap (slice_get xs) (sym e) ∙ h.outer) in
+          let lz : l ≡ h.list = same_Some l h.list (sym at ∙ ap (slice_get xs) (sym e) ∙ h.outer) in
           let inn : slice_get l.items k ≡ Some z = subst (λ (v : Vec A Global). slice_get v.items k ≡ Some z) (sym lz) h.inner in
           let outer : slice_get (set xs a w) b ≡ Some w = subst (λ n. slice_get (set xs a w) n ≡ Some w) (sym e) (set-here xs a l w at) in
           elim (cases_eq k j) [
             | inl f ↦
-                let xz : x ≡ z = some-is x z (sym here ∙ ap (slice_get l.items) (sym f) ∙ inn) in
+                let xz : x ≡ z = same_Some x z (sym here ∙ ap (slice_get l.items) (sym f) ∙ inn) in
                 let there : slice_get w.items k ≡ Some y =
                 ap (λ ys. slice_get ys k) wi ∙ subst (λ n. slice_get (set l.items j y) n ≡ Some y) (sym f) (set-here l.items j x y here) in
                 (y, record { list = w; outer = outer; inner = there }, subst (λ v. R v y) xz r)
@@ -56,13 +37,13 @@ module _ {A : Type 0} (R : A → A → Type 0) (self : (x : A) → R x x) where
     ];
     back = λ b k z h. elim (cases_eq b a) [
       | inl e ↦
-          let wz : w ≡ h.list = some-is w h.list (sym (set-here xs a l w at) ∙ ap (slice_get (set xs a w)) (sym e) ∙ h.outer) in
+          let wz : w ≡ h.list = same_Some w h.list (sym (set-here xs a l w at) ∙ ap (slice_get (set xs a w)) (sym e) ∙ h.outer) in
           let inn : slice_get (set l.items j y) k ≡ Some z =
           sym (ap (λ ys. slice_get ys k) wi) ∙ subst (λ (v : Vec A Global). slice_get v.items k ≡ Some z) (sym wz) h.inner in
           let outer : slice_get xs b ≡ Some l = ap (slice_get xs) e ∙ at in
           elim (cases_eq k j) [
             | inl f ↦
-                let yz : y ≡ z = some-is y z (sym (set-here l.items j x y here) ∙ ap (slice_get (set l.items j y)) (sym f) ∙ inn) in
+                let yz : y ≡ z = same_Some y z (sym (set-here l.items j x y here) ∙ ap (slice_get (set l.items j y)) (sym f) ∙ inn) in
                 (x, record { list = l; outer = outer; inner = ap (slice_get l.items) f ∙ here }, subst (λ v. R x v) yz r)
             | inr f ↦ (z, record { list = l; outer = outer; inner = sym (set-other l.items j y k f) ∙ inn }, self z)
           ]
@@ -151,21 +132,3 @@ module _ (os ps : List (Vec RingOut Global)) (is js : List (Vec Inlet Global)) (
       let u = r.ins.back b k e x in
       let v = r.ins.back b l f y in
       apart b k l u.0 v.0 u.1 v.1 (sym u.2.1.exchange ∙ p ∙ v.2.1.exchange) (sym u.2.1.from ∙ q ∙ v.2.1.from)
-
-  pub all-on : (sizes : ℕ → ℕ) (p : Plan) (top next : ℕ) → AllPairs IsRingOf sizes p top next os is → AllPairs IsRingOf sizes p top next ps js
-  all-on sizes (scan n c rel m z) top next h = tt
-  all-on sizes (unary n c op p) top next h = all-on sizes p top next h
-  all-on sizes (binary n c op p q) top next h = (all-on sizes p top next h.0, all-on sizes q top (next + workers_below sizes p) h.1)
-  all-on sizes (exchange n c k merge p) top next h = (
-    λ i j l m. pair-on (next + i) j (top + j) n i (h.0 i j l m),
-    all-on sizes p next (next + workers sizes (size p)) h.1,
-  )
-
-  pub all-back : (sizes : ℕ → ℕ) (p : Plan) (top next : ℕ) → AllPairs FlowsThrough sizes p top next ps js → AllPairs FlowsThrough sizes p top next os is
-  all-back sizes (scan n c rel m z) top next h = tt
-  all-back sizes (unary n c op p) top next h = all-back sizes p top next h
-  all-back sizes (binary n c op p q) top next h = (all-back sizes p top next h.0, all-back sizes q top (next + workers_below sizes p) h.1)
-  all-back sizes (exchange n c k merge p) top next h = (
-    λ i j l m. pair-back (next + i) j (top + j) n i (h.0 i j l m),
-    all-back sizes p next (next + workers sizes (size p)) h.1,
-  )

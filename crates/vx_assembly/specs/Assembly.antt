@@ -10,7 +10,8 @@ use Rattle.vx_ends.specs.Sending.{RoutesAs}
 use Rattle.vx_worker.specs.Fragment.{RunModel, goes}
 use Rattle.vx_worker.specs.Trace.{empty_trace, scan_morsels}
 use Rattle.vx_worker.specs.Worker.{sender_of, WorkerStands}
-use Rattle.vx_steps.specs.Roles.{role_at, IsRoot, RolesBelow, crew_size}
+use Rattle.vx_steps.specs.Roles.{role_at, IsRoot, RolesBelow}
+use Rattle.vx_plan_nodes.specs.Workers.{crew_size}
 use Rattle.vx_steps.specs.Runs.{roles_of}
 use Rattle.vx_decks.specs.Seats.{DeckView}
 use Rattle.vx_threads.specs.declared.deck_place.DeckPlace.{DeckPlace}

@@ -6,6 +6,7 @@ use Rattle.vx_layout.specs.declared.span.NodeSpan.TheVariants.{Inner, Exchange, 
 use Rattle.vx_rings.specs.declared.ring.RingOut.{RingOut}
 use Rattle.vx_threads.specs.declared.inlet.Inlet.{Inlet}
 use Rattle.vx_assembly.specs.Plans.{PairIn}
+use Rattle.vx_values.specs.Limits.{max_group_workers, max_workers}
 
 -- each producer and each consumer of the exchange have a pair of ends, and a fact about them; other nodes have no rings
 abbrev pub IsSpanned : (P : RingOut → Inlet → Type 0) → List (Vec RingOut Global) → List (Vec Inlet Global) → NodeSpan → Type 0
@@ -16,5 +17,5 @@ IsSpanned P os is (Scan s) = Unit {0}
 -- few workers at either side
 abbrev pub IsSmall : NodeSpan → Type 0
 IsSmall Inner = Unit {0}
-IsSmall (Exchange s) = (s.below ≤ 256) × (s.producers ≤ 64) × (s.above ≤ 256) × (s.consumers ≤ 64)
+IsSmall (Exchange s) = (s.below ≤ max_workers) × (s.producers ≤ max_group_workers) × (s.above ≤ max_workers) × (s.consumers ≤ max_group_workers)
 IsSmall (Scan s) = Unit {0}

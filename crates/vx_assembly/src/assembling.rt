@@ -4,27 +4,27 @@ ghost use Rattle.std.specs.Prelude.{◌≡◌, ◌≤◌, ℕ, Bool, List, map, 
 ghost use Rattle.vx_values.specs.Values.{Row};
 ghost use Rattle.std.specs.List.{All};
 ghost use Rattle.vx_plan_nodes.specs.Plan.{Plan};
-ghost use Rattle.vx_layout.specs.Groups.{group_at};
+ghost use Rattle.vx_plan_nodes.specs.Workers.{worker_group_at};
 ghost use Rattle.vx_layout.specs.Layout.{spans_of};
 ghost use Rattle.vx_worker.specs.Fragment.{RunModel};
 ghost use Rattle.vx_steps.specs.Ready.{Settled};
 ghost use Rattle.vx_steps.specs.Headline.{Answers, IsAccepted};
 ghost use Rattle.vx_steps.specs.Endings.{ReportsFirst};
-ghost use Rattle.vx_steps.specs.declared.verdict.Verdict.TheVariants.{Unfinished};
+ghost use Rattle.vx_steps.specs.declared.verdict.RunState.TheVariants.{Unfinished};
 ghost use Rattle.vx_assembly.specs.Assembly.{WasRun};
 ghost use Rattle.vx_assembly.specs.Parts.{worker_in};
 ghost use Rattle.vx_assembly.specs.Spans.{IsSmall};
 
 use crate::closing::close_decks;
 use crate::plans::reunite_spans;
-use crate::taking::{Parts, take_apart};
+use crate::taking::{ThreadResults, take_apart};
 use std::alloc::{AllocError, Global};
 use vx_decks::SharedDeck;
 use vx_ends::Sends;
 use vx_layout::Layout;
 use vx_ops::Source;
 use vx_spawn::Joined;
-use vx_steps::{Verdict, judge};
+use vx_steps::{RunState, judge};
 use vx_threads::DeckPlace;
 use vx_worker::Worker;
 
@@ -37,27 +37,27 @@ pub fn assemble<O: Source + Drop, S: Sends + Drop>(
     decks: Vec<SharedDeck>,
     places: &[DeckPlace],
     joined: Vec<Joined<O, S>>,
-) -> Result<(Vec<Worker<O, S>>, Verdict), AllocError>
+) -> Result<(Vec<Worker<O, S>>, RunState), AllocError>
     requires small { All IsSmall layout.now.spans.items }
-    requires ran { (hash : List ℕ → Row → ℕ → ℕ) × (m : ℕ → ℕ → List Row) × (W : RunModel) × (p : Plan) × (W.sizes ≡ group_at layout.now.groups.items) × (layout.now.spans.items ≡ spans_of (group_at layout.now.groups.items) p 0 1)
+    requires ran { (hash : List ℕ → Row → ℕ → ℕ) × (m : ℕ → ℕ → List Row) × (W : RunModel) × (p : Plan) × (W.sizes ≡ worker_group_at layout.now.worker_groups.items) × (layout.now.spans.items ≡ spans_of (worker_group_at layout.now.worker_groups.items) p 0 1)
         × WasRun O.Stands O.op S.Stands S.task S.post S.bounds hash m W p decks.items places.now joined.items }
     ensures workers { IfOk result (λ r. r.0.items ≡ map worker_in joined.items) }
-    ensures whole { (hash : List ℕ → Row → ℕ → ℕ) (m : ℕ → ℕ → List Row) (W : RunModel) (p : Plan) → W.sizes ≡ group_at layout.now.groups.items → layout.now.spans.items ≡ spans_of (group_at layout.now.groups.items) p 0 1
+    ensures whole { (hash : List ℕ → Row → ℕ → ℕ) (m : ℕ → ℕ → List Row) (W : RunModel) (p : Plan) → W.sizes ≡ worker_group_at layout.now.worker_groups.items → layout.now.spans.items ≡ spans_of (worker_group_at layout.now.worker_groups.items) p 0 1
         → WasRun O.Stands O.op S.Stands S.task S.post S.bounds hash m W p decks.items places.now joined.items
         → IfOk result (λ r. r.1 ≡ Unfinished → ⊥) }
-    ensures settled { (hash : List ℕ → Row → ℕ → ℕ) (m : ℕ → ℕ → List Row) (W : RunModel) (p : Plan) → W.sizes ≡ group_at layout.now.groups.items → layout.now.spans.items ≡ spans_of (group_at layout.now.groups.items) p 0 1
+    ensures settled { (hash : List ℕ → Row → ℕ → ℕ) (m : ℕ → ℕ → List Row) (W : RunModel) (p : Plan) → W.sizes ≡ worker_group_at layout.now.worker_groups.items → layout.now.spans.items ≡ spans_of (worker_group_at layout.now.worker_groups.items) p 0 1
         → WasRun O.Stands O.op S.Stands S.task S.post S.bounds hash m W p decks.items places.now joined.items
         → IfOk result (λ r. Settled S.task W p r.0.items r.1) }
-    ensures answers { (hash : List ℕ → Row → ℕ → ℕ) (m : ℕ → ℕ → List Row) (W : RunModel) (p : Plan) (is_total : Bool) → W.sizes ≡ group_at layout.now.groups.items → layout.now.spans.items ≡ spans_of (group_at layout.now.groups.items) p 0 1
+    ensures answers { (hash : List ℕ → Row → ℕ → ℕ) (m : ℕ → ℕ → List Row) (W : RunModel) (p : Plan) (is_total : Bool) → W.sizes ≡ worker_group_at layout.now.worker_groups.items → layout.now.spans.items ≡ spans_of (worker_group_at layout.now.worker_groups.items) p 0 1
         → WasRun O.Stands O.op S.Stands S.task S.post S.bounds hash m W p decks.items places.now joined.items
         → IsAccepted W is_total p
         → IfOk result (λ r. Answers S.task W is_total p r.0.items r.1) }
-    ensures first { (hash : List ℕ → Row → ℕ → ℕ) (m : ℕ → ℕ → List Row) (W : RunModel) (p : Plan) (is_total : Bool) → W.sizes ≡ group_at layout.now.groups.items → layout.now.spans.items ≡ spans_of (group_at layout.now.groups.items) p 0 1
+    ensures first { (hash : List ℕ → Row → ℕ → ℕ) (m : ℕ → ℕ → List Row) (W : RunModel) (p : Plan) (is_total : Bool) → W.sizes ≡ worker_group_at layout.now.worker_groups.items → layout.now.spans.items ≡ spans_of (worker_group_at layout.now.worker_groups.items) p 0 1
         → WasRun O.Stands O.op S.Stands S.task S.post S.bounds hash m W p decks.items places.now joined.items
         → IsAccepted W is_total p
         → IfOk result (λ r. ReportsFirst W p r.1) }
 {
-    let Parts {
+    let ThreadResults {
         workers,
         mut outs,
         mut ins,

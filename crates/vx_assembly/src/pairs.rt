@@ -8,6 +8,7 @@ ghost use Rattle.vx_threads.specs.Paired.{IsRingOf};
 ghost use Rattle.vx_threads.specs.declared.inlet.Inlet.{Inlet as AnInlet};
 ghost use Rattle.vx_assembly.specs.Pairs.{RingAt, Reunited};
 ghost use Rattle.vx_assembly.specs.Plans.{AreApart, PairIn};
+ghost use Rattle.vx_values.specs.Limits.{max_group_workers};
 
 use vx_rings::RingOut;
 use vx_threads::Inlet;
@@ -77,7 +78,7 @@ pub fn reunite_producer(
     exchange: u32,
     from: u32,
 )
-    requires small { (above < 2 ^ 32) × (consumers ≤ 64) }
+    requires small { (above < 2 ^ 32) × (consumers ≤ max_group_workers) }
     requires rings { (j : ℕ) → j < consumers → PairIn IsRingOf outs.old.items ins.old.items putter j (above + j) exchange from }
     requires apart { AreApart ins.old.items }
     ensures reunited { Reunited outs.old.items ins.old.items outs.new.items ins.new.items }
@@ -99,7 +100,7 @@ pub fn reunite_exchange(
     above: usize,
     consumers: usize,
 )
-    requires small { (below < 2 ^ 32) × (producers ≤ 64) × (above < 2 ^ 32) × (consumers ≤ 64) }
+    requires small { (below < 2 ^ 32) × (producers ≤ max_group_workers) × (above < 2 ^ 32) × (consumers ≤ max_group_workers) }
     requires rings { (i j : ℕ) → i < producers → j < consumers → PairIn IsRingOf outs.old.items ins.old.items (below + i) j (above + j) exchange i }
     requires apart { AreApart ins.old.items }
     ensures reunited { Reunited outs.old.items ins.old.items outs.new.items ins.new.items }

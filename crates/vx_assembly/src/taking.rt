@@ -11,7 +11,7 @@ use vx_worker::Worker;
 
 /// What the threads of a run gave back, each by its worker's number.
 #[derive(Drop)]
-pub struct Parts<O, S> {
+pub struct ThreadResults<O, S> {
     /// The workers.
     pub workers: Vec<Worker<O, S>>,
     /// The ends of the rings to each worker's consumers.
@@ -23,7 +23,10 @@ pub struct Parts<O, S> {
 }
 
 // Takes apart what one thread more gave back.
-fn add_one<O: Drop, S: Drop>(parts: &mut Parts<O, S>, one: Joined<O, S>) -> Result<(), AllocError>
+fn add_one<O: Drop, S: Drop>(
+    parts: &mut ThreadResults<O, S>,
+    one: Joined<O, S>,
+) -> Result<(), AllocError>
     ensures workers { OnOk result (parts.new.workers.items ≡ parts.old.workers.items ++ worker_in one ∷ []) }
     ensures outs { OnOk result (parts.new.outs.items ≡ parts.old.outs.items ++ outs_in one ∷ []) }
     ensures ins { OnOk result (parts.new.ins.items ≡ parts.old.ins.items ++ ins_in one ∷ []) }
@@ -42,13 +45,13 @@ fn add_one<O: Drop, S: Drop>(parts: &mut Parts<O, S>, one: Joined<O, S>) -> Resu
 pub fn take_apart<O: Drop, S: Drop>(
     alloc: Global,
     joined: Vec<Joined<O, S>>,
-) -> Result<Parts<O, S>, AllocError>
+) -> Result<ThreadResults<O, S>, AllocError>
     ensures workers { IfOk result (λ t. t.workers.items ≡ map worker_in joined.items) }
     ensures outs { IfOk result (λ t. t.outs.items ≡ map outs_in joined.items) }
     ensures ins { IfOk result (λ t. t.ins.items ≡ map ins_in joined.items) }
     ensures draws { IfOk result (λ t. t.draws.items ≡ map drawers_in joined.items) }
 {
-    let mut parts = Parts {
+    let mut parts = ThreadResults {
         workers: Vec::new(alloc),
         outs: Vec::new(alloc),
         ins: Vec::new(alloc),

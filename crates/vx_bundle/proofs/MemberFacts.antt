@@ -4,7 +4,7 @@ use Rattle.std.specs.List.{find}
 use Rattle.serde_json.specs.Data.{Data}
 use Rattle.serde_json.specs.View.{view, members_view}
 use Rattle.serde_json.specs.declared.value.Value.{Value}
-use Rattle.vx_bundle.specs.Setting.{Named}
+use Rattle.vx_bundle.specs.Named.{Named}
 use Rattle.vx_bundle.specs.Bundle.{each_member}
 
 abbrev pub Entry : Type 0

@@ -7,9 +7,11 @@ use Rattle.serde_json.specs.Read.{read}
 use Rattle.vx_json.specs.Look.{has_only, or_default}
 use Rattle.vx_bundle.specs.declared.command.Command.{Command}
 use Rattle.vx_bundle.specs.declared.command.Command.TheVariants as command
-use Rattle.vx_bundle.specs.declared.setting.Mode.{Mode}
-use Rattle.vx_bundle.specs.declared.setting.Mode.TheVariants as mode
-use Rattle.vx_bundle.specs.Setting.{Named, Setting}
+use Rattle.vx_setup.specs.declared.setting.Mode.{Mode}
+use Rattle.vx_setup.specs.declared.setting.Mode.TheVariants as mode
+use Rattle.vx_setup.specs.Setup.{default_packet_rows, default_morsel_rows, default_slack}
+use Rattle.vx_setup.specs.Setting.{Setting}
+use Rattle.vx_bundle.specs.Named.{Named}
 
 -- what one run of the program is asked to do
 pub record Bundle : Type 0 where
@@ -46,12 +48,12 @@ abbrev pub bundle_members : List (List ℕ)
 bundle_members =
     codes "command" ∷ codes "catalog" ∷ codes "plan" ∷ codes "tables" ∷ codes "sizes" ∷ codes "packet" ∷ codes "morsel" ∷ codes "slack" ∷ codes "mode" ∷ []
 
--- the members that say how a run is set up: 256, 1,024, 8 and rounds where they are left out
+-- the members that say how a run is set up; where one is left out, its default, and rounds
 unfoldable pub setting_in : Data → Option Setting
 setting_in d =
-    option_and_then (λ zs. option_and_then (λ p. option_and_then (λ m. option_and_then (λ s. option_map (λ w. record { sizes = zs; packet = p; morsel = m; slack = s; mode = w })
-    (or_default mode.Rounds mode_in (get (codes "mode") d))) (or_default 8 number_in (get (codes "slack") d))) (or_default 1024 number_in (get (codes "morsel") d)))
-    (or_default 256 number_in (get (codes "packet") d))) (or_default [] (members_in number_in) (get (codes "sizes") d))
+    option_and_then (λ zs. option_and_then (λ p. option_and_then (λ m. option_and_then (λ s. option_map (λ w. record { setup = record { sizes = zs; packet = p; morsel = m; slack = s }; mode = w })
+    (or_default mode.Rounds mode_in (get (codes "mode") d))) (or_default default_slack number_in (get (codes "slack") d))) (or_default default_morsel_rows number_in (get (codes "morsel") d)))
+    (or_default default_packet_rows number_in (get (codes "packet") d))) (or_default [] (members_in number_in) (get (codes "sizes") d))
 
 abbrev pub bundle_of : Command → Data → Data → Named (List ℕ) → Setting → Bundle
 bundle_of c catalog plan tables s =

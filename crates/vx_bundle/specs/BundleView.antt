@@ -2,11 +2,11 @@
 use Rattle.std.specs.Prelude.{ℕ, List, map}
 use Rattle.serde_json.specs.View.{view}
 use Rattle.vx_bundle.specs.declared.bundle.Bundle as held
-use Rattle.vx_bundle.specs.declared.bundle.TableText.{TableText}
+use Rattle.vx_bundle.specs.declared.bundle.NamedText.{NamedText}
 use Rattle.vx_bundle.specs.Bundle.{Bundle, bundle_of}
 
 -- a relation's name and text
-abbrev pub table_form : TableText → List ℕ × List ℕ
+abbrev pub table_form : NamedText → List ℕ × List ℕ
 table_form t = (t.name.now, t.text.now)
 
 abbrev pub bundle_form : held.Bundle → Bundle

@@ -1,3 +1,3 @@
-pub mod Setting
+pub mod Named
 pub mod Bundle
 pub mod BundleView

@@ -5,19 +5,19 @@ ghost use Rattle.std.specs.List.{find};
 ghost use Rattle.serde_json.specs.Find.{get, as_str};
 ghost use Rattle.serde_json.specs.View.{view, members_view};
 ghost use Rattle.vx_json.specs.Look.{Finds, Parses, Reads, or_default};
-ghost use Rattle.vx_bundle.specs.Setting.{size_form};
+ghost use Rattle.vx_setup.specs.Setup.{entry_of};
 ghost use Rattle.vx_bundle.specs.Bundle.{command_in, mode_in, number_in, each_member, members_in, setting_in, bundle_in, value_of_text};
 ghost use Rattle.vx_bundle.specs.BundleView.{table_form, bundle_form};
 
 use crate::command::Command;
-use crate::setting::{MORSEL, Mode, PACKET, SLACK, Setting};
 use serde_json::{Map, Value};
 use std::alloc::{AllocError, Global};
 use vx_json::{Misread, get_member, get_text, test_members};
+use vx_setup::{DEFAULT_MORSEL_ROWS, DEFAULT_PACKET_ROWS, DEFAULT_SLACK, Mode, Setting, Setup};
 
 // A relation's name with its text.
 #[derive(Clone, Copy)]
-struct TableText<'v> {
+struct NamedText<'v> {
     name: &'v str,
     text: &'v str,
 }
@@ -28,7 +28,7 @@ pub struct Bundle<'v> {
     command: Command,
     catalog: &'v Value,
     plan: &'v Value,
-    tables: Vec<TableText<'v>>,
+    tables: Vec<NamedText<'v>>,
     setting: Setting,
 }
 
@@ -80,7 +80,7 @@ fn read_each_size(
     alloc: Global,
     members: &Map<String, Value>,
 ) -> Result<Vec<(String, u32)>, Misread>
-    ensures { Parses (λ v. map size_form v.items) result (each_member number_in [] (members_view members.now.entries)) }
+    ensures { Parses (λ v. map entry_of v.items) result (each_member number_in [] (members_view members.now.entries)) }
 {
     let mut sizes = Vec::new(alloc);
     for (name, value) in members.iter() {
@@ -91,7 +91,7 @@ fn read_each_size(
 }
 
 fn read_sizes(alloc: Global, value: &Value) -> Result<Vec<(String, u32)>, Misread>
-    ensures { Parses (λ v. map size_form v.items) result (or_default [] (members_in number_in) (get (codes "sizes") (view value.now))) }
+    ensures { Parses (λ v. map entry_of v.items) result (or_default [] (members_in number_in) (get (codes "sizes") (view value.now))) }
 {
     match value.get("sizes") {
         Some(sizes) => read_each_size(alloc, sizes.as_object().ok_or(Misread::NotOfForm)?),
@@ -114,27 +114,27 @@ fn read_setting(alloc: Global, value: &Value) -> Result<Setting, Misread>
     ensures { Parses (λ s. s) result (setting_in (view value.now)) }
 {
     let sizes = read_sizes(alloc, value)?;
-    let packet = read_number_or(value, "packet", PACKET)?;
-    let morsel = read_number_or(value, "morsel", MORSEL)?;
-    let slack = read_number_or(value, "slack", SLACK)?;
+    let packet = read_number_or(value, "packet", DEFAULT_PACKET_ROWS)?;
+    let morsel = read_number_or(value, "morsel", DEFAULT_MORSEL_ROWS)?;
+    let slack = read_number_or(value, "slack", DEFAULT_SLACK)?;
     let mode = read_mode_or_rounds(value)?;
-    Ok(Setting::new(sizes, packet, morsel, slack, mode))
+    Ok(Setting::new(Setup::new(sizes, packet, morsel, slack), mode))
 }
 
 // A member's name with its text.
-fn read_table<'v>(name: &'v str, value: &'v Value) -> Result<TableText<'v>, Misread>
+fn read_table<'v>(name: &'v str, value: &'v Value) -> Result<NamedText<'v>, Misread>
     ensures name { IfOk result (λ t. t.name.now ≡ name.now) }
     ensures text { Finds (λ t. t.text.now) result (as_str (view value.now)) }
 {
     let text = get_text(value)?;
-    Ok(TableText { name, text })
+    Ok(NamedText { name, text })
 }
 
 // Each member's name with its text.
 fn read_each_table<'v>(
     alloc: Global,
     members: &'v Map<String, Value>,
-) -> Result<Vec<TableText<'v>>, Misread>
+) -> Result<Vec<NamedText<'v>>, Misread>
     ensures { Parses (λ v. map table_form v.items) result (each_member as_str [] (members_view members.now.entries)) }
 {
     let mut tables = Vec::new(alloc);
@@ -145,7 +145,7 @@ fn read_each_table<'v>(
     Ok(tables)
 }
 
-fn read_tables<'v>(alloc: Global, value: &'v Value) -> Result<Vec<TableText<'v>>, Misread>
+fn read_tables<'v>(alloc: Global, value: &'v Value) -> Result<Vec<NamedText<'v>>, Misread>
     ensures { Parses (λ v. map table_form v.items) result (or_default [] (members_in as_str) (get (codes "tables") (view value.now))) }
 {
     match value.get("tables") {
@@ -201,7 +201,7 @@ pub fn value_of_text(alloc: Global, bytes: &[u8]) -> Result<Option<Value>, Alloc
 }
 
 // The first table of a name.
-fn find_table<'t, 'v>(tables: &'t [TableText<'v>], name: &str) -> Option<&'t TableText<'v>>
+fn find_table<'t, 'v>(tables: &'t [NamedText<'v>], name: &str) -> Option<&'t NamedText<'v>>
     ensures { option_map (λ t. t.now) result ≡ find (λ t. bytes_eq t.name.now name.now) tables.now }
 {
     tables.iter().find(|table| table.name == name)

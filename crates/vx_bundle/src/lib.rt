@@ -3,8 +3,6 @@
 
 mod bundle;
 mod command;
-mod setting;
 
 pub use bundle::{Bundle, bundle_in, value_of_text};
 pub use command::Command;
-pub use setting::{MORSEL, Mode, PACKET, SLACK, Setting};

@@ -12,8 +12,9 @@ use Rattle.vx_catalog.specs.Records.{records_left, Begins}
 use Rattle.vx_catalog.specs.Counting.{Settles}
 use Rattle.vx_catalog.specs.declared.fault.LoadFault.{LoadFault}
 use Rattle.vx_catalog.specs.declared.fault.LoadFault.TheVariants as fault
-use Rattle.vx_catalog.specs.Loading.{max_bytes, Fails, Gives, is_header, rows_onto, under_header, records_of, tested, load_of}
+use Rattle.vx_catalog.specs.Loading.{Fails, Gives, is_header, rows_onto, under_header, records_of, tested, load_of}
 use Rattle.vx_catalog.proofs.RowFacts.{fails_along}
+use Rattle.vx_values.specs.Limits.{max_text_bytes}
 
 -- the rows under a header are those of the records behind it
 pub under_reported : {X : Type 0} (look : X → List Row) (result : Result X LoadFault) (names : List (List ℕ)) (types : List ColType) (fields : List (List ℕ)) (all left : Option (List (List (List ℕ))))
@@ -29,13 +30,13 @@ of_text : {X : Type 0} (look : X → List Row) (read : Result X LoadFault) (name
     → Gives look read (under_header names types (records_of bytes))
 of_text look read names types bytes rest e h = rw e at h
 
-small_load : (relation : Relation) (bytes : List ℕ) → length bytes ≤ max_bytes → load_of relation bytes ≡ (under_header relation.names relation.types (records_of bytes) >>= tested relation)
+small_load : (relation : Relation) (bytes : List ℕ) → length bytes ≤ max_text_bytes → load_of relation bytes ≡ (under_header relation.names relation.types (records_of bytes) >>= tested relation)
 unfolding load_of
-small_load relation bytes small = rw (le-ltb max_bytes (length bytes) small) refl
+small_load relation bytes small = rw (le-ltb max_text_bytes (length bytes) small) refl
 
-large_load : (relation : Relation) (bytes : List ℕ) → max_bytes < length bytes → load_of relation bytes ≡ Err fault.TooLarge
+large_load : (relation : Relation) (bytes : List ℕ) → max_text_bytes < length bytes → load_of relation bytes ≡ Err fault.TooLarge
 unfolding load_of
-large_load relation bytes large = rw (lt-ltb max_bytes (length bytes) large) refl
+large_load relation bytes large = rw (lt-ltb max_text_bytes (length bytes) large) refl
 
 start_rest : (state : State) (source known text : Option (List ℕ)) → state ≡ st.StartRecord → source ≡ option_map strip_bom known → known ≡ text
     → option_map (records_left state) source ≡ option_map (records_left st.StartRecord) (option_map strip_bom text)

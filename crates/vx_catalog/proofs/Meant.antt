@@ -8,20 +8,21 @@ use Rattle.std.proofs.lemmas.List.{append-nil, length-append, length_push}
 use Rattle.std.proofs.lemmas.Bool.Decides.{Decides-ltb, Decides-eqb}
 use Rattle.csv.specs.Records.{field_at}
 use Rattle.vx_values.specs.Values.{Val, num, text, Row}
-use Rattle.vx_rows.specs.Order.{sorted}
+use Rattle.vx_values.specs.Order.{sorted}
 use Rattle.vx_values.specs.declared.value.ColType.{ColType}
 use Rattle.vx_values.specs.declared.value.ColType.TheVariants as kind
-use Rattle.vx_rows.proofs.KeyFacts.{key-law}
-use Rattle.vx_rows.proofs.Order.{NoFall, sorted_neighbours}
+use Rattle.vx_values.proofs.KeyFacts.{key-law}
+use Rattle.vx_values.proofs.Order.{NoFall, sorted_neighbours}
 use Rattle.vx_relations.specs.Relation.{Relation, KeysHold}
 use Rattle.vx_relations.specs.Walk.{◌>>=◌, walk_onto}
 use Rattle.vx_catalog.specs.Number.{number_of}
 use Rattle.vx_catalog.specs.declared.fault.LoadFault.{LoadFault}
 use Rattle.vx_catalog.specs.declared.fault.LoadFault.TheVariants as fault
-use Rattle.vx_catalog.specs.Loading.{records_of, some_number, value_of, some_value, next_value, row_of, max_rows, row_added, rows_onto, is_header, under_header, keys_kept, fall_from, first_fall, order_kept, max_bytes, load_of}
+use Rattle.vx_catalog.specs.Loading.{records_of, some_number, value_of, some_value, next_value, row_of, row_added, rows_onto, is_header, under_header, keys_kept, fall_from, first_fall, order_kept, load_of}
 use Rattle.vx_catalog.specs.Meaning.{IsValueOf, IsRowOf, Under, IsTextOf, LoadLaw}
 use Rattle.vx_relations.proofs.Accepted.{ok_bind}
 use Rattle.vx_catalog.proofs.OrderFacts.{keys_kept_is, order_kept_is}
+use Rattle.vx_values.specs.Limits.{max_rows, max_text_bytes}
 
 -- ---- values
 
@@ -193,7 +194,7 @@ small_enough : (m n : ℕ) (b : Bool) → nat_lt m n ≡ b → n ≤ m → b ≡
 small_enough m n false e h = refl
 small_enough m n true e h = let l = (Decides-ltb m n).0 e in absurd (omega arith)
 
-text_if : (b : Bool) (relation : Relation) (bytes : List ℕ) (rows : List Row) → nat_lt max_bytes (length bytes) ≡ b
+text_if : (b : Bool) (relation : Relation) (bytes : List ℕ) (rows : List Row) → nat_lt max_text_bytes (length bytes) ≡ b
     → cond b (Err fault.TooLarge) (under_header relation.names relation.types (records_of bytes) >>= λ rows. keys_kept 0 relation.keys rows >>= λ rows. order_kept relation.order rows) ≡ Ok rows → IsTextOf relation bytes rows
 text_if true relation bytes rows e h = cc
 text_if false relation bytes rows e h =
@@ -204,7 +205,7 @@ text_if false relation bytes rows e h =
     let same : u.0 ≡ rows = keys.0 ∙ order.0 in
     let under = under_is relation (records_of bytes) u.0 u.1 in
     record {
-      small = not_less max_bytes (length bytes) e;
+      small = not_less max_text_bytes (length bytes) e;
       under = subst (λ (l : List Row). Under relation (records_of bytes) l) same under.0;
       few = subst (λ (l : List Row). length l ≤ max_rows) same under.1;
       keys = subst (λ (l : List Row). KeysHold relation.keys l) same keys.1;
@@ -213,12 +214,12 @@ text_if false relation bytes rows e h =
 
 text_is : (relation : Relation) (bytes : List ℕ) (rows : List Row) → load_of relation bytes ≡ Ok rows → IsTextOf relation bytes rows
 unfolding load_of
-text_is relation bytes rows h = text_if (nat_lt max_bytes (length bytes)) relation bytes rows refl h
+text_is relation bytes rows h = text_if (nat_lt max_text_bytes (length bytes)) relation bytes rows refl h
 
 is_text : (relation : Relation) (bytes : List ℕ) (rows : List Row) → IsTextOf relation bytes rows → load_of relation bytes ≡ Ok rows
 unfolding load_of
 is_text relation bytes rows t =
-    rw (small_enough max_bytes (length bytes) _ refl t.small, is_under relation (records_of bytes) rows t.under t.few, are_kept relation.keys 0 rows t.keys, no_first_fall relation.order rows t.order) refl
+    rw (small_enough max_text_bytes (length bytes) _ refl t.small, is_under relation (records_of bytes) rows t.under t.few, are_kept relation.keys 0 rows t.keys, no_first_fall relation.order rows t.order) refl
 
 pub texts_load_exactly : LoadLaw
 texts_load_exactly = record { loads = λ relation bytes rows. (text_is relation bytes rows, is_text relation bytes rows) }

@@ -4,10 +4,10 @@ use Rattle.std.specs.List.{AllByRecursion}
 use Rattle.vx_values.specs.Types.{Fits}
 use Rattle.std.proofs.lemmas.List.{drop_all}
 use Rattle.vx_values.specs.Values.{Row}
-use Rattle.vx_rows.specs.Order.{compare_on, sorted}
-use Rattle.vx_rows.specs.Keys.{first_clash, HasKey}
-use Rattle.vx_rows.proofs.KeyFacts.{key-law}
-use Rattle.vx_rows.proofs.Order.{NoFall, sorted_from}
+use Rattle.vx_values.specs.Order.{compare_on, sorted}
+use Rattle.vx_values.specs.Keys.{first_clash, HasKey}
+use Rattle.vx_values.proofs.KeyFacts.{key-law}
+use Rattle.vx_values.proofs.Order.{NoFall, sorted_from}
 use Rattle.vx_relations.specs.Relation.{Relation, KeysHold, Meets}
 use Rattle.vx_catalog.specs.declared.fault.LoadFault.{LoadFault}
 use Rattle.vx_catalog.specs.declared.fault.LoadFault.TheVariants as fault

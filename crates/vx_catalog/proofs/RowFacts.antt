@@ -17,7 +17,8 @@ use Rattle.vx_catalog.specs.declared.fault.LoadFault.{LoadFault}
 use Rattle.vx_catalog.specs.declared.fault.LoadFault.TheVariants as fault
 use Rattle.vx_catalog.specs.Records.{Begins}
 use Rattle.vx_catalog.proofs.RowsReported.{RowsSoFar}
-use Rattle.vx_catalog.specs.Loading.{Fails, some_number, value_of, some_value, next_value, row_of, max_rows, row_added, rows_onto}
+use Rattle.vx_catalog.specs.Loading.{Fails, some_number, value_of, some_value, next_value, row_of, row_added, rows_onto}
+use Rattle.vx_values.specs.Limits.{max_rows}
 
 pub ascii_is_utf8 : (bytes : List ℕ) → IsAscii bytes → IsUtf8 bytes
 ascii_is_utf8 bytes h = IsUtf8-from_ascii bytes h

@@ -1,9 +1,9 @@
 -- The bytes of a port, counted as they are read.
 use Rattle.std.specs.Prelude.{◌≡◌, ℕ, ◌+◌, ◌==◌, ◌≤◌, nat_le, List, length, Option, Some, None, IsSome, if◌then◌else◌, Bool, true, false, ◌&&◌, ◌||◌, not, Result, Err, ◌⊎◌}
 use Rattle.vx_bytes.specs.Ports.{IsOver}
-use Rattle.vx_catalog.specs.Loading.{max_bytes}
 use Rattle.vx_catalog.specs.declared.fault.LoadFault.{LoadFault}
 use Rattle.vx_catalog.specs.declared.fault.LoadFault.TheVariants as fault
+use Rattle.vx_values.specs.Limits.{max_text_bytes}
 
 -- where the text and the bytes that are left of it are known, those that were read and those that are left are no more than the text
 abbrev pub is_within : Option (List ℕ) → Option (List ℕ) → ℕ → Bool
@@ -29,8 +29,8 @@ StaysKnown (Some old) new = IsSome new
 -- a text is no larger than it may be, where it is known
 abbrev pub IsSmall : Option (List ℕ) → Type 0
 IsSmall None = Unit {0}
-IsSmall (Some text) = length text ≤ max_bytes
+IsSmall (Some text) = length text ≤ max_text_bytes
 
 -- what is answered of a text that was read so: that memory ran out, that it is too large, or what was read, where it is small
 abbrev pub Settles : {X : Type 0} → Option (List ℕ) → Result X LoadFault → Result X LoadFault → Type 0
-Settles text read result = (result ≡ Err fault.NoMemory) ⊎ ((result ≡ Err fault.TooLarge) × IsOver max_bytes text) ⊎ ((result ≡ read) × IsSmall text)
+Settles text read result = (result ≡ Err fault.NoMemory) ⊎ ((result ≡ Err fault.TooLarge) × IsOver max_text_bytes text) ⊎ ((result ≡ read) × IsSmall text)

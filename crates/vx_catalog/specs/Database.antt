@@ -4,7 +4,7 @@ use Rattle.vx_values.specs.Values.{Row}
 use Rattle.vx_rows.specs.View.{RowsView}
 use Rattle.vx_relations.specs.Relation.{Relation, Meets}
 use Rattle.vx_relations.specs.Catalog.{relation_at}
-use Rattle.vx_catalog.specs.Loading.{max_rows}
+use Rattle.vx_values.specs.Limits.{max_rows}
 
 -- rows of the relation with this number
 pub record LoadedRows : Type 0 where

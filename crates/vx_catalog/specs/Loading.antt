@@ -5,8 +5,8 @@ use Rattle.std.specs.Str.{is_utf8}
 use Rattle.csv.specs.Reading.{records, default_config, strip_bom}
 use Rattle.csv.specs.Records.{field_at}
 use Rattle.vx_values.specs.Values.{Val, num, text, Row}
-use Rattle.vx_rows.specs.Order.{compare_on}
-use Rattle.vx_rows.specs.Keys.{first_clash}
+use Rattle.vx_values.specs.Order.{compare_on}
+use Rattle.vx_values.specs.Keys.{first_clash}
 use Rattle.vx_values.specs.declared.value.ColType.{ColType}
 use Rattle.vx_values.specs.declared.value.ColType.TheVariants as kind
 use Rattle.vx_relations.specs.Relation.{Relation}
@@ -14,6 +14,7 @@ use Rattle.vx_relations.specs.Walk.{◌>>=◌, walk_onto}
 use Rattle.vx_catalog.specs.Number.{number_of}
 use Rattle.vx_catalog.specs.declared.fault.LoadFault.{LoadFault}
 use Rattle.vx_catalog.specs.declared.fault.LoadFault.TheVariants as fault
+use Rattle.vx_values.specs.Limits.{max_rows, max_text_bytes}
 
 -- what a call refused is what the reading refuses; running out of memory excuses, and no reading of bytes fails as a reader does
 abbrev pub Fails : {Y : Type 0} → LoadFault → Result Y LoadFault → Type 0
@@ -56,10 +57,6 @@ next_value row fields prior type = some_value row (length prior) type (field_at 
 -- the row with this number
 unfoldable pub row_of : ℕ → List ColType → List (List ℕ) → Result Row LoadFault
 row_of row types fields = if length fields == length types then walk_onto (next_value row fields) [] types else Err (fault.BadWidth row)
-
--- the most rows that a relation may have
-abbrev pub max_rows : ℕ
-max_rows = 100_000_000
 
 -- the rows so far, and one more
 unfoldable pub row_added : List ColType → List Row → List (List ℕ) → Result (List Row) LoadFault
@@ -114,10 +111,6 @@ no_fall rows (Some row) = Err (fault.OrderBroken row)
 abbrev pub order_kept : List ℕ → List Row → Result (List Row) LoadFault
 order_kept order rows = no_fall rows (first_fall order rows)
 
--- the most bytes that a text may have
-abbrev pub max_bytes : ℕ
-max_bytes = 2 ^ 40
-
 -- the rows, if they meet a relation's keys and then its order
 abbrev pub tested : Relation → List Row → Result (List Row) LoadFault
 tested relation rows = keys_kept 0 relation.keys rows >>= λ rows. order_kept relation.order rows
@@ -125,5 +118,5 @@ tested relation rows = keys_kept 0 relation.keys rows >>= λ rows. order_kept re
 -- the rows of a relation's text: its size, the header, then row by row, then key by key, then the order
 unfoldable pub load_of : Relation → List ℕ → Result (List Row) LoadFault
 load_of relation bytes =
-    if nat_lt max_bytes (length bytes) then Err fault.TooLarge
+    if nat_lt max_text_bytes (length bytes) then Err fault.TooLarge
     else under_header relation.names relation.types (records_of bytes) >>= tested relation

@@ -3,12 +3,13 @@ use Rattle.std.specs.Prelude.{◌≡◌, ◌↔◌, ℕ, ◌≤◌, List, [], �
 use Rattle.std.specs.List.{AllZip}
 use Rattle.std.specs.Str.{is_utf8}
 use Rattle.vx_values.specs.Values.{Val, num, text, Row}
-use Rattle.vx_rows.specs.Order.{sorted}
+use Rattle.vx_values.specs.Order.{sorted}
 use Rattle.vx_values.specs.declared.value.ColType.{ColType}
 use Rattle.vx_values.specs.declared.value.ColType.TheVariants as kind
 use Rattle.vx_relations.specs.Relation.{Relation, KeysHold}
 use Rattle.vx_catalog.specs.Number.{number_of}
-use Rattle.vx_catalog.specs.Loading.{records_of, is_header, max_rows, max_bytes, load_of}
+use Rattle.vx_catalog.specs.Loading.{records_of, is_header, load_of}
+use Rattle.vx_values.specs.Limits.{max_rows, max_text_bytes}
 
 -- a field of a column of this type stands for this value
 abbrev pub IsValueOf : ColType → List ℕ → Val → Type 0
@@ -33,7 +34,7 @@ Under relation (header ∷ records) rows = (is_header relation.names header ≡ 
 
 -- the bytes are a text of a relation with these rows, within the limits, and the rows meet its keys and its order
 pub record IsTextOf (relation : Relation) (bytes : List ℕ) (rows : List Row) : Type 0 where
-  pub small : length bytes ≤ max_bytes
+  pub small : length bytes ≤ max_text_bytes
   pub under : Under relation (records_of bytes) rows
   pub few : length rows ≤ max_rows
   pub keys : KeysHold relation.keys rows

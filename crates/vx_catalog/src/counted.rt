@@ -4,8 +4,8 @@ ghost use Rattle.std.specs.Prelude.{◌≡◌, ◌⊎◌, ℕ, List, Option, Non
 ghost use Rattle.std.specs.Io.KnownBytes.{IsAtEnd};
 ghost use Rattle.std.specs.Borrow.{GName};
 ghost use Rattle.vx_bytes.specs.Ports.{IsOver};
-ghost use Rattle.vx_catalog.specs.Loading.{max_bytes};
 ghost use Rattle.vx_catalog.specs.Counting.{is_within, left_of, StaysKnown, Settles};
+ghost use Rattle.vx_values.specs.Limits.{max_text_bytes};
 
 use crate::fault::LoadFault;
 use std::io;
@@ -13,12 +13,10 @@ use std::io::{ErrorKind, Read};
 use std::marker::{Brand, PhantomData};
 use vx_bytes::ByteIn;
 use vx_rows::Table;
-
-// The most bytes that a text may have.
-const MAX_BYTES: usize = 1 << 40;
+use vx_values::limits::MAX_TEXT_BYTES;
 
 /// Names a port, and what was known of it when its counting began. A type names them, since the contracts of what reads through a
-/// `Counted` say nothing of it but the bytes that are left.
+/// `LimitedReader` say nothing of it but the bytes that are left.
 pub trait Origin {
     // All bytes that it had, if its type says them.
     ghost text: { Option (List ℕ) };
@@ -46,7 +44,7 @@ pub struct Lent<'a, R> {
 
 /// A reader of the bytes of a port. It fails where the port does, and once it has returned more bytes than a text may have.
 #[derive(Drop)]
-pub struct Counted<'a, R: ByteIn, T: Origin> {
+pub struct LimitedReader<'a, R: ByteIn, T: Origin> {
     port: &'a mut R,
     taken: usize,
     is_at_end: bool,
@@ -56,15 +54,15 @@ pub struct Counted<'a, R: ByteIn, T: Origin> {
     ghost same: { port.ghost_name ≡ T.name },
 }
 
-impl<'a, R: ByteIn, T: Origin> Counted<'a, R, T> {
+impl<'a, R: ByteIn, T: Origin> LimitedReader<'a, R, T> {
     /// None of the bytes of a port.
-    pub fn new(port: &'a mut R) -> Counted<'a, R, T>
+    pub fn new(port: &'a mut R) -> LimitedReader<'a, R, T>
         requires text { R.remaining port.now ≡ T.text }
         requires whole { T.is_reliable ≡ true → (R.is_reliable port.now ≡ true) × (R.has_failed port.now ≡ false) }
         requires same { port.ghost_name ≡ T.name }
         ensures { left_of T.text (R.remaining result.port.now) result.taken result.is_at_end ≡ T.text }
     {
-        Counted {
+        LimitedReader {
             port,
             taken: 0,
             is_at_end: false,
@@ -83,9 +81,9 @@ impl<'a, R: ByteIn, T: Origin> Counted<'a, R, T> {
     // Why a text is not read to its end: it is too large, or else memory ran out. A failure of the port goes before
     // both; the port itself says whether it failed.
     fn refusal(&self) -> LoadFault
-        ensures { (result ≡ LoadFault.NoMemory) ⊎ ((result ≡ LoadFault.TooLarge) × IsOver max_bytes T.text) }
+        ensures { (result ≡ LoadFault.NoMemory) ⊎ ((result ≡ LoadFault.TooLarge) × IsOver max_text_bytes T.text) }
     {
-        if self.taken > MAX_BYTES {
+        if self.taken > MAX_TEXT_BYTES {
             LoadFault::TooLarge
         } else {
             LoadFault::NoMemory
@@ -116,21 +114,21 @@ impl<'a, R: ByteIn, T: Origin> Counted<'a, R, T> {
         if matches!(read, Err(LoadFault::NoMemory)) {
             return Err(self.refusal());
         }
-        if !self.drain() || self.taken > MAX_BYTES {
+        if !self.drain() || self.taken > MAX_TEXT_BYTES {
             return Err(self.refusal());
         }
         read
     }
 }
 
-impl<R: ByteIn, T: Origin> Read for Counted<'_, R, T> {
+impl<R: ByteIn, T: Origin> Read for LimitedReader<'_, R, T> {
     ghost remaining = { λ c. left_of T.text (R.remaining c.port.now) c.taken c.is_at_end };
 
     fn read(&mut self, buf: &mut [u8]) -> io::Result<usize> {
         if self.is_at_end {
             return Ok(0);
         }
-        if self.taken > MAX_BYTES {
+        if self.taken > MAX_TEXT_BYTES {
             return Err(io::Error::from(ErrorKind::FileTooLarge));
         }
         match self.port.read(buf) {

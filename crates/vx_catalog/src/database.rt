@@ -5,7 +5,7 @@ ghost use Rattle.std.specs.Arc.{arc_value};
 ghost use Rattle.vx_relations.specs.Relation.{Meets};
 ghost use Rattle.vx_relations.specs.Catalog.{relation_at};
 ghost use Rattle.vx_catalog.specs.Database.{rows_at, with_rows, IsDatabase, MeetsAll};
-ghost use Rattle.vx_catalog.specs.Loading.{max_rows};
+ghost use Rattle.vx_values.specs.Limits.{max_rows};
 
 use crate::loader::Loaded;
 use crate::shared_table::SharedTable;

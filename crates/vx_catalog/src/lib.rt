@@ -11,7 +11,7 @@ mod record;
 mod shared_table;
 mod writing;
 
-pub use counted::{Counted, Lent, Origin};
+pub use counted::{Lent, LimitedReader, Origin};
 pub use database::Database;
 pub use fault::{LoadFault, WriteFault};
 pub use folder::path_in;

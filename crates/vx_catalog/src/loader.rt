@@ -6,16 +6,17 @@ ghost use Rattle.std.specs.Ordering.{is_lt};
 ghost use Rattle.std.specs.List.{AllByRecursion};
 ghost use Rattle.vx_values.specs.Types.{Fits};
 ghost use Rattle.vx_rows.specs.View.{row, AreColumns};
-ghost use Rattle.vx_rows.specs.Order.{compare_on};
+ghost use Rattle.vx_values.specs.Order.{compare_on};
 ghost use Rattle.vx_relations.specs.Relation.{Meets};
 ghost use Rattle.vx_relations.specs.Catalog.{relation_at, IsRelation};
 ghost use Rattle.vx_catalog.specs.Database.{IsLoaded};
 ghost use Rattle.vx_catalog.specs.Meaning.{LoadLaw};
 ghost use Rattle.vx_catalog.specs.Counting.{StaysKnown};
 ghost use Rattle.vx_catalog.specs.Records.{IsPlain, rest_of};
-ghost use Rattle.vx_catalog.specs.Loading.{Gives, under_header, tested, keys_kept, order_kept, first_fall, load_of, max_rows};
+ghost use Rattle.vx_catalog.specs.Loading.{Gives, under_header, tested, keys_kept, order_kept, first_fall, load_of};
+ghost use Rattle.vx_values.specs.Limits.{max_rows};
 
-use crate::counted::{Counted, Lent, Origin};
+use crate::counted::{Lent, LimitedReader, Origin};
 use crate::fault::LoadFault;
 use crate::record::{is_header, next_record, read_rows};
 use crate::shared_table::SharedTable;
@@ -130,7 +131,7 @@ fn load_text<'p, R: ByteIn, T: Origin>(
     let mut reader = ReaderBuilder::new()
         .has_headers(false)
         .flexible(true)
-        .from_reader(alloc, Counted::<R, T>::new(port));
+        .from_reader(alloc, LimitedReader::<R, T>::new(port));
     let read = read_text(alloc, relation, &mut reader);
     let mut source = reader.into_inner();
     let tested = match source.settle(read) {

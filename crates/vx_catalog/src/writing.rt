@@ -15,7 +15,7 @@ use csv::{StringRecord, Writer, WriterBuilder};
 use itoa::Buffer;
 use std::alloc::{AllocError, Global};
 use vx_bytes::{ByteOut, write_all};
-use vx_rows::Cell;
+use vx_values::Cell;
 use vx_views::{Chunk, Rows};
 
 // Adds the text of a value to a record.

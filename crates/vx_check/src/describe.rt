@@ -14,7 +14,7 @@ use vx_plan_nodes::{
     Aggregate, Binary, Condition, Exchange, ExchangeKind, Name, Phase, Projected, ScanNode, Side,
     TypedNode, TypedPlan, Unary,
 };
-use vx_rows::Value;
+use vx_values::Value;
 
 // Adds a number in plain decimal, or a text as `serde_json` writes it.
 fn push_value(alloc: Global, text: &mut String, value: &Value) -> Result<(), AllocError>

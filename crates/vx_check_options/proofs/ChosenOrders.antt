@@ -9,7 +9,7 @@ use Rattle.vx_plan_nodes.specs.Plan.{Part}
 use Rattle.vx_plan_nodes.specs.Describe.{Copying, whole_rows, columns_kept, left_of, right_of, source}
 use Rattle.vx_check_rules.specs.Rules.{contains, is_prefix, rises_by}
 use Rattle.vx_check_rules.proofs.Bools.{or-false, or-right}
-use Rattle.vx_check_options.specs.Options.{Places, places_from, copies, singles, place_then, places_up, narrowed, or_nowhere, rising}
+use Rattle.vx_check_options.specs.Options.{OrderChoices, places_from, copies, singles, place_then, places_up, narrowed, or_nowhere, rising}
 use Rattle.vx_check_options.specs.Placed.{first_columns, column_at, order_along, is_chosen}
 use Rattle.vx_check_options.specs.Laws.{is_front}
 
@@ -81,11 +81,11 @@ copied-from k (x ∷ xs) c h = by (contains (copies k x) c) refl (copied-from k 
 -- ---- orders along copies
 
 -- there is a column for each place
-abbrev pub are_filled : Places → Bool
+abbrev pub are_filled : OrderChoices → Bool
 are_filled places = list_all is_some_list places
 
 -- the first column of each place is chosen
-pub first-columns-chosen : (places : Places) → are_filled places ≡ true → is_chosen (first_columns places) places ≡ true
+pub first-columns-chosen : (places : OrderChoices) → are_filled places ≡ true → is_chosen (first_columns places) places ≡ true
 first-columns-chosen [] h = refl
 first-columns-chosen ([] ∷ places) h = absurd (true≢false (sym h))
 first-columns-chosen ((c ∷ cs) ∷ places) h =
@@ -97,7 +97,7 @@ whole-flat [] = refl
 whole-flat (x ∷ xs) = ap (λ l. x ∷ l) (whole-flat xs)
 
 -- whole rows have their own places
-pub front-whole : (order : List ℕ) (places : Places) → is_front order places ≡ true → is_front order (places_up whole_rows places) ≡ true
+pub front-whole : (order : List ℕ) (places : OrderChoices) → is_front order places ≡ true → is_front order (places_up whole_rows places) ≡ true
 front-whole [] places h = refl
 front-whole (c ∷ cs) [] h = h
 front-whole (c ∷ cs) ([] ∷ places) h = absurd (true≢false (sym h))
@@ -121,7 +121,7 @@ column-stays [] c h = absurd (true≢false (sym h))
 column-stays (d ∷ ds) c h = ap (λ b. cond b c d) h
 
 -- the order that an input gets is chosen from its places
-pub along-chosen : (k : Copying) (order : List ℕ) (places : Places) → are_filled places ≡ true → is_chosen (order_along k order places) places ≡ true
+pub along-chosen : (k : Copying) (order : List ℕ) (places : OrderChoices) → are_filled places ≡ true → is_chosen (order_along k order places) places ≡ true
 along-chosen k [] places h = first-columns-chosen places h
 along-chosen k (c ∷ cs) [] h = refl
 along-chosen k (c ∷ cs) (s ∷ places) h =
@@ -129,7 +129,7 @@ along-chosen k (c ∷ cs) (s ∷ places) h =
     (column-stands s (unwrap_or (source k c) 0) (and-left (is_some_list s) (are_filled places) h)) (along-chosen k cs places (and-right (is_some_list s) (are_filled places) h))
 
 -- and an order of the output that goes with their copies is copies of it
-pub along-copies : (k : Copying) (order : List ℕ) (places : Places) → is_front order (places_up k places) ≡ true → are_front_copies k (order_along k order places) order ≡ true
+pub along-copies : (k : Copying) (order : List ℕ) (places : OrderChoices) → is_front order (places_up k places) ≡ true → are_front_copies k (order_along k order places) order ≡ true
 along-copies k [] places h = refl
 along-copies k (c ∷ cs) [] h = absurd (true≢false (sym h))
 along-copies k (c ∷ cs) (s ∷ places) h = by (flat_map (copies k) s) refl (along-copies k cs places) h
@@ -146,20 +146,20 @@ along-copies k (c ∷ cs) (s ∷ places) h = by (flat_map (copies k) s) refl (al
 -- ---- narrowed places
 
 -- a chosen order goes with its places
-pub chosen-front : (order : List ℕ) (places : Places) → is_chosen order places ≡ true → is_front order places ≡ true
+pub chosen-front : (order : List ℕ) (places : OrderChoices) → is_chosen order places ≡ true → is_front order places ≡ true
 chosen-front [] places h = refl
 chosen-front (c ∷ cs) [] h = h
 chosen-front (c ∷ cs) (s ∷ places) h =
     and-both (contains s c) (is_front cs places) (and-left (contains s c) (is_chosen cs places) h) (chosen-front cs places (and-right (contains s c) (is_chosen cs places) h))
 
 -- an order of narrowed places goes with the wider ones
-pub front-narrowed : (cols order : List ℕ) (places : Places) → is_front order (or_nowhere (narrowed cols places)) ≡ true → is_front order places ≡ true
+pub front-narrowed : (cols order : List ℕ) (places : OrderChoices) → is_front order (or_nowhere (narrowed cols places)) ≡ true → is_front order places ≡ true
 front-narrowed [] order places h = h
 front-narrowed (x ∷ xs) [] places h = refl
 front-narrowed (x ∷ xs) (c ∷ cs) [] h = h
 front-narrowed (x ∷ xs) (c ∷ cs) (s ∷ places) h = by (contains s x) refl (narrowed xs places) (front-narrowed xs cs places) h
   where
-    by : (b : Bool) → contains s x ≡ b → (o : Option Places) → (is_front cs (or_nowhere o) ≡ true → is_front cs places ≡ true)
+    by : (b : Bool) → contains s x ≡ b → (o : Option OrderChoices) → (is_front cs (or_nowhere o) ≡ true → is_front cs places ≡ true)
         → is_front (c ∷ cs) (or_nowhere (cond b (option_map (λ more. (x ∷ []) ∷ more) o) None)) ≡ true → is_front (c ∷ cs) (s ∷ places) ≡ true
     by true e (Some more) next l =
         and-both (contains s c) (is_front cs places)
@@ -169,12 +169,12 @@ front-narrowed (x ∷ xs) (c ∷ cs) (s ∷ places) h = by (contains s x) refl (
     by false e o next l = absurd (true≢false (sym l))
 
 -- an order of narrowed places begins with their columns
-pub prefix-chosen : (cols order : List ℕ) (places : Places) → is_some (narrowed cols places) ≡ true → is_chosen order (or_nowhere (narrowed cols places)) ≡ true → is_prefix cols order ≡ true
+pub prefix-chosen : (cols order : List ℕ) (places : OrderChoices) → is_some (narrowed cols places) ≡ true → is_chosen order (or_nowhere (narrowed cols places)) ≡ true → is_prefix cols order ≡ true
 prefix-chosen [] order places some h = refl
 prefix-chosen (x ∷ xs) order [] some h = absurd (true≢false (sym some))
 prefix-chosen (x ∷ xs) order (s ∷ places) some h = by (contains s x) (narrowed xs places) order (λ cs. prefix-chosen xs cs places) some h
   where
-    by : (b : Bool) (o : Option Places) (order : List ℕ) → ((cs : List ℕ) → is_some o ≡ true → is_chosen cs (or_nowhere o) ≡ true → is_prefix xs cs ≡ true)
+    by : (b : Bool) (o : Option OrderChoices) (order : List ℕ) → ((cs : List ℕ) → is_some o ≡ true → is_chosen cs (or_nowhere o) ≡ true → is_prefix xs cs ≡ true)
         → is_some (cond b (option_map (λ more. (x ∷ []) ∷ more) o) None) ≡ true
         → is_chosen order (or_nowhere (cond b (option_map (λ more. (x ∷ []) ∷ more) o) None)) ≡ true → is_prefix (x ∷ xs) order ≡ true
     by true (Some more) [] next t l = absurd (true≢false (sym l))
@@ -187,18 +187,18 @@ prefix-chosen (x ∷ xs) order (s ∷ places) some h = by (contains s x) (narrow
 -- ---- no place is empty
 
 -- narrowed places are filled
-pub nowhere-filled : (cols : List ℕ) (places : Places) → are_filled places ≡ true → are_filled (or_nowhere (narrowed cols places)) ≡ true
+pub nowhere-filled : (cols : List ℕ) (places : OrderChoices) → are_filled places ≡ true → are_filled (or_nowhere (narrowed cols places)) ≡ true
 nowhere-filled [] places h = h
 nowhere-filled (x ∷ xs) [] h = refl
 nowhere-filled (x ∷ xs) (s ∷ places) h = by (contains s x) (narrowed xs places) (nowhere-filled xs places (and-right (is_some_list s) (are_filled places) h))
   where
-    by : (b : Bool) (o : Option Places) → are_filled (or_nowhere o) ≡ true → are_filled (or_nowhere (cond b (option_map (λ more. (x ∷ []) ∷ more) o) None)) ≡ true
+    by : (b : Bool) (o : Option OrderChoices) → are_filled (or_nowhere o) ≡ true → are_filled (or_nowhere (cond b (option_map (λ more. (x ∷ []) ∷ more) o) None)) ≡ true
     by true (Some more) next = next
     by true None next = refl
     by false o next = refl
 
 -- and those with others in front
-then-filled : (s : List ℕ) (places : Places) → are_filled places ≡ true → are_filled (place_then s places) ≡ true
+then-filled : (s : List ℕ) (places : OrderChoices) → are_filled places ≡ true → are_filled (place_then s places) ≡ true
 then-filled [] places h = refl
 then-filled (c ∷ cs) places h = h
 
@@ -208,12 +208,12 @@ singles-filled [] = refl
 singles-filled (c ∷ cs) = singles-filled cs
 
 -- and those of copies
-pub up-filled : (k : Copying) (places : Places) → are_filled (places_up k places) ≡ true
+pub up-filled : (k : Copying) (places : OrderChoices) → are_filled (places_up k places) ≡ true
 up-filled k [] = refl
 up-filled k (s ∷ places) = then-filled (flat_map (copies k) s) (places_up k places) (up-filled k places)
 
 -- and those of a concat
-pub rising-filled : (parts : List Part) (places : Places) → are_filled places ≡ true → are_filled (rising parts places) ≡ true
+pub rising-filled : (parts : List Part) (places : OrderChoices) → are_filled places ≡ true → are_filled (rising parts places) ≡ true
 rising-filled parts [] h = refl
 rising-filled parts (s ∷ places) h =
     then-filled (filter (λ c. list_any (λ x. rises_by x (c ∷ [])) parts) s) places (and-right (is_some_list s) (are_filled places) h)
@@ -234,7 +234,7 @@ filtered test (x ∷ xs) c h = by (test x) (filtered test xs c) h
     by false next l = or-right (c == x) (contains xs c) (next l)
 
 -- an order by which the rows rise goes with all places
-pub front-rising : (parts : List Part) (order : List ℕ) (places : Places) → is_front order (rising parts places) ≡ true → is_front order places ≡ true
+pub front-rising : (parts : List Part) (order : List ℕ) (places : OrderChoices) → is_front order (rising parts places) ≡ true → is_front order places ≡ true
 front-rising parts [] places h = refl
 front-rising parts (c ∷ cs) [] h = h
 front-rising parts (c ∷ cs) (s ∷ places) h = by (filter (λ c. list_any (λ x. rises_by x (c ∷ [])) parts) s) refl h

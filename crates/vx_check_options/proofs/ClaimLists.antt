@@ -1,21 +1,23 @@
 -- The claims of a plan, node by node, as the program puts them behind one another.
-use Rattle.std.proofs.Common.{◌≡◌, ℕ, zero, suc, ◌<◌, ◌==◌, Bool, true, false, ◌&&◌, ◌||◌, arith, List, [], ◌∷◌, ◌++◌, length, refl, sym, ap, ◌∙◌, subst, append_assoc, Result, Ok, Err}
+use Rattle.std.proofs.Common.{◌≡◌, ℕ, zero, suc, Bool, false, ◌||◌, Some, slice_get, get_or, List, map, ◌<◌, arith, [], ◌∷◌, ◌++◌, length, refl, sym, ap, ◌∙◌, subst, append_assoc, Result, Ok, Err}
 use Rattle.std.specs.Result.{IfOk}
-use Rattle.std.proofs.lemmas.Bool.{eqb-true}
-use Rattle.std.proofs.lemmas.Bool.Decides.{nat_tests}
-use Rattle.std.proofs.Math.Bool.{and-false}
 use Rattle.vx_relations.specs.Relation.{Relation}
 use Rattle.vx_plan_nodes.specs.Plan.{Part, Claim, Unary, Binary, ExchangeKind, Size, Plan, scan, unary, binary, exchange, claim, size, is_one}
+use Rattle.vx_plan_nodes.specs.declared.typed.Claim as rust_claim
+use Rattle.vx_plan_nodes.specs.Outline.{claim_of}
 use Rattle.vx_plan_nodes.specs.Types.{types_of, width}
 use Rattle.vx_plan_nodes.specs.Describe.{whole_rows, described}
 use Rattle.vx_check_rules.specs.Rules.{covers, contains, within, numbers_below, is_total_order}
-use Rattle.vx_check_rules.specs.Behaviour.{keyed_from}
+use Rattle.vx_plan_nodes.specs.Phases.{first_columns}
+use Rattle.vx_check_rules.specs.Behaviour.{keyed_from, has_key}
+use Rattle.vx_check_rules.proofs.Bools.{or-false}
+use Rattle.vx_check_rules.proofs.Exact.{all-first}
 use Rattle.vx_check_rules.proofs.WidthFacts.{types_of-width}
 use Rattle.vx_check_options.specs.Options.{no_input, parts_at, places_at}
 use Rattle.vx_check_options.specs.Placed.{order_along, order_below, left_order, right_order, order_sent, parts_below, part_sent}
 use Rattle.vx_check_options.specs.FoundKeys.{show, FoundKeys}
 use Rattle.vx_check_options.proofs.WithoutKeys.{claimed-width}
-use Rattle.vx_check_options.specs.Claimed.{note, FoundAt, IsClaimed, reversed_claims}
+use Rattle.vx_check_options.specs.Claimed.{note, keys_of, keys_at, FoundAt, IsClaimed, reversed_claims}
 
 -- what was found of a node's claimed keys
 pub found-at : (catalog : ℕ → Relation) (p : Plan) (lefts rights claimed found : List (List ℕ)) → claimed ≡ (claim p).keys
@@ -58,15 +60,46 @@ exchange-claimed catalog p n c k merge below is q order keys y i f =
     let P : Plan → Type 0 = λ x. FoundAt catalog x (claim y).keys [] keys → IsClaimed catalog x q order (exchange n (note q order keys) k merge y) in
     subst P (sym is) (λ g. (keys, y, refl, i, g)) f
 
+-- ---- claims behind others
+
+get-more : (xs ys : List Claim) (i : ℕ) (c : Claim) → slice_get xs i ≡ Some c → slice_get (xs ++ ys) i ≡ Some c
+get-more [] ys i c h = cc
+get-more (x ∷ xs) ys zero c h = h
+get-more (x ∷ xs) ys (suc i) c h = get-more xs ys i c h
+
+get-last : (xs : List Claim) (c : Claim) → slice_get (xs ++ c ∷ []) (length xs) ≡ Some c
+get-last [] c = refl
+get-last (x ∷ xs) c = get-last xs c
+
+-- the keys of a claim that stands there, also when more are put behind it
+pub keys-there : (claims : List Claim) (i : ℕ) (c : Claim) → slice_get claims i ≡ Some c → keys_at claims (Some i) ≡ c.keys
+keys-there claims i c h = ap keys_of h
+
+pub keys-still : (claims more all : List Claim) (i : ℕ) (c : Claim) → slice_get claims i ≡ Some c → all ≡ claims ++ more → keys_at all (Some i) ≡ c.keys
+keys-still claims more all i c h e = ap (λ cs. keys_at cs (Some i)) e ∙ ap keys_of (get-more claims more i c h)
+
+-- the claim at a place, as the program has it
+pub claim-within : (cs : List rust_claim.Claim) (i : ℕ) (c : Claim) → slice_get (map claim_of cs) i ≡ Some c → i < length cs
+claim-within [] i c h = cc
+claim-within (x ∷ xs) zero c h = omega arith
+claim-within (x ∷ xs) (suc i) c h = let l = claim-within xs i c h in omega (arith, l)
+
+pub claim-there : (cs : List rust_claim.Claim) (i : ℕ) (c : Claim) (r : rust_claim.Claim) → r ≡ get_or cs i r → slice_get (map claim_of cs) i ≡ Some c → claim_of r ≡ c
+claim-there [] i c r e h = cc
+claim-there (x ∷ xs) zero c r e h = let is : claim_of x ≡ c = cc in ap claim_of e ∙ is
+claim-there (x ∷ xs) (suc i) c r e h = claim-there xs i c r e h
+
 -- the claim of a node, whatever keys were found, behind those below
-pub last-put : {T E : Type 0} (r : Result T E) (f : T → List (List ℕ)) (q : Part) (order : List ℕ) (F : List (List ℕ) → Type 0) (C : Plan → Type 0) (x : List (List ℕ) → Plan) (new more old below : List Claim)
-    → ((keys : List (List ℕ)) → F keys → C (x keys)) → ((keys : List (List ℕ)) → (claim (x keys)).keys ≡ keys) → ((keys : List (List ℕ)) → reversed_claims (x keys) ≡ below ++ note q order keys ∷ [])
-    → more ≡ old ++ below → IfOk r (λ v. F (f v)) → IfOk r (λ v. new ≡ more ++ note q order (f v) ∷ [])
-    → IfOk r (λ v. (y : Plan) × C y × (f v ≡ (claim y).keys) × (new ≡ old ++ reversed_claims y))
-last-put (Ok v) f q order F C x new more old below is keys all here found put =
-    let last : Claim = note q order (f v) in
-    (x (f v), is (f v) found, sym (keys (f v)), put ∙ ap (λ cs. cs ++ last ∷ []) here ∙ append_assoc old below (last ∷ []) ∙ ap (λ cs. old ++ cs) (sym (all (f v))))
-last-put (Err e) f q order F C x new more old below is keys all here found put = tt
+pub last-put : {E : Type 0} (r : Result ℕ E) (q : Part) (order : List ℕ) (F : List (List ℕ) → Type 0) (C : Plan → Type 0) (x : List (List ℕ) → Plan) (new more old below : List Claim)
+    → ((keys : List (List ℕ)) → F keys → C (x keys)) → ((keys : List (List ℕ)) → claim (x keys) ≡ note q order keys) → ((keys : List (List ℕ)) → reversed_claims (x keys) ≡ below ++ note q order keys ∷ [])
+    → more ≡ old ++ below → IfOk r (λ at. (keys : List (List ℕ)) × F keys × (at ≡ length more) × (new ≡ more ++ note q order keys ∷ []))
+    → IfOk r (λ at. (y : Plan) × C y × (slice_get new at ≡ Some (claim y)) × (new ≡ old ++ reversed_claims y))
+last-put (Ok at) q order F C x new more old below is its all here put =
+    let keys = put.0 in
+    let last : Claim = note q order keys in
+    let there : slice_get new at ≡ Some (claim (x keys)) = ap (λ cs. slice_get cs at) put.3 ∙ ap (slice_get (more ++ last ∷ [])) put.2 ∙ get-last more last ∙ ap (λ c. Some c) (sym (its keys)) in
+    (x keys, is keys put.1, there, put.3 ∙ ap (λ cs. cs ++ last ∷ []) here ∙ append_assoc old below (last ∷ []) ∙ ap (λ cs. old ++ cs) (sym (all keys)))
+last-put (Err e) q order F C x new more old below is its all here put = tt
 
 -- claims under an equal part and an equal order
 pub claimed-as : (catalog : ℕ → Relation) (p : Plan) (q r : Part) (order other : List ℕ) (y : Plan) → q ≡ r → order ≡ other → IsClaimed catalog p q order y → IsClaimed catalog p r other y
@@ -74,27 +107,13 @@ claimed-as catalog p q r order other y e f is =
     let P : Part → Type 0 = λ a. IsClaimed catalog p a order y in
     let O : List ℕ → Type 0 = λ o. IsClaimed catalog p r o y in subst O f (subst P e is)
 
--- the order of the claim at the top
-pub claimed-order : (catalog : ℕ → Relation) (p : Plan) (q : Part) (order : List ℕ) (x : Plan) → IsClaimed catalog p q order x → (claim x).order ≡ order
-claimed-order catalog (scan n c r m z) q order x is = ap (λ y. (claim y).order) is.1
-claimed-order catalog (unary n c op p) q order x is = ap (λ y. (claim y).order) is.2
-claimed-order catalog (binary n c op p p2) q order x is = ap (λ y. (claim y).order) is.3
-claimed-order catalog (exchange n c k m p) q order x is = ap (λ y. (claim y).order) is.2
-
 -- whether that is a total one
-pub claimed-total : (catalog : ℕ → Relation) (p : Plan) (q : Part) (order : List ℕ) (x : Plan) (keys : List (List ℕ)) (w : ℕ) → IsClaimed catalog p q order x → keys ≡ (claim x).keys → w ≡ width catalog p
-    → (covers keys order || within (numbers_below w) order) ≡ is_total_order catalog x
-claimed-total catalog p q order x keys w is same wide =
-    let ordered = sym (claimed-order catalog p q order x is) in
+pub claimed-total : (catalog : ℕ → Relation) (p : Plan) (q : Part) (order : List ℕ) (x : Plan) (c : Claim) (w : ℕ) → IsClaimed catalog p q order x → c ≡ claim x → w ≡ width catalog p
+    → (covers c.keys c.order || within (numbers_below w) c.order) ≡ is_total_order catalog x
+claimed-total catalog p q order x c w is same wide =
     let w_is : w ≡ width catalog x = wide ∙ sym (claimed-width catalog p q order x is) in
-    rw (same, w_is, ordered) refl
+    rw (same, w_is) refl
 
-missing-step : (n c : ℕ) (xs : List ℕ) → c < suc n → contains xs c ≡ false → (c < n → within (numbers_below n) xs ≡ false) → (b : Bool) → (c == n) ≡ b
-    → (contains xs n && within (numbers_below n) xs) ≡ false
-missing-step n c xs h gone below true e = let same : n ≡ c = sym (eqb-true _ _ e) in rw (same, gone) refl
-missing-step n c xs h gone below false e = rw (below (grind (arith, nat_tests))) (and-false (contains xs n))
-
--- one of the first n is missing
-pub missing-below : (n c : ℕ) (xs : List ℕ) → c < n → contains xs c ≡ false → within (numbers_below n) xs ≡ false
-missing-below zero c xs h gone = absurd (omega arith)
-missing-below (suc n) c xs h gone = missing-step n c xs h gone (λ k. missing-below n c xs k gone) (c == n) refl
+-- whether an order contains all columns
+pub total-first : (w : ℕ) (keys : List (List ℕ)) (order : List ℕ) (b : Bool) → b ≡ has_key whole_rows (first_columns w ∷ []) order → covers keys order ≡ false → b ≡ (covers keys order || within (numbers_below w) order)
+total-first w keys order b e none = e ∙ or-false (within (first_columns w) order) ∙ sym (all-first (contains order) w) ∙ ap (λ a. a || within (numbers_below w) order) (sym none)

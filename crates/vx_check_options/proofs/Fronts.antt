@@ -11,7 +11,7 @@ use Rattle.vx_check_rules.specs.Behaviour.{sources, Sorted, sorted_by, order_aft
 use Rattle.vx_check_rules.proofs.Bools.{or-left, or-right, or-false, any-more}
 use Rattle.vx_check_rules.proofs.WayFacts.{any-flat}
 use Rattle.vx_check_rules.proofs.Exact.{orders-exactly}
-use Rattle.vx_check_options.specs.Options.{copies, Places, singles, place_then, places_up, narrowed, or_nowhere, places_after, places_over_both, rising, places_sent}
+use Rattle.vx_check_options.specs.Options.{copies, OrderChoices, singles, place_then, places_up, narrowed, or_nowhere, places_after, places_over_both, rising, places_sent}
 use Rattle.vx_check_options.specs.Laws.{is_told, is_front}
 use Rattle.vx_check_options.proofs.Telling.{same, gives-is, or-cases}
 use Rattle.vx_check_options.proofs.Alike.{some-is}
@@ -20,7 +20,7 @@ use Rattle.vx_check_options.proofs.Told.{kept-found}
 -- ---- what begins an order
 
 -- what begins a front is one
-front-less : (xs ys : List ℕ) (places : Places) → is_prefix xs ys ≡ true → is_front ys places ≡ true → is_front xs places ≡ true
+front-less : (xs ys : List ℕ) (places : OrderChoices) → is_prefix xs ys ≡ true → is_front ys places ≡ true → is_front xs places ≡ true
 front-less [] ys places h k = refl
 front-less (x ∷ xs) [] places h k = cc
 front-less (x ∷ xs) (y ∷ ys) [] h k = cc
@@ -30,8 +30,8 @@ front-less (x ∷ xs) (y ∷ ys) (s ∷ places) h k =
     (front-less xs ys places (and-right (x == y) (is_prefix xs ys) h) (and-right (contains s y) (is_front ys places) k))
 
 -- a front that begins with some columns is one where those are alone at their places
-narrowed-front : (xs ys : List ℕ) (places : Places) → is_prefix xs ys ≡ true → is_front ys places ≡ true
-    → (more : Places) × (narrowed xs places ≡ Some more) × (is_front ys more ≡ true)
+narrowed-front : (xs ys : List ℕ) (places : OrderChoices) → is_prefix xs ys ≡ true → is_front ys places ≡ true
+    → (more : OrderChoices) × (narrowed xs places ≡ Some more) × (is_front ys more ≡ true)
 narrowed-front [] ys places h k = (places, refl, k)
 narrowed-front (x ∷ xs) [] places h k = cc
 narrowed-front (x ∷ xs) (y ∷ ys) [] h k = cc
@@ -44,10 +44,10 @@ narrowed-front (x ∷ xs) (y ∷ ys) (s ∷ places) h k =
       and-both (contains (x ∷ []) y) (is_front ys w.0) (rw is (or-left (y == y) false (same y))) w.2,
     )
 
-pub narrowed-some : (xs ys : List ℕ) (places : Places) → is_prefix xs ys ≡ true → is_front ys places ≡ true → is_some (narrowed xs places) ≡ true
+pub narrowed-some : (xs ys : List ℕ) (places : OrderChoices) → is_prefix xs ys ≡ true → is_front ys places ≡ true → is_some (narrowed xs places) ≡ true
 narrowed-some xs ys places h k = let w = narrowed-front xs ys places h k in rw w.1 refl
 
-pub narrowed-kept : (xs ys : List ℕ) (places : Places) → is_prefix xs ys ≡ true → is_front ys places ≡ true → is_front ys (or_nowhere (narrowed xs places)) ≡ true
+pub narrowed-kept : (xs ys : List ℕ) (places : OrderChoices) → is_prefix xs ys ≡ true → is_front ys places ≡ true → is_front ys (or_nowhere (narrowed xs places)) ≡ true
 narrowed-kept xs ys places h k = let w = narrowed-front xs ys places h k in rw w.1 w.2
 
 pub front-singles : (xs ys : List ℕ) → is_prefix xs ys ≡ true → is_front xs (singles ys) ≡ true
@@ -66,22 +66,22 @@ up-has : (k : Copying) → Finds k → (s : List ℕ) (c d : ℕ) → source k d
 up-has k finds s c d e h =
     any-flat (λ y. d == y) (copies k) s ∙ any-more (λ y. c == y) (λ x. contains (copies k x) d) s (λ x i. let is : c ≡ x = eqb-true c x i in rw is at (finds c d e)) h
 
-place-front : (s : List ℕ) (places : Places) (d : ℕ) (ds : List ℕ) → contains s d ≡ true → is_front ds places ≡ true → is_front (d ∷ ds) (place_then s places) ≡ true
+place-front : (s : List ℕ) (places : OrderChoices) (d : ℕ) (ds : List ℕ) → contains s d ≡ true → is_front ds places ≡ true → is_front (d ∷ ds) (place_then s places) ≡ true
 place-front [] places d ds h k = cc
 place-front (c ∷ cs) places d ds h k = and-both (contains (c ∷ cs) d) (is_front ds places) h k
 
 -- copies of a front's columns are a front of the copies
-up-front : (k : Copying) → Finds k → (ds cs : List ℕ) (places : Places) → sources k ds ≡ Some cs → is_front cs places ≡ true → is_front ds (places_up k places) ≡ true
+up-front : (k : Copying) → Finds k → (ds cs : List ℕ) (places : OrderChoices) → sources k ds ≡ Some cs → is_front cs places ≡ true → is_front ds (places_up k places) ≡ true
 up-front k finds [] cs places e h = refl
 up-front k finds (d ∷ ds) cs places e h = by (source k d) (sources k ds) refl (λ es more i j. up-front k finds ds es more i j) e
   where
-    at : (c : ℕ) (es : List ℕ) (places : Places) → source k d ≡ Some c → ((more : Places) → is_front es more ≡ true → is_front ds (places_up k more) ≡ true)
+    at : (c : ℕ) (es : List ℕ) (places : OrderChoices) → source k d ≡ Some c → ((more : OrderChoices) → is_front es more ≡ true → is_front ds (places_up k more) ≡ true)
         → is_front (c ∷ es) places ≡ true → is_front (d ∷ ds) (places_up k places) ≡ true
     at c es [] s more f = cc
     at c es (x ∷ xs) s more f =
         place-front (flat_map (copies k) x) (places_up k xs) d ds (up-has k finds x c d s (and-left (contains x c) (is_front es xs) f)) (more xs (and-right (contains x c) (is_front es xs) f))
 
-    by : (o : Option ℕ) (os : Option (List ℕ)) → source k d ≡ o → ((es : List ℕ) (more : Places) → os ≡ Some es → is_front es more ≡ true → is_front ds (places_up k more) ≡ true)
+    by : (o : Option ℕ) (os : Option (List ℕ)) → source k d ≡ o → ((es : List ℕ) (more : OrderChoices) → os ≡ Some es → is_front es more ≡ true → is_front ds (places_up k more) ≡ true)
         → cons_both o os ≡ Some cs → is_front (d ∷ ds) (places_up k places) ≡ true
     by None os s more i = cc
     by (Some c) None s more i = cc
@@ -102,12 +102,12 @@ op-finds (group plain by aggregates) = kept-finds by
 op-finds (group partial by aggregates) = kept-finds by
 op-finds (group final by aggregates) = kept-finds by
 
-after-front : (o : OrderAfter) (cs below : List ℕ) (places : Places) → is_prefix cs (order_after o below) ≡ true → is_front below places ≡ true → is_front cs (places_after o places) ≡ true
+after-front : (o : OrderAfter) (cs below : List ℕ) (places : OrderChoices) → is_prefix cs (order_after o below) ≡ true → is_front below places ≡ true → is_front cs (places_after o places) ≡ true
 after-front order_kept cs below places h k = front-less cs below places h k
 after-front (sorted_on cols) cs below places h k = front-singles cs cols h
 
 -- the order that an operator over one input shows
-pub unary-front : (catalog : ℕ → Relation) (n : ℕ) (d : Claim) (op : Unary) (p : Plan) (places : Places) → orders catalog (unary n d op p) d.order ≡ true → is_front (claim p).order places ≡ true
+pub unary-front : (catalog : ℕ → Relation) (n : ℕ) (d : Claim) (op : Unary) (p : Plan) (places : OrderChoices) → orders catalog (unary n d op p) d.order ≡ true → is_front (claim p).order places ≡ true
     → is_front d.order (places_up (described op).copying (places_after (described op).order places)) ≡ true
 unary-front catalog n d op p places h k =
     let from : Sorted = sorted_by (described op).copying (order_after (described op).order (claim p).order) in
@@ -116,7 +116,7 @@ unary-front catalog n d op p places h k =
     up-front (described op).copying (op-finds op) d.order w.0 (places_after (described op).order places) w.1 (after-front (described op).order w.0 (claim p).order places w.2 k)
 
 -- of one over two
-pub binary-front : (catalog : ℕ → Relation) (n : ℕ) (d : Claim) (op : Binary) (p q : Plan) (places : Places) → orders catalog (binary n d op p q) d.order ≡ true → order_given (binary n d op p q) ≡ true
+pub binary-front : (catalog : ℕ → Relation) (n : ℕ) (d : Claim) (op : Binary) (p q : Plan) (places : OrderChoices) → orders catalog (binary n d op p q) d.order ≡ true → order_given (binary n d op p q) ≡ true
     → is_front (claim p).order places ≡ true → is_front d.order (places_over_both op places) ≡ true
 binary-front catalog n d union p q places h g k = none d.order h
   where
@@ -150,7 +150,7 @@ kept-has f (c ∷ s) d h k = by (f c) refl (kept-has f s d h)
     by false e more =
         ⊎_elim (λ i. let is : d ≡ c = eqb-true d c i in let t : f c ≡ true = rw is at h in cc) more (or-cases (d == c) (contains s d) k)
 
-rising-front : (parts : List Part) (y : Part) (order : List ℕ) (places : Places) → is_told parts y ≡ true → rises_by y order ≡ true → is_front order places ≡ true → is_front order (rising parts places) ≡ true
+rising-front : (parts : List Part) (y : Part) (order : List ℕ) (places : OrderChoices) → is_told parts y ≡ true → rises_by y order ≡ true → is_front order places ≡ true → is_front order (rising parts places) ≡ true
 rising-front parts y [] places h r k = refl
 rising-front parts y (d ∷ order) [] h r k = cc
 rising-front parts y (d ∷ order) (s ∷ places) h r k =
@@ -159,7 +159,7 @@ rising-front parts y (d ∷ order) (s ∷ places) h r k =
     (kept-has f s d (any-more (λ x. part_gives x y) (λ x. rises_by x (d ∷ [])) parts (λ x e. rises-more x y d order e r) h) (and-left (contains s d) (is_front order places) k))
     (and-right (contains s d) (is_front order places) k)
 
-sent-front : (k : ExchangeKind) (merge : List ℕ) (parts : List Part) (places : Places) (c : Claim) (order : List ℕ) → may_merge k merge ≡ true
+sent-front : (k : ExchangeKind) (merge : List ℕ) (parts : List Part) (places : OrderChoices) (c : Claim) (order : List ℕ) → may_merge k merge ≡ true
     → (is_prefix order merge || (goes_on k c && is_prefix order c.order)) ≡ true → is_told parts c.part ≡ true → is_front c.order places ≡ true
     → is_front order (places_sent k merge parts places) ≡ true
 sent-front (route_to z r cols) merge parts places c order m h t f = front-singles order merge (sym (or-false (is_prefix order merge)) ∙ h)
@@ -173,7 +173,7 @@ sent-front concat [] parts places c (d ∷ order) m h t f =
 sent-front concat (b ∷ merge) parts places c order m h t f = cc
 
 -- of an exchange over a plan of the same size
-pub exchange-front : (catalog : ℕ → Relation) (n : ℕ) (d : Claim) (k : ExchangeKind) (merge : List ℕ) (p p' : Plan) (parts : List Part) (places : Places) → size p' ≡ size p → may_merge k merge ≡ true
+pub exchange-front : (catalog : ℕ → Relation) (n : ℕ) (d : Claim) (k : ExchangeKind) (merge : List ℕ) (p p' : Plan) (parts : List Part) (places : OrderChoices) → size p' ≡ size p → may_merge k merge ≡ true
     → orders catalog (exchange n d k merge p') d.order ≡ true → is_prefix merge (claim p').order ≡ true → (is_one (size p) || is_told parts (claim p').part) ≡ true → is_front (claim p').order places ≡ true
     → is_front d.order (cond (is_one (size p)) (or_nowhere (narrowed merge places)) (places_sent k merge parts places)) ≡ true
 exchange-front catalog n d k merge p p' parts places e m h g t f = by (is_one (size p)) (rw e at h) t

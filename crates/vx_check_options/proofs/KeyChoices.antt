@@ -4,7 +4,6 @@ use Rattle.std.specs.List.{list_all, list_any, filter}
 use Rattle.std.proofs.lemmas.Bool.{eqb-true}
 use Rattle.std.proofs.lemmas.List.Folds.{list_any-append, list_all-append, list_all-map, list_all_more, list_any_more, list_any_at}
 use Rattle.std.proofs.lemmas.Bool.Decides.{nat_tests}
-use Rattle.vx_values.specs.Lists.{is_some_list}
 use Rattle.vx_values.proofs.Booleans.{and-left, and-right, and-both}
 use Rattle.vx_relations.specs.Catalog.{all_below, are_distinct}
 use Rattle.vx_plan_nodes.specs.Typed.{are_columns}
@@ -93,18 +92,10 @@ choices-allowed k allowed (c ∷ cs) =
     (all-filtered (contains allowed) (λ d. is_column (source k d) c) allowed (within-self allowed)) (choices-allowed k allowed cs)
 
 -- nothing contains one of no columns
-pub none-met : (choices : List (List ℕ)) (x : List ℕ) → list_any (λ ds. not (is_some_list ds)) choices ≡ true → meets_each choices x ≡ true → ⊥
+pub none-met : (choices : List (List ℕ)) (x : List ℕ) → covers choices [] ≡ true → meets_each choices x ≡ true → ⊥
 none-met [] x h k = cc
 none-met ([] ∷ choices) x h k = cc
 none-met ((d ∷ ds) ∷ choices) x h k = none-met choices x h (and-right (list_any (contains x) (d ∷ ds)) (meets_each choices x) k)
-
--- no columns
-pub is-empty : (xs : List ℕ) → not (is_some_list xs) ≡ (length xs == 0)
-is-empty [] = refl
-is-empty (x ∷ xs) = more (length xs)
-  where
-    more : (n : ℕ) → false ≡ (suc n == 0)
-    more n = grind (arith, nat_tests)
 
 -- ---- a key of each input together
 
@@ -121,7 +112,7 @@ both-met k j allowed key other x w =
 
 -- where a column has no copy there is no key
 pub finds-no-copy : (k j : Copying) (allowed key other : List ℕ) (choices keys : List (List ℕ)) → choices ≡ choices_of k allowed key ++ choices_of j allowed other
-    → list_any (λ ds. not (is_some_list ds)) choices ≡ true
+    → covers choices [] ≡ true
     → Finds (IsKey (both_give k j (key ∷ []) (other ∷ [])) allowed) (IsShown (both_give k j (key ∷ []) (other ∷ [])) allowed) keys keys
 finds-no-copy k j allowed key other choices keys e h =
     finds-none (IsKey (both_give k j (key ∷ []) (other ∷ [])) allowed) (IsShown (both_give k j (key ∷ []) (other ∷ [])) allowed) keys

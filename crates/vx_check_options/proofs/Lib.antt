@@ -1,5 +1,7 @@
 pub mod CopyLists
 pub mod PartLists
+pub mod OptionFacts
+pub mod PlaceLists
 pub mod Telling
 pub mod Alike
 pub mod Told

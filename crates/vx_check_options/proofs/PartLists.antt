@@ -1,10 +1,17 @@
 -- Lists of parts, as loops make them.
-use Rattle.std.proofs.Common.{Vec, Global, ℕ, suc, ◌≡◌, ◌+◌, ◌<◌, true, false, List, [], ◌∷◌, ◌++◌, map, length, get_or, drop, refl, sym, ap, ◌∙◌, arith}
+use Rattle.std.proofs.Common.{Vec, Global, ℕ, suc, ◌≡◌, ◌+◌, ◌<◌, ◌||◌, Bool, true, false, cond, Option, Some, None, option_map, List, [], ◌∷◌, ◌++◌, map, length, get_or, drop, take, refl, sym, ap, ◌∙◌, arith}
+use Rattle.std.proofs.lemmas.List.{append-nil}
 use Rattle.std.proofs.Math.Numerals.{add-one}
 use Rattle.std.proofs.Math.Seq.{drop-cons}
-use Rattle.std.specs.List.{list_any}
-use Rattle.vx_plan_nodes.specs.Plan.{Route, Part, routed}
-use Rattle.vx_check_options.specs.Options.{routed_by, same_part, with_part, with_parts}
+use Rattle.std.specs.List.{list_any, filter, find}
+use Rattle.std.specs.Prelude.{is_some}
+use Rattle.vx_values.specs.Lists.{is_some_list}
+use Rattle.vx_relations.specs.Relation.{Relation}
+use Rattle.vx_plan_nodes.specs.Plan.{Route, Part, routed, Plan, size, is_one}
+use Rattle.vx_check_rules.specs.Refusal.{or_else}
+use Rattle.vx_check_options.specs.Options.{routed_by, same_part, with_part, with_parts, is_routed, most_telling, gives_part}
+use Rattle.vx_check_options.specs.Placed.{first_two, is_given}
+use Rattle.vx_check_options.proofs.PlacedParts.{filter-some}
 
 pub part-added : (parts : List Part) (q : Part) → list_any (same_part q) parts ≡ false → parts ++ q ∷ [] ≡ with_part parts q
 part-added parts q e = rw e refl
@@ -16,6 +23,10 @@ part-there parts q e = rw e refl
 pub with-both : (parts qs rs : List Part) → with_parts parts (qs ++ rs) ≡ with_parts (with_parts parts qs) rs
 with-both parts [] rs = refl
 with-both parts (q ∷ qs) rs = with-both (with_part parts q) qs rs
+
+-- nothing more
+pub with-end : (now new qs : List Part) → new ≡ with_parts now qs → new ≡ with_parts now (qs ++ [])
+with-end now new qs e = e ∙ ap (with_parts now) (sym (append-nil qs))
 
 -- one item further in a loop that puts the parts of each item behind those that it has
 pub loop-more : {X : Type 0} (F : List X → List Part) (f : X → List Part) → ((x : X) (xs : List X) → F (x ∷ xs) ≡ f x ++ F xs) → (xs : List X) (i : ℕ) (x : X) → i < length xs → x ≡ get_or xs i x
@@ -32,3 +43,62 @@ routed-some r (v ∷ vs) some = ap (λ more. routed r v.items ∷ more) (compose
     composed : (xs : List (Vec ℕ Global)) → map (λ (v : Vec ℕ Global). routed r v.items) xs ≡ map (routed r) (map (λ (v : Vec ℕ Global). v.items) xs)
     composed [] = refl
     composed (x ∷ xs) = ap (λ more. routed r x.items ∷ more) (composed xs)
+
+-- ---- the parts that tell the most
+
+filter-none : (xs : List Part) → list_any is_routed xs ≡ false → filter is_routed xs ≡ []
+filter-none [] h = refl
+filter-none (x ∷ xs) h = by (is_routed x) (filter-none xs) h
+  where
+    by : (b : Bool) → (list_any is_routed xs ≡ false → filter is_routed xs ≡ []) → (b || list_any is_routed xs) ≡ false → cond b (x ∷ filter is_routed xs) (filter is_routed xs) ≡ []
+    by true f h = cc
+    by false f h = f h
+
+some-parts : (xs : List Part) → is_some_list xs ≡ true → length xs ≡ 0 → ⊥
+some-parts [] h e = cc
+some-parts (x ∷ xs) h e = cc
+
+pub telling-none : (xs : List Part) → length (filter is_routed xs) ≡ 0 → xs ≡ most_telling xs
+telling-none xs e = by (list_any is_routed xs) refl
+  where
+    by : (b : Bool) → list_any is_routed xs ≡ b → xs ≡ cond b (filter is_routed xs) xs
+    by true h = absurd (some-parts (filter is_routed xs) (filter-some is_routed xs h) e)
+    by false h = refl
+
+pub telling-some : (xs : List Part) → 0 < length (filter is_routed xs) → filter is_routed xs ≡ most_telling xs
+telling-some xs l = by (list_any is_routed xs) refl
+  where
+    by : (b : Bool) → list_any is_routed xs ≡ b → filter is_routed xs ≡ cond b (filter is_routed xs) xs
+    by true h = refl
+    by false h = absurd (let e = ap length (filter-none xs h) in omega (arith, e, l))
+
+-- ---- the first parts with which a node shows its own
+
+find-any : (test : Part → Bool) (xs : List Part) → is_some (find test xs) ≡ list_any test xs
+find-any test [] = refl
+find-any test (x ∷ xs) = by (test x) (find-any test xs)
+  where
+    by : (b : Bool) → is_some (find test xs) ≡ list_any test xs → is_some (cond b (Some x) (find test xs)) ≡ (b || list_any test xs)
+    by true e = refl
+    by false e = e
+
+pub two-any : (test : Part → Part → Bool) (xs ys : List Part) → is_some (first_two test xs ys) ≡ list_any (λ x. list_any (test x) ys) xs
+two-any test [] ys = refl
+two-any test (x ∷ xs) ys = by (find (test x) ys) (list_any (test x) ys) (find-any (test x) ys) (two-any test xs ys)
+  where
+    by : (o : Option Part) (b : Bool) → is_some o ≡ b → is_some (first_two test xs ys) ≡ list_any (λ z. list_any (test z) ys) xs
+        → is_some (or_else {X = Part × Part} (option_map {U = Part × Part} (λ y. (x, y)) o) (first_two test xs ys)) ≡ (b || list_any (λ z. list_any (test z) ys) xs)
+    by (Some y) b e more = rw (sym e) refl
+    by None b e more = rw (sym e) more
+
+-- of a node on several workers
+pub two-given : (catalog : ℕ → Relation) (p : Plan) (q : Part) (xs ys : List Part) → is_one (size p) ≡ false → is_some (first_two (is_given catalog p q) xs ys) ≡ list_any (λ x. list_any (gives_part catalog p q x) ys) xs
+two-given catalog p q xs ys several = two-any (is_given catalog p q) xs ys ∙ ap (λ b. list_any (λ x. list_any (λ y. b || gives_part catalog p q x y) ys) xs) several
+
+pub given-some : (o : Option (Part × Part)) (w : Part × Part) (b : Bool) (q : Part) → o ≡ Some w → is_some o ≡ b → q ∷ [] ≡ take 64 (cond b (q ∷ []) [])
+given-some o w true q e h = refl
+given-some o w false q e h = cc
+
+pub given-none : (o : Option (Part × Part)) (b : Bool) (q : Part) → o ≡ None → is_some o ≡ b → [] ≡ take 64 (cond b (q ∷ []) [])
+given-none o true q e h = cc
+given-none o false q e h = refl

@@ -16,7 +16,7 @@ use Rattle.vx_check_rules.specs.Behaviour.{own, gives, sources, order_after, way
 use Rattle.vx_check_rules.proofs.Bools.{or-left, or-right, any-more}
 use Rattle.vx_check_rules.proofs.Exact.{fits-exactly, parts-exactly, orders-exactly}
 use Rattle.vx_check_rules.proofs.Refusals.{none-both, none-failed}
-use Rattle.vx_check_options.specs.Options.{told_parts, parts_at, Places, singles, narrowed, or_nowhere, places_over_both, places_sent, rising, places_at, can_send, can_meet, can_order, can_keep, fit_tests, first_unfit}
+use Rattle.vx_check_options.specs.Options.{told_parts, parts_at, OrderChoices, singles, narrowed, or_nowhere, places_over_both, places_sent, rising, places_at, can_send, can_meet, can_order, can_keep, fit_tests, first_unfit}
 use Rattle.vx_check_options.specs.Placed.{order_along, order_below, left_order, right_order, order_sent, is_chosen, first_part, parts_below, part_sent, keyless, placed, bare}
 use Rattle.vx_check_options.specs.Laws.{is_option}
 use Rattle.vx_check_options.proofs.PlacedOrders.{same-tests, are_full, full-singles, full-up, full-rising, full-nowhere, first-chosen, along-chosen, chosen-along, prefix-same, begins-same, kept-chosen, goes-on-same, none-chosen, kept-prefix, singles-chosen, then-chosen, below-shown}
@@ -61,12 +61,12 @@ own-placed catalog p q order s =
     ap (λ b. (b, (claim (placed catalog p q order)).part)) (one-placed catalog p q order ∙ s) ∙ ap (λ z. (false, z)) (part-placed catalog p q order)
 
 -- no place of a node is empty
-full-both : (op : Binary) (places : Places) → are_full places ≡ true → are_full (places_over_both op places) ≡ true
+full-both : (op : Binary) (places : OrderChoices) → are_full places ≡ true → are_full (places_over_both op places) ≡ true
 full-both union places h = refl
 full-both (join true on) places h = full-nowhere (map (λ x. x.0) on) places h
 full-both (join false on) places h = h
 
-full-sent : (k : ExchangeKind) (merge : List ℕ) (parts : List Part) (places : Places) (b : Bool) → are_full places ≡ true
+full-sent : (k : ExchangeKind) (merge : List ℕ) (parts : List Part) (places : OrderChoices) (b : Bool) → are_full places ≡ true
     → are_full (cond b (or_nowhere (narrowed merge places)) (places_sent k merge parts places)) ≡ true
 full-sent k merge parts places true h = full-nowhere merge places h
 full-sent (route_to z r cols) merge parts places false h = full-singles merge
@@ -156,7 +156,7 @@ met-back catalog p q order e c hl hr h = by (is_one (size p)) refl
 -- ---- orders
 
 -- an exchange's input is in the order that it merges by exactly where it can be
-sent-given : (k : ExchangeKind) (merge claimed : List ℕ) (parts : List Part) (places : Places) (order : List ℕ) (b : Bool) → may_merge k merge ≡ true → are_full places ≡ true
+sent-given : (k : ExchangeKind) (merge claimed : List ℕ) (parts : List Part) (places : OrderChoices) (order : List ℕ) (b : Bool) → may_merge k merge ≡ true → are_full places ≡ true
     → is_some (narrowed claimed (cond b (or_nowhere (narrowed merge places)) (places_sent k merge parts places))) ≡ true
     → is_chosen order (or_nowhere (narrowed claimed (cond b (or_nowhere (narrowed merge places)) (places_sent k merge parts places)))) ≡ true
     → is_prefix merge (order_along whole_rows (order_sent k b merge order) places) ≡ is_some (narrowed merge places)
@@ -193,7 +193,7 @@ rises-more (routed (by_range k) (c ∷ [])) d ds h = h
 rises-more (routed (by_range k) (c ∷ e ∷ cols)) d ds h = cc
 
 -- rows that rise with the producers are in order one producer after the other
-rising-shown : (merge : List ℕ) (parts : List Part) (places : Places) (order : List ℕ) → is_chosen order (rising parts places) ≡ true
+rising-shown : (merge : List ℕ) (parts : List Part) (places : OrderChoices) (order : List ℕ) → is_chosen order (rising parts places) ≡ true
     → (is_prefix order merge || (rises_by (part_sent concat order parts) (order_along whole_rows order places) && is_prefix order (order_along whole_rows order places))) ≡ true
 rising-shown merge parts places [] h = refl
 rising-shown merge parts [] (d ∷ ds) h = cc
@@ -213,7 +213,7 @@ merged : (merge claimed order : List ℕ) → is_some (narrowed claimed (singles
 merged merge claimed order keep h = ap (is_prefix order) (sym (singles-chosen order merge (kept-chosen claimed (singles merge) order keep h).0)) ∙ prefix-same order
 
 -- an exchange shows its order
-sent-shown : (k : ExchangeKind) (merge claimed : List ℕ) (parts : List Part) (places : Places) (order : List ℕ) (b : Bool) (c : Claim)
+sent-shown : (k : ExchangeKind) (merge claimed : List ℕ) (parts : List Part) (places : OrderChoices) (order : List ℕ) (b : Bool) (c : Claim)
     → c ≡ keyless (part_sent k order parts) (order_along whole_rows (order_sent k b merge order) places)
     → is_some (narrowed claimed (cond b (or_nowhere (narrowed merge places)) (places_sent k merge parts places))) ≡ true
     → is_chosen order (or_nowhere (narrowed claimed (cond b (or_nowhere (narrowed merge places)) (places_sent k merge parts places)))) ≡ true
@@ -314,7 +314,7 @@ all-fit catalog p e =
 abbrev pub Placeable : (ℕ → Relation) → Plan → Type 0
 Placeable catalog p = (bare p ≡ p) ⊎ (first_unfit catalog p ≡ None)
 
-bare-keep : (c : Claim) (places : Places) → keyless any [] ≡ c → is_some (narrowed c.order places) ≡ true
+bare-keep : (c : Claim) (places : OrderChoices) → keyless any [] ≡ c → is_some (narrowed c.order places) ≡ true
 bare-keep c places e = ap (λ (d : Claim). is_some (narrowed d.order places)) (sym e)
 
 bare-part : (c : Claim) → keyless any [] ≡ c → c.part ≡ any
@@ -413,16 +413,16 @@ else-same : {X : Type 0} (o o' u u' : Option X) → o ≡ o' → (o' ≡ None �
 else-same o None u u' e f = rw e (f refl)
 else-same o (Some x) u u' e f = rw e refl
 
-pub left-chosen : (op : Binary) (order : List ℕ) (places : Places) → are_full places ≡ true → is_chosen (left_order op order places) places ≡ true
+pub left-chosen : (op : Binary) (order : List ℕ) (places : OrderChoices) → are_full places ≡ true → is_chosen (left_order op order places) places ≡ true
 left-chosen union order places f = first-chosen places f
 left-chosen (join m on) order places f = along-chosen whole_rows order places f
 
-pub right-chosen : (op : Binary) (places : Places) → are_full places ≡ true → is_chosen (right_order op places) places ≡ true
+pub right-chosen : (op : Binary) (places : OrderChoices) → are_full places ≡ true → is_chosen (right_order op places) places ≡ true
 right-chosen union places f = first-chosen places f
 right-chosen (join true on) places f = along-chosen whole_rows (map (λ x. x.1) on) places f
 right-chosen (join false on) places f = first-chosen places f
 
-pub below-chosen : (a : OrderAfter) (k : Copying) (order : List ℕ) (places : Places) → are_full places ≡ true → is_chosen (order_below a k order places) places ≡ true
+pub below-chosen : (a : OrderAfter) (k : Copying) (order : List ℕ) (places : OrderChoices) → are_full places ≡ true → is_chosen (order_below a k order places) places ≡ true
 below-chosen order_kept k order places f = along-chosen k order places f
 below-chosen (sorted_on cols) k order places f = first-chosen places f
 

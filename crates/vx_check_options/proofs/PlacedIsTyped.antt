@@ -9,7 +9,7 @@ use Rattle.vx_plan_nodes.specs.Describe.{whole_rows, described}
 use Rattle.vx_plan_nodes.specs.Types.{unary_types, binary_types, types_of}
 use Rattle.vx_plan_nodes.specs.Typed.{Scope, are_columns, is_size, is_part, is_claim, is_unary, is_binary, is_kind, may_merge, is_output, typed}
 use Rattle.vx_plan_nodes.specs.Phases.{is_open, opens, phase_fits, both_closed}
-use Rattle.vx_check_options.specs.Options.{Places, no_input, parts_at, places_over, places_at}
+use Rattle.vx_check_options.specs.Options.{OrderChoices, no_input, parts_at, places_over, places_at}
 use Rattle.vx_check_options.specs.Placed.{order_along, order_below, left_order, right_order, order_sent, parts_below, part_sent, is_chosen, keyless, placed}
 use Rattle.vx_check_options.specs.Laws.{is_option}
 use Rattle.vx_check_options.proofs.ChosenParts.{option-passes, parts_below-options, part_sent-option}
@@ -156,7 +156,7 @@ placed-is-typed s (unary n c op p) q order catalog h is_opt chosen =
     let node : Plan = unary n c op p in
     let ts : List ColType = types_of (relation_at s.catalog) p in
     let us : List ColType = types_of (relation_at s.catalog) node in
-    let places : Places = places_at (relation_at s.catalog) p in
+    let places : OrderChoices = places_at (relation_at s.catalog) p in
     let part : Part = (parts_below (relation_at s.catalog) node q (parts_at (relation_at s.catalog) p) no_input).0 in
     let below : List ℕ = order_below (described op).order (described op).copying order places in
     let made : Plan = placed (relation_at s.catalog) p part below in
@@ -176,7 +176,7 @@ placed-is-typed s (binary n c op p p2) q order catalog h is_opt chosen =
     let ts : List ColType = types_of (relation_at s.catalog) p in
     let vs : List ColType = types_of (relation_at s.catalog) p2 in
     let us : List ColType = types_of (relation_at s.catalog) node in
-    let places : Places = places_at (relation_at s.catalog) p in
+    let places : OrderChoices = places_at (relation_at s.catalog) p in
     let lefts : List Part = parts_at (relation_at s.catalog) p in
     let rights : List Part = parts_at (relation_at s.catalog) p2 in
     let parts : Part × Part = parts_below (relation_at s.catalog) node q lefts rights in
@@ -202,7 +202,7 @@ placed-is-typed s (exchange n c k merge p) q order catalog h is_opt chosen =
     let node : Plan = exchange n c k merge p in
     let ts : List ColType = types_of (relation_at s.catalog) p in
     let parts : List Part = parts_at (relation_at s.catalog) p in
-    let places : Places = places_at (relation_at s.catalog) p in
+    let places : OrderChoices = places_at (relation_at s.catalog) p in
     let below : List ℕ = order_along whole_rows (order_sent k (is_one (size p)) merge order) places in
     let made : Plan = placed (relation_at s.catalog) p (part_sent k order parts) below in
     let last : Bool = may_merge k merge && is_output s ts c in

@@ -9,7 +9,7 @@ use Rattle.vx_check_rules.specs.Rules.{part_gives, sizes_match}
 use Rattle.vx_check_rules.specs.Refusal.{or_else, refused_at}
 use Rattle.vx_check_rules.proofs.Bools.{or-false}
 use Rattle.vx_check_rules.proofs.Refusals.{passed, none-both, none-failed}
-use Rattle.vx_check_options.specs.Options.{Places, no_input, told_parts, parts_above, parts_at, same_part, narrowed, or_nowhere, places_after, places_over_both, places_sent, places_over, places_at, can_send, can_meet, can_order, can_keep, fit_tests, first_unfit}
+use Rattle.vx_check_options.specs.Options.{OrderChoices, no_input, told_parts, parts_above, parts_at, same_part, narrowed, or_nowhere, places_after, places_over_both, places_sent, places_over, places_at, can_send, can_meet, can_order, can_keep, fit_tests, first_unfit}
 use Rattle.vx_check_options.specs.Placed.{order_below, left_order, right_order, order_sent, is_chosen, keyless, placed}
 use Rattle.vx_check_options.specs.Laws.{keeps_part, is_option, Keeps}
 use Rattle.vx_check_options.proofs.ChosenParts.{part-is, parts_below-options, part_sent-option}
@@ -71,7 +71,7 @@ option-kept catalog p q lefts rights s h = by (is_one (size p)) (claim p).part s
 -- ---- orders
 
 -- no place of several producers is empty
-sent-filled : (k : ExchangeKind) (merge : List ℕ) (parts : List Part) (places : Places) → are_filled places ≡ true → are_filled (places_sent k merge parts places) ≡ true
+sent-filled : (k : ExchangeKind) (merge : List ℕ) (parts : List Part) (places : OrderChoices) → are_filled places ≡ true → are_filled (places_sent k merge parts places) ≡ true
 sent-filled concat merge parts places h = rising-filled parts places h
 sent-filled (route_to z r cols) merge parts places h = singles-filled merge
 sent-filled (round z) merge parts places h = singles-filled merge
@@ -79,7 +79,7 @@ sent-filled (broadcast z) merge parts places h = singles-filled merge
 sent-filled gather merge parts places h = singles-filled merge
 
 -- and none of an operator over two inputs
-both-filled : (op : Binary) (places : Places) → are_filled places ≡ true → are_filled (places_over_both op places) ≡ true
+both-filled : (op : Binary) (places : OrderChoices) → are_filled places ≡ true → are_filled (places_over_both op places) ≡ true
 both-filled union places h = refl
 both-filled (join true on) places h = nowhere-filled (map (λ x. x.0) on) places h
 both-filled (join false on) places h = h
@@ -100,17 +100,17 @@ places-filled catalog (exchange n c k merge p) =
     by false h = sent-filled k merge (parts_at catalog p) (places_at catalog p) h
 
 -- the orders of the inputs of a node are chosen from their places
-pub below-chosen : (after : OrderAfter) (k : Copying) (order : List ℕ) (places : Places) → are_filled places ≡ true → is_chosen (order_below after k order places) places ≡ true
+pub below-chosen : (after : OrderAfter) (k : Copying) (order : List ℕ) (places : OrderChoices) → are_filled places ≡ true → is_chosen (order_below after k order places) places ≡ true
 below-chosen order_kept k order places f = along-chosen k order places f
 below-chosen (sorted_on cols) k order places f = first-columns-chosen places f
 
 -- of the left input
-pub left-chosen : (op : Binary) (order : List ℕ) (places : Places) → are_filled places ≡ true → is_chosen (left_order op order places) places ≡ true
+pub left-chosen : (op : Binary) (order : List ℕ) (places : OrderChoices) → are_filled places ≡ true → is_chosen (left_order op order places) places ≡ true
 left-chosen union order places f = first-columns-chosen places f
 left-chosen (join m on) order places f = along-chosen whole_rows order places f
 
 -- and of the right one
-pub right-chosen : (op : Binary) (places : Places) → are_filled places ≡ true → is_chosen (right_order op places) places ≡ true
+pub right-chosen : (op : Binary) (places : OrderChoices) → are_filled places ≡ true → is_chosen (right_order op places) places ≡ true
 right-chosen union places f = first-columns-chosen places f
 right-chosen (join true on) places f = along-chosen whole_rows (map (λ x. x.1) on) places f
 right-chosen (join false on) places f = first-columns-chosen places f
@@ -138,7 +138,7 @@ placed-keeps catalog (unary n c op p) q order fit is_opt chosen =
     let node : Plan = unary n c op p in
     let w = none-both (first_unfit catalog p) (refused_at n (fit_tests catalog node)) fit in
     let here = fit-here catalog node (none-failed n (fit_tests catalog node) w.1) in
-    let places : Places = places_over catalog node [] (places_at catalog p) in (
+    let places : OrderChoices = places_over catalog node [] (places_at catalog p) in (
       keyless q order,
       _,
       refl,
@@ -151,7 +151,7 @@ placed-keeps catalog (binary n c op p p2) q order fit is_opt chosen =
     let w = none-both (first_unfit catalog p) (or_else (first_unfit catalog p2) (refused_at n (fit_tests catalog node))) fit in
     let v = none-both (first_unfit catalog p2) (refused_at n (fit_tests catalog node)) w.1 in
     let here = fit-here catalog node (none-failed n (fit_tests catalog node) v.1) in
-    let places : Places = places_over catalog node [] (places_at catalog p) in
+    let places : OrderChoices = places_over catalog node [] (places_at catalog p) in
     let options = parts_below-options catalog node q (parts_at catalog p) (parts_at catalog p2) in (
       keyless q order,
       _,
@@ -165,7 +165,7 @@ placed-keeps catalog (exchange n c k merge p) q order fit is_opt chosen =
     let node : Plan = exchange n c k merge p in
     let w = none-both (first_unfit catalog p) (refused_at n (fit_tests catalog node)) fit in
     let here = fit-here catalog node (none-failed n (fit_tests catalog node) w.1) in
-    let places : Places = places_over catalog node (parts_at catalog p) (places_at catalog p) in (
+    let places : OrderChoices = places_over catalog node (parts_at catalog p) (places_at catalog p) in (
       keyless q order,
       _,
       refl,

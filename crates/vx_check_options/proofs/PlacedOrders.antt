@@ -11,7 +11,7 @@ use Rattle.vx_plan_nodes.specs.Describe.{Copying, whole_rows, columns_kept, left
 use Rattle.vx_check_rules.specs.Rules.{contains, is_prefix, cons_both, if_some}
 use Rattle.vx_check_rules.specs.Behaviour.{sources, order_after}
 use Rattle.vx_check_rules.proofs.Bools.{or-false, or-left, or-right}
-use Rattle.vx_check_options.specs.Options.{places_from, copies, Places, singles, place_then, places_up, narrowed, or_nowhere, places_after, rising}
+use Rattle.vx_check_options.specs.Options.{places_from, copies, OrderChoices, singles, place_then, places_up, narrowed, or_nowhere, places_after, rising}
 use Rattle.vx_check_options.specs.Placed.{first_columns, column_at, order_along, order_below, is_chosen}
 
 -- ---- tests
@@ -107,53 +107,53 @@ copied-from k s d h =
 
 -- ---- places that are not empty
 
-abbrev pub are_full : Places → Bool
+abbrev pub are_full : OrderChoices → Bool
 are_full places = list_all is_some_list places
 
 pub full-singles : (cols : List ℕ) → are_full (singles cols) ≡ true
 full-singles [] = refl
 full-singles (c ∷ cols) = full-singles cols
 
-full-then : (cols : List ℕ) (places : Places) → are_full places ≡ true → are_full (place_then cols places) ≡ true
+full-then : (cols : List ℕ) (places : OrderChoices) → are_full places ≡ true → are_full (place_then cols places) ≡ true
 full-then [] places h = refl
 full-then (c ∷ cols) places h = h
 
-pub full-up : (k : Copying) (places : Places) → are_full (places_up k places) ≡ true
+pub full-up : (k : Copying) (places : OrderChoices) → are_full (places_up k places) ≡ true
 full-up k [] = refl
 full-up k (s ∷ places) = full-then (flat_map (copies k) s) (places_up k places) (full-up k places)
 
-pub full-rising : (parts : List Part) (places : Places) → are_full places ≡ true → are_full (rising parts places) ≡ true
+pub full-rising : (parts : List Part) (places : OrderChoices) → are_full places ≡ true → are_full (rising parts places) ≡ true
 full-rising parts [] h = refl
 full-rising parts (s ∷ places) h = full-then _ places (and-right (is_some_list s) (are_full places) h)
 
 -- ---- narrowed places
 
 -- the first column may stand there, and the others are narrowed
-narrowed-cons : (c : ℕ) (cs s : List ℕ) (places N : Places) → narrowed (c ∷ cs) (s ∷ places) ≡ Some N
-    → (M : Places) × (contains s c ≡ true) × (narrowed cs places ≡ Some M) × (N ≡ (c ∷ []) ∷ M)
+narrowed-cons : (c : ℕ) (cs s : List ℕ) (places N : OrderChoices) → narrowed (c ∷ cs) (s ∷ places) ≡ Some N
+    → (M : OrderChoices) × (contains s c ≡ true) × (narrowed cs places ≡ Some M) × (N ≡ (c ∷ []) ∷ M)
 narrowed-cons c cs s places N e = by (contains s c) (narrowed cs places) refl refl e
   where
-    by : (b : Bool) (o : Option Places) → contains s c ≡ b → narrowed cs places ≡ o → cond b (option_map (λ more. (c ∷ []) ∷ more) o) None ≡ Some N
-        → (M : Places) × (contains s c ≡ true) × (narrowed cs places ≡ Some M) × (N ≡ (c ∷ []) ∷ M)
+    by : (b : Bool) (o : Option OrderChoices) → contains s c ≡ b → narrowed cs places ≡ o → cond b (option_map (λ more. (c ∷ []) ∷ more) o) None ≡ Some N
+        → (M : OrderChoices) × (contains s c ≡ true) × (narrowed cs places ≡ Some M) × (N ≡ (c ∷ []) ∷ M)
     by false o f g h = cc
     by true None f g h = cc
     by true (Some M) f g h = (M, f, g, cc)
 
-full-narrowed : (cs : List ℕ) (places N : Places) → are_full places ≡ true → narrowed cs places ≡ Some N → are_full N ≡ true
+full-narrowed : (cs : List ℕ) (places N : OrderChoices) → are_full places ≡ true → narrowed cs places ≡ Some N → are_full N ≡ true
 full-narrowed [] places N h e = let is : N ≡ places = cc in rw is h
 full-narrowed (c ∷ cs) [] N h e = cc
 full-narrowed (c ∷ cs) (s ∷ places) N h e =
     let w = narrowed-cons c cs s places N e in
     rw w.3 (full-narrowed cs places w.0 (and-right (is_some_list s) (are_full places) h) w.2)
 
-pub full-nowhere : (cs : List ℕ) (places : Places) → are_full places ≡ true → are_full (or_nowhere (narrowed cs places)) ≡ true
+pub full-nowhere : (cs : List ℕ) (places : OrderChoices) → are_full places ≡ true → are_full (or_nowhere (narrowed cs places)) ≡ true
 full-nowhere cs places h = by (narrowed cs places) refl
   where
-    by : (o : Option Places) → narrowed cs places ≡ o → are_full (or_nowhere o) ≡ true
+    by : (o : Option OrderChoices) → narrowed cs places ≡ o → are_full (or_nowhere o) ≡ true
     by None e = refl
     by (Some N) e = full-narrowed cs places N h e
 
-pub narrowed-length : (cs : List ℕ) (places N : Places) → narrowed cs places ≡ Some N → length N ≡ length places
+pub narrowed-length : (cs : List ℕ) (places N : OrderChoices) → narrowed cs places ≡ Some N → length N ≡ length places
 narrowed-length [] places N e = let is : N ≡ places = cc in ap length is
 narrowed-length (c ∷ cs) [] N e = cc
 narrowed-length (c ∷ cs) (s ∷ places) N e =
@@ -161,7 +161,7 @@ narrowed-length (c ∷ cs) (s ∷ places) N e =
     ap length w.3 ∙ ap suc (narrowed-length cs places w.0 w.2)
 
 -- what is chosen of narrowed places is chosen of all, and begins with these columns
-narrowed-chosen : (cs : List ℕ) (places N : Places) (order : List ℕ) → narrowed cs places ≡ Some N → is_chosen order N ≡ true
+narrowed-chosen : (cs : List ℕ) (places N : OrderChoices) (order : List ℕ) → narrowed cs places ≡ Some N → is_chosen order N ≡ true
     → (is_chosen order places ≡ true) × (is_prefix cs order ≡ true)
 narrowed-chosen [] places N order e h = let is : N ≡ places = cc in (rw is at h, refl)
 narrowed-chosen (c ∷ cs) [] N order e h = cc
@@ -186,7 +186,7 @@ some-step f true None h = cc
 some-step f true (Some x) h = (refl, refl)
 
 -- places of which an order is chosen that begins with these columns can be narrowed
-prefix-narrowed : (cs : List ℕ) (places : Places) (order : List ℕ) → is_chosen order places ≡ true → is_prefix cs order ≡ true → is_some (narrowed cs places) ≡ true
+prefix-narrowed : (cs : List ℕ) (places : OrderChoices) (order : List ℕ) → is_chosen order places ≡ true → is_prefix cs order ≡ true → is_some (narrowed cs places) ≡ true
 prefix-narrowed [] places order h k = refl
 prefix-narrowed (c ∷ cs) places [] h k = cc
 prefix-narrowed (c ∷ cs) [] (d ∷ ds) h k = cc
@@ -197,7 +197,7 @@ prefix-narrowed (c ∷ cs) (s ∷ places) (d ∷ ds) h k =
 
 -- ---- chosen orders
 
-pub chosen-length : (order : List ℕ) (places : Places) → is_chosen order places ≡ true → length order ≡ length places
+pub chosen-length : (order : List ℕ) (places : OrderChoices) → is_chosen order places ≡ true → length order ≡ length places
 chosen-length [] [] h = refl
 chosen-length [] (s ∷ places) h = cc
 chosen-length (c ∷ cs) [] h = cc
@@ -215,13 +215,13 @@ column-stands (d ∷ ds) c h = by (contains (d ∷ ds) c) refl
     by true e = e
     by false e = or-left (d == d) (contains ds d) (same-number d)
 
-pub first-chosen : (places : Places) → are_full places ≡ true → is_chosen (first_columns places) places ≡ true
+pub first-chosen : (places : OrderChoices) → are_full places ≡ true → is_chosen (first_columns places) places ≡ true
 first-chosen [] h = refl
 first-chosen ([] ∷ places) h = cc
 first-chosen ((c ∷ cs) ∷ places) h = and-both (contains (c ∷ cs) c) (is_chosen (first_columns places) places) (or-left (c == c) (contains cs c) (same-number c)) (first-chosen places h)
 
 -- the order of an input is chosen
-pub along-chosen : (k : Copying) (cs : List ℕ) (places : Places) → are_full places ≡ true → is_chosen (order_along k cs places) places ≡ true
+pub along-chosen : (k : Copying) (cs : List ℕ) (places : OrderChoices) → are_full places ≡ true → is_chosen (order_along k cs places) places ≡ true
 along-chosen k [] places h = first-chosen places h
 along-chosen k (c ∷ cs) [] h = refl
 along-chosen k (c ∷ cs) (s ∷ places) h =
@@ -229,7 +229,7 @@ along-chosen k (c ∷ cs) (s ∷ places) h =
     (column-stands s (unwrap_or (source k c) 0) (and-left (is_some_list s) (are_full places) h)) (along-chosen k cs places (and-right (is_some_list s) (are_full places) h))
 
 -- a chosen one stays as it is
-pub chosen-along : (order : List ℕ) (places : Places) → is_chosen order places ≡ true → order_along whole_rows order places ≡ order
+pub chosen-along : (order : List ℕ) (places : OrderChoices) → is_chosen order places ≡ true → order_along whole_rows order places ≡ order
 chosen-along [] [] h = refl
 chosen-along [] (s ∷ places) h = cc
 chosen-along (c ∷ cs) [] h = cc
@@ -242,7 +242,7 @@ prefix-same [] = refl
 prefix-same (x ∷ xs) = and-both (x == x) (is_prefix xs xs) (same-number x) (prefix-same xs)
 
 -- it begins with columns that may stand there
-along-begins : (cs : List ℕ) (places : Places) → is_some (narrowed cs places) ≡ true → is_prefix cs (order_along whole_rows cs places) ≡ true
+along-begins : (cs : List ℕ) (places : OrderChoices) → is_some (narrowed cs places) ≡ true → is_prefix cs (order_along whole_rows cs places) ≡ true
 along-begins [] places h = refl
 along-begins (c ∷ cs) [] h = cc
 along-begins (c ∷ cs) (s ∷ places) h =
@@ -250,19 +250,19 @@ along-begins (c ∷ cs) (s ∷ places) h =
     and-both (c == column_at s c) (is_prefix cs (order_along whole_rows cs places)) (ap (λ x. c == x) (column-in s c w.0) ∙ same-number c) (along-begins cs places w.1)
 
 -- an order is given exactly where it can be: of an input that is put in order by these columns
-pub begins-same : (cs : List ℕ) (places : Places) → are_full places ≡ true → is_prefix cs (order_along whole_rows cs places) ≡ is_some (narrowed cs places)
+pub begins-same : (cs : List ℕ) (places : OrderChoices) → are_full places ≡ true → is_prefix cs (order_along whole_rows cs places) ≡ is_some (narrowed cs places)
 begins-same cs places h =
     same-tests _ _ (prefix-narrowed cs places (order_along whole_rows cs places) (along-chosen whole_rows cs places h)) (along-begins cs places)
 
 -- what is chosen of places that can keep these columns
-pub kept-chosen : (cs : List ℕ) (places : Places) (order : List ℕ) → is_some (narrowed cs places) ≡ true → is_chosen order (or_nowhere (narrowed cs places)) ≡ true
+pub kept-chosen : (cs : List ℕ) (places : OrderChoices) (order : List ℕ) → is_some (narrowed cs places) ≡ true → is_chosen order (or_nowhere (narrowed cs places)) ≡ true
     → (is_chosen order places ≡ true) × (is_prefix cs order ≡ true)
 kept-chosen cs places order h k =
     let w = some-is (narrowed cs places) h in
     narrowed-chosen cs places w.0 order w.1 (rw w.1 at k)
 
 -- and of an input whose order goes on
-pub goes-on-same : (claimed cs : List ℕ) (places : Places) (order : List ℕ) → are_full places ≡ true → is_some (narrowed claimed (or_nowhere (narrowed cs places))) ≡ true
+pub goes-on-same : (claimed cs : List ℕ) (places : OrderChoices) (order : List ℕ) → are_full places ≡ true → is_some (narrowed claimed (or_nowhere (narrowed cs places))) ≡ true
     → is_chosen order (or_nowhere (narrowed claimed (or_nowhere (narrowed cs places)))) ≡ true
     → is_prefix cs (order_along whole_rows order places) ≡ is_some (narrowed cs places)
 goes-on-same claimed cs places order f h k =
@@ -281,11 +281,11 @@ none-chosen [] h = refl
 none-chosen (c ∷ cs) h = cc
 
 -- an order that goes on is shown
-pub kept-prefix : (cs : List ℕ) (places : Places) (order : List ℕ) → is_chosen order (or_nowhere (narrowed cs places)) ≡ true
+pub kept-prefix : (cs : List ℕ) (places : OrderChoices) (order : List ℕ) → is_chosen order (or_nowhere (narrowed cs places)) ≡ true
     → is_prefix order (order_along whole_rows order places) ≡ true
 kept-prefix cs places order h = by (narrowed cs places) refl h
   where
-    by : (o : Option Places) → narrowed cs places ≡ o → is_chosen order (or_nowhere o) ≡ true → is_prefix order (order_along whole_rows order places) ≡ true
+    by : (o : Option OrderChoices) → narrowed cs places ≡ o → is_chosen order (or_nowhere o) ≡ true → is_prefix order (order_along whole_rows order places) ≡ true
     by None e k = let is : order ≡ [] = none-chosen order k in rw is refl
     by (Some N) e k = let w = narrowed-chosen cs places N order e k in ap (is_prefix order) (chosen-along order places w.0) ∙ prefix-same order
 
@@ -298,7 +298,7 @@ singles-chosen (d ∷ ds) (c ∷ cols) h =
     let is : d ≡ c = alone-is c d (and-left (contains (c ∷ []) d) (is_chosen ds (singles cols)) h) in
     ap (λ x. x ∷ ds) is ∙ ap (λ xs. c ∷ xs) (singles-chosen ds cols (and-right (contains (c ∷ []) d) (is_chosen ds (singles cols)) h))
 
-pub then-chosen : (d : ℕ) (ds cols : List ℕ) (places : Places) → is_chosen (d ∷ ds) (place_then cols places) ≡ true → (contains cols d ≡ true) × (is_chosen ds places ≡ true)
+pub then-chosen : (d : ℕ) (ds cols : List ℕ) (places : OrderChoices) → is_chosen (d ∷ ds) (place_then cols places) ≡ true → (contains cols d ≡ true) × (is_chosen ds places ≡ true)
 then-chosen d ds [] places h = cc
 then-chosen d ds (c ∷ cols) places h = (and-left (contains (c ∷ cols) d) (is_chosen ds places) h, and-right (contains (c ∷ cols) d) (is_chosen ds places) h)
 
@@ -306,7 +306,7 @@ if-cons : (c : ℕ) (o : Option (List ℕ)) (below : List ℕ) → if_some o (λ
 if-cons c None below h = cc
 if-cons c (Some cs) below h = and-both (c == c) (is_prefix cs below) (same-number c) h
 
-along-shown : (k : Copying) (order : List ℕ) (places : Places) → is_chosen order (places_up k places) ≡ true
+along-shown : (k : Copying) (order : List ℕ) (places : OrderChoices) → is_chosen order (places_up k places) ≡ true
     → if_some (sources k order) (λ cs. is_prefix cs (order_along k order places)) ≡ true
 along-shown k [] places h = refl
 along-shown k (d ∷ ds) [] h = cc
@@ -327,7 +327,7 @@ sorted-shown k (d ∷ ds) (c ∷ cols) h =
     rw from (if-cons c (sources k ds) cols (sorted-shown k ds cols w.1))
 
 -- an order over one input is shown by the input's
-pub below-shown : (a : OrderAfter) (k : Copying) (order : List ℕ) (places : Places) → is_chosen order (places_up k (places_after a places)) ≡ true
+pub below-shown : (a : OrderAfter) (k : Copying) (order : List ℕ) (places : OrderChoices) → is_chosen order (places_up k (places_after a places)) ≡ true
     → if_some (sources k order) (λ cs. is_prefix cs (order_after a (order_below a k order places))) ≡ true
 below-shown order_kept k order places h = along-shown k order places h
 below-shown (sorted_on cols) k order places h = sorted-shown k order cols h

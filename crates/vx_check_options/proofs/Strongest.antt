@@ -16,7 +16,7 @@ use Rattle.vx_check_rules.specs.Behaviour.{sources, Way, way, order_after, gives
 use Rattle.vx_check_rules.proofs.Bools.{or-false, or-left, any-more}
 use Rattle.vx_check_rules.proofs.Exact.{orders-exactly}
 use Rattle.vx_check_rules.proofs.Refusals.{none-both}
-use Rattle.vx_check_options.specs.Options.{places_from, copies, in_front, copied_lists, routed_by, parts_up, parts_of_way, parts_among, same_part, is_routed, told_parts, parts_above, parts_at, Places, singles, place_then, places_up, narrowed, or_nowhere, places_after, places_sent, rising, places_at, fit_tests, first_unfit}
+use Rattle.vx_check_options.specs.Options.{places_from, copies, in_front, copied_lists, routed_by, parts_up, parts_of_way, parts_among, same_part, is_routed, told_parts, parts_above, parts_at, OrderChoices, singles, place_then, places_up, narrowed, or_nowhere, places_after, places_sent, rising, places_at, fit_tests, first_unfit}
 use Rattle.vx_check_options.specs.Placed.{order_along, order_below, order_sent, is_chosen, part_sent, keyless, placed}
 use Rattle.vx_check_options.specs.Laws.{is_option, IsStrongest, AtEach}
 use Rattle.vx_check_options.proofs.PlacedOrders.{same-number, are_full, some-is, narrowed-length, chosen-length, along-chosen, chosen-along, kept-chosen, singles-chosen}
@@ -196,19 +196,19 @@ flat-some k (x ∷ s) c h l = by (c == x) refl (λ g. flat-some k s c g l) h
     by true e more g = joined (copies k x) (flat_map (copies k) s) (ap (λ y. is_some_list (copies k y)) (sym (eqb-true c x e)) ∙ l)
     by false e more g = behind (copies k x) (flat_map (copies k) s) (more g)
 
-then-length : (cols : List ℕ) (places : Places) → is_some_list cols ≡ true → length (place_then cols places) ≡ suc (length places)
+then-length : (cols : List ℕ) (places : OrderChoices) → is_some_list cols ≡ true → length (place_then cols places) ≡ suc (length places)
 then-length [] places h = cc
 then-length (c ∷ cols) places h = refl
 
 -- an order is no longer than there are places with copies
-along-longest : (k : Copying) (o : List ℕ) (places : Places) (below : List ℕ) → ((c d : ℕ) → source k d ≡ Some c → is_some_list (copies k c) ≡ true) → is_chosen below places ≡ true
+along-longest : (k : Copying) (o : List ℕ) (places : OrderChoices) (below : List ℕ) → ((c d : ℕ) → source k d ≡ Some c → is_some_list (copies k c) ≡ true) → is_chosen below places ≡ true
     → if_some (sources k o) (λ cs. is_prefix cs below) ≡ true → length o ≤ length (places_up k places)
 along-longest k [] places below some h l = omega arith
 along-longest k (d ∷ ds) places below some h l = by (source k d) (sources k ds) refl refl places below h l (λ ps bs g m. along-longest k ds ps bs some g m)
   where
-    by : (o : Option ℕ) (os : Option (List ℕ)) → source k d ≡ o → sources k ds ≡ os → (ps : Places) (bs : List ℕ) → is_chosen bs ps ≡ true
+    by : (o : Option ℕ) (os : Option (List ℕ)) → source k d ≡ o → sources k ds ≡ os → (ps : OrderChoices) (bs : List ℕ) → is_chosen bs ps ≡ true
         → if_some (cons_both o os) (λ cs. is_prefix cs bs) ≡ true
-        → ((ps : Places) (bs : List ℕ) → is_chosen bs ps ≡ true → if_some (sources k ds) (λ cs. is_prefix cs bs) ≡ true → length ds ≤ length (places_up k ps))
+        → ((ps : OrderChoices) (bs : List ℕ) → is_chosen bs ps ≡ true → if_some (sources k ds) (λ cs. is_prefix cs bs) ≡ true → length ds ≤ length (places_up k ps))
         → suc (length ds) ≤ length (places_up k ps)
     by None os e f ps bs g m more = cc
     by (Some c) None e f ps bs g m more = cc
@@ -237,7 +237,7 @@ singles-self : (cols : List ℕ) → is_chosen cols (singles cols) ≡ true
 singles-self [] = refl
 singles-self (c ∷ cols) = and-both (contains (c ∷ []) c) (is_chosen cols (singles cols)) (or-left (c == c) false (same-number c)) (singles-self cols)
 
-below-longest : (a : OrderAfter) (k : Copying) (o order : List ℕ) (places : Places) → ((c d : ℕ) → source k d ≡ Some c → is_some_list (copies k c) ≡ true) → are_full places ≡ true
+below-longest : (a : OrderAfter) (k : Copying) (o order : List ℕ) (places : OrderChoices) → ((c d : ℕ) → source k d ≡ Some c → is_some_list (copies k c) ≡ true) → are_full places ≡ true
     → if_some (sources k o) (λ cs. is_prefix cs (order_after a (order_below a k order places))) ≡ true → length o ≤ length (places_up k (places_after a places))
 below-longest order_kept k o order places some f h = along-longest k o places (order_along k order places) some (along-chosen k order places f) h
 below-longest (sorted_on cols) k o order places some f h = along-longest k o (singles cols) cols some (singles-self cols) h
@@ -262,7 +262,7 @@ input-longest catalog p x below o h l =
     let same : length below ≡ length (places_at catalog p) = chosen-length below (places_at catalog p) h in
     omega (arith, shorter, same)
 
-nowhere-length : (cs : List ℕ) (places : Places) → is_some (narrowed cs places) ≡ true → length (or_nowhere (narrowed cs places)) ≡ length places
+nowhere-length : (cs : List ℕ) (places : OrderChoices) → is_some (narrowed cs places) ≡ true → length (or_nowhere (narrowed cs places)) ≡ length places
 nowhere-length cs places h = let w = some-is (narrowed cs places) h in ap (λ o. length (or_nowhere o)) w.1 ∙ narrowed-length cs places w.0 w.1
 
 both-longest : (catalog : ℕ → Relation) (n : ℕ) (c : Claim) (op : Binary) (p q : Plan) (x : Part) (order o : List ℕ) → AllFit catalog (binary n c op p q)
@@ -303,7 +303,7 @@ rises-none (routed (by_range k) []) h = cc
 rises-none (routed (by_range k) (c ∷ [])) h = cc
 rises-none (routed (by_range k) (c ∷ e ∷ cols)) h = cc
 
-rising-length : (parts : List Part) (places : Places) (below : List ℕ) (x : Part) → list_any (same_part x) parts ≡ true → is_chosen below places ≡ true → rises_by x below ≡ true
+rising-length : (parts : List Part) (places : OrderChoices) (below : List ℕ) (x : Part) → list_any (same_part x) parts ≡ true → is_chosen below places ≡ true → rises_by x below ≡ true
     → length (rising parts places) ≡ length places
 rising-length parts places [] x there h r = absurd (rises-none x r)
 rising-length parts [] (d ∷ ds) x there h r = cc
@@ -322,7 +322,7 @@ merged-longest merge claimed order o c keep h l =
     let same : length order ≡ length merge = ap length (singles-chosen order merge (kept-chosen claimed (singles merge) order keep h).0) in
     omega (arith, shorter, same)
 
-sent-longest : (k : ExchangeKind) (merge claimed : List ℕ) (parts : List Part) (places : Places) (order o : List ℕ) (b : Bool) (c : Claim) → may_merge k merge ≡ true → are_full places ≡ true
+sent-longest : (k : ExchangeKind) (merge claimed : List ℕ) (parts : List Part) (places : OrderChoices) (order o : List ℕ) (b : Bool) (c : Claim) → may_merge k merge ≡ true → are_full places ≡ true
     → is_some_list parts ≡ true → is_some (narrowed merge places) ≡ true → c ≡ keyless (part_sent k order parts) (order_along whole_rows (order_sent k b merge order) places)
     → is_some (narrowed claimed (cond b (or_nowhere (narrowed merge places)) (places_sent k merge parts places))) ≡ true
     → is_chosen order (or_nowhere (narrowed claimed (cond b (or_nowhere (narrowed merge places)) (places_sent k merge parts places)))) ≡ true

@@ -9,14 +9,14 @@ use Rattle.vx_plan_nodes.specs.Describe.{Copying, whole_rows, columns_kept, desc
 use Rattle.vx_plan_nodes.specs.Types.{unary_types, binary_types}
 use Rattle.vx_plan_nodes.specs.Typed.{Scope, are_columns, is_unary}
 use Rattle.vx_check_rules.specs.Rules.{contains}
-use Rattle.vx_check_options.specs.Options.{Places, singles, places_up, places_after, narrowed, or_nowhere, places_over_both, places_sent}
+use Rattle.vx_check_options.specs.Options.{OrderChoices, singles, places_up, places_after, narrowed, or_nowhere, places_over_both, places_sent}
 use Rattle.vx_check_options.specs.Placed.{order_along, order_below, left_order, order_sent}
 use Rattle.vx_check_options.specs.Laws.{is_front}
 use Rattle.vx_check_options.proofs.ChosenOrders.{are_front_copies, front-whole, along-chosen, along-copies, chosen-front, front-narrowed, singles-filled, front-rising}
 use Rattle.vx_check_options.proofs.TypedParts.{KeepsTypes, whole-types, left-types, unary-types, columns-copied}
 
 -- an order of copies is of columns where that of the input is
-copies-typed : (k : Copying) (ts us : List ColType) (order : List ℕ) (places : Places) → KeepsTypes k ts us → is_front order (places_up k places) ≡ true
+copies-typed : (k : Copying) (ts us : List ColType) (order : List ℕ) (places : OrderChoices) → KeepsTypes k ts us → is_front order (places_up k places) ≡ true
     → are_columns (length ts) (order_along k order places) ≡ true → are_columns (length us) order ≡ true
 copies-typed k ts us order places keeps h c = columns-copied k ts us (order_along k order places) order keeps (along-copies k order places h) c
 
@@ -43,7 +43,7 @@ pub declared-typed : (s : Scope) (r : ℕ) → IsCatalog s.catalog → nat_lt r 
 declared-typed s r catalog h = let is = catalog.each r h in ap (λ w. are_columns w (relation_at s.catalog r).order) is.typed ∙ is.order
 
 -- the order of an operator over one input
-pub unary-order-typed : (op : Unary) (ts : List ColType) (order : List ℕ) (places : Places) → is_unary ts op ≡ true
+pub unary-order-typed : (op : Unary) (ts : List ColType) (order : List ℕ) (places : OrderChoices) → is_unary ts op ≡ true
     → is_front order (places_up (described op).copying (places_after (described op).order places)) ≡ true
     → are_columns (length ts) (order_below (described op).order (described op).copying order places) ≡ true → are_columns (length (unary_types op ts)) order ≡ true
 unary-order-typed (select cs) ts order places o h c = copies-typed whole_rows ts ts order places (unary-types (select cs) ts) h c
@@ -62,7 +62,7 @@ unary-order-typed (group final by aggregates) ts order places o h c =
     copies-typed (columns_kept by) ts (unary_types (group final by aggregates) ts) order places (unary-types (group final by aggregates) ts) h c
 
 -- of one over two
-pub binary-order-typed : (op : Binary) (ts us : List ColType) (order : List ℕ) (places : Places) → is_front order (places_over_both op places) ≡ true
+pub binary-order-typed : (op : Binary) (ts us : List ColType) (order : List ℕ) (places : OrderChoices) → is_front order (places_over_both op places) ≡ true
     → are_columns (length ts) (left_order op order places) ≡ true → are_columns (length (binary_types op ts us)) order ≡ true
 binary-order-typed union ts us order places h c = none-typed (length ts) order h
 binary-order-typed (join true on) ts us order places h c =
@@ -70,7 +70,7 @@ binary-order-typed (join true on) ts us order places h c =
 binary-order-typed (join false on) ts us order places h c = copies-typed whole_rows ts (ts ++ us) order places (left-types ts us) (front-whole order places h) c
 
 -- and of an exchange
-pub sent-order-typed : (k : ExchangeKind) (alone : Bool) (ts : List ColType) (merge order : List ℕ) (parts : List Part) (places : Places) → are_columns (length ts) merge ≡ true
+pub sent-order-typed : (k : ExchangeKind) (alone : Bool) (ts : List ColType) (merge order : List ℕ) (parts : List Part) (places : OrderChoices) → are_columns (length ts) merge ≡ true
     → is_front order (cond alone (or_nowhere (narrowed merge places)) (places_sent k merge parts places)) ≡ true → are_columns (length ts) (order_along whole_rows (order_sent k alone merge order) places) ≡ true
     → are_columns (length ts) order ≡ true
 sent-order-typed k true ts merge order parts places m h c =

@@ -1,5 +1,5 @@
 -- Plans with claims that are placed from the top down and keys that are found from the inputs upwards, and what such claims are good for.
-use Rattle.std.specs.Prelude.{ℕ, ◌≡◌, ◌<◌, ◌⊎◌, Bool, true, ◌&&◌, List, [], ◌∷◌, ◌++◌, length, None}
+use Rattle.std.specs.Prelude.{ℕ, ◌≡◌, ◌<◌, ◌⊎◌, Bool, true, ◌&&◌, List, [], ◌∷◌, ◌++◌, length, Option, Some, None, slice_get}
 use Rattle.std.specs.List.{list_all}
 use Rattle.vx_relations.specs.Relation.{Relation}
 use Rattle.vx_relations.specs.Catalog.{relation_at, all_below, IsCatalog}
@@ -102,3 +102,12 @@ names_keys catalog (scan n c r m z) = names_keys_at catalog (scan n c r m z)
 names_keys catalog (unary n c op p) = names_keys catalog p && names_keys_at catalog (unary n c op p)
 names_keys catalog (binary n c op p q) = names_keys catalog p && (names_keys catalog q && names_keys_at catalog (binary n c op p q))
 names_keys catalog (exchange n c k m p) = names_keys catalog p && names_keys_at catalog (exchange n c k m p)
+
+-- the keys of the claim at this place, none where there is none
+abbrev pub keys_of : Option Claim → List (List ℕ)
+keys_of None = []
+keys_of (Some c) = c.keys
+
+abbrev pub keys_at : List Claim → Option ℕ → List (List ℕ)
+keys_at claims None = []
+keys_at claims (Some i) = keys_of (slice_get claims i)

@@ -7,7 +7,8 @@ use Rattle.vx_plan_nodes.specs.Plan.{Route, Part, one, any, all, routed, Claim, 
 use Rattle.vx_plan_nodes.specs.Typed.{Scope, typed}
 use Rattle.vx_check_rules.specs.Rules.{part_gives, contains, is_prefix, allowed}
 use Rattle.vx_check_rules.specs.Behaviour.{behaviour, shown_part, shown_order}
-use Rattle.vx_check_options.specs.Options.{Places, parts_at, is_within, places_at, same_part, first_unfit}
+use Rattle.vx_check_options.specs.Options.{OrderChoices, parts_at, is_within, places_at, same_part, first_unfit}
+use Rattle.vx_values.specs.Limits.{max_columns}
 
 -- ---- claims beside others
 
@@ -35,7 +36,7 @@ abbrev pub is_told : List Part → Part → Bool
 is_told parts q = list_any (λ x. part_gives x q) parts
 
 -- each column is one of those that may stand at its place
-abbrev pub is_front : List ℕ → Places → Bool
+abbrev pub is_front : List ℕ → OrderChoices → Bool
 is_front [] places = true
 is_front (c ∷ cs) [] = false
 is_front (c ∷ cs) (s ∷ places) = contains s c && is_front cs places
@@ -57,7 +58,7 @@ OnlyOptions = (s : Scope) (p q : Plan) → Keeps p q → (is_within (relation_at
 -- and no longer order is shown
 pub record IsStrongest (catalog : ℕ → Relation) (p : Plan) : Type 0 where
   pub alone : is_one (size p) ≡ true → (claim p).part ≡ one
-  pub routed_first : is_one (size p) ≡ false → (claim p).part ≡ any → (r : Route) (cols : List ℕ) → list_all (λ c. nat_lt c 64) cols ≡ true
+  pub routed_first : is_one (size p) ≡ false → (claim p).part ≡ any → (r : Route) (cols : List ℕ) → list_all (λ c. nat_lt c max_columns) cols ≡ true
       → shown_part (behaviour catalog p) (routed r cols) ≡ false
   pub longest : (order : List ℕ) → shown_order (behaviour catalog p) order ≡ true → length order ≤ length (claim p).order
 

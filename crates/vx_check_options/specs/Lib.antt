@@ -3,3 +3,4 @@ pub mod Placed
 pub mod Laws
 pub mod FoundKeys
 pub mod Claimed
+pub mod OptionsView

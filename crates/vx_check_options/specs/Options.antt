@@ -8,6 +8,7 @@ use Rattle.vx_plan_nodes.specs.Describe.{Copying, whole_rows, columns_kept, left
 use Rattle.vx_check_rules.specs.Rules.{part_gives, contains, rises_by, sizes_match}
 use Rattle.vx_check_rules.specs.Behaviour.{Way, gives, common_part, ways_from}
 use Rattle.vx_check_rules.specs.Refusal.{Rule, size_mismatch, replicated_input, inputs_not_matched, order_needed, order_not_shown, or_else, refused_at}
+use Rattle.vx_values.specs.Limits.{max_columns}
 
 -- ---- copies of columns
 
@@ -21,7 +22,7 @@ abbrev pub copies : Copying → ℕ → List ℕ
 copies whole_rows c = c ∷ []
 copies (columns_kept cols) c = places_from 0 cols c
 copies (left_of w) c = cond (nat_lt c w) (c ∷ []) []
-copies (right_of w) c = cond (nat_lt c 64) ((w + c) ∷ []) []
+copies (right_of w) c = cond (nat_lt c max_columns) ((w + c) ∷ []) []
 
 -- a copy of the first column in front of each of these lists
 abbrev pub in_front : Copying → ℕ → List (List ℕ) → List (List ℕ)
@@ -134,68 +135,68 @@ is_within catalog (exchange n c k m p) = is_within catalog p && is_within_here c
 -- ---- orders
 
 -- the columns that may stand at each place
-abbrev pub Places : Type 0
-Places = List (List ℕ)
+abbrev pub OrderChoices : Type 0
+OrderChoices = List (List ℕ)
 
-abbrev pub singles : List ℕ → Places
+abbrev pub singles : List ℕ → OrderChoices
 singles cols = map (λ c. c ∷ []) cols
 
 -- these columns in front, if there are any
-abbrev pub place_then : List ℕ → Places → Places
+abbrev pub place_then : List ℕ → OrderChoices → OrderChoices
 place_then [] places = []
 place_then (c ∷ cs) places = (c ∷ cs) ∷ places
 
 -- the copies of what may stand at each place, up to the first that has none
-abbrev pub places_up : Copying → Places → Places
+abbrev pub places_up : Copying → OrderChoices → OrderChoices
 places_up k [] = []
 places_up k (s ∷ places) = place_then (flat_map (copies k) s) (places_up k places)
 
 -- each of these columns alone at its place, if it may stand there
-abbrev pub narrowed : List ℕ → Places → Option Places
+abbrev pub narrowed : List ℕ → OrderChoices → Option OrderChoices
 narrowed [] places = Some places
 narrowed (c ∷ cs) [] = None
 narrowed (c ∷ cs) (s ∷ places) = cond (contains s c) (option_map (λ more. (c ∷ []) ∷ more) (narrowed cs places)) None
 
-abbrev pub or_nowhere : Option Places → Places
+abbrev pub or_nowhere : Option OrderChoices → OrderChoices
 or_nowhere o = unwrap_or o []
 
 -- what becomes of the places of an order
-abbrev pub places_after : OrderAfter → Places → Places
+abbrev pub places_after : OrderAfter → OrderChoices → OrderChoices
 places_after order_kept places = places
 places_after (sorted_on cols) places = singles cols
 
 -- of an operator over two inputs, by the left one's
-abbrev pub places_over_both : Binary → Places → Places
+abbrev pub places_over_both : Binary → OrderChoices → OrderChoices
 places_over_both union places = []
 places_over_both (join true on) places = or_nowhere (narrowed (map (λ x. x.0) on) places)
 places_over_both (join false on) places = places
 
 -- the order begins with a column by whose ranges the rows can be routed
-abbrev pub rising : List Part → Places → Places
+abbrev pub rising : List Part → OrderChoices → OrderChoices
 rising parts [] = []
 rising parts (s ∷ places) = place_then (filter (λ c. list_any (λ x. rises_by x (c ∷ [])) parts) s) places
 
 -- of an exchange of several producers, which can have these parts: what it merges by, or for a concat the producers' order where rows rise with them
-abbrev pub places_sent : ExchangeKind → List ℕ → List Part → Places → Places
+abbrev pub places_sent : ExchangeKind → List ℕ → List Part → OrderChoices → OrderChoices
 places_sent concat merge parts places = rising parts places
 places_sent k merge parts places = singles merge
 
 -- what may stand at each place of an order of the node, where the (left) input can claim these parts and these places
-abbrev pub places_over : (ℕ → Relation) → Plan → List Part → Places → Places
+abbrev pub places_over : (ℕ → Relation) → Plan → List Part → OrderChoices → OrderChoices
 places_over catalog (scan n c r m z) parts places = singles (catalog r).order
 places_over catalog (unary n c op p) parts places = places_up (described op).copying (places_after (described op).order places)
 places_over catalog (binary n c op p q) parts places = places_over_both op places
 places_over catalog (exchange n c k merge p) parts places = cond (is_one (size p)) (or_nowhere (narrowed merge places)) (places_sent k merge parts places)
 
 -- and of the longest order that it can claim, which keeps the one that it claims already
-abbrev pub places_at : (ℕ → Relation) → Plan → Places
+abbrev pub places_at : (ℕ → Relation) → Plan → OrderChoices
 places_at catalog (scan n c r m z) = or_nowhere (narrowed c.order (places_over catalog (scan n c r m z) [] []))
 places_at catalog (unary n c op p) = or_nowhere (narrowed c.order (places_over catalog (unary n c op p) [] (places_at catalog p)))
 places_at catalog (binary n c op p q) = or_nowhere (narrowed c.order (places_over catalog (binary n c op p q) [] (places_at catalog p)))
 places_at catalog (exchange n c k m p) = or_nowhere (narrowed c.order (places_over catalog (exchange n c k m p) (parts_at catalog p) (places_at catalog p)))
 
 -- before the order that it claims already narrows it
-abbrev pub places_here : (ℕ → Relation) → Plan → Places
+abbrev pub places_here : (ℕ → Relation) → Plan → OrderChoices
 places_here catalog (scan n c r m z) = places_over catalog (scan n c r m z) [] []
 places_here catalog (unary n c op p) = places_over catalog (unary n c op p) [] (places_at catalog p)
 places_here catalog (binary n c op p q) = places_over catalog (binary n c op p q) [] (places_at catalog p)

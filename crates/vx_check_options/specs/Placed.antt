@@ -1,16 +1,16 @@
 -- The claims that are placed at all nodes, from the top down: under the part and the order of a node its inputs get those with which they are shown.
-use Rattle.std.specs.Prelude.{ℕ, Bool, true, false, cond, ◌&&◌, ◌||◌, List, [], ◌∷◌, map, find, Option, None, option_map, unwrap_or}
+use Rattle.std.specs.Prelude.{ℕ, Bool, true, false, cond, ◌&&◌, ◌||◌, List, [], ◌∷◌, map, find, Option, Some, None, option_map, unwrap_or, slice_get}
 use Rattle.vx_relations.specs.Relation.{Relation}
 use Rattle.vx_plan_nodes.specs.Plan.{Part, any, Claim, Binary, union, join, ExchangeKind, concat, Plan, scan, unary, binary, exchange, size, is_one}
 use Rattle.vx_plan_nodes.specs.Describe.{Copying, whole_rows, source, OrderAfter, order_kept, sorted_on, described}
 use Rattle.vx_check_rules.specs.Rules.{contains, rises_by}
 use Rattle.vx_check_rules.specs.Refusal.{or_else}
-use Rattle.vx_check_options.specs.Options.{Places, no_input, gives_part, parts_at, places_at}
+use Rattle.vx_check_options.specs.Options.{OrderChoices, no_input, gives_part, parts_at, places_at}
 
 -- ---- orders
 
 -- the first column of each place
-abbrev pub first_columns : Places → List ℕ
+abbrev pub first_columns : OrderChoices → List ℕ
 first_columns [] = []
 first_columns ([] ∷ places) = []
 first_columns ((c ∷ cs) ∷ places) = c ∷ first_columns places
@@ -21,22 +21,27 @@ column_at [] c = c
 column_at (d ∷ ds) c = cond (contains (d ∷ ds) c) c d
 
 -- the order of an input with these places, under an order of the output: the columns of which those are copies, where they may stand, and then the first ones
-abbrev pub order_along : Copying → List ℕ → Places → List ℕ
+abbrev pub order_along : Copying → List ℕ → OrderChoices → List ℕ
 order_along k [] places = first_columns places
 order_along k (c ∷ cs) [] = []
 order_along k (c ∷ cs) (s ∷ places) = column_at s (unwrap_or (source k c) 0) ∷ order_along k cs places
 
+-- the column at one place of it, under the column of that order there: one place's part of what comes before
+abbrev pub next_column : Copying → Option ℕ → List ℕ → Option ℕ
+next_column k (Some c) s = Some (column_at s (unwrap_or (source k c) 0))
+next_column k None s = slice_get s 0
+
 -- under an operator over one input; the order of a sort is its own
-abbrev pub order_below : OrderAfter → Copying → List ℕ → Places → List ℕ
+abbrev pub order_below : OrderAfter → Copying → List ℕ → OrderChoices → List ℕ
 order_below order_kept k order places = order_along k order places
 order_below (sorted_on cols) k order places = first_columns places
 
 -- under one over two inputs, the left one's and the right one's
-abbrev pub left_order : Binary → List ℕ → Places → List ℕ
+abbrev pub left_order : Binary → List ℕ → OrderChoices → List ℕ
 left_order union order places = first_columns places
 left_order (join m on) order places = order_along whole_rows order places
 
-abbrev pub right_order : Binary → Places → List ℕ
+abbrev pub right_order : Binary → OrderChoices → List ℕ
 right_order (join true on) places = order_along whole_rows (map (λ x. x.1) on) places
 right_order op places = first_columns places
 
@@ -47,7 +52,7 @@ order_sent concat false merge order = order
 order_sent k false merge order = merge
 
 -- each column is one of those that may stand at its place, and no place is left
-abbrev pub is_chosen : List ℕ → Places → Bool
+abbrev pub is_chosen : List ℕ → OrderChoices → Bool
 is_chosen [] [] = true
 is_chosen (c ∷ cs) (s ∷ places) = contains s c && is_chosen cs places
 is_chosen _ _ = false

@@ -1,43 +1,50 @@
 //! Choices of copies of columns, and the keys that they make.
 
-ghost use Rattle.std.specs.Prelude.{◌≡◌, ◌++◌, true, not, map, IfOk, OnOk};
-ghost use Rattle.std.specs.List.{list_any, filter};
+ghost use Rattle.std.specs.Prelude.{◌≡◌, ◌++◌, true, map, IfOk, OnOk};
+ghost use Rattle.std.specs.List.{filter};
 ghost use Rattle.vx_relations.specs.Catalog.{are_distinct};
 ghost use Rattle.vx_plan_nodes.specs.Describe.{source};
 ghost use Rattle.vx_plan_nodes.specs.DescribeView.{copying_of};
-ghost use Rattle.vx_values.specs.Lists.{is_some_list};
 ghost use Rattle.vx_check_rules.specs.Rules.{contains, within, covers};
 ghost use Rattle.vx_check_rules.specs.Behaviour.{is_column};
 ghost use Rattle.vx_check_options.specs.FoundKeys.{with_key, with_column, choices_of, IsChoice, IsMet, Finds};
 
+use crate::copies::Lists;
 use std::alloc::{AllocError, Global};
+use vx_check_rules::{CopiedKeys, KeysSeen};
 use vx_plan_nodes::Copying;
 
 /// So many keys of a node are looked for. A plan that claims more keeps them.
 pub const MAX_KEYS: usize = 16;
 
-/// Lists of columns, each a key or the copies of one column.
-pub type Lists = Vec<Vec<usize>>;
-
 /// Whether the column is one of these.
 pub fn contains(columns: &[usize], column: usize) -> bool
     ensures { result ≡ contains columns.now column }
 {
-    columns.iter().any(|other| column == *other)
+    columns.contains(&column)
 }
 
 // Whether each of the columns is among the others.
 fn is_within(columns: &[usize], others: &[usize]) -> bool
     ensures { result ≡ within columns.now others.now }
 {
-    columns.iter().all(|column| contains(others, *column))
+    for column in columns {
+        if !contains(others, *column) {
+            return false;
+        }
+    }
+    true
 }
 
 /// Whether the columns contain one of the keys.
 pub fn are_covered(keys: &[Vec<usize>], columns: &[usize]) -> bool
     ensures { result ≡ covers (map (λ k. k.items) keys.now) columns.now }
 {
-    keys.iter().any(|key| is_within(key.as_slice(), columns))
+    let copied = CopiedKeys {
+        copying: Copying::WholeRows,
+        keys: KeysSeen::Listed(keys),
+    };
+    copied.have(columns)
 }
 
 /// Puts the key behind the others, if none of them is contained in it, and drops those that contain it.
@@ -63,17 +70,8 @@ fn with_column(alloc: Global, columns: &[usize], column: usize) -> Result<Vec<us
     Ok(longer)
 }
 
-// Whether the output column is a copy of the input column.
-fn is_copy(copying: Copying<'_>, column: usize, input: usize) -> bool
-    ensures { result ≡ is_column (source (copying_of copying.entry) column) input }
-{
-    match copying.source(column) {
-        Some(source) => input == source,
-        None => false,
-    }
-}
-
 // The copies of the input column among the allowed columns.
+#[tactic(auto, using(crate::proofs::CopyLists::is_source))]
 fn copies_among(
     alloc: Global,
     copying: Copying<'_>,
@@ -84,7 +82,7 @@ fn copies_among(
 {
     let mut copies = Vec::new(alloc);
     for column in allowed {
-        if is_copy(copying, *column, input) {
+        if copying.source(*column) == Some(input) {
             copies.push(*column)?;
         }
     }
@@ -105,13 +103,6 @@ pub fn put_choices(
         choices.push(copies_among(alloc, copying, allowed, *input)?)?;
     }
     Ok(())
-}
-
-/// Whether one of the choices has nothing to choose from.
-pub fn is_any_empty(choices: &[Vec<usize>]) -> bool
-    ensures { result ≡ list_any (λ ds. not (is_some_list ds)) (map (λ k. k.items) choices.now) }
-{
-    choices.iter().any(|columns| columns.is_empty())
 }
 
 /// Adds the keys of these columns and one of each of the choices, until 16 are found. The choices can be more than could be

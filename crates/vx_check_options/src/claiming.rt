@@ -1,84 +1,76 @@
 //! The claims of all nodes of a plan: a part and an order for each from the top down, and its keys from the inputs upwards.
 
-ghost use Rattle.std.specs.Prelude.{◌≡◌, ◌∷◌, [], ◌++◌, ◌||◌, true, map, IfOk};
+ghost use Rattle.std.specs.Prelude.{◌≡◌, ℕ, List, ◌∷◌, [], ◌++◌, ◌||◌, true, Some, map, length, slice_get, IfOk};
 ghost use Rattle.vx_relations.specs.Catalog.{relation_at};
 ghost use Rattle.vx_plan_nodes.specs.Plan.{Plan, claim, size, is_one};
-ghost use Rattle.vx_plan_nodes.specs.Types.{width};
 ghost use Rattle.vx_plan_nodes.specs.Describe.{whole_rows, described};
 ghost use Rattle.vx_plan_nodes.specs.Outline.{part_of, claim_of, unary_of, binary_of, kind_of, outline_of, plan_of};
 ghost use Rattle.vx_plan_nodes.specs.Outputs.{HasOutputs};
 ghost use Rattle.vx_check_rules.specs.Rules.{covers, within, numbers_below, is_total_order};
 ghost use Rattle.vx_check_options.specs.Options.{no_input, parts_at, places_at};
 ghost use Rattle.vx_check_options.specs.Placed.{first_columns, first_part, order_along, order_below, left_order, right_order, order_sent, parts_below, part_sent};
-ghost use Rattle.vx_check_options.specs.Claimed.{note, FoundAt, IsClaimed, reversed_claims, names_keys, names_keys_at};
+ghost use Rattle.vx_check_options.specs.OptionsView.{IsAbsent};
+ghost use Rattle.vx_check_options.specs.Claimed.{note, keys_at, FoundAt, IsClaimed, reversed_claims, names_keys, names_keys_at};
 
-use crate::choices::{are_covered, contains};
-use crate::keys::{copied, found_keys};
-use crate::options::{no_input, parts_at, places_at};
+use crate::choices::are_covered;
+use crate::keys::found_keys;
+use crate::options::{Options, absent, options_at};
 use crate::parts::is_alone;
 use crate::placing::{
-    first_columns, first_part, left_order, order_below, order_sent, part_sent, parts_below,
-    right_order,
+    Placement, part_sent, parts_below, place_left, place_right, wanted_below, wanted_sent,
 };
 use std::alloc::{AllocError, Global};
-use vx_plan_nodes::{Binary, Claim, Exchange, Part, TypedNode, Unary, output_types};
+use vx_check_rules::{CopiedKeys, KeysSeen};
+use vx_plan_nodes::{Binary, Claim, Copying, Exchange, TypedNode, Unary, output_types};
 use vx_relations::Catalog;
-
-type Keys = Vec<Vec<usize>>;
-
-/// The part and the order that a node is to claim.
-#[derive(Drop)]
-pub struct Place {
-    pub part: Part,
-    pub order: Vec<usize>,
-}
 
 // What the input of an operator over one input is to claim.
 fn place_below(
     alloc: Global,
     catalog: &Catalog,
+    none: &Options,
     node: &TypedNode,
     operator: &Unary,
     input: &TypedNode,
-    place: &Place,
-) -> Result<Place, AllocError>
+    place: &Placement,
+) -> Result<Placement, AllocError>
+    requires none { IsAbsent none.now }
     requires outputs { HasOutputs (relation_at catalog.now) (outline_of node.now) }
     requires input { HasOutputs (relation_at catalog.now) (outline_of input.now) }
     ensures part { IfOk result (λ r. part_of r.part ≡ (parts_below (relation_at catalog.now) (plan_of node.now) (part_of place.now.part) (parts_at (relation_at catalog.now) (plan_of input.now)) no_input).0) }
     ensures order { IfOk result (λ r. r.order.items ≡ order_below (described (unary_of operator.now)).order (described (unary_of operator.now)).copying place.now.order.items (places_at (relation_at catalog.now) (plan_of input.now))) }
 {
-    let parts = parts_at(alloc, catalog, input)?;
-    let none = no_input(alloc)?;
-    let places = places_at(alloc, catalog, input)?;
-    let (part, _other) = parts_below(
-        alloc,
+    let below = options_at(alloc, catalog, none, input)?;
+    let (part, _) = parts_below(
         catalog,
         node,
         &place.part,
-        parts.as_slice(),
-        none.as_slice(),
-    )?;
+        below.parts.as_slice(),
+        none.parts.as_slice(),
+    );
     let described = operator.described();
-    let order = order_below(
+    let wanted = wanted_below(described.order, place.order.as_slice());
+    Placement::along(
         alloc,
-        described.order,
+        part,
         described.copying,
-        place.order.as_slice(),
-        places.as_slice(),
-    )?;
-    Ok(Place { part, order })
+        wanted,
+        below.choices.as_slice(),
+    )
 }
 
 // What the inputs of an operator over two inputs are to claim.
 fn places_below(
     alloc: Global,
     catalog: &Catalog,
+    none: &Options,
     node: &TypedNode,
     operator: &Binary,
     left: &TypedNode,
     right: &TypedNode,
-    place: &Place,
-) -> Result<(Place, Place), AllocError>
+    place: &Placement,
+) -> Result<(Placement, Placement), AllocError>
+    requires none { IsAbsent none.now }
     requires outputs { HasOutputs (relation_at catalog.now) (outline_of node.now) }
     requires left { HasOutputs (relation_at catalog.now) (outline_of left.now) }
     requires right { HasOutputs (relation_at catalog.now) (outline_of right.now) }
@@ -87,25 +79,18 @@ fn places_below(
     ensures left { IfOk result (λ r. r.0.order.items ≡ left_order (binary_of operator.now) place.now.order.items (places_at (relation_at catalog.now) (plan_of left.now))) }
     ensures right { IfOk result (λ r. r.1.order.items ≡ right_order (binary_of operator.now) (places_at (relation_at catalog.now) (plan_of right.now))) }
 {
-    let lefts = parts_at(alloc, catalog, left)?;
-    let rights = parts_at(alloc, catalog, right)?;
+    let lefts = options_at(alloc, catalog, none, left)?;
+    let rights = options_at(alloc, catalog, none, right)?;
     let (first, second) = parts_below(
-        alloc,
         catalog,
         node,
         &place.part,
-        lefts.as_slice(),
-        rights.as_slice(),
-    )?;
-    let places = places_at(alloc, catalog, left)?;
-    let others = places_at(alloc, catalog, right)?;
-    let order = left_order(alloc, operator, place.order.as_slice(), places.as_slice())?;
-    let other = right_order(alloc, operator, others.as_slice())?;
-    let first = Place { part: first, order };
-    let second = Place {
-        part: second,
-        order: other,
-    };
+        lefts.parts.as_slice(),
+        rights.parts.as_slice(),
+    );
+    let order = place.order.as_slice();
+    let first = place_left(alloc, operator, first, order, lefts.choices.as_slice())?;
+    let second = place_right(alloc, operator, second, rights.choices.as_slice())?;
     Ok((first, second))
 }
 
@@ -113,118 +98,135 @@ fn places_below(
 fn place_sent(
     alloc: Global,
     catalog: &Catalog,
+    none: &Options,
     exchange: &Exchange,
     input: &TypedNode,
-    place: &Place,
-) -> Result<Place, AllocError>
-    requires { HasOutputs (relation_at catalog.now) (outline_of input.now) }
+    place: &Placement,
+) -> Result<Placement, AllocError>
+    requires none { IsAbsent none.now }
+    requires outputs { HasOutputs (relation_at catalog.now) (outline_of input.now) }
     ensures part { IfOk result (λ r. part_of r.part ≡ part_sent (kind_of exchange.now.kind) place.now.order.items (parts_at (relation_at catalog.now) (plan_of input.now))) }
     ensures order { IfOk result (λ r. r.order.items ≡ order_along whole_rows (order_sent (kind_of exchange.now.kind) (is_one (size (plan_of input.now))) exchange.now.merge.items place.now.order.items) (places_at (relation_at catalog.now) (plan_of input.now))) }
 {
-    let parts = parts_at(alloc, catalog, input)?;
-    let places = places_at(alloc, catalog, input)?;
-    let wanted = place.order.as_slice();
-    let part = part_sent(alloc, &exchange.kind, wanted, parts.as_slice())?;
-    let order = order_sent(
-        alloc,
-        &exchange.kind,
-        is_alone(input),
-        exchange.merge.as_slice(),
-        wanted,
-        places.as_slice(),
-    )?;
-    Ok(Place { part, order })
+    let below = options_at(alloc, catalog, none, input)?;
+    let order = place.order.as_slice();
+    let part = part_sent(&exchange.kind, order, below.parts.as_slice());
+    let merge = exchange.merge.as_slice();
+    let wanted = wanted_sent(&exchange.kind, is_alone(input), merge, order);
+    let choices = below.choices.as_slice();
+    Placement::along(alloc, part, Copying::WholeRows, wanted, choices)
 }
 
-// Finds the keys of a node, over those that its inputs claim, puts its claim behind the others, and returns the keys.
+// The keys of the claim at this place; none where there is none.
+fn keys_at(claims: &[Claim], at: Option<usize>) -> &[Vec<usize>]
+    ensures { map (λ k. k.items) result.now ≡ keys_at (map claim_of claims.now) at }
+{
+    match at {
+        Some(at) => match claims.get(at) {
+            Some(claim) => claim.keys.as_slice(),
+            None => &[],
+        },
+        None => &[],
+    }
+}
+
+// Finds the keys of a node, over those that its inputs claim at these places, and puts its claim behind the others, at
+// the place that it returns.
 fn put_claim(
     alloc: Global,
     catalog: &Catalog,
     claims: &mut Vec<Claim>,
     node: &TypedNode,
-    place: Place,
-    lefts: &[Vec<usize>],
-    rights: &[Vec<usize>],
-) -> Result<Keys, AllocError>
+    place: Placement,
+    left: Option<usize>,
+    right: Option<usize>,
+) -> Result<usize, AllocError>
     requires outputs { HasOutputs (relation_at catalog.now) (outline_of node.now) }
     requires keys { names_keys_at (relation_at catalog.now) (plan_of node.now) ≡ true }
-    ensures keys { IfOk result (λ v. FoundAt (relation_at catalog.now) (plan_of node.now) (map (λ k. k.items) lefts.now) (map (λ k. k.items) rights.now) (map (λ k. k.items) v.items)) }
-    ensures claims { IfOk result (λ v. map claim_of claims.new.items ≡ map claim_of claims.old.items ++ note (part_of place.part) place.order.items (map (λ k. k.items) v.items) ∷ []) }
+    ensures { IfOk result (λ at. (keys : List (List ℕ)) × FoundAt (relation_at catalog.now) (plan_of node.now) (keys_at (map claim_of claims.old.items) left) (keys_at (map claim_of claims.old.items) right) keys
+        × (at ≡ length (map claim_of claims.old.items)) × (map claim_of claims.new.items ≡ map claim_of claims.old.items ++ note (part_of place.part) place.order.items keys ∷ [])) }
 {
+    let at = claims.len();
+    let lefts = keys_at(claims.as_slice(), left);
+    let rights = keys_at(claims.as_slice(), right);
     let claimed = node.head().claim.keys.as_slice();
     let keys = found_keys(alloc, catalog, node, claimed, lefts, rights)?;
-    let copies = copied(alloc, keys.as_slice())?;
-    let Place { part, order } = place;
-    claims.push(Claim {
-        part,
-        order,
-        keys: copies,
-    })?;
-    Ok(keys)
+    claims.push(place.with_keys(keys))?;
+    Ok(at)
 }
 
 // Puts the claims of the nodes below a node and then its own behind the others, right inputs before left ones, and
-// returns the keys that it claims.
+// returns the place of its own.
 fn put_claims(
     alloc: Global,
     catalog: &Catalog,
+    none: &Options,
     claims: &mut Vec<Claim>,
     node: &TypedNode,
-    place: Place,
-) -> Result<Keys, AllocError>
+    place: Placement,
+) -> Result<usize, AllocError>
+    requires none { IsAbsent none.now }
     requires outputs { HasOutputs (relation_at catalog.now) (outline_of node.now) }
     requires keys { names_keys (relation_at catalog.now) (plan_of node.now) ≡ true }
-    ensures { IfOk result (λ v. (x : Plan) × IsClaimed (relation_at catalog.now) (plan_of node.now) (part_of place.part) place.order.items x
-        × (map (λ k. k.items) v.items ≡ (claim x).keys) × (map claim_of claims.new.items ≡ map claim_of claims.old.items ++ reversed_claims x)) }
+    ensures { IfOk result (λ at. (x : Plan) × IsClaimed (relation_at catalog.now) (plan_of node.now) (part_of place.part) place.order.items x
+        × (slice_get (map claim_of claims.new.items) at ≡ Some (claim x)) × (map claim_of claims.new.items ≡ map claim_of claims.old.items ++ reversed_claims x)) }
 {
     match node {
-        TypedNode::Scan(_, _) => put_claim(alloc, catalog, claims, node, place, &[], &[]),
+        TypedNode::Scan(_, _) => put_claim(alloc, catalog, claims, node, place, None, None),
         TypedNode::Unary(_, operator, input) => {
-            let below = place_below(alloc, catalog, node, operator, input, &place)?;
-            let lefts = put_claims(alloc, catalog, claims, input, below)?;
-            put_claim(alloc, catalog, claims, node, place, lefts.as_slice(), &[])
+            let below = place_below(alloc, catalog, none, node, operator, input, &place)?;
+            let left = put_claims(alloc, catalog, none, claims, input, below)?;
+            put_claim(alloc, catalog, claims, node, place, Some(left), None)
         }
         TypedNode::Binary(_, operator, left, right) => {
             let (first, second) = places_below(
-                alloc, catalog, node, operator, left, right, &place,
+                alloc, catalog, none, node, operator, left, right, &place,
             )?;
-            let rights = put_claims(alloc, catalog, claims, right, second)?;
-            let lefts = put_claims(alloc, catalog, claims, left, first)?;
-            put_claim(
-                alloc,
-                catalog,
-                claims,
-                node,
-                place,
-                lefts.as_slice(),
-                rights.as_slice(),
-            )
+            let right = put_claims(alloc, catalog, none, claims, right, second)?;
+            let left = put_claims(alloc, catalog, none, claims, left, first)?;
+            put_claim(alloc, catalog, claims, node, place, Some(left), Some(right))
         }
         TypedNode::Exchange(_, exchange, input) => {
-            let below = place_sent(alloc, catalog, exchange, input, &place)?;
-            let lefts = put_claims(alloc, catalog, claims, input, below)?;
-            put_claim(alloc, catalog, claims, node, place, lefts.as_slice(), &[])
+            let below = place_sent(alloc, catalog, none, exchange, input, &place)?;
+            let left = put_claims(alloc, catalog, none, claims, input, below)?;
+            put_claim(alloc, catalog, claims, node, place, Some(left), None)
         }
     }
 }
 
-// Whether the columns are all of an output, which has so many.
-fn are_all(columns: &[usize], width: usize) -> bool
-    ensures { result ≡ within (numbers_below width) columns.now }
+// Whether the order of the claim contains one of its keys, or all columns of an output, which has so many.
+fn is_total(claim: &Claim, width: usize) -> bool
+    ensures { result ≡ (covers (claim_of claim.now).keys (claim_of claim.now).order || within (numbers_below width) (claim_of claim.now).order) }
 {
-    for column in 0..width {
-        if !contains(columns, column) {
-            return false;
-        }
-    }
-    true
+    let order = claim.order.as_slice();
+    let columns = CopiedKeys {
+        copying: Copying::WholeRows,
+        keys: KeysSeen::First(width),
+    };
+    are_covered(claim.keys.as_slice(), order) || columns.have(order)
 }
 
-// Whether the order contains one of the keys, or all columns of an output, which has so many.
-fn is_total(order: &[usize], keys: &[Vec<usize>], width: usize) -> bool
-    ensures { result ≡ (covers (map (λ k. k.items) keys.now) order.now || within (numbers_below width) order.now) }
+// What the root is to claim: the first of its parts, and the first column at each place of its order.
+fn first_place(
+    alloc: Global,
+    catalog: &Catalog,
+    none: &Options,
+    root: &TypedNode,
+) -> Result<Placement, AllocError>
+    requires none { IsAbsent none.now }
+    requires outputs { HasOutputs (relation_at catalog.now) (outline_of root.now) }
+    ensures part { IfOk result (λ r. part_of r.part ≡ first_part (parts_at (relation_at catalog.now) (plan_of root.now))) }
+    ensures order { IfOk result (λ r. r.order.items ≡ first_columns (places_at (relation_at catalog.now) (plan_of root.now))) }
 {
-    are_covered(keys, order) || are_all(order, width)
+    let options = options_at(alloc, catalog, none, root)?;
+    let choices = options.choices.as_slice();
+    Placement::along(
+        alloc,
+        options.parts.first(),
+        Copying::WholeRows,
+        &[],
+        choices,
+    )
 }
 
 /// The claims of all nodes, those of a node behind those of its inputs and a right input before a left one, and whether
@@ -239,12 +241,10 @@ pub fn found_claims(
     ensures { IfOk result (λ r. (x : Plan) × IsClaimed (relation_at catalog.now) (plan_of root.now) (first_part (parts_at (relation_at catalog.now) (plan_of root.now))) (first_columns (places_at (relation_at catalog.now) (plan_of root.now))) x
         × (map claim_of r.0.items ≡ reversed_claims x) × (r.1 ≡ is_total_order (relation_at catalog.now) x)) }
 {
-    let part = first_part(alloc, parts_at(alloc, catalog, root)?.as_slice())?;
-    let order = first_columns(alloc, places_at(alloc, catalog, root)?.as_slice())?;
-    let columns = Vec::from_slice(alloc, order.as_slice())?;
+    let none = absent(alloc)?;
+    let place = first_place(alloc, catalog, &none, root)?;
     let mut claims = Vec::new(alloc);
-    let keys = put_claims(alloc, catalog, &mut claims, root, Place { part, order })?;
-    let width = output_types(root).len();
-    let is_total = is_total(columns.as_slice(), keys.as_slice(), width);
+    let at = put_claims(alloc, catalog, &none, &mut claims, root, place)?;
+    let is_total = is_total(&claims[at], output_types(root).len());
     Ok((claims, is_total))
 }

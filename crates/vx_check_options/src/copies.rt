@@ -1,6 +1,6 @@
 //! All copies of input columns among those of an output.
 
-ghost use Rattle.std.specs.Prelude.{◌≡◌, [], ◌∷◌, ◌++◌, flat_map, map, take, option_to_list, IfOk, OnOk};
+ghost use Rattle.std.specs.Prelude.{◌≡◌, [], ◌∷◌, ◌++◌, map, take, IfOk, OnOk};
 ghost use Rattle.vx_plan_nodes.specs.DescribeView.{copying_of, kept_columns};
 ghost use Rattle.vx_check_options.specs.Options.{places_from, copies, in_front, copied_lists};
 
@@ -10,56 +10,47 @@ use vx_plan_nodes::{Copying, KeptColumns};
 // So many lists of copies of the same columns are kept at most.
 const MAX_LISTS: usize = 64;
 
-type Lists = Vec<Vec<usize>>;
+/// Lists of columns, each a key, or the copies of one column, or what may stand at one place.
+pub type Lists = Vec<Vec<usize>>;
 
-// The places of a column among those that are kept.
-fn kept_places(
-    alloc: Global,
-    kept: KeptColumns<'_>,
-    column: usize,
-) -> Result<Vec<usize>, AllocError>
-    ensures { IfOk result (λ v. v.items ≡ places_from 0 (kept_columns kept.entry) column) }
+// Puts the places of a column among those that are kept behind the others.
+fn add_kept(found: &mut Vec<usize>, kept: KeptColumns<'_>, column: usize) -> Result<(), AllocError>
+    ensures { OnOk result (found.new.items ≡ found.old.items ++ places_from 0 (kept_columns kept.entry) column) }
 {
-    let mut places = Vec::new(alloc);
     for place in 0..kept.len() {
         if kept.get(place) == Some(column) {
-            places.push(place)?;
+            found.push(place)?;
         }
     }
-    Ok(places)
+    Ok(())
 }
 
-// The place alone, if there is one.
-fn only_place(alloc: Global, place: Option<usize>) -> Result<Vec<usize>, AllocError>
-    ensures { IfOk result (λ v. v.items ≡ option_to_list place) }
+/// Puts all output columns that are copies of the input column behind the others.
+pub fn add_copies(
+    found: &mut Vec<usize>,
+    copying: Copying<'_>,
+    column: usize,
+) -> Result<(), AllocError>
+    ensures { OnOk result (found.new.items ≡ found.old.items ++ copies (copying_of copying.entry) column) }
 {
-    let mut places = Vec::new(alloc);
-    if let Some(place) = place {
-        places.push(place)?;
+    if let Copying::Kept(kept) = copying {
+        return add_kept(found, kept, column);
     }
-    Ok(places)
-}
-
-/// All output columns that are copies of the input column.
-pub fn copies(alloc: Global, copying: Copying<'_>, column: usize) -> Result<Vec<usize>, AllocError>
-    ensures { IfOk result (λ v. v.items ≡ copies (copying_of copying.entry) column) }
-{
-    match copying {
-        Copying::Kept(kept) => kept_places(alloc, kept, column),
-        Copying::WholeRows => only_place(alloc, Some(column)),
-        Copying::Left(_) => only_place(alloc, copying.place(column)),
-        Copying::Right(_) => only_place(alloc, copying.place(column)),
+    if let Some(place) = copying.place(column) {
+        found.push(place)?;
     }
+    Ok(())
 }
 
-// A column in front of others.
-fn longer(alloc: Global, column: usize, columns: &[usize]) -> Result<Vec<usize>, AllocError>
-    ensures { IfOk result (λ v. v.items ≡ column ∷ columns.now) }
+/// The same lists in memory of their own.
+pub fn copied(alloc: Global, lists: &[Vec<usize>]) -> Result<Lists, AllocError>
+    ensures { IfOk result (λ v. map (λ k. k.items) v.items ≡ map (λ k. k.items) lists.now) }
 {
-    let mut list = Vec::new(alloc);
-    list.push(column)?;
-    list.extend_from_slice(columns)?;
-    Ok(list)
+    let mut copied = Vec::new(alloc);
+    for list in lists {
+        copied.push(Vec::from_slice(alloc, list.as_slice())?)?;
+    }
+    Ok(copied)
 }
 
 // Puts the lists with this column in front behind those that are there.
@@ -72,29 +63,12 @@ fn add_in_front(
     ensures { OnOk result (map (λ v. v.items) found.new.items ≡ map (λ v. v.items) found.old.items ++ map (λ ds. column ∷ ds) (map (λ v. v.items) lists.now)) }
 {
     for list in lists {
-        found.push(longer(alloc, column, list.as_slice())?)?;
+        let mut longer = Vec::new(alloc);
+        longer.push(column)?;
+        longer.extend_from_slice(list.as_slice())?;
+        found.push(longer)?;
     }
     Ok(())
-}
-
-// The lists with each of these columns in front.
-fn in_front(alloc: Global, columns: &[usize], lists: &[Vec<usize>]) -> Result<Lists, AllocError>
-    ensures { IfOk result (λ v. map (λ v. v.items) v.items ≡ flat_map (λ d. map (λ ds. d ∷ ds) (map (λ v. v.items) lists.now)) columns.now) }
-{
-    let mut found = Vec::new(alloc);
-    for column in columns {
-        add_in_front(alloc, &mut found, *column, lists)?;
-    }
-    Ok(found)
-}
-
-// The empty list alone.
-fn empty_list(alloc: Global) -> Result<Lists, AllocError>
-    ensures { IfOk result (λ v. map (λ v. v.items) v.items ≡ [] ∷ []) }
-{
-    let mut lists = Vec::new(alloc);
-    lists.push(Vec::new(alloc))?;
-    Ok(lists)
 }
 
 // The lists with a copy of this column in front: the first 64.
@@ -106,8 +80,13 @@ fn longer_lists(
 ) -> Result<Lists, AllocError>
     ensures { IfOk result (λ v. map (λ v. v.items) v.items ≡ take 64 (in_front (copying_of copying.entry) column (map (λ v. v.items) lists.items))) }
 {
-    let places = copies(alloc, copying, column)?;
-    let mut longer = in_front(alloc, places.as_slice(), lists.as_slice())?;
+    let mut places = Vec::new(alloc);
+    add_copies(&mut places, copying, column)?;
+    let ends = lists.as_slice();
+    let mut longer = Vec::new(alloc);
+    for place in places.as_slice() {
+        add_in_front(alloc, &mut longer, *place, ends)?;
+    }
     longer.truncate(MAX_LISTS);
     Ok(longer)
 }
@@ -121,7 +100,11 @@ pub fn copied_lists(
     ensures { IfOk result (λ v. map (λ v. v.items) v.items ≡ copied_lists (copying_of copying.entry) columns.now) }
 {
     match columns {
-        [] => empty_list(alloc),
+        [] => {
+            let mut lists = Vec::new(alloc);
+            lists.push(Vec::new(alloc))?;
+            Ok(lists)
+        }
         [column, columns @ ..] => {
             let lists = copied_lists(alloc, copying, columns)?;
             longer_lists(alloc, copying, *column, lists)

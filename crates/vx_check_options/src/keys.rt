@@ -10,10 +10,11 @@ ghost use Rattle.vx_plan_nodes.specs.Types.{types_of};
 ghost use Rattle.vx_plan_nodes.specs.Typed.{are_columns};
 ghost use Rattle.vx_plan_nodes.specs.DescribeView.{copying_of};
 ghost use Rattle.vx_check_rules.specs.Behaviour.{has_key, keys_give, keyed_from};
-ghost use Rattle.vx_check_rules.specs.KeyedView.{keys_seen, copied_keys, keyed_of, keyed_in, all_keyed_in};
-ghost use Rattle.vx_check_options.specs.FoundKeys.{show, both_give, choices_of, IsPart, IsKey, IsShown, Finds, KeptKeys, FoundKeys};
+ghost use Rattle.vx_check_rules.specs.KeyedView.{keys_seen, copied_keys, keyed_of, all_keyed_in};
+ghost use Rattle.vx_check_options.specs.FoundKeys.{show, both_give, IsPart, IsKey, IsShown, Finds, KeptKeys, FoundKeys};
 
-use crate::choices::{Lists, add_choices, add_key, is_any_empty, put_choices};
+use crate::choices::{add_choices, add_key, are_covered, put_choices};
+use crate::copies::{Lists, copied};
 use std::alloc::{AllocError, Global};
 use vx_check_rules::{CopiedKeys, Keyed, KeysSeen, keyed_from, show_key};
 use vx_plan_nodes::{Copying, TypedNode, output_types};
@@ -39,17 +40,6 @@ fn first_columns(alloc: Global, count: usize) -> Result<Vec<usize>, AllocError>
     Ok(columns)
 }
 
-/// Copies of the keys.
-pub fn copied(alloc: Global, keys: &[Vec<usize>]) -> Result<Lists, AllocError>
-    ensures { IfOk result (λ v. map (λ k. k.items) v.items ≡ map (λ k. k.items) keys.now) }
-{
-    let mut copied = Vec::new(alloc);
-    for key in keys {
-        copied.push(Vec::from_slice(alloc, key.as_slice())?)?;
-    }
-    Ok(copied)
-}
-
 // Those that the relation declares.
 fn declared(alloc: Global, relation: &Relation) -> Result<Lists, AllocError>
     ensures { IfOk result (λ v. map (λ k. k.items) v.items ≡ relation.now.keys) }
@@ -61,15 +51,6 @@ fn declared(alloc: Global, relation: &Relation) -> Result<Lists, AllocError>
     Ok(declared)
 }
 
-// The key of the first columns, so many.
-fn only_first(alloc: Global, count: usize) -> Result<Lists, AllocError>
-    ensures { IfOk result (λ v. map (λ k. k.items) v.items ≡ first_columns count ∷ []) }
-{
-    let mut keys = Vec::new(alloc);
-    keys.push(first_columns(alloc, count)?)?;
-    Ok(keys)
-}
-
 // The keys as lists of columns.
 fn listed(alloc: Global, keys: KeysSeen<'_>) -> Result<Lists, AllocError>
     ensures { IfOk result (λ v. map (λ k. k.items) v.items ≡ keys_seen keys.entry) }
@@ -77,21 +58,15 @@ fn listed(alloc: Global, keys: KeysSeen<'_>) -> Result<Lists, AllocError>
     match keys {
         KeysSeen::Listed(keys) => copied(alloc, keys),
         KeysSeen::Declared(relation) => declared(alloc, relation),
-        KeysSeen::First(count) => only_first(alloc, count),
+        KeysSeen::First(count) => {
+            let mut keys = Vec::new(alloc);
+            keys.push(first_columns(alloc, count)?)?;
+            Ok(keys)
+        }
     }
 }
 
 impl Search<'_> {
-    // The copies of each column of both keys.
-    fn choices(self, alloc: Global, key: &[usize], other: &[usize]) -> Result<Lists, AllocError>
-        ensures { IfOk result (λ v. map (λ k. k.items) v.items ≡ choices_of (copying_of self.entry.first) self.entry.allowed.now key.now ++ choices_of (copying_of self.entry.second) self.entry.allowed.now other.now) }
-    {
-        let mut choices = Vec::new(alloc);
-        put_choices(alloc, &mut choices, self.first, self.allowed, key)?;
-        put_choices(alloc, &mut choices, self.second, self.allowed, other)?;
-        Ok(choices)
-    }
-
     // Adds the keys of copies of all columns of both keys.
     fn add_both(
         self,
@@ -104,8 +79,11 @@ impl Search<'_> {
             (IsShown (both_give (copying_of self.entry.first) (copying_of self.entry.second) (key.now ∷ []) (other.now ∷ [])) self.entry.allowed.now)
             (map (λ k. k.items) found.old.items) (map (λ k. k.items) found.new.items)) }
     {
-        let choices = self.choices(alloc, key, other)?;
-        if is_any_empty(choices.as_slice()) {
+        let mut choices = Vec::new(alloc);
+        put_choices(alloc, &mut choices, self.first, self.allowed, key)?;
+        put_choices(alloc, &mut choices, self.second, self.allowed, other)?;
+        // A choice without columns is within no columns.
+        if are_covered(choices.as_slice(), &[]) {
             return Ok(());
         }
         add_choices(alloc, found, &[], choices.as_slice())
@@ -181,22 +159,7 @@ fn add_keyed(
     search.add_among(alloc, found, keys.as_slice(), others.as_slice())
 }
 
-// Adds them, if they are there.
-fn add_some(
-    alloc: Global,
-    found: &mut Lists,
-    keyed: Option<Keyed<'_>>,
-    allowed: &[usize],
-) -> Result<(), AllocError>
-    ensures { OnOk result (Finds (IsKey (show (keyed_in keyed.entry)) allowed.now) (IsShown (show (keyed_in keyed.entry)) allowed.now) (map (λ k. k.items) found.old.items) (map (λ k. k.items) found.new.items)) }
-{
-    match keyed {
-        Some(keyed) => add_keyed(alloc, found, keyed, allowed),
-        None => Ok(()),
-    }
-}
-
-// Adds those of all that are there.
+// Adds the keys of all that are there.
 fn add_all(
     alloc: Global,
     found: &mut Lists,
@@ -206,7 +169,10 @@ fn add_all(
     ensures { OnOk result (Finds (IsKey (show (all_keyed_in keyed.now)) allowed.now) (IsShown (show (all_keyed_in keyed.now)) allowed.now) (map (λ k. k.items) found.old.items) (map (λ k. k.items) found.new.items)) }
 {
     for each in keyed {
-        add_some(alloc, found, *each, allowed)?;
+        match each {
+            Some(keyed) => add_keyed(alloc, found, *keyed, allowed)?,
+            None => {}
+        }
     }
     Ok(())
 }

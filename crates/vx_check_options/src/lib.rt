@@ -6,8 +6,8 @@ mod claiming;
 mod copies;
 mod keys;
 mod options;
+mod order_choices;
 mod parts;
-mod places;
 mod placing;
 
 ghost use Rattle.vx_check_options.specs.Claimed.{ClaimedIsFit, ClaimedIsTyped, ClaimedKeeps, ClaimedIsStrongest};

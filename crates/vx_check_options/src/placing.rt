@@ -1,243 +1,123 @@
 //! The part and the order of each input under those of a node.
 
-ghost use Rattle.std.specs.Prelude.{◌≡◌, ◌∷◌, false, map, find, option_map, IfOk};
+ghost use Rattle.std.specs.Prelude.{◌≡◌, map, find, option_map, option_copied, unwrap_or, IfOk};
 ghost use Rattle.vx_relations.specs.Catalog.{relation_at};
-ghost use Rattle.vx_plan_nodes.specs.Describe.{whole_rows};
+ghost use Rattle.vx_plan_nodes.specs.Plan.{any};
+ghost use Rattle.vx_plan_nodes.specs.Describe.{Copying as Copies};
 ghost use Rattle.vx_plan_nodes.specs.DescribeView.{copying_of, order_after_of};
-ghost use Rattle.vx_plan_nodes.specs.Outline.{part_of, kind_of, binary_of, outline_of, plan_of};
+ghost use Rattle.vx_plan_nodes.specs.Outline.{part_of, claim_of, kind_of, binary_of, outline_of, plan_of};
 ghost use Rattle.vx_plan_nodes.specs.Outputs.{HasOutputs};
 ghost use Rattle.vx_check_rules.specs.Rules.{rises_by};
-ghost use Rattle.vx_check_options.specs.Placed.{first_columns, column_at, order_along, order_below, left_order, right_order, order_sent, first_part, first_two, is_given, parts_below, part_sent};
+ghost use Rattle.vx_check_options.specs.Options.{OrderChoices};
+ghost use Rattle.vx_check_options.specs.Placed.{next_column, order_along, order_below, left_order, right_order, order_sent, parts_below, part_sent};
+ghost use Rattle.vx_check_options.specs.Claimed.{note};
 
 use crate::choices::contains;
-use crate::parts::{gives_part, is_alone};
-use crate::places::right_columns;
+use crate::order_choices::right_columns;
+use crate::parts::first_two;
 use std::alloc::{AllocError, Global};
 use vx_check_rules::rises_with_workers;
-use vx_plan_nodes::{Binary, Copying, ExchangeKind, OrderAfter, Part, TypedNode, copied_part};
+use vx_plan_nodes::{
+    Binary, Claim, Copying, ExchangeKind, OrderAfter, Part, TypedNode, copied_part,
+};
 use vx_relations::Catalog;
 
-/// The first column of each place.
-pub fn first_columns(alloc: Global, places: &[Vec<usize>]) -> Result<Vec<usize>, AllocError>
-    ensures { IfOk result (λ v. v.items ≡ first_columns (map (λ v. v.items) places.now)) }
-{
-    let mut columns = Vec::new(alloc);
-    for place in places {
-        let [first, ..] = place.as_slice() else {
-            return Ok(columns);
-        };
-        columns.push(*first)?;
-    }
-    Ok(columns)
+/// The part and the order that a node is to claim.
+pub struct Placement {
+    pub part: Part,
+    pub order: Vec<usize>,
 }
 
-// The column, if it may stand at the place, else the first that may.
-fn column_at(place: &[usize], column: usize) -> usize
-    ensures { result ≡ column_at place.now column }
+// By hand, so that the drops of its parts are made and proved here once, and not in each function that drops one.
+impl Drop for Placement {
+    fn drop(self) {
+        let Placement { part: _, order: _ } = self;
+    }
+}
+
+// The column of an input's order at this place, under this column of the output's order: the one of which that is a copy,
+// if it may stand there, and else the first that may.
+fn next_column(copying: Copying<'_>, column: Option<&usize>, place: &[usize]) -> Option<usize>
+    ensures { result ≡ next_column (copying_of copying.entry) (option_copied column.entry) place.now }
 {
+    let Some(column) = column else {
+        return place.first().copied();
+    };
+    let source = copying.source(*column).unwrap_or(0);
     match place {
-        [] => column,
-        [first, ..] => {
-            if contains(place, column) {
-                column
-            } else {
-                *first
-            }
-        }
+        [first, ..] if !contains(place, source) => Some(*first),
+        _ => Some(source),
     }
 }
 
-// A column in front of others.
-fn in_front(alloc: Global, column: usize, columns: &[usize]) -> Result<Vec<usize>, AllocError>
-    ensures { IfOk result (λ v. v.items ≡ column ∷ columns.now) }
-{
-    let mut list = Vec::new(alloc);
-    list.push(column)?;
-    list.extend_from_slice(columns)?;
-    Ok(list)
-}
-
-/// The order of an input with these places, under an order of the output: the columns of which those are copies, where
-/// they may stand, and then the first ones.
+// The order of an input with these places, under an order of the output.
 fn order_along(
     alloc: Global,
     copying: Copying<'_>,
     order: &[usize],
-    places: &[Vec<usize>],
+    choices: &[Vec<usize>],
 ) -> Result<Vec<usize>, AllocError>
-    ensures { IfOk result (λ v. v.items ≡ order_along (copying_of copying.entry) order.now (map (λ v. v.items) places.now)) }
+    ensures { IfOk result (λ v. v.items ≡ order_along (copying_of copying.entry) order.now (map (λ v. v.items) choices.now)) }
 {
-    match order {
-        [] => first_columns(alloc, places),
-        [column, order @ ..] => match places {
-            [] => Ok(Vec::new(alloc)),
-            [place, places @ ..] => {
-                let source = copying.source(*column).unwrap_or(0);
-                let more = order_along(alloc, copying, order, places)?;
-                in_front(alloc, column_at(place.as_slice(), source), more.as_slice())
-            }
-        },
+    let mut columns = Vec::new(alloc);
+    for i in 0..choices.len() {
+        let Some(column) = next_column(copying, order.get(i), choices[i].as_slice()) else {
+            return Ok(columns);
+        };
+        columns.push(column)?;
     }
+    Ok(columns)
 }
 
-/// The order of the input of an operator over one input.
-pub fn order_below(
-    alloc: Global,
-    after: OrderAfter<'_>,
-    copying: Copying<'_>,
-    order: &[usize],
-    places: &[Vec<usize>],
-) -> Result<Vec<usize>, AllocError>
-    ensures { IfOk result (λ v. v.items ≡ order_below (order_after_of after.entry) (copying_of copying.entry) order.now (map (λ v. v.items) places.now)) }
-{
-    match after {
-        OrderAfter::Kept => order_along(alloc, copying, order, places),
-        OrderAfter::SortedOn(_) => first_columns(alloc, places),
+impl Placement {
+    /// The claim, with these keys.
+    pub fn with_keys(self, keys: Vec<Vec<usize>>) -> Claim
+        ensures { claim_of result ≡ note (part_of self.part) self.order.items (map (λ k. k.items) keys.items) }
+    {
+        let Placement { part, order } = self;
+        Claim { part, order, keys }
     }
-}
 
-/// The order of the left input of an operator over two inputs.
-pub fn left_order(
-    alloc: Global,
-    operator: &Binary,
-    order: &[usize],
-    places: &[Vec<usize>],
-) -> Result<Vec<usize>, AllocError>
-    ensures { IfOk result (λ v. v.items ≡ left_order (binary_of operator.now) order.now (map (λ v. v.items) places.now)) }
-{
-    match operator {
-        Binary::Union => first_columns(alloc, places),
-        Binary::HashJoin(_) | Binary::MergeJoin(_) => {
-            order_along(alloc, Copying::WholeRows, order, places)
+    /// This part, or any where there is none, and the order of an input with these places, under an order of the output.
+    pub fn along(
+        alloc: Global,
+        part: Option<&Part>,
+        copying: Copying<'_>,
+        order: &[usize],
+        choices: &[Vec<usize>],
+    ) -> Result<Placement, AllocError>
+        ensures part { IfOk result (λ r. part_of r.part ≡ unwrap_or (option_map (λ p. part_of p.now) part.entry) any) }
+        ensures order { IfOk result (λ r. r.order.items ≡ order_along (copying_of copying.entry) order.now (map (λ v. v.items) choices.now)) }
+    {
+        let order = order_along(alloc, copying, order, choices)?;
+        match part {
+            Some(part) => Ok(Placement {
+                part: copied_part(alloc, part)?,
+                order,
+            }),
+            None => Ok(Placement {
+                part: Part::Any,
+                order,
+            }),
         }
     }
 }
 
-/// The order of the right input.
-pub fn right_order(
-    alloc: Global,
-    operator: &Binary,
-    places: &[Vec<usize>],
-) -> Result<Vec<usize>, AllocError>
-    ensures { IfOk result (λ v. v.items ≡ right_order (binary_of operator.now) (map (λ v. v.items) places.now)) }
-{
-    match operator {
-        Binary::MergeJoin(on) => {
-            let columns = right_columns(alloc, on.as_slice())?;
-            order_along(alloc, Copying::WholeRows, columns.as_slice(), places)
-        }
-        Binary::Union | Binary::HashJoin(_) => first_columns(alloc, places),
-    }
-}
-
-// What the order of an exchange's input has to begin with.
-fn needed<'p>(
-    kind: &ExchangeKind,
-    alone: bool,
-    merge: &'p [usize],
-    order: &'p [usize],
-) -> &'p [usize]
-    ensures { result.now ≡ order_sent (kind_of kind.now) alone merge.now order.now }
-{
-    if alone || matches!(kind, ExchangeKind::Concat) {
-        order
-    } else {
-        merge
-    }
-}
-
-/// The order of an exchange's input, which has one worker or not.
-pub fn order_sent(
-    alloc: Global,
-    kind: &ExchangeKind,
-    alone: bool,
-    merge: &[usize],
-    order: &[usize],
-    places: &[Vec<usize>],
-) -> Result<Vec<usize>, AllocError>
-    ensures { IfOk result (λ v. v.items ≡ order_along whole_rows (order_sent (kind_of kind.now) alone merge.now order.now) (map (λ v. v.items) places.now)) }
-{
-    order_along(
-        alloc,
-        Copying::WholeRows,
-        needed(kind, alone, merge, order),
-        places,
-    )
-}
-
-/// The first of the parts; any where there is none.
-pub fn first_part(alloc: Global, parts: &[Part]) -> Result<Part, AllocError>
-    ensures { IfOk result (λ p. part_of p ≡ first_part (map part_of parts.now)) }
-{
-    match parts {
-        [] => Ok(Part::Any),
-        [part, ..] => copied_part(alloc, part),
-    }
-}
-
-// Whether the node shows the part where its inputs have these.
-fn is_given(catalog: &Catalog, node: &TypedNode, part: &Part, left: &Part, right: &Part) -> bool
-    requires { HasOutputs (relation_at catalog.now) (outline_of node.now) }
-    ensures { result ≡ is_given (relation_at catalog.now) (plan_of node.now) (part_of part.now) (part_of left.now) (part_of right.now) }
-{
-    is_alone(node) || gives_part(catalog, node, part, left, right)
-}
-
-// The first of these parts of the right input with which it does.
-fn first_beside<'p>(
-    catalog: &Catalog,
-    node: &TypedNode,
-    part: &Part,
-    left: &Part,
-    rights: &'p [Part],
-) -> Option<&'p Part>
-    requires { HasOutputs (relation_at catalog.now) (outline_of node.now) }
-    ensures { option_map (λ p. part_of p.now) result ≡ find (is_given (relation_at catalog.now) (plan_of node.now) (part_of part.now) (part_of left.now)) (map part_of rights.now) }
-{
-    for right in rights {
-        if is_given(catalog, node, part, left, right) {
-            return Some(right);
-        }
-    }
-    None
-}
-
-// The first two of these parts of the inputs with which it does.
-fn first_two<'p>(
+/// The parts of the inputs with which a node shows its own, each the first of its list where none do.
+pub fn parts_below<'p>(
     catalog: &Catalog,
     node: &TypedNode,
     part: &Part,
     lefts: &'p [Part],
     rights: &'p [Part],
-) -> Option<(&'p Part, &'p Part)>
+) -> (Option<&'p Part>, Option<&'p Part>)
     requires { HasOutputs (relation_at catalog.now) (outline_of node.now) }
-    ensures { option_map (λ p. (part_of p.0.now, part_of p.1.now)) result
-        ≡ first_two (is_given (relation_at catalog.now) (plan_of node.now) (part_of part.now)) (map part_of lefts.now) (map part_of rights.now) }
-{
-    for left in lefts {
-        if let Some(right) = first_beside(catalog, node, part, left, rights) {
-            return Some((left, right));
-        }
-    }
-    None
-}
-
-/// The parts of the inputs with which a node shows its own, each the first of its list where none do.
-pub fn parts_below(
-    alloc: Global,
-    catalog: &Catalog,
-    node: &TypedNode,
-    part: &Part,
-    lefts: &[Part],
-    rights: &[Part],
-) -> Result<(Part, Part), AllocError>
-    requires { HasOutputs (relation_at catalog.now) (outline_of node.now) }
-    ensures { IfOk result (λ r. (part_of r.0, part_of r.1)
-        ≡ parts_below (relation_at catalog.now) (plan_of node.now) (part_of part.now) (map part_of lefts.now) (map part_of rights.now)) }
+    ensures { (unwrap_or (option_map (λ p. part_of p.now) result.0) any, unwrap_or (option_map (λ p. part_of p.now) result.1) any)
+        ≡ parts_below (relation_at catalog.now) (plan_of node.now) (part_of part.now) (map part_of lefts.now) (map part_of rights.now) }
 {
     match first_two(catalog, node, part, lefts, rights) {
-        Some((left, right)) => Ok((copied_part(alloc, left)?, copied_part(alloc, right)?)),
-        None => Ok((first_part(alloc, lefts)?, first_part(alloc, rights)?)),
+        Some((left, right)) => (Some(left), Some(right)),
+        None => (lefts.first(), rights.first()),
     }
 }
 
@@ -254,22 +134,84 @@ fn first_rising<'p>(parts: &'p [Part], order: &[usize]) -> Option<&'p Part>
 }
 
 /// The part of an exchange's input, under a concat one by which the order rises.
-pub fn part_sent(
-    alloc: Global,
-    kind: &ExchangeKind,
-    order: &[usize],
-    parts: &[Part],
-) -> Result<Part, AllocError>
-    ensures { IfOk result (λ p. part_of p ≡ part_sent (kind_of kind.now) order.now (map part_of parts.now)) }
+pub fn part_sent<'p>(kind: &ExchangeKind, order: &[usize], parts: &'p [Part]) -> Option<&'p Part>
+    ensures { unwrap_or (option_map (λ p. part_of p.now) result) any ≡ part_sent (kind_of kind.now) order.now (map part_of parts.now) }
 {
     match kind {
         ExchangeKind::Concat => match first_rising(parts, order) {
-            Some(part) => copied_part(alloc, part),
-            None => first_part(alloc, parts),
+            Some(part) => Some(part),
+            None => parts.first(),
         },
         ExchangeKind::Route(_, _, _)
         | ExchangeKind::Round(_)
         | ExchangeKind::Broadcast(_)
-        | ExchangeKind::Gather => first_part(alloc, parts),
+        | ExchangeKind::Gather => parts.first(),
+    }
+}
+
+/// What the order of the input of an operator over one input has to begin with, where it can; the order of a sort is its
+/// own.
+pub fn wanted_below<'p>(after: OrderAfter<'_>, order: &'p [usize]) -> &'p [usize]
+    ensures { (k : Copies) (places : OrderChoices) → order_along k result.now places ≡ order_below (order_after_of after.entry) k order.now places }
+{
+    match after {
+        OrderAfter::Kept => order,
+        OrderAfter::SortedOn(_) => &[],
+    }
+}
+
+/// What the order of an exchange's input, which has one worker or not, has to begin with.
+pub fn wanted_sent<'p>(
+    kind: &ExchangeKind,
+    alone: bool,
+    merge: &'p [usize],
+    order: &'p [usize],
+) -> &'p [usize]
+    ensures { result.now ≡ order_sent (kind_of kind.now) alone merge.now order.now }
+{
+    if alone || matches!(kind, ExchangeKind::Concat) {
+        order
+    } else {
+        merge
+    }
+}
+
+/// What the left input of an operator over two inputs is to claim.
+pub fn place_left(
+    alloc: Global,
+    operator: &Binary,
+    part: Option<&Part>,
+    order: &[usize],
+    choices: &[Vec<usize>],
+) -> Result<Placement, AllocError>
+    ensures part { IfOk result (λ r. part_of r.part ≡ unwrap_or (option_map (λ p. part_of p.now) part.entry) any) }
+    ensures order { IfOk result (λ r. r.order.items ≡ left_order (binary_of operator.now) order.now (map (λ v. v.items) choices.now)) }
+{
+    match operator {
+        Binary::Union => Placement::along(alloc, part, Copying::WholeRows, &[], choices),
+        Binary::HashJoin(_) | Binary::MergeJoin(_) => {
+            Placement::along(alloc, part, Copying::WholeRows, order, choices)
+        }
+    }
+}
+
+/// What the right input is to claim.
+pub fn place_right(
+    alloc: Global,
+    operator: &Binary,
+    part: Option<&Part>,
+    choices: &[Vec<usize>],
+) -> Result<Placement, AllocError>
+    ensures part { IfOk result (λ r. part_of r.part ≡ unwrap_or (option_map (λ p. part_of p.now) part.entry) any) }
+    ensures order { IfOk result (λ r. r.order.items ≡ right_order (binary_of operator.now) (map (λ v. v.items) choices.now)) }
+{
+    match operator {
+        Binary::MergeJoin(on) => {
+            let columns = right_columns(alloc, on.as_slice())?;
+            Placement::along(alloc, part, Copying::WholeRows, columns.as_slice(), choices)
+        }
+        Binary::Union | Binary::HashJoin(_) => {
+            Placement::along(alloc, part, Copying::WholeRows, &[], choices)
+        }
     }
 }

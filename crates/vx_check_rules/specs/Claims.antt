@@ -2,8 +2,8 @@
 use Rattle.std.specs.Prelude.{◌≡◌, ℕ, ◌<◌, ◌==◌, Bool, true, List, ◌≤◌}
 use Rattle.std.specs.List.{list_all}
 use Rattle.vx_values.specs.Values.{Row, pick, val_cmp, value_at}
-use Rattle.vx_rows.specs.Order.{sorted}
-use Rattle.vx_rows.specs.Bags.{SameRows}
+use Rattle.vx_values.specs.Order.{sorted}
+use Rattle.vx_values.specs.Bags.{SameRows}
 use Rattle.vx_plan_nodes.specs.Plan.{Route, Part, one, any, all, routed, Claim, Plan, claim, size, by_range}
 use Rattle.vx_relations.specs.Relation.{Relation, KeysHold, Meets}
 use Rattle.vx_plan_nodes.specs.Serial.{rows, serial}

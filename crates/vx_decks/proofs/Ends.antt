@@ -8,12 +8,12 @@ use Rattle.atomic_table.specs.Table.{Splits, Joins}
 use Rattle.vx_morsel.specs.Draws.{Draws, times, once_below, AllRise, any_ended, drawn_times, DealtOut}
 use Rattle.vx_decks.specs.Rule.{total, Holds, IsKept, weigh, one, end_of, FitsSeats, FitsAccount, no_draws, first_account, left_of, right_of, both_of, spent_account}
 use Rattle.vx_decks.specs.declared.rule.Account.{Account}
-use Rattle.vx_decks.specs.declared.rule.Size.{Size}
+use Rattle.vx_decks.specs.declared.rule.DeckSize.{DeckSize}
 use Rattle.vx_decks.proofs.Sums.{sum-set, sum-snoc, sum-append, sum-one}
 use Rattle.vx_decks.proofs.Keeps.{if-cases}
 use Rattle.atomic_table.proofs.Lists.{at_set, at_snoc}
 
-keeps-same : (size : Size) (w : ℕ) (views views' : List Account) → ((f : Draws → ℕ) → total (weigh f) views' ≡ total (weigh f) views) → ((k : ℕ) (v : Account) → get_elem? views' k ≡ some v → FitsAccount size.morsels w v) → IsKept size w views → IsKept size w views'
+keeps-same : (size : DeckSize) (w : ℕ) (views views' : List Account) → ((f : Draws → ℕ) → total (weigh f) views' ≡ total (weigh f) views) → ((k : ℕ) (v : Account) → get_elem? views' k ≡ some v → FitsAccount size.morsels w v) → IsKept size w views → IsKept size w views'
 keeps-same size w views views' same fits k = record {
   small = k.small;
   seats = same one ∙ k.seats;
@@ -34,14 +34,14 @@ fits-none : (m w n : ℕ) → FitsSeats m w (replicate n no_draws)
 fits-none m w zero = tt
 fits-none m w (suc n) = (tt, (λ e. absurd (grind rules)), fits-none m w n)
 
-fits-first : (size : Size) (k : ℕ) (v : Account) → get_elem? (first_account size ∷ []) k ≡ some v → FitsAccount size.morsels 0 v
+fits-first : (size : DeckSize) (k : ℕ) (v : Account) → get_elem? (first_account size ∷ []) k ≡ some v → FitsAccount size.morsels 0 v
 fits-first size zero v e = let P : Account → Type 0 = FitsAccount size.morsels 0 in subst P (some-injective (first_account size) v e) (fits-none size.morsels 0 size.seats)
 fits-first size (suc k) v e = absurd (some-ne-none v (sym e))
 
 nothing-below : (x : ℕ) → once_below x 0 ≡ 0
 nothing-below x = if-cases (λ k. k ≡ 0) (nat_lt x 0) 1 0 (λ e. absurd (let h = ltb-true x 0 e in omega arith)) (λ e. refl)
 
-pub begins : (size : Size) → size.morsels + size.seats < 2 ^ 63 → IsKept size 0 (first_account size ∷ [])
+pub begins : (size : DeckSize) → size.morsels + size.seats < 2 ^ 63 → IsKept size 0 (first_account size ∷ [])
 begins size small = record {
   small = small;
   seats = (let h = total-ones size.seats in omega arith);
@@ -66,7 +66,7 @@ fits-both : (m w : ℕ) (hs gs : List Draws) → FitsSeats m w hs → FitsSeats 
 fits-both m w [] gs f g = g
 fits-both m w (h ∷ hs) gs f g = (f.0, f.1, fits-both m w hs gs f.2 g)
 
-pub splits : {S : Type 0} (size : Size) (id : ℕ) (v : Account) → Splits {S = S} (Holds size) id v (left_of v) (right_of v)
+pub splits : {S : Type 0} (size : DeckSize) (id : ℕ) (v : Account) → Splits {S = S} (Holds size) id v (left_of v) (right_of v)
 splits size id v s holds at =
     let w = holds.0 in let k = holds.2 in let old = k.fits id v at in let P : Account → Type 0 = FitsAccount size.morsels w in (
       w,
@@ -80,7 +80,7 @@ splits size id v s holds at =
           k,
     )
 
-pub joins : {S : Type 0} (size : Size) (id : ℕ) (v : Account) (other : ℕ) (u : Account) → Joins {S = S} (Holds size) id v other u (both_of v u) spent_account
+pub joins : {S : Type 0} (size : DeckSize) (id : ℕ) (v : Account) (other : ℕ) (u : Account) → Joins {S = S} (Holds size) id v other u (both_of v u) spent_account
 joins size id v other u s holds at ne at' =
     let w = holds.0 in let k = holds.2 in let P : Account → Type 0 = FitsAccount size.morsels w in
     let mine = k.fits id v at in
@@ -121,7 +121,7 @@ drawn-total x [] = refl
 drawn-total x (h ∷ hs) = ap (λ k. times x h.numbers + k) (drawn-total x hs)
 
 -- a token that speaks for all seats knows what all drew
-pub dealt : (size : Size) (w : ℕ) (views : List Account) (id : ℕ) (v : Account) → IsKept size w views → get_elem? views id ≡ some v → length v.seats ≡ size.seats → DealtOut size.morsels (min w size.morsels) v.seats
+pub dealt : (size : DeckSize) (w : ℕ) (views : List Account) (id : ℕ) (v : Account) → IsKept size w views → get_elem? views id ≡ some v → length v.seats ≡ size.seats → DealtOut size.morsels (min w size.morsels) v.seats
 dealt size w views id v k at all =
     let seats : total (weigh one) views ≡ weigh one v = k.seats ∙ sym all ∙ sym (ones-length v.seats) in
     let fits : FitsSeats size.morsels w v.seats = k.fits id v at in

@@ -6,7 +6,7 @@ use lib.ListN.{get_elem?}
 use Rattle.vx_morsel.specs.Draws.{Draws, times, once_below, Rises, AllAbove}
 use Rattle.vx_decks.specs.Rule.{total, AllBelow, IsKept, weigh, one, end_of, FitsSeats, FitsAccount, drew, one_seat}
 use Rattle.vx_decks.specs.declared.rule.Account.{Account}
-use Rattle.vx_decks.specs.declared.rule.Size.{Size}
+use Rattle.vx_decks.specs.declared.rule.DeckSize.{DeckSize}
 use Rattle.vx_decks.proofs.Sums.{sum-set, at-most-sum, sum-le}
 use Rattle.atomic_table.proofs.Lists.{at_set}
 
@@ -59,19 +59,19 @@ fits-later m w w' [] le f = tt
 fits-later m w w' (h ∷ hs) le f = (f.0, (λ e. let p = f.1 e in omega arith), fits-later m w w' hs le f.2)
 
 -- what a seat drew so far is below the number of tries
-pub drawn-below : (size : Size) (w : ℕ) (views : List Account) (id : ℕ) (h : Draws) → get_elem? views id ≡ some (one_seat size.morsels h) → w < size.morsels → IsKept size w views → AllBelow w h.numbers
+pub drawn-below : (size : DeckSize) (w : ℕ) (views : List Account) (id : ℕ) (h : Draws) → get_elem? views id ≡ some (one_seat size.morsels h) → w < size.morsels → IsKept size w views → AllBelow w h.numbers
 drawn-below size w views id h at lt k = all-below w h.numbers (λ x p.
     let le = at-most-sum (weigh (λ g. times x g.numbers)) views id (one_seat size.morsels h) at in
     let e = k.each x in let m : min w size.morsels ≡ w = omega arith in
     not-below x w (let e' : total (weigh (λ g. times x g.numbers)) views ≡ once_below x w = e ∙ ap (once_below x) m in omega arith))
 
-fits-set : (size : Size) (w : ℕ) (views : List Account) (id : ℕ) (h : Draws) → FitsSeats size.morsels (w + 1) (h ∷ []) → IsKept size w views → (k : ℕ) (v : Account) → get_elem? (set views id (one_seat size.morsels h)) k ≡ some v → FitsAccount size.morsels (w + 1) v
+fits-set : (size : DeckSize) (w : ℕ) (views : List Account) (id : ℕ) (h : Draws) → FitsSeats size.morsels (w + 1) (h ∷ []) → IsKept size w views → (k : ℕ) (v : Account) → get_elem? (set views id (one_seat size.morsels h)) k ≡ some v → FitsAccount size.morsels (w + 1) v
 fits-set size w views id h new kept k v e =
     let P : Account → Type 0 = FitsAccount size.morsels (w + 1) in
     ⊎_elim (λ t. subst P t.1 new) (λ t. fits-later size.morsels w (w + 1) v.seats (omega arith) (kept.fits k v t.1)) (at_set views id k (one_seat size.morsels h) v e)
 
 -- a try below the bound gives its number
-pub keeps-drawn : (size : Size) (w : ℕ) (views : List Account) (id : ℕ) (h : Draws) → get_elem? views id ≡ some (one_seat size.morsels h) → h.met_end ≡ false → w < size.morsels → IsKept size w views
+pub keeps-drawn : (size : DeckSize) (w : ℕ) (views : List Account) (id : ℕ) (h : Draws) → get_elem? views id ≡ some (one_seat size.morsels h) → h.met_end ≡ false → w < size.morsels → IsKept size w views
     → IsKept size (w + 1) (set views id (one_seat size.morsels (record { numbers = h.numbers ++ w ∷ []; met_end = h.met_end })))
 keeps-drawn size w views id h at going lt k =
     let v = one_seat size.morsels h in let h' : Draws = record { numbers = h.numbers ++ w ∷ []; met_end = h.met_end } in let v' = one_seat size.morsels h' in
@@ -91,7 +91,7 @@ keeps-drawn size w views id h at going lt k =
     }
 
 -- a try at the bound or above it tells the end
-pub keeps-end : (size : Size) (w : ℕ) (views : List Account) (id : ℕ) (h : Draws) → get_elem? views id ≡ some (one_seat size.morsels h) → h.met_end ≡ false → size.morsels ≤ w → IsKept size w views
+pub keeps-end : (size : DeckSize) (w : ℕ) (views : List Account) (id : ℕ) (h : Draws) → get_elem? views id ≡ some (one_seat size.morsels h) → h.met_end ≡ false → size.morsels ≤ w → IsKept size w views
     → IsKept size (w + 1) (set views id (one_seat size.morsels (record { numbers = h.numbers; met_end = true })))
 keeps-end size w views id h at going ge k =
     let v = one_seat size.morsels h in let h' : Draws = record { numbers = h.numbers; met_end = true } in let v' = one_seat size.morsels h' in
@@ -113,12 +113,12 @@ end-le : (h : Draws) → end_of h ≤ one h
 end-le h = if-cases (λ k. k ≤ 1) h.met_end 1 0 (λ e. omega arith) (λ e. omega arith)
 
 -- the number of tries never wraps
-pub no-wrap : (size : Size) (w : ℕ) (views : List Account) → IsKept size w views → w < 2 ^ 63
+pub no-wrap : (size : DeckSize) (w : ℕ) (views : List Account) → IsKept size w views → w < 2 ^ 63
 no-wrap size w views k =
     let le = sum-le (weigh end_of) (weigh one) (λ v. sum-le end_of one end-le v.seats) views in
     let s = k.seats in let t = k.tries in let m = k.small in omega arith
 
-pub keeps-draw : (size : Size) (w : ℕ) (views : List Account) (id : ℕ) (h : Draws) → get_elem? views id ≡ some (one_seat size.morsels h) → h.met_end ≡ false → IsKept size w views
+pub keeps-draw : (size : DeckSize) (w : ℕ) (views : List Account) (id : ℕ) (h : Draws) → get_elem? views id ≡ some (one_seat size.morsels h) → h.met_end ≡ false → IsKept size w views
     → IsKept size (w + 1) (set views id (one_seat size.morsels (drew size.morsels w h)))
 keeps-draw size w views id h at going k =
     if-cases (λ g. IsKept size (w + 1) (set views id (one_seat size.morsels g))) (nat_lt w size.morsels) (record { numbers = h.numbers ++ w ∷ []; met_end = h.met_end }) (record { numbers = h.numbers; met_end = true })

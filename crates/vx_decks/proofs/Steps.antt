@@ -7,10 +7,10 @@ use Rattle.atomic_table.specs.Table.{Me, Allows, keeps}
 use Rattle.vx_morsel.specs.Draws.{Draws}
 use Rattle.vx_decks.specs.Rule.{AllBelow, Holds, Tells, drew, one_seat, first_seat}
 use Rattle.vx_decks.specs.declared.rule.Account.{Account}
-use Rattle.vx_decks.specs.declared.rule.Size.{Size}
+use Rattle.vx_decks.specs.declared.rule.DeckSize.{DeckSize}
 use Rattle.vx_decks.proofs.Keeps.{keeps-draw, drawn-below, no-wrap}
 
-pub draw-allows : {S : Type 0} (size : Size) (slots id : ℕ) (me : Me S Account) (h : Draws) → me.0 ≡ one_seat size.morsels h → h.met_end ≡ false
+pub draw-allows : {S : Type 0} (size : DeckSize) (slots id : ℕ) (me : Me S Account) (h : Draws) → me.0 ≡ one_seat size.morsels h → h.met_end ≡ false
     → Allows (Holds size) slots id me 0 (λ n. (n + 1) % 18446744073709551616) (λ n after. Tells me n after)
 draw-allows size slots id me h one going s holds len at fits =
     let w = holds.0 in let k = holds.2 in

@@ -5,7 +5,7 @@ use lib.ListN.{get_elem?}
 use Rattle.atomic_table.specs.Table.{State, Me}
 use Rattle.vx_morsel.specs.Draws.{Draws, times, once_below, Rises}
 use Rattle.vx_decks.specs.declared.rule.Account.{Account}
-use Rattle.vx_decks.specs.declared.rule.Size.{Size}
+use Rattle.vx_decks.specs.declared.rule.DeckSize.{DeckSize}
 
 -- f of each element, added up
 abbrev pub total : {A : Type 0} → (A → ℕ) → List A → ℕ
@@ -42,7 +42,7 @@ abbrev pub FitsAccount : ℕ → ℕ → Account → Type 0
 FitsAccount m w v = FitsSeats m w v.seats
 
 -- after w tries: all seats together drew the numbers below w that the deck has, each once, and each try beyond them made a seat meet the end
-pub record IsKept (size : Size) (w : ℕ) (views : List Account) : Type 0 where
+pub record IsKept (size : DeckSize) (w : ℕ) (views : List Account) : Type 0 where
   pub small : size.morsels + size.seats < 2 ^ 63
   pub seats : total (weigh one) views ≡ size.seats
   pub each : (x : ℕ) → total (weigh (λ h. times x h.numbers)) views ≡ once_below x (min w size.morsels)
@@ -50,11 +50,11 @@ pub record IsKept (size : Size) (w : ℕ) (views : List Account) : Type 0 where
   pub tries : w ≤ size.morsels + total (weigh end_of) views
 
 -- the rule of the table
-abbrev pub Holds : {S : Type 0} → Size → State S Account → Type 0
+abbrev pub Holds : {S : Type 0} → DeckSize → State S Account → Type 0
 Holds size s = (w : ℕ) × (s.words ≡ w ∷ []) × IsKept size w s.views
 
 -- the first token speaks for every seat
-abbrev pub first_account : Size → Account
+abbrev pub first_account : DeckSize → Account
 first_account size = record { morsels = size.morsels; seats = replicate size.seats no_draws }
 
 -- what a seat drew, after a try that found n tries before it

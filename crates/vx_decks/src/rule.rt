@@ -27,7 +27,7 @@ pub struct Account {
 
 /// How many numbers a deck deals, and to how many seats.
 #[derive(Clone, Copy)]
-pub struct Size {
+pub struct DeckSize {
     pub morsels: u64,
     pub seats: u64,
 }
@@ -35,7 +35,7 @@ pub struct Size {
 /// The rule of a deck: its one word counts the tries to draw.
 pub struct DeckRule;
 
-impl TableRule<u8, Account, Size> for DeckRule {
+impl TableRule<u8, Account, DeckSize> for DeckRule {
     ghost use Rattle.vx_decks.specs.Rule.{Holds, first_account};
 
     ghost holds = { λ size s. Holds size s };

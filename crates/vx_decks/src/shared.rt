@@ -1,6 +1,8 @@
 //! A deck that threads draw from at once.
 
-use crate::rule::{Account, Deals, DeckRule, Gathers, Size, Try};
+ghost use Rattle.vx_values.specs.Limits.{max_group_workers, max_rows};
+
+use crate::rule::{Account, Deals, DeckRule, DeckSize, Gathers, Try};
 use atomic_table::{Seat, Table};
 use std::alloc::{AllocError, Global};
 use std::marker::Model;
@@ -11,8 +13,8 @@ use std::marker::Model;
 /// atomic addition.
 #[derive(Drop)]
 pub struct SharedDeck {
-    table: Table<u8, Account, Size, DeckRule, Global>,
-    size: Size,
+    table: Table<u8, Account, DeckSize, DeckRule, Global>,
+    size: DeckSize,
 }
 
 /// The right to draw from one deck. It knows, for contracts alone, which numbers it drew.
@@ -56,13 +58,13 @@ impl SharedDeck {
         morsels: u64,
         seats: u32,
     ) -> Result<(SharedDeck, Vec<DeckSeat>), AllocError>
-        requires few { (1 ≤ seats) × (seats ≤ 64) }
-        requires small { morsels ≤ 100000000 }
+        requires few { (1 ≤ seats) × (seats ≤ max_group_workers) }
+        requires small { morsels ≤ max_rows }
         ensures deck { IfOk result (λ r. (r.0.morsels ≡ morsels) × (r.0.seats ≡ seats)) }
         ensures seats { IfOk result (λ r. All (IsNewSeat r.0) r.1.items × (length r.1.items ≡ seats)) }
     {
         let mut all = Vec::with_capacity(alloc, seats as usize)?;
-        let size = Size {
+        let size = DeckSize {
             morsels,
             seats: seats as u64,
         };

@@ -10,7 +10,7 @@ use Rattle.std.proofs.lemmas.List.FromFn.{fill_by_all}
 use Rattle.std.proofs.lemmas.List.Sums.{sum_by-append}
 use Rattle.vx_drawing.specs.Counts.{entries_of, total, totals, nothing, with_entry, counts_of, added_up}
 use Rattle.vx_drawing.specs.declared.node_counts.Entry.{Entry}
-use Rattle.vx_drawing.specs.declared.node_counts.NodeCounts.{NodeCounts}
+use Rattle.vx_drawing.specs.declared.node_counts.NodeTotals.{NodeTotals}
 
 capped : (a b m : ℕ) → min (a + b) m ≡ min (min a m + b) m
 capped a b m = omega arith
@@ -35,19 +35,19 @@ unfolding counts_of
 counts_more es e node = ap totals (filter-append (λ e. nat_eq e.node node) es (e ∷ [])) ∙ with_one (nat_eq e.node node) (entries_of node es) e
 
 -- each entry is of a node of the plan, and these are the counts of its nodes
-pub record AreCounts (nodes : ℕ) (es : List Entry) (cs : List NodeCounts) : Type 0 where
+pub record AreCounts (nodes : ℕ) (es : List Entry) (cs : List NodeTotals) : Type 0 where
   pub known : list_all (λ e. nat_lt e.node nodes) es ≡ true
   pub long : length cs ≡ nodes
-  pub each : (k : ℕ) (d : NodeCounts) → k < nodes → get_or cs k d ≡ counts_of es k
+  pub each : (k : ℕ) (d : NodeTotals) → k < nodes → get_or cs k d ≡ counts_of es k
 
-none_at : (nodes k : ℕ) (d : NodeCounts) → k < nodes → get_or (replicate nodes nothing) k d ≡ counts_of [] k
+none_at : (nodes k : ℕ) (d : NodeTotals) → k < nodes → get_or (replicate nodes nothing) k d ≡ counts_of [] k
 unfolding counts_of
 none_at nodes k d h = get_or-replicate nodes k nothing d h
 
 pub counts_none : (nodes : ℕ) → AreCounts nodes [] (replicate nodes nothing)
 counts_none nodes = record { known = refl; long = length-replicate nodes nothing; each = none_at nodes }
 
-more_at : (nodes : ℕ) (es : List Entry) (cs : List NodeCounts) (e : Entry) (c d : NodeCounts) (k : ℕ) (z : NodeCounts) → AreCounts nodes es cs → e.node < nodes → c ≡ with_entry (get_or cs e.node d) e → k < nodes
+more_at : (nodes : ℕ) (es : List Entry) (cs : List NodeTotals) (e : Entry) (c d : NodeTotals) (k : ℕ) (z : NodeTotals) → AreCounts nodes es cs → e.node < nodes → c ≡ with_entry (get_or cs e.node d) e → k < nodes
     → ((nat_eq e.node k ≡ true) × (e.node ≡ k)) ⊎ ((nat_eq e.node k ≡ false) × (e.node ≢ k)) → get_or (set cs e.node c) k z ≡ counts_of (es ++ e ∷ []) k
 more_at nodes es cs e c d k z are h is l (inl t) =
     let known : e.node < length cs = omega (arith, are.long, h) in
@@ -61,7 +61,7 @@ more_at nodes es cs e c d k z are h is l (inr t) =
 known_more : (nodes : ℕ) (es : List Entry) (e : Entry) → list_all (λ e. nat_lt e.node nodes) es ≡ true → e.node < nodes → list_all (λ e. nat_lt e.node nodes) (es ++ e ∷ []) ≡ true
 known_more nodes es e k h = let l : nat_lt e.node nodes ≡ true = lt-ltb e.node nodes h in list_all-append (λ e. nat_lt e.node nodes) es (e ∷ []) ∙ rw (k, l) refl
 
-pub counts_next : (nodes : ℕ) (es : List Entry) (cs : List NodeCounts) (e : Entry) (c d : NodeCounts) → AreCounts nodes es cs → e.node < nodes → c ≡ with_entry (get_or cs e.node d) e → AreCounts nodes (es ++ e ∷ []) (set cs e.node c)
+pub counts_next : (nodes : ℕ) (es : List Entry) (cs : List NodeTotals) (e : Entry) (c d : NodeTotals) → AreCounts nodes es cs → e.node < nodes → c ≡ with_entry (get_or cs e.node d) e → AreCounts nodes (es ++ e ∷ []) (set cs e.node c)
 counts_next nodes es cs e c d are h is =
     record {
       known = known_more nodes es e are.known h;
@@ -69,5 +69,5 @@ counts_next nodes es cs e c d are h is =
       each = λ k z l. more_at nodes es cs e c d k z are h is l (eqb_tells e.node k);
     }
 
-pub counts_all : (nodes : ℕ) (es : List Entry) (cs : List NodeCounts) → AreCounts nodes es cs → added_up nodes es ≡ Some cs
+pub counts_all : (nodes : ℕ) (es : List Entry) (cs : List NodeTotals) → AreCounts nodes es cs → added_up nodes es ≡ Some cs
 counts_all nodes es cs are = rw are.known (ap (λ l. Some l) (sym (fill_by_all (counts_of es) cs nodes nothing are.long (λ k l. are.each k nothing l))))

@@ -6,7 +6,7 @@ use Rattle.serde_json.specs.Find.{get, as_number, as_u64}
 use Rattle.vx_json.specs.Look.{each_in}
 use Rattle.vx_bundle.specs.Bundle.{value_of_text}
 use Rattle.vx_drawing.specs.declared.node_counts.Entry.{Entry}
-use Rattle.vx_drawing.specs.declared.node_counts.NodeCounts.{NodeCounts}
+use Rattle.vx_drawing.specs.declared.node_counts.NodeTotals.{NodeTotals}
 
 -- a number from 0 to 2^64 - 1 in a member
 unfoldable pub number_at : List ℕ → Data → Option ℕ
@@ -26,32 +26,32 @@ entries_of node es = filter (λ e. e.node == node) es
 abbrev pub total : (Entry → ℕ) → List Entry → ℕ
 total number es = min (sum_by number es) (2 ^ 64 - 1)
 
-abbrev pub totals : List Entry → NodeCounts
+abbrev pub totals : List Entry → NodeTotals
 totals es = record { rows = total (λ e. e.gave) es; packets = total (λ e. e.put) es; waits = total (λ e. e.waits) es }
 
 -- nothing counted
-abbrev pub nothing : NodeCounts
+abbrev pub nothing : NodeTotals
 nothing = record { rows = 0; packets = 0; waits = 0 }
 
 -- counts with those of one more entry
-abbrev pub with_entry : NodeCounts → Entry → NodeCounts
+abbrev pub with_entry : NodeTotals → Entry → NodeTotals
 with_entry c e = record { rows = min (c.rows + e.gave) (2 ^ 64 - 1); packets = min (c.packets + e.put) (2 ^ 64 - 1); waits = min (c.waits + e.waits) (2 ^ 64 - 1) }
 
 -- the counts of the node with this number, by these entries
-unfoldable pub counts_of : List Entry → ℕ → NodeCounts
+unfoldable pub counts_of : List Entry → ℕ → NodeTotals
 counts_of es node = totals (entries_of node es)
 
 -- the counts of each node of a plan with so many nodes; none where an entry is of a node that the plan does not have
-abbrev pub added_up : ℕ → List Entry → Option (List NodeCounts)
+abbrev pub added_up : ℕ → List Entry → Option (List NodeTotals)
 added_up nodes es =
     if list_all (λ e. nat_lt e.node nodes) es
     then Some (map (counts_of es) (range_with_len 0 nodes))
     else None
 
 -- the same by a JSON value, whose member `nodes` lists the entries
-unfoldable pub counts_in : ℕ → Data → Option (List NodeCounts)
+unfoldable pub counts_in : ℕ → Data → Option (List NodeTotals)
 counts_in nodes d = option_and_then (added_up nodes) (option_and_then (each_in entry_in) (get (codes "nodes") d))
 
 -- and by its text
-abbrev pub counts_by_node : ℕ → List ℕ → Option (List NodeCounts)
+abbrev pub counts_by_node : ℕ → List ℕ → Option (List NodeTotals)
 counts_by_node nodes text = option_and_then (counts_in nodes) (value_of_text text)

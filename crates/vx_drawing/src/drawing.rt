@@ -3,7 +3,7 @@
 ghost use Rattle.std.specs.Prelude.{◌≡◌, ◌++◌, decimal, IfOk, OnOk, IsErrOf};
 ghost use Rattle.vx_drawing.specs.Drawing.{label, statement, statements, drawing, IsDrawn, HasNoCounts};
 
-use crate::node_counts::{DrawFault, NodeCounts, counts_by_node};
+use crate::node_counts::{DrawFault, NodeTotals, counts_by_node};
 use itoa::Buffer;
 use std::alloc::{AllocError, Global};
 
@@ -20,7 +20,7 @@ fn push_number(text: &mut Vec<u8>, number: u64) -> Result<(), AllocError>
 
 // Adds what is written beside a box.
 #[tactic(auto, unfolding(crate::specs::Drawing::label))]
-fn push_label(text: &mut Vec<u8>, counts: &NodeCounts) -> Result<(), AllocError>
+fn push_label(text: &mut Vec<u8>, counts: &NodeTotals) -> Result<(), AllocError>
     ensures { OnOk result (text.new.items ≡ text.old.items ++ label counts.now) }
 {
     push_number(text, counts.rows)?;
@@ -33,7 +33,7 @@ fn push_label(text: &mut Vec<u8>, counts: &NodeCounts) -> Result<(), AllocError>
 
 // Adds a statement that puts the counts of a node beside its box.
 #[tactic(auto, unfolding(crate::specs::Drawing::statement))]
-fn push_statement(text: &mut Vec<u8>, node: usize, counts: &NodeCounts) -> Result<(), AllocError>
+fn push_statement(text: &mut Vec<u8>, node: usize, counts: &NodeTotals) -> Result<(), AllocError>
     ensures { OnOk result (text.new.items ≡ text.old.items ++ statement node counts.now) }
 {
     text.extend_from_slice(b"  n")?;
@@ -44,7 +44,7 @@ fn push_statement(text: &mut Vec<u8>, node: usize, counts: &NodeCounts) -> Resul
 }
 
 // Adds such a statement for each node.
-fn push_statements(text: &mut Vec<u8>, counts: &[NodeCounts]) -> Result<(), AllocError>
+fn push_statements(text: &mut Vec<u8>, counts: &[NodeTotals]) -> Result<(), AllocError>
     ensures { OnOk result (text.new.items ≡ text.old.items ++ statements counts.now) }
 {
     for (node, of_node) in counts.iter().enumerate() {
@@ -54,7 +54,7 @@ fn push_statements(text: &mut Vec<u8>, counts: &[NodeCounts]) -> Result<(), Allo
 }
 
 // The picture with the counts of each node beside its box.
-fn with_counts(alloc: Global, picture: &[u8], counts: &[NodeCounts]) -> Result<Vec<u8>, AllocError>
+fn with_counts(alloc: Global, picture: &[u8], counts: &[NodeTotals]) -> Result<Vec<u8>, AllocError>
     ensures { IfOk result (λ v. v.items ≡ drawing picture.now counts.now) }
 {
     let kept = picture.len().saturating_sub(ENDING.len());

@@ -46,7 +46,7 @@ impl From<Misread> for DrawFault {
 
 /// What all workers together counted at a node.
 #[derive(Clone, Copy, PartialEq, Eq)]
-pub struct NodeCounts {
+pub struct NodeTotals {
     /// The rows that the node's operator returned.
     pub rows: u64,
     /// The packets that its workers sent, where it is the top of its fragment.
@@ -114,10 +114,10 @@ impl Reader for EntryReader {
 }
 
 // The counts with those of one more worker.
-fn with_entry(counts: NodeCounts, entry: Entry) -> NodeCounts
+fn with_entry(counts: NodeTotals, entry: Entry) -> NodeTotals
     ensures { result ≡ with_entry counts entry }
 {
-    NodeCounts {
+    NodeTotals {
         rows: counts.rows.saturating_add(entry.gave),
         packets: counts.packets.saturating_add(entry.put),
         waits: counts.waits.saturating_add(entry.waits),
@@ -125,10 +125,10 @@ fn with_entry(counts: NodeCounts, entry: Entry) -> NodeCounts
 }
 
 // Nothing counted, for so many nodes.
-fn nothing_counted(alloc: Global, nodes: usize) -> Result<Vec<NodeCounts>, AllocError>
+fn nothing_counted(alloc: Global, nodes: usize) -> Result<Vec<NodeTotals>, AllocError>
     ensures { IfOk result (λ v. v.items ≡ replicate nodes nothing) }
 {
-    let none = NodeCounts {
+    let none = NodeTotals {
         rows: 0,
         packets: 0,
         waits: 0,
@@ -141,7 +141,7 @@ fn nothing_counted(alloc: Global, nodes: usize) -> Result<Vec<NodeCounts>, Alloc
 }
 
 // The counts of each node of a plan with so many nodes, by what each worker counted.
-fn add_up(alloc: Global, nodes: usize, entries: &[Entry]) -> Result<Vec<NodeCounts>, Misread>
+fn add_up(alloc: Global, nodes: usize, entries: &[Entry]) -> Result<Vec<NodeTotals>, Misread>
     ensures { Parses (λ v. v.items) result (added_up nodes entries.now) }
 {
     let mut counts = nothing_counted(alloc, nodes)?;
@@ -156,7 +156,7 @@ fn add_up(alloc: Global, nodes: usize, entries: &[Entry]) -> Result<Vec<NodeCoun
 }
 
 #[tactic(auto, unfolding(crate::specs::Counts::counts_in))]
-fn read_counts(alloc: Global, nodes: usize, stats: &Json) -> Result<Vec<NodeCounts>, Misread>
+fn read_counts(alloc: Global, nodes: usize, stats: &Json) -> Result<Vec<NodeTotals>, Misread>
     ensures { Parses (λ v. v.items) result (counts_in nodes (view stats.now)) }
 {
     let entries = read_list::<EntryReader>(alloc, get_member(stats, "nodes")?)?;
@@ -164,7 +164,7 @@ fn read_counts(alloc: Global, nodes: usize, stats: &Json) -> Result<Vec<NodeCoun
 }
 
 /// What all workers together counted at each node of a plan with so many nodes, by what `run --stats=json` wrote.
-pub fn counts_by_node(alloc: Global, nodes: usize, text: &[u8]) -> Result<Vec<NodeCounts>, Misread>
+pub fn counts_by_node(alloc: Global, nodes: usize, text: &[u8]) -> Result<Vec<NodeTotals>, Misread>
     ensures { Parses (λ v. v.items) result (counts_by_node nodes text.now) }
 {
     match value_of_text(alloc, text)? {

@@ -5,7 +5,7 @@ use Rattle.vx_plan_nodes.specs.Erased.{erased_from}
 use Rattle.vx_plan_nodes.specs.Names.{Names, TypedPlanView}
 use Rattle.vx_plan_nodes.specs.Outline.{Outline}
 use Rattle.vx_serial.specs.Results.{EvalFails}
-use Rattle.vx_serial.specs.declared.fault.EvalFault.{EvalFault}
+use Rattle.vx_setup.specs.declared.eval_fault.EvalFault.{EvalFault}
 use Rattle.vx_refusals.specs.declared.refusal.Refusal.TheVariants as refusal
 use Rattle.vx_embedding.specs.Session.{Session}
 use Rattle.vx_embedding.specs.Planning.{plan_text}

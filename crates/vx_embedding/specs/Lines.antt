@@ -3,8 +3,8 @@ use Rattle.std.specs.Prelude.{ℕ, ◌+◌, ◌==◌, ◌||◌, min, List, lengt
 use Rattle.vx_plan_json.specs.Fault as plan
 use Rattle.vx_setup.specs.declared.fault.RunFault.{RunFault}
 use Rattle.vx_setup.specs.declared.fault.RunFault.TheVariants as run
-use Rattle.vx_serial.specs.declared.fault.EvalFault.{EvalFault}
-use Rattle.vx_serial.specs.declared.fault.EvalFault.TheVariants as eval
+use Rattle.vx_setup.specs.declared.eval_fault.EvalFault.{EvalFault}
+use Rattle.vx_setup.specs.declared.eval_fault.EvalFault.TheVariants as eval
 use Rattle.vx_refusals.specs.declared.refusal.Refusal.{Refusal}
 use Rattle.vx_refusals.specs.declared.refusal.Refusal.TheVariants as refusal
 use Rattle.vx_embedding.specs.declared.lines.Words.{Words}

@@ -7,7 +7,7 @@ use Rattle.vx_plan_nodes.specs.Erased.{erased_from}
 use Rattle.vx_plan_nodes.specs.Outline.{columns, plan_in}
 use Rattle.vx_plan_nodes.specs.Names.{TypedPlanView}
 use Rattle.vx_serial.specs.Results.{IsSerialOf, EvalFails}
-use Rattle.vx_serial.specs.declared.fault.EvalFault.{EvalFault}
+use Rattle.vx_setup.specs.declared.eval_fault.EvalFault.{EvalFault}
 use Rattle.vx_tables.specs.Filled.{IsFilled, IsFirstMissing}
 use Rattle.vx_tables.specs.Texts.{holds_in, lacks_in}
 use Rattle.vx_refusals.specs.declared.refusal.Refusal.{Refusal}

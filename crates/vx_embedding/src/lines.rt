@@ -6,8 +6,7 @@ ghost use Rattle.vx_embedding.specs.Lines.{node_of, run_node, eval_node, is_end,
 use std::alloc::{AllocError, Global};
 use vx_bytes::{ByteOut, MemoryOut};
 use vx_refusals::{Refusal, report};
-use vx_serial::EvalFault;
-use vx_setup::RunFault;
+use vx_setup::{EvalFault, RunFault};
 
 // How many bytes stand before the code in a printed line.
 const MARK: usize = "volcano: ".len();

@@ -13,7 +13,7 @@ pub trait Sends {
     ghost use Rattle.vx_ports.specs.Packets.{PacketView, closes};
     ghost use Rattle.vx_ops.specs.Ledger.{Stream};
     ghost use Rattle.vx_ops.specs.Turn.{heard, GivesRows, with_packet};
-    ghost use Rattle.vx_ops.specs.declared.fault.Over.TheVariants.{Ended, Failed};
+    ghost use Rattle.vx_ops.specs.declared.fault.StreamState.TheVariants.{Ended, Failed};
     ghost use Rattle.vx_ops.specs.declared.fault.Fault.{Fault};
     ghost use Rattle.vx_ends.specs.Tasks.{Task, Post, post_types, Finished, Stopped, BeganSending, IsAt};
     ghost use Rattle.vx_ends.specs.Sending.{RoutesAs, is_open_after};

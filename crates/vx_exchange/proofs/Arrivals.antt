@@ -9,7 +9,7 @@ use Rattle.std.proofs.lemmas.List.Elements.{All-nil, All-push}
 use Rattle.std.proofs.lemmas.Bool.Decides.{nat_tests, eqb_tells}
 use Rattle.std.specs.Ordering.{is_le}
 use Rattle.vx_values.specs.Values.{Row}
-use Rattle.vx_rows.specs.Order.{sorted, compare_on}
+use Rattle.vx_values.specs.Order.{sorted, compare_on}
 use Rattle.vx_rows.specs.Lists.{IsBeginning}
 use Rattle.vx_values.specs.declared.value.ColType.{ColType}
 use Rattle.vx_plan_nodes.specs.Streams.{Dealt, bearing}
@@ -18,7 +18,7 @@ use Rattle.vx_ops.specs.Ledger.{Ledger, ConsumerEnd, receive, Makes, Begun, OwnB
 use Rattle.vx_ops.specs.Begun.{begun_whole}
 use Rattle.vx_ops.proofs.Strangers.{none-came}
 use Rattle.vx_ops.specs.Turn.{fresh_ledger, with_packet, after}
-use Rattle.vx_ops.specs.declared.fault.Over.TheVariants.{Running, Ended, Failed}
+use Rattle.vx_ops.specs.declared.fault.StreamState.TheVariants.{Running, Ended, Failed}
 use Rattle.vx_ops.specs.declared.fault.Fault.{Fault}
 use Rattle.vx_ops.specs.declared.fault.Fault.TheVariants.{Own, Passed}
 use Rattle.vx_ops.specs.declared.fault.Code.TheVariants.{Stranger}

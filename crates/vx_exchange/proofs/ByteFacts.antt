@@ -9,7 +9,7 @@ use Rattle.std.proofs.lemmas.List.{append-nil}
 use Rattle.std.proofs.lemmas.List.Elements.{All-tail}
 use Rattle.std.proofs.lemmas.List.Sums.{fold-append}
 use Rattle.vx_values.specs.Values.{num}
-use Rattle.vx_exchange.specs.ByteRouter.{hash_byte, key_hash, byte_route}
+use Rattle.vx_plan_nodes.specs.ByteRouter.{hash_byte, key_hash, byte_route}
 
 -- from the hash of the name and 0, and then 1 for a number
 pub number-hash : (name : List ℕ) (z : ℤ) (named start hash : ℕ) → named ≡ fold hash_byte 7 (name ++ 0 ∷ []) → start ≡ hash_byte named 1

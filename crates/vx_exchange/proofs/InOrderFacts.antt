@@ -2,7 +2,7 @@
 use Rattle.std.proofs.Common.{◌≡◌, ℕ, zero, suc, ◌+◌, ◌<◌, ◌≤◌, true, List, [], ◌++◌, sym, ap, ap₂, ◌∙◌, subst, arith, append-nil, append_assoc}
 use Rattle.vx_values.specs.Values.{Row}
 use Rattle.vx_rows.specs.Lists.{IsBeginning}
-use Rattle.vx_rows.specs.Order.{sorted}
+use Rattle.vx_values.specs.Order.{sorted}
 use Rattle.vx_ops.specs.Ledger.{Ledger, ConsumerEnd, receive, Makes}
 use Rattle.vx_plan_nodes.specs.Streams.{Streams, joined, Dealt}
 use Rattle.vx_ports.specs.Packets.{rows_of}

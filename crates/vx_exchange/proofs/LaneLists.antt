@@ -20,8 +20,8 @@ use Rattle.vx_exchange.specs.Lanes.{IsLane, ways_of, any_closed, are_idle, first
 use Rattle.vx_exchange.specs.LaneLaws.{element_at, open_at}
 use Rattle.vx_exchange.specs.declared.deal.Deal.{Deal}
 use Rattle.vx_exchange.specs.declared.deal.Deal.TheVariants.{Route, Round, Broadcast, Gather, Concat}
-use Rattle.vx_exchange.specs.declared.sender.Stage.{Stage}
-use Rattle.vx_exchange.specs.declared.sender.Stage.TheVariants.{Open, Ending, Failing}
+use Rattle.vx_exchange.specs.declared.sender.SenderState.{SenderState}
+use Rattle.vx_exchange.specs.declared.sender.SenderState.TheVariants.{Open, Ending, Failing}
 
 -- a list after one element was written
 
@@ -307,7 +307,7 @@ serves-some Gather n h = let e = serves-one n h in omega (arith, e)
 serves-some Concat n h = let e = serves-one n h in omega (arith, e)
 
 -- while rows come nothing closes
-pub open-idle : (st : Stage) (old new : List LaneView) → st ≡ Open → any_closed old ≡ false → SameLanes old new → may_close st new ≡ true → are_idle new ≡ true
+pub open-idle : (st : SenderState) (old new : List LaneView) → st ≡ Open → any_closed old ≡ false → SameLanes old new → may_close st new ≡ true → are_idle new ≡ true
 open-idle Open old new o unclosed same e = absurd (true≢false (sym e ∙ same-any old new same ∙ unclosed))
 open-idle Ending old new o unclosed same e = absurd (true≢false (sym e ∙ same-any old new same ∙ unclosed))
 open-idle Failing old new o unclosed same e = cc
@@ -329,24 +329,24 @@ waits-not old new i p x idle =
     let some : p ∷ x.after.ready ≡ [] = sym x.ready ∙ none in
     cc
 
-unless-failing : (st : Stage) (lanes : List LaneView) → (st ≡ Failing → ⊥) → may_close st lanes ≡ any_closed lanes
+unless-failing : (st : SenderState) (lanes : List LaneView) → (st ≡ Failing → ⊥) → may_close st lanes ≡ any_closed lanes
 unless-failing Open lanes f = refl
 unless-failing Ending lanes f = refl
 unless-failing Failing lanes f = absurd (f refl)
 
 -- so no lane has closed
-pub gives-unclosed : (st : Stage) (old new : List LaneView) (i : ℕ) (p : PacketView) → (st ≡ Failing → ⊥) → (may_close st old ≡ true → are_idle old ≡ true) → GivesPacket old new i p → any_closed new ≡ false
+pub gives-unclosed : (st : SenderState) (old new : List LaneView) (i : ℕ) (p : PacketView) → (st ≡ Failing → ⊥) → (may_close st old ≡ true → are_idle old ≡ true) → GivesPacket old new i p → any_closed new ≡ false
 gives-unclosed st old new i p f idle x = same-any old new (gives-same old new i p x) ∙ go (any_closed old) refl
   where
     go : (b : Bool) → any_closed old ≡ b → b ≡ false
     go false e = refl
     go true e = absurd (waits-not old new i p x (idle (unless-failing st old f ∙ e)))
 
-pub gives-idle : (st : Stage) (old new : List LaneView) (i : ℕ) (p : PacketView) → (st ≡ Failing → ⊥) → (may_close st old ≡ true → are_idle old ≡ true) → GivesPacket old new i p
+pub gives-idle : (st : SenderState) (old new : List LaneView) (i : ℕ) (p : PacketView) → (st ≡ Failing → ⊥) → (may_close st old ≡ true → are_idle old ≡ true) → GivesPacket old new i p
     → may_close st new ≡ true → are_idle new ≡ true
 gives-idle st old new i p f idle x e = absurd (true≢false (sym e ∙ unless-failing st new f ∙ gives-unclosed st old new i p f idle x))
 
-pub given-idle : (st : Stage) (old new : List LaneView) (r : Option (ℕ × PacketView)) → (st ≡ Failing → ⊥) → (may_close st old ≡ true → are_idle old ≡ true)
+pub given-idle : (st : SenderState) (old new : List LaneView) (r : Option (ℕ × PacketView)) → (st ≡ Failing → ⊥) → (may_close st old ≡ true → are_idle old ≡ true)
     → IfSome r (λ x. GivesPacket old new x.0 x.1) → IfNone r (new ≡ old) → may_close st new ≡ true → are_idle new ≡ true
 given-idle st old new None f idle h k = let P : List LaneView → Type 0 = λ z. may_close st z ≡ true → are_idle z ≡ true in subst P (sym k) idle
 given-idle st old new (Some x) f idle h k = gives-idle st old new x.0 x.1 f idle h

@@ -11,7 +11,7 @@ use Rattle.vx_ports.specs.Packets.{Content, last, fault, PacketView}
 use Rattle.vx_ops.specs.Ledger.{Stream, fresh}
 use Rattle.vx_ops.specs.Turn.{with_packet}
 use Rattle.vx_ops.specs.declared.fault.Fault.{Fault}
-use Rattle.vx_ops.specs.declared.fault.Over.TheVariants.{Ended, Failed}
+use Rattle.vx_ops.specs.declared.fault.StreamState.TheVariants.{Ended, Failed}
 use Rattle.vx_ends.specs.Ship.{Ship, end_to_end, packet_at, packet_of, IsPort, IsCutPort, IsShipped, IsCutShort}
 use Rattle.vx_exchange.specs.LaneView.{LaneView, empty_outlet, parcel_of, Cuts, CutsRest}
 use Rattle.vx_exchange.specs.Lanes.{IsLane, ways_of, any_closed, ship_of, way_to, AreNumbered, AreFresh, SameLanes, in_turn, TakesTurns, Deals, Finishes, GivesPacket, GivesClosing}
@@ -20,8 +20,8 @@ use Rattle.vx_ends.specs.Beginnings.{begins-along, begins-take, mapped-take, end
 use Rattle.vx_exchange.specs.Sender.{closing_given, IsFilling, IsEnding, IsFailing, LaneAt, takes_more, SenderAt, sender_ship}
 use Rattle.vx_exchange.specs.RoundRobin.{RoundRobinLaw}
 use Rattle.vx_exchange.specs.declared.deal.Deal.{Deal}
-use Rattle.vx_exchange.specs.declared.sender.Stage.{Stage}
-use Rattle.vx_exchange.specs.declared.sender.Stage.TheVariants.{Open, Ending, Failing}
+use Rattle.vx_exchange.specs.declared.sender.SenderState.{SenderState}
+use Rattle.vx_exchange.specs.declared.sender.SenderState.TheVariants.{Open, Ending, Failing}
 use Rattle.vx_exchange.proofs.Cuts.{all-append}
 use Rattle.vx_ends.proofs.Sendings.{sends-append, sends-none}
 use Rattle.vx_exchange.proofs.Turns.{turns-append, turns-none, turn-after, turn-first}
@@ -77,7 +77,7 @@ one-more : (given : List PacketView) (p : PacketView) (ready : List PacketView) 
 one-more given p ready = append_assoc given (p ∷ []) ready
 
 -- a packet that waited is given
-lane-gives : (st : Stage) (s : Ship) (j : ℕ) (o o' : LaneView) (rows : List Row) (given : List PacketView) (p : PacketView) → (st ≡ Failing → ⊥) → o'.current ≡ o.current → o.ready ≡ p ∷ o'.ready → o'.closed ≡ o.closed
+lane-gives : (st : SenderState) (s : Ship) (j : ℕ) (o o' : LaneView) (rows : List Row) (given : List PacketView) (p : PacketView) → (st ≡ Failing → ⊥) → o'.current ≡ o.current → o.ready ≡ p ∷ o'.ready → o'.closed ≡ o.closed
     → LaneAt st s j o rows given → LaneAt st s j o' rows (given ++ p ∷ [])
 lane-gives Open s j o o' rows given p f e r c k = record {
   full = k.full;
@@ -120,12 +120,12 @@ lane-faults s j o o' rows given p w e before after k =
     }
 
 -- the closing packet of the stage is given
-abbrev pub closes-with : Stage → Content → Type 0
+abbrev pub closes-with : SenderState → Content → Type 0
 closes-with Open content = ⊥
 closes-with Ending content = content ≡ last
 closes-with Failing content = content ≡ fault
 
-lane-closes : (st : Stage) (content : Content) (s : Ship) (j : ℕ) (o o' : LaneView) (rows : List Row) (given : List PacketView) (p : PacketView) → closes-with st content → o.way ≡ way_to s j → o.ready ≡ [] → o'.ready ≡ o.ready
+lane-closes : (st : SenderState) (content : Content) (s : Ship) (j : ℕ) (o o' : LaneView) (rows : List Row) (given : List PacketView) (p : PacketView) → closes-with st content → o.way ≡ way_to s j → o.ready ≡ [] → o'.ready ≡ o.ready
     → p ≡ parcel_of o.way content → o.closed ≡ false → o'.closed ≡ true → LaneAt st s j o rows given → LaneAt st s j o' rows (given ++ p ∷ [])
 lane-closes Open content s j o o' rows given p f w none r e before after k = absurd f
 lane-closes Ending content s j o o' rows given p f w none r e before after k = lane-lasts s j o o' rows given p w none r (e ∙ ap (parcel_of o.way) f) before after k
@@ -178,7 +178,7 @@ sender-fails goes s r r' lanes lanes' a g f unclosed same h = record {
 }
 
 -- one lane gives a packet
-sender-puts : (goes : Routing) (s : Ship) (st : Stage) (r : ℕ) (lanes : List LaneView) (a : Stream) (g : ℕ → List PacketView) (i : ℕ) (o o' : LaneView) (p : PacketView) → s.consumers ≡ length lanes → IsLane lanes i o
+sender-puts : (goes : Routing) (s : Ship) (st : SenderState) (r : ℕ) (lanes : List LaneView) (a : Stream) (g : ℕ → List PacketView) (i : ℕ) (o o' : LaneView) (p : PacketView) → s.consumers ≡ length lanes → IsLane lanes i o
     → ((rows : List Row) (given : List PacketView) → LaneAt st s i o rows given → LaneAt st s i o' rows (given ++ p ∷ []))
     → SenderAt goes s st r lanes a g → SenderAt goes s st r (set lanes i o') a (with_packet g i (Some p))
 sender-puts goes s st r lanes a g i o o' p many there step h =
@@ -202,7 +202,7 @@ sender-puts goes s st r lanes a g i o o' p many there step h =
     }
 
 -- one of rows that waited
-pub sender-gives : (goes : Routing) (s : Ship) (st : Stage) (r : ℕ) (lanes lanes' : List LaneView) (a : Stream) (g : ℕ → List PacketView) (i : ℕ) (p : PacketView) → s.consumers ≡ length lanes → (st ≡ Failing → ⊥)
+pub sender-gives : (goes : Routing) (s : Ship) (st : SenderState) (r : ℕ) (lanes lanes' : List LaneView) (a : Stream) (g : ℕ → List PacketView) (i : ℕ) (p : PacketView) → s.consumers ≡ length lanes → (st ≡ Failing → ⊥)
     → GivesPacket lanes lanes' i p → SenderAt goes s st r lanes a g → SenderAt goes s st r lanes' a (with_packet g i (Some p))
 sender-gives goes s st r lanes lanes' a g i p many f x h =
     let P : List LaneView → Type 0 = λ z. SenderAt goes s st r z a (with_packet g i (Some p)) in
@@ -210,7 +210,7 @@ sender-gives goes s st r lanes lanes' a g i p many f x h =
     (λ rows given k. lane-gives st s i x.before x.after rows given p f x.current x.ready x.closed k) h)
 
 -- its closing packet
-pub sender-closes : (goes : Routing) (s : Ship) (st : Stage) (r : ℕ) (content : Content) (lanes lanes' : List LaneView) (a : Stream) (g : ℕ → List PacketView) (i : ℕ) (p : PacketView) → s.consumers ≡ length lanes
+pub sender-closes : (goes : Routing) (s : Ship) (st : SenderState) (r : ℕ) (content : Content) (lanes lanes' : List LaneView) (a : Stream) (g : ℕ → List PacketView) (i : ℕ) (p : PacketView) → s.consumers ≡ length lanes
     → ((j : ℕ) (o : LaneView) → IsLane lanes j o → o.way ≡ way_to s j) → All (λ o. o.ready ≡ []) lanes → closes-with st content
     → GivesClosing content lanes lanes' i p → SenderAt goes s st r lanes a g → SenderAt goes s st r lanes' a (with_packet g i (Some p))
 sender-closes goes s st r content lanes lanes' a g i p many ways idle f x h =
@@ -241,10 +241,10 @@ sender-shipped goes s r lanes a g many closed idle h = record {
 turned : (k : ExchangeKind) (z : Size) (n : ℕ) (rows : List Row) (sent : Streams) → k ≡ round z → TakesTurns k n 0 rows sent → (j : ℕ) → j < n → bearing j (in_turn n 0 rows) ≡ sent j
 turned k z n rows sent e t = let P : ExchangeKind → Type 0 = λ x. TakesTurns x n 0 rows sent in subst P e t
 
-turned-port : (goes : Routing) (s : Ship) (z : Size) (st : Stage) (r : ℕ) (lanes : List LaneView) (a : Stream) (g : ℕ → List PacketView) → s.consumers ≡ length lanes → s.kind ≡ round z → st ≡ Ending
+turned-port : (goes : Routing) (s : Ship) (z : Size) (st : SenderState) (r : ℕ) (lanes : List LaneView) (a : Stream) (g : ℕ → List PacketView) → s.consumers ≡ length lanes → s.kind ≡ round z → st ≡ Ending
     → All (λ o. o.ready ≡ []) lanes → All (λ o. o.closed ≡ true) lanes → SenderAt goes s st r lanes a g → (j : ℕ) → j < s.consumers → IsPort s j (bearing j (in_turn s.consumers 0 a.rows)) (g j)
 turned-port goes s z st r lanes a g many kind ending idle closed k j l =
-    let H : Stage → Type 0 = λ x. SenderAt goes s x r lanes a g in
+    let H : SenderState → Type 0 = λ x. SenderAt goes s x r lanes a g in
     let h = subst H ending k in
     let L : ℕ → Type 0 = λ n. j < n in
     let e = element_at lanes j (subst L many l) in
@@ -292,31 +292,31 @@ sender-fresh goes s lanes some f = record {
 }
 
 -- the same is known of the same sending end
-pub in-ship : (goes : Routing) (s s' : Ship) (st : Stage) (r : ℕ) (lanes : List LaneView) (a : Stream) (g : ℕ → List PacketView) → s' ≡ s → SenderAt goes s st r lanes a g → SenderAt goes s' st r lanes a g
+pub in-ship : (goes : Routing) (s s' : Ship) (st : SenderState) (r : ℕ) (lanes : List LaneView) (a : Stream) (g : ℕ → List PacketView) → s' ≡ s → SenderAt goes s st r lanes a g → SenderAt goes s' st r lanes a g
 in-ship goes s s' st r lanes a g e h = let P : Ship → Type 0 = λ z. SenderAt goes z st r lanes a g in subst P (sym e) h
 
 -- a sending end that takes more
-pub opened : (st : Stage) (closed : Bool) → (takes_more st && not closed) ≡ true → (st ≡ Open) × (closed ≡ false)
+pub opened : (st : SenderState) (closed : Bool) → (takes_more st && not closed) ≡ true → (st ≡ Open) × (closed ≡ false)
 opened Open false e = (refl, refl)
 opened Open true e = absurd (true≢false (sym e))
 opened Ending closed e = absurd (true≢false (sym e))
 opened Failing closed e = absurd (true≢false (sym e))
 
-pub open-not_failing : (st : Stage) → st ≡ Open → st ≡ Failing → ⊥
+pub open-not_failing : (st : SenderState) → st ≡ Open → st ≡ Failing → ⊥
 open-not_failing st e f = let g : Open ≡ Failing = sym e ∙ f in cc
 
-pub ending-not_failing : (st : Stage) → st ≡ Ending → st ≡ Failing → ⊥
+pub ending-not_failing : (st : SenderState) → st ≡ Ending → st ≡ Failing → ⊥
 ending-not_failing st e f = let g : Ending ≡ Failing = sym e ∙ f in cc
 
 -- where lanes lead to the consumers of their numbers
 
-pub gives-now : (goes : Routing) (deal : Deal) (st : Stage) (r : ℕ) (old new : List LaneView) (a : Stream) (g : ℕ → List PacketView) (i : ℕ) (p : PacketView) → (st ≡ Failing → ⊥) → GivesPacket old new i p
+pub gives-now : (goes : Routing) (deal : Deal) (st : SenderState) (r : ℕ) (old new : List LaneView) (a : Stream) (g : ℕ → List PacketView) (i : ℕ) (p : PacketView) → (st ≡ Failing → ⊥) → GivesPacket old new i p
     → SenderAt goes (ship_of deal (ways_of old)) st r old a g → SenderAt goes (ship_of deal (ways_of new)) st r new a (with_packet g i (Some p))
 gives-now goes deal st r old new a g i p f x h =
     in-ship goes (ship_of deal (ways_of old)) (ship_of deal (ways_of new)) st r new a (with_packet g i (Some p)) (same-ship deal deal old new refl (gives-same old new i p x))
     (sender-gives goes (ship_of deal (ways_of old)) st r old new a g i p (length-map old (λ (z : LaneView). z.way)) f x h)
 
-pub closes-now : (goes : Routing) (deal : Deal) (st : Stage) (r : ℕ) (content : Content) (old new : List LaneView) (a : Stream) (g : ℕ → List PacketView) (i : ℕ) (p : PacketView) → AreNumbered deal (ways_of old)
+pub closes-now : (goes : Routing) (deal : Deal) (st : SenderState) (r : ℕ) (content : Content) (old new : List LaneView) (a : Stream) (g : ℕ → List PacketView) (i : ℕ) (p : PacketView) → AreNumbered deal (ways_of old)
     → All (λ o. o.ready ≡ []) old → closes-with st content → GivesClosing content old new i p
     → SenderAt goes (ship_of deal (ways_of old)) st r old a g → SenderAt goes (ship_of deal (ways_of new)) st r new a (with_packet g i (Some p))
 closes-now goes deal st r content old new a g i p numbered idle f x h =

@@ -6,6 +6,7 @@ use Rattle.vx_rows.specs.View.{RowsView}
 use Rattle.vx_values.specs.declared.value.ColType.{ColType}
 use Rattle.vx_ports.specs.Packets.{Content, brings, closes, PacketView}
 use Rattle.vx_ends.specs.Ship.{end_to_end}
+use Rattle.vx_values.specs.Limits.{max_packet_rows}
 
 -- where packets come from and go to, and how large they are
 pub record Way : Type 0 where
@@ -47,7 +48,7 @@ is_given (Some x) = false
 -- what an outlet keeps: a packet holds 1 to 4,096 rows, fewer than that are at hand, and only packets of rows wait, none behind the closing one
 pub record IsOutlet (o : LaneView) (closing : Option RowsView) : Type 0 where
   pub some : 1 ≤ o.way.size
-  pub few : o.way.size ≤ 4096
+  pub few : o.way.size ≤ max_packet_rows
   pub shorter : length o.current < o.way.size
   pub none_after : o.closed ≡ true → o.ready ≡ []
   pub of_rows : All (λ (p : PacketView). closes p.content ≡ false) o.ready

@@ -13,8 +13,8 @@ use Rattle.vx_exchange.specs.LaneView.{Way, LaneView, parcel_of, empty_outlet, C
 use Rattle.vx_exchange.specs.Routed.{key_route, key_columns, key_bounds}
 use Rattle.vx_exchange.specs.declared.deal.Deal.{Deal}
 use Rattle.vx_exchange.specs.declared.deal.Deal.TheVariants.{Route, Round, Broadcast, Gather, Concat}
-use Rattle.vx_exchange.specs.declared.sender.Stage.{Stage}
-use Rattle.vx_exchange.specs.declared.sender.Stage.TheVariants.{Open, Ending, Failing}
+use Rattle.vx_exchange.specs.declared.sender.SenderState.{SenderState}
+use Rattle.vx_exchange.specs.declared.sender.SenderState.TheVariants.{Open, Ending, Failing}
 
 -- the kind of the exchange whose rows are dealt so
 abbrev pub kind_of : Deal → ExchangeKind
@@ -105,7 +105,7 @@ abbrev pub AreNumbered : Deal → List Way → Type 0
 AreNumbered deal ways = (j : ℕ) (w : Way) → slice_get ways j ≡ Some w → w ≡ way_to (ship_of deal ways) j
 
 -- whether a closing packet may have been returned or be next
-abbrev pub may_close : Stage → List LaneView → Bool
+abbrev pub may_close : SenderState → List LaneView → Bool
 may_close Open lanes = any_closed lanes
 may_close Ending lanes = any_closed lanes
 may_close Failing lanes = true

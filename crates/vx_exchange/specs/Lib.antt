@@ -1,7 +1,6 @@
 pub mod Receiver
 pub mod InOrder
 pub mod LaneView
-pub mod ByteRouter
 pub mod Routed
 pub mod Lanes
 pub mod LaneLaws

@@ -5,8 +5,8 @@ use Rattle.vx_values.specs.declared.value.ColType.{ColType}
 use Rattle.vx_ports.specs.Packets.{has_last}
 use Rattle.vx_ops.specs.Ledger.{Ledger, ConsumerEnd, Op, receive, Makes, Begun, OwnBlame, IsFor, TestsPackets, Abides}
 use Rattle.vx_ops.specs.Turn.{Shape}
-use Rattle.vx_ops.specs.declared.fault.Over.{Over}
-use Rattle.vx_ops.specs.declared.fault.Over.TheVariants.{Running, Ended, Failed}
+use Rattle.vx_ops.specs.declared.fault.StreamState.{StreamState}
+use Rattle.vx_ops.specs.declared.fault.StreamState.TheVariants.{Running, Ended, Failed}
 use Rattle.vx_ops.specs.declared.fault.Fault.{Fault}
 use Rattle.vx_ops.specs.declared.turn.Want.{Want}
 use Rattle.vx_ops.specs.declared.turn.Want.TheVariants as want
@@ -30,7 +30,7 @@ abbrev pub receiver_types : Receiver → Shape
 receiver_types s = record { left = s.types.items; right = s.types.items; out = s.types.items }
 
 -- a packet of this producer is wanted until the stream is over
-abbrev pub packet_while_running : ℕ → Over → Want
+abbrev pub packet_while_running : ℕ → StreamState → Want
 packet_while_running next Running = want.Packet next
 packet_while_running next Ended = want.Nothing
 packet_while_running next (Failed f) = want.Nothing
@@ -50,13 +50,13 @@ pub record ChangesNext (old new : Receiver) : Type 0 where
   pub in_turn : IsInTurn (old.next + 1) old.ended.items new.next
 
 -- what is known while no fault came
-abbrev pub UnlessFailed : Over → Type 0 → Type 0
+abbrev pub UnlessFailed : StreamState → Type 0 → Type 0
 UnlessFailed Running P = P
 UnlessFailed Ended P = P
 UnlessFailed (Failed f) P = Unit {0}
 
 -- the producers whose flag is set have ended, what was returned is a shuffle of what came, and all of that was for this end
-pub record EndStands (port : ConsumerEnd) (flags : List Bool) (next : ℕ) (over : Over) (l : Ledger) : Type 0 where
+pub record EndStands (port : ConsumerEnd) (flags : List Bool) (next : ℕ) (over : StreamState) (l : Ledger) : Type 0 where
   pub as_many : length flags ≡ port.producers
   pub same : l.gave.over ≡ over
   pub begun : Begun (receive port) l

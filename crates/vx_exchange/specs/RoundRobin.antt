@@ -10,7 +10,7 @@ use Rattle.vx_ends.specs.Ship.{IsPort}
 use Rattle.vx_exchange.specs.Lanes.{in_turn}
 use Rattle.vx_exchange.specs.Sender.{SenderStands, sender_ship}
 use Rattle.vx_exchange.specs.declared.sender.Sender.{Sender}
-use Rattle.vx_exchange.specs.declared.sender.Stage.TheVariants.{Ending}
+use Rattle.vx_exchange.specs.declared.sender.SenderState.TheVariants.{Ending}
 
 -- all rows came, and each lane returned all that it had, and Last
 pub record HasDrained (s : Sender) : Type 0 where

@@ -10,16 +10,16 @@ use Rattle.vx_plan_nodes.specs.Streams.{Streams}
 use Rattle.vx_ports.specs.Packets.{Content, last, fault, PacketView}
 use Rattle.vx_ops.specs.Ledger.{Stream}
 use Rattle.vx_ops.specs.declared.fault.Fault.{Fault}
-use Rattle.vx_ops.specs.declared.fault.Over.{Over}
-use Rattle.vx_ops.specs.declared.fault.Over.TheVariants.{Running, Ended, Failed}
+use Rattle.vx_ops.specs.declared.fault.StreamState.{StreamState}
+use Rattle.vx_ops.specs.declared.fault.StreamState.TheVariants.{Running, Ended, Failed}
 use Rattle.vx_ends.specs.Ship.{Ship, end_to_end, packet_of, packet_at, IsCut, IsPartShipped}
 use Rattle.vx_exchange.specs.LaneView.{LaneView}
 use Rattle.vx_exchange.specs.Lanes.{IsLane, ways_of, any_closed, ship_of, bounds_of, TakesTurns}
 use Rattle.vx_exchange.specs.LaneLaws.{element_at, choose, open_at}
 use Rattle.vx_ends.specs.Tasks.{Task, send, Post, sends_by_ship, BeganSending, IsAt}
 use Rattle.vx_exchange.specs.declared.sender.Sender.{Sender}
-use Rattle.vx_exchange.specs.declared.sender.Stage.{Stage}
-use Rattle.vx_exchange.specs.declared.sender.Stage.TheVariants.{Open, Ending, Failing}
+use Rattle.vx_exchange.specs.declared.sender.SenderState.{SenderState}
+use Rattle.vx_exchange.specs.declared.sender.SenderState.TheVariants.{Open, Ending, Failing}
 use Rattle.vx_ends.specs.Beginnings.{begins-along, begins-take, mapped-take}
 
 -- what it sends, and where
@@ -39,7 +39,7 @@ abbrev pub sender_bounds : Sender → List Val
 sender_bounds s = bounds_of s.deal
 
 -- whether rows may come
-abbrev pub takes_more : Stage → Bool
+abbrev pub takes_more : SenderState → Bool
 takes_more Open = true
 takes_more Ending = false
 takes_more Failing = false
@@ -77,25 +77,25 @@ pub record IsFailing (s : Ship) (consumer : ℕ) (o : LaneView) (rows : List Row
   pub packets : map (packet_at s consumer) parts ++ closing_given s consumer fault o.closed ≡ given
 
 -- what the lane of a consumer returned
-abbrev pub LaneAt : Stage → Ship → (consumer : ℕ) → LaneView → List Row → List PacketView → Type 0
+abbrev pub LaneAt : SenderState → Ship → (consumer : ℕ) → LaneView → List Row → List PacketView → Type 0
 LaneAt Open s j o rows given = IsFilling s j o rows given
 LaneAt Ending s j o rows given = IsEnding s j o rows given
 LaneAt Failing s j o rows given = IsFailing s j o rows given
 
 -- whether the stream that came is over
-abbrev pub IsOver : Stage → Over → Type 0
+abbrev pub IsOver : SenderState → StreamState → Type 0
 IsOver Open over = over ≡ Running
 IsOver Ending over = over ≡ Ended
 IsOver Failing over = (f : Fault) × (over ≡ Failed f)
 
 -- whose turn it is among n while rows come: that of the consumer behind that of the last row
-abbrev pub IsTurn : Stage → (n r : ℕ) → List Row → Type 0
+abbrev pub IsTurn : SenderState → (n r : ℕ) → List Row → Type 0
 IsTurn Open n r rows = r ≡ length rows % n
 IsTurn Ending n r rows = Unit {0}
 IsTurn Failing n r rows = Unit {0}
 
 -- what each lane returned of what the rows send to its consumer, and nothing for any other; it is the turn of consumer r
-pub record SenderAt (goes : Routing) (s : Ship) (st : Stage) (r : ℕ) (lanes : List LaneView) (a : Stream) (g : ℕ → List PacketView) : Type 0 where
+pub record SenderAt (goes : Routing) (s : Ship) (st : SenderState) (r : ℕ) (lanes : List LaneView) (a : Stream) (g : ℕ → List PacketView) : Type 0 where
   pub sent : Streams
   pub sends : Sends goes s.kind s.consumers a.rows sent
   pub gives : (j : ℕ) (o : LaneView) → IsLane lanes j o → LaneAt st s j o (sent j) (g j)
@@ -126,7 +126,7 @@ record GaveInPart (s : Ship) (consumer : ℕ) (rows : List Row) (given : List Pa
   begins : IsBeginning (end_to_end parts) rows
   packets : map (packet_at s consumer) parts ≡ given
 
-gave_in_part : (st : Stage) (s : Ship) (j : ℕ) (o : LaneView) (rows : List Row) (given : List PacketView) → LaneAt st s j o rows given → o.closed ≡ false
+gave_in_part : (st : SenderState) (s : Ship) (j : ℕ) (o : LaneView) (rows : List Row) (given : List PacketView) → LaneAt st s j o rows given → o.closed ≡ false
     → (parts : List (List Row)) × GaveInPart s j rows given parts
 gave_in_part Open s j o rows given k e = (
   take (length given) k.full,
@@ -149,7 +149,7 @@ gave_in_part Failing s j o rows given k e =
     (k.parts, record { begins = k.begins; packets = sym (append-nil (map (packet_at s j) k.parts)) ∙ subst P e k.packets })
 
 -- so did all lanes
-begun_at : (goes : Routing) (s : Ship) (st : Stage) (r : ℕ) (lanes : List LaneView) (a : Stream) (g : ℕ → List PacketView) → s.consumers ≡ length lanes
+begun_at : (goes : Routing) (s : Ship) (st : SenderState) (r : ℕ) (lanes : List LaneView) (a : Stream) (g : ℕ → List PacketView) → s.consumers ≡ length lanes
     → SenderAt goes s st r lanes a g → any_closed lanes ≡ false → IsPartShipped goes s a.rows g
 begun_at goes s st r lanes a g many h unclosed =
     let P : ℕ → List (List Row) → Type 0 = λ j parts. GaveInPart s j (h.sent j) (g j) parts in

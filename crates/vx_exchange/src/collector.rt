@@ -5,7 +5,7 @@ use vx_ends::Sends;
 use vx_ops::Polled;
 use vx_plan_nodes::Router;
 use vx_ports::Packet;
-use vx_rows::ColType;
+use vx_values::ColType;
 use vx_views::Rows;
 
 /// The rows that the top of the root's fragment returns, in order. It returns no packet.

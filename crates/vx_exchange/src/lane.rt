@@ -1,10 +1,12 @@
 //! What a sending end holds for one consumer.
 
+ghost use Rattle.vx_values.specs.Limits.{max_packet_rows};
+
 use std::alloc::{AllocError, Global};
 use std::collections::VecDeque;
 use std::marker::Model;
-use vx_ports::{Ending, Packet};
-use vx_rows::ColType;
+use vx_ports::{Packet, StreamEnd};
+use vx_values::ColType;
 use vx_views::{Chunk, Rows};
 
 /// Calls: `new (add | next_packet)* (finish next_packet* | clear) close`. After an `Err` of `add` or `finish` comes `clear`.
@@ -75,7 +77,7 @@ impl Lane {
         types: &[ColType],
     ) -> Result<Lane, AllocError>
         requires some { 1 ≤ size }
-        requires few { size ≤ 4096 }
+        requires few { size ≤ max_packet_rows }
         ensures { IfOk result (λ l. l ≡ empty_outlet (record { exchange = exchange; place = place; consumer = consumer; types = types.now; size = size })) }
     {
         let current = Rows::new(alloc, types)?;
@@ -95,7 +97,7 @@ impl Lane {
     // Makes a packet of these rows.
     fn push(&mut self, rows: Rows) -> Result<(), AllocError>
         requires some { 0 < length rows.rows }
-        requires few { length rows.rows ≤ 4096 }
+        requires few { length rows.rows ≤ max_packet_rows }
         requires types { rows.types ≡ self.old.way.types }
         requires open { self.old.closed ≡ false }
         ensures ok { OnOk result (self.new.ready ≡ self.old.ready ++ parcel_at self.old.way rows.rows ∷ []) }
@@ -224,7 +226,7 @@ impl Lane {
     }
 
     /// The packet that closes the stream, once. It comes when nothing waits.
-    pub fn close(&mut self, ending: Ending) -> Option<Packet>
+    pub fn close(&mut self, ending: StreamEnd) -> Option<Packet>
         requires { self.old.ready ≡ [] }
         ensures some { IfSome result (λ p. p ≡ parcel_of self.old.way (ending_content ending)) }
         ensures open { IfSome result (λ _. self.old.closed ≡ false) }

@@ -4,11 +4,12 @@ ghost use Rattle.std.specs.Prelude.{◌≡◌, ◌≤◌, ◌<◌, ◌^◌, [], 
 ghost use Rattle.std.specs.List.{All};
 ghost use Rattle.vx_ports.specs.Seen.{ending_content};
 ghost use Rattle.vx_exchange.specs.Lanes.{AreFresh, SameLanes, Finishes, GivesPacket, GivesClosing};
+ghost use Rattle.vx_values.specs.Limits.{max_packet_rows};
 
 use crate::lane::Lane;
 use std::alloc::{AllocError, Global};
-use vx_ports::{Ending, Packet};
-use vx_rows::ColType;
+use vx_ports::{Packet, StreamEnd};
+use vx_values::ColType;
 
 /// A lane for each of so many consumers of an exchange, in packets of up to `size` rows of these types: 1 to 4,096.
 pub fn make_lanes(
@@ -20,7 +21,7 @@ pub fn make_lanes(
     types: &[ColType],
 ) -> Result<Vec<Lane>, AllocError>
     requires some { 1 ≤ size }
-    requires few { size ≤ 4096 }
+    requires few { size ≤ max_packet_rows }
     ensures { IfOk result (λ v. AreFresh consumers (λ j. record { exchange = exchange; place = place; consumer = j; types = types.now; size = size }) v.items) }
 {
     let mut lanes = Vec::new(alloc);
@@ -69,7 +70,7 @@ pub fn next_packet(lanes: &mut Vec<Lane>) -> Option<(u32, Packet)>
 }
 
 /// The closing packet of the first lane that has not returned it.
-pub fn close_next(lanes: &mut Vec<Lane>, ending: Ending) -> Option<(u32, Packet)>
+pub fn close_next(lanes: &mut Vec<Lane>, ending: StreamEnd) -> Option<(u32, Packet)>
     requires few { length lanes.old.items < 2 ^ 32 }
     requires idle { All (λ o. o.ready ≡ []) lanes.old.items }
     ensures some { IfSome result (λ x. GivesClosing (ending_content ending) lanes.old.items lanes.new.items x.0 x.1) }

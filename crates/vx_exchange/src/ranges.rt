@@ -4,13 +4,13 @@ ghost use Rattle.std.specs.Prelude.{◌≡◌, ◌<◌, true, map};
 ghost use Rattle.std.specs.Ordering.{is_le};
 ghost use Rattle.vx_values.specs.Values.{val_cmp};
 ghost use Rattle.vx_values.specs.ValueView.{val_of, cell_val};
-ghost use Rattle.vx_rows.specs.Bags.{count};
+ghost use Rattle.vx_values.specs.Bags.{count};
 ghost use Rattle.vx_plan_nodes.specs.Routes.{range_consumer};
 ghost use Rattle.vx_plan_nodes.specs.Typed.{rises};
 
 use std::cmp::Ordering;
 use std::marker::Model;
-use vx_rows::{Cell, Value, compare_cells};
+use vx_values::{Cell, Value, compare_cells};
 
 /// The bounds of a range route, each above those before it: a value goes to the consumer whose number is how many bounds are not above it,
 /// and to the last one where there are fewer consumers (range partitioning, as of DeWitt's Gamma).

@@ -2,12 +2,13 @@
 
 ghost use Rattle.std.specs.Prelude.{◌≡◌, ◌≤◌, ◌<◌, ◌+◌, Some, IfOk, true, false, vec_len, IsTrue, ◌↔◌};
 ghost use Rattle.vx_ends.specs.InTurn.{IsInTurn};
+ghost use Rattle.vx_values.specs.Limits.{max_group_workers};
 
 use std::alloc::{AllocError, Global};
 use vx_ends::next_unset;
-use vx_ops::{Code, Fault, Got, Over, Polled, Source, Want};
-use vx_ports::{Body, Ending, Packet};
-use vx_rows::ColType;
+use vx_ops::{Code, Fault, Got, Polled, Source, StreamState, Want};
+use vx_ports::{Body, Packet, StreamEnd};
+use vx_values::ColType;
 
 /// Calls: `new (wants turn)*`.
 ///
@@ -20,9 +21,9 @@ pub struct Receiver {
     types: Vec<ColType>,
     ended: Vec<bool>,
     next: usize,
-    over: Over,
+    over: StreamState,
     ghost next_in_range: { next < vec_len ended },
-    ghost few: { vec_len ended ≤ 64 },
+    ghost few: { vec_len ended ≤ max_group_workers },
 }
 
 // By hand, so that the drops of its parts are made and proved here once, and not in each function that drops one.
@@ -55,7 +56,7 @@ impl Receiver {
         types: Vec<ColType>,
     ) -> Result<Receiver, AllocError>
         requires some { 1 ≤ producers }
-        requires few { producers ≤ 64 }
+        requires few { producers ≤ max_group_workers }
         ensures stands { IfOk result (λ r. ReceiverStands r fresh_ledger) }
         ensures op { IfOk result (λ r. receiver_op r ≡ receive (unmerged_end exchange place producers types.items)) }
         ensures types { IfOk result (λ r. receiver_types r ≡ record { left = types.items; right = types.items; out = types.items }) }
@@ -67,7 +68,7 @@ impl Receiver {
             types,
             ended,
             next: 0,
-            over: Over::Running,
+            over: StreamState::Running,
         })
     }
 
@@ -93,10 +94,10 @@ impl Receiver {
 
     // Notes that the producer that is next has ended, and goes on to the next one, if there is one.
     fn end_producer(&mut self) -> Polled
-        requires { self.old.over ≡ Over.Running }
+        requires { self.old.over ≡ StreamState.Running }
         ensures stands { (l : Ledger) (packet : PacketView) → IsFor (receiver_end self.old) self.old.next packet → packet.content ≡ last → ReceiverStands self.old l
             → ReceiverStands self.new (after l (receiver_want self.old) (got.Packet (Some packet)) result) }
-        ensures in_turn { self.new.over ≡ Over.Running → IsInTurn (self.old.next + 1) self.new.ended.items self.new.next }
+        ensures in_turn { self.new.over ≡ StreamState.Running → IsInTurn (self.old.next + 1) self.new.ended.items self.new.next }
         ensures gives { GivesRows self.old.types.items result }
         ensures op { receiver_op self.new ≡ receiver_op self.old }
     {
@@ -107,7 +108,7 @@ impl Receiver {
                 return Polled::Waiting;
             }
             None => {
-                self.over = Over::Ended;
+                self.over = StreamState::Ended;
                 return Polled::End;
             }
         }
@@ -115,10 +116,10 @@ impl Receiver {
 
     // Tests a packet from the producer that is next, and returns what it brings.
     fn take_packet(&mut self, packet: Packet) -> Polled
-        requires { self.old.over ≡ Over.Running }
+        requires { self.old.over ≡ StreamState.Running }
         ensures stands { (l : Ledger) → ReceiverStands self.old l
             → ReceiverStands self.new (after l (receiver_want self.old) (got.Packet (Some packet)) result) }
-        ensures in_turn { self.new.over ≡ Over.Running → IsInTurn (self.old.next + 1) self.new.ended.items self.new.next }
+        ensures in_turn { self.new.over ≡ StreamState.Running → IsInTurn (self.old.next + 1) self.new.ended.items self.new.next }
         ensures gives { GivesRows self.old.types.items result }
         ensures op { receiver_op self.new ≡ receiver_op self.old }
     {
@@ -127,7 +128,7 @@ impl Receiver {
                 code: Code::Stranger,
                 node: self.exchange,
             };
-            self.over = Over::Failed(stranger);
+            self.over = StreamState::Failed(stranger);
             return Polled::Fault(stranger);
         }
         match packet.into_body() {
@@ -135,9 +136,9 @@ impl Receiver {
                 self.move_on();
                 return Polled::Gave(rows);
             }
-            Body::End(Ending::Last) => return self.end_producer(),
-            Body::End(Ending::Fault) => {
-                self.over = Over::Failed(Fault::Passed);
+            Body::End(StreamEnd::Last) => return self.end_producer(),
+            Body::End(StreamEnd::Fault) => {
+                self.over = StreamState::Failed(Fault::Passed);
                 return Polled::Fault(Fault::Passed);
             }
         }
@@ -161,7 +162,7 @@ impl Source for Receiver {
 
     fn wants(&self) -> Want {
         match self.over {
-            Over::Running => Want::Packet(self.next as u32),
+            StreamState::Running => Want::Packet(self.next as u32),
             _ => Want::Nothing,
         }
     }
@@ -174,12 +175,12 @@ impl Source for Receiver {
         ensures gives { GivesRows (receiver_types self.old).out result }
         ensures op { receiver_op self.new ≡ receiver_op self.old }
         ensures types { receiver_types self.new ≡ receiver_types self.old }
-        ensures in_turn { self.new.over ≡ Over.Running → IsInTurn (self.old.next + 1) self.new.ended.items self.new.next }
+        ensures in_turn { self.new.over ≡ StreamState.Running → IsInTurn (self.old.next + 1) self.new.ended.items self.new.next }
     {
         match self.over {
-            Over::Ended => Polled::End,
-            Over::Failed(f) => Polled::Fault(f),
-            Over::Running => match got {
+            StreamState::Ended => Polled::End,
+            StreamState::Failed(f) => Polled::Fault(f),
+            StreamState::Running => match got {
                 Got::Packet(Some(packet)) => self.take_packet(packet),
                 _ => {
                     self.move_on();

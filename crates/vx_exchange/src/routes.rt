@@ -11,7 +11,8 @@ use crate::ranges::Ranges;
 use std::alloc::{AllocError, Global};
 use vx_keys::IntColumn;
 use vx_plan_nodes::Router;
-use vx_rows::{Cell, Value, put_key};
+use vx_rows::put_key;
+use vx_values::{Cell, Value};
 use vx_views::{Chunk, Rows};
 
 // How many numbers are routed at once.

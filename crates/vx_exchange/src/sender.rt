@@ -3,6 +3,7 @@
 ghost use Rattle.std.specs.Prelude.{◌≡◌, ◌<◌, ◌^◌, length, true};
 ghost use Rattle.vx_rows.specs.View.{AreColumns};
 ghost use Rattle.vx_exchange.specs.Lanes.{AreNumbered, ways_of, ship_of, serves, columns_of, may_close, are_idle};
+ghost use Rattle.vx_values.specs.Limits.{max_packet_rows};
 
 use crate::deal::{Deal, deal_rows};
 use crate::lane::Lane;
@@ -13,12 +14,12 @@ use std::alloc::{AllocError, Global};
 use vx_ends::Sends;
 use vx_ops::Polled;
 use vx_plan_nodes::Router;
-use vx_ports::{Ending, Packet};
-use vx_rows::ColType;
+use vx_ports::{Packet, StreamEnd};
+use vx_values::ColType;
 
 /// What a sending end is about.
 #[derive(Clone, Copy)]
-pub enum Stage {
+pub enum SenderState {
     /// It accepts rows.
     Open,
     /// All rows came: their packets are returned, and then Last.
@@ -37,7 +38,7 @@ pub struct Sender {
     lanes: Vec<Lane>,
     deal: Deal,
     next: u32,
-    stage: Stage,
+    stage: SenderState,
     scratch: Scratch,
     ghost numbered: { AreNumbered deal (ways_of lanes.items) },
     ghost served: { serves deal (length lanes.items) ≡ true },
@@ -86,7 +87,7 @@ impl Sender {
         requires served { serves deal consumers ≡ true }
         requires columns { AreColumns (length types.now) (columns_of deal) }
         requires some { 1 ≤ size }
-        requires few { size ≤ 4096 }
+        requires few { size ≤ max_packet_rows }
         ensures stands { IfOk result (λ s. (goes : Routing) → SenderStands s goes fresh (λ _. [])) }
         ensures post { IfOk result (λ s. sender_post s
             ≡ sends_by_ship (record { exchange = exchange; place = place; consumers = consumers; types = types.now; kind = kind_of deal; size = size })) }
@@ -99,19 +100,19 @@ impl Sender {
             lanes,
             deal,
             next: 0,
-            stage: Stage::Open,
+            stage: SenderState::Open,
             scratch: Scratch::new(alloc),
         })
     }
 
     // Drops what waits: Fault comes next.
     fn fail(&mut self)
-        ensures stage { self.new.stage ≡ Stage.Failing }
+        ensures stage { self.new.stage ≡ SenderState.Failing }
         ensures deal { self.new.deal ≡ self.old.deal }
         ensures same { SameLanes self.old.lanes.items self.new.lanes.items }
     {
         clear_lanes(&mut self.lanes);
-        self.stage = Stage::Failing;
+        self.stage = SenderState::Failing;
     }
 
     // Accepts what the fragment's top returned.
@@ -142,7 +143,7 @@ impl Sender {
             Polled::Waiting => return Ok(()),
             Polled::End => {
                 finish_lanes(&mut self.lanes)?;
-                self.stage = Stage::Ending;
+                self.stage = SenderState::Ending;
                 return Ok(());
             }
             Polled::Fault(_) => {
@@ -186,14 +187,14 @@ impl Sends for Sender {
 
     fn next(&mut self) -> Option<(u32, Packet)> {
         match self.stage {
-            Stage::Open => return next_packet(&mut self.lanes),
-            Stage::Ending => {
+            SenderState::Open => return next_packet(&mut self.lanes),
+            SenderState::Ending => {
                 if let Some((to, packet)) = next_packet(&mut self.lanes) {
                     return Some((to, packet));
                 }
-                return close_next(&mut self.lanes, Ending::Last);
+                return close_next(&mut self.lanes, StreamEnd::Last);
             }
-            Stage::Failing => return close_next(&mut self.lanes, Ending::Fault),
+            SenderState::Failing => return close_next(&mut self.lanes, StreamEnd::Fault),
         }
     }
 }

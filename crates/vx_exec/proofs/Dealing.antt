@@ -34,12 +34,12 @@ use Rattle.vx_exec.specs.Job.{model_of}
 use Rattle.vx_exec.specs.declared.job.Job.{Job}
 
 -- as many consumers as the exchange has are served
-pub deal-serves : (groups : ℕ → ℕ) (d : Deal) (k : ExchangeKind) (n : ℕ) → kind_of d ≡ k → 1 ≤ n → n ≡ workers groups (target k) → serves d n ≡ true
-deal-serves groups (Route z r) k n e some many = lt-ltb 0 n some
-deal-serves groups (Round z) k n e some many = lt-ltb 0 n some
-deal-serves groups (Broadcast z) k n e some many = lt-ltb 0 n some
-deal-serves groups Gather k n e some many = eq-eqb n 1 (many ∙ ap (λ x. workers groups (target x)) (sym e))
-deal-serves groups Concat k n e some many = eq-eqb n 1 (many ∙ ap (λ x. workers groups (target x)) (sym e))
+pub deal-serves : (worker_groups : ℕ → ℕ) (d : Deal) (k : ExchangeKind) (n : ℕ) → kind_of d ≡ k → 1 ≤ n → n ≡ workers worker_groups (target k) → serves d n ≡ true
+deal-serves worker_groups (Route z r) k n e some many = lt-ltb 0 n some
+deal-serves worker_groups (Round z) k n e some many = lt-ltb 0 n some
+deal-serves worker_groups (Broadcast z) k n e some many = lt-ltb 0 n some
+deal-serves worker_groups Gather k n e some many = eq-eqb n 1 (many ∙ ap (λ x. workers worker_groups (target x)) (sym e))
+deal-serves worker_groups Concat k n e some many = eq-eqb n 1 (many ∙ ap (λ x. workers worker_groups (target x)) (sym e))
 
 -- the columns by which rows are dealt are there
 routed-columns : (s : Scope) (types : List ColType) (r : KeyRoute) → is_routed s types (key_route r) (key_columns r) ≡ true → AreColumns (length types) (key_columns r)

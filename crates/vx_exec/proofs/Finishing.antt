@@ -1,5 +1,5 @@
 -- Workers that were ready for the accepted plan of a job, and what they come to.
-use Rattle.std.proofs.Common.{Vec, Global, Bool, ◌≡◌, ℕ, ◌<◌, ◌≤◌, true, List, [], ◌∷◌, length, vec_len, map, Ok, Err, Result, IfOk, IfErr, get_or, refl, sym, ap, ◌∙◌, subst, arith, zero, suc, inl, inr}
+use Rattle.std.proofs.Common.{Vec, Global, Bool, ◌≡◌, ℕ, ◌<◌, ◌≤◌, true, List, [], ◌∷◌, length, vec_len, map, Ok, Err, Result, get_or, refl, sym, ap, ◌∙◌, subst, arith, zero, suc, inl, inr}
 use Rattle.std.proofs.lemmas.Bool.{cases_lt}
 use Rattle.std.specs.List.{All, slice_index_or}
 use Rattle.vx_values.specs.Values.{Row}
@@ -25,36 +25,36 @@ use Rattle.vx_worker.specs.Worker.{role_of, sender_of}
 use Rattle.vx_operators.specs.declared.operator.Operator.{Operator}
 use Rattle.vx_operators.specs.declared.destination.Destination.{Destination}
 use Rattle.vx_worker.specs.declared.worker.Worker.{Worker}
-use Rattle.vx_laws.specs.Faults.{IsReal}
+use Rattle.vx_plan_nodes.specs.Real.{IsReal}
 use Rattle.vx_laws.proofs.Layouts.{numbered-is-fit}
 use Rattle.vx_laws.proofs.TypedPlans.{typed-is-well-formed}
 use Rattle.vx_steps.specs.Crews.{Duty, duty_of, root_duty, duties_below}
 use Rattle.vx_steps.specs.LinksView.{LinksView}
-use Rattle.vx_steps.specs.Roles.{crew_size}
+use Rattle.vx_plan_nodes.specs.Workers.{crew_size, IsWithin, worker_group_at}
 use Rattle.vx_steps.specs.Endings.{ReportsFirst}
 use Rattle.vx_steps.specs.Ready.{Ready}
 use Rattle.vx_steps.specs.Headline.{IsAccepted, IsTrueFault, Answers}
-use Rattle.vx_steps.specs.declared.verdict.Verdict.{Verdict}
-use Rattle.vx_steps.specs.declared.verdict.Verdict.TheVariants as verdict
+use Rattle.vx_steps.specs.declared.verdict.RunState.{RunState}
+use Rattle.vx_steps.specs.declared.verdict.RunState.TheVariants as run_state
 use Rattle.vx_steps.proofs.Build.{crew-count}
 use Rattle.vx_steps.proofs.RunSteps.{map-length}
-use Rattle.vx_layout.specs.Groups.{IsWithin, group_at}
-use Rattle.vx_exec.specs.Job.{model_of}
-use Rattle.vx_exec.specs.Runs.{IfDone, ComesTo, IsRunOf, fault_reported, IsTrueOf, IsFirstReported}
+use Rattle.vx_exec.specs.Job.{model_of, sizes_of}
+use Rattle.vx_exec.specs.Promise.{Reports, PromiseOnceSet}
+use Rattle.vx_exec.specs.Runs.{ComesTo, fault_reported, IsTrueOf}
 use Rattle.vx_exec.specs.Making.{board_of}
 use Rattle.vx_setup.specs.declared.fault.RunFault.{RunFault}
 use Rattle.vx_exec.specs.declared.crew.Crew.{Crew}
 use Rattle.vx_exec.specs.declared.job.Job.{Job}
-use Rattle.vx_exec.specs.declared.ran.Ran.{Ran}
-use Rattle.vx_exec.specs.declared.ran.Ran.TheVariants as ran
+use Rattle.vx_exec.specs.declared.ran.RunOutcome.{RunOutcome}
+use Rattle.vx_exec.specs.declared.ran.RunOutcome.TheVariants as run_outcome
 
-some-group : (groups : List ℕ) → All (IsWithin 1 64) groups → (k : ℕ) → 0 < group_at groups k
-some-group groups h k = elim (cases_lt k (length groups)) [
+some-group : (worker_groups : List ℕ) → All (IsWithin 1 64) worker_groups → (k : ℕ) → 0 < worker_group_at worker_groups k
+some-group worker_groups h k = elim (cases_lt k (length worker_groups)) [
   | inl l ↦ let w = (h k 1 l).0 in omega (arith, w)
-  | inr l ↦ let e = past groups k l in omega (arith, e)
+  | inr l ↦ let e = past worker_groups k l in omega (arith, e)
 ]
   where
-    past : (xs : List ℕ) (k : ℕ) → length xs ≤ k → group_at xs k ≡ 1
+    past : (xs : List ℕ) (k : ℕ) → length xs ≤ k → worker_group_at xs k ≡ 1
     past [] k l = refl
     past (x ∷ xs) zero l = absurd (omega (arith, l))
     past (x ∷ xs) (suc k) l = past xs k (omega (arith, l))
@@ -101,7 +101,7 @@ module _ (j : Job) (hash : List ℕ → Row → ℕ → ℕ) where
       record {
         set = record {
           meets = subst P j.same_catalog meets;
-          some_workers = some-group j.layout.groups.items j.within.groups;
+          some_workers = some-group j.layout.worker_groups.items j.within.worker_groups;
           in_range = in_range;
           some_packet = omega (arith, packet);
           some_morsel = omega (arith, morsel);
@@ -133,22 +133,22 @@ module _ (j : Job) (hash : List ℕ → Row → ℕ → ℕ) where
       }
 
   -- they are as many as the plan asks for
-  pub ready-count : (ws : Vec (Worker Operator Destination) Global) (w : LinksView) → IsReadyFor ws.items w → vec_len ws ≡ crew_size (group_at j.layout.groups.items) (plan j.plan.now)
+  pub ready-count : (ws : Vec (Worker Operator Destination) Global) (w : LinksView) → IsReadyFor ws.items w → vec_len ws ≡ crew_size (worker_group_at j.layout.worker_groups.items) (plan j.plan.now)
   ready-count ws w begun =
       let roles = map (role_of operator_op post_of bounds_of) ws.items in
       let a = map-length (role_of operator_op post_of bounds_of) ws.items in
-      let b : length roles ≡ crew_size (group_at j.layout.groups.items) (plan j.plan.now) = crew-count (model_of hash j) (plan j.plan.now) roles w begun.ready.crew in
+      let b : length roles ≡ crew_size (worker_group_at j.layout.worker_groups.items) (plan j.plan.now) = crew-count (model_of hash j) (plan j.plan.now) roles w begun.ready.crew in
       let ok = ws.ok in
       omega (arith, a, b, ok)
 
   -- what workers came to that were ready for the job's accepted plan: the first keeps rows of the plan's types, and the verdict is worth what it says
-  pub record HasRun (ws : List (Worker Operator Destination)) (v : Verdict) : Type 0 where
+  pub record HasRun (ws : List (Worker Operator Destination)) (v : RunState) : Type 0 where
     pub keeps : KeepsFirst ws (types_of (relations j.plan.now) (plan j.plan.now))
     pub answers : Answers task_of (model_of hash j) (resolved_of j.plan.now).total (plan j.plan.now) ws v
     pub first : ReportsFirst (model_of hash j) (plan j.plan.now) v
 
   -- workers with the roles of those that were ready, and a verdict that is worth what it says
-  pub has-ended : (old new : List (Worker Operator Destination)) (w : LinksView) (v : Verdict) → IsReadyFor old w
+  pub has-ended : (old new : List (Worker Operator Destination)) (w : LinksView) (v : RunState) → IsReadyFor old w
       → map (role_of operator_op post_of bounds_of) new ≡ map (role_of operator_op post_of bounds_of) old
       → Answers task_of (model_of hash j) (resolved_of j.plan.now).total (plan j.plan.now) new v → ReportsFirst (model_of hash j) (plan j.plan.now) v → HasRun new v
   has-ended old new w v begun roles answers first =
@@ -157,7 +157,7 @@ module _ (j : Job) (hash : List ℕ → Row → ℕ → ℕ) where
       record { keeps = first-keeps W p new (duties_below W p) (ap (λ z. map duty_of z) roles ∙ begun.ready.crew.duties); answers = answers; first = first }
 
   -- after steps that keep the roles, with a verdict that is worth what it says wherever the workers were ready
-  pub has-run : (old new : List (Worker Operator Destination)) (w : LinksView) (v : Verdict) → IsReadyFor old w
+  pub has-run : (old new : List (Worker Operator Destination)) (w : LinksView) (v : RunState) → IsReadyFor old w
       → map (role_of operator_op post_of bounds_of) new ≡ map (role_of operator_op post_of bounds_of) old
       → ((W : RunModel) (is_total : Bool) (p : Plan) → IsAccepted W is_total p → ReadyIn W p old w → Answers task_of W is_total p new v)
       → ((W : RunModel) (is_total : Bool) (p : Plan) → IsAccepted W is_total p → ReadyIn W p old w → ReportsFirst W p v)
@@ -170,46 +170,42 @@ module _ (j : Job) (hash : List ℕ → Row → ℕ → ℕ) where
 
 module _ {j : Job} {hash : List ℕ → Row → ℕ → ℕ} {ws : List (Worker Operator Destination)} where
   -- the first worker keeps rows of the plan's types
-  pub first-types : {v : Verdict} → HasRun j hash ws v → (d : Worker Operator Destination)
+  pub first-types : {v : RunState} → HasRun j hash ws v → (d : Worker Operator Destination)
       → post_of (sender_of (slice_index_or ws 0 d)) ≡ keeps (types_of (relations j.plan.now) (plan j.plan.now))
   first-types run d = ap (λ w. post_of (sender_of w)) (run.keeps.is_first d) ∙ run.keeps.keeps_types
 
   -- no worker's fault is only that a Fault came in a packet
-  pub not-passed : (v : Verdict) → HasRun j hash ws v → v ≡ verdict.Failed Passed → ⊥
+  pub not-passed : (v : RunState) → HasRun j hash ws v → v ≡ run_state.Failed Passed → ⊥
   not-passed v run e =
-      let Q : Verdict → Type 0 = λ z. Answers task_of (model_of hash j) (resolved_of j.plan.now).total (plan j.plan.now) ws z in
+      let Q : RunState → Type 0 = λ z. Answers task_of (model_of hash j) (resolved_of j.plan.now).total (plan j.plan.now) ws z in
       (subst Q e run.answers).own
 
-  -- the rows that they give are those of a run of the plan
-  pub comes-done : (v : Verdict) (r : Result Ran RunFault) → HasRun j hash ws v → ComesTo ws v r
-      → IfOk r (IfDone (IsRunOf hash (resolved_of j.plan.now) j.database.now j.layout.groups.items))
-  comes-done verdict.Done (Ok (ran.Done t)) run h =
+  -- they keep the promise of a run
+  pub comes-kept : (Other : Reports) (v : RunState) (r : Result RunOutcome RunFault) → HasRun j hash ws v → ComesTo ws v r
+      → PromiseOnceSet hash Other j.plan.now j.database.now (sizes_of j) r
+  comes-kept Other run_state.Done (Ok (run_outcome.Done t)) run h =
       let first = run.keeps.first in
       let answer = run.answers first t.rows (h first).0 in
       record {
-        types = keeps-same t.types (types_of (relations j.plan.now) (plan j.plan.now)) (sym (h first).1 ∙ first-types run first);
-        runs = answer.0;
-        delivers = answer.1;
+        done = record {
+          types = keeps-same t.types (types_of (relations j.plan.now) (plan j.plan.now)) (sym (h first).1 ∙ first-types run first);
+          runs = answer.0;
+          delivers = answer.1;
+        };
+        failed = tt;
+        first = tt;
       }
-  comes-done verdict.Done (Ok ran.Unfinished) run h = tt
-  comes-done verdict.Unfinished (Ok (ran.Done t)) run h = absurd h
-  comes-done verdict.Unfinished (Ok ran.Unfinished) run h = tt
-  comes-done (verdict.Failed f) (Ok (ran.Done t)) run h = absurd h
-  comes-done (verdict.Failed f) (Ok ran.Unfinished) run h = tt
-  comes-done v (Err e) run h = tt
-
-  -- their fault is one of the data, or want of memory
-  pub comes-failed : (v : Verdict) (r : Result Ran RunFault) → HasRun j hash ws v → ComesTo ws v r → IfErr r (IsTrueOf (resolved_of j.plan.now) j.database.now)
-  comes-failed (verdict.Failed f) (Err e) run h =
+  comes-kept Other run_state.Unfinished (Ok run_outcome.Unfinished) run h = record { done = tt; failed = tt; first = tt }
+  comes-kept Other (run_state.Failed f) (Err e) run h =
       let p = resolved_of j.plan.now in
-      subst (λ z. IsTrueOf p j.database.now z) (sym h) (true-reported (model_of hash j) p j.database.now f refl run.answers)
-  comes-failed verdict.Done (Err e) run h = absurd h
-  comes-failed verdict.Unfinished (Err e) run h = absurd h
-  comes-failed v (Ok x) run h = tt
-
-  -- and it is that of the lowest-numbered one that failed by itself
-  pub comes-first : (v : Verdict) (r : Result Ran RunFault) → HasRun j hash ws v → ComesTo ws v r → IfErr r (IsFirstReported (model_of hash j) (plan j.plan.now))
-  comes-first (verdict.Failed f) (Err e) run h = inr (f, h, run.first)
-  comes-first verdict.Done (Err e) run h = absurd h
-  comes-first verdict.Unfinished (Err e) run h = absurd h
-  comes-first v (Ok x) run h = tt
+      record {
+        done = tt;
+        failed = inl (subst (λ z. IsTrueOf p j.database.now z) (sym h) (true-reported (model_of hash j) p j.database.now f refl run.answers));
+        first = inl (inr (f, h, run.first));
+      }
+  comes-kept Other run_state.Done (Ok run_outcome.Unfinished) run h = absurd h
+  comes-kept Other run_state.Done (Err e) run h = absurd h
+  comes-kept Other run_state.Unfinished (Ok (run_outcome.Done t)) run h = absurd h
+  comes-kept Other run_state.Unfinished (Err e) run h = absurd h
+  comes-kept Other (run_state.Failed f) (Ok (run_outcome.Done t)) run h = absurd h
+  comes-kept Other (run_state.Failed f) (Ok run_outcome.Unfinished) run h = absurd h

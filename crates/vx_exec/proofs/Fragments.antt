@@ -25,7 +25,7 @@ use Rattle.vx_operators.specs.declared.operator.Operator.{Operator}
 use Rattle.vx_operators.specs.Kind.{kind_op, kind_types}
 use Rattle.vx_operators.specs.declared.kind.OperatorKind.TheVariants as of_kind
 use Rattle.vx_worker.specs.declared.tree.Tree.{Tree, One, Two, Leaf, One', Two'}
-use Rattle.vx_layout.specs.Groups.{group_at}
+use Rattle.vx_plan_nodes.specs.Workers.{worker_group_at}
 use Rattle.vx_exec.specs.Crew.{IsOperatorOf, IsTreeOf}
 use Rattle.vx_exec.specs.Job.{model_of}
 use Rattle.vx_exec.specs.declared.job.Job.{Job}
@@ -116,10 +116,10 @@ consumes number place producers types merge in_order = receive (record { exchang
 pub consumer-made : {E : Type 0} (j : Job) (place n : ℕ) (c : Claim) (kind : ExchangeKind) (merge : List ℕ) (p : Plan) (types : List ColType) (producers : ℕ) (made : Result Operator E)
     → IfOk made (λ o. operator_op o ≡ consumes n place producers types merge (is_concat kind))
     → IfOk made (λ o. OperatorStands o fresh_ledger) → IfOk made (λ o. (operator_types o).left ≡ types) → IfOk made (λ o. (operator_types o).out ≡ types)
-    → producers ≡ workers (group_at j.layout.groups.items) (size p) → types ≡ types_of (relations j.plan.now) p → IfOk made (IsOperatorOf j place (exchange n c kind merge p))
+    → producers ≡ workers (worker_group_at j.layout.worker_groups.items) (size p) → types ≡ types_of (relations j.plan.now) p → IfOk made (IsOperatorOf j place (exchange n c kind merge p))
 consumer-made j place n c kind merge p types producers (Ok o) op stands reads returns many e = record {
   op_is = λ hash.
-      op ∙ ap (λ z. consumes n place z types merge (is_concat kind)) many ∙ ap (λ z. consumes n place (workers (group_at j.layout.groups.items) (size p)) z merge (is_concat kind)) e;
+      op ∙ ap (λ z. consumes n place z types merge (is_concat kind)) many ∙ ap (λ z. consumes n place (workers (worker_group_at j.layout.worker_groups.items) (size p)) z merge (is_concat kind)) e;
   stands = stands;
   takes = reads ∙ e;
   gives = returns ∙ e;

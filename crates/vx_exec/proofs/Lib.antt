@@ -9,5 +9,5 @@ pub mod Workers
 pub mod Growing
 pub mod Outcomes
 pub mod Finishing
-pub mod GroupFacts
+pub mod WorkerGroupFacts
 pub mod Counts

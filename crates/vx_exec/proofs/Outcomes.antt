@@ -1,87 +1,109 @@
 -- What a run of a job comes to, in terms of the plan, the database and the setup that the job was made of.
-use Rattle.std.proofs.Common.{◌≡◌, ◌⊎◌, ℕ, ◌<◌, List, Ok, Err, Result, IfOk, IfErr, sym, ◌∙◌, subst, inl, inr}
+use Rattle.std.proofs.Common.{◌≡◌, ◌⊎◌, ℕ, ◌<◌, List, Ok, Err, Result, sym, ◌∙◌, subst, inl, inr}
 use Rattle.std.specs.List.{All}
 use Rattle.std.specs.Result.{IsErrAnd}
 use Rattle.vx_catalog.specs.Database.{Database}
 use Rattle.vx_values.specs.Values.{Row}
 use Rattle.vx_plan_nodes.specs.Plan.{Plan}
-use Rattle.vx_plan_nodes.specs.TypedView.{resolved_of}
+use Rattle.vx_plan_nodes.specs.TypedView.{plan as whole_plan, resolved_of}
 use Rattle.vx_worker.specs.Fragment.{RunModel}
 use Rattle.vx_plan_nodes.specs.declared.typed_plan.TypedPlan.{TypedPlan}
-use Rattle.vx_exec.specs.Sizes.{Sizes}
+use Rattle.vx_plan_nodes.specs.Workers.{crew_size}
+use Rattle.vx_exec.specs.Sizes.{Sizes, run_model}
 use Rattle.vx_exec.specs.Setup.{SetupRefusal}
 use Rattle.vx_setup.specs.Setup.{SetupView}
-use Rattle.vx_exec.specs.Job.{sizes_of}
-use Rattle.vx_exec.specs.Runs.{NamesFirst, IsSetUp, IsScheduled, IsInRounds, Scheduled, InRounds, IsCountedInRounds, CountedInRounds}
+use Rattle.vx_exec.specs.Job.{sizes_of, model_of}
+use Rattle.vx_exec.specs.Promise.{Reports, RunPromise, PromiseOnceSet, WhereSet}
+use Rattle.vx_exec.specs.Runs.{NamesFirst, IsFirstReported, IsSetUp, RunFails, for_fault, IsScheduled, IsInRounds, Scheduled, InRounds, IsCountedInRounds, CountedInRounds}
 use Rattle.vx_setup.specs.declared.fault.RunFault.{RunFault}
 use Rattle.vx_setup.specs.declared.fault.RunFault.TheVariants as fault
 use Rattle.vx_exec.specs.declared.job.Job.{Job}
 use Rattle.vx_exec.specs.declared.counted.WorkerCounts.{WorkerCounts}
-use Rattle.vx_exec.specs.declared.ran.Ran.{Ran}
+use Rattle.vx_exec.specs.declared.ran.RunOutcome.{RunOutcome}
+use Rattle.vx_exec.specs.declared.ran.RunOutcome.TheVariants as run_outcome
 
 ok-is : (s t : Sizes) → ◌≡◌ {A = Result Sizes SetupRefusal} (Ok s) (Ok t) → s ≡ t
 ok-is s t e = cc
 
+-- a job is one of this plan over this database, set up like this
+pub record IsJobOf (j : Job) (p : TypedPlan) (db : Database) (setup : SetupView) : Type 0 where
+  pub plan : j.plan.now ≡ p
+  pub database : j.database.now ≡ db
+  pub set : IsSetUp (resolved_of p) db setup (sizes_of j)
+
+-- where it was made of this plan under another name
+pub made-of : {p q : TypedPlan} {db : Database} {setup : SetupView} (j : Job) → q ≡ p → j.plan.now ≡ q → j.database.now ≡ db → IsSetUp (resolved_of q) db setup (sizes_of j) → IsJobOf j p db setup
+made-of {p} {q} {db} {setup} j same plan database set = record {
+  plan = plan ∙ same;
+  database = database;
+  set = subst (λ z. IsSetUp (resolved_of z) db setup (sizes_of j)) same set;
+}
+
+-- why there is none
+pub record NoJobOf (p : TypedPlan) (db : Database) (setup : SetupView) (e : RunFault) : Type 0 where
+  pub refused : RunFails (resolved_of p) db setup e
+  pub memory : (s : Sizes) → IsSetUp (resolved_of p) db setup s → e ≡ fault.NoMemory
+
 -- what holds of a job holds of the plan, the database and the sizes that it was made of
-pub of-job : (P : TypedPlan → Database → Sizes → Type 0) (j : Job) (p : TypedPlan) (db : Database) (setup : SetupView) (s : Sizes) → j.plan.now ≡ p → j.database.now ≡ db
-    → IsSetUp (resolved_of p) db setup (sizes_of j) → IsSetUp (resolved_of p) db setup s → P j.plan.now j.database.now (sizes_of j) → P p db s
-of-job P j p db setup s same_plan same_database mine set h =
-    subst (λ z. P p db z) (ok-is (sizes_of j) s (sym mine.sizes ∙ set.sizes))
-    (subst (λ y. P p y (sizes_of j)) same_database (subst (λ x. P x j.database.now (sizes_of j)) same_plan h))
+of-job : (P : TypedPlan → Database → Sizes → Type 0) {j : Job} {p : TypedPlan} {db : Database} {setup : SetupView} → IsJobOf j p db setup → (s : Sizes) → IsSetUp (resolved_of p) db setup s
+    → P j.plan.now j.database.now (sizes_of j) → P p db s
+of-job P {j} {p} {db} {setup} made s set h =
+    subst (λ z. P p db z) (ok-is (sizes_of j) s (sym made.set.sizes ∙ set.sizes))
+    (subst (λ y. P p y (sizes_of j)) made.database (subst (λ x. P x j.database.now (sizes_of j)) made.plan h))
 
-pub failed-by : (r : Result Ran RunFault) (P Q : RunFault → Type 0) → ((e : RunFault) → P e → Q e) → IfErr r P → IfErr r Q
-failed-by (Ok x) P Q f h = tt
-failed-by (Err e) P Q f h = f e h
+module _ {p : TypedPlan} {db : Database} {setup : SetupView} (hash : List ℕ → Row → ℕ → ℕ) where
+  -- so what holds in the setting of a job holds in that to which the setup comes
+  pub where-set : {j : Job} (P : RunModel → Plan → Type 0) → IsJobOf j p db setup → P (model_of hash j) (whole_plan j.plan.now) → WhereSet hash p db setup P
+  where-set P made h = λ s set. of-job (λ q b z. P (run_model hash q b z) (whole_plan q)) made s set h
 
--- what holds of an error, or something else
-pub failed-or : (r : Result Ran RunFault) (P Q : RunFault → Type 0) → IfErr r P → IfErr r (λ e. P e ⊎ Q e)
-failed-or r P Q h = failed-by r P (λ e. P e ⊎ Q e) (λ e. inl) h
+  -- where there is no job, and the setup is right, memory was refused
+  pub nothing-ran : (P : RunModel → Plan → Result RunOutcome RunFault → Type 0) (r : Result RunOutcome RunFault) (e : RunFault) → IsErrAnd r (λ y. y ≡ e) → NoJobOf p db setup e
+      → ((W : RunModel) (q : Plan) → P W q (Err fault.NoMemory)) → WhereSet hash p db setup (λ W q. P W q r)
+  nothing-ran P (Ok x) e handed none h = absurd handed
+  nothing-ran P (Err y) e handed none h = λ s set.
+      subst (λ z. P (run_model hash p db s) (whole_plan p) (Err z)) (sym (handed ∙ none.memory s set)) (h (run_model hash p db s) (whole_plan p))
 
--- what holds of the error that was handed on
-pub err-reported : (r : Result Ran RunFault) (e : RunFault) (P : RunFault → Type 0) → IsErrAnd r (λ y. y ≡ e) → P e → IfErr r P
-err-reported (Ok x) e P h p = tt
-err-reported (Err y) e P h p = subst P (sym h) p
+  module _ (Other : Reports) where
+    set-promise : (r : Result RunOutcome RunFault) (s : Sizes) → IsSetUp (resolved_of p) db setup s → PromiseOnceSet hash Other p db s r → RunPromise hash Other p db setup r
+    set-promise (Ok (run_outcome.Done rows)) s set run = record { done = (s, set, run.done); set = (s, set); refused = tt; first = λ z same. tt }
+    set-promise (Ok run_outcome.Unfinished) s set run = record { done = tt; set = (s, set); refused = tt; first = λ z same. tt }
+    set-promise (Err e) s set run = record {
+      done = tt;
+      set = tt;
+      refused = elim run.failed [
+        | inl true_fault ↦ inl (for_fault s set true_fault)
+        | inr other ↦ inr (s, set, other)
+      ];
+      first = λ z same.
+          subst (λ y. IsFirstReported (run_model hash p db y) (whole_plan p) e ⊎ Other (run_model hash p db y) (whole_plan p) e) (ok-is s z (sym set.sizes ∙ same.sizes)) run.first;
+    }
 
--- each step names a worker, whatever the run comes to
-pub names-reported : (r : Result Ran RunFault) (steps : List ℕ) (n : ℕ) → All (λ s. s < n) steps → NamesFirst steps n r
-names-reported (Ok x) steps n h = h
-names-reported (Err e) steps n h = inr (inr h)
+    -- a run keeps its promise by what the workers of its job come to
+    pub promise-kept : {j : Job} (r : Result RunOutcome RunFault) → IsJobOf j p db setup → PromiseOnceSet hash Other j.plan.now j.database.now (sizes_of j) r → RunPromise hash Other p db setup r
+    promise-kept {j} r made run = set-promise r (sizes_of j) made.set (of-job (λ q b z. PromiseOnceSet hash Other q b z r) made (sizes_of j) made.set run)
 
--- memory ran out before a step was looked at
-pub names-nothing : (r : Result Ran RunFault) (e : RunFault) (steps : List ℕ) (n : ℕ) → IsErrAnd r (λ y. y ≡ e) → e ≡ fault.NoMemory → NamesFirst steps n r
-names-nothing (Ok x) e steps n h p = absurd h
-names-nothing (Err y) e steps n h p = inl (h ∙ p)
-
--- what holds of a run that was set up, whatever it comes to
-pub ok-reported : (r : Result Ran RunFault) (P : Type 0) → P → IfOk r (λ _. P)
-ok-reported (Ok x) P h = h
-ok-reported (Err e) P h = tt
+    -- and where there is no job
+    pub promise-refused : (r : Result RunOutcome RunFault) (e : RunFault) → IsErrAnd r (λ y. y ≡ e) → NoJobOf p db setup e → RunPromise hash Other p db setup r
+    promise-refused (Ok x) e handed none = absurd handed
+    promise-refused (Err y) e handed none =
+        record { done = tt; set = tt; refused = inl (subst (λ z. RunFails (resolved_of p) db setup z) (sym handed) none.refused); first = λ s set. inl (inl (handed ∙ none.memory s set)) }
 
 module _ (hash : List ℕ → Row → ℕ → ℕ) (W : RunModel) (p : Plan) where
+  -- each step names a worker, whatever the run comes to
+  pub names-reported : (r : Result RunOutcome RunFault) (steps : List ℕ) → All (λ s. s < crew_size W.sizes p) steps → NamesFirst steps W p r
+  names-reported (Ok x) steps h = h
+  names-reported (Err e) steps h = inr (inr h)
+
   -- the steps were made, whatever they come to
-  pub steps-reported : (r : Result Ran RunFault) (steps : List ℕ) → IsScheduled hash W p steps r → Scheduled hash W p steps r
+  pub steps-reported : (r : Result RunOutcome RunFault) (steps : List ℕ) → IsScheduled hash W p steps r → Scheduled hash W p steps r
   steps-reported (Ok x) steps h = h
   steps-reported (Err e) steps h = inr (inr h)
 
-  pub rounds-reported : (r : Result Ran RunFault) (limit : ℕ) → IsInRounds hash W p limit r → InRounds hash W p limit r
+  pub rounds-reported : (r : Result RunOutcome RunFault) (limit : ℕ) → IsInRounds hash W p limit r → InRounds hash W p limit r
   rounds-reported (Ok x) limit h = h
   rounds-reported (Err e) limit h = inr h
 
-  -- memory ran out before a step was made
-  pub steps-nothing : (r : Result Ran RunFault) (e : RunFault) (steps : List ℕ) → IsErrAnd r (λ y. y ≡ e) → e ≡ fault.NoMemory → Scheduled hash W p steps r
-  steps-nothing (Ok x) e steps h k = absurd h
-  steps-nothing (Err y) e steps h k = inl (h ∙ k)
-
-  pub rounds-nothing : (r : Result Ran RunFault) (e : RunFault) (limit : ℕ) → IsErrAnd r (λ y. y ≡ e) → e ≡ fault.NoMemory → InRounds hash W p limit r
-  rounds-nothing (Ok x) e limit h k = absurd h
-  rounds-nothing (Err y) e limit h k = inl (h ∙ k)
-
   -- the same of rounds that were counted
-  pub counted-reported : (r : Result Ran RunFault) (limit : ℕ) (counts : List WorkerCounts) → IsCountedInRounds hash W p limit r counts → CountedInRounds hash W p limit r counts
+  pub counted-reported : (r : Result RunOutcome RunFault) (limit : ℕ) (counts : List WorkerCounts) → IsCountedInRounds hash W p limit r counts → CountedInRounds hash W p limit r counts
   counted-reported (Ok x) limit counts h = h
   counted-reported (Err e) limit counts h = inr h
-
-  pub counted-nothing : (r : Result Ran RunFault) (e : RunFault) (limit : ℕ) (counts : List WorkerCounts) → IsErrAnd r (λ y. y ≡ e) → e ≡ fault.NoMemory
-      → CountedInRounds hash W p limit r counts
-  counted-nothing (Ok x) e limit counts h k = absurd h
-  counted-nothing (Err y) e limit counts h k = inl (h ∙ k)

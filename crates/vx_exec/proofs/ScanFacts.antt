@@ -8,7 +8,7 @@ use Rattle.vx_plan_nodes.specs.Numbering.{nodes, is_numbered, relation_in}
 use Rattle.vx_plan_nodes.specs.Streams.{workers}
 use Rattle.vx_plan_nodes.specs.Typed.{Scope, typed}
 use Rattle.vx_plan_nodes.specs.Types.{types_of}
-use Rattle.vx_laws.specs.Layout.{workers_below}
+use Rattle.vx_plan_nodes.specs.Workers.{workers_below}
 use Rattle.vx_laws.proofs.Bags.{and-left, and-right}
 use Rattle.vx_laws.proofs.Layouts.{number-is}
 use Rattle.vx_layout.specs.Layout.{spans_of}

@@ -22,7 +22,7 @@ use Rattle.vx_operators.specs.declared.destination.Destination.{Destination}
 use Rattle.vx_worker.specs.declared.tree.Tree.{Tree}
 use Rattle.vx_worker.specs.declared.worker.Worker.{Worker}
 use Rattle.vx_steps.specs.Crews.{Duty, root_duty, producer_duty}
-use Rattle.vx_layout.specs.Groups.{group_at}
+use Rattle.vx_plan_nodes.specs.Workers.{worker_group_at}
 use Rattle.vx_exec.specs.Job.{model_of, types_at}
 use Rattle.vx_exec.specs.LeafTypes.{LeavesFit}
 use Rattle.vx_exec.specs.Crew.{IsTreeOf, IsNew}
@@ -35,16 +35,16 @@ duty-with f p = record { frag = f; post = p }
 pub producer-does : (j : Job) (hash : List ℕ → Row → ℕ → ℕ) (n place : ℕ) (k : ExchangeKind) (p : Plan) (tree : Tree Operator) (post : Post)
     (consumers : ℕ) (types : List ColType) (kind : ExchangeKind) (size : ℕ) → IsTreeOf j place p tree
     → post ≡ sends_by_ship (record { exchange = n; place = place; consumers = consumers; types = types; kind = kind; size = size })
-    → consumers ≡ workers (group_at j.layout.groups.items) (target k) → types ≡ types_of (relations j.plan.now) p → kind ≡ k → size ≡ j.packet
+    → consumers ≡ workers (worker_group_at j.layout.worker_groups.items) (target k) → types ≡ types_of (relations j.plan.now) p → kind ≡ k → size ≡ j.packet
     → ◌≡◌ {A = Duty} (record { frag = shape operator_op tree; post = post }) (producer_duty (model_of hash j) n k p place)
 unfolding duty-with
 producer-does j hash n place k p tree post consumers types kind size h e many same is packet =
     ap (λ z. duty-with z post) (h.shape_is hash)
     ∙ ap (λ z. duty-with (fragment (model_of hash j) place p) z) (
     e ∙ ap (λ z. sends_by_ship (record { exchange = n; place = place; consumers = z; types = types; kind = kind; size = size })) many
-    ∙ ap (λ z. sends_by_ship (record { exchange = n; place = place; consumers = workers (group_at j.layout.groups.items) (target k); types = z; kind = kind; size = size })) same
-    ∙ ap (λ z. sends_by_ship (record { exchange = n; place = place; consumers = workers (group_at j.layout.groups.items) (target k); types = types_of (relations j.plan.now) p; kind = z; size = size })) is
-    ∙ ap (λ z. sends_by_ship (record { exchange = n; place = place; consumers = workers (group_at j.layout.groups.items) (target k); types = types_of (relations j.plan.now) p; kind = k; size = z })) packet)
+    ∙ ap (λ z. sends_by_ship (record { exchange = n; place = place; consumers = workers (worker_group_at j.layout.worker_groups.items) (target k); types = z; kind = kind; size = size })) same
+    ∙ ap (λ z. sends_by_ship (record { exchange = n; place = place; consumers = workers (worker_group_at j.layout.worker_groups.items) (target k); types = types_of (relations j.plan.now) p; kind = z; size = size })) is
+    ∙ ap (λ z. sends_by_ship (record { exchange = n; place = place; consumers = workers (worker_group_at j.layout.worker_groups.items) (target k); types = types_of (relations j.plan.now) p; kind = k; size = z })) packet)
 
 -- of the root's worker
 pub root-does : (j : Job) (hash : List ℕ → Row → ℕ → ℕ) (p : Plan) (tree : Tree Operator) (types : List ColType) (post : Post)

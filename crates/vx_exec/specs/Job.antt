@@ -10,7 +10,7 @@ use Rattle.vx_exec.specs.LeafTypes.{leaf_types}
 use Rattle.vx_exec.specs.declared.job.Job.{Job}
 
 abbrev pub sizes_of : Job → Sizes
-sizes_of j = record { groups = j.layout.groups.items; packet = j.packet; morsel = j.morsel }
+sizes_of j = record { worker_groups = j.layout.worker_groups.items; packet = j.packet; morsel = j.morsel }
 
 -- the setting of its run
 abbrev pub model_of : (hash : List ℕ → Row → ℕ → ℕ) → Job → RunModel

@@ -9,3 +9,4 @@ pub mod Crew
 pub mod Making
 pub mod Counts
 pub mod Runs
+pub mod Promise

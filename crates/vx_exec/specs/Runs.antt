@@ -13,7 +13,7 @@ use Rattle.vx_plan_nodes.specs.Runs.{Runs}
 use Rattle.vx_plan_nodes.specs.Typed.{bounds_at}
 use Rattle.vx_plan_nodes.specs.Types.{types_of}
 use Rattle.vx_check_rules.specs.Claims.{Delivers}
-use Rattle.vx_laws.specs.Faults.{IsReal}
+use Rattle.vx_plan_nodes.specs.Real.{IsReal}
 use Rattle.vx_ops.specs.declared.fault.Code.TheVariants.{Overflow, NoMemory, Unsorted, Stranger}
 use Rattle.vx_ops.specs.declared.fault.Fault.{Fault}
 use Rattle.vx_ops.specs.declared.fault.Fault.TheVariants.{Own, Passed}
@@ -31,11 +31,10 @@ use Rattle.vx_steps.specs.Following.{Follows, FollowsRounds}
 use Rattle.vx_steps.specs.LinksView.{LinksView}
 use Rattle.vx_steps.specs.Ready.{Ready}
 use Rattle.vx_steps.specs.Verdicts.{Judged}
-use Rattle.vx_steps.specs.Roles.{crew_size}
+use Rattle.vx_plan_nodes.specs.Workers.{crew_size, worker_group_at}
 use Rattle.vx_steps.specs.Schedules.{IsBadStep}
-use Rattle.vx_steps.specs.declared.verdict.Verdict.{Verdict}
-use Rattle.vx_steps.specs.declared.verdict.Verdict.TheVariants as verdict
-use Rattle.vx_layout.specs.Groups.{group_at}
+use Rattle.vx_steps.specs.declared.verdict.RunState.{RunState}
+use Rattle.vx_steps.specs.declared.verdict.RunState.TheVariants as run_state
 use Rattle.vx_exec.specs.Counts.{AreCountsOf}
 use Rattle.vx_exec.specs.Sizes.{Sizes}
 use Rattle.vx_exec.specs.Setup.{sizes_set, Fails}
@@ -43,20 +42,20 @@ use Rattle.vx_setup.specs.Setup.{SetupView}
 use Rattle.vx_setup.specs.declared.fault.RunFault.{RunFault}
 use Rattle.vx_setup.specs.declared.fault.RunFault.TheVariants as fault
 use Rattle.vx_exec.specs.declared.counted.WorkerCounts.{WorkerCounts}
-use Rattle.vx_exec.specs.declared.ran.Ran.{Ran}
-use Rattle.vx_exec.specs.declared.ran.Ran.TheVariants as ran
+use Rattle.vx_exec.specs.declared.ran.RunOutcome.{RunOutcome}
+use Rattle.vx_exec.specs.declared.ran.RunOutcome.TheVariants as run_outcome
 
--- rows that a run gave, of the output's types: they are stream 0 of a run of the plan relation with groups of these sizes, where a hash route sends
+-- rows that a run gave, of the output's types: they are stream 0 of a run of the plan relation with worker groups of these sizes, where a hash route sends
 -- keys so, and those of the plan without its exchanges, each as often, and the same list where the root claims a total order
-pub record IsRunOf (hash : List ℕ → Row → ℕ → ℕ) (p : TypedPlanView) (db : Database) (groups : List ℕ) (rows : RowsView) : Type 0 where
+pub record IsRunOf (hash : List ℕ → Row → ℕ → ℕ) (p : TypedPlanView) (db : Database) (worker_groups : List ℕ) (rows : RowsView) : Type 0 where
   pub types : rows.types ≡ types_of (relation_at p.names.catalog) (plan_in p.root)
-  pub runs : Runs (rows_at db) (group_at groups) (sends_by hash (bounds_at (scope_of p.names).ranges)) (plan_in p.root) (λ _. rows.rows)
+  pub runs : Runs (rows_at db) (worker_group_at worker_groups) (sends_by hash (bounds_at (scope_of p.names).ranges)) (plan_in p.root) (λ _. rows.rows)
   pub delivers : Delivers (rows_at db) p.total (plan_in p.root) rows.rows
 
 -- a fact of the rows, where every worker has ended
-abbrev pub IfDone : (RowsView → Type 0) → Ran → Type 0
-IfDone P (ran.Done rows) = P rows
-IfDone P ran.Unfinished = Unit {0}
+abbrev pub IfDone : (RowsView → Type 0) → RunOutcome → Type 0
+IfDone P (run_outcome.Done rows) = P rows
+IfDone P run_outcome.Unfinished = Unit {0}
 
 -- why a run that began gives no rows: memory was refused, or a sum or count of the data overflows. No rows fall, and no packet is a stranger
 abbrev pub IsTrueOf : TypedPlanView → Database → RunFault → Type 0
@@ -78,62 +77,67 @@ abbrev pub IsFirstReported : RunModel → Plan → RunFault → Type 0
 IsFirstReported W p e = (e ≡ fault.NoMemory) ⊎ ((f : Fault) × (e ≡ fault_reported f) × FailsFirst W p f)
 
 -- the result of workers with such a verdict: the rows that the first of them kept, or the fault
-abbrev pub ComesTo : List (Worker Operator Destination) → Verdict → Result Ran RunFault → Type 0
-ComesTo ws verdict.Done (Ok (ran.Done t)) =
+abbrev pub ComesTo : List (Worker Operator Destination) → RunState → Result RunOutcome RunFault → Type 0
+ComesTo ws run_state.Done (Ok (run_outcome.Done t)) =
     (d : Worker Operator Destination) → (task_of (sender_of (slice_index_or ws 0 d)) ≡ keep t.rows) × (post_of (sender_of (slice_index_or ws 0 d)) ≡ keeps t.types)
-ComesTo ws verdict.Unfinished (Ok ran.Unfinished) = Unit {0}
-ComesTo ws (verdict.Failed f) (Err e) = e ≡ fault_reported f
+ComesTo ws run_state.Unfinished (Ok run_outcome.Unfinished) = Unit {0}
+ComesTo ws (run_state.Failed f) (Err e) = e ≡ fault_reported f
 ComesTo ws v r = ⊥
 
--- a step of the schedule names none of so many workers
-abbrev pub IsBadStepOf : List ℕ → ℕ → RunFault → Type 0
-IsBadStepOf steps workers (fault.BadStep index) = IsBadStep steps workers index
-IsBadStepOf steps workers e = ⊥
+-- a step of the schedule names no worker of the plan
+abbrev pub IsBadStepOf : (steps : List ℕ) → RunModel → Plan → RunFault → Type 0
+IsBadStepOf steps W p (fault.BadStep index) = IsBadStep steps (crew_size W.sizes p) index
+IsBadStepOf steps W p e = ⊥
+
+-- what a schedule comes to first: its bad step is reported unless memory ran out, so with anything else each step names a worker
+abbrev pub NamesFirst : (steps : List ℕ) → RunModel → Plan → Result RunOutcome RunFault → Type 0
+NamesFirst steps W p (Ok r) = All (λ s. s < crew_size W.sizes p) steps
+NamesFirst steps W p (Err e) = (e ≡ fault.NoMemory) ⊎ IsBadStepOf steps W p e ⊎ All (λ s. s < crew_size W.sizes p) steps
 
 -- workers of a plan in a setting made steps, none of which had made any before: those with which they began, those that they became, and what
 -- these come to, which the result says
 module _ (hash : List ℕ → Row → ℕ → ℕ) (W : RunModel) (p : Plan) where
   -- exactly these steps, in this order
-  pub record IsScheduled (steps : List ℕ) (result : Result Ran RunFault) : Type 0 where
+  pub record IsScheduled (steps : List ℕ) (result : Result RunOutcome RunFault) : Type 0 where
     pub begun : List (Worker Operator Destination)
     pub links : LinksView
     pub ready : Ready OperatorStands operator_op DestinationStands task_of post_of bounds_of hash (scan_morsels W) W p begun links
     pub ended : List (Worker Operator Destination)
     pub links_after : LinksView
     pub follows : Follows OperatorStands operator_want operator_op DestinationStands task_of post_of bounds_of hash (scan_morsels W) steps begun links ended links_after
-    pub verdict : Verdict
+    pub verdict : RunState
     pub judged : Judged ended verdict
     pub comes : ComesTo ended verdict result
 
   -- rounds of all workers: as many as the limit says, or fewer where all have ended
-  pub record IsInRounds (limit : ℕ) (result : Result Ran RunFault) : Type 0 where
+  pub record IsInRounds (limit : ℕ) (result : Result RunOutcome RunFault) : Type 0 where
     pub begun : List (Worker Operator Destination)
     pub links : LinksView
     pub ready : Ready OperatorStands operator_op DestinationStands task_of post_of bounds_of hash (scan_morsels W) W p begun links
     pub ended : List (Worker Operator Destination)
     pub links_after : LinksView
     pub follows : FollowsRounds OperatorStands operator_want operator_op DestinationStands task_of post_of bounds_of hash (scan_morsels W) limit begun links ended links_after
-    pub verdict : Verdict
+    pub verdict : RunState
     pub judged : Judged ended verdict
     pub comes : ComesTo ended verdict result
 
   -- what a schedule comes to: memory was refused before a step was made, a step names no worker, or all steps were made
-  abbrev pub Scheduled : (steps : List ℕ) → Result Ran RunFault → Type 0
+  abbrev pub Scheduled : (steps : List ℕ) → Result RunOutcome RunFault → Type 0
   Scheduled steps (Ok r) = IsScheduled steps (Ok r)
-  Scheduled steps (Err e) = (e ≡ fault.NoMemory) ⊎ IsBadStepOf steps (crew_size W.sizes p) e ⊎ IsScheduled steps (Err e)
+  Scheduled steps (Err e) = (e ≡ fault.NoMemory) ⊎ IsBadStepOf steps W p e ⊎ IsScheduled steps (Err e)
 
   -- what rounds come to: memory was refused before a step was made, or they were made
-  abbrev pub InRounds : (limit : ℕ) → Result Ran RunFault → Type 0
+  abbrev pub InRounds : (limit : ℕ) → Result RunOutcome RunFault → Type 0
   InRounds limit (Ok r) = IsInRounds limit (Ok r)
   InRounds limit (Err e) = (e ≡ fault.NoMemory) ⊎ IsInRounds limit (Err e)
 
   -- rounds of all workers, whose counts these are in the end
-  pub record IsCountedInRounds (limit : ℕ) (result : Result Ran RunFault) (counts : List WorkerCounts) : Type 0 where
+  pub record IsCountedInRounds (limit : ℕ) (result : Result RunOutcome RunFault) (counts : List WorkerCounts) : Type 0 where
     pub run : IsInRounds limit result
     pub counted : AreCountsOf run.ended counts
 
   -- memory was refused, or rounds were made, and these are the counts of their workers in the end
-  abbrev pub CountedInRounds : (limit : ℕ) → Result Ran RunFault → List WorkerCounts → Type 0
+  abbrev pub CountedInRounds : (limit : ℕ) → Result RunOutcome RunFault → List WorkerCounts → Type 0
   CountedInRounds limit (Ok r) counts = IsCountedInRounds limit (Ok r) counts
   CountedInRounds limit (Err e) counts = (e ≡ fault.NoMemory) ⊎ IsCountedInRounds limit (Err e) counts
 
@@ -147,13 +151,3 @@ pub data RunFails (p : TypedPlanView) (db : Database) (setup : SetupView) (e : R
   for_catalog : e ≡ fault.OtherCatalog → db.catalog ≢ p.names.catalog → RunFails p db setup e
   for_setup : db.catalog ≡ p.names.catalog → Fails e (sizes_set setup p.names.sizes (plan_in p.root)) → RunFails p db setup e
   for_fault : (s : Sizes) → IsSetUp p db setup s → IsTrueOf p db e → RunFails p db setup e
-
--- what a schedule comes to first: its bad step is reported unless memory ran out, so with anything else each step names one of so many workers
-abbrev pub NamesFirst : List ℕ → (workers : ℕ) → Result Ran RunFault → Type 0
-NamesFirst steps workers (Ok r) = All (λ s. s < workers) steps
-NamesFirst steps workers (Err e) = (e ≡ fault.NoMemory) ⊎ IsBadStepOf steps workers e ⊎ All (λ s. s < workers) steps
-
--- why a plan gives no rows by a schedule: as above, or a step that names no worker
-pub data ScheduleFails (p : TypedPlanView) (db : Database) (setup : SetupView) (steps : List ℕ) (e : RunFault) : Type 0 where
-  for_run : RunFails p db setup e → ScheduleFails p db setup steps e
-  for_step : (s : Sizes) → IsSetUp p db setup s → IsBadStepOf steps (crew_size (group_at s.groups) (plan_in p.root)) e → ScheduleFails p db setup steps e

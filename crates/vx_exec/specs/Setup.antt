@@ -1,13 +1,13 @@
 -- What a run's setup comes to: the sizes of its run, or the first thing that is wrong with it.
 use Rattle.std.specs.Prelude.{ℕ, ◌≡◌, Bool, nat_le, if◌then◌else◌, List, Option, Some, None, Result, Ok, Err, ⊤, string_bytes, ◌⊎◌}
 use Rattle.vx_plan_nodes.specs.Plan.{Plan}
-use Rattle.vx_steps.specs.Roles.{crew_size}
+use Rattle.vx_plan_nodes.specs.Workers.{crew_size, worker_group_at}
 use Rattle.vx_relations.specs.Walk.{◌>>=◌}
-use Rattle.vx_setup.specs.Setup.{SetupView, is_within, groups_named, first_missing, first_out_of_range}
-use Rattle.vx_layout.specs.Groups.{group_at}
+use Rattle.vx_setup.specs.Setup.{SetupView, is_within, worker_groups_named, first_missing, first_out_of_range}
 use Rattle.vx_exec.specs.Sizes.{Sizes}
 use Rattle.vx_setup.specs.declared.fault.RunFault.{RunFault}
 use Rattle.vx_setup.specs.declared.fault.RunFault.TheVariants as fault
+use Rattle.vx_values.specs.Limits.{max_morsel_rows, max_packet_rows, max_slack, max_workers}
 
 -- why a plan is not run by a setup, by a size name or by a number of workers
 pub data SetupRefusal : Type 0 where
@@ -28,20 +28,20 @@ abbrev pub no_name : (List ℕ → SetupRefusal) → Option (List ℕ) → Resul
 no_name refusal None = Ok tt
 no_name refusal (Some name) = Err (refusal name)
 
--- a plan with at most 256 workers
+-- a plan with not too many workers
 abbrev pub few_workers : List ℕ → Plan → Result ⊤ SetupRefusal
-few_workers groups p = tested (nat_le (crew_size (group_at groups) p) 256) (too_many_workers (crew_size (group_at groups) p))
+few_workers worker_groups p = tested (nat_le (crew_size (worker_group_at worker_groups) p) max_workers) (too_many_workers (crew_size (worker_group_at worker_groups) p))
 
 -- the sizes of a run of a plan that declares these size names, or the first refusal
 unfoldable pub sizes_set : SetupView → List (List ℕ) → Plan → Result Sizes SetupRefusal
 sizes_set s names p =
     no_name size_missing (first_missing s.sizes names) >>= λ _.
     no_name size_out_of_range (first_out_of_range s.sizes names) >>= λ _.
-    tested (is_within 4096 s.packet) bad_packet >>= λ _.
-    tested (is_within 1000000 s.morsel) bad_morsel >>= λ _.
-    tested (is_within 1024 s.slack) bad_slack >>= λ _.
-    few_workers (groups_named s.sizes names) p >>= λ _.
-    Ok (record { groups = groups_named s.sizes names; packet = s.packet; morsel = s.morsel })
+    tested (is_within max_packet_rows s.packet) bad_packet >>= λ _.
+    tested (is_within max_morsel_rows s.morsel) bad_morsel >>= λ _.
+    tested (is_within max_slack s.slack) bad_slack >>= λ _.
+    few_workers (worker_groups_named s.sizes names) p >>= λ _.
+    Ok (record { worker_groups = worker_groups_named s.sizes names; packet = s.packet; morsel = s.morsel })
 
 -- the refusal that a fault says; what is no fault of a setup is another
 abbrev pub refusal_of : RunFault → SetupRefusal

@@ -9,19 +9,20 @@ use Rattle.vx_plan_nodes.specs.TypedView.{scope, plan}
 use Rattle.vx_plan_nodes.specs.declared.typed_plan.TypedPlan.{TypedPlan}
 use Rattle.vx_check_rules.specs.Checked.{relations}
 use Rattle.vx_worker.specs.Fragment.{RunModel}
-use Rattle.vx_layout.specs.Groups.{IsWithin, group_at}
+use Rattle.vx_plan_nodes.specs.Workers.{IsWithin, worker_group_at}
+use Rattle.vx_values.specs.Limits.{max_group_workers, max_morsel_rows, max_packet_rows}
 
 -- the workers of each size name by its number, the rows of a packet and those of a morsel
 pub record Sizes : Type 0 where
-  pub groups : List ℕ
+  pub worker_groups : List ℕ
   pub packet : ℕ
   pub morsel : ℕ
 
--- the limits of a run: 1 to 64 workers in a group, packets of 1 to 4,096 rows, morsels of 1 to 1,000,000 rows
+-- the sizes of a run are at least 1 and within their limits
 pub record AreWithin (s : Sizes) : Type 0 where
-  pub groups : All (IsWithin 1 64) s.groups
-  pub packet : IsWithin 1 4096 s.packet
-  pub morsel : IsWithin 1 1000000 s.morsel
+  pub worker_groups : All (IsWithin 1 max_group_workers) s.worker_groups
+  pub packet : IsWithin 1 max_packet_rows s.packet
+  pub morsel : IsWithin 1 max_morsel_rows s.morsel
 
 -- what a run of a plan over a database is given, where a hash route sends keys so
 abbrev pub run_model : (hash : List ℕ → Row → ℕ → ℕ) → TypedPlan → Database → Sizes → RunModel
@@ -29,7 +30,7 @@ run_model hash p db s = record {
   catalog = relations p;
   db = rows_at db;
   relation_of = relation_in (plan p);
-  sizes = group_at s.groups;
+  sizes = worker_group_at s.worker_groups;
   hash = hash;
   bounds = bounds_at (scope p).ranges;
   packet = s.packet;

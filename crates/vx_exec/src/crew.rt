@@ -18,7 +18,7 @@ ghost use Rattle.vx_steps.specs.Additions.{AddsProducers, AddsBelow};
 ghost use Rattle.vx_steps.specs.Crews.{stations_of, producer_duty, root_duty};
 ghost use Rattle.vx_steps.specs.Queues.{AreEmpty};
 ghost use Rattle.vx_steps.specs.Ready.{Ready};
-ghost use Rattle.vx_layout.specs.Groups.{group_at};
+ghost use Rattle.vx_plan_nodes.specs.Workers.{worker_group_at};
 ghost use Rattle.vx_exec.specs.Job.{model_of};
 ghost use Rattle.vx_exec.specs.Part.{IsPartOf};
 ghost use Rattle.vx_exec.specs.Crew.{duty, IsNew};
@@ -114,7 +114,7 @@ impl Crew {
         requires kind { is_kind (scope job.now.plan.now) (types_of (relations job.now.plan.now) (plan_of node.now)) (kind_of kind.now) ≡ true }
         requires part { IsPartOf job.now (outline_of node.now) }
         ensures added { OnOk result ((hash : List ℕ → Row → ℕ → ℕ)
-            → AddsProducers (model_of hash job.now) exchange (kind_of kind.now) (plan_of node.now) (workers (group_at job.now.layout.groups.items) (size (plan_of node.now))) (made_of self.old) (made_of self.new)) }
+            → AddsProducers (model_of hash job.now) exchange (kind_of kind.now) (plan_of node.now) (workers (worker_group_at job.now.layout.worker_groups.items) (size (plan_of node.now))) (made_of self.old) (made_of self.new)) }
         ensures new { OnOk result (All (IsNew job.now) self.old.workers.items → All (IsNew job.now) self.new.workers.items) }
     {
         for place in 0..job.workers(node.size()) {

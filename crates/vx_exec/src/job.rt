@@ -9,17 +9,17 @@ ghost use Rattle.vx_plan_nodes.specs.Streams.{workers};
 ghost use Rattle.vx_plan_nodes.specs.TypedView.{scope, plan as whole_plan};
 ghost use Rattle.vx_check_rules.specs.Checked.{relations};
 ghost use Rattle.vx_worker.specs.Morsels.{morsel_of, morsel_count};
-ghost use Rattle.vx_steps.specs.Roles.{crew_size};
-ghost use Rattle.vx_layout.specs.Groups.{IsWithin, group_at};
+ghost use Rattle.vx_plan_nodes.specs.Workers.{crew_size, IsWithin, worker_group_at};
 ghost use Rattle.vx_layout.specs.Layout.{spans_of};
 ghost use Rattle.vx_exec.specs.Sizes.{AreWithin};
+ghost use Rattle.vx_values.specs.Limits.{max_group_workers, max_packet_rows, max_rows, max_slack, max_workers};
 
 use std::alloc::{AllocError, Global};
 use vx_catalog::{Catalog, Database};
 use vx_layout::{Layout, NodeSpan};
 use vx_plan_nodes::{Size, TypedPlan};
-use vx_rows::ColType;
 use vx_seeds::KeySeed;
+use vx_values::ColType;
 use vx_views::Rows;
 use vx_worker::Morsels;
 
@@ -34,12 +34,12 @@ pub struct Job<'j> {
     morsel: usize,
     // The packets by which a producer may run ahead, where workers are threads.
     slack: u32,
-    ghost laid_out: { layout.spans.items ≡ spans_of (group_at layout.groups.items) (whole_plan plan.now) 0 1 },
+    ghost laid_out: { layout.spans.items ≡ spans_of (worker_group_at layout.worker_groups.items) (whole_plan plan.now) 0 1 },
     ghost same_catalog: { database.now.catalog ≡ (scope plan.now).catalog },
-    ghost named: { length layout.groups.items ≡ (scope plan.now).sizes },
-    ghost within: { AreWithin (record { groups = layout.groups.items; packet = packet; morsel = morsel }) },
-    ghost room: { IsWithin 1 1024 slack },
-    ghost few_workers: { crew_size (group_at layout.groups.items) (whole_plan plan.now) ≤ 256 },
+    ghost named: { length layout.worker_groups.items ≡ (scope plan.now).sizes },
+    ghost within: { AreWithin (record { worker_groups = layout.worker_groups.items; packet = packet; morsel = morsel }) },
+    ghost room: { IsWithin 1 max_slack slack },
+    ghost few_workers: { crew_size (worker_group_at layout.worker_groups.items) (whole_plan plan.now) ≤ max_workers },
 }
 
 impl<'j> Job<'j> {
@@ -55,15 +55,15 @@ impl<'j> Job<'j> {
         morsel: usize,
         slack: u32,
     ) -> Job<'j>
-        requires laid_out { layout.spans.items ≡ spans_of (group_at layout.groups.items) (whole_plan plan.now) 0 1 }
+        requires laid_out { layout.spans.items ≡ spans_of (worker_group_at layout.worker_groups.items) (whole_plan plan.now) 0 1 }
         requires catalog { database.now.catalog ≡ (scope plan.now).catalog }
-        requires named { length layout.groups.items ≡ (scope plan.now).sizes }
-        requires within { AreWithin (record { groups = layout.groups.items; packet = packet; morsel = morsel }) }
-        requires room { IsWithin 1 1024 slack }
-        requires few { crew_size (group_at layout.groups.items) (whole_plan plan.now) ≤ 256 }
+        requires named { length layout.worker_groups.items ≡ (scope plan.now).sizes }
+        requires within { AreWithin (record { worker_groups = layout.worker_groups.items; packet = packet; morsel = morsel }) }
+        requires room { IsWithin 1 max_slack slack }
+        requires few { crew_size (worker_group_at layout.worker_groups.items) (whole_plan plan.now) ≤ max_workers }
         ensures plan { result.plan.now ≡ plan.now }
         ensures database { result.database.now ≡ database.now }
-        ensures sizes { sizes_of result ≡ record { groups = layout.groups.items; packet = packet; morsel = morsel } }
+        ensures sizes { sizes_of result ≡ record { worker_groups = layout.worker_groups.items; packet = packet; morsel = morsel } }
     {
         Job {
             alloc,
@@ -78,9 +78,9 @@ impl<'j> Job<'j> {
 
     /// How many workers a size has.
     pub fn workers(&self, size: Size) -> u32
-        ensures value { result ≡ workers (group_at self.now.layout.groups.items) (size_of size) }
+        ensures value { result ≡ workers (worker_group_at self.now.layout.worker_groups.items) (size_of size) }
         ensures some { 1 ≤ result }
-        ensures few { result ≤ 64 }
+        ensures few { result ≤ max_group_workers }
     {
         self.layout.workers_of(size)
     }
@@ -103,7 +103,7 @@ impl<'j> Job<'j> {
     /// Which workers the nodes of the plan have.
     pub fn layout(&self) -> &Layout
         ensures value { result.now ≡ self.now.layout }
-        ensures spans { result.now.spans.items ≡ spans_of (group_at self.now.layout.groups.items) (whole_plan self.now.plan.now) 0 1 }
+        ensures spans { result.now.spans.items ≡ spans_of (worker_group_at self.now.layout.worker_groups.items) (whole_plan self.now.plan.now) 0 1 }
     {
         &self.layout
     }
@@ -111,7 +111,7 @@ impl<'j> Job<'j> {
     /// The packets by which a producer may run ahead of a consumer, where workers are threads.
     pub fn slack(&self) -> u32
         ensures some { 1 ≤ result }
-        ensures few { result ≤ 1024 }
+        ensures few { result ≤ max_slack }
     {
         self.slack
     }
@@ -125,7 +125,7 @@ impl<'j> Job<'j> {
     pub fn packet(&self) -> usize
         ensures value { result ≡ self.now.packet }
         ensures some { 1 ≤ result }
-        ensures few { result ≤ 4096 }
+        ensures few { result ≤ max_packet_rows }
     {
         self.packet
     }
@@ -134,7 +134,7 @@ impl<'j> Job<'j> {
     pub fn morsel_count(&self, relation: usize) -> u64
         requires { relation < length (scope self.now.plan.now).catalog }
         ensures value { result ≡ morsel_count self.now.morsel (length (rows_at self.now.database.now relation)) }
-        ensures few { result ≤ 100000000 }
+        ensures few { result ≤ max_rows }
     {
         let rows = self.database.rows(relation).len();
         ((rows + (self.morsel - 1)) / self.morsel) as u64
@@ -143,7 +143,7 @@ impl<'j> Job<'j> {
     /// How many morsels each relation of the catalog has, by its number.
     pub fn morsel_counts(&self, alloc: Global) -> Result<Vec<u64>, AllocError>
         ensures counts { IfOk result (λ v. (r : ℕ) → slice_index_or v.items r 0 ≡ morsel_count self.now.morsel (length (rows_at self.now.database.now r))) }
-        ensures few { IfOk result (λ v. All (λ n. n ≤ 100000000) v.items) }
+        ensures few { IfOk result (λ v. All (λ n. n ≤ max_rows) v.items) }
     {
         let relations = self.database.catalog().len();
         let mut counts = Vec::with_capacity(alloc, relations)?;

@@ -1,9 +1,9 @@
 //! Runs in one thread.
 
-ghost use Rattle.std.specs.Prelude.{◌≡◌, ◌<◌, ◌⊎◌, true, length, IfOk, IfErr, List};
+ghost use Rattle.std.specs.Prelude.{◌≡◌, ◌<◌, true, length, List};
 ghost use Rattle.std.specs.List.{slice_index_or};
 ghost use Rattle.vx_values.specs.declared.value.ColType.{ColType};
-ghost use Rattle.vx_plan_nodes.specs.TypedView.{plan as whole_plan, resolved_of};
+ghost use Rattle.vx_plan_nodes.specs.TypedView.{plan as whole_plan};
 ghost use Rattle.vx_check_rules.specs.Checked.{is_allowed, is_root_allowed};
 ghost use Rattle.vx_check_rules.specs.CheckedView.{typed_plan};
 ghost use Rattle.vx_ops.specs.declared.fault.Fault.TheVariants.{Passed};
@@ -13,17 +13,15 @@ ghost use Rattle.vx_worker.specs.Worker.{sender_of};
 ghost use Rattle.vx_worker.specs.declared.worker.Worker.{Worker as AWorker};
 ghost use Rattle.vx_operators.specs.declared.operator.Operator.{Operator as AnOperator};
 ghost use Rattle.vx_operators.specs.declared.destination.Destination.{Destination as ADestination};
-ghost use Rattle.vx_steps.specs.Roles.{crew_size};
-ghost use Rattle.vx_layout.specs.Groups.{group_at};
-ghost use Rattle.vx_exec.specs.Sizes.{run_model, Sizes};
-ghost use Rattle.vx_exec.specs.Job.{model_of};
+ghost use Rattle.vx_exec.specs.Job.{model_of, sizes_of};
 ghost use Rattle.vx_exec.specs.Counts.{is_wanted, counts_in};
-ghost use Rattle.vx_exec.specs.Runs.{CountedInRounds, fault_reported, ComesTo, IsRunOf, IfDone, IsTrueOf, IsFirstReported, IsSetUp, RunFails, IsBadStepOf, NamesFirst, ScheduleFails, Scheduled, InRounds};
+ghost use Rattle.vx_exec.specs.Runs.{CountedInRounds, fault_reported, ComesTo, IsBadStepOf, NamesFirst, Scheduled, InRounds};
+ghost use Rattle.vx_exec.specs.Promise.{RunPromise, PromiseOnceSet, NothingElse, WhereSet};
 
 use crate::counted::RunCounts;
 use crate::crew::Crew;
 use crate::job::Job;
-use crate::ran::Ran;
+use crate::ran::RunOutcome;
 use crate::setup::job_of;
 use std::alloc::Global;
 use vx_catalog::Database;
@@ -32,7 +30,7 @@ use vx_operators::{Destination, Operator};
 use vx_ops::{Code, Fault};
 use vx_plan_nodes::Router;
 use vx_setup::{RunFault, Setup};
-use vx_steps::{Verdict, judge_rounds, judge_schedule};
+use vx_steps::{RunState, judge_rounds, judge_schedule};
 use vx_views::Rows;
 use vx_worker::Worker;
 
@@ -69,17 +67,17 @@ fn fault_of(fault: Fault) -> RunFault
 /// What workers of a run came to, with such a verdict.
 pub fn answer_of(
     workers: Vec<Worker<Operator, Destination>>,
-    verdict: Verdict,
-) -> Result<Ran, RunFault>
-    requires there { verdict ≡ Verdict.Done → 0 < length workers.items }
-    requires keeps { verdict ≡ Verdict.Done → (d : AWorker AnOperator ADestination) → (types : List ColType) × (post_of (sender_of (slice_index_or workers.items 0 d)) ≡ keeps types) }
-    requires own { verdict ≡ Verdict.Failed Passed → ⊥ }
+    verdict: RunState,
+) -> Result<RunOutcome, RunFault>
+    requires there { verdict ≡ RunState.Done → 0 < length workers.items }
+    requires keeps { verdict ≡ RunState.Done → (d : AWorker AnOperator ADestination) → (types : List ColType) × (post_of (sender_of (slice_index_or workers.items 0 d)) ≡ keeps types) }
+    requires own { verdict ≡ RunState.Failed Passed → ⊥ }
     ensures { ComesTo workers.items verdict result }
 {
     match verdict {
-        Verdict::Done => return Ok(Ran::Done(rows_of_root(workers))),
-        Verdict::Unfinished => return Ok(Ran::Unfinished),
-        Verdict::Failed(fault) => return Err(fault_of(fault)),
+        RunState::Done => return Ok(RunOutcome::Done(rows_of_root(workers))),
+        RunState::Unfinished => return Ok(RunOutcome::Unfinished),
+        RunState::Failed(fault) => return Err(fault_of(fault)),
     }
 }
 
@@ -90,12 +88,10 @@ fn run_job<R: Router>(
     router: &R,
     limit: u64,
     counts: &mut RunCounts,
-) -> Result<Ran, RunFault>
+) -> Result<RunOutcome, RunFault>
     requires allowed { is_allowed job.now.plan.now ≡ true }
     requires root { is_root_allowed job.now.plan.now ≡ true }
-    ensures done { IfOk result (IfDone (IsRunOf (R.route_of router.now) (resolved_of job.now.plan.now) job.now.database.now job.now.layout.groups.items)) }
-    ensures failed { IfErr result (IsTrueOf (resolved_of job.now.plan.now) job.now.database.now) }
-    ensures first { IfErr result (IsFirstReported (model_of (R.route_of router.now) job.now) (whole_plan job.now.plan.now)) }
+    ensures run { PromiseOnceSet (R.route_of router.now) NothingElse job.now.plan.now job.now.database.now (sizes_of job.now) result }
     ensures rounds { InRounds (R.route_of router.now) (model_of (R.route_of router.now) job.now) (whole_plan job.now.plan.now) limit result }
     ensures counted { is_wanted counts.old ≡ true
         → CountedInRounds (R.route_of router.now) (model_of (R.route_of router.now) job.now) (whole_plan job.now.plan.now) limit result (counts_in counts.new) }
@@ -114,15 +110,11 @@ fn schedule_job<R: Router>(
     job: &Job<'_>,
     router: &R,
     steps: &[u32],
-) -> Result<Ran, RunFault>
+) -> Result<RunOutcome, RunFault>
     requires allowed { is_allowed job.now.plan.now ≡ true }
     requires root { is_root_allowed job.now.plan.now ≡ true }
-    ensures done { IfOk result (IfDone (IsRunOf (R.route_of router.now) (resolved_of job.now.plan.now) job.now.database.now job.now.layout.groups.items)) }
-    ensures failed { IfErr result (λ e. IsTrueOf (resolved_of job.now.plan.now) job.now.database.now e
-        ⊎ IsBadStepOf steps.now (crew_size (group_at job.now.layout.groups.items) (whole_plan job.now.plan.now)) e) }
-    ensures first { IfErr result (λ e. IsFirstReported (model_of (R.route_of router.now) job.now) (whole_plan job.now.plan.now) e
-        ⊎ IsBadStepOf steps.now (crew_size (group_at job.now.layout.groups.items) (whole_plan job.now.plan.now)) e) }
-    ensures named { NamesFirst steps.now (crew_size (group_at job.now.layout.groups.items) (whole_plan job.now.plan.now)) result }
+    ensures run { PromiseOnceSet (R.route_of router.now) (IsBadStepOf steps.now) job.now.plan.now job.now.database.now (sizes_of job.now) result }
+    ensures named { NamesFirst steps.now (model_of (R.route_of router.now) job.now) (whole_plan job.now.plan.now) result }
     ensures scheduled { Scheduled (R.route_of router.now) (model_of (R.route_of router.now) job.now) (whole_plan job.now.plan.now) steps.now result }
 {
     job.meets();
@@ -143,15 +135,9 @@ pub fn run_rounds<R: Router>(
     setup: &Setup,
     router: &R,
     limit: u64,
-) -> Result<Ran, RunFault>
-    ensures done { IfOk result (IfDone (λ rows. (s : Sizes) × IsSetUp (resolved_of (typed_plan plan.now)) database.now setup.now s
-        × IsRunOf (R.route_of router.now) (resolved_of (typed_plan plan.now)) database.now s.groups rows)) }
-    ensures set { IfOk result (λ _. (s : Sizes) × IsSetUp (resolved_of (typed_plan plan.now)) database.now setup.now s) }
-    ensures refused { IfErr result (RunFails (resolved_of (typed_plan plan.now)) database.now setup.now) }
-    ensures first { (s : Sizes) → IsSetUp (resolved_of (typed_plan plan.now)) database.now setup.now s
-        → IfErr result (IsFirstReported (run_model (R.route_of router.now) (typed_plan plan.now) database.now s) (whole_plan (typed_plan plan.now))) }
-    ensures rounds { (s : Sizes) → IsSetUp (resolved_of (typed_plan plan.now)) database.now setup.now s
-        → InRounds (R.route_of router.now) (run_model (R.route_of router.now) (typed_plan plan.now) database.now s) (whole_plan (typed_plan plan.now)) limit result }
+) -> Result<RunOutcome, RunFault>
+    ensures promise { RunPromise (R.route_of router.now) NothingElse (typed_plan plan.now) database.now setup.now result }
+    ensures rounds { WhereSet (R.route_of router.now) (typed_plan plan.now) database.now setup.now (λ W p. InRounds (R.route_of router.now) W p limit result) }
 {
     let mut unread = RunCounts::unread(alloc);
     run_rounds_counted(alloc, plan, database, setup, router, limit, &mut unread)
@@ -168,17 +154,11 @@ pub fn run_rounds_counted<R: Router>(
     router: &R,
     limit: u64,
     counts: &mut RunCounts,
-) -> Result<Ran, RunFault>
-    ensures done { IfOk result (IfDone (λ rows. (s : Sizes) × IsSetUp (resolved_of (typed_plan plan.now)) database.now setup.now s
-        × IsRunOf (R.route_of router.now) (resolved_of (typed_plan plan.now)) database.now s.groups rows)) }
-    ensures set { IfOk result (λ _. (s : Sizes) × IsSetUp (resolved_of (typed_plan plan.now)) database.now setup.now s) }
-    ensures refused { IfErr result (RunFails (resolved_of (typed_plan plan.now)) database.now setup.now) }
-    ensures first { (s : Sizes) → IsSetUp (resolved_of (typed_plan plan.now)) database.now setup.now s
-        → IfErr result (IsFirstReported (run_model (R.route_of router.now) (typed_plan plan.now) database.now s) (whole_plan (typed_plan plan.now))) }
-    ensures rounds { (s : Sizes) → IsSetUp (resolved_of (typed_plan plan.now)) database.now setup.now s
-        → InRounds (R.route_of router.now) (run_model (R.route_of router.now) (typed_plan plan.now) database.now s) (whole_plan (typed_plan plan.now)) limit result }
-    ensures counted { is_wanted counts.old ≡ true → (s : Sizes) → IsSetUp (resolved_of (typed_plan plan.now)) database.now setup.now s
-        → CountedInRounds (R.route_of router.now) (run_model (R.route_of router.now) (typed_plan plan.now) database.now s) (whole_plan (typed_plan plan.now)) limit result (counts_in counts.new) }
+) -> Result<RunOutcome, RunFault>
+    ensures promise { RunPromise (R.route_of router.now) NothingElse (typed_plan plan.now) database.now setup.now result }
+    ensures rounds { WhereSet (R.route_of router.now) (typed_plan plan.now) database.now setup.now (λ W p. InRounds (R.route_of router.now) W p limit result) }
+    ensures counted { is_wanted counts.old ≡ true
+        → WhereSet (R.route_of router.now) (typed_plan plan.now) database.now setup.now (λ W p. CountedInRounds (R.route_of router.now) W p limit result (counts_in counts.new)) }
 {
     let job = job_of(alloc, plan.plan(), database, setup)?;
     run_job(alloc, &job, router, limit, counts)
@@ -193,18 +173,10 @@ pub fn run_scheduled<R: Router>(
     setup: &Setup,
     router: &R,
     steps: &[u32],
-) -> Result<Ran, RunFault>
-    ensures done { IfOk result (IfDone (λ rows. (s : Sizes) × IsSetUp (resolved_of (typed_plan plan.now)) database.now setup.now s
-        × IsRunOf (R.route_of router.now) (resolved_of (typed_plan plan.now)) database.now s.groups rows)) }
-    ensures set { IfOk result (λ _. (s : Sizes) × IsSetUp (resolved_of (typed_plan plan.now)) database.now setup.now s) }
-    ensures refused { IfErr result (ScheduleFails (resolved_of (typed_plan plan.now)) database.now setup.now steps.now) }
-    ensures first { (s : Sizes) → IsSetUp (resolved_of (typed_plan plan.now)) database.now setup.now s
-        → IfErr result (λ e. IsFirstReported (run_model (R.route_of router.now) (typed_plan plan.now) database.now s) (whole_plan (typed_plan plan.now)) e
-        ⊎ IsBadStepOf steps.now (crew_size (group_at s.groups) (whole_plan (typed_plan plan.now))) e) }
-    ensures named { (s : Sizes) → IsSetUp (resolved_of (typed_plan plan.now)) database.now setup.now s
-        → NamesFirst steps.now (crew_size (group_at s.groups) (whole_plan (typed_plan plan.now))) result }
-    ensures scheduled { (s : Sizes) → IsSetUp (resolved_of (typed_plan plan.now)) database.now setup.now s
-        → Scheduled (R.route_of router.now) (run_model (R.route_of router.now) (typed_plan plan.now) database.now s) (whole_plan (typed_plan plan.now)) steps.now result }
+) -> Result<RunOutcome, RunFault>
+    ensures promise { RunPromise (R.route_of router.now) (IsBadStepOf steps.now) (typed_plan plan.now) database.now setup.now result }
+    ensures named { WhereSet (R.route_of router.now) (typed_plan plan.now) database.now setup.now (λ W p. NamesFirst steps.now W p result) }
+    ensures scheduled { WhereSet (R.route_of router.now) (typed_plan plan.now) database.now setup.now (λ W p. Scheduled (R.route_of router.now) W p steps.now result) }
 {
     let job = job_of(alloc, plan.plan(), database, setup)?;
     schedule_job(alloc, &job, router, steps)

@@ -7,6 +7,7 @@ ghost use Rattle.vx_exec.specs.Job.{sizes_of};
 ghost use Rattle.vx_setup.specs.Setup.{first_missing, first_out_of_range};
 ghost use Rattle.vx_exec.specs.Setup.{tested, no_name, too_many_workers, size_missing, size_out_of_range, refusal_of, sizes_set, Gives};
 ghost use Rattle.vx_exec.specs.Runs.{IsSetUp, RunFails};
+ghost use Rattle.vx_values.specs.Limits.{max_workers};
 
 use crate::job::Job;
 use std::alloc::{AllocError, Global};
@@ -14,18 +15,7 @@ use vx_catalog::Database;
 use vx_layout::Layout;
 use vx_plan_nodes::TypedPlan;
 use vx_setup::{RunFault, Setup, is_within};
-
-// The most rows of a packet.
-const MOST_IN_PACKET: u32 = 4096;
-
-// The most rows of a morsel.
-const MOST_IN_MORSEL: u32 = 1_000_000;
-
-// The most packets by which a producer may run ahead.
-const MOST_SLACK: u32 = 1024;
-
-// The most workers of a plan.
-const MOST_WORKERS: u32 = 256;
+use vx_values::limits::{MAX_MORSEL_ROWS, MAX_PACKET_ROWS, MAX_SLACK, MAX_WORKERS};
 
 // This fault, if a test failed.
 fn fail_unless(is_right: bool, fault: RunFault) -> Result<(), RunFault>
@@ -60,9 +50,9 @@ fn test_ranges(alloc: Global, setup: &Setup, names: &[String]) -> Result<(), Run
 
 // So many workers are at most 256.
 fn test_workers(number: u32) -> Result<(), RunFault>
-    ensures { Gives (λ _. tt) result (tested (nat_le number 256) (too_many_workers number)) }
+    ensures { Gives (λ _. tt) result (tested (nat_le number max_workers) (too_many_workers number)) }
 {
-    fail_unless(number <= MOST_WORKERS, RunFault::TooManyWorkers { number })
+    fail_unless(number <= MAX_WORKERS, RunFault::TooManyWorkers { number })
 }
 
 // The job of a plan over a database of its catalog, or the first refusal of its setup.
@@ -82,16 +72,16 @@ fn job_in<'j>(
     test_missing(alloc, setup, names)?;
     test_ranges(alloc, setup, names)?;
     fail_unless(
-        is_within(MOST_IN_PACKET, setup.packet()),
+        is_within(MAX_PACKET_ROWS, setup.packet()),
         RunFault::BadPacket,
     )?;
     fail_unless(
-        is_within(MOST_IN_MORSEL, setup.morsel()),
+        is_within(MAX_MORSEL_ROWS, setup.morsel()),
         RunFault::BadMorsel,
     )?;
-    fail_unless(is_within(MOST_SLACK, setup.slack()), RunFault::BadSlack)?;
-    let groups = setup.groups(alloc, names)?;
-    let layout = Layout::of(alloc, groups, plan)?;
+    fail_unless(is_within(MAX_SLACK, setup.slack()), RunFault::BadSlack)?;
+    let worker_groups = setup.worker_groups(alloc, names)?;
+    let layout = Layout::of(alloc, worker_groups, plan)?;
     test_workers(layout.workers())?;
     let packet = setup.packet() as usize;
     let morsel = setup.morsel() as usize;

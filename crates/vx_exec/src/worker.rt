@@ -14,7 +14,7 @@ ghost use Rattle.vx_worker.specs.Intake.{source_of, IsFresh};
 ghost use Rattle.vx_worker.specs.Worker.{inputs_of as sources_of};
 ghost use Rattle.vx_steps.specs.Crews.{producer_duty, root_duty};
 ghost use Rattle.vx_check_rules.specs.Checked.{relations};
-ghost use Rattle.vx_layout.specs.Groups.{group_at};
+ghost use Rattle.vx_plan_nodes.specs.Workers.{worker_group_at};
 ghost use Rattle.vx_exec.specs.Job.{model_of};
 ghost use Rattle.vx_exec.specs.Part.{IsPartOf};
 ghost use Rattle.vx_exec.specs.Inputs.{inputs_of};
@@ -26,8 +26,8 @@ use std::alloc::{AllocError, Global};
 use vx_exchange::{Collector, Sender};
 use vx_operators::{Destination, Operator};
 use vx_plan_nodes::{ExchangeKind, TypedNode, output_types};
-use vx_ports::{Ending, Packet};
-use vx_rows::ColType;
+use vx_ports::{Packet, StreamEnd};
+use vx_values::ColType;
 use vx_views::Rows;
 use vx_worker::{ExchangeInput, Worker};
 
@@ -49,7 +49,7 @@ fn add_inputs(
     node: &TypedNode,
 ) -> Result<(), AllocError>
     ensures fresh { All IsFresh inputs.old.items → OnOk result (All IsFresh inputs.new.items) }
-    ensures sources { OnOk result (map source_of inputs.new.items ≡ map source_of inputs.old.items ++ inputs_of (group_at job.now.layout.groups.items) (plan_of node.now)) }
+    ensures sources { OnOk result (map source_of inputs.new.items ≡ map source_of inputs.old.items ++ inputs_of (worker_group_at job.now.layout.worker_groups.items) (plan_of node.now)) }
 {
     match node {
         TypedNode::Scan(_, _) => return Ok(()),
@@ -72,7 +72,7 @@ fn inputs_of(
     node: &TypedNode,
 ) -> Result<Vec<ExchangeInput>, AllocError>
     ensures fresh { IfOk result (λ v. All IsFresh v.items) }
-    ensures sources { IfOk result (λ v. map source_of v.items ≡ inputs_of (group_at job.now.layout.groups.items) (plan_of node.now)) }
+    ensures sources { IfOk result (λ v. map source_of v.items ≡ inputs_of (worker_group_at job.now.layout.worker_groups.items) (plan_of node.now)) }
 {
     let mut inputs = Vec::new(alloc);
     add_inputs(&mut inputs, job, node)?;
@@ -93,7 +93,7 @@ fn closing_packets(
     let mut packets = Vec::new(alloc);
     for to in 0..consumers {
         let none = Rows::new(alloc, types)?;
-        packets.push(Packet::closing(exchange, place, to, Ending::Fault, none))?;
+        packets.push(Packet::closing(exchange, place, to, StreamEnd::Fault, none))?;
     }
     Ok(packets)
 }
@@ -107,7 +107,7 @@ pub fn root_worker(
     requires { IsPartOf job.now (outline_of node.now) }
     ensures duty { IfOk result (λ w. (hash : List ℕ → Row → ℕ → ℕ) → duty w ≡ root_duty (model_of hash job.now) (plan_of node.now)) }
     ensures new { IfOk result (λ w. IsNew job.now w) }
-    ensures inputs { IfOk result (λ w. sources_of w ≡ inputs_of (group_at job.now.layout.groups.items) (plan_of node.now)) }
+    ensures inputs { IfOk result (λ w. sources_of w ≡ inputs_of (worker_group_at job.now.layout.worker_groups.items) (plan_of node.now)) }
 {
     let tree = tree_of(alloc, job, node, 0)?;
     let collector = Collector::new(alloc, output_types(node))?;
@@ -136,7 +136,7 @@ pub fn producer(
     ensures duty { IfOk result (λ w. (hash : List ℕ → Row → ℕ → ℕ)
         → duty w ≡ producer_duty (model_of hash job.now) exchange (kind_of kind.now) (plan_of node.now) place) }
     ensures new { IfOk result (λ w. IsNew job.now w) }
-    ensures inputs { IfOk result (λ w. sources_of w ≡ inputs_of (group_at job.now.layout.groups.items) (plan_of node.now)) }
+    ensures inputs { IfOk result (λ w. sources_of w ≡ inputs_of (worker_group_at job.now.layout.worker_groups.items) (plan_of node.now)) }
 {
     let tree = tree_of(alloc, job, node, place)?;
     let types = output_types(node);

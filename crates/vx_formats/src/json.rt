@@ -20,7 +20,7 @@ use vx_plan_nodes::{
     Binary, Claim, Columns, Exchange, ExchangeKind, Name, Part, Phase, Route, Size, TypedNode,
     TypedPlan, Unary,
 };
-use vx_rows::ColType;
+use vx_values::ColType;
 
 type Members = Map<String, Json>;
 

@@ -3,11 +3,11 @@ use Rattle.std.proofs.Common.{◌≡◌, ℕ, ◌+◌, ◌≤◌, pos, negsuc, �
 use Rattle.std.proofs.lemmas.List.{length-append}
 use Rattle.std.proofs.lemmas.Int.{ints}
 use Rattle.vx_values.specs.Values.{Val, num, text, Row, val_cmp, value_at}
-use Rattle.vx_rows.specs.Bags.{total}
+use Rattle.vx_values.specs.Bags.{total}
 use Rattle.vx_plan_nodes.specs.Plan.{Aggregate, least, greatest, sum, count_rows}
 use Rattle.vx_plan_nodes.specs.Serial.{smaller, larger, least_of, greatest_of, sum_of, count_of, above_zero, below_zero, aggregate_of}
 use Rattle.std.proofs.lemmas.Cmp.{upto}
-use Rattle.vx_rows.proofs.Compare.{val_cmp_total, val_cmp-same, not_gt-le, le-not_gt, le-reverse}
+use Rattle.vx_values.proofs.Compare.{val_cmp_total, val_cmp-same, not_gt-le, le-not_gt, le-reverse}
 use Rattle.vx_grouping.specs.Groups.{number_of, next_value, advance, counted, held_of}
 
 val-trans : (a b c : Val) → is_le (val_cmp a b) ≡ true → is_le (val_cmp b c) ≡ true → is_le (val_cmp a c) ≡ true

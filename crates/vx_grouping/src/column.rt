@@ -18,7 +18,7 @@ use crate::operands::{CellOperand, NumberOperand};
 use crate::sum::WideSum;
 use std::alloc::{AllocError, Global};
 use vx_plan_nodes::Aggregate;
-use vx_rows::{Cell, Value};
+use vx_values::{Cell, Value};
 use vx_views::Chunk;
 
 /// The least or the greatest values of the groups. They are numbers as long as all that came are.

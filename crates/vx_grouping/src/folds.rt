@@ -10,7 +10,7 @@ use crate::fold::Fold;
 use crate::operands::{CellOperand, NumberOperand};
 use crate::sum::WideSum;
 use std::alloc::{AllocError, Global};
-use vx_rows::{Cell, Value, compare_cells};
+use vx_values::{Cell, Value, compare_cells};
 use vx_views::Chunk;
 
 /// Which of the values of a group is kept.

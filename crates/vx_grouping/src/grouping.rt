@@ -22,8 +22,9 @@ use std::marker::Model;
 use vx_algebra::types_at;
 use vx_keys::Keys;
 use vx_plan_nodes::Aggregate;
-use vx_rows::{Cell, ColType, Table};
+use vx_rows::Table;
 use vx_seeds::KeySeed;
+use vx_values::{Cell, ColType};
 use vx_views::{Chunk, Rows};
 
 // How many rows are numbered at once: few enough that their numbers stay in the cache until each aggregate has read them.

@@ -10,7 +10,7 @@ ghost use Rattle.vx_grouping.specs.Groups.{number_of};
 use std::alloc::{AllocError, Global};
 use vx_algebra::cell_or_zero;
 use vx_keys::IntColumn;
-use vx_rows::{Cell, Value};
+use vx_values::{Cell, Value};
 use vx_views::Chunk;
 
 /// A column of a chunk that has numbers. They are read once, in one loop for each way in which a column may lie, so that no

@@ -7,7 +7,7 @@ use Rattle.std.proofs.lemmas.List.Sums.{passes_at_first}
 use Rattle.indexmap.specs.IndexSet.{insert_all}
 use Rattle.vx_values.specs.Values.{Row, row_eq, pick}
 use Rattle.vx_plan_nodes.specs.Serial.{firsts, group_keys}
-use Rattle.vx_rows.specs.Equality.{row_eq-same}
+use Rattle.vx_values.specs.Equality.{row_eq-same}
 use Rattle.vx_rows.specs.Lists.{each_below}
 use Rattle.vx_rows.proofs.Below.{each_below-next, length-each_below, get_or-each_below}
 use Rattle.vx_join.specs.Build.{IsIndex, parts_of, places_of}

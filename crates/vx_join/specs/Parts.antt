@@ -3,8 +3,8 @@ use Rattle.std.specs.Prelude.{ℕ, List, [], ◌∷◌, map}
 use Rattle.vx_rows.specs.Lists.{each_below}
 use Rattle.vx_join.specs.declared.key_places.KeyPlaces.{KeyPlaces}
 use Rattle.vx_join.specs.declared.key_places.KeyPlaces.TheVariants.{Single, Lists}
-use Rattle.vx_join.specs.declared.key_places.Places.{Places}
-use Rattle.vx_join.specs.declared.key_places.Places.TheVariants as of_key
+use Rattle.vx_join.specs.declared.key_places.KeyPositions.{KeyPositions}
+use Rattle.vx_join.specs.declared.key_places.KeyPositions.TheVariants as of_key
 
 -- for each key, by its number, the places of its rows
 abbrev pub places_in : KeyPlaces → List (List ℕ)
@@ -12,7 +12,7 @@ places_in (Single n) = each_below n (λ k. k ∷ [])
 places_in (Lists v) = map (λ p. p.items) v.items
 
 -- the places of the rows of one key
-abbrev pub listed_places : Places → List ℕ
+abbrev pub listed_places : KeyPositions → List ℕ
 listed_places of_key.None = []
 listed_places (of_key.One k) = k ∷ []
 listed_places (of_key.Listed s) = s.now

@@ -8,7 +8,7 @@ use std::alloc::{AllocError, Global};
 use std::marker::Model;
 use std::sync::Arc;
 use vx_merging::push_beside;
-use vx_rows::ColType;
+use vx_values::ColType;
 use vx_views::{Chunk, Rows};
 
 // So many rows in a run, and it is worth a chunk of its own.
@@ -16,7 +16,7 @@ const RUN: usize = 16;
 
 /// Rows in several chunks, with the place behind the last row of each chunk; and how many rows were joined to them so far, in
 /// how many runs that lie in one chunk each.
-pub(crate) struct Parts {
+pub(crate) struct BuildChunks {
     rows: Rows,
     ends: Vec<usize>,
     joined: usize,
@@ -24,9 +24,9 @@ pub(crate) struct Parts {
 }
 
 // By hand, so that the drops of its parts are made and proved here once, and not in each function that drops one.
-impl Drop for Parts {
+impl Drop for BuildChunks {
     fn drop(self) {
-        let Parts {
+        let BuildChunks {
             rows: _,
             ends: _,
             joined: _,
@@ -35,7 +35,7 @@ impl Drop for Parts {
     }
 }
 
-impl Model for Parts {
+impl Model for BuildChunks {
     ghost use Rattle.vx_rows.specs.View.{RowsView};
 
     ghost Value = { RowsView };
@@ -43,13 +43,13 @@ impl Model for Parts {
     ghost view = { λ p. p.rows };
 }
 
-impl Parts {
+impl BuildChunks {
     // These rows. No cell is copied.
-    fn of(alloc: Global, rows: &Rows) -> Result<Parts, AllocError>
+    fn of(alloc: Global, rows: &Rows) -> Result<BuildChunks, AllocError>
         ensures { IfOk result (λ p. p ≡ rows.now) }
     {
         let ends = ends_of(alloc, rows.chunks())?;
-        Ok(Parts {
+        Ok(BuildChunks {
             rows: rows.slice(alloc, 0, rows.len())?,
             ends,
             joined: 0,
@@ -72,7 +72,7 @@ impl Parts {
 /// that are joined to them lie in runs: each run is a chunk. Where they do not, all rows are copied, once, into one table.
 pub(crate) enum BuildRows {
     One(Chunk),
-    Several(Parts),
+    Several(BuildChunks),
 }
 
 // By hand, so that the drops of its parts are made and proved here once, and not in each function that drops one.
@@ -94,7 +94,7 @@ impl BuildRows {
         if chunks.len() == 1 {
             return Ok(BuildRows::One(chunks[0].share(alloc)?));
         }
-        Ok(BuildRows::Several(Parts::of(alloc, rows)?))
+        Ok(BuildRows::Several(BuildChunks::of(alloc, rows)?))
     }
 
     /// The types of the columns.

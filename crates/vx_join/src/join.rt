@@ -10,12 +10,12 @@ ghost use Rattle.vx_join.specs.Parts.{places_in, listed_places};
 ghost use Rattle.vx_keys.specs.Matched.{matched};
 
 use crate::build_rows::BuildRows;
-use crate::key_places::{KeyPlaces, Places};
+use crate::key_places::{KeyPlaces, KeyPositions};
 use std::alloc::{AllocError, Global};
 use std::marker::Model;
 use vx_keys::Keys;
-use vx_rows::ColType;
 use vx_seeds::KeySeed;
+use vx_values::ColType;
 use vx_views::{Chunk, Rows};
 
 // How many rows a probe looks up at once.
@@ -59,7 +59,7 @@ impl Model for Build {
 
 // Places of left rows, and beside each that of a right row.
 #[derive(Drop)]
-struct Pairs {
+struct JoinedPositions {
     lefts: Vec<usize>,
     rights: Vec<usize>,
 }
@@ -77,7 +77,7 @@ fn block_end(from: usize, count: usize) -> usize
 }
 
 // Adds the place of a left row, and beside it that of a right row.
-fn push_pair(pairs: &mut Pairs, left: usize, right: usize) -> Result<(), AllocError>
+fn push_pair(pairs: &mut JoinedPositions, left: usize, right: usize) -> Result<(), AllocError>
     ensures lefts { OnOk result (pairs.new.lefts.items ≡ pairs.old.lefts.items ++ left ∷ []) }
     ensures rights { OnOk result (pairs.new.rights.items ≡ pairs.old.rights.items ++ right ∷ []) }
 {
@@ -87,7 +87,7 @@ fn push_pair(pairs: &mut Pairs, left: usize, right: usize) -> Result<(), AllocEr
 }
 
 // Adds the place of a left row, beside each of the places of a list.
-fn push_listed(pairs: &mut Pairs, left: usize, places: &[usize]) -> Result<(), AllocError>
+fn push_listed(pairs: &mut JoinedPositions, left: usize, places: &[usize]) -> Result<(), AllocError>
     ensures lefts { OnOk result (pairs.new.lefts.items ≡ pairs.old.lefts.items ++ map (λ _. left) places.now) }
     ensures rights { OnOk result (pairs.new.rights.items ≡ pairs.old.rights.items ++ places.now) }
 {
@@ -98,14 +98,18 @@ fn push_listed(pairs: &mut Pairs, left: usize, places: &[usize]) -> Result<(), A
 }
 
 // Adds the place of a left row, beside each of the places of the right rows of a key.
-fn push_pairs(pairs: &mut Pairs, left: usize, places: Places<'_>) -> Result<(), AllocError>
+fn push_pairs(
+    pairs: &mut JoinedPositions,
+    left: usize,
+    places: KeyPositions<'_>,
+) -> Result<(), AllocError>
     ensures lefts { OnOk result (pairs.new.lefts.items ≡ pairs.old.lefts.items ++ map (λ _. left) (listed_places places.entry)) }
     ensures rights { OnOk result (pairs.new.rights.items ≡ pairs.old.rights.items ++ listed_places places.entry) }
 {
     match places {
-        Places::None => Ok(()),
-        Places::One(place) => push_pair(pairs, left, place),
-        Places::Listed(places) => push_listed(pairs, left, places),
+        KeyPositions::None => Ok(()),
+        KeyPositions::One(place) => push_pair(pairs, left, place),
+        KeyPositions::Listed(places) => push_listed(pairs, left, places),
     }
 }
 
@@ -176,7 +180,7 @@ impl Build {
     }
 
     // The places of the rows whose key has this number, or of no rows where no key has it.
-    fn matches(&self, number: usize) -> Places<'_>
+    fn matches(&self, number: usize) -> KeyPositions<'_>
         ensures { (key : Row) → number ≡ position_or_len (row_eq key) (group_keys self.now.columns self.now.rows) → listed_places result ≡ places_of self.now.columns key self.now.rows }
     {
         self.parts.get(number)
@@ -186,7 +190,7 @@ impl Build {
     // pairs or more, and returns the place behind them.
     fn pair_numbers(
         &self,
-        pairs: &mut Pairs,
+        pairs: &mut JoinedPositions,
         from: usize,
         to: usize,
         numbers: &[usize],
@@ -218,7 +222,7 @@ impl Build {
     // The same for a block of rows of a chunk.
     fn pair_block(
         &self,
-        pairs: &mut Pairs,
+        pairs: &mut JoinedPositions,
         chunk: &Chunk,
         columns: &[usize],
         from: usize,
@@ -259,7 +263,7 @@ impl Build {
         ensures more { IfOk result (λ n. length joined.old.rows < most → 0 < length chunk.now.rows → 0 < n) }
     {
         let room = most.saturating_sub(joined.len());
-        let mut pairs = Pairs {
+        let mut pairs = JoinedPositions {
             lefts: Vec::new(self.alloc),
             rights: Vec::new(self.alloc),
         };

@@ -28,7 +28,7 @@ impl Drop for KeyPlaces {
 
 /// The places of the rows of one key: no place, one, or those of a list.
 #[derive(Clone, Copy)]
-pub(crate) enum Places<'a> {
+pub(crate) enum KeyPositions<'a> {
     None,
     One(usize),
     Listed(&'a [usize]),
@@ -99,13 +99,13 @@ fn listed(lists: &[Vec<usize>], number: usize) -> &[usize]
 }
 
 // The one place of a key, of so many keys, or no place where there is no key with this number.
-fn single<'a>(count: usize, number: usize) -> Places<'a>
+fn single<'a>(count: usize, number: usize) -> KeyPositions<'a>
     ensures { listed_places result ≡ slice_index_or (each_below count (λ k. k ∷ [])) number [] }
 {
     if number >= count {
-        return Places::None;
+        return KeyPositions::None;
     }
-    Places::One(number)
+    KeyPositions::One(number)
 }
 
 impl KeyPlaces {
@@ -139,12 +139,12 @@ impl KeyPlaces {
     }
 
     /// The places of the rows of the key with this number, or none where there is no such key.
-    pub fn get(&self, number: usize) -> Places<'_>
+    pub fn get(&self, number: usize) -> KeyPositions<'_>
         ensures { listed_places result ≡ slice_index_or (places_in self.now) number [] }
     {
         match self {
             KeyPlaces::Single(count) => single(*count, number),
-            KeyPlaces::Lists(lists) => Places::Listed(listed(lists.as_slice(), number)),
+            KeyPlaces::Lists(lists) => KeyPositions::Listed(listed(lists.as_slice(), number)),
         }
     }
 }

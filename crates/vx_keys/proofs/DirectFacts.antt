@@ -9,7 +9,7 @@ use Rattle.std.proofs.lemmas.List.{length-map, get_or-map, get_or_past, get_or_a
 use Rattle.std.proofs.Math.Seq.{get_or-append_seam}
 use Rattle.std.proofs.lemmas.Map.Keys.{IsDistinct-from_apart}
 use Rattle.vx_values.specs.Values.{row_eq}
-use Rattle.vx_rows.proofs.ClashFacts.{position-none, position-is}
+use Rattle.vx_values.proofs.ClashFacts.{position-none, position-is}
 use Rattle.vx_keys.specs.Columns.{number_key}
 use Rattle.vx_keys.specs.Direct.{direct_key, IsTable}
 use Rattle.vx_keys.proofs.MadeFacts.{numbers-same}

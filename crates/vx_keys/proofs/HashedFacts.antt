@@ -12,7 +12,7 @@ use Rattle.vx_values.specs.Types.{type_of, type_at, Fits}
 use Rattle.vx_values.specs.declared.value.Cell.{Cell}
 use Rattle.vx_values.specs.ValueView.{cell_val}
 use Rattle.vx_values.specs.Values.{Val, Row, num, val_cmp, row_eq, value_at, pick}
-use Rattle.vx_rows.specs.Equality.{row_eq-same, val_cmp-same, val_cmp_total, is_eq-Equal}
+use Rattle.vx_values.specs.Equality.{row_eq-same, val_cmp-same, val_cmp_total, is_eq-Equal}
 use Rattle.vx_rows.specs.View.{HasTypes, RowsView}
 use Rattle.vx_rows.proofs.Below.{all_at, all_here}
 use Rattle.vx_keys.proofs.KeyFacts.{row_eq-refl, none-distinct}

@@ -10,7 +10,7 @@ use Rattle.std.proofs.lemmas.Map.Made.{IsDistinct-from_count}
 use Rattle.indexmap.specs.IndexSet.{insert_key}
 use Rattle.vx_values.specs.Values.{Row, row_eq, pick}
 use Rattle.vx_plan_nodes.specs.Serial.{firsts, group_keys, of_key}
-use Rattle.vx_rows.specs.Equality.{row_eq-same, row_eq-laws}
+use Rattle.vx_values.specs.Equality.{row_eq-same, row_eq-laws}
 
 pub row_eq-refl : (x : Row) → row_eq x x ≡ true
 row_eq-refl x = row_eq-laws.refl x

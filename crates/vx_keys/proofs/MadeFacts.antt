@@ -13,7 +13,7 @@ use Rattle.std.proofs.lemmas.List.Folds.{list_any_none}
 use Rattle.std.proofs.lemmas.Map.Keys.{IsDistinct-cons, IsDistinct-head, IsDistinct-tail, apart_from_distinct}
 use Rattle.indexmap.specs.IndexSet.{insert_key}
 use Rattle.vx_values.specs.Values.{Val, num, text, Row, row_eq, value_at}
-use Rattle.vx_rows.specs.Equality.{row_eq-same}
+use Rattle.vx_values.specs.Equality.{row_eq-same}
 use Rattle.vx_keys.specs.Columns.{number_key, text_key, owned_key}
 use Rattle.vx_keys.proofs.KeyFacts.{row_eq-refl, eq-swap, none-distinct}
 

@@ -6,9 +6,9 @@ use Rattle.std.proofs.lemmas.Bool.{cases_lt}
 use Rattle.std.proofs.lemmas.List.{get_or-map, length-map, length-append}
 use Rattle.std.proofs.lemmas.List.Folds.{length-flat_map-take}
 use Rattle.vx_values.specs.Values.{Row, row_cmp, pick}
-use Rattle.vx_rows.specs.Order.{compare_on, sorted}
+use Rattle.vx_values.specs.Order.{compare_on, sorted}
 use Rattle.vx_rows.specs.View.{RowsView}
-use Rattle.vx_rows.proofs.Order.{NoFall, sorted_from, sorted_neighbours, not_sorted}
+use Rattle.vx_values.proofs.Order.{NoFall, sorted_from, sorted_neighbours, not_sorted}
 use Rattle.vx_views.specs.Chunks.{all_rows}
 use Rattle.vx_views.proofs.Facts.{length-slice, get_or-slice}
 use Rattle.vx_views.proofs.Whole.{next-rows, spot-row}

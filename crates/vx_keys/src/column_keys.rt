@@ -16,8 +16,9 @@ use indexmap::IndexSet;
 use std::alloc::{AllocError, Global};
 use std::hash::{BuildHasher, Hash, Hasher};
 use std::marker::Model;
-use vx_rows::{Cell, ColType, Table};
+use vx_rows::Table;
 use vx_seeds::KeySeed;
+use vx_values::{Cell, ColType};
 use vx_views::Chunk;
 
 /// Keys of one list of types, kept by columns, and beside them the hash of each. No two have the same hash: where a new key

@@ -13,8 +13,9 @@ use crate::column_keys::{ColumnKeys, key_types};
 use crate::row_keys::RowKeys;
 use std::alloc::{AllocError, Global};
 use std::marker::Model;
-use vx_rows::{Cell, Row};
+use vx_rows::Row;
 use vx_seeds::KeySeed;
+use vx_values::Cell;
 use vx_views::Chunk;
 
 // Keys by columns, or each as a row of its own.

@@ -17,8 +17,8 @@ use crate::row_keys::RowKeys;
 use crate::text_keys::TextKeys;
 use std::alloc::{AllocError, Global};
 use std::marker::Model;
-use vx_rows::Cell;
 use vx_seeds::KeySeed;
+use vx_values::Cell;
 use vx_views::{Chunk, Rows};
 
 // Keys of one number each, of one text each, or any others.

@@ -3,12 +3,12 @@
 ghost use Rattle.std.specs.Prelude.{◌≡◌, ◌<◌, ℕ, suc, List, map, length, true, false};
 ghost use Rattle.std.specs.Ordering.{is_lt};
 ghost use Rattle.vx_values.specs.Values.{Row as Cells, pick};
-ghost use Rattle.vx_rows.specs.Order.{compare_on, sorted};
+ghost use Rattle.vx_values.specs.Order.{compare_on, sorted};
 ghost use Rattle.vx_rows.specs.View.{row, AreColumns};
 
 use crate::columns::IntColumn;
 use std::cmp::Ordering;
-use vx_rows::compare_cells;
+use vx_values::compare_cells;
 use vx_views::{Chunk, Rows};
 
 // How many numbers are read and compared at once.

@@ -12,8 +12,9 @@ ghost use Rattle.vx_keys.specs.Numbers.{numbers_of};
 use indexmap::IndexSet;
 use std::alloc::{AllocError, Global};
 use std::marker::Model;
-use vx_rows::{Cell, Row, Table};
+use vx_rows::{Row, Table};
 use vx_seeds::KeySeed;
+use vx_values::Cell;
 use vx_views::Chunk;
 
 /// Keys that are hashed value by value.

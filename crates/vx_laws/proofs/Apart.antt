@@ -4,9 +4,9 @@ use Rattle.std.specs.List.{list_all}
 use Rattle.std.specs.Ordering.{ordering_reverse}
 use Rattle.std.proofs.lemmas.Bool.{eqb-false}
 use Rattle.vx_values.specs.Values.{Val, num, Row, val_cmp, row_eq, value_at, pick}
-use Rattle.vx_rows.specs.Order.{agree, sorted, compare_on}
-use Rattle.vx_rows.specs.Bags.{total, count, SameRows}
-use Rattle.vx_rows.specs.Keys.{HasKey}
+use Rattle.vx_values.specs.Order.{agree, sorted, compare_on}
+use Rattle.vx_values.specs.Bags.{total, count, SameRows}
+use Rattle.vx_values.specs.Keys.{HasKey}
 use Rattle.vx_plan_nodes.specs.Plan.{Route, Aggregate, least, greatest, sum, count_rows}
 use Rattle.vx_plan_nodes.specs.Serial.{firsts, group_row, group_fits, of_key, aggregate_of, fits, sum_of, count_of, above_zero, below_zero, least_of, greatest_of, smaller, larger, first_or_none}
 use Rattle.vx_values.specs.Types.{fits_64}
@@ -17,7 +17,7 @@ use Rattle.vx_check_rules.specs.Claims.{InItsStream}
 use Rattle.vx_laws.proofs.Bags.{and-left, and-right, and-both, when, total-map, total-filter, total-ext, total-zero, total-joined, across-ext, SameRows-all, SameRows-sym}
 use Rattle.vx_laws.proofs.Parts.{list_all-weaken}
 use Rattle.vx_laws.proofs.Keys.{agree-within, agree-at, one-if-mono}
-use Rattle.vx_rows.proofs.Compare.{val_cmp_total, val_cmp-same, row_eq-same, row_eq-refl, row_eq-laws, is_eq-Equal, le-reverse, not_gt-le, le-not_gt, agree-both}
+use Rattle.vx_values.proofs.Compare.{val_cmp_total, val_cmp-same, row_eq-same, row_eq-refl, row_eq-laws, is_eq-Equal, le-reverse, not_gt-le, le-not_gt, agree-both}
 use Rattle.std.proofs.lemmas.Cmp.{upto, tied_itself}
 use Rattle.vx_laws.proofs.Orders.{list_all-filter, sorted-filter}
 use Rattle.vx_laws.proofs.Join.{total-all-ext, total-all-le, across-only}

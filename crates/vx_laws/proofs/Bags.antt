@@ -4,7 +4,7 @@ use Rattle.std.specs.List.{list_all}
 use Rattle.std.proofs.lemmas.Bool.{eqb-false}
 pub use Rattle.vx_values.proofs.Booleans.{and-left, and-right, and-both}
 use Rattle.vx_values.specs.Values.{Row}
-use Rattle.vx_rows.specs.Bags.{total, SameRows}
+use Rattle.vx_values.specs.Bags.{total, SameRows}
 use Rattle.vx_plan_nodes.specs.Streams.{Streams, across, joined, bearing, Dealt}
 
 abbrev pub when : Bool → ℕ → ℕ

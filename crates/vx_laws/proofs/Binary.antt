@@ -2,7 +2,7 @@
 use Rattle.std.proofs.Common.{◌≡◌, ℕ, ◌+◌, ◌-◌, ◌<◌, ◌==◌, nat_lt, nat_le, Bool, true, false, cond, List, [], ◌∷◌, ◌++◌, map, refl, sym, ap, ◌∙◌, subst, arith, true≢false, Some, None, eqb-true, ltb-true, lt-ltb}
 use Rattle.std.specs.List.{list_all}
 use Rattle.vx_values.specs.Values.{Row}
-use Rattle.vx_rows.specs.Bags.{total, SameRows}
+use Rattle.vx_values.specs.Bags.{total, SameRows}
 use Rattle.vx_plan_nodes.specs.Plan.{Route, Part, one, any, all, routed}
 use Rattle.vx_relations.specs.Catalog.{all_below}
 use Rattle.vx_plan_nodes.specs.Serial.{join_rows}

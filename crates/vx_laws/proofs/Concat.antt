@@ -3,13 +3,13 @@ use Rattle.std.proofs.Common.{⊎_elim, ◌&&◌, ◌||◌, ◌≡◌, ℕ, zero
 use Rattle.std.specs.List.{list_all}
 use Rattle.std.specs.Ordering.{ordering_then, ordering_reverse}
 use Rattle.vx_values.specs.Values.{Row, val_cmp, value_at, pick}
-use Rattle.vx_rows.specs.Order.{compare_on, sorted}
+use Rattle.vx_values.specs.Order.{compare_on, sorted}
 use Rattle.vx_plan_nodes.specs.Plan.{Plan, claim, size, is_one, Claim, Part, one, any, all, routed, by_hash, by_range, ExchangeKind, route_to, round, broadcast, gather, concat}
 use Rattle.vx_plan_nodes.specs.Runs.{is_concat}
 use Rattle.vx_check_rules.specs.Rules.{is_prefix, rises_by, goes_on}
 use Rattle.vx_plan_nodes.specs.Streams.{Streams, joined}
 use Rattle.vx_plan_nodes.specs.Routes.{Routing}
-use Rattle.vx_rows.proofs.Compare.{val_cmp_total}
+use Rattle.vx_values.proofs.Compare.{val_cmp_total}
 use Rattle.vx_laws.proofs.Bags.{and-left, and-right, and-both}
 use Rattle.vx_laws.proofs.Parts.{list_all-weaken, or-cases}
 use Rattle.vx_laws.proofs.Orders.{sorted-front}

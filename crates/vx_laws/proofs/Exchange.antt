@@ -2,8 +2,8 @@
 use Rattle.std.proofs.Common.{◌≡◌, ℕ, ◌<◌, ◌==◌, Bool, true, false, cond, List, [], ◌∷◌, filter, refl, sym, ap, ◌∙◌, subst, arith}
 use Rattle.std.specs.List.{list_all}
 use Rattle.vx_values.specs.Values.{Row, pick}
-use Rattle.vx_rows.specs.Order.{sorted}
-use Rattle.vx_rows.specs.Bags.{total, SameRows}
+use Rattle.vx_values.specs.Order.{sorted}
+use Rattle.vx_values.specs.Bags.{total, SameRows}
 use Rattle.vx_plan_nodes.specs.Plan.{Size, Route, ExchangeKind, route_to, round, broadcast, gather, concat}
 use Rattle.vx_plan_nodes.specs.Streams.{Streams, joined, Dealt, across}
 use Rattle.vx_plan_nodes.specs.Routes.{Routing, Sends}

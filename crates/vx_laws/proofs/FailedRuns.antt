@@ -12,7 +12,7 @@ use Rattle.vx_laws.specs.Samples.{large, summing, summer, FailedRun}
 use Rattle.vx_ops.specs.declared.fault.Code.TheVariants.{Overflow}
 use Rattle.vx_ops.specs.declared.fault.Fault.{Fault}
 use Rattle.vx_ops.specs.declared.fault.Fault.TheVariants.{Own}
-use Rattle.vx_ops.specs.declared.fault.Over.TheVariants.{Ended, Failed}
+use Rattle.vx_ops.specs.declared.fault.StreamState.TheVariants.{Ended, Failed}
 use Rattle.vx_ops.specs.Begun.{all_of, begun_whole, begun_nothing}
 use Rattle.vx_laws.proofs.Decks.{past-once}
 

@@ -1,10 +1,10 @@
 -- The other forms say the same.
 use Rattle.std.proofs.Common.{◌≡◌, ℕ, ◌<◌, ◌≤◌, true, List, arith, is_le}
 use Rattle.vx_values.specs.Values.{Val, Row, val_cmp, value_at}
-use Rattle.vx_rows.specs.Bags.{count}
+use Rattle.vx_values.specs.Bags.{count}
 use Rattle.vx_plan_nodes.specs.Plan.{Route, by_hash, by_range}
 use Rattle.vx_plan_nodes.specs.Routes.{range_consumer, sends_by}
-use Rattle.vx_rows.proofs.KeyFacts.{to-key, from-key}
+use Rattle.vx_values.proofs.KeyFacts.{to-key, from-key}
 use Rattle.vx_laws.specs.Forms.{FormsAgree}
 use Rattle.vx_laws.proofs.Keys.{count-mono}
 use Rattle.vx_laws.proofs.Apart.{val-trans}

@@ -4,7 +4,7 @@ use Rattle.std.proofs.lemmas.Bool.{not-true}
 use Rattle.std.specs.List.{list_all, list_any}
 use Rattle.vx_values.specs.Values.{Row, pick, row_eq}
 use Rattle.vx_values.specs.Types.{fits_64}
-use Rattle.vx_rows.specs.Bags.{SameRows, total}
+use Rattle.vx_values.specs.Bags.{SameRows, total}
 use Rattle.vx_relations.specs.Relation.{Relation}
 use Rattle.vx_plan_nodes.specs.Types.{well_formed, names_columns, width}
 use Rattle.vx_plan_nodes.specs.Plan.{Claim, Plan, scan, unary, binary, exchange, claim, size, Unary, group, partial, final, Aggregate, least, greatest, sum, count_rows}

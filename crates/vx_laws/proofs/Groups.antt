@@ -3,9 +3,9 @@ use Rattle.std.proofs.Common.{◌≡◌, ℕ, zero, suc, ◌<◌, ◌≤◌, ◌
 use Rattle.std.proofs.lemmas.Bool.{not-true}
 use Rattle.std.specs.List.{list_all}
 use Rattle.vx_values.specs.Values.{Row, row_eq, pick}
-use Rattle.vx_rows.specs.Order.{agree, sorted, compare_on}
-use Rattle.vx_rows.specs.Bags.{total, count, SameRows}
-use Rattle.vx_rows.specs.Keys.{HasKey}
+use Rattle.vx_values.specs.Order.{agree, sorted, compare_on}
+use Rattle.vx_values.specs.Bags.{total, count, SameRows}
+use Rattle.vx_values.specs.Keys.{HasKey}
 use Rattle.vx_plan_nodes.specs.Plan.{Route, Aggregate}
 use Rattle.vx_relations.specs.Catalog.{all_below}
 use Rattle.vx_plan_nodes.specs.Serial.{group_keys, group_row, group_fits, of_key, aggregate_of}
@@ -16,7 +16,7 @@ use Rattle.vx_check_rules.specs.Claims.{InItsStream}
 use Rattle.vx_laws.proofs.Bags.{and-left, and-right, and-both, total-map, total-joined, across-ext, SameRows-all, stream-all}
 use Rattle.vx_laws.proofs.Parts.{list_all-weaken, list_all-always}
 use Rattle.vx_laws.proofs.Keys.{agree-within}
-use Rattle.vx_rows.proofs.Compare.{row_eq-same, row_eq-refl, agree-both}
+use Rattle.vx_values.proofs.Compare.{row_eq-same, row_eq-refl, agree-both}
 use Rattle.vx_laws.proofs.Unary.{map-all, project-sorted}
 use Rattle.vx_laws.proofs.Copies.{copied-cons}
 use Rattle.vx_laws.proofs.Join.{total-all-ext, pick-left, value-left}

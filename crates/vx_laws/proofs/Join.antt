@@ -3,7 +3,7 @@ use Rattle.std.proofs.Common.{◌≡◌, ◌≢◌, ℕ, zero, suc, ◌+◌, ◌
 use Rattle.std.specs.List.{list_all}
 use Rattle.std.proofs.lemmas.Bool.{eqb-false}
 use Rattle.vx_values.specs.Values.{Row, val_cmp, value_at, pick}
-use Rattle.vx_rows.specs.Bags.{total, SameRows}
+use Rattle.vx_values.specs.Bags.{total, SameRows}
 use Rattle.vx_plan_nodes.specs.Plan.{Route}
 use Rattle.vx_relations.specs.Catalog.{all_below}
 use Rattle.vx_plan_nodes.specs.Serial.{matches, joined_with, join_rows}
@@ -14,7 +14,7 @@ use Rattle.vx_check_rules.specs.Claims.{InItsStream}
 use Rattle.vx_laws.proofs.Bags.{and-left, and-right, when, total-map, total-filter, total-flat_map, total-ext, total-add, total-zero, total-joined, across-ext}
 use Rattle.vx_laws.proofs.Parts.{or-cases}
 use Rattle.vx_laws.proofs.Keys.{is_eq-then}
-use Rattle.vx_rows.proofs.Compare.{val_cmp-same, is_eq-Equal}
+use Rattle.vx_values.proofs.Compare.{val_cmp-same, is_eq-Equal}
 
 -- columns of a left row with a right row behind it
 pub value-left : (l r : Row) (c : ℕ) → c < length l → value_at (l ++ r) c ≡ value_at l c

@@ -3,9 +3,9 @@ use Rattle.std.proofs.Common.{◌≡◌, ℕ, ◌≤◌, ◌==◌, Bool, true, f
 use Rattle.std.proofs.lemmas.List.Folds.{list_all-append}
 use Rattle.std.specs.List.{list_all}
 use Rattle.vx_values.specs.Values.{Row, row_cmp, pick}
-use Rattle.vx_rows.specs.Order.{compare_on, agree, sorted}
-use Rattle.vx_rows.specs.Bags.{total, count}
-use Rattle.vx_rows.specs.Keys.{HasKey}
+use Rattle.vx_values.specs.Order.{compare_on, agree, sorted}
+use Rattle.vx_values.specs.Bags.{total, count}
+use Rattle.vx_values.specs.Keys.{HasKey}
 use Rattle.vx_relations.specs.Catalog.{all_below}
 use Rattle.vx_plan_nodes.specs.Serial.{matches, joined_with, join_rows}
 use Rattle.vx_check_rules.specs.Rules.{within, covers, shifted, join_keys}
@@ -14,7 +14,7 @@ use Rattle.vx_rows.proofs.SortFacts.{eq-le}
 use Rattle.vx_laws.proofs.Bags.{and-left, and-right, and-both, when}
 use Rattle.vx_laws.proofs.Parts.{or-cases, list_all-weaken, list_all-always}
 use Rattle.vx_laws.proofs.Keys.{agree-within, count-mono, covers-key}
-use Rattle.vx_rows.proofs.Compare.{count-witness, agree-both, le-trans, row_eq-refl, row_eq-laws}
+use Rattle.vx_values.proofs.Compare.{count-witness, agree-both, le-trans, row_eq-refl, row_eq-laws}
 use Rattle.vx_laws.proofs.Orders.{list_all-filter}
 use Rattle.vx_laws.proofs.Unary.{map-all}
 use Rattle.vx_laws.proofs.Join.{pick-left, pick-shifted, pick-drop, total-swap, pair, join-total, total-all-le}

@@ -3,9 +3,9 @@ use Rattle.std.proofs.Common.{◌≡◌, ℕ, ◌+◌, ◌≤◌, Bool, true, fa
 use Rattle.std.specs.List.{list_all}
 use Rattle.std.specs.Ordering.{ordering_then}
 use Rattle.vx_values.specs.Values.{Row, val_cmp, value_at}
-use Rattle.vx_rows.specs.Order.{agree}
-use Rattle.vx_rows.specs.Bags.{count}
-use Rattle.vx_rows.specs.Keys.{HasKey}
+use Rattle.vx_values.specs.Order.{agree}
+use Rattle.vx_values.specs.Bags.{count}
+use Rattle.vx_values.specs.Keys.{HasKey}
 use Rattle.vx_check_rules.specs.Rules.{contains, within, covers}
 use Rattle.vx_relations.specs.Relation.{KeysHold}
 use Rattle.vx_laws.proofs.Bags.{and-left, and-right, and-both}

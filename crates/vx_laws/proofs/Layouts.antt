@@ -9,7 +9,8 @@ use Rattle.vx_worker.specs.Fragment.{RunModel}
 use Rattle.vx_worker.specs.Trace.{Trace, IsWell, Ends}
 use Rattle.vx_laws.specs.RunOf.{Known, RunOf}
 use Rattle.vx_plan_nodes.specs.Numbering.{is_fit, nodes, is_numbered, relation_in}
-use Rattle.vx_laws.specs.Layout.{workers_below, FlatRun, FlatIsRun, NumberedIsFit}
+use Rattle.vx_laws.specs.Layout.{FlatRun, FlatIsRun, NumberedIsFit}
+use Rattle.vx_plan_nodes.specs.Workers.{workers_below}
 use Rattle.vx_laws.proofs.Bags.{and-left, and-right, and-both}
 use Rattle.vx_laws.proofs.OneInput.{tests}
 

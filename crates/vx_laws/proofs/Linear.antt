@@ -1,8 +1,8 @@
 -- Operators whose output's totals are totals of the input: what they do to parts.
 use Rattle.std.proofs.Common.{◌≡◌, ℕ, ◌+◌, ◌<◌, Bool, true, false, cond, List, [], ◌∷◌, map, filter, refl, sym, ap, ◌∙◌, arith, is_le}
 use Rattle.vx_values.specs.Values.{Row}
-use Rattle.vx_rows.specs.Bags.{total, SameRows}
-use Rattle.vx_rows.specs.Order.{compare_on, insert_sorted, sort_on}
+use Rattle.vx_values.specs.Bags.{total, SameRows}
+use Rattle.vx_values.specs.Order.{compare_on, insert_sorted, sort_on}
 use Rattle.vx_plan_nodes.specs.Streams.{Streams, joined}
 use Rattle.vx_laws.proofs.Bags.{total-map, total-filter, total-joined, across-ext, when}
 

@@ -10,7 +10,8 @@ use Rattle.vx_worker.specs.Fragment.{RunModel, goes, fragment}
 use Rattle.vx_worker.specs.Trace.{Trace, IsWell, Ends}
 use Rattle.vx_ends.specs.Tasks.{keep}
 use Rattle.vx_laws.specs.RunOf.{Made}
-use Rattle.vx_laws.specs.Layout.{workers_below, FlatRun, NumberedRunDelivers}
+use Rattle.vx_laws.specs.Layout.{FlatRun, NumberedRunDelivers}
+use Rattle.vx_plan_nodes.specs.Workers.{workers_below}
 use Rattle.vx_laws.specs.Faults.{FailsBelow, FlatFails, NumberedFaultsAreReal}
 use Rattle.vx_laws.proofs.Bags.{and-left}
 use Rattle.vx_laws.proofs.Parts.{one-worker}

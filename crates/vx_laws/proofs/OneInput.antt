@@ -2,8 +2,8 @@
 use Rattle.std.proofs.Common.{◌≡◌, ℕ, ◌+◌, ◌<◌, ◌==◌, Bool, true, false, cond, ◌&&◌, ◌||◌, ⊎_elim, List, [], ◌∷◌, ◌++◌, map, length, refl, sym, ap, ◌∙◌, subst, arith, true≢false, Option, Some, None, ◌⊎◌, inl, inr, zero, suc, ◌≤◌, ap₂, slice_get}
 use Rattle.std.specs.List.{list_all, list_any}
 use Rattle.vx_values.specs.Values.{Row, pick}
-use Rattle.vx_rows.specs.Order.{sorted}
-use Rattle.vx_rows.specs.Bags.{SameRows}
+use Rattle.vx_values.specs.Order.{sorted}
+use Rattle.vx_values.specs.Bags.{SameRows}
 use Rattle.vx_relations.specs.Catalog.{all_below}
 use Rattle.vx_relations.specs.Relation.{Relation, KeysHold}
 use Rattle.vx_plan_nodes.specs.Plan.{Size, Part, one, any, all, routed, Claim, Plan, scan, unary, exchange, claim, size, Unary, group, ExchangeKind, route_to, round, broadcast, gather, target, is_one, partial, final, Aggregate, concat}

@@ -2,7 +2,7 @@
 use Rattle.std.proofs.Common.{◌≡◌, ℕ, Bool, true, false, cond, List, length, refl, sym, ◌∙◌, subst, true≢false, Some, None}
 use Rattle.std.specs.List.{list_all}
 use Rattle.vx_values.specs.Values.{Row}
-use Rattle.vx_rows.specs.Bags.{SameRows}
+use Rattle.vx_values.specs.Bags.{SameRows}
 use Rattle.vx_plan_nodes.specs.Plan.{Aggregate, Plan, scan, unary, binary, exchange}
 use Rattle.vx_plan_nodes.specs.Phases.{first_columns, merged, aggregates_eq, columns_eq, is_partial, is_open, opens, Parts, spoken, Gives, listed}
 use Rattle.vx_plan_nodes.specs.Serial.{group_keys, group_rows, group_fits, SerialResult, rows, overflow, or_overflow, after, serial}

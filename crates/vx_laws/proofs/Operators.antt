@@ -2,9 +2,9 @@
 use Rattle.std.proofs.Common.{◌≡◌, ◌==◌, ◌+◌, ℕ, ◌<◌, Bool, true, false, cond, ◌||◌, List, map, filter, length, refl, sym, ap, ◌∙◌, subst, arith, true≢false, Option, Some, None, IsSome}
 use Rattle.std.specs.List.{list_all}
 use Rattle.vx_values.specs.Values.{Row, pick}
-use Rattle.vx_rows.specs.Order.{agree, sorted, sort_on}
-use Rattle.vx_rows.specs.Bags.{SameRows}
-use Rattle.vx_rows.specs.Keys.{HasKey}
+use Rattle.vx_values.specs.Order.{agree, sorted, sort_on}
+use Rattle.vx_values.specs.Bags.{SameRows}
+use Rattle.vx_values.specs.Keys.{HasKey}
 use Rattle.vx_relations.specs.Relation.{Relation, KeysHold}
 use Rattle.vx_plan_nodes.specs.Plan.{Route, Claim, Plan, unary, claim, Unary, select, project, distinct, sort, group, plain, partial, final, Aggregate}
 use Rattle.vx_plan_nodes.specs.Types.{unary_width}

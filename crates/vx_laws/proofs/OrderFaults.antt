@@ -2,7 +2,7 @@
 use Rattle.vx_worker.specs.Fragment.{goes, RunModel, Reads, fragment, FragAbides}
 use Rattle.std.proofs.Common.{◌≡◌, ⊎_elim, ℕ, ◌<◌, Bool, true, false, ◌&&◌, List, [], ◌∷◌, ◌++◌, map, refl, sym, ap, ◌∙◌, subst, arith, true≢false}
 use Rattle.vx_values.specs.Values.{Row}
-use Rattle.vx_rows.specs.Order.{sorted}
+use Rattle.vx_values.specs.Order.{sorted}
 use Rattle.vx_plan_nodes.specs.Plan.{Size, ExchangeKind, target, Unary, select, project, distinct, sort, group, Binary, union, join, Plan, scan, unary, binary, exchange, size, claim, size_eq}
 use Rattle.vx_plan_nodes.specs.Types.{width, well_formed, names_columns, types_of}
 use Rattle.vx_check_rules.specs.Rules.{is_prefix, allowed, allowed_here}
@@ -20,7 +20,7 @@ use Rattle.vx_laws.specs.Faults.{FailsBelow, IsOrderFault, NoOrderFault}
 use Rattle.vx_ops.specs.declared.fault.Code.TheVariants.{Overflow, NoMemory, Unsorted, Stranger}
 use Rattle.vx_ops.specs.declared.fault.Fault.{Fault}
 use Rattle.vx_ops.specs.declared.fault.Fault.TheVariants.{Own, Passed}
-use Rattle.vx_ops.specs.declared.fault.Over.TheVariants.{Failed}
+use Rattle.vx_ops.specs.declared.fault.StreamState.TheVariants.{Failed}
 use Rattle.vx_laws.proofs.Settings.{set-given}
 use Rattle.vx_laws.proofs.Bags.{and-left, and-right}
 use Rattle.vx_laws.proofs.Parts.{size_eq-is, one-worker}

@@ -3,7 +3,7 @@ use Rattle.std.proofs.Common.{◌≡◌, ℕ, ◌<◌, ◌==◌, nat_lt, Bool, t
 use Rattle.std.specs.List.{list_all}
 use Rattle.std.specs.Ordering.{ordering_then}
 use Rattle.vx_values.specs.Values.{Row, val_cmp, value_at}
-use Rattle.vx_rows.specs.Order.{compare_on, sorted}
+use Rattle.vx_values.specs.Order.{compare_on, sorted}
 use Rattle.vx_plan_nodes.specs.Streams.{Streams, bearing, Dealt}
 use Rattle.vx_check_rules.specs.Rules.{is_prefix}
 use Rattle.vx_laws.proofs.Bags.{and-left, and-right, and-both}

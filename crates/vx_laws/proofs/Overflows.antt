@@ -2,8 +2,8 @@
 use Rattle.vx_worker.specs.Fragment.{goes, RunModel, Frag, Reads, fragment, FragAbides, FragMakes}
 use Rattle.std.proofs.Common.{◌≡◌, ◌⊎◌, inl, inr, ⊎_elim, ℕ, zero, suc, ◌<◌, ◌≤◌, ◌==◌, Bool, true, false, cond, not, ◌||◌, ◌&&◌, List, [], ◌∷◌, ◌++◌, map, length, Option, Some, None, IsSome, refl, sym, ap, ◌∙◌, subst, arith, append-nil, true≢false, eqb-true, eq-eqb, ◌+◌, flat_map, length-append}
 use Rattle.vx_values.specs.Values.{Row}
-use Rattle.vx_rows.specs.Order.{sorted}
-use Rattle.vx_rows.specs.Bags.{SameRows}
+use Rattle.vx_values.specs.Order.{sorted}
+use Rattle.vx_values.specs.Bags.{SameRows}
 use Rattle.vx_plan_nodes.specs.Plan.{Size, ExchangeKind, target, Claim, Unary, select, project, distinct, sort, group, Binary, union, join, Aggregate, Plan, scan, unary, binary, exchange, size, claim, size_eq, Phase, plain, partial, final, route_to, round, broadcast, gather, concat}
 use Rattle.vx_plan_nodes.specs.Types.{width, well_formed, names_columns}
 use Rattle.vx_plan_nodes.specs.Serial.{unary_rows, binary_rows, group_rows, SerialResult, rows, overflow, or_overflow, after, serial, IsOverflow, IsTooLong, HasTooLong, HasLargePart}
@@ -20,10 +20,11 @@ use Rattle.vx_worker.specs.Trace.{Trace, scan_morsels, ReadsAre, ReadsBegin, Fat
 use Rattle.vx_ends.specs.Tasks.{keep, send, Task}
 use Rattle.vx_laws.specs.RunOf.{ship_of, RunOf}
 use Rattle.vx_plan_nodes.specs.Numbering.{is_fit}
-use Rattle.vx_laws.specs.Faults.{IsReal, FailsBelow, OverflowIsReal}
+use Rattle.vx_laws.specs.Faults.{FailsBelow, OverflowIsReal}
+use Rattle.vx_plan_nodes.specs.Real.{IsReal}
 use Rattle.vx_ops.specs.declared.fault.Code.TheVariants.{Overflow}
 use Rattle.vx_ops.specs.declared.fault.Fault.TheVariants.{Own}
-use Rattle.vx_ops.specs.declared.fault.Over.TheVariants.{Failed}
+use Rattle.vx_ops.specs.declared.fault.StreamState.TheVariants.{Failed}
 use Rattle.vx_laws.proofs.Bags.{total-ones, and-left, and-right}
 use Rattle.vx_laws.proofs.Parts.{stream-most, some-workers, size_eq-is, one-worker}
 use Rattle.vx_laws.proofs.Orders.{Dealt-one, sorted-front}

@@ -3,9 +3,9 @@ use Rattle.std.proofs.Common.{◌≡◌, ℕ, ◌<◌, Bool, true, false, cond, 
 use Rattle.std.proofs.lemmas.List.Sorted.{IsPermutation-refl, IsPermutation-cons, IsPermutation-trans, IsPermutation-sym, IsPermutation-swap, sum_by-IsPermutation}
 use Rattle.std.proofs.lemmas.List.Recursion.{is_sum_by}
 use Rattle.vx_values.specs.Values.{Row, row_eq}
-use Rattle.vx_rows.specs.Bags.{total, count, SameRows}
+use Rattle.vx_values.specs.Bags.{total, count, SameRows}
 use Rattle.vx_laws.proofs.Apart.{remove_one, removed-total, flag-no, self-counts, nothing-same}
-use Rattle.vx_rows.proofs.Compare.{row_eq-same}
+use Rattle.vx_values.proofs.Compare.{row_eq-same}
 
 total-sum_by : (f : Row → ℕ) (xs : List Row) → total f xs ≡ sum_by f xs
 total-sum_by f xs = is_sum_by (total f) f refl (λ _ _. refl) xs

@@ -1,7 +1,7 @@
 -- The operators over one input by their phases: whole ones, partials and finals.
 use Rattle.std.proofs.Common.{◌≡◌, ℕ, Bool, true, false, not, ◌||◌, List, refl}
 use Rattle.vx_values.specs.Values.{Row}
-use Rattle.vx_rows.specs.Bags.{SameRows}
+use Rattle.vx_values.specs.Bags.{SameRows}
 use Rattle.vx_plan_nodes.specs.Plan.{plain, partial, final, Aggregate, Unary, select, project, distinct, sort, group, Plan}
 use Rattle.vx_plan_nodes.specs.Erase.{at_once}
 use Rattle.vx_plan_nodes.specs.Phases.{is_partial, is_final, is_open, is_final_of, phase_fits, phase_seen, unary_spoken, UnaryGives, unary_listed}

@@ -10,13 +10,13 @@ use Rattle.std.specs.List.{list_all}
 use Rattle.vx_values.specs.Lists.{is_some_list}
 use Rattle.vx_values.specs.Types.{fits_64}
 use Rattle.vx_values.specs.Values.{Val, num, Row, val_cmp, row_eq, value_at, pick}
-use Rattle.vx_rows.specs.Order.{agree}
-use Rattle.vx_rows.specs.Bags.{total, count, SameRows}
+use Rattle.vx_values.specs.Order.{agree}
+use Rattle.vx_values.specs.Bags.{total, count, SameRows}
 use Rattle.vx_plan_nodes.specs.Plan.{Aggregate, least, greatest, sum, count_rows}
 use Rattle.vx_plan_nodes.specs.Phases.{columns_from, first_columns, merging, merged, is_row_of, Parts}
 use Rattle.vx_plan_nodes.specs.Serial.{first_or_none, firsts, group_keys, group_rows, group_row, group_fits, of_key, aggregate_of, fits, sum_of, count_of, above_zero, below_zero, least_of, greatest_of}
 use Rattle.vx_plan_nodes.specs.Streams.{Streams, joined}
-use Rattle.vx_rows.proofs.Compare.{row_eq-same, row_eq-refl, row_eq-laws, val_cmp_total, val_cmp-same, is_eq-Equal}
+use Rattle.vx_values.proofs.Compare.{row_eq-same, row_eq-refl, row_eq-laws, val_cmp_total, val_cmp-same, is_eq-Equal}
 use Rattle.vx_laws.proofs.Bags.{total-ones, and-left, and-right, and-both, when, total-append, total-map, total-filter, total-flat_map, total-ext, total-zero, total-add, against, against-none, none-against, SameRows-all, SameRows-sym, SameRows-trans, SameRows-refl}
 use Rattle.vx_laws.proofs.Parts.{list_all-weaken}
 use Rattle.vx_laws.proofs.Join.{total-swap, total-all-ext, value-left, value-right}

@@ -23,7 +23,7 @@ use Rattle.vx_laws.proofs.JoinOrder.{join-sorted, wide, join-all, all-append, al
 use Rattle.vx_laws.proofs.Binary.{right_columns-is, left_columns-is, front-below}
 use Rattle.vx_laws.proofs.Orders.{sorted-front, sorted-none}
 use Rattle.vx_laws.proofs.WellFormed.{named}
-use Rattle.vx_rows.specs.Order.{sorted}
+use Rattle.vx_values.specs.Order.{sorted}
 use Rattle.vx_laws.proofs.Operators.{keeps, same-columns}
 
 -- ---- lists of ways

@@ -14,7 +14,7 @@ use Rattle.vx_worker.specs.Trace.{scan_morsels, IsWell}
 use Rattle.vx_ends.specs.Tasks.{keep, send}
 use Rattle.vx_laws.specs.RunOf.{ship_of}
 use Rattle.vx_laws.specs.Samples.{row, setting, plan, put, producer, consumer, SampleRun}
-use Rattle.vx_ops.specs.declared.fault.Over.TheVariants.{Ended}
+use Rattle.vx_ops.specs.declared.fault.StreamState.TheVariants.{Ended}
 use Rattle.vx_ops.specs.Begun.{begun_whole}
 use Rattle.vx_laws.proofs.Decks.{past-once}
 

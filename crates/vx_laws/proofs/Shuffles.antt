@@ -2,12 +2,12 @@
 use Rattle.std.proofs.Common.{◌≡◌, ℕ, zero, suc, ◌<◌, ◌≤◌, ◌==◌, nat_lt, Bool, true, false, cond, List, [], ◌∷◌, ◌++◌, map, refl, sym, ap, ◌∙◌, subst, arith, is_le, ne_eqb, eqb-true, append-nil}
 use Rattle.std.specs.List.{list_all}
 use Rattle.vx_values.specs.Values.{Row}
-use Rattle.vx_rows.specs.Order.{compare_on, sorted, insert_sorted, sort_on}
+use Rattle.vx_values.specs.Order.{compare_on, sorted, insert_sorted, sort_on}
 use Rattle.vx_plan_nodes.specs.Streams.{Streams, bearing, Dealt}
 use Rattle.vx_ends.proofs.Deals.{bearing-append, ranges-append}
 use Rattle.vx_laws.proofs.Bags.{and-left, and-right, and-both}
 use Rattle.vx_laws.proofs.Parts.{list_all-weaken}
-use Rattle.vx_rows.proofs.Compare.{le-trans}
+use Rattle.vx_values.proofs.Compare.{le-trans}
 use Rattle.vx_laws.proofs.Orders.{list_all-bearing, rows_of}
 use Rattle.vx_laws.proofs.Unary.{sort-sorted}
 use Rattle.vx_laws.proofs.Decks.{bearing-tag, tag-range}

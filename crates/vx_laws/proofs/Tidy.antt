@@ -3,7 +3,7 @@ use Rattle.vx_worker.specs.Fragment.{goes, RunModel, Reads, fragment, FragAbides
 use Rattle.std.proofs.Common.{◌≡◌, ℕ, ◌<◌, ◌==◌, Bool, true, false, ◌&&◌, List, [], ◌∷◌, ◌++◌, map, length, refl, sym, ap, ◌∙◌, subst, arith, append-nil, append_assoc, eqb-true, is_le, ◌||◌}
 use Rattle.std.specs.List.{list_all, list_any}
 use Rattle.vx_values.specs.Values.{Row, pick}
-use Rattle.vx_rows.specs.Order.{compare_on, sorted}
+use Rattle.vx_values.specs.Order.{compare_on, sorted}
 use Rattle.vx_plan_nodes.specs.Plan.{Size, ExchangeKind, route_to, round, broadcast, gather, target, Claim, Plan, scan, unary, binary, exchange, size, claim, is_one, size_eq, Part, any, all, concat}
 use Rattle.vx_plan_nodes.specs.Types.{width, unary_width, well_formed, names_columns}
 use Rattle.vx_plan_nodes.specs.Serial.{binary_rows}

@@ -2,9 +2,9 @@
 use Rattle.std.proofs.Common.{◌≡◌, ℕ, ◌+◌, ◌<◌, ◌≤◌, ◌==◌, Bool, true, false, cond, not, ◌||◌, ⊎_elim, List, [], ◌∷◌, length, refl, sym, ap, ◌∙◌, subst, arith, true≢false, eqb-true, is_le}
 use Rattle.std.specs.List.{list_all, list_any}
 use Rattle.vx_values.specs.Values.{Row, row_eq, pick}
-use Rattle.vx_rows.specs.Order.{agree, sorted, compare_on}
-use Rattle.vx_rows.specs.Bags.{count, SameRows}
-use Rattle.vx_rows.specs.Keys.{HasKey}
+use Rattle.vx_values.specs.Order.{agree, sorted, compare_on}
+use Rattle.vx_values.specs.Bags.{count, SameRows}
+use Rattle.vx_values.specs.Keys.{HasKey}
 use Rattle.vx_plan_nodes.specs.Plan.{claim, size, is_one}
 use Rattle.vx_plan_nodes.specs.Types.{width}
 use Rattle.vx_plan_nodes.specs.Streams.{joined, workers}
@@ -15,7 +15,7 @@ use Rattle.vx_laws.specs.Sound.{SoundAtRoot}
 use Rattle.vx_laws.proofs.Bags.{and-left, and-right, and-both, total-add, SameRows-all, SameRows-sym}
 use Rattle.vx_laws.proofs.Parts.{or-cases, from_single-of, one-worker, list_all-always}
 use Rattle.vx_laws.proofs.Keys.{agree-within}
-use Rattle.vx_rows.proofs.Compare.{row_eq-same, row_eq-refl, row_eq-laws, row_cmp_total}
+use Rattle.vx_values.proofs.Compare.{row_eq-same, row_eq-refl, row_eq-laws, row_cmp_total}
 use Rattle.vx_laws.proofs.Join.{total-all-le}
 use Rattle.vx_laws.proofs.JoinOrder.{wide}
 use Rattle.vx_laws.proofs.Wide.{serial-wide}

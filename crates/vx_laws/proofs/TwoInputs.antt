@@ -1,8 +1,8 @@
 -- The claims of nodes with two inputs, by the behaviours of their operators.
 use Rattle.std.proofs.Common.{◌≡◌, ℕ, ◌<◌, ◌==◌, Bool, true, false, ◌&&◌, ◌||◌, List, [], ◌∷◌, ◌++◌, length, sym, ap, ◌∙◌, subst, true≢false}
 use Rattle.vx_values.specs.Values.{Row}
-use Rattle.vx_rows.specs.Order.{sorted}
-use Rattle.vx_rows.specs.Bags.{SameRows}
+use Rattle.vx_values.specs.Order.{sorted}
+use Rattle.vx_values.specs.Bags.{SameRows}
 use Rattle.vx_relations.specs.Relation.{Relation, KeysHold}
 use Rattle.vx_plan_nodes.specs.Types.{well_formed, names_columns, width}
 use Rattle.vx_plan_nodes.specs.Plan.{Size, Part, any, all, Claim, Plan, binary, claim, size, Binary, union, join, is_one, size_eq}

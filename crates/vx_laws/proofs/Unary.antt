@@ -2,14 +2,14 @@
 use Rattle.std.proofs.Common.{◌≡◌, ℕ, ◌≤◌, Bool, true, false, cond, List, [], ◌∷◌, map, refl, sym, ap, ◌∙◌, arith, Some, unwrap_or, is_le, is_eq}
 use Rattle.std.specs.List.{list_all}
 use Rattle.vx_values.specs.Values.{Row, pick}
-use Rattle.vx_rows.specs.Order.{compare_on, agree, sorted, insert_sorted, sort_on}
-use Rattle.vx_rows.specs.Bags.{count}
-use Rattle.vx_rows.specs.Keys.{HasKey}
+use Rattle.vx_values.specs.Order.{compare_on, agree, sorted, insert_sorted, sort_on}
+use Rattle.vx_values.specs.Bags.{count}
+use Rattle.vx_values.specs.Keys.{HasKey}
 use Rattle.vx_check_rules.specs.Rules.{copied}
 use Rattle.vx_laws.proofs.Bags.{and-left, and-right, and-both, total-map}
 use Rattle.vx_laws.proofs.Parts.{list_all-weaken}
 use Rattle.vx_laws.proofs.Keys.{count-mono}
-use Rattle.vx_rows.proofs.Compare.{le-trans, le-other, agree-both, count-witness}
+use Rattle.vx_values.proofs.Compare.{le-trans, le-other, agree-both, count-witness}
 use Rattle.vx_laws.proofs.Copies.{copied-alone}
 
 pub some-is : {X : Type 0} (x y : X) → Some x ≡ Some y → x ≡ y

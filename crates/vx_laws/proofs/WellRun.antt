@@ -15,7 +15,7 @@ use Rattle.vx_worker.specs.Trace.{Trace, scan_morsels, IsWell}
 use Rattle.vx_ends.specs.Tasks.{keep, send}
 use Rattle.vx_laws.specs.RunOf.{ship_of, RunOf, Made, WellRuns, WellRunGives, WellRunDelivers}
 use Rattle.vx_plan_nodes.specs.Numbering.{is_fit}
-use Rattle.vx_ops.specs.declared.fault.Over.TheVariants.{Ended}
+use Rattle.vx_ops.specs.declared.fault.StreamState.TheVariants.{Ended}
 use Rattle.vx_ends.proofs.Joined.{joined-ext}
 use Rattle.vx_laws.proofs.Settings.{set-given}
 use Rattle.vx_laws.proofs.Bags.{and-left, and-right}

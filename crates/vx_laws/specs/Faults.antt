@@ -1,11 +1,13 @@
 -- A fault that a run answers is real, also where other workers were cut short.
 use Rattle.std.specs.Prelude.{◌+◌, ◌≡◌, ℕ, ◌<◌, ◌⊎◌, ◌↔◌, true, List}
 use Rattle.vx_worker.specs.Fragment.{IsSet, RunModel, fragment}
-use Rattle.vx_laws.specs.Layout.{FlatRun, workers_below}
+use Rattle.vx_laws.specs.Layout.{FlatRun}
+use Rattle.vx_plan_nodes.specs.Workers.{workers_below}
 use Rattle.vx_values.specs.Values.{Row}
 use Rattle.vx_plan_nodes.specs.Plan.{Plan, scan, unary, binary, exchange, size, is_one}
 use Rattle.vx_plan_nodes.specs.Types.{well_formed}
-use Rattle.vx_plan_nodes.specs.Serial.{serial, IsOverflow, HasTooLong, HasLargePart}
+use Rattle.vx_plan_nodes.specs.Real.{IsReal}
+use Rattle.vx_plan_nodes.specs.Serial.{serial, IsOverflow}
 use Rattle.vx_plan_nodes.specs.Streams.{workers}
 use Rattle.vx_check_rules.specs.Rules.{allowed}
 use Rattle.vx_plan_nodes.specs.Erase.{erase}
@@ -17,11 +19,6 @@ use Rattle.vx_ops.specs.declared.fault.Code.TheVariants.{Overflow, Unsorted, Str
 use Rattle.vx_ops.specs.declared.fault.Fault.{Fault}
 use Rattle.vx_ops.specs.declared.fault.Fault.TheVariants.{Own}
 use Rattle.vx_relations.specs.Relation.{Relation}
-
--- the plan without exchanges overflows, or the serial input of one of its groupings has more than 2^62 rows, or, of a grouping in two phases,
--- some rows of one key of its serial input have a sum outside 64 bits
-abbrev pub IsReal : (ℕ → List Row) → Plan → Type 0
-IsReal db p = IsOverflow (serial db (erase p)) ⊎ (HasTooLong db p ⊎ HasLargePart db p)
 
 -- some worker below an exchange of the plan ended with this fault
 abbrev pub FailsBelow : (S : RunModel) → Fault → (p : Plan) (ts : ℕ → Trace) → RunOf S (Ends S) p ts → Type 0

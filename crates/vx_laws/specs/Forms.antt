@@ -8,8 +8,8 @@ use Rattle.vx_plan_nodes.specs.Numbering.{is_numbered}
 use Rattle.vx_plan_nodes.specs.Erase.{erase}
 use Rattle.std.specs.Ordering.{is_le}
 use Rattle.vx_values.specs.Values.{Val, Row, val_cmp, row_eq}
-use Rattle.vx_rows.specs.Bags.{count, SameRows}
-use Rattle.vx_rows.specs.Keys.{HasKey, is_key}
+use Rattle.vx_values.specs.Bags.{count, SameRows}
+use Rattle.vx_values.specs.Keys.{HasKey, is_key}
 use Rattle.vx_plan_nodes.specs.Plan.{Route, Plan}
 use Rattle.vx_relations.specs.Relation.{Relation}
 use Rattle.vx_plan_nodes.specs.Routes.{range_consumer, sends_by}

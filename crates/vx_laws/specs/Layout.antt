@@ -11,18 +11,12 @@ use Rattle.vx_ends.specs.Tasks.{keep, send}
 use Rattle.vx_plan_nodes.specs.Plan.{target, Plan, scan, unary, binary, exchange, size}
 use Rattle.vx_relations.specs.Relation.{Relation}
 use Rattle.vx_plan_nodes.specs.Streams.{workers}
+use Rattle.vx_plan_nodes.specs.Workers.{workers_below}
 use Rattle.vx_ports.specs.Packets.{Flows}
 use Rattle.vx_worker.specs.Morsels.{Dispatched, morsel_count}
 use Rattle.vx_laws.specs.RunOf.{Known, RunOf, ship_of}
 use Rattle.vx_plan_nodes.specs.Numbering.{is_fit, is_numbered, relation_in}
 use Rattle.vx_plan_nodes.specs.Phases.{is_open}
-
--- how many workers the fragments below the plan's top fragment have
-abbrev pub workers_below : (ℕ → ℕ) → Plan → ℕ
-workers_below sizes (scan n c r m z) = 0
-workers_below sizes (unary n c op p) = workers_below sizes p
-workers_below sizes (binary n c op p q) = workers_below sizes p + workers_below sizes q
-workers_below sizes (exchange n c k m p) = workers sizes (size p) + workers_below sizes p
 
 -- the same as RunOf, of one list of traces: the top fragment's workers begin at `top`, those below at `next`
 abbrev pub FlatRun : RunModel → Known → (ts : ℕ → Trace) → Plan → (top next : ℕ) → Type 0

@@ -1,10 +1,10 @@
 -- What the rule table says of the worked plans, and what they mean: each fact holds by computing.
 use Rattle.std.specs.Prelude.{◌≡◌, true, false, [], ◌∷◌, ◌++◌, Some, None}
 use Rattle.vx_values.specs.Values.{text}
-use Rattle.vx_rows.specs.Keys.{first_clash, is_key}
+use Rattle.vx_values.specs.Keys.{first_clash, is_key}
 use Rattle.vx_plan_nodes.specs.Plan.{one, any, all, routed}
 use Rattle.vx_plan_nodes.specs.Serial.{rows, overflow, serial}
-use Rattle.vx_rows.specs.Order.{sort_on}
+use Rattle.vx_values.specs.Order.{sort_on}
 use Rattle.vx_plan_nodes.specs.Erase.{erase}
 use Rattle.vx_plan_nodes.specs.Routes.{range_consumer}
 use Rattle.vx_plan_nodes.specs.Typed.{typed, is_range}

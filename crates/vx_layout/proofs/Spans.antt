@@ -4,7 +4,7 @@ use Rattle.std.proofs.lemmas.List.{length-append}
 use Rattle.vx_plan_nodes.specs.Plan.{Plan, scan, unary, binary, exchange, size}
 use Rattle.vx_plan_nodes.specs.Numbering.{nodes}
 use Rattle.vx_plan_nodes.specs.Streams.{workers}
-use Rattle.vx_laws.specs.Layout.{workers_below}
+use Rattle.vx_plan_nodes.specs.Workers.{workers_below}
 use Rattle.vx_layout.specs.Layout.{spans_of}
 
 pub spans-count : (sizes : ℕ → ℕ) (p : Plan) (top next : ℕ) → length (spans_of sizes p top next) ≡ nodes p

@@ -2,7 +2,7 @@
 use Rattle.std.specs.Prelude.{ℕ, ◌+◌, List, [], ◌∷◌, ◌++◌}
 use Rattle.vx_plan_nodes.specs.Plan.{target, Plan, scan, unary, binary, exchange, size}
 use Rattle.vx_plan_nodes.specs.Streams.{workers}
-use Rattle.vx_laws.specs.Layout.{workers_below}
+use Rattle.vx_plan_nodes.specs.Workers.{workers_below}
 use Rattle.vx_layout.specs.declared.span.NodeSpan.{NodeSpan}
 use Rattle.vx_layout.specs.declared.span.NodeSpan.TheVariants.{Inner, Exchange, Scan}
 

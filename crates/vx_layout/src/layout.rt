@@ -6,48 +6,48 @@ ghost use Rattle.vx_plan_nodes.specs.Numbering.{nodes};
 ghost use Rattle.vx_plan_nodes.specs.Outline.{plan_of, size_of};
 ghost use Rattle.vx_plan_nodes.specs.TypedView.{plan as whole_plan};
 ghost use Rattle.vx_plan_nodes.specs.Streams.{workers};
-ghost use Rattle.vx_laws.specs.Layout.{workers_below};
-ghost use Rattle.vx_layout.specs.Groups.{IsWithin, group_at};
+ghost use Rattle.vx_plan_nodes.specs.Workers.{workers_below, IsWithin, worker_group_at};
 ghost use Rattle.vx_layout.specs.Layout.{spans_of};
+ghost use Rattle.vx_values.specs.Limits.{max_group_workers};
 
-use crate::groups::workers_of;
 use crate::span::{ExchangeSpan, NodeSpan, ScanSpan};
+use crate::worker_groups::workers_of;
 use std::alloc::{AllocError, Global};
 use vx_plan_nodes::{ScanNode, Size, TypedNode, TypedPlan};
 
-/// Which workers the nodes of a plan have in a run. It is made once, before the first step: what is made, run and put
-/// together for each node goes by it.
+/// Which workers the nodes of a plan have in a run. It is made once, before the first step. Rings, decks and hands are made
+/// by it, the relation of a morsel is found in it, and what threads gave back is put together by it.
 pub struct Layout {
     // The workers of each size name, by its number.
-    groups: Vec<u32>,
+    worker_groups: Vec<u32>,
     // By node number.
     spans: Vec<NodeSpan>,
     // How many workers there are.
     workers: u32,
-    ghost within: { All (IsWithin 1 64) groups.items },
+    ghost within: { All (IsWithin 1 max_group_workers) worker_groups.items },
 }
 
 // By hand, so that the drops of its parts are made and proved here once, and not in each function that drops one.
 impl Drop for Layout {
     fn drop(self) {
         let Layout {
-            groups: _,
+            worker_groups: _,
             spans: _,
             workers: _,
         } = self;
     }
 }
 
-fn scan_span(groups: &[u32], number: u32, scan: &ScanNode, top: usize) -> NodeSpan
-    requires { All (IsWithin 1 64) groups.now }
-    ensures { result ≡ NodeSpan.Scan (record { number = number; relation = scan.now.relation; is_shared = scan.now.shared; first = top; workers = workers (group_at groups.now) (size_of scan.now.size) }) }
+fn scan_span(worker_groups: &[u32], number: u32, scan: &ScanNode, top: usize) -> NodeSpan
+    requires { All (IsWithin 1 max_group_workers) worker_groups.now }
+    ensures { result ≡ NodeSpan.Scan (record { number = number; relation = scan.now.relation; is_shared = scan.now.shared; first = top; workers = workers (worker_group_at worker_groups.now) (size_of scan.now.size) }) }
 {
     NodeSpan::Scan(ScanSpan {
         number,
         relation: scan.relation,
         is_shared: scan.shared,
         first: top,
-        workers: workers_of(groups, scan.size),
+        workers: workers_of(worker_groups, scan.size),
     })
 }
 
@@ -55,77 +55,81 @@ fn scan_span(groups: &[u32], number: u32, scan: &ScanNode, top: usize) -> NodeSp
 // fragments below it with number `next`. Returns the number behind them all.
 fn add_spans(
     spans: &mut Vec<NodeSpan>,
-    groups: &[u32],
+    worker_groups: &[u32],
     node: &TypedNode,
     top: usize,
     next: usize,
 ) -> Result<usize, AllocError>
-    requires within { All (IsWithin 1 64) groups.now }
-    requires few { next + 64 * nodes (plan_of node.now) < 2 ^ 32 }
-    ensures next { IfOk result (λ n. n ≡ next + workers_below (group_at groups.now) (plan_of node.now)) }
-    ensures bound { IfOk result (λ n. n ≤ next + 64 * nodes (plan_of node.now)) }
-    ensures added { OnOk result (spans.new.items ≡ spans.old.items ++ spans_of (group_at groups.now) (plan_of node.now) top next) }
+    requires within { All (IsWithin 1 max_group_workers) worker_groups.now }
+    requires few { next + max_group_workers * nodes (plan_of node.now) < 2 ^ 32 }
+    ensures next { IfOk result (λ n. n ≡ next + workers_below (worker_group_at worker_groups.now) (plan_of node.now)) }
+    ensures bound { IfOk result (λ n. n ≤ next + max_group_workers * nodes (plan_of node.now)) }
+    ensures added { OnOk result (spans.new.items ≡ spans.old.items ++ spans_of (worker_group_at worker_groups.now) (plan_of node.now) top next) }
 {
     match node {
         TypedNode::Scan(head, scan) => {
-            spans.push(scan_span(groups, head.number, scan, top))?;
+            spans.push(scan_span(worker_groups, head.number, scan, top))?;
             Ok(next)
         }
         TypedNode::Unary(_, _, input) => {
             spans.push(NodeSpan::Inner)?;
-            add_spans(spans, groups, input, top, next)
+            add_spans(spans, worker_groups, input, top, next)
         }
         TypedNode::Binary(_, _, left, right) => {
             spans.push(NodeSpan::Inner)?;
-            let behind = add_spans(spans, groups, left, top, next)?;
-            add_spans(spans, groups, right, top, behind)
+            let behind = add_spans(spans, worker_groups, left, top, next)?;
+            add_spans(spans, worker_groups, right, top, behind)
         }
         TypedNode::Exchange(head, exchange, input) => {
-            let producers = workers_of(groups, input.size());
+            let producers = workers_of(worker_groups, input.size());
             spans.push(NodeSpan::Exchange(ExchangeSpan {
                 number: head.number,
                 below: next,
                 producers,
                 above: top,
-                consumers: workers_of(groups, exchange.kind.target()),
+                consumers: workers_of(worker_groups, exchange.kind.target()),
             }))?;
-            add_spans(spans, groups, input, next, next + producers as usize)
+            add_spans(spans, worker_groups, input, next, next + producers as usize)
         }
     }
 }
 
 impl Layout {
     /// The layout of a plan, where each size name has so many workers, by its number.
-    pub fn of(alloc: Global, groups: Vec<u32>, plan: &TypedPlan) -> Result<Layout, AllocError>
-        requires { All (IsWithin 1 64) groups.items }
-        ensures spans { IfOk result (λ l. l.spans.items ≡ spans_of (group_at groups.items) (whole_plan plan.now) 0 1) }
-        ensures workers { IfOk result (λ l. l.workers ≡ 1 + workers_below (group_at groups.items) (whole_plan plan.now)) }
-        ensures groups { IfOk result (λ l. l.groups.items ≡ groups.items) }
+    pub fn of(
+        alloc: Global,
+        worker_groups: Vec<u32>,
+        plan: &TypedPlan,
+    ) -> Result<Layout, AllocError>
+        requires { All (IsWithin 1 max_group_workers) worker_groups.items }
+        ensures spans { IfOk result (λ l. l.spans.items ≡ spans_of (worker_group_at worker_groups.items) (whole_plan plan.now) 0 1) }
+        ensures workers { IfOk result (λ l. l.workers ≡ 1 + workers_below (worker_group_at worker_groups.items) (whole_plan plan.now)) }
+        ensures worker_groups { IfOk result (λ l. l.worker_groups.items ≡ worker_groups.items) }
     {
         let mut spans = Vec::new(alloc);
-        let workers = add_spans(&mut spans, groups.as_slice(), plan.root(), 0, 1)? as u32;
+        let workers = add_spans(&mut spans, worker_groups.as_slice(), plan.root(), 0, 1)? as u32;
         Ok(Layout {
-            groups,
+            worker_groups,
             spans,
             workers,
         })
     }
 
     /// The workers of each size name, by its number.
-    pub fn groups(&self) -> &[u32]
-        ensures value { result.now ≡ self.now.groups.items }
-        ensures within { All (IsWithin 1 64) result.now }
+    pub fn worker_groups(&self) -> &[u32]
+        ensures value { result.now ≡ self.now.worker_groups.items }
+        ensures within { All (IsWithin 1 max_group_workers) result.now }
     {
-        self.groups.as_slice()
+        self.worker_groups.as_slice()
     }
 
     /// How many workers a size has.
     pub fn workers_of(&self, size: Size) -> u32
-        ensures count { result ≡ workers (group_at self.now.groups.items) (size_of size) }
+        ensures count { result ≡ workers (worker_group_at self.now.worker_groups.items) (size_of size) }
         ensures some { 1 ≤ result }
-        ensures few { result ≤ 64 }
+        ensures few { result ≤ max_group_workers }
     {
-        workers_of(self.groups.as_slice(), size)
+        workers_of(self.worker_groups.as_slice(), size)
     }
 
     /// How many workers the plan has: one at its root, and those below.

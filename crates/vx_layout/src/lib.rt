@@ -2,10 +2,10 @@
 //! its scans.
 #![tactic(auto)]
 
-mod groups;
 mod layout;
 mod span;
+mod worker_groups;
 
-pub use groups::workers_of;
 pub use layout::Layout;
 pub use span::{ExchangeSpan, NodeSpan, ScanSpan};
+pub use worker_groups::workers_of;

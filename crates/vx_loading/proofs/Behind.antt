@@ -7,9 +7,10 @@ use Rattle.vx_values.specs.declared.value.ColType.{ColType}
 use Rattle.vx_relations.specs.Walk.{◌>>=◌}
 use Rattle.vx_catalog.specs.declared.fault.LoadFault.{LoadFault}
 use Rattle.vx_catalog.specs.declared.fault.LoadFault.TheVariants as fault
-use Rattle.vx_catalog.specs.Loading.{row_of, row_added, rows_onto, max_rows}
+use Rattle.vx_catalog.specs.Loading.{row_of, row_added, rows_onto}
 use Rattle.vx_loading.specs.Pieces.{behind}
 use Rattle.vx_loading.proofs.RowTells.{IsRowFault, RowTells, tells_row}
+use Rattle.vx_values.specs.Limits.{max_rows}
 
 -- what is read of rows on top of m rows has m rows, or refuses one of a number from m on
 pub Above : ℕ → Result (List Row) LoadFault → Type 0

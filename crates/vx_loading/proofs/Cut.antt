@@ -11,11 +11,12 @@ use Rattle.vx_values.specs.declared.value.ColType.{ColType}
 use Rattle.vx_relations.specs.Walk.{◌>>=◌}
 use Rattle.vx_catalog.specs.declared.fault.LoadFault.{LoadFault}
 use Rattle.vx_catalog.specs.declared.fault.LoadFault.TheVariants as fault
-use Rattle.vx_catalog.specs.Loading.{records_of, is_header, row_added, rows_onto, under_header, max_rows}
+use Rattle.vx_catalog.specs.Loading.{records_of, is_header, row_added, rows_onto, under_header}
 use Rattle.vx_split.specs.Split.{is_unquoted}
 use Rattle.vx_split.proofs.SplitFacts.{split_law}
 use Rattle.vx_loading.specs.Pieces.{behind, may_cut_before, rows_of_text}
 use Rattle.vx_loading.proofs.Behind.{onto_behind}
+use Rattle.vx_values.specs.Limits.{max_rows}
 
 bind_assoc : {E X Y Z : Type 0} (r : Result X E) (f : X → Result Y E) (g : Y → Result Z E) → ((r >>= f) >>= g) ≡ (r >>= λ x. (f x >>= g))
 bind_assoc (Ok x) f g = refl

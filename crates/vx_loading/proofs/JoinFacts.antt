@@ -11,9 +11,10 @@ use Rattle.vx_rows.specs.Parts.{rows_of_all}
 use Rattle.vx_relations.specs.Walk.{◌>>=◌}
 use Rattle.vx_catalog.specs.declared.fault.LoadFault.{LoadFault}
 use Rattle.vx_catalog.specs.declared.fault.LoadFault.TheVariants as fault
-use Rattle.vx_catalog.specs.Loading.{Fails, Gives, rows_onto, max_rows}
+use Rattle.vx_catalog.specs.Loading.{Fails, Gives, rows_onto}
 use Rattle.vx_loading.specs.Pieces.{fault_behind, behind, rows_of_text, IsPieceRead, ArePieces, Joined}
 use Rattle.vx_loading.proofs.Cut.{bind_ok, records_behind, piece_cut}
+use Rattle.vx_values.specs.Limits.{max_rows}
 
 row_reported : (b : Bool) (moved : LoadFault) (whole : Result (List Row) LoadFault) → ((whole ≡ Err moved) → Fails moved whole) → whole ≡ Err (cond b moved fault.TooLarge) → Fails (cond b moved fault.TooLarge) whole
 row_reported true moved whole f e = f e

@@ -7,17 +7,18 @@ use Rattle.vx_relations.specs.Walk.{◌>>=◌}
 use Rattle.vx_catalog.specs.Counting.{Settles}
 use Rattle.vx_catalog.specs.declared.fault.LoadFault.{LoadFault}
 use Rattle.vx_catalog.specs.declared.fault.LoadFault.TheVariants as fault
-use Rattle.vx_catalog.specs.Loading.{max_bytes, Fails, Gives, tested, load_of}
+use Rattle.vx_catalog.specs.Loading.{Fails, Gives, tested, load_of}
 use Rattle.vx_catalog.proofs.RowFacts.{fails_along}
 use Rattle.vx_loading.specs.Reading.{rows_under}
+use Rattle.vx_values.specs.Limits.{max_text_bytes}
 
-small_load : (relation : Relation) (bytes : List ℕ) → length bytes ≤ max_bytes → load_of relation bytes ≡ (rows_under relation bytes >>= tested relation)
+small_load : (relation : Relation) (bytes : List ℕ) → length bytes ≤ max_text_bytes → load_of relation bytes ≡ (rows_under relation bytes >>= tested relation)
 unfolding load_of
-small_load relation bytes small = rw (le-ltb max_bytes (length bytes) small) refl
+small_load relation bytes small = rw (le-ltb max_text_bytes (length bytes) small) refl
 
-large_load : (relation : Relation) (bytes : List ℕ) → max_bytes < length bytes → load_of relation bytes ≡ Err fault.TooLarge
+large_load : (relation : Relation) (bytes : List ℕ) → max_text_bytes < length bytes → load_of relation bytes ≡ Err fault.TooLarge
 unfolding load_of
-large_load relation bytes large = rw (lt-ltb max_bytes (length bytes) large) refl
+large_load relation bytes large = rw (lt-ltb max_text_bytes (length bytes) large) refl
 
 module _ {X : Type 0} (look : X → List Row) (relation : Relation) (read : Result X LoadFault) where
   -- an error in a text is that of its loading

@@ -6,8 +6,9 @@ use Rattle.vx_rows.specs.View.{RowsView}
 use Rattle.vx_rows.specs.Parts.{rows_of_all, HaveTypes}
 use Rattle.vx_catalog.specs.declared.fault.LoadFault.{LoadFault}
 use Rattle.vx_catalog.specs.declared.fault.LoadFault.TheVariants as fault
-use Rattle.vx_catalog.specs.Loading.{Gives, records_of, rows_onto, max_rows}
+use Rattle.vx_catalog.specs.Loading.{Gives, records_of, rows_onto}
 use Rattle.vx_split.specs.Split.{is_unquoted}
+use Rattle.vx_values.specs.Limits.{max_rows}
 
 -- an error in a row, where n rows come before; a row past the most that there may be is too many
 abbrev pub row_fault : ℕ → ℕ → LoadFault → LoadFault

@@ -5,8 +5,9 @@ use Rattle.vx_values.specs.declared.value.ColType.{ColType}
 use Rattle.vx_rows.specs.View.{RowsView}
 use Rattle.vx_relations.specs.Relation.{Relation}
 use Rattle.vx_catalog.specs.declared.fault.LoadFault.{LoadFault}
-use Rattle.vx_catalog.specs.Loading.{records_of, under_header, max_rows}
+use Rattle.vx_catalog.specs.Loading.{records_of, under_header}
 use Rattle.vx_loading.specs.Pieces.{rows_of_text}
+use Rattle.vx_values.specs.Limits.{max_rows}
 
 -- the rows under the header of a text
 abbrev pub rows_under : Relation → List ℕ → Result (List Row) LoadFault

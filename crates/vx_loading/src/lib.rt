@@ -10,4 +10,4 @@ mod rounds;
 mod text;
 
 pub use load::{load_in_shares, load_in_threads};
-pub use rounds::Shares;
+pub use rounds::ReadShares;

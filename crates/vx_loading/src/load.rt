@@ -3,19 +3,20 @@
 ghost use Rattle.std.specs.Prelude.{◌≡◌, ◌≢◌, ◌<◌, ◌≤◌, length, true, false, IfOk, IfSome, IsErrOf, IfErr};
 ghost use Rattle.vx_relations.specs.Relation.{Meets};
 ghost use Rattle.vx_relations.specs.Catalog.{relation_at, IsRelation};
-ghost use Rattle.vx_catalog.specs.Loading.{Gives, tested, load_of, max_rows};
+ghost use Rattle.vx_catalog.specs.Loading.{Gives, tested, load_of};
+ghost use Rattle.vx_values.specs.Limits.{max_rows};
 
-use crate::rounds::Shares;
+use crate::rounds::ReadShares;
 use crate::text::{Finished, read_in_threads};
 use std::alloc::Global;
 use std::marker::Brand;
 use std::thread::Threads;
 use vx_bytes::ByteIn;
-use vx_catalog::{Catalog, Counted, Lent, LoadFault, Loaded, Loader, Origin, Relation, test_rows};
+use vx_catalog::{
+    Catalog, Lent, LimitedReader, LoadFault, Loaded, Loader, Origin, Relation, test_rows,
+};
 use vx_rows::Table;
-
-// More threads than this are never started.
-const MOST_THREADS: usize = 64;
+use vx_values::limits::MAX_THREADS;
 
 // How many bytes each thread gets in a round.
 const BLOCK: usize = 4 << 20;
@@ -42,7 +43,7 @@ fn load_text<'p, P: Threads + Sync, R: ByteIn, T: Origin>(
     rt: &P,
     alloc: Global,
     relation: &Relation,
-    shares: Shares,
+    shares: ReadShares,
     port: &'p mut R,
     loaded: &mut Result<Table, LoadFault>,
 ) -> Lent<'p, R>
@@ -59,7 +60,7 @@ fn load_text<'p, P: Threads + Sync, R: ByteIn, T: Origin>(
     ensures same { result.port.ghost_name ≡ port.entry.ghost_name }
     ensures reliable { T.is_reliable ≡ true → R.has_failed result.port.now ≡ false }
 {
-    let counted = Counted::<R, T>::new(port);
+    let counted = LimitedReader::<R, T>::new(port);
     let Finished { read, mut source } = read_in_threads(rt, alloc, relation, shares, counted);
     let tested = match source.settle(read) {
         Ok(rows) => test_table(alloc, relation, rows),
@@ -75,7 +76,7 @@ pub fn load_in_shares<P: Threads + Sync, R: ByteIn>(
     alloc: Global,
     catalog: &Catalog,
     relation: usize,
-    shares: Shares,
+    shares: ReadShares,
     reader: &mut R,
 ) -> Result<Loaded, LoadFault>
     requires there { relation < length catalog.now }
@@ -133,8 +134,8 @@ pub fn load_in_threads<P: Threads + Sync, R: ByteIn>(
     if threads < 2 {
         return Loader::load(alloc, catalog, relation, reader);
     }
-    let shares = Shares {
-        threads: threads.min(MOST_THREADS),
+    let shares = ReadShares {
+        threads: threads.min(MAX_THREADS),
         block: BLOCK,
         least: LEAST,
     };

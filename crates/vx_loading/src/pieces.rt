@@ -5,8 +5,9 @@ ghost use Rattle.vx_rows.specs.Parts.{rows_of_all};
 ghost use Rattle.vx_values.specs.Values.{Row};
 ghost use Rattle.vx_values.specs.declared.value.ColType.{ColType as Kind};
 ghost use Rattle.vx_split.specs.Split.{is_unquoted};
-ghost use Rattle.vx_catalog.specs.Loading.{Fails, Gives, max_rows};
+ghost use Rattle.vx_catalog.specs.Loading.{Fails, Gives};
 ghost use Rattle.vx_loading.specs.Pieces.{may_cut_before, rows_of_text, fault_behind, piece_at, AreCuts, IsPieceRead, ArePieces, Joined};
+ghost use Rattle.vx_values.specs.Limits.{max_rows};
 
 use crate::cuts::cuts_of;
 use csv::ReaderBuilder;
@@ -14,10 +15,9 @@ use std::alloc::{AllocError, Global};
 use std::thread;
 use std::thread::Threads;
 use vx_catalog::{LoadFault, read_rows};
-use vx_rows::{ColType, Table};
-
-/// The most rows that a relation may have.
-pub const MAX_ROWS: usize = 100_000_000;
+use vx_rows::Table;
+use vx_values::ColType;
+use vx_values::limits::MAX_ROWS;
 
 /// Whether bytes have no quote.
 pub fn is_unquoted(bytes: &[u8]) -> bool

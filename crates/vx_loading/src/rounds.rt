@@ -2,9 +2,10 @@
 
 ghost use Rattle.std.specs.Prelude.{◌≡◌, ◌≢◌, ◌⊎◌, ◌<◌, ◌≤◌, ◌++◌, ◌^◌, length, drop, true, false, Err, IfErr, IfSome, OnOk};
 ghost use Rattle.vx_catalog.specs.Counting.{StaysKnown};
-ghost use Rattle.vx_catalog.specs.Loading.{Fails, max_rows};
+ghost use Rattle.vx_catalog.specs.Loading.{Fails};
 ghost use Rattle.vx_loading.specs.Pieces.{may_cut_before, rows_of_text};
 ghost use Rattle.vx_loading.specs.Reading.{ComesFrom};
+ghost use Rattle.vx_values.specs.Limits.{max_rows};
 
 use crate::buffer::{drop_front, fill};
 use crate::cuts::last_cut;
@@ -18,14 +19,14 @@ use vx_rows::Table;
 /// How a text is shared out: how many threads read it, at least one, how many bytes each of them gets in a round, and how many
 /// bytes the text has at least, if it is.
 #[derive(Clone, Copy, Debug)]
-pub struct Shares {
+pub struct ReadShares {
     pub threads: usize,
     pub block: usize,
     pub least: usize,
 }
 
 // How many bytes a buffer is to hold for the next round, if it holds `len` of a line that has not ended.
-fn round_size(shares: Shares, len: usize) -> usize
+fn round_size(shares: ReadShares, len: usize) -> usize
     requires { len < 2 ^ 63 }
     ensures { len < result }
 {
@@ -51,7 +52,7 @@ fn round_end(text: &[u8], is_at_end: bool) -> usize
 fn next_round<P: Threads + Sync, S: Read>(
     rt: &P,
     alloc: Global,
-    shares: Shares,
+    shares: ReadShares,
     source: &mut S,
     buffer: &mut Vec<u8>,
     rows: &mut Table,
@@ -80,7 +81,7 @@ fn next_round<P: Threads + Sync, S: Read>(
 pub fn read_rounds<P: Threads + Sync, S: Read>(
     rt: &P,
     alloc: Global,
-    shares: Shares,
+    shares: ReadShares,
     source: &mut S,
     buffer: &mut Vec<u8>,
     rows: &mut Table,

@@ -4,21 +4,23 @@ ghost use Rattle.std.specs.Prelude.{◌≡◌, ◌≢◌, ◌⊎◌, ℕ, ◌<�
 ghost use Rattle.csv.specs.Reading.{source_of};
 ghost use Rattle.vx_catalog.specs.Counting.{StaysKnown};
 ghost use Rattle.vx_catalog.specs.Records.{IsPlain, rest_of};
-ghost use Rattle.vx_catalog.specs.Loading.{Fails, Gives, rows_onto, max_rows};
+ghost use Rattle.vx_catalog.specs.Loading.{Fails, Gives, rows_onto};
 ghost use Rattle.vx_loading.specs.Pieces.{behind};
 ghost use Rattle.vx_loading.specs.Reading.{rows_under, BeginsFrom};
+ghost use Rattle.vx_values.specs.Limits.{max_rows};
 
 use crate::buffer::{drop_front, fill};
 use crate::cuts::first_cut;
 use crate::first_line::read_first_line;
-use crate::pieces::{MAX_ROWS, fault_of, is_unquoted};
-use crate::rounds::{Shares, read_rounds};
+use crate::pieces::{fault_of, is_unquoted};
+use crate::rounds::{ReadShares, read_rounds};
 use csv::{Reader, ReaderBuilder};
 use std::alloc::Global;
 use std::io::Read;
 use std::thread::Threads;
 use vx_catalog::{LoadFault, Relation, read_rows, read_text};
 use vx_rows::Table;
+use vx_values::limits::MAX_ROWS;
 
 // Takes the first line of a text out of a buffer, and returns its rows. None, if threads may not read what follows it, since it
 // does not end here, or has a quote or no record: then nothing is taken.
@@ -51,7 +53,7 @@ fn read_front<P: Threads + Sync, S: Read>(
     rt: &P,
     alloc: Global,
     relation: &Relation,
-    shares: Shares,
+    shares: ReadShares,
     source: &mut S,
     buffer: &mut Vec<u8>,
 ) -> Result<Option<Table>, LoadFault>
@@ -155,7 +157,7 @@ pub fn read_in_threads<P: Threads + Sync, S: Read + Drop>(
     rt: &P,
     alloc: Global,
     relation: &Relation,
-    shares: Shares,
+    shares: ReadShares,
     source: S,
 ) -> Finished<S>
     requires { 0 < shares.threads }

@@ -1,7 +1,7 @@
 -- Turns of a merge join.
 use Rattle.std.proofs.Common.{◌≡◌, ℕ, ◌⊎◌, Bool, true, false, List, [], ◌∷◌, ◌++◌, length, map, flat_map, drop, refl, sym, ap, ◌∙◌, subst, inl, inr, append_assoc, append-nil, arith}
 use Rattle.vx_values.specs.Values.{Row}
-use Rattle.vx_rows.specs.Order.{sorted}
+use Rattle.vx_values.specs.Order.{sorted}
 use Rattle.vx_rows.specs.Lists.{IsBeginning}
 use Rattle.vx_ports.specs.Packets.{rows_of}
 use Rattle.vx_plan_nodes.specs.Plan.{join}
@@ -16,8 +16,8 @@ use Rattle.vx_ops.specs.Ledger.{Ledger, two_op, Begun, OwnBlame}
 use Rattle.vx_ops.specs.Begun.{all_of, begun_whole}
 use Rattle.vx_ops.specs.Turn.{fresh_ledger}
 use Rattle.vx_ops.specs.declared.fault.Fault.{Fault}
-use Rattle.vx_ops.specs.declared.fault.Over.{Over}
-use Rattle.vx_ops.specs.declared.fault.Over.TheVariants.{Running, Ended, Failed}
+use Rattle.vx_ops.specs.declared.fault.StreamState.{StreamState}
+use Rattle.vx_ops.specs.declared.fault.StreamState.TheVariants.{Running, Ended, Failed}
 use Rattle.vx_ops.proofs.Turns.{running-ended, running-failed, ended-failed, failed-ended, failed-running, ended-running, same-fault}
 use Rattle.vx_match.specs.MergeJoin.{Merges, IsMergeJoined, over_of, fault_of}
 
@@ -26,7 +26,7 @@ none-of [] e = refl
 none-of (y ∷ ys) e = absurd (omega (arith, e))
 
 -- an input that has not failed
-not-failed : (b : Bool) (o : Over) (f : Fault) → o ≡ over_of b → o ≡ Failed f → ⊥
+not-failed : (b : Bool) (o : StreamState) (f : Fault) → o ≡ over_of b → o ≡ Failed f → ⊥
 not-failed true o f e h = ended-failed f (sym e ∙ h)
 not-failed false o f e h = running-failed f (sym e ∙ h)
 
@@ -38,17 +38,17 @@ abbrev pub with_right : Ledger → List Row → Ledger
 with_right l xs = record l { right = record { rows = l.right.rows ++ xs; over = l.right.over } }
 
 -- after an input stands so
-abbrev pub with_left_over : Ledger → Over → Ledger
+abbrev pub with_left_over : Ledger → StreamState → Ledger
 with_left_over l o = record l { left = record { rows = l.left.rows; over = o } }
 
-abbrev pub with_right_over : Ledger → Over → Ledger
+abbrev pub with_right_over : Ledger → StreamState → Ledger
 with_right_over l o = record l { right = record { rows = l.right.rows; over = o } }
 
 -- after rows were returned, and after the operator stands so
 abbrev pub with_rows : Ledger → List Row → Ledger
 with_rows l ys = record l { gave = record { rows = l.gave.rows ++ ys; over = l.gave.over } }
 
-abbrev pub with_over : Ledger → Over → Ledger
+abbrev pub with_over : Ledger → StreamState → Ledger
 with_over l o = record l { gave = record { rows = l.gave.rows; over = o } }
 
 module _ (n : ℕ) (on : List (ℕ × ℕ)) where
@@ -76,7 +76,7 @@ module _ (n : ℕ) (on : List (ℕ × ℕ)) where
       begun-later k l m e f h g (record { rest = []; joined = append-nil l.left.rows ∙ a }) (record { rest = []; joined = append-nil l.right.rows ∙ b })
 
   -- it runs
-  pub merging : (k : MergeView) (l : Ledger) (over : Over) → Merges on k l → l.gave.over ≡ over → over ≡ Running → IsMergeJoined n on k over l
+  pub merging : (k : MergeView) (l : Ledger) (over : StreamState) → Merges on k l → l.gave.over ≡ over → over ≡ Running → IsMergeJoined n on k over l
   merging k l over m o runs = record {
     stands = o;
     runs = λ _. m;
@@ -94,7 +94,7 @@ module _ (n : ℕ) (on : List (ℕ × ℕ)) where
       → IsMergeJoined n on k Running fresh_ledger
   merge-begins k e f a b t = merging k fresh_ledger Running (record { left_over = ap over_of (sym a); right_over = ap over_of (sym b); lefts_are = e; rights_are = f; joined = t }) refl refl
 
-  module _ (k j : MergeView) (l : Ledger) (over : Over) (running : over ≡ Running) (h : IsMergeJoined n on k over l) where
+  module _ (k j : MergeView) (l : Ledger) (over : StreamState) (running : over ≡ Running) (h : IsMergeJoined n on k over l) where
     was : Merges on k l
     was = h.runs running
 
@@ -207,7 +207,7 @@ module _ (n : ℕ) (on : List (ℕ × ℕ)) where
         };
       }
 
-  module _ (k j : MergeView) (l : Ledger) (over : Over) (running : over ≡ Running) (h : IsMergeJoined n on k over l) where
+  module _ (k j : MergeView) (l : Ledger) (over : StreamState) (running : over ≡ Running) (h : IsMergeJoined n on k over l) where
     now : Merges on k l
     now = h.runs running
 

@@ -12,14 +12,14 @@ use Rattle.vx_ops.specs.Meaning.{Meaning}
 use Rattle.vx_ops.specs.declared.fault.Code.TheVariants.{Unsorted, NoMemory}
 use Rattle.vx_ops.specs.declared.fault.Fault.{Fault}
 use Rattle.vx_ops.specs.declared.fault.Fault.TheVariants.{Own}
-use Rattle.vx_ops.specs.declared.fault.Over.{Over}
-use Rattle.vx_ops.specs.declared.fault.Over.TheVariants.{Running, Ended, Failed}
+use Rattle.vx_ops.specs.declared.fault.StreamState.{StreamState}
+use Rattle.vx_ops.specs.declared.fault.StreamState.TheVariants.{Running, Ended, Failed}
 use Rattle.vx_ops.specs.declared.turn.Want.{Want}
 use Rattle.vx_ops.specs.declared.turn.Want.TheVariants as want
 use Rattle.vx_match.specs.declared.merge_join.MergeJoin.{MergeJoin}
 
 -- how an input stands that has not failed
-abbrev pub over_of : Bool → Over
+abbrev pub over_of : Bool → StreamState
 over_of true = Ended
 over_of false = Running
 
@@ -32,7 +32,7 @@ pub record Merges (on : List (ℕ × ℕ)) (k : MergeView) (l : Ledger) : Type 0
   pub joined : HasJoined k l.left.rows l.right.rows l.gave.rows
 
 -- it stands so; while it runs so does its kernel; and what is known of any source
-pub record IsMergeJoined (n : ℕ) (on : List (ℕ × ℕ)) (k : MergeView) (over : Over) (l : Ledger) : Type 0 where
+pub record IsMergeJoined (n : ℕ) (on : List (ℕ × ℕ)) (k : MergeView) (over : StreamState) (l : Ledger) : Type 0 where
   pub stands : l.gave.over ≡ over
   pub runs : over ≡ Running → Merges on k l
   pub abides : Abides (two_op n (join true on)) l
@@ -50,7 +50,7 @@ want_of_need need.Left = want.Left
 want_of_need need.Right = want.Right
 want_of_need need.End = want.Nothing
 
-abbrev pub wanted : MergeNeed → Over → Want
+abbrev pub wanted : MergeNeed → StreamState → Want
 wanted n Running = want_of_need n
 wanted n Ended = want.Nothing
 wanted n (Failed f) = want.Nothing

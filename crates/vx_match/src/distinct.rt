@@ -4,8 +4,8 @@ use std::alloc::{AllocError, Global};
 use std::marker::Model;
 use vx_keys::Seen;
 use vx_ops::{StepKernel, Stepping};
-use vx_rows::ColType;
 use vx_seeds::KeySeed;
+use vx_values::ColType;
 use vx_views::Rows;
 
 /// Calls: `FirstRows::source (wants turn)*`.

@@ -5,8 +5,8 @@ use std::marker::Model;
 use vx_grouping::{GroupFault, Grouping};
 use vx_ops::{Collecting, CollectingKernel, FinishFault};
 use vx_plan_nodes::{Aggregate, Phase};
-use vx_rows::ColType;
 use vx_seeds::KeySeed;
+use vx_values::ColType;
 use vx_views::Rows;
 
 /// Calls: `KeyedGroups::source (wants turn)*`.

@@ -7,8 +7,8 @@ use std::marker::Model;
 use vx_algebra::{left_columns, right_columns};
 use vx_join::Build;
 use vx_ops::{ProbeKernel, Probing};
-use vx_rows::ColType;
 use vx_seeds::KeySeed;
+use vx_values::ColType;
 use vx_views::Rows;
 
 // As many joined rows make a batch.

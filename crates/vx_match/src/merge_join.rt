@@ -5,9 +5,9 @@ ghost use Rattle.vx_match.specs.MergeJoin.{fault_of};
 
 use std::alloc::{AllocError, Global};
 use vx_algebra::{left_columns, right_columns};
-use vx_merging::{Merge, MergeFault, MergeNeed};
-use vx_ops::{Code, Fault, Got, Over, Polled, Source, Want};
-use vx_rows::ColType;
+use vx_merging::{MergeFault, MergeNeed, MergeRows};
+use vx_ops::{Code, Fault, Got, Polled, Source, StreamState, Want};
+use vx_values::ColType;
 use vx_views::Rows;
 
 // A batch of joined rows is cut once it has so many.
@@ -23,8 +23,8 @@ const MOST: usize = 65_536;
 pub struct MergeJoin {
     node: u32,
     on: Vec<(usize, usize)>,
-    kernel: Merge,
-    over: Over,
+    kernel: MergeRows,
+    over: StreamState,
 }
 
 // By hand, so that the drops of its parts are made and proved here once, and not in each function that drops one.
@@ -47,7 +47,7 @@ impl MergeJoin {
     ghost use Rattle.vx_merging.specs.declared.merging.MergeNeed.TheVariants as need;
     ghost use Rattle.vx_ops.specs.Ledger.{Ledger, two_op};
     ghost use Rattle.vx_ops.specs.Turn.{fresh_ledger, after, gives, GivesRows, GotTyped, Fits};
-    ghost use Rattle.vx_ops.specs.declared.fault.Over.TheVariants.{Running};
+    ghost use Rattle.vx_ops.specs.declared.fault.StreamState.TheVariants.{Running};
     ghost use Rattle.vx_ops.specs.declared.turn.Polled.TheVariants as polled;
     ghost use Rattle.vx_ops.specs.declared.turn.Got.TheVariants as got_of;
     ghost use Rattle.vx_ops.specs.declared.turn.Want.TheVariants as want_of;
@@ -70,12 +70,12 @@ impl MergeJoin {
     {
         let lefts = left_columns(alloc, on)?;
         let rights = right_columns(alloc, on)?;
-        let kernel = Merge::new(alloc, lefts, left, rights, right)?;
+        let kernel = MergeRows::new(alloc, lefts, left, rights, right)?;
         Ok(MergeJoin {
             node,
             on: Vec::from_slice(alloc, on)?,
             kernel,
-            over: Over::Running,
+            over: StreamState::Running,
         })
     }
 
@@ -97,7 +97,7 @@ impl MergeJoin {
                 self.go_on()
             }
             Got::Input(Polled::Fault(f)) => {
-                self.over = Over::Failed(f);
+                self.over = StreamState::Failed(f);
                 Polled::Fault(f)
             }
             _ => Polled::Waiting,
@@ -118,7 +118,7 @@ impl MergeJoin {
             Ok(()) => self.go_on(),
             Err(e) => {
                 let fault = own_fault(e, self.node);
-                self.over = Over::Failed(fault);
+                self.over = StreamState::Failed(fault);
                 Polled::Fault(fault)
             }
         }
@@ -142,7 +142,7 @@ impl MergeJoin {
                 self.go_on()
             }
             Got::Input(Polled::Fault(f)) => {
-                self.over = Over::Failed(f);
+                self.over = StreamState::Failed(f);
                 Polled::Fault(f)
             }
             _ => Polled::Waiting,
@@ -163,7 +163,7 @@ impl MergeJoin {
             Ok(()) => self.go_on(),
             Err(e) => {
                 let fault = own_fault(e, self.node);
-                self.over = Over::Failed(fault);
+                self.over = StreamState::Failed(fault);
                 Polled::Fault(fault)
             }
         }
@@ -186,7 +186,7 @@ impl MergeJoin {
             }
             Err(e) => {
                 let fault = own_fault(e, self.node);
-                self.over = Over::Failed(fault);
+                self.over = StreamState::Failed(fault);
                 Polled::Fault(fault)
             }
         }
@@ -202,7 +202,7 @@ impl MergeJoin {
     {
         match self.kernel.needs() {
             MergeNeed::End => {
-                self.over = Over::Ended;
+                self.over = StreamState::Ended;
                 Polled::End
             }
             _ => Polled::Waiting,
@@ -225,7 +225,7 @@ impl Source for MergeJoin {
 
     fn wants(&self) -> Want {
         match self.over {
-            Over::Running => match self.kernel.needs() {
+            StreamState::Running => match self.kernel.needs() {
                 MergeNeed::Left => Want::Left,
                 MergeNeed::Right => Want::Right,
                 _ => Want::Nothing,
@@ -236,9 +236,9 @@ impl Source for MergeJoin {
 
     fn turn(&mut self, got: Got) -> Polled {
         match self.over {
-            Over::Ended => Polled::End,
-            Over::Failed(f) => Polled::Fault(f),
-            Over::Running => match self.kernel.needs() {
+            StreamState::Ended => Polled::End,
+            StreamState::Failed(f) => Polled::Fault(f),
+            StreamState::Running => match self.kernel.needs() {
                 MergeNeed::Left => self.read_left(got),
                 MergeNeed::Right => self.read_right(got),
                 MergeNeed::Nothing => self.go_on(),

@@ -5,7 +5,7 @@ use Rattle.std.proofs.lemmas.Bool.{cases_lt}
 use Rattle.std.proofs.lemmas.List.{take_all, take-append-drop}
 use Rattle.std.proofs.Math.Seq.{take-append_seam, drop-append_seam}
 use Rattle.vx_values.specs.Values.{Row, row_cmp, pick}
-use Rattle.vx_rows.specs.Order.{sorted}
+use Rattle.vx_values.specs.Order.{sorted}
 use Rattle.vx_rows.specs.View.{RowsView, row}
 use Rattle.vx_keys.specs.Matched.{matched}
 use Rattle.vx_merging.specs.Merged.{MergeView, HasMerged, state_at, last_key, joined_rows, IsMerged, HasJoined, HoldsRun, HasSameInputs, MergeBlame, run_rows, rows_at}

@@ -9,9 +9,9 @@ use Rattle.std.proofs.Math.Seq.{drop-append-add, take-append-add}
 use Rattle.std.proofs.lemmas.List.{length-append, take-append-drop, drop_all}
 use Rattle.std.proofs.lemmas.List.Elements.{filter-append}
 use Rattle.vx_values.specs.Values.{Row, row_cmp, row_eq, pick}
-use Rattle.vx_rows.specs.Order.{compare_on, sorted}
+use Rattle.vx_values.specs.Order.{compare_on, sorted}
 use Rattle.vx_values.proofs.Booleans.{and-left, and-right, and-both}
-use Rattle.vx_rows.proofs.Compare.{row_eq-same, row_cmp_total}
+use Rattle.vx_values.proofs.Compare.{row_eq-same, row_cmp_total}
 use Rattle.vx_plan_nodes.specs.Serial.{of_key}
 use Rattle.vx_merging.specs.Merged.{MergeState, last_key, HasMerged, HoldsKey, state_at}
 use Rattle.vx_merging.proofs.RiseFacts.{none-below, all-join, all-weaken, rise-back, rise-push, rise-next, rise-under, last-all, last-push}

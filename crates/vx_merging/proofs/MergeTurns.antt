@@ -5,7 +5,7 @@ use Rattle.std.proofs.lemmas.List.{take_more, take_all, take-append-drop, take-a
 use Rattle.std.proofs.lemmas.Bool.Decides.{nat_tests}
 use Rattle.std.proofs.lemmas.List.Concat.{flat_map-append}
 use Rattle.vx_values.specs.Values.{Row, row_cmp, pick}
-use Rattle.vx_rows.specs.Order.{sorted}
+use Rattle.vx_values.specs.Order.{sorted}
 use Rattle.vx_rows.specs.View.{RowsView, row}
 use Rattle.vx_keys.specs.Matched.{matched}
 use Rattle.vx_merging.specs.declared.merging.MergeNeed.TheVariants as need

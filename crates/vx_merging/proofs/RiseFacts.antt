@@ -3,9 +3,9 @@ use Rattle.std.proofs.Common.{◌≡◌, ℕ, suc, zero, ◌+◌, ◌<◌, Bool,
 use Rattle.std.specs.List.{list_all}
 use Rattle.std.proofs.lemmas.List.{take_more, take-append-drop}
 use Rattle.vx_values.specs.Values.{Row, row_cmp, pick}
-use Rattle.vx_rows.specs.Order.{compare_on, sorted}
+use Rattle.vx_values.specs.Order.{compare_on, sorted}
 use Rattle.vx_values.proofs.Booleans.{and-left, and-right, and-both}
-use Rattle.vx_rows.proofs.Compare.{row_le-trans}
+use Rattle.vx_values.proofs.Compare.{row_le-trans}
 use Rattle.vx_merging.specs.Merged.{last_key}
 
 pub not-so : (b : Bool) → (b ≡ true → ⊥) → b ≡ false

@@ -3,7 +3,7 @@ use Rattle.std.specs.Prelude.{◌≡◌, ◌<◌, ◌+◌, ℕ, Bool, true, fals
 use Rattle.std.specs.List.{list_all}
 use Rattle.std.specs.Ordering.{is_gt}
 use Rattle.vx_values.specs.Values.{Row, row_cmp, row_eq, pick}
-use Rattle.vx_rows.specs.Order.{sorted}
+use Rattle.vx_values.specs.Order.{sorted}
 use Rattle.vx_rows.specs.View.{RowsView, row}
 use Rattle.vx_plan_nodes.specs.Serial.{of_key}
 use Rattle.vx_keys.specs.Matched.{matched}

@@ -3,12 +3,12 @@
 ghost use Rattle.std.specs.Prelude.{◌≡◌, ◌<◌, ◌≤◌, ◌+◌, ◌++◌, ◌∷◌, [], List, length, take, drop, true};
 ghost use Rattle.std.specs.declared.cmp.Ordering.TheVariants.{Less};
 ghost use Rattle.vx_values.specs.Values.{Row as Cells, row_cmp, pick};
-ghost use Rattle.vx_rows.specs.Order.{sorted};
+ghost use Rattle.vx_values.specs.Order.{sorted};
 ghost use Rattle.vx_rows.specs.View.{row, AreColumns};
 ghost use Rattle.vx_merging.specs.Merged.{HasMerged, state_at};
 
 use std::cmp::Ordering;
-use vx_rows::compare_cells;
+use vx_values::compare_cells;
 use vx_views::Rows;
 
 /// Where the right rows of one key start and end.

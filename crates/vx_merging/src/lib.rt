@@ -5,5 +5,5 @@ mod key_run;
 mod merging;
 mod side_by_side;
 
-pub use merging::{Merge, MergeFault, MergeNeed, merge_join};
+pub use merging::{MergeFault, MergeNeed, MergeRows, merge_join};
 pub use side_by_side::push_beside;

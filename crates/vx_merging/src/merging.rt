@@ -3,19 +3,19 @@
 ghost use Rattle.std.specs.Prelude.{◌≡◌, ◌<◌, ◌≤◌, ◌+◌, ◌++◌, ◌&&◌, [], ℕ, List, length, map, cond, true, false, OnOk, IfOk, IfErr};
 ghost use Rattle.std.specs.Ordering.{is_lt, is_le};
 ghost use Rattle.vx_values.specs.Values.{Row as Cells, row_cmp, pick};
-ghost use Rattle.vx_rows.specs.Order.{sorted};
+ghost use Rattle.vx_values.specs.Order.{sorted};
 ghost use Rattle.vx_rows.specs.View.{row, AreColumns, ArePositions};
 ghost use Rattle.vx_plan_nodes.specs.Serial.{join_rows};
 ghost use Rattle.vx_merging.specs.declared.merging.MergeFault.TheVariants.{Falls};
 ghost use Rattle.vx_merging.specs.Merged.{HasJoined, IsMerged, HasSameInputs, HasSameShape, HoldsRun, MergeBlame, last_key, merge_need, rows_at, run_rows};
 
 use crate::key_run::{KeyRun, compare_rows, rise_across, run_of};
-use crate::side_by_side::{Pairs, add_pairs, pair_rows};
+use crate::side_by_side::{MatchedPositions, add_pairs, pair_rows};
 use std::alloc::{AllocError, Global};
 use std::cmp::Ordering;
 use std::marker::Model;
 use vx_keys::rises;
-use vx_rows::ColType;
+use vx_values::ColType;
 use vx_views::Rows;
 
 /// Why a merge stops.
@@ -55,7 +55,7 @@ pub enum MergeNeed {
 ///
 /// A merge of two inputs that come in batches. It keeps the batch at hand of each, and of the right rows before that only
 /// those with the key of the left row at hand.
-pub struct Merge {
+pub struct MergeRows {
     alloc: Global,
     left_columns: Vec<usize>,
     right_columns: Vec<usize>,
@@ -69,9 +69,9 @@ pub struct Merge {
 }
 
 // By hand, so that the drops of its parts are made and proved here once, and not in each function that drops one.
-impl Drop for Merge {
+impl Drop for MergeRows {
     fn drop(self) {
-        let Merge {
+        let MergeRows {
             alloc: _,
             left_columns: _,
             right_columns: _,
@@ -86,9 +86,9 @@ impl Drop for Merge {
     }
 }
 
-impl Model for Merge {
+impl Model for MergeRows {
     ghost use Rattle.std.specs.Prelude.{◌≡◌, ◌≤◌, length, true};
-    ghost use Rattle.vx_rows.specs.Order.{sorted};
+    ghost use Rattle.vx_values.specs.Order.{sorted};
     ghost use Rattle.vx_rows.specs.View.{AreColumns};
     ghost use Rattle.vx_merging.specs.Merged.{MergeView};
 
@@ -101,7 +101,7 @@ impl Model for Merge {
         × (sorted m.left_columns.items m.left.rows ≡ true) };
 }
 
-impl Merge {
+impl MergeRows {
     /// A merge to which nothing came, with its columns and the types of both inputs.
     pub fn new(
         alloc: Global,
@@ -109,7 +109,7 @@ impl Merge {
         left_types: &[ColType],
         right_columns: Vec<usize>,
         right_types: &[ColType],
-    ) -> Result<Merge, AllocError>
+    ) -> Result<MergeRows, AllocError>
         requires left { AreColumns (length left_types.now) left_columns.items }
         requires right { AreColumns (length right_types.now) right_columns.items }
         ensures lefts { IfOk result (λ m. m.lefts ≡ left_columns.items) }
@@ -123,7 +123,7 @@ impl Merge {
     {
         let left = Rows::new(alloc, left_types)?;
         let right = Rows::new(alloc, right_types)?;
-        Ok(Merge {
+        Ok(MergeRows {
             alloc,
             left_columns,
             right_columns,
@@ -227,7 +227,7 @@ impl Merge {
         ensures joined { IfOk result (λ r. (ls rs ys : List Cells) → HasJoined self.old ls rs ys → HasJoined self.new ls rs (ys ++ r.rows)) }
         ensures err { IfErr result (λ e. (ls rs ys : List Cells) → HasJoined self.old ls rs ys → MergeBlame e (sorted self.old.lefts ls)) }
     {
-        let mut pairs = Pairs {
+        let mut pairs = MatchedPositions {
             left: Vec::new(self.alloc),
             right: Vec::new(self.alloc),
         };
@@ -239,7 +239,7 @@ impl Merge {
 
     // Joins the next left row with its run, where that is at hand as a whole and fewer than `most` pairs were made, and
     // returns whether it did.
-    fn join_next(&mut self, pairs: &mut Pairs, most: usize) -> Result<bool, MergeFault>
+    fn join_next(&mut self, pairs: &mut MatchedPositions, most: usize) -> Result<bool, MergeFault>
         requires many { length pairs.old.left.items ≡ length pairs.old.right.items }
         requires left { ArePositions (length self.old.left.rows) pairs.old.left.items }
         requires right { ArePositions (length self.old.right.rows) pairs.old.right.items }
@@ -403,7 +403,7 @@ pub fn merge_join(
 {
     let lefts = Vec::from_slice(alloc, left_columns)?;
     let rights = Vec::from_slice(alloc, right_columns)?;
-    let mut merge = Merge::new(alloc, lefts, left.types(), rights, right.types())?;
+    let mut merge = MergeRows::new(alloc, lefts, left.types(), rights, right.types())?;
     merge.take_left(left.slice(alloc, 0, left.len())?)?;
     merge.take_right(right.slice(alloc, 0, right.len())?)?;
     merge.end_right();

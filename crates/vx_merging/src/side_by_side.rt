@@ -9,14 +9,14 @@ use vx_views::{Chunk, Rows};
 
 /// Places of rows of two inputs that belong together: the first of both, then the second, and so on.
 #[derive(Drop)]
-pub(crate) struct Pairs {
+pub(crate) struct MatchedPositions {
     pub left: Vec<usize>,
     pub right: Vec<usize>,
 }
 
 // Adds the place of a left row with each right place from `from` up to `to`.
 pub(crate) fn add_pairs(
-    pairs: &mut Pairs,
+    pairs: &mut MatchedPositions,
     place: usize,
     from: usize,
     to: usize,
@@ -41,7 +41,7 @@ pub(crate) fn pair_rows(
     alloc: Global,
     left: &Rows,
     right: &Rows,
-    pairs: &Pairs,
+    pairs: &MatchedPositions,
 ) -> Result<Rows, AllocError>
     requires many { length pairs.now.left.items ≡ length pairs.now.right.items }
     requires left { ArePositions (length left.now.rows) pairs.now.left.items }

@@ -1,5 +1,6 @@
 -- Hands and decks that deal out numbers below a bound to one drawer after the other, without threads.
 use Rattle.std.specs.Prelude.{ℕ, ◌≡◌, ◌<◌, ◌≤◌, ◌+◌, Option, Some, None}
+use Rattle.vx_values.specs.Limits.{max_group_workers, max_rows}
 
 -- a hand deals place, place + size, and so on, below `morsels`; `next` is the next one
 pub record HandState : Type 0 where
@@ -8,9 +9,9 @@ pub record HandState : Type 0 where
   pub morsels : ℕ
   pub next : ℕ
 
--- 1 to 64 places, at most 100,000,000 morsels
+-- at least one place and no more than a worker group has workers, and no more morsels than a relation has rows
 abbrev pub IsSmall : ℕ → ℕ → Type 0
-IsSmall size morsels = (0 < size) × (size ≤ 64) × (morsels ≤ 100000000)
+IsSmall size morsels = (0 < size) × (size ≤ max_group_workers) × (morsels ≤ max_rows)
 
 -- a draw returns the next number, and the one after it is `size` larger; past the bound it returns none and changes nothing
 abbrev pub HandDraws : HandState → Option ℕ → HandState → Type 0
@@ -23,7 +24,7 @@ pub record DeckState : Type 0 where
   pub next : ℕ
 
 abbrev pub IsDeck : ℕ → ℕ → Type 0
-IsDeck morsels next = (morsels ≤ 100000000) × (next ≤ morsels)
+IsDeck morsels next = (morsels ≤ max_rows) × (next ≤ morsels)
 
 -- a draw returns the next number; at the end it returns none and changes nothing
 abbrev pub DeckDraws : DeckState → Option ℕ → DeckState → Type 0

@@ -1,5 +1,7 @@
 //! One deck for all workers of a scan, drawn from in turn.
 
+ghost use Rattle.vx_values.specs.Limits.{max_rows};
+
 use crate::draw::Draw;
 use std::marker::Model;
 
@@ -27,7 +29,7 @@ impl Deck {
 
     /// A deck that has dealt out nothing, of at most 100,000,000 morsels.
     pub fn new(morsels: u64) -> Deck
-        requires { morsels ≤ 100000000 }
+        requires { morsels ≤ max_rows }
         ensures { result ≡ record { morsels = morsels; next = 0 } }
     {
         Deck { morsels, next: 0 }

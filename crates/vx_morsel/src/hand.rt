@@ -1,5 +1,7 @@
 //! Strided numbers for one worker.
 
+ghost use Rattle.vx_values.specs.Limits.{max_group_workers, max_rows};
+
 use crate::draw::Draw;
 use std::marker::Model;
 
@@ -30,8 +32,8 @@ impl Hand {
     /// A hand that has dealt out nothing: for one of `size` places, 1 to 64, of a scan with at most 100,000,000 morsels.
     pub fn new(place: u64, size: u64, morsels: u64) -> Hand
         requires in_range { place < size }
-        requires few { size ≤ 64 }
-        requires small { morsels ≤ 100000000 }
+        requires few { size ≤ max_group_workers }
+        requires small { morsels ≤ max_rows }
         ensures { result ≡ record { place = place; size = size; morsels = morsels; next = place } }
     {
         Hand {

@@ -9,6 +9,7 @@ ghost use Rattle.vx_plan_nodes.specs.Types.{unary_types, binary_types};
 ghost use Rattle.vx_ops.specs.Ledger.{one_op, two_op, receive};
 ghost use Rattle.vx_ops.specs.Turn.{fresh_ledger};
 ghost use Rattle.vx_operators.specs.Operator.{OperatorStands, operator_op, operator_types};
+ghost use Rattle.vx_values.specs.Limits.{max_group_workers};
 
 use crate::kind::OperatorKind;
 use crate::operator::Operator;
@@ -19,8 +20,8 @@ use vx_match::{FirstRows, HashJoining, KeyedGroups, MergeJoin};
 use vx_ops::{Project, Select, Sort, Union};
 use vx_plan_nodes::{Binary, Exchange, ExchangeKind, Unary, copied_conditions};
 use vx_receivers::{InOrderReceiver, MergeReceiver};
-use vx_rows::ColType;
 use vx_seeds::KeySeed;
+use vx_values::ColType;
 
 /// The operator over one input of rows of these types, at the node with this number, to which nothing came. Keys are hashed by
 /// the seed.
@@ -120,7 +121,7 @@ pub fn consumer_operator(
     types: Vec<ColType>,
 ) -> Result<Operator, AllocError>
     requires some { 1 ≤ producers }
-    requires few { producers ≤ 64 }
+    requires few { producers ≤ max_group_workers }
     requires columns { AreColumns (length types.items) exchange.now.merge.items }
     requires merges { may_merge (kind_of exchange.now.kind) exchange.now.merge.items ≡ true }
     ensures op { IfOk result (λ o. operator_op o

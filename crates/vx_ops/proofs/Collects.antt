@@ -9,8 +9,8 @@ use Rattle.vx_ops.specs.Turn.{fresh_ledger}
 use Rattle.vx_ops.specs.declared.fault.Code.TheVariants.{Overflow, NoMemory}
 use Rattle.vx_ops.specs.declared.fault.Fault.{Fault}
 use Rattle.vx_ops.specs.declared.fault.Fault.TheVariants.{Own}
-use Rattle.vx_ops.specs.declared.fault.Over.{Over}
-use Rattle.vx_ops.specs.declared.fault.Over.TheVariants.{Running, Ended, Failed}
+use Rattle.vx_ops.specs.declared.fault.StreamState.{StreamState}
+use Rattle.vx_ops.specs.declared.fault.StreamState.TheVariants.{Running, Ended, Failed}
 use Rattle.vx_ops.specs.CollectingKernel.{MayOverflow}
 use Rattle.vx_ops.specs.Collecting.{IsCollected}
 use Rattle.vx_ops.proofs.Turns.{with_refusal, running-ended, running-failed, ended-failed, failed-ended, failed-running, ended-running, same-fault, own-memory}
@@ -20,7 +20,7 @@ abbrev pub with_taken : Ledger → List Row → Ledger
 with_taken l xs = record l { left = record { rows = l.left.rows ++ xs; over = l.left.over } }
 
 -- after the input stands so, and the operator so
-abbrev pub with_overs : Ledger → Over → Over → Ledger
+abbrev pub with_overs : Ledger → StreamState → StreamState → Ledger
 with_overs l o p = record l { left = record { rows = l.left.rows; over = o }; gave = record { rows = l.gave.rows; over = p } }
 
 -- after the input ended and all was returned

@@ -13,8 +13,8 @@ use Rattle.vx_ops.specs.Probing.{ProbingPhase, IsProbing, reads_next, rest_rows}
 use Rattle.vx_ops.specs.declared.fault.Code.TheVariants.{NoMemory}
 use Rattle.vx_ops.specs.declared.fault.Fault.{Fault}
 use Rattle.vx_ops.specs.declared.fault.Fault.TheVariants.{Own}
-use Rattle.vx_ops.specs.declared.fault.Over.{Over}
-use Rattle.vx_ops.specs.declared.fault.Over.TheVariants.{Running, Ended, Failed}
+use Rattle.vx_ops.specs.declared.fault.StreamState.{StreamState}
+use Rattle.vx_ops.specs.declared.fault.StreamState.TheVariants.{Running, Ended, Failed}
 use Rattle.vx_ops.specs.declared.turn.Want.TheVariants as want
 use Rattle.vx_ops.specs.declared.turn.Got.{Got}
 use Rattle.vx_ops.specs.declared.turn.Got.TheVariants as got
@@ -174,7 +174,7 @@ module _ (n : ℕ) (op : Binary) (empty : (rs : List Row) → binary_rows op [] 
 
     -- it failed, and returns that again
     pub still-failed : (ready : Bool) (rest : Option RowsView) (f : Fault) (q : Got) → IsProbing n op R B ready rest (Failed f) l → IsProbing n op R B ready rest (Failed f) (after l want.Nothing q (polled.Fault f))
-    still-failed ready rest f q h = let P : Over → Type 0 = λ o. IsProbing n op R B ready rest (Failed f) (record l { gave = record { rows = l.gave.rows; over = o } }) in subst P h.stands h
+    still-failed ready rest f q h = let P : StreamState → Type 0 = λ o. IsProbing n op R B ready rest (Failed f) (record l { gave = record { rows = l.gave.rows; over = o } }) in subst P h.stands h
 
     -- the left input ended: all was returned
     pub left-end : (ready : Bool) (rest : Option RowsView) → IsProbing n op R B true None Running l → IsProbing n op S C ready rest Ended (after l want.Left (got.Input polled.End) polled.End)

@@ -8,8 +8,8 @@ use Rattle.vx_ops.specs.Begun.{all_of, begun_whole}
 use Rattle.vx_ops.specs.declared.fault.Code.TheVariants.{NoMemory}
 use Rattle.vx_ops.specs.declared.fault.Fault.{Fault}
 use Rattle.vx_ops.specs.declared.fault.Fault.TheVariants.{Own}
-use Rattle.vx_ops.specs.declared.fault.Over.{Over}
-use Rattle.vx_ops.specs.declared.fault.Over.TheVariants.{Running, Ended, Failed}
+use Rattle.vx_ops.specs.declared.fault.StreamState.{StreamState}
+use Rattle.vx_ops.specs.declared.fault.StreamState.TheVariants.{Running, Ended, Failed}
 use Rattle.vx_ops.specs.Stepping.{IsStepped}
 use Rattle.vx_ops.proofs.Turns.{with_refusal, running-ended, running-failed, ended-failed, failed-ended, failed-running, ended-running, same-fault, own-memory}
 
@@ -18,7 +18,7 @@ abbrev pub with_rows : Ledger → List Row → List Row → Ledger
 with_rows l xs ys = record l { left = record { rows = l.left.rows ++ xs; over = l.left.over }; gave = record { rows = l.gave.rows ++ ys; over = l.gave.over } }
 
 -- after the input ended or failed, and so did the operator
-abbrev pub with_over : Ledger → Over → Ledger
+abbrev pub with_over : Ledger → StreamState → Ledger
 with_over l o = record l { left = record { rows = l.left.rows; over = o }; gave = record { rows = l.gave.rows; over = o } }
 
 module _ (n : ℕ) (op : Unary) where

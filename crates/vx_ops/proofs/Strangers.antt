@@ -9,7 +9,7 @@ use Rattle.vx_ops.specs.Turn.{with_packet, after}
 use Rattle.vx_ops.specs.Strangers.{StrangerLaw}
 use Rattle.vx_ops.specs.declared.fault.Code.TheVariants.{Stranger}
 use Rattle.vx_ops.specs.declared.fault.Fault.TheVariants.{Own}
-use Rattle.vx_ops.specs.declared.fault.Over.TheVariants.{Failed}
+use Rattle.vx_ops.specs.declared.fault.StreamState.TheVariants.{Failed}
 use Rattle.vx_ops.specs.declared.turn.Want.TheVariants as want
 use Rattle.vx_ops.specs.declared.turn.Got.TheVariants as got
 use Rattle.vx_ops.specs.declared.turn.Polled.{Polled}

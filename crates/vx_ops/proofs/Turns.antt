@@ -6,7 +6,7 @@ use Rattle.vx_ops.specs.Ledger.{Ledger, one_op, OwnBlame}
 use Rattle.vx_ops.specs.declared.fault.Code.TheVariants.{NoMemory}
 use Rattle.vx_ops.specs.declared.fault.Fault.{Fault}
 use Rattle.vx_ops.specs.declared.fault.Fault.TheVariants.{Own}
-use Rattle.vx_ops.specs.declared.fault.Over.TheVariants.{Running, Ended, Failed}
+use Rattle.vx_ops.specs.declared.fault.StreamState.TheVariants.{Running, Ended, Failed}
 
 -- the ledger after a batch came for which memory ran out
 abbrev pub with_refusal : Ledger → List Row → Fault → Ledger

@@ -8,7 +8,7 @@ use Rattle.vx_ops.specs.Begun.{begun_whole}
 use Rattle.vx_ops.specs.Turn.{after}
 use Rattle.vx_ops.specs.Union.{Reads, IsUnited, input_wanted}
 use Rattle.vx_ops.specs.declared.fault.Fault.{Fault}
-use Rattle.vx_ops.specs.declared.fault.Over.TheVariants.{Running, Ended, Failed}
+use Rattle.vx_ops.specs.declared.fault.StreamState.TheVariants.{Running, Ended, Failed}
 use Rattle.vx_ops.specs.declared.turn.Got.TheVariants as got
 use Rattle.vx_ops.specs.declared.turn.Polled.TheVariants as polled
 use Rattle.vx_ops.proofs.Turns.{running-ended, running-failed, ended-failed, failed-ended, failed-running, ended-running}

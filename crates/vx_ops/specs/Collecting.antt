@@ -6,8 +6,8 @@ use Rattle.vx_plan_nodes.specs.Serial.{unary_rows}
 use Rattle.vx_ops.specs.Ledger.{Ledger, Op, one_op, Abides}
 use Rattle.vx_ops.specs.Turn.{Shape, while_running}
 use Rattle.vx_ops.specs.Meaning.{Meaning}
-use Rattle.vx_ops.specs.declared.fault.Over.{Over}
-use Rattle.vx_ops.specs.declared.fault.Over.TheVariants.{Running, Ended}
+use Rattle.vx_ops.specs.declared.fault.StreamState.{StreamState}
+use Rattle.vx_ops.specs.declared.fault.StreamState.TheVariants.{Running, Ended}
 use Rattle.vx_ops.specs.declared.turn.Want.{Want}
 use Rattle.vx_ops.specs.declared.turn.Want.TheVariants as want
 use Rattle.vx_ops.specs.declared.collecting.Collecting.{Collecting}
@@ -18,7 +18,7 @@ Phase op read false l = (l.left.over ≡ Running) × read l.left.rows × (l.gave
 Phase op read true l = (l.left.over ≡ Ended) × (unary_rows op l.left.rows ≡ Some l.gave.rows)
 
 -- it stands so; its phase while it runs; and what is known of any source
-pub record IsCollected (n : ℕ) (op : Unary) (read : List Row → Type 0) (finished : Bool) (over : Over) (l : Ledger) : Type 0 where
+pub record IsCollected (n : ℕ) (op : Unary) (read : List Row → Type 0) (finished : Bool) (over : StreamState) (l : Ledger) : Type 0 where
   pub stands : l.gave.over ≡ over
   pub runs : over ≡ Running → Phase op read finished l
   pub abides : Abides (one_op n op) l
@@ -30,7 +30,7 @@ abbrev pub collecting_types : {K : Type 0} → (K → Shape) → Collecting K �
 collecting_types types s = types s.kernel
 
 -- it wants its input until that has ended
-abbrev pub collecting_want : Bool → Over → Want
+abbrev pub collecting_want : Bool → StreamState → Want
 collecting_want true over = want.Nothing
 collecting_want false over = while_running want.Left over
 

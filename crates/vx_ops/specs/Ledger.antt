@@ -1,7 +1,7 @@
 -- What one source received and returned so far, and what is known of a source at any moment (Volcano's iterators).
 use Rattle.std.specs.Prelude.{ℕ, ◌≡◌, ◌<◌, ◌⊎◌, true, false, List, [], ◌∷◌, ◌++◌, length, map, Some, None, Bool}
 use Rattle.vx_values.specs.Values.{Row}
-use Rattle.vx_rows.specs.Order.{sorted}
+use Rattle.vx_values.specs.Order.{sorted}
 use Rattle.vx_values.specs.declared.value.ColType.{ColType}
 use Rattle.vx_plan_nodes.specs.Plan.{Unary, group, Binary, join}
 use Rattle.vx_plan_nodes.specs.Serial.{unary_rows, binary_rows, group_rows}
@@ -10,14 +10,14 @@ use Rattle.vx_ports.specs.Packets.{PacketView, rows_of, has_last, has_fault}
 use Rattle.vx_ops.specs.declared.fault.Code.TheVariants.{Overflow, NoMemory, Unsorted, Stranger}
 use Rattle.vx_ops.specs.declared.fault.Fault.{Fault}
 use Rattle.vx_ops.specs.declared.fault.Fault.TheVariants.{Own, Passed}
-use Rattle.vx_ops.specs.declared.fault.Over.{Over}
-use Rattle.vx_ops.specs.declared.fault.Over.TheVariants.{Running, Ended, Failed}
+use Rattle.vx_ops.specs.declared.fault.StreamState.{StreamState}
+use Rattle.vx_ops.specs.declared.fault.StreamState.TheVariants.{Running, Ended, Failed}
 use Rattle.vx_rows.specs.Lists.{IsBeginning}
 
 -- the rows of a stream so far, and how it stands
 pub record Stream : Type 0 where
   pub rows : List Row
-  pub over : Over
+  pub over : StreamState
 
 -- a stream that has not begun
 abbrev pub fresh : Stream

@@ -8,8 +8,8 @@ use Rattle.vx_ops.specs.Ledger.{Ledger, Op, two_op, Abides}
 use Rattle.vx_ops.specs.Turn.{Shape, while_running}
 use Rattle.vx_ops.specs.Meaning.{Meaning}
 use Rattle.vx_ops.specs.ProbeKernel.{IsProbed}
-use Rattle.vx_ops.specs.declared.fault.Over.{Over}
-use Rattle.vx_ops.specs.declared.fault.Over.TheVariants.{Running, Ended}
+use Rattle.vx_ops.specs.declared.fault.StreamState.{StreamState}
+use Rattle.vx_ops.specs.declared.fault.StreamState.TheVariants.{Running, Ended}
 use Rattle.vx_ops.specs.declared.turn.Want.{Want}
 use Rattle.vx_ops.specs.declared.turn.Want.TheVariants as want
 
@@ -19,7 +19,7 @@ pub record ProbingView (K : Type 0) : Type 0 where
   pub kernel : K
   pub ready : Bool
   pub rest : Option RowsView
-  pub over : Over
+  pub over : StreamState
 
 -- the rows that it holds
 abbrev pub rest_rows : Option RowsView → List Row
@@ -41,7 +41,7 @@ ProbingPhase op read built true rest l =
     (l.right.over ≡ Ended) × built l.right.rows × IsProbed op l.right.rows l.left.rows l.gave.rows (rest_rows rest)
 
 -- it stands so; its phase while it runs, and its left input runs too; and what is known of any source
-pub record IsProbing (n : ℕ) (op : Binary) (read built : List Row → Type 0) (ready : Bool) (rest : Option RowsView) (over : Over) (l : Ledger) : Type 0 where
+pub record IsProbing (n : ℕ) (op : Binary) (read built : List Row → Type 0) (ready : Bool) (rest : Option RowsView) (over : StreamState) (l : Ledger) : Type 0 where
   pub stands : l.gave.over ≡ over
   pub left : over ≡ Running → l.left.over ≡ Running
   pub runs : over ≡ Running → ProbingPhase op read built ready rest l

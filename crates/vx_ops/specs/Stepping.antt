@@ -7,13 +7,13 @@ use Rattle.vx_ops.specs.Ledger.{Ledger, Op, one_op, Abides}
 use Rattle.vx_ops.specs.Turn.{Shape, while_running}
 use Rattle.vx_ops.specs.Meaning.{Meaning}
 use Rattle.vx_ops.specs.declared.turn.Want.TheVariants as want
-use Rattle.vx_ops.specs.declared.fault.Over.{Over}
-use Rattle.vx_ops.specs.declared.fault.Over.TheVariants.{Running}
+use Rattle.vx_ops.specs.declared.fault.StreamState.{StreamState}
+use Rattle.vx_ops.specs.declared.fault.StreamState.TheVariants.{Running}
 use Rattle.vx_ops.specs.declared.stepping.Stepping.{Stepping}
 
 -- it stands so; while it runs so does its input, its kernel made the rows that were returned of those that came,
 -- and they are what the operator makes of them; and what is known of any source
-pub record IsStepped (n : ℕ) (op : Unary) (made : List Row → List Row → Type 0) (over : Over) (l : Ledger) : Type 0 where
+pub record IsStepped (n : ℕ) (op : Unary) (made : List Row → List Row → Type 0) (over : StreamState) (l : Ledger) : Type 0 where
   pub stands : l.gave.over ≡ over
   pub runs : over ≡ Running → (l.left.over ≡ Running) × made l.left.rows l.gave.rows × (unary_rows op l.left.rows ≡ Some l.gave.rows)
   pub abides : Abides (one_op n op) l

@@ -3,8 +3,8 @@ use Rattle.std.specs.Prelude.{ℕ, ◌≡◌, ◌<◌, ◌==◌, List, [], ◌�
 use Rattle.vx_values.specs.declared.value.ColType.{ColType}
 use Rattle.vx_ports.specs.Packets.{PacketView}
 use Rattle.vx_ops.specs.Ledger.{Stream, Ledger, fresh}
-use Rattle.vx_ops.specs.declared.fault.Over.{Over}
-use Rattle.vx_ops.specs.declared.fault.Over.TheVariants.{Running, Ended, Failed}
+use Rattle.vx_ops.specs.declared.fault.StreamState.{StreamState}
+use Rattle.vx_ops.specs.declared.fault.StreamState.TheVariants.{Running, Ended, Failed}
 use Rattle.vx_ops.specs.declared.turn.Want.{Want}
 use Rattle.vx_ops.specs.declared.turn.Want.TheVariants as want
 use Rattle.vx_ops.specs.declared.turn.Got.{Got}
@@ -74,13 +74,13 @@ abbrev pub after : Ledger → Want → Got → Polled → Ledger
 after l w g p = gives (took l w g) p
 
 -- what ended or failed returns the same again
-abbrev pub Again : Over → Polled → Type 0
+abbrev pub Again : StreamState → Polled → Type 0
 Again Running p = Unit {0}
 Again Ended p = p ≡ polled.End
 Again (Failed f) p = p ≡ polled.Fault f
 
 -- a source with one input wants it until it has ended or failed
-abbrev pub while_running : Want → Over → Want
+abbrev pub while_running : Want → StreamState → Want
 while_running w Running = w
 while_running w Ended = want.Nothing
 while_running w (Failed f) = want.Nothing

@@ -6,8 +6,8 @@ use Rattle.vx_ops.specs.Turn.{Shape, while_running}
 use Rattle.vx_ops.specs.Meaning.{Meaning}
 use Rattle.vx_ops.specs.declared.turn.Want.{Want}
 use Rattle.vx_ops.specs.declared.turn.Want.TheVariants as want
-use Rattle.vx_ops.specs.declared.fault.Over.{Over}
-use Rattle.vx_ops.specs.declared.fault.Over.TheVariants.{Running, Ended}
+use Rattle.vx_ops.specs.declared.fault.StreamState.{StreamState}
+use Rattle.vx_ops.specs.declared.fault.StreamState.TheVariants.{Running, Ended}
 use Rattle.vx_ops.specs.declared.union.Union.{Union}
 
 -- which input it reads: the left one, while nothing came from the right one; and once the left one has ended, the right one
@@ -16,7 +16,7 @@ Reads false l = (l.left.over ≡ Running) × (l.right.over ≡ Running) × (l.ri
 Reads true l = (l.left.over ≡ Ended) × (l.right.over ≡ Running)
 
 -- it stands so; which input it reads while it runs; it returned all that came; and what is known of any source
-pub record IsUnited (n : ℕ) (left_ended : Bool) (over : Over) (l : Ledger) : Type 0 where
+pub record IsUnited (n : ℕ) (left_ended : Bool) (over : StreamState) (l : Ledger) : Type 0 where
   pub stands : l.gave.over ≡ over
   pub runs : over ≡ Running → Reads left_ended l
   pub rows : l.left.rows ++ l.right.rows ≡ l.gave.rows

@@ -1,7 +1,7 @@
 //! The source that is made of a kernel which reads all of its input first.
 
 use crate::collecting_kernel::{CollectingKernel, FinishFault};
-use crate::fault::{Code, Fault, Over};
+use crate::fault::{Code, Fault, StreamState};
 use crate::source::Source;
 use crate::turn::{Got, Polled, Want};
 use vx_views::Rows;
@@ -14,7 +14,7 @@ pub struct Collecting<K> {
     node: u32,
     kernel: K,
     finished: bool,
-    over: Over,
+    over: StreamState,
 }
 
 impl<K: CollectingKernel> Collecting<K> {
@@ -22,7 +22,7 @@ impl<K: CollectingKernel> Collecting<K> {
     ghost use Rattle.vx_ops.specs.Ledger.{Ledger, one_op};
     ghost use Rattle.vx_ops.specs.Turn.{fresh_ledger, after, GivesRows};
     ghost use Rattle.vx_ops.specs.Collecting.{CollectingStands, collecting_op, collecting_types};
-    ghost use Rattle.vx_ops.specs.declared.fault.Over.TheVariants.{Running};
+    ghost use Rattle.vx_ops.specs.declared.fault.StreamState.TheVariants.{Running};
     ghost use Rattle.vx_ops.specs.declared.turn.Polled.TheVariants as polled;
     ghost use Rattle.vx_ops.specs.declared.turn.Got.TheVariants as got_of;
     ghost use Rattle.vx_ops.specs.declared.turn.Want.TheVariants as want_of;
@@ -38,7 +38,7 @@ impl<K: CollectingKernel> Collecting<K> {
             node,
             kernel,
             finished: false,
-            over: Over::Running,
+            over: StreamState::Running,
         }
     }
 
@@ -60,7 +60,7 @@ impl<K: CollectingKernel> Collecting<K> {
                     code: Code::NoMemory,
                     node: self.node,
                 };
-                self.over = Over::Failed(fault);
+                self.over = StreamState::Failed(fault);
                 Polled::Fault(fault)
             }
         }
@@ -79,7 +79,7 @@ impl<K: CollectingKernel> Collecting<K> {
         match self.kernel.finish() {
             Ok(made) => {
                 if made.len() == 0 {
-                    self.over = Over::Ended;
+                    self.over = StreamState::Ended;
                     return Polled::End;
                 }
                 self.finished = true;
@@ -90,7 +90,7 @@ impl<K: CollectingKernel> Collecting<K> {
                     code: Code::Overflow,
                     node: self.node,
                 };
-                self.over = Over::Failed(fault);
+                self.over = StreamState::Failed(fault);
                 Polled::Fault(fault)
             }
             Err(FinishFault::NoMemory) => {
@@ -98,7 +98,7 @@ impl<K: CollectingKernel> Collecting<K> {
                     code: Code::NoMemory,
                     node: self.node,
                 };
-                self.over = Over::Failed(fault);
+                self.over = StreamState::Failed(fault);
                 Polled::Fault(fault)
             }
         }
@@ -123,25 +123,25 @@ impl<K: CollectingKernel> Source for Collecting<K> {
             return Want::Nothing;
         }
         match self.over {
-            Over::Running => Want::Left,
+            StreamState::Running => Want::Left,
             _ => Want::Nothing,
         }
     }
 
     fn turn(&mut self, got: Got) -> Polled {
         match self.over {
-            Over::Ended => Polled::End,
-            Over::Failed(f) => Polled::Fault(f),
-            Over::Running => {
+            StreamState::Ended => Polled::End,
+            StreamState::Failed(f) => Polled::Fault(f),
+            StreamState::Running => {
                 if self.finished {
-                    self.over = Over::Ended;
+                    self.over = StreamState::Ended;
                     return Polled::End;
                 }
                 match got {
                     Got::Input(Polled::Gave(batch)) => self.collect(batch),
                     Got::Input(Polled::End) => self.conclude(),
                     Got::Input(Polled::Fault(f)) => {
-                        self.over = Over::Failed(f);
+                        self.over = StreamState::Failed(f);
                         Polled::Fault(f)
                     }
                     _ => Polled::Waiting,

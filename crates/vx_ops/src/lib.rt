@@ -19,7 +19,7 @@ mod union;
 
 pub use collecting::Collecting;
 pub use collecting_kernel::{CollectingKernel, FinishFault};
-pub use fault::{Code, Fault, Over};
+pub use fault::{Code, Fault, StreamState};
 pub use probe_kernel::ProbeKernel;
 pub use probing::Probing;
 pub use project::{Project, Projection};

@@ -6,12 +6,12 @@ ghost use Rattle.vx_ops.specs.Turn.{Fits, GotTyped, GivesRows, heard, gives, aft
 ghost use Rattle.vx_ops.specs.Probing.{ProbingStands, probing_op, probing_types, reads_next, rest_rows, RestTyped};
 ghost use Rattle.vx_ops.specs.declared.fault.Code.TheVariants.{NoMemory};
 ghost use Rattle.vx_ops.specs.declared.fault.Fault.TheVariants.{Own};
-ghost use Rattle.vx_ops.specs.declared.fault.Over.TheVariants.{Running, Failed};
+ghost use Rattle.vx_ops.specs.declared.fault.StreamState.TheVariants.{Running, Failed};
 ghost use Rattle.vx_ops.specs.declared.turn.Polled.TheVariants as polled;
 ghost use Rattle.vx_ops.specs.declared.turn.Got.TheVariants as got_of;
 ghost use Rattle.vx_ops.specs.declared.turn.Want.TheVariants as want_of;
 
-use crate::fault::{Code, Fault, Over};
+use crate::fault::{Code, Fault, StreamState};
 use crate::probe_kernel::ProbeKernel;
 use crate::source::Source;
 use crate::turn::{Got, Polled, Want};
@@ -29,7 +29,7 @@ pub struct Probing<K: ProbeKernel> {
     kernel: K,
     ready: bool,
     rest: Option<Rows>,
-    over: Over,
+    over: StreamState,
 }
 
 impl<K: ProbeKernel> Model for Probing<K> {
@@ -77,7 +77,7 @@ impl<K: ProbeKernel> Probing<K> {
             kernel,
             ready: false,
             rest: None,
-            over: Over::Running,
+            over: StreamState::Running,
         }
     }
 
@@ -90,7 +90,7 @@ impl<K: ProbeKernel> Probing<K> {
             code: Code::NoMemory,
             node: self.node,
         };
-        self.over = Over::Failed(fault);
+        self.over = StreamState::Failed(fault);
         Polled::Fault(fault)
     }
 
@@ -165,7 +165,7 @@ impl<K: ProbeKernel> Probing<K> {
             Got::Input(Polled::Gave(batch)) => self.build(batch),
             Got::Input(Polled::End) => self.finish_build(),
             Got::Input(Polled::Fault(f)) => {
-                self.over = Over::Failed(f);
+                self.over = StreamState::Failed(f);
                 Polled::Fault(f)
             }
             _ => Polled::Waiting,
@@ -187,11 +187,11 @@ impl<K: ProbeKernel> Probing<K> {
         match got {
             Got::Input(Polled::Gave(batch)) => self.probe(batch),
             Got::Input(Polled::End) => {
-                self.over = Over::Ended;
+                self.over = StreamState::Ended;
                 Polled::End
             }
             Got::Input(Polled::Fault(f)) => {
-                self.over = Over::Failed(f);
+                self.over = StreamState::Failed(f);
                 Polled::Fault(f)
             }
             _ => Polled::Waiting,
@@ -214,7 +214,7 @@ impl<K: ProbeKernel> Source for Probing<K> {
 
     fn wants(&self) -> Want {
         match self.over {
-            Over::Running => {
+            StreamState::Running => {
                 if self.rest.is_some() {
                     return Want::Nothing;
                 }
@@ -229,9 +229,9 @@ impl<K: ProbeKernel> Source for Probing<K> {
 
     fn turn(&mut self, got: Got) -> Polled {
         match self.over {
-            Over::Ended => Polled::End,
-            Over::Failed(f) => Polled::Fault(f),
-            Over::Running => {
+            StreamState::Ended => Polled::End,
+            StreamState::Failed(f) => Polled::Fault(f),
+            StreamState::Running => {
                 if let Some(rest) = self.rest.take() {
                     return self.probe(rest);
                 }

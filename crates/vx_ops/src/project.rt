@@ -4,7 +4,7 @@ use crate::step_kernel::StepKernel;
 use crate::stepping::Stepping;
 use std::alloc::{AllocError, Global};
 use std::marker::Model;
-use vx_rows::ColType;
+use vx_values::ColType;
 use vx_views::Rows;
 
 /// Calls: `new (wants turn)*`.

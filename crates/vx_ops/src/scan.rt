@@ -1,9 +1,9 @@
 //! Scans: the rows of the morsels that a worker drew.
 
-use crate::fault::Over;
+use crate::fault::StreamState;
 use crate::source::Source;
 use crate::turn::{Got, Polled, Want};
-use vx_rows::ColType;
+use vx_values::ColType;
 
 /// Calls: `new (wants turn)*`.
 ///
@@ -12,7 +12,7 @@ use vx_rows::ColType;
 /// It shares no machine with the operators over an input: it computes nothing, so nothing of its own can fail, and it has no node number.
 pub struct Scan {
     types: Vec<ColType>,
-    over: Over,
+    over: StreamState,
 }
 
 // By hand, so that the drops of its parts are made and proved here once, and not in each function that drops one.
@@ -34,7 +34,7 @@ impl Scan {
     {
         Scan {
             types,
-            over: Over::Running,
+            over: StreamState::Running,
         }
     }
 }
@@ -58,22 +58,22 @@ impl Source for Scan {
 
     fn wants(&self) -> Want {
         match self.over {
-            Over::Running => Want::Morsel,
+            StreamState::Running => Want::Morsel,
             _ => Want::Nothing,
         }
     }
 
     fn turn(&mut self, got: Got) -> Polled {
         match self.over {
-            Over::Ended => Polled::End,
-            Over::Failed(f) => Polled::Fault(f),
-            Over::Running => match got {
+            StreamState::Ended => Polled::End,
+            StreamState::Failed(f) => Polled::Fault(f),
+            StreamState::Running => match got {
                 Got::Input(Polled::End) => {
-                    self.over = Over::Ended;
+                    self.over = StreamState::Ended;
                     Polled::End
                 }
                 Got::Input(Polled::Fault(f)) => {
-                    self.over = Over::Failed(f);
+                    self.over = StreamState::Failed(f);
                     Polled::Fault(f)
                 }
                 Got::Input(p) => p,

@@ -5,7 +5,7 @@ use crate::stepping::Stepping;
 use std::alloc::{AllocError, Global};
 use vx_algebra::chosen;
 use vx_plan_nodes::Condition;
-use vx_rows::ColType;
+use vx_values::ColType;
 use vx_views::Rows;
 
 /// Calls: `new (wants turn)*`.

@@ -5,7 +5,7 @@ use crate::collecting_kernel::{CollectingKernel, FinishFault};
 use std::alloc::{AllocError, Global};
 use std::marker::Model;
 use vx_algebra::sorted_chunks;
-use vx_rows::ColType;
+use vx_values::ColType;
 use vx_views::Rows;
 
 /// Calls: `new (wants turn)*`.

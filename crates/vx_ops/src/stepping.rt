@@ -1,6 +1,6 @@
 //! The source that is made of a kernel which returns rows for each batch.
 
-use crate::fault::{Code, Fault, Over};
+use crate::fault::{Code, Fault, StreamState};
 use crate::source::Source;
 use crate::step_kernel::StepKernel;
 use crate::turn::{Got, Polled, Want};
@@ -13,7 +13,7 @@ use vx_views::Rows;
 pub struct Stepping<K> {
     node: u32,
     kernel: K,
-    over: Over,
+    over: StreamState,
 }
 
 impl<K: StepKernel> Stepping<K> {
@@ -21,7 +21,7 @@ impl<K: StepKernel> Stepping<K> {
     ghost use Rattle.vx_ops.specs.Ledger.{Ledger, one_op};
     ghost use Rattle.vx_ops.specs.Turn.{fresh_ledger, after, GivesRows};
     ghost use Rattle.vx_ops.specs.Stepping.{SteppingStands, stepping_op, stepping_types};
-    ghost use Rattle.vx_ops.specs.declared.fault.Over.TheVariants.{Running};
+    ghost use Rattle.vx_ops.specs.declared.fault.StreamState.TheVariants.{Running};
     ghost use Rattle.vx_ops.specs.declared.turn.Polled.TheVariants as polled;
     ghost use Rattle.vx_ops.specs.declared.turn.Got.TheVariants as got_of;
     ghost use Rattle.vx_ops.specs.declared.turn.Want.TheVariants as want_of;
@@ -36,7 +36,7 @@ impl<K: StepKernel> Stepping<K> {
         Stepping {
             node,
             kernel,
-            over: Over::Running,
+            over: StreamState::Running,
         }
     }
 
@@ -62,7 +62,7 @@ impl<K: StepKernel> Stepping<K> {
                     code: Code::NoMemory,
                     node: self.node,
                 };
-                self.over = Over::Failed(fault);
+                self.over = StreamState::Failed(fault);
                 Polled::Fault(fault)
             }
         }
@@ -86,23 +86,23 @@ impl<K: StepKernel> Source for Stepping<K> {
 
     fn wants(&self) -> Want {
         match self.over {
-            Over::Running => Want::Left,
+            StreamState::Running => Want::Left,
             _ => Want::Nothing,
         }
     }
 
     fn turn(&mut self, got: Got) -> Polled {
         match self.over {
-            Over::Ended => Polled::End,
-            Over::Failed(f) => Polled::Fault(f),
-            Over::Running => match got {
+            StreamState::Ended => Polled::End,
+            StreamState::Failed(f) => Polled::Fault(f),
+            StreamState::Running => match got {
                 Got::Input(Polled::Gave(batch)) => self.step(batch),
                 Got::Input(Polled::End) => {
-                    self.over = Over::Ended;
+                    self.over = StreamState::Ended;
                     Polled::End
                 }
                 Got::Input(Polled::Fault(f)) => {
-                    self.over = Over::Failed(f);
+                    self.over = StreamState::Failed(f);
                     Polled::Fault(f)
                 }
                 _ => Polled::Waiting,

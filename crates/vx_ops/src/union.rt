@@ -1,9 +1,9 @@
 //! Union: the rows of two inputs, with all their copies.
 
-use crate::fault::Over;
+use crate::fault::StreamState;
 use crate::source::Source;
 use crate::turn::{Got, Polled, Want};
-use vx_rows::ColType;
+use vx_values::ColType;
 
 /// Calls: `new (wants turn)*`.
 ///
@@ -14,7 +14,7 @@ pub struct Union {
     node: u32,
     types: Vec<ColType>,
     left_ended: bool,
-    over: Over,
+    over: StreamState,
 }
 
 // By hand, so that the drops of its parts are made and proved here once, and not in each function that drops one.
@@ -35,7 +35,7 @@ impl Union {
     ghost use Rattle.vx_ops.specs.Ledger.{Ledger, two_op};
     ghost use Rattle.vx_ops.specs.Turn.{fresh_ledger, after, GivesRows};
     ghost use Rattle.vx_ops.specs.Union.{UnionStands, union_op, union_types, union_want};
-    ghost use Rattle.vx_ops.specs.declared.fault.Over.TheVariants.{Running};
+    ghost use Rattle.vx_ops.specs.declared.fault.StreamState.TheVariants.{Running};
     ghost use Rattle.vx_ops.specs.declared.turn.Polled.TheVariants as polled;
     ghost use Rattle.vx_ops.specs.declared.turn.Got.TheVariants as got_of;
 
@@ -49,7 +49,7 @@ impl Union {
             node,
             types,
             left_ended: false,
-            over: Over::Running,
+            over: StreamState::Running,
         }
     }
 
@@ -66,7 +66,7 @@ impl Union {
             self.left_ended = true;
             return Polled::Waiting;
         }
-        self.over = Over::Ended;
+        self.over = StreamState::Ended;
         Polled::End
     }
 }
@@ -86,7 +86,7 @@ impl Source for Union {
 
     fn wants(&self) -> Want {
         match self.over {
-            Over::Running => {
+            StreamState::Running => {
                 if self.left_ended {
                     return Want::Right;
                 }
@@ -98,13 +98,13 @@ impl Source for Union {
 
     fn turn(&mut self, got: Got) -> Polled {
         match self.over {
-            Over::Ended => Polled::End,
-            Over::Failed(f) => Polled::Fault(f),
-            Over::Running => match got {
+            StreamState::Ended => Polled::End,
+            StreamState::Failed(f) => Polled::Fault(f),
+            StreamState::Running => match got {
                 Got::Input(Polled::Gave(batch)) => Polled::Gave(batch),
                 Got::Input(Polled::End) => self.end_input(),
                 Got::Input(Polled::Fault(f)) => {
-                    self.over = Over::Failed(f);
+                    self.over = StreamState::Failed(f);
                     Polled::Fault(f)
                 }
                 _ => Polled::Waiting,

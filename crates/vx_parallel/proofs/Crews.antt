@@ -1,5 +1,5 @@
 -- The workers of a job in threads: what they need before the first step, and what came back of them.
-use Rattle.std.proofs.Common.{◌≡◌, ℕ, zero, suc, ◌≤◌, List, [], ◌∷◌, length, map, Option, Some, slice_get, refl, sym, ap, ◌∙◌, subst, arith}
+use Rattle.std.proofs.Common.{◌≡◌, ℕ, zero, suc, ◌≤◌, List, [], ◌∷◌, length, flat_map, map, Option, Some, slice_get, refl, sym, ap, ◌∙◌, subst, arith}
 use Rattle.std.proofs.lemmas.Simd.{map-map}
 use Rattle.std.specs.List.{All}
 use Rattle.vx_values.specs.Values.{Row}
@@ -17,12 +17,11 @@ use Rattle.vx_steps.specs.Crews.{IsCrew}
 use Rattle.vx_steps.specs.Endings.{ReportsFirst}
 use Rattle.vx_steps.specs.Headline.{Answers}
 use Rattle.vx_steps.specs.Ready.{Settled}
-use Rattle.vx_steps.specs.Roles.{crew_size}
+use Rattle.vx_plan_nodes.specs.Workers.{crew_size, worker_group_at}
 use Rattle.vx_steps.proofs.Build.{crew-count, crew-root, crew-below}
 use Rattle.vx_steps.proofs.RunSteps.{map-length}
-use Rattle.vx_steps.specs.declared.verdict.Verdict.{Verdict}
-use Rattle.vx_steps.specs.declared.verdict.Verdict.TheVariants as verdict
-use Rattle.vx_layout.specs.Groups.{group_at}
+use Rattle.vx_steps.specs.declared.verdict.RunState.{RunState}
+use Rattle.vx_steps.specs.declared.verdict.RunState.TheVariants as run_state
 use Rattle.vx_decks.specs.Seats.{DeckView}
 use Rattle.vx_threads.specs.Carrying.{hold_of}
 use Rattle.vx_threads.specs.Drawers.{Sits}
@@ -39,10 +38,14 @@ use Rattle.vx_exec.specs.Job.{model_of, types_at}
 use Rattle.vx_exec.specs.declared.job.Job.{Job}
 use Rattle.vx_parallel.specs.declared.places.FragmentPlace.{FragmentPlace}
 use Rattle.vx_parallel.specs.Crew.{IsWiringOf, AreNew, AreHonest, HaveRun}
-use Rattle.vx_parallel.specs.Fragments.{fragments_below, places_from}
+use Rattle.vx_parallel.specs.Fragments.{fragment_in, places_from}
 use Rattle.vx_parallel.specs.Members.{worker_of, ends_of}
 use Rattle.vx_parallel.specs.Parallel.{WereJoined}
 use Rattle.vx_parallel.specs.Places.{place_in}
+use Rattle.vx_layout.specs.Layout.{spans_of}
+use Rattle.vx_layout.specs.Order.{made_after}
+use Rattle.vx_layout.specs.declared.span.NodeSpan.{NodeSpan}
+use Rattle.vx_layout.proofs.Order.{made-by-plan}
 use Rattle.vx_parallel.proofs.Counting.{places-count}
 
 some-is : {A : Type 0} (x y : A) → ◌≡◌ {A = Option A} (Some x) (Some y) → x ≡ y
@@ -83,11 +86,11 @@ module _ (j : Job) (hash : List ℕ → Row → ℕ → ℕ) where
   WereRun p decks places js =
       WasRun OperatorStands operator_op DestinationStands task_of post_of bounds_of hash (scan_morsels (model_of hash j)) (model_of hash j) p decks places js
 
-  new-count : (ws : List (Worker Operator Destination)) → AreNew j ws → length ws ≡ crew_size (group_at j.layout.groups.items) (plan j.plan.now)
+  new-count : (ws : List (Worker Operator Destination)) → AreNew j ws → length ws ≡ crew_size (worker_group_at j.layout.worker_groups.items) (plan j.plan.now)
   new-count ws new =
       let ready = new.ready hash in
       let a = map-length role ws in
-      let b : length (map role ws) ≡ crew_size (group_at j.layout.groups.items) (plan j.plan.now) = crew-count (model_of hash j) (plan j.plan.now) (map role ws) ready.0 ready.1.crew in
+      let b : length (map role ws) ≡ crew_size (worker_group_at j.layout.worker_groups.items) (plan j.plan.now) = crew-count (model_of hash j) (plan j.plan.now) (map role ws) ready.0 ready.1.crew in
       omega (arith, a, b)
 
   -- there are few of them
@@ -98,17 +101,18 @@ module _ (j : Job) (hash : List ℕ → Row → ℕ → ℕ) where
   pub as-many-ends : (ws : List (Worker Operator Destination)) (w : Wiring) → AreNew j ws → IsWiringOf j w → length w.ends.items ≡ length ws
   as-many-ends ws w new wiring =
       let a = map-length hold_of w.ends.items in
-      let b : length (map hold_of w.ends.items) ≡ crew_size (group_at j.layout.groups.items) (plan j.plan.now) = (wiring.wired hash).count in
+      let b : length (map hold_of w.ends.items) ≡ crew_size (worker_group_at j.layout.worker_groups.items) (plan j.plan.now) = (wiring.wired hash).count in
       let c = new-count ws new in
       omega (arith, a, b, c)
 
   -- and its place
-  pub as-many-places : (ws : List (Worker Operator Destination)) (seats lent : List FragmentPlace) (groups : List ℕ) (p : Plan) → AreNew j ws → groups ≡ j.layout.groups.items → p ≡ plan j.plan.now
-      → lent ≡ seats → map place_in seats ≡ places_from 0 (1 ∷ fragments_below (group_at groups) p) → length lent ≡ length ws
-  as-many-places ws seats lent groups p new eg ep el is =
+  pub as-many-places : (ws : List (Worker Operator Destination)) (seats lent : List FragmentPlace) (spans : List NodeSpan) → AreNew j ws
+      → spans ≡ spans_of (worker_group_at j.layout.worker_groups.items) (plan j.plan.now) 0 1 → lent ≡ seats → map place_in seats ≡ places_from 0 (1 ∷ flat_map fragment_in spans)
+      → length lent ≡ length ws
+  as-many-places ws seats lent spans new es el is =
       let a = map-length place_in seats in
-      let b = ap (λ (z : List (ℕ × ℕ)). length z) is ∙ places-count (group_at groups) p ∙ ap (λ z. crew_size (group_at z) p) eg
-      ∙ ap (λ z. crew_size (group_at j.layout.groups.items) z) ep in
+      let b = ap (λ (z : List (ℕ × ℕ)). length z) is ∙ places-count spans ∙ ap (λ (z : List NodeSpan). made_after 1 z) es
+      ∙ made-by-plan (worker_group_at j.layout.worker_groups.items) (plan j.plan.now) 0 1 in
       let c = new-count ws new in
       let d = ap (λ (z : List FragmentPlace). length z) el in
       omega (arith, a, b, c, d)
@@ -140,7 +144,7 @@ module _ (j : Job) (hash : List ℕ → Row → ℕ → ℕ) where
       subst (λ z. WereRun z w.decks.items places js) (sym ep) (subst (λ z. WereRun q w.decks.items z js) (sym eq) was)
 
   -- they are the workers that were joined, of the plan as the job has it
-  pub were-joined : (p : Plan) (decks : List DeckView) (places : List DeckPlace) (js : List (Joined Operator Destination)) (ended : List (Worker Operator Destination)) (v : Verdict)
+  pub were-joined : (p : Plan) (decks : List DeckView) (places : List DeckPlace) (js : List (Joined Operator Destination)) (ended : List (Worker Operator Destination)) (v : RunState)
       → p ≡ plan j.plan.now → WereRun p decks places js → ended ≡ map joined_worker js → Settled task_of (model_of hash j) p ended v
       → WereJoined hash (model_of hash j) (plan j.plan.now) ended v
   were-joined p decks places js ended v ep was are settled = record {
@@ -161,9 +165,9 @@ module _ (j : Job) (hash : List ℕ → Row → ℕ → ℕ) where
   same-roles (c ∷ cs) (x ∷ js) h = ap (λ z. z ∷ map role (map joined_worker js)) h.0.ran.role ∙ ap (λ z. role c.worker ∷ z) (same-roles cs js h.1)
 
   -- and what they come to is worth what the verdict says
-  pub have-run : (ws ended : List (Worker Operator Destination)) (cs : List (CrewMember Operator Destination)) (js : List (Joined Operator Destination)) (p : Plan) (v : Verdict)
+  pub have-run : (ws ended : List (Worker Operator Destination)) (cs : List (CrewMember Operator Destination)) (js : List (Joined Operator Destination)) (p : Plan) (v : RunState)
       → map worker_of cs ≡ ws → p ≡ plan j.plan.now → ended ≡ map joined_worker js → AreHonest hash j cs js
-      → Answers task_of (model_of hash j) (resolved_of j.plan.now).total p ended v → ReportsFirst (model_of hash j) p v → (v ≡ verdict.Unfinished → ⊥) → HaveRun hash j ws ended v
+      → Answers task_of (model_of hash j) (resolved_of j.plan.now).total p ended v → ReportsFirst (model_of hash j) p v → (v ≡ run_state.Unfinished → ⊥) → HaveRun hash j ws ended v
   have-run ws ended cs js p v ews ep ejs honest answers first whole = record {
     roles = ap (λ z. map role z) ejs ∙ same-roles cs js honest ∙ ap (λ z. map role z) ews;
     answers = subst (λ z. Answers task_of (model_of hash j) (resolved_of j.plan.now).total z ended v) ep answers;

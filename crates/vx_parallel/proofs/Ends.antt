@@ -1,10 +1,8 @@
 -- What a run in threads comes to, from what its workers came to.
-use Rattle.std.proofs.Common.{Vec, Global, ◌≡◌, ◌⊎◌, ℕ, List, Ok, Err, Result, IfOk, IfErr, refl, sym, ap, ◌∙◌, subst, inl, inr, map, length, vec_len, arith}
+use Rattle.std.proofs.Common.{Vec, Global, ◌≡◌, ◌⊎◌, ℕ, List, Ok, Err, Result, IfOk, refl, sym, ap, ◌∙◌, subst, inl, inr, map, length, vec_len, arith}
 use Rattle.std.specs.List.{All}
 use Rattle.std.specs.Result.{IsErrAnd}
 use Rattle.vx_values.specs.Values.{Row}
-use Rattle.vx_catalog.specs.Database.{Database}
-use Rattle.vx_plan_nodes.specs.Names.{TypedPlanView}
 use Rattle.vx_plan_nodes.specs.Plan.{Plan}
 use Rattle.vx_plan_nodes.specs.TypedView.{plan}
 use Rattle.vx_worker.specs.Fragment.{RunModel}
@@ -18,21 +16,21 @@ use Rattle.vx_operators.specs.declared.destination.Destination.{Destination}
 use Rattle.vx_steps.proofs.RunSteps.{map-length}
 use Rattle.vx_steps.specs.LinksView.{LinksView}
 use Rattle.vx_steps.specs.Ready.{Ready}
-use Rattle.vx_steps.specs.declared.verdict.Verdict.{Verdict}
-use Rattle.vx_steps.specs.declared.verdict.Verdict.TheVariants as verdict
+use Rattle.vx_steps.specs.declared.verdict.RunState.{RunState}
+use Rattle.vx_steps.specs.declared.verdict.RunState.TheVariants as run_state
 use Rattle.vx_setup.specs.declared.fault.RunFault.{RunFault}
 use Rattle.vx_setup.specs.declared.fault.RunFault.TheVariants as fault
 use Rattle.vx_exec.specs.Crew.{IsNew}
 use Rattle.vx_exec.specs.Job.{model_of}
 use Rattle.vx_exec.specs.Making.{board_of}
-use Rattle.vx_exec.specs.Runs.{ComesTo, IsTrueOf}
+use Rattle.vx_exec.specs.Runs.{ComesTo}
 use Rattle.vx_exec.specs.declared.counted.WorkerCounts.{WorkerCounts}
 use Rattle.vx_exec.specs.declared.crew.Crew.{Crew}
 use Rattle.vx_exec.specs.declared.job.Job.{Job}
-use Rattle.vx_exec.specs.declared.ran.Ran.{Ran}
-use Rattle.vx_exec.specs.declared.ran.Ran.TheVariants as ran
+use Rattle.vx_exec.specs.declared.ran.RunOutcome.{RunOutcome}
+use Rattle.vx_exec.specs.declared.ran.RunOutcome.TheVariants as run_outcome
 use Rattle.vx_parallel.specs.Crew.{AreNew}
-use Rattle.vx_parallel.specs.Parallel.{IsReportedByThreads, IsWhole, NeedsFew, IsCountedCrew, CountedByThreads}
+use Rattle.vx_parallel.specs.Parallel.{IsWhole, IsCountedCrew, CountedByThreads}
 
 -- the workers of a crew are new
 pub new-parts : (j : Job) (crew : Crew) (ws : Vec (Worker Operator Destination) Global) (w : LinksView) → ws ≡ crew.workers → w ≡ board_of crew
@@ -51,57 +49,30 @@ new-parts j crew ws w e f ready new =
     }
 
 -- where all have ended, so has the run
-pub comes-whole : (ws : List (Worker Operator Destination)) (v : Verdict) (r : Result Ran RunFault) → (v ≡ verdict.Unfinished → ⊥) → ComesTo ws v r → IfOk r IsWhole
-comes-whole ws verdict.Done (Ok (ran.Done t)) whole h = tt
-comes-whole ws verdict.Done (Ok ran.Unfinished) whole h = absurd h
-comes-whole ws verdict.Unfinished (Ok x) whole h = absurd (whole refl)
-comes-whole ws (verdict.Failed f) (Ok (ran.Done t)) whole h = absurd h
-comes-whole ws (verdict.Failed f) (Ok ran.Unfinished) whole h = absurd h
+pub comes-whole : (ws : List (Worker Operator Destination)) (v : RunState) (r : Result RunOutcome RunFault) → (v ≡ run_state.Unfinished → ⊥) → ComesTo ws v r → IfOk r IsWhole
+comes-whole ws run_state.Done (Ok (run_outcome.Done t)) whole h = tt
+comes-whole ws run_state.Done (Ok run_outcome.Unfinished) whole h = absurd h
+comes-whole ws run_state.Unfinished (Ok x) whole h = absurd (whole refl)
+comes-whole ws (run_state.Failed f) (Ok (run_outcome.Done t)) whole h = absurd h
+comes-whole ws (run_state.Failed f) (Ok run_outcome.Unfinished) whole h = absurd h
 comes-whole ws v (Err e) whole h = tt
 
 -- no thread was started, or memory was refused
 abbrev pub IsRefusal : RunFault → Type 0
 IsRefusal e = (e ≡ fault.NoMemory) ⊎ (e ≡ fault.NoThread)
 
-refused-failed : (p : TypedPlanView) (db : Database) (e : RunFault) → IsRefusal e → (e ≡ fault.NoThread) ⊎ IsTrueOf p db e
-refused-failed p db e h = elim h [
-  | inl m ↦ inr (subst (λ z. IsTrueOf p db z) (sym m) tt)
-  | inr t ↦ inl t
-]
-
-refused-first : (W : RunModel) (p : Plan) (e : RunFault) → IsRefusal e → IsReportedByThreads W p e
-refused-first W p e h = elim h [
-  | inl m ↦ inr (inl m)
-  | inr t ↦ inl t
-]
-
--- so the result is its own fault
-pub refusal-failed : (r : Result Ran RunFault) (e : RunFault) (p : TypedPlanView) (db : Database) → IsErrAnd r (λ y. y ≡ e) → IsRefusal e
-    → IfErr r (λ e. (e ≡ fault.NoThread) ⊎ IsTrueOf p db e)
-refusal-failed (Ok x) e p db h k = tt
-refusal-failed (Err y) e p db h k = refused-failed p db y (subst IsRefusal (sym h) k)
-
-pub refusal-first : (r : Result Ran RunFault) (e : RunFault) (W : RunModel) (p : Plan) → IsErrAnd r (λ y. y ≡ e) → IsRefusal e → IfErr r (IsReportedByThreads W p)
-refusal-first (Ok x) e W p h k = tt
-refusal-first (Err y) e W p h k = refused-first W p y (subst IsRefusal (sym h) k)
-
-pub refusal-few : (r : Result Ran RunFault) (e : RunFault) (most n : ℕ) → IsErrAnd r (λ y. y ≡ e) → IsRefusal e → NeedsFew most n r
-refusal-few (Ok x) e most n h k = absurd h
-refusal-few (Err y) e most n h k = λ lt. elim k [
-  | inl m ↦ inr (ap (λ z. Err z) (h ∙ m))
-  | inr t ↦ inl (ap (λ z. Err z) (h ∙ t))
+-- what holds of either refusal holds of a result that hands one on
+pub refusal-reported : (P : Result RunOutcome RunFault → Type 0) (r : Result RunOutcome RunFault) (e : RunFault) → IsErrAnd r (λ y. y ≡ e) → IsRefusal e → P (Err fault.NoMemory) → P (Err fault.NoThread)
+    → P r
+refusal-reported P (Ok x) e handed h memory thread = absurd handed
+refusal-reported P (Err y) e handed h memory thread = elim h [
+  | inl m ↦ subst (λ z. P (Err z)) (sym (handed ∙ m)) memory
+  | inr t ↦ subst (λ z. P (Err z)) (sym (handed ∙ t)) thread
 ]
 
 module _ (hash : List ℕ → Row → ℕ → ℕ) (W : RunModel) (p : Plan) where
-  pub refusal-counted : (r : Result Ran RunFault) (e : RunFault) (counts : List WorkerCounts) → IsErrAnd r (λ y. y ≡ e) → IsRefusal e → CountedByThreads hash W p r counts
-  refusal-counted (Ok x) e counts h k = absurd h
-  refusal-counted (Err y) e counts h k = elim k [
-    | inl m ↦ inl (h ∙ m)
-    | inr t ↦ inr (inl (h ∙ t))
-  ]
-
   -- the workers came to this, whatever it is
-  pub counted-reported : (r : Result Ran RunFault) (counts : List WorkerCounts) → IsCountedCrew hash W p r counts → CountedByThreads hash W p r counts
+  pub counted-reported : (r : Result RunOutcome RunFault) (counts : List WorkerCounts) → IsCountedCrew hash W p r counts → CountedByThreads hash W p r counts
   counted-reported (Ok x) counts h = h
   counted-reported (Err e) counts h = inr (inr h)
 

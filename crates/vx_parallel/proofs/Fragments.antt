@@ -1,29 +1,14 @@
 -- The places of workers, fragment by fragment.
-use Rattle.std.proofs.Common.{ℕ, refl, flat_map, ◌≡◌, ◌+◌, ◌<◌, ◌≤◌, List, [], ◌∷◌, ◌++◌, length, map, get_or, drop, sym, ap, ◌∙◌, arith, append_assoc, length-append}
+use Rattle.std.proofs.Common.{ℕ, flat_map, ◌≡◌, ◌+◌, ◌<◌, ◌≤◌, List, [], ◌∷◌, ◌++◌, length, map, get_or, drop, sym, ap, ◌∙◌, arith, append_assoc, length-append}
 use Rattle.std.proofs.lemmas.List.{map_push}
 use Rattle.vx_rows.specs.Lists.{each_below}
-use Rattle.vx_plan_nodes.specs.Plan.{Plan, scan, unary, binary, exchange, size}
-use Rattle.vx_plan_nodes.specs.Streams.{workers}
-use Rattle.vx_laws.specs.Layout.{workers_below}
-use Rattle.vx_layout.specs.Layout.{spans_of}
 use Rattle.vx_layout.specs.declared.span.NodeSpan.{NodeSpan}
 use Rattle.vx_layout.specs.declared.span.NodeSpan.TheVariants.{Inner, Exchange, Scan}
-use Rattle.vx_plan_nodes.specs.Numbering.{nodes}
-use Rattle.vx_parallel.specs.Fragments.{fragment_in, fragments_below, places_from}
+use Rattle.vx_parallel.specs.Fragments.{fragment_in, places_from}
 use Rattle.vx_parallel.specs.Places.{place_in}
 use Rattle.vx_parallel.specs.declared.places.FragmentPlace.{FragmentPlace}
-use Rattle.std.proofs.lemmas.Grind.{flat_map-append}
 use Rattle.vx_steps.proofs.Each.{more-each}
 use Rattle.vx_parallel.proofs.Lists.{next-at}
-
--- the fragments below the top one are those below the exchanges
-pub fragments-in : (sizes : ℕ → ℕ) (p : Plan) (top next : ℕ) → flat_map fragment_in (spans_of sizes p top next) ≡ fragments_below sizes p
-fragments-in sizes (scan n c r m z) top next = refl
-fragments-in sizes (unary n c op p) top next = fragments-in sizes p top next
-fragments-in sizes (binary n c op p q) top next =
-    flat_map-append fragment_in (spans_of sizes p top next) (spans_of sizes q top (next + workers_below sizes p))
-    ∙ λ i. fragments-in sizes p top next i ++ fragments-in sizes q top (next + workers_below sizes p) i
-fragments-in sizes (exchange n c k m p) top next = ap (λ z. workers sizes (size p) ∷ z) (fragments-in sizes p next (next + workers sizes (size p)))
 
 -- no more fragments below the top one than spans
 pub few-in : (spans : List NodeSpan) → length (flat_map fragment_in spans) ≤ length spans

@@ -14,8 +14,8 @@ use Rattle.vx_steps.specs.Endings.{ReportsFirst}
 use Rattle.vx_steps.specs.Headline.{IsAccepted, Answers}
 use Rattle.vx_steps.specs.LinksView.{LinksView}
 use Rattle.vx_steps.specs.Ready.{Ready}
-use Rattle.vx_steps.specs.declared.verdict.Verdict.{Verdict}
-use Rattle.vx_steps.specs.declared.verdict.Verdict.TheVariants as verdict
+use Rattle.vx_steps.specs.declared.verdict.RunState.{RunState}
+use Rattle.vx_steps.specs.declared.verdict.RunState.TheVariants as run_state
 use Rattle.vx_threads.specs.Carrying.{hold_of}
 use Rattle.vx_threads.specs.Drawers.{Sits}
 use Rattle.vx_threads.specs.Wired.{IsWired}
@@ -48,8 +48,8 @@ abbrev pub IsAcceptedJob : (hash : List ℕ → Row → ℕ → ℕ) → Job →
 IsAcceptedJob hash j = IsAccepted (model_of hash j) (resolved_of j.plan.now).total (plan j.plan.now)
 
 -- workers with the same roles, all of which have ended, and a verdict on them that is worth what it says
-pub record HaveRun (hash : List ℕ → Row → ℕ → ℕ) (j : Job) (old new : List (Worker Operator Destination)) (v : Verdict) : Type 0 where
+pub record HaveRun (hash : List ℕ → Row → ℕ → ℕ) (j : Job) (old new : List (Worker Operator Destination)) (v : RunState) : Type 0 where
   pub roles : map (role_of operator_op post_of bounds_of) new ≡ map (role_of operator_op post_of bounds_of) old
   pub answers : Answers task_of (model_of hash j) (resolved_of j.plan.now).total (plan j.plan.now) new v
   pub first : ReportsFirst (model_of hash j) (plan j.plan.now) v
-  pub whole : v ≡ verdict.Unfinished → ⊥
+  pub whole : v ≡ run_state.Unfinished → ⊥

@@ -1,8 +1,6 @@
 -- The fragments of a plan, by the numbers of their workers.
 use Rattle.std.specs.Prelude.{ℕ, ◌+◌, List, [], ◌∷◌, ◌++◌}
 use Rattle.vx_rows.specs.Lists.{each_below}
-use Rattle.vx_plan_nodes.specs.Plan.{Plan, scan, unary, binary, exchange, size}
-use Rattle.vx_plan_nodes.specs.Streams.{workers}
 use Rattle.vx_layout.specs.declared.span.NodeSpan.{NodeSpan}
 use Rattle.vx_layout.specs.declared.span.NodeSpan.TheVariants.{Inner, Exchange, Scan}
 
@@ -11,13 +9,6 @@ abbrev pub fragment_in : NodeSpan → List ℕ
 fragment_in Inner = []
 fragment_in (Exchange s) = s.producers ∷ []
 fragment_in (Scan s) = []
-
--- how many workers each fragment below the plan's top one has, in preorder of their top nodes
-abbrev pub fragments_below : (ℕ → ℕ) → Plan → List ℕ
-fragments_below sizes (scan n c r m z) = []
-fragments_below sizes (unary n c op p) = fragments_below sizes p
-fragments_below sizes (binary n c op p q) = fragments_below sizes p ++ fragments_below sizes q
-fragments_below sizes (exchange n c k m p) = workers sizes (size p) ∷ fragments_below sizes p
 
 -- the workers of fragments that have so many, where the first of these is fragment f: of each worker its fragment, and its place there
 abbrev pub places_from : (f : ℕ) → List ℕ → List (ℕ × ℕ)

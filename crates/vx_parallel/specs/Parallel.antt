@@ -1,8 +1,6 @@
 -- What a run whose workers are threads comes to.
 use Rattle.std.specs.Prelude.{ℕ, ◌≡◌, ◌<◌, ◌⊎◌, Result, Ok, Err, List, length, map}
 use Rattle.vx_values.specs.Values.{Row}
-use Rattle.vx_catalog.specs.Database.{Database}
-use Rattle.vx_plan_nodes.specs.Names.{TypedPlanView}
 use Rattle.vx_plan_nodes.specs.Plan.{Plan}
 use Rattle.vx_worker.specs.Fragment.{RunModel}
 use Rattle.vx_worker.specs.Trace.{scan_morsels}
@@ -12,45 +10,39 @@ use Rattle.vx_operators.specs.Destination.{DestinationStands, task_of, post_of, 
 use Rattle.vx_operators.specs.declared.operator.Operator.{Operator}
 use Rattle.vx_operators.specs.declared.destination.Destination.{Destination}
 use Rattle.vx_steps.specs.Ready.{Settled}
-use Rattle.vx_steps.specs.Roles.{crew_size}
-use Rattle.vx_steps.specs.declared.verdict.Verdict.{Verdict}
+use Rattle.vx_plan_nodes.specs.Workers.{crew_size}
+use Rattle.vx_steps.specs.declared.verdict.RunState.{RunState}
 use Rattle.vx_decks.specs.Seats.{DeckView}
 use Rattle.vx_threads.specs.declared.deck_place.DeckPlace.{DeckPlace}
 use Rattle.vx_spawn.specs.declared.member.Joined.{Joined}
 use Rattle.vx_assembly.specs.Assembly.{WasRun}
 use Rattle.vx_assembly.specs.Parts.{worker_in}
-use Rattle.vx_setup.specs.Setup.{SetupView}
 use Rattle.vx_setup.specs.declared.fault.RunFault.{RunFault}
 use Rattle.vx_setup.specs.declared.fault.RunFault.TheVariants as fault
-use Rattle.vx_exec.specs.Sizes.{Sizes}
 use Rattle.vx_exec.specs.Counts.{AreCountsOf}
-use Rattle.vx_exec.specs.Runs.{IsSetUp, RunFails, IsFirstReported, ComesTo}
+use Rattle.vx_exec.specs.Promise.{Reports}
+use Rattle.vx_exec.specs.Runs.{ComesTo}
 use Rattle.vx_exec.specs.declared.counted.WorkerCounts.{WorkerCounts}
-use Rattle.vx_exec.specs.declared.ran.Ran.{Ran}
-use Rattle.vx_exec.specs.declared.ran.Ran.TheVariants as ran
+use Rattle.vx_exec.specs.declared.ran.RunOutcome.{RunOutcome}
+use Rattle.vx_exec.specs.declared.ran.RunOutcome.TheVariants as run_outcome
 
--- why a plan gives no rows where its workers are threads: as in turns of one thread, or the threads were not started
-pub data ThreadsFail (p : TypedPlanView) (db : Database) (setup : SetupView) (e : RunFault) : Type 0 where
-  for_run : RunFails p db setup e → ThreadsFail p db setup e
-  for_thread : (s : Sizes) → IsSetUp p db setup s → e ≡ fault.NoThread → ThreadsFail p db setup e
-
--- whose fault is reported: a thread was refused, or as in turns
-abbrev pub IsReportedByThreads : RunModel → Plan → RunFault → Type 0
-IsReportedByThreads W p e = (e ≡ fault.NoThread) ⊎ IsFirstReported W p e
+-- what a run by threads reports besides the faults of any run: a thread was refused, and none was started
+abbrev pub NoThreadStarted : Reports
+NoThreadStarted W p e = e ≡ fault.NoThread
 
 -- every worker has ended
-abbrev pub IsWhole : Ran → Type 0
-IsWhole (ran.Done rows) = Unit {0}
-IsWhole ran.Unfinished = ⊥
+abbrev pub IsWhole : RunOutcome → Type 0
+IsWhole (run_outcome.Done rows) = Unit {0}
+IsWhole run_outcome.Unfinished = ⊥
 
 -- where there are more workers than threads may be started, the result is that no thread was started, or that memory was refused
-abbrev pub NeedsFew : (most workers : ℕ) → Result Ran RunFault → Type 0
+abbrev pub NeedsFew : (most workers : ℕ) → Result RunOutcome RunFault → Type 0
 NeedsFew most workers result = most < workers → (result ≡ Err fault.NoThread) ⊎ (result ≡ Err fault.NoMemory)
 
 module _ (hash : List ℕ → Row → ℕ → ℕ) (W : RunModel) (p : Plan) where
   -- the workers that were joined, in the order of their numbers: one for each place of the plan, which was given to a thread before its first step, wired as the
   -- plan says, and which that thread gave back once it had ended (`WasRun`). Their traces are those of a run that comes to this verdict (`Settled`)
-  pub record WereJoined (ended : List (Worker Operator Destination)) (verdict : Verdict) : Type 0 where
+  pub record WereJoined (ended : List (Worker Operator Destination)) (verdict : RunState) : Type 0 where
     pub decks : List DeckView
     pub places : List DeckPlace
     pub joined : List (Joined Operator Destination)
@@ -59,15 +51,15 @@ module _ (hash : List ℕ → Row → ℕ → ℕ) (W : RunModel) (p : Plan) whe
     pub settled : Settled task_of W p ended verdict
 
   -- the workers that were joined came to this result, and these are their counts in the end, of each its own
-  pub record IsCountedCrew (result : Result Ran RunFault) (counts : List WorkerCounts) : Type 0 where
+  pub record IsCountedCrew (result : Result RunOutcome RunFault) (counts : List WorkerCounts) : Type 0 where
     pub ended : List (Worker Operator Destination)
     pub as_many : length ended ≡ crew_size W.sizes p
-    pub verdict : Verdict
+    pub verdict : RunState
     pub joined : WereJoined ended verdict
     pub comes : ComesTo ended verdict result
     pub counted : AreCountsOf ended counts
 
   -- memory or a thread was refused, or threads ran workers to their end, and these counted this
-  abbrev pub CountedByThreads : Result Ran RunFault → List WorkerCounts → Type 0
+  abbrev pub CountedByThreads : Result RunOutcome RunFault → List WorkerCounts → Type 0
   CountedByThreads (Ok r) counts = IsCountedCrew (Ok r) counts
   CountedByThreads (Err e) counts = (e ≡ fault.NoMemory) ⊎ (e ≡ fault.NoThread) ⊎ IsCountedCrew (Err e) counts

@@ -4,6 +4,7 @@ ghost use Rattle.std.specs.Prelude.{◌≡◌, ◌≤◌, length, map, IfOk};
 ghost use Rattle.vx_rows.specs.Lists.{each_below};
 ghost use Rattle.vx_parallel.specs.Places.{place_in};
 ghost use Rattle.vx_parallel.specs.Members.{worker_of, ends_of, number_of, seat_of};
+ghost use Rattle.vx_values.specs.Limits.{max_workers};
 
 use crate::places::FragmentPlace;
 use std::alloc::{AllocError, Global};
@@ -20,7 +21,7 @@ pub fn members_of<O: Drop, S: Drop>(
 ) -> Result<Vec<CrewMember<O, S>>, AllocError>
     requires ends { length ends.items ≡ length workers.items }
     requires places { length places.now ≡ length workers.items }
-    requires few { length places.now ≤ 256 }
+    requires few { length places.now ≤ max_workers }
     ensures workers { IfOk result (λ v. map worker_of v.items ≡ workers.items) }
     ensures ends { IfOk result (λ v. map ends_of v.items ≡ ends.items) }
     ensures places { IfOk result (λ v. map seat_of v.items ≡ map place_in places.now) }

@@ -4,6 +4,7 @@ ghost use Rattle.std.specs.Prelude.{◌≡◌, ◌≤◌, ◌∷◌, ◌++◌, l
 ghost use Rattle.vx_rows.specs.Lists.{each_below};
 ghost use Rattle.vx_parallel.specs.Fragments.{fragment_in, places_from};
 ghost use Rattle.vx_parallel.specs.Places.{place_in};
+ghost use Rattle.vx_values.specs.Limits.{max_nodes};
 
 use std::alloc::{AllocError, Global};
 use vx_layout::{Layout, NodeSpan};
@@ -56,7 +57,7 @@ fn add_places(
 /// Where each worker of a plan stands, by its number: the root's worker first, and then those of each fragment by their
 /// places, the fragments in preorder of their top nodes.
 pub fn places_of(alloc: Global, layout: &Layout) -> Result<Vec<FragmentPlace>, AllocError>
-    requires { length layout.now.spans.items ≤ 1000 }
+    requires { length layout.now.spans.items ≤ max_nodes }
     ensures { IfOk result (λ v. map place_in v.items ≡ places_from 0 (1 ∷ flat_map fragment_in layout.now.spans.items)) }
 {
     let fragments = fragments_of(alloc, layout.spans())?;

@@ -1,21 +1,19 @@
 //! Runs whose workers are threads.
 
 ghost use Rattle.std.specs.Prelude.{◌≡◌, ◌⊎◌, true, IfOk, IfErr};
-ghost use Rattle.vx_plan_nodes.specs.TypedView.{plan as whole_plan, resolved_of};
+ghost use Rattle.vx_plan_nodes.specs.TypedView.{plan as whole_plan};
 ghost use Rattle.vx_check_rules.specs.Checked.{is_allowed, is_root_allowed};
 ghost use Rattle.vx_check_rules.specs.CheckedView.{typed_plan};
 ghost use Rattle.vx_operators.specs.Operator.{operator_types};
 ghost use Rattle.vx_operators.specs.Destination.{post_of, is_open, has_closed};
-ghost use Rattle.vx_steps.specs.Roles.{crew_size};
-ghost use Rattle.vx_layout.specs.Groups.{group_at};
+ghost use Rattle.vx_plan_nodes.specs.Workers.{crew_size, worker_group_at};
 ghost use Rattle.vx_spawn.specs.Each.{AllReady};
 ghost use Rattle.vx_setup.specs.declared.fault.RunFault.TheVariants.{NoMemory, NoThread};
-ghost use Rattle.vx_exec.specs.Sizes.{run_model, Sizes};
 ghost use Rattle.vx_exec.specs.Counts.{is_wanted, counts_in};
-ghost use Rattle.vx_exec.specs.Job.{model_of, types_at};
-ghost use Rattle.vx_exec.specs.Runs.{IsRunOf, IfDone, IsTrueOf, IsSetUp};
+ghost use Rattle.vx_exec.specs.Job.{model_of, sizes_of, types_at};
+ghost use Rattle.vx_exec.specs.Promise.{RunPromise, PromiseOnceSet, WhereSet};
 ghost use Rattle.vx_parallel.specs.Crew.{IsWiringOf, AreNew, AreHonest, IsAcceptedJob, HaveRun};
-ghost use Rattle.vx_parallel.specs.Parallel.{ThreadsFail, IsReportedByThreads, IsWhole, NeedsFew, WereJoined, CountedByThreads};
+ghost use Rattle.vx_parallel.specs.Parallel.{NoThreadStarted, IsWhole, NeedsFew, WereJoined, CountedByThreads};
 
 use crate::members::members_of;
 use crate::places::places_of;
@@ -26,18 +24,16 @@ use vx_assembly::assemble;
 use vx_catalog::Database;
 use vx_check_rules::CheckedPlan;
 use vx_decks::SharedDeck;
-use vx_exec::{Crew, Job, Ran, RunCounts, answer_of, job_of};
+use vx_exec::{Crew, Job, RunCounts, RunOutcome, answer_of, job_of};
 use vx_operators::{Destination, Operator};
 use vx_plan_nodes::Router;
 use vx_setup::{RunFault, Setup};
 use vx_spawn::{CrewMember, Joined, run_in_threads};
-use vx_steps::Verdict;
+use vx_steps::RunState;
 use vx_threads::Gate;
+use vx_values::limits::MAX_WORKERS;
 use vx_wiring::{Wiring, wiring_of};
 use vx_worker::Worker;
-
-// The most workers of a run.
-const MOST_WORKERS: u32 = 256;
 
 // What the threads of a job's workers hold before the first step.
 fn wiring_for(alloc: Global, job: &Job<'_>) -> Result<Wiring, AllocError>
@@ -46,9 +42,7 @@ fn wiring_for(alloc: Global, job: &Job<'_>) -> Result<Wiring, AllocError>
     ensures { IfOk result (IsWiringOf job.now) }
 {
     let counts = job.morsel_counts(alloc)?;
-    let root = job.plan().root();
-    let groups = job.layout().groups();
-    wiring_of(alloc, root, groups, counts.as_slice(), job.slack())
+    wiring_of(alloc, job.layout(), counts.as_slice(), job.slack())
 }
 
 // Runs all workers of a job, each in a thread of its own.
@@ -77,7 +71,7 @@ fn run_crew<R: Router + Sync, G: Gate + Sync, T: Threads + Wait + Sync>(
     gate: &G,
     workers: Vec<Worker<Operator, Destination>>,
     wiring: Wiring,
-) -> Result<(Vec<Worker<Operator, Destination>>, Verdict), RunFault>
+) -> Result<(Vec<Worker<Operator, Destination>>, RunState), RunFault>
     requires new { AreNew job.now workers.items }
     requires wired { IsWiringOf job.now wiring }
     ensures run { IsAcceptedJob (R.route_of router.now) job.now → IfOk result (λ r. HaveRun (R.route_of router.now) job.now workers.items r.0.items r.1) }
@@ -107,14 +101,12 @@ fn run_job<R: Router + Sync, G: Gate + Sync, T: Threads + Wait + Sync>(
     gate: &G,
     most: u32,
     counts: &mut RunCounts,
-) -> Result<Ran, RunFault>
+) -> Result<RunOutcome, RunFault>
     requires allowed { is_allowed job.now.plan.now ≡ true }
     requires root { is_root_allowed job.now.plan.now ≡ true }
-    ensures done { IfOk result (IfDone (IsRunOf (R.route_of router.now) (resolved_of job.now.plan.now) job.now.database.now job.now.layout.groups.items)) }
+    ensures run { PromiseOnceSet (R.route_of router.now) NoThreadStarted job.now.plan.now job.now.database.now (sizes_of job.now) result }
     ensures whole { IfOk result IsWhole }
-    ensures failed { IfErr result (λ e. (e ≡ NoThread) ⊎ IsTrueOf (resolved_of job.now.plan.now) job.now.database.now e) }
-    ensures first { IfErr result (IsReportedByThreads (model_of (R.route_of router.now) job.now) (whole_plan job.now.plan.now)) }
-    ensures few { NeedsFew most (crew_size (group_at job.now.layout.groups.items) (whole_plan job.now.plan.now)) result }
+    ensures few { NeedsFew most (crew_size (worker_group_at job.now.layout.worker_groups.items) (whole_plan job.now.plan.now)) result }
     ensures counted { is_wanted counts.old ≡ true
         → CountedByThreads (R.route_of router.now) (model_of (R.route_of router.now) job.now) (whole_plan job.now.plan.now) result (counts_in counts.new) }
 {
@@ -142,18 +134,12 @@ fn run_counted<R: Router + Sync, G: Gate + Sync, T: Threads + Wait + Sync>(
     gate: &G,
     most: u32,
     counts: &mut RunCounts,
-) -> Result<Ran, RunFault>
-    ensures done { IfOk result (IfDone (λ rows. (s : Sizes) × IsSetUp (resolved_of (typed_plan plan.now)) database.now setup.now s
-        × IsRunOf (R.route_of router.now) (resolved_of (typed_plan plan.now)) database.now s.groups rows)) }
+) -> Result<RunOutcome, RunFault>
+    ensures promise { RunPromise (R.route_of router.now) NoThreadStarted (typed_plan plan.now) database.now setup.now result }
     ensures whole { IfOk result IsWhole }
-    ensures set { IfOk result (λ _. (s : Sizes) × IsSetUp (resolved_of (typed_plan plan.now)) database.now setup.now s) }
-    ensures refused { IfErr result (ThreadsFail (resolved_of (typed_plan plan.now)) database.now setup.now) }
-    ensures first { (s : Sizes) → IsSetUp (resolved_of (typed_plan plan.now)) database.now setup.now s
-        → IfErr result (IsReportedByThreads (run_model (R.route_of router.now) (typed_plan plan.now) database.now s) (whole_plan (typed_plan plan.now))) }
-    ensures few { (s : Sizes) → IsSetUp (resolved_of (typed_plan plan.now)) database.now setup.now s
-        → NeedsFew most (crew_size (group_at s.groups) (whole_plan (typed_plan plan.now))) result }
-    ensures counted { is_wanted counts.old ≡ true → (s : Sizes) → IsSetUp (resolved_of (typed_plan plan.now)) database.now setup.now s
-        → CountedByThreads (R.route_of router.now) (run_model (R.route_of router.now) (typed_plan plan.now) database.now s) (whole_plan (typed_plan plan.now)) result (counts_in counts.new) }
+    ensures few { WhereSet (R.route_of router.now) (typed_plan plan.now) database.now setup.now (λ W p. NeedsFew most (crew_size W.sizes p) result) }
+    ensures counted { is_wanted counts.old ≡ true
+        → WhereSet (R.route_of router.now) (typed_plan plan.now) database.now setup.now (λ W p. CountedByThreads (R.route_of router.now) W p result (counts_in counts.new)) }
 {
     let job = job_of(alloc, plan.plan(), database, setup)?;
     run_job(rt, alloc, &job, router, gate, most, counts)
@@ -171,16 +157,10 @@ pub fn run_threads_within<R: Router + Sync, G: Gate + Sync, T: Threads + Wait + 
     router: &R,
     gate: &G,
     most: u32,
-) -> Result<Ran, RunFault>
-    ensures done { IfOk result (IfDone (λ rows. (s : Sizes) × IsSetUp (resolved_of (typed_plan plan.now)) database.now setup.now s
-        × IsRunOf (R.route_of router.now) (resolved_of (typed_plan plan.now)) database.now s.groups rows)) }
+) -> Result<RunOutcome, RunFault>
+    ensures promise { RunPromise (R.route_of router.now) NoThreadStarted (typed_plan plan.now) database.now setup.now result }
     ensures whole { IfOk result IsWhole }
-    ensures set { IfOk result (λ _. (s : Sizes) × IsSetUp (resolved_of (typed_plan plan.now)) database.now setup.now s) }
-    ensures refused { IfErr result (ThreadsFail (resolved_of (typed_plan plan.now)) database.now setup.now) }
-    ensures first { (s : Sizes) → IsSetUp (resolved_of (typed_plan plan.now)) database.now setup.now s
-        → IfErr result (IsReportedByThreads (run_model (R.route_of router.now) (typed_plan plan.now) database.now s) (whole_plan (typed_plan plan.now))) }
-    ensures few { (s : Sizes) → IsSetUp (resolved_of (typed_plan plan.now)) database.now setup.now s
-        → NeedsFew most (crew_size (group_at s.groups) (whole_plan (typed_plan plan.now))) result }
+    ensures few { WhereSet (R.route_of router.now) (typed_plan plan.now) database.now setup.now (λ W p. NeedsFew most (crew_size W.sizes p) result) }
 {
     let mut unread = RunCounts::unread(alloc);
     run_counted(
@@ -207,16 +187,11 @@ pub fn run_threads<R: Router + Sync, G: Gate + Sync, T: Threads + Wait + Sync>(
     setup: &Setup,
     router: &R,
     gate: &G,
-) -> Result<Ran, RunFault>
-    ensures done { IfOk result (IfDone (λ rows. (s : Sizes) × IsSetUp (resolved_of (typed_plan plan.now)) database.now setup.now s
-        × IsRunOf (R.route_of router.now) (resolved_of (typed_plan plan.now)) database.now s.groups rows)) }
+) -> Result<RunOutcome, RunFault>
+    ensures promise { RunPromise (R.route_of router.now) NoThreadStarted (typed_plan plan.now) database.now setup.now result }
     ensures whole { IfOk result IsWhole }
-    ensures set { IfOk result (λ _. (s : Sizes) × IsSetUp (resolved_of (typed_plan plan.now)) database.now setup.now s) }
-    ensures refused { IfErr result (ThreadsFail (resolved_of (typed_plan plan.now)) database.now setup.now) }
-    ensures first { (s : Sizes) → IsSetUp (resolved_of (typed_plan plan.now)) database.now setup.now s
-        → IfErr result (IsReportedByThreads (run_model (R.route_of router.now) (typed_plan plan.now) database.now s) (whole_plan (typed_plan plan.now))) }
 {
-    run_threads_within(rt, alloc, plan, database, setup, router, gate, MOST_WORKERS)
+    run_threads_within(rt, alloc, plan, database, setup, router, gate, MAX_WORKERS)
 }
 
 /// A run of a plan over a database, each worker in a thread of its own, whatever their number. They start together or
@@ -232,16 +207,11 @@ pub fn run_threads_counted<R: Router + Sync, G: Gate + Sync, T: Threads + Wait +
     router: &R,
     gate: &G,
     counts: &mut RunCounts,
-) -> Result<Ran, RunFault>
-    ensures done { IfOk result (IfDone (λ rows. (s : Sizes) × IsSetUp (resolved_of (typed_plan plan.now)) database.now setup.now s
-        × IsRunOf (R.route_of router.now) (resolved_of (typed_plan plan.now)) database.now s.groups rows)) }
+) -> Result<RunOutcome, RunFault>
+    ensures promise { RunPromise (R.route_of router.now) NoThreadStarted (typed_plan plan.now) database.now setup.now result }
     ensures whole { IfOk result IsWhole }
-    ensures set { IfOk result (λ _. (s : Sizes) × IsSetUp (resolved_of (typed_plan plan.now)) database.now setup.now s) }
-    ensures refused { IfErr result (ThreadsFail (resolved_of (typed_plan plan.now)) database.now setup.now) }
-    ensures first { (s : Sizes) → IsSetUp (resolved_of (typed_plan plan.now)) database.now setup.now s
-        → IfErr result (IsReportedByThreads (run_model (R.route_of router.now) (typed_plan plan.now) database.now s) (whole_plan (typed_plan plan.now))) }
-    ensures counted { is_wanted counts.old ≡ true → (s : Sizes) → IsSetUp (resolved_of (typed_plan plan.now)) database.now setup.now s
-        → CountedByThreads (R.route_of router.now) (run_model (R.route_of router.now) (typed_plan plan.now) database.now s) (whole_plan (typed_plan plan.now)) result (counts_in counts.new) }
+    ensures counted { is_wanted counts.old ≡ true
+        → WhereSet (R.route_of router.now) (typed_plan plan.now) database.now setup.now (λ W p. CountedByThreads (R.route_of router.now) W p result (counts_in counts.new)) }
 {
     run_counted(
         rt,
@@ -251,7 +221,7 @@ pub fn run_threads_counted<R: Router + Sync, G: Gate + Sync, T: Threads + Wait +
         setup,
         router,
         gate,
-        MOST_WORKERS,
+        MAX_WORKERS,
         counts,
     )
 }

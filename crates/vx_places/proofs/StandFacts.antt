@@ -9,7 +9,7 @@ use Rattle.csv.specs.declared.parser.State.{State}
 use Rattle.csv.specs.declared.parser.State.TheVariants as st
 use Rattle.csv.specs.declared.parser.Action.TheVariants as act
 use Rattle.vx_split.proofs.TurnFacts.{left_from, one_more, same_next}
-use Rattle.vx_places.specs.declared.stage.Stage.{Stage}
+use Rattle.vx_places.specs.declared.stage.RecordState.{RecordState}
 use Rattle.vx_places.specs.Lines.{is_feed, ends_line, begins_on, line_after, Passes}
 use Rattle.vx_places.specs.Records.{ReadsOne, StartsRecord, IsRecordAt}
 use Rattle.vx_places.specs.Stages.{state_of, is_between}
@@ -35,7 +35,7 @@ drop_tail (suc n) (y ∷ ys) x more h = drop_tail n ys x more h
 count_both : (xs ys : List ℕ) → count_by is_feed (xs ++ ys) ≡ count_by is_feed xs + count_by is_feed ys
 count_both xs ys = sum_by-append (λ x. cond (is_feed x) 1 0) xs ys
 
-pub stands_next : (all old new : Option (List ℕ)) (number line next : ℕ) (state : State) (g : Stage) (fields : List (List ℕ)) → IfBoth all old (StandsAt number state line) → ReadsOne old new state fields (Some g)
+pub stands_next : (all old new : Option (List ℕ)) (number line next : ℕ) (state : State) (g : RecordState) (fields : List (List ℕ)) → IfBoth all old (StandsAt number state line) → ReadsOne old new state fields (Some g)
     → Passes old new line next → IfBoth all new (StandsAt (number + 1) (state_of g) next)
 stands_next None old new number line next state g fields s r p = tt
 stands_next (Some text) None new number line next state g fields s r p = absurd s
@@ -130,7 +130,7 @@ same_there state (c ∷ rest) b =
     (λ h. rw (h, as_at_start state c b h) refl)
 
 -- the record that is read next is the one with this number
-pub found_there : (all old new : Option (List ℕ)) (number line begin : ℕ) (state : State) (g : Stage) (fields : List (List ℕ)) → IfBoth all old (StandsAt number state line) → is_between state ≡ true
+pub found_there : (all old new : Option (List ℕ)) (number line begin : ℕ) (state : State) (g : RecordState) (fields : List (List ℕ)) → IfBoth all old (StandsAt number state line) → is_between state ≡ true
     → ReadsOne old new state fields (Some g) → IfSome old (λ xs. begin ≡ begins_on line xs) → IfSome all (λ text. IsRecordAt text number begin fields)
 found_there None old new number line begin state g fields s b r l = tt
 found_there (Some text) None new number line begin state g fields s b r l = absurd s

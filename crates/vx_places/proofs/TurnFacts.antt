@@ -7,8 +7,8 @@ use Rattle.csv.specs.declared.parser.State.{State}
 use Rattle.csv.specs.declared.parser.State.TheVariants as st
 use Rattle.csv.specs.declared.parser.Action.{Action}
 use Rattle.csv.specs.declared.parser.Action.TheVariants as act
-use Rattle.vx_places.specs.declared.stage.Stage.{Stage}
-use Rattle.vx_places.specs.declared.stage.Stage.TheVariants as stage
+use Rattle.vx_places.specs.declared.stage.RecordState.{RecordState}
+use Rattle.vx_places.specs.declared.stage.RecordState.TheVariants as record_state
 use Rattle.vx_places.specs.Lines.{ends_line, begins_on, line_after}
 use Rattle.vx_places.specs.Stages.{state_of, is_between}
 
@@ -66,13 +66,13 @@ quote_turn c s quoted other = by_test (c == 34) refl
     by_test true h = quoted h
     by_test false h = other h
 
-inside_turn : (g : Stage) (c : ℕ) → is_between (state_of g) ≡ false → InsideTurn (step default_config (state_of g) c)
-inside_turn stage.StartRecord c b = cc
-inside_turn stage.AfterCr c b = cc
-inside_turn stage.StartField c b = quote_turn c st.StartField (λ h. rw h (λ z. refl)) (λ h. rw h (field_turn c))
-inside_turn stage.InField c b = field_turn c
-inside_turn stage.InQuoted c b = quote_turn c st.InQuoted (λ h. rw h (λ z. refl)) (λ h. rw h (λ z. refl))
-inside_turn stage.AfterQuote c b = quote_turn c st.AfterQuote (λ h. rw h (λ z. refl)) (λ h. rw h (field_turn c))
+inside_turn : (g : RecordState) (c : ℕ) → is_between (state_of g) ≡ false → InsideTurn (step default_config (state_of g) c)
+inside_turn record_state.StartRecord c b = cc
+inside_turn record_state.AfterCr c b = cc
+inside_turn record_state.StartField c b = quote_turn c st.StartField (λ h. rw h (λ z. refl)) (λ h. rw h (field_turn c))
+inside_turn record_state.InField c b = field_turn c
+inside_turn record_state.InQuoted c b = quote_turn c st.InQuoted (λ h. rw h (λ z. refl)) (λ h. rw h (λ z. refl))
+inside_turn record_state.AfterQuote c b = quote_turn c st.AfterQuote (λ h. rw h (λ z. refl)) (λ h. rw h (field_turn c))
 
 -- no record ends between two
 pub not_ended : (s : State) (c : ℕ) → is_between s ≡ true → is_end (step default_config s c).1 ≡ true → ⊥
@@ -95,7 +95,7 @@ begins_here : (line c : ℕ) (ys : List ℕ) → ends_line c ≡ false → begin
 unfolding begins_on
 begins_here line c ys h = rw h refl
 
-pub begins_next : (g : Stage) (c first line begin : ℕ) (xs ys : List ℕ) → BeginsBy (is_between (state_of g)) first line begin xs (c ∷ ys) → is_end (step default_config (state_of g) c).1 ≡ false
+pub begins_next : (g : RecordState) (c first line begin : ℕ) (xs ys : List ℕ) → BeginsBy (is_between (state_of g)) first line begin xs (c ∷ ys) → is_end (step default_config (state_of g) c).1 ≡ false
     → BeginsBy (is_between (step default_config (state_of g) c).0) first (line_after line (Some c)) (if is_between (step default_config (state_of g) c).0 then line_after line (Some c) else begin) xs ys
 begins_next g c first line begin xs ys h e = by_between (is_between (state_of g)) refl
   where

@@ -7,7 +7,7 @@ use Rattle.csv.specs.Reading.{default_config}
 use Rattle.csv.specs.declared.parser.State.{State}
 use Rattle.csv.specs.declared.parser.State.TheVariants as st
 use Rattle.csv.specs.declared.parser.Action.{Action}
-use Rattle.vx_places.specs.declared.stage.Stage.{Stage}
+use Rattle.vx_places.specs.declared.stage.RecordState.{RecordState}
 use Rattle.vx_places.specs.Lines.{is_feed, begins_on, line_after, Gives, Passes}
 use Rattle.vx_places.specs.Records.{ReadsOne}
 use Rattle.vx_places.specs.declared.stage.Turn.{Turn}
@@ -52,7 +52,7 @@ unfolding next_record
 next_ends s fields field c ys h = rw h refl
 
 -- one byte more
-walked_byte : (start : State) (g : Stage) (fields : List (List ℕ)) (field : List ℕ) (first line begin c : ℕ) (xs ys : List ℕ) → Walked start (state_of g) fields field first line begin xs (c ∷ ys)
+walked_byte : (start : State) (g : RecordState) (fields : List (List ℕ)) (field : List ℕ) (first line begin c : ℕ) (xs ys : List ℕ) → Walked start (state_of g) fields field first line begin xs (c ∷ ys)
     → is_end (step default_config (state_of g) c).1 ≡ false
     → Walked start (step default_config (state_of g) c).0 (fields_after (step default_config (state_of g) c).1 fields field) (field_after (step default_config (state_of g) c).1 c field) first (line_after line (Some c))
     (if is_between (step default_config (state_of g) c).0 then line_after line (Some c) else begin) xs ys
@@ -64,7 +64,7 @@ walked_byte start g fields field first line begin c xs ys w h = record {
   lines = line_more line first c w.front w.lines;
 }
 
-walked_on : (start : State) (g : Stage) (fields : List (List ℕ)) (field : List ℕ) (first line begin c : ℕ) (all old new : Option (List ℕ))
+walked_on : (start : State) (g : RecordState) (fields : List (List ℕ)) (field : List ℕ) (first line begin c : ℕ) (all old new : Option (List ℕ))
     → IfBoth all old (Walked start (state_of g) fields field first line begin) → Gives old new (Some c) → is_end (step default_config (state_of g) c).1 ≡ false
     → IfBoth all new (Walked start (step default_config (state_of g) c).0 (fields_after (step default_config (state_of g) c).1 fields field) (field_after (step default_config (state_of g) c).1 c field) first
     (line_after line (Some c)) (if is_between (step default_config (state_of g) c).0 then line_after line (Some c) else begin))
@@ -86,7 +86,7 @@ pub record Done (start : State) (fields : List (List ℕ)) (next : State) (first
   pub begins : begin ≡ begins_on first xs
   pub passes : Passes (Some xs) (Some ys) first line
 
-done_byte : (start : State) (g : Stage) (fields : List (List ℕ)) (field : List ℕ) (first line begin c : ℕ) (xs ys : List ℕ) → Walked start (state_of g) fields field first line begin xs (c ∷ ys)
+done_byte : (start : State) (g : RecordState) (fields : List (List ℕ)) (field : List ℕ) (first line begin c : ℕ) (xs ys : List ℕ) → Walked start (state_of g) fields field first line begin xs (c ∷ ys)
     → is_end (step default_config (state_of g) c).1 ≡ true
     → Done start (fields_after (step default_config (state_of g) c).1 fields field) (step default_config (state_of g) c).0 first (line_after line (Some c)) begin xs ys
 done_byte start g fields field first line begin c xs ys w h = record {
@@ -95,7 +95,7 @@ done_byte start g fields field first line begin c xs ys w h = record {
   passes = (w.front ++ c ∷ [], w.cut ∙ sym (append_assoc w.front (c ∷ []) ys), line_more line first c w.front w.lines);
 }
 
-done_on : (start : State) (g : Stage) (fields : List (List ℕ)) (field : List ℕ) (first line begin c : ℕ) (all old new : Option (List ℕ))
+done_on : (start : State) (g : RecordState) (fields : List (List ℕ)) (field : List ℕ) (first line begin c : ℕ) (all old new : Option (List ℕ))
     → IfBoth all old (Walked start (state_of g) fields field first line begin) → Gives old new (Some c) → is_end (step default_config (state_of g) c).1 ≡ true
     → IfBoth all new (Done start (fields_after (step default_config (state_of g) c).1 fields field) (step default_config (state_of g) c).0 first (line_after line (Some c)) begin)
 done_on start g fields field first line begin c None old new w k h = tt
@@ -104,7 +104,7 @@ done_on start g fields field first line begin c (Some xs) (Some zs) None w k h =
 done_on start g fields field first line begin c (Some xs) (Some zs) (Some ys) w k h = done_byte start g fields field first line begin c xs ys (rw k at w) h
 
 -- the same, where a turn says what the byte does
-pub walked_turn : (all old new : Option (List ℕ)) (start : State) (g : Stage) (fields : List (List ℕ)) (field : List ℕ) (first line begin c : ℕ) (turn : Turn)
+pub walked_turn : (all old new : Option (List ℕ)) (start : State) (g : RecordState) (fields : List (List ℕ)) (field : List ℕ) (first line begin c : ℕ) (turn : Turn)
     (later : List (List ℕ)) (open_field : List ℕ) (next found : ℕ)
     → turn_of turn ≡ step default_config (state_of g) c → IfBoth all old (Walked start (state_of g) fields field first line begin) → Gives old new (Some c) → is_end (action_of turn.action) ≡ false
     → later ≡ fields_after (action_of turn.action) fields field → open_field ≡ field_after (action_of turn.action) c field → next ≡ line_after line (Some c)
@@ -116,7 +116,7 @@ walked_turn all old new start g fields field first line begin c turn later open_
     let on : F (turn_of turn) = subst F (sym is) (walked_on start g fields field first line begin c all old new w k go) in
     rw (b, e, f, l) on
 
-pub done_turn : (all old new : Option (List ℕ)) (start : State) (g : Stage) (fields : List (List ℕ)) (field : List ℕ) (first line begin c : ℕ) (turn : Turn) (later : List (List ℕ)) (next : ℕ)
+pub done_turn : (all old new : Option (List ℕ)) (start : State) (g : RecordState) (fields : List (List ℕ)) (field : List ℕ) (first line begin c : ℕ) (turn : Turn) (later : List (List ℕ)) (next : ℕ)
     → turn_of turn ≡ step default_config (state_of g) c → IfBoth all old (Walked start (state_of g) fields field first line begin) → Gives old new (Some c) → is_end (action_of turn.action) ≡ true
     → later ≡ fields_after (action_of turn.action) fields field → next ≡ line_after line (Some c) → IfBoth all new (Done start later (state_of turn.stage) first next begin)
 done_turn all old new start g fields field first line begin c turn later next is w k h e l =
@@ -158,7 +158,7 @@ none_end (Some xs) (Some zs) (Some ys) start s fields all_fields field first lin
     v.same ∙ none_next s fields field h
 
 -- what was read of a record that is done
-pub done_reads : (all new : Option (List ℕ)) (start : State) (fields : List (List ℕ)) (g : Stage) (first next begin : ℕ) → IfBoth all new (Done start fields (state_of g) first next begin) → ReadsOne all new start fields (Some g)
+pub done_reads : (all new : Option (List ℕ)) (start : State) (fields : List (List ℕ)) (g : RecordState) (first next begin : ℕ) → IfBoth all new (Done start fields (state_of g) first next begin) → ReadsOne all new start fields (Some g)
 done_reads None new start fields g first next begin d = tt
 done_reads (Some xs) None start fields g first next begin d = absurd d
 done_reads (Some xs) (Some ys) start fields g first next begin d = d.read

@@ -2,7 +2,7 @@
 use Rattle.std.specs.Prelude.{◌≡◌, ℕ, ◌+◌, ◌==◌, ◌||◌, List, [], ◌∷◌, ◌++◌, drop, count_by, Option, Some, None, Bool, false, if◌then◌else◌}
 use Rattle.std.specs.Io.KnownBytes.{Consumes, IsAtEnd, Keeps, prepend_known}
 use Rattle.csv.specs.Reading.{is_bom}
-use Rattle.vx_places.specs.declared.source.Source.{Source}
+use Rattle.vx_places.specs.declared.source.ByteSource.{ByteSource}
 
 -- a line feed ends a line
 abbrev pub is_feed : ℕ → Bool
@@ -14,7 +14,7 @@ line_after line None = line
 line_after line (Some c) = if is_feed c then line + 1 else line
 
 -- the bytes that a source has left: those of its chunk, and then those of its port, where these are known
-abbrev pub left_in : {R : Type 0} → (R → Option (List ℕ)) → Source R → Option (List ℕ)
+abbrev pub left_in : {R : Type 0} → (R → Option (List ℕ)) → ByteSource R → Option (List ℕ)
 left_in remaining s = prepend_known (drop s.at s.chunk.items) (remaining s.port)
 
 -- known bytes begin with this one, and lose it; without one there is none

@@ -3,12 +3,12 @@ use Rattle.std.specs.Prelude.{◌≡◌, ℕ, ◌+◌, List, [], ◌∷◌, ◌+
 use Rattle.csv.specs.Machine.{next_record}
 use Rattle.csv.specs.Reading.{records, default_config}
 use Rattle.csv.specs.declared.parser.State.{State}
-use Rattle.vx_places.specs.declared.stage.Stage.{Stage}
+use Rattle.vx_places.specs.declared.stage.RecordState.{RecordState}
 use Rattle.vx_places.specs.Lines.{is_feed, ends_line}
 use Rattle.vx_places.specs.Stages.{state_of}
 
 -- known bytes lost the next record, behind which this is the state; or there was none
-abbrev pub ReadsOne : Option (List ℕ) → Option (List ℕ) → State → List (List ℕ) → Option Stage → Type 0
+abbrev pub ReadsOne : Option (List ℕ) → Option (List ℕ) → State → List (List ℕ) → Option RecordState → Type 0
 ReadsOne None new state fields stage = Unit {0}
 ReadsOne (Some xs) new state fields None = next_record default_config state [] [] xs ≡ None
 ReadsOne (Some xs) None state fields (Some stage) = ⊥

@@ -4,19 +4,19 @@ use Rattle.csv.specs.declared.parser.State.{State}
 use Rattle.csv.specs.declared.parser.State.TheVariants as st
 use Rattle.csv.specs.declared.parser.Action.{Action}
 use Rattle.csv.specs.declared.parser.Action.TheVariants as act
-use Rattle.vx_places.specs.declared.stage.Stage.{Stage}
-use Rattle.vx_places.specs.declared.stage.Stage.TheVariants as stage
+use Rattle.vx_places.specs.declared.stage.RecordState.{RecordState}
+use Rattle.vx_places.specs.declared.stage.RecordState.TheVariants as record_state
 use Rattle.vx_places.specs.declared.stage.Action.{Action as OwnAction}
 use Rattle.vx_places.specs.declared.stage.Action.TheVariants as action
 use Rattle.vx_places.specs.declared.stage.Turn.{Turn}
 
-abbrev pub state_of : Stage → State
-state_of stage.StartRecord = st.StartRecord
-state_of stage.StartField = st.StartField
-state_of stage.InField = st.InField
-state_of stage.InQuoted = st.InQuoted
-state_of stage.AfterQuote = st.AfterQuote
-state_of stage.AfterCr = st.AfterCr
+abbrev pub state_of : RecordState → State
+state_of record_state.StartRecord = st.StartRecord
+state_of record_state.StartField = st.StartField
+state_of record_state.InField = st.InField
+state_of record_state.InQuoted = st.InQuoted
+state_of record_state.AfterQuote = st.AfterQuote
+state_of record_state.AfterCr = st.AfterCr
 
 abbrev pub action_of : OwnAction → Action
 action_of action.Skip = act.Skip

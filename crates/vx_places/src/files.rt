@@ -8,12 +8,10 @@ use std::alloc::Global;
 use vx_bytes::{ReadFault, Store, read_all};
 use vx_catalog::{Catalog, CatalogFault};
 use vx_plan::{Plan, PlanFault, resolve};
+use vx_values::limits::MAX_TEXT_BYTES;
 
 // The path of standard input, which is not read again.
 const INPUT: &str = "-";
-
-// The most bytes that a file may have.
-const MAX_BYTES: usize = 1 << 40;
 
 /// Whether a path is that of standard input.
 pub fn is_input(path: &str) -> bool {
@@ -30,7 +28,7 @@ fn bytes_at<F: Store>(alloc: Global, files: &F, path: &str) -> Result<Option<Vec
     let Some(mut file) = files.open(path) else {
         return Ok(None);
     };
-    match read_all(alloc, &mut file, MAX_BYTES) {
+    match read_all(alloc, &mut file, MAX_TEXT_BYTES) {
         Ok(bytes) => Ok(Some(bytes)),
         Err(ReadFault::NoMemory) => Err(PlaceFault::NoMemory),
         Err(ReadFault::Broken | ReadFault::TooLarge) => Err(PlaceFault::Unreadable),

@@ -1,7 +1,7 @@
 //! The line that says where something is.
 
 use crate::shown::{push_quoted, push_shown};
-use crate::spots::{CellAt, Spot};
+use crate::spots::{CellAt, FaultSpot};
 use std::alloc::{AllocError, Global};
 use vx_catalog::Relation;
 
@@ -19,7 +19,7 @@ fn begin_line(alloc: Global, path: &str) -> Result<Vec<u8>, AllocError> {
 }
 
 // Puts the line of a spot, or two.
-fn push_lines(alloc: Global, text: &mut Vec<u8>, spot: &Spot) -> Result<(), AllocError> {
+fn push_lines(alloc: Global, text: &mut Vec<u8>, spot: &FaultSpot) -> Result<(), AllocError> {
     let Some(line) = spot.line else {
         return Ok(());
     };
@@ -63,7 +63,7 @@ pub fn spot_line(
     alloc: Global,
     path: &str,
     relation: &Relation,
-    spot: &Spot,
+    spot: &FaultSpot,
 ) -> Result<Vec<u8>, AllocError> {
     let mut text = begin_line(alloc, path)?;
     push_lines(alloc, &mut text, spot)?;

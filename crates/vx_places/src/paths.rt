@@ -4,13 +4,14 @@ ghost use Rattle.std.specs.Prelude.{◌≡◌, ◌≤◌, ◌+◌, Some, IfOk, I
 ghost use Rattle.vx_plan_json.specs.Document.{tree_of, tree_nodes};
 ghost use Rattle.vx_plan_json.specs.PlanView.{document_of};
 ghost use Rattle.vx_places.specs.Paths.{path_at};
+ghost use Rattle.vx_values.specs.Limits.{max_nodes};
 
 use std::alloc::{AllocError, Global};
 use vx_plan_json::{NamedKind, Node, Plan};
 
 // How many nodes there are from a node down.
 fn count_nodes(node: &Node) -> u32
-    requires { tree_nodes (tree_of node.now) ≤ 1000 }
+    requires { tree_nodes (tree_of node.now) ≤ max_nodes }
     ensures { result ≡ tree_nodes (tree_of node.now) }
 {
     match node {
@@ -25,7 +26,7 @@ fn count_nodes(node: &Node) -> u32
 // such a node.
 #[tactic(auto, using(crate::proofs::PathFacts::path_here))]
 fn push_steps(node: &Node, number: u32, path: &mut String) -> Result<bool, AllocError>
-    requires { tree_nodes (tree_of node.now) ≤ 1000 }
+    requires { tree_nodes (tree_of node.now) ≤ max_nodes }
     ensures { IfOk result (λ found. found ≡ true → path_at (tree_of node.now) number (string_bytes path.old) ≡ Some (string_bytes path.new)) }
 {
     if number == 0 {
@@ -81,7 +82,7 @@ fn names_size(node: &Node, name: &str) -> bool {
 
 // The number of the first node from this one down that names a size, where this one has the number `number`.
 fn size_user(node: &Node, number: u32, name: &str) -> Option<u32>
-    requires { number + tree_nodes (tree_of node.now) ≤ 1000 }
+    requires { number + tree_nodes (tree_of node.now) ≤ max_nodes }
 {
     if names_size(node, name) {
         return Some(number);

@@ -9,8 +9,8 @@ ghost use Rattle.vx_places.specs.Records.{ReadsOne, IsRecordAt};
 ghost use Rattle.vx_places.specs.Stages.{state_of, action_of, is_between};
 
 use crate::fault::PlaceFault;
-use crate::source::Source;
-use crate::stage::{Action, Stage};
+use crate::source::ByteSource;
+use crate::stage::{Action, RecordState};
 use csv::ByteRecord;
 use std::alloc::{AllocError, Global};
 use vx_bytes::ByteIn;
@@ -87,10 +87,10 @@ impl OpenRecord {
 
 // Reads the next record, and returns the stage behind it; or there is none.
 fn read_record<R: ByteIn + Drop>(
-    source: &mut Source<R>,
-    stage: Stage,
+    source: &mut ByteSource<R>,
+    stage: RecordState,
     current: &mut OpenRecord,
-) -> Result<Option<Stage>, PlaceFault>
+) -> Result<Option<RecordState>, PlaceFault>
     requires between { is_between (state_of stage) ≡ true }
     requires whole { partial_of current.old.fields ≡ [] }
     ensures record { IfOk result (λ o. ReadsOne (left_in R.remaining source.old) (left_in R.remaining source.new) (state_of stage) (fields_of current.new.fields) o) }
@@ -107,7 +107,7 @@ fn read_record<R: ByteIn + Drop>(
                 return Ok(None);
             }
             current.end_field()?;
-            return Ok(Some(Stage::StartRecord));
+            return Ok(Some(RecordState::StartRecord));
         };
         let turn = stage.step(byte);
         current.take(byte, turn.action)?;
@@ -130,9 +130,9 @@ pub fn record_at<R: ByteIn + Drop>(
 ) -> Result<Option<Record>, PlaceFault>
     ensures { IfOk result (λ o. IfSome o (λ r. IfSome (R.remaining port) (λ bytes. IsRecordAt (strip_bom bytes) number r.line (fields_of r.fields)))) }
 {
-    let mut source = Source::new(alloc, port)?;
+    let mut source = ByteSource::new(alloc, port)?;
     let mut current = OpenRecord::new(alloc);
-    let mut stage = Stage::StartRecord;
+    let mut stage = RecordState::StartRecord;
     for _ in 0..number {
         match read_record(&mut source, stage, &mut current)? {
             Some(next) => stage = next,

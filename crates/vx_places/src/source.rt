@@ -14,7 +14,7 @@ const MARK: usize = 3;
 
 /// The bytes of a port, one after another.
 #[derive(Drop)]
-pub struct Source<R> {
+pub struct ByteSource<R> {
     port: R,
     chunk: Vec<u8>,
     at: usize,
@@ -57,16 +57,16 @@ fn front_of<R: ByteIn>(alloc: Global, port: &mut R) -> Result<Vec<u8>, PlaceFaul
     Ok(chunk)
 }
 
-impl<R: ByteIn + Drop> Source<R> {
+impl<R: ByteIn + Drop> ByteSource<R> {
     /// The bytes of a port that follow a byte order mark, if it begins with one.
-    pub fn new(alloc: Global, port: R) -> Result<Source<R>, PlaceFault>
+    pub fn new(alloc: Global, port: R) -> Result<ByteSource<R>, PlaceFault>
         ensures bytes { IfOk result (λ s. Keeps (option_map strip_bom (R.remaining port)) (left_in R.remaining s)) }
         ensures line { IfOk result (λ s. s.line ≡ 1) }
     {
         let mut port = port;
         let chunk = front_of(alloc, &mut port)?;
         let at = if has_mark(chunk.as_slice()) { MARK } else { 0 };
-        Ok(Source {
+        Ok(ByteSource {
             port,
             chunk,
             at,

@@ -23,7 +23,7 @@ pub struct CellAt {
 
 /// Where a table is at fault.
 #[derive(Drop)]
-pub struct Spot {
+pub struct FaultSpot {
     /// The line on which the row begins, counted from 1; a text without a header has none.
     pub line: Option<u64>,
     /// The line of the row with the same key.
@@ -63,12 +63,12 @@ fn push_cell(
 }
 
 // A row that is at fault in a column.
-fn cell_spot(alloc: Global, found: &Record, column: usize) -> Result<Option<Spot>, PlaceFault>
+fn cell_spot(alloc: Global, found: &Record, column: usize) -> Result<Option<FaultSpot>, PlaceFault>
     ensures { IfOk result (λ o. IfSome o (λ s. s.line ≡ Some found.now.line)) }
 {
     let mut cells = Vec::new(alloc);
     push_cell(alloc, &mut cells, &found.fields, column)?;
-    Ok(Some(Spot {
+    Ok(Some(FaultSpot {
         line: Some(found.line),
         earlier: None,
         width: None,
@@ -77,13 +77,13 @@ fn cell_spot(alloc: Global, found: &Record, column: usize) -> Result<Option<Spot
 }
 
 // A row that has another number of fields than its relation has columns.
-fn width_spot(alloc: Global, relation: &Relation, found: &Record) -> Option<Spot>
+fn width_spot(alloc: Global, relation: &Relation, found: &Record) -> Option<FaultSpot>
     ensures { IfSome result (λ s. s.line ≡ Some found.now.line) }
 {
     if found.fields.len() == relation.width() {
         return None;
     }
-    Some(Spot {
+    Some(FaultSpot {
         line: Some(found.line),
         earlier: None,
         width: Some(found.fields.len()),
@@ -108,7 +108,7 @@ fn header_spot(
     alloc: Global,
     relation: &Relation,
     found: &Record,
-) -> Result<Option<Spot>, PlaceFault>
+) -> Result<Option<FaultSpot>, PlaceFault>
     ensures { IfOk result (λ o. IfSome o (λ s. s.line ≡ Some found.now.line)) }
 {
     match misnamed_column(relation.names(), &found.fields) {
@@ -140,7 +140,7 @@ fn value_spot(
     found: &Record,
     column: usize,
     kind: ColType,
-) -> Result<Option<Spot>, PlaceFault>
+) -> Result<Option<FaultSpot>, PlaceFault>
     ensures { IfOk result (λ o. IfSome o (λ s. s.line ≡ Some found.now.line)) }
 {
     let types = relation.types();
@@ -154,7 +154,11 @@ fn value_spot(
 }
 
 // A row of which a field of a column of texts is not UTF-8.
-fn text_spot(alloc: Global, relation: &Relation, found: &Record) -> Result<Option<Spot>, PlaceFault>
+fn text_spot(
+    alloc: Global,
+    relation: &Relation,
+    found: &Record,
+) -> Result<Option<FaultSpot>, PlaceFault>
     ensures { IfOk result (λ o. IfSome o (λ s. s.line ≡ Some found.now.line)) }
 {
     for column in 0..relation.types().len() {
@@ -192,7 +196,7 @@ fn key_spot(
     key: usize,
     earlier: &Record,
     found: &Record,
-) -> Result<Option<Spot>, PlaceFault>
+) -> Result<Option<FaultSpot>, PlaceFault>
     ensures { IfOk result (λ o. IfSome o (λ s. s.line ≡ Some found.now.line)) }
 {
     if key >= relation.key_count() {
@@ -205,7 +209,7 @@ fn key_spot(
             _ => return Ok(None),
         }
     }
-    Ok(Some(Spot {
+    Ok(Some(FaultSpot {
         line: Some(found.line),
         earlier: Some(earlier.line),
         width: None,
@@ -231,7 +235,7 @@ fn order_spot(
     relation: &Relation,
     before: &Record,
     found: &Record,
-) -> Result<Option<Spot>, PlaceFault>
+) -> Result<Option<FaultSpot>, PlaceFault>
     ensures { IfOk result (λ o. IfSome o (λ s. s.line ≡ Some found.now.line)) }
 {
     match falling_column(relation, &before.fields, &found.fields) {
@@ -247,7 +251,7 @@ fn pair_spot(
     fault: LoadFault,
     earlier: &Record,
     found: &Record,
-) -> Result<Option<Spot>, PlaceFault>
+) -> Result<Option<FaultSpot>, PlaceFault>
     ensures { IfOk result (λ o. IfSome o (λ s. s.line ≡ Some found.now.line)) }
 {
     match fault {
@@ -263,7 +267,7 @@ fn own_spot(
     relation: &Relation,
     fault: LoadFault,
     found: &Record,
-) -> Result<Option<Spot>, PlaceFault>
+) -> Result<Option<FaultSpot>, PlaceFault>
     ensures { IfOk result (λ o. IfSome o (λ s. s.line ≡ Some found.now.line)) }
 {
     match fault {
@@ -285,11 +289,11 @@ fn earlier_number(fault: LoadFault) -> Option<usize> {
 }
 
 // Where a text without a header is at fault.
-fn empty_spot(alloc: Global, fault: LoadFault) -> Option<Spot>
+fn empty_spot(alloc: Global, fault: LoadFault) -> Option<FaultSpot>
     ensures { IfSome result (λ s. s.line ≡ None) }
 {
     match fault {
-        LoadFault::HeaderMismatch => Some(Spot {
+        LoadFault::HeaderMismatch => Some(FaultSpot {
             line: None,
             earlier: None,
             width: None,
@@ -307,7 +311,7 @@ fn record_spot<F: Store>(
     relation: &Relation,
     fault: LoadFault,
     found: &Record,
-) -> Result<Option<Spot>, PlaceFault>
+) -> Result<Option<FaultSpot>, PlaceFault>
     ensures { IfOk result (λ o. IfSome o (λ s. s.line ≡ Some found.now.line)) }
 {
     let Some(earlier) = earlier_number(fault) else {
@@ -329,7 +333,7 @@ pub fn spot_of<F: Store>(
     path: &str,
     relation: &Relation,
     fault: LoadFault,
-) -> Result<Option<Spot>, PlaceFault>
+) -> Result<Option<FaultSpot>, PlaceFault>
     ensures { IfOk result (λ o. IfSome o (λ s. IfSome s.line (λ line. IfBytes (F.holds files.now path.now) (λ bytes. IsOnLine bytes (number_of fault) line)))) }
 {
     let Some(number) = number_of(fault) else {

@@ -7,7 +7,7 @@ ghost use Rattle.vx_places.specs.Stages.{state_of, action_of, turn_of, is_betwee
 
 /// Where in a record the next byte is.
 #[derive(Clone, Copy)]
-pub enum Stage {
+pub enum RecordState {
     StartRecord,
     StartField,
     InField,
@@ -28,11 +28,11 @@ pub enum Action {
 /// What a byte does, and where the next one is.
 #[derive(Clone, Copy)]
 pub struct Turn {
-    pub stage: Stage,
+    pub stage: RecordState,
     pub action: Action,
 }
 
-fn go_to(stage: Stage, action: Action) -> Turn
+fn go_to(stage: RecordState, action: Action) -> Turn
     ensures stage { result.stage ≡ stage }
     ensures action { result.action ≡ action }
 {
@@ -43,10 +43,10 @@ fn in_field(byte: u8) -> Turn
     ensures { turn_of result ≡ in_field default_config byte }
 {
     match byte {
-        b',' => go_to(Stage::StartField, Action::EndField),
-        b'\r' => go_to(Stage::AfterCr, Action::EndRecord),
-        b'\n' => go_to(Stage::StartRecord, Action::EndRecord),
-        _ => go_to(Stage::InField, Action::Copy),
+        b',' => go_to(RecordState::StartField, Action::EndField),
+        b'\r' => go_to(RecordState::AfterCr, Action::EndRecord),
+        b'\n' => go_to(RecordState::StartRecord, Action::EndRecord),
+        _ => go_to(RecordState::InField, Action::Copy),
     }
 }
 
@@ -54,7 +54,7 @@ fn start_field(byte: u8) -> Turn
     ensures { turn_of result ≡ start_field default_config byte }
 {
     match byte {
-        b'"' => go_to(Stage::InQuoted, Action::Skip),
+        b'"' => go_to(RecordState::InQuoted, Action::Skip),
         _ => in_field(byte),
     }
 }
@@ -63,7 +63,7 @@ fn start_record(byte: u8) -> Turn
     ensures { turn_of result ≡ start_record default_config byte }
 {
     match byte {
-        b'\r' | b'\n' => go_to(Stage::StartRecord, Action::Skip),
+        b'\r' | b'\n' => go_to(RecordState::StartRecord, Action::Skip),
         _ => start_field(byte),
     }
 }
@@ -80,21 +80,21 @@ impl Action {
     }
 }
 
-impl Stage {
+impl RecordState {
     /// What a byte does here.
     pub fn step(self, byte: u8) -> Turn
         ensures { turn_of result ≡ step default_config (state_of self) byte }
     {
         match (self, byte) {
-            (Stage::StartRecord, _) => start_record(byte),
-            (Stage::StartField, _) => start_field(byte),
-            (Stage::InField, _) => in_field(byte),
-            (Stage::InQuoted, b'"') => go_to(Stage::AfterQuote, Action::Skip),
-            (Stage::InQuoted, _) => go_to(Stage::InQuoted, Action::Copy),
-            (Stage::AfterQuote, b'"') => go_to(Stage::InQuoted, Action::Copy),
-            (Stage::AfterQuote, _) => in_field(byte),
-            (Stage::AfterCr, b'\n') => go_to(Stage::StartRecord, Action::Skip),
-            (Stage::AfterCr, _) => start_record(byte),
+            (RecordState::StartRecord, _) => start_record(byte),
+            (RecordState::StartField, _) => start_field(byte),
+            (RecordState::InField, _) => in_field(byte),
+            (RecordState::InQuoted, b'"') => go_to(RecordState::AfterQuote, Action::Skip),
+            (RecordState::InQuoted, _) => go_to(RecordState::InQuoted, Action::Copy),
+            (RecordState::AfterQuote, b'"') => go_to(RecordState::InQuoted, Action::Copy),
+            (RecordState::AfterQuote, _) => in_field(byte),
+            (RecordState::AfterCr, b'\n') => go_to(RecordState::StartRecord, Action::Skip),
+            (RecordState::AfterCr, _) => start_record(byte),
         }
     }
 
@@ -103,8 +103,11 @@ impl Stage {
         ensures { result ≡ is_between (state_of self) }
     {
         match self {
-            Stage::StartRecord | Stage::AfterCr => true,
-            Stage::StartField | Stage::InField | Stage::InQuoted | Stage::AfterQuote => false,
+            RecordState::StartRecord | RecordState::AfterCr => true,
+            RecordState::StartField
+            | RecordState::InField
+            | RecordState::InQuoted
+            | RecordState::AfterQuote => false,
         }
     }
 

@@ -7,7 +7,7 @@ ghost use Rattle.vx_places.specs.Spots.{number_of, IsOnLine};
 use crate::fault::PlaceFault;
 use crate::files::{catalog_at, plan_at};
 use crate::lines::spot_line;
-use crate::spots::{Spot, spot_of};
+use crate::spots::{FaultSpot, spot_of};
 use std::alloc::Global;
 use vx_bytes::Store;
 use vx_catalog::{Catalog, LoadFault, path_in};
@@ -19,7 +19,7 @@ use vx_plan_json::Node;
 struct TableSpot {
     relation: usize,
     path: String,
-    spot: Spot,
+    spot: FaultSpot,
 }
 
 // Whether a node or one below it scans the relation of this name.

@@ -9,7 +9,7 @@ use Rattle.std.proofs.lemmas.Slice.Eq.{bytes_eq-Decides}
 use Rattle.vx_values.specs.Values.{Name}
 use Rattle.vx_values.specs.Ranges.{RangeForm}
 use Rattle.vx_values.proofs.Booleans.{and-left, and-right, and-both}
-use Rattle.vx_rows.proofs.ClashFacts.{position-is}
+use Rattle.vx_values.proofs.ClashFacts.{position-is}
 use Rattle.vx_relations.specs.Relation.{Relation}
 use Rattle.vx_relations.specs.Catalog.{all_below, are_distinct}
 use Rattle.vx_relations.specs.Naming.{name_at}

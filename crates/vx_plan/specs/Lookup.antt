@@ -5,6 +5,7 @@ use Rattle.vx_plan_nodes.specs.Plan.{Size, one_worker, group_of}
 use Rattle.vx_plan_nodes.specs.Names.{Names}
 use Rattle.vx_values.specs.Values.{Name}
 use Rattle.vx_plan_json.specs.Fault.{Refusal, unknown_column, duplicate_column, type_mismatch, unknown_range, bad_size, too_wide, ◌>>=◌}
+use Rattle.vx_values.specs.Limits.{max_columns}
 
 -- what each gives in turn, after what was found before, or the first refusal
 unfoldable pub walk_onto : {A B : Type 0} → (A → Result B Refusal) → List B → List A → Result (List B) Refusal
@@ -56,9 +57,9 @@ test_distinct_keys node (k ∷ ks) = test_distinct node k >>= λ u. test_distinc
 unfoldable pub test_match : ℕ → Bool → Result ⊤ Refusal
 test_match node b = if b then Ok tt else Err (type_mismatch node)
 
--- at most 64 output columns
+-- not too many output columns
 unfoldable pub test_width : ℕ → ℕ → Result ⊤ Refusal
-test_width node width = if nat_le width 64 then Ok tt else Err (too_wide node)
+test_width node width = if nat_le width max_columns then Ok tt else Err (too_wide node)
 
 abbrev pub size_or : Name → Option ℕ → Result Size Refusal
 size_or name None = Err (bad_size name)

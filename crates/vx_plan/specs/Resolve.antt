@@ -19,6 +19,7 @@ use Rattle.vx_plan_nodes.specs.declared.typed.Projected.{Projected}
 use Rattle.vx_plan_json.specs.Fault.{Refusal, unknown_relation, bad_range, bad_size, phase_mismatch, ◌>>=◌}
 use Rattle.vx_plan.specs.Lookup.{walk_onto, tested_onto, find_column, find_columns, find_keys, test_distinct, test_distinct_pairs, test_distinct_keys, test_match, test_width, find_size, find_range}
 use Rattle.vx_plan_nodes.specs.Names.{Names, TypedPlanView}
+use Rattle.vx_values.specs.Limits.{max_size_names}
 
 -- ---- claims
 
@@ -306,7 +307,7 @@ typed_in s under node (form.exchange c k m t) = typed_in s under (node + 1) t >>
 
 -- a size name that is `one`, is declared before or is the 17th is refused
 abbrev pub is_bad_size : List Name → Name → Bool
-is_bad_size before name = nat_le 16 (length before) || (bytes_eq name (codes "one") || list_any (bytes_eq name) before)
+is_bad_size before name = nat_le max_size_names (length before) || (bytes_eq name (codes "one") || list_any (bytes_eq name) before)
 
 unfoldable pub test_sizes : List Name → Result ⊤ Refusal
 test_sizes names = tested_onto is_bad_size bad_size [] names

@@ -1,11 +1,11 @@
 -- Operators that were found, as the program holds them.
 use Rattle.std.specs.Arc.{arc_value}
-use Rattle.vx_plan.specs.declared.unary_nodes.Shape as rust
+use Rattle.vx_plan.specs.declared.unary_nodes.UnaryShape as rust
 use Rattle.vx_plan.specs.declared.binary_nodes.Joint as rust_joint
 use Rattle.vx_plan_nodes.specs.Outline.{unary_of, renamed_of, binary_of, columns_of}
 use Rattle.vx_plan.specs.Resolve.{Shape, Joint}
 
-abbrev pub shape_of : rust.Shape → Shape
+abbrev pub shape_of : rust.UnaryShape → Shape
 shape_of s = record { op = unary_of s.unary; renamed = renamed_of s.unary; columns = columns_of (arc_value s.columns) }
 
 abbrev pub joint_of : rust_joint.Joint → Joint

@@ -15,6 +15,7 @@ use vx_plan_json::PlanFault;
 use vx_plan_nodes::{Name, Size, find_output_name};
 use vx_relations::{Catalog, find_name};
 use vx_values::NamedRange;
+use vx_values::limits::MAX_COLUMNS;
 
 /// What the nodes of a plan may name.
 #[derive(Clone, Copy)]
@@ -192,7 +193,7 @@ pub fn test_match(node: u32, are_equal: bool) -> Result<(), PlanFault>
 pub fn test_width(node: u32, width: usize) -> Result<(), PlanFault>
     ensures { Gives (λ _. tt) result (test_width node width) }
 {
-    if width <= 64 {
+    if width <= MAX_COLUMNS {
         Ok(())
     } else {
         Err(PlanFault::TooWide { node })

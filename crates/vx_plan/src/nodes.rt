@@ -12,7 +12,7 @@ use crate::claims::with_claim;
 use crate::columns::{columns, scanned};
 use crate::exchange_nodes::{exchange_shape, find_relation};
 use crate::lookup::{Declared, find_size};
-use crate::unary_nodes::{Shape, unary_shape};
+use crate::unary_nodes::{UnaryShape, unary_shape};
 use std::alloc::Global;
 use std::sync::Arc;
 use vx_plan_json::{NamedBinary, NamedClaim, NamedKind, NamedScan, NamedUnary, Node, PlanFault};
@@ -57,7 +57,7 @@ fn unary_typed(
     ensures { Gives outline_of result (unary_typed (names_of declared.now) under node (claim_form claim.now) (unary_form unary.now) (outline_of input)) }
 {
     let shape = unary_shape(alloc, under, node, &input, unary)?;
-    let Shape { unary, columns } = shape;
+    let UnaryShape { unary, columns } = shape;
     let head = with_claim(alloc, declared, node, columns, claim)?;
     Ok(TypedNode::Unary(head, unary, Box::new(alloc, input)?))
 }

@@ -17,12 +17,13 @@ use std::collections::BTreeSet;
 use vx_plan_json::{Plan, PlanFault};
 use vx_plan_nodes::TypedPlan;
 use vx_relations::Catalog;
+use vx_values::limits::MAX_SIZE_NAMES;
 use vx_values::{NamedRange, copied_ranges};
 
 fn is_bad_size(before: &[String], name: &str) -> bool
     ensures { result ≡ is_bad_size (map string_bytes before.now) name.now }
 {
-    before.len() >= 16 || name == "one" || has_name(before, name)
+    before.len() >= MAX_SIZE_NAMES || name == "one" || has_name(before, name)
 }
 
 // No size name is `one`, stands twice or is the 17th.

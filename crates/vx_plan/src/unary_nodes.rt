@@ -20,11 +20,11 @@ use vx_plan_json::{
 use vx_plan_nodes::{
     Aggregate, Columns, Condition, Name, Phase, Projected, Side, TypedNode, Unary,
 };
-use vx_rows::ColType;
+use vx_values::ColType;
 
 /// An operator over one input, and its output.
 #[derive(Drop)]
-pub struct Shape {
+pub struct UnaryShape {
     pub unary: Unary,
     pub columns: Arc<Columns>,
 }
@@ -83,7 +83,7 @@ fn select_shape(
     node: u32,
     input: &Arc<Columns>,
     conditions: &[NamedCondition],
-) -> Result<Shape, PlanFault>
+) -> Result<UnaryShape, PlanFault>
     ensures { Gives shape_of result (select_shape node (columns_of (arc_value input.now)) (map condition_form conditions.now)) }
 {
     let found = find_conditions(alloc, node, input.names.as_slice(), conditions)?;
@@ -92,7 +92,7 @@ fn select_shape(
         are_conditions(input.types.as_slice(), found.as_slice()),
     )?;
     let columns = Arc::try_clone(input)?;
-    Ok(Shape {
+    Ok(UnaryShape {
         unary: Unary::Select(found),
         columns,
     })
@@ -155,12 +155,12 @@ fn project_shape(
     node: u32,
     input: &Columns,
     outputs: &[NamedOutput],
-) -> Result<Shape, PlanFault>
+) -> Result<UnaryShape, PlanFault>
     ensures { Gives shape_of result (project_shape node (columns_of input.now) (map output_form outputs.now)) }
 {
     let (kept, names) = kept_shape(alloc, node, input, outputs)?;
     let types = kept_types(alloc, input.types.as_slice(), kept.as_slice())?;
-    Ok(Shape {
+    Ok(UnaryShape {
         unary: Unary::Project(kept),
         columns: own_columns(alloc, names, types)?,
     })
@@ -172,12 +172,12 @@ fn distinct_shape(
     node: u32,
     input: &Columns,
     outputs: &[NamedOutput],
-) -> Result<Shape, PlanFault>
+) -> Result<UnaryShape, PlanFault>
     ensures { Gives shape_of result (distinct_shape node (columns_of input.now) (map output_form outputs.now)) }
 {
     let (kept, names) = kept_shape(alloc, node, input, outputs)?;
     let types = kept_types(alloc, input.types.as_slice(), kept.as_slice())?;
-    Ok(Shape {
+    Ok(UnaryShape {
         unary: Unary::Distinct(kept),
         columns: own_columns(alloc, names, types)?,
     })
@@ -189,13 +189,13 @@ fn sort_shape(
     node: u32,
     input: &Arc<Columns>,
     names: &[String],
-) -> Result<Shape, PlanFault>
+) -> Result<UnaryShape, PlanFault>
     ensures { Gives shape_of result (sort_shape node (columns_of (arc_value input.now)) (map string_bytes names.now)) }
 {
     let found = find_columns(alloc, node, input.names.as_slice(), names)?;
     test_distinct(alloc, node, names)?;
     let columns = Arc::try_clone(input)?;
-    Ok(Shape {
+    Ok(UnaryShape {
         unary: Unary::Sort(found),
         columns,
     })
@@ -282,7 +282,7 @@ fn group_shape(
     input: &Columns,
     by: &[String],
     aggregates: &[NamedAggregate],
-) -> Result<Shape, PlanFault>
+) -> Result<UnaryShape, PlanFault>
     ensures { Gives shape_of result (group_shape (phase_of phase) node (columns_of input.now) (map string_bytes by.now) (map aggregate_form aggregates.now)) }
 {
     let (keys, found) = find_group(alloc, node, input.names.as_slice(), by, aggregates)?;
@@ -300,7 +300,7 @@ fn group_shape(
         keys.as_slice(),
         found.as_slice(),
     )?;
-    Ok(Shape {
+    Ok(UnaryShape {
         unary: Unary::Group(phase, keys, found),
         columns: own_columns(alloc, names, types)?,
     })
@@ -314,7 +314,7 @@ fn partial_shape(
     input: &Columns,
     by: &[String],
     aggregates: &[NamedAggregate],
-) -> Result<Shape, PlanFault>
+) -> Result<UnaryShape, PlanFault>
     ensures { Gives shape_of result (partial_shape under node (columns_of input.now) (map string_bytes by.now) (map aggregate_form aggregates.now)) }
 {
     test_phase(node, under)?;
@@ -323,7 +323,7 @@ fn partial_shape(
 
 // A final group puts together what the partial one below it gives, and has its columns.
 #[tactic(auto, unfolding(crate::specs::Resolve::final_shape))]
-fn final_shape(alloc: Global, node: u32, input: &TypedNode) -> Result<Shape, PlanFault>
+fn final_shape(alloc: Global, node: u32, input: &TypedNode) -> Result<UnaryShape, PlanFault>
     ensures { Gives shape_of result (final_shape node (columns (outline_of input.now)) (parts_of (outline_of input.now))) }
 {
     let Some((by, aggregates)) = parts_of(input) else {
@@ -332,7 +332,7 @@ fn final_shape(alloc: Global, node: u32, input: &TypedNode) -> Result<Shape, Pla
     let keys = first_columns(alloc, by.len())?;
     let found = merged(alloc, by.len(), aggregates)?;
     let columns = Arc::try_clone(columns(input))?;
-    Ok(Shape {
+    Ok(UnaryShape {
         unary: Unary::Group(Phase::Final, keys, found),
         columns,
     })
@@ -347,7 +347,7 @@ pub fn unary_shape(
     node: u32,
     input: &TypedNode,
     unary: &NamedUnary,
-) -> Result<Shape, PlanFault>
+) -> Result<UnaryShape, PlanFault>
     ensures { Gives shape_of result (unary_shape under node (outline_of input.now) (unary_form unary.now)) }
 {
     let columns = columns(input);

@@ -14,12 +14,7 @@ use Rattle.vx_plan_json.specs.Document.{Tree, scan, unary, binary, exchange, Doc
 use Rattle.vx_values.specs.Ranges.{range_form, RangeForm}
 use Rattle.vx_plan_json.specs.Form.{names_in}
 use Rattle.vx_plan_json.specs.Operators.{OwnForm, own_scan, own_unary, own_binary, own_exchange, own_in}
-
-abbrev pub max_nodes : ℕ
-max_nodes = 1000
-
-abbrev pub max_levels : ℕ
-max_levels = 64
+use Rattle.vx_values.specs.Limits.{max_levels, max_nodes}
 
 -- a node from what it says of itself; `below` reads an input, `seen` nodes come before it
 abbrev pub with_inputs : (ℕ → List ℕ → Data → Result (Tree × ℕ) Refusal) → ℕ → List ℕ → Option OwnForm → Result (Tree × ℕ) Refusal

@@ -4,6 +4,7 @@ ghost use Rattle.std.specs.Prelude.{◌≡◌, ◌≤◌, true, map, string_byte
 ghost use Rattle.vx_plan_json.specs.Formed.{is_tree_form, is_head_form};
 ghost use Rattle.vx_plan_json.specs.Document.{tree_of, tree_nodes, tree_levels};
 ghost use Rattle.vx_values.specs.Ranges.{range_form};
+ghost use Rattle.vx_values.specs.Limits.{max_levels, max_nodes};
 
 use crate::fault::PlanFault;
 use crate::plan::Node;
@@ -19,8 +20,8 @@ pub struct Plan {
     ranges: Vec<NamedRange>,
     total: bool,
     root: Node,
-    ghost few_nodes: { tree_nodes (tree_of root) ≤ 1000 },
-    ghost few_levels: { tree_levels (tree_of root) ≤ 64 },
+    ghost few_nodes: { tree_nodes (tree_of root) ≤ max_nodes },
+    ghost few_levels: { tree_levels (tree_of root) ≤ max_levels },
     ghost declared: { is_head_form (map string_bytes sizes.items) (map range_form ranges.items) ≡ true },
     ghost formed: { is_tree_form (tree_of root) ≡ true },
 }
@@ -45,8 +46,8 @@ impl Plan {
 
     /// The parts of a plan, as a document has them.
     pub fn new(sizes: Vec<String>, ranges: Vec<NamedRange>, total: bool, root: Node) -> Plan
-        requires few { tree_nodes (tree_of root) ≤ 1000 }
-        requires low { tree_levels (tree_of root) ≤ 64 }
+        requires few { tree_nodes (tree_of root) ≤ max_nodes }
+        requires low { tree_levels (tree_of root) ≤ max_levels }
         requires declared { is_head_form (map string_bytes sizes.items) (map range_form ranges.items) ≡ true }
         requires formed { is_tree_form (tree_of root) ≡ true }
         ensures sizes { (document_of result).sizes ≡ map string_bytes sizes.items }
@@ -101,8 +102,8 @@ impl Plan {
     /// The node at the top.
     pub fn root(&self) -> &Node
         ensures root { tree_of result.now ≡ (document_of self.now).root }
-        ensures few { tree_nodes (tree_of result.now) ≤ 1000 }
-        ensures low { tree_levels (tree_of result.now) ≤ 64 }
+        ensures few { tree_nodes (tree_of result.now) ≤ max_nodes }
+        ensures low { tree_levels (tree_of result.now) ≤ max_levels }
         ensures declared { is_head_form (document_of self.now).sizes (document_of self.now).ranges ≡ true }
         ensures formed { is_tree_form (tree_of result.now) ≡ true }
     {
@@ -114,8 +115,8 @@ impl Plan {
         ensures sizes { map string_bytes result.0.items ≡ (document_of self).sizes }
         ensures ranges { map range_form result.1.items ≡ (document_of self).ranges }
         ensures root { tree_of result.2 ≡ (document_of self).root }
-        ensures few { tree_nodes (tree_of result.2) ≤ 1000 }
-        ensures low { tree_levels (tree_of result.2) ≤ 64 }
+        ensures few { tree_nodes (tree_of result.2) ≤ max_nodes }
+        ensures low { tree_levels (tree_of result.2) ≤ max_levels }
         ensures declared { is_head_form (document_of self).sizes (document_of self).ranges ≡ true }
         ensures formed { is_tree_form (tree_of result.2) ≡ true }
     {

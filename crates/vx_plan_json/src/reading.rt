@@ -22,10 +22,7 @@ use vx_json::{
     Misread, NameReader, Reader, get_member, read_list, read_list_or_empty, test_members,
 };
 use vx_values::NamedRange;
-
-const MAX_NODES: u32 = 1000;
-
-const MAX_LEVELS: u32 = 64;
+use vx_values::limits::{MAX_LEVELS, MAX_NODES};
 
 // Reads declared ranges.
 struct RangeReader;

@@ -1,6 +1,7 @@
 -- What an operator does with columns and rows, whatever its inputs claim.
 use Rattle.std.specs.Prelude.{ℕ, ◌+◌, ◌-◌, ◌==◌, nat_lt, nat_le, cond, List, length, position, Option, Some, None, slice_get}
 use Rattle.vx_plan_nodes.specs.Plan.{Unary, select, project, distinct, sort, group, plain, partial, final, Binary, union, join}
+use Rattle.vx_values.specs.Limits.{max_columns}
 
 -- ---- copies of columns
 
@@ -23,7 +24,7 @@ abbrev pub place : Copying → ℕ → Option ℕ
 place whole_rows c = Some c
 place (columns_kept cols) c = position (λ k. c == k) cols
 place (left_of w) c = cond (nat_lt c w) (Some c) None
-place (right_of w) c = cond (nat_lt c 64) (Some (w + c)) None
+place (right_of w) c = cond (nat_lt c max_columns) (Some (w + c)) None
 
 -- ---- operators over one input
 

@@ -18,3 +18,6 @@ pub mod Names
 pub mod TypedView
 pub mod DescribeView
 pub mod Erased
+pub mod Real
+pub mod ByteRouter
+pub mod Workers

@@ -2,8 +2,8 @@
 use Rattle.std.specs.Prelude.{◌≡◌, ℕ, zero, suc, ◌==◌, Bool, true, false, not, ◌&&◌, List, [], ◌∷◌, ◌++◌, map, flat_map, length}
 use Rattle.std.specs.List.{list_all}
 use Rattle.vx_values.specs.Values.{Row, row_eq, pick}
-use Rattle.vx_rows.specs.Order.{agree}
-use Rattle.vx_rows.specs.Bags.{SameRows}
+use Rattle.vx_values.specs.Order.{agree}
+use Rattle.vx_values.specs.Bags.{SameRows}
 use Rattle.vx_plan_nodes.specs.Plan.{partial, final, Aggregate, least, greatest, sum, count_rows, Unary, group, Plan, scan, unary, binary, exchange}
 use Rattle.vx_plan_nodes.specs.Serial.{aggregate_of, group_keys}
 

@@ -13,6 +13,7 @@ use Rattle.vx_plan_nodes.specs.Plan.{Size, one_worker, group_of, Route, by_hash,
 use Rattle.vx_plan_nodes.specs.Types.{types_of}
 use Rattle.vx_plan_nodes.specs.Numbering.{is_numbered}
 use Rattle.vx_plan_nodes.specs.Phases.{phase_fits, both_closed, is_open}
+use Rattle.vx_values.specs.Limits.{max_columns, max_size_names}
 
 -- what the nodes of a plan may name: the relations of a catalog, the plan's ranges by their bounds, and so many size names
 pub record Scope : Type 0 where
@@ -129,9 +130,9 @@ abbrev pub may_merge : ExchangeKind → List ℕ → Bool
 may_merge concat (c ∷ cols) = false
 may_merge k cols = true
 
--- at most 64 output columns, and a claim on them
+-- not too many output columns, and a claim on them
 abbrev pub is_output : Scope → List ColType → Claim → Bool
-is_output s types c = nat_le (length types) 64 && is_claim s types c
+is_output s types c = nat_le (length types) max_columns && is_claim s types c
 
 -- every node of the plan is typed
 abbrev pub typed : Scope → Plan → Bool
@@ -148,7 +149,7 @@ typed s (exchange n c k m p) =
 -- grouping is left without its final
 pub record IsTyped (s : Scope) (p : Plan) : Type 0 where
   pub ranges : list_all is_range s.ranges ≡ true
-  pub sizes : nat_le s.sizes 16 ≡ true
+  pub sizes : nat_le s.sizes max_size_names ≡ true
   pub nodes : typed s p ≡ true
   pub numbered : is_numbered 0 p ≡ true
   pub closed : is_open p ≡ false

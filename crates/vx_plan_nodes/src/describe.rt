@@ -8,9 +8,7 @@ ghost use Rattle.vx_plan_nodes.specs.Outline.{unary_of, binary_of};
 
 use crate::typed::{Binary, Phase, Projected, Unary};
 use vx_values::ColType;
-
-// So many columns an output has at most.
-const MAX_COLUMNS: usize = 64;
+use vx_values::limits::MAX_COLUMNS;
 
 /// The columns of its input that an operator keeps.
 #[derive(Clone, Copy)]

@@ -11,6 +11,7 @@ ghost use Rattle.vx_plan_nodes.specs.Phases.{is_open};
 ghost use Rattle.vx_plan_nodes.specs.Typed.{is_range, typed, IsTyped};
 ghost use Rattle.vx_plan_nodes.specs.Outputs.{HasOutputs};
 ghost use Rattle.vx_plan_nodes.specs.OutputProps.{outputs-prop};
+ghost use Rattle.vx_values.specs.Limits.{max_nodes, max_size_names};
 
 use crate::typed::TypedNode;
 use vx_relations::Catalog;
@@ -25,12 +26,12 @@ pub struct TypedPlan {
     total: bool,
     root: TypedNode,
     ghost ranges_are: { list_all is_range (map (λ r. r.bounds) (map range_form ranges.items)) ≡ true },
-    ghost few_sizes: { nat_le (length (map string_bytes sizes.items)) 16 ≡ true },
+    ghost few_sizes: { nat_le (length (map string_bytes sizes.items)) max_size_names ≡ true },
     ghost typed_nodes: { typed (scope_of (record { catalog = catalog; ranges = map range_form ranges.items; sizes = map string_bytes sizes.items })) (plan_of root) ≡ true },
     ghost outputs: { HasOutputs (relation_at catalog) (outline_of root) } by { outputs-prop (relation_at catalog) (outline_of root) },
     ghost numbered: { is_numbered 0 (plan_of root) ≡ true },
     ghost closed: { is_open (plan_of root) ≡ false },
-    ghost few_nodes: { nodes (plan_of root) ≤ 1000 },
+    ghost few_nodes: { nodes (plan_of root) ≤ max_nodes },
 }
 
 // By hand, so that the drops of its parts are made and proved here once, and not again in each crate that drops one.
@@ -59,7 +60,7 @@ impl TypedPlan {
     ) -> TypedPlan
         requires typed { IsTyped (scope_of (record { catalog = catalog; ranges = map range_form ranges.items; sizes = map string_bytes sizes.items })) (plan_of root) }
         requires outputs { HasOutputs (relation_at catalog) (outline_of root) }
-        requires few { nodes (plan_of root) ≤ 1000 }
+        requires few { nodes (plan_of root) ≤ max_nodes }
         ensures names { names_in result ≡ record { catalog = catalog; ranges = map range_form ranges.items; sizes = map string_bytes sizes.items } }
         ensures total { (resolved_of result).total ≡ total }
         ensures root { (resolved_of result).root ≡ outline_of root }
@@ -108,7 +109,7 @@ impl TypedPlan {
         ensures plan { plan_of result.now ≡ plan self.now }
         ensures typed { IsTyped (scope self.now) (plan_of result.now) }
         ensures outputs { HasOutputs (relation_at (scope self.now).catalog) (outline_of result.now) }
-        ensures few { nodes (plan_of result.now) ≤ 1000 }
+        ensures few { nodes (plan_of result.now) ≤ max_nodes }
     {
         &self.root
     }

@@ -4,6 +4,7 @@ use Rattle.std.specs.List.{AllByRecursion}
 use Rattle.vx_values.specs.Values.{Row}
 use Rattle.vx_values.specs.declared.value.ColType.{ColType}
 use Rattle.vx_values.specs.Types.{Fits}
+use Rattle.vx_values.specs.Limits.{max_packet_rows}
 
 -- what a packet brings: rows, or one of the two ends of a stream
 pub data Content : Type 0 where
@@ -19,15 +20,15 @@ pub record PacketView : Type 0 where
   pub types : List ColType
   pub content : Content
 
--- as many rows as a packet may bring: 1 to 4,096
+-- as many rows as a packet may bring
 abbrev pub HasFew : Content → Type 0
-HasFew (brings xs) = (1 ≤ length xs) × (length xs ≤ 4096)
+HasFew (brings xs) = (1 ≤ length xs) × (length xs ≤ max_packet_rows)
 HasFew last = Unit {0}
 HasFew fault = Unit {0}
 
--- what every packet keeps: 1 to 4,096 rows that fit its types
+-- what every packet keeps: at least one row and no more than its limit, rows that fit its types
 abbrev pub FitsContent : List ColType → Content → Type 0
-FitsContent types (brings xs) = (1 ≤ length xs) × (length xs ≤ 4096) × AllByRecursion (Fits types) xs
+FitsContent types (brings xs) = (1 ≤ length xs) × (length xs ≤ max_packet_rows) × AllByRecursion (Fits types) xs
 FitsContent types last = Unit {0}
 FitsContent types fault = Unit {0}
 

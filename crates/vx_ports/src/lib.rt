@@ -7,5 +7,5 @@ mod packet;
 mod port;
 
 pub use link::Link;
-pub use packet::{Body, Ending, Packet};
+pub use packet::{Body, Packet, StreamEnd};
 pub use port::{InPort, OutPort, Put};

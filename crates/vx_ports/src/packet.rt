@@ -1,7 +1,9 @@
 //! Packets: the units in which an exchange passes rows on (Graefe's packets).
 
+ghost use Rattle.vx_values.specs.Limits.{max_packet_rows};
+
 use std::marker::Model;
-use vx_rows::ColType;
+use vx_values::ColType;
 use vx_views::Rows;
 
 /// What a packet is: rows, or one of the two ends of a stream.
@@ -14,7 +16,7 @@ pub enum PacketKind {
 
 /// The two ends of a producer's stream.
 #[derive(Clone, Copy, PartialEq, Eq)]
-pub enum Ending {
+pub enum StreamEnd {
     /// All rows were sent.
     Last,
     /// The producer failed: what was sent is cut short.
@@ -27,7 +29,7 @@ pub enum Body {
     /// 1 to 4,096 rows.
     Rows(Rows),
     /// No row: the stream is over.
-    End(Ending),
+    End(StreamEnd),
 }
 
 /// Rows, or the end of a stream, from a producer to a consumer of an exchange. A closing packet holds no rows, but their types.
@@ -64,9 +66,6 @@ impl Model for Packet {
 }
 
 impl Packet {
-    /// The most rows of a packet.
-    pub const MAX_ROWS: usize = 4096;
-
     ghost use Rattle.std.specs.Prelude.{◌≡◌, ◌<◌, ◌≤◌, [], length};
     ghost use Rattle.vx_ports.specs.Packets.{brings, closes, content_rows, FitsContent};
     ghost use Rattle.vx_ports.specs.Seen.{ending_content};
@@ -75,7 +74,7 @@ impl Packet {
     /// A packet of rows: 1 to 4,096.
     pub fn of_rows(exchange: u32, from: u32, to: u32, rows: Rows) -> Packet
         requires some { 0 < length rows.rows }
-        requires few { length rows.rows ≤ 4096 }
+        requires few { length rows.rows ≤ max_packet_rows }
         ensures { result ≡ record { exchange = exchange; from = from; to = to; types = rows.types; content = brings rows.rows } }
     {
         Packet {
@@ -88,13 +87,13 @@ impl Packet {
     }
 
     /// A packet that closes a stream of rows of these types; `none` has no rows.
-    pub fn closing(exchange: u32, from: u32, to: u32, ending: Ending, none: Rows) -> Packet
+    pub fn closing(exchange: u32, from: u32, to: u32, ending: StreamEnd, none: Rows) -> Packet
         requires { none.rows ≡ [] }
         ensures { result ≡ record { exchange = exchange; from = from; to = to; types = none.types; content = ending_content ending } }
     {
         let kind = match ending {
-            Ending::Last => PacketKind::Last,
-            Ending::Fault => PacketKind::Fault,
+            StreamEnd::Last => PacketKind::Last,
+            StreamEnd::Fault => PacketKind::Fault,
         };
         Packet {
             exchange,
@@ -168,8 +167,8 @@ impl Packet {
         } = self;
         match kind {
             PacketKind::Rows => Body::Rows(rows),
-            PacketKind::Last => Body::End(Ending::Last),
-            PacketKind::Fault => Body::End(Ending::Fault),
+            PacketKind::Last => Body::End(StreamEnd::Last),
+            PacketKind::Fault => Body::End(StreamEnd::Fault),
         }
     }
 }

@@ -8,7 +8,7 @@ use Rattle.vx_ports.specs.Packets.{last, fault, PacketView, content_rows, rows_o
 use Rattle.vx_ops.specs.Ledger.{Ledger, ConsumerEnd, receive, Makes, Begun, OwnBlame, InputsEnded, TestsPackets, Abides, IsFor, Came}
 use Rattle.vx_ops.proofs.Strangers.{none-came}
 use Rattle.vx_ops.specs.Turn.{with_packet, after}
-use Rattle.vx_ops.specs.declared.fault.Over.TheVariants.{Running, Ended, Failed}
+use Rattle.vx_ops.specs.declared.fault.StreamState.TheVariants.{Running, Ended, Failed}
 use Rattle.vx_ops.specs.declared.fault.Fault.{Fault}
 use Rattle.vx_ops.specs.declared.fault.Fault.TheVariants.{Own, Passed}
 use Rattle.vx_ops.specs.declared.fault.Code.TheVariants.{Stranger}

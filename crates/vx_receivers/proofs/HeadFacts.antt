@@ -4,34 +4,34 @@ use Rattle.std.proofs.Math.ListN.{set}
 use Rattle.std.proofs.lemmas.Option.{slice_get-get_or}
 use Rattle.std.specs.Ordering.{ordering_reverse}
 use Rattle.vx_values.specs.Values.{Row, pick}
-use Rattle.vx_rows.specs.Order.{compare_on}
-use Rattle.vx_rows.proofs.Compare.{le-trans, le-other, row_cmp_total}
-use Rattle.vx_receivers.specs.declared.heads.Head.{Head}
+use Rattle.vx_values.specs.Order.{compare_on}
+use Rattle.vx_values.proofs.Compare.{le-trans, le-other, row_cmp_total}
+use Rattle.vx_receivers.specs.declared.heads.StreamHead.{StreamHead}
 use Rattle.vx_receivers.specs.Heads.{GoesBefore, Precedes, held_at}
 
 -- a head that was changed, and the others
-pub set-there : (hs : List Head) (p : ℕ) (h : Head) → p < length hs → slice_get (set hs p h) p ≡ Some h
+pub set-there : (hs : List StreamHead) (p : ℕ) (h : StreamHead) → p < length hs → slice_get (set hs p h) p ≡ Some h
 set-there [] p h l = absurd (omega (arith, l))
 set-there (x ∷ hs) zero h l = refl
 set-there (x ∷ hs) (suc p) h l = set-there hs p h (omega (arith, l))
 
-pub set-other : (hs : List Head) (p q : ℕ) (h : Head) → q ≢ p → slice_get (set hs p h) q ≡ slice_get hs q
+pub set-other : (hs : List StreamHead) (p q : ℕ) (h : StreamHead) → q ≢ p → slice_get (set hs p h) q ≡ slice_get hs q
 set-other [] p q h ne = refl
 set-other (x ∷ hs) zero zero h ne = absurd (ne refl)
 set-other (x ∷ hs) zero (suc q) h ne = refl
 set-other (x ∷ hs) (suc p) zero h ne = refl
 set-other (x ∷ hs) (suc p) (suc q) h ne = set-other hs p q h (λ e. ne (ap suc e))
 
-pub the-head : (hs : List Head) (p : ℕ) (h g : Head) → slice_get hs p ≡ Some h → slice_get hs p ≡ Some g → h ≡ g
+pub the-head : (hs : List StreamHead) (p : ℕ) (h g : StreamHead) → slice_get hs p ≡ Some h → slice_get hs p ≡ Some g → h ≡ g
 the-head hs p h g e f = cc
 
-pub held-within : (hs : List Head) (p i : ℕ) → i < length (held_at hs p) → p < length hs
+pub held-within : (hs : List StreamHead) (p i : ℕ) → i < length (held_at hs p) → p < length hs
 held-within [] p i l = absurd (omega (arith, l))
 held-within (x ∷ hs) zero i l = omega arith
 held-within (x ∷ hs) (suc p) i l = let h = held-within hs p i l in omega (arith, h)
 
 -- a head that was read by its place
-pub read-there : (hs : List Head) (p : ℕ) (h : Head) → p < length hs → h ≡ get_or hs p h → slice_get hs p ≡ Some h
+pub read-there : (hs : List StreamHead) (p : ℕ) (h : StreamHead) → p < length hs → h ≡ get_or hs p h → slice_get hs p ≡ Some h
 read-there hs p h l e = slice_get-get_or hs p h l ∙ ap Some (sym e)
 
 turn : (o p : Ordering) → p ≡ ordering_reverse o → is_lt o ≡ true → is_le p ≡ false
@@ -80,7 +80,7 @@ le-refl cols a = go (is_le (compare_on cols a a)) refl
     go false e = le-other cols a a e
 
 -- no producer goes before itself
-pub not-itself : (cols : List ℕ) (hs : List Head) (p : ℕ) → Precedes cols hs p p → ⊥
+pub not-itself : (cols : List ℕ) (hs : List StreamHead) (p : ℕ) → Precedes cols hs p p → ⊥
 not-itself cols hs p h = let t = h.tie h.le in omega (arith, t)
 
 -- where the rows left begin with one, that is the next one

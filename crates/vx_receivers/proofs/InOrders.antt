@@ -7,7 +7,7 @@ use Rattle.vx_rows.specs.declared.table.Table.{Table}
 use Rattle.vx_ports.specs.Packets.{brings, last, PacketView, content_rows, rows_of, has_last}
 use Rattle.vx_ops.specs.Ledger.{Ledger, ConsumerEnd, receive, IsFor, Abides}
 use Rattle.vx_ops.specs.Turn.{with_packet, after, fresh_ledger}
-use Rattle.vx_ops.specs.declared.fault.Over.TheVariants.{Running, Ended, Failed}
+use Rattle.vx_ops.specs.declared.fault.StreamState.TheVariants.{Running, Ended, Failed}
 use Rattle.vx_ops.specs.declared.fault.Fault.{Fault}
 use Rattle.vx_ops.specs.declared.turn.Want.TheVariants as want
 use Rattle.vx_ops.specs.declared.turn.Got.TheVariants as got

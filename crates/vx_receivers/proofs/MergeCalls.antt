@@ -8,10 +8,10 @@ use Rattle.std.proofs.lemmas.Option.{slice_get_within}
 use Rattle.std.proofs.lemmas.Bool.Decides.{eqb_tells}
 use Rattle.vx_values.specs.Values.{Row}
 use Rattle.vx_values.specs.declared.value.ColType.{ColType}
-use Rattle.vx_rows.specs.Order.{sorted}
+use Rattle.vx_values.specs.Order.{sorted}
 use Rattle.vx_rows.specs.View.{AreColumns}
 use Rattle.vx_plan_nodes.specs.Streams.{Streams}
-use Rattle.vx_receivers.specs.declared.heads.Head.{Head}
+use Rattle.vx_receivers.specs.declared.heads.StreamHead.{StreamHead}
 use Rattle.vx_receivers.specs.Merged.{with_more}
 use Rattle.vx_receivers.specs.Heads.{HasRow, HasRowAt, Lacks, LacksAt, last_of, AreAlike, AreOf, Precedes, IsRun, IsOrder, AreAll, AllRise, IsMissing}
 use Rattle.vx_receivers.specs.Merge.{MergeView, MergeFits, IsMergeOf, HasMerged, AllGiven}
@@ -21,26 +21,26 @@ use Rattle.vx_receivers.proofs.Places.{order-kept, first-once}
 use Rattle.vx_receivers.proofs.Merges.{by-order}
 use Rattle.vx_receivers.proofs.Orders.{all-tail, pairs-tail, has-either}
 
-pub alike-of : (types : List ColType) (cols : List ℕ) (hs : List Head) → AreColumns (length types) cols → AreOf types hs → AreAlike cols hs
+pub alike-of : (types : List ColType) (cols : List ℕ) (hs : List StreamHead) → AreColumns (length types) cols → AreOf types hs → AreAlike cols hs
 alike-of types cols hs c t = record {
   types = λ p q h g e f. t p h e ∙ sym (t q g f);
   columns = λ p h e. subst (λ ts. AreColumns (length ts) cols) (sym (t p h e)) c;
 }
 
-pub types-changed : (types : List ColType) (hs : List Head) (p : ℕ) (g : Head) → p < length hs → AreOf types hs → g.rows.types ≡ types → AreOf types (set hs p g)
+pub types-changed : (types : List ColType) (hs : List StreamHead) (p : ℕ) (g : StreamHead) → p < length hs → AreOf types hs → g.rows.types ≡ types → AreOf types (set hs p g)
 types-changed types hs p g lt t e q h f = elim (eqb_tells q p) [
-  | inl i ↦ let s : g ≡ h = the-head (set hs p g) p g h (set-there hs p g lt) (subst (λ k. slice_get (set hs p g) k ≡ Some h) i.1 f) in subst (λ (x : Head). x.rows.types ≡ types) s e
+  | inl i ↦ let s : g ≡ h = the-head (set hs p g) p g h (set-there hs p g lt) (subst (λ k. slice_get (set hs p g) k ≡ Some h) i.1 f) in subst (λ (x : StreamHead). x.rows.types ≡ types) s e
   | inr i ↦ t q h (sym (set-other hs p q g i.1) ∙ f)
 ]
 
-pub rises-changed : (cols : List ℕ) (hs : List Head) (p : ℕ) (g : Head) → p < length hs → AllRise cols hs → sorted cols g.rows.rows ≡ true → AllRise cols (set hs p g)
+pub rises-changed : (cols : List ℕ) (hs : List StreamHead) (p : ℕ) (g : StreamHead) → p < length hs → AllRise cols hs → sorted cols g.rows.rows ≡ true → AllRise cols (set hs p g)
 rises-changed cols hs p g lt t s q = elim (eqb_tells q p) [
   | inl i ↦ rw (i.1, set-there hs p g lt) s
   | inr i ↦ rw (set-other hs p q g i.1) (t q)
 ]
 
 -- one head was changed, and with it the order
-pub fits-changed : (v : MergeView) → MergeFits v → (p : ℕ) (g : Head) → p < length v.heads → g.rows.types ≡ v.types → sorted v.columns g.rows.rows ≡ true → (order : List ℕ) → IsOrder v.columns (set v.heads p g) order
+pub fits-changed : (v : MergeView) → MergeFits v → (p : ℕ) (g : StreamHead) → p < length v.heads → g.rows.types ≡ v.types → sorted v.columns g.rows.rows ≡ true → (order : List ℕ) → IsOrder v.columns (set v.heads p g) order
     → ((q : ℕ) → q ≢ p → Contains v.order q → Contains order q) → (HasRow g → Contains order p) → (o : Option ℕ) → IsMissing (set v.heads p g) o
     → MergeFits (record v { heads = set v.heads p g; order = order; missing = o })
 fits-changed v fits p g lt e rise order is kept new o missing = record {
@@ -77,7 +77,7 @@ module _ (v m : MergeView) (seen : v ≡ m) (fits : MergeFits v) (p : ℕ) (miss
   seen-merged : (closed : ℕ → Bool) (came : Streams) (given : List Row) → HasMerged m closed came given → IsMergeOf v.columns v.heads closed came given
   seen-merged closed came given h = subst (λ x. HasMerged x closed came given) (sym seen) h
 
-  module _ (x g : Head) (read : x ≡ get_or v.heads p x) where
+  module _ (x g : StreamHead) (read : x ≡ get_or v.heads p x) where
     there : slice_get v.heads p ≡ Some x
     there = read-there v.heads p x lacking-within read
 
@@ -132,10 +132,10 @@ module _ (v m : MergeView) (seen : v ≡ m) (fits : MergeFits v) (p : ℕ) (miss
       call-put-falls f closed came given h =
           subst (λ (y : MergeView). sorted y.columns (came p ++ xs) ≡ false) seen (put-falls v.columns v.heads closed came given (seen-merged closed came given h) p x there g xs lacks-x rows at flag f)
 
-pub same-head : (hs : List Head) (p : ℕ) (x y : Head) → p < length hs → x ≡ get_or hs p x → y ≡ get_or hs p y → x ≡ y
+pub same-head : (hs : List StreamHead) (p : ℕ) (x y : StreamHead) → p < length hs → x ≡ get_or hs p x → y ≡ get_or hs p y → x ≡ y
 same-head hs p x y l e f = the-head hs p x y (read-there hs p x l e) (read-there hs p y l f)
 
-pub read-set : (hs : List Head) (p : ℕ) (g y : Head) → p < length hs → y ≡ get_or (set hs p g) p y → y ≡ g
+pub read-set : (hs : List StreamHead) (p : ℕ) (g y : StreamHead) → p < length hs → y ≡ get_or (set hs p g) p y → y ≡ g
 read-set hs p g y l e = e ∙ get_or-set_same hs p g y l
 
 pub remove-first : {X : Type 0} (xs : List X) → remove xs 0 ≡ drop 1 xs
@@ -177,7 +177,7 @@ module _ (v m : MergeView) (seen : v ≡ m) (fits : MergeFits v) (missing : m.mi
   pub first-is : get_or v.order 0 0 ≡ p
   first-is = get_or_default v.order 0 0 p some ∙ sym first
 
-  module _ (x g : Head) (read : x ≡ get_or v.heads p x) (to : ℕ) (run : IsRun v.columns v.heads (drop 1 v.order) (get_or v.order 0 0) to) (rows : g.rows ≡ x.rows) (at : g.at ≡ to) (flag : g.ended ≡ x.ended) where
+  module _ (x g : StreamHead) (read : x ≡ get_or v.heads p x) (to : ℕ) (run : IsRun v.columns v.heads (drop 1 v.order) (get_or v.order 0 0) to) (rows : g.rows ≡ x.rows) (at : g.at ≡ to) (flag : g.ended ≡ x.ended) where
     first-there : slice_get v.heads p ≡ Some x
     first-there = read-there v.heads p x first-within read
 

@@ -4,20 +4,20 @@ use Rattle.std.proofs.lemmas.List.Elements.{All-nil}
 use Rattle.std.proofs.lemmas.Bool.Decides.{eqb_tells}
 use Rattle.vx_values.specs.Values.{Row}
 use Rattle.vx_rows.specs.declared.table.Table.{Table}
-use Rattle.vx_rows.specs.Order.{sorted}
+use Rattle.vx_values.specs.Order.{sorted}
 use Rattle.vx_plan_nodes.specs.Streams.{Streams}
 use Rattle.vx_ports.specs.Packets.{brings, last, PacketView, content_rows, rows_of, has_last}
 use Rattle.vx_ops.specs.Ledger.{Ledger, ConsumerEnd, receive, Begun, Abides, IsFor}
 use Rattle.vx_ops.specs.Turn.{with_packet, after, gives, fresh_ledger}
-use Rattle.vx_ops.specs.declared.fault.Over.TheVariants.{Running, Ended, Failed}
+use Rattle.vx_ops.specs.declared.fault.StreamState.TheVariants.{Running, Ended, Failed}
 use Rattle.vx_ops.specs.declared.fault.Fault.{Fault}
 use Rattle.vx_ops.specs.declared.fault.Fault.TheVariants.{Own}
 use Rattle.vx_ops.specs.declared.fault.Code.TheVariants.{NoMemory, Unsorted}
 use Rattle.vx_ops.specs.declared.turn.Want.TheVariants as want
 use Rattle.vx_ops.specs.declared.turn.Got.TheVariants as got
 use Rattle.vx_ops.specs.declared.turn.Polled.TheVariants as polled
-use Rattle.vx_receivers.specs.declared.heads.Head.{Head}
-use Rattle.vx_receivers.specs.declared.place.Place.{Place}
+use Rattle.vx_receivers.specs.declared.heads.StreamHead.{StreamHead}
+use Rattle.vx_receivers.specs.declared.place.ReceiverPlace.{ReceiverPlace}
 use Rattle.vx_receivers.specs.Ends.{end_at}
 use Rattle.vx_receivers.specs.Heads.{AreAll, LacksAt}
 use Rattle.vx_receivers.specs.Merged.{with_more}
@@ -28,7 +28,7 @@ use Rattle.vx_receivers.proofs.Merges.{all-merged}
 use Rattle.vx_receivers.proofs.Ends.{rows_of-push, this_came, still-last, AreOurs, none-strange, all-ours, abides-running, abides-ended, abides-failed, abides-fault, with_one}
 
 -- producers may end, and what came is what it equals
-same-merge : (cols : List ℕ) (hs : List Head) (closed more : ℕ → Bool) (came come : Streams) (given : List Row) → ((p : ℕ) → closed p ≡ true → more p ≡ true) → ((p : ℕ) → came p ≡ come p)
+same-merge : (cols : List ℕ) (hs : List StreamHead) (closed more : ℕ → Bool) (came come : Streams) (given : List Row) → ((p : ℕ) → closed p ≡ true → more p ≡ true) → ((p : ℕ) → came p ≡ come p)
     → IsMergeOf cols hs closed came given → IsMergeOf cols hs more come given
 same-merge cols hs closed more came come given f e m = record {
   taken = m.taken;
@@ -46,14 +46,14 @@ abbrev pub has_closed : Ledger → ℕ → Bool
 has_closed l p = has_last (l.came p)
 
 -- the end at a place that merges as this merge does
-abbrev pub merging_end : Place → MergeView → ConsumerEnd
+abbrev pub merging_end : ReceiverPlace → MergeView → ConsumerEnd
 merging_end s m = end_at s (length m.heads) m.columns false
 
-pub merging-begun : (s : Place) (m : MergeView) (l : Ledger) → HasMerged m (has_closed l) (came_rows l) l.gave.rows → Begun (receive (merging_end s m)) l
+pub merging-begun : (s : ReceiverPlace) (m : MergeView) (l : Ledger) → HasMerged m (has_closed l) (came_rows l) l.gave.rows → Begun (receive (merging_end s m)) l
 merging-begun s m l h = merge-begins (merging_end s m) l _ h.taken _ h.merged h.parts refl
 
 -- it runs on
-pub merging-on : (s : Place) (m : MergeView) (l : Ledger) → l.gave.over ≡ Running → HasMerged m (has_closed l) (came_rows l) l.gave.rows → AreOurs (merging_end s m) l → IsMerging (merging_end s m) m Running l
+pub merging-on : (s : ReceiverPlace) (m : MergeView) (l : Ledger) → l.gave.over ≡ Running → HasMerged m (has_closed l) (came_rows l) l.gave.rows → AreOurs (merging_end s m) l → IsMerging (merging_end s m) m Running l
 merging-on s m l e h ours = record {
   same = e;
   runs = λ f. record { merged = h; ours = ours };
@@ -63,7 +63,7 @@ merging-on s m l e h ours = record {
 pub merging-fails : (port : ConsumerEnd) (m : MergeView) (f : Fault) (l : Ledger) → l.gave.over ≡ Failed f → Abides (receive port) l → IsMerging port m (Failed f) l
 merging-fails port m f l e a = record { same = e; runs = λ h. cc; abides = a }
 
-module _ (s : Place) (m : MergeView) (l : Ledger) (from : ℕ) (packet : PacketView) (is : IsFor (merging_end s m) from packet) (ours : AreOurs (merging_end s m) l) (going : l.gave.over ≡ Running) where
+module _ (s : ReceiverPlace) (m : MergeView) (l : Ledger) (from : ℕ) (packet : PacketView) (is : IsFor (merging_end s m) from packet) (ours : AreOurs (merging_end s m) l) (going : l.gave.over ≡ Running) where
   came-with : (xs : List Row) → content_rows packet.content ≡ xs → (p : ℕ) → with_more (came_rows l) from xs p ≡ rows_of (with_packet l.came from (Some packet) p)
   came-with xs e p = elim (eqb_tells p from) [
     | inl f ↦ rw (f.0, f.1) (sym (rows_of-push (l.came from) packet ∙ ap (λ ys. rows_of (l.came from) ++ ys) e))
@@ -106,7 +106,7 @@ module _ (s : Place) (m : MergeView) (l : Ledger) (from : ℕ) (packet : PacketV
   unfolding with_one
   merging-refused b = abides-fault (merging_end s m) from packet l (Own NoMemory s.exchange) is ours b tt
 
-module _ (s : Place) (m n : MergeView) (l : Ledger) (many : length n.heads ≡ length m.heads) (cols : n.columns ≡ m.columns) (ours : AreOurs (merging_end s m) l) where
+module _ (s : ReceiverPlace) (m n : MergeView) (l : Ledger) (many : length n.heads ≡ length m.heads) (cols : n.columns ≡ m.columns) (ours : AreOurs (merging_end s m) l) where
   -- rows are given
   pub merging-gave : l.gave.over ≡ Running → (t : Table) → HasMerged n (has_closed l) (came_rows l) (l.gave.rows ++ t.rows) → IsMerging (merging_end s n) n Running (gives l (polled.Gave t))
   merging-gave going t h = merging-on s n (gives l (polled.Gave t)) going h (rw (many, cols) ours)
@@ -125,7 +125,7 @@ module _ (s : Place) (m n : MergeView) (l : Ledger) (many : length n.heads ≡ l
       }
 
 -- memory runs out where rows are given
-pub merging-short : (s : Place) (m : MergeView) (l : Ledger) → AreOurs (merging_end s m) l → Begun (receive (merging_end s m)) l → Abides (receive (merging_end s m)) (gives l (polled.Fault (Own NoMemory s.exchange)))
+pub merging-short : (s : ReceiverPlace) (m : MergeView) (l : Ledger) → AreOurs (merging_end s m) l → Begun (receive (merging_end s m)) l → Abides (receive (merging_end s m)) (gives l (polled.Fault (Own NoMemory s.exchange)))
 merging-short s m l ours b =
     let k = gives l (polled.Fault (Own NoMemory s.exchange)) in
     abides-failed (merging_end s m) k (Own NoMemory s.exchange) refl
@@ -133,5 +133,5 @@ merging-short s m l ours b =
     (λ i c. absurd (none-strange (merging_end s m) l ours i c)) tt
 
 -- nothing came yet
-pub merging-fresh : (s : Place) (m : MergeView) → HasMerged m (λ p. false) (λ p. []) [] → IsMerging (merging_end s m) m Running fresh_ledger
+pub merging-fresh : (s : ReceiverPlace) (m : MergeView) → HasMerged m (λ p. false) (λ p. []) [] → IsMerging (merging_end s m) m Running fresh_ledger
 merging-fresh s m h = merging-on s m fresh_ledger refl h (λ i. All-nil (IsFor (merging_end s m) i))

@@ -11,9 +11,9 @@ use Rattle.std.proofs.lemmas.Option.{slice_get_within, get_or_from_slice_get}
 use Rattle.std.proofs.lemmas.Bool.Decides.{eqb_tells}
 use Rattle.vx_values.specs.Values.{Row}
 use Rattle.vx_values.specs.declared.value.ColType.{ColType}
-use Rattle.vx_rows.specs.Order.{compare_on, sorted}
+use Rattle.vx_values.specs.Order.{compare_on, sorted}
 use Rattle.vx_plan_nodes.specs.Streams.{Streams, Dealt}
-use Rattle.vx_receivers.specs.declared.heads.Head.{Head}
+use Rattle.vx_receivers.specs.declared.heads.StreamHead.{StreamHead}
 use Rattle.vx_receivers.specs.Merged.{with_more, instead, Merged}
 use Rattle.vx_receivers.specs.Heads.{Lacks, LacksAt, held, left_of, has_ended, held_at, left_at, next_at, ended_at, position_at, last_of, IsFresh, IsRun, AreAll}
 use Rattle.vx_receivers.specs.Merge.{EndsIn, IsMergeOf}
@@ -29,20 +29,20 @@ by-order zero (suc m) f g = f (omega arith)
 by-order (suc n) (suc m) f g = by-order n m (λ l. f (omega (arith, l))) (λ l. g (omega (arith, l)))
 
 -- what holds of all heads holds of the one at a place
-pub head-of : (P : Head → Type 0) (hs : List Head) (p : ℕ) (h : Head) → All P hs → slice_get hs p ≡ Some h → P h
+pub head-of : (P : StreamHead → Type 0) (hs : List StreamHead) (p : ℕ) (h : StreamHead) → All P hs → slice_get hs p ≡ Some h → P h
 head-of P hs p h all e = subst P (get_or_from_slice_get hs p h h e) (all p h (slice_get_within hs p h e))
 
 -- a fact of each place, from the heads that there are
-by-head : (P : Option Head → Type 0) (o : Option Head) → P None → ((h : Head) → o ≡ Some h → P (Some h)) → P o
+by-head : (P : Option StreamHead → Type 0) (o : Option StreamHead) → P None → ((h : StreamHead) → o ≡ Some h → P (Some h)) → P o
 by-head P None n s = n
 by-head P (Some h) n s = s h refl
 
-there : (hs : List Head) (p : ℕ) → p < length hs → (o : Option Head) → slice_get hs p ≡ o → (h : Head) × (slice_get hs p ≡ Some h)
+there : (hs : List StreamHead) (p : ℕ) → p < length hs → (o : Option StreamHead) → slice_get hs p ≡ o → (h : StreamHead) × (slice_get hs p ≡ Some h)
 there [] p l o e = absurd (omega (arith, l))
 there (x ∷ hs) zero l o e = (x, refl)
 there (x ∷ hs) (suc p) l o e = there hs p (omega (arith, l)) o e
 
-pub nothing-merged : (cols : List ℕ) (types : List ColType) (hs : List Head) → All (IsFresh types) hs → IsMergeOf cols hs (λ p. false) (λ p. []) []
+pub nothing-merged : (cols : List ℕ) (types : List ColType) (hs : List StreamHead) → All (IsFresh types) hs → IsMergeOf cols hs (λ p. false) (λ p. []) []
 nothing-merged cols types hs fresh = record {
   taken = λ p. [];
   merged = same-merged (length hs) cols (λ p. false) (ended_at hs) (λ p. []) (λ p. []) (λ p. []) (left_at hs) [] (λ j l e. absurd (true≢false (sym e))) (λ j. refl) (λ j. sym (left j)) (nothing-is-merged (length hs) cols);
@@ -57,13 +57,13 @@ nothing-merged cols types hs fresh = record {
     left : (p : ℕ) → left_at hs p ≡ []
     left p = by-head (λ o. left_of o ≡ []) (slice_get hs p) refl (λ h e. let f = head-of (IsFresh types) hs p h fresh e in ap (drop h.at) f.rows ∙ drop_all h.at [] (omega arith))
 
-module _ (cols : List ℕ) (hs : List Head) (closed : ℕ → Bool) (came : Streams) (given : List Row) (m : IsMergeOf cols hs closed came given) (p : ℕ) (h : Head) (at_p : slice_get hs p ≡ Some h) where
+module _ (cols : List ℕ) (hs : List StreamHead) (closed : ℕ → Bool) (came : Streams) (given : List Row) (m : IsMergeOf cols hs closed came given) (p : ℕ) (h : StreamHead) (at_p : slice_get hs p ≡ Some h) where
   near : p < length hs
   near = slice_get_within hs p h at_p
 
-  module _ (g : Head) where
+  module _ (g : StreamHead) where
     -- what holds of the changed head at its place and of the others at theirs
-    changed : (P : ℕ → Option Head → Type 0) → P p (Some g) → ((j : ℕ) → j ≢ p → P j (slice_get hs j)) → (j : ℕ) → P j (slice_get (set hs p g) j)
+    changed : (P : ℕ → Option StreamHead → Type 0) → P p (Some g) → ((j : ℕ) → j ≢ p → P j (slice_get hs j)) → (j : ℕ) → P j (slice_get (set hs p g) j)
     changed P here other j = elim (eqb_tells j p) [
       | inl e ↦ subst (λ k. P k (slice_get (set hs p g) k)) (sym e.1) (subst (P p) (sym (set-there hs p g near)) here)
       | inr e ↦ subst (P j) (sym (set-other hs p j g e.1)) (other j e.1)
@@ -192,20 +192,20 @@ module _ (cols : List ℕ) (hs : List Head) (closed : ℕ → Bool) (came : Stre
           }
 
 -- no row is left, and no producer lacks one: all were given
-pub all-merged : (cols : List ℕ) (hs : List Head) (closed : ℕ → Bool) (came : Streams) (given : List Row) → IsMergeOf cols hs closed came given → AreAll hs [] → ((j : ℕ) → LacksAt hs j → ⊥)
+pub all-merged : (cols : List ℕ) (hs : List StreamHead) (closed : ℕ → Bool) (came : Streams) (given : List Row) → IsMergeOf cols hs closed came given → AreAll hs [] → ((j : ℕ) → LacksAt hs j → ⊥)
     → Dealt (length hs) given came × (sorted cols given ≡ true) × ((p : ℕ) → p < length hs → closed p ≡ true)
 all-merged cols hs closed came given m none full =
     let d = all-is-merged (length hs) cols (ended_at hs) m.taken (left_at hs) came given m.merged (λ i l. m.parts i) (λ i l. left i (slice_get hs i) refl) in
     (d.0, d.1, λ p l. m.are_closed p l (let t = there hs p l (slice_get hs p) refl in rw t.1 (ended p t.0 t.1)))
   where
-    no-row : (i : ℕ) (h : Head) → slice_get hs i ≡ Some h → length h.rows.rows ≤ h.at
+    no-row : (i : ℕ) (h : StreamHead) → slice_get hs i ≡ Some h → length h.rows.rows ≤ h.at
     no-row i h e = by-order h.at (length h.rows.rows) (λ r. let c = none i (h, e, r) in let l = c.1 in absurd (omega (arith, l))) (λ l. l)
 
-    left : (i : ℕ) (o : Option Head) → slice_get hs i ≡ o → left_at hs i ≡ []
+    left : (i : ℕ) (o : Option StreamHead) → slice_get hs i ≡ o → left_at hs i ≡ []
     left i None e = rw e refl
     left i (Some h) e = rw e (drop_all h.at h.rows.rows (no-row i h e))
 
-    ended : (i : ℕ) (h : Head) → slice_get hs i ≡ Some h → h.ended ≡ true
+    ended : (i : ℕ) (h : StreamHead) → slice_get hs i ≡ Some h → h.ended ≡ true
     ended i h e = go h.ended refl
       where
         go : (b : Bool) → h.ended ≡ b → h.ended ≡ true

@@ -5,8 +5,8 @@ use Rattle.std.proofs.lemmas.Bool.Decides.{eqb_tells}
 use Rattle.std.specs.Ordering.{is_le}
 use Rattle.vx_values.specs.Values.{Row}
 use Rattle.vx_values.proofs.Booleans.{and-left, and-right, and-both}
-use Rattle.vx_rows.specs.Order.{sorted, compare_on}
-use Rattle.vx_rows.proofs.Compare.{le-trans}
+use Rattle.vx_values.specs.Order.{sorted, compare_on}
+use Rattle.vx_values.proofs.Compare.{le-trans}
 use Rattle.vx_plan_nodes.specs.Streams.{Streams, Dealt, bearing}
 use Rattle.vx_ends.proofs.Deals.{numbered_same, rows-numbered_same, range-numbered_same, bearing-same, bearing-other, bearing-append, numbers-append, ranges-append}
 use Rattle.vx_receivers.specs.Merged.{with_more, instead, Merged, IsLeast}

@@ -3,7 +3,7 @@ use Rattle.std.proofs.Common.{ℕ, zero, suc, ◌≡◌, ◌≢◌, ◌<◌, ◌
 use Rattle.std.specs.List.{AllByRecursion}
 use Rattle.std.proofs.lemmas.Bool.Decides.{nat_tests, eqb_tells}
 use Rattle.vx_values.specs.Values.{Row}
-use Rattle.vx_rows.specs.Order.{compare_on}
+use Rattle.vx_values.specs.Order.{compare_on}
 use Rattle.vx_plan_nodes.specs.Streams.{Streams}
 use Rattle.vx_receivers.specs.Merged.{with_more, instead, Merged, IsLeast}
 use Rattle.vx_receivers.proofs.Merging.{least-goes, same-merged}

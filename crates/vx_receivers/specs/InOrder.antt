@@ -4,8 +4,8 @@ use Rattle.vx_ports.specs.Packets.{has_last}
 use Rattle.vx_ops.specs.Ledger.{Ledger, ConsumerEnd, Op, receive, IsFor, Abides}
 use Rattle.vx_ops.specs.Turn.{Shape}
 use Rattle.vx_ops.specs.Meaning.{Meaning}
-use Rattle.vx_ops.specs.declared.fault.Over.{Over}
-use Rattle.vx_ops.specs.declared.fault.Over.TheVariants.{Running}
+use Rattle.vx_ops.specs.declared.fault.StreamState.{StreamState}
+use Rattle.vx_ops.specs.declared.fault.StreamState.TheVariants.{Running}
 use Rattle.vx_ops.specs.declared.turn.Want.{Want}
 use Rattle.vx_exchange.specs.Receiver.{packet_while_running}
 use Rattle.vx_exchange.specs.InOrder.{StandsInOrder}
@@ -19,7 +19,7 @@ pub record TakesInOrder (port : ConsumerEnd) (next : ℕ) (l : Ledger) : Type 0 
   pub closed : (i : ℕ) → i < next → has_last (l.came i) ≡ true
 
 -- it stands so; what is known while it runs, and of any source
-pub record IsInOrder (port : ConsumerEnd) (next : ℕ) (over : Over) (l : Ledger) : Type 0 where
+pub record IsInOrder (port : ConsumerEnd) (next : ℕ) (over : StreamState) (l : Ledger) : Type 0 where
   pub same : l.gave.over ≡ over
   pub runs : over ≡ Running → TakesInOrder port next l
   pub abides : Abides (receive port) l

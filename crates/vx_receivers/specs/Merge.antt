@@ -6,13 +6,13 @@ use Rattle.vx_rows.specs.View.{AreColumns}
 use Rattle.vx_plan_nodes.specs.Streams.{Streams}
 use Rattle.vx_receivers.specs.Merged.{Merged}
 use Rattle.vx_receivers.specs.Heads.{held_at, left_at, ended_at, IsOrder, AreAll, AllRise, AreOf, LacksAt, IsMissing}
-use Rattle.vx_receivers.specs.declared.heads.Head.{Head}
+use Rattle.vx_receivers.specs.declared.heads.StreamHead.{StreamHead}
 
 -- its columns and types, what is at hand of each producer, which of them have rows in which order, and one that lacks a row
 pub record MergeView : Type 0 where
   pub columns : List ℕ
   pub types : List ColType
-  pub heads : List Head
+  pub heads : List StreamHead
   pub order : List ℕ
   pub missing : Option ℕ
 
@@ -32,7 +32,7 @@ pub record EndsIn (xs ys : List Row) : Type 0 where
   pub edge : xs ≡ [] → front ≡ []
 
 -- where these rows came of each producer and those that have ended are closed, this is what was given
-pub record IsMergeOf (cols : List ℕ) (hs : List Head) (closed : ℕ → Bool) (came : Streams) (given : List Row) : Type 0 where
+pub record IsMergeOf (cols : List ℕ) (hs : List StreamHead) (closed : ℕ → Bool) (came : Streams) (given : List Row) : Type 0 where
   pub taken : Streams
   pub merged : Merged (length hs) cols (ended_at hs) taken (left_at hs) given
   pub parts : (p : ℕ) → taken p ++ left_at hs p ≡ came p

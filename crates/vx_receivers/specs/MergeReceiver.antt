@@ -4,8 +4,8 @@ use Rattle.vx_ports.specs.Packets.{rows_of, has_last}
 use Rattle.vx_ops.specs.Ledger.{Ledger, ConsumerEnd, Op, receive, IsFor, Abides}
 use Rattle.vx_ops.specs.Turn.{Shape, while_running}
 use Rattle.vx_ops.specs.Meaning.{Meaning}
-use Rattle.vx_ops.specs.declared.fault.Over.{Over}
-use Rattle.vx_ops.specs.declared.fault.Over.TheVariants.{Running}
+use Rattle.vx_ops.specs.declared.fault.StreamState.{StreamState}
+use Rattle.vx_ops.specs.declared.fault.StreamState.TheVariants.{Running}
 use Rattle.vx_ops.specs.declared.turn.Want.{Want}
 use Rattle.vx_ops.specs.declared.turn.Want.TheVariants as want
 use Rattle.vx_receivers.specs.Ends.{end_at, end_types}
@@ -18,7 +18,7 @@ pub record TakesMerging (port : ConsumerEnd) (m : MergeView) (l : Ledger) : Type
   pub ours : (p : ℕ) → All (IsFor port p) (l.came p)
 
 -- it stands so; what is known while it runs, and of any source
-pub record IsMerging (port : ConsumerEnd) (m : MergeView) (over : Over) (l : Ledger) : Type 0 where
+pub record IsMerging (port : ConsumerEnd) (m : MergeView) (over : StreamState) (l : Ledger) : Type 0 where
   pub same : l.gave.over ≡ over
   pub runs : over ≡ Running → TakesMerging port m l
   pub abides : Abides (receive port) l

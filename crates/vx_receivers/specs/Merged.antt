@@ -2,7 +2,7 @@
 use Rattle.std.specs.Prelude.{ℕ, ◌≡◌, ◌<◌, ◌==◌, cond, Bool, true, List, [], ◌∷◌, ◌++◌}
 use Rattle.std.specs.Ordering.{is_le}
 use Rattle.vx_values.specs.Values.{Row}
-use Rattle.vx_rows.specs.Order.{sorted, compare_on}
+use Rattle.vx_values.specs.Order.{sorted, compare_on}
 use Rattle.vx_plan_nodes.specs.Streams.{Streams, Dealt}
 
 -- the same streams, with more rows behind one of them

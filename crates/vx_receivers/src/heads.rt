@@ -4,28 +4,28 @@ ghost use Rattle.std.specs.Prelude.{◌≡◌, ◌≢◌, ◌≤◌, ◌<◌, �
 ghost use Rattle.std.specs.List.{AllWithin, Contains};
 ghost use Rattle.std.specs.Vec.{vec_len, vec_capacity};
 ghost use Rattle.std.specs.Ordering.{is_le};
-ghost use Rattle.vx_rows.specs.Order.{compare_on};
+ghost use Rattle.vx_values.specs.Order.{compare_on};
 ghost use Rattle.vx_rows.specs.View.{row, AreColumns};
 ghost use Rattle.vx_receivers.specs.Heads.{HasRow, Lacks, HasRowAt, held_at, next_at, position_at, last_of, GoesBefore, Precedes, IsOrder, IsRun, AllRise, AreAlike, IsFresh, IsMissing};
 
 use std::alloc::{AllocError, Global};
 use std::cmp::Ordering;
 use vx_keys::compare_rows;
-use vx_rows::ColType;
+use vx_values::ColType;
 use vx_views::Rows;
 
 // What is at hand of a producer's stream: the rows from a position on, and whether it has ended. Of the rows before, the
 // last one is kept until others come: these must not be less.
-pub(crate) struct Head {
+pub(crate) struct StreamHead {
     pub rows: Rows,
     pub at: usize,
     pub ended: bool,
 }
 
 // By hand, so that the drops of its parts are made and proved here once, and not in each function that drops one.
-impl Drop for Head {
+impl Drop for StreamHead {
     fn drop(self) {
-        let Head {
+        let StreamHead {
             rows: _,
             at: _,
             ended: _,
@@ -33,7 +33,7 @@ impl Drop for Head {
     }
 }
 
-impl Head {
+impl StreamHead {
     // Whether a row is left.
     pub(crate) fn has_row(&self) -> bool
         ensures { IsTrue result ↔ HasRow self.now }
@@ -49,7 +49,7 @@ impl Head {
     }
 
     // The head once further rows came, where none is left.
-    pub(crate) fn followed_by(&self, alloc: Global, rows: Rows) -> Result<Head, AllocError>
+    pub(crate) fn followed_by(&self, alloc: Global, rows: Rows) -> Result<StreamHead, AllocError>
         requires { rows.types ≡ self.now.rows.types }
         ensures types { IfOk result (λ h. h.rows.types ≡ self.now.rows.types) }
         ensures ended { IfOk result (λ h. h.ended ≡ self.now.ended) }
@@ -60,7 +60,7 @@ impl Head {
         let mut all = self.rows.slice(alloc, count.saturating_sub(1), count)?;
         let at = all.len();
         all.append(rows)?;
-        Ok(Head {
+        Ok(StreamHead {
             rows: all,
             at,
             ended: self.ended,
@@ -69,7 +69,7 @@ impl Head {
 }
 
 // Whether row i of producer p goes before the next row of producer q: the lower one first among equals.
-fn goes_before(heads: &[Head], columns: &[usize], p: usize, i: usize, q: usize) -> bool
+fn goes_before(heads: &[StreamHead], columns: &[usize], p: usize, i: usize, q: usize) -> bool
     requires alike { AreAlike columns.now heads.now }
     requires row { i < length (held_at heads.now p) }
     requires other { HasRowAt heads.now q }
@@ -86,7 +86,7 @@ fn goes_before(heads: &[Head], columns: &[usize], p: usize, i: usize, q: usize) 
 }
 
 // The place of producer p, which has a row, in an order of others.
-fn place_of(heads: &[Head], columns: &[usize], order: &[usize], p: usize) -> usize
+fn place_of(heads: &[StreamHead], columns: &[usize], order: &[usize], p: usize) -> usize
     requires alike { AreAlike columns.now heads.now }
     requires order { IsOrder columns.now heads.now order.now }
     requires row { HasRowAt heads.now p }
@@ -110,7 +110,12 @@ fn place_of(heads: &[Head], columns: &[usize], order: &[usize], p: usize) -> usi
 }
 
 // Puts producer p, which has a row, in its place in an order of others that has room for it.
-pub(crate) fn add_to_order(heads: &[Head], columns: &[usize], order: &mut Vec<usize>, p: usize)
+pub(crate) fn add_to_order(
+    heads: &[StreamHead],
+    columns: &[usize],
+    order: &mut Vec<usize>,
+    p: usize,
+)
     requires alike { AreAlike columns.now heads.now }
     requires order { IsOrder columns.now heads.now order.old.items }
     requires row { HasRowAt heads.now p }
@@ -129,7 +134,7 @@ pub(crate) fn add_to_order(heads: &[Head], columns: &[usize], order: &mut Vec<us
 
 // Between which two places the rows of producer p that go before the next row of producer q end, by steps that double: those
 // up to the first place go before it, and none from the second on. Fewer rows lie between the two than go before the first.
-fn gallop(heads: &[Head], columns: &[usize], p: usize, q: usize) -> (usize, usize)
+fn gallop(heads: &[StreamHead], columns: &[usize], p: usize, q: usize) -> (usize, usize)
     requires alike { AreAlike columns.now heads.now }
     requires rises { AllRise columns.now heads.now }
     requires row { HasRowAt heads.now p }
@@ -154,7 +159,7 @@ fn gallop(heads: &[Head], columns: &[usize], p: usize, q: usize) -> (usize, usiz
 }
 
 // Up to which of its rows producer p goes before the next row of producer q: by galloping, and then by halving.
-fn run_before(heads: &[Head], columns: &[usize], p: usize, q: usize) -> usize
+fn run_before(heads: &[StreamHead], columns: &[usize], p: usize, q: usize) -> usize
     requires alike { AreAlike columns.now heads.now }
     requires rises { AllRise columns.now heads.now }
     requires row { HasRowAt heads.now p }
@@ -177,7 +182,7 @@ fn run_before(heads: &[Head], columns: &[usize], p: usize, q: usize) -> usize
 }
 
 // Up to which of its rows the first producer of an order goes before all others.
-pub(crate) fn run_end(heads: &[Head], columns: &[usize], order: &[usize]) -> usize
+pub(crate) fn run_end(heads: &[StreamHead], columns: &[usize], order: &[usize]) -> usize
     requires alike { AreAlike columns.now heads.now }
     requires rises { AllRise columns.now heads.now }
     requires order { IsOrder columns.now heads.now order.now }
@@ -192,7 +197,7 @@ pub(crate) fn run_end(heads: &[Head], columns: &[usize], order: &[usize]) -> usi
 }
 
 // The first producer that lacks a row.
-pub(crate) fn first_lacking(heads: &[Head]) -> Option<usize>
+pub(crate) fn first_lacking(heads: &[StreamHead]) -> Option<usize>
     ensures { IsMissing heads.now result }
 {
     for i in 0..heads.len() {
@@ -208,13 +213,13 @@ pub(crate) fn new_heads(
     alloc: Global,
     producers: usize,
     types: &[ColType],
-) -> Result<Vec<Head>, AllocError>
+) -> Result<Vec<StreamHead>, AllocError>
     ensures many { IfOk result (λ v. length v.items ≡ producers) }
     ensures fresh { IfOk result (λ v. All (IsFresh types.now) v.items) }
 {
     let mut heads = Vec::with_capacity(alloc, producers)?;
     for _ in 0..producers {
-        heads.push(Head {
+        heads.push(StreamHead {
             rows: Rows::new(alloc, types)?,
             at: 0,
             ended: false,

@@ -2,10 +2,10 @@
 
 ghost use Rattle.std.specs.Prelude.{◌<◌};
 
-use crate::place::Place;
-use vx_ops::{Code, Fault, Got, Over, Polled, Source, Want};
-use vx_ports::{Body, Ending, Packet};
-use vx_rows::ColType;
+use crate::place::ReceiverPlace;
+use vx_ops::{Code, Fault, Got, Polled, Source, StreamState, Want};
+use vx_ports::{Body, Packet, StreamEnd};
+use vx_values::ColType;
 
 /// Calls: `new (wants turn)*`.
 ///
@@ -13,10 +13,10 @@ use vx_rows::ColType;
 ///
 /// It asks one producer until this has ended, and then the next. What the others send meanwhile waits at their ports.
 pub struct InOrderReceiver {
-    port: Place,
+    port: ReceiverPlace,
     producers: u32,
     next: u32,
-    over: Over,
+    over: StreamState,
     ghost next_in_range: { next < producers },
 }
 
@@ -37,7 +37,7 @@ impl InOrderReceiver {
     ghost use Rattle.vx_ports.specs.Packets.{PacketView, last};
     ghost use Rattle.vx_ops.specs.Ledger.{Ledger, receive, IsFor};
     ghost use Rattle.vx_ops.specs.Turn.{after, fresh_ledger, GivesRows};
-    ghost use Rattle.vx_ops.specs.declared.fault.Over.TheVariants.{Running};
+    ghost use Rattle.vx_ops.specs.declared.fault.StreamState.TheVariants.{Running};
     ghost use Rattle.vx_ops.specs.declared.turn.Got.TheVariants as got_of;
     ghost use Rattle.vx_receivers.specs.InOrder.{InOrderStands, in_order_end, in_order_op, in_order_types, in_order_want};
 
@@ -49,26 +49,26 @@ impl InOrderReceiver {
         ensures types { in_order_types result ≡ record { left = types.items; right = types.items; out = types.items } }
     {
         InOrderReceiver {
-            port: Place {
+            port: ReceiverPlace {
                 exchange,
                 place,
                 types,
             },
             producers,
             next: 0,
-            over: Over::Running,
+            over: StreamState::Running,
         }
     }
 
     // Fails.
     fn fail(&mut self, fault: Fault) -> Polled
-        ensures over { self.new.over ≡ Over.Failed fault }
+        ensures over { self.new.over ≡ StreamState.Failed fault }
         ensures result { result ≡ Polled.Fault fault }
         ensures port { self.new.port ≡ self.old.port }
         ensures producers { self.new.producers ≡ self.old.producers }
         ensures next { self.new.next ≡ self.old.next }
     {
-        self.over = Over::Failed(fault);
+        self.over = StreamState::Failed(fault);
         Polled::Fault(fault)
     }
 
@@ -85,7 +85,7 @@ impl InOrderReceiver {
             self.next += 1;
             return Polled::Waiting;
         }
-        self.over = Over::Ended;
+        self.over = StreamState::Ended;
         Polled::End
     }
 
@@ -106,8 +106,8 @@ impl InOrderReceiver {
         }
         match packet.into_body() {
             Body::Rows(rows) => Polled::Gave(rows),
-            Body::End(Ending::Last) => self.end_producer(),
-            Body::End(Ending::Fault) => self.fail(Fault::Passed),
+            Body::End(StreamEnd::Last) => self.end_producer(),
+            Body::End(StreamEnd::Fault) => self.fail(Fault::Passed),
         }
     }
 }
@@ -127,16 +127,16 @@ impl Source for InOrderReceiver {
 
     fn wants(&self) -> Want {
         match self.over {
-            Over::Running => Want::Packet(self.next),
+            StreamState::Running => Want::Packet(self.next),
             _ => Want::Nothing,
         }
     }
 
     fn turn(&mut self, got: Got) -> Polled {
         match self.over {
-            Over::Ended => Polled::End,
-            Over::Failed(f) => Polled::Fault(f),
-            Over::Running => match got {
+            StreamState::Ended => Polled::End,
+            StreamState::Failed(f) => Polled::Fault(f),
+            StreamState::Running => match got {
                 Got::Packet(Some(packet)) => self.take_packet(packet),
                 _ => Polled::Waiting,
             },

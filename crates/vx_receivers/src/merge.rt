@@ -2,17 +2,17 @@
 
 ghost use Rattle.std.specs.Prelude.{◌≡◌, ◌<◌, ◌++◌, [], ℕ, Bool, List, length, Some, None, true, false, OnOk, IfOk, IfSome};
 ghost use Rattle.vx_values.specs.Values.{Row as Cells};
-ghost use Rattle.vx_rows.specs.Order.{sorted};
+ghost use Rattle.vx_values.specs.Order.{sorted};
 ghost use Rattle.vx_rows.specs.View.{AreColumns};
 ghost use Rattle.vx_plan_nodes.specs.Streams.{Streams};
 ghost use Rattle.vx_receivers.specs.Merged.{with_more};
 ghost use Rattle.vx_receivers.specs.Merge.{HasMerged, HasSameShape, AllGiven};
 
-use crate::heads::{Head, add_to_order, first_lacking, new_heads, run_end};
+use crate::heads::{StreamHead, add_to_order, first_lacking, new_heads, run_end};
 use std::alloc::{AllocError, Global};
 use std::marker::Model;
 use vx_keys::rises;
-use vx_rows::ColType;
+use vx_values::ColType;
 use vx_views::Rows;
 
 // Rows are given until there are so many.
@@ -28,19 +28,19 @@ const RUN: usize = 16;
 // galloping, in steps that double, and then by halving: a long run takes few comparisons, and a run of one row takes one. Then
 // the producer is put in its place again, which is found by halving. The order is a plain list of at most 64 numbers: to shift
 // these costs less than a comparison of rows, and a tree of losers would compare as often.
-pub(crate) struct Merge {
+pub(crate) struct StreamMerge {
     alloc: Global,
     columns: Vec<usize>,
     types: Vec<ColType>,
-    heads: Vec<Head>,
+    heads: Vec<StreamHead>,
     order: Vec<usize>,
     missing: Option<usize>,
 }
 
 // By hand, so that the drops of its parts are made and proved here once, and not in each function that drops one.
-impl Drop for Merge {
+impl Drop for StreamMerge {
     fn drop(self) {
-        let Merge {
+        let StreamMerge {
             alloc: _,
             columns: _,
             types: _,
@@ -51,7 +51,7 @@ impl Drop for Merge {
     }
 }
 
-impl Model for Merge {
+impl Model for StreamMerge {
     ghost use Rattle.vx_receivers.specs.Merge.{MergeView, MergeFits};
 
     ghost Value = { MergeView };
@@ -72,14 +72,14 @@ fn with_few_chunks(alloc: Global, rows: Rows) -> Result<Rows, AllocError>
     Rows::of_table(alloc, rows.gathered(alloc)?)
 }
 
-impl Merge {
+impl StreamMerge {
     // A merge on these columns of the streams of so many producers, with rows of these types, of which nothing came.
     pub(crate) fn new(
         alloc: Global,
         producers: usize,
         columns: Vec<usize>,
         types: &[ColType],
-    ) -> Result<Merge, AllocError>
+    ) -> Result<StreamMerge, AllocError>
         requires { AreColumns (length types.now) columns.items }
         ensures columns { IfOk result (λ m. m.columns ≡ columns.items) }
         ensures types { IfOk result (λ m. m.types ≡ types.now) }
@@ -88,7 +88,7 @@ impl Merge {
     {
         let heads = new_heads(alloc, producers, types)?;
         let missing = first_lacking(heads.as_slice());
-        Ok(Merge {
+        Ok(StreamMerge {
             alloc,
             columns,
             types: Vec::from_slice(alloc, types)?,

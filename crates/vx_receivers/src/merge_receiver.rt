@@ -1,13 +1,14 @@
 //! The consumer end of an exchange whose producers' streams are sorted (Graefe's merging exchange).
 
 ghost use Rattle.std.specs.Prelude.{◌≡◌, ◌≤◌, length};
+ghost use Rattle.vx_values.specs.Limits.{max_group_workers};
 
-use crate::merge::Merge;
-use crate::place::Place;
+use crate::merge::StreamMerge;
+use crate::place::ReceiverPlace;
 use std::alloc::{AllocError, Global};
-use vx_ops::{Code, Fault, Got, Over, Polled, Source, Want};
-use vx_ports::{Body, Ending, Packet};
-use vx_rows::ColType;
+use vx_ops::{Code, Fault, Got, Polled, Source, StreamState, Want};
+use vx_ports::{Body, Packet, StreamEnd};
+use vx_values::ColType;
 use vx_views::Rows;
 
 /// Calls: `new (wants turn)*`.
@@ -18,11 +19,11 @@ use vx_views::Rows;
 /// It asks a producer that has not ended and of which no row is at hand, until there is none, and then returns the least rows
 /// a batch at a time.
 pub struct MergeReceiver {
-    port: Place,
-    kernel: Merge,
-    over: Over,
+    port: ReceiverPlace,
+    kernel: StreamMerge,
+    over: StreamState,
     ghost same_types: { kernel.types ≡ port.types.items },
-    ghost few: { length kernel.heads ≤ 64 },
+    ghost few: { length kernel.heads ≤ max_group_workers },
 }
 
 // By hand, so that the drops of its parts are made and proved here once, and not in each function that drops one.
@@ -42,7 +43,7 @@ impl MergeReceiver {
     ghost use Rattle.vx_ports.specs.Packets.{PacketView, brings};
     ghost use Rattle.vx_ops.specs.Ledger.{Ledger, receive, IsFor};
     ghost use Rattle.vx_ops.specs.Turn.{Fits, after, gives, fresh_ledger, GivesRows};
-    ghost use Rattle.vx_ops.specs.declared.fault.Over.TheVariants.{Running};
+    ghost use Rattle.vx_ops.specs.declared.fault.StreamState.TheVariants.{Running};
     ghost use Rattle.vx_ops.specs.declared.turn.Got.TheVariants as got_of;
     ghost use Rattle.vx_ops.specs.declared.turn.Want.TheVariants as want_of;
     ghost use Rattle.vx_receivers.specs.MergeReceiver.{MergeReceiverStands, merge_end, merge_receiver_op, merge_receiver_types, merge_receiver_want};
@@ -58,27 +59,27 @@ impl MergeReceiver {
         merge: Vec<usize>,
     ) -> Result<MergeReceiver, AllocError>
         requires some { 1 ≤ producers }
-        requires few { producers ≤ 64 }
+        requires few { producers ≤ max_group_workers }
         requires columns { AreColumns (length types.items) merge.items }
         ensures stands { IfOk result (λ r. MergeReceiverStands r fresh_ledger) }
         ensures op { IfOk result (λ r. merge_receiver_op r ≡ receive (record { exchange = exchange; place = place; producers = producers; types = types.items; merge = merge.items; in_order = false })) }
         ensures types { IfOk result (λ r. merge_receiver_types r ≡ record { left = types.items; right = types.items; out = types.items }) }
     {
-        let kernel = Merge::new(alloc, producers as usize, merge, types.as_slice())?;
+        let kernel = StreamMerge::new(alloc, producers as usize, merge, types.as_slice())?;
         Ok(MergeReceiver {
-            port: Place {
+            port: ReceiverPlace {
                 exchange,
                 place,
                 types,
             },
             kernel,
-            over: Over::Running,
+            over: StreamState::Running,
         })
     }
 
     // Fails by a fault of its own.
     fn fail_by(&mut self, code: Code) -> Polled
-        ensures over { self.new.over ≡ Over.Failed (Fault.Own code self.old.port.exchange) }
+        ensures over { self.new.over ≡ StreamState.Failed (Fault.Own code self.old.port.exchange) }
         ensures result { result ≡ Polled.Fault (Fault.Own code self.old.port.exchange) }
         ensures port { self.new.port ≡ self.old.port }
         ensures kernel { self.new.kernel ≡ self.old.kernel }
@@ -87,7 +88,7 @@ impl MergeReceiver {
             code,
             node: self.port.exchange,
         };
-        self.over = Over::Failed(fault);
+        self.over = StreamState::Failed(fault);
         Polled::Fault(fault)
     }
 
@@ -106,12 +107,12 @@ impl MergeReceiver {
         }
         match packet.into_body() {
             Body::Rows(rows) => self.take_rows(from, rows),
-            Body::End(Ending::Last) => {
+            Body::End(StreamEnd::Last) => {
                 self.kernel.end(from);
                 Polled::Waiting
             }
-            Body::End(Ending::Fault) => {
-                self.over = Over::Failed(Fault::Passed);
+            Body::End(StreamEnd::Fault) => {
+                self.over = StreamState::Failed(Fault::Passed);
                 Polled::Fault(Fault::Passed)
             }
         }
@@ -149,7 +150,7 @@ impl MergeReceiver {
         match self.kernel.give() {
             Ok(rows) => {
                 if rows.is_empty() {
-                    self.over = Over::Ended;
+                    self.over = StreamState::Ended;
                     return Polled::End;
                 }
                 Polled::Gave(rows)
@@ -192,7 +193,7 @@ impl Source for MergeReceiver {
 
     fn wants(&self) -> Want {
         match self.over {
-            Over::Running => match self.kernel.missing() {
+            StreamState::Running => match self.kernel.missing() {
                 Some(from) => Want::Packet(from as u32),
                 None => Want::Nothing,
             },
@@ -202,9 +203,9 @@ impl Source for MergeReceiver {
 
     fn turn(&mut self, got: Got) -> Polled {
         match self.over {
-            Over::Ended => Polled::End,
-            Over::Failed(f) => Polled::Fault(f),
-            Over::Running => self.go_on(got),
+            StreamState::Ended => Polled::End,
+            StreamState::Failed(f) => Polled::Fault(f),
+            StreamState::Running => self.go_on(got),
         }
     }
 }

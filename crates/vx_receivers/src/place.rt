@@ -6,19 +6,19 @@ ghost use Rattle.vx_ops.specs.Ledger.{IsFor};
 ghost use Rattle.vx_receivers.specs.Ends.{end_at};
 
 use vx_ports::Packet;
-use vx_rows::ColType;
+use vx_values::ColType;
 
 // A place of an exchange, by its node number, and the types of the rows that come there.
-pub(crate) struct Place {
+pub(crate) struct ReceiverPlace {
     pub exchange: u32,
     pub place: u32,
     pub types: Vec<ColType>,
 }
 
 // By hand, so that the drops of its parts are made and proved here once, and not in each function that drops one.
-impl Drop for Place {
+impl Drop for ReceiverPlace {
     fn drop(self) {
-        let Place {
+        let ReceiverPlace {
             exchange: _,
             place: _,
             types: _,
@@ -26,7 +26,7 @@ impl Drop for Place {
     }
 }
 
-impl Place {
+impl ReceiverPlace {
     // Whether a packet is one of this exchange, from this producer to this place, with rows of these types.
     pub(crate) fn expects(&self, from: u32, packet: &Packet) -> bool
         ensures ours { (producers : ℕ) (merge : List ℕ) (in_order : Bool) → (IsTrue result ↔ IsFor (end_at self.now producers merge in_order) from packet.now) }

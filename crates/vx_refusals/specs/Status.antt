@@ -10,8 +10,8 @@ use Rattle.vx_check_rules.specs.declared.rule.Rule.{Rule}
 use Rattle.vx_check_rules.specs.declared.rule.Rule.TheVariants as rule
 use Rattle.vx_setup.specs.declared.fault.RunFault.{RunFault}
 use Rattle.vx_setup.specs.declared.fault.RunFault.TheVariants as run
-use Rattle.vx_serial.specs.declared.fault.EvalFault.{EvalFault}
-use Rattle.vx_serial.specs.declared.fault.EvalFault.TheVariants as eval
+use Rattle.vx_setup.specs.declared.eval_fault.EvalFault.{EvalFault}
+use Rattle.vx_setup.specs.declared.eval_fault.EvalFault.TheVariants as eval
 use Rattle.vx_refusals.specs.declared.refusal.Refusal.{Refusal}
 use Rattle.vx_refusals.specs.declared.refusal.Refusal.TheVariants as refusal
 

@@ -8,8 +8,7 @@ use vx_bytes::{ByteOut, write_all};
 use vx_catalog::{CatalogFault, LoadFault};
 use vx_check_rules::Rule;
 use vx_plan_json::PlanFault;
-use vx_serial::EvalFault;
-use vx_setup::RunFault;
+use vx_setup::{EvalFault, RunFault};
 
 /// The first reason why the program has no answer.
 #[derive(Debug, Drop, Error)]

@@ -7,8 +7,7 @@ use crate::refusal::Refusal;
 use vx_catalog::{CatalogFault, LoadFault};
 use vx_check_rules::Rule;
 use vx_plan_json::PlanFault;
-use vx_serial::EvalFault;
-use vx_setup::RunFault;
+use vx_setup::{EvalFault, RunFault};
 
 fn catalog_status(fault: &CatalogFault) -> u8
     ensures { result ≡ catalog_status fault.now }

@@ -8,7 +8,7 @@ use Rattle.std.proofs.lemmas.List.Folds.{list_any-append, list_all-append, list_
 use Rattle.std.proofs.lemmas.Bool.Decides.{Decides-ltb}
 use Rattle.serde_json.specs.Data.{Data}
 use Rattle.vx_values.specs.declared.value.ColType.{ColType}
-use Rattle.vx_rows.proofs.ClashFacts.{position-is}
+use Rattle.vx_values.proofs.ClashFacts.{position-is}
 use Rattle.vx_relations.specs.Relation.{Relation}
 use Rattle.vx_relations.specs.Catalog.{relation_at, are_distinct_names, are_distinct, all_below, is_key_of, IsRelation, IsCatalog}
 use Rattle.vx_relations.specs.Walk.{◌>>=◌, walk_onto}

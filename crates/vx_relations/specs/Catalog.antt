@@ -2,6 +2,7 @@
 use Rattle.std.specs.Prelude.{◌≡◌, ℕ, ◌==◌, nat_lt, nat_le, Bool, true, not, ◌&&◌, List, [], ◌∷◌, map, length, slice_index_or, bytes_eq}
 use Rattle.std.specs.List.{list_all, list_any}
 use Rattle.vx_relations.specs.Relation.{Relation}
+use Rattle.vx_values.specs.Limits.{max_columns, max_keys, max_relations}
 
 -- the relation with this number, counted from 0; past the end one without columns, keys and order
 abbrev pub relation_at : List Relation → ℕ → Relation
@@ -28,19 +29,19 @@ is_key_of w key = nat_lt 0 (length key) && (all_below w key && are_distinct key)
 abbrev pub is_named : List ℕ → Bool
 is_named name = nat_lt 0 (length name)
 
--- 1 to 64 columns with a name and a type each, at most 16 keys
+-- at least one column, each with a name and a type; columns and keys within their limits
 pub record IsRelation (r : Relation) : Type 0 where
   pub named : is_named r.name ≡ true
-  pub columns : (nat_lt 0 (length r.names) && nat_le (length r.names) 64) ≡ true
+  pub columns : (nat_lt 0 (length r.names) && nat_le (length r.names) max_columns) ≡ true
   pub typed : length r.types ≡ length r.names
   pub columns_named : list_all is_named r.names ≡ true
   pub distinct : are_distinct_names r.names ≡ true
-  pub few_keys : nat_le (length r.keys) 16 ≡ true
+  pub few_keys : nat_le (length r.keys) max_keys ≡ true
   pub keys : list_all (is_key_of (length r.names)) r.keys ≡ true
   pub order : (all_below (length r.names) r.order && are_distinct r.order) ≡ true
 
--- at most 256 relations with distinct names
+-- not too many relations, with distinct names
 pub record IsCatalog (catalog : List Relation) : Type 0 where
-  pub few : nat_le (length catalog) 256 ≡ true
+  pub few : nat_le (length catalog) max_relations ≡ true
   pub distinct : are_distinct_names (map (λ r. r.name) catalog) ≡ true
   pub each : (i : ℕ) → nat_lt i (length catalog) ≡ true → IsRelation (relation_at catalog i)

@@ -13,6 +13,7 @@ use Rattle.vx_json.specs.declared.misread.Misread.{Misread}
 use Rattle.vx_json.specs.declared.misread.Misread.TheVariants as misread
 use Rattle.vx_relations.specs.declared.fault.CatalogFault.{CatalogFault}
 use Rattle.vx_relations.specs.declared.fault.CatalogFault.TheVariants as fault
+use Rattle.vx_values.specs.Limits.{max_columns, max_keys, max_relations}
 
 pub data Refusal : Type 0 where
   bad_catalog : Refusal
@@ -72,13 +73,13 @@ relation_of t =
 unfoldable pub relation_after : List Relation → RelationText → Result Relation Refusal
 relation_after prior t = if list_any (λ r. bytes_eq r.name t.name) prior then Err (duplicate_name t.name) else relation_of t
 
--- at most 64 columns and 16 keys
+-- columns and keys within their limits
 abbrev pub is_small : RelationText → Bool
-is_small t = nat_le (length t.columns) 64 && nat_le (length t.keys) 16
+is_small t = nat_le (length t.columns) max_columns && nat_le (length t.keys) max_keys
 
--- at most 256 relations, each within its limits
+-- not too many relations, each within its limits
 abbrev pub is_within_limits : List RelationText → Bool
-is_within_limits ts = nat_le (length ts) 256 && list_all is_small ts
+is_within_limits ts = nat_le (length ts) max_relations && list_all is_small ts
 
 abbrev pub named : Option (List RelationText) → Result (List Relation) Refusal
 named None = Err bad_catalog

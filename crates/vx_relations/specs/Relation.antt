@@ -3,8 +3,8 @@ use Rattle.std.specs.Prelude.{◌≡◌, ℕ, true, List, [], ◌∷◌}
 use Rattle.std.specs.List.{AllByRecursion}
 use Rattle.vx_values.specs.declared.value.ColType.{ColType}
 use Rattle.vx_values.specs.Values.{Row}
-use Rattle.vx_rows.specs.Order.{sorted}
-use Rattle.vx_rows.specs.Keys.{HasKey}
+use Rattle.vx_values.specs.Order.{sorted}
+use Rattle.vx_values.specs.Keys.{HasKey}
 use Rattle.vx_values.specs.Types.{Fits}
 
 -- a relation's name, the names and types of its columns, and its keys and order by the columns' positions, counted from 0.

@@ -12,7 +12,7 @@ use vx_json::{
     Misread, NameReader, Reader, get_member, read_list, read_list_or_empty, read_name, read_some,
     test_members,
 };
-use vx_rows::ColType;
+use vx_values::ColType;
 
 /// A column as the catalog's text has it.
 #[derive(Drop)]

@@ -11,7 +11,8 @@ use crate::names::{find_name, has_name};
 use crate::relation::Relation;
 use std::alloc::{AllocError, Global};
 use std::sync::Arc;
-use vx_rows::ColType;
+use vx_values::ColType;
+use vx_values::limits::{MAX_COLUMNS, MAX_KEYS, MAX_RELATIONS};
 
 // A copy of a name that no earlier one is.
 #[tactic(auto, unfolding(crate::specs::Naming::name_once))]
@@ -151,7 +152,7 @@ pub fn relations_of(alloc: Global, texts: &[RelationText]) -> Result<Vec<Relatio
 fn is_small(text: &RelationText) -> bool
     ensures { result ≡ is_small text.now }
 {
-    text.columns.len() <= 64 && text.keys.len() <= 16
+    text.columns.len() <= MAX_COLUMNS && text.keys.len() <= MAX_KEYS
 }
 
 fn are_small(texts: &[RelationText]) -> bool
@@ -164,5 +165,5 @@ fn are_small(texts: &[RelationText]) -> bool
 pub fn is_within_limits(texts: &[RelationText]) -> bool
     ensures { result ≡ is_within_limits texts.now }
 {
-    texts.len() <= 256 && are_small(texts)
+    texts.len() <= MAX_RELATIONS && are_small(texts)
 }

@@ -7,7 +7,7 @@ ghost use Rattle.vx_values.specs.Types.{type_at};
 use crate::names::find_name;
 use std::marker::Model;
 use std::sync::Arc;
-use vx_rows::ColType;
+use vx_values::ColType;
 
 // Whether these are the same names in the same order.
 fn are_same_names(names: &[String], others: &[String]) -> bool

@@ -3,6 +3,7 @@
 ghost use Rattle.std.specs.Prelude.{◌≡◌, ◌≤◌, ◌+◌, ◌++◌, [], length, IfOk};
 ghost use Rattle.vx_ports.specs.Packets.{Flows};
 ghost use Rattle.vx_rings.specs.Ends.{IsRing, SameOut, SameIn, put_to, taken_from, seen_by, room_of, slack_of};
+ghost use Rattle.vx_values.specs.Limits.{max_slack};
 
 use crate::ring::{RingIn, RingOut};
 use std::alloc::{AllocError, Global};
@@ -10,7 +11,7 @@ use std::alloc::{AllocError, Global};
 /// The two ends of a ring with room for `slack` packets, 1 to 1,024. The first `slack` puts find room.
 pub fn ring_pair(alloc: Global, slack: u32) -> Result<(RingOut, RingIn), AllocError>
     requires some { 1 ≤ slack }
-    requires few { slack ≤ 1024 }
+    requires few { slack ≤ max_slack }
     ensures ring { IfOk result (λ r. IsRing r.0 r.1) }
     ensures fresh { IfOk result (λ r. (put_to r.0 ≡ []) × (taken_from r.1 ≡ [])) }
     ensures room { IfOk result (λ r. (slack_of r.0 ≡ slack) × (room_of r.0 ≡ slack)) }

@@ -4,9 +4,9 @@ use Rattle.std.specs.Ordering.{ordering_then, int_cmp}
 use Rattle.std.specs.List.{AllByRecursion}
 use Rattle.vx_values.specs.declared.value.ColType.{ColType}
 use Rattle.vx_values.specs.declared.value.ColType.TheVariants as kind
-use Rattle.vx_rows.specs.declared.sorting.Place.{Place}
+use Rattle.vx_rows.specs.declared.sorting.SortEntry.{SortEntry}
 use Rattle.vx_values.specs.Values.{Val, num, text, Row, row_cmp, val_cmp, value_at, pick}
-use Rattle.vx_rows.specs.Order.{sort_on}
+use Rattle.vx_values.specs.Order.{sort_on}
 use Rattle.vx_rows.specs.Lists.{each_below}
 use Rattle.vx_values.specs.Types.{type_of, type_at, Fits}
 use Rattle.vx_rows.specs.View.{ArePositions}
@@ -49,11 +49,11 @@ fit-type types [] row f = refl
 fit-type types (c ∷ cols) row f = value-type row c ∙ ap (λ t. type_at t c) f.types_are
 
 -- a place of a row: its number is that row's, and the value there has this type
-record IsPlace (cols : List ℕ) (rows : List Row) (type : ColType) (place : Place) : Type 0 where
+record IsPlace (cols : List ℕ) (rows : List Row) (type : ColType) (place : SortEntry) : Type 0 where
   pub number : place.first ≡ first_number cols (get_or rows place.position [])
   pub typed : first_type cols (get_or rows place.position []) ≡ type
 
-keeps : (cols : List ℕ) (rows : List Row) (type : ColType) (x y : Place) → IsPlace cols rows type x → IsPlace cols rows type y
+keeps : (cols : List ℕ) (rows : List Row) (type : ColType) (x y : SortEntry) → IsPlace cols rows type x → IsPlace cols rows type y
     → row_cmp (place_rank cols rows x) (place_rank cols rows y) ≡ row_cmp (pick cols (get_or rows x.position [])) (pick cols (get_or rows y.position []))
 keeps cols rows type x y p q =
     let a = get_or rows x.position [] in

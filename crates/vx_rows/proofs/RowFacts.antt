@@ -4,7 +4,7 @@ use Rattle.std.proofs.lemmas.List.{length-map}
 use Rattle.vx_values.specs.declared.value.Value.{Value}
 use Rattle.vx_values.specs.ValueView.{val_of}
 use Rattle.vx_values.specs.Values.{Row, row_eq}
-use Rattle.vx_rows.proofs.Compare.{row_eq-same}
+use Rattle.vx_values.proofs.Compare.{row_eq-same}
 
 abbrev pub rest : List Value → ℕ → Row
 rest xs k = map val_of (drop k xs)

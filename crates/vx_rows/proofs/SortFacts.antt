@@ -6,9 +6,9 @@ use Rattle.std.specs.Cmp.{IsStrictWeakOrder}
 use Rattle.std.proofs.lemmas.List.Sorted.{ranks_by}
 use Rattle.std.specs.List.Sorted.{IsSortedBy, IsStableBy, ties}
 use Rattle.vx_values.specs.Values.{Row, row_cmp, row_eq, pick}
-use Rattle.vx_rows.specs.Order.{compare_on, insert_sorted, sort_on}
+use Rattle.vx_values.specs.Order.{compare_on, insert_sorted, sort_on}
 use Rattle.vx_rows.specs.Sorting.{insert_by, sort_by}
-use Rattle.vx_rows.proofs.Compare.{row_eq-same, row_eq-refl, row_cmp_total, row_le-trans, row_le-other}
+use Rattle.vx_values.proofs.Compare.{row_eq-same, row_eq-refl, row_cmp_total, row_le-trans, row_le-other}
 use Rattle.vx_values.proofs.Booleans.{and-left, and-right, and-both}
 
 -- rows that tie are those that agree

@@ -1,8 +1,4 @@
-pub mod Equality
-pub mod Order
 pub mod Sorting
-pub mod Bags
-pub mod Keys
 pub mod Lists
 pub mod View
 pub mod Texts

@@ -1,16 +1,16 @@
 -- Numbers that are kept in 32 bits or in 64.
 use Rattle.std.specs.Prelude.{◌≡◌, ◌≢◌, ◌↔◌, ℕ, ◌<◌, ◌≤◌, ℤ, pos, ◌+ℤ◌, ◌≤ℤ◌, ◌<ℤ◌, true, List, [], map, length, slice_index_or, Option, Some, None}
 use Rattle.vx_values.specs.Values.{Row}
-use Rattle.vx_rows.specs.Order.{agree}
-use Rattle.vx_rows.specs.declared.numbers.Width.{Width}
-use Rattle.vx_rows.specs.declared.numbers.Width.TheVariants as width
+use Rattle.vx_values.specs.Order.{agree}
+use Rattle.vx_rows.specs.declared.numbers.NumberWidth.{NumberWidth}
+use Rattle.vx_rows.specs.declared.numbers.NumberWidth.TheVariants as number_width
 use Rattle.vx_rows.specs.declared.numbers.NumbersRef.{NumbersRef}
 use Rattle.vx_rows.specs.declared.numbers.NumbersRef.TheVariants as seen
 
 -- the numbers, in order
-abbrev pub kept_numbers : Width → List ℤ
-kept_numbers (width.Narrow v) = v.items
-kept_numbers (width.Wide v) = v.items
+abbrev pub kept_numbers : NumberWidth → List ℤ
+kept_numbers (number_width.Narrow v) = v.items
+kept_numbers (number_width.Wide v) = v.items
 
 -- the numbers that a loop goes over
 abbrev pub seen_numbers : NumbersRef → List ℤ

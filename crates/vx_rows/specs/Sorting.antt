@@ -1,7 +1,7 @@
 -- The stable sort of anything by ranks that are rows, and of the positions of rows.
 use Rattle.std.specs.Prelude.{ℕ, ℤ, pos, cond, List, [], ◌∷◌, length, slice_index_or}
 use Rattle.std.specs.Ordering.{is_le}
-use Rattle.vx_rows.specs.declared.sorting.Place.{Place}
+use Rattle.vx_rows.specs.declared.sorting.SortEntry.{SortEntry}
 use Rattle.vx_values.specs.Values.{Val, num, text, Row, row_cmp, value_at, pick}
 use Rattle.vx_rows.specs.Lists.{each_below}
 
@@ -30,9 +30,9 @@ first_number [] row = pos 0
 first_number (c ∷ cols) row = number_of (value_at row c)
 
 -- the place of row i: its position, and the first number that decides where it goes
-abbrev pub place_of : List ℕ → List Row → ℕ → Place
+abbrev pub place_of : List ℕ → List Row → ℕ → SortEntry
 place_of cols rows i = record { first = first_number cols (slice_index_or rows i []); position = i }
 
 -- places go by their numbers, and then by the rows at their positions
-abbrev pub place_rank : List ℕ → List Row → Place → Row
+abbrev pub place_rank : List ℕ → List Row → SortEntry → Row
 place_rank cols rows place = num place.first ∷ pick cols (slice_index_or rows place.position [])

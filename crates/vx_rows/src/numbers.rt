@@ -9,7 +9,7 @@ use std::marker::Model;
 
 // The numbers, as wide as they are kept.
 #[derive(Drop)]
-enum Width {
+enum NumberWidth {
     Narrow(Vec<i32>),
     Wide(Vec<i64>),
 }
@@ -24,7 +24,7 @@ pub enum NumbersRef<'a> {
 /// Numbers that take 4 bytes each while all of them fit 32 bits. From the first that does not, each takes 8 bytes, also once
 /// that one is gone.
 pub struct Numbers {
-    width: Width,
+    width: NumberWidth,
 }
 
 // By hand, so that the drop is made and proved here once, and not again in each crate that drops one.
@@ -122,14 +122,14 @@ fn push_widened_at(
     Ok(())
 }
 
-impl Width {
+impl NumberWidth {
     // How many numbers there are.
     fn len(&self) -> usize
         ensures { result ≡ length (kept_numbers self.now) }
     {
         match self {
-            Width::Narrow(v) => v.len(),
-            Width::Wide(v) => v.len(),
+            NumberWidth::Narrow(v) => v.len(),
+            NumberWidth::Wide(v) => v.len(),
         }
     }
 
@@ -139,8 +139,8 @@ impl Width {
         ensures { result ≡ slice_index_or (kept_numbers self.now) i (pos 0) }
     {
         match self {
-            Width::Narrow(v) => v[i] as i64,
-            Width::Wide(v) => v[i],
+            NumberWidth::Narrow(v) => v[i] as i64,
+            NumberWidth::Wide(v) => v[i],
         }
     }
 
@@ -149,8 +149,8 @@ impl Width {
         ensures { seen_numbers result ≡ kept_numbers self.now }
     {
         match self {
-            Width::Narrow(v) => NumbersRef::Narrow(v.as_slice()),
-            Width::Wide(v) => NumbersRef::Wide(v.as_slice()),
+            NumberWidth::Narrow(v) => NumbersRef::Narrow(v.as_slice()),
+            NumberWidth::Wide(v) => NumbersRef::Wide(v.as_slice()),
         }
     }
 
@@ -159,8 +159,8 @@ impl Width {
         ensures { kept_numbers self.new ≡ take at (kept_numbers self.old) }
     {
         match self {
-            Width::Narrow(v) => v.truncate(at),
-            Width::Wide(v) => v.truncate(at),
+            NumberWidth::Narrow(v) => v.truncate(at),
+            NumberWidth::Wide(v) => v.truncate(at),
         }
     }
 
@@ -169,8 +169,8 @@ impl Width {
         ensures { kept_numbers self.new ≡ kept_numbers self.old }
     {
         match self {
-            Width::Narrow(v) => v.reserve(additional),
-            Width::Wide(v) => v.reserve(additional),
+            NumberWidth::Narrow(v) => v.reserve(additional),
+            NumberWidth::Wide(v) => v.reserve(additional),
         }
     }
 
@@ -180,8 +180,8 @@ impl Width {
         ensures err { OnErr result (kept_numbers self.new ≡ kept_numbers self.old) }
     {
         match self {
-            Width::Wide(v) => v.push(n)?,
-            Width::Narrow(v) => match narrowed(n) {
+            NumberWidth::Wide(v) => v.push(n)?,
+            NumberWidth::Narrow(v) => match narrowed(n) {
                 Some(small) => v.push(small)?,
                 None => self.add_wide(&[n])?,
             },
@@ -195,8 +195,8 @@ impl Width {
         ensures ok { OnOk result (kept_numbers self.new ≡ kept_numbers self.old ++ numbers.now) }
     {
         match self {
-            Width::Narrow(v) => v.extend_from_slice(numbers),
-            Width::Wide(v) => push_widened(v, numbers),
+            NumberWidth::Narrow(v) => v.extend_from_slice(numbers),
+            NumberWidth::Wide(v) => push_widened(v, numbers),
         }
     }
 
@@ -206,11 +206,11 @@ impl Width {
         ensures err { OnErr result (kept_numbers self.new ≡ kept_numbers self.old) }
     {
         match self {
-            Width::Wide(v) => v.extend_from_slice(numbers),
-            Width::Narrow(v) => {
+            NumberWidth::Wide(v) => v.extend_from_slice(numbers),
+            NumberWidth::Narrow(v) => {
                 let mut wide = widened(v)?;
                 wide.extend_from_slice(numbers)?;
-                *self = Width::Wide(wide);
+                *self = NumberWidth::Wide(wide);
                 Ok(())
             }
         }
@@ -223,8 +223,8 @@ impl Width {
         ensures ok { OnOk result (kept_numbers self.new ≡ kept_numbers self.old ++ numbers_at numbers.now positions.now) }
     {
         match self {
-            Width::Narrow(v) => push_narrow_at(v, numbers, positions),
-            Width::Wide(v) => push_widened_at(v, numbers, positions),
+            NumberWidth::Narrow(v) => push_narrow_at(v, numbers, positions),
+            NumberWidth::Wide(v) => push_widened_at(v, numbers, positions),
         }
     }
 
@@ -235,11 +235,11 @@ impl Width {
         ensures ok { OnOk result (kept_numbers self.new ≡ kept_numbers self.old ++ numbers_at numbers.now positions.now) }
     {
         match self {
-            Width::Wide(v) => push_wide_at(v, numbers, positions),
-            Width::Narrow(v) => {
+            NumberWidth::Wide(v) => push_wide_at(v, numbers, positions),
+            NumberWidth::Narrow(v) => {
                 let mut wide = widened(v)?;
                 push_wide_at(&mut wide, numbers, positions)?;
-                *self = Width::Wide(wide);
+                *self = NumberWidth::Wide(wide);
                 Ok(())
             }
         }
@@ -252,7 +252,7 @@ impl Numbers {
         ensures { result ≡ [] }
     {
         Numbers {
-            width: Width::Narrow(Vec::new(alloc)),
+            width: NumberWidth::Narrow(Vec::new(alloc)),
         }
     }
 

@@ -8,7 +8,7 @@ ghost use Rattle.vx_values.specs.Values.{val_cmp, row_eq, value_at, pick};
 ghost use Rattle.vx_values.specs.ValueView.{val_of, cell_val};
 ghost use Rattle.vx_rows.specs.View.{row, AreColumns};
 ghost use Rattle.vx_rows.specs.Hashing.{val_feed, row_feed};
-ghost use Rattle.vx_rows.specs.Equality.{row_eq-laws, row_eq-same};
+ghost use Rattle.vx_values.specs.Equality.{row_eq-laws, row_eq-same};
 
 use crate::table::Table;
 use std::alloc::{AllocError, Global};

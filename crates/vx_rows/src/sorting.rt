@@ -3,7 +3,7 @@
 ghost use Rattle.std.specs.Prelude.{◌≡◌, ◌-◌, ◌<◌, length, map, IfOk};
 ghost use Rattle.std.specs.Ordering.{is_lt};
 ghost use Rattle.vx_values.specs.Values.{row_cmp, value_at};
-ghost use Rattle.vx_rows.specs.Order.{compare_on, sorted, sort_on};
+ghost use Rattle.vx_values.specs.Order.{compare_on, sorted, sort_on};
 ghost use Rattle.vx_rows.specs.Sorting.{sort_by, order_on, first_number, place_of, place_rank};
 ghost use Rattle.vx_rows.specs.Lists.{each_below};
 ghost use Rattle.vx_values.specs.ValueView.{cell_val};
@@ -33,7 +33,7 @@ pub fn compare_on(cols: &[usize], a: &Table, i: usize, b: &Table, j: usize) -> O
 
 /// Where a row stands, with a number by which most rows are told apart without reading them.
 #[derive(Clone, Copy)]
-pub(crate) struct Place {
+pub(crate) struct SortEntry {
     first: i64,
     position: usize,
 }
@@ -89,7 +89,7 @@ impl Table {
     }
 
     // Compares two places by their numbers, and then by the rows there.
-    fn compare_places(&self, cols: &[usize], a: &Place, b: &Place) -> Ordering
+    fn compare_places(&self, cols: &[usize], a: &SortEntry, b: &SortEntry) -> Ordering
         requires { AreColumns (length self.now.types) cols.now }
         ensures { result ≡ row_cmp (place_rank cols.now self.now.rows a.now) (place_rank cols.now self.now.rows b.now) }
     {
@@ -115,19 +115,19 @@ impl Table {
     }
 
     // The place of a row.
-    fn place(&self, cols: &[usize], i: usize) -> Place
+    fn place(&self, cols: &[usize], i: usize) -> SortEntry
         requires columns { AreColumns (length self.now.types) cols.now }
         requires row { i < length self.now.rows }
         ensures { result ≡ place_of cols.now self.now.rows i }
     {
-        Place {
+        SortEntry {
             first: self.first_number(cols, i),
             position: i,
         }
     }
 
     // The places of all rows, in their order.
-    fn places(&self, alloc: Global, cols: &[usize]) -> Result<Vec<Place>, AllocError>
+    fn places(&self, alloc: Global, cols: &[usize]) -> Result<Vec<SortEntry>, AllocError>
         requires { AreColumns (length self.now.types) cols.now }
         ensures { IfOk result (λ v. v.items ≡ each_below (length self.now.rows) (place_of cols.now self.now.rows)) }
     {
@@ -139,7 +139,7 @@ impl Table {
     }
 
     // The places of all rows, in the order of the stable sort.
-    fn sorted_places(&self, alloc: Global, cols: &[usize]) -> Result<Vec<Place>, AllocError>
+    fn sorted_places(&self, alloc: Global, cols: &[usize]) -> Result<Vec<SortEntry>, AllocError>
         requires { AreColumns (length self.now.types) cols.now }
         ensures { IfOk result (λ v. v.items ≡ sort_by (place_rank cols.now self.now.rows) (each_below (length self.now.rows) (place_of cols.now self.now.rows))) }
     {

@@ -11,8 +11,8 @@ use Rattle.vx_plan_nodes.specs.Serial.{rows}
 use Rattle.vx_plan_nodes.specs.Types.{types_of}
 use Rattle.vx_serial.specs.Evaluated.{evaluated}
 use Rattle.vx_serial.specs.Results.{IsFaultOf, IsPlain, IsSerialOf, EvalFails}
-use Rattle.vx_serial.specs.declared.fault.EvalFault.{EvalFault}
-use Rattle.vx_serial.specs.declared.fault.EvalFault.TheVariants as fault
+use Rattle.vx_setup.specs.declared.eval_fault.EvalFault.{EvalFault}
+use Rattle.vx_setup.specs.declared.eval_fault.EvalFault.TheVariants as fault
 use Rattle.vx_serial.proofs.Agreement.{rows-are-serial, overflow-is-real}
 
 pub serial-rows : (p : TypedPlanView) (db : Database) (q : Plan) (r : Result RowsView EvalFault) → IsPlain p db → q ≡ plan_in p.root

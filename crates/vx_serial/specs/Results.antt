@@ -10,8 +10,8 @@ use Rattle.vx_plan_nodes.specs.Names.{TypedPlanView}
 use Rattle.vx_plan_nodes.specs.Serial.{SerialResult, rows, overflow, serial, HasTooLong}
 use Rattle.vx_plan_nodes.specs.Types.{types_of}
 use Rattle.vx_serial.specs.Evaluated.{first_exchange, evaluated}
-use Rattle.vx_serial.specs.declared.fault.EvalFault.{EvalFault}
-use Rattle.vx_serial.specs.declared.fault.EvalFault.TheVariants as fault
+use Rattle.vx_setup.specs.declared.eval_fault.EvalFault.{EvalFault}
+use Rattle.vx_setup.specs.declared.eval_fault.EvalFault.TheVariants as fault
 
 -- a fault is the overflow of an outcome; want of memory excuses
 abbrev pub IsFaultOf : SerialResult → EvalFault → Type 0

@@ -11,11 +11,11 @@ ghost use Rattle.vx_serial.specs.Evaluated.{evaluated, IsFit};
 ghost use Rattle.vx_serial.specs.Results.{IsFaultOf, IsSerialOf, EvalFails};
 
 use crate::exchanges::first_exchange;
-use crate::fault::EvalFault;
 use crate::operators::{binary_rows, unary_rows};
 use std::alloc::Global;
 use vx_catalog::Database;
 use vx_plan_nodes::{TypedNode, TypedPlan};
+use vx_setup::EvalFault;
 use vx_views::Rows;
 
 // The rows of a node. Each input is read to its end, also where no further row can come of it. An exchange returns its

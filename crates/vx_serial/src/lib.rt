@@ -3,8 +3,6 @@
 
 mod evaluation;
 mod exchanges;
-mod fault;
 mod operators;
 
 pub use evaluation::eval;
-pub use fault::EvalFault;

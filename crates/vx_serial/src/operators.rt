@@ -13,7 +13,6 @@ ghost use Rattle.vx_plan_nodes.specs.Types.{unary_types, binary_types};
 ghost use Rattle.vx_serial.specs.Evaluated.{evaluated_rows};
 ghost use Rattle.vx_serial.specs.Results.{IsFaultAt};
 
-use crate::fault::EvalFault;
 use std::alloc::{AllocError, Global};
 use vx_algebra::{chosen, kept_columns, left_columns, right_columns, sorted_chunks};
 use vx_grouping::{GroupFault, grouped};
@@ -21,6 +20,7 @@ use vx_join::hash_join;
 use vx_keys::Seen;
 use vx_plan_nodes::{Aggregate, Binary, Unary};
 use vx_seeds::KeySeed;
+use vx_setup::EvalFault;
 use vx_views::Rows;
 
 // The most rows of one grouping.

@@ -1,8 +1,12 @@
-//! What a run gets beside its plan and its database, and why a run returns no rows.
+//! What a run gets beside its plan and its database, and why a run, or a serial evaluation, returns no rows.
 #![tactic(auto)]
 
+mod eval_fault;
 mod fault;
+mod setting;
 mod setup;
 
+pub use eval_fault::EvalFault;
 pub use fault::RunFault;
-pub use setup::{Setup, is_within};
+pub use setting::{Mode, Setting};
+pub use setup::{DEFAULT_MORSEL_ROWS, DEFAULT_PACKET_ROWS, DEFAULT_SLACK, Setup, is_within};

@@ -2,13 +2,21 @@
 
 ghost use Rattle.std.specs.Prelude.{◌≡◌, map, not, option_map, is_none, string_bytes, bytes_eq, IfOk};
 ghost use Rattle.std.specs.List.{find};
-ghost use Rattle.vx_setup.specs.Setup.{entry_of, number_of, workers_named, groups_named, first_missing, first_out_of_range, is_within};
+ghost use Rattle.vx_setup.specs.Setup.{entry_of, number_of, workers_named, worker_groups_named, first_missing, first_out_of_range, is_within};
+ghost use Rattle.vx_values.specs.Limits.{max_group_workers};
 
 use std::alloc::{AllocError, Global};
 use std::marker::Model;
+use vx_values::limits::MAX_GROUP_WORKERS;
 
-// The most workers of a group.
-const MOST_IN_GROUP: u32 = 64;
+/// The rows of a packet where none is said.
+pub const DEFAULT_PACKET_ROWS: u32 = 256;
+
+/// The rows of a morsel where none is said.
+pub const DEFAULT_MORSEL_ROWS: u32 = 1024;
+
+/// The slack in packets where none is said.
+pub const DEFAULT_SLACK: u32 = 8;
 
 /// Whether a number is from 1 to another.
 pub fn is_within(most: u32, number: u32) -> bool
@@ -55,6 +63,13 @@ impl Setup {
             morsel,
             slack,
         }
+    }
+
+    /// The size names, with their numbers of workers.
+    pub fn sizes(&self) -> &[(String, u32)]
+        ensures { map entry_of result.now ≡ self.now.sizes }
+    {
+        self.sizes.as_slice()
     }
 
     /// The most rows of a packet.
@@ -111,9 +126,9 @@ impl Setup {
     }
 
     fn find_out_of_range<'n>(&self, names: &'n [String]) -> Option<&'n String>
-        ensures { option_map (λ n. n.now) result ≡ find (λ n. not (is_within 64 (workers_named self.now.sizes (string_bytes n)))) names.now }
+        ensures { option_map (λ n. n.now) result ≡ find (λ n. not (is_within max_group_workers (workers_named self.now.sizes (string_bytes n)))) names.now }
     {
-        names.iter().find(|name| !is_within(MOST_IN_GROUP, self.workers(name.as_str())))
+        names.iter().find(|name| !is_within(MAX_GROUP_WORKERS, self.workers(name.as_str())))
     }
 
     /// The first of these names whose number is not 1 to 64.
@@ -124,13 +139,13 @@ impl Setup {
     }
 
     /// The workers of each of these names, 0 for a name without an entry.
-    pub fn groups(&self, alloc: Global, names: &[String]) -> Result<Vec<u32>, AllocError>
-        ensures { IfOk result (λ v. v.items ≡ groups_named self.now.sizes (map string_bytes names.now)) }
+    pub fn worker_groups(&self, alloc: Global, names: &[String]) -> Result<Vec<u32>, AllocError>
+        ensures { IfOk result (λ v. v.items ≡ worker_groups_named self.now.sizes (map string_bytes names.now)) }
     {
-        let mut groups = Vec::new(alloc);
+        let mut worker_groups = Vec::new(alloc);
         for name in names {
-            groups.push(self.workers(name.as_str()))?;
+            worker_groups.push(self.workers(name.as_str()))?;
         }
-        Ok(groups)
+        Ok(worker_groups)
     }
 }

@@ -13,7 +13,7 @@ use std::alloc::{AllocError, Global};
 use vx_check::push_between;
 use vx_plan_nodes::{Aggregate, Name, Projected, TypedNode};
 use vx_relations::Relation;
-use vx_rows::ColType;
+use vx_values::ColType;
 
 /// The types of the columns of a node's output.
 pub fn column_types(node: &TypedNode) -> &[ColType]

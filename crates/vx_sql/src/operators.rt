@@ -15,7 +15,7 @@ use std::alloc::AllocError;
 use vx_check::push_between;
 use vx_plan_nodes::{Binary, Condition, Side, Unary};
 use vx_relations::Relation;
-use vx_rows::ColType;
+use vx_values::ColType;
 
 /// Adds a scan of a relation.
 #[tactic(auto, unfolding(crate::specs::Operators::scan_sql))]

@@ -7,7 +7,7 @@ ghost use Rattle.vx_sql.specs.Words.{escape_of, zero_in_text, zero_in_name, insi
 use crate::dialect::Dialect;
 use itoa::Buffer;
 use std::alloc::AllocError;
-use vx_rows::Value;
+use vx_values::Value;
 
 /// The name of a node's rows in a statement.
 ///

@@ -8,8 +8,8 @@ use Rattle.vx_check.specs.Explain.{separated}
 use Rattle.vx_stats.specs.Columns.{microseconds}
 use Rattle.vx_stats.specs.Words.{word_at, phase_word}
 use Rattle.vx_stats.specs.declared.lines.Line.{Line}
-use Rattle.vx_stats.specs.declared.phases.Phase.{Phase}
-use Rattle.vx_stats.specs.declared.phases.Phase.TheVariants as phase
+use Rattle.vx_stats.specs.declared.phases.WorkPhase.{WorkPhase}
+use Rattle.vx_stats.specs.declared.phases.WorkPhase.TheVariants as work_phase
 use Rattle.vx_stats.specs.declared.phases.PhaseTime.{PhaseTime}
 use Rattle.vx_stats.specs.declared.loads.LoadTime.{LoadTime}
 
@@ -56,8 +56,8 @@ unfoldable pub relations_member : List Relation → List LoadTime → List ℕ
 relations_member catalog loads = codes ",\"relations\":[" ++ (loads_json catalog loads ++ codes "]")
 
 -- the member of a phase behind its time: these loads, of that of the load
-abbrev pub loads_member : List Relation → List LoadTime → Phase → List ℕ
-loads_member catalog loads phase.Load = relations_member catalog loads
+abbrev pub loads_member : List Relation → List LoadTime → WorkPhase → List ℕ
+loads_member catalog loads work_phase.Load = relations_member catalog loads
 loads_member catalog loads _ = []
 
 -- a phase among others

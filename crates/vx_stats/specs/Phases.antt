@@ -1,10 +1,10 @@
 -- The phases that were timed.
 use Rattle.std.specs.Prelude.{List, map}
-use Rattle.vx_stats.specs.declared.phases.Phase.{Phase}
+use Rattle.vx_stats.specs.declared.phases.WorkPhase.{WorkPhase}
 use Rattle.vx_stats.specs.declared.phases.PhaseTime.{PhaseTime}
 use Rattle.vx_stats.specs.declared.phases.Timer.{Timer}
 
-abbrev pub phases_of : List PhaseTime → List Phase
+abbrev pub phases_of : List PhaseTime → List WorkPhase
 phases_of ts = map (λ t. t.phase) ts
 
 -- the times so far

@@ -5,8 +5,8 @@ use Rattle.vx_relations.specs.Catalog.{relation_at}
 use Rattle.vx_stats.specs.Columns.{at_left, at_right, column, milliseconds}
 use Rattle.vx_stats.specs.Words.{word_at, phase_word}
 use Rattle.vx_stats.specs.declared.lines.Line.{Line}
-use Rattle.vx_stats.specs.declared.phases.Phase.{Phase}
-use Rattle.vx_stats.specs.declared.phases.Phase.TheVariants as phase
+use Rattle.vx_stats.specs.declared.phases.WorkPhase.{WorkPhase}
+use Rattle.vx_stats.specs.declared.phases.WorkPhase.TheVariants as work_phase
 use Rattle.vx_stats.specs.declared.phases.PhaseTime.{PhaseTime}
 use Rattle.vx_stats.specs.declared.loads.LoadTime.{LoadTime}
 
@@ -49,8 +49,8 @@ load_rows catalog [] = []
 load_rows catalog (l ∷ ls) = load_row catalog l ++ load_rows catalog ls
 
 -- what stands below a phase: these loads, below that of the load
-abbrev pub rows_below : List Relation → List LoadTime → Phase → List ℕ
-rows_below catalog loads phase.Load = load_rows catalog loads
+abbrev pub rows_below : List Relation → List LoadTime → WorkPhase → List ℕ
+rows_below catalog loads work_phase.Load = load_rows catalog loads
 rows_below catalog loads _ = []
 
 abbrev pub time_rows : List Relation → List LoadTime → List PhaseTime → List ℕ

@@ -2,8 +2,8 @@
 use Rattle.std.specs.Prelude.{ℕ, List, [], ◌∷◌, ◌++◌, slice_index_or, codes}
 use Rattle.vx_plan_nodes.specs.Outline.{Outline, scan, unary, binary, exchange}
 use Rattle.vx_formats.specs.Json.{op_word}
-use Rattle.vx_stats.specs.declared.phases.Phase.{Phase}
-use Rattle.vx_stats.specs.declared.phases.Phase.TheVariants as phase
+use Rattle.vx_stats.specs.declared.phases.WorkPhase.{WorkPhase}
+use Rattle.vx_stats.specs.declared.phases.WorkPhase.TheVariants as work_phase
 
 -- of each node its operator in a word, in preorder, which is by their numbers
 abbrev pub op_words : Outline → List (List ℕ)
@@ -16,12 +16,12 @@ op_words (exchange h k m t) = op_word (exchange h k m t) ∷ op_words t
 abbrev pub word_at : List (List ℕ) → ℕ → List ℕ
 word_at words node = slice_index_or words node []
 
-abbrev pub phase_word : Phase → List ℕ
-phase_word phase.Read = codes "read"
-phase_word phase.Catalog = codes "catalog"
-phase_word phase.Plan = codes "plan"
-phase_word phase.Plans = codes "plans"
-phase_word phase.Check = codes "check"
-phase_word phase.Load = codes "load"
-phase_word phase.Run = codes "run"
-phase_word phase.Write = codes "write"
+abbrev pub phase_word : WorkPhase → List ℕ
+phase_word work_phase.Read = codes "read"
+phase_word work_phase.Catalog = codes "catalog"
+phase_word work_phase.Plan = codes "plan"
+phase_word work_phase.Plans = codes "plans"
+phase_word work_phase.Check = codes "check"
+phase_word work_phase.Load = codes "load"
+phase_word work_phase.Run = codes "run"
+phase_word work_phase.Write = codes "write"

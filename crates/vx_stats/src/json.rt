@@ -9,7 +9,7 @@ ghost use Rattle.vx_stats.specs.Json.{member, rows_members, moves_members, node_
 use crate::columns::{push_microseconds, push_number};
 use crate::lines::Line;
 use crate::loads::LoadTime;
-use crate::phases::{Phase, PhaseTime};
+use crate::phases::{PhaseTime, WorkPhase};
 use crate::words::{phase_word, relation_name, word_at};
 use serde_json::Value as Json;
 use std::alloc::{AllocError, Global};
@@ -182,19 +182,19 @@ fn push_loads_member(
     alloc: Global,
     catalog: &Catalog,
     loads: &[LoadTime],
-    phase: Phase,
+    phase: WorkPhase,
 ) -> Result<(), AllocError>
     ensures { OnOk result (string_bytes text.new ≡ string_bytes text.old ++ loads_member catalog.now loads.now phase) }
 {
     match phase {
-        Phase::Load => push_relations(text, alloc, catalog, loads),
-        Phase::Read
-        | Phase::Catalog
-        | Phase::Plan
-        | Phase::Plans
-        | Phase::Check
-        | Phase::Run
-        | Phase::Write => Ok(()),
+        WorkPhase::Load => push_relations(text, alloc, catalog, loads),
+        WorkPhase::Read
+        | WorkPhase::Catalog
+        | WorkPhase::Plan
+        | WorkPhase::Plans
+        | WorkPhase::Check
+        | WorkPhase::Run
+        | WorkPhase::Write => Ok(()),
     }
 }
 

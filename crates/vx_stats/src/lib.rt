@@ -14,6 +14,6 @@ mod words;
 pub use closing::write_end;
 pub use lines::{Line, lines_of};
 pub use loads::{LoadTime, LoadTimer};
-pub use phases::{NoClock, Phase, PhaseTime, Stopwatch, Timer};
+pub use phases::{NoClock, PhaseTime, Stopwatch, Timer, WorkPhase};
 pub use text::{StatsForm, push_lone_plan, push_plan, push_shared};
 pub use words::operator_words;

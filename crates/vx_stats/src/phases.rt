@@ -7,7 +7,7 @@ use std::time::{Clock, Duration, Instant};
 
 /// A part of the work of a command.
 #[derive(Clone, Copy, Debug, PartialEq, Eq)]
-pub enum Phase {
+pub enum WorkPhase {
     /// The texts of the catalog and of the plan were read.
     Read,
     /// The text of the catalog was read.
@@ -29,7 +29,7 @@ pub enum Phase {
 /// A phase, and how long it took, if that is known.
 #[derive(Clone, Copy, Debug, PartialEq, Eq)]
 pub struct PhaseTime {
-    pub phase: Phase,
+    pub phase: WorkPhase,
     pub microseconds: Option<u64>,
 }
 
@@ -78,7 +78,7 @@ impl Stopwatch {
     }
 
     /// The time of the phase that ends now; the next one begins.
-    pub fn end<C: Clock>(&mut self, clock: &C, phase: Phase) -> PhaseTime
+    pub fn end<C: Clock>(&mut self, clock: &C, phase: WorkPhase) -> PhaseTime
         ensures { result.phase ≡ phase }
     {
         PhaseTime {
@@ -112,7 +112,7 @@ impl Timer {
     }
 
     /// A phase ends now, and the next one begins.
-    pub fn end<C: Clock>(&mut self, clock: &C, phase: Phase) -> Result<(), AllocError>
+    pub fn end<C: Clock>(&mut self, clock: &C, phase: WorkPhase) -> Result<(), AllocError>
         ensures { OnOk result (phases_of (times_in self.new) ≡ phases_of (times_in self.old) ++ (phase ∷ [])) }
     {
         self.times.push(self.watch.end(clock, phase))?;

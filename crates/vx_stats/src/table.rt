@@ -6,7 +6,7 @@ ghost use Rattle.vx_stats.specs.Table.{count_heads, rows_row, moves_row, node_ro
 use crate::columns::{push_aligned, push_column, push_left, push_milliseconds};
 use crate::lines::Line;
 use crate::loads::LoadTime;
-use crate::phases::{Phase, PhaseTime};
+use crate::phases::{PhaseTime, WorkPhase};
 use crate::words::{phase_word, relation_name, word_at};
 use std::alloc::AllocError;
 use vx_relations::Catalog;
@@ -124,19 +124,19 @@ fn push_rows_below(
     text: &mut String,
     catalog: &Catalog,
     loads: &[LoadTime],
-    phase: Phase,
+    phase: WorkPhase,
 ) -> Result<(), AllocError>
     ensures { OnOk result (string_bytes text.new ≡ string_bytes text.old ++ rows_below catalog.now loads.now phase) }
 {
     match phase {
-        Phase::Load => push_load_rows(text, catalog, loads),
-        Phase::Read
-        | Phase::Catalog
-        | Phase::Plan
-        | Phase::Plans
-        | Phase::Check
-        | Phase::Run
-        | Phase::Write => Ok(()),
+        WorkPhase::Load => push_load_rows(text, catalog, loads),
+        WorkPhase::Read
+        | WorkPhase::Catalog
+        | WorkPhase::Plan
+        | WorkPhase::Plans
+        | WorkPhase::Check
+        | WorkPhase::Run
+        | WorkPhase::Write => Ok(()),
     }
 }
 

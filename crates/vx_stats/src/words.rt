@@ -6,7 +6,7 @@ ghost use Rattle.vx_plan_nodes.specs.Outline.{outline_of};
 ghost use Rattle.vx_plan_nodes.specs.TypedView.{resolved_of};
 ghost use Rattle.vx_stats.specs.Words.{op_words, word_at, phase_word};
 
-use crate::phases::Phase;
+use crate::phases::WorkPhase;
 use std::alloc::{AllocError, Global};
 use vx_formats::op_word;
 use vx_plan_nodes::{TypedNode, TypedPlan};
@@ -58,17 +58,17 @@ pub fn relation_name(catalog: &Catalog, relation: usize) -> &str
 }
 
 /// A phase in a word.
-pub fn phase_word(phase: Phase) -> &'static str
+pub fn phase_word(phase: WorkPhase) -> &'static str
     ensures { result.now ≡ phase_word phase }
 {
     match phase {
-        Phase::Read => "read",
-        Phase::Catalog => "catalog",
-        Phase::Plan => "plan",
-        Phase::Plans => "plans",
-        Phase::Check => "check",
-        Phase::Load => "load",
-        Phase::Run => "run",
-        Phase::Write => "write",
+        WorkPhase::Read => "read",
+        WorkPhase::Catalog => "catalog",
+        WorkPhase::Plan => "plan",
+        WorkPhase::Plans => "plans",
+        WorkPhase::Check => "check",
+        WorkPhase::Load => "load",
+        WorkPhase::Run => "run",
+        WorkPhase::Write => "write",
     }
 }

@@ -6,7 +6,7 @@ use Rattle.vx_catalog.specs.Loading.{load_of}
 use Rattle.vx_catalog.specs.Loading as loading
 use Rattle.vx_catalog.specs.declared.fault.LoadFault.{LoadFault}
 use Rattle.vx_catalog.specs.declared.fault.LoadFault.TheVariants as load
-use Rattle.vx_bundle.specs.Setting.{Named}
+use Rattle.vx_bundle.specs.Named.{Named}
 use Rattle.vx_tables.specs.Texts.{no_text, text_of, held_by, rows_from, MissesBy}
 
 -- a relation without a text

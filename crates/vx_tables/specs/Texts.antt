@@ -9,7 +9,7 @@ use Rattle.vx_catalog.specs.declared.fault.LoadFault.{LoadFault}
 use Rattle.vx_catalog.specs.declared.fault.LoadFault.TheVariants as load
 use Rattle.vx_refusals.specs.declared.refusal.Refusal.{Refusal}
 use Rattle.vx_refusals.specs.declared.refusal.Refusal.TheVariants as refusal
-use Rattle.vx_bundle.specs.Setting.{Named}
+use Rattle.vx_bundle.specs.Named.{Named}
 
 -- why the rows of a relation are not there: it has no text, or its text does not hold them
 pub data Missing : Type 0 where

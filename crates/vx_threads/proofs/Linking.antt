@@ -9,7 +9,7 @@ use Rattle.vx_morsel.specs.Hands.{HandState}
 use Rattle.vx_worker.specs.Fragment.{RunModel}
 use Rattle.vx_worker.specs.Morsels.{Dispatched, morsel_count}
 use Rattle.vx_worker.specs.Trace.{Trace}
-use Rattle.vx_laws.specs.Layout.{workers_below}
+use Rattle.vx_plan_nodes.specs.Workers.{workers_below}
 use Rattle.vx_laws.proofs.Hands.{hands-dispatched}
 use Rattle.vx_steps.specs.Roles.{IsLinked}
 use Rattle.vx_steps.proofs.FlatRuns.{dispatched}

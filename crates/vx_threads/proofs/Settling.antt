@@ -15,18 +15,19 @@ use Rattle.vx_worker.specs.Fragment.{RunModel}
 use Rattle.vx_worker.specs.Trace.{Trace, Fate, well, failed}
 use Rattle.vx_worker.specs.Worker.{Role, outcome_of, fate_of, sender_of}
 use Rattle.vx_worker.specs.declared.worker.Worker.{Worker}
-use Rattle.vx_worker.specs.declared.worker.Outcome.{Outcome}
-use Rattle.vx_worker.specs.declared.worker.Outcome.TheVariants as outcome
+use Rattle.vx_worker.specs.declared.worker.WorkerOutcome.{WorkerOutcome}
+use Rattle.vx_worker.specs.declared.worker.WorkerOutcome.TheVariants as worker_outcome
 use Rattle.vx_laws.specs.Layout.{AllWell}
 use Rattle.vx_laws.specs.Faults.{SomeFails}
 use Rattle.vx_steps.specs.Agrees.{trace_at}
-use Rattle.vx_steps.specs.Roles.{role_at, IsLinked, crew_size, EndedAs, AllEnded}
+use Rattle.vx_steps.specs.Roles.{role_at, IsLinked, EndedAs, AllEnded}
+use Rattle.vx_plan_nodes.specs.Workers.{crew_size}
 use Rattle.vx_steps.specs.Runs.{roles_of}
 use Rattle.vx_steps.specs.Verdicts.{IsOwn, AreWell, FailWith, Judged}
 use Rattle.vx_steps.specs.Endings.{FailsFirst, ReportsFirst}
 use Rattle.vx_steps.specs.Ready.{Settled}
-use Rattle.vx_steps.specs.declared.verdict.Verdict.{Verdict}
-use Rattle.vx_steps.specs.declared.verdict.Verdict.TheVariants as verdict
+use Rattle.vx_steps.specs.declared.verdict.RunState.{RunState}
+use Rattle.vx_steps.specs.declared.verdict.RunState.TheVariants as run_state
 use Rattle.vx_steps.proofs.FlatRuns.{all-well, some-fails}
 use Rattle.vx_steps.proofs.Origins.{began}
 use Rattle.vx_steps.proofs.Settling.{ended-as}
@@ -35,7 +36,7 @@ use Rattle.vx_threads.specs.Joined.{CameBack}
 use Rattle.vx_threads.proofs.Linking.{joined-is-linked}
 
 -- how the worker ended, where it has
-abbrev fate-in : Option Outcome → Fate
+abbrev fate-in : Option WorkerOutcome → Fate
 fate-in None = well
 fate-in (Some o) = fate_of o
 
@@ -45,12 +46,12 @@ well-failed f e = cc
 fault-is : (f g : Fault) → failed f ≡ failed g → f ≡ g
 fault-is f g e = cc
 
-failed-is : (o : Option Outcome) (f : Fault) → fate-in o ≡ failed f → o ≡ Some (outcome.Failed f)
+failed-is : (o : Option WorkerOutcome) (f : Fault) → fate-in o ≡ failed f → o ≡ Some (worker_outcome.Failed f)
 failed-is None f e = absurd (well-failed f e)
-failed-is (Some outcome.Well) f e = absurd (well-failed f e)
-failed-is (Some (outcome.Failed g)) f e = ap (λ z. Some (outcome.Failed z)) (fault-is g f e)
+failed-is (Some worker_outcome.Well) f e = absurd (well-failed f e)
+failed-is (Some (worker_outcome.Failed g)) f e = ap (λ z. Some (worker_outcome.Failed z)) (fault-is g f e)
 
-none-is : IsSome {T = Outcome} None → ⊥
+none-is : IsSome {T = WorkerOutcome} None → ⊥
 none-is e = cc
 
 module _ {O S : Type 0} (OS : O → Ledger → Type 0) (op : O → Op) (SS : S → Routing → Stream → (ℕ → List PacketView) → Type 0) (task : S → Task) (post : S → Post) (bounds : S → List Val)
@@ -77,7 +78,7 @@ module _ {O S : Type 0} (OS : O → Ledger → Type 0) (op : O → Op) (SS : S �
     all-are-well : AreWell vs (length vs) → (d : Worker O S) → AllEnded W roles (tasks d) (λ a. well) ts (crew_size W.sizes p)
     all-are-well h d a l =
         let here = within a l in
-        ended-as OS op SS task post bounds hash m W vs d back.traces back.morsels at back.stand a here outcome.Well (h a d here)
+        ended-as OS op SS task post bounds hash m W vs d back.traces back.morsels at back.stand a here worker_outcome.Well (h a d here)
 
     settled-well : AreWell vs (length vs) → (d : Worker O S) (rows : List Row) → task (sender_of (get_or vs 0 d)) ≡ keep rows → AllWell W p ts rows
     settled-well h d rows e = all-well W p ts roles (tasks d) links back.root back.below (all-are-well h d) rows e
@@ -85,7 +86,7 @@ module _ {O S : Type 0} (OS : O → Ledger → Type 0) (op : O → Op) (SS : S �
     each-ended : (d : Worker O S) (f : Fault) → FailWith vs (length vs) f → AllEnded W roles (tasks d) (fates d) ts (crew_size W.sizes p)
     each-ended d f h a l = let here = within a l in go (outcome_of (get_or vs a d)) refl (h.ended a d here) here
       where
-        go : (o : Option Outcome) → outcome_of (get_or vs a d) ≡ o → IsSome o → a < length vs → EndedAs W (roles a) (tasks d a) (fate-in (outcome_of (get_or vs a d))) (ts a)
+        go : (o : Option WorkerOutcome) → outcome_of (get_or vs a d) ≡ o → IsSome o → a < length vs → EndedAs W (roles a) (tasks d a) (fate-in (outcome_of (get_or vs a d))) (ts a)
         go None e i l = absurd (none-is i)
         go (Some o) e i l =
             subst (λ z. EndedAs W (roles a) (tasks d a) (fate-in z) (ts a)) (sym e)
@@ -127,15 +128,15 @@ module _ {O S : Type 0} (OS : O → Ledger → Type 0) (op : O → Op) (SS : S �
         omega (arith, z, n)
 
   pub settled : ((s : S) → IsAt (post s) (task s)) → (W : RunModel) (p : Plan) (vs xs : List (Worker O S)) (hs : List Hold) → vs ≡ xs → CameBack OS op SS task post bounds hash m W p vs hs
-      → (x : Verdict) → Judged vs x → Settled task W p vs x
-  settled at W p vs xs hs e back verdict.Done h = (ts W p vs hs at back, settled-well W p vs hs at back h)
-  settled at W p vs xs hs e back verdict.Unfinished h = tt
-  settled at W p vs [] hs e back (verdict.Failed f) h = absurd (none-fails W p vs hs at back f (sym e) h)
-  settled at W p vs (d ∷ rest) hs e back (verdict.Failed f) h = (ts W p vs hs at back, settled-failed W p vs hs at back d f h, settled-own W p vs hs at back d f h)
+      → (x : RunState) → Judged vs x → Settled task W p vs x
+  settled at W p vs xs hs e back run_state.Done h = (ts W p vs hs at back, settled-well W p vs hs at back h)
+  settled at W p vs xs hs e back run_state.Unfinished h = tt
+  settled at W p vs [] hs e back (run_state.Failed f) h = absurd (none-fails W p vs hs at back f (sym e) h)
+  settled at W p vs (d ∷ rest) hs e back (run_state.Failed f) h = (ts W p vs hs at back, settled-failed W p vs hs at back d f h, settled-own W p vs hs at back d f h)
 
   pub reported : ((s : S) → IsAt (post s) (task s)) → (W : RunModel) (p : Plan) (vs xs : List (Worker O S)) (hs : List Hold) → vs ≡ xs → CameBack OS op SS task post bounds hash m W p vs hs
-      → is_fit W.relation_of p ≡ true → 0 < workers W.sizes (size p) → (x : Verdict) → Judged vs x → ReportsFirst W p x
-  reported at W p vs xs hs e back fit some verdict.Done h = tt
-  reported at W p vs xs hs e back fit some verdict.Unfinished h = tt
-  reported at W p vs [] hs e back fit some (verdict.Failed f) h = absurd (none-fails W p vs hs at back f (sym e) h)
-  reported at W p vs (d ∷ rest) hs e back fit some (verdict.Failed f) h = settled-first W p vs hs at back d f h fit some
+      → is_fit W.relation_of p ≡ true → 0 < workers W.sizes (size p) → (x : RunState) → Judged vs x → ReportsFirst W p x
+  reported at W p vs xs hs e back fit some run_state.Done h = tt
+  reported at W p vs xs hs e back fit some run_state.Unfinished h = tt
+  reported at W p vs [] hs e back fit some (run_state.Failed f) h = absurd (none-fails W p vs hs at back f (sym e) h)
+  reported at W p vs (d ∷ rest) hs e back fit some (run_state.Failed f) h = settled-first W p vs hs at back d f h fit some

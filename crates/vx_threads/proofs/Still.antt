@@ -3,7 +3,7 @@ use Rattle.std.proofs.Common.{ℕ, ◌+◌, List, sym, ◌∙◌}
 use Rattle.vx_plan_nodes.specs.Plan.{Plan, scan, unary, binary, exchange, size}
 use Rattle.vx_plan_nodes.specs.Streams.{workers}
 use Rattle.vx_worker.specs.Fragment.{RunModel}
-use Rattle.vx_laws.specs.Layout.{workers_below}
+use Rattle.vx_plan_nodes.specs.Workers.{workers_below}
 use Rattle.vx_threads.specs.Holds.{Hold}
 use Rattle.vx_threads.specs.Joined.{PairAt}
 use Rattle.vx_threads.specs.Paired.{IsRingOf, Paired, AllSame, PairedStays}

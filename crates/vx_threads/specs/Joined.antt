@@ -15,9 +15,9 @@ use Rattle.vx_worker.specs.Morsels.{morsel_count}
 use Rattle.vx_worker.specs.Trace.{Trace, scan_morsels}
 use Rattle.vx_worker.specs.Worker.{WorkerStands}
 use Rattle.vx_worker.specs.declared.worker.Worker.{Worker}
-use Rattle.vx_laws.specs.Layout.{workers_below}
+use Rattle.vx_plan_nodes.specs.Workers.{workers_below, crew_size}
 use Rattle.vx_steps.specs.Agrees.{trace_at}
-use Rattle.vx_steps.specs.Roles.{role_at, IsRoot, RolesBelow, IsLinked, crew_size}
+use Rattle.vx_steps.specs.Roles.{role_at, IsRoot, RolesBelow, IsLinked}
 use Rattle.vx_steps.specs.Runs.{roles_of}
 use Rattle.vx_rings.specs.Ends.{put_to, taken_from}
 use Rattle.vx_rings.specs.declared.ring.RingOut.{RingOut}

@@ -3,7 +3,7 @@ use Rattle.std.specs.Prelude.{◌≡◌, ℕ, ◌<◌, ◌+◌, List, Some, slic
 use Rattle.vx_plan_nodes.specs.Plan.{target, Plan, scan, unary, binary, exchange, size}
 use Rattle.vx_plan_nodes.specs.Streams.{workers}
 use Rattle.vx_worker.specs.Fragment.{RunModel}
-use Rattle.vx_laws.specs.Layout.{workers_below}
+use Rattle.vx_plan_nodes.specs.Workers.{workers_below}
 use Rattle.vx_rings.specs.Ends.{IsRing}
 use Rattle.vx_rings.specs.declared.ring.RingOut.{RingOut}
 use Rattle.vx_threads.specs.declared.inlet.Inlet.{Inlet}

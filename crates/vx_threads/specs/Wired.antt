@@ -6,8 +6,7 @@ use Rattle.vx_morsel.specs.Hands.{HandState}
 use Rattle.vx_worker.specs.Fragment.{RunModel}
 use Rattle.vx_worker.specs.Morsels.{morsel_count}
 use Rattle.vx_worker.specs.Trace.{empty_trace}
-use Rattle.vx_laws.specs.Layout.{workers_below}
-use Rattle.vx_steps.specs.Roles.{crew_size}
+use Rattle.vx_plan_nodes.specs.Workers.{workers_below, crew_size}
 use Rattle.vx_decks.specs.Seats.{DeckView, SeatView, IsSeatOf}
 use Rattle.vx_threads.specs.declared.deck_place.DeckPlace.{DeckPlace}
 use Rattle.vx_threads.specs.declared.drawer.Dealer.TheVariants as dealer

@@ -2,7 +2,7 @@
 
 ghost use Rattle.std.specs.Prelude.{◌≡◌, true, false, IsSome};
 ghost use Rattle.vx_worker.specs.Worker.{IsReady, outcome_of};
-ghost use Rattle.vx_worker.specs.declared.worker.Stepped.TheVariants as Stepped;
+ghost use Rattle.vx_worker.specs.declared.worker.StepOutcome.TheVariants as StepOutcome;
 ghost use Rattle.vx_threads.specs.Carrying.{hold_of};
 ghost use Rattle.vx_threads.specs.Ran.{Ran};
 
@@ -14,7 +14,7 @@ use std::thread::Parker;
 use vx_ends::Sends;
 use vx_ops::Source;
 use vx_plan_nodes::Router;
-use vx_worker::{Morsels, Stepped, Worker};
+use vx_worker::{Morsels, StepOutcome, Worker};
 
 /// What may hold up a worker's thread after each draw of a shared scan, as tests do to choose who draws next.
 pub trait Gate {
@@ -44,14 +44,14 @@ impl Gate for Free {
 }
 
 // What a step comes to that moved nothing itself.
-fn moved_or_waiting(moved: bool) -> Stepped
-    ensures moved { moved ≡ true → result ≡ Stepped.Moved }
-    ensures waiting { moved ≡ false → result ≡ Stepped.Waiting }
+fn moved_or_waiting(moved: bool) -> StepOutcome
+    ensures moved { moved ≡ true → result ≡ StepOutcome.Moved }
+    ensures waiting { moved ≡ false → result ≡ StepOutcome.Waiting }
 {
     if moved {
-        return Stepped::Moved;
+        return StepOutcome::Moved;
     }
-    Stepped::Waiting
+    StepOutcome::Waiting
 }
 
 // Rests a worker after a step that did not move, as `waited` steps in a row before it did not, and returns how many these
@@ -61,12 +61,12 @@ fn moved_or_waiting(moved: bool) -> Stepped
 // which the worker does not sleep, or will wake it after some more packets, at the latest before it waits or ends.
 fn rest<T: Wait>(
     rt: &T,
-    stepped: Stepped,
+    stepped: StepOutcome,
     parker: Option<&Parker>,
     inlets: usize,
     waited: usize,
 ) -> usize {
-    if matches!(stepped, Stepped::Moved) {
+    if matches!(stepped, StepOutcome::Moved) {
         return 0;
     }
     if waited < YIELDS {
@@ -92,10 +92,10 @@ fn step_in_thread<O: Source, S: Sends, G: Morsels, R: Router, H: Gate>(
     at: WorkerPlace,
     worker: &mut Worker<O, S>,
     wires: &mut ThreadWires<'_>,
-) -> Stepped
+) -> StepOutcome
     requires ready { IsReady O.types S.post S.is_open S.has_closed (G.types_of morsels.now) worker.old }
     ensures ready { IsReady O.types S.post S.is_open S.has_closed (G.types_of morsels.now) worker.new }
-    ensures ended { result ≡ Stepped.Ended → IsSome (outcome_of worker.new) }
+    ensures ended { result ≡ StepOutcome.Ended → IsSome (outcome_of worker.new) }
     ensures ran { Ran O.Stands O.op S.Stands S.task S.post S.bounds (R.route_of router.now) (G.morsel_of morsels.now)
         worker.old (hold_of wires.old.ends) worker.new (hold_of wires.new.ends) }
 {
@@ -103,7 +103,7 @@ fn step_in_thread<O: Source, S: Sends, G: Morsels, R: Router, H: Gate>(
     if let Some(drawn) = wires.noted() {
         gate.after_draw(at.fragment, at.place, drawn);
     }
-    if matches!(stepped, Stepped::Waiting) {
+    if matches!(stepped, StepOutcome::Waiting) {
         return moved_or_waiting(wires.gather());
     }
     stepped
@@ -128,7 +128,7 @@ pub fn run_to_end<O: Source, S: Sends, G: Morsels, R: Router, H: Gate, T: Wait>(
     let mut waited = 0;
     'steps: for _ in rt.forever() {
         match step_in_thread(morsels, router, gate, at, &mut worker, &mut wires) {
-            Stepped::Ended => return (worker, wires.into_ends()),
+            StepOutcome::Ended => return (worker, wires.into_ends()),
             stepped => {
                 let parker = wires.parker(at.number);
                 waited = rest(rt, stepped, parker, wires.inlets(), waited);

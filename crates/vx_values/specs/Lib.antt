@@ -1,6 +1,11 @@
 pub mod Values
 pub mod Types
+pub mod Limits
 pub mod Lists
 pub mod Test
 pub mod ValueView
 pub mod Ranges
+pub mod Equality
+pub mod Order
+pub mod Bags
+pub mod Keys

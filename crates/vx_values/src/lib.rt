@@ -1,10 +1,14 @@
-//! Values of rows and their types, their order, how a condition compares two of them, and ranges of them.
+//! Values of rows and their types, how a condition compares two of them, ranges of them, and the limits of all that is read and run. The definitions
+//! on lists of rows, which have nothing to do with how rows are kept, are here too: order, bags and keys.
 #![tactic(auto)]
 
+mod keys;
+pub mod limits;
 mod range;
 mod test;
 mod value;
 
+pub use keys::keys_are_tested;
 pub use range::{NamedRange, copied_ranges};
 pub use test::Test;
 pub use value::{Cell, ColType, Value, compare_cells, copied_values};

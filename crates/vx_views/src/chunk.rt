@@ -19,7 +19,8 @@ use crate::table_rows::TableRows;
 use std::alloc::{AllocError, Global};
 use std::marker::Model;
 use std::sync::{Arc, ArcSlice};
-use vx_rows::{Cell, ColType, Numbers, Table, Texts};
+use vx_rows::{Numbers, Table, Texts};
+use vx_values::{Cell, ColType};
 
 /// Where the values of a column lie: a part, and a column of it.
 #[derive(Clone, Copy)]

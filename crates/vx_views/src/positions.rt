@@ -40,7 +40,7 @@ impl Position for usize {
 
 // The positions of a list, as wide as they are kept.
 #[derive(Drop)]
-enum Width {
+enum PositionWidth {
     Narrow(Vec<u32>),
     Wide(Vec<usize>),
 }
@@ -48,7 +48,7 @@ enum Width {
 /// A list of positions, which several `Positions` may share. They take 4 bytes each where all of them are known to fit 32
 /// bits.
 pub struct PositionList {
-    width: Width,
+    width: PositionWidth,
 }
 
 // By hand, so that the drops of its parts are made and proved here once, and not in each function that drops one.
@@ -75,8 +75,8 @@ impl PositionList {
         ensures { result ≡ length self.now }
     {
         match &self.width {
-            Width::Narrow(positions) => positions.len(),
-            Width::Wide(positions) => positions.len(),
+            PositionWidth::Narrow(positions) => positions.len(),
+            PositionWidth::Wide(positions) => positions.len(),
         }
     }
 
@@ -86,8 +86,8 @@ impl PositionList {
         ensures { result ≡ slice_index self.now i }
     {
         match &self.width {
-            Width::Narrow(positions) => positions[i] as usize,
-            Width::Wide(positions) => positions[i],
+            PositionWidth::Narrow(positions) => positions[i] as usize,
+            PositionWidth::Wide(positions) => positions[i],
         }
     }
 
@@ -98,8 +98,10 @@ impl PositionList {
         ensures { seen_positions result ≡ slice_range self.now from to }
     {
         match &self.width {
-            Width::Narrow(positions) => PositionsRef::Narrow(&positions.as_slice()[from..to]),
-            Width::Wide(positions) => PositionsRef::Wide(&positions.as_slice()[from..to]),
+            PositionWidth::Narrow(positions) => PositionsRef::Narrow(
+                &positions.as_slice()[from..to],
+            ),
+            PositionWidth::Wide(positions) => PositionsRef::Wide(&positions.as_slice()[from..to]),
         }
     }
 
@@ -117,8 +119,16 @@ impl PositionList {
         ensures { IfOk result (λ l. l ≡ map (slice_index (slice_range self.now from to)) places.now) }
     {
         match &self.width {
-            Width::Narrow(positions) => narrow_at(alloc, &positions.as_slice()[from..to], places),
-            Width::Wide(positions) => wide_at(alloc, &positions.as_slice()[from..to], places),
+            PositionWidth::Narrow(positions) => narrow_at(
+                alloc,
+                &positions.as_slice()[from..to],
+                places,
+            ),
+            PositionWidth::Wide(positions) => wide_at(
+                alloc,
+                &positions.as_slice()[from..to],
+                places,
+            ),
         }
     }
 }
@@ -297,13 +307,13 @@ fn moved(
         narrow.resize(places.len(), 0)?;
         move_to(places, from, narrow.as_mut_slice());
         return Ok(PositionList {
-            width: Width::Narrow(narrow),
+            width: PositionWidth::Narrow(narrow),
         });
     }
     let mut wide = Vec::from_slice(alloc, places)?;
     move_by(wide.as_mut_slice(), from);
     Ok(PositionList {
-        width: Width::Wide(wide),
+        width: PositionWidth::Wide(wide),
     })
 }
 
@@ -327,7 +337,7 @@ fn narrow_at(alloc: Global, listed: &[u32], places: &[usize]) -> Result<Position
     positions.resize(places.len(), 0)?;
     look_up_narrow(listed, places, positions.as_mut_slice());
     Ok(PositionList {
-        width: Width::Narrow(positions),
+        width: PositionWidth::Narrow(positions),
     })
 }
 
@@ -349,7 +359,7 @@ fn wide_at(alloc: Global, listed: &[usize], places: &[usize]) -> Result<Position
     let mut positions = Vec::from_slice(alloc, places)?;
     look_up(positions.as_mut_slice(), listed);
     Ok(PositionList {
-        width: Width::Wide(positions),
+        width: PositionWidth::Wide(positions),
     })
 }
 

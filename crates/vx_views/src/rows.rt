@@ -14,7 +14,8 @@ use std::alloc::{AllocError, Global};
 use std::marker::Model;
 use std::mem;
 use std::sync::{Arc, ArcSlice};
-use vx_rows::{Cell, ColType, Table};
+use vx_rows::Table;
+use vx_values::{Cell, ColType};
 
 /// Rows in chunks, one behind the other. To add rows copies none. The list of types is shared by the rows that are cut from these.
 pub struct Rows {
@@ -248,13 +249,13 @@ impl Rows {
 
 // Where a row lies: in which chunk, and at which place there.
 #[derive(Clone, Copy)]
-struct Spot {
+struct RowPosition {
     chunk: usize,
     place: usize,
 }
 
 // Where row i lies.
-fn spot_of(chunks: &[Chunk], i: usize) -> Spot
+fn spot_of(chunks: &[Chunk], i: usize) -> RowPosition
     requires { i < length (all_rows chunks.now) }
     ensures chunk { result.chunk < length chunks.now }
     ensures place { i ≡ length (all_rows (take result.chunk chunks.now)) + result.place }
@@ -264,7 +265,7 @@ fn spot_of(chunks: &[Chunk], i: usize) -> Spot
     for chunk in 0..chunks.len() {
         let count = chunks[chunk].len();
         if place < count {
-            return Spot { chunk, place };
+            return RowPosition { chunk, place };
         }
         place -= count;
     }

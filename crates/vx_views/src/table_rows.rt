@@ -16,7 +16,8 @@ use crate::positions::{Positions, PositionsRef, widened};
 use std::alloc::{AllocError, Global};
 use std::marker::Model;
 use std::sync::Arc;
-use vx_rows::{Cell, ColType, Numbers, Table, Texts};
+use vx_rows::{Numbers, Table, Texts};
+use vx_values::{Cell, ColType};
 
 /// Rows of one table that is shared, by their positions.
 pub struct TableRows {

@@ -1,16 +1,15 @@
 -- Workers that are given something each, one after the other (our own).
-use Rattle.std.proofs.Common.{ℕ, ◌≡◌, ◌≢◌, ◌<◌, ◌≤◌, ◌+◌, ◌-◌, ◌⊎◌, List, [], ◌∷◌, ◌++◌, Some, refl, sym, ap, ◌∙◌, subst, arith, inl, inr, slice_get}
+use Rattle.std.proofs.Common.{ℕ, ◌≡◌, ◌≢◌, ◌<◌, ◌≤◌, ◌+◌, ◌-◌, ◌⊎◌, List, [], ◌∷◌, ◌++◌, Some, sym, ap, ◌∙◌, subst, arith, inl, inr, slice_get}
 use Rattle.std.proofs.lemmas.Bool.{cases_eq, cases_lt}
 use Rattle.std.proofs.lemmas.Option.{slice_get_within}
+use Rattle.std.proofs.lemmas.List.{length_push}
+use Rattle.vx_layout.specs.declared.span.ExchangeSpan.{ExchangeSpan}
 use Rattle.vx_rings.specs.Ends.{put_to}
 use Rattle.vx_rings.specs.declared.ring.RingOut.{RingOut}
 use Rattle.vx_threads.specs.declared.inlet.Inlet.{Inlet}
 use Rattle.vx_threads.specs.Holds.{Hold}
 use Rattle.vx_wiring.specs.Giving.{GivesAt, GivesEach, GainsInlet, IsNewRing, GainsRing, MakesRings}
-use Rattle.vx_wiring.proofs.Places.{one-place, get-front, get-last, get-snoc, get-below, length-snoc}
-
-pub each-none : (P : ℕ → Hold → Hold → Type 0) (old : List Hold) (top : ℕ) → GivesEach P old top 0 old
-each-none P old top = record { length_is = refl; here = λ w l h e. absurd (omega (arith, l)); others = λ b h. refl }
+use Rattle.vx_wiring.proofs.Places.{one-place, get-front, get-last, get-snoc, get-below}
 
 -- one worker more
 pub each-more : (P Q : ℕ → Hold → Hold → Type 0) (R : Hold → Hold → Type 0) (old : List Hold) (top count : ℕ) (mid new : List Hold)
@@ -64,32 +63,24 @@ each-back P old top count new x a g e =
       | inr q ↦ inr (q.0, was.0, q.2, was.1, subst (λ z. P q.0 was.0 z) (one-place new a q.1 g q.4 e) q.5)
     ]
 
-pub rings-none : (n i : ℕ) (old : List Hold) (top : ℕ) (outs : List RingOut) → outs ≡ [] → MakesRings n i old top 0 outs old
-rings-none n i old top outs e =
-    subst (λ z. MakesRings n i old top 0 z old) (sym e)
-    (record { length_is = refl; fresh = λ j o h. absurd (none o j h); given = each-none (GainsRing n i []) old top })
-  where
-    none : (o : RingOut) (j : ℕ) → slice_get [] j ≡ Some o → ⊥
-    none o j h = cc
-
 -- one ring more
-pub rings-more : (n i : ℕ) (old : List Hold) (top count : ℕ) (outs : List RingOut) (mid new : List Hold) (o : RingOut) (e : Inlet)
-    → MakesRings n i old top count outs mid → IsNewRing n i o e → GivesAt (GainsInlet e) mid (top + count) new
-    → MakesRings n i old top (count + 1) (outs ++ o ∷ []) new
-rings-more n i old top count outs mid new o e x ring y = record {
-  length_is = length-snoc outs o ∙ ap (λ (k : ℕ). k + 1) x.length_is;
+pub rings-more : (x : ExchangeSpan) (i : ℕ) (old : List Hold) (count : ℕ) (outs : List RingOut) (mid new : List Hold) (o : RingOut) (e : Inlet)
+    → MakesRings x i old count outs mid → IsNewRing x.number i o e → GivesAt (GainsInlet e) mid (x.above + count) new
+    → MakesRings x i old (count + 1) (outs ++ o ∷ []) new
+rings-more x i old count outs mid new o e made ring y = record {
+  length_is = length_push outs o ∙ ap (λ (k : ℕ). k + 1) made.length_is;
   fresh = λ j z h. elim (get-snoc outs o j z h) [
-    | inl q ↦ x.fresh j z q
+    | inl q ↦ made.fresh j z q
     | inr q ↦ ap put_to q.1 ∙ ring.put
   ];
-  given = each-more (GainsRing n i outs) (GainsRing n i (outs ++ o ∷ [])) (GainsInlet e) old top count mid new
+  given = each-more (GainsRing x.number i outs) (GainsRing x.number i (outs ++ o ∷ [])) (GainsInlet e) old x.above count mid new
       (λ w h g l r. record { out = r.out; inlet = r.inlet; at = get-front outs (o ∷ []) w r.out r.at; ring = r.ring; gains = r.gains })
       (λ h g r. record {
         out = o;
         inlet = e;
-        at = subst (λ (k : ℕ). slice_get (outs ++ o ∷ []) k ≡ Some o) x.length_is (get-last outs o);
+        at = subst (λ (k : ℕ). slice_get (outs ++ o ∷ []) k ≡ Some o) made.length_is (get-last outs o);
         ring = ring;
         gains = r;
       })
-      x.given y;
+      made.given y;
 }

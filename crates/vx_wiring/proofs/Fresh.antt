@@ -1,7 +1,7 @@
 -- Nothing went through what was added (our own).
 use Rattle.std.proofs.Common.{ℕ, zero, suc, ◌≡◌, ◌<◌, ◌≤◌, ◌+◌, ◌⊎◌, cond, List, [], Some, refl, sym, ap, ◌∙◌, subst, arith, inl, inr, slice_get, true≢false}
 use Rattle.std.proofs.lemmas.Bool.{le-ltb}
-use Rattle.std.proofs.lemmas.Option.{slice_get_within, get_or_from_slice_get}
+use Rattle.std.proofs.lemmas.Option.{slice_get_within, get_or_from_slice_get, none-some}
 use Rattle.vx_plan_nodes.specs.Streams.{across}
 use Rattle.vx_worker.specs.Trace.{empty_trace}
 use Rattle.vx_steps.specs.Agrees.{DrewByHand}
@@ -17,7 +17,7 @@ use Rattle.vx_threads.specs.Drawers.{DealsAs, Sits}
 use Rattle.vx_threads.specs.Holds.{Hold, Bears}
 use Rattle.vx_wiring.specs.Giving.{GainsDrawer, GainsInlet, IsNewRing}
 use Rattle.vx_wiring.specs.Making.{IsBefore, IsFresh}
-use Rattle.vx_wiring.proofs.Places.{none-some, get-snoc}
+use Rattle.vx_wiring.proofs.Places.{get-snoc}
 use Rattle.vx_wiring.proofs.Staying.{sits-on}
 
 -- every deck stays at its place

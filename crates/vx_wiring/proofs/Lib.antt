@@ -4,4 +4,3 @@ pub mod Shares
 pub mod Staying
 pub mod Fresh
 pub mod Growing
-pub mod Sizing

@@ -1,6 +1,10 @@
 -- Shares of which one changes (our own).
-use Rattle.std.proofs.Common.{ℕ, zero, suc, ◌≡◌, ◌≢◌, List, [], ◌∷◌, ◌++◌, length, Some, refl, sym, ap, ◌∙◌, subst, slice_get}
+use Rattle.std.proofs.Common.{ℕ, ◌≡◌, List, [], ◌∷◌, ◌++◌, length, Some, sym, ap, ◌∙◌, subst, slice_get}
 use Rattle.std.proofs.Math.ListN.{set}
+use Rattle.std.proofs.lemmas.Option.{same_Some, slice_get-map}
+use Rattle.std.specs.Option.{option_map}
+use Rattle.std.proofs.lemmas.List.{length-map, length-set, map-set}
+use Rattle.vx_threads.proofs.Bearing.{set-here, set-other}
 use Rattle.vx_threads.specs.declared.inlet.Inlet.{Inlet}
 use Rattle.vx_threads.specs.declared.drawer.Drawer.{Drawer}
 use Rattle.vx_threads.specs.declared.drawer.Dealer.{Dealer}
@@ -8,42 +12,23 @@ use Rattle.vx_rings.specs.declared.ring.RingOut.{RingOut}
 use Rattle.vx_threads.specs.Holds.{Hold}
 use Rattle.vx_wiring.specs.Giving.{hold_in, holds_of, GainsDrawer, GainsInlet, GivesAt}
 use Rattle.vx_wiring.specs.declared.share.Share.{Share}
-use Rattle.vx_wiring.proofs.Places.{some-is, none-some}
 
 pub held-length : (ss : List Share) → length (holds_of ss) ≡ length ss
-held-length [] = refl
-held-length (s ∷ ss) = ap suc (held-length ss)
-
--- what a worker holds, by its share
-pub held-at : (ss : List Share) (a : ℕ) (s : Share) → slice_get ss a ≡ Some s → slice_get (holds_of ss) a ≡ Some (hold_in s)
-held-at [] a s e = absurd (none-some s e)
-held-at (t ∷ ss) zero s e = ap (λ v. Some (hold_in v)) (some-is t s e)
-held-at (t ∷ ss) (suc a) s e = held-at ss a s e
-
-set-length : (ss : List Share) (a : ℕ) (t : Share) → length (holds_of (set ss a t)) ≡ length (holds_of ss)
-set-length [] a t = refl
-set-length (s ∷ ss) zero t = refl
-set-length (s ∷ ss) (suc a) t = ap suc (set-length ss a t)
-
-set-here : (ss : List Share) (a : ℕ) (s t : Share) → slice_get ss a ≡ Some s → slice_get (holds_of (set ss a t)) a ≡ Some (hold_in t)
-set-here [] a s t e = absurd (none-some s e)
-set-here (u ∷ ss) zero s t e = refl
-set-here (u ∷ ss) (suc a) s t e = set-here ss a s t e
-
-set-other : (ss : List Share) (a : ℕ) (t : Share) (b : ℕ) → b ≢ a → slice_get (holds_of (set ss a t)) b ≡ slice_get (holds_of ss) b
-set-other [] a t b ne = refl
-set-other (u ∷ ss) zero t zero ne = absurd (ne refl)
-set-other (u ∷ ss) zero t (suc b) ne = refl
-set-other (u ∷ ss) (suc a) t zero ne = refl
-set-other (u ∷ ss) (suc a) t (suc b) ne = set-other ss a t b (λ e. ne (ap suc e))
+held-length ss = length-map ss hold_in
 
 gives-set : (P : Hold → Hold → Type 0) (ss : List Share) (a : ℕ) (s t : Share) → slice_get ss a ≡ Some s → P (hold_in s) (hold_in t)
     → GivesAt P (holds_of ss) a (holds_of (set ss a t))
-gives-set P ss a s t at p = record {
-  length_is = set-length ss a t;
-  here = λ h e. (hold_in t, set-here ss a s t at, subst (λ v. P v (hold_in t)) (some-is (hold_in s) h (sym (held-at ss a s at) ∙ e)) p);
-  others = λ b ne. set-other ss a t b ne;
-}
+gives-set P ss a s t at p =
+    let hs = holds_of ss in
+    subst (λ (gs : List Hold). GivesAt P hs a gs) (sym (map-set hold_in ss a t)) (record {
+      length_is = length-set hs a (hold_in t);
+      here = λ h e. (
+        hold_in t,
+        set-here hs a h (hold_in t) e,
+        subst (λ v. P v (hold_in t)) (same_Some (hold_in s) h (sym (slice_get-map hold_in ss a ∙ ap (option_map hold_in) at) ∙ e)) p,
+      );
+      others = λ b ne. set-other hs a (hold_in t) b ne;
+    })
 
 hold-is : (h : Hold) (os : List RingOut) (es : List Inlet) (ds : List Drawer) → h.outs ≡ os → h.ins ≡ es → h.draws ≡ ds
     → h ≡ record { outs = os; ins = es; draws = ds }

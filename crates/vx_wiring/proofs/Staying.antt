@@ -1,10 +1,9 @@
 -- What workers hold stays theirs while more is added (our own).
-use Rattle.std.proofs.Common.{ℕ, ◌≡◌, ◌+◌, true, false, List, [], ◌∷◌, ◌++◌, Some, sym, ◌∙◌, subst, inl, inr, slice_get}
+use Rattle.std.proofs.Common.{ℕ, ◌≡◌, ◌+◌, Bool, true, false, List, [], ◌∷◌, ◌++◌, Some, sym, ◌∙◌, subst, inl, inr, slice_get}
 use Rattle.std.proofs.lemmas.Option.{slice_get_within, get_or_from_slice_get}
-use Rattle.vx_plan_nodes.specs.Plan.{Plan, scan, unary, binary, exchange, size}
-use Rattle.vx_plan_nodes.specs.Streams.{workers}
-use Rattle.vx_worker.specs.Fragment.{RunModel}
-use Rattle.vx_laws.specs.Layout.{workers_below}
+use Rattle.vx_layout.specs.declared.span.ScanSpan.{ScanSpan}
+use Rattle.vx_layout.specs.declared.span.NodeSpan.{NodeSpan}
+use Rattle.vx_layout.specs.declared.span.NodeSpan.TheVariants.{Inner, Exchange, Scan}
 use Rattle.vx_decks.specs.Seats.{DeckView, IsSeatOf}
 use Rattle.vx_rings.specs.declared.ring.RingOut.{RingOut}
 use Rattle.vx_threads.specs.declared.inlet.Inlet.{Inlet}
@@ -14,10 +13,10 @@ use Rattle.vx_threads.specs.declared.deck_place.DeckPlace.{DeckPlace}
 use Rattle.vx_threads.specs.Drawers.{Sits}
 use Rattle.vx_threads.specs.Holds.{Hold, OutAt, InAt, DrawAt}
 use Rattle.vx_threads.specs.Joined.{PairAt}
-use Rattle.vx_threads.specs.Paired.{Paired, IsRingOf}
-use Rattle.vx_threads.specs.Wired.{HasDeck, Dealing, AllSeated}
+use Rattle.vx_threads.specs.Paired.{IsRingOf}
+use Rattle.vx_threads.specs.Wired.{AllSeated}
 use Rattle.vx_wiring.specs.Giving.{GainsDrawer, GainsInlet, GivesEach}
-use Rattle.vx_wiring.specs.Making.{Made, HoldsOn, Keeps}
+use Rattle.vx_wiring.specs.Making.{Made, HoldsOn, Keeps, IsDealt, IsMade}
 use Rattle.vx_wiring.proofs.Places.{get-front, get-below}
 use Rattle.vx_wiring.proofs.Each.{each-forth}
 
@@ -90,37 +89,28 @@ module _ (old new : List Hold) (on : AllOn old new) where
   pub pair-on : (a j b n i : ℕ) → PairAt IsRingOf old a j b n i → PairAt IsRingOf new a j b n i
   pair-on a j b n i x = (x.0, x.1, out-on a j x.0 x.2, in-on b n i x.1 x.3, x.4)
 
-  pub paired-on : (S : RunModel) (p : Plan) (top next : ℕ) → Paired S p top next old → Paired S p top next new
-  paired-on S (scan n c r m z) top next h = tt
-  paired-on S (unary n c op p) top next h = paired-on S p top next h
-  paired-on S (binary n c op p q) top next h = (paired-on S p top next h.0, paired-on S q top (next + workers_below S.sizes p) h.1)
-  paired-on S (exchange n c k merge p) top next h = (
-    λ i j li lj. pair-on (next + i) j (top + j) n i (h.0 i j li lj),
-    paired-on S p next (next + workers S.sizes (size p)) h.1,
-  )
-
   pub seated-on : (ds : List DeckView) (qs : List DeckPlace) → AllSeated ds qs old → AllSeated ds qs new
   seated-on ds qs h k d q ed eq =
       let x = h k d q ed eq in
       (x.0, λ w l. let y = x.1 w l in (y.0, draw-on (q.first + w) q.scan _ y.1, y.2))
 
-pub deck-on : (old new : Made) → Keeps old new → (n top count m : ℕ) → HasDeck old.decks old.places n top count m → HasDeck new.decks new.places n top count m
-deck-on old new x n top count m h = record {
-  k = h.k;
-  deck = h.deck;
-  here = x.decks h.k h.deck h.here;
-  morsels = h.morsels;
-  at = h.at;
-  place = x.places h.k h.at h.place;
-  scan = h.scan;
-  first = h.first;
-  workers = h.workers;
-}
+-- what was made stays made
+module _ (counts : ℕ → ℕ) (old new : Made) (x : Keeps old new) where
+  dealt-on : (s : ScanSpan) (is_shared : Bool) → IsDealt counts old s is_shared → IsDealt counts new s is_shared
+  dealt-on s true h = record {
+    k = h.k;
+    deck = h.deck;
+    here = x.decks h.k h.deck h.here;
+    morsels = h.morsels;
+    at = h.at;
+    place = x.places h.k h.at h.place;
+    scan = h.scan;
+    first = h.first;
+    workers = h.workers;
+  }
+  dealt-on s false h = λ w l. let y = h w l in (y.0, draw-on old.holds new.holds x.holds (s.first + w) s.number _ y.1, y.2)
 
-pub dealing-on : (old new : Made) → Keeps old new → (S : RunModel) (p : Plan) (top next : ℕ)
-    → Dealing S old.decks old.places p top next old.holds → Dealing S new.decks new.places p top next new.holds
-dealing-on old new x S (scan n c r true z) top next h = deck-on old new x n top _ _ h
-dealing-on old new x S (scan n c r false z) top next h = λ w l. let y = h w l in (y.0, draw-on old.holds new.holds x.holds (top + w) n _ y.1, y.2)
-dealing-on old new x S (unary n c op p) top next h = dealing-on old new x S p top next h
-dealing-on old new x S (binary n c op p q) top next h = (dealing-on old new x S p top next h.0, dealing-on old new x S q top (next + workers_below S.sizes p) h.1)
-dealing-on old new x S (exchange n c k merge p) top next h = dealing-on old new x S p next (next + workers S.sizes (size p)) h
+  pub made-on : (s : NodeSpan) → IsMade counts old s → IsMade counts new s
+  made-on Inner h = tt
+  made-on (Exchange e) h = λ i j li lj. pair-on old.holds new.holds x.holds (e.below + i) j (e.above + j) e.number i (h i j li lj)
+  made-on (Scan s) h = dealt-on s s.is_shared h

@@ -8,6 +8,7 @@ use Rattle.vx_threads.specs.declared.inlet.Inlet.{Inlet}
 use Rattle.vx_threads.specs.declared.drawer.Drawer.{Drawer}
 use Rattle.vx_threads.specs.declared.drawer.Dealer.TheVariants as dealer
 use Rattle.vx_threads.specs.Holds.{Hold}
+use Rattle.vx_layout.specs.declared.span.ExchangeSpan.{ExchangeSpan}
 use Rattle.vx_wiring.specs.declared.share.Share.{Share}
 
 -- what a worker was given so far, as plain data
@@ -62,8 +63,8 @@ pub record GainsRing (n i : ℕ) (outs : List RingOut) (j : ℕ) (h g : Hold) : 
   pub ring : IsNewRing n i out inlet
   pub gains : GainsInlet inlet h g
 
--- a ring to each of so many consumers from `top` on
-pub record MakesRings (n i : ℕ) (old : List Hold) (top count : ℕ) (outs : List RingOut) (new : List Hold) : Type 0 where
+-- a ring from producer i of an exchange to each of its first so many consumers
+pub record MakesRings (x : ExchangeSpan) (i : ℕ) (old : List Hold) (count : ℕ) (outs : List RingOut) (new : List Hold) : Type 0 where
   pub length_is : length outs ≡ count
   pub fresh : (j : ℕ) (o : RingOut) → slice_get outs j ≡ Some o → put_to o ≡ []
-  pub given : GivesEach (GainsRing n i outs) old top count new
+  pub given : GivesEach (GainsRing x.number i outs) old x.above count new

@@ -1,23 +1,25 @@
--- The rings, decks and hands of a plan's workers in the making, by recursion on the plan (our own).
-use Rattle.std.specs.Prelude.{◌≡◌, ℕ, ◌<◌, ◌+◌, ◌⊎◌, true, List, [], ◌∷◌, ◌++◌, length, Some, slice_get, slice_index_or}
-use Rattle.vx_plan_nodes.specs.Plan.{Plan}
-use Rattle.vx_plan_nodes.specs.Numbering.{nodes, is_numbered}
-use Rattle.vx_layout.specs.Groups.{group_at}
-use Rattle.vx_worker.specs.Fragment.{RunModel}
-use Rattle.vx_worker.specs.Morsels.{morsel_count}
+-- The rings, decks and hands of a plan's workers in the making, one node after the other (our own).
+use Rattle.std.specs.Prelude.{◌≡◌, ℕ, ◌<◌, ◌+◌, ◌⊎◌, Bool, true, false, List, [], ◌∷◌, ◌++◌, length, take, drop, Some, slice_get, slice_index_or}
+use Rattle.std.specs.List.{All}
+use Rattle.vx_layout.specs.Order.{HasNumber, made_with, made_after, AreInOrder}
+use Rattle.vx_layout.specs.declared.span.ExchangeSpan.{ExchangeSpan}
+use Rattle.vx_layout.specs.declared.span.ScanSpan.{ScanSpan}
+use Rattle.vx_layout.specs.declared.span.NodeSpan.{NodeSpan}
+use Rattle.vx_layout.specs.declared.span.NodeSpan.TheVariants.{Inner, Exchange, Scan}
 use Rattle.vx_worker.specs.Trace.{empty_trace}
-use Rattle.vx_laws.specs.Layout.{workers_below}
+use Rattle.vx_morsel.specs.Hands.{HandState}
 use Rattle.vx_decks.specs.Seats.{DeckView}
 use Rattle.vx_rings.specs.Ends.{put_to, taken_from}
 use Rattle.vx_rings.specs.declared.ring.RingOut.{RingOut}
 use Rattle.vx_threads.specs.declared.inlet.Inlet.{Inlet}
 use Rattle.vx_threads.specs.declared.drawer.Drawer.{Drawer}
+use Rattle.vx_threads.specs.declared.drawer.Dealer.TheVariants as dealer
 use Rattle.vx_threads.specs.declared.deck_place.DeckPlace.{DeckPlace}
 use Rattle.vx_threads.specs.Drawers.{DealsAs, Sits}
-use Rattle.vx_threads.specs.Holds.{Hold, IsApart}
+use Rattle.vx_threads.specs.Holds.{Hold, IsApart, DrawAt}
 use Rattle.vx_threads.specs.Joined.{PairAt}
-use Rattle.vx_threads.specs.Paired.{IsRingOf, Paired}
-use Rattle.vx_threads.specs.Wired.{Dealing, AllSeated}
+use Rattle.vx_threads.specs.Paired.{IsRingOf}
+use Rattle.vx_threads.specs.Wired.{HasDeck, AllSeated}
 use Rattle.vx_wiring.specs.Giving.{GivesEach, GainsSeat, MakesRings, holds_of}
 use Rattle.vx_wiring.specs.declared.making.Making.{Making}
 
@@ -30,10 +32,25 @@ pub record Made : Type 0 where
 abbrev pub made_of : Making → Made
 made_of m = record { holds = holds_of m.shares.items; decks = m.decks.items; places = m.places.items }
 
--- the sizes and the numbers of morsels are those of this run
-pub record Models (S : RunModel) (groups morsels : List ℕ) : Type 0 where
-  pub sizes_are : S.sizes ≡ group_at groups
-  pub counts_are : (r : ℕ) → slice_index_or morsels r 0 ≡ morsel_count S.morsel (length (S.db r))
+-- the worker at the root, with nothing
+abbrev pub root_alone : Made
+root_alone = record { holds = record { outs = []; ins = []; draws = [] } ∷ []; decks = []; places = [] }
+
+-- how many morsels a relation has, where these relations have so many
+abbrev pub counts_in : List ℕ → ℕ → ℕ
+counts_in morsels relation = slice_index_or morsels relation 0
+
+-- a shared scan has a deck, and each worker of a whole scan a hand of its own
+abbrev pub IsDealt : (counts : ℕ → ℕ) → Made → ScanSpan → (is_shared : Bool) → Type 0
+IsDealt counts m s true = HasDeck m.decks m.places s.number s.first s.workers (counts s.relation)
+IsDealt counts m s false =
+    (w : ℕ) → w < s.workers → (h : HandState) × DrawAt m.holds (s.first + w) s.number (dealer.Hand h) × (h.morsels ≡ counts s.relation)
+
+-- what a node needs was made: rings between all producers and consumers of an exchange, and what the workers of a scan draw from
+abbrev pub IsMade : (counts : ℕ → ℕ) → Made → NodeSpan → Type 0
+IsMade counts m Inner = Unit {0}
+IsMade counts m (Exchange x) = (i j : ℕ) → i < x.producers → j < x.consumers → PairAt IsRingOf m.holds (x.below + i) j (x.above + j) x.number i
+IsMade counts m (Scan s) = IsDealt counts m s s.is_shared
 
 -- what a worker held, it holds at the same place
 pub record HoldsOn (h g : Hold) : Type 0 where
@@ -64,42 +81,40 @@ pub record IsSound (n i : ℕ) (m : Made) : Type 0 where
   pub places : length m.places ≡ length m.decks
   pub seated : AllSeated m.decks m.places m.holds
 
--- a deck of so many morsels was added for scan n, and its seats were given to the scan's workers, from `top` on
-pub record AddsDeck (n top count m : ℕ) (old new : Made) : Type 0 where
+-- a deck of so many morsels was added for a scan, and its seats were given to the scan's workers
+pub record AddsDeck (s : ScanSpan) (m : ℕ) (old new : Made) : Type 0 where
   pub deck : DeckView
-  pub at : DeckPlace
   pub morsels : deck.morsels ≡ m
-  pub seats : deck.seats ≡ count
-  pub scan : at.scan ≡ n
-  pub first : at.first ≡ top
-  pub workers : at.workers ≡ count
-  pub given : GivesEach (GainsSeat n (length old.decks) deck) old.holds top count new.holds
+  pub seats : deck.seats ≡ s.workers
+  pub given : GivesEach (GainsSeat s.number (length old.decks) deck) old.holds s.first s.workers new.holds
   pub decks : new.decks ≡ old.decks ++ deck ∷ []
-  pub places : new.places ≡ old.places ++ at ∷ []
+  pub places : new.places ≡ old.places ++ record { scan = s.number; first = s.first; workers = s.workers } ∷ []
 
--- producer i of exchange n was added behind the other workers, with a ring to each of so many consumers from `top` on
-pub record AddsProducer (n i top count : ℕ) (old new : Made) : Type 0 where
+-- producer i of an exchange was added behind the other workers, with a ring to each consumer
+pub record AddsProducer (x : ExchangeSpan) (i : ℕ) (old new : Made) : Type 0 where
   pub mid : List Hold
   pub outs : List RingOut
-  pub makes : MakesRings n i old.holds top count outs mid
+  pub makes : MakesRings x i old.holds x.consumers outs mid
   pub holds : new.holds ≡ mid ++ record { outs = outs; ins = []; draws = [] } ∷ []
   pub decks : new.decks ≡ old.decks
   pub places : new.places ≡ old.places
 
--- the first so many producers of exchange n were added, each with a ring to each consumer from `top` on
-pub record AddsProducers (n count top consumers : ℕ) (old new : Made) : Type 0 where
+-- the first so many producers of an exchange were added, each with a ring to each consumer
+pub record AddsProducers (x : ExchangeSpan) (count : ℕ) (old new : Made) : Type 0 where
   pub length_is : length new.holds ≡ length old.holds + count
   pub keeps : Keeps old new
-  pub decks : new.decks ≡ old.decks
-  pub places : new.places ≡ old.places
-  pub sound : IsSound n 0 old → IsSound n count new
-  pub rings : (i j : ℕ) → i < count → j < consumers → PairAt IsRingOf new.holds (length old.holds + i) j (top + j) n i
+  pub sound : IsSound x.number 0 old → IsSound x.number count new
+  pub rings : (i j : ℕ) → i < count → j < x.consumers → PairAt IsRingOf new.holds (length old.holds + i) j (x.above + j) x.number i
 
--- all that the nodes of a plan need was added, and all workers below its top fragment, whose workers begin at `top`
-pub record AddsBelow (S : RunModel) (p : Plan) (top : ℕ) (old new : Made) : Type 0 where
-  pub length_is : length new.holds ≡ length old.holds + workers_below S.sizes p
+-- what a node needs was added, and the producers of an exchange
+pub record AddsSpan (counts : ℕ → ℕ) (s : NodeSpan) (old new : Made) : Type 0 where
+  pub length_is : length new.holds ≡ made_with (length old.holds) s
   pub keeps : Keeps old new
-  pub sound : (n : ℕ) → is_numbered n p ≡ true → IsSound n 0 old → IsSound (n + nodes p) 0 new
-  pub paired : Paired S p top (length old.holds) new.holds
-  pub matched : length old.places ≡ length old.decks → length new.places ≡ length new.decks
-  pub dealing : length old.places ≡ length old.decks → Dealing S new.decks new.places p top (length old.holds) new.holds
+  pub sound : (n : ℕ) → HasNumber n s → IsSound n 0 old → IsSound (n + 1) 0 new × IsMade counts new s
+
+-- all that the first k nodes of a plan need was made, and the others can follow
+pub record AreMade (counts : ℕ → ℕ) (spans : List NodeSpan) (k : ℕ) (m : Made) : Type 0 where
+  pub ordered : AreInOrder k (length m.holds) (drop k spans)
+  pub count : made_after (length m.holds) (drop k spans) ≡ made_after 1 spans
+  pub sound : IsSound k 0 m
+  pub made : All (IsMade counts m) (take k spans)

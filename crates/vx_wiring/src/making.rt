@@ -1,12 +1,9 @@
-//! All workers of a plan, one fragment after the other.
+//! All workers of a plan, one node after the other.
 
 ghost use Rattle.std.specs.Prelude.{◌≡◌, ◌≤◌, ◌+◌, [], ◌∷◌, length, IfOk, OnOk};
-ghost use Rattle.vx_plan_nodes.specs.Outline.{plan_of, size_of, kind_of};
-ghost use Rattle.vx_plan_nodes.specs.Plan.{size, target, scan as scan_at, Claim};
-ghost use Rattle.vx_plan_nodes.specs.Streams.{workers};
-ghost use Rattle.vx_layout.specs.Groups.{group_at};
-ghost use Rattle.vx_worker.specs.Fragment.{RunModel};
-ghost use Rattle.vx_wiring.specs.Sized.{IsSized};
+ghost use Rattle.vx_values.specs.Limits.{max_group_workers, max_rows, max_slack};
+ghost use Rattle.vx_layout.specs.Order.{AreInOrder, Follows};
+ghost use Rattle.vx_layout.specs.declared.span.NodeSpan.TheVariants.{Scan};
 
 use crate::rings::rings_of;
 use crate::scans::{deal_hands, give_seats};
@@ -14,7 +11,7 @@ use crate::shape::Shape;
 use crate::share::Share;
 use std::alloc::{AllocError, Global};
 use vx_decks::SharedDeck;
-use vx_plan_nodes::{ExchangeKind, ScanNode, Size, TypedNode};
+use vx_layout::{ExchangeSpan, NodeSpan, ScanSpan};
 use vx_threads::DeckPlace;
 
 /// What was made so far: the workers' shares by their numbers, the decks, and whose they are.
@@ -26,11 +23,11 @@ pub struct Making {
 }
 
 impl Making {
-    ghost use Rattle.vx_wiring.specs.Making.{AddsDeck, AddsProducer, AddsProducers, AddsBelow, Models, made_of};
+    ghost use Rattle.vx_wiring.specs.Making.{AddsDeck, AddsProducer, AddsProducers, AddsSpan, AreMade, counts_in, made_of, root_alone};
 
-    /// The worker at the root, with nothing yet.
-    pub fn at_root(alloc: Global) -> Result<Making, AllocError>
-        ensures { IfOk result (λ m. made_of m ≡ record { holds = record { outs = []; ins = []; draws = [] } ∷ []; decks = []; places = [] }) }
+    // The worker at the root, with nothing yet.
+    fn at_root(alloc: Global) -> Result<Making, AllocError>
+        ensures { IfOk result (λ m. made_of m ≡ root_alone) }
     {
         let mut shares = Vec::new(alloc);
         shares.push(Share {
@@ -47,28 +44,21 @@ impl Making {
     }
 
     // Adds a deck for a shared scan, and gives its seats to the scan's workers.
-    fn add_deck(
-        &mut self,
-        alloc: Global,
-        scan: u32,
-        top: usize,
-        workers: u32,
-        morsels: u64,
-    ) -> Result<(), AllocError>
-        requires there { top + workers ≤ length self.old.shares.items }
-        requires few { (1 ≤ workers) × (workers ≤ 64) }
-        requires small { morsels ≤ 100000000 }
-        ensures { OnOk result (AddsDeck scan top workers morsels (made_of self.old) (made_of self.new)) }
+    fn add_deck(&mut self, alloc: Global, scan: ScanSpan, morsels: u64) -> Result<(), AllocError>
+        requires there { scan.first + scan.workers ≤ length self.old.shares.items }
+        requires few { (1 ≤ scan.workers) × (scan.workers ≤ max_group_workers) }
+        requires small { morsels ≤ max_rows }
+        ensures { OnOk result (AddsDeck scan morsels (made_of self.old) (made_of self.new)) }
     {
-        let made = SharedDeck::new(alloc, morsels, workers)?;
+        let made = SharedDeck::new(alloc, morsels, scan.workers)?;
         let (deck, seats) = made;
         let number = self.decks.len();
-        give_seats(&mut self.shares, scan, top, number, seats)?;
+        give_seats(&mut self.shares, scan, number, seats)?;
         self.decks.push(deck)?;
         self.places.push(DeckPlace {
-            scan,
-            first: top,
-            workers,
+            scan: scan.number,
+            first: scan.first,
+            workers: scan.workers,
         })?;
         Ok(())
     }
@@ -78,22 +68,17 @@ impl Making {
         &mut self,
         alloc: Global,
         shape: &Shape<'_>,
-        number: u32,
-        scan: &ScanNode,
-        top: usize,
+        scan: ScanSpan,
     ) -> Result<(), AllocError>
-        requires { top + workers (group_at shape.now.groups.now) (size_of scan.now.size) ≤ length self.old.shares.items }
-        ensures grows { OnOk result (length self.old.shares.items ≤ length self.new.shares.items) }
-        ensures added { OnOk result ((S : RunModel) → Models S shape.now.groups.now shape.now.morsels.now
-            → (c : Claim) → AddsBelow S (scan_at number c scan.now.relation scan.now.shared (size_of scan.now.size)) top (made_of self.old) (made_of self.new)) }
+        requires { Follows (length self.old.shares.items) (Scan scan) }
+        ensures { OnOk result (AddsSpan (counts_in shape.now.morsels.now) (Scan scan) (made_of self.old) (made_of self.new)) }
     {
-        let workers = shape.workers(scan.size);
         let morsels = shape.morsels(scan.relation);
-        if scan.shared {
-            self.add_deck(alloc, number, top, workers, morsels)?;
+        if scan.is_shared {
+            self.add_deck(alloc, scan, morsels)?;
             return Ok(());
         }
-        deal_hands(&mut self.shares, number, top, workers, morsels)?;
+        deal_hands(&mut self.shares, scan, morsels)?;
         Ok(())
     }
 
@@ -101,114 +86,75 @@ impl Making {
     fn add_producer(
         &mut self,
         alloc: Global,
-        exchange: u32,
+        exchange: ExchangeSpan,
         from: u32,
-        top: usize,
-        consumers: u32,
         slack: u32,
     ) -> Result<(), AllocError>
-        requires there { top + consumers ≤ length self.old.shares.items }
+        requires there { exchange.above + exchange.consumers ≤ length self.old.shares.items }
         requires some { 1 ≤ slack }
-        requires few { slack ≤ 1024 }
-        ensures { OnOk result (AddsProducer exchange from top consumers (made_of self.old) (made_of self.new)) }
+        requires few { slack ≤ max_slack }
+        ensures { OnOk result (AddsProducer exchange from (made_of self.old) (made_of self.new)) }
     {
-        let outs = rings_of(
-            alloc,
-            &mut self.shares,
-            exchange,
-            from,
-            top,
-            consumers,
-            slack,
-        )?;
+        let outs = rings_of(alloc, &mut self.shares, exchange, from, slack)?;
         self.shares.push(Share {
             outs,
-            consumers: top,
+            consumers: exchange.above,
             ins: Vec::new(alloc),
             draws: Vec::new(alloc),
         })?;
         Ok(())
     }
 
-    // Adds all producers of an exchange, whose consumers are the workers from `top` on.
+    // Adds all producers of an exchange, each with a ring to each consumer.
     fn add_producers(
         &mut self,
         alloc: Global,
-        exchange: u32,
-        producers: u32,
-        top: usize,
-        consumers: u32,
+        exchange: ExchangeSpan,
         slack: u32,
     ) -> Result<(), AllocError>
-        requires there { top + consumers ≤ length self.old.shares.items }
+        requires there { exchange.above + exchange.consumers ≤ length self.old.shares.items }
         requires some { 1 ≤ slack }
-        requires few { slack ≤ 1024 }
-        ensures { OnOk result (AddsProducers exchange producers top consumers (made_of self.old) (made_of self.new)) }
+        requires few { slack ≤ max_slack }
+        ensures { OnOk result (AddsProducers exchange exchange.producers (made_of self.old) (made_of self.new)) }
     {
-        for from in 0..producers {
-            self.add_producer(alloc, exchange, from, top, consumers, slack)?;
+        for from in 0..exchange.producers {
+            self.add_producer(alloc, exchange, from, slack)?;
         }
         Ok(())
     }
 
-    // Adds the rings of an exchange with its producers.
-    fn add_exchange(
+    // Adds what a node needs, by its span.
+    fn add_span(
         &mut self,
         alloc: Global,
         shape: &Shape<'_>,
-        number: u32,
-        kind: &ExchangeKind,
-        producers: Size,
-        top: usize,
+        span: NodeSpan,
     ) -> Result<(), AllocError>
-        requires { top + workers (group_at shape.now.groups.now) (target (kind_of kind.now)) ≤ length self.old.shares.items }
-        ensures grows { OnOk result (length self.old.shares.items ≤ length self.new.shares.items) }
-        ensures added { OnOk result (AddsProducers number (workers (group_at shape.now.groups.now) (size_of producers)) top
-            (workers (group_at shape.now.groups.now) (target (kind_of kind.now))) (made_of self.old) (made_of self.new)) }
+        requires { Follows (length self.old.shares.items) span }
+        ensures { OnOk result (AddsSpan (counts_in shape.now.morsels.now) span (made_of self.old) (made_of self.new)) }
     {
-        let below = shape.workers(producers);
-        let target = kind.target();
-        let above = shape.workers(target);
-        self.add_producers(alloc, number, below, top, above, shape.slack())?;
-        Ok(())
-    }
-
-    /// Adds what the nodes of a plan need, and the workers of all fragments below its top one, whose workers begin with
-    /// number `top`.
-    pub fn add_below(
-        &mut self,
-        alloc: Global,
-        shape: &Shape<'_>,
-        node: &TypedNode,
-        top: usize,
-    ) -> Result<(), AllocError>
-        requires sized { IsSized (group_at shape.now.groups.now) (plan_of node.now) }
-        requires there { top + workers (group_at shape.now.groups.now) (size (plan_of node.now)) ≤ length self.old.shares.items }
-        ensures grows { OnOk result (length self.old.shares.items ≤ length self.new.shares.items) }
-        ensures added { OnOk result ((S : RunModel) → Models S shape.now.groups.now shape.now.morsels.now
-            → AddsBelow S (plan_of node.now) top (made_of self.old) (made_of self.new)) }
-    {
-        match node {
-            TypedNode::Scan(head, scan) => {
-                self.add_scan(alloc, shape, head.number, scan, top)?;
+        match span {
+            NodeSpan::Inner => return Ok(()),
+            NodeSpan::Exchange(exchange) => {
+                self.add_producers(alloc, exchange, shape.slack())?;
                 return Ok(());
             }
-            TypedNode::Unary(_, _, input) => {
-                self.add_below(alloc, shape, input, top)?;
-                return Ok(());
-            }
-            TypedNode::Binary(_, _, left, right) => {
-                self.add_below(alloc, shape, left, top)?;
-                self.add_below(alloc, shape, right, top)?;
-                return Ok(());
-            }
-            TypedNode::Exchange(head, exchange, input) => {
-                let next = self.shares.len();
-                let size = input.size();
-                self.add_exchange(alloc, shape, head.number, &exchange.kind, size, top)?;
-                self.add_below(alloc, shape, input, next)?;
+            NodeSpan::Scan(scan) => {
+                self.add_scan(alloc, shape, scan)?;
                 return Ok(());
             }
         }
+    }
+
+    /// What all nodes of a plan need, by their spans, and all workers of the plan.
+    pub fn of(alloc: Global, shape: &Shape<'_>, spans: &[NodeSpan]) -> Result<Making, AllocError>
+        requires { AreInOrder 0 1 spans.now }
+        ensures { IfOk result (λ m. AreMade (counts_in shape.now.morsels.now) spans.now (length spans.now) (made_of m)) }
+    {
+        let mut making = Making::at_root(alloc)?;
+        for node in 0..spans.len() {
+            making.add_span(alloc, shape, spans[node])?;
+        }
+        Ok(making)
     }
 }

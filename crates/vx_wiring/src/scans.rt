@@ -2,51 +2,46 @@
 
 ghost use Rattle.std.specs.Prelude.{◌≤◌, ◌+◌, length, OnOk};
 ghost use Rattle.std.specs.List.{All};
+ghost use Rattle.vx_values.specs.Limits.{max_rows};
 ghost use Rattle.vx_decks.specs.Seats.{DeckView, IsNewSeat};
 ghost use Rattle.vx_wiring.specs.Giving.{GainsHand, GainsSeat, GivesEach, holds_of};
 
 use crate::share::{Share, give_drawer};
 use std::alloc::AllocError;
 use vx_decks::DeckSeat;
+use vx_layout::ScanSpan;
 use vx_morsel::Hand;
 use vx_threads::{Dealer, Drawer};
 
-/// Gives each of so many workers from `top` on a hand with all morsels of a scan.
-pub fn deal_hands(
-    shares: &mut Vec<Share>,
-    scan: u32,
-    top: usize,
-    workers: u32,
-    morsels: u64,
-) -> Result<(), AllocError>
-    requires there { top + workers ≤ length shares.old.items }
-    requires small { morsels ≤ 100000000 }
-    ensures { OnOk result (GivesEach (GainsHand scan morsels) (holds_of shares.old.items) top workers (holds_of shares.new.items)) }
+/// Gives each worker of a scan a hand with all its morsels.
+pub fn deal_hands(shares: &mut Vec<Share>, scan: ScanSpan, morsels: u64) -> Result<(), AllocError>
+    requires there { scan.first + scan.workers ≤ length shares.old.items }
+    requires small { morsels ≤ max_rows }
+    ensures { OnOk result (GivesEach (GainsHand scan.number morsels) (holds_of shares.old.items) scan.first scan.workers (holds_of shares.new.items)) }
 {
-    for place in 0..workers {
+    for place in 0..scan.workers {
         let hand = Hand::new(0, 1, morsels);
-        let drawer = Drawer::new(scan, Dealer::Hand(hand));
-        give_drawer(shares, top + place as usize, drawer)?;
+        let drawer = Drawer::new(scan.number, Dealer::Hand(hand));
+        give_drawer(shares, scan.first + place as usize, drawer)?;
     }
     Ok(())
 }
 
-/// Gives the seats of a deck, which has this number among all decks, to the workers of its scan from `top` on.
+/// Gives the seats of a deck, which has this number among all decks, to the workers of its scan.
 pub fn give_seats(
     shares: &mut Vec<Share>,
-    scan: u32,
-    top: usize,
+    scan: ScanSpan,
     deck: usize,
     seats: Vec<DeckSeat>,
 ) -> Result<(), AllocError>
-    requires there { top + length seats.items ≤ length shares.old.items }
+    requires there { scan.first + length seats.items ≤ length shares.old.items }
     ensures { OnOk result ((d : DeckView) → All (IsNewSeat d) seats.items
-        → GivesEach (GainsSeat scan deck d) (holds_of shares.old.items) top (length seats.items) (holds_of shares.new.items)) }
+        → GivesEach (GainsSeat scan.number deck d) (holds_of shares.old.items) scan.first (length seats.items) (holds_of shares.new.items)) }
 {
     let mut place = 0;
     for seat in seats {
-        let drawer = Drawer::new(scan, Dealer::Seat(deck, seat));
-        give_drawer(shares, top + place, drawer)?;
+        let drawer = Drawer::new(scan.number, Dealer::Seat(deck, seat));
+        give_drawer(shares, scan.first + place, drawer)?;
         place += 1;
     }
     Ok(())

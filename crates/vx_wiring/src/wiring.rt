@@ -1,11 +1,12 @@
 //! What the threads of a plan's workers hold before the first step.
 
-ghost use Rattle.std.specs.Prelude.{◌≡◌, ◌≤◌, ℕ, true, length, map, slice_index_or, IfOk};
+ghost use Rattle.std.specs.Prelude.{◌≡◌, ◌≤◌, ℕ, length, map, slice_index_or, IfOk};
 ghost use Rattle.std.specs.List.{All};
-ghost use Rattle.vx_plan_nodes.specs.Numbering.{is_numbered};
-ghost use Rattle.vx_plan_nodes.specs.Outline.{plan_of};
-ghost use Rattle.vx_plan_nodes.specs.Plan.{is_one, size};
-ghost use Rattle.vx_layout.specs.Groups.{IsWithin, group_at};
+ghost use Rattle.vx_values.specs.Limits.{max_rows, max_slack};
+ghost use Rattle.vx_plan_nodes.specs.Plan.{Plan};
+ghost use Rattle.vx_plan_nodes.specs.Workers.{IsWithin};
+ghost use Rattle.vx_layout.specs.Layout.{spans_of};
+ghost use Rattle.vx_layout.specs.Order.{AreInOrder};
 ghost use Rattle.vx_worker.specs.Fragment.{RunModel};
 ghost use Rattle.vx_worker.specs.Morsels.{morsel_count};
 ghost use Rattle.vx_threads.specs.Carrying.{hold_of};
@@ -13,14 +14,13 @@ ghost use Rattle.vx_threads.specs.Drawers.{Sits};
 ghost use Rattle.vx_threads.specs.Wired.{IsWired};
 ghost use Rattle.vx_threads.specs.declared.ends.Ends.{Ends as TheEnds};
 ghost use Rattle.vx_wiring.specs.Giving.{holds_of};
-ghost use Rattle.vx_wiring.specs.Sized.{IsSized};
 
 use crate::making::Making;
 use crate::shape::Shape;
 use crate::share::Share;
 use std::alloc::{AllocError, Global};
 use vx_decks::SharedDeck;
-use vx_plan_nodes::TypedNode;
+use vx_layout::Layout;
 use vx_threads::{DeckPlace, Ends};
 
 /// What the threads of a plan's workers hold before the first step.
@@ -46,30 +46,24 @@ fn ends_of(alloc: Global, shares: Vec<Share>) -> Result<Vec<Ends>, AllocError>
 }
 
 /// One ring of `slack` packets for each producer and consumer of each exchange, one deck for each shared scan with a
-/// seat for each of its workers, and a hand for each worker of any other scan. `groups` has the workers of each size
-/// name, `morsels` how many morsels each relation has; past its end a relation has none. The workers' numbers: the
-/// root's is 0, and then those of the producers of each exchange by their places, the exchanges in the order of their
-/// node numbers.
+/// seat for each of its workers, and a hand for each worker of any other scan. `morsels` has how many morsels each
+/// relation has; past its end a relation has none. The workers' numbers are those of the layout.
 pub fn wiring_of(
     alloc: Global,
-    root: &TypedNode,
-    groups: &[u32],
+    layout: &Layout,
     morsels: &[u64],
     slack: u32,
 ) -> Result<Wiring, AllocError>
-    requires within { All (IsWithin 1 64) groups.now }
-    requires small { All (λ m. m ≤ 100000000) morsels.now }
-    requires slack { IsWithin 1 1024 slack }
-    requires numbered { is_numbered 0 (plan_of root.now) ≡ true }
-    requires sized { IsSized (group_at groups.now) (plan_of root.now) }
-    requires one { is_one (size (plan_of root.now)) ≡ true }
-    ensures wired { (S : RunModel) → S.sizes ≡ group_at groups.now → ((r : ℕ) → slice_index_or morsels.now r 0 ≡ morsel_count S.morsel (length (S.db r)))
-        → IfOk result (λ w. IsWired S (plan_of root.now) w.decks.items w.places.items (map hold_of w.ends.items)) }
+    requires small { All (λ m. m ≤ max_rows) morsels.now }
+    requires slack { IsWithin 1 max_slack slack }
+    requires ordered { AreInOrder 0 1 layout.now.spans.items }
+    ensures wired { (S : RunModel) (p : Plan) → layout.now.spans.items ≡ spans_of S.sizes p 0 1
+        → ((r : ℕ) → slice_index_or morsels.now r 0 ≡ morsel_count S.morsel (length (S.db r)))
+        → IfOk result (λ w. IsWired S p w.decks.items w.places.items (map hold_of w.ends.items)) }
     ensures sits { IfOk result (λ w. All (λ (e : TheEnds). All (Sits w.decks.items) e.draws.items) w.ends.items) }
 {
-    let shape = Shape::new(groups, morsels, slack);
-    let mut making = Making::at_root(alloc)?;
-    making.add_below(alloc, &shape, root, 0)?;
+    let shape = Shape::new(morsels, slack);
+    let making = Making::of(alloc, &shape, layout.spans())?;
     let Making {
         shares,
         decks,

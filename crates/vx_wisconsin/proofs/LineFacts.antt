@@ -7,7 +7,8 @@ use Rattle.std.specs.Fmt.{decimal}
 use Rattle.csv.specs.Writing.{default_writer, fields_text, row_body, is_blank}
 use Rattle.vx_values.specs.Values.{num}
 use Rattle.vx_catalog.specs.Csv.{field_text, line_text}
-use Rattle.vx_wisconsin.specs.Wisconsin.{max_rows, unique1, numbers, text_of, string4, row_of}
+use Rattle.vx_wisconsin.specs.Wisconsin.{unique1, numbers, text_of, string4, row_of}
+use Rattle.vx_values.specs.Limits.{max_generated_rows}
 use Rattle.vx_wisconsin.specs.Line.{number_text}
 use Rattle.vx_wisconsin.proofs.Unique.{unique1-below}
 use Rattle.vx_wisconsin.proofs.Plain.{Plain, number-plain, text-plain, string4-plain, plain-field}
@@ -65,7 +66,7 @@ line-before n i rest h k = ap (λ (l : List ℕ). l ++ rest) (line-is n i h k) �
     again f a b c = simp append_assoc
 
 -- a line that was put part by part before the rest
-pub line-put : (n i u : ℕ) (ks rest l1 l2 l3 l4 : List ℕ) → i < n → n ≤ max_rows → u ≡ unique1 n i → ks ≡ numbers u i
+pub line-put : (n i u : ℕ) (ks rest l1 l2 l3 l4 : List ℕ) → i < n → n ≤ max_generated_rows → u ≡ unique1 n i → ks ≡ numbers u i
     → l1 ≡ string4 i ++ 10 ∷ rest → l2 ≡ text_of i ++ 44 ∷ l1 → l3 ≡ text_of u ++ 44 ∷ l2 → l4 ≡ flat_map number_text ks ++ l3
     → l4 ≡ line_text (row_of n i) ++ rest
 line-put n i u ks rest l1 l2 l3 l4 h k eu ek e1 e2 e3 e4 =

@@ -20,7 +20,8 @@ use Rattle.vx_catalog.specs.Loading.{records_of, is_header, names_from, load_of}
 use Rattle.vx_catalog.specs.Meaning.{IsRowOf}
 use Rattle.vx_catalog.proofs.NumberFacts.{with_none}
 use Rattle.vx_catalog.proofs.Meant.{texts_load_exactly}
-use Rattle.vx_wisconsin.specs.Wisconsin.{max_rows, unique1, numbers, seven_letters, text_of, string4, row_of, wisconsin, column_names, relation_named, WisconsinLaw}
+use Rattle.vx_wisconsin.specs.Wisconsin.{unique1, numbers, seven_letters, text_of, string4, row_of, wisconsin, column_names, relation_named, WisconsinLaw}
+use Rattle.vx_values.specs.Limits.{max_generated_rows}
 use Rattle.vx_wisconsin.specs.Line.{number_text}
 use Rattle.vx_wisconsin.proofs.Unique.{unique1-below}
 use Rattle.vx_wisconsin.proofs.LineFacts.{number_fields, line-is}
@@ -49,7 +50,7 @@ small : (u i : ℕ) → u < 9223372036854775808 → i < 9223372036854775808 → 
 small u i h k =
     (h, (k, (omega arith, (omega arith, (omega arith, (omega arith, (omega arith, (omega arith, (omega arith, (omega arith, (h, (omega arith, (omega arith, tt)))))))))))))
 
-row-read : (name : List ℕ) (n i : ℕ) → i < n → n ≤ max_rows → IsRowOf (relation_named name).types (map field_text (row_of n i)) (row_of n i)
+row-read : (name : List ℕ) (n i : ℕ) → i < n → n ≤ max_generated_rows → IsRowOf (relation_named name).types (map field_text (row_of n i)) (row_of n i)
 unfolding row_of
 row-read name n i h k =
     let below = unique1-below n i h in
@@ -57,7 +58,7 @@ row-read name n i h k =
     numbers-read (numbers u i) (replicate 3 Text) (text_of u ∷ text_of i ∷ string4 i ∷ []) (text (text_of u) ∷ text (text_of i) ∷ text (string4 i) ∷ []) (small u i (omega arith) (omega arith))
     ((text-held u, refl), ((text-held i, refl), ((string4-held i, refl), tt)))
 
-rows-read : (name : List ℕ) (n a m : ℕ) → a + m ≤ n → n ≤ max_rows → AllZip (IsRowOf (relation_named name).types) (fields_of (map (row_of n) (range_with_len a m))) (map (row_of n) (range_with_len a m))
+rows-read : (name : List ℕ) (n a m : ℕ) → a + m ≤ n → n ≤ max_generated_rows → AllZip (IsRowOf (relation_named name).types) (fields_of (map (row_of n) (range_with_len a m))) (map (row_of n) (range_with_len a m))
 rows-read name n a zero h k = tt
 rows-read name n a (suc m) h k = (row-read name n a (omega arith) k, rows-read name n (a + 1) m (omega arith) k)
 
@@ -153,7 +154,7 @@ parts-long f a b c h p q r =
     let z = length-append c (10 ∷ []) in
     omega arith
 
-line-short : (n i : ℕ) → i < n → n ≤ max_rows → length (line_text (row_of n i)) ≤ 432
+line-short : (n i : ℕ) → i < n → n ≤ max_generated_rows → length (line_text (row_of n i)) ≤ 432
 line-short n i h k =
     let below = unique1-below n i h in
     let u : ℕ = unique1 n i in
@@ -161,7 +162,7 @@ line-short n i h k =
     let l = parts-long (flat_map number_text (numbers u i)) (text_of u) (text_of i) (string4 i) (numbers-short (numbers u i) (small u i (omega arith) (omega arith))) (text-long u) (text-long i) (string4-long i) in
     omega (arith, e, l)
 
-lines-short : (n a m : ℕ) → a + m ≤ n → n ≤ max_rows → length (flat_map line_text (map (row_of n) (range_with_len a m))) ≤ m * 432
+lines-short : (n a m : ℕ) → a + m ≤ n → n ≤ max_generated_rows → length (flat_map line_text (map (row_of n) (range_with_len a m))) ≤ m * 432
 lines-short n a zero h k = omega arith
 lines-short n a (suc m) h k =
     let one = line-short n a (omega arith) k in
@@ -172,7 +173,7 @@ lines-short n a (suc m) h k =
 header-long : ◌≡◌ {A = ℕ} (length (row_text default_writer column_names)) 148
 header-long = ap length header-is
 
-text-short : (n : ℕ) → n ≤ max_rows → length (csv_text column_names (wisconsin n)) ≤ 1099511627776
+text-short : (n : ℕ) → n ≤ max_generated_rows → length (csv_text column_names (wisconsin n)) ≤ 1099511627776
 text-short n h =
     let a = header-long in
     let b = lines-short n 0 n (omega arith) h in
@@ -181,7 +182,7 @@ text-short n h =
 
 -- ---- the law
 
-pub text-loads : (name : List ℕ) (n : ℕ) → n ≤ max_rows → load_of (relation_named name) (csv_text column_names (wisconsin n)) ≡ Ok (wisconsin n)
+pub text-loads : (name : List ℕ) (n : ℕ) → n ≤ max_generated_rows → load_of (relation_named name) (csv_text column_names (wisconsin n)) ≡ Ok (wisconsin n)
 text-loads name n h =
     let meets = rows-meet name n h in
     let many = size n in

@@ -11,12 +11,13 @@ use Rattle.std.proofs.lemmas.List.FromFn.{length-map-range_with_len, get_or-map-
 use Rattle.vx_values.specs.Values.{num, text, Row, row_cmp}
 use Rattle.vx_values.specs.Types.{is_held, Fits}
 use Rattle.vx_values.proofs.Booleans.{and-both}
-use Rattle.vx_rows.specs.Order.{compare_on, agree}
-use Rattle.vx_rows.proofs.Order.{NoFall, sorted_from}
-use Rattle.vx_rows.proofs.ClashFacts.{Apart}
-use Rattle.vx_rows.proofs.KeyFacts.{to-key, apart-key}
+use Rattle.vx_values.specs.Order.{compare_on, agree}
+use Rattle.vx_values.proofs.Order.{NoFall, sorted_from}
+use Rattle.vx_values.proofs.ClashFacts.{Apart}
+use Rattle.vx_values.proofs.KeyFacts.{to-key, apart-key}
 use Rattle.vx_relations.specs.Relation.{Meets}
-use Rattle.vx_wisconsin.specs.Wisconsin.{max_rows, unique1, numbers, letter, seven_letters, filler, text_of, string4, row_of, wisconsin, relation_named}
+use Rattle.vx_wisconsin.specs.Wisconsin.{unique1, numbers, letter, seven_letters, filler, text_of, string4, row_of, wisconsin, relation_named}
+use Rattle.vx_values.specs.Limits.{max_generated_rows}
 use Rattle.vx_wisconsin.proofs.Unique.{unique1-below, unique1-apart}
 
 -- ---- the rows by their numbers
@@ -115,7 +116,7 @@ small : (u i : ℕ) → u ≤ 9223372036854775807 → i ≤ 9223372036854775807 
 small u i h k =
     (h, (k, (omega arith, (omega arith, (omega arith, (omega arith, (omega arith, (omega arith, (omega arith, (omega arith, (h, (omega arith, (omega arith, tt)))))))))))))
 
-row-fits : (name : List ℕ) (n i : ℕ) → i < n → n ≤ max_rows → Fits (relation_named name).types (row_of n i)
+row-fits : (name : List ℕ) (n i : ℕ) → i < n → n ≤ max_generated_rows → Fits (relation_named name).types (row_of n i)
 unfolding row_of
 row-fits name n i h k =
     let below = unique1-below n i h in
@@ -124,13 +125,13 @@ row-fits name n i h k =
       values_are = numbers-held (numbers (unique1 n i) i) (text (text_of (unique1 n i)) ∷ text (text_of i) ∷ text (string4 i) ∷ []) (small (unique1 n i) i (omega arith) (omega arith)) (texts-held (unique1 n i) i);
     }
 
-rows-fit : (name : List ℕ) (n a m : ℕ) → a + m ≤ n → n ≤ max_rows → AllByRecursion (Fits (relation_named name).types) (map (row_of n) (range_with_len a m))
+rows-fit : (name : List ℕ) (n a m : ℕ) → a + m ≤ n → n ≤ max_generated_rows → AllByRecursion (Fits (relation_named name).types) (map (row_of n) (range_with_len a m))
 rows-fit name n a zero h k = tt
 rows-fit name n a (suc m) h k = (row-fits name n a (omega arith) k, rows-fit name n (a + 1) m (omega arith) k)
 
 -- ---- the law
 
-pub rows-meet : (name : List ℕ) (n : ℕ) → n ≤ max_rows → Meets (relation_named name) (wisconsin n)
+pub rows-meet : (name : List ℕ) (n : ℕ) → n ≤ max_generated_rows → Meets (relation_named name) (wisconsin n)
 rows-meet name n h = record {
   fit = rows-fit name n 0 n (omega arith) h;
   keys = (to-key (0 ∷ []) (wisconsin n) (apart-key (0 ∷ []) (wisconsin n) (first-apart n)), (to-key (1 ∷ []) (wisconsin n) (apart-key (1 ∷ []) (wisconsin n) (second-apart n)), tt));

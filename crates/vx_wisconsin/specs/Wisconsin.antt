@@ -6,10 +6,7 @@ use Rattle.vx_values.specs.declared.value.ColType.TheVariants.{Int, Text}
 use Rattle.vx_catalog.specs.Csv.{csv_text}
 use Rattle.vx_catalog.specs.Loading.{load_of}
 use Rattle.vx_relations.specs.Relation.{Relation, Meets}
-
--- the most rows that it may have
-abbrev pub max_rows : ℕ
-max_rows = 10_000_000
+use Rattle.vx_values.specs.Limits.{max_generated_rows}
 
 -- the first column of row i of n: the numbers below n, the small ones in the even rows and the others in the odd ones
 unfoldable pub unique1 : ℕ → ℕ → ℕ
@@ -65,5 +62,5 @@ relation_named name = record { name = name; names = column_names; types = replic
 -- the rows are as many as asked for; they fit, have both keys and are sorted; and their text is loaded as these rows
 pub record WisconsinLaw : Type 0 where
   pub many : (n : ℕ) → length (wisconsin n) ≡ n
-  pub meets : (name : List ℕ) (n : ℕ) → n ≤ max_rows → Meets (relation_named name) (wisconsin n)
-  pub loads : (name : List ℕ) (n : ℕ) → n ≤ max_rows → load_of (relation_named name) (csv_text column_names (wisconsin n)) ≡ Ok (wisconsin n)
+  pub meets : (name : List ℕ) (n : ℕ) → n ≤ max_generated_rows → Meets (relation_named name) (wisconsin n)
+  pub loads : (name : List ℕ) (n : ℕ) → n ≤ max_generated_rows → load_of (relation_named name) (csv_text column_names (wisconsin n)) ≡ Ok (wisconsin n)

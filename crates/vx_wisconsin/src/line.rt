@@ -3,7 +3,8 @@
 
 ghost use Rattle.std.specs.Prelude.{◌≡◌, ◌+◌, ◌*◌, ◌<◌, ◌≤◌, ◌∷◌, ◌++◌, length, drop, flat_map};
 ghost use Rattle.vx_catalog.specs.Csv.{line_text};
-ghost use Rattle.vx_wisconsin.specs.Wisconsin.{max_rows, unique1, numbers, letter, seven_letters, text_of, string4, row_of};
+ghost use Rattle.vx_wisconsin.specs.Wisconsin.{unique1, numbers, letter, seven_letters, text_of, string4, row_of};
+ghost use Rattle.vx_values.specs.Limits.{max_generated_rows};
 ghost use Rattle.vx_wisconsin.specs.Line.{number_text};
 
 use itoa::write_digits;
@@ -21,7 +22,7 @@ const TURNS: [u8; 4] = *b"AHOV";
 // The first column of row `i` of `rows`.
 #[tactic(auto, unfolding(crate::specs::Wisconsin::unique1))]
 fn unique1(rows: u64, i: u64) -> u64
-    requires { (rows ≤ max_rows) × (i < rows) }
+    requires { (rows ≤ max_generated_rows) × (i < rows) }
     ensures { result ≡ unique1 rows i }
 {
     if i % 2 == 0 {
@@ -135,7 +136,7 @@ fn put_string4(buffer: &mut [u8], end: usize, i: u64) -> usize
 
 /// Puts the line of row `i` of `rows` before `end`, and returns where it starts.
 pub fn put_line(buffer: &mut [u8], end: usize, rows: u64, i: u64) -> usize
-    requires row { (rows ≤ max_rows) × (i < rows) }
+    requires row { (rows ≤ max_generated_rows) × (i < rows) }
     requires room { (432 ≤ end) × (end ≤ length buffer.old) }
     ensures start { (result ≤ end) × (end ≤ result + 432) }
     ensures text { drop result buffer.new ≡ line_text (row_of rows i) ++ drop end buffer.old }

@@ -6,14 +6,14 @@ ghost use Rattle.std.specs.Io.KnownBytes.{Appends};
 ghost use Rattle.csv.specs.Writing.{row_text, default_writer};
 ghost use Rattle.vx_catalog.specs.Csv.{line_text, csv_text};
 ghost use Rattle.vx_relations.specs.Relation.{Meets};
-ghost use Rattle.vx_wisconsin.specs.Wisconsin.{max_rows, row_of, wisconsin, column_names, relation_named, WisconsinLaw};
+ghost use Rattle.vx_wisconsin.specs.Wisconsin.{row_of, wisconsin, column_names, relation_named, WisconsinLaw};
+ghost use Rattle.vx_values.specs.Limits.{max_generated_rows};
 
 use crate::fault::GenerateFault;
 use crate::line::{LINE_BYTES, put_line};
 use std::alloc::Global;
 use vx_bytes::{Broken, ByteOut, write_all};
-
-const MAX_ROWS: u64 = 10_000_000;
+use vx_values::limits::MAX_GENERATED_ROWS;
 
 // How many rows go to the writer at a time.
 const BLOCK_ROWS: u64 = 150;
@@ -25,7 +25,7 @@ const HEADER: &[u8] =
 
 // Puts the lines of the rows `from` to `to`, without `to`, at the buffer's end, and returns where they start.
 fn put_lines(buffer: &mut [u8], rows: u64, from: u64, to: u64) -> usize
-    requires rows { (rows ≤ max_rows) × (from ≤ to) × (to ≤ rows) }
+    requires rows { (rows ≤ max_generated_rows) × (from ≤ to) × (to ≤ rows) }
     requires room { (to - from) * 432 ≤ length buffer.old }
     ensures within { result ≤ length buffer.new }
     ensures text { drop result buffer.new ≡ flat_map line_text (map (row_of rows) (range_with_len from (to - from))) }
@@ -49,7 +49,7 @@ fn write_header<W: ByteOut>(writer: &mut W) -> Result<(), Broken>
 
 // Writes the lines of the rows, over a buffer with room for those of a block.
 fn write_lines<W: ByteOut>(writer: &mut W, buffer: &mut [u8], rows: u64) -> Result<(), Broken>
-    requires rows { rows ≤ max_rows }
+    requires rows { rows ≤ max_generated_rows }
     requires room { length buffer.old ≡ 150 * 432 }
     ensures text { OnOk result (Appends (W.contents writer.old) (W.contents writer.new) (flat_map line_text (wisconsin rows))) }
     ensures fails { W.has_failed writer.new ≡ (W.has_failed writer.old || is_err result) }
@@ -72,12 +72,12 @@ pub fn generate<W: ByteOut>(alloc: Global, rows: u64, writer: &mut W) -> Result<
     ensures whole { OnOk result (W.has_failed writer.new ≡ W.has_failed writer.old) }
 
     // The number of rows is tested first, and memory is taken before the first write.
-    ensures large { (max_rows < rows) ↔ IsErrOf result GenerateFault.TooLarge }
+    ensures large { (max_generated_rows < rows) ↔ IsErrOf result GenerateFault.TooLarge }
     ensures untouched { IsErrOf result GenerateFault.TooLarge → writer.new ≡ writer.old }
     ensures memory { IsErrOf result GenerateFault.NoMemory → writer.new ≡ writer.old }
     ensures failed { IsErrOf result GenerateFault.WriteFailed → W.has_failed writer.new ≡ true }
 {
-    if rows > MAX_ROWS {
+    if rows > MAX_GENERATED_ROWS {
         return Err(GenerateFault::TooLarge);
     }
     let mut buffer = vec![in alloc; 0; BLOCK_BYTES]?;

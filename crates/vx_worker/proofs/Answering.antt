@@ -16,8 +16,8 @@ use Rattle.vx_worker.specs.declared.wish.Wish.TheVariants as wish
 use Rattle.vx_worker.specs.declared.intake.Intake.{Intake}
 use Rattle.vx_worker.specs.declared.intake.Drained.TheVariants as drained
 use Rattle.vx_worker.specs.declared.worker.Worker.{Worker}
-use Rattle.vx_worker.specs.declared.worker.Phase.{Phase}
-use Rattle.vx_worker.specs.declared.worker.Phase.TheVariants.{Running, Draining}
+use Rattle.vx_worker.specs.declared.worker.WorkerState.{WorkerState}
+use Rattle.vx_worker.specs.declared.worker.WorkerState.TheVariants.{Running, Draining}
 
 -- what was asked for where no packet came
 pub record CameNot (x : Wish) (e : Event) : Type 0 where
@@ -58,12 +58,12 @@ module _ {O S : Type 0} (OS : O → Ledger → Type 0) (want : O → Want) (refu
   ]
 
   -- none came while it takes and drops, or memory was refused
-  pub drains-none : (phase : Phase) (w v : Worker O S) (f : Fault) (e : Event) → phase ≡ Draining f → DrainFinds lacks w.intake drained.Nothing e → Waits want refuses lacks phase w.tree w.intake v e
+  pub drains-none : (phase : WorkerState) (w v : Worker O S) (f : Fault) (e : Event) → phase ≡ Draining f → DrainFinds lacks w.intake drained.Nothing e → Waits want refuses lacks phase w.tree w.intake v e
   drains-none phase w v f idle here h = no_memory f here h refl
   drains-none phase w v f (took_one x i None) here h = none_drains f x i here h refl
   drains-none phase w v f e here h = elim h [ ]
 
   -- a packet was taken and dropped
-  pub drains-one : (phase : Phase) (w v : Worker O S) (e : Event) → DrainFinds lacks w.intake drained.Dropped e → Moves OS want phase w.tree w.intake v e
+  pub drains-one : (phase : WorkerState) (w v : Worker O S) (e : Event) → DrainFinds lacks w.intake drained.Dropped e → Moves OS want phase w.tree w.intake v e
   drains-one phase w v (took_one x i (Some p)) h = by_event tt
   drains-one phase w v e h = elim h [ ]

@@ -17,11 +17,11 @@ use Rattle.vx_worker.specs.declared.counts.StepCounts.{StepCounts}
 use Rattle.vx_worker.specs.declared.intake.Intake.{Intake}
 use Rattle.vx_worker.specs.declared.tree.Tree.{Tree}
 use Rattle.vx_worker.specs.declared.worker.Worker.{Worker}
-use Rattle.vx_worker.specs.declared.worker.Phase.{Phase}
-use Rattle.vx_worker.specs.declared.worker.Phase.TheVariants.{Running, Failing, Draining, Well, Failed}
+use Rattle.vx_worker.specs.declared.worker.WorkerState.{WorkerState}
+use Rattle.vx_worker.specs.declared.worker.WorkerState.TheVariants.{Running, Failing, Draining, Well, Failed}
 
 module _ {O S : Type 0} (w : Worker O S) (n : StepCounts) where
-  ready-in : (post : S → Post) (is_open has_closed : S → Bool) (x : Phase) → IsReadyIn post is_open has_closed x w → IsReadyIn post is_open has_closed x (record w { counts = n })
+  ready-in : (post : S → Post) (is_open has_closed : S → Bool) (x : WorkerState) → IsReadyIn post is_open has_closed x w → IsReadyIn post is_open has_closed x (record w { counts = n })
   ready-in post is_open has_closed Running h = record { opens = h.opens; closing = h.closing; pending = h.pending }
   ready-in post is_open has_closed (Failing f) h = record { closing = h.closing; pending = h.pending }
   ready-in post is_open has_closed (Draining f) h = h
@@ -32,7 +32,7 @@ module _ {O S : Type 0} (w : Worker O S) (n : StepCounts) where
       → IsReady types post is_open has_closed m w → IsReady types post is_open has_closed m (record w { counts = n })
   ready-counted types post is_open has_closed m h = record { typed = h.typed; sends = h.sends; phase = ready-in post is_open has_closed w.phase h.phase }
 
-  pub waits-counted : (want : O → Want) (refuses : ℕ → Type 0) (lacks : Type 0) (phase : Phase) (tree : Tree O) (intake : Intake) (e : Event)
+  pub waits-counted : (want : O → Want) (refuses : ℕ → Type 0) (lacks : Type 0) (phase : WorkerState) (tree : Tree O) (intake : Intake) (e : Event)
       → Waits want refuses lacks phase tree intake w e → Waits want refuses lacks phase tree intake (record w { counts = n }) e
   waits-counted want refuses lacks phase tree intake e (none_came x i p q r) = none_came x i p q r
   waits-counted want refuses lacks phase tree intake e (none_drains f x i p q r) = none_drains f x i p q r
@@ -40,7 +40,7 @@ module _ {O S : Type 0} (w : Worker O S) (n : StepCounts) where
   waits-counted want refuses lacks phase tree intake e (no_memory f p q r) = no_memory f p q r
 
   module _ (OS : O → Ledger → Type 0) (op : O → Op) (SS : S → Routing → Stream → (ℕ → List PacketView) → Type 0) (task : S → Task) (goes : Routing) (m : ℕ → ℕ → List Row) (t : Trace) where
-    stands-in : (x : Phase) → StandsIn OS op SS task goes m x w t → StandsIn OS op SS task goes m x (record w { counts = n }) t
+    stands-in : (x : WorkerState) → StandsIn OS op SS task goes m x w t → StandsIn OS op SS task goes m x (record w { counts = n }) t
     stands-in Running h = record {
       reads = h.reads;
       reads_are = h.reads_are;

@@ -9,7 +9,7 @@ use Rattle.vx_morsel.specs.Draws.{Draws}
 use Rattle.vx_ops.specs.Begun.{all_of}
 use Rattle.vx_ops.specs.Ledger.{Stream}
 use Rattle.vx_ops.specs.Turn.{heard, with_packet}
-use Rattle.vx_ops.specs.declared.fault.Over.TheVariants as over
+use Rattle.vx_ops.specs.declared.fault.StreamState.TheVariants as stream_state
 use Rattle.vx_ops.specs.declared.turn.Got.{Got}
 use Rattle.vx_ops.specs.declared.turn.Got.TheVariants as got
 use Rattle.vx_ops.specs.declared.turn.Polled.TheVariants as polled
@@ -90,8 +90,8 @@ reads-more m old new t r x g e a met h = elim a [ ]
 
 -- a scan whose stream has ended is still one whose end was met
 pub ended-more : (m : ℕ → ℕ → List Row) (old new : Intake) (r : Reads) (x : Wish) (g : Got) (e : Event) → Answers m old new x g e
-    → ((n : ℕ) → has_met_end old n ≡ true → has_met_end new n ≡ true) → ((n : ℕ) → (r.scanned n).over ≡ over.Ended → has_met_end old n ≡ true)
-    → (n : ℕ) → ((read r x g).scanned n).over ≡ over.Ended → has_met_end new n ≡ true
+    → ((n : ℕ) → has_met_end old n ≡ true → has_met_end new n ≡ true) → ((n : ℕ) → (r.scanned n).over ≡ stream_state.Ended → has_met_end old n ≡ true)
+    → (n : ℕ) → ((read r x g).scanned n).over ≡ stream_state.Ended → has_met_end new n ≡ true
 ended-more m old new r wish.Nothing got.Nothing idle a kept h = λ n o. kept n (h n o)
 ended-more m old new r (wish.Morsel k) (got.Input polled.End) idle a kept h = λ n. elim (eqb_tells n k) [
   | inl e ↦ λ o. kept n (ap (has_met_end old) e.1 ∙ a)
@@ -117,7 +117,7 @@ scan-whole : (m : ℕ → List Row) (d : Draws) (s : Stream) → Scanned m d s �
 scan-whole m d s h = record { numbers = d.numbers; begins = all_of d.numbers; rows = h.rows; ended = λ o. (refl, h.ended o); never_fails = h.never_fails }
 
 -- also where one more number was drawn, if the stream has not ended
-scan-before : (m : ℕ → List Row) (d : Draws) (s : Stream) (n : ℕ) → (s.over ≡ over.Ended → ⊥) → Scanned m d s → ScanBegins m (drawn d (Some n)) s
+scan-before : (m : ℕ → List Row) (d : Draws) (s : Stream) (n : ℕ) → (s.over ≡ stream_state.Ended → ⊥) → Scanned m d s → ScanBegins m (drawn d (Some n)) s
 scan-before m d s n open' h = record {
   numbers = d.numbers;
   begins = record { rest = n ∷ []; joined = refl };
@@ -157,7 +157,7 @@ same-begins r t n i e = record { rest = []; joined = append-nil (r.came n i) ∙
 pub reads-whole : (m : ℕ → ℕ → List Row) (t : Trace) (r : Reads) → ReadsAreOf m t r → ReadsBeginOf m t r
 reads-whole m t r h = record { scanned = λ n. scan-whole (m n) (t.drew n) (r.scanned n) (h.scanned n); came = λ n i. same-begins r t n i (h.came n) }
 
-scans-begin : (m : ℕ → ℕ → List Row) (k : Intake) (t : Trace) (r : Reads) (e : Event) → IsRead k e → ((n : ℕ) → (r.scanned n).over ≡ over.Ended → has_met_end k n ≡ true)
+scans-begin : (m : ℕ → ℕ → List Row) (k : Intake) (t : Trace) (r : Reads) (e : Event) → IsRead k e → ((n : ℕ) → (r.scanned n).over ≡ stream_state.Ended → has_met_end k n ≡ true)
     → ReadsAreOf m t r → (n : ℕ) → ScanBegins (m n) ((added t e).drew n) (r.scanned n)
 scans-begin m k t r idle is met h n = scan-whole (m n) (t.drew n) (r.scanned n) (h.scanned n)
 scans-begin m k t r (drew_one j None) is met h n = elim (eqb_tells n j) [
@@ -172,7 +172,7 @@ scans-begin m k t r (took_one x i o) is met h n = scan-whole (m n) (t.drew n) (r
 scans-begin m k t r (put_one j p) is met h n = elim is [ ]
 
 -- what the leaves read is a beginning of what was drawn and taken, where the last draw or take did not reach them
-pub reads-before : (m : ℕ → ℕ → List Row) (k : Intake) (t : Trace) (r : Reads) (e : Event) → IsRead k e → ((n : ℕ) → (r.scanned n).over ≡ over.Ended → has_met_end k n ≡ true)
+pub reads-before : (m : ℕ → ℕ → List Row) (k : Intake) (t : Trace) (r : Reads) (e : Event) → IsRead k e → ((n : ℕ) → (r.scanned n).over ≡ stream_state.Ended → has_met_end k n ≡ true)
     → ReadsAreOf m t r → ReadsBeginOf m (added t e) r
 reads-before m k t r e is met h = record {
   scanned = scans-begin m k t r e is met h;

@@ -8,7 +8,7 @@ use Rattle.vx_ports.specs.Packets.{PacketView, closes}
 use Rattle.vx_ops.specs.Ledger.{Stream, Ledger, Op, Abides, fresh}
 use Rattle.vx_ops.specs.Turn.{Shape, heard}
 use Rattle.vx_ops.specs.declared.fault.Fault.{Fault}
-use Rattle.vx_ops.specs.declared.fault.Over.TheVariants as over
+use Rattle.vx_ops.specs.declared.fault.StreamState.TheVariants as stream_state
 use Rattle.vx_ops.specs.declared.turn.Want.{Want}
 use Rattle.vx_ops.specs.declared.turn.Got.{Got}
 use Rattle.vx_ops.specs.declared.turn.Polled.{Polled}
@@ -25,7 +25,7 @@ use Rattle.vx_worker.specs.declared.tree.Tree.{Tree}
 use Rattle.vx_worker.specs.declared.wish.Wish.{Wish}
 use Rattle.vx_worker.specs.declared.intake.Intake.{Intake}
 use Rattle.vx_worker.specs.declared.worker.Worker.{Worker}
-use Rattle.vx_worker.specs.declared.worker.Phase.TheVariants.{Running, Failing}
+use Rattle.vx_worker.specs.declared.worker.WorkerState.TheVariants.{Running, Failing}
 use Rattle.vx_worker.proofs.Trees.{tree-abides}
 use Rattle.vx_worker.proofs.Reading.{reads-more, ended-more, reads-whole, reads-before, reads-later}
 use Rattle.vx_worker.proofs.Stopping.{with-closing, closing-closes}
@@ -117,7 +117,7 @@ module _ {O S : Type 0} (OS : O → Ledger → Type 0) (op : O → Op) (SS : S �
   -- a worker that begins to fail: what it read before is a beginning of what was drawn and taken, and what it put a beginning of what its rows send
   pub fails : (w : Worker O S) (f : Fault) (p : Post) (t : Trace) (reads : Reads) (out : Stream)
       → w.phase ≡ Failing f → w.pending ≡ None → w.closing.items ≡ closing_of p → IsAt p (task w.sender)
-      → IntakeStands w.intake t → ReadsBeginOf m t reads → FragAbides (shape op w.tree) reads out → (out.over ≡ over.Failed f) ⊎ IsNoMemory f
+      → IntakeStands w.intake t → ReadsBeginOf m t reads → FragAbides (shape op w.tree) reads out → (out.over ≡ stream_state.Failed f) ⊎ IsNoMemory f
       → BeganSending goes (task w.sender) out.rows t.sent → WorkerStands OS op SS task goes m w t
   fails w f p t reads out phase pending closing at intake begin abides why begun = (
     intake,
@@ -183,7 +183,7 @@ module _ {O S : Type 0} (OS : O → Ledger → Type 0) (op : O → Op) (SS : S �
       → ((low high : ℕ) → Numbered low high w.tree → Numbered low high v.tree)
       → ((low high : ℕ) (r : Reads) (out : Stream) → Numbered low high w.tree → TreeStands OS w.tree r out → TreeStands OS v.tree (read r (tree_want want w.tree) g) (heard out a))
       → w.pending ≡ None → ((s : Stream) (put : ℕ → List PacketView) → SS w.sender goes s put → SS v.sender goes (heard s a) put)
-      → ((s : Stream) → v.is_over ≡ true → (heard s a).over ≡ over.Ended)
+      → ((s : Stream) → v.is_over ≡ true → (heard s a).over ≡ stream_state.Ended)
       → IsRunning OS op SS task goes m w t → WorkerStands OS op SS task goes m v (added t e)
   turns want w v t e x g a phase pending wish fetched intake numbered stands empty accepts ends h =
       let y = tree_want want w.tree in
@@ -229,7 +229,7 @@ module _ {O S : Type 0} (OS : O → Ledger → Type 0) (op : O → Op) (SS : S �
 
   -- nothing is left to put after the end
   pub ends-well : ((o : O) (l : Ledger) → OS o l → Abides (op o) l) → (w : Worker O S) (s : S) (t : Trace) → w.pending ≡ None → w.is_over ≡ true
-      → ((a : Stream) (g : ℕ → List PacketView) → SS w.sender goes a g → a.over ≡ over.Ended → Finished goes (task s) a.rows g)
+      → ((a : Stream) (g : ℕ → List PacketView) → SS w.sender goes a g → a.over ≡ stream_state.Ended → Finished goes (task s) a.rows g)
       → IsRunning OS op SS task goes m w t → IsWellBy m goes (shape op w.tree) (task s) t
   ends-well abides w s t empty o drained h = record {
     reads = h.reads;

@@ -23,10 +23,10 @@ use Rattle.vx_worker.specs.declared.intake.Intake.{Intake}
 use Rattle.vx_worker.specs.declared.intake.Drained.{Drained}
 use Rattle.vx_worker.specs.declared.intake.Drained.TheVariants as drained
 use Rattle.vx_worker.specs.declared.worker.Worker.{Worker}
-use Rattle.vx_worker.specs.declared.worker.Phase.{Phase}
-use Rattle.vx_worker.specs.declared.worker.Phase.TheVariants.{Running, Failing, Draining}
-use Rattle.vx_worker.specs.declared.worker.Stepped.{Stepped}
-use Rattle.vx_worker.specs.declared.worker.Stepped.TheVariants as stepped
+use Rattle.vx_worker.specs.declared.worker.WorkerState.{WorkerState}
+use Rattle.vx_worker.specs.declared.worker.WorkerState.TheVariants.{Running, Failing, Draining}
+use Rattle.vx_worker.specs.declared.worker.StepOutcome.{StepOutcome}
+use Rattle.vx_worker.specs.declared.worker.StepOutcome.TheVariants as step_outcome
 
 -- a morsel or the end of a scan was drawn, or a packet was taken or put
 abbrev pub IsMove : Event → Type 0
@@ -59,7 +59,7 @@ NeedsNothing k (wish.Packet x i) = ⊥
 
 -- why a step only waits: no packet had come from the producer that the tree wants one of, or from an open one while packets are taken and dropped;
 -- the port of the packet that it holds is full; or memory was refused while packets are taken and dropped
-pub data Waits {O S : Type 0} (want : O → Want) (refuses : ℕ → Type 0) (lacks : Type 0) (phase : Phase) (tree : Tree O) (intake : Intake) (new : Worker O S) (e : Event) : Type 0 where
+pub data Waits {O S : Type 0} (want : O → Want) (refuses : ℕ → Type 0) (lacks : Type 0) (phase : WorkerState) (tree : Tree O) (intake : Intake) (new : Worker O S) (e : Event) : Type 0 where
   none_came : (x i : ℕ) → phase ≡ Running → tree_want want tree ≡ wish.Packet x i → e ≡ took_one x i None → Waits want refuses lacks phase tree intake new e
   none_drains : (f : Fault) (x i : ℕ) → phase ≡ Draining f → IsOpenInput intake x i → e ≡ took_one x i None → Waits want refuses lacks phase tree intake new e
   is_full : (to : ℕ) (packet : PacketView) → new.pending ≡ Some (to, packet) → refuses to → e ≡ idle → Waits want refuses lacks phase tree intake new e
@@ -67,7 +67,7 @@ pub data Waits {O S : Type 0} (want : O → Want) (refuses : ℕ → Type 0) (la
 
 -- what a step did that moved: a draw, a take or a put; or the tree's top gave rows or its end; or the worker failed, or has closed all its ports;
 -- or the tree took a turn for which it needs nothing from outside, where no packet is held
-pub data Moves {O S : Type 0} (OS : O → Ledger → Type 0) (want : O → Want) (phase : Phase) (tree : Tree O) (intake : Intake) (new : Worker O S) (e : Event) : Type 0 where
+pub data Moves {O S : Type 0} (OS : O → Ledger → Type 0) (want : O → Want) (phase : WorkerState) (tree : Tree O) (intake : Intake) (new : Worker O S) (e : Event) : Type 0 where
   by_event : IsMove e → Moves OS want phase tree intake new e
   by_rows : (got : Got) (a : Polled) → (a ≡ polled.Waiting → ⊥)
       → ((low high : ℕ) (r : Reads) (out : Stream) → Numbered low high tree → TreeStands OS tree r out → TreeStands OS new.tree (read r (tree_want want tree) got) (heard out a))
@@ -78,12 +78,12 @@ pub data Moves {O S : Type 0} (OS : O → Ledger → Type 0) (want : O → Want)
 
 -- what an answer says of a step from a worker with this tree and intake in this phase, by one event, to the new worker
 abbrev pub AnsweredIn : {O S : Type 0} → (OS : O → Ledger → Type 0) → (want : O → Want) → (refuses : ℕ → Type 0) → (lacks : Type 0)
-    → Phase → Tree O → Intake → (new : Worker O S) → Event → Stepped → Type 0
-AnsweredIn OS want refuses lacks phase tree intake new e stepped.Moved = Moves OS want phase tree intake new e
-AnsweredIn OS want refuses lacks phase tree intake new e stepped.Waiting = Waits want refuses lacks phase tree intake new e
-AnsweredIn OS want refuses lacks phase tree intake new e stepped.Ended = IsSome (outcome_of new)
+    → WorkerState → Tree O → Intake → (new : Worker O S) → Event → StepOutcome → Type 0
+AnsweredIn OS want refuses lacks phase tree intake new e step_outcome.Moved = Moves OS want phase tree intake new e
+AnsweredIn OS want refuses lacks phase tree intake new e step_outcome.Waiting = Waits want refuses lacks phase tree intake new e
+AnsweredIn OS want refuses lacks phase tree intake new e step_outcome.Ended = IsSome (outcome_of new)
 
 -- what an answer says of a step. refuses: the ports that are full; lacks: memory may be refused
 abbrev pub Answered : {O S : Type 0} → (OS : O → Ledger → Type 0) → (want : O → Want) → (refuses : ℕ → Type 0) → (lacks : Type 0)
-    → (old new : Worker O S) → Event → Stepped → Type 0
+    → (old new : Worker O S) → Event → StepOutcome → Type 0
 Answered OS want refuses lacks old new e r = AnsweredIn OS want refuses lacks old.phase old.tree old.intake new e r

@@ -2,8 +2,8 @@
 use Rattle.std.specs.Prelude.{ℕ, ◌+◌, ◌-◌, ◌^◌, min}
 use Rattle.vx_worker.specs.Trace.{Event, put_one}
 use Rattle.vx_worker.specs.declared.counts.StepCounts.{StepCounts}
-use Rattle.vx_worker.specs.declared.worker.Stepped.{Stepped}
-use Rattle.vx_worker.specs.declared.worker.Stepped.TheVariants as stepped
+use Rattle.vx_worker.specs.declared.worker.StepOutcome.{StepOutcome}
+use Rattle.vx_worker.specs.declared.worker.StepOutcome.TheVariants as step_outcome
 
 -- one more, as far as a count goes
 abbrev pub one_more : ℕ → ℕ
@@ -25,6 +25,6 @@ with_event c (put_one to packet) = with_put c
 with_event c _ = c
 
 -- with what a step answered: one that only waited is counted
-abbrev pub with_answer : StepCounts → Stepped → StepCounts
-with_answer c stepped.Waiting = with_wait c
+abbrev pub with_answer : StepCounts → StepOutcome → StepCounts
+with_answer c step_outcome.Waiting = with_wait c
 with_answer c _ = c

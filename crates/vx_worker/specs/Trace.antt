@@ -13,7 +13,7 @@ use Rattle.vx_worker.specs.Fragment.{RunModel, goes, Frag, Reads, FragAbides}
 use Rattle.vx_ops.specs.declared.fault.Code.TheVariants.{NoMemory}
 use Rattle.vx_ops.specs.declared.fault.Fault.{Fault}
 use Rattle.vx_ops.specs.declared.fault.Fault.TheVariants.{Own}
-use Rattle.vx_ops.specs.declared.fault.Over.TheVariants.{Ended, Failed}
+use Rattle.vx_ops.specs.declared.fault.StreamState.TheVariants.{Ended, Failed}
 
 -- what one step may do to what is shared
 pub data Event : Type 0 where

@@ -8,7 +8,7 @@ use Rattle.vx_plan_nodes.specs.Routes.{Routing}
 use Rattle.vx_ports.specs.Packets.{fault, PacketView, closes}
 use Rattle.vx_ops.specs.Ledger.{Stream, Ledger, Op}
 use Rattle.vx_ops.specs.Turn.{Shape, with_packet}
-use Rattle.vx_ops.specs.declared.fault.Over.TheVariants as over
+use Rattle.vx_ops.specs.declared.fault.StreamState.TheVariants as stream_state
 use Rattle.vx_ends.specs.Ship.{packet_of}
 use Rattle.vx_ends.specs.Tasks.{Task, Post, sends_by_ship, keeps, post_types}
 use Rattle.vx_worker.specs.Fragment.{Frag, Reads}
@@ -19,10 +19,10 @@ use Rattle.vx_worker.specs.Intake.{sources_of, has_met_end, IntakeStands, IsDrai
 use Rattle.vx_worker.specs.declared.counts.StepCounts.{StepCounts}
 use Rattle.vx_worker.specs.declared.tree.Tree.{Tree}
 use Rattle.vx_worker.specs.declared.worker.Worker.{Worker}
-use Rattle.vx_worker.specs.declared.worker.Phase.{Phase}
-use Rattle.vx_worker.specs.declared.worker.Phase.TheVariants.{Running, Failing, Draining, Well, Failed}
-use Rattle.vx_worker.specs.declared.worker.Outcome.{Outcome}
-use Rattle.vx_worker.specs.declared.worker.Outcome.TheVariants as outcome
+use Rattle.vx_worker.specs.declared.worker.WorkerState.{WorkerState}
+use Rattle.vx_worker.specs.declared.worker.WorkerState.TheVariants.{Running, Failing, Draining, Well, Failed}
+use Rattle.vx_worker.specs.declared.worker.WorkerOutcome.{WorkerOutcome}
+use Rattle.vx_worker.specs.declared.worker.WorkerOutcome.TheVariants as worker_outcome
 
 -- the packets put, with one that is still with the worker
 abbrev pub with_pending : (ℕ → List PacketView) → Option (ℕ × PacketView) → ℕ → List PacketView
@@ -40,21 +40,21 @@ closing_of (sends_by_ship s) = each_below s.consumers (λ j. packet_of s j fault
 closing_of (keeps types) = []
 
 -- how a worker in this phase ended, if it has
-abbrev pub outcome_in : Phase → Option Outcome
+abbrev pub outcome_in : WorkerState → Option WorkerOutcome
 outcome_in Running = None
 outcome_in (Failing f) = None
 outcome_in (Draining f) = None
-outcome_in Well = Some outcome.Well
-outcome_in (Failed f) = Some (outcome.Failed f)
+outcome_in Well = Some worker_outcome.Well
+outcome_in (Failed f) = Some (worker_outcome.Failed f)
 
 -- how a worker ended, if it has
-abbrev pub outcome_of : {O S : Type 0} → Worker O S → Option Outcome
+abbrev pub outcome_of : {O S : Type 0} → Worker O S → Option WorkerOutcome
 outcome_of w = outcome_in w.phase
 
 -- the same as a trace has it
-abbrev pub fate_of : Outcome → Fate
-fate_of outcome.Well = well
-fate_of (outcome.Failed f) = failed f
+abbrev pub fate_of : WorkerOutcome → Fate
+fate_of worker_outcome.Well = well
+fate_of (worker_outcome.Failed f) = failed f
 
 -- it holds only packets that close
 pub record IsClosing {O S : Type 0} (w : Worker O S) : Type 0 where
@@ -96,7 +96,7 @@ module _ {O S : Type 0} (post : S → Post) (is_open has_closed : S → Bool) wh
     pub pending : (x : ℕ × PacketView) → w.pending ≡ Some x → has_closed w.sender ≡ closes x.1.content
 
   -- by phase
-  abbrev pub IsReadyIn : Phase → Worker O S → Type 0
+  abbrev pub IsReadyIn : WorkerState → Worker O S → Type 0
   IsReadyIn Running w = IsGoing w
   IsReadyIn (Failing f) w = IsClosing w
   IsReadyIn (Draining f) w = Unit {0}
@@ -120,17 +120,17 @@ module _ {O S : Type 0} (OS : O → Ledger → Type 0) (op : O → Op) (SS : S �
   pub record IsRunning (w : Worker O S) (t : Trace) : Type 0 where
     pub reads : Reads
     pub reads_are : ReadsAreOf m t reads
-    pub ended : (n : ℕ) → (reads.scanned n).over ≡ over.Ended → has_met_end w.intake n ≡ true
+    pub ended : (n : ℕ) → (reads.scanned n).over ≡ stream_state.Ended → has_met_end w.intake n ≡ true
     pub low : ℕ
     pub high : ℕ
     pub numbered : Numbered low high w.tree
     pub out : Stream
     pub tree : TreeStands OS w.tree reads out
     pub sender : SS w.sender goes out (with_pending t.sent w.pending)
-    pub is_over : w.is_over ≡ true → out.over ≡ over.Ended
+    pub is_over : w.is_over ≡ true → out.over ≡ stream_state.Ended
 
   -- by phase
-  abbrev pub StandsIn : Phase → Worker O S → Trace → Type 0
+  abbrev pub StandsIn : WorkerState → Worker O S → Trace → Type 0
   StandsIn Running w t = IsRunning w t
   StandsIn (Failing f) w t = HasFailedBy m goes (shape op w.tree) (task w.sender) f (closed_trace w t)
   StandsIn (Draining f) w t = HasFailedBy m goes (shape op w.tree) (task w.sender) f t
@@ -142,6 +142,6 @@ module _ {O S : Type 0} (OS : O → Ledger → Type 0) (op : O → Op) (SS : S �
   WorkerStands w t = IntakeStands w.intake t × StandsIn w.phase w t
 
 -- an ended worker's trace is honest, and one that failed took what each producer sent to its end
-abbrev pub EndsAs : {O S : Type 0} → (op : O → Op) → (task : S → Task) → Routing → (m : ℕ → ℕ → List Row) → Outcome → Worker O S → Trace → Type 0
-EndsAs op task goes m outcome.Well w t = HonestBy m goes (shape op w.tree) (task w.sender) well t
-EndsAs op task goes m (outcome.Failed f) w t = HonestBy m goes (shape op w.tree) (task w.sender) (failed f) t × IsDrained (sources_of w.intake) t
+abbrev pub EndsAs : {O S : Type 0} → (op : O → Op) → (task : S → Task) → Routing → (m : ℕ → ℕ → List Row) → WorkerOutcome → Worker O S → Trace → Type 0
+EndsAs op task goes m worker_outcome.Well w t = HonestBy m goes (shape op w.tree) (task w.sender) well t
+EndsAs op task goes m (worker_outcome.Failed f) w t = HonestBy m goes (shape op w.tree) (task w.sender) (failed f) t × IsDrained (sources_of w.intake) t

@@ -13,4 +13,4 @@ pub use intake::ExchangeInput;
 pub use tree::Tree;
 pub use wires::{Morsels, Wires};
 pub use wish::Wish;
-pub use worker::{Outcome, Stepped, Worker};
+pub use worker::{StepOutcome, Worker, WorkerOutcome};

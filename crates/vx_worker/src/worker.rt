@@ -12,7 +12,7 @@ use vx_ports::{Packet, Put};
 
 // Where a worker stands.
 #[derive(Clone, Copy)]
-enum Phase {
+enum WorkerState {
     /// It draws morsels, takes packets, turns operators and puts packets.
     Running,
     /// It failed and closes its ports with Fault.
@@ -27,7 +27,7 @@ enum Phase {
 
 /// How a worker ended.
 #[derive(Clone, Copy)]
-pub enum Outcome {
+pub enum WorkerOutcome {
     /// It took all that came, and all its rows went on their way.
     Well,
     /// By a fault of its own, or one that came in a packet.
@@ -36,7 +36,7 @@ pub enum Outcome {
 
 /// What a step did.
 #[derive(Clone, Copy, Debug, PartialEq, Eq)]
-pub enum Stepped {
+pub enum StepOutcome {
     /// The worker went on.
     Moved,
     /// A port was full, or no packet had come.
@@ -54,7 +54,7 @@ pub struct Worker<O, S> {
     // A packet that is to be put next, and its consumer.
     pending: Option<(u32, Packet)>,
     is_over: bool,
-    phase: Phase,
+    phase: WorkerState,
     intake: Intake,
     // Fault for each consumer, the last of which goes first.
     closing: Vec<Packet>,
@@ -125,7 +125,7 @@ impl<O: Source, S: Sends> Worker<O, S> {
             sender,
             pending: None,
             is_over: false,
-            phase: Phase::Running,
+            phase: WorkerState::Running,
             intake: Intake::new(alloc, inputs),
             closing,
             node,
@@ -134,17 +134,17 @@ impl<O: Source, S: Sends> Worker<O, S> {
     }
 
     /// How the worker ended; none while it has not.
-    pub fn outcome(&self) -> Option<Outcome>
+    pub fn outcome(&self) -> Option<WorkerOutcome>
         ensures outcome { result ≡ outcome_of self.now }
         ensures honest { IfSome result (λ o. (goes : Routing) (m : ℕ → ℕ → List Row) (t : Trace)
             → WorkerStands O.Stands O.op S.Stands S.task goes m self.now t → EndsAs O.op S.task goes m o self.now t) }
     {
         match self.phase {
-            Phase::Running => None,
-            Phase::Failing(_) => None,
-            Phase::Draining(_) => None,
-            Phase::Well => Some(Outcome::Well),
-            Phase::Failed(fault) => Some(Outcome::Failed(fault)),
+            WorkerState::Running => None,
+            WorkerState::Failing(_) => None,
+            WorkerState::Draining(_) => None,
+            WorkerState::Well => Some(WorkerOutcome::Well),
+            WorkerState::Failed(fault) => Some(WorkerOutcome::Failed(fault)),
         }
     }
 
@@ -154,7 +154,7 @@ impl<O: Source, S: Sends> Worker<O, S> {
         morsels: &G,
         router: &R,
         wires: &mut W,
-    ) -> Stepped
+    ) -> StepOutcome
         requires { IsReady O.types S.post S.is_open S.has_closed (G.types_of morsels.now) self.old }
         ensures ready { IsReady O.types S.post S.is_open S.has_closed (G.types_of morsels.now) self.new }
         ensures role { role_of O.op S.post S.bounds self.new ≡ role_of O.op S.post S.bounds self.old }
@@ -163,7 +163,7 @@ impl<O: Source, S: Sends> Worker<O, S> {
             → (t : Trace) → WorkerStands O.Stands O.op S.Stands S.task goes (G.morsel_of morsels.now) self.old t
             → WorkerStands O.Stands O.op S.Stands S.task goes (G.morsel_of morsels.now) self.new (added t e))
             × Answered O.Stands O.want (W.IsFull wires.old) (W.LacksMemory wires.old) self.old self.new e result }
-        ensures ended { (result ≡ Stepped.Ended) ↔ IsSome (outcome_of self.new) }
+        ensures ended { (result ≡ StepOutcome.Ended) ↔ IsSome (outcome_of self.new) }
         ensures honest { IfSome (outcome_of self.new) (λ o. (goes : Routing) (t : Trace)
             → WorkerStands O.Stands O.op S.Stands S.task goes (G.morsel_of morsels.now) self.new t
             → EndsAs O.op S.task goes (G.morsel_of morsels.now) o self.new t) }
@@ -171,9 +171,9 @@ impl<O: Source, S: Sends> Worker<O, S> {
         ensures counted { (e : Event) × W.Does wires.old e wires.new × (counts_of self.new ≡ with_answer (with_event (counts_of self.old) e) result) }
     {
         match self.advance(morsels, router, wires) {
-            Stepped::Waiting => {
+            StepOutcome::Waiting => {
                 self.counts.add_wait();
-                return Stepped::Waiting;
+                return StepOutcome::Waiting;
             }
             stepped => return stepped,
         }
@@ -185,7 +185,7 @@ impl<O: Source, S: Sends> Worker<O, S> {
         morsels: &G,
         router: &R,
         wires: &mut W,
-    ) -> Stepped
+    ) -> StepOutcome
         requires { IsReady O.types S.post S.is_open S.has_closed (G.types_of morsels.now) self.old }
         ensures ready { IsReady O.types S.post S.is_open S.has_closed (G.types_of morsels.now) self.new }
         ensures role { role_of O.op S.post S.bounds self.new ≡ role_of O.op S.post S.bounds self.old }
@@ -194,7 +194,7 @@ impl<O: Source, S: Sends> Worker<O, S> {
             → (t : Trace) → WorkerStands O.Stands O.op S.Stands S.task goes (G.morsel_of morsels.now) self.old t
             → WorkerStands O.Stands O.op S.Stands S.task goes (G.morsel_of morsels.now) self.new (added t e))
             × Answered O.Stands O.want (W.IsFull wires.old) (W.LacksMemory wires.old) self.old self.new e result }
-        ensures ended { (result ≡ Stepped.Ended) ↔ IsSome (outcome_of self.new) }
+        ensures ended { (result ≡ StepOutcome.Ended) ↔ IsSome (outcome_of self.new) }
         ensures honest { IfSome (outcome_of self.new) (λ o. (goes : Routing) (t : Trace)
             → WorkerStands O.Stands O.op S.Stands S.task goes (G.morsel_of morsels.now) self.new t
             → EndsAs O.op S.task goes (G.morsel_of morsels.now) o self.new t) }
@@ -202,11 +202,11 @@ impl<O: Source, S: Sends> Worker<O, S> {
         ensures counted { (e : Event) × W.Does wires.old e wires.new × (counts_of self.new ≡ with_event (counts_of self.old) e) }
     {
         match self.phase {
-            Phase::Well => Stepped::Ended,
-            Phase::Failed(_) => Stepped::Ended,
-            Phase::Failing(fault) => self.close(fault, wires),
-            Phase::Draining(fault) => self.drain(fault, wires),
-            Phase::Running => self.run(morsels, router, wires),
+            WorkerState::Well => StepOutcome::Ended,
+            WorkerState::Failed(_) => StepOutcome::Ended,
+            WorkerState::Failing(fault) => self.close(fault, wires),
+            WorkerState::Draining(fault) => self.drain(fault, wires),
+            WorkerState::Running => self.run(morsels, router, wires),
         }
     }
 
@@ -216,8 +216,8 @@ impl<O: Source, S: Sends> Worker<O, S> {
         morsels: &G,
         router: &R,
         wires: &mut W,
-    ) -> Stepped
-        requires running { self.old.phase ≡ Phase.Running }
+    ) -> StepOutcome
+        requires running { self.old.phase ≡ WorkerState.Running }
         requires ready { IsReady O.types S.post S.is_open S.has_closed (G.types_of morsels.now) self.old }
         ensures ready { IsReady O.types S.post S.is_open S.has_closed (G.types_of morsels.now) self.new }
         ensures role { role_of O.op S.post S.bounds self.new ≡ role_of O.op S.post S.bounds self.old }
@@ -227,7 +227,7 @@ impl<O: Source, S: Sends> Worker<O, S> {
             → WorkerStands O.Stands O.op S.Stands S.task goes (G.morsel_of morsels.now) self.new (added t e))
             × Answered O.Stands O.want (W.IsFull wires.old) (W.LacksMemory wires.old) self.old self.new e result }
         ensures counted { (e : Event) × W.Does wires.old e wires.new × (counts_of self.new ≡ with_event (counts_of self.old) e) }
-        ensures ended { (result ≡ Stepped.Ended) ↔ IsSome (outcome_of self.new) }
+        ensures ended { (result ≡ StepOutcome.Ended) ↔ IsSome (outcome_of self.new) }
     {
         if self.pending.is_some() {
             return self.send(wires);
@@ -239,8 +239,8 @@ impl<O: Source, S: Sends> Worker<O, S> {
             }
             None => {
                 if self.is_over {
-                    self.phase = Phase::Well;
-                    return Stepped::Ended;
+                    self.phase = WorkerState::Well;
+                    return StepOutcome::Ended;
                 }
                 return self.pull(morsels, router, wires);
             }
@@ -248,8 +248,8 @@ impl<O: Source, S: Sends> Worker<O, S> {
     }
 
     // Puts the packet that is here.
-    fn send<W: Wires>(&mut self, wires: &mut W) -> Stepped
-        requires running { self.old.phase ≡ Phase.Running }
+    fn send<W: Wires>(&mut self, wires: &mut W) -> StepOutcome
+        requires running { self.old.phase ≡ WorkerState.Running }
         requires held { IsSome self.old.pending }
         requires going { IsGoing S.post S.is_open S.has_closed self.old }
         ensures ready { IsReadyIn S.post S.is_open S.has_closed self.new.phase self.new }
@@ -261,18 +261,18 @@ impl<O: Source, S: Sends> Worker<O, S> {
             → WorkerStands O.Stands O.op S.Stands S.task goes m self.new (added t e))
             × Answered O.Stands O.want (W.IsFull wires.old) (W.LacksMemory wires.old) self.old self.new e result }
         ensures counted { (e : Event) × W.Does wires.old e wires.new × (counts_of self.new ≡ with_event (counts_of self.old) e) }
-        ensures goes_on { (outcome_of self.new ≡ None) × (result ≡ Stepped.Ended → ⊥) }
+        ensures goes_on { (outcome_of self.new ≡ None) × (result ≡ StepOutcome.Ended → ⊥) }
     {
         match self.pending.take() {
             None => unreachable!("a packet is held"),
             Some((to, packet)) => match wires.put(to, packet) {
                 Put::Done => {
                     self.counts.add_put();
-                    return Stepped::Moved;
+                    return StepOutcome::Moved;
                 }
                 Put::Full(packet) => {
                     self.pending = Some((to, packet));
-                    return Stepped::Waiting;
+                    return StepOutcome::Waiting;
                 }
                 Put::NoMemory(_) => return self.fail(self.no_memory()),
             },
@@ -285,8 +285,8 @@ impl<O: Source, S: Sends> Worker<O, S> {
         morsels: &G,
         router: &R,
         wires: &mut W,
-    ) -> Stepped
-        requires running { self.old.phase ≡ Phase.Running }
+    ) -> StepOutcome
+        requires running { self.old.phase ≡ WorkerState.Running }
         requires ready { IsReady O.types S.post S.is_open S.has_closed (G.types_of morsels.now) self.old }
         requires empty { self.old.pending ≡ None }
         requires goes_on { self.old.is_over ≡ false }
@@ -298,7 +298,7 @@ impl<O: Source, S: Sends> Worker<O, S> {
             → WorkerStands O.Stands O.op S.Stands S.task goes (G.morsel_of morsels.now) self.new (added t e))
             × Answered O.Stands O.want (W.IsFull wires.old) (W.LacksMemory wires.old) self.old self.new e result }
         ensures counted { (e : Event) × W.Does wires.old e wires.new × (counts_of self.new ≡ with_event (counts_of self.old) e) }
-        ensures goes_on { (outcome_of self.new ≡ None) × (result ≡ Stepped.Ended → ⊥) }
+        ensures goes_on { (outcome_of self.new ≡ None) × (result ≡ StepOutcome.Ended → ⊥) }
     {
         let wish = self.tree.wants();
         match self.intake.fetch(wish, morsels, wires) {
@@ -306,17 +306,17 @@ impl<O: Source, S: Sends> Worker<O, S> {
             Ok(got) => {
                 let nothing_came = matches!(got, Got::Packet(None));
                 match self.tree.turn(got) {
-                    Polled::Waiting if nothing_came => return Stepped::Waiting,
-                    Polled::Waiting => return Stepped::Moved,
+                    Polled::Waiting if nothing_came => return StepOutcome::Waiting,
+                    Polled::Waiting => return StepOutcome::Moved,
                     Polled::Fault(fault) => return self.fail(fault),
                     Polled::Gave(rows) => match self.sender.accept(router, Polled::Gave(rows)) {
-                        Ok(()) => return Stepped::Moved,
+                        Ok(()) => return StepOutcome::Moved,
                         Err(_) => return self.fail(self.no_memory()),
                     },
                     Polled::End => match self.sender.accept(router, Polled::End) {
                         Ok(()) => {
                             self.is_over = true;
-                            return Stepped::Moved;
+                            return StepOutcome::Moved;
                         }
                         Err(_) => return self.fail(self.no_memory()),
                     },
@@ -336,24 +336,24 @@ impl<O: Source, S: Sends> Worker<O, S> {
     }
 
     // From now on it closes its ports. A packet that is here is dropped.
-    fn fail(&mut self, fault: Fault) -> Stepped
-        ensures phase { self.new.phase ≡ Phase.Failing fault }
+    fn fail(&mut self, fault: Fault) -> StepOutcome
+        ensures phase { self.new.phase ≡ WorkerState.Failing fault }
         ensures pending { self.new.pending ≡ None }
         ensures tree { self.new.tree ≡ self.old.tree }
         ensures sender { self.new.sender ≡ self.old.sender }
         ensures intake { self.new.intake ≡ self.old.intake }
         ensures closing { self.new.closing.items ≡ self.old.closing.items }
         ensures counts { counts_of self.new ≡ counts_of self.old }
-        ensures moved { result ≡ Stepped.Moved }
+        ensures moved { result ≡ StepOutcome.Moved }
     {
-        self.phase = Phase::Failing(fault);
+        self.phase = WorkerState::Failing(fault);
         self.pending = None;
-        Stepped::Moved
+        StepOutcome::Moved
     }
 
     // Puts the next packet that closes a port; once all were put it drains.
-    fn close<W: Wires>(&mut self, fault: Fault, wires: &mut W) -> Stepped
-        requires failing { self.old.phase ≡ Phase.Failing fault }
+    fn close<W: Wires>(&mut self, fault: Fault, wires: &mut W) -> StepOutcome
+        requires failing { self.old.phase ≡ WorkerState.Failing fault }
         requires closing { IsClosing self.old }
         ensures ready { IsReadyIn S.post S.is_open S.has_closed self.new.phase self.new }
         ensures tree { self.new.tree ≡ self.old.tree }
@@ -364,21 +364,21 @@ impl<O: Source, S: Sends> Worker<O, S> {
             → WorkerStands O.Stands O.op S.Stands S.task goes m self.new (added t e))
             × Answered O.Stands O.want (W.IsFull wires.old) (W.LacksMemory wires.old) self.old self.new e result }
         ensures counted { (e : Event) × W.Does wires.old e wires.new × (counts_of self.new ≡ with_event (counts_of self.old) e) }
-        ensures goes_on { (outcome_of self.new ≡ None) × (result ≡ Stepped.Ended → ⊥) }
+        ensures goes_on { (outcome_of self.new ≡ None) × (result ≡ StepOutcome.Ended → ⊥) }
     {
         match self.next_closing() {
             None => {
-                self.phase = Phase::Draining(fault);
-                return Stepped::Moved;
+                self.phase = WorkerState::Draining(fault);
+                return StepOutcome::Moved;
             }
             Some((to, packet)) => match wires.put(to, packet) {
                 Put::Done => {
                     self.counts.add_put();
-                    return Stepped::Moved;
+                    return StepOutcome::Moved;
                 }
                 Put::Full(refused) => {
                     self.pending = Some((to, refused));
-                    return Stepped::Waiting;
+                    return StepOutcome::Waiting;
                 }
                 Put::NoMemory(_) => unreachable!("a packet that closes is never refused"),
             },
@@ -410,8 +410,8 @@ impl<O: Source, S: Sends> Worker<O, S> {
     }
 
     // Takes and drops; once each producer has closed the worker has ended.
-    fn drain<W: Wires>(&mut self, fault: Fault, wires: &mut W) -> Stepped
-        requires { self.old.phase ≡ Phase.Draining fault }
+    fn drain<W: Wires>(&mut self, fault: Fault, wires: &mut W) -> StepOutcome
+        requires { self.old.phase ≡ WorkerState.Draining fault }
         ensures ready { IsReadyIn S.post S.is_open S.has_closed self.new.phase self.new }
         ensures tree { self.new.tree ≡ self.old.tree }
         ensures sender { self.new.sender ≡ self.old.sender }
@@ -421,14 +421,14 @@ impl<O: Source, S: Sends> Worker<O, S> {
             → WorkerStands O.Stands O.op S.Stands S.task goes m self.new (added t e))
             × Answered O.Stands O.want (W.IsFull wires.old) (W.LacksMemory wires.old) self.old self.new e result }
         ensures counted { (e : Event) × W.Does wires.old e wires.new × (counts_of self.new ≡ with_event (counts_of self.old) e) }
-        ensures ended { (result ≡ Stepped.Ended) ↔ IsSome (outcome_of self.new) }
+        ensures ended { (result ≡ StepOutcome.Ended) ↔ IsSome (outcome_of self.new) }
     {
         match self.intake.drain(wires) {
-            Drained::Dropped => return Stepped::Moved,
-            Drained::Nothing => return Stepped::Waiting,
+            Drained::Dropped => return StepOutcome::Moved,
+            Drained::Nothing => return StepOutcome::Waiting,
             Drained::All => {
-                self.phase = Phase::Failed(fault);
-                return Stepped::Ended;
+                self.phase = WorkerState::Failed(fault);
+                return StepOutcome::Ended;
             }
         }
     }

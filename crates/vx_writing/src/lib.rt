@@ -5,4 +5,4 @@ mod blocks;
 mod lines;
 mod write;
 
-pub use write::{Shares, format_in_shares, format_in_threads};
+pub use write::{WriteShares, format_in_shares, format_in_threads};

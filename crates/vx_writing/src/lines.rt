@@ -7,7 +7,7 @@ ghost use Rattle.vx_writing.specs.Blocks.{lines_text, lines_in};
 use std::alloc::{AllocError, Global};
 use std::marker::Model;
 use vx_catalog::format_rows;
-use vx_rows::ColType;
+use vx_values::ColType;
 use vx_views::Rows;
 
 /// The lines of rows. They lie behind a header, which is no part of them.

@@ -9,10 +9,8 @@ use crate::lines::{add_all, header_text};
 use std::alloc::{AllocError, Global};
 use std::thread::Threads;
 use vx_catalog::format_rows;
+use vx_values::limits::MAX_THREADS;
 use vx_views::Rows;
-
-// More threads than this are never started.
-const MOST_THREADS: usize = 64;
 
 // How many rows each thread gets in a round. The text of fewer is made by one thread, since starting threads costs more than
 // they save.
@@ -20,7 +18,7 @@ const BLOCK: usize = 16_384;
 
 /// How rows are shared out: how many threads make their text, and how many rows each of them gets in a round, at least one.
 #[derive(Clone, Copy, Debug)]
-pub struct Shares {
+pub struct WriteShares {
     pub threads: usize,
     pub block: usize,
 }
@@ -29,7 +27,7 @@ pub struct Shares {
 fn add_round<P: Threads + Sync>(
     rt: &P,
     alloc: Global,
-    shares: Shares,
+    shares: WriteShares,
     names: &[String],
     rows: &Rows,
     from: usize,
@@ -53,7 +51,7 @@ fn add_round<P: Threads + Sync>(
 pub fn format_in_shares<P: Threads + Sync>(
     rt: &P,
     alloc: Global,
-    shares: Shares,
+    shares: WriteShares,
     names: &[String],
     rows: &Rows,
 ) -> Result<Vec<u8>, AllocError>
@@ -85,8 +83,8 @@ pub fn format_in_threads<P: Threads + Sync>(
     if threads < 2 || rows.len() < BLOCK {
         return format_rows(alloc, names, rows);
     }
-    let shares = Shares {
-        threads: threads.min(MOST_THREADS),
+    let shares = WriteShares {
+        threads: threads.min(MAX_THREADS),
         block: BLOCK,
     };
     format_in_shares(rt, alloc, shares, names, rows)

@@ -1,7 +1,7 @@
 use Rattle.std.proofs.Common.{subst, ◌≡◌, true}
 use Rattle.vx_values.specs.Values.{Row, row_eq}
 use Rattle.vx_laws.proofs.Apart.{same-from-counts}
-use Rattle.vx_rows.proofs.Compare.{row_eq-same, row_eq-refl}
+use Rattle.vx_values.proofs.Compare.{row_eq-same, row_eq-refl}
 use Rattle.vx_laws.proofs.Permutation.{IsPermutation-same, same-IsPermutation}
 use Rattle.vx_laws.proofs.same_rows_is_a_permutation.Goals as goal
 

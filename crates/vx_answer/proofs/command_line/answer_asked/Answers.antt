@@ -2,7 +2,7 @@ use Rattle.std.proofs.Common.{◌≡◌, ◌∙◌, ℕ, List, sym, subst}
 use Rattle.std.specs.Prelude.{IfOk, IfErr}
 use Rattle.std.proofs.lemmas.Result.{err_from_is_err_and}
 use Rattle.vx_arguments.specs.Asked.{Ask, asked_is, paths_are, many_are}
-use Rattle.vx_answer.specs.declared.command_line.Job.TheVariants as job
+use Rattle.vx_answer.specs.declared.command_line.AskedJob.TheVariants as asked_job
 use Rattle.vx_answer.specs.CommandLine.{IsTask, IsEntry, for_task, for_plan_form, for_sql, for_claims, for_runs, for_code, for_asked_task, for_asked_form, for_asked_sql, for_asked_claims}
 use Rattle.vx_answer.specs.CommandLineView.{task_is, IsPlansTask, IsJob, IsAskAnswer, IsAskFault}
 use Rattle.vx_answer.proofs.CommandLineFacts.{plans_fault}
@@ -21,36 +21,36 @@ returns-in_ok-text-in-Some-Command g c =
 
 pub returns-in_err-text-in-Some-Form : goal.returns-in_err-text-in-Some-Form
 returns-in_err-text-in-Some-Form g c =
-    let is : IsJob (asked_is c.args.asked.now) (job.Form c.in-Some-Form.form c.in-Some-Form.sources) = rw (c.in-Some-Form.is, c.in-Some-Form.field-0-is) at c.in_ok-job_in.ensures in
+    let is : IsJob (asked_is c.args.asked.now) (asked_job.Form c.in-Some-Form.form c.in-Some-Form.sources) = rw (c.in-Some-Form.is, c.in-Some-Form.field-0-is) at c.in_ok-job_in.ensures in
     let p = err_from_is_err_and c.from_residual-in_err-text-in-Some-Form.result c.from_residual-in_err-text-in-Some-Form.ensures.1 in
     rw (p.1, p.2) (record { answer = tt; no_stats = tt; refused = for_asked_form c.in-Some-Form.form (paths_are c.in-Some-Form.sources) is.0 is.1 is.2 c.in_err-text-in-Some-Form.ensures.refused })
 
 pub returns-in_ok-text-in-Some-Form : goal.returns-in_ok-text-in-Some-Form
 returns-in_ok-text-in-Some-Form g c =
-    let is : IsJob (asked_is c.args.asked.now) (job.Form c.in-Some-Form.form c.in-Some-Form.sources) = rw (c.in-Some-Form.is, c.in-Some-Form.field-0-is) at c.in_ok-job_in.ensures in
+    let is : IsJob (asked_is c.args.asked.now) (asked_job.Form c.in-Some-Form.form c.in-Some-Form.sources) = rw (c.in-Some-Form.is, c.in-Some-Form.field-0-is) at c.in_ok-job_in.ensures in
     record { answer = for_plan_form c.in-Some-Form.form (paths_are c.in-Some-Form.sources) is.0 is.1 is.2 c.in_ok-text-in-Some-Form.ensures.text; no_stats = tt; refused = tt }
 
 pub returns-in_err-text-in-Some-Statement : goal.returns-in_err-text-in-Some-Statement
 returns-in_err-text-in-Some-Statement g c =
-    let is : IsJob (asked_is c.args.asked.now) (job.Statement c.in-Some-Statement.dialect c.in-Some-Statement.sources) = rw (c.in-Some-Statement.is, c.in-Some-Statement.field-0-is) at c.in_ok-job_in.ensures in
+    let is : IsJob (asked_is c.args.asked.now) (asked_job.Statement c.in-Some-Statement.dialect c.in-Some-Statement.sources) = rw (c.in-Some-Statement.is, c.in-Some-Statement.field-0-is) at c.in_ok-job_in.ensures in
     let p = err_from_is_err_and c.from_residual-in_err-text-in-Some-Statement.result c.from_residual-in_err-text-in-Some-Statement.ensures.1 in
     rw (p.1, p.2) (record { answer = tt; no_stats = tt; refused = for_asked_sql c.in-Some-Statement.dialect (paths_are c.in-Some-Statement.sources) is.0 is.1 is.2 c.in_err-text-in-Some-Statement.ensures.refused })
 
 pub returns-in_ok-text-in-Some-Statement : goal.returns-in_ok-text-in-Some-Statement
 returns-in_ok-text-in-Some-Statement g c =
-    let is : IsJob (asked_is c.args.asked.now) (job.Statement c.in-Some-Statement.dialect c.in-Some-Statement.sources) = rw (c.in-Some-Statement.is, c.in-Some-Statement.field-0-is) at c.in_ok-job_in.ensures in
+    let is : IsJob (asked_is c.args.asked.now) (asked_job.Statement c.in-Some-Statement.dialect c.in-Some-Statement.sources) = rw (c.in-Some-Statement.is, c.in-Some-Statement.field-0-is) at c.in_ok-job_in.ensures in
     record { answer = for_sql c.in-Some-Statement.dialect (paths_are c.in-Some-Statement.sources) is.0 is.1 is.2 c.in_ok-text-in-Some-Statement.ensures.text; no_stats = tt; refused = tt }
 
 pub returns-in_ok-text-in-Some-Entry-clause-answer : goal.returns-in_ok-text-in-Some-Entry-clause-answer
 returns-in_ok-text-in-Some-Entry-clause-answer g c =
-    let is : IsJob (asked_is c.args.asked.now) (job.Entry c.in-Some-Entry.text) = rw (c.in-Some-Entry.is, c.in-Some-Entry.field-0-is) at c.in_ok-job_in.ensures in
+    let is : IsJob (asked_is c.args.asked.now) (asked_job.Entry c.in-Some-Entry.text) = rw (c.in-Some-Entry.is, c.in-Some-Entry.field-0-is) at c.in_ok-job_in.ensures in
     let same : c.in_ok-text-in-Some-Entry.text.items ≡ c.in-Some-Entry.text.now = c.in_ok-text-in-Some-Entry.ensures.items ∙ c.as_bytes.ensures.value in
     let P : List ℕ → Type 0 = λ t. IsEntry is.0 t in
     for_code is.0 is.1 (subst P (sym same) is.2)
 
 pub returns-in-Some-Verdict : goal.returns-in-Some-Verdict
 returns-in-Some-Verdict g c =
-    let is : IsJob (asked_is c.args.asked.now) (job.Verdict c.in-Some-Verdict.sources) = rw (c.in-Some-Verdict.is, c.in-Some-Verdict.field-0-is) at c.in_ok-job_in.ensures in
+    let is : IsJob (asked_is c.args.asked.now) (asked_job.Verdict c.in-Some-Verdict.sources) = rw (c.in-Some-Verdict.is, c.in-Some-Verdict.field-0-is) at c.in_ok-job_in.ensures in
     let files = g.F.Store.holds c.args.files.now in
     let input = g.I.ByteIn.remaining c.args.input.now in
     let Answers : Ask → Type 0 = λ ask. IfOk c.answer_verdict.result (λ a. IsAskAnswer files input ask a) in
@@ -59,13 +59,13 @@ returns-in-Some-Verdict g c =
 
 pub returns-in_err-text-in-Some-Annotation : goal.returns-in_err-text-in-Some-Annotation
 returns-in_err-text-in-Some-Annotation g c =
-    let is : IsJob (asked_is c.args.asked.now) (job.Annotation c.in-Some-Annotation.sources) = rw (c.in-Some-Annotation.is, c.in-Some-Annotation.field-0-is) at c.in_ok-job_in.ensures in
+    let is : IsJob (asked_is c.args.asked.now) (asked_job.Annotation c.in-Some-Annotation.sources) = rw (c.in-Some-Annotation.is, c.in-Some-Annotation.field-0-is) at c.in_ok-job_in.ensures in
     let p = err_from_is_err_and c.from_residual-in_err-text-in-Some-Annotation.result c.from_residual-in_err-text-in-Some-Annotation.ensures.1 in
     rw (p.1, p.2) (record { answer = tt; no_stats = tt; refused = for_asked_claims (paths_are c.in-Some-Annotation.sources) is c.in_err-text-in-Some-Annotation.ensures.refused })
 
 pub returns-in_ok-text-in-Some-Annotation : goal.returns-in_ok-text-in-Some-Annotation
 returns-in_ok-text-in-Some-Annotation g c =
-    let is : IsJob (asked_is c.args.asked.now) (job.Annotation c.in-Some-Annotation.sources) = rw (c.in-Some-Annotation.is, c.in-Some-Annotation.field-0-is) at c.in_ok-job_in.ensures in
+    let is : IsJob (asked_is c.args.asked.now) (asked_job.Annotation c.in-Some-Annotation.sources) = rw (c.in-Some-Annotation.is, c.in-Some-Annotation.field-0-is) at c.in_ok-job_in.ensures in
     record { answer = for_claims (paths_are c.in-Some-Annotation.sources) is c.in_ok-text-in-Some-Annotation.ensures.text; no_stats = tt; refused = tt }
 
 pub returns-in_err-text-in-Some-Plans : goal.returns-in_err-text-in-Some-Plans
@@ -88,7 +88,7 @@ returns-in_ok-text-in-Some-Plans g c =
 
 pub returns-in-Some-Drawing : goal.returns-in-Some-Drawing
 returns-in-Some-Drawing g c =
-    let is : IsJob (asked_is c.args.asked.now) (job.Drawing c.in-Some-Drawing.sources c.in-Some-Drawing.stats) = rw (c.in-Some-Drawing.is, c.in-Some-Drawing.field-0-is) at c.in_ok-job_in.ensures in
+    let is : IsJob (asked_is c.args.asked.now) (asked_job.Drawing c.in-Some-Drawing.sources c.in-Some-Drawing.stats) = rw (c.in-Some-Drawing.is, c.in-Some-Drawing.field-0-is) at c.in_ok-job_in.ensures in
     let files = g.F.Store.holds c.args.files.now in
     let input = g.I.ByteIn.remaining c.args.input.now in
     let Answers : Ask → Type 0 = λ ask. IfOk c.answer_drawing.result (λ a. IsAskAnswer files input ask a) in

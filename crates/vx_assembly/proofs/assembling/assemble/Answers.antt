@@ -1,14 +1,14 @@
-use Rattle.std.proofs.Common.{◌≡◌, ◌∙◌, ℕ, List, Vec, Global, map, subst, sym, refl}
+use Rattle.std.proofs.Common.{◌≡◌, ◌∙◌, List, map, subst, sym, refl}
 use Rattle.std.specs.List.{All}
-use Rattle.vx_layout.specs.Groups.{group_at}
+use Rattle.vx_plan_nodes.specs.Workers.{worker_group_at}
 use Rattle.vx_layout.specs.declared.span.NodeSpan.{NodeSpan}
+use Rattle.vx_threads.specs.Joined.{FlowsThrough}
 use Rattle.vx_threads.specs.Paired.{IsRingOf}
 use Rattle.vx_assembly.specs.Spans.{IsSpanned, IsSmall}
-use Rattle.vx_assembly.proofs.Spanning.{to-spans, flowed}
 use Rattle.vx_steps.specs.Ready.{Settled}
 use Rattle.vx_steps.specs.Headline.{Answers}
 use Rattle.vx_steps.specs.Verdicts.{GoesOn, Judged}
-use Rattle.vx_steps.specs.declared.verdict.Verdict.TheVariants as verdict
+use Rattle.vx_steps.specs.declared.verdict.RunState.TheVariants as run_state
 use Rattle.vx_steps.proofs.Answered.{answered, some-workers}
 use Rattle.vx_threads.proofs.Settling.{settled, reported}
 use Rattle.vx_assembly.specs.Parts.{worker_in, held_in}
@@ -24,14 +24,13 @@ reunite_spans-requires-clause-rings g c =
     let ran = c.requires.ran in
     let parts = c.in_ok-workers.field-0 in
     let done = c.in_ok-workers.ensures in
-    let sizes = group_at c.args.layout.now.groups.items in
+    let sizes = worker_group_at c.args.layout.now.worker_groups.items in
     let os = parts.outs.items in
     let is = parts.ins.items in
     subst (λ (z : List NodeSpan). All (IsSpanned IsRingOf os is) z) (sym (c.spans.ensures ∙ ran.5))
-    (to-spans IsRingOf os is sizes ran.3 0 1
     (paired g.O.Source.Stands g.O.Source.op g.S.Sends.Stands g.S.Sends.task g.S.Sends.post g.S.Sends.bounds ran.0 ran.1 ran.2
     ran.3 c.args.decks.items c.args.places.now c.args.joined.items ran.6 sizes ran.4
-    os is parts.draws.items done.outs done.ins done.draws))
+    os is parts.draws.items done.outs done.ins done.draws)
 
 pub reunite_spans-requires-clause-apart : goal.reunite_spans-requires-clause-apart
 reunite_spans-requires-clause-apart g c =
@@ -39,7 +38,7 @@ reunite_spans-requires-clause-apart g c =
     let parts = c.in_ok-workers.field-0 in
     let done = c.in_ok-workers.ensures in
     inlets-apart g.O.Source.Stands g.O.Source.op g.S.Sends.Stands g.S.Sends.task g.S.Sends.post g.S.Sends.bounds ran.0 ran.1 ran.2
-    ran.3 c.args.decks.items c.args.places.now c.args.joined.items ran.6 (group_at c.args.layout.now.groups.items) ran.4
+    ran.3 c.args.decks.items c.args.places.now c.args.joined.items ran.6 (worker_group_at c.args.layout.now.worker_groups.items) ran.4
     parts.outs.items parts.ins.items parts.draws.items done.outs done.ins done.draws
 
 pub close_decks-requires-clause-many : goal.close_decks-requires-clause-many
@@ -51,7 +50,7 @@ close_decks-requires-clause-seated g c =
     let parts = c.in_ok-workers.field-0 in
     let done = c.in_ok-workers.ensures in
     seated g.O.Source.Stands g.O.Source.op g.S.Sends.Stands g.S.Sends.task g.S.Sends.post g.S.Sends.bounds ran.0 ran.1 ran.2
-    ran.3 c.args.decks.items c.args.places.now c.args.joined.items ran.6 (group_at c.args.layout.now.groups.items) ran.4
+    ran.3 c.args.decks.items c.args.places.now c.args.joined.items ran.6 (worker_group_at c.args.layout.now.worker_groups.items) ran.4
     parts.outs.items parts.ins.items parts.draws.items done.outs done.ins done.draws
 
 pub close_decks-requires-clause-apart : goal.close_decks-requires-clause-apart
@@ -60,7 +59,7 @@ close_decks-requires-clause-apart g c =
     let parts = c.in_ok-workers.field-0 in
     let done = c.in_ok-workers.ensures in
     draws-apart g.O.Source.Stands g.O.Source.op g.S.Sends.Stands g.S.Sends.task g.S.Sends.post g.S.Sends.bounds ran.0 ran.1 ran.2
-    ran.3 c.args.decks.items c.args.places.now c.args.joined.items ran.6 (group_at c.args.layout.now.groups.items) ran.4
+    ran.3 c.args.decks.items c.args.places.now c.args.joined.items ran.6 (worker_group_at c.args.layout.now.worker_groups.items) ran.4
     parts.outs.items parts.ins.items parts.draws.items done.outs done.ins done.draws
 
 pub returns-clause-workers : goal.returns-clause-workers
@@ -71,7 +70,7 @@ returns-clause-whole g c = λ hash m W p sized laid run unfinished.
     let js = c.args.joined.items in
     let ws = c.as_slice.result.now in
     let are : ws ≡ map worker_in js = c.as_slice.ensures.value ∙ c.in_ok-workers.ensures.workers in
-    let judged : Judged ws verdict.Unfinished = subst (λ v. Judged ws v) unfinished c.judge-verdict.ensures in
+    let judged : Judged ws run_state.Unfinished = subst (λ v. Judged ws v) unfinished c.judge-verdict.ensures in
     none-goes-on g.O.Source.Stands g.O.Source.op g.S.Sends.Stands g.S.Sends.task g.S.Sends.post g.S.Sends.bounds hash m
     run.members js run.honest (subst (λ z. GoesOn z) are judged)
 
@@ -86,8 +85,8 @@ returns-clause-settled g c = λ hash m W p sized laid run.
     (settled g.O.Source.Stands g.O.Source.op g.S.Sends.Stands g.S.Sends.task g.S.Sends.post g.S.Sends.bounds hash m g.met.S.Sends.at_post W p ws ws
     (map held_in js) refl
     (came-back g.O.Source.Stands g.O.Source.op g.S.Sends.Stands g.S.Sends.task g.S.Sends.post g.S.Sends.bounds hash m W p
-    c.args.decks.items c.args.places.now js run (group_at c.args.layout.now.groups.items) sized parts.outs.items parts.ins.items parts.draws.items
-    done.outs done.ins done.draws ws (c.as_slice.ensures.value ∙ done.workers) (flowed (group_at c.args.layout.now.groups.items) p parts.outs.items parts.ins.items c.spans.result.now (c.spans.ensures ∙ laid) c.reunite_spans.ensures.flows) c.in_ok-close_decks.ensures)
+    c.args.decks.items c.args.places.now js run (worker_group_at c.args.layout.now.worker_groups.items) sized parts.outs.items parts.ins.items parts.draws.items
+    done.outs done.ins done.draws ws (c.as_slice.ensures.value ∙ done.workers) (subst (λ (z : List NodeSpan). All (IsSpanned FlowsThrough parts.outs.items parts.ins.items) z) (c.spans.ensures ∙ laid) c.reunite_spans.ensures.flows) c.in_ok-close_decks.ensures)
     x c.judge-verdict.ensures)
 
 pub returns-clause-answers : goal.returns-clause-answers
@@ -102,8 +101,8 @@ returns-clause-answers g c = λ hash m W p is_total sized laid run ok.
     (settled g.O.Source.Stands g.O.Source.op g.S.Sends.Stands g.S.Sends.task g.S.Sends.post g.S.Sends.bounds hash m g.met.S.Sends.at_post W p ws ws
     (map held_in js) refl
     (came-back g.O.Source.Stands g.O.Source.op g.S.Sends.Stands g.S.Sends.task g.S.Sends.post g.S.Sends.bounds hash m W p
-    c.args.decks.items c.args.places.now js run (group_at c.args.layout.now.groups.items) sized parts.outs.items parts.ins.items parts.draws.items
-    done.outs done.ins done.draws ws (c.as_slice.ensures.value ∙ done.workers) (flowed (group_at c.args.layout.now.groups.items) p parts.outs.items parts.ins.items c.spans.result.now (c.spans.ensures ∙ laid) c.reunite_spans.ensures.flows) c.in_ok-close_decks.ensures)
+    c.args.decks.items c.args.places.now js run (worker_group_at c.args.layout.now.worker_groups.items) sized parts.outs.items parts.ins.items parts.draws.items
+    done.outs done.ins done.draws ws (c.as_slice.ensures.value ∙ done.workers) (subst (λ (z : List NodeSpan). All (IsSpanned FlowsThrough parts.outs.items parts.ins.items) z) (c.spans.ensures ∙ laid) c.reunite_spans.ensures.flows) c.in_ok-close_decks.ensures)
     x c.judge-verdict.ensures))
 
 pub returns-clause-first : goal.returns-clause-first
@@ -115,6 +114,6 @@ returns-clause-first g c = λ hash m W p is_total sized laid run ok.
     reported g.O.Source.Stands g.O.Source.op g.S.Sends.Stands g.S.Sends.task g.S.Sends.post g.S.Sends.bounds hash m g.met.S.Sends.at_post W p ws ws
     (map held_in js) refl
     (came-back g.O.Source.Stands g.O.Source.op g.S.Sends.Stands g.S.Sends.task g.S.Sends.post g.S.Sends.bounds hash m W p
-    c.args.decks.items c.args.places.now js run (group_at c.args.layout.now.groups.items) sized parts.outs.items parts.ins.items parts.draws.items
-    done.outs done.ins done.draws ws (c.as_slice.ensures.value ∙ done.workers) (flowed (group_at c.args.layout.now.groups.items) p parts.outs.items parts.ins.items c.spans.result.now (c.spans.ensures ∙ laid) c.reunite_spans.ensures.flows) c.in_ok-close_decks.ensures)
+    c.args.decks.items c.args.places.now js run (worker_group_at c.args.layout.now.worker_groups.items) sized parts.outs.items parts.ins.items parts.draws.items
+    done.outs done.ins done.draws ws (c.as_slice.ensures.value ∙ done.workers) (subst (λ (z : List NodeSpan). All (IsSpanned FlowsThrough parts.outs.items parts.ins.items) z) (c.spans.ensures ∙ laid) c.reunite_spans.ensures.flows) c.in_ok-close_decks.ensures)
     ok.fit (some-workers W is_total p ok) c.judge-verdict.result c.judge-verdict.ensures

@@ -5,13 +5,13 @@ use Rattle.std.specs.Vec.Iter.{into_iter_items, into_iter_len}
 use Rattle.std.proofs.lemmas.Bool.{cases_eq}
 use Rattle.std.proofs.lemmas.List.{length_push}
 use Rattle.std.proofs.lemmas.List.FromFn.{length-enumerate_from}
-use Rattle.std.proofs.lemmas.Option.{slice_get-get_or, slice_get_within}
+use Rattle.std.proofs.lemmas.Option.{slice_get-get_or, slice_get_within, same_Some}
 use Rattle.std.proofs.lemmas.Iterator.Adapters.{YieldsList-from_vec}
 use Rattle.std.proofs.lemmas.Iterator.Consumers.{YieldsList-from_enumerate, YieldsList-turn, YieldsList-end}
 use Rattle.vx_threads.specs.declared.deck_place.DeckPlace.{DeckPlace}
 use Rattle.vx_assembly.specs.Closing.{ClosedIn}
 use Rattle.vx_assembly.proofs.SeatsTaken.{remains-then, remains-apart}
-use Rattle.vx_assembly.proofs.Seating.{numbered, some-is, seated-on, closed-back}
+use Rattle.vx_assembly.proofs.Seating.{numbered, seated-on, closed-back}
 use Rattle.vx_assembly.proofs.closing.close_decks.Goals as goal
 
 pub close_deck-requires-clause-seated : goal.close_deck-requires-clause-seated
@@ -81,8 +81,8 @@ loop-number-preserved c =
       remains-then before other behind xs ys c.close_deck.new.draws.items split was.0 c.in_ok-close_deck.ensures.remains,
       λ k d q l dk qk. elim (cases_eq k n) [
         | inl e ↦
-            let de : c.in-Some.deck ≡ d = some-is c.in-Some.deck d (sym here ∙ ap (slice_get decks) (sym e) ∙ dk) in
-            let qe : q0 ≡ q = some-is q0 q (sym there ∙ ap (slice_get places) (sym e) ∙ qk) in
+            let de : c.in-Some.deck ≡ d = same_Some c.in-Some.deck d (sym here ∙ ap (slice_get decks) (sym e) ∙ dk) in
+            let qe : q0 ≡ q = same_Some q0 q (sym there ∙ ap (slice_get places) (sym e) ∙ qk) in
             subst (λ z. ClosedIn xs z d q) (sym e) (subst (λ z. ClosedIn xs n z q) de (subst (λ z. ClosedIn xs n c.in-Some.deck z) qe closed))
         | inr e ↦ was.1 k d q (omega (arith, l, e, more, same)) dk qk
       ],

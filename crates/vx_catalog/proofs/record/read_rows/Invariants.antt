@@ -2,9 +2,9 @@ use Rattle.std.proofs.Common.{◌≡◌, ◌≤◌, [], length}
 use Rattle.csv.specs.Reading.{source_of}
 use Rattle.vx_catalog.specs.Counting.{StaysKnown}
 use Rattle.vx_catalog.specs.Records.{IsPlain, rest_of}
-use Rattle.vx_catalog.specs.Loading.{max_rows}
 use Rattle.vx_catalog.proofs.RowsReported.{RowsSoFar}
 use Rattle.vx_catalog.proofs.record.read_rows.Given as goal
+use Rattle.vx_values.specs.Limits.{max_rows}
 
 abbrev pub invariant-loop : goal.invariant-loop
 invariant-loop g l = record {

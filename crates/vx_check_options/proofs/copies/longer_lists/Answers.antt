@@ -1,8 +1,13 @@
-use Rattle.std.proofs.Common.{◌∙◌, Vec, Global, ℕ, map, take, ap, sym}
-use Rattle.std.proofs.lemmas.List.{take-map}
+use Rattle.std.proofs.Common.{◌≡◌, ◌∙◌, ◌++◌, ◌∷◌, [], List, Vec, Global, ℕ, map, flat_map, take, drop, ap, sym, arith}
+use Rattle.std.proofs.lemmas.List.{take-map, append-nil, drop_all}
 use Rattle.vx_check_options.proofs.copies.longer_lists.Goals as goal
 
 pub returns : goal.returns
 returns c =
-    let made = rw (c.as_slice.ensures.value, c.as_slice-2.ensures.value, c.in_ok-places.ensures) at c.in_ok-longer.ensures in
-    ap (map (λ (v : Vec ℕ Global). v.items)) c.truncate.ensures.items ∙ sym (take-map (λ (v : Vec ℕ Global). v.items) 64 c.in_ok-longer.longer.items) ∙ ap (take 64) made
+    let items = map (λ (v : Vec ℕ Global). v.items) in
+    let f : ℕ → List (List ℕ) = λ d. map (λ ds. d ∷ ds) (items c.as_slice-ends.result.now) in
+    let places = c.as_slice-place-items.result.now in
+    let past : drop c.loop-place.place-index places ≡ [] = drop_all c.loop-place.place-index places (omega (arith, c.loop-place-test.false)) in
+    let made = c.loop-place.invariant ∙ ap (λ xs. items c.loop-place.longer.items ++ flat_map f xs) past ∙ append-nil (items c.loop-place.longer.items) in
+    let of = ap (flat_map f) (c.as_slice-place-items.ensures.value ∙ (rw c.new-places.ensures.items at c.in_ok-add_copies.ensures)) in
+    ap items c.truncate.ensures.items ∙ sym (take-map (λ (v : Vec ℕ Global). v.items) 64 c.loop-place.longer.items) ∙ ap (take 64) (rw c.as_slice-ends.ensures.value at (sym made ∙ of))

@@ -11,4 +11,4 @@ pub loop-left-preserved : goal.loop-left-preserved
 loop-left-preserved c =
     let over = λ (x : Part). flat_map (parts_over (relation_at c.args.catalog.now) (plan_of c.args.node.now) x) (map part_of c.args.rights.now) in
     loop-more (λ (ps : List rust_part.Part). flat_map over (map part_of ps)) (λ p. over (part_of p)) (λ p ps. refl)
-    c.args.lefts.now c.loop-left.left-index _ c.loop-left-test.true c.left-item.is _ _ _ c.loop-left.invariant c.in_ok-add_parts_beside.ensures
+    c.args.lefts.now c.loop-left.left-index _ c.loop-left-test.true c.left-item.is _ _ _ c.loop-left.invariant c.in_ok-add_beside.ensures

@@ -2,7 +2,7 @@ use Rattle.std.proofs.Common.{◌*◌, ◌/◌, ◌-◌, ◌∙◌, ◌≡◌, a
 use Rattle.std.specs.List.{fold}
 use Rattle.std.proofs.lemmas.List.{take-append-drop, length-drop}
 use Rattle.std.proofs.lemmas.List.Sums.{fold-append}
-use Rattle.vx_exchange.specs.ByteRouter.{hash_byte}
+use Rattle.vx_plan_nodes.specs.ByteRouter.{hash_byte}
 use Rattle.vx_exchange.proofs.byte_router.hash_bytes.Goals as goal
 
 pub returns : goal.returns

@@ -1,6 +1,6 @@
 use Rattle.std.proofs.Common.{◌≡◌, drop}
 use Rattle.std.specs.List.{fold}
-use Rattle.vx_exchange.specs.ByteRouter.{hash_byte}
+use Rattle.vx_plan_nodes.specs.ByteRouter.{hash_byte}
 use Rattle.vx_exchange.proofs.byte_router.hash_each.Given as goal
 
 abbrev pub invariant-loop-byte : goal.invariant-loop-byte

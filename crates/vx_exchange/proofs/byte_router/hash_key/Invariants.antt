@@ -1,7 +1,7 @@
 use Rattle.std.proofs.Common.{◌≡◌, drop, map, flat_map}
 use Rattle.std.specs.List.{fold}
 use Rattle.vx_values.specs.ValueView.{val_of}
-use Rattle.vx_exchange.specs.ByteRouter.{hash_byte, value_bytes}
+use Rattle.vx_plan_nodes.specs.ByteRouter.{hash_byte, value_bytes}
 use Rattle.vx_exchange.proofs.byte_router.hash_key.Given as goal
 
 abbrev pub invariant-loop-value : goal.invariant-loop-value

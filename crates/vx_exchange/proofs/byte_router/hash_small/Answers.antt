@@ -2,7 +2,7 @@ use Rattle.std.proofs.Common.{rules, arith, ◌<◌, ◌^◌, ℕ, List, ap, ◌
 use Rattle.std.specs.List.{fold}
 use Rattle.std.specs.Int.{w64, to_be_bytes}
 use Rattle.std.proofs.lemmas.Int.{to_z-of_z}
-use Rattle.vx_exchange.specs.ByteRouter.{hash_byte}
+use Rattle.vx_plan_nodes.specs.ByteRouter.{hash_byte}
 use Rattle.vx_exchange.proofs.ByteFacts.{small-hash}
 use Rattle.vx_exchange.proofs.byte_router.hash_small.Goals as goal
 

@@ -1,7 +1,7 @@
 use Rattle.std.proofs.Common.{◌≡◌, ◌+◌, ◌%◌, map, take, length}
 use Rattle.std.specs.List.{fold}
 use Rattle.std.specs.Int.{w32, w64, to_be_bytes, cast_unsigned}
-use Rattle.vx_exchange.specs.ByteRouter.{hash_byte}
+use Rattle.vx_plan_nodes.specs.ByteRouter.{hash_byte}
 use Rattle.vx_exchange.proofs.byte_router.route_small.Given as goal
 
 abbrev pub invariant-loop-i : goal.invariant-loop-i

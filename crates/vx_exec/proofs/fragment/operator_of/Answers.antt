@@ -9,7 +9,7 @@ use Rattle.vx_plan_nodes.specs.TypedView.{scope}
 use Rattle.vx_plan_nodes.specs.Types.{types_of}
 use Rattle.vx_check_rules.specs.Checked.{relations}
 use Rattle.vx_exec.specs.Crew.{IsOperatorOf}
-use Rattle.vx_layout.specs.Groups.{group_at}
+use Rattle.vx_plan_nodes.specs.Workers.{worker_group_at}
 use Rattle.vx_exec.proofs.Fragments.{scan-operator, consumer-made, exchange-columns}
 use Rattle.vx_exec.proofs.fragment.operator_of.Goals as goal
 
@@ -36,7 +36,7 @@ returns-in_ok-types-in-Exchange c =
     subst (λ z. IfOk made.result (IsOperatorOf j c.args.place (plan_of z))) (sym c.in-Exchange.is)
     (consumer-made j c.args.place h.number (claim_of h.claim) (kind_of x.kind) x.merge.items (plan_of c.in-Exchange.input.value) types c.workers-producers.result made.result
     made.ensures.op made.ensures.stands made.ensures.reads made.ensures.returns
-    (c.workers-producers.ensures.value ∙ ap (λ z. workers (group_at j.layout.groups.items) z) c.size.ensures ∙ ap (λ z. workers (group_at j.layout.groups.items) (size (plan_of z))) c.deref-in-Exchange.ensures)
+    (c.workers-producers.ensures.value ∙ ap (λ z. workers (worker_group_at j.layout.worker_groups.items) z) c.size.ensures ∙ ap (λ z. workers (worker_group_at j.layout.worker_groups.items) (size (plan_of z))) c.deref-in-Exchange.ensures)
     (subst (λ z. types ≡ types_of (relations j.plan.now) (plan_of z)) c.in-Exchange.is given))
 
 pub consumer_operator-requires-clause-columns : goal.consumer_operator-requires-clause-columns

@@ -4,9 +4,10 @@ use Rattle.vx_plan_nodes.specs.Types.{types_of}
 use Rattle.vx_check_rules.specs.Checked.{relations}
 use Rattle.vx_exec.specs.Counts.{AreCountsOf, counts_in}
 use Rattle.vx_exec.specs.Job.{model_of}
+use Rattle.vx_exec.specs.Promise.{NothingElse}
 use Rattle.vx_exec.specs.Runs.{IsInRounds}
 use Rattle.vx_exec.proofs.Outcomes.{rounds-reported, counted-reported}
-use Rattle.vx_exec.proofs.Finishing.{job-accepted, ready-parts, has-run, first-types, not-passed, comes-done, comes-failed, comes-first}
+use Rattle.vx_exec.proofs.Finishing.{job-accepted, ready-parts, has-run, first-types, not-passed, comes-kept}
 use Rattle.vx_exec.proofs.run.run_job.Goals as goal
 
 pub answer_of-requires : goal.answer_of-requires
@@ -45,9 +46,7 @@ returns g c =
       comes = c.answer_of.ensures;
     } in
     record {
-      done = comes-done end.result c.answer_of.result run c.answer_of.ensures;
-      failed = comes-failed end.result c.answer_of.result run c.answer_of.ensures;
-      first = comes-first end.result c.answer_of.result run c.answer_of.ensures;
+      run = comes-kept NothingElse end.result c.answer_of.result run c.answer_of.ensures;
       rounds = rounds-reported hash (model_of hash j) (whole_plan j.plan.now) c.answer_of.result c.args.limit rounds;
       counted = λ wanted.
           counted-reported hash (model_of hash j) (whole_plan j.plan.now) c.answer_of.result c.args.limit (counts_in c.note.new.self)

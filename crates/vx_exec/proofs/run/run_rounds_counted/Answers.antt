@@ -1,70 +1,30 @@
-use Rattle.std.proofs.Common.{subst, sym, ◌∙◌, inl, IfErr}
-use Rattle.vx_plan_nodes.specs.TypedView.{resolved_of, plan as whole_plan}
-use Rattle.vx_check_rules.specs.CheckedView.{typed_plan}
-use Rattle.vx_exec.specs.Job.{sizes_of}
-use Rattle.vx_exec.specs.Sizes.{Sizes, run_model}
+use Rattle.std.proofs.Common.{refl, subst, inl}
 use Rattle.vx_exec.specs.Counts.{counts_in}
-use Rattle.vx_exec.specs.Runs.{InRounds, CountedInRounds, IsTrueOf, IsFirstReported, IsSetUp, RunFails, for_fault}
-use Rattle.vx_exec.proofs.Outcomes.{rounds-nothing, counted-nothing, failed-by, err-reported, of-job, ok-reported}
+use Rattle.vx_exec.specs.Promise.{NothingElse}
+use Rattle.vx_exec.specs.Runs.{InRounds, CountedInRounds}
+use Rattle.vx_exec.proofs.Outcomes.{made-of, NoJobOf, where-set, nothing-ran, promise-kept, promise-refused}
 use Rattle.vx_exec.proofs.run.run_rounds_counted.Goals as goal
 
-pub returns-clause-refused : goal.returns-clause-refused
-returns-clause-refused g c =
-    let j = c.in_ok-job.job in
-    let p = resolved_of (typed_plan c.args.plan.now) in
-    failed-by c.run_job.result (IsTrueOf (resolved_of j.plan.now) j.database.now) (RunFails p c.args.database.now c.args.setup.now)
-    (λ e h.
-    for_fault (sizes_of j) (subst (λ z. IsSetUp (resolved_of z) c.args.database.now c.args.setup.now (sizes_of j)) c.plan.ensures.same c.in_ok-job.ensures.set)
-    (subst (λ z. IsTrueOf (resolved_of z) c.args.database.now e) (c.in_ok-job.ensures.plan ∙ c.plan.ensures.same)
-    (subst (λ b. IsTrueOf (resolved_of j.plan.now) b e) c.in_ok-job.ensures.database h)))
-    c.run_job.ensures.failed
+pub returns : goal.returns
+returns g c =
+    let hash = g.R.Router.route_of c.args.router.now in
+    let made = made-of c.in_ok-job.job c.plan.ensures.same c.in_ok-job.ensures.plan c.in_ok-job.ensures.database c.in_ok-job.ensures.set in
+    let r = c.run_job.result in
+    record {
+      promise = promise-kept hash NothingElse r made c.run_job.ensures.run;
+      rounds = where-set hash (λ W q. InRounds hash W q c.args.limit r) made c.run_job.ensures.rounds;
+      counted = λ wanted. where-set hash (λ W q. CountedInRounds hash W q c.args.limit r (counts_in c.run_job.new.counts)) made (c.run_job.ensures.counted wanted);
+    }
 
-pub returns-clause-first : goal.returns-clause-first
-returns-clause-first g c = λ s set.
-    let j = c.in_ok-job.job in
-    let mine = subst (λ z. IsSetUp (resolved_of z) c.args.database.now c.args.setup.now (sizes_of j)) c.plan.ensures.same c.in_ok-job.ensures.set in
-    of-job (λ p db z. IfErr c.run_job.result (IsFirstReported (run_model (g.R.Router.route_of c.args.router.now) p db z) (whole_plan p)))
-    j (typed_plan c.args.plan.now) c.args.database.now c.args.setup.now s (c.in_ok-job.ensures.plan ∙ c.plan.ensures.same) c.in_ok-job.ensures.database mine set c.run_job.ensures.first
-
-pub returns-in_err-job-clause-first : goal.returns-in_err-job-clause-first
-returns-in_err-job-clause-first g c = λ s set.
+pub returns-in_err-job : goal.returns-in_err-job
+returns-in_err-job g c =
+    let hash = g.R.Router.route_of c.args.router.now in
     let e = c.in_err-job.field-0.0 in
-    let p = typed_plan c.args.plan.now in
-    err-reported c.from_residual.result e (IsFirstReported (run_model (g.R.Router.route_of c.args.router.now) p c.args.database.now s) (whole_plan p)) c.from_residual.ensures.1
-    (inl (c.in_err-job.ensures.memory s (subst (λ z. IsSetUp (resolved_of z) c.args.database.now c.args.setup.now s) (sym c.plan.ensures.same) set)))
-
-pub returns-clause-set : goal.returns-clause-set
-returns-clause-set g c =
-    let j = c.in_ok-job.job in
-    let mine = subst (λ z. IsSetUp (resolved_of z) c.args.database.now c.args.setup.now (sizes_of j)) c.plan.ensures.same c.in_ok-job.ensures.set in
-    ok-reported c.run_job.result ((s : Sizes) × IsSetUp (resolved_of (typed_plan c.args.plan.now)) c.args.database.now c.args.setup.now s) (sizes_of j, mine)
-
-pub returns-clause-rounds : goal.returns-clause-rounds
-returns-clause-rounds g c = λ s set.
-    let j = c.in_ok-job.job in
-    let hash = g.R.Router.route_of c.args.router.now in
-    let mine = subst (λ z. IsSetUp (resolved_of z) c.args.database.now c.args.setup.now (sizes_of j)) c.plan.ensures.same c.in_ok-job.ensures.set in
-    of-job (λ p db z. InRounds hash (run_model hash p db z) (whole_plan p) c.args.limit c.run_job.result)
-    j (typed_plan c.args.plan.now) c.args.database.now c.args.setup.now s (c.in_ok-job.ensures.plan ∙ c.plan.ensures.same) c.in_ok-job.ensures.database mine set c.run_job.ensures.rounds
-
-pub returns-in_err-job-clause-rounds : goal.returns-in_err-job-clause-rounds
-returns-in_err-job-clause-rounds g c = λ s set.
-    let p = typed_plan c.args.plan.now in
-    let hash = g.R.Router.route_of c.args.router.now in
-    rounds-nothing hash (run_model hash p c.args.database.now s) (whole_plan p) c.from_residual.result c.in_err-job.field-0.0 c.args.limit c.from_residual.ensures.1
-    (c.in_err-job.ensures.memory s (subst (λ z. IsSetUp (resolved_of z) c.args.database.now c.args.setup.now s) (sym c.plan.ensures.same) set))
-
-pub returns-clause-counted : goal.returns-clause-counted
-returns-clause-counted g c = λ wanted s set.
-    let j = c.in_ok-job.job in
-    let hash = g.R.Router.route_of c.args.router.now in
-    let mine = subst (λ z. IsSetUp (resolved_of z) c.args.database.now c.args.setup.now (sizes_of j)) c.plan.ensures.same c.in_ok-job.ensures.set in
-    of-job (λ p db z. CountedInRounds hash (run_model hash p db z) (whole_plan p) c.args.limit c.run_job.result (counts_in c.run_job.new.counts))
-    j (typed_plan c.args.plan.now) c.args.database.now c.args.setup.now s (c.in_ok-job.ensures.plan ∙ c.plan.ensures.same) c.in_ok-job.ensures.database mine set (c.run_job.ensures.counted wanted)
-
-pub returns-in_err-job-clause-counted : goal.returns-in_err-job-clause-counted
-returns-in_err-job-clause-counted g c = λ wanted s set.
-    let p = typed_plan c.args.plan.now in
-    let hash = g.R.Router.route_of c.args.router.now in
-    counted-nothing hash (run_model hash p c.args.database.now s) (whole_plan p) c.from_residual.result c.in_err-job.field-0.0 c.args.limit (counts_in c.args.counts.now) c.from_residual.ensures.1
-    (c.in_err-job.ensures.memory s (subst (λ z. IsSetUp (resolved_of z) c.args.database.now c.args.setup.now s) (sym c.plan.ensures.same) set))
+    let none = subst (λ z. NoJobOf z c.args.database.now c.args.setup.now e) c.plan.ensures.same (record { refused = c.in_err-job.ensures.refused; memory = c.in_err-job.ensures.memory }) in
+    let r = c.from_residual.result in
+    let handed = c.from_residual.ensures.1 in
+    record {
+      promise = promise-refused hash NothingElse r e handed none;
+      rounds = nothing-ran hash (λ W q z. InRounds hash W q c.args.limit z) r e handed none (λ W q. inl refl);
+      counted = λ wanted. nothing-ran hash (λ W q z. CountedInRounds hash W q c.args.limit z (counts_in c.args.counts.now)) r e handed none (λ W q. inl refl);
+    }

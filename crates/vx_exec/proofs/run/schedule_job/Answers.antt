@@ -1,16 +1,13 @@
-use Rattle.vx_plan_nodes.specs.TypedView.{plan as whole_plan, resolved_of}
+use Rattle.vx_plan_nodes.specs.TypedView.{plan as whole_plan}
 use Rattle.vx_plan_nodes.specs.Types.{types_of}
-use Rattle.std.proofs.Common.{◌<◌, ℕ, inl, inr, subst}
+use Rattle.std.proofs.Common.{◌<◌, inl, inr, subst}
 use Rattle.std.specs.List.{All}
-use Rattle.vx_steps.specs.Roles.{crew_size}
 use Rattle.vx_steps.specs.Schedules.{IsBadStep}
-use Rattle.vx_layout.specs.Groups.{group_at}
-use Rattle.vx_exec.specs.Runs.{IsTrueOf, IsFirstReported, IsBadStepOf}
+use Rattle.vx_exec.specs.Runs.{IsBadStepOf}
 use Rattle.vx_exec.specs.Job.{model_of}
-use Rattle.vx_setup.specs.declared.fault.RunFault.{RunFault}
 use Rattle.vx_check_rules.specs.Checked.{relations}
-use Rattle.vx_exec.proofs.Outcomes.{failed-or, names-reported, steps-reported}
-use Rattle.vx_exec.proofs.Finishing.{job-accepted, ready-parts, ready-count, has-run, first-types, not-passed, comes-done, comes-failed, comes-first}
+use Rattle.vx_exec.proofs.Outcomes.{names-reported, steps-reported}
+use Rattle.vx_exec.proofs.Finishing.{job-accepted, ready-parts, ready-count, has-run, first-types, not-passed, comes-kept}
 use Rattle.vx_exec.proofs.run.schedule_job.Goals as goal
 
 pub answer_of-requires : goal.answer_of-requires
@@ -38,14 +35,10 @@ returns-in-Ok g c =
     let end = c.judge_schedule in
     let run = has-run j hash parts.result.0.items end.new.workers.items parts.result.1 c.in-Ok.verdict begun end.ensures.roles c.in-Ok.ensures.answers c.in-Ok.ensures.first in
     let p = whole_plan j.plan.now in
-    let count : ℕ = crew_size (group_at j.layout.groups.items) p in
-    let bad : RunFault → Type 0 = IsBadStepOf c.args.steps.now count in
     let r = c.answer_of.result in
     record {
-      done = comes-done c.in-Ok.verdict r run c.answer_of.ensures;
-      failed = failed-or r (IsTrueOf (resolved_of j.plan.now) j.database.now) bad (comes-failed c.in-Ok.verdict r run c.answer_of.ensures);
-      first = failed-or r (IsFirstReported (model_of hash j) p) bad (comes-first c.in-Ok.verdict r run c.answer_of.ensures);
-      named = names-reported r c.args.steps.now count
+      run = comes-kept (IsBadStepOf c.args.steps.now) c.in-Ok.verdict r run c.answer_of.ensures;
+      named = names-reported hash (model_of hash j) p r c.args.steps.now
           (subst (λ z. All (λ k. k < z) c.args.steps.now) (ready-count j hash parts.result.0 parts.result.1 begun) c.in-Ok.ensures.good);
       scheduled = steps-reported hash (model_of hash j) p r c.args.steps.now (record {
         begun = parts.result.0.items;
@@ -68,4 +61,4 @@ returns-in-Err g c =
     let ok = job-accepted j hash (g.met.R.Router.in_range c.args.router.now) c.meets.ensures c.requires.allowed c.requires.root in
     let begun = ready-parts j hash ok c.in_ok-crew.crew parts.result.0 parts.result.1 parts.ensures.workers parts.ensures.links (c.in_ok-crew.ensures.ready hash) in
     let bad = subst (λ z. IsBadStep c.args.steps.now z c.in-Err.index) (ready-count j hash parts.result.0 parts.result.1 begun) c.in-Err.ensures.bad in
-    record { done = tt; failed = inr bad; first = inr bad; named = inr (inl bad); scheduled = inr (inl bad) }
+    record { run = record { done = tt; failed = inr bad; first = inr bad }; named = inr (inl bad); scheduled = inr (inl bad) }

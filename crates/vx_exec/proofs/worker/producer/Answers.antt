@@ -14,7 +14,7 @@ use Rattle.vx_operators.specs.Destination.{post_of, bounds_of}
 use Rattle.vx_worker.specs.Fragment.{goes}
 use Rattle.vx_worker.specs.Intake.{source_of}
 use Rattle.vx_operators.specs.declared.destination.Destination.TheVariants as destination
-use Rattle.vx_layout.specs.Groups.{group_at}
+use Rattle.vx_plan_nodes.specs.Workers.{worker_group_at}
 use Rattle.vx_exec.specs.Job.{model_of}
 use Rattle.vx_exec.proofs.Dealing.{deal-serves, deal-columns, deal-routes}
 use Rattle.vx_exec.proofs.Workers.{producer-does, made-new}
@@ -22,8 +22,8 @@ use Rattle.vx_exec.proofs.worker.producer.Goals as goal
 
 pub new-requires-clause-served : goal.new-requires-clause-served
 new-requires-clause-served c =
-    deal-serves (group_at c.args.job.now.layout.groups.items) c.in_ok-deal.deal (kind_of c.args.kind.now) c.workers-consumers.result c.in_ok-deal.ensures.kind c.workers-consumers.ensures.some
-    (c.workers-consumers.ensures.value ∙ ap (λ z. workers (group_at c.args.job.now.layout.groups.items) z) c.target.ensures)
+    deal-serves (worker_group_at c.args.job.now.layout.worker_groups.items) c.in_ok-deal.deal (kind_of c.args.kind.now) c.workers-consumers.result c.in_ok-deal.ensures.kind c.workers-consumers.ensures.some
+    (c.workers-consumers.ensures.value ∙ ap (λ z. workers (worker_group_at c.args.job.now.layout.worker_groups.items) z) c.target.ensures)
 
 pub new-requires-clause-columns : goal.new-requires-clause-columns
 new-requires-clause-columns c =
@@ -44,7 +44,7 @@ returns-clause-duty c = λ hash.
     ∙ producer-does c.args.job.now hash c.args.exchange c.args.place (kind_of c.args.kind.now) (plan_of c.args.node.now) c.in_ok-tree.tree
     (post_of (destination.Send c.in_ok-sender.sender)) c.workers-consumers.result c.output_types-types.result.now (kind_dealt c.in_ok-deal.deal) c.packet.result
     c.in_ok-tree.ensures c.in_ok-sender.ensures.post
-    (c.workers-consumers.ensures.value ∙ ap (λ z. workers (group_at c.args.job.now.layout.groups.items) z) c.target.ensures)
+    (c.workers-consumers.ensures.value ∙ ap (λ z. workers (worker_group_at c.args.job.now.layout.worker_groups.items) z) c.target.ensures)
     (c.output_types-types.ensures (relations c.args.job.now.plan.now) c.requires.part.outputs) c.in_ok-deal.ensures.kind c.packet.ensures.value
 
 pub returns-clause-new : goal.returns-clause-new

@@ -1,4 +1,4 @@
-use Rattle.vx_rows.proofs.Order.{NoFall}
+use Rattle.vx_values.proofs.Order.{NoFall}
 use Rattle.vx_keys.proofs.rising.chunk_rises.Given as goal
 
 abbrev pub invariant-loop-i : goal.invariant-loop-i

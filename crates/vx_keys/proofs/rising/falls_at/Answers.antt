@@ -1,6 +1,6 @@
 use Rattle.std.proofs.Common.{◌≡◌, suc, ◌-◌, ◌<◌, arith, ap, refl, ◌∙◌, sym, length, get_or, true, is_lt, []}
-use Rattle.vx_rows.specs.Order.{compare_on, sorted}
-use Rattle.vx_rows.proofs.Order.{not_sorted}
+use Rattle.vx_values.specs.Order.{compare_on, sorted}
+use Rattle.vx_values.proofs.Order.{not_sorted}
 use Rattle.vx_keys.proofs.rising.falls_at.Goals as goal
 
 pub returns-clause-falls : goal.returns-clause-falls

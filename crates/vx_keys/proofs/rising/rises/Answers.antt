@@ -1,6 +1,6 @@
 use Rattle.std.proofs.Common.{◌≡◌, ◌+◌, length, take_all, ap, refl, sym, ◌∙◌, arith}
-use Rattle.vx_rows.specs.Order.{sorted}
-use Rattle.vx_rows.proofs.Order.{sorted_from}
+use Rattle.vx_values.specs.Order.{sorted}
+use Rattle.vx_values.proofs.Order.{sorted_from}
 use Rattle.vx_views.specs.Chunks.{all_rows}
 use Rattle.vx_keys.proofs.RiseFacts.{table-within, table-place, table-next, table-falls}
 use Rattle.vx_keys.proofs.rising.rises.Goals as goal

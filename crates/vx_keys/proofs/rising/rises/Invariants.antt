@@ -1,5 +1,5 @@
 use Rattle.std.proofs.Common.{◌≡◌, length, take}
-use Rattle.vx_rows.proofs.Order.{NoFall}
+use Rattle.vx_values.proofs.Order.{NoFall}
 use Rattle.vx_views.specs.Chunks.{all_rows}
 use Rattle.vx_keys.proofs.rising.rises.Given as goal
 

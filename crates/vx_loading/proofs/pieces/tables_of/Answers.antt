@@ -1,10 +1,11 @@
 use Rattle.std.proofs.Common.{rules, ◌≡◌, ◌<◌, ◌≤◌, ◌+◌, ◌∷◌, Some, Ok, Err, arith, length, sym, ◌∙◌, subst, drop, refl}
 use Rattle.std.specs.Vec.Iter.{into_iter_items}
 use Rattle.std.proofs.lemmas.List.{length_push}
-use Rattle.vx_catalog.specs.Loading.{Fails, max_rows}
+use Rattle.vx_catalog.specs.Loading.{Fails}
 use Rattle.vx_loading.specs.Pieces.{rows_of_text}
 use Rattle.vx_loading.proofs.JoinFacts.{next_is, joined_more, joined_over, joined_stop, count_pushed}
 use Rattle.vx_loading.proofs.pieces.tables_of.Goals as goal
+use Rattle.vx_values.specs.Limits.{max_rows}
 
 pub returns-in-Some-Err-clause-err : goal.returns-in-Some-Err-clause-err
 returns-in-Some-Err-clause-err c types front left long pieces =

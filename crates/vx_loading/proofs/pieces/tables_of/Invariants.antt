@@ -3,9 +3,9 @@ use Rattle.std.specs.Vec.Iter.{into_iter_items}
 use Rattle.vx_values.specs.Values.{Row}
 use Rattle.vx_values.specs.declared.value.ColType.{ColType}
 use Rattle.vx_rows.specs.Parts.{rows_of_all}
-use Rattle.vx_catalog.specs.Loading.{max_rows}
 use Rattle.vx_loading.specs.Pieces.{ArePieces, Joined}
 use Rattle.vx_loading.proofs.pieces.tables_of.Given as goal
+use Rattle.vx_values.specs.Limits.{max_rows}
 
 abbrev pub invariant-loop-part : goal.invariant-loop-part
 invariant-loop-part l =

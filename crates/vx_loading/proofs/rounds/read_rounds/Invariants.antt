@@ -1,7 +1,7 @@
 use Rattle.std.proofs.Common.{◌≡◌, ◌≤◌, length}
-use Rattle.vx_catalog.specs.Loading.{max_rows}
 use Rattle.vx_loading.specs.Reading.{ComesFrom}
 use Rattle.vx_loading.proofs.rounds.read_rounds.Given as goal
+use Rattle.vx_values.specs.Limits.{max_rows}
 
 abbrev pub invariant-loop : goal.invariant-loop
 invariant-loop g l = record {

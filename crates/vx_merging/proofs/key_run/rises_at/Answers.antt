@@ -1,7 +1,7 @@
 use Rattle.std.proofs.Common.{arith, ◌≡◌, ◌∙◌, ◌+◌, ◌-◌, ◌++◌, ◌∷◌, [], suc, ap, sym, take, is_le}
 use Rattle.std.proofs.lemmas.List.{take_more}
 use Rattle.vx_values.specs.Values.{row_cmp, pick}
-use Rattle.vx_rows.specs.Order.{sorted}
+use Rattle.vx_values.specs.Order.{sorted}
 use Rattle.vx_rows.specs.View.{row}
 use Rattle.vx_merging.specs.Merged.{last_key}
 use Rattle.vx_merging.proofs.RiseFacts.{last-take, rise-next}

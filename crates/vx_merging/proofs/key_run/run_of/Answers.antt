@@ -2,7 +2,7 @@ use Rattle.std.proofs.Common.{arith, ◌≡◌, ◌∙◌, ◌+◌, ◌<◌, ◌
 use Rattle.std.specs.Ordering.{is_gt, is_lt}
 use Rattle.std.proofs.lemmas.List.{take_more, take-append-drop}
 use Rattle.vx_values.specs.Values.{row_cmp, pick}
-use Rattle.vx_rows.specs.Order.{sorted}
+use Rattle.vx_values.specs.Order.{sorted}
 use Rattle.vx_rows.specs.View.{row}
 use Rattle.vx_merging.specs.Merged.{HasMerged, state_at, last_key}
 use Rattle.vx_merging.proofs.RiseFacts.{rise-front, last-push}

@@ -1,11 +1,11 @@
-use Rattle.std.proofs.Common.{◌≡◌, ◌∷◌, ℕ, List, length, flat_map, refl, ap, sym, ◌∙◌, subst, ◌≤◌, arith, rules}
+use Rattle.std.proofs.Common.{◌≡◌, ℕ, List, length, refl, ap, sym, ◌∙◌, subst, ◌≤◌, arith, rules}
 use Rattle.std.specs.List.{All}
 use Rattle.vx_plan_nodes.specs.Plan.{Plan}
 use Rattle.vx_plan_nodes.specs.Numbering.{nodes}
 use Rattle.vx_plan_nodes.specs.TypedView.{plan as whole_plan, resolved_of}
 use Rattle.vx_worker.specs.Trace.{scan_morsels}
 use Rattle.vx_steps.specs.Headline.{IsAccepted}
-use Rattle.vx_layout.specs.Groups.{group_at}
+use Rattle.vx_plan_nodes.specs.Workers.{worker_group_at}
 use Rattle.vx_layout.specs.Layout.{spans_of}
 use Rattle.vx_layout.specs.declared.layout.Layout.{Layout}
 use Rattle.vx_layout.specs.declared.span.NodeSpan.{NodeSpan}
@@ -14,22 +14,20 @@ use Rattle.vx_assembly.specs.Spans.{IsSmall}
 use Rattle.vx_assembly.proofs.Spanning.{small-spans}
 use Rattle.vx_exec.specs.Job.{model_of}
 use Rattle.vx_exec.specs.declared.job.Job.{Job}
-use Rattle.vx_parallel.specs.Fragments.{fragment_in, places_from}
-use Rattle.vx_parallel.proofs.Fragments.{fragments-in}
 use Rattle.vx_parallel.proofs.Crews.{few-members, as-many-ends, as-many-places, members-ready, were-run, were-joined, have-run}
 use Rattle.vx_parallel.proofs.run.run_crew.Goals as goal
 
 -- the layout that a job has is its plan's
-laid-as : (j : Job) (l : Layout) → l ≡ j.layout → l.spans.items ≡ spans_of (group_at j.layout.groups.items) (whole_plan j.plan.now) 0 1
-    → l.spans.items ≡ spans_of (group_at l.groups.items) (whole_plan j.plan.now) 0 1
-laid-as j l same laid = laid ∙ ap (λ (x : Layout). spans_of (group_at x.groups.items) (whole_plan j.plan.now) 0 1) (sym same)
+laid-as : (j : Job) (l : Layout) → l ≡ j.layout → l.spans.items ≡ spans_of (worker_group_at j.layout.worker_groups.items) (whole_plan j.plan.now) 0 1
+    → l.spans.items ≡ spans_of (worker_group_at l.worker_groups.items) (whole_plan j.plan.now) 0 1
+laid-as j l same laid = laid ∙ ap (λ (x : Layout). spans_of (worker_group_at x.worker_groups.items) (whole_plan j.plan.now) 0 1) (sym same)
 
 pub places_of-requires : goal.places_of-requires
 places_of-requires g c =
     let j = c.args.job.now in
     let p : Plan = whole_plan j.plan.now in
     let count : length c.layout-layout.result.now.spans.items ≡ nodes p =
-    ap (λ (z : List NodeSpan). length z) c.layout-layout.ensures.spans ∙ spans-count (group_at j.layout.groups.items) p 0 1 in
+    ap (λ (z : List NodeSpan). length z) c.layout-layout.ensures.spans ∙ spans-count (worker_group_at j.layout.worker_groups.items) p 0 1 in
     let few = j.plan.now.few_nodes in
     omega (arith, count, few)
 
@@ -37,12 +35,8 @@ pub members_of-requires : goal.members_of-requires
 members_of-requires g c =
     let j = c.args.job.now in
     let hash = g.R.Router.route_of c.args.router.now in
-    let p : Plan = whole_plan j.plan.now in
-    let sizes = group_at j.layout.groups.items in
-    let places = c.in_ok-seats.ensures ∙ ap (λ (z : List NodeSpan). places_from 0 (1 ∷ flat_map fragment_in z)) c.layout-layout.ensures.spans
-    ∙ ap (λ (z : List ℕ). places_from 0 (1 ∷ z)) (fragments-in sizes p 0 1) in
-    let many = as-many-places j hash c.args.workers.items c.in_ok-seats.seats.items c.as_slice.result.now j.layout.groups.items p c.requires.new refl refl
-    c.as_slice.ensures.value places in
+    let many = as-many-places j hash c.args.workers.items c.in_ok-seats.seats.items c.as_slice.result.now c.layout-layout.result.now.spans.items c.requires.new
+    c.layout-layout.ensures.spans c.as_slice.ensures.value c.in_ok-seats.ensures in
     let few = few-members j hash c.args.workers.items c.requires.new in
     record {
       ends = as-many-ends j hash c.args.workers.items c.args.wiring c.requires.new c.requires.wired;
@@ -65,13 +59,13 @@ assemble-requires g c =
     let l : Layout = c.layout-layout.result.now in
     let same = c.layout-layout.ensures.value in
     record {
-      small = subst (λ (z : List NodeSpan). All IsSmall z) (sym c.layout-layout.ensures.spans) (small-spans j.layout.groups.items j.within.groups p 0 1 (omega arith) j.few_workers);
+      small = subst (λ (z : List NodeSpan). All IsSmall z) (sym c.layout-layout.ensures.spans) (small-spans j.layout.worker_groups.items j.within.worker_groups p 0 1 (omega arith) j.few_workers);
       ran = (
         hash,
         scan_morsels W,
         W,
         p,
-        ap (λ (x : Layout). group_at x.groups.items) (sym same),
+        ap (λ (x : Layout). worker_group_at x.worker_groups.items) (sym same),
         laid-as j l same c.layout-layout.ensures.spans,
         were-run j hash c.args.workers.items c.args.wiring c.in_ok-members.members.items c.in_ok-joined.joined.items p c.as_slice-2.result.now c.requires.new c.requires.wired
             c.in_ok-members.ensures.workers c.in_ok-members.ensures.ends refl c.as_slice-2.ensures.value c.in_ok-joined.ensures.honest,
@@ -86,7 +80,7 @@ returns-clause-run g c = λ ok.
     let m = scan_morsels W in
     let p : Plan = whole_plan j.plan.now in
     let same = c.layout-layout.ensures.value in
-    let sizes = ap (λ (x : Layout). group_at x.groups.items) (sym same) in
+    let sizes = ap (λ (x : Layout). worker_group_at x.worker_groups.items) (sym same) in
     let laid = laid-as j c.layout-layout.result.now same c.layout-layout.ensures.spans in
     let ws = c.args.workers.items in
     let cs = c.in_ok-members.members.items in
@@ -107,7 +101,7 @@ returns-clause-joined g c =
     let m = scan_morsels W in
     let p : Plan = whole_plan j.plan.now in
     let same = c.layout-layout.ensures.value in
-    let sizes = ap (λ (x : Layout). group_at x.groups.items) (sym same) in
+    let sizes = ap (λ (x : Layout). worker_group_at x.worker_groups.items) (sym same) in
     let laid = laid-as j c.layout-layout.result.now same c.layout-layout.ensures.spans in
     let js = c.in_ok-joined.joined.items in
     let x = c.in_ok-ended.ended in

@@ -1,17 +1,14 @@
-use Rattle.std.proofs.Common.{◌≡◌, ◌⊎◌, ◌∙◌, inr, arith, subst}
-use Rattle.vx_plan_nodes.specs.TypedView.{plan as whole_plan, resolved_of}
+use Rattle.std.proofs.Common.{◌∙◌, refl, inl, inr, rules, arith, subst}
+use Rattle.vx_plan_nodes.specs.TypedView.{plan as whole_plan}
 use Rattle.vx_plan_nodes.specs.Types.{types_of}
 use Rattle.vx_check_rules.specs.Checked.{relations}
-use Rattle.vx_steps.specs.Roles.{crew_size}
-use Rattle.vx_layout.specs.Groups.{group_at}
+use Rattle.vx_plan_nodes.specs.Workers.{crew_size}
 use Rattle.vx_exec.specs.Counts.{AreCountsOf, counts_in}
-use Rattle.vx_exec.specs.Job.{model_of}
-use Rattle.vx_exec.specs.Runs.{IsTrueOf, IsFirstReported}
-use Rattle.vx_exec.proofs.Outcomes.{failed-by}
-use Rattle.vx_exec.proofs.Finishing.{job-accepted, ready-parts, ready-count, has-ended, first-types, not-passed, comes-done, comes-failed, comes-first}
-use Rattle.vx_parallel.specs.Parallel.{IsReportedByThreads}
-use Rattle.vx_parallel.proofs.Ends.{new-parts, comes-whole, refusal-failed, refusal-first, refusal-few, refusal-counted, counted-reported, same-count}
-use Rattle.vx_setup.specs.declared.fault.RunFault.TheVariants as fault
+use Rattle.vx_exec.specs.Job.{model_of, sizes_of}
+use Rattle.vx_exec.specs.Promise.{PromiseOnceSet}
+use Rattle.vx_exec.proofs.Finishing.{job-accepted, ready-parts, ready-count, has-ended, first-types, not-passed, comes-kept}
+use Rattle.vx_parallel.specs.Parallel.{NoThreadStarted, NeedsFew, CountedByThreads}
+use Rattle.vx_parallel.proofs.Ends.{new-parts, comes-whole, refusal-reported, counted-reported, same-count}
 use Rattle.vx_parallel.proofs.run.run_job.Goals as goal
 
 pub run_crew-requires-clause-new : goal.run_crew-requires-clause-new
@@ -52,11 +49,8 @@ returns g c =
     let r = c.answer_of.result in
     let count = ready-count j hash parts.result.0 parts.result.1 begun in
     record {
-      done = comes-done x.1 r run c.answer_of.ensures;
+      run = comes-kept NoThreadStarted x.1 r run c.answer_of.ensures;
       whole = comes-whole x.0.items x.1 r ran.whole c.answer_of.ensures;
-      failed = failed-by r (IsTrueOf (resolved_of j.plan.now) j.database.now) (λ e. (e ≡ fault.NoThread) ⊎ IsTrueOf (resolved_of j.plan.now) j.database.now e) (λ e h. inr h)
-          (comes-failed x.1 r run c.answer_of.ensures);
-      first = failed-by r (IsFirstReported W p) (IsReportedByThreads W p) (λ e h. inr h) (comes-first x.1 r run c.answer_of.ensures);
       few = λ lt. absurd (omega (arith, lt, count));
       counted = λ wanted.
           counted-reported hash W p r (counts_in c.note.new.self) (record {
@@ -69,26 +63,20 @@ returns g c =
           });
     }
 
-pub returns-in_err-ended-clause-failed : goal.returns-in_err-ended-clause-failed
-returns-in_err-ended-clause-failed g c =
-    let j = c.args.job.now in
-    refusal-failed c.from_residual-in_err-ended.result c.in_err-ended.field-0.0 (resolved_of j.plan.now) j.database.now c.from_residual-in_err-ended.ensures.1 c.in_err-ended.ensures.fault
-
-pub returns-in_err-ended-clause-first : goal.returns-in_err-ended-clause-first
-returns-in_err-ended-clause-first g c =
-    let j = c.args.job.now in
-    refusal-first c.from_residual-in_err-ended.result c.in_err-ended.field-0.0 (model_of (g.R.Router.route_of c.args.router.now) j) (whole_plan j.plan.now)
-    c.from_residual-in_err-ended.ensures.1 c.in_err-ended.ensures.fault
-
-pub returns-in_err-ended-clause-few : goal.returns-in_err-ended-clause-few
-returns-in_err-ended-clause-few g c =
-    let j = c.args.job.now in
-    refusal-few c.from_residual-in_err-ended.result c.in_err-ended.field-0.0 c.args.most (crew_size (group_at j.layout.groups.items) (whole_plan j.plan.now))
-    c.from_residual-in_err-ended.ensures.1 c.in_err-ended.ensures.fault
-
-pub returns-in_err-ended-clause-counted : goal.returns-in_err-ended-clause-counted
-returns-in_err-ended-clause-counted g c = λ wanted.
+pub returns-in_err-ended : goal.returns-in_err-ended
+returns-in_err-ended g c =
     let j = c.args.job.now in
     let hash = g.R.Router.route_of c.args.router.now in
-    refusal-counted hash (model_of hash j) (whole_plan j.plan.now) c.from_residual-in_err-ended.result c.in_err-ended.field-0.0 (counts_in c.args.counts.now)
-    c.from_residual-in_err-ended.ensures.1 c.in_err-ended.ensures.fault
+    let W = model_of hash j in
+    let p = whole_plan j.plan.now in
+    let r = c.from_residual-in_err-ended.result in
+    let e = c.in_err-ended.field-0.0 in
+    let handed = c.from_residual-in_err-ended.ensures.1 in
+    let refused = c.in_err-ended.ensures.fault in
+    record {
+      run = refusal-reported (λ z. PromiseOnceSet hash NoThreadStarted j.plan.now j.database.now (sizes_of j) z) r e handed refused
+          (record { done = tt; failed = inl tt; first = inl (inl refl) }) (record { done = tt; failed = inr refl; first = inr refl });
+      whole = search rules;
+      few = refusal-reported (λ z. NeedsFew c.args.most (crew_size W.sizes p) z) r e handed refused (λ few. inr refl) (λ few. inl refl);
+      counted = λ wanted. refusal-reported (λ z. CountedByThreads hash W p z (counts_in c.args.counts.now)) r e handed refused (inl refl) (inr (inl refl));
+    }

@@ -1,5 +1,5 @@
 use Rattle.std.proofs.Common.{◌≡◌, ◌-◌, ◌≤◌, ◌<◌, ℕ, [], true, is_le, get_or, length}
-use Rattle.vx_rows.specs.Order.{compare_on}
+use Rattle.vx_values.specs.Order.{compare_on}
 use Rattle.vx_receivers.specs.Heads.{position_at, held_at, next_at}
 use Rattle.vx_receivers.proofs.heads.gallop.Given as goal
 

@@ -1,30 +1,21 @@
-use Rattle.std.proofs.Common.{◌≡◌, ℕ, refl, ap, ◌∙◌, subst, arith}
+use Rattle.std.proofs.Common.{ap, ◌∙◌, subst}
 use Rattle.vx_steps.specs.Scans.{full_hand}
 use Rattle.vx_threads.specs.declared.drawer.Dealer.TheVariants as dealer
-use Rattle.vx_wiring.specs.Giving.{GainsDrawer, GainsHand, GivesEach, holds_of}
-use Rattle.vx_wiring.proofs.Each.{each-none, each-more}
+use Rattle.vx_wiring.specs.Giving.{GainsDrawer, GainsHand, holds_of}
+use Rattle.vx_wiring.proofs.Each.{each-more}
 use Rattle.vx_wiring.proofs.Shares.{as-many, drawer-is}
 use Rattle.vx_wiring.proofs.scans.deal_hands.Goals as goal
-
-pub loop-place-init : goal.loop-place-init
-loop-place-init c = record { same = refl; given = each-none (GainsHand c.args.scan c.args.morsels) (holds_of c.args.shares.now.items) c.args.top }
 
 pub loop-place-preserved : goal.loop-place-preserved
 loop-place-preserved c =
     let x = c.new-drawer.result in
-    let P = GainsHand c.args.scan c.args.morsels in
+    let P = GainsHand c.args.scan.number c.args.morsels in
     let old = holds_of c.args.shares.now.items in
     let mid = c.loop-place.shares.items in
     let new = c.give_drawer.new.shares.items in
-    let is = drawer-is x c.args.scan (dealer.Hand (full_hand c.args.morsels)) c.new-drawer.ensures.scan (c.new-drawer.ensures.dealer ∙ ap dealer.Hand c.new-hand.ensures) in
+    let is = drawer-is x c.args.scan.number (dealer.Hand (full_hand c.args.morsels)) c.new-drawer.ensures.scan (c.new-drawer.ensures.dealer ∙ ap dealer.Hand c.new-hand.ensures) in
     record {
       same = as-many (GainsDrawer x) mid new _ c.in_ok-give_drawer.ensures ∙ c.loop-place.invariant.same;
-      given = each-more P P (GainsDrawer x) old c.args.top c.loop-place.place (holds_of mid) (holds_of new) (λ w h g l p. p)
+      given = each-more P P (GainsDrawer x) old c.args.scan.first c.loop-place.place (holds_of mid) (holds_of new) (λ w h g l p. p)
           (λ h g p. subst (λ v. GainsDrawer v h g) is p) c.loop-place.invariant.given c.in_ok-give_drawer.ensures;
     }
-
-pub returns : goal.returns
-returns c =
-    let e : c.loop-place.place ≡ c.args.workers = omega (arith, c.loop-place.auto.place-end, c.loop-place-test.false) in
-    subst (λ (v : ℕ). GivesEach (GainsHand c.args.scan c.args.morsels) (holds_of c.args.shares.now.items) c.args.top v (holds_of c.loop-place.shares.items)) e
-    c.loop-place.invariant.given

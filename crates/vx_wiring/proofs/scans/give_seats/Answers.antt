@@ -29,7 +29,7 @@ loop-seat-preserved c =
     let mid = c.loop-seat.shares.items in
     let new = c.give_drawer.new.shares.items in
     let inv = c.loop-seat.invariant in
-    let is = drawer-is x c.args.scan (dealer.Seat c.args.deck seat) c.new-drawer.ensures.scan c.new-drawer.ensures.dealer in
+    let is = drawer-is x c.args.scan.number (dealer.Seat c.args.deck seat) c.new-drawer.ensures.scan c.new-drawer.ensures.dealer in
     record {
       next = tt;
       finite = tt;
@@ -37,8 +37,8 @@ loop-seat-preserved c =
       rest = shorter all rest seat c.loop-seat.place (length c.args.seats.items) next inv.rest;
       fresh = λ d h. (first-of (IsNewSeat d) all rest seat next (inv.fresh d h)).1;
       given = λ d h.
-          let P = GainsSeat c.args.scan c.args.deck d in
-          each-more P P (GainsDrawer x) old c.args.top c.loop-seat.place (holds_of mid) (holds_of new) (λ w h g l p. p)
+          let P = GainsSeat c.args.scan.number c.args.deck d in
+          each-more P P (GainsDrawer x) old c.args.scan.first c.loop-seat.place (holds_of mid) (holds_of new) (λ w h g l p. p)
           (λ h0 g p. (seat, (first-of (IsNewSeat d) all rest seat next (inv.fresh d h)).0, subst (λ v. GainsDrawer v h0 g) is p))
           (inv.given d h) c.in_ok-give_drawer.ensures;
     }

@@ -13,5 +13,5 @@ invariant-loop-seat l = record {
   rest : l.place + length (into_iter_items l.seat-iterator) ≡ length l.fn.seats.items;
   fresh : (d : DeckView) → All (IsNewSeat d) l.fn.seats.items → All (IsNewSeat d) (into_iter_items l.seat-iterator);
   given : (d : DeckView) → All (IsNewSeat d) l.fn.seats.items
-      → GivesEach (GainsSeat l.scan l.deck d) (holds_of l.fn.shares.items) l.top l.place (holds_of l.shares.items);
+      → GivesEach (GainsSeat l.scan.number l.deck d) (holds_of l.fn.shares.items) l.scan.first l.place (holds_of l.shares.items);
 }

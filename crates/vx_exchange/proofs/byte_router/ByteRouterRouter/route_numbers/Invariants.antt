@@ -1,6 +1,6 @@
 use Rattle.std.proofs.Common.{◌≡◌, ◌∷◌, [], map, take, length}
 use Rattle.vx_values.specs.Values.{num}
-use Rattle.vx_exchange.specs.ByteRouter.{byte_route}
+use Rattle.vx_plan_nodes.specs.ByteRouter.{byte_route}
 use Rattle.vx_exchange.proofs.byte_router.ByteRouterRouter.route_numbers.Given as goal
 
 abbrev pub invariant-loop-i : goal.invariant-loop-i

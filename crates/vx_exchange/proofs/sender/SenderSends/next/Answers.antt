@@ -8,7 +8,7 @@ use Rattle.vx_exchange.specs.Lanes.{ways_of, ship_of, may_close, AreNumbered}
 use Rattle.vx_ends.specs.Ship.{IsShipped, IsCutShort}
 use Rattle.vx_exchange.specs.Sender.{takes_more, SenderAt}
 use Rattle.vx_ends.specs.Tasks.{sends_by_ship}
-use Rattle.vx_exchange.specs.declared.sender.Stage.{Stage}
+use Rattle.vx_exchange.specs.declared.sender.SenderState.{SenderState}
 use Rattle.vx_exchange.proofs.LaneLists.{ways-count, same-count, same-any, same-ship, numbered-same, served-same, few-same, turn-same, columns-same, all-idle, given-same, given-idle, gives-same, gives-idle, gives-unclosed, closed-ways, closed-idle, closes-somewhere}
 use Rattle.vx_exchange.proofs.Senders.{closes-with, open-not_failing, ending-not_failing, gives-now, closes-now, sender-shipped, sender-cut}
 use Rattle.vx_exchange.proofs.sender.SenderSends.next.Goals as goal
@@ -125,7 +125,7 @@ returns-in-Ending-clause-some c =
     let k = c.in_default.ensures.same in
     let N : List LaneView → Type 0 = λ zs. AreNumbered s.deal (ways_of zs) in
     let I : List LaneView → Type 0 = λ zs. All (λ o. o.ready ≡ []) zs in
-    let C : Stage → Type 0 = λ st. closes-with st last in
+    let C : SenderState → Type 0 = λ st. closes-with st last in
     IfSome_then c.close_next.result c.close_next.ensures.some (λ x p. λ goes a g h.
     let H : List LaneView → Type 0 = λ zs. SenderAt goes (ship_of s.deal (ways_of zs)) s.stage s.next zs a g in
     closes-now goes s.deal s.stage s.next last mid c.close_next.new.lanes.items a g x.0 x.1 (subst N (sym k) s.numbered) (subst I (sym k) c.in_default.ensures.none) (subst C (sym c.in-Ending.is) refl) p
@@ -140,7 +140,7 @@ returns-in-Ending-clause-drained c =
     let I : List LaneView → Type 0 = λ zs. All (λ o. o.closed ≡ true) zs in
     both-none c.close_next.result e.none e.same (λ closed same. λ goes a g h _.
     let D : List LaneView → Type 0 = λ zs. IsShipped goes (ship_of s.deal (ways_of zs)) a.rows g in
-    let H : Stage → Type 0 = λ st. SenderAt goes (ship_of s.deal (ways_of old)) st s.next old a g in
+    let H : SenderState → Type 0 = λ st. SenderAt goes (ship_of s.deal (ways_of old)) st s.next old a g in
     subst D (sym (same ∙ k)) (sender-shipped goes (ship_of s.deal (ways_of old)) s.next old a g (length-map old (λ (z : LaneView). z.way)) (subst I k closed) c.in_default.ensures.none (subst H c.in-Ending.is h)))
 
 pub invariant_of-self-in-Failing : goal.invariant_of-self-in-Failing
@@ -152,7 +152,7 @@ invariant_of-self-in-Failing c =
     let w = closed-ways fault old new c.close_next-in-Failing.result e.some e.same in
     let count = ways-count old new w in
     let N : List Way → Type 0 = λ ws. AreNumbered s.deal ws in
-    let M : Stage → Type 0 = λ st. may_close st old ≡ true in
+    let M : SenderState → Type 0 = λ st. may_close st old ≡ true in
     record {
       numbered = subst N (sym w) s.numbered;
       served = served-same s.deal old new count s.served;
@@ -166,8 +166,8 @@ pub returns-in-Failing-clause-some : goal.returns-in-Failing-clause-some
 returns-in-Failing-clause-some c =
     let s = c.args.self.now in
     let old = s.lanes.items in
-    let M : Stage → Type 0 = λ st. may_close st old ≡ true in
-    let C : Stage → Type 0 = λ st. closes-with st fault in
+    let M : SenderState → Type 0 = λ st. may_close st old ≡ true in
+    let C : SenderState → Type 0 = λ st. closes-with st fault in
     IfSome_then c.close_next-in-Failing.result c.close_next-in-Failing.ensures.some (λ x p. λ goes a g h.
     closes-now goes s.deal s.stage s.next fault old c.close_next-in-Failing.new.lanes.items a g x.0 x.1 s.numbered (all-idle old (s.idle (subst M (sym c.in-Failing.is) refl))) (subst C (sym c.in-Failing.is) refl) p h)
 
@@ -178,7 +178,7 @@ returns-in-Failing-clause-cut c =
     let e = c.close_next-in-Failing.ensures in
     both-none c.close_next-in-Failing.result e.none e.same (λ closed same. λ goes a g h f _.
     let D : List LaneView → Type 0 = λ zs. IsCutShort goes (ship_of s.deal (ways_of zs)) a.rows g in
-    let H : Stage → Type 0 = λ st. SenderAt goes (ship_of s.deal (ways_of old)) st s.next old a g in
+    let H : SenderState → Type 0 = λ st. SenderAt goes (ship_of s.deal (ways_of old)) st s.next old a g in
     subst D (sym same) (sender-cut goes (ship_of s.deal (ways_of old)) s.next old a g (length-map old (λ (z : LaneView). z.way)) closed (subst H c.in-Failing.is h)))
 
 pub returns-in-Failing-clause-closing : goal.returns-in-Failing-clause-closing

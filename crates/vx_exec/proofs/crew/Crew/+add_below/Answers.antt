@@ -3,7 +3,7 @@ use Rattle.vx_plan_nodes.specs.Outline.{plan_of, claim_of, size_of, unary_of, bi
 use Rattle.vx_plan_nodes.specs.Plan.{size}
 use Rattle.vx_plan_nodes.specs.Streams.{workers}
 use Rattle.vx_steps.specs.Additions.{AddsProducers, AddsBelow}
-use Rattle.vx_layout.specs.Groups.{group_at}
+use Rattle.vx_plan_nodes.specs.Workers.{worker_group_at}
 use Rattle.vx_exec.specs.Job.{model_of}
 use Rattle.vx_exec.specs.Making.{made_of}
 use Rattle.vx_exec.proofs.Growing.{grows-scan, grows-unary, grows-binary, grows-exchange}
@@ -34,7 +34,7 @@ returns-in-Exchange-clause-added t c = λ hash.
     (grows-exchange S h.number (claim_of h.claim) (kind_of x.kind) x.merge.items (plan_of c.in-Exchange.input.value) c.args.top c.len-next.result
     (made_of c.args.self.now) (made_of c.add_producers.new.self) (made_of c.add_below-in-Exchange.new.self) c.push-in-Exchange.new.self.items
     (let k = c.args.self.now.sends.ok in omega (arith, c.len-next.ensures, k)) c.in_ok-push-in-Exchange.ensures.items
-    (subst (λ z. AddsProducers S h.number (kind_of x.kind) (plan_of z) (workers (group_at c.args.job.now.layout.groups.items) (size (plan_of z)))
+    (subst (λ z. AddsProducers S h.number (kind_of x.kind) (plan_of z) (workers (worker_group_at c.args.job.now.layout.worker_groups.items) (size (plan_of z)))
     (made_of (record c.args.self.now { stations = c.push-in-Exchange.new.self })) (made_of c.add_producers.new.self)) c.deref-in-Exchange.ensures
     (c.in_ok-add_producers-in-Exchange.ensures.added hash))
     (subst (λ z. AddsBelow S (plan_of z) c.len-next.result (made_of c.add_producers.new.self) (made_of c.add_below-in-Exchange.new.self)) c.deref-in-Exchange-2.ensures

@@ -3,7 +3,7 @@ use Rattle.vx_plan_nodes.specs.Outline.{plan_of, kind_of}
 use Rattle.vx_plan_nodes.specs.Plan.{size}
 use Rattle.vx_plan_nodes.specs.Streams.{workers}
 use Rattle.vx_steps.specs.Additions.{AddsProducers}
-use Rattle.vx_layout.specs.Groups.{group_at}
+use Rattle.vx_plan_nodes.specs.Workers.{worker_group_at}
 use Rattle.vx_steps.proofs.Adding.{adds-none, adds-producer}
 use Rattle.vx_exec.specs.Job.{model_of}
 use Rattle.vx_exec.specs.Making.{made_of}
@@ -28,8 +28,8 @@ loop-place-preserved c = record {
 pub returns-clause-added : goal.returns-clause-added
 returns-clause-added c = λ hash.
     subst (λ z. AddsProducers (model_of hash c.args.job.now) c.args.exchange (kind_of c.args.kind.now) (plan_of c.args.node.now) z (made_of c.args.self.now) (made_of c.loop-place.self))
-    (let f : c.loop-place.place ≡ workers (group_at c.args.job.now.layout.groups.items) (size (plan_of c.args.node.now)) =
+    (let f : c.loop-place.place ≡ workers (worker_group_at c.args.job.now.layout.worker_groups.items) (size (plan_of c.args.node.now)) =
     let e : c.loop-place.place ≡ c.workers-place-end.result = omega (arith, c.loop-place.auto.place-end, c.loop-place-test.false) in
-    e ∙ c.workers-place-end.ensures.value ∙ ap (λ z. workers (group_at c.args.job.now.layout.groups.items) z) c.size.ensures
+    e ∙ c.workers-place-end.ensures.value ∙ ap (λ z. workers (worker_group_at c.args.job.now.layout.worker_groups.items) z) c.size.ensures
     in f)
     (c.loop-place.invariant.added hash)

@@ -8,7 +8,7 @@ use Rattle.vx_plan_nodes.specs.Plan.{Plan}
 use Rattle.vx_plan_nodes.specs.TypedView.{scope, plan}
 use Rattle.vx_worker.specs.Morsels.{morsel_of}
 use Rattle.vx_check_rules.specs.Checked.{relations}
-use Rattle.vx_layout.specs.Groups.{group_at}
+use Rattle.vx_plan_nodes.specs.Workers.{worker_group_at}
 use Rattle.vx_layout.specs.Layout.{spans_of}
 use Rattle.vx_exec.proofs.ScanFacts.{IsReadAt, span-at}
 use Rattle.vx_exec.proofs.job.JobMorsels.morsel.Goals as goal
@@ -18,7 +18,7 @@ lend_morsel-requires c =
     let j = c.args.self.now in
     let k = c.in-Some-Scan.ensures.lookup in
     let p : Plan = plan j.plan.now in
-    (span-at (relations j.plan.now) (scope j.plan.now) (group_at j.layout.groups.items) p c.spans.result.now c.in-Some-Scan.field-0.now c.in-Some-Scan.span c.args.scan
+    (span-at (relations j.plan.now) (scope j.plan.now) (worker_group_at j.layout.worker_groups.items) p c.spans.result.now c.in-Some-Scan.field-0.now c.in-Some-Scan.span c.args.scan
     j.plan.now.numbered j.plan.now.typed_nodes (c.spans.ensures ∙ j.laid_out) k.3.0 k.1 c.in-Some-Scan.field-0-is).there
 
 pub returns-in-Some-Scan-clause-rows : goal.returns-in-Some-Scan-clause-rows
@@ -26,7 +26,7 @@ returns-in-Some-Scan-clause-rows c =
     let j = c.args.self.now in
     let k = c.in-Some-Scan.ensures.lookup in
     let p : Plan = plan j.plan.now in
-    let at = span-at (relations j.plan.now) (scope j.plan.now) (group_at j.layout.groups.items) p c.spans.result.now c.in-Some-Scan.field-0.now c.in-Some-Scan.span c.args.scan
+    let at = span-at (relations j.plan.now) (scope j.plan.now) (worker_group_at j.layout.worker_groups.items) p c.spans.result.now c.in-Some-Scan.field-0.now c.in-Some-Scan.span c.args.scan
     j.plan.now.numbered j.plan.now.typed_nodes (c.spans.ensures ∙ j.laid_out) k.3.0 k.1 c.in-Some-Scan.field-0-is in
     subst (λ r. IfOk c.lend_morsel.result (λ rows. rows.rows ≡ morsel_of j.morsel (rows_at j.database.now r) c.args.number)) (sym at.relation) c.lend_morsel.ensures.rows
 
@@ -35,6 +35,6 @@ returns-in-Some-Scan-clause-types c =
     let j = c.args.self.now in
     let k = c.in-Some-Scan.ensures.lookup in
     let p : Plan = plan j.plan.now in
-    let at = span-at (relations j.plan.now) (scope j.plan.now) (group_at j.layout.groups.items) p c.spans.result.now c.in-Some-Scan.field-0.now c.in-Some-Scan.span c.args.scan
+    let at = span-at (relations j.plan.now) (scope j.plan.now) (worker_group_at j.layout.worker_groups.items) p c.spans.result.now c.in-Some-Scan.field-0.now c.in-Some-Scan.span c.args.scan
     j.plan.now.numbered j.plan.now.typed_nodes (c.spans.ensures ∙ j.laid_out) k.3.0 k.1 c.in-Some-Scan.field-0-is in
     subst (λ (types : List ColType). IfOk c.lend_morsel.result (λ rows. rows.types ≡ types)) (sym at.types) c.lend_morsel.ensures.types

@@ -1,6 +1,6 @@
 use Rattle.std.proofs.Common.{◌≡◌, ◌∙◌, ap, sym, subst}
 use Rattle.vx_ops.specs.Turn.{after}
-use Rattle.vx_ops.specs.declared.fault.Over.TheVariants.{Ended}
+use Rattle.vx_ops.specs.declared.fault.StreamState.TheVariants.{Ended}
 use Rattle.vx_ops.specs.declared.turn.Want.TheVariants as want
 use Rattle.vx_ops.specs.declared.turn.Got.{Got}
 use Rattle.vx_ops.specs.declared.turn.Got.TheVariants as got

@@ -5,7 +5,7 @@ use Rattle.vx_ports.specs.Packets.{PacketView}
 use Rattle.vx_ops.specs.Ledger.{Stream}
 use Rattle.vx_ops.specs.Turn.{heard}
 use Rattle.vx_ops.specs.declared.fault.Fault.{Fault}
-use Rattle.vx_ops.specs.declared.fault.Over.TheVariants.{Failed}
+use Rattle.vx_ops.specs.declared.fault.StreamState.TheVariants.{Failed}
 use Rattle.vx_exchange.specs.Sender.{SenderStands}
 use Rattle.vx_exchange.specs.Collector.{CollectorStands}
 use Rattle.vx_ends.specs.Sending.{RoutesAs}

@@ -6,7 +6,7 @@ use Rattle.vx_ops.specs.Ledger.{Stream}
 use Rattle.vx_ops.specs.Turn.{with_packet}
 use Rattle.vx_exchange.specs.Sender.{SenderStands, sender_task}
 use Rattle.vx_ops.specs.declared.fault.Fault.{Fault}
-use Rattle.vx_ops.specs.declared.fault.Over.TheVariants.{Ended, Failed}
+use Rattle.vx_ops.specs.declared.fault.StreamState.TheVariants.{Ended, Failed}
 use Rattle.vx_ends.specs.Tasks.{Finished, Stopped}
 use Rattle.vx_exchange.specs.Collector.{CollectorStands, collector_task}
 use Rattle.vx_operators.specs.Destination.{DestinationStands}

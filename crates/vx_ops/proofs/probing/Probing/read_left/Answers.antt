@@ -1,8 +1,8 @@
 use Rattle.std.proofs.Common.{◌≡◌, ◌∙◌, Some, ap, sym, subst}
 use Rattle.vx_ops.specs.Turn.{took, gives}
 use Rattle.vx_ops.specs.Probing.{IsProbing}
-use Rattle.vx_ops.specs.declared.fault.Over.{Over}
-use Rattle.vx_ops.specs.declared.fault.Over.TheVariants.{Running}
+use Rattle.vx_ops.specs.declared.fault.StreamState.{StreamState}
+use Rattle.vx_ops.specs.declared.fault.StreamState.TheVariants.{Running}
 use Rattle.vx_ops.specs.declared.turn.Want.TheVariants as want
 use Rattle.vx_ops.specs.declared.turn.Got.{Got}
 use Rattle.vx_ops.specs.declared.turn.Got.TheVariants as got
@@ -19,8 +19,8 @@ returns-in-Input-Gave-clause-stands g c l h =
     let j = c.probe.new.self in
     let is : c.args.got ≡ got.Input (polled.Gave t) = c.in-Input-Gave.is ∙ ap got.Input c.in-Input-Gave.field-0-is in
     let k' = took l want.Left (got.Input (polled.Gave t)) in
-    let P : Over → Type 0 = λ o. IsProbing s.node (K.binary k) (K.HasRead k) (K.HasBuilt k) s.ready s.rest o l in
-    let Q : Over → Type 0 = λ o. IsProbing s.node (K.binary k) (K.HasRead k) (K.HasBuilt k) s.ready (Some t) o k' in
+    let P : StreamState → Type 0 = λ o. IsProbing s.node (K.binary k) (K.HasRead k) (K.HasBuilt k) s.ready s.rest o l in
+    let Q : StreamState → Type 0 = λ o. IsProbing s.node (K.binary k) (K.HasRead k) (K.HasBuilt k) s.ready (Some t) o k' in
     let R : Got → Type 0 = λ q. IsProbing j.node (K.binary j.kernel) (K.HasRead j.kernel) (K.HasBuilt j.kernel) j.ready j.rest j.over (gives (took l want.Left q) c.probe.result) in
     let held : IsProbing s.node (K.binary k) (K.HasRead k) (K.HasBuilt k) s.ready (Some t) Running k'
     = probe-held s.node (K.binary k) (g.met.K.ProbeKernel.empty k) (K.HasRead k) (K.HasBuilt k) (K.HasRead k) (K.HasBuilt k) l s.ready s.rest t c.requires.probing (subst P c.requires.running h) in

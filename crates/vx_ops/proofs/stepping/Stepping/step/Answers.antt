@@ -1,8 +1,8 @@
 use Rattle.std.proofs.Common.{◌≡◌, ◌++◌, sym, subst, Some}
 use Rattle.vx_plan_nodes.specs.Plan.{Unary}
 use Rattle.vx_plan_nodes.specs.Serial.{unary_rows}
-use Rattle.vx_ops.specs.declared.fault.Over.{Over}
-use Rattle.vx_ops.specs.declared.fault.Over.TheVariants.{Running}
+use Rattle.vx_ops.specs.declared.fault.StreamState.{StreamState}
+use Rattle.vx_ops.specs.declared.fault.StreamState.TheVariants.{Running}
 use Rattle.vx_ops.specs.Stepping.{IsStepped}
 use Rattle.vx_ops.proofs.Steps.{step-rows, with_rows}
 use Rattle.vx_ops.proofs.stepping.Stepping.step.Goals as goal
@@ -15,8 +15,8 @@ returns-else-len-eq0-clause-stands g c l h =
     let j = c.step.new.self in
     let xs = c.args.batch.rows in
     let ys = c.in-Ok.made.rows in
-    let P : Over → Type 0 = λ o. IsStepped s.node (K.unary k) (K.HasMade k) o l in
-    let R : Over → Type 0 = λ o. IsStepped s.node (K.unary k) (K.HasMade j) o (with_rows l xs ys) in
+    let P : StreamState → Type 0 = λ o. IsStepped s.node (K.unary k) (K.HasMade k) o l in
+    let R : StreamState → Type 0 = λ o. IsStepped s.node (K.unary k) (K.HasMade j) o (with_rows l xs ys) in
     let V : Unary → Type 0 = λ u. IsStepped s.node u (K.HasMade j) s.over (with_rows l xs ys) in
     let M : Unary → Type 0 = λ u. unary_rows u (l.left.rows ++ xs) ≡ Some (l.gave.rows ++ ys) in
     let done : IsStepped s.node (K.unary k) (K.HasMade j) Running (with_rows l xs ys)

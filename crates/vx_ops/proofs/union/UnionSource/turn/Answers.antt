@@ -1,8 +1,8 @@
 use Rattle.std.proofs.Common.{◌≡◌, ◌∙◌, ap, sym, subst}
 use Rattle.vx_ops.specs.Turn.{after, while_running}
 use Rattle.vx_ops.specs.Union.{IsUnited, input_wanted}
-use Rattle.vx_ops.specs.declared.fault.Over.{Over}
-use Rattle.vx_ops.specs.declared.fault.Over.TheVariants.{Running}
+use Rattle.vx_ops.specs.declared.fault.StreamState.{StreamState}
+use Rattle.vx_ops.specs.declared.fault.StreamState.TheVariants.{Running}
 use Rattle.vx_ops.specs.declared.turn.Got.{Got}
 use Rattle.vx_ops.specs.declared.turn.Got.TheVariants as got
 use Rattle.vx_ops.specs.declared.turn.Polled.TheVariants as polled
@@ -14,7 +14,7 @@ returns-in-Input-Gave-clause-stands c l h =
     let s = c.args.self.now in
     let t = c.in-Input-Gave.batch in
     let is : c.args.got ≡ got.Input (polled.Gave t) = c.in-Input-Gave.is ∙ ap got.Input c.in-Input-Gave.field-0-is in
-    let P : Over → Type 0 = λ o. IsUnited s.node s.left_ended o l in
-    let Q : Over → Type 0 = λ o. IsUnited s.node s.left_ended o (after l (while_running (input_wanted s.left_ended) o) c.args.got (polled.Gave t)) in
+    let P : StreamState → Type 0 = λ o. IsUnited s.node s.left_ended o l in
+    let Q : StreamState → Type 0 = λ o. IsUnited s.node s.left_ended o (after l (while_running (input_wanted s.left_ended) o) c.args.got (polled.Gave t)) in
     let R : Got → Type 0 = λ q. IsUnited s.node s.left_ended Running (after l (input_wanted s.left_ended) q (polled.Gave t)) in
     subst Q (sym c.in-Running.is) (subst R (sym is) (union-rows s.node s.left_ended l t (subst P c.in-Running.is h)))

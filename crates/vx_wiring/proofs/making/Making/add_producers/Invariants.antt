@@ -4,6 +4,6 @@ use Rattle.vx_wiring.proofs.making.Making.add_producers.Given as goal
 
 abbrev pub invariant-loop-from : goal.invariant-loop-from
 invariant-loop-from l = record {
-  there : l.top + l.consumers ≤ length l.self.shares.items;
-  added : AddsProducers l.exchange l.from l.top l.consumers (made_of l.fn.self) (made_of l.self);
+  there : l.exchange.above + l.exchange.consumers ≤ length l.self.shares.items;
+  added : AddsProducers l.exchange l.from (made_of l.fn.self) (made_of l.self);
 }

@@ -1,6 +1,6 @@
 use Rattle.std.proofs.Common.{refl, subst}
 use Rattle.vx_worker.specs.Answering.{DrainFinds}
-use Rattle.vx_worker.specs.declared.worker.Phase.TheVariants.{Draining}
+use Rattle.vx_worker.specs.declared.worker.WorkerState.TheVariants.{Draining}
 use Rattle.vx_worker.proofs.Answering.{drains-none, drains-one}
 use Rattle.vx_worker.proofs.Counting.{take-counted}
 use Rattle.vx_worker.proofs.WorkerSteps.{failed-later}

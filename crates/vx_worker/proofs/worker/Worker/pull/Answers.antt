@@ -1,6 +1,6 @@
 use Rattle.std.proofs.Common.{◌≡◌, ap, refl, sym, ◌∙◌, subst, true, false, rules}
 use Rattle.vx_ends.specs.Tasks.{BeganSending, IsAt}
-use Rattle.vx_ops.specs.declared.fault.Over.TheVariants as over
+use Rattle.vx_ops.specs.declared.fault.StreamState.TheVariants as stream_state
 use Rattle.vx_ops.specs.declared.turn.Polled.TheVariants as polled
 use Rattle.vx_worker.specs.Intake.{IntakeStands}
 use Rattle.vx_worker.specs.Answering.{by_rows, by_fault}
@@ -163,7 +163,7 @@ returns-in-Err-accept-clause-stands g c =
           (ap (Rattle.vx_worker.specs.Trees.shape g.O.Source.op) c.fail-in-Err-accept.ensures.tree ∙ c.in-Gave.ensures.shape) c.no_memory-in-Err-accept.ensures
           (subst (λ k. IntakeStands k (Rattle.vx_worker.specs.Trace.added t x.0)) (sym c.fail-in-Err-accept.ensures.intake) (x.2.stands t h.0)) x.2.is_read c.requires.empty
           (λ a put s. subst (λ z. BeganSending goes (g.S.Sends.task z) a.rows put) (sym c.fail-in-Err-accept.ensures.sender)
-          (g.met.S.Sends.begun s' goes (record { rows = a.rows; over = over.Failed c.no_memory-in-Err-accept.result }) put (c.in-Err-accept.ensures.err goes a put s c.no_memory-in-Err-accept.result) unclosed))
+          (g.met.S.Sends.begun s' goes (record { rows = a.rows; over = stream_state.Failed c.no_memory-in-Err-accept.result }) put (c.in-Err-accept.ensures.err goes a put s c.no_memory-in-Err-accept.result) unclosed))
           (running g.O.Source.Stands g.O.Source.op g.S.Sends.Stands g.S.Sends.task goes (g.G.Morsels.morsel_of c.args.morsels.now) w t c.requires.running h),
       rw c.fail-in-Err-accept.ensures.moved (by_fault c.no_memory-in-Err-accept.result c.requires.running c.fail-in-Err-accept.ensures.phase),
     )
@@ -193,7 +193,7 @@ returns-in-Err-accept-2-clause-stands g c =
           (ap (Rattle.vx_worker.specs.Trees.shape g.O.Source.op) c.fail-in-Err-accept-2.ensures.tree ∙ c.in-End.ensures.shape) c.no_memory-in-Err-accept-2.ensures
           (subst (λ k. IntakeStands k (Rattle.vx_worker.specs.Trace.added t x.0)) (sym c.fail-in-Err-accept-2.ensures.intake) (x.2.stands t h.0)) x.2.is_read c.requires.empty
           (λ a put s. subst (λ z. BeganSending goes (g.S.Sends.task z) a.rows put) (sym c.fail-in-Err-accept-2.ensures.sender)
-          (g.met.S.Sends.begun s' goes (record { rows = a.rows; over = over.Failed c.no_memory-in-Err-accept-2.result }) put (c.in-Err-accept-2.ensures.err goes a put s c.no_memory-in-Err-accept-2.result) unclosed))
+          (g.met.S.Sends.begun s' goes (record { rows = a.rows; over = stream_state.Failed c.no_memory-in-Err-accept-2.result }) put (c.in-Err-accept-2.ensures.err goes a put s c.no_memory-in-Err-accept-2.result) unclosed))
           (running g.O.Source.Stands g.O.Source.op g.S.Sends.Stands g.S.Sends.task goes (g.G.Morsels.morsel_of c.args.morsels.now) w t c.requires.running h),
       rw c.fail-in-Err-accept-2.ensures.moved (by_fault c.no_memory-in-Err-accept-2.result c.requires.running c.fail-in-Err-accept-2.ensures.phase),
     )

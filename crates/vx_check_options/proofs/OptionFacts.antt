@@ -1,0 +1,75 @@
+-- Orders that begin with some columns, as the program puts them together.
+use Rattle.std.proofs.Common.{Vec, Global, ◌≡◌, ◌≤◌, ◌<◌, ◌-◌, ◌==◌, ℕ, suc, Bool, true, false, cond, List, [], ◌∷◌, ◌++◌, map, length, take, drop, get_or, set, refl, sym, ap, ◌∙◌, arith, length-drop, Option, Some, None, option_map}
+use Rattle.std.specs.Prelude.{is_some}
+use Rattle.std.specs.List.{list_any, filter}
+use Rattle.std.proofs.lemmas.Bool.{eqb-true}
+use Rattle.std.proofs.lemmas.List.{take_all, drop-map, map-append}
+use Rattle.vx_plan_nodes.specs.Plan.{Part}
+use Rattle.vx_check_rules.specs.Rules.{contains, rises_by}
+use Rattle.vx_check_options.specs.Options.{OrderChoices, singles, place_then, rising, narrowed, or_nowhere}
+
+-- ---- orders that begin with some columns
+
+-- where they may, they stand alone
+pub narrowed-as : (cols : List ℕ) (places : OrderChoices) → is_some (narrowed cols places) ≡ true → or_nowhere (narrowed cols places) ≡ singles cols ++ drop (length cols) places
+narrowed-as [] places h = refl
+narrowed-as (c ∷ cs) [] h = cc
+narrowed-as (c ∷ cs) (s ∷ places) h = by (contains s c) (narrowed cs places) (narrowed-as cs places) h
+  where
+    by : (b : Bool) (o : Option OrderChoices) → (is_some o ≡ true → or_nowhere o ≡ singles cs ++ drop (length cs) places) → is_some (cond b (option_map (λ more. (c ∷ []) ∷ more) o) None) ≡ true
+        → or_nowhere (cond b (option_map (λ more. (c ∷ []) ∷ more) o) None) ≡ (c ∷ []) ∷ (singles cs ++ drop (length cs) places)
+    by true (Some more) f h = ap (λ l. (c ∷ []) ∷ l) (f refl)
+    by true None f h = cc
+    by false o f h = cc
+
+pub narrowed-long : (cols : List ℕ) (vs : List (Vec ℕ Global)) → is_some (narrowed cols (map (λ (v : Vec ℕ Global). v.items) vs)) ≡ true → length cols ≤ length vs
+narrowed-long [] vs h = omega arith
+narrowed-long (c ∷ cs) [] h = cc
+narrowed-long (c ∷ cs) (v ∷ vs) h = by (contains v.items c) (narrowed cs (map (λ (u : Vec ℕ Global). u.items) vs)) (narrowed-long cs vs) h
+  where
+    by : (b : Bool) (o : Option OrderChoices) → (is_some o ≡ true → length cs ≤ length vs) → is_some (cond b (option_map (λ more. (c ∷ []) ∷ more) o) None) ≡ true → suc (length cs) ≤ suc (length vs)
+    by true (Some more) f h = let l = f refl in omega (arith, l)
+    by true None f h = cc
+    by false o f h = cc
+
+-- ---- lists that are put together
+
+rest-lists : (m : ℕ) (vs : List (Vec ℕ Global)) → map (λ (v : Vec ℕ Global). v.items) (take (length vs - m) (drop m vs)) ≡ drop m (map (λ (v : Vec ℕ Global). v.items) vs)
+rest-lists m vs =
+    ap (map (λ (v : Vec ℕ Global). v.items)) (take_all (length vs - m) (drop m vs) (omega (arith, length-drop m vs))) ∙ sym (drop-map (λ (v : Vec ℕ Global). v.items) m vs)
+
+pub narrowed-put : (cols : List ℕ) (vs found more new : List (Vec ℕ Global)) → is_some (narrowed cols (map (λ (v : Vec ℕ Global). v.items) vs)) ≡ true → map (λ (v : Vec ℕ Global). v.items) found ≡ singles cols
+    → map (λ (v : Vec ℕ Global). v.items) more ≡ map (λ (v : Vec ℕ Global). v.items) (take (length vs - length cols) (drop (length cols) vs)) → new ≡ found ++ more
+    → map (λ (v : Vec ℕ Global). v.items) new ≡ or_nowhere (narrowed cols (map (λ (v : Vec ℕ Global). v.items) vs))
+narrowed-put cols vs found more new may first rest all =
+    let items = map (λ (v : Vec ℕ Global). v.items) in
+    ap items all ∙ map-append (λ (v : Vec ℕ Global). v.items) found more ∙ ap (λ xs. xs ++ items more) first ∙ ap (λ ys. singles cols ++ ys) (rest ∙ rest-lists (length cols) vs) ∙ sym (narrowed-as cols (items vs) may)
+
+then-some : (place : List ℕ) (places : OrderChoices) → 0 < length place → place_then place places ≡ place ∷ places
+then-some [] places l = absurd (omega (arith, l))
+then-some (c ∷ cs) places l = refl
+
+pub rising-put : (parts : List Part) (vs found : List (Vec ℕ Global)) (v columns : Vec ℕ Global) → 1 ≤ length vs → v ≡ get_or vs 0 v
+    → columns.items ≡ filter (λ c. list_any (λ x. rises_by x (c ∷ [])) parts) v.items → 0 < length columns.items
+    → map (λ (u : Vec ℕ Global). u.items) found ≡ map (λ (u : Vec ℕ Global). u.items) vs → map (λ (u : Vec ℕ Global). u.items) (set found 0 columns) ≡ rising parts (map (λ (u : Vec ℕ Global). u.items) vs)
+rising-put parts [] found v columns l e are some same = absurd (omega (arith, l))
+rising-put parts (w ∷ ws) [] v columns l e are some same = cc
+rising-put parts (w ∷ ws) (f ∷ fs) v columns l e are some same =
+    let behind : OrderChoices = map (λ (u : Vec ℕ Global). u.items) ws in
+    let rest : map (λ (u : Vec ℕ Global). u.items) fs ≡ behind = ap (drop 1) same in
+    ap (λ ys. columns.items ∷ ys) rest ∙ sym (then-some columns.items behind some)
+    ∙ ap (λ cs. place_then cs behind) (are ∙ ap (λ (u : Vec ℕ Global). filter (λ c. list_any (λ x. rises_by x (c ∷ [])) parts) u.items) e)
+
+pub first-within : (vs found : List (Vec ℕ Global)) → 1 ≤ length vs → map (λ (u : Vec ℕ Global). u.items) found ≡ map (λ (u : Vec ℕ Global). u.items) vs → 0 < length found
+first-within [] found l same = absurd (omega (arith, l))
+first-within (w ∷ ws) [] l same = cc
+first-within (w ∷ ws) (f ∷ fs) l same = omega arith
+
+-- ---- whether a list is empty
+
+pub empty-length : {X : Type 0} (xs : List X) (n : ℕ) (b : Bool) → n ≡ length xs → b ≡ (n == 0) → b ≡ true → length xs ≡ 0
+empty-length xs n b e f h = let zero_is = eqb-true n 0 (sym f ∙ h) in omega (arith, e, zero_is)
+
+pub some-length : {X : Type 0} (xs : List X) (n : ℕ) (b : Bool) → n ≡ length xs → b ≡ (n == 0) → b ≡ false → 0 < length xs
+some-length [] n b e f h = let is : n ≡ 0 = e in let yes : (n == 0) ≡ true = rw is refl in cc
+some-length (x ∷ xs) n b e f h = omega arith

@@ -1,0 +1,9 @@
+use Rattle.std.proofs.Common.{◌≡◌, map, drop}
+use Rattle.std.specs.List.{list_any}
+use Rattle.vx_plan_nodes.specs.Plan.{any}
+use Rattle.vx_plan_nodes.specs.Outline.{part_of}
+use Rattle.vx_check_rules.specs.Rules.{part_gives}
+use Rattle.vx_check_options.proofs.options.is_any_given.Given as goal
+
+abbrev pub invariant-loop-part : goal.invariant-loop-part
+invariant-loop-part l = list_any (λ x. part_gives x any) (map part_of l.parts) ≡ list_any (λ x. part_gives x any) (map part_of (drop l.part-index l.parts))

@@ -1,0 +1,239 @@
+//! The columns that may stand at each place of an order.
+
+ghost use Rattle.std.specs.Prelude.{◌≡◌, [], ◌∷◌, flat_map, map, filter, is_some, IfOk};
+ghost use Rattle.std.specs.List.{list_any};
+ghost use Rattle.vx_relations.specs.Catalog.{relation_at};
+ghost use Rattle.vx_plan_nodes.specs.Describe.{described};
+ghost use Rattle.vx_plan_nodes.specs.Outline.{part_of, kind_of, unary_of, binary_of, plan_of};
+ghost use Rattle.vx_plan_nodes.specs.DescribeView.{copying_of};
+ghost use Rattle.vx_check_rules.specs.Rules.{rises_by};
+ghost use Rattle.vx_check_options.specs.Options.{singles, copies, places_up, places_after, narrowed, or_nowhere, places_over_both, rising, places_sent, places_over};
+
+use crate::copies::{add_copies, copied};
+use crate::parts::is_alone;
+use std::alloc::{AllocError, Global};
+use vx_check_rules::rises_with_workers;
+use vx_plan_nodes::{Binary, Copying, Exchange, ExchangeKind, OrderAfter, Part, TypedNode, Unary};
+use vx_relations::Catalog;
+
+/// For each place of an order the columns that may stand there.
+pub type OrderChoices = Vec<Vec<usize>>;
+
+/// Each of these columns alone at its place.
+pub fn singles(alloc: Global, columns: &[usize]) -> Result<OrderChoices, AllocError>
+    ensures { IfOk result (λ v. map (λ v. v.items) v.items ≡ singles columns.now) }
+{
+    let mut choices = Vec::new(alloc);
+    for column in columns {
+        choices.push(Vec::from_slice(alloc, &[*column])?)?;
+    }
+    Ok(choices)
+}
+
+// All copies of these columns.
+fn all_copies(
+    alloc: Global,
+    copying: Copying<'_>,
+    columns: &[usize],
+) -> Result<Vec<usize>, AllocError>
+    ensures { IfOk result (λ v. v.items ≡ flat_map (copies (copying_of copying.entry)) columns.now) }
+{
+    let mut found = Vec::new(alloc);
+    for column in columns {
+        add_copies(&mut found, copying, *column)?;
+    }
+    Ok(found)
+}
+
+// The copies of what may stand at each place, up to the first that has none.
+fn choices_up(
+    alloc: Global,
+    copying: Copying<'_>,
+    choices: &[Vec<usize>],
+) -> Result<OrderChoices, AllocError>
+    ensures { IfOk result (λ v. map (λ v. v.items) v.items ≡ places_up (copying_of copying.entry) (map (λ v. v.items) choices.now)) }
+{
+    let mut found = Vec::new(alloc);
+    for place in choices {
+        let copies = all_copies(alloc, copying, place.as_slice())?;
+        if copies.is_empty() {
+            return Ok(found);
+        }
+        found.push(copies)?;
+    }
+    Ok(found)
+}
+
+/// Whether an order may begin with these columns.
+pub fn may_begin(choices: &[Vec<usize>], columns: &[usize]) -> bool
+    ensures { result ≡ is_some (narrowed columns.now (map (λ v. v.items) choices.now)) }
+{
+    match columns {
+        [] => true,
+        [column, columns @ ..] => match choices {
+            [] => false,
+            [place, choices @ ..] => place.contains(column) && may_begin(choices, columns),
+        },
+    }
+}
+
+/// What may stand at each place of an order that begins with these columns; no place where it may not.
+pub fn narrowed(
+    alloc: Global,
+    columns: &[usize],
+    choices: &[Vec<usize>],
+) -> Result<OrderChoices, AllocError>
+    ensures { IfOk result (λ v. map (λ v. v.items) v.items ≡ or_nowhere (narrowed columns.now (map (λ v. v.items) choices.now))) }
+{
+    if !may_begin(choices, columns) {
+        return Ok(Vec::new(alloc));
+    }
+    let mut found = singles(alloc, columns)?;
+    let mut more = copied(alloc, &choices[columns.len()..])?;
+    found.append(&mut more)?;
+    Ok(found)
+}
+
+/// The columns of a join's pairs that are of the left input.
+pub fn left_columns(alloc: Global, on: &[(usize, usize)]) -> Result<Vec<usize>, AllocError>
+    ensures { IfOk result (λ v. v.items ≡ map (λ x. x.0) on.now) }
+{
+    let mut columns = Vec::new(alloc);
+    for pair in on {
+        columns.push(pair.0)?;
+    }
+    Ok(columns)
+}
+
+/// Those of the right input.
+pub fn right_columns(alloc: Global, on: &[(usize, usize)]) -> Result<Vec<usize>, AllocError>
+    ensures { IfOk result (λ v. v.items ≡ map (λ x. x.1) on.now) }
+{
+    let mut columns = Vec::new(alloc);
+    for pair in on {
+        columns.push(pair.1)?;
+    }
+    Ok(columns)
+}
+
+// Of an operator over two inputs, by the left one's.
+fn choices_over_both(
+    alloc: Global,
+    operator: &Binary,
+    choices: &[Vec<usize>],
+) -> Result<OrderChoices, AllocError>
+    ensures { IfOk result (λ v. map (λ v. v.items) v.items ≡ places_over_both (binary_of operator.now) (map (λ v. v.items) choices.now)) }
+{
+    match operator {
+        Binary::Union => Ok(Vec::new(alloc)),
+        Binary::HashJoin(_) => copied(alloc, choices),
+        Binary::MergeJoin(on) => {
+            let columns = left_columns(alloc, on.as_slice())?;
+            narrowed(alloc, columns.as_slice(), choices)
+        }
+    }
+}
+
+// Whether rows that have one of the parts rise with the number of their worker, in an order on this column.
+fn is_rising(parts: &[Part], column: usize) -> bool
+    ensures { result ≡ list_any (λ x. rises_by x (column ∷ [])) (map part_of parts.now) }
+{
+    for part in parts {
+        if rises_with_workers(part, &[column]) {
+            return true;
+        }
+    }
+    false
+}
+
+// The columns by whose ranges the rows can be routed.
+fn rising_columns(
+    alloc: Global,
+    parts: &[Part],
+    columns: &[usize],
+) -> Result<Vec<usize>, AllocError>
+    ensures { IfOk result (λ v. v.items ≡ filter (λ c. list_any (λ x. rises_by x (c ∷ [])) (map part_of parts.now)) columns.now) }
+{
+    let mut rising = Vec::new(alloc);
+    for column in columns {
+        if is_rising(parts, *column) {
+            rising.push(*column)?;
+        }
+    }
+    Ok(rising)
+}
+
+// The places of an order that begins with a column by whose ranges the rows can be routed.
+fn rising(alloc: Global, parts: &[Part], choices: &[Vec<usize>]) -> Result<OrderChoices, AllocError>
+    ensures { IfOk result (λ v. map (λ v. v.items) v.items ≡ rising (map part_of parts.now) (map (λ v. v.items) choices.now)) }
+{
+    let [place, ..] = choices else {
+        return Ok(Vec::new(alloc));
+    };
+    let columns = rising_columns(alloc, parts, place.as_slice())?;
+    if columns.is_empty() {
+        return Ok(Vec::new(alloc));
+    }
+    let mut found = copied(alloc, choices)?;
+    found[0] = columns;
+    Ok(found)
+}
+
+// Of an exchange of several producers, which can have these parts.
+fn choices_sent(
+    alloc: Global,
+    exchange: &Exchange,
+    parts: &[Part],
+    choices: &[Vec<usize>],
+) -> Result<OrderChoices, AllocError>
+    ensures { IfOk result (λ v. map (λ v. v.items) v.items ≡ places_sent (kind_of exchange.now.kind) exchange.now.merge.items (map part_of parts.now) (map (λ v. v.items) choices.now)) }
+{
+    match &exchange.kind {
+        ExchangeKind::Concat => rising(alloc, parts, choices),
+        ExchangeKind::Route(_, _, _)
+        | ExchangeKind::Round(_)
+        | ExchangeKind::Broadcast(_)
+        | ExchangeKind::Gather => singles(alloc, exchange.merge.as_slice()),
+    }
+}
+
+// Of an operator over one input.
+fn choices_along(
+    alloc: Global,
+    operator: &Unary,
+    choices: &[Vec<usize>],
+) -> Result<OrderChoices, AllocError>
+    ensures { IfOk result (λ v. map (λ v. v.items) v.items ≡ places_up (described (unary_of operator.now)).copying (places_after (described (unary_of operator.now)).order (map (λ v. v.items) choices.now))) }
+{
+    let described = operator.described();
+    match described.order {
+        OrderAfter::Kept => choices_up(alloc, described.copying, choices),
+        OrderAfter::SortedOn(columns) => {
+            let sorted = singles(alloc, columns)?;
+            choices_up(alloc, described.copying, sorted.as_slice())
+        }
+    }
+}
+
+/// What may stand at each place of an order of the node, where the (left) input can claim these parts and these places.
+pub fn choices_over(
+    alloc: Global,
+    catalog: &Catalog,
+    node: &TypedNode,
+    parts: &[Part],
+    choices: &[Vec<usize>],
+) -> Result<OrderChoices, AllocError>
+    ensures { IfOk result (λ v. map (λ v. v.items) v.items ≡ places_over (relation_at catalog.now) (plan_of node.now) (map part_of parts.now) (map (λ v. v.items) choices.now)) }
+{
+    match node {
+        TypedNode::Scan(_, scan) => singles(alloc, catalog.order_of(scan.relation)),
+        TypedNode::Unary(_, operator, _) => choices_along(alloc, operator, choices),
+        TypedNode::Binary(_, operator, _, _) => choices_over_both(alloc, operator, choices),
+        TypedNode::Exchange(_, exchange, input) => {
+            if is_alone(input) {
+                return narrowed(alloc, exchange.merge.as_slice(), choices);
+            }
+            choices_sent(alloc, exchange, parts, choices)
+        }
+    }
+}
