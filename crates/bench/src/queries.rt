@@ -13,8 +13,8 @@ use std::time::Instant;
 use vx_catalog::Database;
 use vx_check::{CheckedPlan, check};
 use vx_exchange::ByteRouter;
-use vx_exec::{RunOutcome, Setup, run_rounds};
-use vx_parallel::{Free, run_threads};
+use vx_exec::{RunCounts, RunOutcome, Setup, run_rounds};
+use vx_parallel::{Free, Threading, run_threads};
 use vx_plan::{Plan, TypedPlan, erase, resolve};
 use vx_serial::eval;
 use vx_wisconsin::plan;
@@ -140,6 +140,7 @@ impl<'t> Query<'t> {
 
     fn by_workers<R: Clock>(&self, rt: &R, alloc: Global, workers: u32) -> Result<Outcome, Error> {
         let setup = self.setup(alloc, workers)?;
+        let mut unread = RunCounts::unread(alloc);
         let start = Instant::now(rt)?;
         match run_rounds(
             alloc,
@@ -148,6 +149,7 @@ impl<'t> Query<'t> {
             &setup,
             &ByteRouter,
             u64::MAX,
+            &mut unread,
         )? {
             RunOutcome::Done(rows) => {
                 let nanos = nanos_since(rt, start)?;
@@ -164,6 +166,9 @@ impl<'t> Query<'t> {
         workers: u32,
     ) -> Result<Outcome, Error> {
         let setup = self.setup(alloc, workers)?;
+        let (router, gate) = (ByteRouter, Free);
+        let threading = Threading::new(&router, &gate);
+        let mut unread = RunCounts::unread(alloc);
         let start = Instant::now(rt)?;
         match run_threads(
             rt,
@@ -171,8 +176,8 @@ impl<'t> Query<'t> {
             &self.plan,
             self.database,
             &setup,
-            &ByteRouter,
-            &Free,
+            &threading,
+            &mut unread,
         )? {
             RunOutcome::Done(rows) => {
                 let nanos = nanos_since(rt, start)?;

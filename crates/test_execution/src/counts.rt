@@ -5,8 +5,8 @@ use std::alloc::{AllocError, Global};
 use std::test::Fail;
 use test_runs::{Case, ROWS_OF_D, ROWS_OF_T, SELECTED, case_of, first_part, setup_of};
 use vx_exchange::ByteRouter;
-use vx_exec::{RunCounts, RunOutcome, WorkerCounts, run_rounds_counted};
-use vx_parallel::{Free, run_threads_counted};
+use vx_exec::{RunCounts, RunOutcome, WorkerCounts, run_rounds};
+use vx_parallel::{Free, Threading, run_threads};
 
 // What the workers of a run counted at a node, together, as one text: rows that came from the left, rows given, morsels, packets taken;
 // and how many workers have the node.
@@ -41,7 +41,7 @@ fn steps_of(workers: &[WorkerCounts]) -> (u64, u64) {
 fn counted(alloc: Global, case: &Case, limit: u64) -> Result<(RunCounts, bool), Fail> {
     let setup = setup_of(alloc, 3, 1, 1, 4)?;
     let mut counts = RunCounts::new(alloc);
-    let ran = run_rounds_counted(
+    let ran = run_rounds(
         alloc,
         &case.plan,
         &case.database,
@@ -97,16 +97,10 @@ fn threads_count_each_row_once(rt: HostRuntime) -> Result<(), Fail> {
     let case = case_of(alloc, SELECTED, ROWS_OF_T, ROWS_OF_D)?;
     let setup = setup_of(alloc, 2, 1, 1, 4)?;
     let mut counts = RunCounts::new(alloc);
-    let ran = run_threads_counted(
-        &rt,
-        alloc,
-        &case.plan,
-        &case.database,
-        &setup,
-        &ByteRouter,
-        &Free,
-        &mut counts,
-    )?;
+    let (router, gate) = (ByteRouter, Free);
+    let threading = Threading::new(&router, &gate);
+    let (plan, database) = (&case.plan, &case.database);
+    let ran = run_threads(&rt, alloc, plan, database, &setup, &threading, &mut counts)?;
     assert!(rt; matches!(ran, RunOutcome::Done(_)));
     let (puts, _) = steps_of(counts.workers());
     assert!(rt; puts == 4 && counts.workers().len() == 3);

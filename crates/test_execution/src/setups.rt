@@ -7,7 +7,7 @@ use std::test::Fail;
 use test_runs::{CATALOG, Case, first_part, plan_of};
 use vx_catalog::{Catalog, Database};
 use vx_exchange::ByteRouter;
-use vx_exec::{RunFault, RunOutcome, run_rounds};
+use vx_exec::{RunCounts, RunFault, RunOutcome, run_rounds};
 
 // The same relations without a declared order.
 const OTHER: &str =
@@ -73,7 +73,17 @@ fn answer(alloc: Global, ran: Result<RunOutcome, RunFault>) -> Result<String, Al
 // What a setup of a case is answered with.
 fn line_of(alloc: Global, case: &Case, sizes: &str, limits: &str) -> Result<String, Fail> {
     let setup = setup_from(alloc, sizes, limits)?;
-    let ran = run_rounds(alloc, &case.plan, &case.database, &setup, &ByteRouter, 1000);
+    let (plan, database) = (&case.plan, &case.database);
+    let mut unread = RunCounts::unread(alloc);
+    let ran = run_rounds(
+        alloc,
+        plan,
+        database,
+        &setup,
+        &ByteRouter,
+        1000,
+        &mut unread,
+    );
     Ok(answer(alloc, ran)?)
 }
 

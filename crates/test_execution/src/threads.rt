@@ -4,9 +4,10 @@ use std::alloc::{AllocError, Global};
 use std::sync::Wait;
 use std::thread::Threads;
 use test_runs::{Case, agrees, outcome};
-use vx_exec::Setup;
-use vx_parallel::{Free, Gate, run_threads, run_threads_within};
+use vx_exec::{RunCounts, Setup};
+use vx_parallel::{Free, Gate, Threading, run_threads};
 use vx_plan::Router;
+use vx_values::limits::MAX_WORKERS;
 
 /// What a case comes to in threads.
 pub fn by_threads<T: Threads + Wait + Sync, R: Router + Sync>(
@@ -16,8 +17,7 @@ pub fn by_threads<T: Threads + Wait + Sync, R: Router + Sync>(
     setup: &Setup,
     router: &R,
 ) -> Result<String, AllocError> {
-    let ran = run_threads(rt, alloc, &case.plan, &case.database, setup, router, &Free);
-    outcome(alloc, ran)
+    by_threads_within(rt, alloc, case, setup, router, &Free, MAX_WORKERS)
 }
 
 /// What a case comes to in at most so many threads, with a gate.
@@ -30,16 +30,10 @@ pub fn by_threads_within<T: Threads + Wait + Sync, R: Router + Sync, G: Gate + S
     gate: &G,
     most: u32,
 ) -> Result<String, AllocError> {
-    let ran = run_threads_within(
-        rt,
-        alloc,
-        &case.plan,
-        &case.database,
-        setup,
-        router,
-        gate,
-        most,
-    );
+    let threading = Threading { router, gate, most };
+    let (plan, database) = (&case.plan, &case.database);
+    let mut unread = RunCounts::unread(alloc);
+    let ran = run_threads(rt, alloc, plan, database, setup, &threading, &mut unread);
     outcome(alloc, ran)
 }
 

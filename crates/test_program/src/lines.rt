@@ -7,8 +7,9 @@ use std::alloc::Global;
 use std::sync::Wait;
 use std::test::Fail;
 use std::thread::Threads;
-use vx_answer::{NoClock, Store, answer};
+use vx_answer::{NoClock, Session, Store, answer};
 use vx_bytes::{ByteOut, MemoryIn, MemoryOut};
+use vx_parallel::Engine;
 use vx_seeds::KeySeed;
 
 /// More bytes than an answer or a refusal of these tests has.
@@ -41,17 +42,8 @@ pub fn status_of<R: Threads + Wait + Sync + AllocGlobal, F: Store, O: ByteOut, E
     out: &mut O,
     err: &mut E,
 ) -> u8 {
-    answer(
-        rt,
-        &NoClock,
-        rt.alloc(),
-        KeySeed::fixed(),
-        arguments,
-        files,
-        input,
-        out,
-        err,
-    )
+    let session = Session::new(rt, &Engine, &NoClock, rt.alloc(), KeySeed::fixed());
+    answer(&session, arguments, files, input, out, err)
 }
 
 /// What went to the output, what went to the errors, and the status, as one text.

@@ -6,7 +6,7 @@ use std::test::Fail;
 use test_tables::shown;
 use vx_catalog::Database;
 use vx_check::CheckedPlan;
-use vx_exec::{RunFault, RunOutcome, Setup, run_rounds, run_scheduled};
+use vx_exec::{RunCounts, RunFault, RunOutcome, Setup, run_rounds, run_scheduled};
 use vx_plan::{Router, erase};
 use vx_serial::eval;
 use vx_views::Rows;
@@ -55,7 +55,9 @@ pub fn by_rounds<R: Router>(
     setup: &Setup,
     router: &R,
 ) -> Result<String, AllocError> {
-    let ran = run_rounds(alloc, &case.plan, &case.database, setup, router, ROUNDS);
+    let (plan, database) = (&case.plan, &case.database);
+    let mut unread = RunCounts::unread(alloc);
+    let ran = run_rounds(alloc, plan, database, setup, router, ROUNDS, &mut unread);
     outcome(alloc, ran)
 }
 

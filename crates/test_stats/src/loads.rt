@@ -8,7 +8,7 @@ use std::thread::Threads;
 use vx_bundle::{bundle_in, value_of_text};
 use vx_seeds::KeySeed;
 use vx_stats::{LoadTime, LoadTimer, NoClock};
-use vx_tables::{Observer, load_tables_in_threads};
+use vx_tables::{Loading, Observer, load_tables_in_threads};
 
 // A bundle with the rows of t.
 const BUNDLE: &str =
@@ -53,15 +53,12 @@ fn loaded<P: Threads + Sync>(rt: &P, alloc: Global, step: u64) -> Result<Vec<Loa
     let clock = Ticking::new(step);
     let mut timer = LoadTimer::start(alloc, &clock);
     let plan = plan(alloc)?;
-    let database = load_tables_in_threads(
-        rt,
+    let loading = Loading {
         alloc,
-        2,
-        KeySeed::fixed(),
-        &plan,
-        &bundle,
-        &mut timer,
-    );
+        threads: 2,
+        seed: KeySeed::fixed(),
+    };
+    let database = load_tables_in_threads(rt, loading, &plan, &bundle, &mut timer);
     if database.is_err() {
         return Err(Fail::new("the bundle has the rows of the plan's relation"));
     }

@@ -3,10 +3,8 @@
 use std::alloc::{AllocError, Global};
 use std::test::Fail;
 use vx_catalog::Catalog;
-use vx_exec::{NodeCounts, WorkerCounts};
-use vx_operators::OperatorCounts;
 use vx_plan::{Plan, TypedPlan, resolve};
-use vx_worker::StepCounts;
+use vx_setup::{NodeCounts, OperatorCounts, StepCounts, WorkerCounts};
 
 // The relations d "2"(n), whose name has quotes, and t(id, k, v).
 const CATALOG: &str =

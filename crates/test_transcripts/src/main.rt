@@ -12,8 +12,9 @@ use std::fs::{File, Files};
 use std::sync::Wait;
 use std::thread::Threads;
 use std::{env, fs};
-use vx_answer::{Disk, NoClock, answer};
+use vx_answer::{Disk, NoClock, Session, answer};
 use vx_bytes::{MemoryIn, MemoryOut};
+use vx_parallel::Engine;
 use vx_seeds::KeySeed;
 
 // What a command may write on its output, and what it may write on its errors, in bytes.
@@ -58,11 +59,9 @@ fn show<R: Threads + Wait + Sync + Files<File = File> + Print + AllocGlobal>(
     let mut input = MemoryIn::new(bytes.as_slice(), None);
     let mut out = MemoryOut::new(rt.alloc(), 4096, ROOM);
     let mut err = MemoryOut::new(rt.alloc(), 4096, ROOM);
+    let session = Session::new(rt, &Engine, &NoClock, rt.alloc(), KeySeed::fixed());
     let status = answer(
-        rt,
-        &NoClock,
-        rt.alloc(),
-        KeySeed::fixed(),
+        &session,
         command.arguments.as_slice(),
         &Disk::new(rt),
         &mut input,

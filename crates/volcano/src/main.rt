@@ -10,8 +10,9 @@ use std::io::{ErrorKind, IsTerminal};
 use std::process::ExitCode;
 use std::random::RandomSource;
 use std::{env, io};
-use vx_answer::{Disk, Refusal, answer, report};
+use vx_answer::{Disk, Refusal, Session, answer, report};
 use vx_bytes::{Real, write_all};
+use vx_parallel::Engine;
 use vx_progress::{Terminal, Watched, is_quiet};
 use vx_seeds::KeySeed;
 
@@ -80,11 +81,9 @@ fn main(rt: HostRuntime) -> ExitCode {
     let terminal = Terminal::new(&rt, rt.stderr());
     let is_shown = rt.stderr().is_terminal() && !is_quiet(texts.as_slice());
     let files = Watched::new(rt.alloc(), Disk::new(&rt), is_shown.then_some(&terminal));
+    let session = Session::new(&rt, &Engine, &rt, rt.alloc(), seed_of(&rt));
     ExitCode::from(answer(
-        &rt,
-        &rt,
-        rt.alloc(),
-        seed_of(&rt),
+        &session,
         texts.as_slice(),
         &files,
         &mut input,

@@ -7,7 +7,7 @@ use Rattle.std.specs.Str.{NoCharPasses}
 use Rattle.std.specs.Str.Pattern.{RFindsChar, SplitsAroundMatch}
 use Rattle.vx_setup.specs.Setup.{entry_of}
 use Rattle.vx_bundle.specs.Named.{Named}
-use Rattle.vx_answer.specs.Arguments.{Numbers, IsCut, IsSize, IsNoSize, AreSizes, HasNoSize}
+use Rattle.vx_answer.specs.Arguments.{IsCut, IsSize, IsNoSize, AreSizes, HasNoSize}
 
 -- one argument more
 pub sizes_more : (words : List (List ℕ)) (sizes : Named ℕ) (word : List ℕ) (size : List ℕ × ℕ) → AreSizes words sizes → IsSize word size

@@ -24,9 +24,9 @@ use Rattle.vx_plan_nodes.specs.Names.{TypedPlanView}
 use Rattle.vx_setup.specs.Setup.{SetupView, is_within, worker_groups_named, first_missing, first_out_of_range}
 use Rattle.vx_setup.specs.declared.fault.RunFault.{RunFault}
 use Rattle.vx_setup.specs.declared.fault.RunFault.TheVariants as run
-use Rattle.vx_exec.specs.Setup.{SetupRefusal, size_missing, size_out_of_range, bad_packet, bad_morsel, bad_slack, other, tested, no_name, few_workers, sizes_set, refusal_of}
-use Rattle.vx_exec.specs.Runs.{RunFails, IsTrueOf}
-use Rattle.vx_exec.specs.Runs as runs
+use Rattle.vx_runs.specs.Setup.{SetupRefusal, size_missing, size_out_of_range, bad_packet, bad_morsel, bad_slack, other, tested, no_name, few_workers, sizes_set, refusal_of}
+use Rattle.vx_runs.specs.Runs.{RunFails, IsTrueOf}
+use Rattle.vx_runs.specs.Runs as runs
 use Rattle.vx_serial.specs.Evaluated.{first_exchange}
 use Rattle.vx_serial.specs.Results.{EvalFails}
 use Rattle.vx_setup.specs.declared.eval_fault.EvalFault.{EvalFault}

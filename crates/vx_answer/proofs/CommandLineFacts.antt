@@ -24,6 +24,7 @@ use Rattle.vx_answer.specs.Files.{AreRead, IsFilesPlan}
 use Rattle.vx_answer.specs.Annotated.{AnnotationRefuses}
 use Rattle.vx_answer.specs.Forms.{FormRefuses}
 use Rattle.vx_answer.specs.CommandLine.{FileCommand, FormIsRefused, for_form, AnnotationIsRefused, for_annotation, TaskRefuses, for_plan_of, with_program_name, AsksFor, for_help, for_what_is_asked, for_kind, for_no_task, arguments_memory, for_ask, for_asked_runs, for_stopped, ArgumentsRefuse, AsksForStopped}
+use Rattle.vx_runs.specs.Promise.{Counting}
 use Rattle.vx_answer.specs.CommandLineView.{IsAskAnswer, IsArgumentAnswer, IsHelp, IsClapFault, IsAskFault, IsPlansFault, IsArgumentFault}
 
 -- what the command makes nothing of, the task has no answer to
@@ -46,12 +47,12 @@ annotation_refused files reliable input failed paths relations d (Ok x) read h =
 annotation_refused files reliable input failed paths relations d (Err e) read h = for_annotation relations d read h
 
 -- the answer to what arguments ask for answers the arguments
-pub arguments_answer : (files : List ℕ → Stored) (input : Option (List ℕ)) (arguments : List (List ℕ)) (ask : Ask) (r : Result ArgumentAnswer ArgumentFault)
-    → AsksFor arguments ask → IfOk r (λ a. IsAskAnswer files input ask a) → IfOk r (λ a. IsArgumentAnswer files input arguments a)
-arguments_answer files input arguments ask (Ok (answer.Text text)) asked h = for_what_is_asked ask asked h
-arguments_answer files input arguments ask (Ok (answer.Relation rows)) asked h = let P : Ask → Type 0 = λ a. AsksFor arguments a in subst P h asked
-arguments_answer files input arguments ask (Ok (answer.Counted k)) asked h = (for_what_is_asked ask asked h.0, record { ask = ask; asked = asked; reported = h.1 })
-arguments_answer files input arguments ask (Err e) asked h = tt
+pub arguments_answer : (Counted : Counting) (files : List ℕ → Stored) (input : Option (List ℕ)) (arguments : List (List ℕ)) (ask : Ask) (r : Result ArgumentAnswer ArgumentFault)
+    → AsksFor arguments ask → IfOk r (λ a. IsAskAnswer Counted files input ask a) → IfOk r (λ a. IsArgumentAnswer Counted files input arguments a)
+arguments_answer Counted files input arguments ask (Ok (answer.Text text)) asked h = for_what_is_asked ask asked h
+arguments_answer Counted files input arguments ask (Ok (answer.Relation rows)) asked h = let P : Ask → Type 0 = λ a. AsksFor arguments a in subst P h asked
+arguments_answer Counted files input arguments ask (Ok (answer.Counted k)) asked h = (for_what_is_asked ask asked h.0, record { ask = ask; asked = asked; reported = h.1 })
+arguments_answer Counted files input arguments ask (Err e) asked h = tt
 
 -- and so does its refusal
 pub arguments_refused : {T : Type 0} (files : List ℕ → Stored) (reliable : List ℕ → Bool) (input : Option (List ℕ)) (failed : Bool) (arguments : List (List ℕ)) (ask : Ask) (r : Result T ArgumentFault)
@@ -63,17 +64,17 @@ arguments_refused files reliable input failed arguments ask (Err (fault.Failing 
 arguments_refused files reliable input failed arguments ask (Err (fault.Stopped s)) asked h = (ask, asked, h)
 
 -- what clap answers is help or the version
-pub clap_answer : (files : List ℕ → Stored) (input : Option (List ℕ)) (arguments : List (List ℕ)) (error : Error) (r : Result ArgumentAnswer ArgumentFault)
-    → HasKind (faults_of (with_program_name arguments)) error → IfOk r (IsHelp (kind_of error)) → IfOk r (λ a. IsArgumentAnswer files input arguments a)
-clap_answer files input arguments error (Ok (answer.Text text)) (inl memory) (inl help) = let no : kind.OutOfMemory ≡ kind.DisplayHelp = sym memory ∙ help in cc
-clap_answer files input arguments error (Ok (answer.Text text)) (inl memory) (inr version) = let no : kind.OutOfMemory ≡ kind.DisplayVersion = sym memory ∙ version in cc
-clap_answer files input arguments error (Ok (answer.Text text)) (inr among) (inl help) =
+pub clap_answer : (Counted : Counting) (files : List ℕ → Stored) (input : Option (List ℕ)) (arguments : List (List ℕ)) (error : Error) (r : Result ArgumentAnswer ArgumentFault)
+    → HasKind (faults_of (with_program_name arguments)) error → IfOk r (IsHelp (kind_of error)) → IfOk r (λ a. IsArgumentAnswer Counted files input arguments a)
+clap_answer Counted files input arguments error (Ok (answer.Text text)) (inl memory) (inl help) = let no : kind.OutOfMemory ≡ kind.DisplayHelp = sym memory ∙ help in cc
+clap_answer Counted files input arguments error (Ok (answer.Text text)) (inl memory) (inr version) = let no : kind.OutOfMemory ≡ kind.DisplayVersion = sym memory ∙ version in cc
+clap_answer Counted files input arguments error (Ok (answer.Text text)) (inr among) (inl help) =
     let P : ErrorKind → Type 0 = λ k. IsAmong k (faults_of (with_program_name arguments)) in for_help (inl (subst P help among))
-clap_answer files input arguments error (Ok (answer.Text text)) (inr among) (inr version) =
+clap_answer Counted files input arguments error (Ok (answer.Text text)) (inr among) (inr version) =
     let P : ErrorKind → Type 0 = λ k. IsAmong k (faults_of (with_program_name arguments)) in for_help (inr (subst P version among))
-clap_answer files input arguments error (Ok (answer.Relation rows)) has h = absurd h
-clap_answer files input arguments error (Ok (answer.Counted k)) has h = absurd h
-clap_answer files input arguments error (Err e) has h = tt
+clap_answer Counted files input arguments error (Ok (answer.Relation rows)) has h = absurd h
+clap_answer Counted files input arguments error (Ok (answer.Counted k)) has h = absurd h
+clap_answer Counted files input arguments error (Err e) has h = tt
 
 -- what clap refuses is refused as its kind says
 pub clap_refused : {T : Type 0} (files : List ℕ → Stored) (reliable : List ℕ → Bool) (input : Option (List ℕ)) (failed : Bool) (arguments : List (List ℕ)) (error : Error) (r : Result T ArgumentFault)

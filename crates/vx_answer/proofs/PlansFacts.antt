@@ -1,6 +1,6 @@
 -- Several plans: reading one more, and one answer more.
-use Rattle.std.proofs.Common.{◌≡◌, ◌∙◌, ℕ, ◌+◌, ◌<◌, List, [], ◌∷◌, ◌++◌, map, take, drop, length, get_or, Bool, true, false, Option, Ok, refl, sym, ap, subst, append_assoc}
-use Rattle.std.proofs.lemmas.List.{append-nil, map-append, map_more, take-append-drop}
+use Rattle.std.proofs.Common.{◌≡◌, ◌∙◌, ℕ, ◌+◌, ◌<◌, List, [], ◌∷◌, ◌++◌, map, take, drop, length, get_or, Bool, true, false, Option, Ok, refl, sym, ap, subst}
+use Rattle.std.proofs.lemmas.List.{map-append, map_more, take-append-drop}
 use Rattle.std.proofs.lemmas.List.Folds.{list_any-append}
 use Rattle.std.proofs.Math.Seq.{drop-cons}
 use Rattle.std.specs.List.{list_any}
@@ -14,7 +14,7 @@ use Rattle.vx_refusals.specs.declared.refusal.Refusal.{Refusal}
 use Rattle.vx_answer.specs.Commands.{IsShown}
 use Rattle.vx_answer.specs.Files.{is_input, left_of, input_after}
 use Rattle.vx_answer.specs.Planning.{exactly, IsPlanned}
-use Rattle.vx_answer.specs.Plans.{NamedPlan, paths_of, plan_under, AreAccepted, IsNotAccepted, AreNotAccepted, for_first, any_scans, input_after_all, title, AreAnswers, StopsAt}
+use Rattle.vx_answer.specs.Plans.{NamedPlan, paths_of, plan_under, AreAccepted, IsNotAccepted, AreNotAccepted, for_first, any_scans, input_after_all, AreAnswers, StopsAt}
 
 -- what standard input has left after one path more
 pub left_next : (is_input was_read : Bool) (before after : Option (List ℕ)) → (is_input ≡ false → after ≡ before) → left_of (was_read || is_input) after ≡ left_of is_input (left_of was_read before)
@@ -33,31 +33,10 @@ pub accepted_more : (files : List ℕ → Stored) (input : Option (List ℕ)) (r
 accepted_more files input relations [] n h planned shown = (planned, shown, tt)
 accepted_more files input relations (m ∷ ms) n h planned shown = (h.0, h.1, accepted_more files (input_after input m.path) relations ms n h.2 planned shown)
 
--- one answer more
-pub answers_more : (Answers : TypedPlanView → List ℕ → Type 0) (ns : List NamedPlan) (n : NamedPlan) (text own : List ℕ) → AreAnswers Answers ns text → Answers n.plan own
-    → AreAnswers Answers (ns ++ n ∷ []) (text ++ (title n.path ++ own))
-answers_more Answers [] n text own h is =
-    let last : text ++ (title n.path ++ own) ≡ title n.path ++ (own ++ []) = ap (λ (t : List ℕ). t ++ (title n.path ++ own)) h ∙ ap (λ (t : List ℕ). title n.path ++ t) (sym (append-nil own)) in
-    (own, [], is, refl, last)
-answers_more Answers (m ∷ ms) n text own h is =
-    let more = title n.path ++ own in
-    let all : text ++ more ≡ title m.path ++ (h.0 ++ (h.1 ++ more)) =
-    ap (λ (t : List ℕ). t ++ more) h.4 ∙ append_assoc (title m.path) (h.0 ++ h.1) more ∙ ap (λ (t : List ℕ). title m.path ++ t) (append_assoc h.0 h.1 more) in
-    (h.0, h.1 ++ more, h.2, answers_more Answers ms n h.1 own h.3 is, all)
-
 -- a list around one of its elements
 pub around : {X Y : Type 0} (look : X → Y) (xs : List X) (i : ℕ) (d : X) → i < length xs → map look xs ≡ map look (take i xs) ++ look (get_or xs i d) ∷ map look (drop (suc i) xs)
 around {X} look xs i d there =
     ap (map look) (sym (take-append-drop i xs) ∙ ap (λ (rest : List X). take i xs ++ rest) (drop-cons xs i d there)) ∙ map-append look (take i xs) (get_or xs i d ∷ drop (suc i) xs)
-
--- the answers to the first plans, and to one more
-pub answers_grow : {W : Type 0} (Answers : TypedPlanView → List ℕ → Type 0) (look : W → NamedPlan) (ws : List W) (i : ℕ) (d : W) (text own answer grown : List ℕ) → i < length ws
-    → AreAnswers Answers (map look (take i ws)) text → Answers (look (get_or ws i d)).plan own → answer ≡ title (look (get_or ws i d)).path ++ own → grown ≡ text ++ answer
-    → AreAnswers Answers (map look (take (i + 1) ws)) grown
-answers_grow Answers look ws i d text own answer grown there h is titled more =
-    let P : List NamedPlan → Type 0 = λ ns. AreAnswers Answers ns grown in
-    let Q : List ℕ → Type 0 = λ t. AreAnswers Answers (map look (take i ws) ++ look (get_or ws i d) ∷ []) t in
-    subst P (sym (map_more look ws i d there)) (subst Q (sym (more ∙ ap (λ (t : List ℕ). text ++ t) titled)) (answers_more Answers (map look (take i ws)) (look (get_or ws i d)) text own h is))
 
 -- the plan at which it stops, behind the answers to the first plans
 pub stops_here : {W : Type 0} (Answers : TypedPlanView → List ℕ → Type 0) (Refuses : TypedPlanView → Refusal → Type 0) (look : W → NamedPlan) (ws : List W) (i : ℕ) (d : W) (text : List ℕ) (e : Refusal) → i < length ws

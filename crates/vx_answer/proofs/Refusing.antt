@@ -10,19 +10,19 @@ use Rattle.vx_setup.specs.declared.fault.RunFault.{RunFault}
 use Rattle.vx_setup.specs.declared.fault.RunFault.TheVariants as run_fault
 use Rattle.vx_setup.specs.declared.setting.Mode.{Mode}
 use Rattle.vx_setup.specs.declared.setting.Mode.TheVariants as mode
-use Rattle.vx_parallel.specs.Parallel.{IsWhole}
-use Rattle.vx_exec.specs.declared.ran.RunOutcome.{RunOutcome}
-use Rattle.vx_exec.specs.declared.ran.RunOutcome.TheVariants as run_outcome
-use Rattle.vx_exec.specs.Runs.{IsSetUp, RunFails}
-use Rattle.vx_exec.specs.Sizes.{Sizes, run_model}
-use Rattle.vx_plan_nodes.specs.ByteRouter.{byte_route}
+use Rattle.vx_runs.specs.Runs.{IsWhole, IsSetUp, RunFails}
+use Rattle.vx_runs.specs.declared.outcome.RunOutcome.{RunOutcome}
+use Rattle.vx_runs.specs.declared.outcome.RunOutcome.TheVariants as run_outcome
+use Rattle.vx_runs.specs.Sizes.{Sizes}
+use Rattle.vx_plan_nodes.specs.Workers.{worker_group_at}
 use Rattle.vx_plan_nodes.specs.TypedView.{plan as whole_plan, resolved_of}
 use Rattle.vx_plan_nodes.specs.declared.typed_plan.TypedPlan.{TypedPlan}
 use Rattle.vx_bundle.specs.Bundle.{Bundle}
 use Rattle.vx_setup.specs.Setting.{Setting}
 use Rattle.vx_refusals.specs.Status.{status_of}
 use Rattle.vx_tables.specs.Texts.{holds_in, lacks_in}
-use Rattle.vx_answer.specs.Commands.{Holding, Lacking, IsShown, IsDatabaseFor, RunRefuses, MayReport, PlanRefuses, for_run, for_fault, for_threads, SerialRefuses, CommandRefuses, for_rest, for_serial}
+use Rattle.vx_answer.specs.Commands.{Holding, Lacking, IsShown, IsDatabaseFor, RunRefuses, PlanRefuses, for_run, for_fault, for_threads, SerialRefuses, CommandRefuses, for_rest, for_serial}
+use Rattle.vx_runs.specs.Promise.{MayReport}
 use Rattle.vx_answer.specs.Answer.{IsBundlePlan, Refuses, for_plan_of, RefusedWith, IsRefusedBy}
 
 pub run_refused : {T : Type 0} (r : Result T Refusal) (p : TypedPlanView) (holds : Holding) (lacks : Lacking) (s : Setting) (db : Database)
@@ -62,17 +62,17 @@ failed_by X Y known failed (Ok x) n written refused h four = inl (written (λ z.
 failed_by X Y known failed (Err e) n written refused h four = inr (e, sym refused.0 ∙ four, h)
 
 -- only threads report what not any run does
-by_threads : (m : Mode) (p : TypedPlan) (db : Database) (z : Sizes) (f : RunFault) → MayReport m (run_model byte_route p db z) (whole_plan p) f → (m ≡ mode.Threads) × (f ≡ run_fault.NoThread)
-by_threads mode.Rounds p db z f h = absurd h
-by_threads mode.Threads p db z f h = (refl, h)
+by_threads : (m : Mode) (p : TypedPlan) (z : Sizes) (f : RunFault) → MayReport m (worker_group_at z.worker_groups) (whole_plan p) f → (m ≡ mode.Threads) × (f ≡ run_fault.NoThread)
+by_threads mode.Rounds p z f h = absurd h
+by_threads mode.Threads p z f h = (refl, h)
 
 -- why a run gives no text, from the fault that it reports
 pub fault_refused : (p : TypedPlan) (db : Database) (s : Setting) (f : RunFault)
-    → RunFails (resolved_of p) db s.setup f ⊎ ((z : Sizes) × IsSetUp (resolved_of p) db s.setup z × MayReport s.mode (run_model byte_route p db z) (whole_plan p) f)
+    → RunFails (resolved_of p) db s.setup f ⊎ ((z : Sizes) × IsSetUp (resolved_of p) db s.setup z × MayReport s.mode (worker_group_at z.worker_groups) (whole_plan p) f)
     → RunRefuses (resolved_of p) db s (refusal.Run f)
 fault_refused p db s f h = elim h [
   | inl fails ↦ for_fault f refl fails
-  | inr other ↦ let t = by_threads s.mode p db other.0 f other.2 in for_threads t.0 other.0 other.1 (ap refusal.Run t.1)
+  | inr other ↦ let t = by_threads s.mode p other.0 f other.2 in for_threads t.0 other.0 other.1 (ap refusal.Run t.1)
 ]
 
 -- what no run by threads comes to was come to in rounds

@@ -16,9 +16,9 @@ use Rattle.vx_plan_nodes.specs.Serial.{SerialResult, IsOverflow}
 use Rattle.vx_check_rules.specs.Claims.{Delivers}
 use Rattle.vx_plan_nodes.specs.Real.{IsReal}
 use Rattle.vx_plan_nodes.specs.Workers.{worker_group_at}
-use Rattle.vx_exec.specs.Runs.{IsRunOf, IsSetUp, IsTrueOf}
-use Rattle.vx_exec.specs.Runs as fails
-use Rattle.vx_exec.specs.Sizes.{Sizes}
+use Rattle.vx_runs.specs.Runs.{IsRunOf, IsSetUp, IsTrueOf}
+use Rattle.vx_runs.specs.Runs as fails
+use Rattle.vx_runs.specs.Sizes.{Sizes}
 use Rattle.vx_rows.specs.View.{RowsView}
 use Rattle.vx_setup.specs.declared.fault.RunFault.{RunFault}
 use Rattle.vx_setup.specs.declared.fault.RunFault.TheVariants as run

@@ -1,5 +1,5 @@
 -- Answers with statistics: what they answer, and when there are none.
-use Rattle.std.proofs.Common.{◌≡◌, ◌⊎◌, ◌∙◌, ℕ, List, map, Bool, Option, Some, Result, Ok, Err, [], inl, inr, refl, sym, subst, string_bytes}
+use Rattle.std.proofs.Common.{◌≡◌, ◌⊎◌, ◌∙◌, ℕ, List, map, Bool, Option, Some, None, Result, Ok, Err, [], inl, inr, refl, sym, subst, string_bytes}
 use Rattle.std.specs.Prelude.{IfOk, IfErr}
 use Rattle.clap.specs.Values.{kind_of}
 use Rattle.clap.specs.Words.{HasKind, IsAmong, Kinds}
@@ -9,6 +9,7 @@ use Rattle.clap.specs.declared.error.kind.ErrorKind.TheVariants as kind
 use Rattle.vx_arguments.specs.Asked.{Ask, Paths, ManyPaths, Given, run, run_plans, stats_by, faults_of}
 use Rattle.vx_bundle.specs.declared.command.Command.TheVariants as command
 use Rattle.vx_refusals.specs.declared.refusal.Refusal.{Refusal}
+use Rattle.vx_runs.specs.Promise.{Counting}
 use Rattle.vx_setup.specs.Setting.{Setting}
 use Rattle.vx_bytes.specs.Stored.{Stored}
 use Rattle.vx_stats.specs.declared.text.StatsForm.{StatsForm}
@@ -19,23 +20,23 @@ use Rattle.vx_answer.specs.Files.{input_after}
 use Rattle.vx_answer.specs.Plans.{AnswersPlans}
 use Rattle.vx_answer.specs.PlansView.{named_is}
 use Rattle.vx_answer.specs.Stats.{AreTaskStats, ArePlansStats, for_one, for_several}
-use Rattle.vx_answer.specs.StatsView.{IsCountedAs, IsUncounted, IsStatsFault}
+use Rattle.vx_answer.specs.StatsView.{answer_with, IsCountedAs, IsUncounted, IsStatsFault}
 use Rattle.vx_answer.specs.declared.command_line.ArgumentAnswer.{ArgumentAnswer}
 use Rattle.vx_answer.specs.declared.command_line.ArgumentAnswer.TheVariants as answer
 use Rattle.vx_answer.specs.declared.command_line.ArgumentFault.{ArgumentFault}
-use Rattle.vx_answer.specs.declared.stats.CountedText.{CountedText}
+use Rattle.vx_answer.specs.declared.stats.RunReport.{RunReport}
 use Rattle.vx_answer.specs.declared.command_line.ArgumentFault.TheVariants as fault
 use Rattle.vx_answer.proofs.CommandLineFacts.{arguments_refused}
 use Rattle.vx_answer.proofs.SharesFacts.{have_shares, answers_in}
 use Rattle.vx_answer.proofs.StatsFacts.{counted_answers, stats_answer}
 
 -- what is reported of several plans answers them
-pub plans_stats : (files : List ℕ → Stored) (input : Option (List ℕ)) (f : StatsForm) (paths : ManyPaths) (folder : List ℕ) (s : Setting) (text opening : List ℕ)
-    → ArePlansStats files input f paths folder s text opening → AnswersPlans files input paths folder s text
-plans_stats files input f paths folder s text opening h =
+pub plans_stats : (Counted : Counting) (files : List ℕ → Stored) (input : Option (List ℕ)) (f : Option StatsForm) (paths : ManyPaths) (folder : List ℕ) (s : Setting) (text opening : List ℕ)
+    → ArePlansStats Counted files input f paths folder s text opening → AnswersPlans files input paths folder s text
+plans_stats Counted files input f paths folder s text opening h =
     let ns = map named_is h.plans in
     let shares = have_shares h.relations ns _ h.all h.loaded files (input_after input paths.catalog) ns h.planned.accepted (λ i is. is) in
-    (h.relations, ns, h.all, h.planned, h.loaded, answers_in _ h.all s ns text shares (counted_answers f h.all s h.plans text h.stats h.runs))
+    (h.relations, ns, h.all, h.planned, h.loaded, answers_in _ h.all s ns text shares (counted_answers Counted f h.all s h.plans text h.stats h.runs))
 
 -- arguments ask for one thing
 pub one_ask : (arguments : List (List ℕ)) (a b : Ask) → AsksFor arguments a → AsksFor arguments b → a ≡ b
@@ -74,23 +75,29 @@ request_refused files reliable input failed arguments ask word (Err e) asked is 
   | inr k ↦ stats_refused files reliable input failed arguments word e asked.unrefused is k
 ]
 
--- a counted run answers what is asked for
-pub one_counted : (files : List ℕ → Stored) (input : Option (List ℕ)) (f : StatsForm) (ask : Ask) (paths : Paths) (folder : List ℕ) (given : Given) (s : Setting) (k : CountedText) → ask ≡ run paths folder given
-    → IsSetting given s → k.form ≡ f → AreTaskStats files input f (record { command = command.Run; paths = paths; folder = folder; setting = s }) k.text.items (string_bytes k.opening)
-    → IsAskAnswer files input ask (answer.Counted k)
-one_counted files input f ask paths folder given s k same set form h =
+-- a run answers what is asked for, with what is reported of it
+pub one_reported : (Counted : Counting) (files : List ℕ → Stored) (input : Option (List ℕ)) (f : Option StatsForm) (ask : Ask) (paths : Paths) (folder : List ℕ) (given : Given) (s : Setting) (r : RunReport)
+    → ask ≡ run paths folder given → IsSetting given s
+    → AreTaskStats Counted files input f (record { command = command.Run; paths = paths; folder = folder; setting = s }) r.text.items (string_bytes r.stats)
+    → IsAskAnswer Counted files input ask (answer_with f r)
+one_reported Counted files input None ask paths folder given s r same set h =
     let t : FileCommand = record { command = command.Run; paths = paths; folder = folder; setting = s } in
-    let P : Ask → Type 0 = λ a. IsAskAnswer files input a (answer.Counted k) in
+    let P : Ask → Type 0 = λ a. IsAskAnswer Counted files input a (answer.Text r.text) in
     let is : IsTask (run paths folder given) t = (s, set, refl) in
-    let reported = subst (λ g. AreTaskStats files input g t k.text.items (string_bytes k.opening)) (sym form) h in
-    subst P (sym same) (for_task t is (stats_answer files input f paths folder s k.text.items (string_bytes k.opening) h), for_one t is refl reported)
+    subst P (sym same) (for_task t is (stats_answer Counted files input None paths folder s r.text.items (string_bytes r.stats) h))
+one_reported Counted files input (Some f) ask paths folder given s r same set h =
+    let t : FileCommand = record { command = command.Run; paths = paths; folder = folder; setting = s } in
+    let P : Ask → Type 0 = λ a. IsAskAnswer Counted files input a (answer_with (Some f) r) in
+    let is : IsTask (run paths folder given) t = (s, set, refl) in
+    subst P (sym same) (for_task t is (stats_answer Counted files input (Some f) paths folder s r.text.items (string_bytes r.stats) h), for_one t is refl h)
 
 -- and so do several
-pub several_counted : (files : List ℕ → Stored) (input : Option (List ℕ)) (f : StatsForm) (ask : Ask) (paths : ManyPaths) (folder : List ℕ) (given : Given) (s : Setting) (k : CountedText)
-    → ask ≡ run_plans paths folder given → IsSetting given s → k.form ≡ f → ArePlansStats files input f paths folder s k.text.items (string_bytes k.opening) → IsAskAnswer files input ask (answer.Counted k)
-several_counted files input f ask paths folder given s k same set form h =
-    let reported = subst (λ g. ArePlansStats files input g paths folder s k.text.items (string_bytes k.opening)) (sym form) h in
-    (for_runs paths folder given s same set (plans_stats files input f paths folder s k.text.items (string_bytes k.opening) h), for_several paths folder given s same set reported)
+pub several_reported : (Counted : Counting) (files : List ℕ → Stored) (input : Option (List ℕ)) (f : Option StatsForm) (ask : Ask) (paths : ManyPaths) (folder : List ℕ) (given : Given) (s : Setting) (r : RunReport)
+    → ask ≡ run_plans paths folder given → IsSetting given s → ArePlansStats Counted files input f paths folder s r.text.items (string_bytes r.stats) → IsAskAnswer Counted files input ask (answer_with f r)
+several_reported Counted files input None ask paths folder given s r same set h =
+    for_runs paths folder given s same set (plans_stats Counted files input None paths folder s r.text.items (string_bytes r.stats) h)
+several_reported Counted files input (Some f) ask paths folder given s r same set h =
+    (for_runs paths folder given s same set (plans_stats Counted files input (Some f) paths folder s r.text.items (string_bytes r.stats) h), for_several paths folder given s same set h)
 
 -- why a task that is a run is refused
 pub run_refused : (files : List ℕ → Stored) (reliable : List ℕ → Bool) (input : Option (List ℕ)) (failed : Bool) (ask : Ask) (paths : Paths) (folder : List ℕ) (given : Given) (s : Setting) (e : Refusal)

@@ -1,6 +1,6 @@
 -- What arguments ask for, as it is held; what answers them, and why they have no answer.
 use Rattle.std.specs.Prelude.{◌≡◌, ℕ, ◌⊎◌, List, Bool, Option, Some, string_bytes}
-use Rattle.vx_arguments.specs.Asked.{paths_are, many_are, Ask, Paths, ManyPaths, Given, bundle, check_all, explain, draw, annotate, sql, why, run_plans, generate}
+use Rattle.vx_arguments.specs.Asked.{paths_are, Ask, Paths, ManyPaths, bundle, check_all, explain, draw, annotate, sql, why, generate}
 use Rattle.vx_answer.specs.declared.command_line.FileCommand as held
 use Rattle.vx_answer.specs.declared.command_line.AskedJob.{AskedJob}
 use Rattle.vx_answer.specs.declared.command_line.AskedJob.TheVariants as asked_job
@@ -14,19 +14,14 @@ use Rattle.vx_refusals.specs.declared.refusal.Refusal.TheVariants as refusal
 use Rattle.vx_bytes.specs.Stored.{Stored}
 use Rattle.vx_answer.specs.Forms.{form_named}
 use Rattle.vx_answer.specs.Statements.{dialect_named}
+use Rattle.vx_runs.specs.Promise.{Counting}
 use Rattle.vx_setup.specs.Setting.{Setting}
-use Rattle.vx_answer.specs.declared.command_line.FilePlans.{FilePlans}
-use Rattle.vx_answer.specs.Arguments.{IsSetting}
 use Rattle.vx_answer.specs.Plans.{PlansStop, PlansRefuse}
 use Rattle.vx_answer.specs.Stats.{AreAskStats, AreArgumentStats}
 use Rattle.vx_answer.specs.CommandLine.{FileCommand, IsTask, IsNoTask, IsEntry, AnswersAsk, AskStops, FailsAtAll, AsksFor, AsksForFailing, AsksForStopped, AnswersArguments, IsUsageKind, AskRefuses, IsUsageError, ArgumentsRefuse}
 
 abbrev pub task_is : held.FileCommand → FileCommand
 task_is t = record { command = t.command; paths = paths_are t.sources; folder = t.folder.now; setting = t.setting }
-
--- runs of several plans are what arguments ask for
-abbrev pub IsPlansTask : Ask → FilePlans → Type 0
-IsPlansTask ask t = (given : Given) × (ask ≡ run_plans (many_are t.sources) t.folder.now given) × IsSetting given t.setting
 
 -- a job does what arguments ask for
 abbrev pub IsJob : Ask → AskedJob → Type 0
@@ -37,21 +32,20 @@ IsJob ask (asked_job.Annotation sources) = ask ≡ annotate (paths_are sources)
 IsJob ask (asked_job.Form f sources) = (format : List ℕ) × (ask ≡ explain (paths_are sources) format) × (form_named format ≡ Some f)
 IsJob ask (asked_job.Drawing sources stats) = ask ≡ draw (paths_are sources) stats.now
 IsJob ask (asked_job.Statement d sources) = (name : List ℕ) × (ask ≡ sql (paths_are sources) name) × (dialect_named name ≡ Some d)
-IsJob ask (asked_job.Plans t) = IsPlansTask ask t
 IsJob ask (asked_job.Entry text) = (code : List ℕ) × (ask ≡ why code) × IsEntry code text.now
 IsJob ask (asked_job.Relation rows) = ask ≡ generate rows
 
 -- what answers what arguments ask for: a finished text, or the number of rows of the relation that they ask for
-abbrev pub IsAskAnswer : (List ℕ → Stored) → Option (List ℕ) → Ask → ArgumentAnswer → Type 0
-IsAskAnswer files input ask (answer.Text text) = AnswersAsk files input ask text.items
-IsAskAnswer files input ask (answer.Relation rows) = ask ≡ generate rows
-IsAskAnswer files input ask (answer.Counted k) = AnswersAsk files input ask k.text.items × AreAskStats files input k.form ask k.text.items (string_bytes k.opening)
+abbrev pub IsAskAnswer : Counting → (List ℕ → Stored) → Option (List ℕ) → Ask → ArgumentAnswer → Type 0
+IsAskAnswer Counted files input ask (answer.Text text) = AnswersAsk files input ask text.items
+IsAskAnswer Counted files input ask (answer.Relation rows) = ask ≡ generate rows
+IsAskAnswer Counted files input ask (answer.Counted k) = AnswersAsk files input ask k.text.items × AreAskStats Counted files input k.form ask k.text.items (string_bytes k.opening)
 
 -- what answers arguments
-abbrev pub IsArgumentAnswer : (List ℕ → Stored) → Option (List ℕ) → List (List ℕ) → ArgumentAnswer → Type 0
-IsArgumentAnswer files input arguments (answer.Text text) = AnswersArguments files input arguments text.items
-IsArgumentAnswer files input arguments (answer.Relation rows) = AsksFor arguments (generate rows)
-IsArgumentAnswer files input arguments (answer.Counted k) = AnswersArguments files input arguments k.text.items × AreArgumentStats files input k.form arguments k.text.items (string_bytes k.opening)
+abbrev pub IsArgumentAnswer : Counting → (List ℕ → Stored) → Option (List ℕ) → List (List ℕ) → ArgumentAnswer → Type 0
+IsArgumentAnswer Counted files input arguments (answer.Text text) = AnswersArguments files input arguments text.items
+IsArgumentAnswer Counted files input arguments (answer.Relation rows) = AsksFor arguments (generate rows)
+IsArgumentAnswer Counted files input arguments (answer.Counted k) = AnswersArguments files input arguments k.text.items × AreArgumentStats Counted files input k.form arguments k.text.items (string_bytes k.opening)
 
 -- an answer by clap of this kind: the text of help or of the version
 abbrev pub IsHelp : ErrorKind → ArgumentAnswer → Type 0

@@ -14,15 +14,12 @@ use Rattle.vx_check_rules.specs.RuleView.{rule_of}
 use Rattle.vx_check.specs.Accepted.{accepted_text}
 use Rattle.vx_check.specs.Explain.{explain_text}
 use Rattle.vx_check_rules.specs.declared.rule.Rule as rust_rule
-use Rattle.vx_exec.specs.Promise.{Reports, NothingElse}
-use Rattle.vx_exec.specs.Sizes.{Sizes}
-use Rattle.vx_exec.specs.Runs.{IsRunOf, IsSetUp, RunFails}
-use Rattle.vx_parallel.specs.Parallel.{NoThreadStarted}
+use Rattle.vx_runs.specs.Sizes.{Sizes}
+use Rattle.vx_runs.specs.Runs.{IsRunOf, IsSetUp, RunFails}
 use Rattle.vx_setup.specs.declared.fault.RunFault.{RunFault}
 use Rattle.vx_serial.specs.Results.{IsSerialOf, EvalFails}
 use Rattle.vx_setup.specs.declared.eval_fault.EvalFault.{EvalFault}
 use Rattle.vx_setup.specs.declared.fault.RunFault.TheVariants as run_fault
-use Rattle.vx_setup.specs.declared.setting.Mode.{Mode}
 use Rattle.vx_setup.specs.declared.setting.Mode.TheVariants as mode
 use Rattle.vx_bundle.specs.declared.command.Command.{Command}
 use Rattle.vx_bundle.specs.declared.command.Command.TheVariants as command
@@ -48,11 +45,6 @@ refusal_in p = refusal (relation_at p.names.catalog) p.total (plan_in p.root)
 abbrev pub IsRunOver : TypedPlanView → Database → Setting → List ℕ → Type 0
 IsRunOver p db setting text =
     (rows : RowsView) × (s : Sizes) × IsSetUp p db setting.setup s × IsRunOf byte_route p db s.worker_groups rows × (text ≡ csv_text (columns p.root).names rows.rows)
-
--- the faults that a run in this mode may report besides those of any run
-abbrev pub MayReport : Mode → Reports
-MayReport mode.Rounds = NothingElse
-MayReport mode.Threads = NoThreadStarted
 
 -- why a run of this plan over this database gives no text: it was set up rightly and its rounds were over or its threads were not started, memory ran out,
 -- or it failed

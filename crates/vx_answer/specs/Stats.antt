@@ -1,21 +1,18 @@
 -- Statistics of runs: which arguments ask for them, and what standard error gets behind the rows. `files` and `input` are as in `Files`.
-use Rattle.std.specs.Prelude.{◌≡◌, ℕ, ◌++◌, List, [], ◌∷◌, map, Bool, true, false, Option, option_and_then, Result, Ok, length, codes}
+use Rattle.std.specs.Prelude.{◌≡◌, ℕ, ◌++◌, List, [], ◌∷◌, map, Bool, true, false, Option, Some, None, IfSome, option_and_then, Ok, length, codes}
 use Rattle.vx_arguments.specs.Asked.{Ask, ManyPaths, Given, run, run_plans, stats_by}
 use Rattle.vx_bundle.specs.declared.command.Command.TheVariants as command
-use Rattle.vx_setup.specs.declared.setting.Mode.{Mode}
-use Rattle.vx_setup.specs.declared.setting.Mode.TheVariants as mode
 use Rattle.vx_setup.specs.Setting.{Setting}
 use Rattle.vx_bytes.specs.Stored.{Stored}
 use Rattle.vx_catalog.specs.Csv.{csv_text}
 use Rattle.vx_catalog.specs.Database.{Database}
 use Rattle.vx_check_rules.specs.CheckedView.{typed_plan}
 use Rattle.vx_plan_nodes.specs.ByteRouter.{byte_route}
-use Rattle.vx_exec.specs.Runs.{IsRunOf, IsSetUp, CountedInRounds}
-use Rattle.vx_exec.specs.Sizes.{run_model, Sizes}
-use Rattle.vx_exec.specs.declared.counted.WorkerCounts.{WorkerCounts}
-use Rattle.vx_exec.specs.declared.ran.RunOutcome.{RunOutcome}
-use Rattle.vx_exec.specs.declared.ran.RunOutcome.TheVariants as run_outcome
-use Rattle.vx_parallel.specs.Parallel.{CountedByThreads}
+use Rattle.vx_runs.specs.Promise.{Counting}
+use Rattle.vx_runs.specs.Runs.{IsRunOf, IsSetUp}
+use Rattle.vx_runs.specs.Sizes.{Sizes}
+use Rattle.vx_setup.specs.declared.counts.WorkerCounts.{WorkerCounts}
+use Rattle.vx_runs.specs.declared.outcome.RunOutcome.TheVariants as run_outcome
 use Rattle.vx_plan_nodes.specs.Outline.{columns}
 use Rattle.vx_plan_nodes.specs.TypedView.{scope, plan as whole_plan, resolved_of}
 use Rattle.vx_plan_nodes.specs.declared.typed_plan.TypedPlan.{TypedPlan}
@@ -29,8 +26,6 @@ use Rattle.vx_stats.specs.declared.phases.WorkPhase.{WorkPhase}
 use Rattle.vx_stats.specs.declared.phases.WorkPhase.TheVariants as work_phase
 use Rattle.vx_stats.specs.declared.phases.PhaseTime.{PhaseTime}
 use Rattle.vx_stats.specs.declared.text.StatsForm.{StatsForm}
-use Rattle.vx_stats.specs.declared.text.StatsForm.TheVariants as form
-use Rattle.vx_setup.specs.declared.fault.RunFault.{RunFault}
 use Rattle.vx_tables.specs.Filled.{scans, scanned_below}
 use Rattle.vx_tables.specs.Folder.{holds_at}
 use Rattle.vx_answer.specs.Arguments.{IsSetting}
@@ -56,94 +51,92 @@ is_run (run paths folder given) = true
 is_run (run_plans paths folder given) = true
 is_run _ = false
 
--- at most so many rounds
-abbrev pub most_rounds : ℕ
-most_rounds = 1000000000
-
--- the workers of a run in this mode, which came to this, counted this in the end
-abbrev pub CountedIn : Mode → TypedPlan → Database → Sizes → Result RunOutcome RunFault → List WorkerCounts → Type 0
-CountedIn mode.Rounds p db s result ws = CountedInRounds byte_route (run_model byte_route p db s) (whole_plan p) most_rounds result ws
-CountedIn mode.Threads p db s result ws = CountedByThreads byte_route (run_model byte_route p db s) (whole_plan p) result ws
-
--- the text is that of the rows of a run of this plan over this database, as in `IsRunOver`, and the workers of that run counted this
-pub record IsCountedRun (p : TypedPlan) (db : Database) (setting : Setting) (text : List ℕ) (ws : List WorkerCounts) : Type 0 where
-  pub rows : RowsView
-  pub sizes : Sizes
-  pub set : IsSetUp (resolved_of p) db setting.setup sizes
-  pub run : IsRunOf byte_route (resolved_of p) db sizes.worker_groups rows
-  pub is : text ≡ csv_text (columns (resolved_of p).root).names rows.rows
-  pub counted : CountedIn setting.mode p db sizes (Ok (run_outcome.Done rows)) ws
-
 -- the phases of what several plans have in common, before the write
 abbrev pub shared_phases : List WorkPhase
 shared_phases = work_phase.Catalog ∷ work_phase.Plans ∷ work_phase.Load ∷ []
 
--- statistics, up to the time of the write, of a counted run of this plan over the tables, with this text; these phases came before, and each relation that the plan scans was loaded
-pub record IsCountedPlan (f : StatsForm) (p : TypedPlan) (holds : Holding) (setting : Setting) (before : List WorkPhase) (text opening : List ℕ) : Type 0 where
-  pub db : Database
-  pub counts : List WorkerCounts
-  pub loads : List LoadTime
-  pub times : List PhaseTime
-  pub loaded : IsDatabaseFor (resolved_of p) holds db
-  pub each : relations_of loads ≡ scanned_below (scans (whole_plan p)) (length (scope p).catalog)
-  pub run : IsCountedRun p db setting text counts
-  pub phases : phases_of times ≡ before ++ (work_phase.Load ∷ work_phase.Run ∷ [])
-  pub is : opening ≡ lone_text f p counts loads times
+-- this text in the form of statistics that is asked for; where none is, nothing
+abbrev pub if_asked : Option StatsForm → (StatsForm → List ℕ) → List ℕ
+if_asked None text = []
+if_asked (Some f) text = text f
 
--- the same of a run that arguments ask for: the phases are read, plan, check, load and run
-pub record AreTaskStats (files : List ℕ → Stored) (input : Option (List ℕ)) (f : StatsForm) (t : FileCommand) (text opening : List ℕ) : Type 0 where
-  pub plan : TypedPlan
-  pub planned : IsFilesPlan files input t.paths (resolved_of plan)
-  pub shown : IsShown (resolved_of plan)
-  pub counted : IsCountedPlan f plan (holds_at files t.folder) t.setting (work_phase.Read ∷ work_phase.Plan ∷ work_phase.Check ∷ []) text opening
+-- `Counted` says what the engine promises of the counts of its runs' workers. Where no form `f` of statistics is asked for, nothing is said of counts, and there are no statistics
+module _ (Counted : Counting) where
+  -- the text is that of the rows of a run of this plan over this database, as in `IsRunOver`, and the workers of that run counted this
+  pub record IsCountedRun (f : Option StatsForm) (p : TypedPlan) (db : Database) (setting : Setting) (text : List ℕ) (ws : List WorkerCounts) : Type 0 where
+    pub rows : RowsView
+    pub sizes : Sizes
+    pub set : IsSetUp (resolved_of p) db setting.setup sizes
+    pub run : IsRunOf byte_route (resolved_of p) db sizes.worker_groups rows
+    pub is : text ≡ csv_text (columns (resolved_of p).root).names rows.rows
+    pub counted : IfSome f (λ _. Counted setting.mode p db sizes (Ok (run_outcome.Done rows)) ws)
 
--- to a text and to statistics came those of one more counted run, each behind the line with its path
-pub record IsRunMore (f : StatsForm) (db : Database) (setting : Setting) (n : AcceptedPlan) (text stats grown reported : List ℕ) : Type 0 where
-  pub own : List ℕ
-  pub counts : List WorkerCounts
-  pub time : PhaseTime
-  pub run : IsCountedRun (typed_plan n.plan) db setting own counts
-  pub timed : time.phase ≡ work_phase.Run
-  pub text_is : grown ≡ text ++ (title n.path.now ++ own)
-  pub stats_are : reported ≡ stats ++ (title n.path.now ++ plan_text f (typed_plan n.plan) counts time)
+  -- statistics, up to the time of the write, of a counted run of this plan over the tables, with this text; these phases came before, and each relation that the plan scans was loaded
+  pub record IsCountedPlan (f : Option StatsForm) (p : TypedPlan) (holds : Holding) (setting : Setting) (before : List WorkPhase) (text opening : List ℕ) : Type 0 where
+    pub db : Database
+    pub counts : List WorkerCounts
+    pub loads : List LoadTime
+    pub times : List PhaseTime
+    pub loaded : IsDatabaseFor (resolved_of p) holds db
+    pub each : relations_of loads ≡ scanned_below (scans (whole_plan p)) (length (scope p).catalog)
+    pub run : IsCountedRun f p db setting text counts
+    pub phases : phases_of times ≡ before ++ (work_phase.Load ∷ work_phase.Run ∷ [])
+    pub is : opening ≡ if_asked f (λ form. lone_text form p counts loads times)
 
--- the text is that of counted runs of these plans over a database, each behind the line with its path, and so are the statistics
-abbrev pub AreCountedRuns : StatsForm → Database → Setting → List AcceptedPlan → List ℕ → List ℕ → Type 0
-AreCountedRuns f db setting [] text stats = (text ≡ []) × (stats ≡ [])
-AreCountedRuns f db setting (n ∷ ns) text stats =
-    (first : List ℕ) × (reported : List ℕ) × (rest : List ℕ) × (more : List ℕ) × IsRunMore f db setting n [] [] first reported × AreCountedRuns f db setting ns rest more
-    × (text ≡ first ++ rest) × (stats ≡ reported ++ more)
+  -- the same of a run that arguments ask for: the phases are read, plan, check, load and run
+  pub record AreTaskStats (files : List ℕ → Stored) (input : Option (List ℕ)) (f : Option StatsForm) (t : FileCommand) (text opening : List ℕ) : Type 0 where
+    pub plan : TypedPlan
+    pub planned : IsFilesPlan files input t.paths (resolved_of plan)
+    pub shown : IsShown (resolved_of plan)
+    pub counted : IsCountedPlan f plan (holds_at files t.folder) t.setting (work_phase.Read ∷ work_phase.Plan ∷ work_phase.Check ∷ []) text opening
 
--- statistics, up to the time of the write, of counted runs of all plans of these paths over one database, with this text
-pub record ArePlansStats (files : List ℕ → Stored) (input : Option (List ℕ)) (f : StatsForm) (paths : ManyPaths) (folder : List ℕ) (setting : Setting) (text opening : List ℕ) : Type 0 where
-  pub relations : List Relation
-  pub plans : List AcceptedPlan
-  pub all : Database
-  pub planned : ArePlansAt files input paths relations (map named_is plans)
-  pub loaded : IsLoadedFor relations (map named_is plans) (holds_at files folder) all
-  pub stats : List ℕ
-  pub runs : AreCountedRuns f all setting plans text stats
-  pub loads : List LoadTime
-  pub each : relations_of loads ≡ scanned_below (any_scans (map named_is plans)) (length relations)
-  pub times : List PhaseTime
-  pub phases : phases_of times ≡ shared_phases
-  pub is : opening ≡ stats ++ (codes "# all plans\n" ++ shared_text f relations loads times)
+  -- to a text and to statistics came those of one more counted run, each behind the line with its path
+  pub record IsRunMore (f : Option StatsForm) (db : Database) (setting : Setting) (n : AcceptedPlan) (text stats grown reported : List ℕ) : Type 0 where
+    pub own : List ℕ
+    pub counts : List WorkerCounts
+    pub time : PhaseTime
+    pub run : IsCountedRun f (typed_plan n.plan) db setting own counts
+    pub timed : time.phase ≡ work_phase.Run
+    pub text_is : grown ≡ text ++ (title n.path.now ++ own)
+    pub stats_are : reported ≡ stats ++ if_asked f (λ form. title n.path.now ++ plan_text form (typed_plan n.plan) counts time)
 
--- statistics, up to the time of the write, of the runs that are asked for, with this text
-pub data AreAskStats (files : List ℕ → Stored) (input : Option (List ℕ)) (f : StatsForm) (ask : Ask) (text opening : List ℕ) : Type 0 where
-  for_one : (t : FileCommand) → IsTask ask t → t.command ≡ command.Run → AreTaskStats files input f t text opening → AreAskStats files input f ask text opening
-  for_several : (paths : ManyPaths) (folder : List ℕ) (given : Given) (s : Setting) → ask ≡ run_plans paths folder given → IsSetting given s → ArePlansStats files input f paths folder s text opening
-      → AreAskStats files input f ask text opening
+  -- the text is that of counted runs of these plans over a database, each behind the line with its path, and so are the statistics
+  abbrev pub AreCountedRuns : Option StatsForm → Database → Setting → List AcceptedPlan → List ℕ → List ℕ → Type 0
+  AreCountedRuns f db setting [] text stats = (text ≡ []) × (stats ≡ [])
+  AreCountedRuns f db setting (n ∷ ns) text stats =
+      (first : List ℕ) × (reported : List ℕ) × (rest : List ℕ) × (more : List ℕ) × IsRunMore f db setting n [] [] first reported × AreCountedRuns f db setting ns rest more
+      × (text ≡ first ++ rest) × (stats ≡ reported ++ more)
 
--- the same of what arguments ask for
-pub record AreArgumentStats (files : List ℕ → Stored) (input : Option (List ℕ)) (f : StatsForm) (arguments : List (List ℕ)) (text opening : List ℕ) : Type 0 where
-  pub ask : Ask
-  pub asked : AsksFor arguments ask
-  pub reported : AreAskStats files input f ask text opening
+  -- statistics, up to the time of the write, of counted runs of all plans of these paths over one database, with this text
+  pub record ArePlansStats (files : List ℕ → Stored) (input : Option (List ℕ)) (f : Option StatsForm) (paths : ManyPaths) (folder : List ℕ) (setting : Setting) (text opening : List ℕ) : Type 0 where
+    pub relations : List Relation
+    pub plans : List AcceptedPlan
+    pub all : Database
+    pub planned : ArePlansAt files input paths relations (map named_is plans)
+    pub loaded : IsLoadedFor relations (map named_is plans) (holds_at files folder) all
+    pub stats : List ℕ
+    pub runs : AreCountedRuns f all setting plans text stats
+    pub loads : List LoadTime
+    pub each : relations_of loads ≡ scanned_below (any_scans (map named_is plans)) (length relations)
+    pub times : List PhaseTime
+    pub phases : phases_of times ≡ shared_phases
+    pub is : opening ≡ stats ++ if_asked f (λ form. codes "# all plans\n" ++ shared_text form relations loads times)
 
--- and all of the statistics, with the time of the write
-pub record AreStatsOf (files : List ℕ → Stored) (input : Option (List ℕ)) (f : StatsForm) (arguments : List (List ℕ)) (text stats : List ℕ) : Type 0 where
-  pub opening : List ℕ
-  pub reports : AreArgumentStats files input f arguments text opening
-  pub time : Option ℕ
-  pub is : stats ≡ opening ++ write_end f time
+  -- statistics, up to the time of the write, of the runs that are asked for, with this text
+  pub data AreAskStats (files : List ℕ → Stored) (input : Option (List ℕ)) (f : StatsForm) (ask : Ask) (text opening : List ℕ) : Type 0 where
+    for_one : (t : FileCommand) → IsTask ask t → t.command ≡ command.Run → AreTaskStats files input (Some f) t text opening → AreAskStats files input f ask text opening
+    for_several : (paths : ManyPaths) (folder : List ℕ) (given : Given) (s : Setting) → ask ≡ run_plans paths folder given → IsSetting given s → ArePlansStats files input (Some f) paths folder s text opening
+        → AreAskStats files input f ask text opening
+
+  -- the same of what arguments ask for
+  pub record AreArgumentStats (files : List ℕ → Stored) (input : Option (List ℕ)) (f : StatsForm) (arguments : List (List ℕ)) (text opening : List ℕ) : Type 0 where
+    pub ask : Ask
+    pub asked : AsksFor arguments ask
+    pub reported : AreAskStats files input f ask text opening
+
+  -- and all of the statistics, with the time of the write
+  pub record AreStatsOf (files : List ℕ → Stored) (input : Option (List ℕ)) (f : StatsForm) (arguments : List (List ℕ)) (text stats : List ℕ) : Type 0 where
+    pub opening : List ℕ
+    pub reports : AreArgumentStats files input f arguments text opening
+    pub time : Option ℕ
+    pub is : stats ≡ opening ++ write_end f time

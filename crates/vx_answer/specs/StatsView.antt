@@ -7,6 +7,12 @@ use Rattle.vx_answer.specs.declared.command_line.ArgumentFault.{ArgumentFault}
 use Rattle.vx_answer.specs.declared.command_line.ArgumentFault.TheVariants as fault
 use Rattle.vx_refusals.specs.declared.refusal.Refusal.TheVariants as refusal
 use Rattle.vx_answer.specs.StatsNames.{stats_named}
+use Rattle.vx_answer.specs.declared.stats.RunReport.{RunReport}
+
+-- the answer that a report of runs is: with statistics, where they are asked for
+abbrev pub answer_with : Option StatsForm → RunReport → ArgumentAnswer
+answer_with None r = answer.Text r.text
+answer_with (Some f) r = answer.Counted (record { text = r.text; form = f; opening = r.stats })
 
 -- an answer with statistics in this form
 abbrev pub IsCountedAs : StatsForm → ArgumentAnswer → Type 0

@@ -6,14 +6,16 @@ ghost use Rattle.vx_plan_nodes.specs.TypedView.{resolved_of};
 ghost use Rattle.vx_answer.specs.Answer.{IsBundlePlan, IsBundlePlanRefusal, IsOutput, Refuses, IsAnswer, IsRefused};
 
 use crate::command::execute;
+use crate::session::Session;
 use std::alloc::Global;
 use std::sync::Wait;
 use std::thread::Threads;
+use std::time::Clock;
 use vx_bundle::{Bundle, bundle_in, value_of_text};
 use vx_catalog::Catalog;
 use vx_plan::{Plan, TypedPlan, resolve};
 use vx_refusals::Refusal;
-use vx_seeds::KeySeed;
+use vx_runs::Runs;
 
 // The plan of a bundle over the bundle's catalog.
 fn plan_from_bundle(alloc: Global, bundle: &Bundle<'_>) -> Result<TypedPlan, Refusal>
@@ -25,44 +27,31 @@ fn plan_from_bundle(alloc: Global, bundle: &Bundle<'_>) -> Result<TypedPlan, Ref
     Ok(resolve(alloc, &plan, &catalog)?)
 }
 
-// The text that answers a bundle. One thread loads its tables, whose texts are in memory.
-fn answer_bundle<T: Threads + Wait + Sync>(
-    rt: &T,
-    alloc: Global,
-    seed: KeySeed,
+// The text that answers a bundle.
+fn answer_bundle<T: Threads + Wait + Sync, R: Runs, C: Clock>(
+    session: &Session<'_, T, R, C>,
     bundle: &Bundle<'_>,
 ) -> Result<Vec<u8>, Refusal>
     ensures text { IfOk result (λ text. IsOutput (bundle_form bundle.now) text.items) }
     ensures refused { IfErr result (λ e. Refuses (bundle_form bundle.now) e) }
 {
-    let plan = plan_from_bundle(alloc, bundle)?;
-    execute(
-        rt,
-        alloc,
-        1,
-        seed,
-        bundle.command(),
-        bundle,
-        bundle.setting(),
-        plan,
-    )
+    let plan = plan_from_bundle(session.alloc, bundle)?;
+    execute(session, bundle.command(), bundle, bundle.setting(), plan)
 }
 
 /// The text that answers a bundle's bytes, before a byte of it is written.
-pub fn answer_bytes<T: Threads + Wait + Sync>(
-    rt: &T,
-    alloc: Global,
-    seed: KeySeed,
+pub fn answer_bytes<T: Threads + Wait + Sync, R: Runs, C: Clock>(
+    session: &Session<'_, T, R, C>,
     bytes: &[u8],
 ) -> Result<Vec<u8>, Refusal>
     ensures text { IfOk result (λ text. IsAnswer bytes.now text.items) }
     ensures refused { IfErr result (λ e. IsRefused bytes.now e) }
 {
-    let Some(value) = value_of_text(alloc, bytes)? else {
+    let Some(value) = value_of_text(session.alloc, bytes)? else {
         return Err(Refusal::BadBundle);
     };
-    let Some(bundle) = bundle_in(alloc, &value)? else {
+    let Some(bundle) = bundle_in(session.alloc, &value)? else {
         return Err(Refusal::BadBundle);
     };
-    answer_bundle(rt, alloc, seed, &bundle)
+    answer_bundle(session, &bundle)
 }

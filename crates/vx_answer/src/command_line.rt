@@ -1,27 +1,24 @@
 //! What arguments ask for, answered from files and standard input.
 
-ghost use Rattle.std.specs.Prelude.{◌≡◌, ◌⊎◌, [], slice_index_or, true, map, option_map, Some, None, MatchOption, IfOk, IfErr};
+ghost use Rattle.std.specs.Prelude.{◌≡◌, ◌⊎◌, [], slice_index_or, true, false, map, option_map, Some, None, MatchOption, IfOk, IfErr};
 ghost use Rattle.clap.specs.Values.{kind_of};
-ghost use Rattle.vx_arguments.specs.Asked.{asked_is, paths_are, many_are, given_is, run, run_plans, check_all, explain, draw, sql, why, Ask};
+ghost use Rattle.vx_arguments.specs.Asked.{asked_is, paths_are, check_all, explain, draw, sql, why, Ask};
 ghost use Rattle.vx_stats.specs.declared.text.StatsForm.{StatsForm};
-ghost use Rattle.vx_answer.specs.Arguments.{IsNoSetting};
-ghost use Rattle.vx_answer.specs.Plans.{AnswersPlans};
 ghost use Rattle.vx_answer.specs.CommandLine.{default_setting, IsTask, IsNoTask, AnswersTask, TaskRefuses, AnswersForm, FormIsRefused, AnswersStatement, StatementIsRefused, AnswersAnnotation, AnnotationIsRefused, spelled_out, with_program_name, AsksFor};
 ghost use Rattle.vx_answer.specs.Stats.{stats_of_word, stats_asked, is_run};
 ghost use Rattle.vx_answer.specs.StatsView.{IsCountedAs, IsUncounted, IsStatsFault};
-ghost use Rattle.vx_answer.specs.CommandLineView.{task_is, IsPlansTask, IsJob, IsAskAnswer, IsArgumentAnswer, IsHelp, HasUsageText, IsClapFault, IsPlansFault, IsAskFault, IsArgumentFault};
+ghost use Rattle.vx_answer.specs.CommandLineView.{task_is, IsJob, IsAskAnswer, IsArgumentAnswer, IsHelp, HasUsageText, IsClapFault, IsAskFault, IsArgumentFault};
 
 use crate::annotating::annotated_plan;
-use crate::arguments::setting_in;
+use crate::asked::answer_asked;
 use crate::command::execute;
-use crate::counting::answer_counted;
 use crate::failing::{Findings, verdict_on};
-use crate::files::{bytes_at, document_from_files, is_input, plan_from_files};
+use crate::files::{bytes_at, document_from_files, plan_from_files};
 use crate::forms::{PlanForm, form_named, plan_in_form};
 use crate::loading::loading_threads;
-use crate::plans::{accepted_plans, catalog_under};
 use crate::program::outcome_of;
-use crate::runs::{Stopped, run_each};
+use crate::runs::Stopped;
+use crate::session::Session;
 use crate::statement::{dialect_named, statement};
 use crate::stats::{CountedText, stats_named};
 use clap::Error;
@@ -30,16 +27,16 @@ use std::alloc::{AllocError, Global};
 use std::sync::Wait;
 use std::thread::Threads;
 use std::time::Clock;
-use vx_arguments::{Asked, ManySources, Request, RunArguments, Sources, asked_for};
+use vx_arguments::{Asked, Request, Sources, asked_for};
 use vx_bundle::Command;
 use vx_bytes::{ByteIn, Store};
 use vx_drawing::{DrawFault, draw};
 use vx_refusals::Refusal;
-use vx_seeds::KeySeed;
+use vx_runs::Runs;
 use vx_setup::{DEFAULT_MORSEL_ROWS, DEFAULT_PACKET_ROWS, DEFAULT_SLACK, Mode, Setting, Setup};
 use vx_sql::Dialect;
 use vx_stats::operator_words;
-use vx_tables::{Folder, Unobserved, load_scanned_in_threads};
+use vx_tables::Folder;
 use vx_why::entry;
 
 /// A command over the catalog, the plan and the folder of tables that arguments name.
@@ -51,15 +48,7 @@ pub struct FileCommand<'a> {
     setting: Setting,
 }
 
-/// Runs of the plans that arguments name, over the catalog and the folder of tables that they name.
-#[derive(Drop)]
-pub struct FilePlans<'a> {
-    sources: ManySources<'a>,
-    folder: &'a str,
-    setting: Setting,
-}
-
-/// What arguments ask for, with its values.
+/// What arguments ask for that is no run, with its values.
 #[derive(Drop)]
 enum AskedJob<'a> {
     /// The answer to a bundle on standard input.
@@ -75,7 +64,6 @@ enum AskedJob<'a> {
     Drawing(Sources<'a>, &'a str),
     /// A plan as a statement of SQL, over the catalog and the plan that arguments name.
     Statement(Dialect, Sources<'a>),
-    Plans(FilePlans<'a>),
     /// What a code means.
     Entry(&'static str),
     /// The text of the relation with so many rows.
@@ -170,47 +158,6 @@ fn plain_task<'a>(
     }
 }
 
-// A run, if the arguments set one up.
-fn run_task<'a>(
-    alloc: Global,
-    sources: Sources<'a>,
-    folder: &'a str,
-    given: &RunArguments<'a>,
-) -> Result<Option<FileCommand<'a>>, AllocError>
-    ensures { IfOk result (λ o. MatchOption o (IsNoSetting (given_is given.now)) (λ t. IsTask (run (paths_are sources.entry) folder.entry.now (given_is given.now)) (task_is t))) }
-{
-    match setting_in(alloc, given)? {
-        Some(setting) => Ok(Some(FileCommand {
-            command: Command::Run,
-            sources,
-            folder,
-            setting,
-        })),
-        None => Ok(None),
-    }
-}
-
-// Runs of several plans, if the arguments set them up.
-fn plans_task<'a>(
-    alloc: Global,
-    sources: &ManySources<'a>,
-    folder: &'a str,
-    given: &RunArguments<'a>,
-) -> Result<Option<FilePlans<'a>>, AllocError>
-    ensures { IfOk result (λ o. MatchOption o (IsNoSetting (given_is given.now)) (λ t. IsPlansTask (run_plans (many_are sources.now) folder.entry.now (given_is given.now)) t)) }
-{
-    let Some(setting) = setting_in(alloc, given)? else {
-        return Ok(None);
-    };
-    let plans = Vec::from_slice(alloc, sources.plans.as_slice())?;
-    let catalog = sources.catalog;
-    Ok(Some(FilePlans {
-        sources: ManySources { catalog, plans },
-        folder,
-        setting,
-    }))
-}
-
 // What explaining a plan in the format of this name is.
 fn explain_job<'a>(alloc: Global, sources: Sources<'a>, format: &str) -> Option<AskedJob<'a>>
     ensures { MatchOption result (IsNoTask (explain (paths_are sources.entry) format.now)) (λ j. IsJob (explain (paths_are sources.entry) format.now) j) }
@@ -245,46 +192,35 @@ fn why_job<'a>(code: &str) -> Option<AskedJob<'a>>
     }
 }
 
-// The job that is asked for: `None` if the arguments set no run up.
-fn job_in<'a>(alloc: Global, asked: &Asked<'a>) -> Result<Option<AskedJob<'a>>, AllocError>
-    ensures { IfOk result (λ o. MatchOption o (IsNoTask (asked_is asked.now)) (λ j. IsJob (asked_is asked.now) j)) }
+// The job that is asked for, which is no run: `None` if there is no such format, dialect or code.
+fn job_in<'a>(alloc: Global, asked: &Asked<'a>) -> Option<AskedJob<'a>>
+    requires { is_run (asked_is asked.now) ≡ false }
+    ensures { MatchOption result (IsNoTask (asked_is asked.now)) (λ j. IsJob (asked_is asked.now) j) }
 {
     match asked {
-        Asked::Bundle => Ok(Some(AskedJob::Bundle)),
+        Asked::Bundle => Some(AskedJob::Bundle),
         Asked::Check(sources) => {
             let task = plain_task(alloc, Command::Check, *sources, "");
-            Ok(Some(AskedJob::Command(task)))
+            Some(AskedJob::Command(task))
         }
-        Asked::CheckAll(sources) => Ok(Some(AskedJob::Verdict(*sources))),
-        Asked::Annotate(sources) => Ok(Some(AskedJob::Annotation(*sources))),
-        Asked::Explain(sources, format) => Ok(explain_job(alloc, *sources, format)),
-        Asked::Draw(sources, stats) => Ok(Some(AskedJob::Drawing(*sources, *stats))),
-        Asked::Sql(sources, dialect) => Ok(sql_job(*sources, dialect)),
-        Asked::Why(code) => Ok(why_job(code)),
+        Asked::CheckAll(sources) => Some(AskedJob::Verdict(*sources)),
+        Asked::Annotate(sources) => Some(AskedJob::Annotation(*sources)),
+        Asked::Explain(sources, format) => explain_job(alloc, *sources, format),
+        Asked::Draw(sources, stats) => Some(AskedJob::Drawing(*sources, *stats)),
+        Asked::Sql(sources, dialect) => sql_job(*sources, dialect),
+        Asked::Why(code) => why_job(code),
         Asked::Serial(sources, folder) => {
             let task = plain_task(alloc, Command::Serial, *sources, *folder);
-            Ok(Some(AskedJob::Command(task)))
+            Some(AskedJob::Command(task))
         }
-        Asked::Run(sources, folder, given) => match run_task(alloc, *sources, *folder, given)? {
-            Some(task) => Ok(Some(AskedJob::Command(task))),
-            None => Ok(None),
-        },
-        Asked::RunPlans(sources, folder, given) => {
-            match plans_task(alloc, sources, *folder, given)? {
-                Some(task) => Ok(Some(AskedJob::Plans(task))),
-                None => Ok(None),
-            }
-        }
-        Asked::Generate(rows) => Ok(Some(AskedJob::Relation(*rows))),
+        Asked::Run(_, _, _) | Asked::RunPlans(_, _, _) => unreachable!(),
+        Asked::Generate(rows) => Some(AskedJob::Relation(*rows)),
     }
 }
 
 // The text that answers a task, each table of which up to so many threads load.
-fn answer_task<T: Threads + Wait + Sync, F: Store, I: ByteIn>(
-    rt: &T,
-    alloc: Global,
-    threads: usize,
-    seed: KeySeed,
+fn answer_task<T: Threads + Wait + Sync, R: Runs, C: Clock, F: Store, I: ByteIn>(
+    session: &Session<'_, T, R, C>,
     files: &F,
     input: &mut I,
     task: &FileCommand<'_>,
@@ -292,64 +228,12 @@ fn answer_task<T: Threads + Wait + Sync, F: Store, I: ByteIn>(
     ensures text { IfOk result (λ text. AnswersTask (F.holds files.now) (I.remaining input.old) (task_is task.now) text.items) }
     ensures refused { IfErr result (λ e. TaskRefuses (F.holds files.now) (F.is_reliable files.now) (I.remaining input.old) (I.has_failed input.new) (task_is task.now) e) }
 {
-    let plan = plan_from_files(alloc, files, input, task.sources)?;
+    let plan = plan_from_files(session.alloc, files, input, task.sources)?;
     let folder = Folder {
         files,
         path: task.folder,
     };
-    let setting = &task.setting;
-    execute(
-        rt,
-        alloc,
-        threads,
-        seed,
-        task.command,
-        &folder,
-        setting,
-        plan,
-    )
-}
-
-// The texts of runs of several plans, over tables that are loaded once, each by up to so many threads.
-fn answer_plans<T: Threads + Wait + Sync, F: Store, I: ByteIn>(
-    rt: &T,
-    alloc: Global,
-    threads: usize,
-    seed: KeySeed,
-    files: &F,
-    input: &mut I,
-    task: &FilePlans<'_>,
-) -> Result<Vec<u8>, ArgumentFault>
-    ensures text { IfOk result (λ text. AnswersPlans (F.holds files.now) (I.remaining input.old) (many_are task.now.sources) task.now.folder.now task.now.setting text.items) }
-    ensures refused { IfErr result (IsPlansFault (F.holds files.now) (F.is_reliable files.now) (I.remaining input.old) (I.has_failed input.new) (many_are task.now.sources) task.now.folder.now task.now.setting) }
-{
-    let catalog = catalog_under(alloc, files, input, task.sources.catalog)?;
-    let was_read = is_input(task.sources.catalog);
-    let paths = task.sources.plans.as_slice();
-    let plans = accepted_plans(alloc, files, input, was_read, &catalog, paths)?;
-    let folder = Folder {
-        files,
-        path: task.folder,
-    };
-    let database = load_scanned_in_threads(
-        rt,
-        alloc,
-        threads,
-        seed,
-        &catalog,
-        &plans,
-        &folder,
-        &mut Unobserved,
-    )?;
-    let text = run_each(
-        rt,
-        alloc,
-        threads,
-        &task.setting,
-        plans.plans.as_slice(),
-        &database,
-    )?;
-    Ok(text)
+    execute(session, task.command, &folder, &task.setting, plan)
 }
 
 // The plan at one path over the catalog at the other, in a form.
@@ -388,17 +272,18 @@ const NO_COUNTS: &str =
     "volcano: a file of statistics is what `run --stats=json` wrote of this plan; see volcano explain --help\n";
 
 // The picture of the plan at one path over the catalog at the other, with the statistics of the file at a third.
-fn answer_drawing<F: Store, I: ByteIn>(
-    alloc: Global,
+fn answer_drawing<T: Threads + Wait + Sync, R: Runs, C: Clock, F: Store, I: ByteIn>(
+    session: &Session<'_, T, R, C>,
     files: &F,
     input: &mut I,
     sources: Sources<'_>,
     stats: &str,
 ) -> Result<ArgumentAnswer, ArgumentFault>
-    ensures answer { IfOk result (λ a. IsAskAnswer (F.holds files.now) (I.remaining input.old) (draw (paths_are sources.entry) stats.now) a) }
+    ensures answer { IfOk result (λ a. IsAskAnswer (R.counted session.now.engine.now) (F.holds files.now) (I.remaining input.old) (draw (paths_are sources.entry) stats.now) a) }
     ensures no_stats { IfOk result IsUncounted }
     ensures refused { IfErr result (IsAskFault (F.holds files.now) (F.is_reliable files.now) (I.remaining input.old) (I.has_failed input.new) (draw (paths_are sources.entry) stats.now)) }
 {
+    let alloc = session.alloc;
     let plan = plan_from_files(alloc, files, input, sources)?;
     let words = operator_words(alloc, &plan)?;
     let nodes = words.len();
@@ -426,18 +311,18 @@ fn answer_annotation<F: Store, I: ByteIn>(
 }
 
 // What the checker says of all nodes of the plan at one path, over the catalog at the other.
-fn answer_verdict<F: Store, I: ByteIn>(
-    alloc: Global,
+fn answer_verdict<T: Threads + Wait + Sync, R: Runs, C: Clock, F: Store, I: ByteIn>(
+    session: &Session<'_, T, R, C>,
     files: &F,
     input: &mut I,
     sources: Sources<'_>,
 ) -> Result<ArgumentAnswer, ArgumentFault>
-    ensures answer { IfOk result (λ a. IsAskAnswer (F.holds files.now) (I.remaining input.old) (check_all (paths_are sources.entry)) a) }
+    ensures answer { IfOk result (λ a. IsAskAnswer (R.counted session.now.engine.now) (F.holds files.now) (I.remaining input.old) (check_all (paths_are sources.entry)) a) }
     ensures no_stats { IfOk result IsUncounted }
     ensures refused { IfErr result (IsAskFault (F.holds files.now) (F.is_reliable files.now) (I.remaining input.old) (I.has_failed input.new) (check_all (paths_are sources.entry))) }
 {
-    let plan = plan_from_files(alloc, files, input, sources)?;
-    match verdict_on(alloc, &plan)? {
+    let plan = plan_from_files(session.alloc, files, input, sources)?;
+    match verdict_on(session.alloc, &plan)? {
         Findings::Accepted(text) => Ok(ArgumentAnswer::Text(text)),
         Findings::Failing(lines) => Err(ArgumentFault::Failing(lines)),
     }
@@ -471,27 +356,26 @@ pub fn usage_error(alloc: Global, text: &str) -> ArgumentFault
     }
 }
 
-/// What answers what arguments ask for, without statistics. Up to so many threads load a table.
-pub fn answer_asked<T: Threads + Wait + Sync, F: Store, I: ByteIn>(
-    rt: &T,
-    alloc: Global,
-    threads: usize,
-    seed: KeySeed,
+/// What answers what arguments ask for that is no run.
+pub fn answer_plain<T: Threads + Wait + Sync, R: Runs, C: Clock, F: Store, I: ByteIn>(
+    session: &Session<'_, T, R, C>,
     files: &F,
     input: &mut I,
     asked: &Asked<'_>,
 ) -> Result<ArgumentAnswer, ArgumentFault>
-    ensures answer { IfOk result (λ a. IsAskAnswer (F.holds files.now) (I.remaining input.old) (asked_is asked.now) a) }
+    requires plain { is_run (asked_is asked.now) ≡ false }
+    ensures answer { IfOk result (λ a. IsAskAnswer (R.counted session.now.engine.now) (F.holds files.now) (I.remaining input.old) (asked_is asked.now) a) }
     ensures no_stats { IfOk result IsUncounted }
     ensures refused { IfErr result (IsAskFault (F.holds files.now) (F.is_reliable files.now) (I.remaining input.old) (I.has_failed input.new) (asked_is asked.now)) }
 {
-    match job_in(alloc, asked)? {
-        Some(AskedJob::Bundle) => Ok(ArgumentAnswer::Text(outcome_of(rt, alloc, seed, input)?)),
+    let alloc = session.alloc;
+    match job_in(alloc, asked) {
+        Some(AskedJob::Bundle) => Ok(ArgumentAnswer::Text(outcome_of(session, input)?)),
         Some(AskedJob::Command(task)) => {
-            let text = answer_task(rt, alloc, threads, seed, files, input, &task)?;
+            let text = answer_task(session, files, input, &task)?;
             Ok(ArgumentAnswer::Text(text))
         }
-        Some(AskedJob::Verdict(sources)) => answer_verdict(alloc, files, input, sources),
+        Some(AskedJob::Verdict(sources)) => answer_verdict(session, files, input, sources),
         Some(AskedJob::Annotation(sources)) => {
             let text = answer_annotation(alloc, files, input, sources)?;
             Ok(ArgumentAnswer::Text(text))
@@ -501,14 +385,10 @@ pub fn answer_asked<T: Threads + Wait + Sync, F: Store, I: ByteIn>(
             Ok(ArgumentAnswer::Text(text))
         }
         Some(AskedJob::Drawing(sources, stats)) => answer_drawing(
-            alloc, files, input, sources, stats,
+            session, files, input, sources, stats,
         ),
         Some(AskedJob::Statement(dialect, sources)) => {
             let text = answer_statement(alloc, files, input, dialect, sources)?;
-            Ok(ArgumentAnswer::Text(text))
-        }
-        Some(AskedJob::Plans(task)) => {
-            let text = answer_plans(rt, alloc, threads, seed, files, input, &task)?;
             Ok(ArgumentAnswer::Text(text))
         }
         Some(AskedJob::Entry(text)) => {
@@ -565,40 +445,24 @@ const NO_STATS: &str =
     "volcano: statistics are `none`, `table` or `json`; see volcano run --help\n";
 
 // What answers a request.
-fn answer_request<T: Threads + Wait + Sync, C: Clock, F: Store, I: ByteIn>(
-    rt: &T,
-    clock: &C,
-    alloc: Global,
-    seed: KeySeed,
+fn answer_request<T: Threads + Wait + Sync, R: Runs, C: Clock, F: Store, I: ByteIn>(
+    session: &Session<'_, T, R, C>,
     files: &F,
     input: &mut I,
     request: &Request<'_>,
 ) -> Result<ArgumentAnswer, ArgumentFault>
-    ensures answer { IfOk result (λ a. IsAskAnswer (F.holds files.now) (I.remaining input.old) (asked_is request.now.asked) a) }
+    ensures answer { IfOk result (λ a. IsAskAnswer (R.counted session.now.engine.now) (F.holds files.now) (I.remaining input.old) (asked_is request.now.asked) a) }
     ensures stats { (f : StatsForm) → is_run (asked_is request.now.asked) ≡ true → stats_of_word (option_map (λ s. s.now) request.now.stats) ≡ Some f → IfOk result (IsCountedAs f) }
     ensures no_stats { stats_of_word (option_map (λ s. s.now) request.now.stats) ≡ None → IfOk result IsUncounted }
     ensures refused { IfErr result (λ e. IsAskFault (F.holds files.now) (F.is_reliable files.now) (I.remaining input.old) (I.has_failed input.new) (asked_is request.now.asked) e
         ⊎ IsStatsFault (option_map (λ s. s.now) request.now.stats) e) }
 {
-    let threads = loading_threads(rt, request.threads);
+    let session = session.with_threads(loading_threads(session.rt, request.threads));
     match request.stats {
-        None => answer_asked(rt, alloc, threads, seed, files, input, &request.asked),
+        None => answer_asked(&session, files, input, None, &request.asked),
         Some(word) => match stats_named(word) {
-            None => Err(usage_error(alloc, NO_STATS)),
-            Some(None) => answer_asked(rt, alloc, threads, seed, files, input, &request.asked),
-            Some(Some(form)) => {
-                answer_counted(
-                    rt,
-                    clock,
-                    alloc,
-                    threads,
-                    seed,
-                    files,
-                    input,
-                    form,
-                    &request.asked,
-                )
-            }
+            None => Err(usage_error(session.alloc, NO_STATS)),
+            Some(form) => answer_asked(&session, files, input, form, &request.asked),
         },
     }
 }
@@ -619,23 +483,21 @@ fn help_or_fault(alloc: Global, error: &Error) -> Result<ArgumentAnswer, Argumen
 }
 
 /// What answers arguments.
-pub fn answer_arguments<T: Threads + Wait + Sync, C: Clock, F: Store, I: ByteIn>(
-    rt: &T,
-    clock: &C,
-    alloc: Global,
-    seed: KeySeed,
+pub fn answer_arguments<T: Threads + Wait + Sync, R: Runs, C: Clock, F: Store, I: ByteIn>(
+    session: &Session<'_, T, R, C>,
     files: &F,
     input: &mut I,
     arguments: &[&str],
 ) -> Result<ArgumentAnswer, ArgumentFault>
-    ensures answer { IfOk result (λ a. IsArgumentAnswer (F.holds files.now) (I.remaining input.old) (map (λ a. a.now) arguments.now) a) }
+    ensures answer { IfOk result (λ a. IsArgumentAnswer (R.counted session.now.engine.now) (F.holds files.now) (I.remaining input.old) (map (λ a. a.now) arguments.now) a) }
     ensures stats { (f : StatsForm) (ask : Ask) → AsksFor (map (λ a. a.now) arguments.now) ask → is_run ask ≡ true → stats_asked (map (λ a. a.now) arguments.now) ≡ Some f → IfOk result (IsCountedAs f) }
     ensures no_stats { stats_asked (map (λ a. a.now) arguments.now) ≡ None → IfOk result IsUncounted }
     ensures refused { IfErr result (IsArgumentFault (F.holds files.now) (F.is_reliable files.now) (I.remaining input.old) (I.has_failed input.new) (map (λ a. a.now) arguments.now)) }
 {
+    let alloc = session.alloc;
     let arguments = with_program_name(alloc, arguments)?;
     match asked_for(alloc, arguments.as_slice()) {
-        Ok(Some(request)) => answer_request(rt, clock, alloc, seed, files, input, &request),
+        Ok(Some(request)) => answer_request(session, files, input, &request),
         Ok(None) => Err(usage_error(
             alloc,
             "volcano: statistics are drawn with --format dot alone; see volcano explain --help\n",

@@ -3,10 +3,10 @@
 
 mod annotating;
 mod arguments;
+mod asked;
 mod bundle;
 mod command;
 mod command_line;
-mod counting;
 mod failing;
 mod files;
 mod forms;
@@ -18,11 +18,13 @@ mod program;
 mod run;
 mod runs;
 mod serial;
+mod session;
 mod statement;
 mod stats;
 
 pub use laws::case_is_refused_by_setup;
 pub use program::{answer, deliver};
+pub use session::Session;
 pub use vx_bytes::{Disk, Store};
 pub use vx_refusals::{Refusal, report};
 pub use vx_stats::NoClock;

@@ -18,6 +18,7 @@ use crate::command_line::{ArgumentAnswer, ArgumentFault, answer_arguments};
 use crate::files::input_bytes;
 use crate::places::write_place;
 use crate::runs::Stopped;
+use crate::session::Session;
 use crate::stats::CountedText;
 use std::alloc::Global;
 use std::sync::Wait;
@@ -25,22 +26,20 @@ use std::thread::Threads;
 use std::time::Clock;
 use vx_bytes::{Broken, ByteIn, ByteOut, Store, write_all};
 use vx_refusals::{Refusal, report, status};
-use vx_seeds::KeySeed;
+use vx_runs::Runs;
 use vx_stats::{Stopwatch, write_end};
 use vx_wisconsin::{GenerateFault, generate};
 
 /// The text that answers the bundle of which an input has the bytes that are left.
-pub fn outcome_of<T: Threads + Wait + Sync, I: ByteIn>(
-    rt: &T,
-    alloc: Global,
-    seed: KeySeed,
+pub fn outcome_of<T: Threads + Wait + Sync, R: Runs, C: Clock, I: ByteIn>(
+    session: &Session<'_, T, R, C>,
     input: &mut I,
 ) -> Result<Vec<u8>, Refusal>
     ensures text { IfOk result (λ text. IfSome (I.remaining input.old) (λ bytes. IsAnswer bytes text.items)) }
     ensures refused { IfErr result (λ e. RefusedWith (I.remaining input.old) (I.has_failed input.new) e) }
     ensures broken { I.has_failed input.new ≡ true → IsErrOf result Refusal.InputUnreadable }
 {
-    answer_bytes(rt, alloc, seed, input_bytes(alloc, input)?.as_slice())
+    answer_bytes(session, input_bytes(session.alloc, input)?.as_slice())
 }
 
 // Reports a refusal on `err`. The status is that of the refusal.
@@ -97,10 +96,8 @@ pub fn deliver<O: ByteOut, E: ByteOut>(
 }
 
 /// Answers the bundle on `input`: writes the answer on `out`, or reports on `err` why there is none.
-pub fn reply<T: Threads + Wait + Sync, I: ByteIn, O: ByteOut, E: ByteOut>(
-    rt: &T,
-    alloc: Global,
-    seed: KeySeed,
+pub fn reply<T: Threads + Wait + Sync, R: Runs, C: Clock, I: ByteIn, O: ByteOut, E: ByteOut>(
+    session: &Session<'_, T, R, C>,
     input: &mut I,
     out: &mut O,
     err: &mut E,
@@ -119,7 +116,7 @@ pub fn reply<T: Threads + Wait + Sync, I: ByteIn, O: ByteOut, E: ByteOut>(
     // Status 4 comes only for a write that failed, or where the machine or the run failed.
     ensures failed { result ≡ 4 → (O.has_failed out.new ≡ true) ⊎ IsRefusedBy 4 (I.remaining input.old) (I.has_failed input.new) }
 {
-    deliver(outcome_of(rt, alloc, seed, input), out, err)
+    deliver(outcome_of(session, input), out, err)
 }
 
 // Writes the text of the relation with so many rows on `out` as it is made, or reports on `err` why not. All memory is taken
@@ -198,16 +195,14 @@ fn write_counted<C: Clock, O: ByteOut, E: ByteOut>(
 // Answers arguments: writes the answer on `out`, or reports on `err` why there is none.
 fn reply_to_arguments<
     T: Threads + Wait + Sync,
+    R: Runs,
     C: Clock,
     F: Store,
     I: ByteIn,
     O: ByteOut,
     E: ByteOut,
 >(
-    rt: &T,
-    clock: &C,
-    alloc: Global,
-    seed: KeySeed,
+    session: &Session<'_, T, R, C>,
     arguments: &[&str],
     files: &F,
     input: &mut I,
@@ -216,7 +211,7 @@ fn reply_to_arguments<
 ) -> u8
     ensures done { result ≡ 0 → (text : List ℕ) × AnswersArguments (F.holds files.now) (I.remaining input.old) (map (λ a. a.now) arguments.now) text × Appends (O.contents out.old) (O.contents out.new) text }
     ensures stats { result ≡ 0 → E.has_failed err.new ≡ false → (f : StatsForm) (ask : Ask) → AsksFor (map (λ a. a.now) arguments.now) ask → is_run ask ≡ true → stats_asked (map (λ a. a.now) arguments.now) ≡ Some f
-        → (text : List ℕ) × (stats : List ℕ) × AreStatsOf (F.holds files.now) (I.remaining input.old) f (map (λ a. a.now) arguments.now) text stats
+        → (text : List ℕ) × (stats : List ℕ) × AreStatsOf (R.counted session.now.engine.now) (F.holds files.now) (I.remaining input.old) f (map (λ a. a.now) arguments.now) text stats
         × Appends (O.contents out.old) (O.contents out.new) text × Appends (E.contents err.old) (E.contents err.new) stats }
     ensures no_stats { result ≡ 0 → stats_asked (map (λ a. a.now) arguments.now) ≡ None → err.new ≡ err.old }
     ensures kept { result ≢ 0 → O.has_failed out.new ≡ false → (out.new ≡ out.old)
@@ -227,12 +222,16 @@ fn reply_to_arguments<
         ⊎ ((lines : List ℕ) × AsksForFailing (F.holds files.now) (I.remaining input.old) (map (λ a. a.now) arguments.now) lines × (E.has_failed err.new ≡ false → Appends (E.contents err.old) (E.contents err.new) lines)) }
     ensures failed { result ≡ 4 → (O.has_failed out.new ≡ true) ⊎ AreRefusedBy 4 (F.holds files.now) (F.is_reliable files.now) (I.remaining input.old) (I.has_failed input.new) (map (λ a. a.now) arguments.now) }
 {
-    match answer_arguments(rt, clock, alloc, seed, files, input, arguments) {
+    match answer_arguments(session, files, input, arguments) {
         Ok(ArgumentAnswer::Text(text)) => deliver(Ok(text), out, err),
-        Ok(ArgumentAnswer::Relation(rows)) => write_relation(alloc, rows, out, err),
-        Ok(ArgumentAnswer::Counted(counted)) => write_counted(clock, &counted, out, err),
+        Ok(ArgumentAnswer::Relation(rows)) => write_relation(session.alloc, rows, out, err),
+        Ok(ArgumentAnswer::Counted(counted)) => write_counted(session.clock, &counted, out, err),
         Err(ArgumentFault::Refused(refusal)) => refuse_in_place(
-            alloc, files, arguments, &refusal, err,
+            session.alloc,
+            files,
+            arguments,
+            &refusal,
+            err,
         ),
         Err(ArgumentFault::Failing(lines)) => write_lines(lines.as_str(), err),
         Err(ArgumentFault::Stopped(stopped)) => write_stopped(stopped, out, err),
@@ -255,12 +254,17 @@ fn reply_to_arguments<
 /// Where the arguments ask for the statistics of runs, `err` gets those of the runs whose rows `out` got; where they ask for none,
 /// status 0 leaves `err` as it was.
 ///
-/// Keys are hashed by the seed, on which nothing of this depends. The clock is asked where the arguments ask for statistics.
-pub fn answer<T: Threads + Wait + Sync, C: Clock, F: Store, I: ByteIn, O: ByteOut, E: ByteOut>(
-    rt: &T,
-    clock: &C,
-    alloc: Global,
-    seed: KeySeed,
+/// Nothing of this depends on the session's seed. What its clock says goes into statistics alone.
+pub fn answer<
+    T: Threads + Wait + Sync,
+    R: Runs,
+    C: Clock,
+    F: Store,
+    I: ByteIn,
+    O: ByteOut,
+    E: ByteOut,
+>(
+    session: &Session<'_, T, R, C>,
     arguments: &[&str],
     files: &F,
     input: &mut I,
@@ -281,7 +285,7 @@ pub fn answer<T: Threads + Wait + Sync, C: Clock, F: Store, I: ByteIn, O: ByteOu
     // With arguments, status 0 comes only for what they ask for, answered, and then `out` got exactly that.
     ensures arguments_done { arguments.now ≢ [] → result ≡ 0 → (text : List ℕ) × AnswersArguments (F.holds files.now) (I.remaining input.old) (map (λ a. a.now) arguments.now) text × Appends (O.contents out.old) (O.contents out.new) text }
     ensures arguments_stats { arguments.now ≢ [] → result ≡ 0 → E.has_failed err.new ≡ false → (f : StatsForm) (ask : Ask) → AsksFor (map (λ a. a.now) arguments.now) ask → is_run ask ≡ true
-        → stats_asked (map (λ a. a.now) arguments.now) ≡ Some f → (text : List ℕ) × (stats : List ℕ) × AreStatsOf (F.holds files.now) (I.remaining input.old) f (map (λ a. a.now) arguments.now) text stats
+        → stats_asked (map (λ a. a.now) arguments.now) ≡ Some f → (text : List ℕ) × (stats : List ℕ) × AreStatsOf (R.counted session.now.engine.now) (F.holds files.now) (I.remaining input.old) f (map (λ a. a.now) arguments.now) text stats
         × Appends (O.contents out.old) (O.contents out.new) text × Appends (E.contents err.old) (E.contents err.new) stats }
     ensures arguments_no_stats { arguments.now ≢ [] → result ≡ 0 → stats_asked (map (λ a. a.now) arguments.now) ≡ None → err.new ≡ err.old }
     ensures arguments_statuses { arguments.now ≢ [] → (result ≡ 0) ⊎ (result ≡ 2) ⊎ (result ≡ 3) ⊎ (result ≡ 4) }
@@ -302,7 +306,7 @@ pub fn answer<T: Threads + Wait + Sync, C: Clock, F: Store, I: ByteIn, O: ByteOu
     ensures untouched { result ≡ 2 → out.new ≡ out.old }
 {
     if arguments.is_empty() {
-        return reply(rt, alloc, seed, input, out, err);
+        return reply(session, input, out, err);
     }
-    reply_to_arguments(rt, clock, alloc, seed, arguments, files, input, out, err)
+    reply_to_arguments(session, arguments, files, input, out, err)
 }

@@ -1,21 +1,31 @@
 //! Runs of several plans over one database.
 
-ghost use Rattle.std.specs.Prelude.{◌≡◌, ◌++◌, List, ℕ, map, IfOk, IfErr};
-ghost use Rattle.vx_plan_nodes.specs.TypedView.{resolved_of};
-ghost use Rattle.vx_check_rules.specs.CheckedView.{typed_plan};
+ghost use Rattle.std.specs.Prelude.{◌≡◌, ◌++◌, map, codes, string_bytes, IfOk, IfErr, OnOk};
+ghost use Rattle.vx_arguments.specs.Asked.{many_are};
+ghost use Rattle.vx_stats.specs.Text.{shared_text};
 ghost use Rattle.vx_answer.specs.Commands.{IsRunOver, RunRefuses};
-ghost use Rattle.vx_answer.specs.Plans.{title, AreAnswers, StopsAt};
+ghost use Rattle.vx_answer.specs.CommandLineView.{IsPlansFault};
+ghost use Rattle.vx_answer.specs.Plans.{title, StopsAt};
 ghost use Rattle.vx_answer.specs.PlansView.{named_is};
+ghost use Rattle.vx_answer.specs.Stats.{if_asked, AreCountedRuns, ArePlansStats};
 
-use crate::plans::AcceptedPlan;
-use crate::run::run_over;
+use crate::command_line::ArgumentFault;
+use crate::files::is_input;
+use crate::plans::{AcceptedPlan, accepted_plans, catalog_under};
+use crate::session::Session;
+use crate::stats::{RunReport, add_run};
 use std::alloc::{AllocError, Global};
 use std::sync::Wait;
 use std::thread::Threads;
-use vx_catalog::Database;
-use vx_exec::RunCounts;
+use std::time::Clock;
+use vx_arguments::ManySources;
+use vx_bytes::{ByteIn, Store};
+use vx_catalog::{Catalog, Database};
 use vx_refusals::Refusal;
+use vx_runs::Runs;
 use vx_setup::Setting;
+use vx_stats::{LoadTime, LoadTimer, PhaseTime, StatsForm, Timer, WorkPhase, push_shared};
+use vx_tables::{Folder, load_scanned_in_threads};
 
 /// The answers before the first plan of which the run gives no text, and why it gives none.
 #[derive(Drop)]
@@ -35,54 +45,86 @@ pub fn titled(alloc: Global, path: &str, text: &[u8]) -> Result<Vec<u8>, AllocEr
     Ok(titled)
 }
 
-// The text of a run of a plan over a database, behind the line with the plan's path.
-fn titled_run<T: Threads + Wait + Sync>(
-    rt: &T,
-    alloc: Global,
-    threads: usize,
-    setting: &Setting,
-    accepted: &AcceptedPlan<'_>,
-    database: &Database,
-) -> Result<Vec<u8>, Refusal>
-    ensures text { IfOk result (λ t. (own : List ℕ) × IsRunOver (resolved_of (typed_plan accepted.now.plan)) database.now setting.now own × (t.items ≡ title accepted.now.path.now ++ own)) }
-    ensures refused { IfErr result (RunRefuses (resolved_of (typed_plan accepted.now.plan)) database.now setting.now) }
-{
-    let mut unread = RunCounts::unread(alloc);
-    let text = run_over(
-        rt,
-        alloc,
-        threads,
-        setting,
-        &accepted.plan,
-        database,
-        &mut unread,
-    )?;
-    Ok(titled(alloc, accepted.path, text.as_slice())?)
-}
-
-/// The texts of runs of plans over one database, in order, each behind a line with the path of its plan. The first plan of
-/// which the run gives no text ends it. Up to so many threads make a text.
-pub fn run_each<T: Threads + Wait + Sync>(
-    rt: &T,
-    alloc: Global,
-    threads: usize,
+// The texts of runs of plans over one database, each behind a line with the path of its plan, and their statistics if they are asked
+// for. The first plan of which the run gives no text ends it.
+fn run_each<T: Threads + Wait + Sync, R: Runs, C: Clock>(
+    session: &Session<'_, T, R, C>,
+    form: Option<StatsForm>,
     setting: &Setting,
     plans: &[AcceptedPlan<'_>],
     database: &Database,
-) -> Result<Vec<u8>, Stopped>
-    ensures text { IfOk result (λ t. AreAnswers (λ p own. IsRunOver p database.now setting.now own) (map named_is plans.now) t.items) }
+) -> Result<RunReport, Stopped>
+    ensures stats { IfOk result (λ k. AreCountedRuns (R.counted session.now.engine.now) form database.now setting.now plans.now k.text.items (string_bytes k.stats)) }
     ensures stopped { IfErr result (λ s. StopsAt (λ p own. IsRunOver p database.now setting.now own) (λ p e. RunRefuses p database.now setting.now e) (map named_is plans.now) s.text.items s.refusal) }
 {
-    let mut text = Vec::new(alloc);
+    let mut text = Vec::new(session.alloc);
+    let mut stats = String::new(session.alloc);
     for accepted in plans {
-        let own = match titled_run(rt, alloc, threads, setting, accepted, database) {
-            Ok(own) => own,
+        match add_run(
+            session, form, setting, accepted, database, &mut text, &mut stats,
+        ) {
+            Ok(()) => {}
             Err(refusal) => return Err(Stopped { text, refusal }),
-        };
-        if text.extend_from_slice(own.as_slice()).is_err() {
-            let refusal = Refusal::NoMemory;
-            return Err(Stopped { text, refusal });
         }
     }
-    Ok(text)
+    Ok(RunReport { text, stats })
+}
+
+// Adds the statistics that several plans have in common, if they are asked for.
+fn push_common(
+    stats: &mut String,
+    alloc: Global,
+    form: Option<StatsForm>,
+    catalog: &Catalog,
+    loads: &[LoadTime],
+    times: &[PhaseTime],
+) -> Result<(), AllocError>
+    ensures { OnOk result (string_bytes stats.new ≡ string_bytes stats.old ++ if_asked form (λ f. codes "# all plans\n" ++ shared_text f catalog.now loads.now times.now)) }
+{
+    if let Some(form) = form {
+        stats.push_str("# all plans\n")?;
+        push_shared(stats, alloc, form, catalog, loads, times)?;
+    }
+    Ok(())
+}
+
+/// The texts of runs of several plans, over tables that are loaded once, with their statistics if they are asked for.
+pub fn run_plans<T: Threads + Wait + Sync, R: Runs, C: Clock, F: Store, I: ByteIn>(
+    session: &Session<'_, T, R, C>,
+    files: &F,
+    input: &mut I,
+    form: Option<StatsForm>,
+    sources: &ManySources<'_>,
+    folder: &str,
+    setting: &Setting,
+) -> Result<RunReport, ArgumentFault>
+    ensures stats { IfOk result (λ k. ArePlansStats (R.counted session.now.engine.now) (F.holds files.now) (I.remaining input.old) form (many_are sources.now) folder.now setting.now k.text.items (string_bytes k.stats)) }
+    ensures refused { IfErr result (IsPlansFault (F.holds files.now) (F.is_reliable files.now) (I.remaining input.old) (I.has_failed input.new) (many_are sources.now) folder.now setting.now) }
+{
+    let (alloc, clock) = (session.alloc, session.clock);
+    let mut timer = Timer::start(alloc, clock);
+    let catalog = catalog_under(alloc, files, input, sources.catalog)?;
+    timer.end(clock, WorkPhase::Catalog)?;
+    let was_read = is_input(sources.catalog);
+    let paths = sources.plans.as_slice();
+    let plans = accepted_plans(alloc, files, input, was_read, &catalog, paths)?;
+    timer.end(clock, WorkPhase::Plans)?;
+    let tables = Folder {
+        files,
+        path: folder,
+    };
+    let mut loads = LoadTimer::start(alloc, clock);
+    let database = load_scanned_in_threads(
+        session.rt,
+        session.loading(),
+        &catalog,
+        &plans,
+        &tables,
+        &mut loads,
+    )?;
+    timer.end(clock, WorkPhase::Load)?;
+    let mut report = run_each(session, form, setting, plans.plans.as_slice(), &database)?;
+    let stats = &mut report.stats;
+    push_common(stats, alloc, form, &catalog, loads.times(), timer.times())?;
+    Ok(report)
 }

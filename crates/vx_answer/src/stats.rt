@@ -1,6 +1,8 @@
-//! Runs that are counted and timed.
+//! Runs of plans over tables, counted and timed where statistics are asked for.
 
-ghost use Rattle.std.specs.Prelude.{◌≡◌, ◌⊎◌, ◌++◌, ◌∷◌, [], string_bytes, IfOk, IfErr, OnOk, OnErr};
+ghost use Rattle.std.specs.Prelude.{◌≡◌, ◌⊎◌, ◌++◌, ◌∷◌, [], true, Some, string_bytes, IfSome, IfOk, IfErr, OnOk, OnErr};
+ghost use Rattle.vx_setup.specs.Counts.{is_wanted};
+ghost use Rattle.vx_stats.specs.Text.{lone_text, plan_text};
 ghost use Rattle.vx_plan_nodes.specs.TypedView.{resolved_of};
 ghost use Rattle.vx_check_rules.specs.CheckedView.{typed_plan};
 ghost use Rattle.vx_arguments.specs.Asked.{paths_are};
@@ -11,7 +13,7 @@ ghost use Rattle.vx_answer.specs.CommandLine.{TaskRefuses};
 ghost use Rattle.vx_answer.specs.Commands.{IsShown, PlanRefuses, CommandRefuses, RunRefuses};
 ghost use Rattle.vx_answer.specs.Files.{IsFilesPlan, IsFilesRefusal};
 ghost use Rattle.vx_answer.specs.Plans.{title};
-ghost use Rattle.vx_answer.specs.Stats.{IsCountedPlan, AreTaskStats, IsRunMore};
+ghost use Rattle.vx_answer.specs.Stats.{if_asked, IsCountedPlan, AreTaskStats, IsRunMore};
 ghost use Rattle.vx_answer.specs.StatsNames.{stats_named};
 
 use crate::command::accepted;
@@ -19,6 +21,7 @@ use crate::files::document_from_files;
 use crate::plans::AcceptedPlan;
 use crate::run::run_over;
 use crate::runs::titled;
+use crate::session::Session;
 use std::alloc::{AllocError, Global};
 use std::sync::Wait;
 use std::thread::Threads;
@@ -27,13 +30,22 @@ use vx_arguments::Sources;
 use vx_bytes::{ByteIn, Store};
 use vx_catalog::Database;
 use vx_check::CheckedPlan;
-use vx_exec::RunCounts;
 use vx_plan::{TypedPlan, resolve};
 use vx_refusals::Refusal;
-use vx_seeds::KeySeed;
-use vx_setup::Setting;
-use vx_stats::{LoadTimer, StatsForm, Stopwatch, Timer, WorkPhase, push_lone_plan, push_plan};
+use vx_runs::Runs;
+use vx_setup::{RunCounts, Setting, WorkerCounts};
+use vx_stats::{
+    LoadTime, LoadTimer, PhaseTime, StatsForm, Stopwatch, Timer, WorkPhase, push_lone_plan,
+    push_plan,
+};
 use vx_tables::{Folder, Tables, load_tables_in_threads};
+
+/// The text of runs, and their statistics up to the time that its write takes, which are empty where none are asked for.
+#[derive(Drop)]
+pub struct RunReport {
+    pub text: Vec<u8>,
+    pub stats: String,
+}
 
 /// A finished text, and the statistics of its runs up to the time that its write takes.
 #[derive(Drop)]
@@ -75,108 +87,113 @@ fn timed_plan<C: Clock, F: Store, I: ByteIn>(
     Ok(typed)
 }
 
-// The text of a run of a plan over tables, with its statistics.
-fn counted_plan<R: Threads + Wait + Sync, C: Clock, T: Tables>(
-    rt: &R,
-    clock: &C,
+/// Where what workers count is to be kept, if statistics are asked for.
+pub fn counts_for(alloc: Global, form: Option<StatsForm>) -> RunCounts
+    ensures { IfSome form (λ _. is_wanted result ≡ true) }
+{
+    match form {
+        Some(_) => RunCounts::new(alloc),
+        None => RunCounts::unread(alloc),
+    }
+}
+
+// The statistics of a plan that runs alone, up to the time of the write, if they are asked for.
+fn lone_stats(
     alloc: Global,
-    threads: usize,
-    seed: KeySeed,
-    tables: &T,
+    form: Option<StatsForm>,
+    plan: &TypedPlan,
+    workers: &[WorkerCounts],
+    loads: &[LoadTime],
+    times: &[PhaseTime],
+) -> Result<String, AllocError>
+    ensures { IfOk result (λ s. string_bytes s ≡ if_asked form (λ f. lone_text f plan.now workers.now loads.now times.now)) }
+{
+    let mut stats = String::new(alloc);
+    if let Some(form) = form {
+        push_lone_plan(&mut stats, alloc, form, plan, workers, loads, times)?;
+    }
+    Ok(stats)
+}
+
+/// The text of a run of a plan over tables, with its statistics if they are asked for. The phases that came before are in the timer.
+pub fn run_plan<T: Threads + Wait + Sync, R: Runs, C: Clock, B: Tables>(
+    session: &Session<'_, T, R, C>,
+    tables: &B,
     setting: &Setting,
     plan: &CheckedPlan,
-    form: StatsForm,
+    form: Option<StatsForm>,
     timer: &mut Timer,
-) -> Result<CountedText, Refusal>
-    ensures form { IfOk result (λ k. k.form ≡ form) }
-    ensures stats { IfOk result (λ k. IsCountedPlan form (typed_plan plan.now) (T.holds tables.now) setting.now (phases_of (times_in timer.old)) k.text.items (string_bytes k.opening)) }
-    ensures refused { IfErr result (λ e. (e ≡ Refusal.NoMemory) ⊎ PlanRefuses (resolved_of (typed_plan plan.now)) (T.holds tables.now) (T.lacks tables.now) setting.now e) }
+) -> Result<RunReport, Refusal>
+    ensures run { IfOk result (λ k. IsCountedPlan (R.counted session.now.engine.now) form (typed_plan plan.now) (B.holds tables.now) setting.now (phases_of (times_in timer.old)) k.text.items (string_bytes k.stats)) }
+    ensures refused { IfErr result (λ e. (e ≡ Refusal.NoMemory) ⊎ PlanRefuses (resolved_of (typed_plan plan.now)) (B.holds tables.now) (B.lacks tables.now) setting.now e) }
 {
+    let (alloc, clock) = (session.alloc, session.clock);
     let mut loads = LoadTimer::start(alloc, clock);
     let database = load_tables_in_threads(
-        rt,
-        alloc,
-        threads,
-        seed,
+        session.rt,
+        session.loading(),
         plan.plan(),
         tables,
         &mut loads,
     )?;
     timer.end(clock, WorkPhase::Load)?;
-    let mut counts = RunCounts::new(alloc);
-    let text = run_over(rt, alloc, threads, setting, plan, &database, &mut counts)?;
+    let mut counts = counts_for(alloc, form);
+    let text = run_over(session, setting, plan, &database, &mut counts)?;
     timer.end(clock, WorkPhase::Run)?;
-    let mut opening = String::new(alloc);
-    push_lone_plan(
-        &mut opening,
+    let workers = counts.workers();
+    let stats = lone_stats(
         alloc,
         form,
         plan.plan(),
-        counts.workers(),
+        workers,
         loads.times(),
         timer.times(),
     )?;
-    Ok(CountedText {
-        text,
-        form,
-        opening,
-    })
+    Ok(RunReport { text, stats })
 }
 
 // The same of a plan that the checker is still to accept.
-fn counted_run<R: Threads + Wait + Sync, C: Clock, T: Tables>(
-    rt: &R,
-    clock: &C,
-    alloc: Global,
-    threads: usize,
-    seed: KeySeed,
-    tables: &T,
+fn run_checked<T: Threads + Wait + Sync, R: Runs, C: Clock, B: Tables>(
+    session: &Session<'_, T, R, C>,
+    tables: &B,
     setting: &Setting,
     plan: TypedPlan,
-    form: StatsForm,
+    form: Option<StatsForm>,
     timer: &mut Timer,
-) -> Result<CountedText, Refusal>
-    ensures form { IfOk result (λ k. k.form ≡ form) }
+) -> Result<RunReport, Refusal>
     ensures shown { IfOk result (λ _. IsShown (resolved_of plan)) }
-    ensures stats { IfOk result (λ k. IsCountedPlan form plan (T.holds tables.now) setting.now (phases_of (times_in timer.old) ++ (work_phase.Check ∷ [])) k.text.items (string_bytes k.opening)) }
-    ensures refused { IfErr result (λ e. CommandRefuses command.Run (resolved_of plan) (T.holds tables.now) (T.lacks tables.now) setting.now e) }
+    ensures stats { IfOk result (λ k. IsCountedPlan (R.counted session.now.engine.now) form plan (B.holds tables.now) setting.now (phases_of (times_in timer.old) ++ (work_phase.Check ∷ [])) k.text.items (string_bytes k.stats)) }
+    ensures refused { IfErr result (λ e. CommandRefuses command.Run (resolved_of plan) (B.holds tables.now) (B.lacks tables.now) setting.now e) }
 {
     let checked = accepted(plan)?;
-    timer.end(clock, WorkPhase::Check)?;
-    counted_plan(
-        rt, clock, alloc, threads, seed, tables, setting, &checked, form, timer,
-    )
+    timer.end(session.clock, WorkPhase::Check)?;
+    run_plan(session, tables, setting, &checked, form, timer)
 }
 
-/// The text of a run of the plan at one path over the catalog at the other and the tables of a folder, with its statistics.
-pub fn counted_task<T: Threads + Wait + Sync, C: Clock, F: Store, I: ByteIn>(
-    rt: &T,
-    clock: &C,
-    alloc: Global,
-    threads: usize,
-    seed: KeySeed,
+/// The text of a run of the plan at one path over the catalog at the other and the tables of a folder, with its statistics if they
+/// are asked for.
+pub fn run_task<T: Threads + Wait + Sync, R: Runs, C: Clock, F: Store, I: ByteIn>(
+    session: &Session<'_, T, R, C>,
     files: &F,
     input: &mut I,
-    form: StatsForm,
+    form: Option<StatsForm>,
     sources: Sources<'_>,
     folder: &str,
     setting: &Setting,
-) -> Result<CountedText, Refusal>
-    ensures form { IfOk result (λ k. k.form ≡ form) }
-    ensures stats { IfOk result (λ k. AreTaskStats (F.holds files.now) (I.remaining input.old) form
-        (record { command = command.Run; paths = paths_are sources.entry; folder = folder.now; setting = setting.now }) k.text.items (string_bytes k.opening)) }
+) -> Result<RunReport, Refusal>
+    ensures stats { IfOk result (λ k. AreTaskStats (R.counted session.now.engine.now) (F.holds files.now) (I.remaining input.old) form
+        (record { command = command.Run; paths = paths_are sources.entry; folder = folder.now; setting = setting.now }) k.text.items (string_bytes k.stats)) }
     ensures refused { IfErr result (λ e. TaskRefuses (F.holds files.now) (F.is_reliable files.now) (I.remaining input.old) (I.has_failed input.new)
         (record { command = command.Run; paths = paths_are sources.entry; folder = folder.now; setting = setting.now }) e) }
 {
+    let (alloc, clock) = (session.alloc, session.clock);
     let mut timer = Timer::start(alloc, clock);
     let plan = timed_plan(clock, alloc, files, input, sources, &mut timer)?;
     let tables = Folder {
         files,
         path: folder,
     };
-    counted_run(
-        rt, clock, alloc, threads, seed, &tables, setting, plan, form, &mut timer,
-    )
+    run_checked(session, &tables, setting, plan, form, &mut timer)
 }
 
 // Adds the line with the path of a plan.
@@ -188,44 +205,44 @@ fn push_title(text: &mut String, path: &str) -> Result<(), AllocError>
     text.push_str("\n")
 }
 
-/// Adds the text of a run of one of several plans, and its statistics, each behind the line with the plan's path.
-pub fn add_counted_run<T: Threads + Wait + Sync, C: Clock>(
-    rt: &T,
-    clock: &C,
+// Adds the statistics of one of several plans behind the line with its path, if they are asked for.
+fn push_stats(
+    stats: &mut String,
     alloc: Global,
-    threads: usize,
-    form: StatsForm,
+    form: Option<StatsForm>,
+    accepted: &AcceptedPlan<'_>,
+    workers: &[WorkerCounts],
+    time: PhaseTime,
+) -> Result<(), AllocError>
+    ensures { OnOk result (string_bytes stats.new ≡ string_bytes stats.old ++ if_asked form (λ f. title accepted.now.path.now ++ plan_text f (typed_plan accepted.now.plan) workers.now time)) }
+{
+    if let Some(form) = form {
+        push_title(stats, accepted.path)?;
+        push_plan(stats, alloc, form, accepted.plan.plan(), workers, time)?;
+    }
+    Ok(())
+}
+
+/// Adds the text of a run of one of several plans behind the line with the plan's path, and likewise its statistics if they are asked for.
+pub fn add_run<T: Threads + Wait + Sync, R: Runs, C: Clock>(
+    session: &Session<'_, T, R, C>,
+    form: Option<StatsForm>,
     setting: &Setting,
     accepted: &AcceptedPlan<'_>,
     database: &Database,
     text: &mut Vec<u8>,
     stats: &mut String,
 ) -> Result<(), Refusal>
-    ensures more { OnOk result (IsRunMore form database.now setting.now accepted.now text.old.items (string_bytes stats.old) text.new.items (string_bytes stats.new)) }
+    ensures more { OnOk result (IsRunMore (R.counted session.now.engine.now) form database.now setting.now accepted.now text.old.items (string_bytes stats.old) text.new.items (string_bytes stats.new)) }
     ensures kept { OnErr result (text.new.items ≡ text.old.items) }
     ensures refused { IfErr result (λ e. RunRefuses (resolved_of (typed_plan accepted.now.plan)) database.now setting.now e) }
 {
-    let mut counts = RunCounts::new(alloc);
+    let (alloc, clock) = (session.alloc, session.clock);
+    let mut counts = counts_for(alloc, form);
     let mut watch = Stopwatch::start(clock);
-    let own = run_over(
-        rt,
-        alloc,
-        threads,
-        setting,
-        &accepted.plan,
-        database,
-        &mut counts,
-    )?;
+    let own = run_over(session, setting, &accepted.plan, database, &mut counts)?;
     let time = watch.end(clock, WorkPhase::Run);
-    push_title(stats, accepted.path)?;
-    push_plan(
-        stats,
-        alloc,
-        form,
-        accepted.plan.plan(),
-        counts.workers(),
-        time,
-    )?;
+    push_stats(stats, alloc, form, accepted, counts.workers(), time)?;
     let answer = titled(alloc, accepted.path, own.as_slice())?;
     text.extend_from_slice(answer.as_slice())?;
     Ok(())

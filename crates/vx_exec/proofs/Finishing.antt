@@ -39,14 +39,16 @@ use Rattle.vx_steps.specs.declared.verdict.RunState.TheVariants as run_state
 use Rattle.vx_steps.proofs.Build.{crew-count}
 use Rattle.vx_steps.proofs.RunSteps.{map-length}
 use Rattle.vx_exec.specs.Job.{model_of, sizes_of}
-use Rattle.vx_exec.specs.Promise.{Reports, PromiseOnceSet}
-use Rattle.vx_exec.specs.Runs.{ComesTo, fault_reported, IsTrueOf}
+use Rattle.vx_runs.specs.Promise.{Reports}
+use Rattle.vx_exec.specs.Promise.{PromiseOnceSet}
+use Rattle.vx_exec.specs.Runs.{ComesTo, fault_reported}
+use Rattle.vx_runs.specs.Runs.{IsTrueOf}
 use Rattle.vx_exec.specs.Making.{board_of}
 use Rattle.vx_setup.specs.declared.fault.RunFault.{RunFault}
 use Rattle.vx_exec.specs.declared.crew.Crew.{Crew}
 use Rattle.vx_exec.specs.declared.job.Job.{Job}
-use Rattle.vx_exec.specs.declared.ran.RunOutcome.{RunOutcome}
-use Rattle.vx_exec.specs.declared.ran.RunOutcome.TheVariants as run_outcome
+use Rattle.vx_runs.specs.declared.outcome.RunOutcome.{RunOutcome}
+use Rattle.vx_runs.specs.declared.outcome.RunOutcome.TheVariants as run_outcome
 
 some-group : (worker_groups : List ℕ) → All (IsWithin 1 64) worker_groups → (k : ℕ) → 0 < worker_group_at worker_groups k
 some-group worker_groups h k = elim (cases_lt k (length worker_groups)) [

@@ -8,19 +8,22 @@ use Rattle.vx_plan_nodes.specs.Plan.{Plan}
 use Rattle.vx_plan_nodes.specs.TypedView.{plan as whole_plan, resolved_of}
 use Rattle.vx_worker.specs.Fragment.{RunModel}
 use Rattle.vx_plan_nodes.specs.declared.typed_plan.TypedPlan.{TypedPlan}
-use Rattle.vx_plan_nodes.specs.Workers.{crew_size}
-use Rattle.vx_exec.specs.Sizes.{Sizes, run_model}
-use Rattle.vx_exec.specs.Setup.{SetupRefusal}
+use Rattle.vx_plan_nodes.specs.Workers.{crew_size, worker_group_at}
+use Rattle.vx_runs.specs.Sizes.{Sizes}
+use Rattle.vx_exec.specs.Model.{run_model}
+use Rattle.vx_runs.specs.Setup.{SetupRefusal}
 use Rattle.vx_setup.specs.Setup.{SetupView}
 use Rattle.vx_exec.specs.Job.{sizes_of, model_of}
-use Rattle.vx_exec.specs.Promise.{Reports, RunPromise, PromiseOnceSet, WhereSet}
-use Rattle.vx_exec.specs.Runs.{NamesFirst, IsFirstReported, IsSetUp, RunFails, for_fault, IsScheduled, IsInRounds, Scheduled, InRounds, IsCountedInRounds, CountedInRounds}
+use Rattle.vx_runs.specs.Promise.{Reports}
+use Rattle.vx_exec.specs.Promise.{CrewPromise, PromiseOnceSet, WhereSet}
+use Rattle.vx_exec.specs.Runs.{NamesFirst, IsFirstReported, IsScheduled, IsInRounds, Scheduled, InRounds, IsCountedInRounds, CountedInRounds}
+use Rattle.vx_runs.specs.Runs.{IsSetUp, RunFails, for_fault}
 use Rattle.vx_setup.specs.declared.fault.RunFault.{RunFault}
 use Rattle.vx_setup.specs.declared.fault.RunFault.TheVariants as fault
 use Rattle.vx_exec.specs.declared.job.Job.{Job}
-use Rattle.vx_exec.specs.declared.counted.WorkerCounts.{WorkerCounts}
-use Rattle.vx_exec.specs.declared.ran.RunOutcome.{RunOutcome}
-use Rattle.vx_exec.specs.declared.ran.RunOutcome.TheVariants as run_outcome
+use Rattle.vx_setup.specs.declared.counts.WorkerCounts.{WorkerCounts}
+use Rattle.vx_runs.specs.declared.outcome.RunOutcome.{RunOutcome}
+use Rattle.vx_runs.specs.declared.outcome.RunOutcome.TheVariants as run_outcome
 
 ok-is : (s t : Sizes) → ◌≡◌ {A = Result Sizes SetupRefusal} (Ok s) (Ok t) → s ≡ t
 ok-is s t e = cc
@@ -64,29 +67,34 @@ module _ {p : TypedPlan} {db : Database} {setup : SetupView} (hash : List ℕ �
       subst (λ z. P (run_model hash p db s) (whole_plan p) (Err z)) (sym (handed ∙ none.memory s set)) (h (run_model hash p db s) (whole_plan p))
 
   module _ (Other : Reports) where
-    set-promise : (r : Result RunOutcome RunFault) (s : Sizes) → IsSetUp (resolved_of p) db setup s → PromiseOnceSet hash Other p db s r → RunPromise hash Other p db setup r
-    set-promise (Ok (run_outcome.Done rows)) s set run = record { done = (s, set, run.done); set = (s, set); refused = tt; first = λ z same. tt }
-    set-promise (Ok run_outcome.Unfinished) s set run = record { done = tt; set = (s, set); refused = tt; first = λ z same. tt }
+    set-promise : (r : Result RunOutcome RunFault) (s : Sizes) → IsSetUp (resolved_of p) db setup s → PromiseOnceSet hash Other p db s r → CrewPromise hash Other p db setup r
+    set-promise (Ok (run_outcome.Done rows)) s set run = record { run = record { done = (s, set, run.done); set = (s, set); refused = tt }; first = λ z same. tt }
+    set-promise (Ok run_outcome.Unfinished) s set run = record { run = record { done = tt; set = (s, set); refused = tt }; first = λ z same. tt }
     set-promise (Err e) s set run = record {
-      done = tt;
-      set = tt;
-      refused = elim run.failed [
-        | inl true_fault ↦ inl (for_fault s set true_fault)
-        | inr other ↦ inr (s, set, other)
-      ];
+      run = record {
+        done = tt;
+        set = tt;
+        refused = elim run.failed [
+          | inl true_fault ↦ inl (for_fault s set true_fault)
+          | inr other ↦ inr (s, set, other)
+        ];
+      };
       first = λ z same.
-          subst (λ y. IsFirstReported (run_model hash p db y) (whole_plan p) e ⊎ Other (run_model hash p db y) (whole_plan p) e) (ok-is s z (sym set.sizes ∙ same.sizes)) run.first;
+          subst (λ y. IsFirstReported (run_model hash p db y) (whole_plan p) e ⊎ Other (worker_group_at y.worker_groups) (whole_plan p) e)
+          (ok-is s z (sym set.sizes ∙ same.sizes)) run.first;
     }
 
     -- a run keeps its promise by what the workers of its job come to
-    pub promise-kept : {j : Job} (r : Result RunOutcome RunFault) → IsJobOf j p db setup → PromiseOnceSet hash Other j.plan.now j.database.now (sizes_of j) r → RunPromise hash Other p db setup r
+    pub promise-kept : {j : Job} (r : Result RunOutcome RunFault) → IsJobOf j p db setup → PromiseOnceSet hash Other j.plan.now j.database.now (sizes_of j) r → CrewPromise hash Other p db setup r
     promise-kept {j} r made run = set-promise r (sizes_of j) made.set (of-job (λ q b z. PromiseOnceSet hash Other q b z r) made (sizes_of j) made.set run)
 
     -- and where there is no job
-    pub promise-refused : (r : Result RunOutcome RunFault) (e : RunFault) → IsErrAnd r (λ y. y ≡ e) → NoJobOf p db setup e → RunPromise hash Other p db setup r
+    pub promise-refused : (r : Result RunOutcome RunFault) (e : RunFault) → IsErrAnd r (λ y. y ≡ e) → NoJobOf p db setup e → CrewPromise hash Other p db setup r
     promise-refused (Ok x) e handed none = absurd handed
-    promise-refused (Err y) e handed none =
-        record { done = tt; set = tt; refused = inl (subst (λ z. RunFails (resolved_of p) db setup z) (sym handed) none.refused); first = λ s set. inl (inl (handed ∙ none.memory s set)) }
+    promise-refused (Err y) e handed none = record {
+      run = record { done = tt; set = tt; refused = inl (subst (λ z. RunFails (resolved_of p) db setup z) (sym handed) none.refused) };
+      first = λ s set. inl (inl (handed ∙ none.memory s set));
+    }
 
 module _ (hash : List ℕ → Row → ℕ → ℕ) (W : RunModel) (p : Plan) where
   -- each step names a worker, whatever the run comes to

@@ -3,7 +3,7 @@ use Rattle.std.proofs.Common.{◌≡◌, ℕ, Bool, true, false, not, cond, List
 use Rattle.std.specs.List.{All}
 use Rattle.std.proofs.lemmas.List.Elements.{All-nil, All-cons}
 use Rattle.vx_plan_nodes.specs.Workers.{IsWithin}
-use Rattle.vx_exec.specs.Setup.{SetupRefusal, no_name, tested}
+use Rattle.vx_runs.specs.Setup.{SetupRefusal, no_name, tested}
 use Rattle.vx_setup.specs.Setup.{Entry, is_within, workers_named, worker_groups_named, first_out_of_range}
 
 -- where no name is refused, none was found

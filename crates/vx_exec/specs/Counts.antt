@@ -1,14 +1,13 @@
 -- What the workers of a run counted.
-use Rattle.std.specs.Prelude.{◌≡◌, Bool, List, [], ◌∷◌, ◌++◌, map}
+use Rattle.std.specs.Prelude.{◌≡◌, List, [], ◌∷◌, ◌++◌, map}
 use Rattle.vx_operators.specs.Operator.{node_in, counts_in as operator_counts}
 use Rattle.vx_operators.specs.declared.operator.Operator.{Operator}
 use Rattle.vx_operators.specs.declared.destination.Destination.{Destination}
 use Rattle.vx_worker.specs.Worker.{tree_of, counts_of as step_counts}
 use Rattle.vx_worker.specs.declared.tree.Tree.{Tree, Leaf, One', Two'}
 use Rattle.vx_worker.specs.declared.worker.Worker.{Worker}
-use Rattle.vx_exec.specs.declared.counted.NodeCounts.{NodeCounts}
-use Rattle.vx_exec.specs.declared.counted.WorkerCounts.{WorkerCounts}
-use Rattle.vx_exec.specs.declared.counted.RunCounts.{RunCounts}
+use Rattle.vx_setup.specs.declared.counts.NodeCounts.{NodeCounts}
+use Rattle.vx_setup.specs.declared.counts.WorkerCounts.{WorkerCounts}
 
 -- the counts of an operator, under its node's number
 abbrev pub line_of : Operator → NodeCounts
@@ -29,10 +28,3 @@ pub record IsCountOf (w : Worker Operator Destination) (c : WorkerCounts) : Type
 pub record AreCountsOf (ws : List (Worker Operator Destination)) (cs : List WorkerCounts) : Type 0 where
   pub steps : map (λ (c : WorkerCounts). c.steps) cs ≡ map step_counts ws
   pub nodes : map (λ (c : WorkerCounts). c.nodes.items) cs ≡ map (λ (w : Worker Operator Destination). lines_of (tree_of w)) ws
-
-abbrev pub is_wanted : RunCounts → Bool
-is_wanted c = c.is_wanted
-
--- the counts of each worker
-abbrev pub counts_in : RunCounts → List WorkerCounts
-counts_in c = c.workers.items

@@ -5,7 +5,8 @@ use Rattle.vx_values.specs.declared.value.ColType.{ColType}
 use Rattle.vx_plan_nodes.specs.TypedView.{plan}
 use Rattle.vx_check_rules.specs.Checked.{relations}
 use Rattle.vx_worker.specs.Fragment.{RunModel}
-use Rattle.vx_exec.specs.Sizes.{Sizes, run_model}
+use Rattle.vx_runs.specs.Sizes.{Sizes}
+use Rattle.vx_exec.specs.Model.{run_model}
 use Rattle.vx_exec.specs.LeafTypes.{leaf_types}
 use Rattle.vx_exec.specs.declared.job.Job.{Job}
 

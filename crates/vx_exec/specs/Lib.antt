@@ -1,8 +1,7 @@
-pub mod Sizes
+pub mod Model
 pub mod LeafTypes
 pub mod Job
 pub mod Part
-pub mod Setup
 pub mod Bounds
 pub mod Inputs
 pub mod Crew

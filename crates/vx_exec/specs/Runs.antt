@@ -1,19 +1,8 @@
--- What a run of a plan over a database comes to.
+-- What the workers of a run come to, and by which steps.
 use Rattle.std.specs.Prelude.{ℕ, ◌≡◌, ◌≢◌, ◌<◌, ◌⊎◌, List, Result, Ok, Err}
 use Rattle.std.specs.List.{All, slice_index_or}
 use Rattle.vx_values.specs.Values.{Row}
-use Rattle.vx_rows.specs.View.{RowsView}
-use Rattle.vx_relations.specs.Catalog.{relation_at}
-use Rattle.vx_catalog.specs.Database.{Database, rows_at}
-use Rattle.vx_plan_nodes.specs.Names.{scope_of, TypedPlanView}
-use Rattle.vx_plan_nodes.specs.Outline.{plan_in}
 use Rattle.vx_plan_nodes.specs.Plan.{Plan}
-use Rattle.vx_plan_nodes.specs.Routes.{sends_by}
-use Rattle.vx_plan_nodes.specs.Runs.{Runs}
-use Rattle.vx_plan_nodes.specs.Typed.{bounds_at}
-use Rattle.vx_plan_nodes.specs.Types.{types_of}
-use Rattle.vx_check_rules.specs.Claims.{Delivers}
-use Rattle.vx_plan_nodes.specs.Real.{IsReal}
 use Rattle.vx_ops.specs.declared.fault.Code.TheVariants.{Overflow, NoMemory, Unsorted, Stranger}
 use Rattle.vx_ops.specs.declared.fault.Fault.{Fault}
 use Rattle.vx_ops.specs.declared.fault.Fault.TheVariants.{Own, Passed}
@@ -31,37 +20,17 @@ use Rattle.vx_steps.specs.Following.{Follows, FollowsRounds}
 use Rattle.vx_steps.specs.LinksView.{LinksView}
 use Rattle.vx_steps.specs.Ready.{Ready}
 use Rattle.vx_steps.specs.Verdicts.{Judged}
-use Rattle.vx_plan_nodes.specs.Workers.{crew_size, worker_group_at}
+use Rattle.vx_plan_nodes.specs.Workers.{crew_size}
 use Rattle.vx_steps.specs.Schedules.{IsBadStep}
 use Rattle.vx_steps.specs.declared.verdict.RunState.{RunState}
 use Rattle.vx_steps.specs.declared.verdict.RunState.TheVariants as run_state
+use Rattle.vx_runs.specs.Promise.{Reports}
 use Rattle.vx_exec.specs.Counts.{AreCountsOf}
-use Rattle.vx_exec.specs.Sizes.{Sizes}
-use Rattle.vx_exec.specs.Setup.{sizes_set, Fails}
-use Rattle.vx_setup.specs.Setup.{SetupView}
 use Rattle.vx_setup.specs.declared.fault.RunFault.{RunFault}
 use Rattle.vx_setup.specs.declared.fault.RunFault.TheVariants as fault
-use Rattle.vx_exec.specs.declared.counted.WorkerCounts.{WorkerCounts}
-use Rattle.vx_exec.specs.declared.ran.RunOutcome.{RunOutcome}
-use Rattle.vx_exec.specs.declared.ran.RunOutcome.TheVariants as run_outcome
-
--- rows that a run gave, of the output's types: they are stream 0 of a run of the plan relation with worker groups of these sizes, where a hash route sends
--- keys so, and those of the plan without its exchanges, each as often, and the same list where the root claims a total order
-pub record IsRunOf (hash : List ℕ → Row → ℕ → ℕ) (p : TypedPlanView) (db : Database) (worker_groups : List ℕ) (rows : RowsView) : Type 0 where
-  pub types : rows.types ≡ types_of (relation_at p.names.catalog) (plan_in p.root)
-  pub runs : Runs (rows_at db) (worker_group_at worker_groups) (sends_by hash (bounds_at (scope_of p.names).ranges)) (plan_in p.root) (λ _. rows.rows)
-  pub delivers : Delivers (rows_at db) p.total (plan_in p.root) rows.rows
-
--- a fact of the rows, where every worker has ended
-abbrev pub IfDone : (RowsView → Type 0) → RunOutcome → Type 0
-IfDone P (run_outcome.Done rows) = P rows
-IfDone P run_outcome.Unfinished = Unit {0}
-
--- why a run that began gives no rows: memory was refused, or a sum or count of the data overflows. No rows fall, and no packet is a stranger
-abbrev pub IsTrueOf : TypedPlanView → Database → RunFault → Type 0
-IsTrueOf p db fault.NoMemory = Unit {0}
-IsTrueOf p db (fault.Overflow node) = IsReal (rows_at db) (plan_in p.root)
-IsTrueOf p db _ = ⊥
+use Rattle.vx_setup.specs.declared.counts.WorkerCounts.{WorkerCounts}
+use Rattle.vx_runs.specs.declared.outcome.RunOutcome.{RunOutcome}
+use Rattle.vx_runs.specs.declared.outcome.RunOutcome.TheVariants as run_outcome
 
 -- how the fault of a worker is reported. A run of an accepted plan never reports one that only came in a packet, since some worker first fails by itself, so any
 -- value will do for that
@@ -85,14 +54,14 @@ ComesTo ws (run_state.Failed f) (Err e) = e ≡ fault_reported f
 ComesTo ws v r = ⊥
 
 -- a step of the schedule names no worker of the plan
-abbrev pub IsBadStepOf : (steps : List ℕ) → RunModel → Plan → RunFault → Type 0
-IsBadStepOf steps W p (fault.BadStep index) = IsBadStep steps (crew_size W.sizes p) index
-IsBadStepOf steps W p e = ⊥
+abbrev pub IsBadStepOf : (steps : List ℕ) → Reports
+IsBadStepOf steps sizes p (fault.BadStep index) = IsBadStep steps (crew_size sizes p) index
+IsBadStepOf steps sizes p e = ⊥
 
 -- what a schedule comes to first: its bad step is reported unless memory ran out, so with anything else each step names a worker
 abbrev pub NamesFirst : (steps : List ℕ) → RunModel → Plan → Result RunOutcome RunFault → Type 0
 NamesFirst steps W p (Ok r) = All (λ s. s < crew_size W.sizes p) steps
-NamesFirst steps W p (Err e) = (e ≡ fault.NoMemory) ⊎ IsBadStepOf steps W p e ⊎ All (λ s. s < crew_size W.sizes p) steps
+NamesFirst steps W p (Err e) = (e ≡ fault.NoMemory) ⊎ IsBadStepOf steps W.sizes p e ⊎ All (λ s. s < crew_size W.sizes p) steps
 
 -- workers of a plan in a setting made steps, none of which had made any before: those with which they began, those that they became, and what
 -- these come to, which the result says
@@ -124,7 +93,7 @@ module _ (hash : List ℕ → Row → ℕ → ℕ) (W : RunModel) (p : Plan) whe
   -- what a schedule comes to: memory was refused before a step was made, a step names no worker, or all steps were made
   abbrev pub Scheduled : (steps : List ℕ) → Result RunOutcome RunFault → Type 0
   Scheduled steps (Ok r) = IsScheduled steps (Ok r)
-  Scheduled steps (Err e) = (e ≡ fault.NoMemory) ⊎ IsBadStepOf steps W p e ⊎ IsScheduled steps (Err e)
+  Scheduled steps (Err e) = (e ≡ fault.NoMemory) ⊎ IsBadStepOf steps W.sizes p e ⊎ IsScheduled steps (Err e)
 
   -- what rounds come to: memory was refused before a step was made, or they were made
   abbrev pub InRounds : (limit : ℕ) → Result RunOutcome RunFault → Type 0
@@ -140,14 +109,3 @@ module _ (hash : List ℕ → Row → ℕ → ℕ) (W : RunModel) (p : Plan) whe
   abbrev pub CountedInRounds : (limit : ℕ) → Result RunOutcome RunFault → List WorkerCounts → Type 0
   CountedInRounds limit (Ok r) counts = IsCountedInRounds limit (Ok r) counts
   CountedInRounds limit (Err e) counts = (e ≡ fault.NoMemory) ⊎ IsCountedInRounds limit (Err e) counts
-
--- the database is one of the plan's catalog, and the setup comes to these sizes
-pub record IsSetUp (p : TypedPlanView) (db : Database) (setup : SetupView) (s : Sizes) : Type 0 where
-  pub same : db.catalog ≡ p.names.catalog
-  pub sizes : sizes_set setup p.names.sizes (plan_in p.root) ≡ Ok s
-
--- why a plan gives no rows over a database: another catalog, the first refusal of the setup, or what the run came to
-pub data RunFails (p : TypedPlanView) (db : Database) (setup : SetupView) (e : RunFault) : Type 0 where
-  for_catalog : e ≡ fault.OtherCatalog → db.catalog ≢ p.names.catalog → RunFails p db setup e
-  for_setup : db.catalog ≡ p.names.catalog → Fails e (sizes_set setup p.names.sizes (plan_in p.root)) → RunFails p db setup e
-  for_fault : (s : Sizes) → IsSetUp p db setup s → IsTrueOf p db e → RunFails p db setup e

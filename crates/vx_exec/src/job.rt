@@ -11,7 +11,7 @@ ghost use Rattle.vx_check_rules.specs.Checked.{relations};
 ghost use Rattle.vx_worker.specs.Morsels.{morsel_of, morsel_count};
 ghost use Rattle.vx_plan_nodes.specs.Workers.{crew_size, IsWithin, worker_group_at};
 ghost use Rattle.vx_layout.specs.Layout.{spans_of};
-ghost use Rattle.vx_exec.specs.Sizes.{AreWithin};
+ghost use Rattle.vx_runs.specs.Sizes.{AreWithin};
 ghost use Rattle.vx_values.specs.Limits.{max_group_workers, max_packet_rows, max_rows, max_slack, max_workers};
 
 use std::alloc::{AllocError, Global};

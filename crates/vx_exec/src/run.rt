@@ -14,14 +14,14 @@ ghost use Rattle.vx_worker.specs.declared.worker.Worker.{Worker as AWorker};
 ghost use Rattle.vx_operators.specs.declared.operator.Operator.{Operator as AnOperator};
 ghost use Rattle.vx_operators.specs.declared.destination.Destination.{Destination as ADestination};
 ghost use Rattle.vx_exec.specs.Job.{model_of, sizes_of};
-ghost use Rattle.vx_exec.specs.Counts.{is_wanted, counts_in};
+ghost use Rattle.vx_setup.specs.Counts.{is_wanted, counts_in};
 ghost use Rattle.vx_exec.specs.Runs.{CountedInRounds, fault_reported, ComesTo, IsBadStepOf, NamesFirst, Scheduled, InRounds};
-ghost use Rattle.vx_exec.specs.Promise.{RunPromise, PromiseOnceSet, NothingElse, WhereSet};
+ghost use Rattle.vx_runs.specs.Promise.{NothingElse};
+ghost use Rattle.vx_exec.specs.Promise.{CrewPromise, PromiseOnceSet, WhereSet};
 
-use crate::counted::RunCounts;
+use crate::counting::keep_counts;
 use crate::crew::Crew;
 use crate::job::Job;
-use crate::ran::RunOutcome;
 use crate::setup::job_of;
 use std::alloc::Global;
 use vx_catalog::Database;
@@ -29,7 +29,8 @@ use vx_check_rules::CheckedPlan;
 use vx_operators::{Destination, Operator};
 use vx_ops::{Code, Fault};
 use vx_plan_nodes::Router;
-use vx_setup::{RunFault, Setup};
+use vx_runs::RunOutcome;
+use vx_setup::{RunCounts, RunFault, Setup};
 use vx_steps::{RunState, judge_rounds, judge_schedule};
 use vx_views::Rows;
 use vx_worker::Worker;
@@ -100,7 +101,7 @@ fn run_job<R: Router>(
     let crew = Crew::new(alloc, job)?;
     let (mut workers, mut links) = crew.into_parts();
     let verdict = judge_rounds(&mut workers, job, router, &mut links, limit);
-    counts.note(alloc, workers.as_slice())?;
+    keep_counts(counts, alloc, workers.as_slice())?;
     answer_of(workers, verdict)
 }
 
@@ -128,25 +129,8 @@ fn schedule_job<R: Router>(
 
 /// A run of a plan over a database: at most so many rounds, in each of which every worker makes one step, in number order. Once all
 /// workers have ended and some failed, the fault is that of the lowest-numbered one that failed by itself. That rounds suffice is not promised.
-pub fn run_rounds<R: Router>(
-    alloc: Global,
-    plan: &CheckedPlan,
-    database: &Database,
-    setup: &Setup,
-    router: &R,
-    limit: u64,
-) -> Result<RunOutcome, RunFault>
-    ensures promise { RunPromise (R.route_of router.now) NothingElse (typed_plan plan.now) database.now setup.now result }
-    ensures rounds { WhereSet (R.route_of router.now) (typed_plan plan.now) database.now setup.now (λ W p. InRounds (R.route_of router.now) W p limit result) }
-{
-    let mut unread = RunCounts::unread(alloc);
-    run_rounds_counted(alloc, plan, database, setup, router, limit, &mut unread)
-}
-
-/// A run of a plan over a database: at most so many rounds, in each of which every worker makes one step, in number order. Once all
-/// workers have ended and some failed, the fault is that of the lowest-numbered one that failed by itself. That rounds suffice is not promised.
 /// What each worker counted is in `counts` afterwards, also where some failed; memory for it is refused only where it is wanted.
-pub fn run_rounds_counted<R: Router>(
+pub fn run_rounds<R: Router>(
     alloc: Global,
     plan: &CheckedPlan,
     database: &Database,
@@ -155,7 +139,7 @@ pub fn run_rounds_counted<R: Router>(
     limit: u64,
     counts: &mut RunCounts,
 ) -> Result<RunOutcome, RunFault>
-    ensures promise { RunPromise (R.route_of router.now) NothingElse (typed_plan plan.now) database.now setup.now result }
+    ensures promise { CrewPromise (R.route_of router.now) NothingElse (typed_plan plan.now) database.now setup.now result }
     ensures rounds { WhereSet (R.route_of router.now) (typed_plan plan.now) database.now setup.now (λ W p. InRounds (R.route_of router.now) W p limit result) }
     ensures counted { is_wanted counts.old ≡ true
         → WhereSet (R.route_of router.now) (typed_plan plan.now) database.now setup.now (λ W p. CountedInRounds (R.route_of router.now) W p limit result (counts_in counts.new)) }
@@ -174,7 +158,7 @@ pub fn run_scheduled<R: Router>(
     router: &R,
     steps: &[u32],
 ) -> Result<RunOutcome, RunFault>
-    ensures promise { RunPromise (R.route_of router.now) (IsBadStepOf steps.now) (typed_plan plan.now) database.now setup.now result }
+    ensures promise { CrewPromise (R.route_of router.now) (IsBadStepOf steps.now) (typed_plan plan.now) database.now setup.now result }
     ensures named { WhereSet (R.route_of router.now) (typed_plan plan.now) database.now setup.now (λ W p. NamesFirst steps.now W p result) }
     ensures scheduled { WhereSet (R.route_of router.now) (typed_plan plan.now) database.now setup.now (λ W p. Scheduled (R.route_of router.now) W p steps.now result) }
 {

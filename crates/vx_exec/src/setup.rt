@@ -2,11 +2,11 @@
 
 ghost use Rattle.std.specs.Prelude.{◌≡◌, nat_le, map, string_bytes, IfOk, IfErr};
 ghost use Rattle.vx_plan_nodes.specs.TypedView.{names_in, scope, resolved_of, plan as plan_of_typed};
-ghost use Rattle.vx_exec.specs.Sizes.{Sizes};
+ghost use Rattle.vx_runs.specs.Sizes.{Sizes};
 ghost use Rattle.vx_exec.specs.Job.{sizes_of};
 ghost use Rattle.vx_setup.specs.Setup.{first_missing, first_out_of_range};
-ghost use Rattle.vx_exec.specs.Setup.{tested, no_name, too_many_workers, size_missing, size_out_of_range, refusal_of, sizes_set, Gives};
-ghost use Rattle.vx_exec.specs.Runs.{IsSetUp, RunFails};
+ghost use Rattle.vx_runs.specs.Setup.{tested, no_name, too_many_workers, size_missing, size_out_of_range, refusal_of, sizes_set, Gives};
+ghost use Rattle.vx_runs.specs.Runs.{IsSetUp, RunFails};
 ghost use Rattle.vx_values.specs.Limits.{max_workers};
 
 use crate::job::Job;
@@ -56,7 +56,7 @@ fn test_workers(number: u32) -> Result<(), RunFault>
 }
 
 // The job of a plan over a database of its catalog, or the first refusal of its setup.
-#[tactic(auto, unfolding(crate::specs::Setup::sizes_set))]
+#[tactic(auto, unfolding(vx_runs::specs::Setup::sizes_set))]
 fn job_in<'j>(
     alloc: Global,
     plan: &'j TypedPlan,

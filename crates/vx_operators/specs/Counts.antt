@@ -1,5 +1,5 @@
--- What an operator counts of its turns, and what its counts say of its ledger. A count stays at the largest number of 64 bits.
-use Rattle.std.specs.Prelude.{ℕ, zero, suc, ◌≡◌, ◌+◌, ◌-◌, ◌^◌, ◌≤◌, min, [], length, Some, None}
+-- What an operator counts of its turns, and what its counts say of its ledger.
+use Rattle.std.specs.Prelude.{ℕ, zero, suc, ◌≡◌, ◌+◌, ◌≤◌, [], length, Some, None}
 use Rattle.vx_ops.specs.Ledger.{Ledger}
 use Rattle.vx_ops.specs.declared.turn.Want.{Want}
 use Rattle.vx_ops.specs.declared.turn.Want.TheVariants as want
@@ -7,11 +7,8 @@ use Rattle.vx_ops.specs.declared.turn.Got.{Got}
 use Rattle.vx_ops.specs.declared.turn.Got.TheVariants as got
 use Rattle.vx_ops.specs.declared.turn.Polled.{Polled}
 use Rattle.vx_ops.specs.declared.turn.Polled.TheVariants as polled
-use Rattle.vx_operators.specs.declared.counts.OperatorCounts.{OperatorCounts}
-
--- as much of a number as a count holds
-abbrev pub capped : ℕ → ℕ
-capped n = min n (2 ^ 64 - 1)
+use Rattle.vx_setup.specs.Counts.{capped}
+use Rattle.vx_setup.specs.declared.counts.OperatorCounts.{OperatorCounts}
 
 -- the rows that come
 abbrev pub rows_in : Polled → ℕ
@@ -19,10 +16,6 @@ rows_in (polled.Gave t) = length t.rows
 rows_in polled.Waiting = 0
 rows_in polled.End = 0
 rows_in (polled.Fault f) = 0
-
--- of an operator that took no turn
-abbrev pub no_turns : OperatorCounts
-no_turns = record { left = 0; right = 0; gave = 0; morsels = 0; packets = 0; waits = 0 }
 
 -- with a morsel, if one came
 abbrev pub with_morsel : OperatorCounts → Polled → OperatorCounts

@@ -5,7 +5,7 @@ use Rattle.vx_ops.specs.Turn.{Shape}
 use Rattle.vx_ops.specs.declared.turn.Want.{Want}
 use Rattle.vx_operators.specs.Counts.{AreCounts}
 use Rattle.vx_operators.specs.Kind.{KindStands, kind_op, kind_types, kind_want, kind_abides}
-use Rattle.vx_operators.specs.declared.counts.OperatorCounts.{OperatorCounts}
+use Rattle.vx_setup.specs.declared.counts.OperatorCounts.{OperatorCounts}
 use Rattle.vx_operators.specs.declared.operator.Operator.{Operator}
 
 pub record OperatorStands (s : Operator) (l : Ledger) : Type 0 where

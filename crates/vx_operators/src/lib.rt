@@ -2,13 +2,12 @@
 //! fragment's rows.
 #![tactic(auto)]
 
-mod counts;
+mod counting;
 mod destination;
 mod kind;
 mod of_node;
 mod operator;
 
-pub use counts::OperatorCounts;
 pub use destination::Destination;
 pub use kind::OperatorKind;
 pub use of_node::{binary_operator, consumer_operator, unary_operator};

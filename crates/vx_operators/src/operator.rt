@@ -1,8 +1,9 @@
 //! The operators of a fragment.
 
-use crate::counts::OperatorCounts;
+use crate::counting::{count_given, count_got};
 use crate::kind::OperatorKind;
 use vx_ops::{Got, Polled, Source, Want};
+use vx_setup::OperatorCounts;
 
 /// One operator of a fragment, and what it counted of its turns.
 pub struct Operator {
@@ -28,7 +29,7 @@ impl Operator {
     ghost use Rattle.vx_ops.specs.Turn.{fresh_ledger};
     ghost use Rattle.vx_operators.specs.Kind.{KindStands};
     ghost use Rattle.vx_operators.specs.Operator.{OperatorStands, node_in, counts_in};
-    ghost use Rattle.vx_operators.specs.Counts.{no_turns};
+    ghost use Rattle.vx_setup.specs.Counts.{no_turns};
 
     /// The operator at the node with this number, to which nothing came.
     pub fn of(node: u32, kind: OperatorKind) -> Operator
@@ -79,9 +80,9 @@ impl Source for Operator {
 
     fn turn(&mut self, got: Got) -> Polled {
         let want = self.kind.wants();
-        self.counts.add_got(want, &got);
+        count_got(&mut self.counts, want, &got);
         let polled = self.kind.turn(got);
-        self.counts.add_given(&polled);
+        count_given(&mut self.counts, &polled);
         polled
     }
 }

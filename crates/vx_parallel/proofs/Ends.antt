@@ -24,13 +24,14 @@ use Rattle.vx_exec.specs.Crew.{IsNew}
 use Rattle.vx_exec.specs.Job.{model_of}
 use Rattle.vx_exec.specs.Making.{board_of}
 use Rattle.vx_exec.specs.Runs.{ComesTo}
-use Rattle.vx_exec.specs.declared.counted.WorkerCounts.{WorkerCounts}
+use Rattle.vx_setup.specs.declared.counts.WorkerCounts.{WorkerCounts}
 use Rattle.vx_exec.specs.declared.crew.Crew.{Crew}
 use Rattle.vx_exec.specs.declared.job.Job.{Job}
-use Rattle.vx_exec.specs.declared.ran.RunOutcome.{RunOutcome}
-use Rattle.vx_exec.specs.declared.ran.RunOutcome.TheVariants as run_outcome
+use Rattle.vx_runs.specs.declared.outcome.RunOutcome.{RunOutcome}
+use Rattle.vx_runs.specs.declared.outcome.RunOutcome.TheVariants as run_outcome
 use Rattle.vx_parallel.specs.Crew.{AreNew}
-use Rattle.vx_parallel.specs.Parallel.{IsWhole, IsCountedCrew, CountedByThreads}
+use Rattle.vx_runs.specs.Runs.{IsWhole}
+use Rattle.vx_parallel.specs.Parallel.{IsCountedCrew, CountedByThreads}
 
 -- the workers of a crew are new
 pub new-parts : (j : Job) (crew : Crew) (ws : Vec (Worker Operator Destination) Global) (w : LinksView) → ws ≡ crew.workers → w ≡ board_of crew

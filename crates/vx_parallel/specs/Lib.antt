@@ -3,3 +3,4 @@ pub mod Places
 pub mod Members
 pub mod Crew
 pub mod Parallel
+pub mod Engine

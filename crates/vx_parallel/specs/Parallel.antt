@@ -20,20 +20,10 @@ use Rattle.vx_assembly.specs.Parts.{worker_in}
 use Rattle.vx_setup.specs.declared.fault.RunFault.{RunFault}
 use Rattle.vx_setup.specs.declared.fault.RunFault.TheVariants as fault
 use Rattle.vx_exec.specs.Counts.{AreCountsOf}
-use Rattle.vx_exec.specs.Promise.{Reports}
 use Rattle.vx_exec.specs.Runs.{ComesTo}
-use Rattle.vx_exec.specs.declared.counted.WorkerCounts.{WorkerCounts}
-use Rattle.vx_exec.specs.declared.ran.RunOutcome.{RunOutcome}
-use Rattle.vx_exec.specs.declared.ran.RunOutcome.TheVariants as run_outcome
-
--- what a run by threads reports besides the faults of any run: a thread was refused, and none was started
-abbrev pub NoThreadStarted : Reports
-NoThreadStarted W p e = e ≡ fault.NoThread
-
--- every worker has ended
-abbrev pub IsWhole : RunOutcome → Type 0
-IsWhole (run_outcome.Done rows) = Unit {0}
-IsWhole run_outcome.Unfinished = ⊥
+use Rattle.vx_setup.specs.declared.counts.WorkerCounts.{WorkerCounts}
+use Rattle.vx_runs.specs.declared.outcome.RunOutcome.{RunOutcome}
+use Rattle.vx_runs.specs.declared.outcome.RunOutcome.TheVariants as run_outcome
 
 -- where there are more workers than threads may be started, the result is that no thread was started, or that memory was refused
 abbrev pub NeedsFew : (most workers : ℕ) → Result RunOutcome RunFault → Type 0

@@ -1,9 +1,11 @@
-//! Runs of plans whose workers are threads.
+//! Runs of plans whose workers are threads, and the engine of this repository: its runs by rounds and by threads.
 #![tactic(auto)]
 
+mod engine;
 mod members;
 mod places;
 mod run;
 
-pub use run::{run_threads, run_threads_counted, run_threads_within};
+pub use engine::Engine;
+pub use run::{Threading, run_threads};
 pub use vx_threads::{Free, Gate};

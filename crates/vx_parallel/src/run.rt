@@ -9,11 +9,13 @@ ghost use Rattle.vx_operators.specs.Destination.{post_of, is_open, has_closed};
 ghost use Rattle.vx_plan_nodes.specs.Workers.{crew_size, worker_group_at};
 ghost use Rattle.vx_spawn.specs.Each.{AllReady};
 ghost use Rattle.vx_setup.specs.declared.fault.RunFault.TheVariants.{NoMemory, NoThread};
-ghost use Rattle.vx_exec.specs.Counts.{is_wanted, counts_in};
+ghost use Rattle.vx_setup.specs.Counts.{is_wanted, counts_in};
 ghost use Rattle.vx_exec.specs.Job.{model_of, sizes_of, types_at};
-ghost use Rattle.vx_exec.specs.Promise.{RunPromise, PromiseOnceSet, WhereSet};
+ghost use Rattle.vx_runs.specs.Promise.{NoThreadStarted};
+ghost use Rattle.vx_exec.specs.Promise.{CrewPromise, PromiseOnceSet, WhereSet};
 ghost use Rattle.vx_parallel.specs.Crew.{IsWiringOf, AreNew, AreHonest, IsAcceptedJob, HaveRun};
-ghost use Rattle.vx_parallel.specs.Parallel.{NoThreadStarted, IsWhole, NeedsFew, WereJoined, CountedByThreads};
+ghost use Rattle.vx_runs.specs.Runs.{IsWhole};
+ghost use Rattle.vx_parallel.specs.Parallel.{NeedsFew, WereJoined, CountedByThreads};
 
 use crate::members::members_of;
 use crate::places::places_of;
@@ -24,10 +26,11 @@ use vx_assembly::assemble;
 use vx_catalog::Database;
 use vx_check_rules::CheckedPlan;
 use vx_decks::SharedDeck;
-use vx_exec::{Crew, Job, RunCounts, RunOutcome, answer_of, job_of};
+use vx_exec::{Crew, Job, answer_of, job_of, keep_counts};
 use vx_operators::{Destination, Operator};
 use vx_plan_nodes::Router;
-use vx_setup::{RunFault, Setup};
+use vx_runs::RunOutcome;
+use vx_setup::{RunCounts, RunFault, Setup};
 use vx_spawn::{CrewMember, Joined, run_in_threads};
 use vx_steps::RunState;
 use vx_threads::Gate;
@@ -119,109 +122,58 @@ fn run_job<R: Router + Sync, G: Gate + Sync, T: Threads + Wait + Sync>(
     let wiring = wiring_for(alloc, job)?;
     let ended = run_crew(rt, alloc, job, router, gate, workers, wiring)?;
     let (workers, verdict) = ended;
-    counts.note(alloc, workers.as_slice())?;
+    keep_counts(counts, alloc, workers.as_slice())?;
     answer_of(workers, verdict)
 }
 
-// A run whose workers are at most so many threads, and what they counted, if that is wanted.
-fn run_counted<R: Router + Sync, G: Gate + Sync, T: Threads + Wait + Sync>(
-    rt: &T,
-    alloc: Global,
-    plan: &CheckedPlan,
-    database: &Database,
-    setup: &Setup,
-    router: &R,
-    gate: &G,
-    most: u32,
-    counts: &mut RunCounts,
-) -> Result<RunOutcome, RunFault>
-    ensures promise { RunPromise (R.route_of router.now) NoThreadStarted (typed_plan plan.now) database.now setup.now result }
-    ensures whole { IfOk result IsWhole }
-    ensures few { WhereSet (R.route_of router.now) (typed_plan plan.now) database.now setup.now (λ W p. NeedsFew most (crew_size W.sizes p) result) }
-    ensures counted { is_wanted counts.old ≡ true
-        → WhereSet (R.route_of router.now) (typed_plan plan.now) database.now setup.now (λ W p. CountedByThreads (R.route_of router.now) W p result (counts_in counts.new)) }
-{
-    let job = job_of(alloc, plan.plan(), database, setup)?;
-    run_job(rt, alloc, &job, router, gate, most, counts)
+/// How the workers of a run are threads.
+#[derive(Clone, Copy)]
+pub struct Threading<'a, R, G> {
+    /// Says where hash routes send keys.
+    pub router: &'a R,
+    /// What each thread passes before it makes a step.
+    pub gate: &'a G,
+    /// The most workers that there may be.
+    pub most: u32,
+}
+
+impl<'a, R, G> Threading<'a, R, G> {
+    ghost use Rattle.vx_values.specs.Limits.{max_workers};
+
+    /// With as many workers as a run may have.
+    pub fn new(router: &'a R, gate: &'a G) -> Threading<'a, R, G>
+        ensures router { result.router.now ≡ router.now }
+        ensures most { result.most ≡ max_workers }
+    {
+        Threading {
+            router,
+            gate,
+            most: MAX_WORKERS,
+        }
+    }
 }
 
 /// A run of a plan over a database, each worker in a thread of its own. They start together or not at all: where there
-/// are more than `most` workers, or the machine refuses a thread, none takes a step. Once all have ended and some
+/// are more workers than there may be, or the machine refuses a thread, none takes a step. Once all have ended and some
 /// failed, the fault is that of the lowest-numbered one that failed by itself. That the threads end is not promised.
-pub fn run_threads_within<R: Router + Sync, G: Gate + Sync, T: Threads + Wait + Sync>(
-    rt: &T,
-    alloc: Global,
-    plan: &CheckedPlan,
-    database: &Database,
-    setup: &Setup,
-    router: &R,
-    gate: &G,
-    most: u32,
-) -> Result<RunOutcome, RunFault>
-    ensures promise { RunPromise (R.route_of router.now) NoThreadStarted (typed_plan plan.now) database.now setup.now result }
-    ensures whole { IfOk result IsWhole }
-    ensures few { WhereSet (R.route_of router.now) (typed_plan plan.now) database.now setup.now (λ W p. NeedsFew most (crew_size W.sizes p) result) }
-{
-    let mut unread = RunCounts::unread(alloc);
-    run_counted(
-        rt,
-        alloc,
-        plan,
-        database,
-        setup,
-        router,
-        gate,
-        most,
-        &mut unread,
-    )
-}
-
-/// A run of a plan over a database, each worker in a thread of its own, whatever their number. They start together or
-/// not at all. Once all have ended and some failed, the fault is that of the lowest-numbered one that failed by itself.
-/// That the threads end is not promised.
+/// What each worker counted is in `counts` afterwards, also where some failed; memory for it is refused only where it is wanted.
 pub fn run_threads<R: Router + Sync, G: Gate + Sync, T: Threads + Wait + Sync>(
     rt: &T,
     alloc: Global,
     plan: &CheckedPlan,
     database: &Database,
     setup: &Setup,
-    router: &R,
-    gate: &G,
-) -> Result<RunOutcome, RunFault>
-    ensures promise { RunPromise (R.route_of router.now) NoThreadStarted (typed_plan plan.now) database.now setup.now result }
-    ensures whole { IfOk result IsWhole }
-{
-    run_threads_within(rt, alloc, plan, database, setup, router, gate, MAX_WORKERS)
-}
-
-/// A run of a plan over a database, each worker in a thread of its own, whatever their number. They start together or
-/// not at all. Once all have ended and some failed, the fault is that of the lowest-numbered one that failed by itself.
-/// That the threads end is not promised.
-/// What each worker counted is in `counts` afterwards, also where some failed; memory for it is refused only where it is wanted.
-pub fn run_threads_counted<R: Router + Sync, G: Gate + Sync, T: Threads + Wait + Sync>(
-    rt: &T,
-    alloc: Global,
-    plan: &CheckedPlan,
-    database: &Database,
-    setup: &Setup,
-    router: &R,
-    gate: &G,
+    threading: &Threading<'_, R, G>,
     counts: &mut RunCounts,
 ) -> Result<RunOutcome, RunFault>
-    ensures promise { RunPromise (R.route_of router.now) NoThreadStarted (typed_plan plan.now) database.now setup.now result }
+    ensures promise { CrewPromise (R.route_of threading.now.router.now) NoThreadStarted (typed_plan plan.now) database.now setup.now result }
     ensures whole { IfOk result IsWhole }
+    ensures few { WhereSet (R.route_of threading.now.router.now) (typed_plan plan.now) database.now setup.now (λ W p. NeedsFew threading.now.most (crew_size W.sizes p) result) }
     ensures counted { is_wanted counts.old ≡ true
-        → WhereSet (R.route_of router.now) (typed_plan plan.now) database.now setup.now (λ W p. CountedByThreads (R.route_of router.now) W p result (counts_in counts.new)) }
+        → WhereSet (R.route_of threading.now.router.now) (typed_plan plan.now) database.now setup.now
+        (λ W p. CountedByThreads (R.route_of threading.now.router.now) W p result (counts_in counts.new)) }
 {
-    run_counted(
-        rt,
-        alloc,
-        plan,
-        database,
-        setup,
-        router,
-        gate,
-        MAX_WORKERS,
-        counts,
-    )
+    let job = job_of(alloc, plan.plan(), database, setup)?;
+    let (router, gate, most) = (threading.router, threading.gate, threading.most);
+    run_job(rt, alloc, &job, router, gate, most, counts)
 }

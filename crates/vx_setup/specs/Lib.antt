@@ -1,2 +1,3 @@
 pub mod Setup
 pub mod Setting
+pub mod Counts

@@ -6,6 +6,7 @@ ghost use Rattle.vx_spawn.specs.Each.{AllReady, EachHonest, members_of, AllLent}
 
 use crate::member::{CrewMember, Joined};
 use crate::promise::JoinPromise;
+use crate::shared::Shared;
 use crate::start::Start;
 use crate::starting::begin;
 use std::alloc::Global;
@@ -35,21 +36,17 @@ pub fn begin_all<
     scope: &'s Scope<'s, E>,
     rt: &'s T,
     alloc: Global,
-    morsels: &'s G,
-    router: &'s R,
-    gate: &'s H,
-    decks: &'s Vec<SharedDeck>,
-    start: &'s Start,
+    shared: Shared<'s, G, R, H>,
     members: Vec<CrewMember<O, S>>,
 ) -> Result<Vec<PromisedHandle<Option<Joined<O, S>>, JoinPromise<'s, O, S, G, R>>>, RunFault>
-    requires { AllReady O.types S.post S.is_open S.has_closed (G.types_of morsels.now) decks.now.items members.items }
+    requires { AllReady O.types S.post S.is_open S.has_closed (G.types_of shared.morsels.now) shared.decks.now.items members.items }
     ensures members { IfOk result (λ hs. members_of hs.items ≡ members.items) }
-    ensures lent { IfOk result (λ hs. AllLent R.route_of G.morsel_of (R.route_of router.now) (G.morsel_of morsels.now) hs.items) }
+    ensures lent { IfOk result (λ hs. AllLent R.route_of G.morsel_of (R.route_of shared.entry.router.now) (G.morsel_of shared.entry.morsels.now) hs.items) }
     ensures fault { IfErr result (λ e. (e ≡ NoMemory) ⊎ (e ≡ NoThread)) }
 {
     let mut handles = Vec::with_capacity(alloc, members.len())?;
     for member in members {
-        let Some(handle) = begin(scope, rt, morsels, router, gate, decks, start, member) else {
+        let Some(handle) = begin(scope, rt, shared, member) else {
             return Err(RunFault::NoThread);
         };
         handles.push(handle)?;
@@ -94,26 +91,20 @@ fn run_in_scope<
     scope: &'s Scope<'s, E>,
     rt: &'s T,
     alloc: Global,
-    morsels: &'s G,
-    router: &'s R,
-    gate: &'s H,
-    decks: &'s Vec<SharedDeck>,
-    start: &'s Start,
+    shared: Shared<'s, G, R, H>,
     members: Vec<CrewMember<O, S>>,
 ) -> Result<Vec<Joined<O, S>>, RunFault>
-    requires { AllReady O.types S.post S.is_open S.has_closed (G.types_of morsels.now) decks.now.items members.items }
-    ensures honest { IfOk result (λ js. EachHonest O.Stands O.op S.Stands S.task S.post S.bounds (R.route_of router.now) (G.morsel_of morsels.now) members.items js.items) }
+    requires { AllReady O.types S.post S.is_open S.has_closed (G.types_of shared.morsels.now) shared.decks.now.items members.items }
+    ensures honest { IfOk result (λ js. EachHonest O.Stands O.op S.Stands S.task S.post S.bounds (R.route_of shared.entry.router.now) (G.morsel_of shared.entry.morsels.now) members.items js.items) }
     ensures fault { IfErr result (λ e. (e ≡ NoMemory) ⊎ (e ≡ NoThread)) }
 {
-    match begin_all(
-        scope, rt, alloc, morsels, router, gate, decks, start, members,
-    ) {
+    match begin_all(scope, rt, alloc, shared, members) {
         Ok(handles) => {
-            start.go();
-            join_all(rt, alloc, morsels, router, handles)
+            shared.start.go();
+            join_all(rt, alloc, shared.morsels, shared.router, handles)
         }
         Err(why) => {
-            start.cancel();
+            shared.start.cancel();
             Err(why)
         }
     }
@@ -130,29 +121,21 @@ fn run_from<
 >(
     rt: &T,
     alloc: Global,
-    morsels: &G,
-    router: &R,
-    gate: &H,
-    decks: &Vec<SharedDeck>,
-    start: &Start,
+    shared: Shared<'_, G, R, H>,
     members: Vec<CrewMember<O, S>>,
 ) -> Result<Vec<Joined<O, S>>, RunFault>
-    requires { AllReady O.types S.post S.is_open S.has_closed (G.types_of morsels.now) decks.now.items members.items }
-    ensures honest { IfOk result (λ js. EachHonest O.Stands O.op S.Stands S.task S.post S.bounds (R.route_of router.now) (G.morsel_of morsels.now) members.items js.items) }
+    requires { AllReady O.types S.post S.is_open S.has_closed (G.types_of shared.morsels.now) shared.decks.now.items members.items }
+    ensures honest { IfOk result (λ js. EachHonest O.Stands O.op S.Stands S.task S.post S.bounds (R.route_of shared.entry.router.now) (G.morsel_of shared.entry.morsels.now) members.items js.items) }
     ensures fault { IfErr result (λ e. (e ≡ NoMemory) ⊎ (e ≡ NoThread)) }
 {
     thread::scope(
         thread::scope_env(),
         rt,
         |scope| -> Result<Vec<Joined<O, S>>, RunFault>
-            requires { AllReady O.types S.post S.is_open S.has_closed (G.types_of morsels.now) decks.now.items members.items }
-            ensures honest { IfOk result (λ js. EachHonest O.Stands O.op S.Stands S.task S.post S.bounds (R.route_of router.entry.now) (G.morsel_of morsels.entry.now) members.items js.items) }
+            requires { AllReady O.types S.post S.is_open S.has_closed (G.types_of shared.morsels.now) shared.decks.now.items members.items }
+            ensures honest { IfOk result (λ js. EachHonest O.Stands O.op S.Stands S.task S.post S.bounds (R.route_of shared.entry.router.now) (G.morsel_of shared.entry.morsels.now) members.items js.items) }
             ensures fault { IfErr result (λ e. (e ≡ NoMemory) ⊎ (e ≡ NoThread)) }
-        {
-            run_in_scope(
-                scope, rt, alloc, morsels, router, gate, decks, start, members,
-            )
-        },
+        { run_in_scope(scope, rt, alloc, shared, members) },
     )
 }
 
@@ -179,5 +162,12 @@ pub fn run_in_threads<
     ensures fault { IfErr result (λ e. (e ≡ NoMemory) ⊎ (e ≡ NoThread)) }
 {
     let start = Start::new(alloc, members.len())?;
-    run_from(rt, alloc, morsels, router, gate, decks, &start, members)
+    let shared = Shared {
+        morsels,
+        router,
+        gate,
+        decks,
+        start: &start,
+    };
+    run_from(rt, alloc, shared, members)
 }

@@ -8,11 +8,11 @@ ghost use Rattle.vx_spawn.specs.Honest.{IsHonest};
 
 use crate::member::{CrewMember, Joined};
 use crate::promise::JoinPromise;
+use crate::shared::Shared;
 use crate::start::Start;
 use std::snapshot::Snapshot;
 use std::sync::Wait;
 use std::thread::{PromisedHandle, Scope, Threads};
-use vx_decks::SharedDeck;
 use vx_ends::Sends;
 use vx_ops::Source;
 use vx_plan_nodes::Router;
@@ -30,18 +30,14 @@ fn may_begin<O, S, T: Wait>(rt: &T, start: &Start, member: &CrewMember<O, S>) ->
 /// What a worker's thread does: it waits for the start, and steps its worker to its end. None if the run was cancelled.
 pub fn work<O: Source + Drop, S: Sends + Drop, G: Morsels, R: Router, H: Gate, T: Wait>(
     rt: &T,
-    morsels: &G,
-    router: &R,
-    gate: &H,
-    decks: &Vec<SharedDeck>,
-    start: &Start,
+    shared: Shared<'_, G, R, H>,
     member: CrewMember<O, S>,
 ) -> Option<Joined<O, S>>
-    requires ready { IsReady O.types S.post S.is_open S.has_closed (G.types_of morsels.now) member.worker }
-    requires sits { All (Sits decks.now.items) member.ends.draws.items }
-    ensures { IfSome result (λ j. IsHonest O.Stands O.op S.Stands S.task S.post S.bounds (R.route_of router.now) (G.morsel_of morsels.now) member j) }
+    requires ready { IsReady O.types S.post S.is_open S.has_closed (G.types_of shared.morsels.now) member.worker }
+    requires sits { All (Sits shared.decks.now.items) member.ends.draws.items }
+    ensures { IfSome result (λ j. IsHonest O.Stands O.op S.Stands S.task S.post S.bounds (R.route_of shared.entry.router.now) (G.morsel_of shared.entry.morsels.now) member j) }
 {
-    if !may_begin(rt, start, &member) {
+    if !may_begin(rt, shared.start, &member) {
         return None;
     }
     let CrewMember {
@@ -51,13 +47,21 @@ pub fn work<O: Source + Drop, S: Sends + Drop, G: Morsels, R: Router, H: Gate, T
         worker,
         ends,
     } = member;
-    let wires = ThreadWires::new(ends, decks, start.parkers());
+    let wires = ThreadWires::new(ends, shared.decks, shared.start.parkers());
     let at = WorkerPlace {
         number,
         fragment,
         place,
     };
-    let (worker, ends) = run_to_end(rt, morsels, router, gate, at, worker, wires);
+    let (worker, ends) = run_to_end(
+        rt,
+        shared.morsels,
+        shared.router,
+        shared.gate,
+        at,
+        worker,
+        wires,
+    );
     Some(Joined { worker, ends })
 }
 
@@ -74,26 +78,19 @@ pub fn begin<
 >(
     scope: &'s Scope<'s, E>,
     rt: &'s T,
-    morsels: &'s G,
-    router: &'s R,
-    gate: &'s H,
-    decks: &'s Vec<SharedDeck>,
-    start: &'s Start,
+    shared: Shared<'s, G, R, H>,
     member: CrewMember<O, S>,
 ) -> Option<PromisedHandle<Option<Joined<O, S>>, JoinPromise<'s, O, S, G, R>>>
-    requires ready { IsReady O.types S.post S.is_open S.has_closed (G.types_of morsels.now) member.worker }
-    requires sits { All (Sits decks.now.items) member.ends.draws.items }
-    ensures { IfSome result (λ h. (h.promise.member.value ≡ member) × (h.promise.router.now ≡ router.now) × (h.promise.morsels.now ≡ morsels.now)) }
+    requires ready { IsReady O.types S.post S.is_open S.has_closed (G.types_of shared.morsels.now) member.worker }
+    requires sits { All (Sits shared.decks.now.items) member.ends.draws.items }
+    ensures { IfSome result (λ h. (h.promise.member.value ≡ member) × (h.promise.router.now ≡ shared.entry.router.now) × (h.promise.morsels.now ≡ shared.entry.morsels.now)) }
 {
     let promise = JoinPromise {
-        morsels,
-        router,
+        morsels: shared.morsels,
+        router: shared.router,
         member: Snapshot::of(&member),
     };
-    match scope.spawn_with(
-        promise,
-        move || work(rt, morsels, router, gate, decks, start, member),
-    ) {
+    match scope.spawn_with(promise, move || work(rt, shared, member)) {
         Ok(child) => Some(child),
         Err(_) => None,
     }

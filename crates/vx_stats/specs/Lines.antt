@@ -1,7 +1,7 @@
 -- The lines of a run's counts: one for each node in each worker, the workers in the order of their numbers and the nodes of each in preorder.
 use Rattle.std.specs.Prelude.{ℕ, ◌+◌, ◌-◌, List, [], ◌∷◌, ◌++◌}
-use Rattle.vx_exec.specs.declared.counted.NodeCounts.{NodeCounts}
-use Rattle.vx_exec.specs.declared.counted.WorkerCounts.{WorkerCounts}
+use Rattle.vx_setup.specs.declared.counts.NodeCounts.{NodeCounts}
+use Rattle.vx_setup.specs.declared.counts.WorkerCounts.{WorkerCounts}
 use Rattle.vx_stats.specs.declared.lines.Line.{Line}
 
 -- the line of a node, with what its worker counted of its own steps: the packets that it put, and the steps in which it waited for room

@@ -3,7 +3,7 @@ use Rattle.std.specs.Prelude.{ℕ, List, [], ◌++◌, codes, Option}
 use Rattle.vx_relations.specs.Relation.{Relation}
 use Rattle.vx_plan_nodes.specs.TypedView.{scope, resolved_of}
 use Rattle.vx_plan_nodes.specs.declared.typed_plan.TypedPlan.{TypedPlan}
-use Rattle.vx_exec.specs.declared.counted.WorkerCounts.{WorkerCounts}
+use Rattle.vx_setup.specs.declared.counts.WorkerCounts.{WorkerCounts}
 use Rattle.vx_stats.specs.Columns.{at_left, milliseconds, microseconds}
 use Rattle.vx_stats.specs.Lines.{lines_of}
 use Rattle.vx_stats.specs.Words.{op_words}

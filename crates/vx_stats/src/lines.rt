@@ -4,8 +4,7 @@ ghost use Rattle.std.specs.Prelude.{◌≡◌, ◌++◌, IfOk, OnOk};
 ghost use Rattle.vx_stats.specs.Lines.{line_of, other_waits, worker_lines, lines_of};
 
 use std::alloc::{AllocError, Global};
-use vx_exec::{NodeCounts, WorkerCounts};
-use vx_operators::OperatorCounts;
+use vx_setup::{NodeCounts, OperatorCounts, WorkerCounts};
 
 /// One node of a plan in one worker of a run.
 #[derive(Clone, Copy, PartialEq, Eq)]

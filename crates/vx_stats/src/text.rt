@@ -10,9 +10,9 @@ use crate::phases::PhaseTime;
 use crate::words::operator_words;
 use crate::{json, table};
 use std::alloc::{AllocError, Global};
-use vx_exec::WorkerCounts;
 use vx_plan_nodes::TypedPlan;
 use vx_relations::Catalog;
+use vx_setup::WorkerCounts;
 
 /// How statistics are written.
 #[derive(Clone, Copy, PartialEq, Eq)]

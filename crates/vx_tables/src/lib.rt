@@ -10,4 +10,4 @@ mod threads;
 pub use folder::Folder;
 pub use observer::{Observer, Unobserved};
 pub use tables::{Scanning, Tables, load_tables};
-pub use threads::{load_scanned_in_threads, load_tables_in_threads};
+pub use threads::{Loading, load_scanned_in_threads, load_tables_in_threads};

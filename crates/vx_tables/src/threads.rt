@@ -16,11 +16,20 @@ use vx_plan_nodes::TypedPlan;
 use vx_refusals::Refusal;
 use vx_seeds::KeySeed;
 
+/// How databases are filled.
+#[derive(Clone, Copy)]
+pub struct Loading {
+    pub alloc: Global,
+    /// How many threads read a table at most.
+    pub threads: usize,
+    /// Whoever reads the database hashes keys by it.
+    pub seed: KeySeed,
+}
+
 // Gives a relation of a database its rows.
 fn fill_in_threads<P: Threads + Sync, T: Tables>(
     rt: &P,
-    alloc: Global,
-    threads: usize,
+    loading: Loading,
     database: &mut Database,
     relation: usize,
     tables: &T,
@@ -29,19 +38,17 @@ fn fill_in_threads<P: Threads + Sync, T: Tables>(
     ensures filled { OnOk result ((rows : List Row) × T.holds tables.now (relation_at database.old.catalog relation) rows × (database.new ≡ with_rows database.old relation rows)) }
     ensures refused { IfErr result (λ e. T.lacks tables.now (relation_at database.old.catalog relation) e) }
 {
+    let (alloc, threads) = (loading.alloc, loading.threads);
     let loaded = tables.load_in_threads(rt, alloc, threads, database.catalog(), relation)?;
     database.replace(loaded);
     Ok(())
 }
 
-/// A database of the relations of a catalog that are scanned, filled in the catalog's order, each from its tables once, by up to
-/// so many threads. The others stay empty. The observer hears of each behind its load. Whoever reads the database hashes keys by the
-/// seed.
+/// A database of the relations of a catalog that are scanned, filled in the catalog's order, each from its tables once. The others
+/// stay empty. The observer hears of each behind its load.
 pub fn load_scanned_in_threads<P: Threads + Sync, S: Scanning, T: Tables, O: Observer>(
     rt: &P,
-    alloc: Global,
-    threads: usize,
-    seed: KeySeed,
+    loading: Loading,
     catalog: &Catalog,
     scanning: &S,
     tables: &T,
@@ -52,24 +59,22 @@ pub fn load_scanned_in_threads<P: Threads + Sync, S: Scanning, T: Tables, O: Obs
     ensures refused { IfErr result (λ e. IsFirstMissingOf (S.scanned scanning.now) (T.holds tables.now) (T.lacks tables.now) catalog.now e) }
     ensures seen { IfOk result (λ _. O.seen observer.new ≡ option_map (λ rs. rs ++ scanned_below (S.scanned scanning.now) (length catalog.now)) (O.seen observer.old)) }
 {
-    let empty = Database::empty(alloc, catalog)?;
-    let mut database = empty.seeded(seed);
+    let empty = Database::empty(loading.alloc, catalog)?;
+    let mut database = empty.seeded(loading.seed);
     for relation in 0..catalog.len() {
         if scanning.scans(relation) {
-            fill_in_threads(rt, alloc, threads, &mut database, relation, tables)?;
+            fill_in_threads(rt, loading, &mut database, relation, tables)?;
             observer.loaded(relation)?;
         }
     }
     Ok(database)
 }
 
-/// A database of the relations that a plan scans, filled in the catalog's order, each by up to so many threads. The others stay
-/// empty. The observer hears of each behind its load. Whoever reads the database hashes keys by the seed.
+/// A database of the relations that a plan scans, filled in the catalog's order. The others stay empty. The observer hears of each
+/// behind its load.
 pub fn load_tables_in_threads<P: Threads + Sync, T: Tables, O: Observer>(
     rt: &P,
-    alloc: Global,
-    threads: usize,
-    seed: KeySeed,
+    loading: Loading,
     plan: &TypedPlan,
     tables: &T,
     observer: &mut O,
@@ -80,5 +85,5 @@ pub fn load_tables_in_threads<P: Threads + Sync, T: Tables, O: Observer>(
     ensures seen { IfOk result (λ _. O.seen observer.new ≡ option_map (λ rs. rs ++ scanned_below (scans (plan_of_typed plan.now)) (length (scope plan.now).catalog)) (O.seen observer.old)) }
 {
     let catalog = plan.catalog();
-    load_scanned_in_threads(rt, alloc, threads, seed, catalog, plan, tables, observer)
+    load_scanned_in_threads(rt, loading, catalog, plan, tables, observer)
 }

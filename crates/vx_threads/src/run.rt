@@ -37,6 +37,7 @@ pub struct WorkerPlace {
 const YIELDS: usize = 16;
 
 /// Holds up no one.
+#[derive(Clone, Copy)]
 pub struct Free;
 
 impl Gate for Free {

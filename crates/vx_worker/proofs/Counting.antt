@@ -13,7 +13,7 @@ use Rattle.vx_worker.specs.Answering.{Waits, none_came, none_drains, is_full, no
 use Rattle.vx_worker.specs.Counts.{with_event}
 use Rattle.vx_worker.specs.Intake.{IsRead, IsTake}
 use Rattle.vx_worker.specs.Worker.{IsReady, IsReadyIn, StandsIn, WorkerStands}
-use Rattle.vx_worker.specs.declared.counts.StepCounts.{StepCounts}
+use Rattle.vx_setup.specs.declared.counts.StepCounts.{StepCounts}
 use Rattle.vx_worker.specs.declared.intake.Intake.{Intake}
 use Rattle.vx_worker.specs.declared.tree.Tree.{Tree}
 use Rattle.vx_worker.specs.declared.worker.Worker.{Worker}

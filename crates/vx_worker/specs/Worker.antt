@@ -16,7 +16,7 @@ use Rattle.vx_worker.specs.Trace.{Trace, ReadsAreOf, IsWellBy, HasFailedBy, Hone
 use Rattle.vx_worker.specs.Trees.{shape, TreeStands}
 use Rattle.vx_worker.specs.Wishes.{Numbered, TreeTyped, tree_types}
 use Rattle.vx_worker.specs.Intake.{sources_of, has_met_end, IntakeStands, IsDrained}
-use Rattle.vx_worker.specs.declared.counts.StepCounts.{StepCounts}
+use Rattle.vx_setup.specs.declared.counts.StepCounts.{StepCounts}
 use Rattle.vx_worker.specs.declared.tree.Tree.{Tree}
 use Rattle.vx_worker.specs.declared.worker.Worker.{Worker}
 use Rattle.vx_worker.specs.declared.worker.WorkerState.{WorkerState}

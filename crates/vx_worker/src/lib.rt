@@ -1,14 +1,12 @@
 //! Workers: the operators of a fragment at one place.
 #![tactic(auto)]
 
-mod counts;
 mod intake;
 pub mod tree;
 mod wires;
 mod wish;
 mod worker;
 
-pub use counts::StepCounts;
 pub use intake::ExchangeInput;
 pub use tree::Tree;
 pub use wires::{Morsels, Wires};

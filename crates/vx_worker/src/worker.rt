@@ -1,6 +1,5 @@
 //! Workers: the operators of a fragment at one place, step by step.
 
-use crate::counts::StepCounts;
 use crate::intake::{Drained, ExchangeInput, Intake};
 use crate::tree::Tree;
 use crate::wires::{Morsels, Wires};
@@ -9,6 +8,7 @@ use vx_ends::Sends;
 use vx_ops::{Code, Fault, Got, Polled, Source};
 use vx_plan_nodes::Router;
 use vx_ports::{Packet, Put};
+use vx_setup::StepCounts;
 
 // Where a worker stands.
 #[derive(Clone, Copy)]
@@ -94,7 +94,8 @@ impl<O: Source, S: Sends> Worker<O, S> {
     ghost use Rattle.vx_worker.specs.Wishes.{Numbered, TreeTyped, tree_types, fresh_reads};
     ghost use Rattle.vx_worker.specs.Answering.{Answered};
     ghost use Rattle.vx_worker.specs.Intake.{source_of, IsFresh};
-    ghost use Rattle.vx_worker.specs.Counts.{no_steps, with_event, with_answer};
+    ghost use Rattle.vx_setup.specs.Counts.{no_steps};
+    ghost use Rattle.vx_worker.specs.Counts.{with_event, with_answer};
     ghost use Rattle.vx_worker.specs.Worker.{closing_of, with_pending, with_all, outcome_of, sender_of, counts_of, inputs_of, role_of, IsReady, IsReadyIn, IsGoing, IsClosing, WorkerStands, EndsAs};
 
     /// A worker that made no step. `node` is the number of its tree's top; `closing` is a Fault for each consumer, by rising place; `inputs` are the

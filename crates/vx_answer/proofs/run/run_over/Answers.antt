@@ -1,15 +1,15 @@
 use Rattle.std.proofs.Common.{refl, rules, subst, Ok}
 use Rattle.std.proofs.lemmas.Result.{err_from_is_err_and}
-use Rattle.vx_exec.specs.Runs.{IfDone, IsRunOf, IsSetUp}
-use Rattle.vx_exec.specs.Sizes.{Sizes}
-use Rattle.vx_exec.specs.Counts.{counts_in}
-use Rattle.vx_exec.specs.declared.ran.RunOutcome.{RunOutcome}
+use Rattle.vx_runs.specs.Runs.{IfDone, IsRunOf, IsSetUp}
+use Rattle.vx_runs.specs.Sizes.{Sizes}
+use Rattle.vx_setup.specs.Counts.{counts_in}
+use Rattle.vx_runs.specs.declared.outcome.RunOutcome.{RunOutcome}
 use Rattle.vx_plan_nodes.specs.ByteRouter.{byte_route}
 use Rattle.vx_plan_nodes.specs.TypedView.{resolved_of}
 use Rattle.vx_check_rules.specs.CheckedView.{typed_plan}
-use Rattle.vx_answer.specs.Stats.{CountedIn}
 use Rattle.vx_answer.specs.Commands.{for_rounds}
 use Rattle.vx_answer.proofs.Refusing.{fault_refused, in_rounds, not_whole}
+use Rattle.vx_answer.proofs.StatsFacts.{where_asked}
 use Rattle.vx_answer.proofs.run.run_over.Goals as goal
 
 pub returns-in_err-rows-clause-refused : goal.returns-in_err-rows-clause-refused
@@ -20,14 +20,15 @@ returns-in_err-rows-clause-refused g c =
 pub returns-in-Unfinished-clause-refused : goal.returns-in-Unfinished-clause-refused
 returns-in-Unfinished-clause-refused g c =
     let set = c.in_ok-rows.ensures.promise.set in
-    let rounds = in_rounds c.args.setting.now.mode (λ threads. not_whole c.ran_over.result c.in_ok-rows.field-0 c.in_ok-rows.was c.in-Unfinished.is (c.ran_over.ensures.whole threads)) in
+    let rounds = in_rounds c.args.setting.now.mode (λ threads. not_whole c.run.result c.in_ok-rows.field-0 c.in_ok-rows.was c.in-Unfinished.is (c.run.ensures.whole threads)) in
     for_rounds rounds set.0 set.1 refl
 
-pub returns-in_ok-text_of-in-Done-clause-counted : goal.returns-in_ok-text_of-in-Done-clause-counted
-returns-in_ok-text_of-in-Done-clause-counted g c = λ wanted.
+pub returns-in_ok-text_of-in-Done-clause-run : goal.returns-in_ok-text_of-in-Done-clause-run
+returns-in_ok-text_of-in-Done-clause-run g c = λ f asked.
     let p = typed_plan c.args.plan.now in
     let db = c.args.database.now in
     let setting = c.args.setting.now in
+    let Counted = g.R.Runs.counted c.args.session.now.engine.now in
     let done = subst (λ (r : RunOutcome). IfDone (λ rows. (s : Sizes) × IsSetUp (resolved_of p) db setting.setup s × IsRunOf byte_route (resolved_of p) db s.worker_groups rows) r) c.in-Done.is c.in_ok-rows.ensures.promise.done in
     record {
       rows = c.in-Done.rows;
@@ -35,6 +36,6 @@ returns-in_ok-text_of-in-Done-clause-counted g c = λ wanted.
       set = done.1;
       run = done.2;
       is = search rules;
-      counted = subst (λ (r : RunOutcome). CountedIn setting.mode p db done.0 (Ok r) (counts_in c.ran_over.new.counts)) c.in-Done.is
-          (c.in_ok-rows.ensures.counted wanted done.0 done.1);
+      counted = where_asked f _ _ asked (λ wanted.
+          subst (λ (r : RunOutcome). Counted setting.mode p db done.0 (Ok r) (counts_in c.run.new.counts)) c.in-Done.is (c.in_ok-rows.ensures.counts wanted done.0 done.1));
     }

@@ -2,9 +2,10 @@ use Rattle.std.proofs.Common.{subst}
 use Rattle.vx_plan_nodes.specs.TypedView.{plan as whole_plan}
 use Rattle.vx_plan_nodes.specs.Types.{types_of}
 use Rattle.vx_check_rules.specs.Checked.{relations}
-use Rattle.vx_exec.specs.Counts.{AreCountsOf, counts_in}
+use Rattle.vx_exec.specs.Counts.{AreCountsOf}
+use Rattle.vx_setup.specs.Counts.{counts_in}
 use Rattle.vx_exec.specs.Job.{model_of}
-use Rattle.vx_exec.specs.Promise.{NothingElse}
+use Rattle.vx_runs.specs.Promise.{NothingElse}
 use Rattle.vx_exec.specs.Runs.{IsInRounds}
 use Rattle.vx_exec.proofs.Outcomes.{rounds-reported, counted-reported}
 use Rattle.vx_exec.proofs.Finishing.{job-accepted, ready-parts, has-run, first-types, not-passed, comes-kept}
@@ -49,6 +50,6 @@ returns g c =
       run = comes-kept NothingElse end.result c.answer_of.result run c.answer_of.ensures;
       rounds = rounds-reported hash (model_of hash j) (whole_plan j.plan.now) c.answer_of.result c.args.limit rounds;
       counted = λ wanted.
-          counted-reported hash (model_of hash j) (whole_plan j.plan.now) c.answer_of.result c.args.limit (counts_in c.note.new.self)
-          (record { run = rounds; counted = subst (λ ws. AreCountsOf ws (counts_in c.note.new.self)) c.as_slice.ensures.value (c.in_ok-note.ensures.counts wanted) });
+          counted-reported hash (model_of hash j) (whole_plan j.plan.now) c.answer_of.result c.args.limit (counts_in c.keep_counts.new.counts)
+          (record { run = rounds; counted = subst (λ ws. AreCountsOf ws (counts_in c.keep_counts.new.counts)) c.as_slice.ensures.value (c.in_ok-keep_counts.ensures.counts wanted) });
     }

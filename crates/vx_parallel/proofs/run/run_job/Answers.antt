@@ -3,11 +3,13 @@ use Rattle.vx_plan_nodes.specs.TypedView.{plan as whole_plan}
 use Rattle.vx_plan_nodes.specs.Types.{types_of}
 use Rattle.vx_check_rules.specs.Checked.{relations}
 use Rattle.vx_plan_nodes.specs.Workers.{crew_size}
-use Rattle.vx_exec.specs.Counts.{AreCountsOf, counts_in}
+use Rattle.vx_exec.specs.Counts.{AreCountsOf}
+use Rattle.vx_setup.specs.Counts.{counts_in}
 use Rattle.vx_exec.specs.Job.{model_of, sizes_of}
 use Rattle.vx_exec.specs.Promise.{PromiseOnceSet}
 use Rattle.vx_exec.proofs.Finishing.{job-accepted, ready-parts, ready-count, has-ended, first-types, not-passed, comes-kept}
-use Rattle.vx_parallel.specs.Parallel.{NoThreadStarted, NeedsFew, CountedByThreads}
+use Rattle.vx_runs.specs.Promise.{NoThreadStarted}
+use Rattle.vx_parallel.specs.Parallel.{NeedsFew, CountedByThreads}
 use Rattle.vx_parallel.proofs.Ends.{new-parts, comes-whole, refusal-reported, counted-reported, same-count}
 use Rattle.vx_parallel.proofs.run.run_job.Goals as goal
 
@@ -53,13 +55,13 @@ returns g c =
       whole = comes-whole x.0.items x.1 r ran.whole c.answer_of.ensures;
       few = λ lt. absurd (omega (arith, lt, count));
       counted = λ wanted.
-          counted-reported hash W p r (counts_in c.note.new.self) (record {
+          counted-reported hash W p r (counts_in c.keep_counts.new.counts) (record {
             ended = x.0.items;
             as_many = same-count parts.result.0 x.0.items ran.roles ∙ count;
             verdict = x.1;
             joined = c.in_ok-ended.ensures.joined;
             comes = c.answer_of.ensures;
-            counted = subst (λ ws. AreCountsOf ws (counts_in c.note.new.self)) c.as_slice.ensures.value (c.in_ok-note.ensures.counts wanted);
+            counted = subst (λ ws. AreCountsOf ws (counts_in c.keep_counts.new.counts)) c.as_slice.ensures.value (c.in_ok-keep_counts.ensures.counts wanted);
           });
     }
 

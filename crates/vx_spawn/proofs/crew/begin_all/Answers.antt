@@ -15,13 +15,13 @@ loop-member-preserved g c =
     let next : left ≡ member ∷ rest = search rules in
     let route = g.R.Router.route_of in
     let morsel = g.G.Morsels.morsel_of in
-    let types = g.G.Morsels.types_of c.args.morsels.now in (
+    let types = g.G.Morsels.types_of c.args.shared.morsels.now in (
       tt,
       tt,
       pushes hs c.push.new.self.items handle member left rest c.args.members.items (search rules) next (search rules) was.2,
-      lent route morsel (route c.args.router.now) (morsel c.args.morsels.now) hs c.push.new.self.items handle (search rules) was.3
+      lent route morsel (route c.args.shared.router.now) (morsel c.args.shared.morsels.now) hs c.push.new.self.items handle (search rules) was.3
           (ap route c.in-Some-begin.ensures.1) (ap morsel c.in-Some-begin.ensures.2),
-      (ready-rest g.O.Source.types g.S.Sends.post g.S.Sends.is_open g.S.Sends.has_closed types c.args.decks.now.items left rest member next was.4).2,
+      (ready-rest g.O.Source.types g.S.Sends.post g.S.Sends.is_open g.S.Sends.has_closed types c.args.shared.decks.now.items left rest member next was.4).2,
     )
 
 pub returns-clause-members : goal.returns-clause-members

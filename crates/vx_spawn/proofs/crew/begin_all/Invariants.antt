@@ -8,6 +8,6 @@ invariant-loop-member g l =
     (goal.iterator-loop-member g).can_next l.member-iterator
     × (goal.iterator-loop-member g).is_finite l.member-iterator
     × (members_of l.handles.items ++ into_iter_items l.member-iterator ≡ l.fn.members.items)
-    × AllLent g.R.Router.route_of g.G.Morsels.morsel_of (g.R.Router.route_of l.router) (g.G.Morsels.morsel_of l.morsels) l.handles.items
-    × AllReady g.O.Source.types g.S.Sends.post g.S.Sends.is_open g.S.Sends.has_closed (g.G.Morsels.types_of l.morsels) l.decks.items
+    × AllLent g.R.Router.route_of g.G.Morsels.morsel_of (g.R.Router.route_of l.shared.router.now) (g.G.Morsels.morsel_of l.shared.morsels.now) l.handles.items
+    × AllReady g.O.Source.types g.S.Sends.post g.S.Sends.is_open g.S.Sends.has_closed (g.G.Morsels.types_of l.shared.morsels.now) l.shared.decks.now.items
     (into_iter_items l.member-iterator)

@@ -5,5 +5,5 @@ use Rattle.vx_spawn.proofs.crew.run_in_scope.Goals as goal
 
 pub returns-in-Ok-clause-honest : goal.returns-in-Ok-clause-honest
 returns-in-Ok-clause-honest g c =
-    let P : List (CrewMember g.row.O.Denot g.row.S.Denot) → Type 0 = λ ms. IfOk c.join_all.result (λ js. EachHonest g.O.Source.Stands g.O.Source.op g.S.Sends.Stands g.S.Sends.task g.S.Sends.post g.S.Sends.bounds (g.R.Router.route_of c.args.router.now) (g.G.Morsels.morsel_of c.args.morsels.now) ms js.items) in
+    let P : List (CrewMember g.row.O.Denot g.row.S.Denot) → Type 0 = λ ms. IfOk c.join_all.result (λ js. EachHonest g.O.Source.Stands g.O.Source.op g.S.Sends.Stands g.S.Sends.task g.S.Sends.post g.S.Sends.bounds (g.R.Router.route_of c.args.shared.router.now) (g.G.Morsels.morsel_of c.args.shared.morsels.now) ms js.items) in
     subst P c.in-Ok.ensures.members c.join_all.ensures.honest

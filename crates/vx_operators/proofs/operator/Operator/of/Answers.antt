@@ -1,7 +1,7 @@
 use Rattle.std.proofs.Common.{sym, subst}
 use Rattle.vx_ops.specs.Turn.{fresh_ledger}
 use Rattle.vx_operators.specs.Counts.{AreCounts}
-use Rattle.vx_operators.proofs.Counting.{nothing-counted}
+use Rattle.vx_operators.proofs.CountFacts.{nothing-counted}
 use Rattle.vx_operators.proofs.operator.Operator.of.Goals as goal
 
 pub returns-clause-stands : goal.returns-clause-stands

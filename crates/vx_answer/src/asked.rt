@@ -1,0 +1,70 @@
+//! What arguments ask for: runs, with statistics if they are asked for, or anything else.
+
+ghost use Rattle.std.specs.Prelude.{◌≡◌, true, Some, None, IfOk, IfErr};
+ghost use Rattle.vx_arguments.specs.Asked.{asked_is};
+ghost use Rattle.vx_stats.specs.declared.text.StatsForm.{StatsForm};
+ghost use Rattle.vx_answer.specs.CommandLineView.{IsAskAnswer, IsAskFault};
+ghost use Rattle.vx_answer.specs.Stats.{is_run};
+ghost use Rattle.vx_answer.specs.StatsView.{answer_with, IsCountedAs, IsUncounted};
+
+use crate::arguments::setting_in;
+use crate::command_line::{ArgumentAnswer, ArgumentFault, answer_plain, usage_error, usage_text};
+use crate::runs::run_plans;
+use crate::session::Session;
+use crate::stats::{CountedText, RunReport, run_task};
+use std::sync::Wait;
+use std::thread::Threads;
+use std::time::Clock;
+use vx_arguments::Asked;
+use vx_bytes::{ByteIn, Store};
+use vx_runs::Runs;
+use vx_stats::StatsForm;
+
+// The answer that a report of runs is: with statistics, if they are asked for.
+fn answer_of(form: Option<StatsForm>, report: RunReport) -> ArgumentAnswer
+    ensures is { result ≡ answer_with form report }
+    ensures no_stats { form ≡ None → IsUncounted result }
+    ensures stats { (f : StatsForm) → form ≡ Some f → IsCountedAs f result }
+{
+    match form {
+        None => ArgumentAnswer::Text(report.text),
+        Some(form) => ArgumentAnswer::Counted(CountedText {
+            text: report.text,
+            form,
+            opening: report.stats,
+        }),
+    }
+}
+
+/// What answers what arguments ask for. Runs are answered with statistics in this form, if there is one.
+pub fn answer_asked<T: Threads + Wait + Sync, R: Runs, C: Clock, F: Store, I: ByteIn>(
+    session: &Session<'_, T, R, C>,
+    files: &F,
+    input: &mut I,
+    form: Option<StatsForm>,
+    asked: &Asked<'_>,
+) -> Result<ArgumentAnswer, ArgumentFault>
+    ensures answer { IfOk result (λ a. IsAskAnswer (R.counted session.now.engine.now) (F.holds files.now) (I.remaining input.old) (asked_is asked.now) a) }
+    ensures no_stats { form ≡ None → IfOk result IsUncounted }
+    ensures stats { (f : StatsForm) → form ≡ Some f → is_run (asked_is asked.now) ≡ true → IfOk result (IsCountedAs f) }
+    ensures refused { IfErr result (IsAskFault (F.holds files.now) (F.is_reliable files.now) (I.remaining input.old) (I.has_failed input.new) (asked_is asked.now)) }
+{
+    let alloc = session.alloc;
+    match asked {
+        Asked::Run(sources, folder, given) => {
+            let Some(setting) = setting_in(alloc, given)? else {
+                return Err(usage_error(alloc, usage_text(asked)));
+            };
+            let report = run_task(session, files, input, form, *sources, *folder, &setting)?;
+            Ok(answer_of(form, report))
+        }
+        Asked::RunPlans(sources, folder, given) => {
+            let Some(setting) = setting_in(alloc, given)? else {
+                return Err(usage_error(alloc, usage_text(asked)));
+            };
+            let report = run_plans(session, files, input, form, sources, *folder, &setting)?;
+            Ok(answer_of(form, report))
+        }
+        _ => answer_plain(session, files, input, asked),
+    }
+}

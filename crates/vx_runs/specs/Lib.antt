@@ -1,0 +1,4 @@
+pub mod Sizes
+pub mod Setup
+pub mod Runs
+pub mod Promise

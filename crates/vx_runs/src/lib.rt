@@ -1,0 +1,8 @@
+//! The seam between a program and what runs its plans: how a run ends, what it promises, and a trait for that which runs them.
+#![tactic(auto)]
+
+mod outcome;
+mod runs;
+
+pub use outcome::RunOutcome;
+pub use runs::Runs;
