@@ -1,11 +1,18 @@
 -- Copies of columns, as a loop finds them.
-use Rattle.std.proofs.Common.{◌≡◌, ℕ, ◌+◌, ◌<◌, Bool, true, false, cond, List, [], ◌∷◌, ◌++◌, length, get_or, drop, refl, sym, ◌∙◌, arith, Option, Some, None, slice_get, eqb, append_assoc}
+use Rattle.std.proofs.Common.{Vec, Global, map, ◌≡◌, ℕ, zero, suc, ◌+◌, ◌<◌, Bool, true, false, cond, List, [], ◌∷◌, ◌++◌, length, get_or, drop, refl, sym, ap, ◌∙◌, arith, Option, Some, None, slice_get, eqb, append_assoc, Result, Ok, Err}
 use Rattle.std.specs.Option.{option_eq}
+use Rattle.std.specs.Result.{IfOk}
+use Rattle.std.specs.Vec.{vec_len}
+use Rattle.std.specs.List.{filter, AllZip, each_same}
+use Rattle.std.proofs.lemmas.List.{append-nil}
+use Rattle.std.proofs.lemmas.List.Elements.{filter-append}
 use Rattle.std.proofs.Math.Numerals.{add-one}
 use Rattle.std.proofs.Math.Seq.{drop-cons}
 use Rattle.std.proofs.lemmas.Bool.Decides.{nat_tests}
 use Rattle.vx_check_rules.specs.Behaviour.{is_column}
 use Rattle.vx_check_rules.proofs.Exact.{slice-at}
+use Rattle.vx_check_rules.proofs.ColumnFacts.{first_push}
+use Rattle.vx_plan_nodes.specs.Phases.{columns_from, first_columns}
 use Rattle.vx_check_options.specs.Options.{places_from}
 
 turned : (a b : ℕ) → eqb a b ≡ eqb b a
@@ -15,6 +22,30 @@ turned a b = grind (arith, nat_tests)
 pub is_source : (o : Option ℕ) (c : ℕ) → option_eq eqb o (Some c) ≡ is_column o c
 is_source None c = refl
 is_source (Some d) c = turned d c
+
+-- of the first columns, so many, one column further
+pub kept_here : (test : ℕ → Bool) (n : ℕ) (copies : List ℕ) (b : Bool) → copies ≡ filter test (first_columns n) → b ≡ test n → b ≡ true → copies ++ n ∷ [] ≡ filter test (first_columns (n + 1))
+kept_here test n copies b e f h =
+    ap (λ xs. xs ++ n ∷ []) e ∙ ap (λ a. filter test (first_columns n) ++ cond a (n ∷ []) []) (sym h ∙ f) ∙ sym (filter-append test (first_columns n) (n ∷ [])) ∙ ap (filter test) (sym (first_push n))
+
+pub left_here : (test : ℕ → Bool) (n : ℕ) (copies : List ℕ) (b : Bool) → copies ≡ filter test (first_columns n) → b ≡ test n → b ≡ false → copies ≡ filter test (first_columns (n + 1))
+left_here test n copies b e f h =
+    e ∙ sym (append-nil (filter test (first_columns n))) ∙ ap (λ a. filter test (first_columns n) ++ cond a (n ∷ []) []) (sym h ∙ f) ∙ sym (filter-append test (first_columns n) (n ∷ [])) ∙ ap (filter test) (sym (first_push n))
+
+from-at : (s n i : ℕ) → i < n → get_or (columns_from s n) i 0 ≡ s + i
+from-at s zero i h = absurd (omega (arith, h))
+from-at s (suc n) zero h = omega arith
+from-at s (suc n) (suc i) h = let e = from-at (suc s) n i (omega (arith, h)) in omega (arith, e)
+
+pub first_at : (n i : ℕ) → i < n → get_or (first_columns n) i 0 ≡ i
+first_at n i h = let e = from-at 0 n i h in omega (arith, e)
+
+from-length : (s n : ℕ) → length (columns_from s n) ≡ n
+from-length s zero = refl
+from-length s (suc n) = let e = from-length (suc s) n in omega (arith, e)
+
+pub first_length : (n : ℕ) → length (first_columns n) ≡ n
+first_length n = from-length 0 n
 
 -- one column further
 pub places-step : (kept : List ℕ) (n col : ℕ) → n < length kept
@@ -31,3 +62,17 @@ found-here false n found more all e h = cc
 pub found-later : (b : Bool) (n : ℕ) (found more all : List ℕ) → all ≡ found ++ cond b (n ∷ more) more → b ≡ false → all ≡ found ++ more
 found-later false n found more all e h = e
 found-later true n found more all e h = cc
+
+-- lists in memory of their own
+pub cloned-items : (vs ws : List (Vec ℕ Global)) → AllZip (λ (v w : Vec ℕ Global). AllZip (λ x y. y ≡ x) v.items w.items × (vec_len w ≡ vec_len v)) vs ws
+    → map (λ (w : Vec ℕ Global). w.items) ws ≡ map (λ (v : Vec ℕ Global). v.items) vs
+cloned-items [] [] e = refl
+cloned-items [] (w ∷ ws) e = absurd e
+cloned-items (v ∷ vs) [] e = absurd e
+cloned-items (v ∷ vs) (w ∷ ws) e = ap (λ x. x ∷ map (λ (u : Vec ℕ Global). u.items) ws) (each_same v.items w.items e.0.0) ∙ ap (λ xs. v.items ∷ xs) (cloned-items vs ws e.1)
+
+pub cloned-lists : {E : Type 0} (vs : List (Vec ℕ Global)) (r : Result (Vec (Vec ℕ Global) Global) E)
+    → IfOk r (λ ws. AllZip (λ (v w : Vec ℕ Global). AllZip (λ x y. y ≡ x) v.items w.items × (vec_len w ≡ vec_len v)) vs ws.items)
+    → IfOk r (λ ws. map (λ (w : Vec ℕ Global). w.items) ws.items ≡ map (λ (v : Vec ℕ Global). v.items) vs)
+cloned-lists vs (Ok ws) e = cloned-items vs ws.items e
+cloned-lists vs (Err x) e = tt

@@ -178,23 +178,23 @@ or-false true = refl
 or-false false = refl
 
 -- keys of the second list
-pub beside-any : (k j : Copying) (key : List ℕ) → IsAny (λ (vs : List (Vec ℕ Global)). both_give k j (key ∷ []) (map (λ (v : Vec ℕ Global). v.items) vs)) (λ (v : Vec ℕ Global). both_give k j (key ∷ []) (v.items ∷ []))
+pub beside-any : (k j : Copying) (key : List ℕ) → IsAny (λ vs. both_give k j (key ∷ []) vs) (λ v. both_give k j (key ∷ []) (v ∷ []))
 beside-any k j key = record { parts = λ vs x. by x (has_key k (key ∷ []) x) vs }
   where
-    none : (x : List ℕ) (vs : List (Vec ℕ Global)) → false ≡ list_any (λ (v : Vec ℕ Global). false && has_key j (v.items ∷ []) x) vs
+    none : (x : List ℕ) (vs : List (List ℕ)) → false ≡ list_any (λ v. false && has_key j (v ∷ []) x) vs
     none x [] = refl
     none x (v ∷ vs) = none x vs
 
-    all : (x : List ℕ) (vs : List (Vec ℕ Global)) → has_key j (map (λ (v : Vec ℕ Global). v.items) vs) x ≡ list_any (λ (v : Vec ℕ Global). true && has_key j (v.items ∷ []) x) vs
+    all : (x : List ℕ) (vs : List (List ℕ)) → has_key j vs x ≡ list_any (λ v. true && has_key j (v ∷ []) x) vs
     all x [] = refl
-    all x (v ∷ vs) = rw (or-false (list_all (has_copy j x) v.items), all x vs) refl
+    all x (v ∷ vs) = rw (or-false (list_all (has_copy j x) v), all x vs) refl
 
-    by : (x : List ℕ) (b : Bool) (vs : List (Vec ℕ Global)) → (b && has_key j (map (λ (v : Vec ℕ Global). v.items) vs) x) ≡ list_any (λ (v : Vec ℕ Global). b && has_key j (v.items ∷ []) x) vs
+    by : (x : List ℕ) (b : Bool) (vs : List (List ℕ)) → (b && has_key j vs x) ≡ list_any (λ v. b && has_key j (v ∷ []) x) vs
     by x true vs = all x vs
     by x false vs = none x vs
 
 -- keys of the first list
-pub among-any : (k j : Copying) (others : List (List ℕ)) → IsAny (λ (vs : List (Vec ℕ Global)). both_give k j (map (λ (v : Vec ℕ Global). v.items) vs) others) (λ (v : Vec ℕ Global). both_give k j (v.items ∷ []) others)
+pub among-any : (k j : Copying) (others : List (List ℕ)) → IsAny (λ vs. both_give k j vs others) (λ v. both_give k j (v ∷ []) others)
 among-any k j others = record { parts = λ vs x. by x (has_key j others x) vs }
   where
     either-way : (a c b d : Bool) → (c && b) ≡ d → ((a || c) && b) ≡ (((a || false) && b) || d)
@@ -203,9 +203,9 @@ among-any k j others = record { parts = λ vs x. by x (has_key j others x) vs }
     either-way true false false d e = e
     either-way false c b d e = e
 
-    by : (x : List ℕ) (b : Bool) (vs : List (Vec ℕ Global)) → (has_key k (map (λ (v : Vec ℕ Global). v.items) vs) x && b) ≡ list_any (λ (v : Vec ℕ Global). has_key k (v.items ∷ []) x && b) vs
+    by : (x : List ℕ) (b : Bool) (vs : List (List ℕ)) → (has_key k vs x && b) ≡ list_any (λ v. has_key k (v ∷ []) x && b) vs
     by x b [] = refl
-    by x b (v ∷ vs) = either-way (list_all (has_copy k x) v.items) (has_key k (map (λ (v : Vec ℕ Global). v.items) vs) x) b _ (by x b vs)
+    by x b (v ∷ vs) = either-way (list_all (has_copy k x) v) (has_key k vs x) b _ (by x b vs)
 
 -- keys that may be there
 pub keyed-any : IsAny (λ (os : List (Option rust_keyed.Keyed)). show (all_keyed_in os)) (λ (o : Option rust_keyed.Keyed). show (keyed_in o))
@@ -301,18 +301,14 @@ found-from js ks w cols claimed kept found e f h k g =
     subst (λ l. FoundKeys (show l) w claimed found) e (found-all (show js) w claimed kept found h k (subst (λ d. Finds (IsKey (show js) d) (IsShown (show js) d) kept found) f g))
 
 -- keys of one or two inputs, as the program takes them apart
-pub finds-keyed : (keyed : rust_keyed.Keyed) (second : rust_copied.CopiedKeys) (keys others : List (List ℕ)) (allowed : List ℕ) (old found : List (List ℕ)) → keys ≡ keys_seen keyed.first.keys → others ≡ keys_seen second.keys
+pub finds-keyed : (keyed : rust_keyed.Keyed) (second : rust_copied.CopiedKeys) (allowed : List ℕ) (old found : List (List ℕ))
     → ((x : List ℕ) → has_key (copied_keys second).0 (copied_keys second).1 x ≡ list_all (λ f. has_key f.0 f.1 x) (option_to_list (option_map copied_keys keyed.second)))
-    → Finds (IsKey (both_give (copying_of keyed.first.copying) (copying_of second.copying) keys others) allowed) (IsShown (both_give (copying_of keyed.first.copying) (copying_of second.copying) keys others) allowed) old found
+    → Finds (IsKey (both_give (copying_of keyed.first.copying) (copying_of second.copying) (keys_seen keyed.first.keys) (keys_seen second.keys)) allowed)
+    (IsShown (both_give (copying_of keyed.first.copying) (copying_of second.copying) (keys_seen keyed.first.keys) (keys_seen second.keys)) allowed) old found
     → Finds (IsKey (keys_give (keyed_of keyed)) allowed) (IsShown (keys_give (keyed_of keyed)) allowed) old found
-finds-keyed keyed second keys others allowed old found e f h g =
-    finds-alike (keys_give (keyed_of keyed)) (both_give (copying_of keyed.first.copying) (copying_of second.copying) keys others) allowed old found same-test g
-  where
-    same-test : (x : List ℕ) → keys_give (keyed_of keyed) x ≡ both_give (copying_of keyed.first.copying) (copying_of second.copying) keys others x
-    same-test x =
-        ap (λ b. has_key (copying_of keyed.first.copying) (keys_seen keyed.first.keys) x && b) (sym (h x))
-        ∙ ap (λ ks. has_key (copying_of keyed.first.copying) ks x && has_key (copying_of second.copying) (keys_seen second.keys) x) (sym e)
-        ∙ ap (λ ks. has_key (copying_of keyed.first.copying) keys x && has_key (copying_of second.copying) ks x) (sym f)
+finds-keyed keyed second allowed old found h g =
+    finds-alike (keys_give (keyed_of keyed)) (both_give (copying_of keyed.first.copying) (copying_of second.copying) (keys_seen keyed.first.keys) (keys_seen second.keys)) allowed old found
+    (λ x. ap (λ b. has_key (copying_of keyed.first.copying) (keys_seen keyed.first.keys) x && b) (sym (h x))) g
 
 -- keys that may be there
 pub finds-some : (o : Option rust_keyed.Keyed) (keyed : rust_keyed.Keyed) (allowed : List ℕ) (old found : List (List ℕ)) → o ≡ Some keyed

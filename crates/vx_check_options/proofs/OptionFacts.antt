@@ -2,7 +2,6 @@
 use Rattle.std.proofs.Common.{Vec, Global, ◌≡◌, ◌≤◌, ◌<◌, ◌-◌, ◌==◌, ℕ, suc, Bool, true, false, cond, List, [], ◌∷◌, ◌++◌, map, length, take, drop, get_or, set, refl, sym, ap, ◌∙◌, arith, length-drop, Option, Some, None, option_map}
 use Rattle.std.specs.Prelude.{is_some}
 use Rattle.std.specs.List.{list_any, filter}
-use Rattle.std.proofs.lemmas.Bool.{eqb-true}
 use Rattle.std.proofs.lemmas.List.{take_all, drop-map, map-append}
 use Rattle.vx_plan_nodes.specs.Plan.{Part}
 use Rattle.vx_check_rules.specs.Rules.{contains, rises_by}
@@ -31,6 +30,13 @@ narrowed-long (c ∷ cs) (v ∷ vs) h = by (contains v.items c) (narrowed cs (ma
     by true (Some more) f h = let l = f refl in omega (arith, l)
     by true None f h = cc
     by false o f h = cc
+
+pub narrowed-short : (cols : List ℕ) (vs : List (Vec ℕ Global)) → length vs < length cols → false ≡ is_some (narrowed cols (map (λ (v : Vec ℕ Global). v.items) vs))
+narrowed-short cols vs short = by (is_some (narrowed cols (map (λ (v : Vec ℕ Global). v.items) vs))) (narrowed-long cols vs)
+  where
+    by : (b : Bool) → (b ≡ true → length cols ≤ length vs) → false ≡ b
+    by true long = let l = long refl in absurd (omega (arith, l, short))
+    by false long = refl
 
 -- ---- lists that are put together
 
@@ -66,9 +72,6 @@ first-within (w ∷ ws) [] l same = cc
 first-within (w ∷ ws) (f ∷ fs) l same = omega arith
 
 -- ---- whether a list is empty
-
-pub empty-length : {X : Type 0} (xs : List X) (n : ℕ) (b : Bool) → n ≡ length xs → b ≡ (n == 0) → b ≡ true → length xs ≡ 0
-empty-length xs n b e f h = let zero_is = eqb-true n 0 (sym f ∙ h) in omega (arith, e, zero_is)
 
 pub some-length : {X : Type 0} (xs : List X) (n : ℕ) (b : Bool) → n ≡ length xs → b ≡ (n == 0) → b ≡ false → 0 < length xs
 some-length [] n b e f h = let is : n ≡ 0 = e in let yes : (n == 0) ≡ true = rw is refl in cc

@@ -5,13 +5,13 @@ use Rattle.std.proofs.Math.Numerals.{add-one}
 use Rattle.std.proofs.Math.Seq.{drop-cons}
 use Rattle.std.specs.List.{list_any, filter, find}
 use Rattle.std.specs.Prelude.{is_some}
-use Rattle.vx_values.specs.Lists.{is_some_list}
 use Rattle.vx_relations.specs.Relation.{Relation}
 use Rattle.vx_plan_nodes.specs.Plan.{Route, Part, routed, Plan, size, is_one}
+use Rattle.vx_plan_nodes.specs.declared.typed.Part as rust_part
+use Rattle.vx_plan_nodes.specs.Outline.{part_of}
 use Rattle.vx_check_rules.specs.Refusal.{or_else}
 use Rattle.vx_check_options.specs.Options.{routed_by, same_part, with_part, with_parts, is_routed, most_telling, gives_part}
 use Rattle.vx_check_options.specs.Placed.{first_two, is_given}
-use Rattle.vx_check_options.proofs.PlacedParts.{filter-some}
 
 pub part-added : (parts : List Part) (q : Part) → list_any (same_part q) parts ≡ false → parts ++ q ∷ [] ≡ with_part parts q
 part-added parts q e = rw e refl
@@ -46,31 +46,19 @@ routed-some r (v ∷ vs) some = ap (λ more. routed r v.items ∷ more) (compose
 
 -- ---- the parts that tell the most
 
-filter-none : (xs : List Part) → list_any is_routed xs ≡ false → filter is_routed xs ≡ []
-filter-none [] h = refl
-filter-none (x ∷ xs) h = by (is_routed x) (filter-none xs) h
+routed-kept : (ps : List rust_part.Part) → map part_of (filter (λ p. is_routed (part_of p)) ps) ≡ filter is_routed (map part_of ps)
+routed-kept [] = refl
+routed-kept (p ∷ ps) = by (is_routed (part_of p)) (routed-kept ps)
   where
-    by : (b : Bool) → (list_any is_routed xs ≡ false → filter is_routed xs ≡ []) → (b || list_any is_routed xs) ≡ false → cond b (x ∷ filter is_routed xs) (filter is_routed xs) ≡ []
-    by true f h = cc
-    by false f h = f h
+    by : (b : Bool) → map part_of (filter (λ r. is_routed (part_of r)) ps) ≡ filter is_routed (map part_of ps) → map part_of (cond b (p ∷ filter (λ r. is_routed (part_of r)) ps) (filter (λ r. is_routed (part_of r)) ps)) ≡ cond b (part_of p ∷ filter is_routed (map part_of ps)) (filter is_routed (map part_of ps))
+    by true e = ap (λ more. part_of p ∷ more) e
+    by false e = e
 
-some-parts : (xs : List Part) → is_some_list xs ≡ true → length xs ≡ 0 → ⊥
-some-parts [] h e = cc
-some-parts (x ∷ xs) h e = cc
+pub telling-routed : (ps kept : List rust_part.Part) (b : Bool) → kept ≡ filter (λ p. is_routed (part_of p)) ps → b ≡ list_any is_routed (map part_of ps) → b ≡ true → map part_of kept ≡ most_telling (map part_of ps)
+telling-routed ps kept b are is some = ap (map part_of) are ∙ routed-kept ps ∙ ap (λ c. cond c (filter is_routed (map part_of ps)) (map part_of ps)) (sym some ∙ is)
 
-pub telling-none : (xs : List Part) → length (filter is_routed xs) ≡ 0 → xs ≡ most_telling xs
-telling-none xs e = by (list_any is_routed xs) refl
-  where
-    by : (b : Bool) → list_any is_routed xs ≡ b → xs ≡ cond b (filter is_routed xs) xs
-    by true h = absurd (some-parts (filter is_routed xs) (filter-some is_routed xs h) e)
-    by false h = refl
-
-pub telling-some : (xs : List Part) → 0 < length (filter is_routed xs) → filter is_routed xs ≡ most_telling xs
-telling-some xs l = by (list_any is_routed xs) refl
-  where
-    by : (b : Bool) → list_any is_routed xs ≡ b → filter is_routed xs ≡ cond b (filter is_routed xs) xs
-    by true h = refl
-    by false h = absurd (let e = ap length (filter-none xs h) in omega (arith, e, l))
+pub telling-all : (ps : List rust_part.Part) (b : Bool) → b ≡ list_any is_routed (map part_of ps) → b ≡ false → map part_of ps ≡ most_telling (map part_of ps)
+telling-all ps b is none = ap (λ c. cond c (filter is_routed (map part_of ps)) (map part_of ps)) (sym none ∙ is)
 
 -- ---- the first parts with which a node shows its own
 

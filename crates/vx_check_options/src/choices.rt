@@ -4,11 +4,14 @@ ghost use Rattle.std.specs.Prelude.{◌≡◌, ◌++◌, true, map, IfOk, OnOk};
 ghost use Rattle.std.specs.List.{filter};
 ghost use Rattle.vx_relations.specs.Catalog.{are_distinct};
 ghost use Rattle.vx_plan_nodes.specs.Describe.{source};
+ghost use Rattle.vx_plan_nodes.specs.Phases.{first_columns};
 ghost use Rattle.vx_plan_nodes.specs.DescribeView.{copying_of};
 ghost use Rattle.vx_check_rules.specs.Rules.{contains, within, covers};
 ghost use Rattle.vx_check_rules.specs.Behaviour.{is_column};
+ghost use Rattle.vx_check_options.specs.Seen.{columns_seen};
 ghost use Rattle.vx_check_options.specs.FoundKeys.{with_key, with_column, choices_of, IsChoice, IsMet, Finds};
 
+use crate::columns::Columns;
 use crate::copies::Lists;
 use std::alloc::{AllocError, Global};
 use vx_check_rules::{CopiedKeys, KeysSeen};
@@ -17,19 +20,12 @@ use vx_plan_nodes::Copying;
 /// So many keys of a node are looked for. A plan that claims more keeps them.
 pub const MAX_KEYS: usize = 16;
 
-/// Whether the column is one of these.
-pub fn contains(columns: &[usize], column: usize) -> bool
-    ensures { result ≡ contains columns.now column }
-{
-    columns.contains(&column)
-}
-
 // Whether each of the columns is among the others.
 fn is_within(columns: &[usize], others: &[usize]) -> bool
     ensures { result ≡ within columns.now others.now }
 {
     for column in columns {
-        if !contains(others, *column) {
+        if !others.contains(column) {
             return false;
         }
     }
@@ -64,43 +60,42 @@ fn with_column(alloc: Global, columns: &[usize], column: usize) -> Result<Vec<us
     ensures { IfOk result (λ v. v.items ≡ with_column columns.now column) }
 {
     let mut longer = Vec::from_slice(alloc, columns)?;
-    if !contains(columns, column) {
+    if !columns.contains(&column) {
         longer.push(column)?;
     }
     Ok(longer)
 }
 
-// The copies of the input column among the allowed columns.
-#[tactic(auto, using(crate::proofs::CopyLists::is_source))]
+// The copies of the input column among the first columns, so many.
 fn copies_among(
     alloc: Global,
     copying: Copying<'_>,
-    allowed: &[usize],
+    width: usize,
     input: usize,
 ) -> Result<Vec<usize>, AllocError>
-    ensures { IfOk result (λ v. v.items ≡ filter (λ d. is_column (source (copying_of copying.entry) d) input) allowed.now) }
+    ensures { IfOk result (λ v. v.items ≡ filter (λ d. is_column (source (copying_of copying.entry) d) input) (first_columns width)) }
 {
     let mut copies = Vec::new(alloc);
-    for column in allowed {
-        if copying.source(*column) == Some(input) {
-            copies.push(*column)?;
+    for column in 0..width {
+        if copying.source(column) == Some(input) {
+            copies.push(column)?;
         }
     }
     Ok(copies)
 }
 
-/// Puts the allowed copies of each column of the key behind the choices that are there.
+/// Puts the copies of each column of the key, among the first columns of an output, behind the choices that are there.
 pub fn put_choices(
     alloc: Global,
     choices: &mut Lists,
     copying: Copying<'_>,
-    allowed: &[usize],
-    key: &[usize],
+    width: usize,
+    key: Columns<'_>,
 ) -> Result<(), AllocError>
-    ensures { OnOk result (map (λ k. k.items) choices.new.items ≡ map (λ k. k.items) choices.old.items ++ choices_of (copying_of copying.entry) allowed.now key.now) }
+    ensures { OnOk result (map (λ k. k.items) choices.new.items ≡ map (λ k. k.items) choices.old.items ++ choices_of (copying_of copying.entry) (first_columns width) (columns_seen key.entry)) }
 {
-    for input in key {
-        choices.push(copies_among(alloc, copying, allowed, *input)?)?;
+    for place in 0..key.len() {
+        choices.push(copies_among(alloc, copying, width, key.at(place))?)?;
     }
     Ok(())
 }

@@ -13,11 +13,12 @@ ghost use Rattle.vx_check_options.specs.OptionsView.{IsAbsent};
 ghost use Rattle.vx_check_options.specs.Claimed.{note, keys_at, FoundAt, IsClaimed, reversed_claims, names_keys, names_keys_at};
 
 use crate::choices::are_covered;
+use crate::columns::Columns;
 use crate::keys::found_keys;
 use crate::options::{Options, absent, options_at};
 use crate::parts::is_alone;
 use crate::placing::{
-    Placement, part_sent, parts_below, place_left, place_right, wanted_below, wanted_sent,
+    Placement, part_sent, parts_below, wanted_below, wanted_left, wanted_right, wanted_sent,
 };
 use std::alloc::{AllocError, Global};
 use vx_check_rules::{CopiedKeys, KeysSeen};
@@ -54,7 +55,7 @@ fn place_below(
         alloc,
         part,
         described.copying,
-        wanted,
+        Columns::Listed(wanted),
         below.choices.as_slice(),
     )
 }
@@ -88,9 +89,12 @@ fn places_below(
         lefts.parts.as_slice(),
         rights.parts.as_slice(),
     );
-    let order = place.order.as_slice();
-    let first = place_left(alloc, operator, first, order, lefts.choices.as_slice())?;
-    let second = place_right(alloc, operator, second, rights.choices.as_slice())?;
+    let order = wanted_left(operator, place.order.as_slice());
+    let choices = lefts.choices.as_slice();
+    let first = Placement::along(alloc, first, Copying::WholeRows, order, choices)?;
+    let order = wanted_right(operator);
+    let choices = rights.choices.as_slice();
+    let second = Placement::along(alloc, second, Copying::WholeRows, order, choices)?;
     Ok((first, second))
 }
 
@@ -114,7 +118,13 @@ fn place_sent(
     let merge = exchange.merge.as_slice();
     let wanted = wanted_sent(&exchange.kind, is_alone(input), merge, order);
     let choices = below.choices.as_slice();
-    Placement::along(alloc, part, Copying::WholeRows, wanted, choices)
+    Placement::along(
+        alloc,
+        part,
+        Copying::WholeRows,
+        Columns::Listed(wanted),
+        choices,
+    )
 }
 
 // The keys of the claim at this place; none where there is none.
@@ -224,7 +234,7 @@ fn first_place(
         alloc,
         options.parts.first(),
         Copying::WholeRows,
-        &[],
+        Columns::Listed(&[]),
         choices,
     )
 }

@@ -46,11 +46,7 @@ pub fn add_copies(
 pub fn copied(alloc: Global, lists: &[Vec<usize>]) -> Result<Lists, AllocError>
     ensures { IfOk result (λ v. map (λ k. k.items) v.items ≡ map (λ k. k.items) lists.now) }
 {
-    let mut copied = Vec::new(alloc);
-    for list in lists {
-        copied.push(Vec::from_slice(alloc, list.as_slice())?)?;
-    }
-    Ok(copied)
+    Vec::from_clones(alloc, lists)
 }
 
 // Puts the lists with this column in front behind those that are there.
@@ -63,9 +59,8 @@ fn add_in_front(
     ensures { OnOk result (map (λ v. v.items) found.new.items ≡ map (λ v. v.items) found.old.items ++ map (λ ds. column ∷ ds) (map (λ v. v.items) lists.now)) }
 {
     for list in lists {
-        let mut longer = Vec::new(alloc);
-        longer.push(column)?;
-        longer.extend_from_slice(list.as_slice())?;
+        let mut longer = Vec::from_slice(alloc, list.as_slice())?;
+        longer.insert(0, column)?;
         found.push(longer)?;
     }
     Ok(())

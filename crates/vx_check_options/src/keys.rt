@@ -1,6 +1,6 @@
 //! The keys that a node can claim, by any keys of its inputs.
 
-ghost use Rattle.std.specs.Prelude.{◌≡◌, ℕ, ◌==◌, List, ◌∷◌, [], ◌++◌, true, not, map, length, option_map, option_to_list, IfOk, OnOk};
+ghost use Rattle.std.specs.Prelude.{◌≡◌, ◌<◌, ℕ, ◌==◌, List, ◌∷◌, [], true, not, map, length, slice_index_or, option_map, option_to_list, IfOk, OnOk};
 ghost use Rattle.std.specs.List.{list_all, filter};
 ghost use Rattle.vx_relations.specs.Catalog.{relation_at};
 ghost use Rattle.vx_plan_nodes.specs.Phases.{first_columns};
@@ -11,77 +11,64 @@ ghost use Rattle.vx_plan_nodes.specs.Typed.{are_columns};
 ghost use Rattle.vx_plan_nodes.specs.DescribeView.{copying_of};
 ghost use Rattle.vx_check_rules.specs.Behaviour.{has_key, keys_give, keyed_from};
 ghost use Rattle.vx_check_rules.specs.KeyedView.{keys_seen, copied_keys, keyed_of, all_keyed_in};
+ghost use Rattle.vx_check_options.specs.Seen.{columns_seen};
 ghost use Rattle.vx_check_options.specs.FoundKeys.{show, both_give, IsPart, IsKey, IsShown, Finds, KeptKeys, FoundKeys};
 
 use crate::choices::{add_choices, add_key, are_covered, put_choices};
-use crate::copies::{Lists, copied};
+use crate::columns::Columns;
+use crate::copies::Lists;
 use std::alloc::{AllocError, Global};
 use vx_check_rules::{CopiedKeys, Keyed, KeysSeen, keyed_from, show_key};
 use vx_plan_nodes::{Copying, TypedNode, output_types};
-use vx_relations::{Catalog, Relation};
+use vx_relations::Catalog;
 
-// How the columns of a key of each input are copied, and the columns in which copies are looked for.
-#[derive(Clone, Copy)]
-struct Search<'p> {
-    first: Copying<'p>,
-    second: Copying<'p>,
-    allowed: &'p [usize],
-}
-
-// The first columns, so many.
-#[tactic(auto, using(vx_check_rules::proofs::ColumnFacts::first_push))]
-fn first_columns(alloc: Global, count: usize) -> Result<Vec<usize>, AllocError>
-    ensures { IfOk result (λ v. v.items ≡ first_columns count) }
-{
-    let mut columns = Vec::new(alloc);
-    for column in 0..count {
-        columns.push(column)?;
-    }
-    Ok(columns)
-}
-
-// Those that the relation declares.
-fn declared(alloc: Global, relation: &Relation) -> Result<Lists, AllocError>
-    ensures { IfOk result (λ v. map (λ k. k.items) v.items ≡ relation.now.keys) }
-{
-    let mut declared = Vec::new(alloc);
-    for key in 0..relation.key_count() {
-        declared.push(Vec::from_slice(alloc, relation.key(key))?)?;
-    }
-    Ok(declared)
-}
-
-// The keys as lists of columns.
-fn listed(alloc: Global, keys: KeysSeen<'_>) -> Result<Lists, AllocError>
-    ensures { IfOk result (λ v. map (λ k. k.items) v.items ≡ keys_seen keys.entry) }
+// How many keys there are.
+fn key_count(keys: KeysSeen<'_>) -> usize
+    ensures { result ≡ length (keys_seen keys.entry) }
 {
     match keys {
-        KeysSeen::Listed(keys) => copied(alloc, keys),
-        KeysSeen::Declared(relation) => declared(alloc, relation),
-        KeysSeen::First(count) => {
-            let mut keys = Vec::new(alloc);
-            keys.push(first_columns(alloc, count)?)?;
-            Ok(keys)
-        }
+        KeysSeen::Listed(keys) => keys.len(),
+        KeysSeen::Declared(relation) => relation.key_count(),
+        KeysSeen::First(_) => 1,
     }
+}
+
+// The key at this place.
+fn key_at<'p>(keys: KeysSeen<'p>, at: usize) -> Columns<'p>
+    requires { at < length (keys_seen keys) }
+    ensures { columns_seen result ≡ slice_index_or (keys_seen keys.entry) at (columns_seen result) }
+{
+    match keys {
+        KeysSeen::Listed(keys) => Columns::Listed(keys[at].as_slice()),
+        KeysSeen::Declared(relation) => Columns::Listed(relation.key(at)),
+        KeysSeen::First(count) => Columns::First(count),
+    }
+}
+
+// The keys of both inputs, and how many columns an output has.
+#[derive(Clone, Copy)]
+struct Search<'p> {
+    first: CopiedKeys<'p>,
+    second: CopiedKeys<'p>,
+    width: usize,
 }
 
 impl Search<'_> {
     // Adds the keys of copies of all columns of both keys.
     fn add_both(
-        self,
+        &self,
         alloc: Global,
         found: &mut Lists,
-        key: &[usize],
-        other: &[usize],
+        key: Columns<'_>,
+        other: Columns<'_>,
     ) -> Result<(), AllocError>
-        ensures { OnOk result (Finds (IsKey (both_give (copying_of self.entry.first) (copying_of self.entry.second) (key.now ∷ []) (other.now ∷ [])) self.entry.allowed.now)
-            (IsShown (both_give (copying_of self.entry.first) (copying_of self.entry.second) (key.now ∷ []) (other.now ∷ [])) self.entry.allowed.now)
+        ensures { OnOk result (Finds (IsKey (both_give (copying_of self.now.first.copying) (copying_of self.now.second.copying) (columns_seen key.entry ∷ []) (columns_seen other.entry ∷ [])) (first_columns self.now.width))
+            (IsShown (both_give (copying_of self.now.first.copying) (copying_of self.now.second.copying) (columns_seen key.entry ∷ []) (columns_seen other.entry ∷ [])) (first_columns self.now.width))
             (map (λ k. k.items) found.old.items) (map (λ k. k.items) found.new.items)) }
     {
         let mut choices = Vec::new(alloc);
-        put_choices(alloc, &mut choices, self.first, self.allowed, key)?;
-        put_choices(alloc, &mut choices, self.second, self.allowed, other)?;
+        put_choices(alloc, &mut choices, self.first.copying, self.width, key)?;
+        put_choices(alloc, &mut choices, self.second.copying, self.width, other)?;
         // A choice without columns is within no columns.
         if are_covered(choices.as_slice(), &[]) {
             return Ok(());
@@ -89,38 +76,19 @@ impl Search<'_> {
         add_choices(alloc, found, &[], choices.as_slice())
     }
 
-    // The same for the key and each of the other ones.
+    // The same for the key and each of the second input's.
     fn add_beside(
-        self,
+        &self,
         alloc: Global,
         found: &mut Lists,
-        key: &[usize],
-        others: &[Vec<usize>],
+        key: Columns<'_>,
     ) -> Result<(), AllocError>
-        ensures { OnOk result (Finds (IsKey (both_give (copying_of self.entry.first) (copying_of self.entry.second) (key.now ∷ []) (map (λ k. k.items) others.now)) self.entry.allowed.now)
-            (IsShown (both_give (copying_of self.entry.first) (copying_of self.entry.second) (key.now ∷ []) (map (λ k. k.items) others.now)) self.entry.allowed.now)
+        ensures { OnOk result (Finds (IsKey (both_give (copying_of self.now.first.copying) (copying_of self.now.second.copying) (columns_seen key.entry ∷ []) (keys_seen self.now.second.keys)) (first_columns self.now.width))
+            (IsShown (both_give (copying_of self.now.first.copying) (copying_of self.now.second.copying) (columns_seen key.entry ∷ []) (keys_seen self.now.second.keys)) (first_columns self.now.width))
             (map (λ k. k.items) found.old.items) (map (λ k. k.items) found.new.items)) }
     {
-        for other in others {
-            self.add_both(alloc, found, key, other.as_slice())?;
-        }
-        Ok(())
-    }
-
-    // The same for each of the keys.
-    fn add_among(
-        self,
-        alloc: Global,
-        found: &mut Lists,
-        keys: &[Vec<usize>],
-        others: &[Vec<usize>],
-    ) -> Result<(), AllocError>
-        ensures { OnOk result (Finds (IsKey (both_give (copying_of self.entry.first) (copying_of self.entry.second) (map (λ k. k.items) keys.now) (map (λ k. k.items) others.now)) self.entry.allowed.now)
-            (IsShown (both_give (copying_of self.entry.first) (copying_of self.entry.second) (map (λ k. k.items) keys.now) (map (λ k. k.items) others.now)) self.entry.allowed.now)
-            (map (λ k. k.items) found.old.items) (map (λ k. k.items) found.new.items)) }
-    {
-        for key in keys {
-            self.add_beside(alloc, found, key.as_slice(), others)?;
+        for other in 0..key_count(self.second.keys) {
+            self.add_both(alloc, found, key, key_at(self.second.keys, other))?;
         }
         Ok(())
     }
@@ -139,24 +107,24 @@ fn other_keys<'p>(keyed: Keyed<'p>) -> CopiedKeys<'p>
     }
 }
 
-// Adds the keys of these columns.
+// Adds the keys of the first columns, so many.
 fn add_keyed(
     alloc: Global,
     found: &mut Lists,
     keyed: Keyed<'_>,
-    allowed: &[usize],
+    width: usize,
 ) -> Result<(), AllocError>
-    ensures { OnOk result (Finds (IsKey (keys_give (keyed_of keyed.entry)) allowed.now) (IsShown (keys_give (keyed_of keyed.entry)) allowed.now) (map (λ k. k.items) found.old.items) (map (λ k. k.items) found.new.items)) }
+    ensures { OnOk result (Finds (IsKey (keys_give (keyed_of keyed.entry)) (first_columns width)) (IsShown (keys_give (keyed_of keyed.entry)) (first_columns width)) (map (λ k. k.items) found.old.items) (map (λ k. k.items) found.new.items)) }
 {
-    let second = other_keys(keyed);
-    let keys = listed(alloc, keyed.first.keys)?;
-    let others = listed(alloc, second.keys)?;
     let search = Search {
-        first: keyed.first.copying,
-        second: second.copying,
-        allowed,
+        first: keyed.first,
+        second: other_keys(keyed),
+        width,
     };
-    search.add_among(alloc, found, keys.as_slice(), others.as_slice())
+    for key in 0..key_count(keyed.first.keys) {
+        search.add_beside(alloc, found, key_at(keyed.first.keys, key))?;
+    }
+    Ok(())
 }
 
 // Adds the keys of all that are there.
@@ -164,13 +132,13 @@ fn add_all(
     alloc: Global,
     found: &mut Lists,
     keyed: &[Option<Keyed<'_>>],
-    allowed: &[usize],
+    width: usize,
 ) -> Result<(), AllocError>
-    ensures { OnOk result (Finds (IsKey (show (all_keyed_in keyed.now)) allowed.now) (IsShown (show (all_keyed_in keyed.now)) allowed.now) (map (λ k. k.items) found.old.items) (map (λ k. k.items) found.new.items)) }
+    ensures { OnOk result (Finds (IsKey (show (all_keyed_in keyed.now)) (first_columns width)) (IsShown (show (all_keyed_in keyed.now)) (first_columns width)) (map (λ k. k.items) found.old.items) (map (λ k. k.items) found.new.items)) }
 {
     for each in keyed {
         match each {
-            Some(keyed) => add_keyed(alloc, found, *keyed, allowed)?,
+            Some(keyed) => add_keyed(alloc, found, *keyed, width)?,
             None => {}
         }
     }
@@ -241,8 +209,7 @@ pub fn found_keys(
         (length (types_of (relation_at catalog.now) (plan_of node.now))) (map (λ k. k.items) claimed.now) (map (λ k. k.items) v.items)) }
 {
     let keyed = keyed_from(catalog, node, lefts, rights);
-    let columns = first_columns(alloc, output_types(node).len())?;
     let mut found = kept_keys(alloc, &keyed, claimed)?;
-    add_all(alloc, &mut found, &keyed, columns.as_slice())?;
+    add_all(alloc, &mut found, &keyed, output_types(node).len())?;
     Ok(found)
 }

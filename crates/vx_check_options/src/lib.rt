@@ -3,6 +3,7 @@
 
 mod choices;
 mod claiming;
+mod columns;
 mod copies;
 mod keys;
 mod options;

@@ -1,7 +1,8 @@
 //! What the nodes of a plan can claim, from their inputs upwards, and the first node that no claims can save.
 
-ghost use Rattle.std.specs.Prelude.{◌≡◌, ◌&&◌, [], map, option_map, is_some, None, IfOk};
+ghost use Rattle.std.specs.Prelude.{◌≡◌, ℕ, map, option_map, None, IfOk};
 ghost use Rattle.std.specs.List.{list_any};
+ghost use Rattle.vx_relations.specs.Relation.{Relation};
 ghost use Rattle.vx_relations.specs.Catalog.{relation_at};
 ghost use Rattle.vx_plan_nodes.specs.Plan.{any};
 ghost use Rattle.vx_plan_nodes.specs.Outline.{part_of, outline_of, plan_of};
@@ -9,10 +10,10 @@ ghost use Rattle.vx_plan_nodes.specs.Outputs.{HasOutputs};
 ghost use Rattle.vx_check_rules.specs.Rules.{part_gives};
 ghost use Rattle.vx_check_rules.specs.Refusal.{first_failure};
 ghost use Rattle.vx_check_rules.specs.RuleView.{rule_of, refusal_of};
-ghost use Rattle.vx_check_options.specs.Options.{narrowed, parts_at, places_here, can_send, can_order, fit_tests, first_unfit};
+ghost use Rattle.vx_check_options.specs.Options.{parts_at, places_here, can_send, can_order, fit_tests, first_unfit};
 ghost use Rattle.vx_check_options.specs.OptionsView.{CanClaim, IsAbsent, AreInputs, parts_seen};
 
-use crate::choices::contains;
+use crate::columns::Columns;
 use crate::order_choices::{OrderChoices, choices_over, may_begin, narrowed};
 use crate::parts::{is_alone, parts_over};
 use std::alloc::{AllocError, Global};
@@ -79,23 +80,6 @@ fn can_send(catalog: &Catalog, node: &TypedNode, left: &Options, right: &Options
     }
 }
 
-// Whether the inputs of a merge join can be in the order of the pairs that it joins on.
-fn can_merge(on: &[(usize, usize)], lefts: &[Vec<usize>], rights: &[Vec<usize>]) -> bool
-    ensures { result ≡ (is_some (narrowed (map (λ x. x.0) on.now) (map (λ v. v.items) lefts.now)) && is_some (narrowed (map (λ x. x.1) on.now) (map (λ v. v.items) rights.now))) }
-{
-    match on {
-        [] => true,
-        [pair, on @ ..] => match (lefts, rights) {
-            ([left, lefts @ ..], [right, rights @ ..]) => {
-                contains(left.as_slice(), pair.0)
-                    && contains(right.as_slice(), pair.1)
-                    && can_merge(on, lefts, rights)
-            }
-            _ => false,
-        },
-    }
-}
-
 // Whether the inputs can be in the order that the node needs.
 fn can_order(catalog: &Catalog, node: &TypedNode, left: &Options, right: &Options) -> bool
     requires { AreInputs (relation_at catalog.now) (plan_of node.now) left.now right.now }
@@ -103,14 +87,14 @@ fn can_order(catalog: &Catalog, node: &TypedNode, left: &Options, right: &Option
 {
     match node {
         TypedNode::Binary(_, Binary::MergeJoin(on), _, _) => {
-            can_merge(
-                on.as_slice(),
-                left.choices.as_slice(),
-                right.choices.as_slice(),
-            )
+            may_begin(left.choices.as_slice(), Columns::Lefts(on.as_slice()))
+                && may_begin(right.choices.as_slice(), Columns::Rights(on.as_slice()))
         }
         TypedNode::Exchange(_, exchange, _) => {
-            may_begin(left.choices.as_slice(), exchange.merge.as_slice())
+            may_begin(
+                left.choices.as_slice(),
+                Columns::Listed(exchange.merge.as_slice()),
+            )
         }
         _ => true,
     }
@@ -143,7 +127,7 @@ fn unfit_at(
     if !can_order(catalog, node, left, right) {
         return Some(Rule::OrderNeeded);
     }
-    if !may_begin(choices, node.head().claim.order.as_slice()) {
+    if !may_begin(choices, Columns::Listed(node.head().claim.order.as_slice())) {
         return Some(Rule::OrderNotShown);
     }
     None
@@ -172,18 +156,26 @@ fn unfit_from(
     }
 }
 
-// What a node can claim, where its inputs can claim this. These are the parts of the left one at which the node looks.
+// The parts of the left input at which the node looks: an exchange makes its own.
+fn parts_seen<'o>(node: &TypedNode, left: &'o Options, right: &'o Options) -> &'o [Part]
+    ensures { (c : ℕ → Relation) → AreInputs c (plan_of node.now) left.now right.now → map part_of result.now ≡ parts_seen c (plan_of node.now) }
+{
+    match node {
+        TypedNode::Exchange(_, _, _) => right.parts.as_slice(),
+        _ => left.parts.as_slice(),
+    }
+}
+
+// What a node can claim, where its inputs can claim this.
 fn options_over(
     alloc: Global,
     catalog: &Catalog,
     node: &TypedNode,
-    lefts: &[Part],
     left: &Options,
     right: &Options,
 ) -> Result<Options, AllocError>
     requires outputs { HasOutputs (relation_at catalog.now) (outline_of node.now) }
     requires inputs { AreInputs (relation_at catalog.now) (plan_of node.now) left.now right.now }
-    requires lefts { map part_of lefts.now ≡ parts_seen (relation_at catalog.now) (plan_of node.now) }
     ensures { IfOk result (CanClaim (relation_at catalog.now) (plan_of node.now)) }
 {
     let here = choices_over(
@@ -193,8 +185,9 @@ fn options_over(
         left.parts.as_slice(),
         left.choices.as_slice(),
     )?;
-    let order = node.head().claim.order.as_slice();
+    let order = Columns::Listed(node.head().claim.order.as_slice());
     let choices = narrowed(alloc, order, here.as_slice())?;
+    let lefts = parts_seen(node, left, right);
     let parts = parts_over(alloc, catalog, node, lefts, right.parts.as_slice())?;
     let unfit = unfit_from(
         catalog,
@@ -223,21 +216,15 @@ pub fn options_at(
     ensures { IfOk result (CanClaim (relation_at catalog.now) (plan_of node.now)) }
 {
     match node {
-        TypedNode::Scan(_, _) => {
-            options_over(alloc, catalog, node, none.parts.as_slice(), none, none)
-        }
-        TypedNode::Unary(_, _, input) => {
+        TypedNode::Scan(_, _) => options_over(alloc, catalog, node, none, none),
+        TypedNode::Unary(_, _, input) | TypedNode::Exchange(_, _, input) => {
             let left = options_at(alloc, catalog, none, input)?;
-            options_over(alloc, catalog, node, left.parts.as_slice(), &left, none)
+            options_over(alloc, catalog, node, &left, none)
         }
         TypedNode::Binary(_, _, left, right) => {
             let left = options_at(alloc, catalog, none, left)?;
             let right = options_at(alloc, catalog, none, right)?;
-            options_over(alloc, catalog, node, left.parts.as_slice(), &left, &right)
-        }
-        TypedNode::Exchange(_, _, input) => {
-            let left = options_at(alloc, catalog, none, input)?;
-            options_over(alloc, catalog, node, none.parts.as_slice(), &left, none)
+            options_over(alloc, catalog, node, &left, &right)
         }
     }
 }

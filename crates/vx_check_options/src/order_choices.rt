@@ -7,8 +7,10 @@ ghost use Rattle.vx_plan_nodes.specs.Describe.{described};
 ghost use Rattle.vx_plan_nodes.specs.Outline.{part_of, kind_of, unary_of, binary_of, plan_of};
 ghost use Rattle.vx_plan_nodes.specs.DescribeView.{copying_of};
 ghost use Rattle.vx_check_rules.specs.Rules.{rises_by};
+ghost use Rattle.vx_check_options.specs.Seen.{columns_seen};
 ghost use Rattle.vx_check_options.specs.Options.{singles, copies, places_up, places_after, narrowed, or_nowhere, places_over_both, rising, places_sent, places_over};
 
+use crate::columns::Columns;
 use crate::copies::{add_copies, copied};
 use crate::parts::is_alone;
 use std::alloc::{AllocError, Global};
@@ -20,12 +22,12 @@ use vx_relations::Catalog;
 pub type OrderChoices = Vec<Vec<usize>>;
 
 /// Each of these columns alone at its place.
-pub fn singles(alloc: Global, columns: &[usize]) -> Result<OrderChoices, AllocError>
-    ensures { IfOk result (λ v. map (λ v. v.items) v.items ≡ singles columns.now) }
+pub fn singles(alloc: Global, columns: Columns<'_>) -> Result<OrderChoices, AllocError>
+    ensures { IfOk result (λ v. map (λ v. v.items) v.items ≡ singles (columns_seen columns.entry)) }
 {
     let mut choices = Vec::new(alloc);
-    for column in columns {
-        choices.push(Vec::from_slice(alloc, &[*column])?)?;
+    for place in 0..columns.len() {
+        choices.push(Vec::from_slice(alloc, &[columns.at(place)])?)?;
     }
     Ok(choices)
 }
@@ -65,55 +67,34 @@ fn choices_up(
 }
 
 /// Whether an order may begin with these columns.
-pub fn may_begin(choices: &[Vec<usize>], columns: &[usize]) -> bool
-    ensures { result ≡ is_some (narrowed columns.now (map (λ v. v.items) choices.now)) }
+pub fn may_begin(choices: &[Vec<usize>], columns: Columns<'_>) -> bool
+    ensures { result ≡ is_some (narrowed (columns_seen columns.entry) (map (λ v. v.items) choices.now)) }
 {
-    match columns {
-        [] => true,
-        [column, columns @ ..] => match choices {
-            [] => false,
-            [place, choices @ ..] => place.contains(column) && may_begin(choices, columns),
-        },
+    if choices.len() < columns.len() {
+        return false;
     }
+    for place in 0..columns.len() {
+        if !choices[place].contains(&columns.at(place)) {
+            return false;
+        }
+    }
+    true
 }
 
 /// What may stand at each place of an order that begins with these columns; no place where it may not.
 pub fn narrowed(
     alloc: Global,
-    columns: &[usize],
+    columns: Columns<'_>,
     choices: &[Vec<usize>],
 ) -> Result<OrderChoices, AllocError>
-    ensures { IfOk result (λ v. map (λ v. v.items) v.items ≡ or_nowhere (narrowed columns.now (map (λ v. v.items) choices.now))) }
+    ensures { IfOk result (λ v. map (λ v. v.items) v.items ≡ or_nowhere (narrowed (columns_seen columns.entry) (map (λ v. v.items) choices.now))) }
 {
     if !may_begin(choices, columns) {
         return Ok(Vec::new(alloc));
     }
     let mut found = singles(alloc, columns)?;
-    let mut more = copied(alloc, &choices[columns.len()..])?;
-    found.append(&mut more)?;
+    found.extend_from_slice(&choices[columns.len()..])?;
     Ok(found)
-}
-
-/// The columns of a join's pairs that are of the left input.
-pub fn left_columns(alloc: Global, on: &[(usize, usize)]) -> Result<Vec<usize>, AllocError>
-    ensures { IfOk result (λ v. v.items ≡ map (λ x. x.0) on.now) }
-{
-    let mut columns = Vec::new(alloc);
-    for pair in on {
-        columns.push(pair.0)?;
-    }
-    Ok(columns)
-}
-
-/// Those of the right input.
-pub fn right_columns(alloc: Global, on: &[(usize, usize)]) -> Result<Vec<usize>, AllocError>
-    ensures { IfOk result (λ v. v.items ≡ map (λ x. x.1) on.now) }
-{
-    let mut columns = Vec::new(alloc);
-    for pair in on {
-        columns.push(pair.1)?;
-    }
-    Ok(columns)
 }
 
 // Of an operator over two inputs, by the left one's.
@@ -127,10 +108,7 @@ fn choices_over_both(
     match operator {
         Binary::Union => Ok(Vec::new(alloc)),
         Binary::HashJoin(_) => copied(alloc, choices),
-        Binary::MergeJoin(on) => {
-            let columns = left_columns(alloc, on.as_slice())?;
-            narrowed(alloc, columns.as_slice(), choices)
-        }
+        Binary::MergeJoin(on) => narrowed(alloc, Columns::Lefts(on.as_slice()), choices),
     }
 }
 
@@ -193,7 +171,7 @@ fn choices_sent(
         ExchangeKind::Route(_, _, _)
         | ExchangeKind::Round(_)
         | ExchangeKind::Broadcast(_)
-        | ExchangeKind::Gather => singles(alloc, exchange.merge.as_slice()),
+        | ExchangeKind::Gather => singles(alloc, Columns::Listed(exchange.merge.as_slice())),
     }
 }
 
@@ -209,7 +187,7 @@ fn choices_along(
     match described.order {
         OrderAfter::Kept => choices_up(alloc, described.copying, choices),
         OrderAfter::SortedOn(columns) => {
-            let sorted = singles(alloc, columns)?;
+            let sorted = singles(alloc, Columns::Listed(columns))?;
             choices_up(alloc, described.copying, sorted.as_slice())
         }
     }
@@ -226,12 +204,15 @@ pub fn choices_over(
     ensures { IfOk result (λ v. map (λ v. v.items) v.items ≡ places_over (relation_at catalog.now) (plan_of node.now) (map part_of parts.now) (map (λ v. v.items) choices.now)) }
 {
     match node {
-        TypedNode::Scan(_, scan) => singles(alloc, catalog.order_of(scan.relation)),
+        TypedNode::Scan(_, scan) => singles(
+            alloc,
+            Columns::Listed(catalog.order_of(scan.relation)),
+        ),
         TypedNode::Unary(_, operator, _) => choices_along(alloc, operator, choices),
         TypedNode::Binary(_, operator, _, _) => choices_over_both(alloc, operator, choices),
         TypedNode::Exchange(_, exchange, input) => {
             if is_alone(input) {
-                return narrowed(alloc, exchange.merge.as_slice(), choices);
+                return narrowed(alloc, Columns::Listed(exchange.merge.as_slice()), choices);
             }
             choices_sent(alloc, exchange, parts, choices)
         }

@@ -164,30 +164,27 @@ fn is_routed(part: &Part) -> bool
     matches!(part, Part::Routed(_, _))
 }
 
-// The routed ones of these parts.
-fn routed_ones(alloc: Global, parts: &[Part]) -> Result<Parts, AllocError>
-    ensures { IfOk result (λ v. map part_of v.items ≡ filter is_routed (map part_of parts.now)) }
+// Whether one of the parts is routed.
+fn has_routed(parts: &[Part]) -> bool
+    ensures { result ≡ list_any is_routed (map part_of parts.now) }
 {
-    let mut routed = Vec::new(alloc);
     for part in parts {
         if is_routed(part) {
-            routed.push(copied_part(alloc, part)?)?;
+            return true;
         }
     }
-    Ok(routed)
+    false
 }
 
 // Those that tell the most, the first 64: the routed ones, if there are any.
-fn most_telling(alloc: Global, mut parts: Parts) -> Result<Parts, AllocError>
-    ensures { IfOk result (λ v. map part_of v.items ≡ take 64 (most_telling (map part_of parts.items))) }
+fn most_telling(mut parts: Parts) -> Parts
+    ensures { map part_of result.items ≡ take 64 (most_telling (map part_of parts.items)) }
 {
-    let mut routed = routed_ones(alloc, parts.as_slice())?;
-    if routed.is_empty() {
-        parts.truncate(MAX_PARTS);
-        return Ok(parts);
+    if has_routed(parts.as_slice()) {
+        parts.retain(is_routed);
     }
-    routed.truncate(MAX_PARTS);
-    Ok(routed)
+    parts.truncate(MAX_PARTS);
+    parts
 }
 
 // Whether the node shows the part where its inputs have these, or has one worker.
@@ -282,7 +279,7 @@ pub fn parts_over(
     }
     match &node.head().claim.part {
         Part::One | Part::Any => {
-            most_telling(alloc, parts_among(alloc, catalog, node, lefts, rights)?)
+            Ok(most_telling(parts_among(alloc, catalog, node, lefts, rights)?))
         }
         Part::All | Part::Routed(_, _) => part_if_given(alloc, catalog, node, lefts, rights),
     }

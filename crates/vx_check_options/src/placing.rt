@@ -1,19 +1,19 @@
 //! The part and the order of each input under those of a node.
 
-ghost use Rattle.std.specs.Prelude.{◌≡◌, map, find, option_map, option_copied, unwrap_or, IfOk};
+ghost use Rattle.std.specs.Prelude.{◌≡◌, map, find, option_map, slice_get, unwrap_or, IfOk};
 ghost use Rattle.vx_relations.specs.Catalog.{relation_at};
 ghost use Rattle.vx_plan_nodes.specs.Plan.{any};
-ghost use Rattle.vx_plan_nodes.specs.Describe.{Copying as Copies};
+ghost use Rattle.vx_plan_nodes.specs.Describe.{Copying as Copies, whole_rows};
 ghost use Rattle.vx_plan_nodes.specs.DescribeView.{copying_of, order_after_of};
 ghost use Rattle.vx_plan_nodes.specs.Outline.{part_of, claim_of, kind_of, binary_of, outline_of, plan_of};
 ghost use Rattle.vx_plan_nodes.specs.Outputs.{HasOutputs};
-ghost use Rattle.vx_check_rules.specs.Rules.{rises_by};
+ghost use Rattle.vx_check_rules.specs.Rules.{contains, rises_by};
 ghost use Rattle.vx_check_options.specs.Options.{OrderChoices};
+ghost use Rattle.vx_check_options.specs.Seen.{columns_seen};
 ghost use Rattle.vx_check_options.specs.Placed.{next_column, order_along, order_below, left_order, right_order, order_sent, parts_below, part_sent};
 ghost use Rattle.vx_check_options.specs.Claimed.{note};
 
-use crate::choices::contains;
-use crate::order_choices::right_columns;
+use crate::columns::Columns;
 use crate::parts::first_two;
 use std::alloc::{AllocError, Global};
 use vx_check_rules::rises_with_workers;
@@ -35,17 +35,29 @@ impl Drop for Placement {
     }
 }
 
-// The column of an input's order at this place, under this column of the output's order: the one of which that is a copy,
-// if it may stand there, and else the first that may.
-fn next_column(copying: Copying<'_>, column: Option<&usize>, place: &[usize]) -> Option<usize>
-    ensures { result ≡ next_column (copying_of copying.entry) (option_copied column.entry) place.now }
+// Whether the column may stand at this place.
+fn may_stand(place: &[usize], column: usize) -> bool
+    ensures { result ≡ contains place.now column }
 {
-    let Some(column) = column else {
+    place.contains(&column)
+}
+
+// The column of an input's order at this place, under an order of the output: the one of which the column there is a copy,
+// if it may stand there, and else the first that may.
+fn next_column(
+    copying: Copying<'_>,
+    order: Columns<'_>,
+    at: usize,
+    place: &[usize],
+) -> Option<usize>
+    ensures { result ≡ next_column (copying_of copying.entry) (slice_get (columns_seen order.entry) at) place.now }
+{
+    if at >= order.len() {
         return place.first().copied();
-    };
-    let source = copying.source(*column).unwrap_or(0);
+    }
+    let source = copying.source(order.at(at)).unwrap_or(0);
     match place {
-        [first, ..] if !contains(place, source) => Some(*first),
+        [first, ..] if !may_stand(place, source) => Some(*first),
         _ => Some(source),
     }
 }
@@ -54,14 +66,14 @@ fn next_column(copying: Copying<'_>, column: Option<&usize>, place: &[usize]) ->
 fn order_along(
     alloc: Global,
     copying: Copying<'_>,
-    order: &[usize],
+    order: Columns<'_>,
     choices: &[Vec<usize>],
 ) -> Result<Vec<usize>, AllocError>
-    ensures { IfOk result (λ v. v.items ≡ order_along (copying_of copying.entry) order.now (map (λ v. v.items) choices.now)) }
+    ensures { IfOk result (λ v. v.items ≡ order_along (copying_of copying.entry) (columns_seen order.entry) (map (λ v. v.items) choices.now)) }
 {
     let mut columns = Vec::new(alloc);
     for i in 0..choices.len() {
-        let Some(column) = next_column(copying, order.get(i), choices[i].as_slice()) else {
+        let Some(column) = next_column(copying, order, i, choices[i].as_slice()) else {
             return Ok(columns);
         };
         columns.push(column)?;
@@ -83,11 +95,11 @@ impl Placement {
         alloc: Global,
         part: Option<&Part>,
         copying: Copying<'_>,
-        order: &[usize],
+        order: Columns<'_>,
         choices: &[Vec<usize>],
     ) -> Result<Placement, AllocError>
         ensures part { IfOk result (λ r. part_of r.part ≡ unwrap_or (option_map (λ p. part_of p.now) part.entry) any) }
-        ensures order { IfOk result (λ r. r.order.items ≡ order_along (copying_of copying.entry) order.now (map (λ v. v.items) choices.now)) }
+        ensures order { IfOk result (λ r. r.order.items ≡ order_along (copying_of copying.entry) (columns_seen order.entry) (map (λ v. v.items) choices.now)) }
     {
         let order = order_along(alloc, copying, order, choices)?;
         match part {
@@ -176,42 +188,22 @@ pub fn wanted_sent<'p>(
     }
 }
 
-/// What the left input of an operator over two inputs is to claim.
-pub fn place_left(
-    alloc: Global,
-    operator: &Binary,
-    part: Option<&Part>,
-    order: &[usize],
-    choices: &[Vec<usize>],
-) -> Result<Placement, AllocError>
-    ensures part { IfOk result (λ r. part_of r.part ≡ unwrap_or (option_map (λ p. part_of p.now) part.entry) any) }
-    ensures order { IfOk result (λ r. r.order.items ≡ left_order (binary_of operator.now) order.now (map (λ v. v.items) choices.now)) }
+/// What the order of the left input of an operator over two inputs has to begin with, where it can.
+pub fn wanted_left<'p>(operator: &Binary, order: &'p [usize]) -> Columns<'p>
+    ensures { (places : OrderChoices) → order_along whole_rows (columns_seen result) places ≡ left_order (binary_of operator.now) order.now places }
 {
     match operator {
-        Binary::Union => Placement::along(alloc, part, Copying::WholeRows, &[], choices),
-        Binary::HashJoin(_) | Binary::MergeJoin(_) => {
-            Placement::along(alloc, part, Copying::WholeRows, order, choices)
-        }
+        Binary::Union => Columns::Listed(&[]),
+        Binary::HashJoin(_) | Binary::MergeJoin(_) => Columns::Listed(order),
     }
 }
 
-/// What the right input is to claim.
-pub fn place_right(
-    alloc: Global,
-    operator: &Binary,
-    part: Option<&Part>,
-    choices: &[Vec<usize>],
-) -> Result<Placement, AllocError>
-    ensures part { IfOk result (λ r. part_of r.part ≡ unwrap_or (option_map (λ p. part_of p.now) part.entry) any) }
-    ensures order { IfOk result (λ r. r.order.items ≡ right_order (binary_of operator.now) (map (λ v. v.items) choices.now)) }
+/// What the right one's has to begin with.
+pub fn wanted_right(operator: &Binary) -> Columns<'_>
+    ensures { (places : OrderChoices) → order_along whole_rows (columns_seen result) places ≡ right_order (binary_of operator.now) places }
 {
     match operator {
-        Binary::MergeJoin(on) => {
-            let columns = right_columns(alloc, on.as_slice())?;
-            Placement::along(alloc, part, Copying::WholeRows, columns.as_slice(), choices)
-        }
-        Binary::Union | Binary::HashJoin(_) => {
-            Placement::along(alloc, part, Copying::WholeRows, &[], choices)
-        }
+        Binary::MergeJoin(on) => Columns::Rights(on.as_slice()),
+        Binary::Union | Binary::HashJoin(_) => Columns::Listed(&[]),
     }
 }

@@ -1,4 +1,4 @@
-use Rattle.std.proofs.Common.{◌∙◌, ◌≡◌, ℕ, List, [], ◌++◌, map, Some, ap, sym, refl, append_assoc}
+use Rattle.std.proofs.Common.{◌∙◌, ℕ, List, [], ◌++◌, map, ap, sym, refl, append_assoc}
 use Rattle.std.proofs.lemmas.List.{append-nil}
 use Rattle.vx_relations.specs.Catalog.{relation_at}
 use Rattle.vx_plan_nodes.specs.Plan.{Plan, claim}

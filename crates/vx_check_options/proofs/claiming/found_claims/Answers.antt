@@ -2,7 +2,7 @@ use Rattle.std.proofs.Common.{◌≡◌, ◌∙◌, ap, length, arith}
 use Rattle.vx_relations.specs.Catalog.{relation_at}
 use Rattle.vx_plan_nodes.specs.Plan.{Plan, claim}
 use Rattle.vx_plan_nodes.specs.Types.{width}
-use Rattle.vx_plan_nodes.specs.Outline.{claim_of, plan_of}
+use Rattle.vx_plan_nodes.specs.Outline.{plan_of}
 use Rattle.vx_check_rules.proofs.WidthFacts.{types_of-width}
 use Rattle.vx_check_options.proofs.ClaimLists.{claimed-as, claimed-total, claim-within, claim-there}
 use Rattle.vx_check_options.proofs.claiming.found_claims.Goals as goal

@@ -1,4 +1,5 @@
 use Rattle.std.proofs.Common.{List, Option, map, ℕ, Vec, Global}
+use Rattle.vx_plan_nodes.specs.Phases.{first_columns}
 use Rattle.vx_check_rules.specs.declared.keyed.Keyed as rust_keyed
 use Rattle.vx_check_rules.specs.KeyedView.{keyed_in, all_keyed_in}
 use Rattle.vx_check_options.specs.FoundKeys.{show, IsKey, IsShown, Finds}
@@ -8,7 +9,7 @@ use Rattle.vx_check_options.proofs.keys.add_all.Goals.{in-Some+in_ok-add_keyed-i
 
 pub loop-each-preserved : goal.loop-each-preserved
 loop-each-preserved c =
-    let allowed : List ℕ = c.args.allowed.now in
+    let allowed : List ℕ = first_columns c.args.width in
     let items = map (λ (v : Vec ℕ Global). v.items) in
     let here : Finds (IsKey (show (keyed_in c.each-item.result)) allowed) (IsShown (show (keyed_in c.each-item.result)) allowed) (items c.loop-each.found.items) (items c.match-each.found.items) =
     elim c.match-each.branch [

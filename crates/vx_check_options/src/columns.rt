@@ -1,0 +1,41 @@
+//! Columns that are read where they stand.
+
+ghost use Rattle.std.specs.Prelude.{◌≡◌, ◌<◌, length, slice_index_or};
+ghost use Rattle.vx_check_options.specs.Seen.{columns_seen};
+
+/// The columns of a list, those of one input in the pairs of a join, or the first ones.
+#[derive(Clone, Copy)]
+pub enum Columns<'p> {
+    Listed(&'p [usize]),
+    Lefts(&'p [(usize, usize)]),
+    Rights(&'p [(usize, usize)]),
+    /// So many.
+    First(usize),
+}
+
+impl Columns<'_> {
+    /// How many they are.
+    #[tactic(auto, using(crate::proofs::CopyLists::first_length))]
+    pub fn len(self) -> usize
+        ensures { result ≡ length (columns_seen self.entry) }
+    {
+        match self {
+            Columns::Listed(columns) => columns.len(),
+            Columns::Lefts(on) | Columns::Rights(on) => on.len(),
+            Columns::First(count) => count,
+        }
+    }
+
+    /// The column at this place.
+    pub fn at(self, place: usize) -> usize
+        requires { place < length (columns_seen self) }
+        ensures { result ≡ slice_index_or (columns_seen self.entry) place 0 }
+    {
+        match self {
+            Columns::Listed(columns) => columns[place],
+            Columns::Lefts(on) => on[place].0,
+            Columns::Rights(on) => on[place].1,
+            Columns::First(_) => place,
+        }
+    }
+}
