@@ -9,7 +9,7 @@ _volcano() {
     fi
     COMPREPLY=()
     if ((COMP_CWORD == 1)); then
-        mapfile -t COMPREPLY < <(compgen -W "run serial check explain annotate sql why gen help --help --version" -- "$word")
+        mapfile -t COMPREPLY < <(compgen -W "run serial check explain annotate sql why gen bundle help --help --version" -- "$word")
         return
     fi
     case ${COMP_WORDS[1]} in
@@ -21,7 +21,8 @@ _volcano() {
         sql) options='--catalog --plan --dialect --verbose-errors --help' ;;
         why) options='--help' words='C1 C2 C3 C4 C5 C6 C7 C8 C9 C10 C11 C12 K1 K2 K3 K4 K5 K6 K7 K8 K9 P1 P2 P3 P4 P5 P6 P7 P8 P9 P10 P11 P12 P13 V1 V2 V3 V4 V5 V6 X1 X2 X3 X4 X5 X6 X7 X8 X9 X10 X11 X12 X13 X14' ;;
         gen) options='--rows --help' ;;
-        help) words='run serial check explain annotate sql why gen' ;;
+        bundle) options='--threads --stats --help' ;;
+        help) words='run serial check explain annotate sql why gen bundle' ;;
     esac
     case "${COMP_WORDS[1]} $before" in
         *' --catalog' | *' --plan' | 'explain --stats')
@@ -39,7 +40,7 @@ _volcano() {
             mapfile -t COMPREPLY < <(compgen -W 'rounds threads' -- "$word")
             return
             ;;
-        'run --stats')
+        'run --stats' | 'bundle --stats')
             mapfile -t COMPREPLY < <(compgen -W 'table json none' -- "$word")
             return
             ;;

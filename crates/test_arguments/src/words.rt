@@ -80,7 +80,10 @@ volcano run --stats=table --catalog c --plan p --data d => Run(Sources { catalog
 volcano explain --plan p --catalog c --format dot --stats s.json => Draw(Sources { catalog: "c", plan: "p" }, "s.json")
 volcano explain --stats=s.json --plan p --catalog c --format json => nothing
 volcano gen --rows 0 => Generate(0)
-volcano gen --rows=18446744073709551615 => Generate(18446744073709551615)"#;
+volcano gen --rows=18446744073709551615 => Generate(18446744073709551615)
+volcano bundle => Bundle
+volcano bundle --threads=2 => Bundle, 2 threads
+volcano bundle --stats json => Bundle, statistics: json"#;
 
 #[test]
 fn commands_are_there(rt: HostRuntime) -> Result<(), Fail> {
@@ -108,6 +111,9 @@ volcano gen => MissingRequiredArgument
 volcano gen --rows x => ValueValidation
 volcano gen --rows 18446744073709551616 => ValueValidation
 volcano gen --rows 1 many=4 => UnknownArgument
+volcano bundle --mode threads => UnknownArgument
+volcano bundle request.json => UnknownArgument
+volcano --stats json => UnknownArgument
 volcano fly => InvalidSubcommand
 volcano --version => DisplayVersion
 volcano run --help => DisplayHelp"#;

@@ -85,3 +85,7 @@ pub not_whole : (r : Result RunOutcome RunFault) (x : RunOutcome) → r ≡ Ok x
 not_whole r x e u h =
     let whole : IsWhole x = subst (λ (z : Result RunOutcome RunFault). IfOk z IsWhole) e h in
     subst (λ (z : RunOutcome). IsWhole z) u whole
+
+-- no refusal has the status 0
+pub has_status : (e : Refusal) → status_of e ≡ 0 → ⊥
+has_status e zero = grind arith

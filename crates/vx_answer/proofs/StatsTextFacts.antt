@@ -1,12 +1,12 @@
 -- Answers with statistics: what they answer, and when there are none.
 use Rattle.std.proofs.Common.{◌≡◌, ◌⊎◌, ◌∙◌, ℕ, List, map, Bool, Option, Some, None, Result, Ok, Err, [], inl, inr, refl, sym, subst, string_bytes}
-use Rattle.std.specs.Prelude.{IfOk, IfErr}
+use Rattle.std.specs.Prelude.{IfOk, IfErr, IfSome}
 use Rattle.clap.specs.Values.{kind_of}
 use Rattle.clap.specs.Words.{HasKind, IsAmong, Kinds}
 use Rattle.clap.specs.declared.error.Error.{Error}
 use Rattle.clap.specs.declared.error.kind.ErrorKind.{ErrorKind}
 use Rattle.clap.specs.declared.error.kind.ErrorKind.TheVariants as kind
-use Rattle.vx_arguments.specs.Asked.{Ask, Paths, ManyPaths, Given, run, run_plans, stats_by, faults_of}
+use Rattle.vx_arguments.specs.Asked.{Ask, Paths, ManyPaths, Given, bundle, run, run_plans, stats_by, faults_of}
 use Rattle.vx_bundle.specs.declared.command.Command.TheVariants as command
 use Rattle.vx_refusals.specs.declared.refusal.Refusal.{Refusal}
 use Rattle.vx_runs.specs.Promise.{Counting}
@@ -14,16 +14,20 @@ use Rattle.vx_setup.specs.Setting.{Setting}
 use Rattle.vx_bytes.specs.Stored.{Stored}
 use Rattle.vx_stats.specs.declared.text.StatsForm.{StatsForm}
 use Rattle.vx_answer.specs.Arguments.{IsSetting}
-use Rattle.vx_answer.specs.CommandLine.{FileCommand, IsTask, TaskRefuses, AskRefuses, with_program_name, AsksFor, for_no_stats, for_task, for_runs, for_asked_task, arguments_memory}
+use Rattle.vx_answer.specs.CommandLine.{FileCommand, IsTask, TaskRefuses, AskRefuses, with_program_name, AsksFor, for_no_stats, for_bundle, for_task, for_runs, for_asked_task, arguments_memory}
 use Rattle.vx_answer.specs.CommandLineView.{IsHelp, IsAskAnswer, IsAskFault, IsArgumentFault}
 use Rattle.vx_answer.specs.Files.{input_after}
 use Rattle.vx_answer.specs.Plans.{AnswersPlans}
 use Rattle.vx_answer.specs.PlansView.{named_is}
-use Rattle.vx_answer.specs.Stats.{AreTaskStats, ArePlansStats, for_one, for_several}
-use Rattle.vx_answer.specs.StatsView.{answer_with, IsCountedAs, IsUncounted, IsStatsFault}
+use Rattle.vx_answer.specs.Answer.{IsAnswer, AsksForRun}
+use Rattle.vx_answer.specs.Made.{text_in, IfRun, IsRunReport}
+use Rattle.vx_answer.specs.Stats.{AsksForRuns, AreBundleStats, AreTaskStats, ArePlansStats, for_bundle_run, for_one, for_several}
+use Rattle.vx_answer.specs.StatsView.{answer_with, made_with, IsCountedAs, IsUncounted, IsStatsFault}
 use Rattle.vx_answer.specs.declared.command_line.ArgumentAnswer.{ArgumentAnswer}
 use Rattle.vx_answer.specs.declared.command_line.ArgumentAnswer.TheVariants as answer
 use Rattle.vx_answer.specs.declared.command_line.ArgumentFault.{ArgumentFault}
+use Rattle.vx_answer.specs.declared.command.CommandAnswer.{CommandAnswer}
+use Rattle.vx_answer.specs.declared.command.CommandAnswer.TheVariants as made
 use Rattle.vx_answer.specs.declared.stats.RunReport.{RunReport}
 use Rattle.vx_answer.specs.declared.command_line.ArgumentFault.TheVariants as fault
 use Rattle.vx_answer.proofs.CommandLineFacts.{arguments_refused}
@@ -98,6 +102,22 @@ several_reported Counted files input None ask paths folder given s r same set h 
     for_runs paths folder given s same set (plans_stats Counted files input None paths folder s r.text.items (string_bytes r.stats) h)
 several_reported Counted files input (Some f) ask paths folder given s r same set h =
     (for_runs paths folder given s same set (plans_stats Counted files input (Some f) paths folder s r.text.items (string_bytes r.stats) h), for_several paths folder given s same set h)
+
+-- and so does what the command of a bundle made
+pub bundle_reported : (Counted : Counting) (files : List ℕ → Stored) (input : Option (List ℕ)) (f : Option StatsForm) (ask : Ask) (a : CommandAnswer) → ask ≡ bundle
+    → IfSome input (λ bytes. IsAnswer bytes (text_in a)) → IfRun (λ k. IfSome input (λ bytes. AreBundleStats Counted f bytes k.text.items (string_bytes k.stats))) a
+    → IsAskAnswer Counted files input ask (made_with f a)
+bundle_reported Counted files input None ask (made.Text text) same answers reported = for_bundle same answers
+bundle_reported Counted files input None ask (made.Run k) same answers reported = for_bundle same answers
+bundle_reported Counted files input (Some f) ask (made.Text text) same answers reported = for_bundle same answers
+bundle_reported Counted files input (Some f) ask (made.Run k) same answers reported = (for_bundle same answers, for_bundle_run same reported)
+
+-- where it asks for a run, it is the report of one
+pub bundle_runs : (input : Option (List ℕ)) (ask : Ask) (a : CommandAnswer) → ask ≡ bundle → IfSome input (λ bytes. AsksForRun bytes → IsRunReport a) → AsksForRuns input ask → IsRunReport a
+bundle_runs input ask a same runs asks =
+    let P : Option (List ℕ) → Type 0 = λ i. IfSome i (λ bytes. AsksForRun bytes → IsRunReport a) in
+    let asked : AsksForRuns input bundle = subst (λ (x : Ask). AsksForRuns input x) same asks in
+    subst P asked.1 runs asked.2
 
 -- why a task that is a run is refused
 pub run_refused : (files : List ℕ → Stored) (reliable : List ℕ → Bool) (input : Option (List ℕ)) (failed : Bool) (ask : Ask) (paths : Paths) (folder : List ℕ) (given : Given) (s : Setting) (e : Refusal)

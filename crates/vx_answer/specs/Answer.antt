@@ -4,6 +4,7 @@ use Rattle.vx_relations.specs.Naming.{catalog_of}
 use Rattle.vx_plan_nodes.specs.Names.{TypedPlanView}
 use Rattle.vx_plan_json.specs.Reading.{document_in}
 use Rattle.vx_bundle.specs.Bundle.{Bundle, bundle_of_text}
+use Rattle.vx_bundle.specs.declared.command.Command.TheVariants as command
 use Rattle.vx_refusals.specs.declared.refusal.Refusal.{Refusal}
 use Rattle.vx_refusals.specs.declared.refusal.Refusal.TheVariants as refusal
 use Rattle.vx_refusals.specs.Status.{status_of}
@@ -33,6 +34,10 @@ pub data Refuses (b : Bundle) (e : Refusal) : Type 0 where
 -- the text answers these bytes: they are a bundle's, and it answers that
 abbrev pub IsAnswer : List ℕ → List ℕ → Type 0
 IsAnswer bytes text = (b : Bundle) × (bundle_of_text bytes ≡ Some b) × IsOutput b text
+
+-- these bytes are a bundle that asks for a run
+abbrev pub AsksForRun : List ℕ → Type 0
+AsksForRun bytes = (b : Bundle) × (bundle_of_text bytes ≡ Some b) × (b.command ≡ command.Run)
 
 -- no bundle, or why the bundle has no answer
 abbrev pub RefusedAs : Option Bundle → Refusal → Type 0

@@ -1,5 +1,5 @@
 -- What answers arguments, over files and standard input, and why arguments may have no answer. `files`, `reliable`, `input` and `failed` are as in `Files`.
-use Rattle.std.specs.Prelude.{◌≡◌, ◌≢◌, ℕ, ◌+◌, ◌<◌, ◌≤◌, ◌⊎◌, ◌++◌, List, [], ◌∷◌, length, slice_index_or, take, Bool, true, false, Option, Some, None, IfSome, bytes_eq, codes, if◌then◌else◌}
+use Rattle.std.specs.Prelude.{◌≡◌, ◌≢◌, ℕ, ◌+◌, ◌<◌, ◌≤◌, ◌⊎◌, ◌++◌, List, [], ◌∷◌, length, slice_index_or, take, Bool, true, false, Option, Some, None, IfSome, bytes_eq, codes, if◌then◌else◌, ◌||◌, ◌&&◌}
 use Rattle.clap.specs.Words.{IsAmong}
 use Rattle.clap.specs.declared.error.kind.ErrorKind.{ErrorKind}
 use Rattle.clap.specs.declared.error.kind.ErrorKind.TheVariants as kind
@@ -150,9 +150,13 @@ abbrev pub or_table : List ℕ → Option (Option StatsForm) → List ℕ
 or_table argument None = codes "--stats=table"
 or_table argument (Some form) = argument
 
--- an argument of a command before another: `--stats` asks a run for a table where no form of statistics follows it
+-- a command with statistics
+abbrev pub has_stats : List ℕ → Bool
+has_stats command = bytes_eq command (codes "run") || bytes_eq command (codes "bundle")
+
+-- an argument of a command before another: `--stats` asks for a table where no form of statistics follows it
 abbrev pub spelled_out : (command argument next : List ℕ) → List ℕ
-spelled_out command argument next = if bytes_eq command (codes "run") then (if bytes_eq argument (codes "--stats") then or_table argument (stats_named next) else argument) else argument
+spelled_out command argument next = if has_stats command && bytes_eq argument (codes "--stats") then or_table argument (stats_named next) else argument
 
 -- the arguments of a command, spelled out; behind the last one stands the empty word
 abbrev pub spelled : List ℕ → List (List ℕ) → List (List ℕ)

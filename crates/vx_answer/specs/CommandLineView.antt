@@ -1,6 +1,6 @@
 -- What arguments ask for, as it is held; what answers them, and why they have no answer.
 use Rattle.std.specs.Prelude.{◌≡◌, ℕ, ◌⊎◌, List, Bool, Option, Some, string_bytes}
-use Rattle.vx_arguments.specs.Asked.{paths_are, Ask, Paths, ManyPaths, bundle, check_all, explain, draw, annotate, sql, why, generate}
+use Rattle.vx_arguments.specs.Asked.{paths_are, Ask, Paths, ManyPaths, check_all, explain, draw, annotate, sql, why, generate}
 use Rattle.vx_answer.specs.declared.command_line.FileCommand as held
 use Rattle.vx_answer.specs.declared.command_line.AskedJob.{AskedJob}
 use Rattle.vx_answer.specs.declared.command_line.AskedJob.TheVariants as asked_job
@@ -25,7 +25,6 @@ task_is t = record { command = t.command; paths = paths_are t.sources; folder = 
 
 -- a job does what arguments ask for
 abbrev pub IsJob : Ask → AskedJob → Type 0
-IsJob ask asked_job.Bundle = ask ≡ bundle
 IsJob ask (asked_job.Command t) = IsTask ask (task_is t)
 IsJob ask (asked_job.Verdict sources) = ask ≡ check_all (paths_are sources)
 IsJob ask (asked_job.Annotation sources) = ask ≡ annotate (paths_are sources)

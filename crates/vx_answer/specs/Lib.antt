@@ -14,5 +14,6 @@ pub mod CommandLineView
 pub mod Case
 pub mod Plans
 pub mod PlansView
+pub mod Made
 pub mod Stats
 pub mod StatsView

@@ -1,6 +1,7 @@
 -- Statistics of runs: which arguments ask for them, and what standard error gets behind the rows. `files` and `input` are as in `Files`.
 use Rattle.std.specs.Prelude.{◌≡◌, ℕ, ◌++◌, List, [], ◌∷◌, map, Bool, true, false, Option, Some, None, IfSome, option_and_then, Ok, length, codes}
-use Rattle.vx_arguments.specs.Asked.{Ask, ManyPaths, Given, run, run_plans, stats_by}
+use Rattle.vx_arguments.specs.Asked.{Ask, ManyPaths, Given, bundle, run, run_plans, stats_by}
+use Rattle.vx_bundle.specs.Bundle.{Bundle, bundle_of_text}
 use Rattle.vx_bundle.specs.declared.command.Command.TheVariants as command
 use Rattle.vx_setup.specs.Setting.{Setting}
 use Rattle.vx_bytes.specs.Stored.{Stored}
@@ -28,6 +29,8 @@ use Rattle.vx_stats.specs.declared.phases.PhaseTime.{PhaseTime}
 use Rattle.vx_stats.specs.declared.text.StatsForm.{StatsForm}
 use Rattle.vx_tables.specs.Filled.{scans, scanned_below}
 use Rattle.vx_tables.specs.Folder.{holds_at}
+use Rattle.vx_tables.specs.Texts.{holds_in}
+use Rattle.vx_answer.specs.Answer.{IsBundlePlan, AsksForRun}
 use Rattle.vx_answer.specs.Arguments.{IsSetting}
 use Rattle.vx_answer.specs.CommandLine.{FileCommand, IsTask, with_program_name, AsksFor}
 use Rattle.vx_answer.specs.Commands.{Holding, IsShown, IsDatabaseFor}
@@ -45,11 +48,19 @@ stats_of_word word = option_and_then (λ w. option_and_then (λ f. f) (stats_nam
 abbrev pub stats_asked : List (List ℕ) → Option StatsForm
 stats_asked arguments = stats_of_word (stats_by (with_program_name arguments))
 
+-- what is asked for may be a run, or several: of a bundle its command says
+abbrev pub may_run : Ask → Bool
+may_run bundle = true
+may_run (run paths folder given) = true
+may_run (run_plans paths folder given) = true
+may_run _ = false
+
 -- what is asked for is a run, or several
-abbrev pub is_run : Ask → Bool
-is_run (run paths folder given) = true
-is_run (run_plans paths folder given) = true
-is_run _ = false
+abbrev pub AsksForRuns : Option (List ℕ) → Ask → Type 0
+AsksForRuns input bundle = (bytes : List ℕ) × (input ≡ Some bytes) × AsksForRun bytes
+AsksForRuns input (run paths folder given) = Unit {0}
+AsksForRuns input (run_plans paths folder given) = Unit {0}
+AsksForRuns input _ = ⊥
 
 -- the phases of what several plans have in common, before the write
 abbrev pub shared_phases : List WorkPhase
@@ -90,6 +101,18 @@ module _ (Counted : Counting) where
     pub shown : IsShown (resolved_of plan)
     pub counted : IsCountedPlan f plan (holds_at files t.folder) t.setting (work_phase.Read ∷ work_phase.Plan ∷ work_phase.Check ∷ []) text opening
 
+  -- the same of the run that a bundle asks for: these phases came before, then plan, check, load and run
+  pub record IsBundleRun (f : Option StatsForm) (b : Bundle) (before : List WorkPhase) (text opening : List ℕ) : Type 0 where
+    pub runs : b.command ≡ command.Run
+    pub plan : TypedPlan
+    pub planned : IsBundlePlan b (resolved_of plan)
+    pub shown : IsShown (resolved_of plan)
+    pub counted : IsCountedPlan f plan (holds_in b.tables) b.setting (before ++ (work_phase.Plan ∷ work_phase.Check ∷ [])) text opening
+
+  -- and of the bundle in these bytes, which were read before
+  abbrev pub AreBundleStats : Option StatsForm → (bytes text opening : List ℕ) → Type 0
+  AreBundleStats f bytes text opening = (b : Bundle) × (bundle_of_text bytes ≡ Some b) × IsBundleRun f b (work_phase.Read ∷ []) text opening
+
   -- to a text and to statistics came those of one more counted run, each behind the line with its path
   pub record IsRunMore (f : Option StatsForm) (db : Database) (setting : Setting) (n : AcceptedPlan) (text stats grown reported : List ℕ) : Type 0 where
     pub own : List ℕ
@@ -124,6 +147,7 @@ module _ (Counted : Counting) where
 
   -- statistics, up to the time of the write, of the runs that are asked for, with this text
   pub data AreAskStats (files : List ℕ → Stored) (input : Option (List ℕ)) (f : StatsForm) (ask : Ask) (text opening : List ℕ) : Type 0 where
+    for_bundle_run : ask ≡ bundle → IfSome input (λ bytes. AreBundleStats (Some f) bytes text opening) → AreAskStats files input f ask text opening
     for_one : (t : FileCommand) → IsTask ask t → t.command ≡ command.Run → AreTaskStats files input (Some f) t text opening → AreAskStats files input f ask text opening
     for_several : (paths : ManyPaths) (folder : List ℕ) (given : Given) (s : Setting) → ask ≡ run_plans paths folder given → IsSetting given s → ArePlansStats files input (Some f) paths folder s text opening
         → AreAskStats files input f ask text opening

@@ -8,11 +8,18 @@ use Rattle.vx_answer.specs.declared.command_line.ArgumentFault.TheVariants as fa
 use Rattle.vx_refusals.specs.declared.refusal.Refusal.TheVariants as refusal
 use Rattle.vx_answer.specs.StatsNames.{stats_named}
 use Rattle.vx_answer.specs.declared.stats.RunReport.{RunReport}
+use Rattle.vx_answer.specs.declared.command.CommandAnswer.{CommandAnswer}
+use Rattle.vx_answer.specs.declared.command.CommandAnswer.TheVariants as made
 
 -- the answer that a report of runs is: with statistics, where they are asked for
 abbrev pub answer_with : Option StatsForm → RunReport → ArgumentAnswer
 answer_with None r = answer.Text r.text
 answer_with (Some f) r = answer.Counted (record { text = r.text; form = f; opening = r.stats })
+
+-- the answer that what a command made is
+abbrev pub made_with : Option StatsForm → CommandAnswer → ArgumentAnswer
+made_with f (made.Text text) = answer.Text text
+made_with f (made.Run report) = answer_with f report
 
 -- an answer with statistics in this form
 abbrev pub IsCountedAs : StatsForm → ArgumentAnswer → Type 0

@@ -4,11 +4,14 @@ ghost use Rattle.std.specs.Prelude.{◌≡◌, true, Some, None, IfOk, IfErr};
 ghost use Rattle.vx_arguments.specs.Asked.{asked_is};
 ghost use Rattle.vx_stats.specs.declared.text.StatsForm.{StatsForm};
 ghost use Rattle.vx_answer.specs.CommandLineView.{IsAskAnswer, IsAskFault};
-ghost use Rattle.vx_answer.specs.Stats.{is_run};
-ghost use Rattle.vx_answer.specs.StatsView.{answer_with, IsCountedAs, IsUncounted};
+ghost use Rattle.vx_answer.specs.Made.{IsRunReport};
+ghost use Rattle.vx_answer.specs.Stats.{AsksForRuns};
+ghost use Rattle.vx_answer.specs.StatsView.{answer_with, made_with, IsCountedAs, IsUncounted};
 
 use crate::arguments::setting_in;
+use crate::command::CommandAnswer;
 use crate::command_line::{ArgumentAnswer, ArgumentFault, answer_plain, usage_error, usage_text};
+use crate::program::outcome_of;
 use crate::runs::run_plans;
 use crate::session::Session;
 use crate::stats::{CountedText, RunReport, run_task};
@@ -36,6 +39,18 @@ fn answer_of(form: Option<StatsForm>, report: RunReport) -> ArgumentAnswer
     }
 }
 
+// The answer that what a command made is.
+fn answer_made(form: Option<StatsForm>, made: CommandAnswer) -> ArgumentAnswer
+    ensures is { result ≡ made_with form made }
+    ensures no_stats { form ≡ None → IsUncounted result }
+    ensures stats { (f : StatsForm) → form ≡ Some f → IsRunReport made → IsCountedAs f result }
+{
+    match made {
+        CommandAnswer::Text(text) => ArgumentAnswer::Text(text),
+        CommandAnswer::Run(report) => answer_of(form, report),
+    }
+}
+
 /// What answers what arguments ask for. Runs are answered with statistics in this form, if there is one.
 pub fn answer_asked<T: Threads + Wait + Sync, R: Runs, C: Clock, F: Store, I: ByteIn>(
     session: &Session<'_, T, R, C>,
@@ -46,11 +61,15 @@ pub fn answer_asked<T: Threads + Wait + Sync, R: Runs, C: Clock, F: Store, I: By
 ) -> Result<ArgumentAnswer, ArgumentFault>
     ensures answer { IfOk result (λ a. IsAskAnswer (R.counted session.now.engine.now) (F.holds files.now) (I.remaining input.old) (asked_is asked.now) a) }
     ensures no_stats { form ≡ None → IfOk result IsUncounted }
-    ensures stats { (f : StatsForm) → form ≡ Some f → is_run (asked_is asked.now) ≡ true → IfOk result (IsCountedAs f) }
+    ensures stats { (f : StatsForm) → form ≡ Some f → AsksForRuns (I.remaining input.old) (asked_is asked.now) → IfOk result (IsCountedAs f) }
     ensures refused { IfErr result (IsAskFault (F.holds files.now) (F.is_reliable files.now) (I.remaining input.old) (I.has_failed input.new) (asked_is asked.now)) }
 {
     let alloc = session.alloc;
     match asked {
+        Asked::Bundle => {
+            let made = outcome_of(session, input, form)?;
+            Ok(answer_made(form, made))
+        }
         Asked::Run(sources, folder, given) => {
             let Some(setting) = setting_in(alloc, given)? else {
                 return Err(usage_error(alloc, usage_text(asked)));

@@ -1,11 +1,15 @@
 //! The answer to a bundle, over values: no byte is read or written here.
 
-ghost use Rattle.std.specs.Prelude.{IfOk, IfErr};
+ghost use Rattle.std.specs.Prelude.{◌≡◌, string_bytes, IfOk, IfErr};
 ghost use Rattle.vx_bundle.specs.BundleView.{bundle_form};
+ghost use Rattle.vx_bundle.specs.declared.command.Command.TheVariants as command;
 ghost use Rattle.vx_plan_nodes.specs.TypedView.{resolved_of};
-ghost use Rattle.vx_answer.specs.Answer.{IsBundlePlan, IsBundlePlanRefusal, IsOutput, Refuses, IsAnswer, IsRefused};
+ghost use Rattle.vx_stats.specs.Phases.{phases_of, times_in};
+ghost use Rattle.vx_answer.specs.Answer.{IsBundlePlan, IsBundlePlanRefusal, IsOutput, Refuses, IsAnswer, IsRefused, AsksForRun};
+ghost use Rattle.vx_answer.specs.Made.{text_in, IfRun, IsRunReport};
+ghost use Rattle.vx_answer.specs.Stats.{IsBundleRun, AreBundleStats};
 
-use crate::command::execute;
+use crate::command::{CommandAnswer, execute};
 use crate::session::Session;
 use std::alloc::Global;
 use std::sync::Wait;
@@ -16,6 +20,7 @@ use vx_catalog::Catalog;
 use vx_plan::{Plan, TypedPlan, resolve};
 use vx_refusals::Refusal;
 use vx_runs::Runs;
+use vx_stats::{StatsForm, Timer, WorkPhase};
 
 // The plan of a bundle over the bundle's catalog.
 fn plan_from_bundle(alloc: Global, bundle: &Bundle<'_>) -> Result<TypedPlan, Refusal>
@@ -27,31 +32,43 @@ fn plan_from_bundle(alloc: Global, bundle: &Bundle<'_>) -> Result<TypedPlan, Ref
     Ok(resolve(alloc, &plan, &catalog)?)
 }
 
-// The text that answers a bundle.
+// What answers a bundle. The phases that came before are in the timer.
 fn answer_bundle<T: Threads + Wait + Sync, R: Runs, C: Clock>(
     session: &Session<'_, T, R, C>,
     bundle: &Bundle<'_>,
-) -> Result<Vec<u8>, Refusal>
-    ensures text { IfOk result (λ text. IsOutput (bundle_form bundle.now) text.items) }
+    form: Option<StatsForm>,
+    timer: &mut Timer,
+) -> Result<CommandAnswer, Refusal>
+    ensures text { IfOk result (λ a. IsOutput (bundle_form bundle.now) (text_in a)) }
+    ensures run { IfOk result (IfRun (λ k. IsBundleRun (R.counted session.now.engine.now) form (bundle_form bundle.now) (phases_of (times_in timer.old)) k.text.items (string_bytes k.stats))) }
+    ensures runs { (bundle_form bundle.now).command ≡ command.Run → IfOk result IsRunReport }
     ensures refused { IfErr result (λ e. Refuses (bundle_form bundle.now) e) }
 {
     let plan = plan_from_bundle(session.alloc, bundle)?;
-    execute(session, bundle.command(), bundle, bundle.setting(), plan)
+    timer.end(session.clock, WorkPhase::Plan)?;
+    let (command, setting) = (bundle.command(), bundle.setting());
+    execute(session, command, bundle, setting, plan, form, timer)
 }
 
-/// The text that answers a bundle's bytes, before a byte of it is written.
+/// What answers a bundle's bytes, before a byte of it is written. The statistics of its run, if its command is one and they are asked
+/// for, are those up to the time that the write takes.
 pub fn answer_bytes<T: Threads + Wait + Sync, R: Runs, C: Clock>(
     session: &Session<'_, T, R, C>,
     bytes: &[u8],
-) -> Result<Vec<u8>, Refusal>
-    ensures text { IfOk result (λ text. IsAnswer bytes.now text.items) }
+    form: Option<StatsForm>,
+) -> Result<CommandAnswer, Refusal>
+    ensures text { IfOk result (λ a. IsAnswer bytes.now (text_in a)) }
+    ensures run { IfOk result (IfRun (λ k. AreBundleStats (R.counted session.now.engine.now) form bytes.now k.text.items (string_bytes k.stats))) }
+    ensures runs { AsksForRun bytes.now → IfOk result IsRunReport }
     ensures refused { IfErr result (λ e. IsRefused bytes.now e) }
 {
+    let mut timer = Timer::start(session.alloc, session.clock);
     let Some(value) = value_of_text(session.alloc, bytes)? else {
         return Err(Refusal::BadBundle);
     };
     let Some(bundle) = bundle_in(session.alloc, &value)? else {
         return Err(Refusal::BadBundle);
     };
-    answer_bundle(session, &bundle)
+    timer.end(session.clock, WorkPhase::Read)?;
+    answer_bundle(session, &bundle, form, &mut timer)
 }

@@ -1,14 +1,17 @@
 //! What a command makes of a plan over tables.
 
-ghost use Rattle.std.specs.Prelude.{◌≡◌, IfOk, IfErr};
+ghost use Rattle.std.specs.Prelude.{◌≡◌, ◌++◌, ◌∷◌, [], string_bytes, IfOk, IfErr};
 ghost use Rattle.vx_plan_nodes.specs.TypedView.{resolved_of};
-ghost use Rattle.vx_bundle.specs.declared.command.Command.TheVariants as command;
 ghost use Rattle.vx_check_rules.specs.CheckedView.{typed_plan};
+ghost use Rattle.vx_stats.specs.Phases.{phases_of, times_in};
+ghost use Rattle.vx_stats.specs.declared.phases.WorkPhase.TheVariants as work_phase;
 ghost use Rattle.vx_answer.specs.Commands.{IsShown, IsNotShown, IsResultOf, CommandRefuses};
+ghost use Rattle.vx_answer.specs.Made.{text_in, IfRun, IsRunReport};
+ghost use Rattle.vx_answer.specs.Stats.{IsCountedPlan};
 
 use crate::serial::serial_plan;
 use crate::session::Session;
-use crate::stats::run_plan;
+use crate::stats::{RunReport, run_checked};
 use std::sync::Wait;
 use std::thread::Threads;
 use std::time::Clock;
@@ -18,8 +21,28 @@ use vx_plan::TypedPlan;
 use vx_refusals::Refusal;
 use vx_runs::Runs;
 use vx_setup::Setting;
-use vx_stats::Timer;
+use vx_stats::{StatsForm, Timer};
 use vx_tables::Tables;
+
+/// What a command makes of a plan over tables.
+#[derive(Drop)]
+pub enum CommandAnswer {
+    Text(Vec<u8>),
+    /// Of a run, with its statistics if they are asked for.
+    Run(RunReport),
+}
+
+impl CommandAnswer {
+    /// The text alone.
+    pub fn into_text(self) -> Vec<u8>
+        ensures { result.items ≡ text_in self }
+    {
+        match self {
+            CommandAnswer::Text(text) => text,
+            CommandAnswer::Run(report) => report.text,
+        }
+    }
+}
 
 /// A plan, once the checker has accepted it.
 pub fn accepted(plan: TypedPlan) -> Result<CheckedPlan, Refusal>
@@ -36,37 +59,37 @@ pub fn accepted(plan: TypedPlan) -> Result<CheckedPlan, Refusal>
     }
 }
 
-// The text of a run of a plan over tables, once the checker has accepted the plan.
-fn run_text<T: Threads + Wait + Sync, R: Runs, C: Clock, B: Tables>(
-    session: &Session<'_, T, R, C>,
-    tables: &B,
-    setting: &Setting,
-    plan: TypedPlan,
-) -> Result<Vec<u8>, Refusal>
-    ensures text { IfOk result (λ text. IsResultOf command.Run (resolved_of plan) (B.holds tables.now) setting.now text.items) }
-    ensures refused { IfErr result (λ e. CommandRefuses command.Run (resolved_of plan) (B.holds tables.now) (B.lacks tables.now) setting.now e) }
-{
-    let checked = accepted(plan)?;
-    let mut timer = Timer::start(session.alloc, session.clock);
-    let report = run_plan(session, tables, setting, &checked, None, &mut timer)?;
-    Ok(report.text)
-}
-
-/// The text that a command makes of a plan over tables.
+/// What a command makes of a plan over tables. The phases that came before are in the timer; those of a run are added.
 pub fn execute<T: Threads + Wait + Sync, R: Runs, C: Clock, B: Tables>(
     session: &Session<'_, T, R, C>,
     command: Command,
     tables: &B,
     setting: &Setting,
     plan: TypedPlan,
-) -> Result<Vec<u8>, Refusal>
-    ensures text { IfOk result (λ text. IsResultOf command (resolved_of plan) (B.holds tables.now) setting.now text.items) }
+    form: Option<StatsForm>,
+    timer: &mut Timer,
+) -> Result<CommandAnswer, Refusal>
+    ensures text { IfOk result (λ a. IsResultOf command (resolved_of plan) (B.holds tables.now) setting.now (text_in a)) }
+    ensures run { IfOk result (IfRun (λ k. (command ≡ Command.Run) × IsShown (resolved_of plan) × IsCountedPlan (R.counted session.now.engine.now) form plan (B.holds tables.now) setting.now (phases_of (times_in timer.old) ++ (work_phase.Check ∷ [])) k.text.items (string_bytes k.stats))) }
+    ensures runs { command ≡ Command.Run → IfOk result IsRunReport }
     ensures refused { IfErr result (λ e. CommandRefuses command (resolved_of plan) (B.holds tables.now) (B.lacks tables.now) setting.now e) }
 {
     match command {
-        Command::Run => run_text(session, tables, setting, plan),
-        Command::Serial => serial_plan(session, tables, &plan),
-        Command::Check => Ok(accepted_text(session.alloc, accepted(plan)?.is_total())?),
-        Command::Explain => Ok(explain(session.alloc, &accepted(plan)?)?.into_bytes()),
+        Command::Run => {
+            let report = run_checked(session, tables, setting, plan, form, timer)?;
+            Ok(CommandAnswer::Run(report))
+        }
+        Command::Serial => {
+            let text = serial_plan(session, tables, &plan)?;
+            Ok(CommandAnswer::Text(text))
+        }
+        Command::Check => {
+            let text = accepted_text(session.alloc, accepted(plan)?.is_total())?;
+            Ok(CommandAnswer::Text(text))
+        }
+        Command::Explain => {
+            let text = explain(session.alloc, &accepted(plan)?)?;
+            Ok(CommandAnswer::Text(text.into_bytes()))
+        }
     }
 }

@@ -5,7 +5,7 @@ ghost use Rattle.clap.specs.Values.{kind_of};
 ghost use Rattle.vx_arguments.specs.Asked.{asked_is, paths_are, check_all, explain, draw, sql, why, Ask};
 ghost use Rattle.vx_stats.specs.declared.text.StatsForm.{StatsForm};
 ghost use Rattle.vx_answer.specs.CommandLine.{default_setting, IsTask, IsNoTask, AnswersTask, TaskRefuses, AnswersForm, FormIsRefused, AnswersStatement, StatementIsRefused, AnswersAnnotation, AnnotationIsRefused, spelled_out, with_program_name, AsksFor};
-ghost use Rattle.vx_answer.specs.Stats.{stats_of_word, stats_asked, is_run};
+ghost use Rattle.vx_answer.specs.Stats.{stats_of_word, stats_asked, may_run, AsksForRuns};
 ghost use Rattle.vx_answer.specs.StatsView.{IsCountedAs, IsUncounted, IsStatsFault};
 ghost use Rattle.vx_answer.specs.CommandLineView.{task_is, IsJob, IsAskAnswer, IsArgumentAnswer, IsHelp, HasUsageText, IsClapFault, IsAskFault, IsArgumentFault};
 
@@ -16,7 +16,6 @@ use crate::failing::{Findings, verdict_on};
 use crate::files::{bytes_at, document_from_files, plan_from_files};
 use crate::forms::{PlanForm, form_named, plan_in_form};
 use crate::loading::loading_threads;
-use crate::program::outcome_of;
 use crate::runs::Stopped;
 use crate::session::Session;
 use crate::statement::{dialect_named, statement};
@@ -35,7 +34,7 @@ use vx_refusals::Refusal;
 use vx_runs::Runs;
 use vx_setup::{DEFAULT_MORSEL_ROWS, DEFAULT_PACKET_ROWS, DEFAULT_SLACK, Mode, Setting, Setup};
 use vx_sql::Dialect;
-use vx_stats::operator_words;
+use vx_stats::{Timer, operator_words};
 use vx_tables::Folder;
 use vx_why::entry;
 
@@ -51,8 +50,6 @@ pub struct FileCommand<'a> {
 /// What arguments ask for that is no run, with its values.
 #[derive(Drop)]
 enum AskedJob<'a> {
-    /// The answer to a bundle on standard input.
-    Bundle,
     Command(FileCommand<'a>),
     /// A check of all nodes of the plan that arguments name, over the catalog that they name.
     Verdict(Sources<'a>),
@@ -194,11 +191,10 @@ fn why_job<'a>(code: &str) -> Option<AskedJob<'a>>
 
 // The job that is asked for, which is no run: `None` if there is no such format, dialect or code.
 fn job_in<'a>(alloc: Global, asked: &Asked<'a>) -> Option<AskedJob<'a>>
-    requires { is_run (asked_is asked.now) ≡ false }
+    requires { may_run (asked_is asked.now) ≡ false }
     ensures { MatchOption result (IsNoTask (asked_is asked.now)) (λ j. IsJob (asked_is asked.now) j) }
 {
     match asked {
-        Asked::Bundle => Some(AskedJob::Bundle),
         Asked::Check(sources) => {
             let task = plain_task(alloc, Command::Check, *sources, "");
             Some(AskedJob::Command(task))
@@ -213,7 +209,7 @@ fn job_in<'a>(alloc: Global, asked: &Asked<'a>) -> Option<AskedJob<'a>>
             let task = plain_task(alloc, Command::Serial, *sources, *folder);
             Some(AskedJob::Command(task))
         }
-        Asked::Run(_, _, _) | Asked::RunPlans(_, _, _) => unreachable!(),
+        Asked::Bundle | Asked::Run(_, _, _) | Asked::RunPlans(_, _, _) => unreachable!(),
         Asked::Generate(rows) => Some(AskedJob::Relation(*rows)),
     }
 }
@@ -233,7 +229,10 @@ fn answer_task<T: Threads + Wait + Sync, R: Runs, C: Clock, F: Store, I: ByteIn>
         files,
         path: task.folder,
     };
-    execute(session, task.command, &folder, &task.setting, plan)
+    let mut timer = Timer::start(session.alloc, session.clock);
+    let (command, setting) = (task.command, &task.setting);
+    let answer = execute(session, command, &folder, setting, plan, None, &mut timer)?;
+    Ok(answer.into_text())
 }
 
 // The plan at one path over the catalog at the other, in a form.
@@ -363,14 +362,13 @@ pub fn answer_plain<T: Threads + Wait + Sync, R: Runs, C: Clock, F: Store, I: By
     input: &mut I,
     asked: &Asked<'_>,
 ) -> Result<ArgumentAnswer, ArgumentFault>
-    requires plain { is_run (asked_is asked.now) ≡ false }
+    requires plain { may_run (asked_is asked.now) ≡ false }
     ensures answer { IfOk result (λ a. IsAskAnswer (R.counted session.now.engine.now) (F.holds files.now) (I.remaining input.old) (asked_is asked.now) a) }
     ensures no_stats { IfOk result IsUncounted }
     ensures refused { IfErr result (IsAskFault (F.holds files.now) (F.is_reliable files.now) (I.remaining input.old) (I.has_failed input.new) (asked_is asked.now)) }
 {
     let alloc = session.alloc;
     match job_in(alloc, asked) {
-        Some(AskedJob::Bundle) => Ok(ArgumentAnswer::Text(outcome_of(session, input)?)),
         Some(AskedJob::Command(task)) => {
             let text = answer_task(session, files, input, &task)?;
             Ok(ArgumentAnswer::Text(text))
@@ -410,12 +408,12 @@ fn argument_at<'a>(arguments: &[&'a str], place: usize) -> &'a str
     }
 }
 
-// An argument of a command before another: `--stats` asks a run for a table where no form of statistics follows it.
+// An argument of a command before another: `--stats` asks for a table where no form of statistics follows it.
 fn spelled_out<'a>(command: &str, argument: &'a str, next: &str) -> &'a str
     ensures { result.now ≡ spelled_out command.now argument.now next.now }
 {
     match (command, argument) {
-        ("run", "--stats") => match stats_named(next) {
+        ("run" | "bundle", "--stats") => match stats_named(next) {
             Some(_) => argument,
             None => "--stats=table",
         },
@@ -452,7 +450,7 @@ fn answer_request<T: Threads + Wait + Sync, R: Runs, C: Clock, F: Store, I: Byte
     request: &Request<'_>,
 ) -> Result<ArgumentAnswer, ArgumentFault>
     ensures answer { IfOk result (λ a. IsAskAnswer (R.counted session.now.engine.now) (F.holds files.now) (I.remaining input.old) (asked_is request.now.asked) a) }
-    ensures stats { (f : StatsForm) → is_run (asked_is request.now.asked) ≡ true → stats_of_word (option_map (λ s. s.now) request.now.stats) ≡ Some f → IfOk result (IsCountedAs f) }
+    ensures stats { (f : StatsForm) → AsksForRuns (I.remaining input.old) (asked_is request.now.asked) → stats_of_word (option_map (λ s. s.now) request.now.stats) ≡ Some f → IfOk result (IsCountedAs f) }
     ensures no_stats { stats_of_word (option_map (λ s. s.now) request.now.stats) ≡ None → IfOk result IsUncounted }
     ensures refused { IfErr result (λ e. IsAskFault (F.holds files.now) (F.is_reliable files.now) (I.remaining input.old) (I.has_failed input.new) (asked_is request.now.asked) e
         ⊎ IsStatsFault (option_map (λ s. s.now) request.now.stats) e) }
@@ -490,7 +488,7 @@ pub fn answer_arguments<T: Threads + Wait + Sync, R: Runs, C: Clock, F: Store, I
     arguments: &[&str],
 ) -> Result<ArgumentAnswer, ArgumentFault>
     ensures answer { IfOk result (λ a. IsArgumentAnswer (R.counted session.now.engine.now) (F.holds files.now) (I.remaining input.old) (map (λ a. a.now) arguments.now) a) }
-    ensures stats { (f : StatsForm) (ask : Ask) → AsksFor (map (λ a. a.now) arguments.now) ask → is_run ask ≡ true → stats_asked (map (λ a. a.now) arguments.now) ≡ Some f → IfOk result (IsCountedAs f) }
+    ensures stats { (f : StatsForm) (ask : Ask) → AsksFor (map (λ a. a.now) arguments.now) ask → AsksForRuns (I.remaining input.old) ask → stats_asked (map (λ a. a.now) arguments.now) ≡ Some f → IfOk result (IsCountedAs f) }
     ensures no_stats { stats_asked (map (λ a. a.now) arguments.now) ≡ None → IfOk result IsUncounted }
     ensures refused { IfErr result (IsArgumentFault (F.holds files.now) (F.is_reliable files.now) (I.remaining input.old) (I.has_failed input.new) (map (λ a. a.now) arguments.now)) }
 {

@@ -2,18 +2,20 @@
 
 ghost use Rattle.std.specs.Prelude.{◌≡◌, ◌≢◌, ◌<◌, ◌≤◌, ◌⊎◌, ◌||◌, ◌++◌, ℕ, List, [], Option, Some, None, true, false, map, string_bytes, is_err, IfSome, IfOk, IfErr, OnOk, IsErrOf};
 ghost use Rattle.std.specs.Io.KnownBytes.{Appends};
-ghost use Rattle.vx_answer.specs.Answer.{IsAnswer, RefusedWith, IsRefusedBy};
+ghost use Rattle.vx_answer.specs.Answer.{IsAnswer, AsksForRun, RefusedWith, IsRefusedBy};
 ghost use Rattle.vx_catalog.specs.Csv.{csv_text};
 ghost use Rattle.vx_refusals.specs.Status.{status_of};
 ghost use Rattle.vx_arguments.specs.Asked.{Ask};
 ghost use Rattle.vx_stats.specs.Text.{write_end};
 ghost use Rattle.vx_stats.specs.declared.text.StatsForm.{StatsForm};
-ghost use Rattle.vx_answer.specs.Stats.{is_run, stats_asked, AreStatsOf};
+ghost use Rattle.vx_answer.specs.Made.{text_in, IfRun, IsRunReport};
+ghost use Rattle.vx_answer.specs.Stats.{AsksForRuns, stats_asked, AreBundleStats, AreStatsOf};
 ghost use Rattle.vx_answer.specs.CommandLine.{AnswersArguments, AsksFor, IsUsageError, AreRefusedBy, AsksForFailing, AsksForStopped};
 ghost use Rattle.vx_wisconsin.specs.Wisconsin.{wisconsin, column_names};
 ghost use Rattle.vx_values.specs.Limits.{max_generated_rows};
 
 use crate::bundle::answer_bytes;
+use crate::command::CommandAnswer;
 use crate::command_line::{ArgumentAnswer, ArgumentFault, answer_arguments};
 use crate::files::input_bytes;
 use crate::places::write_place;
@@ -27,11 +29,28 @@ use std::time::Clock;
 use vx_bytes::{Broken, ByteIn, ByteOut, Store, write_all};
 use vx_refusals::{Refusal, report, status};
 use vx_runs::Runs;
-use vx_stats::{Stopwatch, write_end};
+use vx_stats::{StatsForm, Stopwatch, write_end};
 use vx_wisconsin::{GenerateFault, generate};
 
-/// The text that answers the bundle of which an input has the bytes that are left.
+/// What answers the bundle of which an input has the bytes that are left. The statistics of its run, if its command is one and they are
+/// asked for, are those up to the time that the write takes.
 pub fn outcome_of<T: Threads + Wait + Sync, R: Runs, C: Clock, I: ByteIn>(
+    session: &Session<'_, T, R, C>,
+    input: &mut I,
+    form: Option<StatsForm>,
+) -> Result<CommandAnswer, Refusal>
+    ensures text { IfOk result (λ a. IfSome (I.remaining input.old) (λ bytes. IsAnswer bytes (text_in a))) }
+    ensures run { IfOk result (IfRun (λ k. IfSome (I.remaining input.old) (λ bytes. AreBundleStats (R.counted session.now.engine.now) form bytes k.text.items (string_bytes k.stats)))) }
+    ensures runs { IfSome (I.remaining input.old) (λ bytes. AsksForRun bytes → IfOk result IsRunReport) }
+    ensures refused { IfErr result (λ e. RefusedWith (I.remaining input.old) (I.has_failed input.new) e) }
+    ensures broken { I.has_failed input.new ≡ true → IsErrOf result Refusal.InputUnreadable }
+{
+    let bytes = input_bytes(session.alloc, input)?;
+    answer_bytes(session, bytes.as_slice(), form)
+}
+
+// The text alone, without statistics.
+fn text_outcome<T: Threads + Wait + Sync, R: Runs, C: Clock, I: ByteIn>(
     session: &Session<'_, T, R, C>,
     input: &mut I,
 ) -> Result<Vec<u8>, Refusal>
@@ -39,7 +58,10 @@ pub fn outcome_of<T: Threads + Wait + Sync, R: Runs, C: Clock, I: ByteIn>(
     ensures refused { IfErr result (λ e. RefusedWith (I.remaining input.old) (I.has_failed input.new) e) }
     ensures broken { I.has_failed input.new ≡ true → IsErrOf result Refusal.InputUnreadable }
 {
-    answer_bytes(session, input_bytes(session.alloc, input)?.as_slice())
+    match outcome_of(session, input, None) {
+        Ok(answer) => Ok(answer.into_text()),
+        Err(refusal) => Err(refusal),
+    }
 }
 
 // Reports a refusal on `err`. The status is that of the refusal.
@@ -116,7 +138,7 @@ pub fn reply<T: Threads + Wait + Sync, R: Runs, C: Clock, I: ByteIn, O: ByteOut,
     // Status 4 comes only for a write that failed, or where the machine or the run failed.
     ensures failed { result ≡ 4 → (O.has_failed out.new ≡ true) ⊎ IsRefusedBy 4 (I.remaining input.old) (I.has_failed input.new) }
 {
-    deliver(outcome_of(session, input), out, err)
+    deliver(text_outcome(session, input), out, err)
 }
 
 // Writes the text of the relation with so many rows on `out` as it is made, or reports on `err` why not. All memory is taken
@@ -210,7 +232,7 @@ fn reply_to_arguments<
     err: &mut E,
 ) -> u8
     ensures done { result ≡ 0 → (text : List ℕ) × AnswersArguments (F.holds files.now) (I.remaining input.old) (map (λ a. a.now) arguments.now) text × Appends (O.contents out.old) (O.contents out.new) text }
-    ensures stats { result ≡ 0 → E.has_failed err.new ≡ false → (f : StatsForm) (ask : Ask) → AsksFor (map (λ a. a.now) arguments.now) ask → is_run ask ≡ true → stats_asked (map (λ a. a.now) arguments.now) ≡ Some f
+    ensures stats { result ≡ 0 → E.has_failed err.new ≡ false → (f : StatsForm) (ask : Ask) → AsksFor (map (λ a. a.now) arguments.now) ask → AsksForRuns (I.remaining input.old) ask → stats_asked (map (λ a. a.now) arguments.now) ≡ Some f
         → (text : List ℕ) × (stats : List ℕ) × AreStatsOf (R.counted session.now.engine.now) (F.holds files.now) (I.remaining input.old) f (map (λ a. a.now) arguments.now) text stats
         × Appends (O.contents out.old) (O.contents out.new) text × Appends (E.contents err.old) (E.contents err.new) stats }
     ensures no_stats { result ≡ 0 → stats_asked (map (λ a. a.now) arguments.now) ≡ None → err.new ≡ err.old }
@@ -284,7 +306,7 @@ pub fn answer<
 
     // With arguments, status 0 comes only for what they ask for, answered, and then `out` got exactly that.
     ensures arguments_done { arguments.now ≢ [] → result ≡ 0 → (text : List ℕ) × AnswersArguments (F.holds files.now) (I.remaining input.old) (map (λ a. a.now) arguments.now) text × Appends (O.contents out.old) (O.contents out.new) text }
-    ensures arguments_stats { arguments.now ≢ [] → result ≡ 0 → E.has_failed err.new ≡ false → (f : StatsForm) (ask : Ask) → AsksFor (map (λ a. a.now) arguments.now) ask → is_run ask ≡ true
+    ensures arguments_stats { arguments.now ≢ [] → result ≡ 0 → E.has_failed err.new ≡ false → (f : StatsForm) (ask : Ask) → AsksFor (map (λ a. a.now) arguments.now) ask → AsksForRuns (I.remaining input.old) ask
         → stats_asked (map (λ a. a.now) arguments.now) ≡ Some f → (text : List ℕ) × (stats : List ℕ) × AreStatsOf (R.counted session.now.engine.now) (F.holds files.now) (I.remaining input.old) f (map (λ a. a.now) arguments.now) text stats
         × Appends (O.contents out.old) (O.contents out.new) text × Appends (E.contents err.old) (E.contents err.new) stats }
     ensures arguments_no_stats { arguments.now ≢ [] → result ≡ 0 → stats_asked (map (λ a. a.now) arguments.now) ≡ None → err.new ≡ err.old }

@@ -152,8 +152,8 @@ pub fn run_plan<T: Threads + Wait + Sync, R: Runs, C: Clock, B: Tables>(
     Ok(RunReport { text, stats })
 }
 
-// The same of a plan that the checker is still to accept.
-fn run_checked<T: Threads + Wait + Sync, R: Runs, C: Clock, B: Tables>(
+/// The same of a plan that the checker is still to accept.
+pub fn run_checked<T: Threads + Wait + Sync, R: Runs, C: Clock, B: Tables>(
     session: &Session<'_, T, R, C>,
     tables: &B,
     setting: &Setting,

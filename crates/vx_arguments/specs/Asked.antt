@@ -98,6 +98,9 @@ sql_app = with_rule (with_rule (judging_app (codes "sql")) (word_rule (codes "di
 abbrev pub why_app : App
 why_app = with_rule (new_app (codes "why")) code_rule
 
+abbrev pub bundle_app : App
+bundle_app = with_rule (with_rule (new_app (codes "bundle")) threads_rule) (word_rule (codes "stats") (codes "none"))
+
 -- the program without its commands, which has a version
 abbrev pub program_app : App
 program_app = on_top (λ s. record s { has_version = true }) (new_app (codes "volcano"))
@@ -105,8 +108,8 @@ program_app = on_top (λ s. record s { has_version = true }) (new_app (codes "vo
 -- the program
 abbrev pub volcano_app : App
 volcano_app =
-    with_subcommand (with_subcommand (with_subcommand (with_subcommand (with_subcommand (with_subcommand (with_subcommand (with_subcommand program_app run_app.top)
-    serial_app.top) check_app.top) explain_app.top) annotate_app.top) sql_app.top) why_app.top) gen_app.top
+    with_subcommand (with_subcommand (with_subcommand (with_subcommand (with_subcommand (with_subcommand (with_subcommand (with_subcommand (with_subcommand program_app run_app.top)
+    serial_app.top) check_app.top) explain_app.top) annotate_app.top) sql_app.top) why_app.top) gen_app.top) bundle_app.top
 
 -- the paths of a catalog and of a plan
 pub record Paths : Type 0 where
@@ -198,6 +201,7 @@ ask_of (Some p) =
     else if bytes_eq p.0 (codes "sql") then sql_of p.1
     else if bytes_eq p.0 (codes "why") then option_map why (first_of (codes "code") p.1)
     else if bytes_eq p.0 (codes "gen") then generate_of p.1
+    else if bytes_eq p.0 (codes "bundle") then Some bundle
     else None
 
 -- whether a subcommand with these matches is to say where what it refuses was found

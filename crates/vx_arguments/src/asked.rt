@@ -35,7 +35,7 @@ pub struct RunArguments<'a> {
 /// What the arguments ask for.
 #[derive(Debug, Drop)]
 pub enum Asked<'a> {
-    /// No command: the answer to a bundle on standard input.
+    /// The answer to a bundle on standard input.
     Bundle,
     Check(Sources<'a>),
     /// A check that goes on behind the first refusal.
@@ -250,6 +250,7 @@ fn asked_in<'a>(alloc: Global, matches: &ArgMatches<'a>) -> Result<Option<Asked<
         "sql" => Ok(sql_asked(found)),
         "why" => Ok(value(found, "code").map(Asked::Why)),
         "gen" => Ok(generate_asked(found)),
+        "bundle" => Ok(Some(Asked::Bundle)),
         _ => Ok(None),
     }
 }

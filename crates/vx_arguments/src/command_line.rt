@@ -3,7 +3,7 @@
 ghost use Rattle.std.specs.Prelude.{◌≡◌, IfOk, false, codes};
 ghost use Rattle.clap.specs.Words.{App, Rule, app_of, rule_of, new_app, with_rule, with_subcommand};
 ghost use Rattle.clap.specs.declared.builder.command.Command.TheViews.{out-Command as fields_of};
-ghost use Rattle.vx_arguments.specs.Asked.{named_rule, path_rule, plans_rule, number_rule, rows_rule, word_rule, flag_rule, code_rule, sizes_rule, verbose_rule, drawn_rule, reading_app, judging_app, serial_app, run_app, check_app, explain_app, annotate_app, sql_app, why_app, gen_app, program_app, volcano_app};
+ghost use Rattle.vx_arguments.specs.Asked.{named_rule, path_rule, plans_rule, number_rule, rows_rule, word_rule, flag_rule, code_rule, sizes_rule, verbose_rule, drawn_rule, reading_app, judging_app, serial_app, run_app, check_app, explain_app, annotate_app, sql_app, why_app, gen_app, bundle_app, program_app, volcano_app};
 ghost use Rattle.vx_arguments.specs.Planned.{IsOption, IsCommand};
 
 use clap::{Arg, ArgAction, Command, value_parser};
@@ -343,7 +343,7 @@ fn slack_option<'a>(alloc: Global) -> Arg<'a>
         alloc,
         "slack",
         "8",
-        "The most packets that wait between two workers, 1 to 1024",
+        "How many packets the ring from a producer to a consumer holds, 1 to 1024, with `--mode threads`; a consumer that waits for another producer empties it into a queue without bound",
     )
 }
 
@@ -445,6 +445,19 @@ fn generate<'a>(alloc: Global) -> Result<Command<'a>, AllocError>
     with_option(Ok(command), rows_option(alloc))
 }
 
+fn bundle<'a>(alloc: Global) -> Result<Command<'a>, AllocError>
+    ensures { IsCommand bundle_app result }
+{
+    let command = bare(
+        alloc,
+        "bundle",
+        "Answers the request, as JSON, on standard input, as the program does without a command",
+        "Example: volcano bundle --stats < request.json",
+    );
+    let command = with_option(Ok(command), threads_option(alloc));
+    with_option(command, stats_option(alloc))
+}
+
 // The program without its commands. `tools/install` writes the commit over the words in brackets of its version, in as many bytes.
 fn program<'a>(alloc: Global) -> Command<'a>
     ensures app { app_of result ≡ program_app }
@@ -482,5 +495,6 @@ pub fn command<'a>(alloc: Global) -> Result<Command<'a>, AllocError>
     let program = with_command(program, annotate(alloc));
     let program = with_command(program, sql(alloc));
     let program = with_command(program, why(alloc));
-    with_command(program, generate(alloc))
+    let program = with_command(program, generate(alloc));
+    with_command(program, bundle(alloc))
 }

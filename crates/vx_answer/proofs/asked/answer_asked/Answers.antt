@@ -1,9 +1,9 @@
 use Rattle.std.proofs.Common.{◌≡◌, ap}
 use Rattle.std.proofs.lemmas.Result.{err_from_is_err_and}
-use Rattle.vx_arguments.specs.Asked.{asked_is, paths_are, many_are, given_is, run, run_plans}
+use Rattle.vx_arguments.specs.Asked.{asked_is, paths_are, many_are, given_is, bundle, run, run_plans}
 use Rattle.vx_answer.specs.Arguments.{IsSetting}
 use Rattle.vx_answer.proofs.CommandLineFacts.{plans_fault}
-use Rattle.vx_answer.proofs.StatsTextFacts.{one_reported, several_reported, run_refused}
+use Rattle.vx_answer.proofs.StatsTextFacts.{one_reported, several_reported, bundle_reported, bundle_runs, run_refused}
 use Rattle.vx_answer.proofs.asked.answer_asked.Goals as goal
 
 pub returns-in_err-report-in-Run-clause-refused : goal.returns-in_err-report-in-Run-clause-refused
@@ -39,3 +39,14 @@ returns-in_ok-report-in-RunPlans-clause-answer g c =
     let report = c.in_ok-report-in-RunPlans in
     rw c.answer_of-in-RunPlans.ensures.is (several_reported (g.R.Runs.counted c.args.session.now.engine.now) (g.F.Store.holds c.args.files.now) (g.I.ByteIn.remaining c.args.input.now) c.args.form
     (asked_is c.args.asked.now) (many_are c.in-RunPlans.sources) c.in-RunPlans.folder.now (given_is c.in-RunPlans.given) c.in-Some-2.setting report.report same set report.ensures.stats)
+
+pub returns-in_ok-made-in-Bundle-clause-answer : goal.returns-in_ok-made-in-Bundle-clause-answer
+returns-in_ok-made-in-Bundle-clause-answer g c =
+    let same : asked_is c.args.asked.now ≡ bundle = ap asked_is c.in-Bundle.is in
+    rw c.answer_made.ensures.is (bundle_reported (g.R.Runs.counted c.args.session.now.engine.now) (g.F.Store.holds c.args.files.now) (g.I.ByteIn.remaining c.args.input.now) c.args.form (asked_is c.args.asked.now)
+    c.in_ok-made-in-Bundle.made same c.in_ok-made-in-Bundle.ensures.text c.in_ok-made-in-Bundle.ensures.run)
+
+pub returns-in_ok-made-in-Bundle-clause-stats : goal.returns-in_ok-made-in-Bundle-clause-stats
+returns-in_ok-made-in-Bundle-clause-stats g c = λ f form asks.
+    let same : asked_is c.args.asked.now ≡ bundle = ap asked_is c.in-Bundle.is in
+    c.answer_made.ensures.stats f form (bundle_runs (g.I.ByteIn.remaining c.args.input.now) (asked_is c.args.asked.now) c.in_ok-made-in-Bundle.made same c.in_ok-made-in-Bundle.ensures.runs asks)

@@ -1,10 +1,11 @@
-use Rattle.std.proofs.Common.{rules, ◌≡◌}
-use Rattle.vx_plan_nodes.specs.TypedView.{resolved_of}
+use Rattle.std.proofs.Common.{rules, ◌≡◌, refl}
+use Rattle.std.proofs.lemmas.Result.{err_from_is_err_and}
 use Rattle.vx_bundle.specs.declared.command.Command.TheVariants as command
-use Rattle.vx_answer.proofs.Refusing.{serial_refused}
+use Rattle.vx_answer.specs.Commands.{for_serial}
 use Rattle.vx_answer.proofs.command.execute.Goals as goal
 
-pub returns-in-Serial-clause-refused : goal.returns-in-Serial-clause-refused
-returns-in-Serial-clause-refused g c =
+pub returns-in_err-text-in-Serial-clause-refused : goal.returns-in_err-text-in-Serial-clause-refused
+returns-in_err-text-in-Serial-clause-refused g c =
     let asked : c.args.command ≡ command.Serial = search rules in
-    rw asked (serial_refused c.serial_plan.result (resolved_of c.args.plan) (g.B.Tables.holds c.args.tables.now) (g.B.Tables.lacks c.args.tables.now) c.args.setting.now c.serial_plan.ensures.refused)
+    let p = err_from_is_err_and c.from_residual-in_err-text-in-Serial.result c.from_residual-in_err-text-in-Serial.ensures.1 in
+    rw (p.1, p.2) (rw asked (for_serial refl c.in_err-text-in-Serial.ensures.refused))

@@ -1,10 +1,10 @@
-use Rattle.std.proofs.Common.{◌≡◌, ◌∙◌, Some, None, true, option_map, sym, ap, map, subst}
+use Rattle.std.proofs.Common.{◌≡◌, ◌∙◌, Some, None, option_map, sym, ap, map, subst}
 use Rattle.clap.specs.Values.{kind_of}
 use Rattle.vx_arguments.specs.Asked.{Ask, asked_is, stats_by, faults_of}
 use Rattle.vx_answer.specs.CommandLine.{with_program_name, AsksFor}
 use Rattle.vx_answer.proofs.CommandLineFacts.{arguments_answer, clap_answer, clap_refused}
 use Rattle.vx_answer.proofs.StatsTextFacts.{one_ask, help_no_stats, help_uncounted, request_refused}
-use Rattle.vx_answer.specs.Stats.{is_run, stats_of_word}
+use Rattle.vx_answer.specs.Stats.{AsksForRuns, stats_of_word}
 use Rattle.vx_answer.proofs.command_line.answer_arguments.Goals as goal
 
 pub returns-in-Ok-Some-clause-answer : goal.returns-in-Ok-Some-clause-answer
@@ -53,7 +53,7 @@ returns-in-Ok-Some-clause-stats g c = λ f ask asks run stats.
     } in
     let word : option_map (λ s. s.now) c.in-Ok-Some.request.stats ≡ stats_by (with_program_name arguments) = rw (c.in-Ok-Some.field-0-is, all) at c.in-Ok-Some.ensures.stats in
     let same = one_ask arguments ask (asked_is c.in-Ok-Some.request.asked) asks asked in
-    c.answer_request.ensures.stats f (subst (λ (a : Ask). is_run a ≡ true) same run) (subst (λ w. stats_of_word w ≡ Some f) (sym word) stats)
+    c.answer_request.ensures.stats f (subst (λ (a : Ask). AsksForRuns (g.I.ByteIn.remaining c.args.input.now) a) same run) (subst (λ w. stats_of_word w ≡ Some f) (sym word) stats)
 
 pub returns-in-Ok-Some-clause-no_stats : goal.returns-in-Ok-Some-clause-no_stats
 returns-in-Ok-Some-clause-no_stats g c = λ none.

@@ -1,7 +1,7 @@
-use Rattle.std.proofs.Common.{◌≡◌, ◌∙◌, ℕ, List, None, sym, subst, string_bytes}
+use Rattle.std.proofs.Common.{◌≡◌, ◌∙◌, ℕ, List, sym, subst}
 use Rattle.std.specs.Prelude.{IfOk, IfErr}
 use Rattle.std.proofs.lemmas.Result.{err_from_is_err_and}
-use Rattle.vx_arguments.specs.Asked.{Ask, asked_is, paths_are, many_are}
+use Rattle.vx_arguments.specs.Asked.{Ask, asked_is, paths_are}
 use Rattle.vx_answer.specs.declared.command_line.AskedJob.TheVariants as asked_job
 use Rattle.vx_answer.specs.CommandLine.{IsTask, IsEntry, for_task, for_plan_form, for_sql, for_claims, for_code, for_asked_task, for_asked_form, for_asked_sql, for_asked_claims}
 use Rattle.vx_answer.specs.CommandLineView.{task_is, IsJob, IsAskAnswer, IsAskFault}
@@ -10,7 +10,7 @@ use Rattle.vx_answer.proofs.command_line.answer_plain.Goals as goal
 pub returns-in_err-text-in-Some-Command : goal.returns-in_err-text-in-Some-Command
 returns-in_err-text-in-Some-Command g c =
     let is : IsTask (asked_is c.args.asked.now) (task_is c.in-Some-Command.task) = rw (c.in-Some-Command.is, c.in-Some-Command.field-0-is) at c.job_in.ensures in
-    let p = err_from_is_err_and c.from_residual-in_err-text-in-Some-Command.result c.from_residual-in_err-text-in-Some-Command.ensures.1 in
+    let p = err_from_is_err_and c.from_residual.result c.from_residual.ensures.1 in
     rw (p.1, p.2) (record { answer = tt; no_stats = tt; refused = for_asked_task (task_is c.in-Some-Command.task) is c.in_err-text-in-Some-Command.ensures.refused })
 
 pub returns-in_ok-text-in-Some-Command : goal.returns-in_ok-text-in-Some-Command

@@ -1,8 +1,7 @@
+use Rattle.std.proofs.Common.{sym}
 use Rattle.std.proofs.lemmas.Result.{err_from_is_err_and}
 use Rattle.vx_plan_nodes.specs.TypedView.{resolved_of}
-use Rattle.vx_answer.specs.CommandLine.{for_planning}
-use Rattle.vx_answer.specs.CommandLineView.{task_is}
-use Rattle.vx_answer.proofs.CommandLineFacts.{task_refused}
+use Rattle.vx_answer.specs.CommandLine.{for_planning, for_plan_of}
 use Rattle.vx_answer.proofs.command_line.answer_task.Goals as goal
 
 pub returns-in_err-plan-clause-refused : goal.returns-in_err-plan-clause-refused
@@ -10,7 +9,10 @@ returns-in_err-plan-clause-refused g c =
     let p = err_from_is_err_and c.from_residual.result c.from_residual.ensures.1 in
     rw (p.1, p.2) (for_planning c.in_err-plan.ensures.refused)
 
-pub returns-clause-refused : goal.returns-clause-refused
-returns-clause-refused g c =
-    task_refused (g.F.Store.holds c.args.files.now) (g.F.Store.is_reliable c.args.files.now) (g.I.ByteIn.remaining c.args.input.now) (g.I.ByteIn.has_failed c.plan_from_files.new.input) (task_is c.args.task.now)
-    (resolved_of c.in_ok-plan.plan) c.execute.result c.in_ok-plan.ensures.planned c.execute.ensures.refused
+pub returns-in_err-answer-clause-refused : goal.returns-in_err-answer-clause-refused
+returns-in_err-answer-clause-refused g c =
+    let p = err_from_is_err_and c.from_residual-in_err-answer.result c.from_residual-in_err-answer.ensures.1 in
+    rw (p.1, p.2) (for_plan_of (resolved_of c.in_ok-plan.plan) c.in_ok-plan.ensures.planned c.in_err-answer.ensures.refused)
+
+pub returns-clause-text : goal.returns-clause-text
+returns-clause-text g c = (resolved_of c.in_ok-plan.plan, c.in_ok-plan.ensures.planned, rw (sym c.into_text.ensures) at c.in_ok-answer.ensures.text)

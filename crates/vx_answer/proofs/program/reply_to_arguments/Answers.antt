@@ -10,6 +10,7 @@ use Rattle.vx_answer.specs.Stats.{AreStatsOf}
 use Rattle.vx_answer.specs.CommandLine.{AsksFor, for_what_is_asked, for_relation, for_ask, for_asked_relation, arguments_memory}
 use Rattle.vx_refusals.specs.Status.{status_of}
 use Rattle.vx_answer.proofs.CommandLineFacts.{stopped_refuses, three_stopped, four_stopped}
+use Rattle.vx_answer.proofs.Refusing.{has_status}
 use Rattle.vx_answer.proofs.program.reply_to_arguments.Goals as goal
 
 pub returns-in-Ok-Text-clause-done : goal.returns-in-Ok-Text-clause-done
@@ -115,3 +116,6 @@ returns-in-Ok-Counted-clause-stats g c = λ zero whole f ask asked run stats.
 
 pub returns-in-Ok-Counted-clause-no_stats : goal.returns-in-Ok-Counted-clause-no_stats
 returns-in-Ok-Counted-clause-no_stats g c = λ zero none. absurd (rw c.in-Ok-Counted.field-0-is at (c.in-Ok-Counted.ensures.no_stats none))
+
+pub returns-in-Err-Refused-clause-stats : goal.returns-in-Err-Refused-clause-stats
+returns-in-Err-Refused-clause-stats g c = λ zero whole f ask asked run stats. absurd (has_status c.in-Err-Refused.refusal (sym c.refuse_in_place.ensures ∙ zero))
