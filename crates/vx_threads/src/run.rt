@@ -6,6 +6,7 @@ ghost use Rattle.vx_worker.specs.Worker.{IsReady, outcome_of};
 ghost use Rattle.vx_worker.specs.declared.worker.StepOutcome.TheVariants as StepOutcome;
 ghost use Rattle.vx_threads.specs.Carrying.{hold_of};
 ghost use Rattle.vx_threads.specs.Inlets.{IsGathered};
+ghost use Rattle.vx_threads.specs.Waking.{NoneNoted};
 ghost use Rattle.vx_threads.specs.Ran.{Ran};
 ghost use Rattle.vx_threads.specs.declared.wires.Room.TheVariants as Room;
 
@@ -101,6 +102,7 @@ fn step_in_thread<O: Source, S: Sends, G: Morsels, R: Router, H: Gate>(
     ensures ready { IsReady O.types S.post S.is_open S.has_closed (G.types_of morsels.now) worker.new }
     ensures ended { result ≡ StepOutcome.Ended → IsSome (outcome_of worker.new) }
     ensures gathered { result ≡ StepOutcome.Waiting → wires.new.room ≡ Room.There → All IsGathered wires.new.ends.ins.items }
+    ensures woken { result ≡ StepOutcome.Waiting → NoneNoted wires.new.ends.unwoken }
     ensures ran { Ran O.Stands O.op S.Stands S.task S.post S.bounds (R.route_of router.now) (G.morsel_of morsels.now)
         worker.old (hold_of wires.old.ends) worker.new (hold_of wires.new.ends) }
 {

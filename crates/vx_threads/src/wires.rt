@@ -38,6 +38,7 @@ impl<'d> ThreadWires<'d> {
     ghost use Rattle.std.specs.Prelude.{◌≡◌, ◌⊎◌, false, length, OnErr};
     ghost use Rattle.vx_worker.specs.Trace.{idle};
     ghost use Rattle.vx_threads.specs.Gathering.{QueuesStay, FillsOne};
+    ghost use Rattle.vx_threads.specs.Waking.{NoneNoted};
     ghost use Rattle.vx_threads.specs.declared.wires.Room.TheVariants as Room;
     ghost use Rattle.vx_threads.specs.Inlets.{IsGathered};
     ghost use Rattle.vx_threads.specs.Carrying.{Does};
@@ -65,6 +66,7 @@ impl<'d> ThreadWires<'d> {
         ensures still { result ≡ false → QueuesStay self.old.ends.ins.items self.new.ends.ins.items }
         ensures refused { self.new.room ≡ Room.Refused → (self.old.room ≡ Room.Refused) ⊎ FillsOne self.old.ends.ins.items self.new.ends.ins.items }
         ensures reported { self.new.room ≡ Room.Reported → self.old.room ≡ Room.Reported }
+        ensures woken { NoneNoted self.new.ends.unwoken }
     {
         self.ends.wake_consumers(self.parkers);
         match self.room {

@@ -11,7 +11,7 @@ use Rattle.vx_threads.proofs.ends.Ends.gather.Goals as goal
 
 pub loop-place-init : goal.loop-place-init
 loop-place-init c =
-    (carries-idle (hold_of c.args.self.now), refl, refl, λ k e l at. absurd (omega (arith, l)), λ e. stays-self c.args.self.now.ins.items, λ k l. refl)
+    (carries-idle (hold_of c.args.self.now), refl, refl, λ k e l at. absurd (omega (arith, l)), λ e. stays-self c.args.self.now.ins.items, λ k l. refl, refl)
 
 pub returns-in_err-moved-clause-does : goal.returns-in_err-moved-clause-does
 returns-in_err-moved-clause-does c =
@@ -30,6 +30,7 @@ loop-place-preserved c = (
   ],
   stays-both c.args.self.now.ins.items c.loop-place.self.ins.items c.gather_at.new.self.ins.items c.loop-place.moved c.in_ok-moved.field-0 c.loop-place.invariant.4 c.in_ok-moved.ensures.still,
   λ k l. c.gather_at.ensures.others k (λ q. absurd (omega (arith, l, q))) ∙ c.loop-place.invariant.5 k (omega (arith, l)),
+  c.gather_at.ensures.unwoken ∙ c.loop-place.invariant.6,
 )
 
 pub returns-clause-gathered : goal.returns-clause-gathered

@@ -11,4 +11,4 @@ invariant-loop-place l =
     Does l.fn.self idle l.self × (l.self.draws ≡ l.fn.self.draws) × (length l.self.ins.items ≡ length l.fn.self.ins.items)
     × ((k : ℕ) (e : Inlet) → k < l.place → slice_get l.self.ins.items k ≡ Some e → IsGathered e)
     × (l.moved ≡ false → QueuesStay l.fn.self.ins.items l.self.ins.items)
-    × ((k : ℕ) → l.place ≤ k → slice_get l.self.ins.items k ≡ slice_get l.fn.self.ins.items k)
+    × ((k : ℕ) → l.place ≤ k → slice_get l.self.ins.items k ≡ slice_get l.fn.self.ins.items k) × (l.self.unwoken ≡ l.fn.self.unwoken)
