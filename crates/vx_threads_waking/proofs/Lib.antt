@@ -4,4 +4,6 @@ pub mod Changing
 pub mod Keeping
 pub mod Starting
 pub mod Resting
+pub mod Two
 pub mod Stuck
+pub mod Ending
