@@ -1,6 +1,6 @@
 //! The loop of a worker in a thread of its own.
 
-ghost use Rattle.std.specs.Prelude.{◌≡◌, true, false, IsSome};
+ghost use Rattle.std.specs.Prelude.{◌≡◌, ◌⊎◌, ◌<◌, ◌+◌, true, false, IsSome};
 ghost use Rattle.std.specs.List.{All};
 ghost use Rattle.vx_worker.specs.Worker.{IsReady, outcome_of};
 ghost use Rattle.vx_worker.specs.declared.worker.StepOutcome.TheVariants as StepOutcome;
@@ -70,7 +70,10 @@ fn rest<T: Wait>(
     parker: Option<&Parker>,
     inlets: usize,
     waited: usize,
-) -> usize {
+) -> usize
+    ensures moved { stepped ≡ StepOutcome.Moved → result ≡ 0 }
+    ensures again { result ≡ 0 → (stepped ≡ StepOutcome.Moved) ⊎ (YIELDS + inlets < waited) }
+{
     if matches!(stepped, StepOutcome::Moved) {
         return 0;
     }
