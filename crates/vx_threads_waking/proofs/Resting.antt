@@ -2,7 +2,7 @@
 use Rattle.std.proofs.Common.{ℕ, zero, suc, true, false, ◌≡◌, ◌+◌, ◌<◌, ◌≤◌, ◌⊎◌, refl, sym, subst, ◌∙◌, inl, inr, arith, true≢false}
 use Rattle.vx_threads_waking.specs.Crew.{Crew, Want, place_at, packet_of, Doing, waking, asleep, ended, World, WaitsFor, IsAsleep, Reads}
 use Rattle.vx_threads_waking.specs.Events.{IsEmptied, all_duties, after_all}
-use Rattle.vx_threads_waking.specs.Waking.{SleepsOn, AllRest, AllEnded, IsGathered, NobodyIsLeft, FullHasGathered}
+use Rattle.vx_threads_waking.specs.Waking.{SleepsOn, AllRest, AllEnded, HasEmptied, NobodyIsLeft, FullHasGathered}
 use Rattle.vx_threads_waking.proofs.Standing.{IsEnded, Pair, Stands}
 use Rattle.vx_threads_waking.proofs.Keeping.{keeps-all}
 use Rattle.vx_threads_waking.proofs.Starting.{start-stands}
@@ -124,7 +124,7 @@ module _ (C : Crew) (w : World) (st : Stands C w) (rest : AllRest C w) where
 pub nobody-is-left : NobodyIsLeft
 nobody-is-left C w start es may rest = rests-ended C (after_all all_duties C w es) (keeps-all C w es (start-stands C w start) may) rest
 
-gathered : (C : Crew) (w : World) → Stands C w → (a c : ℕ) → (w.worker a).doing ≡ asleep (place_at c) → (w.worker a).refused ≡ false → IsGathered C w a
+gathered : (C : Crew) (w : World) → Stands C w → (a c : ℕ) → (w.worker a).doing ≡ asleep (place_at c) → (w.worker a).refused ≡ false → HasEmptied C w a
 gathered C w st a c sleeps kept p fed = by-ring (h.consumer.0 (sleeps-now (place_at c) (w.worker a).doing sleeps))
   where
     h : Pair C.slack p a (w.worker p) (w.worker a) (w.ring p a)

@@ -37,8 +37,8 @@ NobodyIsLeft =
     → AllRest C (after_all all_duties C w es) → AllEnded C (after_all all_duties C w es)
 
 -- nothing lies in this worker's rings, but what was put since it looked, for which it has a token or is to be woken yet
-abbrev pub IsGathered : Crew → World → ℕ → Type 0
-IsGathered C w a =
+abbrev pub HasEmptied : Crew → World → ℕ → Type 0
+HasEmptied C w a =
     (p : ℕ) → C.feeds p a ≡ true
     → ((w.ring p a).packets ≡ 0) ⊎ (((w.worker a).token ≡ true) ⊎ ((w.worker p).unwoken a ≡ true))
 
@@ -47,7 +47,7 @@ abbrev pub FullHasGathered : Type 0
 FullHasGathered =
     (C : Crew) (w : World) → IsStart C w → (es : List Event) → MayAll all_duties C w es
     → (a c : ℕ) → ((after_all all_duties C w es).worker a).doing ≡ asleep (place_at c)
-    → ((after_all all_duties C w es).worker a).refused ≡ false → IsGathered C (after_all all_duties C w es) a
+    → ((after_all all_duties C w es).worker a).refused ≡ false → HasEmptied C (after_all all_duties C w es) a
 
 -- a crew some of whose workers sleep for ever, without ending, if this is all that they do for one another
 abbrev pub GetsStuck : Duties → Type 0
