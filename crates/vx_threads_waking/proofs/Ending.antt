@@ -105,4 +105,4 @@ ending-may = (
 
 pub some-crew-ends : SomeCrewEnds
 some-crew-ends =
-    (two, two-starts, two-start, refl, refl, (ending, ending-may, below-two (λ a. ((after_all all_duties two two-starts ending).worker a).doing ≡ ended) refl refl))
+    (two, two-starts, two-start, refl, refl, refl, (ending, ending-may, below-two (λ a. ((after_all all_duties two two-starts ending).worker a).doing ≡ ended) refl refl))

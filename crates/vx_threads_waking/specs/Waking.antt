@@ -62,8 +62,8 @@ EachDutyIsNeeded =
     × GetsStuck (record { wakes_consumers = true; gathers = false; wakes_producers = true })
     × GetsStuck (record { wakes_consumers = true; gathers = true; wakes_producers = false })
 
--- the law: with all three, a crew whose rings have one place comes to its end, through waits for a place and for packets
+-- the law: with all three, a producer and its consumer over a ring with one place can come to their end
 abbrev pub SomeCrewEnds : Type 0
 SomeCrewEnds =
-    (C : Crew) × (w : World) × IsStart C w × (C.size ≡ 2) × (C.slack ≡ 1)
+    (C : Crew) × (w : World) × IsStart C w × (C.size ≡ 2) × (C.feeds 1 0 ≡ true) × (C.slack ≡ 1)
     × ((es : List Event) × MayAll all_duties C w es × AllEnded C (after_all all_duties C w es))
