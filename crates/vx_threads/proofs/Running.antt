@@ -39,7 +39,7 @@ module _ {O S : Type 0} (OS : O → Ledger → Type 0) (op : O → Op) (SS : S �
     same = ends-then a b c ran.same does.same;
     steps = ran.steps;
     counts = ran.counts;
-    traces = λ goes r t h bears. let was = ran.traces goes r t h bears in (was.0, does.bears was.1);
+    traces = λ goes r t h bears. let was = ran.traces goes r t h bears in (was.0, does.bears (trace_with t ran.steps) was.1);
   }
 
   -- what came to be, and then more
@@ -66,5 +66,5 @@ module _ {O S : Type 0} (OS : O → Ledger → Type 0) (op : O → Op) (SS : S �
     same = x.1.same;
     steps = (x.0, answer) ∷ [];
     counts = x.3;
-    traces = λ goes r t h bears. (x.2 goes r t h, x.1.bears bears);
+    traces = λ goes r t h bears. (x.2 goes r t h, x.1.bears t bears);
   })
