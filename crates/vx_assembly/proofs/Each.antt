@@ -19,6 +19,7 @@ use Rattle.vx_threads.specs.Carrying.{hold_of}
 use Rattle.vx_threads.specs.Holds.{Hold, Bears, SameEnds}
 use Rattle.vx_threads.specs.Joined.{AllBear}
 use Rattle.vx_threads.specs.Paired.{AllSame}
+use Rattle.vx_threads.specs.Ran.{trace_with}
 use Rattle.vx_spawn.specs.declared.member.CrewMember.{CrewMember}
 use Rattle.vx_spawn.specs.declared.member.Joined.{Joined}
 use Rattle.vx_spawn.specs.Each.{EachHonest}
@@ -92,9 +93,10 @@ module _ {O S : Type 0} (OS : O → Ledger → Type 0) (op : O → Op) (SS : S �
   traces-of go [] (j ∷ js) h stands routes fresh = absurd h
   traces-of go (p ∷ ps) [] h stands routes fresh = absurd h
   traces-of go (p ∷ ps) (j ∷ js) h stands routes fresh =
+      let first = trace_with empty_trace h.0.ran.steps in
       let one = h.0.ran.traces go (routes 0 p refl) empty_trace (stands 0 p refl) (fresh 0 (held_before p) refl) in
       let rest = traces-of go ps js h.1 (λ a c e. stands (suc a) c e) (λ a c e. routes (suc a) c e) (λ a x e. fresh (suc a) x e) in
-      (one.0 ∷ rest.0, (one.1, rest.1), bear one.0 rest.0 one.2 rest.2)
+      (first ∷ rest.0, (one.0, rest.1), bear first rest.0 one.1 rest.2)
     where
       bear : (u : Trace) (us : List Trace) → Bears (held_in j) u → AllBear (map held_in js) (trace_at us)
           → AllBear (map held_in (j ∷ js)) (trace_at (u ∷ us))

@@ -45,7 +45,7 @@ seen_by i = known_items i.consumer
 abbrev pub PutsInRing : RingOut → PacketView → RingOut → Type 0
 PutsInRing a p b = (put_to b ≡ put_to a ++ p ∷ []) × (is_closed (put_to b) ≡ closes p.content) × (room_of a ≤ room_of b + 1) × SameOut a b
 
--- nothing was put: no place was free as this put saw it
+-- nothing was put: this end knows of no free place. The toolchain's ring says the same of an end that did not look just now
 abbrev pub FindsFull : RingOut → RingOut → Type 0
 FindsFull a b = (put_to b ≡ put_to a) × (room_of b ≡ 0) × SameOut a b
 

@@ -59,7 +59,7 @@ set-other (z ∷ xs) (suc k) y zero ne = refl
 set-other (z ∷ xs) (suc k) y (suc l) ne = set-other xs k y l (λ e. ne (ap suc e))
 
 -- one element changed to one like it
-same-set : {A : Type 0} (R : A → A → Type 0) → ((x : A) → R x x) → (xs : List A) (k : ℕ) (x y : A) → slice_get xs k ≡ Some x → R x y
+pub same-set : {A : Type 0} (R : A → A → Type 0) → ((x : A) → R x x) → (xs : List A) (k : ℕ) (x y : A) → slice_get xs k ≡ Some x → R x y
     → (l : ℕ) (z : A) → slice_get xs l ≡ Some z → (w : A) × (slice_get (set xs k y) l ≡ Some w) × R z w
 same-set R self xs k x y at r l z e = elim (cases_eq l k) [
   | inl q ↦
@@ -69,7 +69,7 @@ same-set R self xs k x y at r l z e = elim (cases_eq l k) [
   | inr ne ↦ (z, set-other xs k y l ne ∙ e, self z)
 ]
 
-same-all : {A : Type 0} (R : A → A → Type 0) → ((x : A) → R x x) → (xs : List A) (l : ℕ) (z : A) → slice_get xs l ≡ Some z → (w : A) × (slice_get xs l ≡ Some w) × R z w
+pub same-all : {A : Type 0} (R : A → A → Type 0) → ((x : A) → R x x) → (xs : List A) (l : ℕ) (z : A) → slice_get xs l ≡ Some z → (w : A) × (slice_get xs l ≡ Some w) × R z w
 same-all R self xs l z e = (z, e, self z)
 
 pub same-out-self : (o : RingOut) → SameOut o o

@@ -4,3 +4,4 @@ pub mod Keeping
 pub mod Bearing
 pub mod Running
 pub mod Still
+pub mod Queues

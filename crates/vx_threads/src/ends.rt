@@ -25,7 +25,7 @@ pub struct Ends {
 
 impl Ends {
     ghost use Rattle.std.specs.Prelude.{◌≡◌, ◌≢◌, ◌<◌, ◌↔◌, ℕ, true, false, Some, length, slice_get, slice_index_or};
-    ghost use Rattle.std.specs.Prelude.{IfOk, IfSome, IfNone};
+    ghost use Rattle.std.specs.Prelude.{IfOk, OnErr, IfSome, IfNone};
     ghost use Rattle.std.specs.List.{All};
     ghost use Rattle.vx_worker.specs.Trace.{idle, drew_one, took_one};
     ghost use Rattle.vx_worker.specs.Wiring.{PutGives};
@@ -33,6 +33,9 @@ impl Ends {
     ghost use Rattle.vx_threads.specs.declared.inlet.Inlet.{Inlet};
     ghost use Rattle.vx_threads.specs.declared.drawer.Drawer.{Drawer};
     ghost use Rattle.vx_threads.specs.Inlets.{IsGathered, is_way};
+    ghost use Rattle.vx_threads.specs.Gathering.{QueuesStay, FillsAt, FillsOne};
+    ghost use Rattle.vx_threads.specs.Waking.{NoneNoted, NotesPut};
+    ghost use Rattle.vx_ports.specs.Packets.{closes};
     ghost use Rattle.vx_threads.specs.Drawers.{Sits, IsSeat};
     ghost use Rattle.vx_threads.specs.Holds.{IsApart};
     ghost use Rattle.vx_threads.specs.Carrying.{Does, IsFullAt, hold_of};
@@ -129,6 +132,7 @@ impl Ends {
         ensures gives { PutGives Does IsFullAt self.old self.new to packet result }
         ensures never_no_memory { IsNeverNoMemory result }
         ensures draws { self.new.draws ≡ self.old.draws }
+        ensures notes { NotesPut to result (closes packet.content ≡ true) self.old.unwoken self.new.unwoken }
     {
         let place = to as usize;
         if place >= self.outs.len() || self.outs[place].is_closed() {
@@ -146,6 +150,8 @@ impl Ends {
     pub fn wake_consumers(&mut self, parkers: &[Parker])
         ensures does { Does self.old idle self.new }
         ensures draws { self.new.draws ≡ self.old.draws }
+        ensures ins { self.new.ins ≡ self.old.ins }
+        ensures woken { NoneNoted self.new.unwoken }
     {
         self.unwoken.wake_all(parkers, self.consumers);
     }
@@ -194,6 +200,9 @@ impl Ends {
         ensures count { length self.new.ins.items ≡ length self.old.ins.items }
         ensures here { IfOk result (λ _. (e : Inlet) → slice_get self.new.ins.items place ≡ Some e → IsGathered e) }
         ensures others { (k : ℕ) → k ≢ place → slice_get self.new.ins.items k ≡ slice_get self.old.ins.items k }
+        ensures still { IfOk result (λ moved. moved ≡ false → QueuesStay self.old.ins.items self.new.ins.items) }
+        ensures filled { OnErr result (FillsAt place self.old.ins.items self.new.ins.items) }
+        ensures unwoken { self.new.unwoken ≡ self.old.unwoken }
     {
         if place >= self.ins.len() {
             return Ok(false);
@@ -207,6 +216,9 @@ impl Ends {
         ensures does { Does self.old idle self.new }
         ensures draws { self.new.draws ≡ self.old.draws }
         ensures gathered { IfOk result (λ _. All IsGathered self.new.ins.items) }
+        ensures still { IfOk result (λ moved. moved ≡ false → QueuesStay self.old.ins.items self.new.ins.items) }
+        ensures filled { OnErr result (FillsOne self.old.ins.items self.new.ins.items) }
+        ensures unwoken { self.new.unwoken ≡ self.old.unwoken }
     {
         let mut moved = false;
         for place in 0..self.ins.len() {

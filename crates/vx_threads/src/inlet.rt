@@ -21,7 +21,9 @@ pub struct Inlet {
 }
 
 impl Inlet {
-    ghost use Rattle.std.specs.Prelude.{◌≡◌, ◌+◌, true, false, [], length, IfOk, IfSome, IfNone};
+    ghost use Rattle.std.specs.Prelude.{◌≡◌, ◌+◌, ◌≤◌, true, false, [], length, IfOk, OnErr, IfSome, IfNone};
+    ghost use Rattle.std.specs.VecDeque.{deque_len, deque_capacity};
+    ghost use Rattle.vx_threads.specs.Gathering.{IsFilled};
     ghost use Rattle.vx_threads.specs.Inlets.{FindsNoneIn, IsGathered, KeepsIn, SameInlet, TakesIn, is_way};
     ghost use Rattle.vx_ports.specs.Packets.{Flows};
     ghost use Rattle.vx_rings.specs.Ends.{IsRing, SameOut, put_to, taken_from, seen_by, TakesFromRing, FindsNone};
@@ -78,6 +80,9 @@ impl Inlet {
         ensures keeps { KeepsIn self.old self.new }
         ensures moved { IfOk result (λ b. b ≡ true → length self.new.queue.items ≡ length self.old.queue.items + 1) }
         ensures none { IfOk result (λ b. b ≡ false → seen_by self.new.ring ≡ []) }
+        ensures still { IfOk result (λ b. b ≡ false → self.new.queue.items ≡ self.old.queue.items) }
+        ensures filled { OnErr result (IsFilled self.old self.new) }
+        ensures places { deque_capacity self.old.queue ≤ deque_capacity self.new.queue }
     {
         self.queue.reserve(1)?;
         match self.pop(parkers) {
@@ -96,6 +101,8 @@ impl Inlet {
     pub fn gather(&mut self, parkers: &[Parker]) -> Result<bool, AllocError>
         ensures keeps { KeepsIn self.old self.new }
         ensures gathered { IfOk result (λ _. IsGathered self.new) }
+        ensures still { IfOk result (λ moved. moved ≡ false → self.new.queue.items ≡ self.old.queue.items) }
+        ensures filled { OnErr result (IsFilled self.old self.new) }
     {
         for moved in 0..Inlet::MOST {
             if !self.look(parkers)? {

@@ -1,10 +1,14 @@
 //! The loop of a worker in a thread of its own.
 
-ghost use Rattle.std.specs.Prelude.{◌≡◌, true, false, IsSome};
+ghost use Rattle.std.specs.Prelude.{◌≡◌, ◌⊎◌, ◌<◌, ◌+◌, true, false, IsSome};
+ghost use Rattle.std.specs.List.{All};
 ghost use Rattle.vx_worker.specs.Worker.{IsReady, outcome_of};
 ghost use Rattle.vx_worker.specs.declared.worker.StepOutcome.TheVariants as StepOutcome;
 ghost use Rattle.vx_threads.specs.Carrying.{hold_of};
+ghost use Rattle.vx_threads.specs.Inlets.{IsGathered};
+ghost use Rattle.vx_threads.specs.Waking.{NoneNoted};
 ghost use Rattle.vx_threads.specs.Ran.{Ran};
+ghost use Rattle.vx_threads.specs.declared.wires.Room.TheVariants as Room;
 
 use crate::ends::Ends;
 use crate::wires::ThreadWires;
@@ -66,7 +70,10 @@ fn rest<T: Wait>(
     parker: Option<&Parker>,
     inlets: usize,
     waited: usize,
-) -> usize {
+) -> usize
+    ensures moved { stepped ≡ StepOutcome.Moved → result ≡ 0 }
+    ensures again { result ≡ 0 → (stepped ≡ StepOutcome.Moved) ⊎ (YIELDS + inlets < waited) }
+{
     if matches!(stepped, StepOutcome::Moved) {
         return 0;
     }
@@ -97,6 +104,8 @@ fn step_in_thread<O: Source, S: Sends, G: Morsels, R: Router, H: Gate>(
     requires ready { IsReady O.types S.post S.is_open S.has_closed (G.types_of morsels.now) worker.old }
     ensures ready { IsReady O.types S.post S.is_open S.has_closed (G.types_of morsels.now) worker.new }
     ensures ended { result ≡ StepOutcome.Ended → IsSome (outcome_of worker.new) }
+    ensures gathered { result ≡ StepOutcome.Waiting → wires.new.room ≡ Room.There → All IsGathered wires.new.ends.ins.items }
+    ensures woken { result ≡ StepOutcome.Waiting → NoneNoted wires.new.ends.unwoken }
     ensures ran { Ran O.Stands O.op S.Stands S.task S.post S.bounds (R.route_of router.now) (G.morsel_of morsels.now)
         worker.old (hold_of wires.old.ends) worker.new (hold_of wires.new.ends) }
 {

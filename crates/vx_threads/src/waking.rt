@@ -35,10 +35,13 @@ pub struct Unwoken {
 }
 
 impl Unwoken {
-    ghost use Rattle.std.specs.Prelude.{◌<◌};
+    ghost use Rattle.std.specs.Prelude.{◌<◌, ℕ, ◌≡◌, true};
+    ghost use Rattle.vx_threads.specs.Waking.{IsNoted, NoneNoted, NotesPut};
 
     /// No consumer.
-    pub fn new() -> Unwoken {
+    pub fn new() -> Unwoken
+        ensures { NoneNoted result }
+    {
         Unwoken {
             places: 0,
             consumers: 0,
@@ -50,6 +53,8 @@ impl Unwoken {
     // Adds a packet of so many rows for the consumer at a place.
     fn add(&mut self, place: usize, rows: usize)
         requires { place < 64 }
+        ensures noted { IsNoted self.new place }
+        ensures keeps { (k : ℕ) → IsNoted self.old k → IsNoted self.new k }
     {
         self.packets = self.packets.saturating_add(1);
         self.rows = self.rows.saturating_add(rows);
@@ -76,7 +81,9 @@ impl Unwoken {
         closes: bool,
         parkers: &[Parker],
         first: usize,
-    ) {
+    )
+        ensures { NotesPut place answer.now (closes ≡ true) self.old self.new }
+    {
         if !matches!(answer, Put::Done) {
             return;
         }
@@ -91,7 +98,9 @@ impl Unwoken {
     }
 
     /// Wakes the consumers with packets, and forgets them.
-    pub fn wake_all(&mut self, parkers: &[Parker], first: usize) {
+    pub fn wake_all(&mut self, parkers: &[Parker], first: usize)
+        ensures { NoneNoted self.new }
+    {
         if self.places == 0 {
             return;
         }

@@ -35,8 +35,10 @@ pub struct ThreadWires<'d> {
 }
 
 impl<'d> ThreadWires<'d> {
-    ghost use Rattle.std.specs.Prelude.{◌≡◌, length, OnErr};
+    ghost use Rattle.std.specs.Prelude.{◌≡◌, ◌⊎◌, false, length, OnErr};
     ghost use Rattle.vx_worker.specs.Trace.{idle};
+    ghost use Rattle.vx_threads.specs.Gathering.{QueuesStay, FillsOne};
+    ghost use Rattle.vx_threads.specs.Waking.{NoneNoted};
     ghost use Rattle.vx_threads.specs.declared.wires.Room.TheVariants as Room;
     ghost use Rattle.vx_threads.specs.Inlets.{IsGathered};
     ghost use Rattle.vx_threads.specs.Carrying.{Does};
@@ -61,6 +63,10 @@ impl<'d> ThreadWires<'d> {
     pub fn gather(&mut self) -> bool
         ensures does { Does self.old.ends idle self.new.ends }
         ensures gathered { self.new.room ≡ Room.There → All IsGathered self.new.ends.ins.items }
+        ensures still { result ≡ false → QueuesStay self.old.ends.ins.items self.new.ends.ins.items }
+        ensures refused { self.new.room ≡ Room.Refused → (self.old.room ≡ Room.Refused) ⊎ FillsOne self.old.ends.ins.items self.new.ends.ins.items }
+        ensures reported { self.new.room ≡ Room.Reported → self.old.room ≡ Room.Reported }
+        ensures woken { NoneNoted self.new.ends.unwoken }
     {
         self.ends.wake_consumers(self.parkers);
         match self.room {

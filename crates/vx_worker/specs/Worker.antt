@@ -12,7 +12,7 @@ use Rattle.vx_ops.specs.declared.fault.StreamState.TheVariants as stream_state
 use Rattle.vx_ends.specs.Ship.{packet_of}
 use Rattle.vx_ends.specs.Tasks.{Task, Post, sends_by_ship, keeps, post_types}
 use Rattle.vx_worker.specs.Fragment.{Frag, Reads}
-use Rattle.vx_worker.specs.Trace.{Trace, ReadsAreOf, IsWellBy, HasFailedBy, HonestBy, Fate, well, failed}
+use Rattle.vx_worker.specs.Trace.{Trace, ReadsAreOf, ReadsBeginOf, IsWellBy, HasFailedBy, HonestBy, Fate, well, failed}
 use Rattle.vx_worker.specs.Trees.{shape, TreeStands}
 use Rattle.vx_worker.specs.Wishes.{Numbered, TreeTyped, tree_types}
 use Rattle.vx_worker.specs.Intake.{sources_of, has_met_end, IntakeStands, IsDrained}
@@ -113,6 +113,17 @@ pub record IsReady {O S : Type 0} (types : O → Shape) (post : S → Post) (is_
 abbrev pub closed_trace : {O S : Type 0} → Worker O S → Trace → Trace
 closed_trace w t = record t { sent = with_all (with_pending t.sent w.pending) w.closing.items }
 
+-- the operators of a worker that failed stand, and so do their counts, by what they read and gave before it did: a beginning of what was drawn and taken
+pub record OperatorsStand {O : Type 0} (OS : O → Ledger → Type 0) (m : ℕ → ℕ → List Row) (tree : Tree O) (t : Trace) : Type 0 where
+  pub reads : Reads
+  pub reads_begin : ReadsBeginOf m t reads
+  pub out : Stream
+  pub tree_stands : TreeStands OS tree reads out
+
+-- those of a worker that ended well stand by all of it
+abbrev pub EndedWell : {O : Type 0} → (OS : O → Ledger → Type 0) → (op : O → Op) → (goes : Routing) → (m : ℕ → ℕ → List Row) → Tree O → Task → Trace → Type 0
+EndedWell OS op goes m tree task t = (x : IsWellBy m goes (shape op tree) task t) × TreeStands OS tree x.reads x.out
+
 -- when a worker may have done what a trace says, where rows go as `goes` says, and m says the rows of each scan's morsels
 module _ {O S : Type 0} (OS : O → Ledger → Type 0) (op : O → Op) (SS : S → Routing → Stream → (ℕ → List PacketView) → Type 0) (task : S → Task) (goes : Routing)
     (m : ℕ → ℕ → List Row) where
@@ -132,10 +143,10 @@ module _ {O S : Type 0} (OS : O → Ledger → Type 0) (op : O → Op) (SS : S �
   -- by phase
   abbrev pub StandsIn : WorkerState → Worker O S → Trace → Type 0
   StandsIn Running w t = IsRunning w t
-  StandsIn (Failing f) w t = HasFailedBy m goes (shape op w.tree) (task w.sender) f (closed_trace w t)
-  StandsIn (Draining f) w t = HasFailedBy m goes (shape op w.tree) (task w.sender) f t
-  StandsIn Well w t = IsWellBy m goes (shape op w.tree) (task w.sender) t
-  StandsIn (Failed f) w t = HasFailedBy m goes (shape op w.tree) (task w.sender) f t × IsDrained (sources_of w.intake) t
+  StandsIn (Failing f) w t = HasFailedBy m goes (shape op w.tree) (task w.sender) f (closed_trace w t) × OperatorsStand OS m w.tree t
+  StandsIn (Draining f) w t = HasFailedBy m goes (shape op w.tree) (task w.sender) f t × OperatorsStand OS m w.tree t
+  StandsIn Well w t = EndedWell OS op goes m w.tree (task w.sender) t
+  StandsIn (Failed f) w t = HasFailedBy m goes (shape op w.tree) (task w.sender) f t × OperatorsStand OS m w.tree t × IsDrained (sources_of w.intake) t
 
   -- and what its intake notes as ended has ended
   abbrev pub WorkerStands : Worker O S → Trace → Type 0

@@ -163,13 +163,13 @@ impl<O: Source, S: Sends> Worker<O, S> {
             → RoutesAs (S.post (sender_of self.old)) (S.bounds (sender_of self.old)) (R.route_of router.now) goes
             → (t : Trace) → WorkerStands O.Stands O.op S.Stands S.task goes (G.morsel_of morsels.now) self.old t
             → WorkerStands O.Stands O.op S.Stands S.task goes (G.morsel_of morsels.now) self.new (added t e))
-            × Answered O.Stands O.want (W.IsFull wires.old) (W.LacksMemory wires.old) self.old self.new e result }
+            × Answered O.Stands O.want (W.IsFull wires.old) (W.LacksMemory wires.old) self.old self.new e result
+            × (counts_of self.new ≡ with_answer (with_event (counts_of self.old) e) result) }
         ensures ended { (result ≡ StepOutcome.Ended) ↔ IsSome (outcome_of self.new) }
         ensures honest { IfSome (outcome_of self.new) (λ o. (goes : Routing) (t : Trace)
             → WorkerStands O.Stands O.op S.Stands S.task goes (G.morsel_of morsels.now) self.new t
             → EndsAs O.op S.task goes (G.morsel_of morsels.now) o self.new t) }
         ensures still { IsSome (outcome_of self.old) → self.new ≡ self.old }
-        ensures counted { (e : Event) × W.Does wires.old e wires.new × (counts_of self.new ≡ with_answer (with_event (counts_of self.old) e) result) }
     {
         match self.advance(morsels, router, wires) {
             StepOutcome::Waiting => {
@@ -194,13 +194,13 @@ impl<O: Source, S: Sends> Worker<O, S> {
             → RoutesAs (S.post (sender_of self.old)) (S.bounds (sender_of self.old)) (R.route_of router.now) goes
             → (t : Trace) → WorkerStands O.Stands O.op S.Stands S.task goes (G.morsel_of morsels.now) self.old t
             → WorkerStands O.Stands O.op S.Stands S.task goes (G.morsel_of morsels.now) self.new (added t e))
-            × Answered O.Stands O.want (W.IsFull wires.old) (W.LacksMemory wires.old) self.old self.new e result }
+            × Answered O.Stands O.want (W.IsFull wires.old) (W.LacksMemory wires.old) self.old self.new e result
+            × (counts_of self.new ≡ with_event (counts_of self.old) e) }
         ensures ended { (result ≡ StepOutcome.Ended) ↔ IsSome (outcome_of self.new) }
         ensures honest { IfSome (outcome_of self.new) (λ o. (goes : Routing) (t : Trace)
             → WorkerStands O.Stands O.op S.Stands S.task goes (G.morsel_of morsels.now) self.new t
             → EndsAs O.op S.task goes (G.morsel_of morsels.now) o self.new t) }
         ensures still { IsSome (outcome_of self.old) → self.new ≡ self.old }
-        ensures counted { (e : Event) × W.Does wires.old e wires.new × (counts_of self.new ≡ with_event (counts_of self.old) e) }
     {
         match self.phase {
             WorkerState::Well => StepOutcome::Ended,
@@ -226,8 +226,8 @@ impl<O: Source, S: Sends> Worker<O, S> {
             → RoutesAs (S.post self.old.sender) (S.bounds self.old.sender) (R.route_of router.now) goes
             → (t : Trace) → WorkerStands O.Stands O.op S.Stands S.task goes (G.morsel_of morsels.now) self.old t
             → WorkerStands O.Stands O.op S.Stands S.task goes (G.morsel_of morsels.now) self.new (added t e))
-            × Answered O.Stands O.want (W.IsFull wires.old) (W.LacksMemory wires.old) self.old self.new e result }
-        ensures counted { (e : Event) × W.Does wires.old e wires.new × (counts_of self.new ≡ with_event (counts_of self.old) e) }
+            × Answered O.Stands O.want (W.IsFull wires.old) (W.LacksMemory wires.old) self.old self.new e result
+            × (counts_of self.new ≡ with_event (counts_of self.old) e) }
         ensures ended { (result ≡ StepOutcome.Ended) ↔ IsSome (outcome_of self.new) }
     {
         if self.pending.is_some() {
@@ -260,8 +260,8 @@ impl<O: Source, S: Sends> Worker<O, S> {
         ensures stands { (e : Event) × W.Does wires.old e wires.new × ((goes : Routing) (m : ℕ → ℕ → List Row) (t : Trace)
             → WorkerStands O.Stands O.op S.Stands S.task goes m self.old t
             → WorkerStands O.Stands O.op S.Stands S.task goes m self.new (added t e))
-            × Answered O.Stands O.want (W.IsFull wires.old) (W.LacksMemory wires.old) self.old self.new e result }
-        ensures counted { (e : Event) × W.Does wires.old e wires.new × (counts_of self.new ≡ with_event (counts_of self.old) e) }
+            × Answered O.Stands O.want (W.IsFull wires.old) (W.LacksMemory wires.old) self.old self.new e result
+            × (counts_of self.new ≡ with_event (counts_of self.old) e) }
         ensures goes_on { (outcome_of self.new ≡ None) × (result ≡ StepOutcome.Ended → ⊥) }
     {
         match self.pending.take() {
@@ -297,8 +297,8 @@ impl<O: Source, S: Sends> Worker<O, S> {
             → RoutesAs (S.post self.old.sender) (S.bounds self.old.sender) (R.route_of router.now) goes
             → (t : Trace) → WorkerStands O.Stands O.op S.Stands S.task goes (G.morsel_of morsels.now) self.old t
             → WorkerStands O.Stands O.op S.Stands S.task goes (G.morsel_of morsels.now) self.new (added t e))
-            × Answered O.Stands O.want (W.IsFull wires.old) (W.LacksMemory wires.old) self.old self.new e result }
-        ensures counted { (e : Event) × W.Does wires.old e wires.new × (counts_of self.new ≡ with_event (counts_of self.old) e) }
+            × Answered O.Stands O.want (W.IsFull wires.old) (W.LacksMemory wires.old) self.old self.new e result
+            × (counts_of self.new ≡ with_event (counts_of self.old) e) }
         ensures goes_on { (outcome_of self.new ≡ None) × (result ≡ StepOutcome.Ended → ⊥) }
     {
         let wish = self.tree.wants();
@@ -363,8 +363,8 @@ impl<O: Source, S: Sends> Worker<O, S> {
         ensures stands { (e : Event) × W.Does wires.old e wires.new × ((goes : Routing) (m : ℕ → ℕ → List Row) (t : Trace)
             → WorkerStands O.Stands O.op S.Stands S.task goes m self.old t
             → WorkerStands O.Stands O.op S.Stands S.task goes m self.new (added t e))
-            × Answered O.Stands O.want (W.IsFull wires.old) (W.LacksMemory wires.old) self.old self.new e result }
-        ensures counted { (e : Event) × W.Does wires.old e wires.new × (counts_of self.new ≡ with_event (counts_of self.old) e) }
+            × Answered O.Stands O.want (W.IsFull wires.old) (W.LacksMemory wires.old) self.old self.new e result
+            × (counts_of self.new ≡ with_event (counts_of self.old) e) }
         ensures goes_on { (outcome_of self.new ≡ None) × (result ≡ StepOutcome.Ended → ⊥) }
     {
         match self.next_closing() {
@@ -420,8 +420,8 @@ impl<O: Source, S: Sends> Worker<O, S> {
         ensures stands { (e : Event) × W.Does wires.old e wires.new × ((goes : Routing) (m : ℕ → ℕ → List Row) (t : Trace)
             → WorkerStands O.Stands O.op S.Stands S.task goes m self.old t
             → WorkerStands O.Stands O.op S.Stands S.task goes m self.new (added t e))
-            × Answered O.Stands O.want (W.IsFull wires.old) (W.LacksMemory wires.old) self.old self.new e result }
-        ensures counted { (e : Event) × W.Does wires.old e wires.new × (counts_of self.new ≡ with_event (counts_of self.old) e) }
+            × Answered O.Stands O.want (W.IsFull wires.old) (W.LacksMemory wires.old) self.old self.new e result
+            × (counts_of self.new ≡ with_event (counts_of self.old) e) }
         ensures ended { (result ≡ StepOutcome.Ended) ↔ IsSome (outcome_of self.new) }
     {
         match self.intake.drain(wires) {

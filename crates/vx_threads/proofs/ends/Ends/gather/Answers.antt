@@ -4,11 +4,14 @@ use Rattle.std.proofs.lemmas.Bool.{cases_lt}
 use Rattle.std.proofs.lemmas.Option.{slice_get-get_or}
 use Rattle.vx_worker.specs.Trace.{idle}
 use Rattle.vx_threads.specs.Carrying.{hold_of}
+use Rattle.vx_threads.specs.Gathering.{FillsOne}
 use Rattle.vx_threads.proofs.Bearing.{carries-idle, carries-then}
+use Rattle.vx_threads.proofs.Queues.{stays-self, stays-both, on-err}
 use Rattle.vx_threads.proofs.ends.Ends.gather.Goals as goal
 
 pub loop-place-init : goal.loop-place-init
-loop-place-init c = (carries-idle (hold_of c.args.self.now), refl, refl, λ k e l at. absurd (omega (arith, l)))
+loop-place-init c =
+    (carries-idle (hold_of c.args.self.now), refl, refl, λ k e l at. absurd (omega (arith, l)), λ e. stays-self c.args.self.now.ins.items, λ k l. refl, refl)
 
 pub returns-in_err-moved-clause-does : goal.returns-in_err-moved-clause-does
 returns-in_err-moved-clause-does c =
@@ -25,6 +28,9 @@ loop-place-preserved c = (
         let q : k ≡ c.loop-place.place = omega (arith, l, b) in
         c.in_ok-moved.ensures.here e (subst (λ n. slice_get c.gather_at.new.self.ins.items n ≡ Some e) q at)
   ],
+  stays-both c.args.self.now.ins.items c.loop-place.self.ins.items c.gather_at.new.self.ins.items c.loop-place.moved c.in_ok-moved.field-0 c.loop-place.invariant.4 c.in_ok-moved.ensures.still,
+  λ k l. c.gather_at.ensures.others k (λ q. absurd (omega (arith, l, q))) ∙ c.loop-place.invariant.5 k (omega (arith, l)),
+  c.gather_at.ensures.unwoken ∙ c.loop-place.invariant.6,
 )
 
 pub returns-clause-gathered : goal.returns-clause-gathered
@@ -35,3 +41,10 @@ returns-clause-gathered c = λ k d l.
     let same = c.loop-place.invariant.2 in
     let within : k < c.loop-place.place = omega (arith, l, count, past, same) in
     c.loop-place.invariant.3 k (get_or ins k d) within (slice_get-get_or ins k d l)
+
+pub returns-in_err-moved-clause-filled : goal.returns-in_err-moved-clause-filled
+returns-in_err-moved-clause-filled c =
+    let f = c.in_err-moved.ensures.filled in
+    let old = c.args.self.now.ins.items in
+    let new = c.gather_at.new.self.ins.items in
+    on-err (FillsOne old new) c.from_residual.result (c.loop-place.place, (f.0, f.1, sym (c.loop-place.invariant.5 c.loop-place.place (omega arith)) ∙ f.2, f.3, f.4))

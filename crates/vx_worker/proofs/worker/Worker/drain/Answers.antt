@@ -3,7 +3,7 @@ use Rattle.vx_worker.specs.Answering.{DrainFinds}
 use Rattle.vx_worker.specs.declared.worker.WorkerState.TheVariants.{Draining}
 use Rattle.vx_worker.proofs.Answering.{drains-none, drains-one}
 use Rattle.vx_worker.proofs.Counting.{take-counted}
-use Rattle.vx_worker.proofs.WorkerSteps.{failed-later}
+use Rattle.vx_worker.proofs.WorkerSteps.{failed-later, operators-later}
 use Rattle.vx_worker.proofs.worker.Worker.drain.Goals as goal
 
 pub returns-in-Dropped-clause-stands : goal.returns-in-Dropped-clause-stands
@@ -12,9 +12,10 @@ returns-in-Dropped-clause-stands g c =
     rw c.requires (
       x.0,
       x.1,
-      λ goes m t h. (x.2.stands t h.0, failed-later m goes _ _ c.args.fault t x.0 x.2.is_take h.1),
+      λ goes m t h. (x.2.stands t h.0, (failed-later m goes _ _ c.args.fault t x.0 x.2.is_take h.1.0, operators-later g.O.Source.Stands m c.args.self.now.tree t x.0 x.2.is_take h.1.1)),
       drains-one g.O.Source.Stands g.O.Source.want (g.W.Wires.IsFull c.args.wires.now) (g.W.Wires.LacksMemory c.args.wires.now) (Draining c.args.fault) c.args.self.now (record c.args.self.now { intake = c.drain.new.self; phase = Draining c.args.fault }) x.0
           (subst (λ r. DrainFinds (g.W.Wires.LacksMemory c.args.wires.now) c.args.self.now.intake r x.0) c.in-Dropped.is x.3),
+      take-counted c.args.self.now.counts x.0 x.2.is_take,
     )
 
 pub returns-in-Nothing-clause-stands : goal.returns-in-Nothing-clause-stands
@@ -23,9 +24,10 @@ returns-in-Nothing-clause-stands g c =
     rw c.requires (
       x.0,
       x.1,
-      λ goes m t h. (x.2.stands t h.0, failed-later m goes _ _ c.args.fault t x.0 x.2.is_take h.1),
+      λ goes m t h. (x.2.stands t h.0, (failed-later m goes _ _ c.args.fault t x.0 x.2.is_take h.1.0, operators-later g.O.Source.Stands m c.args.self.now.tree t x.0 x.2.is_take h.1.1)),
       drains-none g.O.Source.Stands g.O.Source.want (g.W.Wires.IsFull c.args.wires.now) (g.W.Wires.LacksMemory c.args.wires.now) (Draining c.args.fault) c.args.self.now (record c.args.self.now { intake = c.drain.new.self; phase = Draining c.args.fault }) c.args.fault x.0 refl
           (subst (λ r. DrainFinds (g.W.Wires.LacksMemory c.args.wires.now) c.args.self.now.intake r x.0) c.in-Nothing.is x.3),
+      take-counted c.args.self.now.counts x.0 x.2.is_take,
     )
 
 pub returns-in-All-clause-stands : goal.returns-in-All-clause-stands
@@ -34,21 +36,7 @@ returns-in-All-clause-stands g c =
     rw c.requires (
       x.0,
       x.1,
-      λ goes m t h. (x.2.stands t h.0, (failed-later m goes _ _ c.args.fault t x.0 x.2.is_take h.1, c.drain.ensures.all c.in-All.is _ (x.2.stands t h.0))),
+      λ goes m t h. (x.2.stands t h.0, (failed-later m goes _ _ c.args.fault t x.0 x.2.is_take h.1.0, operators-later g.O.Source.Stands m c.args.self.now.tree t x.0 x.2.is_take h.1.1, c.drain.ensures.all c.in-All.is _ (x.2.stands t h.0))),
       refl,
+      take-counted c.args.self.now.counts x.0 x.2.is_take,
     )
-
-pub returns-in-Dropped-clause-counted : goal.returns-in-Dropped-clause-counted
-returns-in-Dropped-clause-counted g c =
-    let x = c.drain.ensures.drains in
-    (x.0, x.1, take-counted c.args.self.now.counts x.0 x.2.is_take)
-
-pub returns-in-Nothing-clause-counted : goal.returns-in-Nothing-clause-counted
-returns-in-Nothing-clause-counted g c =
-    let x = c.drain.ensures.drains in
-    (x.0, x.1, take-counted c.args.self.now.counts x.0 x.2.is_take)
-
-pub returns-in-All-clause-counted : goal.returns-in-All-clause-counted
-returns-in-All-clause-counted g c =
-    let x = c.drain.ensures.drains in
-    (x.0, x.1, take-counted c.args.self.now.counts x.0 x.2.is_take)

@@ -6,7 +6,7 @@ use Rattle.vx_worker.specs.Intake.{IntakeStands}
 use Rattle.vx_worker.specs.Answering.{by_rows, by_fault}
 use Rattle.vx_worker.proofs.Answering.{waits, moves}
 use Rattle.vx_worker.proofs.Counting.{read-counted}
-use Rattle.vx_worker.proofs.WorkerSteps.{going-of, ready-fails, ready-runs, loses, gives-fault, turns, running}
+use Rattle.vx_worker.proofs.WorkerSteps.{going-of, ready-fails, ready-runs, unturned, turned, loses, gives-fault, turns, running}
 use Rattle.vx_worker.proofs.worker.Worker.pull.Goals as goal
 
 pub returns-in-Err-clause-ready : goal.returns-in-Err-clause-ready
@@ -32,8 +32,10 @@ returns-in-Err-clause-stands g c =
           (ap (Rattle.vx_worker.specs.Trees.shape g.O.Source.op) c.fail.ensures.tree) c.no_memory.ensures
           (subst (λ k. IntakeStands k (Rattle.vx_worker.specs.Trace.added t x.0)) (sym c.fail.ensures.intake) (x.2.stands t h.0)) x.2.is_read c.requires.empty
           (λ a put s. subst (λ z. BeganSending goes (g.S.Sends.task z) a.rows put) (sym c.fail.ensures.sender) (g.met.S.Sends.begun w.sender goes a put s unclosed))
+          (unturned g.O.Source.Stands g.O.Source.op g.S.Sends.Stands g.S.Sends.task goes (g.G.Morsels.morsel_of c.args.morsels.now) w v.tree t x.0 c.fail.ensures.tree x.2.is_read)
           (running g.O.Source.Stands g.O.Source.op g.S.Sends.Stands g.S.Sends.task goes (g.G.Morsels.morsel_of c.args.morsels.now) w t c.requires.running h),
       rw c.fail.ensures.moved (by_fault c.no_memory.result c.requires.running c.fail.ensures.phase),
+      c.fail.ensures.counts ∙ read-counted c.args.self.now.intake c.args.self.now.counts x.0 x.2.is_read,
     )
 
 pub returns-in-Waiting-clause-ready : goal.returns-in-Waiting-clause-ready
@@ -53,6 +55,7 @@ returns-in-Waiting-clause-stands g c =
           c.requires.running c.requires.empty c.wants-wish.ensures x.2 h.0 c.in-Waiting.ensures.numbered c.in-Waiting.ensures.stands c.requires.empty (λ s put k. k)
           (λ s o. let off : false ≡ true = sym c.requires.goes_on ∙ o in cc) (running g.O.Source.Stands g.O.Source.op g.S.Sends.Stands g.S.Sends.task goes (g.G.Morsels.morsel_of c.args.morsels.now) w t c.requires.running h),
       waits g.O.Source.Stands g.O.Source.want (g.W.Wires.IsFull c.args.wires.now) (g.W.Wires.LacksMemory c.args.wires.now) (g.G.Morsels.morsel_of c.args.morsels.now) w (record w { tree = c.turn.new.self; intake = c.fetch.new.self }) c.fetch.new.self c.wants-wish.result c.in-Ok.got x.0 c.requires.running c.wants-wish.ensures (search rules) x.2.answers,
+      read-counted c.args.self.now.intake c.args.self.now.counts x.0 x.2.is_read,
     )
 
 pub returns-in-Waiting-2-clause-ready : goal.returns-in-Waiting-2-clause-ready
@@ -72,6 +75,7 @@ returns-in-Waiting-2-clause-stands g c =
           c.requires.running c.requires.empty c.wants-wish.ensures x.2 h.0 c.in-Waiting-2.ensures.numbered c.in-Waiting-2.ensures.stands c.requires.empty (λ s put k. k)
           (λ s o. let off : false ≡ true = sym c.requires.goes_on ∙ o in cc) (running g.O.Source.Stands g.O.Source.op g.S.Sends.Stands g.S.Sends.task goes (g.G.Morsels.morsel_of c.args.morsels.now) w t c.requires.running h),
       moves g.O.Source.Stands g.O.Source.want (g.W.Wires.IsFull c.args.wires.now) (g.W.Wires.LacksMemory c.args.wires.now) (g.G.Morsels.morsel_of c.args.morsels.now) w (record w { tree = c.turn.new.self; intake = c.fetch.new.self }) c.fetch.new.self c.wants-wish.result c.in-Ok.got x.0 c.requires.running c.requires.empty c.requires.goes_on c.wants-wish.ensures (search rules) x.2.answers,
+      read-counted c.args.self.now.intake c.args.self.now.counts x.0 x.2.is_read,
     )
 
 pub returns-in-Fault-clause-ready : goal.returns-in-Fault-clause-ready
@@ -98,6 +102,7 @@ returns-in-Fault-clause-stands g c =
           (λ a put s. subst (λ z. BeganSending goes (g.S.Sends.task z) a.rows put) (sym c.fail-in-Fault.ensures.sender) (g.met.S.Sends.begun w.sender goes a put s unclosed))
           (running g.O.Source.Stands g.O.Source.op g.S.Sends.Stands g.S.Sends.task goes (g.G.Morsels.morsel_of c.args.morsels.now) w t c.requires.running h),
       rw c.fail-in-Fault.ensures.moved (by_fault c.in-Fault.fault c.requires.running c.fail-in-Fault.ensures.phase),
+      c.fail-in-Fault.ensures.counts ∙ read-counted c.args.self.now.intake c.args.self.now.counts x.0 x.2.is_read,
     )
 
 pub returns-in-Ok-accept-clause-ready : goal.returns-in-Ok-accept-clause-ready
@@ -117,6 +122,7 @@ returns-in-Ok-accept-clause-stands g c =
           c.requires.running c.requires.empty c.wants-wish.ensures x.2 h.0 c.in-Gave.ensures.numbered c.in-Gave.ensures.stands c.requires.empty (c.in-Ok-accept.ensures.ok goes r)
           (λ s o. let off : false ≡ true = sym c.requires.goes_on ∙ o in cc) (running g.O.Source.Stands g.O.Source.op g.S.Sends.Stands g.S.Sends.task goes (g.G.Morsels.morsel_of c.args.morsels.now) w t c.requires.running h),
       by_rows c.in-Ok.got (polled.Gave c.in-Gave.rows) (λ e. cc) c.in-Gave.ensures.stands,
+      read-counted c.args.self.now.intake c.args.self.now.counts x.0 x.2.is_read,
     )
 
 pub returns-in-Ok-accept-2-clause-ready : goal.returns-in-Ok-accept-2-clause-ready
@@ -136,6 +142,7 @@ returns-in-Ok-accept-2-clause-stands g c =
           c.requires.running c.requires.empty c.wants-wish.ensures x.2 h.0 c.in-End.ensures.numbered c.in-End.ensures.stands c.requires.empty (c.in-Ok-accept-2.ensures.ok goes r)
           (λ s o. refl) (running g.O.Source.Stands g.O.Source.op g.S.Sends.Stands g.S.Sends.task goes (g.G.Morsels.morsel_of c.args.morsels.now) w t c.requires.running h),
       by_rows c.in-Ok.got polled.End (λ e. cc) c.in-End.ensures.stands,
+      read-counted c.args.self.now.intake c.args.self.now.counts x.0 x.2.is_read,
     )
 
 pub returns-in-Err-accept-clause-ready : goal.returns-in-Err-accept-clause-ready
@@ -164,8 +171,10 @@ returns-in-Err-accept-clause-stands g c =
           (subst (λ k. IntakeStands k (Rattle.vx_worker.specs.Trace.added t x.0)) (sym c.fail-in-Err-accept.ensures.intake) (x.2.stands t h.0)) x.2.is_read c.requires.empty
           (λ a put s. subst (λ z. BeganSending goes (g.S.Sends.task z) a.rows put) (sym c.fail-in-Err-accept.ensures.sender)
           (g.met.S.Sends.begun s' goes (record { rows = a.rows; over = stream_state.Failed c.no_memory-in-Err-accept.result }) put (c.in-Err-accept.ensures.err goes a put s c.no_memory-in-Err-accept.result) unclosed))
+          (λ r'. turned g.O.Source.Stands g.O.Source.op g.S.Sends.Stands g.S.Sends.task goes (g.G.Morsels.morsel_of c.args.morsels.now) g.O.Source.want w c.fetch.new.self v.tree c.turn.new.self t x.0 c.wants-wish.result c.in-Ok.got (polled.Gave c.in-Gave.rows) c.fail-in-Err-accept.ensures.tree c.wants-wish.ensures x.2 h.0 c.in-Gave.ensures.stands r')
           (running g.O.Source.Stands g.O.Source.op g.S.Sends.Stands g.S.Sends.task goes (g.G.Morsels.morsel_of c.args.morsels.now) w t c.requires.running h),
       rw c.fail-in-Err-accept.ensures.moved (by_fault c.no_memory-in-Err-accept.result c.requires.running c.fail-in-Err-accept.ensures.phase),
+      c.fail-in-Err-accept.ensures.counts ∙ read-counted c.args.self.now.intake c.args.self.now.counts x.0 x.2.is_read,
     )
 
 pub returns-in-Err-accept-2-clause-ready : goal.returns-in-Err-accept-2-clause-ready
@@ -194,46 +203,8 @@ returns-in-Err-accept-2-clause-stands g c =
           (subst (λ k. IntakeStands k (Rattle.vx_worker.specs.Trace.added t x.0)) (sym c.fail-in-Err-accept-2.ensures.intake) (x.2.stands t h.0)) x.2.is_read c.requires.empty
           (λ a put s. subst (λ z. BeganSending goes (g.S.Sends.task z) a.rows put) (sym c.fail-in-Err-accept-2.ensures.sender)
           (g.met.S.Sends.begun s' goes (record { rows = a.rows; over = stream_state.Failed c.no_memory-in-Err-accept-2.result }) put (c.in-Err-accept-2.ensures.err goes a put s c.no_memory-in-Err-accept-2.result) unclosed))
+          (λ r'. turned g.O.Source.Stands g.O.Source.op g.S.Sends.Stands g.S.Sends.task goes (g.G.Morsels.morsel_of c.args.morsels.now) g.O.Source.want w c.fetch.new.self v.tree c.turn.new.self t x.0 c.wants-wish.result c.in-Ok.got polled.End c.fail-in-Err-accept-2.ensures.tree c.wants-wish.ensures x.2 h.0 c.in-End.ensures.stands r')
           (running g.O.Source.Stands g.O.Source.op g.S.Sends.Stands g.S.Sends.task goes (g.G.Morsels.morsel_of c.args.morsels.now) w t c.requires.running h),
       rw c.fail-in-Err-accept-2.ensures.moved (by_fault c.no_memory-in-Err-accept-2.result c.requires.running c.fail-in-Err-accept-2.ensures.phase),
+      c.fail-in-Err-accept-2.ensures.counts ∙ read-counted c.args.self.now.intake c.args.self.now.counts x.0 x.2.is_read,
     )
-
-pub returns-in-Err-clause-counted : goal.returns-in-Err-clause-counted
-returns-in-Err-clause-counted g c =
-    let x = c.in-Err.ensures.fetches in
-    (x.0, x.1, c.fail.ensures.counts ∙ read-counted c.args.self.now.intake c.args.self.now.counts x.0 x.2.is_read)
-
-pub returns-in-Waiting-clause-counted : goal.returns-in-Waiting-clause-counted
-returns-in-Waiting-clause-counted g c =
-    let x = c.in-Ok.ensures.fetches in
-    (x.0, x.1, read-counted c.args.self.now.intake c.args.self.now.counts x.0 x.2.is_read)
-
-pub returns-in-Waiting-2-clause-counted : goal.returns-in-Waiting-2-clause-counted
-returns-in-Waiting-2-clause-counted g c =
-    let x = c.in-Ok.ensures.fetches in
-    (x.0, x.1, read-counted c.args.self.now.intake c.args.self.now.counts x.0 x.2.is_read)
-
-pub returns-in-Fault-clause-counted : goal.returns-in-Fault-clause-counted
-returns-in-Fault-clause-counted g c =
-    let x = c.in-Ok.ensures.fetches in
-    (x.0, x.1, c.fail-in-Fault.ensures.counts ∙ read-counted c.args.self.now.intake c.args.self.now.counts x.0 x.2.is_read)
-
-pub returns-in-Ok-accept-clause-counted : goal.returns-in-Ok-accept-clause-counted
-returns-in-Ok-accept-clause-counted g c =
-    let x = c.in-Ok.ensures.fetches in
-    (x.0, x.1, read-counted c.args.self.now.intake c.args.self.now.counts x.0 x.2.is_read)
-
-pub returns-in-Ok-accept-2-clause-counted : goal.returns-in-Ok-accept-2-clause-counted
-returns-in-Ok-accept-2-clause-counted g c =
-    let x = c.in-Ok.ensures.fetches in
-    (x.0, x.1, read-counted c.args.self.now.intake c.args.self.now.counts x.0 x.2.is_read)
-
-pub returns-in-Err-accept-clause-counted : goal.returns-in-Err-accept-clause-counted
-returns-in-Err-accept-clause-counted g c =
-    let x = c.in-Ok.ensures.fetches in
-    (x.0, x.1, c.fail-in-Err-accept.ensures.counts ∙ read-counted c.args.self.now.intake c.args.self.now.counts x.0 x.2.is_read)
-
-pub returns-in-Err-accept-2-clause-counted : goal.returns-in-Err-accept-2-clause-counted
-returns-in-Err-accept-2-clause-counted g c =
-    let x = c.in-Ok.ensures.fetches in
-    (x.0, x.1, c.fail-in-Err-accept-2.ensures.counts ∙ read-counted c.args.self.now.intake c.args.self.now.counts x.0 x.2.is_read)

@@ -23,6 +23,7 @@ returns-in-Some-clause-stands g c =
           (λ s k. subst (λ z. g.S.Sends.Stands c.next.new.self goes s (with_packet (with_pending t.sent z) c.in-Some.next.0 (Some c.in-Some.next.1))) none
           (c.in-Some.ensures.some goes s (with_pending t.sent w.pending) k)) h),
       x.3,
+      x.4,
     )
 
 pub returns-then-self-clause-stands : goal.returns-then-self-clause-stands
@@ -37,6 +38,7 @@ returns-then-self-clause-stands g c =
         ends-well g.O.Source.Stands g.O.Source.op g.S.Sends.Stands g.S.Sends.task goes m g.met.O.Source.abides w c.next.new.self t none c.if-self.true
             (c.in-None.ensures.drained goes) (running g.O.Source.Stands g.O.Source.op g.S.Sends.Stands g.S.Sends.task goes m w t c.requires.running h),
       ),
+      refl,
       refl,
     )
 
@@ -55,4 +57,5 @@ returns-in-None-clause-stands g c =
           (asked g.O.Source.Stands g.O.Source.op g.S.Sends.Stands g.S.Sends.task goes m w (record w { sender = s' }) t c.requires.running c.requires.running refl refl refl
           (λ s k. c.in-None.ensures.none goes s (with_pending t.sent w.pending) k) h),
       x.3,
+      x.4,
     )

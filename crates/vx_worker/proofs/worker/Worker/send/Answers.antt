@@ -29,7 +29,8 @@ returns-in-NoMemory-clause-stands g c =
           (λ a put s. subst (λ z. BeganSending goes (g.S.Sends.task z) a.rows put) (sym c.fail.ensures.sender) (g.met.S.Sends.begun w.sender goes a put s open_sender))
           (running g.O.Source.Stands g.O.Source.op g.S.Sends.Stands g.S.Sends.task goes m w t c.requires.running h),
       rw c.fail.ensures.moved (by_fault c.no_memory.result c.requires.running c.fail.ensures.phase),
+      c.fail.ensures.counts,
     )
 
 pub returns-in-Full-clause-stands : goal.returns-in-Full-clause-stands
-returns-in-Full-clause-stands g c = (idle, c.in-Full.ensures.2, search rules, is_full c.in-Some.to c.in-Full.packet refl c.in-Full.ensures.1 refl)
+returns-in-Full-clause-stands g c = (idle, c.in-Full.ensures.2, search rules, is_full c.in-Some.to c.in-Full.packet refl c.in-Full.ensures.1 refl, refl)

@@ -1,0 +1,9 @@
+pub mod Tests
+pub mod Standing
+pub mod Changing
+pub mod Keeping
+pub mod Starting
+pub mod Resting
+pub mod Two
+pub mod Stuck
+pub mod Ending

@@ -1,0 +1,3 @@
+pub mod Crew
+pub mod Events
+pub mod Waking
