@@ -113,7 +113,3 @@ pub claimed-total : (catalog : ℕ → Relation) (p : Plan) (q : Part) (order : 
 claimed-total catalog p q order x c w is same wide =
     let w_is : w ≡ width catalog x = wide ∙ sym (claimed-width catalog p q order x is) in
     rw (same, w_is) refl
-
--- whether an order contains all columns
-pub total-first : (w : ℕ) (keys : List (List ℕ)) (order : List ℕ) (b : Bool) → b ≡ has_key whole_rows (first_columns w ∷ []) order → covers keys order ≡ false → b ≡ (covers keys order || within (numbers_below w) order)
-total-first w keys order b e none = e ∙ or-false (within (first_columns w) order) ∙ sym (all-first (contains order) w) ∙ ap (λ a. a || within (numbers_below w) order) (sym none)

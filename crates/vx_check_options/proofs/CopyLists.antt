@@ -32,21 +32,6 @@ pub left_here : (test : ℕ → Bool) (n : ℕ) (copies : List ℕ) (b : Bool) �
 left_here test n copies b e f h =
     e ∙ sym (append-nil (filter test (first_columns n))) ∙ ap (λ a. filter test (first_columns n) ++ cond a (n ∷ []) []) (sym h ∙ f) ∙ sym (filter-append test (first_columns n) (n ∷ [])) ∙ ap (filter test) (sym (first_push n))
 
-from-at : (s n i : ℕ) → i < n → get_or (columns_from s n) i 0 ≡ s + i
-from-at s zero i h = absurd (omega (arith, h))
-from-at s (suc n) zero h = omega arith
-from-at s (suc n) (suc i) h = let e = from-at (suc s) n i (omega (arith, h)) in omega (arith, e)
-
-pub first_at : (n i : ℕ) → i < n → get_or (first_columns n) i 0 ≡ i
-first_at n i h = let e = from-at 0 n i h in omega (arith, e)
-
-from-length : (s n : ℕ) → length (columns_from s n) ≡ n
-from-length s zero = refl
-from-length s (suc n) = let e = from-length (suc s) n in omega (arith, e)
-
-pub first_length : (n : ℕ) → length (first_columns n) ≡ n
-first_length n = from-length 0 n
-
 -- one column further
 pub places-step : (kept : List ℕ) (n col : ℕ) → n < length kept
     → places_from n (drop n kept) col
