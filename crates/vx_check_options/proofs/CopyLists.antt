@@ -1,5 +1,5 @@
 -- Copies of columns, as a loop finds them.
-use Rattle.std.proofs.Common.{Vec, Global, map, ◌≡◌, ℕ, zero, suc, ◌+◌, ◌<◌, Bool, true, false, cond, List, [], ◌∷◌, ◌++◌, length, get_or, drop, refl, sym, ap, ◌∙◌, arith, Option, Some, None, slice_get, eqb, append_assoc, Result, Ok, Err}
+use Rattle.std.proofs.Common.{Vec, Global, map, ◌≡◌, ℕ, ◌+◌, ◌<◌, Bool, true, false, cond, List, [], ◌∷◌, ◌++◌, length, get_or, drop, refl, sym, ap, ◌∙◌, arith, Option, Some, None, slice_get, eqb, append_assoc, Result, Ok, Err}
 use Rattle.std.specs.Option.{option_eq}
 use Rattle.std.specs.Result.{IfOk}
 use Rattle.std.specs.Vec.{vec_len}
@@ -12,7 +12,7 @@ use Rattle.std.proofs.lemmas.Bool.Decides.{nat_tests}
 use Rattle.vx_check_rules.specs.Behaviour.{is_column}
 use Rattle.vx_check_rules.proofs.Exact.{slice-at}
 use Rattle.vx_check_rules.proofs.ColumnFacts.{first_push}
-use Rattle.vx_plan_nodes.specs.Phases.{columns_from, first_columns}
+use Rattle.vx_plan_nodes.specs.Phases.{first_columns}
 use Rattle.vx_check_options.specs.Options.{places_from}
 
 turned : (a b : ℕ) → eqb a b ≡ eqb b a

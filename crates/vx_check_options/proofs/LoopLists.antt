@@ -32,6 +32,20 @@ pub filter-skip : {X : Type 0} (test : X → Bool) (xs : List X) (i : ℕ) (d : 
 filter-skip test xs i d b old within is here lacks =
     is ∙ sym (append-nil (filter test (take i xs))) ∙ ap (λ a. filter test (take i xs) ++ cond a (get_or xs i d ∷ []) []) (sym lacks) ∙ sym (filtered test xs i d b within here)
 
+-- each list with a column in front
+pub front-next : (col : ℕ) (vs : List (Vec ℕ Global)) (i : ℕ) (v copy made : Vec ℕ Global) (found new : List (Vec ℕ Global)) (before : List (List ℕ)) → i < length vs → v ≡ get_or vs i v → copy.items ≡ v.items
+    → made.items ≡ col ∷ copy.items → new ≡ found ++ made ∷ [] → map (λ (u : Vec ℕ Global). u.items) found ≡ before ++ map (λ ds. col ∷ ds) (map (λ (u : Vec ℕ Global). u.items) (take i vs))
+    → map (λ (u : Vec ℕ Global). u.items) new ≡ before ++ map (λ ds. col ∷ ds) (map (λ (u : Vec ℕ Global). u.items) (take (i + 1) vs))
+front-next col vs i v copy made found new before within is copied put pushed left =
+    let items : Vec ℕ Global → List ℕ = λ (u : Vec ℕ Global). u.items in
+    let longer : List ℕ → List ℕ = λ ds. col ∷ ds in
+    let old : List (List ℕ) = map longer (map items (take i vs)) in
+    let step : map longer (map items (take (i + 1) vs)) ≡ old ++ (col ∷ v.items) ∷ [] =
+    ap (λ us. map longer (map items us)) (take_more vs i v within) ∙ ap (map longer) (map_push items (take i vs) (get_or vs i v)) ∙ map_push longer (map items (take i vs)) (items (get_or vs i v))
+    ∙ ap (λ (u : Vec ℕ Global). old ++ (col ∷ u.items) ∷ []) (sym is) in
+    ap (map items) pushed ∙ map_push items found made ∙ ap (λ ls. ls ++ made.items ∷ []) left ∙ ap (λ l. (before ++ old) ++ l ∷ []) (put ∙ ap longer copied) ∙ append_assoc before old ((col ∷ v.items) ∷ [])
+    ∙ ap (λ ls. before ++ ls) (sym step)
+
 -- the same number
 pub same-eqb : (a b : ℕ) → a ≡ b → (a == b) ≡ true
 same-eqb a b e = grind (arith, nat_tests)
