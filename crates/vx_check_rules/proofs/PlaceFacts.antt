@@ -1,7 +1,7 @@
 -- Places of columns, one by one.
 use Rattle.std.proofs.Common.{Vec, Global, map, append_assoc, ◌≡◌, ℕ, suc, ◌+◌, ◌<◌, Bool, true, false, List, [], ◌∷◌, ◌++◌, length, drop, get_or, Option, Some, None, is_some, refl, sym, ap, ◌∙◌, add-one, drop-cons}
 use Rattle.std.specs.List.{cons_option}
-use Rattle.std.proofs.lemmas.List.{map-append}
+use Rattle.std.proofs.lemmas.List.{map-append, append-nil, at_drop_more}
 use Rattle.vx_plan_nodes.specs.Describe.{Copying, place}
 use Rattle.vx_check_rules.specs.Rules.{cons_both}
 use Rattle.vx_check_rules.specs.Behaviour.{places, place_then, front_places, kept_keys}
@@ -44,3 +44,17 @@ kept-put k keys i key b olds news new filled h e is has empty full pushed =
     let all : front_places k key ≡ filled.items = sym (full ∙ ap (λ xs. xs ++ front_places k key) empty) in
     ap (λ ks. map items olds ++ ks) (kept-here k keys i key b h e is has) ∙ ap (λ x. map items olds ++ (x ∷ rest)) all
     ∙ sym (ap (λ vs. map items vs ++ rest) pushed ∙ ap (λ xs. xs ++ rest) (map-append items olds (filled ∷ [])) ∙ append_assoc (map items olds) (filled.items ∷ []) rest)
+
+-- a column with no place ends the front, and one with a place continues it
+front-here : (k : Copying) (cols : List ℕ) (i : ℕ) (o : Option ℕ) → i < length cols → o ≡ place k (get_or cols i 0) → front_places k (drop i cols) ≡ place_then o (front_places k (drop (i + 1) cols))
+front-here k cols i o h e = at_drop_more (front_places k) cols i 0 h ∙ ap (λ p. place_then p (front_places k (drop (i + 1) cols))) (sym e)
+
+pub front-none : (k : Copying) (cols : List ℕ) (i : ℕ) (o : Option ℕ) (found all : List ℕ) → i < length cols → o ≡ place k (get_or cols i 0) → all ≡ found ++ front_places k (drop i cols) → o ≡ None → found ≡ all
+front-none k cols i o found all h e left none =
+    sym (left ∙ ap (λ xs. found ++ xs) (front-here k cols i o h e ∙ ap (λ p. place_then p (front_places k (drop (i + 1) cols))) none) ∙ append-nil found)
+
+pub front-some : (k : Copying) (cols : List ℕ) (i : ℕ) (o : Option ℕ) (found all : List ℕ) (c : ℕ) → i < length cols → o ≡ place k (get_or cols i 0) → all ≡ found ++ front_places k (drop i cols) → o ≡ Some c
+    → all ≡ (found ++ c ∷ []) ++ front_places k (drop (i + 1) cols)
+front-some k cols i o found all c h e left some =
+    let rest : List ℕ = front_places k (drop (i + 1) cols) in
+    left ∙ ap (λ xs. found ++ xs) (front-here k cols i o h e ∙ ap (λ p. place_then p rest) some) ∙ sym (append_assoc found (c ∷ []) rest)
