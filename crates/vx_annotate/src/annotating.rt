@@ -22,8 +22,8 @@ use crate::naming::Naming;
 use crate::rewriting::claimed_plan;
 use crate::verdict::is_accepted;
 use std::alloc::{AllocError, Global};
-use vx_check_options::{first_unfit, found_claims, is_alone};
-use vx_check_rules::Rule;
+use vx_check_options::{first_unfit, found_claims};
+use vx_check_rules::{Rule, has_one_worker};
 use vx_plan::resolve;
 use vx_plan_json::{Plan, PlanFault};
 use vx_plan_nodes::{TypedNode, TypedPlan};
@@ -59,7 +59,7 @@ fn hinted(alloc: Global, catalog: &Catalog, plan: Plan) -> Result<(TypedPlan, Pl
 fn unfit_root(root: &TypedNode) -> Option<(u32, Rule)>
     ensures { option_map refusal_of result ≡ unfit_root (plan_of root.now) }
 {
-    if is_alone(root) {
+    if has_one_worker(root) {
         return None;
     }
     Some((root.head().number, Rule::RootNotOne))

@@ -29,28 +29,26 @@ fn is_name(name: &String) -> bool
     !name.is_empty()
 }
 
-fn are_filled(names: &[String]) -> bool
-    ensures { result ≡ list_all (λ n. is_some_list (string_bytes n)) names.now }
-{
-    names.iter().all(|name| is_name(name))
-}
-
 fn are_names(names: &[String]) -> bool
     ensures { result ≡ are_names (map string_bytes names.now) }
 {
-    are_filled(names)
-}
-
-fn are_lists(lists: &[Vec<String>]) -> bool
-    ensures { result ≡ list_all (λ k. are_names (map string_bytes k.items)) lists.now }
-{
-    lists.iter().all(|list| are_names(list.as_slice()))
+    for name in names {
+        if !is_name(name) {
+            return false;
+        }
+    }
+    true
 }
 
 fn are_keys(keys: &[Vec<String>]) -> bool
     ensures { result ≡ list_all are_names (map (λ k. map string_bytes k.items) keys.now) }
 {
-    are_lists(keys)
+    for key in keys {
+        if !are_names(key.as_slice()) {
+            return false;
+        }
+    }
+    true
 }
 
 fn are_some_names(names: &[String]) -> bool

@@ -1,5 +1,5 @@
 -- The claims of a plan, node by node, as the program puts them behind one another.
-use Rattle.std.proofs.Common.{◌≡◌, ℕ, zero, suc, Bool, false, ◌||◌, Some, slice_get, get_or, List, map, ◌<◌, arith, [], ◌∷◌, ◌++◌, length, refl, sym, ap, ◌∙◌, subst, append_assoc, Result, Ok, Err}
+use Rattle.std.proofs.Common.{◌≡◌, ℕ, zero, suc, Bool, ◌||◌, Some, slice_get, get_or, List, map, ◌<◌, arith, [], ◌∷◌, ◌++◌, length, refl, sym, ap, ◌∙◌, subst, append_assoc, Result, Ok, Err}
 use Rattle.std.specs.Result.{IfOk}
 use Rattle.vx_relations.specs.Relation.{Relation}
 use Rattle.vx_plan_nodes.specs.Plan.{Part, Claim, Unary, Binary, ExchangeKind, Size, Plan, scan, unary, binary, exchange, claim, size, is_one}
@@ -7,11 +7,8 @@ use Rattle.vx_plan_nodes.specs.declared.typed.Claim as rust_claim
 use Rattle.vx_plan_nodes.specs.Outline.{claim_of}
 use Rattle.vx_plan_nodes.specs.Types.{types_of, width}
 use Rattle.vx_plan_nodes.specs.Describe.{whole_rows, described}
-use Rattle.vx_check_rules.specs.Rules.{covers, contains, within, numbers_below, is_total_order}
-use Rattle.vx_plan_nodes.specs.Phases.{first_columns}
-use Rattle.vx_check_rules.specs.Behaviour.{keyed_from, has_key}
-use Rattle.vx_check_rules.proofs.Bools.{or-false}
-use Rattle.vx_check_rules.proofs.Exact.{all-first}
+use Rattle.vx_check_rules.specs.Rules.{covers, within, numbers_below, is_total_order}
+use Rattle.vx_check_rules.specs.Behaviour.{keyed_from}
 use Rattle.vx_check_rules.proofs.WidthFacts.{types_of-width}
 use Rattle.vx_check_options.specs.Options.{no_input, parts_at, places_at}
 use Rattle.vx_check_options.specs.Placed.{order_along, order_below, left_order, right_order, order_sent, parts_below, part_sent}
@@ -113,7 +110,3 @@ pub claimed-total : (catalog : ℕ → Relation) (p : Plan) (q : Part) (order : 
 claimed-total catalog p q order x c w is same wide =
     let w_is : w ≡ width catalog x = wide ∙ sym (claimed-width catalog p q order x is) in
     rw (same, w_is) refl
-
--- whether an order contains all columns
-pub total-first : (w : ℕ) (keys : List (List ℕ)) (order : List ℕ) (b : Bool) → b ≡ has_key whole_rows (first_columns w ∷ []) order → covers keys order ≡ false → b ≡ (covers keys order || within (numbers_below w) order)
-total-first w keys order b e none = e ∙ or-false (within (first_columns w) order) ∙ sym (all-first (contains order) w) ∙ ap (λ a. a || within (numbers_below w) order) (sym none)

@@ -1,5 +1,5 @@
 -- Copies of columns, as a loop finds them.
-use Rattle.std.proofs.Common.{Vec, Global, map, ◌≡◌, ℕ, zero, suc, ◌+◌, ◌<◌, Bool, true, false, cond, List, [], ◌∷◌, ◌++◌, length, get_or, drop, refl, sym, ap, ◌∙◌, arith, Option, Some, None, slice_get, eqb, append_assoc, Result, Ok, Err}
+use Rattle.std.proofs.Common.{Vec, Global, map, ◌≡◌, ℕ, ◌+◌, ◌<◌, Bool, true, false, cond, List, [], ◌∷◌, ◌++◌, length, get_or, drop, refl, sym, ap, ◌∙◌, arith, Option, Some, None, slice_get, eqb, append_assoc, Result, Ok, Err}
 use Rattle.std.specs.Option.{option_eq}
 use Rattle.std.specs.Result.{IfOk}
 use Rattle.std.specs.Vec.{vec_len}
@@ -12,7 +12,7 @@ use Rattle.std.proofs.lemmas.Bool.Decides.{nat_tests}
 use Rattle.vx_check_rules.specs.Behaviour.{is_column}
 use Rattle.vx_check_rules.proofs.Exact.{slice-at}
 use Rattle.vx_check_rules.proofs.ColumnFacts.{first_push}
-use Rattle.vx_plan_nodes.specs.Phases.{columns_from, first_columns}
+use Rattle.vx_plan_nodes.specs.Phases.{first_columns}
 use Rattle.vx_check_options.specs.Options.{places_from}
 
 turned : (a b : ℕ) → eqb a b ≡ eqb b a
@@ -31,21 +31,6 @@ kept_here test n copies b e f h =
 pub left_here : (test : ℕ → Bool) (n : ℕ) (copies : List ℕ) (b : Bool) → copies ≡ filter test (first_columns n) → b ≡ test n → b ≡ false → copies ≡ filter test (first_columns (n + 1))
 left_here test n copies b e f h =
     e ∙ sym (append-nil (filter test (first_columns n))) ∙ ap (λ a. filter test (first_columns n) ++ cond a (n ∷ []) []) (sym h ∙ f) ∙ sym (filter-append test (first_columns n) (n ∷ [])) ∙ ap (filter test) (sym (first_push n))
-
-from-at : (s n i : ℕ) → i < n → get_or (columns_from s n) i 0 ≡ s + i
-from-at s zero i h = absurd (omega (arith, h))
-from-at s (suc n) zero h = omega arith
-from-at s (suc n) (suc i) h = let e = from-at (suc s) n i (omega (arith, h)) in omega (arith, e)
-
-pub first_at : (n i : ℕ) → i < n → get_or (first_columns n) i 0 ≡ i
-first_at n i h = let e = from-at 0 n i h in omega (arith, e)
-
-from-length : (s n : ℕ) → length (columns_from s n) ≡ n
-from-length s zero = refl
-from-length s (suc n) = let e = from-length (suc s) n in omega (arith, e)
-
-pub first_length : (n : ℕ) → length (first_columns n) ≡ n
-first_length n = from-length 0 n
 
 -- one column further
 pub places-step : (kept : List ℕ) (n col : ℕ) → n < length kept

@@ -1,6 +1,7 @@
 pub mod CopyLists
 pub mod PartLists
 pub mod OptionFacts
+pub mod LoopLists
 pub mod PlaceLists
 pub mod Telling
 pub mod Alike

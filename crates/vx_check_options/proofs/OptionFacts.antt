@@ -1,6 +1,7 @@
 -- Orders that begin with some columns, as the program puts them together.
 use Rattle.std.proofs.Common.{Vec, Global, ◌≡◌, ◌≤◌, ◌<◌, ◌-◌, ◌==◌, ℕ, suc, Bool, true, false, cond, List, [], ◌∷◌, ◌++◌, map, length, take, drop, get_or, set, refl, sym, ap, ◌∙◌, arith, length-drop, Option, Some, None, option_map}
 use Rattle.std.specs.Prelude.{is_some}
+use Rattle.std.proofs.lemmas.Bool.Decides.{nat_tests}
 use Rattle.std.specs.List.{list_any, filter}
 use Rattle.std.proofs.lemmas.List.{take_all, drop-map, map-append}
 use Rattle.vx_plan_nodes.specs.Plan.{Part}
@@ -51,7 +52,7 @@ narrowed-put cols vs found more new may first rest all =
     let items = map (λ (v : Vec ℕ Global). v.items) in
     ap items all ∙ map-append (λ (v : Vec ℕ Global). v.items) found more ∙ ap (λ xs. xs ++ items more) first ∙ ap (λ ys. singles cols ++ ys) (rest ∙ rest-lists (length cols) vs) ∙ sym (narrowed-as cols (items vs) may)
 
-then-some : (place : List ℕ) (places : OrderChoices) → 0 < length place → place_then place places ≡ place ∷ places
+pub then-some : (place : List ℕ) (places : OrderChoices) → 0 < length place → place_then place places ≡ place ∷ places
 then-some [] places l = absurd (omega (arith, l))
 then-some (c ∷ cs) places l = refl
 
@@ -76,3 +77,6 @@ first-within (w ∷ ws) (f ∷ fs) l same = omega arith
 pub some-length : {X : Type 0} (xs : List X) (n : ℕ) (b : Bool) → n ≡ length xs → b ≡ (n == 0) → b ≡ false → 0 < length xs
 some-length [] n b e f h = let is : n ≡ 0 = e in let yes : (n == 0) ≡ true = rw is refl in cc
 some-length (x ∷ xs) n b e f h = omega arith
+
+pub none-length : {X : Type 0} (xs : List X) (n : ℕ) (b : Bool) → n ≡ length xs → b ≡ (n == 0) → b ≡ true → length xs ≡ 0
+none-length xs n b e f h = let zero : n ≡ 0 = grind (arith, nat_tests) in sym e ∙ zero

@@ -1,5 +1,5 @@
 -- Lists of parts, as loops make them.
-use Rattle.std.proofs.Common.{Vec, Global, ℕ, suc, ◌≡◌, ◌+◌, ◌<◌, ◌||◌, Bool, true, false, cond, Option, Some, None, option_map, List, [], ◌∷◌, ◌++◌, map, length, get_or, drop, take, refl, sym, ap, ◌∙◌, arith}
+use Rattle.std.proofs.Common.{Bor, Vec, Global, ℕ, suc, ◌≡◌, ◌+◌, ◌<◌, ◌||◌, Bool, true, false, cond, Option, Some, None, option_map, List, [], ◌∷◌, ◌++◌, map, length, get_or, drop, take, refl, sym, ap, ◌∙◌, arith}
 use Rattle.std.proofs.lemmas.List.{append-nil}
 use Rattle.std.proofs.Math.Numerals.{add-one}
 use Rattle.std.proofs.Math.Seq.{drop-cons}
@@ -78,6 +78,11 @@ two-any test (x ∷ xs) ys = by (find (test x) ys) (list_any (test x) ys) (find-
         → is_some (or_else {X = Part × Part} (option_map {U = Part × Part} (λ y. (x, y)) o) (first_two test xs ys)) ≡ (b || list_any (λ z. list_any (test z) ys) xs)
     by (Some y) b e more = rw (sym e) refl
     by None b e more = rw (sym e) more
+
+-- whether there is such a part
+pub some-found : (test : Part → Bool) (xs : List rust_part.Part) (o : Option (Bor rust_part.Part)) → option_map (λ (p : Bor rust_part.Part). part_of p.now) o ≡ find test (map part_of xs) → is_some o ≡ list_any test (map part_of xs)
+some-found test xs None e = ap is_some e ∙ find-any test (map part_of xs)
+some-found test xs (Some p) e = ap is_some e ∙ find-any test (map part_of xs)
 
 -- of a node on several workers
 pub two-given : (catalog : ℕ → Relation) (p : Plan) (q : Part) (xs ys : List Part) → is_one (size p) ≡ false → is_some (first_two (is_given catalog p q) xs ys) ≡ list_any (λ x. list_any (gives_part catalog p q x) ys) xs

@@ -4,4 +4,3 @@ pub mod Laws
 pub mod FoundKeys
 pub mod Claimed
 pub mod OptionsView
-pub mod Seen

@@ -6,15 +6,14 @@ ghost use Rattle.vx_relations.specs.Catalog.{are_distinct};
 ghost use Rattle.vx_plan_nodes.specs.Describe.{source};
 ghost use Rattle.vx_plan_nodes.specs.Phases.{first_columns};
 ghost use Rattle.vx_plan_nodes.specs.DescribeView.{copying_of};
-ghost use Rattle.vx_check_rules.specs.Rules.{contains, within, covers};
+ghost use Rattle.vx_check_rules.specs.Rules.{within};
 ghost use Rattle.vx_check_rules.specs.Behaviour.{is_column};
-ghost use Rattle.vx_check_options.specs.Seen.{columns_seen};
+ghost use Rattle.vx_check_rules.specs.Seen.{columns_seen};
 ghost use Rattle.vx_check_options.specs.FoundKeys.{with_key, with_column, choices_of, IsChoice, IsMet, Finds};
 
-use crate::columns::Columns;
 use crate::copies::Lists;
 use std::alloc::{AllocError, Global};
-use vx_check_rules::{CopiedKeys, KeysSeen};
+use vx_check_rules::{Columns, KeysSeen, are_covered};
 use vx_plan_nodes::Copying;
 
 /// So many keys of a node are looked for. A plan that claims more keeps them.
@@ -32,22 +31,12 @@ fn is_within(columns: &[usize], others: &[usize]) -> bool
     true
 }
 
-/// Whether the columns contain one of the keys.
-pub fn are_covered(keys: &[Vec<usize>], columns: &[usize]) -> bool
-    ensures { result ≡ covers (map (λ k. k.items) keys.now) columns.now }
-{
-    let copied = CopiedKeys {
-        copying: Copying::WholeRows,
-        keys: KeysSeen::Listed(keys),
-    };
-    copied.have(columns)
-}
-
 /// Puts the key behind the others, if none of them is contained in it, and drops those that contain it.
 pub fn add_key(found: &mut Lists, key: Vec<usize>) -> Result<(), AllocError>
     ensures { OnOk result (map (λ k. k.items) found.new.items ≡ with_key (map (λ k. k.items) found.old.items) key.items) }
 {
-    if are_covered(found.as_slice(), key.as_slice()) {
+    let keys = KeysSeen::Listed(found.as_slice());
+    if are_covered(keys, Columns::Listed(key.as_slice())) {
         return Ok(());
     }
     found.retain(|other| !is_within(key.as_slice(), other.as_slice()));

@@ -1,27 +1,24 @@
 //! The claims of all nodes of a plan: a part and an order for each from the top down, and its keys from the inputs upwards.
 
-ghost use Rattle.std.specs.Prelude.{◌≡◌, ℕ, List, ◌∷◌, [], ◌++◌, ◌||◌, true, Some, map, length, slice_get, IfOk};
+ghost use Rattle.std.specs.Prelude.{◌≡◌, ℕ, List, ◌∷◌, [], ◌++◌, true, Some, map, length, slice_get, IfOk};
 ghost use Rattle.vx_relations.specs.Catalog.{relation_at};
 ghost use Rattle.vx_plan_nodes.specs.Plan.{Plan, claim, size, is_one};
 ghost use Rattle.vx_plan_nodes.specs.Describe.{whole_rows, described};
 ghost use Rattle.vx_plan_nodes.specs.Outline.{part_of, claim_of, unary_of, binary_of, kind_of, outline_of, plan_of};
 ghost use Rattle.vx_plan_nodes.specs.Outputs.{HasOutputs};
-ghost use Rattle.vx_check_rules.specs.Rules.{covers, within, numbers_below, is_total_order};
+ghost use Rattle.vx_check_rules.specs.Rules.{is_total_order};
 ghost use Rattle.vx_check_options.specs.Options.{no_input, parts_at, places_at};
 ghost use Rattle.vx_check_options.specs.Placed.{first_columns, first_part, order_along, order_below, left_order, right_order, order_sent, parts_below, part_sent};
 ghost use Rattle.vx_check_options.specs.OptionsView.{IsAbsent};
 ghost use Rattle.vx_check_options.specs.Claimed.{note, keys_at, FoundAt, IsClaimed, reversed_claims, names_keys, names_keys_at};
 
-use crate::choices::are_covered;
-use crate::columns::Columns;
 use crate::keys::found_keys;
 use crate::options::{Options, absent, options_at};
-use crate::parts::is_alone;
 use crate::placing::{
     Placement, part_sent, parts_below, wanted_below, wanted_left, wanted_right, wanted_sent,
 };
 use std::alloc::{AllocError, Global};
-use vx_check_rules::{CopiedKeys, KeysSeen};
+use vx_check_rules::{Columns, has_one_worker, is_total};
 use vx_plan_nodes::{Binary, Claim, Copying, Exchange, TypedNode, Unary, output_types};
 use vx_relations::Catalog;
 
@@ -116,7 +113,7 @@ fn place_sent(
     let order = place.order.as_slice();
     let part = part_sent(&exchange.kind, order, below.parts.as_slice());
     let merge = exchange.merge.as_slice();
-    let wanted = wanted_sent(&exchange.kind, is_alone(input), merge, order);
+    let wanted = wanted_sent(&exchange.kind, has_one_worker(input), merge, order);
     let choices = below.choices.as_slice();
     Placement::along(
         alloc,
@@ -202,18 +199,6 @@ fn put_claims(
             put_claim(alloc, catalog, claims, node, place, Some(left), None)
         }
     }
-}
-
-// Whether the order of the claim contains one of its keys, or all columns of an output, which has so many.
-fn is_total(claim: &Claim, width: usize) -> bool
-    ensures { result ≡ (covers (claim_of claim.now).keys (claim_of claim.now).order || within (numbers_below width) (claim_of claim.now).order) }
-{
-    let order = claim.order.as_slice();
-    let columns = CopiedKeys {
-        copying: Copying::WholeRows,
-        keys: KeysSeen::First(width),
-    };
-    are_covered(claim.keys.as_slice(), order) || columns.have(order)
 }
 
 // What the root is to claim: the first of its parts, and the first column at each place of its order.

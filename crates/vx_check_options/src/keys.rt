@@ -1,6 +1,6 @@
 //! The keys that a node can claim, by any keys of its inputs.
 
-ghost use Rattle.std.specs.Prelude.{◌≡◌, ◌<◌, ℕ, ◌==◌, List, ◌∷◌, [], true, not, map, length, slice_index_or, option_map, option_to_list, IfOk, OnOk};
+ghost use Rattle.std.specs.Prelude.{◌≡◌, ℕ, ◌==◌, List, ◌∷◌, [], true, not, map, length, option_map, option_to_list, IfOk, OnOk};
 ghost use Rattle.std.specs.List.{list_all, filter};
 ghost use Rattle.vx_relations.specs.Catalog.{relation_at};
 ghost use Rattle.vx_plan_nodes.specs.Phases.{first_columns};
@@ -11,39 +11,15 @@ ghost use Rattle.vx_plan_nodes.specs.Typed.{are_columns};
 ghost use Rattle.vx_plan_nodes.specs.DescribeView.{copying_of};
 ghost use Rattle.vx_check_rules.specs.Behaviour.{has_key, keys_give, keyed_from};
 ghost use Rattle.vx_check_rules.specs.KeyedView.{keys_seen, copied_keys, keyed_of, all_keyed_in};
-ghost use Rattle.vx_check_options.specs.Seen.{columns_seen};
+ghost use Rattle.vx_check_rules.specs.Seen.{columns_seen};
 ghost use Rattle.vx_check_options.specs.FoundKeys.{show, both_give, IsPart, IsKey, IsShown, Finds, KeptKeys, FoundKeys};
 
-use crate::choices::{add_choices, add_key, are_covered, put_choices};
-use crate::columns::Columns;
+use crate::choices::{add_choices, add_key, put_choices};
 use crate::copies::Lists;
 use std::alloc::{AllocError, Global};
-use vx_check_rules::{CopiedKeys, Keyed, KeysSeen, keyed_from, show_key};
+use vx_check_rules::{Columns, CopiedKeys, Keyed, KeysSeen, are_covered, keyed_from, show_key};
 use vx_plan_nodes::{Copying, TypedNode, output_types};
 use vx_relations::Catalog;
-
-// How many keys there are.
-fn key_count(keys: KeysSeen<'_>) -> usize
-    ensures { result ≡ length (keys_seen keys.entry) }
-{
-    match keys {
-        KeysSeen::Listed(keys) => keys.len(),
-        KeysSeen::Declared(relation) => relation.key_count(),
-        KeysSeen::First(_) => 1,
-    }
-}
-
-// The key at this place.
-fn key_at<'p>(keys: KeysSeen<'p>, at: usize) -> Columns<'p>
-    requires { at < length (keys_seen keys) }
-    ensures { columns_seen result ≡ slice_index_or (keys_seen keys.entry) at (columns_seen result) }
-{
-    match keys {
-        KeysSeen::Listed(keys) => Columns::Listed(keys[at].as_slice()),
-        KeysSeen::Declared(relation) => Columns::Listed(relation.key(at)),
-        KeysSeen::First(count) => Columns::First(count),
-    }
-}
 
 // The keys of both inputs, and how many columns an output has.
 #[derive(Clone, Copy)]
@@ -70,7 +46,7 @@ impl Search<'_> {
         put_choices(alloc, &mut choices, self.first.copying, self.width, key)?;
         put_choices(alloc, &mut choices, self.second.copying, self.width, other)?;
         // A choice without columns is within no columns.
-        if are_covered(choices.as_slice(), &[]) {
+        if are_covered(KeysSeen::Listed(choices.as_slice()), Columns::First(0)) {
             return Ok(());
         }
         add_choices(alloc, found, &[], choices.as_slice())
@@ -87,8 +63,8 @@ impl Search<'_> {
             (IsShown (both_give (copying_of self.now.first.copying) (copying_of self.now.second.copying) (columns_seen key.entry ∷ []) (keys_seen self.now.second.keys)) (first_columns self.now.width))
             (map (λ k. k.items) found.old.items) (map (λ k. k.items) found.new.items)) }
     {
-        for other in 0..key_count(self.second.keys) {
-            self.add_both(alloc, found, key, key_at(self.second.keys, other))?;
+        for other in 0..self.second.keys.count() {
+            self.add_both(alloc, found, key, self.second.keys.at(other))?;
         }
         Ok(())
     }
@@ -121,8 +97,8 @@ fn add_keyed(
         second: other_keys(keyed),
         width,
     };
-    for key in 0..key_count(keyed.first.keys) {
-        search.add_beside(alloc, found, key_at(keyed.first.keys, key))?;
+    for key in 0..keyed.first.keys.count() {
+        search.add_beside(alloc, found, keyed.first.keys.at(key))?;
     }
     Ok(())
 }

@@ -3,7 +3,6 @@
 
 mod choices;
 mod claiming;
-mod columns;
 mod copies;
 mod keys;
 mod options;
@@ -16,7 +15,6 @@ ghost use Rattle.vx_check_options.specs.Laws.{OnlyOptions};
 
 pub use claiming::found_claims;
 pub use options::first_unfit;
-pub use parts::is_alone;
 
 /// Where claims are accepted, each node can claim what they do.
 pub fn only_options()

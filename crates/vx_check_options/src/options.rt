@@ -13,11 +13,10 @@ ghost use Rattle.vx_check_rules.specs.RuleView.{rule_of, refusal_of};
 ghost use Rattle.vx_check_options.specs.Options.{parts_at, places_here, can_send, can_order, fit_tests, first_unfit};
 ghost use Rattle.vx_check_options.specs.OptionsView.{CanClaim, IsAbsent, AreInputs, parts_seen};
 
-use crate::columns::Columns;
 use crate::order_choices::{OrderChoices, choices_over, may_begin, narrowed};
-use crate::parts::{is_alone, parts_over};
+use crate::parts::parts_over;
 use std::alloc::{AllocError, Global};
-use vx_check_rules::{Rule, do_sizes_match, gives};
+use vx_check_rules::{Columns, Rule, do_sizes_match, gives, has_one_worker};
 use vx_plan_nodes::{Binary, Part, TypedNode};
 use vx_relations::Catalog;
 
@@ -74,7 +73,7 @@ fn can_send(catalog: &Catalog, node: &TypedNode, left: &Options, right: &Options
 {
     match node {
         TypedNode::Exchange(_, _, input) => {
-            is_alone(input) || is_any_given(left.parts.as_slice())
+            has_one_worker(input) || is_any_given(left.parts.as_slice())
         }
         _ => true,
     }

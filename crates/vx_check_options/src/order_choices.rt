@@ -7,14 +7,13 @@ ghost use Rattle.vx_plan_nodes.specs.Describe.{described};
 ghost use Rattle.vx_plan_nodes.specs.Outline.{part_of, kind_of, unary_of, binary_of, plan_of};
 ghost use Rattle.vx_plan_nodes.specs.DescribeView.{copying_of};
 ghost use Rattle.vx_check_rules.specs.Rules.{rises_by};
-ghost use Rattle.vx_check_options.specs.Seen.{columns_seen};
+ghost use Rattle.vx_check_rules.specs.Seen.{columns_seen};
 ghost use Rattle.vx_check_options.specs.Options.{singles, copies, places_up, places_after, narrowed, or_nowhere, places_over_both, rising, places_sent, places_over};
 
-use crate::columns::Columns;
 use crate::copies::{add_copies, copied};
-use crate::parts::is_alone;
+use crate::placing::first_rising;
 use std::alloc::{AllocError, Global};
-use vx_check_rules::rises_with_workers;
+use vx_check_rules::{Columns, has_one_worker};
 use vx_plan_nodes::{Binary, Copying, Exchange, ExchangeKind, OrderAfter, Part, TypedNode, Unary};
 use vx_relations::Catalog;
 
@@ -112,18 +111,6 @@ fn choices_over_both(
     }
 }
 
-// Whether rows that have one of the parts rise with the number of their worker, in an order on this column.
-fn is_rising(parts: &[Part], column: usize) -> bool
-    ensures { result ≡ list_any (λ x. rises_by x (column ∷ [])) (map part_of parts.now) }
-{
-    for part in parts {
-        if rises_with_workers(part, &[column]) {
-            return true;
-        }
-    }
-    false
-}
-
 // The columns by whose ranges the rows can be routed.
 fn rising_columns(
     alloc: Global,
@@ -134,7 +121,7 @@ fn rising_columns(
 {
     let mut rising = Vec::new(alloc);
     for column in columns {
-        if is_rising(parts, *column) {
+        if first_rising(parts, &[*column]).is_some() {
             rising.push(*column)?;
         }
     }
@@ -211,7 +198,7 @@ pub fn choices_over(
         TypedNode::Unary(_, operator, _) => choices_along(alloc, operator, choices),
         TypedNode::Binary(_, operator, _, _) => choices_over_both(alloc, operator, choices),
         TypedNode::Exchange(_, exchange, input) => {
-            if is_alone(input) {
+            if has_one_worker(input) {
                 return narrowed(alloc, Columns::Listed(exchange.merge.as_slice()), choices);
             }
             choices_sent(alloc, exchange, parts, choices)

@@ -6,15 +6,14 @@ ghost use Rattle.vx_relations.specs.Catalog.{relation_at};
 ghost use Rattle.vx_plan_nodes.specs.Plan.{claim, size, is_one};
 ghost use Rattle.vx_plan_nodes.specs.Outline.{part_of, route_of, outline_of, plan_of};
 ghost use Rattle.vx_plan_nodes.specs.Outputs.{HasOutputs};
-ghost use Rattle.vx_check_rules.specs.Behaviour.{common_part};
-ghost use Rattle.vx_check_rules.specs.WayView.{part_seen, had_of, way_of, ways_in};
+ghost use Rattle.vx_check_rules.specs.WayView.{had_of, way_of, ways_in};
 ghost use Rattle.vx_check_options.specs.Options.{routed_by, parts_of_way, parts_over, parts_among, same_part, with_part, with_parts, is_routed, most_telling, part_if_given, parts_above};
 ghost use Rattle.vx_check_options.specs.Placed.{first_two, is_given};
 
 use crate::copies::copied_lists;
 use std::alloc::{AllocError, Global};
-use vx_check_rules::{Had, PartSeen, Way, gives, seen, show_part, ways_from};
-use vx_plan_nodes::{Part, Route, Size, TypedNode, copied_part, routed_part};
+use vx_check_rules::{Had, PartSeen, Way, gives, has_one_worker, seen, show_part, ways_from};
+use vx_plan_nodes::{Part, Route, TypedNode, copied_part, routed_part};
 use vx_relations::Catalog;
 
 // So many parts of a node are kept at most.
@@ -72,21 +71,11 @@ fn add_routed(
     Ok(())
 }
 
-// The first input's part if the second one has it too, else any.
-fn common_part<'p>(way: Way<'p>) -> PartSeen<'p>
-    ensures { part_seen result ≡ common_part (way_of way.entry).from }
-{
-    match way.second {
-        Some(second) if !second.part.gives_seen(way.first.part) => PartSeen::Any,
-        _ => way.first.part,
-    }
-}
-
 // Puts what the way gives behind the others.
 fn add_way(alloc: Global, parts: &mut Parts, way: Way<'_>) -> Result<(), AllocError>
     ensures { OnOk result (map part_of parts.new.items ≡ with_parts (map part_of parts.old.items) (parts_of_way (way_of way.entry))) }
 {
-    match common_part(way) {
+    match way.common_part() {
         PartSeen::One => Ok(()),
         PartSeen::Any => add_part(parts, Part::Any),
         PartSeen::All => add_part(parts, Part::All),
@@ -192,7 +181,7 @@ fn is_given(catalog: &Catalog, node: &TypedNode, part: &Part, left: &Part, right
     requires { HasOutputs (relation_at catalog.now) (outline_of node.now) }
     ensures { result ≡ is_given (relation_at catalog.now) (plan_of node.now) (part_of part.now) (part_of left.now) (part_of right.now) }
 {
-    is_alone(node) || show_part(&ways_from(node, had(left), had(right)), part)
+    has_one_worker(node) || show_part(&ways_from(node, had(left), had(right)), part)
 }
 
 // The first of these parts of the right input with which it does.
@@ -253,16 +242,6 @@ fn part_if_given(
     }
 }
 
-/// Whether the node has one worker.
-pub fn is_alone(node: &TypedNode) -> bool
-    ensures { result ≡ is_one (size (plan_of node.now)) }
-{
-    match node.size() {
-        Size::One => true,
-        Size::Group(_) => false,
-    }
-}
-
 /// The parts that a node can claim, where each input can claim one of these: the first 64.
 pub fn parts_over(
     alloc: Global,
@@ -274,7 +253,7 @@ pub fn parts_over(
     requires { HasOutputs (relation_at catalog.now) (outline_of node.now) }
     ensures { IfOk result (λ v. map part_of v.items ≡ take 64 (parts_above (relation_at catalog.now) (plan_of node.now) (map part_of lefts.now) (map part_of rights.now))) }
 {
-    if is_alone(node) {
+    if has_one_worker(node) {
         return only_part(alloc, Part::One);
     }
     match &node.head().claim.part {

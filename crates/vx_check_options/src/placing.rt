@@ -9,14 +9,13 @@ ghost use Rattle.vx_plan_nodes.specs.Outline.{part_of, claim_of, kind_of, binary
 ghost use Rattle.vx_plan_nodes.specs.Outputs.{HasOutputs};
 ghost use Rattle.vx_check_rules.specs.Rules.{contains, rises_by};
 ghost use Rattle.vx_check_options.specs.Options.{OrderChoices};
-ghost use Rattle.vx_check_options.specs.Seen.{columns_seen};
+ghost use Rattle.vx_check_rules.specs.Seen.{columns_seen};
 ghost use Rattle.vx_check_options.specs.Placed.{next_column, order_along, order_below, left_order, right_order, order_sent, parts_below, part_sent};
 ghost use Rattle.vx_check_options.specs.Claimed.{note};
 
-use crate::columns::Columns;
 use crate::parts::first_two;
 use std::alloc::{AllocError, Global};
-use vx_check_rules::rises_with_workers;
+use vx_check_rules::{Columns, rises_with_workers};
 use vx_plan_nodes::{
     Binary, Claim, Copying, ExchangeKind, OrderAfter, Part, TypedNode, copied_part,
 };
@@ -133,8 +132,8 @@ pub fn parts_below<'p>(
     }
 }
 
-// The first of the parts by which rows in this order rise with the number of their worker.
-fn first_rising<'p>(parts: &'p [Part], order: &[usize]) -> Option<&'p Part>
+/// The first of the parts by which rows in this order rise with the number of their worker.
+pub fn first_rising<'p>(parts: &'p [Part], order: &[usize]) -> Option<&'p Part>
     ensures { option_map (λ p. part_of p.now) result ≡ find (λ x. rises_by x order.now) (map part_of parts.now) }
 {
     for part in parts {

@@ -2,6 +2,7 @@ pub mod BitFacts
 pub mod ColumnFacts
 pub mod CopyFacts
 pub mod PairFacts
+pub mod PlaceFacts
 pub mod RuleFacts
 pub mod WidthFacts
 pub mod NamedKeys

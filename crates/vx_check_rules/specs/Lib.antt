@@ -5,7 +5,7 @@ pub mod Exactly
 pub mod Carried
 pub mod Claims
 pub mod Copied
-pub mod Pairs
+pub mod Seen
 pub mod RuleView
 pub mod Checked
 pub mod CheckedView

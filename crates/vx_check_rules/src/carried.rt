@@ -1,34 +1,41 @@
 //! The part and the order that the claims of a node's inputs carry up to the node.
 
-ghost use Rattle.std.specs.Prelude.{◌≡◌, ℕ, option_map, option_to_list, IfOk};
-ghost use Rattle.std.specs.List.{list_all};
+ghost use Rattle.std.specs.Prelude.{◌≡◌, ℕ, option_map, IfOk};
 ghost use Rattle.vx_relations.specs.Relation.{Relation};
 ghost use Rattle.vx_relations.specs.Catalog.{relation_at};
 ghost use Rattle.vx_plan_nodes.specs.Outline.{part_of, route_of, outline_of, plan_of};
 ghost use Rattle.vx_plan_nodes.specs.Outputs.{HasOutputs};
 ghost use Rattle.vx_plan_nodes.specs.DescribeView.{copying_of};
-ghost use Rattle.vx_check_rules.specs.Rules.{part_gives};
-ghost use Rattle.vx_check_rules.specs.Behaviour.{routed_at, part_up, common_part, first_part, first_order, node_part, node_order};
-ghost use Rattle.vx_check_rules.specs.WayView.{part_seen, had_of, way_of, ways_in};
+ghost use Rattle.vx_check_rules.specs.Behaviour.{places, routed_at, part_up, first_part, first_order, node_part, node_order};
+ghost use Rattle.vx_check_rules.specs.WayView.{part_seen, ways_in};
+ghost use Rattle.vx_check_rules.specs.Seen.{columns_seen};
 ghost use Rattle.vx_check_rules.specs.SortedView.{sortings_in};
 
+use crate::columns::Columns;
 use crate::nodes::has_one_worker;
 use crate::parts::PartSeen;
-use crate::places::{front_places, places};
+use crate::places::{have_places, put_places};
 use crate::sortings::{Sorted, node_sortings};
-use crate::ways::{Had, Way, node_ways};
+use crate::ways::{Way, node_ways};
 use std::alloc::{AllocError, Global};
 use vx_plan_nodes::{Copying, Part, Route, TypedNode, routed_part};
 use vx_relations::Catalog;
 
-// A part that is routed on these columns, if there are any; else each row is somewhere.
-fn routed_at(alloc: Global, route: &Route, columns: Option<Vec<usize>>) -> Result<Part, AllocError>
-    ensures { IfOk result (λ p. part_of p ≡ routed_at (route_of route.now) (option_map (λ v. v.items) columns)) }
+// A part that is routed on the places of these columns, if each has one; else each row is somewhere.
+fn routed_at(
+    alloc: Global,
+    route: &Route,
+    copying: Copying<'_>,
+    columns: Columns<'_>,
+) -> Result<Part, AllocError>
+    ensures { IfOk result (λ p. part_of p ≡ routed_at (route_of route.now) (places (copying_of copying.entry) (columns_seen columns.entry))) }
 {
-    match columns {
-        Some(columns) => routed_part(alloc, route, columns),
-        None => Ok(Part::Any),
+    if !have_places(copying, columns) {
+        return Ok(Part::Any);
     }
+    let mut found = Vec::new(alloc);
+    put_places(&mut found, copying, columns)?;
+    routed_part(alloc, route, found)
 }
 
 // What an output has of an input's part.
@@ -44,30 +51,9 @@ fn part_up(
         PartSeen::Any => Ok(Some(Part::Any)),
         PartSeen::All => Ok(Some(Part::All)),
         PartSeen::Routed(route, columns) => {
-            let columns = places(alloc, copying, columns)?;
-            Ok(Some(routed_at(alloc, route, columns)?))
+            let part = routed_at(alloc, route, copying, Columns::Listed(columns))?;
+            Ok(Some(part))
         }
-    }
-}
-
-// Whether the second input, if there is one, claims the part.
-fn other_claims(second: Option<Had<'_>>, part: PartSeen<'_>) -> bool
-    ensures { result ≡ list_all (λ g. part_gives g.1 (part_seen part.entry)) (option_to_list (option_map had_of second.entry)) }
-{
-    match second {
-        Some(had) => had.part.gives_seen(part),
-        None => true,
-    }
-}
-
-// The first input's part if the second one has it too, else any.
-fn common_part<'p>(way: Way<'p>) -> PartSeen<'p>
-    ensures { part_seen result ≡ common_part (way_of way.entry).from }
-{
-    if other_claims(way.second, way.first.part) {
-        way.first.part
-    } else {
-        PartSeen::Any
     }
 }
 
@@ -77,7 +63,7 @@ fn first_part(alloc: Global, ways: &[Option<Way<'_>>]) -> Result<Option<Part>, A
 {
     for way in ways {
         if let Some(way) = *way {
-            return part_up(alloc, way.copying, common_part(way));
+            return part_up(alloc, way.copying, way.common_part());
         }
     }
     Ok(None)
@@ -100,7 +86,9 @@ fn first_order(alloc: Global, sortings: &[Option<Sorted<'_>>]) -> Result<Vec<usi
 {
     for sorting in sortings {
         if let Some(sorted) = *sorting {
-            return front_places(alloc, sorted.copying, sorted.order);
+            let mut found = Vec::new(alloc);
+            put_places(&mut found, sorted.copying, Columns::Listed(sorted.order))?;
+            return Ok(found);
         }
     }
     Ok(Vec::new(alloc))

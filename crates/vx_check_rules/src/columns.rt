@@ -1,18 +1,64 @@
-//! Lists of columns: equality and fronts.
+//! Lists of columns, which are read where they stand.
 
-ghost use Rattle.std.specs.Prelude.{◌≡◌};
+ghost use Rattle.std.specs.Prelude.{◌≡◌, ◌<◌, length, slice_index_or};
 ghost use Rattle.vx_check_rules.specs.Rules.{numbers_eq, is_prefix};
+ghost use Rattle.vx_check_rules.specs.Seen.{columns_seen};
+
+/// The columns of a list, those of one input in the pairs of a join, or the first ones.
+#[derive(Clone, Copy)]
+pub enum Columns<'p> {
+    Listed(&'p [usize]),
+    Lefts(&'p [(usize, usize)]),
+    Rights(&'p [(usize, usize)]),
+    /// So many.
+    First(usize),
+}
+
+impl Columns<'_> {
+    /// How many they are.
+    #[tactic(auto, using(crate::proofs::ColumnFacts::first_length))]
+    pub fn len(self) -> usize
+        ensures { result ≡ length (columns_seen self.entry) }
+    {
+        match self {
+            Columns::Listed(columns) => columns.len(),
+            Columns::Lefts(on) | Columns::Rights(on) => on.len(),
+            Columns::First(count) => count,
+        }
+    }
+
+    /// The column at this place.
+    pub fn at(self, place: usize) -> usize
+        requires { place < length (columns_seen self) }
+        ensures { result ≡ slice_index_or (columns_seen self.entry) place 0 }
+    {
+        match self {
+            Columns::Listed(columns) => columns[place],
+            Columns::Lefts(on) => on[place].0,
+            Columns::Rights(on) => on[place].1,
+            Columns::First(_) => place,
+        }
+    }
+
+    /// Whether they begin an order.
+    pub fn begin(self, order: &[usize]) -> bool
+        ensures { result ≡ is_prefix (columns_seen self.entry) order.now }
+    {
+        if order.len() < self.len() {
+            return false;
+        }
+        for i in 0..self.len() {
+            if self.at(i) != order[i] {
+                return false;
+            }
+        }
+        true
+    }
+}
 
 /// The same columns in the same order.
 pub fn are_same(xs: &[usize], ys: &[usize]) -> bool
     ensures { result ≡ numbers_eq xs.now ys.now }
 {
     xs == ys
-}
-
-/// Whether the first list begins the second.
-pub fn is_prefix(xs: &[usize], ys: &[usize]) -> bool
-    ensures { result ≡ is_prefix xs.now ys.now }
-{
-    ys.starts_with(xs)
 }

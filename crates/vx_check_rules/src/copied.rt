@@ -3,11 +3,12 @@
 ghost use Rattle.std.specs.Prelude.{◌≡◌, ℕ, ◌<◌, ◌==◌, ◌||◌};
 ghost use Rattle.std.specs.List.{list_all};
 ghost use Rattle.std.specs.Int.{bit_at};
-ghost use Rattle.vx_plan_nodes.specs.Phases.{first_columns};
 ghost use Rattle.vx_plan_nodes.specs.DescribeView.{copying_of};
 ghost use Rattle.vx_check_rules.specs.Behaviour.{is_column, has_copy};
 ghost use Rattle.vx_check_rules.specs.Copied.{LowCopies};
+ghost use Rattle.vx_check_rules.specs.Seen.{columns_seen};
 
+use crate::columns::Columns;
 use vx_plan_nodes::Copying;
 
 // How many columns have a bit.
@@ -18,9 +19,9 @@ const LOW: usize = 64;
 #[derive(Drop)]
 pub(crate) struct CopiedColumns<'a> {
     copying: Copying<'a>,
-    columns: &'a [usize],
+    columns: Columns<'a>,
     low: u64,
-    ghost bits: { LowCopies (has_copy (copying_of copying) columns.now) low },
+    ghost bits: { LowCopies (has_copy (copying_of copying) (columns_seen columns)) low },
 }
 
 // The bits with one more input column.
@@ -34,12 +35,12 @@ fn with_bit(low: u64, input: Option<usize>) -> u64
 }
 
 // A bit for each of the first input columns that has a copy.
-fn bits_of(copying: Copying<'_>, columns: &[usize]) -> u64
-    ensures { LowCopies (has_copy (copying_of copying.entry) columns.now) result }
+fn bits_of(copying: Copying<'_>, columns: Columns<'_>) -> u64
+    ensures { LowCopies (has_copy (copying_of copying.entry) (columns_seen columns.entry)) result }
 {
     let mut low = 0;
     for i in 0..columns.len() {
-        low = with_bit(low, copying.source(columns[i]));
+        low = with_bit(low, copying.source(columns.at(i)));
     }
     low
 }
@@ -56,9 +57,9 @@ fn is_column(source: Option<usize>, column: usize) -> bool
 
 impl<'a> CopiedColumns<'a> {
     /// Of which these output columns have copies.
-    pub fn of(copying: Copying<'a>, columns: &'a [usize]) -> CopiedColumns<'a>
+    pub fn of(copying: Copying<'a>, columns: Columns<'a>) -> CopiedColumns<'a>
         ensures copying { result.copying ≡ copying.entry }
-        ensures columns { result.columns.now ≡ columns.now }
+        ensures columns { result.columns ≡ columns.entry }
     {
         CopiedColumns {
             copying,
@@ -69,29 +70,25 @@ impl<'a> CopiedColumns<'a> {
 
     // Whether this input column has a copy.
     fn has(&self, input: usize) -> bool
-        ensures { result ≡ has_copy (copying_of self.now.copying) self.now.columns.now input }
+        ensures { result ≡ has_copy (copying_of self.now.copying) (columns_seen self.now.columns) input }
     {
         if input < LOW {
             return self.low >> input & 1 == 1;
         }
-        self.columns
-            .iter()
-            .any(|column| is_column(self.copying.source(*column), input))
+        for i in 0..self.columns.len() {
+            if is_column(self.copying.source(self.columns.at(i)), input) {
+                return true;
+            }
+        }
+        false
     }
 
     /// Whether each of these input columns has a copy.
-    pub fn has_all(&self, inputs: &[usize]) -> bool
-        ensures { result ≡ list_all (has_copy (copying_of self.now.copying) self.now.columns.now) inputs.now }
+    pub fn has_all(&self, inputs: Columns<'_>) -> bool
+        ensures { result ≡ list_all (has_copy (copying_of self.now.copying) (columns_seen self.now.columns)) (columns_seen inputs.entry) }
     {
-        inputs.iter().all(|input| self.has(*input))
-    }
-
-    /// Whether each of the first input columns, so many, has a copy.
-    pub fn has_first(&self, count: usize) -> bool
-        ensures { result ≡ list_all (has_copy (copying_of self.now.copying) self.now.columns.now) (first_columns count) }
-    {
-        for input in 0..count {
-            if !self.has(input) {
+        for i in 0..inputs.len() {
+            if !self.has(inputs.at(i)) {
                 return false;
             }
         }

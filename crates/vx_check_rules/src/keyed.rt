@@ -1,18 +1,20 @@
 //! The keys that a node has, by what its operator does with columns and rows.
 
-ghost use Rattle.std.specs.Prelude.{◌≡◌, [], ◌∷◌, map, option_map, option_to_list};
-ghost use Rattle.std.specs.List.{list_all, list_any};
+ghost use Rattle.std.specs.Prelude.{◌≡◌, ◌<◌, [], ◌∷◌, length, map, slice_index_or};
+ghost use Rattle.std.specs.List.{list_any};
 ghost use Rattle.vx_relations.specs.Catalog.{relation_at};
 ghost use Rattle.vx_plan_nodes.specs.Outline.{outline_of, plan_of};
 ghost use Rattle.vx_plan_nodes.specs.Outputs.{HasOutputs};
 ghost use Rattle.vx_plan_nodes.specs.Describe.{whole_rows};
-ghost use Rattle.vx_plan_nodes.specs.DescribeView.{copying_of, described_of, described_both_of};
-ghost use Rattle.vx_check_rules.specs.Behaviour.{keyed_by, keyed_after, keyed_held, keyed_over, keyed_from, behaviour, has_copy, has_key, keys_give};
+ghost use Rattle.vx_plan_nodes.specs.DescribeView.{described_of, described_both_of};
+ghost use Rattle.vx_check_rules.specs.Rules.{covers};
+ghost use Rattle.vx_check_rules.specs.Behaviour.{if_so, keyed_by, keyed_after, keyed_held, keyed_over, keyed_from, behaviour, has_key, keys_give};
 ghost use Rattle.vx_check_rules.specs.KeyedView.{keys_seen, copied_keys, keyed_of, keyed_in, all_keyed_in};
+ghost use Rattle.vx_check_rules.specs.Seen.{columns_seen};
 
+use crate::columns::Columns;
 use crate::copied::CopiedColumns;
 use crate::nodes::claimed_keys;
-use crate::pairs::{Input, hold_key};
 use vx_plan_nodes::{Copying, Described, DescribedBoth, KeysAfter, TypedNode, output_types};
 use vx_relations::{Catalog, Relation};
 
@@ -40,60 +42,74 @@ pub struct Keyed<'p> {
     pub second: Option<CopiedKeys<'p>>,
 }
 
-// Whether all columns of one of the keys that the relation declares have copies.
-fn is_declared(relation: &Relation, copied: &CopiedColumns<'_>) -> bool
-    ensures { result ≡ has_key (copying_of copied.now.copying) relation.now.keys copied.now.columns.now }
-{
-    for key in 0..relation.key_count() {
-        if copied.has_all(relation.key(key)) {
-            return true;
+impl<'p> KeysSeen<'p> {
+    /// How many keys there are.
+    pub fn count(self) -> usize
+        ensures { result ≡ length (keys_seen self.entry) }
+    {
+        match self {
+            KeysSeen::Listed(keys) => keys.len(),
+            KeysSeen::Declared(relation) => relation.key_count(),
+            KeysSeen::First(_) => 1,
         }
     }
-    false
-}
 
-// Whether all columns of one of the keys have copies.
-fn is_listed(keys: &[Vec<usize>], copied: &CopiedColumns<'_>) -> bool
-    ensures { result ≡ has_key (copying_of copied.now.copying) (map (λ k. k.items) keys.now) copied.now.columns.now }
-{
-    keys.iter().any(|key| copied.has_all(key.as_slice()))
+    /// The key at this place.
+    pub fn at(self, place: usize) -> Columns<'p>
+        requires { place < length (keys_seen self) }
+        ensures { columns_seen result ≡ slice_index_or (keys_seen self.entry) place (columns_seen result) }
+    {
+        match self {
+            KeysSeen::Listed(keys) => Columns::Listed(keys[place].as_slice()),
+            KeysSeen::Declared(relation) => Columns::Listed(relation.key(place)),
+            KeysSeen::First(count) => Columns::First(count),
+        }
+    }
 }
 
 impl CopiedKeys<'_> {
     /// Whether the output columns contain copies of all columns of one of the keys.
-    pub fn have(self, columns: &[usize]) -> bool
-        ensures { result ≡ has_key (copied_keys self.entry).0 (copied_keys self.entry).1 columns.now }
+    pub fn have(self, columns: Columns<'_>) -> bool
+        ensures { result ≡ has_key (copied_keys self.entry).0 (copied_keys self.entry).1 (columns_seen columns.entry) }
     {
         let copied = CopiedColumns::of(self.copying, columns);
-        match self.keys {
-            KeysSeen::Listed(keys) => is_listed(keys, &copied),
-            KeysSeen::Declared(relation) => is_declared(relation, &copied),
-            KeysSeen::First(count) => copied.has_first(count),
+        for place in 0..self.keys.count() {
+            if copied.has_all(self.keys.at(place)) {
+                return true;
+            }
         }
-    }
-}
-
-// Whether the output columns contain a key of the second input, if there is one.
-fn other_has(second: Option<CopiedKeys<'_>>, columns: &[usize]) -> bool
-    ensures { result ≡ list_all (λ f. has_key f.0 f.1 columns.now) (option_to_list (option_map copied_keys second.entry)) }
-{
-    match second {
-        Some(keys) => keys.have(columns),
-        None => true,
+        false
     }
 }
 
 impl Keyed<'_> {
     /// Whether the output columns contain a key of each of the inputs.
-    pub fn give(self, columns: &[usize]) -> bool
-        ensures { result ≡ keys_give (keyed_of self.entry) columns.now }
+    pub fn give(self, columns: Columns<'_>) -> bool
+        ensures { result ≡ keys_give (keyed_of self.entry) (columns_seen columns.entry) }
     {
-        self.first.have(columns) && other_has(self.second, columns)
+        if !self.first.have(columns) {
+            return false;
+        }
+        match self.second {
+            Some(keys) => keys.have(columns),
+            None => true,
+        }
     }
 }
 
-/// Keys of columns that stand where they stood.
-pub fn whole<'p>(keys: KeysSeen<'p>) -> CopiedKeys<'p>
+/// Whether the columns contain one of the keys.
+pub fn are_covered(keys: KeysSeen<'_>, columns: Columns<'_>) -> bool
+    ensures { result ≡ covers (keys_seen keys.entry) (columns_seen columns.entry) }
+{
+    let copied = CopiedKeys {
+        copying: Copying::WholeRows,
+        keys,
+    };
+    copied.have(columns)
+}
+
+// Keys of columns that stand where they stood.
+fn whole<'p>(keys: KeysSeen<'p>) -> CopiedKeys<'p>
     ensures { copied_keys result ≡ (whole_rows, keys_seen keys.entry) }
 {
     CopiedKeys {
@@ -102,14 +118,21 @@ pub fn whole<'p>(keys: KeysSeen<'p>) -> CopiedKeys<'p>
     }
 }
 
-// Keys of one input.
-fn alone<'p>(first: CopiedKeys<'p>) -> Option<Keyed<'p>>
-    ensures { keyed_in result ≡ keyed_by (copied_keys first.entry ∷ []) ∷ [] }
+// Keys of one input, if they are there.
+fn alone_if<'p>(is_there: bool, first: CopiedKeys<'p>) -> Option<Keyed<'p>>
+    ensures { keyed_in result ≡ if_so is_there (keyed_by (copied_keys first.entry ∷ []) ∷ []) }
 {
-    Some(Keyed {
+    is_there.then_some(Keyed {
         first,
         second: None,
     })
+}
+
+// Keys of one input.
+fn alone<'p>(first: CopiedKeys<'p>) -> [Option<Keyed<'p>>; 2]
+    ensures { all_keyed_in result ≡ keyed_by (copied_keys first.entry ∷ []) ∷ [] }
+{
+    [alone_if(true, first), None]
 }
 
 // The keys that a relation declares.
@@ -131,9 +154,9 @@ fn keyed_after<'p>(described: Described<'p>, below: &'p [Vec<usize>]) -> [Option
         KeysAfter::Kept => {
             let copying = described.copying;
             let keys = KeysSeen::Listed(below);
-            [alone(CopiedKeys { copying, keys }), None]
+            alone(CopiedKeys { copying, keys })
         }
-        KeysAfter::First(count) => [alone(whole(KeysSeen::First(count))), None],
+        KeysAfter::First(count) => alone(whole(KeysSeen::First(count))),
         KeysAfter::NoKey => [None, None],
     }
 }
@@ -148,15 +171,16 @@ fn keyed_held<'p>(
     ensures { all_keyed_in result ≡ keyed_held is_right_held is_left_held (copied_keys lefts.entry) (copied_keys rights.entry) }
 {
     match (is_right_held, is_left_held) {
-        (true, true) => [alone(lefts), alone(rights)],
-        (true, false) => [alone(lefts), None],
-        (false, true) => [alone(rights), None],
         (false, false) => [
             Some(Keyed {
                 first: lefts,
                 second: Some(rights),
             }),
             None,
+        ],
+        _ => [
+            alone_if(is_right_held, lefts),
+            alone_if(is_left_held, rights),
         ],
     }
 }
@@ -172,8 +196,8 @@ fn keyed_over<'p>(
     let Some(on) = described.pairs else {
         return [None, None];
     };
-    let is_right_held = hold_key(Input::Right, on, rights);
-    let is_left_held = hold_key(Input::Left, on, lefts);
+    let is_right_held = are_covered(KeysSeen::Listed(rights), Columns::Rights(on));
+    let is_left_held = are_covered(KeysSeen::Listed(lefts), Columns::Lefts(on));
     let behind = CopiedKeys {
         copying: described.right,
         keys: KeysSeen::Listed(rights),
@@ -198,12 +222,12 @@ pub fn keyed_from<'p>(
     ensures { all_keyed_in result ≡ keyed_from (relation_at catalog.now) (plan_of node.now) (map (λ k. k.items) lefts.now) (map (λ k. k.items) rights.now) }
 {
     match node {
-        TypedNode::Scan(_, scan) => [alone(whole(declared(catalog, scan.relation))), None],
+        TypedNode::Scan(_, scan) => alone(whole(declared(catalog, scan.relation))),
         TypedNode::Unary(_, operator, _) => keyed_after(operator.described(), lefts),
         TypedNode::Binary(_, operator, input, _) => {
             keyed_over(operator.described(output_types(input)), lefts, rights)
         }
-        TypedNode::Exchange(_, _, _) => [alone(whole(KeysSeen::Listed(lefts))), None],
+        TypedNode::Exchange(_, _, _) => alone(whole(KeysSeen::Listed(lefts))),
     }
 }
 
@@ -227,7 +251,7 @@ fn is_given(keyed: Option<Keyed<'_>>, columns: &[usize]) -> bool
     ensures { result ≡ list_any (λ k. keys_give k columns.now) (keyed_in keyed.entry) }
 {
     match keyed {
-        Some(keyed) => keyed.give(columns),
+        Some(keyed) => keyed.give(Columns::Listed(columns)),
         None => false,
     }
 }
@@ -236,5 +260,10 @@ fn is_given(keyed: Option<Keyed<'_>>, columns: &[usize]) -> bool
 pub fn show_key(keyed: &[Option<Keyed<'_>>], columns: &[usize]) -> bool
     ensures { result ≡ list_any (λ k. keys_give k columns.now) (all_keyed_in keyed.now) }
 {
-    keyed.iter().any(|keyed| is_given(*keyed, columns))
+    for each in keyed {
+        if is_given(*each, columns) {
+            return true;
+        }
+    }
+    false
 }

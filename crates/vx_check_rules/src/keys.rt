@@ -19,7 +19,11 @@ pub fn are_keys_shown(catalog: &Catalog, node: &TypedNode) -> bool
     ensures { result ≡ keys_shown (relation_at catalog.now) (plan_of node.now) }
 {
     let keyed = node_keyed(catalog, node);
-    claimed_keys(node)
-        .iter()
-        .all(|key| show_key(&keyed, key.as_slice()))
+    let keys = claimed_keys(node);
+    for key in keys {
+        if !show_key(&keyed, key.as_slice()) {
+            return false;
+        }
+    }
+    true
 }

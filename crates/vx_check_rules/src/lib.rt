@@ -28,12 +28,15 @@ pub use carried::{node_order, node_part};
 pub use carried_keys::node_keys;
 pub use checked::CheckedPlan;
 pub use checking::check;
+pub use columns::Columns;
 pub use inputs::do_sizes_match;
-pub use keyed::{CopiedKeys, Keyed, KeysSeen, keyed_from, show_key};
+pub use keyed::{CopiedKeys, Keyed, KeysSeen, are_covered, keyed_from, show_key};
 pub use laws::{
     carried_is_shown, copies_back, fits_exactly, keys_carried, keys_exactly, orders_carried,
     orders_exactly, parts_carried, parts_exactly, verdicts_exactly,
 };
+pub use nodes::has_one_worker;
+pub use orders::is_total;
 pub use parts::{PartSeen, gives, is_same_route, seen};
 pub use refusal::{failure_at, root_failure};
 pub use refused::Refused;

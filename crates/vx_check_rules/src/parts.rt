@@ -131,5 +131,10 @@ pub fn are_seen_alike(on: &[(usize, usize)], left: PartSeen<'_>, right: PartSeen
 fn are_kept(kept: KeptColumns<'_>, columns: &[usize]) -> bool
     ensures { result ≡ within columns.now (kept_columns kept.entry) }
 {
-    columns.iter().all(|column| kept.contains(*column))
+    for column in columns {
+        if !kept.contains(*column) {
+            return false;
+        }
+    }
+    true
 }

@@ -1,44 +1,39 @@
 //! Where columns of an input stand in an output, by how an operator copies them.
 
-ghost use Rattle.std.specs.Prelude.{◌≡◌, option_map, IfOk};
+ghost use Rattle.std.specs.Prelude.{◌≡◌, ◌++◌, is_some, OnOk};
 ghost use Rattle.vx_plan_nodes.specs.DescribeView.{copying_of};
 ghost use Rattle.vx_check_rules.specs.Behaviour.{places, front_places};
+ghost use Rattle.vx_check_rules.specs.Seen.{columns_seen};
 
-use std::alloc::{AllocError, Global};
+use crate::columns::Columns;
+use std::alloc::AllocError;
 use vx_plan_nodes::Copying;
 
-/// Where these columns stand, if each has a place.
-pub fn places(
-    alloc: Global,
-    copying: Copying<'_>,
-    columns: &[usize],
-) -> Result<Option<Vec<usize>>, AllocError>
-    ensures { IfOk result (λ o. option_map (λ v. v.items) o ≡ places (copying_of copying.entry) columns.now) }
+/// Whether each of these columns has a place.
+pub fn have_places(copying: Copying<'_>, columns: Columns<'_>) -> bool
+    ensures { result ≡ is_some (places (copying_of copying.entry) (columns_seen columns.entry)) }
 {
-    let mut found = Vec::new(alloc);
-    for column in columns {
-        let Some(place) = copying.place(*column) else {
-            return Ok(None);
-        };
-        found.push(place)?;
+    for i in 0..columns.len() {
+        if copying.place(columns.at(i)).is_none() {
+            return false;
+        }
     }
-    Ok(Some(found))
+    true
 }
 
-/// Where they stand, up to the first that has no place.
-pub fn front_places(
-    alloc: Global,
+/// Puts the places of these columns behind the others, up to the first column that has none.
+pub fn put_places(
+    found: &mut Vec<usize>,
     copying: Copying<'_>,
-    columns: &[usize],
-) -> Result<Vec<usize>, AllocError>
-    ensures { IfOk result (λ v. v.items ≡ front_places (copying_of copying.entry) columns.now) }
+    columns: Columns<'_>,
+) -> Result<(), AllocError>
+    ensures { OnOk result (found.new.items ≡ found.old.items ++ front_places (copying_of copying.entry) (columns_seen columns.entry)) }
 {
-    let mut found = Vec::new(alloc);
-    for column in columns {
-        let Some(place) = copying.place(*column) else {
-            return Ok(found);
+    for i in 0..columns.len() {
+        let Some(place) = copying.place(columns.at(i)) else {
+            return Ok(());
         };
         found.push(place)?;
     }
-    Ok(found)
+    Ok(())
 }

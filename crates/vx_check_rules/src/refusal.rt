@@ -5,7 +5,7 @@ ghost use Rattle.vx_relations.specs.Relation.{Relation};
 ghost use Rattle.vx_relations.specs.Catalog.{relation_at};
 ghost use Rattle.vx_plan_nodes.specs.Plan.{number};
 ghost use Rattle.vx_plan_nodes.specs.Outline.{outline_of, plan_of};
-ghost use Rattle.vx_check_rules.specs.Refusal.{first_failure, node_tests, root_tests, or_else, refused_at, first_refused, refusal};
+ghost use Rattle.vx_check_rules.specs.Refusal.{first_failure, node_tests, root_tests, refused_at, first_refused, refusal};
 ghost use Rattle.vx_check_rules.specs.Exactly.{keys_name_columns, KeysNameColumns};
 ghost use Rattle.vx_check_rules.specs.RuleView.{rule_of, refusal_of};
 ghost use Rattle.vx_plan_nodes.specs.Outputs.{HasOutputs};
@@ -68,20 +68,10 @@ fn refused_here(catalog: &Catalog, node: &TypedNode) -> Option<(u32, Rule)>
     requires keys { KeysNameColumns (relation_at catalog.now) (plan_of node.now) }
     ensures { option_map refusal_of result ≡ refused_at (number (plan_of node.now)) (node_tests (relation_at catalog.now) (plan_of node.now)) }
 {
-    failure_at(catalog, node).map(|rule| (node.head().number, rule))
-}
-
-// What was refused below, or else the node with the first of its tests that fails.
-fn or_refused_here(
-    below: Option<(u32, Rule)>,
-    catalog: &Catalog,
-    node: &TypedNode,
-) -> Option<(u32, Rule)>
-    requires outputs { HasOutputs (relation_at catalog.now) (outline_of node.now) }
-    requires keys { KeysNameColumns (relation_at catalog.now) (plan_of node.now) }
-    ensures { option_map refusal_of result ≡ or_else (option_map refusal_of below) (refused_at (number (plan_of node.now)) (node_tests (relation_at catalog.now) (plan_of node.now))) }
-{
-    below.or_else(|| refused_here(catalog, node))
+    match failure_at(catalog, node) {
+        Some(rule) => Some((node.head().number, rule)),
+        None => None,
+    }
 }
 
 // The first refused node in post-order, and the first of its tests that fails.
@@ -92,31 +82,22 @@ fn first_refused_in(catalog: &Catalog, node: &TypedNode) -> Option<(u32, Rule)>
 {
     match node {
         TypedNode::Scan(_, _) => refused_here(catalog, node),
-        TypedNode::Unary(_, _, input) => or_refused_here(
-            first_refused_in(catalog, input),
-            catalog,
-            node,
-        ),
+        TypedNode::Unary(_, _, input) | TypedNode::Exchange(_, _, input) => {
+            if let Some(refused) = first_refused_in(catalog, input) {
+                return Some(refused);
+            }
+            refused_here(catalog, node)
+        }
         TypedNode::Binary(_, _, left, right) => {
             if let Some(refused) = first_refused_in(catalog, left) {
                 return Some(refused);
             }
-            or_refused_here(first_refused_in(catalog, right), catalog, node)
+            if let Some(refused) = first_refused_in(catalog, right) {
+                return Some(refused);
+            }
+            refused_here(catalog, node)
         }
-        TypedNode::Exchange(_, _, input) => or_refused_here(
-            first_refused_in(catalog, input),
-            catalog,
-            node,
-        ),
     }
-}
-
-// The root with the first of its own tests that fails.
-fn refused_root(is_total: bool, root: &TypedNode) -> Option<(u32, Rule)>
-    ensures { (catalog : ℕ → Relation) → HasOutputs catalog (outline_of root.now)
-        → option_map refusal_of result ≡ refused_at (number (plan_of root.now)) (root_tests catalog is_total (plan_of root.now)) }
-{
-    root_failure(is_total, root).map(|rule| (root.head().number, rule))
 }
 
 /// What refuses the plan: a node and a rule. The root's own tests are the last.
@@ -125,5 +106,11 @@ pub fn refusal_in(catalog: &Catalog, is_total: bool, root: &TypedNode) -> Option
     requires keys { KeysNameColumns (relation_at catalog.now) (plan_of root.now) }
     ensures { option_map refusal_of result ≡ refusal (relation_at catalog.now) is_total (plan_of root.now) }
 {
-    first_refused_in(catalog, root).or_else(|| refused_root(is_total, root))
+    if let Some(refused) = first_refused_in(catalog, root) {
+        return Some(refused);
+    }
+    match root_failure(is_total, root) {
+        Some(rule) => Some((root.head().number, rule)),
+        None => None,
+    }
 }

@@ -11,9 +11,12 @@ use vx_plan_nodes::Copying;
 pub fn are_copies(copying: Copying<'_>, columns: &[usize]) -> bool
     ensures { result ≡ if_some (sources (copying_of copying.entry) columns.now) (λ cs. true) }
 {
-    columns
-        .iter()
-        .all(|column| copying.source(*column).is_some())
+    for column in columns {
+        if copying.source(*column).is_none() {
+            return false;
+        }
+    }
+    true
 }
 
 /// Whether the output columns are copies of just these input columns, in order.

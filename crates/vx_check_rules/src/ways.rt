@@ -1,7 +1,7 @@
 //! The ways of a node to a part, by what its operator does with columns and rows.
 
 ghost use Rattle.std.specs.Prelude.{◌≡◌, ℕ, true, cond, ◌&&◌, ◌||◌, [], ◌∷◌, option_map, option_to_list};
-ghost use Rattle.std.specs.List.{list_all, list_any};
+ghost use Rattle.std.specs.List.{list_any};
 ghost use Rattle.vx_relations.specs.Relation.{Relation};
 ghost use Rattle.vx_plan_nodes.specs.Plan.{any, all, routed};
 ghost use Rattle.vx_plan_nodes.specs.Parts.{kind_part};
@@ -10,7 +10,7 @@ ghost use Rattle.vx_plan_nodes.specs.Outputs.{HasOutputs};
 ghost use Rattle.vx_plan_nodes.specs.Describe.{whole_rows};
 ghost use Rattle.vx_plan_nodes.specs.DescribeView.{copying_of, kept_columns, described_of, described_both_of};
 ghost use Rattle.vx_check_rules.specs.Rules.{part_gives, if_some};
-ghost use Rattle.vx_check_rules.specs.Behaviour.{sources, way, if_so, own, bare, input_has, meet, gives, ways_along, ways_over, ways_made, ways_from, behaviour};
+ghost use Rattle.vx_check_rules.specs.Behaviour.{sources, way, if_so, own, bare, input_has, meet, gives, common_part, ways_along, ways_over, ways_made, ways_from, behaviour};
 ghost use Rattle.vx_check_rules.specs.WayView.{part_seen, had_of, way_of, way_in, ways_in};
 
 use crate::nodes::{claimed_part, has_one_worker};
@@ -49,15 +49,15 @@ fn made(kind: &ExchangeKind) -> PartSeen<'_>
 }
 
 impl Had<'_> {
-    /// Whether the input has the part.
+    // Whether the input has the part.
     fn has(self, wanted: &Part) -> bool
         ensures { result ≡ input_has (had_of self.entry) (part_of wanted.now) }
     {
         self.is_alone || self.part.gives(wanted)
     }
 
-    /// Whether the input has the part that is routed by this route, on the input columns that these output columns are
-    /// copies of.
+    // Whether the input has the part that is routed by this route, on the input columns that these output columns are
+    // copies of.
     fn has_copied(self, copying: Copying<'_>, route: &Route, columns: &[usize]) -> bool
         ensures { result ≡ if_some (sources (copying_of copying.entry) columns.now) (λ cs. self.entry.is_alone || part_gives (part_seen self.entry.part) (routed (route_of route.now) cs)) }
     {
@@ -66,40 +66,40 @@ impl Had<'_> {
         }
         self.part.gives_copied(copying, route, columns)
     }
-}
 
-// Whether the second input, if there is one, has the part.
-fn other_has(second: Option<Had<'_>>, wanted: &Part) -> bool
-    ensures { result ≡ list_all (λ f. input_has f (part_of wanted.now)) (option_to_list (option_map had_of second.entry)) }
-{
-    match second {
-        Some(had) => had.has(wanted),
-        None => true,
-    }
-}
-
-impl Way<'_> {
-    // Whether each input has the part that is routed by this route, on the columns that are copied.
-    fn gives_routed(self, route: &Route, columns: &[usize]) -> bool
-        ensures { result ≡ gives (way_of self.entry) (routed (route_of route.now) columns.now) }
-    {
-        match self.second {
-            Some(second) => {
-                self.first.has_copied(self.copying, route, columns)
-                    && second.has_copied(self.copying, route, columns)
-            }
-            None => self.first.has_copied(self.copying, route, columns),
-        }
-    }
-
-    /// Whether the way gives the part; the part of one worker no way does.
-    pub fn gives(self, wanted: &Part) -> bool
-        ensures { result ≡ gives (way_of self.entry) (part_of wanted.now) }
+    // Whether a way of this input alone gives the part; the part of one worker no way does.
+    fn gives(self, copying: Copying<'_>, wanted: &Part) -> bool
+        ensures { result ≡ gives (way (copying_of copying.entry) (had_of self.entry ∷ [])) (part_of wanted.now) }
     {
         match wanted {
             Part::One => false,
-            Part::Any | Part::All => self.first.has(wanted) && other_has(self.second, wanted),
-            Part::Routed(route, columns) => self.gives_routed(route, columns.as_slice()),
+            Part::Any | Part::All => self.has(wanted),
+            Part::Routed(route, columns) => self.has_copied(copying, route, columns.as_slice()),
+        }
+    }
+}
+
+impl<'p> Way<'p> {
+    /// The first input's part if the second one has it too, else any.
+    pub fn common_part(self) -> PartSeen<'p>
+        ensures { part_seen result ≡ common_part (way_of self.entry).from }
+    {
+        match self.second {
+            Some(second) if !second.part.gives_seen(self.first.part) => PartSeen::Any,
+            _ => self.first.part,
+        }
+    }
+
+    /// Whether the way gives the part.
+    pub fn gives(self, wanted: &Part) -> bool
+        ensures { result ≡ gives (way_of self.entry) (part_of wanted.now) }
+    {
+        if !self.first.gives(self.copying, wanted) {
+            return false;
+        }
+        match self.second {
+            Some(second) => second.gives(self.copying, wanted),
+            None => true,
         }
     }
 }
@@ -124,14 +124,19 @@ fn bare<'p>(part: PartSeen<'p>) -> Had<'p>
     }
 }
 
-// The way of one input, if it is there.
-fn way_if<'p>(is_there: bool, copying: Copying<'p>, first: Had<'p>) -> Option<Way<'p>>
-    ensures { way_in result ≡ if_so is_there (way (copying_of copying.entry) (had_of first.entry ∷ []) ∷ []) }
+// The way of these inputs, if it is there.
+fn way_if<'p>(
+    is_there: bool,
+    copying: Copying<'p>,
+    first: Had<'p>,
+    second: Option<Had<'p>>,
+) -> Option<Way<'p>>
+    ensures { way_in result ≡ if_so is_there (way (copying_of copying.entry) (had_of first.entry ∷ option_to_list (option_map had_of second.entry)) ∷ []) }
 {
     is_there.then_some(Way {
         copying,
         first,
-        second: None,
+        second,
     })
 }
 
@@ -149,7 +154,12 @@ fn do_meet(meets: Option<KeptColumns<'_>>, input: Had<'_>) -> bool
 fn ways_along<'p>(described: Described<'p>, input: Had<'p>) -> [Option<Way<'p>>; 4]
     ensures { ways_in result ≡ ways_along (described_of described.entry) (had_of input.entry) }
 {
-    let way = way_if(do_meet(described.meets, input), described.copying, input);
+    let way = way_if(
+        do_meet(described.meets, input),
+        described.copying,
+        input,
+        None,
+    );
     [way, None, None, None]
 }
 
@@ -160,18 +170,6 @@ fn do_stand_beside(left: Had<'_>, right: Had<'_>) -> bool
     left.is_alone
         || (left.has(&Part::Any) && right.has(&Part::Any))
         || (left.has(&Part::All) && right.has(&Part::All))
-}
-
-// The way of rows that stand side by side, if they can.
-fn way_beside<'p>(copying: Copying<'p>, left: Had<'p>, right: Had<'p>) -> Option<Way<'p>>
-    ensures { way_in result ≡ if_so ((had_of left.entry).0 || ((input_has (had_of left.entry) any && input_has (had_of right.entry) any) || (input_has (had_of left.entry) all && input_has (had_of right.entry) all)))
-        (way (copying_of copying.entry) (had_of left.entry ∷ had_of right.entry ∷ []) ∷ []) }
-{
-    do_stand_beside(left, right).then_some(Way {
-        copying,
-        first: left,
-        second: Some(right),
-    })
 }
 
 // The ways of rows that meet on these pairs.
@@ -185,10 +183,10 @@ fn ways_met<'p>(
 {
     let are_alike = are_seen_alike(on, left.part, right.part);
     [
-        way_if(are_alike, Copying::WholeRows, bare(left.part)),
-        way_if(are_alike, described.right, bare(right.part)),
-        way_if(right.has(&Part::All), described.left, left),
-        way_if(left.has(&Part::All), described.right, right),
+        way_if(are_alike, Copying::WholeRows, bare(left.part), None),
+        way_if(are_alike, described.right, bare(right.part), None),
+        way_if(right.has(&Part::All), described.left, left, None),
+        way_if(left.has(&Part::All), described.right, right, None),
     ]
 }
 
@@ -201,7 +199,11 @@ fn ways_over<'p>(
     ensures { ways_in result ≡ ways_over (described_both_of described.entry).pairs (described_both_of described.entry) (had_of left.entry) (had_of right.entry) }
 {
     match described.pairs {
-        None => [way_beside(described.left, left, right), None, None, None],
+        None => {
+            let stand = do_stand_beside(left, right);
+            let way = way_if(stand, described.left, left, Some(right));
+            [way, None, None, None]
+        }
         Some(on) => ways_met(on, described, left, right),
     }
 }
@@ -211,7 +213,7 @@ fn ways_made<'p>(part: PartSeen<'p>) -> [Option<Way<'p>>; 4]
     ensures { ways_in result ≡ ways_made (part_seen part.entry) }
 {
     [
-        way_if(true, Copying::WholeRows, bare(part)),
+        way_if(true, Copying::WholeRows, bare(part), None),
         None,
         None,
         None,
@@ -270,12 +272,22 @@ fn is_given(way: Option<Way<'_>>, wanted: &Part) -> bool
 pub fn show_part(ways: &[Option<Way<'_>>], wanted: &Part) -> bool
     ensures { result ≡ list_any (λ w. gives w (part_of wanted.now)) (ways_in ways.now) }
 {
-    ways.iter().any(|way| is_given(*way, wanted))
+    for way in ways {
+        if is_given(*way, wanted) {
+            return true;
+        }
+    }
+    false
 }
 
 /// Whether there is a way.
 pub fn has_way(ways: &[Option<Way<'_>>]) -> bool
     ensures { result ≡ list_any (λ w. true) (ways_in ways.now) }
 {
-    ways.iter().any(|way| way.is_some())
+    for way in ways {
+        if way.is_some() {
+            return true;
+        }
+    }
+    false
 }

@@ -2,9 +2,9 @@
 use Rattle.std.proofs.Common.{◌≡◌, ◌≢◌, ◌∙◌, ℕ, ◌++◌, Bool, false, nat_eq, length, map, List, [], ◌∷◌, Option, Some, None, slice_get, append_assoc, refl, sym, ap, ap₂, Result, Ok, Err}
 use Rattle.std.specs.Prelude.{OnOk}
 use Rattle.vx_relations.specs.Relation.{Relation}
-use Rattle.vx_plan_nodes.specs.Plan.{Plan, scan, unary, binary, exchange}
-use Rattle.vx_check_rules.specs.Refusal.{node_tests, root_tests, or_else, refused_at, first_refused, refusal}
-use Rattle.vx_failures.specs.Failures.{listed, failures_in, failures}
+use Rattle.vx_plan_nodes.specs.Plan.{Plan, scan, unary, binary, exchange, number}
+use Rattle.vx_check_rules.specs.Refusal.{Rule, node_tests, root_tests, or_else, refused_at, first_refused, refusal}
+use Rattle.vx_failures.specs.Failures.{listed, failures_at, failures_in, failures_below, failures}
 
 first_listed : {X : Type 0} (o : Option X) → slice_get (listed o) 0 ≡ o
 first_listed None = refl
@@ -57,14 +57,17 @@ pub put_then : {T E X : Type 0} (r : Result T E) (new mid old below here : List 
 put_then (Ok x) new mid old below here h e = h ∙ (ap (λ xs. xs ++ here) e ∙ append_assoc old below here)
 put_then (Err f) new mid old below here h e = tt
 
-pub put_both : {T E X : Type 0} (r : Result T E) (new mid low old left right here : List X) → OnOk r (new ≡ mid ++ here) → mid ≡ low ++ right → low ≡ old ++ left
-    → OnOk r (new ≡ old ++ (left ++ (right ++ here)))
-put_both r new mid low old left right here h e k =
-    put_then r new low old left (right ++ here) (put_then r new mid low right here h e) k
+-- the failures of the nodes below, and the node's own
+in-below : (catalog : ℕ → Relation) (p : Plan) → failures_below catalog p ++ failures_at catalog p ≡ failures_in catalog p
+in-below catalog (scan n c r m z) = refl
+in-below catalog (unary n c op p) = refl
+in-below catalog (binary n c op p q) = append_assoc (failures_in catalog p) (failures_in catalog q) (failures_at catalog (binary n c op p q))
+in-below catalog (exchange n c k m p) = refl
 
--- what is put behind these
-pub put_behind : {X : Type 0} (new mid old here : List X) → new ≡ mid ++ here → mid ≡ old → new ≡ old ++ here
-put_behind new mid old here h e = h ∙ ap (λ xs. xs ++ here) e
+-- they are put behind others
+pub below-own : (catalog : ℕ → Relation) (p : Plan) (new old : List (ℕ × Rule)) (own : Option (ℕ × Rule)) → new ≡ old ++ (failures_below catalog p ++ listed own) → own ≡ refused_at (number p) (node_tests catalog p)
+    → new ≡ old ++ failures_in catalog p
+below-own catalog p new old own put is = put ∙ ap (λ o. old ++ (failures_below catalog p ++ listed o)) is ∙ ap (λ fs. old ++ fs) (in-below catalog p)
 
 -- a list that is not empty has a first member
 pub has_first : {X Y : Type 0} (f : X → Y) (xs : List X) → nat_eq (length xs) 0 ≡ false → slice_get (map f xs) 0 ≢ None

@@ -9,21 +9,10 @@ use Rattle.vx_plan_nodes.specs.Outline.{Outline, scan, unary, binary, exchange, 
 use Rattle.vx_plan_nodes.specs.Names.{Names, TypedPlanView}
 use Rattle.vx_plan_json.specs.Written.{claim_members}
 use Rattle.vx_plan.specs.ByName.{claim_by_name}
-use Rattle.vx_check_rules.specs.Refusal.{Rule, size_mismatch, root_not_one, part_not_shown, inputs_not_matched, replicated_input, order_not_shown, order_needed, key_not_shown, total_not_shown, or_else}
+use Rattle.vx_check_rules.specs.Refusal.{Rule, or_else}
+use Rattle.vx_check_rules.specs.RuleView.{rule_text}
 use Rattle.vx_failures.specs.Failures.{failures}
 use Rattle.vx_failures.specs.Shown.{shown_claim}
-
--- the code and the name of a rule
-abbrev pub rule_text : Rule → List ℕ
-rule_text size_mismatch = codes "K1 SizeMismatch"
-rule_text root_not_one = codes "K2 RootNotOne"
-rule_text part_not_shown = codes "K3 PartNotShown"
-rule_text inputs_not_matched = codes "K4 InputsNotMatched"
-rule_text replicated_input = codes "K5 ReplicatedInput"
-rule_text order_not_shown = codes "K6 OrderNotShown"
-rule_text order_needed = codes "K7 OrderNeeded"
-rule_text key_not_shown = codes "K8 KeyNotShown"
-rule_text total_not_shown = codes "K9 TotalNotShown"
 
 -- the node with this number, at the top or else below it
 abbrev pub if_numbered : ℕ → Outline → Option Outline

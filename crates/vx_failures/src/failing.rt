@@ -9,7 +9,7 @@ ghost use Rattle.vx_plan_nodes.specs.Outputs.{HasOutputs};
 ghost use Rattle.vx_check_rules.specs.Exactly.{KeysNameColumns};
 ghost use Rattle.vx_check_rules.specs.Refusal.{node_tests, root_tests, or_else, refused_at};
 ghost use Rattle.vx_check_rules.specs.Checked.{refusal_of_plan};
-ghost use Rattle.vx_failures.specs.Failures.{listed, failures_in, failures_below};
+ghost use Rattle.vx_failures.specs.Failures.{listed, failures_below};
 ghost use Rattle.vx_failures.specs.FailureView.{failure_is, failures_of_plan};
 
 use crate::failure::Failure;
@@ -49,52 +49,28 @@ fn put(failures: &mut Vec<Failure>, failure: Option<Failure>) -> Result<(), Allo
     Ok(())
 }
 
-// Puts the failures of the nodes below, and then that of the node, behind the others.
+// Puts the failures of the nodes below a node, and then its own, if there is one, behind the others.
 fn put_failures(
     failures: &mut Vec<Failure>,
     catalog: &Catalog,
     node: &TypedNode,
+    own: Option<Failure>,
 ) -> Result<(), AllocError>
     requires outputs { HasOutputs (relation_at catalog.now) (outline_of node.now) }
     requires keys { KeysNameColumns (relation_at catalog.now) (plan_of node.now) }
-    ensures { OnOk result (map failure_is failures.new.items ≡ map failure_is failures.old.items ++ failures_in (relation_at catalog.now) (plan_of node.now)) }
+    ensures { OnOk result (map failure_is failures.new.items ≡ map failure_is failures.old.items ++ (failures_below (relation_at catalog.now) (plan_of node.now) ++ listed (option_map failure_is own))) }
 {
     match node {
-        TypedNode::Scan(_, _) => put(failures, failed_at(catalog, node)),
-        TypedNode::Unary(_, _, input) => {
-            put_failures(failures, catalog, input)?;
-            put(failures, failed_at(catalog, node))
+        TypedNode::Scan(_, _) => put(failures, own),
+        TypedNode::Unary(_, _, input) | TypedNode::Exchange(_, _, input) => {
+            put_failures(failures, catalog, input, failed_at(catalog, input))?;
+            put(failures, own)
         }
         TypedNode::Binary(_, _, left, right) => {
-            put_failures(failures, catalog, left)?;
-            put_failures(failures, catalog, right)?;
-            put(failures, failed_at(catalog, node))
+            put_failures(failures, catalog, left, failed_at(catalog, left))?;
+            put_failures(failures, catalog, right, failed_at(catalog, right))?;
+            put(failures, own)
         }
-        TypedNode::Exchange(_, _, input) => {
-            put_failures(failures, catalog, input)?;
-            put(failures, failed_at(catalog, node))
-        }
-    }
-}
-
-// Puts the failures of the nodes below a node behind the others.
-fn put_failures_below(
-    failures: &mut Vec<Failure>,
-    catalog: &Catalog,
-    node: &TypedNode,
-) -> Result<(), AllocError>
-    requires outputs { HasOutputs (relation_at catalog.now) (outline_of node.now) }
-    requires keys { KeysNameColumns (relation_at catalog.now) (plan_of node.now) }
-    ensures { OnOk result (map failure_is failures.new.items ≡ map failure_is failures.old.items ++ failures_below (relation_at catalog.now) (plan_of node.now)) }
-{
-    match node {
-        TypedNode::Scan(_, _) => Ok(()),
-        TypedNode::Unary(_, _, input) => put_failures(failures, catalog, input),
-        TypedNode::Binary(_, _, left, right) => {
-            put_failures(failures, catalog, left)?;
-            put_failures(failures, catalog, right)
-        }
-        TypedNode::Exchange(_, _, input) => put_failures(failures, catalog, input),
     }
 }
 
@@ -121,10 +97,7 @@ pub fn failures(alloc: Global, plan: &TypedPlan) -> Result<Vec<Failure>, AllocEr
     let mut failures = Vec::new(alloc);
     let catalog = plan.catalog();
     let root = plan.root();
-    put_failures_below(&mut failures, catalog, root)?;
-    put(
-        &mut failures,
-        failed_at_root(catalog, plan.is_total(), root),
-    )?;
+    let own = failed_at_root(catalog, plan.is_total(), root);
+    put_failures(&mut failures, catalog, root, own)?;
     Ok(failures)
 }

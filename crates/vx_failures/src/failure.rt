@@ -3,7 +3,7 @@
 use vx_check_rules::Rule;
 
 /// A node with the first of its tests that fails.
-#[derive(Clone, Copy, PartialEq, Eq)]
+#[derive(Clone, Copy)]
 pub struct Failure {
     pub node: u32,
     pub rule: Rule,

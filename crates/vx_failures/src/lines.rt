@@ -6,8 +6,7 @@ ghost use Rattle.vx_plan_nodes.specs.Outline.{columns, claim_of, outline_of, pla
 ghost use Rattle.vx_plan_nodes.specs.Outputs.{HasOutputs};
 ghost use Rattle.vx_plan_nodes.specs.TypedView.{names_in, resolved_of};
 ghost use Rattle.vx_check_rules.specs.Exactly.{KeysNameColumns};
-ghost use Rattle.vx_check_rules.specs.RuleView.{rule_of};
-ghost use Rattle.vx_failures.specs.Lines.{rule_text, claim_text, shown_text, line_of, lines_of};
+ghost use Rattle.vx_failures.specs.Lines.{claim_text, shown_text, line_of, lines_of};
 ghost use Rattle.vx_failures.specs.FailureView.{failure_is};
 
 use crate::failure::Failure;
@@ -15,27 +14,9 @@ use crate::finding::node_numbered;
 use crate::shown::shown_claim;
 use itoa::Buffer;
 use std::alloc::{AllocError, Global};
-use vx_check_rules::Rule;
 use vx_plan::named_claim;
 use vx_plan_json::claim_text;
 use vx_plan_nodes::{Claim, Name, TypedNode, TypedPlan};
-
-// The code and the name of a rule.
-fn rule_text(rule: Rule) -> &'static str
-    ensures { result.now ≡ rule_text (rule_of rule) }
-{
-    match rule {
-        Rule::SizeMismatch => "K1 SizeMismatch",
-        Rule::RootNotOne => "K2 RootNotOne",
-        Rule::PartNotShown => "K3 PartNotShown",
-        Rule::InputsNotMatched => "K4 InputsNotMatched",
-        Rule::ReplicatedInput => "K5 ReplicatedInput",
-        Rule::OrderNotShown => "K6 OrderNotShown",
-        Rule::OrderNeeded => "K7 OrderNeeded",
-        Rule::KeyNotShown => "K8 KeyNotShown",
-        Rule::TotalNotShown => "K9 TotalNotShown",
-    }
-}
 
 // Adds a claim over columns with these names, if there is one.
 fn push_claim(
@@ -90,7 +71,7 @@ fn push_line(
 {
     let mut digits = Buffer::new();
     text.push_str("volcano: ")?;
-    text.push_str(rule_text(failure.rule))?;
+    text.push_str(failure.rule.text())?;
     text.push_str(" node=")?;
     text.push_str(digits.format(failure.node))?;
     push_shown(alloc, text, plan, node_numbered(plan.root(), failure.node))?;

@@ -1,5 +1,5 @@
 use Rattle.std.proofs.Common.{arith}
-use Rattle.vx_check_options.specs.Seen.{columns_seen}
+use Rattle.vx_check_rules.specs.Seen.{columns_seen}
 use Rattle.vx_check_options.proofs.OptionFacts.{narrowed-short}
 use Rattle.vx_check_options.proofs.order_choices.may_begin.Goals as goal
 

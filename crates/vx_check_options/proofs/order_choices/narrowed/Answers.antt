@@ -1,5 +1,5 @@
 use Rattle.std.proofs.Common.{◌∙◌, sym}
-use Rattle.vx_check_options.specs.Seen.{columns_seen}
+use Rattle.vx_check_rules.specs.Seen.{columns_seen}
 use Rattle.vx_check_options.proofs.CopyLists.{cloned-items}
 use Rattle.vx_check_options.proofs.OptionFacts.{narrowed-long, narrowed-put}
 use Rattle.vx_check_options.proofs.order_choices.narrowed.Goals as goal

@@ -1,5 +1,5 @@
 use Rattle.std.proofs.Common.{◌≡◌, map, take}
-use Rattle.vx_check_options.specs.Seen.{columns_seen}
+use Rattle.vx_check_rules.specs.Seen.{columns_seen}
 use Rattle.vx_check_options.specs.Options.{singles}
 use Rattle.vx_check_options.proofs.order_choices.singles.Given as goal
 

@@ -1,7 +1,7 @@
 use Rattle.std.proofs.Common.{◌≡◌, ◌∙◌, ◌++◌, [], List, Vec, Global, ℕ, map, drop, ap, sym, arith}
 use Rattle.std.proofs.lemmas.List.{append-nil, drop_all}
 use Rattle.vx_plan_nodes.specs.DescribeView.{copying_of}
-use Rattle.vx_check_options.specs.Seen.{columns_seen}
+use Rattle.vx_check_rules.specs.Seen.{columns_seen}
 use Rattle.vx_check_options.specs.Placed.{order_along}
 use Rattle.vx_check_options.proofs.PlaceLists.{along-past, along-none, along-some}
 use Rattle.vx_check_options.proofs.placing.order_along.Goals as goal

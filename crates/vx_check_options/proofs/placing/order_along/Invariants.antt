@@ -1,6 +1,6 @@
 use Rattle.std.proofs.Common.{◌≡◌, ◌++◌, map, drop}
 use Rattle.vx_plan_nodes.specs.DescribeView.{copying_of}
-use Rattle.vx_check_options.specs.Seen.{columns_seen}
+use Rattle.vx_check_rules.specs.Seen.{columns_seen}
 use Rattle.vx_check_options.specs.Placed.{order_along}
 use Rattle.vx_check_options.proofs.placing.order_along.Given as goal
 

@@ -1,15 +1,14 @@
-use Rattle.std.proofs.Common.{◌∙◌, sym, Option, rules}
+use Rattle.std.proofs.Common.{◌∙◌, sym, ap}
 use Rattle.std.specs.List.{list_any}
-use Rattle.std.proofs.lemmas.Iterator.{YieldsList-from_slice}
-use Rattle.std.proofs.lemmas.Iterator.Search.{any_from_yields_List}
-use borrow.Author.Tests.{tests}
-use Rattle.vx_check_rules.specs.declared.keyed.Keyed.{Keyed}
 use Rattle.vx_check_rules.specs.Behaviour.{keys_give}
 use Rattle.vx_check_rules.specs.KeyedView.{keyed_in}
-use Rattle.vx_check_rules.proofs.WayFacts.{any-flat}
+use Rattle.vx_check_rules.proofs.WayFacts.{any-found, any-later}
 use Rattle.vx_check_rules.proofs.keyed.show_key.Goals as goal
 
-pub returns : goal.returns
-returns c =
-    any_from_yields_List (λ (o : Option Keyed). list_any (λ k. keys_give k c.args.columns.now) (keyed_in o)) _ _ _ c.any.ensures.ran (YieldsList-from_slice c.args.keyed.now cc) (λ x b q k. search (rules, tests))
-    ∙ sym (any-flat (λ k. keys_give k c.args.columns.now) keyed_in c.args.keyed.now)
+pub returns-then-is_given : goal.returns-then-is_given
+returns-then-is_given c =
+    sym (c.loop-each.invariant ∙ any-found (λ k. keys_give k c.args.columns.now) keyed_in c.args.keyed.now c.loop-each.each-index c.each-item.result _ c.loop-each-test.true (c.is_given.ensures ∙ ap (λ o. list_any (λ k. keys_give k c.args.columns.now) (keyed_in o)) c.each-item.is) c.if-is_given.true)
+
+pub loop-each-preserved : goal.loop-each-preserved
+loop-each-preserved c =
+    c.loop-each.invariant ∙ any-later (λ k. keys_give k c.args.columns.now) keyed_in c.args.keyed.now c.loop-each.each-index c.each-item.result _ c.loop-each-test.true (c.is_given.ensures ∙ ap (λ o. list_any (λ k. keys_give k c.args.columns.now) (keyed_in o)) c.each-item.is) c.if-is_given.false

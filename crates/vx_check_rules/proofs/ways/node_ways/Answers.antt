@@ -1,4 +1,3 @@
-use Rattle.std.proofs.Common.{◌≡◌}
 use Rattle.vx_check_rules.proofs.ways.node_ways.Goals as goal
 
 pub returns-in-Scan : goal.returns-in-Scan

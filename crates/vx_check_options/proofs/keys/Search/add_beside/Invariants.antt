@@ -2,7 +2,7 @@ use Rattle.std.proofs.Common.{[], ◌∷◌, map, take}
 use Rattle.vx_plan_nodes.specs.Phases.{first_columns}
 use Rattle.vx_plan_nodes.specs.DescribeView.{copying_of}
 use Rattle.vx_check_rules.specs.KeyedView.{keys_seen}
-use Rattle.vx_check_options.specs.Seen.{columns_seen}
+use Rattle.vx_check_rules.specs.Seen.{columns_seen}
 use Rattle.vx_check_options.specs.FoundKeys.{both_give, IsKey, IsShown, Finds}
 use Rattle.vx_check_options.proofs.keys.Search.add_beside.Given as goal
 

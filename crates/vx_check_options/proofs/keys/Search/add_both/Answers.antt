@@ -2,7 +2,7 @@ use Rattle.std.proofs.Common.{◌∙◌, ◌++◌, map, ℕ, List, Vec, Global, 
 use Rattle.std.proofs.lemmas.Result.{on_ok_weaker}
 use Rattle.vx_plan_nodes.specs.Phases.{first_columns}
 use Rattle.vx_plan_nodes.specs.DescribeView.{copying_of}
-use Rattle.vx_check_options.specs.Seen.{columns_seen}
+use Rattle.vx_check_rules.specs.Seen.{columns_seen}
 use Rattle.vx_check_options.specs.FoundKeys.{choices_of}
 use Rattle.vx_check_options.proofs.KeyChoices.{finds-no-copy, finds-both}
 use Rattle.vx_check_options.proofs.keys.Search.add_both.Goals as goal

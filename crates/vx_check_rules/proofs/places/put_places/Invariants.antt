@@ -1,0 +1,9 @@
+use Rattle.std.proofs.Common.{◌≡◌, ◌++◌, drop}
+use Rattle.vx_plan_nodes.specs.DescribeView.{copying_of}
+use Rattle.vx_check_rules.specs.Behaviour.{front_places}
+use Rattle.vx_check_rules.specs.Seen.{columns_seen}
+use Rattle.vx_check_rules.proofs.places.put_places.Given as goal
+
+abbrev pub invariant-loop-i : goal.invariant-loop-i
+invariant-loop-i l =
+    l.fn.found.items ++ front_places (copying_of l.copying) (columns_seen l.columns) ≡ l.found.items ++ front_places (copying_of l.copying) (drop l.i (columns_seen l.columns))
