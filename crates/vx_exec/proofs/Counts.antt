@@ -1,5 +1,5 @@
 -- How many morsels each relation of a database has, counted one relation after the other.
-use Rattle.std.proofs.Common.{◌≡◌, ℕ, ◌+◌, ◌-◌, ◌<◌, ◌≤◌, List, [], ◌∷◌, ◌++◌, length, get_or, refl, sym, ap, ◌∙◌, subst, arith, inl, inr}
+use Rattle.std.proofs.Common.{◌≡◌, ℕ, ◌+◌, ◌<◌, ◌≤◌, List, [], ◌∷◌, ◌++◌, length, get_or, refl, sym, ap, ◌∙◌, subst, arith, inl, inr}
 use Rattle.std.specs.List.{All}
 use Rattle.std.proofs.Math.ListN.{get_or-eq_default}
 use Rattle.std.proofs.Math.Nat.{div-eq_of_lt}
@@ -32,18 +32,17 @@ counts-push m db n counts new k so_far e is few =
     } in
     subst (λ z. AreCounts m db (n + 1) z) (sym e) pushed
 
-no-morsels : (m : ℕ) → 1 ≤ m → morsel_count m 0 ≡ 0
-no-morsels m some = div-eq_of_lt (omega arith)
-
 -- past the last relation there are no rows, so no morsels
+pub none-past : (m : ℕ) (db : Database) (r : ℕ) → 1 ≤ m → length db.rows ≤ r → morsel_count m (length (rows_at db r)) ≡ 0
+none-past m db r some past =
+    let none : morsel_count m 0 ≡ 0 = div-eq_of_lt (omega arith) in
+    ap (λ (z : List Row). morsel_count m (length z)) (get_or-eq_default db.rows [] past) ∙ none
+
 pub counts-all : (m : ℕ) (db : Database) (n : ℕ) (counts : List ℕ) → 1 ≤ m → length db.rows ≡ n → AreCounts m db n counts
     → (r : ℕ) → get_or counts r 0 ≡ morsel_count m (length (rows_at db r))
 counts-all m db n counts some many all r = elim (cases_lt r n) [
   | inl l ↦ all.are r l
-  | inr l ↦
-      let past : rows_at db r ≡ [] = get_or-eq_default db.rows [] (omega (arith, many)) in
-      let c = all.count in
-      get_or-eq_default counts 0 (omega (arith, c)) ∙ sym (ap (λ (z : List Row). morsel_count m (length z)) past ∙ no-morsels m some)
+  | inr l ↦ let c = all.count in get_or-eq_default counts 0 (omega (arith, c)) ∙ sym (none-past m db r some (omega (arith, many)))
 ]
 
 -- before the first relation

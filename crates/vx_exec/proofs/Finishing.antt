@@ -43,7 +43,7 @@ use Rattle.vx_runs.specs.Promise.{Reports}
 use Rattle.vx_exec.specs.Promise.{PromiseOnceSet}
 use Rattle.vx_exec.specs.Runs.{ComesTo, fault_reported}
 use Rattle.vx_runs.specs.Runs.{IsTrueOf}
-use Rattle.vx_exec.specs.Making.{board_of}
+use Rattle.vx_exec.specs.Links.{board_of}
 use Rattle.vx_setup.specs.declared.fault.RunFault.{RunFault}
 use Rattle.vx_exec.specs.declared.crew.Crew.{Crew}
 use Rattle.vx_exec.specs.declared.job.Job.{Job}

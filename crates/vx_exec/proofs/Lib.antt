@@ -3,10 +3,11 @@ pub mod ScanFacts
 pub mod Parts
 pub mod Fragments
 pub mod Dealing
+pub mod Each
 pub mod Starting
 pub mod Posts
 pub mod Workers
-pub mod Growing
+pub mod BySpans
 pub mod Outcomes
 pub mod Finishing
 pub mod WorkerGroupFacts

@@ -5,7 +5,7 @@ pub mod Part
 pub mod Bounds
 pub mod Inputs
 pub mod Crew
-pub mod Making
+pub mod Links
 pub mod Counts
 pub mod Runs
 pub mod Promise

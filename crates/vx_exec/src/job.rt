@@ -130,12 +130,14 @@ impl<'j> Job<'j> {
         self.packet
     }
 
-    /// How many morsels a relation has.
+    /// How many morsels a relation has. One past the last has none.
     pub fn morsel_count(&self, relation: usize) -> u64
-        requires { relation < length (scope self.now.plan.now).catalog }
         ensures value { result ≡ morsel_count self.now.morsel (length (rows_at self.now.database.now relation)) }
         ensures few { result ≤ max_rows }
     {
+        if relation >= self.database.catalog().len() {
+            return 0;
+        }
         let rows = self.database.rows(relation).len();
         ((rows + (self.morsel - 1)) / self.morsel) as u64
     }

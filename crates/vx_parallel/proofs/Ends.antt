@@ -22,7 +22,7 @@ use Rattle.vx_setup.specs.declared.fault.RunFault.{RunFault}
 use Rattle.vx_setup.specs.declared.fault.RunFault.TheVariants as fault
 use Rattle.vx_exec.specs.Crew.{IsNew}
 use Rattle.vx_exec.specs.Job.{model_of}
-use Rattle.vx_exec.specs.Making.{board_of}
+use Rattle.vx_exec.specs.Links.{board_of}
 use Rattle.vx_exec.specs.Runs.{ComesTo}
 use Rattle.vx_setup.specs.declared.counts.WorkerCounts.{WorkerCounts}
 use Rattle.vx_exec.specs.declared.crew.Crew.{Crew}

@@ -1,13 +1,9 @@
 -- The places of workers, fragment by fragment.
-use Rattle.std.proofs.Common.{ℕ, flat_map, ◌≡◌, ◌+◌, ◌<◌, ◌≤◌, List, [], ◌∷◌, ◌++◌, length, map, get_or, drop, sym, ap, ◌∙◌, arith, append_assoc, length-append}
-use Rattle.std.proofs.lemmas.List.{map_push}
+use Rattle.std.proofs.Common.{ℕ, flat_map, ◌≡◌, ◌+◌, ◌<◌, ◌≤◌, List, [], ◌∷◌, ◌++◌, length, get_or, drop, sym, ap, ◌∙◌, arith, append_assoc}
 use Rattle.vx_rows.specs.Lists.{each_below}
 use Rattle.vx_layout.specs.declared.span.NodeSpan.{NodeSpan}
 use Rattle.vx_layout.specs.declared.span.NodeSpan.TheVariants.{Inner, Exchange, Scan}
 use Rattle.vx_parallel.specs.Fragments.{fragment_in, places_from}
-use Rattle.vx_parallel.specs.Places.{place_in}
-use Rattle.vx_parallel.specs.declared.places.FragmentPlace.{FragmentPlace}
-use Rattle.vx_steps.proofs.Each.{more-each}
 use Rattle.vx_parallel.proofs.Lists.{next-at}
 
 -- no more fragments below the top one than spans
@@ -16,14 +12,6 @@ few-in [] = omega arith
 few-in (Inner ∷ spans) = let h = few-in spans in omega (arith, h)
 few-in (Exchange s ∷ spans) = let h = few-in spans in omega (arith, h)
 few-in (Scan s ∷ spans) = let h = few-in spans in omega (arith, h)
-
--- one place more
-pub one-place : (f k : ℕ) (front : List (ℕ × ℕ)) (old new : List FragmentPlace) (at : FragmentPlace) → new ≡ old ++ at ∷ [] → place_in at ≡ (f, k)
-    → map place_in old ≡ front ++ each_below k (λ i. (f, i)) → map place_in new ≡ front ++ each_below (k + 1) (λ i. (f, i))
-one-place f k front old new at e is was =
-    let here : ℕ → ℕ × ℕ = λ i. (f, i) in
-    ap (λ z. map place_in z) e ∙ map_push place_in old at ∙ ap (λ z. z ++ place_in at ∷ []) was ∙ ap (λ z. (front ++ each_below k here) ++ z ∷ []) is
-    ∙ append_assoc front (each_below k here) ((f, k) ∷ []) ∙ ap (λ z. front ++ z) (sym (more-each k here))
 
 -- the workers of one fragment more
 pub one-fragment : (fragments : List ℕ) (f n : ℕ) (old new all : List (ℕ × ℕ)) → f < length fragments → n ≡ get_or fragments f n

@@ -1,8 +1,6 @@
 -- Lists that are taken over element by element.
 use Rattle.std.proofs.Common.{ℕ, ◌≡◌, ◌+◌, ◌<◌, List, [], ◌∷◌, ◌++◌, length, map, get_or, drop, suc, refl, sym, ap, ◌∙◌, arith, append_assoc, append-nil, drop-cons, length-append}
 use Rattle.std.proofs.lemmas.List.{map_push, length-map}
-use Rattle.vx_rows.specs.Lists.{each_below}
-use Rattle.vx_steps.proofs.Each.{more-each}
 
 -- a list of no elements
 pub nothing : {A : Type 0} (xs : List A) → length xs ≡ 0 → xs ≡ []
@@ -19,12 +17,6 @@ moved f ms new m left rest all x e next is was =
 -- nothing is left
 pub all-moved : {M A : Type 0} (f : M → A) (ms : List M) (left all : List A) → left ≡ [] → map f ms ++ left ≡ all → map f ms ≡ all
 all-moved f ms left all none was = sym (append-nil (map f ms)) ∙ ap (λ z. map f ms ++ z) (sym none) ∙ was
-
--- one number more
-pub numbered-on : {M : Type 0} (f : M → ℕ) (ms new : List M) (m : M) (k : ℕ) → new ≡ ms ++ m ∷ [] → f m ≡ k → map f ms ≡ each_below k (λ i. i)
-    → map f new ≡ each_below (k + 1) (λ i. i)
-numbered-on f ms new m k e is was =
-    ap (λ z. map f z) e ∙ map_push f ms m ∙ ap (λ z. z ++ f m ∷ []) was ∙ ap (λ z. each_below k (λ i. i) ++ z ∷ []) is ∙ sym (more-each k (λ i. i))
 
 -- what is left from a place on begins with what stands there
 pub next-at : {A : Type 0} (xs : List A) (k : ℕ) (x : A) → k < length xs → x ≡ get_or xs k x → drop k xs ≡ x ∷ drop (k + 1) xs

@@ -23,7 +23,6 @@ use Rattle.vx_exec.specs.Counts.{AreCountsOf}
 use Rattle.vx_exec.specs.Runs.{ComesTo}
 use Rattle.vx_setup.specs.declared.counts.WorkerCounts.{WorkerCounts}
 use Rattle.vx_runs.specs.declared.outcome.RunOutcome.{RunOutcome}
-use Rattle.vx_runs.specs.declared.outcome.RunOutcome.TheVariants as run_outcome
 
 -- where there are more workers than threads may be started, the result is that no thread was started, or that memory was refused
 abbrev pub NeedsFew : (most workers : ℕ) → Result RunOutcome RunFault → Type 0

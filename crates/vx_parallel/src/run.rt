@@ -48,23 +48,6 @@ fn wiring_for(alloc: Global, job: &Job<'_>) -> Result<Wiring, AllocError>
     wiring_of(alloc, job.layout(), counts.as_slice(), job.slack())
 }
 
-// Runs all workers of a job, each in a thread of its own.
-fn start_members<R: Router + Sync, G: Gate + Sync, T: Threads + Wait + Sync>(
-    rt: &T,
-    alloc: Global,
-    job: &Job<'_>,
-    router: &R,
-    gate: &G,
-    decks: &Vec<SharedDeck>,
-    members: Vec<CrewMember<Operator, Destination>>,
-) -> Result<Vec<Joined<Operator, Destination>>, RunFault>
-    requires { AllReady operator_types post_of is_open has_closed (types_at job.now) decks.now.items members.items }
-    ensures honest { IfOk result (λ js. AreHonest (R.route_of router.now) job.now members.items js.items) }
-    ensures fault { IfErr result (λ e. (e ≡ NoMemory) ⊎ (e ≡ NoThread)) }
-{
-    run_in_threads(rt, alloc, job, router, gate, decks, members)
-}
-
 // Runs all workers of a job, each in a thread of its own, and puts together what they give back.
 fn run_crew<R: Router + Sync, G: Gate + Sync, T: Threads + Wait + Sync>(
     rt: &T,
@@ -89,7 +72,7 @@ fn run_crew<R: Router + Sync, G: Gate + Sync, T: Threads + Wait + Sync>(
     let layout = job.layout();
     let seats = places_of(alloc, layout)?;
     let members = members_of(alloc, workers, ends, seats.as_slice())?;
-    let joined = start_members(rt, alloc, job, router, gate, &decks, members)?;
+    let joined = run_in_threads(rt, alloc, job, router, gate, &decks, members)?;
     let ended = assemble(alloc, layout, decks, places.as_slice(), joined)?;
     Ok(ended)
 }

@@ -5,7 +5,6 @@
 mod making;
 mod rings;
 mod scans;
-mod shape;
 mod share;
 mod wiring;
 

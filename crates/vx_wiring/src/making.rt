@@ -1,13 +1,15 @@
 //! All workers of a plan, one node after the other.
 
-ghost use Rattle.std.specs.Prelude.{◌≡◌, ◌≤◌, ◌+◌, [], ◌∷◌, length, IfOk, OnOk};
+ghost use Rattle.std.specs.Prelude.{◌≡◌, ◌≤◌, ◌+◌, length, IfOk, OnOk};
+ghost use Rattle.std.specs.List.{All};
 ghost use Rattle.vx_values.specs.Limits.{max_group_workers, max_rows, max_slack};
+ghost use Rattle.vx_plan_nodes.specs.Workers.{IsWithin};
 ghost use Rattle.vx_layout.specs.Order.{AreInOrder, Follows};
 ghost use Rattle.vx_layout.specs.declared.span.NodeSpan.TheVariants.{Scan};
+ghost use Rattle.vx_wiring.specs.Making.{counts_in};
 
 use crate::rings::rings_of;
 use crate::scans::{deal_hands, give_seats};
-use crate::shape::Shape;
 use crate::share::Share;
 use std::alloc::{AllocError, Global};
 use vx_decks::SharedDeck;
@@ -22,8 +24,20 @@ pub struct Making {
     pub places: Vec<DeckPlace>,
 }
 
+// How many morsels a relation has, where the relations have so many. One past the last has none.
+fn morsels_of(morsels: &[u64], relation: usize) -> u64
+    requires { All (λ m. m ≤ max_rows) morsels.now }
+    ensures count { result ≡ counts_in morsels.now relation }
+    ensures few { result ≤ max_rows }
+{
+    match morsels.get(relation) {
+        Some(morsels) => *morsels,
+        None => 0,
+    }
+}
+
 impl Making {
-    ghost use Rattle.vx_wiring.specs.Making.{AddsDeck, AddsProducer, AddsProducers, AddsSpan, AreMade, counts_in, made_of, root_alone};
+    ghost use Rattle.vx_wiring.specs.Making.{AddsDeck, AddsProducer, AddsProducers, AddsSpan, AreMade, made_of, root_alone};
 
     // The worker at the root, with nothing yet.
     fn at_root(alloc: Global) -> Result<Making, AllocError>
@@ -64,16 +78,12 @@ impl Making {
     }
 
     // Adds what the workers of a scan draw from.
-    fn add_scan(
-        &mut self,
-        alloc: Global,
-        shape: &Shape<'_>,
-        scan: ScanSpan,
-    ) -> Result<(), AllocError>
-        requires { Follows (length self.old.shares.items) (Scan scan) }
-        ensures { OnOk result (AddsSpan (counts_in shape.now.morsels.now) (Scan scan) (made_of self.old) (made_of self.new)) }
+    fn add_scan(&mut self, alloc: Global, morsels: &[u64], scan: ScanSpan) -> Result<(), AllocError>
+        requires follows { Follows (length self.old.shares.items) (Scan scan) }
+        requires small { All (λ m. m ≤ max_rows) morsels.now }
+        ensures { OnOk result (AddsSpan (counts_in morsels.now) (Scan scan) (made_of self.old) (made_of self.new)) }
     {
-        let morsels = shape.morsels(scan.relation);
+        let morsels = morsels_of(morsels, scan.relation);
         if scan.is_shared {
             self.add_deck(alloc, scan, morsels)?;
             return Ok(());
@@ -91,8 +101,7 @@ impl Making {
         slack: u32,
     ) -> Result<(), AllocError>
         requires there { exchange.above + exchange.consumers ≤ length self.old.shares.items }
-        requires some { 1 ≤ slack }
-        requires few { slack ≤ max_slack }
+        requires slack { IsWithin 1 max_slack slack }
         ensures { OnOk result (AddsProducer exchange from (made_of self.old) (made_of self.new)) }
     {
         let outs = rings_of(alloc, &mut self.shares, exchange, from, slack)?;
@@ -113,8 +122,7 @@ impl Making {
         slack: u32,
     ) -> Result<(), AllocError>
         requires there { exchange.above + exchange.consumers ≤ length self.old.shares.items }
-        requires some { 1 ≤ slack }
-        requires few { slack ≤ max_slack }
+        requires slack { IsWithin 1 max_slack slack }
         ensures { OnOk result (AddsProducers exchange exchange.producers (made_of self.old) (made_of self.new)) }
     {
         for from in 0..exchange.producers {
@@ -127,33 +135,44 @@ impl Making {
     fn add_span(
         &mut self,
         alloc: Global,
-        shape: &Shape<'_>,
+        morsels: &[u64],
+        slack: u32,
         span: NodeSpan,
     ) -> Result<(), AllocError>
-        requires { Follows (length self.old.shares.items) span }
-        ensures { OnOk result (AddsSpan (counts_in shape.now.morsels.now) span (made_of self.old) (made_of self.new)) }
+        requires follows { Follows (length self.old.shares.items) span }
+        requires small { All (λ m. m ≤ max_rows) morsels.now }
+        requires slack { IsWithin 1 max_slack slack }
+        ensures { OnOk result (AddsSpan (counts_in morsels.now) span (made_of self.old) (made_of self.new)) }
     {
         match span {
             NodeSpan::Inner => return Ok(()),
             NodeSpan::Exchange(exchange) => {
-                self.add_producers(alloc, exchange, shape.slack())?;
+                self.add_producers(alloc, exchange, slack)?;
                 return Ok(());
             }
             NodeSpan::Scan(scan) => {
-                self.add_scan(alloc, shape, scan)?;
+                self.add_scan(alloc, morsels, scan)?;
                 return Ok(());
             }
         }
     }
 
-    /// What all nodes of a plan need, by their spans, and all workers of the plan.
-    pub fn of(alloc: Global, shape: &Shape<'_>, spans: &[NodeSpan]) -> Result<Making, AllocError>
-        requires { AreInOrder 0 1 spans.now }
-        ensures { IfOk result (λ m. AreMade (counts_in shape.now.morsels.now) spans.now (length spans.now) (made_of m)) }
+    /// What all nodes of a plan need, by their spans, and all workers of the plan. The relations have so many morsels, and
+    /// a ring has room for `slack` packets.
+    pub fn of(
+        alloc: Global,
+        morsels: &[u64],
+        slack: u32,
+        spans: &[NodeSpan],
+    ) -> Result<Making, AllocError>
+        requires ordered { AreInOrder 0 1 spans.now }
+        requires small { All (λ m. m ≤ max_rows) morsels.now }
+        requires slack { IsWithin 1 max_slack slack }
+        ensures { IfOk result (λ m. AreMade (counts_in morsels.now) spans.now (length spans.now) (made_of m)) }
     {
         let mut making = Making::at_root(alloc)?;
         for node in 0..spans.len() {
-            making.add_span(alloc, shape, spans[node])?;
+            making.add_span(alloc, morsels, slack, spans[node])?;
         }
         Ok(making)
     }

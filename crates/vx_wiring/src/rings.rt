@@ -2,6 +2,7 @@
 
 ghost use Rattle.std.specs.Prelude.{◌≤◌, ◌+◌, length, IfOk};
 ghost use Rattle.vx_values.specs.Limits.{max_slack};
+ghost use Rattle.vx_plan_nodes.specs.Workers.{IsWithin};
 ghost use Rattle.vx_wiring.specs.Giving.{MakesRings, holds_of};
 
 use crate::share::{Share, give_inlet};
@@ -20,8 +21,7 @@ pub fn rings_of(
     slack: u32,
 ) -> Result<Vec<RingOut>, AllocError>
     requires there { exchange.above + exchange.consumers ≤ length shares.old.items }
-    requires some { 1 ≤ slack }
-    requires few { slack ≤ max_slack }
+    requires slack { IsWithin 1 max_slack slack }
     ensures { IfOk result (λ outs. MakesRings exchange from (holds_of shares.old.items) exchange.consumers outs.items (holds_of shares.new.items)) }
 {
     let producer = shares.len();

@@ -16,7 +16,6 @@ ghost use Rattle.vx_threads.specs.declared.ends.Ends.{Ends as TheEnds};
 ghost use Rattle.vx_wiring.specs.Giving.{holds_of};
 
 use crate::making::Making;
-use crate::shape::Shape;
 use crate::share::Share;
 use std::alloc::{AllocError, Global};
 use vx_decks::SharedDeck;
@@ -62,8 +61,7 @@ pub fn wiring_of(
         → IfOk result (λ w. IsWired S p w.decks.items w.places.items (map hold_of w.ends.items)) }
     ensures sits { IfOk result (λ w. All (λ (e : TheEnds). All (Sits w.decks.items) e.draws.items) w.ends.items) }
 {
-    let shape = Shape::new(morsels, slack);
-    let making = Making::of(alloc, &shape, layout.spans())?;
+    let making = Making::of(alloc, morsels, slack, layout.spans())?;
     let Making {
         shares,
         decks,

@@ -1,6 +1,8 @@
-use Rattle.std.proofs.Common.{ap, ◌∙◌}
+use Rattle.std.proofs.Common.{[], ap, ◌∙◌}
 use Rattle.vx_ports.specs.Packets.{fault}
-use Rattle.vx_exec.proofs.Starting.{closing_none, closing_more}
+use Rattle.vx_ends.specs.Ship.{packet_of}
+use Rattle.vx_exec.proofs.Each.{each-begun}
+use Rattle.vx_exec.proofs.Starting.{closing_more}
 use Rattle.vx_exec.proofs.worker.closing_packets.Goals as goal
 
 pub loop-to-preserved : goal.loop-to-preserved
@@ -10,4 +12,4 @@ loop-to-preserved c = λ ship ex pl ty.
     (c.closing.ensures ∙ ap (λ z. record { exchange = c.args.exchange; from = c.args.place; to = c.loop-to.to; types = z; content = fault }) c.in_ok-none.ensures.types)
 
 pub loop-to-init : goal.loop-to-init
-loop-to-init c = λ ship ex pl ty. c.new-packets.ensures.items ∙ closing_none ship
+loop-to-init c = λ ship ex pl ty. c.new-packets.ensures.items ∙ each-begun (λ j. packet_of ship j fault) []

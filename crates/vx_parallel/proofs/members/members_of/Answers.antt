@@ -1,12 +1,12 @@
-use Rattle.std.proofs.Common.{rules, ◌≡◌, ℕ, ◌+◌, ◌<◌, ◌++◌, length, map, drop, get_or, refl, sym, ap, ◌∙◌, arith}
+use Rattle.std.proofs.Common.{rules, ◌≡◌, ℕ, ◌+◌, ◌<◌, [], ◌++◌, length, map, drop, get_or, refl, sym, ap, ◌∙◌, arith}
 use Rattle.std.specs.Vec.Iter.{into_iter_items}
 use Rattle.std.proofs.lemmas.List.{length_push, length-map, get_or-map, drop_all}
 use Rattle.vx_spawn.specs.declared.member.CrewMember.{CrewMember}
 use Rattle.vx_parallel.specs.declared.places.FragmentPlace.{FragmentPlace}
 use Rattle.vx_parallel.specs.Places.{place_in}
 use Rattle.vx_parallel.specs.Members.{worker_of, ends_of, number_of, seat_of}
-use Rattle.vx_steps.proofs.Each.{none-each}
-use Rattle.vx_parallel.proofs.Lists.{moved, all-moved, numbered-on, next-at, some-left, none-left, below-all, taken-all}
+use Rattle.vx_exec.proofs.Each.{each-begun, each-mapped}
+use Rattle.vx_parallel.proofs.Lists.{moved, all-moved, next-at, some-left, none-left, below-all, taken-all}
 use Rattle.vx_parallel.proofs.members.members_of.Goals as goal
 
 pub loop-worker-init : goal.loop-worker-init
@@ -19,7 +19,7 @@ loop-worker-init g c =
       workers = ap (λ z. map worker_of z ++ into_iter_items c.into_iter-worker-iterator.result) none ∙ search rules;
       ends = ap (λ z. map ends_of z ++ into_iter_items c.into_iter-rest.result) none ∙ search rules;
       places = ap (λ z. map seat_of z ++ map place_in c.args.places.now) none;
-      numbers = ap (λ z. map number_of z) none ∙ sym (none-each (λ (i : ℕ). i));
+      numbers = ap (λ z. map number_of z) none ∙ each-begun (λ (i : ℕ). i) [];
     }
 
 pub unreachable-requires : goal.unreachable-requires
@@ -65,7 +65,7 @@ loop-worker-preserved g c =
       ends = moved ends_of ms new m (into_iter_items c.loop-worker.rest) (into_iter_items c.next-in-loop-worker.new.self) c.args.ends.items ends more c.in-Some-next.ensures.items refl inv.ends;
       places = moved seat_of ms new m (drop k seats) (drop (k + 1) seats) seats (place_in at) more
           (next-at seats k (place_in at) (omega (arith, lt, long)) (sym (get_or-map place_in c.args.places.now k zero (place_in at) lt))) refl inv.places;
-      numbers = numbered-on number_of ms new m k more refl inv.numbers;
+      numbers = each-mapped number_of (λ i. i) k [] ms new m more refl inv.numbers;
     }
 
 pub returns-clause-ends : goal.returns-clause-ends

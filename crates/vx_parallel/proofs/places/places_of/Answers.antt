@@ -1,4 +1,4 @@
-use Rattle.std.proofs.Common.{◌≡◌, ◌∷◌, ◌∙◌, List, ℕ, length, map, flat_map, ap, arith}
+use Rattle.std.proofs.Common.{◌∷◌, ◌∙◌, List, length, map, flat_map, ap, arith}
 use Rattle.vx_layout.specs.declared.span.NodeSpan.{NodeSpan}
 use Rattle.vx_parallel.specs.Fragments.{fragment_in, places_from}
 use Rattle.vx_parallel.specs.Places.{place_in}

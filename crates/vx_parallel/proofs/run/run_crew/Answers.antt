@@ -1,10 +1,9 @@
-use Rattle.std.proofs.Common.{◌≡◌, ℕ, List, length, refl, ap, sym, ◌∙◌, subst, ◌≤◌, arith, rules}
+use Rattle.std.proofs.Common.{◌≡◌, List, length, refl, ap, sym, ◌∙◌, subst, arith}
 use Rattle.std.specs.List.{All}
 use Rattle.vx_plan_nodes.specs.Plan.{Plan}
 use Rattle.vx_plan_nodes.specs.Numbering.{nodes}
 use Rattle.vx_plan_nodes.specs.TypedView.{plan as whole_plan, resolved_of}
 use Rattle.vx_worker.specs.Trace.{scan_morsels}
-use Rattle.vx_steps.specs.Headline.{IsAccepted}
 use Rattle.vx_plan_nodes.specs.Workers.{worker_group_at}
 use Rattle.vx_layout.specs.Layout.{spans_of}
 use Rattle.vx_layout.specs.declared.layout.Layout.{Layout}
@@ -44,11 +43,10 @@ members_of-requires g c =
       few = omega (arith, many, few);
     }
 
-pub start_members-requires : goal.start_members-requires
-start_members-requires g c =
-    let ready = members-ready c.args.job.now c.args.workers.items c.args.wiring c.in_ok-members.members.items c.requires.new c.requires.wired c.in_ok-members.ensures.workers
-    c.in_ok-members.ensures.ends in
-    (search rules, (search rules, (search rules, ready)))
+pub run_in_threads-requires-after_bounds : goal.run_in_threads-requires-after_bounds
+run_in_threads-requires-after_bounds g c κs within =
+    members-ready c.args.job.now c.args.workers.items c.args.wiring c.in_ok-members.members.items c.requires.new c.requires.wired c.in_ok-members.ensures.workers
+    c.in_ok-members.ensures.ends
 
 pub assemble-requires : goal.assemble-requires
 assemble-requires g c =

@@ -1,4 +1,4 @@
-use Rattle.std.proofs.Common.{◌≡◌, ◌≤◌, ℕ, List, ap, sym, ◌∙◌, subst}
+use Rattle.std.proofs.Common.{◌≤◌, ℕ, List, ap, sym, ◌∙◌, subst}
 use Rattle.std.specs.List.{All, slice_index_or}
 use Rattle.vx_values.specs.Limits.{max_rows}
 use Rattle.vx_layout.specs.Order.{AreInOrder}

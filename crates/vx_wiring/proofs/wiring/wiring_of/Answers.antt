@@ -1,4 +1,4 @@
-use Rattle.std.proofs.Common.{List, ℕ, ap, ◌∙◌, sym, subst, length}
+use Rattle.std.proofs.Common.{◌∙◌, sym, subst, length}
 use Rattle.vx_threads.specs.Wired.{IsWired}
 use Rattle.vx_wiring.specs.Making.{counts_in, made_of}
 use Rattle.vx_wiring.proofs.Growing.{all-wired, all-sit}
@@ -7,9 +7,9 @@ use Rattle.vx_wiring.proofs.wiring.wiring_of.Goals as goal
 pub returns-clause-wired : goal.returns-clause-wired
 returns-clause-wired c = λ S p laid counts.
     let new = made_of c.in_ok-making.making in
-    let morsels = c.new-shape.result.morsels.now in
+    let morsels = c.args.morsels.now in
     subst (λ hs. IsWired S p new.decks new.places hs) (sym c.in_ok-ends_of.ensures)
-    (all-wired S (counts_in morsels) p c.spans.result.now new (c.spans.ensures ∙ laid) (λ r. ap (λ (z : List ℕ). counts_in z r) c.new-shape.ensures ∙ counts r) c.in_ok-making.ensures)
+    (all-wired S (counts_in morsels) p c.spans.result.now new (c.spans.ensures ∙ laid) counts c.in_ok-making.ensures)
 
 pub returns-clause-sits : goal.returns-clause-sits
 returns-clause-sits c =

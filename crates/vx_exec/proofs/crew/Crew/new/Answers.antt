@@ -1,30 +1,39 @@
-use Rattle.std.proofs.Common.{◌≡◌, true, subst, ap, ◌∙◌, map, [], ◌∷◌}
-use Rattle.vx_plan_nodes.specs.Outline.{plan_of}
-use Rattle.vx_plan_nodes.specs.Numbering.{is_numbered}
-use Rattle.vx_plan_nodes.specs.TypedView.{plan as whole_plan}
-use Rattle.vx_steps.specs.Additions.{AddsBelow}
-use Rattle.vx_steps.specs.Crews.{root_duty}
-use Rattle.vx_exec.specs.Crew.{duty}
+use Rattle.std.proofs.Common.{◌≡◌, ◌∷◌, map, flat_map, refl, ap, ◌∙◌}
+use Rattle.std.proofs.lemmas.List.Elements.{All-map}
+use Rattle.std.proofs.lemmas.Simd.{map-map}
+use Rattle.vx_plan_nodes.specs.Plan.{Plan}
+use Rattle.vx_plan_nodes.specs.TypedView.{plan}
+use Rattle.vx_layout.specs.Layout.{spans_of}
+use Rattle.vx_ends.specs.Sending.{RoutesAs}
+use Rattle.vx_worker.specs.Fragment.{goes}
+use Rattle.vx_worker.specs.Trace.{scan_morsels}
+use Rattle.vx_worker.specs.Worker.{Role, role_of}
+use Rattle.vx_operators.specs.Operator.{operator_op}
+use Rattle.vx_operators.specs.Destination.{post_of, bounds_of}
+use Rattle.vx_steps.specs.Crews.{duty_of}
 use Rattle.vx_exec.specs.Job.{model_of}
-use Rattle.vx_exec.specs.Making.{made_of}
-use Rattle.vx_exec.proofs.Growing.{grown}
-use Rattle.vx_exec.proofs.Parts.{root-is-part}
+use Rattle.vx_exec.specs.Links.{morsels_in, station_in, sends_in}
+use Rattle.vx_exec.proofs.BySpans.{stations-by-spans, sends-by-spans}
 use Rattle.vx_exec.proofs.crew.Crew.new.Goals as goal
-
-pub at_root-requires : goal.at_root-requires
-at_root-requires c = root-is-part c.args.job.now c.plan.result.now c.root-root.result.now c.plan.ensures.same c.root-root.ensures.root
-
-pub add_below-requires : goal.add_below-requires
-add_below-requires c = root-is-part c.args.job.now c.plan.result.now c.root-root.result.now c.plan.ensures.same c.root-root.ensures.root
 
 pub returns-clause-ready : goal.returns-clause-ready
 returns-clause-ready c = λ hash.
     let j = c.args.job.now in
-    let old = c.in_ok-crew.crew in
-    let new = c.add_below.new.self in
-    let q = c.in_ok-crew.ensures.queues in
-    let e : plan_of c.root-root.result.now ≡ whole_plan j.plan.now = c.root-root.ensures.plan ∙ ap whole_plan c.plan.ensures.same in
-    grown j hash q.0 old new (subst (λ z. is_numbered 0 z ≡ true) e c.root-root.ensures.typed.numbered) c.in_ok-crew.ensures.stations c.in_ok-crew.ensures.sends
-    (subst (λ z. map duty old.workers.items ≡ root_duty (model_of hash j) z ∷ []) e (c.in_ok-crew.ensures.duties hash)) q.1 q.2
-    (subst (λ z. AddsBelow (model_of hash j) z 0 (made_of old) (made_of new)) e (c.in_ok-add_below.ensures.added hash))
-    (c.in_ok-add_below.ensures.new c.in_ok-crew.ensures.new)
+    let S = model_of hash j in
+    let p : Plan = plan j.plan.now in
+    let ws = c.in_ok-workers.workers.items in
+    let new = c.in_ok-workers.ensures.new in
+    let laid : c.spans-spans.result.now ≡ spans_of S.sizes p 0 1 = c.spans-spans.ensures ∙ c.layout.ensures.spans in
+    record {
+      crew = record {
+        numbered = j.plan.now.numbered;
+        duties = map-map duty_of (role_of operator_op post_of bounds_of) ws ∙ c.in_ok-workers.ensures.duties hash;
+        outside = 0;
+        sends = c.in_ok-sends.ensures ∙ ap (λ z. 0 ∷ z) (ap (flat_map sends_in) laid ∙ sends-by-spans S p 0 1);
+        stations = c.in_ok-stations.ensures ∙ ap (map (station_in (morsels_in j))) laid ∙ stations-by-spans S p 0 1;
+        queues = c.in_ok-ports.ensures;
+      };
+      morsels = refl;
+      routes = All-map (λ (r : Role). RoutesAs r.post r.bounds hash (goes S)) (role_of operator_op post_of bounds_of) ws (λ k d l. (new k d l).routes hash);
+      fresh = λ k d l. (new k d l).stands (goes S) (scan_morsels S);
+    }

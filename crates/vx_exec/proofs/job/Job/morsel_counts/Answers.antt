@@ -5,14 +5,6 @@ use Rattle.vx_exec.proofs.job.Job.morsel_counts.Goals as goal
 pub loop-relation-init : goal.loop-relation-init
 loop-relation-init c = counts-none c.args.self.now.morsel c.args.self.now.database.now c.in_ok-counts.counts.items c.in_ok-counts.ensures.items
 
-pub morsel_count-requires : goal.morsel_count-requires
-morsel_count-requires c =
-    let below = c.loop-relation-test.true in
-    let count = c.len-relations.ensures.count in
-    let mine = ap length c.catalog.ensures.catalog in
-    let same = ap length c.args.self.now.same_catalog in
-    omega (arith, below, count, mine, same)
-
 pub loop-relation-preserved : goal.loop-relation-preserved
 loop-relation-preserved c =
     counts-push c.args.self.now.morsel c.args.self.now.database.now c.loop-relation.relation c.loop-relation.counts.items c.push.new.self.items c.morsel_count.result

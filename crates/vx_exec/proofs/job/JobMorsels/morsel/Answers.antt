@@ -1,16 +1,13 @@
-use Rattle.std.proofs.Common.{◌≡◌, ◌∙◌, true, List, sym, ap, subst}
+use Rattle.std.proofs.Common.{◌≡◌, ◌∙◌, List, sym, subst}
 use Rattle.std.specs.Prelude.{IfOk}
 use Rattle.vx_values.specs.declared.value.ColType.{ColType}
 use Rattle.vx_catalog.specs.Database.{rows_at}
-use Rattle.vx_plan_nodes.specs.Numbering.{is_numbered}
-use Rattle.vx_plan_nodes.specs.Outline.{plan_of}
 use Rattle.vx_plan_nodes.specs.Plan.{Plan}
 use Rattle.vx_plan_nodes.specs.TypedView.{scope, plan}
 use Rattle.vx_worker.specs.Morsels.{morsel_of}
 use Rattle.vx_check_rules.specs.Checked.{relations}
 use Rattle.vx_plan_nodes.specs.Workers.{worker_group_at}
-use Rattle.vx_layout.specs.Layout.{spans_of}
-use Rattle.vx_exec.proofs.ScanFacts.{IsReadAt, span-at}
+use Rattle.vx_exec.proofs.ScanFacts.{span-at}
 use Rattle.vx_exec.proofs.job.JobMorsels.morsel.Goals as goal
 
 pub lend_morsel-requires : goal.lend_morsel-requires

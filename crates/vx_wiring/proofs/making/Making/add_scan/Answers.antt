@@ -11,9 +11,9 @@ returns-then-scan c =
     let old = made_of c.args.self.now in
     let new = made_of c.add_deck.new.self in
     let held = held-length c.args.self.now.shares.items in
-    let there = c.requires.0 in
-    adds-deck (counts_in c.args.shape.now.morsels.now) s old new c.if-scan.true (omega (arith, held, there))
-    (subst (λ (v : ℕ). AddsDeck s v old new) c.morsels-morsels.ensures.count c.in_ok-add_deck.ensures)
+    let there = c.requires.follows.0 in
+    adds-deck (counts_in c.args.morsels.now) s old new c.if-scan.true (omega (arith, held, there))
+    (subst (λ (v : ℕ). AddsDeck s v old new) c.morsels_of-morsels.ensures.count c.in_ok-add_deck.ensures)
 
 pub returns : goal.returns
 returns c =
@@ -21,6 +21,6 @@ returns c =
     let old = made_of c.args.self.now in
     let hs = holds_of c.deal_hands.new.shares.items in
     let held = held-length c.args.self.now.shares.items in
-    let there = c.requires.0 in
-    adds-hands (counts_in c.args.shape.now.morsels.now) s old hs c.if-scan.false (omega (arith, held, there))
-    (subst (λ (v : ℕ). GivesEach (GainsHand s.number v) old.holds s.first s.workers hs) c.morsels-morsels.ensures.count c.in_ok-deal_hands.ensures)
+    let there = c.requires.follows.0 in
+    adds-hands (counts_in c.args.morsels.now) s old hs c.if-scan.false (omega (arith, held, there))
+    (subst (λ (v : ℕ). GivesEach (GainsHand s.number v) old.holds s.first s.workers hs) c.morsels_of-morsels.ensures.count c.in_ok-deal_hands.ensures)

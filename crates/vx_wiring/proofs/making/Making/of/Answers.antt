@@ -6,8 +6,8 @@ use Rattle.vx_wiring.proofs.Shares.{held-length}
 use Rattle.vx_wiring.proofs.Growing.{made-more}
 use Rattle.vx_wiring.proofs.making.Making.of.Goals as goal
 
-pub add_span-requires : goal.add_span-requires
-add_span-requires c =
+pub add_span-requires-clause-follows : goal.add_span-requires-clause-follows
+add_span-requires-clause-follows c =
     let spans = c.args.spans.now in
     let k = c.loop-node.node in
     let m = made_of c.loop-node.making in
@@ -16,10 +16,10 @@ add_span-requires c =
 
 pub loop-node-preserved : goal.loop-node-preserved
 loop-node-preserved c =
-    made-more (counts_in c.args.shape.now.morsels.now) c.args.spans.now c.loop-node.node (made_of c.loop-node.making) (made_of c.add_span.new.self) c.loop-node-test.true
+    made-more (counts_in c.args.morsels.now) c.args.spans.now c.loop-node.node (made_of c.loop-node.making) (made_of c.add_span.new.self) c.loop-node-test.true
     c.loop-node.invariant c.in_ok-add_span.ensures
 
 pub returns : goal.returns
 returns c =
     let e : c.loop-node.node ≡ length c.args.spans.now = omega (arith, c.loop-node.auto.node-end, c.loop-node-test.false) in
-    subst (λ (v : ℕ). AreMade (counts_in c.args.shape.now.morsels.now) c.args.spans.now v (made_of c.loop-node.making)) e c.loop-node.invariant
+    subst (λ (v : ℕ). AreMade (counts_in c.args.morsels.now) c.args.spans.now v (made_of c.loop-node.making)) e c.loop-node.invariant
