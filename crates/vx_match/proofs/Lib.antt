@@ -1,1 +1,2 @@
 pub mod MergeJoins
+pub mod Fewer
