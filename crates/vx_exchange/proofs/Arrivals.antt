@@ -1,9 +1,9 @@
 -- One more packet at a consumer end.
-use Rattle.std.proofs.Common.{ℕ, ◌≡◌, ◌≢◌, ◌<◌, ◌==◌, inl, inr, refl, sym, ap, ◌∙◌, true≢false, arith, subst, All, replicate, List, [], ◌∷◌, ◌++◌, Some, Bool, true, false, length, map, slice_get, append-nil, append_assoc}
+use Rattle.std.proofs.Common.{ℕ, ◌≡◌, ◌≢◌, ◌<◌, ◌==◌, inl, inr, refl, sym, ap, ◌∙◌, true≢false, arith, subst, All, replicate, List, [], ◌∷◌, ◌++◌, Some, None, Bool, true, false, length, map, slice_get, append-nil, append_assoc}
 use Rattle.std.specs.List.{list_all}
 use Rattle.std.proofs.Math.ListN.{set, get_or}
 use Rattle.std.proofs.Common.{length-set}
-use Rattle.std.proofs.lemmas.List.{get_or-set_other, get_or-replicate, length-replicate}
+use Rattle.std.proofs.lemmas.List.{get_or-set_same, get_or-set_other, get_or-replicate, length-replicate}
 use Rattle.std.proofs.lemmas.Option.{slice_get_within, get_or_from_slice_get, slice_get-get_or}
 use Rattle.std.proofs.lemmas.List.Elements.{All-nil, All-push}
 use Rattle.std.proofs.lemmas.Bool.Decides.{nat_tests, eqb_tells}
@@ -13,11 +13,13 @@ use Rattle.vx_values.specs.Order.{sorted, compare_on}
 use Rattle.vx_rows.specs.Lists.{IsBeginning}
 use Rattle.vx_values.specs.declared.value.ColType.{ColType}
 use Rattle.vx_plan_nodes.specs.Streams.{Dealt, bearing}
-use Rattle.vx_ports.specs.Packets.{brings, last, fault, PacketView, content_rows, rows_of, is_last, is_fault, has_last, has_fault}
+use Rattle.vx_ports.specs.Packets.{brings, last, fault, PacketView, content_rows, rows_of, closes, is_last, is_fault, has_last, has_fault, is_closed}
 use Rattle.vx_ops.specs.Ledger.{Ledger, ConsumerEnd, receive, Makes, Begun, OwnBlame, IsFor, Came}
 use Rattle.vx_ops.specs.Begun.{begun_whole}
 use Rattle.vx_ops.proofs.Strangers.{none-came}
-use Rattle.vx_ops.specs.Turn.{fresh_ledger, with_packet, after}
+use Rattle.vx_ops.proofs.Costs.{still-open, other-open}
+use Rattle.vx_ops.specs.Turn.{Fits, fresh_ledger, with_packet, after}
+use Rattle.vx_ops.specs.declared.turn.Got.{Got}
 use Rattle.vx_ops.specs.declared.fault.StreamState.TheVariants.{Running, Ended, Failed}
 use Rattle.vx_ops.specs.declared.fault.Fault.{Fault}
 use Rattle.vx_ops.specs.declared.fault.Fault.TheVariants.{Own, Passed}
@@ -94,6 +96,15 @@ flag_elsewhere flags i j ne h =
     let w : get_or flags j false ≡ true = sym (get_or-set_other flags i j true false ne) ∙ v in
     slice_get-get_or flags j false b ∙ ap Some w
 
+unset_elsewhere : (flags : List Bool) (i j : ℕ) → slice_get (set flags i true) j ≡ Some false → (j ≢ i) × (slice_get flags j ≡ Some false)
+unset_elsewhere flags i j h =
+    let a : j < length (set flags i true) = slice_get_within (set flags i true) j false h in
+    let b : j < length flags = rw length-set at a in
+    let v : get_or (set flags i true) j false ≡ false = get_or_from_slice_get (set flags i true) j false false h in
+    let ne : j ≢ i = λ e. let t : get_or (set flags i true) j false ≡ true = rw e (get_or-set_same flags i true false (subst (λ k. k < length flags) e b)) in true≢false (sym t ∙ v) in
+    let w : get_or flags j false ≡ false = sym (get_or-set_other flags i j true false ne) ∙ v in
+    (ne, slice_get-get_or flags j false b ∙ ap Some w)
+
 module _ (port : ConsumerEnd) (next : ℕ) (flags : List Bool) (packet : PacketView) (l : Ledger) (plain : port.merge ≡ []) (unordered : port.in_order ≡ false) where
   unfoldable pub with_one : Ledger → Ledger
   with_one k = record k { came = with_packet k.came next (Some packet) }
@@ -143,6 +154,7 @@ module _ (port : ConsumerEnd) (next : ℕ) (flags : List Bool) (packet : PacketV
         makes = tt;
         ours = tt;
         is_open = λ e. cc;
+        are_open = λ e. cc;
         closed = still_closed s;
         all_closed = λ e. cc;
         tests = λ i c. ap Failed (t i c);
@@ -176,6 +188,7 @@ module _ (port : ConsumerEnd) (next : ℕ) (flags : List Bool) (packet : PacketV
         makes = m;
         ours = all_ours f s;
         is_open = λ _. o;
+        are_open = λ _ i u. still-open i next l.came packet (ap closes b) (s.are_open refl i u);
         closed = still_closed s;
         all_closed = λ e. cc;
         tests = λ i c. absurd (none-strange f s i c);
@@ -207,6 +220,7 @@ module _ (port : ConsumerEnd) (next : ℕ) (flags : List Bool) (packet : PacketV
         makes = last_makes b s;
         ours = all_ours f s;
         is_open = λ _. o;
+        are_open = λ _ i u. let e = unset_elsewhere flags next i u in other-open i next l.came packet e.0 (s.are_open refl i e.1);
         closed = last_closed b s;
         all_closed = λ e. cc;
         tests = λ i c. absurd (none-strange f s i c);
@@ -225,11 +239,34 @@ module _ (port : ConsumerEnd) (next : ℕ) (flags : List Bool) (packet : PacketV
         makes = last_makes b s;
         ours = all_ours f s;
         is_open = λ e. cc;
+        are_open = λ e. cc;
         closed = last_closed b s;
         all_closed = λ e i h. last_closed b s i (all i (let e : length flags ≡ port.producers = s.as_many in rw (length-set, e) h));
         tests = λ i c. absurd (none-strange f s i c);
         blame = λ f e. cc;
       }
+
+-- no packet came: another producer may be next
+pub port-waits : (port : ConsumerEnd) (next next' : ℕ) (flags : List Bool) (l : Ledger) → slice_get flags next' ≡ Some false → EndStands port flags next Running l → EndStands port flags next' Running l
+port-waits port next next' flags l o s = record {
+  as_many = s.as_many;
+  same = s.same;
+  begun = s.begun;
+  makes = s.makes;
+  ours = s.ours;
+  is_open = λ _. o;
+  are_open = s.are_open;
+  closed = s.closed;
+  all_closed = s.all_closed;
+  tests = s.tests;
+  blame = s.blame;
+}
+
+pub none-taken : (l : Ledger) (next : ℕ) (g : Got) → Fits (want.Packet next) g → ((p : PacketView) → g ≡ got.Packet (Some p) → ⊥) → after l (want.Packet next) g polled.Waiting ≡ l
+none-taken l next (got.Packet None) f n = refl
+none-taken l next (got.Packet (Some p)) f n = absurd (n p refl)
+none-taken l next got.Nothing f n = absurd f
+none-taken l next (got.Input p) f n = absurd f
 
 -- no flag of these is set
 none_set : (n i : ℕ) → i < n → slice_get (replicate n false) i ≡ Some false
@@ -251,6 +288,7 @@ port-fresh exchange place n types flags e lt =
       makes = m;
       ours = λ i. All-nil (IsFor port i);
       is_open = λ _. none 0 lt;
+      are_open = λ _ i u. refl;
       closed = λ i t. let f : slice_get flags i ≡ Some false = none i (subst (λ k. i < k) many (slice_get_within flags i true t)) in cc;
       all_closed = λ e. cc;
       tests = λ i c. absurd (none-came (IsFor port i) [] (All-nil (IsFor port i)) c);

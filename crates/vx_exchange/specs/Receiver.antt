@@ -1,10 +1,11 @@
 -- When the consumer end of an exchange may have received and returned what a ledger says.
-use Rattle.std.specs.Prelude.{ℕ, ◌≡◌, ◌<◌, ◌+◌, Some, true, false, slice_get, length, List, [], Bool, All}
+use Rattle.std.specs.Prelude.{ℕ, ◌≡◌, ◌≤◌, ◌<◌, ◌+◌, Some, true, false, slice_get, length, List, [], Bool, All}
 use Rattle.std.proofs.Common.{◌∙◌, sym, inr, subst}
 use Rattle.vx_values.specs.declared.value.ColType.{ColType}
-use Rattle.vx_ports.specs.Packets.{has_last}
+use Rattle.vx_ports.specs.Packets.{has_last, is_closed}
 use Rattle.vx_ops.specs.Ledger.{Ledger, ConsumerEnd, Op, receive, Makes, Begun, OwnBlame, IsFor, TestsPackets, Abides}
-use Rattle.vx_ops.specs.Turn.{Shape}
+use Rattle.vx_ops.specs.Turn.{Shape, Coming, IsWithin, sum_below}
+use Rattle.vx_ops.specs.Growing.{sum-grows}
 use Rattle.vx_ops.specs.declared.fault.StreamState.{StreamState}
 use Rattle.vx_ops.specs.declared.fault.StreamState.TheVariants.{Running, Ended, Failed}
 use Rattle.vx_ops.specs.declared.fault.Fault.{Fault}
@@ -35,6 +36,13 @@ packet_while_running next Running = want.Packet next
 packet_while_running next Ended = want.Nothing
 packet_while_running next (Failed f) = want.Nothing
 
+-- a row for each row of its producers' packets
+abbrev pub receiver_most : Receiver → Coming → ℕ
+receiver_most s c = sum_below (length s.ended.items) c.packets
+
+pub receiver-grows : (s : Receiver) (a b : Coming) → IsWithin a b → receiver_most s a ≤ receiver_most s b
+receiver-grows s a b h = sum-grows (length s.ended.items) a.packets b.packets h.packets
+
 -- so it is with a receiver
 abbrev pub receiver_want : Receiver → Want
 receiver_want s = packet_while_running s.next s.over
@@ -63,6 +71,7 @@ pub record EndStands (port : ConsumerEnd) (flags : List Bool) (next : ℕ) (over
   pub makes : UnlessFailed over (Makes (receive port) l l.gave.rows)
   pub ours : UnlessFailed over ((i : ℕ) → All (IsFor port i) (l.came i))
   pub is_open : over ≡ Running → slice_get flags next ≡ Some false
+  pub are_open : over ≡ Running → (i : ℕ) → slice_get flags i ≡ Some false → is_closed (l.came i) ≡ false
   pub closed : (i : ℕ) → slice_get flags i ≡ Some true → has_last (l.came i) ≡ true
   pub all_closed : over ≡ Ended → (i : ℕ) → i < port.producers → has_last (l.came i) ≡ true
   pub tests : TestsPackets (receive port) l

@@ -43,9 +43,9 @@ impl Drop for Receiver {
 impl Receiver {
     ghost use Rattle.vx_ports.specs.Packets.{PacketView, last, FitsContent};
     ghost use Rattle.vx_ops.specs.Ledger.{Ledger, receive, IsFor};
-    ghost use Rattle.vx_ops.specs.Turn.{after, fresh_ledger, GivesRows};
+    ghost use Rattle.vx_ops.specs.Turn.{after, fresh_ledger, GivesRows, Coming, with_rows, Pays};
     ghost use Rattle.vx_ops.specs.declared.turn.Got.TheVariants as got;
-    ghost use Rattle.vx_exchange.specs.Receiver.{ReceiverStands, receiver_op, receiver_types, receiver_want, receiver_end, unmerged_end, ChangesNext};
+    ghost use Rattle.vx_exchange.specs.Receiver.{ReceiverStands, receiver_op, receiver_types, receiver_want, receiver_most, receiver_end, unmerged_end, ChangesNext};
 
     /// A consumer end at a place of an exchange, by its node number, for this many producers of rows of these types: 1 to 64. Nothing came yet.
     pub fn new(
@@ -99,6 +99,7 @@ impl Receiver {
             → ReceiverStands self.new (after l (receiver_want self.old) (got.Packet (Some packet)) result) }
         ensures in_turn { self.new.over ≡ StreamState.Running → IsInTurn (self.old.next + 1) self.new.ended.items self.new.next }
         ensures gives { GivesRows self.old.types.items result }
+        ensures pays { (c : Coming) → Pays 0 (receiver_most self.old c) 0 (receiver_most self.new c) 0 result }
         ensures op { receiver_op self.new ≡ receiver_op self.old }
     {
         self.ended[self.next] = true;
@@ -121,6 +122,7 @@ impl Receiver {
             → ReceiverStands self.new (after l (receiver_want self.old) (got.Packet (Some packet)) result) }
         ensures in_turn { self.new.over ≡ StreamState.Running → IsInTurn (self.old.next + 1) self.new.ended.items self.new.next }
         ensures gives { GivesRows self.old.types.items result }
+        ensures pays { (c : Coming) → Pays 0 (receiver_most self.old (with_rows (receiver_want self.old) (got.Packet (Some packet)) c)) 0 (receiver_most self.new c) 0 result }
         ensures op { receiver_op self.new ≡ receiver_op self.old }
     {
         if !self.is_expected(&packet) {
@@ -147,8 +149,9 @@ impl Receiver {
 
 impl Source for Receiver {
     ghost use Rattle.vx_ops.specs.Ledger.{Ledger};
-    ghost use Rattle.vx_ops.specs.Turn.{Fits, GotTyped, GivesRows, after, Again};
-    ghost use Rattle.vx_exchange.specs.Receiver.{ReceiverStands, receiver_op, receiver_types, receiver_want, receiver_abides};
+    ghost use Rattle.std.proofs.Common.{le_refl};
+    ghost use Rattle.vx_ops.specs.Turn.{Fits, GotTyped, GivesRows, after, Again, Coming, with_rows, own_turn, Pays};
+    ghost use Rattle.vx_exchange.specs.Receiver.{ReceiverStands, receiver_op, receiver_types, receiver_want, receiver_most, receiver_abides, receiver-grows};
 
     ghost Stands = { ReceiverStands };
 
@@ -158,7 +161,16 @@ impl Source for Receiver {
 
     ghost want = { receiver_want };
 
+    ghost most = { receiver_most };
+
+    // It always wants a packet.
+    ghost idle = { λ s c. 0 };
+
     ghost abides = { receiver_abides };
+
+    ghost most_grows = { receiver-grows };
+
+    ghost idle_grows = { λ s a b h. le_refl 0 };
 
     fn wants(&self) -> Want {
         match self.over {
@@ -173,6 +185,7 @@ impl Source for Receiver {
         ensures stands { (l : Ledger) → ReceiverStands self.old l → ReceiverStands self.new (after l (receiver_want self.old) got result) }
         ensures again { (l : Ledger) → ReceiverStands self.old l → Again l.gave.over result }
         ensures gives { GivesRows (receiver_types self.old).out result }
+        ensures pays { (c : Coming) → Pays (own_turn got) (receiver_most self.old (with_rows (receiver_want self.old) got c)) 0 (receiver_most self.new c) 0 result }
         ensures op { receiver_op self.new ≡ receiver_op self.old }
         ensures types { receiver_types self.new ≡ receiver_types self.old }
         ensures in_turn { self.new.over ≡ StreamState.Running → IsInTurn (self.old.next + 1) self.new.ended.items self.new.next }

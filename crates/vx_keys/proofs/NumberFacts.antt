@@ -1,7 +1,7 @@
 -- Keys that are numbered one by one.
 use Rattle.std.proofs.Common.{◌≡◌, ℕ, suc, zero, ◌+◌, ◌<◌, ◌≤◌, ◌≢◌, Bool, true, false, cond, not, List, [], ◌∷◌, ◌++◌, map, take, length, get_or, refl, sym, ap, ◌∙◌, subst, arith, append_assoc, if◌then◌else◌}
 use Rattle.std.specs.Prelude.{All, position, Some, None}
-use Rattle.std.specs.List.{AllByRecursion, position_or_len}
+use Rattle.std.specs.List.{AllByRecursion, list_any, position_or_len}
 use Rattle.std.proofs.lemmas.List.{take_more, get_or-map, append-nil, map-append, length-map, length-append}
 use Rattle.std.proofs.lemmas.Simd.{map-map}
 use Rattle.std.proofs.lemmas.List.Sums.{fold-append, passes_at_first, prefix_len-le-length}
@@ -37,6 +37,21 @@ numbers-next ks xs i l = ap (numbers_of ks) (take_more xs i [] l) ∙ numbers-mo
 pub numbers-long : (ks xs : List Row) → length (numbers_of ks xs) ≡ length xs
 numbers-long ks [] = refl
 numbers-long ks (x ∷ xs) = ap suc (numbers-long (insert_key row_eq ks x) xs)
+
+key-long : (ks : List Row) (x : Row) → length (insert_key row_eq ks x) ≤ length ks + 1
+key-long ks x = go (list_any (row_eq x) ks)
+  where
+    go : (b : Bool) → length (if b then ks else ks ++ x ∷ []) ≤ length ks + 1
+    go true = omega arith
+    go false = omega (arith, length-append ks (x ∷ []))
+
+-- each of a list adds one key at most
+pub all-long : (ks xs : List Row) → length (insert_all row_eq ks xs) ≤ length ks + length xs
+all-long ks [] = omega arith
+all-long ks (x ∷ xs) =
+    let one = key-long ks x in
+    let rest = all-long (insert_key row_eq ks x) xs in
+    omega (arith, one, rest)
 
 pub numbers-append : (ks xs ys : List Row) → numbers_of ks (xs ++ ys) ≡ numbers_of ks xs ++ numbers_of (insert_all row_eq ks xs) ys
 numbers-append ks [] ys = refl

@@ -1,6 +1,6 @@
 //! Distinct rows: the first occurrence of each.
 
-ghost use Rattle.std.specs.Prelude.{List, ◌≡◌, ◌≢◌, ◌+◌, ◌++◌, [], true, false, length, map, slice_index_or, OnOk, IfOk};
+ghost use Rattle.std.specs.Prelude.{List, ◌≡◌, ◌≢◌, ◌≤◌, ◌+◌, ◌++◌, [], true, false, length, map, slice_index_or, OnOk, IfOk};
 ghost use Rattle.vx_values.specs.Types.{type_at};
 ghost use Rattle.vx_values.specs.Values.{Row, row_eq, pick};
 ghost use Rattle.vx_rows.specs.View.{AreColumns, ArePositions};
@@ -78,6 +78,7 @@ impl Seen {
         requires { AreColumns (length batch.now.types) columns.now }
         ensures types { IfOk result (λ r. r.types ≡ map (type_at batch.now.types) columns.now) }
         ensures new { IfOk result (λ r. self.new ≡ self.old ++ r.rows) }
+        ensures fewer { IfOk result (λ r. length r.rows ≤ length batch.now.rows) }
         ensures seen { OnOk result ((xs : List Row) → self.old ≡ firsts xs → self.new ≡ firsts (xs ++ map (pick columns.now) batch.now.rows)) }
     {
         let known = self.keys.len();

@@ -1,1 +1,3 @@
 pub mod MergeJoins
+pub mod Fewer
+pub mod MergePays

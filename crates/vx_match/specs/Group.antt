@@ -4,7 +4,7 @@ use Rattle.vx_ops.specs.Turn.{Shape}
 use Rattle.vx_ops.specs.Meaning.{Meaning}
 use Rattle.vx_ops.specs.Collecting.{collecting_op, collecting_types, CollectingStands, collecting_meaning}
 use Rattle.vx_ops.specs.declared.collecting.Collecting.{Collecting}
-use Rattle.vx_match.specs.KeyedGroups.{KeyedGroupsView, keyed_group, keyed_types, KeyedHasRead}
+use Rattle.vx_match.specs.KeyedGroups.{KeyedGroupsView, keyed_group, keyed_types, KeyedHasRead, keyed_held}
 
 abbrev pub Group : Type 0
 Group = Collecting KeyedGroupsView
@@ -19,4 +19,4 @@ abbrev pub GroupStands : Group → Ledger → Type 0
 GroupStands s l = CollectingStands keyed_group KeyedHasRead s l
 
 abbrev pub group_meaning : Group → Meaning
-group_meaning s = collecting_meaning keyed_group keyed_types KeyedHasRead s
+group_meaning s = collecting_meaning keyed_group keyed_types KeyedHasRead keyed_held s

@@ -1,5 +1,5 @@
 -- What a caller sees of the kernel of a hash join, and what it has read and built.
-use Rattle.std.specs.Prelude.{◌≡◌, ℕ, false, List, ◌++◌, length, map}
+use Rattle.std.specs.Prelude.{◌≡◌, ℕ, ◌+◌, false, List, ◌++◌, length, map}
 use Rattle.vx_values.specs.declared.value.ColType.{ColType}
 use Rattle.vx_values.specs.Values.{Row}
 use Rattle.vx_rows.specs.View.{AreColumns}
@@ -31,6 +31,10 @@ hash_joining_types s = record { left = s.left; right = s.right; out = s.left ++ 
 
 abbrev pub HashJoiningHasRead : HashJoiningView → List Row → Type 0
 HashJoiningHasRead s rs = s.read ≡ rs
+
+-- the right rows that it has, read or built
+abbrev pub hash_joining_built : HashJoiningView → ℕ
+hash_joining_built s = length s.read + length s.built
 
 abbrev pub HashJoiningHasBuilt : HashJoiningView → List Row → Type 0
 HashJoiningHasBuilt s rs = s.built ≡ rs

@@ -1,5 +1,5 @@
 -- What a caller sees of the kernel of a group, and what it has read.
-use Rattle.std.specs.Prelude.{◌<◌, List, length, Option, Some, None}
+use Rattle.std.specs.Prelude.{ℕ, ◌<◌, List, length, Option, Some, None}
 use Rattle.vx_values.specs.Values.{Row}
 use Rattle.vx_plan_nodes.specs.Plan.{Unary, Phase, group}
 use Rattle.vx_plan_nodes.specs.Types.{unary_types}
@@ -25,6 +25,14 @@ abbrev pub HasReadWith : Option FinishFault → Groups → List Row → Type 0
 HasReadWith None g xs = HasTaken g xs
 HasReadWith (Some Overflow) g xs = 4611686018427387904 < length xs
 HasReadWith (Some NoMemory) g xs = ⊥
+
+-- the groups that it makes: one for each key, and none where it has failed
+abbrev pub groups_held : Option FinishFault → Groups → ℕ
+groups_held None g = length g.keys
+groups_held (Some f) g = 0
+
+abbrev pub keyed_held : KeyedGroupsView → ℕ
+keyed_held s = groups_held s.failed s.groups
 
 abbrev pub KeyedHasRead : KeyedGroupsView → List Row → Type 0
 KeyedHasRead s xs = HasReadWith s.failed s.groups xs

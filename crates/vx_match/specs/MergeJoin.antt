@@ -1,13 +1,16 @@
 -- When a merge join may have received and returned what a ledger says.
-use Rattle.std.specs.Prelude.{◌≡◌, ℕ, Bool, true, false, List, ◌++◌, map}
+use Rattle.std.specs.Prelude.{◌≡◌, ◌≤◌, ℕ, ◌+◌, ◌*◌, Bool, true, false, List, ◌++◌, length, map}
+use Rattle.std.proofs.Common.{le_refl, add-le-add, mul-le-mul}
 use Rattle.vx_plan_nodes.specs.Plan.{join}
 use Rattle.vx_merging.specs.Merged.{MergeView, HasJoined, merge_need}
+use Rattle.vx_merging.specs.AtHand.{lefts_at_hand, rights_at_hand, rows_at_hand}
 use Rattle.vx_merging.specs.declared.merging.MergeFault.{MergeFault}
 use Rattle.vx_merging.specs.declared.merging.MergeFault.TheVariants as stops
 use Rattle.vx_merging.specs.declared.merging.MergeNeed.{MergeNeed}
 use Rattle.vx_merging.specs.declared.merging.MergeNeed.TheVariants as need
 use Rattle.vx_ops.specs.Ledger.{Ledger, Op, two_op, Abides}
-use Rattle.vx_ops.specs.Turn.{Shape}
+use Rattle.vx_ops.specs.Turn.{Shape, Coming, IsWithin, if_running}
+use Rattle.vx_ops.specs.Growing.{running-grows}
 use Rattle.vx_ops.specs.Meaning.{Meaning}
 use Rattle.vx_ops.specs.declared.fault.Code.TheVariants.{Unsorted, NoMemory}
 use Rattle.vx_ops.specs.declared.fault.Fault.{Fault}
@@ -58,6 +61,41 @@ wanted n (Failed f) = want.Nothing
 abbrev pub merge_join_want : MergeJoin → Want
 merge_join_want s = wanted (merge_need s.kernel) s.over
 
+-- the most rows that it may still return: each left row that is at hand, or that may still come, with each right row that it holds, or that
+-- may still come
+abbrev pub may_join : MergeView → Coming → ℕ
+may_join k c = (lefts_at_hand k + c.left) * (length k.right.rows + c.right)
+
+-- it may be idle for each row of both inputs that it goes through, and where each of them ends
+abbrev pub until_ended : Bool → ℕ
+until_ended false = 1
+until_ended true = 0
+
+abbrev pub may_idle : MergeView → Coming → ℕ
+may_idle k c = rows_at_hand k + (c.left + c.right) + (until_ended k.left_ended + until_ended k.right_ended)
+
+abbrev pub merge_join_most : MergeJoin → Coming → ℕ
+merge_join_most s c = if_running s.over (may_join s.kernel c)
+
+abbrev pub merge_join_idle : MergeJoin → Coming → ℕ
+merge_join_idle s c = if_running s.over (may_idle s.kernel c)
+
+pub merge_join-most-grows : (s : MergeJoin) (a b : Coming) → IsWithin a b → merge_join_most s a ≤ merge_join_most s b
+merge_join-most-grows s a b h =
+    running-grows s.over (may_join s.kernel a) (may_join s.kernel b) (mul-le-mul (add-le-add (le_refl (lefts_at_hand s.kernel)) h.left) (add-le-add (le_refl (length s.kernel.right.rows)) h.right))
+
+pub merge_join-idle-grows : (s : MergeJoin) (a b : Coming) → IsWithin a b → merge_join_idle s a ≤ merge_join_idle s b
+merge_join-idle-grows s a b h =
+    running-grows s.over (may_idle s.kernel a) (may_idle s.kernel b)
+    (add-le-add (add-le-add (le_refl (rows_at_hand s.kernel)) (add-le-add h.left h.right)) (le_refl (until_ended s.kernel.left_ended + until_ended s.kernel.right_ended)))
+
+-- a turn is its own where it needs no input
+abbrev pub own_where : MergeNeed → ℕ
+own_where need.Nothing = 1
+own_where need.End = 1
+own_where need.Left = 0
+own_where need.Right = 0
+
 abbrev pub MergeJoinStands : MergeJoin → Ledger → Type 0
 MergeJoinStands s l = IsMergeJoined s.node s.on.items s.kernel s.over l
 
@@ -65,7 +103,17 @@ pub merge_join_abides : (s : MergeJoin) (l : Ledger) → MergeJoinStands s l →
 merge_join_abides s l h = h.abides
 
 abbrev pub merge_join_meaning : MergeJoin → Meaning
-merge_join_meaning s = record { stands = MergeJoinStands s; op = merge_join_op s; types = merge_join_types s; want = merge_join_want s; abides = merge_join_abides s }
+merge_join_meaning s = record {
+  stands = MergeJoinStands s;
+  op = merge_join_op s;
+  types = merge_join_types s;
+  want = merge_join_want s;
+  most = merge_join_most s;
+  idle = merge_join_idle s;
+  abides = merge_join_abides s;
+  most_grows = merge_join-most-grows s;
+  idle_grows = merge_join-idle-grows s;
+}
 
 -- the fault of its own
 abbrev pub fault_of : MergeFault → ℕ → Fault

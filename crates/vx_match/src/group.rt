@@ -87,13 +87,15 @@ impl KeyedGroups {
 
 impl CollectingKernel for KeyedGroups {
     ghost use Rattle.std.specs.Prelude.{refl};
-    ghost use Rattle.vx_match.specs.KeyedGroups.{keyed_group, keyed_types, KeyedHasRead};
+    ghost use Rattle.vx_match.specs.KeyedGroups.{keyed_group, keyed_types, KeyedHasRead, keyed_held};
 
     ghost unary = { keyed_group };
 
     ghost types = { keyed_types };
 
     ghost HasRead = { KeyedHasRead };
+
+    ghost held = { keyed_held };
 
     ghost empty = { λ s. refl };
 

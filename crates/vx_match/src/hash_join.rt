@@ -101,7 +101,7 @@ impl HashJoining {
 
 impl ProbeKernel for HashJoining {
     ghost use Rattle.std.specs.Prelude.{refl};
-    ghost use Rattle.vx_match.specs.HashJoining.{hash_joining, hash_joining_types, HashJoiningHasRead, HashJoiningHasBuilt};
+    ghost use Rattle.vx_match.specs.HashJoining.{hash_joining, hash_joining_types, HashJoiningHasRead, HashJoiningHasBuilt, hash_joining_built};
     ghost use Rattle.std.proofs.lemmas.Grind.{flat_map-append};
     ghost use Rattle.vx_plan_nodes.specs.Serial.{joined_with};
 
@@ -112,6 +112,8 @@ impl ProbeKernel for HashJoining {
     ghost HasRead = { HashJoiningHasRead };
 
     ghost HasBuilt = { HashJoiningHasBuilt };
+
+    ghost built = { hash_joining_built };
 
     ghost empty = { λ s rs. refl };
 

@@ -46,12 +46,12 @@ impl MergeJoin {
     ghost use Rattle.vx_merging.specs.Merged.{merge_need};
     ghost use Rattle.vx_merging.specs.declared.merging.MergeNeed.TheVariants as need;
     ghost use Rattle.vx_ops.specs.Ledger.{Ledger, two_op};
-    ghost use Rattle.vx_ops.specs.Turn.{fresh_ledger, after, gives, GivesRows, GotTyped, Fits};
+    ghost use Rattle.vx_ops.specs.Turn.{fresh_ledger, after, gives, GivesRows, GotTyped, Fits, Coming, with_rows, own_turn, Pays};
     ghost use Rattle.vx_ops.specs.declared.fault.StreamState.TheVariants.{Running};
     ghost use Rattle.vx_ops.specs.declared.turn.Polled.TheVariants as polled;
     ghost use Rattle.vx_ops.specs.declared.turn.Got.TheVariants as got_of;
     ghost use Rattle.vx_ops.specs.declared.turn.Want.TheVariants as want_of;
-    ghost use Rattle.vx_match.specs.MergeJoin.{MergeJoinStands, merge_join_op, merge_join_types};
+    ghost use Rattle.vx_match.specs.MergeJoin.{MergeJoinStands, merge_join_op, merge_join_types, merge_join_most, merge_join_idle, own_where};
 
     /// A merge join on these pairs of a left and a right column, over rows of these types, at the node with this number,
     /// to which nothing came.
@@ -87,6 +87,7 @@ impl MergeJoin {
         requires typed { GotTyped (merge_join_types self.old) want_of.Left got }
         ensures stands { (l : Ledger) → MergeJoinStands self.old l → MergeJoinStands self.new (after l want_of.Left got result) }
         ensures gives { GivesRows (merge_join_types self.old).out result }
+        ensures pays { (c : Coming) → Pays (own_turn got) (merge_join_most self.old (with_rows want_of.Left got c)) (merge_join_idle self.old (with_rows want_of.Left got c)) (merge_join_most self.new c) (merge_join_idle self.new c) result }
         ensures op { merge_join_op self.new ≡ merge_join_op self.old }
         ensures types { merge_join_types self.new ≡ merge_join_types self.old }
     {
@@ -111,6 +112,7 @@ impl MergeJoin {
         requires typed { batch.types ≡ (merge_join_types self.old).left }
         ensures stands { (l : Ledger) → MergeJoinStands self.old l → MergeJoinStands self.new (after l want_of.Left (got_of.Input (polled.Gave batch)) result) }
         ensures gives { GivesRows (merge_join_types self.old).out result }
+        ensures pays { (c : Coming) → Pays 0 (merge_join_most self.old (with_rows want_of.Left (got_of.Input (polled.Gave batch)) c)) (merge_join_idle self.old (with_rows want_of.Left (got_of.Input (polled.Gave batch)) c)) (merge_join_most self.new c) (merge_join_idle self.new c) result }
         ensures op { merge_join_op self.new ≡ merge_join_op self.old }
         ensures types { merge_join_types self.new ≡ merge_join_types self.old }
     {
@@ -132,6 +134,7 @@ impl MergeJoin {
         requires typed { GotTyped (merge_join_types self.old) want_of.Right got }
         ensures stands { (l : Ledger) → MergeJoinStands self.old l → MergeJoinStands self.new (after l want_of.Right got result) }
         ensures gives { GivesRows (merge_join_types self.old).out result }
+        ensures pays { (c : Coming) → Pays (own_turn got) (merge_join_most self.old (with_rows want_of.Right got c)) (merge_join_idle self.old (with_rows want_of.Right got c)) (merge_join_most self.new c) (merge_join_idle self.new c) result }
         ensures op { merge_join_op self.new ≡ merge_join_op self.old }
         ensures types { merge_join_types self.new ≡ merge_join_types self.old }
     {
@@ -156,6 +159,7 @@ impl MergeJoin {
         requires typed { batch.types ≡ (merge_join_types self.old).right }
         ensures stands { (l : Ledger) → MergeJoinStands self.old l → MergeJoinStands self.new (after l want_of.Right (got_of.Input (polled.Gave batch)) result) }
         ensures gives { GivesRows (merge_join_types self.old).out result }
+        ensures pays { (c : Coming) → Pays 0 (merge_join_most self.old (with_rows want_of.Right (got_of.Input (polled.Gave batch)) c)) (merge_join_idle self.old (with_rows want_of.Right (got_of.Input (polled.Gave batch)) c)) (merge_join_most self.new c) (merge_join_idle self.new c) result }
         ensures op { merge_join_op self.new ≡ merge_join_op self.old }
         ensures types { merge_join_types self.new ≡ merge_join_types self.old }
     {
@@ -174,6 +178,7 @@ impl MergeJoin {
         requires running { self.old.over ≡ Running }
         ensures stands { (l : Ledger) → MergeJoinStands self.old l → MergeJoinStands self.new (gives l result) }
         ensures gives { GivesRows (merge_join_types self.old).out result }
+        ensures pays { (c : Coming) → Pays (own_where (merge_need self.old.kernel)) (merge_join_most self.old c) (merge_join_idle self.old c) (merge_join_most self.new c) (merge_join_idle self.new c) result }
         ensures op { merge_join_op self.new ≡ merge_join_op self.old }
         ensures types { merge_join_types self.new ≡ merge_join_types self.old }
     {
@@ -197,6 +202,8 @@ impl MergeJoin {
         requires running { self.old.over ≡ Running }
         ensures stands { (l : Ledger) → MergeJoinStands self.old l → MergeJoinStands self.new (gives l result) }
         ensures gives { GivesRows (merge_join_types self.old).out result }
+        ensures pays { (c : Coming) → Pays 0 (merge_join_most self.old c) (merge_join_idle self.old c) (merge_join_most self.new c) (merge_join_idle self.new c) result }
+        ensures ends { merge_need self.old.kernel ≡ need.End → result ≡ polled.End }
         ensures op { merge_join_op self.new ≡ merge_join_op self.old }
         ensures types { merge_join_types self.new ≡ merge_join_types self.old }
     {
@@ -211,7 +218,7 @@ impl MergeJoin {
 }
 
 impl Source for MergeJoin {
-    ghost use Rattle.vx_match.specs.MergeJoin.{MergeJoinStands, merge_join_op, merge_join_types, merge_join_want, merge_join_abides};
+    ghost use Rattle.vx_match.specs.MergeJoin.{MergeJoinStands, merge_join_op, merge_join_types, merge_join_want, merge_join_most, merge_join_idle, merge_join_abides, merge_join-most-grows, merge_join-idle-grows};
 
     ghost Stands = { MergeJoinStands };
 
@@ -221,7 +228,15 @@ impl Source for MergeJoin {
 
     ghost want = { merge_join_want };
 
+    ghost most = { merge_join_most };
+
+    ghost idle = { merge_join_idle };
+
     ghost abides = { merge_join_abides };
+
+    ghost most_grows = { merge_join-most-grows };
+
+    ghost idle_grows = { merge_join-idle-grows };
 
     fn wants(&self) -> Want {
         match self.over {

@@ -1,7 +1,7 @@
 -- Rows side by side, and rows at pairs of places.
 use Rattle.std.proofs.Common.{◌≡◌, ℕ, ◌+◌, ◌<◌, ◌≤◌, List, [], ◌∷◌, ◌++◌, length, take, drop, map, get_or, slice_range, refl, sym, ap, ◌∙◌, arith, append_assoc}
 use Rattle.std.specs.Prelude.{zip}
-use Rattle.std.proofs.lemmas.List.{map-append, length-append, take-append-drop, length-take-le}
+use Rattle.std.proofs.lemmas.List.{map-append, length-append, length-map, take-append-drop, length-take-le}
 use Rattle.std.proofs.lemmas.List.Concat.{flat_map-append}
 use Rattle.vx_values.specs.Values.{Row}
 use Rattle.vx_rows.specs.View.{RowsView, row}
@@ -18,6 +18,15 @@ zip-join (x ∷ xs) us (y ∷ ys) vs e = ap (λ l. (x, y) ∷ l) (zip-join xs us
 
 pub beside-join : (xs us ys vs : List Row) → length xs ≡ length ys → beside (xs ++ us) (ys ++ vs) ≡ beside xs ys ++ beside us vs
 beside-join xs us ys vs e = ap (map (λ p. p.0 ++ p.1)) (zip-join xs us ys vs e) ∙ map-append (λ p. p.0 ++ p.1) (zip xs ys) (zip us vs)
+
+zip-long : {X Y : Type 0} (xs : List X) (ys : List Y) → length xs ≡ length ys → length (zip xs ys) ≡ length xs
+zip-long [] ys e = refl
+zip-long (x ∷ xs) [] e = absurd (omega arith)
+zip-long (x ∷ xs) (y ∷ ys) e = let rest = zip-long xs ys (omega arith) in omega (arith, rest)
+
+-- as many rows as pairs
+pub paired-long : (a b : RowsView) (ls rs : List ℕ) → length ls ≡ length rs → length (rows_at a b ls rs) ≡ length ls
+paired-long a b ls rs e = length-map (zip ls rs) (λ p. row a p.0 ++ row b p.1) ∙ zip-long ls rs e
 
 -- one pair more
 pub one-pair : (a b : RowsView) (ls rs : List ℕ) (i j : ℕ) → length ls ≡ length rs → rows_at a b (ls ++ i ∷ []) (rs ++ j ∷ []) ≡ rows_at a b ls rs ++ (row a i ++ row b j) ∷ []

@@ -3,3 +3,4 @@ pub mod MergeFacts
 pub mod MergeTurns
 pub mod MergeCalls
 pub mod BesideFacts
+pub mod GoesOn

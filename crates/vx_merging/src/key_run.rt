@@ -79,6 +79,7 @@ pub(crate) fn run_of(
     requires order { from.start ≤ from.end }
     requires within { from.end ≤ length right.now.rows }
     ensures order { result.start ≤ result.end }
+    ensures moved { from.end ≤ result.end }
     ensures within { result.end ≤ length right.now.rows }
     ensures taken { (ls passed : List Cells) → sorted right_columns.now (passed ++ right.now.rows) ≡ true
         → HasMerged (state_at left_columns.now right_columns.now (ls ++ row left.now i ∷ []) passed from.start from.end) (ls ++ row left.now i ∷ []) (passed ++ take from.end right.now.rows)

@@ -7,6 +7,8 @@ ghost use Rattle.vx_values.specs.Order.{sorted};
 ghost use Rattle.vx_rows.specs.View.{row, AreColumns, ArePositions};
 ghost use Rattle.vx_plan_nodes.specs.Serial.{join_rows};
 ghost use Rattle.vx_merging.specs.declared.merging.MergeFault.TheVariants.{Falls};
+ghost use Rattle.vx_merging.specs.declared.merging.MergeNeed.TheVariants as need;
+ghost use Rattle.vx_merging.specs.AtHand.{lefts_at_hand, rights_at_hand, rows_at_hand, pairs_at_hand};
 ghost use Rattle.vx_merging.specs.Merged.{HasJoined, IsMerged, HasSameInputs, HasSameShape, HoldsRun, MergeBlame, last_key, merge_need, rows_at, run_rows};
 
 use crate::key_run::{KeyRun, compare_rows, rise_across, run_of};
@@ -164,6 +166,9 @@ impl MergeRows {
         ensures left_ended { self.new.left_ended ≡ self.old.left_ended }
         ensures right_ended { self.new.right_ended ≡ self.old.right_ended }
         ensures joined { OnOk result (self.old.left_ended ≡ false → (ls rs ys : List Cells) → HasJoined self.old ls rs ys → HasJoined self.new (ls ++ batch.rows) rs ys) }
+        ensures lefts { OnOk result (lefts_at_hand self.new ≤ lefts_at_hand self.old + length batch.rows) }
+        ensures right { self.new.right ≡ self.old.right }
+        ensures end { self.new.end ≡ self.old.end }
         ensures err { IfErr result (λ e. self.old.left_ended ≡ false → (ls rs ys : List Cells) → HasJoined self.old ls rs ys → MergeBlame e (sorted self.old.lefts (ls ++ batch.rows))) }
     {
         if batch.is_empty() {
@@ -185,6 +190,7 @@ impl MergeRows {
         ensures left_ended { self.new.left_ended ≡ true }
         ensures right_ended { self.new.right_ended ≡ self.old.right_ended }
         ensures joined { (ls rs ys : List Cells) → HasJoined self.old ls rs ys → HasJoined self.new ls rs ys }
+        ensures same { self.new ≡ record self.old { left_ended = true } }
     {
         self.left_ended = true;
     }
@@ -196,6 +202,10 @@ impl MergeRows {
         ensures left_ended { self.new.left_ended ≡ self.old.left_ended }
         ensures right_ended { self.new.right_ended ≡ self.old.right_ended }
         ensures joined { OnOk result (self.old.right_ended ≡ false → (ls rs ys : List Cells) → HasJoined self.old ls rs ys → HasJoined self.new ls (rs ++ batch.rows) ys) }
+        ensures left { self.new.left ≡ self.old.left }
+        ensures next { self.new.next ≡ self.old.next }
+        ensures held { OnOk result (length self.new.right.rows ≤ length self.old.right.rows + length batch.rows) }
+        ensures rights { OnOk result (rights_at_hand self.new ≤ rights_at_hand self.old + length batch.rows) }
         ensures err { IfErr result (λ e. (ls rs ys : List Cells) → HasJoined self.old ls rs ys → MergeBlame e (sorted self.old.rights (rs ++ batch.rows))) }
     {
         self.drop_passed()?;
@@ -216,13 +226,20 @@ impl MergeRows {
         ensures left_ended { self.new.left_ended ≡ self.old.left_ended }
         ensures right_ended { self.new.right_ended ≡ true }
         ensures joined { (ls rs ys : List Cells) → HasJoined self.old ls rs ys → HasJoined self.new ls rs ys }
+        ensures same { self.new ≡ record self.old { right_ended = true } }
     {
         self.right_ended = true;
     }
 
     /// Joins left rows at hand whose right rows have all come, until the joined rows are `most` or more, and returns them.
+    ///
+    /// Where it needs nothing it goes on: it joins a left row, or passes a right row.
     pub fn join_some(&mut self, most: usize) -> Result<Rows, MergeFault>
         ensures inputs { HasSameInputs self.old self.new }
+        ensures next { self.old.next ≤ self.new.next }
+        ensures end { self.old.end ≤ self.new.end }
+        ensures goes_on { OnOk result (0 < most → merge_need self.old ≡ need.Nothing → rows_at_hand self.new < rows_at_hand self.old) }
+        ensures fewer { IfOk result (λ r. pairs_at_hand self.new + length r.rows ≤ pairs_at_hand self.old) }
         ensures types { IfOk result (λ r. r.types ≡ self.old.left.types ++ self.old.right.types) }
         ensures joined { IfOk result (λ r. (ls rs ys : List Cells) → HasJoined self.old ls rs ys → HasJoined self.new ls rs (ys ++ r.rows)) }
         ensures err { IfErr result (λ e. (ls rs ys : List Cells) → HasJoined self.old ls rs ys → MergeBlame e (sorted self.old.lefts ls)) }
@@ -248,6 +265,10 @@ impl MergeRows {
         ensures left { OnOk result (ArePositions (length self.old.left.rows) pairs.new.left.items) }
         ensures right { OnOk result (ArePositions (length self.old.right.rows) pairs.new.right.items) }
         ensures moved { IfOk result (λ b. b ≡ true → (self.new.next ≡ self.old.next + 1) × (self.new.next ≤ length self.old.left.rows)) }
+        ensures next { self.old.next ≤ self.new.next }
+        ensures end { self.old.end ≤ self.new.end }
+        ensures stopped { IfOk result (λ b. b ≡ false → length pairs.old.left.items < most → merge_need self.old ≡ need.Nothing → rights_at_hand self.new < rights_at_hand self.old) }
+        ensures fewer { OnOk result (pairs_at_hand self.new + length pairs.new.left.items ≤ pairs_at_hand self.old + length pairs.old.left.items) }
         ensures joined { OnOk result ((earlier passed ys : List Cells) → IsMerged self.old earlier passed (ys ++ rows_at self.old.left self.old.right pairs.old.left.items pairs.old.right.items)
             → IsMerged self.new earlier passed (ys ++ rows_at self.old.left self.old.right pairs.new.left.items pairs.new.right.items)) }
         ensures err { IfErr result (λ e. (earlier passed ys : List Cells) → IsMerged self.old earlier passed ys → MergeBlame e (sorted self.old.lefts (earlier ++ self.old.left.rows))) }
@@ -268,8 +289,10 @@ impl MergeRows {
         requires { self.old.next < length self.old.left.rows }
         ensures inputs { HasSameInputs self.old self.new }
         ensures next { self.new.next ≡ self.old.next }
+        ensures end { self.old.end ≤ self.new.end }
         ensures order { self.new.start ≤ self.new.end }
         ensures within { self.new.end ≤ length self.new.right.rows }
+        ensures waits { result ≡ false → (self.new.right_ended ≡ false) × (length self.new.right.rows ≤ self.new.end) }
         ensures kept { (earlier passed ys : List Cells) → IsMerged self.old earlier passed ys → IsMerged self.new earlier passed ys }
         ensures run { result ≡ true → (earlier passed ys : List Cells) → IsMerged self.old earlier passed ys → HoldsRun self.new passed }
     {
@@ -294,6 +317,7 @@ impl MergeRows {
         requires { self.old.next < length self.old.left.rows }
         ensures inputs { HasSameInputs self.old self.new }
         ensures next { self.new.next ≡ self.old.next + 1 }
+        ensures end { self.new.end ≡ self.old.end }
         ensures joined { (earlier passed ys : List Cells) → IsMerged self.old earlier passed ys → HoldsRun self.old passed → IsMerged self.new earlier passed (ys ++ run_rows self.old) }
     {
         let count = self.left.len();
@@ -317,6 +341,7 @@ impl MergeRows {
     fn skip_unmatched(&mut self)
         ensures inputs { HasSameInputs self.old self.new }
         ensures next { self.old.next ≤ self.new.next }
+        ensures end { self.new.end ≡ self.old.end }
         ensures all { self.old.right_ended ≡ true → length self.old.right.rows ≤ self.old.start → self.new.next ≡ length self.old.left.rows }
         ensures joined { (earlier passed ys : List Cells) → IsMerged self.old earlier passed ys → IsMerged self.new earlier passed ys }
     {
@@ -342,6 +367,10 @@ impl MergeRows {
     // Drops the right rows that are not needed any more. The last one is kept: the next must not be smaller.
     fn drop_passed(&mut self) -> Result<(), AllocError>
         ensures shape { HasSameShape self.old self.new }
+        ensures left { self.new.left ≡ self.old.left }
+        ensures next { self.new.next ≡ self.old.next }
+        ensures held { length self.new.right.rows ≤ length self.old.right.rows }
+        ensures rights { rights_at_hand self.new ≤ rights_at_hand self.old }
         ensures left_ended { self.new.left_ended ≡ self.old.left_ended }
         ensures right_ended { self.new.right_ended ≡ self.old.right_ended }
         ensures joined { OnOk result ((ls rs ys : List Cells) → HasJoined self.old ls rs ys → HasJoined self.new ls rs ys) }

@@ -24,6 +24,7 @@ pub(crate) fn add_pairs(
     requires many { length pairs.old.left.items ≡ length pairs.old.right.items }
     requires order { from ≤ to }
     ensures many { OnOk result (length pairs.new.left.items ≡ length pairs.new.right.items) }
+    ensures count { OnOk result (length pairs.new.left.items ≡ length pairs.old.left.items + (to - from)) }
     ensures left { OnOk result ((n : ℕ) → place < n → ArePositions n pairs.old.left.items → ArePositions n pairs.new.left.items) }
     ensures right { OnOk result ((n : ℕ) → to ≤ n → ArePositions n pairs.old.right.items → ArePositions n pairs.new.right.items) }
     ensures rows { OnOk result ((a b : RowsView) → to ≤ length b.rows
@@ -48,6 +49,7 @@ pub(crate) fn pair_rows(
     requires right { ArePositions (length right.now.rows) pairs.now.right.items }
     ensures types { IfOk result (λ r. r.types ≡ left.now.types ++ right.now.types) }
     ensures rows { IfOk result (λ r. r.rows ≡ rows_at left.now right.now pairs.now.left.items pairs.now.right.items) }
+    ensures count { IfOk result (λ r. length r.rows ≡ length pairs.now.left.items) }
 {
     let left = left.at(alloc, pairs.left.as_slice())?;
     let right = right.at(alloc, pairs.right.as_slice())?;

@@ -5,14 +5,14 @@ use Rattle.std.proofs.lemmas.Bool.Decides.{nat_tests}
 use Rattle.std.proofs.lemmas.List.{length-append}
 use Rattle.vx_ports.specs.Packets.{PacketView}
 use Rattle.vx_ops.specs.Ledger.{Stream, Ledger}
-use Rattle.vx_ops.specs.Turn.{heard, fresh_ledger, with_packet, took, after}
+use Rattle.vx_ops.specs.Turn.{heard, fresh_ledger, with_packet, took, after, rows_in, sum_below}
 use Rattle.vx_ops.specs.declared.turn.Want.{Want}
 use Rattle.vx_ops.specs.declared.turn.Want.TheVariants as want
 use Rattle.vx_ops.specs.declared.turn.Got.{Got}
 use Rattle.vx_ops.specs.declared.turn.Got.TheVariants as got
 use Rattle.vx_ops.specs.declared.turn.Polled.{Polled}
 use Rattle.vx_ops.specs.declared.turn.Polled.TheVariants as polled
-use Rattle.vx_operators.specs.Counts.{rows_in, with_morsel, with_got, with_given, sum_below, AreCounts}
+use Rattle.vx_operators.specs.Counts.{with_morsel, with_got, with_given, AreCounts}
 use Rattle.vx_setup.specs.Counts.{capped, no_turns}
 use Rattle.vx_setup.specs.declared.counts.OperatorCounts.{OperatorCounts}
 

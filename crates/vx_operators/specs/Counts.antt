@@ -1,6 +1,7 @@
 -- What an operator counts of its turns, and what its counts say of its ledger.
-use Rattle.std.specs.Prelude.{ℕ, zero, suc, ◌≡◌, ◌+◌, ◌≤◌, [], length, Some, None}
+use Rattle.std.specs.Prelude.{ℕ, ◌≡◌, ◌+◌, ◌≤◌, [], length, Some, None}
 use Rattle.vx_ops.specs.Ledger.{Ledger}
+use Rattle.vx_ops.specs.Turn.{rows_in, sum_below}
 use Rattle.vx_ops.specs.declared.turn.Want.{Want}
 use Rattle.vx_ops.specs.declared.turn.Want.TheVariants as want
 use Rattle.vx_ops.specs.declared.turn.Got.{Got}
@@ -9,13 +10,6 @@ use Rattle.vx_ops.specs.declared.turn.Polled.{Polled}
 use Rattle.vx_ops.specs.declared.turn.Polled.TheVariants as polled
 use Rattle.vx_setup.specs.Counts.{capped}
 use Rattle.vx_setup.specs.declared.counts.OperatorCounts.{OperatorCounts}
-
--- the rows that come
-abbrev pub rows_in : Polled → ℕ
-rows_in (polled.Gave t) = length t.rows
-rows_in polled.Waiting = 0
-rows_in polled.End = 0
-rows_in (polled.Fault f) = 0
 
 -- with a morsel, if one came
 abbrev pub with_morsel : OperatorCounts → Polled → OperatorCounts
@@ -34,11 +28,6 @@ with_got c _ _ = c
 -- with what it gave for a turn
 abbrev pub with_given : OperatorCounts → Polled → OperatorCounts
 with_given c p = record c { gave = capped (c.gave + rows_in p) }
-
--- the sum of f 0, f 1, and so on, n of them
-abbrev pub sum_below : ℕ → (ℕ → ℕ) → ℕ
-sum_below zero f = 0
-sum_below (suc n) f = sum_below n f + f n
 
 -- the counts are those of the ledger: the rows that came from the left and from the right, the rows that were returned, and the packets of all
 -- producers below any place from which on none sent one

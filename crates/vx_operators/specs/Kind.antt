@@ -1,6 +1,8 @@
 -- Each kind of operator stands as the source that it is.
+use Rattle.std.specs.Prelude.{ℕ, ◌≤◌}
+use Rattle.std.proofs.Common.{le_refl}
 use Rattle.vx_ops.specs.Ledger.{Ledger, Op, Abides}
-use Rattle.vx_ops.specs.Turn.{Shape}
+use Rattle.vx_ops.specs.Turn.{Shape, Coming, IsWithin}
 use Rattle.vx_ops.specs.Meaning.{Meaning}
 use Rattle.vx_ops.specs.Scan.{scan_meaning}
 use Rattle.vx_ops.specs.Select.{select_meaning}
@@ -12,7 +14,7 @@ use Rattle.vx_match.specs.Group.{group_meaning}
 use Rattle.vx_match.specs.HashJoin.{hash_join_meaning}
 use Rattle.vx_match.specs.MergeJoin.{merge_join_meaning}
 use Rattle.vx_ops.specs.declared.turn.Want.{Want}
-use Rattle.vx_exchange.specs.Receiver.{ReceiverStands, receiver_op, receiver_types, receiver_want, receiver_abides}
+use Rattle.vx_exchange.specs.Receiver.{ReceiverStands, receiver_op, receiver_types, receiver_want, receiver_most, receiver_abides, receiver-grows}
 use Rattle.vx_exchange.specs.declared.receiver.Receiver.{Receiver}
 use Rattle.vx_receivers.specs.InOrder.{in_order_meaning}
 use Rattle.vx_receivers.specs.MergeReceiver.{merge_receiver_meaning}
@@ -20,7 +22,17 @@ use Rattle.vx_operators.specs.declared.kind.OperatorKind.{OperatorKind}
 use Rattle.vx_operators.specs.declared.kind.OperatorKind.TheVariants as kind
 
 abbrev pub receiver_meaning : Receiver → Meaning
-receiver_meaning s = record { stands = ReceiverStands s; op = receiver_op s; types = receiver_types s; want = receiver_want s; abides = receiver_abides s }
+receiver_meaning s = record {
+  stands = ReceiverStands s;
+  op = receiver_op s;
+  types = receiver_types s;
+  want = receiver_want s;
+  most = receiver_most s;
+  idle = λ c. 0;
+  abides = receiver_abides s;
+  most_grows = receiver-grows s;
+  idle_grows = λ a b h. le_refl 0;
+}
 
 -- what each kind of operator says of itself
 abbrev pub kind_meaning : OperatorKind → Meaning
@@ -49,6 +61,18 @@ kind_types s = (kind_meaning s).types
 abbrev pub kind_want : OperatorKind → Want
 kind_want s = (kind_meaning s).want
 
+abbrev pub kind_most : OperatorKind → Coming → ℕ
+kind_most s c = (kind_meaning s).most c
+
+abbrev pub kind_idle : OperatorKind → Coming → ℕ
+kind_idle s c = (kind_meaning s).idle c
+
 -- what is known of it
 pub kind_abides : (s : OperatorKind) (l : Ledger) → KindStands s l → Abides (kind_op s) l
 kind_abides s l h = (kind_meaning s).abides l h
+
+pub kind-most-grows : (s : OperatorKind) (a b : Coming) → IsWithin a b → kind_most s a ≤ kind_most s b
+kind-most-grows s a b h = (kind_meaning s).most_grows a b h
+
+pub kind-idle-grows : (s : OperatorKind) (a b : Coming) → IsWithin a b → kind_idle s a ≤ kind_idle s b
+kind-idle-grows s a b h = (kind_meaning s).idle_grows a b h

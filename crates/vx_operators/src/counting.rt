@@ -1,7 +1,8 @@
 //! What an operator counts of its own turns.
 
 ghost use Rattle.std.specs.Prelude.{◌≡◌};
-ghost use Rattle.vx_operators.specs.Counts.{rows_in, with_morsel, with_got, with_given};
+ghost use Rattle.vx_ops.specs.Turn.{rows_in};
+ghost use Rattle.vx_operators.specs.Counts.{with_morsel, with_got, with_given};
 
 use vx_ops::{Got, Polled, Want};
 use vx_setup::OperatorCounts;

@@ -43,7 +43,7 @@ impl Drop for OperatorKind {
 }
 
 impl Source for OperatorKind {
-    ghost use Rattle.vx_operators.specs.Kind.{KindStands, kind_op, kind_types, kind_want, kind_abides};
+    ghost use Rattle.vx_operators.specs.Kind.{KindStands, kind_op, kind_types, kind_want, kind_most, kind_idle, kind_abides, kind-most-grows, kind-idle-grows};
 
     ghost Stands = { KindStands };
 
@@ -53,7 +53,15 @@ impl Source for OperatorKind {
 
     ghost want = { kind_want };
 
+    ghost most = { kind_most };
+
+    ghost idle = { kind_idle };
+
     ghost abides = { kind_abides };
+
+    ghost most_grows = { kind-most-grows };
+
+    ghost idle_grows = { kind-idle-grows };
 
     fn wants(&self) -> Want {
         match self {

@@ -62,7 +62,7 @@ impl Operator {
 }
 
 impl Source for Operator {
-    ghost use Rattle.vx_operators.specs.Operator.{OperatorStands, operator_op, operator_types, operator_want, operator_abides};
+    ghost use Rattle.vx_operators.specs.Operator.{OperatorStands, operator_op, operator_types, operator_want, operator_most, operator_idle, operator_abides, operator-most-grows, operator-idle-grows};
 
     ghost Stands = { OperatorStands };
 
@@ -72,7 +72,15 @@ impl Source for Operator {
 
     ghost want = { operator_want };
 
+    ghost most = { operator_most };
+
+    ghost idle = { operator_idle };
+
     ghost abides = { operator_abides };
+
+    ghost most_grows = { operator-most-grows };
+
+    ghost idle_grows = { operator-idle-grows };
 
     fn wants(&self) -> Want {
         self.kind.wants()

@@ -1,11 +1,13 @@
 -- When an operator that builds a table of its right input before it reads its left one may have received and returned what a ledger says.
-use Rattle.std.specs.Prelude.{ℕ, ◌≡◌, Bool, true, false, List, [], Option, Some, None}
+use Rattle.std.specs.Prelude.{ℕ, ◌≡◌, ◌<◌, ◌≤◌, ◌+◌, ◌*◌, Bool, true, false, List, [], length, Option, Some, None}
+use Rattle.std.proofs.Common.{le_refl, add-le-add, mul-le-mul}
 use Rattle.vx_values.specs.declared.value.ColType.{ColType}
 use Rattle.vx_values.specs.Values.{Row}
 use Rattle.vx_rows.specs.View.{RowsView}
 use Rattle.vx_plan_nodes.specs.Plan.{Binary}
 use Rattle.vx_ops.specs.Ledger.{Ledger, Op, two_op, Abides}
-use Rattle.vx_ops.specs.Turn.{Shape, while_running}
+use Rattle.vx_ops.specs.Turn.{Shape, while_running, Coming, IsWithin, if_running}
+use Rattle.vx_ops.specs.Growing.{running-grows}
 use Rattle.vx_ops.specs.Meaning.{Meaning}
 use Rattle.vx_ops.specs.ProbeKernel.{IsProbed}
 use Rattle.vx_ops.specs.declared.fault.StreamState.{StreamState}
@@ -30,6 +32,11 @@ rest_rows (Some rest) = rest.rows
 abbrev pub RestTyped : List ColType → Option RowsView → Type 0
 RestTyped types None = Unit {0}
 RestTyped types (Some rest) = rest.types ≡ types
+
+-- it holds no batch without rows
+abbrev pub HoldsSome : Option RowsView → Type 0
+HoldsSome None = Unit {0}
+HoldsSome (Some rest) = 0 < length rest.rows
 
 -- while it runs: either it reads its right input and nothing else came or was returned;
 -- or that has ended, and it has returned the join of all left rows but those that it holds
@@ -69,12 +76,42 @@ pub probing_abides : {K : Type 0} (binary : K → Binary) (read built : K → Li
     → ProbingStands binary read built s l → Abides (probing_op binary s) l
 probing_abides binary read built s l h = h.abides
 
--- of an operator whose kernel computes this, over rows of these types, and has read and built this
-abbrev pub probing_meaning : {K : Type 0} → (K → Binary) → (K → Shape) → (K → List Row → Type 0) → (K → List Row → Type 0) → ProbingView K → Meaning
-probing_meaning binary types read built s = record {
+-- the most rows that it may still return: each left row that it holds, or that may still come, with each right row that it has, or that
+-- may still come
+abbrev pub rest_count : {K : Type 0} → ProbingView K → ℕ
+rest_count s = length (rest_rows s.rest)
+
+abbrev pub probing_most : {K : Type 0} → (K → ℕ) → ProbingView K → Coming → ℕ
+probing_most built s c = if_running s.over ((rest_count s + c.left) * (built s.kernel + c.right))
+
+-- it may be idle where its right input ends, and for each left row: one at least is joined in a turn of its own
+abbrev pub until_ready : Bool → ℕ
+until_ready false = 1
+until_ready true = 0
+
+abbrev pub probing_idle : {K : Type 0} → ProbingView K → Coming → ℕ
+probing_idle s c = if_running s.over (rest_count s + c.left + until_ready s.ready)
+
+pub probing-grows : {K : Type 0} (built : K → ℕ) (s : ProbingView K) (a b : Coming) → IsWithin a b → probing_most built s a ≤ probing_most built s b
+probing-grows built s a b h =
+    running-grows s.over ((rest_count s + a.left) * (built s.kernel + a.right)) ((rest_count s + b.left) * (built s.kernel + b.right))
+    (mul-le-mul (add-le-add (le_refl (rest_count s)) h.left) (add-le-add (le_refl (built s.kernel)) h.right))
+
+pub probing-idle-grows : {K : Type 0} (s : ProbingView K) (a b : Coming) → IsWithin a b → probing_idle s a ≤ probing_idle s b
+probing-idle-grows s a b h =
+    running-grows s.over (rest_count s + a.left + until_ready s.ready) (rest_count s + b.left + until_ready s.ready) (add-le-add (add-le-add (le_refl (rest_count s)) h.left) (le_refl (until_ready s.ready)))
+
+-- of an operator whose kernel computes this, over rows of these types, and has read and built this, and makes so many rows at most of a left
+-- row
+abbrev pub probing_meaning : {K : Type 0} → (K → Binary) → (K → Shape) → (K → List Row → Type 0) → (K → List Row → Type 0) → (K → ℕ) → ProbingView K → Meaning
+probing_meaning binary types read built each s = record {
   stands = ProbingStands binary read built s;
   op = probing_op binary s;
   types = probing_types types s;
   want = probing_want s;
+  most = probing_most each s;
+  idle = probing_idle s;
   abides = probing_abides binary read built s;
+  most_grows = probing-grows each s;
+  idle_grows = probing-idle-grows s;
 }

@@ -1,6 +1,6 @@
 -- When a scan may have received and returned what a ledger says.
 use Rattle.std.specs.Prelude.{◌≡◌}
-use Rattle.std.proofs.Common.{◌∙◌, sym, inl}
+use Rattle.std.proofs.Common.{◌∙◌, sym, inl, le_refl}
 use Rattle.vx_ops.specs.Ledger.{Ledger, scan_op, Abides}
 use Rattle.vx_ops.specs.Begun.{begun_whole}
 use Rattle.vx_ops.specs.Turn.{Shape, while_running}
@@ -27,4 +27,14 @@ scan_abides s l h = record {
 }
 
 abbrev pub scan_meaning : Scan → Meaning
-scan_meaning s = record { stands = ScanStands s; op = scan_op; types = scan_types s; want = while_running want.Morsel s.over; abides = scan_abides s }
+scan_meaning s = record {
+  stands = ScanStands s;
+  op = scan_op;
+  types = scan_types s;
+  want = while_running want.Morsel s.over;
+  most = λ c. c.left;
+  idle = λ c. 0;
+  abides = scan_abides s;
+  most_grows = λ a b h. h.left;
+  idle_grows = λ a b h. le_refl 0;
+}

@@ -1,5 +1,5 @@
 -- What a caller sees of the kernel of a sort, and what it has read.
-use Rattle.std.specs.Prelude.{◌≡◌, ℕ, List}
+use Rattle.std.specs.Prelude.{◌≡◌, ℕ, List, length}
 use Rattle.vx_values.specs.Values.{Row}
 use Rattle.vx_rows.specs.View.{RowsView}
 use Rattle.vx_plan_nodes.specs.Plan.{Unary, sort}
@@ -18,3 +18,7 @@ sorting_types s = record { left = s.table.types; right = s.table.types; out = s.
 
 abbrev pub SortingHasRead : SortingView → List Row → Type 0
 SortingHasRead s xs = s.table.rows ≡ xs
+
+-- the rows that it has to sort
+abbrev pub sorting_held : SortingView → ℕ
+sorting_held s = length s.table.rows

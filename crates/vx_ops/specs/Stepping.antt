@@ -1,5 +1,6 @@
 -- When an operator that answers each batch as it comes may have received and returned what a ledger says.
 use Rattle.std.specs.Prelude.{ℕ, ◌≡◌, List, Some}
+use Rattle.std.proofs.Common.{le_refl}
 use Rattle.vx_values.specs.Values.{Row}
 use Rattle.vx_plan_nodes.specs.Plan.{Unary}
 use Rattle.vx_plan_nodes.specs.Serial.{unary_rows}
@@ -38,5 +39,9 @@ stepping_meaning unary types made s = record {
   op = stepping_op unary s;
   types = stepping_types types s;
   want = while_running want.Left s.over;
+  most = λ c. c.left;
+  idle = λ c. 0;
   abides = stepping_abides unary made s;
+  most_grows = λ a b h. h.left;
+  idle_grows = λ a b h. le_refl 0;
 }

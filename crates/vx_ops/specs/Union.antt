@@ -1,8 +1,9 @@
 -- When a union may have received and returned what a ledger says.
-use Rattle.std.specs.Prelude.{ℕ, ◌≡◌, ◌++◌, Bool, true, false, []}
+use Rattle.std.specs.Prelude.{ℕ, ◌≡◌, ◌≤◌, ◌+◌, ◌++◌, Bool, true, false, []}
+use Rattle.std.proofs.Common.{le_refl, add-le-add}
 use Rattle.vx_plan_nodes.specs.Plan.{union}
 use Rattle.vx_ops.specs.Ledger.{Ledger, Op, two_op, Abides}
-use Rattle.vx_ops.specs.Turn.{Shape, while_running}
+use Rattle.vx_ops.specs.Turn.{Shape, while_running, Coming, IsWithin}
 use Rattle.vx_ops.specs.Meaning.{Meaning}
 use Rattle.vx_ops.specs.declared.turn.Want.{Want}
 use Rattle.vx_ops.specs.declared.turn.Want.TheVariants as want
@@ -39,8 +40,30 @@ input_wanted true = want.Right
 abbrev pub union_want : Union → Want
 union_want s = while_running (input_wanted s.left_ended) s.over
 
+-- a row for each row of both inputs
+abbrev pub union_most : Coming → ℕ
+union_most c = c.left + c.right
+
+pub union-grows : (a b : Coming) → IsWithin a b → union_most a ≤ union_most b
+union-grows a b h = add-le-add h.left h.right
+
+-- it is idle once: where its left input ends
+abbrev pub union_idle : (left_ended : Bool) → ℕ
+union_idle false = 1
+union_idle true = 0
+
 pub union_abides : (s : Union) (l : Ledger) → UnionStands s l → Abides (union_op s) l
 union_abides s l h = h.abides
 
 abbrev pub union_meaning : Union → Meaning
-union_meaning s = record { stands = UnionStands s; op = union_op s; types = union_types s; want = union_want s; abides = union_abides s }
+union_meaning s = record {
+  stands = UnionStands s;
+  op = union_op s;
+  types = union_types s;
+  want = union_want s;
+  most = union_most;
+  idle = λ c. union_idle s.left_ended;
+  abides = union_abides s;
+  most_grows = union-grows;
+  idle_grows = λ a b h. le_refl (union_idle s.left_ended);
+}

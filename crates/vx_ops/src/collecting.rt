@@ -20,8 +20,8 @@ pub struct Collecting<K> {
 impl<K: CollectingKernel> Collecting<K> {
     ghost use Rattle.std.specs.Prelude.{◌≡◌, [], false};
     ghost use Rattle.vx_ops.specs.Ledger.{Ledger, one_op};
-    ghost use Rattle.vx_ops.specs.Turn.{fresh_ledger, after, GivesRows};
-    ghost use Rattle.vx_ops.specs.Collecting.{CollectingStands, collecting_op, collecting_types};
+    ghost use Rattle.vx_ops.specs.Turn.{fresh_ledger, after, GivesRows, Coming, with_rows, Pays};
+    ghost use Rattle.vx_ops.specs.Collecting.{CollectingStands, collecting_op, collecting_types, collecting_most};
     ghost use Rattle.vx_ops.specs.declared.fault.StreamState.TheVariants.{Running};
     ghost use Rattle.vx_ops.specs.declared.turn.Polled.TheVariants as polled;
     ghost use Rattle.vx_ops.specs.declared.turn.Got.TheVariants as got_of;
@@ -50,6 +50,7 @@ impl<K: CollectingKernel> Collecting<K> {
         ensures stands { (l : Ledger) → CollectingStands K.unary K.HasRead self.old l
             → CollectingStands K.unary K.HasRead self.new (after l want_of.Left (got_of.Input (polled.Gave batch)) result) }
         ensures gives { GivesRows (K.types self.old.kernel).out result }
+        ensures pays { (c : Coming) → Pays 0 (collecting_most K.held self.old (with_rows want_of.Left (got_of.Input (polled.Gave batch)) c)) 0 (collecting_most K.held self.new c) 0 result }
         ensures op { collecting_op K.unary self.new ≡ collecting_op K.unary self.old }
         ensures types { collecting_types K.types self.new ≡ collecting_types K.types self.old }
     {
@@ -73,6 +74,7 @@ impl<K: CollectingKernel> Collecting<K> {
         ensures stands { (l : Ledger) → CollectingStands K.unary K.HasRead self.old l
             → CollectingStands K.unary K.HasRead self.new (after l want_of.Left (got_of.Input polled.End) result) }
         ensures gives { GivesRows (K.types self.old.kernel).out result }
+        ensures pays { (c : Coming) → Pays 1 (collecting_most K.held self.old c) 0 (collecting_most K.held self.new c) 0 result }
         ensures op { collecting_op K.unary self.new ≡ collecting_op K.unary self.old }
         ensures types { collecting_types K.types self.new ≡ collecting_types K.types self.old }
     {
@@ -106,7 +108,8 @@ impl<K: CollectingKernel> Collecting<K> {
 }
 
 impl<K: CollectingKernel> Source for Collecting<K> {
-    ghost use Rattle.vx_ops.specs.Collecting.{CollectingStands, collecting_op, collecting_types, collecting_want, collecting_abides};
+    ghost use Rattle.std.proofs.Common.{le_refl};
+    ghost use Rattle.vx_ops.specs.Collecting.{CollectingStands, collecting_op, collecting_types, collecting_want, collecting_most, collecting_abides, collecting-grows};
 
     ghost Stands = { CollectingStands K.unary K.HasRead };
 
@@ -116,7 +119,16 @@ impl<K: CollectingKernel> Source for Collecting<K> {
 
     ghost want = { λ s. collecting_want s.finished s.over };
 
+    ghost most = { collecting_most K.held };
+
+    // At the end of its input it returns all rows, or that it is over.
+    ghost idle = { λ s c. 0 };
+
     ghost abides = { collecting_abides K.unary K.HasRead };
+
+    ghost most_grows = { collecting-grows K.held };
+
+    ghost idle_grows = { λ s a b h. le_refl 0 };
 
     fn wants(&self) -> Want {
         if self.finished {

@@ -8,7 +8,7 @@ use vx_views::Rows;
 /// What a join computes that reads one of its inputs whole before the other (the build and the probe side of DeWitt's
 /// hash join): `Probing` makes a source of it.
 pub trait ProbeKernel: Drop {
-    ghost use Rattle.std.specs.Prelude.{◌≡◌, ◌<◌, ◌++◌, List, [], length, IfOk, OnOk};
+    ghost use Rattle.std.specs.Prelude.{◌≡◌, ◌<◌, ◌≤◌, ◌+◌, ◌*◌, ◌++◌, ℕ, List, [], length, IfOk, OnOk};
     ghost use Rattle.vx_values.specs.Values.{Row};
     ghost use Rattle.vx_plan_nodes.specs.Plan.{Binary};
     ghost use Rattle.vx_plan_nodes.specs.Serial.{binary_rows};
@@ -27,16 +27,21 @@ pub trait ProbeKernel: Drop {
     // That the build side is ready, and is these rows.
     ghost HasBuilt: { Self → List Row → Type 0 };
 
+    // The most rows that it makes of one left row: each right row that it reads adds one at most.
+    ghost built: { Self → ℕ };
+
     /// Reads a further batch of the right input.
     fn build(&mut self, batch: Rows) -> Result<(), AllocError>
         requires typed { batch.types ≡ (types self.old).right }
         ensures read { OnOk result ((rs : List Row) → HasRead self.old rs → HasRead self.new (rs ++ batch.rows)) }
+        ensures held { OnOk result (built self.new ≤ built self.old + length batch.rows) }
         ensures binary { binary self.new ≡ binary self.old }
         ensures types { types self.new ≡ types self.old };
 
     /// Makes the build side ready, of all that was read.
     fn finish_build(&mut self) -> Result<(), AllocError>
         ensures built { OnOk result ((rs : List Row) → HasRead self.old rs → HasBuilt self.new rs) }
+        ensures held { OnOk result (built self.new ≤ built self.old) }
         ensures binary { binary self.new ≡ binary self.old }
         ensures types { types self.new ≡ types self.old };
 
@@ -46,7 +51,9 @@ pub trait ProbeKernel: Drop {
         requires typed { batch.types ≡ (types self.old).left }
         ensures probed { IfOk result (λ p. (rs : List Row) → HasBuilt self.old rs → IsProbed (binary self.old) rs batch.rows p.0.rows p.1.rows) }
         ensures fewer { IfOk result (λ p. 0 < length batch.rows → length p.1.rows < length batch.rows) }
+        ensures joins { IfOk result (λ p. length p.0.rows + length p.1.rows * built self.old ≤ length batch.rows * built self.old) }
         ensures built { OnOk result ((rs : List Row) → HasBuilt self.old rs → HasBuilt self.new rs) }
+        ensures held { OnOk result (built self.new ≤ built self.old) }
         ensures joined_typed { IfOk result (λ p. p.0.types ≡ (types self.old).out) }
         ensures rest_typed { IfOk result (λ p. p.1.types ≡ (types self.old).left) }
         ensures binary { binary self.new ≡ binary self.old }

@@ -1,9 +1,9 @@
 //! The source that is made of a kernel which reads its right input before its left one.
 
-ghost use Rattle.std.specs.Prelude.{◌≡◌, ◌++◌, [], Some};
+ghost use Rattle.std.specs.Prelude.{◌≡◌, ◌<◌, ◌++◌, [], Some, length};
 ghost use Rattle.vx_ops.specs.Ledger.{Stream, Ledger, two_op};
-ghost use Rattle.vx_ops.specs.Turn.{Fits, GotTyped, GivesRows, heard, gives, after, fresh_ledger};
-ghost use Rattle.vx_ops.specs.Probing.{ProbingStands, probing_op, probing_types, reads_next, rest_rows, RestTyped};
+ghost use Rattle.vx_ops.specs.Turn.{Fits, GotTyped, GivesRows, heard, gives, after, fresh_ledger, Coming, with_rows, own_turn, rows_in, idle_turn, Pays};
+ghost use Rattle.vx_ops.specs.Probing.{ProbingStands, probing_op, probing_types, probing_most, probing_idle, reads_next, rest_rows, RestTyped, HoldsSome};
 ghost use Rattle.vx_ops.specs.declared.fault.Code.TheVariants.{NoMemory};
 ghost use Rattle.vx_ops.specs.declared.fault.Fault.TheVariants.{Own};
 ghost use Rattle.vx_ops.specs.declared.fault.StreamState.TheVariants.{Running, Failed};
@@ -33,19 +33,20 @@ pub struct Probing<K: ProbeKernel> {
 }
 
 impl<K: ProbeKernel> Model for Probing<K> {
-    ghost use Rattle.vx_ops.specs.Probing.{ProbingView, RestTyped};
+    ghost use Rattle.vx_ops.specs.Probing.{ProbingView, RestTyped, HoldsSome};
 
     ghost Value = { ProbingView K };
 
     ghost view = { λ s. record { node = s.node; kernel = s.kernel; ready = s.ready; rest = s.rest; over = s.over } };
 
-    ghost invariant = { λ s. RestTyped (K.types s.kernel).left s.rest };
+    ghost invariant = { λ s. RestTyped (K.types s.kernel).left s.rest × HoldsSome s.rest };
 }
 
 // The rows, where there are any.
 fn held(rows: Rows) -> Option<Rows>
     ensures rows { rest_rows result ≡ rows.rows }
     ensures types { RestTyped rows.types result }
+    ensures some { HoldsSome result }
 {
     if rows.is_empty() {
         return None;
@@ -57,6 +58,7 @@ fn held(rows: Rows) -> Option<Rows>
 fn returned(rows: Rows) -> Polled
     ensures heard { (s : Stream) → heard s result ≡ record { rows = s.rows ++ rows.rows; over = s.over } }
     ensures gives { GivesRows rows.types result }
+    ensures rows { rows_in result ≡ length rows.rows }
 {
     if rows.len() == 0 {
         return Polled::Waiting;
@@ -102,6 +104,7 @@ impl<K: ProbeKernel> Probing<K> {
         ensures stands { (l : Ledger) → ProbingStands K.binary K.HasRead K.HasBuilt self.old l
             → ProbingStands K.binary K.HasRead K.HasBuilt self.new (after l want_of.Right (got_of.Input (polled.Gave batch)) result) }
         ensures gives { GivesRows (K.types self.old.kernel).out result }
+        ensures pays { (c : Coming) → Pays 0 (probing_most K.built self.old (with_rows want_of.Right (got_of.Input (polled.Gave batch)) c)) (probing_idle self.old c) (probing_most K.built self.new c) (probing_idle self.new c) result }
         ensures op { probing_op K.binary self.new ≡ probing_op K.binary self.old }
         ensures types { probing_types K.types self.new ≡ probing_types K.types self.old }
     {
@@ -118,6 +121,7 @@ impl<K: ProbeKernel> Probing<K> {
         ensures stands { (l : Ledger) → ProbingStands K.binary K.HasRead K.HasBuilt self.old l
             → ProbingStands K.binary K.HasRead K.HasBuilt self.new (after l want_of.Right (got_of.Input polled.End) result) }
         ensures gives { GivesRows (K.types self.old.kernel).out result }
+        ensures pays { (c : Coming) → Pays 1 (probing_most K.built self.old c) (probing_idle self.old c) (probing_most K.built self.new c) (probing_idle self.new c) result }
         ensures op { probing_op K.binary self.new ≡ probing_op K.binary self.old }
         ensures types { probing_types K.types self.new ≡ probing_types K.types self.old }
     {
@@ -134,9 +138,11 @@ impl<K: ProbeKernel> Probing<K> {
     fn probe(&mut self, batch: Rows) -> Polled
         requires running { self.old.over ≡ Running }
         requires typed { batch.types ≡ (K.types self.old.kernel).left }
+        requires some { 0 < length batch.rows }
         ensures stands { (l : Ledger) → ProbingStands K.binary K.HasRead K.HasBuilt (record self.old { rest = Some batch }) l
             → ProbingStands K.binary K.HasRead K.HasBuilt self.new (gives l result) }
         ensures gives { GivesRows (K.types self.old.kernel).out result }
+        ensures pays { (c : Coming) → Pays 1 (probing_most K.built (record self.old { rest = Some batch }) c) (probing_idle (record self.old { rest = Some batch }) c) (probing_most K.built self.new c) (probing_idle self.new c) result }
         ensures op { probing_op K.binary self.new ≡ probing_op K.binary self.old }
         ensures types { probing_types K.types self.new ≡ probing_types K.types self.old }
     {
@@ -158,6 +164,7 @@ impl<K: ProbeKernel> Probing<K> {
         ensures stands { (l : Ledger) → ProbingStands K.binary K.HasRead K.HasBuilt self.old l
             → ProbingStands K.binary K.HasRead K.HasBuilt self.new (after l want_of.Right got result) }
         ensures gives { GivesRows (K.types self.old.kernel).out result }
+        ensures pays { (c : Coming) → Pays (own_turn got) (probing_most K.built self.old (with_rows want_of.Right got c)) (probing_idle self.old (with_rows want_of.Right got c)) (probing_most K.built self.new c) (probing_idle self.new c) result }
         ensures op { probing_op K.binary self.new ≡ probing_op K.binary self.old }
         ensures types { probing_types K.types self.new ≡ probing_types K.types self.old }
     {
@@ -181,6 +188,7 @@ impl<K: ProbeKernel> Probing<K> {
         ensures stands { (l : Ledger) → ProbingStands K.binary K.HasRead K.HasBuilt self.old l
             → ProbingStands K.binary K.HasRead K.HasBuilt self.new (after l want_of.Left got result) }
         ensures gives { GivesRows (K.types self.old.kernel).out result }
+        ensures pays { (c : Coming) → Pays (own_turn got) (probing_most K.built self.old (with_rows want_of.Left got c)) (probing_idle self.old (with_rows want_of.Left got c)) (probing_most K.built self.new c) (probing_idle self.new c) result }
         ensures op { probing_op K.binary self.new ≡ probing_op K.binary self.old }
         ensures types { probing_types K.types self.new ≡ probing_types K.types self.old }
     {
@@ -200,7 +208,7 @@ impl<K: ProbeKernel> Probing<K> {
 }
 
 impl<K: ProbeKernel> Source for Probing<K> {
-    ghost use Rattle.vx_ops.specs.Probing.{ProbingStands, probing_op, probing_types, probing_want, probing_abides};
+    ghost use Rattle.vx_ops.specs.Probing.{ProbingStands, probing_op, probing_types, probing_want, probing_most, probing_idle, probing_abides, probing-grows, probing-idle-grows};
 
     ghost Stands = { ProbingStands K.binary K.HasRead K.HasBuilt };
 
@@ -210,7 +218,15 @@ impl<K: ProbeKernel> Source for Probing<K> {
 
     ghost want = { probing_want };
 
+    ghost most = { probing_most K.built };
+
+    ghost idle = { probing_idle };
+
     ghost abides = { probing_abides K.binary K.HasRead K.HasBuilt };
+
+    ghost most_grows = { probing-grows K.built };
+
+    ghost idle_grows = { probing-idle-grows };
 
     fn wants(&self) -> Want {
         match self.over {

@@ -44,6 +44,7 @@ impl Source for Scan {
     ghost use Rattle.vx_ops.specs.Turn.{while_running};
     ghost use Rattle.vx_ops.specs.Scan.{ScanStands, scan_types};
     ghost use Rattle.vx_ops.specs.Scan.{scan_abides};
+    ghost use Rattle.std.proofs.Common.{le_refl};
     ghost use Rattle.vx_ops.specs.declared.turn.Want.TheVariants as want_of;
 
     ghost Stands = { ScanStands };
@@ -54,7 +55,17 @@ impl Source for Scan {
 
     ghost want = { λ s. while_running want_of.Morsel s.over };
 
+    // A row for each row of its morsels.
+    ghost most = { λ s c. c.left };
+
+    // It always wants a morsel.
+    ghost idle = { λ s c. 0 };
+
     ghost abides = { scan_abides };
+
+    ghost most_grows = { λ s a b h. h.left };
+
+    ghost idle_grows = { λ s a b h. le_refl 0 };
 
     fn wants(&self) -> Want {
         match self.over {

@@ -75,13 +75,15 @@ impl Collecting<Sorting> {
 
 impl CollectingKernel for Sorting {
     ghost use Rattle.std.specs.Prelude.{refl};
-    ghost use Rattle.vx_ops.specs.Sorting.{sorting, sorting_types, SortingHasRead};
+    ghost use Rattle.vx_ops.specs.Sorting.{sorting, sorting_types, SortingHasRead, sorting_held};
 
     ghost unary = { sorting };
 
     ghost types = { sorting_types };
 
     ghost HasRead = { SortingHasRead };
+
+    ghost held = { sorting_held };
 
     ghost empty = { λ s. refl };
 

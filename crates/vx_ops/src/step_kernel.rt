@@ -7,7 +7,7 @@ use vx_views::Rows;
 ///
 /// What an operator of one input computes, a batch at a time: `Stepping` makes a source of it.
 pub trait StepKernel: Drop {
-    ghost use Rattle.std.specs.Prelude.{◌≡◌, ◌++◌, List, Some, IfOk};
+    ghost use Rattle.std.specs.Prelude.{◌≡◌, ◌≤◌, ◌++◌, List, length, Some, IfOk};
     ghost use Rattle.vx_values.specs.Values.{Row};
     ghost use Rattle.vx_plan_nodes.specs.Plan.{Unary};
     ghost use Rattle.vx_plan_nodes.specs.Serial.{unary_rows};
@@ -22,10 +22,11 @@ pub trait StepKernel: Drop {
     // That the kernel has read the first rows, and has returned the second for them.
     ghost HasMade: { Self → List Row → List Row → Type 0 };
 
-    /// The output rows that a further batch of the input adds.
+    /// The output rows that a further batch of the input adds: no more than the batch has.
     fn step(&mut self, batch: Rows) -> Result<Rows, AllocError>
         requires typed { batch.types ≡ (types self.old).left }
         ensures made { IfOk result (λ r. (xs ys : List Row) → HasMade self.old xs ys → HasMade self.new (xs ++ batch.rows) (ys ++ r.rows)) }
+        ensures fewer { IfOk result (λ r. length r.rows ≤ length batch.rows) }
         ensures typed { IfOk result (λ r. r.types ≡ (types self.old).out) }
         ensures unary { unary self.new ≡ unary self.old }
         ensures types { types self.new ≡ types self.old };

@@ -17,9 +17,9 @@ pub struct Stepping<K> {
 }
 
 impl<K: StepKernel> Stepping<K> {
-    ghost use Rattle.std.specs.Prelude.{◌≡◌, []};
+    ghost use Rattle.std.specs.Prelude.{◌≡◌, ◌+◌, [], length};
     ghost use Rattle.vx_ops.specs.Ledger.{Ledger, one_op};
-    ghost use Rattle.vx_ops.specs.Turn.{fresh_ledger, after, GivesRows};
+    ghost use Rattle.vx_ops.specs.Turn.{fresh_ledger, after, GivesRows, Coming, Pays};
     ghost use Rattle.vx_ops.specs.Stepping.{SteppingStands, stepping_op, stepping_types};
     ghost use Rattle.vx_ops.specs.declared.fault.StreamState.TheVariants.{Running};
     ghost use Rattle.vx_ops.specs.declared.turn.Polled.TheVariants as polled;
@@ -47,6 +47,7 @@ impl<K: StepKernel> Stepping<K> {
         ensures stands { (l : Ledger) → SteppingStands K.unary K.HasMade self.old l
             → SteppingStands K.unary K.HasMade self.new (after l want_of.Left (got_of.Input (polled.Gave batch)) result) }
         ensures gives { GivesRows (K.types self.old.kernel).out result }
+        ensures pays { (c : Coming) → Pays 0 (c.left + length batch.rows) 0 c.left 0 result }
         ensures op { stepping_op K.unary self.new ≡ stepping_op K.unary self.old }
         ensures types { stepping_types K.types self.new ≡ stepping_types K.types self.old }
     {
@@ -70,6 +71,7 @@ impl<K: StepKernel> Stepping<K> {
 }
 
 impl<K: StepKernel> Source for Stepping<K> {
+    ghost use Rattle.std.proofs.Common.{le_refl};
     ghost use Rattle.vx_ops.specs.Turn.{while_running};
     ghost use Rattle.vx_ops.specs.Stepping.{SteppingStands, stepping_op, stepping_types, stepping_abides};
     ghost use Rattle.vx_ops.specs.declared.turn.Want.TheVariants as want_of;
@@ -82,7 +84,17 @@ impl<K: StepKernel> Source for Stepping<K> {
 
     ghost want = { λ s. while_running want_of.Left s.over };
 
+    // At most a row for each row of its input.
+    ghost most = { λ s c. c.left };
+
+    // It always wants its input.
+    ghost idle = { λ s c. 0 };
+
     ghost abides = { stepping_abides K.unary K.HasMade };
+
+    ghost most_grows = { λ s a b h. h.left };
+
+    ghost idle_grows = { λ s a b h. le_refl 0 };
 
     fn wants(&self) -> Want {
         match self.over {

@@ -33,8 +33,8 @@ impl Union {
     ghost use Rattle.std.specs.Prelude.{◌≡◌};
     ghost use Rattle.vx_plan_nodes.specs.Plan.{union};
     ghost use Rattle.vx_ops.specs.Ledger.{Ledger, two_op};
-    ghost use Rattle.vx_ops.specs.Turn.{fresh_ledger, after, GivesRows};
-    ghost use Rattle.vx_ops.specs.Union.{UnionStands, union_op, union_types, union_want};
+    ghost use Rattle.vx_ops.specs.Turn.{fresh_ledger, after, GivesRows, Coming, Pays};
+    ghost use Rattle.vx_ops.specs.Union.{UnionStands, union_op, union_types, union_want, union_most, union_idle};
     ghost use Rattle.vx_ops.specs.declared.fault.StreamState.TheVariants.{Running};
     ghost use Rattle.vx_ops.specs.declared.turn.Polled.TheVariants as polled;
     ghost use Rattle.vx_ops.specs.declared.turn.Got.TheVariants as got_of;
@@ -59,6 +59,7 @@ impl Union {
         ensures stands { (l : Ledger) → UnionStands self.old l
             → UnionStands self.new (after l (union_want self.old) (got_of.Input polled.End) result) }
         ensures gives { GivesRows self.old.types.items result }
+        ensures pays { (c : Coming) → Pays 1 (union_most c) (union_idle self.old.left_ended) (union_most c) (union_idle self.new.left_ended) result }
         ensures op { union_op self.new ≡ union_op self.old }
         ensures types { union_types self.new ≡ union_types self.old }
     {
@@ -72,7 +73,8 @@ impl Union {
 }
 
 impl Source for Union {
-    ghost use Rattle.vx_ops.specs.Union.{UnionStands, union_op, union_types, union_want, union_abides};
+    ghost use Rattle.std.proofs.Common.{le_refl};
+    ghost use Rattle.vx_ops.specs.Union.{UnionStands, union_op, union_types, union_want, union_most, union_idle, union_abides, union-grows};
 
     ghost Stands = { UnionStands };
 
@@ -82,7 +84,15 @@ impl Source for Union {
 
     ghost want = { union_want };
 
+    ghost most = { λ s. union_most };
+
+    ghost idle = { λ s c. union_idle s.left_ended };
+
     ghost abides = { union_abides };
+
+    ghost most_grows = { λ s. union-grows };
+
+    ghost idle_grows = { λ s a b h. le_refl (union_idle s.left_ended) };
 
     fn wants(&self) -> Want {
         match self.over {

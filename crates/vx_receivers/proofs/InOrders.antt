@@ -4,9 +4,10 @@ use Rattle.std.proofs.lemmas.List.Elements.{All-nil}
 use Rattle.std.proofs.lemmas.Bool.Decides.{eqb_tells}
 use Rattle.vx_values.specs.Values.{Row}
 use Rattle.vx_rows.specs.declared.table.Table.{Table}
-use Rattle.vx_ports.specs.Packets.{brings, last, PacketView, content_rows, rows_of, has_last}
+use Rattle.vx_ports.specs.Packets.{brings, last, PacketView, content_rows, rows_of, closes, has_last}
 use Rattle.vx_ops.specs.Ledger.{Ledger, ConsumerEnd, receive, IsFor, Abides}
 use Rattle.vx_ops.specs.Turn.{with_packet, after, fresh_ledger}
+use Rattle.vx_ops.proofs.Costs.{still-open, other-open}
 use Rattle.vx_ops.specs.declared.fault.StreamState.TheVariants.{Running, Ended, Failed}
 use Rattle.vx_ops.specs.declared.fault.Fault.{Fault}
 use Rattle.vx_ops.specs.declared.turn.Want.TheVariants as want
@@ -33,7 +34,12 @@ module _ (port : ConsumerEnd) (next : ℕ) (packet : PacketView) (l : Ledger) (f
       let s : StandsInOrder port next k = still-in_order k t.rows (ap content_rows b) refl refl in
       record {
         same = going;
-        runs = λ e. record { stands = s; ours = all-ours port next packet l f h.ours; closed = λ i lt. still-last i next l.came packet (h.closed i lt) };
+        runs = λ e. record {
+          stands = s;
+          ours = all-ours port next packet l f h.ours;
+          closed = λ i lt. still-last i next l.came packet (h.closed i lt);
+          are_open = λ i le. still-open i next l.came packet (ap closes b) (h.are_open i le);
+        };
         abides = abides-running port k going (in-order-law.begun port next k s) (all-ours port next packet l f h.ours);
       }
 
@@ -52,7 +58,12 @@ module _ (port : ConsumerEnd) (next : ℕ) (packet : PacketView) (l : Ledger) (f
       let t : StandsInOrder port (next + 1) k = subst (λ n. StandsInOrder port n k) (sym (add-one next)) (in-order-law.goes_on port next k (omega (arith, lt)) s) in
       record {
         same = going;
-        runs = λ e. record { stands = t; ours = all-ours port next packet l f h.ours; closed = closed-up b };
+        runs = λ e. record {
+          stands = t;
+          ours = all-ours port next packet l f h.ours;
+          closed = closed-up b;
+          are_open = λ i le. other-open i next l.came packet (λ e. omega (arith, e, le)) (h.are_open i (omega (arith, le)));
+        };
         abides = abides-running port k going (in-order-law.begun port next k s) (all-ours port next packet l f h.ours);
       }
 
@@ -78,6 +89,6 @@ in-fresh port plain some =
     let ours : AreOurs port fresh_ledger = λ i. All-nil (IsFor port i) in
     record {
       same = refl;
-      runs = λ e. record { stands = s; ours = ours; closed = λ i lt. absurd (omega (arith, lt)) };
+      runs = λ e. record { stands = s; ours = ours; closed = λ i lt. absurd (omega (arith, lt)); are_open = λ i le. refl };
       abides = abides-running port fresh_ledger refl (in-order-law.begun port 0 fresh_ledger s) ours;
     }

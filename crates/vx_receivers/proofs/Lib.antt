@@ -9,3 +9,4 @@ pub mod Merges
 pub mod Places
 pub mod MergeCalls
 pub mod MergeEnds
+pub mod HeadsLeft

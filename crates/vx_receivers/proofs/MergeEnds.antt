@@ -1,14 +1,15 @@
 -- One more packet at a merging consumer end, and rows that it gives.
-use Rattle.std.proofs.Common.{ℕ, ◌≡◌, ◌<◌, inl, inr, refl, sym, ap, ◌∙◌, true≢false, subst, List, [], ◌++◌, Some, Bool, true, false, length, append-nil}
+use Rattle.std.proofs.Common.{ℕ, ◌≡◌, ◌≢◌, ◌<◌, inl, inr, refl, sym, ap, ◌∙◌, true≢false, subst, List, [], ◌++◌, Some, Bool, true, false, length, append-nil}
 use Rattle.std.proofs.lemmas.List.Elements.{All-nil}
 use Rattle.std.proofs.lemmas.Bool.Decides.{eqb_tells}
 use Rattle.vx_values.specs.Values.{Row}
 use Rattle.vx_rows.specs.declared.table.Table.{Table}
 use Rattle.vx_values.specs.Order.{sorted}
 use Rattle.vx_plan_nodes.specs.Streams.{Streams}
-use Rattle.vx_ports.specs.Packets.{brings, last, PacketView, content_rows, rows_of, has_last}
+use Rattle.vx_ports.specs.Packets.{brings, last, PacketView, content_rows, rows_of, closes, has_last, is_closed}
 use Rattle.vx_ops.specs.Ledger.{Ledger, ConsumerEnd, receive, Begun, Abides, IsFor}
 use Rattle.vx_ops.specs.Turn.{with_packet, after, gives, fresh_ledger}
+use Rattle.vx_ops.proofs.Costs.{still-open, other-open}
 use Rattle.vx_ops.specs.declared.fault.StreamState.TheVariants.{Running, Ended, Failed}
 use Rattle.vx_ops.specs.declared.fault.Fault.{Fault}
 use Rattle.vx_ops.specs.declared.fault.Fault.TheVariants.{Own}
@@ -19,7 +20,7 @@ use Rattle.vx_ops.specs.declared.turn.Polled.TheVariants as polled
 use Rattle.vx_receivers.specs.declared.heads.StreamHead.{StreamHead}
 use Rattle.vx_receivers.specs.declared.place.ReceiverPlace.{ReceiverPlace}
 use Rattle.vx_receivers.specs.Ends.{end_at}
-use Rattle.vx_receivers.specs.Heads.{AreAll, LacksAt}
+use Rattle.vx_receivers.specs.Heads.{AreAll, LacksAt, SameEnds, ended_at}
 use Rattle.vx_receivers.specs.Merged.{with_more}
 use Rattle.vx_receivers.specs.Merge.{MergeView, IsMergeOf, HasMerged}
 use Rattle.vx_receivers.specs.MergeReceiver.{IsMerging}
@@ -52,18 +53,23 @@ merging_end s m = end_at s (length m.heads) m.columns false
 pub merging-begun : (s : ReceiverPlace) (m : MergeView) (l : Ledger) → HasMerged m (has_closed l) (came_rows l) l.gave.rows → Begun (receive (merging_end s m)) l
 merging-begun s m l h = merge-begins (merging_end s m) l _ h.taken _ h.merged h.parts refl
 
+-- no closing packet came of those that have not ended
+abbrev pub AreOpen : MergeView → Ledger → Type 0
+AreOpen m l = (p : ℕ) → ended_at m.heads p ≡ false → is_closed (l.came p) ≡ false
+
 -- it runs on
-pub merging-on : (s : ReceiverPlace) (m : MergeView) (l : Ledger) → l.gave.over ≡ Running → HasMerged m (has_closed l) (came_rows l) l.gave.rows → AreOurs (merging_end s m) l → IsMerging (merging_end s m) m Running l
-merging-on s m l e h ours = record {
+pub merging-on : (s : ReceiverPlace) (m : MergeView) (l : Ledger) → l.gave.over ≡ Running → HasMerged m (has_closed l) (came_rows l) l.gave.rows → AreOurs (merging_end s m) l → AreOpen m l
+    → IsMerging (merging_end s m) m Running l
+merging-on s m l e h ours opens = record {
   same = e;
-  runs = λ f. record { merged = h; ours = ours };
+  runs = λ f. record { merged = h; ours = ours; are_open = opens };
   abides = abides-running (merging_end s m) l e (merging-begun s m l h) ours;
 }
 
 pub merging-fails : (port : ConsumerEnd) (m : MergeView) (f : Fault) (l : Ledger) → l.gave.over ≡ Failed f → Abides (receive port) l → IsMerging port m (Failed f) l
 merging-fails port m f l e a = record { same = e; runs = λ h. cc; abides = a }
 
-module _ (s : ReceiverPlace) (m : MergeView) (l : Ledger) (from : ℕ) (packet : PacketView) (is : IsFor (merging_end s m) from packet) (ours : AreOurs (merging_end s m) l) (going : l.gave.over ≡ Running) where
+module _ (s : ReceiverPlace) (m : MergeView) (l : Ledger) (from : ℕ) (packet : PacketView) (is : IsFor (merging_end s m) from packet) (ours : AreOurs (merging_end s m) l) (opens : AreOpen m l) (going : l.gave.over ≡ Running) where
   came-with : (xs : List Row) → content_rows packet.content ≡ xs → (p : ℕ) → with_more (came_rows l) from xs p ≡ rows_of (with_packet l.came from (Some packet) p)
   came-with xs e p = elim (eqb_tells p from) [
     | inl f ↦ rw (f.0, f.1) (sym (rows_of-push (l.came from) packet ∙ ap (λ ys. rows_of (l.came from) ++ ys) e))
@@ -71,25 +77,27 @@ module _ (s : ReceiverPlace) (m : MergeView) (l : Ledger) (from : ℕ) (packet :
   ]
 
   -- rows came
-  pub merging-rows : (n : MergeView) → length n.heads ≡ length m.heads → n.columns ≡ m.columns → (xs : List Row) → packet.content ≡ brings xs
+  pub merging-rows : (n : MergeView) → length n.heads ≡ length m.heads → n.columns ≡ m.columns → SameEnds m.heads n.heads → (xs : List Row) → packet.content ≡ brings xs
       → HasMerged n (has_closed l) (with_more (came_rows l) from xs) l.gave.rows
       → IsMerging (merging_end s n) n Running (after l (want.Packet from) (got.Packet (Some packet)) polled.Waiting)
-  merging-rows n many cols xs e h =
+  merging-rows n many cols ends xs e h =
       let k = after l (want.Packet from) (got.Packet (Some packet)) polled.Waiting in
       merging-on s n k going
       (same-merge n.columns n.heads (has_closed l) (has_closed k) (with_more (came_rows l) from xs) (came_rows k) l.gave.rows (λ p t. still-last p from l.came packet t) (came-with xs (ap content_rows e)) h)
       (rw (many, cols) (all-ours (merging_end s m) from packet l is ours))
+      (λ p u. still-open p from l.came packet (ap closes e) (opens p (sym (ends p) ∙ u)))
 
   -- a producer ended
-  pub merging-last : (n : MergeView) → length n.heads ≡ length m.heads → n.columns ≡ m.columns → packet.content ≡ last
+  pub merging-last : (n : MergeView) → length n.heads ≡ length m.heads → n.columns ≡ m.columns → ((p : ℕ) → ended_at n.heads p ≡ false → (p ≢ from) × (ended_at m.heads p ≡ false)) → packet.content ≡ last
       → HasMerged n (λ p. has_last (with_packet l.came from (Some packet) p)) (came_rows l) l.gave.rows
       → IsMerging (merging_end s n) n Running (after l (want.Packet from) (got.Packet (Some packet)) polled.Waiting)
-  merging-last n many cols e h =
+  merging-last n many cols ended e h =
       let k = after l (want.Packet from) (got.Packet (Some packet)) polled.Waiting in
       merging-on s n k going
       (same-merge n.columns n.heads (has_closed k) (has_closed k) (came_rows l) (came_rows k) l.gave.rows (λ p t. t)
       (λ p. sym (plain p) ∙ came-with [] (ap content_rows e) p) h)
       (rw (many, cols) (all-ours (merging_end s m) from packet l is ours))
+      (λ p u. let o = ended p u in other-open p from l.came packet o.0 (opens p o.1))
     where
       plain : (p : ℕ) → with_more (came_rows l) from [] p ≡ came_rows l p
       plain p = elim (eqb_tells p from) [ inl f ↦ rw f.0 (append-nil (came_rows l p)) | inr f ↦ rw f.0 refl ]
@@ -108,8 +116,8 @@ module _ (s : ReceiverPlace) (m : MergeView) (l : Ledger) (from : ℕ) (packet :
 
 module _ (s : ReceiverPlace) (m n : MergeView) (l : Ledger) (many : length n.heads ≡ length m.heads) (cols : n.columns ≡ m.columns) (ours : AreOurs (merging_end s m) l) where
   -- rows are given
-  pub merging-gave : l.gave.over ≡ Running → (t : Table) → HasMerged n (has_closed l) (came_rows l) (l.gave.rows ++ t.rows) → IsMerging (merging_end s n) n Running (gives l (polled.Gave t))
-  merging-gave going t h = merging-on s n (gives l (polled.Gave t)) going h (rw (many, cols) ours)
+  pub merging-gave : SameEnds m.heads n.heads → AreOpen m l → l.gave.over ≡ Running → (t : Table) → HasMerged n (has_closed l) (came_rows l) (l.gave.rows ++ t.rows) → IsMerging (merging_end s n) n Running (gives l (polled.Gave t))
+  merging-gave ends opens going t h = merging-on s n (gives l (polled.Gave t)) going h (rw (many, cols) ours) (λ p u. opens p (sym (ends p) ∙ u))
 
   -- all were given
   pub merging-ends : (xs : List Row) → xs ≡ [] → HasMerged n (has_closed l) (came_rows l) (l.gave.rows ++ xs) → AreAll n.heads [] → ((p : ℕ) → LacksAt n.heads p → ⊥)
@@ -134,4 +142,4 @@ merging-short s m l ours b =
 
 -- nothing came yet
 pub merging-fresh : (s : ReceiverPlace) (m : MergeView) → HasMerged m (λ p. false) (λ p. []) [] → IsMerging (merging_end s m) m Running fresh_ledger
-merging-fresh s m h = merging-on s m fresh_ledger refl h (λ i. All-nil (IsFor (merging_end s m) i))
+merging-fresh s m h = merging-on s m fresh_ledger refl h (λ i. All-nil (IsFor (merging_end s m) i)) (λ p u. refl)

@@ -1,5 +1,5 @@
 -- What is at hand of each producer's stream, and in which order the producers' next rows go.
-use Rattle.std.specs.Prelude.{ℕ, ◌≡◌, ◌<◌, ◌≤◌, ◌-◌, Bool, List, [], drop, length, get_or, slice_get, Option, Some, None, true, false, All}
+use Rattle.std.specs.Prelude.{ℕ, ◌≡◌, ◌<◌, ◌≤◌, ◌-◌, Bool, List, [], drop, length, sum_by, get_or, slice_get, Option, Some, None, true, false, All}
 use Rattle.std.specs.List.{AllPairs, Contains}
 use Rattle.std.specs.Ordering.{is_le}
 use Rattle.vx_values.specs.Values.{Row}
@@ -52,6 +52,17 @@ position_at hs p = at_of (slice_get hs p)
 
 abbrev pub ended_at : List StreamHead → ℕ → Bool
 ended_at hs p = has_ended (slice_get hs p)
+
+-- the same producers have ended
+abbrev pub SameEnds : List StreamHead → List StreamHead → Type 0
+SameEnds hs gs = (p : ℕ) → ended_at gs p ≡ ended_at hs p
+
+-- how many rows are at hand of a producer, and of all
+abbrev pub rows_left : StreamHead → ℕ
+rows_left h = length h.rows.rows - h.at
+
+abbrev pub all_left : List StreamHead → ℕ
+all_left hs = sum_by rows_left hs
 
 -- the head at this place has a row, or lacks one
 abbrev pub HasRowAt : List StreamHead → ℕ → Type 0

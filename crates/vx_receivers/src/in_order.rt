@@ -36,10 +36,10 @@ impl InOrderReceiver {
     ghost use Rattle.std.specs.Prelude.{◌≡◌, ◌≤◌, [], true, Some};
     ghost use Rattle.vx_ports.specs.Packets.{PacketView, last};
     ghost use Rattle.vx_ops.specs.Ledger.{Ledger, receive, IsFor};
-    ghost use Rattle.vx_ops.specs.Turn.{after, fresh_ledger, GivesRows};
+    ghost use Rattle.vx_ops.specs.Turn.{after, fresh_ledger, GivesRows, Coming, with_rows, Pays};
     ghost use Rattle.vx_ops.specs.declared.fault.StreamState.TheVariants.{Running};
     ghost use Rattle.vx_ops.specs.declared.turn.Got.TheVariants as got_of;
-    ghost use Rattle.vx_receivers.specs.InOrder.{InOrderStands, in_order_end, in_order_op, in_order_types, in_order_want};
+    ghost use Rattle.vx_receivers.specs.InOrder.{InOrderStands, in_order_end, in_order_op, in_order_types, in_order_want, in_order_most};
 
     /// A consumer end at a place of an exchange, by its node number, for this many producers of rows of these types: at least one. Nothing came yet.
     pub fn new(exchange: u32, place: u32, producers: u32, types: Vec<ColType>) -> InOrderReceiver
@@ -78,6 +78,7 @@ impl InOrderReceiver {
         ensures stands { (l : Ledger) (packet : PacketView) → IsFor (in_order_end self.old) self.old.next packet → packet.content ≡ last → InOrderStands self.old l
             → InOrderStands self.new (after l (in_order_want self.old) (got_of.Packet (Some packet)) result) }
         ensures gives { GivesRows (in_order_types self.old).out result }
+        ensures pays { (c : Coming) → Pays 0 (in_order_most self.old c) 0 (in_order_most self.new c) 0 result }
         ensures op { in_order_op self.new ≡ in_order_op self.old }
         ensures types { in_order_types self.new ≡ in_order_types self.old }
     {
@@ -95,6 +96,7 @@ impl InOrderReceiver {
         ensures stands { (l : Ledger) → InOrderStands self.old l
             → InOrderStands self.new (after l (in_order_want self.old) (got_of.Packet (Some packet)) result) }
         ensures gives { GivesRows (in_order_types self.old).out result }
+        ensures pays { (c : Coming) → Pays 0 (in_order_most self.old (with_rows (in_order_want self.old) (got_of.Packet (Some packet)) c)) 0 (in_order_most self.new c) 0 result }
         ensures op { in_order_op self.new ≡ in_order_op self.old }
         ensures types { in_order_types self.new ≡ in_order_types self.old }
     {
@@ -113,7 +115,8 @@ impl InOrderReceiver {
 }
 
 impl Source for InOrderReceiver {
-    ghost use Rattle.vx_receivers.specs.InOrder.{InOrderStands, in_order_op, in_order_types, in_order_want, in_order_abides};
+    ghost use Rattle.std.proofs.Common.{le_refl};
+    ghost use Rattle.vx_receivers.specs.InOrder.{InOrderStands, in_order_op, in_order_types, in_order_want, in_order_most, in_order_abides, in_order-grows};
 
     ghost Stands = { InOrderStands };
 
@@ -123,7 +126,16 @@ impl Source for InOrderReceiver {
 
     ghost want = { in_order_want };
 
+    ghost most = { in_order_most };
+
+    // It always wants a packet.
+    ghost idle = { λ s c. 0 };
+
     ghost abides = { in_order_abides };
+
+    ghost most_grows = { in_order-grows };
+
+    ghost idle_grows = { λ s a b h. le_refl 0 };
 
     fn wants(&self) -> Want {
         match self.over {

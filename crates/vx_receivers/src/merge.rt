@@ -1,10 +1,11 @@
 //! The merge of sorted streams that still grow: the least row at hand goes first, once each stream that has not ended has one.
 
-ghost use Rattle.std.specs.Prelude.{◌≡◌, ◌<◌, ◌++◌, [], ℕ, Bool, List, length, Some, None, true, false, OnOk, IfOk, IfSome};
+ghost use Rattle.std.specs.Prelude.{◌≡◌, ◌≢◌, ◌≤◌, ◌<◌, ◌+◌, ◌++◌, [], ℕ, Bool, List, length, Some, None, true, false, OnOk, IfOk, IfSome};
 ghost use Rattle.vx_values.specs.Values.{Row as Cells};
 ghost use Rattle.vx_values.specs.Order.{sorted};
 ghost use Rattle.vx_rows.specs.View.{AreColumns};
 ghost use Rattle.vx_plan_nodes.specs.Streams.{Streams};
+ghost use Rattle.vx_receivers.specs.Heads.{SameEnds, ended_at, all_left};
 ghost use Rattle.vx_receivers.specs.Merged.{with_more};
 ghost use Rattle.vx_receivers.specs.Merge.{HasMerged, HasSameShape, AllGiven};
 
@@ -102,6 +103,7 @@ impl StreamMerge {
     pub(crate) fn missing(&self) -> Option<usize>
         ensures missing { result ≡ self.now.missing }
         ensures within { IfSome result (λ p. p < length self.now.heads) }
+        ensures runs { IfSome result (λ p. ended_at self.now.heads p ≡ false) }
     {
         self.missing
     }
@@ -112,6 +114,8 @@ impl StreamMerge {
         requires types { rows.types ≡ self.old.types }
         requires some { 0 < length rows.rows }
         ensures shape { HasSameShape self.old self.new }
+        ensures ends { SameEnds self.old.heads self.new.heads }
+        ensures left { IfOk result (λ b. b ≡ true → all_left self.new.heads ≤ all_left self.old.heads + length rows.rows) }
         ensures rises { IfOk result (λ b. b ≡ true → (closed : ℕ → Bool) (came : Streams) (given : List Cells) → HasMerged self.old closed came given → HasMerged self.new closed (with_more came from rows.rows) given) }
         ensures falls { IfOk result (λ b. b ≡ false → (closed : ℕ → Bool) (came : Streams) (given : List Cells) → HasMerged self.old closed came given → sorted self.old.columns (came from ++ rows.rows) ≡ false) }
     {
@@ -130,6 +134,8 @@ impl StreamMerge {
     pub(crate) fn end(&mut self, from: usize)
         requires { self.old.missing ≡ Some from }
         ensures shape { HasSameShape self.old self.new }
+        ensures ended { (p : ℕ) → ended_at self.new.heads p ≡ false → (p ≢ from) × (ended_at self.old.heads p ≡ false) }
+        ensures left { all_left self.new.heads ≤ all_left self.old.heads }
         ensures merged { (closed more : ℕ → Bool) (came : Streams) (given : List Cells) → ((p : ℕ) → closed p ≡ true → more p ≡ true) → more from ≡ true → HasMerged self.old closed came given → HasMerged self.new more came given }
     {
         self.heads[from].ended = true;
@@ -140,6 +146,8 @@ impl StreamMerge {
     pub(crate) fn give(&mut self) -> Result<Rows, AllocError>
         requires { self.old.missing ≡ None }
         ensures shape { HasSameShape self.old self.new }
+        ensures ends { SameEnds self.old.heads self.new.heads }
+        ensures left { IfOk result (λ r. all_left self.new.heads + length r.rows ≤ all_left self.old.heads) }
         ensures types { IfOk result (λ r. r.types ≡ self.old.types) }
         ensures merged { IfOk result (λ r. (closed : ℕ → Bool) (came : Streams) (given : List Cells) → HasMerged self.old closed came given → HasMerged self.new closed came (given ++ r.rows)) }
         ensures all { IfOk result (λ r. r.rows ≡ [] → AllGiven self.new) }
@@ -152,6 +160,8 @@ impl StreamMerge {
     fn give_runs(&mut self) -> Result<Rows, AllocError>
         requires { self.old.missing ≡ None }
         ensures shape { HasSameShape self.old self.new }
+        ensures ends { SameEnds self.old.heads self.new.heads }
+        ensures left { IfOk result (λ r. all_left self.new.heads + length r.rows ≤ all_left self.old.heads) }
         ensures types { IfOk result (λ r. r.types ≡ self.old.types) }
         ensures merged { IfOk result (λ r. (closed : ℕ → Bool) (came : Streams) (given : List Cells) → HasMerged self.old closed came given → HasMerged self.new closed came (given ++ r.rows)) }
         ensures all { IfOk result (λ r. r.rows ≡ [] → AllGiven self.new) }
@@ -169,6 +179,8 @@ impl StreamMerge {
         requires some { 0 < length self.old.order }
         requires types { found.old.types ≡ self.old.types }
         ensures shape { HasSameShape self.old self.new }
+        ensures ends { SameEnds self.old.heads self.new.heads }
+        ensures left { OnOk result (all_left self.new.heads + length found.new.rows ≤ all_left self.old.heads + length found.old.rows) }
         ensures types { found.new.types ≡ found.old.types }
         ensures more { OnOk result (length found.old.rows < length found.new.rows) }
         ensures merged { OnOk result ((closed : ℕ → Bool) (came : Streams) (given : List Cells) → HasMerged self.old closed came (given ++ found.old.rows) → HasMerged self.new closed came (given ++ found.new.rows)) }

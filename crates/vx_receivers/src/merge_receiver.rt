@@ -42,11 +42,11 @@ impl MergeReceiver {
     ghost use Rattle.vx_rows.specs.View.{AreColumns};
     ghost use Rattle.vx_ports.specs.Packets.{PacketView, brings};
     ghost use Rattle.vx_ops.specs.Ledger.{Ledger, receive, IsFor};
-    ghost use Rattle.vx_ops.specs.Turn.{Fits, after, gives, fresh_ledger, GivesRows};
+    ghost use Rattle.vx_ops.specs.Turn.{Fits, after, gives, fresh_ledger, GivesRows, Coming, with_more, with_rows, own_turn, Pays};
     ghost use Rattle.vx_ops.specs.declared.fault.StreamState.TheVariants.{Running};
     ghost use Rattle.vx_ops.specs.declared.turn.Got.TheVariants as got_of;
     ghost use Rattle.vx_ops.specs.declared.turn.Want.TheVariants as want_of;
-    ghost use Rattle.vx_receivers.specs.MergeReceiver.{MergeReceiverStands, merge_end, merge_receiver_op, merge_receiver_types, merge_receiver_want};
+    ghost use Rattle.vx_receivers.specs.MergeReceiver.{MergeReceiverStands, merge_end, merge_receiver_op, merge_receiver_types, merge_receiver_want, merge_receiver_most};
 
     /// A consumer end at a place of an exchange, by its node number, for this many producers of rows of these types, each of
     /// which sends them sorted on the columns `merge`: 1 to 64. Nothing came yet.
@@ -99,6 +99,7 @@ impl MergeReceiver {
         requires few { from < length self.old.kernel.heads }
         ensures stands { (l : Ledger) → MergeReceiverStands self.old l → MergeReceiverStands self.new (after l (want_of.Packet from) (got_of.Packet (Some packet)) result) }
         ensures gives { GivesRows (merge_receiver_types self.old).out result }
+        ensures pays { (c : Coming) → Pays 0 (merge_receiver_most self.old (with_rows (want_of.Packet from) (got_of.Packet (Some packet)) c)) 0 (merge_receiver_most self.new c) 0 result }
         ensures op { merge_receiver_op self.new ≡ merge_receiver_op self.old }
         ensures types { merge_receiver_types self.new ≡ merge_receiver_types self.old }
     {
@@ -128,6 +129,7 @@ impl MergeReceiver {
         ensures stands { (l : Ledger) (packet : PacketView) → IsFor (merge_end self.old) from packet → packet.content ≡ brings rows.rows → MergeReceiverStands self.old l
             → MergeReceiverStands self.new (after l (want_of.Packet from) (got_of.Packet (Some packet)) result) }
         ensures gives { GivesRows (merge_receiver_types self.old).out result }
+        ensures pays { (c : Coming) → Pays 0 (merge_receiver_most self.old (record c { packets = with_more from (length rows.rows) c.packets })) 0 (merge_receiver_most self.new c) 0 result }
         ensures op { merge_receiver_op self.new ≡ merge_receiver_op self.old }
         ensures types { merge_receiver_types self.new ≡ merge_receiver_types self.old }
     {
@@ -144,6 +146,7 @@ impl MergeReceiver {
         requires missing { self.old.kernel.missing ≡ None }
         ensures stands { (l : Ledger) → MergeReceiverStands self.old l → MergeReceiverStands self.new (gives l result) }
         ensures gives { GivesRows (merge_receiver_types self.old).out result }
+        ensures pays { (c : Coming) → Pays 1 (merge_receiver_most self.old c) 0 (merge_receiver_most self.new c) 0 result }
         ensures op { merge_receiver_op self.new ≡ merge_receiver_op self.old }
         ensures types { merge_receiver_types self.new ≡ merge_receiver_types self.old }
     {
@@ -165,6 +168,7 @@ impl MergeReceiver {
         requires fits { Fits (merge_receiver_want self.old) got }
         ensures stands { (l : Ledger) → MergeReceiverStands self.old l → MergeReceiverStands self.new (after l (merge_receiver_want self.old) got result) }
         ensures gives { GivesRows (merge_receiver_types self.old).out result }
+        ensures pays { (c : Coming) → Pays (own_turn got) (merge_receiver_most self.old (with_rows (merge_receiver_want self.old) got c)) 0 (merge_receiver_most self.new c) 0 result }
         ensures op { merge_receiver_op self.new ≡ merge_receiver_op self.old }
         ensures types { merge_receiver_types self.new ≡ merge_receiver_types self.old }
     {
@@ -179,7 +183,8 @@ impl MergeReceiver {
 }
 
 impl Source for MergeReceiver {
-    ghost use Rattle.vx_receivers.specs.MergeReceiver.{MergeReceiverStands, merge_receiver_op, merge_receiver_types, merge_receiver_want, merge_receiver_abides};
+    ghost use Rattle.std.proofs.Common.{le_refl};
+    ghost use Rattle.vx_receivers.specs.MergeReceiver.{MergeReceiverStands, merge_receiver_op, merge_receiver_types, merge_receiver_want, merge_receiver_most, merge_receiver_abides, merge_receiver-grows};
 
     ghost Stands = { MergeReceiverStands };
 
@@ -189,7 +194,16 @@ impl Source for MergeReceiver {
 
     ghost want = { merge_receiver_want };
 
+    ghost most = { merge_receiver_most };
+
+    // Where it wants nothing it returns rows, or that it is over.
+    ghost idle = { λ s c. 0 };
+
     ghost abides = { merge_receiver_abides };
+
+    ghost most_grows = { merge_receiver-grows };
+
+    ghost idle_grows = { λ s a b h. le_refl 0 };
 
     fn wants(&self) -> Want {
         match self.over {

@@ -35,6 +35,7 @@ loop-other-preserved c =
     let f : c.push-in-loop-other.new.self.items ≡ rs ++ j ∷ [] = c.in_ok-push-2.ensures.items in
     let m = inv.many in
     record {
+      count = let was = inv.count in let one = ap length e ∙ length-append ls (i ∷ []) in omega (arith, was, one, low);
       many = ap length e ∙ (length-append ls (i ∷ []) ∙ (ap (λ n. n + 1) m ∙ sym (ap length f ∙ length-append rs (j ∷ []))));
       left = λ n l h. pushed n i ls c.push.new.self.items e l (inv.left n l h);
       right = λ n l h. pushed n j rs c.push-in-loop-other.new.self.items f (omega (arith, test, l)) (inv.right n l h);

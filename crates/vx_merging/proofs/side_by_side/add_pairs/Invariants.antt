@@ -1,4 +1,4 @@
-use Rattle.std.proofs.Common.{◌≡◌, ◌<◌, ◌≤◌, ◌++◌, ℕ, length, map, slice_range}
+use Rattle.std.proofs.Common.{◌≡◌, ◌+◌, ◌-◌, ◌<◌, ◌≤◌, ◌++◌, ℕ, length, map, slice_range}
 use Rattle.vx_rows.specs.View.{RowsView, row, ArePositions}
 use Rattle.vx_merging.specs.Merged.{rows_at}
 use Rattle.vx_merging.proofs.side_by_side.add_pairs.Given as goal
@@ -6,6 +6,7 @@ use Rattle.vx_merging.proofs.side_by_side.add_pairs.Given as goal
 abbrev pub invariant-loop-other : goal.invariant-loop-other
 invariant-loop-other l = record {
   many : length l.pairs.left.items ≡ length l.pairs.right.items;
+  count : length l.pairs.left.items ≡ length l.initial.pairs.left.items + (l.other - l.from);
   left : (n : ℕ) → l.place < n → ArePositions n l.initial.pairs.left.items → ArePositions n l.pairs.left.items;
   right : (n : ℕ) → l.to ≤ n → ArePositions n l.initial.pairs.right.items → ArePositions n l.pairs.right.items;
   rows : (a b : RowsView) → l.to ≤ length b.rows

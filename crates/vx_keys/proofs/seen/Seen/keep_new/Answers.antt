@@ -1,10 +1,10 @@
-use Rattle.std.proofs.Common.{◌≡◌, List, [], ◌++◌, sym, ap, ◌∙◌, subst, length, map, get_or}
-use Rattle.std.proofs.lemmas.List.{length-map}
+use Rattle.std.proofs.Common.{◌≡◌, List, [], ◌++◌, sym, ap, ◌∙◌, subst, length, map, get_or, arith}
+use Rattle.std.proofs.lemmas.List.{length-map, length-append}
 use Rattle.indexmap.specs.IndexSet.{insert_all}
 use Rattle.vx_values.specs.declared.value.ColType.{ColType}
 use Rattle.vx_values.specs.Values.{row_eq, pick}
 use Rattle.vx_rows.specs.View.{row, AreColumns, ArePositions}
-use Rattle.vx_keys.proofs.NumberFacts.{numbers-long, firsts-all, picked-at}
+use Rattle.vx_keys.proofs.NumberFacts.{numbers-long, all-long, firsts-all, picked-at}
 use Rattle.vx_keys.proofs.seen.Seen.keep_new.Goals as goal
 
 pub at-requires : goal.at-requires
@@ -36,3 +36,16 @@ pub returns-clause-seen : goal.returns-clause-seen
 returns-clause-seen c = λ xs is.
     let keys = map (pick c.args.columns.now) c.args.batch.now.rows in
     c.in_ok-numbers.ensures.keys ∙ (ap (λ ks. insert_all row_eq ks keys) (c.self.view_is ∙ is) ∙ firsts-all xs keys)
+
+pub returns-clause-fewer : goal.returns-clause-fewer
+returns-clause-fewer c =
+    let rows = c.args.batch.now.rows in
+    let keys = map (pick c.args.columns.now) rows in
+    let old = c.args.self.now in
+    let found = c.in_ok-found.found.rows in
+    let kept = ap length (returns-clause-new c) ∙ length-append old found in
+    let most = all-long c.self.inside.keys keys in
+    let all = ap length c.in_ok-numbers.ensures.keys in
+    let same = ap length c.self.view_is in
+    let count = length-map rows (pick c.args.columns.now) in
+    omega (arith, kept, most, all, same, count)

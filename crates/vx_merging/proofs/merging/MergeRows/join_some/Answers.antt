@@ -1,4 +1,4 @@
-use Rattle.std.proofs.Common.{◌≡◌, ◌∙◌, ◌++◌, ℕ, List, ap, sym, subst, length}
+use Rattle.std.proofs.Common.{rules, ◌≡◌, ◌∙◌, ◌++◌, ℕ, List, ap, sym, subst, length, arith, inl}
 use Rattle.vx_values.specs.Values.{Row}
 use Rattle.vx_values.specs.Order.{sorted}
 use Rattle.vx_rows.specs.View.{ArePositions}
@@ -6,6 +6,7 @@ use Rattle.vx_merging.specs.declared.merging.MergeFault.{MergeFault}
 use Rattle.vx_merging.specs.Merged.{MergeView, IsMerged, HasJoined, MergeBlame, rows_at}
 use Rattle.vx_keys.proofs.ErrorFacts.{reported}
 use Rattle.vx_merging.proofs.MergeCalls.{same-inputs, same-blame, joined-behind}
+use Rattle.vx_merging.proofs.GoesOn.{pairs-left}
 use Rattle.vx_merging.proofs.merging.MergeRows.join_some.Goals as goal
 
 pub returns-in_err-join_next-clause-err : goal.returns-in_err-join_next-clause-err
@@ -27,6 +28,10 @@ loop-pairs-preserved c =
     let on = c.skip_unmatched.ensures in
     record {
       inputs = same-inputs now c.join_next.new.self c.skip_unmatched.new.self (same-inputs now was c.join_next.new.self inv.inputs next.inputs) on.inputs;
+      next = let a = inv.next in let b = next.next in let d = on.next in omega (arith, a, b, d);
+      end = let a = inv.end in let b = next.end in let d = on.end in omega (arith, a, b, d);
+      begun = inl (let a = inv.next in let b = (next.moved (search rules)).0 in let d = on.next in omega (arith, a, b, d));
+      fewer = let a = inv.fewer in let b = next.fewer in let d = pairs-left c.join_next.new.self c.skip_unmatched.new.self on.inputs on.next in omega (arith, a, b, d);
       many = next.many;
       left = subst (λ (n : ℕ). ArePositions n c.join_next.new.pairs.left.items) (ap (λ t. length t.rows) inv.inputs.left) next.left;
       right = subst (λ (n : ℕ). ArePositions n c.join_next.new.pairs.right.items) (ap (λ t. length t.rows) inv.inputs.right) next.right;

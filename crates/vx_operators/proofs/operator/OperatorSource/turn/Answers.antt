@@ -10,7 +10,7 @@ returns-clause-stands c = λ l h.
     let o = c.args.self.now in
     let w = kind_want o.kind in
     let counted : c.count_given.new.counts ≡ with_given (with_got o.counts w c.args.got) c.turn-polled.result =
-    c.count_given.ensures ∙ ap (λ z. with_given z c.turn-polled.result) (c.count_got.ensures ∙ ap (λ z. with_got o.counts z c.args.got) c.wants-want.ensures) in
+    c.count_given.ensures ∙ ap (λ z. with_given z c.turn-polled.result) (c.count_got.ensures ∙ ap (λ z. with_got o.counts z c.args.got) c.wants-want.ensures.want) in
     record {
       kind = c.turn-polled.ensures.stands l h.kind;
       counts = subst (λ z. AreCounts z (after l w c.args.got c.turn-polled.result)) (sym counted) (turn-counted o.counts l w c.args.got c.turn-polled.result h.counts);

@@ -1,7 +1,10 @@
-use Rattle.std.proofs.Common.{rules, arith, refl, sym, ◌∙◌, ◌≤◌, true, [], length, subst}
-use Rattle.vx_ports.specs.Packets.{FitsContent}
+use Rattle.std.proofs.Common.{rules, arith, refl, ap, sym, ◌∙◌, ◌≤◌, ◌<◌, Some, true, [], length, subst}
+use Rattle.vx_ports.specs.Packets.{FitsContent, content_rows}
 use Rattle.vx_ops.specs.Ledger.{IsFor}
-use Rattle.vx_receivers.specs.InOrder.{in_order_end}
+use Rattle.vx_ops.specs.Turn.{with_rows}
+use Rattle.vx_ops.specs.declared.turn.Got.TheVariants as got
+use Rattle.vx_ops.proofs.Costs.{rows-more, sum-more}
+use Rattle.vx_receivers.specs.InOrder.{in_order_end, in_order_want, in_order-grows}
 use Rattle.vx_receivers.proofs.Ends.{abides-stranger, abides-broken}
 use Rattle.vx_receivers.proofs.InOrders.{in-rows, in-fails}
 use Rattle.vx_receivers.proofs.in_order.InOrderReceiver.take_packet.Goals as goal
@@ -43,3 +46,20 @@ returns-in-End-Fault-clause-stands c =
     let e = c.fail-in-End-Fault.ensures in
     rw (e.over, e.result, e.port, e.producers, e.next, c.requires)
     (λ l h. in-fails _ s.next _ _ refl (abides-broken (in_order_end s) s.next c.args.packet l (h.runs refl).stands.in_range f (rw c.in-End-Fault.field-0-is at c.in-End-Fault.ensures) (h.runs refl).ours h.abides.before))
+
+pub returns-then-not-expects-clause-pays : goal.returns-then-not-expects-clause-pays
+returns-then-not-expects-clause-pays c k =
+    let s = c.args.self.now in
+    let w = in_order_want s in
+    let g = got.Packet (Some c.args.packet) in
+    let more = in_order-grows s k (with_rows w g k) (rows-more w g k) in
+    let e = c.fail.ensures in
+    rw (e.result, e.producers) (record { rows = omega (arith, more); turns = omega arith })
+
+pub returns-in-Rows-clause-pays : goal.returns-in-Rows-clause-pays
+returns-in-Rows-clause-pays c k =
+    let s = c.args.self.now in
+    let near : s.next < s.producers = s.next_in_range in
+    let more = sum-more s.producers s.next (length (content_rows c.args.packet.content)) k.packets near in
+    let rows = ap (λ x. length (content_rows x)) c.in-Rows.ensures.1 in
+    rw c.requires (record { rows = omega (arith, more, rows); turns = omega arith })

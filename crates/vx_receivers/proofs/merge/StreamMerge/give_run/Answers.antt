@@ -3,6 +3,7 @@ use Rattle.std.specs.Prelude.{slice_range}
 use Rattle.vx_receivers.specs.declared.heads.StreamHead.{StreamHead}
 use Rattle.vx_receivers.specs.Heads.{HasRow}
 use Rattle.vx_receivers.specs.Merge.{MergeView}
+use Rattle.vx_receivers.proofs.HeadsLeft.{ends-set, run-left}
 use Rattle.vx_receivers.proofs.MergeCalls.{same-head, read-set, remove-first, found-more, first-within, first-out, call-run-types, call-run-from, call-run-within, call-run-more, call-run-alike, call-run-order, call-run-row, call-run-fits, call-run-ended, call-run-lacks, call-run-merged}
 use Rattle.vx_receivers.proofs.merge.StreamMerge.give_run.Goals as goal
 
@@ -203,3 +204,61 @@ returns-else-not-moved-clause-merged c closed came given h =
     let part = c.in_ok-run.ensures.rows ∙ ap (λ (y : StreamHead). slice_range y.rows.rows y.at to) same in
     let more = c.in_ok-append.ensures.ok ∙ ap (λ ys. c.args.found.now.rows ++ ys) part in
     call-run-merged _ _ c.self.view_is c.self.invariant c.requires.missing some p c.index-p.ensures x g c.index_mut.ensures.value to run refl refl refl closed came given _ _ more h
+
+pub returns-then-has_row-clause-left : goal.returns-then-has_row-clause-left
+returns-then-has_row-clause-left c =
+    let p = c.index-p.result.now in
+    let to = c.run_end-to.result in
+    let some = subst (λ (y : MergeView). 0 < length y.order) (sym c.self.view_is) c.requires.some in
+    let run = rw (c.deref-2.ensures.value, c.deref.ensures.value, c.deref-3.ensures.value) at c.run_end-to.ensures in
+    let x = c.index_mut.result.now in
+    let g : StreamHead = record x { at = to } in
+    let within = first-within _ _ c.self.view_is c.self.invariant c.requires.missing some p c.index-p.ensures in
+    let same = same-head c.self.inside.heads.items p c.index-head.result.now x within c.index-head.ensures c.index_mut.ensures.value in
+    let part = c.in_ok-run.ensures.rows ∙ ap (λ (y : StreamHead). slice_range y.rows.rows y.at to) same in
+    let more = c.in_ok-append.ensures.ok ∙ ap (λ ys. c.args.found.now.rows ++ ys) part in
+    let from = call-run-from _ _ c.self.view_is c.self.invariant c.requires.missing some p c.index-p.ensures x g c.index_mut.ensures.value to run refl refl refl in
+    let past = call-run-within _ _ c.self.view_is c.self.invariant c.requires.missing some p c.index-p.ensures x g c.index_mut.ensures.value to run refl refl refl in
+    rw (← c.self.view_is) (run-left c.self.inside.heads.items p to x g c.args.found.now.rows c.append.new.self.rows within c.index_mut.ensures.value refl refl from past more)
+
+pub returns-then-not-moved-clause-left : goal.returns-then-not-moved-clause-left
+returns-then-not-moved-clause-left c =
+    let p = c.index-p.result.now in
+    let to = c.run_end-to.result in
+    let some = subst (λ (y : MergeView). 0 < length y.order) (sym c.self.view_is) c.requires.some in
+    let run = rw (c.deref-2.ensures.value, c.deref.ensures.value, c.deref-3.ensures.value) at c.run_end-to.ensures in
+    let x = c.index_mut.result.now in
+    let g : StreamHead = record x { at = to } in
+    let within = first-within _ _ c.self.view_is c.self.invariant c.requires.missing some p c.index-p.ensures in
+    let same = same-head c.self.inside.heads.items p c.index-head.result.now x within c.index-head.ensures c.index_mut.ensures.value in
+    let part = c.in_ok-run.ensures.rows ∙ ap (λ (y : StreamHead). slice_range y.rows.rows y.at to) same in
+    let more = c.in_ok-append.ensures.ok ∙ ap (λ ys. c.args.found.now.rows ++ ys) part in
+    let from = call-run-from _ _ c.self.view_is c.self.invariant c.requires.missing some p c.index-p.ensures x g c.index_mut.ensures.value to run refl refl refl in
+    let past = call-run-within _ _ c.self.view_is c.self.invariant c.requires.missing some p c.index-p.ensures x g c.index_mut.ensures.value to run refl refl refl in
+    rw (← c.self.view_is) (run-left c.self.inside.heads.items p to x g c.args.found.now.rows c.append.new.self.rows within c.index_mut.ensures.value refl refl from past more)
+
+pub returns-else-not-moved-clause-left : goal.returns-else-not-moved-clause-left
+returns-else-not-moved-clause-left c =
+    let p = c.index-p.result.now in
+    let to = c.run_end-to.result in
+    let some = subst (λ (y : MergeView). 0 < length y.order) (sym c.self.view_is) c.requires.some in
+    let run = rw (c.deref-2.ensures.value, c.deref.ensures.value, c.deref-3.ensures.value) at c.run_end-to.ensures in
+    let x = c.index_mut.result.now in
+    let g : StreamHead = record x { at = to } in
+    let within = first-within _ _ c.self.view_is c.self.invariant c.requires.missing some p c.index-p.ensures in
+    let same = same-head c.self.inside.heads.items p c.index-head.result.now x within c.index-head.ensures c.index_mut.ensures.value in
+    let part = c.in_ok-run.ensures.rows ∙ ap (λ (y : StreamHead). slice_range y.rows.rows y.at to) same in
+    let more = c.in_ok-append.ensures.ok ∙ ap (λ ys. c.args.found.now.rows ++ ys) part in
+    let from = call-run-from _ _ c.self.view_is c.self.invariant c.requires.missing some p c.index-p.ensures x g c.index_mut.ensures.value to run refl refl refl in
+    let past = call-run-within _ _ c.self.view_is c.self.invariant c.requires.missing some p c.index-p.ensures x g c.index_mut.ensures.value to run refl refl refl in
+    rw (← c.self.view_is) (run-left c.self.inside.heads.items p to x g c.args.found.now.rows c.append.new.self.rows within c.index_mut.ensures.value refl refl from past more)
+
+pub returns-then-not-moved-clause-ends : goal.returns-then-not-moved-clause-ends
+returns-then-not-moved-clause-ends c =
+    let x = c.index_mut.result.now in
+    rw (← c.self.view_is) (ends-set c.self.inside.heads.items c.index-p.result.now x (record x { at = c.run_end-to.result }) c.index_mut.ensures.value refl)
+
+pub returns-else-not-moved-clause-ends : goal.returns-else-not-moved-clause-ends
+returns-else-not-moved-clause-ends c =
+    let x = c.index_mut.result.now in
+    rw (← c.self.view_is) (ends-set c.self.inside.heads.items c.index-p.result.now x (record x { at = c.run_end-to.result }) c.index_mut.ensures.value refl)

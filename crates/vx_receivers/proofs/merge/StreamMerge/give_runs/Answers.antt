@@ -9,6 +9,8 @@ pub runs-init : goal.runs-init
 runs-init c = record {
   shape = record { columns = refl; types = refl; many = refl };
   types = c.in_ok-found.ensures.types ∙ (c.deref.ensures.value ∙ ap (λ (y : MergeView). y.types) c.self.view_is);
+  ends = λ p. refl;
+  left = let none = ap length c.in_ok-found.ensures.rows in omega (arith, none);
   none = λ e. c.requires;
   merged = λ closed came given h. subst (HasMerged c.args.self.now closed came) (sym (ap (λ ys. given ++ ys) c.in_ok-found.ensures.rows ∙ append-nil given)) h;
 }
@@ -22,6 +24,8 @@ runs-preserved c =
     record {
       shape = record { columns = e.shape.columns ∙ i.shape.columns; types = e.shape.types ∙ i.shape.types; many = e.shape.many ∙ i.shape.many };
       types = e.types ∙ i.types;
+      ends = λ p. e.ends p ∙ i.ends p;
+      left = let a = k.left in let b = i.left in omega (arith, a, b);
       none = λ z. let n = ap length z in absurd (omega (arith, longer, n));
       merged = λ closed came given h. k.merged closed came given (i.merged closed came given h);
     }
@@ -50,3 +54,12 @@ returns-clause-all c e =
           absurd (omega (arith, n, t))
     ] in
     all-given c.runs.self (subst MergeFits seen c.self-in-runs.invariant) missing (sym (ap (λ (y : MergeView). y.order) seen) ∙ order)
+
+pub returns-in_err-give_run-clause-ends : goal.returns-in_err-give_run-clause-ends
+returns-in_err-give_run-clause-ends c p = c.give_run.ensures.ends p ∙ c.runs.invariant.ends p
+
+pub returns-clause-ends : goal.returns-clause-ends
+returns-clause-ends c = c.runs.invariant.ends
+
+pub returns-clause-left : goal.returns-clause-left
+returns-clause-left c = c.runs.invariant.left

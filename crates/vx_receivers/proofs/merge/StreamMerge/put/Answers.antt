@@ -1,6 +1,7 @@
 use Rattle.std.proofs.Common.{arith, sym, subst, ap, ◌∙◌, length}
 use Rattle.vx_values.specs.Order.{sorted}
 use Rattle.vx_rows.specs.View.{AreColumns}
+use Rattle.vx_receivers.proofs.HeadsLeft.{ends-set}
 use Rattle.vx_receivers.proofs.MergeCalls.{call-types, call-columns, out, call-put-row, call-put-order, call-put-alike, call-put-fits, call-put-rises, call-put-falls}
 use Rattle.vx_receivers.proofs.merge.StreamMerge.put.Goals as goal
 
@@ -66,3 +67,6 @@ returns-clause-rises c t closed came given h =
     let g = c.in_ok-next.next in
     let e = c.in_ok-next.ensures in
     call-put-rises _ _ c.self.view_is c.self.invariant c.args.from c.requires.missing x g c.index.ensures c.args.rows.rows e.rows e.at e.types e.ended (ap (λ cs. sorted cs g.rows.rows) (sym c.deref.ensures.value) ∙ (sym c.rises.ensures ∙ c.if-not-rises.false)) closed came given h
+
+pub returns-clause-ends : goal.returns-clause-ends
+returns-clause-ends c = rw (← c.self.view_is) (ends-set c.self.inside.heads.items c.args.from c.index.result.now c.in_ok-next.next c.index.ensures c.in_ok-next.ensures.ended)

@@ -14,7 +14,7 @@ pub returns-else-is_empty-clause-stands : goal.returns-else-is_empty-clause-stan
 returns-else-is_empty-clause-stands c =
     let s = c.args.self.now in
     let e = c.give.ensures in
-    rw c.requires.running (λ l h. merging-gave s.port s.kernel _ l e.shape.many e.shape.columns (h.runs refl).ours h.same c.in-Ok.rows (c.in-Ok.ensures.merged (has_closed l) (came_rows l) l.gave.rows (h.runs refl).merged))
+    rw c.requires.running (λ l h. merging-gave s.port s.kernel _ l e.shape.many e.shape.columns (h.runs refl).ours e.ends (h.runs refl).are_open h.same c.in-Ok.rows (c.in-Ok.ensures.merged (has_closed l) (came_rows l) l.gave.rows (h.runs refl).merged))
 
 pub returns-in-Err-clause-stands : goal.returns-in-Err-clause-stands
 returns-in-Err-clause-stands c =

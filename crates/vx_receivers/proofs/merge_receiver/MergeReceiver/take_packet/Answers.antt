@@ -29,7 +29,7 @@ returns-in-End-Last-clause-stands c =
     let e = c.end.ensures in
     let b = rw c.in-End-Last.field-0-is at c.in-End-Last.ensures in
     rw c.requires.running (λ l h.
-    merging-last s.port s.kernel l c.args.from c.args.packet f (h.runs refl).ours h.same _ e.shape.many e.shape.columns b
+    merging-last s.port s.kernel l c.args.from c.args.packet f (h.runs refl).ours (h.runs refl).are_open h.same _ e.shape.many e.shape.columns e.ended b
     (e.merged (has_closed l) (λ p. has_last (with_packet l.came c.args.from (Some c.args.packet) p)) (came_rows l) l.gave.rows (λ p t. still-last p c.args.from l.came c.args.packet t) (last-came (merge_end s) c.args.from c.args.packet l b) (h.runs refl).merged))
 
 pub returns-in-End-Fault-clause-stands : goal.returns-in-End-Fault-clause-stands

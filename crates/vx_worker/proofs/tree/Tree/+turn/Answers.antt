@@ -7,7 +7,7 @@ returns-in-Left-wants-clause-stands g t c =
     let below = rw c.deref_mut-in-Left-wants.ensures.value at c.turn-input-in-Left-wants.ensures.stands in
     rw c.in-Two.is (λ low high r out n h. turned_left g.O.Source.Stands g.O.Source.want c.in-Two.op c.turn-in-Left-wants.new.self
     c.in-Two.left.value c.in-Two.right.value c.turn-input-in-Left-wants.new.self c.args.got
-    c.turn-input-in-Left-wants.result c.turn-in-Left-wants.result c.in-Left-wants.ensures below
+    c.turn-input-in-Left-wants.result c.turn-in-Left-wants.result c.in-Left-wants.ensures.want below
     c.turn-in-Left-wants.ensures.stands low n.0 high r out n.1 n.2 h.0 h.1 h.2 h.3 h.4)
 
 pub returns-in-Right-clause-stands : goal.returns-in-Right-clause-stands
@@ -15,7 +15,7 @@ returns-in-Right-clause-stands g t c =
     let below = rw c.deref_mut-in-Right.ensures.value at c.turn-input-in-Right.ensures.stands in
     rw c.in-Two.is (λ low high r out n h. turned_right g.O.Source.Stands g.O.Source.want c.in-Two.op c.turn-in-Right.new.self
     c.in-Two.left.value c.in-Two.right.value c.turn-input-in-Right.new.self c.args.got
-    c.turn-input-in-Right.result c.turn-in-Right.result c.in-Right.ensures below
+    c.turn-input-in-Right.result c.turn-in-Right.result c.in-Right.ensures.want below
     c.turn-in-Right.ensures.stands low n.0 high r out n.1 n.2 h.0 h.1 h.2 h.3 h.4)
 
 pub returns-in-Left-clause-typed : goal.returns-in-Left-clause-typed
