@@ -6,3 +6,4 @@ pub mod Sending
 pub mod Beginnings
 pub mod Parts
 pub mod InTurn
+pub mod Queued

@@ -13,7 +13,7 @@ use Rattle.vx_values.specs.Order.{sorted, compare_on}
 use Rattle.vx_rows.specs.Lists.{IsBeginning}
 use Rattle.vx_values.specs.declared.value.ColType.{ColType}
 use Rattle.vx_plan_nodes.specs.Streams.{Dealt, bearing}
-use Rattle.vx_ports.specs.Packets.{brings, last, fault, PacketView, content_rows, rows_of, closes, is_last, is_fault, has_last, has_fault, is_closed}
+use Rattle.vx_ports.specs.Packets.{brings, last, fault, PacketView, content_rows, rows_of, closes, is_last, is_fault, has_last, has_fault}
 use Rattle.vx_ops.specs.Ledger.{Ledger, ConsumerEnd, receive, Makes, Begun, OwnBlame, IsFor, Came}
 use Rattle.vx_ops.specs.Begun.{begun_whole}
 use Rattle.vx_ops.proofs.Strangers.{none-came}

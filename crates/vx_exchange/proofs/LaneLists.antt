@@ -217,13 +217,14 @@ pub record FinishesBelow (n : ℕ) (old new : List LaneView) : Type 0 where
   pub same : SameLanes old new
   pub done : (j : ℕ) (o o' : LaneView) → j < n → IsLane old j o → IsLane new j o' → CutsRest o.way o.current o.ready o'.ready
   pub left : (j : ℕ) → n ≤ j → slice_get new j ≡ slice_get old j
+  pub none : (j : ℕ) (o : LaneView) → j < n → IsLane new j o → o.current ≡ []
 
 pub finish-none : (lanes : List LaneView) → FinishesBelow 0 lanes lanes
-finish-none lanes = record { same = same-refl lanes; done = λ j o o' l. absurd (omega (arith, l)); left = λ j l. refl }
+finish-none lanes = record { same = same-refl lanes; done = λ j o o' l. absurd (omega (arith, l)); left = λ j l. refl; none = λ j o l. absurd (omega (arith, l)) }
 
 pub finish-more : (n : ℕ) (old new : List LaneView) (o o' : LaneView) → n < length new → o ≡ get_or new n o → o'.way ≡ o.way → o'.closed ≡ o.closed → CutsRest o.way o.current o.ready o'.ready
-    → FinishesBelow n old new → FinishesBelow (n + 1) old (set new n o')
-finish-more n old new o o' within e w c cuts f = record {
+    → o'.current ≡ [] → FinishesBelow n old new → FinishesBelow (n + 1) old (set new n o')
+finish-more n old new o o' within e w c cuts empty f = record {
   same = same-along old new (set new n o') f.same (same-set new n o o' e w c);
   done = λ j z z' l h h'. elim (cases_lt j n) [
     | inl less ↦ f.done j z z' less h (sym (get-set_other new n j o' (omega (arith, less))) ∙ h')
@@ -236,6 +237,7 @@ finish-more n old new o o' within e w c cuts f = record {
         subst P was (subst Q now cuts)
   ];
   left = λ j l. get-set_other new n j o' (omega (arith, l)) ∙ f.left j (omega (arith, l));
+  none = below-set (λ (z : LaneView). z.current ≡ []) new n o' within empty f.none;
 }
 
 -- all rows go to the one lane

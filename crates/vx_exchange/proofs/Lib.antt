@@ -11,3 +11,4 @@ pub mod RangeFacts
 pub mod RemainderFacts
 pub mod KindDeals
 pub mod Senders
+pub mod Held

@@ -1,10 +1,11 @@
 -- When the root may have accepted a stream: it kept the rows, and returned no packet.
-use Rattle.std.specs.Prelude.{ℕ, ◌≡◌, Bool, true, false, List, []}
-use Rattle.std.proofs.Common.{refl}
+use Rattle.std.specs.Prelude.{ℕ, ◌≡◌, ◌≤◌, Bool, true, false, List, []}
+use Rattle.std.proofs.Common.{refl, le_refl}
 use Rattle.vx_values.specs.Values.{Val}
 use Rattle.vx_plan_nodes.specs.Routes.{Routing}
 use Rattle.vx_ports.specs.Packets.{PacketView}
 use Rattle.vx_ops.specs.Ledger.{Stream}
+use Rattle.vx_ends.specs.Queued.{consumers_of}
 use Rattle.vx_ends.specs.Tasks.{Task, keep, Post, keeps, BeganSending, IsAt}
 use Rattle.vx_exchange.specs.declared.collector.Collector.{Collector}
 
@@ -44,3 +45,16 @@ collector_begun s goes a g h e = h.nothing
 -- its post is that of its task
 pub collector_at_post : (s : Collector) → IsAt (collector_post s) (collector_task s)
 collector_at_post s = tt
+
+-- it holds rows for no consumer, and closes none
+abbrev pub collector_held : Collector → ℕ → ℕ
+collector_held s j = 0
+
+abbrev pub collector_unclosed : Collector → ℕ
+collector_unclosed s = 0
+
+pub collector_held_for : (s : Collector) (j : ℕ) → consumers_of (collector_post s) ≤ j → collector_held s j ≡ 0
+collector_held_for s j h = refl
+
+pub collector_few_closings : (s : Collector) → collector_unclosed s ≤ consumers_of (collector_post s)
+collector_few_closings s = le_refl 0

@@ -4,7 +4,7 @@ use Rattle.std.specs.List.{AllByRecursion}
 use Rattle.vx_values.specs.Values.{Row}
 use Rattle.vx_rows.specs.View.{RowsView}
 use Rattle.vx_values.specs.declared.value.ColType.{ColType}
-use Rattle.vx_ports.specs.Packets.{Content, brings, closes, PacketView}
+use Rattle.vx_ports.specs.Packets.{Content, brings, closes, content_rows, PacketView}
 use Rattle.vx_ends.specs.Ship.{end_to_end}
 use Rattle.vx_values.specs.Limits.{max_packet_rows}
 
@@ -45,13 +45,15 @@ abbrev pub is_given : {X : Type 0} → Option X → Bool
 is_given None = true
 is_given (Some x) = false
 
--- what an outlet keeps: a packet holds 1 to 4,096 rows, fewer than that are at hand, and only packets of rows wait, none behind the closing one
+-- what an outlet keeps: a packet holds 1 to 4,096 rows, fewer than that are at hand, and only packets of rows wait, of one at least, none behind
+-- the closing one
 pub record IsOutlet (o : LaneView) (closing : Option RowsView) : Type 0 where
   pub some : 1 ≤ o.way.size
   pub few : o.way.size ≤ max_packet_rows
   pub shorter : length o.current < o.way.size
   pub none_after : o.closed ≡ true → o.ready ≡ []
   pub of_rows : All (λ (p : PacketView). closes p.content ≡ false) o.ready
+  pub of_some : All (λ (p : PacketView). 0 < length (content_rows p.content)) o.ready
   pub keeps : KeepsClosing o.way.types closing
 
 -- more rows came: full packets were made of these at hand and those, as long as there were enough

@@ -7,7 +7,7 @@ use Rattle.vx_plan_nodes.specs.Outline.{size_of}
 use Rattle.vx_plan_nodes.specs.Plan.{ExchangeKind, route_to, round, broadcast, gather, concat}
 use Rattle.vx_plan_nodes.specs.Routes.{Routing, Sends}
 use Rattle.vx_plan_nodes.specs.Streams.{Streams, bearing}
-use Rattle.vx_ports.specs.Packets.{Content, closes, is_empty, PacketView}
+use Rattle.vx_ports.specs.Packets.{Content, closes, content_rows, is_empty, PacketView}
 use Rattle.vx_ends.specs.Ship.{Ship}
 use Rattle.vx_exchange.specs.LaneView.{Way, LaneView, parcel_of, empty_outlet, Cuts, CutsRest}
 use Rattle.vx_exchange.specs.Routed.{key_route, key_columns, key_bounds}
@@ -146,6 +146,7 @@ pub record GivesPacket (old new : List LaneView) (consumer : ℕ) (p : PacketVie
   pub ready : before.ready ≡ p ∷ after.ready
   pub closed : after.closed ≡ before.closed
   pub of_rows : closes p.content ≡ false
+  pub of_some : 0 < length (content_rows p.content)
 
 -- the lane of a consumer returned its closing packet
 pub record GivesClosing (content : Content) (old new : List LaneView) (consumer : ℕ) (p : PacketView) : Type 0 where
@@ -154,6 +155,7 @@ pub record GivesClosing (content : Content) (old new : List LaneView) (consumer 
   pub there : IsLane old consumer before
   pub lanes : new ≡ slice_set old consumer after
   pub way : after.way ≡ before.way
+  pub current : after.current ≡ before.current
   pub ready : after.ready ≡ before.ready
   pub packet : p ≡ parcel_of before.way content
   pub was_open : before.closed ≡ false

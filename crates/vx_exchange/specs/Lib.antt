@@ -7,3 +7,4 @@ pub mod LaneLaws
 pub mod Sender
 pub mod RoundRobin
 pub mod Collector
+pub mod Queued

@@ -45,7 +45,7 @@ impl Collector {
 }
 
 impl Sends for Collector {
-    ghost use Rattle.vx_exchange.specs.Collector.{CollectorStands, collector_task, collector_post, collector_bounds, collector_is_open, collector_has_closed, collector_open_first, collector_begun, collector_at_post};
+    ghost use Rattle.vx_exchange.specs.Collector.{CollectorStands, collector_task, collector_post, collector_bounds, collector_is_open, collector_has_closed, collector_held, collector_unclosed, collector_held_for, collector_few_closings, collector_open_first, collector_begun, collector_at_post};
 
     ghost Stands = { CollectorStands };
 
@@ -58,6 +58,14 @@ impl Sends for Collector {
     ghost is_open = { collector_is_open };
 
     ghost has_closed = { collector_has_closed };
+
+    ghost held = { collector_held };
+
+    ghost unclosed = { collector_unclosed };
+
+    ghost held_for = { collector_held_for };
+
+    ghost few_closings = { collector_few_closings };
 
     ghost open_first = { collector_open_first };
 

@@ -63,7 +63,7 @@ impl Model for Lane {
 impl Lane {
     ghost use Rattle.std.specs.Prelude.{◌≡◌, ◌<◌, ◌≤◌, ◌++◌, ◌∷◌, [], length, slice_range, true, false, All, IfOk, OnOk, IfSome, IfNone};
     ghost use Rattle.vx_views.specs.Chunks.{all_rows};
-    ghost use Rattle.vx_ports.specs.Packets.{closes};
+    ghost use Rattle.vx_ports.specs.Packets.{closes, content_rows};
     ghost use Rattle.vx_ports.specs.Seen.{ending_content};
     ghost use Rattle.vx_exchange.specs.LaneView.{parcel_of, parcel_at, empty_outlet, Cuts, CutsRest};
 
@@ -189,6 +189,7 @@ impl Lane {
     pub fn finish(&mut self) -> Result<(), AllocError>
         requires { self.old.closed ≡ false }
         ensures ok { OnOk result (CutsRest self.old.way self.old.current self.old.ready self.new.ready) }
+        ensures none { OnOk result (self.new.current ≡ []) }
         ensures way { self.new.way ≡ self.old.way }
         ensures closed { self.new.closed ≡ self.old.closed }
     {
@@ -215,6 +216,7 @@ impl Lane {
     pub fn next_packet(&mut self) -> Option<Packet>
         ensures some { IfSome result (λ p. self.old.ready ≡ p ∷ self.new.ready) }
         ensures of_rows { IfSome result (λ p. closes p.content ≡ false) }
+        ensures of_some { IfSome result (λ p. 0 < length (content_rows p.content)) }
         ensures open { IfSome result (λ _. self.old.closed ≡ false) }
         ensures none { IfNone result (self.old.ready ≡ []) }
         ensures same { IfNone result (self.new ≡ self.old) }

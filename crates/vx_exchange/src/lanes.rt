@@ -36,6 +36,7 @@ pub fn make_lanes(
 pub fn finish_lanes(lanes: &mut Vec<Lane>) -> Result<(), AllocError>
     requires { All (λ o. o.closed ≡ false) lanes.old.items }
     ensures ok { OnOk result (Finishes lanes.old.items lanes.new.items) }
+    ensures none { OnOk result (All (λ o. o.current ≡ []) lanes.new.items) }
     ensures same { SameLanes lanes.old.items lanes.new.items }
 {
     for consumer in 0..lanes.len() {
@@ -47,6 +48,7 @@ pub fn finish_lanes(lanes: &mut Vec<Lane>) -> Result<(), AllocError>
 /// Drops all that the lanes hold.
 pub fn clear_lanes(lanes: &mut Vec<Lane>)
     ensures idle { All (λ o. o.ready ≡ []) lanes.new.items }
+    ensures none { All (λ o. o.current ≡ []) lanes.new.items }
     ensures same { SameLanes lanes.old.items lanes.new.items }
 {
     for consumer in 0..lanes.len() {

@@ -63,14 +63,16 @@ impl Drop for Sender {
 }
 
 impl Sender {
-    ghost use Rattle.std.specs.Prelude.{◌≤◌, ℕ, List, [], IfOk, OnOk};
+    ghost use Rattle.std.specs.Prelude.{◌≤◌, ◌+◌, ℕ, List, [], IfOk, OnOk};
     ghost use Rattle.vx_plan_nodes.specs.Routes.{Routing};
     ghost use Rattle.vx_ports.specs.Packets.{PacketView};
     ghost use Rattle.vx_ops.specs.Ledger.{fresh, Stream};
     ghost use Rattle.vx_ops.specs.Turn.{heard, GivesRows};
     ghost use Rattle.vx_ends.specs.Tasks.{sends_by_ship};
     ghost use Rattle.vx_ends.specs.Sending.{RoutesAs, is_open_after};
+    ghost use Rattle.vx_ops.specs.Turn.{rows_in};
     ghost use Rattle.vx_exchange.specs.Lanes.{kind_of, bounds_of, SameLanes};
+    ghost use Rattle.vx_exchange.specs.Queued.{sender_held};
     ghost use Rattle.vx_exchange.specs.Sender.{SenderStands, sender_ship, sender_post, sender_bounds, sender_is_open};
 
     /// The sending end of an exchange by its node number, at a producer's place, for so many consumers and packets of up to `size` rows
@@ -108,6 +110,7 @@ impl Sender {
     // Drops what waits: Fault comes next.
     fn fail(&mut self)
         ensures stage { self.new.stage ≡ SenderState.Failing }
+        ensures none { (j : ℕ) → sender_held self.new j ≡ 0 }
         ensures deal { self.new.deal ≡ self.old.deal }
         ensures same { SameLanes self.old.lanes.items self.new.lanes.items }
     {
@@ -122,6 +125,7 @@ impl Sender {
         ensures ok { OnOk result ((goes : Routing) → RoutesAs (sender_post self.old) (sender_bounds self.old) (R.route_of router.now) goes
             → (a : Stream) (g : ℕ → List PacketView) → SenderStands self.old goes a g → SenderStands self.new goes (heard a polled) g) }
         ensures open { OnOk result (sender_is_open self.new ≡ is_open_after polled) }
+        ensures held { OnOk result ((j : ℕ) → sender_held self.new j ≤ sender_held self.old j + rows_in polled) }
         ensures deal { self.new.deal ≡ self.old.deal }
         ensures same { SameLanes self.old.lanes.items self.new.lanes.items }
     {
@@ -156,6 +160,7 @@ impl Sender {
 
 impl Sends for Sender {
     ghost use Rattle.vx_exchange.specs.Sender.{SenderStands, sender_task, sender_post, sender_bounds, sender_is_open, sender_has_closed, sender_open_first, sender_begun, sender_at_post};
+    ghost use Rattle.vx_exchange.specs.Queued.{sender_held, sender_unclosed, sender_held_for, sender_few_closings};
 
     ghost Stands = { SenderStands };
 
@@ -168,6 +173,14 @@ impl Sends for Sender {
     ghost is_open = { sender_is_open };
 
     ghost has_closed = { sender_has_closed };
+
+    ghost held = { sender_held };
+
+    ghost unclosed = { sender_unclosed };
+
+    ghost held_for = { sender_held_for };
+
+    ghost few_closings = { sender_few_closings };
 
     ghost open_first = { sender_open_first };
 

@@ -14,7 +14,7 @@ pub enum Destination {
 }
 
 impl Sends for Destination {
-    ghost use Rattle.vx_operators.specs.Destination.{DestinationStands, task_of, post_of, bounds_of, is_open, has_closed, open_first, begun, at_post};
+    ghost use Rattle.vx_operators.specs.Destination.{DestinationStands, task_of, post_of, bounds_of, is_open, has_closed, held_in, unclosed_in, held_for, few_closings, open_first, begun, at_post};
 
     ghost Stands = { DestinationStands };
 
@@ -27,6 +27,14 @@ impl Sends for Destination {
     ghost is_open = { is_open };
 
     ghost has_closed = { has_closed };
+
+    ghost held = { held_in };
+
+    ghost unclosed = { unclosed_in };
+
+    ghost held_for = { held_for };
+
+    ghost few_closings = { few_closings };
 
     ghost open_first = { open_first };
 

@@ -4,12 +4,9 @@ use Rattle.std.specs.Prelude.{slice_range}
 use Rattle.std.proofs.lemmas.List.{length-append, length-take-le}
 use Rattle.std.proofs.lemmas.List.Sums.{sum_by-set}
 use Rattle.vx_values.specs.Values.{Row}
-use Rattle.vx_ops.specs.Turn.{Fits, Pays, own_turn, sum_below, with_more, if_running}
+use Rattle.vx_ops.specs.Turn.{Pays, sum_below, with_more, if_running}
 use Rattle.vx_ops.specs.Growing.{running-grows}
 use Rattle.vx_ops.specs.declared.fault.StreamState.{StreamState}
-use Rattle.vx_ops.specs.declared.turn.Want.TheVariants as want
-use Rattle.vx_ops.specs.declared.turn.Got.{Got}
-use Rattle.vx_ops.specs.declared.turn.Got.TheVariants as got
 use Rattle.vx_ops.specs.declared.turn.Polled.TheVariants as polled
 use Rattle.vx_ops.proofs.Costs.{sum-more}
 use Rattle.vx_receivers.specs.Heads.{SameEnds, rows_left, all_left}
@@ -43,9 +40,3 @@ put-pays o n n' i few a a' f many near more =
     let less : a' + sum_below n f ≤ a + sum_below n (with_more i few f) = omega (arith, sum, more) in
     let all = running-grows o (a' + sum_below n f) (a + sum_below n (with_more i few f)) less in
     rw many (record { rows = omega (arith, all); turns = omega arith })
-
--- a turn in which a packet may come is not its own
-pub packet-turn : (i : ℕ) (g : Got) → Fits (want.Packet i) g → own_turn g ≡ 0
-packet-turn i (got.Packet o) f = refl
-packet-turn i got.Nothing f = absurd f
-packet-turn i (got.Input p) f = absurd f

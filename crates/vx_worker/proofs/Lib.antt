@@ -7,3 +7,4 @@ pub mod Stopping
 pub mod WorkerSteps
 pub mod Answering
 pub mod Counting
+pub mod TreeCosts

@@ -1,13 +1,16 @@
 -- What a tree wants before its next turn, what it is given, and the types of the rows in it.
-use Rattle.std.specs.Prelude.{ℕ, ◌≡◌, ◌≤◌, ◌<◌, ◌==◌, cond, List, []}
+use Rattle.std.specs.Prelude.{ℕ, ◌≡◌, ◌≤◌, ◌<◌, ◌==◌, cond, false, List, []}
 use Rattle.vx_values.specs.declared.value.ColType.{ColType}
+use Rattle.vx_ports.specs.Packets.{is_closed}
 use Rattle.vx_ops.specs.Ledger.{fresh}
-use Rattle.vx_ops.specs.Turn.{Shape, GivesRows, heard, with_packet}
+use Rattle.vx_ops.specs.Turn.{Shape, GivesRows, heard, with_packet, rows_in, packet_rows, with_more}
+use Rattle.vx_ops.specs.declared.fault.StreamState.TheVariants.{Running}
 use Rattle.vx_ops.specs.declared.turn.Want.{Want}
 use Rattle.vx_ops.specs.declared.turn.Want.TheVariants as want
 use Rattle.vx_ops.specs.declared.turn.Got.{Got}
 use Rattle.vx_ops.specs.declared.turn.Got.TheVariants as got
 use Rattle.vx_worker.specs.Fragment.{Reads}
+use Rattle.vx_worker.specs.Trees.{LeavesComing}
 use Rattle.vx_worker.specs.declared.tree.Tree.{Tree, Leaf, One', Two'}
 use Rattle.vx_worker.specs.declared.wish.Wish.{Wish}
 use Rattle.vx_worker.specs.declared.wish.Wish.TheVariants as wish
@@ -74,3 +77,15 @@ abbrev pub TreeTyped : {O : Type 0} → (f : O → Shape) → (m : ℕ → List 
 TreeTyped f m (Leaf k o) = (f o).left ≡ m k
 TreeTyped f m (One' o p c) = ((f o).left ≡ tree_types f c) × TreeTyped f m c
 TreeTyped f m (Two' o p a q b) = ((f o).left ≡ tree_types f a) × ((f o).right ≡ tree_types f b) × TreeTyped f m a × TreeTyped f m b
+
+-- what is wished for is open: a scan whose morsels have not ended, or a producer of which no closing packet came
+abbrev pub WishOpen : Wish → Reads → Type 0
+WishOpen wish.Nothing r = Unit {0}
+WishOpen (wish.Morsel k) r = (r.scanned k).over ≡ Running
+WishOpen (wish.Packet k i) r = is_closed (r.came k i) ≡ false
+
+-- what might still come to the leaves before this came
+abbrev pub with_read : Wish → Got → LeavesComing → LeavesComing
+with_read (wish.Morsel k) (got.Input p) c = record c { scanned = with_more k (rows_in p) c.scanned }
+with_read (wish.Packet k i) (got.Packet o) c = record c { came = λ j. cond (j == k) (with_more i (packet_rows o) (c.came j)) (c.came j) }
+with_read _ _ c = c

@@ -1,4 +1,4 @@
-use Rattle.std.proofs.Common.{◌≡◌, ◌<◌, Some, length, refl, ap, rules, arith}
+use Rattle.std.proofs.Common.{◌<◌, Some, length, refl, ap, rules, arith}
 use Rattle.vx_ports.specs.Packets.{content_rows}
 use Rattle.vx_ops.specs.Ledger.{IsFor}
 use Rattle.vx_ops.specs.Turn.{with_rows}

@@ -1,10 +1,9 @@
 use Rattle.std.proofs.Common.{rules, ◌≡◌, Some, refl, sym, subst}
 use Rattle.vx_ports.specs.Packets.{PacketView}
-use Rattle.vx_ops.specs.Turn.{Fits, after}
+use Rattle.vx_ops.specs.Turn.{Fits}
 use Rattle.vx_ops.specs.declared.fault.StreamState.TheVariants.{Running}
 use Rattle.vx_ops.specs.declared.turn.Want.TheVariants as want
 use Rattle.vx_ops.specs.declared.turn.Got.TheVariants as got
-use Rattle.vx_ops.specs.declared.turn.Polled.TheVariants as polled
 use Rattle.vx_exchange.specs.Receiver.{receiver_end, EndStands}
 use Rattle.vx_exchange.proofs.Arrivals.{port-waits, none-taken}
 use Rattle.vx_exchange.proofs.receiver.ReceiverSource.turn.Goals as goal

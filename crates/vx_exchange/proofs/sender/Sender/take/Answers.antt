@@ -4,7 +4,10 @@ use Rattle.std.proofs.lemmas.List.{length-map}
 use Rattle.vx_ops.specs.Turn.{GivesRows}
 use Rattle.vx_ops.specs.declared.turn.Polled.{Polled}
 use Rattle.vx_exchange.specs.LaneView.{Way, LaneView}
-use Rattle.vx_exchange.specs.Lanes.{any_closed}
+use Rattle.vx_plan_nodes.specs.Routes.{sends_by}
+use Rattle.vx_exchange.specs.Lanes.{any_closed, kind_of, bounds_of}
+use Rattle.vx_exchange.specs.declared.sender.SenderState.TheVariants.{Open}
+use Rattle.vx_exchange.proofs.Held.{routes-so, deals-held, finishes-held}
 use Rattle.vx_exchange.specs.Sender.{sender_ship}
 use Rattle.vx_exchange.proofs.LaneLists.{same-ship, same-count, numbered-way, numbered-same, served-same, few-same, turn-same, columns-same, all-open, all-from_lanes, open-idle}
 use Rattle.vx_exchange.proofs.Senders.{opened, in-ship, sender-takes, sender-ends, sender-fails}
@@ -101,3 +104,50 @@ invariant_of-self-in-Gave g c =
       columns = columns-same s.deal s.deal old new refl same.ways s.columns;
       idle = open-idle s.stage old new is_open.0 is_open.1 same;
     }
+
+pub invariant_of-self-in-Break-branch-2 : goal.invariant_of-self-in-Break-branch-2
+invariant_of-self-in-Break-branch-2 g c =
+    let s = c.args.self.now in
+    let old = s.lanes.items in
+    let new = c.finish_lanes.new.lanes.items in
+    let same = c.finish_lanes.ensures.same in
+    let count = same-count old new same in
+    let is_open = opened s.stage (any_closed old) c.requires.open in
+    record {
+      numbered = numbered-same s.deal s.deal old new refl same s.numbered;
+      served = served-same s.deal old new count s.served;
+      few = few-same old new 4294967296 count s.few;
+      turns = turn-same s.next old new count s.turns;
+      columns = columns-same s.deal s.deal old new refl same.ways s.columns;
+      idle = open-idle s.stage old new is_open.0 is_open.1 same;
+    }
+
+pub invariant_of-self-in-End : goal.invariant_of-self-in-End
+invariant_of-self-in-End g c =
+    let s = c.args.self.now in
+    let old = s.lanes.items in
+    let new = c.finish_lanes.new.lanes.items in
+    let same = c.finish_lanes.ensures.same in
+    let count = same-count old new same in
+    let is_open = opened s.stage (any_closed old) c.requires.open in
+    record {
+      numbered = numbered-same s.deal s.deal old new refl same s.numbered;
+      served = served-same s.deal old new count s.served;
+      few = few-same old new 4294967296 count s.few;
+      turns = turn-same s.next old new count s.turns;
+      columns = columns-same s.deal s.deal old new refl same.ways s.columns;
+      idle = open-idle Open old new refl is_open.1 same;
+    }
+
+pub returns-in-Gave-clause-held : goal.returns-in-Gave-clause-held
+returns-in-Gave-clause-held g c =
+    let s = c.args.self.now in
+    let hash = g.R.Router.route_of c.args.router.now in
+    let goes = sends_by hash (λ _. bounds_of s.deal) in
+    rw c.in-Gave.is
+    (deals-held goes (kind_of s.deal) s.next c.in-Gave.rows.rows s.lanes.items c.deal_rows.new.lanes.items c.deal_rows.ensures.same (c.in_ok-deal_rows-in-Gave.ensures.ok goes (routes-so hash s.deal)))
+
+pub returns-in-End-clause-held : goal.returns-in-End-clause-held
+returns-in-End-clause-held g c =
+    let e = c.in_ok-finish_lanes-in-End.ensures in
+    rw c.in-End.is (finishes-held c.args.self.now.lanes.items c.finish_lanes.new.lanes.items e.same e.ok e.none)

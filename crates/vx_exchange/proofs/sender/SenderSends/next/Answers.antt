@@ -10,6 +10,9 @@ use Rattle.vx_exchange.specs.Sender.{takes_more, SenderAt}
 use Rattle.vx_ends.specs.Tasks.{sends_by_ship}
 use Rattle.vx_exchange.specs.declared.sender.SenderState.{SenderState}
 use Rattle.vx_exchange.proofs.LaneLists.{ways-count, same-count, same-any, same-ship, numbered-same, served-same, few-same, turn-same, columns-same, all-idle, given-same, given-idle, gives-same, gives-idle, gives-unclosed, closed-ways, closed-idle, closes-somewhere}
+use Rattle.vx_ends.specs.Queued.{IsTakenOut}
+use Rattle.vx_exchange.specs.Queued.{lanes_held, lanes_unclosed}
+use Rattle.vx_exchange.proofs.Held.{gives-taken, closes-taken}
 use Rattle.vx_exchange.proofs.Senders.{closes-with, open-not_failing, ending-not_failing, gives-now, closes-now, sender-shipped, sender-cut}
 use Rattle.vx_exchange.proofs.sender.SenderSends.next.Goals as goal
 
@@ -204,3 +207,26 @@ returns-in-Ending-clause-post c =
     let mid = c.next_packet-in-Ending.new.lanes.items in
     let e = c.close_next.ensures in
     ap sends_by_ship (ap (ship_of s.deal) (closed-ways last mid c.close_next.new.lanes.items c.close_next.result e.some e.same ∙ ap ways_of c.in_default.ensures.same))
+
+pub returns-in-Open-clause-takes : goal.returns-in-Open-clause-takes
+returns-in-Open-clause-takes c =
+    let s = c.args.self.now in
+    IfSome_then c.next_packet.result c.next_packet.ensures.some (λ x p. gives-taken s.lanes.items c.next_packet.new.lanes.items x.0 x.1 p)
+
+pub returns-in-Some-clause-takes : goal.returns-in-Some-clause-takes
+returns-in-Some-clause-takes c =
+    let s = c.args.self.now in
+    gives-taken s.lanes.items c.next_packet-in-Ending.new.lanes.items c.in-Some.to c.in-Some.packet c.in-Some.ensures.some
+
+pub returns-in-Ending-clause-takes : goal.returns-in-Ending-clause-takes
+returns-in-Ending-clause-takes c =
+    let mid = c.next_packet-in-Ending.new.lanes.items in
+    let new = c.close_next.new.lanes.items in
+    IfSome_then c.close_next.result c.close_next.ensures.some (λ x p.
+    let T : List LaneView → Type 0 = λ zs. IsTakenOut x.0 x.1 (lanes_held zs) (lanes_held new) (lanes_unclosed zs) (lanes_unclosed new) in
+    subst T c.in_default.ensures.same (closes-taken last mid new x.0 x.1 refl refl p))
+
+pub returns-in-Failing-clause-takes : goal.returns-in-Failing-clause-takes
+returns-in-Failing-clause-takes c =
+    let s = c.args.self.now in
+    IfSome_then c.close_next-in-Failing.result c.close_next-in-Failing.ensures.some (λ x p. closes-taken fault s.lanes.items c.close_next-in-Failing.new.lanes.items x.0 x.1 refl refl p)

@@ -52,9 +52,9 @@ returns-in-Waiting-clause-stands g c =
       x.0,
       x.1,
       λ goes r t h. turns g.O.Source.Stands g.O.Source.op g.S.Sends.Stands g.S.Sends.task goes (g.G.Morsels.morsel_of c.args.morsels.now) g.O.Source.want w (record w { tree = c.turn.new.self; intake = c.fetch.new.self }) t x.0 c.wants-wish.result c.in-Ok.got polled.Waiting
-          c.requires.running c.requires.empty c.wants-wish.ensures x.2 h.0 c.in-Waiting.ensures.numbered c.in-Waiting.ensures.stands c.requires.empty (λ s put k. k)
+          c.requires.running c.requires.empty c.wants-wish.ensures.want x.2 h.0 c.in-Waiting.ensures.numbered c.in-Waiting.ensures.stands c.requires.empty (λ s put k. k)
           (λ s o. let off : false ≡ true = sym c.requires.goes_on ∙ o in cc) (running g.O.Source.Stands g.O.Source.op g.S.Sends.Stands g.S.Sends.task goes (g.G.Morsels.morsel_of c.args.morsels.now) w t c.requires.running h),
-      waits g.O.Source.Stands g.O.Source.want (g.W.Wires.IsFull c.args.wires.now) (g.W.Wires.LacksMemory c.args.wires.now) (g.G.Morsels.morsel_of c.args.morsels.now) w (record w { tree = c.turn.new.self; intake = c.fetch.new.self }) c.fetch.new.self c.wants-wish.result c.in-Ok.got x.0 c.requires.running c.wants-wish.ensures (search rules) x.2.answers,
+      waits g.O.Source.Stands g.O.Source.want (g.W.Wires.IsFull c.args.wires.now) (g.W.Wires.LacksMemory c.args.wires.now) (g.G.Morsels.morsel_of c.args.morsels.now) w (record w { tree = c.turn.new.self; intake = c.fetch.new.self }) c.fetch.new.self c.wants-wish.result c.in-Ok.got x.0 c.requires.running c.wants-wish.ensures.want (search rules) x.2.answers,
       read-counted c.args.self.now.intake c.args.self.now.counts x.0 x.2.is_read,
     )
 
@@ -72,9 +72,9 @@ returns-in-Waiting-2-clause-stands g c =
       x.0,
       x.1,
       λ goes r t h. turns g.O.Source.Stands g.O.Source.op g.S.Sends.Stands g.S.Sends.task goes (g.G.Morsels.morsel_of c.args.morsels.now) g.O.Source.want w (record w { tree = c.turn.new.self; intake = c.fetch.new.self }) t x.0 c.wants-wish.result c.in-Ok.got polled.Waiting
-          c.requires.running c.requires.empty c.wants-wish.ensures x.2 h.0 c.in-Waiting-2.ensures.numbered c.in-Waiting-2.ensures.stands c.requires.empty (λ s put k. k)
+          c.requires.running c.requires.empty c.wants-wish.ensures.want x.2 h.0 c.in-Waiting-2.ensures.numbered c.in-Waiting-2.ensures.stands c.requires.empty (λ s put k. k)
           (λ s o. let off : false ≡ true = sym c.requires.goes_on ∙ o in cc) (running g.O.Source.Stands g.O.Source.op g.S.Sends.Stands g.S.Sends.task goes (g.G.Morsels.morsel_of c.args.morsels.now) w t c.requires.running h),
-      moves g.O.Source.Stands g.O.Source.want (g.W.Wires.IsFull c.args.wires.now) (g.W.Wires.LacksMemory c.args.wires.now) (g.G.Morsels.morsel_of c.args.morsels.now) w (record w { tree = c.turn.new.self; intake = c.fetch.new.self }) c.fetch.new.self c.wants-wish.result c.in-Ok.got x.0 c.requires.running c.requires.empty c.requires.goes_on c.wants-wish.ensures (search rules) x.2.answers,
+      moves g.O.Source.Stands g.O.Source.want (g.W.Wires.IsFull c.args.wires.now) (g.W.Wires.LacksMemory c.args.wires.now) (g.G.Morsels.morsel_of c.args.morsels.now) w (record w { tree = c.turn.new.self; intake = c.fetch.new.self }) c.fetch.new.self c.wants-wish.result c.in-Ok.got x.0 c.requires.running c.requires.empty c.requires.goes_on c.wants-wish.ensures.want (search rules) x.2.answers,
       read-counted c.args.self.now.intake c.args.self.now.counts x.0 x.2.is_read,
     )
 
@@ -98,7 +98,7 @@ returns-in-Fault-clause-stands g c =
       λ goes r t h. gives-fault g.O.Source.Stands g.O.Source.op g.S.Sends.Stands g.S.Sends.task goes (g.G.Morsels.morsel_of c.args.morsels.now) g.met.O.Source.abides g.O.Source.want w v c.fetch.new.self c.turn.new.self c.in-Fault.fault (g.S.Sends.post w.sender) t x.0
           c.wants-wish.result c.in-Ok.got c.fail-in-Fault.ensures.phase c.fail-in-Fault.ensures.pending (c.fail-in-Fault.ensures.closing ∙ going.closing)
           (subst (λ s. IsAt (g.S.Sends.post w.sender) (g.S.Sends.task s)) (sym c.fail-in-Fault.ensures.sender) (g.met.S.Sends.at_post w.sender))
-          c.fail-in-Fault.ensures.tree c.fail-in-Fault.ensures.intake c.wants-wish.ensures x.2 h.0 c.in-Fault.ensures.stands c.requires.empty
+          c.fail-in-Fault.ensures.tree c.fail-in-Fault.ensures.intake c.wants-wish.ensures.want x.2 h.0 c.in-Fault.ensures.stands c.requires.empty
           (λ a put s. subst (λ z. BeganSending goes (g.S.Sends.task z) a.rows put) (sym c.fail-in-Fault.ensures.sender) (g.met.S.Sends.begun w.sender goes a put s unclosed))
           (running g.O.Source.Stands g.O.Source.op g.S.Sends.Stands g.S.Sends.task goes (g.G.Morsels.morsel_of c.args.morsels.now) w t c.requires.running h),
       rw c.fail-in-Fault.ensures.moved (by_fault c.in-Fault.fault c.requires.running c.fail-in-Fault.ensures.phase),
@@ -119,7 +119,7 @@ returns-in-Ok-accept-clause-stands g c =
       x.0,
       x.1,
       λ goes r t h. turns g.O.Source.Stands g.O.Source.op g.S.Sends.Stands g.S.Sends.task goes (g.G.Morsels.morsel_of c.args.morsels.now) g.O.Source.want w (record w { tree = c.turn.new.self; intake = c.fetch.new.self; sender = c.accept.new.self; is_over = w.is_over }) t x.0 c.wants-wish.result c.in-Ok.got (polled.Gave c.in-Gave.rows)
-          c.requires.running c.requires.empty c.wants-wish.ensures x.2 h.0 c.in-Gave.ensures.numbered c.in-Gave.ensures.stands c.requires.empty (c.in-Ok-accept.ensures.ok goes r)
+          c.requires.running c.requires.empty c.wants-wish.ensures.want x.2 h.0 c.in-Gave.ensures.numbered c.in-Gave.ensures.stands c.requires.empty (c.in-Ok-accept.ensures.ok goes r)
           (λ s o. let off : false ≡ true = sym c.requires.goes_on ∙ o in cc) (running g.O.Source.Stands g.O.Source.op g.S.Sends.Stands g.S.Sends.task goes (g.G.Morsels.morsel_of c.args.morsels.now) w t c.requires.running h),
       by_rows c.in-Ok.got (polled.Gave c.in-Gave.rows) (λ e. cc) c.in-Gave.ensures.stands,
       read-counted c.args.self.now.intake c.args.self.now.counts x.0 x.2.is_read,
@@ -139,7 +139,7 @@ returns-in-Ok-accept-2-clause-stands g c =
       x.0,
       x.1,
       λ goes r t h. turns g.O.Source.Stands g.O.Source.op g.S.Sends.Stands g.S.Sends.task goes (g.G.Morsels.morsel_of c.args.morsels.now) g.O.Source.want w (record w { tree = c.turn.new.self; intake = c.fetch.new.self; sender = c.accept-in-End.new.self; is_over = true }) t x.0 c.wants-wish.result c.in-Ok.got polled.End
-          c.requires.running c.requires.empty c.wants-wish.ensures x.2 h.0 c.in-End.ensures.numbered c.in-End.ensures.stands c.requires.empty (c.in-Ok-accept-2.ensures.ok goes r)
+          c.requires.running c.requires.empty c.wants-wish.ensures.want x.2 h.0 c.in-End.ensures.numbered c.in-End.ensures.stands c.requires.empty (c.in-Ok-accept-2.ensures.ok goes r)
           (λ s o. refl) (running g.O.Source.Stands g.O.Source.op g.S.Sends.Stands g.S.Sends.task goes (g.G.Morsels.morsel_of c.args.morsels.now) w t c.requires.running h),
       by_rows c.in-Ok.got polled.End (λ e. cc) c.in-End.ensures.stands,
       read-counted c.args.self.now.intake c.args.self.now.counts x.0 x.2.is_read,
@@ -171,7 +171,7 @@ returns-in-Err-accept-clause-stands g c =
           (subst (λ k. IntakeStands k (Rattle.vx_worker.specs.Trace.added t x.0)) (sym c.fail-in-Err-accept.ensures.intake) (x.2.stands t h.0)) x.2.is_read c.requires.empty
           (λ a put s. subst (λ z. BeganSending goes (g.S.Sends.task z) a.rows put) (sym c.fail-in-Err-accept.ensures.sender)
           (g.met.S.Sends.begun s' goes (record { rows = a.rows; over = stream_state.Failed c.no_memory-in-Err-accept.result }) put (c.in-Err-accept.ensures.err goes a put s c.no_memory-in-Err-accept.result) unclosed))
-          (λ r'. turned g.O.Source.Stands g.O.Source.op g.S.Sends.Stands g.S.Sends.task goes (g.G.Morsels.morsel_of c.args.morsels.now) g.O.Source.want w c.fetch.new.self v.tree c.turn.new.self t x.0 c.wants-wish.result c.in-Ok.got (polled.Gave c.in-Gave.rows) c.fail-in-Err-accept.ensures.tree c.wants-wish.ensures x.2 h.0 c.in-Gave.ensures.stands r')
+          (λ r'. turned g.O.Source.Stands g.O.Source.op g.S.Sends.Stands g.S.Sends.task goes (g.G.Morsels.morsel_of c.args.morsels.now) g.O.Source.want w c.fetch.new.self v.tree c.turn.new.self t x.0 c.wants-wish.result c.in-Ok.got (polled.Gave c.in-Gave.rows) c.fail-in-Err-accept.ensures.tree c.wants-wish.ensures.want x.2 h.0 c.in-Gave.ensures.stands r')
           (running g.O.Source.Stands g.O.Source.op g.S.Sends.Stands g.S.Sends.task goes (g.G.Morsels.morsel_of c.args.morsels.now) w t c.requires.running h),
       rw c.fail-in-Err-accept.ensures.moved (by_fault c.no_memory-in-Err-accept.result c.requires.running c.fail-in-Err-accept.ensures.phase),
       c.fail-in-Err-accept.ensures.counts ∙ read-counted c.args.self.now.intake c.args.self.now.counts x.0 x.2.is_read,
@@ -203,7 +203,7 @@ returns-in-Err-accept-2-clause-stands g c =
           (subst (λ k. IntakeStands k (Rattle.vx_worker.specs.Trace.added t x.0)) (sym c.fail-in-Err-accept-2.ensures.intake) (x.2.stands t h.0)) x.2.is_read c.requires.empty
           (λ a put s. subst (λ z. BeganSending goes (g.S.Sends.task z) a.rows put) (sym c.fail-in-Err-accept-2.ensures.sender)
           (g.met.S.Sends.begun s' goes (record { rows = a.rows; over = stream_state.Failed c.no_memory-in-Err-accept-2.result }) put (c.in-Err-accept-2.ensures.err goes a put s c.no_memory-in-Err-accept-2.result) unclosed))
-          (λ r'. turned g.O.Source.Stands g.O.Source.op g.S.Sends.Stands g.S.Sends.task goes (g.G.Morsels.morsel_of c.args.morsels.now) g.O.Source.want w c.fetch.new.self v.tree c.turn.new.self t x.0 c.wants-wish.result c.in-Ok.got polled.End c.fail-in-Err-accept-2.ensures.tree c.wants-wish.ensures x.2 h.0 c.in-End.ensures.stands r')
+          (λ r'. turned g.O.Source.Stands g.O.Source.op g.S.Sends.Stands g.S.Sends.task goes (g.G.Morsels.morsel_of c.args.morsels.now) g.O.Source.want w c.fetch.new.self v.tree c.turn.new.self t x.0 c.wants-wish.result c.in-Ok.got polled.End c.fail-in-Err-accept-2.ensures.tree c.wants-wish.ensures.want x.2 h.0 c.in-End.ensures.stands r')
           (running g.O.Source.Stands g.O.Source.op g.S.Sends.Stands g.S.Sends.task goes (g.G.Morsels.morsel_of c.args.morsels.now) w t c.requires.running h),
       rw c.fail-in-Err-accept-2.ensures.moved (by_fault c.no_memory-in-Err-accept-2.result c.requires.running c.fail-in-Err-accept-2.ensures.phase),
       c.fail-in-Err-accept-2.ensures.counts ∙ read-counted c.args.self.now.intake c.args.self.now.counts x.0 x.2.is_read,
