@@ -1,8 +1,9 @@
 -- Trees of sources: the fragment that one stands for, when it may have read and given what is said, and what it has still to do.
-use Rattle.std.specs.Prelude.{ℕ, ◌≡◌, ◌≤◌, ◌+◌}
+use Rattle.std.specs.Prelude.{ℕ, ◌≡◌, ◌≤◌, ◌<◌, ◌+◌, ◌⊎◌}
 use Rattle.vx_ops.specs.Ledger.{Stream, Ledger, Op, scan_op, one_op, two_op, receive}
 use Rattle.vx_ops.specs.Turn.{Coming}
-use Rattle.vx_worker.specs.Fragment.{Frag, alone, above, both, Reads, LeafReads}
+use Rattle.vx_plan_nodes.specs.Plan.{Plan, scan, unary, binary, exchange}
+use Rattle.vx_worker.specs.Fragment.{RunModel, Frag, alone, above, both, fragment, Reads, LeafReads}
 use Rattle.vx_worker.specs.declared.tree.Tree.{Tree, Leaf, One', Two'}
 
 -- the operators of a tree, each seen by f
@@ -41,6 +42,26 @@ abbrev pub IsFormed : Frag → Type 0
 IsFormed (alone k x) = IsLeaf x
 IsFormed (above x f) = ReadsOne x × IsFormed f
 IsFormed (both x f h) = ReadsTwo x × IsFormed f × IsFormed h
+
+-- that of a plan does
+pub fragment-formed : (S : RunModel) (place : ℕ) (p : Plan) → IsFormed (fragment S place p)
+fragment-formed S place (scan n c r m z) = tt
+fragment-formed S place (unary n c op p) = (tt, fragment-formed S place p)
+fragment-formed S place (binary n c op p q) = (tt, fragment-formed S place p, fragment-formed S place q)
+fragment-formed S place (exchange n c k merge p) = tt
+
+-- there is a producer at this place
+abbrev pub HasPlace : ℕ → Op → Type 0
+HasPlace i scan_op = ⊥
+HasPlace i (one_op n op) = ⊥
+HasPlace i (two_op n op) = ⊥
+HasPlace i (receive port) = i < port.producers
+
+-- a leaf is the consumer end with this number, and there is a producer of it at this place
+abbrev pub TakesFrom : (number from : ℕ) → Frag → Type 0
+TakesFrom k i (alone n x) = (n ≡ k) × HasPlace i x
+TakesFrom k i (above x f) = TakesFrom k i f
+TakesFrom k i (both x f h) = TakesFrom k i f ⊎ TakesFrom k i h
 
 -- how many rows may still come at most to the leaf with a number: of morsels, and of each producer
 pub record LeavesComing : Type 0 where
