@@ -1,6 +1,7 @@
 pub mod Ledger
 pub mod Begun
 pub mod Turn
+pub mod Starts
 pub mod Growing
 pub mod Meaning
 pub mod Strangers
