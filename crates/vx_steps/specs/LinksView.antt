@@ -1,7 +1,7 @@
 -- What all workers of a run share, as plain data: queues of packets, decks and hands.
-use Rattle.std.specs.Prelude.{ℕ, ◌≡◌, ◌+◌, ◌<◌, length, List, [], ◌∷◌, ◌++◌, Option, Some, None, slice_get, refl, true}
+use Rattle.std.specs.Prelude.{ℕ, ◌≡◌, ◌+◌, ◌<◌, length, List, [], ◌∷◌, ◌++◌, Option, Some, None, slice_get, refl, Bool, true}
 use Rattle.std.specs.List.{slice_index_or}
-use Rattle.vx_ports.specs.Packets.{PacketView}
+use Rattle.vx_ports.specs.Packets.{PacketView, closes}
 use Rattle.vx_ports.specs.LinkView.{LinkView}
 use Rattle.vx_worker.specs.Trace.{Event, idle, drew_one, took_one, put_one}
 use Rattle.vx_steps.specs.Queues.{line_in, queue_in}
@@ -23,9 +23,13 @@ queue_at w a j = queue_in (slice_index_or w.queues a []) j
 abbrev pub station_at : LinksView → ℕ → Station
 station_at w k = slice_index_or w.stations k Inner
 
+-- whether the queue from a worker to the consumer at place j was closed; one that there is not counts as closed
+abbrev pub closed_at : LinksView → (worker j : ℕ) → Bool
+closed_at w a j = (line_in (slice_index_or w.queues a []) j).closed
+
 -- the worker whose turn it is has no queue to consumer j, or that queue was closed
 abbrev pub PortIsClosed : LinksView → (j : ℕ) → Type 0
-PortIsClosed w j = (line_in (slice_index_or w.queues w.turn []) j).closed ≡ true
+PortIsClosed w j = closed_at w w.turn j ≡ true
 
 -- the tables that no event changes
 pub record SameTables (w v : LinksView) : Type 0 where
@@ -35,6 +39,9 @@ pub record SameTables (w v : LinksView) : Type 0 where
 abbrev pub SameQueues : LinksView → LinksView → Type 0
 SameQueues w v = (a j : ℕ) → queue_at v a j ≡ queue_at w a j
 
+abbrev pub SameClosed : LinksView → LinksView → Type 0
+SameClosed w v = (a j : ℕ) → closed_at v a j ≡ closed_at w a j
+
 abbrev pub SameStations : LinksView → LinksView → Type 0
 SameStations w v = (k : ℕ) → station_at v k ≡ station_at w k
 
@@ -42,6 +49,7 @@ SameStations w v = (k : ℕ) → station_at v k ≡ station_at w k
 pub record Stays (w v : LinksView) : Type 0 where
   pub tables : SameTables w v
   pub queues : SameQueues w v
+  pub closed : SameClosed w v
   pub stations : SameStations w v
 
 -- the worker whose turn it is put a packet for consumer j
@@ -50,6 +58,8 @@ pub record Puts (w : LinksView) (j : ℕ) (p : PacketView) (v : LinksView) : Typ
   pub stations : SameStations w v
   pub here : queue_at v w.turn j ≡ queue_at w w.turn j ++ p ∷ []
   pub others : (a k : ℕ) → ((a ≡ w.turn) × (k ≡ j) → ⊥) → queue_at v a k ≡ queue_at w a k
+  pub closes_here : closed_at v w.turn j ≡ closes p.content
+  pub closed_others : (a k : ℕ) → ((a ≡ w.turn) × (k ≡ j) → ⊥) → closed_at v a k ≡ closed_at w a k
 
 -- the worker whose turn it is, consumer j of exchange x, has its queue from producer i at worker a
 pub record IsWay (w : LinksView) (x i a j : ℕ) : Type 0 where
@@ -80,11 +90,13 @@ pub record Takes (w : LinksView) (x i : ℕ) (p : PacketView) (v : LinksView) : 
   pub way : IsWay w x i a j
   pub here : queue_at w a j ≡ p ∷ queue_at v a j
   pub others : (b k : ℕ) → ((b ≡ a) × (k ≡ j) → ⊥) → queue_at v b k ≡ queue_at w b k
+  pub closed : SameClosed w v
 
 -- it drew at node k
 pub record DrawsAt (w : LinksView) (k : ℕ) (n : Option ℕ) (v : LinksView) : Type 0 where
   pub tables : SameTables w v
   pub queues : SameQueues w v
+  pub closed : SameClosed w v
   pub here : StationDraws (station_at w k) w.turn n (station_at v k)
   pub others : (l : ℕ) → (l ≡ k → ⊥) → station_at v l ≡ station_at w l
 
@@ -97,4 +109,4 @@ Does w (took_one x i (Some p)) v = Takes w x i p v
 Does w (put_one j p) v = Puts w j p v
 
 pub stays : (w : LinksView) → Does w idle w
-stays w = record { tables = record { sends = refl; turn = refl }; queues = λ a j. refl; stations = λ k. refl }
+stays w = record { tables = record { sends = refl; turn = refl }; queues = λ a j. refl; closed = λ a j. refl; stations = λ k. refl }

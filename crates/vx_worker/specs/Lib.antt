@@ -7,4 +7,5 @@ pub mod Trees
 pub mod Wiring
 pub mod Wishes
 pub mod Worker
+pub mod Remaining
 pub mod Answering
