@@ -1,2 +1,3 @@
 pub mod Layout
 pub mod Order
+pub mod Needed
