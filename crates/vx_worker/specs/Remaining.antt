@@ -32,10 +32,10 @@ frag_idle (above x f) c = op_idle x (tree_coming (frag_most f c) 0) + (frag_most
 frag_idle (both x f h) c = op_idle x (tree_coming (frag_most f c) (frag_most h c)) + (frag_most f c + frag_idle f c) + (frag_most h c + frag_idle h c)
 
 -- each operator of a tree starts within what its kind has to do at most
-abbrev pub TreeStarts : {O : Type 0} → (O → Op) → (most idle : O → Coming → ℕ) → Tree O → Type 0
-TreeStarts op most idle (Leaf k o) = StartsWithin (op o) (most o) (idle o)
-TreeStarts op most idle (One' o p c) = StartsWithin (op o) (most o) (idle o) × TreeStarts op most idle c
-TreeStarts op most idle (Two' o p a q b) = StartsWithin (op o) (most o) (idle o) × TreeStarts op most idle a × TreeStarts op most idle b
+abbrev pub TreeStarts : {O : Type 0} → (O → Op) → (most idle_turns : O → Coming → ℕ) → Tree O → Type 0
+TreeStarts op most idle_turns (Leaf k o) = StartsWithin (op o) (most o) (idle_turns o)
+TreeStarts op most idle_turns (One' o p c) = StartsWithin (op o) (most o) (idle_turns o) × TreeStarts op most idle_turns c
+TreeStarts op most idle_turns (Two' o p a q b) = StartsWithin (op o) (most o) (idle_turns o) × TreeStarts op most idle_turns a × TreeStarts op most idle_turns b
 
 -- a leaf is the scan with this number
 abbrev pub ScansAt : (number : ℕ) → Frag → Type 0
