@@ -17,9 +17,11 @@ use Rattle.vx_ops.specs.declared.fault.Fault.{Fault}
 use Rattle.vx_ops.specs.declared.turn.Want.{Want}
 use Rattle.vx_ends.specs.Tasks.{Task, Post, IsAt}
 use Rattle.vx_ends.specs.Queued.{consumers_of}
+use Rattle.vx_ends.specs.Streams.{AreStreams}
+use Rattle.vx_ends.proofs.PortStreams.{stopped-streams, finished-closed, stopped-closed}
 use Rattle.vx_worker.specs.Fragment.{RunModel, goes}
 use Rattle.vx_worker.specs.Trace.{Trace, Event, idle, took_one, added, empty_trace, HonestBy}
-use Rattle.vx_worker.specs.Answering.{Answered, Waits, none_came, none_drains, is_full, no_memory}
+use Rattle.vx_worker.specs.Answering.{IsSending, Answered, Waits, none_came, none_drains, is_full, no_memory}
 use Rattle.vx_worker.specs.Trees.{shape, IsFormed, TakesFrom}
 use Rattle.vx_worker.specs.Remaining.{EventFits}
 use Rattle.vx_worker.specs.Worker.{Role, role_of, tree_of, sender_of, inputs_of, with_pending, with_all, outcome_of, fate_of, StandsIn, WorkerStands}
@@ -39,8 +41,6 @@ use Rattle.vx_steps.specs.Ready.{Ready, IsRested}
 use Rattle.vx_steps.specs.Roles.{no_role, role_at, IsRoot, RolesBelow, Wired}
 use Rattle.vx_steps.specs.Runs.{RoutesAll, roles_of, Stand}
 use Rattle.vx_steps.specs.Verdicts.{EndsAt}
-use Rattle.vx_steps.proofs.Streams.{AreStreams}
-use Rattle.vx_steps.proofs.PortStreams.{stopped-streams, finished-closed, stopped-closed}
 use Rattle.vx_steps.proofs.Beginning.{idle-agrees, empty-at, fresh-zip}
 use Rattle.vx_steps.proofs.Build.{crew-count, crew-root, crew-below, crew-wired, crew-idle}
 use Rattle.vx_steps.proofs.Events.{with-here, with-other}
@@ -107,14 +107,6 @@ none-some o e = cc
 
 none-is : IsSome {T = WorkerOutcome} None → ⊥
 none-is e = cc
-
--- it runs, or closes its ports
-abbrev IsSending : WorkerState → Type 0
-IsSending Running = Unit {0}
-IsSending (Failing f) = Unit {0}
-IsSending (Draining f) = ⊥
-IsSending Well = ⊥
-IsSending (Failed f) = ⊥
 
 module _ {O S : Type 0} (OS : O → Ledger → Type 0) (want : O → Want) (op : O → Op) (most idle_turns : O → Coming → ℕ) (SS : S → Routing → Stream → (ℕ → List PacketView) → Type 0) (task : S → Task) (post : S → Post)
     (bounds : S → List Val) (held : S → ℕ → ℕ) (unclosed : S → ℕ)
@@ -273,7 +265,7 @@ module _ {O S : Type 0} (OS : O → Ledger → Type 0) (want : O → Want) (op :
       waits-never : (phase : WorkerState) (tree : Tree O) (intake : Intake) → Waits want (PortIsClosed serving) ⊥ phase tree intake step.after step.event → ⊥
       waits-never phase tree intake (none_came x k q r e) = none-there x k e
       waits-never phase tree intake (none_drains f x k q r e) = none-there x k e
-      waits-never phase tree intake (is_full to packet pending refuses e) = full-there to packet ? pending refuses e
+      waits-never phase tree intake (is_full to packet sending pending refuses e) = full-there to packet sending pending refuses e
       waits-never phase tree intake (no_memory f q lacks e) = absurd lacks
 
       pub goes-on : step.answer ≡ step_outcome.Waiting → ⊥
