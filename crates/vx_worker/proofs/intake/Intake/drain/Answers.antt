@@ -1,4 +1,4 @@
-use Rattle.std.proofs.Common.{Some}
+use Rattle.std.proofs.Common.{Some, rules}
 use Rattle.vx_worker.specs.Trace.{took_one}
 use Rattle.vx_worker.proofs.Marks.{drained}
 use Rattle.vx_worker.proofs.intake.Intake.drain.Goals as goal
@@ -11,5 +11,13 @@ returns-in-Ok-Some-clause-drains g c = (
   took_one c.index.result.now.exchange c.index.result.now.from (Some c.in-Ok-Some.packet),
   rw c.in-Ok-Some.field-0-is at c.in-Ok-Some.ensures.ok,
   record { is_take = tt; stands = c.note.ensures.stands; sources = c.note.ensures.sources },
-  tt,
+  (
+    record {
+      place = c.in-Some.place;
+      within = rw c.as_slice.ensures.value at c.in-Some.ensures.within;
+      source = (let a = c.index.ensures in let b = c.in-Some.ensures.within in let v = c.as_slice.ensures.value in ?);
+      is_open = rw c.as_slice.ensures.value at c.in-Some.ensures.some;
+    },
+    c.note.ensures.brings,
+  ),
 )
