@@ -8,3 +8,4 @@ pub mod WorkerSteps
 pub mod Answering
 pub mod Counting
 pub mod TreeCosts
+pub mod Spending

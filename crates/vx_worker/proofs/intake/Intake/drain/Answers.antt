@@ -1,4 +1,6 @@
-use Rattle.std.proofs.Common.{Some, rules}
+use Rattle.std.proofs.Common.{ap, sym, ◌∙◌, Some}
+use Rattle.std.proofs.lemmas.List.{get_or_default}
+use Rattle.vx_worker.specs.Intake.{source_of}
 use Rattle.vx_worker.specs.Trace.{took_one}
 use Rattle.vx_worker.proofs.Marks.{drained}
 use Rattle.vx_worker.proofs.intake.Intake.drain.Goals as goal
@@ -15,7 +17,7 @@ returns-in-Ok-Some-clause-drains g c = (
     record {
       place = c.in-Some.place;
       within = rw c.as_slice.ensures.value at c.in-Some.ensures.within;
-      source = (let a = c.index.ensures in let b = c.in-Some.ensures.within in let v = c.as_slice.ensures.value in ?);
+      source = λ d. ap source_of (get_or_default c.args.self.now.inputs.items c.in-Some.place d c.index.result.now (rw c.as_slice.ensures.value at c.in-Some.ensures.within) ∙ sym c.index.ensures);
       is_open = rw c.as_slice.ensures.value at c.in-Some.ensures.some;
     },
     c.note.ensures.brings,
