@@ -198,3 +198,241 @@ module _ {O S : Type 0} (most idle_turns : O → Coming → ℕ) (post : S → P
             let l = left-at v Running c runs in
             omega (arith, a, b, d, k, l);
       }
+
+  -- a packet that closes a port was put
+  pub closing-spent : (m : ℕ → ℕ → List Row) (f : Frag) (inputs : List (ℕ × ℕ)) (w v : Worker O S) (x : Fault) (to : ℕ) (p : PacketView) (t : Trace)
+      → w.phase ≡ Failing x → v.phase ≡ Failing x → v.pending ≡ None → length w.closing.items + pending_count w.pending ≡ length v.closing.items + 1 → closes p.content ≡ true
+      → IsSpent m f inputs w v t (put_one to p) step_outcome.Moved
+  closing-spent m f inputs w v x to p t was is empty fewer closing = record {
+    event = tt;
+    steps = λ c.
+        let a = steps-at w (Failing x) c was in
+        let b = steps-at v (Failing x) c is in
+        let d : pending_count v.pending ≡ 0 = ap pending_count empty in
+        let k = went-at w (Failing x) step_outcome.Moved was in
+        omega (arith, a, b, d, fewer, k);
+    rows = λ c j.
+        let a = has-at v (Failing x) j is in
+        let b = left-at v (Failing x) c is in
+        let d = closing-puts to p closing j in
+        omega (arith, a, b, d);
+  }
+
+  -- or came back
+  pub closing-back : (m : ℕ → ℕ → List Row) (f : Frag) (inputs : List (ℕ × ℕ)) (w v : Worker O S) (x : Fault) (y : ℕ × PacketView) (t : Trace)
+      → w.phase ≡ Failing x → v.phase ≡ Failing x → v.pending ≡ Some y → length w.closing.items + pending_count w.pending ≡ length v.closing.items + 1
+      → IsSpent m f inputs w v t idle step_outcome.Waiting
+  closing-back m f inputs w v x y t was is here fewer = record {
+    event = tt;
+    steps = λ c.
+        let a = steps-at w (Failing x) c was in
+        let b = steps-at v (Failing x) c is in
+        let d : pending_count v.pending ≡ 1 = ap pending_count here in
+        let k = went-at w (Failing x) step_outcome.Waiting was in
+        omega (arith, a, b, d, fewer, k);
+    rows = λ c j.
+        let a = has-at v (Failing x) j is in
+        let b = left-at v (Failing x) c is in
+        omega (arith, a, b);
+  }
+
+  -- its ports are closed
+  pub closed-spent : (m : ℕ → ℕ → List Row) (f : Frag) (inputs : List (ℕ × ℕ)) (w v : Worker O S) (x : Fault) (t : Trace) → w.phase ≡ Failing x → v.phase ≡ Draining x
+      → IsSpent m f inputs w v t idle step_outcome.Moved
+  closed-spent m f inputs w v x t was is = record {
+    event = tt;
+    steps = λ c.
+        let a = steps-at w (Failing x) c was in
+        let b = steps-at v (Draining x) c is in
+        let k = went-at w (Failing x) step_outcome.Moved was in
+        omega (arith, a, b, k);
+    rows = λ c j.
+        let a = has-at v (Draining x) j is in
+        let b = left-at v (Draining x) c is in
+        omega (arith, a, b);
+  }
+
+  -- it takes and drops
+  pub drops-spent : (m : ℕ → ℕ → List Row) (f : Frag) (inputs : List (ℕ × ℕ)) (w v : Worker O S) (x : Fault) (t : Trace) (e : Event) (r : StepOutcome) → w.phase ≡ Draining x → v.phase ≡ Draining x
+      → EventFits f inputs t e → progress None r ≤ arrivals e → ((j : ℕ) → rows_put e j ≡ 0) → IsSpent m f inputs w v t e r
+  drops-spent m f inputs w v x t e r was is fits gain puts = record {
+    event = fits;
+    steps = λ c.
+        let a = steps-at w (Draining x) (before_event m e c) was in
+        let b = steps-at v (Draining x) c is in
+        let k = went-at w (Draining x) r was in
+        omega (arith, a, b, k, gain);
+    rows = λ c j.
+        let a = has-at v (Draining x) j is in
+        let b = left-at v (Draining x) c is in
+        let d = puts j in
+        omega (arith, a, b, d);
+  }
+
+  -- until each producer has closed
+  pub drained-spent : (m : ℕ → ℕ → List Row) (f : Frag) (inputs : List (ℕ × ℕ)) (w v : Worker O S) (x : Fault) (t : Trace) (e : Event) → w.phase ≡ Draining x → v.phase ≡ Failed x
+      → EventFits f inputs t e → ((j : ℕ) → rows_put e j ≡ 0) → IsSpent m f inputs w v t e step_outcome.Ended
+  drained-spent m f inputs w v x t e was is fits puts = record {
+    event = fits;
+    steps = λ c.
+        let a = steps-at w (Draining x) (before_event m e c) was in
+        let b = steps-at v (Failed x) c is in
+        let k = went-at w (Draining x) step_outcome.Ended was in
+        omega (arith, a, b, k);
+    rows = λ c j.
+        let a = has-at v (Failed x) j is in
+        let b = left-at v (Failed x) c is in
+        let d = puts j in
+        omega (arith, a, b, d);
+  }
+
+  -- all is put
+  pub well-spent : (m : ℕ → ℕ → List Row) (f : Frag) (inputs : List (ℕ × ℕ)) (w v : Worker O S) (t : Trace) → w.phase ≡ Running → v.phase ≡ Well
+      → IsSpent m f inputs w v t idle step_outcome.Ended
+  well-spent m f inputs w v t was is = record {
+    event = tt;
+    steps = λ c.
+        let a = enough w c was in
+        let b = steps-at v Well c is in
+        let k = went-at w Running step_outcome.Ended was in
+        omega (arith, a, b, k);
+    rows = λ c j.
+        let a = has-at v Well j is in
+        let b = left-at v Well c is in
+        omega (arith, a, b);
+  }
+
+  -- a worker that has ended
+  pub still-spent : (m : ℕ → ℕ → List Row) (f : Frag) (inputs : List (ℕ × ℕ)) (w : Worker O S) (o : WorkerOutcome) (t : Trace) → outcome_of w ≡ Some o
+      → IsSpent m f inputs w w t idle step_outcome.Ended
+  still-spent m f inputs w o t over = record {
+    event = tt;
+    steps = λ c. let k : progress (outcome_of w) step_outcome.Ended ≡ 0 = ap (λ z. progress z step_outcome.Ended) over in omega (arith, k);
+    rows = λ c j. omega arith;
+  }
+
+  -- the sending end was asked first
+  asked-spent : (m : ℕ → ℕ → List Row) (f : Frag) (inputs : List (ℕ × ℕ)) (w u v : Worker O S) (t : Trace) (e : Event) (r : StepOutcome) → w.phase ≡ Running → u.phase ≡ Running
+      → ((c : LeavesComing) → steps u c ≤ steps w c) → ((c : LeavesComing) (j : ℕ) → has u j + left u c ≤ has w j + left w c)
+      → IsSpent m f inputs u v t e r → IsSpent m f inputs w v t e r
+  asked-spent m f inputs w u v t e r was is fewer less h = record {
+    event = h.event;
+    steps = λ c.
+        let a = h.steps c in
+        let b = fewer (before_event m e c) in
+        let d = went-at w Running r was in
+        let k = went-at u Running r is in
+        omega (arith, a, b, d, k);
+    rows = λ c j.
+        let a = h.rows c j in
+        let b = less (before_event m e c) j in
+        omega (arith, a, b);
+  }
+
+  -- and gave a packet
+  pub next-spent : (m : ℕ → ℕ → List Row) (f : Frag) (inputs : List (ℕ × ℕ)) (w : Worker O S) (s : S) (to : ℕ) (p : PacketView) (v : Worker O S) (t : Trace) (e : Event) (r : StepOutcome)
+      → w.phase ≡ Running → w.pending ≡ None → post s ≡ post w.sender → IsTakenOut to p (held w.sender) (held s) (unclosed w.sender) (unclosed s)
+      → ((j : ℕ) → consumers_of (post w.sender) ≤ j → held w.sender j ≡ 0)
+      → IsSpent m f inputs (record w { sender = s; pending = Some (to, p) }) v t e r → IsSpent m f inputs w v t e r
+  next-spent m f inputs w s to p v t e r runs empty same taken few =
+      let u = record w { sender = s; pending = Some (to, p) } in
+      let n = consumers_of (post w.sender) in
+      asked-spent m f inputs w u v t e r runs runs
+      (λ c.
+      let a = steps-at w Running c runs in
+      let b = steps-at u Running c runs in
+      let d : pending_count w.pending ≡ 0 = ap pending_count empty in
+      let k = taken-less n to p (held w.sender) (held s) (unclosed w.sender) (unclosed s) taken few in
+      let l : sum_below (consumers_of (post s)) (held s) ≡ sum_below n (held s) = ap (λ z. sum_below (consumers_of z) (held s)) same in
+      let o : (consumers_of (post s) + 1) * tree_most most w.tree c ≡ (n + 1) * tree_most most w.tree c = ap (λ z. (consumers_of z + 1) * tree_most most w.tree c) same in
+      let q : consumers_of (post s) ≡ n = ap consumers_of same in
+      omega (arith, a, b, d, k, l, o, q))
+      (λ c j.
+      let a = has-at w Running j runs in
+      let b = has-at u Running j runs in
+      let d : pending_rows w.pending j ≡ 0 = ap (λ z. pending_rows z j) empty in
+      let k = taken.rows j in
+      let l = left-at w Running c runs in
+      let o = left-at u Running c runs in
+      omega (arith, a, b, d, k, l, o))
+
+  -- or gave none
+  pub none-spent : (m : ℕ → ℕ → List Row) (f : Frag) (inputs : List (ℕ × ℕ)) (w : Worker O S) (s : S) (v : Worker O S) (t : Trace) (e : Event) (r : StepOutcome)
+      → w.phase ≡ Running → post s ≡ post w.sender → IsNoMore (held w.sender) (held s) (unclosed w.sender) (unclosed s)
+      → IsSpent m f inputs (record w { sender = s }) v t e r → IsSpent m f inputs w v t e r
+  none-spent m f inputs w s v t e r runs same none =
+      let u = record w { sender = s } in
+      let n = consumers_of (post w.sender) in
+      asked-spent m f inputs w u v t e r runs runs
+      (λ c.
+      let a = steps-at w Running c runs in
+      let b = steps-at u Running c runs in
+      let k = sum-grows n (held s) (held w.sender) none.rows in
+      let d = none.closing in
+      let l : sum_below (consumers_of (post s)) (held s) ≡ sum_below n (held s) = ap (λ z. sum_below (consumers_of z) (held s)) same in
+      let o : (consumers_of (post s) + 1) * tree_most most w.tree c ≡ (n + 1) * tree_most most w.tree c = ap (λ z. (consumers_of z + 1) * tree_most most w.tree c) same in
+      let q : consumers_of (post s) ≡ n = ap consumers_of same in
+      omega (arith, a, b, d, k, l, o, q))
+      (λ c j.
+      let a = has-at w Running j runs in
+      let b = has-at u Running j runs in
+      let k = none.rows j in
+      let l = left-at w Running c runs in
+      let o = left-at u Running c runs in
+      omega (arith, a, b, k, l, o))
+
+  -- the tree turned
+  pub turn-spent : (m : ℕ → ℕ → List Row) (f : Frag) (inputs : List (ℕ × ℕ)) (w v : Worker O S) (t : Trace) (e : Event) (a : Polled) (own : ℕ) (r : StepOutcome)
+      → w.phase ≡ Running → v.phase ≡ Running → w.pending ≡ None → v.pending ≡ None → w.is_over ≡ false
+      → ((c : LeavesComing) → Pays own (tree_most most w.tree (before_event m e c)) (tree_idle most idle_turns w.tree (before_event m e c)) (tree_most most v.tree c) (tree_idle most idle_turns v.tree c) a)
+      → post v.sender ≡ post w.sender → ((j : ℕ) → held v.sender j ≤ held w.sender j + rows_in a) → unclosed v.sender ≤ unclosed w.sender
+      → progress None r + cond v.is_over 0 1 ≤ 1 + (idle_turn own a + arrivals e + rows_in a) → ((j : ℕ) → rows_put e j ≡ 0) → EventFits f inputs t e
+      → IsSpent m f inputs w v t e r
+  turn-spent m f inputs w v t e a own r was is before after on pays same holds closes gain puts fits =
+      let n = consumers_of (post w.sender) in
+      record {
+        event = fits;
+        steps = λ c.
+            let d = before_event m e c in
+            let x = steps-at w Running d was in
+            let y = steps-at v Running c is in
+            let p = pays c in
+            let q = sum-rises n (rows_in a) (held v.sender) (held w.sender) holds in
+            let z = turn-cost n (tree_most most w.tree d) (tree_most most v.tree c) (tree_idle most idle_turns w.tree d) (tree_idle most idle_turns v.tree c) (sum_below n (held w.sender))
+                (sum_below n (held v.sender)) (unclosed w.sender) (unclosed v.sender) (cond v.is_over 0 1) (rows_in a) (idle_turn own a) (arrivals e) (progress None r) p.rows p.turns q closes gain in
+            let b : pending_count w.pending ≡ 0 = ap pending_count before in
+            let g : pending_count v.pending ≡ 0 = ap pending_count after in
+            let o : cond w.is_over 0 1 ≡ 1 = ap (λ i. cond i 0 1) on in
+            let l : sum_below (consumers_of (post v.sender)) (held v.sender) ≡ sum_below n (held v.sender) = ap (λ i. sum_below (consumers_of i) (held v.sender)) same in
+            let k : (consumers_of (post v.sender) + 1) * tree_most most v.tree c ≡ (n + 1) * tree_most most v.tree c = ap (λ i. (consumers_of i + 1) * tree_most most v.tree c) same in
+            let h : consumers_of (post v.sender) ≡ n = ap consumers_of same in
+            let u = went-at w Running r was in
+            omega (arith, x, y, z, b, g, o, l, k, h, u);
+        rows = λ c j.
+            let x = has-at w Running j was in
+            let y = has-at v Running j is in
+            let z = left-at w Running (before_event m e c) was in
+            let u = left-at v Running c is in
+            let b : pending_rows w.pending j ≡ 0 = ap (λ i. pending_rows i j) before in
+            let g : pending_rows v.pending j ≡ 0 = ap (λ i. pending_rows i j) after in
+            let p = (pays c).rows in
+            let q = holds j in
+            let o = puts j in
+            omega (arith, x, y, z, u, b, g, p, q, o);
+      }
+
+  -- what was counted changes nothing
+  pub counted-spent : (m : ℕ → ℕ → List Row) (f : Frag) (inputs : List (ℕ × ℕ)) (w v : Worker O S) (n : StepCounts) (t : Trace) (e : Event) (r : StepOutcome)
+      → IsSpent m f inputs w v t e r → IsSpent m f inputs w (record v { counts = n }) t e r
+  counted-spent m f inputs w v n t e r h =
+      let z = record v { counts = n } in
+      let alike : (x : WorkerState) (c : LeavesComing) → left_in x z c ≡ left_in x v c = λ x c. elim x as (λ y. left_in y z c ≡ left_in y v c) [ Running ↦ refl | Failing f ↦ refl | Draining f ↦ refl | Well ↦ refl | Failed f ↦ refl ] in
+      record {
+        event = h.event;
+        steps = λ c. let a = h.steps c in let b = alike v.phase c in omega (arith, a, b);
+        rows = λ c j.
+            let a = h.rows c j in
+            let b : has z j ≡ has v j = elim v.phase as (λ y. rows_held_in most idle_turns post held unclosed y z j ≡ rows_held_in most idle_turns post held unclosed y v j) [ Running ↦ refl | Failing f ↦ refl | Draining f ↦ refl | Well ↦ refl | Failed f ↦ refl ] in
+            let d : left z c ≡ left v c = elim v.phase as (λ y. rows_left_in most idle_turns post held unclosed y z c ≡ rows_left_in most idle_turns post held unclosed y v c) [ Running ↦ refl | Failing f ↦ refl | Draining f ↦ refl | Well ↦ refl | Failed f ↦ refl ] in
+            omega (arith, a, b, d);
+      }

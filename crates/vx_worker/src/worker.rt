@@ -80,7 +80,7 @@ impl<O: Drop, S: Drop> Drop for Worker<O, S> {
 }
 
 impl<O: Source, S: Sends> Worker<O, S> {
-    ghost use Rattle.std.specs.Prelude.{◌≡◌, ℕ, List, [], true, false, None, Some, IfSome, IfNone, IsSome, ◌↔◌, map};
+    ghost use Rattle.std.specs.Prelude.{◌≡◌, ◌+◌, ℕ, List, [], length, true, false, None, Some, IfSome, IfNone, IsSome, ◌↔◌, map};
     ghost use Rattle.std.specs.List.{All};
     ghost use Rattle.vx_values.specs.Values.{Row};
     ghost use Rattle.vx_values.specs.declared.value.ColType.{ColType};
@@ -91,7 +91,7 @@ impl<O: Source, S: Sends> Worker<O, S> {
     ghost use Rattle.vx_ends.specs.Sending.{RoutesAs};
     ghost use Rattle.vx_worker.specs.Trace.{Event, Trace, added, empty_trace, IsNoMemory};
     ghost use Rattle.vx_worker.specs.Trees.{shape, TreeStands, IsFormed};
-    ghost use Rattle.vx_worker.specs.Remaining.{TreeStarts, Spends, Starts};
+    ghost use Rattle.vx_worker.specs.Remaining.{TreeStarts, pending_count, Spends, Starts};
     ghost use Rattle.vx_worker.specs.Wishes.{Numbered, TreeTyped, tree_types, fresh_reads};
     ghost use Rattle.vx_worker.specs.Answering.{Answered};
     ghost use Rattle.vx_worker.specs.Intake.{source_of, IsFresh};
@@ -414,6 +414,7 @@ impl<O: Source, S: Sends> Worker<O, S> {
         ensures closing { IsClosing self.new }
         ensures some { IfSome result (λ x. (put : ℕ → List PacketView)
             → with_all (with_pending put self.old.pending) self.old.closing.items ≡ with_all (with_pending put (Some x)) self.new.closing.items) }
+        ensures fewer { IfSome result (λ x. length self.old.closing.items + pending_count self.old.pending ≡ length self.new.closing.items + 1) }
         ensures none { IfNone result ((self.old.pending ≡ None) × (self.old.closing.items ≡ [])) }
         ensures pending { self.new.pending ≡ None }
         ensures tree { self.new.tree ≡ self.old.tree }
