@@ -1,11 +1,12 @@
 -- What a step spends of what a worker has still to do.
-use Rattle.std.proofs.Common.{ℕ, zero, suc, ◌≡◌, ◌+◌, ◌*◌, ◌<◌, ◌≤◌, ◌==◌, cond, ◌⊎◌, inl, inr, refl, sym, ap, ◌∙◌, subst, arith, le_refl, true, false, List, length, Option, Some, None}
+use Rattle.std.proofs.Common.{ℕ, zero, suc, ◌≡◌, ◌+◌, ◌*◌, ◌<◌, ◌≤◌, ◌==◌, cond, ◌⊎◌, inl, inr, refl, sym, ap, ◌∙◌, subst, arith, le_refl, Bool, true, false, List, length, Option, Some, None}
 use Rattle.std.proofs.Math.Nat.{mul-le-mul_left}
 use Rattle.std.proofs.lemmas.Bool.{cases_lt}
 use Rattle.std.proofs.lemmas.Bool.Decides.{eqb_tells}
+use Rattle.std.proofs.lemmas.List.{length-map, get_or-map}
 use Rattle.vx_values.specs.Values.{Row}
 use Rattle.vx_rows.proofs.Below.{length-each_below}
-use Rattle.vx_ports.specs.Packets.{Content, brings, last, fault, PacketView, content_rows, closes}
+use Rattle.vx_ports.specs.Packets.{Content, brings, last, fault, PacketView, content_rows, closes, is_closed}
 use Rattle.vx_ops.specs.Turn.{Coming, Pays, own_turn, idle_turn, rows_in, sum_below}
 use Rattle.vx_ops.specs.declared.fault.Fault.{Fault}
 use Rattle.vx_ops.specs.declared.turn.Polled.{Polled}
@@ -14,11 +15,14 @@ use Rattle.vx_ends.specs.Queued.{consumers_of, rows_to, closings, IsTakenOut, Is
 use Rattle.vx_worker.specs.Fragment.{Frag}
 use Rattle.vx_worker.specs.Trace.{Event, idle, drew_one, took_one, put_one, Trace}
 use Rattle.vx_worker.specs.Trees.{LeavesComing, tree_most, tree_idle}
-use Rattle.vx_worker.specs.Intake.{IsRead}
+use Rattle.vx_worker.specs.Intake.{fresh_input, source_of, sources_of, BringsSome, IsRead, IsTake, IntakeStands}
+use Rattle.vx_worker.specs.Answering.{IsOpenInput, DrainFinds}
 use Rattle.vx_worker.specs.Worker.{closing_of, outcome_in, outcome_of}
 use Rattle.vx_worker.specs.Remaining.{before_event, arrivals, rows_put, progress, EventFits, pending_count, pending_rows, rows_left_in, rows_left, rows_held_in, rows_held, steps_left_in, steps_left, Spends}
 use Rattle.vx_setup.specs.declared.counts.StepCounts.{StepCounts}
 use Rattle.vx_worker.specs.declared.intake.Intake.{Intake}
+use Rattle.vx_worker.specs.declared.intake.Drained.{Drained}
+use Rattle.vx_worker.specs.declared.intake.Drained.TheVariants as drained
 use Rattle.vx_worker.specs.declared.worker.Worker.{Worker}
 use Rattle.vx_worker.specs.declared.worker.WorkerOutcome.{WorkerOutcome}
 use Rattle.vx_worker.specs.declared.worker.WorkerState.{WorkerState}
@@ -87,6 +91,34 @@ read-puts k idle h j = refl
 read-puts k (drew_one n d) h j = refl
 read-puts k (took_one x i o) h j = refl
 read-puts k (put_one to p) h j = elim h [ ]
+
+pub take-puts : (e : Event) → IsTake e → (j : ℕ) → rows_put e j ≡ 0
+take-puts idle h j = refl
+take-puts (drew_one n d) h j = elim h [ ]
+take-puts (took_one x i o) h j = refl
+take-puts (put_one to p) h j = elim h [ ]
+
+-- what is taken and dropped is of a producer that has not closed
+open-fits : (f : Frag) (k : Intake) (t : Trace) (x i : ℕ) (o : Option PacketView) → IsOpenInput k x i → BringsSome o → IntakeStands k t → EventFits f (sources_of k) t (took_one x i o)
+open-fits f k t x i o h some stands =
+    let d = fresh_input x i in
+    let source = h.source d in (
+      inr (h.place, omega (arith, h.within, length-map k.inputs.items source_of), get_or-map source_of k.inputs.items h.place d (x, i) h.within ∙ source),
+      ap (λ (s : ℕ × ℕ). is_closed (t.came s.0 s.1)) (sym source) ∙ stands.inputs h.place d h.within ∙ h.is_open d,
+      some,
+    )
+
+pub drain-fits : (lacks : Type 0) (f : Frag) (k : Intake) (t : Trace) (r : Drained) (e : Event) → DrainFinds lacks k r e → IntakeStands k t → EventFits f (sources_of k) t e
+drain-fits lacks f k t drained.Dropped (took_one x i (Some p)) h stands = open-fits f k t x i (Some p) h.0 h.1 stands
+drain-fits lacks f k t drained.Nothing (took_one x i None) h stands = open-fits f k t x i None h tt stands
+drain-fits lacks f k t drained.Nothing idle h stands = tt
+drain-fits lacks f k t drained.All idle h stands = tt
+drain-fits lacks f k t r e h stands = elim h [ ]
+
+-- a packet that was dropped had come
+pub drop-came : (lacks : Type 0) (k : Intake) (e : Event) → DrainFinds lacks k drained.Dropped e → 1 ≤ arrivals e
+drop-came lacks k (took_one x i (Some p)) h = le_refl 1
+drop-came lacks k e h = elim h [ ]
 
 -- the numbers of a turn: each row that the top returns pays for itself and for each consumer
 turn-cost : (n tm tm' ti ti' s s' u u' o' r it arr pr : ℕ) → tm' + r ≤ tm → ti' + it ≤ ti → s' ≤ s + n * r → u' ≤ u → pr + o' ≤ 1 + (it + arr + r)
@@ -388,7 +420,7 @@ module _ {O S : Type 0} (most idle_turns : O → Coming → ℕ) (post : S → P
       → post v.sender ≡ post w.sender → ((j : ℕ) → held v.sender j ≤ held w.sender j + rows_in a) → unclosed v.sender ≤ unclosed w.sender
       → progress None r + cond v.is_over 0 1 ≤ 1 + (idle_turn own a + arrivals e + rows_in a) → ((j : ℕ) → rows_put e j ≡ 0) → EventFits f inputs t e
       → IsSpent m f inputs w v t e r
-  turn-spent m f inputs w v t e a own r was is before after on pays same holds closes gain puts fits =
+  turn-spent m f inputs w v t e a own r was is before after on pays same holds shuts gain puts fits =
       let n = consumers_of (post w.sender) in
       record {
         event = fits;
@@ -399,10 +431,11 @@ module _ {O S : Type 0} (most idle_turns : O → Coming → ℕ) (post : S → P
             let p = pays c in
             let q = sum-rises n (rows_in a) (held v.sender) (held w.sender) holds in
             let z = turn-cost n (tree_most most w.tree d) (tree_most most v.tree c) (tree_idle most idle_turns w.tree d) (tree_idle most idle_turns v.tree c) (sum_below n (held w.sender))
-                (sum_below n (held v.sender)) (unclosed w.sender) (unclosed v.sender) (cond v.is_over 0 1) (rows_in a) (idle_turn own a) (arrivals e) (progress None r) p.rows p.turns q closes gain in
+                (sum_below n (held v.sender)) (unclosed w.sender) (unclosed v.sender) (cond v.is_over 0 1) (rows_in a) (idle_turn own a) (arrivals e) (progress None r) p.rows p.turns q shuts gain in
             let b : pending_count w.pending ≡ 0 = ap pending_count before in
             let g : pending_count v.pending ≡ 0 = ap pending_count after in
-            let o : cond w.is_over 0 1 ≡ 1 = ap (λ i. cond i 0 1) on in
+            let over : Bool → ℕ = λ i. cond i 0 1 in
+            let o : over w.is_over ≡ over false = ap over on in
             let l : sum_below (consumers_of (post v.sender)) (held v.sender) ≡ sum_below n (held v.sender) = ap (λ i. sum_below (consumers_of i) (held v.sender)) same in
             let k : (consumers_of (post v.sender) + 1) * tree_most most v.tree c ≡ (n + 1) * tree_most most v.tree c = ap (λ i. (consumers_of i + 1) * tree_most most v.tree c) same in
             let h : consumers_of (post v.sender) ≡ n = ap consumers_of same in
