@@ -9,3 +9,4 @@ pub mod Answering
 pub mod Counting
 pub mod TreeCosts
 pub mod Spending
+pub mod Wishing

@@ -418,9 +418,9 @@ module _ {O S : Type 0} (most idle_turns : O → Coming → ℕ) (post : S → P
       → w.phase ≡ Running → v.phase ≡ Running → w.pending ≡ None → v.pending ≡ None → w.is_over ≡ false
       → ((c : LeavesComing) → Pays own (tree_most most w.tree (before_event m e c)) (tree_idle most idle_turns w.tree (before_event m e c)) (tree_most most v.tree c) (tree_idle most idle_turns v.tree c) a)
       → post v.sender ≡ post w.sender → ((j : ℕ) → held v.sender j ≤ held w.sender j + rows_in a) → unclosed v.sender ≤ unclosed w.sender
-      → progress None r + cond v.is_over 0 1 ≤ 1 + (idle_turn own a + arrivals e + rows_in a) → ((j : ℕ) → rows_put e j ≡ 0) → EventFits f inputs t e
+      → (over : Bool) → v.is_over ≡ over → progress None r + cond over 0 1 ≤ 1 + (idle_turn own a + arrivals e + rows_in a) → ((j : ℕ) → rows_put e j ≡ 0) → EventFits f inputs t e
       → IsSpent m f inputs w v t e r
-  turn-spent m f inputs w v t e a own r was is before after on pays same holds shuts gain puts fits =
+  turn-spent m f inputs w v t e a own r was is before after on pays same holds shuts over ends gain puts fits =
       let n = consumers_of (post w.sender) in
       record {
         event = fits;
@@ -431,16 +431,17 @@ module _ {O S : Type 0} (most idle_turns : O → Coming → ℕ) (post : S → P
             let p = pays c in
             let q = sum-rises n (rows_in a) (held v.sender) (held w.sender) holds in
             let z = turn-cost n (tree_most most w.tree d) (tree_most most v.tree c) (tree_idle most idle_turns w.tree d) (tree_idle most idle_turns v.tree c) (sum_below n (held w.sender))
-                (sum_below n (held v.sender)) (unclosed w.sender) (unclosed v.sender) (cond v.is_over 0 1) (rows_in a) (idle_turn own a) (arrivals e) (progress None r) p.rows p.turns q shuts gain in
+                (sum_below n (held v.sender)) (unclosed w.sender) (unclosed v.sender) (cond over 0 1) (rows_in a) (idle_turn own a) (arrivals e) (progress None r) p.rows p.turns q shuts gain in
             let b : pending_count w.pending ≡ 0 = ap pending_count before in
             let g : pending_count v.pending ≡ 0 = ap pending_count after in
-            let over : Bool → ℕ = λ i. cond i 0 1 in
-            let o : over w.is_over ≡ over false = ap over on in
+            let rest : Bool → ℕ = λ i. cond i 0 1 in
+            let o : rest w.is_over ≡ rest false = ap rest on in
+            let j : rest v.is_over ≡ rest over = ap rest ends in
             let l : sum_below (consumers_of (post v.sender)) (held v.sender) ≡ sum_below n (held v.sender) = ap (λ i. sum_below (consumers_of i) (held v.sender)) same in
             let k : (consumers_of (post v.sender) + 1) * tree_most most v.tree c ≡ (n + 1) * tree_most most v.tree c = ap (λ i. (consumers_of i + 1) * tree_most most v.tree c) same in
             let h : consumers_of (post v.sender) ≡ n = ap consumers_of same in
             let u = went-at w Running r was in
-            omega (arith, x, y, z, b, g, o, l, k, h, u);
+            omega (arith, x, y, z, b, g, o, j, l, k, h, u);
         rows = λ c j.
             let x = has-at w Running j was in
             let y = has-at v Running j is in

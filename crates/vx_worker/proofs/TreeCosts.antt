@@ -43,10 +43,10 @@ module _ {O : Type 0} (most idle : O → Coming → ℕ) (most-grows : (o : O) (
       (add-le-add (tree-most-grows x a b h) (tree-idle-grows grows x a b h)))
       (add-le-add (tree-most-grows y a b h) (tree-idle-grows grows y a b h))
 
-more-than : (i n j : ℕ) (f : ℕ → ℕ) → f j ≤ with_more i n f j
+pub more-than : (i n j : ℕ) (f : ℕ → ℕ) → f j ≤ with_more i n f j
 more-than i n j f = elim (eqb_tells j i) [ inl e ↦ rw e.0 (omega arith) | inr e ↦ rw e.0 (omega arith) ]
 
-within-self : (c : LeavesComing) → IsWithinLeaves c c
+pub within-self : (c : LeavesComing) → IsWithinLeaves c c
 within-self c = record { scanned = λ k. le_refl (c.scanned k); came = λ k i. le_refl (c.came k i) }
 
 -- what came might still come before
