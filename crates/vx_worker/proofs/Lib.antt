@@ -10,3 +10,4 @@ pub mod Counting
 pub mod TreeCosts
 pub mod Spending
 pub mod Wishing
+pub mod Starting

@@ -20,7 +20,7 @@ use Rattle.vx_worker.specs.declared.wish.Wish.TheVariants as wish
 same-leaf : (k : ℕ) → (k == k) ≡ true
 same-leaf k = grind (arith, nat_tests)
 
-within-trees : (a b c d : ℕ) → a ≤ c → b ≤ d → IsWithin (tree_coming a b) (tree_coming c d)
+pub within-trees : (a b c d : ℕ) → a ≤ c → b ≤ d → IsWithin (tree_coming a b) (tree_coming c d)
 within-trees a b c d h k = record { left = h; right = k; packets = λ i. le_refl 0 }
 
 module _ {O : Type 0} (most idle : O → Coming → ℕ) (most-grows : (o : O) (a b : Coming) → IsWithin a b → most o a ≤ most o b) where
