@@ -334,15 +334,6 @@ module _ {O S : Type 0} (most idle_turns : O → Coming → ℕ) (post : S → P
         omega (arith, a, b);
   }
 
-  -- a worker that has ended
-  pub still-spent : (m : ℕ → ℕ → List Row) (f : Frag) (inputs : List (ℕ × ℕ)) (w : Worker O S) (o : WorkerOutcome) (t : Trace) → outcome_of w ≡ Some o
-      → IsSpent m f inputs w w t idle step_outcome.Ended
-  still-spent m f inputs w o t over = record {
-    event = tt;
-    steps = λ c. let k : progress (outcome_of w) step_outcome.Ended ≡ 0 = ap (λ z. progress z step_outcome.Ended) over in omega (arith, k);
-    rows = λ c j. omega arith;
-  }
-
   -- the sending end was asked first
   asked-spent : (m : ℕ → ℕ → List Row) (f : Frag) (inputs : List (ℕ × ℕ)) (w u v : Worker O S) (t : Trace) (e : Event) (r : StepOutcome) → w.phase ≡ Running → u.phase ≡ Running
       → ((c : LeavesComing) → steps u c ≤ steps w c) → ((c : LeavesComing) (j : ℕ) → has u j + left u c ≤ has w j + left w c)
