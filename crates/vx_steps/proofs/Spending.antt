@@ -1,5 +1,5 @@
 -- How many steps the workers of a run went on by: what each had at the beginning, and what came to it since, pays for them.
-use Rattle.std.proofs.Common.{ℕ, zero, suc, ◌≡◌, ◌<◌, ◌≤◌, ◌+◌, List, length, map, refl, sym, ap, ◌∙◌, subst, arith, inl, inr}
+use Rattle.std.proofs.Common.{ℕ, ◌≡◌, ◌<◌, ◌≤◌, ◌+◌, List, length, map, refl, sym, ap, ◌∙◌, subst, arith, inl, inr}
 use Rattle.std.proofs.Math.ListN.{get_or, set}
 use Rattle.std.proofs.Math.Seq.{map-set_same}
 use Rattle.std.proofs.lemmas.Bool.Decides.{eqb_tells}
@@ -9,7 +9,7 @@ use Rattle.vx_values.specs.Values.{Val, Row}
 use Rattle.vx_plan_nodes.specs.Routes.{Routing}
 use Rattle.vx_ports.specs.Packets.{PacketView, rows_of}
 use Rattle.vx_ops.specs.Ledger.{Stream, Ledger, Op}
-use Rattle.vx_ops.specs.Turn.{Coming, with_more, sum_below}
+use Rattle.vx_ops.specs.Turn.{Coming, with_more}
 use Rattle.vx_ops.specs.declared.turn.Want.{Want}
 use Rattle.vx_ends.specs.Tasks.{Task, Post}
 use Rattle.vx_worker.specs.Fragment.{Frag}
@@ -79,31 +79,6 @@ module _ {O S : Type 0} (op : O → Op) (most idle_turns : O → Coming → ℕ)
         (omega (arith, a, d, sent));
     few = few-event f inputs t e s.event h.few;
   }
-
--- a sum of which one number is larger
-pub sum-with : (n : ℕ) (f : ℕ → ℕ) (i d : ℕ) → i < n → sum_below n (with_more i d f) ≡ sum_below n f + d
-sum-with zero f i d l = absurd (omega (arith, l))
-sum-with (suc n) f i d l = elim (eqb_tells n i) [
-  | inl q ↦
-      let low = sum-past n f i d (let e = q.1 in omega (arith, e)) in
-      let here : with_more i d f n ≡ f n + d = rw q.0 refl in
-      omega (arith, low, here)
-  | inr q ↦
-      let ne = q.1 in
-      let low = sum-with n f i d (omega (arith, l, ne)) in
-      let here : with_more i d f n ≡ f n = rw q.0 refl in
-      omega (arith, low, here)
-]
-  where
-    sum-past : (n : ℕ) (f : ℕ → ℕ) (i d : ℕ) → n ≤ i → sum_below n (with_more i d f) ≡ sum_below n f
-    sum-past zero f i d l = refl
-    sum-past (suc n) f i d l = elim (eqb_tells n i) [
-      | inl q ↦ let e = q.1 in absurd (omega (arith, l, e))
-      | inr q ↦
-          let low = sum-past n f i d (omega (arith, l)) in
-          let here : with_more i d f n ≡ f n = rw q.0 refl in
-          omega (arith, low, here)
-    ]
 
 module _ {O S : Type 0} (OS : O → Ledger → Type 0) (want : O → Want) (op : O → Op) (most idle_turns : O → Coming → ℕ) (SS : S → Routing → Stream → (ℕ → List PacketView) → Type 0) (task : S → Task) (post : S → Post)
     (bounds : S → List Val) (held : S → ℕ → ℕ) (unclosed : S → ℕ) (hash : List ℕ → Row → ℕ → ℕ) (m : ℕ → ℕ → List Row) where
