@@ -1,3 +1,4 @@
 pub mod Spans
 pub mod Each
 pub mod Order
+pub mod Capped

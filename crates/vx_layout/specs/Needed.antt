@@ -1,8 +1,16 @@
 -- How many rounds a run of a plan needs at most, where each round is a step of each worker.
-use Rattle.std.specs.Prelude.{ℕ, ◌+◌, ◌*◌, List, length}
+use Rattle.std.specs.Prelude.{ℕ, ◌≡◌, ◌+◌, ◌*◌, List, length, nat_le, if◌then◌else◌, slice_index}
 use Rattle.vx_values.specs.Values.{Row}
 use Rattle.vx_plan_nodes.specs.Plan.{Plan, scan, unary, binary, exchange, union, join, size, target}
 use Rattle.vx_plan_nodes.specs.Streams.{workers}
+
+-- the largest number of 64 bits in place of a larger one
+abbrev pub capped : ℕ → ℕ
+capped n = if nat_le n 18446744073709551615 then n else 18446744073709551615
+
+-- a relation has so many rows
+abbrev pub AreSizesOf : (ℕ → List Row) → List ℕ → Type 0
+AreSizesOf db counts = (r : ℕ) → length (db r) ≡ slice_index counts r
 
 -- db: the rows of each relation; sizes: the workers of each size name
 module _ (db : ℕ → List Row) (sizes : ℕ → ℕ) where

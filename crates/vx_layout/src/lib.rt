@@ -3,9 +3,11 @@
 #![tactic(auto)]
 
 mod layout;
+mod needed;
 mod span;
 mod worker_groups;
 
 pub use layout::Layout;
+pub use needed::rounds_needed;
 pub use span::{ExchangeSpan, NodeSpan, ScanSpan};
 pub use worker_groups::workers_of;
